@@ -1,0 +1,15 @@
+pub mod Lengths
+pub mod Scan
+pub mod Exact
+pub mod Many
+pub mod Calls
+pub mod Loops
+pub mod Integers
+pub mod Lists
+pub mod Decoders
+pub mod Places
+pub mod Unique
+pub mod Skips
+pub mod Strings
+pub mod Captures
+pub mod Contents

@@ -1,0 +1,60 @@
+-- What stands at the front is unique, and what is there in DER is there in BER.
+use Rattle.std.proofs.Common.{◌≡◌, ℕ, zero, suc, ◌-◌, List, [], ◌∷◌, ◌++◌, length, take, Option, Some, refl, sym, ap, ◌∙◌, arith, inl, inr}
+use Rattle.std.proofs.lemmas.List.{take_at, length-append}
+use Rattle.rpki_der.specs.declared.mode.Mode.{Mode}
+use Rattle.rpki_der.specs.declared.mode.Mode.TheVariants.{Der, Ber}
+use Rattle.rpki_der.specs.Read.Parse.{Parser, primitive}
+use Rattle.rpki_der.specs.Grammar.{IsExact, IsUnique, IsReading, Integer, Value, Within, definite, indefinite, Items, Skipped, OctetString, anything}
+use Rattle.rpki_der.proofs.Reading.Lengths.{some_is, length-any}
+use Rattle.rpki_der.proofs.Reading.Exact.{IsExactContents, exact-primitive}
+
+before : (a r : List ℕ) → take (length (a ++ r) - length r) (a ++ r) ≡ a
+before a r =
+    let n : length (a ++ r) - length r ≡ length a = omega (arith, length-append a r) in
+    rw n (take_at a r (length a) refl)
+
+pub unique : {X : Type 0} (p : List ℕ → Option (X × List ℕ)) (G : List ℕ → X → Type 0) → IsExact anything p G → IsUnique G
+unique {X} p G e = λ a b x y r s g h same.
+    let f : p (a ++ r) ≡ Some (x, r) = e.complete a x r tt g in
+    let k : p (b ++ s) ≡ Some (y, s) = e.complete b y s tt h in
+    let both : (let o : Option (X × List ℕ) = Some (x, r) in o) ≡ Some (y, s) = sym f ∙ ap p same ∙ k in
+    let q : (let t : X × List ℕ = (x, r) in t) ≡ (y, s) = some_is _ _ both in
+    let q1 : r ≡ s = ap (λ (t : X × List ℕ). t.1) q in
+    let front : a ≡ b = sym (before a r) ∙ ap (λ (t : List ℕ). take (length t - length r) t) same ∙ ap (λ (t : List ℕ). take (length (b ++ s) - length t) (b ++ s)) q1 ∙ before b s in
+    (front, ap (λ (t : X × List ℕ). t.0) q, q1)
+
+-- a value in DER is one in BER
+pub value-ber : (o : List ℕ) (t : ℕ) (c : List ℕ) → Value Der o t c → Value Ber o t c
+value-ber o t c (definite _ _ _ l _ tag is e) = definite Ber o t l c tag (length-any Der l (length c) is) e
+value-ber o t c (indefinite _ _ _ _ m tag cons vs e) = absurd (let no : Der ≡ Ber = m in cc)
+
+pub integer-ber : (o : List ℕ) (n : ℕ) → Integer Der o n → Integer Ber o n
+integer-ber o n h = (h.0, value-ber o 2 h.0 h.1, h.2)
+
+pub items-as : {X : Type 0} (G H : List ℕ → X → Type 0) → ((o : List ℕ) (x : X) → G o x → H o x) → (o : List ℕ) (xs : List X) → Items G o xs → Items H o xs
+items-as G H f o [] h = h
+items-as G H f o (x ∷ xs) h = (h.0, h.1, h.2, f h.0 x h.3, items-as G H f h.1 xs h.4)
+
+pub within-ber : (tag : ℕ) (G H : List ℕ → Type 0) → ((c : List ℕ) → G c → H c) → (o : List ℕ) → Within Der tag G o → Within Ber tag H o
+within-ber tag G H f o h = (h.0, value-ber o tag h.0 h.1, f h.0 h.2)
+
+pub skipped-ber : (depth : ℕ) (o : List ℕ) → Skipped Der depth o → Skipped Ber depth o
+unfolding Skipped
+skipped-ber zero o h = h
+skipped-ber (suc depth) o h = (h.0, h.1, value-ber o h.0 h.1 h.2, λ cons. let l = h.3 cons in (l.0, items-as (λ o _. Skipped Der depth o) (λ o _. Skipped Ber depth o) (λ p _ k. skipped-ber depth p k) h.1 l.0 l.1))
+
+pub octets-ber : (depth : ℕ) (o s : List ℕ) → OctetString Der depth o s → OctetString Ber depth o s
+unfolding OctetString
+octets-ber zero o s h = h
+octets-ber (suc depth) o s (inl h) = inl (value-ber o 4 s h)
+octets-ber (suc depth) o s (inr h) = absurd (let no : Der ≡ Ber = h.0 in cc)
+
+-- what is read exactly, and is in BER where it is in DER
+pub reading : {X : Type 0} (p : Parser X) (G : Mode → List ℕ → X → Type 0) → ((mode : Mode) → IsExact anything (p mode) (G mode)) → ((o : List ℕ) (x : X) → G Der o x → G Ber o x) → IsReading p G
+reading p G exact ber = record { exact = exact; unique = λ mode. unique (p mode) (G mode) (exact mode); relaxed = ber }
+
+-- a primitive value whose contents f understands alike in both modes
+pub reading-primitive : {X : Type 0} (tag : ℕ) (f : List ℕ → Option X) (M : List ℕ → X → Type 0) → IsExactContents f M → IsReading (primitive tag f) (λ mode o x. Within mode tag (λ c. M c x) o)
+reading-primitive tag f M e =
+    reading (primitive tag f) (λ mode o x. Within mode tag (λ c. M c x) o) (λ mode. exact-primitive tag f mode M e)
+    (λ o x h. within-ber tag (λ c. M c x) (λ c. M c x) (λ c k. k) o h)

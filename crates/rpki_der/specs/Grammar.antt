@@ -1,0 +1,135 @@
+-- Values of X.690, and what stands at the front of octets.
+use Rattle.std.specs.Prelude.{◌≡◌, ◌≢◌, ℕ, ◌+◌, ◌≤◌, ◌<◌, Bool, true, false, ◌⊎◌, List, [], ◌∷◌, ◌++◌, length, All, Option, None, Some, zero, suc}
+use Rattle.rpki_der.specs.declared.mode.Mode.{Mode}
+use Rattle.rpki_der.specs.declared.mode.Mode.TheVariants.{Der, Ber}
+use Rattle.rpki_der.specs.Identifier.{IsTag, is_constructed}
+use Rattle.rpki_der.specs.Oid.{IsOid}
+use Rattle.rpki_der.specs.Bits.{IsBits}
+use Rattle.rpki_der.specs.Read.Parse.{Parser, number, least, joined}
+
+-- where low is the least length that a form is for, DER takes it from there on
+abbrev pub IsShortest : Mode → ℕ → ℕ → Type 0
+IsShortest Der low n = low ≤ n
+IsShortest Ber low n = Unit {0}
+
+-- one octet below 128
+abbrev pub IsShort : List ℕ → ℕ → Type 0
+IsShort octets n = (octets ≡ n ∷ []) × (n < 128)
+
+-- the number of further octets, from 1 to 4, and 128, and then these octets
+abbrev pub IsLong : Mode → List ℕ → ℕ → Type 0
+IsLong mode octets n =
+    (digits : List ℕ) × (octets ≡ (128 + length digits) ∷ digits) × (1 ≤ length digits) × (length digits ≤ 4)
+    × (n ≡ number 0 digits) × IsShortest mode (least (length digits)) n
+
+-- the octets are this length
+abbrev pub IsLength : Mode → List ℕ → ℕ → Type 0
+IsLength mode octets n = IsShort octets n ⊎ IsLong mode octets n
+
+mutual
+  -- the octets are one value with this tag and these contents
+  pub data Value : Mode → List ℕ → ℕ → List ℕ → Type 0 where
+    definite : (mode : Mode) (octets : List ℕ) (tag : ℕ) (len contents : List ℕ) → IsTag tag → IsLength mode len (length contents) → octets ≡ tag ∷ (len ++ contents) → Value mode octets tag contents
+    indefinite : (mode : Mode) (octets : List ℕ) (tag : ℕ) (contents : List ℕ) → mode ≡ Ber → IsTag tag → is_constructed tag ≡ true → Values mode contents → octets ≡ tag ∷ 128 ∷ (contents ++ 0 ∷ 0 ∷ []) → Value mode octets tag contents
+
+  -- the octets are values, one after the other
+  pub data Values : Mode → List ℕ → Type 0 where
+    none : (mode : Mode) (octets : List ℕ) → octets ≡ [] → Values mode octets
+    more : (mode : Mode) (octets first others : List ℕ) (tag : ℕ) (contents : List ℕ) → octets ≡ first ++ others → Value mode first tag contents → Values mode others → Values mode octets
+
+-- one value with this tag, whose contents are in G
+abbrev pub Within : Mode → ℕ → (List ℕ → Type 0) → List ℕ → Type 0
+Within mode tag G octets = (contents : List ℕ) × Value mode octets tag contents × G contents
+
+-- some beginning of the octets is related by the grammar, and rest follows it
+abbrev pub Front : {X : Type 0} → (List ℕ → X → Type 0) → List ℕ → X → List ℕ → Type 0
+Front G octets x rest = (front : List ℕ) × (octets ≡ front ++ rest) × G front x
+
+-- each is below 256
+abbrev pub IsBytes : List ℕ → Type 0
+IsBytes [] = Unit {0}
+IsBytes (b ∷ bytes) = (b < 256) × IsBytes bytes
+
+-- the contents of an INTEGER in its shortest form, which is not negative
+abbrev pub IsInteger : List ℕ → ℕ → Type 0
+IsInteger [] n = ⊥
+IsInteger (a ∷ []) n = (a < 128) × (n ≡ a)
+IsInteger (a ∷ b ∷ rest) n = (a < 128) × (a ≡ 0 → 128 ≤ b) × (n ≡ number 0 (a ∷ b ∷ rest))
+
+-- the octets are an INTEGER with this value
+abbrev pub Integer : Mode → List ℕ → ℕ → Type 0
+Integer mode octets n = Within mode 2 (λ c. IsInteger c n) octets
+
+-- the octets are these, one after the other
+abbrev pub Items : {X : Type 0} → (List ℕ → X → Type 0) → List ℕ → List X → Type 0
+Items G octets [] = octets ≡ []
+Items G octets (x ∷ xs) = (first : List ℕ) × (others : List ℕ) × (octets ≡ first ++ others) × G first x × Items G others xs
+
+-- p finds exactly the fronts, where what follows them meets ends
+pub record IsExact {X : Type 0} (ends : List ℕ → Type 0) (p : List ℕ → Option (X × List ℕ)) (G : List ℕ → X → Type 0) : Type 0 where
+  pub sound : (octets : List ℕ) (x : X) (rest : List ℕ) → IsBytes octets → p octets ≡ Some (x, rest) → Front G octets x rest
+  pub complete : (front : List ℕ) (x : X) (rest : List ℕ) → ends rest → G front x → p (front ++ rest) ≡ Some (x, rest)
+
+-- whatever follows
+abbrev pub anything : List ℕ → Type 0
+anything rest = Unit {0}
+
+-- No octets in G are the beginning of others in G: the beginning of given octets that is in G, what it means and what follows it are unique.
+abbrev pub IsUnique : {X : Type 0} → (List ℕ → X → Type 0) → Type 0
+IsUnique {X} G = (a b : List ℕ) (x y : X) (r s : List ℕ) → G a x → G b y → a ++ r ≡ b ++ s → (a ≡ b) × (x ≡ y) × (r ≡ s)
+
+-- the octets are in G, one after the other
+abbrev pub ListOf : (List ℕ → Type 0) → List ℕ → Type 0
+ListOf G octets = (each : List (Unit {0})) × Items (λ o _. G o) octets each
+
+-- the octets are a value whose contents are skipped: any contents of a primitive value, and values of which this holds, nested at most so deep, in a constructed one
+unfoldable pub Skipped : Mode → ℕ → List ℕ → Type 0
+Skipped mode zero octets = ⊥
+Skipped mode (suc depth) octets = (tag : ℕ) × (contents : List ℕ) × Value mode octets tag contents × (is_constructed tag ≡ true → ListOf (Skipped mode depth) contents)
+
+-- the octets are an OCTET STRING of these octets: one primitive value or, in BER, OCTET STRINGs in a constructed one, nested at most so deep
+unfoldable pub OctetString : Mode → ℕ → List ℕ → List ℕ → Type 0
+OctetString mode zero octets string = ⊥
+OctetString mode (suc depth) octets string = Value mode octets 4 string ⊎ ((mode ≡ Ber) × (contents : List ℕ) × (pieces : List (List ℕ)) × Value mode octets 36 contents × Items (OctetString mode depth) contents pieces × (string ≡ joined pieces))
+
+-- The contents of a BOOLEAN, one octet (X.690, 8.2). 00 is false. In DER FF alone is true (11.1), in BER every other octet.
+abbrev pub IsBoolean : Mode → List ℕ → Bool → Type 0
+IsBoolean Der contents b = ((contents ≡ 0 ∷ []) × (b ≡ false)) ⊎ ((contents ≡ 255 ∷ []) × (b ≡ true))
+IsBoolean Ber contents b = (octet : ℕ) × (contents ≡ octet ∷ []) × (((octet ≡ 0) × (b ≡ false)) ⊎ ((octet ≢ 0) × (b ≡ true)))
+
+abbrev pub Boolean : Mode → List ℕ → Bool → Type 0
+Boolean mode octets b = Within mode 1 (λ c. IsBoolean mode c b) octets
+
+-- a NULL has no contents (8.8)
+abbrev pub Null : Mode → List ℕ → Type 0
+Null mode octets = Within mode 5 (λ c. c ≡ []) octets
+
+-- an OBJECT IDENTIFIER with these contents (8.19)
+abbrev pub ObjectIdentifier : Mode → List ℕ → List ℕ → Type 0
+ObjectIdentifier mode octets oid = Within mode 6 (λ c. (c ≡ oid) × IsOid oid) octets
+
+-- A BIT STRING (8.6), primitive: its contents are the number of bits of the last octet that are not used, and its octets.
+abbrev pub IsBitString : List ℕ → List ℕ × ℕ → Type 0
+IsBitString contents bits = (contents ≡ bits.1 ∷ bits.0) × IsBits bits.0 bits.1
+
+abbrev pub BitString : Mode → List ℕ → List ℕ × ℕ → Type 0
+BitString mode octets bits = Within mode 3 (λ c. IsBitString c bits) octets
+
+-- an IA5String of these characters, primitive (8.23): each is below 80
+abbrev pub Ia5String : Mode → List ℕ → List ℕ → Type 0
+Ia5String mode octets text = Within mode 22 (λ c. (c ≡ text) × All (λ b. b < 128) text) octets
+
+-- an INTEGER from 0 to limit - 1
+abbrev pub IntegerBelow : ℕ → Mode → List ℕ → ℕ → Type 0
+IntegerBelow limit mode octets n = Within mode 2 (λ c. IsInteger c n × (n < limit)) octets
+
+-- what may be there, or nothing
+abbrev pub Optional : {X : Type 0} → (List ℕ → X → Type 0) → List ℕ → Option X → Type 0
+Optional G octets None = octets ≡ []
+Optional G octets (Some x) = G octets x
+
+-- Reading by p is reading by the grammar G: what it finds is in G, and what is in G it finds, whatever octets follow (exact); no octets in G are the beginning of others in G (unique); what is in G in DER is the same in BER (relaxed).
+pub record IsReading {X : Type 0} (p : Parser X) (G : Mode → List ℕ → X → Type 0) : Type 0 where
+  pub exact : (mode : Mode) → IsExact anything (p mode) (G mode)
+  pub unique : (mode : Mode) → IsUnique (G mode)
+  pub relaxed : (octets : List ℕ) (x : X) → G Der octets x → G Ber octets x

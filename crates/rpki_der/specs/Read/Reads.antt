@@ -1,0 +1,133 @@
+-- What a call of a reader answers.
+use Rattle.std.specs.Prelude.{◌≡◌, ◌⊎◌, ℕ, List, [], ◌∷◌, Bool, true, false, Option, None, Some, Result, Ok, Err, MatchOption, MatchResult, MatchBool, IfErr}
+use Rattle.rpki_der.specs.declared.error.DecodeError.{DecodeError}
+use Rattle.rpki_der.specs.declared.error.DecodeError.TheVariants.{Malformed, Content, Memory}
+use Rattle.rpki_der.specs.Captured.{Kept}
+use Rattle.rpki_der.specs.Read.State.{State, fresh}
+use Rattle.rpki_der.specs.Read.Parse.{Parser, value_at, with_front, many, taken, is_next}
+
+-- an error other than for memory comes only where nothing is found
+abbrev pub Fails : {Y : Type 0} → DecodeError → Option Y → Type 0
+Fails Memory found = Unit {0}
+Fails Malformed found = found ≡ None
+Fails (Content f) found = found ≡ None
+
+-- What a reader that has not failed answers and leaves, where found is what stands in front of it.
+abbrev pub Answers : {T X : Type 0} → (T → X) → Option (X × List ℕ) → Result T DecodeError → State → Type 0
+Answers view found (Ok t) new = (found ≡ Some (view t, new.rest)) × (new.failed ≡ None)
+Answers view found (Err e) new = Fails e found
+
+-- an error that is answered again: the same one, unless memory for a copy of it ran out
+abbrev pub IsAgain : DecodeError → DecodeError → Type 0
+IsAgain e d = (d ≡ e) ⊎ (d ≡ Memory)
+
+-- the call answers this error again, and the reader from then on
+abbrev pub FailsAgain : {T : Type 0} → DecodeError → Result T DecodeError → State → Type 0
+FailsAgain e (Ok t) new = ⊥
+FailsAgain e (Err d) new = IsAgain e d × (new.failed ≡ Some d)
+
+-- what a decoder answers, where found is what stands at the front
+abbrev pub Found : {T X : Type 0} → (T → X) → Option (X × List ℕ) → Result T DecodeError → Type 0
+Found view None (Ok t) = ⊥
+Found view (Some x) (Ok t) = view t ≡ x.0
+Found view found (Err e) = Fails e found
+
+-- a value of which P holds, unless memory runs out
+abbrev pub OkOrMemory : {T : Type 0} → Result T DecodeError → (T → Type 0) → Type 0
+OkOrMemory (Ok t) P = P t
+OkOrMemory (Err e) P = e ≡ Memory
+
+-- a failed reader answers its error again
+abbrev pub RepeatsError : {T : Type 0} → DecodeError → Result T DecodeError → Type 0
+RepeatsError e (Ok t) = ⊥
+RepeatsError e (Err d) = IsAgain e d
+
+-- What a call reads of a reader: what p finds, unless memory runs out. A reader that has failed answers its error again.
+abbrev pub Reads : {T X : Type 0} → (T → X) → Parser X → State → Result T DecodeError → State → Type 0
+Reads view p old result new =
+    (new.mode ≡ old.mode)
+    × MatchOption old.failed (Answers view (p old.mode old.rest) result new) (λ e. RepeatsError e result)
+
+-- an error of the reader's own, which it answers from then on
+abbrev pub Stays : {T : Type 0} → Result T DecodeError → State → Type 0
+Stays result new = IfErr result (λ e. new.failed ≡ Some e)
+
+-- what is wrong with a reader that has to be at its end
+abbrev pub unfinished : Option DecodeError → List ℕ → Option DecodeError
+unfinished (Some e) rest = Some e
+unfinished None [] = None
+unfinished None (b ∷ rest) = Some Malformed
+
+-- the value, unless there is an error
+abbrev pub or_error : {T : Type 0} → T → Option DecodeError → Result T DecodeError
+or_error t None = Ok t
+or_error t (Some e) = Err e
+
+-- What the call that opened a value answers: what the closure answered, if it left nothing.
+abbrev pub closed : {T : Type 0} → Result T DecodeError → State → Result T DecodeError
+closed (Err e) after = Err e
+closed (Ok t) after = or_error t (unfinished after.failed after.rest)
+
+-- the same, where something may be left
+abbrev pub not_failed : {T : Type 0} → Result T DecodeError → State → Result T DecodeError
+not_failed (Err e) after = Err e
+not_failed (Ok t) after = or_error t after.failed
+
+-- the contents of the value in front, or none
+abbrev pub OpenedAt : {T : Type 0} → (T → List ℕ) → Option (List ℕ × List ℕ) → Result T DecodeError → State → Type 0
+OpenedAt view found (Ok t) new = (found ≡ Some (view t, new.rest)) × (new.failed ≡ None)
+OpenedAt view found (Err e) new = (found ≡ None) × (e ≡ Malformed) × (new.failed ≡ Some Malformed)
+
+-- what opening answers
+abbrev pub Opened : {T : Type 0} → ℕ → (T → List ℕ) → State → Result T DecodeError → State → Type 0
+Opened tag view old result new =
+    (new.mode ≡ old.mode)
+    × MatchOption old.failed (OpenedAt view (value_at tag old.mode old.rest) result new) (λ e. FailsAgain e result new)
+
+-- what is left behind a value whose contents were read so
+abbrev pub Left : {T : Type 0} → Result T DecodeError → List ℕ → Result T DecodeError → State → Type 0
+Left (Ok t) rest result new = (result ≡ Ok t) × (new.rest ≡ rest) × (new.failed ≡ None)
+Left (Err e) rest result new = FailsAgain e result new
+
+-- A value with this tag is opened, and step is a call of the closure on a reader of its contents.
+abbrev pub Opens : {T : Type 0} → ℕ → (State → Result T DecodeError → State → Type 0) → State → Result T DecodeError → State → Type 0
+Opens {T} tag step old result new =
+    (new.mode ≡ old.mode)
+    × MatchOption old.failed
+    (MatchOption (value_at tag old.mode old.rest)
+    ((result ≡ Err Malformed) × (new.failed ≡ Some Malformed))
+    (λ v. (r : Result T DecodeError) × (after : State) × step (fresh old.mode v.0) r after × Left (closed r after) v.1 result new))
+    (λ e. FailsAgain e result new)
+
+-- the same for a value that may be there
+abbrev pub some_of_result : {T : Type 0} → Result T DecodeError → Result (Option T) DecodeError
+some_of_result (Ok t) = Ok (Some t)
+some_of_result (Err e) = Err e
+
+-- The value in front is opened where it has this tag. Where it has another one, or where there is none, nothing is read.
+abbrev pub OpensIfNext : {T : Type 0} → ℕ → (State → Result T DecodeError → State → Type 0) → State → Result (Option T) DecodeError → State → Type 0
+OpensIfNext {T} tag step old result new =
+    MatchOption old.failed
+    (MatchBool (is_next tag old.rest)
+    ((r : Result T DecodeError) × Opens tag step old r new × (result ≡ some_of_result r))
+    ((result ≡ Ok None) × (new ≡ old)))
+    (λ e. FailsAgain e result new × (new.mode ≡ old.mode))
+
+-- what a loop has read, where p reads each
+pub record ReadSoFar {X : Type 0} (p : Parser (Option X)) (front : List X) (begun now : State) : Type 0 where
+  pub mode : now.mode ≡ begun.mode
+  pub failed : now.failed ≡ begun.failed
+  pub read : with_front front (many p begun.mode now.rest) ≡ many p begun.mode begun.rest
+
+-- what a capture of a call answers, where read is what the call answered and after what it left
+abbrev pub Captured : Result (Unit {0}) DecodeError → State → State → Result Kept DecodeError → State → Type 0
+Captured read old after (Ok kept) new = (read ≡ Ok tt) × (kept.octets ≡ taken old.rest after.rest) × (kept.mode ≡ old.mode) × (new ≡ after)
+Captured (Ok u) old after (Err e) new = (e ≡ Memory) × (new.failed ≡ Some Memory) × (new.mode ≡ after.mode)
+Captured (Err d) old after (Err e) new = IsAgain d e × (new.failed ≡ Some e) × (new.mode ≡ after.mode)
+
+-- the octets that step took
+abbrev pub Captures : (State → Result (Unit {0}) DecodeError → State → Type 0) → State → Result Kept DecodeError → State → Type 0
+Captures step old result new =
+    MatchOption old.failed
+    ((r : Result (Unit {0}) DecodeError) × (after : State) × step old r after × Captured (not_failed r after) old after result new)
+    (λ e. FailsAgain e result new × (new.mode ≡ old.mode))

@@ -1,0 +1,66 @@
+//! Object identifiers.
+
+ghost use Rattle.std.specs.Prelude.{◌≡◌, MatchOption};
+ghost use Rattle.rpki_der.specs.Oid.{IsOid, is_oid};
+
+use bytes::Bytes;
+use std::alloc::AllocError;
+use std::marker::Model;
+
+/// An OBJECT IDENTIFIER, kept as its contents octets (X.690, section 8.19).
+#[derive(Drop, Debug)]
+pub struct Oid {
+    contents: Bytes,
+}
+
+impl Model for Oid {
+    ghost use Rattle.std.specs.Prelude.{ℕ, List};
+    ghost use Rattle.rpki_der.specs.Oid.{IsOid};
+
+    ghost Value = { List ℕ };
+
+    ghost view = { λ o. o.contents };
+
+    ghost invariant = { λ o. IsOid o.contents };
+}
+
+impl Oid {
+    /// The identifier with these contents, if they are those of one: not empty, and the last octet below 80 hexadecimal.
+    pub fn from_bytes(contents: Bytes) -> Option<Oid>
+        ensures { MatchOption result (IsOid contents → ⊥) (λ oid. (oid ≡ contents) × IsOid contents) }
+    {
+        if is_oid(contents.as_slice()) {
+            Some(Oid { contents })
+        } else {
+            None
+        }
+    }
+
+    /// The contents octets.
+    pub fn as_slice(&self) -> &[u8]
+        ensures octets { result.now ≡ self.now }
+        ensures valid { IsOid self.now }
+    {
+        self.contents.as_slice()
+    }
+}
+
+impl Clone for Oid {
+    ghost is_clone = { λ o copy. copy ≡ o };
+
+    fn clone(&self) -> Result<Oid, AllocError> {
+        Ok(Oid {
+            contents: self.contents.clone()?,
+        })
+    }
+}
+
+/// Whether octets are the contents of an OBJECT IDENTIFIER.
+fn is_oid(contents: &[u8]) -> bool
+    ensures { result ≡ is_oid contents.now }
+{
+    match contents.last() {
+        None => false,
+        Some(last) => *last < 128,
+    }
+}

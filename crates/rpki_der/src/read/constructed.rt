@@ -1,0 +1,324 @@
+//! The reader of the values of a constructed value.
+
+ghost use Rattle.std.specs.Prelude.{Result, IfOk, IfSome, ◌≡◌, ◌<◌, ◌≤◌, length, drop, take, None, Some, IsNone, MatchOption, Ok, Err, OnOk, OnErr, IsSomeAnd};
+ghost use Rattle.std.specs.Fn.{FnOnceReturnsAtMut};
+ghost use Rattle.rpki_der.specs.Read.State.{State, fresh, failing};
+ghost use Rattle.rpki_der.specs.Read.Parse.{is_next};
+ghost use Rattle.rpki_der.specs.Read.Reads.{Captures, Opens, OpensIfNext, Opened, FailsAgain, IsAgain, unfinished, closed, not_failed};
+
+use crate::captured::Captured;
+use crate::error::DecodeError;
+use crate::mode::{Mode, Tag};
+use crate::read::header::place_of;
+use crate::read::window::Window;
+use bytes::Bytes;
+use std::marker::Model;
+
+/// A reader of the values of a constructed value, one after the other (X.690, section 8.1).
+///
+/// Once a call has answered an error, each further call answers it again, and so does the call whose closure was
+/// handed the reader. Where no memory for a copy of the error is to be had, it is want of memory from then on.
+#[derive(Drop)]
+pub struct Constructed<'a> {
+    mode: Mode,
+    rest: Window<'a>,
+    failed: Option<DecodeError>,
+}
+
+impl<'a> Model for Constructed<'a> {
+    ghost use Rattle.rpki_der.specs.Read.State.{State};
+
+    ghost Value = { State };
+
+    ghost view = { λ s. record { mode = s.mode; rest = s.rest; failed = s.failed } };
+}
+
+/// The error twice, or want of memory twice where no copy of it is to be had.
+fn twice(error: DecodeError) -> (DecodeError, DecodeError)
+    ensures again { IsAgain error result.0 }
+    ensures same { result.1 ≡ result.0 }
+{
+    match error.clone() {
+        Ok(copy) => (error, copy),
+        Err(_) => (DecodeError::Memory, DecodeError::Memory),
+    }
+}
+
+impl<'a> Constructed<'a> {
+    /// Keeps an error, and answers it.
+    pub(super) fn fail(&mut self, error: DecodeError) -> DecodeError
+        ensures again { IsAgain error result }
+        ensures new { self.new ≡ failing self.old result }
+    {
+        let (error, copy) = twice(error);
+        self.failed = Some(copy);
+        error
+    }
+
+    /// Finds that the octets are not of the form.
+    pub(super) fn refuse(&mut self) -> DecodeError
+        ensures result { result ≡ DecodeError.Malformed }
+        ensures new { self.new ≡ failing self.old DecodeError.Malformed }
+    {
+        self.failed = Some(DecodeError::Malformed);
+        DecodeError::Malformed
+    }
+
+    /// Answers the error of this reader again, if it has one.
+    #[inline(always)]
+    pub(super) fn check(&mut self) -> Result<(), DecodeError>
+        ensures ok { OnOk result ((self.old.failed ≡ None) × (self.new ≡ self.old)) }
+        ensures err { OnErr result (IsSomeAnd self.old.failed (λ e. FailsAgain e result self.new × (self.new.mode ≡ self.old.mode))) }
+    {
+        let failed = self.failed.take();
+        match failed {
+            None => Ok(()),
+            Some(error) => Err(self.fail(error)),
+        }
+    }
+
+    /// The octets that are left.
+    #[inline(always)]
+    pub(super) fn rest(&self) -> &'a [u8]
+        ensures { result.now ≡ self.now.rest }
+    {
+        self.rest.as_slice()
+    }
+
+    /// The part of the source that is left.
+    fn window(&self) -> Window<'a>
+        ensures { result ≡ self.now.rest }
+    {
+        let len = self.rest.len();
+        self.rest.part(0, len)
+    }
+
+    /// The mode of this reader.
+    #[inline(always)]
+    pub fn mode(&self) -> Mode
+        ensures { result ≡ self.now.mode }
+    {
+        self.mode
+    }
+
+    /// Leaves the octets from here on.
+    #[inline(always)]
+    pub(super) fn go_to(&mut self, next: usize)
+        requires { next ≤ length self.old.rest }
+        ensures { self.new ≡ record self.old { rest = drop next self.old.rest } }
+    {
+        let len = self.rest.len();
+        self.rest = self.rest.part(next, len);
+    }
+
+    /// The octets of a part of the source, kept.
+    pub(super) fn keep(&mut self, part: &Window<'a>) -> Result<Bytes, DecodeError>
+        ensures ok { IfOk result (λ octets. (octets ≡ part.now) × (self.new ≡ self.old)) }
+        ensures err { OnErr result ((result ≡ Err DecodeError.Memory) × (self.new ≡ failing self.old DecodeError.Memory)) }
+    {
+        match part.to_bytes() {
+            Ok(octets) => Ok(octets),
+            Err(_) => {
+                self.failed = Some(DecodeError::Memory);
+                Err(DecodeError::Memory)
+            }
+        }
+    }
+
+    /// The contents of the value in front, which has this tag.
+    pub(super) fn open(&mut self, tag: Tag) -> Result<Window<'a>, DecodeError>
+        ensures { Opened tag.octet (λ s. s) self.old result self.new }
+    {
+        self.check()?;
+        let rest = self.rest.as_slice();
+        match place_of(self.mode, tag, rest) {
+            None => Err(self.refuse()),
+            Some((start, end, next)) => {
+                let contents = self.rest.part(start, end);
+                self.rest = self.rest.part(next, rest.len());
+                Ok(contents)
+            }
+        }
+    }
+
+    /// Whether a value with this tag is next.
+    #[inline(always)]
+    pub(super) fn is_next(&self, tag: Tag) -> bool
+        ensures { result ≡ is_next tag.octet self.now.rest }
+    {
+        match self.rest.as_slice() {
+            [] => false,
+            [t, ..] => *t == tag.octet,
+        }
+    }
+
+    /// Takes the error of this reader, or that something is left.
+    fn unfinished(&mut self) -> Option<DecodeError>
+        ensures { result ≡ unfinished self.old.failed self.old.rest }
+    {
+        let failed = self.failed.take();
+        match failed {
+            Some(error) => Some(error),
+            None => {
+                if self.rest.as_slice().is_empty() {
+                    None
+                } else {
+                    Some(DecodeError::Malformed)
+                }
+            }
+        }
+    }
+
+    /// Reads all of the contents of this reader.
+    fn run<T: Drop, F: FnOnce(&mut Constructed<'_>) -> Result<T, DecodeError>>(
+        &mut self,
+        op: F,
+    ) -> Result<T, DecodeError>
+        requires { F.IsAlwaysCallable op }
+        ensures { (r : Result T DecodeError) × (after : State) × FnOnceReturnsAtMut F.FnOnce op self.old r after × (result ≡ closed r after) }
+    {
+        match op(self) {
+            Err(e) => Err(e),
+            Ok(t) => match self.unfinished() {
+                None => Ok(t),
+                Some(e) => Err(e),
+            },
+        }
+    }
+
+    /// Takes the error of this reader.
+    fn take_error(&mut self) -> Option<DecodeError>
+        ensures result { result ≡ self.old.failed }
+        ensures new { self.new ≡ record self.old { failed = None } }
+    {
+        self.failed.take()
+    }
+
+    /// Reads what stands at the front.
+    fn run_front<T: Drop, F: FnOnce(&mut Constructed<'_>) -> Result<T, DecodeError>>(
+        &mut self,
+        op: F,
+    ) -> Result<T, DecodeError>
+        requires { F.IsAlwaysCallable op }
+        ensures { (r : Result T DecodeError) × (after : State) × FnOnceReturnsAtMut F.FnOnce op self.old r after
+            × (result ≡ not_failed r after) × OnOk result (self.new ≡ after) × (self.new.mode ≡ after.mode) }
+    {
+        match op(self) {
+            Err(e) => Err(e),
+            Ok(t) => match self.take_error() {
+                None => Ok(t),
+                Some(e) => Err(e),
+            },
+        }
+    }
+
+    /// Reads what stands at the front of the source, by the rules of the mode. What op leaves stands behind it.
+    pub fn decode<T: Drop, F: FnOnce(&mut Constructed<'_>) -> Result<T, DecodeError>>(
+        source: Bytes,
+        mode: Mode,
+        op: F,
+    ) -> Result<T, DecodeError>
+        requires { F.IsAlwaysCallable op }
+        ensures { (r : Result T DecodeError) × (after : State) × FnOnceReturnsAtMut F.FnOnce op (fresh mode source) r after × (result ≡ not_failed r after) }
+    {
+        let mut outer = Constructed {
+            mode,
+            rest: Window::of(&source),
+            failed: None,
+        };
+        outer.run_front(op)
+    }
+
+    /// Opens the value in front, which has this tag. op reads its contents, all of them.
+    pub fn take_constructed_if<T: Drop, F: FnOnce(&mut Constructed<'_>) -> Result<T, DecodeError>>(
+        &mut self,
+        tag: Tag,
+        op: F,
+    ) -> Result<T, DecodeError>
+        requires { F.IsAlwaysCallable op }
+        ensures { Opens tag.octet (λ s r after. FnOnceReturnsAtMut F.FnOnce op s r after) self.old result self.new }
+    {
+        let contents = self.open(tag)?;
+        let mut inner = Constructed {
+            mode: self.mode,
+            rest: contents,
+            failed: None,
+        };
+        match inner.run(op) {
+            Err(e) => Err(self.fail(e)),
+            Ok(t) => Ok(t),
+        }
+    }
+
+    /// Opens the value in front if it has this tag. op reads its contents, all of them.
+    pub fn take_opt_constructed_if<
+        T: Drop,
+        F: FnOnce(&mut Constructed<'_>) -> Result<T, DecodeError>,
+    >(&mut self, tag: Tag, op: F) -> Result<Option<T>, DecodeError>
+        requires { F.IsAlwaysCallable op }
+        ensures { OpensIfNext tag.octet (λ s r after. FnOnceReturnsAtMut F.FnOnce op s r after) self.old result self.new }
+    {
+        self.check()?;
+        if self.is_next(tag) {
+            match self.take_constructed_if(tag, op) {
+                Ok(t) => Ok(Some(t)),
+                Err(e) => Err(e),
+            }
+        } else {
+            Ok(None)
+        }
+    }
+
+    /// Opens the SEQUENCE in front (X.690, section 8.9). op reads its contents, all of them.
+    pub fn take_sequence<T: Drop, F: FnOnce(&mut Constructed<'_>) -> Result<T, DecodeError>>(
+        &mut self,
+        op: F,
+    ) -> Result<T, DecodeError>
+        requires { F.IsAlwaysCallable op }
+        ensures { Opens 48 (λ s r after. FnOnceReturnsAtMut F.FnOnce op s r after) self.old result self.new }
+    {
+        self.take_constructed_if(Tag::SEQUENCE, op)
+    }
+
+    /// Opens the SET in front (X.690, section 8.11). op reads its contents, all of them, in the order in which they stand.
+    pub fn take_set<T: Drop, F: FnOnce(&mut Constructed<'_>) -> Result<T, DecodeError>>(
+        &mut self,
+        op: F,
+    ) -> Result<T, DecodeError>
+        requires { F.IsAlwaysCallable op }
+        ensures { Opens 49 (λ s r after. FnOnceReturnsAtMut F.FnOnce op s r after) self.old result self.new }
+    {
+        self.take_constructed_if(Tag::SET, op)
+    }
+
+    /// Opens the value in front if it is a SEQUENCE. op reads its contents, all of them.
+    pub fn take_opt_sequence<T: Drop, F: FnOnce(&mut Constructed<'_>) -> Result<T, DecodeError>>(
+        &mut self,
+        op: F,
+    ) -> Result<Option<T>, DecodeError>
+        requires { F.IsAlwaysCallable op }
+        ensures { OpensIfNext 48 (λ s r after. FnOnceReturnsAtMut F.FnOnce op s r after) self.old result self.new }
+    {
+        self.take_opt_constructed_if(Tag::SEQUENCE, op)
+    }
+
+    /// Keeps the octets of the source that op reads, as they stand there, and the mode.
+    pub fn capture<F: FnOnce(&mut Constructed<'_>) -> Result<(), DecodeError>>(
+        &mut self,
+        op: F,
+    ) -> Result<Captured, DecodeError>
+        requires { F.IsAlwaysCallable op }
+        ensures { Captures (λ s r after. FnOnceReturnsAtMut F.FnOnce op s r after) self.old result self.new }
+    {
+        self.check()?;
+        let mode = self.mode();
+        let before = self.window();
+        match self.run_front(op) {
+            Err(e) => Err(self.fail(e)),
+            Ok(()) => {
+                let octets = self.keep(&before.before(self.rest().len()))?;
+                Ok(Captured::new(octets, mode))
+            }
+        }
+    }
+}

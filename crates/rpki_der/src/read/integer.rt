@@ -1,0 +1,57 @@
+//! Contents of an INTEGER.
+
+ghost use Rattle.std.specs.Prelude.{◌≡◌, ◌<◌, ◌≤◌, length, drop, take, None, Some, IsNone, MatchOption, List, ℕ, Option};
+ghost use Rattle.rpki_der.specs.Read.Parse.{digits_of, number_of, unsigned_of, number, Finds};
+
+#[tactic(auto, unfolding(crate::specs::Read::Parse::digits_of))]
+fn digits_in(contents: &[u8]) -> Option<&[u8]>
+    ensures { Finds (λ r. r.now) result (digits_of contents.now) }
+{
+    match contents {
+        [] => None,
+        [a] => { if *a < 128 { Some(contents) } else { None } }
+        [a, rest @ ..] => {
+            if *a >= 128 {
+                None
+            } else if *a != 0 {
+                Some(contents)
+            } else if rest[0] < 128 {
+                None
+            } else {
+                Some(rest)
+            }
+        }
+    }
+}
+
+#[tactic(auto, unfolding(crate::specs::Read::Parse::number_of))]
+pub fn number_in(digits: &[u8]) -> Option<u32>
+    ensures { Finds (λ n. n) result (number_of 4 digits.now) }
+{
+    match digits {
+        [] => Some(0),
+        [a] => Some(*a as u32),
+        [a, b] => Some(*a as u32 * 256 + *b as u32),
+        [a, b, c] => Some((*a as u32 * 256 + *b as u32) * 256 + *c as u32),
+        [a, b, c, d] => Some(((*a as u32 * 256 + *b as u32) * 256 + *c as u32) * 256 + *d as u32),
+        _ => None,
+    }
+}
+
+#[tactic(auto, unfolding(crate::specs::Read::Parse::unsigned_of))]
+pub fn u32_of(contents: &[u8]) -> Option<u32>
+    ensures { Finds (λ n. n) result (unsigned_of 4 contents.now) }
+{
+    number_in(digits_in(contents)?)
+}
+
+#[tactic(auto, unfolding(crate::specs::Read::Parse::unsigned_of, crate::specs::Read::Parse::number_of))]
+pub fn u8_of(contents: &[u8]) -> Option<u8>
+    ensures { Finds (λ n. n) result (unsigned_of 1 contents.now) }
+{
+    match digits_in(contents)? {
+        [] => Some(0),
+        [a] => Some(*a),
+        _ => None,
+    }
+}

@@ -1,0 +1,224 @@
+//! Values whose contents are understood: numbers, truth values, identifiers, strings.
+
+ghost use Rattle.std.specs.Prelude.{◌≡◌, ◌<◌, length, IfOk, IfSome, Some};
+ghost use Rattle.rpki_der.specs.Read.Parse.{octets_at, u8_at, u32_at, boolean_at, null_of, oid_at, bits_at, ia5_at, this, primitive, optional};
+ghost use Rattle.rpki_der.specs.Read.Reads.{Reads, Stays};
+
+use crate::bit_string::BitString;
+use crate::error::DecodeError;
+use crate::mode::Tag;
+use crate::oid::Oid;
+use crate::read::Constructed;
+use crate::read::contents::{boolean_of, is_ia5};
+use crate::read::integer::{u8_of, u32_of};
+use crate::read::string::string_place;
+use bytes::Bytes;
+use std::alloc::Global;
+
+impl<'a> Constructed<'a> {
+    /// Reads an INTEGER from 0 to 255 (X.690, section 8.3).
+    pub fn take_u8(&mut self) -> Result<u8, DecodeError>
+        ensures reads { Reads (λ n. n) u8_at self.old result self.new }
+        ensures stays { Stays result self.new }
+    {
+        let contents = self.open(Tag::INTEGER)?;
+        match u8_of(contents.as_slice()) {
+            Some(n) => Ok(n),
+            None => Err(self.refuse()),
+        }
+    }
+
+    /// Reads an INTEGER from 0 to 255, if an INTEGER is next.
+    pub fn take_opt_u8(&mut self) -> Result<Option<u8>, DecodeError>
+        ensures reads { Reads (λ n. n) (optional 2 u8_at) self.old result self.new }
+        ensures stays { Stays result self.new }
+    {
+        self.check()?;
+        if self.is_next(Tag::INTEGER) {
+            Ok(Some(self.take_u8()?))
+        } else {
+            Ok(None)
+        }
+    }
+
+    /// Reads an INTEGER that is this number.
+    pub fn skip_u8_if(&mut self, expected: u8) -> Result<(), DecodeError>
+        ensures reads { Reads (λ x. x) (primitive 2 (this expected)) self.old result self.new }
+        ensures stays { Stays result self.new }
+    {
+        let contents = self.open(Tag::INTEGER)?;
+        match u8_of(contents.as_slice()) {
+            Some(n) if n == expected => Ok(()),
+            _ => Err(self.refuse()),
+        }
+    }
+
+    /// Reads an INTEGER from 0 to 2^32 - 1.
+    pub fn take_u32(&mut self) -> Result<u32, DecodeError>
+        ensures reads { Reads (λ n. n) u32_at self.old result self.new }
+        ensures stays { Stays result self.new }
+    {
+        let contents = self.open(Tag::INTEGER)?;
+        match u32_of(contents.as_slice()) {
+            Some(n) => Ok(n),
+            None => Err(self.refuse()),
+        }
+    }
+
+    /// Reads an INTEGER from 0 to 2^32 - 1, if an INTEGER is next.
+    pub fn take_opt_u32(&mut self) -> Result<Option<u32>, DecodeError>
+        ensures reads { Reads (λ n. n) (optional 2 u32_at) self.old result self.new }
+        ensures shorter { IfOk result (λ n. IfSome n (λ _. length self.new.rest < length self.old.rest)) }
+        ensures stays { Stays result self.new }
+    {
+        self.check()?;
+        if self.is_next(Tag::INTEGER) {
+            Ok(Some(self.take_u32()?))
+        } else {
+            Ok(None)
+        }
+    }
+
+    /// Reads a BOOLEAN, if one is next (X.690, sections 8.2 and 11.1).
+    pub fn take_opt_bool(&mut self) -> Result<Option<bool>, DecodeError>
+        ensures reads { Reads (λ b. b) (optional 1 boolean_at) self.old result self.new }
+        ensures stays { Stays result self.new }
+    {
+        self.check()?;
+        if !self.is_next(Tag::BOOLEAN) {
+            return Ok(None);
+        }
+        let contents = self.open(Tag::BOOLEAN)?;
+        match boolean_of(self.mode(), contents.as_slice()) {
+            Some(b) => Ok(Some(b)),
+            None => Err(self.refuse()),
+        }
+    }
+
+    /// Reads a NULL, if one is next (X.690, section 8.8).
+    #[tactic(auto, unfolding(crate::specs::Read::Parse::null_of))]
+    pub fn skip_opt_null(&mut self) -> Result<Option<()>, DecodeError>
+        ensures reads { Reads (λ u. u) (optional 5 (primitive 5 null_of)) self.old result self.new }
+        ensures stays { Stays result self.new }
+    {
+        self.check()?;
+        if !self.is_next(Tag::NULL) {
+            return Ok(None);
+        }
+        let contents = self.open(Tag::NULL)?;
+        if contents.as_slice().is_empty() {
+            Ok(Some(()))
+        } else {
+            Err(self.refuse())
+        }
+    }
+
+    /// Reads an OBJECT IDENTIFIER (X.690, section 8.19).
+    #[tactic(auto, unfolding(crate::specs::Read::Parse::oid_of))]
+    pub fn take_oid(&mut self) -> Result<Oid, DecodeError>
+        ensures reads { Reads (λ oid. oid) oid_at self.old result self.new }
+        ensures stays { Stays result self.new }
+    {
+        let contents = self.open(Tag::OBJECT_IDENTIFIER)?;
+        let octets = self.keep(&contents)?;
+        match Oid::from_bytes(octets) {
+            Some(oid) => Ok(oid),
+            None => Err(self.refuse()),
+        }
+    }
+
+    /// Reads a BIT STRING, primitive in both modes (X.690, section 8.6).
+    #[tactic(auto, unfolding(crate::specs::Read::Parse::bits_of))]
+    pub fn take_bits(&mut self) -> Result<BitString, DecodeError>
+        ensures reads { Reads (λ bits. (bits.octets, bits.unused)) bits_at self.old result self.new }
+        ensures stays { Stays result self.new }
+    {
+        let contents = self.open(Tag::BIT_STRING)?;
+        match contents.as_slice() {
+            [] => Err(self.refuse()),
+            [unused, ..] => {
+                let unused = *unused;
+                let octets = self.keep(&contents.part(1, contents.len()))?;
+                match BitString::new(octets, unused) {
+                    Some(bits) => Ok(bits),
+                    None => Err(self.refuse()),
+                }
+            }
+        }
+    }
+
+    /// Reads an IA5String, primitive in both modes: octets below 80 hexadecimal (X.690, section 8.23).
+    #[tactic(auto, unfolding(crate::specs::Read::Parse::ia5_of))]
+    pub fn take_ia5(&mut self) -> Result<Bytes, DecodeError>
+        ensures reads { Reads (λ text. text) ia5_at self.old result self.new }
+        ensures stays { Stays result self.new }
+    {
+        let contents = self.open(Tag::IA5_STRING)?;
+        if is_ia5(contents.as_slice()) {
+            self.keep(&contents)
+        } else {
+            Err(self.refuse())
+        }
+    }
+
+    /// Reads an IA5String, if one is next.
+    pub fn take_opt_ia5(&mut self) -> Result<Option<Bytes>, DecodeError>
+        ensures reads { Reads (λ text. text) (optional 22 ia5_at) self.old result self.new }
+        ensures stays { Stays result self.new }
+    {
+        self.check()?;
+        if self.is_next(Tag::IA5_STRING) {
+            Ok(Some(self.take_ia5()?))
+        } else {
+            Ok(None)
+        }
+    }
+
+    /// Reads the contents of the value in front if it has this tag, whatever they are.
+    pub fn take_opt_primitive_if(&mut self, tag: Tag) -> Result<Option<Bytes>, DecodeError>
+        ensures reads { Reads (λ contents. contents) (optional tag.octet (primitive tag.octet Some)) self.old result self.new }
+        ensures stays { Stays result self.new }
+    {
+        self.check()?;
+        if !self.is_next(tag) {
+            return Ok(None);
+        }
+        let contents = self.open(tag)?;
+        Ok(Some(self.keep(&contents)?))
+    }
+
+    /// Reads an OCTET STRING (X.690, section 8.7). In BER it may be in pieces, nested at most 32 deep, whose octets are joined.
+    #[tactic(auto, using(crate::proofs::Reading::Strings::octets_next))]
+    pub fn take_octets(&mut self, alloc: Global) -> Result<Bytes, DecodeError>
+        ensures reads { Reads (λ octets. octets) (octets_at 32) self.old result self.new }
+        ensures stays { Stays result self.new }
+    {
+        self.check()?;
+        if self.is_next(Tag::OCTET_STRING) {
+            let contents = self.open(Tag::OCTET_STRING)?;
+            self.keep(&contents)
+        } else {
+            self.take_pieces(alloc)
+        }
+    }
+
+    /// Reads an OCTET STRING, and joins its octets.
+    fn take_pieces(&mut self, alloc: Global) -> Result<Bytes, DecodeError>
+        ensures reads { Reads (λ octets. octets) (octets_at 32) self.old result self.new }
+        ensures stays { Stays result self.new }
+    {
+        self.check()?;
+        let mut octets = Vec::new(alloc);
+        match string_place(self.mode(), self.rest(), &mut octets) {
+            Err(_) => Err(self.fail(DecodeError::Memory)),
+            Ok(None) => Err(self.refuse()),
+            Ok(Some(end)) => match Bytes::from_vec(octets) {
+                Err(_) => Err(self.fail(DecodeError::Memory)),
+                Ok(octets) => {
+                    self.go_to(end);
+                    Ok(octets)
+                }
+            },
+        }
+    }
+}

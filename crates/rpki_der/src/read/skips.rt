@@ -1,0 +1,40 @@
+//! Values that are gone past.
+
+ghost use Rattle.rpki_der.specs.Read.Parse.{skip_at, skip_all_at};
+ghost use Rattle.rpki_der.specs.Read.Reads.{Reads, Stays};
+
+use crate::error::DecodeError;
+use crate::read::Constructed;
+use crate::read::skip::{are_skipped, skip_place};
+
+impl<'a> Constructed<'a> {
+    /// Goes past the next value, whatever it is. Values in it nest at most 32 deep, itself included.
+    pub fn skip_one(&mut self) -> Result<(), DecodeError>
+        ensures reads { Reads (λ u. u) (skip_at 32) self.old result self.new }
+        ensures stays { Stays result self.new }
+    {
+        self.check()?;
+        match skip_place(self.mode(), self.rest()) {
+            None => Err(self.refuse()),
+            Some(end) => {
+                self.go_to(end);
+                Ok(())
+            }
+        }
+    }
+
+    /// Goes past all values that are left.
+    pub fn skip_all(&mut self) -> Result<(), DecodeError>
+        ensures reads { Reads (λ u. u) skip_all_at self.old result self.new }
+        ensures stays { Stays result self.new }
+    {
+        self.check()?;
+        let rest = self.rest();
+        if are_skipped(self.mode(), rest) {
+            self.go_to(rest.len());
+            Ok(())
+        } else {
+            Err(self.refuse())
+        }
+    }
+}
