@@ -4,6 +4,7 @@
 mod bit_string;
 mod captured;
 mod error;
+mod hex;
 pub mod laws;
 mod mode;
 mod oid;
@@ -12,6 +13,7 @@ mod read;
 pub use bit_string::BitString;
 pub use captured::Captured;
 pub use error::{ContentFault, DecodeError, InvalidSignedAttr, Reason};
+pub use hex::LowerHex;
 pub use mode::{Mode, Tag};
 pub use oid::Oid;
 pub use read::Constructed;

@@ -1,10 +1,15 @@
 //! Object identifiers.
 
-ghost use Rattle.std.specs.Prelude.{◌≡◌, MatchOption};
+ghost use Rattle.std.specs.Prelude.{◌≡◌, Some, MatchOption};
 ghost use Rattle.rpki_der.specs.Oid.{IsOid, is_oid};
 
+mod arcs;
+
+use crate::hex::LowerHex;
+use arcs::small_arcs;
 use bytes::Bytes;
 use std::alloc::AllocError;
+use std::fmt;
 use std::marker::Model;
 
 /// An OBJECT IDENTIFIER, kept as its contents octets (X.690, section 8.19).
@@ -62,5 +67,24 @@ fn is_oid(contents: &[u8]) -> bool
     match contents.last() {
         None => false,
         Some(last) => *last < 128,
+    }
+}
+
+/// The arcs in decimal digits with dots between them, as `1.2.840`. Where an arc passes 32 bits: `x` and the contents
+/// octets in lower hexadecimal digits.
+impl fmt::Display for Oid {
+    ghost use Rattle.rpki_der.specs.Oid.{oid_text};
+
+    ghost output = { λ oid. Some (oid_text oid) };
+
+    fn fmt<W: fmt::Write>(&self, f: &mut fmt::Formatter<W>) -> fmt::Result {
+        let contents = self.as_slice();
+        match small_arcs(contents) {
+            Some((head, points)) => write!(f, "{head}{points}"),
+            None => {
+                let hex = LowerHex(contents);
+                write!(f, "x{hex}")
+            }
+        }
     }
 }
