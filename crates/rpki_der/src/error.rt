@@ -1,10 +1,12 @@
 //! Why octets can't be read.
 
-ghost use Rattle.std.specs.Prelude.{◌≡◌, IfOk, OnErr};
+ghost use Rattle.std.specs.Prelude.{◌≡◌, IfOk, Some, codes};
 ghost use Rattle.rpki_der.specs.declared.error.DecodeError.TheVariants.{Memory};
 
 use crate::oid::Oid;
 use std::alloc::{AllocError, AllocFailed};
+use std::error::Error;
+use std::fmt;
 
 /// Why octets could not be read.
 #[derive(Debug, Drop)]
@@ -32,7 +34,7 @@ pub struct InvalidSignedAttr {
     pub oid: Oid,
 }
 
-/// What is not allowed in a content.
+/// What is not allowed in a content, each with a text of its own.
 #[derive(Clone, Copy, Debug, PartialEq, Eq)]
 pub enum Reason {
     CustomerAs0,
@@ -43,38 +45,44 @@ pub enum Reason {
     As0BesideOthers,
 }
 
-impl Clone for DecodeError {
-    ghost is_clone = { λ e copy. copy ≡ e };
+impl Reason {
+    /// The text.
+    pub fn text(self) -> &'static str {
+        match self {
+            Reason::CustomerAs0 => "customer is AS0",
+            Reason::NoProviders => "no providers",
+            Reason::TooManyProviders => "too many providers",
+            Reason::ProvidersNotAscending => "providers not in ascending order",
+            Reason::CustomerAmongProviders => "customer among its providers",
+            Reason::As0BesideOthers => "AS0 beside other providers",
+        }
+    }
+}
 
-    fn clone(&self) -> Result<DecodeError, AllocError> {
+impl DecodeError {
+    /// A copy, unless no memory for it is to be had.
+    pub(crate) fn copy(&self) -> Result<DecodeError, AllocError>
+        ensures { IfOk result (λ copy. copy ≡ self.now) }
+    {
         match self {
             DecodeError::Malformed => Ok(DecodeError::Malformed),
-            DecodeError::Content(fault) => Ok(DecodeError::Content(fault.clone()?)),
+            DecodeError::Content(fault) => Ok(DecodeError::Content(fault.copy()?)),
             DecodeError::Memory => Ok(DecodeError::Memory),
         }
     }
 }
 
-impl Clone for ContentFault {
-    ghost is_clone = { λ f copy. copy ≡ f };
-
-    fn clone(&self) -> Result<ContentFault, AllocError> {
+impl ContentFault {
+    fn copy(&self) -> Result<ContentFault, AllocError>
+        ensures { IfOk result (λ copy. copy ≡ self.now) }
+    {
         match self {
             ContentFault::InvalidSignedAttr(attr) => {
-                Ok(ContentFault::InvalidSignedAttr(attr.clone()?))
+                let oid = attr.oid.clone()?;
+                Ok(ContentFault::InvalidSignedAttr(InvalidSignedAttr { oid }))
             }
             ContentFault::Text(reason) => Ok(ContentFault::Text(*reason)),
         }
-    }
-}
-
-impl Clone for InvalidSignedAttr {
-    ghost is_clone = { λ a copy. copy ≡ a };
-
-    fn clone(&self) -> Result<InvalidSignedAttr, AllocError> {
-        Ok(InvalidSignedAttr {
-            oid: self.oid.clone()?,
-        })
     }
 }
 
@@ -93,3 +101,42 @@ impl<T: Drop> From<AllocFailed<T>> for DecodeError {
         DecodeError::Memory
     }
 }
+
+impl fmt::Display for InvalidSignedAttr {
+    ghost use Rattle.std.specs.Prelude.{◌++◌, Some, codes};
+    ghost use Rattle.rpki_der.specs.Oid.{oid_text};
+
+    ghost output = { λ attr. Some (codes "invalid extension " ++ oid_text attr.oid) };
+
+    fn fmt<W: fmt::Write>(&self, f: &mut fmt::Formatter<W>) -> fmt::Result {
+        let oid = &self.oid;
+        write!(f, "invalid extension {oid}")
+    }
+}
+
+impl fmt::Display for Reason {
+    fn fmt<W: fmt::Write>(&self, f: &mut fmt::Formatter<W>) -> fmt::Result {
+        f.write_str(self.text())
+    }
+}
+
+impl fmt::Display for ContentFault {
+    fn fmt<W: fmt::Write>(&self, f: &mut fmt::Formatter<W>) -> fmt::Result {
+        match self {
+            ContentFault::InvalidSignedAttr(attr) => attr.fmt(f),
+            ContentFault::Text(reason) => reason.fmt(f),
+        }
+    }
+}
+
+impl fmt::Display for DecodeError {
+    fn fmt<W: fmt::Write>(&self, f: &mut fmt::Formatter<W>) -> fmt::Result {
+        match self {
+            DecodeError::Malformed => f.write_str("malformed"),
+            DecodeError::Content(fault) => fault.fmt(f),
+            DecodeError::Memory => f.write_str("out of memory"),
+        }
+    }
+}
+
+impl Error for DecodeError {}

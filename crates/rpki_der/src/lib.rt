@@ -17,3 +17,6 @@ pub use hex::LowerHex;
 pub use mode::{Mode, Tag};
 pub use oid::Oid;
 pub use read::Constructed;
+
+#[cfg(test)]
+mod tests;

@@ -1,6 +1,8 @@
 //! Object identifiers.
 
-ghost use Rattle.std.specs.Prelude.{◌≡◌, Some, MatchOption};
+ghost use Rattle.std.specs.Prelude.{◌≡◌, nat_eq, Some, MatchOption};
+ghost use Rattle.std.specs.Cmp.{partial_equiv_from_equiv};
+ghost use Rattle.std.specs.Cmp.Lexicographic.{pointwise, nat_list_eq_equiv};
 ghost use Rattle.rpki_der.specs.Oid.{IsOid, is_oid};
 
 mod arcs;
@@ -58,6 +60,20 @@ impl Clone for Oid {
             contents: self.contents.clone()?,
         })
     }
+}
+
+impl PartialEq for Oid {
+    ghost eq = { pointwise nat_eq };
+
+    ghost laws = { partial_equiv_from_equiv nat_list_eq_equiv };
+
+    fn eq(&self, other: &Oid) -> bool {
+        self.as_slice() == other.as_slice()
+    }
+}
+
+impl Eq for Oid {
+    ghost laws = { nat_list_eq_equiv };
 }
 
 /// Whether octets are the contents of an OBJECT IDENTIFIER.

@@ -38,7 +38,7 @@ fn twice(error: DecodeError) -> (DecodeError, DecodeError)
     ensures again { IsAgain error result.0 }
     ensures same { result.1 ≡ result.0 }
 {
-    match error.clone() {
+    match error.copy() {
         Ok(copy) => (error, copy),
         Err(_) => (DecodeError::Memory, DecodeError::Memory),
     }
