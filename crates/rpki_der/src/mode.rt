@@ -53,6 +53,7 @@ impl Tag {
 }
 
 /// Whether an octet is an identifier.
+#[inline(always)]
 pub fn is_tag(t: u8) -> bool
     ensures { result ≡ is_tag t }
 {

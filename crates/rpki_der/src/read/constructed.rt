@@ -70,6 +70,18 @@ impl<'a> Constructed<'a> {
         ensures ok { OnOk result ((self.old.failed ≡ None) × (self.new ≡ self.old)) }
         ensures err { OnErr result (IsSomeAnd self.old.failed (λ e. FailsAgain e result self.new × (self.new.mode ≡ self.old.mode))) }
     {
+        if self.failed.is_none() {
+            Ok(())
+        } else {
+            self.repeat()
+        }
+    }
+
+    /// Answers the error of this reader again, if it has one.
+    fn repeat(&mut self) -> Result<(), DecodeError>
+        ensures ok { OnOk result ((self.old.failed ≡ None) × (self.new ≡ self.old)) }
+        ensures err { OnErr result (IsSomeAnd self.old.failed (λ e. FailsAgain e result self.new × (self.new.mode ≡ self.old.mode))) }
+    {
         let failed = self.failed.take();
         match failed {
             None => Ok(()),
@@ -112,6 +124,7 @@ impl<'a> Constructed<'a> {
     }
 
     /// The octets of a part of the source, kept.
+    #[inline(always)]
     pub(super) fn keep(&mut self, part: &Window<'a>) -> Result<Bytes, DecodeError>
         ensures ok { IfOk result (λ octets. (octets ≡ part.now) × (self.new ≡ self.old)) }
         ensures err { OnErr result ((result ≡ Err DecodeError.Memory) × (self.new ≡ failing self.old DecodeError.Memory)) }
@@ -126,6 +139,7 @@ impl<'a> Constructed<'a> {
     }
 
     /// The contents of the value in front, which has this tag.
+    #[inline(always)]
     pub(super) fn open(&mut self, tag: Tag) -> Result<Window<'a>, DecodeError>
         ensures { Opened tag.octet (λ s. s) self.old result self.new }
     {

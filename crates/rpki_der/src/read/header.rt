@@ -8,6 +8,7 @@ use crate::mode::{Mode, Tag, is_tag};
 use crate::read::integer::number_in;
 
 /// The length, unless it is not in the shortest form.
+#[inline(always)]
 fn shortest_of(mode: Mode, least: usize, len: usize, rest: &[u8]) -> Option<(usize, &[u8])>
     ensures { Finds (λ r. (r.0, r.1.now)) result (shortest mode least len rest.now) }
 {
@@ -17,6 +18,7 @@ fn shortest_of(mode: Mode, least: usize, len: usize, rest: &[u8]) -> Option<(usi
     }
 }
 
+#[inline(always)]
 fn least(k: usize) -> usize
     ensures { result ≡ least k }
 {
@@ -29,6 +31,7 @@ fn least(k: usize) -> usize
 }
 
 #[tactic(auto, unfolding(crate::specs::Read::Parse::long_at, crate::specs::Read::Parse::number_of))]
+#[inline(always)]
 fn long_of(mode: Mode, k: usize, bytes: &[u8]) -> Option<(usize, &[u8])>
     requires { k ≤ 4 }
     ensures { Finds (λ r. (r.0, r.1.now)) result (long_at k mode bytes.now) }
@@ -42,6 +45,7 @@ fn long_of(mode: Mode, k: usize, bytes: &[u8]) -> Option<(usize, &[u8])>
 }
 
 #[tactic(auto, unfolding(crate::specs::Read::Parse::length_at))]
+#[inline(always)]
 fn length_of(mode: Mode, bytes: &[u8]) -> Option<(usize, &[u8])>
     ensures { Finds (λ r. (r.0, r.1.now)) result (length_at mode bytes.now) }
 {
@@ -60,6 +64,7 @@ fn length_of(mode: Mode, bytes: &[u8]) -> Option<(usize, &[u8])>
 }
 
 #[tactic(auto, unfolding(crate::specs::Read::Parse::contents_at))]
+#[inline(always)]
 fn contents_of(mode: Mode, bytes: &[u8]) -> Option<(&[u8], &[u8])>
     ensures { Finds (λ r. (r.0.now, r.1.now)) result (contents_at mode bytes.now) }
 {
@@ -71,6 +76,7 @@ fn contents_of(mode: Mode, bytes: &[u8]) -> Option<(&[u8], &[u8])>
 }
 
 /// Whether the contents of a value with this identifier are values.
+#[inline(always)]
 pub fn is_constructed(t: u8) -> bool
     ensures { result ≡ is_constructed t }
 {
@@ -150,6 +156,7 @@ fn indefinite_of(mode: Mode, tag: u8, bytes: &[u8]) -> Option<(&[u8], &[u8])>
 }
 
 #[tactic(auto, unfolding(crate::specs::Read::Parse::body_at))]
+#[inline(always)]
 fn body_of(mode: Mode, tag: u8, bytes: &[u8]) -> Option<(&[u8], &[u8])>
     ensures { Finds (λ r. (r.0.now, r.1.now)) result (body_at tag mode bytes.now) }
 {
@@ -168,6 +175,7 @@ fn body_of(mode: Mode, tag: u8, bytes: &[u8]) -> Option<(&[u8], &[u8])>
 }
 
 #[tactic(auto, unfolding(crate::specs::Read::Parse::value_at))]
+#[inline(always)]
 fn value_of(mode: Mode, tag: Tag, bytes: &[u8]) -> Option<(&[u8], &[u8])>
     ensures { Finds (λ r. (r.0.now, r.1.now)) result (value_at tag.octet mode bytes.now) }
 {
@@ -185,6 +193,7 @@ fn value_of(mode: Mode, tag: Tag, bytes: &[u8]) -> Option<(&[u8], &[u8])>
 
 /// The tag and the contents of any value in front, and what follows it.
 #[tactic(auto, unfolding(crate::specs::Read::Parse::any_at))]
+#[inline(always)]
 pub fn any_of(mode: Mode, bytes: &[u8]) -> Option<((u8, &[u8]), &[u8])>
     ensures { Finds (λ r. ((r.0.0, r.0.1.now), r.1.now)) result (any_at mode bytes.now) }
 {
@@ -198,6 +207,7 @@ pub fn any_of(mode: Mode, bytes: &[u8]) -> Option<((u8, &[u8]), &[u8])>
 }
 
 /// Where the contents of the value in front start and end, and where the value ends.
+#[inline(always)]
 pub fn place_of(mode: Mode, tag: Tag, bytes: &[u8]) -> Option<(usize, usize, usize)>
     ensures { MatchOption result (value_at tag.octet mode bytes.now ≡ None) (λ r. (r.0 ≤ r.1) × (r.1 ≤ length bytes.now) × (r.2 ≤ length bytes.now)
         × (value_at tag.octet mode bytes.now ≡ Some (slice_range bytes.now r.0 r.1, slice_range bytes.now r.2 (length bytes.now)))) }

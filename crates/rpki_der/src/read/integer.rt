@@ -4,6 +4,7 @@ ghost use Rattle.std.specs.Prelude.{◌≡◌, ◌<◌, ◌≤◌, length, drop,
 ghost use Rattle.rpki_der.specs.Read.Parse.{digits_of, number_of, unsigned_of, number, Finds};
 
 #[tactic(auto, unfolding(crate::specs::Read::Parse::digits_of))]
+#[inline(always)]
 fn digits_in(contents: &[u8]) -> Option<&[u8]>
     ensures { Finds (λ r. r.now) result (digits_of contents.now) }
 {
@@ -25,6 +26,7 @@ fn digits_in(contents: &[u8]) -> Option<&[u8]>
 }
 
 #[tactic(auto, unfolding(crate::specs::Read::Parse::number_of))]
+#[inline(always)]
 pub fn number_in(digits: &[u8]) -> Option<u32>
     ensures { Finds (λ n. n) result (number_of 4 digits.now) }
 {
@@ -39,6 +41,7 @@ pub fn number_in(digits: &[u8]) -> Option<u32>
 }
 
 #[tactic(auto, unfolding(crate::specs::Read::Parse::unsigned_of))]
+#[inline(always)]
 pub fn u32_of(contents: &[u8]) -> Option<u32>
     ensures { Finds (λ n. n) result (unsigned_of 4 contents.now) }
 {
@@ -46,6 +49,7 @@ pub fn u32_of(contents: &[u8]) -> Option<u32>
 }
 
 #[tactic(auto, unfolding(crate::specs::Read::Parse::unsigned_of, crate::specs::Read::Parse::number_of))]
+#[inline(always)]
 pub fn u8_of(contents: &[u8]) -> Option<u8>
     ensures { Finds (λ n. n) result (unsigned_of 1 contents.now) }
 {

@@ -25,6 +25,7 @@ impl<'a> Model for Window<'a> {
 }
 
 impl<'a> Window<'a> {
+    #[inline(always)]
     pub fn of(source: &'a Bytes) -> Window<'a>
         ensures { result ≡ source.now }
     {
@@ -35,12 +36,14 @@ impl<'a> Window<'a> {
         }
     }
 
+    #[inline(always)]
     pub fn as_slice(&self) -> &'a [u8]
         ensures { result.now ≡ self.now }
     {
         &self.source.as_slice()[self.start..self.end]
     }
 
+    #[inline(always)]
     pub fn len(&self) -> usize
         ensures { result ≡ length self.now }
     {
@@ -48,6 +51,7 @@ impl<'a> Window<'a> {
     }
 
     /// A part of it.
+    #[inline(always)]
     pub fn part(&self, from: usize, to: usize) -> Window<'a>
         requires order { from ≤ to }
         requires within { to ≤ length self.now }
