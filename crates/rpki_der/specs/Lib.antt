@@ -6,3 +6,7 @@ pub mod Bits
 pub mod Captured
 pub mod Read
 pub mod Grammar
+pub mod Sink
+pub mod Encode
+pub mod Written
+pub mod Parts

@@ -1,0 +1,7 @@
+pub mod Taken
+pub mod Pieces
+pub mod Lengths
+pub mod Numbers
+pub mod Leaves
+pub mod Values
+pub mod Strings

@@ -1,0 +1,8 @@
+use Rattle.rpki_der.proofs.Writing.Values.{list-written, list-read}
+use Rattle.rpki_der.proofs.write_laws.lists_are_written.Goals as goal
+
+pub returns-clause-written : goal.returns-clause-written
+returns-clause-written c = list-written
+
+pub returns-clause-read : goal.returns-clause-read
+returns-clause-read c = list-read

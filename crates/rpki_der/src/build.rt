@@ -1,0 +1,20 @@
+//! Values put together from octets.
+
+ghost use Rattle.std.specs.Prelude.{◌≡◌, ◌<◌, ◌^◌, ◌⊎◌, ◌↔◌, length, IfOk, OnOk, IfErr, IsErrOf};
+ghost use Rattle.rpki_der.specs.Written.{value_octets};
+
+use crate::encode::{Encode, EncodeError, Length, Raw};
+use std::alloc::Global;
+
+/// An identifier octet, the length of the contents in its shortest form, and the contents. Any octet is taken for an identifier.
+pub fn tlv(alloc: Global, identifier: u8, contents: &[u8]) -> Result<Vec<u8>, EncodeError>
+    ensures value { IfOk result (λ v. v.items ≡ value_octets identifier contents.now) }
+    ensures short { OnOk result (length contents.now < 2 ^ 32) }
+    ensures too_long { IsErrOf result EncodeError.TooLong → ¬ (length contents.now < 2 ^ 32) }
+    ensures errors { IfErr result (λ e. (e ≡ EncodeError.TooLong) ⊎ (e ≡ EncodeError.Memory)) }
+{
+    match u32::try_from(contents.len()) {
+        Err(_) => Err(EncodeError::TooLong),
+        Ok(n) => (Raw(&[identifier]), (Length(n), Raw(contents))).to_bytes(alloc),
+    }
+}

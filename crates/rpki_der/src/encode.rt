@@ -1,0 +1,135 @@
+//! Writing values in DER.
+
+ghost use Rattle.std.specs.Prelude.{◌≡◌, ℕ, ◌+◌, ◌<◌, ◌^◌, List, length, OnOk, OnErr};
+ghost use Rattle.std.specs.Io.KnownBytes.{Appends};
+ghost use Rattle.rpki_der.specs.Sink.{AppendsFront};
+
+use crate::count::Count;
+use crate::stream::{Sink, SinkFailed};
+use std::alloc::Global;
+
+mod bits;
+mod captured;
+mod leaf;
+mod list;
+mod number;
+mod raw;
+mod tuple;
+mod value;
+
+pub use bits::{Bits, bit_string};
+pub use captured::CapturedEncoder;
+pub use leaf::{boolean, ia5, null, octet_string, oid, primitive};
+pub use list::{Elements, each};
+pub use number::{Digits, Unsigned, integer, integer_of, integer_u8};
+pub use raw::Raw;
+pub use value::{Length, Value, sequence, set, tagged};
+
+/// Why a value was not written.
+#[derive(Clone, Copy, Debug, PartialEq, Eq)]
+pub enum EncodeError {
+    /// It was read in BER mode.
+    NotDer,
+    /// Some contents has 2^32 octets or more.
+    TooLong,
+    /// A call of the sink has failed.
+    Io,
+    Memory,
+}
+
+/// What has a spelling in DER.
+pub trait Encode {
+    ghost use Rattle.rpki_der.specs.Encode.{IsLenOf, IsWritten, IsBytesOf};
+
+    // The octets that it is written as.
+    ghost octets: { Self → List ℕ };
+
+    // Nothing in it was read in BER mode.
+    ghost is_der: { Self → Type 0 } = { λ _. Unit {0} };
+
+    // Each contents in it has fewer than 2^32 octets.
+    ghost is_short: { Self → Type 0 };
+
+    /// How many octets it is written as.
+    fn encoded_len(&self) -> Result<u64, EncodeError>
+        ensures { IsLenOf (is_der self.now) (is_short self.now) (octets self.now) result };
+
+    /// Writes the octets.
+    fn put<W: Sink>(&self, out: &mut W) -> Result<(), SinkFailed>
+        requires der { is_der self.now }
+        requires short { is_short self.now }
+        requires len { length (octets self.now) < 2 ^ 64 }
+        ensures ok { OnOk result (Appends (W.taken out.old) (W.taken out.new) (octets self.now)) }
+        ensures begun { OnErr result (AppendsFront (W.taken out.old) (W.taken out.new) (octets self.now)) }
+        ensures same { OnOk result (W.failures out.new ≡ W.failures out.old) }
+        ensures failed { OnErr result (W.failures out.new ≡ W.failures out.old + 1) };
+
+    // What has few octets has no long contents.
+    ghost small: { (x : Self) → length (octets x) < 2 ^ 32 → is_short x };
+
+    /// Writes the octets, or finds out before the first one that it can't be written.
+    final fn write_to<W: Sink>(&self, out: &mut W) -> Result<(), EncodeError>
+    where
+        Self: Sized,
+        ensures { IsWritten (is_der self.now) (is_short self.now) (octets self.now)
+            (W.taken out.old, W.failures out.old) (W.taken out.new, W.failures out.new) result }
+    {
+        match self.encoded_len() {
+            Err(e) => Err(e),
+            Ok(_) => match self.put(out) {
+                Ok(()) => Ok(()),
+                Err(_) => Err(EncodeError::Io),
+            },
+        }
+    }
+
+    /// The octets, in a vector of their own.
+    final fn to_bytes(&self, alloc: Global) -> Result<Vec<u8>, EncodeError>
+    where
+        Self: Sized,
+        ensures { IsBytesOf (is_der self.now) (is_short self.now) (octets self.now) result }
+    {
+        match self.encoded_len() {
+            Err(e) => Err(e),
+            Ok(len) => match Vec::with_capacity(alloc, len as usize) {
+                Err(_) => Err(EncodeError::Memory),
+                Ok(bytes) => {
+                    let mut out = Octets {
+                        bytes,
+                        failures: Count::zero(),
+                    };
+                    match self.put(&mut out) {
+                        Ok(()) => Ok(out.bytes),
+                        Err(_) => Err(EncodeError::Memory),
+                    }
+                }
+            },
+        }
+    }
+}
+
+// A sink that keeps what it takes.
+#[derive(Drop)]
+struct Octets {
+    bytes: Vec<u8>,
+    failures: Count,
+}
+
+impl Sink for Octets {
+    ghost use Rattle.std.specs.Prelude.{Some};
+
+    ghost taken = { λ s. Some s.bytes.items };
+
+    ghost failures = { λ s. s.failures.number };
+
+    fn take(&mut self, octets: &[u8]) -> Result<usize, SinkFailed> {
+        match self.bytes.extend_from_slice(octets) {
+            Ok(()) => Ok(octets.len()),
+            Err(_) => {
+                let failures = self.failures.next();
+                self.failures = failures;
+                Err(SinkFailed)
+            }
+        }
+    }
+}

@@ -1,0 +1,22 @@
+use crate::encode::{Encode, EncodeError};
+use crate::stream::{Sink, SinkFailed};
+
+/// Octets as they are.
+#[derive(Clone, Copy)]
+pub struct Raw<'a>(pub &'a [u8]);
+
+impl Encode for Raw<'_> {
+    ghost octets = { λ s. s.0.now };
+
+    ghost is_short = { λ _. Unit {0} };
+
+    ghost small = { λ _ _. tt };
+
+    fn encoded_len(&self) -> Result<u64, EncodeError> {
+        Ok(self.0.len() as u64)
+    }
+
+    fn put<W: Sink>(&self, out: &mut W) -> Result<(), SinkFailed> {
+        out.take_all(self.0)
+    }
+}

@@ -1,0 +1,161 @@
+ghost use Rattle.std.specs.Prelude.{◌++◌};
+ghost use Rattle.rpki_der.specs.Parts.{length_parts};
+
+use crate::encode::{Encode, EncodeError};
+use crate::stream::{Sink, SinkFailed};
+
+/// One after another.
+impl<A: Encode, B: Encode> Encode for (A, B) {
+    ghost octets = { λ s. A.octets s.0 ++ B.octets s.1 };
+
+    ghost is_der = { λ s. A.is_der s.0 × B.is_der s.1 };
+
+    ghost is_short = { λ s. A.is_short s.0 × B.is_short s.1 };
+
+    ghost small = { λ x h. let parts = length_parts (A.octets x.0) (B.octets x.1) h in (A.small x.0 parts.0, B.small x.1 parts.1) };
+
+    fn encoded_len(&self) -> Result<u64, EncodeError> {
+        let a = self.0.encoded_len()?;
+        let b = self.1.encoded_len()?;
+        match a.checked_add(b) {
+            Some(n) => Ok(n),
+            None => Err(EncodeError::TooLong),
+        }
+    }
+
+    fn put<W: Sink>(&self, out: &mut W) -> Result<(), SinkFailed> {
+        self.0.put(out)?;
+        self.1.put(out)
+    }
+}
+
+impl<A: Encode, B: Encode, C: Encode> Encode for (A, B, C) {
+    ghost octets = { λ s. A.octets s.0 ++ (B.octets s.1 ++ C.octets s.2) };
+
+    ghost is_der = { λ s. A.is_der s.0 × (B.is_der s.1 × C.is_der s.2) };
+
+    ghost is_short = { λ s. A.is_short s.0 × (B.is_short s.1 × C.is_short s.2) };
+
+    ghost small = { λ x h. let p0 = length_parts (A.octets x.0) (B.octets x.1 ++ C.octets x.2) h in let p1 = length_parts (B.octets x.1) (C.octets x.2) p0.1 in (A.small x.0 p0.0, (B.small x.1 p1.0, C.small x.2 p1.1)) };
+
+    fn encoded_len(&self) -> Result<u64, EncodeError> {
+        (&self.0, (&self.1, &self.2)).encoded_len()
+    }
+
+    fn put<W: Sink>(&self, out: &mut W) -> Result<(), SinkFailed> {
+        (&self.0, (&self.1, &self.2)).put(out)
+    }
+}
+
+impl<A: Encode, B: Encode, C: Encode, D: Encode> Encode for (A, B, C, D) {
+    ghost octets = { λ s. A.octets s.0 ++ (B.octets s.1 ++ (C.octets s.2 ++ D.octets s.3)) };
+
+    ghost is_der = { λ s. A.is_der s.0 × (B.is_der s.1 × (C.is_der s.2 × D.is_der s.3)) };
+
+    ghost is_short = { λ s. A.is_short s.0 × (B.is_short s.1 × (C.is_short s.2 × D.is_short s.3)) };
+
+    ghost small = { λ x h. let p0 = length_parts (A.octets x.0) (B.octets x.1 ++ (C.octets x.2 ++ D.octets x.3)) h in let p1 = length_parts (B.octets x.1) (C.octets x.2 ++ D.octets x.3) p0.1 in let p2 = length_parts (C.octets x.2) (D.octets x.3) p1.1 in (A.small x.0 p0.0, (B.small x.1 p1.0, (C.small x.2 p2.0, D.small x.3 p2.1))) };
+
+    fn encoded_len(&self) -> Result<u64, EncodeError> {
+        (&self.0, (&self.1, &self.2, &self.3)).encoded_len()
+    }
+
+    fn put<W: Sink>(&self, out: &mut W) -> Result<(), SinkFailed> {
+        (&self.0, (&self.1, &self.2, &self.3)).put(out)
+    }
+}
+
+impl<A: Encode, B: Encode, C: Encode, D: Encode, E: Encode> Encode for (A, B, C, D, E) {
+    ghost octets = { λ s. A.octets s.0 ++ (B.octets s.1 ++ (C.octets s.2 ++ (D.octets s.3 ++ E.octets s.4))) };
+
+    ghost is_der = { λ s. A.is_der s.0 × (B.is_der s.1 × (C.is_der s.2 × (D.is_der s.3 × E.is_der s.4))) };
+
+    ghost is_short = { λ s. A.is_short s.0 × (B.is_short s.1 × (C.is_short s.2 × (D.is_short s.3 × E.is_short s.4))) };
+
+    ghost small = { λ x h. let p0 = length_parts (A.octets x.0) (B.octets x.1 ++ (C.octets x.2 ++ (D.octets x.3 ++ E.octets x.4))) h in let p1 = length_parts (B.octets x.1) (C.octets x.2 ++ (D.octets x.3 ++ E.octets x.4)) p0.1 in let p2 = length_parts (C.octets x.2) (D.octets x.3 ++ E.octets x.4) p1.1 in let p3 = length_parts (D.octets x.3) (E.octets x.4) p2.1 in (A.small x.0 p0.0, (B.small x.1 p1.0, (C.small x.2 p2.0, (D.small x.3 p3.0, E.small x.4 p3.1)))) };
+
+    fn encoded_len(&self) -> Result<u64, EncodeError> {
+        (&self.0, (&self.1, &self.2, &self.3, &self.4)).encoded_len()
+    }
+
+    fn put<W: Sink>(&self, out: &mut W) -> Result<(), SinkFailed> {
+        (&self.0, (&self.1, &self.2, &self.3, &self.4)).put(out)
+    }
+}
+
+impl<A: Encode, B: Encode, C: Encode, D: Encode, E: Encode, F: Encode> Encode
+    for (A, B, C, D, E, F) {
+    ghost octets = { λ s. A.octets s.0 ++ (B.octets s.1 ++ (C.octets s.2 ++ (D.octets s.3 ++ (E.octets s.4 ++ F.octets s.5)))) };
+
+    ghost is_der = { λ s. A.is_der s.0 × (B.is_der s.1 × (C.is_der s.2 × (D.is_der s.3 × (E.is_der s.4 × F.is_der s.5)))) };
+
+    ghost is_short = { λ s. A.is_short s.0 × (B.is_short s.1 × (C.is_short s.2 × (D.is_short s.3 × (E.is_short s.4 × F.is_short s.5)))) };
+
+    ghost small = { λ x h. let p0 = length_parts (A.octets x.0) (B.octets x.1 ++ (C.octets x.2 ++ (D.octets x.3 ++ (E.octets x.4 ++ F.octets x.5)))) h in let p1 = length_parts (B.octets x.1) (C.octets x.2 ++ (D.octets x.3 ++ (E.octets x.4 ++ F.octets x.5))) p0.1 in let p2 = length_parts (C.octets x.2) (D.octets x.3 ++ (E.octets x.4 ++ F.octets x.5)) p1.1 in let p3 = length_parts (D.octets x.3) (E.octets x.4 ++ F.octets x.5) p2.1 in let p4 = length_parts (E.octets x.4) (F.octets x.5) p3.1 in (A.small x.0 p0.0, (B.small x.1 p1.0, (C.small x.2 p2.0, (D.small x.3 p3.0, (E.small x.4 p4.0, F.small x.5 p4.1))))) };
+
+    fn encoded_len(&self) -> Result<u64, EncodeError> {
+        (&self.0, (&self.1, &self.2, &self.3, &self.4, &self.5)).encoded_len()
+    }
+
+    fn put<W: Sink>(&self, out: &mut W) -> Result<(), SinkFailed> {
+        (&self.0, (&self.1, &self.2, &self.3, &self.4, &self.5)).put(out)
+    }
+}
+
+impl<A: Encode, B: Encode, C: Encode, D: Encode, E: Encode, F: Encode, G: Encode> Encode
+    for (A, B, C, D, E, F, G) {
+    ghost octets = { λ s. A.octets s.0 ++ (B.octets s.1 ++ (C.octets s.2 ++ (D.octets s.3 ++ (E.octets s.4 ++ (F.octets s.5 ++ G.octets s.6))))) };
+
+    ghost is_der = { λ s. A.is_der s.0 × (B.is_der s.1 × (C.is_der s.2 × (D.is_der s.3 × (E.is_der s.4 × (F.is_der s.5 × G.is_der s.6))))) };
+
+    ghost is_short = { λ s. A.is_short s.0 × (B.is_short s.1 × (C.is_short s.2 × (D.is_short s.3 × (E.is_short s.4 × (F.is_short s.5 × G.is_short s.6))))) };
+
+    ghost small = { λ x h. let p0 = length_parts (A.octets x.0) (B.octets x.1 ++ (C.octets x.2 ++ (D.octets x.3 ++ (E.octets x.4 ++ (F.octets x.5 ++ G.octets x.6))))) h in let p1 = length_parts (B.octets x.1) (C.octets x.2 ++ (D.octets x.3 ++ (E.octets x.4 ++ (F.octets x.5 ++ G.octets x.6)))) p0.1 in let p2 = length_parts (C.octets x.2) (D.octets x.3 ++ (E.octets x.4 ++ (F.octets x.5 ++ G.octets x.6))) p1.1 in let p3 = length_parts (D.octets x.3) (E.octets x.4 ++ (F.octets x.5 ++ G.octets x.6)) p2.1 in let p4 = length_parts (E.octets x.4) (F.octets x.5 ++ G.octets x.6) p3.1 in let p5 = length_parts (F.octets x.5) (G.octets x.6) p4.1 in (A.small x.0 p0.0, (B.small x.1 p1.0, (C.small x.2 p2.0, (D.small x.3 p3.0, (E.small x.4 p4.0, (F.small x.5 p5.0, G.small x.6 p5.1)))))) };
+
+    fn encoded_len(&self) -> Result<u64, EncodeError> {
+        (
+            &self.0,
+            (&self.1, &self.2, &self.3, &self.4, &self.5, &self.6),
+        )
+            .encoded_len()
+    }
+
+    fn put<W: Sink>(&self, out: &mut W) -> Result<(), SinkFailed> {
+        (
+            &self.0,
+            (&self.1, &self.2, &self.3, &self.4, &self.5, &self.6),
+        )
+            .put(out)
+    }
+}
+
+impl<A: Encode, B: Encode, C: Encode, D: Encode, E: Encode, F: Encode, G: Encode, H: Encode> Encode
+    for (A, B, C, D, E, F, G, H) {
+    ghost octets = { λ s. A.octets s.0 ++ (B.octets s.1 ++ (C.octets s.2 ++ (D.octets s.3 ++ (E.octets s.4 ++ (F.octets s.5 ++ (G.octets s.6 ++ H.octets s.7)))))) };
+
+    ghost is_der = { λ s. A.is_der s.0 × (B.is_der s.1 × (C.is_der s.2 × (D.is_der s.3 × (E.is_der s.4 × (F.is_der s.5 × (G.is_der s.6 × H.is_der s.7)))))) };
+
+    ghost is_short = { λ s. A.is_short s.0 × (B.is_short s.1 × (C.is_short s.2 × (D.is_short s.3 × (E.is_short s.4 × (F.is_short s.5 × (G.is_short s.6 × H.is_short s.7)))))) };
+
+    ghost small = { λ x h. let p0 = length_parts (A.octets x.0) (B.octets x.1 ++ (C.octets x.2 ++ (D.octets x.3 ++ (E.octets x.4 ++ (F.octets x.5 ++ (G.octets x.6 ++ H.octets x.7)))))) h in let p1 = length_parts (B.octets x.1) (C.octets x.2 ++ (D.octets x.3 ++ (E.octets x.4 ++ (F.octets x.5 ++ (G.octets x.6 ++ H.octets x.7))))) p0.1 in let p2 = length_parts (C.octets x.2) (D.octets x.3 ++ (E.octets x.4 ++ (F.octets x.5 ++ (G.octets x.6 ++ H.octets x.7)))) p1.1 in let p3 = length_parts (D.octets x.3) (E.octets x.4 ++ (F.octets x.5 ++ (G.octets x.6 ++ H.octets x.7))) p2.1 in let p4 = length_parts (E.octets x.4) (F.octets x.5 ++ (G.octets x.6 ++ H.octets x.7)) p3.1 in let p5 = length_parts (F.octets x.5) (G.octets x.6 ++ H.octets x.7) p4.1 in let p6 = length_parts (G.octets x.6) (H.octets x.7) p5.1 in (A.small x.0 p0.0, (B.small x.1 p1.0, (C.small x.2 p2.0, (D.small x.3 p3.0, (E.small x.4 p4.0, (F.small x.5 p5.0, (G.small x.6 p6.0, H.small x.7 p6.1))))))) };
+
+    fn encoded_len(&self) -> Result<u64, EncodeError> {
+        (
+            &self.0,
+            (
+                &self.1, &self.2, &self.3, &self.4, &self.5, &self.6, &self.7,
+            ),
+        )
+            .encoded_len()
+    }
+
+    fn put<W: Sink>(&self, out: &mut W) -> Result<(), SinkFailed> {
+        (
+            &self.0,
+            (
+                &self.1, &self.2, &self.3, &self.4, &self.5, &self.6, &self.7,
+            ),
+        )
+            .put(out)
+    }
+}

@@ -1,0 +1,138 @@
+ghost use Rattle.std.specs.Prelude.{◌≡◌, ◌+◌, ◌<◌, ◌≤◌, ◌^◌, length, OnOk, OnErr};
+ghost use Rattle.std.specs.Io.KnownBytes.{Appends};
+ghost use Rattle.rpki_der.specs.Sink.{AppendsFront};
+ghost use Rattle.rpki_der.specs.Written.{length_octets, value_octets};
+ghost use Rattle.rpki_der.specs.Parts.{contents_small};
+
+use crate::encode::{Encode, EncodeError};
+use crate::mode::Tag;
+use crate::stream::{Sink, SinkFailed};
+
+/// A value (X.690, section 8.1.1): an identifier octet, the length in its shortest form, and the contents.
+#[derive(Clone, Copy)]
+pub struct Value<T> {
+    pub tag: Tag,
+    pub contents: T,
+}
+
+/// A value with this tag. Its contents are what the parts are written as.
+pub fn tagged<T>(tag: Tag, parts: T) -> Value<T>
+    ensures tag { result.tag ≡ tag }
+    ensures contents { result.contents ≡ parts }
+{
+    Value {
+        tag,
+        contents: parts,
+    }
+}
+
+/// A SET of the parts (X.690, section 8.11), in the order given.
+pub fn set<T>(parts: T) -> Value<T>
+    ensures tag { result.tag.octet ≡ 49 }
+    ensures contents { result.contents ≡ parts }
+{
+    Value {
+        tag: Tag::SET,
+        contents: parts,
+    }
+}
+
+/// A SEQUENCE of the parts (X.690, section 8.9).
+pub fn sequence<T>(parts: T) -> Value<T>
+    ensures tag { result.tag.octet ≡ 48 }
+    ensures contents { result.contents ≡ parts }
+{
+    Value {
+        tag: Tag::SEQUENCE,
+        contents: parts,
+    }
+}
+
+impl<T: Encode> Encode for Value<T> {
+    ghost octets = { λ s. value_octets s.tag.octet (T.octets s.contents) };
+
+    ghost is_der = { λ s. T.is_der s.contents };
+
+    ghost is_short = { λ s. length (T.octets s.contents) < 2 ^ 32 };
+
+    ghost small = { λ x h. contents_small x.tag.octet (T.octets x.contents) h };
+
+    fn encoded_len(&self) -> Result<u64, EncodeError> {
+        let n = self.contents.encoded_len()?;
+        match u32::try_from(n) {
+            Ok(len) => Ok(1 + length_size(len) + n),
+            Err(_) => Err(EncodeError::TooLong),
+        }
+    }
+
+    fn put<W: Sink>(&self, out: &mut W) -> Result<(), SinkFailed> {
+        let n = match self.contents.encoded_len() {
+            Ok(n) => n as u32,
+            Err(_) => unreachable!(),
+        };
+        out.take_all(&[self.tag.octet])?;
+        put_length(n, out)?;
+        self.contents.put(out)
+    }
+}
+
+/// The octets of a length, in the shortest form (X.690, sections 8.1.3 and 10.1).
+#[derive(Clone, Copy)]
+pub struct Length(pub u32);
+
+impl Encode for Length {
+    ghost octets = { λ s. length_octets s.0 };
+
+    ghost is_short = { λ _. Unit {0} };
+
+    ghost small = { λ _ _. tt };
+
+    fn encoded_len(&self) -> Result<u64, EncodeError> {
+        Ok(length_size(self.0))
+    }
+
+    fn put<W: Sink>(&self, out: &mut W) -> Result<(), SinkFailed> {
+        put_length(self.0, out)
+    }
+}
+
+/// How many octets a length has.
+#[tactic(auto, unfolding(crate::specs::Written::length_octets))]
+fn length_size(n: u32) -> u64
+    ensures size { result ≡ length (length_octets n) }
+    ensures small { result ≤ 5 }
+{
+    if n < 0x80 {
+        1
+    } else if n < 0x100 {
+        2
+    } else if n < 0x1_0000 {
+        3
+    } else if n < 0x100_0000 {
+        4
+    } else {
+        5
+    }
+}
+
+/// Writes a length.
+#[tactic(auto, unfolding(crate::specs::Written::length_octets))]
+fn put_length<W: Sink>(n: u32, out: &mut W) -> Result<(), SinkFailed>
+    ensures ok { OnOk result (Appends (W.taken out.old) (W.taken out.new) (length_octets n)) }
+    ensures begun { OnErr result (AppendsFront (W.taken out.old) (W.taken out.new) (length_octets n)) }
+    ensures same { OnOk result (W.failures out.new ≡ W.failures out.old) }
+    ensures failed { OnErr result (W.failures out.new ≡ W.failures out.old + 1) }
+{
+    let b = n.to_be_bytes();
+    if n < 0x80 {
+        out.take_all(&b[3..])
+    } else if n < 0x100 {
+        out.take_all(&[0x81, b[3]])
+    } else if n < 0x1_0000 {
+        out.take_all(&[0x82, b[2], b[3]])
+    } else if n < 0x100_0000 {
+        out.take_all(&[0x83, b[1], b[2], b[3]])
+    } else {
+        out.take_all(&[0x84, b[0], b[1], b[2], b[3]])
+    }
+}

@@ -1,0 +1,50 @@
+ghost use Rattle.std.specs.Prelude.{◌≡◌, ℕ, ◌+◌, ◌<◌, ◌≤◌, List, length, Option, OnOk, OnErr, IfOk};
+ghost use Rattle.std.specs.Io.KnownBytes.{Appends, WriteAppends, Keeps};
+ghost use Rattle.rpki_der.specs.Sink.{AppendsFront, IsTakenCount};
+
+/// A call of a sink has failed. It is not tried again.
+#[derive(Clone, Copy, Debug, PartialEq, Eq)]
+pub struct SinkFailed;
+
+/// What takes octets.
+pub trait Sink {
+    // The octets that it has taken, where they are known.
+    ghost taken: { Self → Option (List ℕ) };
+
+    // How many calls have failed.
+    ghost failures: { Self → ℕ };
+
+    /// Takes octets from the front of a slice: at least one, where there is one. A call that fails takes none.
+    fn take(&mut self, octets: &[u8]) -> Result<usize, SinkFailed>
+        ensures count { IfOk result (IsTakenCount octets.now) }
+        ensures taken { WriteAppends (taken self.old) (taken self.new) result octets.now }
+        ensures ok { OnOk result (failures self.new ≡ failures self.old) }
+        ensures err { OnErr result (failures self.new ≡ failures self.old + 1) };
+
+    /// Takes all octets of a slice. Where a call fails, it has taken those before.
+    final fn take_all(&mut self, octets: &[u8]) -> Result<(), SinkFailed>
+    where
+        Self: Sized,
+        ensures ok { OnOk result (Appends (taken self.old) (taken self.new) octets.now) }
+        ensures begun { OnErr result (AppendsFront (taken self.old) (taken self.new) octets.now) }
+        ensures same { OnOk result (failures self.new ≡ failures self.old) }
+        ensures failed { OnErr result (failures self.new ≡ failures self.old + 1) }
+    {
+        let mut rest = octets;
+        while !rest.is_empty() {
+            let n = self.take(rest)?;
+            rest = &rest[n..];
+        }
+        Ok(())
+    }
+}
+
+impl<S: Sink> Sink for &mut S {
+    ghost taken = { λ s. S.taken s.now };
+
+    ghost failures = { λ s. S.failures s.now };
+
+    fn take(&mut self, octets: &[u8]) -> Result<usize, SinkFailed> {
+        (**self).take(octets)
+    }
+}
