@@ -13,3 +13,5 @@ pub mod Skips
 pub mod Strings
 pub mod Captures
 pub mod Contents
+pub mod Optional
+pub mod Kinds

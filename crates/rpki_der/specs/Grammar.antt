@@ -1,11 +1,11 @@
 -- Values of X.690, and what stands at the front of octets.
-use Rattle.std.specs.Prelude.{◌≡◌, ◌≢◌, ℕ, ◌+◌, ◌≤◌, ◌<◌, Bool, true, false, ◌⊎◌, List, [], ◌∷◌, ◌++◌, length, All, Option, None, Some, zero, suc}
+use Rattle.std.specs.Prelude.{◌≡◌, ◌≢◌, ◌↔◌, ℕ, ◌+◌, ◌≤◌, ◌<◌, Bool, true, false, ◌⊎◌, List, [], ◌∷◌, ◌++◌, length, All, Option, None, Some, zero, suc}
 use Rattle.rpki_der.specs.declared.mode.Mode.{Mode}
 use Rattle.rpki_der.specs.declared.mode.Mode.TheVariants.{Der, Ber}
 use Rattle.rpki_der.specs.Identifier.{IsTag, is_constructed}
 use Rattle.rpki_der.specs.Oid.{IsOid}
 use Rattle.rpki_der.specs.Bits.{IsBits}
-use Rattle.rpki_der.specs.Read.Parse.{Parser, number, least, joined}
+use Rattle.rpki_der.specs.Read.Parse.{Parser, number, least, joined, optional, is_next}
 
 -- where low is the least length that a form is for, DER takes it from there on
 abbrev pub IsShortest : Mode → ℕ → ℕ → Type 0
@@ -133,3 +133,10 @@ pub record IsReading {X : Type 0} (p : Parser X) (G : Mode → List ℕ → X �
   pub exact : (mode : Mode) → IsExact anything (p mode) (G mode)
   pub unique : (mode : Mode) → IsUnique (G mode)
   pub relaxed : (octets : List ℕ) (x : X) → G Der octets x → G Ber octets x
+
+-- Reading by p, where a value with this tag is next, is reading by G: what is found is in G (found), what is in G is found, whatever octets follow (read), nothing is read exactly where no such value is next (absent), and what is found in DER is found in BER (relaxed).
+pub record IsOptionalReading {X : Type 0} (tag : ℕ) (p : Parser X) (G : Mode → List ℕ → X → Type 0) : Type 0 where
+  pub found : (mode : Mode) (octets : List ℕ) (x : X) (rest : List ℕ) → IsBytes octets → optional tag p mode octets ≡ Some (Some x, rest) → Front (G mode) octets x rest
+  pub read : (mode : Mode) (front : List ℕ) (x : X) (rest : List ℕ) → G mode front x → optional tag p mode (front ++ rest) ≡ Some (Some x, rest)
+  pub absent : (mode : Mode) (octets rest : List ℕ) → (optional tag p mode octets ≡ Some (None, rest)) ↔ ((rest ≡ octets) × (is_next tag octets ≡ false))
+  pub relaxed : (octets : List ℕ) (x : Option X) (rest : List ℕ) → IsBytes octets → optional tag p Der octets ≡ Some (x, rest) → optional tag p Ber octets ≡ Some (x, rest)

@@ -1,6 +1,7 @@
 //! Why octets can't be read.
 
-ghost use Rattle.std.specs.Prelude.{◌≡◌, IfOk, Some, codes};
+ghost use Rattle.std.specs.Prelude.{◌≡◌, IfOk, OnErr, Some, codes};
+ghost use Rattle.rpki_der.specs.Read.Reads.{IsContent};
 ghost use Rattle.rpki_der.specs.declared.error.DecodeError.TheVariants.{Memory};
 
 use crate::oid::Oid;
@@ -22,7 +23,8 @@ pub enum DecodeError {
 /// What is wrong with a content.
 #[derive(Debug, Drop)]
 pub enum ContentFault {
-    /// A signed attribute of another type than the three of RFC 6488, section 2.1.6.4.
+    /// A signed attribute of another type than content type, message digest and signing time
+    /// (RFC 6488, section 2.1.6.4).
     InvalidSignedAttr(InvalidSignedAttr),
     /// What the text says.
     Text(Reason),
@@ -37,11 +39,17 @@ pub struct InvalidSignedAttr {
 /// What is not allowed in a content, each with a text of its own.
 #[derive(Clone, Copy, Debug, PartialEq, Eq)]
 pub enum Reason {
+    /// The customer of an ASPA is AS0.
     CustomerAs0,
+    /// An ASPA names no provider.
     NoProviders,
+    /// An ASPA names more providers than its profile allows.
     TooManyProviders,
+    /// The providers of an ASPA don't stand in ascending order.
     ProvidersNotAscending,
+    /// The customer of an ASPA is one of its providers.
     CustomerAmongProviders,
+    /// AS0 is a provider beside others.
     As0BesideOthers,
 }
 
@@ -60,9 +68,10 @@ impl Reason {
 }
 
 impl DecodeError {
-    /// A copy, unless no memory for it is to be had.
+    /// A copy, unless no memory for it is to be had. Only that of a content fault takes memory.
     pub(crate) fn copy(&self) -> Result<DecodeError, AllocError>
-        ensures { IfOk result (λ copy. copy ≡ self.now) }
+        ensures same { IfOk result (λ copy. copy ≡ self.now) }
+        ensures content { OnErr result (IsContent self.now) }
     {
         match self {
             DecodeError::Malformed => Ok(DecodeError::Malformed),

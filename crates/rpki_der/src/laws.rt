@@ -2,10 +2,11 @@
 //!
 //! Each says of one kind of value that reading it is exact, that it is unique, and that DER is a part of BER.
 
-ghost use Rattle.std.specs.Prelude.{◌≡◌, ◌<◌, ◌^◌, ℕ, List, [], Some, Option};
+ghost use Rattle.std.specs.Prelude.{◌≡◌, ◌↔◌, ◌<◌, ◌^◌, ◌++◌, ℕ, List, [], Some, Option};
+ghost use Rattle.rpki_der.specs.declared.mode.Mode.TheVariants.{Der, Ber};
 ghost use Rattle.rpki_der.specs.declared.mode.Mode.{Mode};
-ghost use Rattle.rpki_der.specs.Read.Parse.{any_at, value_at, primitive, unsigned_of, boolean_at, null_of, oid_at, bits_at, ia5_at, in_value, optional, many, skip_at, skip_all_at, octets_at, u8_at, u32_at};
-ghost use Rattle.rpki_der.specs.Grammar.{Value, IntegerBelow, Boolean, Null, ObjectIdentifier, BitString, Ia5String, Within, Skipped, ListOf, OctetString, Items, IsReading};
+ghost use Rattle.rpki_der.specs.Read.Parse.{any_at, value_at, primitive, unsigned_of, boolean_at, null_of, oid_at, bits_at, ia5_at, in_value, optional, many, skip_at, skip_all_at, octets_at, u8_at, u32_at, this, captured};
+ghost use Rattle.rpki_der.specs.Grammar.{Value, IntegerBelow, Boolean, Null, ObjectIdentifier, BitString, Ia5String, Within, Skipped, ListOf, OctetString, Items, IsBytes, IsReading, IsOptionalReading};
 
 /// A value of any tag.
 pub fn values()
@@ -65,6 +66,35 @@ pub fn skipped_values()
 /// The contents of a value with a given tag, whatever they are.
 pub fn contents_of_values()
     ensures { (tag : ℕ) → IsReading (primitive tag Some) (λ mode octets contents. Value mode octets tag contents) }
+{}
+
+/// An INTEGER from 0 to 255 that is this number.
+pub fn given_integers()
+    ensures { (n : ℕ) → n < 256 → IsReading (primitive 2 (this n)) (λ mode octets _. IntegerBelow 256 mode octets n) }
+{}
+
+/// Skipped values up to the end.
+pub fn skipped_contents()
+    ensures exact { (mode : Mode) (octets : List ℕ) → IsBytes octets → (skip_all_at mode octets ≡ Some (tt, [])) ↔ ListOf (Skipped mode 32) octets }
+    ensures end { (mode : Mode) (octets rest : List ℕ) → skip_all_at mode octets ≡ Some (tt, rest) → rest ≡ [] }
+    ensures relaxed { (octets : List ℕ) → ListOf (Skipped Der 32) octets → ListOf (Skipped Ber 32) octets }
+{}
+
+/// What may be there: an INTEGER, a BOOLEAN, a NULL, an IA5String, or the contents of a value with a given tag.
+pub fn optional_values()
+    ensures integer_u8 { IsOptionalReading 2 u8_at (IntegerBelow 256) }
+    ensures integer_u32 { IsOptionalReading 2 u32_at (IntegerBelow (2 ^ 32)) }
+    ensures boolean { IsOptionalReading 1 boolean_at Boolean }
+    ensures null { IsOptionalReading 5 (primitive 5 null_of) (λ mode octets _. Null mode octets) }
+    ensures ia5 { IsOptionalReading 22 ia5_at Ia5String }
+    ensures contents { (tag : ℕ) → IsOptionalReading tag (primitive tag Some) (λ mode octets contents. Value mode octets tag contents) }
+{}
+
+/// What is captured of a value with a given tag are its octets, as they stand in the source.
+pub fn captured_values()
+    ensures { (mode : Mode) (tag : ℕ) (source octets rest : List ℕ) → IsBytes source
+        → captured (value_at tag) mode source ≡ Some (octets, rest)
+        → (contents : List ℕ) × (source ≡ octets ++ rest) × Value mode octets tag contents }
 {}
 
 /// A SEQUENCE of INTEGERs from 0 to 2^32 - 1.

@@ -1,14 +1,16 @@
 ghost use Rattle.std.specs.Prelude.{◌≡◌, MatchOption};
 ghost use Rattle.rpki_der.specs.Identifier.{IsTag, is_tag};
 
-/// The rules that values are read by.
+/// The rules that values are read by (X.690, sections 8 and 10).
 #[derive(Clone, Copy, Debug, PartialEq, Eq)]
 pub enum Mode {
+    /// Strict: lengths in their shortest form, no indefinite lengths, no strings in pieces.
     Der,
+    /// Relaxed: also lengths that are longer than need be, indefinite lengths, and OCTET STRINGs in pieces.
     Ber,
 }
 
-/// An identifier octet.
+/// An identifier of one octet (X.690, section 8.1.2): not 00, and its low five bits are not all ones.
 #[derive(Clone, Copy, Debug, PartialEq, Eq)]
 pub struct Tag {
     pub octet: u8,
@@ -40,7 +42,7 @@ impl Tag {
     /// [1] of a constructed value.
     pub const CTX_1: Tag = Tag { octet: 161 };
 
-    /// The tag of this octet, unless no identifier of one octet is.
+    /// The tag with this octet, unless it is 00 or its low five bits are all ones.
     pub fn new(octet: u8) -> Option<Tag>
         ensures { MatchOption result (IsTag octet → ⊥) (λ tag. tag.octet ≡ octet) }
     {

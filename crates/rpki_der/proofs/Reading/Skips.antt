@@ -3,7 +3,7 @@ use Rattle.std.proofs.Common.{◌≡◌, ℕ, zero, suc, ◌-◌, ◌<◌, ◌�
 use Rattle.std.proofs.lemmas.List.{length-append}
 use Rattle.rpki_der.specs.Identifier.{is_constructed}
 use Rattle.rpki_der.specs.declared.mode.Mode.{Mode}
-use Rattle.rpki_der.specs.Read.Parse.{Parser, ◌>>=◌, any_at, each, all_of, there, skipped, skip_at}
+use Rattle.rpki_der.specs.Read.Parse.{Parser, ◌>>=◌, any_at, each, all_of, there, skipped, skip_at, skip_all_at}
 use Rattle.rpki_der.specs.Grammar.{Items, ListOf, Skipped, IsExact, IsBytes, anything}
 use Rattle.rpki_der.proofs.Reading.Lengths.{bind_some, some_is}
 use Rattle.rpki_der.proofs.Reading.Scan.{value-some}
@@ -75,7 +75,7 @@ module _ {X : Type 0} (p : Parser X) (mode : Mode) (takes : Takes (p mode)) wher
 
 -- ---- skipped values
 
-there-some : {X : Type 0} (o : Option X) (u : Unit {0}) → there o ≡ Some u → (x : X) × (o ≡ Some x)
+pub there-some : {X : Type 0} (o : Option X) (u : Unit {0}) → there o ≡ Some u → (x : X) × (o ≡ Some x)
 there-some None u e = absurd cc
 there-some (Some x) u e = (x, refl)
 
@@ -171,3 +171,14 @@ there-none {X} p mode takes (a ∷ b) h e = ap there (all-none p mode takes a b 
 pub there-end : {X : Type 0} (p : Parser X) (mode : Mode) → Takes (p mode) → (b : List ℕ) → length b ≡ 0 → there (all_of p mode b) ≡ Some tt
 there-end p mode takes [] e = ap there (all-end p mode takes)
 there-end p mode takes (a ∷ b) e = absurd (omega (arith, e))
+
+-- ---- all that is left
+
+pub skip-all-sound : (mode : Mode) (b : List ℕ) → IsBytes b → skip_all_at mode b ≡ Some (tt, []) → ListOf (Skipped mode 32) b
+skip-all-sound mode b bytes e =
+    let t = bind_some (there (all_of (skip_at 32) mode b)) _ (tt, []) e in
+    let s = there-some (all_of (skip_at 32) mode b) t.0 t.1 in
+    (s.0, (exact-all (skip_at 32) mode (skip-takes 32 mode) (λ o _. Skipped mode 32 o) (exact-skip 32 mode)).sound b s.0 bytes s.1)
+
+pub skip-all-complete : (mode : Mode) (b : List ℕ) → ListOf (Skipped mode 32) b → skip_all_at mode b ≡ Some (tt, [])
+skip-all-complete mode b l = rw ((exact-all (skip_at 32) mode (skip-takes 32 mode) (λ o _. Skipped mode 32 o) (exact-skip 32 mode)).complete b l.0 l.1) refl

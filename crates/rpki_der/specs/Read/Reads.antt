@@ -17,9 +17,17 @@ abbrev pub Answers : {T X : Type 0} → (T → X) → Option (X × List ℕ) →
 Answers view found (Ok t) new = (found ≡ Some (view t, new.rest)) × (new.failed ≡ None)
 Answers view found (Err e) new = Fails e found
 
--- an error that is answered again: the same one, unless memory for a copy of it ran out
+-- an error of a content, whose copy may take memory
+abbrev pub IsContent : DecodeError → Type 0
+IsContent Malformed = ⊥
+IsContent (Content f) = Unit {0}
+IsContent Memory = ⊥
+
+-- an error that is answered again: the same one, or want of memory where a copy of what is wrong with a content is not to be had
 abbrev pub IsAgain : DecodeError → DecodeError → Type 0
-IsAgain e d = (d ≡ e) ⊎ (d ≡ Memory)
+IsAgain Malformed d = d ≡ Malformed
+IsAgain (Content f) d = (d ≡ Content f) ⊎ (d ≡ Memory)
+IsAgain Memory d = d ≡ Memory
 
 -- the call answers this error again, and the reader from then on
 abbrev pub FailsAgain : {T : Type 0} → DecodeError → Result T DecodeError → State → Type 0

@@ -174,7 +174,8 @@ impl<'a> Constructed<'a> {
         }
     }
 
-    /// Reads the contents of the value in front if it has this tag, whatever they are.
+    /// Reads the contents of the value in front if it has this tag, whatever they are. Those of a constructed tag
+    /// are the octets of its values.
     pub fn take_opt_primitive_if(&mut self, tag: Tag) -> Result<Option<Bytes>, DecodeError>
         ensures reads { Reads (λ contents. contents) (optional tag.octet (primitive tag.octet Some)) self.old result self.new }
         ensures stays { Stays result self.new }

@@ -1,0 +1,120 @@
+//! Where growth may be refused: the answer is the right one, or want of memory, and never another.
+//!
+//! With ample memory these tests pass by the right answers; `tools/growth` runs them with each growth refused in turn.
+
+use super::reading::{EACH, Each, nested, string, take_each};
+use super::{MODES, read};
+use crate::{Constructed, ContentFault, DecodeError, Mode, Oid, Reason};
+use bytes::Bytes;
+use std::alloc::Global;
+use std::test::Fail;
+
+/// Whether an answer is right, or want of memory.
+fn is_right_or_memory<T: Drop, F: FnOnce(&T) -> bool>(
+    answer: Result<T, DecodeError>,
+    right: F,
+) -> bool
+    requires { F.IsAlwaysCallable right }
+{
+    match answer {
+        Ok(found) => right(&found),
+        Err(DecodeError::Memory) => true,
+        Err(_) => false,
+    }
+}
+
+/// Whether octets are refused, or memory ran out.
+fn is_refused_or_memory<T: Drop>(answer: Result<T, DecodeError>) -> bool {
+    match answer {
+        Err(DecodeError::Malformed) => true,
+        Err(DecodeError::Memory) => true,
+        _ => false,
+    }
+}
+
+fn is_each(each: &Each) -> bool {
+    each.number == 300
+        && each.bits.octets.as_slice() == [0xABu8, 0xC0].as_slice()
+        && each.bits.unused == 4
+        && each.text.as_slice() == b"ab".as_slice()
+        && each.octets.as_slice() == [0xCDu8, 0xEF].as_slice()
+        && each.inner == Some(7)
+        && each.kept.as_slice() == [0x30u8, 0x05, 0x02, 0x01, 0x08, 0x30, 0x00].as_slice()
+}
+
+#[test]
+fn one_of_each(rt: HostRuntime) {
+    let alloc = rt.alloc();
+    for mode in MODES {
+        let answer = read(alloc, mode, &EACH, |cons| {
+            cons.take_sequence(|cons| take_each(cons, alloc))
+        });
+        assert!(rt; is_right_or_memory(answer, is_each));
+        let answer = read(alloc, mode, &EACH[..45], |cons| {
+            cons.take_sequence(|cons| take_each(cons, alloc))
+        });
+        assert!(rt; is_refused_or_memory(answer));
+    }
+}
+
+#[test]
+fn pieces(rt: HostRuntime) -> Result<(), Fail> {
+    let alloc = rt.alloc();
+    let row = nested(alloc, 0x24, 31, &[0x04, 0x01, 0x41])?;
+    assert!(rt;
+        is_right_or_memory(
+            string(alloc, Mode::Ber, &row),
+            |octets| octets.as_slice() == b"A".as_slice()
+        )
+    );
+    let row = nested(alloc, 0x24, 32, &[0x04, 0x01, 0x41])?;
+    assert!(rt; is_refused_or_memory(string(alloc, Mode::Ber, &row)));
+    let row = [
+        0x24, 0x80, 0x04, 0x02, 0x61, 0x62, 0x04, 0x01, 0x63, 0x00, 0x00,
+    ];
+    assert!(rt;
+        is_right_or_memory(
+            string(alloc, Mode::Ber, &row),
+            |octets| octets.as_slice() == b"abc".as_slice()
+        )
+    );
+    Ok(())
+}
+
+/// Reads on past an error of its own, which is answered again.
+fn complain(cons: &mut Constructed<'_>, oid: Oid) -> Result<u8, DecodeError> {
+    let first = cons.take_sequence(|_| {
+        Err::<u8, DecodeError>(DecodeError::Content(ContentFault::InvalidSignedAttr(
+            crate::InvalidSignedAttr { oid },
+        )))
+    });
+    match first {
+        Ok(_) => Ok(0),
+        Err(_) => cons.take_u8(),
+    }
+}
+
+fn told_again(alloc: Global) -> Result<u8, DecodeError> {
+    let contents = Bytes::copy_from_slice(alloc, &[0x2A, 0x03])?;
+    match Oid::from_bytes(contents) {
+        None => Ok(1),
+        Some(oid) => read(
+            alloc,
+            Mode::Der,
+            &[0x30, 0, 2, 1, 5],
+            |cons| complain(cons, oid),
+        ),
+    }
+}
+
+#[test]
+fn an_error_is_told_again(rt: HostRuntime) {
+    let again = match told_again(rt.alloc()) {
+        Err(DecodeError::Content(ContentFault::InvalidSignedAttr(attr))) => {
+            attr.oid.as_slice() == [0x2Au8, 0x03].as_slice()
+        }
+        Err(DecodeError::Memory) => true,
+        _ => false,
+    };
+    assert!(rt; again);
+}

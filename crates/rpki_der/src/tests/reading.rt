@@ -1,0 +1,490 @@
+//! Rows that are read and refused, in both modes.
+
+use super::{MODES, is_refused, read};
+use crate::{
+    BitString, Captured, Constructed, ContentFault, DecodeError, InvalidSignedAttr, Mode, Oid,
+    Reason, Tag,
+};
+use bytes::Bytes;
+use std::alloc::{AllocError, Global};
+use std::process::Abort;
+use std::test::Fail;
+
+/// The OCTET STRING in front.
+pub fn string(alloc: Global, mode: Mode, octets: &[u8]) -> Result<Bytes, DecodeError> {
+    read(alloc, mode, octets, |cons| cons.take_octets(alloc))
+}
+
+fn is_string(alloc: Global, mode: Mode, octets: &[u8], want: &[u8]) -> bool {
+    match string(alloc, mode, octets) {
+        Ok(found) => found.as_slice() == want,
+        Err(_) => false,
+    }
+}
+
+/// The u8 in the SEQUENCE in front.
+fn number(alloc: Global, mode: Mode, octets: &[u8]) -> Result<u8, DecodeError> {
+    read(
+        alloc,
+        mode,
+        octets,
+        |cons| cons.take_sequence(|cons| cons.take_u8()),
+    )
+}
+
+fn skip(alloc: Global, mode: Mode, octets: &[u8]) -> Result<(), DecodeError> {
+    read(alloc, mode, octets, |cons| cons.skip_one())
+}
+
+fn oid(alloc: Global, octets: &[u8]) -> Result<Oid, DecodeError> {
+    read(alloc, Mode::Der, octets, |cons| cons.take_oid())
+}
+
+/// A head, and so many octets of 7.
+fn with_contents(alloc: Global, head: &[u8], n: usize) -> Result<Vec<u8>, AllocError> {
+    let mut octets = Vec::new(alloc);
+    octets.extend_from_slice(head)?;
+    for _ in 0..n {
+        octets.extend_from_slice(&[7])?;
+    }
+    Ok(octets)
+}
+
+/// So many values of this identifier and indefinite length, one in the other, round these octets.
+pub fn nested(alloc: Global, tag: u8, n: usize, inner: &[u8]) -> Result<Vec<u8>, AllocError> {
+    let mut octets = Vec::new(alloc);
+    for _ in 0..n {
+        octets.extend_from_slice(&[tag, 0x80])?;
+    }
+    octets.extend_from_slice(inner)?;
+    for _ in 0..n {
+        octets.extend_from_slice(&[0, 0])?;
+    }
+    Ok(octets)
+}
+
+/// 32 SEQUENCEs of definite length, one in the other, round a NULL.
+const DEEP_33: [u8; 66] = [
+    0x30, 0x40, 0x30, 0x3E, 0x30, 0x3C, 0x30, 0x3A, 0x30, 0x38, 0x30, 0x36, 0x30, 0x34, 0x30, 0x32,
+    0x30, 0x30, 0x30, 0x2E, 0x30, 0x2C, 0x30, 0x2A, 0x30, 0x28, 0x30, 0x26, 0x30, 0x24, 0x30, 0x22,
+    0x30, 0x20, 0x30, 0x1E, 0x30, 0x1C, 0x30, 0x1A, 0x30, 0x18, 0x30, 0x16, 0x30, 0x14, 0x30, 0x12,
+    0x30, 0x10, 0x30, 0x0E, 0x30, 0x0C, 0x30, 0x0A, 0x30, 0x08, 0x30, 0x06, 0x30, 0x04, 0x30, 0x02,
+    0x05, 0x00,
+];
+
+#[test]
+fn lengths_of_strings(rt: HostRuntime) -> Result<(), Fail> {
+    let alloc = rt.alloc();
+    let want = with_contents(alloc, &[], 128)?;
+    let row = with_contents(alloc, &[0x04, 0x81, 0x80], 128)?;
+    assert!(rt; is_string(alloc, Mode::Der, &row, &want));
+    assert!(rt; is_string(alloc, Mode::Ber, &row, &want));
+    let row = with_contents(alloc, &[0x04, 0x82, 0x00, 0x80], 128)?;
+    assert!(rt; is_refused(string(alloc, Mode::Der, &row)));
+    assert!(rt; is_string(alloc, Mode::Ber, &row, &want));
+    let want = with_contents(alloc, &[], 127)?;
+    let row = with_contents(alloc, &[0x04, 0x81, 0x7F], 127)?;
+    assert!(rt; is_refused(string(alloc, Mode::Der, &row)));
+    assert!(rt; is_string(alloc, Mode::Ber, &row, &want));
+    let row = [0x04, 0x81, 0x01, 0x41];
+    assert!(rt; is_refused(string(alloc, Mode::Der, &row)));
+    assert!(rt; is_string(alloc, Mode::Ber, &row, b"A"));
+    Ok(())
+}
+
+#[test]
+fn refused_in_both_modes(rt: HostRuntime) {
+    let alloc = rt.alloc();
+    for mode in MODES {
+        let long = [0x04, 0x85, 0x00, 0x00, 0x00, 0x00, 0x01, 0x41];
+        assert!(rt; is_refused(string(alloc, mode, &long)));
+        assert!(rt; is_refused(string(alloc, mode, &[0x04, 0x84, 0xFF, 0xFF, 0xFF, 0xFF])));
+        assert!(rt; is_refused(string(alloc, mode, &[0x04, 0x80, 0x00, 0x00])));
+        assert!(rt; is_refused(number(alloc, mode, &[0x30, 0x80, 0x02, 0x01, 0x05])));
+        assert!(rt; is_refused(number(alloc, mode, &[0x30, 0x04, 0x02, 0x02, 0x00, 0x7F])));
+        assert!(rt; is_refused(number(alloc, mode, &[0x30, 0x03, 0x02, 0x01, 0x80])));
+        assert!(rt;
+            is_refused(number(
+                alloc,
+                mode,
+                &[0x30, 0x06, 0x02, 0x01, 0x05, 0x02, 0x01, 0x06]
+            ))
+        );
+        assert!(rt; is_refused(skip(alloc, mode, &[0x1F, 0x01, 0x00])));
+        assert!(rt; is_refused(skip(alloc, mode, &[0x00, 0x00])));
+        assert!(rt; is_refused(skip(alloc, mode, &[0x30, 0x02, 0x00, 0x00])));
+        assert!(rt; is_refused(read(alloc, mode, &[0x03, 0x01, 0x01], |cons| cons.take_bits())));
+        assert!(rt; is_refused(read(alloc, mode, &[0x03, 0x00], |cons| cons.take_bits())));
+        assert!(rt;
+            is_refused(read(
+                alloc,
+                mode,
+                &[0x03, 0x02, 0x08, 0xA8],
+                |cons| cons.take_bits()
+            ))
+        );
+        assert!(rt;
+            is_refused(read(
+                alloc,
+                mode,
+                &[0x06, 0x02, 0x2A, 0x80],
+                |cons| cons.take_oid()
+            ))
+        );
+        assert!(rt; is_refused(read(alloc, mode, &[0x06, 0x00], |cons| cons.take_oid())));
+        assert!(rt; is_refused(read(alloc, mode, &[0x16, 0x01, 0x80], |cons| cons.take_ia5())));
+        assert!(rt;
+            is_refused(read(
+                alloc,
+                mode,
+                &[0x05, 0x01, 0x00],
+                |cons| cons.skip_opt_null()
+            ))
+        );
+        assert!(rt; is_refused(read(alloc, mode, &[0x01, 0x00], |cons| cons.take_opt_bool())));
+    }
+}
+
+#[test]
+fn pieces(rt: HostRuntime) -> Result<(), Fail> {
+    let alloc = rt.alloc();
+    let row = nested(alloc, 0x24, 31, &[0x04, 0x01, 0x41])?;
+    assert!(rt; is_refused(string(alloc, Mode::Der, &row)));
+    assert!(rt; is_string(alloc, Mode::Ber, &row, b"A"));
+    let row = nested(alloc, 0x24, 32, &[0x04, 0x01, 0x41])?;
+    assert!(rt; is_refused(string(alloc, Mode::Der, &row)));
+    assert!(rt; is_refused(string(alloc, Mode::Ber, &row)));
+    let row = [
+        0x24, 0x80, 0x04, 0x02, 0x61, 0x62, 0x04, 0x01, 0x63, 0x00, 0x00,
+    ];
+    assert!(rt; is_refused(string(alloc, Mode::Der, &row)));
+    assert!(rt; is_string(alloc, Mode::Ber, &row, b"abc"));
+    let row = [0x24, 0x07, 0x04, 0x02, 0x61, 0x62, 0x04, 0x01, 0x63];
+    assert!(rt; is_refused(string(alloc, Mode::Der, &row)));
+    assert!(rt; is_string(alloc, Mode::Ber, &row, b"abc"));
+    Ok(())
+}
+
+#[test]
+fn indefinite_lengths(rt: HostRuntime) {
+    let alloc = rt.alloc();
+    let row = [0x30, 0x80, 0x02, 0x01, 0x05, 0x00, 0x00];
+    assert!(rt; is_refused(number(alloc, Mode::Der, &row)));
+    assert!(rt; number(alloc, Mode::Ber, &row).is_ok_and(|n| n == 5));
+    for k in 0..7usize {
+        assert!(rt; is_refused(number(alloc, Mode::Ber, &row[..k])));
+    }
+    assert!(rt; is_refused(skip(alloc, Mode::Ber, &[0x02, 0x80, 0x00, 0x00])));
+}
+
+#[test]
+fn depths_of_skipped_values(rt: HostRuntime) -> Result<(), Fail> {
+    let alloc = rt.alloc();
+    let row = nested(alloc, 0x30, 31, &[0x05, 0x00])?;
+    assert!(rt; skip(alloc, Mode::Ber, &row).is_ok());
+    assert!(rt; is_refused(skip(alloc, Mode::Der, &row)));
+    let row = nested(alloc, 0x30, 32, &[0x05, 0x00])?;
+    assert!(rt; is_refused(skip(alloc, Mode::Ber, &row)));
+    for mode in MODES {
+        assert!(rt; is_refused(skip(alloc, mode, &DEEP_33)));
+        assert!(rt; skip(alloc, mode, &DEEP_33[2..]).is_ok());
+        assert!(rt; read(alloc, mode, &DEEP_33[2..], |cons| cons.skip_all()).is_ok());
+        assert!(rt; is_refused(read(alloc, mode, &DEEP_33, |cons| cons.skip_all())));
+    }
+    Ok(())
+}
+
+#[test]
+fn truth_values(rt: HostRuntime) {
+    let alloc = rt.alloc();
+    let row = [0x01, 0x01, 0x02];
+    assert!(rt; is_refused(read(alloc, Mode::Der, &row, |cons| cons.take_opt_bool())));
+    assert!(rt;
+        read(alloc, Mode::Ber, &row, |cons| cons.take_opt_bool()).is_ok_and(|b| b == Some(true))
+    );
+    for mode in MODES {
+        assert!(rt;
+            read(alloc, mode, &[1, 1, 0xFF], |cons| cons.take_opt_bool()).is_ok_and(|b| b
+                == Some(true))
+        );
+        assert!(rt;
+            read(alloc, mode, &[1, 1, 0], |cons| cons.take_opt_bool()).is_ok_and(|b| b
+                == Some(false))
+        );
+        assert!(rt;
+            read(alloc, mode, &[5, 0], |cons| cons.take_opt_bool()).is_ok_and(|b| b == None)
+        );
+    }
+}
+
+/// The text of the OBJECT IDENTIFIER with these contents.
+fn oid_text(rt: &impl Abort, alloc: Global, contents: &[u8], want: &str) -> Result<(), Fail> {
+    let octets = Bytes::copy_from_slice(alloc, contents)?;
+    match Oid::from_bytes(octets) {
+        None => assert!(rt; false, "no identifier"),
+        Some(oid) => {
+            let text = format!(in alloc; "{oid}")?;
+            assert_eq!(rt; text.as_str(), want);
+            let attr = InvalidSignedAttr { oid };
+            let fault = DecodeError::Content(ContentFault::InvalidSignedAttr(attr));
+            let told = format!(in alloc; "{fault}")?;
+            let wanted = format!(in alloc; "invalid extension {want}")?;
+            assert_eq!(rt; told.as_str(), wanted.as_str());
+        }
+    }
+    Ok(())
+}
+
+#[test]
+fn texts_of_identifiers(rt: HostRuntime) -> Result<(), Fail> {
+    let alloc = rt.alloc();
+    let signed_object = [
+        0x2A, 0x86, 0x48, 0x86, 0xF7, 0x0D, 0x01, 0x09, 0x10, 0x01, 0x18,
+    ];
+    oid_text(&rt, alloc, &signed_object, "1.2.840.113549.1.9.16.1.24")?;
+    oid_text(
+        &rt,
+        alloc,
+        &[0x2A, 0x8F, 0xFF, 0xFF, 0xFF, 0x7F],
+        "1.2.4294967295",
+    )?;
+    oid_text(
+        &rt,
+        alloc,
+        &[0x2A, 0x90, 0x80, 0x80, 0x80, 0x00],
+        "x2a9080808000",
+    )?;
+    oid_text(&rt, alloc, &[0x00], "0.0")?;
+    oid_text(&rt, alloc, &[0x27], "0.39")?;
+    oid_text(&rt, alloc, &[0x28], "1.0")?;
+    oid_text(&rt, alloc, &[0x4F], "1.39")?;
+    oid_text(&rt, alloc, &[0x50], "2.0")?;
+    oid_text(&rt, alloc, &[0x88, 0x37, 0x03], "2.999.3")?;
+    oid_text(&rt, alloc, &[0x90, 0x80, 0x80, 0x80, 0x4F], "2.4294967295")?;
+    oid_text(&rt, alloc, &[0x90, 0x80, 0x80, 0x80, 0x50], "x9080808050")?;
+    oid_text(&rt, alloc, &[0x2A, 0x80, 0x01], "1.2.1")?;
+    oid_text(
+        &rt,
+        alloc,
+        &[
+            0xFF, 0xFF, 0xFF, 0xFF, 0xFF, 0xFF, 0xFF, 0xFF, 0xFF, 0xFF, 0x7F,
+        ],
+        "xffffffffffffffffffff7f",
+    )
+}
+
+#[test]
+fn texts_of_errors(rt: HostRuntime) -> Result<(), Fail> {
+    let alloc = rt.alloc();
+    let malformed = DecodeError::Malformed;
+    let memory = DecodeError::Memory;
+    let content = DecodeError::Content(ContentFault::Text(Reason::NoProviders));
+    let text = format!(in alloc; "{malformed}, {memory}, {content}")?;
+    assert_eq!(rt; text.as_str(), "malformed, out of memory, no providers");
+    Ok(())
+}
+
+#[test]
+fn identifiers(rt: HostRuntime) -> Result<(), Fail> {
+    let alloc = rt.alloc();
+    let a = oid(alloc, &[0x06, 0x03, 0x55, 0x04, 0x03])?;
+    let b = oid(alloc, &[0x06, 0x03, 0x55, 0x04, 0x03, 0xFF])?;
+    let c = oid(alloc, &[0x06, 0x03, 0x55, 0x04, 0x04])?;
+    assert_eq!(rt; a.as_slice(), [0x55u8, 0x04, 0x03].as_slice());
+    assert!(rt; a == b);
+    assert!(rt; a != c);
+    let copy = a.clone()?;
+    assert!(rt; a == copy);
+    Ok(())
+}
+
+/// One of each, in a SEQUENCE: 1, 300, TRUE, NULL, bits, text, octets, [0] { SET { 7 } }, and a value that is skipped.
+pub const EACH: [u8; 46] = [
+    0x30, 0x2C, 0x02, 0x01, 0x01, 0x02, 0x02, 0x01, 0x2C, 0x01, 0x01, 0xFF, 0x05, 0x00, 0x03, 0x03,
+    0x04, 0xAB, 0xC0, 0x16, 0x02, 0x61, 0x62, 0x04, 0x02, 0xCD, 0xEF, 0x80, 0x01, 0x99, 0xA0, 0x05,
+    0x31, 0x03, 0x02, 0x01, 0x07, 0x30, 0x05, 0x02, 0x01, 0x08, 0x30, 0x00, 0x31, 0x00,
+];
+
+/// What is read of it.
+#[derive(Drop)]
+pub struct Each {
+    pub number: u32,
+    pub bits: BitString,
+    pub text: Bytes,
+    pub octets: Bytes,
+    pub key: Option<Bytes>,
+    pub inner: Option<u8>,
+    pub kept: Captured,
+}
+
+pub fn take_each(cons: &mut Constructed<'_>, alloc: Global) -> Result<Each, DecodeError> {
+    cons.skip_u8_if(1)?;
+    let number = cons.take_u32()?;
+    let _ = cons.take_opt_bool()?;
+    let _ = cons.skip_opt_null()?;
+    let bits = cons.take_bits()?;
+    let text = cons.take_ia5()?;
+    let octets = cons.take_octets(alloc)?;
+    let key = match Tag::new(0x80) {
+        Some(tag) => cons.take_opt_primitive_if(tag)?,
+        None => None,
+    };
+    let inner = cons.take_opt_constructed_if(
+        Tag::CTX_0,
+        |cons| cons.take_set(|cons| cons.take_u8()),
+    )?;
+    let kept = cons.capture(|cons| cons.skip_one())?;
+    cons.skip_all()?;
+    Ok(Each {
+        number,
+        bits,
+        text,
+        octets,
+        key,
+        inner,
+        kept,
+    })
+}
+
+#[test]
+fn one_of_each(rt: HostRuntime) -> Result<(), Fail> {
+    let alloc = rt.alloc();
+    for mode in MODES {
+        let each = read(
+            alloc,
+            mode,
+            &EACH,
+            |cons| cons.take_sequence(|cons| take_each(cons, alloc)),
+        )?;
+        assert_eq!(rt; each.number, 300);
+        assert_eq!(rt; each.bits.octets.as_slice(), [0xABu8, 0xC0].as_slice());
+        assert_eq!(rt; each.bits.unused, 4);
+        assert_eq!(rt; each.text.as_slice(), b"ab".as_slice());
+        assert_eq!(rt; each.octets.as_slice(), [0xCDu8, 0xEF].as_slice());
+        assert!(rt;
+            each.key
+                .is_some_and(|key| key.as_slice() == [0x99].as_slice())
+        );
+        assert_eq!(rt; each.inner, Some(7));
+        assert_eq!(rt;
+            each.kept.as_slice(),
+            [0x30u8, 0x05, 0x02, 0x01, 0x08, 0x30, 0x00].as_slice()
+        );
+        assert!(rt; each.kept.mode() == mode);
+    }
+    for k in 0..46usize {
+        for mode in MODES {
+            let answer = read(
+                alloc,
+                mode,
+                &EACH[..k],
+                |cons| cons.take_sequence(|cons| take_each(cons, alloc)),
+            );
+            assert!(rt; is_refused(answer), "cut to {k}");
+        }
+    }
+    Ok(())
+}
+
+#[test]
+fn what_may_be_there(rt: HostRuntime) -> Result<(), Fail> {
+    let alloc = rt.alloc();
+    for mode in MODES {
+        assert!(rt; read(alloc, mode, &[], |cons| cons.take_opt_u8()).is_ok_and(|n| n == None));
+        assert!(rt;
+            read(alloc, mode, &[2, 1, 5], |cons| cons.take_opt_u8()).is_ok_and(|n| n == Some(5))
+        );
+        assert!(rt; is_refused(read(alloc, mode, &[2, 2, 1, 0], |cons| cons.take_opt_u8())));
+        assert!(rt;
+            read(alloc, mode, &[4, 0], |cons| cons.take_opt_u32()).is_ok_and(|n| n == None)
+        );
+        assert!(rt;
+            read(
+                alloc,
+                mode,
+                &[2, 5, 0, 0xFF, 0xFF, 0xFF, 0xFF],
+                |cons| cons.take_opt_u32()
+            )
+            .is_ok_and(|n| n == Some(u32::MAX))
+        );
+        assert!(rt;
+            is_refused(read(
+                alloc,
+                mode,
+                &[2, 5, 1, 0, 0, 0, 0],
+                |cons| cons.take_opt_u32()
+            ))
+        );
+        assert!(rt; is_refused(read(alloc, mode, &[2, 1, 5], |cons| cons.skip_u8_if(6))));
+        assert!(rt;
+            read(alloc, mode, &[5, 0], |cons| cons.take_opt_ia5()).is_ok_and(|text| text.is_none())
+        );
+        let text = read(alloc, mode, &[0x16, 1, 0x61], |cons| cons.take_opt_ia5())?;
+        assert!(rt; text.is_some_and(|text| text.as_slice() == b"a".as_slice()));
+        assert!(rt;
+            read(alloc, mode, &[5, 0], |cons| cons.skip_opt_null()).is_ok_and(|null| null.is_some())
+        );
+        let inner = read(
+            alloc,
+            mode,
+            &[0x30, 3, 2, 1, 9],
+            |cons| cons.take_opt_sequence(|cons| cons.take_u8()),
+        )?;
+        assert_eq!(rt; inner, Some(9));
+        let none = read(
+            alloc,
+            mode,
+            &[0x31, 3, 2, 1, 9],
+            |cons| cons.take_opt_sequence(|cons| cons.take_u8()),
+        )?;
+        assert_eq!(rt; none, None);
+        assert!(rt;
+            is_refused(read(
+                alloc,
+                mode,
+                &[0x30, 3, 2, 2, 9],
+                |cons| cons.take_opt_sequence(|cons| cons.take_u8())
+            ))
+        );
+    }
+    Ok(())
+}
+
+/// Reads past an error.
+fn recover(cons: &mut Constructed<'_>) -> Result<u8, DecodeError> {
+    match cons.take_opt_bool() {
+        Ok(_) => Ok(0),
+        Err(_) => Ok(cons.take_opt_u8().unwrap_or(None).unwrap_or(1)),
+    }
+}
+
+/// Answers a text, which is then answered again.
+fn complain(cons: &mut Constructed<'_>) -> Result<u8, DecodeError> {
+    let first = cons.take_sequence(|_| Err::<u8, DecodeError>(DecodeError::Content(
+        ContentFault::Text(Reason::NoProviders),
+    )));
+    match first {
+        Ok(_) => Ok(0),
+        Err(_) => cons.take_u8(),
+    }
+}
+
+#[test]
+fn a_failed_reader_stays_so(rt: HostRuntime) {
+    let alloc = rt.alloc();
+    assert!(rt; is_refused(read(alloc, Mode::Der, &[1, 0, 2, 1, 5], recover)));
+    assert!(rt;
+        is_refused(read(
+            alloc,
+            Mode::Der,
+            &[0x30, 5, 1, 0, 2, 1, 5],
+            |cons| cons.take_sequence(recover)
+        ))
+    );
+    let answer = read(alloc, Mode::Der, &[0x30, 0, 2, 1, 5], complain);
+    let again = match answer {
+        Err(DecodeError::Content(ContentFault::Text(Reason::NoProviders))) => true,
+        _ => false,
+    };
+    assert!(rt; again);
+}
