@@ -63,15 +63,6 @@ pub fn nested(alloc: Global, tag: u8, n: usize, inner: &[u8]) -> Result<Vec<u8>,
     Ok(octets)
 }
 
-/// 32 SEQUENCEs of definite length, one in the other, round a NULL.
-const DEEP_33: [u8; 66] = [
-    0x30, 0x40, 0x30, 0x3E, 0x30, 0x3C, 0x30, 0x3A, 0x30, 0x38, 0x30, 0x36, 0x30, 0x34, 0x30, 0x32,
-    0x30, 0x30, 0x30, 0x2E, 0x30, 0x2C, 0x30, 0x2A, 0x30, 0x28, 0x30, 0x26, 0x30, 0x24, 0x30, 0x22,
-    0x30, 0x20, 0x30, 0x1E, 0x30, 0x1C, 0x30, 0x1A, 0x30, 0x18, 0x30, 0x16, 0x30, 0x14, 0x30, 0x12,
-    0x30, 0x10, 0x30, 0x0E, 0x30, 0x0C, 0x30, 0x0A, 0x30, 0x08, 0x30, 0x06, 0x30, 0x04, 0x30, 0x02,
-    0x05, 0x00,
-];
-
 #[test]
 fn lengths_of_strings(rt: HostRuntime) -> Result<(), Fail> {
     let alloc = rt.alloc();
@@ -177,19 +168,123 @@ fn indefinite_lengths(rt: HostRuntime) {
     assert!(rt; is_refused(skip(alloc, Mode::Ber, &[0x02, 0x80, 0x00, 0x00])));
 }
 
+/// So many values of this identifier and definite length below 128, one in the other, round these octets.
+fn nested_definite(alloc: Global, tag: u8, n: usize, inner: &[u8]) -> Result<Vec<u8>, AllocError> {
+    let mut octets = Vec::new(alloc);
+    octets.extend_from_slice(inner)?;
+    for _ in 0..n {
+        let mut outer = Vec::new(alloc);
+        outer.extend_from_slice(&[tag, (octets.len() % 128) as u8])?;
+        outer.extend_from_slice(&octets)?;
+        octets = outer;
+    }
+    Ok(octets)
+}
+
+/// 31 and 32 levels are read, 33 are refused: a value round so many others has one level more.
 #[test]
-fn depths_of_skipped_values(rt: HostRuntime) -> Result<(), Fail> {
+fn depths(rt: HostRuntime) -> Result<(), Fail> {
     let alloc = rt.alloc();
-    let row = nested(alloc, 0x30, 31, &[0x05, 0x00])?;
-    assert!(rt; skip(alloc, Mode::Ber, &row).is_ok());
-    assert!(rt; is_refused(skip(alloc, Mode::Der, &row)));
-    let row = nested(alloc, 0x30, 32, &[0x05, 0x00])?;
-    assert!(rt; is_refused(skip(alloc, Mode::Ber, &row)));
+    for n in [30usize, 31, 32] {
+        let is_read = n < 32;
+        let pieces = nested(alloc, 0x24, n, &[0x04, 0x01, 0x41])?;
+        assert_eq!(rt; is_string(alloc, Mode::Ber, &pieces, b"A"), is_read);
+        assert!(rt; is_refused(string(alloc, Mode::Der, &pieces)));
+        let pieces = nested_definite(alloc, 0x24, n, &[0x04, 0x01, 0x41])?;
+        assert_eq!(rt; is_string(alloc, Mode::Ber, &pieces, b"A"), is_read);
+        assert!(rt; is_refused(string(alloc, Mode::Der, &pieces)));
+        let values = nested(alloc, 0x30, n, &[0x05, 0x00])?;
+        assert_eq!(rt; skip(alloc, Mode::Ber, &values).is_ok(), is_read);
+        assert!(rt; is_refused(skip(alloc, Mode::Der, &values)));
+        let values = nested_definite(alloc, 0x30, n, &[0x05, 0x00])?;
+        for mode in MODES {
+            assert_eq!(rt; skip(alloc, mode, &values).is_ok(), is_read);
+            assert_eq!(rt;
+                read(alloc, mode, &values, |cons| cons.skip_all()).is_ok(),
+                is_read
+            );
+        }
+    }
+    Ok(())
+}
+
+/// Long input that opens values and never ends them: it is refused, and no stack grows with it.
+#[test]
+fn endless_nesting(rt: HostRuntime) -> Result<(), Fail> {
+    let alloc = rt.alloc();
+    for tag in [0x24u8, 0x30, 0xA0] {
+        let mut octets = Vec::new(alloc);
+        for _ in 0..500_000 {
+            octets.extend_from_slice(&[tag, 0x80])?;
+        }
+        for mode in MODES {
+            assert!(rt; is_refused(skip(alloc, mode, &octets)));
+            assert!(rt; is_refused(string(alloc, mode, &octets)));
+            assert!(rt; is_refused(number(alloc, mode, &octets)));
+        }
+    }
+    Ok(())
+}
+
+/// Each proper beginning of a row is refused, and octets behind it change nothing.
+#[test]
+fn cuts(rt: HostRuntime) -> Result<(), Fail> {
+    let alloc = rt.alloc();
+    let pieces = [
+        0x24u8, 0x80, 0x04, 0x02, 0x61, 0x62, 0x04, 0x01, 0x63, 0x00, 0x00, 0xFF,
+    ];
+    for k in 0..11usize {
+        assert!(rt; is_refused(string(alloc, Mode::Ber, &pieces[..k])));
+    }
+    assert!(rt; is_string(alloc, Mode::Ber, &pieces, b"abc"));
+    let long = with_contents(alloc, &[0x04, 0x81, 0x80], 128)?;
+    for k in 0..131usize {
+        let mut cut = Vec::new(alloc);
+        cut.extend_from_slice(&long)?;
+        cut.truncate(k);
+        for mode in MODES {
+            assert!(rt; is_refused(string(alloc, mode, &cut)));
+        }
+    }
+    for row in [
+        [0x03u8, 0x02, 0x03, 0xA8],
+        [0x06, 0x02, 0x2A, 0x03],
+        [0x16, 0x02, 0x61, 0x62],
+    ] {
+        for k in 0..4usize {
+            for mode in MODES {
+                assert!(rt; is_refused(skip(alloc, mode, &row[..k])));
+            }
+        }
+    }
+    Ok(())
+}
+
+#[test]
+fn strings_of_bits(rt: HostRuntime) -> Result<(), Fail> {
+    let alloc = rt.alloc();
     for mode in MODES {
-        assert!(rt; is_refused(skip(alloc, mode, &DEEP_33)));
-        assert!(rt; skip(alloc, mode, &DEEP_33[2..]).is_ok());
-        assert!(rt; read(alloc, mode, &DEEP_33[2..], |cons| cons.skip_all()).is_ok());
-        assert!(rt; is_refused(read(alloc, mode, &DEEP_33, |cons| cons.skip_all())));
+        let bits = read(
+            alloc,
+            mode,
+            &[0x03, 0x02, 0x03, 0xA8],
+            |cons| cons.take_bits(),
+        )?;
+        let copy = bits.clone()?;
+        assert_eq!(rt; copy.octets.as_slice(), [0xA8u8].as_slice());
+        assert_eq!(rt; copy.unused, 3);
+        let none = read(alloc, mode, &[0x03, 0x01, 0x00], |cons| cons.take_bits())?;
+        assert!(rt; none.octets.is_empty());
+        let kept = read(
+            alloc,
+            mode,
+            &[0x05, 0x00, 0x05],
+            |cons| cons.capture(|cons| cons.skip_one()),
+        )?;
+        let copy = kept.clone()?;
+        assert!(rt; copy.mode() == mode);
+        let octets = copy.into_bytes();
+        assert_eq!(rt; octets.as_slice(), [0x05u8, 0x00].as_slice());
     }
     Ok(())
 }
@@ -278,9 +373,26 @@ fn texts_of_errors(rt: HostRuntime) -> Result<(), Fail> {
     let alloc = rt.alloc();
     let malformed = DecodeError::Malformed;
     let memory = DecodeError::Memory;
-    let content = DecodeError::Content(ContentFault::Text(Reason::NoProviders));
-    let text = format!(in alloc; "{malformed}, {memory}, {content}")?;
-    assert_eq!(rt; text.as_str(), "malformed, out of memory, no providers");
+    let text = format!(in alloc; "{malformed}, {memory}")?;
+    assert_eq!(rt; text.as_str(), "malformed, out of memory");
+    for (reason, want) in [
+        (Reason::CustomerAs0, "customer is AS0"),
+        (Reason::NoProviders, "no providers"),
+        (Reason::TooManyProviders, "too many providers"),
+        (
+            Reason::ProvidersNotAscending,
+            "providers not in ascending order",
+        ),
+        (
+            Reason::CustomerAmongProviders,
+            "customer among its providers",
+        ),
+        (Reason::As0BesideOthers, "AS0 beside other providers"),
+    ] {
+        let fault = DecodeError::Content(ContentFault::Text(reason));
+        let text = format!(in alloc; "{fault}")?;
+        assert_eq!(rt; text.as_str(), want);
+    }
     Ok(())
 }
 
