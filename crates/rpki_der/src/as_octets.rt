@@ -26,7 +26,7 @@ impl AsOctets for Vec<u8> {
     ghost meaning = { λ s. s.items };
 
     fn as_octets(&self) -> &[u8] {
-        self.as_slice()
+        &self[..]
     }
 }
 

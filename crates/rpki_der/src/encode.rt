@@ -28,12 +28,13 @@ pub use value::{Length, Value, sequence, set, tagged};
 /// Why a value was not written.
 #[derive(Clone, Copy, Debug, PartialEq, Eq)]
 pub enum EncodeError {
-    /// It was read in BER mode.
+    /// A part of it was captured in BER.
     NotDer,
-    /// Some contents has 2^32 octets or more.
+    /// Some contents has 2^32 octets or more, or the whole can't be counted in 64 bits.
     TooLong,
     /// A call of the sink has failed.
     Io,
+    /// No memory was to be had.
     Memory,
 }
 
@@ -75,7 +76,7 @@ pub trait Encode {
             (W.taken out.old, W.failures out.old) (W.taken out.new, W.failures out.new) result }
     {
         match self.encoded_len() {
-            Err(e) => Err(e),
+            Err(fault) => Err(fault),
             Ok(_) => match self.put(out) {
                 Ok(()) => Ok(()),
                 Err(_) => Err(EncodeError::Io),
@@ -122,6 +123,7 @@ impl Sink for Octets {
 
     ghost failures = { λ s. s.failures.number };
 
+    #[inline(always)]
     fn take(&mut self, octets: &[u8]) -> Result<usize, SinkFailed> {
         match self.bytes.extend_from_slice(octets) {
             Ok(()) => Ok(octets.len()),

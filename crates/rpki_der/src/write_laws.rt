@@ -21,6 +21,7 @@ pub fn values_are_written()
 /// An INTEGER is written of the digits of a number that is not negative, and its number is read again by each call that takes numbers of so many octets.
 pub fn integers_are_written()
     ensures written { (digits : List ℕ) → length digits + 1 < 2 ^ 32 → Integer Der (value_octets 2 (integer_contents digits)) (number 0 digits) }
+    ensures unique { (o : List ℕ) (n : ℕ) → IsBytes o → Integer Der o n → (digits : List ℕ) × (number 0 digits ≡ n) × (o ≡ value_octets 2 (integer_contents digits)) }
     ensures read { (mode : Mode) (most : ℕ) (digits rest : List ℕ) → length digits + 1 < 2 ^ 32 → length (significant digits) ≤ most → 1 ≤ most
         → primitive 2 (unsigned_of most) mode (value_octets 2 (integer_contents digits) ++ rest) ≡ Some (number 0 digits, rest) }
 {}
@@ -28,6 +29,7 @@ pub fn integers_are_written()
 /// So is one of 32 bits or of 8.
 pub fn numbers_are_written()
     ensures written { (n : ℕ) → n < 2 ^ 32 → Integer Der (number_octets n) n }
+    ensures unique { (o : List ℕ) (n : ℕ) → IsBytes o → n < 2 ^ 32 → Integer Der o n → o ≡ number_octets n }
     ensures read { (mode : Mode) (n : ℕ) (rest : List ℕ) → n < 2 ^ 32 → u32_at mode (number_octets n ++ rest) ≡ Some (n, rest) }
     ensures read_u8 { (mode : Mode) (n : ℕ) (rest : List ℕ) → n < 256 → u8_at mode (number_octets n ++ rest) ≡ Some (n, rest) }
 {}

@@ -1,10 +1,10 @@
 -- the numbers that are written
-use Rattle.std.proofs.Common.{◌≡◌, ◌≢◌, ℕ, suc, ◌+◌, ◌*◌, ◌^◌, ◌≤◌, ◌<◌, Bool, true, false, cond, ltb, List, [], ◌∷◌, ◌++◌, length, Option, Some, None, refl, sym, ap, ◌∙◌, subst, arith, inl, inr, eq-eqb, ◌/◌, ◌%◌}
+use Rattle.std.proofs.Common.{◌≡◌, ◌≢◌, ℕ, ◌+◌, ◌*◌, ◌^◌, ◌≤◌, ◌<◌, true, false, ltb, List, [], ◌∷◌, length, Option, Some, refl, sym, ap, ◌∙◌, subst, arith, inl, inr, eq-eqb, ◌/◌, ◌%◌}
 use Rattle.std.specs.Prelude.{nat_eq}
 use Rattle.std.specs.Int.{w32, to_be_bytes}
 use Rattle.std.proofs.lemmas.Bool.{eqb-true, eqb-false, ne_eqb, ltb-true, ltb-false, lt-ltb, le-ltb}
 use Rattle.rpki_der.specs.Read.Parse.{number, digits_of, number_of, unsigned_of}
-use Rattle.rpki_der.specs.Grammar.{IsInteger}
+use Rattle.rpki_der.specs.Grammar.{IsInteger, IsBytes}
 use Rattle.rpki_der.specs.Written.{significant, not_negative, integer_contents}
 use Rattle.rpki_der.proofs.Writing.Lengths.{test}
 
@@ -116,3 +116,63 @@ significant-u8 n h =
     let b : nat_eq (n / 65536 % 256) 0 ≡ true = eq-eqb _ _ (omega arith) in
     let c : nat_eq (n / 256 % 256) 0 ≡ true = eq-eqb _ _ (omega arith) in
     rw (a, b, c) (length-significant (n % 256 ∷ []))
+
+-- ---- one way to write each number
+
+own-two : (a b : ℕ) (rest : List ℕ) → a < 128 → (a ≡ 0 → 128 ≤ b) → integer_contents (a ∷ b ∷ rest) ≡ a ∷ b ∷ rest
+own-two a b rest lt least =
+    elim (test (nat_eq a 0)) [
+      | inl e ↦
+          let zero-is : a ≡ 0 = eqb-true a 0 e in
+          let ge : 128 ≤ b = least zero-is in
+          let some : nat_eq b 0 ≡ false = ne_eqb b 0 (λ z. absurd (omega (arith, z))) in
+          let big : ltb b 128 ≡ false = le-ltb b 128 ge in
+          rw (e, some, big) (ap (λ (d : ℕ). d ∷ b ∷ rest) (sym zero-is))
+      | inr e ↦ rw (e, lt-ltb a 128 lt) refl
+    ]
+
+own-one : (a : ℕ) → a < 128 → integer_contents (a ∷ []) ≡ a ∷ []
+own-one a lt =
+    elim (test (nat_eq a 0)) [
+      | inl e ↦ let zero-is : a ≡ 0 = eqb-true a 0 e in rw e (ap (λ (d : ℕ). d ∷ []) (sym zero-is))
+      | inr e ↦ rw (e, lt-ltb a 128 lt) refl
+    ]
+
+four : (n w x y z : ℕ) → w < 256 → x < 256 → y < 256 → z < 256 → n ≡ ((w * 256 + x) * 256 + y) * 256 + z → to_be_bytes w32 n ≡ w ∷ x ∷ y ∷ z ∷ []
+four n w x y z hw hx hy hz e =
+    let pw : n / 16777216 % 256 ≡ w = omega arith in
+    let px : n / 65536 % 256 ≡ x = omega arith in
+    let py : n / 256 % 256 ≡ y = omega arith in
+    let pz : n % 256 ≡ z = omega arith in
+    rw (pw, px, py, pz) refl
+
+number-grows : (ds : List ℕ) (n : ℕ) → n ≤ number n ds
+number-grows [] n = omega arith
+number-grows (d ∷ ds) n = let h = number-grows ds (n * 256 + d) in omega (arith, h)
+
+pub contents-unique : (c : List ℕ) (n : ℕ) → IsBytes c → n < 2 ^ 32 → IsInteger c n → c ≡ integer_contents (to_be_bytes w32 n)
+contents-unique [] n bytes lt h = absurd h
+contents-unique (a ∷ []) n bytes lt h =
+    sym (ap integer_contents (four n 0 0 0 a (omega arith) (omega arith) (omega arith) bytes.0 (omega (arith, h.1))) ∙ own-one a h.0)
+contents-unique (a ∷ b ∷ []) n bytes lt h =
+    sym (ap integer_contents (four n 0 0 a b (omega arith) (omega arith) bytes.0 bytes.1.0 (omega (arith, h.2))) ∙ own-two a b [] h.0 h.1)
+contents-unique (a ∷ b ∷ c ∷ []) n bytes lt h =
+    sym (ap integer_contents (four n 0 a b c (omega arith) bytes.0 bytes.1.0 bytes.1.1.0 (omega (arith, h.2))) ∙ own-two a b (c ∷ []) h.0 h.1)
+contents-unique (a ∷ b ∷ c ∷ d ∷ []) n bytes lt h =
+    sym (ap integer_contents (four n a b c d bytes.0 bytes.1.0 bytes.1.1.0 bytes.1.1.1.0 (omega (arith, h.2))) ∙ own-two a b (c ∷ d ∷ []) h.0 h.1)
+contents-unique (a ∷ b ∷ c ∷ d ∷ e ∷ []) n bytes lt h =
+    let zero-is : a ≡ 0 = omega (arith, h.2, lt) in
+    let from : integer_contents (a ∷ b ∷ c ∷ d ∷ e ∷ []) ≡ integer_contents (b ∷ c ∷ d ∷ e ∷ []) = ap (λ (z : ℕ). integer_contents (z ∷ b ∷ c ∷ d ∷ e ∷ [])) zero-is in
+    sym (ap integer_contents (four n b c d e bytes.1.0 bytes.1.1.0 bytes.1.1.1.0 bytes.1.1.1.1.0 (omega (arith, h.2, zero-is))) ∙ sym from ∙ own-two a b (c ∷ d ∷ e ∷ []) h.0 h.1)
+contents-unique (a ∷ b ∷ c ∷ d ∷ e ∷ f ∷ rest) n bytes lt h =
+    let g = number-grows rest ((((((0 * 256 + a) * 256 + b) * 256 + c) * 256 + d) * 256 + e) * 256 + f) in
+    elim (test (nat_eq a 0)) [
+      | inl z ↦ let ge : 128 ≤ b = h.1 (eqb-true a 0 z) in absurd (omega (arith, g, h.2, lt, ge))
+      | inr z ↦ let ne : a ≡ 0 → ⊥ = eqb-false a 0 z in absurd (omega (arith, g, h.2, lt, ne))
+    ]
+
+-- each INTEGER that is not negative is written so of its own contents
+pub own-contents : (c : List ℕ) (n : ℕ) → IsInteger c n → (number 0 c ≡ n) × (c ≡ integer_contents c)
+own-contents [] n h = absurd h
+own-contents (a ∷ []) n h = (omega (arith, h.1), sym (own-one a h.0))
+own-contents (a ∷ b ∷ rest) n h = (sym h.2, sym (own-two a b rest h.0 h.1))

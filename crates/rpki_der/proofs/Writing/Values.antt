@@ -1,5 +1,5 @@
 -- values of each kind are written so that they are read again
-use Rattle.std.proofs.Common.{◌≡◌, ℕ, zero, suc, ◌+◌, ◌-◌, ◌≤◌, ◌<◌, ◌^◌, Bool, true, false, List, [], ◌∷◌, ◌++◌, length, take, All, Option, Some, refl, sym, ap, ◌∙◌, subst, arith, inl, inr}
+use Rattle.std.proofs.Common.{◌≡◌, ℕ, zero, suc, ◌-◌, ◌≤◌, ◌<◌, ◌^◌, Bool, true, false, List, [], ◌∷◌, ◌++◌, length, All, Some, refl, sym, ap, ◌∙◌, subst, arith, inl, inr}
 use Rattle.std.specs.List.{flat_map, list_all}
 use Rattle.std.specs.Prelude.{nat_lt}
 use Rattle.std.specs.Int.{w32, to_be_bytes}
@@ -9,18 +9,18 @@ use Rattle.rpki_der.specs.declared.mode.Mode.{Mode}
 use Rattle.rpki_der.specs.declared.mode.Mode.TheVariants.{Der, Ber}
 use Rattle.rpki_der.specs.Identifier.{IsTag, is_constructed}
 use Rattle.rpki_der.specs.Oid.{IsOid}
-use Rattle.rpki_der.specs.Read.Parse.{Parser, ◌>>=◌, value_at, in_value, primitive, unsigned_of, u8_at, u32_at, boolean_of, null_of, oid_of, ia5_of, octets_at, skip_at, many, optional, captured, taken}
+use Rattle.rpki_der.specs.Read.Parse.{value_at, in_value, primitive, unsigned_of, u8_at, u32_at, boolean_of, null_of, oid_of, ia5_of, octets_at, number, skip_at, many, optional, captured, taken}
 use Rattle.rpki_der.specs.Grammar.{Value, Within, IsBytes, IsInteger, Integer, IsBoolean, Boolean, OctetString, Skipped, ListOf, Items}
-use Rattle.rpki_der.specs.Written.{value_octets, number_octets, integer_contents, boolean_contents}
+use Rattle.rpki_der.specs.Written.{length_octets, value_octets, number_octets, integer_contents, boolean_contents}
 use Rattle.rpki_der.proofs.Reading.Scan.{tag-sound}
 use Rattle.rpki_der.proofs.Reading.Lengths.{bind_some, some_is}
-use Rattle.rpki_der.proofs.Reading.Exact.{value-sound, IsBytes-left}
+use Rattle.rpki_der.proofs.Reading.Exact.{value-sound, IsBytes-left, IsBytes-right}
 use Rattle.rpki_der.proofs.Reading.Integers.{exact-u32, exact-unsigned, holds1, exact-list}
 use Rattle.rpki_der.proofs.Reading.Strings.{exact-octets}
 use Rattle.rpki_der.proofs.Reading.Skips.{exact-skip}
 use Rattle.rpki_der.proofs.Reading.Unique.{octets-ber, skipped-ber}
 use Rattle.rpki_der.proofs.Writing.Lengths.{value-written, value-unique}
-use Rattle.rpki_der.proofs.Writing.Numbers.{unsigned-written, number-digits, significant-u8, length-integer_contents, length-significant, integer-is}
+use Rattle.rpki_der.proofs.Writing.Numbers.{number-digits, length-integer_contents, integer-is, contents-unique, own-contents}
 use Rattle.rpki_der.proofs.Writing.Leaves.{value-in, primitive-read, within-unique, items-written}
 
 -- ---- numbers of 32 bits
@@ -44,6 +44,17 @@ pub u8-read : (mode : Mode) (n : ℕ) (rest : List ℕ) → n < 256 → u8_at mo
 u8-read mode n rest h =
     let e : unsigned_of 1 (integer_contents (to_be_bytes w32 n)) ≡ Some n = (exact-unsigned 1 256 holds1 (omega arith)).complete (integer_contents (to_be_bytes w32 n)) n (number-is n (omega arith), h) in
     primitive-read 2 (unsigned_of 1) mode (integer_contents (to_be_bytes w32 n)) rest n (tag-sound 2 refl) (short-number n) e
+
+pub number-unique : (o : List ℕ) (n : ℕ) → IsBytes o → n < 2 ^ 32 → Integer Der o n → o ≡ number_octets n
+number-unique o n bytes lt h =
+    let e = value-unique o 2 h.0 bytes h.1 in
+    let all : IsBytes (value_octets 2 h.0) = subst IsBytes e bytes in
+    e ∙ ap (value_octets 2) (contents-unique h.0 n (IsBytes-right (length_octets (length h.0)) h.0 all.1) lt h.2)
+
+pub integer-unique : (o : List ℕ) (n : ℕ) → IsBytes o → Integer Der o n → (digits : List ℕ) × (number 0 digits ≡ n) × (o ≡ value_octets 2 (integer_contents digits))
+integer-unique o n bytes h =
+    let own = own-contents h.0 n h.2 in
+    (h.0, own.0, value-unique o 2 h.0 bytes h.1 ∙ ap (value_octets 2) own.1)
 
 -- ---- lists of them
 

@@ -15,10 +15,12 @@ impl<T: Encode> Encode for &T {
 
     ghost small = { λ x h. T.small x.now h };
 
+    #[inline(always)]
     fn encoded_len(&self) -> Result<u64, EncodeError> {
         (**self).encoded_len()
     }
 
+    #[inline(always)]
     fn put<W: Sink>(&self, out: &mut W) -> Result<(), SinkFailed> {
         (**self).put(out)
     }
@@ -34,6 +36,7 @@ impl<T: Encode> Encode for Option<T> {
 
     ghost small = { optional_small T.octets T.is_short T.small };
 
+    #[inline(always)]
     fn encoded_len(&self) -> Result<u64, EncodeError> {
         match self {
             None => Ok(0),
@@ -41,6 +44,7 @@ impl<T: Encode> Encode for Option<T> {
         }
     }
 
+    #[inline(always)]
     fn put<W: Sink>(&self, out: &mut W) -> Result<(), SinkFailed> {
         match self {
             None => Ok(()),
@@ -69,6 +73,7 @@ impl<T: Encode> Encode for Elements<'_, T> {
 
     ghost small = { λ x h. each_small T.octets T.is_short T.small x.0.now h };
 
+    #[inline(always)]
     fn encoded_len(&self) -> Result<u64, EncodeError> {
         let mut total = 0u64;
         for x in self.0 {
@@ -81,6 +86,7 @@ impl<T: Encode> Encode for Elements<'_, T> {
         Ok(total)
     }
 
+    #[inline(always)]
     fn put<W: Sink>(&self, out: &mut W) -> Result<(), SinkFailed> {
         for x in self.0 {
             x.put(out)?;

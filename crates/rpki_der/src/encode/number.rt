@@ -19,6 +19,7 @@ impl Encode for Digits<'_> {
 
     ghost small = { λ _ _. tt };
 
+    #[inline(always)]
     fn encoded_len(&self) -> Result<u64, EncodeError> {
         let digits = significant(self.0);
         if digits.is_empty() {
@@ -30,6 +31,7 @@ impl Encode for Digits<'_> {
         }
     }
 
+    #[inline(always)]
     fn put<W: Sink>(&self, out: &mut W) -> Result<(), SinkFailed> {
         let digits = significant(self.0);
         if digits.is_empty() {
@@ -43,6 +45,7 @@ impl Encode for Digits<'_> {
 }
 
 /// The digits without zeros in front.
+#[inline(always)]
 fn significant(digits: &[u8]) -> &[u8]
     ensures { result.now ≡ significant digits.now }
 {
@@ -67,16 +70,56 @@ impl Encode for Unsigned {
 
     ghost small = { λ _ _. tt };
 
+    #[inline(always)]
     fn encoded_len(&self) -> Result<u64, EncodeError> {
-        Digits(&self.0.to_be_bytes()).encoded_len()
+        let b = self.0.to_be_bytes();
+        if b[0] != 0 {
+            Ok(if b[0] < 0x80 { 4 } else { 5 })
+        } else if b[1] != 0 {
+            Ok(if b[1] < 0x80 { 3 } else { 4 })
+        } else if b[2] != 0 {
+            Ok(if b[2] < 0x80 { 2 } else { 3 })
+        } else if b[3] != 0 {
+            Ok(if b[3] < 0x80 { 1 } else { 2 })
+        } else {
+            Ok(1)
+        }
     }
 
+    #[inline(always)]
     fn put<W: Sink>(&self, out: &mut W) -> Result<(), SinkFailed> {
-        Digits(&self.0.to_be_bytes()).put(out)
+        let b = self.0.to_be_bytes();
+        if b[0] != 0 {
+            if b[0] < 0x80 {
+                out.take_all(&b)
+            } else {
+                out.take_all(&[0, b[0], b[1], b[2], b[3]])
+            }
+        } else if b[1] != 0 {
+            if b[1] < 0x80 {
+                out.take_all(&b[1..])
+            } else {
+                out.take_all(&[0, b[1], b[2], b[3]])
+            }
+        } else if b[2] != 0 {
+            if b[2] < 0x80 {
+                out.take_all(&b[2..])
+            } else {
+                out.take_all(&[0, b[2], b[3]])
+            }
+        } else if b[3] != 0 {
+            if b[3] < 0x80 {
+                out.take_all(&b[3..])
+            } else {
+                out.take_all(&[0, b[3]])
+            }
+        } else {
+            out.take_all(&[0])
+        }
     }
 }
 
-/// An INTEGER (X.690, section 8.3) in its shortest form.
+/// An INTEGER of 32 bits (X.690, section 8.3) in its shortest form.
 pub fn integer(n: u32) -> Value<Unsigned>
     ensures tag { result.tag.octet ≡ 2 }
     ensures number { result.contents.0 ≡ n }
@@ -87,7 +130,7 @@ pub fn integer(n: u32) -> Value<Unsigned>
     }
 }
 
-/// The same of one octet.
+/// An INTEGER of 8 bits (X.690, section 8.3) in its shortest form.
 pub fn integer_u8(n: u8) -> Value<Unsigned>
     ensures tag { result.tag.octet ≡ 2 }
     ensures number { result.contents.0 ≡ n }

@@ -12,10 +12,12 @@ impl Encode for Raw<'_> {
 
     ghost small = { λ _ _. tt };
 
+    #[inline(always)]
     fn encoded_len(&self) -> Result<u64, EncodeError> {
         Ok(self.0.len() as u64)
     }
 
+    #[inline(always)]
     fn put<W: Sink>(&self, out: &mut W) -> Result<(), SinkFailed> {
         out.take_all(self.0)
     }

@@ -14,6 +14,7 @@ impl<A: Encode, B: Encode> Encode for (A, B) {
 
     ghost small = { λ x h. let parts = length_parts (A.octets x.0) (B.octets x.1) h in (A.small x.0 parts.0, B.small x.1 parts.1) };
 
+    #[inline(always)]
     fn encoded_len(&self) -> Result<u64, EncodeError> {
         let a = self.0.encoded_len()?;
         let b = self.1.encoded_len()?;
@@ -23,6 +24,7 @@ impl<A: Encode, B: Encode> Encode for (A, B) {
         }
     }
 
+    #[inline(always)]
     fn put<W: Sink>(&self, out: &mut W) -> Result<(), SinkFailed> {
         self.0.put(out)?;
         self.1.put(out)
@@ -38,10 +40,12 @@ impl<A: Encode, B: Encode, C: Encode> Encode for (A, B, C) {
 
     ghost small = { λ x h. let p0 = length_parts (A.octets x.0) (B.octets x.1 ++ C.octets x.2) h in let p1 = length_parts (B.octets x.1) (C.octets x.2) p0.1 in (A.small x.0 p0.0, (B.small x.1 p1.0, C.small x.2 p1.1)) };
 
+    #[inline(always)]
     fn encoded_len(&self) -> Result<u64, EncodeError> {
         (&self.0, (&self.1, &self.2)).encoded_len()
     }
 
+    #[inline(always)]
     fn put<W: Sink>(&self, out: &mut W) -> Result<(), SinkFailed> {
         (&self.0, (&self.1, &self.2)).put(out)
     }
@@ -56,10 +60,12 @@ impl<A: Encode, B: Encode, C: Encode, D: Encode> Encode for (A, B, C, D) {
 
     ghost small = { λ x h. let p0 = length_parts (A.octets x.0) (B.octets x.1 ++ (C.octets x.2 ++ D.octets x.3)) h in let p1 = length_parts (B.octets x.1) (C.octets x.2 ++ D.octets x.3) p0.1 in let p2 = length_parts (C.octets x.2) (D.octets x.3) p1.1 in (A.small x.0 p0.0, (B.small x.1 p1.0, (C.small x.2 p2.0, D.small x.3 p2.1))) };
 
+    #[inline(always)]
     fn encoded_len(&self) -> Result<u64, EncodeError> {
         (&self.0, (&self.1, &self.2, &self.3)).encoded_len()
     }
 
+    #[inline(always)]
     fn put<W: Sink>(&self, out: &mut W) -> Result<(), SinkFailed> {
         (&self.0, (&self.1, &self.2, &self.3)).put(out)
     }
@@ -74,10 +80,12 @@ impl<A: Encode, B: Encode, C: Encode, D: Encode, E: Encode> Encode for (A, B, C,
 
     ghost small = { λ x h. let p0 = length_parts (A.octets x.0) (B.octets x.1 ++ (C.octets x.2 ++ (D.octets x.3 ++ E.octets x.4))) h in let p1 = length_parts (B.octets x.1) (C.octets x.2 ++ (D.octets x.3 ++ E.octets x.4)) p0.1 in let p2 = length_parts (C.octets x.2) (D.octets x.3 ++ E.octets x.4) p1.1 in let p3 = length_parts (D.octets x.3) (E.octets x.4) p2.1 in (A.small x.0 p0.0, (B.small x.1 p1.0, (C.small x.2 p2.0, (D.small x.3 p3.0, E.small x.4 p3.1)))) };
 
+    #[inline(always)]
     fn encoded_len(&self) -> Result<u64, EncodeError> {
         (&self.0, (&self.1, &self.2, &self.3, &self.4)).encoded_len()
     }
 
+    #[inline(always)]
     fn put<W: Sink>(&self, out: &mut W) -> Result<(), SinkFailed> {
         (&self.0, (&self.1, &self.2, &self.3, &self.4)).put(out)
     }
@@ -93,10 +101,12 @@ impl<A: Encode, B: Encode, C: Encode, D: Encode, E: Encode, F: Encode> Encode
 
     ghost small = { λ x h. let p0 = length_parts (A.octets x.0) (B.octets x.1 ++ (C.octets x.2 ++ (D.octets x.3 ++ (E.octets x.4 ++ F.octets x.5)))) h in let p1 = length_parts (B.octets x.1) (C.octets x.2 ++ (D.octets x.3 ++ (E.octets x.4 ++ F.octets x.5))) p0.1 in let p2 = length_parts (C.octets x.2) (D.octets x.3 ++ (E.octets x.4 ++ F.octets x.5)) p1.1 in let p3 = length_parts (D.octets x.3) (E.octets x.4 ++ F.octets x.5) p2.1 in let p4 = length_parts (E.octets x.4) (F.octets x.5) p3.1 in (A.small x.0 p0.0, (B.small x.1 p1.0, (C.small x.2 p2.0, (D.small x.3 p3.0, (E.small x.4 p4.0, F.small x.5 p4.1))))) };
 
+    #[inline(always)]
     fn encoded_len(&self) -> Result<u64, EncodeError> {
         (&self.0, (&self.1, &self.2, &self.3, &self.4, &self.5)).encoded_len()
     }
 
+    #[inline(always)]
     fn put<W: Sink>(&self, out: &mut W) -> Result<(), SinkFailed> {
         (&self.0, (&self.1, &self.2, &self.3, &self.4, &self.5)).put(out)
     }
@@ -112,6 +122,7 @@ impl<A: Encode, B: Encode, C: Encode, D: Encode, E: Encode, F: Encode, G: Encode
 
     ghost small = { λ x h. let p0 = length_parts (A.octets x.0) (B.octets x.1 ++ (C.octets x.2 ++ (D.octets x.3 ++ (E.octets x.4 ++ (F.octets x.5 ++ G.octets x.6))))) h in let p1 = length_parts (B.octets x.1) (C.octets x.2 ++ (D.octets x.3 ++ (E.octets x.4 ++ (F.octets x.5 ++ G.octets x.6)))) p0.1 in let p2 = length_parts (C.octets x.2) (D.octets x.3 ++ (E.octets x.4 ++ (F.octets x.5 ++ G.octets x.6))) p1.1 in let p3 = length_parts (D.octets x.3) (E.octets x.4 ++ (F.octets x.5 ++ G.octets x.6)) p2.1 in let p4 = length_parts (E.octets x.4) (F.octets x.5 ++ G.octets x.6) p3.1 in let p5 = length_parts (F.octets x.5) (G.octets x.6) p4.1 in (A.small x.0 p0.0, (B.small x.1 p1.0, (C.small x.2 p2.0, (D.small x.3 p3.0, (E.small x.4 p4.0, (F.small x.5 p5.0, G.small x.6 p5.1)))))) };
 
+    #[inline(always)]
     fn encoded_len(&self) -> Result<u64, EncodeError> {
         (
             &self.0,
@@ -120,6 +131,7 @@ impl<A: Encode, B: Encode, C: Encode, D: Encode, E: Encode, F: Encode, G: Encode
             .encoded_len()
     }
 
+    #[inline(always)]
     fn put<W: Sink>(&self, out: &mut W) -> Result<(), SinkFailed> {
         (
             &self.0,
@@ -139,6 +151,7 @@ impl<A: Encode, B: Encode, C: Encode, D: Encode, E: Encode, F: Encode, G: Encode
 
     ghost small = { λ x h. let p0 = length_parts (A.octets x.0) (B.octets x.1 ++ (C.octets x.2 ++ (D.octets x.3 ++ (E.octets x.4 ++ (F.octets x.5 ++ (G.octets x.6 ++ H.octets x.7)))))) h in let p1 = length_parts (B.octets x.1) (C.octets x.2 ++ (D.octets x.3 ++ (E.octets x.4 ++ (F.octets x.5 ++ (G.octets x.6 ++ H.octets x.7))))) p0.1 in let p2 = length_parts (C.octets x.2) (D.octets x.3 ++ (E.octets x.4 ++ (F.octets x.5 ++ (G.octets x.6 ++ H.octets x.7)))) p1.1 in let p3 = length_parts (D.octets x.3) (E.octets x.4 ++ (F.octets x.5 ++ (G.octets x.6 ++ H.octets x.7))) p2.1 in let p4 = length_parts (E.octets x.4) (F.octets x.5 ++ (G.octets x.6 ++ H.octets x.7)) p3.1 in let p5 = length_parts (F.octets x.5) (G.octets x.6 ++ H.octets x.7) p4.1 in let p6 = length_parts (G.octets x.6) (H.octets x.7) p5.1 in (A.small x.0 p0.0, (B.small x.1 p1.0, (C.small x.2 p2.0, (D.small x.3 p3.0, (E.small x.4 p4.0, (F.small x.5 p5.0, (G.small x.6 p6.0, H.small x.7 p6.1))))))) };
 
+    #[inline(always)]
     fn encoded_len(&self) -> Result<u64, EncodeError> {
         (
             &self.0,
@@ -149,6 +162,7 @@ impl<A: Encode, B: Encode, C: Encode, D: Encode, E: Encode, F: Encode, G: Encode
             .encoded_len()
     }
 
+    #[inline(always)]
     fn put<W: Sink>(&self, out: &mut W) -> Result<(), SinkFailed> {
         (
             &self.0,

@@ -1,4 +1,4 @@
-ghost use Rattle.std.specs.Prelude.{◌≡◌, ◌+◌, ◌<◌, ◌≤◌, ◌^◌, length, OnOk, OnErr};
+ghost use Rattle.std.specs.Prelude.{◌∷◌, ◌≡◌, ◌+◌, ◌<◌, ◌≤◌, ◌^◌, length, OnOk, OnErr};
 ghost use Rattle.std.specs.Io.KnownBytes.{Appends};
 ghost use Rattle.rpki_der.specs.Sink.{AppendsFront};
 ghost use Rattle.rpki_der.specs.Written.{length_octets, value_octets};
@@ -57,6 +57,7 @@ impl<T: Encode> Encode for Value<T> {
 
     ghost small = { λ x h. contents_small x.tag.octet (T.octets x.contents) h };
 
+    #[inline(always)]
     fn encoded_len(&self) -> Result<u64, EncodeError> {
         let n = self.contents.encoded_len()?;
         match u32::try_from(n) {
@@ -65,13 +66,13 @@ impl<T: Encode> Encode for Value<T> {
         }
     }
 
+    #[inline(always)]
     fn put<W: Sink>(&self, out: &mut W) -> Result<(), SinkFailed> {
         let n = match self.contents.encoded_len() {
             Ok(n) => n as u32,
             Err(_) => unreachable!(),
         };
-        out.take_all(&[self.tag.octet])?;
-        put_length(n, out)?;
+        put_header(self.tag.octet, n, out)?;
         self.contents.put(out)
     }
 }
@@ -87,10 +88,12 @@ impl Encode for Length {
 
     ghost small = { λ _ _. tt };
 
+    #[inline(always)]
     fn encoded_len(&self) -> Result<u64, EncodeError> {
         Ok(length_size(self.0))
     }
 
+    #[inline(always)]
     fn put<W: Sink>(&self, out: &mut W) -> Result<(), SinkFailed> {
         put_length(self.0, out)
     }
@@ -98,6 +101,7 @@ impl Encode for Length {
 
 /// How many octets a length has.
 #[tactic(auto, unfolding(crate::specs::Written::length_octets))]
+#[inline(always)]
 fn length_size(n: u32) -> u64
     ensures size { result ≡ length (length_octets n) }
     ensures small { result ≤ 5 }
@@ -117,6 +121,7 @@ fn length_size(n: u32) -> u64
 
 /// Writes a length.
 #[tactic(auto, unfolding(crate::specs::Written::length_octets))]
+#[inline(always)]
 fn put_length<W: Sink>(n: u32, out: &mut W) -> Result<(), SinkFailed>
     ensures ok { OnOk result (Appends (W.taken out.old) (W.taken out.new) (length_octets n)) }
     ensures begun { OnErr result (AppendsFront (W.taken out.old) (W.taken out.new) (length_octets n)) }
@@ -134,5 +139,28 @@ fn put_length<W: Sink>(n: u32, out: &mut W) -> Result<(), SinkFailed>
         out.take_all(&[0x83, b[1], b[2], b[3]])
     } else {
         out.take_all(&[0x84, b[0], b[1], b[2], b[3]])
+    }
+}
+
+/// Writes an identifier and a length, in one call of the sink.
+#[tactic(auto, unfolding(crate::specs::Written::length_octets))]
+#[inline(always)]
+fn put_header<W: Sink>(tag: u8, n: u32, out: &mut W) -> Result<(), SinkFailed>
+    ensures ok { OnOk result (Appends (W.taken out.old) (W.taken out.new) (tag ∷ length_octets n)) }
+    ensures begun { OnErr result (AppendsFront (W.taken out.old) (W.taken out.new) (tag ∷ length_octets n)) }
+    ensures same { OnOk result (W.failures out.new ≡ W.failures out.old) }
+    ensures failed { OnErr result (W.failures out.new ≡ W.failures out.old + 1) }
+{
+    let b = n.to_be_bytes();
+    if n < 0x80 {
+        out.take_all(&[tag, b[3]])
+    } else if n < 0x100 {
+        out.take_all(&[tag, 0x81, b[3]])
+    } else if n < 0x1_0000 {
+        out.take_all(&[tag, 0x82, b[2], b[3]])
+    } else if n < 0x100_0000 {
+        out.take_all(&[tag, 0x83, b[1], b[2], b[3]])
+    } else {
+        out.take_all(&[tag, 0x84, b[0], b[1], b[2], b[3]])
     }
 }

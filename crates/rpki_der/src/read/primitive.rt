@@ -54,6 +54,7 @@ impl<'a> Constructed<'a> {
     }
 
     /// Reads an INTEGER from 0 to 2^32 - 1.
+    #[inline(always)]
     pub fn take_u32(&mut self) -> Result<u32, DecodeError>
         ensures reads { Reads (λ n. n) u32_at self.old result self.new }
         ensures stays { Stays result self.new }
@@ -66,6 +67,7 @@ impl<'a> Constructed<'a> {
     }
 
     /// Reads an INTEGER from 0 to 2^32 - 1, if an INTEGER is next.
+    #[inline(always)]
     pub fn take_opt_u32(&mut self) -> Result<Option<u32>, DecodeError>
         ensures reads { Reads (λ n. n) (optional 2 u32_at) self.old result self.new }
         ensures shorter { IfOk result (λ n. IfSome n (λ _. length self.new.rest < length self.old.rest)) }

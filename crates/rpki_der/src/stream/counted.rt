@@ -1,4 +1,4 @@
-ghost use Rattle.std.specs.Prelude.{◌≡◌};
+ghost use Rattle.std.specs.Prelude.{◌≡◌, ◌+◌};
 
 use crate::count::Count;
 use crate::stream::sink::{Sink, SinkFailed};
@@ -24,6 +24,15 @@ impl<T> Counted<T> {
         }
     }
 
+    /// One more call has failed.
+    fn count_failure(&mut self)
+        ensures inner { self.new.inner ≡ self.old.inner }
+        ensures failures { self.new.failures.number ≡ self.old.failures.number + 1 }
+    {
+        let failures = self.failures.next();
+        self.failures = failures;
+    }
+
     /// The writer or reader.
     pub fn into_inner(self) -> T
         ensures { result ≡ self.inner }
@@ -44,8 +53,7 @@ impl<T: io::Write> Sink for Counted<T> {
         match self.inner.write(octets) {
             Ok(n) if n > 0 => Ok(n),
             _ => {
-                let failures = self.failures.next();
-                self.failures = failures;
+                self.count_failure();
                 Err(SinkFailed)
             }
         }
@@ -61,8 +69,7 @@ impl<T: io::Read> Source for Counted<T> {
         match self.inner.read(buf) {
             Ok(n) => Ok(n),
             Err(_) => {
-                let failures = self.failures.next();
-                self.failures = failures;
+                self.count_failure();
                 Err(SourceFailed)
             }
         }

@@ -22,6 +22,7 @@ pub trait Sink {
         ensures err { OnErr result (failures self.new ≡ failures self.old + 1) };
 
     /// Takes all octets of a slice. Where a call fails, it has taken those before.
+    #[inline(always)]
     final fn take_all(&mut self, octets: &[u8]) -> Result<(), SinkFailed>
     where
         Self: Sized,

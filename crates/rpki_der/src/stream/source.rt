@@ -12,6 +12,7 @@ pub struct SourceFailed;
 pub enum SourceError {
     /// A call of the source has failed.
     Io,
+    /// No memory was to be had.
     Memory,
 }
 

@@ -1,4 +1,4 @@
-use Rattle.std.proofs.Common.{◌++◌, length, length-append, arith}
+use Rattle.std.proofs.Common.{length-append, arith}
 use Rattle.rpki_der.specs.Written.{length_octets, length_octets_le}
 use Rattle.rpki_der.proofs.build.tlv.Goals as goal
 

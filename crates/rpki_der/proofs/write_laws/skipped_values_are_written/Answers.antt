@@ -1,4 +1,4 @@
-use Rattle.std.proofs.Common.{◌+◌, add-one}
+use Rattle.std.proofs.Common.{add-one}
 use Rattle.rpki_der.specs.Written.{value_octets}
 use Rattle.rpki_der.proofs.Writing.Values.{skipped-primitive, skipped-constructed, skipped-read}
 use Rattle.rpki_der.proofs.write_laws.skipped_values_are_written.Goals as goal
