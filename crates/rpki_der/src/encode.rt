@@ -26,7 +26,7 @@ pub use raw::Raw;
 pub use value::{Length, Value, sequence, set, tagged};
 
 /// Why a value was not written.
-#[derive(Clone, Copy, Debug, PartialEq, Eq)]
+#[derive(Debug, Drop)]
 pub enum EncodeError {
     /// A part of it was captured in BER.
     NotDer,

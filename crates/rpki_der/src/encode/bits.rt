@@ -8,7 +8,7 @@ use crate::mode::Tag;
 use crate::stream::{Sink, SinkFailed};
 
 /// The contents of a BIT STRING: how many bits of the last octet are not used, and the octets. The bits that are not used are written as zeros.
-#[derive(Clone, Copy)]
+#[derive(Drop)]
 pub struct Bits<'a> {
     pub octets: &'a [u8],
     pub unused: u8,

@@ -7,7 +7,7 @@ use crate::mode::Mode;
 use crate::stream::{Sink, SinkFailed};
 
 /// Captured octets as they are, which are DER where they were read so.
-#[derive(Clone, Copy)]
+#[derive(Drop)]
 pub struct CapturedEncoder<'a>(pub &'a Captured);
 
 impl Encode for CapturedEncoder<'_> {

@@ -54,7 +54,7 @@ impl<T: Encode> Encode for Option<T> {
 }
 
 /// The values of a slice, one after another.
-#[derive(Clone, Copy)]
+#[derive(Drop)]
 pub struct Elements<'a, T>(pub &'a [T]);
 
 /// The values of a slice, one after another.

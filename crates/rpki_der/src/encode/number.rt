@@ -9,7 +9,7 @@ use crate::mode::Tag;
 use crate::stream::{Sink, SinkFailed};
 
 /// The shortest contents of an INTEGER that is not negative, from its digits to base 256, the highest one first.
-#[derive(Clone, Copy)]
+#[derive(Drop)]
 pub struct Digits<'a>(pub &'a [u8]);
 
 impl Encode for Digits<'_> {
@@ -60,7 +60,7 @@ fn significant(digits: &[u8]) -> &[u8]
 }
 
 /// The shortest contents of an INTEGER that is not negative.
-#[derive(Clone, Copy, Debug, PartialEq, Eq)]
+#[derive(Drop)]
 pub struct Unsigned(pub u32);
 
 impl Encode for Unsigned {

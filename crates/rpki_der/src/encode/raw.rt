@@ -2,7 +2,7 @@ use crate::encode::{Encode, EncodeError};
 use crate::stream::{Sink, SinkFailed};
 
 /// Octets as they are.
-#[derive(Clone, Copy)]
+#[derive(Drop)]
 pub struct Raw<'a>(pub &'a [u8]);
 
 impl Encode for Raw<'_> {

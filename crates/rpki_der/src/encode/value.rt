@@ -9,7 +9,7 @@ use crate::mode::Tag;
 use crate::stream::{Sink, SinkFailed};
 
 /// A value (X.690, section 8.1.1): an identifier octet, the length in its shortest form, and the contents.
-#[derive(Clone, Copy)]
+#[derive(Drop)]
 pub struct Value<T> {
     pub tag: Tag,
     pub contents: T,
@@ -78,7 +78,7 @@ impl<T: Encode> Encode for Value<T> {
 }
 
 /// The octets of a length, in the shortest form (X.690, sections 8.1.3 and 10.1).
-#[derive(Clone, Copy)]
+#[derive(Drop)]
 pub struct Length(pub u32);
 
 impl Encode for Length {

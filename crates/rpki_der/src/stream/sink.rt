@@ -3,7 +3,7 @@ ghost use Rattle.std.specs.Io.KnownBytes.{Appends, WriteAppends, Keeps};
 ghost use Rattle.rpki_der.specs.Sink.{AppendsFront, IsTakenCount};
 
 /// A call of a sink has failed. It is not tried again.
-#[derive(Clone, Copy, Debug, PartialEq, Eq)]
+#[derive(Debug, Drop)]
 pub struct SinkFailed;
 
 /// What takes octets.

@@ -241,8 +241,8 @@ fn optional_parts(rt: HostRuntime) -> Result<(), Fail> {
 
 #[test]
 fn few_parts(rt: HostRuntime) -> Result<(), Fail> {
-    let one = Raw(&[1]);
-    let two = Raw(&[2]);
+    let one = &Raw(&[1]);
+    let two = &Raw(&[2]);
     is_written(&rt, &(one, two), &[1, 2])?;
     is_written(&rt, &(one, two, one), &[1, 2, 1])?;
     is_written(&rt, &(one, two, one, two), &[1, 2, 1, 2])
@@ -250,16 +250,16 @@ fn few_parts(rt: HostRuntime) -> Result<(), Fail> {
 
 #[test]
 fn some_parts(rt: HostRuntime) -> Result<(), Fail> {
-    let one = Raw(&[1]);
-    let two = Raw(&[2]);
+    let one = &Raw(&[1]);
+    let two = &Raw(&[2]);
     is_written(&rt, &(one, two, one, two, two), &[1, 2, 1, 2, 2])?;
     is_written(&rt, &(one, two, one, two, two, one), &[1, 2, 1, 2, 2, 1])
 }
 
 #[test]
 fn many_parts(rt: HostRuntime) -> Result<(), Fail> {
-    let one = Raw(&[1]);
-    let two = Raw(&[2]);
+    let one = &Raw(&[1]);
+    let two = &Raw(&[2]);
     is_written(
         &rt,
         &(one, two, one, two, two, one, one),
@@ -272,6 +272,22 @@ fn many_parts(rt: HostRuntime) -> Result<(), Fail> {
     )
 }
 
+/// Whether a value can't be written since a part of it was read in BER.
+fn is_not_der<T: Drop>(answer: Result<T, EncodeError>) -> bool {
+    match answer {
+        Err(EncodeError::NotDer) => true,
+        _ => false,
+    }
+}
+
+/// Whether a call of the sink failed.
+fn is_io(answer: Result<(), EncodeError>) -> bool {
+    match answer {
+        Err(EncodeError::Io) => true,
+        _ => false,
+    }
+}
+
 #[test]
 fn captured_values(rt: HostRuntime) -> Result<(), Fail> {
     let octets = Bytes::copy_from_slice(rt.alloc(), &[0x05, 0x00])?;
@@ -279,9 +295,9 @@ fn captured_values(rt: HostRuntime) -> Result<(), Fail> {
     is_written(&rt, &sequence(der.encode_ref()), &[0x30, 2, 5, 0])?;
     let ber = Captured::new(octets, Mode::Ber);
     let value = sequence((null(), ber.encode_ref()));
-    assert_eq!(rt; value.encoded_len(), Err(EncodeError::NotDer));
+    assert!(rt; is_not_der(value.encoded_len()));
     let mut sink = Counted::new(Drip::new(Vec::new(rt.alloc()), 0));
-    assert_eq!(rt; value.write_to(&mut sink), Err(EncodeError::NotDer));
+    assert!(rt; is_not_der(value.write_to(&mut sink)));
     assert_eq!(rt; sink.inner.calls, 0);
     match value.to_bytes(rt.alloc()) {
         Err(EncodeError::NotDer) => Ok(()),
@@ -297,7 +313,7 @@ fn failing_sinks(rt: HostRuntime) -> Result<(), Fail> {
     assert_eq!(rt; whole.as_slice(), want.as_slice());
     for k in 1..14usize {
         let mut sink = Counted::new(Drip::new(Vec::new(rt.alloc()), k));
-        assert_eq!(rt; value.write_to(&mut sink), Err(EncodeError::Io), "at {k}");
+        assert!(rt; is_io(value.write_to(&mut sink)), "at {k}");
         assert_eq!(rt;
             Some(sink.inner.octets.as_slice()),
             want.get(..k - 1),
@@ -306,9 +322,9 @@ fn failing_sinks(rt: HostRuntime) -> Result<(), Fail> {
         assert_eq!(rt; sink.inner.calls, k);
     }
     let mut sink = Counted::new(Full);
-    assert_eq!(rt; value.write_to(&mut sink), Err(EncodeError::Io));
-    assert_eq!(rt; sink.take(&[1]), Err(SinkFailed));
-    assert_eq!(rt; sink.take(&[]), Ok(0));
+    assert!(rt; is_io(value.write_to(&mut sink)));
+    assert!(rt; sink.take(&[1]).is_err());
+    assert!(rt; sink.take(&[]).is_ok_and(|n| n == 0));
     let mut taken = Counted::new(Vec::new(rt.alloc()));
     value.write_to(&mut &mut taken)?;
     taken.take_all(&[1, 2])?;

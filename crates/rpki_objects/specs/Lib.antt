@@ -1,0 +1,11 @@
+pub mod Answer
+pub mod Asn
+pub mod Aspa
+pub mod AspaRead
+pub mod AspaWritten
+pub mod Command
+pub mod Decoded
+pub mod Refusal
+pub mod Store
+pub mod Text
+pub mod Words

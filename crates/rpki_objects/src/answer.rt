@@ -1,0 +1,73 @@
+//! What the program answers, and how it says it.
+
+ghost use Rattle.std.specs.Prelude.{◌≡◌, ◌+◌, ◌++◌, OnOk, OnErr};
+ghost use Rattle.std.specs.Io.KnownBytes.{Appends};
+ghost use Rattle.rpki_der.specs.Sink.{AppendsFront};
+ghost use Rattle.rpki_objects.specs.Answer.{Writes, IsSaid, run_of, cannot_read};
+
+use rpki_der::{Sink, SinkFailed};
+
+/// What the program answers.
+#[derive(Drop)]
+pub enum Answer<'a> {
+    /// The words ask for nothing that there is.
+    Usage,
+    /// This file can't be read.
+    CannotRead(&'a str),
+    /// No memory was to be had.
+    OutOfMemory,
+    /// The file does not begin with what was asked for.
+    Malformed,
+    /// These lines.
+    Shown(String),
+}
+
+/// Says the answer on one of the two sinks, and gives the exit status, which is 2 where the sink fails.
+pub fn say<O: Sink, E: Sink>(answer: &Answer<'_>, out: &mut O, err: &mut E) -> u8
+    ensures { IsSaid answer.now (run_of O.taken O.failures out.old out.new E.taken E.failures err.old err.new result) }
+{
+    match answer {
+        Answer::Usage => write(b"usage\n", 2, err),
+        Answer::CannotRead(file) => complain_of(file, err),
+        Answer::OutOfMemory => write(b"out of memory\n", 3, err),
+        Answer::Malformed => write(b"malformed\n", 1, out),
+        Answer::Shown(text) => write(text.as_bytes(), 0, out),
+    }
+}
+
+/// Writes the octets, and gives the status, or 2 where the sink fails.
+fn write<W: Sink>(octets: &[u8], status: u8, sink: &mut W) -> u8
+    ensures { Writes octets.now status (W.taken sink.old, W.failures sink.old) (W.taken sink.new, W.failures sink.new) result }
+{
+    match sink.take_all(octets) {
+        Ok(()) => status,
+        Err(SinkFailed) => 2,
+    }
+}
+
+/// Writes that a file can't be read, and gives the status.
+fn complain_of<W: Sink>(file: &str, sink: &mut W) -> u8
+    ensures { Writes (cannot_read file.now) 2 (W.taken sink.old, W.failures sink.old) (W.taken sink.new, W.failures sink.new) result }
+{
+    match write_parts(b"cannot read ", file.as_bytes(), b"\n", sink) {
+        Ok(()) => 2,
+        Err(SinkFailed) => 2,
+    }
+}
+
+/// Writes three parts, one after the other.
+fn write_parts<W: Sink>(
+    first: &[u8],
+    second: &[u8],
+    third: &[u8],
+    sink: &mut W,
+) -> Result<(), SinkFailed>
+    ensures ok { OnOk result (Appends (W.taken sink.old) (W.taken sink.new) (first.now ++ (second.now ++ third.now))) }
+    ensures begun { OnErr result (AppendsFront (W.taken sink.old) (W.taken sink.new) (first.now ++ (second.now ++ third.now))) }
+    ensures same { OnOk result (W.failures sink.new ≡ W.failures sink.old) }
+    ensures failed { OnErr result (W.failures sink.new ≡ W.failures sink.old + 1) }
+{
+    sink.take_all(first)?;
+    sink.take_all(second)?;
+    sink.take_all(third)
+}

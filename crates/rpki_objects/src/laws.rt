@@ -1,0 +1,33 @@
+//! What the definitions say, as functions that do nothing.
+
+ghost use Rattle.std.specs.Prelude.{◌≡◌, ◌<◌, ◌++◌, ℕ, List, slice_index};
+ghost use Rattle.rpki_der.specs.declared.mode.Mode.{Mode};
+ghost use Rattle.rpki_der.specs.declared.mode.Mode.TheVariants.{Der};
+ghost use Rattle.rpki_der.specs.Grammar.{Front, IsBytes, IsUnique};
+ghost use Rattle.rpki_objects.specs.Aspa.{Aspa, AspaForm, IsAttestation};
+ghost use Rattle.rpki_objects.specs.AspaWritten.{aspa_octets};
+
+/// What a slice of octets holds is below 256.
+pub fn slices_hold_octets(octets: &[u8])
+    ensures { (i : ℕ) → slice_index octets.now i < 256 }
+{
+    let _ = octets;
+}
+
+/// At most one beginning of given octets is an ASPA content, and it says one thing.
+pub fn contents_are_unique()
+    ensures { (mode : Mode) → IsUnique (AspaForm mode) }
+{}
+
+/// Octets behind an ASPA content change nothing: they are left.
+pub fn octets_behind_a_content_are_left()
+    ensures { (octets more : List ℕ) (a : Aspa) (rest : List ℕ) → Front (AspaForm Der) octets a rest
+        → Front (AspaForm Der) (octets ++ more) a (rest ++ more) }
+{}
+
+/// What an attestation is written as is a content that says it, and no other octets are. Whatever follows, it stands at the front.
+pub fn contents_are_written()
+    ensures written { (a : Aspa) → IsAttestation a → AspaForm Der (aspa_octets a) a }
+    ensures only { (octets : List ℕ) (a : Aspa) → IsBytes octets → AspaForm Der octets a → octets ≡ aspa_octets a }
+    ensures read { (a : Aspa) (rest : List ℕ) → IsAttestation a → Front (AspaForm Der) (aspa_octets a ++ rest) a rest }
+{}

@@ -1,0 +1,6 @@
+//! Contents and runs of the program that are worked out by hand.
+
+mod contents;
+mod octets;
+mod runs;
+mod stores;

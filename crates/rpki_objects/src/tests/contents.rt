@@ -1,0 +1,122 @@
+//! Contents, read and written.
+
+use crate::asn::Asn;
+use crate::aspa::AsProviderAttestation;
+use crate::tests::octets::{
+    AS0_ALONE, AS0_BESIDE_ANOTHER, CONTENT, CONTENT_AND_MORE, CUSTOMER_AMONG_PROVIDERS,
+    CUSTOMER_AS0, NO_PROVIDER, OTHER_VERSION, SWAPPED, TWICE, WITHOUT_VERSION, make_content,
+};
+use bytes::Bytes;
+use rpki_der::{Counted, DecodeError, Encode};
+use std::alloc::Global;
+use std::test::Fail;
+
+// What is read of these octets, with memory to be had.
+fn read(alloc: Global, octets: &[u8]) -> Result<Result<AsProviderAttestation, DecodeError>, Fail> {
+    Ok(AsProviderAttestation::decode(alloc, Bytes::copy_from_slice(alloc, octets)?))
+}
+
+// Whether they are refused, for another cause than memory.
+fn is_refused(alloc: Global, octets: &[u8]) -> Result<bool, Fail> {
+    Ok(match read(alloc, octets)? {
+        Err(DecodeError::Malformed) | Err(DecodeError::Content(_)) => true,
+        Err(DecodeError::Memory) | Ok(_) => false,
+    })
+}
+
+#[test]
+fn a_content_is_read(rt: HostRuntime) -> Result<(), Fail> {
+    for octets in [CONTENT.as_slice(), CONTENT_AND_MORE.as_slice()] {
+        let content = read(rt.alloc(), octets)??;
+        assert_eq!(rt; content.customer_as().into_u32(), 15562);
+        let set = content.provider_as_set();
+        assert_eq!(rt; set.len(), 4);
+        assert!(rt; !set.is_empty());
+        let mut providers = set.iter();
+        assert_eq!(rt; providers.len(), 4);
+        assert_eq!(rt; providers.size_hint(), (4, Some(4)));
+        for number in [2914, 8283, 51088, 206238] {
+            assert_eq!(rt; providers.next(), Some(Asn::from_u32(number)));
+        }
+        assert_eq!(rt; providers.next(), None);
+        assert_eq!(rt; providers.next(), None);
+        assert_eq!(rt; providers.len(), 0);
+    }
+    Ok(())
+}
+
+#[test]
+fn a_content_is_written_again(rt: HostRuntime) -> Result<(), Fail> {
+    let content = read(rt.alloc(), &CONTENT_AND_MORE)??;
+    assert_eq!(rt; content.encode_ref().encoded_len()?, 31);
+    let octets = content.encode_ref().to_bytes(rt.alloc())?;
+    assert_eq!(rt; octets.as_slice(), CONTENT.as_slice());
+    let mut sink = Counted::new(Vec::new(rt.alloc()));
+    content.encode_ref().write_to(&mut sink)?;
+    assert_eq!(rt; sink.inner.as_slice(), CONTENT.as_slice());
+    Ok(())
+}
+
+#[test]
+fn each_cut_is_refused(rt: HostRuntime) -> Result<(), Fail> {
+    for n in 0..CONTENT.len() {
+        assert!(rt; is_refused(rt.alloc(), &CONTENT[..n])?, "at {n}");
+    }
+    Ok(())
+}
+
+#[test]
+fn other_contents_are_refused(rt: HostRuntime) -> Result<(), Fail> {
+    let all = [
+        WITHOUT_VERSION.as_slice(),
+        OTHER_VERSION.as_slice(),
+        CUSTOMER_AS0.as_slice(),
+        AS0_BESIDE_ANOTHER.as_slice(),
+        SWAPPED.as_slice(),
+        TWICE.as_slice(),
+        CUSTOMER_AMONG_PROVIDERS.as_slice(),
+        NO_PROVIDER.as_slice(),
+    ];
+    for octets in all {
+        assert!(rt; is_refused(rt.alloc(), octets)?);
+    }
+    Ok(())
+}
+
+#[test]
+fn as0_may_stand_alone(rt: HostRuntime) -> Result<(), Fail> {
+    let content = read(rt.alloc(), &AS0_ALONE)??;
+    let mut providers = content.provider_as_set().iter();
+    assert_eq!(rt; providers.next(), Some(Asn::from_u32(0)));
+    assert_eq!(rt; providers.next(), None);
+    Ok(())
+}
+
+#[test]
+fn providers_are_counted(rt: HostRuntime) -> Result<(), Fail> {
+    for count in [9_999, 10_000] {
+        let octets = make_content(rt.alloc(), count)?;
+        let content = read(rt.alloc(), &octets)??;
+        assert_eq!(rt; content.provider_as_set().len(), count as usize);
+        let last = content.provider_as_set().iter().last();
+        assert_eq!(rt; last, Some(Asn::from_u32(u32::from(count) + 1)));
+        let again = content.encode_ref().to_bytes(rt.alloc())?;
+        assert_eq!(rt; again.as_slice(), octets.as_slice());
+    }
+    let octets = make_content(rt.alloc(), 10_001)?;
+    assert!(rt; is_refused(rt.alloc(), &octets)?);
+    Ok(())
+}
+
+#[test]
+fn a_number_is_printed(rt: HostRuntime) -> Result<(), Fail> {
+    let number = Asn::from_u32(15562);
+    let text = format!(in rt.alloc(); "{number}")?;
+    assert_eq!(rt; text.as_str(), "AS15562");
+    assert_eq!(rt; number.encoded_len()?, 4);
+    assert_eq!(rt;
+        number.to_bytes(rt.alloc())?.as_slice(),
+        [2, 2, 0x3C, 0xCA].as_slice()
+    );
+    Ok(())
+}
