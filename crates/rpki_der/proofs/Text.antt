@@ -1,12 +1,12 @@
 -- The text of an OBJECT IDENTIFIER.
-use Rattle.std.proofs.Common.{◌≡◌, ℕ, zero, suc, ◌+◌, ◌*◌, ◌-◌, ◌%◌, ◌^◌, ◌<◌, ◌≤◌, Bool, true, false, cond, ltb, List, [], ◌∷◌, ◌++◌, length, Option, Some, None, refl, sym, ap, subst, ◌∙◌, arith, inl, inr, get_or, append_assoc}
-use Rattle.std.specs.Prelude.{◌&&◌, ◌⊎◌, nat_lt, decimal, codes}
+use Rattle.std.proofs.Common.{◌≡◌, ℕ, zero, suc, ◌+◌, ◌*◌, ◌-◌, ◌%◌, ◌^◌, ◌<◌, ◌≤◌, Bool, true, false, ltb, List, [], ◌∷◌, ◌++◌, length, Option, Some, None, refl, sym, ap, subst, ◌∙◌, arith, inl, inr, get_or, append_assoc}
+use Rattle.std.specs.Prelude.{◌⊎◌, decimal}
 use Rattle.std.proofs.lemmas.Fmt.{decimal_digit}
-use Rattle.std.specs.List.{list_all, flat_map}
+use Rattle.std.specs.List.{flat_map}
 use Rattle.std.proofs.lemmas.Bool.{ltb-true, ltb-false, lt-ltb, le-ltb}
 use Rattle.rpki_der.specs.Oid.{IsOid, subidentifiers, arcs_of, arcs, point, dotted}
 use Rattle.rpki_der.specs.Arcs.{is_whole, first_below, are_small, head_text}
-use Rattle.rpki_der.proofs.Reading.Lengths.{chosen, guard_some, some_is}
+use Rattle.rpki_der.proofs.Reading.Lengths.{chosen, some_is}
 
 -- a subidentifier that was found
 pub record IsFirst (limit n : ℕ) (octets : List ℕ) (m : ℕ) (rest : List ℕ) : Type 0 where

@@ -1,10 +1,9 @@
 -- What may be there is read exactly.
-use Rattle.std.proofs.Common.{◌≡◌, ℕ, Bool, true, false, cond, List, [], ◌∷◌, ◌++◌, Option, Some, None, refl, sym, ap, ◌∙◌, subst, eq-eqb}
-use Rattle.std.specs.Prelude.{◌↔◌}
+use Rattle.std.proofs.Common.{◌≡◌, ℕ, Bool, true, false, cond, List, ◌++◌, Option, Some, None, refl, sym, ap, subst, eq-eqb}
 use Rattle.rpki_der.specs.declared.mode.Mode.{Mode}
 use Rattle.rpki_der.specs.declared.mode.Mode.TheVariants.{Der, Ber}
 use Rattle.rpki_der.specs.Read.Parse.{Parser, optional, some_of, is_next}
-use Rattle.rpki_der.specs.Grammar.{Value, Front, IsBytes, IsReading, IsOptionalReading}
+use Rattle.rpki_der.specs.Grammar.{Value, IsBytes, IsReading, IsOptionalReading}
 use Rattle.rpki_der.proofs.Reading.Lengths.{some_is}
 use Rattle.rpki_der.proofs.Reading.Scan.{shape}
 use Rattle.rpki_der.proofs.Reading.Many.{optional-some}

@@ -11,7 +11,7 @@ use std::alloc::Global;
 use std::process::Abort;
 use std::test::Fail;
 
-const LINES: &str =
+pub const LINES: &str =
     "aspa\ncustomer AS15562\nprovider AS2914\nprovider AS8283\nprovider AS51088\nprovider AS206238\n";
 
 const ASK: [&str; 3] = ["content", "aspa", "file"];

@@ -1,4 +1,4 @@
-use Rattle.std.proofs.Common.{◌∷◌, [], ◌≡◌, length}
+use Rattle.std.proofs.Common.{◌≡◌, length}
 use Rattle.std.proofs.lemmas.Result.{err_from_is_err_and, on_err_weaker}
 use Rattle.rpki_der.proofs.Writing.Taken.{AppendsFront-more, AppendsFront-after}
 use Rattle.rpki_der.proofs.encode.value.ValueEncode.put.Goals as goal

@@ -1,0 +1,10 @@
+use Rattle.std.proofs.Common.{All, rules}
+use Rattle.rpki_resources.specs.Blocks.{IsBlock}
+use Rattle.rpki_resources.specs.As.{as_range}
+use Rattle.rpki_resources.proofs.Names.{All-map}
+use Rattle.rpki_resources.proofs.asn.BlocksBuilder+Asn.extend.Goals as goal
+
+pub append-requires : goal.append-requires
+append-requires g c =
+    let each : All (λ b. IsBlock (λ n. n) (as_range b)) c.loop-block.yielded = search (rules, c.requires.ordered) in
+    rw c.loop-block.invariant (All-map as_range (IsBlock (λ n. n)) c.loop-block.yielded each)

@@ -1,0 +1,23 @@
+-- AS numbers, and blocks of them.
+use Rattle.std.specs.Prelude.{ℕ, List, ◌++◌, ◌==◌, if◌then◌else◌, codes, decimal}
+use Rattle.rpki_resources.specs.declared.block.Block.{Block}
+use Rattle.rpki_resources.specs.declared.asn.AsBlock.{AsBlock}
+use Rattle.rpki_resources.specs.declared.asn.AsBlock.TheVariants.{Id, Range}
+
+-- how a block is named: one number by itself
+abbrev pub as_block : Block ℕ → AsBlock
+as_block b = if b.min == b.max then Id b.min else Range b.min b.max
+
+-- the numbers of which a name speaks
+abbrev pub as_range : AsBlock → Block ℕ
+as_range (Id n) = record { min = n; max = n }
+as_range (Range a b) = record { min = a; max = b }
+
+-- AS15562
+abbrev pub asn_text : ℕ → List ℕ
+asn_text n = codes "AS" ++ decimal n
+
+-- AS10, or AS10-AS20
+abbrev pub as_block_text : AsBlock → List ℕ
+as_block_text (Id n) = asn_text n
+as_block_text (Range a b) = asn_text a ++ (codes "-" ++ asn_text b)

@@ -1,0 +1,55 @@
+use Rattle.std.specs.Prelude.{◌≡◌, ℕ, ◌+◌, ◌≤◌, List, [], ◌∷◌, ◌++◌, Bool, nat_le, ◌&&◌, ◌||◌, IsTrue, if◌then◌else◌}
+use Rattle.std.specs.List.{list_any}
+use Rattle.rpki_resources.specs.declared.block.Block.{Block}
+
+-- whether a number is one from lo to hi
+unfoldable pub is_between : ℕ → ℕ → ℕ → Bool
+is_between lo hi n = nat_le lo n && nat_le n hi
+
+-- whether a number lies in a block
+abbrev pub within : {T : Type 0} → (T → ℕ) → ℕ → Block T → Bool
+within f n b = is_between (f b.min) (f b.max) n
+
+-- whether a number lies in one of the blocks
+abbrev pub holds : {T : Type 0} → (T → ℕ) → List (Block T) → ℕ → Bool
+holds f bs n = list_any (within f n) bs
+
+abbrev pub Holds : {T : Type 0} → (T → ℕ) → List (Block T) → ℕ → Type 0
+Holds f bs n = IsTrue (holds f bs n)
+
+-- each number of the second set is in the first
+abbrev pub Covers : {T : Type 0} → (T → ℕ) → List (Block T) → List (Block T) → Type 0
+Covers f outer inner = (n : ℕ) → Holds f inner n → Holds f outer n
+
+-- The blocks ascend from a number on. None is empty, and a number at least lies between two of them.
+abbrev pub RisesFrom : {T : Type 0} → (T → ℕ) → ℕ → List (Block T) → Type 0
+RisesFrom f a [] = Unit {0}
+RisesFrom f a (b ∷ bs) = (a ≤ f b.min) × (f b.min ≤ f b.max) × RisesFrom f (f b.max + 2) bs
+
+abbrev pub IsCanonical : {T : Type 0} → (T → ℕ) → List (Block T) → Type 0
+IsCanonical f bs = RisesFrom f 0 bs
+
+-- the lower end is not above the upper end
+abbrev pub IsBlock : {T : Type 0} → (T → ℕ) → Block T → Type 0
+IsBlock f b = f b.min ≤ f b.max
+
+-- the blocks, and one more, if it isn't empty
+abbrev pub with_piece : {T : Type 0} → (T → ℕ) → List (Block T) → T → T → List (Block T)
+with_piece f bs lo hi = if nat_le (f lo) (f hi) then bs ++ record { min = lo; max = hi } ∷ [] else bs
+
+-- the same numbers
+abbrev pub SameSet : {T : Type 0} → (T → ℕ) → List (Block T) → List (Block T) → Type 0
+SameSet f xs ys = (n : ℕ) → holds f xs n ≡ holds f ys n
+
+-- the numbers in both
+abbrev pub IsIntersection : {T : Type 0} → (T → ℕ) → List (Block T) → List (Block T) → List (Block T) → Type 0
+IsIntersection f xs ys zs = (n : ℕ) → holds f zs n ≡ (holds f xs n && holds f ys n)
+
+-- the numbers in one or both
+abbrev pub IsUnion : {T : Type 0} → (T → ℕ) → List (Block T) → List (Block T) → List (Block T) → Type 0
+IsUnion f xs ys zs = (n : ℕ) → holds f zs n ≡ (holds f xs n || holds f ys n)
+
+-- the sorted, joined blocks of the numbers in these blocks
+pub record IsSetOf (list set : List (Block ℕ)) : Type 0 where
+  pub canonical : IsCanonical (λ n. n) set
+  pub same : SameSet (λ n. n) set list

@@ -1,0 +1,54 @@
+//! What the definitions of the octets and of the texts of sets say: laws, as functions that do nothing.
+
+ghost use Rattle.std.specs.Prelude.{◌≡◌, ◌+◌, ◌<◌, ◌≤◌, ◌^◌, ℕ, List, ◌++◌, All, Some, length, take, drop, codes};
+ghost use Rattle.std.specs.List.{flat_map};
+ghost use Rattle.std.specs.Net.Text.{groups_text, hex_groups_text, zero_run};
+ghost use Rattle.rpki_der.specs.declared.mode.Mode.{Mode};
+ghost use Rattle.rpki_der.specs.declared.mode.Mode.TheVariants.{Der};
+ghost use Rattle.rpki_der.specs.Grammar.{IsReading};
+ghost use Rattle.rpki_der.specs.Written.{value_octets};
+ghost use Rattle.rpki_resources.specs.declared.block.Block.{Block};
+ghost use Rattle.rpki_resources.specs.declared.family.AddressFamily.{AddressFamily};
+ghost use Rattle.rpki_resources.specs.Blocks.{IsCanonical};
+ghost use Rattle.rpki_resources.specs.Family.{max_bits};
+ghost use Rattle.rpki_resources.specs.FamilyForm.{FamilyForm, family_at};
+ghost use Rattle.rpki_resources.specs.AsForm.{AsForm};
+ghost use Rattle.rpki_resources.specs.AsRead.{as_blocks_at};
+ghost use Rattle.rpki_resources.specs.AsWritten.{as_octets};
+ghost use Rattle.rpki_resources.specs.IpForm.{IpForm};
+ghost use Rattle.rpki_resources.specs.IpRead.{ip_blocks_at};
+ghost use Rattle.rpki_resources.specs.Shortened.{IsShortened};
+
+/// Reading a set of AS numbers is exact and unique, and one in DER is the same one in BER.
+pub fn as_sets()
+    ensures { IsReading as_blocks_at AsForm }
+{}
+
+/// So is reading a set of addresses.
+pub fn ip_sets()
+    ensures { (family : AddressFamily) → IsReading (ip_blocks_at (max_bits family)) (IpForm family) }
+{}
+
+/// So is reading a family.
+pub fn families()
+    ensures { IsReading family_at FamilyForm }
+{}
+
+/// A set of AS numbers is written in DER, and read again.
+pub fn as_sets_are_written()
+    ensures written { (set : List (Block ℕ)) → IsCanonical (λ n. n) set → All (λ b. b.max < 2 ^ 32) set
+        → length (flat_map as_octets set) < 2 ^ 32 → AsForm Der (value_octets 48 (flat_map as_octets set)) set }
+    ensures read { (set : List (Block ℕ)) (rest : List ℕ) → IsCanonical (λ n. n) set → All (λ b. b.max < 2 ^ 32) set
+        → length (flat_map as_octets set) < 2 ^ 32
+        → as_blocks_at Der (value_octets 48 (flat_map as_octets set) ++ rest) ≡ Some (set, rest) }
+{}
+
+/// In the text of an IPv6 address the longest run of two or more zero groups, and of the longest
+/// ones the first, is written as two colons (RFC 5952, section 4.2). Without such a run all groups
+/// are written.
+pub fn ipv6_texts()
+    ensures shortened { (groups : List ℕ) (start len : ℕ) → IsShortened groups start len
+        → hex_groups_text groups ≡ groups_text (take start groups) ++ codes "::" ++ groups_text (drop (start + len) groups) }
+    ensures whole { (groups : List ℕ) → ((start : ℕ) → zero_run (drop start groups) ≤ 1)
+        → hex_groups_text groups ≡ groups_text groups }
+{}

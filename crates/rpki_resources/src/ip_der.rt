@@ -1,0 +1,348 @@
+//! Sets of addresses in DER and BER (RFC 3779, section 2.2.3).
+
+ghost use Rattle.std.specs.Prelude.{◌≡◌, ◌<◌, ◌≤◌, ◌^◌, ◌*◌, ◌+◌, ◌-◌, ℕ, List, IfOk, IfSome, All, None, length};
+ghost use Rattle.rpki_der.specs.Read.Parse.{many, number, bits_of, Finds};
+ghost use Rattle.rpki_der.specs.Read.Reads.{Reads, OkOrMemory};
+ghost use Rattle.rpki_der.specs.Grammar.{Front, IsBytes};
+ghost use Rattle.rpki_resources.specs.declared.block.Block.{Block};
+ghost use Rattle.rpki_resources.specs.Blocks.{IsBlock};
+ghost use Rattle.rpki_resources.specs.Family.{max_bits};
+ghost use Rattle.rpki_resources.specs.Joined.{joined};
+ghost use Rattle.rpki_resources.specs.IpForm.{IpForm, bit_count, lowest, highest};
+ghost use Rattle.rpki_der.specs.Parts.{contents_small};
+ghost use Rattle.rpki_resources.specs.Prefix.{prefix_len};
+ghost use Rattle.rpki_resources.specs.IpWritten.{octet_count, first_bits, end_octets, lower_len, upper_len, tag_by, ip_contents, ip_octets};
+ghost use Rattle.rpki_resources.specs.IpRead.{ip_address_at, ip_ends_at, prefix_of, ip_prefix_at, ip_item_at, ip_items_at, ip_blocks_at, spanned};
+
+use crate::addr::Addr;
+use crate::block::Block;
+use crate::blocks::Blocks;
+use crate::family::AddressFamily;
+use crate::ip::IpBlocks;
+use crate::prefix::{host_mask, len_of};
+use rpki_der::encode::{Elements, bit_string, each, sequence};
+use rpki_der::{BitString, Constructed, DecodeError, Encode, EncodeError, Sink, SinkFailed, Tag};
+use std::alloc::{AllocError, Global};
+
+// The number with these digits to base 256.
+fn value_of(octets: &[u8]) -> u128
+    requires { length octets.now ≤ 16 }
+    ensures value { result ≡ number 0 octets.now }
+    ensures small { result < 2 ^ (8 * length octets.now) }
+{
+    let mut value = 0u128;
+    for octet in octets {
+        value = value * 256 + u128::from(*octet);
+    }
+    value
+}
+
+// How many bits are in octets without so many of the last one.
+fn bit_count(octets: &[u8], unused: u8) -> u128
+    ensures { result ≡ bit_count (octets.now, unused) }
+{
+    (8 * octets.len() as u128).saturating_sub(u128::from(unused))
+}
+
+// The lowest address that begins with these bits.
+fn lowest_of(octets: &[u8], unused: u8) -> u128
+    requires few { unused < 8 }
+    requires most { bit_count (octets.now, unused) ≤ 128 }
+    ensures value { result ≡ lowest (octets.now, unused) }
+    ensures room { result + 2 ^ (128 - bit_count (octets.now, unused)) ≤ 2 ^ 128 }
+{
+    let len = bit_count(octets, unused) as u8;
+    let value = value_of(octets) >> unused;
+    if len == 0 { 0 } else { value << (128 - len) }
+}
+
+// The highest one.
+fn highest_of(octets: &[u8], unused: u8) -> u128
+    requires few { unused < 8 }
+    requires most { bit_count (octets.now, unused) ≤ 128 }
+    ensures { result ≡ highest (octets.now, unused) }
+{
+    lowest_of(octets, unused) + host_mask(bit_count(octets, unused) as u8)
+}
+
+// The octets of a BIT STRING with these contents, and how many bits of the last one are not used.
+#[tactic(auto, unfolding(rpki_der::specs::Read::Parse::bits_of))]
+fn bits_in(contents: &[u8]) -> Option<(&[u8], u8)>
+    ensures found { Finds (λ bits. (bits.0.now, bits.1)) result (bits_of contents.now) }
+    ensures few { IfSome result (λ bits. bits.1 < 8) }
+{
+    match contents {
+        [] => None,
+        [unused, octets @ ..] => {
+            if *unused > 7 || (octets.is_empty() && *unused != 0) {
+                None
+            } else {
+                Some((octets, *unused))
+            }
+        }
+    }
+}
+
+// The addresses of the prefix with these contents, of at most so many bits.
+#[tactic(auto, unfolding(crate::specs::IpRead::prefix_of))]
+fn prefix_in(contents: &[u8], most: u8) -> Option<Block<Addr>>
+    requires { most ≤ 128 }
+    ensures found { Finds (λ b. b) result (prefix_of most contents.now) }
+    ensures ordered { IfSome result (IsBlock (λ n. n)) }
+{
+    let (octets, unused) = bits_in(contents)?;
+    if bit_count(octets, unused) <= u128::from(most) {
+        Some(Block {
+            min: Addr::from_bits(lowest_of(octets, unused)),
+            max: Addr::from_bits(highest_of(octets, unused)),
+        })
+    } else {
+        None
+    }
+}
+
+// Reads the bits of an end.
+#[tactic(auto, unfolding(crate::specs::IpRead::ip_address_at))]
+fn take_address(cons: &mut Constructed<'_>, most: u8) -> Result<BitString, DecodeError>
+    ensures reads { Reads (λ bits. (bits.octets, bits.unused)) (ip_address_at most) cons.old result cons.new }
+    ensures most { IfOk result (λ bits. bit_count (bits.octets, bits.unused) ≤ most) }
+{
+    let bits = cons.take_bits()?;
+    if bit_count(bits.octets.as_slice(), bits.unused) <= u128::from(most) {
+        Ok(bits)
+    } else {
+        Err(DecodeError::Malformed)
+    }
+}
+
+// Reads the two ends of a range.
+#[tactic(auto, unfolding(crate::specs::IpRead::ip_ends_at))]
+fn take_ends(cons: &mut Constructed<'_>, most: u8) -> Result<Block<Addr>, DecodeError>
+    requires { most ≤ 128 }
+    ensures reads { Reads (λ b. b) (ip_ends_at most) cons.old result cons.new }
+    ensures ordered { IfOk result (IsBlock (λ n. n)) }
+{
+    let lower = take_address(cons, most)?;
+    let upper = take_address(cons, most)?;
+    let min = lowest_of(lower.octets.as_slice(), lower.unused);
+    let max = highest_of(upper.octets.as_slice(), upper.unused);
+    if min <= max {
+        Ok(Block {
+            min: Addr::from_bits(min),
+            max: Addr::from_bits(max),
+        })
+    } else {
+        Err(DecodeError::Malformed)
+    }
+}
+
+// Reads a prefix, if a BIT STRING is next.
+#[tactic(auto, unfolding(crate::specs::IpRead::ip_prefix_at))]
+fn take_opt_prefix(cons: &mut Constructed<'_>, most: u8) -> Result<Option<Block<Addr>>, DecodeError>
+    requires { most ≤ 128 }
+    ensures reads { Reads (λ b. b) (ip_prefix_at most) cons.old result cons.new }
+    ensures ordered { IfOk result (λ b. IfSome b (IsBlock (λ n. n))) }
+{
+    match cons.take_opt_primitive_if(Tag::BIT_STRING)? {
+        None => Ok(None),
+        Some(contents) => match prefix_in(contents.as_slice(), most) {
+            Some(block) => Ok(Some(block)),
+            None => Err(DecodeError::Malformed),
+        },
+    }
+}
+
+// Reads a range or a prefix, if one of them is next.
+fn take_opt_item(cons: &mut Constructed<'_>, most: u8) -> Result<Option<Block<Addr>>, DecodeError>
+    requires { most ≤ 128 }
+    ensures reads { Reads (λ b. b) (ip_item_at most) cons.old result cons.new }
+    ensures ordered { IfOk result (λ b. IfSome b (IsBlock (λ n. n))) }
+{
+    match cons.take_opt_sequence(|cons| take_ends(cons, most))? {
+        Some(block) => Ok(Some(block)),
+        None => take_opt_prefix(cons, most),
+    }
+}
+
+// The set of the addresses in these blocks.
+fn set_of(list: Vec<Block<Addr>>) -> Result<IpBlocks, AllocError>
+    requires { All (IsBlock (λ n. n)) list.items }
+    ensures { IfOk result (λ set. set ≡ joined list.items) }
+{
+    let set = Blocks::of(list)?;
+    let _blocks = set.as_slice();
+    Ok(set)
+}
+
+// Reads as many as there are.
+fn take_list(
+    cons: &mut Constructed<'_>,
+    alloc: Global,
+    most: u8,
+) -> Result<Vec<Block<Addr>>, DecodeError>
+    requires { most ≤ 128 }
+    ensures reads { Reads (λ list. list.items) (many (ip_item_at most)) cons.old result cons.new }
+    ensures ordered { IfOk result (λ list. All (IsBlock (λ n. n)) list.items) }
+{
+    let mut list = Vec::new(alloc);
+    while let Some(block) = take_opt_item(cons, most)? {
+        list.push(block)?;
+    }
+    Ok(list)
+}
+
+// Reads as many as there are, and makes a set of them.
+#[tactic(auto, unfolding(crate::specs::IpRead::ip_items_at))]
+fn take_items(cons: &mut Constructed<'_>, alloc: Global, most: u8) -> Result<IpBlocks, DecodeError>
+    requires { most ≤ 128 }
+    ensures { Reads (λ set. set) (ip_items_at most) cons.old result cons.new }
+{
+    let list = take_list(cons, alloc, most)?;
+    Ok(set_of(list)?)
+}
+
+// Reads a set.
+fn take_set(
+    cons: &mut Constructed<'_>,
+    alloc: Global,
+    family: AddressFamily,
+) -> Result<IpBlocks, DecodeError>
+    ensures { Reads (λ set. set) (ip_blocks_at (max_bits family)) cons.old result cons.new }
+{
+    let most = family.max_len();
+    cons.take_sequence(|cons| take_items(cons, alloc, most))
+}
+
+impl Blocks<Addr> {
+    /// Reads a set of addresses of the family: a SEQUENCE OF of prefixes and ranges, in any
+    /// order, which may overlap, and of which there may be none (RFC 3779, sections 2.2.3.6 to
+    /// 2.2.3.9). The lower end of a range above its upper end is an error, and so are more bits
+    /// than an address of the family has.
+    pub fn take_from(
+        alloc: Global,
+        cons: &mut Constructed<'_>,
+        family: AddressFamily,
+    ) -> Result<IpBlocks, DecodeError>
+        ensures reads { Reads (λ set. set) (ip_blocks_at (max_bits family)) cons.old result cons.new }
+        ensures found { IfOk result (λ set. IsBytes cons.old.rest →
+            Front (IpForm family cons.old.mode) cons.old.rest set cons.new.rest) }
+        ensures only { cons.old.failed ≡ None → (set : List (Block ℕ)) (rest : List ℕ) →
+            Front (IpForm family cons.old.mode) cons.old.rest set rest →
+            OkOrMemory result (λ read. (read ≡ set) × (cons.new.rest ≡ rest)) }
+    {
+        take_set(cons, alloc, family)
+    }
+}
+
+// The first bits of an address, so many of them.
+#[derive(Clone, Copy)]
+struct FirstBits {
+    addr: Addr,
+    len: u8,
+    ghost within: { len ≤ 128 },
+}
+
+impl FirstBits {
+    // How many octets the bits take.
+    fn octet_count(&self) -> usize
+        ensures value { result ≡ octet_count self.now.len }
+        ensures most { result ≤ 16 }
+        ensures unused { self.now.len ≤ 8 * result }
+        ensures few { 8 * result < self.now.len + 8 }
+    {
+        (self.len as usize + 7) / 8
+    }
+
+    // How many bits of the last octet are not used.
+    fn unused(&self) -> u8
+        ensures { result ≡ 8 * octet_count self.now.len - self.now.len }
+    {
+        (8 * self.octet_count() as u8).saturating_sub(self.len)
+    }
+}
+
+impl Encode for FirstBits {
+    ghost octets = { λ s. end_octets s.addr s.len };
+
+    ghost is_short = { λ s. length (first_bits s.addr s.len) < 2 ^ 32 };
+
+    ghost small = { λ s h. contents_small 3 (first_bits s.addr s.len) h };
+
+    fn encoded_len(&self) -> Result<u64, EncodeError> {
+        let octets = self.addr.to_bits().to_be_bytes();
+        bit_string(&octets[..self.octet_count()], self.unused()).encoded_len()
+    }
+
+    fn put<W: Sink>(&self, out: &mut W) -> Result<(), SinkFailed> {
+        let octets = self.addr.to_bits().to_be_bytes();
+        bit_string(&octets[..self.octet_count()], self.unused()).put(out)
+    }
+}
+
+// A lower end: the trailing zero bits are left out.
+fn lower_end(min: Addr) -> FirstBits
+    ensures addr { result.addr ≡ min }
+    ensures len { result.len ≡ lower_len min }
+{
+    FirstBits {
+        addr: min,
+        len: 128 - min.to_bits().trailing_zeros() as u8,
+    }
+}
+
+// An upper end: the trailing one bits are left out.
+fn upper_end(max: Addr) -> FirstBits
+    ensures addr { result.addr ≡ max }
+    ensures len { result.len ≡ upper_len max }
+{
+    FirstBits {
+        addr: max,
+        len: 128 - max.to_bits().trailing_ones() as u8,
+    }
+}
+
+// The bits of a prefix.
+fn prefix_bits(addr: Addr, len: u8) -> FirstBits
+    requires { len ≤ 128 }
+    ensures addr { result.addr ≡ addr }
+    ensures len { result.len ≡ len }
+{
+    FirstBits { addr, len }
+}
+
+impl Encode for Block<Addr> {
+    ghost octets = { ip_octets };
+
+    ghost is_short = { λ b. length (ip_contents b) < 2 ^ 32 };
+
+    ghost small = { λ b h. contents_small (tag_by (prefix_len b.min b.max)) (ip_contents b) h };
+
+    fn encoded_len(&self) -> Result<u64, EncodeError> {
+        match len_of(self.min.to_bits(), self.max.to_bits()) {
+            Some(len) => prefix_bits(self.min, len).encoded_len(),
+            None => sequence((lower_end(self.min), upper_end(self.max))).encoded_len(),
+        }
+    }
+
+    fn put<W: Sink>(&self, out: &mut W) -> Result<(), SinkFailed> {
+        match len_of(self.min.to_bits(), self.max.to_bits()) {
+            Some(len) => prefix_bits(self.min, len).put(out),
+            None => sequence((lower_end(self.min), upper_end(self.max))).put(out),
+        }
+    }
+}
+
+/// What writes the blocks of a set of addresses, one after another.
+pub type IpBlocksEncoder<'a> = Elements<'a, Block<Addr>>;
+
+impl Blocks<Addr> {
+    /// The contents of a SEQUENCE OF of the set of addresses of a family: the blocks in ascending
+    /// order, joined where they touch, the addresses of a prefix as a prefix. Of the other lower
+    /// ends the trailing zero bits are left out, and of the upper ends the trailing one bits, so
+    /// that both families are written alike (RFC 3779, sections 2.1 and 2.2.3.6).
+    pub fn encode_ref(&self, _family: AddressFamily) -> IpBlocksEncoder<'_>
+        ensures { result.0.now ≡ self.now }
+    {
+        each(self.as_slice())
+    }
+}

@@ -1,0 +1,40 @@
+//! Sets of AS numbers and of IP addresses, as resource certificates claim them (RFC 3779).
+//!
+//! A set is kept as its blocks, sorted and joined, and contracts see it as the list of these
+//! blocks. A number lies in the set where it lies in one of them, and two sets are equal exactly
+//! if their blocks are. One core serves AS numbers and addresses. An address is a number of 128
+//! bits, and an IPv4 address stands in the upper 32 of them.
+#![tactic(auto)]
+
+mod addr;
+mod as_der;
+mod asn;
+mod block;
+mod blocks;
+mod family;
+pub mod forms;
+mod ip;
+mod ip_der;
+mod number;
+mod prefix;
+mod resources;
+#[cfg(test)]
+mod tests;
+mod text;
+mod walks;
+
+pub use addr::Addr;
+pub use as_der::AsBlocksEncoder;
+pub use asn::{AsBlock, AsBlocks, AsBlocksBuilder, AsBlocksIter, Asn, SmallAsnSet};
+pub use block::Block;
+pub use blocks::{Blocks, BlocksBuilder, same_blocks};
+pub use family::AddressFamily;
+pub use ip::{IpBlock, IpBlocks, IpBlocksBuilder, IpBlocksIter};
+pub use ip_der::IpBlocksEncoder;
+pub use number::Number;
+pub use prefix::Prefix;
+pub use resources::{
+    AsResources, AsResourcesBuilder, BlocksError, Claim, IpResources, IpResourcesBuilder,
+    Overclaimed, Resources, ResourcesBuilder,
+};
+pub use text::{DisplayAddr, DisplayBlock, DisplayPrefix, MaxLenPrefix};

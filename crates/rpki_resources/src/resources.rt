@@ -1,0 +1,300 @@
+//! What a certificate claims of one family of numbers.
+
+ghost use Rattle.std.specs.Prelude.{◌≡◌, ℕ, ◌↔◌, List, Result, Ok, Err, IsTrue, IsOk, IfOk, OnOk, OnErr};
+ghost use Rattle.std.specs.Fn.{FnOnceReturnsAtMut};
+ghost use Rattle.std.specs.declared.alloc.AllocError.{AllocError};
+ghost use Rattle.rpki_resources.specs.declared.block.Block.{Block};
+ghost use Rattle.rpki_resources.specs.declared.resources.Claim.{Claim};
+ghost use Rattle.rpki_resources.specs.Claim.{claim_of, IsCoveredBy, HasBlocks, added, IsBuilt};
+
+use crate::addr::Addr;
+use crate::asn::{AsBlocksBuilder, Asn};
+use crate::blocks::{Blocks, BlocksBuilder};
+use crate::ip::IpBlocksBuilder;
+use crate::number::Number;
+use std::alloc::{AllocError, Global};
+use std::marker::Model;
+
+/// What is claimed of a family: nothing, what the issuer has, or these numbers (RFC 3779, sections
+/// 2.2.3.5 and 3.2.3.3).
+#[derive(Debug, Drop)]
+pub enum Claim<B> {
+    Missing,
+    Inherit,
+    Explicit(B),
+}
+
+/// The claim of a certificate for one family. One that is missing stands for the empty set.
+#[derive(Debug, Drop)]
+pub struct Resources<T: Number> {
+    claim: Claim<Blocks<T>>,
+}
+
+impl<T: Number> Model for Resources<T> {
+    ghost use Rattle.std.specs.Prelude.{List};
+    ghost use Rattle.rpki_resources.specs.declared.block.Block.{Block};
+    ghost use Rattle.rpki_resources.specs.declared.resources.Claim.{Claim};
+
+    ghost Value = { Claim (List (Block T)) };
+
+    ghost view = { λ r. r.claim };
+}
+
+/// Why a claim has no blocks.
+#[derive(Clone, Copy, Debug, PartialEq, Eq)]
+pub enum BlocksError {
+    /// The issuer alone knows them.
+    Inherit,
+    Memory,
+}
+
+/// Numbers are claimed that are not all in the resources.
+#[derive(Clone, Copy, Debug, PartialEq, Eq)]
+pub struct Overclaimed;
+
+impl<T: Number> Resources<T> {
+    /// The family is not named.
+    pub fn missing() -> Self
+        ensures { result ≡ Claim.Missing }
+    {
+        Resources {
+            claim: Claim::Missing,
+        }
+    }
+
+    /// The numbers are those of the issuer.
+    pub fn inherit() -> Self
+        ensures { result ≡ Claim.Inherit }
+    {
+        Resources {
+            claim: Claim::Inherit,
+        }
+    }
+
+    /// These numbers. Where there is none the family is missing.
+    pub fn blocks(blocks: Blocks<T>) -> Self
+        ensures { result ≡ claim_of blocks }
+    {
+        if blocks.is_empty() {
+            Resources::missing()
+        } else {
+            Resources::explicit(blocks)
+        }
+    }
+
+    /// These numbers, and the family is named even where there is none.
+    pub fn explicit(blocks: Blocks<T>) -> Self
+        ensures { result ≡ Claim.Explicit blocks }
+    {
+        Resources {
+            claim: Claim::Explicit(blocks),
+        }
+    }
+
+    /// Whether the family is not named.
+    pub fn is_missing(&self) -> bool
+        ensures { IsTrue result ↔ (self.now ≡ Claim.Missing) }
+    {
+        match &self.claim {
+            Claim::Missing => true,
+            Claim::Inherit => false,
+            Claim::Explicit(_) => false,
+        }
+    }
+
+    /// Whether the numbers are those of the issuer.
+    pub fn is_inherited(&self) -> bool
+        ensures { IsTrue result ↔ (self.now ≡ Claim.Inherit) }
+    {
+        match &self.claim {
+            Claim::Missing => false,
+            Claim::Inherit => true,
+            Claim::Explicit(_) => false,
+        }
+    }
+
+    /// Whether the family is named.
+    pub fn is_present(&self) -> bool
+        ensures { IsTrue result ↔ ¬ (self.now ≡ Claim.Missing) }
+    {
+        !self.is_missing()
+    }
+
+    /// The blocks: none where the family is missing. What is inherited has no blocks here.
+    pub fn to_blocks(&self, alloc: Global) -> Result<Blocks<T>, BlocksError>
+        ensures blocks { IfOk result (HasBlocks self.now) }
+        ensures inherit { (result ≡ Err BlocksError.Inherit) ↔ (self.now ≡ Claim.Inherit) }
+    {
+        match &self.claim {
+            Claim::Missing => Ok(Blocks::new(alloc)),
+            Claim::Inherit => Err(BlocksError::Inherit),
+            Claim::Explicit(blocks) => match blocks.clone() {
+                Ok(blocks) => Ok(blocks),
+                Err(_) => Err(BlocksError::Memory),
+            },
+        }
+    }
+}
+
+impl<T: Number> Clone for Resources<T> {
+    ghost use Rattle.std.specs.Prelude.{◌≡◌};
+
+    ghost is_clone = { λ x y. y ≡ x };
+
+    fn clone(&self) -> Result<Self, AllocError>
+        ensures { IfOk result (λ y. y ≡ self.now) }
+    {
+        match &self.claim {
+            Claim::Missing => Ok(Resources::missing()),
+            Claim::Inherit => Ok(Resources::inherit()),
+            Claim::Explicit(blocks) => Ok(Resources::explicit(blocks.clone()?)),
+        }
+    }
+}
+
+impl<T: Number> Blocks<T> {
+    /// Whether the resources have each of these numbers. What is inherited has all of them, and a
+    /// family that is missing has none.
+    pub fn verify_covered(&self, resources: &Resources<T>) -> Result<(), Overclaimed>
+        ensures { IsOk result ↔ IsCoveredBy T.number resources.now self.now }
+    {
+        let covered = match &resources.claim {
+            Claim::Missing => self.is_empty(),
+            Claim::Inherit => true,
+            Claim::Explicit(blocks) => blocks.contains(self),
+        };
+        if covered { Ok(()) } else { Err(Overclaimed) }
+    }
+}
+
+/// What builds the claim of a family. It is missing until it is inherited or has blocks.
+#[derive(Debug, Drop)]
+pub struct ResourcesBuilder<T: Number> {
+    alloc: Global,
+    claim: Claim<BlocksBuilder<T>>,
+}
+
+impl<T: Number> Model for ResourcesBuilder<T> {
+    ghost use Rattle.std.specs.Prelude.{List};
+    ghost use Rattle.rpki_resources.specs.declared.block.Block.{Block};
+    ghost use Rattle.rpki_resources.specs.declared.resources.Claim.{Claim};
+
+    ghost Value = { Claim (List (Block T)) };
+
+    ghost view = { λ b. b.claim };
+}
+
+impl<T: Number> ResourcesBuilder<T> {
+    /// A builder of a claim that is missing.
+    pub fn new(alloc: Global) -> Self
+        ensures { result ≡ Claim.Missing }
+    {
+        ResourcesBuilder {
+            alloc,
+            claim: Claim::Missing,
+        }
+    }
+
+    /// The numbers are those of the issuer, and blocks that were added are dropped.
+    pub fn inherit(&mut self)
+        ensures { self.new ≡ Claim.Inherit }
+    {
+        self.claim = Claim::Inherit;
+    }
+
+    // A copy of the blocks that were added.
+    fn added(&self) -> Result<BlocksBuilder<T>, AllocError>
+        ensures { IfOk result (λ blocks. blocks ≡ added self.now) }
+    {
+        match &self.claim {
+            Claim::Missing => Ok(BlocksBuilder::new(self.alloc)),
+            Claim::Inherit => Ok(BlocksBuilder::new(self.alloc)),
+            Claim::Explicit(blocks) => blocks.clone(),
+        }
+    }
+
+    /// The claim: of the blocks that were added it is the set of their numbers, and missing where
+    /// there is none.
+    pub fn finalize(self) -> Result<Resources<T>, AllocError>
+        ensures { IfOk result (IsBuilt T.number self) }
+    {
+        let ResourcesBuilder { alloc: _, claim } = self;
+        match claim {
+            Claim::Missing => Ok(Resources::missing()),
+            Claim::Inherit => Ok(Resources::inherit()),
+            Claim::Explicit(blocks) => Ok(Resources::blocks(blocks.finalize()?)),
+        }
+    }
+}
+
+impl ResourcesBuilder<Asn> {
+    /// Adds the blocks that `op` adds to those that are there. What was inherited is inherited no
+    /// longer. Where `op` answers an error, or there is no memory to call it, the builder stays as
+    /// it was.
+    pub fn blocks<F: FnOnce(&mut AsBlocksBuilder) -> Result<(), AllocError>>(
+        &mut self,
+        op: F,
+    ) -> Result<(), AllocError>
+        requires { F.IsAlwaysCallable op }
+        ensures ok { OnOk result ((after : List (Block ℕ)) ×
+            FnOnceReturnsAtMut F.FnOnce op (added self.old) (Ok tt) after × (self.new ≡ Claim.Explicit after)) }
+        ensures err { OnErr result (self.new ≡ self.old) }
+    {
+        let mut next = self.added()?;
+        op(&mut next)?;
+        self.claim = Claim::Explicit(next);
+        Ok(())
+    }
+}
+
+impl ResourcesBuilder<Addr> {
+    /// Adds the blocks that `op` adds to those that are there. What was inherited is inherited no
+    /// longer. Where `op` answers an error, or there is no memory to call it, the builder stays as
+    /// it was.
+    pub fn blocks<F: FnOnce(&mut IpBlocksBuilder) -> Result<(), AllocError>>(
+        &mut self,
+        op: F,
+    ) -> Result<(), AllocError>
+        requires { F.IsAlwaysCallable op }
+        ensures ok { OnOk result ((after : List (Block ℕ)) ×
+            FnOnceReturnsAtMut F.FnOnce op (added self.old) (Ok tt) after × (self.new ≡ Claim.Explicit after)) }
+        ensures err { OnErr result (self.new ≡ self.old) }
+    {
+        let mut next = self.added()?;
+        op(&mut next)?;
+        self.claim = Claim::Explicit(next);
+        Ok(())
+    }
+}
+
+impl<T: Number> Clone for ResourcesBuilder<T> {
+    ghost use Rattle.std.specs.Prelude.{◌≡◌};
+
+    ghost is_clone = { λ x y. y ≡ x };
+
+    fn clone(&self) -> Result<Self, AllocError>
+        ensures { IfOk result (λ y. y ≡ self.now) }
+    {
+        let claim = match &self.claim {
+            Claim::Missing => Claim::Missing,
+            Claim::Inherit => Claim::Inherit,
+            Claim::Explicit(blocks) => Claim::Explicit(blocks.clone()?),
+        };
+        Ok(ResourcesBuilder {
+            alloc: self.alloc,
+            claim,
+        })
+    }
+}
+
+/// What is claimed of AS numbers.
+pub type AsResources = Resources<Asn>;
+
+/// What builds a claim of AS numbers.
+pub type AsResourcesBuilder = ResourcesBuilder<Asn>;
+
+/// What is claimed of the addresses of a family.
+pub type IpResources = Resources<Addr>;
+
+/// What builds a claim of addresses.
+pub type IpResourcesBuilder = ResourcesBuilder<Addr>;

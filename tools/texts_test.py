@@ -1,0 +1,73 @@
+#!/usr/bin/env python3
+"""Writes a test of the crate's texts against the 10,000 rows of addresses.py.
+
+    tools/texts_test.py FOLDER
+
+FOLDER is a copy of the crate rpki_resources, whose src/tests.rt is replaced; `rt try --test` there
+compares the texts of the addresses and of the prefixes with Python's.
+"""
+import pathlib
+import subprocess
+import sys
+
+HERE = pathlib.Path(__file__).parent
+HEAD = '''//! Rows of texts.
+
+use crate::{Addr, AddressFamily, Prefix};
+use std::alloc::Global;
+use std::test::Fail;
+
+fn compare(alloc: Global, rows: &str) -> Result<(u32, u32), Fail> {
+    let mut good = 0;
+    let mut all = 0;
+    for row in rows.split(';') {
+        let mut words = row.split_whitespace();
+        let family = match words.next() {
+            Some("4") => AddressFamily::Ipv4,
+            _ => AddressFamily::Ipv6,
+        };
+        let bits = match u128::from_str_radix(words.next().unwrap_or(""), 16) {
+            Ok(bits) => bits,
+            Err(_) => 0,
+        };
+        let len = match words.next().unwrap_or("").parse::<u8>() {
+            Ok(len) => len,
+            Err(_) => 0,
+        };
+        let want_prefix = words.next().unwrap_or("");
+        let want = words.next().unwrap_or("");
+        let addr = Addr::from_bits(bits).display(family);
+        let text = format!(in alloc; "{addr}")?;
+        all += 1;
+        if len <= 128 {
+            let prefix = Prefix::new(Addr::from_bits(bits), len).display(family);
+            let prefix_text = format!(in alloc; "{prefix}")?;
+            if text.as_str() == want && prefix_text.as_str() == want_prefix {
+                good += 1;
+            }
+        }
+    }
+    Ok((good, all))
+}
+'''
+
+
+def main():
+    rows = subprocess.run([sys.executable, HERE / "addresses.py", "rows"], capture_output=True, text=True, check=True)
+    rows = rows.stdout.splitlines()
+    parts = [rows[i:i + 500] for i in range(0, len(rows), 500)]
+    text = HEAD
+    for number, part in enumerate(parts):
+        text += f'''
+#[test]
+fn rows_{number}(rt: HostRuntime) -> Result<(), Fail> {{
+    assert_eq!(rt; compare(rt.alloc(), ROWS_{number})?, ({len(part)}, {len(part)}));
+    Ok(())
+}}
+
+const ROWS_{number}: &str = "{';'.join(part)}";
+'''
+    (pathlib.Path(sys.argv[1]) / "src" / "tests.rt").write_text(text)
+
+
+main()
