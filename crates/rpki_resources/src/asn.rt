@@ -11,6 +11,8 @@ use crate::block::Block;
 use crate::blocks::{Blocks, BlocksBuilder};
 use crate::number::Number;
 use crate::walks::covers;
+use rpki_der::encode::integer;
+use rpki_der::{Encode, EncodeError, Sink, SinkFailed};
 use std::alloc::AllocError;
 use std::fmt;
 use std::marker::Model;
@@ -37,6 +39,7 @@ impl Asn {
     pub const MAX: Asn = Asn(u32::MAX);
 
     /// The AS number of this value.
+    #[inline(always)]
     pub fn from_u32(value: u32) -> Asn
         ensures { result ≡ value }
     {
@@ -44,6 +47,7 @@ impl Asn {
     }
 
     /// The value of the AS number.
+    #[inline(always)]
     pub fn into_u32(self) -> u32
         ensures { result ≡ self }
     {
@@ -71,6 +75,30 @@ impl fmt::Display for Asn {
     fn fmt<W: fmt::Write>(&self, f: &mut fmt::Formatter<W>) -> fmt::Result {
         let number = self.0;
         write!(f, "AS{number}")
+    }
+}
+
+/// An INTEGER (X.690, section 8.3).
+impl Encode for Asn {
+    ghost use Rattle.std.specs.Prelude.{◌<◌, ◌^◌, length};
+    ghost use Rattle.rpki_der.specs.Written.{number_octets};
+    ghost use Rattle.rpki_der.specs.Parts.{contents_small};
+    ghost use Rattle.rpki_resources.specs.As.{asn_contents};
+
+    ghost octets = { number_octets };
+
+    ghost is_short = { λ a. length (asn_contents a) < 2 ^ 32 };
+
+    ghost small = { λ a h. contents_small 2 (asn_contents a) h };
+
+    #[inline(always)]
+    fn encoded_len(&self) -> Result<u64, EncodeError> {
+        integer(self.0).encoded_len()
+    }
+
+    #[inline(always)]
+    fn put<W: Sink>(&self, out: &mut W) -> Result<(), SinkFailed> {
+        integer(self.0).put(out)
     }
 }
 
