@@ -13,7 +13,7 @@ use Rattle.rpki_der.proofs.Reading.Many.{Shortens-optional}
 use Rattle.rpki_der.proofs.Reading.Lists.{exact-many, begins-within}
 use Rattle.rpki_objects.proofs.Providers.{test-sound, test-complete, not-true, not-is}
 use Rattle.rpki_objects.proofs.Tested.{exact-tested}
-use Rattle.rpki_objects.specs.Asn.{IsAsn}
+use Rattle.rpki_resources.specs.As.{IsAsn}
 use Rattle.rpki_objects.specs.Aspa.{Aspa, IsAttestation, AsnForm, AspaForm}
 use Rattle.rpki_objects.specs.AspaRead.{are_providers, providers_at, fields_at}
 

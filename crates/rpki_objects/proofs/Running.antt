@@ -1,5 +1,5 @@
 -- What a run of the program does, from what it answers.
-use Rattle.std.proofs.Common.{◌≡◌, ℕ, List, Option, Some, None, Result, Ok, Err, Vec, Global, sym, subst, ◌∙◌, codes, inl, inr}
+use Rattle.std.proofs.Common.{◌≡◌, ℕ, List, [], ◌∷◌, Option, Some, None, Result, Ok, Err, Vec, Global, refl, sym, subst, ◌∙◌, codes, inl, inr}
 use Rattle.std.specs.Prelude.{◌⊎◌}
 use Rattle.rpki_der.specs.declared.mode.Mode.TheVariants.{Der}
 use Rattle.rpki_der.specs.Grammar.{Front, IsUnique}
@@ -102,3 +102,25 @@ run-said told words answer run is said = record {
       (of-octets file octets a.0 answer (subst (λ (t : Option (Option (List ℕ))). IsRead t a.0) tells a.1) a.2);
   answered = (answer, is, said);
 }
+
+-- ---- a run that never came to its words
+
+memory-read : (told : Option (Option (List ℕ))) → IsRead told (Err Memory)
+memory-read None = tt
+memory-read (Some None) = tt
+memory-read (Some (Some octets)) = tt
+
+-- want of memory is an answer to some words
+pub memory-run : (told : Told) (run : Run) → IsSaid OutOfMemory run → (words : List (List ℕ)) × IsRunOf told words run
+memory-run told run s =
+    let file = codes "file" in
+    let words = codes "content" ∷ codes "aspa" ∷ file ∷ [] in
+    let asked : AskForAspa words file = (refl, λ e. cc) in
+    let answered : IsAspaAnswer (told file) file OutOfMemory = (Err Memory, memory-read (told file), refl) in
+    (words, run-said told words OutOfMemory run (inl (file, asked, answered)) s)
+
+-- the usage is the answer to no words
+pub usage-run : (told : Told) (run : Run) → IsSaid Usage run → (words : List (List ℕ)) × IsRunOf told words run
+usage-run told run s =
+    let nothing : AskForNothing [] = λ file asked. let e = asked.0 in cc in
+    ([], run-said told [] Usage run (inr (nothing, refl)) s)

@@ -15,9 +15,9 @@ use Rattle.rpki_der.proofs.Writing.Leaves.{within-written}
 use Rattle.rpki_der.proofs.Writing.Lengths.{test, value-written, value-unique}
 use Rattle.rpki_der.proofs.Writing.Numbers.{length-integer_contents}
 use Rattle.rpki_der.proofs.Writing.Values.{number-in, number-written}
-use Rattle.rpki_objects.specs.Asn.{IsAsn}
+use Rattle.rpki_resources.specs.As.{IsAsn, asn_contents}
 use Rattle.rpki_objects.specs.Aspa.{Aspa, IsAttestation, AsnForm, AspaForm}
-use Rattle.rpki_objects.specs.AspaWritten.{number_contents, providers_octets, aspa_contents, aspa_octets}
+use Rattle.rpki_objects.specs.AspaWritten.{providers_octets, aspa_contents, aspa_octets}
 
 -- ---- the contents of an INTEGER
 
@@ -47,7 +47,7 @@ bytes-are a b c d n ha hb hc hd e =
     let pd : d ≡ n % 256 = omega arith in
     rw (← pa, ← pb, ← pc, ← pd) refl
 
-five-unique : (b c d e n : ℕ) → IsBytes (b ∷ c ∷ d ∷ e ∷ []) → IsInteger (0 ∷ b ∷ c ∷ d ∷ e ∷ []) n → 0 ∷ b ∷ c ∷ d ∷ e ∷ [] ≡ number_contents n
+five-unique : (b c d e n : ℕ) → IsBytes (b ∷ c ∷ d ∷ e ∷ []) → IsInteger (0 ∷ b ∷ c ∷ d ∷ e ∷ []) n → 0 ∷ b ∷ c ∷ d ∷ e ∷ [] ≡ asn_contents n
 five-unique b c d e n bytes h =
     sym (ap integer_contents (bytes-are b c d e n bytes.0 bytes.1.0 bytes.1.1.0 bytes.1.1.1.0 (omega (arith, h.2))) ∙ own-contents (0 ∷ b ∷ c ∷ d ∷ e ∷ []) n h)
 
@@ -55,7 +55,7 @@ number-grows : (ds : List ℕ) (n : ℕ) → n ≤ number n ds
 number-grows [] n = omega arith
 number-grows (d ∷ ds) n = let h = number-grows ds (n * 256 + d) in omega (arith, h)
 
-contents-unique : (c : List ℕ) (n : ℕ) → IsBytes c → IsInteger c n → n < 2 ^ 32 → c ≡ number_contents n
+contents-unique : (c : List ℕ) (n : ℕ) → IsBytes c → IsInteger c n → n < 2 ^ 32 → c ≡ asn_contents n
 contents-unique [] n bytes h lt = absurd h
 contents-unique (a ∷ []) n bytes h lt =
     sym (ap integer_contents (bytes-are 0 0 0 a n (omega arith) (omega arith) (omega arith) bytes.0 (omega (arith, h.1))) ∙ own-contents (a ∷ []) n h)
@@ -67,7 +67,7 @@ contents-unique (a ∷ b ∷ c ∷ d ∷ []) n bytes h lt =
     sym (ap integer_contents (bytes-are a b c d n bytes.0 bytes.1.0 bytes.1.1.0 bytes.1.1.1.0 (omega (arith, h.2))) ∙ own-contents (a ∷ b ∷ c ∷ d ∷ []) n h)
 contents-unique (a ∷ b ∷ c ∷ d ∷ e ∷ []) n bytes h lt =
     let zero-is : a ≡ 0 = omega (arith, h.2) in
-    let same : List ℕ → Type 0 = λ o. o ≡ number_contents n in
+    let same : List ℕ → Type 0 = λ o. o ≡ asn_contents n in
     let given : IsInteger (0 ∷ b ∷ c ∷ d ∷ e ∷ []) n = subst (λ (x : ℕ). IsInteger (x ∷ b ∷ c ∷ d ∷ e ∷ []) n) zero-is h in
     subst (λ (x : ℕ). same (x ∷ b ∷ c ∷ d ∷ e ∷ [])) (sym zero-is) (five-unique b c d e n bytes.1 given)
 contents-unique (a ∷ b ∷ c ∷ d ∷ e ∷ f ∷ ds) n bytes h lt =
@@ -79,11 +79,11 @@ contents-unique (a ∷ b ∷ c ∷ d ∷ e ∷ f ∷ ds) n bytes h lt =
 
 -- ---- how many octets there are
 
-length-number_contents : (n : ℕ) → length (number_contents n) ≤ 5
-length-number_contents n = omega (arith, length-integer_contents (to_be_bytes w32 n))
+length-asn_contents : (n : ℕ) → length (asn_contents n) ≤ 5
+length-asn_contents n = omega (arith, length-integer_contents (to_be_bytes w32 n))
 
 length-number_octets : (n : ℕ) → length (number_octets n) ≤ 11
-length-number_octets n = omega (arith, length_value_octets_le 2 (number_contents n), length-number_contents n)
+length-number_octets n = omega (arith, length_value_octets_le 2 (asn_contents n), length-asn_contents n)
 
 length-providers_octets : (ps : List ℕ) → length (providers_octets ps) ≤ 11 * length ps
 length-providers_octets [] = omega arith
@@ -145,7 +145,7 @@ value-is tag o c w bytes v e =
     value-unique o tag c bytes v ∙ ap (λ (x : List ℕ). value_octets tag x) (e inner)
 
 asn-only : (o : List ℕ) (n : ℕ) → IsBytes o → AsnForm Der o n → o ≡ number_octets n
-asn-only o n bytes h = value-is 2 o h.0 (number_contents n) bytes h.1 (λ inner. contents-unique h.0 n inner h.2.0 h.2.1)
+asn-only o n bytes h = value-is 2 o h.0 (asn_contents n) bytes h.1 (λ inner. contents-unique h.0 n inner h.2.0 h.2.1)
 
 items-only : (o ps : List ℕ) → IsBytes o → Items (AsnForm Der) o ps → o ≡ providers_octets ps
 items-only o [] bytes h = h
@@ -157,7 +157,7 @@ items-only o (p ∷ ps) bytes h =
 version-only : (o : List ℕ) → IsBytes o → Within Der 160 (λ contents. Integer Der contents 1) o → o ≡ value_octets 160 (number_octets 1)
 version-only o bytes h =
     value-is 160 o h.0 (number_octets 1) bytes h.1
-    (λ inner. value-is 2 h.0 h.2.0 (number_contents 1) inner h.2.1 (λ innermost. contents-unique h.2.0 1 innermost h.2.2 (omega arith)))
+    (λ inner. value-is 2 h.0 h.2.0 (asn_contents 1) inner h.2.1 (λ innermost. contents-unique h.2.0 1 innermost h.2.2 (omega arith)))
 
 abbrev Fields : List ℕ → Aspa → Type 0
 Fields fields a =

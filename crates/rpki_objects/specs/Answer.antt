@@ -25,7 +25,7 @@ run_of out_taken out_failures out out' err_taken err_failures err err' status = 
 }
 
 -- no call of the sink has failed, all of the octets are written, and the status is the wanted one
-pub record IsWritten (octets : List ℕ) (wanted : ℕ) (old new : Sunk) (status : ℕ) : Type 0 where
+pub record IsWhole (octets : List ℕ) (wanted : ℕ) (old new : Sunk) (status : ℕ) : Type 0 where
   pub written : Appends old.0 new.0 octets
   pub no_failure : new.1 ≡ old.1
   pub status_is : status ≡ wanted
@@ -38,7 +38,7 @@ pub record IsCut (octets : List ℕ) (old new : Sunk) (status : ℕ) : Type 0 wh
 
 -- the octets are written with this status, or a call of the sink has failed
 abbrev pub Writes : List ℕ → ℕ → Sunk → Sunk → ℕ → Type 0
-Writes octets wanted old new status = IsWritten octets wanted old new status ⊎ IsCut octets old new status
+Writes octets wanted old new status = IsWhole octets wanted old new status ⊎ IsCut octets old new status
 
 -- the octets are written on standard output, and standard error is left alone
 pub record Prints (octets : List ℕ) (wanted : ℕ) (run : Run) : Type 0 where

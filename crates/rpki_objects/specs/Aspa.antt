@@ -3,7 +3,7 @@ use Rattle.std.specs.Prelude.{◌≡◌, ◌≢◌, ℕ, ◌≤◌, ◌^◌, Lis
 use Rattle.std.specs.List.Sorted.{IsStrictlyIncreasing}
 use Rattle.rpki_der.specs.declared.mode.Mode.{Mode}
 use Rattle.rpki_der.specs.Grammar.{Within, Integer, IntegerBelow, Items}
-use Rattle.rpki_objects.specs.Asn.{IsAsn}
+use Rattle.rpki_resources.specs.As.{IsAsn}
 
 -- what a content says
 pub record Aspa : Type 0 where

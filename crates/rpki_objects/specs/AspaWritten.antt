@@ -1,13 +1,8 @@
 -- The octets that an ASPA content is written as.
 use Rattle.std.specs.Prelude.{ℕ, List, ◌++◌}
-use Rattle.std.specs.Int.{w32, to_be_bytes}
 use Rattle.std.specs.List.{flat_map}
-use Rattle.rpki_der.specs.Written.{value_octets, number_octets, integer_contents}
+use Rattle.rpki_der.specs.Written.{value_octets, number_octets}
 use Rattle.rpki_objects.specs.Aspa.{Aspa}
-
--- X.690, 8.3: the contents of an INTEGER below 2 ^ 32
-abbrev pub number_contents : ℕ → List ℕ
-number_contents n = integer_contents (to_be_bytes w32 n)
 
 -- the providers, one after the other
 abbrev pub providers_octets : List ℕ → List ℕ

@@ -1,5 +1,4 @@
 pub mod Answer
-pub mod Asn
 pub mod Aspa
 pub mod AspaRead
 pub mod AspaWritten

@@ -3,7 +3,7 @@ use Rattle.std.specs.Prelude.{◌≡◌, ℕ, List, ◌++◌, Result, OnOk, Stri
 use Rattle.std.specs.List.{flat_map}
 use Rattle.std.specs.declared.alloc.AllocError.{AllocError}
 use Rattle.std.specs.declared.alloc.Global.{Global}
-use Rattle.rpki_objects.specs.Asn.{asn_text}
+use Rattle.rpki_resources.specs.As.{asn_text}
 use Rattle.rpki_objects.specs.Aspa.{Aspa}
 
 -- a text grows by these octets, unless memory runs out

@@ -13,13 +13,13 @@ ghost use Rattle.rpki_objects.specs.AspaRead.{fields_at};
 ghost use Rattle.rpki_objects.specs.AspaWritten.{aspa_octets};
 ghost use Rattle.rpki_objects.specs.Decoded.{HasNoFront, IfRefused};
 
-use crate::asn::Asn;
 use crate::laws::slices_hold_octets;
 use bytes::Bytes;
 pub use encoder::AsProviderAttestationEncoder;
 use providers::take_providers;
 pub use providers::{ProviderAsIter, ProviderAsSet};
 use rpki_der::{Constructed, ContentFault, DecodeError, Mode, Reason, Tag};
+use rpki_resources::Asn;
 use std::alloc::Global;
 use std::marker::Model;
 
@@ -48,6 +48,7 @@ impl AsProviderAttestation {
             → OkOrMemory result (λ b. b ≡ a) }
         ensures refused { IfRefused result (HasNoFront (AspaForm Der) source) }
     {
+        // The proof needs that each octet is below 256, which is known of a slice and not of a `Bytes`.
         slices_hold_octets(source.as_slice());
         read_front(alloc, source)
     }
@@ -76,6 +77,7 @@ impl AsProviderAttestation {
         ensures only { (octets : List ℕ) → IsBytes octets → AspaForm Der octets self.now
             → octets ≡ aspa_octets self.now }
     {
+        // What a value's type promises is known to the proof only where one of its fields is read.
         let _ = &self.customer;
         AsProviderAttestationEncoder::new(self)
     }

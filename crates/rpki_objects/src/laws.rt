@@ -3,9 +3,10 @@
 ghost use Rattle.std.specs.Prelude.{◌≡◌, ◌<◌, ◌++◌, ℕ, List, slice_index};
 ghost use Rattle.rpki_der.specs.declared.mode.Mode.{Mode};
 ghost use Rattle.rpki_der.specs.declared.mode.Mode.TheVariants.{Der};
-ghost use Rattle.rpki_der.specs.Grammar.{Front, IsBytes, IsUnique};
+ghost use Rattle.rpki_der.specs.Grammar.{Front, IsBytes, IsUnique, Value};
 ghost use Rattle.rpki_objects.specs.Aspa.{Aspa, AspaForm, IsAttestation};
 ghost use Rattle.rpki_objects.specs.AspaWritten.{aspa_octets};
+ghost use Rattle.rpki_objects.specs.Decoded.{HasNoFront};
 
 /// What a slice of octets holds is below 256.
 pub fn slices_hold_octets(octets: &[u8])
@@ -19,10 +20,14 @@ pub fn contents_are_unique()
     ensures { (mode : Mode) → IsUnique (AspaForm mode) }
 {}
 
-/// Octets behind an ASPA content change nothing: they are left.
+/// Octets behind an ASPA content change nothing: they are left. Nor do octets behind one whole value make it a content that it is not.
 pub fn octets_behind_a_content_are_left()
-    ensures { (octets more : List ℕ) (a : Aspa) (rest : List ℕ) → Front (AspaForm Der) octets a rest
+    ensures left { (octets more : List ℕ) (a : Aspa) (rest : List ℕ) → Front (AspaForm Der) octets a rest
         → Front (AspaForm Der) (octets ++ more) a (rest ++ more) }
+    ensures whole { (octets contents more : List ℕ) (tag : ℕ) (a : Aspa) (rest : List ℕ) → Value Der octets tag contents
+        → Front (AspaForm Der) (octets ++ more) a rest → AspaForm Der octets a × (rest ≡ more) }
+    ensures refused { (octets contents more : List ℕ) (tag : ℕ) → Value Der octets tag contents
+        → HasNoFront (AspaForm Der) octets → HasNoFront (AspaForm Der) (octets ++ more) }
 {}
 
 /// What an attestation is written as is a content that says it, and no other octets are. Whatever follows, it stands at the front.

@@ -52,7 +52,7 @@ fn content_aspa<'a, S: Store>(alloc: Global, file: &'a str, store: &S) -> Answer
     }
 }
 
-/// The lines of the ASPA content at the front of these octets.
+/// Answers with the lines of the ASPA content at the front of these octets, if there is one.
 fn show_octets<'a>(alloc: Global, octets: Vec<u8>) -> Answer<'a>
     ensures { IsShownOf (AspaForm Der) aspa_text octets.items result }
 {
@@ -62,7 +62,7 @@ fn show_octets<'a>(alloc: Global, octets: Vec<u8>) -> Answer<'a>
     }
 }
 
-/// The same, where they are shared.
+/// Answers with the lines of the ASPA content at the front of the source, if there is one.
 fn show_aspa<'a>(alloc: Global, source: Bytes) -> Answer<'a>
     ensures { IsShownOf (AspaForm Der) aspa_text source result }
 {

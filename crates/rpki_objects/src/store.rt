@@ -1,6 +1,6 @@
 //! Where the program's files come from.
 
-ghost use Rattle.std.specs.Prelude.{ℕ, List, Option, None};
+ghost use Rattle.std.specs.Prelude.{◌≡◌, ℕ, List, Option, None};
 ghost use Rattle.rpki_objects.specs.Store.{IsRead};
 
 use std::alloc::Global;
@@ -34,7 +34,9 @@ pub struct Disk<'a, R> {
 
 impl<'a, R> Disk<'a, R> {
     /// The files that this runtime reaches.
-    pub fn new(runtime: &'a R) -> Disk<'a, R> {
+    pub fn new(runtime: &'a R) -> Disk<'a, R>
+        ensures { result.runtime.now ≡ runtime.now }
+    {
         Disk { runtime }
     }
 }

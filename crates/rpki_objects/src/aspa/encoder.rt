@@ -5,10 +5,10 @@ ghost use Rattle.rpki_der.specs.Parts.{contents_small};
 ghost use Rattle.rpki_der.specs.Written.{number_octets, value_octets};
 ghost use Rattle.rpki_objects.specs.AspaWritten.{providers_octets};
 
-use crate::asn::Asn;
 use crate::aspa::AsProviderAttestation;
 use rpki_der::encode::{each, integer, sequence, tagged};
 use rpki_der::{Encode, EncodeError, Sink, SinkFailed, Tag};
+use rpki_resources::Asn;
 use std::marker::Model;
 
 /// A content, to be written in DER.
@@ -26,13 +26,14 @@ impl<'a> Model for AsProviderAttestationEncoder<'a> {
 }
 
 impl<'a> AsProviderAttestationEncoder<'a> {
+    /// Makes the encoder of this content.
     pub(crate) fn new(content: &'a AsProviderAttestation) -> AsProviderAttestationEncoder<'a>
         ensures { result ≡ content.now }
     {
         AsProviderAttestationEncoder { content }
     }
 
-    /// The version, the customer and the providers.
+    /// Gives the fields of the content: its version, its customer and its providers.
     fn fields(&self) -> (Version, Asn, Providers<'_>)
         ensures customer { result.1 ≡ self.now.customer }
         ensures providers { result.2.0.now ≡ self.now.providers }
@@ -63,7 +64,7 @@ impl<'a> Encode for AsProviderAttestationEncoder<'a> {
     }
 }
 
-/// The version, 1.
+/// The version field: [0] that holds the INTEGER 1.
 #[derive(Clone, Copy)]
 struct Version;
 
@@ -83,7 +84,7 @@ impl Encode for Version {
     }
 }
 
-/// The providers, as a SEQUENCE.
+/// The field of the providers: a SEQUENCE of their numbers.
 #[derive(Clone, Copy)]
 struct Providers<'a>(&'a [Asn]);
 

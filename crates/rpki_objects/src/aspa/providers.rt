@@ -6,8 +6,8 @@ ghost use Rattle.rpki_der.specs.Read.Reads.{Reads};
 ghost use Rattle.rpki_objects.specs.Aspa.{IsProviderSet};
 ghost use Rattle.rpki_objects.specs.AspaRead.{MayBegin, AreProviders, providers_at};
 
-use crate::asn::Asn;
 use rpki_der::{Constructed, ContentFault, DecodeError, Reason};
+use rpki_resources::Asn;
 use std::alloc::Global;
 use std::marker::Model;
 

@@ -1,13 +1,16 @@
 //! Contents, read and written.
 
-use crate::asn::Asn;
 use crate::aspa::AsProviderAttestation;
+use crate::laws;
 use crate::tests::octets::{
     AS0_ALONE, AS0_BESIDE_ANOTHER, CONTENT, CONTENT_AND_MORE, CUSTOMER_AMONG_PROVIDERS,
-    CUSTOMER_AS0, NO_PROVIDER, OTHER_VERSION, SWAPPED, TWICE, WITHOUT_VERSION, make_content,
+    CUSTOMER_AS0, CUSTOMER_NEGATIVE, CUSTOMER_TOO_LARGE, LARGEST_CUSTOMER, LARGEST_PROVIDER,
+    LONG_INTEGER, NO_PROVIDER, OTHER_VERSION, PROVIDER_NEGATIVE, PROVIDER_TOO_LARGE, SWAPPED,
+    TWICE, WITHOUT_VERSION, make_content, make_content_ending_in,
 };
 use bytes::Bytes;
-use rpki_der::{Counted, DecodeError, Encode};
+use rpki_der::{ContentFault, Counted, DecodeError, Encode, Reason};
+use rpki_resources::Asn;
 use std::alloc::Global;
 use std::test::Fail;
 
@@ -76,11 +79,54 @@ fn other_contents_are_refused(rt: HostRuntime) -> Result<(), Fail> {
         TWICE.as_slice(),
         CUSTOMER_AMONG_PROVIDERS.as_slice(),
         NO_PROVIDER.as_slice(),
+        CUSTOMER_TOO_LARGE.as_slice(),
+        PROVIDER_TOO_LARGE.as_slice(),
+        CUSTOMER_NEGATIVE.as_slice(),
+        PROVIDER_NEGATIVE.as_slice(),
     ];
     for octets in all {
         assert!(rt; is_refused(rt.alloc(), octets)?);
     }
     Ok(())
+}
+
+#[test]
+fn the_largest_number_is_read_and_written(rt: HostRuntime) -> Result<(), Fail> {
+    for (octets, customer, provider) in [
+        (LARGEST_CUSTOMER, u32::MAX, 1),
+        (LARGEST_PROVIDER, 1, u32::MAX),
+    ] {
+        let content = read(rt.alloc(), &octets)??;
+        assert_eq!(rt; content.customer_as().into_u32(), customer);
+        let mut providers = content.provider_as_set().iter();
+        assert_eq!(rt; providers.next(), Some(Asn::from_u32(provider)));
+        assert_eq!(rt; providers.next(), None);
+        let again = content.encode_ref().to_bytes(rt.alloc())?;
+        assert_eq!(rt; again.as_slice(), octets.as_slice());
+    }
+    Ok(())
+}
+
+#[test]
+fn the_first_fault_is_named(rt: HostRuntime) -> Result<(), Fail> {
+    let octets = make_content_ending_in(rt.alloc(), 10_001, &LONG_INTEGER)?;
+    let fault = match read(rt.alloc(), &octets)? {
+        Err(DecodeError::Content(ContentFault::Text(reason))) => Some(reason),
+        _ => None,
+    };
+    assert_eq!(rt; fault, Some(Reason::TooManyProviders));
+    let octets = make_content_ending_in(rt.alloc(), 10_000, &LONG_INTEGER)?;
+    assert!(rt; matches!(read(rt.alloc(), &octets)?, Err(DecodeError::Malformed)));
+    Ok(())
+}
+
+#[test]
+fn laws_are_called(rt: HostRuntime) {
+    laws::contents_are_unique();
+    laws::octets_behind_a_content_are_left();
+    laws::contents_are_written();
+    laws::slices_hold_octets(&CONTENT);
+    let _ = rt;
 }
 
 #[test]
@@ -110,6 +156,13 @@ fn providers_are_counted(rt: HostRuntime) -> Result<(), Fail> {
 
 #[test]
 fn a_number_is_printed(rt: HostRuntime) -> Result<(), Fail> {
+    let largest = Asn::from_u32(u32::MAX);
+    let text = format!(in rt.alloc(); "{largest}")?;
+    assert_eq!(rt; text.as_str(), "AS4294967295");
+    assert_eq!(rt;
+        largest.to_bytes(rt.alloc())?.as_slice(),
+        [2, 5, 0, 0xFF, 0xFF, 0xFF, 0xFF].as_slice()
+    );
     let number = Asn::from_u32(15562);
     let text = format!(in rt.alloc(); "{number}")?;
     assert_eq!(rt; text.as_str(), "AS15562");

@@ -1,11 +1,14 @@
 //! Runs of the program.
 
 use crate::program::command;
+use crate::start::run;
+use crate::store::{Disk, Store, StoreError};
 use crate::tests::octets::{
-    AS0_BESIDE_ANOTHER, CONTENT, CONTENT_AND_MORE, CUSTOMER_AS0, NO_PROVIDER, SWAPPED,
-    WITHOUT_VERSION, make_content,
+    AS0_BESIDE_ANOTHER, CONTENT, CONTENT_AND_MORE, CUSTOMER_AS0, CUSTOMER_TOO_LARGE,
+    LARGEST_CUSTOMER, LARGEST_PROVIDER, NO_PROVIDER, PROVIDER_NEGATIVE, SWAPPED, WITHOUT_VERSION,
+    make_content,
 };
-use crate::tests::stores::{Failing, Starved, make_shelf};
+use crate::tests::stores::{Arguments, Starved, make_shelf};
 use rpki_der::Counted;
 use std::alloc::Global;
 use std::process::Abort;
@@ -14,7 +17,7 @@ use std::test::Fail;
 pub const LINES: &str =
     "aspa\ncustomer AS15562\nprovider AS2914\nprovider AS8283\nprovider AS51088\nprovider AS206238\n";
 
-const ASK: [&str; 3] = ["content", "aspa", "file"];
+pub const ASK: [&str; 3] = ["content", "aspa", "file"];
 
 // What the program is to say.
 #[derive(Clone, Copy)]
@@ -68,6 +71,8 @@ fn others_are_malformed(rt: HostRuntime) -> Result<(), Fail> {
         AS0_BESIDE_ANOTHER.as_slice(),
         SWAPPED.as_slice(),
         NO_PROVIDER.as_slice(),
+        CUSTOMER_TOO_LARGE.as_slice(),
+        PROVIDER_NEGATIVE.as_slice(),
         many.as_slice(),
     ];
     for octets in all {
@@ -86,9 +91,29 @@ fn a_line_for_each_provider(rt: HostRuntime) -> Result<(), Fail> {
         assert_eq!(rt; status, 0);
         let lines = out.inner.iter().filter(|octet| **octet == b'\n').count();
         assert_eq!(rt; lines, count as usize + 2);
+        let first = b"aspa\ncustomer AS1\nprovider AS2\n";
+        assert!(rt; out.inner.starts_with(first));
+        let last = format!(in rt.alloc(); "\nprovider AS{}\n", u32::from(count) + 1)?;
+        assert!(rt; out.inner.ends_with(last.as_bytes()));
         assert_eq!(rt; err.inner.len(), 0);
     }
     Ok(())
+}
+
+#[test]
+fn the_largest_number_is_shown(rt: HostRuntime) -> Result<(), Fail> {
+    let customer = Said {
+        status: 0,
+        out: "aspa\ncustomer AS4294967295\nprovider AS1\n",
+        err: "",
+    };
+    says(&rt, rt.alloc(), &ASK, &LARGEST_CUSTOMER, &customer)?;
+    let provider = Said {
+        status: 0,
+        out: "aspa\ncustomer AS1\nprovider AS4294967295\n",
+        err: "",
+    };
+    says(&rt, rt.alloc(), &ASK, &LARGEST_PROVIDER, &provider)
 }
 
 #[test]
@@ -143,50 +168,39 @@ fn memory_runs_out(rt: HostRuntime) -> Result<(), Fail> {
 }
 
 #[test]
-fn standard_output_fails(rt: HostRuntime) -> Result<(), Fail> {
-    let store = make_shelf(rt.alloc(), &CONTENT)?;
-    let calls = LINES.len().div_ceil(3);
-    for n in 0..calls {
-        let mut out = Counted::new(Failing::new(rt.alloc(), n));
-        let mut err = Counted::new(Vec::new(rt.alloc()));
-        let status = command(rt.alloc(), &ASK, &store, &mut out, &mut err);
-        assert_eq!(rt; status, 2);
-        assert!(rt; LINES.as_bytes().starts_with(out.inner.octets()), "at {n}");
-        assert_eq!(rt; out.inner.octets().len(), 3 * n);
-        assert_eq!(rt; err.inner.len(), 0);
-    }
-    let mut out = Counted::new(Failing::new(rt.alloc(), calls));
+fn a_file_of_the_system_is_not_there(rt: HostRuntime) -> Result<(), Fail> {
+    let disk = Disk::new(&rt);
+    let name = "data/there is no such file";
+    let unread = disk.read(rt.alloc(), name).err();
+    assert_eq!(rt; unread, Some(StoreError::Unreadable));
+    let mut out = Counted::new(Vec::new(rt.alloc()));
     let mut err = Counted::new(Vec::new(rt.alloc()));
-    let status = command(rt.alloc(), &ASK, &store, &mut out, &mut err);
-    assert_eq!(rt; status, 0);
-    assert_eq!(rt; out.inner.octets(), LINES.as_bytes());
+    let words = ["content", "aspa", name];
+    let status = command(rt.alloc(), &words, &disk, &mut out, &mut err);
+    assert_eq!(rt; status, 2);
+    assert_eq!(rt; out.inner.len(), 0);
+    let said = b"cannot read data/there is no such file\n";
+    assert_eq!(rt; err.inner.as_slice(), said.as_slice());
     Ok(())
 }
 
 #[test]
-fn standard_error_fails(rt: HostRuntime) -> Result<(), Fail> {
+fn each_argument_is_a_word(rt: HostRuntime) -> Result<(), Fail> {
+    let arguments = ["name", "content", "aspa", "file", "fourth", "fifth"];
     let store = make_shelf(rt.alloc(), &CONTENT)?;
-    for n in 0..7 {
+    for count in 0..=arguments.len() {
+        let environment = (Arguments(&arguments[..count]), rt.alloc());
         let mut out = Counted::new(Vec::new(rt.alloc()));
-        let mut err = Counted::new(Failing::new(rt.alloc(), n));
-        let words = ["content", "aspa", "other"];
-        let status = command(rt.alloc(), &words, &store, &mut out, &mut err);
-        assert_eq!(rt; status, 2);
-        assert_eq!(rt; out.inner.len(), 0);
-        assert!(rt;
-            b"cannot read other\n".starts_with(err.inner.octets()),
-            "at {n}"
-        );
-    }
-    for n in 0..5 {
-        let mut out = Counted::new(Vec::new(rt.alloc()));
-        let mut err = Counted::new(Failing::new(rt.alloc(), n));
-        let status = command(rt.alloc(), &ASK, &Starved, &mut out, &mut err);
-        assert_eq!(rt; status, 2);
-        assert!(rt;
-            b"out of memory\n".starts_with(err.inner.octets()),
-            "at {n}"
-        );
+        let mut err = Counted::new(Vec::new(rt.alloc()));
+        let status = run(&environment, &store, &mut out, &mut err);
+        let (wanted, lines, complaint) = if count == 4 {
+            (0, LINES, "")
+        } else {
+            (2, "", "usage\n")
+        };
+        assert_eq!(rt; status, wanted, "with {count}");
+        assert_eq!(rt; out.inner.as_slice(), lines.as_bytes());
+        assert_eq!(rt; err.inner.as_slice(), complaint.as_bytes());
     }
     Ok(())
 }

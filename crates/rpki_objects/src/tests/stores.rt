@@ -1,4 +1,4 @@
-//! Stores and writers in memory.
+//! Stores, writers and environments in memory.
 
 ghost use Rattle.std.specs.Prelude.{Some, []};
 ghost use Rattle.std.specs.Option.{option_map};
@@ -7,6 +7,7 @@ ghost use Rattle.std.specs.BTreeMap.{get_by_text};
 use crate::store::{Store, StoreError};
 use std::alloc::{AllocError, Global};
 use std::collections::BTreeMap;
+use std::env::{Env, FillError};
 use std::io;
 
 /// Files in memory.
@@ -51,18 +52,33 @@ impl Store for Starved {
     }
 }
 
-/// A writer that takes three octets at most in a call, and fails once it was called so often.
+/// How a call of a writer fails.
+#[derive(Clone, Copy)]
+pub enum Fault {
+    /// It takes nothing.
+    TakesNothing,
+    /// It answers an error.
+    AnswersError,
+}
+
+/// A writer that takes a few octets in a call, and fails at one call. Behind that call it would take octets again.
 #[derive(Drop)]
 pub struct Failing {
+    most: usize,
+    fault: Fault,
+    fails_at: usize,
     calls: usize,
     octets: Vec<u8>,
 }
 
 impl Failing {
-    /// A writer that fails at the call behind so many.
-    pub fn new(alloc: Global, calls: usize) -> Failing {
+    /// A writer that takes so many octets at most in a call, and fails so at the call behind so many.
+    pub fn new(alloc: Global, most: usize, fault: Fault, fails_at: usize) -> Failing {
         Failing {
-            calls,
+            most,
+            fault,
+            fails_at,
+            calls: 0,
             octets: Vec::new(alloc),
         }
     }
@@ -71,20 +87,54 @@ impl Failing {
     pub fn octets(&self) -> &[u8] {
         self.octets.as_slice()
     }
+
+    /// How often it was called.
+    pub fn calls(&self) -> usize {
+        self.calls
+    }
 }
 
 impl io::Write for Failing {
     fn write(&mut self, buf: &[u8]) -> io::Result<usize> {
-        if self.calls == 0 {
-            return Ok(0);
+        let call = self.calls;
+        self.calls = call.saturating_add(1);
+        if call == self.fails_at {
+            return match self.fault {
+                Fault::TakesNothing => Ok(0),
+                Fault::AnswersError => Err(io::Error::from(io::ErrorKind::BrokenPipe)),
+            };
         }
-        self.calls -= 1;
-        let n = buf.len().min(3);
+        let n = buf.len().min(self.most);
         self.octets.extend_from_slice(&buf[..n])?;
         Ok(n)
     }
 
     fn flush(&mut self) -> io::Result<()> {
         Ok(())
+    }
+}
+
+/// An environment with these arguments, the first of which is the program's name.
+#[derive(Drop)]
+pub struct Arguments<'a>(pub &'a [&'a str]);
+
+impl Env for Arguments<'_> {
+    fn arg(&self, i: usize, buf: &mut [u8]) -> Result<usize, FillError> {
+        match self.0.get(i) {
+            None => Err(FillError::NotPresent),
+            Some(word) if word.len() > buf.len() => Err(FillError::TooLong),
+            Some(word) => {
+                buf[..word.len()].copy_from_slice(word.as_bytes());
+                Ok(word.len())
+            }
+        }
+    }
+
+    fn var(&self, _name: &str, _buf: &mut [u8]) -> Result<usize, FillError> {
+        Err(FillError::NotPresent)
+    }
+
+    fn var_at(&self, _i: usize, _buf: &mut [u8]) -> Result<usize, FillError> {
+        Err(FillError::NotPresent)
     }
 }

@@ -1,3 +1,4 @@
+use Rattle.std.proofs.Common.{arith}
 use Rattle.rpki_objects.specs.AspaRead.{AreProviders}
 use Rattle.rpki_objects.proofs.aspa.take_fields.Goals as goal
 
@@ -5,8 +6,8 @@ pub invariant_of-result : goal.invariant_of-result
 invariant_of-result c =
     let providers : AreProviders c.in_ok-customer.customer c.in_ok-providers.providers = c.in_ok-providers.ensures.providers in
     record {
-      not_zero = λ e. c.if-customer-eq0.false (rw c.from_u32.ensures.value at e);
-      number = c.from_u32.ensures.range;
+      not_zero = λ e. c.if-customer-eq0.false (rw c.from_u32.ensures at e);
+      number = rw c.from_u32.ensures (omega arith);
       providers = providers.set;
-      others = rw c.from_u32.ensures.value providers.others;
+      others = rw c.from_u32.ensures providers.others;
     }

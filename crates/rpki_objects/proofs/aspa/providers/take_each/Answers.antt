@@ -7,7 +7,7 @@ use Rattle.rpki_der.specs.declared.error.Reason.TheVariants.{NoProviders}
 use Rattle.rpki_der.specs.Read.Parse.{optional, u32_at, unsigned_of, many}
 use Rattle.rpki_der.proofs.Reading.Many.{Shortens-optional}
 use Rattle.rpki_der.proofs.Reading.Loops.{so_far-more, so_far-end, so_far-err}
-use Rattle.rpki_objects.specs.Asn.{IsAsn}
+use Rattle.rpki_resources.specs.As.{IsAsn}
 use Rattle.rpki_objects.specs.AspaRead.{are_providers}
 use Rattle.rpki_objects.proofs.Providers.{test-refuses, test-complete, test-none}
 use Rattle.rpki_objects.proofs.Tested.{tested-next, tested-ok, tested-refused, tested-err}
@@ -27,9 +27,9 @@ returns-in-Some-refusal_of-clause-reads c =
 
 pub loop-numbers-preserved : goal.loop-numbers-preserved
 loop-numbers-preserved c = record {
-  read = rw (c.in_ok-push.ensures.items, c.from_u32.ensures.value) (so_far-more (optional 2 u32_at) (Shortens-optional 2 (unsigned_of 4)) (λ n. n) _ _ _ _ _ _ c.loop-numbers.invariant.read c.in_ok-next.ensures.reads c.in-Some.is);
-  begins = rw (c.in_ok-push.ensures.items, c.from_u32.ensures.value) (rw c.deref.ensures.value at c.in_default-refusal_of.ensures.may);
-  numbers = rw (c.in_ok-push.ensures.items, c.from_u32.ensures.value) (All-push IsAsn _ c.in-Some.next c.loop-numbers.invariant.numbers (rw c.from_u32.ensures.value at c.from_u32.ensures.range));
+  read = rw (c.in_ok-push.ensures.items, c.from_u32.ensures) (so_far-more (optional 2 u32_at) (Shortens-optional 2 (unsigned_of 4)) (λ n. n) _ _ _ _ _ _ c.loop-numbers.invariant.read c.in_ok-next.ensures.reads c.in-Some.is);
+  begins = rw (c.in_ok-push.ensures.items, c.from_u32.ensures) (rw c.deref.ensures.value at c.in_default-refusal_of.ensures.may);
+  numbers = rw (c.in_ok-push.ensures.items, c.from_u32.ensures) (All-push IsAsn _ c.in-Some.next c.loop-numbers.invariant.numbers (omega arith));
 }
 
 pub returns-then-is_empty-clause-reads : goal.returns-then-is_empty-clause-reads

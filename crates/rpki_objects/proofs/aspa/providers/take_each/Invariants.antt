@@ -2,7 +2,7 @@ use Rattle.std.proofs.Common.{length}
 use Rattle.std.specs.Prelude.{All}
 use Rattle.rpki_der.specs.Read.Parse.{optional, u32_at}
 use Rattle.rpki_der.specs.Read.Reads.{ReadSoFar}
-use Rattle.rpki_objects.specs.Asn.{IsAsn}
+use Rattle.rpki_resources.specs.As.{IsAsn}
 use Rattle.rpki_objects.specs.AspaRead.{MayBegin}
 use Rattle.rpki_objects.proofs.aspa.providers.take_each.Given as goal
 
