@@ -68,7 +68,7 @@ impl Encode for Asn {
     }
 
     #[inline(always)]
-    fn put<W: Sink>(&self, out: &mut W) -> Result<(), SinkFailed> {
-        integer(self.0).put(out)
+    fn put<W: Sink>(&self, len: u64, out: &mut W) -> Result<(), SinkFailed> {
+        integer(self.0).put(len, out)
     }
 }

@@ -1,12 +1,12 @@
 -- the numbers that are written
-use Rattle.std.proofs.Common.{◌≡◌, ◌≢◌, ℕ, ◌+◌, ◌*◌, ◌^◌, ◌≤◌, ◌<◌, true, false, ltb, List, [], ◌∷◌, length, Option, Some, refl, sym, ap, ◌∙◌, subst, arith, inl, inr, eq-eqb, ◌/◌, ◌%◌}
+use Rattle.std.proofs.Common.{◌≡◌, ◌≢◌, ℕ, ◌+◌, ◌*◌, ◌^◌, ◌≤◌, ◌<◌, true, false, ltb, List, [], ◌∷◌, ◌++◌, length, drop, Option, Some, refl, sym, ap, ◌∙◌, subst, arith, inl, inr, eq-eqb, ◌/◌, ◌%◌}
 use Rattle.std.specs.Prelude.{nat_eq}
 use Rattle.std.specs.Int.{w32, to_be_bytes}
 use Rattle.std.proofs.lemmas.Bool.{eqb-true, eqb-false, ne_eqb, ltb-true, ltb-false, lt-ltb, le-ltb}
 use Rattle.rpki_der.specs.Read.Parse.{number, digits_of, number_of, unsigned_of}
 use Rattle.rpki_der.specs.Grammar.{IsInteger, IsBytes}
-use Rattle.rpki_der.specs.Written.{significant, not_negative, integer_contents}
-use Rattle.rpki_der.proofs.Writing.Lengths.{test}
+use Rattle.rpki_der.specs.Written.{significant, not_negative, integer_contents, value_octets, number_octets}
+use Rattle.rpki_der.proofs.Writing.Lengths.{test, short-unique}
 
 -- no zero stands in front
 abbrev Starts : List ℕ → Type 0
@@ -176,3 +176,28 @@ pub own-contents : (c : List ℕ) (n : ℕ) → IsInteger c n → (number 0 c �
 own-contents [] n h = absurd h
 own-contents (a ∷ []) n h = (omega (arith, h.1), sym (own-one a h.0))
 own-contents (a ∷ b ∷ rest) n h = (sym h.2, sym (own-two a b rest h.0 h.1))
+
+-- an INTEGER of 32 bits, from its own contents
+own-number : (c : List ℕ) (n : ℕ) → IsBytes c → n < 2 ^ 32 → IsInteger c n → length c < 128 → number_octets n ≡ 2 ∷ length c ∷ c
+own-number c n bytes lt h few =
+    subst (λ x. value_octets 2 x ≡ 2 ∷ length c ∷ c) (contents-unique c n bytes lt h) (ap (λ (l : List ℕ). 2 ∷ l ++ c) (sym (short-unique (length c) few)))
+
+-- an INTEGER of 32 bits, by the number of its octets
+pub one_octet : (n : ℕ) → n < 0x80 → number_octets n ≡ 2 ∷ 1 ∷ drop 3 (to_be_bytes w32 n)
+one_octet n h = own-number (drop 3 (to_be_bytes w32 n)) n (omega arith, tt) (omega (arith, h)) (omega (arith, h), omega (arith, h)) (omega arith)
+
+pub two_octets : (n : ℕ) → 0x80 ≤ n → n < 0x8000 → number_octets n ≡ 2 ∷ 2 ∷ drop 2 (to_be_bytes w32 n)
+two_octets n g h =
+    own-number (drop 2 (to_be_bytes w32 n)) n (omega arith, (omega arith, tt)) (omega (arith, h)) (omega (arith, h), (λ z. omega (arith, g, z)), omega (arith, h)) (omega arith)
+
+pub three_octets : (n : ℕ) → 0x8000 ≤ n → n < 0x800000 → number_octets n ≡ 2 ∷ 3 ∷ drop 1 (to_be_bytes w32 n)
+three_octets n g h =
+    own-number (drop 1 (to_be_bytes w32 n)) n (omega arith, (omega arith, (omega arith, tt))) (omega (arith, h)) (omega (arith, h), (λ z. omega (arith, g, z)), omega (arith, h)) (omega arith)
+
+pub four_octets : (n : ℕ) → 0x800000 ≤ n → n < 0x80000000 → number_octets n ≡ 2 ∷ 4 ∷ to_be_bytes w32 n
+four_octets n g h =
+    own-number (to_be_bytes w32 n) n (omega arith, (omega arith, (omega arith, (omega arith, tt)))) (omega (arith, h)) (omega (arith, h), (λ z. omega (arith, g, z)), omega (arith, h)) (omega arith)
+
+pub five_octets : (n : ℕ) → 0x80000000 ≤ n → n < 2 ^ 32 → number_octets n ≡ 2 ∷ 5 ∷ 0 ∷ to_be_bytes w32 n
+five_octets n g h =
+    own-number (0 ∷ to_be_bytes w32 n) n (omega arith, (omega arith, (omega arith, (omega arith, (omega arith, tt))))) h (omega arith, (λ _. omega (arith, g)), omega (arith, h)) (omega arith)

@@ -1,7 +1,7 @@
 ghost use Rattle.std.specs.Prelude.{◌++◌};
 ghost use Rattle.rpki_der.specs.Parts.{length_parts};
 
-use crate::encode::{Encode, EncodeError};
+use crate::encode::{Encode, EncodeError, len_of};
 use crate::stream::{Sink, SinkFailed};
 
 /// One after another.
@@ -25,9 +25,10 @@ impl<A: Encode, B: Encode> Encode for (A, B) {
     }
 
     #[inline(always)]
-    fn put<W: Sink>(&self, out: &mut W) -> Result<(), SinkFailed> {
-        self.0.put(out)?;
-        self.1.put(out)
+    fn put<W: Sink>(&self, len: u64, out: &mut W) -> Result<(), SinkFailed> {
+        let first = len_of(&self.0);
+        self.0.put(first, out)?;
+        self.1.put(len - first, out)
     }
 }
 
@@ -46,8 +47,8 @@ impl<A: Encode, B: Encode, C: Encode> Encode for (A, B, C) {
     }
 
     #[inline(always)]
-    fn put<W: Sink>(&self, out: &mut W) -> Result<(), SinkFailed> {
-        (&self.0, (&self.1, &self.2)).put(out)
+    fn put<W: Sink>(&self, len: u64, out: &mut W) -> Result<(), SinkFailed> {
+        (&self.0, (&self.1, &self.2)).put(len, out)
     }
 }
 
@@ -66,8 +67,8 @@ impl<A: Encode, B: Encode, C: Encode, D: Encode> Encode for (A, B, C, D) {
     }
 
     #[inline(always)]
-    fn put<W: Sink>(&self, out: &mut W) -> Result<(), SinkFailed> {
-        (&self.0, (&self.1, &self.2, &self.3)).put(out)
+    fn put<W: Sink>(&self, len: u64, out: &mut W) -> Result<(), SinkFailed> {
+        (&self.0, (&self.1, &self.2, &self.3)).put(len, out)
     }
 }
 
@@ -86,8 +87,8 @@ impl<A: Encode, B: Encode, C: Encode, D: Encode, E: Encode> Encode for (A, B, C,
     }
 
     #[inline(always)]
-    fn put<W: Sink>(&self, out: &mut W) -> Result<(), SinkFailed> {
-        (&self.0, (&self.1, &self.2, &self.3, &self.4)).put(out)
+    fn put<W: Sink>(&self, len: u64, out: &mut W) -> Result<(), SinkFailed> {
+        (&self.0, (&self.1, &self.2, &self.3, &self.4)).put(len, out)
     }
 }
 
@@ -107,8 +108,8 @@ impl<A: Encode, B: Encode, C: Encode, D: Encode, E: Encode, F: Encode> Encode
     }
 
     #[inline(always)]
-    fn put<W: Sink>(&self, out: &mut W) -> Result<(), SinkFailed> {
-        (&self.0, (&self.1, &self.2, &self.3, &self.4, &self.5)).put(out)
+    fn put<W: Sink>(&self, len: u64, out: &mut W) -> Result<(), SinkFailed> {
+        (&self.0, (&self.1, &self.2, &self.3, &self.4, &self.5)).put(len, out)
     }
 }
 
@@ -132,12 +133,12 @@ impl<A: Encode, B: Encode, C: Encode, D: Encode, E: Encode, F: Encode, G: Encode
     }
 
     #[inline(always)]
-    fn put<W: Sink>(&self, out: &mut W) -> Result<(), SinkFailed> {
+    fn put<W: Sink>(&self, len: u64, out: &mut W) -> Result<(), SinkFailed> {
         (
             &self.0,
             (&self.1, &self.2, &self.3, &self.4, &self.5, &self.6),
         )
-            .put(out)
+            .put(len, out)
     }
 }
 
@@ -163,13 +164,13 @@ impl<A: Encode, B: Encode, C: Encode, D: Encode, E: Encode, F: Encode, G: Encode
     }
 
     #[inline(always)]
-    fn put<W: Sink>(&self, out: &mut W) -> Result<(), SinkFailed> {
+    fn put<W: Sink>(&self, len: u64, out: &mut W) -> Result<(), SinkFailed> {
         (
             &self.0,
             (
                 &self.1, &self.2, &self.3, &self.4, &self.5, &self.6, &self.7,
             ),
         )
-            .put(out)
+            .put(len, out)
     }
 }

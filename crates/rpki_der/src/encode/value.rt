@@ -1,4 +1,4 @@
-ghost use Rattle.std.specs.Prelude.{◌∷◌, ◌≡◌, ◌+◌, ◌<◌, ◌≤◌, ◌^◌, length, OnOk, OnErr};
+ghost use Rattle.std.specs.Prelude.{◌∷◌, ◌≡◌, ℕ, ◌+◌, ◌<◌, ◌≤◌, ◌^◌, length, OnOk, OnErr};
 ghost use Rattle.std.specs.Io.KnownBytes.{Appends};
 ghost use Rattle.rpki_der.specs.Sink.{AppendsFront};
 ghost use Rattle.rpki_der.specs.Written.{length_octets, value_octets};
@@ -67,13 +67,10 @@ impl<T: Encode> Encode for Value<T> {
     }
 
     #[inline(always)]
-    fn put<W: Sink>(&self, out: &mut W) -> Result<(), SinkFailed> {
-        let n = match self.contents.encoded_len() {
-            Ok(n) => n as u32,
-            Err(_) => unreachable!(),
-        };
-        put_header(self.tag.octet, n, out)?;
-        self.contents.put(out)
+    fn put<W: Sink>(&self, len: u64, out: &mut W) -> Result<(), SinkFailed> {
+        let n = contents_len(len);
+        put_header(self.tag.octet, n as u32, out)?;
+        self.contents.put(n, out)
     }
 }
 
@@ -94,7 +91,7 @@ impl Encode for Length {
     }
 
     #[inline(always)]
-    fn put<W: Sink>(&self, out: &mut W) -> Result<(), SinkFailed> {
+    fn put<W: Sink>(&self, _len: u64, out: &mut W) -> Result<(), SinkFailed> {
         put_length(self.0, out)
     }
 }
@@ -117,6 +114,22 @@ fn length_size(n: u32) -> u64
     } else {
         5
     }
+}
+
+/// How many contents octets there are in a value of so many octets.
+#[tactic(auto, unfolding(crate::specs::Written::length_octets))]
+#[inline(always)]
+fn contents_len(len: u64) -> u64
+    ensures { (n : ℕ) → n < 2 ^ 32 → len ≡ 1 + length (length_octets n) + n → result ≡ n }
+{
+    let header = match len {
+        0..=0x81 => 2,
+        0x82..=0x102 => 3,
+        0x103..=0x1_0003 => 4,
+        0x1_0004..=0x100_0004 => 5,
+        _ => 6,
+    };
+    len.saturating_sub(header)
 }
 
 /// Writes a length.
