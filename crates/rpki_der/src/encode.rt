@@ -23,7 +23,8 @@ pub use leaf::{boolean, ia5, null, octet_string, oid, primitive};
 pub use list::{Elements, each};
 pub use number::{Digits, Unsigned, integer, integer_of, integer_u8};
 pub use raw::Raw;
-pub use value::{Length, Value, sequence, set, tagged};
+pub(crate) use value::Header;
+pub use value::{Value, sequence, set, tagged};
 
 /// Why a value was not written.
 #[derive(Debug, Drop)]

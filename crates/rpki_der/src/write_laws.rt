@@ -21,7 +21,7 @@ pub fn values_are_written()
 /// An INTEGER is written of the digits of a number that is not negative, and its number is read again by each call that takes numbers of so many octets.
 pub fn integers_are_written()
     ensures written { (digits : List ℕ) → length digits + 1 < 2 ^ 32 → Integer Der (value_octets 2 (integer_contents digits)) (number 0 digits) }
-    ensures unique { (o : List ℕ) (n : ℕ) → IsBytes o → Integer Der o n → (digits : List ℕ) × (number 0 digits ≡ n) × (o ≡ value_octets 2 (integer_contents digits)) }
+    ensures unique { (o digits : List ℕ) → IsBytes o → IsBytes digits → Integer Der o (number 0 digits) → o ≡ value_octets 2 (integer_contents digits) }
     ensures read { (mode : Mode) (most : ℕ) (digits rest : List ℕ) → length digits + 1 < 2 ^ 32 → length (significant digits) ≤ most → 1 ≤ most
         → primitive 2 (unsigned_of most) mode (value_octets 2 (integer_contents digits) ++ rest) ≡ Some (number 0 digits, rest) }
 {}

@@ -20,7 +20,7 @@ use Rattle.rpki_der.proofs.Reading.Strings.{exact-octets}
 use Rattle.rpki_der.proofs.Reading.Skips.{exact-skip}
 use Rattle.rpki_der.proofs.Reading.Unique.{octets-ber, skipped-ber}
 use Rattle.rpki_der.proofs.Writing.Lengths.{value-written, value-unique}
-use Rattle.rpki_der.proofs.Writing.Numbers.{number-digits, length-integer_contents, integer-is, contents-unique, own-contents}
+use Rattle.rpki_der.proofs.Writing.Numbers.{number-digits, length-integer_contents, integer-is, contents-unique, digits-unique}
 use Rattle.rpki_der.proofs.Writing.Leaves.{value-in, primitive-read, within-unique, within-only, items-written, items-unique}
 
 -- ---- numbers of 32 bits
@@ -48,10 +48,9 @@ u8-read mode n rest h =
 pub number-unique : (o : List ℕ) (n : ℕ) → IsBytes o → n < 2 ^ 32 → Integer Der o n → o ≡ number_octets n
 number-unique o n bytes lt h = within-only 2 (λ c. IsInteger c n) o (integer_contents (to_be_bytes w32 n)) bytes (λ c inner is. contents-unique c n inner lt is) h
 
-pub integer-unique : (o : List ℕ) (n : ℕ) → IsBytes o → Integer Der o n → (digits : List ℕ) × (number 0 digits ≡ n) × (o ≡ value_octets 2 (integer_contents digits))
-integer-unique o n bytes h =
-    let own = own-contents h.0 n h.2 in
-    (h.0, own.0, value-unique o 2 h.0 bytes h.1 ∙ ap (value_octets 2) own.1)
+pub integer-unique : (o digits : List ℕ) → IsBytes o → IsBytes digits → Integer Der o (number 0 digits) → o ≡ value_octets 2 (integer_contents digits)
+integer-unique o digits bytes own h =
+    within-only 2 (λ c. IsInteger c (number 0 digits)) o (integer_contents digits) bytes (λ c inner is. digits-unique c digits inner own is) h
 
 -- ---- lists of them
 

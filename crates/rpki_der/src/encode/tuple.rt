@@ -1,5 +1,5 @@
 ghost use Rattle.std.specs.Prelude.{◌++◌};
-ghost use Rattle.rpki_der.specs.Parts.{length_parts};
+ghost use Rattle.rpki_der.specs.Parts.{pair_small};
 
 use crate::encode::{Encode, EncodeError, len_of};
 use crate::stream::{Sink, SinkFailed};
@@ -12,7 +12,7 @@ impl<A: Encode, B: Encode> Encode for (A, B) {
 
     ghost is_short = { λ s. A.is_short s.0 × B.is_short s.1 };
 
-    ghost small = { λ x h. let parts = length_parts (A.octets x.0) (B.octets x.1) h in (A.small x.0 parts.0, B.small x.1 parts.1) };
+    ghost small = { λ x. pair_small _ _ (A.small x.0) (B.small x.1) };
 
     #[inline(always)]
     fn encoded_len(&self) -> Result<u64, EncodeError> {
@@ -39,7 +39,7 @@ impl<A: Encode, B: Encode, C: Encode> Encode for (A, B, C) {
 
     ghost is_short = { λ s. A.is_short s.0 × (B.is_short s.1 × C.is_short s.2) };
 
-    ghost small = { λ x h. let p0 = length_parts (A.octets x.0) (B.octets x.1 ++ C.octets x.2) h in let p1 = length_parts (B.octets x.1) (C.octets x.2) p0.1 in (A.small x.0 p0.0, (B.small x.1 p1.0, C.small x.2 p1.1)) };
+    ghost small = { λ x. pair_small _ _ (A.small x.0) (pair_small _ _ (B.small x.1) (C.small x.2)) };
 
     #[inline(always)]
     fn encoded_len(&self) -> Result<u64, EncodeError> {
@@ -59,7 +59,7 @@ impl<A: Encode, B: Encode, C: Encode, D: Encode> Encode for (A, B, C, D) {
 
     ghost is_short = { λ s. A.is_short s.0 × (B.is_short s.1 × (C.is_short s.2 × D.is_short s.3)) };
 
-    ghost small = { λ x h. let p0 = length_parts (A.octets x.0) (B.octets x.1 ++ (C.octets x.2 ++ D.octets x.3)) h in let p1 = length_parts (B.octets x.1) (C.octets x.2 ++ D.octets x.3) p0.1 in let p2 = length_parts (C.octets x.2) (D.octets x.3) p1.1 in (A.small x.0 p0.0, (B.small x.1 p1.0, (C.small x.2 p2.0, D.small x.3 p2.1))) };
+    ghost small = { λ x. pair_small _ _ (A.small x.0) (pair_small _ _ (B.small x.1) (pair_small _ _ (C.small x.2) (D.small x.3))) };
 
     #[inline(always)]
     fn encoded_len(&self) -> Result<u64, EncodeError> {
@@ -79,7 +79,7 @@ impl<A: Encode, B: Encode, C: Encode, D: Encode, E: Encode> Encode for (A, B, C,
 
     ghost is_short = { λ s. A.is_short s.0 × (B.is_short s.1 × (C.is_short s.2 × (D.is_short s.3 × E.is_short s.4))) };
 
-    ghost small = { λ x h. let p0 = length_parts (A.octets x.0) (B.octets x.1 ++ (C.octets x.2 ++ (D.octets x.3 ++ E.octets x.4))) h in let p1 = length_parts (B.octets x.1) (C.octets x.2 ++ (D.octets x.3 ++ E.octets x.4)) p0.1 in let p2 = length_parts (C.octets x.2) (D.octets x.3 ++ E.octets x.4) p1.1 in let p3 = length_parts (D.octets x.3) (E.octets x.4) p2.1 in (A.small x.0 p0.0, (B.small x.1 p1.0, (C.small x.2 p2.0, (D.small x.3 p3.0, E.small x.4 p3.1)))) };
+    ghost small = { λ x. pair_small _ _ (A.small x.0) (pair_small _ _ (B.small x.1) (pair_small _ _ (C.small x.2) (pair_small _ _ (D.small x.3) (E.small x.4)))) };
 
     #[inline(always)]
     fn encoded_len(&self) -> Result<u64, EncodeError> {
@@ -100,7 +100,7 @@ impl<A: Encode, B: Encode, C: Encode, D: Encode, E: Encode, F: Encode> Encode
 
     ghost is_short = { λ s. A.is_short s.0 × (B.is_short s.1 × (C.is_short s.2 × (D.is_short s.3 × (E.is_short s.4 × F.is_short s.5)))) };
 
-    ghost small = { λ x h. let p0 = length_parts (A.octets x.0) (B.octets x.1 ++ (C.octets x.2 ++ (D.octets x.3 ++ (E.octets x.4 ++ F.octets x.5)))) h in let p1 = length_parts (B.octets x.1) (C.octets x.2 ++ (D.octets x.3 ++ (E.octets x.4 ++ F.octets x.5))) p0.1 in let p2 = length_parts (C.octets x.2) (D.octets x.3 ++ (E.octets x.4 ++ F.octets x.5)) p1.1 in let p3 = length_parts (D.octets x.3) (E.octets x.4 ++ F.octets x.5) p2.1 in let p4 = length_parts (E.octets x.4) (F.octets x.5) p3.1 in (A.small x.0 p0.0, (B.small x.1 p1.0, (C.small x.2 p2.0, (D.small x.3 p3.0, (E.small x.4 p4.0, F.small x.5 p4.1))))) };
+    ghost small = { λ x. pair_small _ _ (A.small x.0) (pair_small _ _ (B.small x.1) (pair_small _ _ (C.small x.2) (pair_small _ _ (D.small x.3) (pair_small _ _ (E.small x.4) (F.small x.5))))) };
 
     #[inline(always)]
     fn encoded_len(&self) -> Result<u64, EncodeError> {
@@ -121,7 +121,7 @@ impl<A: Encode, B: Encode, C: Encode, D: Encode, E: Encode, F: Encode, G: Encode
 
     ghost is_short = { λ s. A.is_short s.0 × (B.is_short s.1 × (C.is_short s.2 × (D.is_short s.3 × (E.is_short s.4 × (F.is_short s.5 × G.is_short s.6))))) };
 
-    ghost small = { λ x h. let p0 = length_parts (A.octets x.0) (B.octets x.1 ++ (C.octets x.2 ++ (D.octets x.3 ++ (E.octets x.4 ++ (F.octets x.5 ++ G.octets x.6))))) h in let p1 = length_parts (B.octets x.1) (C.octets x.2 ++ (D.octets x.3 ++ (E.octets x.4 ++ (F.octets x.5 ++ G.octets x.6)))) p0.1 in let p2 = length_parts (C.octets x.2) (D.octets x.3 ++ (E.octets x.4 ++ (F.octets x.5 ++ G.octets x.6))) p1.1 in let p3 = length_parts (D.octets x.3) (E.octets x.4 ++ (F.octets x.5 ++ G.octets x.6)) p2.1 in let p4 = length_parts (E.octets x.4) (F.octets x.5 ++ G.octets x.6) p3.1 in let p5 = length_parts (F.octets x.5) (G.octets x.6) p4.1 in (A.small x.0 p0.0, (B.small x.1 p1.0, (C.small x.2 p2.0, (D.small x.3 p3.0, (E.small x.4 p4.0, (F.small x.5 p5.0, G.small x.6 p5.1)))))) };
+    ghost small = { λ x. pair_small _ _ (A.small x.0) (pair_small _ _ (B.small x.1) (pair_small _ _ (C.small x.2) (pair_small _ _ (D.small x.3) (pair_small _ _ (E.small x.4) (pair_small _ _ (F.small x.5) (G.small x.6)))))) };
 
     #[inline(always)]
     fn encoded_len(&self) -> Result<u64, EncodeError> {
@@ -150,7 +150,7 @@ impl<A: Encode, B: Encode, C: Encode, D: Encode, E: Encode, F: Encode, G: Encode
 
     ghost is_short = { λ s. A.is_short s.0 × (B.is_short s.1 × (C.is_short s.2 × (D.is_short s.3 × (E.is_short s.4 × (F.is_short s.5 × (G.is_short s.6 × H.is_short s.7)))))) };
 
-    ghost small = { λ x h. let p0 = length_parts (A.octets x.0) (B.octets x.1 ++ (C.octets x.2 ++ (D.octets x.3 ++ (E.octets x.4 ++ (F.octets x.5 ++ (G.octets x.6 ++ H.octets x.7)))))) h in let p1 = length_parts (B.octets x.1) (C.octets x.2 ++ (D.octets x.3 ++ (E.octets x.4 ++ (F.octets x.5 ++ (G.octets x.6 ++ H.octets x.7))))) p0.1 in let p2 = length_parts (C.octets x.2) (D.octets x.3 ++ (E.octets x.4 ++ (F.octets x.5 ++ (G.octets x.6 ++ H.octets x.7)))) p1.1 in let p3 = length_parts (D.octets x.3) (E.octets x.4 ++ (F.octets x.5 ++ (G.octets x.6 ++ H.octets x.7))) p2.1 in let p4 = length_parts (E.octets x.4) (F.octets x.5 ++ (G.octets x.6 ++ H.octets x.7)) p3.1 in let p5 = length_parts (F.octets x.5) (G.octets x.6 ++ H.octets x.7) p4.1 in let p6 = length_parts (G.octets x.6) (H.octets x.7) p5.1 in (A.small x.0 p0.0, (B.small x.1 p1.0, (C.small x.2 p2.0, (D.small x.3 p3.0, (E.small x.4 p4.0, (F.small x.5 p5.0, (G.small x.6 p6.0, H.small x.7 p6.1))))))) };
+    ghost small = { λ x. pair_small _ _ (A.small x.0) (pair_small _ _ (B.small x.1) (pair_small _ _ (C.small x.2) (pair_small _ _ (D.small x.3) (pair_small _ _ (E.small x.4) (pair_small _ _ (F.small x.5) (pair_small _ _ (G.small x.6) (H.small x.7))))))) };
 
     #[inline(always)]
     fn encoded_len(&self) -> Result<u64, EncodeError> {

@@ -74,12 +74,15 @@ impl<T: Encode> Encode for Value<T> {
     }
 }
 
-/// The octets of a length, in the shortest form (X.690, sections 8.1.3 and 10.1).
+/// The identifier and the length of a value (X.690, sections 8.1.2, 8.1.3 and 10.1).
 #[derive(Drop)]
-pub struct Length(pub u32);
+pub(crate) struct Header {
+    pub identifier: u8,
+    pub len: u32,
+}
 
-impl Encode for Length {
-    ghost octets = { λ s. length_octets s.0 };
+impl Encode for Header {
+    ghost octets = { λ s. s.identifier ∷ length_octets s.len };
 
     ghost is_short = { λ _. Unit {0} };
 
@@ -87,12 +90,12 @@ impl Encode for Length {
 
     #[inline(always)]
     fn encoded_len(&self) -> Result<u64, EncodeError> {
-        Ok(length_size(self.0))
+        Ok(1 + length_size(self.len))
     }
 
     #[inline(always)]
     fn put<W: Sink>(&self, _len: u64, out: &mut W) -> Result<(), SinkFailed> {
-        put_length(self.0, out)
+        put_header(self.identifier, self.len, out)
     }
 }
 
@@ -130,29 +133,6 @@ fn contents_len(len: u64) -> u64
         _ => 6,
     };
     len.saturating_sub(header)
-}
-
-/// Writes a length.
-#[tactic(auto, unfolding(crate::specs::Written::length_octets))]
-#[inline(always)]
-fn put_length<W: Sink>(n: u32, out: &mut W) -> Result<(), SinkFailed>
-    ensures ok { OnOk result (Appends (W.taken out.old) (W.taken out.new) (length_octets n)) }
-    ensures begun { OnErr result (AppendsFront (W.taken out.old) (W.taken out.new) (length_octets n)) }
-    ensures same { OnOk result (W.failures out.new ≡ W.failures out.old) }
-    ensures failed { OnErr result (W.failures out.new ≡ W.failures out.old + 1) }
-{
-    let b = n.to_be_bytes();
-    if n < 0x80 {
-        out.take_all(&b[3..])
-    } else if n < 0x100 {
-        out.take_all(&[0x81, b[3]])
-    } else if n < 0x1_0000 {
-        out.take_all(&[0x82, b[2], b[3]])
-    } else if n < 0x100_0000 {
-        out.take_all(&[0x83, b[1], b[2], b[3]])
-    } else {
-        out.take_all(&[0x84, b[0], b[1], b[2], b[3]])
-    }
 }
 
 /// Writes an identifier and a length, in one call of the sink.
