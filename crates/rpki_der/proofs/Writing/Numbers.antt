@@ -1,7 +1,7 @@
 -- the numbers that are written
 use Rattle.std.proofs.Common.{◌≡◌, ◌≢◌, ℕ, zero, suc, ◌+◌, ◌*◌, ◌^◌, ◌≤◌, ◌<◌, true, false, ltb, List, [], ◌∷◌, ◌++◌, length, drop, Option, Some, refl, sym, ap, ◌∙◌, subst, arith, inl, inr, eq-eqb, ◌/◌, ◌%◌}
 use Rattle.std.specs.Prelude.{nat_eq}
-use Rattle.std.specs.Int.{w32, to_be_bytes}
+use Rattle.std.specs.Int.{w32, w64, to_be_bytes}
 use Rattle.std.proofs.lemmas.Bool.{eqb-true, eqb-false, ne_eqb, ltb-true, ltb-false, lt-ltb, le-ltb}
 use Rattle.rpki_der.specs.Read.Parse.{number, digits_of, number_of, unsigned_of}
 use Rattle.rpki_der.specs.Grammar.{IsInteger, IsBytes}
@@ -226,22 +226,48 @@ own-number : (c : List ℕ) (n : ℕ) → IsBytes c → n < 2 ^ 32 → IsInteger
 own-number c n bytes lt h few =
     subst (λ x. value_octets 2 x ≡ 2 ∷ length c ∷ c) (contents-unique c n bytes lt h) (ap (λ (l : List ℕ). 2 ∷ l ++ c) (sym (short-unique (length c) few)))
 
--- an INTEGER of 32 bits, by the number of its octets
-pub one_octet : (n : ℕ) → n < 0x80 → number_octets n ≡ 2 ∷ 1 ∷ drop 3 (to_be_bytes w32 n)
-one_octet n h = own-number (drop 3 (to_be_bytes w32 n)) n (omega arith, tt) (omega (arith, h)) (omega (arith, h), omega (arith, h)) (omega arith)
+-- an INTEGER of 32 bits, by the number of its octets: identifier, length and contents are the digits of one number
+pub one_octet : (n : ℕ) → n < 0x80 → number_octets n ≡ drop 5 (to_be_bytes w64 (0x020100 + n))
+one_octet n h =
+    let i : (0x020100 + n) / 65536 % 256 ≡ 2 = omega (arith, h) in
+    let l : (0x020100 + n) / 256 % 256 ≡ 1 = omega (arith, h) in
+    let d : (0x020100 + n) % 256 ≡ n % 256 = omega (arith, h) in
+    rw (i, l, d) (own-number (drop 3 (to_be_bytes w32 n)) n (omega arith, tt) (omega (arith, h)) (omega (arith, h), omega (arith, h)) (omega arith))
 
-pub two_octets : (n : ℕ) → 0x80 ≤ n → n < 0x8000 → number_octets n ≡ 2 ∷ 2 ∷ drop 2 (to_be_bytes w32 n)
+pub two_octets : (n : ℕ) → 0x80 ≤ n → n < 0x8000 → number_octets n ≡ drop 4 (to_be_bytes w64 (0x02020000 + n))
 two_octets n g h =
-    own-number (drop 2 (to_be_bytes w32 n)) n (omega arith, (omega arith, tt)) (omega (arith, h)) (omega (arith, h), (λ z. omega (arith, g, z)), omega (arith, h)) (omega arith)
+    let i : (0x02020000 + n) / 16777216 % 256 ≡ 2 = omega (arith, h) in
+    let l : (0x02020000 + n) / 65536 % 256 ≡ 2 = omega (arith, h) in
+    let c : (0x02020000 + n) / 256 % 256 ≡ n / 256 % 256 = omega (arith, h) in
+    let d : (0x02020000 + n) % 256 ≡ n % 256 = omega (arith, h) in
+    rw (i, l, c, d) (own-number (drop 2 (to_be_bytes w32 n)) n (omega arith, (omega arith, tt)) (omega (arith, h)) (omega (arith, h), (λ z. omega (arith, g, z)), omega (arith, h)) (omega arith))
 
-pub three_octets : (n : ℕ) → 0x8000 ≤ n → n < 0x800000 → number_octets n ≡ 2 ∷ 3 ∷ drop 1 (to_be_bytes w32 n)
+pub three_octets : (n : ℕ) → 0x8000 ≤ n → n < 0x800000 → number_octets n ≡ drop 3 (to_be_bytes w64 (0x0203000000 + n))
 three_octets n g h =
-    own-number (drop 1 (to_be_bytes w32 n)) n (omega arith, (omega arith, (omega arith, tt))) (omega (arith, h)) (omega (arith, h), (λ z. omega (arith, g, z)), omega (arith, h)) (omega arith)
+    let i : (0x0203000000 + n) / 4294967296 % 256 ≡ 2 = omega (arith, h) in
+    let l : (0x0203000000 + n) / 16777216 % 256 ≡ 3 = omega (arith, h) in
+    let b : (0x0203000000 + n) / 65536 % 256 ≡ n / 65536 % 256 = omega (arith, h) in
+    let c : (0x0203000000 + n) / 256 % 256 ≡ n / 256 % 256 = omega (arith, h) in
+    let d : (0x0203000000 + n) % 256 ≡ n % 256 = omega (arith, h) in
+    rw (i, l, b, c, d) (own-number (drop 1 (to_be_bytes w32 n)) n (omega arith, (omega arith, (omega arith, tt))) (omega (arith, h)) (omega (arith, h), (λ z. omega (arith, g, z)), omega (arith, h)) (omega arith))
 
-pub four_octets : (n : ℕ) → 0x800000 ≤ n → n < 0x80000000 → number_octets n ≡ 2 ∷ 4 ∷ to_be_bytes w32 n
+pub four_octets : (n : ℕ) → 0x800000 ≤ n → n < 0x80000000 → number_octets n ≡ drop 2 (to_be_bytes w64 (0x020400000000 + n))
 four_octets n g h =
-    own-number (to_be_bytes w32 n) n (omega arith, (omega arith, (omega arith, (omega arith, tt)))) (omega (arith, h)) (omega (arith, h), (λ z. omega (arith, g, z)), omega (arith, h)) (omega arith)
+    let i : (0x020400000000 + n) / 1099511627776 % 256 ≡ 2 = omega (arith, h) in
+    let l : (0x020400000000 + n) / 4294967296 % 256 ≡ 4 = omega (arith, h) in
+    let a : (0x020400000000 + n) / 16777216 % 256 ≡ n / 16777216 % 256 = omega (arith, h) in
+    let b : (0x020400000000 + n) / 65536 % 256 ≡ n / 65536 % 256 = omega (arith, h) in
+    let c : (0x020400000000 + n) / 256 % 256 ≡ n / 256 % 256 = omega (arith, h) in
+    let d : (0x020400000000 + n) % 256 ≡ n % 256 = omega (arith, h) in
+    rw (i, l, a, b, c, d) (own-number (to_be_bytes w32 n) n (omega arith, (omega arith, (omega arith, (omega arith, tt)))) (omega (arith, h)) (omega (arith, h), (λ z. omega (arith, g, z)), omega (arith, h)) (omega arith))
 
-pub five_octets : (n : ℕ) → 0x80000000 ≤ n → n < 2 ^ 32 → number_octets n ≡ 2 ∷ 5 ∷ 0 ∷ to_be_bytes w32 n
+pub five_octets : (n : ℕ) → 0x80000000 ≤ n → n < 2 ^ 32 → number_octets n ≡ drop 1 (to_be_bytes w64 (0x02050000000000 + n))
 five_octets n g h =
-    own-number (0 ∷ to_be_bytes w32 n) n (omega arith, (omega arith, (omega arith, (omega arith, (omega arith, tt))))) h (omega arith, (λ _. omega (arith, g)), omega (arith, h)) (omega arith)
+    let i : (0x02050000000000 + n) / 281474976710656 % 256 ≡ 2 = omega (arith, h) in
+    let l : (0x02050000000000 + n) / 1099511627776 % 256 ≡ 5 = omega (arith, h) in
+    let z : (0x02050000000000 + n) / 4294967296 % 256 ≡ 0 = omega (arith, h) in
+    let a : (0x02050000000000 + n) / 16777216 % 256 ≡ n / 16777216 % 256 = omega (arith, h) in
+    let b : (0x02050000000000 + n) / 65536 % 256 ≡ n / 65536 % 256 = omega (arith, h) in
+    let c : (0x02050000000000 + n) / 256 % 256 ≡ n / 256 % 256 = omega (arith, h) in
+    let d : (0x02050000000000 + n) % 256 ≡ n % 256 = omega (arith, h) in
+    rw (i, l, z, a, b, c, d) (own-number (0 ∷ to_be_bytes w32 n) n (omega arith, (omega arith, (omega arith, (omega arith, (omega arith, tt))))) h (omega arith, (λ _. omega (arith, g)), omega (arith, h)) (omega arith))

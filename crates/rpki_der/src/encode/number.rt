@@ -83,13 +83,14 @@ impl Encode for Unsigned {
 
     #[inline(always)]
     fn put<W: Sink>(&self, _len: u64, out: &mut W) -> Result<(), SinkFailed> {
-        let b = self.0.to_be_bytes();
+        // identifier, length and contents as the digits of one number, so that they are moved as one word
+        let n = u64::from(self.0);
         match self.0 {
-            0..=0x7F => out.take_all(&[2, 1, b[3]]),
-            0x80..=0x7FFF => out.take_all(&[2, 2, b[2], b[3]]),
-            0x8000..=0x7F_FFFF => out.take_all(&[2, 3, b[1], b[2], b[3]]),
-            0x80_0000..=0x7FFF_FFFF => out.take_all(&[2, 4, b[0], b[1], b[2], b[3]]),
-            _ => out.take_all(&[2, 5, 0, b[0], b[1], b[2], b[3]]),
+            0..=0x7F => out.take_all(&(0x02_01_00 + n).to_be_bytes()[5..]),
+            0x80..=0x7FFF => out.take_all(&(0x02_02_0000 + n).to_be_bytes()[4..]),
+            0x8000..=0x7F_FFFF => out.take_all(&(0x02_03_00_0000 + n).to_be_bytes()[3..]),
+            0x80_0000..=0x7FFF_FFFF => out.take_all(&(0x02_04_0000_0000 + n).to_be_bytes()[2..]),
+            _ => out.take_all(&(0x02_05_00_0000_0000 + n).to_be_bytes()[1..]),
         }
     }
 }
