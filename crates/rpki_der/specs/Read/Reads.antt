@@ -115,7 +115,7 @@ Opens {T} tag step old result new =
     (λ v. (r : Result T DecodeError) × (after : State) × step (fresh old.mode v.0) r after × Left (closed r after) v.1 result new))
     (λ e. FailsAgain e result new)
 
--- the same for a value that may be there
+-- the answer of a call that found the value which may be there
 abbrev pub some_of_result : {T : Type 0} → Result T DecodeError → Result (Option T) DecodeError
 some_of_result (Ok t) = Ok (Some t)
 some_of_result (Err e) = Err e
