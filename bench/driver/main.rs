@@ -25,6 +25,8 @@ unsafe extern "C" {
     fn bench_decode(octets: *const u8, len: usize, rounds: u32) -> u64;
     fn bench_walk(octets: *const u8, len: usize, rounds: u32) -> u64;
     fn bench_write(octets: *const u8, len: usize, rounds: u32) -> u64;
+    fn bench_read_der(octets: *const u8, len: usize, rounds: u32) -> u64;
+    fn bench_read_ber(octets: *const u8, len: usize, rounds: u32) -> u64;
 }
 
 /// What is measured: a name, and a call that does it so many times on the octets of a content. Its answer is the
@@ -60,6 +62,14 @@ fn proved_write(octets: &[u8], rounds: u32) -> u64 {
     unsafe { bench_write(octets.as_ptr(), octets.len(), rounds) }
 }
 
+fn strict_read(octets: &[u8], rounds: u32) -> u64 {
+    unsafe { bench_read_der(octets.as_ptr(), octets.len(), rounds) }
+}
+
+fn relaxed_read(octets: &[u8], rounds: u32) -> u64 {
+    unsafe { bench_read_ber(octets.as_ptr(), octets.len(), rounds) }
+}
+
 /// Each subject, and the plain one that it is set beside.
 fn subjects() -> Vec<Subject> {
     let subject = |name, beside, run| Subject { name, beside, run };
@@ -72,6 +82,8 @@ fn subjects() -> Vec<Subject> {
         subject("proved-walk", "plain-walk", proved_walk),
         #[cfg(bcder)]
         subject("bcder-walk", "plain-walk", beside_bcder::walk),
+        subject("strict-read", "plain-walk", strict_read),
+        subject("relaxed-read", "strict-read", relaxed_read),
         subject("plain-write", "plain-write", plain_write),
         subject("proved-write", "plain-write", proved_write),
     ]

@@ -9,6 +9,10 @@ use Rattle.rpki_der.specs.Written.{length_octets, value_octets}
 pub length_parts : (xs ys : List ℕ) → length (xs ++ ys) < 2 ^ 32 → (length xs < 2 ^ 32) × (length ys < 2 ^ 32)
 length_parts xs ys h = (omega (arith, length-append xs ys), omega (arith, length-append xs ys))
 
+-- where both together are few octets, each is
+pub pair_small : {P Q : Type 0} (xs ys : List ℕ) → (length xs < 2 ^ 32 → P) → (length ys < 2 ^ 32 → Q) → length (xs ++ ys) < 2 ^ 32 → P × Q
+pair_small xs ys p q h = (p (length_parts xs ys h).0, q (length_parts xs ys h).1)
+
 pub contents_small : (identifier : ℕ) (contents : List ℕ) → length (value_octets identifier contents) < 2 ^ 32 → length contents < 2 ^ 32
 contents_small identifier contents h = omega (arith, length-append (length_octets (length contents)) contents)
 

@@ -4,7 +4,7 @@ use Rattle.std.proofs.Common.{arith, length-append}
 use Rattle.std.proofs.lemmas.Bool.Decides.{nat_tests}
 use Rattle.std.specs.Int.{w32, to_be_bytes}
 
--- the length octets of so many contents octets, in the shortest form
+-- the length octets of so many contents octets, fewer than 2^32, in the shortest form
 unfoldable pub length_octets : ℕ → List ℕ
 length_octets n =
     if nat_lt n 0x80 then drop 3 (to_be_bytes w32 n)

@@ -3,7 +3,7 @@
 ghost use Rattle.std.specs.Prelude.{◌≡◌, ◌<◌, ◌^◌, ◌⊎◌, ◌↔◌, length, IfOk, OnOk, IfErr, IsErrOf};
 ghost use Rattle.rpki_der.specs.Written.{value_octets};
 
-use crate::encode::{Encode, EncodeError, Length, Raw};
+use crate::encode::{Encode, EncodeError, Header, Raw};
 use std::alloc::Global;
 
 /// An identifier octet, the length of the contents in its shortest form, and the contents. Any octet is taken for an identifier.
@@ -15,6 +15,6 @@ pub fn tlv(alloc: Global, identifier: u8, contents: &[u8]) -> Result<Vec<u8>, En
 {
     match u32::try_from(contents.len()) {
         Err(_) => Err(EncodeError::TooLong),
-        Ok(n) => (Raw(&[identifier]), (Length(n), Raw(contents))).to_bytes(alloc),
+        Ok(len) => (Header { identifier, len }, Raw(contents)).to_bytes(alloc),
     }
 }

@@ -23,7 +23,8 @@ pub use leaf::{boolean, ia5, null, octet_string, oid, primitive};
 pub use list::{Elements, each};
 pub use number::{Digits, Unsigned, integer, integer_of, integer_u8};
 pub use raw::Raw;
-pub use value::{Length, Value, sequence, set, tagged};
+pub(crate) use value::Header;
+pub use value::{Value, sequence, set, tagged};
 
 /// Why a value was not written.
 #[derive(Debug, Drop)]
@@ -55,11 +56,11 @@ pub trait Encode {
     fn encoded_len(&self) -> Result<u64, EncodeError>
         ensures { IsLenOf (is_der self.now) (is_short self.now) (octets self.now) result };
 
-    /// Writes the octets.
-    fn put<W: Sink>(&self, out: &mut W) -> Result<(), SinkFailed>
+    /// Writes the octets, of which there are `len`, as `encoded_len` has found.
+    fn put<W: Sink>(&self, len: u64, out: &mut W) -> Result<(), SinkFailed>
         requires der { is_der self.now }
         requires short { is_short self.now }
-        requires len { length (octets self.now) < 2 ^ 64 }
+        requires len { len ≡ length (octets self.now) }
         ensures ok { OnOk result (Appends (W.taken out.old) (W.taken out.new) (octets self.now)) }
         ensures begun { OnErr result (AppendsFront (W.taken out.old) (W.taken out.new) (octets self.now)) }
         ensures same { OnOk result (W.failures out.new ≡ W.failures out.old) }
@@ -77,7 +78,7 @@ pub trait Encode {
     {
         match self.encoded_len() {
             Err(fault) => Err(fault),
-            Ok(_) => match self.put(out) {
+            Ok(len) => match self.put(len, out) {
                 Ok(()) => Ok(()),
                 Err(_) => Err(EncodeError::Io),
             },
@@ -99,13 +100,27 @@ pub trait Encode {
                         bytes,
                         failures: Count::zero(),
                     };
-                    match self.put(&mut out) {
+                    match self.put(len, &mut out) {
                         Ok(()) => Ok(out.bytes),
                         Err(_) => Err(EncodeError::Memory),
                     }
                 }
             },
         }
+    }
+}
+
+/// How many octets a value has that can be written.
+#[inline(always)]
+fn len_of<T: Encode>(value: &T) -> u64
+    requires der { T.is_der value.now }
+    requires short { T.is_short value.now }
+    requires len { length (T.octets value.now) < 2 ^ 64 }
+    ensures { result ≡ length (T.octets value.now) }
+{
+    match value.encoded_len() {
+        Ok(len) => len,
+        Err(_) => unreachable!(),
     }
 }
 

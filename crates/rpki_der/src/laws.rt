@@ -90,11 +90,10 @@ pub fn optional_values()
     ensures contents { (tag : ℕ) → IsOptionalReading tag (primitive tag Some) (λ mode octets contents. Value mode octets tag contents) }
 {}
 
-/// What is captured of a value with a given tag are its octets, as they stand in the source.
+/// What is captured of a value with a given tag, or of a value that is skipped, are its octets.
 pub fn captured_values()
-    ensures { (mode : Mode) (tag : ℕ) (source octets rest : List ℕ) → IsBytes source
-        → captured (value_at tag) mode source ≡ Some (octets, rest)
-        → (contents : List ℕ) × (source ≡ octets ++ rest) × Value mode octets tag contents }
+    ensures tagged { (tag : ℕ) → IsReading (captured (value_at tag)) (λ mode octets kept. (kept ≡ octets) × (contents : List ℕ) × Value mode octets tag contents) }
+    ensures skipped { (depth : ℕ) → IsReading (captured (skip_at depth)) (λ mode octets kept. (kept ≡ octets) × Unit {0} × Skipped mode depth octets) }
 {}
 
 /// A SEQUENCE of INTEGERs from 0 to 2^32 - 1.

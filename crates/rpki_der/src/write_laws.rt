@@ -21,7 +21,7 @@ pub fn values_are_written()
 /// An INTEGER is written of the digits of a number that is not negative, and its number is read again by each call that takes numbers of so many octets.
 pub fn integers_are_written()
     ensures written { (digits : List ℕ) → length digits + 1 < 2 ^ 32 → Integer Der (value_octets 2 (integer_contents digits)) (number 0 digits) }
-    ensures unique { (o : List ℕ) (n : ℕ) → IsBytes o → Integer Der o n → (digits : List ℕ) × (number 0 digits ≡ n) × (o ≡ value_octets 2 (integer_contents digits)) }
+    ensures unique { (o digits : List ℕ) → IsBytes o → IsBytes digits → Integer Der o (number 0 digits) → o ≡ value_octets 2 (integer_contents digits) }
     ensures read { (mode : Mode) (most : ℕ) (digits rest : List ℕ) → length digits + 1 < 2 ^ 32 → length (significant digits) ≤ most → 1 ≤ most
         → primitive 2 (unsigned_of most) mode (value_octets 2 (integer_contents digits) ++ rest) ≡ Some (number 0 digits, rest) }
 {}
@@ -69,10 +69,12 @@ pub fn ia5_strings_are_written()
     ensures read { (mode : Mode) (text rest : List ℕ) → All (λ b. b < 128) text → length text < 2 ^ 32 → ia5_at mode (value_octets 22 text ++ rest) ≡ Some (text, rest) }
 {}
 
-/// A BIT STRING is written with zeros for the bits that are not used, and read again so. Where all bits are used, it is the octets as they are.
+/// A BIT STRING is written with zeros for the bits that are not used, in the one way that there is for such a string, and read again so. Where all bits are used, it is the octets as they are.
 pub fn bit_strings_are_written()
     ensures written { (s : List ℕ) (unused : ℕ) → length s + 1 < 2 ^ 32
         → let u = unused_bits s unused in BitString Der (value_octets 3 (bit_string_contents s unused)) (zero_last s u, u) }
+    ensures unique { (o s : List ℕ) (unused : ℕ) → IsBytes o → BitString Der o (s, unused) → zero_last s unused ≡ s
+        → o ≡ value_octets 3 (bit_string_contents s unused) }
     ensures read { (mode : Mode) (s rest : List ℕ) (unused : ℕ) → length s + 1 < 2 ^ 32
         → let u = unused_bits s unused in bits_at mode (value_octets 3 (bit_string_contents s unused) ++ rest) ≡ Some ((zero_last s u, u), rest) }
     ensures whole { (s : List ℕ) → bit_string_contents s 0 ≡ 0 ∷ s }
@@ -83,6 +85,8 @@ pub fn bit_strings_are_written()
 pub fn lists_are_written()
     ensures written { (ns : List ℕ) → All (λ n. n < 2 ^ 32) ns → length (flat_map number_octets ns) < 2 ^ 32
         → Within Der 48 (λ c. Items (Integer Der) c ns) (value_octets 48 (flat_map number_octets ns)) }
+    ensures unique { (o ns : List ℕ) → IsBytes o → Within Der 48 (λ c. Items (λ d n. Integer Der d n × (n < 2 ^ 32)) c ns) o
+        → o ≡ value_octets 48 (flat_map number_octets ns) }
     ensures read { (mode : Mode) (ns rest : List ℕ) → All (λ n. n < 2 ^ 32) ns → length (flat_map number_octets ns) < 2 ^ 32
         → in_value 48 (many (optional 2 u32_at)) mode (value_octets 48 (flat_map number_octets ns) ++ rest) ≡ Some (ns, rest) }
 {}

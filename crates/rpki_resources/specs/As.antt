@@ -1,7 +1,5 @@
 -- AS numbers, and blocks of them.
 use Rattle.std.specs.Prelude.{ℕ, ◌<◌, ◌^◌, List, ◌++◌, ◌==◌, if◌then◌else◌, codes, decimal}
-use Rattle.std.specs.Int.{w32, to_be_bytes}
-use Rattle.rpki_der.specs.Written.{integer_contents}
 use Rattle.rpki_resources.specs.declared.block.Block.{Block}
 use Rattle.rpki_resources.specs.declared.asn.AsBlock.{AsBlock}
 use Rattle.rpki_resources.specs.declared.asn.AsBlock.TheVariants.{Id, Range}
@@ -9,10 +7,6 @@ use Rattle.rpki_resources.specs.declared.asn.AsBlock.TheVariants.{Id, Range}
 -- RFC 6793, section 3: a number of four octets
 abbrev pub IsAsn : ℕ → Type 0
 IsAsn n = n < 2 ^ 32
-
--- the contents of the INTEGER that it is (X.690, 8.3)
-abbrev pub asn_contents : ℕ → List ℕ
-asn_contents n = integer_contents (to_be_bytes w32 n)
 
 -- how a block is named: one number by itself
 abbrev pub as_block : Block ℕ → AsBlock

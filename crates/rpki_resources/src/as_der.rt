@@ -133,11 +133,11 @@ impl Encode for Block<Asn> {
         }
     }
 
-    fn put<W: Sink>(&self, out: &mut W) -> Result<(), SinkFailed> {
+    fn put<W: Sink>(&self, len: u64, out: &mut W) -> Result<(), SinkFailed> {
         match AsBlock::of(*self) {
-            AsBlock::Id(id) => integer(id.into_u32()).put(out),
+            AsBlock::Id(id) => integer(id.into_u32()).put(len, out),
             AsBlock::Range(min, max) => {
-                sequence((integer(min.into_u32()), integer(max.into_u32()))).put(out)
+                sequence((integer(min.into_u32()), integer(max.into_u32()))).put(len, out)
             }
         }
     }

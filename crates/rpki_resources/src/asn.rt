@@ -80,16 +80,13 @@ impl fmt::Display for Asn {
 
 /// An INTEGER (X.690, section 8.3).
 impl Encode for Asn {
-    ghost use Rattle.std.specs.Prelude.{◌<◌, ◌^◌, length};
     ghost use Rattle.rpki_der.specs.Written.{number_octets};
-    ghost use Rattle.rpki_der.specs.Parts.{contents_small};
-    ghost use Rattle.rpki_resources.specs.As.{asn_contents};
 
     ghost octets = { number_octets };
 
-    ghost is_short = { λ a. length (asn_contents a) < 2 ^ 32 };
+    ghost is_short = { λ _. Unit {0} };
 
-    ghost small = { λ a h. contents_small 2 (asn_contents a) h };
+    ghost small = { λ _ _. tt };
 
     #[inline(always)]
     fn encoded_len(&self) -> Result<u64, EncodeError> {
@@ -97,8 +94,8 @@ impl Encode for Asn {
     }
 
     #[inline(always)]
-    fn put<W: Sink>(&self, out: &mut W) -> Result<(), SinkFailed> {
-        integer(self.0).put(out)
+    fn put<W: Sink>(&self, len: u64, out: &mut W) -> Result<(), SinkFailed> {
+        integer(self.0).put(len, out)
     }
 }
 

@@ -273,9 +273,9 @@ impl Encode for FirstBits {
         bit_string(&octets[..self.octet_count()], self.unused()).encoded_len()
     }
 
-    fn put<W: Sink>(&self, out: &mut W) -> Result<(), SinkFailed> {
+    fn put<W: Sink>(&self, len: u64, out: &mut W) -> Result<(), SinkFailed> {
         let octets = self.addr.to_bits().to_be_bytes();
-        bit_string(&octets[..self.octet_count()], self.unused()).put(out)
+        bit_string(&octets[..self.octet_count()], self.unused()).put(len, out)
     }
 }
 
@@ -324,10 +324,10 @@ impl Encode for Block<Addr> {
         }
     }
 
-    fn put<W: Sink>(&self, out: &mut W) -> Result<(), SinkFailed> {
+    fn put<W: Sink>(&self, len: u64, out: &mut W) -> Result<(), SinkFailed> {
         match len_of(self.min.to_bits(), self.max.to_bits()) {
-            Some(len) => prefix_bits(self.min, len).put(out),
-            None => sequence((lower_end(self.min), upper_end(self.max))).put(out),
+            Some(bits) => prefix_bits(self.min, bits).put(len, out),
+            None => sequence((lower_end(self.min), upper_end(self.max))).put(len, out),
         }
     }
 }

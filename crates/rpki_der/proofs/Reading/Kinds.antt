@@ -2,12 +2,19 @@
 use Rattle.std.proofs.Common.{◌≡◌, ℕ, ◌<◌, ◌^◌, [], Some, arith}
 use Rattle.std.specs.Prelude.{All}
 use Rattle.rpki_der.specs.declared.mode.Mode.TheVariants.{Der, Ber}
-use Rattle.rpki_der.specs.Read.Parse.{primitive, unsigned_of, this, u8_at, u32_at, boolean_at, boolean_of, null_of, ia5_at, ia5_of}
-use Rattle.rpki_der.specs.Grammar.{Value, IsInteger, IntegerBelow, Boolean, IsBoolean, Null, Ia5String, IsReading}
-use Rattle.rpki_der.proofs.Reading.Exact.{exact-primitive, exact-contents}
+use Rattle.rpki_der.specs.Read.Parse.{value_at, skip_at, primitive, unsigned_of, this, u8_at, u32_at, boolean_at, boolean_of, null_of, ia5_at, ia5_of}
+use Rattle.rpki_der.specs.Grammar.{Value, IsInteger, IntegerBelow, Boolean, IsBoolean, Null, Ia5String, Skipped, IsReading}
+use Rattle.rpki_der.proofs.Reading.Exact.{exact-value, exact-primitive, exact-contents}
 use Rattle.rpki_der.proofs.Reading.Integers.{exact-unsigned, exact-this, holds1, holds4}
 use Rattle.rpki_der.proofs.Reading.Contents.{exact-boolean, boolean-ber, exact-null, exact-ia5}
-use Rattle.rpki_der.proofs.Reading.Unique.{reading, reading-primitive, within-ber, value-ber}
+use Rattle.rpki_der.proofs.Reading.Skips.{exact-skip}
+use Rattle.rpki_der.proofs.Reading.Unique.{reading, reading-primitive, within-ber, value-ber, skipped-ber}
+
+pub reading-value : (tag : ℕ) → IsReading (value_at tag) (λ mode o c. Value mode o tag c)
+reading-value tag = reading (value_at tag) (λ mode o c. Value mode o tag c) (exact-value tag) (λ o. value-ber o tag)
+
+pub reading-skipped : (depth : ℕ) → IsReading (skip_at depth) (λ mode o _. Skipped mode depth o)
+reading-skipped depth = reading (skip_at depth) (λ mode o _. Skipped mode depth o) (exact-skip depth) (λ o _. skipped-ber depth o)
 
 pub reading-u8 : IsReading u8_at (IntegerBelow 256)
 reading-u8 = reading-primitive 2 (unsigned_of 1) (λ c n. IsInteger c n × (n < 256)) (exact-unsigned 1 256 holds1 (omega arith))

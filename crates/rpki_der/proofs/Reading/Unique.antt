@@ -1,12 +1,12 @@
 -- What stands at the front is unique, and what is there in DER is there in BER.
-use Rattle.std.proofs.Common.{◌≡◌, ℕ, zero, suc, ◌-◌, List, [], ◌∷◌, ◌++◌, length, take, Option, Some, refl, sym, ap, subst, ◌∙◌, arith, inl, inr}
+use Rattle.std.proofs.Common.{◌≡◌, ℕ, zero, suc, ◌-◌, List, [], ◌∷◌, ◌++◌, length, take, Option, Some, refl, sym, ap, ◌∙◌, arith, inl, inr}
 use Rattle.std.proofs.lemmas.List.{take_at, length-append}
 use Rattle.rpki_der.specs.declared.mode.Mode.{Mode}
 use Rattle.rpki_der.specs.declared.mode.Mode.TheVariants.{Der, Ber}
-use Rattle.rpki_der.specs.Read.Parse.{Parser, primitive, value_at, captured, taken}
-use Rattle.rpki_der.specs.Grammar.{IsExact, IsUnique, IsReading, Integer, Value, Within, definite, indefinite, Items, Skipped, OctetString, IsBytes, anything}
+use Rattle.rpki_der.specs.Read.Parse.{Parser, primitive, captured, taken}
+use Rattle.rpki_der.specs.Grammar.{IsExact, IsUnique, IsReading, Integer, Value, Within, definite, indefinite, Items, Skipped, OctetString, anything}
 use Rattle.rpki_der.proofs.Reading.Lengths.{bind_some, some_is, length-any}
-use Rattle.rpki_der.proofs.Reading.Exact.{IsExactContents, exact-primitive, value-sound}
+use Rattle.rpki_der.proofs.Reading.Exact.{IsExactContents, exact-primitive}
 
 before : (a r : List ℕ) → take (length (a ++ r) - length r) (a ++ r) ≡ a
 before a r =
@@ -59,13 +59,26 @@ reading-primitive tag f M e =
     reading (primitive tag f) (λ mode o x. Within mode tag (λ c. M c x) o) (λ mode. exact-primitive tag f mode M e)
     (λ o x h. within-ber tag (λ c. M c x) (λ c. M c x) (λ c k. k) o h)
 
--- what is captured of a value
-pub captured-value : (mode : Mode) (tag : ℕ) (source o rest : List ℕ) → IsBytes source → captured (value_at tag) mode source ≡ Some (o, rest) → (c : List ℕ) × (source ≡ o ++ rest) × Value mode o tag c
-captured-value mode tag source o rest bytes e =
-    let v = bind_some (value_at tag mode source) _ (o, rest) e in
-    let q : (let t : List ℕ × List ℕ = (taken source v.0.1, v.0.1) in t) ≡ (o, rest) = some_is _ _ v.2 in
-    let f = value-sound tag mode source v.0.0 v.0.1 v.1 in
-    let all : taken source v.0.1 ≡ f.0 = ap (λ (t : List ℕ). taken t v.0.1) f.1 ∙ before f.0 v.0.1 in
-    let is : f.0 ≡ o = sym all ∙ ap (λ (t : List ℕ × List ℕ). t.0) q in
-    let left : v.0.1 ≡ rest = ap (λ (t : List ℕ × List ℕ). t.1) q in
-    (v.0.0, f.1 ∙ ap (λ (t : List ℕ). t ++ v.0.1) is ∙ ap (λ (t : List ℕ). o ++ t) left, subst (λ (t : List ℕ). Value mode t tag v.0.0) is f.2)
+-- what is captured of a reading are the octets that it found
+abbrev pub Kept : {X : Type 0} → (Mode → List ℕ → X → Type 0) → Mode → List ℕ → List ℕ → Type 0
+Kept {X} G mode octets o = (o ≡ octets) × (x : X) × G mode octets x
+
+captured-exact : {X : Type 0} (p : Parser X) (G : Mode → List ℕ → X → Type 0) (mode : Mode) → IsExact anything (p mode) (G mode) → IsExact anything (captured p mode) (Kept G mode)
+captured-exact {X} p G mode e = record {
+  sound = λ source o rest bytes h.
+      let v = bind_some (p mode source) _ (o, rest) h in
+      let q : (let t : List ℕ × List ℕ = (taken source v.0.1, v.0.1) in t) ≡ (o, rest) = some_is _ _ v.2 in
+      let f = e.sound source v.0.0 v.0.1 bytes v.1 in
+      let all : taken source v.0.1 ≡ f.0 = ap (λ (t : List ℕ). taken t v.0.1) f.1 ∙ before f.0 v.0.1 in
+      let is : o ≡ f.0 = sym (ap (λ (t : List ℕ × List ℕ). t.0) q) ∙ all in
+      let left : v.0.1 ≡ rest = ap (λ (t : List ℕ × List ℕ). t.1) q in
+      (f.0, f.1 ∙ ap (λ (t : List ℕ). f.0 ++ t) left, (is, v.0.0, f.2));
+  complete = λ front o rest _ h.
+      let found : p mode (front ++ rest) ≡ Some (h.1, rest) = e.complete front h.1 rest tt h.2 in
+      rw found (ap (λ (t : List ℕ). (let r : Option (List ℕ × List ℕ) = Some (t, rest) in r)) (before front rest ∙ sym h.0));
+}
+
+pub captured-reading : {X : Type 0} (p : Parser X) (G : Mode → List ℕ → X → Type 0) → IsReading p G → IsReading (captured p) (Kept G)
+captured-reading {X} p G e =
+    reading (captured p) (Kept G) (λ mode. captured-exact p G mode (e.exact mode))
+    (λ octets o h. (h.0, h.1, e.relaxed octets h.1 h.2))

@@ -1,5 +1,5 @@
 -- what is written is read again
-use Rattle.std.proofs.Common.{◌≡◌, ℕ, suc, ◌<◌, ◌^◌, List, [], ◌∷◌, ◌++◌, length, All, Option, Some, refl, ap, ◌∙◌, arith}
+use Rattle.std.proofs.Common.{◌≡◌, ℕ, suc, ◌<◌, ◌^◌, List, [], ◌∷◌, ◌++◌, length, All, Option, Some, refl, ap, ◌∙◌, subst, sym, arith}
 use Rattle.std.specs.List.{flat_map}
 use Rattle.rpki_der.specs.declared.mode.Mode.{Mode}
 use Rattle.rpki_der.specs.declared.mode.Mode.TheVariants.{Der, Ber}
@@ -7,7 +7,8 @@ use Rattle.rpki_der.specs.Identifier.{IsTag}
 use Rattle.rpki_der.specs.Read.Parse.{Parser, value_at, in_value, primitive}
 use Rattle.rpki_der.specs.Grammar.{Value, Within, IsBytes, Items}
 use Rattle.rpki_der.specs.Written.{value_octets}
-use Rattle.rpki_der.proofs.Reading.Exact.{value-complete}
+use Rattle.std.proofs.lemmas.List.{append-nil}
+use Rattle.rpki_der.proofs.Reading.Exact.{value-complete, IsBytes-left, IsBytes-right, IsBytes-contents}
 use Rattle.rpki_der.proofs.Reading.Unique.{value-ber}
 use Rattle.rpki_der.proofs.Writing.Lengths.{value-written, value-unique}
 
@@ -31,10 +32,23 @@ pub within-written : (tag : ℕ) (G : List ℕ → Type 0) (c : List ℕ) → Is
 within-written tag G c is short g = (c, value-written tag c is short, g)
 
 -- a value whose contents G determines is written in one way
+pub within-only : (tag : ℕ) (G : List ℕ → Type 0) (o d : List ℕ) → IsBytes o → ((c : List ℕ) → IsBytes c → G c → c ≡ d) → Within Der tag G o → o ≡ value_octets tag d
+within-only tag G o d bytes is h =
+    let inner : IsBytes h.0 = IsBytes-contents Der o o [] tag h.0 (sym (append-nil o)) h.1 bytes in
+    value-unique o tag h.0 bytes h.1 ∙ ap (value_octets tag) (is h.0 inner h.2)
+
 pub within-unique : (tag : ℕ) (G : List ℕ → Type 0) (o d : List ℕ) → IsBytes o → ((c : List ℕ) → G c → c ≡ d) → Within Der tag G o → o ≡ value_octets tag d
-within-unique tag G o d bytes is h = value-unique o tag h.0 bytes h.1 ∙ ap (value_octets tag) (is h.0 h.2)
+within-unique tag G o d bytes is h = within-only tag G o d bytes (λ c _. is c) h
 
 -- values that are written one after another are a list of them
 pub items-written : {X : Type 0} (G : List ℕ → X → Type 0) (f : X → List ℕ) (xs : List X) → All (λ x. G (f x) x) xs → Items G (flat_map f xs) xs
 items-written G f [] h = refl
 items-written G f (x ∷ xs) h = (f x, flat_map f xs, refl, h 0 x (omega arith), items-written G f xs (λ i d l. h (suc i) d (omega (arith, l))))
+
+-- a list is written in one way where each element is
+pub items-unique : {X : Type 0} (G : List ℕ → X → Type 0) (f : X → List ℕ) → ((d : List ℕ) (x : X) → IsBytes d → G d x → d ≡ f x) → (o : List ℕ) (xs : List X) → IsBytes o → Items G o xs → o ≡ flat_map f xs
+items-unique G f one o [] bytes h = h
+items-unique G f one o (x ∷ xs) bytes h =
+    let both : IsBytes (h.0 ++ h.1) = subst IsBytes h.2 bytes in
+    h.2 ∙ ap (λ (d : List ℕ). d ++ h.1) (one h.0 x (IsBytes-left h.0 h.1 both) h.3)
+    ∙ ap (λ (d : List ℕ). f x ++ d) (items-unique G f one h.1 xs (IsBytes-right h.0 h.1 both) h.4)

@@ -1,5 +1,5 @@
 -- the length that is written is the shortest one
-use Rattle.std.proofs.Common.{◌≡◌, ℕ, ◌+◌, ◌*◌, ◌/◌, ◌%◌, ◌^◌, ◌≤◌, ◌<◌, Bool, true, false, ltb, List, [], ◌∷◌, ◌++◌, length, drop, refl, ap, ◌∙◌, subst, arith, inl, inr}
+use Rattle.std.proofs.Common.{◌≡◌, ℕ, ◌+◌, ◌*◌, ◌/◌, ◌%◌, ◌^◌, ◌≤◌, ◌<◌, Bool, true, false, ltb, List, [], ◌∷◌, ◌++◌, length, drop, refl, ap, ◌∙◌, subst, arith, length-append, inl, inr}
 use Rattle.std.specs.Prelude.{◌⊎◌}
 use Rattle.std.specs.Int.{w32, to_be_bytes}
 use Rattle.std.proofs.lemmas.Bool.{ltb-true, ltb-false, lt-ltb, le-ltb}
@@ -34,7 +34,7 @@ length-written n h =
           ]
     ]
 
-short-unique : (n : ℕ) → n < 128 → n ∷ [] ≡ length_octets n
+pub short-unique : (n : ℕ) → n < 128 → n ∷ [] ≡ length_octets n
 unfolding length_octets
 short-unique n h = rw (lt-ltb n 0x80 h) (ap (λ (d : ℕ). d ∷ []) (omega arith))
 
@@ -79,6 +79,10 @@ length-unique l n bytes (inl h) = h.0 ∙ short-unique n h.1
 length-unique l n bytes (inr h) =
     let digits : IsBytes ((128 + length h.0) ∷ h.0) = subst IsBytes h.1 bytes in
     h.1 ∙ long-unique h.0 n digits.1 h.2 h.3 h.4 h.5
+
+-- what is left of the octets of a value behind its identifier and its length
+pub contents_left : (tag : ℕ) (c : List ℕ) (len : ℕ) → len ≡ length (value_octets tag c) → len ≡ 1 + length (length_octets (length c)) + length c
+contents_left tag c len e = omega (arith, e, length-append (length_octets (length c)) c)
 
 pub value-written : (tag : ℕ) (c : List ℕ) → IsTag tag → length c < 2 ^ 32 → Value Der (value_octets tag c) tag c
 value-written tag c is short = definite Der (value_octets tag c) tag (length_octets (length c)) c is (length-written (length c) short) refl

@@ -1,12 +1,12 @@
 -- the numbers that are written
-use Rattle.std.proofs.Common.{◌≡◌, ◌≢◌, ℕ, ◌+◌, ◌*◌, ◌^◌, ◌≤◌, ◌<◌, true, false, ltb, List, [], ◌∷◌, length, Option, Some, refl, sym, ap, ◌∙◌, subst, arith, inl, inr, eq-eqb, ◌/◌, ◌%◌}
+use Rattle.std.proofs.Common.{◌≡◌, ◌≢◌, ℕ, zero, suc, ◌+◌, ◌*◌, ◌^◌, ◌≤◌, ◌<◌, true, false, ltb, List, [], ◌∷◌, ◌++◌, length, drop, Option, Some, refl, sym, ap, ◌∙◌, subst, arith, inl, inr, eq-eqb, ◌/◌, ◌%◌}
 use Rattle.std.specs.Prelude.{nat_eq}
-use Rattle.std.specs.Int.{w32, to_be_bytes}
+use Rattle.std.specs.Int.{w32, w64, to_be_bytes}
 use Rattle.std.proofs.lemmas.Bool.{eqb-true, eqb-false, ne_eqb, ltb-true, ltb-false, lt-ltb, le-ltb}
 use Rattle.rpki_der.specs.Read.Parse.{number, digits_of, number_of, unsigned_of}
 use Rattle.rpki_der.specs.Grammar.{IsInteger, IsBytes}
-use Rattle.rpki_der.specs.Written.{significant, not_negative, integer_contents}
-use Rattle.rpki_der.proofs.Writing.Lengths.{test}
+use Rattle.rpki_der.specs.Written.{significant, not_negative, integer_contents, value_octets, number_octets}
+use Rattle.rpki_der.proofs.Writing.Lengths.{test, short-unique}
 
 -- no zero stands in front
 abbrev Starts : List ℕ → Type 0
@@ -176,3 +176,98 @@ pub own-contents : (c : List ℕ) (n : ℕ) → IsInteger c n → (number 0 c �
 own-contents [] n h = absurd h
 own-contents (a ∷ []) n h = (omega (arith, h.1), sym (own-one a h.0))
 own-contents (a ∷ b ∷ rest) n h = (sym h.2, sym (own-two a b rest h.0 h.1))
+
+-- ---- digits without zeros in front are those of one number
+
+injective : (xs ys : List ℕ) (a b : ℕ) → length xs ≡ length ys → IsBytes xs → IsBytes ys → number a xs ≡ number b ys → (a ≡ b) × (xs ≡ ys)
+injective [] [] a b l hx hy e = (e, refl)
+injective [] (y ∷ ys) a b l hx hy e = absurd (omega (arith, l))
+injective (x ∷ xs) [] a b l hx hy e = absurd (omega (arith, l))
+injective (x ∷ xs) (y ∷ ys) a b l hx hy e =
+    let more = injective xs ys (a * 256 + x) (b * 256 + y) (omega (arith, l)) hx.1 hy.1 e in
+    let first : x ≡ y = omega (arith, more.0, hx.0, hy.0) in
+    (omega (arith, more.0, hx.0, hy.0), ap (λ (d : ℕ). d ∷ xs) first ∙ ap (λ (ds : List ℕ). y ∷ ds) more.1)
+
+-- with so many zeros in front
+abbrev padded : ℕ → List ℕ → List ℕ
+padded zero ds = ds
+padded (suc k) ds = 0 ∷ padded k ds
+
+number-padded : (k : ℕ) (ds : List ℕ) → number 0 (padded k ds) ≡ number 0 ds
+number-padded zero ds = refl
+number-padded (suc k) ds = number-padded k ds
+
+significant-padded : (k : ℕ) (ds : List ℕ) → significant (padded k ds) ≡ significant ds
+significant-padded zero ds = refl
+significant-padded (suc k) ds = significant-padded k ds
+
+length-padded : (k : ℕ) (ds : List ℕ) → length (padded k ds) ≡ k + length ds
+length-padded zero ds = omega arith
+length-padded (suc k) ds = omega (arith, length-padded k ds)
+
+bytes-padded : (k : ℕ) (ds : List ℕ) → IsBytes ds → IsBytes (padded k ds)
+bytes-padded zero ds h = h
+bytes-padded (suc k) ds h = (omega arith, bytes-padded k ds h)
+
+significant-same : (a b : List ℕ) → IsBytes a → IsBytes b → number 0 a ≡ number 0 b → significant a ≡ significant b
+significant-same a b ha hb e =
+    let l : length (padded (length b) a) ≡ length (padded (length a) b) = omega (arith, length-padded (length b) a, length-padded (length a) b) in
+    let same = injective (padded (length b) a) (padded (length a) b) 0 0 l (bytes-padded (length b) a ha) (bytes-padded (length a) b hb) (number-padded (length b) a ∙ e ∙ sym (number-padded (length a) b)) in
+    sym (significant-padded (length b) a) ∙ ap significant same.1 ∙ significant-padded (length a) b
+
+-- the contents of the INTEGER with the number of these digits
+pub digits-unique : (c digits : List ℕ) → IsBytes c → IsBytes digits → IsInteger c (number 0 digits) → c ≡ integer_contents digits
+digits-unique c digits hc hd h =
+    let own = own-contents c (number 0 digits) h in
+    own.1 ∙ ap not_negative (significant-same c digits hc hd own.0)
+
+-- an INTEGER of 32 bits, from its own contents
+own-number : (c : List ℕ) (n : ℕ) → IsBytes c → n < 2 ^ 32 → IsInteger c n → length c < 128 → number_octets n ≡ 2 ∷ length c ∷ c
+own-number c n bytes lt h few =
+    subst (λ x. value_octets 2 x ≡ 2 ∷ length c ∷ c) (contents-unique c n bytes lt h) (ap (λ (l : List ℕ). 2 ∷ l ++ c) (sym (short-unique (length c) few)))
+
+-- an INTEGER of 32 bits, by the number of its octets: identifier, length and contents are the digits of one number
+pub one_octet : (n : ℕ) → n < 0x80 → number_octets n ≡ drop 5 (to_be_bytes w64 (0x020100 + n))
+one_octet n h =
+    let i : (0x020100 + n) / 65536 % 256 ≡ 2 = omega (arith, h) in
+    let l : (0x020100 + n) / 256 % 256 ≡ 1 = omega (arith, h) in
+    let d : (0x020100 + n) % 256 ≡ n % 256 = omega (arith, h) in
+    rw (i, l, d) (own-number (drop 3 (to_be_bytes w32 n)) n (omega arith, tt) (omega (arith, h)) (omega (arith, h), omega (arith, h)) (omega arith))
+
+pub two_octets : (n : ℕ) → 0x80 ≤ n → n < 0x8000 → number_octets n ≡ drop 4 (to_be_bytes w64 (0x02020000 + n))
+two_octets n g h =
+    let i : (0x02020000 + n) / 16777216 % 256 ≡ 2 = omega (arith, h) in
+    let l : (0x02020000 + n) / 65536 % 256 ≡ 2 = omega (arith, h) in
+    let c : (0x02020000 + n) / 256 % 256 ≡ n / 256 % 256 = omega (arith, h) in
+    let d : (0x02020000 + n) % 256 ≡ n % 256 = omega (arith, h) in
+    rw (i, l, c, d) (own-number (drop 2 (to_be_bytes w32 n)) n (omega arith, (omega arith, tt)) (omega (arith, h)) (omega (arith, h), (λ z. omega (arith, g, z)), omega (arith, h)) (omega arith))
+
+pub three_octets : (n : ℕ) → 0x8000 ≤ n → n < 0x800000 → number_octets n ≡ drop 3 (to_be_bytes w64 (0x0203000000 + n))
+three_octets n g h =
+    let i : (0x0203000000 + n) / 4294967296 % 256 ≡ 2 = omega (arith, h) in
+    let l : (0x0203000000 + n) / 16777216 % 256 ≡ 3 = omega (arith, h) in
+    let b : (0x0203000000 + n) / 65536 % 256 ≡ n / 65536 % 256 = omega (arith, h) in
+    let c : (0x0203000000 + n) / 256 % 256 ≡ n / 256 % 256 = omega (arith, h) in
+    let d : (0x0203000000 + n) % 256 ≡ n % 256 = omega (arith, h) in
+    rw (i, l, b, c, d) (own-number (drop 1 (to_be_bytes w32 n)) n (omega arith, (omega arith, (omega arith, tt))) (omega (arith, h)) (omega (arith, h), (λ z. omega (arith, g, z)), omega (arith, h)) (omega arith))
+
+pub four_octets : (n : ℕ) → 0x800000 ≤ n → n < 0x80000000 → number_octets n ≡ drop 2 (to_be_bytes w64 (0x020400000000 + n))
+four_octets n g h =
+    let i : (0x020400000000 + n) / 1099511627776 % 256 ≡ 2 = omega (arith, h) in
+    let l : (0x020400000000 + n) / 4294967296 % 256 ≡ 4 = omega (arith, h) in
+    let a : (0x020400000000 + n) / 16777216 % 256 ≡ n / 16777216 % 256 = omega (arith, h) in
+    let b : (0x020400000000 + n) / 65536 % 256 ≡ n / 65536 % 256 = omega (arith, h) in
+    let c : (0x020400000000 + n) / 256 % 256 ≡ n / 256 % 256 = omega (arith, h) in
+    let d : (0x020400000000 + n) % 256 ≡ n % 256 = omega (arith, h) in
+    rw (i, l, a, b, c, d) (own-number (to_be_bytes w32 n) n (omega arith, (omega arith, (omega arith, (omega arith, tt)))) (omega (arith, h)) (omega (arith, h), (λ z. omega (arith, g, z)), omega (arith, h)) (omega arith))
+
+pub five_octets : (n : ℕ) → 0x80000000 ≤ n → n < 2 ^ 32 → number_octets n ≡ drop 1 (to_be_bytes w64 (0x02050000000000 + n))
+five_octets n g h =
+    let i : (0x02050000000000 + n) / 281474976710656 % 256 ≡ 2 = omega (arith, h) in
+    let l : (0x02050000000000 + n) / 1099511627776 % 256 ≡ 5 = omega (arith, h) in
+    let z : (0x02050000000000 + n) / 4294967296 % 256 ≡ 0 = omega (arith, h) in
+    let a : (0x02050000000000 + n) / 16777216 % 256 ≡ n / 16777216 % 256 = omega (arith, h) in
+    let b : (0x02050000000000 + n) / 65536 % 256 ≡ n / 65536 % 256 = omega (arith, h) in
+    let c : (0x02050000000000 + n) / 256 % 256 ≡ n / 256 % 256 = omega (arith, h) in
+    let d : (0x02050000000000 + n) % 256 ≡ n % 256 = omega (arith, h) in
+    rw (i, l, z, a, b, c, d) (own-number (0 ∷ to_be_bytes w32 n) n (omega arith, (omega arith, (omega arith, (omega arith, (omega arith, tt))))) h (omega arith, (λ _. omega (arith, g)), omega (arith, h)) (omega arith))

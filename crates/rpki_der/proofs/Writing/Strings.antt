@@ -1,14 +1,14 @@
 -- strings of bits
-use Rattle.std.proofs.Common.{◌≡◌, ℕ, suc, ◌+◌, ◌-◌, ◌^◌, ◌<◌, true, ltb, List, [], ◌∷◌, ◌++◌, length, take, get_or, Some, refl, sym, ap, arith, inl, inr, eq-eqb}
+use Rattle.std.proofs.Common.{◌≡◌, ℕ, suc, ◌+◌, ◌-◌, ◌^◌, ◌<◌, true, ltb, List, [], ◌∷◌, ◌++◌, length, take, get_or, Some, refl, sym, ap, ◌∙◌, arith, inl, inr, eq-eqb}
 use Rattle.std.proofs.lemmas.Bool.{lt-ltb, ltb-true, ne_eqb}
 use Rattle.rpki_der.specs.declared.mode.Mode.{Mode}
 use Rattle.rpki_der.specs.declared.mode.Mode.TheVariants.{Der}
 use Rattle.rpki_der.specs.Bits.{IsBits, are_bits}
 use Rattle.rpki_der.specs.Read.Parse.{bits_of, bits_at}
-use Rattle.rpki_der.specs.Grammar.{BitString}
+use Rattle.rpki_der.specs.Grammar.{BitString, IsBitString, IsBytes}
 use Rattle.rpki_der.proofs.Reading.Scan.{tag-sound}
 use Rattle.rpki_der.proofs.Writing.Lengths.{test, value-written}
-use Rattle.rpki_der.proofs.Writing.Leaves.{primitive-read}
+use Rattle.rpki_der.proofs.Writing.Leaves.{primitive-read, within-unique}
 use native.Mathlib.Numerals.{unary_clauses}
 use Rattle.rpki_der.specs.Written.{value_octets, unused_bits, zero_bits, zero_last, bit_string_contents}
 
@@ -70,3 +70,8 @@ pub bits-read : (mode : Mode) (octets rest : List ℕ) (unused : ℕ) → length
 bits-read mode octets rest unused h =
     primitive-read 3 bits_of mode (bit_string_contents octets unused) rest (zero_last octets (unused_bits octets unused), unused_bits octets unused) (tag-sound 3 refl) (short-bits octets unused h)
     (bits-of (zero_last octets (unused_bits octets unused)) (unused_bits octets unused) (bits-are octets unused))
+
+pub bits-unique : (o octets : List ℕ) (unused : ℕ) → IsBytes o → BitString Der o (octets, unused) → zero_last octets unused ≡ octets → o ≡ value_octets 3 (bit_string_contents octets unused)
+bits-unique o octets unused bytes h zeros =
+    let same : unused_bits octets unused ≡ unused = unused-same octets unused h.2.1 in
+    rw same (within-unique 3 (λ c. IsBitString c (octets, unused)) o (unused ∷ zero_last octets unused) bytes (λ c is. is.0 ∙ ap (λ (ys : List ℕ). unused ∷ ys) (sym zeros)) h)

@@ -11,17 +11,17 @@ use Rattle.rpki_der.specs.Identifier.{IsTag, is_constructed}
 use Rattle.rpki_der.specs.Oid.{IsOid}
 use Rattle.rpki_der.specs.Read.Parse.{value_at, in_value, primitive, unsigned_of, u8_at, u32_at, boolean_of, null_of, oid_of, ia5_of, octets_at, number, skip_at, many, optional, captured, taken}
 use Rattle.rpki_der.specs.Grammar.{Value, Within, IsBytes, IsInteger, Integer, IsBoolean, Boolean, OctetString, Skipped, ListOf, Items}
-use Rattle.rpki_der.specs.Written.{length_octets, value_octets, number_octets, integer_contents, boolean_contents}
+use Rattle.rpki_der.specs.Written.{value_octets, number_octets, integer_contents, boolean_contents}
 use Rattle.rpki_der.proofs.Reading.Scan.{tag-sound}
 use Rattle.rpki_der.proofs.Reading.Lengths.{bind_some, some_is}
-use Rattle.rpki_der.proofs.Reading.Exact.{value-sound, IsBytes-left, IsBytes-right}
+use Rattle.rpki_der.proofs.Reading.Exact.{value-sound, IsBytes-left}
 use Rattle.rpki_der.proofs.Reading.Integers.{exact-u32, exact-unsigned, holds1, exact-list}
 use Rattle.rpki_der.proofs.Reading.Strings.{exact-octets}
 use Rattle.rpki_der.proofs.Reading.Skips.{exact-skip}
 use Rattle.rpki_der.proofs.Reading.Unique.{octets-ber, skipped-ber}
 use Rattle.rpki_der.proofs.Writing.Lengths.{value-written, value-unique}
-use Rattle.rpki_der.proofs.Writing.Numbers.{number-digits, length-integer_contents, integer-is, contents-unique, own-contents}
-use Rattle.rpki_der.proofs.Writing.Leaves.{value-in, primitive-read, within-unique, items-written}
+use Rattle.rpki_der.proofs.Writing.Numbers.{number-digits, length-integer_contents, integer-is, contents-unique, digits-unique}
+use Rattle.rpki_der.proofs.Writing.Leaves.{value-in, primitive-read, within-unique, within-only, items-written, items-unique}
 
 -- ---- numbers of 32 bits
 
@@ -46,20 +46,25 @@ u8-read mode n rest h =
     primitive-read 2 (unsigned_of 1) mode (integer_contents (to_be_bytes w32 n)) rest n (tag-sound 2 refl) (short-number n) e
 
 pub number-unique : (o : List ℕ) (n : ℕ) → IsBytes o → n < 2 ^ 32 → Integer Der o n → o ≡ number_octets n
-number-unique o n bytes lt h =
-    let e = value-unique o 2 h.0 bytes h.1 in
-    let all : IsBytes (value_octets 2 h.0) = subst IsBytes e bytes in
-    e ∙ ap (value_octets 2) (contents-unique h.0 n (IsBytes-right (length_octets (length h.0)) h.0 all.1) lt h.2)
+number-unique o n bytes lt h = within-only 2 (λ c. IsInteger c n) o (integer_contents (to_be_bytes w32 n)) bytes (λ c inner is. contents-unique c n inner lt is) h
 
-pub integer-unique : (o : List ℕ) (n : ℕ) → IsBytes o → Integer Der o n → (digits : List ℕ) × (number 0 digits ≡ n) × (o ≡ value_octets 2 (integer_contents digits))
-integer-unique o n bytes h =
-    let own = own-contents h.0 n h.2 in
-    (h.0, own.0, value-unique o 2 h.0 bytes h.1 ∙ ap (value_octets 2) own.1)
+pub integer-unique : (o digits : List ℕ) → IsBytes o → IsBytes digits → Integer Der o (number 0 digits) → o ≡ value_octets 2 (integer_contents digits)
+integer-unique o digits bytes own h =
+    within-only 2 (λ c. IsInteger c (number 0 digits)) o (integer_contents digits) bytes (λ c inner is. digits-unique c digits inner own is) h
 
 -- ---- lists of them
 
 pub list-written : (ns : List ℕ) → All (λ n. n < 2 ^ 32) ns → length (flat_map number_octets ns) < 2 ^ 32 → Within Der 48 (λ c. Items (Integer Der) c ns) (value_octets 48 (flat_map number_octets ns))
 list-written ns h short = (flat_map number_octets ns, value-written 48 (flat_map number_octets ns) (tag-sound 48 refl) short, items-written (Integer Der) number_octets ns (λ i d l. number-written _ (h i d l)))
+
+-- an INTEGER and that it is below 2^32
+number-only : (d : List ℕ) (n : ℕ) → IsBytes d → (Integer Der d n × (n < 2 ^ 32)) → d ≡ number_octets n
+number-only d n bytes h = number-unique d n bytes h.1 h.0
+
+pub list-unique : (o ns : List ℕ) → IsBytes o → Within Der 48 (λ c. Items (λ d n. Integer Der d n × (n < 2 ^ 32)) c ns) o → o ≡ value_octets 48 (flat_map number_octets ns)
+list-unique o ns bytes h =
+    within-only 48 (λ c. Items (λ d n. Integer Der d n × (n < 2 ^ 32)) c ns) o (flat_map number_octets ns) bytes
+    (λ c inner. items-unique (λ d n. Integer Der d n × (n < 2 ^ 32)) number_octets number-only c ns inner) h
 
 pub list-read : (mode : Mode) (ns rest : List ℕ) → All (λ n. n < 2 ^ 32) ns → length (flat_map number_octets ns) < 2 ^ 32
     → in_value 48 (many (optional 2 u32_at)) mode (value_octets 48 (flat_map number_octets ns) ++ rest) ≡ Some (ns, rest)

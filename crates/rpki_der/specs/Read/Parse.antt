@@ -208,10 +208,6 @@ up_to (suc n) p mode bytes = p mode bytes >>= λ o. go_on o.0 o.1 (up_to n p mod
 unfoldable pub many : {X : Type 0} → Parser (Option X) → Parser (List X)
 many p mode bytes = up_to (suc (length bytes)) p mode bytes
 
--- the same, without the value
-abbrev pub void : {X : Type 0} → Parser X → Parser (Unit {0})
-void p mode bytes = p mode bytes >>= λ x. Some (tt, x.1)
-
 -- all of the octets are read by p, one after the other
 unfoldable pub each : {X : Type 0} → ℕ → Parser X → Mode → List ℕ → Option (List X)
 each n p mode [] = Some []

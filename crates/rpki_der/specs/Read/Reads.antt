@@ -1,5 +1,5 @@
 -- What a call of a reader answers.
-use Rattle.std.specs.Prelude.{◌≡◌, ◌⊎◌, ℕ, List, [], ◌∷◌, Option, None, Some, Result, Ok, Err, MatchOption, MatchBool, IfErr}
+use Rattle.std.specs.Prelude.{◌≡◌, ◌⊎◌, ℕ, List, [], ◌∷◌, Option, None, Some, Result, Ok, Err, MatchOption, MatchBool, IfErr, IsNone}
 use Rattle.rpki_der.specs.declared.error.DecodeError.{DecodeError}
 use Rattle.rpki_der.specs.declared.error.DecodeError.TheVariants.{Malformed, Content, Memory}
 use Rattle.rpki_der.specs.Captured.{Kept}
@@ -60,6 +60,14 @@ Reads view p old result new =
 abbrev pub Stays : {T : Type 0} → Result T DecodeError → State → Type 0
 Stays result new = IfErr result (λ e. new.failed ≡ Some e)
 
+-- A call that takes no memory refuses by Malformed alone, unless the reader had failed before.
+abbrev pub OnlyMalformed : {T : Type 0} → State → Result T DecodeError → Type 0
+OnlyMalformed old result = IsNone old.failed → IfErr result (λ e. e ≡ Malformed)
+
+-- One that takes memory refuses by Malformed or for want of it.
+abbrev pub OnlyMalformedOrMemory : {T : Type 0} → State → Result T DecodeError → Type 0
+OnlyMalformedOrMemory old result = IsNone old.failed → IfErr result (λ e. (e ≡ Malformed) ⊎ (e ≡ Memory))
+
 -- what is wrong with a reader that has to be at its end
 abbrev pub unfinished : Option DecodeError → List ℕ → Option DecodeError
 unfinished (Some e) rest = Some e
@@ -107,7 +115,7 @@ Opens {T} tag step old result new =
     (λ v. (r : Result T DecodeError) × (after : State) × step (fresh old.mode v.0) r after × Left (closed r after) v.1 result new))
     (λ e. FailsAgain e result new)
 
--- the same for a value that may be there
+-- the answer of a call that found the value which may be there
 abbrev pub some_of_result : {T : Type 0} → Result T DecodeError → Result (Option T) DecodeError
 some_of_result (Ok t) = Ok (Some t)
 some_of_result (Err e) = Err e

@@ -27,14 +27,14 @@ impl Encode for Bits<'_> {
     }
 
     #[tactic(auto, using(crate::proofs::Writing::Strings::zero_last_split))]
-    fn put<W: Sink>(&self, out: &mut W) -> Result<(), SinkFailed> {
+    fn put<W: Sink>(&self, len: u64, out: &mut W) -> Result<(), SinkFailed> {
         if self.octets.is_empty() {
             return out.take_all(&[0]);
         }
         let unused = unused_bits(self.octets, self.unused);
         let last = self.octets.len() - 1;
         let zeroed = zero_bits(self.octets[last], unused);
-        (Raw(&[unused]), Raw(&self.octets[..last]), Raw(&[zeroed])).put(out)
+        (Raw(&[unused]), Raw(&self.octets[..last]), Raw(&[zeroed])).put(len, out)
     }
 }
 

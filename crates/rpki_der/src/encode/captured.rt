@@ -26,7 +26,7 @@ impl Encode for CapturedEncoder<'_> {
         }
     }
 
-    fn put<W: Sink>(&self, out: &mut W) -> Result<(), SinkFailed> {
+    fn put<W: Sink>(&self, _len: u64, out: &mut W) -> Result<(), SinkFailed> {
         out.take_all(self.0.as_slice())
     }
 }

@@ -2,7 +2,7 @@ ghost use Rattle.std.specs.Prelude.{◌≡◌, All};
 ghost use Rattle.std.specs.List.{flat_map};
 ghost use Rattle.rpki_der.specs.Parts.{optional_octets, IsEach, optional_small, each_small};
 
-use crate::encode::{Encode, EncodeError};
+use crate::encode::{Encode, EncodeError, len_of};
 use crate::stream::{Sink, SinkFailed};
 
 /// What the reference shows.
@@ -21,8 +21,8 @@ impl<T: Encode> Encode for &T {
     }
 
     #[inline(always)]
-    fn put<W: Sink>(&self, out: &mut W) -> Result<(), SinkFailed> {
-        (**self).put(out)
+    fn put<W: Sink>(&self, len: u64, out: &mut W) -> Result<(), SinkFailed> {
+        (**self).put(len, out)
     }
 }
 
@@ -45,10 +45,10 @@ impl<T: Encode> Encode for Option<T> {
     }
 
     #[inline(always)]
-    fn put<W: Sink>(&self, out: &mut W) -> Result<(), SinkFailed> {
+    fn put<W: Sink>(&self, len: u64, out: &mut W) -> Result<(), SinkFailed> {
         match self {
             None => Ok(()),
-            Some(x) => x.put(out),
+            Some(x) => x.put(len, out),
         }
     }
 }
@@ -87,9 +87,9 @@ impl<T: Encode> Encode for Elements<'_, T> {
     }
 
     #[inline(always)]
-    fn put<W: Sink>(&self, out: &mut W) -> Result<(), SinkFailed> {
+    fn put<W: Sink>(&self, _len: u64, out: &mut W) -> Result<(), SinkFailed> {
         for x in self.0 {
-            x.put(out)?;
+            x.put(len_of(x), out)?;
         }
         Ok(())
     }

@@ -1,6 +1,5 @@
-ghost use Rattle.std.specs.Prelude.{◌≡◌, ◌<◌, ◌^◌, length};
-ghost use Rattle.std.specs.Int.{w32, to_be_bytes};
-ghost use Rattle.rpki_der.specs.Written.{significant, integer_contents};
+ghost use Rattle.std.specs.Prelude.{◌≡◌};
+ghost use Rattle.rpki_der.specs.Written.{significant, integer_contents, number_octets};
 
 use crate::encode::raw::Raw;
 use crate::encode::value::Value;
@@ -32,14 +31,14 @@ impl Encode for Digits<'_> {
     }
 
     #[inline(always)]
-    fn put<W: Sink>(&self, out: &mut W) -> Result<(), SinkFailed> {
+    fn put<W: Sink>(&self, len: u64, out: &mut W) -> Result<(), SinkFailed> {
         let digits = significant(self.0);
         if digits.is_empty() {
             out.take_all(&[0])
         } else if digits[0] < 0x80 {
             out.take_all(digits)
         } else {
-            (Raw(&[0]), Raw(digits)).put(out)
+            (Raw(&[0]), Raw(digits)).put(len, out)
         }
     }
 }
@@ -59,83 +58,55 @@ fn significant(digits: &[u8]) -> &[u8]
     rest
 }
 
-/// The shortest contents of an INTEGER that is not negative.
+/// An INTEGER of 32 bits that is not negative (X.690, section 8.3), in its shortest form.
 #[derive(Drop)]
 pub struct Unsigned(pub u32);
 
 impl Encode for Unsigned {
-    ghost octets = { λ s. integer_contents (to_be_bytes w32 s.0) };
+    ghost octets = { λ s. number_octets s.0 };
 
     ghost is_short = { λ _. Unit {0} };
 
     ghost small = { λ _ _. tt };
 
+    #[tactic(auto, using(crate::proofs::Writing::Numbers::one_octet, crate::proofs::Writing::Numbers::two_octets, crate::proofs::Writing::Numbers::three_octets, crate::proofs::Writing::Numbers::four_octets, crate::proofs::Writing::Numbers::five_octets))]
     #[inline(always)]
     fn encoded_len(&self) -> Result<u64, EncodeError> {
-        let b = self.0.to_be_bytes();
-        if b[0] != 0 {
-            Ok(if b[0] < 0x80 { 4 } else { 5 })
-        } else if b[1] != 0 {
-            Ok(if b[1] < 0x80 { 3 } else { 4 })
-        } else if b[2] != 0 {
-            Ok(if b[2] < 0x80 { 2 } else { 3 })
-        } else if b[3] != 0 {
-            Ok(if b[3] < 0x80 { 1 } else { 2 })
-        } else {
-            Ok(1)
-        }
+        Ok(match self.0 {
+            0..=0x7F => 3,
+            0x80..=0x7FFF => 4,
+            0x8000..=0x7F_FFFF => 5,
+            0x80_0000..=0x7FFF_FFFF => 6,
+            _ => 7,
+        })
     }
 
     #[inline(always)]
-    fn put<W: Sink>(&self, out: &mut W) -> Result<(), SinkFailed> {
-        let b = self.0.to_be_bytes();
-        if b[0] != 0 {
-            if b[0] < 0x80 {
-                out.take_all(&b)
-            } else {
-                out.take_all(&[0, b[0], b[1], b[2], b[3]])
-            }
-        } else if b[1] != 0 {
-            if b[1] < 0x80 {
-                out.take_all(&b[1..])
-            } else {
-                out.take_all(&[0, b[1], b[2], b[3]])
-            }
-        } else if b[2] != 0 {
-            if b[2] < 0x80 {
-                out.take_all(&b[2..])
-            } else {
-                out.take_all(&[0, b[2], b[3]])
-            }
-        } else if b[3] != 0 {
-            if b[3] < 0x80 {
-                out.take_all(&b[3..])
-            } else {
-                out.take_all(&[0, b[3]])
-            }
-        } else {
-            out.take_all(&[0])
+    fn put<W: Sink>(&self, _len: u64, out: &mut W) -> Result<(), SinkFailed> {
+        // identifier, length and contents as the digits of one number, so that they are moved as one word
+        let n = u64::from(self.0);
+        match self.0 {
+            0..=0x7F => out.take_all(&(0x02_01_00 + n).to_be_bytes()[5..]),
+            0x80..=0x7FFF => out.take_all(&(0x02_02_0000 + n).to_be_bytes()[4..]),
+            0x8000..=0x7F_FFFF => out.take_all(&(0x02_03_00_0000 + n).to_be_bytes()[3..]),
+            0x80_0000..=0x7FFF_FFFF => out.take_all(&(0x02_04_0000_0000 + n).to_be_bytes()[2..]),
+            _ => out.take_all(&(0x02_05_00_0000_0000 + n).to_be_bytes()[1..]),
         }
     }
 }
 
 /// An INTEGER of 32 bits (X.690, section 8.3) in its shortest form.
-pub fn integer(n: u32) -> Value<Unsigned>
-    ensures tag { result.tag.octet ≡ 2 }
-    ensures number { result.contents.0 ≡ n }
+pub fn integer(n: u32) -> Unsigned
+    ensures { result.0 ≡ n }
 {
-    Value {
-        tag: Tag::INTEGER,
-        contents: Unsigned(n),
-    }
+    Unsigned(n)
 }
 
 /// An INTEGER of 8 bits (X.690, section 8.3) in its shortest form.
-pub fn integer_u8(n: u8) -> Value<Unsigned>
-    ensures tag { result.tag.octet ≡ 2 }
-    ensures number { result.contents.0 ≡ n }
+pub fn integer_u8(n: u8) -> Unsigned
+    ensures { result.0 ≡ n }
 {
-    integer(n as u32)
+    Unsigned(u32::from(n))
 }
 
 /// The INTEGER that is not negative with these digits to base 256, the highest one first, in its shortest form. Zeros in front are left out; no digits are zero.

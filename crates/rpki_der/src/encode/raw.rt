@@ -18,7 +18,7 @@ impl Encode for Raw<'_> {
     }
 
     #[inline(always)]
-    fn put<W: Sink>(&self, out: &mut W) -> Result<(), SinkFailed> {
+    fn put<W: Sink>(&self, _len: u64, out: &mut W) -> Result<(), SinkFailed> {
         out.take_all(self.0)
     }
 }

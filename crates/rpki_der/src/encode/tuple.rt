@@ -1,7 +1,7 @@
 ghost use Rattle.std.specs.Prelude.{◌++◌};
-ghost use Rattle.rpki_der.specs.Parts.{length_parts};
+ghost use Rattle.rpki_der.specs.Parts.{pair_small};
 
-use crate::encode::{Encode, EncodeError};
+use crate::encode::{Encode, EncodeError, len_of};
 use crate::stream::{Sink, SinkFailed};
 
 /// One after another.
@@ -12,7 +12,7 @@ impl<A: Encode, B: Encode> Encode for (A, B) {
 
     ghost is_short = { λ s. A.is_short s.0 × B.is_short s.1 };
 
-    ghost small = { λ x h. let parts = length_parts (A.octets x.0) (B.octets x.1) h in (A.small x.0 parts.0, B.small x.1 parts.1) };
+    ghost small = { λ x. pair_small _ _ (A.small x.0) (B.small x.1) };
 
     #[inline(always)]
     fn encoded_len(&self) -> Result<u64, EncodeError> {
@@ -25,9 +25,10 @@ impl<A: Encode, B: Encode> Encode for (A, B) {
     }
 
     #[inline(always)]
-    fn put<W: Sink>(&self, out: &mut W) -> Result<(), SinkFailed> {
-        self.0.put(out)?;
-        self.1.put(out)
+    fn put<W: Sink>(&self, len: u64, out: &mut W) -> Result<(), SinkFailed> {
+        let first = len_of(&self.0);
+        self.0.put(first, out)?;
+        self.1.put(len - first, out)
     }
 }
 
@@ -38,7 +39,7 @@ impl<A: Encode, B: Encode, C: Encode> Encode for (A, B, C) {
 
     ghost is_short = { λ s. A.is_short s.0 × (B.is_short s.1 × C.is_short s.2) };
 
-    ghost small = { λ x h. let p0 = length_parts (A.octets x.0) (B.octets x.1 ++ C.octets x.2) h in let p1 = length_parts (B.octets x.1) (C.octets x.2) p0.1 in (A.small x.0 p0.0, (B.small x.1 p1.0, C.small x.2 p1.1)) };
+    ghost small = { λ x. pair_small _ _ (A.small x.0) (pair_small _ _ (B.small x.1) (C.small x.2)) };
 
     #[inline(always)]
     fn encoded_len(&self) -> Result<u64, EncodeError> {
@@ -46,8 +47,8 @@ impl<A: Encode, B: Encode, C: Encode> Encode for (A, B, C) {
     }
 
     #[inline(always)]
-    fn put<W: Sink>(&self, out: &mut W) -> Result<(), SinkFailed> {
-        (&self.0, (&self.1, &self.2)).put(out)
+    fn put<W: Sink>(&self, len: u64, out: &mut W) -> Result<(), SinkFailed> {
+        (&self.0, (&self.1, &self.2)).put(len, out)
     }
 }
 
@@ -58,7 +59,7 @@ impl<A: Encode, B: Encode, C: Encode, D: Encode> Encode for (A, B, C, D) {
 
     ghost is_short = { λ s. A.is_short s.0 × (B.is_short s.1 × (C.is_short s.2 × D.is_short s.3)) };
 
-    ghost small = { λ x h. let p0 = length_parts (A.octets x.0) (B.octets x.1 ++ (C.octets x.2 ++ D.octets x.3)) h in let p1 = length_parts (B.octets x.1) (C.octets x.2 ++ D.octets x.3) p0.1 in let p2 = length_parts (C.octets x.2) (D.octets x.3) p1.1 in (A.small x.0 p0.0, (B.small x.1 p1.0, (C.small x.2 p2.0, D.small x.3 p2.1))) };
+    ghost small = { λ x. pair_small _ _ (A.small x.0) (pair_small _ _ (B.small x.1) (pair_small _ _ (C.small x.2) (D.small x.3))) };
 
     #[inline(always)]
     fn encoded_len(&self) -> Result<u64, EncodeError> {
@@ -66,8 +67,8 @@ impl<A: Encode, B: Encode, C: Encode, D: Encode> Encode for (A, B, C, D) {
     }
 
     #[inline(always)]
-    fn put<W: Sink>(&self, out: &mut W) -> Result<(), SinkFailed> {
-        (&self.0, (&self.1, &self.2, &self.3)).put(out)
+    fn put<W: Sink>(&self, len: u64, out: &mut W) -> Result<(), SinkFailed> {
+        (&self.0, (&self.1, &self.2, &self.3)).put(len, out)
     }
 }
 
@@ -78,7 +79,7 @@ impl<A: Encode, B: Encode, C: Encode, D: Encode, E: Encode> Encode for (A, B, C,
 
     ghost is_short = { λ s. A.is_short s.0 × (B.is_short s.1 × (C.is_short s.2 × (D.is_short s.3 × E.is_short s.4))) };
 
-    ghost small = { λ x h. let p0 = length_parts (A.octets x.0) (B.octets x.1 ++ (C.octets x.2 ++ (D.octets x.3 ++ E.octets x.4))) h in let p1 = length_parts (B.octets x.1) (C.octets x.2 ++ (D.octets x.3 ++ E.octets x.4)) p0.1 in let p2 = length_parts (C.octets x.2) (D.octets x.3 ++ E.octets x.4) p1.1 in let p3 = length_parts (D.octets x.3) (E.octets x.4) p2.1 in (A.small x.0 p0.0, (B.small x.1 p1.0, (C.small x.2 p2.0, (D.small x.3 p3.0, E.small x.4 p3.1)))) };
+    ghost small = { λ x. pair_small _ _ (A.small x.0) (pair_small _ _ (B.small x.1) (pair_small _ _ (C.small x.2) (pair_small _ _ (D.small x.3) (E.small x.4)))) };
 
     #[inline(always)]
     fn encoded_len(&self) -> Result<u64, EncodeError> {
@@ -86,8 +87,8 @@ impl<A: Encode, B: Encode, C: Encode, D: Encode, E: Encode> Encode for (A, B, C,
     }
 
     #[inline(always)]
-    fn put<W: Sink>(&self, out: &mut W) -> Result<(), SinkFailed> {
-        (&self.0, (&self.1, &self.2, &self.3, &self.4)).put(out)
+    fn put<W: Sink>(&self, len: u64, out: &mut W) -> Result<(), SinkFailed> {
+        (&self.0, (&self.1, &self.2, &self.3, &self.4)).put(len, out)
     }
 }
 
@@ -99,7 +100,7 @@ impl<A: Encode, B: Encode, C: Encode, D: Encode, E: Encode, F: Encode> Encode
 
     ghost is_short = { λ s. A.is_short s.0 × (B.is_short s.1 × (C.is_short s.2 × (D.is_short s.3 × (E.is_short s.4 × F.is_short s.5)))) };
 
-    ghost small = { λ x h. let p0 = length_parts (A.octets x.0) (B.octets x.1 ++ (C.octets x.2 ++ (D.octets x.3 ++ (E.octets x.4 ++ F.octets x.5)))) h in let p1 = length_parts (B.octets x.1) (C.octets x.2 ++ (D.octets x.3 ++ (E.octets x.4 ++ F.octets x.5))) p0.1 in let p2 = length_parts (C.octets x.2) (D.octets x.3 ++ (E.octets x.4 ++ F.octets x.5)) p1.1 in let p3 = length_parts (D.octets x.3) (E.octets x.4 ++ F.octets x.5) p2.1 in let p4 = length_parts (E.octets x.4) (F.octets x.5) p3.1 in (A.small x.0 p0.0, (B.small x.1 p1.0, (C.small x.2 p2.0, (D.small x.3 p3.0, (E.small x.4 p4.0, F.small x.5 p4.1))))) };
+    ghost small = { λ x. pair_small _ _ (A.small x.0) (pair_small _ _ (B.small x.1) (pair_small _ _ (C.small x.2) (pair_small _ _ (D.small x.3) (pair_small _ _ (E.small x.4) (F.small x.5))))) };
 
     #[inline(always)]
     fn encoded_len(&self) -> Result<u64, EncodeError> {
@@ -107,8 +108,8 @@ impl<A: Encode, B: Encode, C: Encode, D: Encode, E: Encode, F: Encode> Encode
     }
 
     #[inline(always)]
-    fn put<W: Sink>(&self, out: &mut W) -> Result<(), SinkFailed> {
-        (&self.0, (&self.1, &self.2, &self.3, &self.4, &self.5)).put(out)
+    fn put<W: Sink>(&self, len: u64, out: &mut W) -> Result<(), SinkFailed> {
+        (&self.0, (&self.1, &self.2, &self.3, &self.4, &self.5)).put(len, out)
     }
 }
 
@@ -120,7 +121,7 @@ impl<A: Encode, B: Encode, C: Encode, D: Encode, E: Encode, F: Encode, G: Encode
 
     ghost is_short = { λ s. A.is_short s.0 × (B.is_short s.1 × (C.is_short s.2 × (D.is_short s.3 × (E.is_short s.4 × (F.is_short s.5 × G.is_short s.6))))) };
 
-    ghost small = { λ x h. let p0 = length_parts (A.octets x.0) (B.octets x.1 ++ (C.octets x.2 ++ (D.octets x.3 ++ (E.octets x.4 ++ (F.octets x.5 ++ G.octets x.6))))) h in let p1 = length_parts (B.octets x.1) (C.octets x.2 ++ (D.octets x.3 ++ (E.octets x.4 ++ (F.octets x.5 ++ G.octets x.6)))) p0.1 in let p2 = length_parts (C.octets x.2) (D.octets x.3 ++ (E.octets x.4 ++ (F.octets x.5 ++ G.octets x.6))) p1.1 in let p3 = length_parts (D.octets x.3) (E.octets x.4 ++ (F.octets x.5 ++ G.octets x.6)) p2.1 in let p4 = length_parts (E.octets x.4) (F.octets x.5 ++ G.octets x.6) p3.1 in let p5 = length_parts (F.octets x.5) (G.octets x.6) p4.1 in (A.small x.0 p0.0, (B.small x.1 p1.0, (C.small x.2 p2.0, (D.small x.3 p3.0, (E.small x.4 p4.0, (F.small x.5 p5.0, G.small x.6 p5.1)))))) };
+    ghost small = { λ x. pair_small _ _ (A.small x.0) (pair_small _ _ (B.small x.1) (pair_small _ _ (C.small x.2) (pair_small _ _ (D.small x.3) (pair_small _ _ (E.small x.4) (pair_small _ _ (F.small x.5) (G.small x.6)))))) };
 
     #[inline(always)]
     fn encoded_len(&self) -> Result<u64, EncodeError> {
@@ -132,12 +133,12 @@ impl<A: Encode, B: Encode, C: Encode, D: Encode, E: Encode, F: Encode, G: Encode
     }
 
     #[inline(always)]
-    fn put<W: Sink>(&self, out: &mut W) -> Result<(), SinkFailed> {
+    fn put<W: Sink>(&self, len: u64, out: &mut W) -> Result<(), SinkFailed> {
         (
             &self.0,
             (&self.1, &self.2, &self.3, &self.4, &self.5, &self.6),
         )
-            .put(out)
+            .put(len, out)
     }
 }
 
@@ -149,7 +150,7 @@ impl<A: Encode, B: Encode, C: Encode, D: Encode, E: Encode, F: Encode, G: Encode
 
     ghost is_short = { λ s. A.is_short s.0 × (B.is_short s.1 × (C.is_short s.2 × (D.is_short s.3 × (E.is_short s.4 × (F.is_short s.5 × (G.is_short s.6 × H.is_short s.7)))))) };
 
-    ghost small = { λ x h. let p0 = length_parts (A.octets x.0) (B.octets x.1 ++ (C.octets x.2 ++ (D.octets x.3 ++ (E.octets x.4 ++ (F.octets x.5 ++ (G.octets x.6 ++ H.octets x.7)))))) h in let p1 = length_parts (B.octets x.1) (C.octets x.2 ++ (D.octets x.3 ++ (E.octets x.4 ++ (F.octets x.5 ++ (G.octets x.6 ++ H.octets x.7))))) p0.1 in let p2 = length_parts (C.octets x.2) (D.octets x.3 ++ (E.octets x.4 ++ (F.octets x.5 ++ (G.octets x.6 ++ H.octets x.7)))) p1.1 in let p3 = length_parts (D.octets x.3) (E.octets x.4 ++ (F.octets x.5 ++ (G.octets x.6 ++ H.octets x.7))) p2.1 in let p4 = length_parts (E.octets x.4) (F.octets x.5 ++ (G.octets x.6 ++ H.octets x.7)) p3.1 in let p5 = length_parts (F.octets x.5) (G.octets x.6 ++ H.octets x.7) p4.1 in let p6 = length_parts (G.octets x.6) (H.octets x.7) p5.1 in (A.small x.0 p0.0, (B.small x.1 p1.0, (C.small x.2 p2.0, (D.small x.3 p3.0, (E.small x.4 p4.0, (F.small x.5 p5.0, (G.small x.6 p6.0, H.small x.7 p6.1))))))) };
+    ghost small = { λ x. pair_small _ _ (A.small x.0) (pair_small _ _ (B.small x.1) (pair_small _ _ (C.small x.2) (pair_small _ _ (D.small x.3) (pair_small _ _ (E.small x.4) (pair_small _ _ (F.small x.5) (pair_small _ _ (G.small x.6) (H.small x.7))))))) };
 
     #[inline(always)]
     fn encoded_len(&self) -> Result<u64, EncodeError> {
@@ -163,13 +164,13 @@ impl<A: Encode, B: Encode, C: Encode, D: Encode, E: Encode, F: Encode, G: Encode
     }
 
     #[inline(always)]
-    fn put<W: Sink>(&self, out: &mut W) -> Result<(), SinkFailed> {
+    fn put<W: Sink>(&self, len: u64, out: &mut W) -> Result<(), SinkFailed> {
         (
             &self.0,
             (
                 &self.1, &self.2, &self.3, &self.4, &self.5, &self.6, &self.7,
             ),
         )
-            .put(out)
+            .put(len, out)
     }
 }

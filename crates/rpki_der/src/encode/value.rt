@@ -1,4 +1,4 @@
-ghost use Rattle.std.specs.Prelude.{◌∷◌, ◌≡◌, ◌+◌, ◌<◌, ◌≤◌, ◌^◌, length, OnOk, OnErr};
+ghost use Rattle.std.specs.Prelude.{◌∷◌, ◌≡◌, ℕ, ◌+◌, ◌<◌, ◌≤◌, ◌^◌, length, OnOk, OnErr};
 ghost use Rattle.std.specs.Io.KnownBytes.{Appends};
 ghost use Rattle.rpki_der.specs.Sink.{AppendsFront};
 ghost use Rattle.rpki_der.specs.Written.{length_octets, value_octets};
@@ -67,22 +67,22 @@ impl<T: Encode> Encode for Value<T> {
     }
 
     #[inline(always)]
-    fn put<W: Sink>(&self, out: &mut W) -> Result<(), SinkFailed> {
-        let n = match self.contents.encoded_len() {
-            Ok(n) => n as u32,
-            Err(_) => unreachable!(),
-        };
-        put_header(self.tag.octet, n, out)?;
-        self.contents.put(out)
+    fn put<W: Sink>(&self, len: u64, out: &mut W) -> Result<(), SinkFailed> {
+        let n = contents_len(len);
+        put_header(self.tag.octet, n as u32, out)?;
+        self.contents.put(n, out)
     }
 }
 
-/// The octets of a length, in the shortest form (X.690, sections 8.1.3 and 10.1).
+/// The identifier and the length of a value (X.690, sections 8.1.2, 8.1.3 and 10.1).
 #[derive(Drop)]
-pub struct Length(pub u32);
+pub(crate) struct Header {
+    pub identifier: u8,
+    pub len: u32,
+}
 
-impl Encode for Length {
-    ghost octets = { λ s. length_octets s.0 };
+impl Encode for Header {
+    ghost octets = { λ s. s.identifier ∷ length_octets s.len };
 
     ghost is_short = { λ _. Unit {0} };
 
@@ -90,12 +90,12 @@ impl Encode for Length {
 
     #[inline(always)]
     fn encoded_len(&self) -> Result<u64, EncodeError> {
-        Ok(length_size(self.0))
+        Ok(1 + length_size(self.len))
     }
 
     #[inline(always)]
-    fn put<W: Sink>(&self, out: &mut W) -> Result<(), SinkFailed> {
-        put_length(self.0, out)
+    fn put<W: Sink>(&self, _len: u64, out: &mut W) -> Result<(), SinkFailed> {
+        put_header(self.identifier, self.len, out)
     }
 }
 
@@ -119,27 +119,20 @@ fn length_size(n: u32) -> u64
     }
 }
 
-/// Writes a length.
+/// How many contents octets there are in a value of so many octets.
 #[tactic(auto, unfolding(crate::specs::Written::length_octets))]
 #[inline(always)]
-fn put_length<W: Sink>(n: u32, out: &mut W) -> Result<(), SinkFailed>
-    ensures ok { OnOk result (Appends (W.taken out.old) (W.taken out.new) (length_octets n)) }
-    ensures begun { OnErr result (AppendsFront (W.taken out.old) (W.taken out.new) (length_octets n)) }
-    ensures same { OnOk result (W.failures out.new ≡ W.failures out.old) }
-    ensures failed { OnErr result (W.failures out.new ≡ W.failures out.old + 1) }
+fn contents_len(len: u64) -> u64
+    ensures { (n : ℕ) → n < 2 ^ 32 → len ≡ 1 + length (length_octets n) + n → result ≡ n }
 {
-    let b = n.to_be_bytes();
-    if n < 0x80 {
-        out.take_all(&b[3..])
-    } else if n < 0x100 {
-        out.take_all(&[0x81, b[3]])
-    } else if n < 0x1_0000 {
-        out.take_all(&[0x82, b[2], b[3]])
-    } else if n < 0x100_0000 {
-        out.take_all(&[0x83, b[1], b[2], b[3]])
-    } else {
-        out.take_all(&[0x84, b[0], b[1], b[2], b[3]])
-    }
+    let header = match len {
+        0..=0x81 => 2,
+        0x82..=0x102 => 3,
+        0x103..=0x1_0003 => 4,
+        0x1_0004..=0x100_0004 => 5,
+        _ => 6,
+    };
+    len.saturating_sub(header)
 }
 
 /// Writes an identifier and a length, in one call of the sink.

@@ -2,7 +2,7 @@
 
 ghost use Rattle.std.specs.Prelude.{◌≡◌, ◌<◌, length, IfOk, IfSome, Some};
 ghost use Rattle.rpki_der.specs.Read.Parse.{octets_at, u8_at, u32_at, boolean_at, null_of, oid_at, bits_at, ia5_at, this, primitive, optional};
-ghost use Rattle.rpki_der.specs.Read.Reads.{Reads, Stays};
+ghost use Rattle.rpki_der.specs.Read.Reads.{Reads, Stays, OnlyMalformed, OnlyMalformedOrMemory};
 
 use crate::bit_string::BitString;
 use crate::error::DecodeError;
@@ -20,6 +20,7 @@ impl<'a> Constructed<'a> {
     pub fn take_u8(&mut self) -> Result<u8, DecodeError>
         ensures reads { Reads (λ n. n) u8_at self.old result self.new }
         ensures stays { Stays result self.new }
+        ensures refused { OnlyMalformed self.old result }
     {
         let contents = self.open(Tag::INTEGER)?;
         match u8_of(contents.as_slice()) {
@@ -32,6 +33,7 @@ impl<'a> Constructed<'a> {
     pub fn take_opt_u8(&mut self) -> Result<Option<u8>, DecodeError>
         ensures reads { Reads (λ n. n) (optional 2 u8_at) self.old result self.new }
         ensures stays { Stays result self.new }
+        ensures refused { OnlyMalformed self.old result }
     {
         self.check()?;
         if self.is_next(Tag::INTEGER) {
@@ -45,6 +47,7 @@ impl<'a> Constructed<'a> {
     pub fn skip_u8_if(&mut self, expected: u8) -> Result<(), DecodeError>
         ensures reads { Reads (λ x. x) (primitive 2 (this expected)) self.old result self.new }
         ensures stays { Stays result self.new }
+        ensures refused { OnlyMalformed self.old result }
     {
         let contents = self.open(Tag::INTEGER)?;
         match u8_of(contents.as_slice()) {
@@ -58,6 +61,7 @@ impl<'a> Constructed<'a> {
     pub fn take_u32(&mut self) -> Result<u32, DecodeError>
         ensures reads { Reads (λ n. n) u32_at self.old result self.new }
         ensures stays { Stays result self.new }
+        ensures refused { OnlyMalformed self.old result }
     {
         let contents = self.open(Tag::INTEGER)?;
         match u32_of(contents.as_slice()) {
@@ -72,6 +76,7 @@ impl<'a> Constructed<'a> {
         ensures reads { Reads (λ n. n) (optional 2 u32_at) self.old result self.new }
         ensures shorter { IfOk result (λ n. IfSome n (λ _. length self.new.rest < length self.old.rest)) }
         ensures stays { Stays result self.new }
+        ensures refused { OnlyMalformed self.old result }
     {
         self.check()?;
         if self.is_next(Tag::INTEGER) {
@@ -85,6 +90,7 @@ impl<'a> Constructed<'a> {
     pub fn take_opt_bool(&mut self) -> Result<Option<bool>, DecodeError>
         ensures reads { Reads (λ b. b) (optional 1 boolean_at) self.old result self.new }
         ensures stays { Stays result self.new }
+        ensures refused { OnlyMalformed self.old result }
     {
         self.check()?;
         if !self.is_next(Tag::BOOLEAN) {
@@ -102,6 +108,7 @@ impl<'a> Constructed<'a> {
     pub fn skip_opt_null(&mut self) -> Result<Option<()>, DecodeError>
         ensures reads { Reads (λ u. u) (optional 5 (primitive 5 null_of)) self.old result self.new }
         ensures stays { Stays result self.new }
+        ensures refused { OnlyMalformed self.old result }
     {
         self.check()?;
         if !self.is_next(Tag::NULL) {
@@ -120,6 +127,7 @@ impl<'a> Constructed<'a> {
     pub fn take_oid(&mut self) -> Result<Oid, DecodeError>
         ensures reads { Reads (λ oid. oid) oid_at self.old result self.new }
         ensures stays { Stays result self.new }
+        ensures refused { OnlyMalformedOrMemory self.old result }
     {
         let contents = self.open(Tag::OBJECT_IDENTIFIER)?;
         let octets = self.keep(&contents)?;
@@ -134,6 +142,7 @@ impl<'a> Constructed<'a> {
     pub fn take_bits(&mut self) -> Result<BitString, DecodeError>
         ensures reads { Reads (λ bits. (bits.octets, bits.unused)) bits_at self.old result self.new }
         ensures stays { Stays result self.new }
+        ensures refused { OnlyMalformedOrMemory self.old result }
     {
         let contents = self.open(Tag::BIT_STRING)?;
         match contents.as_slice() {
@@ -154,6 +163,7 @@ impl<'a> Constructed<'a> {
     pub fn take_ia5(&mut self) -> Result<Bytes, DecodeError>
         ensures reads { Reads (λ text. text) ia5_at self.old result self.new }
         ensures stays { Stays result self.new }
+        ensures refused { OnlyMalformedOrMemory self.old result }
     {
         let contents = self.open(Tag::IA5_STRING)?;
         if is_ia5(contents.as_slice()) {
@@ -167,6 +177,7 @@ impl<'a> Constructed<'a> {
     pub fn take_opt_ia5(&mut self) -> Result<Option<Bytes>, DecodeError>
         ensures reads { Reads (λ text. text) (optional 22 ia5_at) self.old result self.new }
         ensures stays { Stays result self.new }
+        ensures refused { OnlyMalformedOrMemory self.old result }
     {
         self.check()?;
         if self.is_next(Tag::IA5_STRING) {
@@ -181,6 +192,7 @@ impl<'a> Constructed<'a> {
     pub fn take_opt_primitive_if(&mut self, tag: Tag) -> Result<Option<Bytes>, DecodeError>
         ensures reads { Reads (λ contents. contents) (optional tag.octet (primitive tag.octet Some)) self.old result self.new }
         ensures stays { Stays result self.new }
+        ensures refused { OnlyMalformedOrMemory self.old result }
     {
         self.check()?;
         if !self.is_next(tag) {
@@ -195,6 +207,7 @@ impl<'a> Constructed<'a> {
     pub fn take_octets(&mut self, alloc: Global) -> Result<Bytes, DecodeError>
         ensures reads { Reads (λ octets. octets) (octets_at 32) self.old result self.new }
         ensures stays { Stays result self.new }
+        ensures refused { OnlyMalformedOrMemory self.old result }
     {
         self.check()?;
         if self.is_next(Tag::OCTET_STRING) {
@@ -209,6 +222,7 @@ impl<'a> Constructed<'a> {
     fn take_pieces(&mut self, alloc: Global) -> Result<Bytes, DecodeError>
         ensures reads { Reads (λ octets. octets) (octets_at 32) self.old result self.new }
         ensures stays { Stays result self.new }
+        ensures refused { OnlyMalformedOrMemory self.old result }
     {
         self.check()?;
         let mut octets = Vec::new(alloc);

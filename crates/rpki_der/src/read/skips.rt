@@ -1,7 +1,7 @@
 //! Values that are gone past.
 
 ghost use Rattle.rpki_der.specs.Read.Parse.{skip_at, skip_all_at};
-ghost use Rattle.rpki_der.specs.Read.Reads.{Reads, Stays};
+ghost use Rattle.rpki_der.specs.Read.Reads.{Reads, Stays, OnlyMalformed};
 
 use crate::error::DecodeError;
 use crate::read::Constructed;
@@ -12,6 +12,7 @@ impl<'a> Constructed<'a> {
     pub fn skip_one(&mut self) -> Result<(), DecodeError>
         ensures reads { Reads (λ u. u) (skip_at 32) self.old result self.new }
         ensures stays { Stays result self.new }
+        ensures refused { OnlyMalformed self.old result }
     {
         self.check()?;
         match skip_place(self.mode(), self.rest()) {
@@ -27,6 +28,7 @@ impl<'a> Constructed<'a> {
     pub fn skip_all(&mut self) -> Result<(), DecodeError>
         ensures reads { Reads (λ u. u) skip_all_at self.old result self.new }
         ensures stays { Stays result self.new }
+        ensures refused { OnlyMalformed self.old result }
     {
         self.check()?;
         let rest = self.rest();

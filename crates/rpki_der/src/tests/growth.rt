@@ -4,7 +4,11 @@
 
 use super::reading::{EACH, Each, nested, string, take_each};
 use super::{MODES, read};
-use crate::{Constructed, ContentFault, DecodeError, Mode, Oid, Reason};
+use crate::build::tlv;
+use crate::encode::{Encode, EncodeError, each, integer, octet_string, sequence};
+use crate::{
+    Constructed, ContentFault, Counted, DecodeError, Mode, Oid, Reason, Source, SourceError,
+};
 use bytes::Bytes;
 use std::alloc::Global;
 use std::test::Fail;
@@ -117,4 +121,37 @@ fn an_error_is_told_again(rt: HostRuntime) {
         _ => false,
     };
     assert!(rt; again);
+}
+
+/// Whether octets are these, or memory ran out.
+fn is_written_or_memory(answer: Result<Vec<u8>, EncodeError>, want: &[u8]) -> bool {
+    match answer {
+        Ok(octets) => octets.as_slice() == want,
+        Err(EncodeError::Memory) => true,
+        Err(_) => false,
+    }
+}
+
+#[test]
+fn written_values(rt: HostRuntime) {
+    let alloc = rt.alloc();
+    let list = [integer(1), integer(300)];
+    let answer = sequence((each(&list), octet_string(b"ab"))).to_bytes(alloc);
+    let want = [
+        0x30, 0x0B, 0x02, 0x01, 0x01, 0x02, 0x02, 0x01, 0x2C, 0x04, 0x02, 0x61, 0x62,
+    ];
+    assert!(rt; is_written_or_memory(answer, &want));
+    assert!(rt; is_written_or_memory(tlv(alloc, 0x04, b"ab"), &[0x04, 0x02, 0x61, 0x62]));
+}
+
+#[test]
+fn sources(rt: HostRuntime) {
+    let octets = [7u8; 1300];
+    let mut source = Counted::new(octets.as_slice());
+    let right = match source.read_all(rt.alloc()) {
+        Ok(all) => all.as_slice() == octets.as_slice(),
+        Err(SourceError::Memory) => true,
+        Err(SourceError::Io) => false,
+    };
+    assert!(rt; right);
 }

@@ -36,8 +36,24 @@ fn skip(alloc: Global, mode: Mode, octets: &[u8]) -> Result<(), DecodeError> {
     read(alloc, mode, octets, |cons| cons.skip_one())
 }
 
-fn oid(alloc: Global, octets: &[u8]) -> Result<Oid, DecodeError> {
-    read(alloc, Mode::Der, octets, |cons| cons.take_oid())
+fn oid(alloc: Global, mode: Mode, octets: &[u8]) -> Result<Oid, DecodeError> {
+    read(alloc, mode, octets, |cons| cons.take_oid())
+}
+
+fn bits(alloc: Global, mode: Mode, octets: &[u8]) -> Result<BitString, DecodeError> {
+    read(alloc, mode, octets, |cons| cons.take_bits())
+}
+
+fn text(alloc: Global, mode: Mode, octets: &[u8]) -> Result<Bytes, DecodeError> {
+    read(alloc, mode, octets, |cons| cons.take_ia5())
+}
+
+/// The BOOLEAN in front, which is there.
+fn truth(alloc: Global, mode: Mode, octets: &[u8]) -> Result<bool, DecodeError> {
+    match read(alloc, mode, octets, |cons| cons.take_opt_bool())? {
+        Some(b) => Ok(b),
+        None => Err(DecodeError::Malformed),
+    }
 }
 
 /// A head, and so many octets of 7.
@@ -104,26 +120,20 @@ fn refused_in_both_modes(rt: HostRuntime) {
         assert!(rt; is_refused(skip(alloc, mode, &[0x1F, 0x01, 0x00])));
         assert!(rt; is_refused(skip(alloc, mode, &[0x00, 0x00])));
         assert!(rt; is_refused(skip(alloc, mode, &[0x30, 0x02, 0x00, 0x00])));
-        assert!(rt; is_refused(read(alloc, mode, &[0x03, 0x01, 0x01], |cons| cons.take_bits())));
-        assert!(rt; is_refused(read(alloc, mode, &[0x03, 0x00], |cons| cons.take_bits())));
-        assert!(rt;
-            is_refused(read(
-                alloc,
-                mode,
-                &[0x03, 0x02, 0x08, 0xA8],
-                |cons| cons.take_bits()
-            ))
-        );
-        assert!(rt;
-            is_refused(read(
-                alloc,
-                mode,
-                &[0x06, 0x02, 0x2A, 0x80],
-                |cons| cons.take_oid()
-            ))
-        );
-        assert!(rt; is_refused(read(alloc, mode, &[0x06, 0x00], |cons| cons.take_oid())));
-        assert!(rt; is_refused(read(alloc, mode, &[0x16, 0x01, 0x80], |cons| cons.take_ia5())));
+    }
+}
+
+#[test]
+fn wrong_contents(rt: HostRuntime) {
+    let alloc = rt.alloc();
+    for mode in MODES {
+        assert!(rt; is_refused(bits(alloc, mode, &[0x03, 0x01, 0x01])));
+        assert!(rt; is_refused(bits(alloc, mode, &[0x03, 0x00])));
+        assert!(rt; is_refused(bits(alloc, mode, &[0x03, 0x02, 0x08, 0xA8])));
+        assert!(rt; is_refused(oid(alloc, mode, &[0x06, 0x02, 0x2A, 0x80])));
+        assert!(rt; is_refused(oid(alloc, mode, &[0x06, 0x00])));
+        assert!(rt; is_refused(text(alloc, mode, &[0x16, 0x01, 0x80])));
+        assert!(rt; is_refused(truth(alloc, mode, &[0x01, 0x00])));
         assert!(rt;
             is_refused(read(
                 alloc,
@@ -132,7 +142,6 @@ fn refused_in_both_modes(rt: HostRuntime) {
                 |cons| cons.skip_opt_null()
             ))
         );
-        assert!(rt; is_refused(read(alloc, mode, &[0x01, 0x00], |cons| cons.take_opt_bool())));
     }
 }
 
@@ -181,6 +190,15 @@ fn nested_definite(alloc: Global, tag: u8, n: usize, inner: &[u8]) -> Result<Vec
     Ok(octets)
 }
 
+/// Whether an answer is Ok where it should be, and that octets are not of the form elsewhere.
+fn is_as<T: Drop>(is_read: bool, answer: Result<T, DecodeError>) -> bool {
+    if is_read {
+        answer.is_ok()
+    } else {
+        is_refused(answer)
+    }
+}
+
 /// 31 and 32 levels are read, 33 are refused: a value round so many others has one level more.
 #[test]
 fn depths(rt: HostRuntime) -> Result<(), Fail> {
@@ -189,20 +207,19 @@ fn depths(rt: HostRuntime) -> Result<(), Fail> {
         let is_read = n < 32;
         let pieces = nested(alloc, 0x24, n, &[0x04, 0x01, 0x41])?;
         assert_eq!(rt; is_string(alloc, Mode::Ber, &pieces, b"A"), is_read);
+        assert!(rt; is_as(is_read, string(alloc, Mode::Ber, &pieces)));
         assert!(rt; is_refused(string(alloc, Mode::Der, &pieces)));
         let pieces = nested_definite(alloc, 0x24, n, &[0x04, 0x01, 0x41])?;
         assert_eq!(rt; is_string(alloc, Mode::Ber, &pieces, b"A"), is_read);
         assert!(rt; is_refused(string(alloc, Mode::Der, &pieces)));
         let values = nested(alloc, 0x30, n, &[0x05, 0x00])?;
-        assert_eq!(rt; skip(alloc, Mode::Ber, &values).is_ok(), is_read);
+        assert!(rt; is_as(is_read, skip(alloc, Mode::Ber, &values)));
         assert!(rt; is_refused(skip(alloc, Mode::Der, &values)));
         let values = nested_definite(alloc, 0x30, n, &[0x05, 0x00])?;
         for mode in MODES {
-            assert_eq!(rt; skip(alloc, mode, &values).is_ok(), is_read);
-            assert_eq!(rt;
-                read(alloc, mode, &values, |cons| cons.skip_all()).is_ok(),
-                is_read
-            );
+            assert!(rt; is_as(is_read, skip(alloc, mode, &values)));
+            let answer = read(alloc, mode, &values, |cons| cons.skip_all());
+            assert!(rt; is_as(is_read, answer));
         }
     }
     Ok(())
@@ -226,55 +243,110 @@ fn endless_nesting(rt: HostRuntime) -> Result<(), Fail> {
     Ok(())
 }
 
-/// Each proper beginning of a row is refused, and octets behind it change nothing.
+/// Each proper beginning of an OCTET STRING is refused.
+fn string_cuts(rt: &impl Abort, alloc: Global, mode: Mode, row: &[u8]) {
+    assert!(rt; string(alloc, mode, row).is_ok());
+    for k in 0..row.len() {
+        assert!(rt; is_refused(string(alloc, mode, &row[..k])), "cut to {k}");
+    }
+}
+
+/// Each proper beginning of a value that is skipped is refused.
+fn skip_cuts(rt: &impl Abort, alloc: Global, mode: Mode, row: &[u8]) {
+    assert!(rt; skip(alloc, mode, row).is_ok());
+    for k in 0..row.len() {
+        assert!(rt; is_refused(skip(alloc, mode, &row[..k])), "cut to {k}");
+    }
+}
+
 #[test]
-fn cuts(rt: HostRuntime) -> Result<(), Fail> {
+fn cut_strings(rt: HostRuntime) -> Result<(), Fail> {
+    let alloc = rt.alloc();
+    let pieces = [
+        0x24u8, 0x80, 0x04, 0x02, 0x61, 0x62, 0x04, 0x01, 0x63, 0x00, 0x00,
+    ];
+    string_cuts(&rt, alloc, Mode::Ber, &pieces);
+    let pieces = [0x24, 0x07, 0x04, 0x02, 0x61, 0x62, 0x04, 0x01, 0x63];
+    string_cuts(&rt, alloc, Mode::Ber, &pieces);
+    let pieces = nested(alloc, 0x24, 31, &[0x04, 0x01, 0x41])?;
+    string_cuts(&rt, alloc, Mode::Ber, &pieces);
+    let long = with_contents(alloc, &[0x04, 0x81, 0x80], 128)?;
+    string_cuts(&rt, alloc, Mode::Der, &long);
+    string_cuts(&rt, alloc, Mode::Ber, &long);
+    let long = with_contents(alloc, &[0x04, 0x82, 0x00, 0x80], 128)?;
+    string_cuts(&rt, alloc, Mode::Ber, &long);
+    let long = with_contents(alloc, &[0x04, 0x81, 0x7F], 127)?;
+    string_cuts(&rt, alloc, Mode::Ber, &long);
+    string_cuts(&rt, alloc, Mode::Ber, &[0x04, 0x81, 0x01, 0x41]);
+    Ok(())
+}
+
+#[test]
+fn cut_skipped_values(rt: HostRuntime) -> Result<(), Fail> {
+    let alloc = rt.alloc();
+    for n in [30usize, 31] {
+        let values = nested(alloc, 0x30, n, &[0x05, 0x00])?;
+        skip_cuts(&rt, alloc, Mode::Ber, &values);
+        let values = nested_definite(alloc, 0x30, n, &[0x05, 0x00])?;
+        skip_cuts(&rt, alloc, Mode::Der, &values);
+        skip_cuts(&rt, alloc, Mode::Ber, &values);
+    }
+    Ok(())
+}
+
+#[test]
+fn cut_values(rt: HostRuntime) {
+    let alloc = rt.alloc();
+    for k in 0..3usize {
+        assert!(rt; is_refused(truth(alloc, Mode::Ber, &[0x01u8, 0x01, 0x02][..k])));
+    }
+    for mode in MODES {
+        for k in 0..3usize {
+            assert!(rt; is_refused(truth(alloc, mode, &[0x01u8, 0x01, 0xFF][..k])));
+        }
+        for k in 0..4usize {
+            assert!(rt; is_refused(bits(alloc, mode, &[0x03u8, 0x02, 0x03, 0xA8][..k])));
+            assert!(rt; is_refused(oid(alloc, mode, &[0x06u8, 0x02, 0x2A, 0x03][..k])));
+            assert!(rt; is_refused(text(alloc, mode, &[0x16u8, 0x02, 0x61, 0x62][..k])));
+        }
+    }
+}
+
+/// Octets behind a value change nothing.
+#[test]
+fn followed_values(rt: HostRuntime) {
     let alloc = rt.alloc();
     let pieces = [
         0x24u8, 0x80, 0x04, 0x02, 0x61, 0x62, 0x04, 0x01, 0x63, 0x00, 0x00, 0xFF,
     ];
-    for k in 0..11usize {
-        assert!(rt; is_refused(string(alloc, Mode::Ber, &pieces[..k])));
-    }
     assert!(rt; is_string(alloc, Mode::Ber, &pieces, b"abc"));
-    let long = with_contents(alloc, &[0x04, 0x81, 0x80], 128)?;
-    for k in 0..131usize {
-        let mut cut = Vec::new(alloc);
-        cut.extend_from_slice(&long)?;
-        cut.truncate(k);
-        for mode in MODES {
-            assert!(rt; is_refused(string(alloc, mode, &cut)));
-        }
+    for mode in MODES {
+        assert!(rt; is_string(alloc, mode, &[0x04, 0x01, 0x61, 0x00], b"a"));
+        assert!(rt;
+            number(alloc, mode, &[0x30, 0x03, 0x02, 0x01, 0x05, 0x80]).is_ok_and(|n| n == 5)
+        );
+        assert!(rt; truth(alloc, mode, &[0x01, 0x01, 0xFF, 0x01]).is_ok_and(|b| b));
     }
-    for row in [
-        [0x03u8, 0x02, 0x03, 0xA8],
-        [0x06, 0x02, 0x2A, 0x03],
-        [0x16, 0x02, 0x61, 0x62],
-    ] {
-        for k in 0..4usize {
-            for mode in MODES {
-                assert!(rt; is_refused(skip(alloc, mode, &row[..k])));
-            }
-        }
-    }
-    Ok(())
 }
 
 #[test]
 fn strings_of_bits(rt: HostRuntime) -> Result<(), Fail> {
     let alloc = rt.alloc();
     for mode in MODES {
-        let bits = read(
-            alloc,
-            mode,
-            &[0x03, 0x02, 0x03, 0xA8],
-            |cons| cons.take_bits(),
-        )?;
-        let copy = bits.clone()?;
+        let three = bits(alloc, mode, &[0x03, 0x02, 0x03, 0xA8])?;
+        let copy = three.clone()?;
         assert_eq!(rt; copy.octets.as_slice(), [0xA8u8].as_slice());
         assert_eq!(rt; copy.unused, 3);
-        let none = read(alloc, mode, &[0x03, 0x01, 0x00], |cons| cons.take_bits())?;
+        let none = bits(alloc, mode, &[0x03, 0x01, 0x00])?;
         assert!(rt; none.octets.is_empty());
+    }
+    Ok(())
+}
+
+#[test]
+fn captures(rt: HostRuntime) -> Result<(), Fail> {
+    let alloc = rt.alloc();
+    for mode in MODES {
         let kept = read(
             alloc,
             mode,
@@ -399,9 +471,9 @@ fn texts_of_errors(rt: HostRuntime) -> Result<(), Fail> {
 #[test]
 fn identifiers(rt: HostRuntime) -> Result<(), Fail> {
     let alloc = rt.alloc();
-    let a = oid(alloc, &[0x06, 0x03, 0x55, 0x04, 0x03])?;
-    let b = oid(alloc, &[0x06, 0x03, 0x55, 0x04, 0x03, 0xFF])?;
-    let c = oid(alloc, &[0x06, 0x03, 0x55, 0x04, 0x04])?;
+    let a = oid(alloc, Mode::Der, &[0x06, 0x03, 0x55, 0x04, 0x03])?;
+    let b = oid(alloc, Mode::Der, &[0x06, 0x03, 0x55, 0x04, 0x03, 0xFF])?;
+    let c = oid(alloc, Mode::Der, &[0x06, 0x03, 0x55, 0x04, 0x04])?;
     assert_eq!(rt; a.as_slice(), [0x55u8, 0x04, 0x03].as_slice());
     assert!(rt; a == b);
     assert!(rt; a != c);
@@ -498,68 +570,89 @@ fn one_of_each(rt: HostRuntime) -> Result<(), Fail> {
     Ok(())
 }
 
+/// The contents of a value with identifier 80, if one is next.
+fn key(alloc: Global, mode: Mode, octets: &[u8]) -> Result<Option<Bytes>, DecodeError> {
+    match Tag::new(0x80) {
+        Some(tag) => read(alloc, mode, octets, |cons| cons.take_opt_primitive_if(tag)),
+        None => Err(DecodeError::Malformed),
+    }
+}
+
+/// The u8 in the SEQUENCE in front, if there is one.
+fn opt_number(alloc: Global, mode: Mode, octets: &[u8]) -> Result<Option<u8>, DecodeError> {
+    read(
+        alloc,
+        mode,
+        octets,
+        |cons| cons.take_opt_sequence(|cons| cons.take_u8()),
+    )
+}
+
+/// Where another value is next, or none, nothing is read and nothing is wrong.
 #[test]
-fn what_may_be_there(rt: HostRuntime) -> Result<(), Fail> {
+fn what_is_not_there(rt: HostRuntime) {
     let alloc = rt.alloc();
     for mode in MODES {
-        assert!(rt; read(alloc, mode, &[], |cons| cons.take_opt_u8()).is_ok_and(|n| n == None));
-        assert!(rt;
-            read(alloc, mode, &[2, 1, 5], |cons| cons.take_opt_u8()).is_ok_and(|n| n == Some(5))
-        );
-        assert!(rt; is_refused(read(alloc, mode, &[2, 2, 1, 0], |cons| cons.take_opt_u8())));
-        assert!(rt;
-            read(alloc, mode, &[4, 0], |cons| cons.take_opt_u32()).is_ok_and(|n| n == None)
-        );
-        assert!(rt;
-            read(
-                alloc,
-                mode,
-                &[2, 5, 0, 0xFF, 0xFF, 0xFF, 0xFF],
-                |cons| cons.take_opt_u32()
-            )
-            .is_ok_and(|n| n == Some(u32::MAX))
-        );
-        assert!(rt;
-            is_refused(read(
-                alloc,
-                mode,
-                &[2, 5, 1, 0, 0, 0, 0],
-                |cons| cons.take_opt_u32()
-            ))
-        );
-        assert!(rt; is_refused(read(alloc, mode, &[2, 1, 5], |cons| cons.skip_u8_if(6))));
-        assert!(rt;
-            read(alloc, mode, &[5, 0], |cons| cons.take_opt_ia5()).is_ok_and(|text| text.is_none())
-        );
+        for row in [[0x04u8, 0].as_slice(), &[]] {
+            assert!(rt; read(alloc, mode, row, |cons| cons.take_opt_u8()).is_ok_and(|n| n == None));
+            assert!(rt;
+                read(alloc, mode, row, |cons| cons.take_opt_u32()).is_ok_and(|n| n == None)
+            );
+            assert!(rt;
+                read(alloc, mode, row, |cons| cons.take_opt_bool()).is_ok_and(|b| b == None)
+            );
+            assert!(rt;
+                read(alloc, mode, row, |cons| cons.skip_opt_null()).is_ok_and(|u| u == None)
+            );
+            assert!(rt;
+                read(alloc, mode, row, |cons| cons.take_opt_ia5()).is_ok_and(|t| t.is_none())
+            );
+            assert!(rt; key(alloc, mode, row).is_ok_and(|key| key.is_none()));
+            assert!(rt; opt_number(alloc, mode, row).is_ok_and(|n| n == None));
+        }
+        assert!(rt; opt_number(alloc, mode, &[0x31, 3, 2, 1, 9]).is_ok_and(|n| n == None));
+    }
+}
+
+#[test]
+fn what_is_there(rt: HostRuntime) -> Result<(), Fail> {
+    let alloc = rt.alloc();
+    let most = [0x02, 5, 0, 0xFF, 0xFF, 0xFF, 0xFF];
+    for mode in MODES {
+        let one = read(alloc, mode, &[2, 1, 5], |cons| cons.take_opt_u8())?;
+        assert_eq!(rt; one, Some(5));
+        let four = read(alloc, mode, &most, |cons| cons.take_opt_u32())?;
+        assert_eq!(rt; four, Some(u32::MAX));
+        let null = read(alloc, mode, &[5, 0], |cons| cons.skip_opt_null())?;
+        assert_eq!(rt; null, Some(()));
         let text = read(alloc, mode, &[0x16, 1, 0x61], |cons| cons.take_opt_ia5())?;
         assert!(rt; text.is_some_and(|text| text.as_slice() == b"a".as_slice()));
-        assert!(rt;
-            read(alloc, mode, &[5, 0], |cons| cons.skip_opt_null()).is_ok_and(|null| null.is_some())
-        );
+        let inner = opt_number(alloc, mode, &[0x30, 3, 2, 1, 9])?;
+        assert_eq!(rt; inner, Some(9));
         let inner = read(
             alloc,
             mode,
-            &[0x30, 3, 2, 1, 9],
-            |cons| cons.take_opt_sequence(|cons| cons.take_u8()),
+            &[0xA0, 3, 2, 1, 9],
+            |cons| cons.take_constructed_if(Tag::CTX_0, |cons| cons.take_u8()),
         )?;
-        assert_eq!(rt; inner, Some(9));
-        let none = read(
-            alloc,
-            mode,
-            &[0x31, 3, 2, 1, 9],
-            |cons| cons.take_opt_sequence(|cons| cons.take_u8()),
-        )?;
-        assert_eq!(rt; none, None);
-        assert!(rt;
-            is_refused(read(
-                alloc,
-                mode,
-                &[0x30, 3, 2, 2, 9],
-                |cons| cons.take_opt_sequence(|cons| cons.take_u8())
-            ))
-        );
+        assert_eq!(rt; inner, 9);
     }
     Ok(())
+}
+
+/// The tag is that of the value, and its contents are wrong.
+#[test]
+fn what_is_there_and_wrong(rt: HostRuntime) {
+    let alloc = rt.alloc();
+    let five = [0x02, 5, 1, 0, 0, 0, 0];
+    for mode in MODES {
+        assert!(rt; is_refused(read(alloc, mode, &[2, 2, 1, 0], |cons| cons.take_opt_u8())));
+        assert!(rt; is_refused(read(alloc, mode, &five, |cons| cons.take_opt_u32())));
+        assert!(rt; is_refused(read(alloc, mode, &[2, 1, 5], |cons| cons.skip_u8_if(6))));
+        assert!(rt; is_refused(read(alloc, mode, &[0x16, 1, 0x80], |cons| cons.take_opt_ia5())));
+        assert!(rt; is_refused(key(alloc, mode, &[0x80, 1])));
+        assert!(rt; is_refused(opt_number(alloc, mode, &[0x30, 3, 2, 2, 9])));
+    }
 }
 
 /// Reads past an error.

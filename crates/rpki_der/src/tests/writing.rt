@@ -1,6 +1,6 @@
 use crate::build::tlv;
 use crate::encode::{
-    Digits, Encode, EncodeError, Length, Raw, bit_string, boolean, each, ia5, integer, integer_of,
+    Digits, Encode, EncodeError, Header, Raw, bit_string, boolean, each, ia5, integer, integer_of,
     integer_u8, null, octet_string, oid, primitive, sequence, set, tagged,
 };
 use crate::{AsOctets, Captured, Counted, Mode, Oid, Sink, SinkFailed, Source, SourceError, Tag};
@@ -94,36 +94,35 @@ fn is_written<T: Encode, R: Abort + AllocGlobal>(
 
 #[test]
 fn lengths(rt: HostRuntime) -> Result<(), Fail> {
-    let lengths: [(u32, &[u8]); 13] = [
-        (0, &[0x00]),
-        (1, &[0x01]),
-        (127, &[0x7F]),
-        (128, &[0x81, 0x80]),
-        (255, &[0x81, 0xFF]),
-        (256, &[0x82, 0x01, 0x00]),
-        (65535, &[0x82, 0xFF, 0xFF]),
-        (65536, &[0x83, 0x01, 0x00, 0x00]),
-        (0xFF_FFFF, &[0x83, 0xFF, 0xFF, 0xFF]),
-        (0x100_0000, &[0x84, 0x01, 0x00, 0x00, 0x00]),
-        (0x8000_0000, &[0x84, 0x80, 0x00, 0x00, 0x00]),
-        (0xFFFF_FFFE, &[0x84, 0xFF, 0xFF, 0xFF, 0xFE]),
-        (0xFFFF_FFFF, &[0x84, 0xFF, 0xFF, 0xFF, 0xFF]),
+    let headers: [(u32, &[u8]); 13] = [
+        (0, &[0x04, 0x00]),
+        (1, &[0x04, 0x01]),
+        (127, &[0x04, 0x7F]),
+        (128, &[0x04, 0x81, 0x80]),
+        (255, &[0x04, 0x81, 0xFF]),
+        (256, &[0x04, 0x82, 0x01, 0x00]),
+        (65535, &[0x04, 0x82, 0xFF, 0xFF]),
+        (65536, &[0x04, 0x83, 0x01, 0x00, 0x00]),
+        (0xFF_FFFF, &[0x04, 0x83, 0xFF, 0xFF, 0xFF]),
+        (0x100_0000, &[0x04, 0x84, 0x01, 0x00, 0x00, 0x00]),
+        (0x8000_0000, &[0x04, 0x84, 0x80, 0x00, 0x00, 0x00]),
+        (0xFFFF_FFFE, &[0x04, 0x84, 0xFF, 0xFF, 0xFF, 0xFE]),
+        (0xFFFF_FFFF, &[0x04, 0x84, 0xFF, 0xFF, 0xFF, 0xFF]),
     ];
-    for (n, want) in lengths {
-        is_written(&rt, &Length(n), want)?;
-        if n <= 0x100_0000 {
-            let contents = vec![in rt.alloc(); 0u8; n as usize]?;
-            let whole = n as u64 + 1 + want.len() as u64;
+    for (len, want) in headers {
+        let identifier = 0x04;
+        is_written(&rt, &Header { identifier, len }, want)?;
+        if len <= 0x100_0000 {
+            let contents = vec![in rt.alloc(); 0u8; len as usize]?;
+            let whole = u64::from(len) + want.len() as u64;
             assert_eq!(rt; octet_string(&contents).encoded_len()?, whole);
         }
-        if n <= 65536 {
-            let contents = vec![in rt.alloc(); 0x55u8; n as usize]?;
+        if len <= 65536 {
+            let contents = vec![in rt.alloc(); 0x55u8; len as usize]?;
             let octets = octet_string(&contents).to_bytes(rt.alloc())?;
-            let built = tlv(rt.alloc(), 0x04, &contents)?;
-            let head = 1 + want.len();
-            assert_eq!(rt; octets.get(0), Some(&0x04));
-            assert_eq!(rt; octets.get(1..head), Some(want));
-            assert_eq!(rt; octets.get(head..), Some(contents.as_slice()));
+            let built = tlv(rt.alloc(), identifier, &contents)?;
+            assert_eq!(rt; octets.get(..want.len()), Some(want));
+            assert_eq!(rt; octets.get(want.len()..), Some(contents.as_slice()));
             assert_eq!(rt; built.as_slice(), octets.as_slice());
         }
     }

@@ -59,8 +59,8 @@ impl<'a> Encode for AsProviderAttestationEncoder<'a> {
         sequence(self.fields()).encoded_len()
     }
 
-    fn put<W: Sink>(&self, out: &mut W) -> Result<(), SinkFailed> {
-        sequence(self.fields()).put(out)
+    fn put<W: Sink>(&self, len: u64, out: &mut W) -> Result<(), SinkFailed> {
+        sequence(self.fields()).put(len, out)
     }
 }
 
@@ -79,8 +79,8 @@ impl Encode for Version {
         tagged(Tag::CTX_0, integer(1)).encoded_len()
     }
 
-    fn put<W: Sink>(&self, out: &mut W) -> Result<(), SinkFailed> {
-        tagged(Tag::CTX_0, integer(1)).put(out)
+    fn put<W: Sink>(&self, len: u64, out: &mut W) -> Result<(), SinkFailed> {
+        tagged(Tag::CTX_0, integer(1)).put(len, out)
     }
 }
 
@@ -99,7 +99,7 @@ impl Encode for Providers<'_> {
         sequence(each(self.0)).encoded_len()
     }
 
-    fn put<W: Sink>(&self, out: &mut W) -> Result<(), SinkFailed> {
-        sequence(each(self.0)).put(out)
+    fn put<W: Sink>(&self, len: u64, out: &mut W) -> Result<(), SinkFailed> {
+        sequence(each(self.0)).put(len, out)
     }
 }

@@ -1,4 +1,4 @@
-use Rattle.rpki_der.proofs.Writing.Strings.{bits-written, bits-read, bits-whole, unused-same}
+use Rattle.rpki_der.proofs.Writing.Strings.{bits-written, bits-unique, bits-read, bits-whole, unused-same}
 use Rattle.rpki_der.proofs.write_laws.bit_strings_are_written.Goals as goal
 
 pub returns-clause-written : goal.returns-clause-written
@@ -12,3 +12,6 @@ returns-clause-whole c = bits-whole
 
 pub returns-clause-bits : goal.returns-clause-bits
 returns-clause-bits c = unused-same
+
+pub returns-clause-unique : goal.returns-clause-unique
+returns-clause-unique c = bits-unique

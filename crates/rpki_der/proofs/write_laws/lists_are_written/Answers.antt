@@ -1,4 +1,4 @@
-use Rattle.rpki_der.proofs.Writing.Values.{list-written, list-read}
+use Rattle.rpki_der.proofs.Writing.Values.{list-written, list-unique, list-read}
 use Rattle.rpki_der.proofs.write_laws.lists_are_written.Goals as goal
 
 pub returns-clause-written : goal.returns-clause-written
@@ -6,3 +6,6 @@ returns-clause-written c = list-written
 
 pub returns-clause-read : goal.returns-clause-read
 returns-clause-read c = list-read
+
+pub returns-clause-unique : goal.returns-clause-unique
+returns-clause-unique c = list-unique

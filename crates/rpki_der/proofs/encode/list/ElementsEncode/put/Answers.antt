@@ -3,8 +3,9 @@ use Rattle.std.proofs.lemmas.Result.{err_from_is_err_and}
 use Rattle.rpki_der.proofs.Writing.Pieces.{each_begun, pieces_within}
 use Rattle.rpki_der.proofs.encode.list.ElementsEncode.put.Goals as goal
 
-pub put-requires-clause-len : goal.put-requires-clause-len
-put-requires-clause-len g c = omega (arith, c.requires.len, pieces_within g.T.Encode.octets c.args.self.now.0.now c.loop-x.x-index c.x-item.result c.loop-x-test.true c.x-item.is)
+pub len_of-requires-clause-len : goal.len_of-requires-clause-len
+len_of-requires-clause-len g c =
+    omega (arith, c.requires.len, c.ranges._len.fits, pieces_within g.T.Encode.octets c.args.self.now.0.now c.loop-x.x-index c.x-item.result c.loop-x-test.true c.x-item.is)
 
 pub returns-in_err-put-clause-begun : goal.returns-in_err-put-clause-begun
 returns-in_err-put-clause-begun g c =

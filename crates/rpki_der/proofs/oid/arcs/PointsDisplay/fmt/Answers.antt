@@ -14,7 +14,7 @@ loop-arc-preserved g c =
       sym (small-found _ _ _ c.in-Some.ensures) ∙ i.1,
       λ plain. let k = i.2 plain in (
         k.0 ++ point c.in-Some.arc,
-        has_written_append _ _ _ _ _ _ k.1 (c.in_ok-write.ensures.writes k.1.plain refl),
+        has_written_append _ _ _ _ _ _ k.1 (c.in_ok-write.ensures.writes k.1.plain cc),
         written-more k.0 _ _ _ c.in-Some.arc c.in-Some.ensures k.2,
       ),
     )
