@@ -118,7 +118,7 @@ reads-item mode =
 
 -- ---- all of them
 
-item-block : (mode : Mode) (o : List ℕ) (b : Block ℕ) → AsIdOrRange mode o b → b.min ≤ b.max
+pub item-block : (mode : Mode) (o : List ℕ) (b : Block ℕ) → AsIdOrRange mode o b → b.min ≤ b.max
 item-block mode o b (inl h) = h.2.5
 item-block mode o b (inr h) = omega arith
 

@@ -4,6 +4,7 @@ use Rattle.std.specs.List.{flat_map}
 use Rattle.std.specs.Int.{w32, to_be_bytes}
 use Rattle.std.proofs.lemmas.Bool.{eqb-true}
 use Rattle.std.proofs.lemmas.List.Elements.{All-head, All-tail}
+use Rattle.rpki_der.specs.declared.mode.Mode.{Mode}
 use Rattle.rpki_der.specs.declared.mode.Mode.TheVariants.{Der}
 use Rattle.rpki_der.specs.Identifier.{IsTag}
 use Rattle.rpki_der.specs.Grammar.{Items}
@@ -12,11 +13,14 @@ use Rattle.rpki_der.proofs.Writing.Lengths.{value-written}
 use Rattle.rpki_der.proofs.Writing.Numbers.{length-integer_contents}
 use Rattle.rpki_der.proofs.Writing.Values.{number-in}
 use Rattle.rpki_resources.specs.declared.block.Block.{Block}
-use Rattle.rpki_resources.specs.Blocks.{RisesFrom, IsCanonical}
+use Rattle.rpki_resources.specs.Blocks.{RisesFrom, IsCanonical, IsBlock}
 use Rattle.rpki_resources.specs.AsForm.{AsIdOrRange, AsForm}
 use Rattle.rpki_resources.specs.AsRead.{as_blocks_at}
 use Rattle.rpki_resources.specs.AsWritten.{as_octets}
-use Rattle.rpki_resources.proofs.AsExact.{exact-as_blocks}
+use Rattle.rpki_resources.specs.Joined.{merged, joined}
+use Rattle.rpki_resources.proofs.AsExact.{exact-as_blocks, item-block}
+use Rattle.rpki_resources.proofs.Joining.{joined_only, joined-all}
+use Rattle.rpki_resources.proofs.Listed.{items-all}
 
 is_sequence : IsTag 48
 is_sequence = ((λ e. absurd (omega arith)), (λ e. absurd (omega arith)))
@@ -42,3 +46,20 @@ as_written set r h l = (flat_map as_octets set, value-written 48 (flat_map as_oc
 
 pub as_read : (set : List (Block ℕ)) (rest : List ℕ) → IsCanonical (λ n. n) set → All (λ b. b.max < 2 ^ 32) set → length (flat_map as_octets set) < 2 ^ 32 → as_blocks_at Der (value_octets 48 (flat_map as_octets set) ++ rest) ≡ Some (set, rest)
 as_read set rest r h l = (exact-as_blocks Der).complete (value_octets 48 (flat_map as_octets set)) set rest tt (as_written set r h l)
+
+-- ---- what is read is written again
+
+item-below : (mode : Mode) (o : List ℕ) (b : Block ℕ) → AsIdOrRange mode o b → b.max < 2 ^ 32
+item-below mode o b (inl h) = h.2.4.2.1
+item-below mode o b (inr h) = omega (arith, h.0.2.1, h.1)
+
+merged-below : (b c : Block ℕ) → b.max < 2 ^ 32 → c.max < 2 ^ 32 → (merged b c).max < 2 ^ 32
+merged-below b c h k = omega (arith, h, k)
+
+pub set-below : (mode : Mode) (o : List ℕ) (set : List (Block ℕ)) → AsForm mode o set → All (λ b. b.max < 2 ^ 32) set
+set-below mode o set h =
+    let k = h.2 in
+    let blocks = items-all (AsIdOrRange mode) (IsBlock (λ n. n)) (item-block mode) h.0 k.0 k.1 in
+    let same : set ≡ joined k.0 = joined_only set k.0 blocks k.2.canonical k.2.same in
+    let each = items-all (AsIdOrRange mode) (λ b. b.max < 2 ^ 32) (item-below mode) h.0 k.0 k.1 in
+    rw same (joined-all (λ b. b.max < 2 ^ 32) merged-below k.0 each)

@@ -59,7 +59,7 @@ address-parts most mode =
     (λ x. exact-guard anything (nat_le (bit_count x) most) (λ r. Some (x, r)) _ (exact-done anything x))
     (λ _ _ _ _ _ _. tt)
 
-append_end : (o : List ℕ) → o ++ [] ≡ o
+pub append_end : (o : List ℕ) → o ++ [] ≡ o
 append_end [] = refl
 append_end (x ∷ o) = ap (λ (t : List ℕ). x ∷ t) (append_end o)
 
@@ -207,7 +207,7 @@ reads-item most mode =
 lowest_le : (bits : List ℕ × ℕ) → lowest bits ≤ highest bits
 lowest_le bits = let pos : 0 < 2 ^ (128 - bit_count bits) = pow_pos (128 - bit_count bits) in omega arith
 
-item-block : (most : ℕ) (mode : Mode) (o : List ℕ) (b : Block ℕ) → IpPrefixOrRange mode most o b → b.min ≤ b.max
+pub item-block : (most : ℕ) (mode : Mode) (o : List ℕ) (b : Block ℕ) → IpPrefixOrRange mode most o b → b.min ≤ b.max
 item-block most mode o b (inl h) = h.2.8
 item-block most mode o b (inr h) = subst (λ (x : Block ℕ). x.min ≤ x.max) (sym h.2) (lowest_le h.0)
 

@@ -9,8 +9,11 @@ pub mod Each
 pub mod Ends
 pub mod Equality
 pub mod FamilyExact
+pub mod FirstBits
 pub mod IpExact
 pub mod IpNames
+pub mod IpWithin
+pub mod IpWriting
 pub mod Joining
 pub mod Listed
 pub mod Meeting
@@ -22,4 +25,5 @@ pub mod Rises
 pub mod Same
 pub mod Shortening
 pub mod Sorting
+pub mod Trailing
 pub mod Upto
