@@ -4,6 +4,7 @@ pub mod AsWriting
 pub mod Between
 pub mod Bits
 pub mod Calls
+pub mod Copies
 pub mod Covering
 pub mod Each
 pub mod Ends
