@@ -10,7 +10,8 @@ ghost use Rattle.rpki_resources.specs.Blocks.{IsBlock};
 ghost use Rattle.rpki_resources.specs.Joined.{joined};
 ghost use Rattle.rpki_der.specs.Parts.{contents_small};
 ghost use Rattle.rpki_resources.specs.AsWritten.{as_tag, as_contents, as_octets};
-ghost use Rattle.rpki_resources.specs.AsRead.{as_ends_at, as_id_at, as_item_at, as_items_at, as_blocks_at};
+ghost use Rattle.rpki_resources.specs.AsRead.{as_ends_at, as_id_at, as_item_at, as_items_at};
+ghost use Rattle.rpki_resources.specs.AsRead.{as_blocks_at};
 
 use crate::asn::{AsBlock, AsBlocks, Asn};
 use crate::block::Block;

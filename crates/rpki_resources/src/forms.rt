@@ -1,6 +1,8 @@
-//! What the definitions of the octets and of the texts of sets say: laws, as functions that do nothing.
+//! What the definitions of the octets and of the texts of sets say: laws, as functions that do
+//! nothing.
 
-ghost use Rattle.std.specs.Prelude.{◌≡◌, ◌+◌, ◌<◌, ◌≤◌, ◌^◌, ℕ, List, ◌++◌, All, Some, length, take, drop, codes};
+ghost use Rattle.std.specs.Prelude.{◌≡◌, ◌+◌, ◌<◌, ◌≤◌, ◌^◌, ℕ, List, ◌++◌, All, Some, length};
+ghost use Rattle.std.specs.Prelude.{take, drop, codes};
 ghost use Rattle.std.specs.List.{flat_map};
 ghost use Rattle.std.specs.Net.Text.{groups_text, hex_groups_text, zero_run};
 ghost use Rattle.rpki_der.specs.declared.mode.Mode.{Mode};
@@ -27,7 +29,8 @@ pub fn as_sets()
 
 /// So is reading a set of addresses.
 pub fn ip_sets()
-    ensures { (family : AddressFamily) → IsReading (ip_blocks_at (max_bits family)) (IpForm family) }
+    ensures { (family : AddressFamily) →
+        IsReading (ip_blocks_at (max_bits family)) (IpForm family) }
 {}
 
 /// So is reading a family.
@@ -38,10 +41,12 @@ pub fn families()
 /// A set of AS numbers is written in DER, and read again.
 pub fn as_sets_are_written()
     ensures written { (set : List (Block ℕ)) →
-        IsCanonical (λ n. n) set → All (λ b. b.max < 2 ^ 32) set → length (flat_map as_octets set) < 2 ^ 32 →
+        IsCanonical (λ n. n) set → All (λ b. b.max < 2 ^ 32) set →
+        length (flat_map as_octets set) < 2 ^ 32 →
         AsForm Der (value_octets 48 (flat_map as_octets set)) set }
     ensures read { (set : List (Block ℕ)) (rest : List ℕ) →
-        IsCanonical (λ n. n) set → All (λ b. b.max < 2 ^ 32) set → length (flat_map as_octets set) < 2 ^ 32 →
+        IsCanonical (λ n. n) set → All (λ b. b.max < 2 ^ 32) set →
+        length (flat_map as_octets set) < 2 ^ 32 →
         as_blocks_at Der (value_octets 48 (flat_map as_octets set) ++ rest) ≡ Some (set, rest) }
 {}
 
@@ -57,17 +62,20 @@ pub fn as_sets_are_written_again()
 /// A set of addresses of a family is written in DER, and read again.
 pub fn ip_sets_are_written()
     ensures written { (family : AddressFamily) (set : List (Block ℕ)) →
-        IsCanonical (λ n. n) set → All (IsWithin family) set → length (flat_map ip_octets set) < 2 ^ 32 →
+        IsCanonical (λ n. n) set → All (IsWithin family) set →
+        length (flat_map ip_octets set) < 2 ^ 32 →
         IpForm family Der (value_octets 48 (flat_map ip_octets set)) set }
     ensures read { (family : AddressFamily) (set : List (Block ℕ)) (rest : List ℕ) →
-        IsCanonical (λ n. n) set → All (IsWithin family) set → length (flat_map ip_octets set) < 2 ^ 32 →
+        IsCanonical (λ n. n) set → All (IsWithin family) set →
+        length (flat_map ip_octets set) < 2 ^ 32 →
         ip_blocks_at (max_bits family) Der (value_octets 48 (flat_map ip_octets set) ++ rest)
         ≡ Some (set, rest) }
 {}
 
 /// Each one that was read is of the family, can be written, and is read again.
 pub fn ip_sets_are_written_again()
-    ensures within { (family : AddressFamily) (mode : Mode) (octets : List ℕ) (set : List (Block ℕ)) →
+    ensures within { (family : AddressFamily) (mode : Mode) (octets : List ℕ)
+        (set : List (Block ℕ)) →
         IsBytes octets → IpForm family mode octets set → All (IsWithin family) set }
     ensures read { (family : AddressFamily) (mode : Mode) (octets : List ℕ) (set : List (Block ℕ))
         (rest : List ℕ) → IsBytes octets → IpForm family mode octets set →
@@ -81,7 +89,8 @@ pub fn ip_sets_are_written_again()
 /// are written.
 pub fn ipv6_texts()
     ensures shortened { (groups : List ℕ) (start len : ℕ) → IsShortened groups start len
-        → hex_groups_text groups ≡ groups_text (take start groups) ++ codes "::" ++ groups_text (drop (start + len) groups) }
+        → hex_groups_text groups
+        ≡ groups_text (take start groups) ++ codes "::" ++ groups_text (drop (start + len) groups) }
     ensures whole { (groups : List ℕ) → ((start : ℕ) → zero_run (drop start groups) ≤ 1)
         → hex_groups_text groups ≡ groups_text groups }
 {}
