@@ -6,9 +6,9 @@ use Rattle.std.proofs.lemmas.Bool.{eqb-true}
 use Rattle.std.proofs.lemmas.List.Elements.{All-head, All-tail}
 use Rattle.rpki_der.specs.declared.mode.Mode.{Mode}
 use Rattle.rpki_der.specs.declared.mode.Mode.TheVariants.{Der}
-use Rattle.rpki_der.specs.Identifier.{IsTag}
 use Rattle.rpki_der.specs.Grammar.{Items}
 use Rattle.rpki_der.specs.Written.{value_octets, number_octets, integer_contents, length_value_octets_le}
+use Rattle.rpki_der.proofs.Reading.Scan.{tag-sound}
 use Rattle.rpki_der.proofs.Writing.Lengths.{value-written}
 use Rattle.rpki_der.proofs.Writing.Numbers.{length-integer_contents}
 use Rattle.rpki_der.proofs.Writing.Values.{number-in}
@@ -22,9 +22,6 @@ use Rattle.rpki_resources.proofs.AsExact.{exact-as_blocks, item-block}
 use Rattle.rpki_resources.proofs.Joining.{joined_only, joined-all}
 use Rattle.rpki_resources.proofs.Listed.{items-all}
 
-is_sequence : IsTag 48
-is_sequence = ((λ e. absurd (omega arith)), (λ e. absurd (omega arith)))
-
 short : (a b : ℕ) → length (number_octets a ++ number_octets b) < 2 ^ 32
 short a b =
     let d : length (to_be_bytes w32 a) ≡ 4 = refl in
@@ -33,7 +30,7 @@ short a b =
 
 item_by : (t : Bool) (b : Block ℕ) → (b.min == b.max) ≡ t → b.min ≤ b.max → b.max < 2 ^ 32 → AsIdOrRange Der (as_octets b) b
 item_by true b e l h = rw e (inr (number-in Der b.min (omega arith), sym (eqb-true b.min b.max e)))
-item_by false b e l h = rw e (inl (number_octets b.min ++ number_octets b.max, value-written 48 (number_octets b.min ++ number_octets b.max) is_sequence (short b.min b.max), (number_octets b.min, number_octets b.max, refl, number-in Der b.min (omega arith), number-in Der b.max h, l)))
+item_by false b e l h = rw e (inl (number_octets b.min ++ number_octets b.max, value-written 48 (number_octets b.min ++ number_octets b.max) (tag-sound 48 refl) (short b.min b.max), (number_octets b.min, number_octets b.max, refl, number-in Der b.min (omega arith), number-in Der b.max h, l)))
 
 items_written : (a : ℕ) (bs : List (Block ℕ)) → RisesFrom (λ n. n) a bs → All (λ b. b.max < 2 ^ 32) bs → Items (AsIdOrRange Der) (flat_map as_octets bs) bs
 items_written a [] r h = refl
@@ -42,7 +39,7 @@ items_written a (b ∷ bs) r h =
     (as_octets b, flat_map as_octets bs, refl, item_by (b.min == b.max) b refl r.1 small, items_written (b.max + 2) bs r.2 (All-tail (λ (c : Block ℕ). c.max < 2 ^ 32) b bs h))
 
 pub as_written : (set : List (Block ℕ)) → IsCanonical (λ n. n) set → All (λ b. b.max < 2 ^ 32) set → length (flat_map as_octets set) < 2 ^ 32 → AsForm Der (value_octets 48 (flat_map as_octets set)) set
-as_written set r h l = (flat_map as_octets set, value-written 48 (flat_map as_octets set) is_sequence l, (set, items_written 0 set r h, record { canonical = r; same = λ n. refl }))
+as_written set r h l = (flat_map as_octets set, value-written 48 (flat_map as_octets set) (tag-sound 48 refl) l, (set, items_written 0 set r h, record { canonical = r; same = λ n. refl }))
 
 pub as_read : (set : List (Block ℕ)) (rest : List ℕ) → IsCanonical (λ n. n) set → All (λ b. b.max < 2 ^ 32) set → length (flat_map as_octets set) < 2 ^ 32 → as_blocks_at Der (value_octets 48 (flat_map as_octets set) ++ rest) ≡ Some (set, rest)
 as_read set rest r h l = (exact-as_blocks Der).complete (value_octets 48 (flat_map as_octets set)) set rest tt (as_written set r h l)

@@ -3,6 +3,7 @@ use Rattle.std.proofs.Common.{◌≡◌, ℕ, ◌+◌, ◌-◌, ◌*◌, ◌%◌
 use Rattle.std.proofs.Math.Nat.{mul-mod_left}
 use Rattle.std.proofs.lemmas.Bool.Decides.{leb_tells}
 use Rattle.std.proofs.lemmas.Nat.{pow-add, pow_pos}
+use Rattle.std.proofs.lemmas.List.{append-nil}
 use Rattle.rpki_der.specs.declared.mode.Mode.{Mode}
 use Rattle.rpki_der.specs.Grammar.{IsBytes, Items}
 use Rattle.rpki_der.specs.Read.Parse.{number}
@@ -16,7 +17,7 @@ use Rattle.rpki_resources.specs.IpForm.{bit_count, bit_value, highest, IpAddress
 use Rattle.rpki_resources.specs.IpRead.{spanned}
 use Rattle.rpki_resources.specs.Joined.{merged, joined}
 use Rattle.rpki_resources.proofs.Bits.{small_more, value_below, room_below}
-use Rattle.rpki_resources.proofs.IpExact.{append_end, item-block}
+use Rattle.rpki_resources.proofs.IpExact.{item-block}
 use Rattle.rpki_resources.proofs.Joining.{joined_only, joined-all}
 use Rattle.rpki_resources.proofs.Listed.{items-all}
 
@@ -49,7 +50,7 @@ max_most Ipv6 = omega arith
 
 address-bits : (mode : Mode) (most : ℕ) (o : List ℕ) (bits : List ℕ × ℕ) → IsBytes o → IpAddress mode most o bits → IsBytes bits.0 × (bits.1 < 8)
 address-bits mode most o bits bytes h =
-    let c : IsBytes h.0.0 = IsBytes-contents mode o o [] 3 h.0.0 (sym (append_end o)) h.0.1 bytes in
+    let c : IsBytes h.0.0 = IsBytes-contents mode o o [] 3 h.0.0 (sym (append-nil o)) h.0.1 bytes in
     let all : IsBytes (bits.1 ∷ bits.0) = subst IsBytes h.0.2.0 c in
     (all.1, h.0.2.1.few)
 
@@ -70,7 +71,7 @@ spanned-within family mode o p lower upper first second h k =
 
 item-within : (family : AddressFamily) (mode : Mode) (o : List ℕ) (b : Block ℕ) → IsBytes o × IpPrefixOrRange mode (max_bits family) o b → IsWithin family b
 item-within family mode o b (bytes, inl h) =
-    let c : IsBytes h.0 = IsBytes-contents mode o o [] 48 h.0 (sym (append_end o)) h.1 bytes in
+    let c : IsBytes h.0 = IsBytes-contents mode o o [] 48 h.0 (sym (append-nil o)) h.1 bytes in
     let k = h.2 in
     let parts : IsBytes (k.2 ++ k.3) = subst IsBytes k.4 c in
     subst (IsWithin family) (sym k.7) (spanned-within family mode k.2 k.3 k.0 k.1 (IsBytes-left k.2 k.3 parts) (IsBytes-right k.2 k.3 parts) k.5 k.6)
@@ -101,7 +102,7 @@ items-bytes G o (x ∷ xs) bytes h =
 
 pub set-within : (family : AddressFamily) (mode : Mode) (o : List ℕ) (set : List (Block ℕ)) → IsBytes o → IpForm family mode o set → All (IsWithin family) set
 set-within family mode o set bytes h =
-    let c : IsBytes h.0 = IsBytes-contents mode o o [] 48 h.0 (sym (append_end o)) h.1 bytes in
+    let c : IsBytes h.0 = IsBytes-contents mode o o [] 48 h.0 (sym (append-nil o)) h.1 bytes in
     let k = h.2 in
     let most : ℕ = max_bits family in
     let blocks = items-all (IpPrefixOrRange mode most) (IsBlock (λ n. n)) (item-block most mode) h.0 k.0 k.1 in

@@ -3,6 +3,7 @@ pub mod AsExact
 pub mod AsWriting
 pub mod Between
 pub mod Bits
+pub mod Bools
 pub mod Calls
 pub mod Copies
 pub mod Covering
