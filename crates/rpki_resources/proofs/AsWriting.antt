@@ -5,7 +5,7 @@ use Rattle.std.specs.Int.{w32, to_be_bytes}
 use Rattle.std.proofs.lemmas.Bool.{eqb-true}
 use Rattle.std.proofs.lemmas.List.Elements.{All-head, All-tail}
 use Rattle.rpki_der.specs.declared.mode.Mode.{Mode}
-use Rattle.rpki_der.specs.declared.mode.Mode.TheVariants.{Der}
+use Rattle.rpki_der.specs.declared.mode.Mode.TheVariants.{Der, Ber}
 use Rattle.rpki_der.specs.Grammar.{Items}
 use Rattle.rpki_der.specs.Written.{value_octets, number_octets, integer_contents, length_value_octets_le}
 use Rattle.rpki_der.proofs.Reading.Scan.{tag-sound}
@@ -21,6 +21,7 @@ use Rattle.rpki_resources.specs.Joined.{merged, joined}
 use Rattle.rpki_resources.proofs.AsExact.{exact-as_blocks, item-block}
 use Rattle.rpki_resources.proofs.Joining.{joined_only, joined-all}
 use Rattle.rpki_resources.proofs.Listed.{items-all}
+use Rattle.rpki_resources.proofs.Relaxed.{as_reading}
 
 short : (a b : ℕ) → length (number_octets a ++ number_octets b) < 2 ^ 32
 short a b =
@@ -41,8 +42,12 @@ items_written a (b ∷ bs) r h =
 pub as_written : (set : List (Block ℕ)) → IsCanonical (λ n. n) set → All (λ b. b.max < 2 ^ 32) set → length (flat_map as_octets set) < 2 ^ 32 → AsForm Der (value_octets 48 (flat_map as_octets set)) set
 as_written set r h l = (flat_map as_octets set, value-written 48 (flat_map as_octets set) (tag-sound 48 refl) l, (set, items_written 0 set r h, record { canonical = r; same = λ n. refl }))
 
-pub as_read : (set : List (Block ℕ)) (rest : List ℕ) → IsCanonical (λ n. n) set → All (λ b. b.max < 2 ^ 32) set → length (flat_map as_octets set) < 2 ^ 32 → as_blocks_at Der (value_octets 48 (flat_map as_octets set) ++ rest) ≡ Some (set, rest)
-as_read set rest r h l = (exact-as_blocks Der).complete (value_octets 48 (flat_map as_octets set)) set rest tt (as_written set r h l)
+as_in : (mode : Mode) (o : List ℕ) (set : List (Block ℕ)) → AsForm Der o set → AsForm mode o set
+as_in Der o set h = h
+as_in Ber o set h = as_reading.relaxed o set h
+
+pub as_read : (mode : Mode) (set : List (Block ℕ)) (rest : List ℕ) → IsCanonical (λ n. n) set → All (λ b. b.max < 2 ^ 32) set → length (flat_map as_octets set) < 2 ^ 32 → as_blocks_at mode (value_octets 48 (flat_map as_octets set) ++ rest) ≡ Some (set, rest)
+as_read mode set rest r h l = let o : List ℕ = value_octets 48 (flat_map as_octets set) in (exact-as_blocks mode).complete o set rest tt (as_in mode o set (as_written set r h l))
 
 -- ---- what is read is written again
 

@@ -6,7 +6,8 @@ use Rattle.std.proofs.Math.Nat.{mod-eq_of_lt}
 use Rattle.std.proofs.lemmas.Bool.Decides.{leb_tells}
 use Rattle.std.proofs.lemmas.List.Elements.{All-head, All-tail}
 use Rattle.std.proofs.lemmas.Nat.{pow_pos, pow_below, div-add-mod'}
-use Rattle.rpki_der.specs.declared.mode.Mode.TheVariants.{Der}
+use Rattle.rpki_der.specs.declared.mode.Mode.{Mode}
+use Rattle.rpki_der.specs.declared.mode.Mode.TheVariants.{Der, Ber}
 use Rattle.rpki_der.specs.Grammar.{Items}
 use Rattle.rpki_der.specs.Written.{value_octets}
 use Rattle.rpki_der.proofs.Reading.Scan.{tag-sound}
@@ -23,6 +24,7 @@ use Rattle.rpki_resources.proofs.FirstBits.{end_bits, end_count, end_written, en
 use Rattle.rpki_resources.proofs.IpExact.{exact-ip_blocks}
 use Rattle.rpki_resources.proofs.IpWithin.{max_most}
 use Rattle.rpki_resources.proofs.PrefixLengths.{prefix_len_tells, prefix_order}
+use Rattle.rpki_resources.proofs.Relaxed.{ip_reading}
 use Rattle.rpki_resources.proofs.Trailing.{lower_dropped, lower_at_least, lower_most, upper_dropped, upper_at_least, upper_most, other_multiple}
 
 -- ---- ends
@@ -101,5 +103,10 @@ items_written family a (b ∷ bs) r h =
 pub ip_written : (family : AddressFamily) (set : List (Block ℕ)) → IsCanonical (λ n. n) set → All (IsWithin family) set → length (flat_map ip_octets set) < 2 ^ 32 → IpForm family Der (value_octets 48 (flat_map ip_octets set)) set
 ip_written family set r h l = (flat_map ip_octets set, value-written 48 (flat_map ip_octets set) (tag-sound 48 refl) l, (set, items_written family 0 set r h, record { canonical = r; same = λ n. refl }))
 
-pub ip_read : (family : AddressFamily) (set : List (Block ℕ)) (rest : List ℕ) → IsCanonical (λ n. n) set → All (IsWithin family) set → length (flat_map ip_octets set) < 2 ^ 32 → ip_blocks_at (max_bits family) Der (value_octets 48 (flat_map ip_octets set) ++ rest) ≡ Some (set, rest)
-ip_read family set rest r h l = (exact-ip_blocks family Der).complete (value_octets 48 (flat_map ip_octets set)) set rest tt (ip_written family set r h l)
+ip_in : (family : AddressFamily) (mode : Mode) (o : List ℕ) (set : List (Block ℕ)) → IpForm family Der o set → IpForm family mode o set
+ip_in family Der o set h = h
+ip_in family Ber o set h = (ip_reading family).relaxed o set h
+
+pub ip_read : (family : AddressFamily) (mode : Mode) (set : List (Block ℕ)) (rest : List ℕ) → IsCanonical (λ n. n) set → All (IsWithin family) set → length (flat_map ip_octets set) < 2 ^ 32
+    → ip_blocks_at (max_bits family) mode (value_octets 48 (flat_map ip_octets set) ++ rest) ≡ Some (set, rest)
+ip_read family mode set rest r h l = let o : List ℕ = value_octets 48 (flat_map ip_octets set) in (exact-ip_blocks family mode).complete o set rest tt (ip_in family mode o set (ip_written family set r h l))

@@ -38,37 +38,37 @@ pub fn families()
     ensures { IsReading family_at FamilyForm }
 {}
 
-/// A set of AS numbers is written in DER, and read again.
+/// A set of AS numbers is written in DER, and read again in both modes.
 pub fn as_sets_are_written()
     ensures written { (set : List (Block ℕ)) →
         IsCanonical (λ n. n) set → All (λ b. b.max < 2 ^ 32) set →
         length (flat_map as_octets set) < 2 ^ 32 →
         AsForm Der (value_octets 48 (flat_map as_octets set)) set }
-    ensures read { (set : List (Block ℕ)) (rest : List ℕ) →
+    ensures read { (mode : Mode) (set : List (Block ℕ)) (rest : List ℕ) →
         IsCanonical (λ n. n) set → All (λ b. b.max < 2 ^ 32) set →
         length (flat_map as_octets set) < 2 ^ 32 →
-        as_blocks_at Der (value_octets 48 (flat_map as_octets set) ++ rest) ≡ Some (set, rest) }
+        as_blocks_at mode (value_octets 48 (flat_map as_octets set) ++ rest) ≡ Some (set, rest) }
 {}
 
 /// Each one that was read can be written, and is read again.
 pub fn as_sets_are_written_again()
     ensures below { (mode : Mode) (octets : List ℕ) (set : List (Block ℕ)) →
         AsForm mode octets set → All (λ b. b.max < 2 ^ 32) set }
-    ensures read { (mode : Mode) (octets : List ℕ) (set : List (Block ℕ)) (rest : List ℕ) →
+    ensures read { (mode again : Mode) (octets : List ℕ) (set : List (Block ℕ)) (rest : List ℕ) →
         AsForm mode octets set → length (flat_map as_octets set) < 2 ^ 32 →
-        as_blocks_at Der (value_octets 48 (flat_map as_octets set) ++ rest) ≡ Some (set, rest) }
+        as_blocks_at again (value_octets 48 (flat_map as_octets set) ++ rest) ≡ Some (set, rest) }
 {}
 
-/// A set of addresses of a family is written in DER, and read again.
+/// A set of addresses of a family is written in DER, and read again in both modes.
 pub fn ip_sets_are_written()
     ensures written { (family : AddressFamily) (set : List (Block ℕ)) →
         IsCanonical (λ n. n) set → All (IsWithin family) set →
         length (flat_map ip_octets set) < 2 ^ 32 →
         IpForm family Der (value_octets 48 (flat_map ip_octets set)) set }
-    ensures read { (family : AddressFamily) (set : List (Block ℕ)) (rest : List ℕ) →
+    ensures read { (family : AddressFamily) (mode : Mode) (set : List (Block ℕ)) (rest : List ℕ) →
         IsCanonical (λ n. n) set → All (IsWithin family) set →
         length (flat_map ip_octets set) < 2 ^ 32 →
-        ip_blocks_at (max_bits family) Der (value_octets 48 (flat_map ip_octets set) ++ rest)
+        ip_blocks_at (max_bits family) mode (value_octets 48 (flat_map ip_octets set) ++ rest)
         ≡ Some (set, rest) }
 {}
 
@@ -77,10 +77,10 @@ pub fn ip_sets_are_written_again()
     ensures within { (family : AddressFamily) (mode : Mode) (octets : List ℕ)
         (set : List (Block ℕ)) →
         IsBytes octets → IpForm family mode octets set → All (IsWithin family) set }
-    ensures read { (family : AddressFamily) (mode : Mode) (octets : List ℕ) (set : List (Block ℕ))
-        (rest : List ℕ) → IsBytes octets → IpForm family mode octets set →
+    ensures read { (family : AddressFamily) (mode again : Mode) (octets : List ℕ)
+        (set : List (Block ℕ)) (rest : List ℕ) → IsBytes octets → IpForm family mode octets set →
         length (flat_map ip_octets set) < 2 ^ 32 →
-        ip_blocks_at (max_bits family) Der (value_octets 48 (flat_map ip_octets set) ++ rest)
+        ip_blocks_at (max_bits family) again (value_octets 48 (flat_map ip_octets set) ++ rest)
         ≡ Some (set, rest) }
 {}
 
