@@ -55,7 +55,7 @@ abbrev pub bit_string_contents : List ℕ → ℕ → List ℕ
 bit_string_contents octets unused = unused_bits octets unused ∷ zero_last octets (unused_bits octets unused)
 
 -- an INTEGER of 32 bits
-abbrev pub number_octets : ℕ → List ℕ
+unfoldable pub number_octets : ℕ → List ℕ
 number_octets n = value_octets 0x02 (integer_contents (to_be_bytes w32 n))
 
 pub length_octets_le : (n : ℕ) → length (length_octets n) ≤ 5

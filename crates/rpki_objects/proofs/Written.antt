@@ -1,24 +1,20 @@
 -- What a content is written as is in the grammar, and nothing else is.
-use Rattle.std.proofs.Common.{◌≡◌, ℕ, ◌+◌, ◌*◌, ◌^◌, ◌≤◌, ◌<◌, List, [], ◌∷◌, ◌++◌, length, refl, ap, subst, ◌∙◌, arith, length-append}
+use Rattle.std.proofs.Common.{◌≡◌, ℕ, ◌*◌, ◌^◌, ◌≤◌, ◌<◌, List, [], ◌∷◌, ◌++◌, length, refl, ap, subst, ◌∙◌, arith, length-append}
 use Rattle.std.specs.Prelude.{All}
-use Rattle.std.specs.Int.{w32, to_be_bytes}
 use Rattle.rpki_der.specs.declared.mode.Mode.TheVariants.{Der}
 use Rattle.rpki_der.specs.Grammar.{Within, Integer, IsBytes, Items}
-use Rattle.rpki_der.specs.Written.{value_octets, number_octets, integer_contents, length_value_octets_le}
+use Rattle.rpki_der.specs.Written.{value_octets, number_octets, length_value_octets_le}
 use Rattle.rpki_der.proofs.Reading.Exact.{IsBytes-left, IsBytes-right}
 use Rattle.rpki_der.proofs.Reading.Scan.{tag-sound}
 use Rattle.rpki_der.proofs.Writing.Leaves.{within-written, within-only, items-written, items-unique}
 use Rattle.rpki_der.proofs.Writing.Lengths.{value-written}
-use Rattle.rpki_der.proofs.Writing.Numbers.{length-integer_contents}
+use Rattle.rpki_der.proofs.Writing.Numbers.{length-number_octets}
 use Rattle.rpki_der.proofs.Writing.Values.{number-in, number-written, number-unique}
 use Rattle.rpki_resources.specs.As.{IsAsn}
 use Rattle.rpki_objects.specs.Aspa.{Aspa, IsAttestation, AsnForm, AspaForm}
 use Rattle.rpki_objects.specs.AspaWritten.{providers_octets, aspa_contents, aspa_octets}
 
 -- ---- how many octets there are
-
-length-number_octets : (n : ℕ) → length (number_octets n) ≤ 11
-length-number_octets n = omega (arith, length_value_octets_le 2 (integer_contents (to_be_bytes w32 n)), length-integer_contents (to_be_bytes w32 n))
 
 length-providers_octets : (ps : List ℕ) → length (providers_octets ps) ≤ 11 * length ps
 length-providers_octets [] = omega arith

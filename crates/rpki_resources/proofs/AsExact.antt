@@ -1,7 +1,8 @@
 -- Sets of AS numbers are read exactly.
-use Rattle.std.proofs.Common.{◌≡◌, ℕ, ◌<◌, ◌≤◌, ◌^◌, true, List, [], ◌∷◌, ◌++◌, Option, Some, None, inl, inr, refl, sym, ap, subst, ◌∙◌, arith}
+use Rattle.std.proofs.Common.{◌≡◌, ℕ, ◌<◌, ◌≤◌, ◌^◌, true, List, [], ◌++◌, Option, Some, None, inl, inr, refl, sym, ap, subst, ◌∙◌, arith}
 use Rattle.std.specs.Prelude.{nat_le}
 use Rattle.std.proofs.lemmas.Bool.{leb-true, le-leb}
+use Rattle.std.proofs.lemmas.List.{append-nil}
 use Rattle.rpki_der.specs.declared.mode.Mode.{Mode}
 use Rattle.rpki_der.specs.Read.Parse.{in_value, u32_at, unsigned_of, optional}
 use Rattle.rpki_der.specs.Grammar.{IsExact, Items, IsInteger, anything}
@@ -40,19 +41,15 @@ exact-parts mode =
     (λ _ _ _ _ _ _. tt))
     (λ _ _ _ _ _ _. tt)
 
-append_end : (o : List ℕ) → o ++ [] ≡ o
-append_end [] = refl
-append_end (x ∷ o) = ap (λ (t : List ℕ). x ∷ t) (append_end o)
-
 to-ends : (mode : Mode) (o : List ℕ) (x : Block ℕ) → Parts mode o x → Ends mode o x
 to-ends mode o x h =
     let k = h.5 in
-    let two : h.2 ≡ k.1 = k.3 ∙ ap (λ (t : List ℕ). k.1 ++ t) k.5.1.0 ∙ append_end k.1 in
+    let two : h.2 ≡ k.1 = k.3 ∙ ap (λ (t : List ℕ). k.1 ++ t) k.5.1.0 ∙ append-nil k.1 in
     let here : Ends mode o (block h.0 k.0) = (h.1, k.1, h.3 ∙ ap (λ (t : List ℕ). h.1 ++ t) two, h.4, k.4, leb-true _ _ k.5.0) in
     subst (λ (b : Block ℕ). Ends mode o b) k.5.1.1 here
 
 from-ends : (mode : Mode) (o : List ℕ) (x : Block ℕ) → Ends mode o x → Parts mode o x
-from-ends mode o x h = (x.min, h.0, h.1, h.2, h.3, (x.max, h.1, [], sym (append_end h.1), h.4, (le-leb _ _ h.5, (refl, refl))))
+from-ends mode o x h = (x.min, h.0, h.1, h.2, h.3, (x.max, h.1, [], sym (append-nil h.1), h.4, (le-leb _ _ h.5, (refl, refl))))
 
 exact-ends : (mode : Mode) → IsExact the_end (as_ends_at mode) (Ends mode)
 exact-ends mode = exact-before the_end _ _ (exact-as anything (as_ends_at mode) (Parts mode) (Ends mode) (exact-parts mode) (to-ends mode) (from-ends mode))
@@ -118,7 +115,7 @@ reads-item mode =
 
 -- ---- all of them
 
-item-block : (mode : Mode) (o : List ℕ) (b : Block ℕ) → AsIdOrRange mode o b → b.min ≤ b.max
+pub item-block : (mode : Mode) (o : List ℕ) (b : Block ℕ) → AsIdOrRange mode o b → b.min ≤ b.max
 item-block mode o b (inl h) = h.2.5
 item-block mode o b (inr h) = omega arith
 

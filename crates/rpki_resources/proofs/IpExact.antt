@@ -4,6 +4,7 @@ use Rattle.std.specs.Prelude.{nat_le}
 use Rattle.std.proofs.lemmas.Bool.Decides.{nat_tests}
 use Rattle.std.proofs.lemmas.Nat.{pow_pos}
 use Rattle.std.proofs.lemmas.Bool.{leb-true, le-leb}
+use Rattle.std.proofs.lemmas.List.{append-nil}
 use Rattle.rpki_der.specs.declared.mode.Mode.{Mode}
 use Rattle.rpki_der.specs.Read.Parse.{Parser, in_value, bits_at, bits_of, primitive, optional}
 use Rattle.rpki_der.specs.Bits.{IsBits, are_bits}
@@ -59,18 +60,14 @@ address-parts most mode =
     (λ x. exact-guard anything (nat_le (bit_count x) most) (λ r. Some (x, r)) _ (exact-done anything x))
     (λ _ _ _ _ _ _. tt)
 
-append_end : (o : List ℕ) → o ++ [] ≡ o
-append_end [] = refl
-append_end (x ∷ o) = ap (λ (t : List ℕ). x ∷ t) (append_end o)
-
 to-address : (most : ℕ) (mode : Mode) (o : List ℕ) (y : List ℕ × ℕ) → AddressParts most mode o y → IpAddress mode most o y
 to-address most mode o y h =
-    let whole : o ≡ h.1 = h.3 ∙ ap (λ (t : List ℕ). h.1 ++ t) h.5.1.0 ∙ append_end h.1 in
+    let whole : o ≡ h.1 = h.3 ∙ ap (λ (t : List ℕ). h.1 ++ t) h.5.1.0 ∙ append-nil h.1 in
     let here : IpAddress mode most h.1 h.0 = (h.4, leb-true _ _ h.5.0) in
     subst (λ (t : List ℕ). IpAddress mode most t y) (sym whole) (subst (λ (b : List ℕ × ℕ). IpAddress mode most h.1 b) h.5.1.1 here)
 
 from-address : (most : ℕ) (mode : Mode) (o : List ℕ) (y : List ℕ × ℕ) → IpAddress mode most o y → AddressParts most mode o y
-from-address most mode o y h = (y, o, [], sym (append_end o), h.0, (le-leb _ _ h.1, (refl, refl)))
+from-address most mode o y h = (y, o, [], sym (append-nil o), h.0, (le-leb _ _ h.1, (refl, refl)))
 
 exact-address : (most : ℕ) (mode : Mode) → IsExact anything (ip_address_at most mode) (IpAddress mode most)
 exact-address most mode = exact-as anything (ip_address_at most mode) (AddressParts most mode) (IpAddress mode most) (address-parts most mode) (to-address most mode) (from-address most mode)
@@ -101,14 +98,14 @@ ends-parts most mode =
 to-ends : (most : ℕ) (mode : Mode) (o : List ℕ) (x : Block ℕ) → EndsParts most mode o x → Ends most mode o x
 to-ends most mode o x h =
     let k = h.5 in
-    let two : h.2 ≡ k.1 = k.3 ∙ ap (λ (t : List ℕ). k.1 ++ t) k.5.1.0 ∙ append_end k.1 in
+    let two : h.2 ≡ k.1 = k.3 ∙ ap (λ (t : List ℕ). k.1 ++ t) k.5.1.0 ∙ append-nil k.1 in
     let here : Ends most mode o (spanned h.0 k.0) = (h.0, k.0, h.1, k.1, h.3 ∙ ap (λ (t : List ℕ). h.1 ++ t) two, h.4, k.4, refl, leb-true _ _ k.5.0) in
     subst (λ (b : Block ℕ). Ends most mode o b) k.5.1.1 here
 
 from-ends : (most : ℕ) (mode : Mode) (o : List ℕ) (x : Block ℕ) → Ends most mode o x → EndsParts most mode o x
 from-ends most mode o x h =
     let order : lowest h.0 ≤ highest h.1 = subst (λ (b : Block ℕ). b.min ≤ b.max) h.7 h.8 in
-    (h.0, h.2, h.3, h.4, h.5, (h.1, h.3, [], sym (append_end h.3), h.6, (le-leb _ _ order, (refl, sym h.7))))
+    (h.0, h.2, h.3, h.4, h.5, (h.1, h.3, [], sym (append-nil h.3), h.6, (le-leb _ _ order, (refl, sym h.7))))
 
 exact-ends : (most : ℕ) (mode : Mode) → IsExact the_end (ip_ends_at most mode) (Ends most mode)
 exact-ends most mode = exact-before the_end _ _ (exact-as anything (ip_ends_at most mode) (EndsParts most mode) (Ends most mode) (ends-parts most mode) (to-ends most mode) (from-ends most mode))
@@ -207,7 +204,7 @@ reads-item most mode =
 lowest_le : (bits : List ℕ × ℕ) → lowest bits ≤ highest bits
 lowest_le bits = let pos : 0 < 2 ^ (128 - bit_count bits) = pow_pos (128 - bit_count bits) in omega arith
 
-item-block : (most : ℕ) (mode : Mode) (o : List ℕ) (b : Block ℕ) → IpPrefixOrRange mode most o b → b.min ≤ b.max
+pub item-block : (most : ℕ) (mode : Mode) (o : List ℕ) (b : Block ℕ) → IpPrefixOrRange mode most o b → b.min ≤ b.max
 item-block most mode o b (inl h) = h.2.8
 item-block most mode o b (inr h) = subst (λ (x : Block ℕ). x.min ≤ x.max) (sym h.2) (lowest_le h.0)
 

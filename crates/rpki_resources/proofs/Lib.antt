@@ -3,14 +3,19 @@ pub mod AsExact
 pub mod AsWriting
 pub mod Between
 pub mod Bits
+pub mod Bools
 pub mod Calls
+pub mod Copies
 pub mod Covering
 pub mod Each
 pub mod Ends
 pub mod Equality
 pub mod FamilyExact
+pub mod FirstBits
 pub mod IpExact
 pub mod IpNames
+pub mod IpWithin
+pub mod IpWriting
 pub mod Joining
 pub mod Listed
 pub mod Meeting
@@ -22,4 +27,5 @@ pub mod Rises
 pub mod Same
 pub mod Shortening
 pub mod Sorting
+pub mod Trailing
 pub mod Upto

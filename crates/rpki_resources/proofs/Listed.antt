@@ -12,10 +12,14 @@ use Rattle.rpki_resources.specs.Joined.{joined}
 use Rattle.rpki_resources.proofs.Each.{ReadsOne, exact-each}
 use Rattle.rpki_resources.proofs.Joining.{joined_rises, joined_held, joined_only}
 
+-- what holds of each value in the form holds of all
+pub items-all : {X : Type 0} (G : List ℕ → X → Type 0) (P : X → Type 0) → ((o : List ℕ) (x : X) → G o x → P x) → (o : List ℕ) (xs : List X) → Items G o xs → All P xs
+items-all G P f o [] h = All-nil P
+items-all G P f o (x ∷ xs) h = All-cons P x xs (f h.0 x h.3) (items-all G P f h.1 xs h.4)
+
 module _ (p : Parser (Option (Block ℕ))) (mode : Mode) (G : List ℕ → Block ℕ → Type 0) (one : ReadsOne (p mode) G) (ordered : (o : List ℕ) (b : Block ℕ) → G o b → b.min ≤ b.max) where
   items-blocks : (o : List ℕ) (bs : List (Block ℕ)) → Items G o bs → All (IsBlock (λ n. n)) bs
-  items-blocks o [] h = All-nil (IsBlock (λ n. n))
-  items-blocks o (b ∷ bs) h = All-cons (IsBlock (λ n. n)) b bs (ordered h.0 b h.3) (items-blocks h.1 bs h.4)
+  items-blocks = items-all G (IsBlock (λ n. n)) ordered
 
   abbrev pub Listed : List ℕ → List (Block ℕ) → Type 0
   Listed c set = (list : List (Block ℕ)) × Items G c list × IsSetOf list set

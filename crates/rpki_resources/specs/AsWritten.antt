@@ -1,15 +1,20 @@
 -- The octets that a set of AS numbers is written as in DER (RFC 3779, 3.2.3).
-use Rattle.std.specs.Prelude.{ℕ, List, ◌++◌, ◌==◌, if◌then◌else◌}
-use Rattle.std.specs.Int.{w32, to_be_bytes}
-use Rattle.rpki_der.specs.Written.{value_octets, number_octets, integer_contents}
+use Rattle.std.specs.Prelude.{◌≡◌, ℕ, ◌<◌, ◌^◌, false, List, ◌++◌, length, ◌==◌, if◌then◌else◌}
+use Rattle.rpki_der.specs.Written.{value_octets, number_octets}
+use Rattle.rpki_der.specs.Parts.{contents_small}
 use Rattle.rpki_resources.specs.declared.block.Block.{Block}
 
--- one number is an INTEGER, and several are a SEQUENCE of the lower end and the upper end
-abbrev pub as_tag : Block ℕ → ℕ
-as_tag b = if b.min == b.max then 2 else 48
+-- the lower end and the upper end
+abbrev pub as_ends : Block ℕ → List ℕ
+as_ends b = number_octets b.min ++ number_octets b.max
 
-abbrev pub as_contents : Block ℕ → List ℕ
-as_contents b = if b.min == b.max then integer_contents (to_be_bytes w32 b.min) else number_octets b.min ++ number_octets b.max
-
+-- one number is an INTEGER, and several are a SEQUENCE of the ends
 abbrev pub as_octets : Block ℕ → List ℕ
-as_octets b = value_octets (as_tag b) (as_contents b)
+as_octets b = if b.min == b.max then number_octets b.min else value_octets 0x30 (as_ends b)
+
+-- the contents of the SEQUENCE, if it is one, have fewer than 2^32 octets
+abbrev pub IsAsShort : Block ℕ → Type 0
+IsAsShort b = (b.min == b.max) ≡ false → length (as_ends b) < 2 ^ 32
+
+pub as_small : (b : Block ℕ) → length (as_octets b) < 2 ^ 32 → IsAsShort b
+as_small b h = λ e. contents_small 0x30 (as_ends b) (rw e at h)

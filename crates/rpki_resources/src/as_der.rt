@@ -9,8 +9,9 @@ ghost use Rattle.rpki_resources.specs.declared.block.Block.{Block};
 ghost use Rattle.rpki_resources.specs.Blocks.{IsBlock};
 ghost use Rattle.rpki_resources.specs.Joined.{joined};
 ghost use Rattle.rpki_der.specs.Parts.{contents_small};
-ghost use Rattle.rpki_resources.specs.AsWritten.{as_tag, as_contents, as_octets};
-ghost use Rattle.rpki_resources.specs.AsRead.{as_ends_at, as_id_at, as_item_at, as_items_at, as_blocks_at};
+ghost use Rattle.rpki_resources.specs.AsWritten.{IsAsShort, as_octets, as_small};
+ghost use Rattle.rpki_resources.specs.AsRead.{as_ends_at, as_id_at, as_item_at, as_items_at};
+ghost use Rattle.rpki_resources.specs.AsRead.{as_blocks_at};
 
 use crate::asn::{AsBlock, AsBlocks, Asn};
 use crate::block::Block;
@@ -120,9 +121,9 @@ impl Blocks<Asn> {
 impl Encode for Block<Asn> {
     ghost octets = { as_octets };
 
-    ghost is_short = { λ b. length (as_contents b) < 2 ^ 32 };
+    ghost is_short = { IsAsShort };
 
-    ghost small = { λ b h. contents_small (as_tag b) (as_contents b) h };
+    ghost small = { as_small };
 
     fn encoded_len(&self) -> Result<u64, EncodeError> {
         match AsBlock::of(*self) {

@@ -1,6 +1,7 @@
 //! AS numbers and sets of them.
 
-ghost use Rattle.std.specs.Prelude.{◌≡◌, ℕ, ◌≤◌, ◌↔◌, ◌∷◌, [], ◌++◌, List, IsTrue, OnOk, OnErr, All, Some, map, length};
+ghost use Rattle.std.specs.Prelude.{◌≡◌, ℕ, ◌≤◌, ◌↔◌, ◌∷◌, [], ◌++◌, List, IsTrue, OnOk, OnErr};
+ghost use Rattle.std.specs.Prelude.{All, Some, map, length};
 ghost use Rattle.std.specs.Iterator.{Drains, HoldsAlong, IsFinite};
 ghost use Rattle.std.specs.List.Sorted.{IsStrictlyIncreasing};
 ghost use Rattle.rpki_resources.specs.declared.asn.AsBlock.{AsBlock};
@@ -230,7 +231,8 @@ impl BlocksBuilder<Asn> {
     ) -> Result<(), AllocError>
         requires can { I.can_next blocks }
         requires ends { IsFinite (I.remaining blocks) }
-        requires ordered { HoldsAlong I.next_gives blocks (All (λ b. IsBlock (λ n. n) (as_range b))) }
+        requires ordered { HoldsAlong I.next_gives blocks
+            (All (λ b. IsBlock (λ n. n) (as_range b))) }
         ensures ok { OnOk result ((xs : List AsBlock) ×
             Drains I.next_gives blocks xs × (self.new ≡ self.old ++ map as_range xs)) }
         ensures err { OnErr result (self.new ≡ self.old) }

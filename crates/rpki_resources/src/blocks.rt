@@ -1,8 +1,10 @@
 //! Sets of numbers, and what builds them.
 
-ghost use Rattle.std.specs.Prelude.{◌≡◌, ℕ, ◌≤◌, ◌↔◌, ◌∷◌, [], ◌++◌, List, IsTrue, IfOk, OnOk, OnErr, All};
+ghost use Rattle.std.specs.Prelude.{◌≡◌, ℕ, ◌≤◌, ◌↔◌, ◌∷◌, [], ◌++◌, List, IsTrue, IfOk, OnOk};
+ghost use Rattle.std.specs.Prelude.{OnErr, All};
 ghost use Rattle.rpki_resources.specs.declared.block.Block.{Block};
-ghost use Rattle.rpki_resources.specs.Blocks.{Covers, IsBlock, IsCanonical, SameSet, IsIntersection, IsUnion};
+ghost use Rattle.rpki_resources.specs.Blocks.{Covers, IsBlock, IsCanonical, SameSet};
+ghost use Rattle.rpki_resources.specs.Blocks.{IsIntersection, IsUnion};
 
 use crate::block::Block;
 use crate::number::Number;

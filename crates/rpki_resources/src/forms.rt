@@ -1,22 +1,25 @@
-//! What the definitions of the octets and of the texts of sets say: laws, as functions that do nothing.
+//! What the definitions of the octets and of the texts of sets say: laws, as functions that do
+//! nothing.
 
-ghost use Rattle.std.specs.Prelude.{◌≡◌, ◌+◌, ◌<◌, ◌≤◌, ◌^◌, ℕ, List, ◌++◌, All, Some, length, take, drop, codes};
+ghost use Rattle.std.specs.Prelude.{◌≡◌, ◌+◌, ◌<◌, ◌≤◌, ◌^◌, ℕ, List, ◌++◌, All, Some, length};
+ghost use Rattle.std.specs.Prelude.{take, drop, codes};
 ghost use Rattle.std.specs.List.{flat_map};
 ghost use Rattle.std.specs.Net.Text.{groups_text, hex_groups_text, zero_run};
 ghost use Rattle.rpki_der.specs.declared.mode.Mode.{Mode};
 ghost use Rattle.rpki_der.specs.declared.mode.Mode.TheVariants.{Der};
-ghost use Rattle.rpki_der.specs.Grammar.{IsReading};
+ghost use Rattle.rpki_der.specs.Grammar.{IsBytes, IsReading};
 ghost use Rattle.rpki_der.specs.Written.{value_octets};
 ghost use Rattle.rpki_resources.specs.declared.block.Block.{Block};
 ghost use Rattle.rpki_resources.specs.declared.family.AddressFamily.{AddressFamily};
 ghost use Rattle.rpki_resources.specs.Blocks.{IsCanonical};
-ghost use Rattle.rpki_resources.specs.Family.{max_bits};
+ghost use Rattle.rpki_resources.specs.Family.{max_bits, IsWithin};
 ghost use Rattle.rpki_resources.specs.FamilyForm.{FamilyForm, family_at};
 ghost use Rattle.rpki_resources.specs.AsForm.{AsForm};
 ghost use Rattle.rpki_resources.specs.AsRead.{as_blocks_at};
 ghost use Rattle.rpki_resources.specs.AsWritten.{as_octets};
 ghost use Rattle.rpki_resources.specs.IpForm.{IpForm};
 ghost use Rattle.rpki_resources.specs.IpRead.{ip_blocks_at};
+ghost use Rattle.rpki_resources.specs.IpWritten.{ip_octets};
 ghost use Rattle.rpki_resources.specs.Shortened.{IsShortened};
 
 /// Reading a set of AS numbers is exact and unique, and one in DER is the same one in BER.
@@ -26,7 +29,8 @@ pub fn as_sets()
 
 /// So is reading a set of addresses.
 pub fn ip_sets()
-    ensures { (family : AddressFamily) → IsReading (ip_blocks_at (max_bits family)) (IpForm family) }
+    ensures { (family : AddressFamily) →
+        IsReading (ip_blocks_at (max_bits family)) (IpForm family) }
 {}
 
 /// So is reading a family.
@@ -34,13 +38,50 @@ pub fn families()
     ensures { IsReading family_at FamilyForm }
 {}
 
-/// A set of AS numbers is written in DER, and read again.
+/// A set of AS numbers is written in DER, and read again in both modes.
 pub fn as_sets_are_written()
-    ensures written { (set : List (Block ℕ)) → IsCanonical (λ n. n) set → All (λ b. b.max < 2 ^ 32) set
-        → length (flat_map as_octets set) < 2 ^ 32 → AsForm Der (value_octets 48 (flat_map as_octets set)) set }
-    ensures read { (set : List (Block ℕ)) (rest : List ℕ) → IsCanonical (λ n. n) set → All (λ b. b.max < 2 ^ 32) set
-        → length (flat_map as_octets set) < 2 ^ 32
-        → as_blocks_at Der (value_octets 48 (flat_map as_octets set) ++ rest) ≡ Some (set, rest) }
+    ensures written { (set : List (Block ℕ)) →
+        IsCanonical (λ n. n) set → All (λ b. b.max < 2 ^ 32) set →
+        length (flat_map as_octets set) < 2 ^ 32 →
+        AsForm Der (value_octets 48 (flat_map as_octets set)) set }
+    ensures read { (mode : Mode) (set : List (Block ℕ)) (rest : List ℕ) →
+        IsCanonical (λ n. n) set → All (λ b. b.max < 2 ^ 32) set →
+        length (flat_map as_octets set) < 2 ^ 32 →
+        as_blocks_at mode (value_octets 48 (flat_map as_octets set) ++ rest) ≡ Some (set, rest) }
+{}
+
+/// Each one that was read can be written, and is read again.
+pub fn as_sets_are_written_again()
+    ensures below { (mode : Mode) (octets : List ℕ) (set : List (Block ℕ)) →
+        AsForm mode octets set → All (λ b. b.max < 2 ^ 32) set }
+    ensures read { (mode again : Mode) (octets : List ℕ) (set : List (Block ℕ)) (rest : List ℕ) →
+        AsForm mode octets set → length (flat_map as_octets set) < 2 ^ 32 →
+        as_blocks_at again (value_octets 48 (flat_map as_octets set) ++ rest) ≡ Some (set, rest) }
+{}
+
+/// A set of addresses of a family is written in DER, and read again in both modes.
+pub fn ip_sets_are_written()
+    ensures written { (family : AddressFamily) (set : List (Block ℕ)) →
+        IsCanonical (λ n. n) set → All (IsWithin family) set →
+        length (flat_map ip_octets set) < 2 ^ 32 →
+        IpForm family Der (value_octets 48 (flat_map ip_octets set)) set }
+    ensures read { (family : AddressFamily) (mode : Mode) (set : List (Block ℕ)) (rest : List ℕ) →
+        IsCanonical (λ n. n) set → All (IsWithin family) set →
+        length (flat_map ip_octets set) < 2 ^ 32 →
+        ip_blocks_at (max_bits family) mode (value_octets 48 (flat_map ip_octets set) ++ rest)
+        ≡ Some (set, rest) }
+{}
+
+/// Each one that was read is of the family, can be written, and is read again.
+pub fn ip_sets_are_written_again()
+    ensures within { (family : AddressFamily) (mode : Mode) (octets : List ℕ)
+        (set : List (Block ℕ)) →
+        IsBytes octets → IpForm family mode octets set → All (IsWithin family) set }
+    ensures read { (family : AddressFamily) (mode again : Mode) (octets : List ℕ)
+        (set : List (Block ℕ)) (rest : List ℕ) → IsBytes octets → IpForm family mode octets set →
+        length (flat_map ip_octets set) < 2 ^ 32 →
+        ip_blocks_at (max_bits family) again (value_octets 48 (flat_map ip_octets set) ++ rest)
+        ≡ Some (set, rest) }
 {}
 
 /// In the text of an IPv6 address the longest run of two or more zero groups, and of the longest
@@ -48,7 +89,8 @@ pub fn as_sets_are_written()
 /// are written.
 pub fn ipv6_texts()
     ensures shortened { (groups : List ℕ) (start len : ℕ) → IsShortened groups start len
-        → hex_groups_text groups ≡ groups_text (take start groups) ++ codes "::" ++ groups_text (drop (start + len) groups) }
+        → hex_groups_text groups
+        ≡ groups_text (take start groups) ++ codes "::" ++ groups_text (drop (start + len) groups) }
     ensures whole { (groups : List ℕ) → ((start : ℕ) → zero_run (drop start groups) ≤ 1)
         → hex_groups_text groups ≡ groups_text groups }
 {}

@@ -1,6 +1,7 @@
 //! Blocks of addresses and sets of them.
 
-ghost use Rattle.std.specs.Prelude.{◌≡◌, ℕ, ◌≤◌, ◌↔◌, ◌∷◌, [], ◌++◌, List, IsTrue, OnOk, OnErr, All, map, ◌^◌, ◌<◌};
+ghost use Rattle.std.specs.Prelude.{◌≡◌, ℕ, ◌≤◌, ◌↔◌, ◌∷◌, [], ◌++◌, List, IsTrue, OnOk, OnErr};
+ghost use Rattle.std.specs.Prelude.{All, map, ◌^◌, ◌<◌};
 ghost use Rattle.std.specs.Iterator.{Drains, HoldsAlong, IsFinite};
 ghost use Rattle.rpki_resources.specs.declared.ip.IpBlock.{IpBlock};
 ghost use Rattle.rpki_resources.specs.Blocks.{Covers, IsBlock};
@@ -140,7 +141,8 @@ impl BlocksBuilder<Addr> {
     ) -> Result<(), AllocError>
         requires can { I.can_next blocks }
         requires ends { IsFinite (I.remaining blocks) }
-        requires ordered { HoldsAlong I.next_gives blocks (All (λ b. IsBlock (λ n. n) (ip_range b))) }
+        requires ordered { HoldsAlong I.next_gives blocks
+            (All (λ b. IsBlock (λ n. n) (ip_range b))) }
         ensures ok { OnOk result ((xs : List IpBlock) ×
             Drains I.next_gives blocks xs × (self.new ≡ self.old ++ map ip_range xs)) }
         ensures err { OnErr result (self.new ≡ self.old) }

@@ -1,6 +1,7 @@
 //! Sets of addresses in DER and BER (RFC 3779, section 2.2.3).
 
-ghost use Rattle.std.specs.Prelude.{◌≡◌, ◌<◌, ◌≤◌, ◌^◌, ◌*◌, ◌+◌, ◌-◌, ℕ, List, IfOk, IfSome, All, None, length};
+ghost use Rattle.std.specs.Prelude.{◌≡◌, ◌<◌, ◌≤◌, ◌^◌, ◌*◌, ◌+◌, ◌-◌, ℕ, List, IfOk, IfSome, All};
+ghost use Rattle.std.specs.Prelude.{None, length};
 ghost use Rattle.rpki_der.specs.Read.Parse.{many, number, bits_of, Finds};
 ghost use Rattle.rpki_der.specs.Read.Reads.{Reads, OkOrMemory};
 ghost use Rattle.rpki_der.specs.Grammar.{Front, IsBytes};
@@ -11,8 +12,10 @@ ghost use Rattle.rpki_resources.specs.Joined.{joined};
 ghost use Rattle.rpki_resources.specs.IpForm.{IpForm, bit_count, lowest, highest};
 ghost use Rattle.rpki_der.specs.Parts.{contents_small};
 ghost use Rattle.rpki_resources.specs.Prefix.{prefix_len};
-ghost use Rattle.rpki_resources.specs.IpWritten.{octet_count, first_bits, end_octets, lower_len, upper_len, tag_by, ip_contents, ip_octets};
-ghost use Rattle.rpki_resources.specs.IpRead.{ip_address_at, ip_ends_at, prefix_of, ip_prefix_at, ip_item_at, ip_items_at, ip_blocks_at, spanned};
+ghost use Rattle.rpki_resources.specs.IpWritten.{octet_count, first_bits, end_octets, lower_len};
+ghost use Rattle.rpki_resources.specs.IpWritten.{upper_len, tag_by, ip_contents, ip_octets};
+ghost use Rattle.rpki_resources.specs.IpRead.{ip_address_at, ip_ends_at, prefix_of, ip_prefix_at};
+ghost use Rattle.rpki_resources.specs.IpRead.{ip_item_at, ip_items_at, ip_blocks_at, spanned};
 
 use crate::addr::Addr;
 use crate::block::Block;
@@ -104,7 +107,8 @@ fn prefix_in(contents: &[u8], most: u8) -> Option<Block<Addr>>
 // Reads the bits of an end.
 #[tactic(auto, unfolding(crate::specs::IpRead::ip_address_at))]
 fn take_address(cons: &mut Constructed<'_>, most: u8) -> Result<BitString, DecodeError>
-    ensures reads { Reads (λ bits. (bits.octets, bits.unused)) (ip_address_at most) cons.old result cons.new }
+    ensures reads { Reads (λ bits. (bits.octets, bits.unused)) (ip_address_at most)
+        cons.old result cons.new }
     ensures most { IfOk result (λ bits. bit_count (bits.octets, bits.unused) ≤ most) }
 {
     let bits = cons.take_bits()?;
@@ -223,7 +227,8 @@ impl Blocks<Addr> {
         cons: &mut Constructed<'_>,
         family: AddressFamily,
     ) -> Result<IpBlocks, DecodeError>
-        ensures reads { Reads (λ set. set) (ip_blocks_at (max_bits family)) cons.old result cons.new }
+        ensures reads { Reads (λ set. set) (ip_blocks_at (max_bits family))
+            cons.old result cons.new }
         ensures found { IfOk result (λ set. IsBytes cons.old.rest →
             Front (IpForm family cons.old.mode) cons.old.rest set cons.new.rest) }
         ensures only { cons.old.failed ≡ None → (set : List (Block ℕ)) (rest : List ℕ) →

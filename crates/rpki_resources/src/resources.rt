@@ -1,6 +1,7 @@
 //! What a certificate claims of one family of numbers.
 
-ghost use Rattle.std.specs.Prelude.{◌≡◌, ℕ, ◌↔◌, List, Result, Ok, Err, IsTrue, IsOk, IfOk, OnOk, OnErr};
+ghost use Rattle.std.specs.Prelude.{◌≡◌, ℕ, ◌↔◌, List, Result, Ok, Err, IsTrue, IsOk, IfOk, OnOk};
+ghost use Rattle.std.specs.Prelude.{OnErr};
 ghost use Rattle.std.specs.Fn.{FnOnceReturnsAtMut};
 ghost use Rattle.std.specs.declared.alloc.AllocError.{AllocError};
 ghost use Rattle.rpki_resources.specs.declared.block.Block.{Block};
@@ -237,7 +238,8 @@ impl ResourcesBuilder<Asn> {
     ) -> Result<(), AllocError>
         requires { F.IsAlwaysCallable op }
         ensures ok { OnOk result ((after : List (Block ℕ)) ×
-            FnOnceReturnsAtMut F.FnOnce op (added self.old) (Ok tt) after × (self.new ≡ Claim.Explicit after)) }
+            FnOnceReturnsAtMut F.FnOnce op (added self.old) (Ok tt) after
+            × (self.new ≡ Claim.Explicit after)) }
         ensures err { OnErr result (self.new ≡ self.old) }
     {
         let mut next = self.added()?;
@@ -257,7 +259,8 @@ impl ResourcesBuilder<Addr> {
     ) -> Result<(), AllocError>
         requires { F.IsAlwaysCallable op }
         ensures ok { OnOk result ((after : List (Block ℕ)) ×
-            FnOnceReturnsAtMut F.FnOnce op (added self.old) (Ok tt) after × (self.new ≡ Claim.Explicit after)) }
+            FnOnceReturnsAtMut F.FnOnce op (added self.old) (Ok tt) after
+            × (self.new ≡ Claim.Explicit after)) }
         ensures err { OnErr result (self.new ≡ self.old) }
     {
         let mut next = self.added()?;

@@ -1,5 +1,10 @@
 //! Rows of sets, their octets and their texts.
 
+ghost use Rattle.std.specs.Prelude.{All};
+ghost use Rattle.rpki_resources.specs.As.{as_range};
+ghost use Rattle.rpki_resources.specs.Blocks.{IsBlock};
+ghost use Rattle.rpki_resources.specs.Ip.{ip_range};
+
 use crate::{
     Addr, AddressFamily, AsBlock, AsBlocks, AsBlocksBuilder, AsResources, AsResourcesBuilder, Asn,
     BlocksError, IpBlock, IpBlocks, IpBlocksBuilder, IpResourcesBuilder, MaxLenPrefix, Overclaimed,
@@ -153,6 +158,41 @@ fn builders(rt: HostRuntime) -> Result<(), Fail> {
     builder.push(AsBlock::Id(Asn::from_u32(7)))?;
     builder.push(AsBlock::Id(Asn::from_u32(6)))?;
     assert!(rt; builder.clone()?.finalize()? == as_set(alloc, &[(6, 7)])?);
+    Ok(())
+}
+
+/// The set of blocks that are added at once.
+fn as_set_of(alloc: Global, blocks: &[AsBlock]) -> Result<AsBlocks, AllocError>
+    requires { All (λ b. IsBlock (λ n. n) (as_range b)) blocks.now }
+{
+    let mut builder = AsBlocksBuilder::new(alloc);
+    builder.extend(blocks.iter().copied())?;
+    builder.finalize()
+}
+
+/// The same of addresses.
+fn ip_set_of(alloc: Global, blocks: &[IpBlock]) -> Result<IpBlocks, AllocError>
+    requires { All (λ b. IsBlock (λ n. n) (ip_range b)) blocks.now }
+{
+    let mut builder = IpBlocksBuilder::new(alloc);
+    builder.extend(blocks.iter().copied())?;
+    builder.finalize()
+}
+
+#[test]
+fn builders_extended(rt: HostRuntime) -> Result<(), Fail> {
+    let alloc = rt.alloc();
+    let blocks = [
+        AsBlock::Range(Asn::from_u32(5), Asn::from_u32(6)),
+        AsBlock::Id(Asn::from_u32(1)),
+        AsBlock::Id(Asn::from_u32(7)),
+    ];
+    assert!(rt; as_set_of(alloc, &blocks)? == as_set(alloc, &[(1, 1), (5, 7)])?);
+    let blocks = [
+        IpBlock::Range(Addr::from_bits(6), Addr::from_bits(7)),
+        IpBlock::Range(Addr::from_bits(3), Addr::from_bits(5)),
+    ];
+    assert!(rt; ip_set_of(alloc, &blocks)? == ip_set(alloc, &[(3, 7)])?);
     Ok(())
 }
 

@@ -101,7 +101,8 @@ impl Prefix {
 
     /// Writes an IPv4 prefix, as `192.0.2.0/24`.
     pub fn fmt_v4<W: fmt::Write>(&self, f: &mut fmt::Formatter<W>) -> fmt::Result
-        ensures { DisplaysOnOk W.write_str_gives f.old result (Some (prefix_text Ipv4 self.now)) f.new }
+        ensures { DisplaysOnOk W.write_str_gives f.old result
+            (Some (prefix_text Ipv4 self.now)) f.new }
     {
         let prefix = self.display(AddressFamily::Ipv4);
         write!(f, "{prefix}")
@@ -109,7 +110,8 @@ impl Prefix {
 
     /// Writes an IPv6 prefix, as `2001:db8::/32`.
     pub fn fmt_v6<W: fmt::Write>(&self, f: &mut fmt::Formatter<W>) -> fmt::Result
-        ensures { DisplaysOnOk W.write_str_gives f.old result (Some (prefix_text Ipv6 self.now)) f.new }
+        ensures { DisplaysOnOk W.write_str_gives f.old result
+            (Some (prefix_text Ipv6 self.now)) f.new }
     {
         let prefix = self.display(AddressFamily::Ipv6);
         write!(f, "{prefix}")
@@ -128,7 +130,8 @@ impl IpBlock {
     }
 }
 
-/// A prefix with, perhaps, the length up to which longer ones are authorized too (RFC 6482, section 3.3).
+/// A prefix with, perhaps, the length up to which longer ones are authorized too (RFC 6482,
+/// section 3.3).
 #[derive(Clone, Copy, Debug, PartialEq, Eq)]
 pub struct MaxLenPrefix {
     pub family: AddressFamily,

@@ -5,7 +5,7 @@ use Rattle.std.specs.Int.{w32, w64, to_be_bytes}
 use Rattle.std.proofs.lemmas.Bool.{eqb-true, eqb-false, ne_eqb, ltb-true, ltb-false, lt-ltb, le-ltb}
 use Rattle.rpki_der.specs.Read.Parse.{number, digits_of, number_of, unsigned_of}
 use Rattle.rpki_der.specs.Grammar.{IsInteger, IsBytes}
-use Rattle.rpki_der.specs.Written.{significant, not_negative, integer_contents, value_octets, number_octets}
+use Rattle.rpki_der.specs.Written.{significant, not_negative, integer_contents, value_octets, number_octets, length_value_octets_le}
 use Rattle.rpki_der.proofs.Writing.Lengths.{test, short-unique}
 
 -- no zero stands in front
@@ -223,6 +223,7 @@ digits-unique c digits hc hd h =
 
 -- an INTEGER of 32 bits, from its own contents
 own-number : (c : List ℕ) (n : ℕ) → IsBytes c → n < 2 ^ 32 → IsInteger c n → length c < 128 → number_octets n ≡ 2 ∷ length c ∷ c
+unfolding number_octets
 own-number c n bytes lt h few =
     subst (λ x. value_octets 2 x ≡ 2 ∷ length c ∷ c) (contents-unique c n bytes lt h) (ap (λ (l : List ℕ). 2 ∷ l ++ c) (sym (short-unique (length c) few)))
 
@@ -271,3 +272,7 @@ five_octets n g h =
     let c : (0x02050000000000 + n) / 256 % 256 ≡ n / 256 % 256 = omega (arith, h) in
     let d : (0x02050000000000 + n) % 256 ≡ n % 256 = omega (arith, h) in
     rw (i, l, z, a, b, c, d) (own-number (0 ∷ to_be_bytes w32 n) n (omega arith, (omega arith, (omega arith, (omega arith, (omega arith, tt))))) h (omega arith, (λ _. omega (arith, g)), omega (arith, h)) (omega arith))
+
+pub length-number_octets : (n : ℕ) → length (number_octets n) ≤ 11
+unfolding number_octets
+length-number_octets n = omega (arith, length_value_octets_le 2 (integer_contents (to_be_bytes w32 n)), length-integer_contents (to_be_bytes w32 n))

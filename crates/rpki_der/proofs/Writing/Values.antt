@@ -32,6 +32,7 @@ pub number-is : (n : ℕ) → n < 2 ^ 32 → IsInteger (integer_contents (to_be_
 number-is n h = subst (λ (m : ℕ). IsInteger (integer_contents (to_be_bytes w32 n)) m) (number-digits n h) (integer-is (to_be_bytes w32 n))
 
 pub number-in : (mode : Mode) (n : ℕ) → n < 2 ^ 32 → Within mode 2 (λ e. IsInteger e n × (n < 2 ^ 32)) (number_octets n)
+unfolding number_octets
 number-in mode n h = (integer_contents (to_be_bytes w32 n), value-in mode 2 (integer_contents (to_be_bytes w32 n)) (tag-sound 2 refl) (short-number n), (number-is n h, h))
 
 pub number-written : (n : ℕ) → n < 2 ^ 32 → Integer Der (number_octets n) n
@@ -41,11 +42,13 @@ pub number-read : (mode : Mode) (n : ℕ) (rest : List ℕ) → n < 2 ^ 32 → u
 number-read mode n rest h = (exact-u32 mode).complete (number_octets n) n rest tt (number-in mode n h)
 
 pub u8-read : (mode : Mode) (n : ℕ) (rest : List ℕ) → n < 256 → u8_at mode (number_octets n ++ rest) ≡ Some (n, rest)
+unfolding number_octets
 u8-read mode n rest h =
     let e : unsigned_of 1 (integer_contents (to_be_bytes w32 n)) ≡ Some n = (exact-unsigned 1 256 holds1 (omega arith)).complete (integer_contents (to_be_bytes w32 n)) n (number-is n (omega arith), h) in
     primitive-read 2 (unsigned_of 1) mode (integer_contents (to_be_bytes w32 n)) rest n (tag-sound 2 refl) (short-number n) e
 
 pub number-unique : (o : List ℕ) (n : ℕ) → IsBytes o → n < 2 ^ 32 → Integer Der o n → o ≡ number_octets n
+unfolding number_octets
 number-unique o n bytes lt h = within-only 2 (λ c. IsInteger c n) o (integer_contents (to_be_bytes w32 n)) bytes (λ c inner is. contents-unique c n inner lt is) h
 
 pub integer-unique : (o digits : List ℕ) → IsBytes o → IsBytes digits → Integer Der o (number 0 digits) → o ≡ value_octets 2 (integer_contents digits)

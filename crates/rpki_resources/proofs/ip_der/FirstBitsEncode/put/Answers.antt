@@ -1,4 +1,4 @@
-use Rattle.std.proofs.Common.{ℕ, ◌≡◌, ◌<◌, ◌^◌, List, length, OnOk, OnErr, ◌∙◌, sym, subst, refl, take}
+use Rattle.std.proofs.Common.{ℕ, ◌≡◌, List, length, OnOk, OnErr, ◌∙◌, sym, subst, refl, take}
 use Rattle.std.specs.Io.KnownBytes.{Appends}
 use Rattle.std.specs.Int.{w128, to_be_bytes}
 use Rattle.rpki_der.specs.Sink.{AppendsFront}
@@ -23,4 +23,4 @@ pub put-requires-clause-len : goal.put-requires-clause-len
 put-requires-clause-len g c =
     let octets : c.bit_string.result.contents.octets.now ≡ take c.octet_count.result (to_be_bytes w128 c.args.self.now.addr) = c.bit_string.ensures.octets ∙ rw (c.to_be_bytes-octets.ensures, c.to_bits.ensures) refl in
     let e = end_octets_of c.bit_string.result.tag.octet c.bit_string.result.contents.octets.now c.bit_string.result.contents.unused c.octet_count.result c.args.self.now.addr c.args.self.now.len c.bit_string.ensures.tag octets c.octet_count.ensures.value (c.bit_string.ensures.unused ∙ c.unused.ensures) in
-    subst (λ (o : List ℕ). length o < 2 ^ 64) (sym e) c.requires.len
+    subst (λ (o : List ℕ). c.args.len ≡ length o) (sym e) c.requires.len

@@ -1,4 +1,4 @@
-use Rattle.std.proofs.Common.{◌++◌, refl, sym, ◌∙◌}
+use Rattle.std.proofs.Common.{◌++◌, sym, ◌∙◌}
 use Rattle.std.proofs.Output.{has_written_append, has_written_of_eq}
 use Rattle.rpki_der.specs.Oid.{point}
 use Rattle.rpki_der.proofs.Text.{found, small-found, written-all, written-more}
