@@ -2,6 +2,7 @@
 
 ghost use Rattle.std.specs.Prelude.{◌≡◌, IfOk, OnErr, Some, codes};
 ghost use Rattle.rpki_der.specs.Read.Reads.{IsContent};
+ghost use Rattle.rpki_der.specs.Error.{reason_text, fault_text, error_text};
 ghost use Rattle.rpki_der.specs.declared.error.DecodeError.TheVariants.{Memory};
 
 use crate::oid::Oid;
@@ -55,7 +56,9 @@ pub enum Reason {
 
 impl Reason {
     /// The text.
-    pub fn text(self) -> &'static str {
+    pub fn text(self) -> &'static str
+        ensures { result.now ≡ reason_text self }
+    {
         match self {
             Reason::CustomerAs0 => "customer is AS0",
             Reason::NoProviders => "no providers",
@@ -124,12 +127,16 @@ impl fmt::Display for InvalidSignedAttr {
 }
 
 impl fmt::Display for Reason {
+    ghost output = { λ reason. Some (reason_text reason) };
+
     fn fmt<W: fmt::Write>(&self, f: &mut fmt::Formatter<W>) -> fmt::Result {
         f.write_str(self.text())
     }
 }
 
 impl fmt::Display for ContentFault {
+    ghost output = { λ fault. Some (fault_text fault) };
+
     fn fmt<W: fmt::Write>(&self, f: &mut fmt::Formatter<W>) -> fmt::Result {
         match self {
             ContentFault::InvalidSignedAttr(attr) => attr.fmt(f),
@@ -139,6 +146,8 @@ impl fmt::Display for ContentFault {
 }
 
 impl fmt::Display for DecodeError {
+    ghost output = { λ error. Some (error_text error) };
+
     fn fmt<W: fmt::Write>(&self, f: &mut fmt::Formatter<W>) -> fmt::Result {
         match self {
             DecodeError::Malformed => f.write_str("malformed"),
