@@ -85,6 +85,36 @@ fn pieces(rt: HostRuntime) -> Result<(), Fail> {
     Ok(())
 }
 
+#[test]
+fn strings(rt: HostRuntime) {
+    let alloc = rt.alloc();
+    for mode in MODES {
+        let answer = read(
+            alloc,
+            mode,
+            &[0x06, 0x02, 0x2A, 0x03],
+            |cons| cons.take_oid(),
+        );
+        assert!(rt; is_right_or_memory(answer, |oid| oid.as_slice() == [0x2Au8, 0x03].as_slice()));
+        let answer = read(alloc, mode, &[0x16, 0x01, 0x61], |cons| cons.take_opt_ia5());
+        assert!(rt;
+            is_right_or_memory(
+                answer,
+                |text| text
+                    .as_ref()
+                    .is_some_and(|text| text.as_slice() == b"a".as_slice())
+            )
+        );
+        let answer = read(
+            alloc,
+            mode,
+            &[0x06, 0x02, 0x2A, 0x80],
+            |cons| cons.take_oid(),
+        );
+        assert!(rt; is_refused_or_memory(answer));
+    }
+}
+
 /// Reads on past an error of its own, which is answered again.
 fn complain(cons: &mut Constructed<'_>, oid: Oid) -> Result<u8, DecodeError> {
     let first = cons.take_sequence(|_| {

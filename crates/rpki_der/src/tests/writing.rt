@@ -194,7 +194,7 @@ fn strings(rt: HostRuntime) -> Result<(), Fail> {
         &ia5(b"a.roa"),
         &[0x16, 5, 0x61, 0x2E, 0x72, 0x6F, 0x61],
     )?;
-    is_written(&rt, &primitive(Tag::CTX_1, &[7]), &[0xA1, 1, 7])?;
+    is_written(&rt, &primitive(Tag::CTX_1, &[5, 0]), &[0xA1, 2, 5, 0])?;
     is_written(&rt, &Raw(&[9, 8]), &[9, 8])
 }
 
@@ -302,6 +302,31 @@ fn captured_values(rt: HostRuntime) -> Result<(), Fail> {
         Err(EncodeError::NotDer) => Ok(()),
         _ => Err(Fail::from("written in BER")),
     }
+}
+
+/// Whether a contents of a value is too long to be written.
+fn is_too_long<T: Drop>(answer: Result<T, EncodeError>) -> bool {
+    match answer {
+        Err(EncodeError::TooLong) => true,
+        _ => false,
+    }
+}
+
+/// Contents of 2^32 octets, and of 2^24 octets less.
+#[test]
+fn long_contents(rt: HostRuntime) -> Result<(), Fail> {
+    let part = vec![in rt.alloc(); 0u8; 0x100_0000]?;
+    let part = Raw(&part);
+    let parts = [&part; 256];
+    let fits = sequence(each(&parts[..255]));
+    assert_eq!(rt; fits.encoded_len()?, 255 * 0x100_0000 + 6);
+    let value = sequence(each(&parts));
+    assert!(rt; is_too_long(value.encoded_len()));
+    assert!(rt; is_too_long(value.to_bytes(rt.alloc())));
+    let mut sink = Counted::new(Drip::new(Vec::new(rt.alloc()), 0));
+    assert!(rt; is_too_long(set(value).write_to(&mut sink)));
+    assert_eq!(rt; sink.inner.calls, 0);
+    Ok(())
 }
 
 #[test]
