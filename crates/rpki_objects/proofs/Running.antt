@@ -124,3 +124,8 @@ pub usage-run : (told : Told) (run : Run) → IsSaid Usage run → (words : List
 usage-run told run s =
     let nothing : AskForNothing [] = λ file asked. let e = asked.0 in cc in
     ([], run-said told [] Usage run (inr (nothing, refl)) s)
+
+-- a run with these words, or one that runs out of memory, is that of some words
+pub some-run : (told : List ℕ → Option (Option (List ℕ))) (words : List (List ℕ)) (run : Run) → OrOutOfMemory (IsRunOf told words) run → (some : List (List ℕ)) × IsRunOf told some run
+some-run told words run (inl h) = memory-run told run h
+some-run told words run (inr h) = (words, h)

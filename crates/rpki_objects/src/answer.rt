@@ -45,7 +45,7 @@ fn write<W: Sink>(octets: &[u8], status: u8, sink: &mut W) -> u8
     }
 }
 
-/// Writes that a file can't be read, and gives the status.
+/// Writes that a file can't be read, and gives the status, which is that of a failed write too.
 fn complain_of<W: Sink>(file: &str, sink: &mut W) -> u8
     ensures { Writes (cannot_read file.now) 2 (W.taken sink.old, W.failures sink.old) (W.taken sink.new, W.failures sink.new) result }
 {

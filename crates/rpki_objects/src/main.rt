@@ -17,6 +17,7 @@ use rpki_der::Counted;
 use start::run;
 use std::process::ExitCode;
 use store::Disk;
+pub use store::{Store, StoreError};
 
 fn main(rt: HostRuntime) -> ExitCode {
     let mut out = Counted::new(rt.stdout());

@@ -2,7 +2,7 @@
 
 ghost use Rattle.std.specs.Prelude.{◌≡◌, ℕ, List, IfOk, map, string_bytes};
 ghost use Rattle.rpki_objects.specs.Answer.{run_of};
-ghost use Rattle.rpki_objects.specs.Command.{IsRunOf};
+ghost use Rattle.rpki_objects.specs.Command.{IsRunOf, OrOutOfMemory};
 
 use crate::answer::{Answer, say};
 use crate::program::command;
@@ -12,7 +12,8 @@ use std::alloc::{AllocError, Global};
 use std::env::Env;
 use std::{env, io};
 
-/// Runs the program with the arguments that the environment has, and gives the exit status. Whatever these are, the run is that of some words.
+/// Runs the program with the arguments that the environment has, and gives the exit status. Arguments that are no text
+/// (UTF-8) ask for nothing. Whatever the arguments are, the run is that of some words.
 pub fn run<R: Env + AllocGlobal, S: Store, O: Sink, E: Sink>(
     rt: &R,
     store: &S,
@@ -27,10 +28,24 @@ pub fn run<R: Env + AllocGlobal, S: Store, O: Sink, E: Sink>(
             io::ErrorKind::OutOfMemory => say(&Answer::OutOfMemory, out, err),
             _ => say(&Answer::Usage, out, err),
         },
-        Ok(args) => match texts_of(rt.alloc(), &args) {
-            Err(_) => say(&Answer::OutOfMemory, out, err),
-            Ok(words) => command(rt.alloc(), &words, store, out, err),
-        },
+        Ok(arguments) => run_with(rt.alloc(), &arguments, store, out, err),
+    }
+}
+
+/// Runs the program with these arguments, each of them, and gives the exit status.
+fn run_with<S: Store, O: Sink, E: Sink>(
+    alloc: Global,
+    arguments: &[String],
+    store: &S,
+    out: &mut O,
+    err: &mut E,
+) -> u8
+    ensures { OrOutOfMemory (IsRunOf (S.told store.now) (map string_bytes arguments.now))
+        (run_of O.taken O.failures out.old out.new E.taken E.failures err.old err.new result) }
+{
+    match texts_of(alloc, arguments) {
+        Err(_) => say(&Answer::OutOfMemory, out, err),
+        Ok(words) => command(alloc, &words, store, out, err),
     }
 }
 

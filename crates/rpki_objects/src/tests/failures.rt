@@ -2,7 +2,7 @@
 
 use super::octets::{CONTENT, NO_PROVIDER};
 use super::runs::{ASK, LINES};
-use super::stores::{Failing, Fault, Starved, make_shelf};
+use super::stores::{Failing, Fault, NoMemory, make_store};
 use crate::program::command;
 use crate::store::Store;
 use rpki_der::Counted;
@@ -52,7 +52,7 @@ fn lines_are_cut(rt: HostRuntime) -> Result<(), Fail> {
         on_output: true,
         status: 0,
     };
-    let store = make_shelf(rt.alloc(), &CONTENT)?;
+    let store = make_store(rt.alloc(), &CONTENT)?;
     for fault in FAULTS {
         fails(&rt, rt.alloc(), &store, &run, fault);
     }
@@ -67,7 +67,7 @@ fn malformed_is_cut(rt: HostRuntime) -> Result<(), Fail> {
         on_output: true,
         status: 1,
     };
-    let store = make_shelf(rt.alloc(), &NO_PROVIDER)?;
+    let store = make_store(rt.alloc(), &NO_PROVIDER)?;
     for fault in FAULTS {
         fails(&rt, rt.alloc(), &store, &run, fault);
     }
@@ -82,7 +82,7 @@ fn usage_is_cut(rt: HostRuntime) -> Result<(), Fail> {
         on_output: false,
         status: 2,
     };
-    let store = make_shelf(rt.alloc(), &CONTENT)?;
+    let store = make_store(rt.alloc(), &CONTENT)?;
     for fault in FAULTS {
         fails(&rt, rt.alloc(), &store, &run, fault);
     }
@@ -97,7 +97,7 @@ fn cannot_read_is_cut(rt: HostRuntime) -> Result<(), Fail> {
         on_output: false,
         status: 2,
     };
-    let store = make_shelf(rt.alloc(), &CONTENT)?;
+    let store = make_store(rt.alloc(), &CONTENT)?;
     for fault in FAULTS {
         fails(&rt, rt.alloc(), &store, &run, fault);
     }
@@ -113,13 +113,13 @@ fn out_of_memory_is_cut(rt: HostRuntime) {
         status: 3,
     };
     for fault in FAULTS {
-        fails(&rt, rt.alloc(), &Starved, &run, fault);
+        fails(&rt, rt.alloc(), &NoMemory, &run, fault);
     }
 }
 
 #[test]
 fn lines_are_cut_between_pieces(rt: HostRuntime) -> Result<(), Fail> {
-    let store = make_shelf(rt.alloc(), &CONTENT)?;
+    let store = make_store(rt.alloc(), &CONTENT)?;
     let lines = LINES.as_bytes();
     for most in [2, 3, 50, 1000] {
         for n in 0..=lines.len().div_ceil(most) {

@@ -8,7 +8,7 @@ use crate::tests::octets::{
     LARGEST_CUSTOMER, LARGEST_PROVIDER, NO_PROVIDER, PROVIDER_NEGATIVE, SWAPPED, WITHOUT_VERSION,
     make_content,
 };
-use crate::tests::stores::{Arguments, Starved, make_shelf};
+use crate::tests::stores::{Arguments, NoMemory, make_store};
 use rpki_der::Counted;
 use std::alloc::Global;
 use std::process::Abort;
@@ -35,7 +35,7 @@ fn says(
     octets: &[u8],
     said: &Said<'_>,
 ) -> Result<(), Fail> {
-    let store = make_shelf(alloc, octets)?;
+    let store = make_store(alloc, octets)?;
     let mut out = Counted::new(Vec::new(alloc));
     let mut err = Counted::new(Vec::new(alloc));
     let status = command(alloc, words, &store, &mut out, &mut err);
@@ -84,7 +84,7 @@ fn others_are_malformed(rt: HostRuntime) -> Result<(), Fail> {
 #[test]
 fn a_line_for_each_provider(rt: HostRuntime) -> Result<(), Fail> {
     for count in [9_999, 10_000] {
-        let store = make_shelf(rt.alloc(), &make_content(rt.alloc(), count)?)?;
+        let store = make_store(rt.alloc(), &make_content(rt.alloc(), count)?)?;
         let mut out = Counted::new(Vec::new(rt.alloc()));
         let mut err = Counted::new(Vec::new(rt.alloc()));
         let status = command(rt.alloc(), &ASK, &store, &mut out, &mut err);
@@ -160,7 +160,7 @@ fn a_file_is_not_there(rt: HostRuntime) -> Result<(), Fail> {
 fn memory_runs_out(rt: HostRuntime) -> Result<(), Fail> {
     let mut out = Counted::new(Vec::new(rt.alloc()));
     let mut err = Counted::new(Vec::new(rt.alloc()));
-    let status = command(rt.alloc(), &ASK, &Starved, &mut out, &mut err);
+    let status = command(rt.alloc(), &ASK, &NoMemory, &mut out, &mut err);
     assert_eq!(rt; status, 3);
     assert_eq!(rt; out.inner.len(), 0);
     assert_eq!(rt; err.inner.as_slice(), b"out of memory\n".as_slice());
@@ -184,23 +184,46 @@ fn a_file_of_the_system_is_not_there(rt: HostRuntime) -> Result<(), Fail> {
     Ok(())
 }
 
+/// What a run from its arguments writes on its two streams, and its status.
+fn starts(
+    rt: &(impl Abort + AllocGlobal),
+    arguments: &[&[u8]],
+    status: u8,
+    lines: &str,
+    complaint: &str,
+) -> Result<(), Fail> {
+    let store = make_store(rt.alloc(), &CONTENT)?;
+    let environment = (Arguments(arguments), rt.alloc());
+    let mut out = Counted::new(Vec::new(rt.alloc()));
+    let mut err = Counted::new(Vec::new(rt.alloc()));
+    assert_eq!(rt; run(&environment, &store, &mut out, &mut err), status);
+    assert_eq!(rt; out.inner.as_slice(), lines.as_bytes());
+    assert_eq!(rt; err.inner.as_slice(), complaint.as_bytes());
+    Ok(())
+}
+
 #[test]
 fn each_argument_is_a_word(rt: HostRuntime) -> Result<(), Fail> {
-    let arguments = ["name", "content", "aspa", "file", "fourth", "fifth"];
-    let store = make_shelf(rt.alloc(), &CONTENT)?;
+    let arguments = [
+        b"name".as_slice(),
+        b"content",
+        b"aspa",
+        b"file",
+        b"fourth",
+        b"fifth",
+    ];
     for count in 0..=arguments.len() {
-        let environment = (Arguments(&arguments[..count]), rt.alloc());
-        let mut out = Counted::new(Vec::new(rt.alloc()));
-        let mut err = Counted::new(Vec::new(rt.alloc()));
-        let status = run(&environment, &store, &mut out, &mut err);
-        let (wanted, lines, complaint) = if count == 4 {
-            (0, LINES, "")
+        if count == 4 {
+            starts(&rt, &arguments[..count], 0, LINES, "")?;
         } else {
-            (2, "", "usage\n")
-        };
-        assert_eq!(rt; status, wanted, "with {count}");
-        assert_eq!(rt; out.inner.as_slice(), lines.as_bytes());
-        assert_eq!(rt; err.inner.as_slice(), complaint.as_bytes());
+            starts(&rt, &arguments[..count], 2, "", "usage\n")?;
+        }
     }
     Ok(())
+}
+
+#[test]
+fn arguments_that_are_no_text_ask_for_nothing(rt: HostRuntime) -> Result<(), Fail> {
+    let arguments = [b"name".as_slice(), b"content", b"aspa", &[0xFF]];
+    starts(&rt, &arguments, 2, "", "usage\n")
 }

@@ -12,11 +12,11 @@ use std::io;
 
 /// Files in memory.
 #[derive(Drop)]
-pub struct Shelf {
+pub struct MemoryStore {
     files: BTreeMap<String, Vec<u8>>,
 }
 
-impl Store for Shelf {
+impl Store for MemoryStore {
     ghost told = { λ s name. Some (option_map (λ v. v.items) (get_by_text s.files name)) };
 
     fn read(&self, alloc: Global, name: &str) -> Result<Vec<u8>, StoreError> {
@@ -31,20 +31,20 @@ impl Store for Shelf {
 }
 
 /// A shelf with one file, `file`, of these octets.
-pub fn make_shelf(alloc: Global, octets: &[u8]) -> Result<Shelf, AllocError> {
+pub fn make_store(alloc: Global, octets: &[u8]) -> Result<MemoryStore, AllocError> {
     let mut files = BTreeMap::new(alloc);
     files.insert(
         String::from_str(alloc, "file")?,
         Vec::from_slice(alloc, octets)?,
     )?;
-    Ok(Shelf { files })
+    Ok(MemoryStore { files })
 }
 
 /// A store that finds no memory.
 #[derive(Drop)]
-pub struct Starved;
+pub struct NoMemory;
 
-impl Store for Starved {
+impl Store for NoMemory {
     ghost told = { λ _ _. Some (Some []) };
 
     fn read(&self, _alloc: Global, _name: &str) -> Result<Vec<u8>, StoreError> {
@@ -116,7 +116,7 @@ impl io::Write for Failing {
 
 /// An environment with these arguments, the first of which is the program's name.
 #[derive(Drop)]
-pub struct Arguments<'a>(pub &'a [&'a str]);
+pub struct Arguments<'a>(pub &'a [&'a [u8]]);
 
 impl Env for Arguments<'_> {
     fn arg(&self, i: usize, buf: &mut [u8]) -> Result<usize, FillError> {
@@ -124,7 +124,7 @@ impl Env for Arguments<'_> {
             None => Err(FillError::NotPresent),
             Some(word) if word.len() > buf.len() => Err(FillError::TooLong),
             Some(word) => {
-                buf[..word.len()].copy_from_slice(word.as_bytes());
+                buf[..word.len()].copy_from_slice(word);
                 Ok(word.len())
             }
         }
