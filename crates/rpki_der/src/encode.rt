@@ -39,7 +39,7 @@ pub enum EncodeError {
     Memory,
 }
 
-/// What has a spelling in DER.
+/// What has an encoding in DER.
 pub trait Encode {
     ghost use Rattle.rpki_der.specs.Encode.{IsLenOf, IsWritten, IsBytesOf};
 
