@@ -3,7 +3,7 @@
 ghost use Rattle.std.specs.Prelude.{◌≡◌, ℕ, ◌≤◌, ◌↔◌, ◌∷◌, [], ◌++◌, List, IsTrue, IfOk, OnOk};
 ghost use Rattle.std.specs.Prelude.{OnErr, All};
 ghost use Rattle.rpki_resources.specs.declared.block.Block.{Block};
-ghost use Rattle.rpki_resources.specs.Blocks.{Covers, IsBlock, IsCanonical, SameSet};
+ghost use Rattle.rpki_resources.specs.Blocks.{Covers, EndBelow, IsBlock, IsCanonical, SameSet};
 ghost use Rattle.rpki_resources.specs.Blocks.{IsIntersection, IsUnion};
 
 use crate::block::Block;
@@ -21,13 +21,14 @@ pub struct Blocks<T: Number> {
 impl<T: Number> Model for Blocks<T> {
     ghost use Rattle.std.specs.Prelude.{List};
     ghost use Rattle.rpki_resources.specs.declared.block.Block.{Block};
-    ghost use Rattle.rpki_resources.specs.Blocks.{IsCanonical};
+    ghost use Rattle.rpki_resources.specs.Blocks.{EndBelow, IsCanonical};
 
     ghost Value = { List (Block T) };
 
     ghost view = { λ s. s.items.items };
 
-    ghost invariant = { λ s. IsCanonical T.number s.items.items };
+    ghost invariant = { λ s. IsCanonical T.number s.items.items
+        × EndBelow T.number T.limit s.items.items };
 }
 
 impl<T: Number> Blocks<T> {
@@ -59,10 +60,12 @@ impl<T: Number> Blocks<T> {
         self.items.is_empty()
     }
 
-    /// The blocks, which ascend: between two of them a number at least is missing.
+    /// The blocks, which ascend: between two of them a number at least is missing. Each number is
+    /// below the limit of its type.
     pub fn as_slice(&self) -> &[Block<T>]
         ensures blocks { result.now ≡ self.now }
         ensures canonical { IsCanonical T.number self.now }
+        ensures below { EndBelow T.number T.limit self.now }
     {
         &self.items
     }
