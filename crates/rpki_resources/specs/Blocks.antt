@@ -37,7 +37,7 @@ IsBlock f b = f b.min ≤ f b.max
 abbrev pub EndBelow : {T : Type 0} → (T → ℕ) → ℕ → List (Block T) → Type 0
 EndBelow f limit bs = All (λ b. f b.max < limit) bs
 
--- the blocks, and one more, if it isn't empty
+-- The blocks, and one more, if it isn't empty. Only a private step of the intersection speaks of it.
 abbrev pub with_piece : {T : Type 0} → (T → ℕ) → List (Block T) → T → T → List (Block T)
 with_piece f bs lo hi = if nat_le (f lo) (f hi) then bs ++ record { min = lo; max = hi } ∷ [] else bs
 

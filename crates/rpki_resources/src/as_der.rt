@@ -107,7 +107,7 @@ fn take_set(cons: &mut Constructed<'_>, alloc: Global) -> Result<AsBlocks, Decod
 
 impl Blocks<Asn> {
     /// Reads a set: a SEQUENCE OF of numbers and ranges, in any order, which may overlap, and
-    /// of which there may be none (RFC 3779, sections 3.2.3.5 to 3.2.3.10). The lower end of a
+    /// of which there may be none (RFC 3779, sections 3.2.3.4 to 3.2.3.10). The lower end of a
     /// range above its upper end is an error.
     pub fn take_from(alloc: Global, cons: &mut Constructed<'_>) -> Result<AsBlocks, DecodeError>
         ensures reads { Reads (λ set. set) as_blocks_at cons.old result cons.new }
@@ -152,12 +152,12 @@ pub type AsBlocksEncoder<'a> = Elements<'a, Block<Asn>>;
 
 impl Blocks<Asn> {
     /// The contents of a SEQUENCE OF of the set: the blocks in ascending order, joined where they
-    /// touch, and one number as an INTEGER (RFC 3779, section 3.2.3.5). A SEQUENCE of these contents
+    /// touch, and one number as an INTEGER (RFC 3779, section 3.2.3.4). A SEQUENCE of these contents
     /// is a set in DER, and this one.
     pub fn encode_ref(&self) -> AsBlocksEncoder<'_>
         ensures blocks { result.0.now ≡ self.now }
         ensures written { length (flat_map as_octets self.now) < 2 ^ 32 →
-            AsForm Der (value_octets 48 (flat_map as_octets self.now)) self.now }
+            AsForm Der (value_octets 0x30 (flat_map as_octets self.now)) self.now }
     {
         each(self.as_slice())
     }

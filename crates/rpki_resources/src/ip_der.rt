@@ -358,7 +358,7 @@ impl Blocks<Addr> {
         ensures addresses { All (IsWithin Ipv6) self.now }
         ensures written { All (IsWithin family) self.now →
             length (flat_map ip_octets self.now) < 2 ^ 32 →
-            IpForm family Der (value_octets 48 (flat_map ip_octets self.now)) self.now }
+            IpForm family Der (value_octets 0x30 (flat_map ip_octets self.now)) self.now }
     {
         each(self.as_slice())
     }
