@@ -116,12 +116,14 @@ impl<T: Number> Clone for Blocks<T> {
 impl<T: Number> PartialEq for Blocks<T> {
     ghost use Rattle.std.specs.Prelude.{◌≡◌, ◌↔◌, IsTrue};
     ghost use Rattle.rpki_resources.specs.Blocks.{SameSet};
-    ghost use Rattle.rpki_resources.specs.Equal.{same_ends, same_ends_per};
+    ghost use Rattle.rpki_resources.specs.Equal.{same_ends};
+    ghost use Rattle.std.specs.Cmp.{on_per, and_per};
     ghost use Rattle.std.specs.Cmp.Lexicographic.{pointwise, lists_per};
 
     ghost eq = { pointwise (same_ends T.eq) };
 
-    ghost laws = { lists_per (same_ends_per T.PartialEq.laws) };
+    ghost laws = { lists_per (and_per (on_per (λ b. b.min) T.PartialEq.laws)
+        (on_per (λ b. b.max) T.PartialEq.laws)) };
 
     fn eq(&self, other: &Self) -> bool
         ensures eq { result ≡ pointwise (same_ends T.eq) self.now other.now }
@@ -133,10 +135,11 @@ impl<T: Number> PartialEq for Blocks<T> {
 }
 
 impl<T: Number> Eq for Blocks<T> {
-    ghost use Rattle.rpki_resources.specs.Equal.{same_ends_equiv};
+    ghost use Rattle.std.specs.Cmp.{on_equiv, and_equiv};
     ghost use Rattle.std.specs.Cmp.Lexicographic.{lists_equiv};
 
-    ghost laws = { lists_equiv (same_ends_equiv T.Eq.laws) };
+    ghost laws = { lists_equiv (and_equiv (on_equiv (λ b. b.min) T.Eq.laws)
+        (on_equiv (λ b. b.max) T.Eq.laws)) };
 }
 
 /// Blocks in any order, of which a set is made.
