@@ -1,9 +1,10 @@
 -- The blocks of a set of addresses that is read are blocks of addresses of the family.
-use Rattle.std.proofs.Common.{◌≡◌, ℕ, ◌+◌, ◌-◌, ◌*◌, ◌%◌, ◌^◌, ◌<◌, ◌≤◌, List, [], ◌∷◌, ◌++◌, length, All, min, max, inl, inr, sym, subst, arith}
-use Rattle.std.proofs.Math.Nat.{mul-mod_left}
+use Rattle.std.proofs.Common.{◌≡◌, ℕ, ◌+◌, ◌-◌, ◌*◌, ◌/◌, ◌%◌, ◌^◌, ◌<◌, ◌≤◌, List, [], ◌∷◌, ◌++◌, length, All, min, max, inl, inr, sym, subst, arith}
+use Rattle.std.proofs.Math.Nat.{mod-one, mul-mod_left}
 use Rattle.std.proofs.lemmas.Bool.Decides.{leb_tells}
-use Rattle.std.proofs.lemmas.Nat.{pow-add, pow_pos}
+use Rattle.std.proofs.lemmas.Nat.{pow-add, pow_pos, div-add-mod'}
 use Rattle.std.proofs.lemmas.List.{append-nil}
+use Rattle.std.proofs.lemmas.List.Elements.{All-weaker}
 use Rattle.rpki_der.specs.declared.mode.Mode.{Mode}
 use Rattle.rpki_der.specs.Grammar.{IsBytes, Items}
 use Rattle.rpki_der.specs.Read.Parse.{number}
@@ -16,6 +17,7 @@ use Rattle.rpki_resources.specs.Family.{max_bits, IsWithin}
 use Rattle.rpki_resources.specs.IpForm.{bit_count, bit_value, highest, IpAddress, IpPrefixOrRange, IpForm}
 use Rattle.rpki_resources.specs.IpRead.{spanned}
 use Rattle.rpki_resources.specs.Joined.{merged, joined}
+use Rattle.rpki_resources.specs.Prefix.{IsPrefix}
 use Rattle.rpki_resources.proofs.Bits.{small_more, value_below, room_below}
 use Rattle.rpki_resources.proofs.IpExact.{item-block}
 use Rattle.rpki_resources.proofs.Joining.{joined_only, joined-all}
@@ -109,3 +111,23 @@ set-within family mode o set bytes h =
     let same : set ≡ joined k.0 = joined_only set k.0 blocks k.2.canonical k.2.same in
     let each = items-all (λ p b. IsBytes p × IpPrefixOrRange mode most p b) (IsWithin family) (item-within family mode) h.0 k.0 (items-bytes (IpPrefixOrRange mode most) h.0 k.0 c k.1) in
     rw same (joined-all (IsWithin family) (merged-within family) k.0 each)
+
+-- each address of 128 bits is one of IPv6
+six-within : (b : Block ℕ) → b.max < 2 ^ 128 → IsWithin Ipv6 b
+six-within b h = record { lower = mod-one b.min; upper = mod-one (b.max + 1); below = h }
+
+pub set-six : (set : List (Block ℕ)) → All (λ b. b.max < 2 ^ 128) set → All (IsWithin Ipv6) set
+set-six set h = All-weaker (λ (b : Block ℕ). b.max < 2 ^ 128) (IsWithin Ipv6) six-within set h
+
+-- the addresses of a prefix of no more bits than the family has are addresses of it
+pub prefix-within : (family : AddressFamily) (lo hi len : ℕ) → IsPrefix lo hi len → hi < 2 ^ 128 → len ≤ max_bits family → IsWithin family (record { min = lo; max = hi })
+prefix-within family lo hi len p h l =
+    let size : ℕ = 2 ^ (128 - len) in
+    let q : ℕ = lo / size in
+    let low : lo ≡ q * size = omega (arith, div-add-mod' lo size, p.aligned) in
+    let high : hi + 1 ≡ (q + 1) * size = omega (arith, p.size, low) in
+    record {
+      lower = rw low (multiple q len (max_bits family) l (max_most family));
+      upper = rw high (multiple (q + 1) len (max_bits family) l (max_most family));
+      below = h;
+    }

@@ -1,10 +1,14 @@
 -- What is in a form in DER is in it in BER.
-use Rattle.std.proofs.Common.{ℕ, ◌<◌, ◌^◌, List, inl, inr}
+use Rattle.std.proofs.Common.{◌≡◌, ℕ, ◌<◌, ◌^◌, List, ◌++◌, length, Some, inl, inr, arith}
+use Rattle.rpki_der.specs.declared.mode.Mode.{Mode}
 use Rattle.rpki_der.specs.declared.mode.Mode.TheVariants.{Der, Ber}
+use Rattle.rpki_der.specs.Written.{value_octets}
 use Rattle.rpki_der.specs.Grammar.{IsInteger, IsBitString, IsReading}
 use Rattle.rpki_der.proofs.Reading.Unique.{unique, within-ber, items-as, octets-ber}
+use Rattle.rpki_der.proofs.Writing.Values.{octets-written}
 use Rattle.rpki_resources.specs.declared.block.Block.{Block}
 use Rattle.rpki_resources.specs.declared.family.AddressFamily.{AddressFamily}
+use Rattle.rpki_resources.specs.declared.family.AddressFamily.TheVariants.{Ipv4, Ipv6}
 use Rattle.rpki_resources.specs.Family.{max_bits}
 use Rattle.rpki_resources.specs.FamilyForm.{afi, FamilyForm, family_at}
 use Rattle.rpki_resources.specs.AsForm.{AsId, AsIdOrRange, AsForm}
@@ -55,3 +59,17 @@ family_reading = record {
   unique = λ mode. unique (family_at mode) (FamilyForm mode) (exact-family mode);
   relaxed = λ o family h. octets-ber 32 o (afi family) h;
 }
+
+afi-short : (family : AddressFamily) → length (afi family) < 2 ^ 32
+afi-short Ipv4 = omega arith
+afi-short Ipv6 = omega arith
+
+pub family_written : (family : AddressFamily) → FamilyForm Der (value_octets 4 (afi family)) family
+family_written family = octets-written 32 (afi family) (omega arith) (afi-short family)
+
+family_in : (mode : Mode) (family : AddressFamily) → FamilyForm mode (value_octets 4 (afi family)) family
+family_in Der family = family_written family
+family_in Ber family = family_reading.relaxed (value_octets 4 (afi family)) family (family_written family)
+
+pub family_read : (mode : Mode) (family : AddressFamily) (rest : List ℕ) → family_at mode (value_octets 4 (afi family) ++ rest) ≡ Some (family, rest)
+family_read mode family rest = (exact-family mode).complete (value_octets 4 (afi family)) family rest tt (family_in mode family)

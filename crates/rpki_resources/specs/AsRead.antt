@@ -18,15 +18,15 @@ only None = None
 only (Some n) = Some (record { min = n; max = n })
 
 unfoldable pub as_id_at : Parser (Option (Block ℕ))
-as_id_at mode bytes = optional 2 u32_at mode bytes >>= λ n. Some (only n.0, n.1)
+as_id_at mode bytes = optional 0x02 u32_at mode bytes >>= λ n. Some (only n.0, n.1)
 
 -- a range, or one number
 abbrev pub as_item_at : Parser (Option (Block ℕ))
-as_item_at = either (optional 48 (in_value 48 as_ends_at)) as_id_at
+as_item_at = either (optional 0x30 (in_value 0x30 as_ends_at)) as_id_at
 
 -- as many as there are, sorted and joined
 unfoldable pub as_items_at : Parser (List (Block ℕ))
 as_items_at mode bytes = many as_item_at mode bytes >>= λ list. Some (joined list.0, list.1)
 
 abbrev pub as_blocks_at : Parser (List (Block ℕ))
-as_blocks_at = in_value 48 as_items_at
+as_blocks_at = in_value 0x30 as_items_at

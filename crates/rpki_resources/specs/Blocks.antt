@@ -1,4 +1,4 @@
-use Rattle.std.specs.Prelude.{◌≡◌, ℕ, ◌+◌, ◌≤◌, List, [], ◌∷◌, ◌++◌, Bool, nat_le, ◌&&◌, ◌||◌, IsTrue, if◌then◌else◌}
+use Rattle.std.specs.Prelude.{◌≡◌, ℕ, ◌+◌, ◌<◌, ◌≤◌, All, List, [], ◌∷◌, ◌++◌, Bool, nat_le, ◌&&◌, ◌||◌, IsTrue, if◌then◌else◌}
 use Rattle.std.specs.List.{list_any}
 use Rattle.rpki_resources.specs.declared.block.Block.{Block}
 
@@ -33,7 +33,11 @@ IsCanonical f bs = RisesFrom f 0 bs
 abbrev pub IsBlock : {T : Type 0} → (T → ℕ) → Block T → Type 0
 IsBlock f b = f b.min ≤ f b.max
 
--- the blocks, and one more, if it isn't empty
+-- no block reaches up to a limit
+abbrev pub EndBelow : {T : Type 0} → (T → ℕ) → ℕ → List (Block T) → Type 0
+EndBelow f limit bs = All (λ b. f b.max < limit) bs
+
+-- The blocks, and one more, if it isn't empty. Only a private step of the intersection speaks of it.
 abbrev pub with_piece : {T : Type 0} → (T → ℕ) → List (Block T) → T → T → List (Block T)
 with_piece f bs lo hi = if nat_le (f lo) (f hi) then bs ++ record { min = lo; max = hi } ∷ [] else bs
 

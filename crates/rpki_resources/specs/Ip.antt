@@ -5,7 +5,7 @@ use Rattle.rpki_resources.specs.declared.ip.IpBlock.{IpBlock}
 use Rattle.rpki_resources.specs.declared.ip.IpBlock.TheVariants.{Prefix, Range}
 use Rattle.rpki_resources.specs.Prefix.{last_of, prefix_len}
 
--- the prefix of this length, where there is one
+-- the name of a block that is a prefix of this length, or of one that is no prefix
 abbrev pub named_by : Option ℕ → Block ℕ → IpBlock
 named_by (Some len) b = Prefix (record { addr = b.min; len = len })
 named_by None b = Range b.min b.max

@@ -30,12 +30,12 @@ IpAddress mode most octets bits = BitString mode octets bits × (bit_count bits 
 
 -- IPAddressRange: a SEQUENCE of the lower end and the upper end (2.2.3.9), where the lower one is not above the upper one
 abbrev pub IpRange : Mode → ℕ → List ℕ → Block ℕ → Type 0
-IpRange mode most octets b = Within mode 48 (λ c.
+IpRange mode most octets b = Within mode 0x30 (λ c.
     (lower : List ℕ × ℕ) × (upper : List ℕ × ℕ) × (first : List ℕ) × (second : List ℕ) × (c ≡ first ++ second)
     × IpAddress mode most first lower × IpAddress mode most second upper
     × (b ≡ record { min = lowest lower; max = highest upper }) × (b.min ≤ b.max)) octets
 
--- addressPrefix: the addresses that begin with the bits (2.2.3.7)
+-- addressPrefix: the addresses that begin with the bits (2.2.3.8)
 abbrev pub IpPrefix : Mode → ℕ → List ℕ → Block ℕ → Type 0
 IpPrefix mode most octets b = (bits : List ℕ × ℕ) × IpAddress mode most octets bits × (b ≡ record { min = lowest bits; max = highest bits })
 
@@ -43,6 +43,6 @@ IpPrefix mode most octets b = (bits : List ℕ × ℕ) × IpAddress mode most oc
 abbrev pub IpPrefixOrRange : Mode → ℕ → List ℕ → Block ℕ → Type 0
 IpPrefixOrRange mode most octets b = IpRange mode most octets b ⊎ IpPrefix mode most octets b
 
--- addressesOrRanges: a SEQUENCE of them (2.2.3.6). They may stand in any order, overlap, and be none.
+-- addressesOrRanges: a SEQUENCE of them (2.2.3.6). In RFC 3779 they ascend, and no two of them overlap or touch. Here they may stand in any order, overlap, and be none, which is this project's own.
 abbrev pub IpForm : AddressFamily → Mode → List ℕ → List (Block ℕ) → Type 0
-IpForm family mode octets set = Within mode 48 (λ c. (list : List (Block ℕ)) × Items (IpPrefixOrRange mode (max_bits family)) c list × IsSetOf list set) octets
+IpForm family mode octets set = Within mode 0x30 (λ c. (list : List (Block ℕ)) × Items (IpPrefixOrRange mode (max_bits family)) c list × IsSetOf list set) octets

@@ -32,15 +32,15 @@ prefix_in most None rest = Some (None, rest)
 prefix_in most (Some contents) rest = prefix_of most contents >>= λ b. Some (Some b, rest)
 
 unfoldable pub ip_prefix_at : ℕ → Parser (Option (Block ℕ))
-ip_prefix_at most mode bytes = optional 3 (primitive 3 Some) mode bytes >>= λ c. prefix_in most c.0 c.1
+ip_prefix_at most mode bytes = optional 0x03 (primitive 0x03 Some) mode bytes >>= λ c. prefix_in most c.0 c.1
 
 -- a range or a prefix
 abbrev pub ip_item_at : ℕ → Parser (Option (Block ℕ))
-ip_item_at most = either (optional 48 (in_value 48 (ip_ends_at most))) (ip_prefix_at most)
+ip_item_at most = either (optional 0x30 (in_value 0x30 (ip_ends_at most))) (ip_prefix_at most)
 
 -- as many as there are, sorted and joined
 unfoldable pub ip_items_at : ℕ → Parser (List (Block ℕ))
 ip_items_at most mode bytes = many (ip_item_at most) mode bytes >>= λ list. Some (joined list.0, list.1)
 
 abbrev pub ip_blocks_at : ℕ → Parser (List (Block ℕ))
-ip_blocks_at most = in_value 48 (ip_items_at most)
+ip_blocks_at most = in_value 0x30 (ip_items_at most)

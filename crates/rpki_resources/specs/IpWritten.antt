@@ -15,7 +15,7 @@ first_bits addr len = bit_string_contents (take (octet_count len) (to_be_bytes w
 
 -- the same as a value
 abbrev pub end_octets : ℕ → ℕ → List ℕ
-end_octets addr len = value_octets 3 (first_bits addr len)
+end_octets addr len = value_octets 0x03 (first_bits addr len)
 
 -- of a lower end the trailing zero bits are left out, of an upper end the trailing one bits (2.1.2)
 abbrev pub lower_len : ℕ → ℕ
@@ -26,8 +26,8 @@ upper_len addr = 128 - trailing_ones w128 addr
 
 -- the addresses of a prefix are a BIT STRING of its bits, and others a SEQUENCE of the lower end and the upper end
 abbrev pub tag_by : Option ℕ → ℕ
-tag_by (Some len) = 3
-tag_by None = 48
+tag_by (Some len) = 0x03
+tag_by None = 0x30
 
 abbrev pub contents_by : Option ℕ → Block ℕ → List ℕ
 contents_by (Some len) b = first_bits b.min len

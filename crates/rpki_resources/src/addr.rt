@@ -52,9 +52,11 @@ impl Addr {
 }
 
 impl Number for Addr {
-    ghost use Rattle.std.specs.Prelude.{refl};
+    ghost use Rattle.std.specs.Prelude.{refl, ◌^◌};
 
     ghost number = { λ n. n };
+
+    ghost limit = { 2 ^ 128 };
 
     fn value(self) -> u128 {
         self.0

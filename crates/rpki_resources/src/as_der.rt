@@ -1,6 +1,9 @@
 //! Sets of AS numbers in DER and BER (RFC 3779, section 3.2.3).
 
 ghost use Rattle.std.specs.Prelude.{◌≡◌, ℕ, List, IfOk, IfSome, All, None, ◌<◌, ◌^◌, length};
+ghost use Rattle.std.specs.List.{flat_map};
+ghost use Rattle.rpki_der.specs.declared.mode.Mode.TheVariants.{Der};
+ghost use Rattle.rpki_der.specs.Written.{value_octets};
 ghost use Rattle.rpki_der.specs.Read.Parse.{many};
 ghost use Rattle.rpki_der.specs.Read.Reads.{Reads, OkOrMemory};
 ghost use Rattle.rpki_der.specs.Grammar.{Front, IsBytes};
@@ -104,7 +107,7 @@ fn take_set(cons: &mut Constructed<'_>, alloc: Global) -> Result<AsBlocks, Decod
 
 impl Blocks<Asn> {
     /// Reads a set: a SEQUENCE OF of numbers and ranges, in any order, which may overlap, and
-    /// of which there may be none (RFC 3779, sections 3.2.3.5 to 3.2.3.10). The lower end of a
+    /// of which there may be none (RFC 3779, sections 3.2.3.4 to 3.2.3.10). The lower end of a
     /// range above its upper end is an error.
     pub fn take_from(alloc: Global, cons: &mut Constructed<'_>) -> Result<AsBlocks, DecodeError>
         ensures reads { Reads (λ set. set) as_blocks_at cons.old result cons.new }
@@ -149,9 +152,12 @@ pub type AsBlocksEncoder<'a> = Elements<'a, Block<Asn>>;
 
 impl Blocks<Asn> {
     /// The contents of a SEQUENCE OF of the set: the blocks in ascending order, joined where they
-    /// touch, and one number as an INTEGER (RFC 3779, section 3.2.3.5).
+    /// touch, and one number as an INTEGER (RFC 3779, section 3.2.3.4). A SEQUENCE of these contents
+    /// is a set in DER, and this one.
     pub fn encode_ref(&self) -> AsBlocksEncoder<'_>
-        ensures { result.0.now ≡ self.now }
+        ensures blocks { result.0.now ≡ self.now }
+        ensures written { length (flat_map as_octets self.now) < 2 ^ 32 →
+            AsForm Der (value_octets 0x30 (flat_map as_octets self.now)) self.now }
     {
         each(self.as_slice())
     }

@@ -1,11 +1,11 @@
 //! AS numbers and sets of them.
 
 ghost use Rattle.std.specs.Prelude.{◌≡◌, ℕ, ◌≤◌, ◌↔◌, ◌∷◌, [], ◌++◌, List, IsTrue, OnOk, OnErr};
-ghost use Rattle.std.specs.Prelude.{All, Some, map, length};
+ghost use Rattle.std.specs.Prelude.{All, Some, map, length, ◌^◌};
 ghost use Rattle.std.specs.Iterator.{Drains, HoldsAlong, IsFinite};
 ghost use Rattle.std.specs.List.Sorted.{IsStrictlyIncreasing};
 ghost use Rattle.rpki_resources.specs.declared.asn.AsBlock.{AsBlock};
-ghost use Rattle.rpki_resources.specs.Blocks.{Covers, IsBlock};
+ghost use Rattle.rpki_resources.specs.Blocks.{Covers, EndBelow, IsBlock, IsCanonical};
 ghost use Rattle.rpki_resources.specs.As.{asn_text, as_block, as_range, as_block_text};
 
 use crate::block::Block;
@@ -57,9 +57,11 @@ impl Asn {
 }
 
 impl Number for Asn {
-    ghost use Rattle.std.specs.Prelude.{refl};
+    ghost use Rattle.std.specs.Prelude.{refl, ◌^◌};
 
     ghost number = { λ n. n };
+
+    ghost limit = { 2 ^ 32 };
 
     fn value(self) -> u128 {
         u128::from(self.0)
@@ -157,6 +159,8 @@ impl Blocks<Asn> {
     pub fn iter(&self) -> AsBlocksIter<'_>
         ensures items { result ≡ map as_block self.now }
         ensures ranges { map as_range result ≡ self.now }
+        ensures canonical { IsCanonical (λ n. n) self.now }
+        ensures below { EndBelow (λ n. n) (2 ^ 32) self.now }
     {
         AsBlocksIter(self.as_slice())
     }

@@ -3,7 +3,7 @@
 ghost use Rattle.std.specs.Prelude.{◌≡◌, ℕ, ◌≤◌, ◌↔◌, ◌∷◌, [], ◌++◌, List, IsTrue, IfOk, OnOk};
 ghost use Rattle.std.specs.Prelude.{OnErr, All};
 ghost use Rattle.rpki_resources.specs.declared.block.Block.{Block};
-ghost use Rattle.rpki_resources.specs.Blocks.{Covers, IsBlock, IsCanonical, SameSet};
+ghost use Rattle.rpki_resources.specs.Blocks.{Covers, EndBelow, IsBlock, IsCanonical, SameSet};
 ghost use Rattle.rpki_resources.specs.Blocks.{IsIntersection, IsUnion};
 
 use crate::block::Block;
@@ -21,13 +21,14 @@ pub struct Blocks<T: Number> {
 impl<T: Number> Model for Blocks<T> {
     ghost use Rattle.std.specs.Prelude.{List};
     ghost use Rattle.rpki_resources.specs.declared.block.Block.{Block};
-    ghost use Rattle.rpki_resources.specs.Blocks.{IsCanonical};
+    ghost use Rattle.rpki_resources.specs.Blocks.{EndBelow, IsCanonical};
 
     ghost Value = { List (Block T) };
 
     ghost view = { λ s. s.items.items };
 
-    ghost invariant = { λ s. IsCanonical T.number s.items.items };
+    ghost invariant = { λ s. IsCanonical T.number s.items.items
+        × EndBelow T.number T.limit s.items.items };
 }
 
 impl<T: Number> Blocks<T> {
@@ -59,10 +60,12 @@ impl<T: Number> Blocks<T> {
         self.items.is_empty()
     }
 
-    /// The blocks, which ascend: between two of them a number at least is missing.
+    /// The blocks, which ascend: between two of them a number at least is missing. Each number is
+    /// below the limit of its type.
     pub fn as_slice(&self) -> &[Block<T>]
         ensures blocks { result.now ≡ self.now }
         ensures canonical { IsCanonical T.number self.now }
+        ensures below { EndBelow T.number T.limit self.now }
     {
         &self.items
     }
@@ -113,12 +116,14 @@ impl<T: Number> Clone for Blocks<T> {
 impl<T: Number> PartialEq for Blocks<T> {
     ghost use Rattle.std.specs.Prelude.{◌≡◌, ◌↔◌, IsTrue};
     ghost use Rattle.rpki_resources.specs.Blocks.{SameSet};
-    ghost use Rattle.rpki_resources.specs.Equal.{same_ends, same_ends_per};
+    ghost use Rattle.rpki_resources.specs.Equal.{same_ends};
+    ghost use Rattle.std.specs.Cmp.{on_per, and_per};
     ghost use Rattle.std.specs.Cmp.Lexicographic.{pointwise, lists_per};
 
     ghost eq = { pointwise (same_ends T.eq) };
 
-    ghost laws = { lists_per (same_ends_per T.PartialEq.laws) };
+    ghost laws = { lists_per (and_per (on_per (λ b. b.min) T.PartialEq.laws)
+        (on_per (λ b. b.max) T.PartialEq.laws)) };
 
     fn eq(&self, other: &Self) -> bool
         ensures eq { result ≡ pointwise (same_ends T.eq) self.now other.now }
@@ -130,10 +135,11 @@ impl<T: Number> PartialEq for Blocks<T> {
 }
 
 impl<T: Number> Eq for Blocks<T> {
-    ghost use Rattle.rpki_resources.specs.Equal.{same_ends_equiv};
+    ghost use Rattle.std.specs.Cmp.{on_equiv, and_equiv};
     ghost use Rattle.std.specs.Cmp.Lexicographic.{lists_equiv};
 
-    ghost laws = { lists_equiv (same_ends_equiv T.Eq.laws) };
+    ghost laws = { lists_equiv (and_equiv (on_equiv (λ b. b.min) T.Eq.laws)
+        (on_equiv (λ b. b.max) T.Eq.laws)) };
 }
 
 /// Blocks in any order, of which a set is made.

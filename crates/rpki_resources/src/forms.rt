@@ -13,7 +13,7 @@ ghost use Rattle.rpki_resources.specs.declared.block.Block.{Block};
 ghost use Rattle.rpki_resources.specs.declared.family.AddressFamily.{AddressFamily};
 ghost use Rattle.rpki_resources.specs.Blocks.{IsCanonical};
 ghost use Rattle.rpki_resources.specs.Family.{max_bits, IsWithin};
-ghost use Rattle.rpki_resources.specs.FamilyForm.{FamilyForm, family_at};
+ghost use Rattle.rpki_resources.specs.FamilyForm.{afi, FamilyForm, family_at};
 ghost use Rattle.rpki_resources.specs.AsForm.{AsForm};
 ghost use Rattle.rpki_resources.specs.AsRead.{as_blocks_at};
 ghost use Rattle.rpki_resources.specs.AsWritten.{as_octets};
@@ -38,16 +38,24 @@ pub fn families()
     ensures { IsReading family_at FamilyForm }
 {}
 
+/// A family is written in DER, and read again in both modes.
+pub fn families_are_written()
+    ensures written { (family : AddressFamily) →
+        FamilyForm Der (value_octets 0x04 (afi family)) family }
+    ensures read { (mode : Mode) (family : AddressFamily) (rest : List ℕ) →
+        family_at mode (value_octets 0x04 (afi family) ++ rest) ≡ Some (family, rest) }
+{}
+
 /// A set of AS numbers is written in DER, and read again in both modes.
 pub fn as_sets_are_written()
     ensures written { (set : List (Block ℕ)) →
         IsCanonical (λ n. n) set → All (λ b. b.max < 2 ^ 32) set →
         length (flat_map as_octets set) < 2 ^ 32 →
-        AsForm Der (value_octets 48 (flat_map as_octets set)) set }
+        AsForm Der (value_octets 0x30 (flat_map as_octets set)) set }
     ensures read { (mode : Mode) (set : List (Block ℕ)) (rest : List ℕ) →
         IsCanonical (λ n. n) set → All (λ b. b.max < 2 ^ 32) set →
         length (flat_map as_octets set) < 2 ^ 32 →
-        as_blocks_at mode (value_octets 48 (flat_map as_octets set) ++ rest) ≡ Some (set, rest) }
+        as_blocks_at mode (value_octets 0x30 (flat_map as_octets set) ++ rest) ≡ Some (set, rest) }
 {}
 
 /// Each one that was read can be written, and is read again.
@@ -56,7 +64,7 @@ pub fn as_sets_are_written_again()
         AsForm mode octets set → All (λ b. b.max < 2 ^ 32) set }
     ensures read { (mode again : Mode) (octets : List ℕ) (set : List (Block ℕ)) (rest : List ℕ) →
         AsForm mode octets set → length (flat_map as_octets set) < 2 ^ 32 →
-        as_blocks_at again (value_octets 48 (flat_map as_octets set) ++ rest) ≡ Some (set, rest) }
+        as_blocks_at again (value_octets 0x30 (flat_map as_octets set) ++ rest) ≡ Some (set, rest) }
 {}
 
 /// A set of addresses of a family is written in DER, and read again in both modes.
@@ -64,11 +72,11 @@ pub fn ip_sets_are_written()
     ensures written { (family : AddressFamily) (set : List (Block ℕ)) →
         IsCanonical (λ n. n) set → All (IsWithin family) set →
         length (flat_map ip_octets set) < 2 ^ 32 →
-        IpForm family Der (value_octets 48 (flat_map ip_octets set)) set }
+        IpForm family Der (value_octets 0x30 (flat_map ip_octets set)) set }
     ensures read { (family : AddressFamily) (mode : Mode) (set : List (Block ℕ)) (rest : List ℕ) →
         IsCanonical (λ n. n) set → All (IsWithin family) set →
         length (flat_map ip_octets set) < 2 ^ 32 →
-        ip_blocks_at (max_bits family) mode (value_octets 48 (flat_map ip_octets set) ++ rest)
+        ip_blocks_at (max_bits family) mode (value_octets 0x30 (flat_map ip_octets set) ++ rest)
         ≡ Some (set, rest) }
 {}
 
@@ -80,7 +88,7 @@ pub fn ip_sets_are_written_again()
     ensures read { (family : AddressFamily) (mode again : Mode) (octets : List ℕ)
         (set : List (Block ℕ)) (rest : List ℕ) → IsBytes octets → IpForm family mode octets set →
         length (flat_map ip_octets set) < 2 ^ 32 →
-        ip_blocks_at (max_bits family) again (value_octets 48 (flat_map ip_octets set) ++ rest)
+        ip_blocks_at (max_bits family) again (value_octets 0x30 (flat_map ip_octets set) ++ rest)
         ≡ Some (set, rest) }
 {}
 

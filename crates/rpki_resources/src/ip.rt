@@ -4,7 +4,7 @@ ghost use Rattle.std.specs.Prelude.{◌≡◌, ℕ, ◌≤◌, ◌↔◌, ◌∷
 ghost use Rattle.std.specs.Prelude.{All, map, ◌^◌, ◌<◌};
 ghost use Rattle.std.specs.Iterator.{Drains, HoldsAlong, IsFinite};
 ghost use Rattle.rpki_resources.specs.declared.ip.IpBlock.{IpBlock};
-ghost use Rattle.rpki_resources.specs.Blocks.{Covers, IsBlock};
+ghost use Rattle.rpki_resources.specs.Blocks.{Covers, EndBelow, IsBlock, IsCanonical};
 ghost use Rattle.rpki_resources.specs.Prefix.{IsPrefix};
 ghost use Rattle.rpki_resources.specs.Ip.{ip_block, ip_range};
 
@@ -67,6 +67,8 @@ impl Blocks<Addr> {
     pub fn iter(&self) -> IpBlocksIter<'_>
         ensures items { result ≡ map ip_block self.now }
         ensures ranges { map ip_range result ≡ self.now }
+        ensures canonical { IsCanonical (λ n. n) self.now }
+        ensures below { EndBelow (λ n. n) (2 ^ 128) self.now }
     {
         IpBlocksIter(self.as_slice())
     }

@@ -7,7 +7,11 @@ ghost use Rattle.rpki_der.specs.Read.Reads.{Reads, OkOrMemory};
 ghost use Rattle.rpki_der.specs.Grammar.{Front, IsBytes};
 ghost use Rattle.rpki_resources.specs.declared.block.Block.{Block};
 ghost use Rattle.rpki_resources.specs.Blocks.{IsBlock};
-ghost use Rattle.rpki_resources.specs.Family.{max_bits};
+ghost use Rattle.std.specs.List.{flat_map};
+ghost use Rattle.rpki_der.specs.declared.mode.Mode.TheVariants.{Der};
+ghost use Rattle.rpki_der.specs.Written.{value_octets};
+ghost use Rattle.rpki_resources.specs.declared.family.AddressFamily.TheVariants.{Ipv6};
+ghost use Rattle.rpki_resources.specs.Family.{IsWithin, max_bits};
 ghost use Rattle.rpki_resources.specs.Joined.{joined};
 ghost use Rattle.rpki_resources.specs.IpForm.{IpForm, bit_count, lowest, highest};
 ghost use Rattle.rpki_der.specs.Parts.{contents_small};
@@ -345,8 +349,16 @@ impl Blocks<Addr> {
     /// order, joined where they touch, the addresses of a prefix as a prefix. Of the other lower
     /// ends the trailing zero bits are left out, and of the upper ends the trailing one bits, so
     /// that both families are written alike (RFC 3779, sections 2.1 and 2.2.3.6).
-    pub fn encode_ref(&self, _family: AddressFamily) -> IpBlocksEncoder<'_>
-        ensures { result.0.now ≡ self.now }
+    ///
+    /// A SEQUENCE of these contents is a set of the family in DER, and this one, where the ends are
+    /// those of addresses of the family; for IPv6 they always are. Of a set of other blocks octets
+    /// are written that are no set of the family: for IPv4 with more than 32 bits.
+    pub fn encode_ref(&self, family: AddressFamily) -> IpBlocksEncoder<'_>
+        ensures blocks { result.0.now ≡ self.now }
+        ensures addresses { All (IsWithin Ipv6) self.now }
+        ensures written { All (IsWithin family) self.now →
+            length (flat_map ip_octets self.now) < 2 ^ 32 →
+            IpForm family Der (value_octets 0x30 (flat_map ip_octets self.now)) self.now }
     {
         each(self.as_slice())
     }

@@ -7,9 +7,13 @@ pub trait Number: Copy + Eq {
     // The number.
     ghost number: { Self → ℕ };
 
+    // Each number is below it.
+    ghost limit: { ℕ };
+
     /// The number in 128 bits.
     fn value(self) -> u128
-        ensures { result ≡ number self };
+        ensures value { result ≡ number self }
+        ensures below { number self < limit };
 
     // Equal numbers are one value.
     ghost exact: { (x y : Self) → number x ≡ number y → x ≡ y };
@@ -31,6 +35,7 @@ pub fn larger<T: Number>(a: T, b: T) -> T
     ensures first { T.number a ≤ T.number result }
     ensures second { T.number b ≤ T.number result }
     ensures one { (result ≡ a) ⊎ (result ≡ b) }
+    ensures below { T.number result < T.limit }
 {
     if a.value() <= b.value() { b } else { a }
 }

@@ -2,6 +2,8 @@
 
 ghost use Rattle.std.specs.Prelude.{◌≡◌, ℕ, ◌+◌, ◌-◌, ◌*◌, ◌%◌, ◌/◌, ◌^◌, ◌≤◌, ◌<◌, IfSome, IfNone};
 ghost use Rattle.std.specs.Net.Addr.{IsIpv4OfBits, IsIpv6OfBits};
+ghost use Rattle.rpki_resources.specs.declared.family.AddressFamily.{AddressFamily};
+ghost use Rattle.rpki_resources.specs.Family.{IsWithin, max_bits};
 ghost use Rattle.rpki_resources.specs.Prefix.{IsPrefix, prefix_len, first_of, last_of};
 
 use crate::addr::Addr;
@@ -56,11 +58,15 @@ impl Prefix {
         self.len
     }
 
-    /// The first address and the last one.
+    /// The first address and the last one. They are addresses of each family whose addresses have
+    /// as many bits.
     pub fn range(self) -> (Addr, Addr)
         ensures first { result.0 ≡ self.addr }
         ensures last { result.1 ≡ last_of self.addr self.len }
         ensures order { result.0 ≤ result.1 }
+        ensures prefix { IsPrefix result.0 result.1 self.len }
+        ensures within { (family : AddressFamily) → self.len ≤ max_bits family →
+            IsWithin family (record { min = result.0; max = result.1 }) }
     {
         (
             self.addr,

@@ -20,8 +20,11 @@ use std::marker::Model;
 /// 2.2.3.5 and 3.2.3.3).
 #[derive(Debug, Drop)]
 pub enum Claim<B> {
+    /// The family is not named.
     Missing,
+    /// The numbers are those of the issuer.
     Inherit,
+    /// These numbers.
     Explicit(B),
 }
 
@@ -46,6 +49,7 @@ impl<T: Number> Model for Resources<T> {
 pub enum BlocksError {
     /// The issuer alone knows them.
     Inherit,
+    /// There is no memory for them.
     Memory,
 }
 
@@ -242,9 +246,9 @@ impl ResourcesBuilder<Asn> {
             × (self.new ≡ Claim.Explicit after)) }
         ensures err { OnErr result (self.new ≡ self.old) }
     {
-        let mut next = self.added()?;
-        op(&mut next)?;
-        self.claim = Claim::Explicit(next);
+        let mut numbers = self.added()?;
+        op(&mut numbers)?;
+        self.claim = Claim::Explicit(numbers);
         Ok(())
     }
 }
@@ -263,9 +267,9 @@ impl ResourcesBuilder<Addr> {
             × (self.new ≡ Claim.Explicit after)) }
         ensures err { OnErr result (self.new ≡ self.old) }
     {
-        let mut next = self.added()?;
-        op(&mut next)?;
-        self.claim = Claim::Explicit(next);
+        let mut addresses = self.added()?;
+        op(&mut addresses)?;
+        self.claim = Claim::Explicit(addresses);
         Ok(())
     }
 }

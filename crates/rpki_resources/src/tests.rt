@@ -1,18 +1,23 @@
 //! Rows of sets, their octets and their texts.
 
-ghost use Rattle.std.specs.Prelude.{All};
+ghost use Rattle.std.specs.Prelude.{All, Some};
 ghost use Rattle.rpki_resources.specs.As.{as_range};
 ghost use Rattle.rpki_resources.specs.Blocks.{IsBlock};
 ghost use Rattle.rpki_resources.specs.Ip.{ip_range};
+ghost use Rattle.rpki_resources.specs.Text.{prefix_text};
+ghost use Rattle.rpki_resources.specs.declared.family.AddressFamily.TheVariants.{Ipv4, Ipv6};
+
+mod growth;
 
 use crate::{
     Addr, AddressFamily, AsBlock, AsBlocks, AsBlocksBuilder, AsResources, AsResourcesBuilder, Asn,
-    BlocksError, IpBlock, IpBlocks, IpBlocksBuilder, IpResourcesBuilder, MaxLenPrefix, Overclaimed,
-    Prefix, SmallAsnSet,
+    BlocksError, IpBlock, IpBlocks, IpBlocksBuilder, IpResources, IpResourcesBuilder, MaxLenPrefix,
+    Overclaimed, Prefix, SmallAsnSet,
 };
 use bytes::Bytes;
 use rpki_der::{Constructed, DecodeError, Encode, EncodeError, Mode};
 use std::alloc::{AllocError, Global};
+use std::fmt;
 use std::net::{Ipv4Addr, Ipv6Addr};
 use std::test::Fail;
 
@@ -20,25 +25,29 @@ use std::test::Fail;
 const MODES: [Mode; 2] = [Mode::Der, Mode::Ber];
 
 /// The first number and the last one of each AS block.
-fn as_set(alloc: Global, blocks: &[(u32, u32)]) -> Result<AsBlocks, AllocError> {
+fn as_set(alloc: Global, blocks: &[(u32, u32)]) -> Result<AsBlocks, Fail> {
     let mut builder = AsBlocksBuilder::new(alloc);
     for (min, max) in blocks {
         if *min <= *max {
             builder.push(AsBlock::Range(Asn::from_u32(*min), Asn::from_u32(*max)))?;
+        } else {
+            return Err(Fail::new("ends in the wrong order"));
         }
     }
-    builder.finalize()
+    Ok(builder.finalize()?)
 }
 
 /// The first address and the last one of each block.
-fn ip_set(alloc: Global, blocks: &[(u128, u128)]) -> Result<IpBlocks, AllocError> {
+fn ip_set(alloc: Global, blocks: &[(u128, u128)]) -> Result<IpBlocks, Fail> {
     let mut builder = IpBlocksBuilder::new(alloc);
     for (min, max) in blocks {
         if *min <= *max {
             builder.push(IpBlock::Range(Addr::from_bits(*min), Addr::from_bits(*max)))?;
+        } else {
+            return Err(Fail::new("ends in the wrong order"));
         }
     }
-    builder.finalize()
+    Ok(builder.finalize()?)
 }
 
 /// What is read of a set of AS numbers.
@@ -63,13 +72,9 @@ fn read_ip(
 }
 
 /// What is read of a family.
-fn read_family(alloc: Global, octets: &[u8]) -> Result<AddressFamily, DecodeError> {
+fn read_family(alloc: Global, mode: Mode, octets: &[u8]) -> Result<AddressFamily, DecodeError> {
     let source = Bytes::copy_from_slice(alloc, octets)?;
-    Constructed::decode(
-        source,
-        Mode::Der,
-        |cons| AddressFamily::take_from(alloc, cons),
-    )
+    Constructed::decode(source, mode, |cons| AddressFamily::take_from(alloc, cons))
 }
 
 /// Whether octets are refused for what they are. Want of memory is handed on.
@@ -161,12 +166,26 @@ fn builders(rt: HostRuntime) -> Result<(), Fail> {
     Ok(())
 }
 
+/// Adds blocks at once.
+fn add_as(builder: &mut AsBlocksBuilder, blocks: &[AsBlock]) -> Result<(), AllocError>
+    requires { All (λ b. IsBlock (λ n. n) (as_range b)) blocks.now }
+{
+    builder.extend(blocks.iter().copied())
+}
+
+/// The same of addresses.
+fn add_ip(builder: &mut IpBlocksBuilder, blocks: &[IpBlock]) -> Result<(), AllocError>
+    requires { All (λ b. IsBlock (λ n. n) (ip_range b)) blocks.now }
+{
+    builder.extend(blocks.iter().copied())
+}
+
 /// The set of blocks that are added at once.
 fn as_set_of(alloc: Global, blocks: &[AsBlock]) -> Result<AsBlocks, AllocError>
     requires { All (λ b. IsBlock (λ n. n) (as_range b)) blocks.now }
 {
     let mut builder = AsBlocksBuilder::new(alloc);
-    builder.extend(blocks.iter().copied())?;
+    add_as(&mut builder, blocks)?;
     builder.finalize()
 }
 
@@ -175,7 +194,7 @@ fn ip_set_of(alloc: Global, blocks: &[IpBlock]) -> Result<IpBlocks, AllocError>
     requires { All (λ b. IsBlock (λ n. n) (ip_range b)) blocks.now }
 {
     let mut builder = IpBlocksBuilder::new(alloc);
-    builder.extend(blocks.iter().copied())?;
+    add_ip(&mut builder, blocks)?;
     builder.finalize()
 }
 
@@ -223,6 +242,11 @@ fn claims(rt: HostRuntime) -> Result<(), Fail> {
         Err(Overclaimed)
     );
     assert!(rt; AsResources::explicit(none).is_present());
+    let copy = named.clone()?;
+    assert!(rt; copy.is_present() && copy.to_blocks(alloc)? == set);
+    let addresses = ip_set(alloc, &[(5, 6), (8, 9)])?;
+    let copy = IpResources::explicit(addresses.clone()?).clone()?;
+    assert!(rt; copy.is_present() && copy.to_blocks(alloc)? == addresses);
     Ok(())
 }
 
@@ -246,7 +270,47 @@ fn claim_builders(rt: HostRuntime) -> Result<(), Fail> {
     assert!(rt; builder.finalize()?.to_blocks(alloc)? == as_set(alloc, &[(9, 9)])?);
     let mut addresses = IpResourcesBuilder::new(alloc);
     addresses.blocks(|_blocks| Ok(()))?;
-    assert!(rt; addresses.finalize()?.is_missing());
+    assert!(rt; addresses.clone()?.finalize()?.is_missing());
+    let block = IpBlock::Range(Addr::from_bits(5), Addr::from_bits(6));
+    addresses.blocks(|blocks| blocks.push(block))?;
+    let eight = IpBlock::Prefix(Prefix::new(Addr::from_bits(8), 127));
+    addresses.blocks(|blocks| blocks.push(eight))?;
+    let set = addresses.finalize()?.to_blocks(alloc)?;
+    assert!(rt; set == ip_set(alloc, &[(8, 9), (5, 6)])?);
+    Ok(())
+}
+
+/// An IPv4 prefix, printed by its own function.
+#[derive(Clone, Copy)]
+struct PrefixV4(Prefix);
+
+impl fmt::Display for PrefixV4 {
+    ghost output = { λ p. Some (prefix_text Ipv4 p.0) };
+
+    fn fmt<W: fmt::Write>(&self, f: &mut fmt::Formatter<W>) -> fmt::Result {
+        self.0.fmt_v4(f)
+    }
+}
+
+/// The same of IPv6.
+#[derive(Clone, Copy)]
+struct PrefixV6(Prefix);
+
+impl fmt::Display for PrefixV6 {
+    ghost output = { λ p. Some (prefix_text Ipv6 p.0) };
+
+    fn fmt<W: fmt::Write>(&self, f: &mut fmt::Formatter<W>) -> fmt::Result {
+        self.0.fmt_v6(f)
+    }
+}
+
+#[test]
+fn prefixes_written(rt: HostRuntime) -> Result<(), Fail> {
+    let alloc = rt.alloc();
+    let prefix = PrefixV4(Prefix::new(v4(0xC000_0201), 24));
+    assert_eq!(rt; format!(in alloc; "{prefix}")?.as_str(), "192.0.2.0/24");
+    let prefix = PrefixV6(Prefix::new(v4(0x2001_0DB8), 32));
+    assert_eq!(rt; format!(in alloc; "{prefix}")?.as_str(), "2001:db8::/32");
     Ok(())
 }
 
@@ -308,6 +372,10 @@ fn address_sets(rt: HostRuntime) -> Result<(), Fail> {
     let five = IpBlock::Range(Addr::from_bits(5), Addr::from_bits(6));
     assert_eq!(rt; blocks.next(), Some(five));
     assert!(rt; all.contains(&ends) && ends.contains_block(five) && !ends.contains(&all));
+    // in any order, overlapping, and one of them twice
+    let set = ip_set(alloc, &[(7, 9), (1, 3), (2, 4), (7, 9), (20, u128::MAX)])?;
+    assert!(rt; set == ip_set(alloc, &[(1, 4), (7, 9), (20, u128::MAX)])?);
+    assert_eq!(rt; set.as_slice().len(), 3);
     Ok(())
 }
 
@@ -355,8 +423,20 @@ fn address_octets(rt: HostRuntime) -> Result<(), Fail> {
     let ten = ip_set(alloc, &[(10 << 120, (11 << 120) - 1)])?;
     let octets = ten.encode_ref(AddressFamily::Ipv4).to_bytes(alloc);
     assert!(rt; are_octets(octets, &[0x03, 0x02, 0x00, 0x0A])?);
+    // from 10.0.0.0 to 10.0.0.2
+    let range: [u8; 15] = [
+        0x30, 0x0D, 0x30, 0x0B, 0x03, 0x02, 0x01, 0x0A, 0x03, 0x05, 0x00, 0x0A, 0x00, 0x00, 0x02,
+    ];
+    // 11.0.0.0/8, 10.0.0.0/8 twice, and 10.0.0.0/9
+    let overlapping: [u8; 19] = [
+        0x30, 0x11, 0x03, 0x02, 0x00, 0x0B, 0x03, 0x02, 0x00, 0x0A, 0x03, 0x02, 0x00, 0x0A, 0x03,
+        0x03, 0x07, 0x0A, 0x00,
+    ];
     let prefix: [u8; 9] = [0x30, 0x07, 0x03, 0x05, 0x00, 0x20, 0x01, 0x0D, 0xB8];
     for mode in MODES {
+        assert!(rt; read_ip(alloc, mode, AddressFamily::Ipv4, &range)? == three);
+        let set = read_ip(alloc, mode, AddressFamily::Ipv4, &overlapping)?;
+        assert!(rt; set == ip_set(alloc, &[(10 << 120, (12 << 120) - 1)])?);
         let set = read_ip(alloc, mode, AddressFamily::Ipv6, &prefix)?;
         let Some(block) = set.iter().next() else {
             assert!(rt; false);
@@ -385,14 +465,56 @@ fn families(rt: HostRuntime) -> Result<(), Fail> {
     let alloc = rt.alloc();
     for family in [AddressFamily::Ipv4, AddressFamily::Ipv6] {
         match family.encode_ref().to_bytes(alloc) {
-            Ok(octets) => assert_eq!(rt; read_family(alloc, &octets)?, family),
+            Ok(octets) => {
+                for mode in MODES {
+                    assert_eq!(rt; read_family(alloc, mode, &octets)?, family);
+                }
+            }
             Err(EncodeError::Memory) => return Err(Fail::from(AllocError)),
             Err(_) => assert!(rt; false),
         }
     }
     assert_eq!(rt; AddressFamily::Ipv4.max_len(), 32);
     for octets in [[4, 2, 0, 3], [4, 2, 1, 1], [4, 1, 1, 0]] {
-        assert!(rt; is_refused(read_family(alloc, &octets))?);
+        for mode in MODES {
+            assert!(rt; is_refused(read_family(alloc, mode, &octets))?);
+        }
+    }
+    // in two pieces
+    let pieces: [u8; 10] = [0x24, 0x80, 0x04, 0x01, 0x00, 0x04, 0x01, 0x02, 0x00, 0x00];
+    assert_eq!(rt;
+        read_family(alloc, Mode::Ber, &pieces)?,
+        AddressFamily::Ipv6
+    );
+    assert!(rt; is_refused(read_family(alloc, Mode::Der, &pieces))?);
+    Ok(())
+}
+
+#[test]
+fn lengths(rt: HostRuntime) -> Result<(), Fail> {
+    let alloc = rt.alloc();
+    // of an indefinite length, and of a length in a longer form than it needs
+    let five = as_set(alloc, &[(5, 5)])?;
+    let rows: [&[u8]; 2] = [
+        &[0x30, 0x80, 0x02, 0x01, 0x05, 0x00, 0x00],
+        &[0x30, 0x81, 0x03, 0x02, 0x01, 0x05],
+    ];
+    for row in rows {
+        assert!(rt; read_as(alloc, Mode::Ber, row)? == five);
+        assert!(rt; is_refused(read_as(alloc, Mode::Der, row))?);
+    }
+    let ten = ip_set(alloc, &[(10 << 120, (12 << 120) - 1)])?;
+    let rows: [&[u8]; 3] = [
+        &[0x30, 0x80, 0x03, 0x02, 0x01, 0x0A, 0x00, 0x00],
+        &[0x30, 0x81, 0x05, 0x03, 0x81, 0x02, 0x01, 0x0A],
+        &[
+            0x30, 0x80, 0x30, 0x80, 0x03, 0x02, 0x00, 0x0A, 0x03, 0x02, 0x00, 0x0B, 0x00, 0x00,
+            0x00, 0x00,
+        ],
+    ];
+    for row in rows {
+        assert!(rt; read_ip(alloc, Mode::Ber, AddressFamily::Ipv4, row)? == ten);
+        assert!(rt; is_refused(read_ip(alloc, Mode::Der, AddressFamily::Ipv4, row))?);
     }
     Ok(())
 }
