@@ -152,8 +152,8 @@ pub type AsBlocksEncoder<'a> = Elements<'a, Block<Asn>>;
 
 impl Blocks<Asn> {
     /// The contents of a SEQUENCE OF of the set: the blocks in ascending order, joined where they
-    /// touch, and one number as an INTEGER (RFC 3779, section 3.2.3.4). A SEQUENCE of these contents
-    /// is a set in DER, and this one.
+    /// touch, and one number as an INTEGER (RFC 3779, section 3.2.3.4). A SEQUENCE of these
+    /// contents is a set in DER, and this one.
     pub fn encode_ref(&self) -> AsBlocksEncoder<'_>
         ensures blocks { result.0.now ≡ self.now }
         ensures written { length (flat_map as_octets self.now) < 2 ^ 32 →

@@ -5,11 +5,12 @@
 
 ghost use Rattle.std.specs.Prelude.{◌≡◌};
 ghost use Rattle.rpki_resources.specs.declared.asn.AsBlock.{AsBlock};
+ghost use Rattle.rpki_resources.specs.declared.ip.IpBlock.{IpBlock};
 
 use super::{MODES, add_as, add_ip, are_octets, read_as, read_family, read_ip};
 use crate::{
     Addr, AddressFamily, AsBlock, AsBlocks, AsBlocksBuilder, AsResources, AsResourcesBuilder, Asn,
-    Block, BlocksError, IpBlock, IpBlocks, IpBlocksBuilder, SmallAsnSet,
+    Block, BlocksError, IpBlock, IpBlocks, IpBlocksBuilder, IpResourcesBuilder, SmallAsnSet,
 };
 use rpki_der::{DecodeError, Encode, Mode};
 use std::alloc::{AllocError, Global};
@@ -189,14 +190,36 @@ fn claimed(alloc: Global) -> Result<bool, BlocksError> {
     }
 }
 
+fn address(bits: u128) -> IpBlock
+    ensures { result ≡ IpBlock.Range bits bits }
+{
+    IpBlock::Range(Addr::from_bits(bits), Addr::from_bits(bits))
+}
+
+/// The same of a claim of addresses.
+fn claimed_addresses(alloc: Global) -> Result<bool, BlocksError> {
+    let mut builder = IpResourcesBuilder::new(alloc);
+    let one = builder.blocks(|blocks| blocks.push(address(1))).is_ok();
+    let two = builder.blocks(|blocks| blocks.push(address(3))).is_ok();
+    match builder.finalize() {
+        Ok(claim) => {
+            let set = claim.to_blocks(alloc)?;
+            Ok(set.contains_block(address(1)) == one && set.contains_block(address(3)) == two)
+        }
+        Err(_) => Err(BlocksError::Memory),
+    }
+}
+
 #[test]
 fn claims(rt: HostRuntime) {
-    let is_right = match claimed(rt.alloc()) {
-        Ok(right) => right,
-        Err(BlocksError::Memory) => true,
-        Err(BlocksError::Inherit) => false,
-    };
-    assert!(rt; is_right);
+    for answer in [claimed(rt.alloc()), claimed_addresses(rt.alloc())] {
+        let is_right = match answer {
+            Ok(right) => right,
+            Err(BlocksError::Memory) => true,
+            Err(BlocksError::Inherit) => false,
+        };
+        assert!(rt; is_right);
+    }
 }
 
 #[test]
@@ -233,8 +256,16 @@ fn written(alloc: Global) -> Result<bool, AllocError> {
             0x02, 0x01, 0x01, 0x30, 0x06, 0x02, 0x01, 0x05, 0x02, 0x01, 0x06,
         ],
     )?;
+    let octets = addresses(alloc)?
+        .encode_ref(AddressFamily::Ipv6)
+        .to_bytes(alloc);
+    // a range of two ends of 128 bits
+    let mut want = [0u8; 40];
+    (want[0], want[1], want[20], want[39]) = (0x30, 0x26, 5, 8);
+    (want[2], want[3], want[21], want[22]) = (0x03, 0x11, 0x03, 0x11);
+    let ends = are_octets(octets, &want)?;
     let octets = AddressFamily::Ipv4.encode_ref().to_bytes(alloc);
-    Ok(numbers && are_octets(octets, &[0x04, 0x02, 0x00, 0x01])?)
+    Ok(numbers && ends && are_octets(octets, &[0x04, 0x02, 0x00, 0x01])?)
 }
 
 #[test]
