@@ -113,7 +113,7 @@ impl Blocks<Asn> {
         ensures reads { Reads (λ set. set) as_blocks_at cons.old result cons.new }
         ensures found { IfOk result (λ set. IsBytes cons.old.rest →
             Front (AsForm cons.old.mode) cons.old.rest set cons.new.rest) }
-        ensures only { cons.old.failed ≡ None → (set : List (Block ℕ)) (rest : List ℕ) →
+        ensures accepted { cons.old.failed ≡ None → (set : List (Block ℕ)) (rest : List ℕ) →
             Front (AsForm cons.old.mode) cons.old.rest set rest →
             OkOrMemory result (λ read. (read ≡ set) × (cons.new.rest ≡ rest)) }
     {

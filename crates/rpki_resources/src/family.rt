@@ -65,7 +65,7 @@ impl AddressFamily {
         ensures reads { Reads (λ family. family) family_at cons.old result cons.new }
         ensures found { IfOk result (λ family. IsBytes cons.old.rest →
             Front (FamilyForm cons.old.mode) cons.old.rest family cons.new.rest) }
-        ensures only { cons.old.failed ≡ None → (family : AddressFamily) (rest : List ℕ) →
+        ensures accepted { cons.old.failed ≡ None → (family : AddressFamily) (rest : List ℕ) →
             Front (FamilyForm cons.old.mode) cons.old.rest family rest →
             OkOrMemory result (λ read. (read ≡ family) × (cons.new.rest ≡ rest)) }
     {

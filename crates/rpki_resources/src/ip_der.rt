@@ -235,7 +235,7 @@ impl Blocks<Addr> {
             cons.old result cons.new }
         ensures found { IfOk result (λ set. IsBytes cons.old.rest →
             Front (IpForm family cons.old.mode) cons.old.rest set cons.new.rest) }
-        ensures only { cons.old.failed ≡ None → (set : List (Block ℕ)) (rest : List ℕ) →
+        ensures accepted { cons.old.failed ≡ None → (set : List (Block ℕ)) (rest : List ℕ) →
             Front (IpForm family cons.old.mode) cons.old.rest set rest →
             OkOrMemory result (λ read. (read ≡ set) × (cons.new.rest ≡ rest)) }
     {
