@@ -5,6 +5,7 @@ use crate::encode::{
 };
 use crate::{AsOctets, Captured, Counted, Mode, Oid, Sink, SinkFailed, Source, SourceError, Tag};
 use bytes::Bytes;
+use std::alloc::Global;
 use std::io;
 use std::io::ErrorKind;
 use std::process::Abort;
@@ -356,6 +357,12 @@ fn failing_sinks(rt: HostRuntime) -> Result<(), Fail> {
     Ok(())
 }
 
+/// All octets of a source of any kind.
+fn read_on<S: Source + Drop>(alloc: Global, source: S) -> Result<Vec<u8>, SourceError> {
+    let mut source = source;
+    source.read_all(alloc)
+}
+
 #[test]
 fn sources(rt: HostRuntime) -> Result<(), Fail> {
     let octets = [3u8, 1, 4, 1, 5];
@@ -364,7 +371,7 @@ fn sources(rt: HostRuntime) -> Result<(), Fail> {
     let large = vec![in rt.alloc(); 6u8; 2000]?;
     let mut many = Counted::new(large.as_slice());
     assert_eq!(rt;
-        (&mut many).read_all(rt.alloc())?.as_slice(),
+        read_on(rt.alloc(), &mut many)?.as_slice(),
         large.as_slice()
     );
     let mut drip = Counted::new(Drip::new(Vec::from_slice(rt.alloc(), &octets)?, 0));
