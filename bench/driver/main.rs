@@ -10,6 +10,7 @@ mod beside_bcder;
 mod plain;
 
 use std::hint::black_box;
+use std::sync::Arc;
 use std::time::Instant;
 
 const COUNTS: [u32; 3] = [10, 1_000, 10_000];
@@ -43,6 +44,11 @@ fn plain_decode(octets: &[u8], rounds: u32) -> u64 {
 
 fn plain_walk(octets: &[u8], rounds: u32) -> u64 {
     (0..rounds).map(|_| plain::walk(black_box(octets)).expect("a content")).sum()
+}
+
+fn plain_keep(octets: &[u8], rounds: u32) -> u64 {
+    let source = Arc::from(octets);
+    (0..rounds).map(|_| plain::keep(black_box(Arc::clone(&source))).expect("a content")).sum()
 }
 
 fn plain_write(octets: &[u8], rounds: u32) -> u64 {
@@ -79,6 +85,7 @@ fn subjects() -> Vec<Subject> {
         #[cfg(bcder)]
         subject("bcder-decode", "plain-decode", beside_bcder::decode),
         subject("plain-walk", "plain-walk", plain_walk),
+        subject("plain-keep", "plain-walk", plain_keep),
         subject("proved-walk", "plain-walk", proved_walk),
         #[cfg(bcder)]
         subject("bcder-walk", "plain-walk", beside_bcder::walk),

@@ -1,5 +1,7 @@
 //! The same work in plain Rust, written by hand for this one format.
 
+use std::sync::Arc;
+
 /// The contents of the value in front, which has this tag and a definite length in its shortest form, and what follows.
 #[inline]
 fn value(tag: u8, octets: &[u8]) -> Option<(&[u8], &[u8])> {
@@ -100,6 +102,14 @@ pub fn walk(octets: &[u8]) -> Option<u64> {
     let mut sum = 0;
     read(octets, |provider| sum += provider as u64)?;
     Some(sum)
+}
+
+/// Reads a content into memory from a source that is shared, gives its part of the source up, and answers the sum of
+/// the providers' numbers.
+#[inline(never)]
+pub fn keep(source: Arc<[u8]>) -> Option<u64> {
+    let content = decode(&source)?;
+    Some(content.providers.iter().map(|provider| u64::from(*provider)).sum())
 }
 
 /// How many octets the contents of an INTEGER of this number have.

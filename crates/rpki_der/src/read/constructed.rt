@@ -170,16 +170,13 @@ impl<'a> Constructed<'a> {
     fn unfinished(&mut self) -> Option<DecodeError>
         ensures { result ≡ unfinished self.old.failed self.old.rest }
     {
-        let failed = self.failed.take();
-        match failed {
-            Some(error) => Some(error),
-            None => {
-                if self.rest.as_slice().is_empty() {
-                    None
-                } else {
-                    Some(DecodeError::Malformed)
-                }
-            }
+        // (an error is a large value, and not moved where there is none)
+        if self.failed.is_some() {
+            self.failed.take()
+        } else if self.rest.as_slice().is_empty() {
+            None
+        } else {
+            Some(DecodeError::Malformed)
         }
     }
 
@@ -205,7 +202,11 @@ impl<'a> Constructed<'a> {
         ensures result { result ≡ self.old.failed }
         ensures new { self.new ≡ record self.old { failed = None } }
     {
-        self.failed.take()
+        if self.failed.is_some() {
+            self.failed.take()
+        } else {
+            None
+        }
     }
 
     /// Reads what stands at the front.

@@ -44,6 +44,7 @@ impl<'a> Constructed<'a> {
     }
 
     /// Reads an INTEGER that is this number.
+    #[inline(always)]
     pub fn skip_u8_if(&mut self, expected: u8) -> Result<(), DecodeError>
         ensures reads { Reads (λ x. x) (primitive 2 (this expected)) self.old result self.new }
         ensures stays { Stays result self.new }

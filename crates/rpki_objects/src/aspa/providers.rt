@@ -1,6 +1,6 @@
 //! The providers of a customer.
 
-ghost use Rattle.std.specs.Prelude.{◌≡◌, ◌↔◌, ◌<◌, ◌^◌, ◌++◌, [], ◌∷◌, ℕ, length, IsTrue, IfOk, IfNone, IfSome, OnSome};
+ghost use Rattle.std.specs.Prelude.{◌≡◌, ◌↔◌, ◌<◌, ◌^◌, ◌++◌, [], ◌∷◌, ℕ, length, IsTrue, IfOk, IfNone, IfSome, OnOk, OnSome};
 ghost use Rattle.rpki_der.specs.Read.Parse.{in_value};
 ghost use Rattle.rpki_der.specs.Read.Reads.{Reads};
 ghost use Rattle.rpki_objects.specs.Aspa.{IsProviderSet};
@@ -8,11 +8,14 @@ ghost use Rattle.rpki_objects.specs.AspaRead.{MayBegin, AreProviders, providers_
 
 use rpki_der::{Constructed, ContentFault, DecodeError, Reason};
 use rpki_resources::Asn;
-use std::alloc::Global;
+use std::alloc::{AllocError, Global};
 use std::marker::Model;
 
 /// How many providers a customer has at most (draft-ietf-sidrops-aspa-profile-15, section 3.3).
 const MAX_PROVIDERS: usize = 10_000;
+
+/// For how many providers memory is asked for with the first one: most customers have fewer.
+const FIRST_ROOM: usize = 16;
 
 /// The providers of a customer, in ascending order: at least one, and AS0 only alone.
 #[derive(Debug, Drop)]
@@ -139,6 +142,18 @@ fn refusal_of(customer: u32, before: &[Asn], next: u32) -> Option<Reason>
     }
 }
 
+/// Puts a number behind the others. With the first one memory for several is asked for.
+#[inline(always)]
+fn keep(kept: &mut Vec<Asn>, next: u32) -> Result<(), AllocError>
+    ensures { OnOk result (kept.new.items ≡ kept.old.items ++ next ∷ []) }
+{
+    if kept.is_empty() {
+        kept.reserve(FIRST_ROOM)?;
+    }
+    kept.push(Asn::from_u32(next))?;
+    Ok(())
+}
+
 /// Reads the providers of a customer, a SEQUENCE.
 pub fn take_providers(
     cons: &mut Constructed<'_>,
@@ -165,7 +180,7 @@ fn take_each(
         if let Some(reason) = refusal_of(customer, &numbers, next) {
             return Err(DecodeError::Content(ContentFault::Text(reason)));
         }
-        numbers.push(Asn::from_u32(next))?;
+        keep(&mut numbers, next)?;
     }
     if numbers.is_empty() {
         return Err(DecodeError::Content(ContentFault::Text(Reason::NoProviders)));

@@ -21,7 +21,8 @@ struct Run<'a> {
     status: u8,
 }
 
-// That the stream of the answer, which takes one octet in a call, makes the run end with status 2 at whichever call it fails. It has then taken what came before, and is not called again; the other stream is not called at all.
+// That the stream of the answer, which takes one octet in a call, makes the run end with status 2 at whichever call it
+// fails. It has then taken what came before, and is not called again; the other stream is not called at all.
 fn fails<S: Store>(rt: &impl Abort, alloc: Global, store: &S, run: &Run<'_>, fault: Fault) {
     for n in 0..=run.text.len() {
         let mut out = Counted::new(Failing::new(alloc, 1, fault, n));

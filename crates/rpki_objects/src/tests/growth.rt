@@ -7,6 +7,7 @@ use super::runs::LINES;
 use super::stores::{Arguments, make_store};
 use crate::program::command;
 use crate::start::run;
+use crate::store::{Disk, Store, StoreError};
 use rpki_der::Counted;
 use std::process::Abort;
 use std::test::Fail;
@@ -60,5 +61,14 @@ fn a_run_from_its_arguments(rt: HostRuntime) -> Result<(), Fail> {
     let mut err = Counted::new(Vec::with_capacity(alloc, 256)?);
     let status = run(&environment, &store, &mut out, &mut err);
     is_right_or_memory(&rt, status, &out.inner, &err.inner);
+    Ok(())
+}
+
+#[test]
+fn a_file_of_the_system(rt: HostRuntime) -> Result<(), Fail> {
+    match Disk::new(&rt).read(rt.alloc(), "/dev/null") {
+        Ok(octets) => assert_eq!(rt; octets.len(), 0),
+        Err(error) => assert_eq!(rt; error, StoreError::Memory),
+    }
     Ok(())
 }

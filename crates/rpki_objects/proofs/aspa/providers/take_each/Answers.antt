@@ -27,9 +27,9 @@ returns-in-Some-refusal_of-clause-reads c =
 
 pub loop-numbers-preserved : goal.loop-numbers-preserved
 loop-numbers-preserved c = record {
-  read = rw (c.in_ok-push.ensures.items, c.from_u32.ensures) (so_far-more (optional 2 u32_at) (Shortens-optional 2 (unsigned_of 4)) (λ n. n) _ _ _ _ _ _ c.loop-numbers.invariant.read c.in_ok-next.ensures.reads c.in-Some.is);
-  begins = rw (c.in_ok-push.ensures.items, c.from_u32.ensures) (rw c.deref.ensures.value at c.in_default-refusal_of.ensures.may);
-  numbers = rw (c.in_ok-push.ensures.items, c.from_u32.ensures) (All-push IsAsn _ c.in-Some.next c.loop-numbers.invariant.numbers (omega arith));
+  read = rw c.in_ok-keep.ensures (so_far-more (optional 2 u32_at) (Shortens-optional 2 (unsigned_of 4)) (λ n. n) _ _ _ _ _ _ c.loop-numbers.invariant.read c.in_ok-next.ensures.reads c.in-Some.is);
+  begins = rw c.in_ok-keep.ensures (rw c.deref.ensures.value at c.in_default-refusal_of.ensures.may);
+  numbers = rw c.in_ok-keep.ensures (All-push IsAsn _ c.in-Some.next c.loop-numbers.invariant.numbers (omega arith));
 }
 
 pub returns-then-is_empty-clause-reads : goal.returns-then-is_empty-clause-reads
