@@ -28,7 +28,6 @@ unsafe extern "C" {
     fn bench_write(octets: *const u8, len: usize, rounds: u32) -> u64;
     fn bench_read_der(octets: *const u8, len: usize, rounds: u32) -> u64;
     fn bench_read_ber(octets: *const u8, len: usize, rounds: u32) -> u64;
-    fn bench_read_alone(octets: *const u8, len: usize, rounds: u32) -> u64;
 }
 
 /// What is measured: a name, and a call that does it so many times on the octets of a content. Its answer is the
@@ -77,11 +76,7 @@ fn relaxed_read(octets: &[u8], rounds: u32) -> u64 {
     unsafe { bench_read_ber(octets.as_ptr(), octets.len(), rounds) }
 }
 
-fn alone_read(octets: &[u8], rounds: u32) -> u64 {
-    unsafe { bench_read_alone(octets.as_ptr(), octets.len(), rounds) }
-}
-
-/// Each subject, and the one that it is set beside.
+/// Each subject, and the plain one that it is set beside.
 fn subjects() -> Vec<Subject> {
     let subject = |name, beside, run| Subject { name, beside, run };
     vec![
@@ -96,7 +91,6 @@ fn subjects() -> Vec<Subject> {
         subject("bcder-walk", "plain-walk", beside_bcder::walk),
         subject("strict-read", "plain-walk", strict_read),
         subject("relaxed-read", "strict-read", relaxed_read),
-        subject("alone-read", "strict-read", alone_read),
         subject("plain-write", "plain-write", plain_write),
         subject("proved-write", "plain-write", proved_write),
     ]
