@@ -16,6 +16,9 @@ use std::marker::Model;
 
 /// A reader of the values of a constructed value, one after the other (X.690, section 8.1).
 ///
+/// A call refuses by `Malformed` where the octets that are left don't begin with what it asks for. One that takes memory
+/// may also answer `Memory`, and one that runs a closure what the closure answers.
+///
 /// Once a call has answered an error, each further call answers it again, and so does the call whose closure was
 /// handed the reader. Where no memory for a copy of the error is to be had, it is want of memory from then on.
 #[derive(Drop)]
@@ -227,7 +230,8 @@ impl<'a> Constructed<'a> {
         }
     }
 
-    /// Reads what stands at the front of the source, by the rules of the mode. What op leaves stands behind it.
+    /// Reads what stands at the front of the source, by the rules of the mode (X.690, section 8, and 10 for DER). What op
+    /// leaves stands behind it. Refuses by the error of op, or by that which op's reader has answered.
     pub fn decode<T: Drop, F: FnOnce(&mut Constructed<'_>) -> Result<T, DecodeError>>(
         source: Bytes,
         mode: Mode,
@@ -244,7 +248,8 @@ impl<'a> Constructed<'a> {
         outer.run_front(op)
     }
 
-    /// Opens the value in front, which has this tag. op reads its contents, all of them.
+    /// Opens the value in front, which has this tag (X.690, sections 8.1 and 8.14). op reads its contents, all of them.
+    /// Refuses by `Malformed` where another value stands there or op leaves a part of the contents, and else by op's error.
     pub fn take_constructed_if<T: Drop, F: FnOnce(&mut Constructed<'_>) -> Result<T, DecodeError>>(
         &mut self,
         tag: Tag,
@@ -265,7 +270,7 @@ impl<'a> Constructed<'a> {
         }
     }
 
-    /// Opens the value in front if it has this tag. op reads its contents, all of them.
+    /// Opens the value in front if it has this tag (X.690, sections 8.1 and 8.14), as `take_constructed_if` does.
     pub fn take_opt_constructed_if<
         T: Drop,
         F: FnOnce(&mut Constructed<'_>) -> Result<T, DecodeError>,
@@ -284,7 +289,7 @@ impl<'a> Constructed<'a> {
         }
     }
 
-    /// Opens the SEQUENCE in front (X.690, section 8.9). op reads its contents, all of them.
+    /// Opens the SEQUENCE in front (X.690, sections 8.9 and 8.10), as `take_constructed_if` does.
     pub fn take_sequence<T: Drop, F: FnOnce(&mut Constructed<'_>) -> Result<T, DecodeError>>(
         &mut self,
         op: F,
@@ -295,7 +300,8 @@ impl<'a> Constructed<'a> {
         self.take_constructed_if(Tag::SEQUENCE, op)
     }
 
-    /// Opens the SET in front (X.690, section 8.11). op reads its contents, all of them, in the order in which they stand.
+    /// Opens the SET in front (X.690, sections 8.11 and 8.12), as `take_constructed_if` does. op reads its members in the
+    /// order in which they stand.
     pub fn take_set<T: Drop, F: FnOnce(&mut Constructed<'_>) -> Result<T, DecodeError>>(
         &mut self,
         op: F,
@@ -306,7 +312,7 @@ impl<'a> Constructed<'a> {
         self.take_constructed_if(Tag::SET, op)
     }
 
-    /// Opens the value in front if it is a SEQUENCE. op reads its contents, all of them.
+    /// Opens the value in front if it is a SEQUENCE (X.690, sections 8.9 and 8.10), as `take_constructed_if` does.
     pub fn take_opt_sequence<T: Drop, F: FnOnce(&mut Constructed<'_>) -> Result<T, DecodeError>>(
         &mut self,
         op: F,
@@ -317,7 +323,8 @@ impl<'a> Constructed<'a> {
         self.take_opt_constructed_if(Tag::SEQUENCE, op)
     }
 
-    /// Keeps the octets of the source that op reads, as they stand there, and the mode.
+    /// Keeps the octets of the source that op reads, as they stand there, and the mode. Refuses by the error of op, or by
+    /// `Memory`.
     pub fn capture<F: FnOnce(&mut Constructed<'_>) -> Result<(), DecodeError>>(
         &mut self,
         op: F,
