@@ -17,7 +17,7 @@ const WALKED: u32 = 20_000_000;
 const BUILT: u32 = 1_000_000;
 
 /// How many measurements there are of each subject, of which the fastest counts.
-const TRIES: u32 = 15;
+const TRIES: u32 = 30;
 
 // The exports of the static library of proved code: the first numbers of blocks, the last ones, and how often.
 unsafe extern "C" {
@@ -26,6 +26,32 @@ unsafe extern "C" {
     fn bench_union(mins: *const u32, n: usize, maxs: *const u32, m: usize, rounds: u32) -> u64;
     fn bench_meet(mins: *const u32, n: usize, maxs: *const u32, m: usize, rounds: u32) -> u64;
     fn bench_contains(mins: *const u32, n: usize, maxs: *const u32, m: usize, rounds: u32) -> u64;
+}
+
+// Of the C library: how its allocator, which all subjects ask for memory, deals with the system.
+unsafe extern "C" {
+    fn mallopt(parameter: i32, value: i32) -> i32;
+    fn madvise(start: *mut u8, len: usize, advice: i32) -> i32;
+}
+
+const M_TRIM_THRESHOLD: i32 = -1;
+const M_MMAP_MAX: i32 = -4;
+const MADV_HUGEPAGE: i32 = 14;
+
+/// More memory than a subject takes, and the size of a large page.
+const ROOM: usize = 1 << 28;
+const PAGE: usize = 1 << 21;
+
+/// Asks the system for memory once, in large pages where it has them, and has the allocator keep what is given back to
+/// it, so that no work of the system is measured. Else a vector of 32 MB or more is made of new pages each time, which
+/// the system fills with zeros, and a smaller one is not.
+fn keep_memory() {
+    let kept = unsafe { mallopt(M_MMAP_MAX, 0) == 1 && mallopt(M_TRIM_THRESHOLD, i32::MAX) == 1 };
+    assert!(kept, "the allocator does not keep memory");
+    let mut room: Vec<u8> = Vec::with_capacity(ROOM);
+    let start = room.as_mut_ptr();
+    let skipped = start.align_offset(PAGE);
+    let _is_large = unsafe { madvise(start.add(skipped), ROOM - PAGE, MADV_HUGEPAGE) };
 }
 
 /// The first and the last numbers of blocks in no order.
@@ -157,11 +183,14 @@ fn measured(subjects: &[Subject], sample: &Sample, count: u32) -> Vec<f64> {
             best.1 = best.1.min(took(subject, rounds(subject)));
         }
     }
-    let each = |(subject, best): (&Subject, &(f64, f64))| (best.1 - best.0) / f64::from(rounds(subject)) / f64::from(count);
+    let each = |(subject, best): (&Subject, &(f64, f64))| {
+        (best.1 - best.0) / f64::from(rounds(subject)) / f64::from(count)
+    };
     subjects.iter().zip(&best).map(each).collect()
 }
 
 fn main() {
+    keep_memory();
     let words: Vec<String> = std::env::args().skip(1).collect();
     let subjects = subjects();
     match words.iter().map(String::as_str).collect::<Vec<_>>()[..] {

@@ -10,7 +10,8 @@ abbrev pub claim_of : {T : Type 0} → List (Block T) → Claim (List (Block T))
 claim_of [] = Missing
 claim_of (b ∷ bs) = Explicit (b ∷ bs)
 
--- The claim stands for this set: one that is missing for the empty set (RFC 3779), one that is inherited for none that is known here.
+-- The claim stands for this set: one that is missing for the empty set (RFC 3779), one that is inherited for none
+-- that is known here.
 abbrev pub HasBlocks : {T : Type 0} → Claim (List (Block T)) → List (Block T) → Type 0
 HasBlocks Missing set = set ≡ []
 HasBlocks Inherit set = ⊥
@@ -32,4 +33,5 @@ added (Explicit blocks) = blocks
 abbrev pub IsBuilt : {T : Type 0} → (T → ℕ) → Claim (List (Block T)) → Claim (List (Block T)) → Type 0
 IsBuilt f Missing claim = claim ≡ Missing
 IsBuilt f Inherit claim = claim ≡ Inherit
-IsBuilt {T} f (Explicit blocks) claim = (set : List (Block T)) × IsCanonical f set × SameSet f set blocks × (claim ≡ claim_of set)
+IsBuilt {T} f (Explicit blocks) claim =
+    (set : List (Block T)) × IsCanonical f set × SameSet f set blocks × (claim ≡ claim_of set)

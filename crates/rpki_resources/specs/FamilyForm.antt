@@ -11,7 +11,8 @@ abbrev pub afi : AddressFamily → List ℕ
 afi Ipv4 = 0 ∷ 1 ∷ []
 afi Ipv6 = 0 ∷ 2 ∷ []
 
--- An OCTET STRING of it. RFC 3779 allows a third octet, the subsequent address family identifier; that there is none is this project's own.
+-- An OCTET STRING of it. RFC 3779 allows a third octet, the subsequent address family identifier; that there is none
+-- is this project's own.
 abbrev pub FamilyForm : Mode → List ℕ → AddressFamily → Type 0
 FamilyForm mode octets family = OctetString mode 32 octets (afi family)
 

@@ -28,7 +28,8 @@ highest bits = lowest bits + 2 ^ (128 - bit_count bits) - 1
 abbrev pub IpAddress : Mode → ℕ → List ℕ → List ℕ × ℕ → Type 0
 IpAddress mode most octets bits = BitString mode octets bits × (bit_count bits ≤ most)
 
--- IPAddressRange: a SEQUENCE of the lower end and the upper end (2.2.3.9), where the lower one is not above the upper one
+-- IPAddressRange: a SEQUENCE of the lower end and the upper end (2.2.3.9), where the lower one is not above the upper
+-- one
 abbrev pub IpRange : Mode → ℕ → List ℕ → Block ℕ → Type 0
 IpRange mode most octets b = Within mode 0x30 (λ c.
     (lower : List ℕ × ℕ) × (upper : List ℕ × ℕ) × (first : List ℕ) × (second : List ℕ) × (c ≡ first ++ second)
@@ -37,12 +38,15 @@ IpRange mode most octets b = Within mode 0x30 (λ c.
 
 -- addressPrefix: the addresses that begin with the bits (2.2.3.8)
 abbrev pub IpPrefix : Mode → ℕ → List ℕ → Block ℕ → Type 0
-IpPrefix mode most octets b = (bits : List ℕ × ℕ) × IpAddress mode most octets bits × (b ≡ record { min = lowest bits; max = highest bits })
+IpPrefix mode most octets b = (bits : List ℕ × ℕ) × IpAddress mode most octets bits
+    × (b ≡ record { min = lowest bits; max = highest bits })
 
 -- IPAddressOrRange (2.2.3.7)
 abbrev pub IpPrefixOrRange : Mode → ℕ → List ℕ → Block ℕ → Type 0
 IpPrefixOrRange mode most octets b = IpRange mode most octets b ⊎ IpPrefix mode most octets b
 
--- addressesOrRanges: a SEQUENCE of them (2.2.3.6). In RFC 3779 they ascend, and no two of them overlap or touch. Here they may stand in any order, overlap, and be none, which is this project's own.
+-- addressesOrRanges: a SEQUENCE of them (2.2.3.6). In RFC 3779 they ascend, and no two of them overlap or touch. Here
+-- they may stand in any order, overlap, and be none, which is this project's own.
 abbrev pub IpForm : AddressFamily → Mode → List ℕ → List (Block ℕ) → Type 0
-IpForm family mode octets set = Within mode 0x30 (λ c. (list : List (Block ℕ)) × Items (IpPrefixOrRange mode (max_bits family)) c list × IsSetOf list set) octets
+IpForm family mode octets set = Within mode 0x30 (λ c.
+    (list : List (Block ℕ)) × Items (IpPrefixOrRange mode (max_bits family)) c list × IsSetOf list set) octets

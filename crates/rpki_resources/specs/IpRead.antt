@@ -25,7 +25,8 @@ ip_ends_at most mode bytes = do
 
 -- the prefix with these contents
 unfoldable pub prefix_of : ℕ → List ℕ → Option (Block ℕ)
-prefix_of most contents = bits_of contents >>= λ bits. if nat_le (bit_count bits) most then Some (spanned bits bits) else None
+prefix_of most contents =
+    bits_of contents >>= λ bits. if nat_le (bit_count bits) most then Some (spanned bits bits) else None
 
 abbrev pub prefix_in : ℕ → Option (List ℕ) → List ℕ → Option (Option (Block ℕ) × List ℕ)
 prefix_in most None rest = Some (None, rest)
