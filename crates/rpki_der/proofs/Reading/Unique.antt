@@ -80,13 +80,13 @@ pub behind : {X : Type 0} (p : Parser X) (G : Mode → List ℕ → X → Type 0
     → (mode : Mode) (octets contents more : List ℕ) (tag : ℕ) → IsBytes octets → IsBytes more → Value mode octets tag contents → p mode octets ≡ None → p mode (octets ++ more) ≡ None
 behind {X} p G exact one mode octets contents more tag bytes others value none =
     none-of (p mode (octets ++ more)) (λ found e.
-        let f = (exact mode).sound (octets ++ more) found.0 found.1 (bytes-both octets more bytes others) e in
-        let v = one mode f.0 found.0 f.2 in
-        let same = unique (any_at mode) (λ o (w : ℕ × List ℕ). Value mode o w.0 w.1) (exact-any mode) f.0 octets (v.0, v.1) (tag, contents) found.1 more v.2 value (sym f.1) in
-        let alone : p mode (f.0 ++ []) ≡ Some (found.0, []) = (exact mode).complete f.0 found.0 [] tt f.2 in
-        let here : p mode octets ≡ Some (found.0, []) = subst (λ (o : List ℕ). p mode o ≡ Some (found.0, [])) (append-nil f.0 ∙ same.0) alone in
-        let no : (let n : Option (X × List ℕ) = None in n) ≡ Some (found.0, []) = sym none ∙ here in
-        cc)
+    let f = (exact mode).sound (octets ++ more) found.0 found.1 (bytes-both octets more bytes others) e in
+    let v = one mode f.0 found.0 f.2 in
+    let same = unique (any_at mode) (λ o (w : ℕ × List ℕ). Value mode o w.0 w.1) (exact-any mode) f.0 octets (v.0, v.1) (tag, contents) found.1 more v.2 value (sym f.1) in
+    let alone : p mode (f.0 ++ []) ≡ Some (found.0, []) = (exact mode).complete f.0 found.0 [] tt f.2 in
+    let here : p mode octets ≡ Some (found.0, []) = subst (λ (o : List ℕ). p mode o ≡ Some (found.0, [])) (append-nil f.0 ∙ same.0) alone in
+    let no : (let n : Option (X × List ℕ) = None in n) ≡ Some (found.0, []) = sym none ∙ here in
+    cc)
 
 -- what is read exactly, is in BER where it is in DER, and is one value
 pub reading : {X : Type 0} (p : Parser X) (G : Mode → List ℕ → X → Type 0) → ((mode : Mode) → IsExact anything (p mode) (G mode)) → ((o : List ℕ) (x : X) → G Der o x → G Ber o x) → IsOneValue G → IsReading p G
