@@ -1,4 +1,4 @@
--- Values of X.690, and what stands at the front of octets.
+-- Values of X.690, and what stands at the front of octets. The sections named are those of X.690.
 use Rattle.std.specs.Prelude.{◌≡◌, ◌≢◌, ◌↔◌, ℕ, ◌+◌, ◌≤◌, ◌<◌, Bool, true, false, ◌⊎◌, List, [], ◌∷◌, ◌++◌, length, All, Option, None, Some, zero, suc}
 use Rattle.rpki_der.specs.declared.mode.Mode.{Mode}
 use Rattle.rpki_der.specs.declared.mode.Mode.TheVariants.{Der, Ber}
@@ -7,37 +7,37 @@ use Rattle.rpki_der.specs.Oid.{IsOid}
 use Rattle.rpki_der.specs.Bits.{IsBits}
 use Rattle.rpki_der.specs.Read.Parse.{Parser, number, least, joined, optional, is_next}
 
--- where low is the least length that a form is for, DER takes it from there on
+-- where low is the least length that a form is for, DER takes it from there on (10.1)
 abbrev pub IsShortest : Mode → ℕ → ℕ → Type 0
 IsShortest Der low n = low ≤ n
 IsShortest Ber low n = Unit {0}
 
--- one octet below 128
+-- the short form of a length: one octet below 128 (8.1.3.4)
 abbrev pub IsShort : List ℕ → ℕ → Type 0
 IsShort octets n = (octets ≡ n ∷ []) × (n < 128)
 
--- the number of further octets, from 1 to 4, and 128, and then these octets
+-- the long form of a length: the number of further octets and 128, and then these octets (8.1.3.5). Forms of more than 4 further octets are refused, which is this project's own rule.
 abbrev pub IsLong : Mode → List ℕ → ℕ → Type 0
 IsLong mode octets n =
     (digits : List ℕ) × (octets ≡ (128 + length digits) ∷ digits) × (1 ≤ length digits) × (length digits ≤ 4)
     × (n ≡ number 0 digits) × IsShortest mode (least (length digits)) n
 
--- the octets are this length
+-- the octets are this length, in a definite form (8.1.3.3); in DER in the shortest one (10.1)
 abbrev pub IsLength : Mode → List ℕ → ℕ → Type 0
 IsLength mode octets n = IsShort octets n ⊎ IsLong mode octets n
 
 mutual
-  -- the octets are one value with this tag and these contents
+  -- the octets are one value with this tag and these contents (8.1.1): identifier, length and contents, or in BER identifier, 80, values and the end 00 00 (8.1.3.6, 8.1.5)
   pub data Value : Mode → List ℕ → ℕ → List ℕ → Type 0 where
     definite : (mode : Mode) (octets : List ℕ) (tag : ℕ) (len contents : List ℕ) → IsTag tag → IsLength mode len (length contents) → octets ≡ tag ∷ (len ++ contents) → Value mode octets tag contents
     indefinite : (mode : Mode) (octets : List ℕ) (tag : ℕ) (contents : List ℕ) → mode ≡ Ber → IsTag tag → is_constructed tag ≡ true → Values mode contents → octets ≡ tag ∷ 128 ∷ (contents ++ 0 ∷ 0 ∷ []) → Value mode octets tag contents
 
-  -- the octets are values, one after the other
+  -- the octets are values, one after the other, as between 80 and the end (8.1.5) of a value of indefinite length
   pub data Values : Mode → List ℕ → Type 0 where
     none : (mode : Mode) (octets : List ℕ) → octets ≡ [] → Values mode octets
     more : (mode : Mode) (octets first others : List ℕ) (tag : ℕ) (contents : List ℕ) → octets ≡ first ++ others → Value mode first tag contents → Values mode others → Values mode octets
 
--- one value with this tag, whose contents are in G
+-- one value with this tag, whose contents are in G (8.9 to 8.12, 8.14)
 abbrev pub Within : Mode → ℕ → (List ℕ → Type 0) → List ℕ → Type 0
 Within mode tag G octets = (contents : List ℕ) × Value mode octets tag contents × G contents
 
@@ -50,17 +50,17 @@ abbrev pub IsBytes : List ℕ → Type 0
 IsBytes [] = Unit {0}
 IsBytes (b ∷ bytes) = (b < 256) × IsBytes bytes
 
--- the contents of an INTEGER in its shortest form, which is not negative
+-- the contents of an INTEGER in its shortest form (8.3.2), which is not negative (8.3.3)
 abbrev pub IsInteger : List ℕ → ℕ → Type 0
 IsInteger [] n = ⊥
 IsInteger (a ∷ []) n = (a < 128) × (n ≡ a)
 IsInteger (a ∷ b ∷ rest) n = (a < 128) × (a ≡ 0 → 128 ≤ b) × (n ≡ number 0 (a ∷ b ∷ rest))
 
--- the octets are an INTEGER with this value
+-- the octets are an INTEGER with this value (8.3)
 abbrev pub Integer : Mode → List ℕ → ℕ → Type 0
 Integer mode octets n = Within mode 2 (λ c. IsInteger c n) octets
 
--- the octets are these, one after the other
+-- the octets are these, one after the other (8.10, 8.12)
 abbrev pub Items : {X : Type 0} → (List ℕ → X → Type 0) → List ℕ → List X → Type 0
 Items G octets [] = octets ≡ []
 Items G octets (x ∷ xs) = (first : List ℕ) × (others : List ℕ) × (octets ≡ first ++ others) × G first x × Items G others xs
@@ -82,12 +82,12 @@ IsUnique {X} G = (a b : List ℕ) (x y : X) (r s : List ℕ) → G a x → G b y
 abbrev pub ListOf : (List ℕ → Type 0) → List ℕ → Type 0
 ListOf G octets = (each : List (Unit {0})) × Items (λ o _. G o) octets each
 
--- the octets are a value whose contents are skipped: any contents of a primitive value, and values of which this holds, nested at most so deep, in a constructed one
+-- the octets are a value whose contents are skipped: any contents of a primitive value (8.1.4), and values of which this holds, nested at most so deep, in a constructed one (8.1.1, 8.1.4). That there is a limit is this project's own rule.
 unfoldable pub Skipped : Mode → ℕ → List ℕ → Type 0
 Skipped mode zero octets = ⊥
 Skipped mode (suc depth) octets = (tag : ℕ) × (contents : List ℕ) × Value mode octets tag contents × (is_constructed tag ≡ true → ListOf (Skipped mode depth) contents)
 
--- the octets are an OCTET STRING of these octets: one primitive value or, in BER, OCTET STRINGs in a constructed one, nested at most so deep
+-- the octets are an OCTET STRING of these octets (8.7): one primitive value or, in BER, OCTET STRINGs in a constructed one (8.7.3; not in DER, 10.2), nested at most so deep. That there is a limit is this project's own rule.
 unfoldable pub OctetString : Mode → ℕ → List ℕ → List ℕ → Type 0
 OctetString mode zero octets string = ⊥
 OctetString mode (suc depth) octets string = Value mode octets 4 string ⊎ ((mode ≡ Ber) × (contents : List ℕ) × (pieces : List (List ℕ)) × Value mode octets 36 contents × Items (OctetString mode depth) contents pieces × (string ≡ joined pieces))
@@ -108,18 +108,18 @@ Null mode octets = Within mode 5 (λ c. c ≡ []) octets
 abbrev pub ObjectIdentifier : Mode → List ℕ → List ℕ → Type 0
 ObjectIdentifier mode octets oid = Within mode 6 (λ c. (c ≡ oid) × IsOid oid) octets
 
--- A BIT STRING (8.6), primitive: its contents are the number of bits of the last octet that are not used, and its octets.
+-- A BIT STRING (8.6), primitive, in DER by 10.2, in BER by this project's own rule: its contents are the number of bits of the last octet that are not used, and its octets.
 abbrev pub IsBitString : List ℕ → List ℕ × ℕ → Type 0
 IsBitString contents bits = (contents ≡ bits.1 ∷ bits.0) × IsBits bits.0 bits.1
 
 abbrev pub BitString : Mode → List ℕ → List ℕ × ℕ → Type 0
 BitString mode octets bits = Within mode 3 (λ c. IsBitString c bits) octets
 
--- an IA5String of these characters, primitive (8.23): each is below 80
+-- an IA5String of these characters (8.23): each is below 80. It is primitive, in DER by 10.2, in BER by this project's own rule.
 abbrev pub Ia5String : Mode → List ℕ → List ℕ → Type 0
 Ia5String mode octets text = Within mode 22 (λ c. (c ≡ text) × All (λ b. b < 128) text) octets
 
--- an INTEGER from 0 to limit - 1
+-- an INTEGER from 0 to limit - 1 (8.3)
 abbrev pub IntegerBelow : ℕ → Mode → List ℕ → ℕ → Type 0
 IntegerBelow limit mode octets n = Within mode 2 (λ c. IsInteger c n × (n < limit)) octets
 
@@ -128,11 +128,12 @@ abbrev pub Optional : {X : Type 0} → (List ℕ → X → Type 0) → List ℕ 
 Optional G octets None = octets ≡ []
 Optional G octets (Some x) = G octets x
 
--- Reading by p is reading by the grammar G: what it finds is in G, and what is in G it finds, whatever octets follow (exact); no octets in G are the beginning of others in G (unique); what is in G in DER is the same in BER (relaxed).
+-- Reading by p is reading by the grammar G: what it finds is in G, and what is in G it finds, whatever octets follow (exact); no octets in G are the beginning of others in G (unique); what is in G in DER is the same in BER (relaxed); one whole value that is refused alone is refused whatever octets follow it (behind).
 pub record IsReading {X : Type 0} (p : Parser X) (G : Mode → List ℕ → X → Type 0) : Type 0 where
   pub exact : (mode : Mode) → IsExact anything (p mode) (G mode)
   pub unique : (mode : Mode) → IsUnique (G mode)
   pub relaxed : (octets : List ℕ) (x : X) → G Der octets x → G Ber octets x
+  pub behind : (mode : Mode) (octets contents more : List ℕ) (tag : ℕ) → IsBytes octets → IsBytes more → Value mode octets tag contents → p mode octets ≡ None → p mode (octets ++ more) ≡ None
 
 -- Reading by p, where a value with this tag is next, is reading by G: what is found is in G (found), what is in G is found, whatever octets follow (read), nothing is read exactly where no such value is next (absent), and what is found in DER is found in BER (relaxed).
 pub record IsOptionalReading {X : Type 0} (tag : ℕ) (p : Parser X) (G : Mode → List ℕ → X → Type 0) : Type 0 where

@@ -52,7 +52,7 @@ pub trait Encode {
     // Each contents in it has fewer than 2^32 octets.
     ghost is_short: { Self → Type 0 };
 
-    /// How many octets it is written as.
+    /// How many octets it is written as, or `NotDer` or `TooLong`, where it can't be written.
     fn encoded_len(&self) -> Result<u64, EncodeError>
         ensures { IsLenOf (is_der self.now) (is_short self.now) (octets self.now) result };
 
@@ -69,7 +69,8 @@ pub trait Encode {
     // What has few octets has no long contents.
     ghost small: { (x : Self) → length (octets x) < 2 ^ 32 → is_short x };
 
-    /// Writes the octets, or finds out before the first one that it can't be written.
+    /// Writes the octets, or finds out before the first one that it can't be written: `NotDer` or `TooLong`. Answers
+    /// `Io` where a call of the sink fails.
     final fn write_to<W: Sink>(&self, out: &mut W) -> Result<(), EncodeError>
     where
         Self: Sized,
@@ -85,7 +86,7 @@ pub trait Encode {
         }
     }
 
-    /// The octets, in a vector of their own.
+    /// The octets, in a vector of their own, or `NotDer`, `TooLong` or `Memory`.
     final fn to_bytes(&self, alloc: Global) -> Result<Vec<u8>, EncodeError>
     where
         Self: Sized,

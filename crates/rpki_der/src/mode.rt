@@ -53,7 +53,7 @@ impl Tag {
     /// The context-specific tag 1, constructed.
     pub const CTX_1: Tag = Tag { octet: 161 };
 
-    /// The tag with this octet, unless it is 00 or its low five bits are all ones.
+    /// The tag with this octet, unless it is 00 or its low five bits are all ones (X.690, section 8.1.2): then `None`.
     pub fn new(octet: u8) -> Option<Tag>
         ensures { MatchOption result (IsTag octet → ⊥) (λ tag. tag.octet ≡ octet) }
     {

@@ -2,6 +2,7 @@
 
 mod growth;
 mod reading;
+mod rows;
 mod writing;
 
 use crate::{Constructed, DecodeError, Mode};

@@ -1,14 +1,14 @@
 -- What stands at the front is unique, and what is there in DER is there in BER.
-use Rattle.std.proofs.Common.{◌≡◌, ℕ, zero, suc, ◌-◌, List, [], ◌∷◌, ◌++◌, length, take, Option, Some, refl, sym, ap, ◌∙◌, arith, inl, inr}
-use Rattle.std.proofs.lemmas.List.{take_at, length-append}
+use Rattle.std.proofs.Common.{◌≡◌, ℕ, zero, suc, ◌-◌, List, [], ◌∷◌, ◌++◌, length, take, Option, Some, None, refl, sym, ap, subst, ◌∙◌, arith, inl, inr}
+use Rattle.std.proofs.lemmas.List.{take_at, length-append, append-nil}
 use Rattle.rpki_der.specs.declared.mode.Mode.{Mode}
 use Rattle.rpki_der.specs.declared.mode.Mode.TheVariants.{Der, Ber}
-use Rattle.rpki_der.specs.Read.Parse.{Parser, primitive, captured, taken}
-use Rattle.rpki_der.specs.Grammar.{IsExact, IsUnique, IsReading, Integer, Value, Within, definite, indefinite, Items, Skipped, OctetString, anything}
+use Rattle.rpki_der.specs.Read.Parse.{Parser, primitive, captured, taken, any_at}
+use Rattle.rpki_der.specs.Grammar.{IsBytes, IsExact, IsUnique, IsReading, Integer, Value, Within, definite, indefinite, Items, Skipped, OctetString, anything}
 use Rattle.rpki_der.proofs.Reading.Lengths.{bind_some, some_is, length-any}
-use Rattle.rpki_der.proofs.Reading.Exact.{IsExactContents, exact-primitive}
+use Rattle.rpki_der.proofs.Reading.Exact.{IsExactContents, exact-any, exact-primitive}
 
-before : (a r : List ℕ) → take (length (a ++ r) - length r) (a ++ r) ≡ a
+pub before : (a r : List ℕ) → take (length (a ++ r) - length r) (a ++ r) ≡ a
 before a r =
     let n : length (a ++ r) - length r ≡ length a = omega (arith, length-append a r) in
     rw n (take_at a r (length a) refl)
@@ -49,15 +49,54 @@ octets-ber zero o s h = h
 octets-ber (suc depth) o s (inl h) = inl (value-ber o 4 s h)
 octets-ber (suc depth) o s (inr h) = absurd (let no : Der ≡ Ber = h.0 in cc)
 
--- what is read exactly, and is in BER where it is in DER
-pub reading : {X : Type 0} (p : Parser X) (G : Mode → List ℕ → X → Type 0) → ((mode : Mode) → IsExact anything (p mode) (G mode)) → ((o : List ℕ) (x : X) → G Der o x → G Ber o x) → IsReading p G
-reading p G exact ber = record { exact = exact; unique = λ mode. unique (p mode) (G mode) (exact mode); relaxed = ber }
+-- all that the grammar has is one value
+abbrev pub IsOneValue : {X : Type 0} → (Mode → List ℕ → X → Type 0) → Type 0
+IsOneValue {X} G = (mode : Mode) (o : List ℕ) (x : X) → G mode o x → (tag : ℕ) × (c : List ℕ) × Value mode o tag c
+
+pub within-one : {X : Type 0} (tag : ℕ) (M : Mode → List ℕ → X → Type 0) → IsOneValue (λ mode o x. Within mode tag (λ c. M mode c x) o)
+within-one tag M mode o x h = (tag, h.0, h.1)
+
+pub skipped-one : (depth : ℕ) → IsOneValue (λ mode o (x : Unit {0}). Skipped mode depth o)
+unfolding Skipped
+skipped-one zero mode o x h = absurd h
+skipped-one (suc depth) mode o x h = (h.0, h.1, h.2)
+
+pub octets-one : (depth : ℕ) → IsOneValue (λ mode o s. OctetString mode depth o s)
+unfolding OctetString
+octets-one zero mode o s h = absurd h
+octets-one (suc depth) mode o s (inl h) = (4, s, h)
+octets-one (suc depth) mode o s (inr h) = (36, h.1, h.3)
+
+bytes-both : (a b : List ℕ) → IsBytes a → IsBytes b → IsBytes (a ++ b)
+bytes-both [] b h k = k
+bytes-both (x ∷ a) b h k = (h.0, bytes-both a b h.1 k)
+
+none-of : {X : Type 0} (o : Option X) → ((x : X) → o ≡ Some x → ⊥) → o ≡ None
+none-of None h = refl
+none-of (Some x) h = absurd (h x refl)
+
+-- a whole value that is refused alone is refused whatever follows it
+pub behind : {X : Type 0} (p : Parser X) (G : Mode → List ℕ → X → Type 0) → ((mode : Mode) → IsExact anything (p mode) (G mode)) → IsOneValue G
+    → (mode : Mode) (octets contents more : List ℕ) (tag : ℕ) → IsBytes octets → IsBytes more → Value mode octets tag contents → p mode octets ≡ None → p mode (octets ++ more) ≡ None
+behind {X} p G exact one mode octets contents more tag bytes others value none =
+    none-of (p mode (octets ++ more)) (λ found e.
+    let f = (exact mode).sound (octets ++ more) found.0 found.1 (bytes-both octets more bytes others) e in
+    let v = one mode f.0 found.0 f.2 in
+    let same = unique (any_at mode) (λ o (w : ℕ × List ℕ). Value mode o w.0 w.1) (exact-any mode) f.0 octets (v.0, v.1) (tag, contents) found.1 more v.2 value (sym f.1) in
+    let alone : p mode (f.0 ++ []) ≡ Some (found.0, []) = (exact mode).complete f.0 found.0 [] tt f.2 in
+    let here : p mode octets ≡ Some (found.0, []) = subst (λ (o : List ℕ). p mode o ≡ Some (found.0, [])) (append-nil f.0 ∙ same.0) alone in
+    let no : (let n : Option (X × List ℕ) = None in n) ≡ Some (found.0, []) = sym none ∙ here in
+    cc)
+
+-- what is read exactly, is in BER where it is in DER, and is one value
+pub reading : {X : Type 0} (p : Parser X) (G : Mode → List ℕ → X → Type 0) → ((mode : Mode) → IsExact anything (p mode) (G mode)) → ((o : List ℕ) (x : X) → G Der o x → G Ber o x) → IsOneValue G → IsReading p G
+reading p G exact ber one = record { exact = exact; unique = λ mode. unique (p mode) (G mode) (exact mode); relaxed = ber; behind = behind p G exact one }
 
 -- a primitive value whose contents f understands alike in both modes
 pub reading-primitive : {X : Type 0} (tag : ℕ) (f : List ℕ → Option X) (M : List ℕ → X → Type 0) → IsExactContents f M → IsReading (primitive tag f) (λ mode o x. Within mode tag (λ c. M c x) o)
 reading-primitive tag f M e =
     reading (primitive tag f) (λ mode o x. Within mode tag (λ c. M c x) o) (λ mode. exact-primitive tag f mode M e)
-    (λ o x h. within-ber tag (λ c. M c x) (λ c. M c x) (λ c k. k) o h)
+    (λ o x h. within-ber tag (λ c. M c x) (λ c. M c x) (λ c k. k) o h) (within-one tag (λ mode. M))
 
 -- what is captured of a reading are the octets that it found
 abbrev pub Kept : {X : Type 0} → (Mode → List ℕ → X → Type 0) → Mode → List ℕ → List ℕ → Type 0
@@ -78,7 +117,7 @@ captured-exact {X} p G mode e = record {
       rw found (ap (λ (t : List ℕ). (let r : Option (List ℕ × List ℕ) = Some (t, rest) in r)) (before front rest ∙ sym h.0));
 }
 
-pub captured-reading : {X : Type 0} (p : Parser X) (G : Mode → List ℕ → X → Type 0) → IsReading p G → IsReading (captured p) (Kept G)
-captured-reading {X} p G e =
+pub captured-reading : {X : Type 0} (p : Parser X) (G : Mode → List ℕ → X → Type 0) → IsReading p G → IsOneValue G → IsReading (captured p) (Kept G)
+captured-reading {X} p G e one =
     reading (captured p) (Kept G) (λ mode. captured-exact p G mode (e.exact mode))
-    (λ octets o h. (h.0, h.1, e.relaxed octets h.1 h.2))
+    (λ octets o h. (h.0, h.1, e.relaxed octets h.1 h.2)) (λ mode octets o h. one mode octets h.1 h.2)

@@ -6,7 +6,7 @@ use crate::encode::value::Value;
 use crate::mode::Tag;
 use crate::oid::Oid;
 
-/// A value with this tag and these contents.
+/// A value with this tag and these contents (X.690, section 8.1.1).
 pub fn primitive(tag: Tag, octets: &[u8]) -> Value<Raw<'_>>
     ensures tag { result.tag ≡ tag }
     ensures contents { result.contents.0.now ≡ octets.now }

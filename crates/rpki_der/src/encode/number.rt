@@ -109,7 +109,8 @@ pub fn integer_u8(n: u8) -> Unsigned
     Unsigned(u32::from(n))
 }
 
-/// The INTEGER that is not negative with these digits to base 256, the highest one first, in its shortest form. Zeros in front are left out; no digits are zero.
+/// The INTEGER (X.690, section 8.3) that is not negative with these digits to base 256, the highest one first, in its
+/// shortest form. Zeros in front are left out; no digits are zero.
 pub fn integer_of(digits: &[u8]) -> Value<Digits<'_>>
     ensures tag { result.tag.octet ≡ 2 }
     ensures digits { result.contents.0.now ≡ digits.now }

@@ -125,20 +125,14 @@ impl<A: Encode, B: Encode, C: Encode, D: Encode, E: Encode, F: Encode, G: Encode
 
     #[inline(always)]
     fn encoded_len(&self) -> Result<u64, EncodeError> {
-        (
-            &self.0,
-            (&self.1, &self.2, &self.3, &self.4, &self.5, &self.6),
-        )
-            .encoded_len()
+        let six = (&self.1, &self.2, &self.3, &self.4, &self.5, &self.6);
+        (&self.0, six).encoded_len()
     }
 
     #[inline(always)]
     fn put<W: Sink>(&self, len: u64, out: &mut W) -> Result<(), SinkFailed> {
-        (
-            &self.0,
-            (&self.1, &self.2, &self.3, &self.4, &self.5, &self.6),
-        )
-            .put(len, out)
+        let six = (&self.1, &self.2, &self.3, &self.4, &self.5, &self.6);
+        (&self.0, six).put(len, out)
     }
 }
 
@@ -154,23 +148,17 @@ impl<A: Encode, B: Encode, C: Encode, D: Encode, E: Encode, F: Encode, G: Encode
 
     #[inline(always)]
     fn encoded_len(&self) -> Result<u64, EncodeError> {
-        (
-            &self.0,
-            (
-                &self.1, &self.2, &self.3, &self.4, &self.5, &self.6, &self.7,
-            ),
-        )
-            .encoded_len()
+        let seven = (
+            &self.1, &self.2, &self.3, &self.4, &self.5, &self.6, &self.7,
+        );
+        (&self.0, seven).encoded_len()
     }
 
     #[inline(always)]
     fn put<W: Sink>(&self, len: u64, out: &mut W) -> Result<(), SinkFailed> {
-        (
-            &self.0,
-            (
-                &self.1, &self.2, &self.3, &self.4, &self.5, &self.6, &self.7,
-            ),
-        )
-            .put(len, out)
+        let seven = (
+            &self.1, &self.2, &self.3, &self.4, &self.5, &self.6, &self.7,
+        );
+        (&self.0, seven).put(len, out)
     }
 }

@@ -15,7 +15,7 @@ pub struct Value<T> {
     pub contents: T,
 }
 
-/// A value with this tag. Its contents are what the parts are written as.
+/// A value with this tag (X.690, section 8.1.1). Its contents are what the parts are written as.
 pub fn tagged<T>(tag: Tag, parts: T) -> Value<T>
     ensures tag { result.tag ≡ tag }
     ensures contents { result.contents ≡ parts }

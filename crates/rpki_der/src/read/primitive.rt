@@ -16,7 +16,7 @@ use bytes::Bytes;
 use std::alloc::Global;
 
 impl<'a> Constructed<'a> {
-    /// Reads an INTEGER from 0 to 255 (X.690, section 8.3).
+    /// Reads an INTEGER from 0 to 255 (X.690, section 8.3). Refuses by `Malformed`.
     pub fn take_u8(&mut self) -> Result<u8, DecodeError>
         ensures reads { Reads (λ n. n) u8_at self.old result self.new }
         ensures stays { Stays result self.new }
@@ -29,7 +29,7 @@ impl<'a> Constructed<'a> {
         }
     }
 
-    /// Reads an INTEGER from 0 to 255, if an INTEGER is next.
+    /// Reads an INTEGER from 0 to 255, if an INTEGER is next (X.690, section 8.3). Refuses by `Malformed`.
     pub fn take_opt_u8(&mut self) -> Result<Option<u8>, DecodeError>
         ensures reads { Reads (λ n. n) (optional 2 u8_at) self.old result self.new }
         ensures stays { Stays result self.new }
@@ -43,7 +43,7 @@ impl<'a> Constructed<'a> {
         }
     }
 
-    /// Reads an INTEGER that is this number.
+    /// Reads an INTEGER that is this number (X.690, section 8.3). Refuses by `Malformed`.
     #[inline(always)]
     pub fn skip_u8_if(&mut self, expected: u8) -> Result<(), DecodeError>
         ensures reads { Reads (λ x. x) (primitive 2 (this expected)) self.old result self.new }
@@ -57,7 +57,7 @@ impl<'a> Constructed<'a> {
         }
     }
 
-    /// Reads an INTEGER from 0 to 2^32 - 1.
+    /// Reads an INTEGER from 0 to 2^32 - 1 (X.690, section 8.3). Refuses by `Malformed`.
     #[inline(always)]
     pub fn take_u32(&mut self) -> Result<u32, DecodeError>
         ensures reads { Reads (λ n. n) u32_at self.old result self.new }
@@ -71,7 +71,7 @@ impl<'a> Constructed<'a> {
         }
     }
 
-    /// Reads an INTEGER from 0 to 2^32 - 1, if an INTEGER is next.
+    /// Reads an INTEGER from 0 to 2^32 - 1, if an INTEGER is next (X.690, section 8.3). Refuses by `Malformed`.
     #[inline(always)]
     pub fn take_opt_u32(&mut self) -> Result<Option<u32>, DecodeError>
         ensures reads { Reads (λ n. n) (optional 2 u32_at) self.old result self.new }
@@ -87,7 +87,7 @@ impl<'a> Constructed<'a> {
         }
     }
 
-    /// Reads a BOOLEAN, if one is next (X.690, sections 8.2 and 11.1).
+    /// Reads a BOOLEAN, if one is next (X.690, sections 8.2 and 11.1). Refuses by `Malformed`.
     pub fn take_opt_bool(&mut self) -> Result<Option<bool>, DecodeError>
         ensures reads { Reads (λ b. b) (optional 1 boolean_at) self.old result self.new }
         ensures stays { Stays result self.new }
@@ -104,7 +104,7 @@ impl<'a> Constructed<'a> {
         }
     }
 
-    /// Reads a NULL, if one is next (X.690, section 8.8).
+    /// Reads a NULL, if one is next (X.690, section 8.8). Refuses by `Malformed`.
     #[tactic(auto, unfolding(crate::specs::Read::Parse::null_of))]
     pub fn skip_opt_null(&mut self) -> Result<Option<()>, DecodeError>
         ensures reads { Reads (λ u. u) (optional 5 (primitive 5 null_of)) self.old result self.new }
@@ -123,7 +123,7 @@ impl<'a> Constructed<'a> {
         }
     }
 
-    /// Reads an OBJECT IDENTIFIER (X.690, section 8.19).
+    /// Reads an OBJECT IDENTIFIER (X.690, section 8.19). Answers `Malformed`, or `Memory` where no memory was to be had.
     #[tactic(auto, unfolding(crate::specs::Read::Parse::oid_of))]
     pub fn take_oid(&mut self) -> Result<Oid, DecodeError>
         ensures reads { Reads (λ oid. oid) oid_at self.old result self.new }
@@ -139,6 +139,7 @@ impl<'a> Constructed<'a> {
     }
 
     /// Reads a BIT STRING, primitive in both modes (X.690, section 8.6).
+    /// Answers `Malformed`, or `Memory` where no memory was to be had.
     #[tactic(auto, unfolding(crate::specs::Read::Parse::bits_of))]
     pub fn take_bits(&mut self) -> Result<BitString, DecodeError>
         ensures reads { Reads (λ bits. (bits.octets, bits.unused)) bits_at self.old result self.new }
@@ -160,6 +161,7 @@ impl<'a> Constructed<'a> {
     }
 
     /// Reads an IA5String, primitive in both modes: octets below 80 hexadecimal (X.690, section 8.23).
+    /// Answers `Malformed`, or `Memory` where no memory was to be had.
     #[tactic(auto, unfolding(crate::specs::Read::Parse::ia5_of))]
     pub fn take_ia5(&mut self) -> Result<Bytes, DecodeError>
         ensures reads { Reads (λ text. text) ia5_at self.old result self.new }
@@ -174,7 +176,7 @@ impl<'a> Constructed<'a> {
         }
     }
 
-    /// Reads an IA5String, if one is next.
+    /// Reads an IA5String, if one is next (X.690, section 8.23). Answers `Malformed`, or `Memory` where no memory was to be had.
     pub fn take_opt_ia5(&mut self) -> Result<Option<Bytes>, DecodeError>
         ensures reads { Reads (λ text. text) (optional 22 ia5_at) self.old result self.new }
         ensures stays { Stays result self.new }
@@ -189,7 +191,7 @@ impl<'a> Constructed<'a> {
     }
 
     /// Reads the contents of the value in front if it has this tag, whatever they are. Those of a constructed tag
-    /// are the octets of its values.
+    /// are the octets of its values (X.690, section 8.1.4). Answers `Malformed`, or `Memory` where no memory was to be had.
     pub fn take_opt_primitive_if(&mut self, tag: Tag) -> Result<Option<Bytes>, DecodeError>
         ensures reads { Reads (λ contents. contents) (optional tag.octet (primitive tag.octet Some)) self.old result self.new }
         ensures stays { Stays result self.new }
@@ -203,7 +205,8 @@ impl<'a> Constructed<'a> {
         Ok(Some(self.keep(&contents)?))
     }
 
-    /// Reads an OCTET STRING (X.690, section 8.7). In BER it may be in pieces, nested at most 32 deep, whose octets are joined.
+    /// Reads an OCTET STRING (X.690, section 8.7). In BER it may be in pieces, nested at most 32 deep, whose octets are
+    /// joined. Answers `Malformed`, or `Memory` where no memory was to be had.
     #[tactic(auto, using(crate::proofs::Reading::Strings::octets_next))]
     pub fn take_octets(&mut self, alloc: Global) -> Result<Bytes, DecodeError>
         ensures reads { Reads (λ octets. octets) (octets_at 32) self.old result self.new }

@@ -31,7 +31,8 @@ pub trait Source {
         ensures ok { OnOk result (failures self.new ≡ failures self.old) }
         ensures err { OnErr result (failures self.new ≡ failures self.old + 1) };
 
-    /// Reads to the end. Where a call fails, what was given before is lost; a source that never ends ends in want of memory.
+    /// Reads to the end. Where a call fails, what was given before is lost, and the answer is `Io`; a source that never
+    /// ends ends in `Memory`, the want of it.
     final fn read_all(&mut self, alloc: Global) -> Result<Vec<u8>, SourceError>
     where
         Self: Sized,

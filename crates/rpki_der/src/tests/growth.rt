@@ -36,14 +36,19 @@ fn is_refused_or_memory<T: Drop>(answer: Result<T, DecodeError>) -> bool {
     }
 }
 
-fn is_each(each: &Each) -> bool {
+fn is_each(each: &Each, mode: Mode) -> bool {
     each.number == 300
         && each.bits.octets.as_slice() == [0xABu8, 0xC0].as_slice()
         && each.bits.unused == 4
         && each.text.as_slice() == b"ab".as_slice()
         && each.octets.as_slice() == [0xCDu8, 0xEF].as_slice()
+        && each
+            .key
+            .as_ref()
+            .is_some_and(|key| key.as_slice() == [0x99].as_slice())
         && each.inner == Some(7)
         && each.kept.as_slice() == [0x30u8, 0x05, 0x02, 0x01, 0x08, 0x30, 0x00].as_slice()
+        && each.kept.mode() == mode
 }
 
 #[test]
@@ -53,7 +58,7 @@ fn one_of_each(rt: HostRuntime) {
         let answer = read(alloc, mode, &EACH, |cons| {
             cons.take_sequence(|cons| take_each(cons, alloc))
         });
-        assert!(rt; is_right_or_memory(answer, is_each));
+        assert!(rt; is_right_or_memory(answer, |each| is_each(each, mode)));
         let answer = read(alloc, mode, &EACH[..45], |cons| {
             cons.take_sequence(|cons| take_each(cons, alloc))
         });

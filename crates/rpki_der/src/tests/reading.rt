@@ -15,7 +15,7 @@ pub fn string(alloc: Global, mode: Mode, octets: &[u8]) -> Result<Bytes, DecodeE
     read(alloc, mode, octets, |cons| cons.take_octets(alloc))
 }
 
-fn is_string(alloc: Global, mode: Mode, octets: &[u8], want: &[u8]) -> bool {
+pub fn is_string(alloc: Global, mode: Mode, octets: &[u8], want: &[u8]) -> bool {
     match string(alloc, mode, octets) {
         Ok(found) => found.as_slice() == want,
         Err(_) => false,
@@ -32,7 +32,7 @@ fn number(alloc: Global, mode: Mode, octets: &[u8]) -> Result<u8, DecodeError> {
     )
 }
 
-fn skip(alloc: Global, mode: Mode, octets: &[u8]) -> Result<(), DecodeError> {
+pub fn skip(alloc: Global, mode: Mode, octets: &[u8]) -> Result<(), DecodeError> {
     read(alloc, mode, octets, |cons| cons.skip_one())
 }
 
@@ -178,7 +178,12 @@ fn indefinite_lengths(rt: HostRuntime) {
 }
 
 /// So many values of this identifier and definite length below 128, one in the other, round these octets.
-fn nested_definite(alloc: Global, tag: u8, n: usize, inner: &[u8]) -> Result<Vec<u8>, AllocError> {
+pub fn nested_definite(
+    alloc: Global,
+    tag: u8,
+    n: usize,
+    inner: &[u8],
+) -> Result<Vec<u8>, AllocError> {
     let mut octets = Vec::new(alloc);
     octets.extend_from_slice(inner)?;
     for _ in 0..n {
@@ -238,6 +243,27 @@ fn endless_nesting(rt: HostRuntime) -> Result<(), Fail> {
             assert!(rt; is_refused(skip(alloc, mode, &octets)));
             assert!(rt; is_refused(string(alloc, mode, &octets)));
             assert!(rt; is_refused(number(alloc, mode, &octets)));
+            assert!(rt; is_refused(read(alloc, mode, &octets, |cons| cons.skip_all())));
+        }
+    }
+    Ok(())
+}
+
+/// Values of definite length in one another, 100,001 of them. All lengths are right.
+#[test]
+fn deep_nesting(rt: HostRuntime) -> Result<(), Fail> {
+    let alloc = rt.alloc();
+    for tag in [0x24u8, 0x30, 0xA0] {
+        let mut octets = Vec::new(alloc);
+        for k in 0..100_001u32 {
+            octets.extend_from_slice(&[tag, 0x84])?;
+            octets.extend_from_slice(&(6 * (100_000 - k)).to_be_bytes())?;
+        }
+        for mode in MODES {
+            assert!(rt; is_refused(skip(alloc, mode, &octets)));
+            assert!(rt; is_refused(string(alloc, mode, &octets)));
+            assert!(rt; is_refused(number(alloc, mode, &octets)));
+            assert!(rt; is_refused(read(alloc, mode, &octets, |cons| cons.skip_all())));
         }
     }
     Ok(())
@@ -268,8 +294,12 @@ fn cut_strings(rt: HostRuntime) -> Result<(), Fail> {
     string_cuts(&rt, alloc, Mode::Ber, &pieces);
     let pieces = [0x24, 0x07, 0x04, 0x02, 0x61, 0x62, 0x04, 0x01, 0x63];
     string_cuts(&rt, alloc, Mode::Ber, &pieces);
-    let pieces = nested(alloc, 0x24, 31, &[0x04, 0x01, 0x41])?;
-    string_cuts(&rt, alloc, Mode::Ber, &pieces);
+    for n in [30usize, 31] {
+        let pieces = nested(alloc, 0x24, n, &[0x04, 0x01, 0x41])?;
+        string_cuts(&rt, alloc, Mode::Ber, &pieces);
+        let pieces = nested_definite(alloc, 0x24, n, &[0x04, 0x01, 0x41])?;
+        string_cuts(&rt, alloc, Mode::Ber, &pieces);
+    }
     let long = with_contents(alloc, &[0x04, 0x81, 0x80], 128)?;
     string_cuts(&rt, alloc, Mode::Der, &long);
     string_cuts(&rt, alloc, Mode::Ber, &long);

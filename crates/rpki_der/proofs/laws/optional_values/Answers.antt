@@ -1,9 +1,9 @@
 use Rattle.std.proofs.Common.{◌≡◌, ◌<◌, ◌^◌, [], Some}
 use Rattle.std.specs.Prelude.{All}
-use Rattle.rpki_der.specs.Read.Parse.{primitive, u8_at, u32_at, boolean_at, null_of, ia5_at}
+use Rattle.rpki_der.specs.Read.Parse.{value_at, primitive, u8_at, u32_at, boolean_at, null_of, ia5_at}
 use Rattle.rpki_der.specs.Grammar.{Value, IsInteger, IntegerBelow, Boolean, IsBoolean, Null, Ia5String}
 use Rattle.rpki_der.proofs.Reading.Lists.{begins-within}
-use Rattle.rpki_der.proofs.Reading.Kinds.{reading-u8, reading-u32, reading-boolean, reading-null, reading-ia5, reading-contents}
+use Rattle.rpki_der.proofs.Reading.Kinds.{reading-u8, reading-u32, reading-boolean, reading-null, reading-ia5, reading-contents, reading-value}
 use Rattle.rpki_der.proofs.Reading.Optional.{begins-value, optional-reading}
 use Rattle.rpki_der.proofs.laws.optional_values.Goals as goal
 
@@ -30,3 +30,7 @@ returns-clause-ia5 c =
 pub returns-clause-contents : goal.returns-clause-contents
 returns-clause-contents c =
     λ tag. optional-reading tag (primitive tag Some) (λ mode o c. Value mode o tag c) (reading-contents tag) (begins-value tag)
+
+pub returns-clause-opened : goal.returns-clause-opened
+returns-clause-opened c =
+    λ tag. optional-reading tag (value_at tag) (λ mode o c. Value mode o tag c) (reading-value tag) (begins-value tag)

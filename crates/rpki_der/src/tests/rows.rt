@@ -1,0 +1,337 @@
+//! Rows at the limits of the forms, and what no other row shows.
+
+use super::reading::{is_string, nested, nested_definite, skip, string};
+use super::{MODES, is_refused, read};
+use crate::{BitString, Constructed, DecodeError, Mode, Oid, Tag, laws, write_laws};
+use bytes::Bytes;
+use std::alloc::{AllocError, Global};
+use std::test::Fail;
+
+fn byte(alloc: Global, mode: Mode, octets: &[u8]) -> Result<u8, DecodeError> {
+    read(alloc, mode, octets, |cons| cons.take_u8())
+}
+
+fn word(alloc: Global, mode: Mode, octets: &[u8]) -> Result<u32, DecodeError> {
+    read(alloc, mode, octets, |cons| cons.take_u32())
+}
+
+/// Some octets, and others behind them.
+fn joined(alloc: Global, front: &[u8], others: &[u8]) -> Result<Vec<u8>, AllocError> {
+    let mut octets = Vec::from_slice(alloc, front)?;
+    octets.extend_from_slice(others)?;
+    Ok(octets)
+}
+
+#[test]
+fn limits_of_numbers(rt: HostRuntime) {
+    let alloc = rt.alloc();
+    for mode in MODES {
+        assert!(rt; is_refused(byte(alloc, mode, &[2, 0])));
+        assert!(rt;
+            is_refused(read(
+                alloc,
+                mode,
+                &[0x30, 2, 2, 0],
+                |cons| cons.take_sequence(|cons| cons.take_u8())
+            ))
+        );
+        assert!(rt; byte(alloc, mode, &[2, 1, 0]).is_ok_and(|n| n == 0));
+        assert!(rt; byte(alloc, mode, &[2, 1, 0x7F]).is_ok_and(|n| n == 127));
+        assert!(rt; byte(alloc, mode, &[2, 2, 0, 0x80]).is_ok_and(|n| n == 128));
+        assert!(rt; byte(alloc, mode, &[2, 2, 0, 0xFF]).is_ok_and(|n| n == 255));
+        assert!(rt; is_refused(byte(alloc, mode, &[2, 2, 1, 0])));
+        assert!(rt; is_refused(word(alloc, mode, &[2, 0])));
+        assert!(rt; word(alloc, mode, &[2, 1, 0]).is_ok_and(|n| n == 0));
+        assert!(rt; word(alloc, mode, &[2, 2, 1, 0]).is_ok_and(|n| n == 256));
+        assert!(rt;
+            word(alloc, mode, &[2, 4, 0x7F, 0xFF, 0xFF, 0xFF]).is_ok_and(|n| n == 0x7FFF_FFFF)
+        );
+        assert!(rt;
+            word(alloc, mode, &[2, 5, 0, 0xFF, 0xFF, 0xFF, 0xFF]).is_ok_and(|n| n == 0xFFFF_FFFF)
+        );
+        assert!(rt; is_refused(word(alloc, mode, &[2, 5, 1, 0, 0, 0, 0])));
+    }
+}
+
+#[test]
+fn lengths_of_three_and_four_octets(rt: HostRuntime) -> Result<(), Fail> {
+    let alloc = rt.alloc();
+    let large = vec![in alloc; 7u8; 0x100_0000]?;
+    let medium = large.get(..0x1_0000).unwrap_or(&[]);
+    let three = joined(alloc, &[0x04, 0x83, 0x01, 0x00, 0x00], medium)?;
+    let four = joined(alloc, &[0x04, 0x84, 0x01, 0x00, 0x00, 0x00], &large)?;
+    for mode in MODES {
+        assert!(rt; is_string(alloc, mode, &three, medium));
+        assert!(rt; is_string(alloc, mode, &four, &large));
+    }
+    for row in [
+        [0x04u8, 0x83, 0x00, 0x00, 0x01, 0x41].as_slice(),
+        &[0x04, 0x84, 0x00, 0x00, 0x00, 0x01, 0x41],
+    ] {
+        assert!(rt; is_refused(string(alloc, Mode::Der, row)));
+        assert!(rt; is_string(alloc, Mode::Ber, row, b"A"));
+    }
+    Ok(())
+}
+
+#[test]
+fn empty_strings(rt: HostRuntime) {
+    let alloc = rt.alloc();
+    for row in [[0x24u8, 0x80, 0x00, 0x00].as_slice(), &[0x24, 0x00]] {
+        assert!(rt; is_refused(string(alloc, Mode::Der, row)));
+        assert!(rt; is_string(alloc, Mode::Ber, row, &[]));
+    }
+    for mode in MODES {
+        assert!(rt; is_string(alloc, mode, &[0x04, 0x00], &[]));
+        // a piece that is a number
+        let row = [0x24, 0x80, 0x02, 0x01, 0x05, 0x00, 0x00];
+        assert!(rt; is_refused(string(alloc, mode, &row)));
+    }
+}
+
+#[test]
+fn identifiers_of_one_octet(rt: HostRuntime) {
+    let alloc = rt.alloc();
+    for mode in MODES {
+        assert!(rt; skip(alloc, mode, &[0x20, 0x00]).is_ok());
+    }
+    for octet in [0x00u8, 0x1F, 0x3F, 0xFF] {
+        assert!(rt; Tag::new(octet).is_none());
+    }
+    for octet in [0x01u8, 0x1E, 0x20, 0xA0, 0xFE] {
+        assert!(rt; Tag::new(octet).is_some_and(|tag| tag.octet == octet));
+    }
+}
+
+#[test]
+fn made_values(rt: HostRuntime) -> Result<(), Fail> {
+    let alloc = rt.alloc();
+    let strings: [(&[u8], u8, bool); 5] = [
+        (&[], 0, true),
+        (&[], 1, false),
+        (&[0xA8], 0, true),
+        (&[0xA8], 7, true),
+        (&[0xA8], 8, false),
+    ];
+    for (octets, unused, is_one) in strings {
+        match BitString::new(Bytes::copy_from_slice(alloc, octets)?, unused) {
+            None => assert!(rt; !is_one),
+            Some(bits) => {
+                assert!(rt; is_one);
+                assert_eq!(rt; bits.octets.as_slice(), octets);
+                assert_eq!(rt; bits.unused, unused);
+            }
+        }
+    }
+    let identifiers: [(&[u8], bool); 5] = [
+        (&[], false),
+        (&[0x80], false),
+        (&[0x2A, 0x80], false),
+        (&[0x00], true),
+        (&[0x2A, 0x03], true),
+    ];
+    for (contents, is_one) in identifiers {
+        match Oid::from_bytes(Bytes::copy_from_slice(alloc, contents)?) {
+            None => assert!(rt; !is_one),
+            Some(oid) => {
+                assert!(rt; is_one);
+                assert_eq!(rt; oid.as_slice(), contents);
+            }
+        }
+    }
+    Ok(())
+}
+
+#[test]
+fn modes_of_readers(rt: HostRuntime) {
+    let alloc = rt.alloc();
+    for mode in MODES {
+        assert!(rt; read(alloc, mode, &[], |cons| Ok(cons.mode())).is_ok_and(|m| m == mode));
+        let inner = read(
+            alloc,
+            mode,
+            &[0x30, 0],
+            |cons| cons.take_sequence(|cons| Ok(cons.mode())),
+        );
+        assert!(rt; inner.is_ok_and(|m| m == mode));
+    }
+}
+
+#[test]
+fn what_else_is_not_there(rt: HostRuntime) {
+    let alloc = rt.alloc();
+    for mode in MODES {
+        for row in [[0xA1u8, 3, 2, 1, 9].as_slice(), &[0x80, 0], &[]] {
+            let answer = read(
+                alloc,
+                mode,
+                row,
+                |cons| cons.take_opt_constructed_if(Tag::CTX_0, |cons| cons.take_u8()),
+            );
+            assert!(rt; answer.is_ok_and(|n| n == None));
+        }
+        let none = read(alloc, mode, &[0x03, 0x01, 0x00], |cons| cons.take_bits());
+        assert!(rt; none.is_ok_and(|bits| bits.octets.is_empty() && bits.unused == 0));
+    }
+}
+
+#[test]
+fn a_captured_indefinite_value(rt: HostRuntime) -> Result<(), Fail> {
+    let alloc = rt.alloc();
+    let row = [0x30, 0x80, 0x05, 0x00, 0x00, 0x00, 0x05];
+    let kept = read(
+        alloc,
+        Mode::Ber,
+        &row,
+        |cons| cons.capture(|cons| cons.skip_one()),
+    )?;
+    assert!(rt; kept.mode() == Mode::Ber);
+    assert_eq!(rt;
+        kept.as_slice(),
+        [0x30u8, 0x80, 0x05, 0x00, 0x00, 0x00].as_slice()
+    );
+    assert!(rt;
+        is_refused(read(
+            alloc,
+            Mode::Der,
+            &row,
+            |cons| cons.capture(|cons| cons.skip_one())
+        ))
+    );
+    Ok(())
+}
+
+/// A whole value that is refused alone is refused whatever follows it.
+#[test]
+fn octets_behind_a_refused_value(rt: HostRuntime) -> Result<(), Fail> {
+    let alloc = rt.alloc();
+    for mode in MODES {
+        for tail in [[].as_slice(), &[0xFFu8, 0xFF], &[0x00, 0x00]] {
+            for number in [[2u8, 2, 0x00, 0x7F].as_slice(), &[2, 1, 0x80], &[2, 0]] {
+                let row = joined(alloc, number, tail)?;
+                assert!(rt; is_refused(byte(alloc, mode, &row)));
+                assert!(rt; is_refused(word(alloc, mode, &row)));
+            }
+            let row = joined(alloc, &[0x03, 0x01, 0x01], tail)?;
+            assert!(rt; is_refused(read(alloc, mode, &row, |cons| cons.take_bits())));
+            let row = joined(alloc, &[0x06, 0x02, 0x2A, 0x80], tail)?;
+            assert!(rt; is_refused(read(alloc, mode, &row, |cons| cons.take_oid())));
+            let row = joined(alloc, &[0x01, 0x00], tail)?;
+            assert!(rt; is_refused(read(alloc, mode, &row, |cons| cons.take_opt_bool())));
+            let row = joined(alloc, &[0x05, 0x01, 0x00], tail)?;
+            assert!(rt; is_refused(read(alloc, mode, &row, |cons| cons.skip_opt_null())));
+            let row = joined(alloc, &[0x16, 0x01, 0x80], tail)?;
+            assert!(rt; is_refused(read(alloc, mode, &row, |cons| cons.take_ia5())));
+            let row = joined(alloc, &[0x24, 0x03, 0x02, 0x01, 0x05], tail)?;
+            assert!(rt; is_refused(string(alloc, mode, &row)));
+            let row = joined(alloc, &[0x30, 0x02, 0x00, 0x00], tail)?;
+            assert!(rt; is_refused(skip(alloc, mode, &row)));
+        }
+    }
+    Ok(())
+}
+
+// Eight SEQUENCEs round a u8, and eight more round that, up to forty.
+
+fn eight(cons: &mut Constructed<'_>) -> Result<u8, DecodeError> {
+    cons.take_sequence(|cons| cons.take_sequence(|cons| cons.take_sequence(
+        |cons| cons.take_sequence(|cons| cons.take_sequence(|cons| cons.take_sequence(
+            |cons| cons.take_sequence(|cons| cons.take_sequence(|cons| cons.take_u8())),
+        ))),
+    )))
+}
+
+fn sixteen(cons: &mut Constructed<'_>) -> Result<u8, DecodeError> {
+    cons.take_sequence(|cons| cons.take_sequence(|cons| cons.take_sequence(
+        |cons| cons.take_sequence(|cons| cons.take_sequence(|cons| cons.take_sequence(
+            |cons| cons.take_sequence(|cons| cons.take_sequence(|cons| eight(cons))),
+        ))),
+    )))
+}
+
+fn twenty_four(cons: &mut Constructed<'_>) -> Result<u8, DecodeError> {
+    cons.take_sequence(|cons| cons.take_sequence(|cons| cons.take_sequence(
+        |cons| cons.take_sequence(|cons| cons.take_sequence(|cons| cons.take_sequence(
+            |cons| cons.take_sequence(|cons| cons.take_sequence(|cons| sixteen(cons))),
+        ))),
+    )))
+}
+
+fn thirty_two(cons: &mut Constructed<'_>) -> Result<u8, DecodeError> {
+    cons.take_sequence(|cons| cons.take_sequence(|cons| cons.take_sequence(
+        |cons| cons.take_sequence(|cons| cons.take_sequence(|cons| cons.take_sequence(
+            |cons| cons.take_sequence(|cons| cons.take_sequence(|cons| twenty_four(cons))),
+        ))),
+    )))
+}
+
+fn forty(cons: &mut Constructed<'_>) -> Result<u8, DecodeError> {
+    cons.take_sequence(|cons| cons.take_sequence(|cons| cons.take_sequence(
+        |cons| cons.take_sequence(|cons| cons.take_sequence(|cons| cons.take_sequence(
+            |cons| cons.take_sequence(|cons| cons.take_sequence(|cons| thirty_two(cons))),
+        ))),
+    )))
+}
+
+/// Values that are opened have no limit of depth of their own.
+#[test]
+fn opened_values_nest_deep(rt: HostRuntime) -> Result<(), Fail> {
+    let alloc = rt.alloc();
+    let row = nested(alloc, 0x30, 40, &[0x02, 0x01, 0x05])?;
+    assert!(rt; is_refused(read(alloc, Mode::Der, &row, forty)));
+    assert!(rt; read(alloc, Mode::Ber, &row, forty).is_ok_and(|n| n == 5));
+    assert!(rt; is_refused(skip(alloc, Mode::Ber, &row)));
+    let row = nested_definite(alloc, 0x30, 40, &[0x02, 0x01, 0x05])?;
+    for mode in MODES {
+        assert!(rt; read(alloc, mode, &row, forty).is_ok_and(|n| n == 5));
+        assert!(rt; is_refused(skip(alloc, mode, &row)));
+    }
+    let row = nested(alloc, 0x30, 100, &[0x05, 0x00])?;
+    let contents = |cons: &mut Constructed<'_>| cons.take_opt_primitive_if(Tag::SEQUENCE);
+    let answer = read(alloc, Mode::Ber, &row, contents)?;
+    assert!(rt; answer.is_some_and(|octets| Some(octets.as_slice()) == row.get(2..400)));
+    assert!(rt; is_refused(read(alloc, Mode::Der, &row, contents)));
+    for mode in MODES {
+        assert!(rt; is_refused(skip(alloc, mode, &row)));
+    }
+    Ok(())
+}
+
+#[test]
+fn laws_are_called(rt: HostRuntime) {
+    laws::values();
+    laws::tagged_values();
+    laws::integers_of_one_octet();
+    laws::integers_of_four_octets();
+    laws::booleans();
+    laws::nulls();
+    laws::object_identifiers();
+    laws::bit_strings();
+    laws::ia5_strings();
+    laws::octet_strings();
+    laws::skipped_values();
+    laws::contents_of_values();
+    laws::given_integers();
+    laws::skipped_contents();
+    laws::optional_values();
+    laws::captured_values();
+    laws::lists_of_integers();
+    let _ = rt;
+}
+
+#[test]
+fn laws_of_writing_are_called(rt: HostRuntime) {
+    write_laws::values_are_written();
+    write_laws::integers_are_written();
+    write_laws::numbers_are_written();
+    write_laws::booleans_are_written();
+    write_laws::nulls_are_written();
+    write_laws::object_identifiers_are_written();
+    write_laws::octet_strings_are_written();
+    write_laws::ia5_strings_are_written();
+    write_laws::bit_strings_are_written();
+    write_laws::lists_are_written();
+    write_laws::skipped_values_are_written();
+    write_laws::captured_values_are_written();
+    let _ = rt;
+}
