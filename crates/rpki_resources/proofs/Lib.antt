@@ -1,4 +1,5 @@
 pub mod Adding
+pub mod Aligned
 pub mod AsExact
 pub mod AsWriting
 pub mod Between

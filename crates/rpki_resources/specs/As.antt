@@ -4,7 +4,7 @@ use Rattle.rpki_resources.specs.declared.block.Block.{Block}
 use Rattle.rpki_resources.specs.declared.asn.AsBlock.{AsBlock}
 use Rattle.rpki_resources.specs.declared.asn.AsBlock.TheVariants.{Id, Range}
 
--- RFC 6793, section 3: a number of four octets
+-- a number of four octets (RFC 6793, section 3)
 abbrev pub IsAsn : ℕ → Type 0
 IsAsn n = n < 2 ^ 32
 
@@ -17,11 +17,11 @@ abbrev pub as_range : AsBlock → Block ℕ
 as_range (Id n) = record { min = n; max = n }
 as_range (Range a b) = record { min = a; max = b }
 
--- AS15562
+-- AS15562: the letters and the number in decimal (asplain, RFC 5396, section 2)
 abbrev pub asn_text : ℕ → List ℕ
 asn_text n = codes "AS" ++ decimal n
 
--- AS10, or AS10-AS20
+-- AS10, or AS10-AS20, which is this project's own
 abbrev pub as_block_text : AsBlock → List ℕ
 as_block_text (Id n) = asn_text n
 as_block_text (Range a b) = asn_text a ++ (codes "-" ++ asn_text b)

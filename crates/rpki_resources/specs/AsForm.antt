@@ -1,14 +1,14 @@
 -- The octets of a set of AS numbers.
-use Rattle.std.specs.Prelude.{◌≡◌, ℕ, ◌<◌, ◌≤◌, ◌^◌, ◌⊎◌, List, ◌++◌}
+use Rattle.std.specs.Prelude.{◌≡◌, ℕ, ◌≤◌, ◌^◌, ◌⊎◌, List, ◌++◌}
 use Rattle.rpki_der.specs.declared.mode.Mode.{Mode}
-use Rattle.rpki_der.specs.Grammar.{Within, IsInteger, Items}
+use Rattle.rpki_der.specs.Grammar.{Within, IntegerBelow, Items}
 use Rattle.rpki_resources.specs.declared.block.Block.{Block}
 use Rattle.rpki_resources.specs.Blocks.{IsSetOf}
 
 -- ASId: an INTEGER (RFC 3779, 3.2.3.10). AS numbers have four octets (RFC 6793, section 3), so it is from 0
 -- to 2 ^ 32 - 1.
 abbrev pub AsId : Mode → List ℕ → ℕ → Type 0
-AsId mode octets n = Within mode 0x02 (λ c. IsInteger c n × (n < 2 ^ 32)) octets
+AsId mode octets n = IntegerBelow (2 ^ 32) mode octets n
 
 -- ASRange: a SEQUENCE of the lower end and the upper end (3.2.3.8 and 3.2.3.9), where the lower one is not above
 -- the upper one

@@ -108,7 +108,8 @@ fn take_set(cons: &mut Constructed<'_>, alloc: Global) -> Result<AsBlocks, Decod
 impl Blocks<Asn> {
     /// Reads a set: a SEQUENCE OF of numbers and ranges, in any order, which may overlap, and
     /// of which there may be none (RFC 3779, sections 3.2.3.4 to 3.2.3.10). The lower end of a
-    /// range above its upper end is an error.
+    /// range above its upper end is `Malformed`, as is all else that is no such set. Where there is
+    /// no memory for the blocks, the answer is `Memory`.
     pub fn take_from(alloc: Global, cons: &mut Constructed<'_>) -> Result<AsBlocks, DecodeError>
         ensures reads { Reads (λ set. set) as_blocks_at cons.old result cons.new }
         ensures found { IfOk result (λ set. IsBytes cons.old.rest →

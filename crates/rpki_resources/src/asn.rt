@@ -18,7 +18,7 @@ use std::alloc::AllocError;
 use std::fmt;
 use std::marker::Model;
 
-/// The number of an autonomous system.
+/// The number of an autonomous system, of four octets (RFC 6793, section 3).
 #[derive(Clone, Copy, Debug, PartialEq, Eq, PartialOrd, Ord, Hash)]
 pub struct Asn(u32);
 
@@ -72,6 +72,7 @@ impl Number for Asn {
     ghost alike = { λ x y. refl };
 }
 
+/// `AS` and the number in decimal digits (asplain, RFC 5396, section 2).
 impl fmt::Display for Asn {
     ghost output = { λ n. Some (asn_text n) };
 
@@ -102,7 +103,7 @@ impl Encode for Asn {
     }
 }
 
-/// One AS number, or those from the first one to the second one.
+/// One AS number, or those from the first one to the second one (RFC 3779, section 3.2.3.5).
 #[derive(Clone, Copy, Debug, PartialEq, Eq)]
 pub enum AsBlock {
     Id(Asn),
@@ -165,7 +166,7 @@ impl Blocks<Asn> {
         AsBlocksIter(self.as_slice())
     }
 
-    /// Whether each number of the block is in the set.
+    /// Whether each number of the block, whose lower end is not above its upper end, is in the set.
     pub fn contains_block(&self, block: AsBlock) -> bool
         requires { IsBlock (λ n. n) (as_range block) }
         ensures { IsTrue result ↔ Covers (λ n. n) self.now (as_range block ∷ []) }
@@ -218,7 +219,8 @@ impl<'a> Iterator for AsBlocksIter<'a> {
 pub type AsBlocksBuilder = BlocksBuilder<Asn>;
 
 impl BlocksBuilder<Asn> {
-    /// Adds a block. Where there is no memory for it, the builder stays as it was.
+    /// Adds a block, whose lower end is not above its upper end. Where there is no memory for it, the
+    /// builder stays as it was.
     pub fn push(&mut self, block: AsBlock) -> Result<(), AllocError>
         requires { IsBlock (λ n. n) (as_range block) }
         ensures ok { OnOk result (self.new ≡ self.old ++ as_range block ∷ []) }
@@ -227,8 +229,9 @@ impl BlocksBuilder<Asn> {
         self.push_block(block.range())
     }
 
-    /// Adds each block that the iterator gives. Where there is no memory for all of them, the
-    /// builder stays as it was.
+    /// Adds each block that the iterator gives. The iterator comes to an end, and of each block the
+    /// lower end is not above the upper end. Where there is no memory for all of them, the builder
+    /// stays as it was.
     pub fn extend<I: Iterator<Item = AsBlock> + Drop>(
         &mut self,
         blocks: I,

@@ -88,7 +88,8 @@ impl<T: Number> Blocks<T> {
         Ok(())
     }
 
-    /// The numbers that are in one of the two sets or in both.
+    /// The numbers that are in one of the two sets or in both. Where there is no memory for them, the
+    /// answer is an error.
     pub fn union(&self, other: &Self) -> Result<Self, AllocError>
         ensures { IfOk result (λ v. IsUnion T.number self.now other.now v) }
     {
@@ -195,7 +196,7 @@ impl<T: Number> BlocksBuilder<T> {
     }
 
     /// The set of the numbers that were added. The blocks may overlap, and may have been added in
-    /// any order.
+    /// any order. Where there is no memory for the set, the builder is dropped with what was added.
     pub fn finalize(self) -> Result<Blocks<T>, AllocError>
         ensures numbers { IfOk result (λ set. SameSet T.number set self) }
         ensures canonical { IfOk result (IsCanonical T.number) }

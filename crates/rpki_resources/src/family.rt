@@ -57,7 +57,8 @@ fn take_family(cons: &mut Constructed<'_>, alloc: Global) -> Result<AddressFamil
 
 impl AddressFamily {
     /// Reads a family: an OCTET STRING of the two octets 00 01 for IPv4, or 00 02 for IPv6 (RFC
-    /// 3779, section 2.2.3.3).
+    /// 3779, section 2.2.3.3). Another family is `Malformed`, as is what is no such string. `Memory`
+    /// may come too, since in BER the string may be in pieces.
     pub fn take_from(
         alloc: Global,
         cons: &mut Constructed<'_>,
@@ -82,7 +83,7 @@ impl AddressFamily {
         }
     }
 
-    /// The family as an OCTET STRING.
+    /// The family as an OCTET STRING (RFC 3779, section 2.2.3.3).
     pub fn encode_ref(&self) -> Value<Raw<'static>>
         ensures tag { result.tag.octet ≡ 4 }
         ensures contents { result.contents.0.now ≡ afi self.now }

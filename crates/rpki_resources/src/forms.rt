@@ -11,7 +11,8 @@ ghost use Rattle.rpki_der.specs.Grammar.{IsBytes, IsReading};
 ghost use Rattle.rpki_der.specs.Written.{value_octets};
 ghost use Rattle.rpki_resources.specs.declared.block.Block.{Block};
 ghost use Rattle.rpki_resources.specs.declared.family.AddressFamily.{AddressFamily};
-ghost use Rattle.rpki_resources.specs.Blocks.{IsCanonical};
+ghost use Rattle.rpki_resources.specs.Blocks.{IsCanonical, SameSet, IsUnion};
+ghost use Rattle.rpki_resources.specs.Blocks.{IsIntersection};
 ghost use Rattle.rpki_resources.specs.Family.{max_bits, IsWithin};
 ghost use Rattle.rpki_resources.specs.FamilyForm.{afi, FamilyForm, family_at};
 ghost use Rattle.rpki_resources.specs.AsForm.{AsForm};
@@ -90,6 +91,26 @@ pub fn ip_sets_are_written_again()
         length (flat_map ip_octets set) < 2 ^ 32 →
         ip_blocks_at (max_bits family) again (value_octets 0x30 (flat_map ip_octets set) ++ rest)
         ≡ Some (set, rest) }
+{}
+
+/// Of a set that is made of blocks of a family, each block is of that family: of a set that is built
+/// of blocks which were added, of the numbers that are in one of two sets or in both, and of those
+/// that are in both. So what `IpBlocksBuilder::finalize`, `IpBlocks::union` and
+/// `IpBlocks::intersection_assign` make of such blocks is written in the form of the family
+/// (`IpBlocks::encode_ref`). The addresses of a prefix are such a block where the prefix has no more
+/// bits than an address of the family (`Prefix::range`).
+pub fn sets_of_a_family()
+    ensures built { (family : AddressFamily) (list set : List (Block ℕ)) →
+        All (IsWithin family) list → IsCanonical (λ n. n) set → SameSet (λ n. n) set list →
+        All (IsWithin family) set }
+    ensures united { (family : AddressFamily) (first second set : List (Block ℕ)) →
+        All (IsWithin family) first → All (IsWithin family) second →
+        IsCanonical (λ n. n) set → IsUnion (λ n. n) first second set →
+        All (IsWithin family) set }
+    ensures met { (family : AddressFamily) (first second set : List (Block ℕ)) →
+        All (IsWithin family) first → All (IsWithin family) second →
+        IsCanonical (λ n. n) set → IsIntersection (λ n. n) first second set →
+        All (IsWithin family) set }
 {}
 
 /// In the text of an IPv6 address the longest run of two or more zero groups, and of the longest

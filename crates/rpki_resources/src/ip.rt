@@ -16,7 +16,8 @@ use crate::walks::covers;
 use std::alloc::AllocError;
 use std::marker::Model;
 
-/// The addresses of a prefix, or those from the first address to the second one.
+/// The addresses of a prefix, or those from the first address to the second one (RFC 3779, section
+/// 2.2.3.7).
 #[derive(Clone, Copy, Debug, PartialEq, Eq)]
 pub enum IpBlock {
     Prefix(Prefix),
@@ -73,7 +74,7 @@ impl Blocks<Addr> {
         IpBlocksIter(self.as_slice())
     }
 
-    /// Whether each address of the block is in the set.
+    /// Whether each address of the block, whose lower end is not above its upper end, is in the set.
     pub fn contains_block(&self, block: IpBlock) -> bool
         requires { IsBlock (λ n. n) (ip_range block) }
         ensures { IsTrue result ↔ Covers (λ n. n) self.now (ip_range block ∷ []) }
@@ -126,7 +127,8 @@ impl<'a> Iterator for IpBlocksIter<'a> {
 pub type IpBlocksBuilder = BlocksBuilder<Addr>;
 
 impl BlocksBuilder<Addr> {
-    /// Adds a block. Where there is no memory for it, the builder stays as it was.
+    /// Adds a block, whose lower end is not above its upper end. Where there is no memory for it, the
+    /// builder stays as it was.
     pub fn push(&mut self, block: IpBlock) -> Result<(), AllocError>
         requires { IsBlock (λ n. n) (ip_range block) }
         ensures ok { OnOk result (self.new ≡ self.old ++ ip_range block ∷ []) }
@@ -135,8 +137,9 @@ impl BlocksBuilder<Addr> {
         self.push_block(block.range())
     }
 
-    /// Adds each block that the iterator gives. Where there is no memory for all of them, the
-    /// builder stays as it was.
+    /// Adds each block that the iterator gives. The iterator comes to an end, and of each block the
+    /// lower end is not above the upper end. Where there is no memory for all of them, the builder
+    /// stays as it was.
     pub fn extend<I: Iterator<Item = IpBlock> + Drop>(
         &mut self,
         blocks: I,

@@ -10,8 +10,8 @@ use crate::addr::Addr;
 use std::marker::Model;
 use std::net::{Ipv4Addr, Ipv6Addr};
 
-/// The addresses that begin with the same bits: an address, in which all other bits are zero, and
-/// how many bits they are, from 0 to 128.
+/// The addresses that begin with the same bits (RFC 3779, section 2.1.1): an address, in which all
+/// other bits are zero, and how many bits they are, from 0 to 128.
 #[derive(Clone, Copy, Debug, PartialEq, Eq)]
 pub struct Prefix {
     addr: Addr,
@@ -32,7 +32,8 @@ impl Model for Prefix {
 }
 
 impl Prefix {
-    /// The prefix of this length that an address is in: the bits behind the length are cleared.
+    /// The prefix of this length, in bits, that an address is in: the bits behind the length are
+    /// cleared. The length is at most 128.
     pub fn new(addr: Addr, len: u8) -> Prefix
         requires { len ≤ 128 }
         ensures { result ≡ record { addr = first_of addr len; len = len } }
@@ -50,7 +51,7 @@ impl Prefix {
         self.addr
     }
 
-    /// How many bits all addresses share.
+    /// The length in bits: how many all addresses share, from 0 to 128.
     pub fn addr_len(self) -> u8
         ensures len { result ≡ self.len }
         ensures most { result ≤ 128 }

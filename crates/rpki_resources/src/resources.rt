@@ -28,6 +28,20 @@ pub enum Claim<B> {
     Explicit(B),
 }
 
+impl<B: Clone> Clone for Claim<B> {
+    ghost use Rattle.rpki_resources.specs.Claim.{IsClaimClone};
+
+    ghost is_clone = { IsClaimClone B.is_clone };
+
+    fn clone(&self) -> Result<Self, AllocError> {
+        match self {
+            Claim::Missing => Ok(Claim::Missing),
+            Claim::Inherit => Ok(Claim::Inherit),
+            Claim::Explicit(numbers) => Ok(Claim::Explicit(numbers.clone()?)),
+        }
+    }
+}
+
 /// The claim of a certificate for one family. One that is missing stands for the empty set.
 #[derive(Debug, Drop)]
 pub struct Resources<T: Number> {
@@ -125,7 +139,9 @@ impl<T: Number> Resources<T> {
         !self.is_missing()
     }
 
-    /// The blocks: none where the family is missing. What is inherited has no blocks here.
+    /// The blocks: none where the family is missing. What is inherited has no blocks here, and
+    /// answers `BlocksError::Inherit`. Where there is no memory for a copy of them, the answer is
+    /// `BlocksError::Memory`.
     pub fn to_blocks(&self, alloc: Global) -> Result<Blocks<T>, BlocksError>
         ensures blocks { IfOk result (HasBlocks self.now) }
         ensures inherit { (result ≡ Err BlocksError.Inherit) ↔ (self.now ≡ Claim.Inherit) }
@@ -158,8 +174,8 @@ impl<T: Number> Clone for Resources<T> {
 }
 
 impl<T: Number> Blocks<T> {
-    /// Whether the resources have each of these numbers. What is inherited has all of them, and a
-    /// family that is missing has none.
+    /// Whether the resources have each of these numbers (RFC 3779, sections 2.3 and 3.3). What is
+    /// inherited has all of them, and a family that is missing has none.
     pub fn verify_covered(&self, resources: &Resources<T>) -> Result<(), Overclaimed>
         ensures { IsOk result ↔ IsCoveredBy T.number resources.now self.now }
     {
@@ -219,7 +235,8 @@ impl<T: Number> ResourcesBuilder<T> {
     }
 
     /// The claim: of the blocks that were added it is the set of their numbers, and missing where
-    /// there is none.
+    /// there is none. Where there is no memory for the set, the builder is dropped with what was
+    /// added.
     pub fn finalize(self) -> Result<Resources<T>, AllocError>
         ensures { IfOk result (IsBuilt T.number self) }
     {
@@ -234,8 +251,8 @@ impl<T: Number> ResourcesBuilder<T> {
 
 impl ResourcesBuilder<Asn> {
     /// Adds the blocks that `op` adds to those that are there. What was inherited is inherited no
-    /// longer. Where `op` answers an error, or there is no memory to call it, the builder stays as
-    /// it was.
+    /// longer. `op` is one that may be called on every builder, and is lent a copy. Where it answers
+    /// an error, or there is no memory for the copy, the builder stays as it was.
     pub fn blocks<F: FnOnce(&mut AsBlocksBuilder) -> Result<(), AllocError>>(
         &mut self,
         op: F,
@@ -255,8 +272,8 @@ impl ResourcesBuilder<Asn> {
 
 impl ResourcesBuilder<Addr> {
     /// Adds the blocks that `op` adds to those that are there. What was inherited is inherited no
-    /// longer. Where `op` answers an error, or there is no memory to call it, the builder stays as
-    /// it was.
+    /// longer. `op` is one that may be called on every builder, and is lent a copy. Where it answers
+    /// an error, or there is no memory for the copy, the builder stays as it was.
     pub fn blocks<F: FnOnce(&mut IpBlocksBuilder) -> Result<(), AllocError>>(
         &mut self,
         op: F,

@@ -8,14 +8,16 @@ ghost use Rattle.rpki_resources.specs.Text.{prefix_text};
 ghost use Rattle.rpki_resources.specs.declared.family.AddressFamily.TheVariants.{Ipv4, Ipv6};
 
 mod growth;
+mod octets;
+mod of_a_family;
 
 use crate::{
     Addr, AddressFamily, AsBlock, AsBlocks, AsBlocksBuilder, AsResources, AsResourcesBuilder, Asn,
-    BlocksError, IpBlock, IpBlocks, IpBlocksBuilder, IpResources, IpResourcesBuilder, MaxLenPrefix,
-    Overclaimed, Prefix, SmallAsnSet,
+    Block, BlocksError, Claim, IpBlock, IpBlocks, IpBlocksBuilder, IpResources, IpResourcesBuilder,
+    MaxLenPrefix, Overclaimed, Prefix, SmallAsnSet,
 };
 use bytes::Bytes;
-use rpki_der::{Constructed, DecodeError, Encode, EncodeError, Mode};
+use rpki_der::{Constructed, DecodeError, EncodeError, Mode};
 use std::alloc::{AllocError, Global};
 use std::fmt;
 use std::net::{Ipv4Addr, Ipv6Addr};
@@ -95,6 +97,22 @@ fn are_octets(written: Result<Vec<u8>, EncodeError>, want: &[u8]) -> Result<bool
     }
 }
 
+/// The numbers from one to another.
+fn numbers(min: u32, max: u32) -> Block<Asn> {
+    Block {
+        min: Asn::from_u32(min),
+        max: Asn::from_u32(max),
+    }
+}
+
+/// The addresses from one to another.
+fn addresses(min: u128, max: u128) -> Block<Addr> {
+    Block {
+        min: Addr::from_bits(min),
+        max: Addr::from_bits(max),
+    }
+}
+
 fn v4(bits: u32) -> Addr {
     Addr::from_bits(u128::from(bits) << 96)
 }
@@ -119,6 +137,8 @@ fn as_numbers(rt: HostRuntime) -> Result<(), Fail> {
     let copy = few.clone()?;
     assert_eq!(rt; (copy.len(), copy.is_empty()), (2, false));
     assert_eq!(rt; copy.as_slice()[1], Asn::from_u32(7));
+    let none = SmallAsnSet::from_ascending(Vec::new(alloc));
+    assert_eq!(rt; (none.len(), none.is_empty()), (0, true));
     Ok(())
 }
 
@@ -145,14 +165,42 @@ fn as_sets(rt: HostRuntime) -> Result<(), Fail> {
     );
     assert_eq!(rt; rest.next(), None);
     assert_eq!(rt; both.as_slice().len(), 2);
-    // blocks that follow one another are joined, and those with a number between them are not
-    assert_eq!(rt; as_set(alloc, &[(1, 2), (3, 4)])?.as_slice().len(), 1);
-    assert_eq!(rt; as_set(alloc, &[(1, 2), (4, 4)])?.as_slice().len(), 2);
     let ends = as_set(alloc, &[(u32::MAX, u32::MAX), (0, 0)])?;
     assert_eq!(rt; ends.iter().next(), Some(AsBlock::Id(Asn::MIN)));
     assert!(rt; ends.contains_block(AsBlock::Id(Asn::MAX)));
     assert!(rt; !ends.contains_block(AsBlock::Id(Asn::from_u32(1))));
     assert!(rt; as_set(alloc, &[(1, u32::MAX), (0, 0)])? == as_set(alloc, &[(0, u32::MAX)])?);
+    Ok(())
+}
+
+#[test]
+fn joined(rt: HostRuntime) -> Result<(), Fail> {
+    let alloc = rt.alloc();
+    let all = as_set(alloc, &[(1, 5)])?.union(&as_set(alloc, &[(4, 9)])?)?;
+    assert!(rt; all == as_set(alloc, &[(1, 9)])?);
+    assert!(rt; all.as_slice() == [numbers(1, 9)].as_slice());
+    // blocks that follow one another are joined, and those with a number between them are not
+    let next = as_set(alloc, &[(1, 2), (3, 4)])?;
+    assert!(rt; next.as_slice() == [numbers(1, 4)].as_slice());
+    let apart = as_set(alloc, &[(1, 2), (4, 4)])?;
+    assert!(rt; apart.as_slice() == [numbers(1, 2), numbers(4, 4)].as_slice());
+    let next = ip_set(alloc, &[(1, 2), (3, 4)])?;
+    assert!(rt; next.as_slice() == [addresses(1, 4)].as_slice());
+    let apart = ip_set(alloc, &[(1, 2), (4, 4)])?;
+    assert!(rt; apart.as_slice() == [addresses(1, 2), addresses(4, 4)].as_slice());
+    Ok(())
+}
+
+#[test]
+fn sets_apart(rt: HostRuntime) -> Result<(), Fail> {
+    let alloc = rt.alloc();
+    let five = as_set(alloc, &[(1, 5)])?;
+    // the first block is covered, and the second one is not
+    assert!(rt; !five.contains(&as_set(alloc, &[(1, 2), (9, 9)])?));
+    let mut none = five.clone()?;
+    none.intersection_assign(&as_set(alloc, &[(6, 9)])?)?;
+    assert!(rt; none.is_empty());
+    assert!(rt; five.union(&none)? == five && none.union(&five)? == five);
     Ok(())
 }
 
@@ -237,6 +285,7 @@ fn claims(rt: HostRuntime) -> Result<(), Fail> {
     }
     let named = AsResources::blocks(set.clone()?);
     assert!(rt; named.is_present() && named.to_blocks(alloc)? == set);
+    assert_eq!(rt; set.verify_covered(&named), Ok(()));
     assert_eq!(rt;
         as_set(alloc, &[(5, 6)])?.verify_covered(&named),
         Err(Overclaimed)
@@ -244,9 +293,35 @@ fn claims(rt: HostRuntime) -> Result<(), Fail> {
     assert!(rt; AsResources::explicit(none).is_present());
     let copy = named.clone()?;
     assert!(rt; copy.is_present() && copy.to_blocks(alloc)? == set);
-    let addresses = ip_set(alloc, &[(5, 6), (8, 9)])?;
-    let copy = IpResources::explicit(addresses.clone()?).clone()?;
-    assert!(rt; copy.is_present() && copy.to_blocks(alloc)? == addresses);
+    match Claim::Explicit(set.clone()?).clone()? {
+        Claim::Explicit(copy) => assert!(rt; copy == set),
+        _ => assert!(rt; false),
+    }
+    Ok(())
+}
+
+#[test]
+fn address_claims(rt: HostRuntime) -> Result<(), Fail> {
+    let alloc = rt.alloc();
+    let mut builder = IpBlocksBuilder::new(alloc);
+    builder.push(IpBlock::Prefix(Prefix::new(Addr::from_bits(8), 125)))?;
+    let eight = builder.clone()?.finalize()?;
+    let mut both = eight.union(&ip_set(alloc, &[(12, 20)])?)?;
+    assert!(rt; both.as_slice() == [addresses(8, 20)].as_slice());
+    both.intersection_assign(&ip_set(alloc, &[(0, 9), (18, u128::MAX)])?)?;
+    assert!(rt; both.as_slice() == [addresses(8, 9), addresses(18, 20)].as_slice());
+    let missing = IpResources::missing();
+    assert!(rt; missing.is_missing());
+    assert_eq!(rt; eight.verify_covered(&missing), Err(Overclaimed));
+    assert_eq!(rt; eight.verify_covered(&IpResources::inherit()), Ok(()));
+    let named = IpResources::blocks(eight.clone()?);
+    assert_eq!(rt; eight.verify_covered(&named), Ok(()));
+    assert_eq!(rt; both.verify_covered(&named), Err(Overclaimed));
+    let copy = IpResources::explicit(both.clone()?).clone()?;
+    assert!(rt; copy.is_present() && copy.to_blocks(alloc)? == both);
+    let mut claim = IpResourcesBuilder::new(alloc);
+    claim.inherit();
+    assert!(rt; claim.finalize()?.is_inherited());
     Ok(())
 }
 
@@ -315,6 +390,17 @@ fn prefixes_written(rt: HostRuntime) -> Result<(), Fail> {
 }
 
 #[test]
+fn addresses_and_bits(rt: HostRuntime) {
+    let addr = v4(0xC000_0201);
+    assert_eq!(rt; addr.to_bits(), 0xC000_0201 << 96);
+    assert_eq!(rt; addr.to_v4(), Ipv4Addr::new(192, 0, 2, 1));
+    assert_eq!(rt; Addr::from_bits(1).to_v6(), Ipv6Addr::LOCALHOST);
+    let prefix = Prefix::new(addr, 24);
+    assert_eq!(rt; IpBlock::from(prefix), IpBlock::Prefix(prefix));
+    assert_eq!(rt; AddressFamily::Ipv6.max_len(), 128);
+}
+
+#[test]
 fn prefixes(rt: HostRuntime) -> Result<(), Fail> {
     let alloc = rt.alloc();
     let prefix = Prefix::new(v4(0xC000_02FF), 24);
@@ -371,151 +457,14 @@ fn address_sets(rt: HostRuntime) -> Result<(), Fail> {
     );
     let five = IpBlock::Range(Addr::from_bits(5), Addr::from_bits(6));
     assert_eq!(rt; blocks.next(), Some(five));
+    let last = IpBlock::Prefix(Prefix::new(Addr::from_bits(u128::MAX), 128));
+    assert_eq!(rt; blocks.next(), Some(last));
+    assert_eq!(rt; blocks.next(), None);
     assert!(rt; all.contains(&ends) && ends.contains_block(five) && !ends.contains(&all));
     // in any order, overlapping, and one of them twice
     let set = ip_set(alloc, &[(7, 9), (1, 3), (2, 4), (7, 9), (20, u128::MAX)])?;
     assert!(rt; set == ip_set(alloc, &[(1, 4), (7, 9), (20, u128::MAX)])?);
     assert_eq!(rt; set.as_slice().len(), 3);
-    Ok(())
-}
-
-#[test]
-fn as_octets(rt: HostRuntime) -> Result<(), Fail> {
-    let alloc = rt.alloc();
-    let set = as_set(alloc, &[(1, 9), (64496, 64496)])?;
-    // out of order, overlapping, and one of them twice
-    let octets: [u8; 37] = [
-        0x30, 0x22, 0x02, 0x03, 0x00, 0xFB, 0xF0, 0x30, 0x06, 0x02, 0x01, 0x04, 0x02, 0x01, 0x09,
-        0x30, 0x06, 0x02, 0x01, 0x01, 0x02, 0x01, 0x05, 0x30, 0x06, 0x02, 0x01, 0x04, 0x02, 0x01,
-        0x09, 0x02, 0x03, 0x00, 0xFB, 0xF0, 0xFF,
-    ];
-    for mode in MODES {
-        assert!(rt; read_as(alloc, mode, &octets)? == set);
-        assert!(rt; read_as(alloc, mode, &[0x30, 0x00])?.is_empty());
-        // the lower end above the upper end, three numbers in a range, and one below 0
-        let above: [u8; 10] = [0x30, 0x08, 0x30, 0x06, 0x02, 0x01, 0x05, 0x02, 0x01, 0x04];
-        assert!(rt; is_refused(read_as(alloc, mode, &above))?);
-        let three: [u8; 13] = [
-            0x30, 0x0B, 0x30, 0x09, 0x02, 0x01, 0x01, 0x02, 0x01, 0x02, 0x02, 0x01, 0x03,
-        ];
-        assert!(rt; is_refused(read_as(alloc, mode, &three))?);
-        assert!(rt; is_refused(read_as(alloc, mode, &[0x30, 0x03, 0x02, 0x01, 0xFF]))?);
-    }
-    let written: [u8; 13] = [
-        0x30, 0x06, 0x02, 0x01, 0x01, 0x02, 0x01, 0x09, 0x02, 0x03, 0x00, 0xFB, 0xF0,
-    ];
-    assert!(rt; are_octets(set.encode_ref().to_bytes(alloc), &written)?);
-    Ok(())
-}
-
-#[test]
-fn address_octets(rt: HostRuntime) -> Result<(), Fail> {
-    let alloc = rt.alloc();
-    let three = ip_set(alloc, &[(10 << 120, (0x0A00_0003 << 96) - 1)])?;
-    let written: [u8; 13] = [
-        0x30, 0x0B, 0x03, 0x02, 0x01, 0x0A, 0x03, 0x05, 0x00, 0x0A, 0x00, 0x00, 0x02,
-    ];
-    let octets = three.encode_ref(AddressFamily::Ipv4).to_bytes(alloc);
-    assert!(rt; are_octets(octets, &written)?);
-    let all = ip_set(alloc, &[(0, u128::MAX)])?;
-    let octets = all.encode_ref(AddressFamily::Ipv4).to_bytes(alloc);
-    assert!(rt; are_octets(octets, &[0x03, 0x01, 0x00])?);
-    let ten = ip_set(alloc, &[(10 << 120, (11 << 120) - 1)])?;
-    let octets = ten.encode_ref(AddressFamily::Ipv4).to_bytes(alloc);
-    assert!(rt; are_octets(octets, &[0x03, 0x02, 0x00, 0x0A])?);
-    // from 10.0.0.0 to 10.0.0.2
-    let range: [u8; 15] = [
-        0x30, 0x0D, 0x30, 0x0B, 0x03, 0x02, 0x01, 0x0A, 0x03, 0x05, 0x00, 0x0A, 0x00, 0x00, 0x02,
-    ];
-    // 11.0.0.0/8, 10.0.0.0/8 twice, and 10.0.0.0/9
-    let overlapping: [u8; 19] = [
-        0x30, 0x11, 0x03, 0x02, 0x00, 0x0B, 0x03, 0x02, 0x00, 0x0A, 0x03, 0x02, 0x00, 0x0A, 0x03,
-        0x03, 0x07, 0x0A, 0x00,
-    ];
-    let prefix: [u8; 9] = [0x30, 0x07, 0x03, 0x05, 0x00, 0x20, 0x01, 0x0D, 0xB8];
-    for mode in MODES {
-        assert!(rt; read_ip(alloc, mode, AddressFamily::Ipv4, &range)? == three);
-        let set = read_ip(alloc, mode, AddressFamily::Ipv4, &overlapping)?;
-        assert!(rt; set == ip_set(alloc, &[(10 << 120, (12 << 120) - 1)])?);
-        let set = read_ip(alloc, mode, AddressFamily::Ipv6, &prefix)?;
-        let Some(block) = set.iter().next() else {
-            assert!(rt; false);
-            return Ok(());
-        };
-        let text = block.display(AddressFamily::Ipv6);
-        assert_eq!(rt; format!(in alloc; "{text}")?.as_str(), "2001:db8::/32");
-        // the unused bits do not matter, 33 bits are too many for IPv4
-        let bits: [u8; 6] = [0x30, 0x04, 0x03, 0x02, 0x01, 0x0B];
-        let set = read_ip(alloc, mode, AddressFamily::Ipv4, &bits)?;
-        assert!(rt; set == ip_set(alloc, &[(10 << 120, (12 << 120) - 1)])?);
-        let long: [u8; 10] = [0x30, 0x08, 0x03, 0x06, 0x07, 0x0A, 0x00, 0x00, 0x00, 0x80];
-        assert!(rt; is_refused(read_ip(alloc, mode, AddressFamily::Ipv4, &long))?);
-        assert!(rt; !read_ip(alloc, mode, AddressFamily::Ipv6, &long)?.is_empty());
-        // from 11.0.0.0 to 10.255.255.255
-        let above: [u8; 12] = [
-            0x30, 0x0A, 0x30, 0x08, 0x03, 0x02, 0x00, 0x0B, 0x03, 0x02, 0x00, 0x0A,
-        ];
-        assert!(rt; is_refused(read_ip(alloc, mode, AddressFamily::Ipv4, &above))?);
-    }
-    Ok(())
-}
-
-#[test]
-fn families(rt: HostRuntime) -> Result<(), Fail> {
-    let alloc = rt.alloc();
-    for family in [AddressFamily::Ipv4, AddressFamily::Ipv6] {
-        match family.encode_ref().to_bytes(alloc) {
-            Ok(octets) => {
-                for mode in MODES {
-                    assert_eq!(rt; read_family(alloc, mode, &octets)?, family);
-                }
-            }
-            Err(EncodeError::Memory) => return Err(Fail::from(AllocError)),
-            Err(_) => assert!(rt; false),
-        }
-    }
-    assert_eq!(rt; AddressFamily::Ipv4.max_len(), 32);
-    for octets in [[4, 2, 0, 3], [4, 2, 1, 1], [4, 1, 1, 0]] {
-        for mode in MODES {
-            assert!(rt; is_refused(read_family(alloc, mode, &octets))?);
-        }
-    }
-    // in two pieces
-    let pieces: [u8; 10] = [0x24, 0x80, 0x04, 0x01, 0x00, 0x04, 0x01, 0x02, 0x00, 0x00];
-    assert_eq!(rt;
-        read_family(alloc, Mode::Ber, &pieces)?,
-        AddressFamily::Ipv6
-    );
-    assert!(rt; is_refused(read_family(alloc, Mode::Der, &pieces))?);
-    Ok(())
-}
-
-#[test]
-fn lengths(rt: HostRuntime) -> Result<(), Fail> {
-    let alloc = rt.alloc();
-    // of an indefinite length, and of a length in a longer form than it needs
-    let five = as_set(alloc, &[(5, 5)])?;
-    let rows: [&[u8]; 2] = [
-        &[0x30, 0x80, 0x02, 0x01, 0x05, 0x00, 0x00],
-        &[0x30, 0x81, 0x03, 0x02, 0x01, 0x05],
-    ];
-    for row in rows {
-        assert!(rt; read_as(alloc, Mode::Ber, row)? == five);
-        assert!(rt; is_refused(read_as(alloc, Mode::Der, row))?);
-    }
-    let ten = ip_set(alloc, &[(10 << 120, (12 << 120) - 1)])?;
-    let rows: [&[u8]; 3] = [
-        &[0x30, 0x80, 0x03, 0x02, 0x01, 0x0A, 0x00, 0x00],
-        &[0x30, 0x81, 0x05, 0x03, 0x81, 0x02, 0x01, 0x0A],
-        &[
-            0x30, 0x80, 0x30, 0x80, 0x03, 0x02, 0x00, 0x0A, 0x03, 0x02, 0x00, 0x0B, 0x00, 0x00,
-            0x00, 0x00,
-        ],
-    ];
-    for row in rows {
-        assert!(rt; read_ip(alloc, Mode::Ber, AddressFamily::Ipv4, row)? == ten);
-        assert!(rt; is_refused(read_ip(alloc, Mode::Der, AddressFamily::Ipv4, row))?);
-    }
     Ok(())
 }
 

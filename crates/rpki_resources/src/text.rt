@@ -12,7 +12,8 @@ use crate::prefix::Prefix;
 use std::fmt;
 
 /// An address of a family, to be printed: an IPv4 address as four decimal numbers with dots, an
-/// IPv6 address by RFC 5952, section 4, with no dotted part.
+/// IPv6 address by RFC 5952, section 4. No IPv6 address has a dotted part, which section 5
+/// recommends for mapped ones: that is this project's own.
 #[derive(Clone, Copy, Debug, PartialEq, Eq)]
 pub struct DisplayAddr {
     pub family: AddressFamily,
@@ -108,7 +109,7 @@ impl Prefix {
         write!(f, "{prefix}")
     }
 
-    /// Writes an IPv6 prefix, as `2001:db8::/32`.
+    /// Writes an IPv6 prefix, as `2001:db8::/32` (RFC 5952, section 4).
     pub fn fmt_v6<W: fmt::Write>(&self, f: &mut fmt::Formatter<W>) -> fmt::Result
         ensures { DisplaysOnOk W.write_str_gives f.old result
             (Some (prefix_text Ipv6 self.now)) f.new }
@@ -131,7 +132,7 @@ impl IpBlock {
 }
 
 /// A prefix with, perhaps, the length up to which longer ones are authorized too (RFC 6482,
-/// section 3.3).
+/// section 3.3), both in bits.
 #[derive(Clone, Copy, Debug, PartialEq, Eq)]
 pub struct MaxLenPrefix {
     pub family: AddressFamily,

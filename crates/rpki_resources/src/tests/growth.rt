@@ -103,7 +103,7 @@ fn are_addresses(set: &IpBlocks) -> bool {
     set.as_slice() == [all].as_slice()
 }
 
-/// The copy of a set, of its builder, of a claim and of what builds it.
+/// The copy of a set, of its builder and of a claim.
 fn copied(alloc: Global) -> Result<AsBlocks, AllocError> {
     let mut builder = AsBlocksBuilder::new(alloc);
     builder.push(id(6))?;
