@@ -41,7 +41,8 @@ impl Model for AsProviderAttestation {
 }
 
 impl AsProviderAttestation {
-    /// Reads the content at the front of the source, by the rules of DER.
+    /// Reads the content at the front of the source, by the rules of DER (section 3 of the profile). Refuses by `Malformed`
+    /// or by the `Content` fault that is met first where there is none, and by `Memory` where no memory was to be had.
     pub fn decode(alloc: Global, source: Bytes) -> Result<AsProviderAttestation, DecodeError>
         ensures found { IfOk result (λ a. (rest : List ℕ) × Front (AspaForm Der) source a rest) }
         ensures accepted { (a : Aspa) (rest : List ℕ) → Front (AspaForm Der) source a rest

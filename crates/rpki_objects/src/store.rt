@@ -4,6 +4,7 @@ ghost use Rattle.std.specs.Prelude.{◌≡◌, ℕ, List, Option, None};
 ghost use Rattle.rpki_objects.specs.Store.{IsRead};
 
 use std::alloc::Global;
+use std::marker::Model;
 use std::rt::Files;
 use std::{fs, io};
 
@@ -32,10 +33,16 @@ pub struct Disk<'a, R> {
     runtime: &'a R,
 }
 
+impl<'a, R> Model for Disk<'a, R> {
+    ghost Value = { R };
+
+    ghost view = { λ d. d.runtime.now };
+}
+
 impl<'a, R> Disk<'a, R> {
     /// The files that this runtime reaches.
     pub fn new(runtime: &'a R) -> Disk<'a, R>
-        ensures { result.runtime.now ≡ runtime.now }
+        ensures { result ≡ runtime.now }
     {
         Disk { runtime }
     }

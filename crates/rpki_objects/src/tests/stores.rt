@@ -30,7 +30,7 @@ impl Store for MemoryStore {
     }
 }
 
-/// A shelf with one file, `file`, of these octets.
+/// A store with one file, `file`, of these octets.
 pub fn make_store(alloc: Global, octets: &[u8]) -> Result<MemoryStore, AllocError> {
     let mut files = BTreeMap::new(alloc);
     files.insert(
