@@ -14,7 +14,8 @@ use Rattle.rpki_der.proofs.Reading.Lists.{exact-many, begins-within}
 use Rattle.rpki_objects.proofs.Providers.{test-sound, test-complete, not-true, not-is}
 use Rattle.rpki_objects.proofs.Tested.{exact-tested}
 use Rattle.rpki_resources.specs.As.{IsAsn}
-use Rattle.rpki_objects.specs.Aspa.{Aspa, IsAttestation, AsnForm, AspaForm}
+use Rattle.rpki_resources.specs.AsForm.{AsId}
+use Rattle.rpki_objects.specs.Aspa.{Aspa, IsAttestation, AspaForm}
 use Rattle.rpki_objects.specs.AspaRead.{are_providers, providers_at, fields_at}
 
 -- ---- the fields
@@ -23,13 +24,13 @@ exact-version : (mode : Mode) → IsExact anything (in_value 160 (primitive 2 (t
 exact-version mode = exact-in 160 (primitive 2 (this 1)) mode (λ v _. Integer mode v 1) (exact-before the_end _ _ (exact-primitive 2 (this 1) mode (λ c _. IsInteger c 1) (exact-this 1 (omega arith))))
 
 abbrev Providers : Mode → ℕ → List ℕ → List ℕ → Type 0
-Providers mode customer o providers = Within mode 48 (λ list. Items (AsnForm mode) list providers × (are_providers customer providers ≡ true)) o
+Providers mode customer o providers = Within mode 48 (λ list. Items (AsId mode) list providers × (are_providers customer providers ≡ true)) o
 
 exact-providers : (mode : Mode) (customer : ℕ) → IsExact anything (in_value 48 (providers_at customer) mode) (Providers mode customer)
 exact-providers mode customer =
-    exact-in 48 (providers_at customer) mode (λ list ps. Items (AsnForm mode) list ps × (are_providers customer ps ≡ true))
-    (exact-tested the_end (are_providers customer) (many (optional 2 u32_at)) mode (Items (AsnForm mode))
-    (exact-many 2 u32_at mode (AsnForm mode) (exact-u32 mode) (Shortens-optional 2 (unsigned_of 4) mode) (begins-within 2 mode (λ c n. IsInteger c n × IsAsn n))))
+    exact-in 48 (providers_at customer) mode (λ list ps. Items (AsId mode) list ps × (are_providers customer ps ≡ true))
+    (exact-tested the_end (are_providers customer) (many (optional 2 u32_at)) mode (Items (AsId mode))
+    (exact-many 2 u32_at mode (AsId mode) (exact-u32 mode) (Shortens-optional 2 (unsigned_of 4) mode) (begins-within 2 mode (λ c n. IsInteger c n × IsAsn n))))
 
 abbrev aspa : ℕ → List ℕ → Aspa
 aspa customer providers = record { customer = customer; providers = providers }
@@ -38,7 +39,7 @@ aspa customer providers = record { customer = customer; providers = providers }
 abbrev Parts : Mode → List ℕ → Aspa → Type 0
 Parts mode o a =
     (u : Unit {0}) × (o1 : List ℕ) × (o2 : List ℕ) × (o ≡ o1 ++ o2) × Within mode 160 (λ v. Integer mode v 1) o1
-    × ((c : ℕ) × (o3 : List ℕ) × (o4 : List ℕ) × (o2 ≡ o3 ++ o4) × AsnForm mode o3 c
+    × ((c : ℕ) × (o3 : List ℕ) × (o4 : List ℕ) × (o2 ≡ o3 ++ o4) × AsId mode o3 c
     × ((not (c == 0) ≡ true)
     × ((ps : List ℕ) × (o5 : List ℕ) × (o6 : List ℕ) × (o4 ≡ o5 ++ o6) × Providers mode c o5 ps
     × ((o6 ≡ []) × (aspa c ps ≡ a)))))
@@ -60,15 +61,15 @@ Fields mode fields a =
     (version : List ℕ) × (customer : List ℕ) × (providers : List ℕ)
     × (fields ≡ version ++ (customer ++ providers))
     × Within mode 160 (λ contents. Integer mode contents 1) version
-    × AsnForm mode customer a.customer
-    × Within mode 48 (λ list. Items (AsnForm mode) list a.providers) providers
+    × AsId mode customer a.customer
+    × Within mode 48 (λ list. Items (AsId mode) list a.providers) providers
     × IsAttestation a
 
-items-numbers : (mode : Mode) (o ps : List ℕ) → Items (AsnForm mode) o ps → All IsAsn ps
+items-numbers : (mode : Mode) (o ps : List ℕ) → Items (AsId mode) o ps → All IsAsn ps
 items-numbers mode o [] h = All-nil IsAsn
 items-numbers mode o (p ∷ ps) h = All-cons IsAsn p ps h.3.2.1 (items-numbers mode h.1 ps h.4)
 
-attested : (mode : Mode) (c : ℕ) (ps o list : List ℕ) → AsnForm mode o c → not (c == 0) ≡ true → Items (AsnForm mode) list ps → are_providers c ps ≡ true → IsAttestation (aspa c ps)
+attested : (mode : Mode) (c : ℕ) (ps o list : List ℕ) → AsId mode o c → not (c == 0) ≡ true → Items (AsId mode) list ps → are_providers c ps ≡ true → IsAttestation (aspa c ps)
 attested mode c ps o list number not-zero items passes =
     let s = test-sound c ps passes in
     record {

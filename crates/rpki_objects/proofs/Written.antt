@@ -11,7 +11,8 @@ use Rattle.rpki_der.proofs.Writing.Lengths.{value-written}
 use Rattle.rpki_der.proofs.Writing.Numbers.{length-number_octets}
 use Rattle.rpki_der.proofs.Writing.Values.{number-in, number-written, number-unique}
 use Rattle.rpki_resources.specs.As.{IsAsn}
-use Rattle.rpki_objects.specs.Aspa.{Aspa, IsAttestation, AsnForm, AspaForm}
+use Rattle.rpki_resources.specs.AsForm.{AsId}
+use Rattle.rpki_objects.specs.Aspa.{Aspa, IsAttestation, AspaForm}
 use Rattle.rpki_objects.specs.AspaWritten.{providers_octets, aspa_contents, aspa_octets}
 
 -- ---- how many octets there are
@@ -45,8 +46,8 @@ short-octets a h = omega (arith, length_value_octets_le 48 (aspa_contents a), le
 version-written : Within Der 160 (λ contents. Integer Der contents 1) (value_octets 160 (number_octets 1))
 version-written = within-written 160 (λ contents. Integer Der contents 1) (number_octets 1) (tag-sound 160 refl) (omega (arith, length-number_octets 1)) (number-written 1 (omega arith))
 
-providers-written : (ps : List ℕ) → length ps ≤ 10000 → All IsAsn ps → Within Der 48 (λ list. Items (AsnForm Der) list ps) (value_octets 48 (providers_octets ps))
-providers-written ps most h = within-written 48 (λ list. Items (AsnForm Der) list ps) (providers_octets ps) (tag-sound 48 refl) (omega (arith, most, length-providers_octets ps)) (items-written (AsnForm Der) number_octets ps (λ i d l. number-in Der _ (h i d l)))
+providers-written : (ps : List ℕ) → length ps ≤ 10000 → All IsAsn ps → Within Der 48 (λ list. Items (AsId Der) list ps) (value_octets 48 (providers_octets ps))
+providers-written ps most h = within-written 48 (λ list. Items (AsId Der) list ps) (providers_octets ps) (tag-sound 48 refl) (omega (arith, most, length-providers_octets ps)) (items-written (AsId Der) number_octets ps (λ i d l. number-in Der _ (h i d l)))
 
 pub aspa-written : (a : Aspa) → IsAttestation a → AspaForm Der (aspa_octets a) a
 aspa-written a h = (
@@ -66,22 +67,22 @@ aspa-written a h = (
 
 -- ---- nothing else is in the grammar
 
-asn-only : (o : List ℕ) (n : ℕ) → IsBytes o → AsnForm Der o n → o ≡ number_octets n
+asn-only : (o : List ℕ) (n : ℕ) → IsBytes o → AsId Der o n → o ≡ number_octets n
 asn-only o n bytes h = number-unique o n bytes h.2.1 (h.0, h.1, h.2.0)
 
 version-only : (o : List ℕ) → IsBytes o → Within Der 160 (λ contents. Integer Der contents 1) o → o ≡ value_octets 160 (number_octets 1)
 version-only o bytes h = within-only 160 (λ contents. Integer Der contents 1) o (number_octets 1) bytes (λ contents inner is. number-unique contents 1 inner (omega arith) is) h
 
-providers-only : (o ps : List ℕ) → IsBytes o → Within Der 48 (λ list. Items (AsnForm Der) list ps) o → o ≡ value_octets 48 (providers_octets ps)
-providers-only o ps bytes h = within-only 48 (λ list. Items (AsnForm Der) list ps) o (providers_octets ps) bytes (λ list. items-unique (AsnForm Der) number_octets asn-only list ps) h
+providers-only : (o ps : List ℕ) → IsBytes o → Within Der 48 (λ list. Items (AsId Der) list ps) o → o ≡ value_octets 48 (providers_octets ps)
+providers-only o ps bytes h = within-only 48 (λ list. Items (AsId Der) list ps) o (providers_octets ps) bytes (λ list. items-unique (AsId Der) number_octets asn-only list ps) h
 
 abbrev Fields : List ℕ → Aspa → Type 0
 Fields fields a =
     (version : List ℕ) × (customer : List ℕ) × (providers : List ℕ)
     × (fields ≡ version ++ (customer ++ providers))
     × Within Der 160 (λ contents. Integer Der contents 1) version
-    × AsnForm Der customer a.customer
-    × Within Der 48 (λ list. Items (AsnForm Der) list a.providers) providers
+    × AsId Der customer a.customer
+    × Within Der 48 (λ list. Items (AsId Der) list a.providers) providers
     × IsAttestation a
 
 fields-only : (a : Aspa) (c : List ℕ) → IsBytes c → Fields c a → c ≡ aspa_contents a

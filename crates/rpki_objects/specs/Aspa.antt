@@ -2,8 +2,9 @@
 use Rattle.std.specs.Prelude.{◌≡◌, ◌≢◌, ℕ, ◌≤◌, ◌^◌, List, ◌++◌, length, All, Contains}
 use Rattle.std.specs.List.Sorted.{IsStrictlyIncreasing}
 use Rattle.rpki_der.specs.declared.mode.Mode.{Mode}
-use Rattle.rpki_der.specs.Grammar.{Within, Integer, IntegerBelow, Items}
+use Rattle.rpki_der.specs.Grammar.{Within, Integer, Items}
 use Rattle.rpki_resources.specs.As.{IsAsn}
+use Rattle.rpki_resources.specs.AsForm.{AsId}
 
 -- what a content says
 pub record Aspa : Type 0 where
@@ -25,16 +26,12 @@ pub record IsAttestation (a : Aspa) : Type 0 where
   pub providers : IsProviderSet a.providers
   pub others : Contains a.providers a.customer → ⊥
 
--- an INTEGER (X.690, section 8.3) from 0 to 2 ^ 32 - 1
-abbrev pub AsnForm : Mode → List ℕ → ℕ → Type 0
-AsnForm mode octets n = IntegerBelow (2 ^ 32) mode octets n
-
 -- SEQUENCE { [0] { INTEGER 1 }, customer, SEQUENCE OF provider }, section 3 of the profile
 abbrev pub AspaForm : Mode → List ℕ → Aspa → Type 0
 AspaForm mode octets a = Within mode 48 (λ fields.
     (version : List ℕ) × (customer : List ℕ) × (providers : List ℕ)
     × (fields ≡ version ++ (customer ++ providers))
     × Within mode 160 (λ contents. Integer mode contents 1) version
-    × AsnForm mode customer a.customer
-    × Within mode 48 (λ list. Items (AsnForm mode) list a.providers) providers
+    × AsId mode customer a.customer
+    × Within mode 48 (λ list. Items (AsId mode) list a.providers) providers
     × IsAttestation a) octets
