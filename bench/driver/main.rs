@@ -25,6 +25,7 @@ const TRIES: u32 = 40;
 unsafe extern "C" {
     fn bench_decode(octets: *const u8, len: usize, rounds: u32) -> u64;
     fn bench_walk(octets: *const u8, len: usize, rounds: u32) -> u64;
+    fn bench_walk_shared(octets: *const u8, len: usize, rounds: u32) -> u64;
     fn bench_write(octets: *const u8, len: usize, rounds: u32) -> u64;
     fn bench_read_der(octets: *const u8, len: usize, rounds: u32) -> u64;
     fn bench_read_ber(octets: *const u8, len: usize, rounds: u32) -> u64;
@@ -35,7 +36,7 @@ unsafe extern "C" {
 struct Subject {
     name: &'static str,
     beside: &'static str,
-    run: fn(&[u8], u32) -> u64,
+    run: fn(&'static [u8], u32) -> u64,
 }
 
 fn plain_decode(octets: &[u8], rounds: u32) -> u64 {
@@ -56,12 +57,16 @@ fn plain_write(octets: &[u8], rounds: u32) -> u64 {
     (0..rounds).map(|_| black_box(plain::write(black_box(&content))).len() as u64).sum()
 }
 
-fn proved_decode(octets: &[u8], rounds: u32) -> u64 {
+fn proved_decode(octets: &'static [u8], rounds: u32) -> u64 {
     unsafe { bench_decode(octets.as_ptr(), octets.len(), rounds) }
 }
 
-fn proved_walk(octets: &[u8], rounds: u32) -> u64 {
+fn proved_walk(octets: &'static [u8], rounds: u32) -> u64 {
     unsafe { bench_walk(octets.as_ptr(), octets.len(), rounds) }
+}
+
+fn shared_walk(octets: &[u8], rounds: u32) -> u64 {
+    unsafe { bench_walk_shared(octets.as_ptr(), octets.len(), rounds) }
 }
 
 fn proved_write(octets: &[u8], rounds: u32) -> u64 {
@@ -85,10 +90,11 @@ fn subjects() -> Vec<Subject> {
         #[cfg(bcder)]
         subject("bcder-decode", "plain-decode", beside_bcder::decode),
         subject("plain-walk", "plain-walk", plain_walk),
-        subject("plain-keep", "plain-walk", plain_keep),
         subject("proved-walk", "plain-walk", proved_walk),
         #[cfg(bcder)]
         subject("bcder-walk", "plain-walk", beside_bcder::walk),
+        subject("plain-keep", "plain-keep", plain_keep),
+        subject("shared-walk", "plain-keep", shared_walk),
         subject("strict-read", "plain-walk", strict_read),
         subject("relaxed-read", "strict-read", relaxed_read),
         subject("plain-write", "plain-write", plain_write),
@@ -96,15 +102,16 @@ fn subjects() -> Vec<Subject> {
     ]
 }
 
-/// The octets of a content with so many providers, each of which takes five octets.
-fn sample(count: u32) -> Vec<u8> {
+/// The octets of a content with so many providers, each of which takes five octets. They are never given back, so that
+/// what reads them may borrow them for good.
+fn sample(count: u32) -> &'static [u8] {
     let providers = (0..count).map(|i| 60_000 + 35 * i).collect();
-    plain::write(&plain::Content { customer: 59_999, providers })
+    plain::write(&plain::Content { customer: 59_999, providers }).leak()
 }
 
 /// The fastest of many measurements of each subject, in nanoseconds an entry, taken in turn so that what slows the
 /// machine for a while slows all of them.
-fn measured(subjects: &[Subject], octets: &[u8], count: u32) -> Vec<f64> {
+fn measured(subjects: &[Subject], octets: &'static [u8], count: u32) -> Vec<f64> {
     let rounds = (ENTRIES / count).max(1);
     let mut best = vec![f64::MAX; subjects.len()];
     for _ in 0..TRIES {
@@ -130,7 +137,7 @@ fn main() {
         [name, count, rounds] => {
             let subject = subjects.iter().find(|it| it.name == name).expect("a subject's name");
             let octets = sample(count.parse().expect("a count"));
-            black_box((subject.run)(&octets, rounds.parse().expect("a number of rounds")));
+            black_box((subject.run)(octets, rounds.parse().expect("a number of rounds")));
             return;
         }
         _ => panic!("driver [SUBJECT COUNT ROUNDS | --list]"),
@@ -140,9 +147,9 @@ fn main() {
         let octets = sample(count);
         for it in &subjects {
             let plain = subjects.iter().find(|other| other.name == it.beside).expect("a plain subject");
-            assert_eq!((it.run)(&octets, 3), (plain.run)(&octets, 3), "{} is wrong at {count}", it.name);
+            assert_eq!((it.run)(octets, 3), (plain.run)(octets, 3), "{} is wrong at {count}", it.name);
         }
-        let times = measured(&subjects, &octets, count);
+        let times = measured(&subjects, octets, count);
         for (it, time) in subjects.iter().zip(&times) {
             let plain = subjects.iter().position(|other| other.name == it.beside).expect("a plain subject");
             println!("{:<16}{count:>10}{time:>12.2}{:>10.2}", it.name, time / times[plain]);

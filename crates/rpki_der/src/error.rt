@@ -6,9 +6,10 @@ ghost use Rattle.rpki_der.specs.Error.{reason_text, fault_text, error_text};
 ghost use Rattle.rpki_der.specs.declared.error.DecodeError.TheVariants.{Memory};
 
 use crate::oid::Oid;
-use std::alloc::{AllocError, AllocFailed};
+use std::alloc::{AllocError, AllocFailed, Global};
 use std::error::Error;
 use std::fmt;
+use std::marker::Model;
 
 /// Why octets could not be read.
 #[derive(Debug, Drop)]
@@ -34,7 +35,16 @@ pub enum ContentFault {
 /// The type of a signed attribute that is not allowed.
 #[derive(Debug, Drop)]
 pub struct InvalidSignedAttr {
-    pub oid: Oid,
+    // (on the heap, since an error is best small: there is room for one wherever one may be answered)
+    oid: Box<Oid>,
+}
+
+impl Model for InvalidSignedAttr {
+    ghost use Rattle.std.specs.Prelude.{ℕ, List};
+
+    ghost Value = { List ℕ };
+
+    ghost view = { λ attr. attr.oid.value };
 }
 
 /// What is not allowed in a content, each with a text of its own.
@@ -44,8 +54,8 @@ pub enum Reason {
     CustomerAs0,
     /// An ASPA names no provider.
     NoProviders,
-    /// An ASPA names more providers than its profile allows.
-    TooManyProviders,
+    /// An ASPA names more providers than its profile allows, which is so many.
+    TooManyProviders { most: usize },
     /// The providers of an ASPA don't stand in ascending order.
     ProvidersNotAscending,
     /// The customer of an ASPA is one of its providers.
@@ -62,11 +72,28 @@ impl Reason {
         match self {
             Reason::CustomerAs0 => "customer is AS0",
             Reason::NoProviders => "no providers",
-            Reason::TooManyProviders => "too many providers",
+            Reason::TooManyProviders { .. } => "too many providers",
             Reason::ProvidersNotAscending => "providers not in ascending order",
             Reason::CustomerAmongProviders => "customer among its providers",
             Reason::As0BesideOthers => "AS0 beside other providers",
         }
+    }
+}
+
+impl InvalidSignedAttr {
+    /// The fault of an attribute of this type, unless no memory for it is to be had.
+    pub fn new(alloc: Global, oid: Oid) -> Result<InvalidSignedAttr, AllocError>
+        ensures { IfOk result (λ attr. attr ≡ oid) }
+    {
+        let oid = Box::new(alloc, oid)?;
+        Ok(InvalidSignedAttr { oid })
+    }
+
+    /// The attribute's type.
+    pub fn oid(&self) -> &Oid
+        ensures { result.now ≡ self.now }
+    {
+        self.oid.as_ref()
     }
 }
 
@@ -118,10 +145,10 @@ impl fmt::Display for InvalidSignedAttr {
     ghost use Rattle.std.specs.Prelude.{◌++◌, Some, codes};
     ghost use Rattle.rpki_der.specs.Oid.{oid_text};
 
-    ghost output = { λ attr. Some (codes "invalid extension " ++ oid_text attr.oid) };
+    ghost output = { λ attr. Some (codes "invalid extension " ++ oid_text attr) };
 
     fn fmt<W: fmt::Write>(&self, f: &mut fmt::Formatter<W>) -> fmt::Result {
-        let oid = &self.oid;
+        let oid = self.oid();
         write!(f, "invalid extension {oid}")
     }
 }

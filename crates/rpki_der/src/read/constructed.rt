@@ -59,6 +59,8 @@ impl<'a> Constructed<'a> {
     }
 
     /// Finds that the octets are not of the form.
+    #[cold]
+    #[inline(never)]
     pub(super) fn refuse(&mut self) -> DecodeError
         ensures result { result ≡ DecodeError.Malformed }
         ensures new { self.new ≡ failing self.old DecodeError.Malformed }

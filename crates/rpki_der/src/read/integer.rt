@@ -3,28 +3,6 @@
 ghost use Rattle.std.specs.Prelude.{◌≡◌, ◌<◌, ◌≤◌, length, drop, take, None, Some, IsNone, MatchOption, List, ℕ, Option};
 ghost use Rattle.rpki_der.specs.Read.Parse.{digits_of, number_of, unsigned_of, number, Finds};
 
-#[tactic(auto, unfolding(crate::specs::Read::Parse::digits_of))]
-#[inline(always)]
-fn digits_in(contents: &[u8]) -> Option<&[u8]>
-    ensures { Finds (λ r. r.now) result (digits_of contents.now) }
-{
-    match contents {
-        [] => None,
-        [a] => { if *a < 128 { Some(contents) } else { None } }
-        [a, rest @ ..] => {
-            if *a >= 128 {
-                None
-            } else if *a != 0 {
-                Some(contents)
-            } else if rest[0] < 128 {
-                None
-            } else {
-                Some(rest)
-            }
-        }
-    }
-}
-
 #[tactic(auto, unfolding(crate::specs::Read::Parse::number_of))]
 #[inline(always)]
 pub fn number_in(digits: &[u8]) -> Option<u32>
@@ -40,22 +18,28 @@ pub fn number_in(digits: &[u8]) -> Option<u32>
     }
 }
 
-#[tactic(auto, unfolding(crate::specs::Read::Parse::unsigned_of))]
+/// A number whose shortest contents are at most five octets, the first of them 0 where there are five.
+#[tactic(auto, unfolding(crate::specs::Read::Parse::unsigned_of, crate::specs::Read::Parse::digits_of))]
 #[inline(always)]
 pub fn u32_of(contents: &[u8]) -> Option<u32>
     ensures { Finds (λ n. n) result (unsigned_of 4 contents.now) }
 {
-    number_in(digits_in(contents)?)
+    match contents {
+        [] => None,
+        [0, rest @ ..] if !rest.is_empty() => { if rest[0] < 128 { None } else { number_in(rest) } }
+        [a, ..] => { if *a < 128 { number_in(contents) } else { None } }
+    }
 }
 
-#[tactic(auto, unfolding(crate::specs::Read::Parse::unsigned_of, crate::specs::Read::Parse::number_of))]
+/// A number whose shortest contents are one octet, or two of which the first is 0.
+#[tactic(auto, unfolding(crate::specs::Read::Parse::unsigned_of, crate::specs::Read::Parse::digits_of, crate::specs::Read::Parse::number_of))]
 #[inline(always)]
 pub fn u8_of(contents: &[u8]) -> Option<u8>
     ensures { Finds (λ n. n) result (unsigned_of 1 contents.now) }
 {
-    match digits_in(contents)? {
-        [] => Some(0),
-        [a] => Some(*a),
+    match contents {
+        [a] if *a < 128 => Some(*a),
+        [0, a] if *a >= 128 => Some(*a),
         _ => None,
     }
 }

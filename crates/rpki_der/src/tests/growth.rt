@@ -7,7 +7,8 @@ use super::{MODES, read};
 use crate::build::tlv;
 use crate::encode::{Encode, EncodeError, each, integer, octet_string, sequence};
 use crate::{
-    Constructed, ContentFault, Counted, DecodeError, Mode, Oid, Reason, Source, SourceError,
+    Constructed, ContentFault, Counted, DecodeError, InvalidSignedAttr, Mode, Oid, Reason, Source,
+    SourceError,
 };
 use bytes::Bytes;
 use std::alloc::Global;
@@ -121,12 +122,9 @@ fn strings(rt: HostRuntime) {
 }
 
 /// Reads on past an error of its own, which is answered again.
-fn complain(cons: &mut Constructed<'_>, oid: Oid) -> Result<u8, DecodeError> {
-    let first = cons.take_sequence(|_| {
-        Err::<u8, DecodeError>(DecodeError::Content(ContentFault::InvalidSignedAttr(
-            crate::InvalidSignedAttr { oid },
-        )))
-    });
+fn complain(cons: &mut Constructed<'_>, attr: InvalidSignedAttr) -> Result<u8, DecodeError> {
+    let fault = ContentFault::InvalidSignedAttr(attr);
+    let first = cons.take_sequence(|_| Err::<u8, DecodeError>(DecodeError::Content(fault)));
     match first {
         Ok(_) => Ok(0),
         Err(_) => cons.take_u8(),
@@ -137,12 +135,12 @@ fn told_again(alloc: Global) -> Result<u8, DecodeError> {
     let contents = Bytes::copy_from_slice(alloc, &[0x2A, 0x03])?;
     match Oid::from_bytes(contents) {
         None => Ok(1),
-        Some(oid) => read(
-            alloc,
-            Mode::Der,
-            &[0x30, 0, 2, 1, 5],
-            |cons| complain(cons, oid),
-        ),
+        Some(oid) => {
+            let attr = InvalidSignedAttr::new(alloc, oid)?;
+            read(alloc, Mode::Der, &[0x30, 0, 2, 1, 5], |cons| {
+                complain(cons, attr)
+            })
+        }
     }
 }
 
@@ -150,7 +148,7 @@ fn told_again(alloc: Global) -> Result<u8, DecodeError> {
 fn an_error_is_told_again(rt: HostRuntime) {
     let again = match told_again(rt.alloc()) {
         Err(DecodeError::Content(ContentFault::InvalidSignedAttr(attr))) => {
-            attr.oid.as_slice() == [0x2Au8, 0x03].as_slice()
+            attr.oid().as_slice() == [0x2Au8, 0x03].as_slice()
         }
         Err(DecodeError::Memory) => true,
         _ => false,

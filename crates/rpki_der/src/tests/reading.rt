@@ -422,7 +422,7 @@ fn oid_text(rt: &impl Abort, alloc: Global, contents: &[u8], want: &str) -> Resu
         Some(oid) => {
             let text = format!(in alloc; "{oid}")?;
             assert_eq!(rt; text.as_str(), want);
-            let attr = InvalidSignedAttr { oid };
+            let attr = InvalidSignedAttr::new(alloc, oid)?;
             let fault = DecodeError::Content(ContentFault::InvalidSignedAttr(attr));
             let told = format!(in alloc; "{fault}")?;
             let wanted = format!(in alloc; "invalid extension {want}")?;
@@ -480,7 +480,7 @@ fn texts_of_errors(rt: HostRuntime) -> Result<(), Fail> {
     for (reason, want) in [
         (Reason::CustomerAs0, "customer is AS0"),
         (Reason::NoProviders, "no providers"),
-        (Reason::TooManyProviders, "too many providers"),
+        (Reason::TooManyProviders { most: 7 }, "too many providers"),
         (
             Reason::ProvidersNotAscending,
             "providers not in ascending order",

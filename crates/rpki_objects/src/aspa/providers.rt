@@ -124,7 +124,9 @@ fn refusal_of(customer: u32, before: &[Asn], next: u32) -> Option<Reason>
     ensures may_not { OnSome result (¬ MayBegin customer (before.now ++ next ∷ [])) }
 {
     if before.len() == MAX_PROVIDERS {
-        return Some(Reason::TooManyProviders);
+        return Some(Reason::TooManyProviders {
+            most: MAX_PROVIDERS,
+        });
     }
     if next == customer {
         return Some(Reason::CustomerAmongProviders);
@@ -144,11 +146,11 @@ fn refusal_of(customer: u32, before: &[Asn], next: u32) -> Option<Reason>
 
 /// Puts a number behind the others. With the first one memory for several is asked for.
 #[inline(always)]
-fn keep(kept: &mut Vec<Asn>, next: u32) -> Result<(), AllocError>
+fn keep(alloc: Global, kept: &mut Vec<Asn>, next: u32) -> Result<(), AllocError>
     ensures { OnOk result (kept.new.items ≡ kept.old.items ++ next ∷ []) }
 {
     if kept.is_empty() {
-        kept.reserve(FIRST_ROOM)?;
+        *kept = Vec::with_capacity(alloc, FIRST_ROOM)?;
     }
     kept.push(Asn::from_u32(next))?;
     Ok(())
@@ -180,7 +182,7 @@ fn take_each(
         if let Some(reason) = refusal_of(customer, &numbers, next) {
             return Err(DecodeError::Content(ContentFault::Text(reason)));
         }
-        keep(&mut numbers, next)?;
+        keep(alloc, &mut numbers, next)?;
     }
     if numbers.is_empty() {
         return Err(DecodeError::Content(ContentFault::Text(Reason::NoProviders)));

@@ -114,7 +114,7 @@ fn the_first_fault_is_named(rt: HostRuntime) -> Result<(), Fail> {
         Err(DecodeError::Content(ContentFault::Text(reason))) => Some(reason),
         _ => None,
     };
-    assert_eq!(rt; fault, Some(Reason::TooManyProviders));
+    assert_eq!(rt; fault, Some(Reason::TooManyProviders { most: 10_000 }));
     let octets = make_content_ending_in(rt.alloc(), 10_000, &LONG_INTEGER)?;
     assert!(rt; matches!(read(rt.alloc(), &octets)?, Err(DecodeError::Malformed)));
     Ok(())
