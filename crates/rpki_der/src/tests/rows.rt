@@ -231,46 +231,48 @@ fn octets_behind_a_refused_value(rt: HostRuntime) -> Result<(), Fail> {
     Ok(())
 }
 
-// Eight SEQUENCEs round a u8, and eight more round that, up to forty.
-
-fn eight(cons: &mut Constructed<'_>) -> Result<u8, DecodeError> {
-    cons.take_sequence(|cons| cons.take_sequence(|cons| cons.take_sequence(
-        |cons| cons.take_sequence(|cons| cons.take_sequence(|cons| cons.take_sequence(
-            |cons| cons.take_sequence(|cons| cons.take_sequence(|cons| cons.take_u8())),
-        ))),
-    )))
+/// Opens two SEQUENCEs, one in the other, and reads by op within.
+fn two_deep<F: FnOnce(&mut Constructed<'_>) -> Result<u8, DecodeError>>(
+    cons: &mut Constructed<'_>,
+    op: F,
+) -> Result<u8, DecodeError>
+    requires { F.IsAlwaysCallable op }
+{
+    cons.take_sequence(|cons| cons.take_sequence(op))
 }
 
-fn sixteen(cons: &mut Constructed<'_>) -> Result<u8, DecodeError> {
-    cons.take_sequence(|cons| cons.take_sequence(|cons| cons.take_sequence(
-        |cons| cons.take_sequence(|cons| cons.take_sequence(|cons| cons.take_sequence(
-            |cons| cons.take_sequence(|cons| cons.take_sequence(|cons| eight(cons))),
-        ))),
-    )))
+/// The same with four.
+fn four_deep<F: FnOnce(&mut Constructed<'_>) -> Result<u8, DecodeError>>(
+    cons: &mut Constructed<'_>,
+    op: F,
+) -> Result<u8, DecodeError>
+    requires { F.IsAlwaysCallable op }
+{
+    two_deep(cons, |cons| two_deep(cons, op))
 }
 
-fn twenty_four(cons: &mut Constructed<'_>) -> Result<u8, DecodeError> {
-    cons.take_sequence(|cons| cons.take_sequence(|cons| cons.take_sequence(
-        |cons| cons.take_sequence(|cons| cons.take_sequence(|cons| cons.take_sequence(
-            |cons| cons.take_sequence(|cons| cons.take_sequence(|cons| sixteen(cons))),
-        ))),
-    )))
+/// The same with eight.
+fn eight_deep<F: FnOnce(&mut Constructed<'_>) -> Result<u8, DecodeError>>(
+    cons: &mut Constructed<'_>,
+    op: F,
+) -> Result<u8, DecodeError>
+    requires { F.IsAlwaysCallable op }
+{
+    four_deep(cons, |cons| four_deep(cons, op))
 }
 
-fn thirty_two(cons: &mut Constructed<'_>) -> Result<u8, DecodeError> {
-    cons.take_sequence(|cons| cons.take_sequence(|cons| cons.take_sequence(
-        |cons| cons.take_sequence(|cons| cons.take_sequence(|cons| cons.take_sequence(
-            |cons| cons.take_sequence(|cons| cons.take_sequence(|cons| twenty_four(cons))),
-        ))),
-    )))
-}
-
+/// The u8 in forty SEQUENCEs.
 fn forty(cons: &mut Constructed<'_>) -> Result<u8, DecodeError> {
-    cons.take_sequence(|cons| cons.take_sequence(|cons| cons.take_sequence(
-        |cons| cons.take_sequence(|cons| cons.take_sequence(|cons| cons.take_sequence(
-            |cons| cons.take_sequence(|cons| cons.take_sequence(|cons| thirty_two(cons))),
-        ))),
-    )))
+    eight_deep(
+        cons,
+        |cons| eight_deep(
+            cons,
+            |cons| eight_deep(
+                cons,
+                |cons| eight_deep(cons, |cons| eight_deep(cons, |cons| cons.take_u8())),
+            ),
+        ),
+    )
 }
 
 /// Values that are opened have no limit of depth of their own.
