@@ -1,13 +1,14 @@
 //! Rows at the limits of the forms, and what no other row shows.
 
-ghost use Rattle.std.specs.Prelude.{◌≡◌, ◌++◌, ◌^◌, ℕ, List, IfOk};
-ghost use Rattle.rpki_der.specs.Grammar.{Front, IntegerBelow, OctetString, Skipped};
+ghost use Rattle.std.specs.Prelude.{◌≡◌, ◌++◌, ◌^◌, ℕ, List, [], ◌∷◌, IfOk};
+ghost use Rattle.rpki_der.specs.declared.mode.Mode.TheVariants.{Der};
+ghost use Rattle.rpki_der.specs.Grammar.{Front, Integer, IntegerBelow, Items, OctetString, Skipped, Within};
 ghost use Rattle.rpki_der.specs.Read.Parse.{u32_at, octets_at, captured, skip_at};
 ghost use Rattle.rpki_der.specs.Read.Reads.{Found, OkOrMemory};
 
 use super::reading::{is_string, nested, nested_definite, skip, string};
 use super::{MODES, is_refused, read};
-use crate::encode::{Encode, integer};
+use crate::encode::{Encode, EncodeError, integer, sequence};
 use crate::{BitString, Captured, Constructed, DecodeError, Mode, Oid, Tag, laws, write_laws};
 use bytes::Bytes;
 use std::alloc::{AllocError, Global};
@@ -355,6 +356,16 @@ fn read_and_written(alloc: Global, octets: &[u8]) -> Result<Vec<u8>, Fail>
     Ok(written)
 }
 
+/// The octets of a SEQUENCE of two INTEGERs (X.690, sections 8.3 and 8.10).
+fn written_pair(alloc: Global, first: u32, second: u32) -> Result<Vec<u8>, EncodeError>
+    ensures { IfOk result (λ octets.
+        Within Der 48 (λ c. Items (Integer Der) c (first ∷ second ∷ [])) octets.items) }
+{
+    write_laws::lists_are_written();
+    let octets = sequence((integer(first), integer(second))).to_bytes(alloc)?;
+    Ok(octets)
+}
+
 /// Reads an OCTET STRING at the front.
 fn read_string(alloc: Global, source: Bytes, mode: Mode) -> Result<Bytes, DecodeError>
     ensures { Found (λ string. string) (octets_at 32 mode source) result }
@@ -409,6 +420,8 @@ fn numbers_in_front(rt: HostRuntime) -> Result<(), Fail> {
         assert!(rt; in_both_modes(alloc, &octets)? == (n, n));
         assert_eq!(rt; read_and_written(alloc, &octets)?.as_slice(), number);
     }
+    let pair = [0x30u8, 7, 2, 1, 1, 2, 2, 0, 0x80];
+    assert_eq!(rt; written_pair(alloc, 1, 128)?.as_slice(), pair.as_slice());
     // a length in the long form, which DER refuses (section 10.1)
     assert_eq!(rt; number_in_front(alloc, Mode::Ber, &[2, 0x81, 1, 5])?, 5);
     assert!(rt; is_refused(number_in_front(alloc, Mode::Der, &[2, 0x81, 1, 5])));
