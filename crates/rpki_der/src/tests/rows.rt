@@ -2,7 +2,8 @@
 
 ghost use Rattle.std.specs.Prelude.{◌≡◌, ◌++◌, ◌^◌, ℕ, List, [], ◌∷◌, IfOk};
 ghost use Rattle.rpki_der.specs.declared.mode.Mode.TheVariants.{Der};
-ghost use Rattle.rpki_der.specs.Grammar.{Front, Integer, IntegerBelow, Items, OctetString, Skipped, Within};
+ghost use Rattle.rpki_der.specs.Grammar.{Front, Integer, IntegerBelow, Items, Within};
+ghost use Rattle.rpki_der.specs.Grammar.{OctetString, Skipped};
 ghost use Rattle.rpki_der.specs.Read.Parse.{u32_at, octets_at, captured, skip_at};
 ghost use Rattle.rpki_der.specs.Read.Reads.{Found, OkOrMemory};
 
