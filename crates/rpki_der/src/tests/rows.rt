@@ -1,8 +1,16 @@
 //! Rows at the limits of the forms, and what no other row shows.
 
+ghost use Rattle.std.specs.Prelude.{◌≡◌, ◌++◌, ◌^◌, ℕ, List, [], ◌∷◌, IfOk};
+ghost use Rattle.rpki_der.specs.declared.mode.Mode.TheVariants.{Der};
+ghost use Rattle.rpki_der.specs.Grammar.{Front, Integer, IntegerBelow, Items, Within};
+ghost use Rattle.rpki_der.specs.Grammar.{OctetString, Skipped};
+ghost use Rattle.rpki_der.specs.Read.Parse.{u32_at, octets_at, captured, skip_at};
+ghost use Rattle.rpki_der.specs.Read.Reads.{Found, OkOrMemory};
+
 use super::reading::{is_string, nested, nested_definite, skip, string};
 use super::{MODES, is_refused, read};
-use crate::{BitString, Constructed, DecodeError, Mode, Oid, Tag, laws, write_laws};
+use crate::encode::{Encode, EncodeError, integer, sequence};
+use crate::{BitString, Captured, Constructed, DecodeError, Mode, Oid, Tag, laws, write_laws};
 use bytes::Bytes;
 use std::alloc::{AllocError, Global};
 use std::test::Fail;
@@ -231,46 +239,48 @@ fn octets_behind_a_refused_value(rt: HostRuntime) -> Result<(), Fail> {
     Ok(())
 }
 
-// Eight SEQUENCEs round a u8, and eight more round that, up to forty.
-
-fn eight(cons: &mut Constructed<'_>) -> Result<u8, DecodeError> {
-    cons.take_sequence(|cons| cons.take_sequence(|cons| cons.take_sequence(
-        |cons| cons.take_sequence(|cons| cons.take_sequence(|cons| cons.take_sequence(
-            |cons| cons.take_sequence(|cons| cons.take_sequence(|cons| cons.take_u8())),
-        ))),
-    )))
+/// Opens two SEQUENCEs, one in the other, and reads by op within.
+fn two_deep<F: FnOnce(&mut Constructed<'_>) -> Result<u8, DecodeError>>(
+    cons: &mut Constructed<'_>,
+    op: F,
+) -> Result<u8, DecodeError>
+    requires { F.IsAlwaysCallable op }
+{
+    cons.take_sequence(|cons| cons.take_sequence(op))
 }
 
-fn sixteen(cons: &mut Constructed<'_>) -> Result<u8, DecodeError> {
-    cons.take_sequence(|cons| cons.take_sequence(|cons| cons.take_sequence(
-        |cons| cons.take_sequence(|cons| cons.take_sequence(|cons| cons.take_sequence(
-            |cons| cons.take_sequence(|cons| cons.take_sequence(|cons| eight(cons))),
-        ))),
-    )))
+/// The same with four.
+fn four_deep<F: FnOnce(&mut Constructed<'_>) -> Result<u8, DecodeError>>(
+    cons: &mut Constructed<'_>,
+    op: F,
+) -> Result<u8, DecodeError>
+    requires { F.IsAlwaysCallable op }
+{
+    two_deep(cons, |cons| two_deep(cons, op))
 }
 
-fn twenty_four(cons: &mut Constructed<'_>) -> Result<u8, DecodeError> {
-    cons.take_sequence(|cons| cons.take_sequence(|cons| cons.take_sequence(
-        |cons| cons.take_sequence(|cons| cons.take_sequence(|cons| cons.take_sequence(
-            |cons| cons.take_sequence(|cons| cons.take_sequence(|cons| sixteen(cons))),
-        ))),
-    )))
+/// The same with eight.
+fn eight_deep<F: FnOnce(&mut Constructed<'_>) -> Result<u8, DecodeError>>(
+    cons: &mut Constructed<'_>,
+    op: F,
+) -> Result<u8, DecodeError>
+    requires { F.IsAlwaysCallable op }
+{
+    four_deep(cons, |cons| four_deep(cons, op))
 }
 
-fn thirty_two(cons: &mut Constructed<'_>) -> Result<u8, DecodeError> {
-    cons.take_sequence(|cons| cons.take_sequence(|cons| cons.take_sequence(
-        |cons| cons.take_sequence(|cons| cons.take_sequence(|cons| cons.take_sequence(
-            |cons| cons.take_sequence(|cons| cons.take_sequence(|cons| twenty_four(cons))),
-        ))),
-    )))
-}
-
+/// The u8 in forty SEQUENCEs.
 fn forty(cons: &mut Constructed<'_>) -> Result<u8, DecodeError> {
-    cons.take_sequence(|cons| cons.take_sequence(|cons| cons.take_sequence(
-        |cons| cons.take_sequence(|cons| cons.take_sequence(|cons| cons.take_sequence(
-            |cons| cons.take_sequence(|cons| cons.take_sequence(|cons| thirty_two(cons))),
-        ))),
-    )))
+    eight_deep(
+        cons,
+        |cons| eight_deep(
+            cons,
+            |cons| eight_deep(
+                cons,
+                |cons| eight_deep(cons, |cons| eight_deep(cons, |cons| cons.take_u8())),
+            ),
+        ),
+    )
 }
 
 /// Values that are opened have no limit of depth of their own.
@@ -297,41 +307,151 @@ fn opened_values_nest_deep(rt: HostRuntime) -> Result<(), Fail> {
     Ok(())
 }
 
-#[test]
-fn laws_are_called(rt: HostRuntime) {
-    laws::values();
-    laws::tagged_values();
-    laws::integers_of_one_octet();
+/// Reads an INTEGER at the front.
+fn read_number(source: Bytes, mode: Mode) -> Result<u32, DecodeError>
+    ensures { Found (λ n. n) (u32_at mode source) result }
+{
+    Constructed::decode(source, mode, |cons| cons.take_u32())
+}
+
+/// The INTEGER in front, found exactly where there is one (X.690, section 8.3).
+fn number_in_front(alloc: Global, mode: Mode, octets: &[u8]) -> Result<u32, DecodeError>
+    ensures found { IfOk result (λ n. (rest : List ℕ)
+        × Front (IntegerBelow (2 ^ 32) mode) octets.now n rest) }
+    ensures read { (n : ℕ) (rest : List ℕ) → Front (IntegerBelow (2 ^ 32) mode) octets.now n rest
+        → OkOrMemory result (λ m. m ≡ n) }
+{
     laws::integers_of_four_octets();
-    laws::booleans();
-    laws::nulls();
-    laws::object_identifiers();
-    laws::bit_strings();
-    laws::ia5_strings();
+    let source = Bytes::copy_from_slice(alloc, octets)?;
+    read_number(source, mode)
+}
+
+/// The INTEGER in front, read in DER and in BER, where it is the same.
+fn in_both_modes(alloc: Global, octets: &[u8]) -> Result<(u32, u32), DecodeError>
+    ensures { IfOk result (λ numbers. numbers.0 ≡ numbers.1) }
+{
+    laws::integers_of_four_octets();
+    let der = number_in_front(alloc, Mode::Der, octets)?;
+    let ber = number_in_front(alloc, Mode::Ber, octets)?;
+    Ok((der, ber))
+}
+
+/// A number that is written, and read again in either mode.
+fn written_and_read(alloc: Global, mode: Mode, n: u32) -> Result<u32, Fail>
+    ensures { IfOk result (λ m. m ≡ n) }
+{
+    laws::integers_of_four_octets();
+    write_laws::numbers_are_written();
+    let octets = integer(n).to_bytes(alloc)?;
+    let m = number_in_front(alloc, mode, &octets)?;
+    Ok(m)
+}
+
+/// The INTEGER in front, read in DER and written again: the same octets (X.690, section 10.1).
+fn read_and_written(alloc: Global, octets: &[u8]) -> Result<Vec<u8>, Fail>
+    ensures { IfOk result (λ written. (rest : List ℕ) × (octets.now ≡ written.items ++ rest)) }
+{
+    write_laws::numbers_are_written();
+    let n = number_in_front(alloc, Mode::Der, octets)?;
+    let written = integer(n).to_bytes(alloc)?;
+    Ok(written)
+}
+
+/// The octets of a SEQUENCE of two INTEGERs (X.690, sections 8.3 and 8.10).
+fn written_pair(alloc: Global, first: u32, second: u32) -> Result<Vec<u8>, EncodeError>
+    ensures { IfOk result (λ octets.
+        Within Der 48 (λ c. Items (Integer Der) c (first ∷ second ∷ [])) octets.items) }
+{
+    write_laws::lists_are_written();
+    let octets = sequence((integer(first), integer(second))).to_bytes(alloc)?;
+    Ok(octets)
+}
+
+/// Reads an OCTET STRING at the front.
+fn read_string(alloc: Global, source: Bytes, mode: Mode) -> Result<Bytes, DecodeError>
+    ensures { Found (λ string. string) (octets_at 32 mode source) result }
+{
+    Constructed::decode(source, mode, |cons| cons.take_octets(alloc))
+}
+
+/// The OCTET STRING in front, in BER perhaps in pieces, found exactly where there is one (X.690, section 8.7).
+fn string_in_front(alloc: Global, mode: Mode, octets: &[u8]) -> Result<Bytes, DecodeError>
+    ensures found { IfOk result (λ string. (rest : List ℕ)
+        × Front (OctetString mode 32) octets.now string rest) }
+    ensures read { (string rest : List ℕ) → Front (OctetString mode 32) octets.now string rest
+        → OkOrMemory result (λ s. s ≡ string) }
+{
     laws::octet_strings();
-    laws::skipped_values();
-    laws::contents_of_values();
-    laws::given_integers();
-    laws::skipped_contents();
-    laws::optional_values();
+    let source = Bytes::copy_from_slice(alloc, octets)?;
+    read_string(alloc, source, mode)
+}
+
+/// Keeps the value at the front.
+fn keep_value(source: Bytes, mode: Mode) -> Result<Captured, DecodeError>
+    ensures { Found (λ kept. kept.octets) (captured (skip_at 32) mode source) result }
+{
+    Constructed::decode(source, mode, |cons| cons.capture(|cons| cons.skip_one()))
+}
+
+/// The octets of the value in front, whatever it is (X.690, section 8.1.1).
+fn value_in_front(alloc: Global, mode: Mode, octets: &[u8]) -> Result<Captured, DecodeError>
+    ensures { IfOk result (λ kept. (rest : List ℕ) × (octets.now ≡ kept.octets ++ rest)
+        × Skipped mode 32 kept.octets) }
+{
     laws::captured_values();
-    laws::lists_of_integers();
-    let _ = rt;
+    let source = Bytes::copy_from_slice(alloc, octets)?;
+    keep_value(source, mode)
 }
 
 #[test]
-fn laws_of_writing_are_called(rt: HostRuntime) {
-    write_laws::values_are_written();
-    write_laws::integers_are_written();
-    write_laws::numbers_are_written();
-    write_laws::booleans_are_written();
-    write_laws::nulls_are_written();
-    write_laws::object_identifiers_are_written();
-    write_laws::octet_strings_are_written();
-    write_laws::ia5_strings_are_written();
-    write_laws::bit_strings_are_written();
-    write_laws::lists_are_written();
-    write_laws::skipped_values_are_written();
-    write_laws::captured_values_are_written();
-    let _ = rt;
+fn numbers_in_front(rt: HostRuntime) -> Result<(), Fail> {
+    let alloc = rt.alloc();
+    let rows: [(&[u8], u32, &[u8]); 4] = [
+        (&[2, 1, 0], 0, &[]),
+        (&[2, 1, 5], 5, &[0xFF]),
+        (&[2, 2, 0, 0x80], 128, &[2, 1, 1]),
+        (&[2, 5, 0, 0xFF, 0xFF, 0xFF, 0xFF], 0xFFFF_FFFF, &[0, 0]),
+    ];
+    for (number, n, others) in rows {
+        let octets = joined(alloc, number, others)?;
+        for mode in MODES {
+            assert_eq!(rt; number_in_front(alloc, mode, &octets)?, n);
+            assert_eq!(rt; written_and_read(alloc, mode, n)?, n);
+        }
+        assert!(rt; in_both_modes(alloc, &octets)? == (n, n));
+        assert_eq!(rt; read_and_written(alloc, &octets)?.as_slice(), number);
+    }
+    let pair = [0x30u8, 7, 2, 1, 1, 2, 2, 0, 0x80];
+    assert_eq!(rt; written_pair(alloc, 1, 128)?.as_slice(), pair.as_slice());
+    // a length in the long form, which DER refuses (section 10.1)
+    assert_eq!(rt; number_in_front(alloc, Mode::Ber, &[2, 0x81, 1, 5])?, 5);
+    assert!(rt; is_refused(number_in_front(alloc, Mode::Der, &[2, 0x81, 1, 5])));
+    // two octets where one is enough (section 8.3.2)
+    assert!(rt; is_refused(number_in_front(alloc, Mode::Ber, &[2, 2, 0, 5])));
+    Ok(())
+}
+
+#[test]
+fn strings_and_values_in_front(rt: HostRuntime) -> Result<(), Fail> {
+    let alloc = rt.alloc();
+    let whole = [0x04, 0x02, 0x41, 0x42, 0x05];
+    for mode in MODES {
+        assert_eq!(rt;
+            string_in_front(alloc, mode, &whole)?.as_slice(),
+            b"AB".as_slice()
+        );
+        let kept = value_in_front(alloc, mode, &whole)?;
+        assert_eq!(rt; kept.as_slice(), [0x04u8, 0x02, 0x41, 0x42].as_slice());
+    }
+    let pieces = [0x24, 0x80, 0x04, 0x01, 0x41, 0x04, 0x01, 0x42, 0x00, 0x00];
+    let octets = joined(alloc, &pieces, &[0x05, 0x00])?;
+    let string = string_in_front(alloc, Mode::Ber, &octets)?;
+    assert_eq!(rt; string.as_slice(), b"AB".as_slice());
+    assert!(rt; is_refused(string_in_front(alloc, Mode::Der, &octets)));
+    assert_eq!(rt;
+        value_in_front(alloc, Mode::Ber, &octets)?.as_slice(),
+        pieces.as_slice()
+    );
+    assert!(rt; is_refused(value_in_front(alloc, Mode::Der, &octets)));
+    Ok(())
 }
