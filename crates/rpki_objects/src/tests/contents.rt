@@ -1,7 +1,8 @@
 //! Contents, read and written.
 
+ghost use Rattle.std.specs.Prelude.{◌≡◌, ◌++◌, ℕ, List, IfOk};
+
 use crate::aspa::AsProviderAttestation;
-use crate::laws;
 use crate::tests::octets::{
     AS0_ALONE, AS0_BESIDE_ANOTHER, CONTENT, CONTENT_AND_MORE, CUSTOMER_AMONG_PROVIDERS,
     CUSTOMER_AS0, CUSTOMER_NEGATIVE, CUSTOMER_TOO_LARGE, LARGEST_CUSTOMER, LARGEST_PROVIDER,
@@ -48,12 +49,40 @@ fn a_content_is_read(rt: HostRuntime) -> Result<(), Fail> {
     Ok(())
 }
 
+/// The content in front, read and written again: the same octets.
+fn read_and_written(alloc: Global, octets: &[u8]) -> Result<Vec<u8>, Fail>
+    ensures { IfOk result (λ written. (rest : List ℕ) × (octets.now ≡ written.items ++ rest)) }
+{
+    let source = Bytes::copy_from_slice(alloc, octets)?;
+    let content = AsProviderAttestation::decode(alloc, source)?;
+    let written = content.encode_ref().to_bytes(alloc)?;
+    Ok(written)
+}
+
+/// A content, written and read again with other octets behind it: the same content.
+fn written_and_read(
+    alloc: Global,
+    content: &AsProviderAttestation,
+    others: &[u8],
+) -> Result<AsProviderAttestation, Fail>
+    ensures { IfOk result (λ again. again ≡ content.now) }
+{
+    let mut octets = content.encode_ref().to_bytes(alloc)?;
+    octets.extend_from_slice(others)?;
+    let source = Bytes::from_vec(octets)?;
+    let again = AsProviderAttestation::decode(alloc, source)?;
+    Ok(again)
+}
+
 #[test]
 fn a_content_is_written_again(rt: HostRuntime) -> Result<(), Fail> {
     let content = read(rt.alloc(), &CONTENT_AND_MORE)??;
     assert_eq!(rt; content.encode_ref().encoded_len()?, 31);
-    let octets = content.encode_ref().to_bytes(rt.alloc())?;
+    let octets = read_and_written(rt.alloc(), &CONTENT_AND_MORE)?;
     assert_eq!(rt; octets.as_slice(), CONTENT.as_slice());
+    let again = written_and_read(rt.alloc(), &content, &[0xFF, 0xFF])?;
+    assert_eq!(rt; again.customer_as().into_u32(), 15562);
+    assert_eq!(rt; again.provider_as_set().len(), 4);
     let mut sink = Counted::new(Vec::new(rt.alloc()));
     content.encode_ref().write_to(&mut sink)?;
     assert_eq!(rt; sink.inner.as_slice(), CONTENT.as_slice());
@@ -118,15 +147,6 @@ fn the_first_fault_is_named(rt: HostRuntime) -> Result<(), Fail> {
     let octets = make_content_ending_in(rt.alloc(), 10_000, &LONG_INTEGER)?;
     assert!(rt; matches!(read(rt.alloc(), &octets)?, Err(DecodeError::Malformed)));
     Ok(())
-}
-
-#[test]
-fn laws_are_called(rt: HostRuntime) {
-    laws::contents_are_unique();
-    laws::octets_behind_a_content_are_left();
-    laws::contents_are_written();
-    laws::slices_hold_octets(&CONTENT);
-    let _ = rt;
 }
 
 #[test]
