@@ -35,7 +35,7 @@ pub enum ContentFault {
 /// The type of a signed attribute that is not allowed.
 #[derive(Debug, Drop)]
 pub struct InvalidSignedAttr {
-    // (on the heap, since an error is best small: there is room for one wherever one may be answered)
+    // (on the heap, so that an error is small: each answer that may be an error has room for one)
     oid: Box<Oid>,
 }
 
@@ -54,7 +54,7 @@ pub enum Reason {
     CustomerAs0,
     /// An ASPA names no provider.
     NoProviders,
-    /// An ASPA names more providers than its profile allows, which is so many.
+    /// An ASPA names more providers than `most`, which is what its profile allows.
     TooManyProviders { most: usize },
     /// The providers of an ASPA don't stand in ascending order.
     ProvidersNotAscending,

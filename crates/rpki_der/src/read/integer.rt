@@ -3,6 +3,7 @@
 ghost use Rattle.std.specs.Prelude.{◌≡◌, ◌<◌, ◌≤◌, length, drop, take, None, Some, IsNone, MatchOption, List, ℕ, Option};
 ghost use Rattle.rpki_der.specs.Read.Parse.{digits_of, number_of, unsigned_of, number, Finds};
 
+/// The number with these digits to base 256, the highest one first. There are at most four, and no digits are zero.
 #[tactic(auto, unfolding(crate::specs::Read::Parse::number_of))]
 #[inline(always)]
 pub fn number_in(digits: &[u8]) -> Option<u32>
