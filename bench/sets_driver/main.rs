@@ -62,6 +62,7 @@ struct Ends<N> {
 
 /// Blocks of numbers, and of addresses with these numbers in their upper bits.
 struct Sample {
+    count: u32,
     numbers: Ends<u32>,
     addresses: Ends<u64>,
 }
@@ -164,29 +165,52 @@ fn sample(count: u32) -> Sample {
     let maxs: Vec<u32> = mins.iter().map(|min| min.saturating_add(next() % room)).collect();
     let upper = |numbers: &[u32]| numbers.iter().map(|it| u64::from(*it) << 32).collect();
     let addresses = Ends { mins: upper(&mins), maxs: upper(&maxs) };
-    Sample { numbers: Ends { mins, maxs }, addresses }
+    Sample { count, numbers: Ends { mins, maxs }, addresses }
 }
 
-/// The fastest of many measurements of each subject, in nanoseconds a block, taken in turn so that what slows the
-/// machine for a while slows all of them. What a call does once, before its rounds, is measured and taken off.
-fn measured(subjects: &[Subject], sample: &Sample, count: u32) -> Vec<f64> {
-    let rounds = |subject: &Subject| (subject.entries / count).max(1);
-    let mut best = vec![(f64::MAX, f64::MAX); subjects.len()];
-    let took = |subject: &Subject, rounds: u32| {
+/// The fastest of many measurements of each subject over each sample, in nanoseconds a block, taken in turn so that
+/// what slows the machine for a while slows all of them. What a call does once, before its rounds, is measured and
+/// taken off.
+fn measured(subjects: &[Subject], samples: &[Sample]) -> Vec<Vec<f64>> {
+    let mut best = vec![vec![(f64::MAX, f64::MAX); subjects.len()]; samples.len()];
+    let took = |subject: &Subject, sample: &Sample, rounds: u32| {
         let start = Instant::now();
         black_box((subject.run)(black_box(sample), rounds));
         start.elapsed().as_nanos() as f64
     };
     for _ in 0..TRIES {
-        for (subject, best) in subjects.iter().zip(&mut best) {
-            best.0 = best.0.min(took(subject, 0));
-            best.1 = best.1.min(took(subject, rounds(subject)));
+        for (sample, best) in samples.iter().zip(&mut best) {
+            for (subject, best) in subjects.iter().zip(best) {
+                best.0 = best.0.min(took(subject, sample, 0));
+                best.1 = best.1.min(took(subject, sample, rounds(subject, sample)));
+            }
         }
     }
-    let each = |(subject, best): (&Subject, &(f64, f64))| {
-        (best.1 - best.0) / f64::from(rounds(subject)) / f64::from(count)
+    let each = |sample: &Sample, subject: &Subject, best: &(f64, f64)| {
+        (best.1 - best.0) / f64::from(rounds(subject, sample)) / f64::from(sample.count)
     };
-    subjects.iter().zip(&best).map(each).collect()
+    let row = |(sample, best): (&Sample, &Vec<(f64, f64)>)| {
+        subjects.iter().zip(best).map(|(subject, best)| each(sample, subject, best)).collect()
+    };
+    samples.iter().zip(&best).map(row).collect()
+}
+
+/// How often a subject goes over a sample in one measurement.
+fn rounds(subject: &Subject, sample: &Sample) -> u32 {
+    (subject.entries / sample.count).max(1)
+}
+
+/// The place of the plain subject that a subject is set beside.
+fn plain(subjects: &[Subject], subject: &Subject) -> usize {
+    subjects.iter().position(|other| other.name == subject.beside).expect("a plain subject")
+}
+
+/// Stops if subjects answer otherwise than the plain ones.
+fn compare(subjects: &[Subject], sample: &Sample) {
+    for it in subjects {
+        let beside = &subjects[plain(subjects, it)];
+        assert_eq!((it.run)(sample, 2), (beside.run)(sample, 2), "{} is wrong at {}", it.name, sample.count);
+    }
 }
 
 fn main() {
@@ -207,20 +231,15 @@ fn main() {
         }
         _ => panic!("driver [SUBJECT COUNT ROUNDS | --list]"),
     }
+    let samples: Vec<Sample> = COUNTS.into_iter().map(sample).collect();
+    samples.iter().for_each(|it| compare(&subjects, it));
+    let times = measured(&subjects, &samples);
     println!("{:<16}{:>10}{:>12}{:>10}{:>10}", "", "blocks", "ns/block", "ratio", "growth");
-    let mut before = vec![f64::NAN; subjects.len()];
-    for count in COUNTS {
-        let sample = sample(count);
-        for it in &subjects {
-            let plain = subjects.iter().find(|other| other.name == it.beside).expect("a plain subject");
-            assert_eq!((it.run)(&sample, 2), (plain.run)(&sample, 2), "{} is wrong at {count}", it.name);
+    for (i, (sample, row)) in samples.iter().zip(&times).enumerate() {
+        for (j, (it, time)) in subjects.iter().zip(row).enumerate() {
+            let ratio = time / row[plain(&subjects, it)];
+            let growth = if i == 0 { String::new() } else { format!("{:.2}", 10.0 * time / times[i - 1][j]) };
+            println!("{:<16}{:>10}{time:>12.2}{ratio:>10.2}{growth:>10}", it.name, sample.count);
         }
-        let times = measured(&subjects, &sample, count);
-        for ((it, time), before) in subjects.iter().zip(&times).zip(&before) {
-            let plain = subjects.iter().position(|other| other.name == it.beside).expect("a plain subject");
-            let growth = if before.is_nan() { String::new() } else { format!("{:.2}", 10.0 * time / before) };
-            println!("{:<16}{count:>10}{time:>12.2}{:>10.2}{growth:>10}", it.name, time / times[plain]);
-        }
-        before = times;
     }
 }

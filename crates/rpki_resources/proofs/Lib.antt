@@ -28,5 +28,6 @@ pub mod Rises
 pub mod Same
 pub mod Shortening
 pub mod Sorting
+pub mod Spread
 pub mod Trailing
 pub mod Upto

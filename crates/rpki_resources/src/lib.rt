@@ -11,6 +11,7 @@ mod as_der;
 mod asn;
 mod block;
 mod blocks;
+mod buckets;
 mod family;
 pub mod forms;
 mod ip;

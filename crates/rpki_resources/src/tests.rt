@@ -8,6 +8,7 @@ ghost use Rattle.rpki_resources.specs.Text.{prefix_text};
 ghost use Rattle.rpki_resources.specs.declared.family.AddressFamily.TheVariants.{Ipv4, Ipv6};
 
 mod growth;
+mod large;
 mod octets;
 mod of_a_family;
 

@@ -16,7 +16,7 @@ use rpki_der::{DecodeError, Encode, Mode};
 use std::alloc::{AllocError, Global};
 
 /// Whether an answer is right, or want of memory.
-fn is_right_or_memory<T: Drop, F: FnOnce(&T) -> bool>(
+pub fn is_right_or_memory<T: Drop, F: FnOnce(&T) -> bool>(
     answer: Result<T, AllocError>,
     right: F,
 ) -> bool
