@@ -1,3 +1,4 @@
+-- Blocks of numbers, as a set: f tells the number of an end.
 use Rattle.std.specs.Prelude.{◌≡◌, ℕ, ◌+◌, ◌<◌, ◌≤◌, All, List, [], ◌∷◌, ◌++◌, Bool, nat_le, ◌&&◌, ◌||◌}
 use Rattle.std.specs.Prelude.{IsTrue, if◌then◌else◌}
 use Rattle.std.specs.List.{list_any}
@@ -15,6 +16,7 @@ within f n b = is_between (f b.min) (f b.max) n
 abbrev pub holds : {T : Type 0} → (T → ℕ) → List (Block T) → ℕ → Bool
 holds f bs n = list_any (within f n) bs
 
+-- the same, as a fact
 abbrev pub Holds : {T : Type 0} → (T → ℕ) → List (Block T) → ℕ → Type 0
 Holds f bs n = IsTrue (holds f bs n)
 
@@ -33,6 +35,10 @@ IsCanonical f bs = RisesFrom f 0 bs
 -- the lower end is not above the upper end
 abbrev pub IsBlock : {T : Type 0} → (T → ℕ) → Block T → Type 0
 IsBlock f b = f b.min ≤ f b.max
+
+-- none of the first blocks begins behind one of the second
+abbrev pub Precede : {T : Type 0} → (T → ℕ) → List (Block T) → List (Block T) → Type 0
+Precede f first second = All (λ c. All (λ b. f b.min ≤ f c.min) first) second
 
 -- no block reaches up to a limit
 abbrev pub EndBelow : {T : Type 0} → (T → ℕ) → ℕ → List (Block T) → Type 0

@@ -9,7 +9,7 @@ ghost use Rattle.rpki_der.specs.Read.Reads.{Reads, OkOrMemory};
 ghost use Rattle.rpki_der.specs.Grammar.{Front, IsBytes};
 ghost use Rattle.rpki_resources.specs.AsForm.{AsForm};
 ghost use Rattle.rpki_resources.specs.declared.block.Block.{Block};
-ghost use Rattle.rpki_resources.specs.Blocks.{IsBlock};
+ghost use Rattle.rpki_resources.specs.Blocks.{EndBelow, IsBlock};
 ghost use Rattle.rpki_resources.specs.Joined.{joined};
 ghost use Rattle.rpki_der.specs.Parts.{contents_small};
 ghost use Rattle.rpki_resources.specs.AsWritten.{IsAsShort, as_octets, as_small};
@@ -73,6 +73,7 @@ fn set_of(list: Vec<Block<Asn>>) -> Result<AsBlocks, AllocError>
     ensures { IfOk result (λ set. set ≡ joined list.items) }
 {
     let set = Blocks::of(list)?;
+    // the call tells that the blocks ascend
     let _blocks = set.as_slice();
     Ok(set)
 }
@@ -157,6 +158,7 @@ impl Blocks<Asn> {
     /// contents is a set in DER, and this one.
     pub fn encode_ref(&self) -> AsBlocksEncoder<'_>
         ensures blocks { result.0.now ≡ self.now }
+        ensures below { EndBelow (λ n. n) (2 ^ 32) self.now }
         ensures written { length (flat_map as_octets self.now) < 2 ^ 32 →
             AsForm Der (value_octets 0x30 (flat_map as_octets self.now)) self.now }
     {

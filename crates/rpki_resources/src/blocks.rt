@@ -224,6 +224,7 @@ impl<T: Number> Clone for BlocksBuilder<T> {
 pub fn same_blocks<T: Number>(first: &Blocks<T>, second: &Blocks<T>)
     ensures { SameSet T.number first.now second.now → first.now ≡ second.now }
 {
+    // the calls tell that the blocks ascend
     let _first = first.as_slice();
     let _second = second.as_slice();
 }

@@ -178,6 +178,7 @@ fn set_of(list: Vec<Block<Addr>>) -> Result<IpBlocks, AllocError>
     ensures { IfOk result (λ set. set ≡ joined list.items) }
 {
     let set = Blocks::of(list)?;
+    // the call tells that the blocks ascend
     let _blocks = set.as_slice();
     Ok(set)
 }
