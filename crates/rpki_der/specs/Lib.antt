@@ -1,6 +1,7 @@
 pub mod Identifier
 pub mod Hex
 pub mod Oid
+pub mod Reason
 pub mod Error
 pub mod Arcs
 pub mod Bits

@@ -13,6 +13,7 @@ pub mod laws;
 mod mode;
 mod oid;
 mod read;
+mod reason;
 mod stream;
 pub mod write_laws;
 
@@ -21,11 +22,12 @@ pub use bit_string::BitString;
 pub use captured::Captured;
 pub use count::Count;
 pub use encode::{Encode, EncodeError};
-pub use error::{ContentFault, DecodeError, InvalidSignedAttr, Reason};
+pub use error::{ContentFault, DecodeError, InvalidSignedAttr};
 pub use hex::LowerHex;
 pub use mode::{Mode, Tag};
 pub use oid::Oid;
 pub use read::Constructed;
+pub use reason::Reason;
 pub use stream::{Counted, Sink, SinkFailed, Source, SourceError, SourceFailed};
 
 #[cfg(test)]
