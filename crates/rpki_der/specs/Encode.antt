@@ -22,12 +22,17 @@ IsLenOf der short octets (Err Memory) = ⊥
 abbrev pub Sunk : Type 0
 Sunk = Option (List ℕ) × ℕ
 
--- A sink before a call and after it. All octets are written, or a beginning of them where a call of the sink has failed, and none for the two faults.
-abbrev pub IsWritten : Type 0 → Type 0 → List ℕ → Sunk → Sunk → Result (Unit {0}) EncodeError → Type 0
-IsWritten der short octets old new (Ok u) = Appends old.0 new.0 octets × (new.1 ≡ old.1) × der × Fits short octets
+-- A sink before a call and after it. All octets are written, or a beginning of them where a call of
+-- the sink has failed, and none for the two faults.
+abbrev pub IsWritten : Type 0 → Type 0 → List ℕ → Sunk → Sunk → Result (Unit {0}) EncodeError
+    → Type 0
+IsWritten der short octets old new (Ok u) = Appends old.0 new.0 octets × (new.1 ≡ old.1) × der
+    × Fits short octets
 IsWritten der short octets old new (Err NotDer) = Keeps old.0 new.0 × (new.1 ≡ old.1) × ¬ der
-IsWritten der short octets old new (Err TooLong) = Keeps old.0 new.0 × (new.1 ≡ old.1) × ¬ (Fits short octets)
-IsWritten der short octets old new (Err Io) = AppendsFront old.0 new.0 octets × (new.1 ≡ old.1 + 1) × der × Fits short octets
+IsWritten der short octets old new (Err TooLong) = Keeps old.0 new.0 × (new.1 ≡ old.1)
+    × ¬ (Fits short octets)
+IsWritten der short octets old new (Err Io) = AppendsFront old.0 new.0 octets × (new.1 ≡ old.1 + 1)
+    × der × Fits short octets
 IsWritten der short octets old new (Err Memory) = ⊥
 
 -- the octets, or want of memory, or one of the two faults

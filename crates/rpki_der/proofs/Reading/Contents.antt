@@ -1,13 +1,15 @@
 -- Contents of primitive values are understood exactly.
-use Rattle.std.proofs.Common.{◌≡◌, ℕ, zero, suc, ◌<◌, ◌-◌, Bool, true, false, cond, eqb, ltb, get_or, List, [], ◌∷◌, length, Option, Some, None, refl, sym, ap, subst, arith, inl, inr}
+use Rattle.std.proofs.Common.{◌≡◌, ℕ, zero, suc, ◌<◌, ◌-◌, Bool, true, false, cond, eqb, ltb, get_or, List, [], ◌∷◌, length, Option, Some, None, refl, sym, ap, subst, ◌∙◌, arith, inl, inr}
 use Rattle.std.specs.Prelude.{◌&&◌, All, nat_lt, nat_eq}
 use Rattle.std.specs.List.{list_all}
+use Rattle.std.specs.Str.{bytes_eq}
+use Rattle.std.proofs.lemmas.Slice.Eq.{bytes_eq-Decides}
 use Rattle.std.proofs.lemmas.Bool.{eqb-true, eqb-false, eq-eqb, ne_eqb, ltb-true, lt-ltb}
 use Rattle.rpki_der.specs.declared.mode.Mode.{Mode}
 use Rattle.rpki_der.specs.declared.mode.Mode.TheVariants.{Der, Ber}
 use Rattle.rpki_der.specs.Oid.{IsOid, is_oid}
 use Rattle.rpki_der.specs.Bits.{IsBits, are_bits}
-use Rattle.rpki_der.specs.Read.Parse.{boolean_of, null_of, oid_of, bits_of, ia5_of}
+use Rattle.rpki_der.specs.Read.Parse.{boolean_of, null_of, oid_of, these, bits_of, whole_octets_of, ia5_of}
 use Rattle.rpki_der.specs.Grammar.{IsBoolean, IsBitString}
 use Rattle.rpki_der.proofs.Reading.Lengths.{chosen, some_is}
 use Rattle.rpki_der.proofs.Reading.Exact.{IsExactContents}
@@ -143,3 +145,27 @@ exact-ia5 = record {
   sound = λ c text _ e. let g = guarded (list_all (λ b. nat_lt b 128) c) c text e in (g.1, subst (λ (t : List ℕ). All (λ b. b < 128) t) g.1 (ia5-at c g.0));
   complete = λ c text h. let t : list_all (λ b. nat_lt b 128) text ≡ true = ia5-tested text h.1 in rw (h.0, t) refl;
 }
+
+-- ---- given contents
+
+pub exact-these : (oid : List ℕ) → IsOid oid
+    → IsExactContents (these oid) (λ c (_ : Unit {0}). (c ≡ oid) × IsOid oid)
+unfolding these
+exact-these oid is = record {
+  sound = λ c x _ e. let g = guarded (bytes_eq c oid) tt x e in ((bytes_eq-Decides c oid).0 g.0, is);
+  complete = λ c x h. let t : bytes_eq c oid ≡ true = (bytes_eq-Decides c oid).1 h.0 in rw t refl;
+}
+
+-- ---- a BIT STRING all of whose bits are used
+
+whole-sound : (c string : List ℕ) → whole_octets_of c ≡ Some string → IsBitString c (string, 0)
+unfolding whole_octets_of
+whole-sound [] string e = absurd (no-some string e)
+whole-sound (unused ∷ octets) string e =
+    let g = guarded (eqb unused 0) octets string e in
+    let none : unused ≡ 0 = eqb-true _ _ g.0 in
+    (ap (λ (n : ℕ). n ∷ octets) none ∙ ap (λ (t : List ℕ). 0 ∷ t) g.1, record { few = omega arith; none = λ _. refl })
+
+pub exact-whole : IsExactContents whole_octets_of (λ c string. IsBitString c (string, 0))
+unfolding whole_octets_of
+exact-whole = record { sound = λ c string _ e. whole-sound c string e; complete = λ c string h. rw h.0 refl }

@@ -1,13 +1,16 @@
 -- The reading of each kind of value.
-use Rattle.std.proofs.Common.{◌≡◌, ℕ, ◌<◌, ◌^◌, [], Some, arith}
-use Rattle.std.specs.Prelude.{All}
+use Rattle.std.proofs.Common.{◌≡◌, ℕ, ◌<◌, ◌^◌, List, [], length, true, Some, arith, eq-eqb}
+use Rattle.std.specs.Prelude.{All, ◌==◌}
+use Rattle.std.proofs.lemmas.Bool.{eqb-true}
 use Rattle.rpki_der.specs.declared.mode.Mode.TheVariants.{Der, Ber}
 use Rattle.rpki_der.specs.Oid.{IsOid}
-use Rattle.rpki_der.specs.Read.Parse.{value_at, skip_at, primitive, unsigned_of, this, u8_at, u32_at, boolean_at, boolean_of, null_of, ia5_at, ia5_of, oid_at, oid_of, bits_at, bits_of, octets_at}
-use Rattle.rpki_der.specs.Grammar.{Value, IsInteger, IntegerBelow, Boolean, IsBoolean, Null, Ia5String, ObjectIdentifier, BitString, IsBitString, OctetString, Skipped, IsReading}
-use Rattle.rpki_der.proofs.Reading.Exact.{exact-value, exact-primitive, exact-contents}
+use Rattle.rpki_der.specs.Read.Parse.{value_at, skip_at, primitive, unsigned_of, this, these, u8_at, u32_at, u160_at, boolean_at, boolean_of, null_of, ia5_at, ia5_of, oid_at, oid_of, bits_at, bits_of, whole_octets_of, octets_in_bits_at, octets_at, octets_of}
+use Rattle.rpki_der.specs.Grammar.{Value, IsInteger, IntegerBelow, Boolean, IsBoolean, Null, Ia5String, ObjectIdentifier, BitString, IsBitString, OctetsInBits, OctetString, OctetStringOf, Skipped, IsReading, anything}
+use Rattle.rpki_der.proofs.Reading.Exact.{exact-value, exact-primitive, exact-contents, exact-as}
 use Rattle.rpki_der.proofs.Reading.Integers.{exact-unsigned, exact-this, holds1, holds4}
-use Rattle.rpki_der.proofs.Reading.Contents.{exact-boolean, boolean-ber, exact-null, exact-ia5, exact-oid, exact-bits}
+use Rattle.rpki_der.proofs.Reading.Digits.{holds20}
+use Rattle.rpki_der.proofs.Reading.Tested.{exact-tested}
+use Rattle.rpki_der.proofs.Reading.Contents.{exact-boolean, boolean-ber, exact-null, exact-ia5, exact-oid, exact-these, exact-bits, exact-whole}
 use Rattle.rpki_der.proofs.Reading.Skips.{exact-skip}
 use Rattle.rpki_der.proofs.Reading.Strings.{exact-octets}
 use Rattle.rpki_der.proofs.Reading.Unique.{reading, reading-primitive, within-ber, value-ber, skipped-ber, octets-ber, within-one, skipped-one, octets-one}
@@ -51,3 +54,24 @@ reading-octets depth = reading (octets_at depth) (λ mode o s. OctetString mode 
 
 pub reading-contents : (tag : ℕ) → IsReading (primitive tag Some) (λ mode o c. Value mode o tag c)
 reading-contents tag = reading (primitive tag Some) (λ mode o c. Value mode o tag c) (exact-contents tag) (λ o. value-ber o tag) (λ mode o c v. (tag, c, v))
+
+pub reading-u160 : IsReading u160_at (IntegerBelow (2 ^ 160))
+reading-u160 =
+    reading-primitive 2 (unsigned_of 20) (λ c n. IsInteger c n × (n < 2 ^ 160))
+    (exact-unsigned 20 (2 ^ 160) holds20 (omega arith))
+
+pub reading-these : (oid : List ℕ) → IsOid oid
+    → IsReading (primitive 6 (these oid)) (λ mode o _. ObjectIdentifier mode o oid)
+reading-these oid is = reading-primitive 6 (these oid) (λ c _. (c ≡ oid) × IsOid oid) (exact-these oid is)
+
+pub reading-whole : IsReading octets_in_bits_at OctetsInBits
+reading-whole = reading-primitive 3 whole_octets_of (λ c string. IsBitString c (string, 0)) exact-whole
+
+pub reading-octets-of : (n : ℕ) → IsReading (octets_of n) (OctetStringOf n)
+reading-octets-of n =
+    reading (octets_of n) (OctetStringOf n)
+    (λ mode. exact-as anything (octets_of n mode) (λ o s. OctetString mode 32 o s × ((length s == n) ≡ true))
+    (OctetStringOf n mode)
+    (exact-tested anything (λ s. length s == n) (octets_at 32) mode (OctetString mode 32) (exact-octets 32 mode))
+    (λ o s h. (h.0, eqb-true _ _ h.1)) (λ o s h. (h.0, eq-eqb _ _ h.1)))
+    (λ o s h. (octets-ber 32 o s h.0, h.1)) (λ mode o s h. octets-one 32 mode o s h.0)

@@ -32,12 +32,12 @@ so_far-end p view shown begun now t u new s h is =
     let fresh : begun.failed ≡ None = sym s.failed ∙ r.before in
     (r.mode ∙ s.mode, rw fresh (all, r.after))
 
-fails-as : {Y Z : Type 0} (e : DecodeError) (y : Option Y) (z : Option Z) → (y ≡ None → z ≡ None) → Fails e y → Fails e z
+pub fails-as : {Y Z : Type 0} (e : DecodeError) (y : Option Y) (z : Option Z) → (y ≡ None → z ≡ None) → Fails e y → Fails e z
 fails-as Memory y z h f = tt
 fails-as Malformed y z h f = h f
 fails-as (Content c) y z h f = h f
 
-err-as : {T U X Y : Type 0} (view : T → X) (shown : U → Y) (f : Option DecodeError) (e : DecodeError) (new : State) (y : Option (X × List ℕ)) (z : Option (Y × List ℕ)) → (y ≡ None → z ≡ None)
+pub err-as : {T U X Y : Type 0} (view : T → X) (shown : U → Y) (f : Option DecodeError) (e : DecodeError) (new : State) (y : Option (X × List ℕ)) (z : Option (Y × List ℕ)) → (y ≡ None → z ≡ None)
     → MatchOption f (Answers view y (Err e) new) (λ d. RepeatsError {T = T} d (Err e)) → MatchOption f (Answers shown z (Err e) new) (λ d. RepeatsError {T = U} d (Err e))
 err-as view shown None e new y z h a = fails-as e y z h a
 err-as view shown (Some d) e new y z h a = a

@@ -38,7 +38,7 @@ many-more p mode s b x r e =
     let lt = s.at b x r e in
     rw e (ap (with_front (x ∷ [])) (up_to-enough p mode s (length b) (suc (length r)) r lt (omega arith)))
 
-with_front-twice : {X : Type 0} (a b : List X) (o : Option (List X × List ℕ)) → with_front a (with_front b o) ≡ with_front (a ++ b) o
+pub with_front-twice : {X : Type 0} (a b : List X) (o : Option (List X × List ℕ)) → with_front a (with_front b o) ≡ with_front (a ++ b) o
 with_front-twice a b None = refl
 with_front-twice a b (Some (xs, r)) = ap (λ (ys : _). Some (ys, r)) (sym (append_assoc a b xs))
 
@@ -47,7 +47,7 @@ pub goes_on : {X : Type 0} (p : Parser (Option X)) (mode : Mode) → Shortens (p
 goes_on p mode s front b x r all e inv =
     sym (with_front-twice front (x ∷ []) (many p mode r)) ∙ ap (with_front front) (sym (many-more p mode s b x r e)) ∙ inv
 
-append_end : {X : Type 0} (o : List X) → o ++ [] ≡ o
+pub append_end : {X : Type 0} (o : List X) → o ++ [] ≡ o
 append_end [] = refl
 append_end (x ∷ o) = ap (λ (t : List _). x ∷ t) (append_end o)
 

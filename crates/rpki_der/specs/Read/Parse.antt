@@ -1,6 +1,9 @@
 -- Reading as functions on lists: the value at the front, and what follows it.
-use Rattle.std.specs.Prelude.{◌≡◌, ℕ, zero, suc, ◌++◌, ◌+◌, ◌*◌, ◌-◌, List, [], ◌∷◌, length, take, drop, Option, None, Some, Bool, true, false, nat_lt, ◌==◌, if◌then◌else◌}
+use Rattle.std.specs.Prelude.{◌≡◌, ℕ, zero, suc, ◌++◌, ◌+◌, ◌*◌, ◌-◌, List, [], ◌∷◌, length, take}
+use Rattle.std.specs.Prelude.{drop, Option, None, Some, Bool, true, false, nat_lt, ◌==◌}
+use Rattle.std.specs.Prelude.{if◌then◌else◌}
 use Rattle.std.specs.List.{list_all}
+use Rattle.std.specs.Str.{bytes_eq}
 use Rattle.rpki_der.specs.Oid.{is_oid}
 use Rattle.rpki_der.specs.Bits.{are_bits}
 use Rattle.rpki_der.specs.Identifier.{is_tag, is_constructed}
@@ -35,11 +38,16 @@ shortest Ber low n rest = Some (n, rest)
 
 -- a length of k octets
 unfoldable pub long_at : ℕ → Parser ℕ
-long_at k mode bytes = if nat_lt (length bytes) k then None else shortest mode (least k) (number 0 (take k bytes)) (drop k bytes)
+long_at k mode bytes =
+    if nat_lt (length bytes) k then None else shortest mode (least k) (number 0 (take k bytes))
+    (drop k bytes)
 
 unfoldable pub length_at : Parser ℕ
 length_at mode [] = None
-length_at mode (b ∷ rest) = if nat_lt b 128 then Some (b, rest) else if nat_lt b 129 then None else if nat_lt 132 b then None else long_at (b - 128) mode rest
+length_at mode (b ∷ rest) =
+    if nat_lt b 128 then Some
+    (b, rest) else if nat_lt b 129 then None else if nat_lt 132 b then None else long_at
+    (b - 128) mode rest
 
 -- the contents behind a length, and what follows them
 unfoldable pub contents_at : Parser (List ℕ)
@@ -49,18 +57,23 @@ contents_at mode bytes = do
 
 -- one step behind this identifier and this octet of a length
 unfoldable pub value_step : ℕ → ℕ → ℕ → List ℕ → Option (Option ℕ × List ℕ)
-value_step depth t l b = if is_tag t then (if l == 128 then (if is_constructed t then Some (Some (suc depth), b) else None) else contents_at Ber (l ∷ b) >>= λ v. Some (Some depth, v.1)) else None
+value_step depth t l b =
+    if is_tag t then (if l == 128 then
+    (if is_constructed t then Some (Some (suc depth), b) else None) else contents_at Ber (l ∷ b)
+    >>= λ v. Some (Some depth, v.1)) else None
 
 -- how many values of indefinite length are left open at an end
 abbrev pub outer : ℕ → Option ℕ
 outer zero = None
 outer (suc depth) = Some depth
 
--- One step: past an end, past a value of definite length, or into one of indefinite length. How many are open within then, and what follows.
+-- One step: past an end, past a value of definite length, or into one of indefinite length. How
+-- many are open within then, and what follows.
 unfoldable pub step : ℕ → List ℕ → Option (Option ℕ × List ℕ)
 step depth [] = None
 step depth (t ∷ []) = None
-step depth (t ∷ l ∷ b) = if t == 0 then (if l == 0 then Some (outer depth, b) else None) else value_step depth t l b
+step depth (t ∷ l ∷ b) =
+    if t == 0 then (if l == 0 then Some (outer depth, b) else None) else value_step depth t l b
 
 abbrev pub follow : (ℕ → List ℕ → Option (List ℕ)) → Option (Option ℕ × List ℕ) → Option (List ℕ)
 follow go None = None
@@ -71,7 +84,8 @@ unfoldable pub scan : ℕ → ℕ → List ℕ → Option (List ℕ)
 scan zero depth b = None
 scan (suc n) depth b = follow (scan n) (step depth b)
 
--- What follows the end of the contents, where so many values of indefinite length are open within them. Each step takes an octet at least.
+-- What follows the end of the contents, where so many values of indefinite length are open within
+-- them. Each step takes an octet at least.
 unfoldable pub end_of : ℕ → List ℕ → Option (List ℕ)
 end_of depth b = scan (suc (length b)) depth b
 
@@ -82,12 +96,16 @@ before_end octets rest = take (length octets - length rest - 2) octets
 -- the contents up to an end, and what follows it
 unfoldable pub indefinite_at : ℕ → Parser (List ℕ)
 indefinite_at tag Der bytes = None
-indefinite_at tag Ber bytes = if is_constructed tag then (end_of 0 bytes >>= λ rest. Some (before_end bytes rest, rest)) else None
+indefinite_at tag Ber bytes =
+    if is_constructed tag then
+    (end_of 0 bytes >>= λ rest. Some (before_end bytes rest, rest)) else None
 
 -- the contents behind this identifier, and what follows the value
 unfoldable pub body_at : ℕ → Parser (List ℕ)
 body_at tag mode [] = None
-body_at tag mode (l ∷ bytes) = if is_tag tag then (if l == 128 then indefinite_at tag mode bytes else contents_at mode (l ∷ bytes)) else None
+body_at tag mode (l ∷ bytes) =
+    if is_tag tag then (if l == 128 then indefinite_at tag mode bytes else contents_at mode
+    (l ∷ bytes)) else None
 
 -- the contents of a value with this tag, and what follows the value
 unfoldable pub value_at : ℕ → Parser (List ℕ)
@@ -112,11 +130,14 @@ in_value tag p mode bytes = do
   x ← whole (p mode v.0)
   Some (x, v.1)
 
--- the digits to base 256 of a number that is not negative, from the contents of an INTEGER in its shortest form
+-- the digits to base 256 of a number that is not negative, from the contents of an INTEGER in its
+-- shortest form
 unfoldable pub digits_of : List ℕ → Option (List ℕ)
 digits_of [] = None
 digits_of (a ∷ []) = if nat_lt a 128 then Some (a ∷ []) else None
-digits_of (a ∷ b ∷ rest) = if nat_lt a 128 then (if a == 0 then (if nat_lt b 128 then None else Some (b ∷ rest)) else Some (a ∷ b ∷ rest)) else None
+digits_of (a ∷ b ∷ rest) =
+    if nat_lt a 128 then (if a == 0 then (if nat_lt b 128 then None else Some (b ∷ rest)) else Some
+    (a ∷ b ∷ rest)) else None
 
 unfoldable pub unsigned_of : ℕ → List ℕ → Option ℕ
 unsigned_of most contents = do
@@ -135,6 +156,10 @@ u8_at = primitive 2 (unsigned_of 1)
 
 abbrev pub u32_at : Parser ℕ
 u32_at = primitive 2 (unsigned_of 4)
+
+-- a number of at most 20 octets
+abbrev pub u160_at : Parser ℕ
+u160_at = primitive 2 (unsigned_of 20)
 
 -- exactly this number
 abbrev pub this : ℕ → List ℕ → Option (Unit {0})
@@ -162,13 +187,26 @@ oid_of contents = if is_oid contents then Some contents else None
 abbrev pub oid_at : Parser (List ℕ)
 oid_at = primitive 6 oid_of
 
--- the contents of a BIT STRING: the octets behind the first, and the number of bits that are not used
+-- exactly these contents
+unfoldable pub these : List ℕ → List ℕ → Option (Unit {0})
+these octets contents = if bytes_eq contents octets then Some tt else None
+
+-- the contents of a BIT STRING: the octets behind the first, and the number of bits that are not
+-- used
 unfoldable pub bits_of : List ℕ → Option (List ℕ × ℕ)
 bits_of [] = None
 bits_of (unused ∷ octets) = if are_bits octets unused then Some (octets, unused) else None
 
 abbrev pub bits_at : Parser (List ℕ × ℕ)
 bits_at = primitive 3 bits_of
+
+-- the contents of a BIT STRING all of whose bits are used
+unfoldable pub whole_octets_of : List ℕ → Option (List ℕ)
+whole_octets_of [] = None
+whole_octets_of (unused ∷ octets) = if unused == 0 then Some octets else None
+
+abbrev pub octets_in_bits_at : Parser (List ℕ)
+octets_in_bits_at = primitive 3 whole_octets_of
 
 -- the contents of an IA5String
 unfoldable pub ia5_of : List ℕ → Option (List ℕ)
@@ -195,7 +233,8 @@ with_front front None = None
 with_front front (Some (xs, rest)) = Some (front ++ xs, rest)
 
 -- one more where there is one, and else the end
-abbrev pub go_on : {X : Type 0} → Option X → List ℕ → Option (List X × List ℕ) → Option (List X × List ℕ)
+abbrev pub go_on : {X : Type 0} → Option X → List ℕ → Option (List X × List ℕ)
+    → Option (List X × List ℕ)
 go_on None rest more = Some ([], rest)
 go_on (Some x) rest more = with_front (x ∷ []) more
 
@@ -212,7 +251,8 @@ many p mode bytes = up_to (suc (length bytes)) p mode bytes
 unfoldable pub each : {X : Type 0} → ℕ → Parser X → Mode → List ℕ → Option (List X)
 each n p mode [] = Some []
 each zero p mode (b ∷ bytes) = None
-each (suc n) p mode (b ∷ bytes) = p mode (b ∷ bytes) >>= λ x. (each n p mode x.1 >>= λ xs. Some (x.0 ∷ xs))
+each (suc n) p mode (b ∷ bytes) =
+    p mode (b ∷ bytes) >>= λ x. (each n p mode x.1 >>= λ xs. Some (x.0 ∷ xs))
 
 -- the same, where each has an octet at least
 unfoldable pub all_of : {X : Type 0} → Parser X → Mode → List ℕ → Option (List X)
@@ -230,7 +270,8 @@ skipped p mode tag contents = if is_constructed tag then there (all_of p mode co
 -- past any value that nests at most so deep
 unfoldable pub skip_at : ℕ → Parser (Unit {0})
 skip_at zero mode bytes = None
-skip_at (suc depth) mode bytes = any_at mode bytes >>= λ v. (skipped (skip_at depth) mode v.0.0 v.0.1 >>= λ _. Some (tt, v.1))
+skip_at (suc depth) mode bytes =
+    any_at mode bytes >>= λ v. (skipped (skip_at depth) mode v.0.0 v.0.1 >>= λ _. Some (tt, v.1))
 
 -- all of these, one after the other
 abbrev pub joined : List (List ℕ) → List ℕ
@@ -247,12 +288,15 @@ pieces p mode contents = all_of p mode contents >>= λ parts. Some (joined parts
 
 -- the octets of an OCTET STRING, from its tag and its contents
 abbrev pub string_of : Parser (List ℕ) → Mode → ℕ → List ℕ → Option (List ℕ)
-string_of p mode tag contents = if tag == 4 then Some contents else if tag == 36 then in_ber mode (pieces p mode contents) else None
+string_of p mode tag contents =
+    if tag == 4 then Some contents else if tag == 36 then in_ber mode
+    (pieces p mode contents) else None
 
 -- the octets of an OCTET STRING that nests at most so deep
 unfoldable pub octets_at : ℕ → Parser (List ℕ)
 octets_at zero mode bytes = None
-octets_at (suc depth) mode bytes = any_at mode bytes >>= λ v. (string_of (octets_at depth) mode v.0.0 v.0.1 >>= λ s. Some (s, v.1))
+octets_at (suc depth) mode bytes =
+    any_at mode bytes >>= λ v. (string_of (octets_at depth) mode v.0.0 v.0.1 >>= λ s. Some (s, v.1))
 
 -- the same octets, behind others
 abbrev pub behind : List ℕ → Option (List ℕ) → Option (List ℕ)
@@ -260,9 +304,11 @@ behind front None = None
 behind front (Some octets) = Some (front ++ octets)
 
 -- the octets that were found are put behind the old ones
-abbrev pub Appends : {T : Type 0} → (T → List ℕ) → List ℕ → Option T → List ℕ → Option (List ℕ × List ℕ) → Type 0
+abbrev pub Appends : {T : Type 0} → (T → List ℕ) → List ℕ → Option T → List ℕ
+    → Option (List ℕ × List ℕ) → Type 0
 Appends view old None new found = found ≡ None
-Appends view old (Some t) new found = (octets : List ℕ) × (found ≡ Some (octets, view t)) × (new ≡ old ++ octets)
+Appends view old (Some t) new found = (octets : List ℕ) × (found ≡ Some (octets, view t))
+    × (new ≡ old ++ octets)
 
 -- the octets before the rest
 abbrev pub taken : List ℕ → List ℕ → List ℕ
@@ -282,3 +328,34 @@ Finds view (Some t) found = found ≡ Some (view t)
 -- past all that is left
 abbrev pub skip_all_at : Parser (Unit {0})
 skip_all_at mode bytes = there (all_of (skip_at 32) mode bytes) >>= λ u. Some (u, [])
+
+-- what p reads, if it passes the test
+unfoldable pub tested : {X : Type 0} → (X → Bool) → Parser X → Parser X
+tested test p mode bytes = p mode bytes >>= λ x. if test x.0 then Some x else None
+
+-- an OCTET STRING of this length
+abbrev pub octets_of : ℕ → Parser (List ℕ)
+octets_of n = tested (λ octets. length octets == n) (octets_at 32)
+
+-- false, where no truth value is there
+abbrev pub or_false : Option Bool → Bool
+or_false None = false
+or_false (Some b) = b
+
+-- a BOOLEAN that is false where it is left out
+unfoldable pub flag_at : Parser Bool
+flag_at mode bytes = optional 1 boolean_at mode bytes >>= λ b. Some (or_false b.0, b.1)
+
+-- past the next value, whatever it is, or nothing at the end
+unfoldable pub skip_opt_at : Parser (Option (Unit {0}))
+skip_opt_at mode [] = Some (None, [])
+skip_opt_at mode (b ∷ bytes) = some_of (skip_at 32 mode (b ∷ bytes))
+
+-- whether no octet is left
+unfoldable pub at_end : Parser Bool
+at_end mode [] = Some (true, [])
+at_end mode (b ∷ bytes) = Some (false, b ∷ bytes)
+
+-- all that is left is read by p, one after the other
+abbrev pub all_at : {X : Type 0} → Parser X → Parser (List X)
+all_at p mode bytes = all_of p mode bytes >>= λ xs. Some (xs, [])

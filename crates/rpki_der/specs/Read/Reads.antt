@@ -6,7 +6,7 @@ use Rattle.rpki_der.specs.declared.error.DecodeError.TheVariants.{Malformed, Con
 use Rattle.rpki_der.specs.declared.error.ContentFault.TheVariants.{InvalidSignedAttr, Text}
 use Rattle.rpki_der.specs.Captured.{Kept}
 use Rattle.rpki_der.specs.Read.State.{State, fresh}
-use Rattle.rpki_der.specs.Read.Parse.{Parser, value_at, with_front, many, taken, is_next}
+use Rattle.rpki_der.specs.Read.Parse.{Parser, value_at, with_front, many, all_at, taken, is_next}
 
 -- an error other than for memory comes only where nothing is found
 abbrev pub Fails : {Y : Type 0} → DecodeError → Option Y → Type 0
@@ -172,3 +172,30 @@ Captures step old result new =
     ((r : Result (Unit {0}) DecodeError) × (after : State) × step old r after
     × Captured (not_failed r after) old after result new)
     (λ e. FailsAgain e result new × (new.mode ≡ old.mode))
+
+-- the same, with what the call answered
+abbrev pub CapturedWith : {T : Type 0} → Result T DecodeError → State → State
+    → Result (T × Kept) DecodeError → State
+    → Type 0
+CapturedWith read old after (Ok k) new =
+    (read ≡ Ok k.0) × (k.1.octets ≡ taken old.rest after.rest) × (k.1.mode ≡ old.mode)
+    × (new ≡ after)
+CapturedWith (Ok t) old after (Err e) new = (e ≡ Memory) × (new.failed ≡ Some Memory)
+    × (new.mode ≡ after.mode)
+CapturedWith (Err d) old after (Err e) new = IsAgain d e × (new.failed ≡ Some e)
+    × (new.mode ≡ after.mode)
+
+-- what step answered, and the octets that it took
+abbrev pub CapturesWith : {T : Type 0} → (State → Result T DecodeError → State → Type 0) → State
+    → Result (T × Kept) DecodeError → State → Type 0
+CapturesWith {T} step old result new =
+    MatchOption old.failed
+    ((r : Result T DecodeError) × (after : State) × step old r after
+    × CapturedWith (not_failed r after) old after result new)
+    (λ e. FailsAgain e result new × (new.mode ≡ old.mode))
+
+-- what a loop up to the end has read, where p reads each
+pub record ReadUpTo {X : Type 0} (p : Parser X) (front : List X) (begun now : State) : Type 0 where
+  pub mode : now.mode ≡ begun.mode
+  pub failed : now.failed ≡ begun.failed
+  pub read : with_front front (all_at p begun.mode now.rest) ≡ all_at p begun.mode begun.rest

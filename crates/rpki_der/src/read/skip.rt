@@ -1,6 +1,7 @@
 //! Values that are skipped.
 
-ghost use Rattle.std.specs.Prelude.{◌≡◌, ◌≤◌, ◌<◌, ◌-◌, length, slice_range, None, Some, MatchOption, is_some};
+ghost use Rattle.std.specs.Prelude.{◌≡◌, ◌≤◌, ◌<◌, ◌-◌, length, slice_range, None, Some};
+ghost use Rattle.std.specs.Prelude.{MatchOption, is_some};
 ghost use Rattle.rpki_der.specs.Read.Parse.{skip_at, Finds, all_of, there};
 
 use crate::mode::Mode;

@@ -1,6 +1,6 @@
 //! Values that are gone past.
 
-ghost use Rattle.rpki_der.specs.Read.Parse.{skip_at, skip_all_at};
+ghost use Rattle.rpki_der.specs.Read.Parse.{skip_at, skip_opt_at, skip_all_at};
 ghost use Rattle.rpki_der.specs.Read.Reads.{Reads, Stays, OnlyMalformed};
 
 use crate::error::DecodeError;
@@ -8,7 +8,8 @@ use crate::read::Constructed;
 use crate::read::skip::{are_skipped, skip_place};
 
 impl<'a> Constructed<'a> {
-    /// Goes past the next value, whatever it is (X.690, section 8.1.1). Values in it nest at most 32 deep, itself
+    /// Goes past the next value, whatever it is (X.690, section 8.1.1). Values in it nest at most
+    /// 32 deep, itself
     /// included. Refuses by `Malformed`.
     pub fn skip_one(&mut self) -> Result<(), DecodeError>
         ensures reads { Reads (λ u. u) (skip_at 32) self.old result self.new }
@@ -21,6 +22,27 @@ impl<'a> Constructed<'a> {
             Some(end) => {
                 self.go_to(end);
                 Ok(())
+            }
+        }
+    }
+
+    /// Goes past the next value as `skip_one` does, if one is left. Refuses by `Malformed`.
+    #[tactic(auto, unfolding(crate::specs::Read::Parse::skip_opt_at))]
+    pub fn skip_opt_one(&mut self) -> Result<Option<()>, DecodeError>
+        ensures reads { Reads (λ u. u) skip_opt_at self.old result self.new }
+        ensures stays { Stays result self.new }
+        ensures refused { OnlyMalformed self.old result }
+    {
+        self.check()?;
+        let rest = self.rest();
+        if rest.is_empty() {
+            return Ok(None);
+        }
+        match skip_place(self.mode(), rest) {
+            None => Err(self.refuse()),
+            Some(end) => {
+                self.go_to(end);
+                Ok(Some(()))
             }
         }
     }

@@ -1,6 +1,7 @@
 //! OCTET STRINGs.
 
-ghost use Rattle.std.specs.Prelude.{◌≡◌, ◌≤◌, ◌<◌, ◌-◌, ◌++◌, length, slice_range, None, Some, IfOk, MatchOption, List, ℕ};
+ghost use Rattle.std.specs.Prelude.{◌≡◌, ◌≤◌, ◌<◌, ◌-◌, ◌++◌, length, slice_range, None, Some};
+ghost use Rattle.std.specs.Prelude.{IfOk, MatchOption, List, ℕ};
 ghost use Rattle.rpki_der.specs.Read.Parse.{octets_at, Appends, pieces};
 
 use crate::mode::Mode;
@@ -8,14 +9,16 @@ use crate::read::header::any_of;
 use crate::read::skip::DEPTH;
 use std::alloc::AllocError;
 
-/// Puts the octets of the OCTET STRING in front, which nests at most so deep, behind those of out. What follows it.
+/// Puts the octets of the OCTET STRING in front, which nests at most so deep, behind those of out.
+/// What follows it.
 pub fn append_octets<'s>(
     depth: u32,
     mode: Mode,
     bytes: &'s [u8],
     out: &mut Vec<u8>,
 ) -> Result<Option<&'s [u8]>, AllocError>
-    ensures { IfOk result (λ o. Appends (λ r. r.now) out.old.items o out.new.items (octets_at depth mode bytes.now)) }
+    ensures { IfOk result
+        (λ o. Appends (λ r. r.now) out.old.items o out.new.items (octets_at depth mode bytes.now)) }
 {
     if depth == 0 {
         return Ok(None);
@@ -51,7 +54,8 @@ pub fn string_place(
     bytes: &[u8],
     out: &mut Vec<u8>,
 ) -> Result<Option<usize>, AllocError>
-    ensures { IfOk result (λ o. MatchOption o (octets_at 32 mode bytes.now ≡ None) (λ end. (end ≤ length bytes.now)
+    ensures { IfOk result
+        (λ o. MatchOption o (octets_at 32 mode bytes.now ≡ None) (λ end. (end ≤ length bytes.now)
         × (octets : List ℕ) × (octets_at 32 mode bytes.now ≡ Some (octets, slice_range bytes.now end (length bytes.now))) × (out.new.items ≡ out.old.items ++ octets))) }
 {
     match append_octets(DEPTH, mode, bytes, out)? {

@@ -3,11 +3,11 @@ use Rattle.std.specs.Prelude.{All}
 use Rattle.std.proofs.lemmas.List.{append-nil}
 use Rattle.rpki_der.specs.declared.mode.Mode.{Mode}
 use Rattle.rpki_der.specs.Oid.{IsOid}
-use Rattle.rpki_der.specs.Read.Parse.{value_at, skip_at, skip_all_at, all_of, there, primitive, octets_at, oid_at, bits_at, ia5_at, boolean_at, u8_at, u32_at, this, null_of, captured, taken}
-use Rattle.rpki_der.specs.Grammar.{Value, IsBytes, IsInteger, IntegerBelow, Boolean, IsBoolean, Null, ObjectIdentifier, BitString, IsBitString, Ia5String, OctetString, Skipped, ListOf}
+use Rattle.rpki_der.specs.Read.Parse.{value_at, skip_at, skip_all_at, all_of, there, primitive, octets_at, octets_of, oid_at, these, bits_at, octets_in_bits_at, ia5_at, boolean_at, u8_at, u32_at, u160_at, this, null_of, captured, taken}
+use Rattle.rpki_der.specs.Grammar.{Value, IsBytes, IsInteger, IntegerBelow, Boolean, IsBoolean, Null, ObjectIdentifier, BitString, IsBitString, OctetsInBits, OctetStringOf, Ia5String, OctetString, Skipped, ListOf}
 use Rattle.rpki_der.proofs.Reading.Lengths.{bind_some, some_is}
 use Rattle.rpki_der.proofs.Reading.Skips.{skip-all-sound, skip-all-complete}
-use Rattle.rpki_der.proofs.Reading.Kinds.{reading-value, reading-skipped, reading-contents, reading-octets, reading-oid, reading-bits, reading-ia5, reading-boolean, reading-u8, reading-u32, reading-this, reading-null}
+use Rattle.rpki_der.proofs.Reading.Kinds.{reading-value, reading-skipped, reading-contents, reading-octets, reading-oid, reading-bits, reading-ia5, reading-boolean, reading-u8, reading-u32, reading-u160, reading-these, reading-whole, reading-octets-of, reading-this, reading-null}
 use Rattle.rpki_der.proofs.Reading.Unique.{captured-reading, before, within-one, skipped-one, octets-one}
 use Rattle.rpki_der.proofs.laws.captured_values.Goals as goal
 
@@ -44,6 +44,23 @@ returns-clause-integer_u32 c = captured-reading u32_at (IntegerBelow (2 ^ 32)) r
 pub returns-clause-integer_given : goal.returns-clause-integer_given
 returns-clause-integer_given c = λ n lt.
     captured-reading (primitive 2 (this n)) (λ mode o _. IntegerBelow 256 mode o n) (reading-this n lt) (within-one 2 (λ mode c (_ : Unit {0}). IsInteger c n × (n < 256)))
+
+pub returns-clause-integer_u160 : goal.returns-clause-integer_u160
+returns-clause-integer_u160 c =
+    captured-reading u160_at (IntegerBelow (2 ^ 160)) reading-u160 (within-one 2 (λ mode c n. IsInteger c n × (n < 2 ^ 160)))
+
+pub returns-clause-oid_given : goal.returns-clause-oid_given
+returns-clause-oid_given c = λ oid is.
+    captured-reading (primitive 6 (these oid)) (λ mode o _. ObjectIdentifier mode o oid) (reading-these oid is)
+    (within-one 6 (λ mode c (_ : Unit {0}). (c ≡ oid) × IsOid oid))
+
+pub returns-clause-whole_bits : goal.returns-clause-whole_bits
+returns-clause-whole_bits c =
+    captured-reading octets_in_bits_at OctetsInBits reading-whole (within-one 3 (λ mode c string. IsBitString c (string, 0)))
+
+pub returns-clause-string_of : goal.returns-clause-string_of
+returns-clause-string_of c = λ n.
+    captured-reading (octets_of n) (OctetStringOf n) (reading-octets-of n) (λ mode o s h. octets-one 32 mode o s h.0)
 
 pub returns-clause-null : goal.returns-clause-null
 returns-clause-null c = captured-reading (primitive 5 null_of) (λ mode o _. Null mode o) reading-null (within-one 5 (λ mode c (_ : Unit {0}). c ≡ []))
