@@ -1,5 +1,6 @@
 -- The text of an OBJECT IDENTIFIER.
 use Rattle.std.proofs.Common.{◌≡◌, ℕ, zero, suc, ◌+◌, ◌*◌, ◌-◌, ◌%◌, ◌^◌, ◌<◌, ◌≤◌, Bool, true, false, ltb, List, [], ◌∷◌, ◌++◌, length, Option, Some, None, refl, sym, ap, subst, ◌∙◌, arith, inl, inr, get_or, append_assoc}
+use Rattle.std.proofs.lemmas.List.{append-nil}
 use Rattle.std.specs.Prelude.{◌⊎◌, decimal}
 use Rattle.std.proofs.lemmas.Fmt.{decimal_digit}
 use Rattle.std.specs.List.{flat_map}
@@ -165,13 +166,9 @@ head-dotted x xs =
 pub dotted-found : (o : List ℕ) (m : ℕ) (r : List ℕ) → first_below (2 ^ 32 + 80) 0 o ≡ Some (m, r) → dotted (arcs o) ≡ head_text m ++ flat_map point (subidentifiers 0 r)
 dotted-found o m r e = let f = found (2 ^ 32 + 80) 0 o m r e in rw f.first (head-dotted m (subidentifiers 0 r))
 
-append_end : (o : List ℕ) → o ++ [] ≡ o
-append_end [] = refl
-append_end (x ∷ o) = ap (λ (t : List ℕ). x ∷ t) (append_end o)
-
 -- all is written where no further arc is found
 pub written-all : (written o all : List ℕ) → is_whole o ≡ true → are_small (subidentifiers 0 o) ≡ true → first_below (2 ^ 32) 0 o ≡ None → written ++ flat_map point (subidentifiers 0 o) ≡ all → written ≡ all
-written-all written o all w s e h = sym (append_end written) ∙ ap (λ (t : List ℕ). written ++ t) (sym (points-end o w s e)) ∙ h
+written-all written o all w s e h = sym (append-nil written) ∙ ap (λ (t : List ℕ). written ++ t) (sym (points-end o w s e)) ∙ h
 
 -- one more arc is written
 pub written-more : (written o r all : List ℕ) (m : ℕ) → first_below (2 ^ 32) 0 o ≡ Some (m, r) → written ++ flat_map point (subidentifiers 0 o) ≡ all → (written ++ point m) ++ flat_map point (subidentifiers 0 r) ≡ all

@@ -1,12 +1,15 @@
 -- Values of X.690, and what stands at the front of octets. The sections named are those of X.690.
 use Rattle.std.specs.Prelude.{◌≡◌, ◌≢◌, ◌↔◌, ℕ, ◌+◌, ◌≤◌, ◌<◌, Bool, true, false, ◌⊎◌, List, []}
 use Rattle.std.specs.Prelude.{◌∷◌, ◌++◌, length, All, Option, None, Some, zero, suc}
+use Rattle.std.specs.List.{concat}
+use Rattle.rpki_der.specs.Tags.{BOOLEAN, INTEGER, BIT_STRING, OCTET_STRING, OCTET_STRING_IN_PIECES}
+use Rattle.rpki_der.specs.Tags.{NULL, OBJECT_IDENTIFIER, IA5_STRING}
 use Rattle.rpki_der.specs.declared.mode.Mode.{Mode}
 use Rattle.rpki_der.specs.declared.mode.Mode.TheVariants.{Der, Ber}
 use Rattle.rpki_der.specs.Identifier.{IsTag, is_constructed}
 use Rattle.rpki_der.specs.Oid.{IsOid}
 use Rattle.rpki_der.specs.Bits.{IsBits}
-use Rattle.rpki_der.specs.Read.Parse.{Parser, number, least, joined, optional, is_next}
+use Rattle.rpki_der.specs.Numbers.{number, least}
 
 -- where low is the least length that a form is for, DER takes it from there on (10.1)
 abbrev pub IsShortest : Mode → ℕ → ℕ → Type 0
@@ -69,25 +72,13 @@ IsInteger (a ∷ b ∷ rest) n = (a < 128) × (a ≡ 0 → 128 ≤ b) × (n ≡ 
 
 -- the octets are an INTEGER with this value (8.3)
 abbrev pub Integer : Mode → List ℕ → ℕ → Type 0
-Integer mode octets n = Within mode 2 (λ c. IsInteger c n) octets
+Integer mode octets n = Within mode INTEGER (λ c. IsInteger c n) octets
 
 -- the octets are these, one after the other (8.10, 8.12)
 abbrev pub Items : {X : Type 0} → (List ℕ → X → Type 0) → List ℕ → List X → Type 0
 Items G octets [] = octets ≡ []
 Items G octets (x ∷ xs) = (first : List ℕ) × (others : List ℕ) × (octets ≡ first ++ others)
     × G first x × Items G others xs
-
--- p finds exactly the fronts, where what follows them meets ends
-pub record IsExact {X : Type 0} (ends : List ℕ → Type 0) (p : List ℕ → Option (X × List ℕ))
-    (G : List ℕ → X → Type 0) : Type 0 where
-  pub sound : (octets : List ℕ) (x : X) (rest : List ℕ) → IsBytes octets → p octets ≡ Some (x, rest)
-      → Front G octets x rest
-  pub complete : (front : List ℕ) (x : X) (rest : List ℕ) → ends rest → G front x
-      → p (front ++ rest) ≡ Some (x, rest)
-
--- whatever follows
-abbrev pub anything : List ℕ → Type 0
-anything rest = Unit {0}
 
 -- No octets in G are the beginning of others in G: the beginning of given octets that is in G, what
 -- it means and what follows it are unique.
@@ -113,10 +104,11 @@ Skipped mode (suc depth) octets = (tag : ℕ) × (contents : List ℕ) × Value 
 unfoldable pub OctetString : Mode → ℕ → List ℕ → List ℕ → Type 0
 OctetString mode zero octets string = ⊥
 OctetString mode (suc depth) octets string =
-    Value mode octets 4 string
+    Value mode octets OCTET_STRING string
     ⊎ ((mode ≡ Ber) × (contents : List ℕ) × (pieces : List (List ℕ))
-    × Value mode octets 36 contents × Items (OctetString mode depth) contents pieces
-    × (string ≡ joined pieces))
+    × Value mode octets OCTET_STRING_IN_PIECES contents
+    × Items (OctetString mode depth) contents pieces
+    × (string ≡ concat pieces))
 
 -- The contents of a BOOLEAN, one octet (X.690, 8.2). 00 is false. In DER FF alone is true (11.1),
 -- in BER every other octet.
@@ -127,15 +119,15 @@ IsBoolean Ber contents b = (octet : ℕ) × (contents ≡ octet ∷ [])
     × (((octet ≡ 0) × (b ≡ false)) ⊎ ((octet ≢ 0) × (b ≡ true)))
 
 abbrev pub Boolean : Mode → List ℕ → Bool → Type 0
-Boolean mode octets b = Within mode 1 (λ c. IsBoolean mode c b) octets
+Boolean mode octets b = Within mode BOOLEAN (λ c. IsBoolean mode c b) octets
 
 -- a NULL has no contents (8.8)
 abbrev pub Null : Mode → List ℕ → Type 0
-Null mode octets = Within mode 5 (λ c. c ≡ []) octets
+Null mode octets = Within mode NULL (λ c. c ≡ []) octets
 
 -- an OBJECT IDENTIFIER with these contents (8.19)
 abbrev pub ObjectIdentifier : Mode → List ℕ → List ℕ → Type 0
-ObjectIdentifier mode octets oid = Within mode 6 (λ c. (c ≡ oid) × IsOid oid) octets
+ObjectIdentifier mode octets oid = Within mode OBJECT_IDENTIFIER (λ c. (c ≡ oid) × IsOid oid) octets
 
 -- A BIT STRING (8.6), primitive, in DER by 10.2, in BER by this project's own rule: its contents
 -- are the number of bits of the last octet that are not used, and its octets.
@@ -143,16 +135,17 @@ abbrev pub IsBitString : List ℕ → List ℕ × ℕ → Type 0
 IsBitString contents bits = (contents ≡ bits.1 ∷ bits.0) × IsBits bits.0 bits.1
 
 abbrev pub BitString : Mode → List ℕ → List ℕ × ℕ → Type 0
-BitString mode octets bits = Within mode 3 (λ c. IsBitString c bits) octets
+BitString mode octets bits = Within mode BIT_STRING (λ c. IsBitString c bits) octets
 
 -- an IA5String of these characters (8.23): each is below 80. It is primitive, in DER by 10.2, in
 -- BER by this project's own rule.
 abbrev pub Ia5String : Mode → List ℕ → List ℕ → Type 0
-Ia5String mode octets text = Within mode 22 (λ c. (c ≡ text) × All (λ b. b < 128) text) octets
+Ia5String mode octets text =
+    Within mode IA5_STRING (λ c. (c ≡ text) × All (λ b. b < 128) text) octets
 
 -- an INTEGER from 0 to limit - 1 (8.3)
 abbrev pub IntegerBelow : ℕ → Mode → List ℕ → ℕ → Type 0
-IntegerBelow limit mode octets n = Within mode 2 (λ c. IsInteger c n × (n < limit)) octets
+IntegerBelow limit mode octets n = Within mode INTEGER (λ c. IsInteger c n × (n < limit)) octets
 
 -- an OCTET STRING of this length, whose pieces nest at most 32 deep (8.7)
 abbrev pub OctetStringOf : ℕ → Mode → List ℕ → List ℕ → Type 0
@@ -173,29 +166,6 @@ abbrev pub Optional : {X : Type 0} → (List ℕ → X → Type 0) → List ℕ 
 Optional G octets None = octets ≡ []
 Optional G octets (Some x) = G octets x
 
--- Reading by p is reading by the grammar G: what it finds is in G, and what is in G it finds,
--- whatever octets follow (exact); no octets in G are the beginning of others in G (unique); what is
--- in G in DER is the same in BER (relaxed); one whole value that is refused alone is refused
--- whatever octets follow it (behind).
-pub record IsReading {X : Type 0} (p : Parser X) (G : Mode → List ℕ → X → Type 0) : Type 0 where
-  pub exact : (mode : Mode) → IsExact anything (p mode) (G mode)
-  pub unique : (mode : Mode) → IsUnique (G mode)
-  pub relaxed : (octets : List ℕ) (x : X) → G Der octets x → G Ber octets x
-  pub behind : (mode : Mode) (octets contents more : List ℕ) (tag : ℕ) → IsBytes octets
-      → IsBytes more → Value mode octets tag contents → p mode octets ≡ None
-      → p mode (octets ++ more) ≡ None
-
--- Reading by p, where a value with this tag is next, is reading by G: what is found is in G
--- (found), what is in G is found, whatever octets follow (read), nothing is read exactly where no
--- such value is next (absent), and what is found in DER is found in BER (relaxed).
-pub record IsOptionalReading {X : Type 0} (tag : ℕ) (p : Parser X) (G : Mode → List ℕ → X
-    → Type 0) : Type 0 where
-  pub found : (mode : Mode) (octets : List ℕ) (x : X) (rest : List ℕ) → IsBytes octets
-      → optional tag p mode octets ≡ Some (Some x, rest) → Front (G mode) octets x rest
-  pub read : (mode : Mode) (front : List ℕ) (x : X) (rest : List ℕ) → G mode front x
-      → optional tag p mode (front ++ rest) ≡ Some (Some x, rest)
-  pub absent : (mode : Mode) (octets rest : List ℕ)
-      → (optional tag p mode octets ≡ Some (None, rest)) ↔
-      ((rest ≡ octets) × (is_next tag octets ≡ false))
-  pub relaxed : (octets : List ℕ) (x : Option X) (rest : List ℕ) → IsBytes octets
-      → optional tag p Der octets ≡ Some (x, rest) → optional tag p Ber octets ≡ Some (x, rest)
+-- no beginning of the octets is in the grammar
+abbrev pub HasNoFront : {X : Type 0} → (List ℕ → X → Type 0) → List ℕ → Type 0
+HasNoFront {X} grammar octets = (x : X) (rest : List ℕ) → Front grammar octets x rest → ⊥

@@ -1,3 +1,4 @@
+pub mod Tags
 pub mod Identifier
 pub mod Hex
 pub mod Oid
@@ -7,6 +8,7 @@ pub mod Arcs
 pub mod Bits
 pub mod Captured
 pub mod Read
+pub mod Numbers
 pub mod Grammar
 pub mod Sink
 pub mod Encode

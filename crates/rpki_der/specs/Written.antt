@@ -4,6 +4,7 @@ use Rattle.std.specs.Prelude.{nat_lt, ◌==◌, if◌then◌else◌}
 use Rattle.std.proofs.Common.{arith, length-append}
 use Rattle.std.proofs.lemmas.Bool.Decides.{nat_tests}
 use Rattle.std.specs.Int.{w32, to_be_bytes}
+use Rattle.rpki_der.specs.Tags.{INTEGER}
 
 -- the length octets of so many contents octets, fewer than 2^32, in the shortest form
 unfoldable pub length_octets : ℕ → List ℕ
@@ -60,7 +61,7 @@ bit_string_contents octets unused =
 
 -- an INTEGER of 32 bits
 unfoldable pub number_octets : ℕ → List ℕ
-number_octets n = value_octets 0x02 (integer_contents (to_be_bytes w32 n))
+number_octets n = value_octets INTEGER (integer_contents (to_be_bytes w32 n))
 
 pub length_octets_le : (n : ℕ) → length (length_octets n) ≤ 5
 unfolding length_octets

@@ -6,6 +6,8 @@
 
 ghost use Rattle.std.specs.Prelude.{◌≡◌, ◌↔◌, ◌<◌, ◌^◌, ◌++◌, ℕ, Bool, true, false, List, [], Some};
 ghost use Rattle.std.specs.Prelude.{None, Option, slice_index};
+ghost use Rattle.rpki_der.specs.Tags.{BOOLEAN, INTEGER, NULL, OBJECT_IDENTIFIER, IA5_STRING};
+ghost use Rattle.rpki_der.specs.Tags.{SEQUENCE};
 ghost use Rattle.rpki_der.specs.declared.mode.Mode.TheVariants.{Der, Ber};
 ghost use Rattle.rpki_der.specs.declared.mode.Mode.{Mode};
 ghost use Rattle.rpki_der.specs.Read.Parse.{any_at, value_at, primitive, boolean_at, flag_at};
@@ -17,7 +19,8 @@ ghost use Rattle.rpki_der.specs.Oid.{IsOid};
 ghost use Rattle.rpki_der.specs.Grammar.{Value, IntegerBelow, Boolean, Flag, Null};
 ghost use Rattle.rpki_der.specs.Grammar.{ObjectIdentifier, BitString, OctetsInBits, Ia5String};
 ghost use Rattle.rpki_der.specs.Grammar.{Within, Skipped, ListOf, OctetString, OctetStringOf};
-ghost use Rattle.rpki_der.specs.Grammar.{Items, IsBytes, IsExact, IsReading, IsOptionalReading};
+ghost use Rattle.rpki_der.specs.Grammar.{Items, IsBytes};
+ghost use Rattle.rpki_der.specs.Read.Exact.{IsExact, IsReading, IsOptionalReading};
 
 /// What a slice of octets holds is below 256.
 pub fn slices_hold_octets(octets: &[u8])
@@ -62,13 +65,13 @@ pub fn booleans()
 /// follows.
 pub fn flags()
     ensures exact { (mode : Mode)
-        → IsExact (λ rest. is_next 1 rest ≡ false) (flag_at mode) (Flag mode) }
+        → IsExact (λ rest. is_next BOOLEAN rest ≡ false) (flag_at mode) (Flag mode) }
     ensures relaxed { (octets : List ℕ) (b : Bool) → Flag Der octets b → Flag Ber octets b }
 {}
 
 /// A NULL (X.690, section 8.8).
 pub fn nulls()
-    ensures { IsReading (primitive 5 null_of) (λ mode octets _. Null mode octets) }
+    ensures { IsReading (primitive NULL null_of) (λ mode octets _. Null mode octets) }
 {}
 
 /// An OBJECT IDENTIFIER (X.690, section 8.19).
@@ -79,7 +82,8 @@ pub fn object_identifiers()
 /// An OBJECT IDENTIFIER that has these contents (X.690, section 8.19).
 pub fn given_object_identifiers()
     ensures { (oid : List ℕ) → IsOid oid
-        → IsReading (primitive 6 (these oid)) (λ mode octets _. ObjectIdentifier mode octets oid) }
+        → IsReading (primitive OBJECT_IDENTIFIER (these oid))
+        (λ mode octets _. ObjectIdentifier mode octets oid) }
 {}
 
 /// A BIT STRING all of whose bits are used (X.690, section 8.6).
@@ -135,7 +139,7 @@ pub fn contents_of_values()
 /// An INTEGER from 0 to 255 that is this number (X.690, section 8.3).
 pub fn given_integers()
     ensures { (n : ℕ) → n < 256
-        → IsReading (primitive 2 (this n)) (λ mode octets _. IntegerBelow 256 mode octets n) }
+        → IsReading (primitive INTEGER (this n)) (λ mode octets _. IntegerBelow 256 mode octets n) }
 {}
 
 /// Skipped values up to the end (X.690, section 8.1.1).
@@ -152,11 +156,12 @@ pub fn skipped_contents()
 /// given tag, or a value
 /// with a given tag that is opened.
 pub fn optional_values()
-    ensures integer_u8 { IsOptionalReading 2 u8_at (IntegerBelow 256) }
-    ensures integer_u32 { IsOptionalReading 2 u32_at (IntegerBelow (2 ^ 32)) }
-    ensures boolean { IsOptionalReading 1 boolean_at Boolean }
-    ensures null { IsOptionalReading 5 (primitive 5 null_of) (λ mode octets _. Null mode octets) }
-    ensures ia5 { IsOptionalReading 22 ia5_at Ia5String }
+    ensures integer_u8 { IsOptionalReading INTEGER u8_at (IntegerBelow 256) }
+    ensures integer_u32 { IsOptionalReading INTEGER u32_at (IntegerBelow (2 ^ 32)) }
+    ensures boolean { IsOptionalReading BOOLEAN boolean_at Boolean }
+    ensures null { IsOptionalReading NULL (primitive NULL null_of)
+        (λ mode octets _. Null mode octets) }
+    ensures ia5 { IsOptionalReading IA5_STRING ia5_at Ia5String }
     ensures contents { (tag : ℕ)
         → IsOptionalReading tag (primitive tag Some)
         (λ mode octets contents. Value mode octets tag contents) }
@@ -195,12 +200,12 @@ pub fn captured_values()
     ensures integer_u32 { IsReading (captured u32_at)
         (λ mode octets kept. (kept ≡ octets) × (n : ℕ) × IntegerBelow (2 ^ 32) mode octets n) }
     ensures integer_given { (n : ℕ) → n < 256
-        → IsReading (captured (primitive 2 (this n)))
+        → IsReading (captured (primitive INTEGER (this n)))
         (λ mode octets kept. (kept ≡ octets) × Unit {0} × IntegerBelow 256 mode octets n) }
     ensures integer_u160 { IsReading (captured u160_at)
         (λ mode octets kept. (kept ≡ octets) × (n : ℕ) × IntegerBelow (2 ^ 160) mode octets n) }
     ensures oid_given { (oid : List ℕ) → IsOid oid
-        → IsReading (captured (primitive 6 (these oid)))
+        → IsReading (captured (primitive OBJECT_IDENTIFIER (these oid)))
         (λ mode octets kept. (kept ≡ octets) × Unit {0} × ObjectIdentifier mode octets oid) }
     ensures whole_bits { IsReading (captured octets_in_bits_at)
         (λ mode octets kept. (kept ≡ octets) × (string : List ℕ) × OctetsInBits mode octets string) }
@@ -208,7 +213,7 @@ pub fn captured_values()
         → IsReading (captured (octets_of n))
         (λ mode octets kept. (kept ≡ octets) × (string : List ℕ)
         × OctetStringOf n mode octets string) }
-    ensures null { IsReading (captured (primitive 5 null_of))
+    ensures null { IsReading (captured (primitive NULL null_of))
         (λ mode octets kept. (kept ≡ octets) × Unit {0} × Null mode octets) }
     ensures all { (mode : Mode) (octets kept rest : List ℕ) → IsBytes octets
         → (captured skip_all_at mode octets ≡ Some (kept, rest)) ↔
@@ -217,6 +222,7 @@ pub fn captured_values()
 
 /// A SEQUENCE of INTEGERs from 0 to 2^32 - 1 (X.690, sections 8.3 and 8.10).
 pub fn lists_of_integers()
-    ensures { IsReading (in_value 48 (many (optional 2 u32_at)))
-        (λ mode octets ns. Within mode 48 (λ c. Items (IntegerBelow (2 ^ 32) mode) c ns) octets) }
+    ensures { IsReading (in_value SEQUENCE (many (optional INTEGER u32_at)))
+        (λ mode octets ns. Within mode SEQUENCE
+        (λ c. Items (IntegerBelow (2 ^ 32) mode) c ns) octets) }
 {}

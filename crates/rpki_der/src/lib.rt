@@ -15,6 +15,7 @@ mod oid;
 mod read;
 mod reason;
 mod stream;
+mod tag;
 pub mod write_laws;
 
 pub use as_octets::AsOctets;
@@ -24,11 +25,12 @@ pub use count::Count;
 pub use encode::{Encode, EncodeError};
 pub use error::{ContentFault, DecodeError, InvalidSignedAttr};
 pub use hex::LowerHex;
-pub use mode::{Mode, Tag};
+pub use mode::Mode;
 pub use oid::Oid;
 pub use read::Constructed;
 pub use reason::Reason;
 pub use stream::{Counted, Sink, SinkFailed, Source, SourceError, SourceFailed};
+pub use tag::Tag;
 
 #[cfg(test)]
 mod tests;

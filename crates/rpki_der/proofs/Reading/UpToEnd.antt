@@ -1,22 +1,26 @@
 -- Loops that read up to the end.
-use Rattle.std.proofs.Common.{◌≡◌, ℕ, ◌<◌, ◌≤◌, Bool, true, false, List, [], ◌∷◌, ◌++◌, length, Option, Some, None, Ok, Err, refl, sym, ap, ◌∙◌, arith}
+use Rattle.std.proofs.Common.{◌≡◌, ℕ, ◌<◌, ◌≤◌, Bool, true, false, List, [], ◌∷◌, ◌++◌, length}
+use Rattle.std.proofs.Common.{Option, Some, None, Ok, Err, refl, sym, ap, ◌∙◌, arith}
+use Rattle.std.proofs.lemmas.List.{append-nil}
 use Rattle.rpki_der.specs.declared.mode.Mode.{Mode}
 use Rattle.rpki_der.specs.declared.error.DecodeError.{DecodeError}
 use Rattle.rpki_der.specs.declared.error.DecodeError.TheVariants.{Memory}
 use Rattle.rpki_der.specs.Read.State.{State}
 use Rattle.rpki_der.specs.Read.Parse.{Parser, ◌>>=◌, with_front, all_of, all_at, at_end}
 use Rattle.rpki_der.specs.Read.Reads.{Reads, ReadUpTo}
-use Rattle.rpki_der.specs.Grammar.{Items, IsExact, anything}
+use Rattle.rpki_der.specs.Grammar.{Items}
+use Rattle.rpki_der.specs.Read.Exact.{IsExact, anything}
 use Rattle.rpki_der.proofs.Reading.Lengths.{bind_some, some_is}
-use Rattle.rpki_der.proofs.Reading.Many.{with_front-twice, append_end}
+use Rattle.rpki_der.proofs.Reading.Many.{with_front-twice}
 use Rattle.rpki_der.proofs.Reading.Skips.{Takes, all-more, all-none, all-end, exact-all}
 use Rattle.rpki_der.proofs.Reading.Exact.{the_end}
-use Rattle.rpki_der.proofs.Reading.Calls.{reads-ok}
-use Rattle.rpki_der.proofs.Reading.Loops.{err-as}
+use Rattle.rpki_der.proofs.Reading.Calls.{reads-ok, err-as}
 
 -- ---- what is read up to the end
 
-one-front : {X : Type 0} (x : X) (o : Option (List X)) → ((o >>= λ xs. Some (x ∷ xs)) >>= λ xs. (let r : Option (List X × List ℕ) = Some (xs, []) in r))
+one-front : {X : Type 0} (x : X) (o : Option (List X))
+    → ((o >>= λ xs. Some (x ∷ xs)) >>= λ xs. (let r : Option (List X × List ℕ) = Some (xs, []) in
+    r))
     ≡ with_front (x ∷ []) (o >>= λ xs. Some (xs, []))
 one-front x None = refl
 one-front x (Some xs) = refl
@@ -35,7 +39,8 @@ module _ {X : Type 0} (p : Parser X) (mode : Mode) (takes : Takes (p mode)) wher
   all_at-end = rw (all-end p mode takes) refl
 
   -- it is read exactly
-  pub exact-all_at : (G : List ℕ → X → Type 0) → IsExact anything (p mode) G → IsExact the_end (all_at p mode) (Items G)
+  pub exact-all_at : (G : List ℕ → X → Type 0) → IsExact anything (p mode) G
+      → IsExact the_end (all_at p mode) (Items G)
   exact-all_at G e =
       let all = exact-all p mode takes G e in
       record {
@@ -43,10 +48,11 @@ module _ {X : Type 0} (p : Parser X) (mode : Mode) (takes : Takes (p mode)) wher
             let o = bind_some (all_of p mode b) _ (xs, r) h in
             let q : (let t : List X × List ℕ = (o.0, []) in t) ≡ (xs, r) = some_is _ _ o.2 in (
               b,
-              sym (append_end b) ∙ ap (λ (t : List X × List ℕ). b ++ t.1) q,
-              all.sound b xs bytes (o.1 ∙ ap (λ (t : List X × List ℕ). (let s : Option (List X) = Some t.0 in s)) q),
+              sym (append-nil b) ∙ ap (λ (t : List X × List ℕ). b ++ t.1) q,
+              all.sound b xs bytes (o.1
+                  ∙ ap (λ (t : List X × List ℕ). (let s : Option (List X) = Some t.0 in s)) q),
             );
-        complete = λ b xs r er h. rw (er, append_end b, all.complete b xs h) refl;
+        complete = λ b xs r er h. rw (er, append-nil b, all.complete b xs h) refl;
       }
 
 -- ---- loops
@@ -55,11 +61,18 @@ abbrev Ended : Bool → List ℕ → Type 0
 Ended true rest = rest ≡ []
 Ended false rest = 1 ≤ length rest
 
-end-is : (mode : Mode) (b : List ℕ) (e : Bool) (r : List ℕ) → at_end mode b ≡ Some (e, r) → (b ≡ r) × Ended e r
+end-is : (mode : Mode) (b : List ℕ) (e : Bool) (r : List ℕ) → at_end mode b ≡ Some (e, r)
+    → (b ≡ r) × Ended e r
 unfolding at_end
-end-is mode [] true r h = let q : (let t : Bool × List ℕ = (true, []) in t) ≡ (true, r) = some_is _ _ h in (ap (λ (t : Bool × List ℕ). t.1) q, sym (ap (λ (t : Bool × List ℕ). t.1) q))
-end-is mode [] false r h = absurd (let q : (let t : Bool × List ℕ = (true, []) in t) ≡ (false, r) = some_is _ _ h in let no : true ≡ false = ap (λ (t : Bool × List ℕ). t.0) q in cc)
-end-is mode (a ∷ b) true r h = absurd (let q : (let t : Bool × List ℕ = (false, a ∷ b) in t) ≡ (true, r) = some_is _ _ h in let no : false ≡ true = ap (λ (t : Bool × List ℕ). t.0) q in cc)
+end-is mode [] true r h = let q : (let t : Bool × List ℕ = (true, []) in
+    t) ≡ (true, r) = some_is _ _ h in
+    (ap (λ (t : Bool × List ℕ). t.1) q, sym (ap (λ (t : Bool × List ℕ). t.1) q))
+end-is mode [] false r h =
+    absurd (let q : (let t : Bool × List ℕ = (true, []) in t) ≡ (false, r) = some_is _ _ h in
+    let no : true ≡ false = ap (λ (t : Bool × List ℕ). t.0) q in cc)
+end-is mode (a ∷ b) true r h =
+    absurd (let q : (let t : Bool × List ℕ = (false, a ∷ b) in t) ≡ (true, r) = some_is _ _ h in
+    let no : false ≡ true = ap (λ (t : Bool × List ℕ). t.0) q in cc)
 end-is mode (a ∷ b) false r h =
     let q : (let t : Bool × List ℕ = (false, a ∷ b) in t) ≡ (false, r) = some_is _ _ h in
     let same : a ∷ b ≡ r = ap (λ (t : Bool × List ℕ). t.1) q in
@@ -72,14 +85,16 @@ end-some mode (a ∷ b) h = cc
 
 -- Nothing has been read.
 pub up_to-begun : {X : Type 0} (p : Parser X) (begun : State) → ReadUpTo p [] begun begun
-up_to-begun p begun = record { mode = refl; failed = refl; read = nothing (all_at p begun.mode begun.rest) }
+up_to-begun p begun =
+    record { mode = refl; failed = refl; read = nothing (all_at p begun.mode begun.rest) }
   where
     nothing : {X : Type 0} (o : Option (List X × List ℕ)) → with_front [] o ≡ o
     nothing None = refl
     nothing (Some r) = refl
 
 -- The end has not come.
-pub up_to-on : {X : Type 0} (p : Parser X) (front : List X) (begun now new : State) → ReadUpTo p front begun now
+pub up_to-on : {X : Type 0} (p : Parser X) (front : List X) (begun now new : State)
+    → ReadUpTo p front begun now
     → Reads (λ b. b) at_end now (Ok false) new → ReadUpTo p front begun new × (1 ≤ length new.rest)
 up_to-on p front begun now new s h =
     let r = reads-ok (λ b. b) at_end now false new h in
@@ -93,8 +108,10 @@ up_to-on p front begun now new s h =
     )
 
 -- An iteration read one more.
-pub up_to-more : {X T : Type 0} (p : Parser X) → ((mode : Mode) → Takes (p mode)) → (view : T → X) (front : List X)
-    (begun now : State) (t : T) (new : State) → ReadUpTo p front begun now → Reads view p now (Ok t) new
+pub up_to-more : {X T : Type 0} (p : Parser X) → ((mode : Mode) → Takes (p mode))
+    → (view : T → X) (front : List X)
+    (begun now : State) (t : T) (new : State) → ReadUpTo p front begun now
+    → Reads view p now (Ok t) new
     → ReadUpTo p (front ++ view t ∷ []) begun new
 up_to-more p takes view front begun now t new s h =
     let r = reads-ok view p now t new h in
@@ -103,18 +120,21 @@ up_to-more p takes view front begun now t new s h =
       mode = r.mode ∙ s.mode;
       failed = r.after ∙ sym r.before ∙ s.failed;
       read = sym (with_front-twice front (view t ∷ []) (all_at p begun.mode new.rest))
-          ∙ ap (with_front front) (sym (all_at-more p begun.mode (takes begun.mode) now.rest (view t) new.rest e)) ∙ s.read;
+          ∙ ap (with_front front)
+          (sym (all_at-more p begun.mode (takes begun.mode) now.rest (view t) new.rest e)) ∙ s.read;
     }
 
 -- Fewer octets are left.
-pub up_to-shorter : {X T : Type 0} (p : Parser X) → ((mode : Mode) → Takes (p mode)) → (view : T → X) (now : State) (t : T)
+pub up_to-shorter : {X T : Type 0} (p : Parser X) → ((mode : Mode) → Takes (p mode))
+    → (view : T → X) (now : State) (t : T)
     (new : State) → Reads view p now (Ok t) new → length new.rest < length now.rest
 up_to-shorter p takes view now t new h =
     let r = reads-ok view p now t new h in
     (takes now.mode).at now.rest (view t) new.rest r.found
 
 -- The end has come.
-pub up_to-end : {X U : Type 0} (p : Parser X) → ((mode : Mode) → Takes (p mode)) → (shown : U → List X) (begun now : State)
+pub up_to-end : {X U : Type 0} (p : Parser X) → ((mode : Mode) → Takes (p mode))
+    → (shown : U → List X) (begun now : State)
     (u : U) (new : State) → ReadUpTo p (shown u) begun now → Reads (λ b. b) at_end now (Ok true) new
     → Reads shown (all_at p) begun (Ok u) new
 up_to-end {X} p takes shown begun now u new s h =
@@ -122,35 +142,43 @@ up_to-end {X} p takes shown begun now u new s h =
     let e = end-is now.mode now.rest true new.rest r.found in
     let last : with_front (shown u) (all_at p begun.mode now.rest) ≡ Some (shown u, new.rest) =
     rw (e.0, e.1, all_at-end p begun.mode (takes begun.mode))
-    (ap (λ (xs : List X). (let o : Option (List X × List ℕ) = Some (xs, []) in o)) (append_end (shown u))) in
+    (ap (λ (xs : List X). (let o : Option (List X × List ℕ) = Some (xs, []) in o))
+    (append-nil (shown u))) in
     let all : all_at p begun.mode begun.rest ≡ Some (shown u, new.rest) = sym s.read ∙ last in
     let fresh : begun.failed ≡ None = sym s.failed ∙ r.before in
     (r.mode ∙ s.mode, rw fresh (all, r.after))
 
 -- One more could not be read.
-pub up_to-err : {X T U : Type 0} (p : Parser X) → ((mode : Mode) → Takes (p mode)) → (view : T → X) (shown : U → List X)
-    (front : List X) (begun now : State) (e : DecodeError) (new : State) → ReadUpTo p front begun now
-    → 1 ≤ length now.rest → Reads {T = T} view p now (Err e) new → Reads {T = U} shown (all_at p) begun (Err e) new
+pub up_to-err : {X T U : Type 0} (p : Parser X) → ((mode : Mode) → Takes (p mode))
+    → (view : T → X) (shown : U → List X)
+    (front : List X) (begun now : State) (e : DecodeError) (new : State)
+    → ReadUpTo p front begun now
+    → 1 ≤ length now.rest → Reads {T = T} view p now (Err e) new
+    → Reads {T = U} shown (all_at p) begun (Err e) new
 up_to-err {X} {T} {U} p takes view shown front begun now e new s some h =
     let none : p begun.mode now.rest ≡ None → all_at p begun.mode begun.rest ≡ None =
     λ q. sym s.read ∙ rw (all_at-none p begun.mode (takes begun.mode) now.rest some q) refl in (
       h.0 ∙ s.mode,
-      err-as view shown begun.failed e new (p begun.mode now.rest) (all_at p begun.mode begun.rest) none
+      err-as view shown begun.failed e new (p begun.mode now.rest)
+          (all_at p begun.mode begun.rest) none
           (rw (← s.failed, ← s.mode) h.1),
     )
 
 -- The reader had failed.
-pub up_to-failed : {X U : Type 0} (p : Parser X) (shown : U → List X) (front : List X) (begun now : State) (e : DecodeError)
+pub up_to-failed : {X U : Type 0} (p : Parser X) (shown : U → List X) (front : List X)
+    (begun now : State) (e : DecodeError)
     (new : State) → ReadUpTo p front begun now → Reads {T = Bool} (λ b. b) at_end now (Err e) new
     → Reads {T = U} shown (all_at p) begun (Err e) new
 up_to-failed {X} {U} p shown front begun now e new s h = (
   h.0 ∙ s.mode,
-  err-as (λ b. b) shown begun.failed e new (at_end begun.mode now.rest) (all_at p begun.mode begun.rest)
+  err-as (λ b. b) shown begun.failed e new (at_end begun.mode now.rest)
+      (all_at p begun.mode begun.rest)
       (λ q. absurd (end-some begun.mode now.rest q)) (rw (← s.failed, ← s.mode) h.1),
 )
 
 -- Memory ran out for what was read.
-pub up_to-memory : {X T U : Type 0} (p : Parser X) (view : T → X) (shown : U → List X) (front : List X) (begun now : State)
+pub up_to-memory : {X T U : Type 0} (p : Parser X) (view : T → X) (shown : U → List X)
+    (front : List X) (begun now : State)
     (t : T) (new : State) → ReadUpTo p front begun now → Reads view p now (Ok t) new
     → Reads {T = U} shown (all_at p) begun (Err Memory) new
 up_to-memory p view shown front begun now t new s h =

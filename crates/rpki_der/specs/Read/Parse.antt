@@ -2,8 +2,11 @@
 use Rattle.std.specs.Prelude.{◌≡◌, ℕ, zero, suc, ◌++◌, ◌+◌, ◌*◌, ◌-◌, List, [], ◌∷◌, length, take}
 use Rattle.std.specs.Prelude.{drop, Option, None, Some, Bool, true, false, nat_lt, ◌==◌}
 use Rattle.std.specs.Prelude.{if◌then◌else◌}
-use Rattle.std.specs.List.{list_all}
+use Rattle.std.specs.List.{list_all, concat}
 use Rattle.std.specs.Str.{bytes_eq}
+use Rattle.rpki_der.specs.Tags.{BOOLEAN, INTEGER, BIT_STRING, OCTET_STRING, OCTET_STRING_IN_PIECES}
+use Rattle.rpki_der.specs.Tags.{OBJECT_IDENTIFIER, IA5_STRING}
+use Rattle.rpki_der.specs.Numbers.{number, least}
 use Rattle.rpki_der.specs.Oid.{is_oid}
 use Rattle.rpki_der.specs.Bits.{are_bits}
 use Rattle.rpki_der.specs.Identifier.{is_tag, is_constructed}
@@ -18,18 +21,9 @@ abbrev pub ◌>>=◌ : {A B : Type 0} → Option A → (A → Option B) → Opti
 (Some x) >>= f = f x
 None >>= f = None
 
--- the number that has these digits after those of n
-abbrev pub number : ℕ → List ℕ → ℕ
-number n [] = n
-number n (d ∷ ds) = number (n * 256 + d) ds
-
 -- a number of at most so many octets
 unfoldable pub number_of : ℕ → List ℕ → Option ℕ
 number_of most digits = if nat_lt most (length digits) then None else Some (number 0 digits)
-
--- the least length that so many octets are for
-abbrev pub least : ℕ → ℕ
-least k = if k == 1 then 128 else if k == 2 then 256 else if k == 3 then 65536 else 16777216
 
 -- a length that has to be at least low to be in the shortest form
 abbrev pub shortest : Mode → ℕ → ℕ → List ℕ → Option (ℕ × List ℕ)
@@ -152,14 +146,14 @@ primitive tag f mode bytes = do
   Some (x, v.1)
 
 abbrev pub u8_at : Parser ℕ
-u8_at = primitive 2 (unsigned_of 1)
+u8_at = primitive INTEGER (unsigned_of 1)
 
 abbrev pub u32_at : Parser ℕ
-u32_at = primitive 2 (unsigned_of 4)
+u32_at = primitive INTEGER (unsigned_of 4)
 
 -- a number of at most 20 octets
 abbrev pub u160_at : Parser ℕ
-u160_at = primitive 2 (unsigned_of 20)
+u160_at = primitive INTEGER (unsigned_of 20)
 
 -- exactly this number
 abbrev pub this : ℕ → List ℕ → Option (Unit {0})
@@ -173,7 +167,7 @@ boolean_of Ber (b ∷ []) = if b == 0 then Some false else Some true
 boolean_of mode (a ∷ b ∷ rest) = None
 
 abbrev pub boolean_at : Parser Bool
-boolean_at mode bytes = primitive 1 (boolean_of mode) mode bytes
+boolean_at mode bytes = primitive BOOLEAN (boolean_of mode) mode bytes
 
 -- the contents of a NULL
 unfoldable pub null_of : List ℕ → Option (Unit {0})
@@ -185,7 +179,7 @@ unfoldable pub oid_of : List ℕ → Option (List ℕ)
 oid_of contents = if is_oid contents then Some contents else None
 
 abbrev pub oid_at : Parser (List ℕ)
-oid_at = primitive 6 oid_of
+oid_at = primitive OBJECT_IDENTIFIER oid_of
 
 -- exactly these contents
 unfoldable pub these : List ℕ → List ℕ → Option (Unit {0})
@@ -198,7 +192,7 @@ bits_of [] = None
 bits_of (unused ∷ octets) = if are_bits octets unused then Some (octets, unused) else None
 
 abbrev pub bits_at : Parser (List ℕ × ℕ)
-bits_at = primitive 3 bits_of
+bits_at = primitive BIT_STRING bits_of
 
 -- the contents of a BIT STRING all of whose bits are used
 unfoldable pub whole_octets_of : List ℕ → Option (List ℕ)
@@ -206,14 +200,14 @@ whole_octets_of [] = None
 whole_octets_of (unused ∷ octets) = if unused == 0 then Some octets else None
 
 abbrev pub octets_in_bits_at : Parser (List ℕ)
-octets_in_bits_at = primitive 3 whole_octets_of
+octets_in_bits_at = primitive BIT_STRING whole_octets_of
 
 -- the contents of an IA5String
 unfoldable pub ia5_of : List ℕ → Option (List ℕ)
 ia5_of contents = if list_all (λ b. nat_lt b 128) contents then Some contents else None
 
 abbrev pub ia5_at : Parser (List ℕ)
-ia5_at = primitive 22 ia5_of
+ia5_at = primitive IA5_STRING ia5_of
 
 -- whether a value with this tag begins here
 abbrev pub is_next : ℕ → List ℕ → Bool
@@ -237,6 +231,16 @@ abbrev pub go_on : {X : Type 0} → Option X → List ℕ → Option (List X × 
     → Option (List X × List ℕ)
 go_on None rest more = Some ([], rest)
 go_on (Some x) rest more = with_front (x ∷ []) more
+
+-- what was found, or else the other
+abbrev pub or_else : {X : Type 0} → Option X → List ℕ → Option (Option X × List ℕ)
+    → Option (Option X × List ℕ)
+or_else (Some x) rest other = Some (Some x, rest)
+or_else None rest other = other
+
+-- p finds one, or else q
+abbrev pub either : {X : Type 0} → Parser (Option X) → Parser (Option X) → Parser (Option X)
+either p q mode bytes = p mode bytes >>= λ x. or_else x.0 x.1 (q mode x.1)
 
 -- as many as there are, up to so many
 unfoldable pub up_to : {X : Type 0} → ℕ → Parser (Option X) → Parser (List X)
@@ -273,23 +277,18 @@ skip_at zero mode bytes = None
 skip_at (suc depth) mode bytes =
     any_at mode bytes >>= λ v. (skipped (skip_at depth) mode v.0.0 v.0.1 >>= λ _. Some (tt, v.1))
 
--- all of these, one after the other
-abbrev pub joined : List (List ℕ) → List ℕ
-joined [] = []
-joined (part ∷ parts) = part ++ joined parts
-
 abbrev pub in_ber : {X : Type 0} → Mode → Option X → Option X
 in_ber Der found = None
 in_ber Ber found = found
 
 -- the octets of pieces
 abbrev pub pieces : Parser (List ℕ) → Mode → List ℕ → Option (List ℕ)
-pieces p mode contents = all_of p mode contents >>= λ parts. Some (joined parts)
+pieces p mode contents = all_of p mode contents >>= λ parts. Some (concat parts)
 
 -- the octets of an OCTET STRING, from its tag and its contents
 abbrev pub string_of : Parser (List ℕ) → Mode → ℕ → List ℕ → Option (List ℕ)
 string_of p mode tag contents =
-    if tag == 4 then Some contents else if tag == 36 then in_ber mode
+    if tag == OCTET_STRING then Some contents else if tag == OCTET_STRING_IN_PIECES then in_ber mode
     (pieces p mode contents) else None
 
 -- the octets of an OCTET STRING that nests at most so deep
@@ -344,7 +343,7 @@ or_false (Some b) = b
 
 -- a BOOLEAN that is false where it is left out
 unfoldable pub flag_at : Parser Bool
-flag_at mode bytes = optional 1 boolean_at mode bytes >>= λ b. Some (or_false b.0, b.1)
+flag_at mode bytes = optional BOOLEAN boolean_at mode bytes >>= λ b. Some (or_false b.0, b.1)
 
 -- past the next value, whatever it is, or nothing at the end
 unfoldable pub skip_opt_at : Parser (Option (Unit {0}))

@@ -52,6 +52,13 @@ abbrev pub OkOrMemory : {T : Type 0} → Result T DecodeError → (T → Type 0)
 OkOrMemory (Ok t) P = P t
 OkOrMemory (Err e) P = e ≡ Memory
 
+-- P holds where the octets are refused, for another cause than memory
+abbrev pub IfRefused : {T : Type 0} → Result T DecodeError → Type 0 → Type 0
+IfRefused (Ok t) P = Unit {0}
+IfRefused (Err Malformed) P = P
+IfRefused (Err (Content fault)) P = P
+IfRefused (Err Memory) P = Unit {0}
+
 -- a failed reader answers its error again
 abbrev pub RepeatsError : {T : Type 0} → DecodeError → Result T DecodeError → Type 0
 RepeatsError e (Ok t) = ⊥

@@ -4,8 +4,8 @@ ghost use Rattle.rpki_der.specs.Written.{bit_string_contents, unused_bits, zero_
 use crate::encode::raw::Raw;
 use crate::encode::value::Value;
 use crate::encode::{Encode, EncodeError};
-use crate::mode::Tag;
 use crate::stream::{Sink, SinkFailed};
+use crate::tag::Tag;
 
 /// The contents of a BIT STRING: how many bits of the last octet are not used, and the octets. The bits that are not used are written as zeros.
 #[derive(Drop)]

@@ -3,8 +3,8 @@ ghost use Rattle.rpki_der.specs.Written.{boolean_contents};
 
 use crate::encode::raw::Raw;
 use crate::encode::value::Value;
-use crate::mode::Tag;
 use crate::oid::Oid;
+use crate::tag::Tag;
 
 /// A value with this tag and these contents (X.690, section 8.1.1).
 pub fn primitive(tag: Tag, octets: &[u8]) -> Value<Raw<'_>>

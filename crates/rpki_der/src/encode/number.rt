@@ -4,8 +4,8 @@ ghost use Rattle.rpki_der.specs.Written.{significant, integer_contents, number_o
 use crate::encode::raw::Raw;
 use crate::encode::value::Value;
 use crate::encode::{Encode, EncodeError};
-use crate::mode::Tag;
 use crate::stream::{Sink, SinkFailed};
+use crate::tag::Tag;
 
 /// The shortest contents of an INTEGER that is not negative, from its digits to base 256, the highest one first.
 #[derive(Drop)]

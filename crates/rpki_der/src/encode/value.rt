@@ -5,8 +5,8 @@ ghost use Rattle.rpki_der.specs.Written.{length_octets, value_octets};
 ghost use Rattle.rpki_der.specs.Parts.{contents_small};
 
 use crate::encode::{Encode, EncodeError};
-use crate::mode::Tag;
 use crate::stream::{Sink, SinkFailed};
+use crate::tag::Tag;
 
 /// A value (X.690, section 8.1.1): an identifier octet, the length in its shortest form, and the contents.
 #[derive(Drop)]

@@ -3,6 +3,7 @@
 ghost use Rattle.std.specs.Prelude.{Result, IfOk, IfSome, ◌≡◌, ◌<◌, ◌≤◌, length, drop, take, None};
 ghost use Rattle.std.specs.Prelude.{Some, IsNone, MatchOption, Ok, Err, OnOk, OnErr, IsSomeAnd};
 ghost use Rattle.std.specs.Fn.{FnOnceReturnsAtMut};
+ghost use Rattle.rpki_der.specs.Tags.{SEQUENCE, SET};
 ghost use Rattle.rpki_der.specs.Grammar.{IsBytes};
 ghost use Rattle.rpki_der.specs.Read.State.{State, fresh, failing};
 ghost use Rattle.rpki_der.specs.Read.Parse.{at_end, is_next};
@@ -13,9 +14,10 @@ ghost use Rattle.rpki_der.specs.Read.Reads.{unfinished, closed, not_failed};
 use crate::captured::Captured;
 use crate::error::DecodeError;
 use crate::laws::slices_hold_octets;
-use crate::mode::{Mode, Tag};
+use crate::mode::Mode;
 use crate::read::header::place_of;
 use crate::read::window::Window;
+use crate::tag::Tag;
 use bytes::Bytes;
 use std::marker::Model;
 
@@ -360,7 +362,7 @@ impl<'a> Constructed<'a> {
         op: F,
     ) -> Result<T, DecodeError>
         requires { F.IsAlwaysCallable op }
-        ensures { Opens 48 (λ s r after. FnOnceReturnsAtMut F.FnOnce op s r after)
+        ensures { Opens SEQUENCE (λ s r after. FnOnceReturnsAtMut F.FnOnce op s r after)
             self.old result self.new }
     {
         self.take_constructed_if(Tag::SEQUENCE, op)
@@ -374,7 +376,7 @@ impl<'a> Constructed<'a> {
         op: F,
     ) -> Result<T, DecodeError>
         requires { F.IsAlwaysCallable op }
-        ensures { Opens 49 (λ s r after. FnOnceReturnsAtMut F.FnOnce op s r after)
+        ensures { Opens SET (λ s r after. FnOnceReturnsAtMut F.FnOnce op s r after)
             self.old result self.new }
     {
         self.take_constructed_if(Tag::SET, op)
@@ -387,7 +389,7 @@ impl<'a> Constructed<'a> {
         op: F,
     ) -> Result<Option<T>, DecodeError>
         requires { F.IsAlwaysCallable op }
-        ensures { OpensIfNext 48
+        ensures { OpensIfNext SEQUENCE
             (λ s r after. FnOnceReturnsAtMut F.FnOnce op s r after) self.old result self.new }
     {
         self.take_opt_constructed_if(Tag::SEQUENCE, op)

@@ -3,12 +3,14 @@
 ghost use Rattle.std.specs.Prelude.{slice_range, ◌≡◌, ◌<◌, ◌≤◌, ◌+◌, ◌^◌, length, drop, take, None};
 ghost use Rattle.std.specs.Prelude.{Some, IsNone, MatchOption, List, ℕ, Option};
 ghost use Rattle.rpki_der.specs.Identifier.{is_constructed, is_tag};
-ghost use Rattle.rpki_der.specs.Read.Parse.{shortest, value_at, length_at, long_at, least};
-ghost use Rattle.rpki_der.specs.Read.Parse.{contents_at, step, outer, end_of, before_end};
-ghost use Rattle.rpki_der.specs.Read.Parse.{indefinite_at, body_at, any_at, Finds};
+ghost use Rattle.rpki_der.specs.Read.Parse.{shortest, value_at, length_at, long_at, contents_at};
+ghost use Rattle.rpki_der.specs.Read.Parse.{step, outer, end_of, before_end, indefinite_at};
+ghost use Rattle.rpki_der.specs.Read.Parse.{body_at, any_at, Finds};
+ghost use Rattle.rpki_der.specs.Numbers.{least};
 
-use crate::mode::{Mode, Tag, is_tag};
+use crate::mode::Mode;
 use crate::read::integer::number_in;
+use crate::tag::{Tag, is_tag};
 
 /// The length, unless it is not in the shortest form.
 #[inline(always)]

@@ -2,7 +2,8 @@
 
 ghost use Rattle.std.specs.Prelude.{◌≡◌, ◌<◌, ◌≤◌, length, drop, take, None, Some, IsNone};
 ghost use Rattle.std.specs.Prelude.{MatchOption, List, ℕ, Option};
-ghost use Rattle.rpki_der.specs.Read.Parse.{digits_of, number_of, unsigned_of, number, Finds};
+ghost use Rattle.rpki_der.specs.Read.Parse.{digits_of, number_of, unsigned_of, Finds};
+ghost use Rattle.rpki_der.specs.Numbers.{number};
 
 /// The number with these digits to base 256, the highest one first. There are at most four, and no
 /// digits are zero.

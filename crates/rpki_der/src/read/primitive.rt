@@ -1,19 +1,21 @@
 //! Values whose contents are understood: numbers, truth values, identifiers, strings.
 
 ghost use Rattle.std.specs.Prelude.{◌≡◌, ◌<◌, length, IfOk, IfSome, Some};
+ghost use Rattle.rpki_der.specs.Tags.{BOOLEAN, INTEGER, NULL, OBJECT_IDENTIFIER, IA5_STRING};
 ghost use Rattle.rpki_der.specs.Read.Parse.{octets_at, u8_at, u32_at, u160_at, boolean_at, flag_at};
 ghost use Rattle.rpki_der.specs.Read.Parse.{null_of, oid_at, these, bits_at, octets_in_bits_at};
-ghost use Rattle.rpki_der.specs.Read.Parse.{octets_of, ia5_at, this, primitive, optional, number};
+ghost use Rattle.rpki_der.specs.Read.Parse.{octets_of, ia5_at, this, primitive, optional};
+ghost use Rattle.rpki_der.specs.Numbers.{number};
 ghost use Rattle.rpki_der.specs.Read.Reads.{Reads, Stays, OnlyMalformed, OnlyMalformedOrMemory};
 
 use crate::bit_string::BitString;
 use crate::error::DecodeError;
-use crate::mode::Tag;
 use crate::oid::Oid;
 use crate::read::Constructed;
 use crate::read::contents::{boolean_of, is_ia5};
 use crate::read::integer::{u8_of, u32_of, u160_of};
 use crate::read::string::string_place;
+use crate::tag::Tag;
 use bytes::Bytes;
 use std::alloc::Global;
 
@@ -34,7 +36,7 @@ impl<'a> Constructed<'a> {
     /// Reads an INTEGER from 0 to 255, if an INTEGER is next (X.690, section 8.3). Refuses by
     /// `Malformed`.
     pub fn take_opt_u8(&mut self) -> Result<Option<u8>, DecodeError>
-        ensures reads { Reads (λ n. n) (optional 2 u8_at) self.old result self.new }
+        ensures reads { Reads (λ n. n) (optional INTEGER u8_at) self.old result self.new }
         ensures stays { Stays result self.new }
         ensures refused { OnlyMalformed self.old result }
     {
@@ -49,7 +51,7 @@ impl<'a> Constructed<'a> {
     /// Reads an INTEGER that is this number (X.690, section 8.3). Refuses by `Malformed`.
     #[inline(always)]
     pub fn skip_u8_if(&mut self, expected: u8) -> Result<(), DecodeError>
-        ensures reads { Reads (λ x. x) (primitive 2 (this expected)) self.old result self.new }
+        ensures reads { Reads (λ x. x) (primitive INTEGER (this expected)) self.old result self.new }
         ensures stays { Stays result self.new }
         ensures refused { OnlyMalformed self.old result }
     {
@@ -93,7 +95,7 @@ impl<'a> Constructed<'a> {
     /// `Malformed`.
     #[inline(always)]
     pub fn take_opt_u32(&mut self) -> Result<Option<u32>, DecodeError>
-        ensures reads { Reads (λ n. n) (optional 2 u32_at) self.old result self.new }
+        ensures reads { Reads (λ n. n) (optional INTEGER u32_at) self.old result self.new }
         ensures shorter { IfOk result
             (λ n. IfSome n (λ _. length self.new.rest < length self.old.rest)) }
         ensures stays { Stays result self.new }
@@ -109,7 +111,7 @@ impl<'a> Constructed<'a> {
 
     /// Reads a BOOLEAN, if one is next (X.690, sections 8.2 and 11.1). Refuses by `Malformed`.
     pub fn take_opt_bool(&mut self) -> Result<Option<bool>, DecodeError>
-        ensures reads { Reads (λ b. b) (optional 1 boolean_at) self.old result self.new }
+        ensures reads { Reads (λ b. b) (optional BOOLEAN boolean_at) self.old result self.new }
         ensures stays { Stays result self.new }
         ensures refused { OnlyMalformed self.old result }
     {
@@ -142,7 +144,7 @@ impl<'a> Constructed<'a> {
     /// Reads a NULL, if one is next (X.690, section 8.8). Refuses by `Malformed`.
     #[tactic(auto, unfolding(crate::specs::Read::Parse::null_of))]
     pub fn skip_opt_null(&mut self) -> Result<Option<()>, DecodeError>
-        ensures reads { Reads (λ u. u) (optional 5 (primitive 5 null_of)) self.old result self.new }
+        ensures reads { Reads (λ u. u) (optional NULL (primitive NULL null_of)) self.old result self.new }
         ensures stays { Stays result self.new }
         ensures refused { OnlyMalformed self.old result }
     {
@@ -178,7 +180,7 @@ impl<'a> Constructed<'a> {
     /// `Malformed`.
     #[tactic(auto, unfolding(crate::specs::Read::Parse::these))]
     pub fn skip_oid_if(&mut self, expected: &[u8]) -> Result<(), DecodeError>
-        ensures reads { Reads (λ u. u) (primitive 6 (these expected.now)) self.old result self.new }
+        ensures reads { Reads (λ u. u) (primitive OBJECT_IDENTIFIER (these expected.now)) self.old result self.new }
         ensures stays { Stays result self.new }
         ensures refused { OnlyMalformed self.old result }
     {
@@ -255,7 +257,7 @@ impl<'a> Constructed<'a> {
     /// Reads an IA5String, if one is next (X.690, section 8.23). Answers `Malformed`, or `Memory`
     /// where no memory was to be had.
     pub fn take_opt_ia5(&mut self) -> Result<Option<Bytes>, DecodeError>
-        ensures reads { Reads (λ text. text) (optional 22 ia5_at) self.old result self.new }
+        ensures reads { Reads (λ text. text) (optional IA5_STRING ia5_at) self.old result self.new }
         ensures stays { Stays result self.new }
         ensures refused { OnlyMalformedOrMemory self.old result }
     {
@@ -294,8 +296,8 @@ impl<'a> Constructed<'a> {
         ensures stays { Stays result self.new }
         ensures refused { OnlyMalformedOrMemory self.old result }
     {
-        let contents = self.open(tag)?;
-        self.keep(&contents)
+        let inside = self.open(tag)?;
+        self.keep(&inside)
     }
 
     /// Reads an OCTET STRING of `N` octets, as `take_octets` does (X.690, section 8.7). Answers

@@ -7,6 +7,7 @@ ghost use Rattle.rpki_der.specs.Read.Parse.{octets_at, Appends, pieces};
 use crate::mode::Mode;
 use crate::read::header::any_of;
 use crate::read::skip::DEPTH;
+use crate::tag::Tag;
 use std::alloc::AllocError;
 
 /// Puts the octets of the OCTET STRING in front, which nests at most so deep, behind those of out.
@@ -26,11 +27,11 @@ pub fn append_octets<'s>(
     match any_of(mode, bytes) {
         None => Ok(None),
         Some(((tag, contents), after)) => {
-            if tag == 4 {
+            if tag == Tag::OCTET_STRING.octet {
                 out.extend_from_slice(contents)?;
                 return Ok(Some(after));
             }
-            if tag != 36 {
+            if tag != Tag::OCTET_STRING_IN_PIECES.octet {
                 return Ok(None);
             }
             if let Mode::Der = mode {

@@ -1,6 +1,7 @@
 use Rattle.std.proofs.Common.{◌≡◌, ◌<◌, ◌^◌, ℕ, List, [], Option, Some, sym, ap, ◌∙◌}
 use Rattle.std.specs.Prelude.{All}
 use Rattle.std.proofs.lemmas.List.{append-nil}
+use Rattle.rpki_der.specs.Tags.{BOOLEAN, INTEGER, BIT_STRING, NULL, OBJECT_IDENTIFIER, IA5_STRING}
 use Rattle.rpki_der.specs.declared.mode.Mode.{Mode}
 use Rattle.rpki_der.specs.Oid.{IsOid}
 use Rattle.rpki_der.specs.Read.Parse.{value_at, skip_at, skip_all_at, all_of, there, primitive, octets_at, octets_of, oid_at, these, bits_at, octets_in_bits_at, ia5_at, boolean_at, u8_at, u32_at, u160_at, this, null_of, captured, taken}
@@ -24,46 +25,46 @@ pub returns-clause-string : goal.returns-clause-string
 returns-clause-string c = λ depth. captured-reading (octets_at depth) (λ mode o s. OctetString mode depth o s) (reading-octets depth) (octets-one depth)
 
 pub returns-clause-oid : goal.returns-clause-oid
-returns-clause-oid c = captured-reading oid_at ObjectIdentifier reading-oid (within-one 6 (λ mode c oid. (c ≡ oid) × IsOid oid))
+returns-clause-oid c = captured-reading oid_at ObjectIdentifier reading-oid (within-one OBJECT_IDENTIFIER (λ mode c oid. (c ≡ oid) × IsOid oid))
 
 pub returns-clause-bits : goal.returns-clause-bits
-returns-clause-bits c = captured-reading bits_at BitString reading-bits (within-one 3 (λ mode. IsBitString))
+returns-clause-bits c = captured-reading bits_at BitString reading-bits (within-one BIT_STRING (λ mode. IsBitString))
 
 pub returns-clause-ia5 : goal.returns-clause-ia5
-returns-clause-ia5 c = captured-reading ia5_at Ia5String reading-ia5 (within-one 22 (λ mode c text. (c ≡ text) × All (λ b. b < 128) text))
+returns-clause-ia5 c = captured-reading ia5_at Ia5String reading-ia5 (within-one IA5_STRING (λ mode c text. (c ≡ text) × All (λ b. b < 128) text))
 
 pub returns-clause-boolean : goal.returns-clause-boolean
-returns-clause-boolean c = captured-reading boolean_at Boolean reading-boolean (within-one 1 IsBoolean)
+returns-clause-boolean c = captured-reading boolean_at Boolean reading-boolean (within-one BOOLEAN IsBoolean)
 
 pub returns-clause-integer_u8 : goal.returns-clause-integer_u8
-returns-clause-integer_u8 c = captured-reading u8_at (IntegerBelow 256) reading-u8 (within-one 2 (λ mode c n. IsInteger c n × (n < 256)))
+returns-clause-integer_u8 c = captured-reading u8_at (IntegerBelow 256) reading-u8 (within-one INTEGER (λ mode c n. IsInteger c n × (n < 256)))
 
 pub returns-clause-integer_u32 : goal.returns-clause-integer_u32
-returns-clause-integer_u32 c = captured-reading u32_at (IntegerBelow (2 ^ 32)) reading-u32 (within-one 2 (λ mode c n. IsInteger c n × (n < 2 ^ 32)))
+returns-clause-integer_u32 c = captured-reading u32_at (IntegerBelow (2 ^ 32)) reading-u32 (within-one INTEGER (λ mode c n. IsInteger c n × (n < 2 ^ 32)))
 
 pub returns-clause-integer_given : goal.returns-clause-integer_given
 returns-clause-integer_given c = λ n lt.
-    captured-reading (primitive 2 (this n)) (λ mode o _. IntegerBelow 256 mode o n) (reading-this n lt) (within-one 2 (λ mode c (_ : Unit {0}). IsInteger c n × (n < 256)))
+    captured-reading (primitive INTEGER (this n)) (λ mode o _. IntegerBelow 256 mode o n) (reading-this n lt) (within-one INTEGER (λ mode c (_ : Unit {0}). IsInteger c n × (n < 256)))
 
 pub returns-clause-integer_u160 : goal.returns-clause-integer_u160
 returns-clause-integer_u160 c =
-    captured-reading u160_at (IntegerBelow (2 ^ 160)) reading-u160 (within-one 2 (λ mode c n. IsInteger c n × (n < 2 ^ 160)))
+    captured-reading u160_at (IntegerBelow (2 ^ 160)) reading-u160 (within-one INTEGER (λ mode c n. IsInteger c n × (n < 2 ^ 160)))
 
 pub returns-clause-oid_given : goal.returns-clause-oid_given
 returns-clause-oid_given c = λ oid is.
-    captured-reading (primitive 6 (these oid)) (λ mode o _. ObjectIdentifier mode o oid) (reading-these oid is)
-    (within-one 6 (λ mode c (_ : Unit {0}). (c ≡ oid) × IsOid oid))
+    captured-reading (primitive OBJECT_IDENTIFIER (these oid)) (λ mode o _. ObjectIdentifier mode o oid) (reading-these oid is)
+    (within-one OBJECT_IDENTIFIER (λ mode c (_ : Unit {0}). (c ≡ oid) × IsOid oid))
 
 pub returns-clause-whole_bits : goal.returns-clause-whole_bits
 returns-clause-whole_bits c =
-    captured-reading octets_in_bits_at OctetsInBits reading-whole (within-one 3 (λ mode c string. IsBitString c (string, 0)))
+    captured-reading octets_in_bits_at OctetsInBits reading-whole (within-one BIT_STRING (λ mode c string. IsBitString c (string, 0)))
 
 pub returns-clause-string_of : goal.returns-clause-string_of
 returns-clause-string_of c = λ n.
     captured-reading (octets_of n) (OctetStringOf n) (reading-octets-of n) (λ mode o s h. octets-one 32 mode o s h.0)
 
 pub returns-clause-null : goal.returns-clause-null
-returns-clause-null c = captured-reading (primitive 5 null_of) (λ mode o _. Null mode o) reading-null (within-one 5 (λ mode c (_ : Unit {0}). c ≡ []))
+returns-clause-null c = captured-reading (primitive NULL null_of) (λ mode o _. Null mode o) reading-null (within-one NULL (λ mode c (_ : Unit {0}). c ≡ []))
 
 -- all that is left is captured
 captured-all : (mode : Mode) (b : List ℕ) → ListOf (Skipped mode 32) b → captured skip_all_at mode b ≡ Some (b, [])

@@ -1,5 +1,6 @@
 use Rattle.std.proofs.Common.{refl, arith}
-use Rattle.rpki_der.specs.Read.Parse.{number, unsigned_of}
+use Rattle.rpki_der.specs.Numbers.{number}
+use Rattle.rpki_der.specs.Read.Parse.{unsigned_of}
 use Rattle.rpki_der.specs.Written.{integer_contents}
 use Rattle.rpki_der.proofs.Reading.Scan.{tag-sound}
 use Rattle.rpki_der.proofs.Writing.Numbers.{unsigned-written, length-integer_contents, integer-is}

@@ -10,20 +10,20 @@ returns-then-depth-eq0 t c = octets-none-at _ _ _ c.if-depth-eq0.true
 pub returns-in-None : goal.returns-in-None
 returns-in-None t c = octets-none _ _ _ c.in-None.ensures
 
-pub returns-then-tag-eq4 : goal.returns-then-tag-eq4
-returns-then-tag-eq4 t c =
+pub returns-then-tag : goal.returns-then-tag
+returns-then-tag t c =
     let d : 1 ≤ c.args.depth = omega arith in
-    (c.in-Some.contents.now, octets-primitive c.args.depth c.args.mode c.args.bytes.now c.in-Some.tag c.in-Some.contents.now c.in-Some.after.now d c.in-Some.ensures c.if-tag-eq4.true, c.in_ok-extend_from_slice-in-Some.ensures.items)
+    (c.in-Some.contents.now, octets-primitive c.args.depth c.args.mode c.args.bytes.now c.in-Some.tag c.in-Some.contents.now c.in-Some.after.now d c.in-Some.ensures c.if-tag.true, c.in_ok-extend_from_slice-in-Some.ensures.items)
 
-pub returns-then-tag-ne36 : goal.returns-then-tag-ne36
-returns-then-tag-ne36 t c =
+pub returns-then-tag-2 : goal.returns-then-tag-2
+returns-then-tag-2 t c =
     let d : 1 ≤ c.args.depth = omega arith in
-    octets-other c.args.depth c.args.mode c.args.bytes.now c.in-Some.tag c.in-Some.contents.now c.in-Some.after.now d c.in-Some.ensures c.if-tag-eq4.false c.if-tag-ne36.true
+    octets-other c.args.depth c.args.mode c.args.bytes.now c.in-Some.tag c.in-Some.contents.now c.in-Some.after.now d c.in-Some.ensures c.if-tag.false c.if-tag-2.true
 
 pub returns-in-Der : goal.returns-in-Der
 returns-in-Der t c =
     let d : 1 ≤ c.args.depth = omega arith in
-    octets-der c.args.depth c.args.mode c.args.bytes.now c.in-Some.tag c.in-Some.contents.now c.in-Some.after.now d c.in-Some.ensures c.if-tag-eq4.false c.in-Der.is
+    octets-der c.args.depth c.args.mode c.args.bytes.now c.in-Some.tag c.in-Some.contents.now c.in-Some.after.now d c.in-Some.ensures c.if-tag.false c.in-Der.is
 
 pub returns-in-None-2 : goal.returns-in-None-2
 returns-in-None-2 t c =

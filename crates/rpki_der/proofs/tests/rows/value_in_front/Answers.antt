@@ -1,9 +1,11 @@
-use Rattle.std.proofs.Common.{◌≡◌, ◌++◌, ℕ, ◌<◌, List, Result, Ok, Err, get_or, ◌∙◌, sym, ap, subst, arith}
+use Rattle.std.proofs.Common.{◌≡◌, ◌++◌, ℕ, ◌<◌, List, Result, Ok, Err, get_or, ◌∙◌, sym, ap, subst}
+use Rattle.std.proofs.Common.{arith}
 use Rattle.std.specs.Prelude.{IfOk}
 use Rattle.rpki_der.specs.declared.error.DecodeError.{DecodeError}
 use Rattle.rpki_der.specs.declared.mode.Mode.{Mode}
 use Rattle.rpki_der.specs.Captured.{Kept}
-use Rattle.rpki_der.specs.Grammar.{IsExact, Skipped, anything}
+use Rattle.rpki_der.specs.Read.Exact.{IsExact, anything}
+use Rattle.rpki_der.specs.Grammar.{Skipped}
 use Rattle.rpki_der.specs.Read.Parse.{captured, skip_at}
 use Rattle.rpki_der.specs.Read.Reads.{Found}
 use Rattle.rpki_der.proofs.Reading.Decoders.{decoded-found}
