@@ -1,5 +1,5 @@
 -- Values of X.690, and what stands at the front of octets. The sections named are those of X.690.
-use Rattle.std.specs.Prelude.{◌≡◌, ◌≢◌, ◌↔◌, ℕ, ◌+◌, ◌≤◌, ◌<◌, Bool, true, false, ◌⊎◌, List, []}
+use Rattle.std.specs.Prelude.{◌≡◌, ◌≢◌, ℕ, ◌+◌, ◌≤◌, ◌<◌, Bool, true, false, ◌⊎◌, List, []}
 use Rattle.std.specs.Prelude.{◌∷◌, ◌++◌, length, All, Option, None, Some, zero, suc}
 use Rattle.std.specs.List.{concat}
 use Rattle.rpki_der.specs.Tags.{BOOLEAN, INTEGER, BIT_STRING, OCTET_STRING, OCTET_STRING_IN_PIECES}
@@ -91,7 +91,7 @@ abbrev pub ListOf : (List ℕ → Type 0) → List ℕ → Type 0
 ListOf G octets = (each : List (Unit {0})) × Items (λ o _. G o) octets each
 
 -- the octets are a value whose contents are skipped: any contents of a primitive value (8.1.4), and
--- values of which this holds, nested at most so deep, in a constructed one (8.1.1, 8.1.4). That
+-- values of which this holds, nested at most to this depth, in a constructed one (8.1.1, 8.1.4). That
 -- there is a limit is this project's own rule.
 unfoldable pub Skipped : Mode → ℕ → List ℕ → Type 0
 Skipped mode zero octets = ⊥
@@ -99,7 +99,7 @@ Skipped mode (suc depth) octets = (tag : ℕ) × (contents : List ℕ) × Value 
     × (is_constructed tag ≡ true → ListOf (Skipped mode depth) contents)
 
 -- the octets are an OCTET STRING of these octets (8.7): one primitive value or, in BER, OCTET
--- STRINGs in a constructed one (8.7.3; not in DER, 10.2), nested at most so deep. That there is a
+-- STRINGs in a constructed one (8.7.3; not in DER, 10.2), nested at most to this depth. That there is a
 -- limit is this project's own rule.
 unfoldable pub OctetString : Mode → ℕ → List ℕ → List ℕ → Type 0
 OctetString mode zero octets string = ⊥

@@ -2,7 +2,7 @@
 use Rattle.std.specs.Prelude.{ℕ, ◌<◌, ◌+◌, ◌*◌, ◌-◌, ◌%◌, ◌^◌, List, [], ◌∷◌, ◌++◌, length}
 use Rattle.std.specs.Prelude.{slice_index, Bool, false, nat_lt, if◌then◌else◌, codes, decimal}
 use Rattle.std.specs.List.{list_all, flat_map}
-use Rattle.rpki_der.specs.Hex.{hex}
+use Rattle.rpki_der.specs.Text.Hex.{hex}
 
 -- X.690, 8.19.2: there are octets, and the last one ends a subidentifier
 abbrev pub IsOid : List ℕ → Type 0
@@ -30,7 +30,7 @@ arcs_of (x ∷ xs) = if nat_lt x 40 then 0 ∷ x ∷ xs else if nat_lt x 80 then
 abbrev pub arcs : List ℕ → List ℕ
 arcs contents = arcs_of (subidentifiers 0 contents)
 
--- an arc behind a dot
+-- an arc after a dot
 abbrev pub point : ℕ → List ℕ
 point arc = codes "." ++ decimal arc
 

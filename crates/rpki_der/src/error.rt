@@ -2,7 +2,7 @@
 
 ghost use Rattle.std.specs.Prelude.{◌≡◌, IfOk, OnErr, Some, codes};
 ghost use Rattle.rpki_der.specs.Read.Reads.{IsContent};
-ghost use Rattle.rpki_der.specs.Error.{fault_text, error_text};
+ghost use Rattle.rpki_der.specs.Text.Error.{fault_text, error_text};
 ghost use Rattle.rpki_der.specs.declared.error.DecodeError.TheVariants.{Memory};
 
 use crate::oid::Oid;

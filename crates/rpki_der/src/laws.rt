@@ -1,8 +1,7 @@
 //! What the definitions of reading say: laws, as functions that do nothing.
 //!
 //! Each says of one kind of value that reading it is exact, that it is unique, that DER is a part
-//! of BER, and that
-//! one whole value that is refused alone is refused whatever octets follow it.
+//! of BER, and that one whole value that is refused alone is refused whatever octets follow it.
 
 ghost use Rattle.std.specs.Prelude.{◌≡◌, ◌↔◌, ◌<◌, ◌^◌, ◌++◌, ℕ, Bool, true, false, List, [], Some};
 ghost use Rattle.std.specs.Prelude.{None, Option, slice_index};
@@ -101,7 +100,7 @@ pub fn ia5_strings()
     ensures { IsReading ia5_at Ia5String }
 {}
 
-/// An OCTET STRING whose pieces nest at most so deep (X.690, sections 8.7 and 10.2).
+/// An OCTET STRING whose pieces nest at most to this depth (X.690, sections 8.7 and 10.2).
 pub fn octet_strings()
     ensures { (depth : ℕ)
         → IsReading (octets_at depth) (λ mode octets string. OctetString mode depth octets string) }
@@ -125,7 +124,7 @@ pub fn values_up_to_the_end()
         (skip_at 32 mode octets ≡ Some (tt, rest)) }
 {}
 
-/// A skipped value that nests at most so deep (X.690, section 8.1.1).
+/// A skipped value that nests at most to this depth (X.690, section 8.1.1).
 pub fn skipped_values()
     ensures { (depth : ℕ) → IsReading (skip_at depth) (λ mode octets _. Skipped mode depth octets) }
 {}
@@ -153,8 +152,7 @@ pub fn skipped_contents()
 {}
 
 /// What may be there: an INTEGER, a BOOLEAN, a NULL, an IA5String, the contents of a value with a
-/// given tag, or a value
-/// with a given tag that is opened.
+/// given tag, or a value with a given tag that is opened.
 pub fn optional_values()
     ensures integer_u8 { IsOptionalReading INTEGER u8_at (IntegerBelow 256) }
     ensures integer_u32 { IsOptionalReading INTEGER u32_at (IntegerBelow (2 ^ 32)) }
@@ -171,8 +169,8 @@ pub fn optional_values()
 {}
 
 /// What is captured of a value are its octets: of one with a given tag, one that is skipped, and
-/// each kind that a call
-/// of the reader takes. What is captured of all that is skipped up to the end is all of it.
+/// each kind that a call of the reader takes. What is captured of all that is skipped up to the end
+/// is all of it.
 pub fn captured_values()
     ensures tagged { (tag : ℕ)
         → IsReading (captured (value_at tag))

@@ -3,9 +3,10 @@
 /// The rules that values are read by (X.690, sections 8 and 10).
 #[derive(Clone, Copy, Debug, PartialEq, Eq)]
 pub enum Mode {
-    /// Strict: lengths in their shortest form, no indefinite lengths, no strings in pieces, true as FF alone.
+    /// Strict: lengths in their shortest form, no indefinite lengths, no strings in pieces, true as
+    /// FF alone.
     Der,
-    /// Relaxed: also lengths that are longer than need be, indefinite lengths, OCTET STRINGs in pieces, and true as
-    /// any octet but 00.
+    /// Relaxed: also lengths that are longer than need be, indefinite lengths, OCTET STRINGs in
+    /// pieces, and true as any octet but 00.
     Ber,
 }

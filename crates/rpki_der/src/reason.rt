@@ -1,7 +1,7 @@
 //! Why a content of the right form is not allowed.
 
 ghost use Rattle.std.specs.Prelude.{◌≡◌, Some};
-ghost use Rattle.rpki_der.specs.Reason.{reason_text};
+ghost use Rattle.rpki_der.specs.Text.Reason.{reason_text};
 
 use std::fmt;
 
@@ -13,11 +13,14 @@ pub enum Reason {
     WrongVersion,
     /// An algorithm is none of those that the profile names (RFC 7935, sections 2 and 3).
     UnknownAlgorithm,
-    /// The octets of a UTCTime or a GeneralizedTime are not in the form of DER (X.690, sections 11.7 and 11.8).
+    /// The octets of a UTCTime or a GeneralizedTime are not in the form of DER (X.690, sections
+    /// 11.7 and 11.8).
     BadTime,
-    /// A time has a date that is in no calendar, or no such time of day (RFC 5280, section 4.1.2.5).
+    /// A time has a date that is in no calendar, or no such time of day (RFC 5280, section
+    /// 4.1.2.5).
     NoSuchTime,
-    /// A serial number or a number of a manifest or CRL is 2^160 or more (RFC 5280, section 4.1.2.2).
+    /// A serial number or a number of a manifest or CRL is 2^160 or more (RFC 5280, section
+    /// 4.1.2.2).
     SerialTooLarge,
     /// A URI breaks its grammar (RFC 3986, section 3).
     BadUri,
@@ -25,7 +28,8 @@ pub enum Reason {
     // Sets of numbers
     /// A block's lower end is above its upper end (RFC 3779, sections 2.2.3.9 and 3.2.3.8).
     LowerEndAboveUpperEnd,
-    /// An address or a prefix has more bits than the addresses of its family (RFC 3779, section 2.2.3.8).
+    /// An address or a prefix has more bits than the addresses of its family (RFC 3779, section
+    /// 2.2.3.8).
     AddressTooLong,
     /// A family of addresses is neither IPv4 nor IPv6 (RFC 3779, section 2.2.3.3).
     UnknownFamily,
@@ -37,7 +41,8 @@ pub enum Reason {
     // Route origin attestations
     /// A prefix is longer than the addresses of its family (RFC 9582, section 4.3.2).
     PrefixTooLong,
-    /// A max length is below that of its prefix, or above that of the addresses (RFC 9582, section 4.3.2.2).
+    /// A max length is below that of its prefix, or above that of the addresses (RFC 9582, section
+    /// 4.3.2.2).
     MaxLengthOutOfRange,
 
     // Provider attestations

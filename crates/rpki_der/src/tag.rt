@@ -4,8 +4,7 @@ ghost use Rattle.std.specs.Prelude.{◌≡◌, MatchOption};
 ghost use Rattle.rpki_der.specs.Identifier.{IsTag, is_tag};
 
 /// An identifier octet (X.690, section 8.1.2): class, form and number. It is not 00, and its low
-/// five bits are not all
-/// ones, so the number has no further octets.
+/// five bits are not all ones, so the number has no further octets.
 #[derive(Clone, Copy, Debug, PartialEq, Eq)]
 pub struct Tag {
     pub octet: u8,

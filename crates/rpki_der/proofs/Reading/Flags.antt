@@ -1,9 +1,9 @@
 -- A BOOLEAN that is false where it is left out is read exactly.
-use Rattle.std.proofs.Common.{◌≡◌, ℕ, Bool, true, false, List, [], ◌++◌, Option, Some, None, refl}
+use Rattle.std.proofs.Common.{◌≡◌, ℕ, Bool, false, List, [], ◌++◌, Option, Some, None, refl}
 use Rattle.std.proofs.Common.{sym, ap, subst, ◌∙◌, inl, inr}
 use Rattle.rpki_der.specs.Tags.{BOOLEAN}
 use Rattle.rpki_der.specs.declared.mode.Mode.{Mode}
-use Rattle.rpki_der.specs.Read.Parse.{◌>>=◌, optional, boolean_at, flag_at, or_false, is_next}
+use Rattle.rpki_der.specs.Read.Parse.{optional, boolean_at, flag_at, or_false, is_next}
 use Rattle.rpki_der.specs.Grammar.{Front, IsBytes, Boolean, IsBoolean, Flag}
 use Rattle.rpki_der.specs.Read.Exact.{IsExact, IsOptionalReading}
 use Rattle.rpki_der.proofs.Reading.Lengths.{bind_some, some_is}

@@ -16,7 +16,7 @@ use Rattle.rpki_der.proofs.Reading.Many.{Shortens-optional}
 use Rattle.rpki_der.proofs.Reading.Lists.{exact-many, begins-within}
 use Rattle.rpki_der.proofs.Reading.Exact.{exact-in, IsExactContents, exact-primitive}
 
--- numbers of so many octets are those below limit
+-- numbers of at most this number of octets are those below limit
 pub record Holds (most limit : ℕ) : Type 0 where
   pub below : (digits : List ℕ) → IsBytes digits → length digits ≤ most → number 0 digits < limit
   pub enough : (d : ℕ) (ds : List ℕ) → 1 ≤ d → number 0 (d ∷ ds) < limit → length (d ∷ ds) ≤ most

@@ -11,7 +11,7 @@ use Rattle.rpki_der.specs.Read.Parse.{value_at}
 use Rattle.rpki_der.proofs.Reading.Lengths.{length-first}
 use Rattle.rpki_der.proofs.Reading.Exact.{value-sound}
 
--- where so many octets close the contents
+-- where octets close the contents
 pub record Places (bytes contents after : List ℕ) (closing : ℕ) : Type 0 where
   pub some : 2 ≤ length bytes
   pub room : length contents + closing + length after ≤ length bytes

@@ -45,7 +45,7 @@ pub value-some : (mode : Mode) (o : List ℕ) (t : ℕ) (c : List ℕ) → Value
 value-some mode o t c v = let s = shape mode o t c v in
     let l : length o ≡ length (t ∷ (s.0 ++ (c ++ s.1))) = ap length s.2 in omega (arith, l)
 
--- so many values are open, and rest follows the end of the outermost contents
+-- depth values are open, and rest follows the end of the outermost contents
 abbrev Nest : ℕ → List ℕ → List ℕ → Type 0
 Nest zero b rest = (c : List ℕ) × Values Ber c × (b ≡ c ++ 0 ∷ 0 ∷ rest)
 Nest (suc k) b rest = (c : List ℕ) × (s : List ℕ) × Values Ber c × (b ≡ c ++ 0 ∷ 0 ∷ s)
@@ -388,7 +388,7 @@ body-open t Ber c r m tag cons vs =
     rw (x, z, cons, end-complete Ber c r vs)
     (ap (λ (y : List ℕ). (let o : Option (List ℕ × List ℕ) = Some (y, r) in o)) (before-is c r))
 
--- what stands behind the identifier of a value is read
+-- what stands after the identifier of a value is read
 pub body-complete : (t : ℕ) (mode : Mode) (o c r : List ℕ) → Value mode o t c
     → (b : List ℕ) × (o ++ r ≡ t ∷ b) × (body_at t mode b ≡ Some (c, r))
 body-complete t mode o c r (definite _ _ _ l _ tag is e) =

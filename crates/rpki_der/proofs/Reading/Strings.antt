@@ -9,7 +9,7 @@ use Rattle.rpki_der.specs.Tags.{OCTET_STRING, OCTET_STRING_IN_PIECES}
 use Rattle.rpki_der.specs.declared.mode.Mode.{Mode}
 use Rattle.rpki_der.specs.declared.mode.Mode.TheVariants.{Der, Ber}
 use Rattle.rpki_der.specs.Read.Parse.{Parser, ◌>>=◌, body_at, value_at, any_at, is_next, all_of}
-use Rattle.rpki_der.specs.Read.Parse.{in_ber, pieces, string_of, octets_at, behind}
+use Rattle.rpki_der.specs.Read.Parse.{in_ber, pieces, string_of, octets_at, after_others}
 use Rattle.std.specs.List.{concat}
 use Rattle.rpki_der.specs.Grammar.{Value, Items, OctetString, IsBytes}
 use Rattle.rpki_der.specs.Read.Exact.{IsExact, anything}
@@ -170,33 +170,33 @@ octets-pieces depth Ber b t c r o h e is m p =
 
 joined-more : (x : List ℕ) (o : Option (List (List ℕ)))
     → ((o >>= λ xs. Some (x ∷ xs)) >>= λ parts. Some (concat parts))
-    ≡ behind x (o >>= λ parts. Some (concat parts))
+    ≡ after_others x (o >>= λ parts. Some (concat parts))
 joined-more x None = refl
 joined-more x (Some xs) = refl
 
-behind-twice : (a b : List ℕ) (o : Option (List ℕ)) → behind a (behind b o) ≡ behind (a ++ b) o
-behind-twice a b None = refl
-behind-twice a b (Some s) =
+after_others-twice : (a b : List ℕ) (o : Option (List ℕ)) → after_others a (after_others b o) ≡ after_others (a ++ b) o
+after_others-twice a b None = refl
+after_others-twice a b (Some s) =
     ap (λ (t : List ℕ). (let o : Option (List ℕ) = Some t in o)) (sym (append_assoc a b s))
 
--- what was put behind the old octets so far
+-- what was put after the old octets so far
 pub record PutSoFar (p : Parser (List ℕ)) (mode : Mode) (old now : List ℕ)
     (contents rest : List ℕ) : Type 0 where
   pub put : List ℕ
   pub now_is : now ≡ old ++ put
-  pub left : behind put (pieces p mode rest) ≡ pieces p mode contents
+  pub left : after_others put (pieces p mode rest) ≡ pieces p mode contents
 
-behind-none : (o : Option (List ℕ)) → behind [] o ≡ o
-behind-none None = refl
-behind-none (Some s) = refl
+after_others-none : (o : Option (List ℕ)) → after_others [] o ≡ o
+after_others-none None = refl
+after_others-none (Some s) = refl
 
 pub put-none : (p : Parser (List ℕ)) (mode : Mode) (old contents : List ℕ)
     → PutSoFar p mode old old contents contents
 put-none p mode old contents =
-    record { put = []; now_is = sym (append-nil old); left = behind-none (pieces p mode contents) }
+    record { put = []; now_is = sym (append-nil old); left = after_others-none (pieces p mode contents) }
 
 pieces-more : (p : Parser (List ℕ)) (mode : Mode) → Takes (p mode) → (b x r : List ℕ)
-    → p mode b ≡ Some (x, r) → pieces p mode b ≡ behind x (pieces p mode r)
+    → p mode b ≡ Some (x, r) → pieces p mode b ≡ after_others x (pieces p mode r)
 pieces-more p mode takes [] x r e = absurd (let lt = takes.at [] x r e in omega (arith, lt))
 pieces-more p mode takes (a ∷ b) x r e =
     rw (all-more p mode takes a b x r e) (joined-more x (all_of p mode r))
@@ -217,21 +217,21 @@ pub put-more : (p : Parser (List ℕ)) (mode : Mode) → Takes (p mode)
 put-more p mode takes old now contents rest x r new s e is = record {
   put = s.put ++ x;
   now_is = is ∙ ap (λ (t : List ℕ). t ++ x) s.now_is ∙ append_assoc old s.put x;
-  left = sym (behind-twice s.put x (pieces p mode r))
-      ∙ ap (behind s.put) (sym (pieces-more p mode takes rest x r e)) ∙ s.left;
+  left = sym (after_others-twice s.put x (pieces p mode r))
+      ∙ ap (after_others s.put) (sym (pieces-more p mode takes rest x r e)) ∙ s.left;
 }
 
 pub put-fails : (p : Parser (List ℕ)) (mode : Mode) → Takes (p mode)
     → (old now contents rest : List ℕ) → PutSoFar p mode old now contents rest → 1 ≤ length rest
     → p mode rest ≡ None → pieces p mode contents ≡ None
 put-fails p mode takes old now contents rest s h e = sym s.left
-    ∙ ap (behind s.put) (pieces-none p mode takes rest h e)
+    ∙ ap (after_others s.put) (pieces-none p mode takes rest h e)
 
 pub put-all : (p : Parser (List ℕ)) (mode : Mode) → Takes (p mode)
     → (old now contents rest : List ℕ) → (s : PutSoFar p mode old now contents rest)
     → length rest ≡ 0 → pieces p mode contents ≡ Some s.put
 put-all p mode takes old now contents rest s h = sym s.left
-    ∙ ap (behind s.put) (pieces-end p mode takes rest h)
+    ∙ ap (after_others s.put) (pieces-end p mode takes rest h)
     ∙ ap (λ (t : List ℕ). (let o : Option (List ℕ) = Some t in o)) (append-nil s.put)
 
 pub not-der : (mode : Mode) → (mode ≡ Der → ⊥) → mode ≡ Ber

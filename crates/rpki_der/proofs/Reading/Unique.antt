@@ -97,11 +97,11 @@ none-of None h = refl
 none-of (Some x) h = absurd (h x refl)
 
 -- a whole value that is refused alone is refused whatever follows it
-pub behind : {X : Type 0} (p : Parser X) (G : Mode → List ℕ → X → Type 0)
+pub refused : {X : Type 0} (p : Parser X) (G : Mode → List ℕ → X → Type 0)
     → ((mode : Mode) → IsExact anything (p mode) (G mode)) → IsOneValue G
     → (mode : Mode) (octets contents more : List ℕ) (tag : ℕ) → IsBytes octets → IsBytes more
     → Value mode octets tag contents → p mode octets ≡ None → p mode (octets ++ more) ≡ None
-behind {X} p G exact one mode octets contents more tag bytes others value none =
+refused {X} p G exact one mode octets contents more tag bytes others value none =
     none-of (p mode (octets ++ more)) (λ found e.
     let f = (exact mode).sound (octets ++ more) found.0 found.1
     (bytes-both octets more bytes others) e in
@@ -125,7 +125,7 @@ reading p G exact ber one =
       unique = λ mode. unique (p mode) (G mode) (exact mode);
       relaxed =
           ber;
-      behind = behind p G exact one;
+      refused = refused p G exact one;
     }
 
 -- a primitive value whose contents f understands alike in both modes

@@ -7,7 +7,7 @@ use Rattle.rpki_der.specs.declared.mode.Mode.TheVariants.{Der, Ber}
 use Rattle.rpki_der.specs.Identifier.{IsTag}
 use Rattle.rpki_der.specs.Read.Parse.{Parser, value_at, in_value, primitive}
 use Rattle.rpki_der.specs.Grammar.{Value, Within, IsBytes, Items}
-use Rattle.rpki_der.specs.Written.{value_octets}
+use Rattle.rpki_der.specs.Write.Written.{value_octets}
 use Rattle.std.proofs.lemmas.List.{append-nil}
 use Rattle.rpki_der.proofs.Reading.Exact.{value-complete, IsBytes-left, IsBytes-right}
 use Rattle.rpki_der.proofs.Reading.Exact.{IsBytes-contents}

@@ -9,7 +9,7 @@ use Rattle.rpki_der.specs.declared.mode.Mode.TheVariants.{Der, Ber}
 use Rattle.rpki_der.specs.Numbers.{number, least}
 use Rattle.rpki_der.specs.Grammar.{IsShortest, IsLength, IsBytes, Value, definite, indefinite}
 use Rattle.rpki_der.specs.Identifier.{IsTag}
-use Rattle.rpki_der.specs.Written.{length_octets, value_octets}
+use Rattle.rpki_der.specs.Write.Written.{length_octets, value_octets}
 use Rattle.rpki_der.proofs.Reading.Exact.{IsBytes-left}
 
 pub test : (b : Bool) → (b ≡ true) ⊎ (b ≡ false)
@@ -136,7 +136,7 @@ length-unique l n bytes (inr h) =
     let digits : IsBytes ((128 + length h.0) ∷ h.0) = subst IsBytes h.1 bytes in
     h.1 ∙ long-unique h.0 n digits.1 h.2 h.3 h.4 h.5
 
--- what is left of the octets of a value behind its identifier and its length
+-- what is left of the octets of a value after its identifier and its length
 pub contents_left : (tag : ℕ) (c : List ℕ) (len : ℕ) → len ≡ length (value_octets tag c)
     → len ≡ 1 + length (length_octets (length c)) + length c
 contents_left tag c len e = omega (arith, e, length-append (length_octets (length c)) c)

@@ -10,8 +10,8 @@ use Rattle.rpki_der.proofs.Reading.Integers.{number-grows}
 use Rattle.rpki_der.specs.Numbers.{number}
 use Rattle.rpki_der.specs.Read.Parse.{digits_of, number_of, unsigned_of}
 use Rattle.rpki_der.specs.Grammar.{IsInteger, IsBytes}
-use Rattle.rpki_der.specs.Written.{significant, not_negative, integer_contents, value_octets}
-use Rattle.rpki_der.specs.Written.{number_octets, length_value_octets_le}
+use Rattle.rpki_der.specs.Write.Written.{significant, not_negative, integer_contents, value_octets}
+use Rattle.rpki_der.specs.Write.Written.{number_octets, length_value_octets_le}
 use Rattle.rpki_der.proofs.Writing.Lengths.{test, short-unique}
 
 -- no zero stands in front
@@ -216,7 +216,7 @@ injective (x ∷ xs) (y ∷ ys) a b l hx hy e =
           ∙ ap (λ (ds : List ℕ). y ∷ ds) more.1,
     )
 
--- with so many zeros in front
+-- with zeros in front
 abbrev padded : ℕ → List ℕ → List ℕ
 padded zero ds = ds
 padded (suc k) ds = 0 ∷ padded k ds

@@ -3,14 +3,13 @@ use Rattle.std.proofs.Common.{◌≡◌, ℕ, ◌+◌, ◌<◌, ◌≤◌, List,
 use Rattle.std.proofs.Common.{get_or, All, Option, Err, sym, subst, ap, ◌∙◌, arith}
 use Rattle.std.specs.List.{flat_map}
 use Rattle.std.specs.Io.KnownBytes.{Appends}
-use Rattle.std.proofs.lemmas.List.{take-append-drop}
-use Rattle.std.proofs.lemmas.List.{flat_map_more}
+use Rattle.std.proofs.lemmas.List.{take-append-drop, flat_map_more}
 use Rattle.std.proofs.lemmas.List.Concat.{flat_map-append}
 use Rattle.std.proofs.lemmas.List.Folds.{length-flat_map-take}
 use Rattle.std.proofs.lemmas.List.Elements.{All-more, All-get_or}
 use Rattle.std.proofs.lemmas.Grind.{take_at_read}
-use Rattle.rpki_der.specs.Encode.{IsLenOf}
-use Rattle.rpki_der.specs.Sink.{AppendsFront}
+use Rattle.rpki_der.specs.Write.Encode.{IsLenOf}
+use Rattle.rpki_der.specs.Write.Sink.{AppendsFront}
 use Rattle.rpki_der.specs.declared.encode.EncodeError.{EncodeError}
 use Rattle.rpki_der.specs.declared.encode.EncodeError.TheVariants.{NotDer, TooLong, Io, Memory}
 use Rattle.rpki_der.proofs.Writing.Taken.{AppendsFront-more, AppendsFront-after}

@@ -13,8 +13,8 @@ use Rattle.rpki_der.proofs.Reading.Scan.{tag-sound}
 use Rattle.rpki_der.proofs.Writing.Lengths.{test, value-written}
 use Rattle.rpki_der.proofs.Writing.Leaves.{primitive-read, within-unique}
 use native.Mathlib.Numerals.{unary_clauses}
-use Rattle.rpki_der.specs.Written.{value_octets, unused_bits, zero_bits, zero_last}
-use Rattle.rpki_der.specs.Written.{bit_string_contents}
+use Rattle.rpki_der.specs.Write.Written.{value_octets, unused_bits, zero_bits, zero_last}
+use Rattle.rpki_der.specs.Write.Written.{bit_string_contents}
 
 pub length_zero_last : (octets : List ℕ) (unused : ℕ)
     → length (zero_last octets unused) ≡ length octets

@@ -19,7 +19,8 @@ use Rattle.rpki_der.specs.Read.Parse.{optional, captured, taken}
 use Rattle.rpki_der.specs.Numbers.{number}
 use Rattle.rpki_der.specs.Grammar.{Value, Within, IsBytes, IsInteger, Integer, IsBoolean, Boolean}
 use Rattle.rpki_der.specs.Grammar.{OctetString, Skipped, ListOf, Items}
-use Rattle.rpki_der.specs.Written.{value_octets, number_octets, integer_contents, boolean_contents}
+use Rattle.rpki_der.specs.Write.Written.{value_octets, number_octets, integer_contents}
+use Rattle.rpki_der.specs.Write.Written.{boolean_contents}
 use Rattle.rpki_der.proofs.Reading.Scan.{tag-sound}
 use Rattle.rpki_der.proofs.Reading.Lengths.{bind_some, some_is}
 use Rattle.rpki_der.proofs.Reading.Exact.{value-sound, IsBytes-left}

@@ -1,5 +1,5 @@
 -- What it means that a parser reads a grammar exactly.
-use Rattle.std.specs.Prelude.{◌≡◌, ◌↔◌, ℕ, Bool, false, List, ◌++◌, Option, None, Some}
+use Rattle.std.specs.Prelude.{◌≡◌, ◌↔◌, ℕ, false, List, ◌++◌, Option, None, Some}
 use Rattle.rpki_der.specs.declared.mode.Mode.{Mode}
 use Rattle.rpki_der.specs.declared.mode.Mode.TheVariants.{Der, Ber}
 use Rattle.rpki_der.specs.Grammar.{Value, Front, IsBytes, IsUnique}
@@ -20,12 +20,12 @@ anything rest = Unit {0}
 -- Reading by p is reading by the grammar G: what it finds is in G, and what is in G it finds,
 -- whatever octets follow (exact); no octets in G are the beginning of others in G (unique); what is
 -- in G in DER is the same in BER (relaxed); one whole value that is refused alone is refused
--- whatever octets follow it (behind).
+-- whatever octets follow it (refused).
 pub record IsReading {X : Type 0} (p : Parser X) (G : Mode → List ℕ → X → Type 0) : Type 0 where
   pub exact : (mode : Mode) → IsExact anything (p mode) (G mode)
   pub unique : (mode : Mode) → IsUnique (G mode)
   pub relaxed : (octets : List ℕ) (x : X) → G Der octets x → G Ber octets x
-  pub behind : (mode : Mode) (octets contents more : List ℕ) (tag : ℕ) → IsBytes octets
+  pub refused : (mode : Mode) (octets contents more : List ℕ) (tag : ℕ) → IsBytes octets
       → IsBytes more → Value mode octets tag contents → p mode octets ≡ None
       → p mode (octets ++ more) ≡ None
 

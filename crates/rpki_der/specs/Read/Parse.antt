@@ -1,5 +1,5 @@
 -- Reading as functions on lists: the value at the front, and what follows it.
-use Rattle.std.specs.Prelude.{◌≡◌, ℕ, zero, suc, ◌++◌, ◌+◌, ◌*◌, ◌-◌, List, [], ◌∷◌, length, take}
+use Rattle.std.specs.Prelude.{◌≡◌, ℕ, zero, suc, ◌++◌, ◌-◌, List, [], ◌∷◌, length, take}
 use Rattle.std.specs.Prelude.{drop, Option, None, Some, Bool, true, false, nat_lt, ◌==◌}
 use Rattle.std.specs.Prelude.{if◌then◌else◌}
 use Rattle.std.specs.List.{list_all, concat}
@@ -21,7 +21,7 @@ abbrev pub ◌>>=◌ : {A B : Type 0} → Option A → (A → Option B) → Opti
 (Some x) >>= f = f x
 None >>= f = None
 
--- a number of at most so many octets
+-- a number of at most this number of octets
 unfoldable pub number_of : ℕ → List ℕ → Option ℕ
 number_of most digits = if nat_lt most (length digits) then None else Some (number 0 digits)
 
@@ -43,13 +43,13 @@ length_at mode (b ∷ rest) =
     (b, rest) else if nat_lt b 129 then None else if nat_lt 132 b then None else long_at
     (b - 128) mode rest
 
--- the contents behind a length, and what follows them
+-- the contents after a length, and what follows them
 unfoldable pub contents_at : Parser (List ℕ)
 contents_at mode bytes = do
   n ← length_at mode bytes
   if nat_lt (length n.1) n.0 then None else Some (take n.0 n.1, drop n.0 n.1)
 
--- one step behind this identifier and this octet of a length
+-- one step after this identifier and this octet of a length
 unfoldable pub value_step : ℕ → ℕ → ℕ → List ℕ → Option (Option ℕ × List ℕ)
 value_step depth t l b =
     if is_tag t then (if l == 128 then
@@ -78,7 +78,7 @@ unfoldable pub scan : ℕ → ℕ → List ℕ → Option (List ℕ)
 scan zero depth b = None
 scan (suc n) depth b = follow (scan n) (step depth b)
 
--- What follows the end of the contents, where so many values of indefinite length are open within
+-- What follows the end of the contents, where depth values of indefinite length are open within
 -- them. Each step takes an octet at least.
 unfoldable pub end_of : ℕ → List ℕ → Option (List ℕ)
 end_of depth b = scan (suc (length b)) depth b
@@ -94,7 +94,7 @@ indefinite_at tag Ber bytes =
     if is_constructed tag then
     (end_of 0 bytes >>= λ rest. Some (before_end bytes rest, rest)) else None
 
--- the contents behind this identifier, and what follows the value
+-- the contents after this identifier, and what follows the value
 unfoldable pub body_at : ℕ → Parser (List ℕ)
 body_at tag mode [] = None
 body_at tag mode (l ∷ bytes) =
@@ -185,7 +185,7 @@ oid_at = primitive OBJECT_IDENTIFIER oid_of
 unfoldable pub these : List ℕ → List ℕ → Option (Unit {0})
 these octets contents = if bytes_eq contents octets then Some tt else None
 
--- the contents of a BIT STRING: the octets behind the first, and the number of bits that are not
+-- the contents of a BIT STRING: the octets after the first, and the number of bits that are not
 -- used
 unfoldable pub bits_of : List ℕ → Option (List ℕ × ℕ)
 bits_of [] = None
@@ -242,7 +242,7 @@ or_else None rest other = other
 abbrev pub either : {X : Type 0} → Parser (Option X) → Parser (Option X) → Parser (Option X)
 either p q mode bytes = p mode bytes >>= λ x. or_else x.0 x.1 (q mode x.1)
 
--- as many as there are, up to so many
+-- as many as there are, up to n
 unfoldable pub up_to : {X : Type 0} → ℕ → Parser (Option X) → Parser (List X)
 up_to zero p mode bytes = Some ([], bytes)
 up_to (suc n) p mode bytes = p mode bytes >>= λ o. go_on o.0 o.1 (up_to n p mode o.1)
@@ -271,7 +271,7 @@ there (Some x) = Some tt
 abbrev pub skipped : Parser (Unit {0}) → Mode → ℕ → List ℕ → Option (Unit {0})
 skipped p mode tag contents = if is_constructed tag then there (all_of p mode contents) else Some tt
 
--- past any value that nests at most so deep
+-- past any value that nests at most to this depth
 unfoldable pub skip_at : ℕ → Parser (Unit {0})
 skip_at zero mode bytes = None
 skip_at (suc depth) mode bytes =
@@ -291,18 +291,18 @@ string_of p mode tag contents =
     if tag == OCTET_STRING then Some contents else if tag == OCTET_STRING_IN_PIECES then in_ber mode
     (pieces p mode contents) else None
 
--- the octets of an OCTET STRING that nests at most so deep
+-- the octets of an OCTET STRING that nests at most to this depth
 unfoldable pub octets_at : ℕ → Parser (List ℕ)
 octets_at zero mode bytes = None
 octets_at (suc depth) mode bytes =
     any_at mode bytes >>= λ v. (string_of (octets_at depth) mode v.0.0 v.0.1 >>= λ s. Some (s, v.1))
 
--- the same octets, behind others
-abbrev pub behind : List ℕ → Option (List ℕ) → Option (List ℕ)
-behind front None = None
-behind front (Some octets) = Some (front ++ octets)
+-- the same octets, after others
+abbrev pub after_others : List ℕ → Option (List ℕ) → Option (List ℕ)
+after_others front None = None
+after_others front (Some octets) = Some (front ++ octets)
 
--- the octets that were found are put behind the old ones
+-- the octets that were found are put after the old ones
 abbrev pub Appends : {T : Type 0} → (T → List ℕ) → List ℕ → Option T → List ℕ
     → Option (List ℕ × List ℕ) → Type 0
 Appends view old None new found = found ≡ None

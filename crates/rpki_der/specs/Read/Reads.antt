@@ -120,7 +120,7 @@ Opened tag view old result new =
     × MatchOption old.failed (OpenedAt view (value_at tag old.mode old.rest) result new)
     (λ e. FailsAgain e result new)
 
--- what is left behind a value whose contents were read so
+-- what is left after a value whose contents were read so
 abbrev pub Left : {T : Type 0} → Result T DecodeError → List ℕ → Result T DecodeError → State
     → Type 0
 Left (Ok t) rest result new = (result ≡ Ok t) × (new.rest ≡ rest) × (new.failed ≡ None)

@@ -1,5 +1,5 @@
 ghost use Rattle.std.specs.Prelude.{◌≡◌, ◌^◌, ◌<◌, ◌-◌, ◌%◌};
-ghost use Rattle.rpki_der.specs.Written.{bit_string_contents, unused_bits, zero_bits};
+ghost use Rattle.rpki_der.specs.Write.Written.{bit_string_contents, unused_bits, zero_bits};
 
 use crate::encode::raw::Raw;
 use crate::encode::value::Value;
@@ -7,7 +7,8 @@ use crate::encode::{Encode, EncodeError};
 use crate::stream::{Sink, SinkFailed};
 use crate::tag::Tag;
 
-/// The contents of a BIT STRING: how many bits of the last octet are not used, and the octets. The bits that are not used are written as zeros.
+/// The contents of a BIT STRING: how many bits of the last octet are not used, and the octets. The
+/// bits that are not used are written as zeros.
 #[derive(Drop)]
 pub struct Bits<'a> {
     pub octets: &'a [u8],
@@ -52,7 +53,7 @@ fn unused_bits(octets: &[u8], unused: u8) -> u8
     }
 }
 
-/// An octet with zeros for so many of its lowest bits, of 7 at most.
+/// An octet with zeros for its `unused` lowest bits, 7 at most.
 fn zero_bits(octet: u8, unused: u8) -> u8
     requires { unused < 8 }
     ensures { result ≡ zero_bits octet unused }
@@ -69,7 +70,9 @@ fn zero_bits(octet: u8, unused: u8) -> u8
     }
 }
 
-/// A BIT STRING (X.690, sections 8.6 and 11.2) of these octets without so many bits of the last one. More than 7 bits count as 7, and where there is no octet none are left out. The bits that are left out are written as zeros.
+/// A BIT STRING (X.690, sections 8.6 and 11.2) of these octets without the `unused` last bits of the last
+/// one. More than 7 bits count as 7, and where there is no octet none are left out. The bits that
+/// are left out are written as zeros.
 pub fn bit_string(octets: &[u8], unused: u8) -> Value<Bits<'_>>
     ensures tag { result.tag.octet ≡ 3 }
     ensures octets { result.contents.octets.now ≡ octets.now }

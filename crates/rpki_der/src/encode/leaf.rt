@@ -1,5 +1,5 @@
 ghost use Rattle.std.specs.Prelude.{◌≡◌, []};
-ghost use Rattle.rpki_der.specs.Written.{boolean_contents};
+ghost use Rattle.rpki_der.specs.Write.Written.{boolean_contents};
 
 use crate::encode::raw::Raw;
 use crate::encode::value::Value;
@@ -49,7 +49,8 @@ pub fn octet_string(octets: &[u8]) -> Value<Raw<'_>>
     primitive(Tag::OCTET_STRING, octets)
 }
 
-/// An IA5String (X.690, section 8.23) of these octets, which are characters where they are below 80 hexadecimal.
+/// An IA5String (X.690, section 8.23) of these octets, which are characters where they are below 80
+/// hexadecimal.
 pub fn ia5(octets: &[u8]) -> Value<Raw<'_>>
     ensures tag { result.tag.octet ≡ 22 }
     ensures contents { result.contents.0.now ≡ octets.now }

@@ -24,13 +24,12 @@ use std::marker::Model;
 /// A reader of the values of a constructed value, one after the other (X.690, section 8.1).
 ///
 /// A call refuses by `Malformed` where the octets that are left don't begin with what it asks for.
-/// One that takes memory
-/// may also answer `Memory`, and one that runs a closure what the closure answers.
+/// One that takes memory may also answer `Memory`, and one that runs a closure what the closure
+/// answers.
 ///
 /// Once a call has answered an error, each further call answers it again, and so does the call
-/// whose closure was
-/// handed the reader. Where no memory for a copy of the error is to be had, it is want of memory
-/// from then on.
+/// whose closure was handed the reader. Where no memory for a copy of the error is to be had, it is
+/// want of memory from then on.
 #[derive(Drop)]
 pub struct Constructed<'a> {
     mode: Mode,
@@ -46,7 +45,7 @@ impl<'a> Model for Constructed<'a> {
     ghost view = { λ s. record { mode = s.mode; rest = s.rest; failed = s.failed } };
 }
 
-/// The error twice, or want of memory twice where no copy of it is to be had.
+/// The error twice, or `Memory` twice where no copy of it is to be had.
 fn twice(error: DecodeError) -> (DecodeError, DecodeError)
     ensures again { IsAgain error result.0 }
     ensures same { result.1 ≡ result.0 }
@@ -269,9 +268,8 @@ impl<'a> Constructed<'a> {
     }
 
     /// Reads what stands at the front of the source, by the rules of the mode (X.690, section 8,
-    /// and 10 for DER). What op
-    /// leaves stands behind it. Refuses by the error of op, or by that which op's reader has
-    /// answered.
+    /// and 10 for DER). What op leaves stands after it. Refuses by the error of op, or by that
+    /// which op's reader has answered.
     pub fn decode<T: Drop, F: FnOnce(&mut Constructed<'_>) -> Result<T, DecodeError>>(
         source: Bytes,
         mode: Mode,
@@ -291,8 +289,8 @@ impl<'a> Constructed<'a> {
     }
 
     /// Reads all of the source, by the rules of the mode, as the contents of a value. Refuses by
-    /// `Malformed` where op
-    /// leaves a part of it, and else by the error of op, or by that which op's reader has answered.
+    /// `Malformed` where op leaves a part of it, and else by the error of op, or by that which op's
+    /// reader has answered.
     pub fn decode_all<T: Drop, F: FnOnce(&mut Constructed<'_>) -> Result<T, DecodeError>>(
         source: Bytes,
         mode: Mode,
@@ -311,9 +309,8 @@ impl<'a> Constructed<'a> {
     }
 
     /// Opens the value in front, which has this tag (X.690, sections 8.1 and 8.14). op reads its
-    /// contents, all of them.
-    /// Refuses by `Malformed` where another value stands there or op leaves a part of the contents,
-    /// and else by op's error.
+    /// contents, all of them. Refuses by `Malformed` where another value stands there or op leaves
+    /// a part of the contents, and else by op's error.
     pub fn take_constructed_if<T: Drop, F: FnOnce(&mut Constructed<'_>) -> Result<T, DecodeError>>(
         &mut self,
         tag: Tag,
@@ -369,8 +366,7 @@ impl<'a> Constructed<'a> {
     }
 
     /// Opens the SET in front (X.690, sections 8.11 and 8.12), as `take_constructed_if` does. op
-    /// reads its members in the
-    /// order in which they stand.
+    /// reads its members in the order in which they stand.
     pub fn take_set<T: Drop, F: FnOnce(&mut Constructed<'_>) -> Result<T, DecodeError>>(
         &mut self,
         op: F,
@@ -396,8 +392,7 @@ impl<'a> Constructed<'a> {
     }
 
     /// Keeps the octets of the source that op reads, as they stand there, and the mode. Refuses by
-    /// the error of op, or by
-    /// `Memory`.
+    /// the error of op, or by `Memory`.
     pub fn capture<F: FnOnce(&mut Constructed<'_>) -> Result<(), DecodeError>>(
         &mut self,
         op: F,

@@ -22,7 +22,8 @@ pub fn number_in(digits: &[u8]) -> Option<u32>
     }
 }
 
-/// The digits to base 256 of a number that is not negative, from its shortest contents: without the 0 that says so.
+/// The digits to base 256 of a number that is not negative, from its shortest contents: without the
+/// 0 that says so.
 #[tactic(auto, unfolding(crate::specs::Read::Parse::digits_of))]
 #[inline(always)]
 fn digits_of(contents: &[u8]) -> Option<&[u8]>

@@ -51,7 +51,8 @@ impl<'a> Constructed<'a> {
     /// Reads an INTEGER that is this number (X.690, section 8.3). Refuses by `Malformed`.
     #[inline(always)]
     pub fn skip_u8_if(&mut self, expected: u8) -> Result<(), DecodeError>
-        ensures reads { Reads (λ x. x) (primitive INTEGER (this expected)) self.old result self.new }
+        ensures reads { Reads (λ x. x)
+            (primitive INTEGER (this expected)) self.old result self.new }
         ensures stays { Stays result self.new }
         ensures refused { OnlyMalformed self.old result }
     {
@@ -77,8 +78,7 @@ impl<'a> Constructed<'a> {
     }
 
     /// Reads an INTEGER from 0 to 2^160 - 1 (X.690, section 8.3): its digits to base 256, the
-    /// highest one first, with
-    /// zeros in front. Refuses by `Malformed`.
+    /// highest one first, with zeros in front. Refuses by `Malformed`.
     pub fn take_unsigned(&mut self) -> Result<[u8; 20], DecodeError>
         ensures reads { Reads (λ digits. number 0 digits) u160_at self.old result self.new }
         ensures stays { Stays result self.new }
@@ -127,8 +127,7 @@ impl<'a> Constructed<'a> {
     }
 
     /// Reads a BOOLEAN that is false where it is left out (X.690, sections 8.2 and 11.1). An
-    /// explicit false is taken
-    /// too. Refuses by `Malformed`.
+    /// explicit false is taken too. Refuses by `Malformed`.
     #[tactic(auto, unfolding(crate::specs::Read::Parse::flag_at))]
     pub fn take_flag(&mut self) -> Result<bool, DecodeError>
         ensures reads { Reads (λ b. b) flag_at self.old result self.new }
@@ -144,7 +143,8 @@ impl<'a> Constructed<'a> {
     /// Reads a NULL, if one is next (X.690, section 8.8). Refuses by `Malformed`.
     #[tactic(auto, unfolding(crate::specs::Read::Parse::null_of))]
     pub fn skip_opt_null(&mut self) -> Result<Option<()>, DecodeError>
-        ensures reads { Reads (λ u. u) (optional NULL (primitive NULL null_of)) self.old result self.new }
+        ensures reads { Reads (λ u. u)
+            (optional NULL (primitive NULL null_of)) self.old result self.new }
         ensures stays { Stays result self.new }
         ensures refused { OnlyMalformed self.old result }
     {
@@ -180,7 +180,8 @@ impl<'a> Constructed<'a> {
     /// `Malformed`.
     #[tactic(auto, unfolding(crate::specs::Read::Parse::these))]
     pub fn skip_oid_if(&mut self, expected: &[u8]) -> Result<(), DecodeError>
-        ensures reads { Reads (λ u. u) (primitive OBJECT_IDENTIFIER (these expected.now)) self.old result self.new }
+        ensures reads { Reads (λ u. u)
+            (primitive OBJECT_IDENTIFIER (these expected.now)) self.old result self.new }
         ensures stays { Stays result self.new }
         ensures refused { OnlyMalformed self.old result }
     {
@@ -216,8 +217,7 @@ impl<'a> Constructed<'a> {
     }
 
     /// Reads the octets of a BIT STRING all of whose bits are used, primitive in both modes (X.690,
-    /// section 8.6).
-    /// Answers `Malformed`, or `Memory` where no memory was to be had.
+    /// section 8.6). Answers `Malformed`, or `Memory` where no memory was to be had.
     #[tactic(auto, unfolding(crate::specs::Read::Parse::whole_octets_of))]
     pub fn take_octets_in_bits(&mut self) -> Result<Bytes, DecodeError>
         ensures reads { Reads (λ octets. octets) octets_in_bits_at self.old result self.new }
@@ -238,8 +238,7 @@ impl<'a> Constructed<'a> {
     }
 
     /// Reads an IA5String, primitive in both modes: octets below 80 hexadecimal (X.690, section
-    /// 8.23).
-    /// Answers `Malformed`, or `Memory` where no memory was to be had.
+    /// 8.23). Answers `Malformed`, or `Memory` where no memory was to be had.
     #[tactic(auto, unfolding(crate::specs::Read::Parse::ia5_of))]
     pub fn take_ia5(&mut self) -> Result<Bytes, DecodeError>
         ensures reads { Reads (λ text. text) ia5_at self.old result self.new }
@@ -270,9 +269,8 @@ impl<'a> Constructed<'a> {
     }
 
     /// Reads the contents of the value in front if it has this tag, whatever they are. Those of a
-    /// constructed tag
-    /// are the octets of its values (X.690, section 8.1.4). Answers `Malformed`, or `Memory` where
-    /// no memory was to be had.
+    /// constructed tag are the octets of its values (X.690, section 8.1.4). Answers `Malformed`, or
+    /// `Memory` where no memory was to be had.
     pub fn take_opt_primitive_if(&mut self, tag: Tag) -> Result<Option<Bytes>, DecodeError>
         ensures reads { Reads (λ contents. contents)
             (optional tag.octet (primitive tag.octet Some)) self.old result self.new }
@@ -288,8 +286,7 @@ impl<'a> Constructed<'a> {
     }
 
     /// Reads the contents of the value in front, which has this tag, as `take_opt_primitive_if`
-    /// does. Answers `Malformed`,
-    /// or `Memory` where no memory was to be had.
+    /// does. Answers `Malformed`, or `Memory` where no memory was to be had.
     pub fn take_primitive_if(&mut self, tag: Tag) -> Result<Bytes, DecodeError>
         ensures reads { Reads (λ contents. contents)
             (primitive tag.octet Some) self.old result self.new }
@@ -301,8 +298,7 @@ impl<'a> Constructed<'a> {
     }
 
     /// Reads an OCTET STRING of `N` octets, as `take_octets` does (X.690, section 8.7). Answers
-    /// `Malformed`, or `Memory`
-    /// where no memory was to be had.
+    /// `Malformed`, or `Memory` where no memory was to be had.
     #[tactic(auto, unfolding(crate::specs::Read::Parse::tested))]
     pub fn take_octets_of<const N: usize>(&mut self, alloc: Global) -> Result<[u8; N], DecodeError>
         ensures reads { Reads (λ octets. octets) (octets_of N) self.old result self.new }
@@ -317,8 +313,8 @@ impl<'a> Constructed<'a> {
     }
 
     /// Reads an OCTET STRING (X.690, section 8.7). In BER it may be in pieces, nested at most 32
-    /// deep, whose octets are
-    /// joined. Answers `Malformed`, or `Memory` where no memory was to be had.
+    /// deep, whose octets are joined. Answers `Malformed`, or `Memory` where no memory was to be
+    /// had.
     #[tactic(auto, using(crate::proofs::Reading::Strings::octets_next))]
     pub fn take_octets(&mut self, alloc: Global) -> Result<Bytes, DecodeError>
         ensures reads { Reads (λ octets. octets) (octets_at 32) self.old result self.new }

@@ -10,7 +10,7 @@ use crate::read::header::{any_of, is_constructed};
 /// How deep values that are skipped nest.
 pub const DEPTH: u32 = 32;
 
-/// What follows the value in front, which nests at most so deep.
+/// What follows the value in front, which nests at most to this depth.
 pub fn skip_of(depth: u32, mode: Mode, bytes: &[u8]) -> Option<&[u8]>
     ensures { Finds (λ r. (tt, r.now)) result (skip_at depth mode bytes.now) }
 {

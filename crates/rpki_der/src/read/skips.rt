@@ -9,8 +9,7 @@ use crate::read::skip::{are_skipped, skip_place};
 
 impl<'a> Constructed<'a> {
     /// Goes past the next value, whatever it is (X.690, section 8.1.1). Values in it nest at most
-    /// 32 deep, itself
-    /// included. Refuses by `Malformed`.
+    /// 32 deep, itself included. Refuses by `Malformed`.
     pub fn skip_one(&mut self) -> Result<(), DecodeError>
         ensures reads { Reads (λ u. u) (skip_at 32) self.old result self.new }
         ensures stays { Stays result self.new }

@@ -10,7 +10,7 @@ use crate::read::skip::DEPTH;
 use crate::tag::Tag;
 use std::alloc::AllocError;
 
-/// Puts the octets of the OCTET STRING in front, which nests at most so deep, behind those of out.
+/// Puts the octets of the OCTET STRING in front, which nests at most to this depth, after those of `out`.
 /// What follows it.
 pub fn append_octets<'s>(
     depth: u32,
@@ -49,7 +49,7 @@ pub fn append_octets<'s>(
     }
 }
 
-/// Puts the octets of the OCTET STRING in front behind those of out. Where it ends.
+/// Puts the octets of the OCTET STRING in front after those of `out`. Where it ends.
 pub fn string_place(
     mode: Mode,
     bytes: &[u8],

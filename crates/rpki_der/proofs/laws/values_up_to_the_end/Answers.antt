@@ -1,4 +1,5 @@
-use Rattle.std.proofs.Common.{◌≡◌, ℕ, Bool, true, false, List, [], ◌∷◌, Option, Some, None, refl, sym, ap, ◌∙◌}
+use Rattle.std.proofs.Common.{◌≡◌, ℕ, Bool, true, false, List, [], ◌∷◌, Option, Some, None, refl}
+use Rattle.std.proofs.Common.{sym, ap, ◌∙◌}
 use Rattle.std.specs.Prelude.{◌↔◌}
 use Rattle.rpki_der.specs.declared.mode.Mode.{Mode}
 use Rattle.rpki_der.specs.Read.Parse.{any_at, some_of, skip_at, skip_opt_at, at_end}
@@ -15,14 +16,22 @@ ends : (mode : Mode) (o r : List ℕ) (e : Bool)
 unfolding at_end
 ends mode [] r e = (
   λ h.
-      let q : (let t : Bool × List ℕ = (true, []) in t) ≡ (e, r) = some_is _ _ h in
-      (sym (ap (λ (t : Bool × List ℕ). t.1) q), (λ _. refl, λ _. sym (ap (λ (t : Bool × List ℕ). t.0) q))),
+      let q : (let t : Bool × List ℕ = (true, []) in t) ≡ (e, r) = some_is _ _ h in (
+        sym (ap (λ (t : Bool × List ℕ). t.1) q),
+        (λ _. refl, λ _. sym (ap (λ (t : Bool × List ℕ). t.0) q)),
+      ),
   λ h. rw (h.0, h.1.1 refl) refl,
 )
 ends mode (b ∷ bytes) r e = (
   λ h.
-      let q : (let t : Bool × List ℕ = (false, b ∷ bytes) in t) ≡ (e, r) = some_is _ _ h in
-      (sym (ap (λ (t : Bool × List ℕ). t.1) q), (λ t. absurd (let no : false ≡ true = ap (λ (t : Bool × List ℕ). t.0) q ∙ t in cc), λ n. absurd cc)),
+      let q : (let t : Bool × List ℕ = (false, b ∷ bytes) in t) ≡ (e, r) = some_is _ _ h in (
+        sym (ap (λ (t : Bool × List ℕ). t.1) q),
+        (
+          λ t. absurd (let no : false ≡ true = ap (λ (t : Bool × List ℕ). t.0) q ∙ t in
+              cc),
+          λ n. absurd cc,
+        ),
+      ),
   λ h. rw (h.0, not-true e (λ t. let no = h.1.0 t in absurd cc)) refl,
 )
 
@@ -37,15 +46,19 @@ some-none {X} (Some x) r h =
     let no : Some x.0 ≡ None = ap (λ (t : Option X × List ℕ). t.0) q in
     cc
 
-some-one : (o : Option (Unit {0} × List ℕ)) (r : List ℕ) → (some_of o ≡ Some (Some tt, r)) ↔ (o ≡ Some (tt, r))
+some-one : (o : Option (Unit {0} × List ℕ)) (r : List ℕ)
+    → (some_of o ≡ Some (Some tt, r)) ↔ (o ≡ Some (tt, r))
 some-one None r = (λ h. absurd cc, λ h. absurd cc)
 some-one (Some x) r = (
   λ h.
-      let q : (let t : Option (Unit {0}) × List ℕ = (Some x.0, x.1) in t) ≡ (Some tt, r) = some_is _ _ h in
-      ap (λ (t : List ℕ). (let s : Option (Unit {0} × List ℕ) = Some (tt, t) in s)) (ap (λ (t : Option (Unit {0}) × List ℕ). t.1) q),
+      let q : (let t : Option (Unit {0}) × List ℕ = (Some x.0, x.1) in
+      t) ≡ (Some tt, r) = some_is _ _ h in
+      ap (λ (t : List ℕ). (let s : Option (Unit {0} × List ℕ) = Some (tt, t) in s))
+      (ap (λ (t : Option (Unit {0}) × List ℕ). t.1) q),
   λ h.
       let q : x ≡ (tt, r) = some_is _ _ h in
-      ap (λ (t : List ℕ). (let s : Option (Option (Unit {0}) × List ℕ) = Some (Some tt, t) in s)) (ap (λ (t : Unit {0} × List ℕ). t.1) q),
+      ap (λ (t : List ℕ). (let s : Option (Option (Unit {0}) × List ℕ) = Some (Some tt, t) in s))
+      (ap (λ (t : Unit {0} × List ℕ). t.1) q),
 )
 
 none : (mode : Mode) (o r : List ℕ) → (skip_opt_at mode o ≡ Some (None, r)) ↔ ((o ≡ []) × (r ≡ []))
@@ -56,15 +69,20 @@ none mode [] r = (
       (refl, sym (ap (λ (t : Option (Unit {0}) × List ℕ). t.1) q)),
   λ h. rw h.1 refl,
 )
-none mode (b ∷ bytes) r = (λ h. absurd (some-none (skip_at 32 mode (b ∷ bytes)) r h), λ h. absurd (let no = h.0 in cc))
+none mode (b ∷ bytes) r =
+    (λ h. absurd (some-none (skip_at 32 mode (b ∷ bytes)) r h), λ h. absurd (let no = h.0 in cc))
 
-one : (mode : Mode) (o r : List ℕ) → (skip_opt_at mode o ≡ Some (Some tt, r)) ↔ (skip_at 32 mode o ≡ Some (tt, r))
+one : (mode : Mode) (o r : List ℕ)
+    → (skip_opt_at mode o ≡ Some (Some tt, r)) ↔ (skip_at 32 mode o ≡ Some (tt, r))
 unfolding skip_opt_at
 one mode [] r = (
   λ h.
-      let q : (let t : Option (Unit {0}) × List ℕ = (None, []) in t) ≡ (Some tt, r) = some_is _ _ h in
-      absurd (let no : (let t : Option (Unit {0}) = None in t) ≡ Some tt = ap (λ (t : Option (Unit {0}) × List ℕ). t.0) q in cc),
-  λ h. absurd (let no : (let s : Option (Unit {0} × List ℕ) = None in s) ≡ Some (tt, r) = sym (skip-none 32 mode [] (any-nothing mode)) ∙ h in cc),
+      let q : (let t : Option (Unit {0}) × List ℕ = (None, []) in
+      t) ≡ (Some tt, r) = some_is _ _ h in
+      absurd (let no : (let t : Option (Unit {0}) = None in
+      t) ≡ Some tt = ap (λ (t : Option (Unit {0}) × List ℕ). t.0) q in cc),
+  λ h. absurd (let no : (let s : Option (Unit {0} × List ℕ) = None in
+      s) ≡ Some (tt, r) = sym (skip-none 32 mode [] (any-nothing mode)) ∙ h in cc),
 )
 one mode (b ∷ bytes) r = some-one (skip_at 32 mode (b ∷ bytes)) r
 

@@ -5,7 +5,7 @@ use Rattle.rpki_der.specs.declared.error.DecodeError.TheVariants.{Malformed, Con
 use Rattle.rpki_der.specs.declared.error.ContentFault.{ContentFault}
 use Rattle.rpki_der.specs.declared.error.ContentFault.TheVariants.{InvalidSignedAttr, Text}
 use Rattle.rpki_der.specs.Oid.{oid_text}
-use Rattle.rpki_der.specs.Reason.{reason_text}
+use Rattle.rpki_der.specs.Text.Reason.{reason_text}
 
 -- what is wrong with a content
 abbrev pub fault_text : ContentFault → List ℕ

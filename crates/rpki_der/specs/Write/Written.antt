@@ -6,7 +6,8 @@ use Rattle.std.proofs.lemmas.Bool.Decides.{nat_tests}
 use Rattle.std.specs.Int.{w32, to_be_bytes}
 use Rattle.rpki_der.specs.Tags.{INTEGER}
 
--- the length octets of so many contents octets, fewer than 2^32, in the shortest form
+-- the octets of this length of contents, below 2^32, in the shortest form (X.690, sections 8.1.3 and
+-- 10.1)
 unfoldable pub length_octets : ℕ → List ℕ
 length_octets n =
     if nat_lt n 0x80 then drop 3 (to_be_bytes w32 n)
@@ -44,11 +45,11 @@ abbrev pub unused_bits : List ℕ → ℕ → ℕ
 unused_bits [] unused = 0
 unused_bits (octet ∷ octets) unused = if nat_lt unused 8 then unused else 7
 
--- an octet with zeros for so many of its lowest bits
+-- an octet with zeros for its unused lowest bits
 abbrev pub zero_bits : ℕ → ℕ → ℕ
 zero_bits octet unused = octet - octet % (2 ^ unused)
 
--- X.690, 11.2.1: octets with zeros for so many of the lowest bits of the last one
+-- X.690, 11.2.1: octets with zeros for the unused lowest bits of the last one
 abbrev pub zero_last : List ℕ → ℕ → List ℕ
 zero_last [] unused = []
 zero_last (octet ∷ []) unused = zero_bits octet unused ∷ []

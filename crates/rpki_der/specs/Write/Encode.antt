@@ -2,7 +2,7 @@
 use Rattle.std.specs.Prelude.{◌≡◌, ℕ, ◌+◌, ◌<◌, ◌^◌, List, length, Option, Result, Ok, Err, Vec}
 use Rattle.std.specs.declared.alloc.Global.{Global}
 use Rattle.std.specs.Io.KnownBytes.{Appends, Keeps}
-use Rattle.rpki_der.specs.Sink.{AppendsFront}
+use Rattle.rpki_der.specs.Write.Sink.{AppendsFront}
 use Rattle.rpki_der.specs.declared.encode.EncodeError.{EncodeError}
 use Rattle.rpki_der.specs.declared.encode.EncodeError.TheVariants.{NotDer, TooLong, Io, Memory}
 
@@ -35,7 +35,7 @@ IsWritten der short octets old new (Err Io) = AppendsFront old.0 new.0 octets ×
     × der × Fits short octets
 IsWritten der short octets old new (Err Memory) = ⊥
 
--- the octets, or want of memory, or one of the two faults
+-- the octets, or Memory, or one of the two faults
 abbrev pub IsBytesOf : Type 0 → Type 0 → List ℕ → Result (Vec ℕ Global) EncodeError → Type 0
 IsBytesOf der short octets (Ok v) = (v.items ≡ octets) × der × Fits short octets
 IsBytesOf der short octets (Err NotDer) = ¬ der

@@ -3,7 +3,7 @@ use Rattle.std.specs.Prelude.{ℕ, ◌<◌, ◌^◌, List, [], ◌++◌, length,
 use Rattle.std.specs.List.{flat_map}
 use Rattle.std.proofs.Common.{arith, length-append}
 use Rattle.std.proofs.lemmas.List.Folds.{length-flat_map-take}
-use Rattle.rpki_der.specs.Written.{length_octets, value_octets}
+use Rattle.rpki_der.specs.Write.Written.{length_octets, value_octets}
 
 -- each part of few octets has few
 pub length_parts : (xs ys : List ℕ) → length (xs ++ ys) < 2 ^ 32
