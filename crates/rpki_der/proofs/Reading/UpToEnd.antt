@@ -1,17 +1,16 @@
 -- Loops that read up to the end.
 use Rattle.std.proofs.Common.{◌≡◌, ℕ, ◌<◌, ◌≤◌, Bool, true, false, List, [], ◌∷◌, ◌++◌, length}
-use Rattle.std.proofs.Common.{Option, Some, None, Ok, Err, refl, sym, ap, ◌∙◌, arith}
+use Rattle.std.proofs.Common.{Option, Some, None, Ok, Err, refl, sym, ap, subst, ◌∙◌, arith}
 use Rattle.std.proofs.lemmas.List.{append-nil}
 use Rattle.rpki_der.specs.declared.mode.Mode.{Mode}
 use Rattle.rpki_der.specs.declared.error.DecodeError.{DecodeError}
-use Rattle.rpki_der.specs.declared.error.DecodeError.TheVariants.{Memory}
 use Rattle.rpki_der.specs.Read.State.{State}
-use Rattle.rpki_der.specs.Read.Parse.{Parser, ◌>>=◌, with_front, all_of, all_at, at_end}
+use Rattle.rpki_der.specs.Read.Parse.{Parser, ◌>>=◌, with_front, all_of, all_at, at_end, primitive, in_value}
 use Rattle.rpki_der.specs.Read.Reads.{Reads, ReadUpTo}
 use Rattle.rpki_der.specs.Grammar.{Items}
 use Rattle.rpki_der.specs.Read.Exact.{IsExact, anything}
 use Rattle.rpki_der.proofs.Reading.Lengths.{bind_some, some_is}
-use Rattle.rpki_der.proofs.Reading.Many.{with_front-twice}
+use Rattle.rpki_der.proofs.Reading.Many.{with_front-twice, primitive-shorter, in_value-shorter}
 use Rattle.rpki_der.proofs.Reading.Skips.{Takes, all-more, all-none, all-end, exact-all}
 use Rattle.rpki_der.proofs.Reading.Exact.{the_end}
 use Rattle.rpki_der.proofs.Reading.Calls.{reads-ok, err-as}
@@ -83,105 +82,100 @@ unfolding at_end
 end-some mode [] h = cc
 end-some mode (a ∷ b) h = cc
 
--- Nothing has been read.
-pub up_to-begun : {X : Type 0} (p : Parser X) (begun : State) → ReadUpTo p [] begun begun
-up_to-begun p begun =
-    record { mode = refl; failed = refl; read = nothing (all_at p begun.mode begun.rest) }
-  where
-    nothing : {X : Type 0} (o : Option (List X × List ℕ)) → with_front [] o ≡ o
-    nothing None = refl
-    nothing (Some r) = refl
+-- what the reader has before the call, and after it
+at_end-is : (now : State) (b : Bool) (new : State) → Reads (λ b. b) at_end now (Ok b) new
+    → (now.rest ≡ new.rest) × Ended b new.rest × (new.failed ≡ now.failed) × (new.mode ≡ now.mode)
+    × (now.failed ≡ None)
+at_end-is now b new h =
+    let r = reads-ok (λ b. b) at_end now b new h in
+    let e = end-is now.mode now.rest b new.rest r.found in
+    (e.0, e.1, r.after ∙ sym r.before, r.mode, r.before)
 
 -- The end has not come.
-pub up_to-on : {X : Type 0} (p : Parser X) (front : List X) (begun now new : State)
-    → ReadUpTo p front begun now
-    → Reads (λ b. b) at_end now (Ok false) new → ReadUpTo p front begun new × (1 ≤ length new.rest)
-up_to-on p front begun now new s h =
-    let r = reads-ok (λ b. b) at_end now false new h in
-    let e = end-is now.mode now.rest false new.rest r.found in (
-      record {
-        mode = r.mode ∙ s.mode;
-        failed = r.after ∙ sym r.before ∙ s.failed;
-        read = rw (← e.0) s.read;
-      },
-      e.1,
-    )
+up_to-on : {X : Type 0} (p : Parser X) (front : List X) (begun now : State) (b : Bool) (mid : State)
+    → ReadUpTo p front begun now → Reads (λ b. b) at_end now (Ok b) mid
+    → ReadUpTo p front begun mid
+up_to-on p front begun now b mid s h =
+    let e = at_end-is now b mid h in
+    record { mode = e.3 ∙ s.mode; failed = e.2 ∙ s.failed; read = rw (← e.0) s.read }
 
 -- An iteration read one more.
-pub up_to-more : {X T : Type 0} (p : Parser X) → ((mode : Mode) → Takes (p mode))
-    → (view : T → X) (front : List X)
-    (begun now : State) (t : T) (new : State) → ReadUpTo p front begun now
-    → Reads view p now (Ok t) new
-    → ReadUpTo p (front ++ view t ∷ []) begun new
-up_to-more p takes view front begun now t new s h =
-    let r = reads-ok view p now t new h in
-    let e : p begun.mode now.rest ≡ Some (view t, new.rest) = rw (← s.mode) r.found in
+pub up_to-more : {X T : Type 0} (p : Parser X) → ((mode : Mode) → Takes (p mode)) → (view : T → X)
+    (front : List X) (begun now : State) (b : Bool) (mid : State) (t : T) (new : State)
+    → ReadUpTo p front begun now → Reads (λ b. b) at_end now (Ok b) mid
+    → Reads view p mid (Ok t) new → ReadUpTo p (front ++ view t ∷ []) begun new
+up_to-more p takes view front begun now b mid t new so_far ended h =
+    let s = up_to-on p front begun now b mid so_far ended in
+    let r = reads-ok view p mid t new h in
+    let e : p begun.mode mid.rest ≡ Some (view t, new.rest) = rw (← s.mode) r.found in
     record {
       mode = r.mode ∙ s.mode;
       failed = r.after ∙ sym r.before ∙ s.failed;
       read = sym (with_front-twice front (view t ∷ []) (all_at p begun.mode new.rest))
           ∙ ap (with_front front)
-          (sym (all_at-more p begun.mode (takes begun.mode) now.rest (view t) new.rest e)) ∙ s.read;
+          (sym (all_at-more p begun.mode (takes begun.mode) mid.rest (view t) new.rest e))
+          ∙ s.read;
     }
 
--- Fewer octets are left.
-pub up_to-shorter : {X T : Type 0} (p : Parser X) → ((mode : Mode) → Takes (p mode))
-    → (view : T → X) (now : State) (t : T)
-    (new : State) → Reads view p now (Ok t) new → length new.rest < length now.rest
-up_to-shorter p takes view now t new h =
-    let r = reads-ok view p now t new h in
-    (takes now.mode).at now.rest (view t) new.rest r.found
+-- It left fewer octets.
+pub up_to-smaller : {X T : Type 0} (p : Parser X) → ((mode : Mode) → Takes (p mode))
+    → (view : T → X) (now : State) (b : Bool) (mid : State) (t : T) (new : State)
+    → Reads (λ b. b) at_end now (Ok b) mid → Reads view p mid (Ok t) new
+    → length new.rest < length now.rest
+up_to-smaller p takes view now b mid t new ended h =
+    let r = reads-ok view p mid t new h in
+    rw ((at_end-is now b mid ended).0) ((takes mid.mode).at mid.rest (view t) new.rest r.found)
 
 -- The end has come.
 pub up_to-end : {X U : Type 0} (p : Parser X) → ((mode : Mode) → Takes (p mode))
-    → (shown : U → List X) (begun now : State)
-    (u : U) (new : State) → ReadUpTo p (shown u) begun now → Reads (λ b. b) at_end now (Ok true) new
+    → (shown : U → List X) (begun now : State) (u : U) (b : Bool) (new : State)
+    → ReadUpTo p (shown u) begun now → Reads (λ b. b) at_end now (Ok b) new → b ≡ true
     → Reads shown (all_at p) begun (Ok u) new
-up_to-end {X} p takes shown begun now u new s h =
-    let r = reads-ok (λ b. b) at_end now true new h in
-    let e = end-is now.mode now.rest true new.rest r.found in
+up_to-end {X} p takes shown begun now u b new s h is =
+    let e = at_end-is now b new h in
+    let none : new.rest ≡ [] = subst (λ (b : Bool). Ended b new.rest) is e.1 in
+    let end : now.rest ≡ [] = e.0 ∙ none in
     let last : with_front (shown u) (all_at p begun.mode now.rest) ≡ Some (shown u, new.rest) =
-    rw (e.0, e.1, all_at-end p begun.mode (takes begun.mode))
+    rw (end, none, all_at-end p begun.mode (takes begun.mode))
     (ap (λ (xs : List X). (let o : Option (List X × List ℕ) = Some (xs, []) in o))
     (append-nil (shown u))) in
     let all : all_at p begun.mode begun.rest ≡ Some (shown u, new.rest) = sym s.read ∙ last in
-    let fresh : begun.failed ≡ None = sym s.failed ∙ r.before in
-    (r.mode ∙ s.mode, rw fresh (all, r.after))
+    let fresh : begun.failed ≡ None = sym s.failed ∙ e.4 in
+    (e.3 ∙ s.mode, rw fresh (all, e.2 ∙ e.4))
 
 -- One more could not be read.
-pub up_to-err : {X T U : Type 0} (p : Parser X) → ((mode : Mode) → Takes (p mode))
-    → (view : T → X) (shown : U → List X)
-    (front : List X) (begun now : State) (e : DecodeError) (new : State)
-    → ReadUpTo p front begun now
-    → 1 ≤ length now.rest → Reads {T = T} view p now (Err e) new
+pub up_to-err : {X T U : Type 0} (p : Parser X) → ((mode : Mode) → Takes (p mode)) → (view : T → X)
+    (shown : U → List X) (front : List X) (begun now : State) (b : Bool) (mid : State)
+    (e : DecodeError) (new : State) → ReadUpTo p front begun now
+    → Reads (λ b. b) at_end now (Ok b) mid → b ≡ false → Reads {T = T} view p mid (Err e) new
     → Reads {T = U} shown (all_at p) begun (Err e) new
-up_to-err {X} {T} {U} p takes view shown front begun now e new s some h =
-    let none : p begun.mode now.rest ≡ None → all_at p begun.mode begun.rest ≡ None =
-    λ q. sym s.read ∙ rw (all_at-none p begun.mode (takes begun.mode) now.rest some q) refl in (
+up_to-err {X} {T} {U} p takes view shown front begun now b mid e new so_far ended is h =
+    let s = up_to-on p front begun now b mid so_far ended in
+    let some : 1 ≤ length mid.rest =
+    subst (λ (b : Bool). Ended b mid.rest) is (at_end-is now b mid ended).1 in
+    let none : p begun.mode mid.rest ≡ None → all_at p begun.mode begun.rest ≡ None =
+    λ q. sym s.read ∙ rw (all_at-none p begun.mode (takes begun.mode) mid.rest some q) refl in (
       h.0 ∙ s.mode,
-      err-as view shown begun.failed e new (p begun.mode now.rest)
-          (all_at p begun.mode begun.rest) none
-          (rw (← s.failed, ← s.mode) h.1),
+      err-as view shown begun.failed e new (p begun.mode mid.rest) (all_at p begun.mode begun.rest)
+          none (rw (← s.failed, ← s.mode) h.1),
     )
 
 -- The reader had failed.
 pub up_to-failed : {X U : Type 0} (p : Parser X) (shown : U → List X) (front : List X)
-    (begun now : State) (e : DecodeError)
-    (new : State) → ReadUpTo p front begun now → Reads {T = Bool} (λ b. b) at_end now (Err e) new
+    (begun now : State) (e : DecodeError) (new : State) → ReadUpTo p front begun now
+    → Reads {T = Bool} (λ b. b) at_end now (Err e) new
     → Reads {T = U} shown (all_at p) begun (Err e) new
 up_to-failed {X} {U} p shown front begun now e new s h = (
   h.0 ∙ s.mode,
   err-as (λ b. b) shown begun.failed e new (at_end begun.mode now.rest)
-      (all_at p begun.mode begun.rest)
-      (λ q. absurd (end-some begun.mode now.rest q)) (rw (← s.failed, ← s.mode) h.1),
+      (all_at p begun.mode begun.rest) (λ q. absurd (end-some begun.mode now.rest q))
+      (rw (← s.failed, ← s.mode) h.1),
 )
 
--- Memory ran out for what was read.
-pub up_to-memory : {X T U : Type 0} (p : Parser X) (view : T → X) (shown : U → List X)
-    (front : List X) (begun now : State)
-    (t : T) (new : State) → ReadUpTo p front begun now → Reads view p now (Ok t) new
-    → Reads {T = U} shown (all_at p) begun (Err Memory) new
-up_to-memory p view shown front begun now t new s h =
-    let r = reads-ok view p now t new h in
-    let fresh : begun.failed ≡ None = sym s.failed ∙ r.before in
-    (r.mode ∙ s.mode, rw fresh tt)
+-- A primitive value takes an octet at least, and so does one that is opened.
+pub takes-primitive : {X : Type 0} (tag : ℕ) (f : List ℕ → Option X) (mode : Mode)
+    → Takes (primitive tag f mode)
+takes-primitive tag f mode = record { at = λ b x r e. primitive-shorter tag f mode b x r e }
+
+pub takes-in : {X : Type 0} (tag : ℕ) (p : Parser X) (mode : Mode) → Takes (in_value tag p mode)
+takes-in tag p mode = record { at = λ b x r e. in_value-shorter tag p mode b x r e }
