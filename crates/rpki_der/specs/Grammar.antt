@@ -91,16 +91,16 @@ abbrev pub ListOf : (List ℕ → Type 0) → List ℕ → Type 0
 ListOf G octets = (each : List (Unit {0})) × Items (λ o _. G o) octets each
 
 -- the octets are a value whose contents are skipped: any contents of a primitive value (8.1.4), and
--- values of which this holds, nested at most to this depth, in a constructed one (8.1.1, 8.1.4). That
--- there is a limit is this project's own rule.
+-- values of which this holds, nested at most to this depth, in a constructed one (8.1.1, 8.1.4).
+-- That there is a limit is this project's own rule.
 unfoldable pub Skipped : Mode → ℕ → List ℕ → Type 0
 Skipped mode zero octets = ⊥
 Skipped mode (suc depth) octets = (tag : ℕ) × (contents : List ℕ) × Value mode octets tag contents
     × (is_constructed tag ≡ true → ListOf (Skipped mode depth) contents)
 
 -- the octets are an OCTET STRING of these octets (8.7): one primitive value or, in BER, OCTET
--- STRINGs in a constructed one (8.7.3; not in DER, 10.2), nested at most to this depth. That there is a
--- limit is this project's own rule.
+-- STRINGs in a constructed one (8.7.3; not in DER, 10.2), nested at most to this depth. That there
+-- is a limit is this project's own rule.
 unfoldable pub OctetString : Mode → ℕ → List ℕ → List ℕ → Type 0
 OctetString mode zero octets string = ⊥
 OctetString mode (suc depth) octets string =
@@ -156,8 +156,7 @@ abbrev pub OctetsInBits : Mode → List ℕ → List ℕ → Type 0
 OctetsInBits mode octets string = BitString mode octets (string, 0)
 
 -- A BOOLEAN that is false where it is left out (8.2). An explicit false is taken in both modes,
--- against 11.5, which is
--- this project's own rule.
+-- against 11.5, which is this project's own rule.
 abbrev pub Flag : Mode → List ℕ → Bool → Type 0
 Flag mode octets b = ((octets ≡ []) × (b ≡ false)) ⊎ Boolean mode octets b
 

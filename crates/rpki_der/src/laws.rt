@@ -174,13 +174,15 @@ pub fn optional_values()
 pub fn captured_values()
     ensures tagged { (tag : ℕ)
         → IsReading (captured (value_at tag))
-        (λ mode octets kept. (kept ≡ octets) × (contents : List ℕ) × Value mode octets tag contents) }
+        (λ mode octets kept. (kept ≡ octets) × (contents : List ℕ)
+        × Value mode octets tag contents) }
     ensures skipped { (depth : ℕ)
         → IsReading (captured (skip_at depth))
         (λ mode octets kept. (kept ≡ octets) × Unit {0} × Skipped mode depth octets) }
     ensures contents { (tag : ℕ)
         → IsReading (captured (primitive tag Some))
-        (λ mode octets kept. (kept ≡ octets) × (contents : List ℕ) × Value mode octets tag contents) }
+        (λ mode octets kept. (kept ≡ octets) × (contents : List ℕ)
+        × Value mode octets tag contents) }
     ensures string { (depth : ℕ)
         → IsReading (captured (octets_at depth))
         (λ mode octets kept. (kept ≡ octets) × (string : List ℕ)
@@ -206,7 +208,8 @@ pub fn captured_values()
         → IsReading (captured (primitive OBJECT_IDENTIFIER (these oid)))
         (λ mode octets kept. (kept ≡ octets) × Unit {0} × ObjectIdentifier mode octets oid) }
     ensures whole_bits { IsReading (captured octets_in_bits_at)
-        (λ mode octets kept. (kept ≡ octets) × (string : List ℕ) × OctetsInBits mode octets string) }
+        (λ mode octets kept. (kept ≡ octets) × (string : List ℕ)
+        × OctetsInBits mode octets string) }
     ensures string_of { (n : ℕ)
         → IsReading (captured (octets_of n))
         (λ mode octets kept. (kept ≡ octets) × (string : List ℕ)

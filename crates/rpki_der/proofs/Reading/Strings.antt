@@ -174,7 +174,8 @@ joined-more : (x : List ℕ) (o : Option (List (List ℕ)))
 joined-more x None = refl
 joined-more x (Some xs) = refl
 
-after_others-twice : (a b : List ℕ) (o : Option (List ℕ)) → after_others a (after_others b o) ≡ after_others (a ++ b) o
+after_others-twice : (a b : List ℕ) (o : Option (List ℕ))
+    → after_others a (after_others b o) ≡ after_others (a ++ b) o
 after_others-twice a b None = refl
 after_others-twice a b (Some s) =
     ap (λ (t : List ℕ). (let o : Option (List ℕ) = Some t in o)) (sym (append_assoc a b s))
@@ -193,7 +194,12 @@ after_others-none (Some s) = refl
 pub put-none : (p : Parser (List ℕ)) (mode : Mode) (old contents : List ℕ)
     → PutSoFar p mode old old contents contents
 put-none p mode old contents =
-    record { put = []; now_is = sym (append-nil old); left = after_others-none (pieces p mode contents) }
+    record {
+      put = [];
+      now_is = sym (append-nil old);
+      left =
+          after_others-none (pieces p mode contents);
+    }
 
 pieces-more : (p : Parser (List ℕ)) (mode : Mode) → Takes (p mode) → (b x r : List ℕ)
     → p mode b ≡ Some (x, r) → pieces p mode b ≡ after_others x (pieces p mode r)

@@ -5,7 +5,8 @@ use Rattle.std.proofs.lemmas.List.{append-nil}
 use Rattle.rpki_der.specs.declared.mode.Mode.{Mode}
 use Rattle.rpki_der.specs.declared.error.DecodeError.{DecodeError}
 use Rattle.rpki_der.specs.Read.State.{State}
-use Rattle.rpki_der.specs.Read.Parse.{Parser, ◌>>=◌, with_front, all_of, all_at, at_end, primitive, in_value}
+use Rattle.rpki_der.specs.Read.Parse.{Parser, ◌>>=◌, with_front, all_of, all_at, at_end, primitive}
+use Rattle.rpki_der.specs.Read.Parse.{in_value}
 use Rattle.rpki_der.specs.Read.Reads.{Reads, ReadUpTo}
 use Rattle.rpki_der.specs.Grammar.{Items}
 use Rattle.rpki_der.specs.Read.Exact.{IsExact, anything}

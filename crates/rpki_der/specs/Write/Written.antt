@@ -6,8 +6,8 @@ use Rattle.std.proofs.lemmas.Bool.Decides.{nat_tests}
 use Rattle.std.specs.Int.{w32, to_be_bytes}
 use Rattle.rpki_der.specs.Tags.{INTEGER}
 
--- the octets of this length of contents, below 2^32, in the shortest form (X.690, sections 8.1.3 and
--- 10.1)
+-- the octets of this length of contents, below 2^32, in the shortest form (X.690, sections 8.1.3
+-- and 10.1)
 unfoldable pub length_octets : ℕ → List ℕ
 length_octets n =
     if nat_lt n 0x80 then drop 3 (to_be_bytes w32 n)

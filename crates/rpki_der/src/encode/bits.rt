@@ -1,4 +1,5 @@
 ghost use Rattle.std.specs.Prelude.{◌≡◌, ◌^◌, ◌<◌, ◌-◌, ◌%◌};
+ghost use Rattle.rpki_der.specs.Tags.{BIT_STRING};
 ghost use Rattle.rpki_der.specs.Write.Written.{bit_string_contents, unused_bits, zero_bits};
 
 use crate::encode::raw::Raw;
@@ -70,11 +71,11 @@ fn zero_bits(octet: u8, unused: u8) -> u8
     }
 }
 
-/// A BIT STRING (X.690, sections 8.6 and 11.2) of these octets without the `unused` last bits of the last
+/// A BIT STRING (X.690, sections 8.6 and 11.2) of these octets without the last bits of the last
 /// one. More than 7 bits count as 7, and where there is no octet none are left out. The bits that
 /// are left out are written as zeros.
 pub fn bit_string(octets: &[u8], unused: u8) -> Value<Bits<'_>>
-    ensures tag { result.tag.octet ≡ 3 }
+    ensures tag { result.tag.octet ≡ BIT_STRING }
     ensures octets { result.contents.octets.now ≡ octets.now }
     ensures unused { result.contents.unused ≡ unused }
 {

@@ -1,4 +1,5 @@
 ghost use Rattle.std.specs.Prelude.{◌≡◌};
+ghost use Rattle.rpki_der.specs.Tags.{INTEGER};
 ghost use Rattle.rpki_der.specs.Write.Written.{significant, integer_contents, number_octets};
 
 use crate::encode::raw::Raw;
@@ -114,7 +115,7 @@ pub fn integer_u8(n: u8) -> Unsigned
 /// The INTEGER (X.690, section 8.3) that is not negative with these digits to base 256, the highest
 /// one first, in its shortest form. Zeros in front are left out; no digits are zero.
 pub fn integer_of(digits: &[u8]) -> Value<Digits<'_>>
-    ensures tag { result.tag.octet ≡ 2 }
+    ensures tag { result.tag.octet ≡ INTEGER }
     ensures digits { result.contents.0.now ≡ digits.now }
 {
     Value {

@@ -108,7 +108,8 @@ impl<A: Encode, B: Encode, C: Encode, D: Encode, E: Encode, F: Encode> Encode
         × (B.is_der s.1 × (C.is_der s.2 × (D.is_der s.3 × (E.is_der s.4 × F.is_der s.5)))) };
 
     ghost is_short = { λ s. A.is_short s.0
-        × (B.is_short s.1 × (C.is_short s.2 × (D.is_short s.3 × (E.is_short s.4 × F.is_short s.5)))) };
+        × (B.is_short s.1 × (C.is_short s.2
+        × (D.is_short s.3 × (E.is_short s.4 × F.is_short s.5)))) };
 
     ghost small = { λ x. pair_small _ _ (A.small x.0)
         (pair_small _ _ (B.small x.1)

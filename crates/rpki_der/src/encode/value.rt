@@ -1,5 +1,6 @@
 ghost use Rattle.std.specs.Prelude.{◌∷◌, ◌≡◌, ℕ, ◌+◌, ◌<◌, ◌≤◌, ◌^◌, length, OnOk, OnErr};
 ghost use Rattle.std.specs.Io.KnownBytes.{Appends};
+ghost use Rattle.rpki_der.specs.Tags.{SEQUENCE, SET};
 ghost use Rattle.rpki_der.specs.Write.Sink.{AppendsFront};
 ghost use Rattle.rpki_der.specs.Write.Written.{length_octets, value_octets};
 ghost use Rattle.rpki_der.specs.Write.Parts.{contents_small};
@@ -29,7 +30,7 @@ pub fn tagged<T>(tag: Tag, parts: T) -> Value<T>
 
 /// A SET of the parts (X.690, section 8.11), in the order given.
 pub fn set<T>(parts: T) -> Value<T>
-    ensures tag { result.tag.octet ≡ 49 }
+    ensures tag { result.tag.octet ≡ SET }
     ensures contents { result.contents ≡ parts }
 {
     Value {
@@ -40,7 +41,7 @@ pub fn set<T>(parts: T) -> Value<T>
 
 /// A SEQUENCE of the parts (X.690, section 8.9).
 pub fn sequence<T>(parts: T) -> Value<T>
-    ensures tag { result.tag.octet ≡ 48 }
+    ensures tag { result.tag.octet ≡ SEQUENCE }
     ensures contents { result.contents ≡ parts }
 {
     Value {

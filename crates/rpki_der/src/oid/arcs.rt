@@ -57,7 +57,8 @@ pub fn small_arcs(contents: &[u8]) -> Option<(Head, Points<'_>)>
     requires { IsOid contents.now }
     ensures { MatchOption result (are_small (arcs contents.now) ≡ false)
         (λ r. (are_small (arcs contents.now) ≡ true)
-        × (dotted (arcs contents.now) ≡ head_text r.0.0 ++ flat_map point (subidentifiers 0 r.1.octets.now))) }
+        × (dotted (arcs contents.now)
+        ≡ head_text r.0.0 ++ flat_map point (subidentifiers 0 r.1.octets.now))) }
 {
     let (x, others) = subidentifier(FIRST_LIMIT, contents)?;
     if are_small(others) {

@@ -256,7 +256,8 @@ impl<'a> Constructed<'a> {
         requires { F.IsAlwaysCallable op }
         ensures { (r : Result T DecodeError) × (after : State)
             × FnOnceReturnsAtMut F.FnOnce op self.old r after
-            × (result ≡ not_failed r after) × OnOk result (self.new ≡ after) × (self.new.mode ≡ after.mode) }
+            × (result ≡ not_failed r after) × OnOk result (self.new ≡ after)
+            × (self.new.mode ≡ after.mode) }
     {
         match op(self) {
             Err(e) => Err(e),
@@ -298,7 +299,8 @@ impl<'a> Constructed<'a> {
     ) -> Result<T, DecodeError>
         requires { F.IsAlwaysCallable op }
         ensures { (r : Result T DecodeError) × (after : State)
-            × FnOnceReturnsAtMut F.FnOnce op (fresh mode source) r after × (result ≡ closed r after) }
+            × FnOnceReturnsAtMut F.FnOnce op (fresh mode source) r after
+            × (result ≡ closed r after) }
     {
         let mut outer = Constructed {
             mode,

@@ -216,7 +216,8 @@ pub fn any_of(mode: Mode, bytes: &[u8]) -> Option<((u8, &[u8]), &[u8])>
 pub fn place_of(mode: Mode, tag: Tag, bytes: &[u8]) -> Option<(usize, usize, usize)>
     ensures { MatchOption result (value_at tag.octet mode bytes.now ≡ None)
         (λ r. (r.0 ≤ r.1) × (r.1 ≤ length bytes.now) × (r.2 ≤ length bytes.now)
-        × (value_at tag.octet mode bytes.now ≡ Some (slice_range bytes.now r.0 r.1, slice_range bytes.now r.2 (length bytes.now)))) }
+        × (value_at tag.octet mode bytes.now
+        ≡ Some (slice_range bytes.now r.0 r.1, slice_range bytes.now r.2 (length bytes.now)))) }
 {
     let (contents, after) = value_of(mode, tag, bytes)?;
     let next = bytes.len() - after.len();

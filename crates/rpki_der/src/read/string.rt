@@ -10,7 +10,8 @@ use crate::read::skip::DEPTH;
 use crate::tag::Tag;
 use std::alloc::AllocError;
 
-/// Puts the octets of the OCTET STRING in front, which nests at most to this depth, after those of `out`.
+/// Puts the octets of the OCTET STRING in front, which nests at most to this
+/// depth, after those of `out`.
 /// What follows it.
 pub fn append_octets<'s>(
     depth: u32,
@@ -57,7 +58,10 @@ pub fn string_place(
 ) -> Result<Option<usize>, AllocError>
     ensures { IfOk result
         (λ o. MatchOption o (octets_at 32 mode bytes.now ≡ None) (λ end. (end ≤ length bytes.now)
-        × (octets : List ℕ) × (octets_at 32 mode bytes.now ≡ Some (octets, slice_range bytes.now end (length bytes.now))) × (out.new.items ≡ out.old.items ++ octets))) }
+        × (octets : List ℕ)
+        × (octets_at 32 mode bytes.now
+        ≡ Some (octets, slice_range bytes.now end (length bytes.now)))
+        × (out.new.items ≡ out.old.items ++ octets))) }
 {
     match append_octets(DEPTH, mode, bytes, out)? {
         None => Ok(None),
