@@ -17,5 +17,4 @@ pub mod Strings
 pub mod Captures
 pub mod Contents
 pub mod Optional
-pub mod Flags
 pub mod Kinds

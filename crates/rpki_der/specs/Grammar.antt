@@ -155,11 +155,6 @@ OctetStringOf n mode octets string = OctetString mode 32 octets string × (lengt
 abbrev pub OctetsInBits : Mode → List ℕ → List ℕ → Type 0
 OctetsInBits mode octets string = BitString mode octets (string, 0)
 
--- A BOOLEAN that is false where it is left out (8.2). An explicit false is taken in both modes,
--- against 11.5, which is this project's own rule.
-abbrev pub Flag : Mode → List ℕ → Bool → Type 0
-Flag mode octets b = ((octets ≡ []) × (b ≡ false)) ⊎ Boolean mode octets b
-
 -- what may be there, or nothing
 abbrev pub Optional : {X : Type 0} → (List ℕ → X → Type 0) → List ℕ → Option X → Type 0
 Optional G octets None = octets ≡ []

@@ -8,3 +8,4 @@ pub mod Captured
 pub mod Read
 pub mod Write
 pub mod Text
+pub mod Form

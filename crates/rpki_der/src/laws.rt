@@ -9,17 +9,21 @@ ghost use Rattle.rpki_der.specs.Tags.{BOOLEAN, INTEGER, NULL, OBJECT_IDENTIFIER,
 ghost use Rattle.rpki_der.specs.Tags.{SEQUENCE};
 ghost use Rattle.rpki_der.specs.declared.mode.Mode.TheVariants.{Der, Ber};
 ghost use Rattle.rpki_der.specs.declared.mode.Mode.{Mode};
-ghost use Rattle.rpki_der.specs.Read.Parse.{any_at, value_at, primitive, boolean_at, flag_at};
+ghost use Rattle.rpki_der.specs.Read.Parse.{any_at, value_at, primitive, boolean_at};
 ghost use Rattle.rpki_der.specs.Read.Parse.{null_of, oid_at, these, bits_at, octets_in_bits_at};
 ghost use Rattle.rpki_der.specs.Read.Parse.{ia5_at, in_value, optional, many, is_next, skip_at};
 ghost use Rattle.rpki_der.specs.Read.Parse.{skip_opt_at, skip_all_at, at_end, octets_at, octets_of};
 ghost use Rattle.rpki_der.specs.Read.Parse.{u8_at, u32_at, u160_at, this, captured};
 ghost use Rattle.rpki_der.specs.Oid.{IsOid};
-ghost use Rattle.rpki_der.specs.Grammar.{Value, IntegerBelow, Boolean, Flag, Null};
+ghost use Rattle.rpki_der.specs.Form.Law.{IsPart, is};
+ghost use Rattle.rpki_der.specs.Form.Made.{Default, default_at};
+ghost use Rattle.rpki_der.specs.Grammar.{Value, IntegerBelow, Boolean, Null};
 ghost use Rattle.rpki_der.specs.Grammar.{ObjectIdentifier, BitString, OctetsInBits, Ia5String};
 ghost use Rattle.rpki_der.specs.Grammar.{Within, Skipped, ListOf, OctetString, OctetStringOf};
 ghost use Rattle.rpki_der.specs.Grammar.{Items, IsBytes};
 ghost use Rattle.rpki_der.specs.Read.Exact.{IsExact, IsReading, IsOptionalReading};
+
+pub mod forms;
 
 /// What a slice of octets holds is below 256.
 pub fn slices_hold_octets(octets: &[u8])
@@ -60,12 +64,11 @@ pub fn booleans()
     ensures { IsReading boolean_at Boolean }
 {}
 
-/// A BOOLEAN that is false where it is left out (X.690, sections 8.2 and 11.1), where no BOOLEAN
-/// follows.
+/// A BOOLEAN that is false where it is left out (X.690, sections 8.2 and 11.1). An explicit false is
+/// taken in both modes, against section 11.5, which is this project's own rule.
 pub fn flags()
-    ensures exact { (mode : Mode)
-        → IsExact (λ rest. is_next BOOLEAN rest ≡ false) (flag_at mode) (Flag mode) }
-    ensures relaxed { (octets : List ℕ) (b : Bool) → Flag Der octets b → Flag Ber octets b }
+    ensures { IsPart (is BOOLEAN) (is BOOLEAN) (default_at false BOOLEAN boolean_at)
+        (λ mode. Default false (Boolean mode)) }
 {}
 
 /// A NULL (X.690, section 8.8).

@@ -336,15 +336,6 @@ tested test p mode bytes = p mode bytes >>= λ x. if test x.0 then Some x else N
 abbrev pub octets_of : ℕ → Parser (List ℕ)
 octets_of n = tested (λ octets. length octets == n) (octets_at 32)
 
--- false, where no truth value is there
-abbrev pub or_false : Option Bool → Bool
-or_false None = false
-or_false (Some b) = b
-
--- a BOOLEAN that is false where it is left out
-unfoldable pub flag_at : Parser Bool
-flag_at mode bytes = optional BOOLEAN boolean_at mode bytes >>= λ b. Some (or_false b.0, b.1)
-
 -- past the next value, whatever it is, or nothing at the end
 unfoldable pub skip_opt_at : Parser (Option (Unit {0}))
 skip_opt_at mode [] = Some (None, [])

@@ -1,11 +1,12 @@
 //! Values whose contents are understood: numbers, truth values, identifiers, strings.
 
-ghost use Rattle.std.specs.Prelude.{◌≡◌, ◌<◌, length, IfOk, IfSome, Some};
+ghost use Rattle.std.specs.Prelude.{◌≡◌, ◌<◌, length, IfOk, IfSome, Some, false};
 ghost use Rattle.rpki_der.specs.Tags.{BOOLEAN, INTEGER, NULL, OBJECT_IDENTIFIER, IA5_STRING};
-ghost use Rattle.rpki_der.specs.Read.Parse.{octets_at, u8_at, u32_at, u160_at, boolean_at, flag_at};
+ghost use Rattle.rpki_der.specs.Read.Parse.{octets_at, u8_at, u32_at, u160_at, boolean_at};
 ghost use Rattle.rpki_der.specs.Read.Parse.{null_of, oid_at, these, bits_at, octets_in_bits_at};
 ghost use Rattle.rpki_der.specs.Read.Parse.{octets_of, ia5_at, this, primitive, optional};
 ghost use Rattle.rpki_der.specs.Numbers.{number};
+ghost use Rattle.rpki_der.specs.Form.Made.{default_at};
 ghost use Rattle.rpki_der.specs.Read.Reads.{Reads, Stays, OnlyMalformed, OnlyMalformedOrMemory};
 
 use crate::bit_string::BitString;
@@ -128,9 +129,8 @@ impl<'a> Constructed<'a> {
 
     /// Reads a BOOLEAN that is false where it is left out (X.690, sections 8.2 and 11.1). An
     /// explicit false is taken too. Refuses by `Malformed`.
-    #[tactic(auto, unfolding(crate::specs::Read::Parse::flag_at))]
     pub fn take_flag(&mut self) -> Result<bool, DecodeError>
-        ensures reads { Reads (λ b. b) flag_at self.old result self.new }
+        ensures reads { Reads (λ b. b) (default_at false BOOLEAN boolean_at) self.old result self.new }
         ensures stays { Stays result self.new }
         ensures refused { OnlyMalformed self.old result }
     {

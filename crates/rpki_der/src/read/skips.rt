@@ -33,17 +33,11 @@ impl<'a> Constructed<'a> {
         ensures refused { OnlyMalformed self.old result }
     {
         self.check()?;
-        let rest = self.rest();
-        if rest.is_empty() {
+        if self.rest().is_empty() {
             return Ok(None);
         }
-        match skip_place(self.mode(), rest) {
-            None => Err(self.refuse()),
-            Some(end) => {
-                self.go_to(end);
-                Ok(Some(()))
-            }
-        }
+        self.skip_one()?;
+        Ok(Some(()))
     }
 
     /// Goes past all values that are left, each as `skip_one` does. Refuses by `Malformed`.
