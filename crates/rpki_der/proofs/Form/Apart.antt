@@ -4,8 +4,8 @@ use Rattle.std.proofs.Common.{sym, ap, ◌∙◌, eq-eqb}
 use Rattle.std.specs.Prelude.{not, ◌&&◌, ◌||◌, ◌==◌, ◌⊎◌}
 use Rattle.std.proofs.lemmas.Bool.{eqb-true, ne_eqb}
 use Rattle.rpki_der.specs.Read.Parse.{is_next}
-use Rattle.rpki_der.specs.Form.Law.{TagSet, every, only, is, or, is_one_of, has, NoneNext, StartsIn}
-use Rattle.rpki_der.specs.Form.Law.{Starts, are_apart}
+use Rattle.rpki_der.specs.Form.Law.{TagSet, every, only, is, or, is_one_of, has, NoneNext}
+use Rattle.rpki_der.specs.Form.Law.{StartsIn, Starts, are_apart}
 
 and-true : (a b : Bool) → (a && b) ≡ true → (a ≡ true) × (b ≡ true)
 and-true true b e = (refl, e)

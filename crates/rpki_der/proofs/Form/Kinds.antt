@@ -8,8 +8,8 @@ use Rattle.rpki_der.specs.Grammar.{BitString, Ia5String, OctetString, Skipped}
 use Rattle.rpki_der.proofs.Reading.Kinds.{reading-u8, reading-u32, reading-this, reading-boolean}
 use Rattle.rpki_der.proofs.Reading.Kinds.{reading-null, reading-oid, reading-bits, reading-ia5}
 use Rattle.rpki_der.proofs.Reading.Kinds.{reading-octets, reading-contents, reading-skipped}
-use Rattle.rpki_der.specs.Tags.{BOOLEAN, INTEGER, BIT_STRING, OCTET_STRING, OCTET_STRING_IN_PIECES}
-use Rattle.rpki_der.specs.Tags.{NULL, OBJECT_IDENTIFIER, IA5_STRING}
+use Rattle.rpki_der.specs.Tags.{BOOLEAN, INTEGER, BIT_STRING, OCTET_STRING}
+use Rattle.rpki_der.specs.Tags.{OCTET_STRING_IN_PIECES, NULL, OBJECT_IDENTIFIER, IA5_STRING}
 use Rattle.rpki_der.specs.Form.Law.{every, nothing, is, or, StartsIn, IsPart}
 use Rattle.rpki_der.proofs.Form.Apart.{in-left, in-right}
 use Rattle.rpki_der.proofs.Form.Fields.{starts-value}

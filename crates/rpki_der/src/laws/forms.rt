@@ -2,14 +2,14 @@
 //! in it in DER is in it
 //! in BER, so it is with what the words make of it.
 
-ghost use Rattle.std.specs.Prelude.{◌≡◌, ℕ, List, Bool, true, Option};
+ghost use Rattle.std.specs.Prelude.{◌≡◌, ℕ, List, Bool, true, false, Option};
 ghost use Rattle.rpki_der.specs.declared.mode.Mode.{Mode};
 ghost use Rattle.rpki_der.specs.Grammar.{Within, Items, Optional, IsUnique};
 ghost use Rattle.rpki_der.specs.Read.Parse.{Parser, in_value, optional, all_at, tested};
 ghost use Rattle.rpki_der.specs.Form.Parts.{items_at};
-ghost use Rattle.rpki_der.specs.Form.Made.{Made, Partly, Ignored, Kept, Default, made, partly};
-ghost use Rattle.rpki_der.specs.Form.Made.{ignored, kept, default_at};
-ghost use Rattle.rpki_der.specs.Form.Law.{TagSet, IsPart, nothing, every, is};
+ghost use Rattle.rpki_der.specs.Form.Made.{Made, Partly, Ignored, Kept, Default, Choice, choice_at};
+ghost use Rattle.rpki_der.specs.Form.Made.{made, partly, ignored, kept, default_at};
+ghost use Rattle.rpki_der.specs.Form.Law.{TagSet, IsPart, nothing, every, is, or, has};
 
 /// A part of a form, and what reads it.
 pub trait Part {
@@ -31,6 +31,21 @@ pub fn optional_parts<T: Part>()
     ensures default { (tag : ℕ) (default : T) → IsPart (is tag) nothing T.at T.form
         → IsPart (is tag) (is tag) (default_at default tag T.at)
         (λ mode. Default default (T.form mode)) }
+{}
+
+/// Another part of a form, beside the first.
+pub trait Other {
+    ghost at: { Parser Self };
+
+    ghost form: { Mode → List ℕ → Self → Type 0 };
+}
+
+/// CHOICE of two kinds with different tags (X.690, section 8.13).
+pub fn chosen_parts<T: Part + Other>()
+    ensures { (tag : ℕ) (second : TagSet) → IsPart (is tag) nothing T.Part.at T.Part.form
+        → IsPart second nothing T.Other.at T.Other.form → has second tag ≡ false
+        → IsPart (or (is tag) second) nothing (choice_at tag T.Part.at T.Other.at)
+        (λ mode. Choice (T.Part.form mode) (T.Other.form mode)) }
 {}
 
 /// A value with a tag that holds a part: EXPLICIT, and SEQUENCE or SET of one part (X.690, sections
