@@ -27,6 +27,3 @@ pub use mode::{Mode, Tag};
 pub use oid::Oid;
 pub use read::Constructed;
 pub use stream::{Counted, Sink, SinkFailed, Source, SourceError, SourceFailed};
-
-#[cfg(test)]
-mod tests;
