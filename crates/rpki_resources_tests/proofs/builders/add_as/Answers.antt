@@ -1,7 +1,7 @@
 use Rattle.rpki_resources.specs.As.{as_range}
 use Rattle.rpki_resources.specs.Blocks.{IsBlock}
-use Rattle.rpki_resources.proofs.Copies.{all_copied}
-use Rattle.rpki_resources.proofs.tests.add_as.Goals as goal
+use Rattle.rpki_resources_tests.proofs.Copies.{all_copied}
+use Rattle.rpki_resources_tests.proofs.builders.add_as.Goals as goal
 
 pub extend-requires-clause-ordered : goal.extend-requires-clause-ordered
 extend-requires-clause-ordered c =

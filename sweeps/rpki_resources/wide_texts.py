@@ -1,19 +1,13 @@
 #!/usr/bin/env python3
-"""Writes a test of the crate's texts against the 10,000 rows of addresses.py.
-
-    tools/texts_test.py FOLDER
-
-FOLDER is a copy of the crate rpki_resources, whose src/tests.rt is replaced; `rt try --test` there
-compares the texts of the addresses and of the prefixes with Python's.
-"""
+"""Writes a module of tests that compares the texts of addresses and prefixes with the 10,000 rows of tools/addresses.py."""
 import pathlib
 import subprocess
 import sys
 
-HERE = pathlib.Path(__file__).parent
-HEAD = '''//! Rows of texts.
+TOP = pathlib.Path(__file__).resolve().parent.parent.parent
+HEAD = '''//! Rows of texts, as Python has them.
 
-use crate::{Addr, AddressFamily, Prefix};
+use rpki_resources::{Addr, AddressFamily, Prefix};
 use std::alloc::Global;
 use std::test::Fail;
 
@@ -53,21 +47,18 @@ fn compare(alloc: Global, rows: &str) -> Result<(u32, u32), Fail> {
 
 
 def main():
-    rows = subprocess.run([sys.executable, HERE / "addresses.py", "rows"], capture_output=True, text=True, check=True)
+    rows = subprocess.run([sys.executable, TOP / "tools" / "addresses.py", "rows"], capture_output=True, text=True, check=True)
     rows = rows.stdout.splitlines()
-    parts = [rows[i:i + 500] for i in range(0, len(rows), 500)]
-    text = HEAD
-    for number, part in enumerate(parts):
-        text += f'''
-#[test]
+    print(HEAD)
+    for number, part in enumerate(rows[i:i + 500] for i in range(0, len(rows), 500)):
+        print(f'''#[test]
 fn rows_{number}(rt: HostRuntime) -> Result<(), Fail> {{
     assert_eq!(rt; compare(rt.alloc(), ROWS_{number})?, ({len(part)}, {len(part)}));
     Ok(())
 }}
 
 const ROWS_{number}: &str = "{';'.join(part)}";
-'''
-    (pathlib.Path(sys.argv[1]) / "src" / "tests.rt").write_text(text)
+''')
 
 
 main()
