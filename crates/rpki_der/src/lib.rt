@@ -31,6 +31,3 @@ pub use read::Constructed;
 pub use reason::Reason;
 pub use stream::{Counted, Sink, SinkFailed, Source, SourceError, SourceFailed};
 pub use tag::Tag;
-
-#[cfg(test)]
-mod tests;
