@@ -2,7 +2,7 @@
 use Rattle.std.specs.Prelude.{◌≡◌, ℕ, ◌+◌, ◌<◌, ◌^◌, List, length, Option, Result, Ok, Err, Vec}
 use Rattle.std.specs.declared.alloc.Global.{Global}
 use Rattle.std.specs.Io.KnownBytes.{Appends, Keeps}
-use Rattle.rpki_der.specs.Sink.{AppendsFront}
+use Rattle.rpki_der.specs.Write.Sink.{AppendsFront}
 use Rattle.rpki_der.specs.declared.encode.EncodeError.{EncodeError}
 use Rattle.rpki_der.specs.declared.encode.EncodeError.TheVariants.{NotDer, TooLong, Io, Memory}
 
@@ -22,15 +22,20 @@ IsLenOf der short octets (Err Memory) = ⊥
 abbrev pub Sunk : Type 0
 Sunk = Option (List ℕ) × ℕ
 
--- A sink before a call and after it. All octets are written, or a beginning of them where a call of the sink has failed, and none for the two faults.
-abbrev pub IsWritten : Type 0 → Type 0 → List ℕ → Sunk → Sunk → Result (Unit {0}) EncodeError → Type 0
-IsWritten der short octets old new (Ok u) = Appends old.0 new.0 octets × (new.1 ≡ old.1) × der × Fits short octets
+-- A sink before a call and after it. All octets are written, or a beginning of them where a call of
+-- the sink has failed, and none for the two faults.
+abbrev pub IsWritten : Type 0 → Type 0 → List ℕ → Sunk → Sunk → Result (Unit {0}) EncodeError
+    → Type 0
+IsWritten der short octets old new (Ok u) = Appends old.0 new.0 octets × (new.1 ≡ old.1) × der
+    × Fits short octets
 IsWritten der short octets old new (Err NotDer) = Keeps old.0 new.0 × (new.1 ≡ old.1) × ¬ der
-IsWritten der short octets old new (Err TooLong) = Keeps old.0 new.0 × (new.1 ≡ old.1) × ¬ (Fits short octets)
-IsWritten der short octets old new (Err Io) = AppendsFront old.0 new.0 octets × (new.1 ≡ old.1 + 1) × der × Fits short octets
+IsWritten der short octets old new (Err TooLong) = Keeps old.0 new.0 × (new.1 ≡ old.1)
+    × ¬ (Fits short octets)
+IsWritten der short octets old new (Err Io) = AppendsFront old.0 new.0 octets × (new.1 ≡ old.1 + 1)
+    × der × Fits short octets
 IsWritten der short octets old new (Err Memory) = ⊥
 
--- the octets, or want of memory, or one of the two faults
+-- the octets, or Memory, or one of the two faults
 abbrev pub IsBytesOf : Type 0 → Type 0 → List ℕ → Result (Vec ℕ Global) EncodeError → Type 0
 IsBytesOf der short octets (Ok v) = (v.items ≡ octets) × der × Fits short octets
 IsBytesOf der short octets (Err NotDer) = ¬ der

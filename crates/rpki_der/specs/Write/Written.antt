@@ -1,10 +1,13 @@
 -- The octets that values are written as in DER.
-use Rattle.std.specs.Prelude.{ℕ, ◌+◌, ◌-◌, ◌%◌, ◌≤◌, List, [], ◌∷◌, ◌++◌, length, drop, ◌^◌, Bool, nat_lt, ◌==◌, if◌then◌else◌}
+use Rattle.std.specs.Prelude.{ℕ, ◌+◌, ◌-◌, ◌%◌, ◌≤◌, List, [], ◌∷◌, ◌++◌, length, drop, ◌^◌, Bool}
+use Rattle.std.specs.Prelude.{nat_lt, ◌==◌, if◌then◌else◌}
 use Rattle.std.proofs.Common.{arith, length-append}
 use Rattle.std.proofs.lemmas.Bool.Decides.{nat_tests}
 use Rattle.std.specs.Int.{w32, to_be_bytes}
+use Rattle.rpki_der.specs.Tags.{INTEGER}
 
--- the length octets of so many contents octets, fewer than 2^32, in the shortest form
+-- the octets of this length of contents, below 2^32, in the shortest form (X.690, sections 8.1.3
+-- and 10.1)
 unfoldable pub length_octets : ℕ → List ℕ
 length_octets n =
     if nat_lt n 0x80 then drop 3 (to_be_bytes w32 n)
@@ -31,20 +34,22 @@ abbrev pub not_negative : List ℕ → List ℕ
 not_negative [] = 0 ∷ []
 not_negative (d ∷ ds) = if nat_lt d 128 then d ∷ ds else 0 ∷ d ∷ ds
 
--- X.690, 8.3: the shortest contents of an INTEGER that is not negative and has these digits to base 256
+-- X.690, 8.3: the shortest contents of an INTEGER that is not negative and has these digits to base
+-- 256
 abbrev pub integer_contents : List ℕ → List ℕ
 integer_contents digits = not_negative (significant digits)
 
--- X.690, 8.6.2: how many bits of the last octet are not used: 7 at most, and none where there is no octet
+-- X.690, 8.6.2: how many bits of the last octet are not used: 7 at most, and none where there is no
+-- octet
 abbrev pub unused_bits : List ℕ → ℕ → ℕ
 unused_bits [] unused = 0
 unused_bits (octet ∷ octets) unused = if nat_lt unused 8 then unused else 7
 
--- an octet with zeros for so many of its lowest bits
+-- an octet with zeros for its unused lowest bits
 abbrev pub zero_bits : ℕ → ℕ → ℕ
 zero_bits octet unused = octet - octet % (2 ^ unused)
 
--- X.690, 11.2.1: octets with zeros for so many of the lowest bits of the last one
+-- X.690, 11.2.1: octets with zeros for the unused lowest bits of the last one
 abbrev pub zero_last : List ℕ → ℕ → List ℕ
 zero_last [] unused = []
 zero_last (octet ∷ []) unused = zero_bits octet unused ∷ []
@@ -52,16 +57,23 @@ zero_last (octet ∷ next ∷ octets) unused = octet ∷ zero_last (next ∷ oct
 
 -- X.690, 8.6.2: the contents of a BIT STRING
 abbrev pub bit_string_contents : List ℕ → ℕ → List ℕ
-bit_string_contents octets unused = unused_bits octets unused ∷ zero_last octets (unused_bits octets unused)
+bit_string_contents octets unused =
+    unused_bits octets unused ∷ zero_last octets (unused_bits octets unused)
 
 -- an INTEGER of 32 bits
 unfoldable pub number_octets : ℕ → List ℕ
-number_octets n = value_octets 0x02 (integer_contents (to_be_bytes w32 n))
+number_octets n = value_octets INTEGER (integer_contents (to_be_bytes w32 n))
 
 pub length_octets_le : (n : ℕ) → length (length_octets n) ≤ 5
 unfolding length_octets
 length_octets_le n = grind (arith, nat_tests)
 
 -- a header has six octets at most
-pub length_value_octets_le : (identifier : ℕ) (contents : List ℕ) → length (value_octets identifier contents) ≤ length contents + 6
-length_value_octets_le identifier contents = omega (arith, length-append (length_octets (length contents)) contents, length_octets_le (length contents))
+pub length_value_octets_le : (identifier : ℕ) (contents : List ℕ)
+    → length (value_octets identifier contents) ≤ length contents + 6
+length_value_octets_le identifier contents =
+    omega (
+      arith,
+      length-append (length_octets (length contents)) contents,
+      length_octets_le (length contents),
+    )
