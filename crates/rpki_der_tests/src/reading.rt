@@ -1,9 +1,8 @@
 //! Rows of octets that a reader takes and refuses.
 
 use bytes::Bytes;
-use rpki_der::{Constructed, DecodeError, Mode, Tag};
+use rpki_der::{Captured, Constructed, DecodeError, Mode, Tag};
 use std::alloc::{AllocError, Global};
-use std::test::Fail;
 
 /// Both modes.
 pub const MODES: [Mode; 2] = [Mode::Der, Mode::Ber];
@@ -43,6 +42,7 @@ pub enum Found {
     Truth(bool),
     Octets(Bytes),
     Bits(Bytes, u8),
+    Kept(Captured, Mode),
 }
 
 /// What it should answer.
@@ -152,12 +152,7 @@ fn take_parts(cons: &mut Constructed<'_>, call: Call) -> Result<Found, DecodeErr
         }
         _ => {
             let mode = cons.mode();
-            let kept = cons.capture(skip)?;
-            if kept.mode() == mode {
-                Ok(Found::Octets(kept.into_bytes()))
-            } else {
-                Ok(Found::Done)
-            }
+            Ok(Found::Kept(cons.capture(skip)?, mode))
         }
     }
 }
@@ -185,6 +180,9 @@ fn is_found(found: &Found, want: Want) -> bool {
         (Found::Number(n), Want::Number(m)) => *n == m,
         (Found::Truth(b), Want::Truth(c)) => *b == c,
         (Found::Octets(octets), Want::Octets(others)) => octets.as_slice() == others,
+        (Found::Kept(kept, mode), Want::Octets(others)) => {
+            kept.as_slice() == others && kept.mode() == *mode
+        }
         (Found::Bits(octets, unused), Want::Bits(others, n)) => {
             octets.as_slice() == others && *unused == n
         }
@@ -447,18 +445,19 @@ pub fn wrong_row(alloc: Global, mode: Mode, rows: &[Row]) -> Result<Option<usize
     Ok(None)
 }
 
-#[test]
-fn rows(rt: HostRuntime) -> Result<(), Fail> {
-    for mode in MODES {
-        for table in [READ.as_slice(), OTHERS.as_slice(), WRONG.as_slice()] {
-            assert_eq!(rt; wrong_row(rt.alloc(), mode, table)?, None);
+/// Whether these rows are answered as they should be, in both modes.
+fn are_answered(alloc: Global, rows: &[Row]) -> Result<bool, AllocError> {
+    Ok(wrong_row(alloc, Mode::Der, rows)?.is_none() && wrong_row(alloc, Mode::Ber, rows)?.is_none())
+}
+
+/// Whether DER refuses these octets.
+fn are_refused(alloc: Global, rows: &[Row]) -> Result<bool, AllocError> {
+    for (call, octets, _) in rows {
+        if !is_so(alloc, Mode::Der, *call, octets, Want::Refused)? {
+            return Ok(false);
         }
     }
-    assert_eq!(rt; wrong_row(rt.alloc(), Mode::Ber, &RELAXED)?, None);
-    for (call, octets, _) in &RELAXED {
-        assert!(rt; is_so(rt.alloc(), Mode::Der, *call, octets, Want::Refused)?);
-    }
-    Ok(())
+    Ok(true)
 }
 
 /// Values of this identifier and indefinite length round these octets, one in the other.
@@ -474,19 +473,26 @@ pub fn nested(alloc: Global, tag: u8, n: usize, inner: &[u8]) -> Result<Vec<u8>,
     Ok(octets)
 }
 
-/// 32 levels are read, and 33 are refused: a value round n others has one level more.
+/// Whether a string in pieces is read, and skipped, or not: a value round n others has one level
+/// more.
+fn is_deep(alloc: Global, n: usize, string: Want, skipped: Want) -> Result<bool, AllocError> {
+    let pieces = nested(alloc, 0x24, n, &[4, 1, 0x41])?;
+    Ok(
+        is_so(alloc, Mode::Ber, Call::Octets, &pieces, string)?
+            && is_so(alloc, Mode::Ber, Call::SkipOne, &pieces, skipped)?,
+    )
+}
+
 #[test]
-fn depths(rt: HostRuntime) -> Result<(), Fail> {
+fn rows(rt: HostRuntime) -> Result<(), AllocError> {
     let alloc = rt.alloc();
-    let rows = [
-        (30, Want::Octets(b"A"), Want::Done),
-        (31, Want::Octets(b"A"), Want::Done),
-        (32, Want::Refused, Want::Refused),
-    ];
-    for (n, string, skipped) in rows {
-        let pieces = nested(alloc, 0x24, n, &[4, 1, 0x41])?;
-        assert!(rt; is_so(alloc, Mode::Ber, Call::Octets, &pieces, string)?);
-        assert!(rt; is_so(alloc, Mode::Ber, Call::SkipOne, &pieces, skipped)?);
-    }
+    assert!(rt; are_answered(alloc, &READ)?);
+    assert!(rt; are_answered(alloc, &WRONG)?);
+    assert!(rt; are_answered(alloc, &OTHERS)?);
+    assert!(rt; wrong_row(alloc, Mode::Ber, &RELAXED)?.is_none());
+    assert!(rt; are_refused(alloc, &RELAXED)?);
+    // 32 levels are read, and 33 are refused
+    assert!(rt; is_deep(alloc, 31, Want::Octets(b"A"), Want::Done)?);
+    assert!(rt; is_deep(alloc, 32, Want::Refused, Want::Refused)?);
     Ok(())
 }

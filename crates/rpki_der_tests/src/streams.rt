@@ -2,18 +2,19 @@
 
 use rpki_der::encode::{Encode, EncodeError, integer, octet_string, sequence, set};
 use rpki_der::{Counted, Sink, Source, SourceError};
-use std::alloc::AllocError;
+use std::alloc::{AllocError, Global};
 use std::io;
 use std::io::ErrorKind;
-use std::test::Fail;
 
-/// Takes or gives one octet a call. The call of this number fails, and later ones do not.
+/// Takes or gives one octet a call, or takes none at all. The call of this number fails, and later
+/// ones do not.
 #[derive(Drop)]
 struct Drip {
     octets: Vec<u8>,
     at: usize,
     calls: usize,
     fails_at: usize,
+    is_full: bool,
 }
 
 impl Drip {
@@ -23,6 +24,7 @@ impl Drip {
             at: 0,
             calls: 0,
             fails_at,
+            is_full: false,
         }
     }
 
@@ -38,6 +40,9 @@ impl Drip {
 impl io::Write for Drip {
     fn write(&mut self, buf: &[u8]) -> io::Result<usize> {
         self.call()?;
+        if self.is_full {
+            return Ok(0);
+        }
         let n = buf.len().min(1);
         self.octets.extend_from_slice(&buf[..n])?;
         Ok(n)
@@ -59,65 +64,73 @@ impl io::Read for Drip {
     }
 }
 
-/// Takes nothing, and does not fail.
-#[derive(Drop)]
-struct Full;
-
-impl io::Write for Full {
-    fn write(&mut self, _buf: &[u8]) -> io::Result<usize> {
-        Ok(0)
-    }
-
-    fn flush(&mut self) -> io::Result<()> {
-        Ok(())
-    }
-}
-
 static WHOLE: [u8; 13] = [0x30, 0x0B, 2, 2, 0, 0x80, 0x31, 5, 4, 3, 7, 7, 7];
 
-#[test]
-fn sinks(rt: HostRuntime) -> Result<(), Fail> {
+/// Whether a sink that fails at this call, or at none, has taken what was written before.
+fn is_taken(alloc: Global, fails_at: usize) -> Result<bool, AllocError> {
     let value = sequence((integer(128), set(octet_string(&[7, 7, 7]))));
-    for k in 0..14usize {
-        let room = Vec::with_capacity(rt.alloc(), 13)?;
-        let mut sink = Counted::new(Drip::new(room, k));
-        let is_io = match value.write_to(&mut sink) {
-            Err(EncodeError::Io) => true,
-            _ => false,
-        };
-        assert_eq!(rt; is_io, k > 0);
-        let taken = if k == 0 { 13 } else { k - 1 };
-        assert_eq!(rt; Some(sink.inner.octets.as_slice()), WHOLE.get(..taken));
-        assert_eq!(rt; sink.inner.calls, if k == 0 { 13 } else { k });
-    }
-    let mut full = Counted::new(Full);
-    assert!(rt; full.take(&[1]).is_err() && full.take(&[]).is_ok_and(|n| n == 0));
-    let mut taken = Counted::new(Vec::with_capacity(rt.alloc(), 15)?);
-    (&mut taken).take_all(&[1, 2])?;
-    assert_eq!(rt; taken.inner.as_slice(), [1u8, 2].as_slice());
-    Ok(())
+    let mut sink = Counted::new(Drip::new(Vec::with_capacity(alloc, 13)?, fails_at));
+    let (is_io, calls) = match value.write_to(&mut sink) {
+        Ok(()) => (false, 14),
+        Err(EncodeError::Io) => (true, fails_at),
+        Err(_) => (true, 0),
+    };
+    let taken = Some(sink.inner.octets.as_slice()) == WHOLE.get(..calls.saturating_sub(1));
+    Ok(taken && is_io == (fails_at > 0) && sink.inner.calls == calls.min(13))
 }
 
-/// All octets of a source of any kind.
-fn read_on<S: Source + Drop>(rt: &HostRuntime, source: S) -> Result<Vec<u8>, SourceError> {
+/// Whether a write that takes nothing fails, unless nothing was to be written.
+fn is_refused(alloc: Global) -> bool {
+    let mut full = Counted::new(Drip::new(Vec::new(alloc), 0));
+    full.inner.is_full = true;
+    match (full.take(&[1]), full.take(&[])) {
+        (Err(_), Ok(0)) => true,
+        _ => false,
+    }
+}
+
+/// What a sink behind a reference has taken.
+fn taken(alloc: Global, octets: &[u8]) -> Result<Option<Vec<u8>>, AllocError> {
+    let mut sink = Counted::new(Vec::with_capacity(alloc, octets.len())?);
+    match (&mut sink).take_all(octets) {
+        Ok(()) => Ok(Some(sink.into_inner())),
+        Err(_) => Ok(None),
+    }
+}
+
+/// Whether all octets of a source of any kind are these. Want of memory is handed on.
+fn is_read<S: Source + Drop>(alloc: Global, source: S, want: &[u8]) -> Result<bool, AllocError> {
     let mut source = source;
-    source.read_all(rt.alloc())
+    match source.read_all(alloc) {
+        Ok(all) => Ok(all.as_slice() == want),
+        Err(SourceError::Io) => Ok(false),
+        Err(SourceError::Memory) => Err(AllocError),
+    }
+}
+
+/// Whether a source gives its octets, unless one of its calls fails.
+fn is_given(alloc: Global, fails_at: usize) -> Result<bool, AllocError> {
+    let octets = [3u8, 1, 4, 1, 5];
+    let mut source = Counted::new(Drip::new(Vec::from_slice(alloc, &octets)?, fails_at));
+    let is_whole = is_read(alloc, &mut source, &octets)?;
+    let calls = if fails_at == 0 { 6 } else { fails_at };
+    Ok(is_whole == (fails_at == 0) && source.inner.calls == calls)
 }
 
 #[test]
-fn sources(rt: HostRuntime) -> Result<(), Fail> {
-    let octets = [3u8, 1, 4, 1, 5];
-    for k in 0..7usize {
-        let mut source = Counted::new(Drip::new(Vec::from_slice(rt.alloc(), &octets)?, k));
-        match source.read_all(rt.alloc()) {
-            Ok(all) => assert!(rt; k == 0 && all.as_slice() == octets.as_slice()),
-            Err(SourceError::Io) => assert!(rt; k > 0 && source.inner.calls == k),
-            Err(SourceError::Memory) => return Err(Fail::from(AllocError)),
-        }
+fn streams(rt: HostRuntime) -> Result<(), AllocError> {
+    let alloc = rt.alloc();
+    for k in 0..14usize {
+        assert!(rt; is_taken(alloc, k)?);
     }
-    let large = vec![in rt.alloc(); 6u8; 2000]?;
-    let mut many = Counted::new(large.as_slice());
-    assert_eq!(rt; read_on(&rt, &mut many)?.as_slice(), large.as_slice());
-    assert_eq!(rt; many.read(&mut [0u8; 4])?, 0);
+    for k in 0..7usize {
+        assert!(rt; is_given(alloc, k)?);
+    }
+    assert!(rt; is_refused(alloc));
+    assert!(rt;
+        taken(alloc, &[1, 2])?.is_some_and(|octets| octets.as_slice() == [1u8, 2].as_slice())
+    );
+    let large = vec![in alloc; 6u8; 2000]?;
+    assert!(rt; is_read(alloc, Counted::new(large.as_slice()), &large)?);
     Ok(())
 }

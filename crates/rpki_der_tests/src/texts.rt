@@ -2,7 +2,7 @@
 
 use bytes::Bytes;
 use rpki_der::{ContentFault, DecodeError, InvalidSignedAttr, LowerHex, Oid, Reason};
-use std::test::Fail;
+use std::alloc::{AllocError, Global};
 
 /// The contents of an OBJECT IDENTIFIER, and its text.
 static IDENTIFIERS: [(&[u8], &str); 13] = [
@@ -31,58 +31,66 @@ static IDENTIFIERS: [(&[u8], &str); 13] = [
     ),
 ];
 
-#[test]
-fn identifiers(rt: HostRuntime) -> Result<(), Fail> {
+fn are_identifiers(alloc: Global) -> Result<bool, AllocError> {
     for (contents, want) in &IDENTIFIERS {
-        let oid = Oid::from_bytes(Bytes::copy_from_slice(rt.alloc(), contents)?);
-        let oid = oid.ok_or("an identifier")?;
-        assert_eq!(rt; format!(in rt.alloc(); "{oid}")?.as_str(), *want);
+        match Oid::from_bytes(Bytes::copy_from_slice(alloc, contents)?) {
+            Some(oid) if format!(in alloc; "{oid}")?.as_str() == *want => {}
+            _ => return Ok(false),
+        }
     }
-    Ok(())
+    Ok(true)
+}
+
+fn is_told(alloc: Global, error: DecodeError, want: &str) -> Result<bool, AllocError> {
+    Ok(format!(in alloc; "{error}")?.as_str() == want)
+}
+
+/// Whether a fault that holds an identifier is told with its text, and gives it back.
+fn is_attribute_told(alloc: Global) -> Result<bool, AllocError> {
+    match Oid::from_bytes(Bytes::copy_from_slice(alloc, &[0x2A, 0x03])?) {
+        None => Ok(false),
+        Some(oid) => {
+            let attr = InvalidSignedAttr::new(alloc, oid)?;
+            let is_kept = attr.oid().as_slice() == [0x2Au8, 0x03].as_slice();
+            let fault = DecodeError::Content(ContentFault::InvalidSignedAttr(attr));
+            Ok(is_kept && is_told(alloc, fault, "invalid extension 1.2.3")?)
+        }
+    }
 }
 
 #[test]
-fn errors(rt: HostRuntime) -> Result<(), Fail> {
-    let oid = Oid::from_bytes(Bytes::copy_from_slice(rt.alloc(), &[0x2A, 0x03])?);
-    let attr = InvalidSignedAttr::new(rt.alloc(), oid.ok_or("an identifier")?)?;
-    assert_eq!(rt; attr.oid().as_slice(), [0x2Au8, 0x03].as_slice());
-    let errors = [
-        (DecodeError::Malformed, "malformed"),
-        (DecodeError::Memory, "out of memory"),
-        (
-            DecodeError::Content(ContentFault::Text(Reason::NoProviders)),
-            "no providers",
-        ),
-        (
-            DecodeError::Content(ContentFault::InvalidSignedAttr(attr)),
-            "invalid extension 1.2.3",
-        ),
-    ];
-    for (error, want) in errors {
-        assert_eq!(rt; format!(in rt.alloc(); "{error}")?.as_str(), want);
-    }
+fn texts(rt: HostRuntime) -> Result<(), AllocError> {
+    let alloc = rt.alloc();
+    assert!(rt; are_identifiers(alloc)?);
+    assert!(rt; is_told(alloc, DecodeError::Malformed, "malformed")?);
+    assert!(rt; is_told(alloc, DecodeError::Memory, "out of memory")?);
+    let fault = ContentFault::Text(Reason::NoProviders);
+    assert!(rt; is_told(alloc, DecodeError::Content(fault), "no providers")?);
+    assert!(rt; is_attribute_told(alloc)?);
     let hex = LowerHex(&[0x00, 0x9A, 0xFF]);
-    assert_eq!(rt; format!(in rt.alloc(); "{hex}")?.as_str(), "009aff");
+    assert!(rt; format!(in alloc; "{hex}")?.as_str() == "009aff");
     Ok(())
 }
+
+/// What is not allowed, and its text.
+static REASONS: [(Reason, &str); 6] = [
+    (Reason::CustomerAs0, "customer is AS0"),
+    (Reason::NoProviders, "no providers"),
+    (Reason::TooManyProviders { most: 7 }, "too many providers"),
+    (
+        Reason::ProvidersNotAscending,
+        "providers not in ascending order",
+    ),
+    (
+        Reason::CustomerAmongProviders,
+        "customer among its providers",
+    ),
+    (Reason::As0BesideOthers, "AS0 beside other providers"),
+];
 
 #[test]
 fn reasons(rt: HostRuntime) {
-    let rows = [
-        (Reason::CustomerAs0, "customer is AS0"),
-        (Reason::NoProviders, "no providers"),
-        (Reason::TooManyProviders { most: 7 }, "too many providers"),
-        (
-            Reason::ProvidersNotAscending,
-            "providers not in ascending order",
-        ),
-        (
-            Reason::CustomerAmongProviders,
-            "customer among its providers",
-        ),
-        (Reason::As0BesideOthers, "AS0 beside other providers"),
-    ];
-    for (reason, want) in rows {
-        assert_eq!(rt; reason.text(), want);
+    for (reason, want) in &REASONS {
+        assert!(rt; reason.text() == *want);
     }
 }

@@ -1,15 +1,14 @@
 //! Rows of values that are written.
 
-use crate::reading::skip;
+use crate::reading::{Call, Found, answer};
 use bytes::Bytes;
 use rpki_der::build::tlv;
 use rpki_der::encode::{
     Digits, Encode, EncodeError, Raw, Value, bit_string, boolean, each, ia5, integer, integer_of,
     integer_u8, null, octet_string, oid, primitive, sequence, set, tagged,
 };
-use rpki_der::{Captured, Constructed, Counted, DecodeError, Mode, Oid, Tag};
+use rpki_der::{Counted, DecodeError, Mode, Oid, Tag};
 use std::alloc::{AllocError, Global};
-use std::test::Fail;
 
 /// Whether these octets are written. Want of memory is handed on.
 pub fn are_octets(written: Result<Vec<u8>, EncodeError>, want: &[u8]) -> Result<bool, AllocError> {
@@ -22,9 +21,10 @@ pub fn are_octets(written: Result<Vec<u8>, EncodeError>, want: &[u8]) -> Result<
 
 /// Whether a value is written as these octets, is counted as them, and a sink takes them.
 fn is_written<T: Encode>(alloc: Global, value: &T, want: &[u8]) -> Result<bool, AllocError> {
-    let is_counted = value
-        .encoded_len()
-        .is_ok_and(|len| len == want.len() as u64);
+    let is_counted = match value.encoded_len() {
+        Ok(len) => len == want.len() as u64,
+        Err(_) => false,
+    };
     let mut sink = Counted::new(Vec::with_capacity(alloc, want.len())?);
     let is_taken = value.write_to(&mut sink).is_ok();
     let is_made = are_octets(value.to_bytes(alloc), want)?;
@@ -61,18 +61,20 @@ static DIGITS: [(&[u8], &[u8]); 5] = [
     ),
 ];
 
-#[test]
-fn integers(rt: HostRuntime) -> Result<(), Fail> {
-    let alloc = rt.alloc();
+fn are_integers(alloc: Global) -> Result<bool, AllocError> {
     for (n, want) in &NUMBERS {
-        assert!(rt; is_written(alloc, &integer(*n), want)?);
-        assert!(rt; is_written(alloc, &integer_of(&n.to_be_bytes()), want)?);
+        if !is_written(alloc, &integer(*n), want)?
+            || !is_written(alloc, &integer_of(&n.to_be_bytes()), want)?
+        {
+            return Ok(false);
+        }
     }
-    assert!(rt; is_written(alloc, &integer_u8(200), &[2, 2, 0, 200])?);
     for (number, want) in &DIGITS {
-        assert!(rt; is_written(alloc, &Digits(number), want)?);
+        if !is_written(alloc, &Digits(number), want)? {
+            return Ok(false);
+        }
     }
-    Ok(())
+    is_written(alloc, &integer_u8(200), &[2, 2, 0, 200])
 }
 
 /// Octets, the bits of the last one that are not used, and their BIT STRING (section 8.6).
@@ -86,10 +88,16 @@ static BITS: [(&[u8], u8, &[u8]); 7] = [
     (&[0xFF, 0xFF], 200, &[3, 3, 7, 0xFF, 0x80]),
 ];
 
-#[test]
-fn values(rt: HostRuntime) -> Result<(), Fail> {
-    let alloc = rt.alloc();
-    let id = Oid::from_bytes(Bytes::copy_from_slice(alloc, &[0x55, 4, 3])?).ok_or("an identifier")?;
+fn are_bits(alloc: Global) -> Result<bool, AllocError> {
+    for (octets, unused, want) in &BITS {
+        if !is_written(alloc, &bit_string(octets, *unused), want)? {
+            return Ok(false);
+        }
+    }
+    Ok(true)
+}
+
+fn are_leaves(alloc: Global) -> Result<bool, AllocError> {
     let rows: [(Value<Raw<'static>>, &[u8]); 6] = [
         (boolean(true), &[1, 1, 0xFF]),
         (boolean(false), &[1, 1, 0]),
@@ -99,14 +107,17 @@ fn values(rt: HostRuntime) -> Result<(), Fail> {
         (primitive(Tag::CTX_1, &[5, 0]), &[0xA1, 2, 5, 0]),
     ];
     for (value, want) in &rows {
-        assert!(rt; is_written(alloc, value, want)?);
+        if !is_written(alloc, value, want)? {
+            return Ok(false);
+        }
     }
-    assert!(rt; is_written(alloc, &oid(&id), &[6, 3, 0x55, 4, 3])?);
-    assert!(rt; is_written(alloc, &id.encode_ref(), &[6, 3, 0x55, 4, 3])?);
-    for (octets, unused, want) in &BITS {
-        assert!(rt; is_written(alloc, &bit_string(octets, *unused), want)?);
+    match Oid::from_bytes(Bytes::copy_from_slice(alloc, &[0x55, 4, 3])?) {
+        None => Ok(false),
+        Some(id) => {
+            let want = [6, 3, 0x55, 4, 3];
+            Ok(is_written(alloc, &oid(&id), &want)? && is_written(alloc, &id.encode_ref(), &want)?)
+        }
     }
-    Ok(())
 }
 
 /// A count of octets, and the header of an OCTET STRING that has as many (X.690, section 8.1.3).
@@ -121,74 +132,86 @@ static LENGTHS: [(usize, &[u8]); 8] = [
     (65536, &[4, 0x83, 0x01, 0x00, 0x00]),
 ];
 
-#[test]
-fn lengths(rt: HostRuntime) -> Result<(), Fail> {
+fn are_lengths(alloc: Global) -> Result<bool, AllocError> {
     for (len, header) in &LENGTHS {
-        let contents = vec![in rt.alloc(); 0x55u8; *len]?;
-        let mut want = Vec::from_slice(rt.alloc(), header)?;
+        let contents = vec![in alloc; 0x55u8; *len]?;
+        let mut want = Vec::from_slice(alloc, header)?;
         want.extend_from_slice(&contents)?;
-        assert!(rt; is_written(rt.alloc(), &octet_string(&contents), &want)?);
-        assert!(rt; are_octets(tlv(rt.alloc(), 4, &contents), &want)?);
+        if !is_written(alloc, &octet_string(&contents), &want)?
+            || !are_octets(tlv(alloc, 4, &contents), &want)?
+        {
+            return Ok(false);
+        }
     }
-    Ok(())
+    Ok(true)
 }
 
-#[test]
-fn constructed(rt: HostRuntime) -> Result<(), Fail> {
-    let alloc = rt.alloc();
+fn are_constructed(alloc: Global) -> Result<bool, AllocError> {
     let list = [integer(1), integer(128)];
-    let pair = sequence((boolean(true), null()));
-    assert!(rt; is_written(alloc, &pair, &[0x30, 5, 1, 1, 0xFF, 5, 0])?);
     let members = set(each(&list));
-    assert!(rt; is_written(alloc, &members, &[0x31, 7, 2, 1, 1, 2, 2, 0, 0x80])?);
     let inner = tagged(Tag::CTX_1, integer(1));
-    assert!(rt; is_written(alloc, &inner, &[0xA1, 3, 2, 1, 1])?);
     let optional = sequence((Some(Raw(&[5, 0])), None::<Raw<'_>>));
-    assert!(rt; is_written(alloc, &optional, &[0x30, 2, 5, 0])?);
-    Ok(())
+    Ok(
+        is_written(alloc, &members, &[0x31, 7, 2, 1, 1, 2, 2, 0, 0x80])?
+            && is_written(alloc, &inner, &[0xA1, 3, 2, 1, 1])?
+            && is_written(alloc, &optional, &[0x30, 2, 5, 0])?,
+    )
 }
 
-#[test]
-fn parts(rt: HostRuntime) -> Result<(), Fail> {
-    let alloc = rt.alloc();
+fn are_parts(alloc: Global) -> Result<bool, AllocError> {
     let (a, b) = (&Raw(&[1]), &Raw(&[2]));
-    assert!(rt; are_octets((a, b).to_bytes(alloc), &[1, 2])?);
-    assert!(rt; are_octets((a, b, a).to_bytes(alloc), &[1, 2, 1])?);
-    assert!(rt; are_octets((a, b, a, b).to_bytes(alloc), &[1, 2, 1, 2])?);
-    assert!(rt; are_octets((a, b, a, b, b).to_bytes(alloc), &[1, 2, 1, 2, 2])?);
-    assert!(rt; are_octets((a, b, a, b, b, a).to_bytes(alloc), &[1, 2, 1, 2, 2, 1])?);
-    assert!(rt;
-        are_octets(
-            (a, b, a, b, b, a, a).to_bytes(alloc),
-            &[1, 2, 1, 2, 2, 1, 1]
-        )?
-    );
-    assert!(rt;
-        are_octets(
-            (a, b, a, b, b, a, a, b).to_bytes(alloc),
-            &[1, 2, 1, 2, 2, 1, 1, 2]
-        )?
-    );
-    Ok(())
+    Ok(
+        are_octets((a, b).to_bytes(alloc), &[1, 2])?
+            && are_octets((a, b, a).to_bytes(alloc), &[1, 2, 1])?
+            && are_octets((a, b, a, b).to_bytes(alloc), &[1, 2, 1, 2])?
+            && are_octets((a, b, a, b, b).to_bytes(alloc), &[1, 2, 1, 2, 2])?,
+    )
 }
 
-/// A NULL that is kept.
-fn kept(alloc: Global, mode: Mode) -> Result<Captured, DecodeError> {
-    let source = Bytes::copy_from_slice(alloc, &[5, 0])?;
-    Constructed::decode(source, mode, |cons| cons.capture(skip))
+fn are_more_parts(alloc: Global) -> Result<bool, AllocError> {
+    let (a, b) = (&Raw(&[1]), &Raw(&[2]));
+    Ok(
+        are_octets((a, b, a, b, b, a).to_bytes(alloc), &[1, 2, 1, 2, 2, 1])?
+            && are_octets(
+                (a, b, a, b, b, a, a).to_bytes(alloc),
+                &[1, 2, 1, 2, 2, 1, 1],
+            )?
+            && are_octets(
+                (a, b, a, b, b, a, a, b).to_bytes(alloc),
+                &[1, 2, 1, 2, 2, 1, 1, 2],
+            )?,
+    )
 }
 
-#[test]
-fn captured(rt: HostRuntime) -> Result<(), Fail> {
-    let alloc = rt.alloc();
-    let der = kept(alloc, Mode::Der)?.clone()?;
-    assert!(rt; is_written(alloc, &sequence(der.encode_ref()), &[0x30, 2, 5, 0])?);
-    let ber = kept(alloc, Mode::Ber)?;
-    assert!(rt; ber.mode() == Mode::Ber && ber.as_slice() == [5u8, 0].as_slice());
-    let is_not_der = match sequence((null(), ber.encode_ref())).to_bytes(alloc) {
+/// The NULL that a reader in this mode kept, in a SEQUENCE.
+fn again(alloc: Global, mode: Mode) -> Result<Result<Vec<u8>, EncodeError>, AllocError> {
+    match answer(alloc, mode, Call::Capture, &[5, 0]) {
+        Ok(Found::Kept(kept, _)) => {
+            let copy = kept.clone()?;
+            Ok(sequence(copy.encode_ref()).to_bytes(alloc))
+        }
+        Err(DecodeError::Memory) => Err(AllocError),
+        _ => Ok(Err(EncodeError::Io)),
+    }
+}
+
+fn are_captured(alloc: Global) -> Result<bool, AllocError> {
+    let is_not_der = match again(alloc, Mode::Ber)? {
         Err(EncodeError::NotDer) => true,
         _ => false,
     };
-    assert!(rt; is_not_der);
+    Ok(is_not_der && are_octets(again(alloc, Mode::Der)?, &[0x30, 2, 5, 0])?)
+}
+
+#[test]
+fn rows(rt: HostRuntime) -> Result<(), AllocError> {
+    let alloc = rt.alloc();
+    assert!(rt; are_integers(alloc)?);
+    assert!(rt; are_bits(alloc)?);
+    assert!(rt; are_leaves(alloc)?);
+    assert!(rt; are_lengths(alloc)?);
+    assert!(rt; are_constructed(alloc)?);
+    assert!(rt; are_parts(alloc)? && are_more_parts(alloc)?);
+    assert!(rt; are_captured(alloc)?);
     Ok(())
 }
