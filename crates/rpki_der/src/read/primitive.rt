@@ -194,8 +194,8 @@ impl<'a> Constructed<'a> {
         }
     }
 
-    /// Reads a BIT STRING, primitive in both modes (X.690, section 8.6).
-    /// Answers `Malformed`, or `Memory` where no memory was to be had.
+    /// Reads a BIT STRING, primitive in both modes (X.690, section 8.6). Answers `Malformed`, or
+    /// `Memory` where no memory was to be had.
     #[tactic(auto, unfolding(crate::specs::Read::Parse::bits_of))]
     pub fn take_bits(&mut self) -> Result<BitString, DecodeError>
         ensures reads { Reads
