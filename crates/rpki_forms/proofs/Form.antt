@@ -1,0 +1,4 @@
+pub mod Apart
+pub mod Fields
+pub mod Words
+pub mod Kinds

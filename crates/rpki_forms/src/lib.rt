@@ -1,0 +1,3 @@
+//! Forms: the words of ASN.1, with what reads them.
+
+#![tactic(auto)]

@@ -1,0 +1,7 @@
+pub mod AlgorithmParts
+pub mod AlgorithmWriting
+pub mod Calls
+pub mod KeyParts
+pub mod KeyWriting
+pub mod NameExact
+pub mod NameWriting
