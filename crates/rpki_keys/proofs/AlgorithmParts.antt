@@ -1,5 +1,5 @@
 -- Identifiers of algorithms are read exactly.
-use Rattle.std.proofs.Common.{◌≡◌, ℕ, Bool, true, false, cond, List, Option, Some, None, refl, sym}
+use Rattle.std.proofs.Common.{◌≡◌, ℕ, Bool, true, false, cond, List, Option, Some, None, refl}
 use Rattle.std.proofs.Common.{subst, ap, ◌++◌, inl, inr}
 use Rattle.std.specs.Prelude.{bytes_eq, ◌||◌, ◌⊎◌}
 use Rattle.std.proofs.lemmas.Slice.Eq.{bytes_eq-Decides}
@@ -10,7 +10,6 @@ use Rattle.rpki_der.specs.Grammar.{IsExact, IsReading, anything}
 use Rattle.rpki_der.proofs.Reading.Unique.{reading, IsOneValue}
 use Rattle.rpki_forms.specs.Tags.{SEQUENCE, NULL}
 use Rattle.rpki_forms.specs.Form.Law.{nothing, is, IsPart}
-use Rattle.rpki_forms.specs.Form.Parts.{Parts}
 use Rattle.rpki_forms.specs.Form.Made.{Partly, partly}
 use Rattle.rpki_forms.proofs.Form.Fields.{field, skipped, done, within}
 use Rattle.rpki_forms.proofs.Form.Words.{part-as, make-some, option}

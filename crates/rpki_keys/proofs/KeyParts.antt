@@ -1,10 +1,9 @@
 -- Keys are read exactly.
-use Rattle.std.proofs.Common.{◌≡◌, ℕ, Bool, true, false, cond, List, Option, Some, None, refl, sym}
-use Rattle.std.proofs.Common.{subst, ap, ◌∙◌}
+use Rattle.std.proofs.Common.{◌≡◌, ℕ, Bool, true, false, cond, List, Some, None, refl}
+use Rattle.std.proofs.Common.{subst}
 use Rattle.std.specs.Prelude.{◌==◌}
 use Rattle.std.proofs.lemmas.Bool.{eqb-true}
 use Rattle.rpki_der.proofs.Reading.Lengths.{some_is}
-use Rattle.rpki_der.specs.declared.mode.Mode.{Mode}
 use Rattle.rpki_der.specs.Read.Parse.{bits_at}
 use Rattle.rpki_der.specs.Grammar.{BitString}
 use Rattle.rpki_forms.specs.Tags.{SEQUENCE, BIT_STRING}

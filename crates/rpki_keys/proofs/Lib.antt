@@ -1,4 +1,5 @@
 pub mod AlgorithmParts
+pub mod AlgorithmUnique
 pub mod AlgorithmWriting
 pub mod Calls
 pub mod KeyParts

@@ -1,14 +1,15 @@
 -- Names are read exactly.
-use Rattle.std.proofs.Common.{◌≡◌, ℕ, List, [], ◌++◌, Some, refl, sym, ap, subst, ◌∙◌}
+use Rattle.std.proofs.Common.{◌≡◌, ℕ, List, [], ◌++◌, Some, sym, ap, subst, ◌∙◌}
 use Rattle.std.proofs.lemmas.List.{append-nil}
 use Rattle.rpki_der.specs.declared.mode.Mode.{Mode}
-use Rattle.rpki_der.specs.Read.Parse.{in_value, skip_all_at, captured, taken, there, all_of}
+use Rattle.rpki_der.specs.Read.Parse.{in_value, skip_all_at, taken, there, all_of}
 use Rattle.rpki_der.specs.Read.Parse.{skip_at}
-use Rattle.rpki_der.specs.Grammar.{IsExact, IsBytes, Within, Skipped, ListOf, anything}
+use Rattle.rpki_der.specs.Grammar.{IsExact, IsReading, Skipped, ListOf, anything}
 use Rattle.rpki_der.proofs.Reading.Lengths.{bind_some, some_is}
 use Rattle.rpki_der.proofs.Reading.Exact.{the_end, exact-in}
-use Rattle.rpki_der.proofs.Reading.Skips.{there-some, skip-all-sound, skip-all-complete}
-use Rattle.rpki_der.proofs.Reading.Unique.{before}
+use Rattle.rpki_der.proofs.Reading.Skips.{skip-all-sound, skip-all-complete}
+use Rattle.rpki_der.proofs.Reading.Unique.{before, reading, within-ber, items-as, skipped-ber}
+use Rattle.rpki_der.specs.declared.mode.Mode.TheVariants.{Der, Ber}
 use Rattle.rpki_keys.specs.NameForm.{NameForm, name_at}
 
 -- what is skipped up to the end
@@ -47,3 +48,17 @@ exact-name mode =
       complete = λ o k r _ h. rw (e.complete o tt r tt h.1)
           (ap (λ (t : List ℕ). (let s = Some (t, r) in s)) (before o r ∙ sym h.0));
     }
+
+name-ber : (o kept : List ℕ) → NameForm Der o kept → NameForm Ber o kept
+name-ber o kept h = (
+  h.0,
+  within-ber 48 (ListOf (Skipped Der 32)) (ListOf (Skipped Ber 32))
+      (λ c l. (
+        l.0,
+        items-as (λ d (_ : Unit {0}). Skipped Der 32 d) (λ d _. Skipped Ber 32 d)
+            (λ d _ s. skipped-ber 32 d s) c l.0 l.1,
+      )) o h.1,
+)
+
+pub name-reading : IsReading name_at NameForm
+name-reading = reading name_at NameForm exact-name name-ber (λ mode o kept h. (48, h.1.0, h.1.1))

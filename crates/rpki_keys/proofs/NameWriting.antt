@@ -1,5 +1,5 @@
 -- The name of a key, octet by octet.
-use Rattle.std.proofs.Common.{◌≡◌, ℕ, ◌+◌, ◌<◌, ◌^◌, List, [], ◌∷◌, ◌++◌, length, refl, sym, ap}
+use Rattle.std.proofs.Common.{◌≡◌, ℕ, ◌+◌, ◌<◌, List, [], ◌∷◌, ◌++◌, length, refl, sym, ap}
 use Rattle.std.proofs.Common.{◌∙◌}
 use Rattle.std.proofs.Common.{arith, length-append}
 use Rattle.std.proofs.lemmas.List.{append-nil}
@@ -7,7 +7,7 @@ use Rattle.rpki_der.specs.declared.mode.Mode.TheVariants.{Der}
 use Rattle.rpki_der.specs.Written.{value_octets, length_octets, length_value_octets_le}
 use Rattle.rpki_der.proofs.Reading.Scan.{tag-sound}
 use Rattle.rpki_der.proofs.Writing.Lengths.{value-written}
-use Rattle.rpki_keys.specs.Hex.{upper_octet, upper_hex}
+use Rattle.rpki_keys.specs.Hex.{upper_hex}
 use Rattle.rpki_keys.specs.NameForm.{common_name, KeyNameForm, key_name_octets}
 use Rattle.rpki_keys.proofs.AlgorithmWriting.{oid-written}
 

@@ -1,5 +1,5 @@
 -- The octets of a key.
-use Rattle.std.specs.Prelude.{◌≡◌, ℕ, List, [], ◌∷◌, ◌++◌, Option, Some, None}
+use Rattle.std.specs.Prelude.{ℕ, List, [], ◌∷◌, ◌++◌, Some}
 use Rattle.rpki_der.specs.declared.mode.Mode.{Mode}
 use Rattle.rpki_der.specs.Grammar.{BitString}
 use Rattle.rpki_der.specs.Read.Parse.{Parser, ◌>>=◌, bits_at}
@@ -8,7 +8,7 @@ use Rattle.rpki_forms.specs.Tags.{SEQUENCE, BIT_STRING}
 use Rattle.rpki_forms.specs.Form.Parts.{Sequence, sequence_at}
 use Rattle.rpki_forms.specs.Form.Made.{partly, whole_bits}
 use Rattle.rpki_keys.specs.Algorithm.{AlgorithmForm, rsa_encryption, named, algorithm_at}
-use Rattle.rpki_keys.specs.Algorithm.{algorithm_and_null}
+use Rattle.rpki_keys.specs.Algorithm.{algorithm_alone, algorithm_and_null}
 
 -- SubjectPublicKeyInfo ::= SEQUENCE { rsaEncryption, BIT STRING } without unused bits (RFC 5280,
 -- section 4.1.2.7; RFC 7935, section 3). What its bits mean is left to cryptography.
@@ -37,3 +37,9 @@ key_contents bits =
 -- What a key is written as.
 abbrev pub key_octets : List ℕ → List ℕ
 key_octets bits = value_octets SEQUENCE (key_contents bits)
+
+-- The other octets that a key may have in DER: the algorithm without a NULL.
+abbrev pub key_octets_alone : List ℕ → List ℕ
+key_octets_alone bits =
+    value_octets SEQUENCE (algorithm_alone rsa_encryption
+    ++ value_octets BIT_STRING (bit_string_contents bits 0))

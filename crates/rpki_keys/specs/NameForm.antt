@@ -1,7 +1,6 @@
 -- Names: those that are captured, and those of keys.
 use Rattle.std.specs.Prelude.{◌≡◌, ℕ, List, [], ◌∷◌, ◌++◌}
 use Rattle.rpki_der.specs.declared.mode.Mode.{Mode}
-use Rattle.rpki_der.specs.Captured.{Kept}
 use Rattle.rpki_der.specs.Grammar.{Value, Within, Skipped, ListOf, ObjectIdentifier}
 use Rattle.rpki_der.specs.Read.Parse.{Parser, skip_all_at, captured}
 use Rattle.rpki_der.specs.Written.{value_octets}
