@@ -108,11 +108,11 @@ exact-of {X} {p} {G} part mode = record {
 }
 
 pub one-algorithm : IsOneValue AlgorithmForm
-one-algorithm mode o oid h = (48, h.0, h.1)
+one-algorithm mode o oid h = (SEQUENCE, h.0, h.1)
 
 pub one-cms : IsOneValue CmsAlgorithmForm
-one-cms mode o u (inl h) = (48, h.0, h.1)
-one-cms mode o u (inr h) = (48, h.0, h.1)
+one-cms mode o u (inl h) = (SEQUENCE, h.0, h.1)
+one-cms mode o u (inr h) = (SEQUENCE, h.0, h.1)
 
 pub reading-of : {X : Type 0} {p : Parser X} {G : Mode → List ℕ → X → Type 0}
     → IsPart (is SEQUENCE) nothing p G → IsOneValue G → IsReading p G

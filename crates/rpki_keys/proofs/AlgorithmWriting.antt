@@ -1,4 +1,5 @@
 -- What is written of an algorithm is in its form.
+use Rattle.rpki_forms.specs.Tags.{NULL, OBJECT_IDENTIFIER, SEQUENCE}
 use Rattle.std.proofs.Common.{ℕ, ◌<◌, ◌^◌, List, [], ◌++◌, length, Some, None, refl}
 use Rattle.std.proofs.Common.{sym, arith, length-append}
 use Rattle.std.proofs.lemmas.List.{append-nil}
@@ -12,20 +13,24 @@ use Rattle.rpki_keys.specs.Algorithm.{AlgorithmForm, algorithm_alone, algorithm_
 use Rattle.rpki_keys.specs.Algorithm.{sha_256, rsa_encryption, sha256_with_rsa}
 
 pub oid-written : (oid : List ℕ) → IsOid oid → length oid < 100
-    → ObjectIdentifier Der (value_octets 6 oid) oid
-oid-written oid is h = (oid, value-written 6 oid (tag-sound 6 refl) (omega (arith, h)), (refl, is))
+    → ObjectIdentifier Der (value_octets OBJECT_IDENTIFIER oid) oid
+oid-written oid is h = (
+  oid,
+  value-written OBJECT_IDENTIFIER oid (tag-sound OBJECT_IDENTIFIER refl) (omega (arith, h)),
+  (refl, is),
+)
 
-null-written : Null Der (value_octets 5 [])
-null-written = ([], value-written 5 [] (tag-sound 5 refl) (omega arith), refl)
+null-written : Null Der (value_octets NULL [])
+null-written = ([], value-written NULL [] (tag-sound NULL refl) (omega arith), refl)
 
 pub alone-written : (oid : List ℕ) → IsOid oid → length oid < 100
     → AlgorithmForm Der (algorithm_alone oid) oid
 alone-written oid is h =
-    let c : List ℕ = value_octets 6 oid in
-    let small : length (value_octets 6 oid) < 2 ^ 32 =
-    omega (arith, h, length_value_octets_le 6 oid) in (
+    let c : List ℕ = value_octets OBJECT_IDENTIFIER oid in
+    let small : length (value_octets OBJECT_IDENTIFIER oid) < 2 ^ 32 =
+    omega (arith, h, length_value_octets_le OBJECT_IDENTIFIER oid) in (
       c,
-      value-written 48 c (tag-sound 48 refl) small,
+      value-written SEQUENCE c (tag-sound SEQUENCE refl) small,
       (
         c,
         [],
@@ -38,18 +43,18 @@ alone-written oid is h =
 pub null-too : (oid : List ℕ) → IsOid oid → length oid < 100
     → AlgorithmForm Der (algorithm_and_null oid) oid
 null-too oid is h =
-    let a : List ℕ = value_octets 6 oid in
-    let b : List ℕ = value_octets 5 [] in
-    let small : length (value_octets 6 oid ++ value_octets 5 []) < 2 ^ 32 =
+    let a : List ℕ = value_octets OBJECT_IDENTIFIER oid in
+    let b : List ℕ = value_octets NULL [] in
+    let small : length (value_octets OBJECT_IDENTIFIER oid ++ value_octets NULL []) < 2 ^ 32 =
     omega (
       arith,
       h,
-      length_value_octets_le 6 oid,
-      length_value_octets_le 5 [],
-      length-append (value_octets 6 oid) (value_octets 5 []),
+      length_value_octets_le OBJECT_IDENTIFIER oid,
+      length_value_octets_le NULL [],
+      length-append (value_octets OBJECT_IDENTIFIER oid) (value_octets NULL []),
     ) in (
       a ++ b,
-      value-written 48 (a ++ b) (tag-sound 48 refl) small,
+      value-written SEQUENCE (a ++ b) (tag-sound SEQUENCE refl) small,
       (
         a,
         b,

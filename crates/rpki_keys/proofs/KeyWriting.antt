@@ -1,4 +1,5 @@
 -- What is written of a key is in its form.
+use Rattle.rpki_forms.specs.Tags.{BIT_STRING, SEQUENCE}
 use Rattle.std.proofs.Common.{◌≡◌, ℕ, ◌<◌, ◌^◌, List, [], ◌++◌, length, Some, refl, sym}
 use Rattle.std.proofs.Common.{arith}
 use Rattle.std.proofs.lemmas.List.{append-nil}
@@ -17,11 +18,11 @@ use Rattle.rpki_keys.proofs.AlgorithmWriting.{rsa-written}
 use Rattle.rpki_keys.proofs.KeyParts.{key-part}
 
 string-written : (bits : List ℕ) → length (bit_string_contents bits 0) < 2 ^ 32
-    → BitString Der (value_octets 3 (bit_string_contents bits 0)) (bits, 0)
+    → BitString Der (value_octets BIT_STRING (bit_string_contents bits 0)) (bits, 0)
 string-written bits h =
     let c : List ℕ = bit_string_contents bits 0 in (
       c,
-      value-written 3 c (tag-sound 3 refl) h,
+      value-written BIT_STRING c (tag-sound BIT_STRING refl) h,
       (bits-whole bits, record { few = omega arith; none = λ _. refl }),
     )
 
@@ -29,13 +30,13 @@ pub key-written : (bits : List ℕ) → length (key_contents bits) < 2 ^ 32
     → KeyForm Der (key_octets bits) bits
 key-written bits h =
     let a : List ℕ = algorithm_and_null rsa_encryption in
-    let b : List ℕ = value_octets 3 (bit_string_contents bits 0) in
-    let l : length (value_octets 3 (bit_string_contents bits 0)) < 2 ^ 32 =
+    let b : List ℕ = value_octets BIT_STRING (bit_string_contents bits 0) in
+    let l : length (value_octets BIT_STRING (bit_string_contents bits 0)) < 2 ^ 32 =
     (length_parts a b h).1 in
     let small : length (bit_string_contents bits 0) < 2 ^ 32 =
-    contents_small 3 (bit_string_contents bits 0) l in (
+    contents_small BIT_STRING (bit_string_contents bits 0) l in (
       a ++ b,
-      value-written 48 (a ++ b) (tag-sound 48 refl) h,
+      value-written SEQUENCE (a ++ b) (tag-sound SEQUENCE refl) h,
       (a, b, refl, rsa-written, (b, [], sym (append-nil b), string-written bits small, refl)),
     )
 

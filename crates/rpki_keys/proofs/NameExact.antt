@@ -1,4 +1,5 @@
 -- Names are read exactly.
+use Rattle.rpki_forms.specs.Tags.{SEQUENCE}
 use Rattle.std.proofs.Common.{◌≡◌, ℕ, List, [], ◌++◌, Some, sym, ap, subst, ◌∙◌}
 use Rattle.std.proofs.lemmas.List.{append-nil}
 use Rattle.rpki_der.specs.declared.mode.Mode.{Mode}
@@ -31,11 +32,11 @@ exact-skip_all mode = record {
 
 pub exact-name : (mode : Mode) → IsExact anything (name_at mode) (NameForm mode)
 exact-name mode =
-    let e = exact-in 48 skip_all_at mode (λ o _. ListOf (Skipped mode 32) o)
+    let e = exact-in SEQUENCE skip_all_at mode (λ o _. ListOf (Skipped mode 32) o)
     (exact-skip_all mode) in
     record {
       sound = λ b k r bytes h.
-          let v = bind_some (in_value 48 skip_all_at mode b) _ (k, r) h in
+          let v = bind_some (in_value SEQUENCE skip_all_at mode b) _ (k, r) h in
           let q : (let t : List ℕ × List ℕ = (taken b v.0.1, v.0.1) in
           t) ≡ (k, r) = some_is _ _ v.2 in
           let f = e.sound b v.0.0 v.0.1 bytes v.1 in
@@ -52,7 +53,7 @@ exact-name mode =
 name-ber : (o kept : List ℕ) → NameForm Der o kept → NameForm Ber o kept
 name-ber o kept h = (
   h.0,
-  within-ber 48 (ListOf (Skipped Der 32)) (ListOf (Skipped Ber 32))
+  within-ber SEQUENCE (ListOf (Skipped Der 32)) (ListOf (Skipped Ber 32))
       (λ c l. (
         l.0,
         items-as (λ d (_ : Unit {0}). Skipped Der 32 d) (λ d _. Skipped Ber 32 d)
@@ -61,4 +62,5 @@ name-ber o kept h = (
 )
 
 pub name-reading : IsReading name_at NameForm
-name-reading = reading name_at NameForm exact-name name-ber (λ mode o kept h. (48, h.1.0, h.1.1))
+name-reading = reading name_at NameForm exact-name name-ber
+    (λ mode o kept h. (SEQUENCE, h.1.0, h.1.1))

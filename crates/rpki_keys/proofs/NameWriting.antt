@@ -1,4 +1,5 @@
 -- The name of a key, octet by octet.
+use Rattle.rpki_forms.specs.Tags.{OBJECT_IDENTIFIER, PRINTABLE_STRING, SEQUENCE, SET}
 use Rattle.std.proofs.Common.{◌≡◌, ℕ, ◌+◌, ◌<◌, List, [], ◌∷◌, ◌++◌, length, refl, sym, ap}
 use Rattle.std.proofs.Common.{◌∙◌}
 use Rattle.std.proofs.Common.{arith, length-append}
@@ -55,17 +56,18 @@ pub key-name-is : (id : List ℕ) → length id ≡ 20 → head ++ upper_hex id 
 key-name-is id e =
     let h : List ℕ = upper_hex id in
     let l : length (upper_hex id) ≡ 40 = omega (arith, e, length-hex id) in
-    let o : value_octets 0x06 common_name ≡ 0x06 ∷ 0x03 ∷ common_name =
-    value-is 0x06 3 common_name common_name refl refl short-3 in
-    let s : value_octets 0x13 (upper_hex id) ≡ 0x13 ∷ 0x28 ∷ upper_hex id =
-    value-is 0x13 40 h h refl l short-40 in
-    let both : value_octets 0x06 common_name ++ value_octets 0x13 (upper_hex id)
+    let o : value_octets OBJECT_IDENTIFIER common_name ≡ 0x06 ∷ 0x03 ∷ common_name =
+    value-is OBJECT_IDENTIFIER 3 common_name common_name refl refl short-3 in
+    let s : value_octets PRINTABLE_STRING (upper_hex id) ≡ 0x13 ∷ 0x28 ∷ upper_hex id =
+    value-is PRINTABLE_STRING 40 h h refl l short-40 in
+    let both : value_octets OBJECT_IDENTIFIER common_name
+    ++ value_octets PRINTABLE_STRING (upper_hex id)
     ≡ contents (upper_hex id) =
-    ap (λ (x : List ℕ). x ++ value_octets 0x13 (upper_hex id)) o
+    ap (λ (x : List ℕ). x ++ value_octets PRINTABLE_STRING (upper_hex id)) o
     ∙ ap (λ (x : List ℕ). (0x06 ∷ 0x03 ∷ common_name) ++ x) s in
-    let one = value-is 0x30 47 _ (contents h) both (omega (arith, l)) short-47 in
-    let two = value-is 0x31 49 _ (0x30 ∷ 0x2F ∷ contents h) one (omega (arith, l)) short-49 in
-    sym (value-is 0x30 51 _ (0x31 ∷ 0x31 ∷ 0x30 ∷ 0x2F ∷ contents h) two (omega (arith, l))
+    let one = value-is SEQUENCE 47 _ (contents h) both (omega (arith, l)) short-47 in
+    let two = value-is SET 49 _ (0x30 ∷ 0x2F ∷ contents h) one (omega (arith, l)) short-49 in
+    sym (value-is SEQUENCE 51 _ (0x31 ∷ 0x31 ∷ 0x30 ∷ 0x2F ∷ contents h) two (omega (arith, l))
     short-51)
 
 pub key-name-written : (id : List ℕ) → length id ≡ 20
@@ -73,34 +75,35 @@ pub key-name-written : (id : List ℕ) → length id ≡ 20
 key-name-written id e =
     let h : List ℕ = upper_hex id in
     let l : length (upper_hex id) ≡ 40 = omega (arith, e, length-hex id) in
-    let a : List ℕ = value_octets 6 common_name in
-    let b : List ℕ = value_octets 0x13 (upper_hex id) in
-    let c3 : List ℕ = value_octets 6 common_name ++ value_octets 0x13 (upper_hex id) in
-    let c2 : List ℕ = value_octets 0x30 c3 in
-    let c1 : List ℕ = value_octets 0x31 c2 in
-    let la : length (value_octets 6 common_name) < 20 =
-    omega (arith, length_value_octets_le 6 common_name) in
-    let lb : length (value_octets 0x13 (upper_hex id)) < 50 =
-    omega (arith, l, length_value_octets_le 0x13 (upper_hex id)) in
+    let a : List ℕ = value_octets OBJECT_IDENTIFIER common_name in
+    let b : List ℕ = value_octets PRINTABLE_STRING (upper_hex id) in
+    let c3 : List ℕ = value_octets OBJECT_IDENTIFIER common_name
+    ++ value_octets PRINTABLE_STRING (upper_hex id) in
+    let c2 : List ℕ = value_octets SEQUENCE c3 in
+    let c1 : List ℕ = value_octets SET c2 in
+    let la : length (value_octets OBJECT_IDENTIFIER common_name) < 20 =
+    omega (arith, length_value_octets_le OBJECT_IDENTIFIER common_name) in
+    let lb : length (value_octets PRINTABLE_STRING (upper_hex id)) < 50 =
+    omega (arith, l, length_value_octets_le PRINTABLE_STRING (upper_hex id)) in
     let l3 : length c3 < 80 = omega (arith, la, lb, length-append a b) in
-    let l2 : length c2 < 100 = omega (arith, l3, length_value_octets_le 0x30 c3) in
-    let l1 : length c1 < 120 = omega (arith, l2, length_value_octets_le 0x31 c2) in (
+    let l2 : length c2 < 100 = omega (arith, l3, length_value_octets_le SEQUENCE c3) in
+    let l1 : length c1 < 120 = omega (arith, l2, length_value_octets_le SET c2) in (
       c1,
-      value-written 0x30 c1 (tag-sound 0x30 refl) (omega (arith, l1)),
+      value-written SEQUENCE c1 (tag-sound SEQUENCE refl) (omega (arith, l1)),
       (
         c1,
         [],
         sym (append-nil c1),
         (
           c2,
-          value-written 0x31 c2 (tag-sound 0x31 refl) (omega (arith, l2)),
+          value-written SET c2 (tag-sound SET refl) (omega (arith, l2)),
           (
             c2,
             [],
             sym (append-nil c2),
             (
               c3,
-              value-written 0x30 c3 (tag-sound 0x30 refl) (omega (arith, l3)),
+              value-written SEQUENCE c3 (tag-sound SEQUENCE refl) (omega (arith, l3)),
               (
                 a,
                 b,
@@ -110,7 +113,8 @@ key-name-written id e =
                   b,
                   [],
                   sym (append-nil b),
-                  value-written 0x13 h (tag-sound 0x13 refl) (omega (arith, l)),
+                  value-written PRINTABLE_STRING h (tag-sound PRINTABLE_STRING refl)
+                      (omega (arith, l)),
                   refl,
                 ),
               ),
