@@ -1,12 +1,13 @@
 -- What is written of a serial number is in its form.
-use Rattle.std.proofs.Common.{◌≡◌, ℕ, zero, suc, ◌+◌, ◌*◌, ◌/◌, ◌%◌, ◌^◌, ◌<◌, ◌≤◌, List, [], ◌∷◌}
+use Rattle.rpki_forms.specs.Tags.{INTEGER}
+use Rattle.std.proofs.Common.{◌≡◌, ℕ, zero, suc, ◌+◌, ◌*◌, ◌/◌, ◌%◌, ◌^◌, ◌<◌, ◌≤◌, List}
 use Rattle.std.proofs.Common.{◌++◌, length, Some, refl, sym, ap, subst, ◌∙◌, arith}
 use Rattle.std.proofs.Math.Nat.{pow-suc, mod-lt, div-lt_iff_lt-mul, mul_comm}
 use Rattle.std.proofs.lemmas.Nat.{div-add-mod'}
 use Rattle.rpki_der.specs.declared.mode.Mode.{Mode}
 use Rattle.rpki_der.specs.declared.mode.Mode.TheVariants.{Der}
 use Rattle.rpki_der.specs.Grammar.{IsBytes, IsInteger}
-use Rattle.rpki_der.specs.Read.Parse.{number, primitive, unsigned_of}
+use Rattle.rpki_der.specs.Read.Parse.{number, unsigned_of}
 use Rattle.rpki_der.specs.Written.{integer_contents, significant}
 use Rattle.rpki_der.proofs.Reading.Scan.{tag-sound}
 use Rattle.rpki_der.proofs.Writing.Numbers.{length-integer_contents, length-significant, integer-is}
@@ -65,7 +66,7 @@ digits-written ds h =
     omega (arith, h.0, length-integer_contents ds) in
     let few : length ds ≤ 20 = omega (arith, h.0) in
     rw (digits_again ds h)
-    (c, value-written 2 c (tag-sound 2 refl) small, (integer-is ds, below20 ds h.1 few))
+    (c, value-written INTEGER c (tag-sound INTEGER refl) small, (integer-is ds, below20 ds h.1 few))
 
 pub serial-written : (n : ℕ) → n < 2 ^ 160 → SerialForm Der (serial_octets n) n
 serial-written n h =
@@ -90,5 +91,5 @@ serial-read mode n rest h =
     let o : unsigned_of 20 (integer_contents (digits 20 n)) ≡ Some (number 0 (digits 20 n)) =
     unsigned-written 20 (digits 20 n) few (omega arith) in
     subst (λ (m : ℕ). serial_at mode (serial_octets n ++ rest) ≡ Some (m, rest)) d.1
-    (primitive-read 2 (unsigned_of 20) mode (integer_contents ds) rest (number 0 ds)
-    (tag-sound 2 refl) small o)
+    (primitive-read INTEGER (unsigned_of 20) mode (integer_contents ds) rest (number 0 ds)
+    (tag-sound INTEGER refl) small o)

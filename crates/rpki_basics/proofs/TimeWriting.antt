@@ -1,5 +1,6 @@
 -- What is written of a time is in its form.
-use Rattle.std.proofs.Common.{[], ◌∷◌, ◌++◌, Some, ap, ◌∙◌}
+use Rattle.rpki_forms.specs.Tags.{GENERALIZED_TIME, UTC_TIME}
+use Rattle.std.proofs.Common.{◌++◌, Some, ap, ◌∙◌}
 use Rattle.std.specs.Prelude.{◌⊎◌}
 use Rattle.rpki_der.specs.declared.mode.Mode.{Mode}
 use Rattle.rpki_der.specs.declared.mode.Mode.TheVariants.{Ber}
@@ -7,7 +8,7 @@ use Rattle.rpki_der.specs.Grammar.{IsBytes}
 use Rattle.rpki_der.proofs.Writing.Lengths.{value-unique}
 use Rattle.rpki_basics.specs.TimeRead.{time_at}
 use Rattle.rpki_basics.proofs.TimeReading.{exact-time, time_reading}
-use Rattle.std.proofs.Common.{◌≡◌, ℕ, ◌≤◌, ◌<◌, Bool, true, false, cond, List, length, inl, inr}
+use Rattle.std.proofs.Common.{◌≡◌, ℕ, Bool, true, false, cond, List, inl, inr}
 use Rattle.std.proofs.Common.{refl, arith}
 use Rattle.std.specs.Prelude.{nat_le, nat_lt}
 use Rattle.std.proofs.lemmas.Bool.{leb-true, ltb-true, and_parts}
@@ -23,17 +24,18 @@ pub generalized_written : (m : Moment) → IsMoment m → TimeForm Der (generali
 generalized_written m h =
     inr (
       generalized_text m,
-      value-written 24 (generalized_text m) (tag-sound 24 refl) (omega arith),
+      value-written GENERALIZED_TIME (generalized_text m) (tag-sound GENERALIZED_TIME refl)
+          (omega arith),
       (refl, h),
     )
 
 written_by : (t : Bool) (m : Moment) → is_utc_year m.year ≡ t → IsMoment m
-    → TimeForm Der (cond t (value_octets 23 (utc_text m)) (generalized_octets m)) m
+    → TimeForm Der (cond t (value_octets UTC_TIME (utc_text m)) (generalized_octets m)) m
 written_by true m e h =
     let y = and_parts (nat_le 1950 m.year) (nat_lt m.year 2050) e in
     inl (
       utc_text m,
-      value-written 23 (utc_text m) (tag-sound 23 refl) (omega arith),
+      value-written UTC_TIME (utc_text m) (tag-sound UTC_TIME refl) (omega arith),
       (refl, (leb-true _ _ y.0, ltb-true _ _ y.1), h),
     )
 written_by false m e h = generalized_written m h
@@ -43,11 +45,11 @@ time_written m h = written_by (is_utc_year m.year) m refl h
 
 -- In DER there are these two octets at most for a moment.
 pub time-only : (o : List ℕ) (m : Moment) → IsBytes o → TimeForm Der o m
-    → (o ≡ value_octets 23 (utc_text m)) ⊎ (o ≡ generalized_octets m)
+    → (o ≡ value_octets UTC_TIME (utc_text m)) ⊎ (o ≡ generalized_octets m)
 time-only o m bytes (inl h) =
-    inl (value-unique o 23 h.0 bytes h.1 ∙ ap (value_octets 23) h.2.0)
+    inl (value-unique o UTC_TIME h.0 bytes h.1 ∙ ap (value_octets UTC_TIME) h.2.0)
 time-only o m bytes (inr h) =
-    inr (value-unique o 24 h.0 bytes h.1 ∙ ap (value_octets 24) h.2.0)
+    inr (value-unique o GENERALIZED_TIME h.0 bytes h.1 ∙ ap (value_octets GENERALIZED_TIME) h.2.0)
 
 -- What is in the form in DER is read in both modes.
 time-read : (mode : Mode) (o : List ℕ) (m : Moment) (rest : List ℕ) → TimeForm Der o m

@@ -7,8 +7,7 @@ use Rattle.rpki_basics.specs.declared.uri.Error.TheVariants.{InvalidCharacters, 
 use Rattle.rpki_basics.specs.declared.uri.Error.TheVariants.{Memory}
 use Rattle.std.proofs.Common.{◌≡◌, ℕ, ◌<◌, Bool, true, false, cond, List, [], ◌∷◌, ◌++◌, length}
 use Rattle.std.proofs.Common.{map, get_or, take, drop, ◌+◌, ◌↔◌, refl, sym, ap, subst, ◌∙◌, arith}
-use Rattle.std.proofs.Common.{inl, inr}
-use Rattle.std.specs.Prelude.{◌==◌, ◌&&◌, not, nat_lt, ◌⊎◌, codes}
+use Rattle.std.specs.Prelude.{◌==◌, ◌&&◌, not, nat_lt, codes}
 use Rattle.std.proofs.lemmas.List.{drop_more, take-append-drop, length-map, length-append}
 use Rattle.std.proofs.lemmas.List.{append_assoc, get_or_at, take_at, drop_at}
 use Rattle.std.specs.Char.{to_ascii_lowercase}

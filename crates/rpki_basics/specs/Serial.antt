@@ -1,5 +1,5 @@
 -- Serial numbers.
-use Rattle.std.specs.Prelude.{◌≡◌, ℕ, zero, suc, ◌<◌, ◌/◌, ◌%◌, ◌^◌, List, [], ◌∷◌, ◌++◌, length}
+use Rattle.std.specs.Prelude.{◌≡◌, ℕ, zero, suc, ◌/◌, ◌%◌, ◌^◌, List, [], ◌∷◌, ◌++◌, length}
 use Rattle.std.specs.Prelude.{codes, nat_lt, if◌then◌else◌}
 use Rattle.rpki_der.specs.declared.mode.Mode.{Mode}
 use Rattle.rpki_der.specs.Grammar.{IntegerBelow, IsBytes}

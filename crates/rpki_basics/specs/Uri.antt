@@ -1,8 +1,8 @@
 -- URIs of objects: rsync and https. The sections are those of RFC 3986, where no other RFC is
 -- named.
-use Rattle.std.specs.Prelude.{◌≡◌, ◌≢◌, ℕ, ◌≤◌, ◌<◌, Bool, true, false, ◌&&◌, ◌||◌, not, nat_le}
+use Rattle.std.specs.Prelude.{◌≡◌, ◌≢◌, ℕ, ◌<◌, Bool, true, ◌&&◌, ◌||◌, not, nat_le}
 use Rattle.std.specs.Prelude.{nat_eq, ◌==◌, if◌then◌else◌, List, [], ◌∷◌, ◌++◌, length, map, codes}
-use Rattle.std.specs.Prelude.{Option, None, Some, Result, Ok, Err}
+use Rattle.std.specs.Prelude.{Result, Ok, Err}
 use Rattle.std.specs.List.{list_all, ends_with}
 use Rattle.std.specs.Char.{to_ascii_lowercase}
 use Rattle.rpki_basics.specs.Segments.{segments}

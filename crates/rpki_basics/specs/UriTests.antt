@@ -1,6 +1,6 @@
 -- The tests of URIs.
-use Rattle.std.specs.Prelude.{ℕ, ◌<◌, Bool, true, false, ◌&&◌, not, nat_lt, ◌==◌, if◌then◌else◌}
-use Rattle.std.specs.Prelude.{List, [], ◌∷◌, length, Option, None, Some}
+use Rattle.std.specs.Prelude.{ℕ, Bool, true, false, ◌&&◌, not, nat_lt, ◌==◌}
+use Rattle.std.specs.Prelude.{List, [], ◌∷◌, length}
 
 -- whether it is . or ..
 abbrev pub is_dot_segment : List ℕ → Bool

@@ -3,7 +3,7 @@
 ghost use Rattle.std.proofs.Common.{rules};
 ghost use Rattle.std.specs.Cmp.Rules.{comparing};
 ghost use Rattle.std.specs.Prelude.{◌≡◌, ◌==◌, ℕ, ◌≤◌, ◌<◌, ◌^◌, List, length, IfOk, None, Some};
-ghost use Rattle.rpki_der.specs.Read.Parse.{Finds, number, number_of, unsigned_of};
+ghost use Rattle.rpki_der.specs.Read.Parse.{Finds, number, number_of, digits_of, unsigned_of};
 ghost use Rattle.rpki_der.specs.Hex.{digit};
 ghost use Rattle.rpki_der.specs.Read.Reads.{Reads, OkOrMemory};
 ghost use Rattle.rpki_der.specs.Grammar.{Front, IsBytes};
@@ -91,16 +91,25 @@ fn number_in(digits: &[u8]) -> Option<Serial>
     }
 }
 
-// The number of the contents of an INTEGER.
-#[tactic(auto, unfolding(rpki_der::specs::Read::Parse::unsigned_of, rpki_der::specs::Read::Parse::digits_of))]
-fn number_of(contents: &[u8]) -> Option<Serial>
-    ensures { Finds (λ s. s) result (unsigned_of 20 contents.now) }
+// The digits to base 256 of the contents of an INTEGER that is not negative, in its shortest form.
+#[tactic(auto, unfolding(rpki_der::specs::Read::Parse::digits_of))]
+fn digits_of(contents: &[u8]) -> Option<&[u8]>
+    ensures { Finds (λ digits. digits.now) result (digits_of contents.now) }
 {
     match contents {
         [] => None,
-        [0, rest @ ..] if !rest.is_empty() => { if rest[0] < 128 { None } else { number_in(rest) } }
-        [a, ..] => { if *a < 128 { number_in(contents) } else { None } }
+        [0, rest @ ..] if !rest.is_empty() => { if rest[0] < 128 { None } else { Some(rest) } }
+        [a, ..] => { if *a < 128 { Some(contents) } else { None } }
     }
+}
+
+// The number of the contents of an INTEGER.
+#[tactic(auto, unfolding(rpki_der::specs::Read::Parse::unsigned_of))]
+fn number_of(contents: &[u8]) -> Option<Serial>
+    ensures { Finds (λ s. s) result (unsigned_of 20 contents.now) }
+{
+    let digits = digits_of(contents)?;
+    number_in(digits)
 }
 
 // Reads a serial number.

@@ -1,4 +1,4 @@
-use Rattle.std.proofs.Common.{sym, arith}
+use Rattle.std.proofs.Common.{arith}
 use Rattle.rpki_der.proofs.Reading.Exact.{IsBytes-of}
 use Rattle.rpki_basics.proofs.SerialFacts.{padded-number}
 use Rattle.rpki_basics.proofs.serial.padded.Goals as goal
