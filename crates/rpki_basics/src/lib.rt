@@ -1,5 +1,5 @@
-//! Simple values of signed objects, and what is handed in: times, serial numbers, names, URIs, keys,
-//! cryptography, a clock and a signer. Keys and what is asked of cryptography are those of
+//! Simple values of signed objects, and what is handed in: times, serial numbers, names, URIs,
+//! keys, cryptography, a clock and a signer. Keys and what is asked of cryptography are those of
 //! `rpki_keys`, under the names of this crate.
 #![tactic(auto)]
 
