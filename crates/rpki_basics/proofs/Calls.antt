@@ -8,7 +8,8 @@ use Rattle.rpki_der.specs.declared.error.DecodeError.TheVariants.{Malformed, Con
 use Rattle.rpki_der.specs.Read.State.{State}
 use Rattle.rpki_der.specs.Read.Parse.{Parser, is_next, value_at}
 use Rattle.rpki_der.specs.Read.Reads.{Reads, Answers, OkOrMemory}
-use Rattle.rpki_der.specs.Grammar.{Front, IsExact, IsBytes, anything}
+use Rattle.rpki_der.specs.Grammar.{Front, IsBytes}
+use Rattle.rpki_der.specs.Read.Exact.{IsExact, anything}
 use Rattle.rpki_der.proofs.Reading.Many.{Shortens}
 use Rattle.rpki_der.proofs.Reading.Calls.{reads-ok}
 

@@ -7,7 +7,7 @@ use Rattle.std.proofs.lemmas.List.{ext_get_or}
 use Rattle.std.proofs.lemmas.Slice.Eq.{bytes_eq-Decides}
 use Rattle.std.proofs.lemmas.Bool.{cases_lt, eq-eqb, ne_eqb}
 use Rattle.std.proofs.Math.Nat.{pow-le-pow_right}
-use Rattle.rpki_der.specs.Read.Parse.{number}
+use Rattle.rpki_der.specs.Numbers.{number}
 use Rattle.rpki_der.specs.Grammar.{IsBytes}
 use Rattle.rpki_der.proofs.Reading.Integers.{Holds}
 use Rattle.rpki_basics.specs.Digits.{number-below, number-head, digits_again}

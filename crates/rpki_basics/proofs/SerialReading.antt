@@ -1,9 +1,10 @@
 -- Serial numbers are read exactly.
-use Rattle.rpki_forms.specs.Tags.{INTEGER}
+use Rattle.rpki_der.specs.Tags.{INTEGER}
 use Rattle.std.proofs.Common.{◌<◌, ◌^◌, arith}
 use Rattle.rpki_der.specs.declared.mode.Mode.{Mode}
 use Rattle.rpki_der.specs.Read.Parse.{unsigned_of}
-use Rattle.rpki_der.specs.Grammar.{IsExact, IsInteger, IsReading, anything}
+use Rattle.rpki_der.specs.Read.Exact.{IsExact, IsReading, anything}
+use Rattle.rpki_der.specs.Grammar.{IsInteger}
 use Rattle.rpki_der.proofs.Reading.Exact.{IsExactContents, exact-primitive}
 use Rattle.rpki_der.proofs.Reading.Integers.{exact-unsigned}
 use Rattle.rpki_der.proofs.Reading.Unique.{reading-primitive}

@@ -1,14 +1,15 @@
 -- What is written of a serial number is in its form.
-use Rattle.rpki_forms.specs.Tags.{INTEGER}
-use Rattle.std.proofs.Common.{◌≡◌, ℕ, zero, suc, ◌+◌, ◌*◌, ◌/◌, ◌%◌, ◌^◌, ◌<◌, ◌≤◌, List}
-use Rattle.std.proofs.Common.{◌++◌, length, Some, refl, sym, ap, subst, ◌∙◌, arith}
+use Rattle.rpki_der.specs.Tags.{INTEGER}
+use Rattle.std.proofs.Common.{◌≡◌, ℕ, zero, suc, ◌+◌, ◌*◌, ◌/◌, ◌%◌, ◌^◌, ◌<◌, ◌≤◌, List, ◌++◌}
+use Rattle.std.proofs.Common.{length, Some, refl, sym, ap, subst, ◌∙◌, arith}
 use Rattle.std.proofs.Math.Nat.{pow-suc, mod-lt, div-lt_iff_lt-mul, mul_comm}
 use Rattle.std.proofs.lemmas.Nat.{div-add-mod'}
 use Rattle.rpki_der.specs.declared.mode.Mode.{Mode}
 use Rattle.rpki_der.specs.declared.mode.Mode.TheVariants.{Der}
 use Rattle.rpki_der.specs.Grammar.{IsBytes, IsInteger}
-use Rattle.rpki_der.specs.Read.Parse.{number, unsigned_of}
-use Rattle.rpki_der.specs.Written.{integer_contents, significant}
+use Rattle.rpki_der.specs.Numbers.{number}
+use Rattle.rpki_der.specs.Read.Parse.{unsigned_of}
+use Rattle.rpki_der.specs.Write.Written.{integer_contents, significant}
 use Rattle.rpki_der.proofs.Reading.Scan.{tag-sound}
 use Rattle.rpki_der.proofs.Writing.Numbers.{length-integer_contents, length-significant, integer-is}
 use Rattle.rpki_der.proofs.Writing.Numbers.{unsigned-written}

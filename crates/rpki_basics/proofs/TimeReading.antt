@@ -1,11 +1,11 @@
 -- Values that are times are read exactly.
-use Rattle.rpki_forms.specs.Tags.{GENERALIZED_TIME, UTC_TIME}
-use Rattle.std.proofs.Common.{◌≡◌, ℕ, true, false, List, ◌++◌, Option, Some}
-use Rattle.std.proofs.Common.{None, refl, sym, ◌∙◌, inl, inr}
+use Rattle.rpki_der.specs.Tags.{GENERALIZED_TIME, UTC_TIME}
+use Rattle.std.proofs.Common.{◌≡◌, ℕ, true, false, List, ◌++◌, Option, Some, None, refl, sym, ◌∙◌}
+use Rattle.std.proofs.Common.{inl, inr}
 use Rattle.rpki_der.specs.declared.mode.Mode.{Mode}
 use Rattle.rpki_der.specs.declared.mode.Mode.TheVariants.{Der, Ber}
-use Rattle.rpki_der.specs.Read.Parse.{is_next}
-use Rattle.rpki_der.specs.Grammar.{IsExact, IsReading, anything}
+use Rattle.rpki_der.specs.Read.Parse.{is_next, Finds}
+use Rattle.rpki_der.specs.Read.Exact.{IsExact, IsReading, anything}
 use Rattle.rpki_der.proofs.Reading.Lengths.{chosen}
 use Rattle.rpki_der.proofs.Reading.Exact.{exact-primitive}
 use Rattle.rpki_der.proofs.Reading.Lists.{begins-within}
@@ -13,7 +13,6 @@ use Rattle.rpki_der.proofs.Reading.Unique.{reading, within-ber}
 use Rattle.rpki_basics.specs.Moment.{Moment, IsMoment}
 use Rattle.rpki_basics.specs.TimeForm.{utc_text, generalized_text, IsUtcYear, TimeForm}
 use Rattle.rpki_basics.specs.TimeRead.{utc_of, generalized_of, time_at, IsTimeOf}
-use Rattle.rpki_der.specs.Read.Parse.{Finds}
 use Rattle.rpki_basics.proofs.TimeExact.{exact-utc, exact-generalized, generalized-sound}
 
 abbrev IsUtc : List ℕ → Moment → Type 0

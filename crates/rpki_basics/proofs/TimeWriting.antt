@@ -1,21 +1,17 @@
 -- What is written of a time is in its form.
-use Rattle.rpki_forms.specs.Tags.{GENERALIZED_TIME, UTC_TIME}
-use Rattle.std.proofs.Common.{◌++◌, Some, ap, ◌∙◌}
-use Rattle.std.specs.Prelude.{◌⊎◌}
+use Rattle.rpki_der.specs.Tags.{GENERALIZED_TIME, UTC_TIME}
+use Rattle.std.proofs.Common.{◌++◌, Some, ap, ◌∙◌, ◌≡◌, ℕ, Bool, true, false, cond, List, inl, inr}
+use Rattle.std.proofs.Common.{refl, arith}
+use Rattle.std.specs.Prelude.{◌⊎◌, nat_le, nat_lt}
 use Rattle.rpki_der.specs.declared.mode.Mode.{Mode}
-use Rattle.rpki_der.specs.declared.mode.Mode.TheVariants.{Ber}
+use Rattle.rpki_der.specs.declared.mode.Mode.TheVariants.{Ber, Der}
 use Rattle.rpki_der.specs.Grammar.{IsBytes}
-use Rattle.rpki_der.proofs.Writing.Lengths.{value-unique}
+use Rattle.rpki_der.proofs.Writing.Lengths.{value-unique, value-written}
 use Rattle.rpki_basics.specs.TimeRead.{time_at}
 use Rattle.rpki_basics.proofs.TimeReading.{exact-time, time_reading}
-use Rattle.std.proofs.Common.{◌≡◌, ℕ, Bool, true, false, cond, List, inl, inr}
-use Rattle.std.proofs.Common.{refl, arith}
-use Rattle.std.specs.Prelude.{nat_le, nat_lt}
 use Rattle.std.proofs.lemmas.Bool.{leb-true, ltb-true, and_parts}
-use Rattle.rpki_der.specs.declared.mode.Mode.TheVariants.{Der}
-use Rattle.rpki_der.specs.Written.{value_octets}
+use Rattle.rpki_der.specs.Write.Written.{value_octets}
 use Rattle.rpki_der.proofs.Reading.Scan.{tag-sound}
-use Rattle.rpki_der.proofs.Writing.Lengths.{value-written}
 use Rattle.rpki_basics.specs.Moment.{Moment, IsMoment}
 use Rattle.rpki_basics.specs.TimeForm.{TimeForm, utc_text, generalized_text, is_utc_year}
 use Rattle.rpki_basics.specs.TimeForm.{generalized_octets, time_octets}

@@ -1,9 +1,9 @@
 -- Digits to base 256.
-use Rattle.std.proofs.Common.{◌≡◌, ℕ, suc, ◌+◌, ◌*◌, ◌/◌, ◌%◌, ◌^◌, ◌<◌, List, [], ◌∷◌}
-use Rattle.std.proofs.Common.{length, refl, sym, ap, ◌∙◌, arith}
+use Rattle.std.proofs.Common.{◌≡◌, ℕ, suc, ◌+◌, ◌*◌, ◌/◌, ◌%◌, ◌^◌, ◌<◌, List, [], ◌∷◌, length}
+use Rattle.std.proofs.Common.{refl, sym, ap, ◌∙◌, arith}
 use Rattle.std.proofs.lemmas.Nat.{div-mul-add, mod-mul-add, mul-add-lt}
 use Rattle.std.proofs.Math.Nat.{add-mul, mul_assoc, pow-suc, pow-succ'}
-use Rattle.rpki_der.specs.Read.Parse.{number}
+use Rattle.rpki_der.specs.Numbers.{number}
 use Rattle.rpki_der.specs.Grammar.{IsBytes}
 use Rattle.rpki_basics.specs.Serial.{digits, IsDigits}
 

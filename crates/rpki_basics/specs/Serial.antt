@@ -1,12 +1,12 @@
 -- Serial numbers.
-use Rattle.std.specs.Prelude.{◌≡◌, ℕ, zero, suc, ◌/◌, ◌%◌, ◌^◌, List, [], ◌∷◌, ◌++◌, length}
-use Rattle.std.specs.Prelude.{codes, nat_lt, if◌then◌else◌}
+use Rattle.std.specs.Prelude.{◌≡◌, ℕ, zero, suc, ◌/◌, ◌%◌, ◌^◌, List, [], ◌∷◌, ◌++◌, length, codes}
+use Rattle.std.specs.Prelude.{nat_lt, if◌then◌else◌}
 use Rattle.rpki_der.specs.declared.mode.Mode.{Mode}
 use Rattle.rpki_der.specs.Grammar.{IntegerBelow, IsBytes}
-use Rattle.rpki_der.specs.Hex.{digit, hex_octet, hex}
+use Rattle.rpki_der.specs.Text.Hex.{digit, hex_octet, hex}
 use Rattle.rpki_der.specs.Read.Parse.{Parser, primitive, unsigned_of}
-use Rattle.rpki_der.specs.Written.{value_octets, integer_contents, significant}
-use Rattle.rpki_forms.specs.Tags.{INTEGER}
+use Rattle.rpki_der.specs.Write.Written.{value_octets, integer_contents, significant}
+use Rattle.rpki_der.specs.Tags.{INTEGER}
 
 -- The lowest digits to base 256 of a number, of which there are count, the highest one first.
 unfoldable pub digits : ℕ → ℕ → List ℕ

@@ -3,8 +3,8 @@ use Rattle.std.specs.Prelude.{◌≡◌, ℕ, ◌+◌, ◌/◌, ◌%◌, ◌≤�
 use Rattle.std.specs.Prelude.{Bool, nat_le, nat_lt, ◌&&◌, if◌then◌else◌}
 use Rattle.rpki_der.specs.declared.mode.Mode.{Mode}
 use Rattle.rpki_der.specs.Grammar.{Within}
-use Rattle.rpki_der.specs.Written.{value_octets}
-use Rattle.rpki_forms.specs.Tags.{UTC_TIME, GENERALIZED_TIME}
+use Rattle.rpki_der.specs.Write.Written.{value_octets}
+use Rattle.rpki_der.specs.Tags.{UTC_TIME, GENERALIZED_TIME}
 use Rattle.rpki_basics.specs.Moment.{Moment, IsMoment}
 
 -- A number below 100 in two decimal digits.

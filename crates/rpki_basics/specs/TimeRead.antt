@@ -2,7 +2,7 @@
 use Rattle.std.specs.Prelude.{◌≡◌, ℕ, ◌+◌, ◌-◌, ◌*◌, List, [], ◌∷◌, Option, None, Some, Bool}
 use Rattle.std.specs.Prelude.{false, ◌&&◌, nat_le, nat_lt, ◌==◌, if◌then◌else◌}
 use Rattle.rpki_der.specs.Read.Parse.{Parser, ◌>>=◌, primitive, is_next}
-use Rattle.rpki_forms.specs.Tags.{UTC_TIME, GENERALIZED_TIME}
+use Rattle.rpki_der.specs.Tags.{UTC_TIME, GENERALIZED_TIME}
 use Rattle.rpki_basics.specs.Moment.{Moment, IsMoment, is_moment}
 use Rattle.rpki_basics.specs.TimeForm.{generalized_text}
 

@@ -3,9 +3,10 @@
 ghost use Rattle.std.specs.Prelude.{◌≡◌, ◌↔◌, ◌<◌, ◌^◌, ◌++◌, ◌⊎◌, ℕ, List, Some};
 ghost use Rattle.rpki_der.specs.declared.mode.Mode.{Mode};
 ghost use Rattle.rpki_der.specs.declared.mode.Mode.TheVariants.{Der};
-ghost use Rattle.rpki_der.specs.Grammar.{IsBytes, IsReading};
-ghost use Rattle.rpki_der.specs.Written.{value_octets};
-ghost use Rattle.rpki_forms.specs.Tags.{UTC_TIME};
+ghost use Rattle.rpki_der.specs.Grammar.{IsBytes};
+ghost use Rattle.rpki_der.specs.Read.Exact.{IsReading};
+ghost use Rattle.rpki_der.specs.Write.Written.{value_octets};
+ghost use Rattle.rpki_der.specs.Tags.{UTC_TIME};
 ghost use Rattle.rpki_basics.specs.Moment.{Moment, IsMoment, IsEarlier, stamp};
 ghost use Rattle.rpki_basics.specs.TimeForm.{TimeForm, utc_text, time_octets, generalized_octets};
 ghost use Rattle.rpki_basics.specs.TimeRead.{time_at};

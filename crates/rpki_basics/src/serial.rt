@@ -3,13 +3,14 @@
 ghost use Rattle.std.proofs.Common.{rules};
 ghost use Rattle.std.specs.Cmp.Rules.{comparing};
 ghost use Rattle.std.specs.Prelude.{◌≡◌, ◌==◌, ℕ, ◌≤◌, ◌<◌, ◌^◌, List, length, IfOk, None, Some};
-ghost use Rattle.rpki_der.specs.Read.Parse.{Finds, number, number_of, digits_of, unsigned_of};
-ghost use Rattle.rpki_der.specs.Hex.{digit};
+ghost use Rattle.rpki_der.specs.Read.Parse.{Finds, number_of, digits_of, unsigned_of};
+ghost use Rattle.rpki_der.specs.Numbers.{number};
+ghost use Rattle.rpki_der.specs.Text.Hex.{digit};
 ghost use Rattle.rpki_der.specs.Read.Reads.{Reads, OkOrMemory};
 ghost use Rattle.rpki_der.specs.Grammar.{Front, IsBytes};
-ghost use Rattle.rpki_der.specs.Written.{significant};
+ghost use Rattle.rpki_der.specs.Write.Written.{significant};
 ghost use Rattle.rpki_der.specs.declared.mode.Mode.TheVariants.{Der};
-ghost use Rattle.rpki_forms.specs.Tags.{INTEGER};
+ghost use Rattle.rpki_der.specs.Tags.{INTEGER};
 ghost use Rattle.rpki_basics.specs.Serial.{digits, SerialForm, serial_at, serial_octets};
 ghost use Rattle.rpki_basics.specs.Serial.{serial_text, hex_text};
 
@@ -28,7 +29,7 @@ pub struct Serial {
 
 impl Model for Serial {
     ghost use Rattle.std.specs.Prelude.{ℕ};
-    ghost use Rattle.rpki_der.specs.Read.Parse.{number};
+    ghost use Rattle.rpki_der.specs.Numbers.{number};
     ghost use Rattle.rpki_basics.specs.Serial.{digits, IsDigits};
     ghost use Rattle.rpki_basics.specs.Digits.{digits_again};
 

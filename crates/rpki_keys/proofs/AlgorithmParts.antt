@@ -6,14 +6,14 @@ use Rattle.std.proofs.lemmas.Slice.Eq.{bytes_eq-Decides}
 use Rattle.rpki_der.specs.declared.mode.Mode.{Mode}
 use Rattle.rpki_der.specs.declared.mode.Mode.TheVariants.{Der, Ber}
 use Rattle.rpki_der.specs.Read.Parse.{Parser}
-use Rattle.rpki_der.specs.Grammar.{IsExact, IsReading, anything}
+use Rattle.rpki_der.specs.Read.Exact.{IsExact, IsReading, anything}
 use Rattle.rpki_der.proofs.Reading.Unique.{reading, IsOneValue}
-use Rattle.rpki_forms.specs.Tags.{SEQUENCE, NULL}
-use Rattle.rpki_forms.specs.Form.Law.{nothing, is, IsPart}
-use Rattle.rpki_forms.specs.Form.Made.{Partly, partly}
-use Rattle.rpki_forms.proofs.Form.Fields.{field, skipped, done, within}
-use Rattle.rpki_forms.proofs.Form.Words.{part-as, make-some, option}
-use Rattle.rpki_forms.proofs.Form.Kinds.{oid-part, null-part}
+use Rattle.rpki_der.specs.Tags.{SEQUENCE, NULL}
+use Rattle.rpki_der.specs.Form.Law.{nothing, is, IsPart}
+use Rattle.rpki_der.specs.Form.Made.{Partly, partly}
+use Rattle.rpki_der.proofs.Form.Fields.{field, skipped, done, within}
+use Rattle.rpki_der.proofs.Form.Words.{part-as, make-some, option}
+use Rattle.rpki_der.proofs.Form.Kinds.{oid-part, null-part}
 use Rattle.rpki_keys.specs.Algorithm.{AlgorithmForm, DigestAlgorithmForm, CmsAlgorithmForm}
 use Rattle.rpki_keys.specs.Algorithm.{CertAlgorithmForm, algorithm_fields_at, algorithm_at, named}
 use Rattle.rpki_keys.specs.Algorithm.{either_named, digest_algorithm_at, cms_algorithm_at}

@@ -1,12 +1,12 @@
 -- In DER an algorithm and a key have two writings: with a NULL, and without.
-use Rattle.rpki_forms.specs.Tags.{BIT_STRING, NULL, OBJECT_IDENTIFIER, SEQUENCE}
-use Rattle.std.proofs.Common.{◌≡◌, ℕ, List, [], ◌++◌, Option, Some, None, sym, ap, subst}
-use Rattle.std.proofs.Common.{◌∙◌, inl, inr}
+use Rattle.rpki_der.specs.Tags.{BIT_STRING, NULL, OBJECT_IDENTIFIER, SEQUENCE}
+use Rattle.std.proofs.Common.{◌≡◌, ℕ, List, [], ◌++◌, Option, Some, None, sym, ap, subst, ◌∙◌, inl}
+use Rattle.std.proofs.Common.{inr}
 use Rattle.std.specs.Prelude.{◌⊎◌}
 use Rattle.std.proofs.lemmas.List.{append-nil}
 use Rattle.rpki_der.specs.declared.mode.Mode.TheVariants.{Der}
 use Rattle.rpki_der.specs.Grammar.{Value, ObjectIdentifier, Null, Optional, BitString, IsBytes}
-use Rattle.rpki_der.specs.Written.{value_octets, bit_string_contents}
+use Rattle.rpki_der.specs.Write.Written.{value_octets, bit_string_contents}
 use Rattle.rpki_der.proofs.Reading.Exact.{IsBytes-left, IsBytes-right, IsBytes-contents}
 use Rattle.rpki_der.proofs.Writing.Lengths.{value-unique}
 use Rattle.rpki_der.proofs.Writing.Strings.{bits-whole}

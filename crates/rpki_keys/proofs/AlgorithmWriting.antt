@@ -1,16 +1,16 @@
 -- What is written of an algorithm is in its form.
-use Rattle.rpki_forms.specs.Tags.{NULL, OBJECT_IDENTIFIER, SEQUENCE}
-use Rattle.std.proofs.Common.{ℕ, ◌<◌, ◌^◌, List, [], ◌++◌, length, Some, None, refl}
-use Rattle.std.proofs.Common.{sym, arith, length-append}
+use Rattle.rpki_der.specs.Tags.{NULL, OBJECT_IDENTIFIER, SEQUENCE}
+use Rattle.std.proofs.Common.{ℕ, ◌<◌, ◌^◌, List, [], ◌++◌, length, Some, None, refl, sym, arith}
+use Rattle.std.proofs.Common.{length-append}
 use Rattle.std.proofs.lemmas.List.{append-nil}
 use Rattle.rpki_der.specs.declared.mode.Mode.TheVariants.{Der}
 use Rattle.rpki_der.specs.Grammar.{ObjectIdentifier, Null}
 use Rattle.rpki_der.specs.Oid.{IsOid}
-use Rattle.rpki_der.specs.Written.{value_octets, length_value_octets_le}
+use Rattle.rpki_der.specs.Write.Written.{value_octets, length_value_octets_le}
 use Rattle.rpki_der.proofs.Reading.Scan.{tag-sound}
 use Rattle.rpki_der.proofs.Writing.Lengths.{value-written}
-use Rattle.rpki_keys.specs.Algorithm.{AlgorithmForm, algorithm_alone, algorithm_and_null}
-use Rattle.rpki_keys.specs.Algorithm.{sha_256, rsa_encryption, sha256_with_rsa}
+use Rattle.rpki_keys.specs.Algorithm.{AlgorithmForm, algorithm_alone, algorithm_and_null, sha_256}
+use Rattle.rpki_keys.specs.Algorithm.{rsa_encryption, sha256_with_rsa}
 
 pub oid-written : (oid : List ℕ) → IsOid oid → length oid < 100
     → ObjectIdentifier Der (value_octets OBJECT_IDENTIFIER oid) oid

@@ -1,13 +1,12 @@
 -- What is written of a key is in its form.
-use Rattle.rpki_forms.specs.Tags.{BIT_STRING, SEQUENCE}
-use Rattle.std.proofs.Common.{◌≡◌, ℕ, ◌<◌, ◌^◌, List, [], ◌++◌, length, Some, refl, sym}
-use Rattle.std.proofs.Common.{arith}
+use Rattle.rpki_der.specs.Tags.{BIT_STRING, SEQUENCE}
+use Rattle.std.proofs.Common.{◌≡◌, ℕ, ◌<◌, ◌^◌, List, [], ◌++◌, length, Some, refl, sym, arith}
 use Rattle.std.proofs.lemmas.List.{append-nil}
 use Rattle.rpki_der.specs.declared.mode.Mode.{Mode}
 use Rattle.rpki_der.specs.declared.mode.Mode.TheVariants.{Der}
 use Rattle.rpki_der.specs.Grammar.{BitString}
-use Rattle.rpki_der.specs.Parts.{length_parts, contents_small}
-use Rattle.rpki_der.specs.Written.{value_octets, bit_string_contents}
+use Rattle.rpki_der.specs.Write.Parts.{length_parts, contents_small}
+use Rattle.rpki_der.specs.Write.Written.{value_octets, bit_string_contents}
 use Rattle.rpki_der.proofs.Reading.Scan.{tag-sound}
 use Rattle.rpki_der.proofs.Writing.Lengths.{value-written}
 use Rattle.rpki_der.proofs.Writing.Strings.{bits-whole}

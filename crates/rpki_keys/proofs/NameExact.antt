@@ -1,11 +1,11 @@
 -- Names are read exactly.
-use Rattle.rpki_forms.specs.Tags.{SEQUENCE}
+use Rattle.rpki_der.specs.Tags.{SEQUENCE}
 use Rattle.std.proofs.Common.{◌≡◌, ℕ, List, [], ◌++◌, Some, sym, ap, subst, ◌∙◌}
 use Rattle.std.proofs.lemmas.List.{append-nil}
 use Rattle.rpki_der.specs.declared.mode.Mode.{Mode}
-use Rattle.rpki_der.specs.Read.Parse.{in_value, skip_all_at, taken, there, all_of}
-use Rattle.rpki_der.specs.Read.Parse.{skip_at}
-use Rattle.rpki_der.specs.Grammar.{IsExact, IsReading, Skipped, ListOf, anything}
+use Rattle.rpki_der.specs.Read.Parse.{in_value, skip_all_at, taken, there, all_of, skip_at}
+use Rattle.rpki_der.specs.Read.Exact.{IsExact, IsReading, anything}
+use Rattle.rpki_der.specs.Grammar.{Skipped, ListOf}
 use Rattle.rpki_der.proofs.Reading.Lengths.{bind_some, some_is}
 use Rattle.rpki_der.proofs.Reading.Exact.{the_end, exact-in}
 use Rattle.rpki_der.proofs.Reading.Skips.{skip-all-sound, skip-all-complete}

@@ -1,13 +1,13 @@
 -- Identifiers of algorithms (RFC 5280, section 4.1.1.2; RFC 7935, section 2).
-use Rattle.std.specs.Prelude.{ℕ, List, [], ◌∷◌, ◌++◌, ◌⊎◌, Option, Some, None, bytes_eq}
-use Rattle.std.specs.Prelude.{◌||◌, if◌then◌else◌}
+use Rattle.std.specs.Prelude.{ℕ, List, [], ◌∷◌, ◌++◌, ◌⊎◌, Option, Some, None, bytes_eq, ◌||◌}
+use Rattle.std.specs.Prelude.{if◌then◌else◌}
 use Rattle.rpki_der.specs.declared.mode.Mode.{Mode}
 use Rattle.rpki_der.specs.Grammar.{ObjectIdentifier, Null, Optional}
 use Rattle.rpki_der.specs.Read.Parse.{Parser, ◌>>=◌, oid_at, primitive, null_of, optional}
-use Rattle.rpki_der.specs.Written.{value_octets}
-use Rattle.rpki_forms.specs.Tags.{SEQUENCE, OBJECT_IDENTIFIER, NULL}
-use Rattle.rpki_forms.specs.Form.Parts.{Sequence, sequence_at}
-use Rattle.rpki_forms.specs.Form.Made.{Ignored, partly}
+use Rattle.rpki_der.specs.Write.Written.{value_octets}
+use Rattle.rpki_der.specs.Tags.{SEQUENCE, OBJECT_IDENTIFIER, NULL}
+use Rattle.rpki_der.specs.Form.Parts.{Sequence, sequence_at}
+use Rattle.rpki_der.specs.Form.Made.{Ignored, partly}
 
 -- id-sha256, 2.16.840.1.101.3.4.2.1 (RFC 5754, section 2.2)
 abbrev pub sha_256 : List ℕ

@@ -3,10 +3,10 @@ use Rattle.std.specs.Prelude.{ℕ, List, [], ◌∷◌, ◌++◌, Some}
 use Rattle.rpki_der.specs.declared.mode.Mode.{Mode}
 use Rattle.rpki_der.specs.Grammar.{BitString}
 use Rattle.rpki_der.specs.Read.Parse.{Parser, ◌>>=◌, bits_at}
-use Rattle.rpki_der.specs.Written.{value_octets, bit_string_contents}
-use Rattle.rpki_forms.specs.Tags.{SEQUENCE, BIT_STRING}
-use Rattle.rpki_forms.specs.Form.Parts.{Sequence, sequence_at}
-use Rattle.rpki_forms.specs.Form.Made.{partly, whole_bits}
+use Rattle.rpki_der.specs.Write.Written.{value_octets, bit_string_contents}
+use Rattle.rpki_der.specs.Tags.{SEQUENCE, BIT_STRING}
+use Rattle.rpki_der.specs.Form.Parts.{Sequence, sequence_at}
+use Rattle.rpki_der.specs.Form.Made.{partly, whole_bits}
 use Rattle.rpki_keys.specs.Algorithm.{AlgorithmForm, rsa_encryption, named, algorithm_at}
 use Rattle.rpki_keys.specs.Algorithm.{algorithm_alone, algorithm_and_null}
 

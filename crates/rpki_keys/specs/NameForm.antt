@@ -3,9 +3,9 @@ use Rattle.std.specs.Prelude.{◌≡◌, ℕ, List, [], ◌∷◌, ◌++◌}
 use Rattle.rpki_der.specs.declared.mode.Mode.{Mode}
 use Rattle.rpki_der.specs.Grammar.{Value, Within, Skipped, ListOf, ObjectIdentifier}
 use Rattle.rpki_der.specs.Read.Parse.{Parser, skip_all_at, captured}
-use Rattle.rpki_der.specs.Written.{value_octets}
-use Rattle.rpki_forms.specs.Tags.{SEQUENCE, SET, OBJECT_IDENTIFIER, PRINTABLE_STRING}
-use Rattle.rpki_forms.specs.Form.Parts.{Sequence, Set, sequence_at}
+use Rattle.rpki_der.specs.Write.Written.{value_octets}
+use Rattle.rpki_der.specs.Tags.{SEQUENCE, SET, OBJECT_IDENTIFIER, PRINTABLE_STRING}
+use Rattle.rpki_der.specs.Form.Parts.{Sequence, Set, sequence_at}
 use Rattle.rpki_keys.specs.Hex.{upper_hex}
 
 -- Name: a SEQUENCE of values that are skipped, whose octets are kept (RFC 5280, section 4.1.2.4).

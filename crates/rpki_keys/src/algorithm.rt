@@ -4,7 +4,7 @@ ghost use Rattle.std.specs.Prelude.{◌≡◌, ℕ, List, IfOk, None};
 ghost use Rattle.rpki_der.specs.declared.mode.Mode.TheVariants.{Der};
 ghost use Rattle.rpki_der.specs.Read.Reads.{Reads, OkOrMemory};
 ghost use Rattle.rpki_der.specs.Grammar.{Front, IsBytes};
-ghost use Rattle.rpki_forms.specs.Form.Made.{partly};
+ghost use Rattle.rpki_der.specs.Form.Made.{partly};
 ghost use Rattle.rpki_keys.specs.Algorithm.{algorithm_fields_at, algorithm_at, named, either_named};
 ghost use Rattle.rpki_keys.specs.Algorithm.{DigestAlgorithmForm, CmsAlgorithmForm};
 ghost use Rattle.rpki_keys.specs.Algorithm.{CertAlgorithmForm, digest_algorithm_at};
@@ -124,7 +124,7 @@ impl DigestAlgorithm {
     }
 
     /// The algorithm of digests, without a NULL (RFC 5754, section 2).
-    #[tactic(auto, unfolding(rpki_der::specs::Written::length_octets))]
+    #[tactic(auto, unfolding(rpki_der::specs::Write::Written::length_octets))]
     pub fn encode_ref(self) -> AlgorithmEncoder
         ensures octets { result.0.now ≡ digest_algorithm_octets }
         ensures written { DigestAlgorithmForm Der digest_algorithm_octets tt }
@@ -173,7 +173,7 @@ impl RpkiSignatureAlgorithm {
 
     /// The algorithm of a signature of signed objects: rsaEncryption with a NULL (RFC 7935, section
     /// 2).
-    #[tactic(auto, unfolding(rpki_der::specs::Written::length_octets))]
+    #[tactic(auto, unfolding(rpki_der::specs::Write::Written::length_octets))]
     pub fn encode_cms(self) -> AlgorithmEncoder
         ensures octets { result.0.now ≡ cms_algorithm_octets }
         ensures written { CmsAlgorithmForm Der cms_algorithm_octets tt }
@@ -186,7 +186,7 @@ impl RpkiSignatureAlgorithm {
 
     /// The algorithm of a signature of certificates and revocation lists: sha256WithRSAEncryption
     /// with a NULL (RFC 7935, section 2).
-    #[tactic(auto, unfolding(rpki_der::specs::Written::length_octets))]
+    #[tactic(auto, unfolding(rpki_der::specs::Write::Written::length_octets))]
     pub fn encode_cert(self) -> AlgorithmEncoder
         ensures octets { result.0.now ≡ cert_algorithm_octets }
         ensures written { CertAlgorithmForm Der cert_algorithm_octets tt }

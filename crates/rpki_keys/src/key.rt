@@ -6,9 +6,9 @@ ghost use Rattle.std.specs.Cmp.{partial_equiv_from_equiv};
 ghost use Rattle.std.specs.Cmp.Lexicographic.{pointwise, nat_list_eq_equiv};
 ghost use Rattle.sha1.specs.Sha1.{sha1};
 ghost use Rattle.rpki_der.specs.declared.mode.Mode.TheVariants.{Der};
-ghost use Rattle.rpki_der.specs.Encode.{IsBytesOf};
+ghost use Rattle.rpki_der.specs.Write.Encode.{IsBytesOf};
 ghost use Rattle.rpki_der.specs.Grammar.{Front, IsBytes};
-ghost use Rattle.rpki_der.specs.Parts.{contents_small};
+ghost use Rattle.rpki_der.specs.Write.Parts.{contents_small};
 ghost use Rattle.rpki_der.specs.Read.Reads.{Reads, Found, OkOrMemory};
 ghost use Rattle.rpki_keys.specs.KeyForm.{KeyForm, key_fields_at, key_at, key_contents, key_octets};
 
@@ -156,7 +156,7 @@ fn decode_key(source: Bytes) -> Result<PublicKey, DecodeError>
 pub struct KeyEncoder<'a>(pub &'a PublicKey);
 
 impl Encode for KeyEncoder<'_> {
-    ghost use Rattle.rpki_der.specs.Parts.{contents_small};
+    ghost use Rattle.rpki_der.specs.Write.Parts.{contents_small};
     ghost use Rattle.rpki_keys.specs.KeyForm.{key_contents, key_octets};
 
     ghost octets = { λ e. key_octets e.0.now };

@@ -3,14 +3,14 @@
 ghost use Rattle.std.specs.Prelude.{◌≡◌, ◌<◌, ◌^◌, ◌++◌, ◌⊎◌, ℕ, List, length, Some};
 ghost use Rattle.rpki_der.specs.declared.mode.Mode.{Mode};
 ghost use Rattle.rpki_der.specs.declared.mode.Mode.TheVariants.{Der};
-ghost use Rattle.rpki_der.specs.Grammar.{IsReading, IsBytes};
+ghost use Rattle.rpki_der.specs.Read.Exact.{IsReading};
+ghost use Rattle.rpki_der.specs.Grammar.{IsBytes};
 ghost use Rattle.rpki_keys.specs.NameForm.{NameForm, KeyNameForm, name_at, key_name_octets};
 ghost use Rattle.rpki_keys.specs.Algorithm.{AlgorithmForm, DigestAlgorithmForm, CmsAlgorithmForm};
 ghost use Rattle.rpki_keys.specs.Algorithm.{CertAlgorithmForm, algorithm_at, digest_algorithm_at};
-ghost use Rattle.rpki_keys.specs.Algorithm.{cms_algorithm_at, cert_algorithm_at};
-ghost use Rattle.rpki_keys.specs.Algorithm.{algorithm_alone, algorithm_and_null};
-ghost use Rattle.rpki_keys.specs.Algorithm.{digest_algorithm_octets, cms_algorithm_octets};
-ghost use Rattle.rpki_keys.specs.Algorithm.{cert_algorithm_octets};
+ghost use Rattle.rpki_keys.specs.Algorithm.{cms_algorithm_at, cert_algorithm_at, algorithm_alone};
+ghost use Rattle.rpki_keys.specs.Algorithm.{algorithm_and_null, digest_algorithm_octets};
+ghost use Rattle.rpki_keys.specs.Algorithm.{cms_algorithm_octets, cert_algorithm_octets};
 ghost use Rattle.rpki_keys.specs.KeyForm.{KeyForm, key_at, key_contents, key_octets};
 ghost use Rattle.rpki_keys.specs.KeyForm.{key_octets_alone};
 

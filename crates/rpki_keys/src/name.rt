@@ -7,7 +7,7 @@ ghost use Rattle.rpki_der.specs.Captured.{Kept};
 ghost use Rattle.rpki_der.specs.Grammar.{Front, IsBytes};
 ghost use Rattle.rpki_der.specs.Read.Parse.{skip_all_at};
 ghost use Rattle.rpki_der.specs.Read.Reads.{Reads, OkOrMemory};
-ghost use Rattle.rpki_forms.specs.Form.Parts.{sequence_at};
+ghost use Rattle.rpki_der.specs.Form.Parts.{sequence_at};
 ghost use Rattle.rpki_keys.specs.NameForm.{NameForm, KeyNameForm, name_at, key_name_octets};
 
 use crate::hex::push_hex;

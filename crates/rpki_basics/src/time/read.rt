@@ -4,7 +4,7 @@ ghost use Rattle.std.specs.Prelude.{◌≡◌, ℕ, List, IfOk, IfSome, None, �
 ghost use Rattle.rpki_der.specs.Read.Parse.{Finds, primitive};
 ghost use Rattle.rpki_der.specs.Read.Reads.{Reads, OkOrMemory};
 ghost use Rattle.rpki_der.specs.Grammar.{Front, IsBytes};
-ghost use Rattle.rpki_forms.specs.Tags.{GENERALIZED_TIME};
+ghost use Rattle.rpki_der.specs.Tags.{GENERALIZED_TIME};
 ghost use Rattle.rpki_basics.specs.Moment.{Moment};
 ghost use Rattle.rpki_basics.specs.TimeForm.{TimeForm};
 ghost use Rattle.rpki_basics.specs.TimeRead.{pair_at, is_zulu, after_year_of, utc_of};

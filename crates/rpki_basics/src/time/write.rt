@@ -1,9 +1,9 @@
 //! Writing times in DER (RFC 5280, section 4.1.2.5).
 
 ghost use Rattle.std.specs.Prelude.{◌≡◌, ◌<◌, true, false};
-ghost use Rattle.rpki_der.specs.Written.{value_octets};
+ghost use Rattle.rpki_der.specs.Write.Written.{value_octets};
 ghost use Rattle.rpki_der.specs.declared.mode.Mode.TheVariants.{Der};
-ghost use Rattle.rpki_forms.specs.Tags.{UTC_TIME};
+ghost use Rattle.rpki_der.specs.Tags.{UTC_TIME};
 ghost use Rattle.rpki_basics.specs.TimeForm.{TimeForm, two_digits, utc_text, is_utc_year};
 ghost use Rattle.rpki_basics.specs.TimeForm.{time_octets, generalized_octets, encoded_time};
 
@@ -35,7 +35,7 @@ impl Encode for TimeEncoder {
 
     ghost small = { λ _ _. tt };
 
-    #[tactic(auto, unfolding(rpki_der::specs::Written::length_octets))]
+    #[tactic(auto, unfolding(rpki_der::specs::Write::Written::length_octets))]
     fn encoded_len(&self) -> Result<u64, EncodeError> {
         if self.generalized || !self.time.is_utc() {
             Ok(17)
@@ -44,7 +44,7 @@ impl Encode for TimeEncoder {
         }
     }
 
-    #[tactic(auto, unfolding(rpki_der::specs::Written::length_octets))]
+    #[tactic(auto, unfolding(rpki_der::specs::Write::Written::length_octets))]
     fn put<W: Sink>(&self, _len: u64, out: &mut W) -> Result<(), SinkFailed> {
         if self.generalized || !self.time.is_utc() {
             out.take_all(&self.time.generalized())
@@ -71,7 +71,7 @@ impl Time {
     }
 
     // The GeneralizedTime, with its header.
-    #[tactic(auto, unfolding(rpki_der::specs::Written::length_octets))]
+    #[tactic(auto, unfolding(rpki_der::specs::Write::Written::length_octets))]
     fn generalized(self) -> [u8; 17]
         ensures { result ≡ generalized_octets self }
     {
@@ -86,7 +86,7 @@ impl Time {
     }
 
     // The UTCTime, with its header.
-    #[tactic(auto, unfolding(rpki_der::specs::Written::length_octets))]
+    #[tactic(auto, unfolding(rpki_der::specs::Write::Written::length_octets))]
     fn utc_time(self) -> [u8; 15]
         ensures { result ≡ value_octets UTC_TIME (utc_text self) }
     {

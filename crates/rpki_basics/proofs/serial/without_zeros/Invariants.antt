@@ -1,5 +1,5 @@
 use Rattle.std.proofs.Common.{◌≡◌, length}
-use Rattle.rpki_der.specs.Written.{significant}
+use Rattle.rpki_der.specs.Write.Written.{significant}
 use Rattle.rpki_basics.proofs.serial.without_zeros.Given as goal
 
 abbrev pub invariant-rest : goal.invariant-rest

@@ -1,4 +1,4 @@
-use Rattle.rpki_forms.specs.Tags.{SEQUENCE}
+use Rattle.rpki_der.specs.Tags.{SEQUENCE}
 use Rattle.rpki_keys.proofs.AlgorithmParts.{reading-of}
 use Rattle.rpki_keys.proofs.KeyParts.{key-part}
 use Rattle.rpki_keys.proofs.laws.keys.Goals as goal

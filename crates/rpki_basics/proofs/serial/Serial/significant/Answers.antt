@@ -1,5 +1,5 @@
 use Rattle.std.proofs.Common.{ap, sym, ◌∙◌}
-use Rattle.rpki_der.specs.Written.{significant}
+use Rattle.rpki_der.specs.Write.Written.{significant}
 use Rattle.rpki_basics.specs.Serial.{digits}
 use Rattle.rpki_basics.specs.Digits.{digits_again}
 use Rattle.rpki_basics.proofs.serial.Serial.significant.Goals as goal
