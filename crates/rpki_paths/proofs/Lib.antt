@@ -1,0 +1,5 @@
+pub mod Meets
+pub mod Chains
+pub mod Pairings
+pub mod Matches
+pub mod Grants
