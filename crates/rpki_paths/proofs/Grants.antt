@@ -2,7 +2,8 @@
 use Rattle.std.proofs.Common.{◌≡◌, ℕ, Bool, true, false, ◌||◌, List, [], ◌∷◌, map, IsTrue, refl, sym, ap}
 use Rattle.std.proofs.Common.{◌∙◌, subst, inl, inr, ⊎_elim, ◌⊎◌}
 use Rattle.std.proofs.lemmas.Bool.{or_cases, or_left, or_right, false≢true}
-use Rattle.rpki_paths.specs.Cert.{Cert, Family, IsIn, NoTwice}
+use Rattle.rpki_paths.specs.declared.family.Family.{Family}
+use Rattle.rpki_paths.specs.Cert.{Cert, IsIn, NoTwice}
 use Rattle.rpki_paths.specs.Path.{IsPath, IsLinkCovered, IsDistinct}
 use Rattle.rpki_paths.specs.Anchor.{Supply, Fits, Takes, IsAnchored, path_set}
 use Rattle.rpki_paths.specs.Pairing.{IsPairing, Crl, Signer, Carried, IsMatching, HasDistinctIds}

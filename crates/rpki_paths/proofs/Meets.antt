@@ -6,11 +6,13 @@ use Rattle.rpki_resources.specs.declared.block.Block.{Block}
 use Rattle.rpki_resources.specs.declared.resources.Claim.{Claim}
 use Rattle.rpki_resources.specs.declared.resources.Claim.TheVariants.{Missing, Inherit, Explicit}
 use Rattle.rpki_resources.specs.Blocks.{holds}
-use Rattle.rpki_resources.specs.Claim.{HasBlocks}
+use Rattle.rpki_resources.specs.Claim.{HasBlocks, IsCoveredBy}
+use Rattle.rpki_paths.specs.declared.family.Family.{Family}
+use Rattle.rpki_paths.specs.declared.kept.Kept.{Kept}
 use Rattle.rpki_paths.specs.declared.overclaim.Overclaim.{Overclaim}
 use Rattle.rpki_paths.specs.declared.overclaim.Overclaim.TheVariants.{Refuse, Trim}
-use Rattle.rpki_paths.specs.Cert.{Cert, Numbers, Family, IsIn}
-use Rattle.rpki_paths.specs.Sets.{with_claim, meet, IsCovered, Kept, StandsFor, IsRaised, IsClimbed}
+use Rattle.rpki_paths.specs.Cert.{Cert, Numbers, IsIn}
+use Rattle.rpki_paths.specs.Sets.{with_claim, meet, IsCovered, StandsFor, IsRaised, IsClimbed, CoversKept}
 use Rattle.rpki_paths.specs.Path.{explicit_sets}
 use Rattle.rpki_paths.specs.Anchor.{Supply, Tal, Ca, Takes, supplied_claim, path_set}
 use Rattle.rpki_paths.specs.Laws.{ClimbKeepsMeet, AnchoredIsPathSet, AnchoredIsKnown}
@@ -45,29 +47,49 @@ covers_nearest f Refuse (t ∷ r) Inherit set named cov = absurd named
 covers_nearest f Refuse (t ∷ r) (Explicit s) set named cov = λ n h. ap (λ l. holds f l n) named ∙ cov n h
 covers_nearest f Trim sets claim set named cov = tt
 
-raised : {T : Type 0} (f : T → ℕ) (mode : Overclaim) (old new : Option (Kept T)) (set : List (Block T)) (claim : Claim (List (Block T))) (sets : List (List (Block T))) →
-    HasBlocks claim set → StandsFor f old sets → CoversNearest f mode sets set → IsRaised f mode old set claim new → StandsFor f new (set ∷ sets)
-raised f mode old None set claim sets named stands cov step = absurd step
-raised f mode None (Some new) set claim sets named stands cov step = (
-  subst (λ c. HasBlocks c set) (sym step.1) named,
+raised : {T : Type 0} (f : T → ℕ) (mode : Overclaim) (old new : Option (Kept (List (Block T)))) (set : List (Block T)) (sets : List (List (Block T))) →
+    StandsFor f old sets → CoversNearest f mode sets set → IsRaised f mode old set new → StandsFor f new (set ∷ sets)
+raised f mode old None set sets stands cov step = absurd step
+raised f mode None (Some new) set sets stands cov step = (
+  step.1,
   λ n. ap (λ m. holds f m n) step.0 ∙ sym (and-true (holds f set n)) ∙ ap (λ l. holds f set n && meet f l n) (sym stands),
 )
-raised f mode (Some old) (Some new) set claim [] named stands cov step = absurd stands
-raised f Trim (Some old) (Some new) set claim (t ∷ r) named stands cov step = (
-  subst (λ c. HasBlocks c set) (sym step.1) named,
+raised f mode (Some old) (Some new) set [] stands cov step = absurd stands
+raised f Trim (Some old) (Some new) set (t ∷ r) stands cov step = (
+  step.1,
   λ n. step.0 n ∙ and_comm (holds f old.met n) (holds f set n) ∙ ap (λ b. holds f set n && b) (stands.1 n),
 )
-raised f Refuse (Some old) (Some new) set claim (t ∷ r) named stands cov step = (
-  subst (λ c. HasBlocks c set) (sym step.1) named,
+raised f Refuse (Some old) (Some new) set (t ∷ r) stands cov step = (
+  step.1,
   λ n. ap (λ m. holds f m n) step.0 ∙ stands.1 n ∙ absorbed (holds f set n) (meet f (t ∷ r) n) (λ e. cov n (and_parts (holds f t n) (meet f r n) e).0),
 )
 
+with_named : {T : Type 0} (claim : Claim (List (Block T))) (set : List (Block T)) (sets : List (List (Block T))) → HasBlocks claim set → set ∷ sets ≡ with_claim claim sets
+with_named Missing set sets h = ap (λ l. l ∷ sets) h
+with_named Inherit set sets h = absurd h
+with_named (Explicit s) set sets h = ap (λ l. l ∷ sets) h
+
 pub climb_keeps : {T : Type 0} (f : T → ℕ) → ClimbKeepsMeet f
-climb_keeps f mode old new Inherit sets stands cov step = subst (λ o. StandsFor f o sets) (sym step) stands
-climb_keeps f mode old new Missing sets stands cov step =
-    raised f mode old new [] Missing sets refl stands (covers_nearest f mode sets Missing [] refl cov) step
-climb_keeps f mode old new (Explicit set) sets stands cov step =
-    raised f mode old new set (Explicit set) sets refl stands (covers_nearest f mode sets (Explicit set) set refl cov) step
+climb_keeps f mode old new claim sets stands cov (inl step) =
+    subst (λ o. StandsFor f o (with_claim claim sets)) (sym step.1) (subst (λ c. StandsFor f old (with_claim c sets)) (sym step.0) stands)
+climb_keeps f mode old new claim sets stands cov (inr step) =
+    subst (λ l. StandsFor f new l) (with_named claim step.0 sets step.1)
+    (raised f mode old new step.0 sets stands (covers_nearest f mode sets claim step.0 step.1 cov) step.2)
+
+-- what is kept tells whether the claim covers what is below
+pub covers_kept : {T : Type 0} (f : T → ℕ) (mode : Overclaim) (kept : Option (Kept (List (Block T)))) (sets : List (List (Block T))) (claim : Claim (List (Block T))) →
+    StandsFor f kept sets → IsCovered f mode sets claim → CoversKept f mode kept claim
+covers_kept f Refuse None sets claim stands cov = tt
+covers_kept f Refuse (Some k) [] claim stands cov = absurd stands
+covers_kept f Refuse (Some k) (s ∷ sets) claim stands cov = subst (λ l. IsCoveredBy f claim l) (sym stands.0) cov
+covers_kept f Trim kept sets claim stands cov = tt
+
+pub from_covers_kept : {T : Type 0} (f : T → ℕ) (mode : Overclaim) (kept : Option (Kept (List (Block T)))) (sets : List (List (Block T))) (claim : Claim (List (Block T))) →
+    StandsFor f kept sets → CoversKept f mode kept claim → IsCovered f mode sets claim
+from_covers_kept f Refuse None sets claim stands cov = subst (λ l. IsCovered f Refuse l claim) (sym stands) tt
+from_covers_kept f Refuse (Some k) [] claim stands cov = absurd stands
+from_covers_kept f Refuse (Some k) (s ∷ sets) claim stands cov = subst (λ l. IsCoveredBy f claim l) stands.0 cov
+from_covers_kept f Trim kept sets claim stands cov = tt
 
 covered_inherit : (mode : Overclaim) (sets : List Numbers) → IsCovered (λ n. n) mode sets Inherit
 covered_inherit Refuse [] = tt

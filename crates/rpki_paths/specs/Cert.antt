@@ -2,15 +2,12 @@
 use Rattle.std.specs.Prelude.{◌≡◌, ℕ, Bool, List, [], ◌∷◌, Option, None, Some, ◌⊎◌}
 use Rattle.rpki_resources.specs.declared.block.Block.{Block}
 use Rattle.rpki_resources.specs.declared.resources.Claim.{Claim}
+use Rattle.rpki_paths.specs.declared.family.Family.{Family}
 use Rattle.rpki_paths.specs.declared.overclaim.Overclaim.{Overclaim}
 
 -- A set of AS numbers or of addresses, as its blocks.
 abbrev pub Numbers : Type 0
 Numbers = List (Block ℕ)
-
--- The three families of number resources (RFC 3779, sections 2 and 3).
-pub data Family : Type 0 where
-  As V4 V6 : Family
 
 -- A carried certificate, with the answers that are asked about it. Identifiers and keys are octets.
 pub record Cert : Type 0 where

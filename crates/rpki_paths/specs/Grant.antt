@@ -1,7 +1,8 @@
 -- When an attestation is accepted, and when it is granted (draft-michaelson-rpki-rta).
 use Rattle.std.specs.Prelude.{◌≡◌, ℕ, Bool, false, List, [], ◌∷◌, IsTrue, ◌||◌, ◌↔◌, ◌⊎◌}
 use Rattle.rpki_resources.specs.Blocks.{holds}
-use Rattle.rpki_paths.specs.Cert.{Cert, Numbers, Family, IsIn}
+use Rattle.rpki_paths.specs.declared.family.Family.{Family}
+use Rattle.rpki_paths.specs.Cert.{Cert, Numbers, IsIn}
 use Rattle.rpki_paths.specs.Path.{IsPath, IsLinkCovered, IsOff}
 use Rattle.rpki_paths.specs.Anchor.{Supply, IsAnchored, path_set}
 use Rattle.rpki_paths.specs.Pairing.{Carried, Crl, IsMatching}

@@ -4,9 +4,11 @@ use Rattle.rpki_resources.specs.declared.block.Block.{Block}
 use Rattle.rpki_resources.specs.declared.resources.Claim.{Claim}
 use Rattle.rpki_resources.specs.declared.resources.Claim.TheVariants.{Inherit}
 use Rattle.rpki_resources.specs.Blocks.{holds}
+use Rattle.rpki_paths.specs.declared.family.Family.{Family}
+use Rattle.rpki_paths.specs.declared.kept.Kept.{Kept}
 use Rattle.rpki_paths.specs.declared.overclaim.Overclaim.{Overclaim}
-use Rattle.rpki_paths.specs.Cert.{Cert, Numbers, Family, IsIn}
-use Rattle.rpki_paths.specs.Sets.{with_claim, meet, IsCovered, Kept, StandsFor, IsClimbed}
+use Rattle.rpki_paths.specs.Cert.{Cert, Numbers, IsIn}
+use Rattle.rpki_paths.specs.Sets.{with_claim, meet, IsCovered, StandsFor, IsClimbed}
 use Rattle.rpki_paths.specs.Path.{IsChain, IsPath, IsDistinct, IsLinkCovered, explicit_sets}
 use Rattle.rpki_paths.specs.Anchor.{Supply, Takes, supplied_claim, path_set}
 use Rattle.rpki_paths.specs.Pairing.{Carried, Crl, HasDistinctIds, IsMatching, HasKey}
@@ -16,14 +18,14 @@ use Rattle.rpki_paths.specs.Grant.{IsAccepted, IsGranted, AreAnchored, union_of}
 -- One issuer more, whose claim covers what it has to, and what is kept stands for the sets again.
 abbrev pub ClimbKeepsMeet : {T : Type 0} → (T → ℕ) → Type 0
 ClimbKeepsMeet {T} f =
-    (mode : Overclaim) (old new : Option (Kept T)) (claim : Claim (List (Block T)))
+    (mode : Overclaim) (old new : Option (Kept (List (Block T)))) (claim : Claim (List (Block T)))
     (sets : List (List (Block T))) → StandsFor f old sets → IsCovered f mode sets claim →
     IsClimbed f mode old claim new → StandsFor f new (with_claim claim sets)
 
 -- What is kept of a covered path, with the sets of the supply that takes it, stands for its set.
 abbrev pub AnchoredIsPathSet : Type 0
 AnchoredIsPathSet =
-    (head : Cert) (p : List Cert) (s : Supply) (f : Family) (old new : Option (Kept ℕ)) →
+    (head : Cert) (p : List Cert) (s : Supply) (f : Family) (old new : Option (Kept Numbers)) →
     StandsFor (λ n. n) old (explicit_sets (head ∷ p) f) → Takes (head ∷ p) s →
     IsClimbed (λ n. n) head.overclaim old (supplied_claim s f) new →
     StandsFor (λ n. n) new (with_claim (supplied_claim s f) (explicit_sets (head ∷ p) f))

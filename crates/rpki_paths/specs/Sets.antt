@@ -1,10 +1,11 @@
 -- The explicit sets of one family along a path, and what all of them have.
-use Rattle.std.specs.Prelude.{◌≡◌, ℕ, Bool, true, List, [], ◌∷◌, ◌&&◌, Option, None, Some}
+use Rattle.std.specs.Prelude.{◌≡◌, ℕ, Bool, true, List, [], ◌∷◌, ◌&&◌, Option, None, Some, ◌⊎◌}
 use Rattle.rpki_resources.specs.declared.block.Block.{Block}
 use Rattle.rpki_resources.specs.declared.resources.Claim.{Claim}
 use Rattle.rpki_resources.specs.declared.resources.Claim.TheVariants.{Missing, Inherit, Explicit}
 use Rattle.rpki_resources.specs.Blocks.{holds, IsIntersection}
 use Rattle.rpki_resources.specs.Claim.{HasBlocks, IsCoveredBy}
+use Rattle.rpki_paths.specs.declared.kept.Kept.{Kept}
 use Rattle.rpki_paths.specs.declared.overclaim.Overclaim.{Overclaim}
 use Rattle.rpki_paths.specs.declared.overclaim.Overclaim.TheVariants.{Refuse, Trim}
 
@@ -29,17 +30,21 @@ IsCovered f Refuse [] claim = Unit {0}
 IsCovered f Refuse (nearest ∷ below) claim = IsCoveredBy f claim nearest
 IsCovered f Trim sets claim = Unit {0}
 
--- What is kept of a path in one family: nothing where all inherit; else a set with just the numbers
--- that all explicit sets have, and the claim that is the nearest explicit set.
-pub record Kept (T : Type 0) : Type 0 where
-  pub met : List (Block T)
-  pub nearest : Claim (List (Block T))
-
-abbrev pub StandsFor : {T : Type 0} → (T → ℕ) → Option (Kept T) → List (List (Block T)) → Type 0
+-- What is kept of a path in one family stands for its explicit sets, the head's first: nothing where
+-- all inherit; else a set with just the numbers that all of them have, and the nearest of them.
+abbrev pub StandsFor : {T : Type 0} → (T → ℕ) → Option (Kept (List (Block T))) →
+    List (List (Block T)) → Type 0
 StandsFor f None sets = sets ≡ []
 StandsFor f (Some kept) [] = ⊥
 StandsFor f (Some kept) (set ∷ sets) =
-    HasBlocks kept.nearest set × ((n : ℕ) → holds f kept.met n ≡ meet f (set ∷ sets) n)
+    (kept.nearest ≡ set) × ((n : ℕ) → holds f kept.met n ≡ meet f (set ∷ sets) n)
+
+-- The claim covers the nearest set that is kept, where it has to.
+abbrev pub CoversKept : {T : Type 0} → (T → ℕ) → Overclaim → Option (Kept (List (Block T))) →
+    Claim (List (Block T)) → Type 0
+CoversKept f Refuse None claim = Unit {0}
+CoversKept f Refuse (Some kept) claim = IsCoveredBy f claim kept.nearest
+CoversKept f Trim kept claim = Unit {0}
 
 -- How a set that is kept changes under one more explicit set: Trim cuts it, and Refuse leaves it.
 abbrev pub IsCut : {T : Type 0} → (T → ℕ) → Overclaim → List (Block T) → List (Block T) →
@@ -47,17 +52,16 @@ abbrev pub IsCut : {T : Type 0} → (T → ℕ) → Overclaim → List (Block T)
 IsCut f Trim met set cut = IsIntersection f met set cut
 IsCut f Refuse met set cut = cut ≡ met
 
--- What is kept once a set is named above it, by this claim.
-abbrev pub IsRaised : {T : Type 0} → (T → ℕ) → Overclaim → Option (Kept T) → List (Block T) →
-    Claim (List (Block T)) → Option (Kept T) → Type 0
-IsRaised f mode old set claim None = ⊥
-IsRaised f mode None set claim (Some new) = (new.met ≡ set) × (new.nearest ≡ claim)
-IsRaised f mode (Some old) set claim (Some new) =
-    IsCut f mode old.met set new.met × (new.nearest ≡ claim)
+-- What is kept with one more explicit set above a head of this mode.
+abbrev pub IsRaised : {T : Type 0} → (T → ℕ) → Overclaim → Option (Kept (List (Block T))) →
+    List (Block T) → Option (Kept (List (Block T))) → Type 0
+IsRaised f mode old set None = ⊥
+IsRaised f mode None set (Some new) = (new.met ≡ set) × (new.nearest ≡ set)
+IsRaised f mode (Some old) set (Some new) = IsCut f mode old.met set new.met × (new.nearest ≡ set)
 
--- What is kept with one issuer more, of this claim, above a head of this mode.
-abbrev pub IsClimbed : {T : Type 0} → (T → ℕ) → Overclaim → Option (Kept T) →
-    Claim (List (Block T)) → Option (Kept T) → Type 0
-IsClimbed f mode old Inherit new = new ≡ old
-IsClimbed f mode old Missing new = IsRaised f mode old [] Missing new
-IsClimbed f mode old (Explicit set) new = IsRaised f mode old set (Explicit set) new
+-- What is kept with one more claim above a head of this mode: an inherited one changes nothing.
+abbrev pub IsClimbed : {T : Type 0} → (T → ℕ) → Overclaim → Option (Kept (List (Block T))) →
+    Claim (List (Block T)) → Option (Kept (List (Block T))) → Type 0
+IsClimbed {T} f mode old claim new =
+    ((claim ≡ Inherit) × (new ≡ old))
+    ⊎ ((set : List (Block T)) × HasBlocks claim set × IsRaised f mode old set new)
