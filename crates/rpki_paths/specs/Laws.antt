@@ -2,15 +2,19 @@
 use Rattle.std.specs.Prelude.{◌≡◌, ℕ, ◌+◌, ◌≤◌, List, ◌∷◌, Option, None, IsTrue, length, ◌↔◌}
 use Rattle.rpki_resources.specs.declared.block.Block.{Block}
 use Rattle.rpki_resources.specs.declared.resources.Claim.{Claim}
-use Rattle.rpki_resources.specs.declared.resources.Claim.TheVariants.{Inherit}
+use Rattle.rpki_resources.specs.declared.resources.Claim.TheVariants.{Inherit, Explicit}
 use Rattle.rpki_resources.specs.Blocks.{holds}
 use Rattle.rpki_paths.specs.declared.family.Family.{Family}
 use Rattle.rpki_paths.specs.declared.kept.Kept.{Kept}
 use Rattle.rpki_paths.specs.declared.overclaim.Overclaim.{Overclaim}
+use Rattle.rpki_paths.specs.declared.sets.KeptSets.{KeptSets}
+use Rattle.rpki_paths.specs.declared.walker.PathFault.{PathFault}
+use Rattle.rpki_paths.specs.declared.walker.PathFault.TheVariants.{Memory}
+use Rattle.rpki_paths.specs.Walk.{IsRefused, kept_at, InEach}
 use Rattle.rpki_paths.specs.Cert.{Cert, Numbers, IsIn}
-use Rattle.rpki_paths.specs.Sets.{with_claim, meet, IsCovered, StandsFor, IsClimbed}
+use Rattle.rpki_paths.specs.Sets.{with_claim, meet, IsCovered, CoversKept, StandsFor, IsClimbed}
 use Rattle.rpki_paths.specs.Path.{IsChain, IsPath, IsDistinct, IsLinkCovered, explicit_sets}
-use Rattle.rpki_paths.specs.Anchor.{Supply, Takes, supplied_claim, path_set}
+use Rattle.rpki_paths.specs.Anchor.{Supply, Ca, Takes, supplied_claim, path_set}
 use Rattle.rpki_paths.specs.Pairing.{Carried, Crl, HasDistinctIds, IsMatching, HasKey}
 use Rattle.rpki_paths.specs.Pairing.{IsPicked, IsPairable, AreAlike, IsVerifiedBy, HasCrl}
 use Rattle.rpki_paths.specs.Grant.{IsAccepted, IsGranted, AreAnchored, union_of}
@@ -65,7 +69,8 @@ AnyChoicePairs {A} {B} R =
     (x : A) (y : B) (xs : List A) (ys rest : List B) → AreAlike R (x ∷ xs) ys →
     IsPairable R (x ∷ xs) ys → IsPicked y rest ys → R x y → IsPairable R xs rest
 
--- With distinct identifiers what fits one is alike: subject keys always, end-entity certificates and
+-- With distinct identifiers what fits one is alike: subject keys always, end-entity certificates
+-- and
 -- CRLs by their identifiers.
 abbrev pub WhatFitsIsAlike : Type 0
 WhatFitsIsAlike =
@@ -92,3 +97,17 @@ GrantIsDecided =
     (attested : Family → Numbers) → HasDistinctIds a → IsAccepted a paths →
     AreAnchored paths supplies anchors → IsGranted a supplies attested →
     (f : Family) (n : ℕ) → holds (λ k. k) (attested f) n ≡ union_of paths anchors f n
+
+-- With distinct identifiers a walk is refused, but for memory, only where there is no covered path.
+abbrev pub RefusedHasNoPath : Type 0
+RefusedHasNoPath =
+    (fault : PathFault) (cas : List Cert) (ee : Cert) (p : List Cert) → ¬ (fault ≡ Memory) →
+    IsDistinct cas → IsRefused fault cas ee → IsPath cas ee p → ¬ (IsLinkCovered p)
+
+-- What is kept of a path tells whether a CA takes it.
+abbrev pub KeptTellsTakes : Type 0
+KeptTellsTakes =
+    (head : Cert) (p : List Cert) (kept : KeptSets) (ski key : List ℕ) (sets : Family → Numbers) →
+    ((f : Family) → StandsFor (λ n. n) (kept_at kept f) (explicit_sets (head ∷ p) f)) →
+    InEach (λ f. CoversKept (λ n. n) head.overclaim (kept_at kept f) (Explicit (sets f)))
+    ↔ Takes (head ∷ p) (Ca ski key sets)

@@ -3,5 +3,8 @@ pub mod Sets
 pub mod Path
 pub mod Anchor
 pub mod Pairing
+pub mod Walk
+pub mod Index
+pub mod Supplied
 pub mod Grant
 pub mod Laws

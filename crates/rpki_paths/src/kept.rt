@@ -20,29 +20,29 @@ pub struct Kept<B> {
 // What is left of a set under one more explicit set.
 fn cut<T: Number>(
     overclaim: Overclaim,
-    met: Blocks<T>,
+    met: &Blocks<T>,
     set: &Blocks<T>,
 ) -> Result<Blocks<T>, AllocError>
-    ensures { IfOk result (IsCut T.number overclaim met set.now) }
+    ensures { IfOk result (IsCut T.number overclaim met.now set.now) }
 {
     match overclaim {
         Overclaim::Trim => met.intersection(set),
-        Overclaim::Refuse => Ok(met),
+        Overclaim::Refuse => met.clone(),
     }
 }
 
 /// What is kept with one more explicit set above a head of this mode.
 pub fn raised<T: Number>(
     overclaim: Overclaim,
-    kept: Option<Kept<Blocks<T>>>,
+    kept: &Option<Kept<Blocks<T>>>,
     set: &Blocks<T>,
 ) -> Result<Option<Kept<Blocks<T>>>, AllocError>
-    ensures { IfOk result (IsRaised T.number overclaim kept set.now) }
+    ensures { IfOk result (IsRaised T.number overclaim kept.now set.now) }
 {
     let nearest = set.clone()?;
     let met = match kept {
         None => set.clone()?,
-        Some(kept) => cut(overclaim, kept.met, set)?,
+        Some(kept) => cut(overclaim, &kept.met, set)?,
     };
     Ok(Some(Kept { met, nearest }))
 }
@@ -59,7 +59,7 @@ pub fn climbed<T: Number>(
     match claim.to_blocks(alloc) {
         Err(BlocksError::Inherit) => Ok(kept),
         Err(BlocksError::Memory) => Err(AllocError),
-        Ok(set) => raised(overclaim, kept, &set),
+        Ok(set) => raised(overclaim, &kept, &set),
     }
 }
 
@@ -76,6 +76,23 @@ pub fn covers_kept<T: Number>(
         Overclaim::Refuse => match kept {
             None => true,
             Some(kept) => kept.nearest.verify_covered(claim).is_ok(),
+        },
+    }
+}
+
+/// Whether a set covers the nearest set that is kept, where it has to.
+pub fn set_covers_kept<T: Number>(
+    overclaim: Overclaim,
+    kept: &Option<Kept<Blocks<T>>>,
+    set: &Blocks<T>,
+) -> bool
+    ensures { IsTrue result ↔ CoversKept T.number overclaim kept.now (Claim.Explicit set.now) }
+{
+    match overclaim {
+        Overclaim::Trim => true,
+        Overclaim::Refuse => match kept {
+            None => true,
+            Some(kept) => set.contains(&kept.nearest),
         },
     }
 }

@@ -3,7 +3,8 @@
 ghost use Rattle.rpki_paths.specs.Laws.{ClimbKeepsMeet, AnchoredIsPathSet, AnchoredIsKnown};
 ghost use Rattle.rpki_paths.specs.Laws.{PathSetIsWithinEach, PathsAreUnique, PathsAreShort};
 ghost use Rattle.rpki_paths.specs.Laws.{AnyChoicePairs, WhatFitsIsAlike, CrlsAreUnique};
-ghost use Rattle.rpki_paths.specs.Laws.{PathsAreThose, GrantIsDecided};
+ghost use Rattle.rpki_paths.specs.Laws.{PathsAreThose, GrantIsDecided, RefusedHasNoPath};
+ghost use Rattle.rpki_paths.specs.Laws.{KeptTellsTakes};
 ghost use Rattle.rpki_paths.specs.Pairing.{HasKey, IsVerifiedBy, HasCrl};
 
 use rpki_resources::Number;
@@ -63,4 +64,14 @@ pub fn paths_are_those()
 /// With distinct identifiers the numbers of any anchored paths decide what is granted.
 pub fn grant_is_decided()
     ensures { GrantIsDecided }
+{}
+
+/// With distinct identifiers a walk is refused only where there is no covered path.
+pub fn refused_has_no_path()
+    ensures { RefusedHasNoPath }
+{}
+
+/// What is kept of a path tells whether a supplied CA takes it.
+pub fn kept_tells_takes()
+    ensures { KeptTellsTakes }
 {}
