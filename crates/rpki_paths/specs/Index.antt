@@ -8,11 +8,12 @@ use Rattle.rpki_paths.specs.declared.places.Places.{Places}
 use Rattle.rpki_paths.specs.Cert.{Cert}
 use Rattle.rpki_paths.specs.Walk.{IsNamed}
 
--- What a map has at a key, or nothing.
+-- The places that stand at a key, or none.
 abbrev pub listed_in : Option (Vec ℕ Global) → List ℕ
 listed_in None = []
 listed_in (Some places) = places.items
 
+-- The places that a map has of an identifier.
 abbrev pub listed : BTreeMap (List ℕ) (Vec ℕ Global) → List ℕ → List ℕ
 listed m id = listed_in (get (slice_cmp nat_cmp) m id)
 

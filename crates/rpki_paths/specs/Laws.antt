@@ -34,7 +34,7 @@ AnchoredIsPathSet =
     IsClimbed (λ n. n) head.overclaim old (supplied_claim s f) new →
     StandsFor (λ n. n) new (with_claim (supplied_claim s f) (explicit_sets (head ∷ p) f))
 
--- A trust anchor inherits nothing (RFC 6487, section 4.8.10 and 4.8.11; RFC 8630, section 2.3).
+-- A trust anchor inherits nothing (RFC 6487, sections 4.8.10 and 4.8.11; RFC 8630, section 2.3).
 abbrev pub AnchorsAreExplicit : Type 0
 AnchorsAreExplicit = (c : Cert) (f : Family) → IsTrue c.is_anchor → ¬ (c.claim f ≡ Inherit)
 
