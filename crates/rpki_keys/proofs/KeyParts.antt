@@ -8,12 +8,12 @@ use Rattle.rpki_der.specs.Read.Parse.{bits_at}
 use Rattle.rpki_der.specs.Grammar.{BitString}
 use Rattle.rpki_der.specs.Tags.{SEQUENCE, BIT_STRING}
 use Rattle.rpki_der.specs.Form.Law.{nothing, is, IsPart}
-use Rattle.rpki_der.specs.Form.Made.{partly, whole_bits}
+use Rattle.rpki_der.specs.Form.Made.{partly}
 use Rattle.rpki_der.proofs.Form.Fields.{field, fixed, done, within}
 use Rattle.rpki_der.proofs.Form.Words.{part-as, make-some}
 use Rattle.rpki_der.proofs.Form.Kinds.{bits-part}
 use Rattle.rpki_keys.specs.Algorithm.{rsa_encryption}
-use Rattle.rpki_keys.specs.KeyForm.{KeyForm, key_fields_at, key_at}
+use Rattle.rpki_keys.specs.KeyForm.{KeyForm, whole_bits, key_fields_at, key_at}
 use Rattle.rpki_keys.proofs.AlgorithmParts.{named-part}
 
 whole-is : (bits : List ℕ × ℕ) (octets : List ℕ) → whole_bits bits ≡ Some octets

@@ -1,12 +1,12 @@
 -- The octets of a key.
-use Rattle.std.specs.Prelude.{ℕ, List, [], ◌∷◌, ◌++◌, Some}
+use Rattle.std.specs.Prelude.{ℕ, List, [], ◌∷◌, ◌++◌, Option, None, Some, ◌==◌, if◌then◌else◌}
 use Rattle.rpki_der.specs.declared.mode.Mode.{Mode}
 use Rattle.rpki_der.specs.Grammar.{BitString}
 use Rattle.rpki_der.specs.Read.Parse.{Parser, ◌>>=◌, bits_at}
 use Rattle.rpki_der.specs.Write.Written.{value_octets, bit_string_contents}
 use Rattle.rpki_der.specs.Tags.{SEQUENCE, BIT_STRING}
 use Rattle.rpki_der.specs.Form.Parts.{Sequence, sequence_at}
-use Rattle.rpki_der.specs.Form.Made.{partly, whole_bits}
+use Rattle.rpki_der.specs.Form.Made.{partly}
 use Rattle.rpki_keys.specs.Algorithm.{AlgorithmForm, rsa_encryption, named, algorithm_at}
 use Rattle.rpki_keys.specs.Algorithm.{algorithm_alone, algorithm_and_null}
 
@@ -17,6 +17,10 @@ KeyForm mode octets bits = Sequence mode (
     (λ o. AlgorithmForm mode o rsa_encryption)
     ∷ (λ o. BitString mode o (bits, 0))
     ∷ []) octets
+
+-- The octets of a BIT STRING without unused bits.
+abbrev pub whole_bits : List ℕ × ℕ → Option (List ℕ)
+whole_bits bits = if bits.1 == 0 then Some bits.0 else None
 
 -- The algorithm and the bits.
 unfoldable pub key_fields_at : Parser (List ℕ)
