@@ -26,8 +26,8 @@ pub mod PrefixLengths
 pub mod Relaxed
 pub mod Rises
 pub mod Same
+pub mod Searching
 pub mod Shortening
 pub mod Sorting
-pub mod Spread
 pub mod Trailing
 pub mod Upto

@@ -11,7 +11,6 @@ mod as_der;
 mod asn;
 mod block;
 mod blocks;
-mod buckets;
 mod family;
 pub mod forms;
 mod ip;
