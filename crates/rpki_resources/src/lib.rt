@@ -29,7 +29,7 @@ pub use as_der::AsBlocksEncoder;
 pub use asn::{AsBlock, AsBlocks, AsBlocksBuilder, AsBlocksIter, Asn, SmallAsnSet};
 pub use block::Block;
 pub use blocks::{Blocks, BlocksBuilder};
-pub use family::AddressFamily;
+pub use family::{AddressFamily, AddressFamilyEncoder};
 pub use ip::{IpBlock, IpBlocks, IpBlocksBuilder, IpBlocksIter};
 pub use ip_der::IpBlocksEncoder;
 pub use number::Number;
