@@ -22,6 +22,7 @@ pub mod Listed
 pub mod Meeting
 pub mod Merging
 pub mod Names
+pub mod PrefixExact
 pub mod PrefixLengths
 pub mod Relaxed
 pub mod Rises

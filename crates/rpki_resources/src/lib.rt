@@ -7,6 +7,7 @@
 #![tactic(auto)]
 
 mod addr;
+mod address_bits;
 mod as_der;
 mod asn;
 mod block;
@@ -18,6 +19,7 @@ mod ip_der;
 pub mod laws;
 mod number;
 mod prefix;
+mod prefix_der;
 mod resources;
 #[cfg(test)]
 mod tests;
