@@ -69,7 +69,7 @@ to-address most mode o y h =
 from-address : (most : ℕ) (mode : Mode) (o : List ℕ) (y : List ℕ × ℕ) → IpAddress mode most o y → AddressParts most mode o y
 from-address most mode o y h = (y, o, [], sym (append-nil o), h.0, (le-leb _ _ h.1, (refl, refl)))
 
-exact-address : (most : ℕ) (mode : Mode) → IsExact anything (ip_address_at most mode) (IpAddress mode most)
+pub exact-address : (most : ℕ) (mode : Mode) → IsExact anything (ip_address_at most mode) (IpAddress mode most)
 exact-address most mode = exact-as anything (ip_address_at most mode) (AddressParts most mode) (IpAddress mode most) (address-parts most mode) (to-address most mode) (from-address most mode)
 
 -- ---- the ends of a range

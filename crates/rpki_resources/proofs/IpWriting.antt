@@ -29,7 +29,7 @@ use Rattle.rpki_resources.proofs.Trailing.{lower_dropped, lower_at_least, lower_
 
 -- ---- ends
 
-address_written : (most addr len : ℕ) → most ≤ 128 → len ≤ most → IpAddress Der most (end_octets addr len) (end_bits addr len)
+pub address_written : (most addr len : ℕ) → most ≤ 128 → len ≤ most → IpAddress Der most (end_octets addr len) (end_bits addr len)
 address_written most addr len l h = (end_written addr len (omega arith), rw (end_count addr len (omega arith)) h)
 
 -- ---- a prefix

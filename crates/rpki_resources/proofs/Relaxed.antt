@@ -37,7 +37,7 @@ as_reading = record {
   behind = behind as_blocks_at AsForm exact-as_blocks (λ mode o set h. (48, h.0, h.1));
 }
 
-address-ber : (most : ℕ) (o : List ℕ) (bits : List ℕ × ℕ) → IpAddress Der most o bits → IpAddress Ber most o bits
+pub address-ber : (most : ℕ) (o : List ℕ) (bits : List ℕ × ℕ) → IpAddress Der most o bits → IpAddress Ber most o bits
 address-ber most o bits h = (within-ber 3 (λ c. IsBitString c bits) (λ c. IsBitString c bits) (λ c k. k) o h.0, h.1)
 
 ip_item-ber : (most : ℕ) (o : List ℕ) (b : Block ℕ) → IpPrefixOrRange Der most o b → IpPrefixOrRange Ber most o b

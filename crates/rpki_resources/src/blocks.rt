@@ -198,6 +198,14 @@ impl<T: Number> BlocksBuilder<T> {
         Ok(())
     }
 
+    /// Adds the numbers of a set. Where there is no memory for its blocks, the builder stays as it was.
+    pub fn push_set(&mut self, set: &Blocks<T>) -> Result<(), AllocError>
+        ensures ok { OnOk result (self.new ≡ self.old ++ set.now) }
+        ensures err { OnErr result (self.new ≡ self.old) }
+    {
+        self.items.extend_from_slice(set.as_slice())
+    }
+
     // Adds several blocks, or none.
     pub(crate) fn append(&mut self, mut blocks: Vec<Block<T>>) -> Result<(), AllocError>
         requires { All (IsBlock T.number) blocks.items }

@@ -3,7 +3,7 @@ use Rattle.std.specs.Int.{w128, to_be_bytes}
 use Rattle.rpki_der.specs.Encode.{IsLenOf}
 use Rattle.rpki_der.specs.Written.{value_octets, bit_string_contents}
 use Rattle.rpki_resources.proofs.Ends.{first_bits_of}
-use Rattle.rpki_resources.proofs.ip_der.FirstBitsEncode.encoded_len.Goals as goal
+use Rattle.rpki_resources.proofs.address_bits.FirstBitsEncode.encoded_len.Goals as goal
 
 pub returns : goal.returns
 returns c =

@@ -1,6 +1,6 @@
 use Rattle.std.proofs.Common.{◌≡◌, ◌*◌, ◌<◌, ◌^◌, take}
 use Rattle.rpki_der.specs.Read.Parse.{number}
-use Rattle.rpki_resources.proofs.ip_der.value_of.Given as goal
+use Rattle.rpki_resources.proofs.address_bits.value_of.Given as goal
 
 abbrev pub invariant-loop-octet : goal.invariant-loop-octet
 invariant-loop-octet l = record {

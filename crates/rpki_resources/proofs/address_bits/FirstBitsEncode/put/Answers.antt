@@ -3,7 +3,7 @@ use Rattle.std.specs.Io.KnownBytes.{Appends}
 use Rattle.std.specs.Int.{w128, to_be_bytes}
 use Rattle.rpki_der.specs.Sink.{AppendsFront}
 use Rattle.rpki_resources.proofs.Ends.{end_octets_of}
-use Rattle.rpki_resources.proofs.ip_der.FirstBitsEncode.put.Goals as goal
+use Rattle.rpki_resources.proofs.address_bits.FirstBitsEncode.put.Goals as goal
 
 -- the octets of the address
 octets_are : (g : _) (c : goal.After-put g) → c.bit_string.result.contents.octets.now ≡ take c.octet_count.result (to_be_bytes w128 c.args.self.now.addr)
