@@ -1,11 +1,12 @@
 -- Prefixes are read exactly, and what is written of them is in their form.
-use Rattle.std.proofs.Common.{◌≡◌, ℕ, ◌-◌, ◌%◌, ◌^◌, ◌<◌, ◌≤◌, List, ◌++◌, Some, refl, sym, ap, subst, ◌∙◌, arith}
+use Rattle.std.proofs.Common.{◌≡◌, ℕ, ◌-◌, ◌%◌, ◌^◌, ◌<◌, ◌≤◌, List, ◌++◌, Some, refl, sym, ap}
+use Rattle.std.proofs.Common.{subst, ◌∙◌, arith}
 use Rattle.rpki_der.specs.declared.mode.Mode.{Mode}
 use Rattle.rpki_der.specs.declared.mode.Mode.TheVariants.{Der, Ber}
 use Rattle.rpki_der.specs.Read.Parse.{Parser, ◌>>=◌}
-use Rattle.rpki_der.specs.Grammar.{IsExact, IsReading, anything}
+use Rattle.rpki_der.specs.Read.Exact.{IsExact, IsReading, anything}
 use Rattle.rpki_der.proofs.Reading.Lengths.{bind_some, some_is}
-use Rattle.rpki_der.proofs.Reading.Unique.{unique, behind}
+use Rattle.rpki_der.proofs.Reading.Unique.{unique, refused}
 use Rattle.rpki_resources.specs.declared.family.AddressFamily.{AddressFamily}
 use Rattle.rpki_resources.specs.Family.{max_bits}
 use Rattle.rpki_resources.specs.Prefix.{Network}
@@ -46,7 +47,7 @@ prefix_reading family = record {
   exact = exact-prefix family;
   unique = λ mode. unique (prefix_at (max_bits family) mode) (PrefixForm family mode) (exact-prefix family mode);
   relaxed = λ o p h. (h.0, address-ber (max_bits family) o h.0 h.1, h.2);
-  behind = behind (prefix_at (max_bits family)) (PrefixForm family) (exact-prefix family)
+  refused = refused (prefix_at (max_bits family)) (PrefixForm family) (exact-prefix family)
       (λ mode o p h. (3, h.1.0.0, h.1.0.1));
 }
 

@@ -1,8 +1,8 @@
 -- Reading sets of addresses as functions on lists.
 use Rattle.std.specs.Prelude.{ℕ, List, Option, None, Some, nat_le, if◌then◌else◌}
-use Rattle.rpki_der.specs.Read.Parse.{Parser, ◌>>=◌, in_value, bits_at, bits_of, primitive, optional, many}
+use Rattle.rpki_der.specs.Read.Parse.{Parser, ◌>>=◌, in_value, bits_at, bits_of, primitive}
+use Rattle.rpki_der.specs.Read.Parse.{optional, many, either}
 use Rattle.rpki_resources.specs.declared.block.Block.{Block}
-use Rattle.rpki_resources.specs.Choice.{either}
 use Rattle.rpki_resources.specs.IpForm.{bit_count, lowest, highest, network}
 use Rattle.rpki_resources.specs.Joined.{joined}
 use Rattle.rpki_resources.specs.Prefix.{Network}

@@ -2,9 +2,10 @@
 //! 3779, sections 2.1.1 and 2.1.2).
 
 ghost use Rattle.std.specs.Prelude.{◌≡◌, ◌<◌, ◌≤◌, ◌^◌, ◌*◌, ◌+◌, ◌-◌, ◌%◌, IfOk, IfSome, length};
-ghost use Rattle.rpki_der.specs.Read.Parse.{number, bits_of, Finds};
+ghost use Rattle.rpki_der.specs.Numbers.{number};
+ghost use Rattle.rpki_der.specs.Read.Parse.{bits_of, Finds};
 ghost use Rattle.rpki_der.specs.Read.Reads.{Reads};
-ghost use Rattle.rpki_der.specs.Parts.{contents_small};
+ghost use Rattle.rpki_der.specs.Write.Parts.{contents_small};
 ghost use Rattle.rpki_resources.specs.IpForm.{bit_count, lowest, highest};
 ghost use Rattle.rpki_resources.specs.IpRead.{ip_address_at};
 ghost use Rattle.rpki_resources.specs.IpWritten.{octet_count, first_bits, end_octets, lower_len};

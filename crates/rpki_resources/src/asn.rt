@@ -84,7 +84,7 @@ impl fmt::Display for Asn {
 
 /// An INTEGER (X.690, section 8.3).
 impl Encode for Asn {
-    ghost use Rattle.rpki_der.specs.Written.{number_octets};
+    ghost use Rattle.rpki_der.specs.Write.Written.{number_octets};
 
     ghost octets = { number_octets };
 

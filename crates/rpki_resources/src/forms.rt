@@ -1,18 +1,18 @@
 //! What the definitions of the octets and of the texts of sets say: laws, as functions that do
 //! nothing.
 
-ghost use Rattle.std.specs.Prelude.{◌≡◌, ◌+◌, ◌-◌, ◌%◌, ◌<◌, ◌≤◌, ◌^◌, ℕ, List, ◌++◌, All, Some, length};
-ghost use Rattle.std.specs.Prelude.{take, drop, codes};
+ghost use Rattle.std.specs.Prelude.{◌≡◌, ◌+◌, ◌-◌, ◌%◌, ◌<◌, ◌≤◌, ◌^◌, ℕ, List, ◌++◌, All, Some};
+ghost use Rattle.std.specs.Prelude.{length, take, drop, codes};
 ghost use Rattle.std.specs.List.{flat_map};
 ghost use Rattle.std.specs.Net.Text.{groups_text, hex_groups_text, zero_run};
 ghost use Rattle.rpki_der.specs.declared.mode.Mode.{Mode};
 ghost use Rattle.rpki_der.specs.declared.mode.Mode.TheVariants.{Der};
-ghost use Rattle.rpki_der.specs.Grammar.{IsBytes, IsReading};
-ghost use Rattle.rpki_der.specs.Written.{value_octets};
+ghost use Rattle.rpki_der.specs.Grammar.{IsBytes};
+ghost use Rattle.rpki_der.specs.Read.Exact.{IsReading};
+ghost use Rattle.rpki_der.specs.Write.Written.{value_octets};
 ghost use Rattle.rpki_resources.specs.declared.block.Block.{Block};
 ghost use Rattle.rpki_resources.specs.declared.family.AddressFamily.{AddressFamily};
-ghost use Rattle.rpki_resources.specs.Blocks.{IsCanonical, SameSet, IsUnion};
-ghost use Rattle.rpki_resources.specs.Blocks.{IsIntersection};
+ghost use Rattle.rpki_resources.specs.Blocks.{IsCanonical, SameSet, IsUnion, IsIntersection};
 ghost use Rattle.rpki_resources.specs.Family.{max_bits, IsWithin};
 ghost use Rattle.rpki_resources.specs.FamilyForm.{afi, FamilyForm, family_at};
 ghost use Rattle.rpki_resources.specs.AsForm.{AsForm};

@@ -1,7 +1,6 @@
 //! Sets of addresses in DER and BER (RFC 3779, section 2.2.3).
 
-ghost use Rattle.std.specs.Prelude.{◌≡◌, ◌<◌, ◌≤◌, ◌^◌, ℕ, List, IfOk, IfSome, All};
-ghost use Rattle.std.specs.Prelude.{None, length};
+ghost use Rattle.std.specs.Prelude.{◌≡◌, ◌<◌, ◌≤◌, ◌^◌, ℕ, List, IfOk, IfSome, All, None, length};
 ghost use Rattle.rpki_der.specs.Read.Parse.{many, Finds};
 ghost use Rattle.rpki_der.specs.Read.Reads.{Reads, OkOrMemory};
 ghost use Rattle.rpki_der.specs.Grammar.{Front, IsBytes};
@@ -9,16 +8,16 @@ ghost use Rattle.rpki_resources.specs.declared.block.Block.{Block};
 ghost use Rattle.rpki_resources.specs.Blocks.{IsBlock};
 ghost use Rattle.std.specs.List.{flat_map};
 ghost use Rattle.rpki_der.specs.declared.mode.Mode.TheVariants.{Der};
-ghost use Rattle.rpki_der.specs.Written.{value_octets};
+ghost use Rattle.rpki_der.specs.Write.Written.{value_octets};
 ghost use Rattle.rpki_resources.specs.declared.family.AddressFamily.TheVariants.{Ipv6};
 ghost use Rattle.rpki_resources.specs.Family.{IsWithin, max_bits};
 ghost use Rattle.rpki_resources.specs.Joined.{joined};
 ghost use Rattle.rpki_resources.specs.IpForm.{IpForm};
-ghost use Rattle.rpki_der.specs.Parts.{contents_small};
+ghost use Rattle.rpki_der.specs.Write.Parts.{contents_small};
 ghost use Rattle.rpki_resources.specs.Prefix.{prefix_len};
 ghost use Rattle.rpki_resources.specs.IpWritten.{tag_by, ip_contents, ip_octets};
-ghost use Rattle.rpki_resources.specs.IpRead.{ip_ends_at, prefix_of, ip_prefix_at};
-ghost use Rattle.rpki_resources.specs.IpRead.{ip_item_at, ip_items_at, ip_blocks_at, spanned};
+ghost use Rattle.rpki_resources.specs.IpRead.{ip_ends_at, prefix_of, ip_prefix_at, ip_item_at};
+ghost use Rattle.rpki_resources.specs.IpRead.{ip_items_at, ip_blocks_at, spanned};
 
 use crate::addr::Addr;
 use crate::address_bits::{

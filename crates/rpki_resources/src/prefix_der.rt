@@ -8,7 +8,7 @@ ghost use Rattle.rpki_resources.specs.Prefix.{Network};
 ghost use Rattle.rpki_resources.specs.IpForm.{PrefixForm};
 ghost use Rattle.rpki_resources.specs.IpRead.{prefix_at};
 ghost use Rattle.rpki_resources.specs.IpWritten.{end_octets, first_bits};
-ghost use Rattle.rpki_der.specs.Parts.{contents_small};
+ghost use Rattle.rpki_der.specs.Write.Parts.{contents_small};
 
 use crate::addr::Addr;
 use crate::address_bits::{bit_count, lowest_of, prefix_bits, take_address};

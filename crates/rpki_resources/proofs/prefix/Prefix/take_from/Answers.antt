@@ -2,7 +2,7 @@ use Rattle.rpki_resources.specs.Family.{max_bits}
 use Rattle.rpki_resources.specs.IpForm.{PrefixForm}
 use Rattle.rpki_resources.specs.IpRead.{prefix_at}
 use Rattle.rpki_resources.proofs.PrefixExact.{exact-prefix}
-use Rattle.rpki_resources.proofs.Calls.{reads_found, reads_only}
+use Rattle.rpki_der.proofs.Reading.Calls.{reads_found, reads_only}
 use Rattle.rpki_resources.proofs.prefix.Prefix.take_from.Goals as goal
 
 pub returns-clause-found : goal.returns-clause-found
