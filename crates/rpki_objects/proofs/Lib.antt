@@ -1,9 +1,11 @@
 pub mod AspaExact
 pub mod Lines
+pub mod Named
+pub mod Orders
 pub mod Providers
 pub mod Refused
 pub mod Running
 pub mod Saying
-pub mod Shown
 pub mod Tested
 pub mod Written
+pub mod Reading

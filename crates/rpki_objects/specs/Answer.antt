@@ -4,7 +4,7 @@ use Rattle.std.specs.Io.KnownBytes.{Appends}
 use Rattle.rpki_der.specs.Sink.{AppendsFront}
 use Rattle.rpki_der.specs.Encode.{Sunk}
 use Rattle.rpki_objects.specs.declared.answer.Answer.{Answer}
-use Rattle.rpki_objects.specs.declared.answer.Answer.TheVariants.{Usage, CannotRead, OutOfMemory, Malformed, Shown}
+use Rattle.rpki_objects.specs.declared.answer.Answer.TheVariants.{Usage, CannotRead, BadVerdicts, OutOfMemory, Malformed, Refused, Shown}
 
 -- what a run did to standard output and to standard error, and its exit status
 pub record Run : Type 0 where
@@ -50,14 +50,52 @@ pub record Complains (octets : List ℕ) (wanted : ℕ) (run : Run) : Type 0 whe
   pub err : Writes octets wanted run.err_before run.err_after run.status
   pub out : run.out_after ≡ run.out_before
 
--- a file that can't be read
-abbrev pub cannot_read : List ℕ → List ℕ
-cannot_read file = codes "cannot read " ++ (file ++ codes "\n")
+-- what is said: a text, and the status that goes with it
+pub data Said : Type 0 where
+  -- on standard output
+  Printed : (text : List ℕ) (status : ℕ) → Said
+  -- on standard error
+  Complained : (text : List ℕ) (status : ℕ) → Said
 
--- the run says the answer
-abbrev pub IsSaid : Answer → Run → Type 0
-IsSaid Usage run = Complains (codes "usage\n") 2 run
-IsSaid (CannotRead file) run = Complains (cannot_read file.now) 2 run
-IsSaid OutOfMemory run = Complains (codes "out of memory\n") 3 run
-IsSaid Malformed run = Prints (codes "malformed\n") 1 run
-IsSaid (Shown text) run = Prints (string_bytes text) 0 run
+-- the words ask for nothing
+abbrev pub usage : Said
+usage = Complained (codes "usage\n") 2
+
+-- a file can't be read
+abbrev pub cannot_read : List ℕ → Said
+cannot_read file = Complained (codes "cannot read " ++ (file ++ codes "\n")) 2
+
+-- a file is no list of verdicts
+abbrev pub bad_verdicts : Said
+bad_verdicts = Complained (codes "bad verdicts\n") 2
+
+-- no memory was to be had
+abbrev pub out_of_memory : Said
+out_of_memory = Complained (codes "out of memory\n") 3
+
+-- a file does not begin with what was asked for
+abbrev pub malformed : Said
+malformed = Printed (codes "malformed\n") 1
+
+-- an object is refused, for this cause
+abbrev pub refused : List ℕ → Said
+refused cause = Printed (codes "refused: " ++ (cause ++ codes "\n")) 1
+
+-- these lines are shown
+abbrev pub shown : List ℕ → Said
+shown lines = Printed lines 0
+
+-- what an answer says
+abbrev pub said : Answer → Said
+said Usage = usage
+said (CannotRead file) = cannot_read file.now
+said BadVerdicts = bad_verdicts
+said OutOfMemory = out_of_memory
+said Malformed = malformed
+said (Refused cause) = refused (string_bytes cause)
+said (Shown lines) = shown (string_bytes lines)
+
+-- the run says it
+abbrev pub IsSaid : Said → Run → Type 0
+IsSaid (Printed text status) run = Prints text status run
+IsSaid (Complained text status) run = Complains text status run

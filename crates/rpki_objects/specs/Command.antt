@@ -1,66 +1,117 @@
 -- What the program answers to its words, and what a run of it does.
-use Rattle.std.specs.Prelude.{◌≡◌, ℕ, ◌⊎◌, List, Option, None, Some, Result, Ok, Err, Vec, string_bytes, codes}
+use Rattle.std.specs.Prelude.{◌≡◌, ℕ, ◌⊎◌, ◌+◌, List, Option, None, Some, Result, Ok, Err, Vec, Bool, true, false, ◌||◌}
 use Rattle.std.specs.declared.alloc.Global.{Global}
 use Rattle.rpki_der.specs.declared.mode.Mode.TheVariants.{Der}
 use Rattle.rpki_der.specs.Grammar.{Front}
-use Rattle.rpki_objects.specs.Answer.{Run, Prints, Complains, cannot_read, IsSaid}
-use Rattle.rpki_objects.specs.Aspa.{Aspa, AspaForm}
+use Rattle.rpki_objects.specs.Answer.{Run, Said, IsSaid, usage, cannot_read, out_of_memory, malformed, shown}
+use Rattle.rpki_objects.specs.Aspa.{AspaForm}
 use Rattle.rpki_objects.specs.Decoded.{HasNoFront}
 use Rattle.rpki_objects.specs.Store.{IsRead}
 use Rattle.rpki_objects.specs.Text.{aspa_text}
-use Rattle.rpki_objects.specs.Words.{AskForAspa, AskForNothing}
+use Rattle.rpki_objects.specs.Words.{IsAsked, AskForNothing}
 use Rattle.rpki_objects.specs.declared.store.StoreError.{StoreError}
 use Rattle.rpki_objects.specs.declared.store.StoreError.TheVariants.{Unreadable, Memory}
-use Rattle.rpki_objects.specs.declared.answer.Answer.{Answer}
-use Rattle.rpki_objects.specs.declared.answer.Answer.TheVariants.{Usage, CannotRead, OutOfMemory, Malformed, Shown}
-
--- the text of what stands at the front of these octets is shown, or there is nothing of this form, or memory runs out
-abbrev pub IsShownOf : {X : Type 0} → (List ℕ → X → Type 0) → (X → List ℕ) → List ℕ → Answer → Type 0
-IsShownOf form text octets OutOfMemory = Unit {0}
-IsShownOf {X} form text octets (Shown shown) = (x : X) × (rest : List ℕ) × Front form octets x rest × (string_bytes shown ≡ text x)
-IsShownOf {X} form text octets Malformed = HasNoFront form octets
-IsShownOf form text octets Usage = ⊥
-IsShownOf form text octets (CannotRead name) = ⊥
+use Rattle.rpki_objects.specs.declared.words.Kind.TheVariants.{Aspa}
+use Rattle.rpki_objects.specs.declared.words.Command.{Command}
+use Rattle.rpki_objects.specs.declared.words.Command.TheVariants.{Content}
+use Rattle.rpki_objects.specs.declared.words.Options.{Options}
+use Rattle.rpki_objects.specs.declared.words.Order.{Order}
 
 -- this text is shown, unless memory runs out
-abbrev pub IsLinesOf : List ℕ → Answer → Type 0
-IsLinesOf text OutOfMemory = Unit {0}
-IsLinesOf text (Shown shown) = string_bytes shown ≡ text
-IsLinesOf text Malformed = ⊥
-IsLinesOf text Usage = ⊥
-IsLinesOf text (CannotRead file) = ⊥
+abbrev pub IsLinesOf : List ℕ → Said → Type 0
+IsLinesOf text s = (s ≡ out_of_memory) ⊎ (s ≡ shown text)
 
--- what is answered where a read of a file answers this
-abbrev pub IsOfRead : List ℕ → (List ℕ → Answer → Type 0) → Result (Vec ℕ Global) StoreError → Answer → Type 0
-IsOfRead name P (Ok octets) answer = P octets.items answer
-IsOfRead name P (Err Memory) answer = answer ≡ OutOfMemory
-IsOfRead name P (Err Unreadable) Usage = ⊥
-IsOfRead name P (Err Unreadable) (CannotRead file) = file.now ≡ name
-IsOfRead name P (Err Unreadable) OutOfMemory = ⊥
-IsOfRead name P (Err Unreadable) Malformed = ⊥
-IsOfRead name P (Err Unreadable) (Shown text) = ⊥
+-- the text of what stands at the front of these octets is shown, or there is nothing of this form, or memory runs out
+abbrev pub IsShownOf : {X : Type 0} → (List ℕ → X → Type 0) → (X → List ℕ) → List ℕ → Said → Type 0
+IsShownOf {X} form text octets s =
+    (s ≡ out_of_memory) ⊎ (((s ≡ malformed) × HasNoFront form octets) ⊎ ((x : X) × (rest : List ℕ) × Front form octets x rest × (s ≡ shown (text x))))
 
--- the answer for the ASPA content in a file of which the store tells this
-abbrev pub IsAspaAnswer : Option (Option (List ℕ)) → List ℕ → Answer → Type 0
-IsAspaAnswer told file answer = (read : Result (Vec ℕ Global) StoreError) × IsRead told read × IsOfRead file (IsShownOf (AspaForm Der) aspa_text) read answer
+-- what is said where a read of a file answers this
+abbrev pub IsOfRead : List ℕ → (List ℕ → Said → Type 0) → Result (Vec ℕ Global) StoreError → Said → Type 0
+IsOfRead name P (Ok octets) s = P octets.items s
+IsOfRead name P (Err Memory) s = s ≡ out_of_memory
+IsOfRead name P (Err Unreadable) s = s ≡ cannot_read name
 
--- the answer of the command that the words ask for, or the usage where they ask for none
-abbrev pub IsAnswer : (List ℕ → Option (Option (List ℕ))) → List (List ℕ) → Answer → Type 0
-IsAnswer told words answer = ((file : List ℕ) × AskForAspa words file × IsAspaAnswer (told file) file answer) ⊎ (AskForNothing words × (answer ≡ Usage))
+-- What a store tells of each file, by its name.
+abbrev pub Told : Type 0
+Told = List ℕ → Option (Option (List ℕ))
 
--- this is done, unless memory runs out
-abbrev pub OrOutOfMemory : (Run → Type 0) → Run → Type 0
-OrOutOfMemory Done run = Complains (codes "out of memory\n") 3 run ⊎ Done run
+-- what is said of a file in such a store
+abbrev pub IsOfFile : Told → List ℕ → (List ℕ → Said → Type 0) → Said → Type 0
+IsOfFile told name P s = (read : Result (Vec ℕ Global) StoreError) × IsRead (told name) read × IsOfRead name P read s
+
+-- what is said for a command without options
+abbrev pub IsCommandAnswer : Told → Command → Said → Type 0
+IsCommandAnswer told (Content Aspa file) s = IsOfFile told file (IsShownOf (AspaForm Der) aspa_text) s
+IsCommandAnswer told other s = s ≡ usage
+
+-- there is an option
+abbrev pub has_option : Options → Bool
+has_option o = o.relaxed || (o.registered || o.wide)
+
+-- what is said for a command, with options or without them
+abbrev pub IsOptionAnswer : Told → Bool → Command → Said → Type 0
+IsOptionAnswer told true command s = s ≡ usage
+IsOptionAnswer told false command s = IsCommandAnswer told command s
+
+-- what is said for an order
+abbrev pub IsOrderAnswer : Told → Order → Said → Type 0
+IsOrderAnswer told o s = IsOptionAnswer told (has_option o.options) o.command s
+
+-- what is said for the order that the words ask for, or the usage where they ask for none
+abbrev pub IsAnswer : Told → List (List ℕ) → Said → Type 0
+IsAnswer told words s = ((o : Order) × IsAsked words o × IsOrderAnswer told o s) ⊎ (AskForNothing words × (s ≡ usage))
+
+-- this is said, unless memory runs out
+abbrev pub OrOutOfMemory : Said → Run → Type 0
+OrOutOfMemory s run = IsSaid out_of_memory run ⊎ IsSaid s run
+
+-- The run shows what stands in a file, where the store tells the file.
+pub record Shows (told : Told) (file : List ℕ) {X : Type 0} (form : List ℕ → X → Type 0) (text : X → List ℕ) (run : Run) : Type 0 where
+  -- a file that can't be read
+  pub unreadable : told file ≡ Some None → OrOutOfMemory (cannot_read file) run
+  -- a file that does not begin with one
+  pub malformed : (octets : List ℕ) → told file ≡ Some (Some octets) → HasNoFront form octets → OrOutOfMemory malformed run
+  -- a file that begins with one
+  pub shown : (octets : List ℕ) (x : X) (rest : List ℕ) → told file ≡ Some (Some octets) → Front form octets x rest → OrOutOfMemory (shown (text x)) run
+
+-- the run does the command
+abbrev pub IsCommandDone : Told → Command → Run → Type 0
+IsCommandDone told (Content Aspa file) run = Shows told file (AspaForm Der) aspa_text run
+IsCommandDone told other run = IsSaid usage run
+
+-- with options or without them
+abbrev pub IsOptionDone : Told → Bool → Command → Run → Type 0
+IsOptionDone told true command run = IsSaid usage run
+IsOptionDone told false command run = IsCommandDone told command run
+
+-- the run does what was asked
+abbrev pub IsDone : Told → Order → Run → Type 0
+IsDone told o run = IsOptionDone told (has_option o.options) o.command run
 
 -- What a run of the program does, where the store tells this of each file by its name.
-pub record IsRunOf (told : List ℕ → Option (Option (List ℕ))) (words : List (List ℕ)) (run : Run) : Type 0 where
+pub record IsRunOf (told : Told) (words : List (List ℕ)) (run : Run) : Type 0 where
   -- words that ask for nothing
-  pub usage : AskForNothing words → Complains (codes "usage\n") 2 run
-  -- a file that can't be read
-  pub unreadable : (file : List ℕ) → AskForAspa words file → told file ≡ Some None → OrOutOfMemory (Complains (cannot_read file) 2) run
-  -- a file that does not begin with a content
-  pub malformed : (file octets : List ℕ) → AskForAspa words file → told file ≡ Some (Some octets) → HasNoFront (AspaForm Der) octets → OrOutOfMemory (Prints (codes "malformed\n") 1) run
-  -- a file that begins with a content
-  pub shown : (file octets : List ℕ) (a : Aspa) (rest : List ℕ) → AskForAspa words file → told file ≡ Some (Some octets) → Front (AspaForm Der) octets a rest → OrOutOfMemory (Prints (aspa_text a) 0) run
+  pub usage : AskForNothing words → IsSaid usage run
+  -- words that ask for this
+  pub done : (o : Order) → IsAsked words o → IsDone told o run
   -- whatever the store tells, one answer is said
-  pub answered : (answer : Answer) × IsAnswer told words answer × IsSaid answer run
+  pub answered : (s : Said) × IsAnswer told words s × IsSaid s run
+
+-- how many files a command without options reads
+abbrev pub command_reads : Command → ℕ
+command_reads (Content Aspa file) = 1
+command_reads other = 0
+
+abbrev pub option_reads : Bool → Command → ℕ
+option_reads true command = 0
+option_reads false command = command_reads command
+
+-- how many files an order reads
+abbrev pub reads_of : Order → ℕ
+reads_of o = option_reads (has_option o.options) o.command
+
+-- How often a store was read before and after a run: not at all for words that ask for nothing, and for others once for each file.
+pub record HaveRead (words : List (List ℕ)) (old new : ℕ) : Type 0 where
+  pub usage : AskForNothing words → new ≡ old
+  pub done : (o : Order) → IsAsked words o → new ≡ old + reads_of o

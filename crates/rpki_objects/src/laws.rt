@@ -7,6 +7,8 @@ ghost use Rattle.rpki_der.specs.Grammar.{Front, IsBytes, IsUnique, Value};
 ghost use Rattle.rpki_objects.specs.Aspa.{Aspa, AspaForm, IsAttestation};
 ghost use Rattle.rpki_objects.specs.AspaWritten.{aspa_octets};
 ghost use Rattle.rpki_objects.specs.Decoded.{HasNoFront};
+ghost use Rattle.rpki_objects.specs.Words.{IsAsked};
+ghost use Rattle.rpki_objects.specs.declared.words.Order.{Order};
 
 /// What a slice of octets holds is below 256.
 pub fn slices_hold_octets(octets: &[u8])
@@ -35,4 +37,9 @@ pub fn contents_are_written()
     ensures written { (a : Aspa) → IsAttestation a → AspaForm Der (aspa_octets a) a }
     ensures only { (octets : List ℕ) (a : Aspa) → IsBytes octets → AspaForm Der octets a → octets ≡ aspa_octets a }
     ensures read { (a : Aspa) (rest : List ℕ) → IsAttestation a → Front (AspaForm Der) (aspa_octets a ++ rest) a rest }
+{}
+
+/// No words ask for two things.
+pub fn words_ask_for_one_thing()
+    ensures { (words : List (List ℕ)) (a b : Order) → IsAsked words a → IsAsked words b → a ≡ b }
 {}

@@ -2,7 +2,9 @@
 #![tactic(auto)]
 
 mod answer;
+mod arguments;
 mod aspa;
+mod content;
 pub mod laws;
 mod program;
 mod start;
@@ -14,13 +16,16 @@ mod words;
 
 pub use program::command;
 use rpki_der::Counted;
-use start::run;
+use start::start;
 use std::process::ExitCode;
 use store::Disk;
 pub use store::{Store, StoreError};
 
 fn main(rt: HostRuntime) -> ExitCode {
-    let mut out = Counted::new(rt.stdout());
-    let mut err = Counted::new(rt.stderr());
-    ExitCode::from(run(&rt, &Disk::new(&rt), &mut out, &mut err))
+    start(
+        &rt,
+        &mut Disk::new(&rt),
+        &mut Counted::new(rt.stdout()),
+        &mut Counted::new(rt.stderr()),
+    )
 }

@@ -5,7 +5,7 @@ use super::runs::{ASK, LINES};
 use super::stores::{Failing, Fault, NoMemory, make_store};
 use crate::program::command;
 use crate::store::Store;
-use rpki_der::Counted;
+use rpki_der::{Count, Counted};
 use std::alloc::Global;
 use std::process::Abort;
 use std::test::Fail;
@@ -23,7 +23,7 @@ struct Run<'a> {
 
 // That the stream of the answer, which takes one octet in a call, makes the run end with status 2 at whichever call it
 // fails. It has then taken what came before, and is not called again; the other stream is not called at all.
-fn fails<S: Store>(rt: &impl Abort, alloc: Global, store: &S, run: &Run<'_>, fault: Fault) {
+fn fails<S: Store>(rt: &impl Abort, alloc: Global, store: &mut S, run: &Run<'_>, fault: Fault) {
     for n in 0..=run.text.len() {
         let mut out = Counted::new(Failing::new(alloc, 1, fault, n));
         let mut err = Counted::new(Failing::new(alloc, 1, fault, n));
@@ -53,9 +53,9 @@ fn lines_are_cut(rt: HostRuntime) -> Result<(), Fail> {
         on_output: true,
         status: 0,
     };
-    let store = make_store(rt.alloc(), &CONTENT)?;
+    let mut store = make_store(rt.alloc(), &CONTENT)?;
     for fault in FAULTS {
-        fails(&rt, rt.alloc(), &store, &run, fault);
+        fails(&rt, rt.alloc(), &mut store, &run, fault);
     }
     Ok(())
 }
@@ -68,9 +68,9 @@ fn malformed_is_cut(rt: HostRuntime) -> Result<(), Fail> {
         on_output: true,
         status: 1,
     };
-    let store = make_store(rt.alloc(), &NO_PROVIDER)?;
+    let mut store = make_store(rt.alloc(), &NO_PROVIDER)?;
     for fault in FAULTS {
-        fails(&rt, rt.alloc(), &store, &run, fault);
+        fails(&rt, rt.alloc(), &mut store, &run, fault);
     }
     Ok(())
 }
@@ -83,9 +83,9 @@ fn usage_is_cut(rt: HostRuntime) -> Result<(), Fail> {
         on_output: false,
         status: 2,
     };
-    let store = make_store(rt.alloc(), &CONTENT)?;
+    let mut store = make_store(rt.alloc(), &CONTENT)?;
     for fault in FAULTS {
-        fails(&rt, rt.alloc(), &store, &run, fault);
+        fails(&rt, rt.alloc(), &mut store, &run, fault);
     }
     Ok(())
 }
@@ -98,9 +98,9 @@ fn cannot_read_is_cut(rt: HostRuntime) -> Result<(), Fail> {
         on_output: false,
         status: 2,
     };
-    let store = make_store(rt.alloc(), &CONTENT)?;
+    let mut store = make_store(rt.alloc(), &CONTENT)?;
     for fault in FAULTS {
-        fails(&rt, rt.alloc(), &store, &run, fault);
+        fails(&rt, rt.alloc(), &mut store, &run, fault);
     }
     Ok(())
 }
@@ -114,19 +114,19 @@ fn out_of_memory_is_cut(rt: HostRuntime) {
         status: 3,
     };
     for fault in FAULTS {
-        fails(&rt, rt.alloc(), &NoMemory, &run, fault);
+        fails(&rt, rt.alloc(), &mut NoMemory(Count::zero()), &run, fault);
     }
 }
 
 #[test]
 fn lines_are_cut_between_pieces(rt: HostRuntime) -> Result<(), Fail> {
-    let store = make_store(rt.alloc(), &CONTENT)?;
+    let mut store = make_store(rt.alloc(), &CONTENT)?;
     let lines = LINES.as_bytes();
     for most in [2, 3, 50, 1000] {
         for n in 0..=lines.len().div_ceil(most) {
             let mut out = Counted::new(Failing::new(rt.alloc(), most, Fault::AnswersError, n));
             let mut err = Counted::new(Vec::new(rt.alloc()));
-            let status = command(rt.alloc(), &ASK, &store, &mut out, &mut err);
+            let status = command(rt.alloc(), &ASK, &mut store, &mut out, &mut err);
             let taken = lines.len().min(n.saturating_mul(most));
             let is_whole = taken == lines.len();
             assert_eq!(rt; status, if is_whole { 0 } else { 2 }, "{n} of {most}");

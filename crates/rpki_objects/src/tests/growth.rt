@@ -37,13 +37,13 @@ fn is_right_or_memory(rt: &impl Abort, status: u8, out: &[u8], err: &[u8]) {
 #[test]
 fn a_run(rt: HostRuntime) -> Result<(), Fail> {
     let alloc = rt.alloc();
-    let store = make_store(alloc, &CONTENT)?;
+    let mut store = make_store(alloc, &CONTENT)?;
     let mut out = Counted::new(Vec::with_capacity(alloc, 256)?);
     let mut err = Counted::new(Vec::with_capacity(alloc, 256)?);
     let status = command(
         alloc,
         &["content", "aspa", "file"],
-        &store,
+        &mut store,
         &mut out,
         &mut err,
     );
@@ -54,12 +54,12 @@ fn a_run(rt: HostRuntime) -> Result<(), Fail> {
 #[test]
 fn a_run_from_its_arguments(rt: HostRuntime) -> Result<(), Fail> {
     let alloc = rt.alloc();
-    let store = make_store(alloc, &CONTENT)?;
+    let mut store = make_store(alloc, &CONTENT)?;
     let arguments = [b"name".as_slice(), b"content", b"aspa", b"file"];
     let environment = (Arguments(&arguments), alloc);
     let mut out = Counted::new(Vec::with_capacity(alloc, 256)?);
     let mut err = Counted::new(Vec::with_capacity(alloc, 256)?);
-    let status = run(&environment, &store, &mut out, &mut err);
+    let status = run(&environment, &mut store, &mut out, &mut err);
     is_right_or_memory(&rt, status, &out.inner, &err.inner);
     Ok(())
 }

@@ -9,7 +9,7 @@ use crate::tests::octets::{
     make_content,
 };
 use crate::tests::stores::{Arguments, NoMemory, make_store};
-use rpki_der::Counted;
+use rpki_der::{Count, Counted};
 use std::alloc::Global;
 use std::process::Abort;
 use std::test::Fail;
@@ -35,13 +35,15 @@ fn says(
     octets: &[u8],
     said: &Said<'_>,
 ) -> Result<(), Fail> {
-    let store = make_store(alloc, octets)?;
+    let mut store = make_store(alloc, octets)?;
     let mut out = Counted::new(Vec::new(alloc));
     let mut err = Counted::new(Vec::new(alloc));
-    let status = command(alloc, words, &store, &mut out, &mut err);
+    let status = command(alloc, words, &mut store, &mut out, &mut err);
     assert_eq!(rt; status, said.status);
     assert_eq!(rt; out.inner.as_slice(), said.out.as_bytes());
     assert_eq!(rt; err.inner.as_slice(), said.err.as_bytes());
+    let is_usage = said.err == "usage\n";
+    assert_eq!(rt; store.calls(), if is_usage { 0 } else { 1 });
     Ok(())
 }
 
@@ -84,10 +86,10 @@ fn others_are_malformed(rt: HostRuntime) -> Result<(), Fail> {
 #[test]
 fn a_line_for_each_provider(rt: HostRuntime) -> Result<(), Fail> {
     for count in [9_999, 10_000] {
-        let store = make_store(rt.alloc(), &make_content(rt.alloc(), count)?)?;
+        let mut store = make_store(rt.alloc(), &make_content(rt.alloc(), count)?)?;
         let mut out = Counted::new(Vec::new(rt.alloc()));
         let mut err = Counted::new(Vec::new(rt.alloc()));
-        let status = command(rt.alloc(), &ASK, &store, &mut out, &mut err);
+        let status = command(rt.alloc(), &ASK, &mut store, &mut out, &mut err);
         assert_eq!(rt; status, 0);
         let lines = out.inner.iter().filter(|octet| **octet == b'\n').count();
         assert_eq!(rt; lines, count as usize + 2);
@@ -160,7 +162,13 @@ fn a_file_is_not_there(rt: HostRuntime) -> Result<(), Fail> {
 fn memory_runs_out(rt: HostRuntime) -> Result<(), Fail> {
     let mut out = Counted::new(Vec::new(rt.alloc()));
     let mut err = Counted::new(Vec::new(rt.alloc()));
-    let status = command(rt.alloc(), &ASK, &NoMemory, &mut out, &mut err);
+    let status = command(
+        rt.alloc(),
+        &ASK,
+        &mut NoMemory(Count::zero()),
+        &mut out,
+        &mut err,
+    );
     assert_eq!(rt; status, 3);
     assert_eq!(rt; out.inner.len(), 0);
     assert_eq!(rt; err.inner.as_slice(), b"out of memory\n".as_slice());
@@ -169,14 +177,14 @@ fn memory_runs_out(rt: HostRuntime) -> Result<(), Fail> {
 
 #[test]
 fn a_file_of_the_system_is_not_there(rt: HostRuntime) -> Result<(), Fail> {
-    let disk = Disk::new(&rt);
+    let mut disk = Disk::new(&rt);
     let name = "data/there is no such file";
     let unread = disk.read(rt.alloc(), name).err();
     assert_eq!(rt; unread, Some(StoreError::Unreadable));
     let mut out = Counted::new(Vec::new(rt.alloc()));
     let mut err = Counted::new(Vec::new(rt.alloc()));
     let words = ["content", "aspa", name];
-    let status = command(rt.alloc(), &words, &disk, &mut out, &mut err);
+    let status = command(rt.alloc(), &words, &mut disk, &mut out, &mut err);
     assert_eq!(rt; status, 2);
     assert_eq!(rt; out.inner.len(), 0);
     let said = b"cannot read data/there is no such file\n";
@@ -192,11 +200,11 @@ fn starts(
     lines: &str,
     complaint: &str,
 ) -> Result<(), Fail> {
-    let store = make_store(rt.alloc(), &CONTENT)?;
+    let mut store = make_store(rt.alloc(), &CONTENT)?;
     let environment = (Arguments(arguments), rt.alloc());
     let mut out = Counted::new(Vec::new(rt.alloc()));
     let mut err = Counted::new(Vec::new(rt.alloc()));
-    assert_eq!(rt; run(&environment, &store, &mut out, &mut err), status);
+    assert_eq!(rt; run(&environment, &mut store, &mut out, &mut err), status);
     assert_eq!(rt; out.inner.as_slice(), lines.as_bytes());
     assert_eq!(rt; err.inner.as_slice(), complaint.as_bytes());
     Ok(())
@@ -226,4 +234,10 @@ fn each_argument_is_a_word(rt: HostRuntime) -> Result<(), Fail> {
 fn arguments_that_are_no_text_ask_for_nothing(rt: HostRuntime) -> Result<(), Fail> {
     let arguments = [b"name".as_slice(), b"content", b"aspa", &[0xFF]];
     starts(&rt, &arguments, 2, "", "usage\n")
+}
+
+#[test]
+fn the_name_of_the_program_is_any(rt: HostRuntime) -> Result<(), Fail> {
+    let arguments = [&[0xFF], b"content".as_slice(), b"aspa", b"file"];
+    starts(&rt, &arguments, 0, LINES, "")
 }

@@ -5,6 +5,7 @@ ghost use Rattle.std.specs.Option.{option_map};
 ghost use Rattle.std.specs.BTreeMap.{get_by_text};
 
 use crate::store::{Store, StoreError};
+use rpki_der::Count;
 use std::alloc::{AllocError, Global};
 use std::collections::BTreeMap;
 use std::env::{Env, FillError};
@@ -14,12 +15,25 @@ use std::io;
 #[derive(Drop)]
 pub struct MemoryStore {
     files: BTreeMap<String, Vec<u8>>,
+    reads: Count,
+    calls: usize,
+}
+
+impl MemoryStore {
+    /// How often it was read.
+    pub fn calls(&self) -> usize {
+        self.calls
+    }
 }
 
 impl Store for MemoryStore {
     ghost told = { λ s name. Some (option_map (λ v. v.items) (get_by_text s.files name)) };
 
-    fn read(&self, alloc: Global, name: &str) -> Result<Vec<u8>, StoreError> {
+    ghost reads = { λ s. s.reads.number };
+
+    fn read(&mut self, alloc: Global, name: &str) -> Result<Vec<u8>, StoreError> {
+        self.reads = self.reads.next();
+        self.calls = self.calls.saturating_add(1);
         match self.files.get(name) {
             None => Err(StoreError::Unreadable),
             Some(octets) => match Vec::from_slice(alloc, octets) {
@@ -37,17 +51,24 @@ pub fn make_store(alloc: Global, octets: &[u8]) -> Result<MemoryStore, AllocErro
         String::from_str(alloc, "file")?,
         Vec::from_slice(alloc, octets)?,
     )?;
-    Ok(MemoryStore { files })
+    Ok(MemoryStore {
+        files,
+        reads: Count::zero(),
+        calls: 0,
+    })
 }
 
 /// A store that finds no memory.
 #[derive(Drop)]
-pub struct NoMemory;
+pub struct NoMemory(pub Count);
 
 impl Store for NoMemory {
     ghost told = { λ _ _. Some (Some []) };
 
-    fn read(&self, _alloc: Global, _name: &str) -> Result<Vec<u8>, StoreError> {
+    ghost reads = { λ s. s.0.number };
+
+    fn read(&mut self, _alloc: Global, _name: &str) -> Result<Vec<u8>, StoreError> {
+        self.0 = self.0.next();
         Err(StoreError::Memory)
     }
 }

@@ -1,5 +1,5 @@
 use Rattle.rpki_objects.proofs.Running.{run-said}
 use Rattle.rpki_objects.proofs.program.command.Goals as goal
 
-pub returns : goal.returns
-returns g c = run-said _ _ _ _ c.answer.ensures c.say.ensures
+pub returns-clause-run : goal.returns-clause-run
+returns-clause-run g c = run-said _ _ _ c.say.ensures _ c.answer.ensures.said
