@@ -1,5 +1,7 @@
 -- The words after the program's name, one by one.
-use Rattle.std.proofs.Common.{◌≡◌, ℕ, zero, suc, ◌+◌, ◌<◌, ◌≤◌, List, [], ◌∷◌, ◌++◌, length, get_or, take, drop, map, None, Some, Ok, Err, String, Global, string_bytes, All, refl, sym, ap, subst, ◌∙◌, arith}
+use Rattle.std.proofs.Common.{◌≡◌, ℕ, zero, suc, ◌+◌, ◌<◌, ◌≤◌, List, [], ◌∷◌, ◌++◌, length, get_or}
+use Rattle.std.proofs.Common.{take, drop, map, None, Some, Ok, Err, String, Global, string_bytes}
+use Rattle.std.proofs.Common.{All, refl, sym, ap, subst, ◌∙◌, arith}
 use Rattle.std.specs.Str.{IsUtf8}
 use Rattle.std.proofs.lemmas.List.{take_more, map-append}
 use Rattle.rpki_command.specs.Arguments.{Told, IsWordAt, Follow, AreWords}
@@ -19,10 +21,12 @@ all-taken : (n : ℕ) (xs : List (List ℕ)) → length xs ≤ n → take n xs �
 all-taken zero [] l = refl
 all-taken zero (x ∷ xs) l = absurd (omega (arith, l))
 all-taken (suc n) [] l = refl
-all-taken (suc n) (x ∷ xs) l = ap (λ (rest : List (List ℕ)). x ∷ rest) (all-taken n xs (omega (arith, l)))
+all-taken (suc n) (x ∷ xs) l =
+    ap (λ (rest : List (List ℕ)). x ∷ rest) (all-taken n xs (omega (arith, l)))
 
 -- the place of a word, with the program's name in front
-at-next : (name : List ℕ) (rest : List (List ℕ)) (n : ℕ) (d : List ℕ) → get_or (name ∷ rest) (n + 1) d ≡ get_or rest n d
+at-next : (name : List ℕ) (rest : List (List ℕ)) (n : ℕ) (d : List ℕ)
+    → get_or (name ∷ rest) (n + 1) d ≡ get_or rest n d
 at-next name rest n d =
     let e : suc n ≡ n + 1 = omega arith in
     subst (λ (place : ℕ). get_or (name ∷ rest) place d ≡ get_or rest n d) e refl
@@ -33,18 +37,21 @@ no-text [] n l none all = absurd (omega (arith, l))
 no-text (name ∷ rest) n l none all =
     none name (subst IsUtf8 (sym (at-next name rest n name)) (all n name (omega (arith, l))))
 
-pub no_words : (told : Told) (n : ℕ) (error : WordsError) → IsWordAt told (n + 1) (Err error) → AreWords told (Err error)
+pub no_words : (told : Told) (n : ℕ) (error : WordsError) → IsWordAt told (n + 1) (Err error)
+    → AreWords told (Err error)
 no_words None n NoText h = tt
 no_words None n Memory h = tt
 no_words (Some arguments) n NoText h = no-text arguments n h.0 h.1
 no_words (Some arguments) n Memory h = tt
 
-all-first : (arguments words : List (List ℕ)) (n : ℕ) → length arguments ≤ n + 1 → words ≡ take n (drop 1 arguments)
+all-first : (arguments words : List (List ℕ)) (n : ℕ) → length arguments ≤ n + 1
+    → words ≡ take n (drop 1 arguments)
     → words ≡ drop 1 arguments
 all-first [] words n l e = e ∙ all-taken n [] (omega arith)
 all-first (name ∷ rest) words n l e = e ∙ all-taken n rest (omega (arith, l))
 
-pub no-more : (told : Told) (n : ℕ) (words : List (List ℕ)) → IsWordAt told (n + 1) (Ok None) → AreFirst told n words → Follow told words
+pub no-more : (told : Told) (n : ℕ) (words : List (List ℕ)) → IsWordAt told (n + 1) (Ok None)
+    → AreFirst told n words → Follow told words
 no-more None n words l e = tt
 no-more (Some arguments) n words l e = all-first arguments words n l e
 
@@ -58,8 +65,11 @@ one-more (name ∷ rest) words n word l is e =
     ap (λ (w : List (List ℕ)). w ++ word ∷ []) e
     ∙ ap (λ (w : List ℕ). take n rest ++ w ∷ []) it ∙ sym more
 
-pub next_word : (told : Told) (n : ℕ) (words : List (String Global)) (word : String Global) → IsWordAt told (n + 1) (Ok (Some word))
-    → AreFirst told n (map string_bytes words) → AreFirst told (n + 1) (map string_bytes (words ++ word ∷ []))
+pub next_word : (told : Told) (n : ℕ) (words : List (String Global)) (word : String Global)
+    → IsWordAt told (n + 1) (Ok (Some word))
+    → AreFirst told n (map string_bytes words)
+    → AreFirst told (n + 1) (map string_bytes (words ++ word ∷ []))
 next_word None n words word is e = tt
 next_word (Some arguments) n words word is e =
-    map-append string_bytes words (word ∷ []) ∙ one-more arguments (map string_bytes words) n (string_bytes word) is.0 is.1 e
+    map-append string_bytes words (word ∷ [])
+    ∙ one-more arguments (map string_bytes words) n (string_bytes word) is.0 is.1 e

@@ -1,5 +1,6 @@
 -- Providers that come one after the other.
-use Rattle.std.proofs.Common.{◌≡◌, ℕ, zero, suc, ◌+◌, ◌<◌, ◌≤◌, Bool, true, false, List, [], ◌∷◌, ◌++◌, length, refl, sym, ◌∙◌, add-one, length-append, arith, inl, inr}
+use Rattle.std.proofs.Common.{◌≡◌, ℕ, zero, suc, ◌+◌, ◌<◌, ◌≤◌, Bool, true, false, List, [], ◌∷◌}
+use Rattle.std.proofs.Common.{◌++◌, length, refl, sym, ◌∙◌, add-one, length-append, arith, inl, inr}
 use Rattle.std.specs.Prelude.{◌&&◌, ◌||◌, not, ◌==◌, Contains, slice_index_or, slice_index, ◌⊎◌}
 use Rattle.std.specs.List.Sorted.{IsStrictlyIncreasing}
 use Rattle.std.proofs.lemmas.Bool.{ltb-true, lt-ltb, leb-true, le-leb, eqb-true, eq-eqb}
@@ -13,15 +14,22 @@ ascending-front : (xs ys : List ℕ) → IsStrictlyIncreasing (xs ++ ys) → IsS
 ascending-front xs ys h k lt =
     let here : k < length xs = omega arith in
     let whole : k + 1 < length (xs ++ ys) = omega (arith, length-append xs ys, lt) in
-    omega (arith, h k whole, get_or_append_left xs ys 0 k here, get_or_append_left xs ys 0 (k + 1) lt)
+    omega (
+      arith,
+      h k whole,
+      get_or_append_left xs ys 0 k here,
+      get_or_append_left xs ys 0 (k + 1) lt,
+    )
 
-alone-front : (xs ys : List ℕ) → (Contains (xs ++ ys) 0 → length (xs ++ ys) ≡ 1) → Contains xs 0 → length xs ≡ 1
+alone-front : (xs ys : List ℕ) → (Contains (xs ++ ys) 0 → length (xs ++ ys) ≡ 1) → Contains xs 0
+    → length xs ≡ 1
 alone-front xs ys h c =
     let whole = h (Contains-append_left xs ys 0 c) in
     omega (arith, whole, length-append xs ys, c.1)
 
 -- the beginning of what may begin the providers may begin them
-pub begins-front : (customer : ℕ) (xs ys : List ℕ) → MayBegin customer (xs ++ ys) → MayBegin customer xs
+pub begins-front : (customer : ℕ) (xs ys : List ℕ) → MayBegin customer (xs ++ ys)
+    → MayBegin customer xs
 begins-front customer xs ys h = record {
   most = omega (arith, h.most, length-append xs ys);
   ascending = ascending-front xs ys h.ascending;
@@ -61,17 +69,24 @@ is-false : (a : Bool) → (a ≡ true → ⊥) → a ≡ false
 is-false true h = absurd (h refl)
 is-false false h = refl
 
-ascend-later : (a : ℕ) (xs : List ℕ) (k : ℕ) → slice_index xs k < slice_index xs (k + 1) → slice_index (a ∷ xs) (suc k) < slice_index (a ∷ xs) (suc k + 1)
-ascend-later a xs k h = let g : slice_index xs k < slice_index xs (suc k) = rw (add-one k) at h in rw (add-one (suc k)) g
+ascend-later : (a : ℕ) (xs : List ℕ) (k : ℕ) → slice_index xs k < slice_index xs (k + 1)
+    → slice_index (a ∷ xs) (suc k) < slice_index (a ∷ xs) (suc k + 1)
+ascend-later a xs k h = let g : slice_index xs k < slice_index xs (suc k) = rw (add-one k) at h in
+    rw (add-one (suc k)) g
 
-ascend-earlier : (a : ℕ) (xs : List ℕ) (k : ℕ) → slice_index (a ∷ xs) (suc k) < slice_index (a ∷ xs) (suc k + 1) → slice_index xs k < slice_index xs (k + 1)
-ascend-earlier a xs k h = let g : slice_index (a ∷ xs) (suc k) < slice_index (a ∷ xs) (suc (suc k)) = rw (add-one (suc k)) at h in rw (add-one k) g
+ascend-earlier : (a : ℕ) (xs : List ℕ) (k : ℕ)
+    → slice_index (a ∷ xs) (suc k) < slice_index (a ∷ xs) (suc k + 1)
+    → slice_index xs k < slice_index xs (k + 1)
+ascend-earlier a xs k h =
+    let g : slice_index (a ∷ xs) (suc k) < slice_index (a ∷ xs) (suc (suc k)) =
+    rw (add-one (suc k)) at h in rw (add-one k) g
 
 ascend-sound : (xs : List ℕ) → ascend xs ≡ true → IsStrictlyIncreasing xs
 ascend-sound [] e k lt = absurd (omega arith)
 ascend-sound (a ∷ []) e k lt = absurd (omega arith)
 ascend-sound (a ∷ b ∷ rest) e zero lt = ltb-true _ _ (and-true _ _ e).0
-ascend-sound (a ∷ b ∷ rest) e (suc k) lt = ascend-later a (b ∷ rest) k (ascend-sound (b ∷ rest) (and-true _ _ e).1 k (omega arith))
+ascend-sound (a ∷ b ∷ rest) e (suc k) lt =
+    ascend-later a (b ∷ rest) k (ascend-sound (b ∷ rest) (and-true _ _ e).1 k (omega arith))
 
 ascend-complete : (xs : List ℕ) → IsStrictlyIncreasing xs → ascend xs ≡ true
 ascend-complete [] h = refl
@@ -99,19 +114,22 @@ has-complete xs n h = has-at xs n h.0 h.1 h.2
 absent : (xs : List ℕ) (n : ℕ) → has xs n ≡ false → Contains xs n → ⊥
 absent xs n f h = let t = has-complete xs n h in let no : true ≡ false = sym t ∙ f in absurd cc
 
-alone-sound : (xs : List ℕ) → (not (has xs 0) || (length xs == 1)) ≡ true → Contains xs 0 → length xs ≡ 1
+alone-sound : (xs : List ℕ) → (not (has xs 0) || (length xs == 1)) ≡ true → Contains xs 0
+    → length xs ≡ 1
 alone-sound xs e h =
     elim (or_cases _ _ e) [
       | inl n ↦ absurd (absent xs 0 (not-true _ n) h)
       | inr q ↦ eqb-true _ _ q
     ]
 
-alone-complete : (xs : List ℕ) → (Contains xs 0 → length xs ≡ 1) → (b : Bool) → has xs 0 ≡ b → (not b || (length xs == 1)) ≡ true
+alone-complete : (xs : List ℕ) → (Contains xs 0 → length xs ≡ 1) → (b : Bool) → has xs 0 ≡ b
+    → (not b || (length xs == 1)) ≡ true
 alone-complete xs h true e = eq-eqb _ _ (h (has-sound xs 0 e))
 alone-complete xs h false e = refl
 
 -- what passes the test
-pub test-sound : (customer : ℕ) (xs : List ℕ) → are_providers customer xs ≡ true → (1 ≤ length xs) × MayBegin customer xs
+pub test-sound : (customer : ℕ) (xs : List ℕ) → are_providers customer xs ≡ true
+    → (1 ≤ length xs) × MayBegin customer xs
 unfolding are_providers
 test-sound customer xs e =
     let q = and-true _ _ e in
@@ -128,7 +146,8 @@ test-sound customer xs e =
     )
 
 -- what the test passes
-pub test-complete : (customer : ℕ) (xs : List ℕ) → 1 ≤ length xs → MayBegin customer xs → are_providers customer xs ≡ true
+pub test-complete : (customer : ℕ) (xs : List ℕ) → 1 ≤ length xs → MayBegin customer xs
+    → are_providers customer xs ≡ true
 unfolding are_providers
 test-complete customer xs some h =
     true-and _ _
@@ -140,9 +159,12 @@ test-complete customer xs some h =
     (alone-complete xs h.alone (has xs 0) refl)
 
 -- what can't begin the providers fails the test, however it goes on
-pub test-refuses : (customer : ℕ) (front : List ℕ) → (MayBegin customer front → ⊥) → (more : List ℕ) → are_providers customer (front ++ more) ≡ false
-test-refuses customer front h more = is-false _ (λ e. h (begins-front customer front more (test-sound customer (front ++ more) e).1))
+pub test-refuses : (customer : ℕ) (front : List ℕ) → (MayBegin customer front → ⊥) → (more : List ℕ)
+    → are_providers customer (front ++ more) ≡ false
+test-refuses customer front h more =
+    is-false _ (λ e. h (begins-front customer front more (test-sound customer (front ++ more) e).1))
 
 -- none at all fail it
 pub test-none : (customer : ℕ) (xs : List ℕ) → length xs ≡ 0 → are_providers customer xs ≡ false
-test-none customer xs n = is-false _ (λ e. let h = test-sound customer xs e in absurd (omega (arith, h.0)))
+test-none customer xs n = is-false _ (λ e. let h = test-sound customer xs e in
+    absurd (omega (arith, h.0)))

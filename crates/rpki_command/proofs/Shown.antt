@@ -10,8 +10,10 @@ use Rattle.rpki_command.specs.Refusal.{refusal}
 use Rattle.rpki_command.specs.declared.words.Kind.{Kind}
 use Rattle.rpki_command.specs.declared.words.Kind.TheVariants.{Aspa}
 
-module _ {X : Type 0} (form : List ℕ → X → Type 0) (text : X → List ℕ) (octets : List ℕ) (s : Said) where
-  pub shown-refusal : (e : DecodeError) → s ≡ refusal e → IfRefused {T = X} (Err e) (HasNoFront form octets)
+module _ {X : Type 0} (form : List ℕ → X → Type 0) (text : X → List ℕ) (octets : List ℕ)
+    (s : Said) where
+  pub shown-refusal : (e : DecodeError) → s ≡ refusal e
+      → IfRefused {T = X} (Err e) (HasNoFront form octets)
       → IsShown (HasLines form text) octets s
   shown-refusal Memory is none = inl is
   shown-refusal Malformed is none = inr (inl (is, λ lines h. none h.0 h.1 h.2))
@@ -23,10 +25,15 @@ module _ {X : Type 0} (form : List ℕ → X → Type 0) (text : X → List ℕ)
   shown-lines x rest front all (inl e) = inl e
   shown-lines x rest front all (inr e) = inr (inr (
     text x,
-    record { these = (x, rest, front, refl); only = λ others h. h.3 ∙ ap text (sym (all h.0 h.1 h.2)) },
+    record {
+      these = (x, rest, front, refl);
+      only = λ others h. h.3
+          ∙ ap text (sym (all h.0 h.1 h.2));
+    },
     e,
   ))
 
 -- the only kind
-pub of-kind : (kind : Kind) (octets : List ℕ) (s : Said) → IsShown (LinesOf Aspa) octets s → IsShown (LinesOf kind) octets s
+pub of-kind : (kind : Kind) (octets : List ℕ) (s : Said) → IsShown (LinesOf Aspa) octets s
+    → IsShown (LinesOf kind) octets s
 of-kind Aspa octets s h = h

@@ -1,5 +1,6 @@
 -- What a content is written as is in the grammar, and nothing else is.
-use Rattle.std.proofs.Common.{◌≡◌, ℕ, ◌*◌, ◌^◌, ◌≤◌, ◌<◌, List, [], ◌∷◌, ◌++◌, length, refl, ap, subst, ◌∙◌, arith, length-append}
+use Rattle.std.proofs.Common.{◌≡◌, ℕ, ◌*◌, ◌^◌, ◌≤◌, ◌<◌, List, [], ◌∷◌, ◌++◌, length, refl, ap}
+use Rattle.std.proofs.Common.{subst, ◌∙◌, arith, length-append}
 use Rattle.std.specs.Prelude.{All}
 use Rattle.rpki_der.specs.declared.mode.Mode.TheVariants.{Der}
 use Rattle.rpki_der.specs.Grammar.{Within, Integer, IsBytes, Items}
@@ -19,7 +20,13 @@ use Rattle.rpki_command.specs.AspaWritten.{providers_octets, aspa_contents, aspa
 
 length-providers_octets : (ps : List ℕ) → length (providers_octets ps) ≤ 11 * length ps
 length-providers_octets [] = omega arith
-length-providers_octets (p ∷ ps) = omega (arith, length-append (number_octets p) (providers_octets ps), length-number_octets p, length-providers_octets ps)
+length-providers_octets (p ∷ ps) =
+    omega (
+      arith,
+      length-append (number_octets p) (providers_octets ps),
+      length-number_octets p,
+      length-providers_octets ps,
+    )
 
 length-version : length (value_octets 160 (number_octets 1)) ≤ 17
 length-version = omega (arith, length_value_octets_le 160 (number_octets 1), length-number_octets 1)
@@ -43,11 +50,17 @@ short-octets a h = omega (arith, length_value_octets_le 48 (aspa_contents a), le
 
 -- ---- a content is written
 
-version-written : Within Der 160 (λ contents. Integer Der contents 1) (value_octets 160 (number_octets 1))
-version-written = within-written 160 (λ contents. Integer Der contents 1) (number_octets 1) (tag-sound 160 refl) (omega (arith, length-number_octets 1)) (number-written 1 (omega arith))
+version-written : Within Der 160 (λ contents. Integer Der contents 1)
+    (value_octets 160 (number_octets 1))
+version-written = within-written 160 (λ contents. Integer Der contents 1) (number_octets 1)
+    (tag-sound 160 refl) (omega (arith, length-number_octets 1)) (number-written 1 (omega arith))
 
-providers-written : (ps : List ℕ) → length ps ≤ 10000 → All IsAsn ps → Within Der 48 (λ list. Items (AsId Der) list ps) (value_octets 48 (providers_octets ps))
-providers-written ps most h = within-written 48 (λ list. Items (AsId Der) list ps) (providers_octets ps) (tag-sound 48 refl) (omega (arith, most, length-providers_octets ps)) (items-written (AsId Der) number_octets ps (λ i d l. number-in Der _ (h i d l)))
+providers-written : (ps : List ℕ) → length ps ≤ 10000 → All IsAsn ps
+    → Within Der 48 (λ list. Items (AsId Der) list ps) (value_octets 48 (providers_octets ps))
+providers-written ps most h =
+    within-written 48 (λ list. Items (AsId Der) list ps) (providers_octets ps) (tag-sound 48 refl)
+    (omega (arith, most, length-providers_octets ps))
+    (items-written (AsId Der) number_octets ps (λ i d l. number-in Der _ (h i d l)))
 
 pub aspa-written : (a : Aspa) → IsAttestation a → AspaForm Der (aspa_octets a) a
 aspa-written a h = (
@@ -70,11 +83,17 @@ aspa-written a h = (
 asn-only : (o : List ℕ) (n : ℕ) → IsBytes o → AsId Der o n → o ≡ number_octets n
 asn-only o n bytes h = number-unique o n bytes h.2.1 (h.0, h.1, h.2.0)
 
-version-only : (o : List ℕ) → IsBytes o → Within Der 160 (λ contents. Integer Der contents 1) o → o ≡ value_octets 160 (number_octets 1)
-version-only o bytes h = within-only 160 (λ contents. Integer Der contents 1) o (number_octets 1) bytes (λ contents inner is. number-unique contents 1 inner (omega arith) is) h
+version-only : (o : List ℕ) → IsBytes o → Within Der 160 (λ contents. Integer Der contents 1) o
+    → o ≡ value_octets 160 (number_octets 1)
+version-only o bytes h =
+    within-only 160 (λ contents. Integer Der contents 1) o (number_octets 1) bytes
+    (λ contents inner is. number-unique contents 1 inner (omega arith) is) h
 
-providers-only : (o ps : List ℕ) → IsBytes o → Within Der 48 (λ list. Items (AsId Der) list ps) o → o ≡ value_octets 48 (providers_octets ps)
-providers-only o ps bytes h = within-only 48 (λ list. Items (AsId Der) list ps) o (providers_octets ps) bytes (λ list. items-unique (AsId Der) number_octets asn-only list ps) h
+providers-only : (o ps : List ℕ) → IsBytes o → Within Der 48 (λ list. Items (AsId Der) list ps) o
+    → o ≡ value_octets 48 (providers_octets ps)
+providers-only o ps bytes h =
+    within-only 48 (λ list. Items (AsId Der) list ps) o (providers_octets ps) bytes
+    (λ list. items-unique (AsId Der) number_octets asn-only list ps) h
 
 abbrev Fields : List ℕ → Aspa → Type 0
 Fields fields a =
@@ -94,7 +113,9 @@ fields-only a c bytes h =
     let providers = providers-only h.2 a.providers (IsBytes-right h.1 h.2 later) h.6 in
     h.3 ∙ ap (λ (x : List ℕ). x ++ (h.1 ++ h.2)) version
     ∙ ap (λ (x : List ℕ). value_octets 160 (number_octets 1) ++ (x ++ h.2)) customer
-    ∙ ap (λ (x : List ℕ). value_octets 160 (number_octets 1) ++ (number_octets a.customer ++ x)) providers
+    ∙ ap (λ (x : List ℕ). value_octets 160 (number_octets 1) ++ (number_octets a.customer ++ x))
+    providers
 
 pub aspa-only : (o : List ℕ) (a : Aspa) → IsBytes o → AspaForm Der o a → o ≡ aspa_octets a
-aspa-only o a bytes h = within-only 48 (λ fields. Fields fields a) o (aspa_contents a) bytes (fields-only a) h
+aspa-only o a bytes h =
+    within-only 48 (λ fields. Fields fields a) o (aspa_contents a) bytes (fields-only a) h

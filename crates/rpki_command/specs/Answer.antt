@@ -4,7 +4,9 @@ use Rattle.std.specs.Io.KnownBytes.{Appends}
 use Rattle.rpki_der.specs.Sink.{AppendsFront}
 use Rattle.rpki_der.specs.Encode.{Sunk}
 use Rattle.rpki_command.specs.declared.answer.Answer.{Answer}
-use Rattle.rpki_command.specs.declared.answer.Answer.TheVariants.{Usage, CannotRead, BadVerdicts, OutOfMemory, Malformed, Refused, Shown}
+use Rattle.rpki_command.specs.declared.answer.Answer.TheVariants.{Usage, CannotRead, BadVerdicts}
+use Rattle.rpki_command.specs.declared.answer.Answer.TheVariants.{OutOfMemory, Malformed, Refused}
+use Rattle.rpki_command.specs.declared.answer.Answer.TheVariants.{Shown}
 
 -- what a run did to standard output and to standard error, and its exit status
 pub record Run : Type 0 where
@@ -15,7 +17,8 @@ pub record Run : Type 0 where
   pub status : ℕ
 
 -- the run of a call with these two sinks
-abbrev pub run_of : {O E : Type 0} → (O → Option (List ℕ)) → (O → ℕ) → O → O → (E → Option (List ℕ)) → (E → ℕ) → E → E → ℕ → Run
+abbrev pub run_of : {O E : Type 0} → (O → Option (List ℕ)) → (O → ℕ) → O → O → (E → Option (List ℕ))
+    → (E → ℕ) → E → E → ℕ → Run
 run_of out_taken out_failures out out' err_taken err_failures err err' status = record {
   out_before = (out_taken out, out_failures out);
   out_after = (out_taken out', out_failures out');
@@ -30,7 +33,8 @@ pub record IsWhole (octets : List ℕ) (wanted : ℕ) (old new : Sunk) (status :
   pub no_failure : new.1 ≡ old.1
   pub status_is : status ≡ wanted
 
--- a call of the sink has failed, and none came after it: a beginning of the octets is written, and the status is 2
+-- a call of the sink has failed, and none came after it: a beginning of the octets is written, and
+-- the status is 2
 pub record IsCut (octets : List ℕ) (old new : Sunk) (status : ℕ) : Type 0 where
   pub begun : AppendsFront old.0 new.0 octets
   pub one_failure : new.1 ≡ old.1 + 1
@@ -38,7 +42,8 @@ pub record IsCut (octets : List ℕ) (old new : Sunk) (status : ℕ) : Type 0 wh
 
 -- the octets are written with this status, or a call of the sink has failed
 abbrev pub Writes : List ℕ → ℕ → Sunk → Sunk → ℕ → Type 0
-Writes octets wanted old new status = IsWhole octets wanted old new status ⊎ IsCut octets old new status
+Writes octets wanted old new status =
+    IsWhole octets wanted old new status ⊎ IsCut octets old new status
 
 -- the octets are written on standard output, and standard error is left alone
 pub record Prints (octets : List ℕ) (wanted : ℕ) (run : Run) : Type 0 where

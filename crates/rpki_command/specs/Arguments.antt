@@ -1,5 +1,6 @@
 -- What the arguments of a program tell, and the words that they are.
-use Rattle.std.specs.Prelude.{◌≡◌, ℕ, ◌<◌, ◌≤◌, List, length, drop, map, slice_index_or, Option, None, Some, Result, Ok, Err, Vec, String, string_bytes, All}
+use Rattle.std.specs.Prelude.{◌≡◌, ℕ, ◌<◌, ◌≤◌, List, length, drop, map, slice_index_or, Option}
+use Rattle.std.specs.Prelude.{None, Some, Result, Ok, Err, Vec, String, string_bytes, All}
 use Rattle.std.specs.Str.{IsUtf8}
 use Rattle.std.specs.declared.alloc.Global.{Global}
 use Rattle.rpki_command.specs.declared.arguments.WordsError.{WordsError}
@@ -21,7 +22,8 @@ abbrev pub IsWordAt : Told → ℕ → Result (Option (String Global)) WordsErro
 IsWordAt None place word = Unit {0}
 IsWordAt (Some arguments) place (Ok None) = length arguments ≤ place
 IsWordAt (Some arguments) place (Ok (Some word)) =
-    (place < length arguments) × ((d : List ℕ) → string_bytes word ≡ slice_index_or arguments place d)
+    (place < length arguments)
+    × ((d : List ℕ) → string_bytes word ≡ slice_index_or arguments place d)
 IsWordAt (Some arguments) place (Err NoText) =
     (place < length arguments) × ((d : List ℕ) → ¬ IsUtf8 (slice_index_or arguments place d))
 IsWordAt (Some arguments) place (Err Memory) = Unit {0}

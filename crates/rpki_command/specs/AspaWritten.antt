@@ -10,7 +10,8 @@ providers_octets providers = flat_map number_octets providers
 
 -- the version, the customer and the providers
 abbrev pub aspa_contents : Aspa → List ℕ
-aspa_contents a = value_octets 160 (number_octets 1) ++ (number_octets a.customer ++ value_octets 48 (providers_octets a.providers))
+aspa_contents a = value_octets 160 (number_octets 1)
+    ++ (number_octets a.customer ++ value_octets 48 (providers_octets a.providers))
 
 -- the content
 abbrev pub aspa_octets : Aspa → List ℕ

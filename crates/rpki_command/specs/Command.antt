@@ -1,7 +1,9 @@
 -- What the program answers to its words, and what a run of it does.
-use Rattle.std.specs.Prelude.{◌≡◌, ℕ, ◌⊎◌, ◌+◌, List, Option, None, Some, Result, Ok, Err, Vec, Bool, true, false, ◌||◌}
+use Rattle.std.specs.Prelude.{◌≡◌, ℕ, ◌⊎◌, ◌+◌, List, Option, None, Some, Result, Ok, Err, Vec}
+use Rattle.std.specs.Prelude.{Bool, true, false, ◌||◌}
 use Rattle.std.specs.declared.alloc.Global.{Global}
-use Rattle.rpki_command.specs.Answer.{Run, Said, IsSaid, usage, cannot_read, out_of_memory, malformed, shown}
+use Rattle.rpki_command.specs.Answer.{Run, Said, IsSaid, usage, cannot_read, out_of_memory}
+use Rattle.rpki_command.specs.Answer.{malformed, shown}
 use Rattle.rpki_command.specs.Arguments as arguments
 use Rattle.rpki_command.specs.Arguments.{Follow, HaveNoText}
 use Rattle.rpki_command.specs.Contents.{LinesOf, HasNoLines, IsShown}
@@ -15,7 +17,8 @@ use Rattle.rpki_command.specs.declared.words.Options.{Options}
 use Rattle.rpki_command.specs.declared.words.Order.{Order}
 
 -- what is said where a read of a file answers this
-abbrev pub IsOfRead : List ℕ → (List ℕ → Said → Type 0) → Result (Vec ℕ Global) StoreError → Said → Type 0
+abbrev pub IsOfRead : List ℕ → (List ℕ → Said → Type 0) → Result (Vec ℕ Global) StoreError → Said
+    → Type 0
 IsOfRead name P (Ok octets) s = P octets.items s
 IsOfRead name P (Err Memory) s = s ≡ out_of_memory
 IsOfRead name P (Err Unreadable) s = s ≡ cannot_read name
@@ -26,7 +29,8 @@ Told = List ℕ → Option (Option (List ℕ))
 
 -- what is said of a file in such a store
 abbrev pub IsOfFile : Told → List ℕ → (List ℕ → Said → Type 0) → Said → Type 0
-IsOfFile told name P s = (read : Result (Vec ℕ Global) StoreError) × IsRead (told name) read × IsOfRead name P read s
+IsOfFile told name P s = (read : Result (Vec ℕ Global) StoreError) × IsRead (told name) read
+    × IsOfRead name P read s
 
 -- what is said for a command without options
 abbrev pub IsCommandAnswer : Told → Command → Said → Type 0
@@ -48,14 +52,16 @@ IsOrderAnswer told o s = IsOptionAnswer told (has_option o.options) o.command s
 
 -- what is said for the order that the words ask for, or the usage where they ask for none
 abbrev pub IsAnswer : Told → List (List ℕ) → Said → Type 0
-IsAnswer told words s = ((o : Order) × IsAsked words o × IsOrderAnswer told o s) ⊎ (AskForNothing words × (s ≡ usage))
+IsAnswer told words s =
+    ((o : Order) × IsAsked words o × IsOrderAnswer told o s) ⊎ (AskForNothing words × (s ≡ usage))
 
 -- this is said, unless memory runs out
 abbrev pub OrOutOfMemory : Said → Run → Type 0
 OrOutOfMemory s run = IsSaid out_of_memory run ⊎ IsSaid s run
 
 -- The run shows what stands in a file, where the store tells the file.
-pub record Shows (told : Told) (file : List ℕ) (lines_of : List ℕ → List ℕ → Type 0) (run : Run) : Type 0 where
+pub record Shows (told : Told) (file : List ℕ) (lines_of : List ℕ → List ℕ → Type 0)
+    (run : Run) : Type 0 where
   -- a file that can't be read
   pub unreadable : told file ≡ Some None → OrOutOfMemory (cannot_read file) run
   -- octets that have no lines
@@ -101,7 +107,8 @@ option_reads false command = command_reads command
 abbrev pub reads_of : Order → ℕ
 reads_of o = option_reads (has_option o.options) o.command
 
--- How often a store was read before and after a run: not at all for words that ask for nothing, and for others once for each file.
+-- How often a store was read before and after a run: not at all for words that ask for nothing, and
+-- for others once for each file.
 pub record HaveRead (words : List (List ℕ)) (old new : ℕ) : Type 0 where
   pub usage : AskForNothing words → new ≡ old
   pub done : (o : Order) → IsAsked words o → new ≡ old + reads_of o
@@ -116,8 +123,10 @@ pub record IsSaidUnread (s : Said) (old new : ℕ) (run : Run) : Type 0 where
   pub said : IsSaid s run
   pub reads : new ≡ old
 
--- What the start of a program does: it runs the words after the program's name, unless one of them is no text or memory runs out.
+-- What the start of a program does: it runs the words after the program's name, unless one of them
+-- is no text or memory runs out.
 abbrev pub IsStartOf : arguments.Told → Told → ℕ → ℕ → Run → Type 0
 IsStartOf arguments told old new run =
     ((words : List (List ℕ)) × Follow arguments words × IsRunWith told words old new run)
-    ⊎ ((HaveNoText arguments × IsSaidUnread usage old new run) ⊎ IsSaidUnread out_of_memory old new run)
+    ⊎ ((HaveNoText arguments × IsSaidUnread usage old new run)
+    ⊎ IsSaidUnread out_of_memory old new run)

@@ -1,10 +1,12 @@
 -- The command line: what each order is written as.
-use Rattle.std.specs.Prelude.{◌≡◌, ℕ, List, [], ◌∷◌, ◌++◌, Bool, true, false, not, ◌&&◌, ◌==◌, length, map, codes}
+use Rattle.std.specs.Prelude.{◌≡◌, ℕ, List, [], ◌∷◌, ◌++◌, Bool, true, false, not, ◌&&◌, ◌==◌}
+use Rattle.std.specs.Prelude.{length, map, codes}
 use Rattle.std.specs.Borrow.{Bor}
 use Rattle.rpki_command.specs.declared.words.Kind.{Kind}
 use Rattle.rpki_command.specs.declared.words.Kind.TheVariants.{Aspa}
 use Rattle.rpki_command.specs.declared.words.Command.{Command}
-use Rattle.rpki_command.specs.declared.words.Command.TheVariants.{Content, ContentRta, Show, ShowRta, ShowTal, Check, Rta}
+use Rattle.rpki_command.specs.declared.words.Command.TheVariants.{Content, ContentRta, Show}
+use Rattle.rpki_command.specs.declared.words.Command.TheVariants.{ShowRta, ShowTal, Check, Rta}
 use Rattle.rpki_command.specs.declared.words.Order.{Order}
 
 -- the words as lists of octets
@@ -42,7 +44,9 @@ command_words (Rta file moment verdicts anchor anchors) =
 
 -- the words, without the program's name, that an order is written as
 abbrev pub order_words : Order → List (List ℕ)
-order_words o = word_if o.options.relaxed word_relaxed ++ (word_if o.options.registered word_registered ++ (word_if o.options.wide word_wide ++ command_words o.command))
+order_words o = word_if o.options.relaxed word_relaxed
+    ++ (word_if o.options.registered word_registered
+    ++ (word_if o.options.wide word_wide ++ command_words o.command))
 
 -- the files that are named by a word, in the order of the words
 abbrev pub files_of : Command → List (List ℕ)

@@ -26,9 +26,11 @@ pub enum Answer<'a> {
     Shown(String),
 }
 
-/// Says the answer on one of the two sinks, and gives the exit status, which is 2 where the sink fails.
+/// Says the answer on one of the two sinks, and gives the exit status, which is 2 where the sink
+/// fails.
 pub fn say<O: Sink, E: Sink>(answer: &Answer<'_>, out: &mut O, err: &mut E) -> u8
-    ensures { IsSaid (said answer.now) (run_of O.taken O.failures out.old out.new E.taken E.failures err.old err.new result) }
+    ensures { IsSaid (said answer.now)
+        (run_of O.taken O.failures out.old out.new E.taken E.failures err.old err.new result) }
 {
     match answer {
         Answer::Usage => write(b"usage\n", 2, err),
@@ -43,7 +45,8 @@ pub fn say<O: Sink, E: Sink>(answer: &Answer<'_>, out: &mut O, err: &mut E) -> u
 
 /// Writes the octets, and gives the status, or 2 where the sink fails.
 fn write<W: Sink>(octets: &[u8], status: u8, sink: &mut W) -> u8
-    ensures { Writes octets.now status (W.taken sink.old, W.failures sink.old) (W.taken sink.new, W.failures sink.new) result }
+    ensures { Writes octets.now status (W.taken sink.old, W.failures sink.old)
+        (W.taken sink.new, W.failures sink.new) result }
 {
     match sink.take_all(octets) {
         Ok(()) => status,
@@ -53,7 +56,8 @@ fn write<W: Sink>(octets: &[u8], status: u8, sink: &mut W) -> u8
 
 /// Writes a line of two parts, and gives the status, or 2 where the sink fails.
 fn write_line<W: Sink>(first: &[u8], second: &[u8], status: u8, sink: &mut W) -> u8
-    ensures { Writes (first.now ++ (second.now ++ codes "\n")) status (W.taken sink.old, W.failures sink.old) (W.taken sink.new, W.failures sink.new) result }
+    ensures { Writes (first.now ++ (second.now ++ codes "\n")) status
+        (W.taken sink.old, W.failures sink.old) (W.taken sink.new, W.failures sink.new) result }
 {
     match write_parts(first, second, b"\n", sink) {
         Ok(()) => status,
@@ -68,8 +72,11 @@ fn write_parts<W: Sink>(
     third: &[u8],
     sink: &mut W,
 ) -> Result<(), SinkFailed>
-    ensures ok { OnOk result (Appends (W.taken sink.old) (W.taken sink.new) (first.now ++ (second.now ++ third.now))) }
-    ensures begun { OnErr result (AppendsFront (W.taken sink.old) (W.taken sink.new) (first.now ++ (second.now ++ third.now))) }
+    ensures ok { OnOk result
+        (Appends (W.taken sink.old) (W.taken sink.new) (first.now ++ (second.now ++ third.now))) }
+    ensures begun { OnErr result
+        (AppendsFront (W.taken sink.old) (W.taken sink.new)
+        (first.now ++ (second.now ++ third.now))) }
     ensures same { OnOk result (W.failures sink.new ≡ W.failures sink.old) }
     ensures failed { OnErr result (W.failures sink.new ≡ W.failures sink.old + 1) }
 {

@@ -37,19 +37,23 @@ impl Model for AsProviderAttestation {
 
     ghost view = { λ a. record { customer = a.customer; providers = a.providers } };
 
-    ghost invariant = { λ a. IsAttestation (record { customer = a.customer; providers = a.providers }) };
+    ghost invariant = { λ a. IsAttestation
+        (record { customer = a.customer; providers = a.providers }) };
 }
 
 impl AsProviderAttestation {
-    /// Reads the content at the front of the source, by the rules of DER (section 3 of the profile). Refuses by `Malformed`
-    /// or by the `Content` fault that is met first where there is none, and by `Memory` where no memory was to be had.
+    /// Reads the content at the front of the source, by the rules of DER (section 3 of the
+    /// profile). Refuses by `Malformed`
+    /// or by the `Content` fault that is met first where there is none, and by `Memory` where no
+    /// memory was to be had.
     pub fn decode(alloc: Global, source: Bytes) -> Result<AsProviderAttestation, DecodeError>
         ensures found { IfOk result (λ a. (rest : List ℕ) × Front (AspaForm Der) source a rest) }
         ensures accepted { (a : Aspa) (rest : List ℕ) → Front (AspaForm Der) source a rest
             → OkOrMemory result (λ b. b ≡ a) }
         ensures refused { IfRefused result (HasNoFront (AspaForm Der) source) }
     {
-        // The proof needs that each octet is below 256, which is known of a slice and not of a `Bytes`.
+        // The proof needs that each octet is below 256, which is known of a slice and not of a
+        // `Bytes`.
         slices_hold_octets(source.as_slice());
         read_front(alloc, source)
     }

@@ -22,12 +22,14 @@ pub fn start<A: Arguments, S: Store, O: Sink, E: Sink>(
     err: &mut E,
 ) -> ExitCode
     ensures { IsStartOf (A.told arguments.now) (S.told store.old) (S.reads store.old) (S.reads store.new)
-        (run_of O.taken O.failures out.old out.new E.taken E.failures err.old err.new (exit_status result)) }
+        (run_of O.taken O.failures out.old out.new E.taken E.failures err.old err.new
+            (exit_status result)) }
 {
     ExitCode::from(run(alloc, arguments, store, out, err))
 }
 
-/// Runs the program with its arguments, and gives the exit status. Arguments that are no text (UTF-8) ask for nothing.
+/// Runs the program with its arguments, and gives the exit status. Arguments that are no text
+/// (UTF-8) ask for nothing.
 pub fn run<A: Arguments, S: Store, O: Sink, E: Sink>(
     alloc: Global,
     arguments: &A,
@@ -55,7 +57,8 @@ fn run_with<S: Store, O: Sink, E: Sink>(
 ) -> u8
     ensures { IsSaidUnread out_of_memory (S.reads store.old) (S.reads store.new)
         (run_of O.taken O.failures out.old out.new E.taken E.failures err.old err.new result)
-        ⊎ IsRunWith (S.told store.old) (map string_bytes words.now) (S.reads store.old) (S.reads store.new)
+        ⊎ IsRunWith (S.told store.old) (map string_bytes words.now)
+            (S.reads store.old) (S.reads store.new)
         (run_of O.taken O.failures out.old out.new E.taken E.failures err.old err.new result) }
 {
     match texts_of(alloc, words) {

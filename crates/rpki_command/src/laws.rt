@@ -22,21 +22,27 @@ pub fn contents_are_unique()
     ensures { (mode : Mode) → IsUnique (AspaForm mode) }
 {}
 
-/// Octets behind an ASPA content change nothing: they are left. Nor do octets behind one whole value make it a content that it is not.
+/// Octets behind an ASPA content change nothing: they are left. Nor do octets behind one whole
+/// value make it a content that it is not.
 pub fn octets_behind_a_content_are_left()
-    ensures left { (octets more : List ℕ) (a : Aspa) (rest : List ℕ) → Front (AspaForm Der) octets a rest
+    ensures left { (octets more : List ℕ) (a : Aspa) (rest : List ℕ)
+        → Front (AspaForm Der) octets a rest
         → Front (AspaForm Der) (octets ++ more) a (rest ++ more) }
-    ensures whole { (octets contents more : List ℕ) (tag : ℕ) (a : Aspa) (rest : List ℕ) → Value Der octets tag contents
+    ensures whole { (octets contents more : List ℕ) (tag : ℕ) (a : Aspa) (rest : List ℕ)
+        → Value Der octets tag contents
         → Front (AspaForm Der) (octets ++ more) a rest → AspaForm Der octets a × (rest ≡ more) }
     ensures refused { (octets contents more : List ℕ) (tag : ℕ) → Value Der octets tag contents
         → HasNoFront (AspaForm Der) octets → HasNoFront (AspaForm Der) (octets ++ more) }
 {}
 
-/// What an attestation is written as is a content that says it, and no other octets are. Whatever follows, it stands at the front.
+/// What an attestation is written as is a content that says it, and no other octets are. Whatever
+/// follows, it stands at the front.
 pub fn contents_are_written()
     ensures written { (a : Aspa) → IsAttestation a → AspaForm Der (aspa_octets a) a }
-    ensures only { (octets : List ℕ) (a : Aspa) → IsBytes octets → AspaForm Der octets a → octets ≡ aspa_octets a }
-    ensures read { (a : Aspa) (rest : List ℕ) → IsAttestation a → Front (AspaForm Der) (aspa_octets a ++ rest) a rest }
+    ensures only { (octets : List ℕ) (a : Aspa) → IsBytes octets → AspaForm Der octets a
+        → octets ≡ aspa_octets a }
+    ensures read { (a : Aspa) (rest : List ℕ) → IsAttestation a
+        → Front (AspaForm Der) (aspa_octets a ++ rest) a rest }
 {}
 
 /// No words ask for two things.

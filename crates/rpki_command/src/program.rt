@@ -2,7 +2,8 @@
 
 ghost use Rattle.std.specs.Prelude.{◌≡◌, ◌+◌};
 ghost use Rattle.rpki_command.specs.Answer.{run_of, said};
-ghost use Rattle.rpki_command.specs.Command.{IsOfFile, IsCommandAnswer, IsOrderAnswer, IsAnswer, IsRunOf, command_reads, reads_of, HaveRead};
+ghost use Rattle.rpki_command.specs.Command.{IsOfFile, IsCommandAnswer, IsOrderAnswer, IsAnswer};
+ghost use Rattle.rpki_command.specs.Command.{IsRunOf, command_reads, reads_of, HaveRead};
 ghost use Rattle.rpki_command.specs.Contents.{LinesOf, IsShown};
 ghost use Rattle.rpki_command.specs.Words.{texts};
 
@@ -13,7 +14,8 @@ use crate::words::{Command, Kind, Order, parse};
 use rpki_der::Sink;
 use std::alloc::Global;
 
-/// The program: does what the words ask for, which follow its name, with the files of the store. Gives the exit status.
+/// The program: does what the words ask for, which follow its name, with the files of the store.
+/// Gives the exit status.
 pub fn command<S: Store, O: Sink, E: Sink>(
     alloc: Global,
     words: &[&str],
@@ -51,7 +53,8 @@ fn answer_order<'a, S: Store>(alloc: Global, order: &Order<'a>, store: &mut S) -
     answer_command(alloc, &order.command, store)
 }
 
-/// What the program answers to a command without options. One that there is not yet is answered with the usage.
+/// What the program answers to a command without options. One that there is not yet is answered
+/// with the usage.
 fn answer_command<'a, S: Store>(alloc: Global, command: &Command<'a>, store: &mut S) -> Answer<'a>
     ensures said { IsCommandAnswer (S.told store.old) command.now (said result) }
     ensures reads { S.reads store.new ≡ S.reads store.old + command_reads command.now }

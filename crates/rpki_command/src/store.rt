@@ -42,7 +42,8 @@ pub enum Unread<'a> {
     Memory,
 }
 
-/// The octets of the files with these names, which are read in their order, up to the first that can't be read.
+/// The octets of the files with these names, which are read in their order, up to the first that
+/// can't be read.
 pub fn read_all<'a, S: Store>(
     alloc: Global,
     names: &[&'a str],

@@ -1,7 +1,9 @@
 //! What the program is asked.
 
 ghost use Rattle.std.specs.Prelude.{◌≡◌, ◌++◌, Bool, MatchOption};
-ghost use Rattle.rpki_command.specs.Words.{IsAsked, AskForNothing, texts, kind_word, word_if, word_registered, word_wide, command_words, order_words, files_of, are_named};
+ghost use Rattle.rpki_command.specs.Words.{IsAsked, AskForNothing, texts, kind_word, word_if};
+ghost use Rattle.rpki_command.specs.Words.{word_registered, word_wide, command_words, order_words};
+ghost use Rattle.rpki_command.specs.Words.{files_of, are_named};
 ghost use Rattle.rpki_command.specs.declared.words.Kind.{Kind};
 ghost use Rattle.rpki_command.specs.declared.words.Command.{Command};
 ghost use Rattle.rpki_command.specs.declared.words.Order.{Order};
@@ -64,7 +66,8 @@ pub enum Command<'a> {
     ShowTal {
         file: Word<'a>,
     },
-    /// To check a signed object under an issuer, which is the last certificate of a chain that begins with a trust anchor.
+    /// To check a signed object under an issuer, which is the last certificate of a chain that
+    /// begins with a trust anchor.
     Check {
         kind: Kind,
         file: Word<'a>,
@@ -153,7 +156,8 @@ fn all_named(files: &[&str]) -> bool
 
 /// The order of words that may begin with the first option.
 fn parse_relaxed<'a>(words: &'a [&'a str]) -> Option<Order<'a>>
-    ensures { MatchOption result ((o : Order) → texts words.now ≡ order_words o → ⊥) (λ o. texts words.now ≡ order_words o) }
+    ensures { MatchOption result ((o : Order) → texts words.now ≡ order_words o → ⊥)
+        (λ o. texts words.now ≡ order_words o) }
 {
     match words {
         ["--relaxed", rest @ ..] => parse_registered(true, rest),
@@ -164,8 +168,12 @@ fn parse_relaxed<'a>(words: &'a [&'a str]) -> Option<Order<'a>>
 /// The order of words that may begin with the second option.
 fn parse_registered<'a>(relaxed: bool, words: &'a [&'a str]) -> Option<Order<'a>>
     ensures { MatchOption result
-        ((registered wide : Bool) (c : Command) → texts words.now ≡ word_if registered word_registered ++ (word_if wide word_wide ++ command_words c) → ⊥)
-        (λ o. (o.options.relaxed ≡ relaxed) × (texts words.now ≡ word_if o.options.registered word_registered ++ (word_if o.options.wide word_wide ++ command_words o.command))) }
+        ((registered wide : Bool) (c : Command)
+        → texts words.now ≡ word_if registered word_registered
+        ++ (word_if wide word_wide ++ command_words c) → ⊥)
+        (λ o. (o.options.relaxed ≡ relaxed)
+        × (texts words.now ≡ word_if o.options.registered word_registered
+        ++ (word_if o.options.wide word_wide ++ command_words o.command))) }
 {
     match words {
         ["--registered", rest @ ..] => parse_wide(relaxed, true, rest),
@@ -176,8 +184,10 @@ fn parse_registered<'a>(relaxed: bool, words: &'a [&'a str]) -> Option<Order<'a>
 /// The order of words that may begin with the third option.
 fn parse_wide<'a>(relaxed: bool, registered: bool, words: &'a [&'a str]) -> Option<Order<'a>>
     ensures { MatchOption result
-        ((wide : Bool) (c : Command) → texts words.now ≡ word_if wide word_wide ++ command_words c → ⊥)
-        (λ o. (o.options.relaxed ≡ relaxed) × (o.options.registered ≡ registered) × (texts words.now ≡ word_if o.options.wide word_wide ++ command_words o.command)) }
+        ((wide : Bool) (c : Command) → texts words.now ≡ word_if wide word_wide ++ command_words c
+        → ⊥)
+        (λ o. (o.options.relaxed ≡ relaxed) × (o.options.registered ≡ registered)
+        × (texts words.now ≡ word_if o.options.wide word_wide ++ command_words o.command)) }
 {
     match words {
         ["--wide", rest @ ..] => Some(Order {
@@ -201,7 +211,8 @@ fn parse_wide<'a>(relaxed: bool, registered: bool, words: &'a [&'a str]) -> Opti
 
 /// The command of words without options.
 fn parse_command<'a>(words: &'a [&'a str]) -> Option<Command<'a>>
-    ensures { MatchOption result ((c : Command) → texts words.now ≡ command_words c → ⊥) (λ c. texts words.now ≡ command_words c) }
+    ensures { MatchOption result ((c : Command) → texts words.now ≡ command_words c → ⊥)
+        (λ c. texts words.now ≡ command_words c) }
 {
     match words {
         ["content", "rta", file] => Some(Command::ContentRta { file: Word(file) }),
@@ -236,7 +247,8 @@ fn parse_command<'a>(words: &'a [&'a str]) -> Option<Command<'a>>
 
 /// The kind of this name.
 fn kind_of(word: &str) -> Option<Kind>
-    ensures { MatchOption result ((k : Kind) → word.now ≡ kind_word k → ⊥) (λ k. word.now ≡ kind_word k) }
+    ensures { MatchOption result ((k : Kind) → word.now ≡ kind_word k → ⊥)
+        (λ k. word.now ≡ kind_word k) }
 {
     match word {
         "aspa" => Some(Kind::Aspa),

@@ -1,6 +1,7 @@
 //! The providers of a customer.
 
-ghost use Rattle.std.specs.Prelude.{◌≡◌, ◌↔◌, ◌<◌, ◌^◌, ◌++◌, [], ◌∷◌, ℕ, length, IsTrue, IfOk, IfNone, IfSome, OnOk, OnSome};
+ghost use Rattle.std.specs.Prelude.{◌≡◌, ◌↔◌, ◌<◌, ◌^◌, ◌++◌, [], ◌∷◌, ℕ, length, IsTrue, IfOk};
+ghost use Rattle.std.specs.Prelude.{IfNone, IfSome, OnOk, OnSome};
 ghost use Rattle.rpki_der.specs.Read.Parse.{in_value};
 ghost use Rattle.rpki_der.specs.Read.Reads.{Reads};
 ghost use Rattle.rpki_command.specs.Aspa.{IsProviderSet};

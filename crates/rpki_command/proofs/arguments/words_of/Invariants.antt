@@ -5,4 +5,5 @@ use Rattle.rpki_command.proofs.arguments.words_of.Given as goal
 
 -- the words so far are the first ones
 abbrev pub invariant-loop-count : goal.invariant-loop-count
-invariant-loop-count g l = AreFirst (g.A.Arguments.told l.arguments) l.count (map string_bytes l.words.items)
+invariant-loop-count g l =
+    AreFirst (g.A.Arguments.told l.arguments) l.count (map string_bytes l.words.items)

@@ -8,4 +8,5 @@ returns-in-Err g c = shown-refusal _ _ _ _ c.in-Err.error c.refusal.ensures c.in
 pub returns-in-Ok : goal.returns-in-Ok
 returns-in-Ok g c =
     let found = c.in-Ok.ensures.found in
-    shown-lines _ _ _ _ c.in-Ok.content found.0 found.1 c.in-Ok.ensures.accepted c.show_lines.ensures
+    shown-lines _ _ _ _ c.in-Ok.content found.0 found.1 c.in-Ok.ensures.accepted
+    c.show_lines.ensures

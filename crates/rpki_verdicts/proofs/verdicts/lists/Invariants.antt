@@ -4,4 +4,5 @@ use Rattle.rpki_verdicts.proofs.verdicts.lists.Given as goal
 
 -- none of the lines so far
 abbrev pub invariant-loop-line : goal.invariant-loop-line
-invariant-loop-line l = (k : ℕ) (d : List ℕ) → k < l.line-index → IsLineOf (get_or l.lines k d) l.key l.message l.signature → ⊥
+invariant-loop-line l = (k : ℕ) (d : List ℕ) → k < l.line-index
+    → IsLineOf (get_or l.lines k d) l.key l.message l.signature → ⊥
