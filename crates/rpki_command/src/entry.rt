@@ -21,7 +21,8 @@ pub fn start<A: Arguments, S: Store, O: Sink, E: Sink>(
     out: &mut O,
     err: &mut E,
 ) -> ExitCode
-    ensures { IsStartOf (A.told arguments.now) (S.told store.old) (S.reads store.old) (S.reads store.new)
+    ensures { IsStartOf (A.told arguments.now) (S.told store.old)
+        (S.reads store.old) (S.reads store.new)
         (run_of O.taken O.failures out.old out.new E.taken E.failures err.old err.new
             (exit_status result)) }
 {
@@ -37,7 +38,8 @@ pub fn run<A: Arguments, S: Store, O: Sink, E: Sink>(
     out: &mut O,
     err: &mut E,
 ) -> u8
-    ensures { IsStartOf (A.told arguments.now) (S.told store.old) (S.reads store.old) (S.reads store.new)
+    ensures { IsStartOf (A.told arguments.now) (S.told store.old)
+        (S.reads store.old) (S.reads store.new)
         (run_of O.taken O.failures out.old out.new E.taken E.failures err.old err.new result) }
 {
     match words_of(alloc, arguments) {
