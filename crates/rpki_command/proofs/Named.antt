@@ -3,9 +3,9 @@ use Rattle.std.proofs.Common.{◌≡◌, ◌==◌, ◌<◌, ◌&&◌, not, lengt
 use Rattle.std.proofs.Common.{Bool, true, false, zero, suc, arith, refl}
 use Rattle.rpki_command.specs.Words.{texts, are_named}
 
-behind : (a b : Bool) → b ≡ false → (a && b) ≡ false
-behind true b e = e
-behind false b e = refl
+after : (a b : Bool) → b ≡ false → (a && b) ≡ false
+after true b e = e
+after false b e = refl
 
 first-not : (a b : Bool) → a ≡ true → (not a && b) ≡ false
 first-not true b e = refl
@@ -20,7 +20,7 @@ pub unnamed : (files : List (Bor (List ℕ))) (k : ℕ) (d : Bor (List ℕ)) →
 unnamed [] k d l e = absurd (omega (arith, l))
 unnamed (f ∷ fs) zero d l e = first-not (length f.now == 0) (are_named (texts fs)) e
 unnamed (f ∷ fs) (suc k) d l e =
-    behind (not (length f.now == 0)) (are_named (texts fs)) (unnamed fs k d (omega (arith, l)) e)
+    after (not (length f.now == 0)) (are_named (texts fs)) (unnamed fs k d (omega (arith, l)) e)
 
 pub named : (files : List (Bor (List ℕ)))
     → ((k : ℕ) (d : Bor (List ℕ)) → k < length files → (length (get_or files k d).now == 0) ≡ false)

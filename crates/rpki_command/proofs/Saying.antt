@@ -2,7 +2,7 @@
 use Rattle.std.proofs.Common.{List, ℕ, ◌++◌, Option, Result, Ok, Err, OnErr}
 use Rattle.std.specs.Io.KnownBytes.{Appends}
 use Rattle.rpki_der.proofs.Writing.Taken.{AppendsFront-after}
-use Rattle.rpki_der.specs.Sink.{AppendsFront}
+use Rattle.rpki_der.specs.Write.Sink.{AppendsFront}
 
 pub begun-third : {T E : Type 0} (r : Result T E) (a b c d : Option (List ℕ)) (x y z : List ℕ)
     → Appends a b x → Appends b c y → OnErr r (AppendsFront c d z)

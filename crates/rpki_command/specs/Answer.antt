@@ -1,8 +1,8 @@
 -- What the program says for an answer, and what its two streams have taken then.
 use Rattle.std.specs.Prelude.{◌≡◌, ℕ, ◌+◌, ◌⊎◌, List, Option, ◌++◌, string_bytes, codes}
 use Rattle.std.specs.Io.KnownBytes.{Appends}
-use Rattle.rpki_der.specs.Sink.{AppendsFront}
-use Rattle.rpki_der.specs.Encode.{Sunk}
+use Rattle.rpki_der.specs.Write.Sink.{AppendsFront}
+use Rattle.rpki_der.specs.Write.Encode.{Sunk}
 use Rattle.rpki_command.specs.declared.answer.Answer.{Answer}
 use Rattle.rpki_command.specs.declared.answer.Answer.TheVariants.{Usage, CannotRead, BadVerdicts}
 use Rattle.rpki_command.specs.declared.answer.Answer.TheVariants.{OutOfMemory, Malformed, Refused}

@@ -1,8 +1,9 @@
 -- The content of an AS provider attestation (draft-ietf-sidrops-aspa-profile-15, section 3).
-use Rattle.std.specs.Prelude.{◌≡◌, ◌≢◌, ℕ, ◌≤◌, List, ◌++◌, length, All, Contains}
+use Rattle.std.specs.Prelude.{◌≡◌, ◌≢◌, ℕ, ◌≤◌, List, [], ◌∷◌, length, All, Contains}
 use Rattle.std.specs.List.Sorted.{IsStrictlyIncreasing}
 use Rattle.rpki_der.specs.declared.mode.Mode.{Mode}
-use Rattle.rpki_der.specs.Grammar.{Within, Integer, Items}
+use Rattle.rpki_der.specs.Grammar.{Integer}
+use Rattle.rpki_der.specs.Form.Parts.{Sequence, SequenceOf, Explicit}
 use Rattle.rpki_resources.specs.As.{IsAsn}
 use Rattle.rpki_resources.specs.AsForm.{AsId}
 
@@ -11,10 +12,14 @@ pub record Aspa : Type 0 where
   pub customer : ℕ
   pub providers : List ℕ
 
--- 1 to 10000 numbers, each below the next, and 0 only alone
+-- how many providers a customer has at most (section 3.3 of the profile)
+abbrev pub most_providers : ℕ
+most_providers = 10000
+
+-- 1 to that number of numbers, each below the next, and 0 only alone
 pub record IsProviderSet (providers : List ℕ) : Type 0 where
   pub some : 1 ≤ length providers
-  pub most : length providers ≤ 10000
+  pub most : length providers ≤ most_providers
   pub ascending : IsStrictlyIncreasing providers
   pub alone : Contains providers 0 → length providers ≡ 1
   pub numbers : All IsAsn providers
@@ -28,10 +33,8 @@ pub record IsAttestation (a : Aspa) : Type 0 where
 
 -- SEQUENCE { [0] { INTEGER 1 }, customer, SEQUENCE OF provider }, section 3 of the profile
 abbrev pub AspaForm : Mode → List ℕ → Aspa → Type 0
-AspaForm mode octets a = Within mode 48 (λ fields.
-    (version : List ℕ) × (customer : List ℕ) × (providers : List ℕ)
-    × (fields ≡ version ++ (customer ++ providers))
-    × Within mode 160 (λ contents. Integer mode contents 1) version
-    × AsId mode customer a.customer
-    × Within mode 48 (λ list. Items (AsId mode) list a.providers) providers
-    × IsAttestation a) octets
+AspaForm mode octets a = Sequence mode (
+    (λ o. Explicit 0 mode (λ c. Integer mode c 1) o)
+    ∷ (λ o. AsId mode o a.customer)
+    ∷ (λ o. SequenceOf mode (AsId mode) o a.providers)
+    ∷ []) octets × IsAttestation a

@@ -2,9 +2,10 @@
 use Rattle.std.specs.Prelude.{◌≡◌, ℕ, ◌≤◌, List, [], ◌∷◌, length, None, Some, Contains, Bool, true}
 use Rattle.std.specs.Prelude.{false, ◌&&◌, ◌||◌, not, nat_lt, nat_le, ◌==◌, if◌then◌else◌}
 use Rattle.std.specs.List.Sorted.{IsStrictlyIncreasing}
+use Rattle.rpki_der.specs.Tags.{INTEGER, SEQUENCE, context}
 use Rattle.rpki_der.specs.Read.Parse.{Parser, ◌>>=◌, in_value, primitive, this, u32_at, optional}
-use Rattle.rpki_der.specs.Read.Parse.{many}
-use Rattle.rpki_command.specs.Aspa.{Aspa, IsProviderSet}
+use Rattle.rpki_der.specs.Read.Parse.{many, tested}
+use Rattle.rpki_command.specs.Aspa.{Aspa, most_providers, IsProviderSet}
 
 -- the providers of a customer
 pub record AreProviders (customer : ℕ) (providers : List ℕ) : Type 0 where
@@ -14,7 +15,7 @@ pub record AreProviders (customer : ℕ) (providers : List ℕ) : Type 0 where
 -- What may be the beginning of a customer's providers: at most 10000, each below the next, none of
 -- them the customer, and 0 only alone.
 pub record MayBegin (customer : ℕ) (providers : List ℕ) : Type 0 where
-  pub most : length providers ≤ 10000
+  pub most : length providers ≤ most_providers
   pub ascending : IsStrictlyIncreasing providers
   pub others : Contains providers customer → ⊥
   pub alone : Contains providers 0 → length providers ≡ 1
@@ -33,22 +34,18 @@ has (a ∷ rest) n = (a == n) || has rest n
 -- whether these are the providers of a customer
 unfoldable pub are_providers : ℕ → List ℕ → Bool
 are_providers customer providers =
-    nat_le 1 (length providers) && nat_le (length providers) 10000 && ascend providers
+    nat_le 1 (length providers) && nat_le (length providers) most_providers && ascend providers
     && not (has providers customer) && (not (has providers 0) || (length providers == 1))
-
--- what p reads, where it passes a test
-unfoldable pub tested : {X : Type 0} → (X → Bool) → Parser X → Parser X
-tested test p mode bytes = p mode bytes >>= λ x. if test x.0 then Some x else None
 
 -- the providers of a customer
 abbrev pub providers_at : ℕ → Parser (List ℕ)
-providers_at customer = tested (are_providers customer) (many (optional 2 u32_at))
+providers_at customer = tested (are_providers customer) (many (optional INTEGER u32_at))
 
 unfoldable pub fields_at : Parser Aspa
 fields_at mode bytes = do
-  version ← in_value 160 (primitive 2 (this 1)) mode bytes
+  version ← in_value (context 0) (primitive INTEGER (this 1)) mode bytes
   customer ← u32_at mode version.1
   if not (customer.0 == 0) then
-      (in_value 48 (providers_at customer.0) mode customer.1
+      (in_value SEQUENCE (providers_at customer.0) mode customer.1
       >>= λ providers. Some
       (record { customer = customer.0; providers = providers.0 }, providers.1)) else None

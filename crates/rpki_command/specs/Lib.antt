@@ -5,7 +5,6 @@ pub mod AspaRead
 pub mod AspaWritten
 pub mod Command
 pub mod Contents
-pub mod Decoded
 pub mod Grows
 pub mod Refusal
 pub mod Store

@@ -3,7 +3,7 @@ use Rattle.rpki_der.specs.declared.error.DecodeError.{DecodeError}
 use Rattle.rpki_der.specs.declared.error.DecodeError.TheVariants as error
 use Rattle.rpki_command.specs.Answer.{Said, out_of_memory, malformed}
 
--- want of memory is said as such, and every other fault is malformed
+-- that memory ran out is said as such, and every other fault is malformed
 abbrev pub refusal : DecodeError → Said
 refusal error.Memory = out_of_memory
 refusal error.Malformed = malformed

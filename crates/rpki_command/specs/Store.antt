@@ -7,7 +7,8 @@ use Rattle.rpki_command.specs.declared.store.StoreError.TheVariants.{Unreadable,
 use Rattle.rpki_command.specs.declared.store.Unread.{Unread}
 use Rattle.rpki_command.specs.declared.store.Unread.TheVariants as unread
 
--- A read answers what is told, or want of memory. Told is nothing, or that the file can't be read,
+-- A read answers what is told, or that memory ran out. Told is nothing, or that the file can't be
+-- read,
 -- or its octets.
 abbrev pub IsRead : Option (Option (List ℕ)) → Result (Vec ℕ Global) StoreError → Type 0
 IsRead told (Err Memory) = Unit {0}
@@ -42,7 +43,7 @@ AreRead told names (Ok files) = (length files.items ≡ length names)
 AreRead told names (Err (unread.Unreadable name)) = IsFirstUnreadable told names name.now
 AreRead told names (Err unread.Memory) = Unit {0}
 
--- how often the store is read for it: once for each, and never behind the first that was not read
+-- how often the store is read for it: once for each, and never after the first that was not read
 abbrev pub AreCounted : List (List ℕ) → ℕ → ℕ → Result (Vec (Vec ℕ Global) Global) Unread → Type 0
 AreCounted names old new (Ok files) = new ≡ old + length names
 AreCounted names old new (Err e) = (old + 1 ≤ new) × (new ≤ old + length names)

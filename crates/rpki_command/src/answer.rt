@@ -2,7 +2,7 @@
 
 ghost use Rattle.std.specs.Prelude.{◌≡◌, ◌+◌, ◌++◌, OnOk, OnErr, codes};
 ghost use Rattle.std.specs.Io.KnownBytes.{Appends};
-ghost use Rattle.rpki_der.specs.Sink.{AppendsFront};
+ghost use Rattle.rpki_der.specs.Write.Sink.{AppendsFront};
 ghost use Rattle.rpki_command.specs.Answer.{Writes, IsSaid, run_of, said};
 
 use rpki_der::{Sink, SinkFailed};

@@ -3,21 +3,22 @@
 mod encoder;
 mod providers;
 
-ghost use Rattle.std.specs.Prelude.{◌≡◌, ◌<◌, ◌^◌, ℕ, List, length, IfOk};
+ghost use Rattle.std.specs.Prelude.{◌≡◌, ◌<◌, ◌^◌, ℕ, List, length};
+ghost use Rattle.rpki_der.specs.Tags.{SEQUENCE};
 ghost use Rattle.rpki_der.specs.Read.Parse.{in_value};
-ghost use Rattle.rpki_der.specs.Read.Reads.{Reads, Found, OkOrMemory};
+ghost use Rattle.rpki_der.specs.Read.Reads.{Reads, Found};
+ghost use Rattle.rpki_der.specs.Form.Decodes.{Decodes};
 ghost use Rattle.rpki_der.specs.declared.mode.Mode.TheVariants.{Der};
-ghost use Rattle.rpki_der.specs.Grammar.{Front, IsBytes};
+ghost use Rattle.rpki_der.specs.Grammar.{IsBytes};
 ghost use Rattle.rpki_command.specs.Aspa.{Aspa, AspaForm, IsAttestation};
 ghost use Rattle.rpki_command.specs.AspaRead.{fields_at};
 ghost use Rattle.rpki_command.specs.AspaWritten.{aspa_octets};
-ghost use Rattle.rpki_command.specs.Decoded.{HasNoFront, IfRefused};
 
-use crate::laws::slices_hold_octets;
 use bytes::Bytes;
 pub use encoder::AsProviderAttestationEncoder;
 use providers::take_providers;
 pub use providers::{ProviderAsIter, ProviderAsSet};
+use rpki_der::laws::slices_hold_octets;
 use rpki_der::{Constructed, ContentFault, DecodeError, Mode, Reason, Tag};
 use rpki_resources::Asn;
 use std::alloc::Global;
@@ -44,13 +45,10 @@ impl Model for AsProviderAttestation {
 impl AsProviderAttestation {
     /// Reads the content at the front of the source, by the rules of DER (section 3 of the
     /// profile). Refuses by `Malformed`
-    /// or by the `Content` fault that is met first where there is none, and by `Memory` where no
+    /// or by the `Content` fault that is found first where there is none, and by `Memory` where no
     /// memory was to be had.
     pub fn decode(alloc: Global, source: Bytes) -> Result<AsProviderAttestation, DecodeError>
-        ensures found { IfOk result (λ a. (rest : List ℕ) × Front (AspaForm Der) source a rest) }
-        ensures accepted { (a : Aspa) (rest : List ℕ) → Front (AspaForm Der) source a rest
-            → OkOrMemory result (λ b. b ≡ a) }
-        ensures refused { IfRefused result (HasNoFront (AspaForm Der) source) }
+        ensures { Decodes (AspaForm Der) (λ a. a) source result }
     {
         // The proof needs that each octet is below 256, which is known of a slice and not of a
         // `Bytes`.
@@ -90,7 +88,7 @@ impl AsProviderAttestation {
 
 /// Reads the content at the front.
 fn read_front(alloc: Global, source: Bytes) -> Result<AsProviderAttestation, DecodeError>
-    ensures { Found (λ a. a) (in_value 48 fields_at Der source) result }
+    ensures { Found (λ a. a) (in_value SEQUENCE fields_at Der source) result }
 {
     Constructed::decode(source, Mode::Der, |cons| {
         cons.take_sequence(|cons| take_fields(cons, alloc))

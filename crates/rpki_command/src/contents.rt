@@ -1,13 +1,11 @@
 //! What the program shows of the octets of a file: a row for each kind of content.
 
-ghost use Rattle.std.specs.Prelude.{◌≡◌, ℕ, List, IfOk};
+ghost use Rattle.std.specs.Prelude.{◌≡◌, ℕ, List};
 ghost use Rattle.rpki_der.specs.declared.mode.Mode.TheVariants.{Der};
-ghost use Rattle.rpki_der.specs.Grammar.{Front};
-ghost use Rattle.rpki_der.specs.Read.Reads.{OkOrMemory};
+ghost use Rattle.rpki_der.specs.Form.Decodes.{Decodes};
 ghost use Rattle.rpki_command.specs.Answer.{said};
 ghost use Rattle.rpki_command.specs.Aspa.{AspaForm};
 ghost use Rattle.rpki_command.specs.Contents.{HasLines, LinesOf, IsShown, IsLinesOf};
-ghost use Rattle.rpki_command.specs.Decoded.{HasNoFront, IfRefused};
 ghost use Rattle.rpki_command.specs.Grows.{Grows};
 ghost use Rattle.rpki_command.specs.Refusal.{refusal};
 ghost use Rattle.rpki_command.specs.Texts.Aspa.{aspa_text};
@@ -30,10 +28,7 @@ pub trait Content: Drop {
 
     /// Reads the content at the front.
     fn read(alloc: Global, source: Bytes) -> Result<Self, DecodeError>
-        ensures found { IfOk result (λ a. (rest : List ℕ) × Front form source a rest) }
-        ensures accepted { (a : Self) (rest : List ℕ) → Front form source a rest
-            → OkOrMemory result (λ b. b ≡ a) }
-        ensures refused { IfRefused result (HasNoFront form source) };
+        ensures { Decodes form (λ a. a) source result };
 
     /// Appends its lines.
     fn push(&self, text: &mut String) -> Result<(), AllocError>

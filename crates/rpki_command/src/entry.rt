@@ -24,7 +24,7 @@ pub fn start<A: Arguments, S: Store, O: Sink, E: Sink>(
     ensures { IsStartOf (A.told arguments.now) (S.told store.old)
         (S.reads store.old) (S.reads store.new)
         (run_of O.taken O.failures out.old out.new E.taken E.failures err.old err.new
-            (exit_status result)) }
+        (exit_status result)) }
 {
     ExitCode::from(run(alloc, arguments, store, out, err))
 }
@@ -60,7 +60,7 @@ fn run_with<S: Store, O: Sink, E: Sink>(
     ensures { IsSaidUnread out_of_memory (S.reads store.old) (S.reads store.new)
         (run_of O.taken O.failures out.old out.new E.taken E.failures err.old err.new result)
         ⊎ IsRunWith (S.told store.old) (map string_bytes words.now)
-            (S.reads store.old) (S.reads store.new)
+        (S.reads store.old) (S.reads store.new)
         (run_of O.taken O.failures out.old out.new E.taken E.failures err.old err.new result) }
 {
     match texts_of(alloc, words) {

@@ -1,30 +1,22 @@
 //! What the definitions say, as functions that do nothing.
 
-ghost use Rattle.std.specs.Prelude.{◌≡◌, ◌<◌, ◌++◌, ℕ, List, slice_index};
+ghost use Rattle.std.specs.Prelude.{◌≡◌, ◌++◌, ℕ, List};
 ghost use Rattle.rpki_der.specs.declared.mode.Mode.{Mode};
 ghost use Rattle.rpki_der.specs.declared.mode.Mode.TheVariants.{Der};
-ghost use Rattle.rpki_der.specs.Grammar.{Front, IsBytes, IsUnique, Value};
+ghost use Rattle.rpki_der.specs.Grammar.{Front, IsBytes, IsUnique, Value, HasNoFront};
 ghost use Rattle.rpki_command.specs.Aspa.{Aspa, AspaForm, IsAttestation};
 ghost use Rattle.rpki_command.specs.AspaWritten.{aspa_octets};
-ghost use Rattle.rpki_command.specs.Decoded.{HasNoFront};
 ghost use Rattle.rpki_command.specs.Words.{IsAsked};
 ghost use Rattle.rpki_command.specs.declared.words.Order.{Order};
-
-/// What a slice of octets holds is below 256.
-pub fn slices_hold_octets(octets: &[u8])
-    ensures { (i : ℕ) → slice_index octets.now i < 256 }
-{
-    let _ = octets;
-}
 
 /// At most one beginning of given octets is an ASPA content, and it says one thing.
 pub fn contents_are_unique()
     ensures { (mode : Mode) → IsUnique (AspaForm mode) }
 {}
 
-/// Octets behind an ASPA content change nothing: they are left. Nor do octets behind one whole
+/// Octets after an ASPA content change nothing: they are left. Nor do octets after one whole
 /// value make it a content that it is not.
-pub fn octets_behind_a_content_are_left()
+pub fn octets_after_a_content_are_left()
     ensures left { (octets more : List ℕ) (a : Aspa) (rest : List ℕ)
         → Front (AspaForm Der) octets a rest
         → Front (AspaForm Der) (octets ++ more) a (rest ++ more) }

@@ -4,7 +4,10 @@ pub mod Exact
 pub mod Many
 pub mod Calls
 pub mod Loops
+pub mod UpToEnd
+pub mod Tested
 pub mod Integers
+pub mod Digits
 pub mod Lists
 pub mod Decoders
 pub mod Places

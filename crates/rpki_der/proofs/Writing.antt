@@ -1,5 +1,6 @@
 pub mod Taken
 pub mod Pieces
+pub mod Lines
 pub mod Lengths
 pub mod Numbers
 pub mod Leaves

@@ -1,11 +1,14 @@
 -- BIT STRINGs.
-use Rattle.std.specs.Prelude.{◌≡◌, ℕ, ◌<◌, List, length, Bool, true, false, nat_lt, ◌==◌, if◌then◌else◌}
+use Rattle.std.specs.Prelude.{◌≡◌, ℕ, ◌<◌, List, length, Bool, true, false, nat_lt, ◌==◌}
+use Rattle.std.specs.Prelude.{if◌then◌else◌}
 
--- X.690, 8.6.2: how many bits of the last octet may be unused: 0 to 7, and 0 where there is no octet
+-- X.690, 8.6.2: how many bits of the last octet may be unused: 0 to 7, and 0 where there is no
+-- octet
 pub record IsBits (octets : List ℕ) (unused : ℕ) : Type 0 where
   pub few : unused < 8
   pub none : length octets ≡ 0 → unused ≡ 0
 
 -- whether they are so
 abbrev pub are_bits : List ℕ → ℕ → Bool
-are_bits octets unused = if nat_lt unused 8 then (if length octets == 0 then unused == 0 else true) else false
+are_bits octets unused =
+    if nat_lt unused 8 then (if length octets == 0 then unused == 0 else true) else false

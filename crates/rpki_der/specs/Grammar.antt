@@ -1,11 +1,15 @@
 -- Values of X.690, and what stands at the front of octets. The sections named are those of X.690.
-use Rattle.std.specs.Prelude.{◌≡◌, ◌≢◌, ◌↔◌, ℕ, ◌+◌, ◌≤◌, ◌<◌, Bool, true, false, ◌⊎◌, List, [], ◌∷◌, ◌++◌, length, All, Option, None, Some, zero, suc}
+use Rattle.std.specs.Prelude.{◌≡◌, ◌≢◌, ℕ, ◌+◌, ◌≤◌, ◌<◌, Bool, true, false, ◌⊎◌, List, []}
+use Rattle.std.specs.Prelude.{◌∷◌, ◌++◌, length, All, Option, None, Some, zero, suc}
+use Rattle.std.specs.List.{concat}
+use Rattle.rpki_der.specs.Tags.{BOOLEAN, INTEGER, BIT_STRING, OCTET_STRING, OCTET_STRING_IN_PIECES}
+use Rattle.rpki_der.specs.Tags.{NULL, OBJECT_IDENTIFIER, IA5_STRING}
 use Rattle.rpki_der.specs.declared.mode.Mode.{Mode}
 use Rattle.rpki_der.specs.declared.mode.Mode.TheVariants.{Der, Ber}
 use Rattle.rpki_der.specs.Identifier.{IsTag, is_constructed}
 use Rattle.rpki_der.specs.Oid.{IsOid}
 use Rattle.rpki_der.specs.Bits.{IsBits}
-use Rattle.rpki_der.specs.Read.Parse.{Parser, number, least, joined, optional, is_next}
+use Rattle.rpki_der.specs.Numbers.{number, least}
 
 -- where low is the least length that a form is for, DER takes it from there on (10.1)
 abbrev pub IsShortest : Mode → ℕ → ℕ → Type 0
@@ -16,10 +20,12 @@ IsShortest Ber low n = Unit {0}
 abbrev pub IsShort : List ℕ → ℕ → Type 0
 IsShort octets n = (octets ≡ n ∷ []) × (n < 128)
 
--- the long form of a length: the number of further octets and 128, and then these octets (8.1.3.5). Forms of more than 4 further octets are refused, which is this project's own rule.
+-- the long form of a length: the number of further octets and 128, and then these octets (8.1.3.5).
+-- Forms of more than 4 further octets are refused, which is this project's own rule.
 abbrev pub IsLong : Mode → List ℕ → ℕ → Type 0
 IsLong mode octets n =
-    (digits : List ℕ) × (octets ≡ (128 + length digits) ∷ digits) × (1 ≤ length digits) × (length digits ≤ 4)
+    (digits : List ℕ) × (octets ≡ (128 + length digits) ∷ digits) × (1 ≤ length digits)
+    × (length digits ≤ 4)
     × (n ≡ number 0 digits) × IsShortest mode (least (length digits)) n
 
 -- the octets are this length, in a definite form (8.1.3.3); in DER in the shortest one (10.1)
@@ -27,15 +33,23 @@ abbrev pub IsLength : Mode → List ℕ → ℕ → Type 0
 IsLength mode octets n = IsShort octets n ⊎ IsLong mode octets n
 
 mutual
-  -- the octets are one value with this tag and these contents (8.1.1): identifier, length and contents, or in BER identifier, 80, values and the end 00 00 (8.1.3.6, 8.1.5)
+  -- the octets are one value with this tag and these contents (8.1.1): identifier, length and
+  -- contents, or in BER identifier, 80, values and the end 00 00 (8.1.3.6, 8.1.5)
   pub data Value : Mode → List ℕ → ℕ → List ℕ → Type 0 where
-    definite : (mode : Mode) (octets : List ℕ) (tag : ℕ) (len contents : List ℕ) → IsTag tag → IsLength mode len (length contents) → octets ≡ tag ∷ (len ++ contents) → Value mode octets tag contents
-    indefinite : (mode : Mode) (octets : List ℕ) (tag : ℕ) (contents : List ℕ) → mode ≡ Ber → IsTag tag → is_constructed tag ≡ true → Values mode contents → octets ≡ tag ∷ 128 ∷ (contents ++ 0 ∷ 0 ∷ []) → Value mode octets tag contents
+    definite : (mode : Mode) (octets : List ℕ) (tag : ℕ) (len contents : List ℕ) → IsTag tag
+        → IsLength mode len (length contents) → octets ≡ tag ∷ (len ++ contents)
+        → Value mode octets tag contents
+    indefinite : (mode : Mode) (octets : List ℕ) (tag : ℕ) (contents : List ℕ) → mode ≡ Ber
+        → IsTag tag → is_constructed tag ≡ true → Values mode contents
+        → octets ≡ tag ∷ 128 ∷ (contents ++ 0 ∷ 0 ∷ []) → Value mode octets tag contents
 
-  -- the octets are values, one after the other, as between 80 and the end (8.1.5) of a value of indefinite length
+  -- the octets are values, one after the other, as between 80 and the end (8.1.5) of a value of
+  -- indefinite length
   pub data Values : Mode → List ℕ → Type 0 where
     none : (mode : Mode) (octets : List ℕ) → octets ≡ [] → Values mode octets
-    more : (mode : Mode) (octets first others : List ℕ) (tag : ℕ) (contents : List ℕ) → octets ≡ first ++ others → Value mode first tag contents → Values mode others → Values mode octets
+    more : (mode : Mode) (octets first others : List ℕ) (tag : ℕ) (contents : List ℕ)
+        → octets ≡ first ++ others → Value mode first tag contents → Values mode others
+        → Values mode octets
 
 -- one value with this tag, whose contents are in G (8.9 to 8.12, 8.14)
 abbrev pub Within : Mode → ℕ → (List ℕ → Type 0) → List ℕ → Type 0
@@ -58,86 +72,94 @@ IsInteger (a ∷ b ∷ rest) n = (a < 128) × (a ≡ 0 → 128 ≤ b) × (n ≡ 
 
 -- the octets are an INTEGER with this value (8.3)
 abbrev pub Integer : Mode → List ℕ → ℕ → Type 0
-Integer mode octets n = Within mode 2 (λ c. IsInteger c n) octets
+Integer mode octets n = Within mode INTEGER (λ c. IsInteger c n) octets
 
 -- the octets are these, one after the other (8.10, 8.12)
 abbrev pub Items : {X : Type 0} → (List ℕ → X → Type 0) → List ℕ → List X → Type 0
 Items G octets [] = octets ≡ []
-Items G octets (x ∷ xs) = (first : List ℕ) × (others : List ℕ) × (octets ≡ first ++ others) × G first x × Items G others xs
+Items G octets (x ∷ xs) = (first : List ℕ) × (others : List ℕ) × (octets ≡ first ++ others)
+    × G first x × Items G others xs
 
--- p finds exactly the fronts, where what follows them meets ends
-pub record IsExact {X : Type 0} (ends : List ℕ → Type 0) (p : List ℕ → Option (X × List ℕ)) (G : List ℕ → X → Type 0) : Type 0 where
-  pub sound : (octets : List ℕ) (x : X) (rest : List ℕ) → IsBytes octets → p octets ≡ Some (x, rest) → Front G octets x rest
-  pub complete : (front : List ℕ) (x : X) (rest : List ℕ) → ends rest → G front x → p (front ++ rest) ≡ Some (x, rest)
-
--- whatever follows
-abbrev pub anything : List ℕ → Type 0
-anything rest = Unit {0}
-
--- No octets in G are the beginning of others in G: the beginning of given octets that is in G, what it means and what follows it are unique.
+-- No octets in G are the beginning of others in G: the beginning of given octets that is in G, what
+-- it means and what follows it are unique.
 abbrev pub IsUnique : {X : Type 0} → (List ℕ → X → Type 0) → Type 0
-IsUnique {X} G = (a b : List ℕ) (x y : X) (r s : List ℕ) → G a x → G b y → a ++ r ≡ b ++ s → (a ≡ b) × (x ≡ y) × (r ≡ s)
+IsUnique {X} G = (a b : List ℕ) (x y : X) (r s : List ℕ) → G a x → G b y → a ++ r ≡ b ++ s
+    → (a ≡ b) × (x ≡ y) × (r ≡ s)
 
 -- the octets are in G, one after the other
 abbrev pub ListOf : (List ℕ → Type 0) → List ℕ → Type 0
 ListOf G octets = (each : List (Unit {0})) × Items (λ o _. G o) octets each
 
--- the octets are a value whose contents are skipped: any contents of a primitive value (8.1.4), and values of which this holds, nested at most so deep, in a constructed one (8.1.1, 8.1.4). That there is a limit is this project's own rule.
+-- the octets are a value whose contents are skipped: any contents of a primitive value (8.1.4), and
+-- values of which this holds, nested at most to this depth, in a constructed one (8.1.1, 8.1.4).
+-- That there is a limit is this project's own rule.
 unfoldable pub Skipped : Mode → ℕ → List ℕ → Type 0
 Skipped mode zero octets = ⊥
-Skipped mode (suc depth) octets = (tag : ℕ) × (contents : List ℕ) × Value mode octets tag contents × (is_constructed tag ≡ true → ListOf (Skipped mode depth) contents)
+Skipped mode (suc depth) octets = (tag : ℕ) × (contents : List ℕ) × Value mode octets tag contents
+    × (is_constructed tag ≡ true → ListOf (Skipped mode depth) contents)
 
--- the octets are an OCTET STRING of these octets (8.7): one primitive value or, in BER, OCTET STRINGs in a constructed one (8.7.3; not in DER, 10.2), nested at most so deep. That there is a limit is this project's own rule.
+-- the octets are an OCTET STRING of these octets (8.7): one primitive value or, in BER, OCTET
+-- STRINGs in a constructed one (8.7.3; not in DER, 10.2), nested at most to this depth. That there
+-- is a limit is this project's own rule.
 unfoldable pub OctetString : Mode → ℕ → List ℕ → List ℕ → Type 0
 OctetString mode zero octets string = ⊥
-OctetString mode (suc depth) octets string = Value mode octets 4 string ⊎ ((mode ≡ Ber) × (contents : List ℕ) × (pieces : List (List ℕ)) × Value mode octets 36 contents × Items (OctetString mode depth) contents pieces × (string ≡ joined pieces))
+OctetString mode (suc depth) octets string =
+    Value mode octets OCTET_STRING string
+    ⊎ ((mode ≡ Ber) × (contents : List ℕ) × (pieces : List (List ℕ))
+    × Value mode octets OCTET_STRING_IN_PIECES contents
+    × Items (OctetString mode depth) contents pieces
+    × (string ≡ concat pieces))
 
--- The contents of a BOOLEAN, one octet (X.690, 8.2). 00 is false. In DER FF alone is true (11.1), in BER every other octet.
+-- The contents of a BOOLEAN, one octet (X.690, 8.2). 00 is false. In DER FF alone is true (11.1),
+-- in BER every other octet.
 abbrev pub IsBoolean : Mode → List ℕ → Bool → Type 0
-IsBoolean Der contents b = ((contents ≡ 0 ∷ []) × (b ≡ false)) ⊎ ((contents ≡ 255 ∷ []) × (b ≡ true))
-IsBoolean Ber contents b = (octet : ℕ) × (contents ≡ octet ∷ []) × (((octet ≡ 0) × (b ≡ false)) ⊎ ((octet ≢ 0) × (b ≡ true)))
+IsBoolean Der contents b =
+    ((contents ≡ 0 ∷ []) × (b ≡ false)) ⊎ ((contents ≡ 255 ∷ []) × (b ≡ true))
+IsBoolean Ber contents b = (octet : ℕ) × (contents ≡ octet ∷ [])
+    × (((octet ≡ 0) × (b ≡ false)) ⊎ ((octet ≢ 0) × (b ≡ true)))
 
 abbrev pub Boolean : Mode → List ℕ → Bool → Type 0
-Boolean mode octets b = Within mode 1 (λ c. IsBoolean mode c b) octets
+Boolean mode octets b = Within mode BOOLEAN (λ c. IsBoolean mode c b) octets
 
 -- a NULL has no contents (8.8)
 abbrev pub Null : Mode → List ℕ → Type 0
-Null mode octets = Within mode 5 (λ c. c ≡ []) octets
+Null mode octets = Within mode NULL (λ c. c ≡ []) octets
 
 -- an OBJECT IDENTIFIER with these contents (8.19)
 abbrev pub ObjectIdentifier : Mode → List ℕ → List ℕ → Type 0
-ObjectIdentifier mode octets oid = Within mode 6 (λ c. (c ≡ oid) × IsOid oid) octets
+ObjectIdentifier mode octets oid = Within mode OBJECT_IDENTIFIER (λ c. (c ≡ oid) × IsOid oid) octets
 
--- A BIT STRING (8.6), primitive, in DER by 10.2, in BER by this project's own rule: its contents are the number of bits of the last octet that are not used, and its octets.
+-- A BIT STRING (8.6), primitive, in DER by 10.2, in BER by this project's own rule: its contents
+-- are the number of bits of the last octet that are not used, and its octets.
 abbrev pub IsBitString : List ℕ → List ℕ × ℕ → Type 0
 IsBitString contents bits = (contents ≡ bits.1 ∷ bits.0) × IsBits bits.0 bits.1
 
 abbrev pub BitString : Mode → List ℕ → List ℕ × ℕ → Type 0
-BitString mode octets bits = Within mode 3 (λ c. IsBitString c bits) octets
+BitString mode octets bits = Within mode BIT_STRING (λ c. IsBitString c bits) octets
 
--- an IA5String of these characters (8.23): each is below 80. It is primitive, in DER by 10.2, in BER by this project's own rule.
+-- an IA5String of these characters (8.23): each is below 80. It is primitive, in DER by 10.2, in
+-- BER by this project's own rule.
 abbrev pub Ia5String : Mode → List ℕ → List ℕ → Type 0
-Ia5String mode octets text = Within mode 22 (λ c. (c ≡ text) × All (λ b. b < 128) text) octets
+Ia5String mode octets text =
+    Within mode IA5_STRING (λ c. (c ≡ text) × All (λ b. b < 128) text) octets
 
 -- an INTEGER from 0 to limit - 1 (8.3)
 abbrev pub IntegerBelow : ℕ → Mode → List ℕ → ℕ → Type 0
-IntegerBelow limit mode octets n = Within mode 2 (λ c. IsInteger c n × (n < limit)) octets
+IntegerBelow limit mode octets n = Within mode INTEGER (λ c. IsInteger c n × (n < limit)) octets
+
+-- an OCTET STRING of this length, whose pieces nest at most 32 deep (8.7)
+abbrev pub OctetStringOf : ℕ → Mode → List ℕ → List ℕ → Type 0
+OctetStringOf n mode octets string = OctetString mode 32 octets string × (length string ≡ n)
+
+-- a BIT STRING of these octets, all of whose bits are used (8.6)
+abbrev pub OctetsInBits : Mode → List ℕ → List ℕ → Type 0
+OctetsInBits mode octets string = BitString mode octets (string, 0)
 
 -- what may be there, or nothing
 abbrev pub Optional : {X : Type 0} → (List ℕ → X → Type 0) → List ℕ → Option X → Type 0
 Optional G octets None = octets ≡ []
 Optional G octets (Some x) = G octets x
 
--- Reading by p is reading by the grammar G: what it finds is in G, and what is in G it finds, whatever octets follow (exact); no octets in G are the beginning of others in G (unique); what is in G in DER is the same in BER (relaxed); one whole value that is refused alone is refused whatever octets follow it (behind).
-pub record IsReading {X : Type 0} (p : Parser X) (G : Mode → List ℕ → X → Type 0) : Type 0 where
-  pub exact : (mode : Mode) → IsExact anything (p mode) (G mode)
-  pub unique : (mode : Mode) → IsUnique (G mode)
-  pub relaxed : (octets : List ℕ) (x : X) → G Der octets x → G Ber octets x
-  pub behind : (mode : Mode) (octets contents more : List ℕ) (tag : ℕ) → IsBytes octets → IsBytes more → Value mode octets tag contents → p mode octets ≡ None → p mode (octets ++ more) ≡ None
-
--- Reading by p, where a value with this tag is next, is reading by G: what is found is in G (found), what is in G is found, whatever octets follow (read), nothing is read exactly where no such value is next (absent), and what is found in DER is found in BER (relaxed).
-pub record IsOptionalReading {X : Type 0} (tag : ℕ) (p : Parser X) (G : Mode → List ℕ → X → Type 0) : Type 0 where
-  pub found : (mode : Mode) (octets : List ℕ) (x : X) (rest : List ℕ) → IsBytes octets → optional tag p mode octets ≡ Some (Some x, rest) → Front (G mode) octets x rest
-  pub read : (mode : Mode) (front : List ℕ) (x : X) (rest : List ℕ) → G mode front x → optional tag p mode (front ++ rest) ≡ Some (Some x, rest)
-  pub absent : (mode : Mode) (octets rest : List ℕ) → (optional tag p mode octets ≡ Some (None, rest)) ↔ ((rest ≡ octets) × (is_next tag octets ≡ false))
-  pub relaxed : (octets : List ℕ) (x : Option X) (rest : List ℕ) → IsBytes octets → optional tag p Der octets ≡ Some (x, rest) → optional tag p Ber octets ≡ Some (x, rest)
+-- no beginning of the octets is in the grammar
+abbrev pub HasNoFront : {X : Type 0} → (List ℕ → X → Type 0) → List ℕ → Type 0
+HasNoFront {X} grammar octets = (x : X) (rest : List ℕ) → Front grammar octets x rest → ⊥

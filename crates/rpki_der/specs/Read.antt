@@ -1,3 +1,4 @@
 pub mod State
 pub mod Parse
+pub mod Exact
 pub mod Reads

@@ -15,9 +15,11 @@ pub struct BitString {
 }
 
 impl BitString {
-    /// The string of these octets without so many bits of the last one: 0 to 7, and 0 where there is no octet.
+    /// The string of these octets without the `unused` last bits of the last: 0 to 7, and 0 where
+    /// there is no octet.
     pub fn new(octets: Bytes, unused: u8) -> Option<BitString>
-        ensures { MatchOption result (IsBits octets unused → ⊥) (λ bits. (bits.octets ≡ octets) × (bits.unused ≡ unused)) }
+        ensures { MatchOption result (IsBits octets unused → ⊥)
+            (λ bits. (bits.octets ≡ octets) × (bits.unused ≡ unused)) }
     {
         if unused > 7 || (octets.is_empty() && unused != 0) {
             None

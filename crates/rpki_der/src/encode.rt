@@ -2,7 +2,7 @@
 
 ghost use Rattle.std.specs.Prelude.{◌≡◌, ℕ, ◌+◌, ◌<◌, ◌^◌, List, length, OnOk, OnErr};
 ghost use Rattle.std.specs.Io.KnownBytes.{Appends};
-ghost use Rattle.rpki_der.specs.Sink.{AppendsFront};
+ghost use Rattle.rpki_der.specs.Write.Sink.{AppendsFront};
 
 use crate::count::Count;
 use crate::stream::{Sink, SinkFailed};
@@ -41,7 +41,7 @@ pub enum EncodeError {
 
 /// What has an encoding in DER.
 pub trait Encode {
-    ghost use Rattle.rpki_der.specs.Encode.{IsLenOf, IsWritten, IsBytesOf};
+    ghost use Rattle.rpki_der.specs.Write.Encode.{IsLenOf, IsWritten, IsBytesOf};
 
     // The octets that it is written as.
     ghost octets: { Self → List ℕ };
@@ -62,15 +62,16 @@ pub trait Encode {
         requires short { is_short self.now }
         requires len { len ≡ length (octets self.now) }
         ensures ok { OnOk result (Appends (W.taken out.old) (W.taken out.new) (octets self.now)) }
-        ensures begun { OnErr result (AppendsFront (W.taken out.old) (W.taken out.new) (octets self.now)) }
+        ensures begun { OnErr result
+            (AppendsFront (W.taken out.old) (W.taken out.new) (octets self.now)) }
         ensures same { OnOk result (W.failures out.new ≡ W.failures out.old) }
         ensures failed { OnErr result (W.failures out.new ≡ W.failures out.old + 1) };
 
     // What has few octets has no long contents.
     ghost small: { (x : Self) → length (octets x) < 2 ^ 32 → is_short x };
 
-    /// Writes the octets, or finds out before the first one that it can't be written: `NotDer` or `TooLong`. Answers
-    /// `Io` where a call of the sink fails.
+    /// Writes the octets, or finds out before the first one that it can't be written: `NotDer` or
+    /// `TooLong`. Answers `Io` where a call of the sink fails.
     final fn write_to<W: Sink>(&self, out: &mut W) -> Result<(), EncodeError>
     where
         Self: Sized,

@@ -2,10 +2,11 @@
 
 ghost use Rattle.std.specs.Prelude.{◌≡◌, IfOk, OnErr, Some, codes};
 ghost use Rattle.rpki_der.specs.Read.Reads.{IsContent};
-ghost use Rattle.rpki_der.specs.Error.{reason_text, fault_text, error_text};
+ghost use Rattle.rpki_der.specs.Text.Error.{fault_text, error_text};
 ghost use Rattle.rpki_der.specs.declared.error.DecodeError.TheVariants.{Memory};
 
 use crate::oid::Oid;
+use crate::reason::Reason;
 use std::alloc::{AllocError, AllocFailed, Global};
 use std::error::Error;
 use std::fmt;
@@ -47,39 +48,6 @@ impl Model for InvalidSignedAttr {
     ghost view = { λ attr. attr.oid.value };
 }
 
-/// What is not allowed in a content, each with a text of its own.
-#[derive(Clone, Copy, Debug, PartialEq, Eq)]
-pub enum Reason {
-    /// The customer of an ASPA is AS0.
-    CustomerAs0,
-    /// An ASPA names no provider.
-    NoProviders,
-    /// An ASPA names more providers than `most`, which is what its profile allows.
-    TooManyProviders { most: usize },
-    /// The providers of an ASPA don't stand in ascending order.
-    ProvidersNotAscending,
-    /// The customer of an ASPA is one of its providers.
-    CustomerAmongProviders,
-    /// AS0 is a provider beside others.
-    As0BesideOthers,
-}
-
-impl Reason {
-    /// The text.
-    pub fn text(self) -> &'static str
-        ensures { result.now ≡ reason_text self }
-    {
-        match self {
-            Reason::CustomerAs0 => "customer is AS0",
-            Reason::NoProviders => "no providers",
-            Reason::TooManyProviders { .. } => "too many providers",
-            Reason::ProvidersNotAscending => "providers not in ascending order",
-            Reason::CustomerAmongProviders => "customer among its providers",
-            Reason::As0BesideOthers => "AS0 beside other providers",
-        }
-    }
-}
-
 impl InvalidSignedAttr {
     /// The fault of an attribute of this type, unless no memory for it is to be had.
     pub fn new(alloc: Global, oid: Oid) -> Result<InvalidSignedAttr, AllocError>
@@ -98,7 +66,8 @@ impl InvalidSignedAttr {
 }
 
 impl DecodeError {
-    /// A copy, unless no memory for it is to be had. Only that of a content fault takes memory.
+    /// A copy, unless no memory for it is to be had. Only that of a signed attribute's type takes
+    /// memory.
     pub(crate) fn copy(&self) -> Result<DecodeError, AllocError>
         ensures same { IfOk result (λ copy. copy ≡ self.now) }
         ensures content { OnErr result (IsContent self.now) }
@@ -113,7 +82,8 @@ impl DecodeError {
 
 impl ContentFault {
     fn copy(&self) -> Result<ContentFault, AllocError>
-        ensures { IfOk result (λ copy. copy ≡ self.now) }
+        ensures same { IfOk result (λ copy. copy ≡ self.now) }
+        ensures attr { OnErr result (IsContent (DecodeError.Content self.now)) }
     {
         match self {
             ContentFault::InvalidSignedAttr(attr) => {
@@ -150,14 +120,6 @@ impl fmt::Display for InvalidSignedAttr {
     fn fmt<W: fmt::Write>(&self, f: &mut fmt::Formatter<W>) -> fmt::Result {
         let oid = self.oid();
         write!(f, "invalid extension {oid}")
-    }
-}
-
-impl fmt::Display for Reason {
-    ghost output = { λ reason. Some (reason_text reason) };
-
-    fn fmt<W: fmt::Write>(&self, f: &mut fmt::Formatter<W>) -> fmt::Result {
-        f.write_str(self.text())
     }
 }
 

@@ -1,7 +1,7 @@
 //! Octets in hexadecimal digits.
 
 ghost use Rattle.std.specs.Prelude.{◌≡◌, ◌<◌, Some};
-ghost use Rattle.rpki_der.specs.Hex.{digit, hex_octet, hex};
+ghost use Rattle.rpki_der.specs.Text.Hex.{digit, hex_octet, hex};
 
 use std::fmt;
 use std::fmt::Write;

@@ -13,7 +13,9 @@ pub mod laws;
 mod mode;
 mod oid;
 mod read;
+mod reason;
 mod stream;
+mod tag;
 pub mod write_laws;
 
 pub use as_octets::AsOctets;
@@ -21,12 +23,11 @@ pub use bit_string::BitString;
 pub use captured::Captured;
 pub use count::Count;
 pub use encode::{Encode, EncodeError};
-pub use error::{ContentFault, DecodeError, InvalidSignedAttr, Reason};
+pub use error::{ContentFault, DecodeError, InvalidSignedAttr};
 pub use hex::LowerHex;
-pub use mode::{Mode, Tag};
+pub use mode::Mode;
 pub use oid::Oid;
 pub use read::Constructed;
+pub use reason::Reason;
 pub use stream::{Counted, Sink, SinkFailed, Source, SourceError, SourceFailed};
-
-#[cfg(test)]
-mod tests;
+pub use tag::Tag;

@@ -32,9 +32,11 @@ impl Model for Oid {
 }
 
 impl Oid {
-    /// The identifier with these contents, if they are those of one: not empty, and the last octet below 80 hexadecimal.
+    /// The identifier with these contents, if they are those of one: not empty, and the last octet
+    /// below 80 hexadecimal.
     pub fn from_bytes(contents: Bytes) -> Option<Oid>
-        ensures { MatchOption result (IsOid contents → ⊥) (λ oid. (oid ≡ contents) × IsOid contents) }
+        ensures { MatchOption result (IsOid contents → ⊥)
+            (λ oid. (oid ≡ contents) × IsOid contents) }
     {
         if is_oid(contents.as_slice()) {
             Some(Oid { contents })
@@ -86,8 +88,8 @@ fn is_oid(contents: &[u8]) -> bool
     }
 }
 
-/// The arcs in decimal digits with dots between them, as `1.2.840`. Where an arc passes 32 bits: `x` and the contents
-/// octets in lower hexadecimal digits.
+/// The arcs in decimal digits with dots between them, as `1.2.840`. Where an arc passes 32 bits:
+/// `x` and the contents octets in lower hexadecimal digits.
 impl fmt::Display for Oid {
     ghost use Rattle.rpki_der.specs.Oid.{oid_text};
 

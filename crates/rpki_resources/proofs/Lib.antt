@@ -6,7 +6,6 @@ pub mod Between
 pub mod Bits
 pub mod Bools
 pub mod Calls
-pub mod Copies
 pub mod Covering
 pub mod Each
 pub mod Ends

@@ -19,8 +19,6 @@ mod ip_der;
 mod number;
 mod prefix;
 mod resources;
-#[cfg(test)]
-mod tests;
 mod text;
 mod walks;
 

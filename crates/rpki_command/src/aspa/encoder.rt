@@ -1,9 +1,10 @@
 //! Writing a content.
 
 ghost use Rattle.std.specs.Prelude.{◌≡◌, ◌<◌, ◌^◌, length};
-ghost use Rattle.rpki_der.specs.Parts.{contents_small};
-ghost use Rattle.rpki_der.specs.Written.{number_octets, value_octets};
-ghost use Rattle.rpki_command.specs.AspaWritten.{providers_octets};
+ghost use Rattle.rpki_der.specs.Tags.{SEQUENCE, context};
+ghost use Rattle.rpki_der.specs.Write.Parts.{contents_small};
+ghost use Rattle.rpki_der.specs.Write.Written.{number_octets, value_octets};
+ghost use Rattle.rpki_command.specs.AspaWritten.{version_octets, providers_octets};
 
 use crate::aspa::AsProviderAttestation;
 use rpki_der::encode::{each, integer, sequence, tagged};
@@ -53,7 +54,7 @@ impl<'a> Encode for AsProviderAttestationEncoder<'a> {
 
     ghost is_short = { λ a. length (aspa_contents a) < 2 ^ 32 };
 
-    ghost small = { λ a h. contents_small 48 (aspa_contents a) h };
+    ghost small = { λ a h. contents_small SEQUENCE (aspa_contents a) h };
 
     fn encoded_len(&self) -> Result<u64, EncodeError> {
         sequence(self.fields()).encoded_len()
@@ -69,11 +70,11 @@ impl<'a> Encode for AsProviderAttestationEncoder<'a> {
 struct Version;
 
 impl Encode for Version {
-    ghost octets = { λ _. value_octets 160 (number_octets 1) };
+    ghost octets = { λ _. version_octets };
 
     ghost is_short = { λ _. length (number_octets 1) < 2 ^ 32 };
 
-    ghost small = { λ _ h. contents_small 160 (number_octets 1) h };
+    ghost small = { λ _ h. contents_small (context 0) (number_octets 1) h };
 
     fn encoded_len(&self) -> Result<u64, EncodeError> {
         tagged(Tag::CTX_0, integer(1)).encoded_len()
@@ -89,11 +90,11 @@ impl Encode for Version {
 struct Providers<'a>(&'a [Asn]);
 
 impl Encode for Providers<'_> {
-    ghost octets = { λ s. value_octets 48 (providers_octets s.0.now) };
+    ghost octets = { λ s. value_octets SEQUENCE (providers_octets s.0.now) };
 
     ghost is_short = { λ s. length (providers_octets s.0.now) < 2 ^ 32 };
 
-    ghost small = { λ s h. contents_small 48 (providers_octets s.0.now) h };
+    ghost small = { λ s h. contents_small SEQUENCE (providers_octets s.0.now) h };
 
     fn encoded_len(&self) -> Result<u64, EncodeError> {
         sequence(each(self.0)).encoded_len()

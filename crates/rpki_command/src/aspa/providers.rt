@@ -2,6 +2,7 @@
 
 ghost use Rattle.std.specs.Prelude.{◌≡◌, ◌↔◌, ◌<◌, ◌^◌, ◌++◌, [], ◌∷◌, ℕ, length, IsTrue, IfOk};
 ghost use Rattle.std.specs.Prelude.{IfNone, IfSome, OnOk, OnSome};
+ghost use Rattle.rpki_der.specs.Tags.{SEQUENCE};
 ghost use Rattle.rpki_der.specs.Read.Parse.{in_value};
 ghost use Rattle.rpki_der.specs.Read.Reads.{Reads};
 ghost use Rattle.rpki_command.specs.Aspa.{IsProviderSet};
@@ -145,7 +146,7 @@ fn refusal_of(customer: u32, before: &[Asn], next: u32) -> Option<Reason>
     }
 }
 
-/// Puts a number behind the others. With the first one memory for several is asked for.
+/// Puts a number after the others. With the first one memory for several is asked for.
 #[inline(always)]
 fn keep(alloc: Global, kept: &mut Vec<Asn>, next: u32) -> Result<(), AllocError>
     ensures { OnOk result (kept.new.items ≡ kept.old.items ++ next ∷ []) }
@@ -163,7 +164,8 @@ pub fn take_providers(
     alloc: Global,
     customer: u32,
 ) -> Result<ProviderAsSet, DecodeError>
-    ensures reads { Reads (λ s. s) (in_value 48 (providers_at customer)) cons.old result cons.new }
+    ensures reads { Reads (λ s. s)
+        (in_value SEQUENCE (providers_at customer)) cons.old result cons.new }
     ensures providers { IfOk result (AreProviders customer) }
 {
     cons.take_sequence(|cons| take_each(cons, alloc, customer))

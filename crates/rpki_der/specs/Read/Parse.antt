@@ -1,6 +1,12 @@
 -- Reading as functions on lists: the value at the front, and what follows it.
-use Rattle.std.specs.Prelude.{◌≡◌, ℕ, zero, suc, ◌++◌, ◌+◌, ◌*◌, ◌-◌, List, [], ◌∷◌, length, take, drop, Option, None, Some, Bool, true, false, nat_lt, ◌==◌, if◌then◌else◌}
-use Rattle.std.specs.List.{list_all}
+use Rattle.std.specs.Prelude.{◌≡◌, ℕ, zero, suc, ◌++◌, ◌-◌, List, [], ◌∷◌, length, take}
+use Rattle.std.specs.Prelude.{drop, Option, None, Some, Bool, true, false, nat_lt, ◌==◌}
+use Rattle.std.specs.Prelude.{if◌then◌else◌}
+use Rattle.std.specs.List.{list_all, concat}
+use Rattle.std.specs.Str.{bytes_eq}
+use Rattle.rpki_der.specs.Tags.{BOOLEAN, INTEGER, BIT_STRING, OCTET_STRING, OCTET_STRING_IN_PIECES}
+use Rattle.rpki_der.specs.Tags.{OBJECT_IDENTIFIER, IA5_STRING}
+use Rattle.rpki_der.specs.Numbers.{number, least}
 use Rattle.rpki_der.specs.Oid.{is_oid}
 use Rattle.rpki_der.specs.Bits.{are_bits}
 use Rattle.rpki_der.specs.Identifier.{is_tag, is_constructed}
@@ -15,18 +21,9 @@ abbrev pub ◌>>=◌ : {A B : Type 0} → Option A → (A → Option B) → Opti
 (Some x) >>= f = f x
 None >>= f = None
 
--- the number that has these digits after those of n
-abbrev pub number : ℕ → List ℕ → ℕ
-number n [] = n
-number n (d ∷ ds) = number (n * 256 + d) ds
-
--- a number of at most so many octets
+-- a number of at most this number of octets
 unfoldable pub number_of : ℕ → List ℕ → Option ℕ
 number_of most digits = if nat_lt most (length digits) then None else Some (number 0 digits)
-
--- the least length that so many octets are for
-abbrev pub least : ℕ → ℕ
-least k = if k == 1 then 128 else if k == 2 then 256 else if k == 3 then 65536 else 16777216
 
 -- a length that has to be at least low to be in the shortest form
 abbrev pub shortest : Mode → ℕ → ℕ → List ℕ → Option (ℕ × List ℕ)
@@ -35,32 +32,42 @@ shortest Ber low n rest = Some (n, rest)
 
 -- a length of k octets
 unfoldable pub long_at : ℕ → Parser ℕ
-long_at k mode bytes = if nat_lt (length bytes) k then None else shortest mode (least k) (number 0 (take k bytes)) (drop k bytes)
+long_at k mode bytes =
+    if nat_lt (length bytes) k then None else shortest mode (least k) (number 0 (take k bytes))
+    (drop k bytes)
 
 unfoldable pub length_at : Parser ℕ
 length_at mode [] = None
-length_at mode (b ∷ rest) = if nat_lt b 128 then Some (b, rest) else if nat_lt b 129 then None else if nat_lt 132 b then None else long_at (b - 128) mode rest
+length_at mode (b ∷ rest) =
+    if nat_lt b 128 then Some
+    (b, rest) else if nat_lt b 129 then None else if nat_lt 132 b then None else long_at
+    (b - 128) mode rest
 
--- the contents behind a length, and what follows them
+-- the contents after a length, and what follows them
 unfoldable pub contents_at : Parser (List ℕ)
 contents_at mode bytes = do
   n ← length_at mode bytes
   if nat_lt (length n.1) n.0 then None else Some (take n.0 n.1, drop n.0 n.1)
 
--- one step behind this identifier and this octet of a length
+-- one step after this identifier and this octet of a length
 unfoldable pub value_step : ℕ → ℕ → ℕ → List ℕ → Option (Option ℕ × List ℕ)
-value_step depth t l b = if is_tag t then (if l == 128 then (if is_constructed t then Some (Some (suc depth), b) else None) else contents_at Ber (l ∷ b) >>= λ v. Some (Some depth, v.1)) else None
+value_step depth t l b =
+    if is_tag t then (if l == 128 then
+    (if is_constructed t then Some (Some (suc depth), b) else None) else contents_at Ber (l ∷ b)
+    >>= λ v. Some (Some depth, v.1)) else None
 
 -- how many values of indefinite length are left open at an end
 abbrev pub outer : ℕ → Option ℕ
 outer zero = None
 outer (suc depth) = Some depth
 
--- One step: past an end, past a value of definite length, or into one of indefinite length. How many are open within then, and what follows.
+-- One step: past an end, past a value of definite length, or into one of indefinite length. How
+-- many are open within then, and what follows.
 unfoldable pub step : ℕ → List ℕ → Option (Option ℕ × List ℕ)
 step depth [] = None
 step depth (t ∷ []) = None
-step depth (t ∷ l ∷ b) = if t == 0 then (if l == 0 then Some (outer depth, b) else None) else value_step depth t l b
+step depth (t ∷ l ∷ b) =
+    if t == 0 then (if l == 0 then Some (outer depth, b) else None) else value_step depth t l b
 
 abbrev pub follow : (ℕ → List ℕ → Option (List ℕ)) → Option (Option ℕ × List ℕ) → Option (List ℕ)
 follow go None = None
@@ -71,7 +78,8 @@ unfoldable pub scan : ℕ → ℕ → List ℕ → Option (List ℕ)
 scan zero depth b = None
 scan (suc n) depth b = follow (scan n) (step depth b)
 
--- What follows the end of the contents, where so many values of indefinite length are open within them. Each step takes an octet at least.
+-- What follows the end of the contents, where depth values of indefinite length are open within
+-- them. Each step takes an octet at least.
 unfoldable pub end_of : ℕ → List ℕ → Option (List ℕ)
 end_of depth b = scan (suc (length b)) depth b
 
@@ -82,12 +90,16 @@ before_end octets rest = take (length octets - length rest - 2) octets
 -- the contents up to an end, and what follows it
 unfoldable pub indefinite_at : ℕ → Parser (List ℕ)
 indefinite_at tag Der bytes = None
-indefinite_at tag Ber bytes = if is_constructed tag then (end_of 0 bytes >>= λ rest. Some (before_end bytes rest, rest)) else None
+indefinite_at tag Ber bytes =
+    if is_constructed tag then
+    (end_of 0 bytes >>= λ rest. Some (before_end bytes rest, rest)) else None
 
--- the contents behind this identifier, and what follows the value
+-- the contents after this identifier, and what follows the value
 unfoldable pub body_at : ℕ → Parser (List ℕ)
 body_at tag mode [] = None
-body_at tag mode (l ∷ bytes) = if is_tag tag then (if l == 128 then indefinite_at tag mode bytes else contents_at mode (l ∷ bytes)) else None
+body_at tag mode (l ∷ bytes) =
+    if is_tag tag then (if l == 128 then indefinite_at tag mode bytes else contents_at mode
+    (l ∷ bytes)) else None
 
 -- the contents of a value with this tag, and what follows the value
 unfoldable pub value_at : ℕ → Parser (List ℕ)
@@ -112,11 +124,14 @@ in_value tag p mode bytes = do
   x ← whole (p mode v.0)
   Some (x, v.1)
 
--- the digits to base 256 of a number that is not negative, from the contents of an INTEGER in its shortest form
+-- the digits to base 256 of a number that is not negative, from the contents of an INTEGER in its
+-- shortest form
 unfoldable pub digits_of : List ℕ → Option (List ℕ)
 digits_of [] = None
 digits_of (a ∷ []) = if nat_lt a 128 then Some (a ∷ []) else None
-digits_of (a ∷ b ∷ rest) = if nat_lt a 128 then (if a == 0 then (if nat_lt b 128 then None else Some (b ∷ rest)) else Some (a ∷ b ∷ rest)) else None
+digits_of (a ∷ b ∷ rest) =
+    if nat_lt a 128 then (if a == 0 then (if nat_lt b 128 then None else Some (b ∷ rest)) else Some
+    (a ∷ b ∷ rest)) else None
 
 unfoldable pub unsigned_of : ℕ → List ℕ → Option ℕ
 unsigned_of most contents = do
@@ -131,10 +146,14 @@ primitive tag f mode bytes = do
   Some (x, v.1)
 
 abbrev pub u8_at : Parser ℕ
-u8_at = primitive 2 (unsigned_of 1)
+u8_at = primitive INTEGER (unsigned_of 1)
 
 abbrev pub u32_at : Parser ℕ
-u32_at = primitive 2 (unsigned_of 4)
+u32_at = primitive INTEGER (unsigned_of 4)
+
+-- a number of at most 20 octets
+abbrev pub u160_at : Parser ℕ
+u160_at = primitive INTEGER (unsigned_of 20)
 
 -- exactly this number
 abbrev pub this : ℕ → List ℕ → Option (Unit {0})
@@ -148,7 +167,7 @@ boolean_of Ber (b ∷ []) = if b == 0 then Some false else Some true
 boolean_of mode (a ∷ b ∷ rest) = None
 
 abbrev pub boolean_at : Parser Bool
-boolean_at mode bytes = primitive 1 (boolean_of mode) mode bytes
+boolean_at mode bytes = primitive BOOLEAN (boolean_of mode) mode bytes
 
 -- the contents of a NULL
 unfoldable pub null_of : List ℕ → Option (Unit {0})
@@ -160,22 +179,35 @@ unfoldable pub oid_of : List ℕ → Option (List ℕ)
 oid_of contents = if is_oid contents then Some contents else None
 
 abbrev pub oid_at : Parser (List ℕ)
-oid_at = primitive 6 oid_of
+oid_at = primitive OBJECT_IDENTIFIER oid_of
 
--- the contents of a BIT STRING: the octets behind the first, and the number of bits that are not used
+-- exactly these contents
+unfoldable pub these : List ℕ → List ℕ → Option (Unit {0})
+these octets contents = if bytes_eq contents octets then Some tt else None
+
+-- the contents of a BIT STRING: the octets after the first, and the number of bits that are not
+-- used
 unfoldable pub bits_of : List ℕ → Option (List ℕ × ℕ)
 bits_of [] = None
 bits_of (unused ∷ octets) = if are_bits octets unused then Some (octets, unused) else None
 
 abbrev pub bits_at : Parser (List ℕ × ℕ)
-bits_at = primitive 3 bits_of
+bits_at = primitive BIT_STRING bits_of
+
+-- the contents of a BIT STRING all of whose bits are used
+unfoldable pub whole_octets_of : List ℕ → Option (List ℕ)
+whole_octets_of [] = None
+whole_octets_of (unused ∷ octets) = if unused == 0 then Some octets else None
+
+abbrev pub octets_in_bits_at : Parser (List ℕ)
+octets_in_bits_at = primitive BIT_STRING whole_octets_of
 
 -- the contents of an IA5String
 unfoldable pub ia5_of : List ℕ → Option (List ℕ)
 ia5_of contents = if list_all (λ b. nat_lt b 128) contents then Some contents else None
 
 abbrev pub ia5_at : Parser (List ℕ)
-ia5_at = primitive 22 ia5_of
+ia5_at = primitive IA5_STRING ia5_of
 
 -- whether a value with this tag begins here
 abbrev pub is_next : ℕ → List ℕ → Bool
@@ -195,11 +227,22 @@ with_front front None = None
 with_front front (Some (xs, rest)) = Some (front ++ xs, rest)
 
 -- one more where there is one, and else the end
-abbrev pub go_on : {X : Type 0} → Option X → List ℕ → Option (List X × List ℕ) → Option (List X × List ℕ)
+abbrev pub go_on : {X : Type 0} → Option X → List ℕ → Option (List X × List ℕ)
+    → Option (List X × List ℕ)
 go_on None rest more = Some ([], rest)
 go_on (Some x) rest more = with_front (x ∷ []) more
 
--- as many as there are, up to so many
+-- what was found, or else the other
+abbrev pub or_else : {X : Type 0} → Option X → List ℕ → Option (Option X × List ℕ)
+    → Option (Option X × List ℕ)
+or_else (Some x) rest other = Some (Some x, rest)
+or_else None rest other = other
+
+-- p finds one, or else q
+abbrev pub either : {X : Type 0} → Parser (Option X) → Parser (Option X) → Parser (Option X)
+either p q mode bytes = p mode bytes >>= λ x. or_else x.0 x.1 (q mode x.1)
+
+-- as many as there are, up to n
 unfoldable pub up_to : {X : Type 0} → ℕ → Parser (Option X) → Parser (List X)
 up_to zero p mode bytes = Some ([], bytes)
 up_to (suc n) p mode bytes = p mode bytes >>= λ o. go_on o.0 o.1 (up_to n p mode o.1)
@@ -212,7 +255,8 @@ many p mode bytes = up_to (suc (length bytes)) p mode bytes
 unfoldable pub each : {X : Type 0} → ℕ → Parser X → Mode → List ℕ → Option (List X)
 each n p mode [] = Some []
 each zero p mode (b ∷ bytes) = None
-each (suc n) p mode (b ∷ bytes) = p mode (b ∷ bytes) >>= λ x. (each n p mode x.1 >>= λ xs. Some (x.0 ∷ xs))
+each (suc n) p mode (b ∷ bytes) =
+    p mode (b ∷ bytes) >>= λ x. (each n p mode x.1 >>= λ xs. Some (x.0 ∷ xs))
 
 -- the same, where each has an octet at least
 unfoldable pub all_of : {X : Type 0} → Parser X → Mode → List ℕ → Option (List X)
@@ -227,15 +271,11 @@ there (Some x) = Some tt
 abbrev pub skipped : Parser (Unit {0}) → Mode → ℕ → List ℕ → Option (Unit {0})
 skipped p mode tag contents = if is_constructed tag then there (all_of p mode contents) else Some tt
 
--- past any value that nests at most so deep
+-- past any value that nests at most to this depth
 unfoldable pub skip_at : ℕ → Parser (Unit {0})
 skip_at zero mode bytes = None
-skip_at (suc depth) mode bytes = any_at mode bytes >>= λ v. (skipped (skip_at depth) mode v.0.0 v.0.1 >>= λ _. Some (tt, v.1))
-
--- all of these, one after the other
-abbrev pub joined : List (List ℕ) → List ℕ
-joined [] = []
-joined (part ∷ parts) = part ++ joined parts
+skip_at (suc depth) mode bytes =
+    any_at mode bytes >>= λ v. (skipped (skip_at depth) mode v.0.0 v.0.1 >>= λ _. Some (tt, v.1))
 
 abbrev pub in_ber : {X : Type 0} → Mode → Option X → Option X
 in_ber Der found = None
@@ -243,26 +283,31 @@ in_ber Ber found = found
 
 -- the octets of pieces
 abbrev pub pieces : Parser (List ℕ) → Mode → List ℕ → Option (List ℕ)
-pieces p mode contents = all_of p mode contents >>= λ parts. Some (joined parts)
+pieces p mode contents = all_of p mode contents >>= λ parts. Some (concat parts)
 
 -- the octets of an OCTET STRING, from its tag and its contents
 abbrev pub string_of : Parser (List ℕ) → Mode → ℕ → List ℕ → Option (List ℕ)
-string_of p mode tag contents = if tag == 4 then Some contents else if tag == 36 then in_ber mode (pieces p mode contents) else None
+string_of p mode tag contents =
+    if tag == OCTET_STRING then Some contents else if tag == OCTET_STRING_IN_PIECES then in_ber mode
+    (pieces p mode contents) else None
 
--- the octets of an OCTET STRING that nests at most so deep
+-- the octets of an OCTET STRING that nests at most to this depth
 unfoldable pub octets_at : ℕ → Parser (List ℕ)
 octets_at zero mode bytes = None
-octets_at (suc depth) mode bytes = any_at mode bytes >>= λ v. (string_of (octets_at depth) mode v.0.0 v.0.1 >>= λ s. Some (s, v.1))
+octets_at (suc depth) mode bytes =
+    any_at mode bytes >>= λ v. (string_of (octets_at depth) mode v.0.0 v.0.1 >>= λ s. Some (s, v.1))
 
--- the same octets, behind others
-abbrev pub behind : List ℕ → Option (List ℕ) → Option (List ℕ)
-behind front None = None
-behind front (Some octets) = Some (front ++ octets)
+-- the same octets, after others
+abbrev pub after_others : List ℕ → Option (List ℕ) → Option (List ℕ)
+after_others front None = None
+after_others front (Some octets) = Some (front ++ octets)
 
--- the octets that were found are put behind the old ones
-abbrev pub Appends : {T : Type 0} → (T → List ℕ) → List ℕ → Option T → List ℕ → Option (List ℕ × List ℕ) → Type 0
+-- the octets that were found are put after the old ones
+abbrev pub Appends : {T : Type 0} → (T → List ℕ) → List ℕ → Option T → List ℕ
+    → Option (List ℕ × List ℕ) → Type 0
 Appends view old None new found = found ≡ None
-Appends view old (Some t) new found = (octets : List ℕ) × (found ≡ Some (octets, view t)) × (new ≡ old ++ octets)
+Appends view old (Some t) new found = (octets : List ℕ) × (found ≡ Some (octets, view t))
+    × (new ≡ old ++ octets)
 
 -- the octets before the rest
 abbrev pub taken : List ℕ → List ℕ → List ℕ
@@ -282,3 +327,25 @@ Finds view (Some t) found = found ≡ Some (view t)
 -- past all that is left
 abbrev pub skip_all_at : Parser (Unit {0})
 skip_all_at mode bytes = there (all_of (skip_at 32) mode bytes) >>= λ u. Some (u, [])
+
+-- what p reads, if it passes the test
+unfoldable pub tested : {X : Type 0} → (X → Bool) → Parser X → Parser X
+tested test p mode bytes = p mode bytes >>= λ x. if test x.0 then Some x else None
+
+-- an OCTET STRING of this length
+abbrev pub octets_of : ℕ → Parser (List ℕ)
+octets_of n = tested (λ octets. length octets == n) (octets_at 32)
+
+-- past the next value, whatever it is, or nothing at the end
+unfoldable pub skip_opt_at : Parser (Option (Unit {0}))
+skip_opt_at mode [] = Some (None, [])
+skip_opt_at mode (b ∷ bytes) = some_of (skip_at 32 mode (b ∷ bytes))
+
+-- whether no octet is left
+unfoldable pub at_end : Parser Bool
+at_end mode [] = Some (true, [])
+at_end mode (b ∷ bytes) = Some (false, b ∷ bytes)
+
+-- all that is left is read by p, one after the other
+abbrev pub all_at : {X : Type 0} → Parser X → Parser (List X)
+all_at p mode bytes = all_of p mode bytes >>= λ xs. Some (xs, [])

@@ -1,10 +1,12 @@
 -- What a call of a reader answers.
-use Rattle.std.specs.Prelude.{◌≡◌, ◌⊎◌, ℕ, List, [], ◌∷◌, Option, None, Some, Result, Ok, Err, MatchOption, MatchBool, IfErr, IsNone}
+use Rattle.std.specs.Prelude.{◌≡◌, ◌⊎◌, ℕ, List, [], ◌∷◌, Option, None, Some, Result, Ok, Err}
+use Rattle.std.specs.Prelude.{MatchOption, MatchBool, IfErr, IsNone}
 use Rattle.rpki_der.specs.declared.error.DecodeError.{DecodeError}
 use Rattle.rpki_der.specs.declared.error.DecodeError.TheVariants.{Malformed, Content, Memory}
+use Rattle.rpki_der.specs.declared.error.ContentFault.TheVariants.{InvalidSignedAttr, Text}
 use Rattle.rpki_der.specs.Captured.{Kept}
 use Rattle.rpki_der.specs.Read.State.{State, fresh}
-use Rattle.rpki_der.specs.Read.Parse.{Parser, value_at, with_front, many, taken, is_next}
+use Rattle.rpki_der.specs.Read.Parse.{Parser, value_at, with_front, many, all_at, taken, is_next}
 
 -- an error other than for memory comes only where nothing is found
 abbrev pub Fails : {Y : Type 0} → DecodeError → Option Y → Type 0
@@ -13,20 +15,25 @@ Fails Malformed found = found ≡ None
 Fails (Content f) found = found ≡ None
 
 -- What a reader that has not failed answers and leaves, where found is what stands in front of it.
-abbrev pub Answers : {T X : Type 0} → (T → X) → Option (X × List ℕ) → Result T DecodeError → State → Type 0
+abbrev pub Answers : {T X : Type 0} → (T → X) → Option (X × List ℕ) → Result T DecodeError → State
+    → Type 0
 Answers view found (Ok t) new = (found ≡ Some (view t, new.rest)) × (new.failed ≡ None)
 Answers view found (Err e) new = Fails e found
 
--- an error of a content, whose copy may take memory
+-- the type of a signed attribute, whose copy may take memory
 abbrev pub IsContent : DecodeError → Type 0
 IsContent Malformed = ⊥
-IsContent (Content f) = Unit {0}
+IsContent (Content (InvalidSignedAttr attr)) = Unit {0}
+IsContent (Content (Text reason)) = ⊥
 IsContent Memory = ⊥
 
--- an error that is answered again: the same one, or want of memory where a copy of what is wrong with a content is not to be had
+-- an error that is answered again: the same one, or Memory where a copy of the type of a signed
+-- attribute is not to be
+-- had
 abbrev pub IsAgain : DecodeError → DecodeError → Type 0
 IsAgain Malformed d = d ≡ Malformed
-IsAgain (Content f) d = (d ≡ Content f) ⊎ (d ≡ Memory)
+IsAgain (Content (InvalidSignedAttr attr)) d = (d ≡ Content (InvalidSignedAttr attr)) ⊎ (d ≡ Memory)
+IsAgain (Content (Text reason)) d = d ≡ Content (Text reason)
 IsAgain Memory d = d ≡ Memory
 
 -- the call answers this error again, and the reader from then on
@@ -45,16 +52,26 @@ abbrev pub OkOrMemory : {T : Type 0} → Result T DecodeError → (T → Type 0)
 OkOrMemory (Ok t) P = P t
 OkOrMemory (Err e) P = e ≡ Memory
 
+-- P holds where the octets are refused, for another cause than memory
+abbrev pub IfRefused : {T : Type 0} → Result T DecodeError → Type 0 → Type 0
+IfRefused (Ok t) P = Unit {0}
+IfRefused (Err Malformed) P = P
+IfRefused (Err (Content fault)) P = P
+IfRefused (Err Memory) P = Unit {0}
+
 -- a failed reader answers its error again
 abbrev pub RepeatsError : {T : Type 0} → DecodeError → Result T DecodeError → Type 0
 RepeatsError e (Ok t) = ⊥
 RepeatsError e (Err d) = IsAgain e d
 
--- What a call reads of a reader: what p finds, unless memory runs out. A reader that has failed answers its error again.
-abbrev pub Reads : {T X : Type 0} → (T → X) → Parser X → State → Result T DecodeError → State → Type 0
+-- What a call reads of a reader: what p finds, unless memory runs out. A reader that has failed
+-- answers its error again.
+abbrev pub Reads : {T X : Type 0} → (T → X) → Parser X → State → Result T DecodeError → State
+    → Type 0
 Reads view p old result new =
     (new.mode ≡ old.mode)
-    × MatchOption old.failed (Answers view (p old.mode old.rest) result new) (λ e. RepeatsError e result)
+    × MatchOption old.failed (Answers view (p old.mode old.rest) result new)
+    (λ e. RepeatsError e result)
 
 -- an error of the reader's own, which it answers from then on
 abbrev pub Stays : {T : Type 0} → Result T DecodeError → State → Type 0
@@ -66,7 +83,8 @@ OnlyMalformed old result = IsNone old.failed → IfErr result (λ e. e ≡ Malfo
 
 -- One that takes memory refuses by Malformed or for want of it.
 abbrev pub OnlyMalformedOrMemory : {T : Type 0} → State → Result T DecodeError → Type 0
-OnlyMalformedOrMemory old result = IsNone old.failed → IfErr result (λ e. (e ≡ Malformed) ⊎ (e ≡ Memory))
+OnlyMalformedOrMemory old result = IsNone old.failed
+    → IfErr result (λ e. (e ≡ Malformed) ⊎ (e ≡ Memory))
 
 -- what is wrong with a reader that has to be at its end
 abbrev pub unfinished : Option DecodeError → List ℕ → Option DecodeError
@@ -90,7 +108,8 @@ not_failed (Err e) after = Err e
 not_failed (Ok t) after = or_error t after.failed
 
 -- the contents of the value in front, or none
-abbrev pub OpenedAt : {T : Type 0} → (T → List ℕ) → Option (List ℕ × List ℕ) → Result T DecodeError → State → Type 0
+abbrev pub OpenedAt : {T : Type 0} → (T → List ℕ) → Option (List ℕ × List ℕ) → Result T DecodeError
+    → State → Type 0
 OpenedAt view found (Ok t) new = (found ≡ Some (view t, new.rest)) × (new.failed ≡ None)
 OpenedAt view found (Err e) new = (found ≡ None) × (e ≡ Malformed) × (new.failed ≡ Some Malformed)
 
@@ -98,21 +117,25 @@ OpenedAt view found (Err e) new = (found ≡ None) × (e ≡ Malformed) × (new.
 abbrev pub Opened : {T : Type 0} → ℕ → (T → List ℕ) → State → Result T DecodeError → State → Type 0
 Opened tag view old result new =
     (new.mode ≡ old.mode)
-    × MatchOption old.failed (OpenedAt view (value_at tag old.mode old.rest) result new) (λ e. FailsAgain e result new)
+    × MatchOption old.failed (OpenedAt view (value_at tag old.mode old.rest) result new)
+    (λ e. FailsAgain e result new)
 
--- what is left behind a value whose contents were read so
-abbrev pub Left : {T : Type 0} → Result T DecodeError → List ℕ → Result T DecodeError → State → Type 0
+-- what is left after a value whose contents were read so
+abbrev pub Left : {T : Type 0} → Result T DecodeError → List ℕ → Result T DecodeError → State
+    → Type 0
 Left (Ok t) rest result new = (result ≡ Ok t) × (new.rest ≡ rest) × (new.failed ≡ None)
 Left (Err e) rest result new = FailsAgain e result new
 
 -- A value with this tag is opened, and step is a call of the closure on a reader of its contents.
-abbrev pub Opens : {T : Type 0} → ℕ → (State → Result T DecodeError → State → Type 0) → State → Result T DecodeError → State → Type 0
+abbrev pub Opens : {T : Type 0} → ℕ → (State → Result T DecodeError → State → Type 0) → State
+    → Result T DecodeError → State → Type 0
 Opens {T} tag step old result new =
     (new.mode ≡ old.mode)
     × MatchOption old.failed
     (MatchOption (value_at tag old.mode old.rest)
     ((result ≡ Err Malformed) × (new.failed ≡ Some Malformed))
-    (λ v. (r : Result T DecodeError) × (after : State) × step (fresh old.mode v.0) r after × Left (closed r after) v.1 result new))
+    (λ v. (r : Result T DecodeError) × (after : State) × step (fresh old.mode v.0) r after
+    × Left (closed r after) v.1 result new))
     (λ e. FailsAgain e result new)
 
 -- the answer of a call that found the value which may be there
@@ -120,8 +143,10 @@ abbrev pub some_of_result : {T : Type 0} → Result T DecodeError → Result (Op
 some_of_result (Ok t) = Ok (Some t)
 some_of_result (Err e) = Err e
 
--- The value in front is opened where it has this tag. Where it has another one, or where there is none, nothing is read.
-abbrev pub OpensIfNext : {T : Type 0} → ℕ → (State → Result T DecodeError → State → Type 0) → State → Result (Option T) DecodeError → State → Type 0
+-- The value in front is opened where it has this tag. Where it has another one, or where there is
+-- none, nothing is read.
+abbrev pub OpensIfNext : {T : Type 0} → ℕ → (State → Result T DecodeError → State → Type 0) → State
+    → Result (Option T) DecodeError → State → Type 0
 OpensIfNext {T} tag step old result new =
     MatchOption old.failed
     (MatchBool (is_next tag old.rest)
@@ -130,20 +155,54 @@ OpensIfNext {T} tag step old result new =
     (λ e. FailsAgain e result new × (new.mode ≡ old.mode))
 
 -- what a loop has read, where p reads each
-pub record ReadSoFar {X : Type 0} (p : Parser (Option X)) (front : List X) (begun now : State) : Type 0 where
+pub record ReadSoFar {X : Type 0} (p : Parser (Option X)) (front : List X)
+    (begun now : State) : Type 0 where
   pub mode : now.mode ≡ begun.mode
   pub failed : now.failed ≡ begun.failed
   pub read : with_front front (many p begun.mode now.rest) ≡ many p begun.mode begun.rest
 
 -- what a capture of a call answers, where read is what the call answered and after what it left
-abbrev pub Captured : Result (Unit {0}) DecodeError → State → State → Result Kept DecodeError → State → Type 0
-Captured read old after (Ok kept) new = (read ≡ Ok tt) × (kept.octets ≡ taken old.rest after.rest) × (kept.mode ≡ old.mode) × (new ≡ after)
-Captured (Ok u) old after (Err e) new = (e ≡ Memory) × (new.failed ≡ Some Memory) × (new.mode ≡ after.mode)
-Captured (Err d) old after (Err e) new = IsAgain d e × (new.failed ≡ Some e) × (new.mode ≡ after.mode)
+abbrev pub Captured : Result (Unit {0}) DecodeError → State → State → Result Kept DecodeError
+    → State → Type 0
+Captured read old after (Ok kept) new = (read ≡ Ok tt) × (kept.octets ≡ taken old.rest after.rest)
+    × (kept.mode ≡ old.mode) × (new ≡ after)
+Captured (Ok u) old after (Err e) new = (e ≡ Memory) × (new.failed ≡ Some Memory)
+    × (new.mode ≡ after.mode)
+Captured (Err d) old after (Err e) new = IsAgain d e × (new.failed ≡ Some e)
+    × (new.mode ≡ after.mode)
 
 -- the octets that step took
-abbrev pub Captures : (State → Result (Unit {0}) DecodeError → State → Type 0) → State → Result Kept DecodeError → State → Type 0
+abbrev pub Captures : (State → Result (Unit {0}) DecodeError → State → Type 0) → State
+    → Result Kept DecodeError → State → Type 0
 Captures step old result new =
     MatchOption old.failed
-    ((r : Result (Unit {0}) DecodeError) × (after : State) × step old r after × Captured (not_failed r after) old after result new)
+    ((r : Result (Unit {0}) DecodeError) × (after : State) × step old r after
+    × Captured (not_failed r after) old after result new)
     (λ e. FailsAgain e result new × (new.mode ≡ old.mode))
+
+-- the same, with what the call answered
+abbrev pub CapturedWith : {T : Type 0} → Result T DecodeError → State → State
+    → Result (T × Kept) DecodeError → State
+    → Type 0
+CapturedWith read old after (Ok k) new =
+    (read ≡ Ok k.0) × (k.1.octets ≡ taken old.rest after.rest) × (k.1.mode ≡ old.mode)
+    × (new ≡ after)
+CapturedWith (Ok t) old after (Err e) new = (e ≡ Memory) × (new.failed ≡ Some Memory)
+    × (new.mode ≡ after.mode)
+CapturedWith (Err d) old after (Err e) new = IsAgain d e × (new.failed ≡ Some e)
+    × (new.mode ≡ after.mode)
+
+-- what step answered, and the octets that it took
+abbrev pub CapturesWith : {T : Type 0} → (State → Result T DecodeError → State → Type 0) → State
+    → Result (T × Kept) DecodeError → State → Type 0
+CapturesWith {T} step old result new =
+    MatchOption old.failed
+    ((r : Result T DecodeError) × (after : State) × step old r after
+    × CapturedWith (not_failed r after) old after result new)
+    (λ e. FailsAgain e result new × (new.mode ≡ old.mode))
+
+-- what a loop up to the end has read, where p reads each
+pub record ReadUpTo {X : Type 0} (p : Parser X) (front : List X) (begun now : State) : Type 0 where
+  pub mode : now.mode ≡ begun.mode
+  pub failed : now.failed ≡ begun.failed
+  pub read : with_front front (all_at p begun.mode now.rest) ≡ all_at p begun.mode begun.rest

@@ -1,13 +1,15 @@
 ghost use Rattle.std.specs.Prelude.{◌≡◌, ◌^◌, ◌<◌, ◌-◌, ◌%◌};
-ghost use Rattle.rpki_der.specs.Written.{bit_string_contents, unused_bits, zero_bits};
+ghost use Rattle.rpki_der.specs.Tags.{BIT_STRING};
+ghost use Rattle.rpki_der.specs.Write.Written.{bit_string_contents, unused_bits, zero_bits};
 
 use crate::encode::raw::Raw;
 use crate::encode::value::Value;
 use crate::encode::{Encode, EncodeError};
-use crate::mode::Tag;
 use crate::stream::{Sink, SinkFailed};
+use crate::tag::Tag;
 
-/// The contents of a BIT STRING: how many bits of the last octet are not used, and the octets. The bits that are not used are written as zeros.
+/// The contents of a BIT STRING: how many bits of the last octet are not used, and the octets. The
+/// bits that are not used are written as zeros.
 #[derive(Drop)]
 pub struct Bits<'a> {
     pub octets: &'a [u8],
@@ -52,7 +54,7 @@ fn unused_bits(octets: &[u8], unused: u8) -> u8
     }
 }
 
-/// An octet with zeros for so many of its lowest bits, of 7 at most.
+/// An octet with zeros for its `unused` lowest bits, 7 at most.
 fn zero_bits(octet: u8, unused: u8) -> u8
     requires { unused < 8 }
     ensures { result ≡ zero_bits octet unused }
@@ -69,9 +71,11 @@ fn zero_bits(octet: u8, unused: u8) -> u8
     }
 }
 
-/// A BIT STRING (X.690, sections 8.6 and 11.2) of these octets without so many bits of the last one. More than 7 bits count as 7, and where there is no octet none are left out. The bits that are left out are written as zeros.
+/// A BIT STRING (X.690, sections 8.6 and 11.2) of these octets without the last bits of the last
+/// one. More than 7 bits count as 7, and where there is no octet none are left out. The bits that
+/// are left out are written as zeros.
 pub fn bit_string(octets: &[u8], unused: u8) -> Value<Bits<'_>>
-    ensures tag { result.tag.octet ≡ 3 }
+    ensures tag { result.tag.octet ≡ BIT_STRING }
     ensures octets { result.contents.octets.now ≡ octets.now }
     ensures unused { result.contents.unused ≡ unused }
 {

@@ -1,6 +1,6 @@
 ghost use Rattle.std.specs.Prelude.{◌≡◌, All};
 ghost use Rattle.std.specs.List.{flat_map};
-ghost use Rattle.rpki_der.specs.Parts.{optional_octets, IsEach, optional_small, each_small};
+ghost use Rattle.rpki_der.specs.Write.Parts.{optional_octets, IsEach, optional_small, each_small};
 
 use crate::encode::{Encode, EncodeError, len_of};
 use crate::stream::{Sink, SinkFailed};

@@ -1,13 +1,15 @@
 ghost use Rattle.std.specs.Prelude.{◌≡◌};
-ghost use Rattle.rpki_der.specs.Written.{significant, integer_contents, number_octets};
+ghost use Rattle.rpki_der.specs.Tags.{INTEGER};
+ghost use Rattle.rpki_der.specs.Write.Written.{significant, integer_contents, number_octets};
 
 use crate::encode::raw::Raw;
 use crate::encode::value::Value;
 use crate::encode::{Encode, EncodeError};
-use crate::mode::Tag;
 use crate::stream::{Sink, SinkFailed};
+use crate::tag::Tag;
 
-/// The shortest contents of an INTEGER that is not negative, from its digits to base 256, the highest one first.
+/// The shortest contents of an INTEGER that is not negative, from its digits to base 256, the
+/// highest one first.
 #[derive(Drop)]
 pub struct Digits<'a>(pub &'a [u8]);
 
@@ -83,7 +85,8 @@ impl Encode for Unsigned {
 
     #[inline(always)]
     fn put<W: Sink>(&self, _len: u64, out: &mut W) -> Result<(), SinkFailed> {
-        // identifier, length and contents as the digits of one number, so that they are moved as one word
+        // identifier, length and contents as the digits of one number, so that they are moved as
+        // one word
         let n = u64::from(self.0);
         match self.0 {
             0..=0x7F => out.take_all(&(0x02_01_00 + n).to_be_bytes()[5..]),
@@ -109,10 +112,10 @@ pub fn integer_u8(n: u8) -> Unsigned
     Unsigned(u32::from(n))
 }
 
-/// The INTEGER (X.690, section 8.3) that is not negative with these digits to base 256, the highest one first, in its
-/// shortest form. Zeros in front are left out; no digits are zero.
+/// The INTEGER (X.690, section 8.3) that is not negative with these digits to base 256, the highest
+/// one first, in its shortest form. Zeros in front are left out; no digits are zero.
 pub fn integer_of(digits: &[u8]) -> Value<Digits<'_>>
-    ensures tag { result.tag.octet ≡ 2 }
+    ensures tag { result.tag.octet ≡ INTEGER }
     ensures digits { result.contents.0.now ≡ digits.now }
 {
     Value {

@@ -1,5 +1,5 @@
 ghost use Rattle.std.specs.Prelude.{◌++◌};
-ghost use Rattle.rpki_der.specs.Parts.{pair_small};
+ghost use Rattle.rpki_der.specs.Write.Parts.{pair_small};
 
 use crate::encode::{Encode, EncodeError, len_of};
 use crate::stream::{Sink, SinkFailed};
@@ -39,7 +39,8 @@ impl<A: Encode, B: Encode, C: Encode> Encode for (A, B, C) {
 
     ghost is_short = { λ s. A.is_short s.0 × (B.is_short s.1 × C.is_short s.2) };
 
-    ghost small = { λ x. pair_small _ _ (A.small x.0) (pair_small _ _ (B.small x.1) (C.small x.2)) };
+    ghost small = { λ x. pair_small _ _ (A.small x.0)
+        (pair_small _ _ (B.small x.1) (C.small x.2)) };
 
     #[inline(always)]
     fn encoded_len(&self) -> Result<u64, EncodeError> {
@@ -59,7 +60,8 @@ impl<A: Encode, B: Encode, C: Encode, D: Encode> Encode for (A, B, C, D) {
 
     ghost is_short = { λ s. A.is_short s.0 × (B.is_short s.1 × (C.is_short s.2 × D.is_short s.3)) };
 
-    ghost small = { λ x. pair_small _ _ (A.small x.0) (pair_small _ _ (B.small x.1) (pair_small _ _ (C.small x.2) (D.small x.3))) };
+    ghost small = { λ x. pair_small _ _ (A.small x.0)
+        (pair_small _ _ (B.small x.1) (pair_small _ _ (C.small x.2) (D.small x.3))) };
 
     #[inline(always)]
     fn encoded_len(&self) -> Result<u64, EncodeError> {
@@ -73,13 +75,18 @@ impl<A: Encode, B: Encode, C: Encode, D: Encode> Encode for (A, B, C, D) {
 }
 
 impl<A: Encode, B: Encode, C: Encode, D: Encode, E: Encode> Encode for (A, B, C, D, E) {
-    ghost octets = { λ s. A.octets s.0 ++ (B.octets s.1 ++ (C.octets s.2 ++ (D.octets s.3 ++ E.octets s.4))) };
+    ghost octets = { λ s. A.octets s.0
+        ++ (B.octets s.1 ++ (C.octets s.2 ++ (D.octets s.3 ++ E.octets s.4))) };
 
-    ghost is_der = { λ s. A.is_der s.0 × (B.is_der s.1 × (C.is_der s.2 × (D.is_der s.3 × E.is_der s.4))) };
+    ghost is_der = { λ s. A.is_der s.0
+        × (B.is_der s.1 × (C.is_der s.2 × (D.is_der s.3 × E.is_der s.4))) };
 
-    ghost is_short = { λ s. A.is_short s.0 × (B.is_short s.1 × (C.is_short s.2 × (D.is_short s.3 × E.is_short s.4))) };
+    ghost is_short = { λ s. A.is_short s.0
+        × (B.is_short s.1 × (C.is_short s.2 × (D.is_short s.3 × E.is_short s.4))) };
 
-    ghost small = { λ x. pair_small _ _ (A.small x.0) (pair_small _ _ (B.small x.1) (pair_small _ _ (C.small x.2) (pair_small _ _ (D.small x.3) (E.small x.4)))) };
+    ghost small = { λ x. pair_small _ _ (A.small x.0)
+        (pair_small _ _ (B.small x.1)
+        (pair_small _ _ (C.small x.2) (pair_small _ _ (D.small x.3) (E.small x.4)))) };
 
     #[inline(always)]
     fn encoded_len(&self) -> Result<u64, EncodeError> {
@@ -94,13 +101,20 @@ impl<A: Encode, B: Encode, C: Encode, D: Encode, E: Encode> Encode for (A, B, C,
 
 impl<A: Encode, B: Encode, C: Encode, D: Encode, E: Encode, F: Encode> Encode
     for (A, B, C, D, E, F) {
-    ghost octets = { λ s. A.octets s.0 ++ (B.octets s.1 ++ (C.octets s.2 ++ (D.octets s.3 ++ (E.octets s.4 ++ F.octets s.5)))) };
+    ghost octets = { λ s. A.octets s.0
+        ++ (B.octets s.1 ++ (C.octets s.2 ++ (D.octets s.3 ++ (E.octets s.4 ++ F.octets s.5)))) };
 
-    ghost is_der = { λ s. A.is_der s.0 × (B.is_der s.1 × (C.is_der s.2 × (D.is_der s.3 × (E.is_der s.4 × F.is_der s.5)))) };
+    ghost is_der = { λ s. A.is_der s.0
+        × (B.is_der s.1 × (C.is_der s.2 × (D.is_der s.3 × (E.is_der s.4 × F.is_der s.5)))) };
 
-    ghost is_short = { λ s. A.is_short s.0 × (B.is_short s.1 × (C.is_short s.2 × (D.is_short s.3 × (E.is_short s.4 × F.is_short s.5)))) };
+    ghost is_short = { λ s. A.is_short s.0
+        × (B.is_short s.1 × (C.is_short s.2
+        × (D.is_short s.3 × (E.is_short s.4 × F.is_short s.5)))) };
 
-    ghost small = { λ x. pair_small _ _ (A.small x.0) (pair_small _ _ (B.small x.1) (pair_small _ _ (C.small x.2) (pair_small _ _ (D.small x.3) (pair_small _ _ (E.small x.4) (F.small x.5))))) };
+    ghost small = { λ x. pair_small _ _ (A.small x.0)
+        (pair_small _ _ (B.small x.1)
+        (pair_small _ _ (C.small x.2)
+        (pair_small _ _ (D.small x.3) (pair_small _ _ (E.small x.4) (F.small x.5))))) };
 
     #[inline(always)]
     fn encoded_len(&self) -> Result<u64, EncodeError> {
@@ -115,13 +129,23 @@ impl<A: Encode, B: Encode, C: Encode, D: Encode, E: Encode, F: Encode> Encode
 
 impl<A: Encode, B: Encode, C: Encode, D: Encode, E: Encode, F: Encode, G: Encode> Encode
     for (A, B, C, D, E, F, G) {
-    ghost octets = { λ s. A.octets s.0 ++ (B.octets s.1 ++ (C.octets s.2 ++ (D.octets s.3 ++ (E.octets s.4 ++ (F.octets s.5 ++ G.octets s.6))))) };
+    ghost octets = { λ s. A.octets s.0
+        ++ (B.octets s.1 ++ (C.octets s.2
+        ++ (D.octets s.3 ++ (E.octets s.4 ++ (F.octets s.5 ++ G.octets s.6))))) };
 
-    ghost is_der = { λ s. A.is_der s.0 × (B.is_der s.1 × (C.is_der s.2 × (D.is_der s.3 × (E.is_der s.4 × (F.is_der s.5 × G.is_der s.6))))) };
+    ghost is_der = { λ s. A.is_der s.0
+        × (B.is_der s.1 × (C.is_der s.2
+        × (D.is_der s.3 × (E.is_der s.4 × (F.is_der s.5 × G.is_der s.6))))) };
 
-    ghost is_short = { λ s. A.is_short s.0 × (B.is_short s.1 × (C.is_short s.2 × (D.is_short s.3 × (E.is_short s.4 × (F.is_short s.5 × G.is_short s.6))))) };
+    ghost is_short = { λ s. A.is_short s.0
+        × (B.is_short s.1 × (C.is_short s.2
+        × (D.is_short s.3 × (E.is_short s.4 × (F.is_short s.5 × G.is_short s.6))))) };
 
-    ghost small = { λ x. pair_small _ _ (A.small x.0) (pair_small _ _ (B.small x.1) (pair_small _ _ (C.small x.2) (pair_small _ _ (D.small x.3) (pair_small _ _ (E.small x.4) (pair_small _ _ (F.small x.5) (G.small x.6)))))) };
+    ghost small = { λ x. pair_small _ _ (A.small x.0)
+        (pair_small _ _ (B.small x.1)
+        (pair_small _ _ (C.small x.2)
+        (pair_small _ _ (D.small x.3)
+        (pair_small _ _ (E.small x.4) (pair_small _ _ (F.small x.5) (G.small x.6)))))) };
 
     #[inline(always)]
     fn encoded_len(&self) -> Result<u64, EncodeError> {
@@ -138,13 +162,27 @@ impl<A: Encode, B: Encode, C: Encode, D: Encode, E: Encode, F: Encode, G: Encode
 
 impl<A: Encode, B: Encode, C: Encode, D: Encode, E: Encode, F: Encode, G: Encode, H: Encode> Encode
     for (A, B, C, D, E, F, G, H) {
-    ghost octets = { λ s. A.octets s.0 ++ (B.octets s.1 ++ (C.octets s.2 ++ (D.octets s.3 ++ (E.octets s.4 ++ (F.octets s.5 ++ (G.octets s.6 ++ H.octets s.7)))))) };
+    ghost octets = { λ s. A.octets s.0
+        ++ (B.octets s.1 ++ (C.octets s.2
+        ++ (D.octets s.3 ++ (E.octets s.4
+        ++ (F.octets s.5 ++ (G.octets s.6 ++ H.octets s.7)))))) };
 
-    ghost is_der = { λ s. A.is_der s.0 × (B.is_der s.1 × (C.is_der s.2 × (D.is_der s.3 × (E.is_der s.4 × (F.is_der s.5 × (G.is_der s.6 × H.is_der s.7)))))) };
+    ghost is_der = { λ s. A.is_der s.0
+        × (B.is_der s.1 × (C.is_der s.2
+        × (D.is_der s.3 × (E.is_der s.4 × (F.is_der s.5 × (G.is_der s.6 × H.is_der s.7)))))) };
 
-    ghost is_short = { λ s. A.is_short s.0 × (B.is_short s.1 × (C.is_short s.2 × (D.is_short s.3 × (E.is_short s.4 × (F.is_short s.5 × (G.is_short s.6 × H.is_short s.7)))))) };
+    ghost is_short = { λ s. A.is_short s.0
+        × (B.is_short s.1 × (C.is_short s.2
+        × (D.is_short s.3 × (E.is_short s.4
+        × (F.is_short s.5 × (G.is_short s.6 × H.is_short s.7)))))) };
 
-    ghost small = { λ x. pair_small _ _ (A.small x.0) (pair_small _ _ (B.small x.1) (pair_small _ _ (C.small x.2) (pair_small _ _ (D.small x.3) (pair_small _ _ (E.small x.4) (pair_small _ _ (F.small x.5) (pair_small _ _ (G.small x.6) (H.small x.7))))))) };
+    ghost small = { λ x. pair_small _ _ (A.small x.0)
+        (pair_small _ _ (B.small x.1)
+        (pair_small _ _ (C.small x.2)
+        (pair_small _ _ (D.small x.3)
+        (pair_small _ _ (E.small x.4)
+        (pair_small _ _ (F.small x.5)
+        (pair_small _ _ (G.small x.6) (H.small x.7))))))) };
 
     #[inline(always)]
     fn encoded_len(&self) -> Result<u64, EncodeError> {

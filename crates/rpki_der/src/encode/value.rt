@@ -1,14 +1,16 @@
 ghost use Rattle.std.specs.Prelude.{◌∷◌, ◌≡◌, ℕ, ◌+◌, ◌<◌, ◌≤◌, ◌^◌, length, OnOk, OnErr};
 ghost use Rattle.std.specs.Io.KnownBytes.{Appends};
-ghost use Rattle.rpki_der.specs.Sink.{AppendsFront};
-ghost use Rattle.rpki_der.specs.Written.{length_octets, value_octets};
-ghost use Rattle.rpki_der.specs.Parts.{contents_small};
+ghost use Rattle.rpki_der.specs.Tags.{SEQUENCE, SET};
+ghost use Rattle.rpki_der.specs.Write.Sink.{AppendsFront};
+ghost use Rattle.rpki_der.specs.Write.Written.{length_octets, value_octets};
+ghost use Rattle.rpki_der.specs.Write.Parts.{contents_small};
 
 use crate::encode::{Encode, EncodeError};
-use crate::mode::Tag;
 use crate::stream::{Sink, SinkFailed};
+use crate::tag::Tag;
 
-/// A value (X.690, section 8.1.1): an identifier octet, the length in its shortest form, and the contents.
+/// A value (X.690, section 8.1.1): an identifier octet, the length in its shortest form, and the
+/// contents.
 #[derive(Drop)]
 pub struct Value<T> {
     pub tag: Tag,
@@ -28,7 +30,7 @@ pub fn tagged<T>(tag: Tag, parts: T) -> Value<T>
 
 /// A SET of the parts (X.690, section 8.11), in the order given.
 pub fn set<T>(parts: T) -> Value<T>
-    ensures tag { result.tag.octet ≡ 49 }
+    ensures tag { result.tag.octet ≡ SET }
     ensures contents { result.contents ≡ parts }
 {
     Value {
@@ -39,7 +41,7 @@ pub fn set<T>(parts: T) -> Value<T>
 
 /// A SEQUENCE of the parts (X.690, section 8.9).
 pub fn sequence<T>(parts: T) -> Value<T>
-    ensures tag { result.tag.octet ≡ 48 }
+    ensures tag { result.tag.octet ≡ SEQUENCE }
     ensures contents { result.contents ≡ parts }
 {
     Value {
@@ -100,7 +102,7 @@ impl Encode for Header {
 }
 
 /// How many octets a length has.
-#[tactic(auto, unfolding(crate::specs::Written::length_octets))]
+#[tactic(auto, unfolding(crate::specs::Write::Written::length_octets))]
 #[inline(always)]
 fn length_size(n: u32) -> u64
     ensures size { result ≡ length (length_octets n) }
@@ -119,8 +121,8 @@ fn length_size(n: u32) -> u64
     }
 }
 
-/// How many contents octets there are in a value of so many octets.
-#[tactic(auto, unfolding(crate::specs::Written::length_octets))]
+/// How many contents octets there are in a value of this length.
+#[tactic(auto, unfolding(crate::specs::Write::Written::length_octets))]
 #[inline(always)]
 fn contents_len(len: u64) -> u64
     ensures { (n : ℕ) → n < 2 ^ 32 → len ≡ 1 + length (length_octets n) + n → result ≡ n }
@@ -136,11 +138,12 @@ fn contents_len(len: u64) -> u64
 }
 
 /// Writes an identifier and a length, in one call of the sink.
-#[tactic(auto, unfolding(crate::specs::Written::length_octets))]
+#[tactic(auto, unfolding(crate::specs::Write::Written::length_octets))]
 #[inline(always)]
 fn put_header<W: Sink>(tag: u8, n: u32, out: &mut W) -> Result<(), SinkFailed>
     ensures ok { OnOk result (Appends (W.taken out.old) (W.taken out.new) (tag ∷ length_octets n)) }
-    ensures begun { OnErr result (AppendsFront (W.taken out.old) (W.taken out.new) (tag ∷ length_octets n)) }
+    ensures begun { OnErr result
+        (AppendsFront (W.taken out.old) (W.taken out.new) (tag ∷ length_octets n)) }
     ensures same { OnOk result (W.failures out.new ≡ W.failures out.old) }
     ensures failed { OnErr result (W.failures out.new ≡ W.failures out.old + 1) }
 {

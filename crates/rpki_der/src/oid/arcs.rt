@@ -3,7 +3,7 @@
 ghost use Rattle.std.specs.Prelude.{◌≡◌, ◌≤◌, ◌^◌, ◌++◌, true, false, Some, MatchOption};
 ghost use Rattle.std.specs.List.{flat_map};
 ghost use Rattle.rpki_der.specs.Oid.{IsOid, arcs, subidentifiers, point, dotted};
-ghost use Rattle.rpki_der.specs.Arcs.{is_whole, first_below, are_small, head_text};
+ghost use Rattle.rpki_der.specs.Text.Arcs.{is_whole, first_below, are_small, head_text};
 ghost use Rattle.rpki_der.specs.Read.Parse.{Finds};
 
 use std::fmt;
@@ -11,11 +11,12 @@ use std::fmt;
 /// Each printed arc is below this.
 const LIMIT: u64 = 1 << 32;
 
-/// The first subidentifier is below this: from 80 on it stands for the arcs 2 and itself without 80.
+/// The first subidentifier is below this: from 80 on it stands for the arcs 2 and itself without
+/// 80.
 const FIRST_LIMIT: u64 = LIMIT + 80;
 
 /// The first subidentifier and what follows it, if it is below the limit.
-#[tactic(auto, unfolding(crate::specs::Arcs::first_below))]
+#[tactic(auto, unfolding(crate::specs::Text::Arcs::first_below))]
 fn subidentifier(limit: u64, octets: &[u8]) -> Option<(u64, &[u8])>
     requires { limit ≤ 2 ^ 40 }
     ensures { Finds (λ r. (r.0, r.1.now)) result (first_below limit 0 octets.now) }
@@ -54,8 +55,10 @@ fn are_small(octets: &[u8]) -> bool
 /// The arcs, where each has at most 32 bits.
 pub fn small_arcs(contents: &[u8]) -> Option<(Head, Points<'_>)>
     requires { IsOid contents.now }
-    ensures { MatchOption result (are_small (arcs contents.now) ≡ false) (λ r. (are_small (arcs contents.now) ≡ true)
-        × (dotted (arcs contents.now) ≡ head_text r.0.0 ++ flat_map point (subidentifiers 0 r.1.octets.now))) }
+    ensures { MatchOption result (are_small (arcs contents.now) ≡ false)
+        (λ r. (are_small (arcs contents.now) ≡ true)
+        × (dotted (arcs contents.now)
+        ≡ head_text r.0.0 ++ flat_map point (subidentifiers 0 r.1.octets.now))) }
 {
     let (x, others) = subidentifier(FIRST_LIMIT, contents)?;
     if are_small(others) {
@@ -86,7 +89,7 @@ impl fmt::Display for Head {
     }
 }
 
-/// Further arcs, each behind a dot.
+/// Further arcs, each after a dot.
 #[derive(Drop)]
 pub struct Points<'a> {
     octets: &'a [u8],

@@ -1,26 +1,35 @@
 //! The reader of the values of a constructed value.
 
-ghost use Rattle.std.specs.Prelude.{Result, IfOk, IfSome, ◌≡◌, ◌<◌, ◌≤◌, length, drop, take, None, Some, IsNone, MatchOption, Ok, Err, OnOk, OnErr, IsSomeAnd};
+ghost use Rattle.std.specs.Prelude.{Result, IfOk, IfSome, ◌≡◌, ◌<◌, ◌≤◌, length, drop, take, None};
+ghost use Rattle.std.specs.Prelude.{Some, IsNone, MatchOption, Ok, Err, OnOk, OnErr, IsSomeAnd};
 ghost use Rattle.std.specs.Fn.{FnOnceReturnsAtMut};
+ghost use Rattle.rpki_der.specs.Tags.{SEQUENCE, SET};
+ghost use Rattle.rpki_der.specs.Grammar.{IsBytes};
 ghost use Rattle.rpki_der.specs.Read.State.{State, fresh, failing};
-ghost use Rattle.rpki_der.specs.Read.Parse.{is_next};
-ghost use Rattle.rpki_der.specs.Read.Reads.{Captures, Opens, OpensIfNext, Opened, FailsAgain, IsAgain, unfinished, closed, not_failed};
+ghost use Rattle.rpki_der.specs.Read.Parse.{at_end, is_next};
+ghost use Rattle.rpki_der.specs.Read.Reads.{Captures, CapturesWith, Reads, Stays, OnlyMalformed};
+ghost use Rattle.rpki_der.specs.Read.Reads.{Opens, OpensIfNext, Opened, FailsAgain, IsAgain};
+ghost use Rattle.rpki_der.specs.Read.Reads.{unfinished, closed, not_failed};
 
 use crate::captured::Captured;
 use crate::error::DecodeError;
-use crate::mode::{Mode, Tag};
+use crate::laws::slices_hold_octets;
+use crate::mode::Mode;
 use crate::read::header::place_of;
 use crate::read::window::Window;
+use crate::tag::Tag;
 use bytes::Bytes;
 use std::marker::Model;
 
 /// A reader of the values of a constructed value, one after the other (X.690, section 8.1).
 ///
-/// A call refuses by `Malformed` where the octets that are left don't begin with what it asks for. One that takes memory
-/// may also answer `Memory`, and one that runs a closure what the closure answers.
+/// A call refuses by `Malformed` where the octets that are left don't begin with what it asks for.
+/// One that takes memory may also answer `Memory`, and one that runs a closure what the closure
+/// answers.
 ///
-/// Once a call has answered an error, each further call answers it again, and so does the call whose closure was
-/// handed the reader. Where no memory for a copy of the error is to be had, it is want of memory from then on.
+/// Once a call has answered an error, each further call answers it again, and so does the call
+/// whose closure was handed the reader. Where no memory for a copy of the error is to be had, it is
+/// want of memory from then on.
 #[derive(Drop)]
 pub struct Constructed<'a> {
     mode: Mode,
@@ -36,7 +45,7 @@ impl<'a> Model for Constructed<'a> {
     ghost view = { λ s. record { mode = s.mode; rest = s.rest; failed = s.failed } };
 }
 
-/// The error twice, or want of memory twice where no copy of it is to be had.
+/// The error twice, or `Memory` twice where no copy of it is to be had.
 fn twice(error: DecodeError) -> (DecodeError, DecodeError)
     ensures again { IsAgain error result.0 }
     ensures same { result.1 ≡ result.0 }
@@ -73,7 +82,9 @@ impl<'a> Constructed<'a> {
     #[inline(always)]
     pub(super) fn check(&mut self) -> Result<(), DecodeError>
         ensures ok { OnOk result ((self.old.failed ≡ None) × (self.new ≡ self.old)) }
-        ensures err { OnErr result (IsSomeAnd self.old.failed (λ e. FailsAgain e result self.new × (self.new.mode ≡ self.old.mode))) }
+        ensures err { OnErr result
+            (IsSomeAnd self.old.failed
+            (λ e. FailsAgain e result self.new × (self.new.mode ≡ self.old.mode))) }
     {
         if self.failed.is_none() {
             Ok(())
@@ -85,7 +96,9 @@ impl<'a> Constructed<'a> {
     /// Answers the error of this reader again, if it has one.
     fn repeat(&mut self) -> Result<(), DecodeError>
         ensures ok { OnOk result ((self.old.failed ≡ None) × (self.new ≡ self.old)) }
-        ensures err { OnErr result (IsSomeAnd self.old.failed (λ e. FailsAgain e result self.new × (self.new.mode ≡ self.old.mode))) }
+        ensures err { OnErr result
+            (IsSomeAnd self.old.failed
+            (λ e. FailsAgain e result self.new × (self.new.mode ≡ self.old.mode))) }
     {
         let failed = self.failed.take();
         match failed {
@@ -118,6 +131,25 @@ impl<'a> Constructed<'a> {
         self.mode
     }
 
+    /// Whether no octet is left (X.690, section 8.1.4). It refuses only by the error of a reader
+    /// that has failed.
+    #[tactic(auto, unfolding(crate::specs::Read::Parse::at_end))]
+    pub fn is_at_end(&mut self) -> Result<bool, DecodeError>
+        ensures reads { Reads (λ b. b) at_end self.old result self.new }
+        ensures stays { Stays result self.new }
+        ensures refused { OnlyMalformed self.old result }
+    {
+        self.check()?;
+        Ok(self.rest().is_empty())
+    }
+
+    /// What is left are octets: numbers below 256.
+    pub fn holds_octets(&self)
+        ensures { IsBytes self.now.rest }
+    {
+        slices_hold_octets(self.rest());
+    }
+
     /// Leaves the octets from here on.
     #[inline(always)]
     pub(super) fn go_to(&mut self, next: usize)
@@ -132,7 +164,8 @@ impl<'a> Constructed<'a> {
     #[inline(always)]
     pub(super) fn keep(&mut self, part: &Window<'a>) -> Result<Bytes, DecodeError>
         ensures ok { IfOk result (λ octets. (octets ≡ part.now) × (self.new ≡ self.old)) }
-        ensures err { OnErr result ((result ≡ Err DecodeError.Memory) × (self.new ≡ failing self.old DecodeError.Memory)) }
+        ensures err { OnErr result
+            ((result ≡ Err DecodeError.Memory) × (self.new ≡ failing self.old DecodeError.Memory)) }
     {
         match part.to_bytes() {
             Ok(octets) => Ok(octets),
@@ -191,7 +224,8 @@ impl<'a> Constructed<'a> {
         op: F,
     ) -> Result<T, DecodeError>
         requires { F.IsAlwaysCallable op }
-        ensures { (r : Result T DecodeError) × (after : State) × FnOnceReturnsAtMut F.FnOnce op self.old r after × (result ≡ closed r after) }
+        ensures { (r : Result T DecodeError) × (after : State)
+            × FnOnceReturnsAtMut F.FnOnce op self.old r after × (result ≡ closed r after) }
     {
         match op(self) {
             Err(e) => Err(e),
@@ -220,8 +254,10 @@ impl<'a> Constructed<'a> {
         op: F,
     ) -> Result<T, DecodeError>
         requires { F.IsAlwaysCallable op }
-        ensures { (r : Result T DecodeError) × (after : State) × FnOnceReturnsAtMut F.FnOnce op self.old r after
-            × (result ≡ not_failed r after) × OnOk result (self.new ≡ after) × (self.new.mode ≡ after.mode) }
+        ensures { (r : Result T DecodeError) × (after : State)
+            × FnOnceReturnsAtMut F.FnOnce op self.old r after
+            × (result ≡ not_failed r after) × OnOk result (self.new ≡ after)
+            × (self.new.mode ≡ after.mode) }
     {
         match op(self) {
             Err(e) => Err(e),
@@ -232,15 +268,18 @@ impl<'a> Constructed<'a> {
         }
     }
 
-    /// Reads what stands at the front of the source, by the rules of the mode (X.690, section 8, and 10 for DER). What op
-    /// leaves stands behind it. Refuses by the error of op, or by that which op's reader has answered.
+    /// Reads what stands at the front of the source, by the rules of the mode (X.690, section 8,
+    /// and 10 for DER). What op leaves stands after it. Refuses by the error of op, or by that
+    /// which op's reader has answered.
     pub fn decode<T: Drop, F: FnOnce(&mut Constructed<'_>) -> Result<T, DecodeError>>(
         source: Bytes,
         mode: Mode,
         op: F,
     ) -> Result<T, DecodeError>
         requires { F.IsAlwaysCallable op }
-        ensures { (r : Result T DecodeError) × (after : State) × FnOnceReturnsAtMut F.FnOnce op (fresh mode source) r after × (result ≡ not_failed r after) }
+        ensures { (r : Result T DecodeError) × (after : State)
+            × FnOnceReturnsAtMut F.FnOnce op (fresh mode source) r after
+            × (result ≡ not_failed r after) }
     {
         let mut outer = Constructed {
             mode,
@@ -250,15 +289,38 @@ impl<'a> Constructed<'a> {
         outer.run_front(op)
     }
 
-    /// Opens the value in front, which has this tag (X.690, sections 8.1 and 8.14). op reads its contents, all of them.
-    /// Refuses by `Malformed` where another value stands there or op leaves a part of the contents, and else by op's error.
+    /// Reads all of the source, by the rules of the mode, as the contents of a value. Refuses by
+    /// `Malformed` where op leaves a part of it, and else by the error of op, or by that which op's
+    /// reader has answered.
+    pub fn decode_all<T: Drop, F: FnOnce(&mut Constructed<'_>) -> Result<T, DecodeError>>(
+        source: Bytes,
+        mode: Mode,
+        op: F,
+    ) -> Result<T, DecodeError>
+        requires { F.IsAlwaysCallable op }
+        ensures { (r : Result T DecodeError) × (after : State)
+            × FnOnceReturnsAtMut F.FnOnce op (fresh mode source) r after
+            × (result ≡ closed r after) }
+    {
+        let mut outer = Constructed {
+            mode,
+            rest: Window::of(&source),
+            failed: None,
+        };
+        outer.run(op)
+    }
+
+    /// Opens the value in front, which has this tag (X.690, sections 8.1 and 8.14). op reads its
+    /// contents, all of them. Refuses by `Malformed` where another value stands there or op leaves
+    /// a part of the contents, and else by op's error.
     pub fn take_constructed_if<T: Drop, F: FnOnce(&mut Constructed<'_>) -> Result<T, DecodeError>>(
         &mut self,
         tag: Tag,
         op: F,
     ) -> Result<T, DecodeError>
         requires { F.IsAlwaysCallable op }
-        ensures { Opens tag.octet (λ s r after. FnOnceReturnsAtMut F.FnOnce op s r after) self.old result self.new }
+        ensures { Opens tag.octet
+            (λ s r after. FnOnceReturnsAtMut F.FnOnce op s r after) self.old result self.new }
     {
         let contents = self.open(tag)?;
         let mut inner = Constructed {
@@ -272,13 +334,15 @@ impl<'a> Constructed<'a> {
         }
     }
 
-    /// Opens the value in front if it has this tag (X.690, sections 8.1 and 8.14), as `take_constructed_if` does.
+    /// Opens the value in front if it has this tag (X.690, sections 8.1 and 8.14), as
+    /// `take_constructed_if` does.
     pub fn take_opt_constructed_if<
         T: Drop,
         F: FnOnce(&mut Constructed<'_>) -> Result<T, DecodeError>,
     >(&mut self, tag: Tag, op: F) -> Result<Option<T>, DecodeError>
         requires { F.IsAlwaysCallable op }
-        ensures { OpensIfNext tag.octet (λ s r after. FnOnceReturnsAtMut F.FnOnce op s r after) self.old result self.new }
+        ensures { OpensIfNext tag.octet
+            (λ s r after. FnOnceReturnsAtMut F.FnOnce op s r after) self.old result self.new }
     {
         self.check()?;
         if self.is_next(tag) {
@@ -297,51 +361,71 @@ impl<'a> Constructed<'a> {
         op: F,
     ) -> Result<T, DecodeError>
         requires { F.IsAlwaysCallable op }
-        ensures { Opens 48 (λ s r after. FnOnceReturnsAtMut F.FnOnce op s r after) self.old result self.new }
+        ensures { Opens SEQUENCE (λ s r after. FnOnceReturnsAtMut F.FnOnce op s r after)
+            self.old result self.new }
     {
         self.take_constructed_if(Tag::SEQUENCE, op)
     }
 
-    /// Opens the SET in front (X.690, sections 8.11 and 8.12), as `take_constructed_if` does. op reads its members in the
-    /// order in which they stand.
+    /// Opens the SET in front (X.690, sections 8.11 and 8.12), as `take_constructed_if` does. op
+    /// reads its members in the order in which they stand.
     pub fn take_set<T: Drop, F: FnOnce(&mut Constructed<'_>) -> Result<T, DecodeError>>(
         &mut self,
         op: F,
     ) -> Result<T, DecodeError>
         requires { F.IsAlwaysCallable op }
-        ensures { Opens 49 (λ s r after. FnOnceReturnsAtMut F.FnOnce op s r after) self.old result self.new }
+        ensures { Opens SET (λ s r after. FnOnceReturnsAtMut F.FnOnce op s r after)
+            self.old result self.new }
     {
         self.take_constructed_if(Tag::SET, op)
     }
 
-    /// Opens the value in front if it is a SEQUENCE (X.690, sections 8.9 and 8.10), as `take_constructed_if` does.
+    /// Opens the value in front if it is a SEQUENCE (X.690, sections 8.9 and 8.10), as
+    /// `take_constructed_if` does.
     pub fn take_opt_sequence<T: Drop, F: FnOnce(&mut Constructed<'_>) -> Result<T, DecodeError>>(
         &mut self,
         op: F,
     ) -> Result<Option<T>, DecodeError>
         requires { F.IsAlwaysCallable op }
-        ensures { OpensIfNext 48 (λ s r after. FnOnceReturnsAtMut F.FnOnce op s r after) self.old result self.new }
+        ensures { OpensIfNext SEQUENCE
+            (λ s r after. FnOnceReturnsAtMut F.FnOnce op s r after) self.old result self.new }
     {
         self.take_opt_constructed_if(Tag::SEQUENCE, op)
     }
 
-    /// Keeps the octets of the source that op reads, as they stand there, and the mode. Refuses by the error of op, or by
-    /// `Memory`.
+    /// Keeps the octets of the source that op reads, as they stand there, and the mode. Refuses by
+    /// the error of op, or by `Memory`.
     pub fn capture<F: FnOnce(&mut Constructed<'_>) -> Result<(), DecodeError>>(
         &mut self,
         op: F,
     ) -> Result<Captured, DecodeError>
         requires { F.IsAlwaysCallable op }
-        ensures { Captures (λ s r after. FnOnceReturnsAtMut F.FnOnce op s r after) self.old result self.new }
+        ensures { Captures (λ s r after. FnOnceReturnsAtMut F.FnOnce op s r after)
+            self.old result self.new }
+    {
+        match self.capture_with(op) {
+            Ok(((), captured)) => Ok(captured),
+            Err(e) => Err(e),
+        }
+    }
+
+    /// Keeps the octets of the source that op reads, as `capture` does, beside what op answers.
+    pub fn capture_with<T: Drop, F: FnOnce(&mut Constructed<'_>) -> Result<T, DecodeError>>(
+        &mut self,
+        op: F,
+    ) -> Result<(T, Captured), DecodeError>
+        requires { F.IsAlwaysCallable op }
+        ensures { CapturesWith
+            (λ s r after. FnOnceReturnsAtMut F.FnOnce op s r after) self.old result self.new }
     {
         self.check()?;
         let mode = self.mode();
         let before = self.window();
         match self.run_front(op) {
             Err(e) => Err(self.fail(e)),
-            Ok(()) => {
+            Ok(t) => {
                 let octets = self.keep(&before.before(self.rest().len()))?;
-                Ok(Captured::new(octets, mode))
+                Ok((t, Captured::new(octets, mode)))
             }
         }
     }

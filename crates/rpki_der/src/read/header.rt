@@ -1,11 +1,16 @@
 //! Identifiers and lengths.
 
-ghost use Rattle.std.specs.Prelude.{slice_range, ◌≡◌, ◌<◌, ◌≤◌, ◌+◌, ◌^◌, length, drop, take, None, Some, IsNone, MatchOption, List, ℕ, Option};
+ghost use Rattle.std.specs.Prelude.{slice_range, ◌≡◌, ◌<◌, ◌≤◌, ◌+◌, ◌^◌, length, drop, take, None};
+ghost use Rattle.std.specs.Prelude.{Some, IsNone, MatchOption, List, ℕ, Option};
 ghost use Rattle.rpki_der.specs.Identifier.{is_constructed, is_tag};
-ghost use Rattle.rpki_der.specs.Read.Parse.{shortest, value_at, length_at, long_at, least, contents_at, step, outer, end_of, before_end, indefinite_at, body_at, any_at, Finds};
+ghost use Rattle.rpki_der.specs.Read.Parse.{shortest, value_at, length_at, long_at, contents_at};
+ghost use Rattle.rpki_der.specs.Read.Parse.{step, outer, end_of, before_end, indefinite_at};
+ghost use Rattle.rpki_der.specs.Read.Parse.{body_at, any_at, Finds};
+ghost use Rattle.rpki_der.specs.Numbers.{least};
 
-use crate::mode::{Mode, Tag, is_tag};
+use crate::mode::Mode;
 use crate::read::integer::number_in;
+use crate::tag::{Tag, is_tag};
 
 /// The length, unless it is not in the shortest form.
 #[inline(always)]
@@ -209,8 +214,10 @@ pub fn any_of(mode: Mode, bytes: &[u8]) -> Option<((u8, &[u8]), &[u8])>
 /// Where the contents of the value in front start and end, and where the value ends.
 #[inline(always)]
 pub fn place_of(mode: Mode, tag: Tag, bytes: &[u8]) -> Option<(usize, usize, usize)>
-    ensures { MatchOption result (value_at tag.octet mode bytes.now ≡ None) (λ r. (r.0 ≤ r.1) × (r.1 ≤ length bytes.now) × (r.2 ≤ length bytes.now)
-        × (value_at tag.octet mode bytes.now ≡ Some (slice_range bytes.now r.0 r.1, slice_range bytes.now r.2 (length bytes.now)))) }
+    ensures { MatchOption result (value_at tag.octet mode bytes.now ≡ None)
+        (λ r. (r.0 ≤ r.1) × (r.1 ≤ length bytes.now) × (r.2 ≤ length bytes.now)
+        × (value_at tag.octet mode bytes.now
+        ≡ Some (slice_range bytes.now r.0 r.1, slice_range bytes.now r.2 (length bytes.now)))) }
 {
     let (contents, after) = value_of(mode, tag, bytes)?;
     let next = bytes.len() - after.len();

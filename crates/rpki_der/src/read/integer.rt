@@ -1,9 +1,12 @@
 //! Contents of an INTEGER.
 
-ghost use Rattle.std.specs.Prelude.{◌≡◌, ◌<◌, ◌≤◌, length, drop, take, None, Some, IsNone, MatchOption, List, ℕ, Option};
-ghost use Rattle.rpki_der.specs.Read.Parse.{digits_of, number_of, unsigned_of, number, Finds};
+ghost use Rattle.std.specs.Prelude.{◌≡◌, ◌<◌, ◌≤◌, length, drop, take, None, Some, IsNone};
+ghost use Rattle.std.specs.Prelude.{MatchOption, List, ℕ, Option};
+ghost use Rattle.rpki_der.specs.Read.Parse.{digits_of, number_of, unsigned_of, Finds};
+ghost use Rattle.rpki_der.specs.Numbers.{number};
 
-/// The number with these digits to base 256, the highest one first. There are at most four, and no digits are zero.
+/// The number with these digits to base 256, the highest one first. There are at most four, and no
+/// digits are zero.
 #[tactic(auto, unfolding(crate::specs::Read::Parse::number_of))]
 #[inline(always)]
 pub fn number_in(digits: &[u8]) -> Option<u32>
@@ -19,17 +22,27 @@ pub fn number_in(digits: &[u8]) -> Option<u32>
     }
 }
 
-/// A number whose shortest contents are at most five octets, the first of them 0 where there are five.
-#[tactic(auto, unfolding(crate::specs::Read::Parse::unsigned_of, crate::specs::Read::Parse::digits_of))]
+/// The digits to base 256 of a number that is not negative, from its shortest contents: without the
+/// 0 that says so.
+#[tactic(auto, unfolding(crate::specs::Read::Parse::digits_of))]
+#[inline(always)]
+fn digits_of(contents: &[u8]) -> Option<&[u8]>
+    ensures { Finds (λ digits. digits.now) result (digits_of contents.now) }
+{
+    match contents {
+        [] => None,
+        [0, rest @ ..] if !rest.is_empty() => { if rest[0] < 128 { None } else { Some(rest) } }
+        [a, ..] => { if *a < 128 { Some(contents) } else { None } }
+    }
+}
+
+/// A number of at most 32 bits, from its shortest contents.
+#[tactic(auto, unfolding(crate::specs::Read::Parse::unsigned_of))]
 #[inline(always)]
 pub fn u32_of(contents: &[u8]) -> Option<u32>
     ensures { Finds (λ n. n) result (unsigned_of 4 contents.now) }
 {
-    match contents {
-        [] => None,
-        [0, rest @ ..] if !rest.is_empty() => { if rest[0] < 128 { None } else { number_in(rest) } }
-        [a, ..] => { if *a < 128 { number_in(contents) } else { None } }
-    }
+    number_in(digits_of(contents)?)
 }
 
 /// A number whose shortest contents are one octet, or two of which the first is 0.
@@ -43,4 +56,28 @@ pub fn u8_of(contents: &[u8]) -> Option<u8>
         [0, a] if *a >= 128 => Some(*a),
         _ => None,
     }
+}
+
+/// Twenty digits to base 256, the highest one first: these, after zeros.
+#[tactic(auto, unfolding(crate::specs::Read::Parse::number_of))]
+fn padded(digits: &[u8]) -> Option<[u8; 20]>
+    ensures { Finds (λ octets. number 0 octets) result (number_of 20 digits.now) }
+{
+    if digits.len() > 20 {
+        return None;
+    }
+    let mut octets = [0u8; 20];
+    let start = 20 - digits.len();
+    'digits: for i in 0..digits.len() {
+        octets[start + i] = digits[i];
+    }
+    Some(octets)
+}
+
+/// A number of at most 160 bits, from its shortest contents.
+#[tactic(auto, unfolding(crate::specs::Read::Parse::unsigned_of))]
+pub fn u160_of(contents: &[u8]) -> Option<[u8; 20]>
+    ensures { Finds (λ octets. number 0 octets) result (unsigned_of 20 contents.now) }
+{
+    padded(digits_of(contents)?)
 }

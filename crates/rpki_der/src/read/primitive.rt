@@ -1,17 +1,22 @@
 //! Values whose contents are understood: numbers, truth values, identifiers, strings.
 
-ghost use Rattle.std.specs.Prelude.{◌≡◌, ◌<◌, length, IfOk, IfSome, Some};
-ghost use Rattle.rpki_der.specs.Read.Parse.{octets_at, u8_at, u32_at, boolean_at, null_of, oid_at, bits_at, ia5_at, this, primitive, optional};
+ghost use Rattle.std.specs.Prelude.{◌≡◌, ◌<◌, length, IfOk, IfSome, Some, false};
+ghost use Rattle.rpki_der.specs.Tags.{BOOLEAN, INTEGER, NULL, OBJECT_IDENTIFIER, IA5_STRING};
+ghost use Rattle.rpki_der.specs.Read.Parse.{octets_at, u8_at, u32_at, u160_at, boolean_at};
+ghost use Rattle.rpki_der.specs.Read.Parse.{null_of, oid_at, these, bits_at, octets_in_bits_at};
+ghost use Rattle.rpki_der.specs.Read.Parse.{octets_of, ia5_at, this, primitive, optional};
+ghost use Rattle.rpki_der.specs.Numbers.{number};
+ghost use Rattle.rpki_der.specs.Form.Made.{default_at};
 ghost use Rattle.rpki_der.specs.Read.Reads.{Reads, Stays, OnlyMalformed, OnlyMalformedOrMemory};
 
 use crate::bit_string::BitString;
 use crate::error::DecodeError;
-use crate::mode::Tag;
 use crate::oid::Oid;
 use crate::read::Constructed;
 use crate::read::contents::{boolean_of, is_ia5};
-use crate::read::integer::{u8_of, u32_of};
+use crate::read::integer::{u8_of, u32_of, u160_of};
 use crate::read::string::string_place;
+use crate::tag::Tag;
 use bytes::Bytes;
 use std::alloc::Global;
 
@@ -29,9 +34,10 @@ impl<'a> Constructed<'a> {
         }
     }
 
-    /// Reads an INTEGER from 0 to 255, if an INTEGER is next (X.690, section 8.3). Refuses by `Malformed`.
+    /// Reads an INTEGER from 0 to 255, if an INTEGER is next (X.690, section 8.3). Refuses by
+    /// `Malformed`.
     pub fn take_opt_u8(&mut self) -> Result<Option<u8>, DecodeError>
-        ensures reads { Reads (λ n. n) (optional 2 u8_at) self.old result self.new }
+        ensures reads { Reads (λ n. n) (optional INTEGER u8_at) self.old result self.new }
         ensures stays { Stays result self.new }
         ensures refused { OnlyMalformed self.old result }
     {
@@ -46,7 +52,8 @@ impl<'a> Constructed<'a> {
     /// Reads an INTEGER that is this number (X.690, section 8.3). Refuses by `Malformed`.
     #[inline(always)]
     pub fn skip_u8_if(&mut self, expected: u8) -> Result<(), DecodeError>
-        ensures reads { Reads (λ x. x) (primitive 2 (this expected)) self.old result self.new }
+        ensures reads { Reads (λ x. x)
+            (primitive INTEGER (this expected)) self.old result self.new }
         ensures stays { Stays result self.new }
         ensures refused { OnlyMalformed self.old result }
     {
@@ -71,11 +78,27 @@ impl<'a> Constructed<'a> {
         }
     }
 
-    /// Reads an INTEGER from 0 to 2^32 - 1, if an INTEGER is next (X.690, section 8.3). Refuses by `Malformed`.
+    /// Reads an INTEGER from 0 to 2^160 - 1 (X.690, section 8.3): its digits to base 256, the
+    /// highest one first, with zeros in front. Refuses by `Malformed`.
+    pub fn take_unsigned(&mut self) -> Result<[u8; 20], DecodeError>
+        ensures reads { Reads (λ digits. number 0 digits) u160_at self.old result self.new }
+        ensures stays { Stays result self.new }
+        ensures refused { OnlyMalformed self.old result }
+    {
+        let contents = self.open(Tag::INTEGER)?;
+        match u160_of(contents.as_slice()) {
+            Some(digits) => Ok(digits),
+            None => Err(self.refuse()),
+        }
+    }
+
+    /// Reads an INTEGER from 0 to 2^32 - 1, if an INTEGER is next (X.690, section 8.3). Refuses by
+    /// `Malformed`.
     #[inline(always)]
     pub fn take_opt_u32(&mut self) -> Result<Option<u32>, DecodeError>
-        ensures reads { Reads (λ n. n) (optional 2 u32_at) self.old result self.new }
-        ensures shorter { IfOk result (λ n. IfSome n (λ _. length self.new.rest < length self.old.rest)) }
+        ensures reads { Reads (λ n. n) (optional INTEGER u32_at) self.old result self.new }
+        ensures shorter { IfOk result
+            (λ n. IfSome n (λ _. length self.new.rest < length self.old.rest)) }
         ensures stays { Stays result self.new }
         ensures refused { OnlyMalformed self.old result }
     {
@@ -89,7 +112,7 @@ impl<'a> Constructed<'a> {
 
     /// Reads a BOOLEAN, if one is next (X.690, sections 8.2 and 11.1). Refuses by `Malformed`.
     pub fn take_opt_bool(&mut self) -> Result<Option<bool>, DecodeError>
-        ensures reads { Reads (λ b. b) (optional 1 boolean_at) self.old result self.new }
+        ensures reads { Reads (λ b. b) (optional BOOLEAN boolean_at) self.old result self.new }
         ensures stays { Stays result self.new }
         ensures refused { OnlyMalformed self.old result }
     {
@@ -104,10 +127,24 @@ impl<'a> Constructed<'a> {
         }
     }
 
+    /// Reads a BOOLEAN that is false where it is left out (X.690, sections 8.2 and 11.1). An
+    /// explicit false is taken too. Refuses by `Malformed`.
+    pub fn take_flag(&mut self) -> Result<bool, DecodeError>
+        ensures reads { Reads (λ b. b) (default_at false BOOLEAN boolean_at) self.old result self.new }
+        ensures stays { Stays result self.new }
+        ensures refused { OnlyMalformed self.old result }
+    {
+        match self.take_opt_bool()? {
+            Some(b) => Ok(b),
+            None => Ok(false),
+        }
+    }
+
     /// Reads a NULL, if one is next (X.690, section 8.8). Refuses by `Malformed`.
     #[tactic(auto, unfolding(crate::specs::Read::Parse::null_of))]
     pub fn skip_opt_null(&mut self) -> Result<Option<()>, DecodeError>
-        ensures reads { Reads (λ u. u) (optional 5 (primitive 5 null_of)) self.old result self.new }
+        ensures reads { Reads (λ u. u)
+            (optional NULL (primitive NULL null_of)) self.old result self.new }
         ensures stays { Stays result self.new }
         ensures refused { OnlyMalformed self.old result }
     {
@@ -123,7 +160,8 @@ impl<'a> Constructed<'a> {
         }
     }
 
-    /// Reads an OBJECT IDENTIFIER (X.690, section 8.19). Answers `Malformed`, or `Memory` where no memory was to be had.
+    /// Reads an OBJECT IDENTIFIER (X.690, section 8.19). Answers `Malformed`, or `Memory` where no
+    /// memory was to be had.
     #[tactic(auto, unfolding(crate::specs::Read::Parse::oid_of))]
     pub fn take_oid(&mut self) -> Result<Oid, DecodeError>
         ensures reads { Reads (λ oid. oid) oid_at self.old result self.new }
@@ -138,11 +176,29 @@ impl<'a> Constructed<'a> {
         }
     }
 
+    /// Reads an OBJECT IDENTIFIER that has these contents (X.690, section 8.19). Refuses by
+    /// `Malformed`.
+    #[tactic(auto, unfolding(crate::specs::Read::Parse::these))]
+    pub fn skip_oid_if(&mut self, expected: &[u8]) -> Result<(), DecodeError>
+        ensures reads { Reads (λ u. u)
+            (primitive OBJECT_IDENTIFIER (these expected.now)) self.old result self.new }
+        ensures stays { Stays result self.new }
+        ensures refused { OnlyMalformed self.old result }
+    {
+        let contents = self.open(Tag::OBJECT_IDENTIFIER)?;
+        if contents.as_slice() == expected {
+            Ok(())
+        } else {
+            Err(self.refuse())
+        }
+    }
+
     /// Reads a BIT STRING, primitive in both modes (X.690, section 8.6).
     /// Answers `Malformed`, or `Memory` where no memory was to be had.
     #[tactic(auto, unfolding(crate::specs::Read::Parse::bits_of))]
     pub fn take_bits(&mut self) -> Result<BitString, DecodeError>
-        ensures reads { Reads (λ bits. (bits.octets, bits.unused)) bits_at self.old result self.new }
+        ensures reads { Reads
+            (λ bits. (bits.octets, bits.unused)) bits_at self.old result self.new }
         ensures stays { Stays result self.new }
         ensures refused { OnlyMalformedOrMemory self.old result }
     {
@@ -160,8 +216,29 @@ impl<'a> Constructed<'a> {
         }
     }
 
-    /// Reads an IA5String, primitive in both modes: octets below 80 hexadecimal (X.690, section 8.23).
-    /// Answers `Malformed`, or `Memory` where no memory was to be had.
+    /// Reads the octets of a BIT STRING all of whose bits are used, primitive in both modes (X.690,
+    /// section 8.6). Answers `Malformed`, or `Memory` where no memory was to be had.
+    #[tactic(auto, unfolding(crate::specs::Read::Parse::whole_octets_of))]
+    pub fn take_octets_in_bits(&mut self) -> Result<Bytes, DecodeError>
+        ensures reads { Reads (λ octets. octets) octets_in_bits_at self.old result self.new }
+        ensures stays { Stays result self.new }
+        ensures refused { OnlyMalformedOrMemory self.old result }
+    {
+        let contents = self.open(Tag::BIT_STRING)?;
+        match contents.as_slice() {
+            [] => Err(self.refuse()),
+            [unused, ..] => {
+                if *unused == 0 {
+                    self.keep(&contents.part(1, contents.len()))
+                } else {
+                    Err(self.refuse())
+                }
+            }
+        }
+    }
+
+    /// Reads an IA5String, primitive in both modes: octets below 80 hexadecimal (X.690, section
+    /// 8.23). Answers `Malformed`, or `Memory` where no memory was to be had.
     #[tactic(auto, unfolding(crate::specs::Read::Parse::ia5_of))]
     pub fn take_ia5(&mut self) -> Result<Bytes, DecodeError>
         ensures reads { Reads (λ text. text) ia5_at self.old result self.new }
@@ -176,9 +253,10 @@ impl<'a> Constructed<'a> {
         }
     }
 
-    /// Reads an IA5String, if one is next (X.690, section 8.23). Answers `Malformed`, or `Memory` where no memory was to be had.
+    /// Reads an IA5String, if one is next (X.690, section 8.23). Answers `Malformed`, or `Memory`
+    /// where no memory was to be had.
     pub fn take_opt_ia5(&mut self) -> Result<Option<Bytes>, DecodeError>
-        ensures reads { Reads (λ text. text) (optional 22 ia5_at) self.old result self.new }
+        ensures reads { Reads (λ text. text) (optional IA5_STRING ia5_at) self.old result self.new }
         ensures stays { Stays result self.new }
         ensures refused { OnlyMalformedOrMemory self.old result }
     {
@@ -190,10 +268,12 @@ impl<'a> Constructed<'a> {
         }
     }
 
-    /// Reads the contents of the value in front if it has this tag, whatever they are. Those of a constructed tag
-    /// are the octets of its values (X.690, section 8.1.4). Answers `Malformed`, or `Memory` where no memory was to be had.
+    /// Reads the contents of the value in front if it has this tag, whatever they are. Those of a
+    /// constructed tag are the octets of its values (X.690, section 8.1.4). Answers `Malformed`, or
+    /// `Memory` where no memory was to be had.
     pub fn take_opt_primitive_if(&mut self, tag: Tag) -> Result<Option<Bytes>, DecodeError>
-        ensures reads { Reads (λ contents. contents) (optional tag.octet (primitive tag.octet Some)) self.old result self.new }
+        ensures reads { Reads (λ contents. contents)
+            (optional tag.octet (primitive tag.octet Some)) self.old result self.new }
         ensures stays { Stays result self.new }
         ensures refused { OnlyMalformedOrMemory self.old result }
     {
@@ -205,8 +285,36 @@ impl<'a> Constructed<'a> {
         Ok(Some(self.keep(&contents)?))
     }
 
-    /// Reads an OCTET STRING (X.690, section 8.7). In BER it may be in pieces, nested at most 32 deep, whose octets are
-    /// joined. Answers `Malformed`, or `Memory` where no memory was to be had.
+    /// Reads the contents of the value in front, which has this tag, as `take_opt_primitive_if`
+    /// does. Answers `Malformed`, or `Memory` where no memory was to be had.
+    pub fn take_primitive_if(&mut self, tag: Tag) -> Result<Bytes, DecodeError>
+        ensures reads { Reads (λ contents. contents)
+            (primitive tag.octet Some) self.old result self.new }
+        ensures stays { Stays result self.new }
+        ensures refused { OnlyMalformedOrMemory self.old result }
+    {
+        let inside = self.open(tag)?;
+        self.keep(&inside)
+    }
+
+    /// Reads an OCTET STRING of `N` octets, as `take_octets` does (X.690, section 8.7). Answers
+    /// `Malformed`, or `Memory` where no memory was to be had.
+    #[tactic(auto, unfolding(crate::specs::Read::Parse::tested))]
+    pub fn take_octets_of<const N: usize>(&mut self, alloc: Global) -> Result<[u8; N], DecodeError>
+        ensures reads { Reads (λ octets. octets) (octets_of N) self.old result self.new }
+        ensures stays { Stays result self.new }
+        ensures refused { OnlyMalformedOrMemory self.old result }
+    {
+        let octets = self.take_octets(alloc)?;
+        match <[u8; N]>::try_from(octets.as_slice()) {
+            Ok(octets) => Ok(octets),
+            Err(_) => Err(self.refuse()),
+        }
+    }
+
+    /// Reads an OCTET STRING (X.690, section 8.7). In BER it may be in pieces, nested at most 32
+    /// deep, whose octets are joined. Answers `Malformed`, or `Memory` where no memory was to be
+    /// had.
     #[tactic(auto, using(crate::proofs::Reading::Strings::octets_next))]
     pub fn take_octets(&mut self, alloc: Global) -> Result<Bytes, DecodeError>
         ensures reads { Reads (λ octets. octets) (octets_at 32) self.old result self.new }

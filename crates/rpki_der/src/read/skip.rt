@@ -1,6 +1,7 @@
 //! Values that are skipped.
 
-ghost use Rattle.std.specs.Prelude.{◌≡◌, ◌≤◌, ◌<◌, ◌-◌, length, slice_range, None, Some, MatchOption, is_some};
+ghost use Rattle.std.specs.Prelude.{◌≡◌, ◌≤◌, ◌<◌, ◌-◌, length, slice_range, None, Some};
+ghost use Rattle.std.specs.Prelude.{MatchOption, is_some};
 ghost use Rattle.rpki_der.specs.Read.Parse.{skip_at, Finds, all_of, there};
 
 use crate::mode::Mode;
@@ -9,7 +10,7 @@ use crate::read::header::{any_of, is_constructed};
 /// How deep values that are skipped nest.
 pub const DEPTH: u32 = 32;
 
-/// What follows the value in front, which nests at most so deep.
+/// What follows the value in front, which nests at most to this depth.
 pub fn skip_of(depth: u32, mode: Mode, bytes: &[u8]) -> Option<&[u8]>
     ensures { Finds (λ r. (tt, r.now)) result (skip_at depth mode bytes.now) }
 {

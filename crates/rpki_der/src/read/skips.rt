@@ -1,6 +1,6 @@
 //! Values that are gone past.
 
-ghost use Rattle.rpki_der.specs.Read.Parse.{skip_at, skip_all_at};
+ghost use Rattle.rpki_der.specs.Read.Parse.{skip_at, skip_opt_at, skip_all_at};
 ghost use Rattle.rpki_der.specs.Read.Reads.{Reads, Stays, OnlyMalformed};
 
 use crate::error::DecodeError;
@@ -8,8 +8,8 @@ use crate::read::Constructed;
 use crate::read::skip::{are_skipped, skip_place};
 
 impl<'a> Constructed<'a> {
-    /// Goes past the next value, whatever it is (X.690, section 8.1.1). Values in it nest at most 32 deep, itself
-    /// included. Refuses by `Malformed`.
+    /// Goes past the next value, whatever it is (X.690, section 8.1.1). Values in it nest at most
+    /// 32 deep, itself included. Refuses by `Malformed`.
     pub fn skip_one(&mut self) -> Result<(), DecodeError>
         ensures reads { Reads (λ u. u) (skip_at 32) self.old result self.new }
         ensures stays { Stays result self.new }
@@ -23,6 +23,21 @@ impl<'a> Constructed<'a> {
                 Ok(())
             }
         }
+    }
+
+    /// Goes past the next value as `skip_one` does, if one is left. Refuses by `Malformed`.
+    #[tactic(auto, unfolding(crate::specs::Read::Parse::skip_opt_at))]
+    pub fn skip_opt_one(&mut self) -> Result<Option<()>, DecodeError>
+        ensures reads { Reads (λ u. u) skip_opt_at self.old result self.new }
+        ensures stays { Stays result self.new }
+        ensures refused { OnlyMalformed self.old result }
+    {
+        self.check()?;
+        if self.rest().is_empty() {
+            return Ok(None);
+        }
+        self.skip_one()?;
+        Ok(Some(()))
     }
 
     /// Goes past all values that are left, each as `skip_one` does. Refuses by `Malformed`.

@@ -64,7 +64,7 @@ impl<'a> Window<'a> {
         }
     }
 
-    /// The octets before the last so many.
+    /// The octets before the last `left`.
     pub fn before(&self, left: usize) -> Window<'a>
         ensures { result ≡ take (length self.now - left) self.now }
     {

@@ -5,7 +5,8 @@ use crate::stream::sink::{Sink, SinkFailed};
 use crate::stream::source::{Source, SourceFailed};
 use std::io;
 
-/// A sink over a writer, or a source over a reader, which counts the failed calls. A write that takes nothing has failed.
+/// A sink over a writer, or a source over a reader, which counts the failed calls. A write that
+/// takes nothing has failed.
 #[derive(Drop)]
 pub struct Counted<T> {
     pub inner: T,

@@ -1,6 +1,6 @@
 ghost use Rattle.std.specs.Prelude.{◌≡◌, ℕ, ◌+◌, ◌<◌, ◌≤◌, List, length, Option, OnOk, OnErr, IfOk};
 ghost use Rattle.std.specs.Io.KnownBytes.{Appends, WriteAppends, Keeps};
-ghost use Rattle.rpki_der.specs.Sink.{AppendsFront, IsTakenCount};
+ghost use Rattle.rpki_der.specs.Write.Sink.{AppendsFront, IsTakenCount};
 
 /// A call of a sink has failed. It is not tried again.
 #[derive(Debug, Drop)]
@@ -14,7 +14,8 @@ pub trait Sink {
     // How many calls have failed.
     ghost failures: { Self → ℕ };
 
-    /// Takes octets from the front of a slice: at least one, where there is one. A call that fails takes none.
+    /// Takes octets from the front of a slice: at least one, where there is one. A call that fails
+    /// takes none.
     fn take(&mut self, octets: &[u8]) -> Result<usize, SinkFailed>
         ensures count { IfOk result (IsTakenCount octets.now) }
         ensures taken { WriteAppends (taken self.old) (taken self.new) result octets.now }

@@ -1,4 +1,5 @@
-ghost use Rattle.std.specs.Prelude.{◌≡◌, ℕ, ◌+◌, ◌≤◌, List, length, Option, OnOk, OnErr, IfOk, IsErrOf};
+ghost use Rattle.std.specs.Prelude.{◌≡◌, ℕ, ◌+◌, ◌≤◌, List, length, Option, OnOk, OnErr, IfOk};
+ghost use Rattle.std.specs.Prelude.{IsErrOf};
 ghost use Rattle.std.specs.Io.KnownBytes.{ReadConsumes, Consumes, IsAtEnd};
 
 use std::alloc::Global;
@@ -24,15 +25,16 @@ pub trait Source {
     // How many calls have failed.
     ghost failures: { Self → ℕ };
 
-    /// Gives octets into the front of a slice, and answers how many. Where it gives none into a slice that is not empty, it has ended. A call that fails gives none.
+    /// Gives octets into the front of a slice, and answers how many. Where it gives none into a
+    /// slice that is not empty, it has ended. A call that fails gives none.
     fn read(&mut self, buf: &mut [u8]) -> Result<usize, SourceFailed>
         ensures count { IfOk result (λ n. n ≤ length buf.new) }
         ensures given { ReadConsumes (left self.old) (left self.new) result buf.new }
         ensures ok { OnOk result (failures self.new ≡ failures self.old) }
         ensures err { OnErr result (failures self.new ≡ failures self.old + 1) };
 
-    /// Reads to the end. Where a call fails, what was given before is lost, and the answer is `Io`; a source that never
-    /// ends ends in `Memory`, the want of it.
+    /// Reads to the end. Where a call fails, what was given before is lost, and the answer is `Io`;
+    /// a source that never ends ends in `Memory`, the want of it.
     final fn read_all(&mut self, alloc: Global) -> Result<Vec<u8>, SourceError>
     where
         Self: Sized,

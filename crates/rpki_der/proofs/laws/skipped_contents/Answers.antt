@@ -10,4 +10,8 @@ returns-clause-exact c =
 
 pub returns-clause-relaxed : goal.returns-clause-relaxed
 returns-clause-relaxed c =
-    λ octets l. (l.0, items-as (λ o _. Skipped Der 32 o) (λ o _. Skipped Ber 32 o) (λ o _ k. skipped-ber 32 o k) octets l.0 l.1)
+    λ octets l. (
+      l.0,
+      items-as (λ o _. Skipped Der 32 o) (λ o _. Skipped Ber 32 o)
+          (λ o _ k. skipped-ber 32 o k) octets l.0 l.1,
+    )

@@ -6,4 +6,5 @@ use Rattle.rpki_der.proofs.laws.values.Goals as goal
 
 pub returns : goal.returns
 returns c =
-    reading any_at (λ mode octets v. Value mode octets v.0 v.1) exact-any (λ o v. value-ber o v.0 v.1) (λ mode o v h. (v.0, v.1, h))
+    reading any_at (λ mode octets v. Value mode octets v.0 v.1) exact-any
+    (λ o v. value-ber o v.0 v.1) (λ mode o v h. (v.0, v.1, h))

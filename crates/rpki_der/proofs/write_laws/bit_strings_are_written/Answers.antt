@@ -1,4 +1,5 @@
-use Rattle.rpki_der.proofs.Writing.Strings.{bits-written, bits-unique, bits-read, bits-whole, unused-same}
+use Rattle.rpki_der.proofs.Writing.Strings.{bits-written, bits-unique, bits-read, bits-whole}
+use Rattle.rpki_der.proofs.Writing.Strings.{unused-same}
 use Rattle.rpki_der.proofs.write_laws.bit_strings_are_written.Goals as goal
 
 pub returns-clause-written : goal.returns-clause-written

@@ -3,14 +3,14 @@ use Rattle.std.proofs.lemmas.Bool.{eqb-true, eqb-false}
 use Rattle.std.proofs.lemmas.List.Elements.{All-push}
 use Rattle.std.proofs.lemmas.Result.{err_from_is_err_and}
 use Rattle.rpki_der.specs.declared.error.ContentFault.TheVariants.{Text}
-use Rattle.rpki_der.specs.declared.error.Reason.TheVariants.{NoProviders}
+use Rattle.rpki_der.specs.declared.reason.Reason.TheVariants.{NoProviders}
 use Rattle.rpki_der.specs.Read.Parse.{optional, u32_at, unsigned_of, many}
 use Rattle.rpki_der.proofs.Reading.Many.{Shortens-optional}
 use Rattle.rpki_der.proofs.Reading.Loops.{so_far-more, so_far-end, so_far-err}
 use Rattle.rpki_resources.specs.As.{IsAsn}
 use Rattle.rpki_command.specs.AspaRead.{are_providers}
 use Rattle.rpki_command.proofs.Providers.{test-refuses, test-complete, test-none}
-use Rattle.rpki_command.proofs.Tested.{tested-next, tested-ok, tested-refused, tested-err}
+use Rattle.rpki_der.proofs.Reading.Tested.{tested-next, tested-ok, tested-refused, tested-err}
 use Rattle.rpki_command.proofs.aspa.providers.take_each.Goals as goal
 
 pub returns-in_err-next-clause-reads : goal.returns-in_err-next-clause-reads

@@ -1,5 +1,5 @@
 use Rattle.std.proofs.Common.{◌++◌, codes}
-use Rattle.rpki_command.proofs.Lines.{grows_after}
+use Rattle.rpki_der.proofs.Writing.Lines.{grows_after}
 use Rattle.rpki_command.specs.Texts.Aspa.{customer_line}
 use Rattle.rpki_command.proofs.texts.aspa.push_aspa.Goals as goal
 

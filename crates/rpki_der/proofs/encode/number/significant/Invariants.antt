@@ -1,5 +1,5 @@
 use Rattle.std.proofs.Common.{◌≡◌, length}
-use Rattle.rpki_der.specs.Written.{significant}
+use Rattle.rpki_der.specs.Write.Written.{significant}
 use Rattle.rpki_der.proofs.encode.number.significant.Given as goal
 
 abbrev pub invariant-loop-rest : goal.invariant-loop-rest

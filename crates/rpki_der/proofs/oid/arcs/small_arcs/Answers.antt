@@ -15,7 +15,12 @@ invariant_of-result c = record {
 }
 
 pub returns-then-are_small : goal.returns-then-are_small
-returns-then-are_small c = (head-found _ _ _ c.in_ok-x.ensures ∙ sym c.are_small.ensures ∙ c.if-are_small.true, dotted-found _ _ _ c.in_ok-x.ensures)
+returns-then-are_small c = (
+  head-found _ _ _ c.in_ok-x.ensures ∙ sym c.are_small.ensures
+      ∙ c.if-are_small.true,
+  dotted-found _ _ _ c.in_ok-x.ensures,
+)
 
 pub returns-else-are_small : goal.returns-else-are_small
-returns-else-are_small c = head-found _ _ _ c.in_ok-x.ensures ∙ sym c.are_small.ensures ∙ c.if-are_small.false
+returns-else-are_small c = head-found _ _ _ c.in_ok-x.ensures ∙ sym c.are_small.ensures
+    ∙ c.if-are_small.false

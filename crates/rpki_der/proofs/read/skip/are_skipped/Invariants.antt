@@ -3,7 +3,8 @@ use Rattle.rpki_der.specs.Read.Parse.{skip_at, all_of, there}
 use Rattle.rpki_der.proofs.read.skip.are_skipped.Given as goal
 
 abbrev pub invariant-loop-rest : goal.invariant-loop-rest
-invariant-loop-rest l = there (all_of (skip_at 32) l.mode l.rest) ≡ there (all_of (skip_at 32) l.mode l.initial.rest)
+invariant-loop-rest l =
+    there (all_of (skip_at 32) l.mode l.rest) ≡ there (all_of (skip_at 32) l.mode l.initial.rest)
 
 abbrev pub decreases-loop-rest : goal.decreases-loop-rest
 decreases-loop-rest l = length l.rest

@@ -22,4 +22,5 @@ loop-arc-preserved g c =
 pub returns-clause-writes : goal.returns-clause-writes
 returns-clause-writes g c =
     let i = c.loop-arc.invariant in
-    λ plain _. let k = i.2 plain in has_written_of_eq _ _ _ _ _ (written-all k.0 _ _ i.0 i.1 c.in_default.ensures k.2) k.1
+    λ plain _. let k = i.2 plain in
+    has_written_of_eq _ _ _ _ _ (written-all k.0 _ _ i.0 i.1 c.in_default.ensures k.2) k.1

@@ -7,7 +7,8 @@ loop-rest-preserved g c =
     let taken = c.in_ok-n.ensures.taken in
     record {
       front = c.loop-rest.invariant.front ++ take c.in_ok-n.n c.loop-rest.rest.now;
-      whole = c.loop-rest.invariant.whole ∙ moved c.loop-rest.invariant.front c.loop-rest.rest.now c.in_ok-n.n;
+      whole = c.loop-rest.invariant.whole
+          ∙ moved c.loop-rest.invariant.front c.loop-rest.rest.now c.in_ok-n.n;
       taken = Appends-trans _ _ _ _ _ c.loop-rest.invariant.taken taken;
       same = c.in_ok-n.ensures.ok ∙ c.loop-rest.invariant.same;
     }

@@ -1,0 +1,5 @@
+pub mod Parts
+pub mod Law
+pub mod Made
+pub mod Decodes
+pub mod Keyed

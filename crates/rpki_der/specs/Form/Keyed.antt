@@ -1,0 +1,87 @@
+-- Items in any order, told apart by their keys: extensions, signed attributes, access descriptions.
+-- And how one is
+-- looked up.
+use Rattle.std.specs.Prelude.{◌≡◌, ◌≢◌, List, [], ◌∷◌, ◌++◌, ℕ, Bool, true, false, not, ◌&&◌, ◌||◌}
+use Rattle.std.specs.Prelude.{if◌then◌else◌, Option, None, Some, All, Any, AllPairs}
+use Rattle.std.specs.Str.{bytes_eq}
+use Rattle.rpki_der.specs.Read.Parse.{◌>>=◌}
+
+-- No two items have the same key.
+abbrev pub AreDistinct : {I : Type 0} → (I → List ℕ) → List I → Type 0
+AreDistinct key items = AllPairs (λ x y. key x ≢ key y) items
+
+-- The item with this key says x. Where it says nothing, no item has this key.
+abbrev pub Keyed : {I X : Type 0} → (I → List ℕ) → (I → X → Type 0) → List I → List ℕ → Option X
+    → Type 0
+Keyed key Say items oid None = All (λ i. key i ≢ oid) items
+Keyed key Say items oid (Some x) = Any (λ i. (key i ≡ oid) × Say i x) items
+
+-- One item has this key, and no second one, and it says x.
+abbrev pub Once : {I X : Type 0} → (I → List ℕ) → (I → X → Type 0) → List I → List ℕ → X → Type 0
+Once {I} key Say items oid x =
+    (before : List I) × (item : I) × (after : List I) × (items ≡ before ++ item ∷ after)
+    × (key item ≡ oid) × All (λ i. key i ≢ oid) before × All (λ i. key i ≢ oid) after × Say item x
+
+-- The item says nothing.
+abbrev pub SaysNothing : {I X : Type 0} → (I → X → Type 0) → I → Type 0
+SaysNothing {I} {X} Say item = (x : X) → Say item x → ⊥
+
+-- The first item that says something says x, or none says anything.
+abbrev pub First : {I X : Type 0} → (I → X → Type 0) → List I → Option X → Type 0
+First Say items None = All (SaysNothing Say) items
+First {I} Say items (Some x) =
+    (before : List I) × (item : I) × (after : List I) × (items ≡ before ++ item ∷ after)
+    × All (SaysNothing Say) before × Say item x
+
+-- ---- as functions
+
+-- the first item with this key
+abbrev pub with_key : {I : Type 0} → (I → List ℕ) → List ℕ → List I → Option I
+with_key key oid [] = None
+with_key key oid (i ∷ items) = if bytes_eq (key i) oid then Some i else with_key key oid items
+
+-- whether an item has this key
+abbrev pub has_key : {I : Type 0} → (I → List ℕ) → List ℕ → List I → Bool
+has_key key oid [] = false
+has_key key oid (i ∷ items) = bytes_eq (key i) oid || has_key key oid items
+
+-- whether no two items have the same key
+unfoldable pub are_distinct : {I : Type 0} → (I → List ℕ) → List I → Bool
+are_distinct key [] = true
+are_distinct key (i ∷ items) = not (has_key key (key i) items) && are_distinct key items
+
+-- what say understands of an item, where there is one
+abbrev pub said_of : {I X : Type 0} → (I → Option X) → Option I → Option (Option X)
+said_of say None = Some None
+said_of say (Some i) = say i >>= λ x. Some (Some x)
+
+-- what say understands of the first item with this key
+abbrev pub said : {I X : Type 0} → (I → List ℕ) → (I → Option X) → List ℕ → List I
+    → Option (Option X)
+said key say oid items = said_of say (with_key key oid items)
+
+-- what has to be said
+abbrev pub must : {X : Type 0} → Option (Option X) → Option X
+must None = None
+must (Some x) = x
+
+-- the only item with this key
+abbrev pub only_one : {I : Type 0} → (I → List ℕ) → List ℕ → List I → Option I
+only_one key oid [] = None
+only_one key oid (i ∷ items) =
+    if bytes_eq (key i) oid then
+    (if has_key key oid items then None else Some i) else only_one key oid items
+
+-- what say understands of the only item with this key
+abbrev pub said_once : {I X : Type 0} → (I → List ℕ) → (I → Option X) → List ℕ → List I → Option X
+said_once key say oid items = only_one key oid items >>= λ i. say i
+
+-- what was found, or else the other
+abbrev pub or_later : {X : Type 0} → Option X → Option X → Option X
+or_later None other = other
+or_later (Some x) other = Some x
+
+-- what say understands first
+abbrev pub first_said : {I X : Type 0} → (I → Option X) → List I → Option X
+first_said say [] = None
+first_said say (i ∷ items) = or_later (say i) (first_said say items)

@@ -1,0 +1,11 @@
+-- Numbers of digits to base 256.
+use Rattle.std.specs.Prelude.{ℕ, ◌+◌, ◌*◌, List, [], ◌∷◌, ◌==◌, if◌then◌else◌}
+
+-- the number that has these digits after those of n
+abbrev pub number : ℕ → List ℕ → ℕ
+number n [] = n
+number n (d ∷ ds) = number (n * 256 + d) ds
+
+-- the least length that the long form with this number of octets is for (X.690, section 10.1)
+abbrev pub least : ℕ → ℕ
+least k = if k == 1 then 128 else if k == 2 then 256 else if k == 3 then 65536 else 16777216

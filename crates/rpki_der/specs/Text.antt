@@ -1,0 +1,4 @@
+pub mod Hex
+pub mod Arcs
+pub mod Reason
+pub mod Error

@@ -1,0 +1,19 @@
+-- The texts of what is wrong.
+use Rattle.std.specs.Prelude.{ℕ, List, ◌++◌, codes}
+use Rattle.rpki_der.specs.declared.error.DecodeError.{DecodeError}
+use Rattle.rpki_der.specs.declared.error.DecodeError.TheVariants.{Malformed, Content, Memory}
+use Rattle.rpki_der.specs.declared.error.ContentFault.{ContentFault}
+use Rattle.rpki_der.specs.declared.error.ContentFault.TheVariants.{InvalidSignedAttr, Text}
+use Rattle.rpki_der.specs.Oid.{oid_text}
+use Rattle.rpki_der.specs.Text.Reason.{reason_text}
+
+-- what is wrong with a content
+abbrev pub fault_text : ContentFault → List ℕ
+fault_text (InvalidSignedAttr attr) = codes "invalid extension " ++ oid_text attr
+fault_text (Text reason) = reason_text reason
+
+-- why octets could not be read
+abbrev pub error_text : DecodeError → List ℕ
+error_text Malformed = codes "malformed"
+error_text (Content fault) = fault_text fault
+error_text Memory = codes "out of memory"

@@ -1,0 +1,4 @@
+pub mod Written
+pub mod Encode
+pub mod Parts
+pub mod Sink

@@ -1,0 +1,44 @@
+-- What writing a value answers.
+use Rattle.std.specs.Prelude.{◌≡◌, ℕ, ◌+◌, ◌<◌, ◌^◌, List, length, Option, Result, Ok, Err, Vec}
+use Rattle.std.specs.declared.alloc.Global.{Global}
+use Rattle.std.specs.Io.KnownBytes.{Appends, Keeps}
+use Rattle.rpki_der.specs.Write.Sink.{AppendsFront}
+use Rattle.rpki_der.specs.declared.encode.EncodeError.{EncodeError}
+use Rattle.rpki_der.specs.declared.encode.EncodeError.TheVariants.{NotDer, TooLong, Io, Memory}
+
+-- Each contents has fewer than 2^32 octets, and the whole can be counted in 64 bits.
+abbrev pub Fits : Type 0 → List ℕ → Type 0
+Fits short octets = short × (length octets < 2 ^ 64)
+
+-- how many octets there are, or which of the two faults forbids to write them
+abbrev pub IsLenOf : Type 0 → Type 0 → List ℕ → Result ℕ EncodeError → Type 0
+IsLenOf der short octets (Ok n) = (n ≡ length octets) × der × short
+IsLenOf der short octets (Err NotDer) = ¬ der
+IsLenOf der short octets (Err TooLong) = ¬ (Fits short octets)
+IsLenOf der short octets (Err Io) = ⊥
+IsLenOf der short octets (Err Memory) = ⊥
+
+-- a sink: what it has taken, and how many calls of it have failed
+abbrev pub Sunk : Type 0
+Sunk = Option (List ℕ) × ℕ
+
+-- A sink before a call and after it. All octets are written, or a beginning of them where a call of
+-- the sink has failed, and none for the two faults.
+abbrev pub IsWritten : Type 0 → Type 0 → List ℕ → Sunk → Sunk → Result (Unit {0}) EncodeError
+    → Type 0
+IsWritten der short octets old new (Ok u) = Appends old.0 new.0 octets × (new.1 ≡ old.1) × der
+    × Fits short octets
+IsWritten der short octets old new (Err NotDer) = Keeps old.0 new.0 × (new.1 ≡ old.1) × ¬ der
+IsWritten der short octets old new (Err TooLong) = Keeps old.0 new.0 × (new.1 ≡ old.1)
+    × ¬ (Fits short octets)
+IsWritten der short octets old new (Err Io) = AppendsFront old.0 new.0 octets × (new.1 ≡ old.1 + 1)
+    × der × Fits short octets
+IsWritten der short octets old new (Err Memory) = ⊥
+
+-- the octets, or Memory, or one of the two faults
+abbrev pub IsBytesOf : Type 0 → Type 0 → List ℕ → Result (Vec ℕ Global) EncodeError → Type 0
+IsBytesOf der short octets (Ok v) = (v.items ≡ octets) × der × Fits short octets
+IsBytesOf der short octets (Err NotDer) = ¬ der
+IsBytesOf der short octets (Err TooLong) = ¬ (Fits short octets)
+IsBytesOf der short octets (Err Io) = ⊥
+IsBytesOf der short octets (Err Memory) = Unit {0}

@@ -1,0 +1,83 @@
+//! What the words of ASN.1 say: where a part of a form is read exactly, in both modes, and what is
+//! in it in DER is in it
+//! in BER, so it is with what the words make of it.
+
+ghost use Rattle.std.specs.Prelude.{◌≡◌, ℕ, List, Bool, true, false, Option};
+ghost use Rattle.rpki_der.specs.declared.mode.Mode.{Mode};
+ghost use Rattle.rpki_der.specs.Grammar.{Within, Items, Optional, IsUnique};
+ghost use Rattle.rpki_der.specs.Read.Parse.{Parser, in_value, optional, all_at, tested};
+ghost use Rattle.rpki_der.specs.Form.Parts.{items_at};
+ghost use Rattle.rpki_der.specs.Form.Made.{Made, Partly, Ignored, Kept, Default, Choice, choice_at};
+ghost use Rattle.rpki_der.specs.Form.Made.{made, partly, ignored, kept, default_at};
+ghost use Rattle.rpki_der.specs.Form.Law.{TagSet, IsPart, nothing, every, is, or, has};
+
+/// A part of a form, and what reads it.
+pub trait Part {
+    ghost at: { Parser Self };
+
+    ghost form: { Mode → List ℕ → Self → Type 0 };
+}
+
+/// What stands at the front in a form, whatever follows, is unique.
+pub fn unique_parts<T: Part>()
+    ensures { (first : TagSet) → IsPart first nothing T.at T.form → (mode : Mode)
+        → IsUnique (T.form mode) }
+{}
+
+/// OPTIONAL and DEFAULT (X.680, section 25).
+pub fn optional_parts<T: Part>()
+    ensures optional { (tag : ℕ) → IsPart (is tag) nothing T.at T.form
+        → IsPart (is tag) (is tag) (optional tag T.at) (λ mode. Optional (T.form mode)) }
+    ensures default { (tag : ℕ) (default : T) → IsPart (is tag) nothing T.at T.form
+        → IsPart (is tag) (is tag) (default_at default tag T.at)
+        (λ mode. Default default (T.form mode)) }
+{}
+
+/// Another part of a form, beside the first.
+pub trait Other {
+    ghost at: { Parser Self };
+
+    ghost form: { Mode → List ℕ → Self → Type 0 };
+}
+
+/// CHOICE of two kinds with different tags (X.690, section 8.13).
+pub fn chosen_parts<T: Part + Other>()
+    ensures { (tag : ℕ) (second : TagSet) → IsPart (is tag) nothing T.Part.at T.Part.form
+        → IsPart second nothing T.Other.at T.Other.form → has second tag ≡ false
+        → IsPart (or (is tag) second) nothing (choice_at tag T.Part.at T.Other.at)
+        (λ mode. Choice (T.Part.form mode) (T.Other.form mode)) }
+{}
+
+/// A value with a tag that holds a part: EXPLICIT, and SEQUENCE or SET of one part (X.690, sections
+/// 8.9 to 8.14).
+pub fn held_parts<T: Part>()
+    ensures { (tag : ℕ) (first apart : TagSet) → IsPart first apart T.at T.form
+        → IsPart (is tag) nothing (in_value tag T.at)
+        (λ mode o x. Within mode tag (λ c. T.form mode c x) o) }
+{}
+
+/// What SEQUENCE OF and SET OF hold (X.690, sections 8.10 and 8.12).
+pub fn listed_parts<T: Part>()
+    ensures tagged { (tag : ℕ) → IsPart (is tag) nothing T.at T.form
+        → IsPart (is tag) (is tag) (items_at tag T.at) (λ mode. Items (T.form mode)) }
+    ensures any { (first : TagSet) → IsPart first nothing T.at T.form
+        → IsPart first every (all_at T.at) (λ mode. Items (T.form mode)) }
+{}
+
+/// What is made of a part.
+pub fn understood_parts<T: Part, U>()
+    ensures made { (first apart : TagSet) (f : T → U) → IsPart first apart T.at T.form
+        → IsPart first apart (made f T.at) (λ mode. Made f (T.form mode)) }
+    ensures partly { (first apart : TagSet) (f : T → Option U) → IsPart first apart T.at T.form
+        → IsPart first apart (partly f T.at) (λ mode. Partly f (T.form mode)) }
+{}
+
+/// A part that passes a test, one that is left out, and one whose octets are kept.
+pub fn tested_parts<T: Part>()
+    ensures tested { (first apart : TagSet) (test : T → Bool) → IsPart first apart T.at T.form
+        → IsPart first apart (tested test T.at) (λ mode o x. T.form mode o x × (test x ≡ true)) }
+    ensures ignored { (first apart : TagSet) → IsPart first apart T.at T.form
+        → IsPart first apart (ignored T.at) (λ mode o _. Ignored (T.form mode) o) }
+    ensures kept { (first apart : TagSet) → IsPart first apart T.at T.form
+        → IsPart first apart (kept T.at) (λ mode o y. Kept (T.form mode) o y.0 y.1) }
+{}

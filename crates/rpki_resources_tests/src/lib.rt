@@ -1,0 +1,15 @@
+//! Tests of `rpki_resources`, each a table of rows that one small function walks.
+//!
+//! The expected values stand in RFC 3779, RFC 5952 or follow from them by hand. A test hands want
+//! of memory on and asserts everything else, so `tools/growth` can refuse each of its allocations
+//! in turn. Rows that are made, long ones and cut ones, are in the sweeps.
+#![tactic(auto)]
+
+#[cfg(test)]
+mod builders;
+#[cfg(test)]
+mod octets;
+#[cfg(test)]
+mod sets;
+#[cfg(test)]
+mod texts;
