@@ -8,8 +8,7 @@ use Rattle.rpki_command.specs.declared.store.Unread.{Unread}
 use Rattle.rpki_command.specs.declared.store.Unread.TheVariants as unread
 
 -- A read answers what is told, or that memory ran out. Told is nothing, or that the file can't be
--- read,
--- or its octets.
+-- read, or its octets.
 abbrev pub IsRead : Option (Option (List ℕ)) → Result (Vec ℕ Global) StoreError → Type 0
 IsRead told (Err Memory) = Unit {0}
 IsRead None (Ok octets) = Unit {0}

@@ -44,9 +44,8 @@ impl Model for AsProviderAttestation {
 
 impl AsProviderAttestation {
     /// Reads the content at the front of the source, by the rules of DER (section 3 of the
-    /// profile). Refuses by `Malformed`
-    /// or by the `Content` fault that is found first where there is none, and by `Memory` where no
-    /// memory was to be had.
+    /// profile). Refuses by `Malformed` or by the `Content` fault that is found first where there
+    /// is none, and by `Memory` where no memory was to be had.
     pub fn decode(alloc: Global, source: Bytes) -> Result<AsProviderAttestation, DecodeError>
         ensures { Decodes (AspaForm Der) (λ a. a) source result }
     {

@@ -1,6 +1,5 @@
 //! The commands that programs of the signed objects of the RPKI have in common: what each says, on
-//! which stream, and with
-//! which exit status.
+//! which stream, and with which exit status.
 #![tactic(auto)]
 
 mod answer;

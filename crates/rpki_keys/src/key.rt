@@ -178,8 +178,7 @@ impl Encode for KeyEncoder<'_> {
 
 impl PublicKey {
     /// The key as a SubjectPublicKeyInfo: rsaEncryption with a NULL, and its bits (RFC 7935,
-    /// section
-    /// 3.1).
+    /// section 3.1).
     pub fn encode_ref(&self) -> KeyEncoder<'_>
         ensures { result.0.now ≡ self.now }
     {

@@ -23,8 +23,7 @@ pub fn algorithms()
 {}
 
 /// The algorithms are written in their forms, and read again, whatever follows them. In DER there
-/// are
-/// two ways to write one: with a NULL, and without (RFC 5280, section 4.1.1.2).
+/// are two ways to write one: with a NULL, and without (RFC 5280, section 4.1.1.2).
 pub fn algorithms_are_written()
     ensures digest { DigestAlgorithmForm Der digest_algorithm_octets tt }
     ensures cms { CmsAlgorithmForm Der cms_algorithm_octets tt }

@@ -43,7 +43,6 @@ IsAnchored (head ∷ p) (t ∷ supplies) s =
     ⊎ (¬ (Fits head t) × IsAnchored (head ∷ p) supplies s)
 
 -- Whether an anchored path stands for the number: it lies in each explicit set on the path, those
--- of
--- the supplied CA among them.
+-- of the supplied CA among them.
 abbrev pub path_set : List Cert → Supply → Family → ℕ → Bool
 path_set p s f n = meet (λ k. k) (with_claim (supplied_claim s f) (explicit_sets p f)) n

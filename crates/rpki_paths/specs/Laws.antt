@@ -70,8 +70,7 @@ AnyChoicePairs {A} {B} R =
     IsPairable R (x ∷ xs) ys → IsPicked y rest ys → R x y → IsPairable R xs rest
 
 -- With distinct identifiers what fits one is alike: subject keys always, end-entity certificates
--- and
--- CRLs by their identifiers.
+-- and CRLs by their identifiers.
 abbrev pub WhatFitsIsAlike : Type 0
 WhatFitsIsAlike =
     (a : Carried) → HasDistinctIds a →

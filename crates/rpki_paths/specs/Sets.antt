@@ -31,8 +31,8 @@ IsCovered f Refuse (nearest ∷ below) claim = IsCoveredBy f claim nearest
 IsCovered f Trim sets claim = Unit {0}
 
 -- What is kept of a path in one family stands for its explicit sets, the head's first: nothing
--- where
--- all inherit; else a set with just the numbers that all of them have, and the nearest of them.
+-- where all inherit; else a set with just the numbers that all of them have, and the nearest of
+-- them.
 abbrev pub StandsFor : {T : Type 0} → (T → ℕ) → Option (Kept (List (Block T))) →
     List (List (Block T)) → Type 0
 StandsFor f None sets = sets ≡ []

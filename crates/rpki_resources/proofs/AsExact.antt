@@ -25,7 +25,8 @@ use Rattle.rpki_resources.proofs.Listed.{listed-exact}
 -- ---- the ends of a range
 
 abbrev Ends : Mode → List ℕ → Block ℕ → Type 0
-Ends mode c b = (lower : List ℕ) × (upper : List ℕ) × (c ≡ lower ++ upper) × AsId mode lower b.min × AsId mode upper b.max × (b.min ≤ b.max)
+Ends mode c b = (lower : List ℕ) × (upper : List ℕ) × (c ≡ lower ++ upper) × AsId mode lower b.min
+    × AsId mode upper b.max × (b.min ≤ b.max)
 
 abbrev block : ℕ → ℕ → Block ℕ
 block a b = record { min = a; max = b }
@@ -41,7 +42,8 @@ unfolding as_ends_at
 exact-parts mode =
     exact-then anything anything _ _ _ _ (exact-u32 mode)
     (λ a. exact-then anything anything _ _ _ _ (exact-u32 mode)
-    (λ b. exact-guard anything (nat_le a b) (λ r. Some (block a b, r)) _ (exact-done anything (block a b)))
+    (λ b. exact-guard anything (nat_le a b) (λ r. Some (block a b, r)) _
+    (exact-done anything (block a b)))
     (λ _ _ _ _ _ _. tt))
     (λ _ _ _ _ _ _. tt)
 
@@ -49,48 +51,86 @@ to-ends : (mode : Mode) (o : List ℕ) (x : Block ℕ) → Parts mode o x → En
 to-ends mode o x h =
     let k = h.5 in
     let two : h.2 ≡ k.1 = k.3 ∙ ap (λ (t : List ℕ). k.1 ++ t) k.5.1.0 ∙ append-nil k.1 in
-    let here : Ends mode o (block h.0 k.0) = (h.1, k.1, h.3 ∙ ap (λ (t : List ℕ). h.1 ++ t) two, h.4, k.4, leb-true _ _ k.5.0) in
+    let here : Ends mode o (block h.0 k.0) =
+    (h.1, k.1, h.3 ∙ ap (λ (t : List ℕ). h.1 ++ t) two, h.4, k.4, leb-true _ _ k.5.0) in
     subst (λ (b : Block ℕ). Ends mode o b) k.5.1.1 here
 
 from-ends : (mode : Mode) (o : List ℕ) (x : Block ℕ) → Ends mode o x → Parts mode o x
-from-ends mode o x h = (x.min, h.0, h.1, h.2, h.3, (x.max, h.1, [], sym (append-nil h.1), h.4, (le-leb _ _ h.5, (refl, refl))))
+from-ends mode o x h = (
+  x.min,
+  h.0,
+  h.1,
+  h.2,
+  h.3,
+  (x.max, h.1, [], sym (append-nil h.1), h.4, (le-leb _ _ h.5, (refl, refl))),
+)
 
 exact-ends : (mode : Mode) → IsExact the_end (as_ends_at mode) (Ends mode)
-exact-ends mode = exact-before the_end _ _ (exact-as anything (as_ends_at mode) (Parts mode) (Ends mode) (exact-parts mode) (to-ends mode) (from-ends mode))
+exact-ends mode = exact-before the_end _ _
+    (exact-as anything (as_ends_at mode) (Parts mode) (Ends mode) (exact-parts mode) (to-ends mode)
+    (from-ends mode))
 
 -- ---- one number
 
 abbrev One : Mode → List ℕ → Block ℕ → Type 0
 One mode o b = AsId mode o b.min × (b.max ≡ b.min)
 
-id-some : (mode : Mode) (b : List ℕ) (x : Block ℕ) (r : List ℕ) → as_id_at mode b ≡ Some (Some x, r) → (n : ℕ) × (optional 2 u32_at mode b ≡ Some (Some n, r)) × (block n n ≡ x)
+id-some : (mode : Mode) (b : List ℕ) (x : Block ℕ) (r : List ℕ) → as_id_at mode b ≡ Some (Some x, r)
+    → (n : ℕ) × (optional 2 u32_at mode b ≡ Some (Some n, r)) × (block n n ≡ x)
 unfolding as_id_at
-id-some mode b x r h = let o = bind_some (optional 2 u32_at mode b) _ (Some x, r) h in of o.0 o.1 o.2
+id-some mode b x r h = let o = bind_some (optional 2 u32_at mode b) _ (Some x, r) h in
+    of o.0 o.1 o.2
   where
-    of : (o : Option ℕ × List ℕ) → optional 2 u32_at mode b ≡ Some o → (let t : Option (Option (Block ℕ) × List ℕ) = Some (only o.0, o.1) in t) ≡ Some (Some x, r) → (n : ℕ) × (optional 2 u32_at mode b ≡ Some (Some n, r)) × (block n n ≡ x)
-    of (None, s) e g = let q : (let t : Option (Block ℕ) × List ℕ = (None, s) in t) ≡ (Some x, r) = some_is _ _ g in absurd (let no_value : (let u : Option (Block ℕ) = None in u) ≡ Some x = ap (λ (t : Option (Block ℕ) × List ℕ). t.0) q in cc)
+    of : (o : Option ℕ × List ℕ) → optional 2 u32_at mode b ≡ Some o
+        → (let t : Option (Option (Block ℕ) × List ℕ) = Some (only o.0, o.1) in
+        t) ≡ Some (Some x, r)
+        → (n : ℕ) × (optional 2 u32_at mode b ≡ Some (Some n, r)) × (block n n ≡ x)
+    of (None, s) e g = let q : (let t : Option (Block ℕ) × List ℕ = (None, s) in
+        t) ≡ (Some x, r) = some_is _ _ g in
+        absurd (let no_value : (let u : Option (Block ℕ) = None in
+        u) ≡ Some x = ap (λ (t : Option (Block ℕ) × List ℕ). t.0) q in cc)
     of (Some n, s) e g =
-        let q : (let t : Option (Block ℕ) × List ℕ = (Some (block n n), s) in t) ≡ (Some x, r) = some_is _ _ g in
-        (n, e ∙ ap (λ (t : Option (Block ℕ) × List ℕ). (let u : Option (Option ℕ × List ℕ) = Some (Some n, t.1) in u)) q, some_is _ _ (ap (λ (t : Option (Block ℕ) × List ℕ). t.0) q))
+        let q : (let t : Option (Block ℕ) × List ℕ = (Some (block n n), s) in
+        t) ≡ (Some x, r) = some_is _ _ g in (
+          n,
+          e ∙ ap (λ (t : Option (Block ℕ) × List ℕ).
+              (let u : Option (Option ℕ × List ℕ) = Some (Some n, t.1) in u)) q,
+          some_is _ _ (ap (λ (t : Option (Block ℕ) × List ℕ). t.0) q),
+        )
 
-id-none : (mode : Mode) (b r : List ℕ) → as_id_at mode b ≡ Some (None, r) → optional 2 u32_at mode b ≡ Some (None, r)
+id-none : (mode : Mode) (b r : List ℕ) → as_id_at mode b ≡ Some (None, r)
+    → optional 2 u32_at mode b ≡ Some (None, r)
 unfolding as_id_at
 id-none mode b r h = let o = bind_some (optional 2 u32_at mode b) _ (None, r) h in of o.0 o.1 o.2
   where
-    of : (o : Option ℕ × List ℕ) → optional 2 u32_at mode b ≡ Some o → (let t : Option (Option (Block ℕ) × List ℕ) = Some (only o.0, o.1) in t) ≡ Some (None, r) → optional 2 u32_at mode b ≡ Some (None, r)
-    of (None, s) e g = let q : (let t : Option (Block ℕ) × List ℕ = (None, s) in t) ≡ (None, r) = some_is _ _ g in e ∙ ap (λ (t : Option (Block ℕ) × List ℕ). (let u : Option (Option ℕ × List ℕ) = Some (None, t.1) in u)) q
-    of (Some n, s) e g = let q : (let t : Option (Block ℕ) × List ℕ = (Some (block n n), s) in t) ≡ (None, r) = some_is _ _ g in absurd (let no_value : (let u : Option (Block ℕ) = Some (block n n) in u) ≡ None = ap (λ (t : Option (Block ℕ) × List ℕ). t.0) q in cc)
+    of : (o : Option ℕ × List ℕ) → optional 2 u32_at mode b ≡ Some o
+        → (let t : Option (Option (Block ℕ) × List ℕ) = Some (only o.0, o.1) in t) ≡ Some (None, r)
+        → optional 2 u32_at mode b ≡ Some (None, r)
+    of (None, s) e g = let q : (let t : Option (Block ℕ) × List ℕ = (None, s) in
+        t) ≡ (None, r) = some_is _ _ g in
+        e ∙ ap (λ (t : Option (Block ℕ) × List ℕ).
+        (let u : Option (Option ℕ × List ℕ) = Some (None, t.1) in u)) q
+    of (Some n, s) e g = let q : (let t : Option (Block ℕ) × List ℕ = (Some (block n n), s) in
+        t) ≡ (None, r) = some_is _ _ g in
+        absurd (let no_value : (let u : Option (Block ℕ) = Some (block n n) in
+        u) ≡ None = ap (λ (t : Option (Block ℕ) × List ℕ). t.0) q in cc)
 
-id-of : (mode : Mode) (b : List ℕ) (o : Option ℕ) (r : List ℕ) → optional 2 u32_at mode b ≡ Some (o, r) → as_id_at mode b ≡ Some (only o, r)
+id-of : (mode : Mode) (b : List ℕ) (o : Option ℕ) (r : List ℕ)
+    → optional 2 u32_at mode b ≡ Some (o, r) → as_id_at mode b ≡ Some (only o, r)
 unfolding as_id_at
 id-of mode b o r h = rw h refl
 
 reads-number : (mode : Mode) → ReadsOne (optional 2 u32_at mode) (AsId mode)
-reads-number mode = reads-optional 2 u32_at mode (AsId mode) (exact-u32 mode) (begins-within 2 mode (λ c n. IsInteger c n × (n < 2 ^ 32))) (λ b x r h. primitive-shorter 2 (unsigned_of 4) mode b x r h)
+reads-number mode = reads-optional 2 u32_at mode (AsId mode) (exact-u32 mode)
+    (begins-within 2 mode (λ c n. IsInteger c n × (n < 2 ^ 32)))
+    (λ b x r h. primitive-shorter 2 (unsigned_of 4) mode b x r h)
 
 reads-id : (mode : Mode) → ReadsOne (as_id_at mode) (One mode)
 reads-id mode = let number = reads-number mode in record {
-  shorter = record { at = λ b x r h. let i = id-some mode b x r h in number.shorter.at b i.0 r i.1 };
+  shorter = record {
+    at = λ b x r h. let i = id-some mode b x r h in
+        number.shorter.at b i.0 r i.1;
+  };
   sound = λ b x r bytes h.
       let i = id-some mode b x r h in
       let f = number.sound b i.0 r bytes i.1 in
@@ -114,8 +154,12 @@ range-passes mode = record {
 
 pub reads-item : (mode : Mode) → ReadsOne (as_item_at mode) (AsIdOrRange mode)
 reads-item mode =
-    let range = reads-optional 48 (in_value 48 as_ends_at) mode (AsRange mode) (exact-in 48 as_ends_at mode (Ends mode) (exact-ends mode)) (begins-within 48 mode (Ends mode)) (λ b x r h. in_value-shorter 48 as_ends_at mode b x r h) in
-    reads-either (optional 48 (in_value 48 as_ends_at)) as_id_at mode (AsRange mode) (One mode) range (reads-id mode) (range-passes mode)
+    let range = reads-optional 48 (in_value 48 as_ends_at) mode (AsRange mode)
+    (exact-in 48 as_ends_at mode (Ends mode) (exact-ends mode))
+    (begins-within 48 mode (Ends mode))
+    (λ b x r h. in_value-shorter 48 as_ends_at mode b x r h) in
+    reads-either (optional 48 (in_value 48 as_ends_at)) as_id_at mode (AsRange mode)
+    (One mode) range (reads-id mode) (range-passes mode)
 
 -- ---- all of them
 
@@ -128,7 +172,8 @@ Listed mode c set = (list : List (Block ℕ)) × Items (AsIdOrRange mode) c list
 
 items-exact : (mode : Mode) → IsExact the_end (as_items_at mode) (Listed mode)
 unfolding as_items_at
-items-exact mode = listed-exact as_item_at mode (AsIdOrRange mode) (reads-item mode) (item-block mode)
+items-exact mode = listed-exact as_item_at mode (AsIdOrRange mode) (reads-item mode)
+    (item-block mode)
 
 pub exact-as_blocks : (mode : Mode) → IsExact anything (as_blocks_at mode) (AsForm mode)
 exact-as_blocks mode = exact-in 48 as_items_at mode (Listed mode) (items-exact mode)

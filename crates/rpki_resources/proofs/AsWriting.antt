@@ -24,27 +24,60 @@ use Rattle.rpki_resources.proofs.Listed.{items-all}
 use Rattle.rpki_resources.proofs.Relaxed.{as_reading}
 
 short : (b : Block ℕ) → length (as_ends b) < 2 ^ 32
-short b = omega (arith, length-append (number_octets b.min) (number_octets b.max), length-number_octets b.min, length-number_octets b.max)
+short b = omega (
+  arith,
+  length-append (number_octets b.min) (number_octets b.max),
+  length-number_octets b.min,
+  length-number_octets b.max,
+)
 
-item_by : (t : Bool) (b : Block ℕ) → (b.min == b.max) ≡ t → b.min ≤ b.max → b.max < 2 ^ 32 → AsIdOrRange Der (as_octets b) b
+item_by : (t : Bool) (b : Block ℕ) → (b.min == b.max) ≡ t → b.min ≤ b.max → b.max < 2 ^ 32
+    → AsIdOrRange Der (as_octets b) b
 item_by true b e l h = rw e (inr (number-in Der b.min (omega arith), sym (eqb-true b.min b.max e)))
-item_by false b e l h = rw e (inl (as_ends b, value-written 48 (as_ends b) (tag-sound 48 refl) (short b), (number_octets b.min, number_octets b.max, refl, number-in Der b.min (omega arith), number-in Der b.max h, l)))
+item_by false b e l h =
+    rw e (inl (
+      as_ends b,
+      value-written 48 (as_ends b) (tag-sound 48 refl) (short b),
+      (
+        number_octets b.min,
+        number_octets b.max,
+        refl,
+        number-in Der b.min (omega arith),
+        number-in Der b.max h,
+        l,
+      ),
+    ))
 
-items_written : (a : ℕ) (bs : List (Block ℕ)) → RisesFrom (λ n. n) a bs → All (λ b. b.max < 2 ^ 32) bs → Items (AsIdOrRange Der) (flat_map as_octets bs) bs
+items_written : (a : ℕ) (bs : List (Block ℕ)) → RisesFrom (λ n. n) a bs
+    → All (λ b. b.max < 2 ^ 32) bs → Items (AsIdOrRange Der) (flat_map as_octets bs) bs
 items_written a [] r h = refl
 items_written a (b ∷ bs) r h =
-    let small : b.max < 2 ^ 32 = All-head (λ (c : Block ℕ). c.max < 2 ^ 32) b bs h in
-    (as_octets b, flat_map as_octets bs, refl, item_by (b.min == b.max) b refl r.1 small, items_written (b.max + 2) bs r.2 (All-tail (λ (c : Block ℕ). c.max < 2 ^ 32) b bs h))
+    let small : b.max < 2 ^ 32 = All-head (λ (c : Block ℕ). c.max < 2 ^ 32) b bs h in (
+      as_octets b,
+      flat_map as_octets bs,
+      refl,
+      item_by (b.min == b.max) b refl r.1 small,
+      items_written (b.max + 2) bs r.2 (All-tail (λ (c : Block ℕ). c.max < 2 ^ 32) b bs h),
+    )
 
-pub as_written : (set : List (Block ℕ)) → IsCanonical (λ n. n) set → All (λ b. b.max < 2 ^ 32) set → length (flat_map as_octets set) < 2 ^ 32 → AsForm Der (value_octets 48 (flat_map as_octets set)) set
-as_written set r h l = (flat_map as_octets set, value-written 48 (flat_map as_octets set) (tag-sound 48 refl) l, (set, items_written 0 set r h, record { canonical = r; same = λ n. refl }))
+pub as_written : (set : List (Block ℕ)) → IsCanonical (λ n. n) set → All (λ b. b.max < 2 ^ 32) set
+    → length (flat_map as_octets set) < 2 ^ 32
+    → AsForm Der (value_octets 48 (flat_map as_octets set)) set
+as_written set r h l = (
+  flat_map as_octets set,
+  value-written 48 (flat_map as_octets set) (tag-sound 48 refl) l,
+  (set, items_written 0 set r h, record { canonical = r; same = λ n. refl }),
+)
 
 as_in : (mode : Mode) (o : List ℕ) (set : List (Block ℕ)) → AsForm Der o set → AsForm mode o set
 as_in Der o set h = h
 as_in Ber o set h = as_reading.relaxed o set h
 
-pub as_read : (mode : Mode) (set : List (Block ℕ)) (rest : List ℕ) → IsCanonical (λ n. n) set → All (λ b. b.max < 2 ^ 32) set → length (flat_map as_octets set) < 2 ^ 32 → as_blocks_at mode (value_octets 48 (flat_map as_octets set) ++ rest) ≡ Some (set, rest)
-as_read mode set rest r h l = let o : List ℕ = value_octets 48 (flat_map as_octets set) in (exact-as_blocks mode).complete o set rest tt (as_in mode o set (as_written set r h l))
+pub as_read : (mode : Mode) (set : List (Block ℕ)) (rest : List ℕ) → IsCanonical (λ n. n) set
+    → All (λ b. b.max < 2 ^ 32) set → length (flat_map as_octets set) < 2 ^ 32
+    → as_blocks_at mode (value_octets 48 (flat_map as_octets set) ++ rest) ≡ Some (set, rest)
+as_read mode set rest r h l = let o : List ℕ = value_octets 48 (flat_map as_octets set) in
+    (exact-as_blocks mode).complete o set rest tt (as_in mode o set (as_written set r h l))
 
 -- ---- what is read is written again
 
@@ -55,7 +88,8 @@ item-below mode o b (inr h) = omega (arith, h.0.2.1, h.1)
 merged-below : (b c : Block ℕ) → b.max < 2 ^ 32 → c.max < 2 ^ 32 → (merged b c).max < 2 ^ 32
 merged-below b c h k = omega (arith, h, k)
 
-pub set-below : (mode : Mode) (o : List ℕ) (set : List (Block ℕ)) → AsForm mode o set → All (λ b. b.max < 2 ^ 32) set
+pub set-below : (mode : Mode) (o : List ℕ) (set : List (Block ℕ)) → AsForm mode o set
+    → All (λ b. b.max < 2 ^ 32) set
 set-below mode o set h =
     let k = h.2 in
     let blocks = items-all (AsIdOrRange mode) (IsBlock (λ n. n)) (item-block mode) h.0 k.0 k.1 in

@@ -24,7 +24,9 @@ unfolding is_between
 between_high lo hi n e = grind (arith, nat_tests)
 
 -- the test, with what it tells
-pub between_tells : (lo hi n : ℕ) → ((is_between lo hi n ≡ true) × (lo ≤ n) × (n ≤ hi)) ⊎ ((is_between lo hi n ≡ false) × ((n < lo) ⊎ (hi < n)))
+pub between_tells : (lo hi n : ℕ)
+    → ((is_between lo hi n ≡ true) × (lo ≤ n) × (n ≤ hi))
+    ⊎ ((is_between lo hi n ≡ false) × ((n < lo) ⊎ (hi < n)))
 unfolding is_between
 between_tells lo hi n = grind (arith, nat_tests)
 
@@ -33,6 +35,7 @@ unfolding is_between
 between_none lo hi n l = grind (arith, nat_tests)
 
 -- two that touch make one
-pub between_joined : (a b c d hi n : ℕ) → a ≤ b → a ≤ c → c ≤ b + 1 → c ≤ d → b ≤ hi → d ≤ hi → (hi ≡ b) ⊎ (hi ≡ d) → is_between a hi n ≡ (is_between a b n || is_between c d n)
+pub between_joined : (a b c d hi n : ℕ) → a ≤ b → a ≤ c → c ≤ b + 1 → c ≤ d → b ≤ hi → d ≤ hi
+    → (hi ≡ b) ⊎ (hi ≡ d) → is_between a hi n ≡ (is_between a b n || is_between c d n)
 unfolding is_between
 between_joined a b c d hi n h1 h2 h3 h4 h5 h6 h7 = grind (arith, nat_tests)

@@ -14,38 +14,53 @@ use Rattle.rpki_der.proofs.Reading.Many.{value-shorter}
 use Rattle.rpki_der.proofs.Reading.Lists.{Begins}
 
 -- p reads one in G, if one is next
-pub record ReadsOne {X : Type 0} (p : List ℕ → Option (Option X × List ℕ)) (G : List ℕ → X → Type 0) : Type 0 where
+pub record ReadsOne {X : Type 0} (p : List ℕ → Option (Option X × List ℕ)) (G : List ℕ → X
+    → Type 0) : Type 0 where
   pub shorter : Shortens p
   pub sound : (b : List ℕ) (x : X) (r : List ℕ) → IsBytes b → p b ≡ Some (Some x, r) → Front G b x r
   pub leaves : (b r : List ℕ) → p b ≡ Some (None, r) → b ≡ r
   pub complete : (o : List ℕ) (x : X) (r : List ℕ) → G o x → p (o ++ r) ≡ Some (Some x, r)
   pub none : p [] ≡ Some (None, [])
 
-front-some : {X : Type 0} (x : X) (m : Option (List X × List ℕ)) (xs : List X) (r : List ℕ) → with_front (x ∷ []) m ≡ Some (xs, r) → (ys : List X) × (m ≡ Some (ys, r)) × (x ∷ ys ≡ xs)
+front-some : {X : Type 0} (x : X) (m : Option (List X × List ℕ)) (xs : List X) (r : List ℕ)
+    → with_front (x ∷ []) m ≡ Some (xs, r) → (ys : List X) × (m ≡ Some (ys, r)) × (x ∷ ys ≡ xs)
 front-some x None xs r e = absurd cc
 front-some {X} x (Some (ys, s)) xs r e =
-    let q : (let t : List X × List ℕ = (x ∷ ys, s) in t) ≡ (xs, r) = some_is _ _ e in
-    (ys, ap (λ (t : List ℕ). (let o : Option (List X × List ℕ) = Some (ys, t) in o)) (ap (λ (t : List X × List ℕ). t.1) q), ap (λ (t : List X × List ℕ). t.0) q)
+    let q : (let t : List X × List ℕ = (x ∷ ys, s) in t) ≡ (xs, r) = some_is _ _ e in (
+      ys,
+      ap (λ (t : List ℕ). (let o : Option (List X × List ℕ) = Some (ys, t) in o))
+          (ap (λ (t : List X × List ℕ). t.1) q),
+      ap (λ (t : List X × List ℕ). t.0) q,
+    )
 
-module _ {X : Type 0} (p : Parser (Option X)) (mode : Mode) (G : List ℕ → X → Type 0) (e : ReadsOne (p mode) G) where
-  step-sound : (n : ℕ) (b : List ℕ) (xs : List X) (r : List ℕ) (o : Option X × List ℕ) → p mode b ≡ Some o → IsBytes b
-      → ((s : List ℕ) (ys : List X) → length s < length b → IsBytes s → up_to n p mode s ≡ Some (ys, r) → Front (Items G) s ys r)
+module _ {X : Type 0} (p : Parser (Option X)) (mode : Mode) (G : List ℕ → X → Type 0)
+    (e : ReadsOne (p mode) G) where
+  step-sound : (n : ℕ) (b : List ℕ) (xs : List X) (r : List ℕ) (o : Option X × List ℕ)
+      → p mode b ≡ Some o → IsBytes b
+      → ((s : List ℕ) (ys : List X) → length s < length b → IsBytes s
+      → up_to n p mode s ≡ Some (ys, r) → Front (Items G) s ys r)
       → go_on o.0 o.1 (up_to n p mode o.1) ≡ Some (xs, r) → Front (Items G) b xs r
   step-sound n b xs r (None, s) h bytes ih g =
       let q : (let t : List X × List ℕ = ([], s) in t) ≡ (xs, r) = some_is _ _ g in
-      let same : b ≡ s = e.leaves b s h in
-      ([], same ∙ ap (λ (t : List X × List ℕ). t.1) q, subst (λ (t : List X × List ℕ). Items G [] t.0) q refl)
+      let same : b ≡ s = e.leaves b s h in (
+        [],
+        same ∙ ap (λ (t : List X × List ℕ). t.1) q,
+        subst (λ (t : List X × List ℕ). Items G [] t.0) q refl,
+      )
   step-sound n b xs r (Some x, s) h bytes ih g =
       let f = front-some x (up_to n p mode s) xs r g in
       let first = e.sound b x s bytes h in
       let after : IsBytes s = IsBytes-right first.0 s (subst IsBytes first.1 bytes) in
       let others = ih s f.0 (e.shorter.at b x s h) after f.1 in (
         first.0 ++ others.0,
-        first.1 ∙ ap (λ (t : List ℕ). first.0 ++ t) others.1 ∙ sym (append_assoc first.0 others.0 r),
-        subst (λ (t : List X). Items G (first.0 ++ others.0) t) f.2 (first.0, others.0, refl, first.2, others.2),
+        first.1 ∙ ap (λ (t : List ℕ). first.0 ++ t) others.1
+            ∙ sym (append_assoc first.0 others.0 r),
+        subst (λ (t : List X). Items G (first.0 ++ others.0) t) f.2
+            (first.0, others.0, refl, first.2, others.2),
       )
 
-  up_to-sound : (n : ℕ) (b : List ℕ) (xs : List X) (r : List ℕ) → length b < n → IsBytes b → up_to n p mode b ≡ Some (xs, r) → Front (Items G) b xs r
+  up_to-sound : (n : ℕ) (b : List ℕ) (xs : List X) (r : List ℕ) → length b < n → IsBytes b
+      → up_to n p mode b ≡ Some (xs, r) → Front (Items G) b xs r
   unfolding up_to
   up_to-sound zero b xs r lt bytes h = absurd (omega arith)
   up_to-sound (suc n) b xs r lt bytes h =
@@ -70,7 +85,8 @@ module _ {X : Type 0} (p : Parser (Option X)) (mode : Mode) (G : List ℕ → X 
 
 -- ---- one form
 
-none-cases : {X : Type 0} (t : Bool) (o : Option (X × List ℕ)) (b r : List ℕ) → cond t (some_of o) (Some (None, b)) ≡ Some (None, r) → b ≡ r
+none-cases : {X : Type 0} (t : Bool) (o : Option (X × List ℕ)) (b r : List ℕ)
+    → cond t (some_of o) (Some (None, b)) ≡ Some (None, r) → b ≡ r
 none-cases {X} true None b r e = absurd cc
 none-cases {X} true (Some (y, s)) b r e =
     let q : (let t : Option X × List ℕ = (Some y, s) in t) ≡ (None, r) = some_is _ _ e in
@@ -79,7 +95,8 @@ none-cases {X} false o b r e =
     let q : (let t : Option X × List ℕ = (None, b) in t) ≡ (None, r) = some_is _ _ e in
     ap (λ (t : Option X × List ℕ). t.1) q
 
-pub in_value-shorter : {X : Type 0} (tag : ℕ) (p : Parser X) (mode : Mode) (b : List ℕ) (x : X) (r : List ℕ) → in_value tag p mode b ≡ Some (x, r) → length r < length b
+pub in_value-shorter : {X : Type 0} (tag : ℕ) (p : Parser X) (mode : Mode) (b : List ℕ) (x : X)
+    (r : List ℕ) → in_value tag p mode b ≡ Some (x, r) → length r < length b
 in_value-shorter {X} tag p mode b x r h =
     let v = bind_some (value_at tag mode b) _ (x, r) h in
     let w = bind_some (whole (p mode v.0.0)) _ (x, r) v.2 in
@@ -87,7 +104,10 @@ in_value-shorter {X} tag p mode b x r h =
     subst (λ (t : X × List ℕ). length t.1 < length b) q (value-shorter tag mode b v.0.0 v.0.1 v.1)
 
 -- p reads with this tag
-pub reads-optional : {X : Type 0} (tag : ℕ) (p : Parser X) (mode : Mode) (G : List ℕ → X → Type 0) → IsExact anything (p mode) G → Begins tag G → ((b : List ℕ) (x : X) (r : List ℕ) → p mode b ≡ Some (x, r) → length r < length b) → ReadsOne (optional tag p mode) G
+pub reads-optional : {X : Type 0} (tag : ℕ) (p : Parser X) (mode : Mode) (G : List ℕ → X → Type 0)
+    → IsExact anything (p mode) G → Begins tag G
+    → ((b : List ℕ) (x : X) (r : List ℕ) → p mode b ≡ Some (x, r) → length r < length b)
+    → ReadsOne (optional tag p mode) G
 reads-optional tag p mode G e begins short = record {
   shorter = record { at = λ b x r h. short b x r (optional-some tag p mode b x r h) };
   sound = λ b x r bytes h. e.sound b x r bytes (optional-some tag p mode b x r h);
@@ -102,35 +122,46 @@ reads-optional tag p mode G e begins short = record {
 -- ---- one of two forms
 
 -- where p finds none, nothing in H begins as p's do
-pub record Passes {X : Type 0} (p : List ℕ → Option (Option X × List ℕ)) (H : List ℕ → X → Type 0) : Type 0 where
+pub record Passes {X : Type 0} (p : List ℕ → Option (Option X × List ℕ)) (H : List ℕ → X
+    → Type 0) : Type 0 where
   pub at : (o : List ℕ) (x : X) (r : List ℕ) → H o x → p (o ++ r) ≡ Some (None, o ++ r)
 
-or_else-some : {X : Type 0} (o : Option X × List ℕ) (other : Option (Option X × List ℕ)) (x : X) (r : List ℕ) → or_else o.0 o.1 other ≡ Some (Some x, r) → (o ≡ (Some x, r)) ⊎ ((o.0 ≡ None) × (other ≡ Some (Some x, r)))
+or_else-some : {X : Type 0} (o : Option X × List ℕ) (other : Option (Option X × List ℕ)) (x : X)
+    (r : List ℕ) → or_else o.0 o.1 other ≡ Some (Some x, r)
+    → (o ≡ (Some x, r)) ⊎ ((o.0 ≡ None) × (other ≡ Some (Some x, r)))
 or_else-some {X} (Some y, s) other x r e = inl (some_is _ _ e)
 or_else-some (None, s) other x r e = inr (refl, e)
 
-or_else-none : {X : Type 0} (o : Option X × List ℕ) (other : Option (Option X × List ℕ)) (r : List ℕ) → or_else o.0 o.1 other ≡ Some (None, r) → (o.0 ≡ None) × (other ≡ Some (None, r))
+or_else-none : {X : Type 0} (o : Option X × List ℕ) (other : Option (Option X × List ℕ))
+    (r : List ℕ) → or_else o.0 o.1 other ≡ Some (None, r) → (o.0 ≡ None) × (other ≡ Some (None, r))
 or_else-none {X} (Some y, s) other r e =
     let q : (let t : Option X × List ℕ = (Some y, s) in t) ≡ (None, r) = some_is _ _ e in
     absurd (let no_value : Some y ≡ None = ap (λ (t : Option X × List ℕ). t.0) q in cc)
 or_else-none (None, s) other r e = (refl, e)
 
-module _ {X : Type 0} (p q : Parser (Option X)) (mode : Mode) (G H : List ℕ → X → Type 0) (one : ReadsOne (p mode) G) (two : ReadsOne (q mode) H) (passes : Passes (p mode) H) where
+module _ {X : Type 0} (p q : Parser (Option X)) (mode : Mode) (G H : List ℕ → X → Type 0)
+    (one : ReadsOne (p mode) G) (two : ReadsOne (q mode) H) (passes : Passes (p mode) H) where
   nothing : (b : List ℕ) (o : Option X × List ℕ) → p mode b ≡ Some o → o.0 ≡ None → b ≡ o.1
   nothing b (None, s) h e = one.leaves b s h
   nothing b (Some x, s) h e = absurd cc
 
-  cases : (b : List ℕ) (x : X) (r : List ℕ) → either p q mode b ≡ Some (Some x, r) → (p mode b ≡ Some (Some x, r)) ⊎ (q mode b ≡ Some (Some x, r))
+  cases : (b : List ℕ) (x : X) (r : List ℕ) → either p q mode b ≡ Some (Some x, r)
+      → (p mode b ≡ Some (Some x, r)) ⊎ (q mode b ≡ Some (Some x, r))
   cases b x r h =
       let o = bind_some (p mode b) _ (Some x, r) h in
       elim (or_else-some o.0 (q mode o.0.1) x r o.2) [
-        | inl e ↦ inl (o.1 ∙ ap (λ (t : Option X × List ℕ). (let s : Option (Option X × List ℕ) = Some t in s)) e)
+        | inl e ↦ inl (o.1 ∙ ap
+            (λ (t : Option X × List ℕ). (let s : Option (Option X × List ℕ) = Some t in s)) e)
         | inr e ↦ inr (rw (nothing b o.0 o.1 e.0) e.1)
       ]
 
   pub reads-either : ReadsOne (either p q mode) (λ o x. G o x ⊎ H o x)
   reads-either = record {
-    shorter = record { at = λ b x r h. elim (cases b x r h) [ inl k ↦ one.shorter.at b x r k | inr k ↦ two.shorter.at b x r k ] };
+    shorter = record {
+      at =
+          λ b x r h. elim (cases b x r h)
+          [ inl k ↦ one.shorter.at b x r k | inr k ↦ two.shorter.at b x r k ];
+    };
     sound = λ b x r bytes h. elim (cases b x r h) [
       | inl k ↦ let f = one.sound b x r bytes k in (f.0, f.1, inl f.2)
       | inr k ↦ let f = two.sound b x r bytes k in (f.0, f.1, inr f.2)

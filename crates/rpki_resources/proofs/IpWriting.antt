@@ -35,40 +35,59 @@ use Rattle.rpki_resources.proofs.Trailing.{upper_at_least, upper_most, other_mul
 
 -- ---- ends
 
-pub address_written : (most addr len : ℕ) → most ≤ 128 → len ≤ most → IpAddress Der most (end_octets addr len) (end_bits addr len)
-address_written most addr len l h = (end_written addr len (omega arith), rw (end_count addr len (omega arith)) h)
+pub address_written : (most addr len : ℕ) → most ≤ 128 → len ≤ most
+    → IpAddress Der most (end_octets addr len) (end_bits addr len)
+address_written most addr len l h =
+    (end_written addr len (omega arith), rw (end_count addr len (omega arith)) h)
 
 -- ---- a prefix
 
 -- no longer than an address of the family
-prefix_fits : (lo hi len most : ℕ) → IsPrefix lo hi len → most ≤ 128 → lo % 2 ^ (128 - most) ≡ 0 → (hi + 1) % 2 ^ (128 - most) ≡ 0 → len ≤ most
+prefix_fits : (lo hi len most : ℕ) → IsPrefix lo hi len → most ≤ 128 → lo % 2 ^ (128 - most) ≡ 0
+    → (hi + 1) % 2 ^ (128 - most) ≡ 0 → len ≤ most
 prefix_fits lo hi len most p l lower upper = elim (leb_tells len most) [
   | inl t ↦ t.1
   | inr t ↦
       let m : ℕ = 2 ^ (128 - most) in
       let size : ℕ = 2 ^ (128 - len) in
       let small : size < m = pow_below (128 - len) (128 - most) (omega (arith, t.1, p.within)) in
-      let sum : size + lo ≡ (hi + 1) / m * m = omega (arith, p.size, div-add-mod' (hi + 1) m, upper) in
+      let sum : size + lo ≡ (hi + 1) / m * m =
+      omega (arith, p.size, div-add-mod' (hi + 1) m, upper) in
       let none : size % m ≡ 0 = other_multiple size lo ((hi + 1) / m) m sum lower in
       absurd (omega (arith, none, mod-eq_of_lt small, pow_pos (128 - len)))
 ]
 
-prefix_written : (most : ℕ) (b : Block ℕ) (len : ℕ) → most ≤ 128 → len ≤ most → b.max < 2 ^ 128 → IsPrefix b.min b.max len → IpPrefix Der most (end_octets b.min len) b
+prefix_written : (most : ℕ) (b : Block ℕ) (len : ℕ) → most ≤ 128 → len ≤ most → b.max < 2 ^ 128
+    → IsPrefix b.min b.max len → IpPrefix Der most (end_octets b.min len) b
 prefix_written most b len l h below p =
     let order = prefix_order b.min b.max len p in
     let pos : 0 < 2 ^ (128 - len) = pow_pos (128 - len) in
-    let low : lowest (end_bits b.min len) ≡ b.min = lowest_end b.min len (omega arith) (omega arith) p.aligned in
-    let behind : 2 ^ (128 - bit_count (end_bits b.min len)) ≡ 2 ^ (128 - len) = ap (λ (n : ℕ). 2 ^ (128 - n)) (end_count b.min len (omega arith)) in
-    let high : highest (end_bits b.min len) ≡ b.max = omega (arith, low, behind, p.size) in
-    (end_bits b.min len, address_written most b.min len l h, λ i. record { min = sym low i; max = sym high i })
+    let low : lowest (end_bits b.min len) ≡ b.min =
+    lowest_end b.min len (omega arith) (omega arith) p.aligned in
+    let behind : 2 ^ (128 - bit_count (end_bits b.min len)) ≡ 2 ^ (128 - len) =
+    ap (λ (n : ℕ). 2 ^ (128 - n)) (end_count b.min len (omega arith)) in
+    let high : highest (end_bits b.min len) ≡ b.max = omega (arith, low, behind, p.size) in (
+      end_bits b.min len,
+      address_written most b.min len l h,
+      λ i. record { min = sym low i; max = sym high i },
+    )
 
 -- ---- a range
 
-range_short : (lo hi k m : ℕ) → k ≤ 128 → m ≤ 128 → length (end_octets lo k ++ end_octets hi m) < 2 ^ 32
-range_short lo hi k m l h = omega (arith, length-append (end_octets lo k) (end_octets hi m), end_short lo k l, end_short hi m h)
+range_short : (lo hi k m : ℕ) → k ≤ 128 → m ≤ 128
+    → length (end_octets lo k ++ end_octets hi m) < 2 ^ 32
+range_short lo hi k m l h =
+    omega (
+      arith,
+      length-append (end_octets lo k) (end_octets hi m),
+      end_short lo k l,
+      end_short hi m h,
+    )
 
-range_written : (most : ℕ) (b : Block ℕ) → most ≤ 128 → b.min ≤ b.max → b.max < 2 ^ 128 → b.min % 2 ^ (128 - most) ≡ 0 → (b.max + 1) % 2 ^ (128 - most) ≡ 0
-    → IpRange Der most (value_octets 48 (end_octets b.min (lower_len b.min) ++ end_octets b.max (upper_len b.max))) b
+range_written : (most : ℕ) (b : Block ℕ) → most ≤ 128 → b.min ≤ b.max → b.max < 2 ^ 128
+    → b.min % 2 ^ (128 - most) ≡ 0 → (b.max + 1) % 2 ^ (128 - most) ≡ 0
+    → IpRange Der most (value_octets 48
+    (end_octets b.min (lower_len b.min) ++ end_octets b.max (upper_len b.max))) b
 range_written most b l order below lower upper =
     let k : ℕ = lower_len b.min in
     let m : ℕ = upper_len b.max in
@@ -76,18 +95,23 @@ range_written most b l order below lower upper =
     let others = upper_most b.max in
     let first : 128 - k ≡ trailing_zeros w128 b.min = omega arith in
     let second : 128 - m ≡ trailing_ones w128 b.max = omega arith in
-    let low : lowest (end_bits b.min k) ≡ b.min = lowest_end b.min k (omega arith) (omega arith) (rw first (lower_dropped b.min)) in
-    let high : highest (end_bits b.max m) ≡ b.max = highest_end b.max m (omega arith) below (rw second (upper_dropped b.max below)) in (
+    let low : lowest (end_bits b.min k) ≡ b.min =
+    lowest_end b.min k (omega arith) (omega arith) (rw first (lower_dropped b.min)) in
+    let high : highest (end_bits b.max m) ≡ b.max =
+    highest_end b.max m (omega arith) below (rw second (upper_dropped b.max below)) in (
       end_octets b.min k ++ end_octets b.max m,
-      value-written 48 (end_octets b.min k ++ end_octets b.max m) (tag-sound 48 refl) (range_short b.min b.max k m (omega arith) (omega arith)),
+      value-written 48 (end_octets b.min k ++ end_octets b.max m) (tag-sound 48 refl)
+          (range_short b.min b.max k m (omega arith) (omega arith)),
       (
         end_bits b.min k,
         end_bits b.max m,
         end_octets b.min k,
         end_octets b.max m,
         refl,
-        address_written most b.min k l (omega (arith, lower_at_least b.min (128 - most) (omega arith) lower)),
-        address_written most b.max m l (omega (arith, upper_at_least b.max (128 - most) below (omega arith) upper)),
+        address_written most b.min k l
+            (omega (arith, lower_at_least b.min (128 - most) (omega arith) lower)),
+        address_written most b.max m l
+            (omega (arith, upper_at_least b.max (128 - most) below (omega arith) upper)),
         (λ i. record { min = sym low i; max = sym high i }),
         order,
       ),
@@ -95,24 +119,48 @@ range_written most b l order below lower upper =
 
 -- ---- all of them
 
-item_by : (family : AddressFamily) (o : Option ℕ) (b : Block ℕ) → prefix_len b.min b.max ≡ o → b.min ≤ b.max → IsWithin family b → IpPrefixOrRange Der (max_bits family) (value_octets (tag_by o) (contents_by o b)) b
-item_by family None b e l w = inl (range_written (max_bits family) b (max_most family) l w.below w.lower w.upper)
+item_by : (family : AddressFamily) (o : Option ℕ) (b : Block ℕ) → prefix_len b.min b.max ≡ o
+    → b.min ≤ b.max → IsWithin family b
+    → IpPrefixOrRange Der (max_bits family) (value_octets (tag_by o) (contents_by o b)) b
+item_by family None b e l w =
+    inl (range_written (max_bits family) b (max_most family) l w.below w.lower w.upper)
 item_by family (Some len) b e l w =
     let p = prefix_len_tells b.min b.max len e in
-    inr (prefix_written (max_bits family) b len (max_most family) (prefix_fits b.min b.max len (max_bits family) p (max_most family) w.lower w.upper) w.below p)
+    inr (prefix_written (max_bits family) b len (max_most family)
+    (prefix_fits b.min b.max len (max_bits family) p (max_most family) w.lower w.upper)
+    w.below p)
 
-items_written : (family : AddressFamily) (a : ℕ) (bs : List (Block ℕ)) → RisesFrom (λ n. n) a bs → All (IsWithin family) bs → Items (IpPrefixOrRange Der (max_bits family)) (flat_map ip_octets bs) bs
+items_written : (family : AddressFamily) (a : ℕ) (bs : List (Block ℕ)) → RisesFrom (λ n. n) a bs
+    → All (IsWithin family) bs
+    → Items (IpPrefixOrRange Der (max_bits family)) (flat_map ip_octets bs) bs
 items_written family a [] r h = refl
-items_written family a (b ∷ bs) r h =
-    (ip_octets b, flat_map ip_octets bs, refl, item_by family (prefix_len b.min b.max) b refl r.1 (All-head (IsWithin family) b bs h), items_written family (b.max + 2) bs r.2 (All-tail (IsWithin family) b bs h))
+items_written family a (b ∷ bs) r h = (
+  ip_octets b,
+  flat_map ip_octets bs,
+  refl,
+  item_by family (prefix_len b.min b.max) b refl r.1 (All-head (IsWithin family) b bs h),
+  items_written family (b.max + 2) bs r.2 (All-tail (IsWithin family) b bs h),
+)
 
-pub ip_written : (family : AddressFamily) (set : List (Block ℕ)) → IsCanonical (λ n. n) set → All (IsWithin family) set → length (flat_map ip_octets set) < 2 ^ 32 → IpForm family Der (value_octets 48 (flat_map ip_octets set)) set
-ip_written family set r h l = (flat_map ip_octets set, value-written 48 (flat_map ip_octets set) (tag-sound 48 refl) l, (set, items_written family 0 set r h, record { canonical = r; same = λ n. refl }))
+pub ip_written : (family : AddressFamily) (set : List (Block ℕ)) → IsCanonical (λ n. n) set
+    → All (IsWithin family) set → length (flat_map ip_octets set) < 2 ^ 32
+    → IpForm family Der (value_octets 48 (flat_map ip_octets set)) set
+ip_written family set r h l = (
+  flat_map ip_octets set,
+  value-written 48 (flat_map ip_octets set) (tag-sound 48 refl) l,
+  (set, items_written family 0 set r h, record { canonical = r; same = λ n. refl }),
+)
 
-ip_in : (family : AddressFamily) (mode : Mode) (o : List ℕ) (set : List (Block ℕ)) → IpForm family Der o set → IpForm family mode o set
+ip_in : (family : AddressFamily) (mode : Mode) (o : List ℕ) (set : List (Block ℕ))
+    → IpForm family Der o set → IpForm family mode o set
 ip_in family Der o set h = h
 ip_in family Ber o set h = (ip_reading family).relaxed o set h
 
-pub ip_read : (family : AddressFamily) (mode : Mode) (set : List (Block ℕ)) (rest : List ℕ) → IsCanonical (λ n. n) set → All (IsWithin family) set → length (flat_map ip_octets set) < 2 ^ 32
-    → ip_blocks_at (max_bits family) mode (value_octets 48 (flat_map ip_octets set) ++ rest) ≡ Some (set, rest)
-ip_read family mode set rest r h l = let o : List ℕ = value_octets 48 (flat_map ip_octets set) in (exact-ip_blocks family mode).complete o set rest tt (ip_in family mode o set (ip_written family set r h l))
+pub ip_read : (family : AddressFamily) (mode : Mode) (set : List (Block ℕ)) (rest : List ℕ)
+    → IsCanonical (λ n. n) set → All (IsWithin family) set
+    → length (flat_map ip_octets set) < 2 ^ 32
+    → ip_blocks_at (max_bits family) mode (value_octets 48 (flat_map ip_octets set) ++ rest)
+    ≡ Some (set, rest)
+ip_read family mode set rest r h l = let o : List ℕ = value_octets 48 (flat_map ip_octets set) in
+    (exact-ip_blocks family mode).complete o set rest tt
+    (ip_in family mode o set (ip_written family set r h l))

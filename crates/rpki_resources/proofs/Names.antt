@@ -8,7 +8,8 @@ use Rattle.rpki_resources.specs.declared.asn.AsBlock.TheVariants.{Id, Range}
 use Rattle.rpki_resources.specs.As.{as_block, as_range}
 
 -- the name of a block speaks of its numbers
-as_range_by : (t : Bool) (b : Block ℕ) → (b.min == b.max) ≡ t → as_range (if t then Id b.min else Range b.min b.max) ≡ b
+as_range_by : (t : Bool) (b : Block ℕ) → (b.min == b.max) ≡ t
+    → as_range (if t then Id b.min else Range b.min b.max) ≡ b
 as_range_by true b e = let s = eqb-true b.min b.max e in λ i. record { min = b.min; max = s i }
 as_range_by false b e = refl
 
@@ -17,9 +18,13 @@ as_range-as_block b = as_range_by (b.min == b.max) b refl
 
 pub as_ranges : (bs : List (Block ℕ)) → map as_range (map as_block bs) ≡ bs
 as_ranges [] = refl
-as_ranges (b ∷ bs) = let first = as_range-as_block b in let others = as_ranges bs in λ i. first i ∷ others i
+as_ranges (b ∷ bs) = let first = as_range-as_block b in let others = as_ranges bs in
+    λ i. first i ∷ others i
 
 -- a fact of each item's numbers, said of the numbers
-pub All-map : {X Y : Type 0} (f : X → Y) (P : Y → Type 0) (xs : List X) → All (λ x. P (f x)) xs → All P (map f xs)
+pub All-map : {X Y : Type 0} (f : X → Y) (P : Y → Type 0) (xs : List X) → All (λ x. P (f x)) xs
+    → All P (map f xs)
 All-map f P [] h = All-nil P
-All-map f P (x ∷ xs) h = All-cons P (f x) (map f xs) (All-head (λ y. P (f y)) x xs h) (All-map f P xs (All-tail (λ y. P (f y)) x xs h))
+All-map f P (x ∷ xs) h =
+    All-cons P (f x) (map f xs) (All-head (λ y. P (f y)) x xs h)
+    (All-map f P xs (All-tail (λ y. P (f y)) x xs h))

@@ -22,7 +22,8 @@ use Rattle.rpki_resources.proofs.Relaxed.{address-ber}
 -- what f makes of what p reads
 exact-made : {X Y : Type 0} (p : Parser X) (f : X → Y) (mode : Mode) (G : List ℕ → X → Type 0)
     → IsExact anything (p mode) G
-    → IsExact anything (λ b. p mode b >>= λ x. Some (f x.0, x.1)) (λ o y. (x : X) × G o x × (y ≡ f x))
+    → IsExact anything (λ b. p mode b >>= λ x. Some (f x.0, x.1))
+    (λ o y. (x : X) × G o x × (y ≡ f x))
 exact-made {X} {Y} p f mode G e = record {
   sound = λ b y r bytes h.
       let s = bind_some (p mode b) _ (y, r) h in
@@ -42,10 +43,12 @@ exact-prefix family mode =
     exact-made (ip_address_at (max_bits family)) network mode (IpAddress mode (max_bits family))
     (exact-address (max_bits family) mode)
 
-pub prefix_reading : (family : AddressFamily) → IsReading (prefix_at (max_bits family)) (PrefixForm family)
+pub prefix_reading : (family : AddressFamily)
+    → IsReading (prefix_at (max_bits family)) (PrefixForm family)
 prefix_reading family = record {
   exact = exact-prefix family;
-  unique = λ mode. unique (prefix_at (max_bits family) mode) (PrefixForm family mode) (exact-prefix family mode);
+  unique = λ mode. unique (prefix_at (max_bits family) mode) (PrefixForm family mode)
+      (exact-prefix family mode);
   relaxed = λ o p h. (h.0, address-ber (max_bits family) o h.0 h.1, h.2);
   refused = refused (prefix_at (max_bits family)) (PrefixForm family) (exact-prefix family)
       (λ mode o p h. (3, h.1.0.0, h.1.0.1));
@@ -55,7 +58,8 @@ prefix_reading family = record {
 
 -- a prefix of the family: no bit after its length is set, and it has no more bits than an address
 -- of the family
-pub prefix_written : (family : AddressFamily) (p : Network) → p.len ≤ max_bits family → p.addr < 2 ^ 128
+pub prefix_written : (family : AddressFamily) (p : Network) → p.len ≤ max_bits family
+    → p.addr < 2 ^ 128
     → p.addr % 2 ^ (128 - p.len) ≡ 0 → PrefixForm family Der (end_octets p.addr p.len) p
 prefix_written family p l below aligned =
     let most = max_most family in
@@ -66,7 +70,8 @@ prefix_written family p l below aligned =
       (λ i. record { addr = sym low i; len = sym count i }),
     )
 
-prefix_in : (family : AddressFamily) (mode : Mode) (o : List ℕ) (p : Network) → PrefixForm family Der o p
+prefix_in : (family : AddressFamily) (mode : Mode) (o : List ℕ) (p : Network)
+    → PrefixForm family Der o p
     → PrefixForm family mode o p
 prefix_in family Der o p h = h
 prefix_in family Ber o p h = (prefix_reading family).relaxed o p h

@@ -1,10 +1,12 @@
 -- the length of the prefix whose addresses are given
-use Rattle.std.proofs.Common.{◌≡◌, ℕ, zero, suc, ◌+◌, ◌-◌, ◌%◌, ◌^◌, ◌<◌, ◌≤◌, None, Some, Bool, true, false, ◌&&◌, refl, sym, ◌∙◌, subst, ◌≢◌, arith}
+use Rattle.std.proofs.Common.{◌≡◌, ℕ, zero, suc, ◌+◌, ◌-◌, ◌%◌, ◌^◌, ◌<◌, ◌≤◌, None, Some, Bool}
+use Rattle.std.proofs.Common.{true, false, ◌&&◌, refl, sym, ◌∙◌, subst, ◌≢◌, arith}
 use Rattle.std.specs.Int.Count.{count_leading_zeros, leading_unique}
 use native.Mathlib.Numerals.{unary_clauses}
 use Rattle.std.proofs.lemmas.Nat.{pow_pos}
 use Rattle.std.proofs.lemmas.Bool.{eqb-true, eq-eqb}
-use Rattle.rpki_resources.specs.Prefix.{Network, IsPrefix, is_prefix, below, prefix_len, first_of, last_of}
+use Rattle.rpki_resources.specs.Prefix.{Network, IsPrefix, is_prefix, below, prefix_len, first_of}
+use Rattle.rpki_resources.specs.Prefix.{last_of}
 
 -- as many zero bits lead the difference of the ends
 pub prefix_leading : (lo hi len : ℕ) → IsPrefix lo hi len → len ≡ count_leading_zeros 128 (hi - lo)
@@ -26,30 +28,39 @@ true_and : (a b : Bool) → a ≡ true → b ≡ true → (a && b) ≡ true
 true_and a b p q = rw (p, q) refl
 
 tested : (lo hi len : ℕ) → len ≤ 128 → is_prefix lo hi len ≡ true → IsPrefix lo hi len
-tested lo hi len l e = let p = and_true _ _ e in record { within = l; aligned = eqb-true _ _ p.0; size = eqb-true _ _ p.1 }
+tested lo hi len l e = let p = and_true _ _ e in
+    record { within = l; aligned = eqb-true _ _ p.0; size = eqb-true _ _ p.1 }
 
 is_tested : (lo hi len : ℕ) → IsPrefix lo hi len → is_prefix lo hi len ≡ true
 is_tested lo hi len p = true_and _ _ (eq-eqb _ _ p.aligned) (eq-eqb _ _ p.size)
 
 -- one step, by the answer of the test
-step_some : (b : Bool) (n lo hi len : ℕ) → n ≤ 128 → is_prefix lo hi n ≡ b → len < suc n → IsPrefix lo hi len → (len < n → below n lo hi ≡ Some len) → below (suc n) lo hi ≡ Some len
-step_some true n lo hi len h e l p others = rw (e, prefix_unique lo hi len n p (tested lo hi n h e)) refl
+step_some : (b : Bool) (n lo hi len : ℕ) → n ≤ 128 → is_prefix lo hi n ≡ b → len < suc n
+    → IsPrefix lo hi len → (len < n → below n lo hi ≡ Some len) → below (suc n) lo hi ≡ Some len
+step_some true n lo hi len h e l p others =
+    rw (e, prefix_unique lo hi len n p (tested lo hi n h e)) refl
 step_some false n lo hi len h e l p others = rw e (others (omega (arith, differs)))
   where
     differs : len ≢ n
-    differs same = let t : true ≡ false = sym (is_tested lo hi n (subst (IsPrefix lo hi) same p)) ∙ e in absurd cc
+    differs same = let t : true ≡ false = sym (is_tested lo hi n (subst (IsPrefix lo hi) same p))
+        ∙ e in absurd cc
 
 below_some : (n lo hi len : ℕ) → n ≤ 129 → len < n → IsPrefix lo hi len → below n lo hi ≡ Some len
 below_some zero lo hi len h l p = absurd (omega arith)
-below_some (suc n) lo hi len h l p = step_some (is_prefix lo hi n) n lo hi len (omega arith) refl l p (λ k. below_some n lo hi len (omega arith) k p)
+below_some (suc n) lo hi len h l p =
+    step_some (is_prefix lo hi n) n lo hi len (omega arith) refl l p
+    (λ k. below_some n lo hi len (omega arith) k p)
 
-step_none : (b : Bool) (n lo hi : ℕ) → n ≤ 128 → is_prefix lo hi n ≡ b → ((len : ℕ) → IsPrefix lo hi len → ⊥) → below n lo hi ≡ None → below (suc n) lo hi ≡ None
+step_none : (b : Bool) (n lo hi : ℕ) → n ≤ 128 → is_prefix lo hi n ≡ b
+    → ((len : ℕ) → IsPrefix lo hi len → ⊥) → below n lo hi ≡ None → below (suc n) lo hi ≡ None
 step_none true n lo hi h e none others = absurd (none n (tested lo hi n h e))
 step_none false n lo hi h e none others = rw e others
 
 below_none : (n lo hi : ℕ) → n ≤ 129 → ((len : ℕ) → IsPrefix lo hi len → ⊥) → below n lo hi ≡ None
 below_none zero lo hi h none = refl
-below_none (suc n) lo hi h none = step_none (is_prefix lo hi n) n lo hi (omega arith) refl none (below_none n lo hi (omega arith) none)
+below_none (suc n) lo hi h none =
+    step_none (is_prefix lo hi n) n lo hi (omega arith) refl none
+    (below_none n lo hi (omega arith) none)
 
 pub prefix_len_some : (lo hi len : ℕ) → IsPrefix lo hi len → prefix_len lo hi ≡ Some len
 unfolding prefix_len
@@ -61,23 +72,30 @@ prefix_len_none lo hi none = below_none 129 lo hi (omega arith) none
 
 -- the ends of a prefix are in order
 pub prefix_order : (lo hi len : ℕ) → IsPrefix lo hi len → lo ≤ hi
-prefix_order lo hi len p = let pos : 0 < 2 ^ (128 - len) = pow_pos (128 - len) in omega (arith, p.size)
+prefix_order lo hi len p = let pos : 0 < 2 ^ (128 - len) = pow_pos (128 - len) in
+    omega (arith, p.size)
 
 -- a prefix by its first address
-pub network_of : (a k len : ℕ) → k ≡ len → a % 2 ^ (128 - len) ≡ 0 → (n : Network) → n ≡ record { addr = first_of a k; len = k } → n ≡ record { addr = a; len = len }
+pub network_of : (a k len : ℕ) → k ≡ len → a % 2 ^ (128 - len) ≡ 0 → (n : Network)
+    → n ≡ record { addr = first_of a k; len = k } → n ≡ record { addr = a; len = len }
 network_of a k len e h n d = d ∙ rw (e, h) (simp unary_clauses)
 
 pub last_of_prefix : (lo hi len : ℕ) → IsPrefix lo hi len → last_of lo len ≡ hi
 last_of_prefix lo hi len p = omega (arith, p.aligned, p.size)
 
 -- what is found is the length of a prefix
-tells_step : (b : Bool) (n lo hi len : ℕ) → n ≤ 128 → is_prefix lo hi n ≡ b → (below n lo hi ≡ Some len → IsPrefix lo hi len) → below (suc n) lo hi ≡ Some len → IsPrefix lo hi len
-tells_step true n lo hi len h e others f = let s : Some n ≡ Some len = rw e at f in let k : n ≡ len = cc in subst (IsPrefix lo hi) k (tested lo hi n h e)
+tells_step : (b : Bool) (n lo hi len : ℕ) → n ≤ 128 → is_prefix lo hi n ≡ b
+    → (below n lo hi ≡ Some len → IsPrefix lo hi len) → below (suc n) lo hi ≡ Some len
+    → IsPrefix lo hi len
+tells_step true n lo hi len h e others f = let s : Some n ≡ Some len = rw e at f in
+    let k : n ≡ len = cc in subst (IsPrefix lo hi) k (tested lo hi n h e)
 tells_step false n lo hi len h e others f = others (rw e at f)
 
 below_tells : (n lo hi len : ℕ) → n ≤ 129 → below n lo hi ≡ Some len → IsPrefix lo hi len
 below_tells zero lo hi len h f = absurd cc
-below_tells (suc n) lo hi len h f = tells_step (is_prefix lo hi n) n lo hi len (omega arith) refl (below_tells n lo hi len (omega arith)) f
+below_tells (suc n) lo hi len h f =
+    tells_step (is_prefix lo hi n) n lo hi len (omega arith) refl
+    (below_tells n lo hi len (omega arith)) f
 
 pub prefix_len_tells : (lo hi len : ℕ) → prefix_len lo hi ≡ Some len → IsPrefix lo hi len
 unfolding prefix_len

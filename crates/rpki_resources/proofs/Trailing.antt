@@ -1,9 +1,12 @@
 -- the zero bits and the one bits that a number ends in
-use Rattle.std.proofs.Common.{◌≡◌, ℕ, zero, suc, ◌+◌, ◌-◌, ◌*◌, ◌/◌, ◌%◌, ◌^◌, ◌<◌, ◌≤◌, refl, sym, ◌∙◌, arith, inl, inr}
+use Rattle.std.proofs.Common.{◌≡◌, ℕ, zero, suc, ◌+◌, ◌-◌, ◌*◌, ◌/◌, ◌%◌, ◌^◌, ◌<◌, ◌≤◌, refl, sym}
+use Rattle.std.proofs.Common.{◌∙◌, arith, inl, inr}
 use Rattle.std.specs.Int.{w128, trailing_zeros, trailing_ones}
 use Rattle.std.specs.Int.Count.{count_trailing_zeros, under}
-use Rattle.std.proofs.Math.Nat.{add-mul-mod_self_right, mul-mod_left, mod-eq_of_lt, mod-lt, eq-or-lt_of_le}
-use Rattle.std.proofs.lemmas.Nat.{pow-add, pow_pos, mod-pow-add, trailing_le, shr_split, div-add-mod'}
+use Rattle.std.proofs.Math.Nat.{add-mul-mod_self_right, mul-mod_left, mod-eq_of_lt, mod-lt}
+use Rattle.std.proofs.Math.Nat.{eq-or-lt_of_le}
+use Rattle.std.proofs.lemmas.Nat.{pow-add, pow_pos, mod-pow-add, trailing_le, shr_split}
+use Rattle.std.proofs.lemmas.Nat.{div-add-mod'}
 
 -- ---- zeros
 
@@ -17,7 +20,8 @@ zeros_by (suc d) t n e h = omega arith
 zeros_dropped : (k n : ℕ) → n % 2 ^ count_trailing_zeros k n ≡ 0
 unfolding count_trailing_zeros
 zeros_dropped zero n = omega arith
-zeros_dropped (suc k) n = zeros_by (n % 2) (count_trailing_zeros k (n / 2)) n refl (zeros_dropped k (n / 2))
+zeros_dropped (suc k) n =
+    zeros_by (n % 2) (count_trailing_zeros k (n / 2)) n refl (zeros_dropped k (n / 2))
 
 -- a multiple of a power of two ends in as many zeros
 zeros_more : (d i t : ℕ) → d ≡ 0 → i ≤ t → suc i ≤ under d t
@@ -36,7 +40,8 @@ zeros_at_least k n zero l h = omega arith
 zeros_at_least zero n (suc i) l h = absurd (omega (arith, l))
 zeros_at_least (suc k) n (suc i) l h =
     let half = halved n i h in
-    zeros_more (n % 2) i (count_trailing_zeros k (n / 2)) half.0 (zeros_at_least k (n / 2) i (omega (arith, l)) half.1)
+    zeros_more (n % 2) i (count_trailing_zeros k (n / 2)) half.0
+    (zeros_at_least k (n / 2) i (omega (arith, l)) half.1)
 
 -- ---- ones
 
@@ -69,10 +74,15 @@ pub lower_most : (n : ℕ) → trailing_zeros w128 n ≤ 128
 lower_most n = trailing_le 128 n
 
 pub upper_dropped : (n : ℕ) → n < 2 ^ 128 → (n + 1) % 2 ^ trailing_ones w128 n ≡ 0
-upper_dropped n h = let t : ℕ = trailing_ones w128 n in other_multiple (n + 1) (2 ^ 128 - 1 - n) (2 ^ (128 - t)) (2 ^ t) (after n t h (trailing_le 128 (2 ^ 128 - 1 - n))) (zeros_dropped 128 (2 ^ 128 - 1 - n))
+upper_dropped n h = let t : ℕ = trailing_ones w128 n in
+    other_multiple (n + 1) (2 ^ 128 - 1 - n) (2 ^ (128 - t)) (2 ^ t)
+    (after n t h (trailing_le 128 (2 ^ 128 - 1 - n))) (zeros_dropped 128 (2 ^ 128 - 1 - n))
 
-pub upper_at_least : (n i : ℕ) → n < 2 ^ 128 → i ≤ 128 → (n + 1) % 2 ^ i ≡ 0 → i ≤ trailing_ones w128 n
-upper_at_least n i h l e = zeros_at_least 128 (2 ^ 128 - 1 - n) i l (other_multiple (2 ^ 128 - 1 - n) (n + 1) (2 ^ (128 - i)) (2 ^ i) (before n i h l) e)
+pub upper_at_least : (n i : ℕ) → n < 2 ^ 128 → i ≤ 128 → (n + 1) % 2 ^ i ≡ 0
+    → i ≤ trailing_ones w128 n
+upper_at_least n i h l e =
+    zeros_at_least 128 (2 ^ 128 - 1 - n) i l
+    (other_multiple (2 ^ 128 - 1 - n) (n + 1) (2 ^ (128 - i)) (2 ^ i) (before n i h l) e)
 
 pub upper_most : (n : ℕ) → trailing_ones w128 n ≤ 128
 upper_most n = trailing_le 128 (2 ^ 128 - 1 - n)
@@ -93,7 +103,8 @@ all_of_it x m pos l h = elim (eq-or-lt_of_le l) [
 rest_of : (n m : ℕ) → 0 < m → (n + 1) % m ≡ 0 → n % m + 1 ≡ m
 rest_of n m pos h =
     let split : n + 1 ≡ (n % m + 1) + n / m * m = omega (arith, div-add-mod' n m) in
-    let e : (n % m + 1) % m ≡ 0 = sym (add-mul-mod_self_right (n % m + 1) (n / m) m) ∙ rw (← split) h in
+    let e : (n % m + 1) % m ≡ 0 = sym (add-mul-mod_self_right (n % m + 1) (n / m) m)
+    ∙ rw (← split) h in
     all_of_it (n % m + 1) m (omega arith) (omega (arith, mod-lt n pos)) e
 
 -- ones behind the bits of a number that ends in ones

@@ -1,5 +1,6 @@
 -- Blocks of numbers, as a set: f tells the number of an end.
-use Rattle.std.specs.Prelude.{◌≡◌, ℕ, ◌+◌, ◌<◌, ◌≤◌, All, List, [], ◌∷◌, ◌++◌, Bool, nat_le, ◌&&◌, ◌||◌}
+use Rattle.std.specs.Prelude.{◌≡◌, ℕ, ◌+◌, ◌<◌, ◌≤◌, All, List, [], ◌∷◌, ◌++◌, Bool, nat_le, ◌&&◌}
+use Rattle.std.specs.Prelude.{◌||◌}
 use Rattle.std.specs.Prelude.{IsTrue, if◌then◌else◌}
 use Rattle.std.specs.List.{list_any}
 use Rattle.rpki_resources.specs.declared.block.Block.{Block}
@@ -24,7 +25,8 @@ Holds f bs n = IsTrue (holds f bs n)
 abbrev pub Covers : {T : Type 0} → (T → ℕ) → List (Block T) → List (Block T) → Type 0
 Covers f outer inner = (n : ℕ) → Holds f inner n → Holds f outer n
 
--- The blocks ascend from a number on. None is empty, and a number at least lies between two of them.
+-- The blocks ascend from a number on. None is empty, and a number at least lies between two of
+-- them.
 abbrev pub RisesFrom : {T : Type 0} → (T → ℕ) → ℕ → List (Block T) → Type 0
 RisesFrom f a [] = Unit {0}
 RisesFrom f a (b ∷ bs) = (a ≤ f b.min) × (f b.min ≤ f b.max) × RisesFrom f (f b.max + 2) bs
@@ -44,20 +46,24 @@ Precede f first second = All (λ c. All (λ b. f b.min ≤ f c.min) first) secon
 abbrev pub EndBelow : {T : Type 0} → (T → ℕ) → ℕ → List (Block T) → Type 0
 EndBelow f limit bs = All (λ b. f b.max < limit) bs
 
--- The blocks, and one more, if it isn't empty. Only a private step of the intersection speaks of it.
+-- The blocks, and one more, if it isn't empty. Only a private step of the intersection speaks of
+-- it.
 abbrev pub with_piece : {T : Type 0} → (T → ℕ) → List (Block T) → T → T → List (Block T)
-with_piece f bs lo hi = if nat_le (f lo) (f hi) then bs ++ record { min = lo; max = hi } ∷ [] else bs
+with_piece f bs lo hi =
+    if nat_le (f lo) (f hi) then bs ++ record { min = lo; max = hi } ∷ [] else bs
 
 -- the same numbers
 abbrev pub SameSet : {T : Type 0} → (T → ℕ) → List (Block T) → List (Block T) → Type 0
 SameSet f xs ys = (n : ℕ) → holds f xs n ≡ holds f ys n
 
 -- the numbers in both
-abbrev pub IsIntersection : {T : Type 0} → (T → ℕ) → List (Block T) → List (Block T) → List (Block T) → Type 0
+abbrev pub IsIntersection : {T : Type 0} → (T → ℕ) → List (Block T) → List (Block T)
+    → List (Block T) → Type 0
 IsIntersection f xs ys zs = (n : ℕ) → holds f zs n ≡ (holds f xs n && holds f ys n)
 
 -- the numbers in one or both
-abbrev pub IsUnion : {T : Type 0} → (T → ℕ) → List (Block T) → List (Block T) → List (Block T) → Type 0
+abbrev pub IsUnion : {T : Type 0} → (T → ℕ) → List (Block T) → List (Block T) → List (Block T)
+    → Type 0
 IsUnion f xs ys zs = (n : ℕ) → holds f zs n ≡ (holds f xs n || holds f ys n)
 
 -- the sorted, joined blocks of the numbers in these blocks

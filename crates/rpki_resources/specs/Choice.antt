@@ -3,7 +3,8 @@ use Rattle.std.specs.Prelude.{ℕ, List, Option, None, Some}
 use Rattle.rpki_der.specs.Read.Parse.{Parser, ◌>>=◌}
 
 -- what was found, or else the other
-abbrev pub or_else : {X : Type 0} → Option X → List ℕ → Option (Option X × List ℕ) → Option (Option X × List ℕ)
+abbrev pub or_else : {X : Type 0} → Option X → List ℕ → Option (Option X × List ℕ)
+    → Option (Option X × List ℕ)
 or_else (Some x) rest other = Some (Some x, rest)
 or_else None rest other = other
 

@@ -18,14 +18,15 @@ abbrev pub claim_of : {T : Type 0} → List (Block T) → Claim (List (Block T))
 claim_of [] = Missing
 claim_of (b ∷ bs) = Explicit (b ∷ bs)
 
--- The claim stands for this set: one that is missing for the empty set, since what is not named is not claimed, one
--- that is inherited for none that is known here.
+-- The claim stands for this set: one that is missing for the empty set, since what is not named is
+-- not claimed, one that is inherited for none that is known here.
 abbrev pub HasBlocks : {T : Type 0} → Claim (List (Block T)) → List (Block T) → Type 0
 HasBlocks Missing set = set ≡ []
 HasBlocks Inherit set = ⊥
 HasBlocks (Explicit blocks) set = set ≡ blocks
 
--- the claim has each number of the set: one that is inherited has every number, one that is missing none (RFC 3779, 2.3 and 3.3)
+-- the claim has each number of the set: one that is inherited has every number, one that is missing
+-- none (RFC 3779, 2.3 and 3.3)
 abbrev pub IsCoveredBy : {T : Type 0} → (T → ℕ) → Claim (List (Block T)) → List (Block T) → Type 0
 IsCoveredBy f Missing set = set ≡ []
 IsCoveredBy f Inherit set = Unit {0}
@@ -38,7 +39,8 @@ added Inherit = []
 added (Explicit blocks) = blocks
 
 -- what is built: of blocks that were added the claim of the set of their numbers
-abbrev pub IsBuilt : {T : Type 0} → (T → ℕ) → Claim (List (Block T)) → Claim (List (Block T)) → Type 0
+abbrev pub IsBuilt : {T : Type 0} → (T → ℕ) → Claim (List (Block T)) → Claim (List (Block T))
+    → Type 0
 IsBuilt f Missing claim = claim ≡ Missing
 IsBuilt f Inherit claim = claim ≡ Inherit
 IsBuilt {T} f (Explicit blocks) claim =

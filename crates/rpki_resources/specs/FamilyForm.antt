@@ -11,8 +11,8 @@ abbrev pub afi : AddressFamily → List ℕ
 afi Ipv4 = 0 ∷ 1 ∷ []
 afi Ipv6 = 0 ∷ 2 ∷ []
 
--- An OCTET STRING of it. RFC 3779 allows a third octet, the subsequent address family identifier; that there is none
--- is this project's own.
+-- An OCTET STRING of it. RFC 3779 allows a third octet, the subsequent address family identifier;
+-- that there is none is this project's own.
 abbrev pub FamilyForm : Mode → List ℕ → AddressFamily → Type 0
 FamilyForm mode octets family = OctetString mode 32 octets (afi family)
 
@@ -20,8 +20,10 @@ FamilyForm mode octets family = OctetString mode 32 octets (afi family)
 unfoldable pub family_of : List ℕ → Option AddressFamily
 family_of [] = None
 family_of (a ∷ []) = None
-family_of (a ∷ b ∷ []) = if a == 0 then (if b == 1 then Some Ipv4 else if b == 2 then Some Ipv6 else None) else None
+family_of (a ∷ b ∷ []) =
+    if a == 0 then (if b == 1 then Some Ipv4 else if b == 2 then Some Ipv6 else None) else None
 family_of (a ∷ b ∷ c ∷ rest) = None
 
 unfoldable pub family_at : Parser AddressFamily
-family_at mode bytes = octets_at 32 mode bytes >>= λ string. (family_of string.0 >>= λ family. Some (family, string.1))
+family_at mode bytes =
+    octets_at 32 mode bytes >>= λ string. (family_of string.0 >>= λ family. Some (family, string.1))

@@ -17,7 +17,8 @@ bit_count bits = 8 * length bits.0 - bits.1
 abbrev pub bit_value : List ℕ × ℕ → ℕ
 bit_value bits = number 0 bits.0 / 2 ^ bits.1
 
--- the lowest address that begins with the bits: zeros follow them, up to 128 bits (RFC 3779, 2.1.1 and 2.1.2)
+-- the lowest address that begins with the bits: zeros follow them, up to 128 bits (RFC 3779, 2.1.1
+-- and 2.1.2)
 abbrev pub lowest : List ℕ × ℕ → ℕ
 lowest bits = bit_value bits * 2 ^ (128 - bit_count bits)
 
@@ -39,11 +40,12 @@ abbrev pub PrefixForm : AddressFamily → Mode → List ℕ → Network → Type
 PrefixForm family mode octets prefix =
     (bits : List ℕ × ℕ) × IpAddress mode (max_bits family) octets bits × (prefix ≡ network bits)
 
--- IPAddressRange: a SEQUENCE of the lower end and the upper end (2.2.3.9), where the lower one is not above the upper
--- one
+-- IPAddressRange: a SEQUENCE of the lower end and the upper end (2.2.3.9), where the lower one is
+-- not above the upper one
 abbrev pub IpRange : Mode → ℕ → List ℕ → Block ℕ → Type 0
 IpRange mode most octets b = Within mode 0x30 (λ c.
-    (lower : List ℕ × ℕ) × (upper : List ℕ × ℕ) × (first : List ℕ) × (second : List ℕ) × (c ≡ first ++ second)
+    (lower : List ℕ × ℕ) × (upper : List ℕ × ℕ) × (first : List ℕ) × (second : List ℕ)
+    × (c ≡ first ++ second)
     × IpAddress mode most first lower × IpAddress mode most second upper
     × (b ≡ record { min = lowest lower; max = highest upper }) × (b.min ≤ b.max)) octets
 
@@ -56,8 +58,10 @@ IpPrefix mode most octets b = (bits : List ℕ × ℕ) × IpAddress mode most oc
 abbrev pub IpPrefixOrRange : Mode → ℕ → List ℕ → Block ℕ → Type 0
 IpPrefixOrRange mode most octets b = IpRange mode most octets b ⊎ IpPrefix mode most octets b
 
--- addressesOrRanges: a SEQUENCE of them (2.2.3.6). In RFC 3779 they ascend, and no two of them overlap or touch. Here
--- they may stand in any order, overlap, and be none, which is this project's own.
+-- addressesOrRanges: a SEQUENCE of them (2.2.3.6). In RFC 3779 they ascend, and no two of them
+-- overlap or touch. Here they may stand in any order, overlap, and be none, which is this project's
+-- own.
 abbrev pub IpForm : AddressFamily → Mode → List ℕ → List (Block ℕ) → Type 0
 IpForm family mode octets set = Within mode 0x30 (λ c.
-    (list : List (Block ℕ)) × Items (IpPrefixOrRange mode (max_bits family)) c list × IsSetOf list set) octets
+    (list : List (Block ℕ)) × Items (IpPrefixOrRange mode (max_bits family)) c list
+    × IsSetOf list set) octets

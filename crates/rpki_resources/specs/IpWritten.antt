@@ -11,7 +11,8 @@ octet_count len = (len + 7) / 8
 
 -- the first bits of an address, so many of them, as the contents of a BIT STRING
 unfoldable pub first_bits : ℕ → ℕ → List ℕ
-first_bits addr len = bit_string_contents (take (octet_count len) (to_be_bytes w128 addr)) (8 * octet_count len - len)
+first_bits addr len =
+    bit_string_contents (take (octet_count len) (to_be_bytes w128 addr)) (8 * octet_count len - len)
 
 -- the same as a value
 abbrev pub end_octets : ℕ → ℕ → List ℕ
@@ -24,7 +25,8 @@ lower_len addr = 128 - trailing_zeros w128 addr
 abbrev pub upper_len : ℕ → ℕ
 upper_len addr = 128 - trailing_ones w128 addr
 
--- the addresses of a prefix are a BIT STRING of its bits, and others a SEQUENCE of the lower end and the upper end
+-- the addresses of a prefix are a BIT STRING of its bits, and others a SEQUENCE of the lower end
+-- and the upper end
 abbrev pub tag_by : Option ℕ → ℕ
 tag_by (Some len) = 0x03
 tag_by None = 0x30

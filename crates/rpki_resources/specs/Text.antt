@@ -16,9 +16,10 @@ use Rattle.rpki_resources.specs.declared.resources.BlocksError.TheVariants.{Inhe
 abbrev pub groups_of : ℕ → List ℕ
 groups_of addr = segments_of (to_be_bytes w128 addr)
 
--- An IPv4 address: the four octets of the upper 32 bits, in decimal, with dots. An IPv6 address: its groups in lower
--- hexadecimal, with colons and the longest run of zeros shortened (RFC 5952, section 4). That none has a dotted part,
--- which section 5 recommends for mapped addresses, is this project's own.
+-- An IPv4 address: the four octets of the upper 32 bits, in decimal, with dots. An IPv6 address:
+-- its groups in lower hexadecimal, with colons and the longest run of zeros shortened (RFC 5952,
+-- section 4). That none has a dotted part, which section 5 recommends for mapped addresses, is this
+-- project's own.
 abbrev pub addr_text : AddressFamily → ℕ → List ℕ
 addr_text Ipv4 addr = ipv4_text (to_be_bytes w32 (addr / 2 ^ 96))
 addr_text Ipv6 addr = hex_groups_text (groups_of addr)

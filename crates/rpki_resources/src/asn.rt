@@ -219,8 +219,8 @@ impl<'a> Iterator for AsBlocksIter<'a> {
 pub type AsBlocksBuilder = BlocksBuilder<Asn>;
 
 impl BlocksBuilder<Asn> {
-    /// Adds a block, whose lower end is not above its upper end. Where there is no memory for it, the
-    /// builder stays as it was.
+    /// Adds a block, whose lower end is not above its upper end. Where there is no memory for it,
+    /// the builder stays as it was.
     pub fn push(&mut self, block: AsBlock) -> Result<(), AllocError>
         requires { IsBlock (λ n. n) (as_range block) }
         ensures ok { OnOk result (self.new ≡ self.old ++ as_range block ∷ []) }

@@ -77,7 +77,8 @@ impl<T: Number> Blocks<T> {
         covers(self.as_slice(), other.as_slice())
     }
 
-    /// The numbers that are in both sets. Where there is no memory for them, the answer is an error.
+    /// The numbers that are in both sets. Where there is no memory for them, the answer is an
+    /// error.
     pub fn intersection(&self, other: &Self) -> Result<Self, AllocError>
         ensures numbers { IfOk result (λ v. IsIntersection T.number self.now other.now v) }
         ensures canonical { IfOk result (IsCanonical T.number) }
@@ -99,8 +100,8 @@ impl<T: Number> Blocks<T> {
         Ok(())
     }
 
-    /// The numbers that are in one of the two sets or in both. Where there is no memory for them, the
-    /// answer is an error.
+    /// The numbers that are in one of the two sets or in both. Where there is no memory for them,
+    /// the answer is an error.
     pub fn union(&self, other: &Self) -> Result<Self, AllocError>
         ensures numbers { IfOk result (λ v. IsUnion T.number self.now other.now v) }
         ensures canonical { IfOk result (IsCanonical T.number) }
@@ -198,7 +199,8 @@ impl<T: Number> BlocksBuilder<T> {
         Ok(())
     }
 
-    /// Adds the numbers of a set. Where there is no memory for its blocks, the builder stays as it was.
+    /// Adds the numbers of a set. Where there is no memory for its blocks, the builder stays as it
+    /// was.
     pub fn push_set(&mut self, set: &Blocks<T>) -> Result<(), AllocError>
         ensures ok { OnOk result (self.new ≡ self.old ++ set.now) }
         ensures err { OnErr result (self.new ≡ self.old) }

@@ -60,7 +60,8 @@ pub type AddressFamilyEncoder = Value<Raw<'static>>;
 
 impl AddressFamily {
     /// Reads a family: an OCTET STRING of the two octets 00 01 for IPv4, or 00 02 for IPv6 (RFC
-    /// 3779, section 2.2.3.3). Another family is `Malformed`, as is what is no such string. `Memory`
+    /// 3779, section 2.2.3.3). Another family is `Malformed`, as is what is no such string.
+    /// `Memory`
     /// may come too, since in BER the string may be in pieces.
     pub fn take_from(
         alloc: Global,

@@ -113,11 +113,13 @@ pub fn ip_sets_are_written_again()
         ≡ Some (set, rest) }
 {}
 
-/// Of a set that is made of blocks of a family, each block is of that family: of a set that is built
+/// Of a set that is made of blocks of a family, each block is of that family: of a set that is
+/// built
 /// of blocks which were added, of the numbers that are in one of two sets or in both, and of those
 /// that are in both. So what `IpBlocksBuilder::finalize`, `IpBlocks::union` and
 /// `IpBlocks::intersection_assign` make of such blocks is written in the form of the family
-/// (`IpBlocks::encode_ref`). The addresses of a prefix are such a block where the prefix has no more
+/// (`IpBlocks::encode_ref`). The addresses of a prefix are such a block where the prefix has no
+/// more
 /// bits than an address of the family (`Prefix::range`).
 pub fn sets_of_a_family()
     ensures built { (family : AddressFamily) (list set : List (Block ℕ)) →

@@ -74,7 +74,8 @@ impl Blocks<Addr> {
         IpBlocksIter(self.as_slice())
     }
 
-    /// Whether each address of the block, whose lower end is not above its upper end, is in the set.
+    /// Whether each address of the block, whose lower end is not above its upper end, is in the
+    /// set.
     pub fn contains_block(&self, block: IpBlock) -> bool
         requires { IsBlock (λ n. n) (ip_range block) }
         ensures { IsTrue result ↔ Covers (λ n. n) self.now (ip_range block ∷ []) }
@@ -127,8 +128,8 @@ impl<'a> Iterator for IpBlocksIter<'a> {
 pub type IpBlocksBuilder = BlocksBuilder<Addr>;
 
 impl BlocksBuilder<Addr> {
-    /// Adds a block, whose lower end is not above its upper end. Where there is no memory for it, the
-    /// builder stays as it was.
+    /// Adds a block, whose lower end is not above its upper end. Where there is no memory for it,
+    /// the builder stays as it was.
     pub fn push(&mut self, block: IpBlock) -> Result<(), AllocError>
         requires { IsBlock (λ n. n) (ip_range block) }
         ensures ok { OnOk result (self.new ≡ self.old ++ ip_range block ∷ []) }

@@ -150,11 +150,11 @@ fn take_set(
 }
 
 impl Blocks<Addr> {
-    /// Reads a set of addresses of the family: a SEQUENCE OF of prefixes and ranges, in any
-    /// order, which may overlap, and of which there may be none (RFC 3779, sections 2.2.3.6 to
-    /// 2.2.3.9). The lower end of a range above its upper end is `Malformed`, and so are more bits
-    /// than an address of the family has, and all else that is no such set. Where there is no memory
-    /// for the blocks, the answer is `Memory`.
+    /// Reads a set of addresses of the family: a SEQUENCE OF of prefixes and ranges, in any order,
+    /// which may overlap, and of which there may be none (RFC 3779, sections 2.2.3.6 to 2.2.3.9).
+    /// The lower end of a range above its upper end is `Malformed`, and so are more bits than an
+    /// address of the family has, and all else that is no such set. Where there is no memory for
+    /// the blocks, the answer is `Memory`.
     pub fn take_from(
         alloc: Global,
         cons: &mut Constructed<'_>,
@@ -205,9 +205,9 @@ impl Blocks<Addr> {
     ///
     /// A SEQUENCE of these contents is a set of the family in DER, and this one, where the ends are
     /// those of addresses of the family; for IPv6 they always are. A set that was read is so
-    /// (`forms::ip_sets_are_written_again`), and so is one that was built, united or met of blocks of
-    /// the family (`forms::sets_of_a_family`). Of a set of other blocks octets are written that are
-    /// no set of the family: for IPv4 with more than 32 bits.
+    /// (`forms::ip_sets_are_written_again`), and so is one that was built, united or met of blocks
+    /// of the family (`forms::sets_of_a_family`). Of a set of other blocks octets are written that
+    /// are no set of the family: for IPv4 with more than 32 bits.
     pub fn encode_ref(&self, family: AddressFamily) -> IpBlocksEncoder<'_>
         ensures blocks { result.0.now ≡ self.now }
         ensures addresses { All (IsWithin Ipv6) self.now }

@@ -285,8 +285,8 @@ impl<T: Number> ResourcesBuilder<T> {
 
 impl ResourcesBuilder<Asn> {
     /// Adds the blocks that `op` adds to those that are there. What was inherited is inherited no
-    /// longer. `op` is one that may be called on every builder, and is lent a copy. Where it answers
-    /// an error, or there is no memory for the copy, the builder stays as it was.
+    /// longer. `op` is one that may be called on every builder, and is lent a copy. Where it
+    /// answers an error, or there is no memory for the copy, the builder stays as it was.
     pub fn blocks<F: FnOnce(&mut AsBlocksBuilder) -> Result<(), AllocError>>(
         &mut self,
         op: F,
@@ -306,8 +306,8 @@ impl ResourcesBuilder<Asn> {
 
 impl ResourcesBuilder<Addr> {
     /// Adds the blocks that `op` adds to those that are there. What was inherited is inherited no
-    /// longer. `op` is one that may be called on every builder, and is lent a copy. Where it answers
-    /// an error, or there is no memory for the copy, the builder stays as it was.
+    /// longer. `op` is one that may be called on every builder, and is lent a copy. Where it
+    /// answers an error, or there is no memory for the copy, the builder stays as it was.
     pub fn blocks<F: FnOnce(&mut IpBlocksBuilder) -> Result<(), AllocError>>(
         &mut self,
         op: F,

@@ -18,8 +18,7 @@ const LINE: usize = 195;
 const DIGITS: usize = 64;
 
 /// A list of verdicts: the triples of a key, a message and a signature to which the answer is yes.
-/// To every other triple
-/// it is no. It borrows its text, and takes no memory.
+/// To every other triple it is no. It borrows its text, and takes no memory.
 #[derive(Drop)]
 pub struct Verdicts<'a> {
     lines: &'a [[u8; LINE]],
@@ -35,10 +34,8 @@ impl<'a> Model for Verdicts<'a> {
 
 impl<'a> Verdicts<'a> {
     /// The verdicts that a text lists, or `None` where it is no list of verdicts. Each line has the
-    /// SHA-256 digests of a
-    /// key, of a message and of a signature, in 64 lower hexadecimal digits each, with one space
-    /// between them and LF at
-    /// the end. The empty text is a list of none.
+    /// SHA-256 digests of a key, of a message and of a signature, in 64 lower hexadecimal digits
+    /// each, with one space between them and LF at the end. The empty text is a list of none.
     pub fn read(text: &'a [u8]) -> Option<Verdicts<'a>>
         ensures { MatchOption result ((lines : List (List ℕ)) → AreVerdicts text.now lines → ⊥)
             (AreVerdicts text.now) }

@@ -1,11 +1,12 @@
 //! Laws of sets of numbers, for AS numbers and addresses alike.
 //!
-//! They speak of lists of blocks. Where a set is canonical, as each one of `Blocks` is, it is one list
-//! alone (`same_blocks`), so that what holds of its numbers holds of the list.
+//! They speak of lists of blocks. Where a set is canonical, as each one of `Blocks` is, it is one
+//! list alone (`same_blocks`), so that what holds of its numbers holds of the list.
 
 ghost use Rattle.std.specs.Prelude.{◌≡◌, [], List};
 ghost use Rattle.rpki_resources.specs.declared.block.Block.{Block};
-ghost use Rattle.rpki_resources.specs.Blocks.{Covers, IsCanonical, IsIntersection, IsUnion, SameSet};
+ghost use Rattle.rpki_resources.specs.Blocks.{Covers, IsCanonical, IsIntersection, IsUnion};
+ghost use Rattle.rpki_resources.specs.Blocks.{SameSet};
 
 use crate::number::Number;
 

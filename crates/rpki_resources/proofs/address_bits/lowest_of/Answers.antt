@@ -5,17 +5,31 @@ use Rattle.rpki_resources.proofs.address_bits.lowest_of.Goals as goal
 
 pub returns-else-len-eq0-clause-value : goal.returns-else-len-eq0-clause-value
 returns-else-len-eq0-clause-value c =
-    let below = value_below (length c.args.octets.now) c.args.unused c.value_of.result c.requires.few c.value_of.ensures.small in
-    rw c.bit_count-len.ensures (rw (shift_whole (c.value_of.result / 2 ^ c.args.unused) (8 * length c.args.octets.now - c.args.unused) below c.requires.most) (rw c.value_of.ensures.value refl))
+    let below = value_below
+    (length c.args.octets.now)
+    c.args.unused c.value_of.result c.requires.few c.value_of.ensures.small in
+    rw c.bit_count-len.ensures
+    (rw (shift_whole (c.value_of.result / 2 ^ c.args.unused)
+    (8 * length c.args.octets.now - c.args.unused) below c.requires.most)
+    (rw c.value_of.ensures.value refl))
 
 pub returns-else-len-eq0-clause-room : goal.returns-else-len-eq0-clause-room
 returns-else-len-eq0-clause-room c =
-    let below = value_below (length c.args.octets.now) c.args.unused c.value_of.result c.requires.few c.value_of.ensures.small in
-    rw c.bit_count-len.ensures (rw (shift_whole (c.value_of.result / 2 ^ c.args.unused) (8 * length c.args.octets.now - c.args.unused) below c.requires.most) (room_below (c.value_of.result / 2 ^ c.args.unused) (8 * length c.args.octets.now - c.args.unused) below c.requires.most))
+    let below = value_below
+    (length c.args.octets.now)
+    c.args.unused c.value_of.result c.requires.few c.value_of.ensures.small in
+    rw c.bit_count-len.ensures
+    (rw (shift_whole (c.value_of.result / 2 ^ c.args.unused)
+    (8 * length c.args.octets.now - c.args.unused) below c.requires.most)
+    (room_below (c.value_of.result / 2 ^ c.args.unused)
+    (8 * length c.args.octets.now - c.args.unused) below c.requires.most))
 
 pub returns-else-len-eq0-clause-aligned : goal.returns-else-len-eq0-clause-aligned
 returns-else-len-eq0-clause-aligned c =
-    let below = value_below (length c.args.octets.now) c.args.unused c.value_of.result c.requires.few c.value_of.ensures.small in
+    let below = value_below
+    (length c.args.octets.now)
+    c.args.unused c.value_of.result c.requires.few c.value_of.ensures.small in
     let bits : ℕ = 8 * length c.args.octets.now - c.args.unused in
-    rw c.bit_count-len.ensures (rw (shift_whole (c.value_of.result / 2 ^ c.args.unused) bits below c.requires.most)
+    rw c.bit_count-len.ensures
+    (rw (shift_whole (c.value_of.result / 2 ^ c.args.unused) bits below c.requires.most)
     (mul-mod_left (c.value_of.result / 2 ^ c.args.unused) (2 ^ (128 - bits))))

@@ -5,4 +5,6 @@ pub returns-clause-below : goal.returns-clause-below
 returns-clause-below c = set-below
 
 pub returns-clause-read : goal.returns-clause-read
-returns-clause-read c = λ mode again octets set rest h l. as_read again set rest h.2.2.canonical (set-below mode octets set h) l
+returns-clause-read c =
+    λ mode again octets set rest h l. as_read again set rest h.2.2.canonical
+    (set-below mode octets set h) l

@@ -6,4 +6,6 @@ pub returns-clause-within : goal.returns-clause-within
 returns-clause-within c = set-within
 
 pub returns-clause-read : goal.returns-clause-read
-returns-clause-read c = λ family mode again octets set rest bytes h l. ip_read family again set rest h.2.2.canonical (set-within family mode octets set bytes h) l
+returns-clause-read c =
+    λ family mode again octets set rest bytes h l. ip_read family again set rest h.2.2.canonical
+    (set-within family mode octets set bytes h) l

@@ -1,12 +1,16 @@
 use Rattle.std.proofs.Common.{ℕ, ◌-◌, sym, ◌∙◌, rules, arith}
 use Rattle.std.specs.Int.Count.{count_leading_zeros}
 use Rattle.rpki_resources.specs.Prefix.{IsPrefix}
-use Rattle.rpki_resources.proofs.PrefixLengths.{prefix_leading, prefix_len_some, prefix_len_none, prefix_order}
+use Rattle.rpki_resources.proofs.PrefixLengths.{prefix_leading, prefix_len_some, prefix_len_none}
+use Rattle.rpki_resources.proofs.PrefixLengths.{prefix_order}
 use Rattle.rpki_resources.proofs.prefix.len_of.Goals as goal
-use Rattle.rpki_resources.proofs.prefix.len_of.Goals.{else-host-host_mask-via-then-host-host_mask+else-host_part-eq0, else-host-host_mask-via-else-host-host_mask}
+use Rattle.rpki_resources.proofs.prefix.len_of.Goals.{else-host-host_mask-via-then-host-host_mask+else-host_part-eq0}
+use Rattle.rpki_resources.proofs.prefix.len_of.Goals.{else-host-host_mask-via-else-host-host_mask}
 
 pub returns-then-host_part-eq0-clause-value : goal.returns-then-host_part-eq0-clause-value
-returns-then-host_part-eq0-clause-value c = let p : IsPrefix c.args.min c.args.max (count_leading_zeros 128 (c.args.max - c.args.min)) = search rules in sym (prefix_len_some _ _ _ p)
+returns-then-host_part-eq0-clause-value c =
+    let p : IsPrefix c.args.min c.args.max (count_leading_zeros 128 (c.args.max - c.args.min)) =
+    search rules in sym (prefix_len_some _ _ _ p)
 
 -- no prefix has these addresses
 none : (c : goal.Joined-else-host-host_mask) (len : ℕ) → IsPrefix c.args.min c.args.max len → ⊥
@@ -31,4 +35,5 @@ pub returns-then-max-min-clause-none : goal.returns-then-max-min-clause-none
 returns-then-max-min-clause-none c = λ len p. let l = prefix_order _ _ len p in absurd (omega arith)
 
 pub returns-then-max-min-clause-value : goal.returns-then-max-min-clause-value
-returns-then-max-min-clause-value c = sym (prefix_len_none _ _ (λ len p. let l = prefix_order _ _ len p in absurd (omega arith)))
+returns-then-max-min-clause-value c =
+    sym (prefix_len_none _ _ (λ len p. let l = prefix_order _ _ len p in absurd (omega arith)))

@@ -6,5 +6,6 @@ use Rattle.rpki_resources.proofs.asn.BlocksBuilder+Asn.extend.Goals as goal
 
 pub append-requires : goal.append-requires
 append-requires g c =
-    let each : All (λ b. IsBlock (λ n. n) (as_range b)) c.loop-block.yielded = search (rules, c.requires.ordered) in
+    let each : All (λ b. IsBlock (λ n. n) (as_range b)) c.loop-block.yielded =
+    search (rules, c.requires.ordered) in
     rw c.loop-block.invariant (All-map as_range (IsBlock (λ n. n)) c.loop-block.yielded each)

@@ -16,4 +16,6 @@ invariant_of-self g c =
     let f = g.T.Number.number in
     all_extended (λ b. f b.min ≤ f b.max) c.self.inside.items.items c.as_slice.result.now
     c.extend_from_slice.new.self.items _ c.extend_from_slice.ensures.items c.self.invariant
-    (rises_valid f 0 c.as_slice.result.now (subst (λ bs. IsCanonical f bs) (sym c.as_slice.ensures.blocks) c.as_slice.ensures.canonical))
+    (rises_valid f 0 c.as_slice.result.now
+    (subst (λ bs. IsCanonical f bs)
+    (sym c.as_slice.ensures.blocks) c.as_slice.ensures.canonical))
