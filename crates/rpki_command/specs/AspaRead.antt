@@ -41,6 +41,7 @@ are_providers customer providers =
 abbrev pub providers_at : ℕ → Parser (List ℕ)
 providers_at customer = tested (are_providers customer) (many (optional INTEGER u32_at))
 
+-- the version, the customer and the providers
 unfoldable pub fields_at : Parser Aspa
 fields_at mode bytes = do
   version ← in_value (context 0) (primitive INTEGER (this 1)) mode bytes

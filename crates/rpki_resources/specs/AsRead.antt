@@ -16,6 +16,7 @@ abbrev pub only : Option ℕ → Option (Block ℕ)
 only None = None
 only (Some n) = Some (record { min = n; max = n })
 
+-- an AS number, as a block of this one number
 unfoldable pub as_id_at : Parser (Option (Block ℕ))
 as_id_at mode bytes = optional 0x02 u32_at mode bytes >>= λ n. Some (only n.0, n.1)
 
@@ -27,5 +28,6 @@ as_item_at = either (optional 0x30 (in_value 0x30 as_ends_at)) as_id_at
 unfoldable pub as_items_at : Parser (List (Block ℕ))
 as_items_at mode bytes = many as_item_at mode bytes >>= λ list. Some (joined list.0, list.1)
 
+-- a SEQUENCE OF AS numbers and ranges, as the set of their numbers
 abbrev pub as_blocks_at : Parser (List (Block ℕ))
 as_blocks_at = in_value 0x30 as_items_at

@@ -16,5 +16,6 @@ as_octets b = if b.min == b.max then number_octets b.min else value_octets 0x30 
 abbrev pub IsAsShort : Block ℕ → Type 0
 IsAsShort b = (b.min == b.max) ≡ false → length (as_ends b) < 2 ^ 32
 
+-- A block of AS numbers that is written in fewer than 2^32 octets has no longer contents.
 pub as_small : (b : Block ℕ) → length (as_octets b) < 2 ^ 32 → IsAsShort b
 as_small b h = λ e. contents_small 0x30 (as_ends b) (rw e at h)

@@ -31,6 +31,7 @@ abbrev pub RisesFrom : {T : Type 0} → (T → ℕ) → ℕ → List (Block T) �
 RisesFrom f a [] = Unit {0}
 RisesFrom f a (b ∷ bs) = (a ≤ f b.min) × (f b.min ≤ f b.max) × RisesFrom f (f b.max + 2) bs
 
+-- The blocks ascend, no block is empty, and at least one number lies between two of them.
 abbrev pub IsCanonical : {T : Type 0} → (T → ℕ) → List (Block T) → Type 0
 IsCanonical f bs = RisesFrom f 0 bs
 

@@ -24,6 +24,7 @@ family_of (a ∷ b ∷ []) =
     if a == 0 then (if b == 1 then Some Ipv4 else if b == 2 then Some Ipv6 else None) else None
 family_of (a ∷ b ∷ c ∷ rest) = None
 
+-- an address family, as the OCTET STRING of its two octets
 unfoldable pub family_at : Parser AddressFamily
 family_at mode bytes =
     octets_at 32 mode bytes >>= λ string. (family_of string.0 >>= λ family. Some (family, string.1))

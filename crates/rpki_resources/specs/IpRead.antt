@@ -35,10 +35,12 @@ prefix_of most contents =
     bits_of contents >>= λ bits. if nat_le (bit_count bits) most then Some
     (spanned bits bits) else None
 
+-- the addresses that begin with these bits, where they are not more than the family has
 abbrev pub prefix_in : ℕ → Option (List ℕ) → List ℕ → Option (Option (Block ℕ) × List ℕ)
 prefix_in most None rest = Some (None, rest)
 prefix_in most (Some contents) rest = prefix_of most contents >>= λ b. Some (Some b, rest)
 
+-- a prefix, as the block of its addresses
 unfoldable pub ip_prefix_at : ℕ → Parser (Option (Block ℕ))
 ip_prefix_at most mode bytes =
     optional 0x03 (primitive 0x03 Some) mode bytes >>= λ c. prefix_in most c.0 c.1
@@ -52,5 +54,6 @@ unfoldable pub ip_items_at : ℕ → Parser (List (Block ℕ))
 ip_items_at most mode bytes =
     many (ip_item_at most) mode bytes >>= λ list. Some (joined list.0, list.1)
 
+-- a SEQUENCE OF prefixes and ranges, as the set of their addresses
 abbrev pub ip_blocks_at : ℕ → Parser (List (Block ℕ))
 ip_blocks_at most = in_value 0x30 (ip_items_at most)

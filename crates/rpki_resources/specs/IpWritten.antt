@@ -22,6 +22,7 @@ end_octets addr len = value_octets 0x03 (first_bits addr len)
 abbrev pub lower_len : ℕ → ℕ
 lower_len addr = 128 - trailing_zeros w128 addr
 
+-- the number of bits of an upper end without its trailing ones
 abbrev pub upper_len : ℕ → ℕ
 upper_len addr = 128 - trailing_ones w128 addr
 
@@ -31,12 +32,16 @@ abbrev pub tag_by : Option ℕ → ℕ
 tag_by (Some len) = 0x03
 tag_by None = 0x30
 
+-- the contents of a block of addresses, where its length as a prefix is known, if it is one
 abbrev pub contents_by : Option ℕ → Block ℕ → List ℕ
 contents_by (Some len) b = first_bits b.min len
 contents_by None b = end_octets b.min (lower_len b.min) ++ end_octets b.max (upper_len b.max)
 
+-- the contents of the value that a block of addresses is written as
 abbrev pub ip_contents : Block ℕ → List ℕ
 ip_contents b = contents_by (prefix_len b.min b.max) b
 
+-- the value that a block of addresses is written as: a prefix, or a range (RFC 3779, 2.2.3.7 to
+-- 2.2.3.9)
 abbrev pub ip_octets : Block ℕ → List ℕ
 ip_octets b = value_octets (tag_by (prefix_len b.min b.max)) (ip_contents b)
