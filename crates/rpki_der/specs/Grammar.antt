@@ -118,6 +118,7 @@ IsBoolean Der contents b =
 IsBoolean Ber contents b = (octet : ℕ) × (contents ≡ octet ∷ [])
     × (((octet ≡ 0) × (b ≡ false)) ⊎ ((octet ≢ 0) × (b ≡ true)))
 
+-- a BOOLEAN that is b (8.2)
 abbrev pub Boolean : Mode → List ℕ → Bool → Type 0
 Boolean mode octets b = Within mode BOOLEAN (λ c. IsBoolean mode c b) octets
 
@@ -134,6 +135,7 @@ ObjectIdentifier mode octets oid = Within mode OBJECT_IDENTIFIER (λ c. (c ≡ o
 abbrev pub IsBitString : List ℕ → List ℕ × ℕ → Type 0
 IsBitString contents bits = (contents ≡ bits.1 ∷ bits.0) × IsBits bits.0 bits.1
 
+-- a BIT STRING of these octets and this number of unused bits (8.6)
 abbrev pub BitString : Mode → List ℕ → List ℕ × ℕ → Type 0
 BitString mode octets bits = Within mode BIT_STRING (λ c. IsBitString c bits) octets
 

@@ -27,6 +27,7 @@ arcs_of [] = []
 arcs_of (x ∷ xs) = if nat_lt x 40 then 0 ∷ x ∷ xs else if nat_lt x 80 then 1 ∷
     (x - 40) ∷ xs else 2 ∷ (x - 80) ∷ xs
 
+-- the arcs that the contents of an OBJECT IDENTIFIER name (X.690, section 8.19)
 abbrev pub arcs : List ℕ → List ℕ
 arcs contents = arcs_of (subidentifiers 0 contents)
 

@@ -64,8 +64,8 @@ pub fn booleans()
     ensures { IsReading boolean_at Boolean }
 {}
 
-/// A BOOLEAN that is false where it is left out (X.690, sections 8.2 and 11.1). An explicit false is
-/// taken in both modes, against section 11.5, which is this project's own rule.
+/// A BOOLEAN that is false where it is left out (X.690, sections 8.2 and 11.1). An explicit false
+/// is taken in both modes, against section 11.5, which is this project's own rule.
 pub fn flags()
     ensures { IsPart (is BOOLEAN) (is BOOLEAN) (default_at false BOOLEAN boolean_at)
         (λ mode. Default false (Boolean mode)) }

@@ -1,21 +1,25 @@
 -- Sets of AS numbers are read exactly.
-use Rattle.std.proofs.Common.{◌≡◌, ℕ, ◌<◌, ◌≤◌, ◌^◌, true, List, [], ◌++◌, Option, Some, None, inl, inr, refl, sym, ap, subst, ◌∙◌, arith}
+use Rattle.std.proofs.Common.{◌≡◌, ℕ, ◌<◌, ◌≤◌, ◌^◌, true, List, [], ◌++◌, Option, Some, None, inl}
+use Rattle.std.proofs.Common.{inr, refl, sym, ap, subst, ◌∙◌, arith}
 use Rattle.std.specs.Prelude.{nat_le}
 use Rattle.std.proofs.lemmas.Bool.{leb-true, le-leb}
 use Rattle.std.proofs.lemmas.List.{append-nil}
 use Rattle.rpki_der.specs.declared.mode.Mode.{Mode}
 use Rattle.rpki_der.specs.Read.Parse.{in_value, u32_at, unsigned_of, optional}
-use Rattle.rpki_der.specs.Grammar.{IsExact, Items, IsInteger, anything}
+use Rattle.rpki_der.specs.Read.Exact.{IsExact, anything}
+use Rattle.rpki_der.specs.Grammar.{Items, IsInteger}
 use Rattle.rpki_der.proofs.Reading.Lengths.{bind_some, some_is}
-use Rattle.rpki_der.proofs.Reading.Exact.{the_end, exact-then, exact-done, exact-guard, exact-in, exact-as, exact-before}
+use Rattle.rpki_der.proofs.Reading.Exact.{the_end, exact-then, exact-done, exact-guard, exact-in}
+use Rattle.rpki_der.proofs.Reading.Exact.{exact-as, exact-before}
 use Rattle.rpki_der.proofs.Reading.Integers.{exact-u32}
-use Rattle.rpki_der.proofs.Reading.Many.{primitive-shorter}
-use Rattle.rpki_der.proofs.Reading.Lists.{begins-within}
+use Rattle.rpki_der.proofs.Reading.Many.{primitive-shorter, in_value-shorter}
+use Rattle.rpki_der.proofs.Reading.Lists.{begins-within, ReadsOne, Passes, reads-optional}
+use Rattle.rpki_der.proofs.Reading.Lists.{reads-either}
 use Rattle.rpki_resources.specs.declared.block.Block.{Block}
 use Rattle.rpki_resources.specs.Blocks.{IsSetOf}
 use Rattle.rpki_resources.specs.AsForm.{AsId, AsRange, AsIdOrRange, AsForm}
-use Rattle.rpki_resources.specs.AsRead.{as_ends_at, only, as_id_at, as_item_at, as_items_at, as_blocks_at}
-use Rattle.rpki_resources.proofs.Each.{ReadsOne, Passes, in_value-shorter, reads-optional, reads-either}
+use Rattle.rpki_resources.specs.AsRead.{as_ends_at, only, as_id_at, as_item_at, as_items_at}
+use Rattle.rpki_resources.specs.AsRead.{as_blocks_at}
 use Rattle.rpki_resources.proofs.Listed.{listed-exact}
 
 -- ---- the ends of a range

@@ -1,5 +1,6 @@
 -- What calls of a reader tell.
-use Rattle.std.proofs.Common.{◌≡◌, ℕ, ◌<◌, List, length, Option, Some, None, Result, Ok, Err, refl, sym, ◌∙◌}
+use Rattle.std.proofs.Common.{◌≡◌, ℕ, ◌<◌, List, length, Option, Some, None, Result, Ok, Err, refl}
+use Rattle.std.proofs.Common.{sym, ◌∙◌}
 use Rattle.std.specs.Prelude.{IfOk}
 use Rattle.rpki_der.specs.declared.mode.Mode.{Mode}
 use Rattle.rpki_der.specs.declared.error.DecodeError.{DecodeError}
@@ -7,7 +8,8 @@ use Rattle.rpki_der.specs.declared.error.DecodeError.TheVariants.{Malformed, Con
 use Rattle.rpki_der.specs.Read.State.{State}
 use Rattle.rpki_der.specs.Read.Parse.{Parser}
 use Rattle.rpki_der.specs.Read.Reads.{Reads, Answers, OkOrMemory}
-use Rattle.rpki_der.specs.Grammar.{Front, IsExact, IsBytes, anything}
+use Rattle.rpki_der.specs.Grammar.{Front, IsBytes}
+use Rattle.rpki_der.specs.Read.Exact.{IsExact, anything}
 use Rattle.rpki_der.proofs.Reading.Many.{Shortens}
 use Rattle.rpki_der.proofs.Reading.Calls.{reads-ok}
 

@@ -1,13 +1,17 @@
 -- As many as there are of several forms, up to the end, are read exactly.
-use Rattle.std.proofs.Common.{◌≡◌, ℕ, zero, suc, ◌<◌, Bool, true, false, cond, List, [], ◌∷◌, ◌++◌, length, Option, Some, None, ◌⊎◌, inl, inr, refl, sym, ap, subst, ◌∙◌, append_assoc, arith, eq-eqb}
+use Rattle.std.proofs.Common.{◌≡◌, ℕ, zero, suc, ◌<◌, Bool, true, false, cond, List, [], ◌∷◌, ◌++◌}
+use Rattle.std.proofs.Common.{length, Option, Some, None, ◌⊎◌, inl, inr, refl, sym, ap, subst, ◌∙◌}
+use Rattle.std.proofs.Common.{append_assoc, arith, eq-eqb}
 use Rattle.rpki_der.specs.declared.mode.Mode.{Mode}
-use Rattle.rpki_der.specs.Read.Parse.{Parser, with_front, go_on, up_to, many, optional, some_of, is_next, in_value, value_at, whole}
-use Rattle.rpki_der.specs.Grammar.{Front, IsExact, IsBytes, Items, anything}
+use Rattle.rpki_der.specs.Read.Parse.{Parser, with_front, go_on, up_to, many, optional, some_of}
+use Rattle.rpki_der.specs.Read.Parse.{is_next, in_value, value_at, whole, or_else, either}
+use Rattle.rpki_der.specs.Grammar.{Front, IsBytes, Items}
+use Rattle.rpki_der.specs.Read.Exact.{IsExact, anything}
 use Rattle.rpki_der.proofs.Reading.Lengths.{bind_some, some_is}
 use Rattle.rpki_der.proofs.Reading.Exact.{the_end, IsBytes-right}
-use Rattle.rpki_der.proofs.Reading.Many.{Shortens, many-end, many-more, optional-some, value-shorter}
+use Rattle.rpki_der.proofs.Reading.Many.{Shortens, many-end, many-more, optional-some}
+use Rattle.rpki_der.proofs.Reading.Many.{value-shorter}
 use Rattle.rpki_der.proofs.Reading.Lists.{Begins}
-use Rattle.rpki_resources.specs.Choice.{or_else, either}
 
 -- p reads one in G, if one is next
 pub record ReadsOne {X : Type 0} (p : List ℕ → Option (Option X × List ℕ)) (G : List ℕ → X → Type 0) : Type 0 where

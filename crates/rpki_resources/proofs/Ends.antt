@@ -1,7 +1,7 @@
 -- the octets of an end
 use Rattle.std.proofs.Common.{◌≡◌, ℕ, ◌-◌, ◌*◌, List, take, refl}
 use Rattle.std.specs.Int.{w128, to_be_bytes}
-use Rattle.rpki_der.specs.Written.{value_octets, bit_string_contents}
+use Rattle.rpki_der.specs.Write.Written.{value_octets, bit_string_contents}
 use Rattle.rpki_resources.specs.IpWritten.{octet_count, first_bits, end_octets}
 
 pub end_octets_of : (tag : ℕ) (octets : List ℕ) (unused n addr len : ℕ) → tag ≡ 3 → octets ≡ take n (to_be_bytes w128 addr) → n ≡ octet_count len → unused ≡ 8 * octet_count len - len

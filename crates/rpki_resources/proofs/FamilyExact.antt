@@ -1,10 +1,12 @@
 -- Address families are read exactly.
-use Rattle.std.proofs.Common.{◌≡◌, ℕ, List, [], ◌∷◌, ◌++◌, Some, None, Bool, true, false, cond, refl, ap, subst, ◌∙◌}
+use Rattle.std.proofs.Common.{◌≡◌, ℕ, List, [], ◌∷◌, ◌++◌, Some, None, Bool, true, false, cond}
+use Rattle.std.proofs.Common.{refl, ap, subst, ◌∙◌}
 use Rattle.std.specs.Prelude.{◌==◌}
 use Rattle.std.proofs.lemmas.Bool.{eqb-true}
 use Rattle.rpki_der.specs.declared.mode.Mode.{Mode}
 use Rattle.rpki_der.specs.Read.Parse.{octets_at}
-use Rattle.rpki_der.specs.Grammar.{IsExact, OctetString, anything}
+use Rattle.rpki_der.specs.Read.Exact.{IsExact, anything}
+use Rattle.rpki_der.specs.Grammar.{OctetString}
 use Rattle.rpki_der.proofs.Reading.Lengths.{bind_some, some_is}
 use Rattle.rpki_der.proofs.Reading.Strings.{exact-octets}
 use Rattle.rpki_resources.specs.declared.family.AddressFamily.{AddressFamily}

@@ -1,13 +1,16 @@
 -- the first bits of an address, as a BIT STRING of them and as a number
-use Rattle.std.proofs.Common.{◌≡◌, ℕ, zero, suc, ◌+◌, ◌-◌, ◌*◌, ◌/◌, ◌%◌, ◌^◌, ◌<◌, ◌≤◌, List, [], ◌∷◌, take, get_or, length, ap, refl, sym, subst, ◌∙◌, arith, add-one}
+use Rattle.std.proofs.Common.{◌≡◌, ℕ, zero, suc, ◌+◌, ◌-◌, ◌*◌, ◌/◌, ◌%◌, ◌^◌, ◌<◌, ◌≤◌, List, []}
+use Rattle.std.proofs.Common.{◌∷◌, take, get_or, length, ap, refl, sym, subst, ◌∙◌, arith, add-one}
 use Rattle.std.specs.Int.{w128, to_be_bytes, byte_at, bytes_high_first}
-use Rattle.std.proofs.lemmas.Nat.{pow-add, pow_pos, shr-shr, shl-shr, shr_split, shr_high, mod_below}
+use Rattle.std.proofs.lemmas.Nat.{pow-add, pow_pos, shr-shr, shl-shr, shr_split, shr_high}
+use Rattle.std.proofs.lemmas.Nat.{mod_below}
 use Rattle.std.proofs.lemmas.List.{length-take-le}
 use Rattle.rpki_der.specs.declared.mode.Mode.TheVariants.{Der}
 use Rattle.rpki_der.specs.Bits.{IsBits}
 use Rattle.rpki_der.specs.Grammar.{BitString}
-use Rattle.rpki_der.specs.Read.Parse.{number}
-use Rattle.rpki_der.specs.Written.{value_octets, zero_bits, zero_last, unused_bits, bit_string_contents, length_value_octets_le}
+use Rattle.rpki_der.specs.Numbers.{number}
+use Rattle.rpki_der.specs.Write.Written.{value_octets, zero_bits, zero_last, unused_bits}
+use Rattle.rpki_der.specs.Write.Written.{bit_string_contents, length_value_octets_le}
 use Rattle.rpki_der.proofs.Writing.Strings.{length_zero_last, bits-written, unused-same}
 use Rattle.rpki_resources.specs.IpForm.{bit_count, bit_value, lowest, highest}
 use Rattle.rpki_resources.specs.IpWritten.{octet_count, first_bits, end_octets}

@@ -1,5 +1,6 @@
 -- Sets of addresses are read exactly.
-use Rattle.std.proofs.Common.{◌≡◌, ℕ, ◌<◌, ◌≤◌, ◌^◌, Bool, true, false, List, [], ◌∷◌, ◌++◌, Option, Some, None, inl, inr, refl, sym, ap, subst, ◌∙◌, arith, cond, ◌-◌}
+use Rattle.std.proofs.Common.{◌≡◌, ℕ, ◌<◌, ◌≤◌, ◌^◌, Bool, true, false, List, [], ◌∷◌, ◌++◌, Option}
+use Rattle.std.proofs.Common.{Some, None, inl, inr, refl, sym, ap, subst, ◌∙◌, arith, cond, ◌-◌}
 use Rattle.std.specs.Prelude.{nat_le}
 use Rattle.std.proofs.lemmas.Bool.Decides.{nat_tests}
 use Rattle.std.proofs.lemmas.Nat.{pow_pos}
@@ -8,18 +9,22 @@ use Rattle.std.proofs.lemmas.List.{append-nil}
 use Rattle.rpki_der.specs.declared.mode.Mode.{Mode}
 use Rattle.rpki_der.specs.Read.Parse.{Parser, in_value, bits_at, bits_of, primitive, optional}
 use Rattle.rpki_der.specs.Bits.{IsBits, are_bits}
-use Rattle.rpki_der.specs.Grammar.{IsExact, Items, Within, BitString, IsBitString, anything}
+use Rattle.rpki_der.specs.Read.Exact.{IsExact, anything}
+use Rattle.rpki_der.specs.Grammar.{Items, Within, BitString, IsBitString}
 use Rattle.rpki_der.proofs.Reading.Lengths.{bind_some, some_is}
-use Rattle.rpki_der.proofs.Reading.Exact.{the_end, exact-then, exact-done, exact-guard, exact-in, exact-as, exact-before, exact-primitive}
-use Rattle.rpki_der.proofs.Reading.Many.{primitive-shorter}
-use Rattle.rpki_der.proofs.Reading.Lists.{begins-within}
+use Rattle.rpki_der.proofs.Reading.Exact.{the_end, exact-then, exact-done, exact-guard, exact-in}
+use Rattle.rpki_der.proofs.Reading.Exact.{exact-as, exact-before, exact-primitive}
+use Rattle.rpki_der.proofs.Reading.Many.{primitive-shorter, in_value-shorter}
+use Rattle.rpki_der.proofs.Reading.Lists.{begins-within, ReadsOne, Passes, reads-optional}
+use Rattle.rpki_der.proofs.Reading.Lists.{reads-either}
 use Rattle.rpki_resources.specs.declared.block.Block.{Block}
 use Rattle.rpki_resources.specs.declared.family.AddressFamily.{AddressFamily}
 use Rattle.rpki_resources.specs.Family.{max_bits}
 use Rattle.rpki_resources.specs.Blocks.{IsSetOf}
-use Rattle.rpki_resources.specs.IpForm.{bit_count, lowest, highest, IpAddress, IpRange, IpPrefix, IpPrefixOrRange, IpForm}
-use Rattle.rpki_resources.specs.IpRead.{ip_address_at, spanned, ip_ends_at, prefix_of, prefix_in, ip_prefix_at, ip_item_at, ip_items_at, ip_blocks_at}
-use Rattle.rpki_resources.proofs.Each.{ReadsOne, Passes, in_value-shorter, reads-optional, reads-either}
+use Rattle.rpki_resources.specs.IpForm.{bit_count, lowest, highest, IpAddress, IpRange, IpPrefix}
+use Rattle.rpki_resources.specs.IpForm.{IpPrefixOrRange, IpForm}
+use Rattle.rpki_resources.specs.IpRead.{ip_address_at, spanned, ip_ends_at, prefix_of, prefix_in}
+use Rattle.rpki_resources.specs.IpRead.{ip_prefix_at, ip_item_at, ip_items_at, ip_blocks_at}
 use Rattle.rpki_resources.proofs.Listed.{listed-exact}
 
 -- ---- a BIT STRING
@@ -69,7 +74,7 @@ to-address most mode o y h =
 from-address : (most : ℕ) (mode : Mode) (o : List ℕ) (y : List ℕ × ℕ) → IpAddress mode most o y → AddressParts most mode o y
 from-address most mode o y h = (y, o, [], sym (append-nil o), h.0, (le-leb _ _ h.1, (refl, refl)))
 
-exact-address : (most : ℕ) (mode : Mode) → IsExact anything (ip_address_at most mode) (IpAddress mode most)
+pub exact-address : (most : ℕ) (mode : Mode) → IsExact anything (ip_address_at most mode) (IpAddress mode most)
 exact-address most mode = exact-as anything (ip_address_at most mode) (AddressParts most mode) (IpAddress mode most) (address-parts most mode) (to-address most mode) (from-address most mode)
 
 -- ---- the ends of a range

@@ -1,5 +1,6 @@
 -- The blocks of a set of addresses that is read are blocks of addresses of the family.
-use Rattle.std.proofs.Common.{◌≡◌, ℕ, ◌+◌, ◌-◌, ◌*◌, ◌/◌, ◌%◌, ◌^◌, ◌<◌, ◌≤◌, List, [], ◌∷◌, ◌++◌, length, All, min, max, inl, inr, sym, subst, arith}
+use Rattle.std.proofs.Common.{◌≡◌, ℕ, ◌+◌, ◌-◌, ◌*◌, ◌/◌, ◌%◌, ◌^◌, ◌<◌, ◌≤◌, List, [], ◌∷◌, ◌++◌}
+use Rattle.std.proofs.Common.{length, All, min, max, inl, inr, sym, subst, arith}
 use Rattle.std.proofs.Math.Nat.{mod-one, mul-mod_left}
 use Rattle.std.proofs.lemmas.Bool.Decides.{leb_tells}
 use Rattle.std.proofs.lemmas.Nat.{pow-add, pow_pos, div-add-mod'}
@@ -7,14 +8,15 @@ use Rattle.std.proofs.lemmas.List.{append-nil}
 use Rattle.std.proofs.lemmas.List.Elements.{All-weaker}
 use Rattle.rpki_der.specs.declared.mode.Mode.{Mode}
 use Rattle.rpki_der.specs.Grammar.{IsBytes, Items}
-use Rattle.rpki_der.specs.Read.Parse.{number}
+use Rattle.rpki_der.specs.Numbers.{number}
 use Rattle.rpki_der.proofs.Reading.Exact.{IsBytes-left, IsBytes-right, IsBytes-contents}
 use Rattle.rpki_resources.specs.declared.block.Block.{Block}
 use Rattle.rpki_resources.specs.declared.family.AddressFamily.{AddressFamily}
 use Rattle.rpki_resources.specs.declared.family.AddressFamily.TheVariants.{Ipv4, Ipv6}
 use Rattle.rpki_resources.specs.Blocks.{IsBlock}
 use Rattle.rpki_resources.specs.Family.{max_bits, IsWithin}
-use Rattle.rpki_resources.specs.IpForm.{bit_count, bit_value, highest, IpAddress, IpPrefixOrRange, IpForm}
+use Rattle.rpki_resources.specs.IpForm.{bit_count, bit_value, highest, IpAddress, IpPrefixOrRange}
+use Rattle.rpki_resources.specs.IpForm.{IpForm}
 use Rattle.rpki_resources.specs.IpRead.{spanned}
 use Rattle.rpki_resources.specs.Joined.{merged, joined}
 use Rattle.rpki_resources.specs.Prefix.{IsPrefix}

@@ -1,5 +1,7 @@
 -- What is written of a set of addresses is in its form.
-use Rattle.std.proofs.Common.{◌≡◌, ℕ, ◌+◌, ◌-◌, ◌*◌, ◌/◌, ◌%◌, ◌^◌, ◌<◌, ◌≤◌, Option, None, Some, List, [], ◌∷◌, ◌++◌, length, All, inl, inr, refl, sym, ap, arith, length-append}
+use Rattle.std.proofs.Common.{◌≡◌, ℕ, ◌+◌, ◌-◌, ◌*◌, ◌/◌, ◌%◌, ◌^◌, ◌<◌, ◌≤◌, Option, None, Some}
+use Rattle.std.proofs.Common.{List, [], ◌∷◌, ◌++◌, length, All, inl, inr, refl, sym, ap, arith}
+use Rattle.std.proofs.Common.{length-append}
 use Rattle.std.specs.List.{flat_map}
 use Rattle.std.specs.Int.{w128, trailing_zeros, trailing_ones}
 use Rattle.std.proofs.Math.Nat.{mod-eq_of_lt}
@@ -9,27 +11,31 @@ use Rattle.std.proofs.lemmas.Nat.{pow_pos, pow_below, div-add-mod'}
 use Rattle.rpki_der.specs.declared.mode.Mode.{Mode}
 use Rattle.rpki_der.specs.declared.mode.Mode.TheVariants.{Der, Ber}
 use Rattle.rpki_der.specs.Grammar.{Items}
-use Rattle.rpki_der.specs.Written.{value_octets}
+use Rattle.rpki_der.specs.Write.Written.{value_octets}
 use Rattle.rpki_der.proofs.Reading.Scan.{tag-sound}
 use Rattle.rpki_der.proofs.Writing.Lengths.{value-written}
 use Rattle.rpki_resources.specs.declared.block.Block.{Block}
 use Rattle.rpki_resources.specs.declared.family.AddressFamily.{AddressFamily}
 use Rattle.rpki_resources.specs.Blocks.{RisesFrom, IsCanonical}
 use Rattle.rpki_resources.specs.Family.{max_bits, IsWithin}
-use Rattle.rpki_resources.specs.IpForm.{IpAddress, IpPrefix, IpRange, IpPrefixOrRange, IpForm, bit_count, lowest, highest}
+use Rattle.rpki_resources.specs.IpForm.{IpAddress, IpPrefix, IpRange, IpPrefixOrRange, IpForm}
+use Rattle.rpki_resources.specs.IpForm.{bit_count, lowest, highest}
 use Rattle.rpki_resources.specs.IpRead.{ip_blocks_at}
-use Rattle.rpki_resources.specs.IpWritten.{end_octets, lower_len, upper_len, contents_by, tag_by, ip_octets}
+use Rattle.rpki_resources.specs.IpWritten.{end_octets, lower_len, upper_len, contents_by, tag_by}
+use Rattle.rpki_resources.specs.IpWritten.{ip_octets}
 use Rattle.rpki_resources.specs.Prefix.{IsPrefix, prefix_len}
-use Rattle.rpki_resources.proofs.FirstBits.{end_bits, end_count, end_written, end_short, lowest_end, highest_end}
+use Rattle.rpki_resources.proofs.FirstBits.{end_bits, end_count, end_written, end_short, lowest_end}
+use Rattle.rpki_resources.proofs.FirstBits.{highest_end}
 use Rattle.rpki_resources.proofs.IpExact.{exact-ip_blocks}
 use Rattle.rpki_resources.proofs.IpWithin.{max_most}
 use Rattle.rpki_resources.proofs.PrefixLengths.{prefix_len_tells, prefix_order}
 use Rattle.rpki_resources.proofs.Relaxed.{ip_reading}
-use Rattle.rpki_resources.proofs.Trailing.{lower_dropped, lower_at_least, lower_most, upper_dropped, upper_at_least, upper_most, other_multiple}
+use Rattle.rpki_resources.proofs.Trailing.{lower_dropped, lower_at_least, lower_most, upper_dropped}
+use Rattle.rpki_resources.proofs.Trailing.{upper_at_least, upper_most, other_multiple}
 
 -- ---- ends
 
-address_written : (most addr len : ℕ) → most ≤ 128 → len ≤ most → IpAddress Der most (end_octets addr len) (end_bits addr len)
+pub address_written : (most addr len : ℕ) → most ≤ 128 → len ≤ most → IpAddress Der most (end_octets addr len) (end_bits addr len)
 address_written most addr len l h = (end_written addr len (omega arith), rw (end_count addr len (omega arith)) h)
 
 -- ---- a prefix

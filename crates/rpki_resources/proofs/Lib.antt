@@ -21,12 +21,13 @@ pub mod Listed
 pub mod Meeting
 pub mod Merging
 pub mod Names
+pub mod PrefixExact
 pub mod PrefixLengths
 pub mod Relaxed
 pub mod Rises
 pub mod Same
+pub mod Searching
 pub mod Shortening
 pub mod Sorting
-pub mod Spread
 pub mod Trailing
 pub mod Upto

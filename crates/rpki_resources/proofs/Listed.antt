@@ -1,15 +1,17 @@
 -- As many blocks as there are, sorted and joined, are read exactly.
-use Rattle.std.proofs.Common.{◌≡◌, ℕ, ◌≤◌, List, [], ◌∷◌, ◌++◌, Option, Some, All, refl, ap, subst, ◌∙◌}
+use Rattle.std.proofs.Common.{◌≡◌, ℕ, ◌≤◌, List, [], ◌∷◌, ◌++◌, Option, Some, All, refl, ap, subst}
+use Rattle.std.proofs.Common.{◌∙◌}
 use Rattle.std.proofs.lemmas.List.Elements.{All-nil, All-cons}
 use Rattle.rpki_der.specs.declared.mode.Mode.{Mode}
 use Rattle.rpki_der.specs.Read.Parse.{Parser, ◌>>=◌, many}
-use Rattle.rpki_der.specs.Grammar.{IsExact, Items}
+use Rattle.rpki_der.specs.Read.Exact.{IsExact}
+use Rattle.rpki_der.specs.Grammar.{Items}
 use Rattle.rpki_der.proofs.Reading.Lengths.{bind_some, some_is}
 use Rattle.rpki_der.proofs.Reading.Exact.{the_end}
 use Rattle.rpki_resources.specs.declared.block.Block.{Block}
 use Rattle.rpki_resources.specs.Blocks.{IsBlock, IsSetOf}
 use Rattle.rpki_resources.specs.Joined.{joined}
-use Rattle.rpki_resources.proofs.Each.{ReadsOne, exact-each}
+use Rattle.rpki_der.proofs.Reading.Lists.{ReadsOne, exact-each}
 use Rattle.rpki_resources.proofs.Joining.{joined_rises, joined_held, joined_only}
 
 -- what holds of each value in the form holds of all

@@ -2,9 +2,11 @@
 use Rattle.std.proofs.Common.{◌≡◌, ℕ, ◌<◌, ◌^◌, List, ◌++◌, length, Some, inl, inr, arith}
 use Rattle.rpki_der.specs.declared.mode.Mode.{Mode}
 use Rattle.rpki_der.specs.declared.mode.Mode.TheVariants.{Der, Ber}
-use Rattle.rpki_der.specs.Written.{value_octets}
-use Rattle.rpki_der.specs.Grammar.{IsInteger, IsBitString, IsReading}
-use Rattle.rpki_der.proofs.Reading.Unique.{unique, behind, within-ber, items-as, octets-ber, octets-one}
+use Rattle.rpki_der.specs.Write.Written.{value_octets}
+use Rattle.rpki_der.specs.Grammar.{IsInteger, IsBitString}
+use Rattle.rpki_der.specs.Read.Exact.{IsReading}
+use Rattle.rpki_der.proofs.Reading.Unique.{unique, refused, within-ber, items-as, octets-ber}
+use Rattle.rpki_der.proofs.Reading.Unique.{octets-one}
 use Rattle.rpki_der.proofs.Writing.Values.{octets-written}
 use Rattle.rpki_resources.specs.declared.block.Block.{Block}
 use Rattle.rpki_resources.specs.declared.family.AddressFamily.{AddressFamily}
@@ -34,10 +36,10 @@ as_reading = record {
   exact = exact-as_blocks;
   unique = λ mode. unique (as_blocks_at mode) (AsForm mode) (exact-as_blocks mode);
   relaxed = as_form-ber;
-  behind = behind as_blocks_at AsForm exact-as_blocks (λ mode o set h. (48, h.0, h.1));
+  refused = refused as_blocks_at AsForm exact-as_blocks (λ mode o set h. (48, h.0, h.1));
 }
 
-address-ber : (most : ℕ) (o : List ℕ) (bits : List ℕ × ℕ) → IpAddress Der most o bits → IpAddress Ber most o bits
+pub address-ber : (most : ℕ) (o : List ℕ) (bits : List ℕ × ℕ) → IpAddress Der most o bits → IpAddress Ber most o bits
 address-ber most o bits h = (within-ber 3 (λ c. IsBitString c bits) (λ c. IsBitString c bits) (λ c k. k) o h.0, h.1)
 
 ip_item-ber : (most : ℕ) (o : List ℕ) (b : Block ℕ) → IpPrefixOrRange Der most o b → IpPrefixOrRange Ber most o b
@@ -52,7 +54,7 @@ ip_reading family = record {
   exact = exact-ip_blocks family;
   unique = λ mode. unique (ip_blocks_at (max_bits family) mode) (IpForm family mode) (exact-ip_blocks family mode);
   relaxed = ip_form-ber family;
-  behind = behind (ip_blocks_at (max_bits family)) (IpForm family) (exact-ip_blocks family) (λ mode o set h. (48, h.0, h.1));
+  refused = refused (ip_blocks_at (max_bits family)) (IpForm family) (exact-ip_blocks family) (λ mode o set h. (48, h.0, h.1));
 }
 
 pub family_reading : IsReading family_at FamilyForm
@@ -60,7 +62,7 @@ family_reading = record {
   exact = exact-family;
   unique = λ mode. unique (family_at mode) (FamilyForm mode) (exact-family mode);
   relaxed = λ o family h. octets-ber 32 o (afi family) h;
-  behind = behind family_at FamilyForm exact-family (λ mode o family h. octets-one 32 mode o (afi family) h);
+  refused = refused family_at FamilyForm exact-family (λ mode o family h. octets-one 32 mode o (afi family) h);
 }
 
 afi-short : (family : AddressFamily) → length (afi family) < 2 ^ 32

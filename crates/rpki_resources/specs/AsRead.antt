@@ -1,8 +1,7 @@
 -- Reading sets of AS numbers as functions on lists.
 use Rattle.std.specs.Prelude.{ℕ, List, Option, None, Some, nat_le, if◌then◌else◌}
-use Rattle.rpki_der.specs.Read.Parse.{Parser, ◌>>=◌, in_value, u32_at, optional, many}
+use Rattle.rpki_der.specs.Read.Parse.{Parser, ◌>>=◌, in_value, u32_at, optional, many, either}
 use Rattle.rpki_resources.specs.declared.block.Block.{Block}
-use Rattle.rpki_resources.specs.Choice.{either}
 use Rattle.rpki_resources.specs.Joined.{joined}
 
 -- the two ends of a range

@@ -1,7 +1,7 @@
 -- The octets that a set of AS numbers is written as in DER (RFC 3779, 3.2.3).
 use Rattle.std.specs.Prelude.{◌≡◌, ℕ, ◌<◌, ◌^◌, false, List, ◌++◌, length, ◌==◌, if◌then◌else◌}
-use Rattle.rpki_der.specs.Written.{value_octets, number_octets}
-use Rattle.rpki_der.specs.Parts.{contents_small}
+use Rattle.rpki_der.specs.Write.Written.{value_octets, number_octets}
+use Rattle.rpki_der.specs.Write.Parts.{contents_small}
 use Rattle.rpki_resources.specs.declared.block.Block.{Block}
 
 -- the lower end and the upper end

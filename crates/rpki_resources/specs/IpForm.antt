@@ -2,11 +2,12 @@
 use Rattle.std.specs.Prelude.{◌≡◌, ℕ, ◌+◌, ◌-◌, ◌*◌, ◌/◌, ◌^◌, ◌≤◌, ◌⊎◌, List, ◌++◌, length}
 use Rattle.rpki_der.specs.declared.mode.Mode.{Mode}
 use Rattle.rpki_der.specs.Grammar.{Within, BitString, Items}
-use Rattle.rpki_der.specs.Read.Parse.{number}
+use Rattle.rpki_der.specs.Numbers.{number}
 use Rattle.rpki_resources.specs.declared.block.Block.{Block}
 use Rattle.rpki_resources.specs.declared.family.AddressFamily.{AddressFamily}
 use Rattle.rpki_resources.specs.Family.{max_bits}
 use Rattle.rpki_resources.specs.Blocks.{IsSetOf}
+use Rattle.rpki_resources.specs.Prefix.{Network}
 
 -- how many bits are in octets without so many of the last one
 abbrev pub bit_count : List ℕ × ℕ → ℕ
@@ -27,6 +28,16 @@ highest bits = lowest bits + 2 ^ (128 - bit_count bits) - 1
 -- IPAddress: a BIT STRING (2.2.3.8 of RFC 3779), of no more bits than an address of the family has
 abbrev pub IpAddress : Mode → ℕ → List ℕ → List ℕ × ℕ → Type 0
 IpAddress mode most octets bits = BitString mode octets bits × (bit_count bits ≤ most)
+
+-- the prefix that the bits are
+abbrev pub network : List ℕ × ℕ → Network
+network bits = record { addr = lowest bits; len = bit_count bits }
+
+-- addressPrefix, as a prefix: a BIT STRING of its bits, of which there are no more than an address
+-- of the family has (RFC 3779, section 2.2.3.8; RFC 6482, section 3.3)
+abbrev pub PrefixForm : AddressFamily → Mode → List ℕ → Network → Type 0
+PrefixForm family mode octets prefix =
+    (bits : List ℕ × ℕ) × IpAddress mode (max_bits family) octets bits × (prefix ≡ network bits)
 
 -- IPAddressRange: a SEQUENCE of the lower end and the upper end (2.2.3.9), where the lower one is not above the upper
 -- one

@@ -1,16 +1,21 @@
 -- Reading sets of addresses as functions on lists.
 use Rattle.std.specs.Prelude.{ℕ, List, Option, None, Some, nat_le, if◌then◌else◌}
-use Rattle.rpki_der.specs.Read.Parse.{Parser, ◌>>=◌, in_value, bits_at, bits_of, primitive, optional, many}
+use Rattle.rpki_der.specs.Read.Parse.{Parser, ◌>>=◌, in_value, bits_at, bits_of, primitive}
+use Rattle.rpki_der.specs.Read.Parse.{optional, many, either}
 use Rattle.rpki_resources.specs.declared.block.Block.{Block}
-use Rattle.rpki_resources.specs.Choice.{either}
-use Rattle.rpki_resources.specs.IpForm.{bit_count, lowest, highest}
+use Rattle.rpki_resources.specs.IpForm.{bit_count, lowest, highest, network}
 use Rattle.rpki_resources.specs.Joined.{joined}
+use Rattle.rpki_resources.specs.Prefix.{Network}
 
 -- the bits of an end
 unfoldable pub ip_address_at : ℕ → Parser (List ℕ × ℕ)
 ip_address_at most mode bytes = do
   bits ← bits_at mode bytes
   if nat_le (bit_count bits.0) most then Some (bits.0, bits.1) else None
+
+-- a prefix
+unfoldable pub prefix_at : ℕ → Parser Network
+prefix_at most mode bytes = ip_address_at most mode bytes >>= λ bits. Some (network bits.0, bits.1)
 
 -- the addresses from those that begin with some bits to those that begin with others
 abbrev pub spanned : List ℕ × ℕ → List ℕ × ℕ → Block ℕ

@@ -1,7 +1,7 @@
 -- The octets that a set of addresses is written as in DER (RFC 3779, 2.1 and 2.2.3).
 use Rattle.std.specs.Prelude.{ℕ, ◌+◌, ◌-◌, ◌*◌, ◌/◌, List, ◌++◌, take, Option, None, Some}
 use Rattle.std.specs.Int.{w128, to_be_bytes, trailing_zeros, trailing_ones}
-use Rattle.rpki_der.specs.Written.{value_octets, bit_string_contents}
+use Rattle.rpki_der.specs.Write.Written.{value_octets, bit_string_contents}
 use Rattle.rpki_resources.specs.declared.block.Block.{Block}
 use Rattle.rpki_resources.specs.Prefix.{prefix_len}
 

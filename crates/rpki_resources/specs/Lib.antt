@@ -3,7 +3,6 @@ pub mod AsForm
 pub mod AsRead
 pub mod AsWritten
 pub mod Blocks
-pub mod Buckets
 pub mod Choice
 pub mod Claim
 pub mod Equal

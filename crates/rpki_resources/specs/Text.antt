@@ -9,6 +9,8 @@ use Rattle.rpki_resources.specs.declared.family.AddressFamily.TheVariants.{Ipv4,
 use Rattle.rpki_resources.specs.declared.ip.IpBlock.{IpBlock}
 use Rattle.rpki_resources.specs.declared.ip.IpBlock.TheVariants.{Prefix, Range}
 use Rattle.rpki_resources.specs.declared.text.MaxLenPrefix.{MaxLenPrefix}
+use Rattle.rpki_resources.specs.declared.resources.BlocksError.{BlocksError}
+use Rattle.rpki_resources.specs.declared.resources.BlocksError.TheVariants.{Inherit, Memory}
 
 -- the eight groups of 16 bits
 abbrev pub groups_of : ℕ → List ℕ
@@ -38,3 +40,8 @@ with_max_len text (Some len) = text ++ (codes "-" ++ decimal len)
 -- 192.0.2.0/24-26, or a prefix by itself
 abbrev pub max_len_text : MaxLenPrefix → List ℕ
 max_len_text m = with_max_len (prefix_text m.family m.prefix) m.max_len
+
+-- why a claim has no blocks (this project's own)
+abbrev pub blocks_error_text : BlocksError → List ℕ
+blocks_error_text Inherit = codes "inherited resources"
+blocks_error_text Memory = codes "out of memory"

@@ -3,7 +3,7 @@
 ghost use Rattle.std.specs.Prelude.{◌≡◌, ℕ, List, IfOk, IfSome, All, None, ◌<◌, ◌^◌, length};
 ghost use Rattle.std.specs.List.{flat_map};
 ghost use Rattle.rpki_der.specs.declared.mode.Mode.TheVariants.{Der};
-ghost use Rattle.rpki_der.specs.Written.{value_octets};
+ghost use Rattle.rpki_der.specs.Write.Written.{value_octets};
 ghost use Rattle.rpki_der.specs.Read.Parse.{many};
 ghost use Rattle.rpki_der.specs.Read.Reads.{Reads, OkOrMemory};
 ghost use Rattle.rpki_der.specs.Grammar.{Front, IsBytes};
@@ -11,7 +11,7 @@ ghost use Rattle.rpki_resources.specs.AsForm.{AsForm};
 ghost use Rattle.rpki_resources.specs.declared.block.Block.{Block};
 ghost use Rattle.rpki_resources.specs.Blocks.{EndBelow, IsBlock};
 ghost use Rattle.rpki_resources.specs.Joined.{joined};
-ghost use Rattle.rpki_der.specs.Parts.{contents_small};
+ghost use Rattle.rpki_der.specs.Write.Parts.{contents_small};
 ghost use Rattle.rpki_resources.specs.AsWritten.{IsAsShort, as_octets, as_small};
 ghost use Rattle.rpki_resources.specs.AsRead.{as_ends_at, as_id_at, as_item_at, as_items_at};
 ghost use Rattle.rpki_resources.specs.AsRead.{as_blocks_at};

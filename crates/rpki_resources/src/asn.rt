@@ -11,7 +11,7 @@ ghost use Rattle.rpki_resources.specs.As.{asn_text, as_block, as_range, as_block
 use crate::block::Block;
 use crate::blocks::{Blocks, BlocksBuilder};
 use crate::number::Number;
-use crate::walks::covers;
+use crate::walks::covers_block;
 use rpki_der::encode::integer;
 use rpki_der::{Encode, EncodeError, Sink, SinkFailed};
 use std::alloc::AllocError;
@@ -84,7 +84,7 @@ impl fmt::Display for Asn {
 
 /// An INTEGER (X.690, section 8.3).
 impl Encode for Asn {
-    ghost use Rattle.rpki_der.specs.Written.{number_octets};
+    ghost use Rattle.rpki_der.specs.Write.Written.{number_octets};
 
     ghost octets = { number_octets };
 
@@ -171,7 +171,7 @@ impl Blocks<Asn> {
         requires { IsBlock (λ n. n) (as_range block) }
         ensures { IsTrue result ↔ Covers (λ n. n) self.now (as_range block ∷ []) }
     {
-        covers(self.as_slice(), &[block.range()])
+        covers_block(self.as_slice(), block.range())
     }
 }
 

@@ -77,21 +77,33 @@ impl<T: Number> Blocks<T> {
         covers(self.as_slice(), other.as_slice())
     }
 
+    /// The numbers that are in both sets. Where there is no memory for them, the answer is an error.
+    pub fn intersection(&self, other: &Self) -> Result<Self, AllocError>
+        ensures numbers { IfOk result (λ v. IsIntersection T.number self.now other.now v) }
+        ensures canonical { IfOk result (IsCanonical T.number) }
+    {
+        let alloc = *self.items.allocator();
+        Ok(Blocks {
+            items: intersection(alloc, self.as_slice(), other.as_slice())?,
+        })
+    }
+
     /// Keeps the numbers that are in the other set too. Where there is no memory for them, the set
     /// stays as it was.
     pub fn intersection_assign(&mut self, other: &Self) -> Result<(), AllocError>
         ensures ok { OnOk result (IsIntersection T.number self.old other.now self.new) }
+        ensures canonical { OnOk result (IsCanonical T.number self.new) }
         ensures err { OnErr result (self.new ≡ self.old) }
     {
-        let alloc = *self.items.allocator();
-        self.items = intersection(alloc, &self.items, other.as_slice())?;
+        *self = self.intersection(other)?;
         Ok(())
     }
 
     /// The numbers that are in one of the two sets or in both. Where there is no memory for them, the
     /// answer is an error.
     pub fn union(&self, other: &Self) -> Result<Self, AllocError>
-        ensures { IfOk result (λ v. IsUnion T.number self.now other.now v) }
+        ensures numbers { IfOk result (λ v. IsUnion T.number self.now other.now v) }
+        ensures canonical { IfOk result (IsCanonical T.number) }
     {
         let alloc = *self.items.allocator();
         Ok(Blocks {
@@ -186,6 +198,14 @@ impl<T: Number> BlocksBuilder<T> {
         Ok(())
     }
 
+    /// Adds the numbers of a set. Where there is no memory for its blocks, the builder stays as it was.
+    pub fn push_set(&mut self, set: &Blocks<T>) -> Result<(), AllocError>
+        ensures ok { OnOk result (self.new ≡ self.old ++ set.now) }
+        ensures err { OnErr result (self.new ≡ self.old) }
+    {
+        self.items.extend_from_slice(set.as_slice())
+    }
+
     // Adds several blocks, or none.
     pub(crate) fn append(&mut self, mut blocks: Vec<Block<T>>) -> Result<(), AllocError>
         requires { All (IsBlock T.number) blocks.items }
@@ -218,13 +238,4 @@ impl<T: Number> Clone for BlocksBuilder<T> {
         items.extend_from_slice(&self.items)?;
         Ok(BlocksBuilder { items })
     }
-}
-
-/// Two sets of the same numbers have the same blocks.
-pub fn same_blocks<T: Number>(first: &Blocks<T>, second: &Blocks<T>)
-    ensures { SameSet T.number first.now second.now → first.now ≡ second.now }
-{
-    // the calls tell that the blocks ascend
-    let _first = first.as_slice();
-    let _second = second.as_slice();
 }

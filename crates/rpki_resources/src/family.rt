@@ -13,7 +13,7 @@ use rpki_der::{Constructed, DecodeError};
 use std::alloc::Global;
 
 /// IPv4 or IPv6.
-#[derive(Clone, Copy, Debug, PartialEq, Eq)]
+#[derive(Clone, Copy, Debug, PartialEq, Eq, Hash)]
 pub enum AddressFamily {
     Ipv4,
     Ipv6,
@@ -55,6 +55,9 @@ fn take_family(cons: &mut Constructed<'_>, alloc: Global) -> Result<AddressFamil
     }
 }
 
+/// What writes a family.
+pub type AddressFamilyEncoder = Value<Raw<'static>>;
+
 impl AddressFamily {
     /// Reads a family: an OCTET STRING of the two octets 00 01 for IPv4, or 00 02 for IPv6 (RFC
     /// 3779, section 2.2.3.3). Another family is `Malformed`, as is what is no such string. `Memory`
@@ -84,7 +87,7 @@ impl AddressFamily {
     }
 
     /// The family as an OCTET STRING (RFC 3779, section 2.2.3.3).
-    pub fn encode_ref(&self) -> Value<Raw<'static>>
+    pub fn encode_ref(&self) -> AddressFamilyEncoder
         ensures tag { result.tag.octet ≡ 4 }
         ensures contents { result.contents.0.now ≡ afi self.now }
     {

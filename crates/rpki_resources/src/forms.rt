@@ -1,26 +1,27 @@
 //! What the definitions of the octets and of the texts of sets say: laws, as functions that do
 //! nothing.
 
-ghost use Rattle.std.specs.Prelude.{◌≡◌, ◌+◌, ◌<◌, ◌≤◌, ◌^◌, ℕ, List, ◌++◌, All, Some, length};
-ghost use Rattle.std.specs.Prelude.{take, drop, codes};
+ghost use Rattle.std.specs.Prelude.{◌≡◌, ◌+◌, ◌-◌, ◌%◌, ◌<◌, ◌≤◌, ◌^◌, ℕ, List, ◌++◌, All, Some};
+ghost use Rattle.std.specs.Prelude.{length, take, drop, codes};
 ghost use Rattle.std.specs.List.{flat_map};
 ghost use Rattle.std.specs.Net.Text.{groups_text, hex_groups_text, zero_run};
 ghost use Rattle.rpki_der.specs.declared.mode.Mode.{Mode};
 ghost use Rattle.rpki_der.specs.declared.mode.Mode.TheVariants.{Der};
-ghost use Rattle.rpki_der.specs.Grammar.{IsBytes, IsReading};
-ghost use Rattle.rpki_der.specs.Written.{value_octets};
+ghost use Rattle.rpki_der.specs.Grammar.{IsBytes};
+ghost use Rattle.rpki_der.specs.Read.Exact.{IsReading};
+ghost use Rattle.rpki_der.specs.Write.Written.{value_octets};
 ghost use Rattle.rpki_resources.specs.declared.block.Block.{Block};
 ghost use Rattle.rpki_resources.specs.declared.family.AddressFamily.{AddressFamily};
-ghost use Rattle.rpki_resources.specs.Blocks.{IsCanonical, SameSet, IsUnion};
-ghost use Rattle.rpki_resources.specs.Blocks.{IsIntersection};
+ghost use Rattle.rpki_resources.specs.Blocks.{IsCanonical, SameSet, IsUnion, IsIntersection};
 ghost use Rattle.rpki_resources.specs.Family.{max_bits, IsWithin};
 ghost use Rattle.rpki_resources.specs.FamilyForm.{afi, FamilyForm, family_at};
 ghost use Rattle.rpki_resources.specs.AsForm.{AsForm};
 ghost use Rattle.rpki_resources.specs.AsRead.{as_blocks_at};
 ghost use Rattle.rpki_resources.specs.AsWritten.{as_octets};
-ghost use Rattle.rpki_resources.specs.IpForm.{IpForm};
-ghost use Rattle.rpki_resources.specs.IpRead.{ip_blocks_at};
-ghost use Rattle.rpki_resources.specs.IpWritten.{ip_octets};
+ghost use Rattle.rpki_resources.specs.IpForm.{IpForm, PrefixForm};
+ghost use Rattle.rpki_resources.specs.IpRead.{ip_blocks_at, prefix_at};
+ghost use Rattle.rpki_resources.specs.IpWritten.{end_octets, ip_octets};
+ghost use Rattle.rpki_resources.specs.Prefix.{Network};
 ghost use Rattle.rpki_resources.specs.Shortened.{IsShortened};
 
 /// Reading a set of AS numbers is exact and unique, and one in DER is the same one in BER.
@@ -45,6 +46,25 @@ pub fn families_are_written()
         FamilyForm Der (value_octets 0x04 (afi family)) family }
     ensures read { (mode : Mode) (family : AddressFamily) (rest : List ℕ) →
         family_at mode (value_octets 0x04 (afi family) ++ rest) ≡ Some (family, rest) }
+{}
+
+/// So is reading a prefix.
+pub fn prefixes()
+    ensures { (family : AddressFamily) →
+        IsReading (prefix_at (max_bits family)) (PrefixForm family) }
+{}
+
+/// A prefix of a family is written in DER, and read again in both modes.
+pub fn prefixes_are_written()
+    ensures written { (family : AddressFamily) (prefix : Network) →
+        prefix.len ≤ max_bits family → prefix.addr < 2 ^ 128 →
+        prefix.addr % 2 ^ (128 - prefix.len) ≡ 0 →
+        PrefixForm family Der (end_octets prefix.addr prefix.len) prefix }
+    ensures read { (family : AddressFamily) (mode : Mode) (prefix : Network) (rest : List ℕ) →
+        prefix.len ≤ max_bits family → prefix.addr < 2 ^ 128 →
+        prefix.addr % 2 ^ (128 - prefix.len) ≡ 0 →
+        prefix_at (max_bits family) mode (end_octets prefix.addr prefix.len ++ rest)
+        ≡ Some (prefix, rest) }
 {}
 
 /// A set of AS numbers is written in DER, and read again in both modes.

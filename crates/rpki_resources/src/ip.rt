@@ -12,7 +12,7 @@ use crate::addr::Addr;
 use crate::block::Block;
 use crate::blocks::{Blocks, BlocksBuilder};
 use crate::prefix::{Prefix, len_of};
-use crate::walks::covers;
+use crate::walks::covers_block;
 use std::alloc::AllocError;
 use std::marker::Model;
 
@@ -79,7 +79,7 @@ impl Blocks<Addr> {
         requires { IsBlock (λ n. n) (ip_range block) }
         ensures { IsTrue result ↔ Covers (λ n. n) self.now (ip_range block ∷ []) }
     {
-        covers(self.as_slice(), &[block.range()])
+        covers_block(self.as_slice(), block.range())
     }
 }
 

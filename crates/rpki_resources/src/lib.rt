@@ -7,17 +7,19 @@
 #![tactic(auto)]
 
 mod addr;
+mod address_bits;
 mod as_der;
 mod asn;
 mod block;
 mod blocks;
-mod buckets;
 mod family;
 pub mod forms;
 mod ip;
 mod ip_der;
+pub mod laws;
 mod number;
 mod prefix;
+mod prefix_der;
 mod resources;
 mod text;
 mod walks;
@@ -26,8 +28,8 @@ pub use addr::Addr;
 pub use as_der::AsBlocksEncoder;
 pub use asn::{AsBlock, AsBlocks, AsBlocksBuilder, AsBlocksIter, Asn, SmallAsnSet};
 pub use block::Block;
-pub use blocks::{Blocks, BlocksBuilder, same_blocks};
-pub use family::AddressFamily;
+pub use blocks::{Blocks, BlocksBuilder};
+pub use family::{AddressFamily, AddressFamilyEncoder};
 pub use ip::{IpBlock, IpBlocks, IpBlocksBuilder, IpBlocksIter};
 pub use ip_der::IpBlocksEncoder;
 pub use number::Number;

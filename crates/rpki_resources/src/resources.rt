@@ -1,12 +1,13 @@
 //! What a certificate claims of one family of numbers.
 
 ghost use Rattle.std.specs.Prelude.{◌≡◌, ℕ, ◌↔◌, List, Result, Ok, Err, IsTrue, IsOk, IfOk, OnOk};
-ghost use Rattle.std.specs.Prelude.{OnErr};
+ghost use Rattle.std.specs.Prelude.{OnErr, Some, codes};
 ghost use Rattle.std.specs.Fn.{FnOnceReturnsAtMut};
 ghost use Rattle.std.specs.declared.alloc.AllocError.{AllocError};
 ghost use Rattle.rpki_resources.specs.declared.block.Block.{Block};
 ghost use Rattle.rpki_resources.specs.declared.resources.Claim.{Claim};
 ghost use Rattle.rpki_resources.specs.Claim.{claim_of, IsCoveredBy, HasBlocks, added, IsBuilt};
+ghost use Rattle.rpki_resources.specs.Text.{blocks_error_text};
 
 use crate::addr::Addr;
 use crate::asn::{AsBlocksBuilder, Asn};
@@ -14,6 +15,8 @@ use crate::blocks::{Blocks, BlocksBuilder};
 use crate::ip::IpBlocksBuilder;
 use crate::number::Number;
 use std::alloc::{AllocError, Global};
+use std::error::Error;
+use std::fmt;
 use std::marker::Model;
 
 /// What is claimed of a family: nothing, what the issuer has, or these numbers (RFC 3779, sections
@@ -67,9 +70,32 @@ pub enum BlocksError {
     Memory,
 }
 
+impl fmt::Display for BlocksError {
+    ghost output = { λ error. Some (blocks_error_text error) };
+
+    fn fmt<W: fmt::Write>(&self, f: &mut fmt::Formatter<W>) -> fmt::Result {
+        match self {
+            BlocksError::Inherit => f.write_str("inherited resources"),
+            BlocksError::Memory => f.write_str("out of memory"),
+        }
+    }
+}
+
+impl Error for BlocksError {}
+
 /// Numbers are claimed that are not all in the resources.
 #[derive(Clone, Copy, Debug, PartialEq, Eq)]
 pub struct Overclaimed;
+
+impl fmt::Display for Overclaimed {
+    ghost output = { λ _. Some (codes "overclaimed resources") };
+
+    fn fmt<W: fmt::Write>(&self, f: &mut fmt::Formatter<W>) -> fmt::Result {
+        f.write_str("overclaimed resources")
+    }
+}
+
+impl Error for Overclaimed {}
 
 impl<T: Number> Resources<T> {
     /// The family is not named.
@@ -110,6 +136,13 @@ impl<T: Number> Resources<T> {
         }
     }
 
+    /// What is claimed.
+    pub fn claim(&self) -> &Claim<Blocks<T>>
+        ensures { result.now ≡ self.now }
+    {
+        &self.claim
+    }
+
     /// Whether the family is not named.
     pub fn is_missing(&self) -> bool
         ensures { IsTrue result ↔ (self.now ≡ Claim.Missing) }
@@ -144,6 +177,7 @@ impl<T: Number> Resources<T> {
     /// `BlocksError::Memory`.
     pub fn to_blocks(&self, alloc: Global) -> Result<Blocks<T>, BlocksError>
         ensures blocks { IfOk result (HasBlocks self.now) }
+        ensures missing { self.now ≡ Claim.Missing → IsOk result }
         ensures inherit { (result ≡ Err BlocksError.Inherit) ↔ (self.now ≡ Claim.Inherit) }
     {
         match &self.claim {

@@ -205,7 +205,8 @@ keep {X} {first} {apart} {p} {G} e = record {
         let q : (let t : (X × List ℕ) × List ℕ = ((s.0.0, taken b s.0.1), s.0.1) in
         t) ≡ (y, r) = some_is _ _ s.2 in
         let g = (e.exact mode).sound b s.0.0 s.0.1 bytes s.1 in
-        let all : taken b s.0.1 ≡ g.0 = ap (λ (t : List ℕ). taken t s.0.1) g.1 ∙ before g.0 s.0.1 in (
+        let all : taken b s.0.1 ≡ g.0 =
+        ap (λ (t : List ℕ). taken t s.0.1) g.1 ∙ before g.0 s.0.1 in (
           g.0,
           g.1 ∙ ap (λ (t : (X × List ℕ) × List ℕ). g.0 ++ t.1) q,
           subst (λ (t : (X × List ℕ) × List ℕ). Kept (G mode) g.0 t.0.0 t.0.1) q (g.2, all),

@@ -23,8 +23,7 @@ Refuses Malformed P = P
 Refuses (Content fault) P = P
 
 -- What decodes the front of these octets by the form: what is answered is what they begin with, and
--- where they are
--- refused, they begin with nothing in the form, unless memory ran out.
+-- where they are refused, they begin with nothing in the form, unless memory ran out.
 abbrev pub Decodes : {T X : Type 0} → (List ℕ → X → Type 0) → (T → X) → List ℕ
     → Result T DecodeError → Type 0
 Decodes form view octets (Ok t) = (rest : List ℕ) × IsOnlyFront form octets (view t) rest
@@ -45,8 +44,7 @@ TakesFront form view octets (Ok t) new = IsOnlyFront form octets (view t) new.re
 TakesFront form view octets (Err e) new = Refuses e (HasNoFront form octets)
 
 -- What takes from a reader by the form: the front of what is left of it is decoded, and what
--- follows is left. A reader
--- that has failed answers its error again.
+-- follows is left. A reader that has failed answers its error again.
 abbrev pub DecodesNext : {T X : Type 0} → (Mode → List ℕ → X → Type 0) → (T → X) → State
     → Result T DecodeError → State → Type 0
 DecodesNext form view old result new =

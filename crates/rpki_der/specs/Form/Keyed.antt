@@ -1,6 +1,5 @@
 -- Items in any order, told apart by their keys: extensions, signed attributes, access descriptions.
--- And how one is
--- looked up.
+-- And how one is looked up.
 use Rattle.std.specs.Prelude.{◌≡◌, ◌≢◌, List, [], ◌∷◌, ◌++◌, ℕ, Bool, true, false, not, ◌&&◌, ◌||◌}
 use Rattle.std.specs.Prelude.{if◌then◌else◌, Option, None, Some, All, Any, AllPairs}
 use Rattle.std.specs.Str.{bytes_eq}

@@ -67,10 +67,8 @@ are_apart (only (tag ∷ tags)) other = not (has other tag) && are_apart (only t
 are_apart every other = is_nothing other
 
 -- Reading by p is reading the part G of a form: what p finds is in G, and what is in G it finds
--- where none of the
--- tags apart follows (exact); it begins with a tag in first, or is absent (starts); and what is in
--- G in DER is the
--- same in BER (relaxed).
+-- where none of the tags apart follows (exact); it begins with a tag in first, or is absent
+-- (starts); and what is in G in DER is the same in BER (relaxed).
 pub record IsPart {X : Type 0} (first apart : TagSet) (p : Parser X) (G : Mode → List ℕ → X
     → Type 0) : Type 0 where
   pub exact : (mode : Mode) → IsExact (NoneNext apart) (p mode) (G mode)

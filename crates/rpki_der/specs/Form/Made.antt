@@ -1,7 +1,6 @@
 -- What is made of a part: tests, functions of it, what its octets hold, and what is left out. And
 -- how they are read.
-use Rattle.std.specs.Prelude.{◌≡◌, ℕ, List, Bool, Option, None, Some, unwrap_or, if◌then◌else◌, ◌⊎◌}
-use Rattle.std.specs.Prelude.{◌==◌}
+use Rattle.std.specs.Prelude.{◌≡◌, ℕ, List, Option, None, Some, unwrap_or, ◌⊎◌}
 use Rattle.rpki_der.specs.declared.mode.Mode.{Mode}
 use Rattle.rpki_der.specs.Grammar.{Front, Optional, OctetString, BitString}
 use Rattle.rpki_der.specs.Read.Parse.{Parser, ◌>>=◌, optional, taken, whole}

@@ -3,7 +3,7 @@
 use Rattle.std.specs.Prelude.{◌≡◌, ℕ, List, [], ◌∷◌, ◌++◌, Some}
 use Rattle.rpki_der.specs.declared.mode.Mode.{Mode}
 use Rattle.rpki_der.specs.Grammar.{Value, Within, Items}
-use Rattle.rpki_der.specs.Read.Parse.{Parser, ◌>>=◌, in_value, primitive, many, optional, all_of}
+use Rattle.rpki_der.specs.Read.Parse.{Parser, in_value, primitive, many, optional}
 use Rattle.rpki_der.specs.Tags.{SEQUENCE, SET, context, context_primitive}
 
 -- The octets are these parts, one after the other.

@@ -13,9 +13,11 @@ use Rattle.rpki_der.specs.Identifier.{is_tag, is_constructed}
 use Rattle.rpki_der.specs.declared.mode.Mode.{Mode}
 use Rattle.rpki_der.specs.declared.mode.Mode.TheVariants.{Der, Ber}
 
+-- what stands at the front of octets, by the rules of a mode, and what follows it
 abbrev pub Parser : Type 0 → Type 0
 Parser X = Mode → List ℕ → Option (X × List ℕ)
 
+-- what f finds after what was found, if it was
 infixl 10 ◌>>=◌
 abbrev pub ◌>>=◌ : {A B : Type 0} → Option A → (A → Option B) → Option B
 (Some x) >>= f = f x
@@ -36,6 +38,7 @@ long_at k mode bytes =
     if nat_lt (length bytes) k then None else shortest mode (least k) (number 0 (take k bytes))
     (drop k bytes)
 
+-- a length (X.690, section 8.1.3), and what follows it
 unfoldable pub length_at : Parser ℕ
 length_at mode [] = None
 length_at mode (b ∷ rest) =
@@ -69,11 +72,13 @@ step depth (t ∷ []) = None
 step depth (t ∷ l ∷ b) =
     if t == 0 then (if l == 0 then Some (outer depth, b) else None) else value_step depth t l b
 
+-- what follows a step: the rest after the last end, or what is found from there on
 abbrev pub follow : (ℕ → List ℕ → Option (List ℕ)) → Option (Option ℕ × List ℕ) → Option (List ℕ)
 follow go None = None
 follow go (Some (None, rest)) = Some rest
 follow go (Some (Some k, b)) = go k b
 
+-- what follows the end of the contents, after at most n steps
 unfoldable pub scan : ℕ → ℕ → List ℕ → Option (List ℕ)
 scan zero depth b = None
 scan (suc n) depth b = follow (scan n) (step depth b)
@@ -133,6 +138,7 @@ digits_of (a ∷ b ∷ rest) =
     if nat_lt a 128 then (if a == 0 then (if nat_lt b 128 then None else Some (b ∷ rest)) else Some
     (a ∷ b ∷ rest)) else None
 
+-- the number of the contents of an INTEGER, of at most this number of octets (X.690, section 8.3)
 unfoldable pub unsigned_of : ℕ → List ℕ → Option ℕ
 unsigned_of most contents = do
   digits ← digits_of contents
@@ -145,13 +151,15 @@ primitive tag f mode bytes = do
   x ← f v.0
   Some (x, v.1)
 
+-- an INTEGER of one octet
 abbrev pub u8_at : Parser ℕ
 u8_at = primitive INTEGER (unsigned_of 1)
 
+-- an INTEGER of at most four octets
 abbrev pub u32_at : Parser ℕ
 u32_at = primitive INTEGER (unsigned_of 4)
 
--- a number of at most 20 octets
+-- an INTEGER of at most 20 octets, without the 0 that says that it is not negative
 abbrev pub u160_at : Parser ℕ
 u160_at = primitive INTEGER (unsigned_of 20)
 
@@ -166,6 +174,7 @@ boolean_of Der (b ∷ []) = if b == 0 then Some false else if b == 255 then Some
 boolean_of Ber (b ∷ []) = if b == 0 then Some false else Some true
 boolean_of mode (a ∷ b ∷ rest) = None
 
+-- a BOOLEAN (X.690, section 8.2)
 abbrev pub boolean_at : Parser Bool
 boolean_at mode bytes = primitive BOOLEAN (boolean_of mode) mode bytes
 
@@ -178,6 +187,7 @@ null_of (b ∷ rest) = None
 unfoldable pub oid_of : List ℕ → Option (List ℕ)
 oid_of contents = if is_oid contents then Some contents else None
 
+-- an OBJECT IDENTIFIER (X.690, section 8.19)
 abbrev pub oid_at : Parser (List ℕ)
 oid_at = primitive OBJECT_IDENTIFIER oid_of
 
@@ -191,6 +201,7 @@ unfoldable pub bits_of : List ℕ → Option (List ℕ × ℕ)
 bits_of [] = None
 bits_of (unused ∷ octets) = if are_bits octets unused then Some (octets, unused) else None
 
+-- a BIT STRING: its octets, and how many bits of the last one are not used (X.690, section 8.6)
 abbrev pub bits_at : Parser (List ℕ × ℕ)
 bits_at = primitive BIT_STRING bits_of
 
@@ -199,6 +210,7 @@ unfoldable pub whole_octets_of : List ℕ → Option (List ℕ)
 whole_octets_of [] = None
 whole_octets_of (unused ∷ octets) = if unused == 0 then Some octets else None
 
+-- the octets of a BIT STRING all of whose bits are used (X.690, section 8.6)
 abbrev pub octets_in_bits_at : Parser (List ℕ)
 octets_in_bits_at = primitive BIT_STRING whole_octets_of
 
@@ -206,6 +218,7 @@ octets_in_bits_at = primitive BIT_STRING whole_octets_of
 unfoldable pub ia5_of : List ℕ → Option (List ℕ)
 ia5_of contents = if list_all (λ b. nat_lt b 128) contents then Some contents else None
 
+-- an IA5String (X.690, section 8.23)
 abbrev pub ia5_at : Parser (List ℕ)
 ia5_at = primitive IA5_STRING ia5_of
 
@@ -214,6 +227,7 @@ abbrev pub is_next : ℕ → List ℕ → Bool
 is_next tag [] = false
 is_next tag (t ∷ bytes) = t == tag
 
+-- what was found, as a thing that may be there
 abbrev pub some_of : {X : Type 0} → Option (X × List ℕ) → Option (Option X × List ℕ)
 some_of None = None
 some_of (Some x) = Some (Some x.0, x.1)
@@ -222,6 +236,7 @@ some_of (Some x) = Some (Some x.0, x.1)
 abbrev pub optional : {X : Type 0} → ℕ → Parser X → Parser (Option X)
 optional tag p mode bytes = if is_next tag bytes then some_of (p mode bytes) else Some (None, bytes)
 
+-- what was found, after these
 abbrev pub with_front : {X : Type 0} → List X → Option (List X × List ℕ) → Option (List X × List ℕ)
 with_front front None = None
 with_front front (Some (xs, rest)) = Some (front ++ xs, rest)
@@ -277,6 +292,7 @@ skip_at zero mode bytes = None
 skip_at (suc depth) mode bytes =
     any_at mode bytes >>= λ v. (skipped (skip_at depth) mode v.0.0 v.0.1 >>= λ _. Some (tt, v.1))
 
+-- what was found, in BER alone
 abbrev pub in_ber : {X : Type 0} → Mode → Option X → Option X
 in_ber Der found = None
 in_ber Ber found = found

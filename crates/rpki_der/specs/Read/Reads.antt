@@ -28,8 +28,7 @@ IsContent (Content (Text reason)) = ⊥
 IsContent Memory = ⊥
 
 -- an error that is answered again: the same one, or Memory where a copy of the type of a signed
--- attribute is not to be
--- had
+-- attribute is not to be had
 abbrev pub IsAgain : DecodeError → DecodeError → Type 0
 IsAgain Malformed d = d ≡ Malformed
 IsAgain (Content (InvalidSignedAttr attr)) d = (d ≡ Content (InvalidSignedAttr attr)) ⊎ (d ≡ Memory)

@@ -10,5 +10,6 @@ digit n = if nat_lt n 10 then 48 + n else 87 + n
 abbrev pub hex_octet : ℕ → List ℕ
 hex_octet octet = digit (octet / 16) ∷ digit (octet % 16) ∷ []
 
+-- two digits for each octet
 abbrev pub hex : List ℕ → List ℕ
 hex octets = flat_map hex_octet octets

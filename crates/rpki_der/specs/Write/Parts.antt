@@ -15,19 +15,23 @@ pub pair_small : {P Q : Type 0} (xs ys : List ℕ) → (length xs < 2 ^ 32 → P
     → (length ys < 2 ^ 32 → Q) → length (xs ++ ys) < 2 ^ 32 → P × Q
 pair_small xs ys p q h = (p (length_parts xs ys h).0, q (length_parts xs ys h).1)
 
+-- where a value has few octets, its contents have
 pub contents_small : (identifier : ℕ) (contents : List ℕ)
     → length (value_octets identifier contents) < 2 ^ 32 → length contents < 2 ^ 32
 contents_small identifier contents h =
     omega (arith, length-append (length_octets (length contents)) contents)
 
+-- the octets of what may be there
 abbrev pub optional_octets : {T : Type 0} → (T → List ℕ) → Option T → List ℕ
 optional_octets f None = []
 optional_octets f (Some x) = f x
 
+-- P holds of what may be there, where it is
 abbrev pub IsEach : {T : Type 0} → (T → Type 0) → Option T → Type 0
 IsEach P None = Unit {0}
 IsEach P (Some x) = P x
 
+-- where what may be there has few octets, P holds of it
 pub optional_small : {T : Type 0} (f : T → List ℕ) (P : T → Type 0)
     → ((x : T) → length (f x) < 2 ^ 32 → P x) → (o : Option T)
     → length (optional_octets f o) < 2 ^ 32 → IsEach P o

@@ -64,6 +64,7 @@ bit_string_contents octets unused =
 unfoldable pub number_octets : ℕ → List ℕ
 number_octets n = value_octets INTEGER (integer_contents (to_be_bytes w32 n))
 
+-- a length has five octets at most
 pub length_octets_le : (n : ℕ) → length (length_octets n) ≤ 5
 unfolding length_octets
 length_octets_le n = grind (arith, nat_tests)

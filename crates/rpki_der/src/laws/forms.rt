@@ -1,6 +1,5 @@
 //! What the words of ASN.1 say: where a part of a form is read exactly, in both modes, and what is
-//! in it in DER is in it
-//! in BER, so it is with what the words make of it.
+//! in it in DER is in it in BER, so it is with what the words make of it.
 
 ghost use Rattle.std.specs.Prelude.{◌≡◌, ℕ, List, Bool, true, false, Option};
 ghost use Rattle.rpki_der.specs.declared.mode.Mode.{Mode};

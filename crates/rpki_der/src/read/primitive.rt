@@ -130,7 +130,8 @@ impl<'a> Constructed<'a> {
     /// Reads a BOOLEAN that is false where it is left out (X.690, sections 8.2 and 11.1). An
     /// explicit false is taken too. Refuses by `Malformed`.
     pub fn take_flag(&mut self) -> Result<bool, DecodeError>
-        ensures reads { Reads (λ b. b) (default_at false BOOLEAN boolean_at) self.old result self.new }
+        ensures reads { Reads (λ b. b) (default_at false BOOLEAN boolean_at)
+            self.old result self.new }
         ensures stays { Stays result self.new }
         ensures refused { OnlyMalformed self.old result }
     {
@@ -193,8 +194,8 @@ impl<'a> Constructed<'a> {
         }
     }
 
-    /// Reads a BIT STRING, primitive in both modes (X.690, section 8.6).
-    /// Answers `Malformed`, or `Memory` where no memory was to be had.
+    /// Reads a BIT STRING, primitive in both modes (X.690, section 8.6). Answers `Malformed`, or
+    /// `Memory` where no memory was to be had.
     #[tactic(auto, unfolding(crate::specs::Read::Parse::bits_of))]
     pub fn take_bits(&mut self) -> Result<BitString, DecodeError>
         ensures reads { Reads

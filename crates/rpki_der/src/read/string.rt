@@ -10,9 +10,8 @@ use crate::read::skip::DEPTH;
 use crate::tag::Tag;
 use std::alloc::AllocError;
 
-/// Puts the octets of the OCTET STRING in front, which nests at most to this
-/// depth, after those of `out`.
-/// What follows it.
+/// Puts the octets of the OCTET STRING in front, which nests at most to this depth, after those of
+/// `out`. What follows it.
 pub fn append_octets<'s>(
     depth: u32,
     mode: Mode,

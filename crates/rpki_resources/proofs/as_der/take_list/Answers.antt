@@ -6,7 +6,7 @@ use Rattle.rpki_der.proofs.Reading.Loops.{so_far-more, so_far-end, so_far-err}
 use Rattle.rpki_resources.specs.declared.block.Block.{Block}
 use Rattle.rpki_resources.specs.AsRead.{as_item_at}
 use Rattle.rpki_resources.proofs.AsExact.{reads-item}
-use Rattle.rpki_resources.proofs.Calls.{reads_shorter}
+use Rattle.rpki_der.proofs.Reading.Calls.{reads_shorter}
 use Rattle.rpki_resources.proofs.as_der.take_list.Goals as goal
 
 pub returns-in_err-block-clause-reads : goal.returns-in_err-block-clause-reads

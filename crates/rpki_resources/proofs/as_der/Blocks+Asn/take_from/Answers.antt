@@ -1,7 +1,7 @@
 use Rattle.rpki_resources.specs.AsForm.{AsForm}
 use Rattle.rpki_resources.specs.AsRead.{as_blocks_at}
 use Rattle.rpki_resources.proofs.AsExact.{exact-as_blocks}
-use Rattle.rpki_resources.proofs.Calls.{reads_found, reads_only}
+use Rattle.rpki_der.proofs.Reading.Calls.{reads_found, reads_only}
 use Rattle.rpki_resources.proofs.as_der.Blocks+Asn.take_from.Goals as goal
 
 pub returns-clause-found : goal.returns-clause-found

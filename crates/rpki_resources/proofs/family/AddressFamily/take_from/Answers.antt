@@ -1,6 +1,6 @@
 use Rattle.rpki_resources.specs.FamilyForm.{FamilyForm, family_at}
 use Rattle.rpki_resources.proofs.FamilyExact.{exact-family}
-use Rattle.rpki_resources.proofs.Calls.{reads_found, reads_only}
+use Rattle.rpki_der.proofs.Reading.Calls.{reads_found, reads_only}
 use Rattle.rpki_resources.proofs.family.AddressFamily.take_from.Goals as goal
 
 pub returns-clause-found : goal.returns-clause-found

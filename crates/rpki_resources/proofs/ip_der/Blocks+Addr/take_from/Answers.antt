@@ -2,7 +2,7 @@ use Rattle.rpki_resources.specs.Family.{max_bits}
 use Rattle.rpki_resources.specs.IpForm.{IpForm}
 use Rattle.rpki_resources.specs.IpRead.{ip_blocks_at}
 use Rattle.rpki_resources.proofs.IpExact.{exact-ip_blocks}
-use Rattle.rpki_resources.proofs.Calls.{reads_found, reads_only}
+use Rattle.rpki_der.proofs.Reading.Calls.{reads_found, reads_only}
 use Rattle.rpki_resources.proofs.ip_der.Blocks+Addr.take_from.Goals as goal
 
 pub returns-clause-found : goal.returns-clause-found

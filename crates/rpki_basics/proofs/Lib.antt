@@ -1,0 +1,12 @@
+pub mod BigEndian
+pub mod Calls
+pub mod SegmentFacts
+pub mod SerialFacts
+pub mod SerialReading
+pub mod SerialWriting
+pub mod TimeExact
+pub mod TimeOrder
+pub mod TimeReading
+pub mod TimeWriting
+pub mod UriFacts
+pub mod UriOctets

@@ -1,0 +1,64 @@
+-- Values that are times are read exactly.
+use Rattle.rpki_der.specs.Tags.{GENERALIZED_TIME, UTC_TIME}
+use Rattle.std.proofs.Common.{◌≡◌, ℕ, true, false, List, ◌++◌, Option, Some, None, refl, sym, ◌∙◌}
+use Rattle.std.proofs.Common.{inl, inr}
+use Rattle.rpki_der.specs.declared.mode.Mode.{Mode}
+use Rattle.rpki_der.specs.declared.mode.Mode.TheVariants.{Der, Ber}
+use Rattle.rpki_der.specs.Read.Parse.{is_next, Finds}
+use Rattle.rpki_der.specs.Read.Exact.{IsExact, IsReading, anything}
+use Rattle.rpki_der.proofs.Reading.Lengths.{chosen}
+use Rattle.rpki_der.proofs.Reading.Exact.{exact-primitive}
+use Rattle.rpki_der.proofs.Reading.Lists.{begins-within}
+use Rattle.rpki_der.proofs.Reading.Unique.{reading, within-ber}
+use Rattle.rpki_basics.specs.Moment.{Moment, IsMoment}
+use Rattle.rpki_basics.specs.TimeForm.{utc_text, generalized_text, IsUtcYear, TimeForm}
+use Rattle.rpki_basics.specs.TimeRead.{utc_of, generalized_of, time_at, IsTimeOf}
+use Rattle.rpki_basics.proofs.TimeExact.{exact-utc, exact-generalized, generalized-sound}
+
+abbrev IsUtc : List ℕ → Moment → Type 0
+IsUtc c m = (c ≡ utc_text m) × IsUtcYear m.year × IsMoment m
+
+abbrev IsGeneralized : List ℕ → Moment → Type 0
+IsGeneralized c m = (c ≡ generalized_text m) × IsMoment m
+
+pub exact-time : (mode : Mode) → IsExact anything (time_at mode) (TimeForm mode)
+unfolding time_at
+exact-time mode =
+    let utc = exact-primitive UTC_TIME utc_of mode IsUtc exact-utc in
+    let generalized = exact-primitive GENERALIZED_TIME generalized_of mode IsGeneralized
+    exact-generalized in
+    record {
+      sound = λ b m r bytes e.
+          elim (chosen (is_next UTC_TIME b) _ _ _ e) [
+            | inl h ↦ let f = utc.sound b m r bytes h.1 in (f.0, f.1, inl f.2)
+            | inr h ↦ let f = generalized.sound b m r bytes h.1 in (f.0, f.1, inr f.2)
+          ];
+      complete = λ o m r er h. elim h [
+        | inl k ↦
+            let t = (begins-within UTC_TIME mode IsUtc).at o m k in
+            let next : is_next UTC_TIME (o ++ r) ≡ true = rw t.1 refl in
+            rw next (utc.complete o m r tt k)
+        | inr k ↦
+            let t = (begins-within GENERALIZED_TIME mode IsGeneralized).at o m k in
+            let next : is_next UTC_TIME (o ++ r) ≡ false = rw t.1 refl in
+            rw next (generalized.complete o m r tt k)
+      ];
+    }
+
+time-ber : (o : List ℕ) (m : Moment) → TimeForm Der o m → TimeForm Ber o m
+time-ber o m (inl h) = inl (within-ber UTC_TIME (λ c. IsUtc c m) (λ c. IsUtc c m) (λ c k. k) o h)
+time-ber o m (inr h) =
+    inr (within-ber GENERALIZED_TIME (λ c. IsGeneralized c m) (λ c. IsGeneralized c m)
+    (λ c k. k) o h)
+
+pub time_reading : IsReading time_at TimeForm
+time_reading = reading time_at TimeForm exact-time time-ber
+    (λ mode o m h. elim h [ inl k ↦ (UTC_TIME, k.0, k.1) | inr k ↦ (GENERALIZED_TIME, k.0, k.1) ])
+
+-- What is found in a text is the moment that it names.
+pub time-of : (text : List ℕ) (found : Option Moment)
+    → Finds (λ m. m) found (generalized_of text) → IsTimeOf text found
+time-of text (Some m) h = generalized-sound text m h
+time-of text None h = λ m real e.
+    let some : generalized_of text ≡ Some m = exact-generalized.complete text m (e, real) in
+    absurd (let bad : (let o : Option Moment = None in o) ≡ Some m = sym h ∙ some in cc)

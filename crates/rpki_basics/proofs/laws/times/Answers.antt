@@ -1,0 +1,5 @@
+use Rattle.rpki_basics.proofs.TimeReading.{time_reading}
+use Rattle.rpki_basics.proofs.laws.times.Goals as goal
+
+pub returns : goal.returns
+returns c = time_reading

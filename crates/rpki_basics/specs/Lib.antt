@@ -1,0 +1,17 @@
+pub mod Build
+pub mod Digits
+pub mod Limits
+pub mod Moment
+pub mod Segments
+pub mod Serial
+pub mod Signing
+pub mod TimeForm
+pub mod TimeRead
+pub mod Uri
+pub mod UriTests
+pub use Rattle.rpki_keys.specs.Algorithm
+pub use Rattle.rpki_keys.specs.Hex
+pub use Rattle.rpki_keys.specs.KeyForm
+pub use Rattle.rpki_keys.specs.NameForm
+pub use Rattle.rpki_keys.specs.Signer
+pub use Rattle.rpki_keys.specs.StandIn

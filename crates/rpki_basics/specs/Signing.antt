@@ -1,0 +1,25 @@
+-- Why something is not built and signed.
+use Rattle.std.specs.Prelude.{◌≡◌, ◌<◌, ℕ, Result, Ok, Err}
+use Rattle.rpki_keys.specs.declared.signer.SignerFault.{SignerFault}
+use Rattle.rpki_keys.specs.declared.signer.SignerFault.TheVariants as fault
+use Rattle.rpki_basics.specs.declared.signing.SigningError.{SigningError}
+use Rattle.rpki_basics.specs.declared.signing.SigningError.TheVariants as error
+
+-- The error for a fault of a signer.
+abbrev pub signing_error : {E : Type 0} → SignerFault E → SigningError E
+signing_error fault.KeyNotFound = error.KeyNotFound
+signing_error fault.IncompatibleKey = error.IncompatibleKey
+signing_error (fault.Signer e) = error.Signer e
+signing_error fault.Memory = error.Memory
+
+-- The signer's three errors raise the count of its failed calls, and nothing else does.
+abbrev pub CountsSigning : {T E : Type 0} → ℕ → ℕ → Result T (SigningError E) → Type 0
+CountsSigning old new (Ok t) = new ≡ old
+CountsSigning old new (Err error.KeyNotFound) = old < new
+CountsSigning old new (Err error.IncompatibleKey) = old < new
+CountsSigning old new (Err (error.Signer e)) = old < new
+CountsSigning old new (Err error.AttrsTooLong) = new ≡ old
+CountsSigning old new (Err error.TooLong) = new ≡ old
+CountsSigning old new (Err (error.Content e)) = new ≡ old
+CountsSigning old new (Err error.NotDer) = new ≡ old
+CountsSigning old new (Err error.Memory) = new ≡ old

@@ -1,0 +1,97 @@
+-- URIs of objects: rsync and https. The sections are those of RFC 3986, where no other RFC is
+-- named.
+use Rattle.std.specs.Prelude.{◌≡◌, ◌≢◌, ℕ, ◌<◌, Bool, true, ◌&&◌, ◌||◌, not, nat_le}
+use Rattle.std.specs.Prelude.{nat_eq, ◌==◌, if◌then◌else◌, List, [], ◌∷◌, ◌++◌, length, map, codes}
+use Rattle.std.specs.Prelude.{Result, Ok, Err}
+use Rattle.std.specs.List.{list_all, ends_with}
+use Rattle.std.specs.Char.{to_ascii_lowercase}
+use Rattle.rpki_basics.specs.Segments.{segments}
+use Rattle.rpki_basics.specs.declared.uri.Error.{Error}
+use Rattle.rpki_basics.specs.declared.uri.Error.TheVariants.{InvalidCharacters, BadScheme, BadUri}
+use Rattle.rpki_basics.specs.declared.uri.Error.TheVariants.{Memory}
+
+-- An octet that a URI may have: a visible character of ASCII, but for " # < > \ ^ ` { | } (section
+-- 2). The number sign is left out too, since a URI of an object has no fragment.
+abbrev pub is_uri_octet : ℕ → Bool
+is_uri_octet octet =
+    nat_le 0x21 octet && nat_le octet 0x7E
+    && not ((octet == 0x22) || (octet == 0x23) || (octet == 0x3C) || (octet == 0x3E)
+    || (octet == 0x5C) || (octet == 0x5E) || (octet == 0x60) || (octet == 0x7B) || (octet == 0x7C)
+    || (octet == 0x7D))
+
+-- Each octet is one that a URI may have.
+abbrev pub AreUriOctets : List ℕ → Type 0
+AreUriOctets text = list_all is_uri_octet text ≡ true
+
+-- The text is this scheme in any letters, a colon, and this rest (section 3.1).
+abbrev pub Follows : List ℕ → List ℕ → List ℕ → Type 0
+Follows scheme text rest =
+    (name : List ℕ) × (text ≡ name ++ (codes ":" ++ rest)) × (map to_ascii_lowercase name ≡ scheme)
+
+-- The text begins with this scheme and a colon (section 3.1).
+abbrev pub HasScheme : List ℕ → List ℕ → Type 0
+HasScheme scheme text = (rest : List ℕ) × Follows scheme text rest
+
+-- A segment that is neither . nor .. (section 3.3).
+abbrev pub IsNoDotSegment : List ℕ → Type 0
+IsNoDotSegment segment = (segment ≢ codes ".") × (segment ≢ codes "..")
+
+-- The segments of a path: none is . or .., and none but the last is empty (section 3.3).
+abbrev pub IsPath : List (List ℕ) → Type 0
+IsPath [] = Unit {0}
+IsPath (segment ∷ []) = IsNoDotSegment segment
+IsPath (segment ∷ next ∷ others) =
+    IsNoDotSegment segment × (0 < length segment) × IsPath (next ∷ others)
+
+-- An authority, a module and a path (RFC 5781, section 2). That the authority and the module are
+-- not empty, and the module is not . or .., is this project's profile.
+abbrev pub AreRsyncSegments : List (List ℕ) → Type 0
+AreRsyncSegments [] = ⊥
+AreRsyncSegments (authority ∷ []) = ⊥
+AreRsyncSegments (authority ∷ named ∷ path) =
+    (0 < length authority) × (0 < length named) × IsNoDotSegment named × IsPath path
+
+-- An authority, which is not empty, and anything (RFC 9110, section 4.2.2).
+abbrev pub AreHttpsSegments : List (List ℕ) → Type 0
+AreHttpsSegments [] = ⊥
+AreHttpsSegments (authority ∷ others) = 0 < length authority
+
+-- Two slashes, and segments of which this holds (section 3).
+abbrev pub GoesOn : (List (List ℕ) → Type 0) → List ℕ → Type 0
+GoesOn P text = (rest : List ℕ) × (text ≡ codes "//" ++ rest) × P (segments rest)
+
+-- A URI with this scheme, two slashes, and segments of which this holds (section 3).
+abbrev pub IsUri : List ℕ → (List (List ℕ) → Type 0) → List ℕ → Type 0
+IsUri scheme P text =
+    AreUriOctets text × ((rest : List ℕ) × Follows scheme text rest × GoesOn P rest)
+
+-- An rsync URI (RFC 5781, section 2).
+abbrev pub IsRsync : List ℕ → Type 0
+IsRsync text = IsUri (codes "rsync") AreRsyncSegments text
+
+-- An https URI (RFC 9110, section 4.2.2).
+abbrev pub IsHttps : List ℕ → Type 0
+IsHttps text = IsUri (codes "https") AreHttpsSegments text
+
+-- The URI of this text, or the first cause why there is none.
+abbrev pub IsUriOf : List ℕ → (List (List ℕ) → Type 0) → List ℕ → Result (List ℕ) Error → Type 0
+IsUriOf scheme P text (Ok uri) = (uri ≡ text) × IsUri scheme P text
+IsUriOf scheme P text (Err InvalidCharacters) = ¬ AreUriOctets text
+IsUriOf scheme P text (Err BadScheme) = AreUriOctets text × ¬ HasScheme scheme text
+IsUriOf scheme P text (Err BadUri) =
+    AreUriOctets text × HasScheme scheme text × ¬ IsUri scheme P text
+IsUriOf scheme P text (Err Memory) = ⊥
+
+-- A text and a name after it, with a slash between them where the text does not end in one.
+abbrev pub join_text : List ℕ → List ℕ → List ℕ
+join_text text name =
+    if ends_with nat_eq text (codes "/") then text ++ name else text ++ (codes "/" ++ name)
+
+-- The rsync URI of the joined text, or the first cause why there is none, unless memory runs out.
+abbrev pub IsJoined : List ℕ → List ℕ → Result (List ℕ) Error → Type 0
+IsJoined uri name (Ok joined) = (joined ≡ join_text uri name) × IsRsync (join_text uri name)
+IsJoined uri name (Err InvalidCharacters) = ¬ AreUriOctets (join_text uri name)
+IsJoined uri name (Err BadScheme) = ⊥
+IsJoined uri name (Err BadUri) =
+    AreUriOctets (join_text uri name) × ¬ IsRsync (join_text uri name)
+IsJoined uri name (Err Memory) = Unit {0}

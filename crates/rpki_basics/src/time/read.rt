@@ -1,0 +1,132 @@
+//! Reading times (RFC 5280, section 4.1.2.5).
+
+ghost use Rattle.std.specs.Prelude.{◌≡◌, ℕ, List, IfOk, IfSome, None, ◌<◌};
+ghost use Rattle.rpki_der.specs.Read.Parse.{Finds, primitive};
+ghost use Rattle.rpki_der.specs.Read.Reads.{Reads, OkOrMemory};
+ghost use Rattle.rpki_der.specs.Grammar.{Front, IsBytes};
+ghost use Rattle.rpki_der.specs.Tags.{GENERALIZED_TIME};
+ghost use Rattle.rpki_basics.specs.Moment.{Moment};
+ghost use Rattle.rpki_basics.specs.TimeForm.{TimeForm};
+ghost use Rattle.rpki_basics.specs.TimeRead.{pair_at, is_zulu, after_year_of, utc_of};
+ghost use Rattle.rpki_basics.specs.TimeRead.{generalized_of, time_at, IsTimeOf};
+
+use crate::contents::take_contents;
+use crate::time::Time;
+use rpki_der::{Constructed, DecodeError, Tag};
+
+// UTCTime (X.690, section 8.25).
+const UTC: Tag = Tag { octet: 0x17 };
+
+// GeneralizedTime (X.690, section 8.25).
+const GENERALIZED: Tag = Tag { octet: 0x18 };
+
+// Two decimal digits at the front, and what follows them.
+#[tactic(auto, unfolding(crate::specs::TimeRead::pair_at))]
+fn take_pair(text: &[u8]) -> Option<(u8, &[u8])>
+    ensures digits { Finds (λ p. (p.0, p.1.now)) result (pair_at text.now) }
+    ensures small { IfSome result (λ p. p.0 < 100) }
+{
+    match text {
+        [a, b, rest @ ..] if a.is_ascii_digit() && b.is_ascii_digit() => {
+            Some(((*a - b'0') * 10 + (*b - b'0'), rest))
+        }
+        _ => None,
+    }
+}
+
+// Whether a text is Z alone.
+#[tactic(auto, unfolding(crate::specs::TimeRead::is_zulu))]
+fn is_zulu(text: &[u8]) -> bool
+    ensures { result ≡ is_zulu text.now }
+{
+    match text {
+        [b'Z'] => true,
+        _ => false,
+    }
+}
+
+// The moment in that year that these digits name.
+#[tactic(auto, unfolding(crate::specs::TimeRead::after_year_of))]
+fn in_year(year: u16, text: &[u8]) -> Option<Time>
+    ensures { Finds (λ t. t) result (after_year_of year text.now) }
+{
+    let (month, text) = take_pair(text)?;
+    let (day, text) = take_pair(text)?;
+    let (hour, text) = take_pair(text)?;
+    let (minute, text) = take_pair(text)?;
+    let (second, text) = take_pair(text)?;
+    if is_zulu(text) {
+        Time::utc(year, month, day, hour, minute, second)
+    } else {
+        None
+    }
+}
+
+// The moment of a UTCTime.
+#[tactic(auto, unfolding(crate::specs::TimeRead::utc_of))]
+fn utc_time(text: &[u8]) -> Option<Time>
+    ensures { Finds (λ t. t) result (utc_of text.now) }
+{
+    let (year, text) = take_pair(text)?;
+    let year = u16::from(year);
+    let year = if year < 50 { 2000 + year } else { 1900 + year };
+    in_year(year, text)
+}
+
+// The moment of a GeneralizedTime.
+#[tactic(auto, unfolding(crate::specs::TimeRead::generalized_of))]
+fn generalized_time(text: &[u8]) -> Option<Time>
+    ensures { Finds (λ t. t) result (generalized_of text.now) }
+{
+    let (century, text) = take_pair(text)?;
+    let (year, text) = take_pair(text)?;
+    in_year(u16::from(century) * 100 + u16::from(year), text)
+}
+
+// Reads a GeneralizedTime.
+fn take_generalized(cons: &mut Constructed<'_>) -> Result<Time, DecodeError>
+    ensures { Reads (λ t. t) (primitive GENERALIZED_TIME generalized_of) cons.old result cons.new }
+{
+    let text = take_contents(cons, GENERALIZED)?;
+    match generalized_time(text.as_slice()) {
+        Some(time) => Ok(time),
+        None => Err(DecodeError::Malformed),
+    }
+}
+
+// Reads a time.
+#[tactic(auto, unfolding(crate::specs::TimeRead::time_at))]
+fn take_time(cons: &mut Constructed<'_>) -> Result<Time, DecodeError>
+    ensures { Reads (λ t. t) time_at cons.old result cons.new }
+{
+    match cons.take_opt_primitive_if(UTC)? {
+        None => take_generalized(cons),
+        Some(text) => match utc_time(text.as_slice()) {
+            Some(time) => Ok(time),
+            None => Err(DecodeError::Malformed),
+        },
+    }
+}
+
+impl Time {
+    /// Reads a time: a UTCTime or a GeneralizedTime of a real moment (RFC 5280, section 4.1.2.5),
+    /// in DER and in BER alike. All else is refused; `Memory` may come too.
+    pub fn take_from(cons: &mut Constructed<'_>) -> Result<Time, DecodeError>
+        ensures reads { Reads (λ t. t) time_at cons.old result cons.new }
+        ensures found { IfOk result (λ t. IsBytes cons.old.rest →
+            Front (TimeForm cons.old.mode) cons.old.rest t cons.new.rest) }
+        ensures accepted { cons.old.failed ≡ None → (t : Moment) (rest : List ℕ) →
+            Front (TimeForm cons.old.mode) cons.old.rest t rest →
+            OkOrMemory result (λ read. (read ≡ t) × (cons.new.rest ≡ rest)) }
+    {
+        take_time(cons)
+    }
+
+    /// The moment that a text `YYYYMMDDHHMMSSZ` names, if it names one (RFC 5280, section
+    /// 4.1.2.5.2).
+    pub fn from_generalized(text: &[u8]) -> Option<Time>
+        ensures { IsTimeOf text.now result }
+    {
+        generalized_time(text)
+    }
+}

@@ -1,0 +1,138 @@
+//! Rows of octets that are read and written.
+
+use bytes::Bytes;
+use rpki_basics::{Serial, Time};
+use rpki_der::{Constructed, DecodeError, Encode, EncodeError, Mode};
+use std::alloc::{AllocError, Global};
+
+/// The octets of a time, and its text, if it is read.
+static TIMES: [(&[u8], &str); 12] = [
+    (b"\x17\x0D500101000000Z", "1950-01-01T00:00:00Z"),
+    (b"\x17\x0D491231235959Z", "2049-12-31T23:59:59Z"),
+    (b"\x18\x0F19491231235959Z", "1949-12-31T23:59:59Z"),
+    (b"\x18\x0F20500101000000Z", "2050-01-01T00:00:00Z"),
+    (b"\x18\x0F00000229000000Z", "0000-02-29T00:00:00Z"),
+    (b"\x18\x0F99991231235959Z", "9999-12-31T23:59:59Z"),
+    (b"\x18\x0F20230229000000Z", ""),
+    (b"\x17\x0D240230000000Z", ""),
+    (b"\x17\x0D240101000060Z", ""),
+    (b"\x17\x0B2401010000Z", ""),
+    (b"\x18\x0D500101000000Z", ""),
+    (b"\x16\x0D500101000000Z", ""),
+];
+
+/// The octets that a time of these is written as again.
+static WRITTEN: [&[u8]; 4] = [
+    b"\x18\x0F19491231235959Z",
+    b"\x17\x0D500101000000Z",
+    b"\x17\x0D491231235959Z",
+    b"\x18\x0F20500101000000Z",
+];
+
+const MODES: [Mode; 2] = [Mode::Der, Mode::Ber];
+
+fn time_in(alloc: Global, octets: &[u8], mode: Mode) -> Result<Option<Time>, AllocError> {
+    let source = Bytes::copy_from_slice(alloc, octets)?;
+    match Constructed::decode(source, mode, Time::take_from) {
+        Ok(time) => Ok(Some(time)),
+        Err(DecodeError::Memory) => Err(AllocError),
+        Err(_) => Ok(None),
+    }
+}
+
+fn is_read(alloc: Global, octets: &[u8], mode: Mode, want: &str) -> Result<bool, AllocError> {
+    match time_in(alloc, octets, mode)? {
+        None => Ok(want.is_empty()),
+        Some(time) => Ok(format!(in alloc; "{time}")?.as_str() == want),
+    }
+}
+
+#[test]
+fn times_read(rt: HostRuntime) -> Result<(), AllocError> {
+    let alloc = rt.alloc();
+    for (octets, want) in &TIMES {
+        for mode in MODES {
+            assert!(rt; is_read(alloc, octets, mode, want)?);
+        }
+    }
+    Ok(())
+}
+
+fn has_octets(written: Result<Vec<u8>, EncodeError>, want: &[u8]) -> Result<bool, AllocError> {
+    match written {
+        Ok(octets) => Ok(octets.as_slice() == want),
+        Err(EncodeError::Memory) => Err(AllocError),
+        Err(_) => Ok(false),
+    }
+}
+
+#[test]
+fn times_written(rt: HostRuntime) -> Result<(), AllocError> {
+    let alloc = rt.alloc();
+    for octets in &WRITTEN {
+        match time_in(alloc, octets, Mode::Der)? {
+            None => assert!(rt; false),
+            Some(time) => assert!(rt; has_octets(time.encode_ref().to_bytes(alloc), octets)?),
+        }
+    }
+    let Some(time) = Time::utc(2024, 1, 8, 0, 0, 0) else {
+        assert!(rt; false);
+        return Ok(());
+    };
+    let written = time.encode_generalized().to_bytes(alloc);
+    assert!(rt; has_octets(written, b"\x18\x0F20240108000000Z")?);
+    Ok(())
+}
+
+/// The octets of an INTEGER, and the text of its number, if it is read as a serial number.
+static SERIALS: [(&[u8], &str); 9] = [
+    (b"\x02\x01\x00", "0"),
+    (b"\x02\x01\x0C", "c"),
+    (b"\x02\x02\x00\x80", "80"),
+    (b"\x02\x02\x0A\xBC", "abc"),
+    (
+        &[
+            0x02, 0x15, 0x00, 0xFF, 0xFF, 0xFF, 0xFF, 0xFF, 0xFF, 0xFF, 0xFF, 0xFF, 0xFF, 0xFF,
+            0xFF, 0xFF, 0xFF, 0xFF, 0xFF, 0xFF, 0xFF, 0xFF, 0xFF,
+        ],
+        "ffffffffffffffffffffffffffffffffffffffff",
+    ),
+    (
+        &[
+            0x02, 0x15, 0x01, 0x00, 0x00, 0x00, 0x00, 0x00, 0x00, 0x00, 0x00, 0x00, 0x00, 0x00,
+            0x00, 0x00, 0x00, 0x00, 0x00, 0x00, 0x00, 0x00, 0x00,
+        ],
+        "",
+    ),
+    (b"\x02\x01\x80", ""),
+    (b"\x02\x02\x00\x7F", ""),
+    (b"\x02\x00", ""),
+];
+
+fn serial_in(alloc: Global, octets: &[u8]) -> Result<Option<Serial>, AllocError> {
+    let source = Bytes::copy_from_slice(alloc, octets)?;
+    match Constructed::decode(source, Mode::Der, Serial::take_from) {
+        Ok(serial) => Ok(Some(serial)),
+        Err(DecodeError::Memory) => Err(AllocError),
+        Err(_) => Ok(None),
+    }
+}
+
+#[test]
+fn serials(rt: HostRuntime) -> Result<(), AllocError> {
+    let alloc = rt.alloc();
+    for (octets, want) in &SERIALS {
+        match serial_in(alloc, octets)? {
+            None => assert!(rt; want.is_empty()),
+            Some(serial) => {
+                assert!(rt; format!(in alloc; "{serial}")?.as_str() == *want);
+                assert!(rt; has_octets(serial.encode_ref().to_bytes(alloc), octets)?);
+            }
+        }
+    }
+    assert!(rt; Serial::from(0xABC) == Serial::from(0xABC));
+    assert!(rt; Serial::from(0xABC) != Serial::from(0xABD));
+    let most = Serial::from(u64::MAX);
+    assert!(rt; format!(in alloc; "{most}")?.as_str() == "ffffffffffffffff");
+    Ok(())
+}

@@ -1,0 +1,10 @@
+pub mod AspaExact
+pub mod Following
+pub mod Named
+pub mod Orders
+pub mod Providers
+pub mod Reading
+pub mod Running
+pub mod Saying
+pub mod Shown
+pub mod Written

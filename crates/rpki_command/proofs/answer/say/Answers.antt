@@ -1,0 +1,19 @@
+use Rattle.std.proofs.Common.{refl}
+use Rattle.rpki_command.proofs.answer.say.Goals as goal
+
+pub returns-in-CannotRead : goal.returns-in-CannotRead
+returns-in-CannotRead g c =
+    rw c.in-CannotRead.is
+    (record { err = rw c.as_bytes.ensures.value at c.write_line.ensures; out = refl })
+
+pub returns-in-BadVerdicts : goal.returns-in-BadVerdicts
+returns-in-BadVerdicts g c =
+    rw c.in-BadVerdicts.is (record { err = c.write-in-BadVerdicts.ensures; out = refl })
+
+pub returns-in-OutOfMemory : goal.returns-in-OutOfMemory
+returns-in-OutOfMemory g c =
+    rw c.in-OutOfMemory.is (record { err = c.write-in-OutOfMemory.ensures; out = refl })
+
+pub returns-in-Malformed : goal.returns-in-Malformed
+returns-in-Malformed g c =
+    rw c.in-Malformed.is (record { out = c.write-in-Malformed.ensures; err = refl })

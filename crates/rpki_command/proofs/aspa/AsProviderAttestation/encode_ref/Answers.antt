@@ -1,0 +1,15 @@
+use Rattle.std.proofs.Common.{subst}
+use Rattle.rpki_command.specs.Aspa.{IsAttestation}
+use Rattle.rpki_command.proofs.Written.{short-octets, aspa-written, aspa-only}
+use Rattle.rpki_command.proofs.aspa.AsProviderAttestation.encode_ref.Goals as goal
+
+pub returns-clause-short : goal.returns-clause-short
+returns-clause-short c =
+    short-octets c.args.self.now (subst IsAttestation c.self.view_is c.self.invariant)
+
+pub returns-clause-written : goal.returns-clause-written
+returns-clause-written c =
+    aspa-written c.args.self.now (subst IsAttestation c.self.view_is c.self.invariant)
+
+pub returns-clause-only : goal.returns-clause-only
+returns-clause-only c = λ octets bytes form. aspa-only octets c.args.self.now bytes form

@@ -1,0 +1,6 @@
+-- The words are run, unless memory runs out.
+use Rattle.std.proofs.Common.{refl, inl}
+use Rattle.rpki_command.proofs.entry.run_with.Goals as goal
+
+pub returns-in-Err : goal.returns-in-Err
+returns-in-Err g c = inl (record { said = c.say.ensures; reads = refl })

@@ -1,0 +1,13 @@
+use Rattle.std.proofs.Common.{refl}
+use Rattle.rpki_command.specs.AspaWritten.{aspa_octets}
+use Rattle.rpki_command.proofs.Written.{aspa-written, aspa-only}
+use Rattle.rpki_command.proofs.laws.contents_are_written.Goals as goal
+
+pub returns-clause-written : goal.returns-clause-written
+returns-clause-written c = aspa-written
+
+pub returns-clause-only : goal.returns-clause-only
+returns-clause-only c = aspa-only
+
+pub returns-clause-read : goal.returns-clause-read
+returns-clause-read c = λ a rest attested. (aspa_octets a, refl, aspa-written a attested)

@@ -1,0 +1,106 @@
+-- What the program says for an answer, and what its two streams have taken then.
+use Rattle.std.specs.Prelude.{◌≡◌, ℕ, ◌+◌, ◌⊎◌, List, Option, ◌++◌, string_bytes, codes}
+use Rattle.std.specs.Io.KnownBytes.{Appends}
+use Rattle.rpki_der.specs.Write.Sink.{AppendsFront}
+use Rattle.rpki_der.specs.Write.Encode.{Sunk}
+use Rattle.rpki_command.specs.declared.answer.Answer.{Answer}
+use Rattle.rpki_command.specs.declared.answer.Answer.TheVariants.{Usage, CannotRead, BadVerdicts}
+use Rattle.rpki_command.specs.declared.answer.Answer.TheVariants.{OutOfMemory, Malformed, Refused}
+use Rattle.rpki_command.specs.declared.answer.Answer.TheVariants.{Shown}
+
+-- what a run did to standard output and to standard error, and its exit status
+pub record Run : Type 0 where
+  pub out_before : Sunk
+  pub out_after : Sunk
+  pub err_before : Sunk
+  pub err_after : Sunk
+  pub status : ℕ
+
+-- the run of a call with these two sinks
+abbrev pub run_of : {O E : Type 0} → (O → Option (List ℕ)) → (O → ℕ) → O → O → (E → Option (List ℕ))
+    → (E → ℕ) → E → E → ℕ → Run
+run_of out_taken out_failures out out' err_taken err_failures err err' status = record {
+  out_before = (out_taken out, out_failures out);
+  out_after = (out_taken out', out_failures out');
+  err_before = (err_taken err, err_failures err);
+  err_after = (err_taken err', err_failures err');
+  status = status;
+}
+
+-- no call of the sink has failed, all of the octets are written, and the status is the wanted one
+pub record IsWhole (octets : List ℕ) (wanted : ℕ) (old new : Sunk) (status : ℕ) : Type 0 where
+  pub written : Appends old.0 new.0 octets
+  pub no_failure : new.1 ≡ old.1
+  pub status_is : status ≡ wanted
+
+-- a call of the sink has failed, and none came after it: a beginning of the octets is written, and
+-- the status is 2
+pub record IsCut (octets : List ℕ) (old new : Sunk) (status : ℕ) : Type 0 where
+  pub begun : AppendsFront old.0 new.0 octets
+  pub one_failure : new.1 ≡ old.1 + 1
+  pub status_is : status ≡ 2
+
+-- the octets are written with this status, or a call of the sink has failed
+abbrev pub Writes : List ℕ → ℕ → Sunk → Sunk → ℕ → Type 0
+Writes octets wanted old new status =
+    IsWhole octets wanted old new status ⊎ IsCut octets old new status
+
+-- the octets are written on standard output, and standard error is left alone
+pub record Prints (octets : List ℕ) (wanted : ℕ) (run : Run) : Type 0 where
+  pub out : Writes octets wanted run.out_before run.out_after run.status
+  pub err : run.err_after ≡ run.err_before
+
+-- the octets are written on standard error, and standard output is left alone
+pub record Complains (octets : List ℕ) (wanted : ℕ) (run : Run) : Type 0 where
+  pub err : Writes octets wanted run.err_before run.err_after run.status
+  pub out : run.out_after ≡ run.out_before
+
+-- what is said: a text, and the status that goes with it
+pub data Said : Type 0 where
+  -- on standard output
+  Printed : (text : List ℕ) (status : ℕ) → Said
+  -- on standard error
+  Complained : (text : List ℕ) (status : ℕ) → Said
+
+-- the words ask for nothing
+abbrev pub usage : Said
+usage = Complained (codes "usage\n") 2
+
+-- a file can't be read
+abbrev pub cannot_read : List ℕ → Said
+cannot_read file = Complained (codes "cannot read " ++ (file ++ codes "\n")) 2
+
+-- a file is no list of verdicts
+abbrev pub bad_verdicts : Said
+bad_verdicts = Complained (codes "bad verdicts\n") 2
+
+-- no memory was to be had
+abbrev pub out_of_memory : Said
+out_of_memory = Complained (codes "out of memory\n") 3
+
+-- a file does not begin with what was asked for
+abbrev pub malformed : Said
+malformed = Printed (codes "malformed\n") 1
+
+-- an object is refused, for this cause
+abbrev pub refused : List ℕ → Said
+refused cause = Printed (codes "refused: " ++ (cause ++ codes "\n")) 1
+
+-- these lines are shown
+abbrev pub shown : List ℕ → Said
+shown lines = Printed lines 0
+
+-- what an answer says
+abbrev pub said : Answer → Said
+said Usage = usage
+said (CannotRead file) = cannot_read file.now
+said BadVerdicts = bad_verdicts
+said OutOfMemory = out_of_memory
+said Malformed = malformed
+said (Refused cause) = refused (string_bytes cause)
+said (Shown lines) = shown (string_bytes lines)
+
+-- the run says it
+abbrev pub IsSaid : Said → Run → Type 0
+IsSaid (Printed text status) run = Prints text status run
+IsSaid (Complained text status) run = Complains text status run

@@ -1,0 +1,45 @@
+-- What the arguments of a program tell, and the words that they are.
+use Rattle.std.specs.Prelude.{◌≡◌, ℕ, ◌<◌, ◌≤◌, List, length, drop, map, slice_index_or, Option}
+use Rattle.std.specs.Prelude.{None, Some, Result, Ok, Err, Vec, String, string_bytes, All}
+use Rattle.std.specs.Str.{IsUtf8}
+use Rattle.std.specs.declared.alloc.Global.{Global}
+use Rattle.rpki_command.specs.declared.arguments.WordsError.{WordsError}
+use Rattle.rpki_command.specs.declared.arguments.WordsError.TheVariants.{NoText, Memory}
+
+-- What is told of the arguments: nothing, or the octets of each, the program's name first.
+abbrev pub Told : Type 0
+Told = Option (List (List ℕ))
+
+-- what is given of the argument at a place
+abbrev pub IsArgument : Told → ℕ → Option (Vec ℕ Global) → Type 0
+IsArgument None place argument = Unit {0}
+IsArgument (Some arguments) place None = length arguments ≤ place
+IsArgument (Some arguments) place (Some octets) =
+    (place < length arguments) × ((d : List ℕ) → octets.items ≡ slice_index_or arguments place d)
+
+-- what is given of the word at a place: it may be no text
+abbrev pub IsWordAt : Told → ℕ → Result (Option (String Global)) WordsError → Type 0
+IsWordAt None place word = Unit {0}
+IsWordAt (Some arguments) place (Ok None) = length arguments ≤ place
+IsWordAt (Some arguments) place (Ok (Some word)) =
+    (place < length arguments)
+    × ((d : List ℕ) → string_bytes word ≡ slice_index_or arguments place d)
+IsWordAt (Some arguments) place (Err NoText) =
+    (place < length arguments) × ((d : List ℕ) → ¬ IsUtf8 (slice_index_or arguments place d))
+IsWordAt (Some arguments) place (Err Memory) = Unit {0}
+
+-- the words follow the program's name
+abbrev pub Follow : Told → List (List ℕ) → Type 0
+Follow None words = Unit {0}
+Follow (Some arguments) words = words ≡ drop 1 arguments
+
+-- one of the arguments after the program's name is no text
+abbrev pub HaveNoText : Told → Type 0
+HaveNoText None = Unit {0}
+HaveNoText (Some arguments) = ¬ All IsUtf8 (drop 1 arguments)
+
+-- what is given of the words
+abbrev pub AreWords : Told → Result (Vec (String Global) Global) WordsError → Type 0
+AreWords told (Ok words) = Follow told (map string_bytes words.items)
+AreWords told (Err NoText) = HaveNoText told
+AreWords told (Err Memory) = Unit {0}

@@ -1,0 +1,37 @@
+-- What is said of the octets of a file, by the kind of content that is asked for.
+use Rattle.std.specs.Prelude.{◌≡◌, ℕ, ◌⊎◌, List}
+use Rattle.rpki_der.specs.declared.mode.Mode.TheVariants.{Der}
+use Rattle.rpki_der.specs.Grammar.{Front}
+use Rattle.rpki_command.specs.Answer.{Said, out_of_memory, malformed, shown}
+use Rattle.rpki_command.specs.Aspa.{AspaForm}
+use Rattle.rpki_command.specs.Texts.Aspa.{aspa_text}
+use Rattle.rpki_command.specs.declared.words.Kind.{Kind}
+use Rattle.rpki_command.specs.declared.words.Kind.TheVariants.{Aspa}
+
+-- these are the lines of what stands at the front of the octets
+abbrev pub HasLines : {X : Type 0} → (List ℕ → X → Type 0) → (X → List ℕ) → List ℕ → List ℕ → Type 0
+HasLines {X} form text octets lines =
+    (x : X) × (rest : List ℕ) × Front form octets x rest × (lines ≡ text x)
+
+-- The lines of a bare content at the front of the octets: a row for each kind.
+abbrev pub LinesOf : Kind → List ℕ → List ℕ → Type 0
+LinesOf Aspa = HasLines (AspaForm Der) aspa_text
+
+-- no lines are those of the octets
+abbrev pub HasNoLines : (List ℕ → List ℕ → Type 0) → List ℕ → Type 0
+HasNoLines lines_of octets = (lines : List ℕ) → lines_of octets lines → ⊥
+
+-- these lines are those of the octets, and no others are
+pub record HasOnlyLines (lines_of : List ℕ → List ℕ → Type 0) (octets lines : List ℕ) : Type 0 where
+  pub these : lines_of octets lines
+  pub only : (others : List ℕ) → lines_of octets others → others ≡ lines
+
+-- the lines are shown, unless memory runs out
+abbrev pub IsLinesOf : List ℕ → Said → Type 0
+IsLinesOf lines s = (s ≡ out_of_memory) ⊎ (s ≡ shown lines)
+
+-- the lines of the octets are shown, or there are none, or memory runs out
+abbrev pub IsShown : (List ℕ → List ℕ → Type 0) → List ℕ → Said → Type 0
+IsShown lines_of octets s =
+    (s ≡ out_of_memory) ⊎ (((s ≡ malformed) × HasNoLines lines_of octets)
+    ⊎ ((lines : List ℕ) × HasOnlyLines lines_of octets lines × (s ≡ shown lines)))

@@ -1,0 +1,12 @@
+pub mod Answer
+pub mod Arguments
+pub mod Aspa
+pub mod AspaRead
+pub mod AspaWritten
+pub mod Command
+pub mod Contents
+pub mod Grows
+pub mod Refusal
+pub mod Store
+pub mod Texts
+pub mod Words

@@ -1,0 +1,2 @@
+-- The lines of each kind of content.
+pub mod Aspa

@@ -1,0 +1,72 @@
+-- The command line: what each order is written as.
+use Rattle.std.specs.Prelude.{◌≡◌, ℕ, List, [], ◌∷◌, ◌++◌, Bool, true, false, not, ◌&&◌, ◌==◌}
+use Rattle.std.specs.Prelude.{length, map, codes}
+use Rattle.std.specs.Borrow.{Bor}
+use Rattle.rpki_command.specs.declared.words.Kind.{Kind}
+use Rattle.rpki_command.specs.declared.words.Kind.TheVariants.{Aspa}
+use Rattle.rpki_command.specs.declared.words.Command.{Command}
+use Rattle.rpki_command.specs.declared.words.Command.TheVariants.{Content, ContentRta, Show}
+use Rattle.rpki_command.specs.declared.words.Command.TheVariants.{ShowRta, ShowTal, Check, Rta}
+use Rattle.rpki_command.specs.declared.words.Order.{Order}
+
+-- the words as lists of octets
+abbrev pub texts : List (Bor (List ℕ)) → List (List ℕ)
+texts words = map (λ w. w.now) words
+
+-- the word of each kind
+abbrev pub kind_word : Kind → List ℕ
+kind_word Aspa = codes "aspa"
+
+-- this word, where it is wanted
+abbrev pub word_if : Bool → List ℕ → List (List ℕ)
+word_if true word = word ∷ []
+word_if false word = []
+
+abbrev pub word_relaxed : List ℕ
+word_relaxed = codes "--relaxed"
+
+abbrev pub word_registered : List ℕ
+word_registered = codes "--registered"
+
+abbrev pub word_wide : List ℕ
+word_wide = codes "--wide"
+
+abbrev pub command_words : Command → List (List ℕ)
+command_words (Content kind file) = codes "content" ∷ kind_word kind ∷ file ∷ []
+command_words (ContentRta file) = codes "content" ∷ codes "rta" ∷ file ∷ []
+command_words (Show kind file) = codes "show" ∷ kind_word kind ∷ file ∷ []
+command_words (ShowRta file) = codes "show" ∷ codes "rta" ∷ file ∷ []
+command_words (ShowTal file) = codes "show" ∷ codes "tal" ∷ file ∷ []
+command_words (Check kind file moment verdicts anchor chain) =
+    codes "check" ∷ kind_word kind ∷ file ∷ moment ∷ verdicts ∷ anchor ∷ chain
+command_words (Rta file moment verdicts anchor anchors) =
+    codes "rta" ∷ file ∷ moment ∷ verdicts ∷ anchor ∷ anchors
+
+-- the words, without the program's name, that an order is written as
+abbrev pub order_words : Order → List (List ℕ)
+order_words o = word_if o.options.relaxed word_relaxed
+    ++ (word_if o.options.registered word_registered
+    ++ (word_if o.options.wide word_wide ++ command_words o.command))
+
+-- the files that are named by a word, in the order of the words
+abbrev pub files_of : Command → List (List ℕ)
+files_of (Content kind file) = file ∷ []
+files_of (ContentRta file) = file ∷ []
+files_of (Show kind file) = file ∷ []
+files_of (ShowRta file) = file ∷ []
+files_of (ShowTal file) = file ∷ []
+files_of (Check kind file moment verdicts anchor chain) = file ∷ verdicts ∷ anchor ∷ chain
+files_of (Rta file moment verdicts anchor anchors) = file ∷ verdicts ∷ []
+
+-- whether each of these files has a name
+abbrev pub are_named : List (List ℕ) → Bool
+are_named [] = true
+are_named (file ∷ files) = not (length file == 0) && are_named files
+
+-- the words ask for this
+abbrev pub IsAsked : List (List ℕ) → Order → Type 0
+IsAsked words o = (words ≡ order_words o) × (are_named (files_of o.command) ≡ true)
+
+-- they ask for nothing that there is
+abbrev pub AskForNothing : List (List ℕ) → Type 0
+AskForNothing words = (o : Order) → IsAsked words o → ⊥

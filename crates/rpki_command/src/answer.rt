@@ -1,0 +1,86 @@
+//! What the program answers, and how it says it.
+
+ghost use Rattle.std.specs.Prelude.{◌≡◌, ◌+◌, ◌++◌, OnOk, OnErr, codes};
+ghost use Rattle.std.specs.Io.KnownBytes.{Appends};
+ghost use Rattle.rpki_der.specs.Write.Sink.{AppendsFront};
+ghost use Rattle.rpki_command.specs.Answer.{Writes, IsSaid, run_of, said};
+
+use rpki_der::{Sink, SinkFailed};
+
+/// What the program answers.
+#[derive(Drop)]
+pub enum Answer<'a> {
+    /// The words ask for nothing that there is.
+    Usage,
+    /// This file can't be read.
+    CannotRead(&'a str),
+    /// The file of verdicts is none.
+    BadVerdicts,
+    /// No memory was to be had.
+    OutOfMemory,
+    /// The file does not begin with what was asked for.
+    Malformed,
+    /// The object is refused, for this cause.
+    Refused(String),
+    /// These lines.
+    Shown(String),
+}
+
+/// Says the answer on one of the two sinks, and gives the exit status, which is 2 where the sink
+/// fails.
+pub fn say<O: Sink, E: Sink>(answer: &Answer<'_>, out: &mut O, err: &mut E) -> u8
+    ensures { IsSaid (said answer.now)
+        (run_of O.taken O.failures out.old out.new E.taken E.failures err.old err.new result) }
+{
+    match answer {
+        Answer::Usage => write(b"usage\n", 2, err),
+        Answer::CannotRead(file) => write_line(b"cannot read ", file.as_bytes(), 2, err),
+        Answer::BadVerdicts => write(b"bad verdicts\n", 2, err),
+        Answer::OutOfMemory => write(b"out of memory\n", 3, err),
+        Answer::Malformed => write(b"malformed\n", 1, out),
+        Answer::Refused(cause) => write_line(b"refused: ", cause.as_bytes(), 1, out),
+        Answer::Shown(text) => write(text.as_bytes(), 0, out),
+    }
+}
+
+/// Writes the octets, and gives the status, or 2 where the sink fails.
+fn write<W: Sink>(octets: &[u8], status: u8, sink: &mut W) -> u8
+    ensures { Writes octets.now status (W.taken sink.old, W.failures sink.old)
+        (W.taken sink.new, W.failures sink.new) result }
+{
+    match sink.take_all(octets) {
+        Ok(()) => status,
+        Err(SinkFailed) => 2,
+    }
+}
+
+/// Writes a line of two parts, and gives the status, or 2 where the sink fails.
+fn write_line<W: Sink>(first: &[u8], second: &[u8], status: u8, sink: &mut W) -> u8
+    ensures { Writes (first.now ++ (second.now ++ codes "\n")) status
+        (W.taken sink.old, W.failures sink.old) (W.taken sink.new, W.failures sink.new) result }
+{
+    match write_parts(first, second, b"\n", sink) {
+        Ok(()) => status,
+        Err(SinkFailed) => 2,
+    }
+}
+
+/// Writes three parts, one after the other.
+fn write_parts<W: Sink>(
+    first: &[u8],
+    second: &[u8],
+    third: &[u8],
+    sink: &mut W,
+) -> Result<(), SinkFailed>
+    ensures ok { OnOk result
+        (Appends (W.taken sink.old) (W.taken sink.new) (first.now ++ (second.now ++ third.now))) }
+    ensures begun { OnErr result
+        (AppendsFront (W.taken sink.old) (W.taken sink.new)
+        (first.now ++ (second.now ++ third.now))) }
+    ensures same { OnOk result (W.failures sink.new ≡ W.failures sink.old) }
+    ensures failed { OnErr result (W.failures sink.new ≡ W.failures sink.old + 1) }
+{
+    sink.take_all(first)?;
+    sink.take_all(second)?;
+    sink.take_all(third)
+}

@@ -1,0 +1,116 @@
+//! Contents of AS provider attestations (draft-ietf-sidrops-aspa-profile-15, section 3).
+
+mod encoder;
+mod providers;
+
+ghost use Rattle.std.specs.Prelude.{◌≡◌, ◌<◌, ◌^◌, ℕ, List, length};
+ghost use Rattle.rpki_der.specs.Tags.{SEQUENCE};
+ghost use Rattle.rpki_der.specs.Read.Parse.{in_value};
+ghost use Rattle.rpki_der.specs.Read.Reads.{Reads, Found};
+ghost use Rattle.rpki_der.specs.Form.Decodes.{Decodes};
+ghost use Rattle.rpki_der.specs.declared.mode.Mode.TheVariants.{Der};
+ghost use Rattle.rpki_der.specs.Grammar.{IsBytes};
+ghost use Rattle.rpki_command.specs.Aspa.{Aspa, AspaForm, IsAttestation};
+ghost use Rattle.rpki_command.specs.AspaRead.{fields_at};
+ghost use Rattle.rpki_command.specs.AspaWritten.{aspa_octets};
+
+use bytes::Bytes;
+pub use encoder::AsProviderAttestationEncoder;
+use providers::take_providers;
+pub use providers::{ProviderAsIter, ProviderAsSet};
+use rpki_der::laws::slices_hold_octets;
+use rpki_der::{Constructed, ContentFault, DecodeError, Mode, Reason, Tag};
+use rpki_resources::Asn;
+use std::alloc::Global;
+use std::marker::Model;
+
+/// Which autonomous systems a customer says are its providers.
+#[derive(Debug, Drop)]
+pub struct AsProviderAttestation {
+    customer: Asn,
+    providers: ProviderAsSet,
+}
+
+impl Model for AsProviderAttestation {
+    ghost use Rattle.rpki_command.specs.Aspa.{Aspa, IsAttestation};
+
+    ghost Value = { Aspa };
+
+    ghost view = { λ a. record { customer = a.customer; providers = a.providers } };
+
+    ghost invariant = { λ a. IsAttestation
+        (record { customer = a.customer; providers = a.providers }) };
+}
+
+impl AsProviderAttestation {
+    /// Reads the content at the front of the source, by the rules of DER (section 3 of the
+    /// profile). Refuses by `Malformed`
+    /// or by the `Content` fault that is found first where there is none, and by `Memory` where no
+    /// memory was to be had.
+    pub fn decode(alloc: Global, source: Bytes) -> Result<AsProviderAttestation, DecodeError>
+        ensures { Decodes (AspaForm Der) (λ a. a) source result }
+    {
+        // The proof needs that each octet is below 256, which is known of a slice and not of a
+        // `Bytes`.
+        slices_hold_octets(source.as_slice());
+        read_front(alloc, source)
+    }
+
+    /// The autonomous system whose providers these are.
+    pub fn customer_as(&self) -> Asn
+        ensures value { result ≡ self.now.customer }
+        ensures attested { IsAttestation self.now }
+    {
+        self.customer
+    }
+
+    /// Its providers.
+    pub fn provider_as_set(&self) -> &ProviderAsSet
+        ensures value { result.now ≡ self.now.providers }
+        ensures attested { IsAttestation self.now }
+    {
+        &self.providers
+    }
+
+    /// The content, to be written in DER.
+    pub fn encode_ref(&self) -> AsProviderAttestationEncoder<'_>
+        ensures value { result ≡ self.now }
+        ensures short { length (aspa_octets self.now) < 2 ^ 32 }
+        ensures written { AspaForm Der (aspa_octets self.now) self.now }
+        ensures only { (octets : List ℕ) → IsBytes octets → AspaForm Der octets self.now
+            → octets ≡ aspa_octets self.now }
+    {
+        // What a value's type promises is known to the proof only where one of its fields is read.
+        let _ = &self.customer;
+        AsProviderAttestationEncoder::new(self)
+    }
+}
+
+/// Reads the content at the front.
+fn read_front(alloc: Global, source: Bytes) -> Result<AsProviderAttestation, DecodeError>
+    ensures { Found (λ a. a) (in_value SEQUENCE fields_at Der source) result }
+{
+    Constructed::decode(source, Mode::Der, |cons| {
+        cons.take_sequence(|cons| take_fields(cons, alloc))
+    })
+}
+
+/// Reads the version, the customer and the providers.
+#[tactic(auto, unfolding(crate::specs::AspaRead::fields_at))]
+fn take_fields(
+    cons: &mut Constructed<'_>,
+    alloc: Global,
+) -> Result<AsProviderAttestation, DecodeError>
+    ensures { Reads (λ a. a) fields_at cons.old result cons.new }
+{
+    cons.take_constructed_if(Tag::CTX_0, |cons| cons.skip_u8_if(1))?;
+    let customer = cons.take_u32()?;
+    if customer == 0 {
+        return Err(DecodeError::Content(ContentFault::Text(Reason::CustomerAs0)));
+    }
+    let providers = take_providers(cons, alloc, customer)?;
+    Ok(AsProviderAttestation {
+        customer: Asn::from_u32(customer),
+        providers,
+    })
+}

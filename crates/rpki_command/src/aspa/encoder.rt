@@ -1,0 +1,106 @@
+//! Writing a content.
+
+ghost use Rattle.std.specs.Prelude.{◌≡◌, ◌<◌, ◌^◌, length};
+ghost use Rattle.rpki_der.specs.Tags.{SEQUENCE, context};
+ghost use Rattle.rpki_der.specs.Write.Parts.{contents_small};
+ghost use Rattle.rpki_der.specs.Write.Written.{number_octets, value_octets};
+ghost use Rattle.rpki_command.specs.AspaWritten.{version_octets, providers_octets};
+
+use crate::aspa::AsProviderAttestation;
+use rpki_der::encode::{each, integer, sequence, tagged};
+use rpki_der::{Encode, EncodeError, Sink, SinkFailed, Tag};
+use rpki_resources::Asn;
+use std::marker::Model;
+
+/// A content, to be written in DER.
+#[derive(Drop)]
+pub struct AsProviderAttestationEncoder<'a> {
+    content: &'a AsProviderAttestation,
+}
+
+impl<'a> Model for AsProviderAttestationEncoder<'a> {
+    ghost use Rattle.rpki_command.specs.Aspa.{Aspa};
+
+    ghost Value = { Aspa };
+
+    ghost view = { λ e. e.content.now };
+}
+
+impl<'a> AsProviderAttestationEncoder<'a> {
+    /// Makes the encoder of this content.
+    pub(crate) fn new(content: &'a AsProviderAttestation) -> AsProviderAttestationEncoder<'a>
+        ensures { result ≡ content.now }
+    {
+        AsProviderAttestationEncoder { content }
+    }
+
+    /// Gives the fields of the content: its version, its customer and its providers.
+    fn fields(&self) -> (Version, Asn, Providers<'_>)
+        ensures customer { result.1 ≡ self.now.customer }
+        ensures providers { result.2.0.now ≡ self.now.providers }
+    {
+        (
+            Version,
+            self.content.customer_as(),
+            Providers(self.content.provider_as_set().as_slice()),
+        )
+    }
+}
+
+impl<'a> Encode for AsProviderAttestationEncoder<'a> {
+    ghost use Rattle.rpki_command.specs.AspaWritten.{aspa_contents, aspa_octets};
+
+    ghost octets = { aspa_octets };
+
+    ghost is_short = { λ a. length (aspa_contents a) < 2 ^ 32 };
+
+    ghost small = { λ a h. contents_small SEQUENCE (aspa_contents a) h };
+
+    fn encoded_len(&self) -> Result<u64, EncodeError> {
+        sequence(self.fields()).encoded_len()
+    }
+
+    fn put<W: Sink>(&self, len: u64, out: &mut W) -> Result<(), SinkFailed> {
+        sequence(self.fields()).put(len, out)
+    }
+}
+
+/// The version field: [0] that holds the INTEGER 1.
+#[derive(Clone, Copy)]
+struct Version;
+
+impl Encode for Version {
+    ghost octets = { λ _. version_octets };
+
+    ghost is_short = { λ _. length (number_octets 1) < 2 ^ 32 };
+
+    ghost small = { λ _ h. contents_small (context 0) (number_octets 1) h };
+
+    fn encoded_len(&self) -> Result<u64, EncodeError> {
+        tagged(Tag::CTX_0, integer(1)).encoded_len()
+    }
+
+    fn put<W: Sink>(&self, len: u64, out: &mut W) -> Result<(), SinkFailed> {
+        tagged(Tag::CTX_0, integer(1)).put(len, out)
+    }
+}
+
+/// The field of the providers: a SEQUENCE of their numbers.
+#[derive(Clone, Copy)]
+struct Providers<'a>(&'a [Asn]);
+
+impl Encode for Providers<'_> {
+    ghost octets = { λ s. value_octets SEQUENCE (providers_octets s.0.now) };
+
+    ghost is_short = { λ s. length (providers_octets s.0.now) < 2 ^ 32 };
+
+    ghost small = { λ s h. contents_small SEQUENCE (providers_octets s.0.now) h };
+
+    fn encoded_len(&self) -> Result<u64, EncodeError> {
+        sequence(each(self.0)).encoded_len()
+    }
+
+    fn put<W: Sink>(&self, len: u64, out: &mut W) -> Result<(), SinkFailed> {
+        sequence(each(self.0)).put(len, out)
+    }
+}

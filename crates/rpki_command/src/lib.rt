@@ -1,0 +1,23 @@
+//! The commands that programs of the signed objects of the RPKI have in common: what each says, on
+//! which stream, and with
+//! which exit status.
+#![tactic(auto)]
+
+mod answer;
+mod arguments;
+mod aspa;
+mod contents;
+mod entry;
+pub mod laws;
+mod program;
+mod store;
+mod texts;
+mod words;
+
+pub use arguments::{Arguments, ProcessArguments};
+pub use aspa::{
+    AsProviderAttestation, AsProviderAttestationEncoder, ProviderAsIter, ProviderAsSet,
+};
+pub use entry::{run, start};
+pub use program::command;
+pub use store::{Disk, Store, StoreError};

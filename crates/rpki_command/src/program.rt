@@ -1,0 +1,83 @@
+//! The program as a function.
+
+ghost use Rattle.std.specs.Prelude.{◌≡◌, ◌+◌};
+ghost use Rattle.rpki_command.specs.Answer.{run_of, said};
+ghost use Rattle.rpki_command.specs.Command.{IsOfFile, IsCommandAnswer, IsOrderAnswer, IsAnswer};
+ghost use Rattle.rpki_command.specs.Command.{IsRunOf, command_reads, reads_of, HaveRead};
+ghost use Rattle.rpki_command.specs.Contents.{LinesOf, IsShown};
+ghost use Rattle.rpki_command.specs.Words.{texts};
+
+use crate::answer::{Answer, say};
+use crate::contents::show_kind;
+use crate::store::{Store, StoreError};
+use crate::words::{Command, Kind, Order, parse};
+use rpki_der::Sink;
+use std::alloc::Global;
+
+/// The program: does what the words ask for, which follow its name, with the files of the store.
+/// Gives the exit status.
+pub fn command<S: Store, O: Sink, E: Sink>(
+    alloc: Global,
+    words: &[&str],
+    store: &mut S,
+    out: &mut O,
+    err: &mut E,
+) -> u8
+    ensures run { IsRunOf (S.told store.old) (texts words.now)
+        (run_of O.taken O.failures out.old out.new E.taken E.failures err.old err.new result) }
+    ensures reads { HaveRead (texts words.now) (S.reads store.old) (S.reads store.new) }
+{
+    say(&answer(alloc, words, store), out, err)
+}
+
+/// What the program answers to its words.
+fn answer<'a, S: Store>(alloc: Global, words: &'a [&'a str], store: &mut S) -> Answer<'a>
+    ensures said { IsAnswer (S.told store.old) (texts words.now) (said result) }
+    ensures reads { HaveRead (texts words.now) (S.reads store.old) (S.reads store.new) }
+{
+    match parse(words) {
+        None => Answer::Usage,
+        Some(order) => answer_order(alloc, &order, store),
+    }
+}
+
+/// What the program answers to an order.
+fn answer_order<'a, S: Store>(alloc: Global, order: &Order<'a>, store: &mut S) -> Answer<'a>
+    ensures said { IsOrderAnswer (S.told store.old) order.now (said result) }
+    ensures reads { S.reads store.new ≡ S.reads store.old + reads_of order.now }
+{
+    let options = order.options;
+    if options.relaxed || options.registered || options.wide {
+        return Answer::Usage;
+    }
+    answer_command(alloc, &order.command, store)
+}
+
+/// What the program answers to a command without options. One that there is not yet is answered
+/// with the usage.
+fn answer_command<'a, S: Store>(alloc: Global, command: &Command<'a>, store: &mut S) -> Answer<'a>
+    ensures said { IsCommandAnswer (S.told store.old) command.now (said result) }
+    ensures reads { S.reads store.new ≡ S.reads store.old + command_reads command.now }
+{
+    match command {
+        Command::Content { kind, file } => show_file(alloc, *kind, file.0, store),
+        Command::ContentRta { .. } => Answer::Usage,
+        Command::Show { .. } => Answer::Usage,
+        Command::ShowRta { .. } => Answer::Usage,
+        Command::ShowTal { .. } => Answer::Usage,
+        Command::Check { .. } => Answer::Usage,
+        Command::Rta { .. } => Answer::Usage,
+    }
+}
+
+/// Answers with the lines of the content of this kind in a file, if there is one.
+fn show_file<'a, S: Store>(alloc: Global, kind: Kind, file: &'a str, store: &mut S) -> Answer<'a>
+    ensures said { IsOfFile (S.told store.old) file.now (IsShown (LinesOf kind)) (said result) }
+    ensures reads { S.reads store.new ≡ S.reads store.old + 1 }
+{
+    match store.read(alloc, file) {
+        Ok(octets) => show_kind(alloc, kind, octets),
+        Err(StoreError::Unreadable) => Answer::CannotRead(file),
+        Err(StoreError::Memory) => Answer::OutOfMemory,
+    }
+}

@@ -1,0 +1,105 @@
+//! Where the program's files come from.
+
+ghost use Rattle.std.specs.Prelude.{◌≡◌, ◌+◌, ℕ, List, Option, None};
+ghost use Rattle.rpki_command.specs.Store.{IsRead, AreRead, AreCounted};
+ghost use Rattle.rpki_command.specs.Words.{texts};
+
+use rpki_der::Count;
+use std::alloc::Global;
+use std::rt::Files;
+use std::{fs, io};
+
+/// Why a file was not read.
+#[derive(Clone, Copy, Debug, PartialEq, Eq)]
+pub enum StoreError {
+    /// It can't be read.
+    Unreadable,
+    /// No memory was to be had.
+    Memory,
+}
+
+/// Files by name.
+pub trait Store {
+    // What it tells of the file of a name: nothing, or that it can't be read, or its octets.
+    ghost told: { Self → List ℕ → Option (Option (List ℕ)) };
+
+    // How often it was read.
+    ghost reads: { Self → ℕ };
+
+    /// The octets of the file with this name.
+    fn read(&mut self, alloc: Global, name: &str) -> Result<Vec<u8>, StoreError>
+        ensures answer { IsRead (told self.old name.now) result }
+        ensures same { told self.new ≡ told self.old }
+        ensures counted { reads self.new ≡ reads self.old + 1 };
+}
+
+/// Why several files were not read.
+#[derive(Drop)]
+pub enum Unread<'a> {
+    /// This one can't be read.
+    Unreadable(&'a str),
+    /// No memory was to be had.
+    Memory,
+}
+
+/// The octets of the files with these names, which are read in their order, up to the first that
+/// can't be read.
+pub fn read_all<'a, S: Store>(
+    alloc: Global,
+    names: &[&'a str],
+    store: &mut S,
+) -> Result<Vec<Vec<u8>>, Unread<'a>>
+    ensures answer { AreRead (S.told store.old) (texts names.now) result }
+    ensures same { S.told store.new ≡ S.told store.old }
+    ensures counted { AreCounted (texts names.now) (S.reads store.old) (S.reads store.new) result }
+{
+    let mut files = Vec::new(alloc);
+    for name in names {
+        match store.read(alloc, name) {
+            Ok(octets) => {
+                if files.push(octets).is_err() {
+                    return Err(Unread::Memory);
+                }
+            }
+            Err(StoreError::Unreadable) => return Err(Unread::Unreadable(name)),
+            Err(StoreError::Memory) => return Err(Unread::Memory),
+        }
+    }
+    Ok(files)
+}
+
+/// The files of the system.
+#[derive(Drop)]
+pub struct Disk<'a, R> {
+    runtime: &'a R,
+    reads: Count,
+}
+
+impl<'a, R> Disk<'a, R> {
+    /// The files that this runtime reaches.
+    pub fn new(runtime: &'a R) -> Disk<'a, R>
+        ensures { result.reads.number ≡ 0 }
+    {
+        Disk {
+            runtime,
+            reads: Count::zero(),
+        }
+    }
+}
+
+impl<R: Files + AllocGlobal> Store for Disk<'_, R> {
+    ghost told = { λ _ _. None };
+
+    ghost reads = { λ d. d.reads.number };
+
+    fn read(&mut self, _alloc: Global, name: &str) -> Result<Vec<u8>, StoreError> {
+        self.reads = self.reads.next();
+        match fs::read(self.runtime, name) {
+            Ok(octets) => Ok(octets),
+            Err(e) => Err(match e.kind() {
+                io::ErrorKind::OutOfMemory => StoreError::Memory,
+                _ => StoreError::Unreadable,
+            }),
+        }
+    }
+}

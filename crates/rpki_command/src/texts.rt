@@ -1,0 +1,3 @@
+//! The lines of each kind of content.
+
+pub mod aspa;

@@ -1,0 +1,28 @@
+//! The lines of an ASPA content.
+
+ghost use Rattle.std.specs.List.{flat_map};
+ghost use Rattle.rpki_command.specs.Grows.{Grows};
+ghost use Rattle.rpki_command.specs.Texts.Aspa.{aspa_text, provider_line};
+
+use crate::aspa::{AsProviderAttestation, ProviderAsSet};
+use std::alloc::AllocError;
+use std::fmt::Write;
+
+/// Appends the lines of an ASPA content.
+pub fn push_aspa(text: &mut String, content: &AsProviderAttestation) -> Result<(), AllocError>
+    ensures { Grows result text.old text.new (aspa_text content.now) }
+{
+    let customer = content.customer_as();
+    write!(text, "aspa\ncustomer {customer}\n")?;
+    push_providers(text, content.provider_as_set())
+}
+
+/// Appends a line for each provider.
+fn push_providers(text: &mut String, providers: &ProviderAsSet) -> Result<(), AllocError>
+    ensures { Grows result text.old text.new (flat_map provider_line providers.now) }
+{
+    for provider in providers.iter() {
+        write!(text, "provider {provider}\n")?;
+    }
+    Ok(())
+}

@@ -1,0 +1,257 @@
+//! What the program is asked.
+
+ghost use Rattle.std.specs.Prelude.{◌≡◌, ◌++◌, Bool, MatchOption};
+ghost use Rattle.rpki_command.specs.Words.{IsAsked, AskForNothing, texts, kind_word, word_if};
+ghost use Rattle.rpki_command.specs.Words.{word_registered, word_wide, command_words, order_words};
+ghost use Rattle.rpki_command.specs.Words.{files_of, are_named};
+ghost use Rattle.rpki_command.specs.declared.words.Kind.{Kind};
+ghost use Rattle.rpki_command.specs.declared.words.Command.{Command};
+ghost use Rattle.rpki_command.specs.declared.words.Order.{Order};
+
+use std::marker::Model;
+
+/// The kinds of signed objects that may be shown and checked.
+#[derive(Clone, Copy, Debug, PartialEq, Eq)]
+pub enum Kind {
+    /// An autonomous system provider authorization.
+    Aspa,
+}
+
+/// A word of the command line.
+#[derive(Drop)]
+pub struct Word<'a>(pub &'a str);
+
+impl<'a> Model for Word<'a> {
+    ghost use Rattle.std.specs.Prelude.{ℕ, List};
+
+    ghost Value = { List ℕ };
+
+    ghost view = { λ w. w.0.now };
+}
+
+/// Words of the command line.
+#[derive(Drop)]
+pub struct Words<'a>(pub &'a [&'a str]);
+
+impl<'a> Model for Words<'a> {
+    ghost use Rattle.std.specs.Prelude.{ℕ, List, map};
+
+    ghost Value = { List (List ℕ) };
+
+    ghost view = { λ w. map (λ t. t.now) w.0.now };
+}
+
+/// What is to be done.
+#[derive(Drop)]
+pub enum Command<'a> {
+    /// To show a bare content.
+    Content {
+        kind: Kind,
+        file: Word<'a>,
+    },
+    /// To show the bare content of an attestation with several signers.
+    ContentRta {
+        file: Word<'a>,
+    },
+    /// To show a signed object.
+    Show {
+        kind: Kind,
+        file: Word<'a>,
+    },
+    /// To show an attestation with several signers.
+    ShowRta {
+        file: Word<'a>,
+    },
+    /// To show a trust anchor locator.
+    ShowTal {
+        file: Word<'a>,
+    },
+    /// To check a signed object under an issuer, which is the last certificate of a chain that
+    /// begins with a trust anchor.
+    Check {
+        kind: Kind,
+        file: Word<'a>,
+        moment: Word<'a>,
+        verdicts: Word<'a>,
+        anchor: Word<'a>,
+        chain: Words<'a>,
+    },
+    /// To check an attestation with several signers under these anchors.
+    Rta {
+        file: Word<'a>,
+        moment: Word<'a>,
+        verdicts: Word<'a>,
+        anchor: Word<'a>,
+        anchors: Words<'a>,
+    },
+}
+
+/// How it is to be done.
+#[derive(Clone, Copy, Debug, PartialEq, Eq)]
+pub struct Options {
+    /// Objects may be in BER.
+    pub relaxed: bool,
+    /// The names in a manifest have registered extensions, and none stands there twice.
+    pub registered: bool,
+    /// A customer may have more providers.
+    pub wide: bool,
+}
+
+/// What the program is asked.
+#[derive(Drop)]
+pub struct Order<'a> {
+    pub options: Options,
+    pub command: Command<'a>,
+}
+
+/// What the words ask for, if they ask for anything.
+pub fn parse<'a>(words: &'a [&'a str]) -> Option<Order<'a>>
+    ensures { MatchOption result (AskForNothing (texts words.now)) (IsAsked (texts words.now)) }
+{
+    let order = parse_relaxed(words)?;
+    if each_named(&order.command) {
+        Some(order)
+    } else {
+        None
+    }
+}
+
+/// Whether each file has a name.
+fn each_named(command: &Command<'_>) -> bool
+    ensures { result ≡ are_named (files_of command.now) }
+{
+    match command {
+        Command::Content { file, .. } => !file.0.is_empty(),
+        Command::ContentRta { file } => !file.0.is_empty(),
+        Command::Show { file, .. } => !file.0.is_empty(),
+        Command::ShowRta { file } => !file.0.is_empty(),
+        Command::ShowTal { file } => !file.0.is_empty(),
+        Command::Check {
+            file,
+            verdicts,
+            anchor,
+            chain,
+            ..
+        } => {
+            !file.0.is_empty()
+                && !verdicts.0.is_empty()
+                && !anchor.0.is_empty()
+                && all_named(chain.0)
+        }
+        Command::Rta { file, verdicts, .. } => !file.0.is_empty() && !verdicts.0.is_empty(),
+    }
+}
+
+/// Whether each of these files has a name.
+fn all_named(files: &[&str]) -> bool
+    ensures { result ≡ are_named (texts files.now) }
+{
+    for file in files {
+        if file.is_empty() {
+            return false;
+        }
+    }
+    true
+}
+
+/// The order of words that may begin with the first option.
+fn parse_relaxed<'a>(words: &'a [&'a str]) -> Option<Order<'a>>
+    ensures { MatchOption result ((o : Order) → texts words.now ≡ order_words o → ⊥)
+        (λ o. texts words.now ≡ order_words o) }
+{
+    match words {
+        ["--relaxed", rest @ ..] => parse_registered(true, rest),
+        _ => parse_registered(false, words),
+    }
+}
+
+/// The order of words that may begin with the second option.
+fn parse_registered<'a>(relaxed: bool, words: &'a [&'a str]) -> Option<Order<'a>>
+    ensures { MatchOption result
+        ((registered wide : Bool) (c : Command)
+        → texts words.now ≡ word_if registered word_registered
+        ++ (word_if wide word_wide ++ command_words c) → ⊥)
+        (λ o. (o.options.relaxed ≡ relaxed)
+        × (texts words.now ≡ word_if o.options.registered word_registered
+        ++ (word_if o.options.wide word_wide ++ command_words o.command))) }
+{
+    match words {
+        ["--registered", rest @ ..] => parse_wide(relaxed, true, rest),
+        _ => parse_wide(relaxed, false, words),
+    }
+}
+
+/// The order of words that may begin with the third option.
+fn parse_wide<'a>(relaxed: bool, registered: bool, words: &'a [&'a str]) -> Option<Order<'a>>
+    ensures { MatchOption result
+        ((wide : Bool) (c : Command) → texts words.now ≡ word_if wide word_wide ++ command_words c
+        → ⊥)
+        (λ o. (o.options.relaxed ≡ relaxed) × (o.options.registered ≡ registered)
+        × (texts words.now ≡ word_if o.options.wide word_wide ++ command_words o.command)) }
+{
+    match words {
+        ["--wide", rest @ ..] => Some(Order {
+            options: Options {
+                relaxed,
+                registered,
+                wide: true,
+            },
+            command: parse_command(rest)?,
+        }),
+        _ => Some(Order {
+            options: Options {
+                relaxed,
+                registered,
+                wide: false,
+            },
+            command: parse_command(words)?,
+        }),
+    }
+}
+
+/// The command of words without options.
+fn parse_command<'a>(words: &'a [&'a str]) -> Option<Command<'a>>
+    ensures { MatchOption result ((c : Command) → texts words.now ≡ command_words c → ⊥)
+        (λ c. texts words.now ≡ command_words c) }
+{
+    match words {
+        ["content", "rta", file] => Some(Command::ContentRta { file: Word(file) }),
+        ["content", kind, file] => Some(Command::Content {
+            kind: kind_of(kind)?,
+            file: Word(file),
+        }),
+        ["show", "rta", file] => Some(Command::ShowRta { file: Word(file) }),
+        ["show", "tal", file] => Some(Command::ShowTal { file: Word(file) }),
+        ["show", kind, file] => Some(Command::Show {
+            kind: kind_of(kind)?,
+            file: Word(file),
+        }),
+        ["check", kind, file, moment, verdicts, anchor, chain @ ..] => Some(Command::Check {
+            kind: kind_of(kind)?,
+            file: Word(file),
+            moment: Word(moment),
+            verdicts: Word(verdicts),
+            anchor: Word(anchor),
+            chain: Words(chain),
+        }),
+        ["rta", file, moment, verdicts, anchor, anchors @ ..] => Some(Command::Rta {
+            file: Word(file),
+            moment: Word(moment),
+            verdicts: Word(verdicts),
+            anchor: Word(anchor),
+            anchors: Words(anchors),
+        }),
+        _ => None,
+    }
+}
+
+/// The kind of this name.
+fn kind_of(word: &str) -> Option<Kind>
+    ensures { MatchOption result ((k : Kind) → word.now ≡ kind_word k → ⊥)
+        (λ k. word.now ≡ kind_word k) }
+{
+    match word {
+        "aspa" => Some(Kind::Aspa),
+        _ => None,
+    }
+}

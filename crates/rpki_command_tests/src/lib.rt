@@ -1,0 +1,16 @@
+//! Tests of `rpki_command`, each a table of rows that one small function walks.
+//!
+//! The expected values follow from the profile by hand. A test hands on that memory ran out and
+//! asserts
+//! everything else, so `tools/growth` can refuse each of its allocations in turn. Streams that fail
+//! at each of their calls, and long lists, are in the sweeps.
+#![tactic(auto)]
+
+#[cfg(test)]
+mod contents;
+#[cfg(test)]
+mod given;
+#[cfg(test)]
+mod octets;
+#[cfg(test)]
+mod runs;

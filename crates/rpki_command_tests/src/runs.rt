@@ -1,0 +1,138 @@
+//! Runs of the program.
+
+use crate::given::{Given, OneFile};
+use crate::octets::{
+    CONTENT, CONTENT_AND_MORE, CUSTOMER_AS0, LARGEST_CUSTOMER, LARGEST_PROVIDER, WITHOUT_VERSION,
+};
+use rpki_command::{command, run};
+use rpki_der::Counted;
+use std::process::Abort;
+use std::test::Fail;
+
+/// What is said, on standard output or on standard error, and the exit status.
+#[derive(Clone, Copy)]
+pub struct Said<'a> {
+    pub status: u8,
+    pub out: &'a str,
+    pub err: &'a str,
+}
+
+/// The words that ask for the content in the file.
+pub const ASK: [&str; 3] = ["content", "aspa", "file"];
+
+/// What is said of the first content.
+pub const SHOWN: Said = Said {
+    status: 0,
+    out: "aspa\ncustomer AS15562\n\
+        provider AS2914\nprovider AS8283\nprovider AS51088\nprovider AS206238\n",
+    err: "",
+};
+
+const LARGEST_CUSTOMER_SHOWN: Said = Said {
+    status: 0,
+    out: "aspa\ncustomer AS4294967295\nprovider AS1\n",
+    err: "",
+};
+
+const LARGEST_PROVIDER_SHOWN: Said = Said {
+    status: 0,
+    out: "aspa\ncustomer AS1\nprovider AS4294967295\n",
+    err: "",
+};
+
+/// What is said of other octets.
+pub const MALFORMED: Said = Said {
+    status: 1,
+    out: "malformed\n",
+    err: "",
+};
+
+/// What is said to other words.
+pub const USAGE: Said = Said {
+    status: 2,
+    out: "",
+    err: "usage\n",
+};
+
+/// What is said of a file that is not there.
+pub const CANNOT_READ: Said = Said {
+    status: 2,
+    out: "",
+    err: "cannot read other\n",
+};
+
+/// What is said where memory runs out.
+pub const OUT_OF_MEMORY: Said = Said {
+    status: 3,
+    out: "",
+    err: "out of memory\n",
+};
+
+#[test]
+fn words_are_answered(rt: HostRuntime) -> Result<(), Fail> {
+    let rows: [(&[&str], &[u8], Said, usize); 16] = [
+        (&ASK, &CONTENT, SHOWN, 1),
+        (&ASK, &CONTENT_AND_MORE, SHOWN, 1),
+        (&ASK, &CONTENT[..30], MALFORMED, 1),
+        (&ASK, &WITHOUT_VERSION, MALFORMED, 1),
+        (&ASK, &CUSTOMER_AS0, MALFORMED, 1),
+        (&ASK, &LARGEST_CUSTOMER, LARGEST_CUSTOMER_SHOWN, 1),
+        (&ASK, &LARGEST_PROVIDER, LARGEST_PROVIDER_SHOWN, 1),
+        (&["content", "aspa", "other"], &CONTENT, CANNOT_READ, 1),
+        (&["content", "aspa", "large"], &CONTENT, OUT_OF_MEMORY, 1),
+        (&[], &CONTENT, USAGE, 0),
+        (&["content", "aspa"], &CONTENT, USAGE, 0),
+        (&["content", "aspa", ""], &CONTENT, USAGE, 0),
+        (&["content", "none", "file"], &CONTENT, USAGE, 0),
+        (&["content", "aspa", "file", "file"], &CONTENT, USAGE, 0),
+        (
+            &["--relaxed", "content", "aspa", "file"],
+            &CONTENT,
+            USAGE,
+            0,
+        ),
+        (&["--help"], &CONTENT, USAGE, 0),
+    ];
+    for (words, octets, said, reads) in rows {
+        let mut store = OneFile::new(octets);
+        let mut out = Counted::new(Vec::new(rt.alloc()));
+        let mut err = Counted::new(Vec::new(rt.alloc()));
+        let status = command(rt.alloc(), words, &mut store, &mut out, &mut err);
+        is_said(&rt, &said, status, &out.inner, &err.inner);
+        assert_eq!(rt; store.calls(), reads);
+    }
+    Ok(())
+}
+
+#[test]
+fn arguments_are_words(rt: HostRuntime) -> Result<(), Fail> {
+    let rows: [(&[&[u8]], Said); 6] = [
+        (&[], USAGE),
+        (&[b"name"], USAGE),
+        (&[b"name", b"content", b"aspa", b"file"], SHOWN),
+        (&[&[0xFF], b"content", b"aspa", b"file"], SHOWN),
+        (&[b"name", b"content", b"aspa", &[0xFF]], USAGE),
+        (&[b"name", b"content", b"aspa", b"file", b"file"], USAGE),
+    ];
+    for (arguments, said) in rows {
+        let mut store = OneFile::new(&CONTENT);
+        let mut out = Counted::new(Vec::new(rt.alloc()));
+        let mut err = Counted::new(Vec::new(rt.alloc()));
+        let status = run(
+            rt.alloc(),
+            &Given(arguments),
+            &mut store,
+            &mut out,
+            &mut err,
+        );
+        is_said(&rt, &said, status, &out.inner, &err.inner);
+    }
+    Ok(())
+}
+
+/// That this was said, and nothing else.
+pub fn is_said(rt: &impl Abort, said: &Said<'_>, status: u8, out: &[u8], err: &[u8]) {
+    assert_eq!(rt; out, said.out.as_bytes());
+    assert_eq!(rt; err, said.err.as_bytes());
+    assert_eq!(rt; status, said.status);
+}

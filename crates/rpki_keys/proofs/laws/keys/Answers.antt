@@ -1,0 +1,7 @@
+use Rattle.rpki_der.specs.Tags.{SEQUENCE}
+use Rattle.rpki_keys.proofs.AlgorithmParts.{reading-of}
+use Rattle.rpki_keys.proofs.KeyParts.{key-part}
+use Rattle.rpki_keys.proofs.laws.keys.Goals as goal
+
+pub returns : goal.returns
+returns c = reading-of key-part (λ mode o bits h. (SEQUENCE, h.0, h.1))

@@ -1,0 +1,5 @@
+use Rattle.rpki_keys.proofs.NameExact.{name-reading}
+use Rattle.rpki_keys.proofs.laws.names.Goals as goal
+
+pub returns : goal.returns
+returns c = name-reading

@@ -1,0 +1,49 @@
+-- The octets of a key.
+use Rattle.std.specs.Prelude.{ℕ, List, [], ◌∷◌, ◌++◌, Option, None, Some, ◌==◌, if◌then◌else◌}
+use Rattle.rpki_der.specs.declared.mode.Mode.{Mode}
+use Rattle.rpki_der.specs.Grammar.{BitString}
+use Rattle.rpki_der.specs.Read.Parse.{Parser, ◌>>=◌, bits_at}
+use Rattle.rpki_der.specs.Write.Written.{value_octets, bit_string_contents}
+use Rattle.rpki_der.specs.Tags.{SEQUENCE, BIT_STRING}
+use Rattle.rpki_der.specs.Form.Parts.{Sequence, sequence_at}
+use Rattle.rpki_der.specs.Form.Made.{partly}
+use Rattle.rpki_keys.specs.Algorithm.{AlgorithmForm, rsa_encryption, named, algorithm_at}
+use Rattle.rpki_keys.specs.Algorithm.{algorithm_alone, algorithm_and_null}
+
+-- SubjectPublicKeyInfo ::= SEQUENCE { rsaEncryption, BIT STRING } without unused bits (RFC 5280,
+-- section 4.1.2.7; RFC 7935, section 3). What its bits mean is left to cryptography.
+abbrev pub KeyForm : Mode → List ℕ → List ℕ → Type 0
+KeyForm mode octets bits = Sequence mode (
+    (λ o. AlgorithmForm mode o rsa_encryption)
+    ∷ (λ o. BitString mode o (bits, 0))
+    ∷ []) octets
+
+-- The octets of a BIT STRING without unused bits.
+abbrev pub whole_bits : List ℕ × ℕ → Option (List ℕ)
+whole_bits bits = if bits.1 == 0 then Some bits.0 else None
+
+-- The algorithm and the bits.
+unfoldable pub key_fields_at : Parser (List ℕ)
+key_fields_at mode bytes = do
+  algorithm ← partly (named rsa_encryption) algorithm_at mode bytes
+  bits ← partly whole_bits bits_at mode algorithm.1
+  Some (bits.0, bits.1)
+
+-- The bits of a key.
+abbrev pub key_at : Parser (List ℕ)
+key_at = sequence_at key_fields_at
+
+-- The contents that a key is written with: rsaEncryption with a NULL, and its bits.
+abbrev pub key_contents : List ℕ → List ℕ
+key_contents bits =
+    algorithm_and_null rsa_encryption ++ value_octets BIT_STRING (bit_string_contents bits 0)
+
+-- What a key is written as.
+abbrev pub key_octets : List ℕ → List ℕ
+key_octets bits = value_octets SEQUENCE (key_contents bits)
+
+-- The other octets that a key may have in DER: the algorithm without a NULL.
+abbrev pub key_octets_alone : List ℕ → List ℕ
+key_octets_alone bits =
+    value_octets SEQUENCE (algorithm_alone rsa_encryption
+    ++ value_octets BIT_STRING (bit_string_contents bits 0))

@@ -1,0 +1,67 @@
+//! What the definitions of keys say: laws, as functions that do nothing.
+
+ghost use Rattle.std.specs.Prelude.{◌≡◌, ◌<◌, ◌^◌, ◌++◌, ◌⊎◌, ℕ, List, length, Some};
+ghost use Rattle.rpki_der.specs.declared.mode.Mode.{Mode};
+ghost use Rattle.rpki_der.specs.declared.mode.Mode.TheVariants.{Der};
+ghost use Rattle.rpki_der.specs.Read.Exact.{IsReading};
+ghost use Rattle.rpki_der.specs.Grammar.{IsBytes};
+ghost use Rattle.rpki_keys.specs.NameForm.{NameForm, KeyNameForm, name_at, key_name_octets};
+ghost use Rattle.rpki_keys.specs.Algorithm.{AlgorithmForm, DigestAlgorithmForm, CmsAlgorithmForm};
+ghost use Rattle.rpki_keys.specs.Algorithm.{CertAlgorithmForm, algorithm_at, digest_algorithm_at};
+ghost use Rattle.rpki_keys.specs.Algorithm.{cms_algorithm_at, cert_algorithm_at, algorithm_alone};
+ghost use Rattle.rpki_keys.specs.Algorithm.{algorithm_and_null, digest_algorithm_octets};
+ghost use Rattle.rpki_keys.specs.Algorithm.{cms_algorithm_octets, cert_algorithm_octets};
+ghost use Rattle.rpki_keys.specs.KeyForm.{KeyForm, key_at, key_contents, key_octets};
+ghost use Rattle.rpki_keys.specs.KeyForm.{key_octets_alone};
+
+/// Reading an algorithm is exact and unique, and DER is a part of BER (RFC 5280, section 4.1.1.2).
+pub fn algorithms()
+    ensures any { IsReading algorithm_at AlgorithmForm }
+    ensures digest { IsReading digest_algorithm_at DigestAlgorithmForm }
+    ensures cms { IsReading cms_algorithm_at CmsAlgorithmForm }
+    ensures cert { IsReading cert_algorithm_at CertAlgorithmForm }
+{}
+
+/// The algorithms are written in their forms, and read again, whatever follows them. In DER there
+/// are
+/// two ways to write one: with a NULL, and without (RFC 5280, section 4.1.1.2).
+pub fn algorithms_are_written()
+    ensures digest { DigestAlgorithmForm Der digest_algorithm_octets tt }
+    ensures cms { CmsAlgorithmForm Der cms_algorithm_octets tt }
+    ensures cert { CertAlgorithmForm Der cert_algorithm_octets tt }
+    ensures only { (o oid : List ℕ) → IsBytes o → AlgorithmForm Der o oid
+        → (o ≡ algorithm_alone oid) ⊎ (o ≡ algorithm_and_null oid) }
+    ensures read_digest { (mode : Mode) (rest : List ℕ)
+        → digest_algorithm_at mode (digest_algorithm_octets ++ rest) ≡ Some (tt, rest) }
+    ensures read_cms { (mode : Mode) (rest : List ℕ)
+        → cms_algorithm_at mode (cms_algorithm_octets ++ rest) ≡ Some (tt, rest) }
+    ensures read_cert { (mode : Mode) (rest : List ℕ)
+        → cert_algorithm_at mode (cert_algorithm_octets ++ rest) ≡ Some (tt, rest) }
+{}
+
+/// Reading a key is exact and unique, and DER is a part of BER (RFC 5280, section 4.1.2.7).
+pub fn keys()
+    ensures { IsReading key_at KeyForm }
+{}
+
+/// What is written of a key is in its form, one of the two ways that there are in DER, and read
+/// again, whatever follows it (RFC 7935, section 3.1).
+pub fn keys_are_written()
+    ensures written { (bits : List ℕ) → length (key_contents bits) < 2 ^ 32
+        → KeyForm Der (key_octets bits) bits }
+    ensures only { (o bits : List ℕ) → IsBytes o → KeyForm Der o bits
+        → (o ≡ key_octets bits) ⊎ (o ≡ key_octets_alone bits) }
+    ensures read { (mode : Mode) (bits rest : List ℕ) → length (key_contents bits) < 2 ^ 32
+        → key_at mode (key_octets bits ++ rest) ≡ Some (bits, rest) }
+{}
+
+/// Reading a name is exact and unique, and DER is a part of BER (RFC 5280, section 4.1.2.4).
+pub fn names()
+    ensures { IsReading name_at NameForm }
+{}
+
+/// The octets of the name of a key are such a name (RFC 6487, section 4.5).
+pub fn key_names_are_written()
+    ensures { (identifier : List ℕ) → length identifier ≡ 20
+        → KeyNameForm Der (key_name_octets identifier) identifier }
+{}

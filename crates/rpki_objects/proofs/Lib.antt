@@ -1,9 +1,0 @@
-pub mod AspaExact
-pub mod Lines
-pub mod Providers
-pub mod Refused
-pub mod Running
-pub mod Saying
-pub mod Shown
-pub mod Tested
-pub mod Written

@@ -1,0 +1,153 @@
+-- The set that is kept of a path is the meet of its explicit sets.
+use Rattle.std.proofs.Common.{◌≡◌, ℕ, Bool, true, false, ◌&&◌, List, [], ◌∷◌, Option, None, Some}
+use Rattle.std.proofs.Common.{IsTrue, refl, sym, ap, ◌∙◌, subst, inl, inr, ⊎_elim, ◌⊎◌}
+use Rattle.std.proofs.lemmas.Bool.{and_parts, true≢false}
+use Rattle.rpki_resources.specs.declared.block.Block.{Block}
+use Rattle.rpki_resources.specs.declared.resources.Claim.{Claim}
+use Rattle.rpki_resources.specs.declared.resources.Claim.TheVariants.{Missing, Inherit, Explicit}
+use Rattle.rpki_resources.specs.Blocks.{holds}
+use Rattle.rpki_resources.specs.Claim.{HasBlocks, IsCoveredBy}
+use Rattle.rpki_paths.specs.declared.family.Family.{Family}
+use Rattle.rpki_paths.specs.declared.kept.Kept.{Kept}
+use Rattle.rpki_paths.specs.declared.overclaim.Overclaim.{Overclaim}
+use Rattle.rpki_paths.specs.declared.overclaim.Overclaim.TheVariants.{Refuse, Trim}
+use Rattle.rpki_paths.specs.Cert.{Cert, Numbers, IsIn}
+use Rattle.rpki_paths.specs.Sets.{with_claim, meet, IsCovered, StandsFor, IsRaised, IsClimbed}
+use Rattle.rpki_paths.specs.Sets.{CoversKept}
+use Rattle.rpki_paths.specs.Path.{explicit_sets}
+use Rattle.rpki_paths.specs.Anchor.{Supply, Tal, Ca, Takes, supplied_claim, path_set}
+use Rattle.rpki_paths.specs.Laws.{ClimbKeepsMeet, AnchoredIsPathSet, AnchoredIsKnown}
+use Rattle.rpki_paths.specs.Laws.{AnchorsAreExplicit, PathSetIsWithinEach}
+
+and-true : (a : Bool) → a && true ≡ a
+and-true true = refl
+and-true false = refl
+
+and_comm : (a b : Bool) → a && b ≡ b && a
+and_comm true true = refl
+and_comm true false = refl
+and_comm false true = refl
+and_comm false false = refl
+
+-- what lies in a set is not cut by it
+absorbed : (a b : Bool) → (IsTrue b → IsTrue a) → b ≡ a && b
+absorbed true b h = refl
+absorbed false true h = sym (h refl)
+absorbed false false h = refl
+
+-- the set covers the nearest one, where it has to
+abbrev CoversNearest : {T : Type 0} → (T → ℕ) → Overclaim → List (List (Block T)) → List (Block T)
+    → Type 0
+CoversNearest f Refuse [] set = Unit {0}
+CoversNearest f Refuse (t ∷ r) set = (n : ℕ) → IsTrue (holds f t n) → IsTrue (holds f set n)
+CoversNearest f Trim sets set = Unit {0}
+
+covers_nearest : {T : Type 0} (f : T → ℕ) (mode : Overclaim) (sets : List (List (Block T)))
+    (claim : Claim (List (Block T))) (set : List (Block T)) → HasBlocks claim set
+    → IsCovered f mode sets claim → CoversNearest f mode sets set
+covers_nearest f Refuse [] claim set named cov = tt
+covers_nearest f Refuse (t ∷ r) Missing set named cov =
+    λ n h. absurd (true≢false (sym h ∙ ap (λ l. holds f l n) cov))
+covers_nearest f Refuse (t ∷ r) Inherit set named cov = absurd named
+covers_nearest f Refuse (t ∷ r) (Explicit s) set named cov = λ n h. ap (λ l. holds f l n) named
+    ∙ cov n h
+covers_nearest f Trim sets claim set named cov = tt
+
+raised : {T : Type 0} (f : T → ℕ) (mode : Overclaim) (old new : Option (Kept (List (Block T))))
+    (set : List (Block T)) (sets : List (List (Block T))) →
+    StandsFor f old sets → CoversNearest f mode sets set → IsRaised f mode old set new
+    → StandsFor f new (set ∷ sets)
+raised f mode old None set sets stands cov step = absurd step
+raised f mode None (Some new) set sets stands cov step = (
+  step.1,
+  λ n. ap (λ m. holds f m n) step.0 ∙ sym (and-true (holds f set n))
+      ∙ ap (λ l. holds f set n && meet f l n) (sym stands),
+)
+raised f mode (Some old) (Some new) set [] stands cov step = absurd stands
+raised f Trim (Some old) (Some new) set (t ∷ r) stands cov step = (
+  step.1,
+  λ n. step.0 n ∙ and_comm (holds f old.met n) (holds f set n)
+      ∙ ap (λ b. holds f set n && b) (stands.1 n),
+)
+raised f Refuse (Some old) (Some new) set (t ∷ r) stands cov step = (
+  step.1,
+  λ n. ap (λ m. holds f m n) step.0 ∙ stands.1 n
+      ∙ absorbed (holds f set n) (meet f (t ∷ r) n)
+      (λ e. cov n (and_parts (holds f t n) (meet f r n) e).0),
+)
+
+with_named : {T : Type 0} (claim : Claim (List (Block T))) (set : List (Block T))
+    (sets : List (List (Block T))) → HasBlocks claim set → set ∷ sets ≡ with_claim claim sets
+with_named Missing set sets h = ap (λ l. l ∷ sets) h
+with_named Inherit set sets h = absurd h
+with_named (Explicit s) set sets h = ap (λ l. l ∷ sets) h
+
+pub climb_keeps : {T : Type 0} (f : T → ℕ) → ClimbKeepsMeet f
+climb_keeps f mode old new claim sets stands cov (inl step) =
+    subst (λ o. StandsFor f o (with_claim claim sets)) (sym step.1)
+    (subst (λ c. StandsFor f old (with_claim c sets)) (sym step.0) stands)
+climb_keeps f mode old new claim sets stands cov (inr step) =
+    subst (λ l. StandsFor f new l) (with_named claim step.0 sets step.1)
+    (raised f mode old new step.0 sets stands
+    (covers_nearest f mode sets claim step.0 step.1 cov) step.2)
+
+-- what is kept tells whether the claim covers what is below
+pub covers_kept : {T : Type 0} (f : T → ℕ) (mode : Overclaim)
+    (kept : Option (Kept (List (Block T)))) (sets : List (List (Block T)))
+    (claim : Claim (List (Block T))) →
+    StandsFor f kept sets → IsCovered f mode sets claim → CoversKept f mode kept claim
+covers_kept f Refuse None sets claim stands cov = tt
+covers_kept f Refuse (Some k) [] claim stands cov = absurd stands
+covers_kept f Refuse (Some k) (s ∷ sets) claim stands cov =
+    subst (λ l. IsCoveredBy f claim l) (sym stands.0) cov
+covers_kept f Trim kept sets claim stands cov = tt
+
+pub from_covers_kept : {T : Type 0} (f : T → ℕ) (mode : Overclaim)
+    (kept : Option (Kept (List (Block T)))) (sets : List (List (Block T)))
+    (claim : Claim (List (Block T))) →
+    StandsFor f kept sets → CoversKept f mode kept claim → IsCovered f mode sets claim
+from_covers_kept f Refuse None sets claim stands cov =
+    subst (λ l. IsCovered f Refuse l claim) (sym stands) tt
+from_covers_kept f Refuse (Some k) [] claim stands cov = absurd stands
+from_covers_kept f Refuse (Some k) (s ∷ sets) claim stands cov =
+    subst (λ l. IsCoveredBy f claim l) stands.0 cov
+from_covers_kept f Trim kept sets claim stands cov = tt
+
+covered_inherit : (mode : Overclaim) (sets : List Numbers) → IsCovered (λ n. n) mode sets Inherit
+covered_inherit Refuse [] = tt
+covered_inherit Refuse (s ∷ sets) = tt
+covered_inherit Trim sets = tt
+
+pub anchored_stands : AnchoredIsPathSet
+anchored_stands head p (Tal key) f old new stands takes step =
+    climb_keeps (λ n. n) head.overclaim old new Inherit (explicit_sets (head ∷ p) f) stands
+    (covered_inherit head.overclaim (explicit_sets (head ∷ p) f)) step
+anchored_stands head p (Ca ski key sets) f old new stands takes step =
+    climb_keeps (λ n. n) head.overclaim old new (Explicit (sets f))
+    (explicit_sets (head ∷ p) f) stands (takes f) step
+
+none_inherits : (claim : Claim Numbers) (sets : List Numbers) → with_claim claim sets ≡ []
+    → claim ≡ Inherit
+none_inherits Missing sets e = absurd cc
+none_inherits Inherit sets e = refl
+none_inherits (Explicit s) sets e = absurd cc
+
+pub anchored_known : AnchoredIsKnown
+anchored_known head p (Tal key) f explicit takes e =
+    explicit head f takes.0 (none_inherits (head.claim f) (explicit_sets p f) e)
+anchored_known head p (Ca ski key sets) f explicit takes e = absurd cc
+
+meet_within : (sets : List Numbers) (t : Numbers) → IsIn t sets → (n : ℕ)
+    → IsTrue (meet (λ k. k) sets n) → IsTrue (holds (λ k. k) t n)
+meet_within [] t i n h = absurd i
+meet_within (s ∷ sets) t i n h =
+    let parts = and_parts (holds (λ k. k) s n) (meet (λ k. k) sets n) h in
+    elim i [
+      | inl e ↦ ap (λ (u : Numbers). holds (λ k. k) u n) e
+          ∙ parts.0
+      | inr j ↦ meet_within sets t j n parts.1
+    ]
+
+pub path_set_within : PathSetIsWithinEach
+path_set_within p s f t i n h =
+    meet_within (with_claim (supplied_claim s f) (explicit_sets p f)) t i n h

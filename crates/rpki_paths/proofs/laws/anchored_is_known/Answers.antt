@@ -1,0 +1,5 @@
+use Rattle.rpki_paths.proofs.Meets.{anchored_known}
+use Rattle.rpki_paths.proofs.laws.anchored_is_known.Goals as goal
+
+pub returns : goal.returns
+returns c = anchored_known

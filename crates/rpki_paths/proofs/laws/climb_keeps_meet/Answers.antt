@@ -1,0 +1,5 @@
+use Rattle.rpki_paths.proofs.Meets.{climb_keeps}
+use Rattle.rpki_paths.proofs.laws.climb_keeps_meet.Goals as goal
+
+pub returns : goal.returns
+returns g c = climb_keeps g.T.Number.number

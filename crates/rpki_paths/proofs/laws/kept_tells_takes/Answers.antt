@@ -1,0 +1,5 @@
+use Rattle.rpki_paths.proofs.Walking.{kept_tells_takes}
+use Rattle.rpki_paths.proofs.laws.kept_tells_takes.Goals as goal
+
+pub returns : goal.returns
+returns c = kept_tells_takes

@@ -1,0 +1,5 @@
+use Rattle.rpki_paths.proofs.Meets.{path_set_within}
+use Rattle.rpki_paths.proofs.laws.path_set_is_within_each.Goals as goal
+
+pub returns : goal.returns
+returns c = path_set_within

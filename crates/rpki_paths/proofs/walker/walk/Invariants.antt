@@ -1,0 +1,13 @@
+use Rattle.std.proofs.Common.{◌≡◌, ◌≤◌, ◌+◌, length}
+use Rattle.rpki_paths.specs.Path.{IsDistinct}
+use Rattle.rpki_paths.specs.Walk.{KeepsMarks, placed, at_place}
+use Rattle.rpki_paths.proofs.Walking.{IsWalking}
+use Rattle.rpki_paths.proofs.walker.walk.Given as goal
+
+abbrev pub invariant-loop-step : goal.invariant-loop-step
+invariant-loop-step g l =
+    (length l.marks ≡ length l.cas)
+    × IsWalking (placed g.C.Certificate.cert 1 l.cas) (at_place 0 (g.C.Certificate.cert l.fn.ee))
+    (at_place l.place (g.C.Certificate.cert l.head)) l.sets l.marks l.turn l.step
+    × KeepsMarks l.turn l.fn.marks l.marks
+    × (IsDistinct (placed g.C.Certificate.cert 1 l.cas) → l.asked ≤ l.fn.asked + l.step)

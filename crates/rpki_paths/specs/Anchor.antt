@@ -1,0 +1,49 @@
+-- Where a path is anchored: at a trust anchor, or under a CA that was validated elsewhere.
+use Rattle.std.specs.Prelude.{◌≡◌, ℕ, Bool, List, [], ◌∷◌, Some, IsTrue, ◌⊎◌}
+use Rattle.rpki_resources.specs.declared.resources.Claim.{Claim}
+use Rattle.rpki_resources.specs.declared.resources.Claim.TheVariants.{Inherit, Explicit}
+use Rattle.rpki_paths.specs.declared.family.Family.{Family}
+use Rattle.rpki_paths.specs.Cert.{Cert, Numbers, IsSelfSigned}
+use Rattle.rpki_paths.specs.Sets.{with_claim, meet, IsCovered}
+use Rattle.rpki_paths.specs.Path.{explicit_sets}
+
+-- A trust anchor locator, by its key, or a CA certificate, by its key identifier, its key and its
+-- validated sets.
+pub data Supply : Type 0 where
+  Tal : (key : List ℕ) → Supply
+  Ca : (ski key : List ℕ) → (Family → Numbers) → Supply
+
+-- The sets of a supplied CA are one more explicit claim above the path.
+abbrev pub supplied_claim : Supply → Family → Claim Numbers
+supplied_claim (Tal key) f = Inherit
+supplied_claim (Ca ski key sets) f = Explicit (sets f)
+
+-- The supply is meant for this head: the locator has the key of a self-signed one; the CA is named
+-- as its issuer, and its key verifies it.
+abbrev pub Fits : Cert → Supply → Type 0
+Fits head (Tal key) = IsSelfSigned head × (head.key ≡ key)
+Fits head (Ca ski key sets) =
+    ¬ (IsSelfSigned head) × (head.aki ≡ Some ski) × IsTrue (head.verifies key)
+
+-- The path stands under the supply: its head is a trust anchor that its own key verifies (RFC 8630,
+-- section 3), or the sets of the CA cover what is below, where they have to.
+abbrev pub Takes : List Cert → Supply → Type 0
+Takes [] s = ⊥
+Takes (head ∷ p) (Tal key) = IsTrue head.is_anchor × IsTrue (head.verifies head.key)
+Takes (head ∷ p) (Ca ski key sets) =
+    (f : Family) →
+    IsCovered (λ n. n) head.overclaim (explicit_sets (head ∷ p) f) (Explicit (sets f))
+
+-- The supply is the first that fits the head of the path, and it takes the path.
+abbrev pub IsAnchored : List Cert → List Supply → Supply → Type 0
+IsAnchored [] supplies s = ⊥
+IsAnchored (head ∷ p) [] s = ⊥
+IsAnchored (head ∷ p) (t ∷ supplies) s =
+    (Fits head t × Takes (head ∷ p) t × (s ≡ t))
+    ⊎ (¬ (Fits head t) × IsAnchored (head ∷ p) supplies s)
+
+-- Whether an anchored path stands for the number: it lies in each explicit set on the path, those
+-- of
+-- the supplied CA among them.
+abbrev pub path_set : List Cert → Supply → Family → ℕ → Bool
+path_set p s f n = meet (λ k. k) (with_claim (supplied_claim s f) (explicit_sets p f)) n

@@ -1,0 +1,113 @@
+-- The laws of paths that public functions carry.
+use Rattle.std.specs.Prelude.{◌≡◌, ℕ, ◌+◌, ◌≤◌, List, ◌∷◌, Option, None, IsTrue, length, ◌↔◌}
+use Rattle.rpki_resources.specs.declared.block.Block.{Block}
+use Rattle.rpki_resources.specs.declared.resources.Claim.{Claim}
+use Rattle.rpki_resources.specs.declared.resources.Claim.TheVariants.{Inherit, Explicit}
+use Rattle.rpki_resources.specs.Blocks.{holds}
+use Rattle.rpki_paths.specs.declared.family.Family.{Family}
+use Rattle.rpki_paths.specs.declared.kept.Kept.{Kept}
+use Rattle.rpki_paths.specs.declared.overclaim.Overclaim.{Overclaim}
+use Rattle.rpki_paths.specs.declared.sets.KeptSets.{KeptSets}
+use Rattle.rpki_paths.specs.declared.walker.PathFault.{PathFault}
+use Rattle.rpki_paths.specs.declared.walker.PathFault.TheVariants.{Memory}
+use Rattle.rpki_paths.specs.Walk.{IsRefused, kept_at, InEach}
+use Rattle.rpki_paths.specs.Cert.{Cert, Numbers, IsIn}
+use Rattle.rpki_paths.specs.Sets.{with_claim, meet, IsCovered, CoversKept, StandsFor, IsClimbed}
+use Rattle.rpki_paths.specs.Path.{IsChain, IsPath, IsDistinct, IsLinkCovered, explicit_sets}
+use Rattle.rpki_paths.specs.Anchor.{Supply, Ca, Takes, supplied_claim, path_set}
+use Rattle.rpki_paths.specs.Pairing.{Carried, Crl, HasDistinctIds, IsMatching, HasKey}
+use Rattle.rpki_paths.specs.Pairing.{IsPicked, IsPairable, AreAlike, IsVerifiedBy, HasCrl}
+use Rattle.rpki_paths.specs.Grant.{IsAccepted, IsGranted, AreAnchored, union_of}
+
+-- One issuer more, whose claim covers what it has to, and what is kept stands for the sets again.
+abbrev pub ClimbKeepsMeet : {T : Type 0} → (T → ℕ) → Type 0
+ClimbKeepsMeet {T} f =
+    (mode : Overclaim) (old new : Option (Kept (List (Block T)))) (claim : Claim (List (Block T)))
+    (sets : List (List (Block T))) → StandsFor f old sets → IsCovered f mode sets claim →
+    IsClimbed f mode old claim new → StandsFor f new (with_claim claim sets)
+
+-- What is kept of a covered path, with the sets of the supply that takes it, stands for its set.
+abbrev pub AnchoredIsPathSet : Type 0
+AnchoredIsPathSet =
+    (head : Cert) (p : List Cert) (s : Supply) (f : Family) (old new : Option (Kept Numbers)) →
+    StandsFor (λ n. n) old (explicit_sets (head ∷ p) f) → Takes (head ∷ p) s →
+    IsClimbed (λ n. n) head.overclaim old (supplied_claim s f) new →
+    StandsFor (λ n. n) new (with_claim (supplied_claim s f) (explicit_sets (head ∷ p) f))
+
+-- A trust anchor inherits nothing (RFC 6487, sections 4.8.10 and 4.8.11; RFC 8630, section 2.3).
+abbrev pub AnchorsAreExplicit : Type 0
+AnchorsAreExplicit = (c : Cert) (f : Family) → IsTrue c.is_anchor → ¬ (c.claim f ≡ Inherit)
+
+-- Nothing is inherited on a path that a supply takes.
+abbrev pub AnchoredIsKnown : Type 0
+AnchoredIsKnown =
+    (head : Cert) (p : List Cert) (s : Supply) (f : Family) → AnchorsAreExplicit →
+    Takes (head ∷ p) s →
+    ¬ (StandsFor (λ n. n) None (with_claim (supplied_claim s f) (explicit_sets (head ∷ p) f)))
+
+-- The set of a path lies in each explicit set on it, those of a supplied CA among them.
+abbrev pub PathSetIsWithinEach : Type 0
+PathSetIsWithinEach =
+    (p : List Cert) (s : Supply) (f : Family) (set : Numbers) →
+    IsIn set (with_claim (supplied_claim s f) (explicit_sets p f)) →
+    (n : ℕ) → IsTrue (path_set p s f n) → IsTrue (holds (λ k. k) set n)
+
+-- Where no two carried CAs have one identifier, an end-entity certificate has one path at most.
+abbrev pub PathsAreUnique : Type 0
+PathsAreUnique =
+    (cas : List Cert) (ee : Cert) (p q : List Cert) → IsDistinct cas →
+    IsPath cas ee p → IsPath cas ee q → p ≡ q
+
+-- A chain puts on at most as many CAs as are carried.
+abbrev pub PathsAreShort : Type 0
+PathsAreShort =
+    (cas : List Cert) (ee : Cert) (p : List Cert) → IsChain cas ee p → length p ≤ 1 + length cas
+
+-- Where items that one fits are alike, any choice that fits leaves the others to be paired.
+abbrev pub AnyChoicePairs : {A B : Type 0} → (A → B → Type 0) → Type 0
+AnyChoicePairs {A} {B} R =
+    (x : A) (y : B) (xs : List A) (ys rest : List B) → AreAlike R (x ∷ xs) ys →
+    IsPairable R (x ∷ xs) ys → IsPicked y rest ys → R x y → IsPairable R xs rest
+
+-- With distinct identifiers what fits one is alike: subject keys always, end-entity certificates
+-- and
+-- CRLs by their identifiers.
+abbrev pub WhatFitsIsAlike : Type 0
+WhatFitsIsAlike =
+    (a : Carried) → HasDistinctIds a →
+    AreAlike HasKey a.signers a.subject_keys
+    × AreAlike IsVerifiedBy a.signers a.ees × AreAlike HasCrl a.cas a.crls
+
+-- With distinct identifiers each CA has one CRL in every matching.
+abbrev pub CrlsAreUnique : Type 0
+CrlsAreUnique =
+    (a : Carried) (ees ees' : List Cert) (crls crls' : List Crl) → HasDistinctIds a →
+    IsMatching a ees crls → IsMatching a ees' crls' → crls ≡ crls'
+
+-- With distinct identifiers every choice of pairs has the same paths.
+abbrev pub PathsAreThose : Type 0
+PathsAreThose =
+    (a : Carried) (paths paths' : List (List Cert)) → HasDistinctIds a →
+    IsAccepted a paths → IsAccepted a paths' → (p : List Cert) → IsIn p paths → IsIn p paths'
+
+-- With distinct identifiers any paths and anchors that are found decide what is granted.
+abbrev pub GrantIsDecided : Type 0
+GrantIsDecided =
+    (a : Carried) (paths : List (List Cert)) (supplies anchors : List Supply)
+    (attested : Family → Numbers) → HasDistinctIds a → IsAccepted a paths →
+    AreAnchored paths supplies anchors → IsGranted a supplies attested →
+    (f : Family) (n : ℕ) → holds (λ k. k) (attested f) n ≡ union_of paths anchors f n
+
+-- With distinct identifiers a walk is refused, but for memory, only where there is no covered path.
+abbrev pub RefusedHasNoPath : Type 0
+RefusedHasNoPath =
+    (fault : PathFault) (cas : List Cert) (ee : Cert) (p : List Cert) → ¬ (fault ≡ Memory) →
+    IsDistinct cas → IsRefused fault cas ee → IsPath cas ee p → ¬ (IsLinkCovered p)
+
+-- What is kept of a path tells whether a CA takes it.
+abbrev pub KeptTellsTakes : Type 0
+KeptTellsTakes =
+    (head : Cert) (p : List Cert) (kept : KeptSets) (ski key : List ℕ) (sets : Family → Numbers) →
+    ((f : Family) → StandsFor (λ n. n) (kept_at kept f) (explicit_sets (head ∷ p) f)) →
+    InEach (λ f. CoversKept (λ n. n) head.overclaim (kept_at kept f) (Explicit (sets f)))
+    ↔ Takes (head ∷ p) (Ca ski key sets)

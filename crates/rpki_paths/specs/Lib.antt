@@ -1,0 +1,10 @@
+pub mod Cert
+pub mod Sets
+pub mod Path
+pub mod Anchor
+pub mod Pairing
+pub mod Walk
+pub mod Index
+pub mod Supplied
+pub mod Grant
+pub mod Laws

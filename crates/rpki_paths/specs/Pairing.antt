@@ -1,0 +1,72 @@
+-- One-to-one pairings of what an attestation carries (draft-michaelson-rpki-rta).
+use Rattle.std.specs.Prelude.{◌≡◌, ℕ, Bool, List, [], ◌∷◌, map, IsTrue}
+use Rattle.rpki_paths.specs.Cert.{Cert, IsIn, NoTwice}
+
+-- The list `xs` is `rest` with `x` at some place.
+pub data IsPicked {A : Type 0} : A → List A → List A → Type 0 where
+  here : {x : A} {xs : List A} → IsPicked x xs (x ∷ xs)
+  there : {x y : A} {rest xs : List A} → IsPicked x rest xs → IsPicked x (y ∷ rest) (y ∷ xs)
+
+-- The partners of `xs`, in order, are all of `ys`, each once, and each pair is related by `R`.
+abbrev pub IsPairing : {A B : Type 0} → (A → B → Type 0) → List A → List B → List B → Type 0
+IsPairing R [] [] ys = ys ≡ []
+IsPairing R [] (p ∷ partners) ys = ⊥
+IsPairing R (x ∷ xs) [] ys = ⊥
+IsPairing {B} R (x ∷ xs) (p ∷ partners) ys =
+    R x p × ((rest : List B) × IsPicked p rest ys × IsPairing R xs partners rest)
+
+-- There is a pairing.
+abbrev pub IsPairable : {A B : Type 0} → (A → B → Type 0) → List A → List B → Type 0
+IsPairable {B} R xs ys = (partners : List B) × IsPairing R xs partners ys
+
+-- Two items that one fits are fit by the same ones.
+abbrev pub AreAlike : {A B : Type 0} → (A → B → Type 0) → List A → List B → Type 0
+AreAlike {A} {B} R xs ys =
+    (x x' : A) (y y' : B) → IsIn x xs → IsIn x' xs → IsIn y ys → IsIn y' ys →
+    R x y → R x y' → R x' y → R x' y'
+
+-- A carried CRL: its authority key identifier, its serials, and whether a key verifies it.
+pub record Crl : Type 0 where
+  pub aki : List ℕ
+  pub serials : ℕ → Bool
+  pub verifies : List ℕ → Bool
+
+-- A signer: its key identifier, whether its digest attribute is the digest of the content, and
+-- whether a key verifies its signature over its attributes (RFC 5652, section 5.4).
+pub record Signer : Type 0 where
+  pub sid : List ℕ
+  pub digest_holds : Bool
+  pub verifies : List ℕ → Bool
+
+-- What an attestation carries.
+pub record Carried : Type 0 where
+  pub subject_keys : List (List ℕ)
+  pub signers : List Signer
+  pub ees : List Cert
+  pub cas : List Cert
+  pub crls : List Crl
+
+-- The signer has this subject key.
+abbrev pub HasKey : Signer → List ℕ → Type 0
+HasKey s key = s.sid ≡ key
+
+-- The signer names this end-entity certificate, whose key verifies it.
+abbrev pub IsVerifiedBy : Signer → Cert → Type 0
+IsVerifiedBy s e = (s.sid ≡ e.ski) × IsTrue (s.verifies e.key)
+
+-- The CRL names this CA, whose key verifies it (RFC 6487, section 5).
+abbrev pub HasCrl : Cert → Crl → Type 0
+HasCrl d l = (l.aki ≡ d.ski) × IsTrue (l.verifies d.key)
+
+-- Subject keys, signers and end-entity certificates pair off one to one, and so do CAs and CRLs.
+pub record IsMatching (a : Carried) (ees : List Cert) (crls : List Crl) : Type 0 where
+  pub keys : IsPairable HasKey a.signers a.subject_keys
+  pub digests : (s : Signer) → IsIn s a.signers → IsTrue s.digest_holds
+  pub signed : IsPairing IsVerifiedBy a.signers ees a.ees
+  pub crl_of : IsPairing HasCrl a.cas crls a.crls
+
+-- No two carried CAs have one subject key identifier, and end-entity certificates that have one
+-- have one key.
+pub record HasDistinctIds (a : Carried) : Type 0 where
+  pub of_cas : NoTwice (map (λ c. c.ski) a.cas)
+  pub of_ees : (e e' : Cert) → IsIn e a.ees → IsIn e' a.ees → e.ski ≡ e'.ski → e.key ≡ e'.key

@@ -1,0 +1,119 @@
+-- What a walk up the carried CAs finds, and why it stops.
+use Rattle.std.specs.Prelude.{◌≡◌, ◌≢◌, ℕ, ◌+◌, ◌<◌, ◌≤◌, List, [], ◌∷◌, Option, None, Some, IsTrue}
+use Rattle.std.specs.Prelude.{IsFalse}
+use Rattle.std.specs.Prelude.{slice_get, slice_index, suc, Bool}
+use Rattle.rpki_paths.specs.declared.family.Family.{Family}
+use Rattle.rpki_paths.specs.declared.family.Family.TheVariants.{As, V4, V6}
+use Rattle.rpki_paths.specs.declared.kept.Kept.{Kept}
+use Rattle.rpki_paths.specs.declared.sets.KeptSets.{KeptSets}
+use Rattle.rpki_paths.specs.declared.walker.Found.{Found}
+use Rattle.rpki_paths.specs.declared.walker.Found.TheVariants.{NoIssuer, Invalid, Issuer}
+use Rattle.rpki_paths.specs.declared.walker.PathFault.{PathFault}
+use Rattle.rpki_paths.specs.declared.walker.PathFault.TheVariants.{NoValidIssuer, Returns, Revoked}
+use Rattle.rpki_paths.specs.declared.walker.PathFault.TheVariants.{NotCovered, Memory}
+use Rattle.rpki_paths.specs.Cert.{Cert, Numbers, IsIn, IsSelfSigned}
+use Rattle.rpki_paths.specs.Sets.{StandsFor, IsCovered}
+use Rattle.rpki_paths.specs.Path.{IsChain, IsOff, IsPath, IsLinkCovered, explicit_sets}
+
+-- What is kept in a family.
+abbrev pub kept_at : KeptSets → Family → Option (Kept Numbers)
+kept_at sets As = sets.asn
+kept_at sets V4 = sets.v4
+kept_at sets V6 = sets.v6
+
+-- It holds in each family.
+abbrev pub InEach : (Family → Type 0) → Type 0
+InEach P = P As × P V4 × P V6
+
+-- It fails in this family, and in none before it.
+abbrev pub FailsFirst : (Family → Type 0) → Family → Type 0
+FailsFirst P As = ¬ (P As)
+FailsFirst P V4 = P As × ¬ (P V4)
+FailsFirst P V6 = P As × P V4 × ¬ (P V6)
+
+-- The list has the places, from one on and below another, of the CAs with this identifier, in
+-- order.
+abbrev pub IsNamed : List Cert → Option (List ℕ) → ℕ → ℕ → List ℕ → Type 0
+IsNamed cas id from to [] =
+    (j : ℕ) (x : Cert) → from ≤ j → j < to → slice_get cas j ≡ Some x → ¬ (id ≡ Some x.ski)
+IsNamed cas id from to (i ∷ places) =
+    (from ≤ i) × (i < to) × ((x : Cert) × (slice_get cas i ≡ Some x) × (id ≡ Some x.ski))
+    × ((j : ℕ) (x : Cert) → from ≤ j → j < i → slice_get cas j ≡ Some x → ¬ (id ≡ Some x.ski))
+    × IsNamed cas id (i + 1) to places
+
+-- The certificate at this place.
+abbrev pub at_place : ℕ → Cert → Cert
+at_place n c = record c { place = n }
+
+-- The certificates as paths see them, at places that count from a number on.
+abbrev pub placed : {C : Type 0} → (C → Cert) → ℕ → List C → List Cert
+placed cert n [] = []
+placed cert n (c ∷ cs) = at_place n (cert c) ∷ placed cert (suc n) cs
+
+-- Of the CAs with this identifier, `d` is the first whose key verifies the certificate.
+pub record IsNext (cas : List Cert) (aki : Option (List ℕ)) (verifies : List ℕ → Bool) (d : Cert) :
+    Type 0 where
+  pub index : ℕ
+  pub at_index : slice_get cas index ≡ Some d
+  pub named : aki ≡ Some d.ski
+  pub verified : IsTrue (verifies d.key)
+  pub first : (j : ℕ) (x : Cert) → j < index → slice_get cas j ≡ Some x → aki ≡ Some x.ski →
+      IsFalse (verifies x.key)
+
+-- There are CAs with this identifier, and the key of none verifies the certificate.
+abbrev pub IsUnverified : List Cert → Option (List ℕ) → (List ℕ → Bool) → Type 0
+IsUnverified cas aki verifies =
+    ((d : Cert) × IsIn d cas × (aki ≡ Some d.ski))
+    × ((d : Cert) → IsIn d cas → aki ≡ Some d.ski → IsFalse (verifies d.key))
+
+-- What a search for the issuer among the CAs says.
+abbrev pub FoundSays : List Cert → Option (List ℕ) → (List ℕ → Bool) → Found → Type 0
+FoundSays cas aki verifies NoIssuer = (d : Cert) → IsIn d cas → ¬ (aki ≡ Some d.ski)
+FoundSays cas aki verifies Invalid = IsUnverified cas aki verifies
+FoundSays cas aki verifies (Issuer i) =
+    (d : Cert) × (next : IsNext cas aki verifies d) × (next.index ≡ i)
+
+-- A covered chain goes up to the head `c`, which is not self-signed.
+pub record IsReached (cas : List Cert) (ee c : Cert) (p : List Cert) : Type 0 where
+  pub chain : IsChain cas ee (c ∷ p)
+  pub covered : IsLinkCovered (c ∷ p)
+  pub not_self_signed : ¬ (IsSelfSigned c)
+
+-- A covered chain goes up to a head whose next issuer is such.
+abbrev pub StopsWhere : (Cert → Cert → List Cert → Type 0) → List Cert → Cert → Type 0
+StopsWhere P cas ee =
+    (c : Cert) × (d : Cert) × (p : List Cert) × IsReached cas ee c p × IsNext cas c.aki c.verifies d
+    × P c d p
+
+-- Why there is no path from `ee`. The walk asks in this order: an issuer is verified, it is not on
+-- the path, it has not revoked the certificate, its claims cover what is below, AS numbers first.
+abbrev pub IsRefused : PathFault → List Cert → Cert → Type 0
+IsRefused NoValidIssuer cas ee =
+    (c : Cert) × (p : List Cert) × IsReached cas ee c p × IsUnverified cas c.aki c.verifies
+IsRefused Returns cas ee = StopsWhere (λ c d p. ¬ (IsOff d (c ∷ p))) cas ee
+IsRefused Revoked cas ee =
+    StopsWhere (λ c d p. IsOff d (c ∷ p) × IsTrue (d.revokes c.serial)) cas ee
+IsRefused (NotCovered family) cas ee =
+    StopsWhere (λ c d p. IsOff d (c ∷ p) × IsFalse (d.revokes c.serial)
+    × FailsFirst (λ f. IsCovered (λ n. n) c.overclaim (explicit_sets (c ∷ p) f) (d.claim f)) family)
+    cas ee
+IsRefused Memory cas ee = Unit {0}
+
+-- The marks of this number are those of the CAs that stand on the path.
+pub record AreMarked (cas : List Cert) (marks : List ℕ) (turn : ℕ) (p : List Cert) : Type 0 where
+  pub on : (i : ℕ) (d : Cert) → slice_get cas i ≡ Some d → slice_index marks i ≡ turn
+      → ¬ (IsOff d p)
+  pub off : (i : ℕ) (d : Cert) → slice_get cas i ≡ Some d → slice_index marks i ≢ turn → IsOff d p
+
+-- Marks of another number are as they were.
+abbrev pub KeepsMarks : ℕ → List ℕ → List ℕ → Type 0
+KeepsMarks turn old new = (i : ℕ) → slice_index new i ≢ turn → slice_index new i ≡ slice_index old i
+
+-- A covered path of `ee` with this head, for which what is kept stands, its CAs marked.
+pub record IsWalked (cas : List Cert) (ee head : Cert) (sets : KeptSets) (marks : List ℕ)
+    (turn : ℕ) : Type 0 where
+  pub below : List Cert
+  pub path : IsPath cas ee (head ∷ below)
+  pub covered : IsLinkCovered (head ∷ below)
+  pub kept : (f : Family) → StandsFor (λ n. n) (kept_at sets f) (explicit_sets (head ∷ below) f)
+  pub marked : AreMarked cas marks turn (head ∷ below)

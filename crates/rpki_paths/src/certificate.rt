@@ -1,0 +1,84 @@
+//! What a walk asks of a carried certificate.
+
+ghost use Rattle.std.specs.Prelude.{◌≡◌, ◌↔◌, ℕ, List, IsTrue};
+ghost use Rattle.rpki_paths.specs.declared.family.Family.{Family};
+ghost use Rattle.rpki_paths.specs.Anchor.{Supply, Fits};
+ghost use Rattle.rpki_paths.specs.Cert.{Cert, Numbers, IsSelfSigned};
+
+use crate::overclaim::Overclaim;
+use rpki_resources::{AsBlocks, AsResources, IpBlocks, IpResources};
+
+/// A key identifier: 20 octets (RFC 6487, section 4.8.2).
+pub type KeyId = [u8; 20];
+
+/// A carried certificate, with its place among the carried ones and, where it is a CA's, the CRL
+/// that is paired with it.
+pub trait Certificate {
+    // What paths see of it.
+    ghost cert: { Self → Cert };
+
+    /// Its subject key identifier.
+    fn subject(&self) -> KeyId
+        ensures { result ≡ (cert self.now).ski };
+
+    /// Its authority key identifier.
+    fn authority(&self) -> Option<KeyId>
+        ensures { result ≡ (cert self.now).aki };
+
+    /// Whether its form is that of a self-signed certificate.
+    fn is_self_signed(&self) -> bool
+        ensures { IsTrue result ↔ IsSelfSigned (cert self.now) };
+
+    /// Whether the key of another verifies its signature.
+    fn is_signed_by(&self, issuer: &Self) -> bool
+        ensures { result ≡ (cert self.now).verifies (cert issuer.now).key };
+
+    /// Whether the CRL that is paired with it lists the serial number of another.
+    fn revokes(&self, subject: &Self) -> bool
+        ensures { result ≡ (cert self.now).revokes (cert subject.now).serial };
+
+    /// What becomes of numbers that its issuer has not.
+    fn overclaim(&self) -> Overclaim
+        ensures { result ≡ (cert self.now).overclaim };
+
+    /// What it claims of AS numbers.
+    fn asn(&self) -> &AsResources
+        ensures { result.now ≡ (cert self.now).claim Family.As };
+
+    /// What it claims of IPv4 addresses.
+    fn v4(&self) -> &IpResources
+        ensures { result.now ≡ (cert self.now).claim Family.V4 };
+
+    /// What it claims of IPv6 addresses.
+    fn v6(&self) -> &IpResources
+        ensures { result.now ≡ (cert self.now).claim Family.V6 };
+}
+
+/// A CA certificate that was validated elsewhere, for the heads of paths.
+pub trait SuppliedCa<C: Certificate> {
+    // Its subject key identifier.
+    ghost ski: { Self → List ℕ };
+
+    // Its key.
+    ghost key: { Self → List ℕ };
+
+    // Its validated sets.
+    ghost sets: { Self → Family → Numbers };
+
+    /// Whether a head that is not self-signed names it, and its key verifies the head.
+    fn fits(&self, head: &C) -> bool
+        ensures { IsTrue result ↔
+            Fits (C.cert head.now) (Supply.Ca (ski self.now) (key self.now) (sets self.now)) };
+
+    /// Its AS numbers.
+    fn asn(&self) -> &AsBlocks
+        ensures { result.now ≡ sets self.now Family.As };
+
+    /// Its IPv4 addresses.
+    fn v4(&self) -> &IpBlocks
+        ensures { result.now ≡ sets self.now Family.V4 };
+
+    /// Its IPv6 addresses.
+    fn v6(&self) -> &IpBlocks
+        ensures { result.now ≡ sets self.now Family.V6 };
+}

@@ -1,0 +1,24 @@
+//! Certification paths under multi-signed attestations (draft-michaelson-rpki-rta): what a path is,
+//! where it is anchored and which numbers it stands for, and the laws that decide them.
+#![tactic(auto)]
+
+mod asked;
+mod certificate;
+mod family;
+mod kept;
+mod laws;
+mod overclaim;
+mod places;
+mod sets;
+mod supply;
+mod walker;
+
+pub use asked::Asked;
+pub use certificate::{Certificate, KeyId, SuppliedCa};
+pub use family::Family;
+pub use kept::{Kept, climbed, covers_kept, raised, set_covers_kept};
+pub use overclaim::Overclaim;
+pub use places::Places;
+pub use sets::KeptSets;
+pub use supply::SupplyFault;
+pub use walker::{Path, PathFault, walk};

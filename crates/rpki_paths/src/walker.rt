@@ -1,0 +1,166 @@
+//! The walk from an end-entity certificate up the carried CAs.
+
+ghost use Rattle.std.specs.Prelude.{◌≡◌, ◌≢◌, ℕ, ◌+◌, ◌<◌, ◌≤◌, length, IfOk, IfErr, OnOk};
+ghost use Rattle.std.specs.Prelude.{slice_index};
+ghost use Rattle.rpki_paths.specs.declared.walker.Found.{Found};
+ghost use Rattle.rpki_paths.specs.declared.walker.PathFault.{PathFault};
+ghost use Rattle.rpki_paths.specs.Index.{IsIndex};
+ghost use Rattle.rpki_paths.specs.Path.{IsDistinct};
+ghost use Rattle.rpki_paths.specs.Walk.{IsNamed, FoundSays, IsRefused, IsWalked};
+ghost use Rattle.rpki_paths.specs.Walk.{KeepsMarks, at_place, placed};
+
+use crate::asked::Asked;
+use crate::certificate::Certificate;
+use crate::family::Family;
+use crate::places::Places;
+use crate::sets::KeptSets;
+use std::alloc::{AllocError, Global};
+use std::sync::ledger::Ledger;
+
+/// The head of a path, its place (0 for the end-entity certificate, else one more than the CA's
+/// index), what is kept of the explicit sets, and whether the path is anchored.
+#[derive(Drop)]
+pub struct Path<'a, C> {
+    pub head: &'a C,
+    pub place: usize,
+    pub sets: KeptSets,
+    pub anchored: bool,
+}
+
+/// Why an end-entity certificate has no path.
+#[derive(Clone, Copy, Debug, PartialEq, Eq)]
+pub enum PathFault {
+    /// CAs are named as the issuer, and the key of none verifies the certificate.
+    NoValidIssuer,
+    /// The issuer stands on the path already.
+    Returns,
+    /// The issuer has revoked the certificate.
+    Revoked,
+    /// The issuer does not have the numbers of this family.
+    NotCovered(Family),
+    /// There is no memory for the sets.
+    Memory,
+}
+
+impl From<AllocError> for PathFault {
+    ghost from_gives = { λ _ fault. fault ≡ PathFault.Memory };
+
+    fn from(_error: AllocError) -> PathFault {
+        PathFault::Memory
+    }
+}
+
+/// What a search for an issuer found.
+#[derive(Clone, Copy)]
+pub enum Found {
+    /// No carried CA is named.
+    NoIssuer,
+    /// The key of no named CA verifies the certificate.
+    Invalid,
+    /// The first that verifies it, by its place among the CAs.
+    Issuer(usize),
+}
+
+// The first of the named CAs whose key verifies the certificate.
+fn find_issuer<C: Certificate, L: Ledger>(
+    cert: &C,
+    cas: &[C],
+    named: &[usize],
+    asked: &mut Asked<L>,
+) -> Found
+    requires { IsNamed (placed C.cert 1 cas.now) (C.cert cert.now).aki 0
+        (length (placed C.cert 1 cas.now)) named.now }
+    ensures says { FoundSays (placed C.cert 1 cas.now) (C.cert cert.now).aki
+        (C.cert cert.now).verifies result }
+    ensures in_range { (i : ℕ) → result ≡ Found.Issuer i → i < length cas.now }
+    ensures cost { asked.new ≤ asked.old + length named.now }
+    ensures none_asked { result ≡ Found.NoIssuer → asked.new ≡ asked.old }
+{
+    let mut left = named;
+    while let Some((first, rest)) = left.split_first() {
+        let i = *first;
+        let ca = &cas[i];
+        if asked.ask(cert, ca) {
+            return Found::Issuer(i);
+        }
+        left = rest;
+    }
+    if named.is_empty() {
+        Found::NoIssuer
+    } else {
+        Found::Invalid
+    }
+}
+
+/// Walks from an end-entity certificate up to the top. The index has the places of the CAs. A mark
+/// stands for each CA: the number of the walk that last took it.
+pub fn walk<'a, C: Certificate, L: Ledger>(
+    alloc: Global,
+    ee: &'a C,
+    cas: &'a [C],
+    index: &Places,
+    marks: &mut [u64],
+    turn: u64,
+    asked: &mut Asked<L>,
+) -> Result<Path<'a, C>, PathFault>
+    requires index { IsIndex (placed C.cert 1 cas.now) index.now }
+    requires as_many { length marks.old ≡ length cas.now }
+    requires fresh { (k : ℕ) → k < length marks.old → slice_index marks.old k ≢ turn }
+    ensures path { IfOk result (λ path. IsWalked (placed C.cert 1 cas.now)
+        (at_place 0 (C.cert ee.now)) (at_place path.place (C.cert path.head.now))
+        path.sets marks.new turn) }
+    ensures refused { IfErr result (λ fault.
+        IsRefused fault (placed C.cert 1 cas.now) (at_place 0 (C.cert ee.now))) }
+    ensures as_many { length marks.new ≡ length marks.old }
+    ensures others { KeepsMarks turn marks.old marks.new }
+    ensures cost { OnOk result (IsDistinct (placed C.cert 1 cas.now) →
+        asked.new ≤ asked.old + length cas.now) }
+{
+    let mut head = ee;
+    let mut place: usize = 0;
+    let mut sets = KeptSets::none().climbed(alloc, ee.overclaim(), ee)?;
+    for step in 0..marks.len() + 1 {
+        if head.is_self_signed() {
+            return Ok(Path {
+                head,
+                place,
+                sets,
+                anchored: false,
+            });
+        }
+        match find_issuer(head, cas, index.named(head.authority()), asked) {
+            Found::NoIssuer => {
+                return Ok(Path {
+                    head,
+                    place,
+                    sets,
+                    anchored: false,
+                });
+            }
+            Found::Invalid => {
+                return Err(PathFault::NoValidIssuer);
+            }
+            Found::Issuer(i) => {
+                let ca = &cas[i];
+                if marks[i] == turn {
+                    return Err(PathFault::Returns);
+                }
+                if ca.revokes(head) {
+                    return Err(PathFault::Revoked);
+                }
+                match sets.uncovered(head.overclaim(), ca) {
+                    Some(family) => {
+                        return Err(PathFault::NotCovered(family));
+                    }
+                    None => {
+                        sets = sets.climbed(alloc, head.overclaim(), ca)?;
+                        marks[i] = turn;
+                        head = ca;
+                        place = i + 1;
+                    }
+                }
+            }
+        }
+    }
+    Err(PathFault::Returns)
+}

@@ -1,0 +1,3 @@
+//! What the definitions say: laws, as functions that do nothing.
+
+pub mod sets;

@@ -1,0 +1,5 @@
+//! Proved callers of the libraries, which their pages `CALLING.md` quote.
+#![tactic(auto)]
+
+pub mod peers;
+pub mod sets;
