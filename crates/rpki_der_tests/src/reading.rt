@@ -31,6 +31,15 @@ pub enum Call {
     SkipOne,
     SkipAll,
     Capture,
+    Unsigned,
+    Flag,
+    Name,
+    WholeBits,
+    Primitive,
+    TwoOctets,
+    SkipOptOne,
+    AtEnd,
+    CaptureWith,
 }
 
 /// What it answers.
@@ -157,13 +166,46 @@ fn take_parts(cons: &mut Constructed<'_>, call: Call) -> Result<Found, DecodeErr
     }
 }
 
+fn take_more(cons: &mut Constructed<'_>, alloc: Global, call: Call) -> Result<Found, DecodeError> {
+    match call {
+        Call::Unsigned => {
+            let digits = cons.take_unsigned()?;
+            Ok(Found::Octets(Bytes::copy_from_slice(alloc, &digits)?))
+        }
+        Call::TwoOctets => {
+            let octets = cons.take_octets_of::<2>(alloc)?;
+            Ok(Found::Octets(Bytes::copy_from_slice(alloc, &octets)?))
+        }
+        Call::WholeBits => Ok(string(Some(cons.take_octets_in_bits()?))),
+        Call::Primitive => Ok(string(Some(cons.take_primitive_if(Tag::CTX_0_PRIMITIVE)?))),
+        Call::Flag => Ok(Found::Truth(cons.take_flag()?)),
+        Call::AtEnd => Ok(Found::Truth(cons.is_at_end()?)),
+        Call::Name => {
+            cons.skip_oid_if(&[0x55, 4, 3])?;
+            Ok(Found::Done)
+        }
+        Call::SkipOptOne => match cons.skip_opt_one()? {
+            Some(()) => Ok(Found::Done),
+            None => Ok(Found::Absent),
+        },
+        _ => {
+            let mode = cons.mode();
+            let (_, kept) = cons.capture_with(small)?;
+            Ok(Found::Kept(kept, mode))
+        }
+    }
+}
+
 fn take(cons: &mut Constructed<'_>, alloc: Global, call: Call) -> Result<Found, DecodeError> {
     match call {
         Call::U8 | Call::U32 | Call::OptU8 | Call::OptU32 => take_number(cons, call),
         Call::SkipFive | Call::Bool | Call::Null => take_number(cons, call),
         Call::Oid | Call::Bits | Call::Ia5 => take_string(cons, alloc, call),
         Call::OptIa5 | Call::Octets | Call::Key => take_string(cons, alloc, call),
-        _ => take_parts(cons, call),
+        Call::Sequence | Call::OptSequence | Call::Set => take_parts(cons, call),
+        Call::Tagged | Call::OptTagged | Call::SkipOne => take_parts(cons, call),
+        Call::SkipAll | Call::Capture => take_parts(cons, call),
+        _ => take_more(cons, alloc, call),
     }
 }
 
@@ -212,7 +254,7 @@ pub fn is_so(
 }
 
 /// Whole values that are read, and alike in both modes.
-pub static READ: [Row; 44] = [
+pub static READ: [Row; 54] = [
     (Call::U8, &[2, 1, 0], Want::Number(0)),
     (Call::U8, &[2, 1, 0x7F], Want::Number(127)),
     (Call::U8, &[2, 2, 0, 0x80], Want::Number(128)),
@@ -289,6 +331,36 @@ pub static READ: [Row; 44] = [
         Want::Octets(&[0x16, 1, 0x80]),
     ),
     (Call::SkipAll, &[0x30, 0], Want::Done),
+    (
+        Call::Unsigned,
+        &[2, 1, 5],
+        Want::Octets(&[0, 0, 0, 0, 0, 0, 0, 0, 0, 0, 0, 0, 0, 0, 0, 0, 0, 0, 0, 5]),
+    ),
+    (
+        Call::Unsigned,
+        &[
+            2, 21, 0, 0x80, 0, 0, 0, 0, 0, 0, 0, 0, 0, 0, 0, 0, 0, 0, 0, 0, 0, 0, 1,
+        ],
+        Want::Octets(&[
+            0x80, 0, 0, 0, 0, 0, 0, 0, 0, 0, 0, 0, 0, 0, 0, 0, 0, 0, 0, 1,
+        ]),
+    ),
+    (Call::Flag, &[1, 1, 0xFF], Want::Truth(true)),
+    (Call::Flag, &[1, 1, 0], Want::Truth(false)),
+    (Call::Name, &[6, 3, 0x55, 4, 3], Want::Done),
+    (
+        Call::WholeBits,
+        &[3, 3, 0, 0xAB, 0xC0],
+        Want::Octets(&[0xAB, 0xC0]),
+    ),
+    (Call::Primitive, &[0x80, 1, 0x99], Want::Octets(&[0x99])),
+    (
+        Call::TwoOctets,
+        &[4, 2, 0xCD, 0xEF],
+        Want::Octets(&[0xCD, 0xEF]),
+    ),
+    (Call::SkipOptOne, &[0x30, 2, 5, 0], Want::Done),
+    (Call::CaptureWith, &[2, 1, 9], Want::Octets(&[2, 1, 9])),
 ];
 
 /// Whole values that are read in BER, and that DER refuses (sections 8.1.3, 8.7, 10.1 and 10.2).
@@ -362,7 +434,7 @@ pub static RELAXED: [Row; 22] = [
 ];
 
 /// Whole values that are refused in both modes, whatever follows them.
-pub static WRONG: [Row; 33] = [
+pub static WRONG: [Row; 41] = [
     // a number without octets, below 0, longer than it need be, and too large
     (Call::U8, &[2, 0], Want::Refused),
     (Call::U8, &[2, 1, 0x80], Want::Refused),
@@ -403,10 +475,24 @@ pub static WRONG: [Row; 33] = [
     (Call::Sequence, &[0x30, 6, 2, 1, 5, 2, 1, 6], Want::Refused),
     (Call::OptSequence, &[0x30, 3, 2, 2, 9], Want::Refused),
     (Call::OptTagged, &[0xA0, 2, 2, 0], Want::Refused),
+    (Call::Unsigned, &[2, 1, 0x80], Want::Refused),
+    (
+        Call::Unsigned,
+        &[
+            2, 21, 1, 0, 0, 0, 0, 0, 0, 0, 0, 0, 0, 0, 0, 0, 0, 0, 0, 0, 0, 0, 0,
+        ],
+        Want::Refused,
+    ),
+    (Call::Flag, &[1, 0], Want::Refused),
+    (Call::Name, &[6, 3, 0x55, 4, 4], Want::Refused),
+    (Call::WholeBits, &[3, 2, 3, 0xA8], Want::Refused),
+    (Call::TwoOctets, &[4, 1, 0xCD], Want::Refused),
+    (Call::TwoOctets, &[4, 3, 0xCD, 0xEF, 1], Want::Refused),
+    (Call::CaptureWith, &[2, 2, 1, 0], Want::Refused),
 ];
 
 /// Other answers, in both modes: another value, none, octets after the value, and too few.
-static OTHERS: [Row; 22] = [
+static OTHERS: [Row; 28] = [
     (Call::OptU8, &[4, 0], Want::Absent),
     (Call::OptU8, &[], Want::Absent),
     (Call::OptU32, &[4, 0], Want::Absent),
@@ -433,6 +519,12 @@ static OTHERS: [Row; 22] = [
     ),
     (Call::Key, &[0x80, 1], Want::Refused),
     (Call::Set, &[0x30, 3, 2, 1, 9], Want::Refused),
+    (Call::Flag, &[5, 0], Want::Truth(false)),
+    (Call::Flag, &[], Want::Truth(false)),
+    (Call::SkipOptOne, &[], Want::Absent),
+    (Call::AtEnd, &[], Want::Truth(true)),
+    (Call::AtEnd, &[5, 0], Want::Truth(false)),
+    (Call::Primitive, &[0x81, 0], Want::Refused),
 ];
 
 /// The number of the first row that is answered otherwise than it should be.
@@ -483,6 +575,16 @@ fn is_deep(alloc: Global, n: usize, string: Want, skipped: Want) -> Result<bool,
     )
 }
 
+/// Whether one value is all that a reader is given.
+fn are_all(alloc: Global, octets: &[u8]) -> Result<bool, AllocError> {
+    let source = Bytes::copy_from_slice(alloc, octets)?;
+    match Constructed::decode_all(source, Mode::Der, skip) {
+        Ok(()) => Ok(true),
+        Err(DecodeError::Memory) => Err(AllocError),
+        Err(_) => Ok(false),
+    }
+}
+
 #[test]
 fn rows(rt: HostRuntime) -> Result<(), AllocError> {
     let alloc = rt.alloc();
@@ -491,6 +593,7 @@ fn rows(rt: HostRuntime) -> Result<(), AllocError> {
     assert!(rt; are_answered(alloc, &OTHERS)?);
     assert!(rt; wrong_row(alloc, Mode::Ber, &RELAXED)?.is_none());
     assert!(rt; are_refused(alloc, &RELAXED)?);
+    assert!(rt; are_all(alloc, &[5, 0])? && !are_all(alloc, &[5, 0, 5])?);
     // 32 levels are read, and 33 are refused
     assert!(rt; is_deep(alloc, 31, Want::Octets(b"A"), Want::Done)?);
     assert!(rt; is_deep(alloc, 32, Want::Refused, Want::Refused)?);
