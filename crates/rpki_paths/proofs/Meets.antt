@@ -17,7 +17,7 @@ use Rattle.rpki_paths.specs.Sets.{CoversKept}
 use Rattle.rpki_paths.specs.Path.{explicit_sets}
 use Rattle.rpki_paths.specs.Anchor.{Supply, Tal, Ca, Takes, supplied_claim, path_set}
 use Rattle.rpki_paths.specs.Laws.{ClimbKeepsMeet, AnchoredIsPathSet, AnchoredIsKnown}
-use Rattle.rpki_paths.specs.Laws.{AnchorsAreExplicit, PathSetIsWithinEach}
+use Rattle.rpki_paths.specs.Laws.{PathSetIsWithinEach}
 
 and-true : (a : Bool) → a && true ≡ a
 and-true true = refl
@@ -134,7 +134,7 @@ none_inherits (Explicit s) sets e = absurd cc
 
 pub anchored_known : AnchoredIsKnown
 anchored_known head p (Tal key) f explicit takes e =
-    explicit head f takes.0 (none_inherits (head.claim f) (explicit_sets p f) e)
+    explicit takes.0 (none_inherits (head.claim f) (explicit_sets p f) e)
 anchored_known head p (Ca ski key sets) f explicit takes e = absurd cc
 
 meet_within : (sets : List Numbers) (t : Numbers) → IsIn t sets → (n : ℕ)

@@ -34,15 +34,12 @@ AnchoredIsPathSet =
     IsClimbed (λ n. n) head.overclaim old (supplied_claim s f) new →
     StandsFor (λ n. n) new (with_claim (supplied_claim s f) (explicit_sets (head ∷ p) f))
 
--- A trust anchor inherits nothing (RFC 6487, sections 4.8.10 and 4.8.11; RFC 8630, section 2.3).
-abbrev pub AnchorsAreExplicit : Type 0
-AnchorsAreExplicit = (c : Cert) (f : Family) → IsTrue c.is_anchor → ¬ (c.claim f ≡ Inherit)
-
--- Nothing is inherited on a path that a supply takes.
+-- Nothing is inherited on a path that a supply takes, where a head that is a trust anchor inherits
+-- nothing (RFC 6487, sections 4.8.10 and 4.8.11; RFC 8630, section 2.3).
 abbrev pub AnchoredIsKnown : Type 0
 AnchoredIsKnown =
-    (head : Cert) (p : List Cert) (s : Supply) (f : Family) → AnchorsAreExplicit →
-    Takes (head ∷ p) s →
+    (head : Cert) (p : List Cert) (s : Supply) (f : Family) →
+    (IsTrue head.is_anchor → ¬ (head.claim f ≡ Inherit)) → Takes (head ∷ p) s →
     ¬ (StandsFor (λ n. n) None (with_claim (supplied_claim s f) (explicit_sets (head ∷ p) f)))
 
 -- The set of a path lies in each explicit set on it, those of a supplied CA among them.

@@ -16,15 +16,16 @@ abbrev pub IsPassed : {C : Type 0} → Type 0 → Path C → Path C → Type 0
 IsPassed fits old new = (IsTrue old.anchored ⊎ ¬ fits) × (new ≡ old)
 
 -- The path is anchored under the CA, whose sets cover what they have to, and are kept.
-pub record IsTaken {C : Type 0} (fits : Type 0) (mode : C → Cert) (sets : Family → Numbers)
+pub record IsTaken {C : Type 0} (fits : Type 0) (cert : C → Cert) (sets : Family → Numbers)
     (old new : Path C) : Type 0 where
   pub open_path : IsFalse old.anchored
   pub meant : fits
-  pub covered : InEach (λ f. CoversKept (λ n. n) (mode old.head.now).overclaim
+  pub covered : InEach (λ f. CoversKept (λ n. n) (cert old.head.now).overclaim
       (kept_at old.sets f) (Explicit (sets f)))
-  pub raised : InEach (λ f. IsRaised (λ n. n) (mode old.head.now).overclaim
+  pub raised : InEach (λ f. IsRaised (λ n. n) (cert old.head.now).overclaim
       (kept_at old.sets f) (sets f) (kept_at new.sets f))
   pub head : new.head ≡ old.head
+  pub place : new.place ≡ old.place
   pub anchored : IsTrue new.anchored
 
 -- What a supply answers. A path that it refuses stays as it is.

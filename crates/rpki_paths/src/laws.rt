@@ -19,7 +19,7 @@ pub fn anchored_is_path_set()
     ensures { AnchoredIsPathSet }
 {}
 
-/// An anchored path inherits nothing.
+/// An anchored path inherits nothing, where its trust anchor does not.
 pub fn anchored_is_known()
     ensures { AnchoredIsKnown }
 {}

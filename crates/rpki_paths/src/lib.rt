@@ -6,7 +6,7 @@ mod asked;
 mod certificate;
 mod family;
 mod kept;
-mod laws;
+pub mod laws;
 mod overclaim;
 mod places;
 mod sets;

@@ -1,7 +1,7 @@
 //! The walk from an end-entity certificate up the carried CAs.
 
 ghost use Rattle.std.specs.Prelude.{◌≡◌, ◌≢◌, ℕ, ◌+◌, ◌<◌, ◌≤◌, length, IfOk, IfErr, OnOk};
-ghost use Rattle.std.specs.Prelude.{slice_index};
+ghost use Rattle.std.specs.Prelude.{IsFalse, slice_index};
 ghost use Rattle.rpki_paths.specs.declared.walker.Found.{Found};
 ghost use Rattle.rpki_paths.specs.declared.walker.PathFault.{PathFault};
 ghost use Rattle.rpki_paths.specs.Index.{IsIndex};
@@ -109,6 +109,7 @@ pub fn walk<'a, C: Certificate, L: Ledger>(
     ensures path { IfOk result (λ path. IsWalked (placed C.cert 1 cas.now)
         (at_place 0 (C.cert ee.now)) (at_place path.place (C.cert path.head.now))
         path.sets marks.new turn) }
+    ensures not_anchored { IfOk result (λ path. IsFalse path.anchored) }
     ensures refused { IfErr result (λ fault.
         IsRefused fault (placed C.cert 1 cas.now) (at_place 0 (C.cert ee.now))) }
     ensures as_many { length marks.new ≡ length marks.old }
