@@ -1,8 +1,6 @@
 pub mod BigEndian
-pub mod Calls
 pub mod SegmentFacts
 pub mod SerialFacts
-pub mod SerialReading
 pub mod SerialWriting
 pub mod TimeExact
 pub mod TimeOrder

@@ -16,9 +16,10 @@ use Rattle.rpki_der.proofs.Writing.Numbers.{unsigned-written}
 use Rattle.rpki_der.proofs.Writing.Lengths.{value-written}
 use Rattle.rpki_der.proofs.Writing.Values.{integer-unique}
 use Rattle.rpki_der.proofs.Writing.Leaves.{primitive-read}
-use Rattle.rpki_basics.specs.Serial.{digits, IsDigits, SerialForm, serial_at, serial_octets}
-use Rattle.rpki_basics.specs.Digits.{digits_again, number-head}
-use Rattle.rpki_basics.proofs.SerialFacts.{below20}
+use Rattle.rpki_der.specs.Read.Parse.{u160_at}
+use Rattle.rpki_der.proofs.Reading.Digits.{number-head, number-below}
+use Rattle.rpki_basics.specs.Serial.{digits, IsDigits, SerialForm, serial_octets}
+use Rattle.rpki_basics.specs.Digits.{digits_again}
 
 -- ---- the digits of a number
 
@@ -65,9 +66,11 @@ digits-written ds h =
     let c : List ℕ = integer_contents ds in
     let small : length (integer_contents ds) < 2 ^ 32 =
     omega (arith, h.0, length-integer_contents ds) in
-    let few : length ds ≤ 20 = omega (arith, h.0) in
+    let below : number 0 ds < 2 ^ 160 =
+    let b : number 0 ds < 256 ^ length ds = number-below ds h.1 in
+    let e : 256 ^ length ds ≡ 256 ^ 20 = ap (λ (k : ℕ). 256 ^ k) h.0 in omega (arith, b, e) in
     rw (digits_again ds h)
-    (c, value-written INTEGER c (tag-sound INTEGER refl) small, (integer-is ds, below20 ds h.1 few))
+    (c, value-written INTEGER c (tag-sound INTEGER refl) small, (integer-is ds, below))
 
 pub serial-written : (n : ℕ) → n < 2 ^ 160 → SerialForm Der (serial_octets n) n
 serial-written n h =
@@ -81,7 +84,7 @@ serial-unique o n bytes h =
     (h.0, h.1, subst (IsInteger h.0) (sym d.1) h.2.0)
 
 pub serial-read : (mode : Mode) (n : ℕ) (rest : List ℕ) → n < 2 ^ 160
-    → serial_at mode (serial_octets n ++ rest) ≡ Some (n, rest)
+    → u160_at mode (serial_octets n ++ rest) ≡ Some (n, rest)
 serial-read mode n rest h =
     let d = digits-all n h in
     let ds : List ℕ = digits 20 n in
@@ -91,6 +94,6 @@ serial-read mode n rest h =
     omega (arith, d.0.0, length-significant (digits 20 n)) in
     let o : unsigned_of 20 (integer_contents (digits 20 n)) ≡ Some (number 0 (digits 20 n)) =
     unsigned-written 20 (digits 20 n) few (omega arith) in
-    subst (λ (m : ℕ). serial_at mode (serial_octets n ++ rest) ≡ Some (m, rest)) d.1
+    subst (λ (m : ℕ). u160_at mode (serial_octets n ++ rest) ≡ Some (m, rest)) d.1
     (primitive-read INTEGER (unsigned_of 20) mode (integer_contents ds) rest (number 0 ds)
     (tag-sound INTEGER refl) small o)

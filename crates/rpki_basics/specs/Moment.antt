@@ -12,7 +12,7 @@ pub record Moment : Type 0 where
   pub second : ℕ
 
 -- The Gregorian calendar has the day, and the day has the second (RFC 5280, section 4.1.2.5). That
--- there are no leap seconds is this project's profile.
+-- there are no leap seconds is this project's own rule.
 pub record IsMoment (m : Moment) : Type 0 where
   pub year : m.year ≤ 9999
   pub some_month : 1 ≤ m.month
@@ -30,8 +30,8 @@ is_moment m =
     && nat_le m.day (days_in_month (pos m.year) m.month)
     && nat_lt m.hour 24 && nat_lt m.minute 60 && nat_lt m.second 60
 
--- A number for each moment, which grows with time: the number of seconds, where each year has 13
--- months and each month 32 days, so that each part is below the factor in front of the next one.
+-- A number for each moment, which grows with time. It is no count of seconds: a year has room for 13
+-- months in it and a month for 32 days, so that each part is below the factor before it.
 abbrev pub stamp : Moment → ℕ
 stamp m =
     ((((m.year * 13 + m.month) * 32 + m.day) * 24 + m.hour) * 60 + m.minute) * 60 + m.second

@@ -1,7 +1,8 @@
 -- Why something is not built and signed.
-use Rattle.std.specs.Prelude.{◌≡◌, ◌<◌, ℕ, Result, Ok, Err}
+use Rattle.std.specs.Prelude.{◌≡◌, ◌<◌, ℕ, List, Option, Some, Result, Ok, Err, codes}
 use Rattle.rpki_keys.specs.declared.signer.SignerFault.{SignerFault}
 use Rattle.rpki_keys.specs.declared.signer.SignerFault.TheVariants as fault
+use Rattle.rpki_basics.specs.Build.{fault_text}
 use Rattle.rpki_basics.specs.declared.signing.SigningError.{SigningError}
 use Rattle.rpki_basics.specs.declared.signing.SigningError.TheVariants as error
 
@@ -12,7 +13,8 @@ signing_error fault.IncompatibleKey = error.IncompatibleKey
 signing_error (fault.Signer e) = error.Signer e
 signing_error fault.Memory = error.Memory
 
--- The signer's three errors raise the count of its failed calls, and nothing else does.
+-- The signer's three errors raise the count of its failed calls, and nothing else does. It is meant
+-- for calls that build and sign; none of this crate does.
 abbrev pub CountsSigning : {T E : Type 0} → ℕ → ℕ → Result T (SigningError E) → Type 0
 CountsSigning old new (Ok t) = new ≡ old
 CountsSigning old new (Err error.KeyNotFound) = old < new
@@ -23,3 +25,14 @@ CountsSigning old new (Err error.TooLong) = new ≡ old
 CountsSigning old new (Err (error.Content e)) = new ≡ old
 CountsSigning old new (Err error.NotDer) = new ≡ old
 CountsSigning old new (Err error.Memory) = new ≡ old
+
+-- The text of an error, where own are the texts of a signer's own faults.
+abbrev pub signing_text : {E : Type 0} → (E → Option (List ℕ)) → SigningError E → Option (List ℕ)
+signing_text own error.KeyNotFound = Some (codes "key not found")
+signing_text own error.IncompatibleKey = Some (codes "incompatible key")
+signing_text own (error.Signer e) = own e
+signing_text own error.AttrsTooLong = Some (codes "signed attributes too long")
+signing_text own error.TooLong = Some (codes "too long")
+signing_text own (error.Content fault) = Some (fault_text fault)
+signing_text own error.NotDer = Some (codes "not DER")
+signing_text own error.Memory = Some (codes "out of memory")

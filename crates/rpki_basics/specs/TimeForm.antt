@@ -1,8 +1,9 @@
 -- The octets and the texts of a time. The sections are those of RFC 5280.
-use Rattle.std.specs.Prelude.{◌≡◌, ℕ, ◌+◌, ◌/◌, ◌%◌, ◌≤◌, ◌<◌, ◌⊎◌, List, [], ◌∷◌, ◌++◌, codes}
+use Rattle.std.specs.Prelude.{◌≡◌, ℕ, ◌+◌, ◌/◌, ◌%◌, ◌≤◌, ◌<◌, List, [], ◌∷◌, ◌++◌, codes}
 use Rattle.std.specs.Prelude.{Bool, nat_le, nat_lt, ◌&&◌, if◌then◌else◌}
 use Rattle.rpki_der.specs.declared.mode.Mode.{Mode}
 use Rattle.rpki_der.specs.Grammar.{Within}
+use Rattle.rpki_der.specs.Form.Made.{Choice}
 use Rattle.rpki_der.specs.Write.Written.{value_octets}
 use Rattle.rpki_der.specs.Tags.{UTC_TIME, GENERALIZED_TIME}
 use Rattle.rpki_basics.specs.Moment.{Moment, IsMoment}
@@ -30,11 +31,21 @@ generalized_text m = two_digits (m.year / 100) ++ (two_digits (m.year % 100) ++ 
 abbrev pub IsUtcYear : ℕ → Type 0
 IsUtcYear year = (1950 ≤ year) × (year < 2050)
 
--- CHOICE { UTCTime, GeneralizedTime } of a real moment (section 4.1).
+-- The contents of a UTCTime of a real moment (section 4.1.2.5.1).
+abbrev pub IsUtcTime : List ℕ → Moment → Type 0
+IsUtcTime contents m = (contents ≡ utc_text m) × IsUtcYear m.year × IsMoment m
+
+-- The contents of a GeneralizedTime of a real moment (section 4.1.2.5.2).
+abbrev pub IsGeneralizedTime : List ℕ → Moment → Type 0
+IsGeneralizedTime contents m = (contents ≡ generalized_text m) × IsMoment m
+
+-- CHOICE { UTCTime, GeneralizedTime } of a real moment (section 4.1). That a GeneralizedTime may
+-- name a year before 2050 too, against section 4.1.2.5, is this project's own rule, and so is that
+-- both are primitive in BER too, where X.690, sections 8.23 and 8.25, allow pieces.
 abbrev pub TimeForm : Mode → List ℕ → Moment → Type 0
-TimeForm mode octets m =
-    Within mode UTC_TIME (λ c. (c ≡ utc_text m) × IsUtcYear m.year × IsMoment m) octets
-    ⊎ Within mode GENERALIZED_TIME (λ c. (c ≡ generalized_text m) × IsMoment m) octets
+TimeForm mode octets m = Choice
+    (λ o m. Within mode UTC_TIME (λ c. IsUtcTime c m) o)
+    (λ o m. Within mode GENERALIZED_TIME (λ c. IsGeneralizedTime c m) o) octets m
 
 -- Whether the year is one of UTCTime.
 abbrev pub is_utc_year : ℕ → Bool

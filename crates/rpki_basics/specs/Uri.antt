@@ -10,8 +10,10 @@ use Rattle.rpki_basics.specs.declared.uri.Error.{Error}
 use Rattle.rpki_basics.specs.declared.uri.Error.TheVariants.{InvalidCharacters, BadScheme, BadUri}
 use Rattle.rpki_basics.specs.declared.uri.Error.TheVariants.{Memory}
 
--- An octet that a URI may have: a visible character of ASCII, but for " # < > \ ^ ` { | } (section
--- 2). The number sign is left out too, since a URI of an object has no fragment.
+-- An octet that a URI may have: a visible character of ASCII, but for " < > \ ^ ` { | } (section
+-- 2). That it may not have # either, which begins a fragment, is this project's own rule. So is that
+-- % may stand without two hexadecimal digits (section 2.1), and [ and ] outside an address (section
+-- 3.2.2).
 abbrev pub is_uri_octet : ℕ → Bool
 is_uri_octet octet =
     nat_le 0x21 octet && nat_le octet 0x7E
@@ -36,7 +38,8 @@ HasScheme scheme text = (rest : List ℕ) × Follows scheme text rest
 abbrev pub IsNoDotSegment : List ℕ → Type 0
 IsNoDotSegment segment = (segment ≢ codes ".") × (segment ≢ codes "..")
 
--- The segments of a path: none is . or .., and none but the last is empty (section 3.3).
+-- The segments of a path (section 3.3): none is . or .., and none but the last is empty, which is
+-- this project's own rule.
 abbrev pub IsPath : List (List ℕ) → Type 0
 IsPath [] = Unit {0}
 IsPath (segment ∷ []) = IsNoDotSegment segment
@@ -44,14 +47,18 @@ IsPath (segment ∷ next ∷ others) =
     IsNoDotSegment segment × (0 < length segment) × IsPath (next ∷ others)
 
 -- An authority, a module and a path (RFC 5781, section 2). That the authority and the module are
--- not empty, and the module is not . or .., is this project's profile.
+-- not empty, and the module is not . or .., is this project's own rule. So is that the authority
+-- ends at the first slash alone, and may have any octets of a URI, and that ? may stand in the module
+-- and in the path, where RFC 5781 has no query.
 abbrev pub AreRsyncSegments : List (List ℕ) → Type 0
 AreRsyncSegments [] = ⊥
 AreRsyncSegments (authority ∷ []) = ⊥
 AreRsyncSegments (authority ∷ named ∷ path) =
     (0 < length authority) × (0 < length named) × IsNoDotSegment named × IsPath path
 
--- An authority, which is not empty, and anything (RFC 9110, section 4.2.2).
+-- An authority, which is not empty, and anything (RFC 9110, section 4.2.2). That the authority ends
+-- at the first slash alone, where section 3.2 ends it at ? and # too, and may have any octets of a
+-- URI, is this project's own rule.
 abbrev pub AreHttpsSegments : List (List ℕ) → Type 0
 AreHttpsSegments [] = ⊥
 AreHttpsSegments (authority ∷ others) = 0 < length authority
@@ -95,3 +102,10 @@ IsJoined uri name (Err BadScheme) = ⊥
 IsJoined uri name (Err BadUri) =
     AreUriOctets (join_text uri name) × ¬ IsRsync (join_text uri name)
 IsJoined uri name (Err Memory) = Unit {0}
+
+-- The text of an error.
+abbrev pub error_text : Error → List ℕ
+error_text InvalidCharacters = codes "invalid characters"
+error_text BadScheme = codes "bad URI scheme"
+error_text BadUri = codes "bad URI"
+error_text Memory = codes "out of memory"

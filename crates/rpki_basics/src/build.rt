@@ -8,7 +8,7 @@ use std::alloc::{AllocError, AllocFailed};
 use std::error::Error;
 use std::fmt;
 
-/// Why a content is not built: what a reader would refuse it for.
+/// Why a content is not built: the rule of its kind that it breaks.
 #[derive(Debug, Drop)]
 pub enum BuildFault {
     /// A manifest's thisUpdate comes after its nextUpdate.

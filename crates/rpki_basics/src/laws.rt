@@ -5,12 +5,13 @@ ghost use Rattle.rpki_der.specs.declared.mode.Mode.{Mode};
 ghost use Rattle.rpki_der.specs.declared.mode.Mode.TheVariants.{Der};
 ghost use Rattle.rpki_der.specs.Grammar.{IsBytes};
 ghost use Rattle.rpki_der.specs.Read.Exact.{IsReading};
+ghost use Rattle.rpki_der.specs.Read.Parse.{u160_at};
 ghost use Rattle.rpki_der.specs.Write.Written.{value_octets};
 ghost use Rattle.rpki_der.specs.Tags.{UTC_TIME};
 ghost use Rattle.rpki_basics.specs.Moment.{Moment, IsMoment, IsEarlier, stamp};
 ghost use Rattle.rpki_basics.specs.TimeForm.{TimeForm, utc_text, time_octets, generalized_octets};
 ghost use Rattle.rpki_basics.specs.TimeRead.{time_at};
-ghost use Rattle.rpki_basics.specs.Serial.{SerialForm, serial_at, serial_octets};
+ghost use Rattle.rpki_basics.specs.Serial.{SerialForm, serial_octets};
 
 /// Reading a time is exact and unique, and DER is a part of BER (RFC 5280, section 4.1.2.5).
 pub fn times()
@@ -37,18 +38,12 @@ pub fn times_are_ordered()
     ensures one { (a b : Moment) → IsMoment a → IsMoment b → stamp a ≡ stamp b → a ≡ b }
 {}
 
-/// Reading a serial number is exact and unique, and DER is a part of BER (RFC 5280, section
-/// 4.1.2.2).
-pub fn serials()
-    ensures { IsReading serial_at SerialForm }
-{}
-
 /// A serial number is written in the one way that DER has for it, and read again, whatever follows
-/// it (RFC 5280, section 4.1.2.2).
+/// it (RFC 5280, section 4.1.2.2). That reading it is exact, `rpki_der::laws` says.
 pub fn serials_are_written()
     ensures written { (n : ℕ) → n < 2 ^ 160 → SerialForm Der (serial_octets n) n }
     ensures unique { (o : List ℕ) (n : ℕ) → IsBytes o → SerialForm Der o n
         → o ≡ serial_octets n }
     ensures read { (mode : Mode) (n : ℕ) (rest : List ℕ) → n < 2 ^ 160
-        → serial_at mode (serial_octets n ++ rest) ≡ Some (n, rest) }
+        → u160_at mode (serial_octets n ++ rest) ≡ Some (n, rest) }
 {}

@@ -5,7 +5,6 @@
 
 mod build;
 mod clock;
-mod contents;
 pub mod laws;
 mod limits;
 mod serial;

@@ -6,9 +6,11 @@ ghost use Rattle.rpki_basics.specs.Limits.{most_providers};
 /// Which file names a manifest may have.
 #[derive(Clone, Copy, Debug, PartialEq, Eq)]
 pub enum ManifestRule {
-    /// Any that RFC 9286, section 4.2.2, allows, also one that comes twice.
+    /// Any name with three ASCII letters after the dot, which is wider than RFC 9286, section
+    /// 4.2.2, and one that comes twice too: this project's own rule.
     Any,
-    /// Only those whose three letters are a file type that is registered, and each one once.
+    /// Only names that end in `asa`, `cer`, `crl`, `gbr`, `mft`, `roa`, `sig` or `tak`, without
+    /// regard to case, and no name twice. The list is this project's own.
     Registered,
 }
 

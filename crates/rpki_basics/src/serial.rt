@@ -2,21 +2,19 @@
 
 ghost use Rattle.std.proofs.Common.{rules};
 ghost use Rattle.std.specs.Cmp.Rules.{comparing};
-ghost use Rattle.std.specs.Prelude.{◌≡◌, ◌==◌, ℕ, ◌≤◌, ◌<◌, ◌^◌, List, length, IfOk, None, Some};
-ghost use Rattle.rpki_der.specs.Read.Parse.{Finds, number_of, digits_of, unsigned_of};
+ghost use Rattle.std.specs.Prelude.{◌≡◌, ◌==◌, ◌<◌, ◌^◌, length, Some};
 ghost use Rattle.rpki_der.specs.Numbers.{number};
-ghost use Rattle.rpki_der.specs.Text.Hex.{digit};
-ghost use Rattle.rpki_der.specs.Read.Reads.{Reads, OkOrMemory};
-ghost use Rattle.rpki_der.specs.Grammar.{Front, IsBytes};
+ghost use Rattle.rpki_der.specs.Read.Parse.{u160_at};
+ghost use Rattle.rpki_der.specs.Read.Reads.{Reads, Stays, OnlyMalformed};
+ghost use Rattle.rpki_der.specs.Form.Decodes.{DecodesNext};
 ghost use Rattle.rpki_der.specs.Write.Written.{significant};
 ghost use Rattle.rpki_der.specs.declared.mode.Mode.TheVariants.{Der};
-ghost use Rattle.rpki_der.specs.Tags.{INTEGER};
-ghost use Rattle.rpki_basics.specs.Serial.{digits, SerialForm, serial_at, serial_octets};
-ghost use Rattle.rpki_basics.specs.Serial.{serial_text, hex_text};
+ghost use Rattle.rpki_basics.specs.Serial.{digits, SerialForm, serial_octets, serial_text};
+ghost use Rattle.rpki_basics.specs.Serial.{hex_text};
 
-use crate::contents::take_contents;
-use rpki_der::encode::{Digits, Value, integer_of};
-use rpki_der::{Constructed, DecodeError, LowerHex, Tag};
+use rpki_der::encode::integer_of;
+use rpki_der::laws::slices_hold_octets;
+use rpki_der::{Constructed, DecodeError, Encode, EncodeError, LowerHex, Sink, SinkFailed};
 use std::fmt;
 use std::fmt::Write;
 use std::marker::Model;
@@ -58,103 +56,89 @@ impl Eq for Serial {
     ghost laws = { Prim.search (comparing, rules) };
 }
 
-// The number with these digits to base 256, the highest one first.
-fn padded(digits: &[u8]) -> Serial
-    requires { length digits.now ≤ 20 }
-    ensures { result ≡ number 0 digits.now }
-{
-    let mut octets = [0u8; 20];
-    let start = 20 - digits.len();
-    'digits: for i in 0..digits.len() {
-        octets[start + i] = digits[i];
-    }
-    Serial { octets }
-}
-
 impl From<u64> for Serial {
     ghost from_gives = { λ n serial. serial ≡ n };
 
     #[tactic(auto, using(crate::proofs::BigEndian::number_u64))]
     fn from(n: u64) -> Serial {
-        padded(&n.to_be_bytes())
+        let [a, b, c, d, e, f, g, h] = n.to_be_bytes();
+        let octets = [0, 0, 0, 0, 0, 0, 0, 0, 0, 0, 0, 0, a, b, c, d, e, f, g, h];
+        slices_hold_octets(&octets);
+        Serial { octets }
     }
-}
-
-// The number with these digits to base 256, of which there are 20 at most.
-#[tactic(auto, unfolding(rpki_der::specs::Read::Parse::number_of))]
-fn number_in(digits: &[u8]) -> Option<Serial>
-    ensures { Finds (λ s. s) result (number_of 20 digits.now) }
-{
-    if digits.len() > 20 {
-        None
-    } else {
-        Some(padded(digits))
-    }
-}
-
-// The digits to base 256 of the contents of an INTEGER that is not negative, in its shortest form.
-#[tactic(auto, unfolding(rpki_der::specs::Read::Parse::digits_of))]
-fn digits_of(contents: &[u8]) -> Option<&[u8]>
-    ensures { Finds (λ digits. digits.now) result (digits_of contents.now) }
-{
-    match contents {
-        [] => None,
-        [0, rest @ ..] if !rest.is_empty() => { if rest[0] < 128 { None } else { Some(rest) } }
-        [a, ..] => { if *a < 128 { Some(contents) } else { None } }
-    }
-}
-
-// The number of the contents of an INTEGER.
-#[tactic(auto, unfolding(rpki_der::specs::Read::Parse::unsigned_of))]
-fn number_of(contents: &[u8]) -> Option<Serial>
-    ensures { Finds (λ s. s) result (unsigned_of 20 contents.now) }
-{
-    let digits = digits_of(contents)?;
-    number_in(digits)
 }
 
 // Reads a serial number.
 fn take_serial(cons: &mut Constructed<'_>) -> Result<Serial, DecodeError>
-    ensures { Reads (λ s. s) serial_at cons.old result cons.new }
+    ensures reads { Reads (λ s. s) u160_at cons.old result cons.new }
+    ensures stays { Stays result cons.new }
+    ensures refused { OnlyMalformed cons.old result }
 {
-    let contents = take_contents(cons, Tag::INTEGER)?;
-    match number_of(contents.as_slice()) {
-        Some(serial) => Ok(serial),
-        None => Err(DecodeError::Malformed),
-    }
+    let octets = cons.take_unsigned()?;
+    slices_hold_octets(&octets);
+    Ok(Serial { octets })
 }
 
 /// What writes a serial number, as an INTEGER in its shortest form.
-pub type SerialEncoder<'a> = Value<Digits<'a>>;
+#[derive(Drop)]
+pub struct SerialEncoder<'a>(pub &'a Serial);
+
+impl Encode for SerialEncoder<'_> {
+    ghost use Rattle.rpki_der.specs.Tags.{INTEGER};
+    ghost use Rattle.rpki_der.specs.Write.Parts.{contents_small};
+    ghost use Rattle.rpki_der.specs.Write.Written.{integer_contents};
+    ghost use Rattle.rpki_basics.specs.Serial.{digits, serial_octets};
+
+    ghost octets = { λ e. serial_octets e.0.now };
+
+    ghost is_short = { λ e. length (integer_contents (digits 20 e.0.now)) < 2 ^ 32 };
+
+    ghost small = { λ e h. contents_small INTEGER (integer_contents (digits 20 e.0.now)) h };
+
+    fn encoded_len(&self) -> Result<u64, EncodeError> {
+        integer_of(self.0.digits()).encoded_len()
+    }
+
+    fn put<W: Sink>(&self, len: u64, out: &mut W) -> Result<(), SinkFailed> {
+        integer_of(self.0.digits()).put(len, out)
+    }
+}
 
 impl Serial {
     /// Reads a serial number: an INTEGER that is not negative and below 2^160 (RFC 5280, section
-    /// 4.1.2.2), in DER and in BER alike. All else is refused; `Memory` may come too.
+    /// 4.1.2.2), in DER and in BER alike. All else is refused by `Malformed`.
     pub fn take_from(cons: &mut Constructed<'_>) -> Result<Serial, DecodeError>
-        ensures reads { Reads (λ s. s) serial_at cons.old result cons.new }
-        ensures found { IfOk result (λ s. IsBytes cons.old.rest →
-            Front (SerialForm cons.old.mode) cons.old.rest s cons.new.rest) }
-        ensures accepted { cons.old.failed ≡ None → (s : ℕ) (rest : List ℕ) →
-            Front (SerialForm cons.old.mode) cons.old.rest s rest →
-            OkOrMemory result (λ read. (read ≡ s) × (cons.new.rest ≡ rest)) }
+        ensures reads { Reads (λ s. s) u160_at cons.old result cons.new }
+        ensures decodes { DecodesNext SerialForm (λ s. s) cons.old result cons.new }
+        ensures stays { Stays result cons.new }
+        ensures refused { OnlyMalformed cons.old result }
     {
+        cons.holds_octets();
         take_serial(cons)
     }
 
-    /// The number as an INTEGER (RFC 5280, section 4.1.2.2) in its shortest form.
+    /// What writes the number as an INTEGER in its shortest form (RFC 5280, section 4.1.2.2).
     pub fn encode_ref(&self) -> SerialEncoder<'_>
-        ensures tag { result.tag.octet ≡ INTEGER }
-        ensures digits { result.contents.0.now ≡ digits 20 self.now }
+        ensures serial { result.0.now ≡ self.now }
         ensures written { SerialForm Der (serial_octets self.now) self.now }
     {
-        integer_of(&self.octets)
+        // What a value's type promises is known to the proof only where one of its fields is read.
+        let _ = &self.octets;
+        SerialEncoder(self)
+    }
+
+    // Its twenty digits to base 256, the highest one first.
+    fn digits(&self) -> &[u8]
+        ensures { result.now ≡ digits 20 self.now }
+    {
+        &self.octets
     }
 
     // The octets without zeros in front.
     fn significant(&self) -> &[u8]
         ensures { result.now ≡ significant (digits 20 self.now) }
     {
-        without_zeros(&self.octets)
+        without_zeros(self.digits())
     }
 }
 
@@ -199,26 +183,6 @@ impl fmt::Display for ShortHex<'_> {
         }
         let first = self.0[0];
         let others = LowerHex(&self.0[1..]);
-        if first < 16 {
-            let digit = digit(first);
-            write!(f, "{digit}{others}")
-        } else {
-            let high = digit(first / 16);
-            let low = digit(first % 16);
-            write!(f, "{high}{low}{others}")
-        }
-    }
-}
-
-// The lower hexadecimal digit of a number below 16.
-fn digit(n: u8) -> char
-    requires { n < 16 }
-    ensures value { result ≡ digit n }
-    ensures ascii { result < 128 }
-{
-    if n < 10 {
-        (b'0' + n) as char
-    } else {
-        (b'a' - 10 + n) as char
+        write!(f, "{first:x}{others}")
     }
 }

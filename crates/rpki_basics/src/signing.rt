@@ -7,9 +7,11 @@ ghost use Rattle.rpki_basics.specs.declared.signing.SigningError.TheVariants.{Me
 use crate::build::BuildFault;
 use rpki_keys::SignerFault;
 use std::alloc::{AllocError, AllocFailed};
+use std::error::Error;
+use std::fmt;
 
-/// What a call that builds and signs answers. The first three come exactly where a call of the
-/// signer has failed.
+/// What a call that builds and signs answers. The first three come exactly where the signer's count
+/// of failed calls grew.
 #[derive(Debug, Drop)]
 pub enum SigningError<E> {
     /// The signer has no such key.
@@ -29,6 +31,27 @@ pub enum SigningError<E> {
     /// No memory was to be had.
     Memory,
 }
+
+impl<E: fmt::Display> fmt::Display for SigningError<E> {
+    ghost use Rattle.rpki_basics.specs.Signing.{signing_text};
+
+    ghost output = { λ error. signing_text E.Display.output error };
+
+    fn fmt<W: fmt::Write>(&self, f: &mut fmt::Formatter<W>) -> fmt::Result {
+        match self {
+            SigningError::KeyNotFound => f.write_str("key not found"),
+            SigningError::IncompatibleKey => f.write_str("incompatible key"),
+            SigningError::Signer(e) => e.fmt(f),
+            SigningError::AttrsTooLong => f.write_str("signed attributes too long"),
+            SigningError::TooLong => f.write_str("too long"),
+            SigningError::Content(fault) => fault.fmt(f),
+            SigningError::NotDer => f.write_str("not DER"),
+            SigningError::Memory => f.write_str("out of memory"),
+        }
+    }
+}
+
+impl<E: Error> Error for SigningError<E> {}
 
 impl<E> From<SignerFault<E>> for SigningError<E> {
     ghost use Rattle.rpki_basics.specs.Signing.{signing_error};

@@ -110,8 +110,9 @@ impl Time {
         }
     }
 
-    /// A number that grows with time: the number of seconds, where each year has 13 months and
-    /// each month 32 days.
+    /// A number that grows with time, and is another one for each moment. It is no count of
+    /// seconds: it is what the six parts are the digits of, where a year has room for 13 months and
+    /// a month for 32 days, so it may grow by more than the seconds that pass.
     pub fn stamp(self) -> u64
         ensures stamp { result ≡ stamp self }
         ensures real { IsMoment self }

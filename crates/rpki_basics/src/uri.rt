@@ -1,33 +1,47 @@
 //! URIs of objects: rsync (RFC 5781) and https (RFC 9110, section 4.2.2).
 
-ghost use Rattle.std.specs.Prelude.{◌≡◌, codes, IfOk};
+ghost use Rattle.std.specs.Prelude.{◌≡◌, codes, nat_eq, IfOk, Some};
+ghost use Rattle.std.specs.Cmp.{partial_equiv_from_equiv};
+ghost use Rattle.std.specs.Cmp.Lexicographic.{pointwise, nat_list_eq_equiv};
 ghost use Rattle.rpki_basics.specs.Uri.{IsUriOf, IsJoined, AreRsyncSegments, AreHttpsSegments};
-ghost use Rattle.rpki_basics.specs.Uri.{IsRsync, IsHttps, AreUriOctets, join_text};
+ghost use Rattle.rpki_basics.specs.Uri.{IsRsync, IsHttps, AreUriOctets, join_text, error_text};
 
 mod segments;
 mod tests_of;
 
 use bytes::Bytes;
 use std::alloc::{AllocError, Global};
+use std::fmt;
 use std::marker::Model;
 use tests_of::{are_uri_octets, behind_scheme, goes_on_as_https, goes_on_as_rsync};
 
 /// Why a text is no URI of the kind that was asked for: the first cause in this order.
-#[derive(Debug, Drop, thiserror::Error)]
+#[derive(Debug, Drop)]
 pub enum Error {
     /// It has an octet that no URI has (RFC 3986, section 2).
-    #[error("invalid characters")]
     InvalidCharacters,
     /// It has another scheme, or none (RFC 3986, section 3.1).
-    #[error("bad URI scheme")]
     BadScheme,
     /// It has the scheme, but no authority or not the path that is asked for (RFC 3986, section 3).
-    #[error("bad URI")]
     BadUri,
     /// No memory was to be had.
-    #[error("out of memory")]
     Memory,
 }
+
+impl fmt::Display for Error {
+    ghost output = { λ error. Some (error_text error) };
+
+    fn fmt<W: fmt::Write>(&self, f: &mut fmt::Formatter<W>) -> fmt::Result {
+        f.write_str(match self {
+            Error::InvalidCharacters => "invalid characters",
+            Error::BadScheme => "bad URI scheme",
+            Error::BadUri => "bad URI",
+            Error::Memory => "out of memory",
+        })
+    }
+}
+
+impl std::error::Error for Error {}
 
 /// A URI `rsync://authority/module/path` (RFC 5781), kept as its text.
 #[derive(Debug, Drop)]
@@ -152,6 +166,21 @@ impl Https {
     }
 }
 
+/// URIs are the same where their texts are.
+impl PartialEq for Rsync {
+    ghost eq = { pointwise nat_eq };
+
+    ghost laws = { partial_equiv_from_equiv nat_list_eq_equiv };
+
+    fn eq(&self, other: &Rsync) -> bool {
+        self.as_slice() == other.as_slice()
+    }
+}
+
+impl Eq for Rsync {
+    ghost laws = { nat_list_eq_equiv };
+}
+
 impl Clone for Rsync {
     ghost is_clone = { λ u copy. copy ≡ u };
 
@@ -159,6 +188,21 @@ impl Clone for Rsync {
         let text = self.text.clone()?;
         Ok(Rsync { text })
     }
+}
+
+/// URIs are the same where their texts are.
+impl PartialEq for Https {
+    ghost eq = { pointwise nat_eq };
+
+    ghost laws = { partial_equiv_from_equiv nat_list_eq_equiv };
+
+    fn eq(&self, other: &Https) -> bool {
+        self.as_slice() == other.as_slice()
+    }
+}
+
+impl Eq for Https {
+    ghost laws = { nat_list_eq_equiv };
 }
 
 impl Clone for Https {

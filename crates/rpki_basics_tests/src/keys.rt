@@ -1,43 +1,54 @@
-//! Keys, digests and signatures of the stand-in.
+//! Keys, their identifiers and their names.
 
 use bytes::Bytes;
-use rpki_basics::standin::{StandIn, StandInSigner};
-use rpki_basics::{
-    Crypto, DigestAlgorithm, KeyIdentifier, Name, PublicKey, RpkiSignatureAlgorithm, Signer,
-    SignerFault,
-};
-use rpki_der::{Constructed, DecodeError, Encode, Mode};
+use rpki_basics::{KeyIdentifier, Name, PublicKey};
+use rpki_der::{Constructed, DecodeError, Encode, EncodeError, Mode};
 use std::alloc::{AllocError, Global};
 
 /// The key whose bits are `abc`, as it is written.
-const KEY: &[u8] = &[
-    0x30, 0x15, 0x30, 0x0D, 0x06, 0x09, 0x2A, 0x86, 0x48, 0x86, 0xF7, 0x0D, 0x01, 0x01, 0x01, 0x05,
-    0x00, 0x03, 0x04, 0x00, 0x61, 0x62, 0x63,
+const KEY: &[u8] =
+    b"\x30\x15\x30\x0D\x06\x09\x2A\x86\x48\x86\xF7\x0D\x01\x01\x01\x05\x00\x03\x04\x00abc";
+
+/// Octets, and what is said of them as a key: without a NULL, with unused bits, of another
+/// algorithm, cut, and of indefinite length.
+static KEYS: [(&[u8], &str, &str); 6] = [
+    (KEY, "abc", "abc"),
+    (
+        b"\x30\x13\x30\x0B\x06\x09\x2A\x86\x48\x86\xF7\x0D\x01\x01\x01\x03\x04\x00abc",
+        "abc",
+        "abc",
+    ),
+    (
+        b"\x30\x15\x30\x0D\x06\x09\x2A\x86\x48\x86\xF7\x0D\x01\x01\x01\x05\x00\x03\x04\x01abc",
+        "malformed",
+        "malformed",
+    ),
+    (
+        b"\x30\x15\x30\x0D\x06\x09\x2A\x86\x48\x86\xF7\x0D\x01\x01\x0B\x05\x00\x03\x04\x00abc",
+        "unknown algorithm",
+        "unknown algorithm",
+    ),
+    (
+        b"\x30\x15\x30\x0D\x06\x09\x2A\x86\x48\x86\xF7\x0D\x01\x01\x01\x05\x00\x03\x04\x00ab",
+        "malformed",
+        "malformed",
+    ),
+    (
+        b"\x30\x80\x30\x0D\x06\x09\x2A\x86\x48\x86\xF7\x0D\x01\x01\x01\x05\x00\x03\x04\x00abc\0\0",
+        "malformed",
+        "abc",
+    ),
 ];
 
-/// What stands before the digits in the name of this key.
-const NAME_HEAD: &[u8] = &[
-    0x30, 0x33, 0x31, 0x31, 0x30, 0x2F, 0x06, 0x03, 0x55, 0x04, 0x03, 0x13, 0x28,
-];
+/// The name of this key: its header, and the digits of its identifier.
+const NAME: &[u8] = b"\x30\x33\x31\x31\x30\x2F\x06\x03\x55\x04\x03\x13\x28\
+    A9993E364706816ABA3E25717850C26C9CD0D89D";
 
-/// The digits of this name.
-const NAME_DIGITS: &[u8] = b"A9993E364706816ABA3E25717850C26C9CD0D89D";
+/// An empty name whose length is indefinite.
+const NAME_IN_BER: &[u8] = b"\x30\x80\x00\x00";
 
-/// Octets that are no key: with unused bits, of another algorithm, and cut.
-static WRONG: [&[u8]; 3] = [
-    &[
-        0x30, 0x15, 0x30, 0x0D, 0x06, 0x09, 0x2A, 0x86, 0x48, 0x86, 0xF7, 0x0D, 0x01, 0x01, 0x01,
-        0x05, 0x00, 0x03, 0x04, 0x01, 0x61, 0x62, 0x63,
-    ],
-    &[
-        0x30, 0x15, 0x30, 0x0D, 0x06, 0x09, 0x2A, 0x86, 0x48, 0x86, 0xF7, 0x0D, 0x01, 0x01, 0x0B,
-        0x05, 0x00, 0x03, 0x04, 0x00, 0x61, 0x62, 0x63,
-    ],
-    &[
-        0x30, 0x15, 0x30, 0x0D, 0x06, 0x09, 0x2A, 0x86, 0x48, 0x86, 0xF7, 0x0D, 0x01, 0x01, 0x01,
-        0x05, 0x00, 0x03, 0x04, 0x00, 0x61, 0x62,
-    ],
-];
+/// Octets that are no name: of another tag, cut, and with contents that are no values.
+static NO_NAMES: [&[u8]; 3] = [b"\x31\x00", b"\x30\x01", b"\x30\x01\x05"];
 
 /// Bits, and their SHA-1 (FIPS 180-4, as in RFC 3174, section 7.3).
 static IDENTIFIERS: [(&[u8], &str); 3] = [
@@ -49,25 +60,6 @@ static IDENTIFIERS: [(&[u8], &str); 3] = [
     ),
 ];
 
-/// The SHA-256 of `abc` (FIPS 180-4).
-const DIGEST: &[u8] = &[
-    0xBA, 0x78, 0x16, 0xBF, 0x8F, 0x01, 0xCF, 0xEA, 0x41, 0x41, 0x40, 0xDE, 0x5D, 0xAE, 0x22, 0x23,
-    0xB0, 0x03, 0x61, 0xA3, 0x96, 0x17, 0x7A, 0x9C, 0xB4, 0x10, 0xFF, 0x61, 0xF2, 0x00, 0x15, 0xAD,
-];
-
-fn key_in(alloc: Global, octets: &[u8]) -> Result<Option<PublicKey>, AllocError> {
-    match PublicKey::decode(Bytes::copy_from_slice(alloc, octets)?) {
-        Ok(key) => Ok(Some(key)),
-        Err(DecodeError::Memory) => Err(AllocError),
-        Err(_) => Ok(None),
-    }
-}
-
-// Whether these octets are the name.
-fn is_name(octets: &[u8]) -> bool {
-    octets.starts_with(NAME_HEAD) && octets.ends_with(NAME_DIGITS) && octets.len() == 53
-}
-
 #[test]
 fn identifiers(rt: HostRuntime) -> Result<(), AllocError> {
     let alloc = rt.alloc();
@@ -76,105 +68,113 @@ fn identifiers(rt: HostRuntime) -> Result<(), AllocError> {
         let identifier = key.key_identifier();
         assert!(rt; format!(in alloc; "{identifier}")?.as_str() == *want);
     }
-    let low = KeyIdentifier::from_octets([1; 20]);
-    let high = KeyIdentifier::from_octets([2; 20]);
-    assert!(rt; low < high && low == low && low != high);
     Ok(())
+}
+
+// The identifier with this octet first, this one last, and zeros between.
+fn with_ends(first: u8, last: u8) -> KeyIdentifier {
+    let mut octets = [0; 20];
+    octets[0] = first;
+    octets[19] = last;
+    KeyIdentifier::from_octets(octets)
+}
+
+#[test]
+fn identifiers_are_ordered(rt: HostRuntime) -> Result<(), AllocError> {
+    assert!(rt; with_ends(1, 9) < with_ends(2, 0));
+    assert!(rt; with_ends(1, 0x7F) < with_ends(1, 0x80));
+    assert!(rt; with_ends(0x80, 0) > with_ends(0x7F, 0xFF));
+    assert!(rt; with_ends(1, 2) == with_ends(1, 2) && with_ends(1, 2) != with_ends(1, 3));
+    Ok(())
+}
+
+// What is said of octets as a key: its bits, or why there is none.
+fn is_key(alloc: Global, octets: &[u8], mode: Mode, want: &str) -> Result<bool, AllocError> {
+    let source = Bytes::copy_from_slice(alloc, octets)?;
+    match Constructed::decode(source, mode, PublicKey::take_from) {
+        Ok(key) => Ok(key.bits() == want.as_bytes()),
+        Err(DecodeError::Memory) => Err(AllocError),
+        Err(error) => Ok(format!(in alloc; "{error}")?.as_str() == want),
+    }
+}
+
+#[test]
+fn keys(rt: HostRuntime) -> Result<(), AllocError> {
+    let alloc = rt.alloc();
+    for (octets, der, ber) in &KEYS {
+        assert!(rt; is_key(alloc, octets, Mode::Der, der)?);
+        assert!(rt; is_key(alloc, octets, Mode::Ber, ber)?);
+    }
+    Ok(())
+}
+
+fn are_octets(written: Result<Vec<u8>, EncodeError>, want: &[u8]) -> Result<bool, AllocError> {
+    match written {
+        Ok(octets) => Ok(octets.as_slice() == want),
+        Err(EncodeError::Memory) => Err(AllocError),
+        Err(_) => Ok(false),
+    }
 }
 
 #[test]
 fn written(rt: HostRuntime) -> Result<(), AllocError> {
     let alloc = rt.alloc();
-    for octets in &WRONG {
-        assert!(rt; key_in(alloc, octets)?.is_none());
+    let key = match PublicKey::decode(Bytes::copy_from_slice(alloc, KEY)?) {
+        Ok(key) => key,
+        Err(DecodeError::Memory) => return Err(AllocError),
+        Err(_) => {
+            assert!(rt; false);
+            return Ok(());
+        }
+    };
+    assert!(rt; key.clone()? == key);
+    assert!(rt; are_octets(key.to_info_bytes(alloc), KEY)?);
+    let name = key.to_subject_name(alloc)?;
+    assert!(rt; name.as_slice() == NAME);
+    assert!(rt; are_octets(name.encode_ref().to_bytes(alloc), NAME)?);
+    Ok(())
+}
+
+fn name_in(alloc: Global, octets: &[u8], mode: Mode) -> Result<Option<Name>, AllocError> {
+    let source = Bytes::copy_from_slice(alloc, octets)?;
+    match Constructed::decode(source, mode, Name::take_from) {
+        Ok(name) => Ok(Some(name)),
+        Err(DecodeError::Memory) => Err(AllocError),
+        Err(_) => Ok(None),
     }
-    match key_in(alloc, KEY)? {
+}
+
+#[test]
+fn names(rt: HostRuntime) -> Result<(), AllocError> {
+    let alloc = rt.alloc();
+    for octets in &NO_NAMES {
+        assert!(rt; name_in(alloc, octets, Mode::Der)?.is_none());
+        assert!(rt; name_in(alloc, octets, Mode::Ber)?.is_none());
+    }
+    match name_in(alloc, NAME, Mode::Der)? {
         None => assert!(rt; false),
-        Some(key) => {
-            assert!(rt; key.bits() == b"abc".as_slice());
-            assert!(rt; key.clone()? == key);
-            assert!(rt; is_name(key.to_subject_name(alloc)?.as_slice()));
-            match key.to_info_bytes(alloc) {
-                Ok(octets) => assert!(rt; octets.as_slice() == KEY),
-                Err(_) => return Err(AllocError),
-            }
+        Some(name) => {
+            let copy = name.clone()?;
+            assert!(rt; copy.as_slice() == NAME);
+            assert!(rt; are_octets(copy.encode_ref().to_bytes(alloc), NAME)?);
         }
     }
     Ok(())
 }
 
 #[test]
-fn names(rt: HostRuntime) -> Result<(), AllocError> {
+fn names_in_ber(rt: HostRuntime) -> Result<(), AllocError> {
     let alloc = rt.alloc();
-    let mut octets = Vec::new(alloc);
-    octets.extend_from_slice(NAME_HEAD)?;
-    octets.extend_from_slice(NAME_DIGITS)?;
-    match Constructed::decode(Bytes::from_vec(octets)?, Mode::Der, Name::take_from) {
-        Err(_) => return Err(AllocError),
-        Ok(name) => match name.encode_ref().to_bytes(alloc) {
-            Ok(octets) => assert!(rt; is_name(octets.as_slice())),
-            Err(_) => return Err(AllocError),
-        },
+    assert!(rt; name_in(alloc, NAME_IN_BER, Mode::Der)?.is_none());
+    match name_in(alloc, NAME_IN_BER, Mode::Ber)? {
+        None => assert!(rt; false),
+        Some(name) => {
+            assert!(rt; name.as_slice() == NAME_IN_BER);
+            match name.encode_ref().to_bytes(alloc) {
+                Err(EncodeError::NotDer) => {}
+                _ => assert!(rt; false),
+            }
+        }
     }
-    Ok(())
-}
-
-#[test]
-fn algorithms(rt: HostRuntime) -> Result<(), AllocError> {
-    let alloc = rt.alloc();
-    let digest = DigestAlgorithm::sha256().encode_ref();
-    let Ok(octets) = digest.to_bytes(alloc) else {
-        return Err(AllocError);
-    };
-    let source = Bytes::from_vec(octets)?;
-    assert!(rt; Constructed::decode(source, Mode::Der, DigestAlgorithm::take_from).is_ok());
-    let Ok(octets) = RpkiSignatureAlgorithm::default()
-        .encode_cms()
-        .to_bytes(alloc)
-    else {
-        return Err(AllocError);
-    };
-    let source = Bytes::from_vec(octets)?;
-    assert!(rt;
-        Constructed::decode(source, Mode::Der, RpkiSignatureAlgorithm::take_cms_from).is_ok()
-    );
-    let Ok(octets) = RpkiSignatureAlgorithm::default()
-        .encode_cert()
-        .to_bytes(alloc)
-    else {
-        return Err(AllocError);
-    };
-    let source = Bytes::from_vec(octets)?;
-    assert!(rt;
-        Constructed::decode(source, Mode::Der, RpkiSignatureAlgorithm::take_cert_from).is_ok()
-    );
-    Ok(())
-}
-
-#[test]
-fn signatures(rt: HostRuntime) -> Result<(), AllocError> {
-    let alloc = rt.alloc();
-    assert!(rt; StandIn.digest(b"abc").as_slice() == DIGEST);
-    let mut signer = StandInSigner::failing_at(alloc, 4);
-    let algorithm = RpkiSignatureAlgorithm::default();
-    let (Ok(key), Ok(signature), Ok((one_off, new_key))) = (
-        signer.get_key_info(&7),
-        signer.sign(&7, algorithm, b"abc"),
-        signer.sign_one_off(algorithm, b"abc"),
-    ) else {
-        return Err(AllocError);
-    };
-    assert!(rt; key.bits() == b"\x00\x00\x00\x00\x00\x00\x00\x07".as_slice());
-    assert!(rt; new_key.bits() == b"\x00\x00\x00\x01\x00\x00\x00\x00".as_slice());
-    assert!(rt; StandIn.verify(&key, b"abc", &signature));
-    assert!(rt; StandIn.verify(&new_key, b"abc", &one_off));
-    assert!(rt; !StandIn.verify(&key, b"abd", &signature));
-    assert!(rt; !StandIn.verify(&new_key, b"abc", &signature));
-    // the fourth call fails, and the fifth does not
-    match signer.get_key_info(&7) {
-        Err(SignerFault::Signer(_)) => {}
-        _ => assert!(rt; false),
-    }
-    assert!(rt; signer.get_key_info(&7).is_ok());
     Ok(())
 }

@@ -5,10 +5,16 @@
 #![tactic(auto)]
 
 #[cfg(test)]
+mod algorithms;
+#[cfg(test)]
 mod dates;
+#[cfg(test)]
+mod errors;
 #[cfg(test)]
 mod keys;
 #[cfg(test)]
 mod octets;
+#[cfg(test)]
+mod signers;
 #[cfg(test)]
 mod uris;

@@ -5,20 +5,27 @@ use rpki_basics::{Serial, Time};
 use rpki_der::{Constructed, DecodeError, Encode, EncodeError, Mode};
 use std::alloc::{AllocError, Global};
 
-/// The octets of a time, and its text, if it is read.
-static TIMES: [(&[u8], &str); 12] = [
+/// The octets of a time, and its text, or why it is refused.
+static TIMES: [(&[u8], &str); 19] = [
     (b"\x17\x0D500101000000Z", "1950-01-01T00:00:00Z"),
     (b"\x17\x0D491231235959Z", "2049-12-31T23:59:59Z"),
     (b"\x18\x0F19491231235959Z", "1949-12-31T23:59:59Z"),
     (b"\x18\x0F20500101000000Z", "2050-01-01T00:00:00Z"),
     (b"\x18\x0F00000229000000Z", "0000-02-29T00:00:00Z"),
     (b"\x18\x0F99991231235959Z", "9999-12-31T23:59:59Z"),
-    (b"\x18\x0F20230229000000Z", ""),
-    (b"\x17\x0D240230000000Z", ""),
-    (b"\x17\x0D240101000060Z", ""),
-    (b"\x17\x0B2401010000Z", ""),
-    (b"\x18\x0D500101000000Z", ""),
-    (b"\x16\x0D500101000000Z", ""),
+    (b"\x18\x0F19000229000000Z", "no such date or time of day"),
+    (b"\x18\x0F20230229000000Z", "no such date or time of day"),
+    (b"\x17\x0D240230000000Z", "no such date or time of day"),
+    (b"\x17\x0D240101000060Z", "no such date or time of day"),
+    (b"\x17\x0D240101240000Z", "no such date or time of day"),
+    (b"\x17\x0B2401010000Z", "time not in its form"),
+    (b"\x17\x0D240101000000z", "time not in its form"),
+    (b"\x17\x0F2401010000+0000", "time not in its form"),
+    (b"\x18\x0D500101000000Z", "time not in its form"),
+    (b"\x18\x1120240101000000.5Z", "time not in its form"),
+    (b"\x18\x00", "time not in its form"),
+    (b"\x16\x0D500101000000Z", "malformed"),
+    (b"\x17\x0D500101000000", "malformed"),
 ];
 
 /// The octets that a time of these is written as again.
@@ -41,9 +48,11 @@ fn time_in(alloc: Global, octets: &[u8], mode: Mode) -> Result<Option<Time>, All
 }
 
 fn is_read(alloc: Global, octets: &[u8], mode: Mode, want: &str) -> Result<bool, AllocError> {
-    match time_in(alloc, octets, mode)? {
-        None => Ok(want.is_empty()),
-        Some(time) => Ok(format!(in alloc; "{time}")?.as_str() == want),
+    let source = Bytes::copy_from_slice(alloc, octets)?;
+    match Constructed::decode(source, mode, Time::take_from) {
+        Ok(time) => Ok(format!(in alloc; "{time}")?.as_str() == want),
+        Err(DecodeError::Memory) => Err(AllocError),
+        Err(error) => Ok(format!(in alloc; "{error}")?.as_str() == want),
     }
 }
 
@@ -109,9 +118,9 @@ static SERIALS: [(&[u8], &str); 9] = [
     (b"\x02\x00", ""),
 ];
 
-fn serial_in(alloc: Global, octets: &[u8]) -> Result<Option<Serial>, AllocError> {
+fn serial_in(alloc: Global, octets: &[u8], mode: Mode) -> Result<Option<Serial>, AllocError> {
     let source = Bytes::copy_from_slice(alloc, octets)?;
-    match Constructed::decode(source, Mode::Der, Serial::take_from) {
+    match Constructed::decode(source, mode, Serial::take_from) {
         Ok(serial) => Ok(Some(serial)),
         Err(DecodeError::Memory) => Err(AllocError),
         Err(_) => Ok(None),
@@ -122,11 +131,13 @@ fn serial_in(alloc: Global, octets: &[u8]) -> Result<Option<Serial>, AllocError>
 fn serials(rt: HostRuntime) -> Result<(), AllocError> {
     let alloc = rt.alloc();
     for (octets, want) in &SERIALS {
-        match serial_in(alloc, octets)? {
-            None => assert!(rt; want.is_empty()),
-            Some(serial) => {
-                assert!(rt; format!(in alloc; "{serial}")?.as_str() == *want);
-                assert!(rt; has_octets(serial.encode_ref().to_bytes(alloc), octets)?);
+        for mode in MODES {
+            match serial_in(alloc, octets, mode)? {
+                None => assert!(rt; want.is_empty()),
+                Some(serial) => {
+                    assert!(rt; format!(in alloc; "{serial}")?.as_str() == *want);
+                    assert!(rt; has_octets(serial.encode_ref().to_bytes(alloc), octets)?);
+                }
             }
         }
     }

@@ -94,7 +94,7 @@ fn is_joined(alloc: Global, base: &str, name: &str, want: &str) -> Result<bool, 
     match Rsync::from_bytes(Bytes::copy_from_slice(alloc, base.as_bytes())?) {
         Err(_) => Ok(false),
         Ok(base) => match base.join(alloc, name.as_bytes()) {
-            Ok(uri) => Ok(uri.as_str() == want && uri.clone()?.as_str() == want),
+            Ok(uri) => Ok(uri.as_str() == want && uri.clone()? == uri && uri != base),
             Err(Error::Memory) => Err(AllocError),
             Err(_) => Ok(false),
         },
@@ -110,5 +110,20 @@ fn joined(rt: HostRuntime) -> Result<(), AllocError> {
     // a name that leaves the folder, and one that no URI has
     assert!(rt; !is_joined(alloc, "rsync://a/m", "..", "rsync://a/m/..")?);
     assert!(rt; !is_joined(alloc, "rsync://a/m", "a b", "rsync://a/m/a b")?);
+    Ok(())
+}
+
+#[test]
+fn copies(rt: HostRuntime) -> Result<(), AllocError> {
+    let alloc = rt.alloc();
+    let (Ok(one), Ok(other)) = (
+        Https::from_bytes(Bytes::copy_from_slice(alloc, b"https://a/b")?),
+        Https::from_bytes(Bytes::copy_from_slice(alloc, b"HTTPS://a/b")?),
+    ) else {
+        assert!(rt; false);
+        return Ok(());
+    };
+    assert!(rt; one.clone()? == one);
+    assert!(rt; one != other);
     Ok(())
 }

@@ -4,16 +4,17 @@ use Rattle.std.proofs.Common.{take, drop, map, None, Some, Ok, Err, String, Glob
 use Rattle.std.proofs.Common.{All, refl, sym, ap, subst, ◌∙◌, arith}
 use Rattle.std.specs.Str.{IsUtf8}
 use Rattle.std.proofs.lemmas.List.{take_more, map-append}
-use Rattle.rpki_command.specs.Arguments.{Told, IsWordAt, Follow, AreWords}
+use Rattle.std.proofs.lemmas.List.Elements.{All-push}
+use Rattle.rpki_command.specs.Arguments.{ToldArguments, IsWordAt, IsText, Follow, AreWords}
 use Rattle.rpki_command.specs.declared.arguments.WordsError.{WordsError}
 use Rattle.rpki_command.specs.declared.arguments.WordsError.TheVariants.{NoText, Memory}
 
 -- these are the first n words after the program's name
-abbrev pub AreFirst : Told → ℕ → List (List ℕ) → Type 0
+abbrev pub AreFirst : ToldArguments → ℕ → List (List ℕ) → Type 0
 AreFirst None n words = Unit {0}
 AreFirst (Some arguments) n words = words ≡ take n (drop 1 arguments)
 
-pub none-yet : (told : Told) → AreFirst told 0 []
+pub none-yet : (told : ToldArguments) → AreFirst told 0 []
 none-yet None = tt
 none-yet (Some arguments) = refl
 
@@ -37,7 +38,7 @@ no-text [] n l none all = absurd (omega (arith, l))
 no-text (name ∷ rest) n l none all =
     none name (subst IsUtf8 (sym (at-next name rest n name)) (all n name (omega (arith, l))))
 
-pub no_words : (told : Told) (n : ℕ) (error : WordsError) → IsWordAt told (n + 1) (Err error)
+pub no_words : (told : ToldArguments) (n : ℕ) (error : WordsError) → IsWordAt told (n + 1) (Err error)
     → AreWords told (Err error)
 no_words None n NoText h = tt
 no_words None n Memory h = tt
@@ -50,7 +51,7 @@ all-first : (arguments words : List (List ℕ)) (n : ℕ) → length arguments �
 all-first [] words n l e = e ∙ all-taken n [] (omega arith)
 all-first (name ∷ rest) words n l e = e ∙ all-taken n rest (omega (arith, l))
 
-pub no-more : (told : Told) (n : ℕ) (words : List (List ℕ)) → IsWordAt told (n + 1) (Ok None)
+pub no-more : (told : ToldArguments) (n : ℕ) (words : List (List ℕ)) → IsWordAt told (n + 1) (Ok None)
     → AreFirst told n words → Follow told words
 no-more None n words l e = tt
 no-more (Some arguments) n words l e = all-first arguments words n l e
@@ -65,7 +66,7 @@ one-more (name ∷ rest) words n word l is e =
     ap (λ (w : List (List ℕ)). w ++ word ∷ []) e
     ∙ ap (λ (w : List ℕ). take n rest ++ w ∷ []) it ∙ sym more
 
-pub next_word : (told : Told) (n : ℕ) (words : List (String Global)) (word : String Global)
+pub next_word : (told : ToldArguments) (n : ℕ) (words : List (String Global)) (word : String Global)
     → IsWordAt told (n + 1) (Ok (Some word))
     → AreFirst told n (map string_bytes words)
     → AreFirst told (n + 1) (map string_bytes (words ++ word ∷ []))
@@ -73,3 +74,15 @@ next_word None n words word is e = tt
 next_word (Some arguments) n words word is e =
     map-append string_bytes words (word ∷ [])
     ∙ one-more arguments (map string_bytes words) n (string_bytes word) is.0 is.1 e
+
+-- these words are texts
+pub record AreUtf8 (words : List (String Global)) : Type 0 where
+  pub each : All IsUtf8 (map string_bytes words)
+
+pub next_text : (words : List (String Global)) (word : String Global)
+    → IsText (Ok (Some word)) → AreUtf8 words → AreUtf8 (words ++ word ∷ [])
+next_text words word is h = record {
+  each = subst (λ (all : List (List ℕ)). All IsUtf8 all)
+      (sym (map-append string_bytes words (word ∷ [])))
+      (All-push IsUtf8 (map string_bytes words) (string_bytes word) h.each is);
+}

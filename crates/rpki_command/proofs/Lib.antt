@@ -1,5 +1,6 @@
 pub mod AspaExact
 pub mod Following
+pub mod Located
 pub mod Named
 pub mod Orders
 pub mod Providers

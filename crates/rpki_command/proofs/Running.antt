@@ -1,23 +1,18 @@
 -- What a run of the program does, from what it says.
-use Rattle.std.proofs.Common.{◌≡◌, ℕ, List, Option, Some, None, Result, Ok, Err, Vec, Global, Bool}
-use Rattle.std.proofs.Common.{true, false, sym, subst, inl, inr}
+use Rattle.std.proofs.Common.{◌≡◌, ℕ, List, Option, Some, None, Result, Ok, Err, Vec, Global}
+use Rattle.std.proofs.Common.{sym, subst, inl, inr}
 use Rattle.std.specs.Prelude.{◌⊎◌}
 use Rattle.rpki_command.specs.Answer.{Run, Said, IsSaid, usage, cannot_read, out_of_memory}
 use Rattle.rpki_command.specs.Answer.{malformed, shown}
-use Rattle.rpki_command.specs.Command.{Told, IsOfRead, IsOfFile, IsCommandAnswer, IsOptionAnswer}
-use Rattle.rpki_command.specs.Command.{IsOrderAnswer, has_option, IsAnswer, OrOutOfMemory, Shows}
-use Rattle.rpki_command.specs.Command.{IsCommandDone, IsOptionDone, IsDone, IsRunOf, IsRunWith}
-use Rattle.rpki_command.specs.Command.{IsSaidUnread, IsStartOf}
-use Rattle.rpki_command.specs.Arguments as arguments
-use Rattle.rpki_command.specs.Arguments.{Follow}
-use Rattle.rpki_command.specs.Contents.{LinesOf, HasNoLines, IsShown}
-use Rattle.rpki_command.specs.Store.{IsRead}
+use Rattle.rpki_command.specs.Command.{IsOfRead, IsOfFile, Task, ShowLines, NotThere, order_task}
+use Rattle.rpki_command.specs.Command.{IsTaskAnswer, IsAnswer, OrOutOfMemory, Shows, IsTaskDone}
+use Rattle.rpki_command.specs.Command.{IsRunOf, IsRunWith, IsSaidUnread, IsStartOf}
+use Rattle.rpki_command.specs.Arguments.{ToldArguments, AreTexts}
+use Rattle.rpki_command.specs.Contents.{HasNoLines, IsSaidOf, IsShown}
+use Rattle.rpki_command.specs.Store.{Told, IsRead}
 use Rattle.rpki_command.specs.Words.{IsAsked, AskForNothing}
 use Rattle.rpki_command.specs.declared.store.StoreError.{StoreError}
 use Rattle.rpki_command.specs.declared.store.StoreError.TheVariants.{Unreadable, Memory}
-use Rattle.rpki_command.specs.declared.words.Command.{Command}
-use Rattle.rpki_command.specs.declared.words.Command.TheVariants.{Content, ContentRta, Show}
-use Rattle.rpki_command.specs.declared.words.Command.TheVariants.{ShowRta, ShowTal, Check, Rta}
 use Rattle.rpki_command.specs.declared.words.Order.{Order}
 use Rattle.rpki_command.proofs.Orders.{asked-once}
 
@@ -34,13 +29,13 @@ module _ (lines_of : List ℕ → List ℕ → Type 0) (s : Said) (run : Run) (h
   unreadable-said file P (Err Memory) r o = inl (said-as s out_of_memory run o h)
   unreadable-said file P (Err Unreadable) r o = inr (said-as s (cannot_read file) run o h)
 
-  malformed-said : (octets : List ℕ) → HasNoLines lines_of octets → IsShown lines_of octets s
+  malformed-said : (octets : List ℕ) → HasNoLines lines_of octets → IsSaidOf lines_of octets s
       → OrOutOfMemory malformed run
   malformed-said octets none (inl e) = inl (said-as s out_of_memory run e h)
   malformed-said octets none (inr (inl m)) = inr (said-as s malformed run m.0 h)
   malformed-said octets none (inr (inr f)) = absurd (none f.0 (f.1).these)
 
-  shown-said : (octets lines : List ℕ) → lines_of octets lines → IsShown lines_of octets s
+  shown-said : (octets lines : List ℕ) → lines_of octets lines → IsSaidOf lines_of octets s
       → OrOutOfMemory (shown lines) run
   shown-said octets lines is (inl e) = inl (said-as s out_of_memory run e h)
   shown-said octets lines is (inr (inl m)) = absurd (m.1 lines is)
@@ -63,34 +58,24 @@ module _ (lines_of : List ℕ → List ℕ → Type 0) (s : Said) (run : Run) (h
       record {
         unreadable = λ e. unreadable-said file (IsShown lines_of) a.0 (tells (Some None) e) a.2;
         malformed = λ octets e none. of-octets file octets malformed a.0
-            (tells (Some (Some octets)) e) a.2 (malformed-said octets none);
+            (tells (Some (Some octets)) e) a.2 (λ h. malformed-said octets none h.said);
         shown = λ octets lines e is. of-octets file octets (shown lines) a.0
-            (tells (Some (Some octets)) e) a.2 (shown-said octets lines is);
+            (tells (Some (Some octets)) e) a.2 (λ h. shown-said octets lines is h.said);
       }
 
 -- ---- the whole
 
 module _ (told : Told) (s : Said) (run : Run) (h : IsSaid s run) where
-  command-done : (command : Command) → IsCommandAnswer told command s
-      → IsCommandDone told command run
-  command-done (Content kind file) a = shows (LinesOf kind) s run h told file a
-  command-done (ContentRta file) a = said-as s usage run a h
-  command-done (Show kind file) a = said-as s usage run a h
-  command-done (ShowRta file) a = said-as s usage run a h
-  command-done (ShowTal file) a = said-as s usage run a h
-  command-done (Check kind file moment verdicts anchor chain) a = said-as s usage run a h
-  command-done (Rta file moment verdicts anchor anchors) a = said-as s usage run a h
-
-  option-done : (option : Bool) (command : Command) → IsOptionAnswer told option command s
-      → IsOptionDone told option command run
-  option-done true command a = said-as s usage run a h
-  option-done false command a = command-done command a
+  task-done : (task : Task) → IsTaskAnswer told task s → IsTaskDone told task run
+  task-done (ShowLines file lines_of) a = shows lines_of s run h told file a
+  task-done NotThere a = said-as s usage run a h
 
   order-done : (words : List (List ℕ)) (o : Order) → IsAsked words o → IsAnswer told words s
-      → IsDone told o run
+      → IsTaskDone told (order_task o) run
   order-done words o asked (inl a) =
-      option-done (has_option o.options) o.command
-      (subst (λ (p : Order). IsOrderAnswer told p s) (asked-once words a.0 o a.1 asked) a.2)
+      task-done (order_task o)
+      (subst (λ (p : Order). IsTaskAnswer told (order_task p) s) (asked-once words a.0 o a.1 asked)
+      a.2)
   order-done words o asked (inr a) = absurd (a.0 o asked)
 
   usage-said : (words : List (List ℕ)) → AskForNothing words → IsAnswer told words s
@@ -106,9 +91,9 @@ module _ (told : Told) (s : Said) (run : Run) (h : IsSaid s run) where
   }
 
 -- the words follow, and are run unless memory runs out
-pub of-words : (arguments : arguments.Told) (told : Told) (words : List (List ℕ)) (old new : ℕ)
+pub of-words : (arguments : ToldArguments) (told : Told) (words : List (List ℕ)) (old new : ℕ)
     (run : Run)
-    → Follow arguments words
+    → AreTexts arguments words
     → IsSaidUnread out_of_memory old new run ⊎ IsRunWith told words old new run
     → IsStartOf arguments told old new run
 of-words arguments told words old new run f (inl h) = inr (inr h)

@@ -7,18 +7,18 @@ use Rattle.rpki_command.specs.declared.arguments.WordsError.{WordsError}
 use Rattle.rpki_command.specs.declared.arguments.WordsError.TheVariants.{NoText, Memory}
 
 -- What is told of the arguments: nothing, or the octets of each, the program's name first.
-abbrev pub Told : Type 0
-Told = Option (List (List ℕ))
+abbrev pub ToldArguments : Type 0
+ToldArguments = Option (List (List ℕ))
 
 -- what is given of the argument at a place
-abbrev pub IsArgument : Told → ℕ → Option (Vec ℕ Global) → Type 0
+abbrev pub IsArgument : ToldArguments → ℕ → Option (Vec ℕ Global) → Type 0
 IsArgument None place argument = Unit {0}
 IsArgument (Some arguments) place None = length arguments ≤ place
 IsArgument (Some arguments) place (Some octets) =
     (place < length arguments) × ((d : List ℕ) → octets.items ≡ slice_index_or arguments place d)
 
 -- what is given of the word at a place: it may be no text
-abbrev pub IsWordAt : Told → ℕ → Result (Option (String Global)) WordsError → Type 0
+abbrev pub IsWordAt : ToldArguments → ℕ → Result (Option (String Global)) WordsError → Type 0
 IsWordAt None place word = Unit {0}
 IsWordAt (Some arguments) place (Ok None) = length arguments ≤ place
 IsWordAt (Some arguments) place (Ok (Some word)) =
@@ -29,17 +29,27 @@ IsWordAt (Some arguments) place (Err NoText) =
 IsWordAt (Some arguments) place (Err Memory) = Unit {0}
 
 -- the words follow the program's name
-abbrev pub Follow : Told → List (List ℕ) → Type 0
+abbrev pub Follow : ToldArguments → List (List ℕ) → Type 0
 Follow None words = Unit {0}
 Follow (Some arguments) words = words ≡ drop 1 arguments
 
+-- the words follow the program's name, and each is a text (UTF-8)
+pub record AreTexts (told : ToldArguments) (words : List (List ℕ)) : Type 0 where
+  pub follow : Follow told words
+  pub texts : All IsUtf8 words
+
+-- the word that is given, if there is one, is a text
+abbrev pub IsText : Result (Option (String Global)) WordsError → Type 0
+IsText (Ok (Some word)) = IsUtf8 (string_bytes word)
+IsText other = Unit {0}
+
 -- one of the arguments after the program's name is no text
-abbrev pub HaveNoText : Told → Type 0
+abbrev pub HaveNoText : ToldArguments → Type 0
 HaveNoText None = Unit {0}
 HaveNoText (Some arguments) = ¬ All IsUtf8 (drop 1 arguments)
 
 -- what is given of the words
-abbrev pub AreWords : Told → Result (Vec (String Global) Global) WordsError → Type 0
-AreWords told (Ok words) = Follow told (map string_bytes words.items)
+abbrev pub AreWords : ToldArguments → Result (Vec (String Global) Global) WordsError → Type 0
+AreWords told (Ok words) = AreTexts told (map string_bytes words.items)
 AreWords told (Err NoText) = HaveNoText told
 AreWords told (Err Memory) = Unit {0}

@@ -5,14 +5,15 @@ use Rattle.rpki_der.specs.declared.mode.Mode.{Mode}
 use Rattle.rpki_der.specs.Grammar.{Integer}
 use Rattle.rpki_der.specs.Form.Parts.{Sequence, SequenceOf, Explicit}
 use Rattle.rpki_resources.specs.As.{IsAsn}
-use Rattle.rpki_resources.specs.AsForm.{AsId}
+use Rattle.rpki_resources.specs.As.Form.{AsId}
 
 -- what a content says
 pub record Aspa : Type 0 where
   pub customer : ℕ
   pub providers : List ℕ
 
--- how many providers a customer has at most (section 3.3 of the profile)
+-- How many providers a customer has at most: the limit of the original. The profile's ASN.1 has
+-- SIZE (1..MAX) (section 3).
 abbrev pub most_providers : ℕ
 most_providers = 10000
 

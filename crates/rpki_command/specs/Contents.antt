@@ -6,16 +6,16 @@ use Rattle.rpki_command.specs.Answer.{Said, out_of_memory, malformed, shown}
 use Rattle.rpki_command.specs.Aspa.{AspaForm}
 use Rattle.rpki_command.specs.Texts.Aspa.{aspa_text}
 use Rattle.rpki_command.specs.declared.words.Kind.{Kind}
-use Rattle.rpki_command.specs.declared.words.Kind.TheVariants.{Aspa}
 
 -- these are the lines of what stands at the front of the octets
 abbrev pub HasLines : {X : Type 0} → (List ℕ → X → Type 0) → (X → List ℕ) → List ℕ → List ℕ → Type 0
 HasLines {X} form text octets lines =
     (x : X) × (rest : List ℕ) × Front form octets x rest × (lines ≡ text x)
 
--- The lines of a bare content at the front of the octets: a row for each kind.
+-- The lines of a bare content at the front of the octets: a row for each kind. The last row is that
+-- of the kind which no row above it names: the ASPA.
 abbrev pub LinesOf : Kind → List ℕ → List ℕ → Type 0
-LinesOf Aspa = HasLines (AspaForm Der) aspa_text
+LinesOf _ = HasLines (AspaForm Der) aspa_text
 
 -- no lines are those of the octets
 abbrev pub HasNoLines : (List ℕ → List ℕ → Type 0) → List ℕ → Type 0
@@ -30,8 +30,12 @@ pub record HasOnlyLines (lines_of : List ℕ → List ℕ → Type 0) (octets li
 abbrev pub IsLinesOf : List ℕ → Said → Type 0
 IsLinesOf lines s = (s ≡ out_of_memory) ⊎ (s ≡ shown lines)
 
--- the lines of the octets are shown, or there are none, or memory runs out
-abbrev pub IsShown : (List ℕ → List ℕ → Type 0) → List ℕ → Said → Type 0
-IsShown lines_of octets s =
+-- what may be said of octets: that memory ran out, that they have no lines, or their lines
+abbrev pub IsSaidOf : (List ℕ → List ℕ → Type 0) → List ℕ → Said → Type 0
+IsSaidOf lines_of octets s =
     (s ≡ out_of_memory) ⊎ (((s ≡ malformed) × HasNoLines lines_of octets)
     ⊎ ((lines : List ℕ) × HasOnlyLines lines_of octets lines × (s ≡ shown lines)))
+
+-- the lines of the octets are shown, where there are any and memory suffices
+pub record IsShown (lines_of : List ℕ → List ℕ → Type 0) (octets : List ℕ) (s : Said) : Type 0 where
+  pub said : IsSaidOf lines_of octets s

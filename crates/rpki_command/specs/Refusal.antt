@@ -1,6 +1,8 @@
--- The answer where an object is not read.
+-- The answer where an object or a locator is not read.
 use Rattle.rpki_der.specs.declared.error.DecodeError.{DecodeError}
 use Rattle.rpki_der.specs.declared.error.DecodeError.TheVariants as error
+use Rattle.rpki_tal.specs.declared.error.ReadError.{ReadError}
+use Rattle.rpki_tal.specs.declared.error.ReadError.TheVariants.{Memory}
 use Rattle.rpki_command.specs.Answer.{Said, out_of_memory, malformed}
 
 -- that memory ran out is said as such, and every other fault is malformed
@@ -8,3 +10,8 @@ abbrev pub refusal : DecodeError → Said
 refusal error.Memory = out_of_memory
 refusal error.Malformed = malformed
 refusal (error.Content fault) = malformed
+
+-- the same of a locator
+abbrev pub tal_refusal : ReadError → Said
+tal_refusal Memory = out_of_memory
+tal_refusal _ = malformed

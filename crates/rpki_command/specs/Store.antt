@@ -1,6 +1,6 @@
 -- What a store tells of a file, and what a read of it answers.
 use Rattle.std.specs.Prelude.{◌≡◌, ℕ, ◌+◌, ◌<◌, ◌≤◌, List, length, slice_index_or, Option, None}
-use Rattle.std.specs.Prelude.{Some, Result, Ok, Err, Vec}
+use Rattle.std.specs.Prelude.{Some, Result, Ok, Err, Vec, codes}
 use Rattle.std.specs.declared.alloc.Global.{Global}
 use Rattle.rpki_command.specs.declared.store.StoreError.{StoreError}
 use Rattle.rpki_command.specs.declared.store.StoreError.TheVariants.{Unreadable, Memory}
@@ -18,31 +18,48 @@ IsRead (Some None) (Err Unreadable) = Unit {0}
 IsRead (Some (Some file)) (Ok octets) = octets.items ≡ file
 IsRead (Some (Some file)) (Err Unreadable) = ⊥
 
+-- What a store tells of each file, by its name.
+abbrev pub Told : Type 0
+Told = List ℕ → Option (Option (List ℕ))
+
 -- each of the first files is read
-abbrev pub AreReadTo : (List ℕ → Option (Option (List ℕ))) → List (List ℕ) → ℕ → List (Vec ℕ Global)
-    → Type 0
+abbrev pub AreReadTo : Told → List (List ℕ) → ℕ → List (Vec ℕ Global) → Type 0
 AreReadTo told names n files = (k : ℕ) (d : List ℕ) (e : Vec ℕ Global) → k < n
     → IsRead (told (slice_index_or names k d)) (Ok (slice_index_or files k e))
 
--- The first file that can't be read: those before it are not told to be such.
-pub record IsFirstUnreadable (told : List ℕ → Option (Option (List ℕ))) (names : List (List ℕ))
-    (name : List ℕ) : Type 0 where
+-- Each file is read, and the store once for each.
+pub record AreAllRead (told : Told) (names : List (List ℕ)) (old new : ℕ)
+    (files : List (Vec ℕ Global)) : Type 0 where
+  pub count : length files ≡ length names
+  pub each : AreReadTo told names (length names) files
+  pub reads : new ≡ old + length names
+
+-- The first file that can't be read: those before it are not told to be such. The store is read
+-- once for each of these and once for it, and never after it.
+pub record IsFirstUnreadable (told : Told) (names : List (List ℕ)) (old new : ℕ) (name : List ℕ)
+    : Type 0 where
   pub place : ℕ
   pub there : place < length names
   pub named : (d : List ℕ) → slice_index_or names place d ≡ name
   pub unreadable : IsRead (told name) (Err Unreadable)
   pub before : (k : ℕ) (d : List ℕ) → k < place → told (slice_index_or names k d) ≡ Some None → ⊥
+  pub reads : new ≡ old + (place + 1)
 
--- what a read of several files answers: all of them, or the first that can't be read, or want of
--- memory
-abbrev pub AreRead : (List ℕ → Option (Option (List ℕ))) → List (List ℕ)
-    → Result (Vec (Vec ℕ Global) Global) Unread → Type 0
-AreRead told names (Ok files) = (length files.items ≡ length names)
-    × AreReadTo told names (length names) files.items
-AreRead told names (Err (unread.Unreadable name)) = IsFirstUnreadable told names name.now
-AreRead told names (Err unread.Memory) = Unit {0}
+-- where memory runs out, the store was read at least once, and no file twice
+pub record AreSomeRead (names : List (List ℕ)) (old new : ℕ) : Type 0 where
+  pub some : old + 1 ≤ new
+  pub most : new ≤ old + length names
 
--- how often the store is read for it: once for each, and never after the first that was not read
-abbrev pub AreCounted : List (List ℕ) → ℕ → ℕ → Result (Vec (Vec ℕ Global) Global) Unread → Type 0
-AreCounted names old new (Ok files) = new ≡ old + length names
-AreCounted names old new (Err e) = (old + 1 ≤ new) × (new ≤ old + length names)
+-- What a read of several files answers: all of them, or the first that can't be read, or want of
+-- memory; and how often the store, which was read so often before, is read for it.
+abbrev pub AreRead : Told → List (List ℕ) → ℕ → ℕ → Result (Vec (Vec ℕ Global) Global) Unread
+    → Type 0
+AreRead told names old new (Ok files) = AreAllRead told names old new files.items
+AreRead told names old new (Err (unread.Unreadable name)) =
+    IsFirstUnreadable told names old new name.now
+AreRead told names old new (Err unread.Memory) = AreSomeRead names old new
+
+-- why a file was not read, as a text
+abbrev pub store_error_text : StoreError → List ℕ
+store_error_text Unreadable = codes "unreadable file"
+store_error_text Memory = codes "out of memory"

@@ -1,10 +1,11 @@
 //! The arguments of a program.
 
 ghost use Rattle.std.specs.Prelude.{◌≡◌, ℕ, List, Option, None, IfOk};
-ghost use Rattle.rpki_command.specs.Arguments.{IsArgument, IsWordAt, AreWords};
+ghost use Rattle.rpki_command.specs.Arguments.{IsArgument, IsWordAt, IsText, AreWords};
 
 use std::alloc::{AllocError, Global};
 use std::env::{Env, FillError};
+use std::marker::Model;
 
 /// The arguments of a program: its name, and the words after it.
 pub trait Arguments {
@@ -26,7 +27,7 @@ pub enum WordsError {
 }
 
 /// Gives the words after the program's name, which need not be a text.
-#[tactic(auto, using(crate::proofs::Following::no_words, crate::proofs::Following::next_word))]
+#[tactic(auto, using(crate::proofs::Following::no_words, crate::proofs::Following::next_word, crate::proofs::Following::next_text))]
 pub fn words_of<A: Arguments>(alloc: Global, arguments: &A) -> Result<Vec<String>, WordsError>
     ensures { AreWords (A.told arguments.now) result }
 {
@@ -51,13 +52,18 @@ fn word_at<A: Arguments>(
     arguments: &A,
     place: usize,
 ) -> Result<Option<String>, WordsError>
-    ensures { IsWordAt (A.told arguments.now) place result }
+    ensures word { IsWordAt (A.told arguments.now) place result }
+    ensures text { IsText result }
 {
     match arguments.argument(alloc, place) {
         Err(_) => Err(WordsError::Memory),
         Ok(None) => Ok(None),
         Ok(Some(octets)) => match String::from_utf8(octets) {
-            Ok(word) => Ok(Some(word)),
+            Ok(word) => {
+                // The proof knows that a `String` is UTF-8 where it is read as a `&str`.
+                let _ = word.as_str();
+                Ok(Some(word))
+            }
             Err(_) => Err(WordsError::NoText),
         },
     }
@@ -72,9 +78,17 @@ pub struct ProcessArguments<'a, R> {
     runtime: &'a R,
 }
 
+impl<'a, R> Model for ProcessArguments<'a, R> {
+    ghost Value = { R };
+
+    ghost view = { λ a. a.runtime.now };
+}
+
 impl<'a, R> ProcessArguments<'a, R> {
     /// The arguments that this runtime has.
-    pub fn new(runtime: &'a R) -> ProcessArguments<'a, R> {
+    pub fn new(runtime: &'a R) -> ProcessArguments<'a, R>
+        ensures { result ≡ runtime.now }
+    {
         ProcessArguments { runtime }
     }
 }

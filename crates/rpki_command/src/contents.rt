@@ -36,6 +36,7 @@ pub trait Content: Drop {
 }
 
 /// Answers with the lines of the content of this kind at the front of the octets, if there is one.
+#[tactic(auto, using(crate::proofs::Shown::of_kind))]
 pub fn show_kind<'a>(alloc: Global, kind: Kind, octets: Vec<u8>) -> Answer<'a>
     ensures { IsShown (LinesOf kind) octets.items (said result) }
 {

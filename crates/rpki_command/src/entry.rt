@@ -13,7 +13,9 @@ use rpki_der::Sink;
 use std::alloc::{AllocError, Global};
 use std::process::ExitCode;
 
-/// Runs the program with its arguments, and gives the status that the process ends with.
+/// Runs the program with its arguments, the first of which is its name, and gives the status that
+/// the process ends with: 0, 1, 2 or 3, as `command` answers it. `usage` with 2 is the answer too
+/// where a word is no text (UTF-8), and `out of memory` with 3 where the words take too much.
 pub fn start<A: Arguments, S: Store, O: Sink, E: Sink>(
     alloc: Global,
     arguments: &A,
@@ -29,8 +31,9 @@ pub fn start<A: Arguments, S: Store, O: Sink, E: Sink>(
     ExitCode::from(run(alloc, arguments, store, out, err))
 }
 
-/// Runs the program with its arguments, and gives the exit status. Arguments that are no text
-/// (UTF-8) ask for nothing.
+/// Runs the program with its arguments, the first of which is its name, and gives the exit status:
+/// 0 where lines were shown, 1 for `malformed`, 2 for `usage`, `cannot read FILE` and a write that
+/// failed, 3 for `out of memory`. Words that are no text (UTF-8) are `usage`.
 pub fn run<A: Arguments, S: Store, O: Sink, E: Sink>(
     alloc: Global,
     arguments: &A,

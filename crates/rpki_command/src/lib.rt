@@ -8,6 +8,7 @@ mod aspa;
 mod contents;
 mod entry;
 pub mod laws;
+mod locator;
 mod program;
 mod store;
 mod texts;

@@ -2,20 +2,24 @@
 
 ghost use Rattle.std.specs.Prelude.{◌≡◌, ◌+◌};
 ghost use Rattle.rpki_command.specs.Answer.{run_of, said};
-ghost use Rattle.rpki_command.specs.Command.{IsOfFile, IsCommandAnswer, IsOrderAnswer, IsAnswer};
-ghost use Rattle.rpki_command.specs.Command.{IsRunOf, command_reads, reads_of, HaveRead};
+ghost use Rattle.rpki_command.specs.Command.{command_task, order_task, task_reads, IsTaskAnswer};
+ghost use Rattle.rpki_command.specs.Command.{IsOfFile, IsAnswer, IsRunOf, HaveRead};
 ghost use Rattle.rpki_command.specs.Contents.{LinesOf, IsShown};
+ghost use Rattle.rpki_command.specs.Texts.Tal.{TalLines};
 ghost use Rattle.rpki_command.specs.Words.{texts};
 
 use crate::answer::{Answer, say};
 use crate::contents::show_kind;
+use crate::locator::show_tal;
 use crate::store::{Store, StoreError};
 use crate::words::{Command, Kind, Order, parse};
 use rpki_der::Sink;
 use std::alloc::Global;
 
 /// The program: does what the words ask for, which follow its name, with the files of the store.
-/// Gives the exit status.
+/// Gives the exit status: 0 where lines were shown, 1 for `malformed`, both on standard output; 2
+/// for `usage` and `cannot read FILE`, 3 for `out of memory`, both on standard error; and 2 where
+/// a write failed, after which nothing more is written.
 pub fn command<S: Store, O: Sink, E: Sink>(
     alloc: Global,
     words: &[&str],
@@ -43,8 +47,8 @@ fn answer<'a, S: Store>(alloc: Global, words: &'a [&'a str], store: &mut S) -> A
 
 /// What the program answers to an order.
 fn answer_order<'a, S: Store>(alloc: Global, order: &Order<'a>, store: &mut S) -> Answer<'a>
-    ensures said { IsOrderAnswer (S.told store.old) order.now (said result) }
-    ensures reads { S.reads store.new ≡ S.reads store.old + reads_of order.now }
+    ensures said { IsTaskAnswer (S.told store.old) (order_task order.now) (said result) }
+    ensures reads { S.reads store.new ≡ S.reads store.old + task_reads (order_task order.now) }
 {
     let options = order.options;
     if options.relaxed || options.registered || options.wide {
@@ -56,15 +60,16 @@ fn answer_order<'a, S: Store>(alloc: Global, order: &Order<'a>, store: &mut S) -
 /// What the program answers to a command without options. One that there is not yet is answered
 /// with the usage.
 fn answer_command<'a, S: Store>(alloc: Global, command: &Command<'a>, store: &mut S) -> Answer<'a>
-    ensures said { IsCommandAnswer (S.told store.old) command.now (said result) }
-    ensures reads { S.reads store.new ≡ S.reads store.old + command_reads command.now }
+    ensures said { IsTaskAnswer (S.told store.old) (command_task command.now) (said result) }
+    ensures reads { S.reads store.new
+        ≡ S.reads store.old + task_reads (command_task command.now) }
 {
     match command {
         Command::Content { kind, file } => show_file(alloc, *kind, file.0, store),
         Command::ContentRta { .. } => Answer::Usage,
         Command::Show { .. } => Answer::Usage,
         Command::ShowRta { .. } => Answer::Usage,
-        Command::ShowTal { .. } => Answer::Usage,
+        Command::ShowTal { file } => show_locator(alloc, file.0, store),
         Command::Check { .. } => Answer::Usage,
         Command::Rta { .. } => Answer::Usage,
     }
@@ -78,6 +83,18 @@ fn show_file<'a, S: Store>(alloc: Global, kind: Kind, file: &'a str, store: &mut
     match store.read(alloc, file) {
         Ok(octets) => show_kind(alloc, kind, octets),
         Err(StoreError::Unreadable) => Answer::CannotRead(file),
+        Err(StoreError::Memory) => Answer::OutOfMemory,
+    }
+}
+
+/// Answers with the lines of the trust anchor locator that the file of this name is, if it is one.
+fn show_locator<'a, S: Store>(alloc: Global, name: &'a str, store: &mut S) -> Answer<'a>
+    ensures said { IsOfFile (S.told store.old) name.now (IsShown TalLines) (said result) }
+    ensures reads { S.reads store.new ≡ S.reads store.old + 1 }
+{
+    match store.read(alloc, name) {
+        Ok(octets) => show_tal(alloc, octets.as_slice()),
+        Err(StoreError::Unreadable) => Answer::CannotRead(name),
         Err(StoreError::Memory) => Answer::OutOfMemory,
     }
 }

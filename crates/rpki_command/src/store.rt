@@ -1,13 +1,15 @@
 //! Where the program's files come from.
 
-ghost use Rattle.std.specs.Prelude.{◌≡◌, ◌+◌, ℕ, List, Option, None};
-ghost use Rattle.rpki_command.specs.Store.{IsRead, AreRead, AreCounted};
+ghost use Rattle.std.specs.Prelude.{◌≡◌, ◌+◌, ℕ, List, Option, None, Some};
+ghost use Rattle.rpki_command.specs.Store.{IsRead, AreRead, store_error_text};
 ghost use Rattle.rpki_command.specs.Words.{texts};
 
 use rpki_der::Count;
 use std::alloc::Global;
+use std::error::Error;
+use std::marker::Model;
 use std::rt::Files;
-use std::{fs, io};
+use std::{fmt, fs, io};
 
 /// Why a file was not read.
 #[derive(Clone, Copy, Debug, PartialEq, Eq)]
@@ -17,6 +19,19 @@ pub enum StoreError {
     /// No memory was to be had.
     Memory,
 }
+
+impl fmt::Display for StoreError {
+    ghost output = { λ error. Some (store_error_text error) };
+
+    fn fmt<W: fmt::Write>(&self, f: &mut fmt::Formatter<W>) -> fmt::Result {
+        match self {
+            StoreError::Unreadable => f.write_str("unreadable file"),
+            StoreError::Memory => f.write_str("out of memory"),
+        }
+    }
+}
+
+impl Error for StoreError {}
 
 /// Files by name.
 pub trait Store {
@@ -42,16 +57,16 @@ pub enum Unread<'a> {
     Memory,
 }
 
-/// The octets of the files with these names, which are read in their order, up to the first that
-/// can't be read.
+/// The octets of the files with these names, which are read in their order, once each. The first
+/// that can't be read is answered by its name, and none is read after it; `Memory` may come too.
 pub fn read_all<'a, S: Store>(
     alloc: Global,
     names: &[&'a str],
     store: &mut S,
 ) -> Result<Vec<Vec<u8>>, Unread<'a>>
-    ensures answer { AreRead (S.told store.old) (texts names.now) result }
+    ensures answer { AreRead (S.told store.old) (texts names.now)
+        (S.reads store.old) (S.reads store.new) result }
     ensures same { S.told store.new ≡ S.told store.old }
-    ensures counted { AreCounted (texts names.now) (S.reads store.old) (S.reads store.new) result }
 {
     let mut files = Vec::new(alloc);
     for name in names {
@@ -75,10 +90,19 @@ pub struct Disk<'a, R> {
     reads: Count,
 }
 
+impl<'a, R> Model for Disk<'a, R> {
+    ghost use Rattle.std.specs.Prelude.{ℕ};
+
+    // How often they were read.
+    ghost Value = { ℕ };
+
+    ghost view = { λ d. d.reads.number };
+}
+
 impl<'a, R> Disk<'a, R> {
-    /// The files that this runtime reaches.
+    /// The files that this runtime reaches. They have not been read yet.
     pub fn new(runtime: &'a R) -> Disk<'a, R>
-        ensures { result.reads.number ≡ 0 }
+        ensures { result ≡ 0 }
     {
         Disk {
             runtime,
@@ -90,7 +114,7 @@ impl<'a, R> Disk<'a, R> {
 impl<R: Files + AllocGlobal> Store for Disk<'_, R> {
     ghost told = { λ _ _. None };
 
-    ghost reads = { λ d. d.reads.number };
+    ghost reads = { λ d. d };
 
     fn read(&mut self, _alloc: Global, name: &str) -> Result<Vec<u8>, StoreError> {
         self.reads = self.reads.next();

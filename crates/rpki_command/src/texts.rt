@@ -1,3 +1,4 @@
 //! The lines of each kind of content.
 
 pub mod aspa;
+pub mod tal;

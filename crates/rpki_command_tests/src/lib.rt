@@ -1,4 +1,4 @@
-//! Tests of `rpki_command`, each a table of rows that one small function walks.
+//! Tests of `rpki_command` and `rpki_verdicts`, each a table of rows that one small function walks.
 //!
 //! The expected values follow from the profile by hand. A test hands on that memory ran out and
 //! asserts everything else, so `tools/growth` can refuse each of its allocations in turn. Streams
@@ -13,3 +13,5 @@ mod given;
 mod octets;
 #[cfg(test)]
 mod runs;
+#[cfg(test)]
+mod verdicts;

@@ -40,6 +40,27 @@ const LARGEST_PROVIDER_SHOWN: Said = Said {
     err: "",
 };
 
+/// A locator with one URI and the key whose bits are `abc`.
+const TAL: &[u8] = b"# c\nrsync://a.example.com/1/1\n\nMBUwDQYJKoZIhvcNAQEBBQADBABhYmM=\n";
+
+/// What is said of it: the digest of `abc` is that of FIPS 180-4.
+const TAL_SHOWN: Said = Said {
+    status: 0,
+    out: "tal\nuri rsync://a.example.com/1/1\nkey A9993E364706816ABA3E25717850C26C9CD0D89D\n",
+    err: "",
+};
+
+/// A locator without a comment, with two URIs and line ends of two octets.
+const TAL_OF_TWO: &[u8] = b"https://a.example.com/1\r\nrsync://a.example.com/1/1\r\n\r\n\
+    MBUwDQYJKoZIhvcNAQEBBQADBABhYmM=\r\n";
+
+const TAL_OF_TWO_SHOWN: Said = Said {
+    status: 0,
+    out: "tal\nuri https://a.example.com/1\nuri rsync://a.example.com/1/1\n\
+        key A9993E364706816ABA3E25717850C26C9CD0D89D\n",
+    err: "",
+};
+
 /// What is said of other octets.
 pub const MALFORMED: Said = Said {
     status: 1,
@@ -70,7 +91,7 @@ pub const OUT_OF_MEMORY: Said = Said {
 
 #[test]
 fn words_are_answered(rt: HostRuntime) -> Result<(), Fail> {
-    let rows: [(&[&str], &[u8], Said, usize); 16] = [
+    let rows: [(&[&str], &[u8], Said, usize); 18] = [
         (&ASK, &CONTENT, SHOWN, 1),
         (&ASK, &CONTENT_AND_MORE, SHOWN, 1),
         (&ASK, &CONTENT[..30], MALFORMED, 1),
@@ -91,7 +112,43 @@ fn words_are_answered(rt: HostRuntime) -> Result<(), Fail> {
             USAGE,
             0,
         ),
+        (
+            &["--wide", "--relaxed", "content", "aspa", "file"],
+            &CONTENT,
+            USAGE,
+            0,
+        ),
+        (
+            &["content", "--relaxed", "aspa", "file"],
+            &CONTENT,
+            USAGE,
+            0,
+        ),
         (&["--help"], &CONTENT, USAGE, 0),
+    ];
+    for (words, octets, said, reads) in rows {
+        let mut store = OneFile::new(octets);
+        let mut out = Counted::new(Vec::new(rt.alloc()));
+        let mut err = Counted::new(Vec::new(rt.alloc()));
+        let status = command(rt.alloc(), words, &mut store, &mut out, &mut err);
+        is_said(&rt, &said, status, &out.inner, &err.inner);
+        assert_eq!(rt; store.calls(), reads);
+    }
+    Ok(())
+}
+
+#[test]
+fn locators_are_shown(rt: HostRuntime) -> Result<(), Fail> {
+    let rows: [(&[&str], &[u8], Said, usize); 9] = [
+        (&["show", "tal", "file"], TAL, TAL_SHOWN, 1),
+        (&["show", "tal", "file"], TAL_OF_TWO, TAL_OF_TWO_SHOWN, 1),
+        (&["show", "tal", "file"], &TAL[..30], MALFORMED, 1),
+        (&["show", "tal", "file"], &TAL[4..30], MALFORMED, 1),
+        (&["show", "tal", "file"], &CONTENT, MALFORMED, 1),
+        (&["show", "tal", "other"], TAL, CANNOT_READ, 1),
+        (&["show", "tal", "large"], TAL, OUT_OF_MEMORY, 1),
+        (&["show", "tal", ""], TAL, USAGE, 0),
+        (&["content", "tal", "file"], TAL, USAGE, 0),
     ];
     for (words, octets, said, reads) in rows {
         let mut store = OneFile::new(octets);

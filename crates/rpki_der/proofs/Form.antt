@@ -5,3 +5,4 @@ pub mod Kinds
 pub mod Decoders
 pub mod Nested
 pub mod Keyed
+pub mod Malformed

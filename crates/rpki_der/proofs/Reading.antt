@@ -15,6 +15,7 @@ pub mod Unique
 pub mod Skips
 pub mod Strings
 pub mod Captures
+pub mod Marked
 pub mod Contents
 pub mod Optional
 pub mod Kinds

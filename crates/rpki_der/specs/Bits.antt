@@ -3,7 +3,8 @@ use Rattle.std.specs.Prelude.{◌≡◌, ℕ, ◌<◌, List, length, Bool, true,
 use Rattle.std.specs.Prelude.{if◌then◌else◌}
 
 -- X.690, 8.6.2: how many bits of the last octet may be unused: 0 to 7, and 0 where there is no
--- octet
+-- octet. That these bits may be any when they are read in DER, where 11.2.1 has zeros, is this
+-- project's own rule.
 pub record IsBits (octets : List ℕ) (unused : ℕ) : Type 0 where
   pub few : unused < 8
   pub none : length octets ≡ 0 → unused ≡ 0

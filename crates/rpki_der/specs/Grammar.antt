@@ -9,7 +9,7 @@ use Rattle.rpki_der.specs.declared.mode.Mode.TheVariants.{Der, Ber}
 use Rattle.rpki_der.specs.Identifier.{IsTag, is_constructed}
 use Rattle.rpki_der.specs.Oid.{IsOid}
 use Rattle.rpki_der.specs.Bits.{IsBits}
-use Rattle.rpki_der.specs.Numbers.{number, least}
+use Rattle.rpki_der.specs.Numbers.{MAX_DEPTH, number, least}
 
 -- where low is the least length that a form is for, DER takes it from there on (10.1)
 abbrev pub IsShortest : Mode → ℕ → ℕ → Type 0
@@ -151,7 +151,7 @@ IntegerBelow limit mode octets n = Within mode INTEGER (λ c. IsInteger c n × (
 
 -- an OCTET STRING of this length, whose pieces nest at most 32 deep (8.7)
 abbrev pub OctetStringOf : ℕ → Mode → List ℕ → List ℕ → Type 0
-OctetStringOf n mode octets string = OctetString mode 32 octets string × (length string ≡ n)
+OctetStringOf n mode octets string = OctetString mode MAX_DEPTH octets string × (length string ≡ n)
 
 -- a BIT STRING of these octets, all of whose bits are used (8.6)
 abbrev pub OctetsInBits : Mode → List ℕ → List ℕ → Type 0

@@ -4,7 +4,8 @@ use Rattle.std.specs.Prelude.{slice_index, Bool, false, nat_lt, if◌then◌else
 use Rattle.std.specs.List.{list_all, flat_map}
 use Rattle.rpki_der.specs.Text.Hex.{hex}
 
--- X.690, 8.19.2: there are octets, and the last one ends a subidentifier
+-- X.690, 8.19.2: there are octets, and the last one ends a subidentifier. That a subidentifier may
+-- begin with 80, which 8.19.2 forbids, is this project's own rule.
 abbrev pub IsOid : List ℕ → Type 0
 IsOid contents = (0 < length contents) × (slice_index contents (length contents - 1) < 128)
 

@@ -30,10 +30,6 @@ NULL = 0x05
 abbrev pub OBJECT_IDENTIFIER : ℕ
 OBJECT_IDENTIFIER = 0x06
 
--- UTF8String, primitive (X.690, section 8.23)
-abbrev pub UTF8_STRING : ℕ
-UTF8_STRING = 0x0c
-
 -- PrintableString, primitive (X.690, section 8.23)
 abbrev pub PRINTABLE_STRING : ℕ
 PRINTABLE_STRING = 0x13
@@ -58,10 +54,10 @@ SEQUENCE = 0x30
 abbrev pub SET : ℕ
 SET = 0x31
 
--- the context tag [n], constructed (X.690, sections 8.1.2.2, 8.1.2.5 and 8.14)
+-- the context tag [n], constructed, for n below 31 (X.690, sections 8.1.2.2, 8.1.2.5 and 8.14)
 abbrev pub context : ℕ → ℕ
 context n = 0xa0 + n
 
--- the context tag [n], primitive (X.690, sections 8.1.2.2, 8.1.2.5 and 8.14)
+-- the context tag [n], primitive, for n below 31 (X.690, sections 8.1.2.2, 8.1.2.5 and 8.14)
 abbrev pub context_primitive : ℕ → ℕ
 context_primitive n = 0x80 + n

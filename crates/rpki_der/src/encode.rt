@@ -7,6 +7,8 @@ ghost use Rattle.rpki_der.specs.Write.Sink.{AppendsFront};
 use crate::count::Count;
 use crate::stream::{Sink, SinkFailed};
 use std::alloc::Global;
+use std::error::Error;
+use std::fmt;
 
 mod bits;
 mod captured;
@@ -38,6 +40,24 @@ pub enum EncodeError {
     /// No memory was to be had.
     Memory,
 }
+
+impl fmt::Display for EncodeError {
+    ghost use Rattle.std.specs.Prelude.{Some};
+    ghost use Rattle.rpki_der.specs.Text.Error.{encode_error_text};
+
+    ghost output = { λ error. Some (encode_error_text error) };
+
+    fn fmt<W: fmt::Write>(&self, f: &mut fmt::Formatter<W>) -> fmt::Result {
+        f.write_str(match self {
+            EncodeError::NotDer => "not in DER",
+            EncodeError::TooLong => "too long",
+            EncodeError::Io => "write failed",
+            EncodeError::Memory => "out of memory",
+        })
+    }
+}
+
+impl Error for EncodeError {}
 
 /// What has an encoding in DER.
 pub trait Encode {

@@ -1,7 +1,7 @@
 //! Why octets can't be read.
 
 ghost use Rattle.std.specs.Prelude.{◌≡◌, IfOk, OnErr, Some, codes};
-ghost use Rattle.rpki_der.specs.Read.Reads.{IsContent};
+ghost use Rattle.rpki_der.specs.Read.Reads.{HoldsAttributeType};
 ghost use Rattle.rpki_der.specs.Text.Error.{fault_text, error_text};
 ghost use Rattle.rpki_der.specs.declared.error.DecodeError.TheVariants.{Memory};
 
@@ -70,7 +70,7 @@ impl DecodeError {
     /// memory.
     pub(crate) fn copy(&self) -> Result<DecodeError, AllocError>
         ensures same { IfOk result (λ copy. copy ≡ self.now) }
-        ensures content { OnErr result (IsContent self.now) }
+        ensures content { OnErr result (HoldsAttributeType self.now) }
     {
         match self {
             DecodeError::Malformed => Ok(DecodeError::Malformed),
@@ -83,7 +83,7 @@ impl DecodeError {
 impl ContentFault {
     fn copy(&self) -> Result<ContentFault, AllocError>
         ensures same { IfOk result (λ copy. copy ≡ self.now) }
-        ensures attr { OnErr result (IsContent (DecodeError.Content self.now)) }
+        ensures attr { OnErr result (HoldsAttributeType (DecodeError.Content self.now)) }
     {
         match self {
             ContentFault::InvalidSignedAttr(attr) => {

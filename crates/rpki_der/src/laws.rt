@@ -5,6 +5,7 @@
 
 ghost use Rattle.std.specs.Prelude.{◌≡◌, ◌↔◌, ◌<◌, ◌^◌, ◌++◌, ℕ, Bool, true, false, List, [], Some};
 ghost use Rattle.std.specs.Prelude.{None, Option, slice_index};
+ghost use Rattle.rpki_der.specs.Numbers.{MAX_DEPTH};
 ghost use Rattle.rpki_der.specs.Tags.{BOOLEAN, INTEGER, NULL, OBJECT_IDENTIFIER, IA5_STRING};
 ghost use Rattle.rpki_der.specs.Tags.{SEQUENCE};
 ghost use Rattle.rpki_der.specs.declared.mode.Mode.TheVariants.{Der, Ber};
@@ -15,7 +16,7 @@ ghost use Rattle.rpki_der.specs.Read.Parse.{ia5_at, in_value, optional, many, is
 ghost use Rattle.rpki_der.specs.Read.Parse.{skip_opt_at, skip_all_at, at_end, octets_at, octets_of};
 ghost use Rattle.rpki_der.specs.Read.Parse.{u8_at, u32_at, u160_at, this, captured};
 ghost use Rattle.rpki_der.specs.Oid.{IsOid};
-ghost use Rattle.rpki_der.specs.Form.Law.{IsPart, is};
+ghost use Rattle.rpki_der.specs.Form.Law.{IsPart, RefusesMalformed, every, is};
 ghost use Rattle.rpki_der.specs.Form.Made.{Default, default_at};
 ghost use Rattle.rpki_der.specs.Grammar.{Value, IntegerBelow, Boolean, Null};
 ghost use Rattle.rpki_der.specs.Grammar.{ObjectIdentifier, BitString, OctetsInBits, Ia5String};
@@ -23,7 +24,10 @@ ghost use Rattle.rpki_der.specs.Grammar.{Within, Skipped, ListOf, OctetString, O
 ghost use Rattle.rpki_der.specs.Grammar.{Items, IsBytes};
 ghost use Rattle.rpki_der.specs.Read.Exact.{IsExact, IsReading, IsOptionalReading};
 
+pub mod decoders;
 pub mod forms;
+pub mod keyed;
+pub mod records;
 
 /// What a slice of octets holds is below 256.
 pub fn slices_hold_octets(octets: &[u8])
@@ -67,8 +71,9 @@ pub fn booleans()
 /// A BOOLEAN that is false where it is left out (X.690, sections 8.2 and 11.1). An explicit false
 /// is taken in both modes, against section 11.5, which is this project's own rule.
 pub fn flags()
-    ensures { IsPart (is BOOLEAN) (is BOOLEAN) (default_at false BOOLEAN boolean_at)
+    ensures part { IsPart (is BOOLEAN) (is BOOLEAN) (default_at false BOOLEAN boolean_at)
         (λ mode. Default false (Boolean mode)) }
+    ensures refused { RefusesMalformed BOOLEAN Boolean (default_at false BOOLEAN boolean_at) }
 {}
 
 /// A NULL (X.690, section 8.8).
@@ -124,7 +129,7 @@ pub fn values_up_to_the_end()
         → (skip_opt_at mode octets ≡ Some (None, rest)) ↔ ((octets ≡ []) × (rest ≡ [])) }
     ensures one { (mode : Mode) (octets rest : List ℕ)
         → (skip_opt_at mode octets ≡ Some (Some tt, rest)) ↔
-        (skip_at 32 mode octets ≡ Some (tt, rest)) }
+        (skip_at MAX_DEPTH mode octets ≡ Some (tt, rest)) }
 {}
 
 /// A skipped value that nests at most to this depth (X.690, section 8.1.1).
@@ -147,11 +152,13 @@ pub fn given_integers()
 /// Skipped values up to the end (X.690, section 8.1.1).
 pub fn skipped_contents()
     ensures exact { (mode : Mode) (octets : List ℕ) → IsBytes octets
-        → (skip_all_at mode octets ≡ Some (tt, [])) ↔ ListOf (Skipped mode 32) octets }
+        → (skip_all_at mode octets ≡ Some (tt, [])) ↔ ListOf (Skipped mode MAX_DEPTH) octets }
     ensures end { (mode : Mode) (octets rest : List ℕ) → skip_all_at mode octets ≡ Some (tt, rest)
         → rest ≡ [] }
-    ensures relaxed { (octets : List ℕ) → ListOf (Skipped Der 32) octets
-        → ListOf (Skipped Ber 32) octets }
+    ensures relaxed { (octets : List ℕ) → ListOf (Skipped Der MAX_DEPTH) octets
+        → ListOf (Skipped Ber MAX_DEPTH) octets }
+    ensures part { IsPart every every skip_all_at
+        (λ mode octets _. ListOf (Skipped mode MAX_DEPTH) octets) }
 {}
 
 /// What may be there: an INTEGER, a BOOLEAN, a NULL, an IA5String, the contents of a value with a
@@ -221,7 +228,7 @@ pub fn captured_values()
         (λ mode octets kept. (kept ≡ octets) × Unit {0} × Null mode octets) }
     ensures all { (mode : Mode) (octets kept rest : List ℕ) → IsBytes octets
         → (captured skip_all_at mode octets ≡ Some (kept, rest)) ↔
-        ((kept ≡ octets) × (rest ≡ []) × ListOf (Skipped mode 32) octets) }
+        ((kept ≡ octets) × (rest ≡ []) × ListOf (Skipped mode MAX_DEPTH) octets) }
 {}
 
 /// A SEQUENCE of INTEGERs from 0 to 2^32 - 1 (X.690, sections 8.3 and 8.10).

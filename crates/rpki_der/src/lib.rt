@@ -27,7 +27,7 @@ pub use error::{ContentFault, DecodeError, InvalidSignedAttr};
 pub use hex::LowerHex;
 pub use mode::Mode;
 pub use oid::Oid;
-pub use read::Constructed;
+pub use read::{Constructed, ListItem};
 pub use reason::Reason;
 pub use stream::{Counted, Sink, SinkFailed, Source, SourceError, SourceFailed};
 pub use tag::Tag;

@@ -4,6 +4,7 @@ mod constructed;
 mod contents;
 mod header;
 mod integer;
+mod items;
 mod primitive;
 mod skip;
 mod skips;
@@ -11,3 +12,4 @@ mod string;
 mod window;
 
 pub use constructed::Constructed;
+pub use items::ListItem;

@@ -5,7 +5,7 @@ ghost use Rattle.rpki_der.specs.Text.Reason.{reason_text};
 
 use std::fmt;
 
-/// What is not allowed in a content that is of its form, each with a text of its own.
+/// What is not allowed in a content that is of its form.
 #[derive(Clone, Copy, Debug, PartialEq, Eq)]
 pub enum Reason {
     // Any content

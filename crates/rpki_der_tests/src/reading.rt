@@ -1,8 +1,9 @@
 //! Rows of octets that a reader takes and refuses.
 
 use bytes::Bytes;
-use rpki_der::{Captured, Constructed, DecodeError, Mode, Tag};
+use rpki_der::{Captured, Constructed, ContentFault, DecodeError, ListItem, Mode, Reason, Tag};
 use std::alloc::{AllocError, Global};
+use std::marker::Model;
 
 /// Both modes.
 pub const MODES: [Mode; 2] = [Mode::Der, Mode::Ber];
@@ -40,6 +41,7 @@ pub enum Call {
     SkipOptOne,
     AtEnd,
     CaptureWith,
+    Items,
 }
 
 /// What it answers.
@@ -196,6 +198,50 @@ fn take_more(cons: &mut Constructed<'_>, alloc: Global, call: Call) -> Result<Fo
     }
 }
 
+/// A number of one octet in a list.
+#[derive(Drop)]
+struct Digit(u8);
+
+impl Model for Digit {
+    ghost use Rattle.std.specs.Prelude.{ℕ};
+
+    ghost Value = { ℕ };
+
+    ghost view = { λ s. s.0 };
+}
+
+impl ListItem for Digit {
+    ghost use Rattle.rpki_der.specs.Tags.{INTEGER};
+    ghost use Rattle.rpki_der.specs.Read.Parse.{u8_at, unsigned_of};
+    ghost use Rattle.rpki_der.proofs.Reading.Many.{primitive-shorter};
+
+    ghost tag = { INTEGER };
+
+    ghost at = { u8_at };
+
+    ghost shorter = { primitive-shorter INTEGER (unsigned_of 1) };
+
+    fn take_opt_from(
+        cons: &mut Constructed<'_>,
+        _alloc: Global,
+    ) -> Result<Option<Digit>, DecodeError> {
+        match cons.take_opt_u8()? {
+            Some(n) => Ok(Some(Digit(n))),
+            None => Ok(None),
+        }
+    }
+}
+
+/// Takes a list, and answers its numbers as octets.
+fn take_list(cons: &mut Constructed<'_>, alloc: Global) -> Result<Found, DecodeError> {
+    let numbers: Vec<Digit> = cons.take_items(alloc)?;
+    let mut octets = Vec::new(alloc);
+    for number in &numbers {
+        octets.push(number.0)?;
+    }
+    Ok(Found::Octets(Bytes::copy_from_slice(alloc, &octets)?))
+}
+
 fn take(cons: &mut Constructed<'_>, alloc: Global, call: Call) -> Result<Found, DecodeError> {
     match call {
         Call::U8 | Call::U32 | Call::OptU8 | Call::OptU32 => take_number(cons, call),
@@ -205,6 +251,7 @@ fn take(cons: &mut Constructed<'_>, alloc: Global, call: Call) -> Result<Found, 
         Call::Sequence | Call::OptSequence | Call::Set => take_parts(cons, call),
         Call::Tagged | Call::OptTagged | Call::SkipOne => take_parts(cons, call),
         Call::SkipAll | Call::Capture => take_parts(cons, call),
+        Call::Items => take_list(cons, alloc),
         _ => take_more(cons, alloc, call),
     }
 }
@@ -492,7 +539,7 @@ pub static WRONG: [Row; 41] = [
 ];
 
 /// Other answers, in both modes: another value, none, octets after the value, and too few.
-static OTHERS: [Row; 28] = [
+static OTHERS: [Row; 33] = [
     (Call::OptU8, &[4, 0], Want::Absent),
     (Call::OptU8, &[], Want::Absent),
     (Call::OptU32, &[4, 0], Want::Absent),
@@ -525,6 +572,11 @@ static OTHERS: [Row; 28] = [
     (Call::AtEnd, &[], Want::Truth(true)),
     (Call::AtEnd, &[5, 0], Want::Truth(false)),
     (Call::Primitive, &[0x81, 0], Want::Refused),
+    (Call::Items, &[2, 1, 5, 2, 1, 6], Want::Octets(&[5, 6])),
+    (Call::Items, &[], Want::Octets(&[])),
+    (Call::Items, &[2, 1, 5, 5, 0], Want::Octets(&[5])),
+    (Call::Items, &[2, 1, 5, 2, 0], Want::Refused),
+    (Call::Name, &[6, 0], Want::Refused),
 ];
 
 /// The number of the first row that is answered otherwise than it should be.
@@ -585,6 +637,23 @@ fn are_all(alloc: Global, octets: &[u8]) -> Result<bool, AllocError> {
     }
 }
 
+/// Marks a reader as failed by a rule of its own, then by another one, and goes on as if it had not.
+fn mark(cons: &mut Constructed<'_>) -> Result<(), DecodeError> {
+    let _ = cons.fail(DecodeError::Content(ContentFault::Text(Reason::BadTime)));
+    let _ = cons.fail(DecodeError::Malformed);
+    Ok(())
+}
+
+/// Whether a marked reader refuses by its first error, though that was swallowed.
+fn is_marked(alloc: Global) -> Result<bool, AllocError> {
+    let source = Bytes::copy_from_slice(alloc, &[])?;
+    match Constructed::decode(source, Mode::Der, mark) {
+        Err(DecodeError::Content(ContentFault::Text(reason))) => Ok(reason == Reason::BadTime),
+        Err(DecodeError::Memory) => Err(AllocError),
+        _ => Ok(false),
+    }
+}
+
 #[test]
 fn rows(rt: HostRuntime) -> Result<(), AllocError> {
     let alloc = rt.alloc();
@@ -594,6 +663,7 @@ fn rows(rt: HostRuntime) -> Result<(), AllocError> {
     assert!(rt; wrong_row(alloc, Mode::Ber, &RELAXED)?.is_none());
     assert!(rt; are_refused(alloc, &RELAXED)?);
     assert!(rt; are_all(alloc, &[5, 0])? && !are_all(alloc, &[5, 0, 5])?);
+    assert!(rt; is_marked(alloc)?);
     // 32 levels are read, and 33 are refused
     assert!(rt; is_deep(alloc, 31, Want::Octets(b"A"), Want::Done)?);
     assert!(rt; is_deep(alloc, 32, Want::Refused, Want::Refused)?);

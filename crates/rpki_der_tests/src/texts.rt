@@ -1,7 +1,10 @@
 //! Rows of printed texts.
 
 use bytes::Bytes;
-use rpki_der::{ContentFault, DecodeError, InvalidSignedAttr, LowerHex, Oid, Reason};
+use rpki_der::{
+    ContentFault, DecodeError, EncodeError, InvalidSignedAttr, LowerHex, Oid, Reason, SinkFailed,
+    SourceError, SourceFailed,
+};
 use std::alloc::{AllocError, Global};
 
 /// The contents of an OBJECT IDENTIFIER, and its text.
@@ -45,6 +48,29 @@ fn is_told(alloc: Global, error: DecodeError, want: &str) -> Result<bool, AllocE
     Ok(format!(in alloc; "{error}")?.as_str() == want)
 }
 
+/// Why a value was not written, and its text.
+static UNWRITTEN: [(EncodeError, &str); 4] = [
+    (EncodeError::NotDer, "not in DER"),
+    (EncodeError::TooLong, "too long"),
+    (EncodeError::Io, "write failed"),
+    (EncodeError::Memory, "out of memory"),
+];
+
+/// Whether the errors of writing and of streams are told with their texts.
+fn are_errors_told(alloc: Global) -> Result<bool, AllocError> {
+    for (error, want) in &UNWRITTEN {
+        if format!(in alloc; "{error}")?.as_str() != *want {
+            return Ok(false);
+        }
+    }
+    let (io, memory) = (SourceError::Io, SourceError::Memory);
+    let (sink, source) = (SinkFailed, SourceFailed);
+    Ok(
+        format!(in alloc; "{io}, {memory}")?.as_str() == "read failed, out of memory"
+            && format!(in alloc; "{sink}, {source}")?.as_str() == "write failed, read failed",
+    )
+}
+
 /// Whether a fault that holds an identifier is told with its text, and gives it back.
 fn is_attribute_told(alloc: Global) -> Result<bool, AllocError> {
     match Oid::from_bytes(Bytes::copy_from_slice(alloc, &[0x2A, 0x03])?) {
@@ -67,13 +93,27 @@ fn texts(rt: HostRuntime) -> Result<(), AllocError> {
     let fault = ContentFault::Text(Reason::NoProviders);
     assert!(rt; is_told(alloc, DecodeError::Content(fault), "no providers")?);
     assert!(rt; is_attribute_told(alloc)?);
+    assert!(rt; are_errors_told(alloc)?);
     let hex = LowerHex(&[0x00, 0x9A, 0xFF]);
     assert!(rt; format!(in alloc; "{hex}")?.as_str() == "009aff");
     Ok(())
 }
 
-/// What is not allowed, and its text.
-static REASONS: [(Reason, &str); 6] = [
+/// Every reason for which a content is not allowed, and its text.
+static REASONS: [(Reason, &str); 45] = [
+    (Reason::WrongVersion, "wrong version"),
+    (Reason::UnknownAlgorithm, "unknown algorithm"),
+    (Reason::BadTime, "time not in its form"),
+    (Reason::NoSuchTime, "no such date or time of day"),
+    (Reason::SerialTooLarge, "serial number too large"),
+    (Reason::BadUri, "bad URI"),
+    (Reason::LowerEndAboveUpperEnd, "lower end above upper end"),
+    (Reason::AddressTooLong, "address too long"),
+    (Reason::UnknownFamily, "unknown address family"),
+    (Reason::FamilyTwice, "address family more than once"),
+    (Reason::RoutingDomains, "routing domain identifiers"),
+    (Reason::PrefixTooLong, "prefix too long"),
+    (Reason::MaxLengthOutOfRange, "max length out of range"),
     (Reason::CustomerAs0, "customer is AS0"),
     (Reason::NoProviders, "no providers"),
     (Reason::TooManyProviders { most: 7 }, "too many providers"),
@@ -86,11 +126,59 @@ static REASONS: [(Reason, &str); 6] = [
         "customer among its providers",
     ),
     (Reason::As0BesideOthers, "AS0 beside other providers"),
+    (Reason::UpdatesNotInOrder, "this update after next update"),
+    (Reason::BadManifestName, "bad file name in a manifest"),
+    (Reason::FileTypeNotRegistered, "file type not registered"),
+    (Reason::FileNameTwice, "file name more than once"),
+    (Reason::NoResources, "no resources"),
+    (Reason::BadChecklistName, "bad file name in a checklist"),
+    (Reason::AttributeTwice, "signed attribute more than once"),
+    (Reason::NoContentType, "no content type"),
+    (Reason::NoMessageDigest, "no message digest"),
+    (Reason::NoSigningTime, "no signing time"),
+    (Reason::AttributesTooLong, "signed attributes too long"),
+    (Reason::WrongContentType, "wrong content type"),
+    (Reason::ExtensionTwice, "extension more than once"),
+    (
+        Reason::UnknownCriticalExtension,
+        "unknown critical extension",
+    ),
+    (Reason::NoSubjectKeyIdentifier, "no subject key identifier"),
+    (
+        Reason::NoAuthorityKeyIdentifier,
+        "no authority key identifier",
+    ),
+    (Reason::NoKeyUsage, "no key usage"),
+    (
+        Reason::WrongKeyUsage,
+        "key usage of neither a CA nor an end entity",
+    ),
+    (Reason::NoPurposes, "extended key usage without purposes"),
+    (Reason::NoPolicy, "no certificate policy"),
+    (Reason::UnknownPolicy, "unknown certificate policy"),
+    (
+        Reason::ResourcesOfOtherPolicy,
+        "resources in the form of another policy",
+    ),
+    (Reason::NoRsyncUri, "no rsync URI"),
+    (Reason::NoCrlNumber, "no CRL number"),
+    (Reason::UnusedBitsInKey, "unused bits in a key"),
+    (Reason::UnusedBitsInSignature, "unused bits in a signature"),
 ];
+
+/// Whether the text of this row is that of its reason, and no other row has it.
+fn is_own(i: usize, reason: Reason, want: &str) -> bool {
+    for (k, (_, other)) in REASONS.iter().enumerate() {
+        if k != i && *other == want {
+            return false;
+        }
+    }
+    reason.text() == want
+}
 
 #[test]
 fn reasons(rt: HostRuntime) {
-    for (reason, want) in &REASONS {
-        assert!(rt; reason.text() == *want);
+    for (i, (reason, want)) in REASONS.iter().enumerate() {
+        assert!(rt; is_own(i, *reason, want));
     }
 }

@@ -195,12 +195,28 @@ fn again(alloc: Global, mode: Mode) -> Result<Result<Vec<u8>, EncodeError>, Allo
     }
 }
 
+/// Whether the copy of a capture gives its octets back.
+fn is_given_back(alloc: Global) -> Result<bool, AllocError> {
+    match answer(alloc, Mode::Ber, Call::Capture, &[5, 0]) {
+        Ok(Found::Kept(kept, _)) => {
+            let copy = kept.clone()?;
+            Ok(copy.into_bytes().as_slice() == [5u8, 0].as_slice())
+        }
+        Err(DecodeError::Memory) => Err(AllocError),
+        _ => Ok(false),
+    }
+}
+
 fn are_captured(alloc: Global) -> Result<bool, AllocError> {
     let is_not_der = match again(alloc, Mode::Ber)? {
         Err(EncodeError::NotDer) => true,
         _ => false,
     };
-    Ok(is_not_der && are_octets(again(alloc, Mode::Der)?, &[0x30, 2, 5, 0])?)
+    Ok(
+        is_not_der
+            && is_given_back(alloc)?
+            && are_octets(again(alloc, Mode::Der)?, &[0x30, 2, 5, 0])?,
+    )
 }
 
 #[test]

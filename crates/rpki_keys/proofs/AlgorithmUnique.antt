@@ -14,10 +14,10 @@ use Rattle.rpki_keys.specs.Algorithm.{AlgorithmForm, algorithm_alone, algorithm_
 use Rattle.rpki_keys.specs.Algorithm.{rsa_encryption}
 use Rattle.rpki_keys.specs.KeyForm.{KeyForm, key_octets, key_octets_alone}
 
-inside : (o : List ℕ) (tag : ℕ) (c : List ℕ) → IsBytes o → Value Der o tag c → IsBytes c
+pub inside : (o : List ℕ) (tag : ℕ) (c : List ℕ) → IsBytes o → Value Der o tag c → IsBytes c
 inside o tag c bytes v = IsBytes-contents Der o o [] tag c (sym (append-nil o)) v bytes
 
-oid-one : (o oid : List ℕ) → IsBytes o → ObjectIdentifier Der o oid
+pub oid-one : (o oid : List ℕ) → IsBytes o → ObjectIdentifier Der o oid
     → o ≡ value_octets OBJECT_IDENTIFIER oid
 oid-one o oid bytes h = value-unique o OBJECT_IDENTIFIER h.0 bytes h.1
     ∙ ap (value_octets OBJECT_IDENTIFIER) h.2.0

@@ -1,17 +1,27 @@
 -- Names are read exactly.
 use Rattle.rpki_der.specs.Tags.{SEQUENCE}
-use Rattle.std.proofs.Common.{◌≡◌, ℕ, List, [], ◌++◌, Some, sym, ap, subst, ◌∙◌}
+use Rattle.std.proofs.Common.{◌≡◌, ℕ, List, [], ◌++◌, Some, refl, sym, ap, subst}
+use Rattle.std.proofs.Common.{◌∙◌}
 use Rattle.std.proofs.lemmas.List.{append-nil}
 use Rattle.rpki_der.specs.declared.mode.Mode.{Mode}
 use Rattle.rpki_der.specs.Read.Parse.{in_value, skip_all_at, taken, there, all_of, skip_at}
 use Rattle.rpki_der.specs.Read.Exact.{IsExact, IsReading, anything}
-use Rattle.rpki_der.specs.Grammar.{Skipped, ListOf}
+use Rattle.rpki_der.specs.Grammar.{Skipped, ListOf, IsBytes}
 use Rattle.rpki_der.proofs.Reading.Lengths.{bind_some, some_is}
 use Rattle.rpki_der.proofs.Reading.Exact.{the_end, exact-in}
 use Rattle.rpki_der.proofs.Reading.Skips.{skip-all-sound, skip-all-complete}
 use Rattle.rpki_der.proofs.Reading.Unique.{before, reading, within-ber, items-as, skipped-ber}
 use Rattle.rpki_der.specs.declared.mode.Mode.TheVariants.{Der, Ber}
-use Rattle.rpki_keys.specs.NameForm.{NameForm, name_at}
+use Rattle.rpki_der.specs.Form.Law.{nothing, is, IsPart}
+use Rattle.rpki_der.proofs.Form.Fields.{starts-value}
+use Rattle.rpki_der.proofs.Form.Words.{part}
+use Rattle.std.specs.Prelude.{Result, Ok, IfOk}
+use Rattle.rpki_der.specs.declared.error.DecodeError.{DecodeError}
+use Rattle.rpki_der.specs.Captured.{Kept}
+use Rattle.rpki_der.specs.Read.State.{State}
+use Rattle.rpki_der.specs.Read.Reads.{Reads}
+use Rattle.rpki_der.proofs.Reading.Calls.{reads-ok}
+use Rattle.rpki_keys.specs.NameForm.{IsName, NameForm, name_at}
 
 -- what is skipped up to the end
 exact-skip_all : (mode : Mode)
@@ -64,3 +74,30 @@ name-ber o kept h = (
 pub name-reading : IsReading name_at NameForm
 name-reading = reading name_at NameForm exact-name name-ber
     (λ mode o kept h. (SEQUENCE, h.1.0, h.1.1))
+
+pub name-part : IsPart (is SEQUENCE) nothing name_at NameForm
+name-part = part (is SEQUENCE) name-reading (λ mode o kept h. starts-value mode SEQUENCE o h.1.0 h.1.1)
+
+-- what was read is a name
+pub is-name : (mode : Mode) (b kept rest : List ℕ) → IsBytes b → name_at mode b ≡ Some (kept, rest)
+    → IsName mode kept
+is-name mode b kept rest bytes e =
+    let f = (exact-name mode).sound b kept rest bytes e in
+    subst (IsName mode) (sym f.2.0) f.2.1
+
+-- what is a name in DER is read in both modes
+pub name-read : (mode : Mode) (octets rest : List ℕ) → IsName Der octets
+    → name_at mode (octets ++ rest) ≡ Some (octets, rest)
+name-read Der octets rest h = (exact-name Der).complete octets octets rest tt (refl, h)
+name-read Ber octets rest h =
+    (exact-name Ber).complete octets octets rest tt (name-ber octets octets (refl, h))
+
+-- what was captured is a name
+pub name-of : (old : State) (result : Result Kept DecodeError) (n : Kept) (new : State)
+    → IsBytes old.rest → Reads (λ n. n.octets) name_at old result new
+    → IfOk result (λ n. n.mode ≡ old.mode) → result ≡ Ok n → IsName n.mode n.octets
+name-of old result n new bytes reads mode is =
+    let r = reads-ok (λ (k : Kept). k.octets) name_at old n new (rw is at reads) in
+    let m : n.mode ≡ old.mode = rw is at mode in
+    subst (λ m. IsName m n.octets) (sym m)
+    (is-name old.mode old.rest n.octets new.rest bytes r.found)

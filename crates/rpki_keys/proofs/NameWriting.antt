@@ -1,14 +1,17 @@
 -- The name of a key, octet by octet.
 use Rattle.rpki_der.specs.Tags.{OBJECT_IDENTIFIER, PRINTABLE_STRING, SEQUENCE, SET}
 use Rattle.std.proofs.Common.{◌≡◌, ℕ, ◌+◌, ◌<◌, List, [], ◌∷◌, ◌++◌, length, refl, sym, ap, ◌∙◌}
-use Rattle.std.proofs.Common.{arith, length-append}
+use Rattle.std.proofs.Common.{arith, length-append, true, suc}
+use Rattle.std.specs.Prelude.{◌^◌}
+use Rattle.rpki_der.specs.Identifier.{IsTag, is_constructed}
+use Rattle.rpki_der.specs.Grammar.{Skipped, ListOf}
 use Rattle.std.proofs.lemmas.List.{append-nil}
 use Rattle.rpki_der.specs.declared.mode.Mode.TheVariants.{Der}
 use Rattle.rpki_der.specs.Write.Written.{value_octets, length_octets, length_value_octets_le}
 use Rattle.rpki_der.proofs.Reading.Scan.{tag-sound}
 use Rattle.rpki_der.proofs.Writing.Lengths.{value-written}
 use Rattle.rpki_keys.specs.Hex.{upper_hex}
-use Rattle.rpki_keys.specs.NameForm.{common_name, KeyNameForm, key_name_octets}
+use Rattle.rpki_keys.specs.NameForm.{IsName, common_name, KeyNameForm, key_name_octets}
 use Rattle.rpki_keys.proofs.AlgorithmWriting.{oid-written}
 
 pub length-hex : (octets : List ℕ) → length (upper_hex octets) ≡ length octets + length octets
@@ -123,4 +126,51 @@ key-name-written id e =
         ),
         refl,
       ),
+    )
+
+-- ---- the same as a name that is skipped
+
+one : (G : List ℕ → Type 0) (o : List ℕ) → G o → ListOf G o
+one G o g = (tt ∷ [], (o, [], sym (append-nil o), g, refl))
+
+two : (G : List ℕ → Type 0) (a b : List ℕ) → G a → G b → ListOf G (a ++ b)
+two G a b g h = (tt ∷ tt ∷ [], (a, b, refl, g, (b, [], sym (append-nil b), h, refl)))
+
+skipped : (depth tag : ℕ) (c : List ℕ) → IsTag tag → length c < 2 ^ 32
+    → (is_constructed tag ≡ true → ListOf (Skipped Der depth) c)
+    → Skipped Der (suc depth) (value_octets tag c)
+unfolding Skipped
+skipped depth tag c t l h = (tag, c, value-written tag c t l, h)
+
+pub key-name-skipped : (id : List ℕ) → length id ≡ 20 → IsName Der (key_name_octets id)
+key-name-skipped id e =
+    let l : length (upper_hex id) ≡ 40 = omega (arith, e, length-hex id) in
+    let a : List ℕ = value_octets OBJECT_IDENTIFIER common_name in
+    let b : List ℕ = value_octets PRINTABLE_STRING (upper_hex id) in
+    let c3 : List ℕ = value_octets OBJECT_IDENTIFIER common_name
+    ++ value_octets PRINTABLE_STRING (upper_hex id) in
+    let c2 : List ℕ = value_octets SEQUENCE c3 in
+    let c1 : List ℕ = value_octets SET c2 in
+    let la : length (value_octets OBJECT_IDENTIFIER common_name) < 20 =
+    omega (arith, length_value_octets_le OBJECT_IDENTIFIER common_name) in
+    let lb : length (value_octets PRINTABLE_STRING (upper_hex id)) < 50 =
+    omega (arith, l, length_value_octets_le PRINTABLE_STRING (upper_hex id)) in
+    let l3 : length c3 < 80 = omega (arith, la, lb, length-append a b) in
+    let l2 : length c2 < 100 = omega (arith, l3, length_value_octets_le SEQUENCE c3) in
+    let l1 : length c1 < 120 = omega (arith, l2, length_value_octets_le SET c2) in
+    let sa : Skipped Der 30 a =
+    skipped 29 OBJECT_IDENTIFIER common_name (tag-sound OBJECT_IDENTIFIER refl) (omega arith)
+    (λ q. absurd cc) in
+    let sb : Skipped Der 30 b =
+    skipped 29 PRINTABLE_STRING (upper_hex id) (tag-sound PRINTABLE_STRING refl) (omega (arith, l))
+    (λ q. absurd cc) in
+    let s2 : Skipped Der 31 c2 =
+    skipped 30 SEQUENCE c3 (tag-sound SEQUENCE refl) (omega (arith, l3))
+    (λ _. two (Skipped Der 30) a b sa sb) in
+    let s1 : Skipped Der 32 c1 =
+    skipped 31 SET c2 (tag-sound SET refl) (omega (arith, l2))
+    (λ _. one (Skipped Der 31) c2 s2) in (
+      c1,
+      value-written SEQUENCE c1 (tag-sound SEQUENCE refl) (omega (arith, l1)),
+      one (Skipped Der 32) c1 s1,
     )

@@ -1,8 +1,8 @@
 -- The octets of a key.
-use Rattle.std.specs.Prelude.{ℕ, List, [], ◌∷◌, ◌++◌, Option, None, Some, ◌==◌, if◌then◌else◌}
+use Rattle.std.specs.Prelude.{ℕ, List, [], ◌∷◌, ◌++◌, Some}
 use Rattle.rpki_der.specs.declared.mode.Mode.{Mode}
-use Rattle.rpki_der.specs.Grammar.{BitString}
-use Rattle.rpki_der.specs.Read.Parse.{Parser, ◌>>=◌, bits_at}
+use Rattle.rpki_der.specs.Grammar.{OctetsInBits}
+use Rattle.rpki_der.specs.Read.Parse.{Parser, ◌>>=◌, octets_in_bits_at}
 use Rattle.rpki_der.specs.Write.Written.{value_octets, bit_string_contents}
 use Rattle.rpki_der.specs.Tags.{SEQUENCE, BIT_STRING}
 use Rattle.rpki_der.specs.Form.Parts.{Sequence, sequence_at}
@@ -11,22 +11,20 @@ use Rattle.rpki_keys.specs.Algorithm.{AlgorithmForm, rsa_encryption, named, algo
 use Rattle.rpki_keys.specs.Algorithm.{algorithm_alone, algorithm_and_null}
 
 -- SubjectPublicKeyInfo ::= SEQUENCE { rsaEncryption, BIT STRING } without unused bits (RFC 5280,
--- section 4.1.2.7; RFC 7935, section 3). What its bits mean is left to cryptography.
+-- section 4.1.2.7; RFC 7935, section 3). Two rules are this project's own: the NULL after
+-- rsaEncryption may be missing, against RFC 3279, section 2.3.1, and any bits pass, where RFC 7935
+-- asks for an RSAPublicKey of 2048 bits with the exponent 65537, which is left to cryptography.
 abbrev pub KeyForm : Mode → List ℕ → List ℕ → Type 0
 KeyForm mode octets bits = Sequence mode (
     (λ o. AlgorithmForm mode o rsa_encryption)
-    ∷ (λ o. BitString mode o (bits, 0))
+    ∷ (λ o. OctetsInBits mode o bits)
     ∷ []) octets
-
--- The octets of a BIT STRING without unused bits.
-abbrev pub whole_bits : List ℕ × ℕ → Option (List ℕ)
-whole_bits bits = if bits.1 == 0 then Some bits.0 else None
 
 -- The algorithm and the bits.
 unfoldable pub key_fields_at : Parser (List ℕ)
 key_fields_at mode bytes = do
   algorithm ← partly (named rsa_encryption) algorithm_at mode bytes
-  bits ← partly whole_bits bits_at mode algorithm.1
+  bits ← octets_in_bits_at mode algorithm.1
   Some (bits.0, bits.1)
 
 -- The bits of a key.

@@ -2,17 +2,21 @@
 use Rattle.std.specs.Prelude.{◌≡◌, ℕ, List, [], ◌∷◌, ◌++◌}
 use Rattle.rpki_der.specs.declared.mode.Mode.{Mode}
 use Rattle.rpki_der.specs.Grammar.{Value, Within, Skipped, ListOf, ObjectIdentifier}
+use Rattle.rpki_der.specs.Numbers.{MAX_DEPTH}
 use Rattle.rpki_der.specs.Read.Parse.{Parser, skip_all_at, captured}
 use Rattle.rpki_der.specs.Write.Written.{value_octets}
 use Rattle.rpki_der.specs.Tags.{SEQUENCE, SET, OBJECT_IDENTIFIER, PRINTABLE_STRING}
 use Rattle.rpki_der.specs.Form.Parts.{Sequence, Set, sequence_at}
 use Rattle.rpki_keys.specs.Hex.{upper_hex}
 
--- Name: a SEQUENCE of values that are skipped, whose octets are kept (RFC 5280, section 4.1.2.4).
--- That it may have any contents is this project's profile.
+-- A Name: a SEQUENCE of values that are skipped (RFC 5280, section 4.1.2.4). That it may have any
+-- contents is this project's own rule.
+abbrev pub IsName : Mode → List ℕ → Type 0
+IsName mode octets = Within mode SEQUENCE (ListOf (Skipped mode MAX_DEPTH)) octets
+
+-- A Name whose octets are kept.
 abbrev pub NameForm : Mode → List ℕ → List ℕ → Type 0
-NameForm mode octets kept =
-    (kept ≡ octets) × Within mode SEQUENCE (ListOf (Skipped mode 32)) octets
+NameForm mode octets kept = (kept ≡ octets) × IsName mode octets
 
 -- The octets of a name.
 abbrev pub name_at : Parser (List ℕ)
@@ -23,7 +27,8 @@ abbrev pub common_name : List ℕ
 common_name = 0x55 ∷ 0x04 ∷ 0x03 ∷ []
 
 -- The name of the key with this identifier: SEQUENCE { SET { SEQUENCE { commonName,
--- PrintableString } } } of the upper hexadecimal digits of the identifier (RFC 6487, section 4.5).
+-- PrintableString } } } of the upper hexadecimal digits of the identifier. RFC 6487, section 4.5,
+-- asks for a name that no other key has; that it is of these digits is this project's own rule.
 abbrev pub KeyNameForm : Mode → List ℕ → List ℕ → Type 0
 KeyNameForm mode octets identifier = Sequence mode (
     Set mode (

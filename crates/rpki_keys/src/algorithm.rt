@@ -1,9 +1,9 @@
 //! Identifiers of algorithms (RFC 5280, section 4.1.1.2; RFC 7935, section 2).
 
-ghost use Rattle.std.specs.Prelude.{◌≡◌, ℕ, List, IfOk, None};
+ghost use Rattle.std.specs.Prelude.{◌≡◌};
 ghost use Rattle.rpki_der.specs.declared.mode.Mode.TheVariants.{Der};
-ghost use Rattle.rpki_der.specs.Read.Reads.{Reads, OkOrMemory};
-ghost use Rattle.rpki_der.specs.Grammar.{Front, IsBytes};
+ghost use Rattle.rpki_der.specs.Read.Reads.{Reads, Stays};
+ghost use Rattle.rpki_der.specs.Form.Decodes.{DecodesNext};
 ghost use Rattle.rpki_der.specs.Form.Made.{partly};
 ghost use Rattle.rpki_keys.specs.Algorithm.{algorithm_fields_at, algorithm_at, named, either_named};
 ghost use Rattle.rpki_keys.specs.Algorithm.{DigestAlgorithmForm, CmsAlgorithmForm};
@@ -15,7 +15,7 @@ ghost use Rattle.rpki_keys.specs.declared.algorithm.DigestAlgorithm.TheVariants.
 ghost use Rattle.rpki_keys.specs.declared.algorithm.RpkiSignatureAlgorithm.TheVariants.{RsaSha256};
 
 use rpki_der::encode::Raw;
-use rpki_der::{Constructed, DecodeError, Oid};
+use rpki_der::{Constructed, DecodeError, Oid, Reason};
 
 // SHA-256 (RFC 5754, section 2.2).
 const SHA_256: [u8; 9] = [0x60, 0x86, 0x48, 0x01, 0x65, 0x03, 0x04, 0x02, 0x01];
@@ -38,39 +38,43 @@ fn take_fields(cons: &mut Constructed<'_>) -> Result<Oid, DecodeError>
 
 // Reads an algorithm.
 fn take_algorithm(cons: &mut Constructed<'_>) -> Result<Oid, DecodeError>
-    ensures { Reads (λ oid. oid) algorithm_at cons.old result cons.new }
+    ensures reads { Reads (λ oid. oid) algorithm_at cons.old result cons.new }
+    ensures stays { Stays result cons.new }
 {
     cons.take_sequence(take_fields)
 }
 
 // Reads the algorithm with this identifier.
 pub fn skip_algorithm(cons: &mut Constructed<'_>, oid: &[u8]) -> Result<(), DecodeError>
-    ensures { Reads (λ u. u) (partly (named oid.now) algorithm_at) cons.old result cons.new }
+    ensures reads { Reads (λ u. u) (partly (named oid.now) algorithm_at) cons.old result cons.new }
+    ensures stays { Stays result cons.new }
 {
     let read = take_algorithm(cons)?;
     if read.as_slice() == oid {
         Ok(())
     } else {
-        Err(DecodeError::Malformed)
+        Err(cons.refuse_for(Reason::UnknownAlgorithm))
     }
 }
 
 // Reads an algorithm with one of these identifiers.
 fn skip_either(cons: &mut Constructed<'_>, first: &[u8], second: &[u8]) -> Result<(), DecodeError>
-    ensures { Reads (λ u. u) (partly (either_named first.now second.now) algorithm_at)
+    ensures reads { Reads (λ u. u) (partly (either_named first.now second.now) algorithm_at)
         cons.old result cons.new }
+    ensures stays { Stays result cons.new }
 {
     let read = take_algorithm(cons)?;
     if read.as_slice() == first || read.as_slice() == second {
         Ok(())
     } else {
-        Err(DecodeError::Malformed)
+        Err(cons.refuse_for(Reason::UnknownAlgorithm))
     }
 }
 
 // Reads the algorithm of digests.
 fn take_digest(cons: &mut Constructed<'_>) -> Result<DigestAlgorithm, DecodeError>
-    ensures { Reads (λ _. tt) digest_algorithm_at cons.old result cons.new }
+    ensures reads { Reads (λ _. tt) digest_algorithm_at cons.old result cons.new }
+    ensures stays { Stays result cons.new }
 {
     skip_algorithm(cons, &SHA_256)?;
     Ok(DigestAlgorithm::Sha256)
@@ -78,7 +82,8 @@ fn take_digest(cons: &mut Constructed<'_>) -> Result<DigestAlgorithm, DecodeErro
 
 // Reads the algorithm of a signature of signed objects.
 fn take_cms(cons: &mut Constructed<'_>) -> Result<RpkiSignatureAlgorithm, DecodeError>
-    ensures { Reads (λ _. tt) cms_algorithm_at cons.old result cons.new }
+    ensures reads { Reads (λ _. tt) cms_algorithm_at cons.old result cons.new }
+    ensures stays { Stays result cons.new }
 {
     skip_either(cons, &RSA_ENCRYPTION, &SHA256_WITH_RSA)?;
     Ok(RpkiSignatureAlgorithm::RsaSha256)
@@ -86,7 +91,8 @@ fn take_cms(cons: &mut Constructed<'_>) -> Result<RpkiSignatureAlgorithm, Decode
 
 // Reads the algorithm of a signature of certificates.
 fn take_cert(cons: &mut Constructed<'_>) -> Result<RpkiSignatureAlgorithm, DecodeError>
-    ensures { Reads (λ _. tt) cert_algorithm_at cons.old result cons.new }
+    ensures reads { Reads (λ _. tt) cert_algorithm_at cons.old result cons.new }
+    ensures stays { Stays result cons.new }
 {
     skip_algorithm(cons, &SHA256_WITH_RSA)?;
     Ok(RpkiSignatureAlgorithm::RsaSha256)
@@ -111,15 +117,14 @@ impl DigestAlgorithm {
     }
 
     /// Reads the algorithm of digests: SEQUENCE { SHA-256, NULL? } (RFC 5754, section 2), in DER
-    /// and in BER alike. All else is refused; `Memory` may come too.
+    /// and in BER alike. Another algorithm is refused by `UnknownAlgorithm`, all else by
+    /// `Malformed`; `Memory` may come too.
     pub fn take_from(cons: &mut Constructed<'_>) -> Result<DigestAlgorithm, DecodeError>
         ensures reads { Reads (λ _. tt) digest_algorithm_at cons.old result cons.new }
-        ensures found { IfOk result (λ _. IsBytes cons.old.rest →
-            Front (DigestAlgorithmForm cons.old.mode) cons.old.rest tt cons.new.rest) }
-        ensures accepted { cons.old.failed ≡ None → (rest : List ℕ) →
-            Front (DigestAlgorithmForm cons.old.mode) cons.old.rest tt rest →
-            OkOrMemory result (λ _. cons.new.rest ≡ rest) }
+        ensures decodes { DecodesNext DigestAlgorithmForm (λ _. tt) cons.old result cons.new }
+        ensures stays { Stays result cons.new }
     {
+        cons.holds_octets();
         take_digest(cons)
     }
 
@@ -144,30 +149,26 @@ pub enum RpkiSignatureAlgorithm {
 
 impl RpkiSignatureAlgorithm {
     /// Reads the algorithm of a signature of signed objects: SEQUENCE { rsaEncryption or
-    /// sha256WithRSAEncryption, NULL? } (RFC 7935, section 2), in DER and in BER alike. All else is
-    /// refused; `Memory` may come too.
+    /// sha256WithRSAEncryption, NULL? } (RFC 7935, section 2), in DER and in BER alike. Another
+    /// algorithm is refused by `UnknownAlgorithm`, all else by `Malformed`; `Memory` may come too.
     pub fn take_cms_from(cons: &mut Constructed<'_>) -> Result<RpkiSignatureAlgorithm, DecodeError>
         ensures reads { Reads (λ _. tt) cms_algorithm_at cons.old result cons.new }
-        ensures found { IfOk result (λ _. IsBytes cons.old.rest →
-            Front (CmsAlgorithmForm cons.old.mode) cons.old.rest tt cons.new.rest) }
-        ensures accepted { cons.old.failed ≡ None → (rest : List ℕ) →
-            Front (CmsAlgorithmForm cons.old.mode) cons.old.rest tt rest →
-            OkOrMemory result (λ _. cons.new.rest ≡ rest) }
+        ensures decodes { DecodesNext CmsAlgorithmForm (λ _. tt) cons.old result cons.new }
+        ensures stays { Stays result cons.new }
     {
+        cons.holds_octets();
         take_cms(cons)
     }
 
     /// Reads the algorithm of a signature of certificates and revocation lists: SEQUENCE {
-    /// sha256WithRSAEncryption, NULL? } (RFC 7935, section 2), in DER and in BER alike. All else is
-    /// refused; `Memory` may come too.
+    /// sha256WithRSAEncryption, NULL? } (RFC 7935, section 2), in DER and in BER alike. Another
+    /// algorithm is refused by `UnknownAlgorithm`, all else by `Malformed`; `Memory` may come too.
     pub fn take_cert_from(cons: &mut Constructed<'_>) -> Result<RpkiSignatureAlgorithm, DecodeError>
         ensures reads { Reads (λ _. tt) cert_algorithm_at cons.old result cons.new }
-        ensures found { IfOk result (λ _. IsBytes cons.old.rest →
-            Front (CertAlgorithmForm cons.old.mode) cons.old.rest tt cons.new.rest) }
-        ensures accepted { cons.old.failed ≡ None → (rest : List ℕ) →
-            Front (CertAlgorithmForm cons.old.mode) cons.old.rest tt rest →
-            OkOrMemory result (λ _. cons.new.rest ≡ rest) }
+        ensures decodes { DecodesNext CertAlgorithmForm (λ _. tt) cons.old result cons.new }
+        ensures stays { Stays result cons.new }
     {
+        cons.holds_octets();
         take_cert(cons)
     }
 

@@ -1,21 +1,22 @@
 //! Public keys.
 
-ghost use Rattle.std.specs.Prelude.{◌≡◌, nat_eq, ℕ, ◌<◌, ◌^◌, List, length, slice_index, IfOk};
-ghost use Rattle.std.specs.Prelude.{None};
+ghost use Rattle.std.specs.Prelude.{◌≡◌, nat_eq, ◌<◌, ◌^◌, length};
 ghost use Rattle.std.specs.Cmp.{partial_equiv_from_equiv};
 ghost use Rattle.std.specs.Cmp.Lexicographic.{pointwise, nat_list_eq_equiv};
 ghost use Rattle.sha1.specs.Sha1.{sha1};
 ghost use Rattle.rpki_der.specs.declared.mode.Mode.TheVariants.{Der};
 ghost use Rattle.rpki_der.specs.Write.Encode.{IsBytesOf};
-ghost use Rattle.rpki_der.specs.Grammar.{Front, IsBytes};
 ghost use Rattle.rpki_der.specs.Write.Parts.{contents_small};
-ghost use Rattle.rpki_der.specs.Read.Reads.{Reads, Found, OkOrMemory};
+ghost use Rattle.rpki_der.specs.Read.Reads.{Reads, Found, Stays};
+ghost use Rattle.rpki_der.specs.Form.Decodes.{Decodes, DecodesNext};
+ghost use Rattle.rpki_der.specs.Tags.{SEQUENCE};
 ghost use Rattle.rpki_keys.specs.KeyForm.{KeyForm, key_fields_at, key_at, key_contents, key_octets};
 
 use crate::algorithm::{RSA_ENCRYPTION, RpkiSignatureAlgorithm, skip_algorithm};
 use crate::identifier::KeyIdentifier;
 use bytes::Bytes;
-use rpki_der::encode::{Raw, bit_string, sequence};
+use rpki_der::encode::{bit_string, sequence};
+use rpki_der::laws::slices_hold_octets;
 use rpki_der::{Constructed, DecodeError, Encode, EncodeError, Mode, Sink, SinkFailed};
 use std::alloc::{AllocError, Global};
 use std::marker::Model;
@@ -94,54 +95,39 @@ fn take_fields(cons: &mut Constructed<'_>) -> Result<PublicKey, DecodeError>
     ensures { Reads (λ k. k) key_fields_at cons.old result cons.new }
 {
     skip_algorithm(cons, &RSA_ENCRYPTION)?;
-    let bits = cons.take_bits()?;
-    if bits.unused == 0 {
-        Ok(PublicKey::from_bits(bits.octets))
-    } else {
-        Err(DecodeError::Malformed)
-    }
+    let bits = cons.take_octets_in_bits()?;
+    Ok(PublicKey::from_bits(bits))
 }
 
 // Reads a key.
 fn take_key(cons: &mut Constructed<'_>) -> Result<PublicKey, DecodeError>
-    ensures { Reads (λ k. k) key_at cons.old result cons.new }
+    ensures reads { Reads (λ k. k) key_at cons.old result cons.new }
+    ensures stays { Stays result cons.new }
 {
     cons.take_sequence(take_fields)
 }
 
 impl PublicKey {
     /// Reads a key: a SubjectPublicKeyInfo of an RSA key whose bits are whole octets (RFC 5280,
-    /// section 4.1.2.7), in DER and in BER alike. All else is refused; `Memory` may come too.
+    /// section 4.1.2.7), in DER and in BER alike. A key of another algorithm is refused by
+    /// `UnknownAlgorithm`, all else by `Malformed`; `Memory` may come too.
     pub fn take_from(cons: &mut Constructed<'_>) -> Result<PublicKey, DecodeError>
         ensures reads { Reads (λ k. k) key_at cons.old result cons.new }
-        ensures found { IfOk result (λ k. IsBytes cons.old.rest →
-            Front (KeyForm cons.old.mode) cons.old.rest k cons.new.rest) }
-        ensures accepted { cons.old.failed ≡ None → (k : List ℕ) (rest : List ℕ) →
-            Front (KeyForm cons.old.mode) cons.old.rest k rest →
-            OkOrMemory result (λ read. (read ≡ k) × (cons.new.rest ≡ rest)) }
+        ensures decodes { DecodesNext KeyForm (λ k. k) cons.old result cons.new }
+        ensures stays { Stays result cons.new }
     {
+        cons.holds_octets();
         take_key(cons)
     }
 
-    /// Reads the key at the front of octets in DER (RFC 5280, section 4.1.2.7). All else is
-    /// refused;
-    /// `Memory` may come too.
+    /// Reads the key at the front of octets in DER (RFC 5280, section 4.1.2.7), as `take_from`
+    /// does.
     pub fn decode(source: Bytes) -> Result<PublicKey, DecodeError>
-        ensures found { IfOk result (λ k. (rest : List ℕ) × Front (KeyForm Der) source k rest) }
-        ensures accepted { (k : List ℕ) (rest : List ℕ) → Front (KeyForm Der) source k rest →
-            OkOrMemory result (λ read. read ≡ k) }
+        ensures { Decodes (KeyForm Der) (λ k. k) source result }
     {
-        // that each octet is below 256 is known of a slice, and not of `Bytes`
         slices_hold_octets(source.as_slice());
         decode_key(source)
     }
-}
-
-// A slice holds octets.
-fn slices_hold_octets(octets: &[u8])
-    ensures { (i : ℕ) → slice_index octets.now i < 256 }
-{
-    let _ = octets;
 }
 
 // Reads the key at the front of octets in DER.
@@ -156,6 +142,7 @@ fn decode_key(source: Bytes) -> Result<PublicKey, DecodeError>
 pub struct KeyEncoder<'a>(pub &'a PublicKey);
 
 impl Encode for KeyEncoder<'_> {
+    ghost use Rattle.rpki_der.specs.Tags.{SEQUENCE};
     ghost use Rattle.rpki_der.specs.Write.Parts.{contents_small};
     ghost use Rattle.rpki_keys.specs.KeyForm.{key_contents, key_octets};
 
@@ -163,7 +150,7 @@ impl Encode for KeyEncoder<'_> {
 
     ghost is_short = { λ e. length (key_contents e.0.now) < 2 ^ 32 };
 
-    ghost small = { λ e h. contents_small 0x30 (key_contents e.0.now) h };
+    ghost small = { λ e h. contents_small SEQUENCE (key_contents e.0.now) h };
 
     fn encoded_len(&self) -> Result<u64, EncodeError> {
         let algorithm = RpkiSignatureAlgorithm::RsaSha256.encode_cms();
@@ -186,7 +173,7 @@ impl PublicKey {
     }
 
     /// The octets of the key as a SubjectPublicKeyInfo (RFC 7935, section 3.1), or `TooLong` where
-    /// they are 2^32 or more, or `Memory`.
+    /// its contents have 2^32 octets or more, or `Memory`.
     pub fn to_info_bytes(&self, alloc: Global) -> Result<Vec<u8>, EncodeError>
         ensures { IsBytesOf (Unit {0}) (length (key_contents self.now) < 2 ^ 32)
             (key_octets self.now) result }

@@ -5,7 +5,8 @@ ghost use Rattle.rpki_der.specs.declared.mode.Mode.{Mode};
 ghost use Rattle.rpki_der.specs.declared.mode.Mode.TheVariants.{Der};
 ghost use Rattle.rpki_der.specs.Read.Exact.{IsReading};
 ghost use Rattle.rpki_der.specs.Grammar.{IsBytes};
-ghost use Rattle.rpki_keys.specs.NameForm.{NameForm, KeyNameForm, name_at, key_name_octets};
+ghost use Rattle.rpki_keys.specs.NameForm.{IsName, NameForm, KeyNameForm, name_at};
+ghost use Rattle.rpki_keys.specs.NameForm.{key_name_octets};
 ghost use Rattle.rpki_keys.specs.Algorithm.{AlgorithmForm, DigestAlgorithmForm, CmsAlgorithmForm};
 ghost use Rattle.rpki_keys.specs.Algorithm.{CertAlgorithmForm, algorithm_at, digest_algorithm_at};
 ghost use Rattle.rpki_keys.specs.Algorithm.{cms_algorithm_at, cert_algorithm_at, algorithm_alone};
@@ -59,8 +60,23 @@ pub fn names()
     ensures { IsReading name_at NameForm }
 {}
 
-/// The octets of the name of a key are such a name (RFC 6487, section 4.5).
+/// What is a name in DER is read in both modes, whatever follows it: so the octets of a name that
+/// can be written are read again (RFC 5280, section 4.1.2.4).
+pub fn names_are_read_again()
+    ensures { (mode : Mode) (octets rest : List ℕ) → IsName Der octets
+        → name_at mode (octets ++ rest) ≡ Some (octets, rest) }
+{}
+
+/// The octets of the name of a key are a common name of its identifier (RFC 6487, section 4.5), the
+/// only ones in DER, and are a name, which is read again, whatever follows it.
 pub fn key_names_are_written()
-    ensures { (identifier : List ℕ) → length identifier ≡ 20
+    ensures written { (identifier : List ℕ) → length identifier ≡ 20
         → KeyNameForm Der (key_name_octets identifier) identifier }
+    ensures only { (o identifier : List ℕ) → IsBytes o → KeyNameForm Der o identifier
+        → o ≡ key_name_octets identifier }
+    ensures name { (identifier : List ℕ) → length identifier ≡ 20
+        → IsName Der (key_name_octets identifier) }
+    ensures read { (mode : Mode) (identifier rest : List ℕ) → length identifier ≡ 20
+        → name_at mode (key_name_octets identifier ++ rest)
+        ≡ Some (key_name_octets identifier, rest) }
 {}

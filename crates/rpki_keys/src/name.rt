@@ -1,14 +1,14 @@
 //! Names of issuers and subjects.
 
-ghost use Rattle.std.specs.Prelude.{◌≡◌, ℕ, List, IfOk, None};
+ghost use Rattle.std.specs.Prelude.{◌≡◌, IfOk};
 ghost use Rattle.sha1.specs.Sha1.{sha1};
 ghost use Rattle.rpki_der.specs.declared.mode.Mode.TheVariants.{Der};
 ghost use Rattle.rpki_der.specs.Captured.{Kept};
-ghost use Rattle.rpki_der.specs.Grammar.{Front, IsBytes};
 ghost use Rattle.rpki_der.specs.Read.Parse.{skip_all_at};
-ghost use Rattle.rpki_der.specs.Read.Reads.{Reads, OkOrMemory};
+ghost use Rattle.rpki_der.specs.Read.Reads.{Reads, Stays, OnlyMalformed, OnlyMalformedOrMemory};
+ghost use Rattle.rpki_der.specs.Form.Decodes.{DecodesNext};
 ghost use Rattle.rpki_der.specs.Form.Parts.{sequence_at};
-ghost use Rattle.rpki_keys.specs.NameForm.{NameForm, KeyNameForm, name_at, key_name_octets};
+ghost use Rattle.rpki_keys.specs.NameForm.{IsName, NameForm, name_at, key_name_octets};
 
 use crate::hex::push_hex;
 use crate::identifier::KeyIdentifier;
@@ -28,16 +28,20 @@ pub struct Name {
 
 impl Model for Name {
     ghost use Rattle.rpki_der.specs.Captured.{Kept};
+    ghost use Rattle.rpki_keys.specs.NameForm.{IsName};
 
     ghost Value = { Kept };
 
     ghost view = { λ n. record { octets = n.octets; mode = n.mode } };
+
+    ghost invariant = { λ n. IsName n.mode n.octets };
 }
 
 impl Name {
     /// The octets, as they stood in the source.
     pub fn as_slice(&self) -> &[u8]
-        ensures { result.now ≡ self.now.octets }
+        ensures octets { result.now ≡ self.now.octets }
+        ensures form { IsName self.now.mode self.now.octets }
     {
         self.octets.as_slice()
     }
@@ -51,6 +55,7 @@ impl Name {
 
     // The name with these octets.
     fn of(captured: Captured) -> Name
+        requires { IsName captured.mode captured.octets }
         ensures { result ≡ captured }
     {
         let mode = captured.mode();
@@ -75,7 +80,8 @@ impl Clone for Name {
 
 // Skips a name.
 fn skip_name(cons: &mut Constructed<'_>) -> Result<(), DecodeError>
-    ensures { Reads (λ u. u) (sequence_at skip_all_at) cons.old result cons.new }
+    ensures reads { Reads (λ u. u) (sequence_at skip_all_at) cons.old result cons.new }
+    ensures refused { OnlyMalformed cons.old result }
 {
     cons.take_sequence(|cons| cons.skip_all())
 }
@@ -84,6 +90,8 @@ fn skip_name(cons: &mut Constructed<'_>) -> Result<(), DecodeError>
 fn capture_name(cons: &mut Constructed<'_>) -> Result<Captured, DecodeError>
     ensures reads { Reads (λ n. n.octets) name_at cons.old result cons.new }
     ensures mode { IfOk result (λ n. n.mode ≡ cons.old.mode) }
+    ensures stays { Stays result cons.new }
+    ensures refused { OnlyMalformedOrMemory cons.old result }
 {
     cons.capture(skip_name)
 }
@@ -92,7 +100,10 @@ fn capture_name(cons: &mut Constructed<'_>) -> Result<Captured, DecodeError>
 fn take_name(cons: &mut Constructed<'_>) -> Result<Name, DecodeError>
     ensures reads { Reads (λ n. n.octets) name_at cons.old result cons.new }
     ensures mode { IfOk result (λ n. n.mode ≡ cons.old.mode) }
+    ensures stays { Stays result cons.new }
+    ensures refused { OnlyMalformedOrMemory cons.old result }
 {
+    cons.holds_octets();
     match capture_name(cons) {
         Ok(captured) => Ok(Name::of(captured)),
         Err(e) => Err(e),
@@ -101,16 +112,15 @@ fn take_name(cons: &mut Constructed<'_>) -> Result<Name, DecodeError>
 
 impl Name {
     /// Reads a name: a SEQUENCE whose contents are skipped (RFC 5280, section 4.1.2.4). All else is
-    /// refused; `Memory` may come too.
+    /// refused by `Malformed`; `Memory` may come too.
     pub fn take_from(cons: &mut Constructed<'_>) -> Result<Name, DecodeError>
         ensures reads { Reads (λ n. n.octets) name_at cons.old result cons.new }
         ensures mode { IfOk result (λ n. n.mode ≡ cons.old.mode) }
-        ensures found { IfOk result (λ n. IsBytes cons.old.rest →
-            Front (NameForm cons.old.mode) cons.old.rest n.octets cons.new.rest) }
-        ensures accepted { cons.old.failed ≡ None → (name : List ℕ) (rest : List ℕ) →
-            Front (NameForm cons.old.mode) cons.old.rest name rest →
-            OkOrMemory result (λ n. (n.octets ≡ name) × (cons.new.rest ≡ rest)) }
+        ensures decodes { DecodesNext NameForm (λ n. n.octets) cons.old result cons.new }
+        ensures stays { Stays result cons.new }
+        ensures refused { OnlyMalformedOrMemory cons.old result }
     {
+        cons.holds_octets();
         take_name(cons)
     }
 }
@@ -143,10 +153,14 @@ impl Encode for NameEncoder<'_> {
 }
 
 impl Name {
-    /// The octets as they were read. Only those that were read in DER can be written.
+    /// What writes the octets of the name as they are, where they are DER, and answers `NotDer`
+    /// where they were read in BER.
     pub fn encode_ref(&self) -> NameEncoder<'_>
-        ensures { result.0.now ≡ self.now }
+        ensures name { result.0.now ≡ self.now }
+        ensures written { IsName self.now.mode self.now.octets }
     {
+        // What a value's type promises is known to the proof only where one of its fields is read.
+        let _ = &self.mode;
         NameEncoder(self)
     }
 }
@@ -159,7 +173,8 @@ const KEY_NAME_HEAD: [u8; 13] = [
 
 // The octets of the name of the key with this identifier.
 fn key_name(alloc: Global, identifier: KeyIdentifier) -> Result<Bytes, AllocError>
-    ensures { IfOk result (λ octets. octets ≡ key_name_octets identifier) }
+    ensures octets { IfOk result (λ octets. octets ≡ key_name_octets identifier) }
+    ensures name { IfOk result (λ octets. IsName Der octets) }
 {
     let mut octets = Vec::with_capacity(alloc, 53)?;
     octets.extend_from_slice(&KEY_NAME_HEAD)?;
@@ -168,8 +183,9 @@ fn key_name(alloc: Global, identifier: KeyIdentifier) -> Result<Bytes, AllocErro
 }
 
 impl PublicKey {
-    /// The name of the key: a common name of the upper hexadecimal digits of its identifier (RFC
-    /// 6487, section 4.5).
+    /// The name of the key: a common name (RFC 6487, section 4.5) of the upper hexadecimal digits of
+    /// its identifier, which is this project's own rule, or `AllocError` where no memory was to be
+    /// had.
     pub fn to_subject_name(&self, alloc: Global) -> Result<Name, AllocError>
         ensures octets { IfOk result (λ n. n.octets ≡ key_name_octets (sha1 self.now)) }
         ensures mode { IfOk result (λ n. n.mode ≡ Der) }

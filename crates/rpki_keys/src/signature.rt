@@ -1,6 +1,7 @@
 //! Signatures.
 
 ghost use Rattle.std.specs.Prelude.{◌≡◌};
+ghost use Rattle.rpki_keys.specs.declared.algorithm.RpkiSignatureAlgorithm.TheVariants.{RsaSha256};
 
 use crate::algorithm::RpkiSignatureAlgorithm;
 use bytes::Bytes;
@@ -31,7 +32,9 @@ impl RpkiSignature {
     }
 
     /// Its algorithm.
-    pub fn algorithm(&self) -> RpkiSignatureAlgorithm {
+    pub fn algorithm(&self) -> RpkiSignatureAlgorithm
+        ensures { result ≡ RsaSha256 }
+    {
         self.algorithm
     }
 

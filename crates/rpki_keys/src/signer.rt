@@ -9,6 +9,8 @@ use crate::crypto::Crypto;
 use crate::key::PublicKey;
 use crate::signature::RpkiSignature;
 use std::alloc::AllocError;
+use std::error::Error;
+use std::fmt;
 
 /// Why a signer does not answer what was asked for.
 #[derive(Debug, Drop)]
@@ -31,8 +33,26 @@ impl<E> From<AllocError> for SignerFault<E> {
     }
 }
 
+impl<E: fmt::Display> fmt::Display for SignerFault<E> {
+    ghost use Rattle.rpki_keys.specs.Signer.{fault_text};
+
+    ghost output = { λ fault. fault_text E.Display.output fault };
+
+    fn fmt<W: fmt::Write>(&self, f: &mut fmt::Formatter<W>) -> fmt::Result {
+        match self {
+            SignerFault::KeyNotFound => f.write_str("key not found"),
+            SignerFault::IncompatibleKey => f.write_str("incompatible key"),
+            SignerFault::Signer(e) => e.fmt(f),
+            SignerFault::Memory => f.write_str("out of memory"),
+        }
+    }
+}
+
+impl<E: Error> Error for SignerFault<E> {}
+
 /// What holds private keys. The key of each name, and which signatures may be answered, no call
-/// changes; nor does a call change the digests and the verdicts.
+/// changes; nor does a call change the digests and the verdicts. A call that answers a fault other
+/// than `Memory` raises the count of failed calls, and no other call does.
 pub trait Signer: Crypto {
     /// What a key is named by.
     type KeyId;
@@ -75,7 +95,8 @@ pub trait Signer: Crypto {
             Self.is_signed self.new k m s ≡ Self.is_signed self.old k m s }
         ensures cause { CountsFault (failures self.old) (failures self.new) result };
 
-    /// A signature of the message by a new key, which signs nothing else, and this key.
+    /// A signature of the message by a key that is made for it, and this key. That the key is new
+    /// and signs nothing else is asked of a signer, and no clause says it.
     fn sign_one_off(
         &mut self,
         algorithm: RpkiSignatureAlgorithm,

@@ -1,9 +1,11 @@
 //! A stand-in for cryptography, for tests: it keeps no secret.
 
-ghost use Rattle.std.specs.Prelude.{◌≡◌, ◌++◌, ◌+◌, ◌↔◌, ℕ, List, IfOk, IsTrue, MatchBool};
+ghost use Rattle.std.specs.Prelude.{◌≡◌, ◌++◌, ◌+◌, ◌%◌, ◌^◌, ◌↔◌, ℕ, List, IfOk, IsTrue};
 ghost use Rattle.std.specs.Int.{w64, to_be_bytes};
 ghost use Rattle.sha2.specs.Sha256.{sha256};
 ghost use Rattle.rpki_keys.specs.StandIn.{IsStandInSignature, is_stand_in_signature};
+ghost use Rattle.rpki_keys.specs.Signer.{CountsFault};
+ghost use Rattle.rpki_keys.specs.StandIn.{is_told, after_call, after_one_off, FailsAsTold};
 
 use crate::algorithm::RpkiSignatureAlgorithm;
 use crate::crypto::Crypto;
@@ -15,6 +17,9 @@ use bytes::Bytes;
 use rpki_der::Count;
 use sha2::{Digest as _, Sha256};
 use std::alloc::{AllocError, Global};
+use std::error::Error;
+use std::fmt;
+use std::marker::Model;
 
 /// Digests are SHA-256 (FIPS 180-4). The signature of a message is the digest of the key's bits
 /// followed by the message.
@@ -58,6 +63,18 @@ pub fn verdicts()
 #[derive(Clone, Copy, Debug)]
 pub struct Refused;
 
+impl fmt::Display for Refused {
+    ghost use Rattle.std.specs.Prelude.{Some, codes};
+
+    ghost output = { λ _. Some (codes "told to fail") };
+
+    fn fmt<W: fmt::Write>(&self, f: &mut fmt::Formatter<W>) -> fmt::Result {
+        f.write_str("told to fail")
+    }
+}
+
+impl Error for Refused {}
+
 /// A signer whose signatures the stand-in takes. Key n has the eight octets of n as its bits, the
 /// highest one first; the keys that sign once are numbered from 2^32 on.
 #[derive(Drop)]
@@ -68,14 +85,30 @@ pub struct StandInSigner {
     failures: Count,
 }
 
+impl Model for StandInSigner {
+    ghost use Rattle.rpki_keys.specs.StandIn.{Turns};
+
+    ghost Value = { Turns };
+
+    ghost view = { λ s. record {
+      next = s.next;
+      fails_in = s.fails_in;
+      failures = s.failures.number;
+    } };
+}
+
 impl StandInSigner {
     /// A signer of which no call fails, unless memory runs out.
-    pub fn new(alloc: Global) -> StandInSigner {
+    pub fn new(alloc: Global) -> StandInSigner
+        ensures { result ≡ record { next = 2 ^ 32; fails_in = 0; failures = 0 } }
+    {
         StandInSigner::failing_at(alloc, 0)
     }
 
     /// A signer whose call with this number fails, counted from 1; of which none fails for 0.
-    pub fn failing_at(alloc: Global, call: u64) -> StandInSigner {
+    pub fn failing_at(alloc: Global, call: u64) -> StandInSigner
+        ensures { result ≡ record { next = 2 ^ 32; fails_in = call; failures = 0 } }
+    {
         StandInSigner {
             alloc,
             next: 1 << 32,
@@ -86,9 +119,8 @@ impl StandInSigner {
 
     // Whether this call is to fail, which is counted.
     fn fails(&mut self) -> bool
-        ensures { MatchBool result
-            (self.new.failures.number ≡ self.old.failures.number + 1)
-            (self.new.failures.number ≡ self.old.failures.number) }
+        ensures told { result ≡ is_told self.old }
+        ensures after { self.new ≡ after_call self.old self.old.next }
     {
         if self.fails_in == 1 {
             self.fails_in = 0;
@@ -148,9 +180,14 @@ impl Signer for StandInSigner {
 
     ghost may_sign = { λ _ key message signature. IsStandInSignature key message signature };
 
-    ghost failures = { λ s. s.failures.number };
+    ghost failures = { λ s. s.failures };
 
-    fn get_key_info(&mut self, key: &u64) -> Result<PublicKey, SignerFault<Refused>> {
+    fn get_key_info(&mut self, key: &u64) -> Result<PublicKey, SignerFault<Refused>>
+        ensures key { IfOk result (λ k. k ≡ to_be_bytes w64 key.now) }
+        ensures cause { CountsFault self.old.failures self.new.failures result }
+        ensures told { FailsAsTold self.old result }
+        ensures after { self.new ≡ after_call self.old self.old.next }
+    {
         if self.fails() {
             return Err(SignerFault::Signer(Refused));
         }
@@ -165,7 +202,13 @@ impl Signer for StandInSigner {
         key: &u64,
         algorithm: RpkiSignatureAlgorithm,
         message: &[u8],
-    ) -> Result<RpkiSignature, SignerFault<Refused>> {
+    ) -> Result<RpkiSignature, SignerFault<Refused>>
+        ensures signed { IfOk result (λ s.
+            IsStandInSignature (to_be_bytes w64 key.now) message.now s) }
+        ensures cause { CountsFault self.old.failures self.new.failures result }
+        ensures told { FailsAsTold self.old result }
+        ensures after { self.new ≡ after_call self.old self.old.next }
+    {
         if self.fails() {
             return Err(SignerFault::Signer(Refused));
         }
@@ -179,7 +222,13 @@ impl Signer for StandInSigner {
         &mut self,
         algorithm: RpkiSignatureAlgorithm,
         message: &[u8],
-    ) -> Result<(RpkiSignature, PublicKey), SignerFault<Refused>> {
+    ) -> Result<(RpkiSignature, PublicKey), SignerFault<Refused>>
+        ensures signed { IfOk result (λ p. IsStandInSignature p.1 message.now p.0) }
+        ensures key { IfOk result (λ p. p.1 ≡ to_be_bytes w64 self.old.next) }
+        ensures cause { CountsFault self.old.failures self.new.failures result }
+        ensures told { FailsAsTold self.old result }
+        ensures after { self.new ≡ after_one_off self.old }
+    {
         if self.fails() {
             return Err(SignerFault::Signer(Refused));
         }

@@ -1,11 +1,10 @@
 -- A chain of issuers is the only one, and no longer than there are carried CAs.
-use Rattle.std.proofs.Common.{◌≡◌, ◌≢◌, ℕ, suc, ◌+◌, ◌≤◌, List, [], ◌∷◌, ◌++◌, length, map, Some}
-use Rattle.std.proofs.Common.{IsTrue, IsFalse, refl, sym, ap, ◌∙◌, subst, inl, inr, ⊎_elim, ◌⊎◌}
+use Rattle.std.proofs.Common.{◌≡◌, ℕ, suc, ◌+◌, ◌≤◌, List, [], ◌∷◌, ◌++◌, length, map, Some}
+use Rattle.std.proofs.Common.{refl, sym, ap, ◌∙◌, subst, inl, inr, ◌⊎◌}
 use Rattle.std.proofs.Common.{arith}
-use Rattle.rpki_paths.specs.Cert.{Cert, IsIn, NoTwice, IsSelfSigned}
+use Rattle.rpki_paths.specs.Cert.{Cert, IsIn, NoTwice}
 use Rattle.rpki_paths.specs.Path.{IsIssuedBy, IsOff, IsChain, HasNoIssuer, EndsAtTop, IsPath}
 use Rattle.rpki_paths.specs.Path.{IsDistinct}
-use Rattle.rpki_paths.specs.Laws.{PathsAreUnique, PathsAreShort}
 
 -- ---- the issuer is the only one
 

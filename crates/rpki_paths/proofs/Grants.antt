@@ -1,61 +1,90 @@
 -- With distinct identifiers the paths, and what they are granted, do not depend on the choice.
-use Rattle.std.proofs.Common.{◌≡◌, ℕ, Bool, true, false, ◌||◌, List, [], ◌∷◌, map, IsTrue, refl}
+use Rattle.std.proofs.Common.{◌≡◌, ℕ, suc, Bool, true, false, List, [], ◌∷◌, map, refl}
 use Rattle.std.proofs.Common.{sym, ap}
-use Rattle.std.proofs.Common.{◌∙◌, subst, inl, inr, ⊎_elim, ◌⊎◌}
+use Rattle.std.proofs.Common.{◌∙◌, subst, inl, inr}
 use Rattle.std.proofs.lemmas.Bool.{or_cases, or_left, or_right, false≢true}
 use Rattle.rpki_paths.specs.declared.family.Family.{Family}
-use Rattle.rpki_paths.specs.Cert.{Cert, IsIn, NoTwice}
+use Rattle.rpki_paths.specs.Cert.{Cert, Numbers, IsIn, NoTwice, at_place}
 use Rattle.rpki_paths.specs.Path.{IsPath, IsLinkCovered, IsDistinct}
-use Rattle.rpki_paths.specs.Anchor.{Supply, Fits, Takes, IsAnchored, path_set}
-use Rattle.rpki_paths.specs.Pairing.{IsPairing, Crl, Signer, Carried, IsMatching, HasDistinctIds}
+use Rattle.rpki_paths.specs.Anchor.{Supply, IsAnchored, path_set}
+use Rattle.rpki_paths.specs.Pairing.{IsPairing, Crl, Carried, HasDistinctIds}
 use Rattle.rpki_paths.specs.Pairing.{IsVerifiedBy, HasCrl}
-use Rattle.rpki_paths.specs.Grant.{with_crls, ArePaths, IsAccepted, AreAnchored, union_of}
-use Rattle.rpki_paths.specs.Grant.{IsGranted}
-use Rattle.rpki_paths.specs.Laws.{PathsAreThose, GrantIsDecided}
+use Rattle.rpki_paths.specs.Grant.{with_crls, authorities, ArePaths, AreUsed, HasPaths}
+use Rattle.rpki_paths.specs.Grant.{AreAnchored, union_of, IsEarned}
+use Rattle.rpki_paths.specs.Laws.{PathsAreThose, AcceptanceIsDecided, GrantIsDecided}
+use Rattle.rpki_paths.specs.Laws.{UnanchoredIsRefused}
 use Rattle.rpki_paths.proofs.Chains.{unique}
 use Rattle.rpki_paths.proofs.Pairings.{all_partners, partners_in}
 use Rattle.rpki_paths.proofs.Matches.{crls_are_unique}
 
-same_skis : (cas : List Cert) (crls ys : List Crl) → IsPairing HasCrl cas crls ys
-    → map (λ c. c.ski) (with_crls cas crls) ≡ map (λ (c : Cert). c.ski) cas
-same_skis [] [] ys h = refl
-same_skis [] (l ∷ crls) ys h = absurd h
-same_skis (d ∷ cas) [] ys h = absurd h
-same_skis (d ∷ cas) (l ∷ crls) ys h = ap (λ m. d.ski ∷ m) (same_skis cas crls h.1.0 h.1.2)
+same_skis : (k : ℕ) (cas : List Cert) (crls ys : List Crl) → IsPairing HasCrl cas crls ys
+    → map (λ c. c.ski) (with_crls k cas crls) ≡ map (λ (c : Cert). c.ski) cas
+same_skis k [] [] ys h = refl
+same_skis k [] (l ∷ crls) ys h = absurd h
+same_skis k (d ∷ cas) [] ys h = absurd h
+same_skis k (d ∷ cas) (l ∷ crls) ys h =
+    ap (λ m. d.ski ∷ m) (same_skis (suc k) cas crls h.1.0 h.1.2)
 
 path_at : (cas ees : List Cert) (paths : List (List Cert)) → ArePaths cas ees paths → (e : Cert)
-    → IsIn e ees → (p : List Cert) × IsIn p paths × IsPath cas e p × IsLinkCovered p
+    → IsIn e ees → (p : List Cert) × IsIn p paths × IsPath cas (at_place 0 e) p × IsLinkCovered p
 path_at cas [] paths h e i = absurd i
 path_at cas (x ∷ ees) [] h e i = absurd h
 path_at cas (x ∷ ees) (p ∷ paths) h e (inl f) =
-    (p, inl refl, subst (λ z. IsPath cas z p) (sym f) h.0, h.1)
+    (p, inl refl, subst (λ z. IsPath cas (at_place 0 z) p) (sym f) h.0, h.1)
 path_at cas (x ∷ ees) (p ∷ paths) h e (inr i) = let t = path_at cas ees paths h.2 e i in
     (t.0, inr t.1, t.2, t.3)
 
 ee_at : (cas ees : List Cert) (paths : List (List Cert)) → ArePaths cas ees paths → (p : List Cert)
-    → IsIn p paths → (e : Cert) × IsIn e ees × IsPath cas e p
+    → IsIn p paths → (e : Cert) × IsIn e ees × IsPath cas (at_place 0 e) p
 ee_at cas [] [] h p i = absurd i
 ee_at cas [] (q ∷ paths) h p i = absurd h
 ee_at cas (x ∷ ees) [] h p i = absurd h
-ee_at cas (x ∷ ees) (q ∷ paths) h p (inl f) = (x, inl refl, subst (λ z. IsPath cas x z) (sym f) h.0)
+ee_at cas (x ∷ ees) (q ∷ paths) h p (inl f) =
+    (x, inl refl, subst (λ z. IsPath cas (at_place 0 x) z) (sym f) h.0)
 ee_at cas (x ∷ ees) (q ∷ paths) h p (inr i) = let t = ee_at cas ees paths h.2 p i in
     (t.0, inr t.1, t.2)
 
+same_authorities : (a : Carried) (paths paths' : List (List Cert)) → HasDistinctIds a
+    → (one : HasPaths a paths) (other : HasPaths a paths')
+    → authorities a one.crls ≡ authorities a other.crls
+same_authorities a paths paths' dist one other =
+    ap (authorities a)
+    (crls_are_unique a one.ees other.ees one.crls other.crls dist one.matching other.matching)
+
+authorities_apart : (a : Carried) (paths : List (List Cert)) → HasDistinctIds a
+    → (one : HasPaths a paths) → IsDistinct (authorities a one.crls)
+authorities_apart a paths dist one =
+    subst (λ l. NoTwice l) (sym (same_skis 1 a.cas one.crls a.crls one.matching.crl_of))
+    dist.of_cas
+
 pub paths_are_those : PathsAreThose
-paths_are_those a paths paths' dist acc acc' p i =
-    let same : acc.crls ≡ acc'.crls =
-    crls_are_unique a acc.ees acc'.ees acc.crls acc'.crls dist acc.matching acc'.matching in
-    let cas = with_crls a.cas acc'.crls in
-    let apart : IsDistinct cas =
-    subst (λ l. NoTwice l)
-    (sym (same_skis a.cas acc'.crls a.crls acc'.matching.crl_of)) dist.of_cas in
-    let mine = ee_at cas acc.ees paths
-    (subst (λ l. ArePaths (with_crls a.cas l) acc.ees paths) same acc.stand) p i in
-    let theirs : IsIn mine.0 acc'.ees =
-    all_partners IsVerifiedBy a.signers acc'.ees a.ees acc'.matching.signed mine.0
-    (partners_in IsVerifiedBy a.signers acc.ees a.ees acc.matching.signed mine.0 mine.1) in
-    let other = path_at cas acc'.ees paths' acc'.stand mine.0 theirs in
-    subst (λ z. IsIn z paths') (unique cas mine.0 other.0 p apart other.2 mine.2) other.1
+paths_are_those a paths paths' dist one other p i =
+    let cas = authorities a other.crls in
+    let mine = ee_at cas one.ees paths
+    (subst (λ l. ArePaths l one.ees paths) (same_authorities a paths paths' dist one other)
+    one.stand) p i in
+    let theirs : IsIn mine.0 other.ees =
+    all_partners IsVerifiedBy a.signers other.ees a.ees other.matching.signed mine.0
+    (partners_in IsVerifiedBy a.signers one.ees a.ees one.matching.signed mine.0 mine.1) in
+    let path = path_at cas other.ees paths' other.stand mine.0 theirs in
+    subst (λ z. IsIn z paths')
+    (unique cas (at_place 0 mine.0) path.0 p (authorities_apart a paths' dist other) path.2 mine.2)
+    path.1
+
+-- the CAs that stand on paths stand on those of every choice
+used_alike : (a : Carried) (paths paths' : List (List Cert)) → HasDistinctIds a
+    → (one : HasPaths a paths) (other : HasPaths a paths') → AreUsed (authorities a one.crls) paths
+    → AreUsed (authorities a other.crls) paths'
+used_alike a paths paths' dist one other used d i =
+    let t = used d (subst (λ l. IsIn d l)
+    (sym (same_authorities a paths paths' dist one other)) i) in
+    (t.0, paths_are_those a paths paths' dist one other t.0 t.1, t.2)
+
+pub acceptance_is_decided : AcceptanceIsDecided
+acceptance_is_decided a paths found dist = (
+  λ t. (t.1.valid, used_alike a t.0 paths dist t.1.found found t.1.used),
+  λ h. (paths, record { valid = h.0; found = found; used = h.1 }),
+)
 
 same_anchor : (p : List Cert) (supplies : List Supply) (s t : Supply) → IsAnchored p supplies s
     → IsAnchored p supplies t → s ≡ t
@@ -99,12 +128,55 @@ same_bool true b h k = sym (h refl)
 same_bool false true h k = k refl
 same_bool false false h k = refl
 
+-- each of these paths has an anchor
+anchor_at : (paths : List (List Cert)) (supplies anchors : List Supply)
+    → AreAnchored paths supplies anchors → (p : List Cert) → IsIn p paths
+    → (s : Supply) × IsAnchored p supplies s
+anchor_at [] supplies anchors h p i = absurd i
+anchor_at (q ∷ paths) supplies [] h p i = absurd h
+anchor_at (q ∷ paths) supplies (s ∷ anchors) h p (inl e) =
+    (s, subst (λ z. IsAnchored z supplies s) (sym e) h.0)
+anchor_at (q ∷ paths) supplies (s ∷ anchors) h p (inr i) = anchor_at paths supplies anchors h.1 p i
+
+all_anchored : (paths : List (List Cert)) (supplies : List Supply)
+    → ((p : List Cert) → IsIn p paths → (s : Supply) × IsAnchored p supplies s)
+    → (anchors : List Supply) × AreAnchored paths supplies anchors
+all_anchored [] supplies h = ([], tt)
+all_anchored (p ∷ paths) supplies h =
+    let mine = h p (inl refl) in
+    let rest = all_anchored paths supplies (λ q i. h q (inr i)) in
+    (mine.0 ∷ rest.0, (mine.1, rest.1))
+
+-- the same paths, in another order or more than once, stand for the same numbers
+earned_alike : (paths paths' : List (List Cert)) (supplies : List Supply)
+    (attested : Family → Numbers)
+    → ((p : List Cert) → IsIn p paths → IsIn p paths')
+    → ((p : List Cert) → IsIn p paths' → IsIn p paths)
+    → IsEarned paths supplies attested → IsEarned paths' supplies attested
+earned_alike paths paths' supplies attested to from e =
+    let all = all_anchored paths' supplies
+    (λ p i. anchor_at paths supplies e.anchors e.anchored p (from p i)) in
+    record {
+      anchors = all.0;
+      anchored = all.1;
+      equal = λ f n. e.equal f n
+          ∙ same_bool (union_of paths e.anchors f n) (union_of paths' all.0 f n)
+          (λ h. (let u = union_from paths supplies e.anchors f n e.anchored h in
+          from_union paths' supplies all.0 f n all.1 u.0 u.1 (to u.0 u.2) u.3 u.4))
+          (λ h. (let u = union_from paths' supplies all.0 f n all.1 h in
+          from_union paths supplies e.anchors f n e.anchored u.0 u.1 (from u.0 u.2) u.3 u.4));
+    }
+
 pub grant_is_decided : GrantIsDecided
-grant_is_decided a paths supplies anchors attested dist acc anchored g f n =
-    g.equal f n ∙ same_bool (union_of g.paths g.anchors f n) (union_of paths anchors f n)
-    (λ e. (let u = union_from g.paths supplies g.anchors f n g.anchored e in
-    from_union paths supplies anchors f n anchored u.0 u.1
-    (paths_are_those a g.paths paths dist g.accepted acc u.0 u.2) u.3 u.4))
-    (λ e. (let u = union_from paths supplies anchors f n anchored e in
-    from_union g.paths supplies g.anchors f n g.anchored u.0 u.1
-    (paths_are_those a paths g.paths dist acc g.accepted u.0 u.2) u.3 u.4))
+grant_is_decided a paths supplies attested dist acc = (
+  λ g. earned_alike g.paths paths supplies attested
+      (paths_are_those a g.paths paths dist g.accepted.found acc.found)
+      (paths_are_those a paths g.paths dist acc.found g.accepted.found) g.earned,
+  λ e. record { paths = paths; accepted = acc; earned = e },
+)
+
+pub unanchored_is_refused : UnanchoredIsRefused
+unanchored_is_refused a paths p supplies attested dist found i none g =
+    let t = anchor_at g.paths supplies g.earned.anchors g.earned.anchored p
+    (paths_are_those a paths g.paths dist found g.accepted.found p i) in
+    none t.0 t.1

@@ -1,9 +1,10 @@
--- CAs by their key identifiers, one more at a time.
-use Rattle.std.proofs.Common.{◌≡◌, ◌≢◌, ℕ, zero, suc, ◌+◌, ◌<◌, ◌≤◌, Bool, true, false, cond, List}
-use Rattle.std.proofs.Common.{[], ◌∷◌, ◌++◌}
-use Rattle.std.proofs.Common.{length, Option, None, Some, Vec, refl, sym, ap, ◌∙◌, subst, inl, inr}
-use Rattle.std.proofs.Common.{⊎_elim, ◌⊎◌, arith}
-use Rattle.std.specs.Prelude.{slice_get}
+-- The places of identifiers, one more at a time.
+use Rattle.std.proofs.Common.{◌≡◌, ◌≢◌, ℕ, zero, suc, ◌+◌, ◌<◌, ◌≤◌, Bool, true, false, cond}
+use Rattle.std.proofs.Common.{List, [], ◌∷◌, ◌++◌, length, get_or, ⊎_elim, ◌⊎◌}
+use Rattle.std.proofs.Common.{Option, None, Some, Vec, refl, sym, ap, ◌∙◌, subst, inl, inr}
+use Rattle.std.proofs.Common.{arith}
+use Rattle.std.specs.Prelude.{slice_get, AllPairs, ◌↔◌}
+use Rattle.std.proofs.lemmas.Option.{slice_get_within}
 use Rattle.std.proofs.Common.{Ordering, Less, Equal, Greater}
 use Rattle.std.specs.declared.alloc.Global.{Global}
 use Rattle.std.specs.BTreeMap.{get, BTreeMap, is_at}
@@ -13,76 +14,195 @@ use Rattle.std.specs.Cmp.Lexicographic.{slice_cmp}
 use Rattle.std.proofs.lemmas.Bool.{true≢false, cases_eq}
 use Rattle.std.proofs.lemmas.Cmp.{nat_list_cmp_total, tied_itself}
 use Rattle.std.proofs.lemmas.Map.Lookups.{exact_bytes}
-use Rattle.rpki_paths.specs.Cert.{Cert}
-use Rattle.rpki_paths.specs.Walk.{IsNamed}
-use Rattle.rpki_paths.specs.Index.{listed_in, listed}
+use Rattle.rpki_paths.specs.Cert.{IsIn}
+use Rattle.rpki_paths.specs.Index.{listed_in, listed, IsNamed}
 
 some_same : {A : Type 0} (a b : A) → Some a ≡ Some b → a ≡ b
 some_same a b e = cc
 
--- one CA more, of the identifier
-named_push : (cas : List Cert) (id : Option (List ℕ)) (x : Cert) (from i : ℕ) (places : List ℕ)
-    → IsNamed cas id from i places → from ≤ i →
-    slice_get cas i ≡ Some x → id ≡ Some x.ski → IsNamed cas id from (i + 1) (places ++ i ∷ [])
-named_push cas id x from i [] h le at_i named =
-    (le, omega arith, (x, at_i, named), h, λ j y l lt e. absurd (omega (arith, l, lt)))
-named_push cas id x from i (k ∷ places) h le at_i named = (
-  h.0,
-  omega (arith, h.1),
-  h.2,
-  h.3,
-  named_push cas id x (k + 1) i places h.4 (omega (arith, h.1)) at_i named,
-)
+pub before_or_after : (a b : ℕ) → (a < b) ⊎ (b ≤ a)
+before_or_after zero zero = inr (omega arith)
+before_or_after zero (suc b) = inl (omega arith)
+before_or_after (suc a) zero = inr (omega arith)
+before_or_after (suc a) (suc b) =
+    elim (before_or_after a b) [ inl l ↦ inl (omega (arith, l)) | inr l ↦ inr (omega (arith, l)) ]
 
--- one CA more, of another identifier
-named_other : (cas : List Cert) (id : Option (List ℕ)) (x : Cert) (from i : ℕ) (places : List ℕ)
-    → IsNamed cas id from i places →
-    slice_get cas i ≡ Some x → ¬ (id ≡ Some x.ski) → IsNamed cas id from (i + 1) places
-named_other cas id x from i [] h at_i other =
-    λ j y l lt e. elim (cases_eq j i) [
-      | inl s ↦ (λ n. other
-          (n ∙ ap (λ (z : Cert). Some z.ski) (some_same y x (sym e ∙ ap (slice_get cas) s ∙ at_i))))
-      | inr differ ↦ h j y l (omega (arith, lt, differ)) e
+get_is_in : {A : Type 0} (xs : List A) (i : ℕ) (d : A) → i < length xs → IsIn (get_or xs i d) xs
+get_is_in [] i d lt = absurd (omega (arith, lt))
+get_is_in (x ∷ xs) zero d lt = inl refl
+get_is_in (x ∷ xs) (suc i) d lt = inr (get_is_in xs i d (omega (arith, lt)))
+
+is_in_get : (xs : List ℕ) (x : ℕ) → IsIn x xs → (i : ℕ) × (i < length xs) × (get_or xs i 0 ≡ x)
+is_in_get [] x k = absurd k
+is_in_get (y ∷ xs) x (inl e) = (zero, omega arith, sym e)
+is_in_get (y ∷ xs) x (inr k) =
+    let t = is_in_get xs x k in (suc t.0, omega (arith, t.1), t.2)
+
+-- ---- a scan
+
+-- the list has the places, from one on and below another, of the identifier, in order
+abbrev pub IsScan : List (List ℕ) → List ℕ → ℕ → ℕ → List ℕ → Type 0
+IsScan ids id from to [] = (j : ℕ) → from ≤ j → j < to → ¬ (slice_get ids j ≡ Some id)
+IsScan ids id from to (i ∷ places) =
+    (from ≤ i) × (i < to) × (slice_get ids i ≡ Some id)
+    × ((j : ℕ) → from ≤ j → j < i → ¬ (slice_get ids j ≡ Some id))
+    × IsScan ids id (i + 1) to places
+
+-- one place more, of the identifier
+scan_push : (ids : List (List ℕ)) (id : List ℕ) (from i : ℕ) (places : List ℕ)
+    → IsScan ids id from i places → from ≤ i → slice_get ids i ≡ Some id
+    → IsScan ids id from (i + 1) (places ++ i ∷ [])
+scan_push ids id from i [] h le at_i =
+    (le, omega arith, at_i, h, λ j l lt e. absurd (omega (arith, l, lt)))
+scan_push ids id from i (k ∷ places) h le at_i =
+    (h.0, omega (arith, h.1), h.2, h.3, scan_push ids id (k + 1) i places h.4 (omega (arith, h.1)) at_i)
+
+-- one place more, of another identifier
+scan_other : (ids : List (List ℕ)) (id : List ℕ) (from i : ℕ) (places : List ℕ)
+    → IsScan ids id from i places → ¬ (slice_get ids i ≡ Some id) → IsScan ids id from (i + 1) places
+scan_other ids id from i [] h other =
+    λ j l lt e. elim (cases_eq j i) [
+      | inl s ↦ other (sym (ap (slice_get ids) s) ∙ e)
+      | inr differ ↦ h j l (omega (arith, lt, differ)) e
     ]
-named_other cas id x from i (k ∷ places) h at_i other =
-    (h.0, omega (arith, h.1), h.2, h.3, named_other cas id x (k + 1) i places h.4 at_i other)
+scan_other ids id from i (k ∷ places) h other =
+    (h.0, omega (arith, h.1), h.2, h.3, scan_other ids id (k + 1) i places h.4 other)
 
-pub indexed_none : (cas : List Cert) (m : BTreeMap (List ℕ) (Vec ℕ Global)) → m.entries ≡ []
-    → (id : List ℕ) → IsNamed cas (Some id) 0 0 (listed m id)
-indexed_none cas m e id =
-    subst (λ es. IsNamed cas (Some id) 0 0 (listed_in (lookup (is_at (slice_cmp nat_cmp id)) es)))
-    (sym e) (λ j x l lt f. absurd (omega (arith, lt)))
+pub indexed_none : (ids : List (List ℕ)) (m : BTreeMap (List ℕ) (Vec ℕ Global)) → m.entries ≡ []
+    → (id : List ℕ) → IsScan ids id 0 0 (listed m id)
+indexed_none ids m e id =
+    subst (λ es. IsScan ids id 0 0 (listed_in (lookup (is_at (slice_cmp nat_cmp id)) es)))
+    (sym e) (λ j l lt f. absurd (omega (arith, lt)))
 
 is_equal : (o : Ordering) → is_eq o ≡ true → o ≡ Equal
 is_equal Less e = absurd (true≢false (sym e))
 is_equal Equal e = refl
 is_equal Greater e = absurd (true≢false (sym e))
 
-pub indexed_more : (cas : List Cert) (m n p : BTreeMap (List ℕ) (Vec ℕ Global)) (id : List ℕ)
-    (i : ℕ) (x : Cert) (places : Vec ℕ Global) →
-    ((q : List ℕ) → IsNamed cas (Some q) 0 i (listed m q)) → slice_get cas i ≡ Some x → id ≡ x.ski →
+pub indexed_more : (ids : List (List ℕ)) (m n p : BTreeMap (List ℕ) (Vec ℕ Global)) (id : List ℕ)
+    (i : ℕ) (places : Vec ℕ Global) →
+    ((q : List ℕ) → IsScan ids q 0 i (listed m q)) → slice_get ids i ≡ Some id →
     ((q : List ℕ) → get (slice_cmp nat_cmp) n q
     ≡ cond (is_at (slice_cmp nat_cmp id) q) None (get (slice_cmp nat_cmp) m q)) →
     ((q : List ℕ) → get (slice_cmp nat_cmp) p q
     ≡ cond (is_at (slice_cmp nat_cmp id) q) (Some places) (get (slice_cmp nat_cmp) n q)) →
     places.items ≡ listed m id ++ i ∷ [] → (q : List ℕ)
-    → IsNamed cas (Some q) 0 (i + 1) (listed p q)
-indexed_more cas m n p id i x places h at_i named removed put pushed q =
+    → IsScan ids q 0 (i + 1) (listed p q)
+indexed_more ids m n p id i places h at_i removed put pushed q =
     go (is_at (slice_cmp nat_cmp id) q) refl (put q) (removed q)
   where
     go : (b : Bool) → is_at (slice_cmp nat_cmp id) q ≡ b
         → get (slice_cmp nat_cmp) p q ≡ cond b (Some places) (get (slice_cmp nat_cmp) n q) →
         get (slice_cmp nat_cmp) n q ≡ cond b None (get (slice_cmp nat_cmp) m q)
-        → IsNamed cas (Some q) 0 (i + 1) (listed p q)
+        → IsScan ids q 0 (i + 1) (listed p q)
     go true e f g =
         let same : id ≡ q = exact_bytes id q (is_equal (slice_cmp nat_cmp id q) e) in
-        let mine : IsNamed cas (Some id) 0 (i + 1) (listed m id ++ i ∷ []) =
-        named_push cas (Some id) x 0 i (listed m id) (h id) (omega arith) at_i (ap Some named) in
-        subst (λ l. IsNamed cas (Some q) 0 (i + 1) l) (sym (ap listed_in f ∙ pushed))
-        (subst (λ k. IsNamed cas (Some k) 0 (i + 1) (listed m id ++ i ∷ [])) same mine)
+        let mine : IsScan ids id 0 (i + 1) (listed m id ++ i ∷ []) =
+        scan_push ids id 0 i (listed m id) (h id) (omega arith) at_i in
+        subst (λ l. IsScan ids q 0 (i + 1) l) (sym (ap listed_in f ∙ pushed))
+        (subst (λ k. IsScan ids k 0 (i + 1) (listed m id ++ i ∷ [])) same mine)
     go false e f g =
-        let other : ¬ (Some q ≡ Some x.ski) =
+        let other : ¬ (slice_get ids i ≡ Some q) =
         λ s. true≢false (sym (ap is_eq (tied_itself nat_list_cmp_total id))
-        ∙ ap (is_at (slice_cmp nat_cmp id)) (named ∙ sym (some_same q x.ski s)) ∙ e) in
-        subst (λ l. IsNamed cas (Some q) 0 (i + 1) l) (sym (ap listed_in (f ∙ g)))
-        (named_other cas (Some q) x 0 i (listed m q) (h q) at_i other)
+        ∙ ap (is_at (slice_cmp nat_cmp id)) (some_same id q (sym at_i ∙ s)) ∙ e) in
+        subst (λ l. IsScan ids q 0 (i + 1) l) (sym (ap listed_in (f ∙ g)))
+        (scan_other ids q 0 i (listed m q) (h q) other)
+
+-- ---- a scan has just the places
+
+in_range : (ids : List (List ℕ)) (i : ℕ) (id : List ℕ) → slice_get ids i ≡ Some id → i < length ids
+in_range ids i id e = slice_get_within ids i id e
+
+scan_has : (ids : List (List ℕ)) (id : List ℕ) (from to : ℕ) (places : List ℕ)
+    → IsScan ids id from to places → (i : ℕ) → IsIn i places
+    → (from ≤ i) × (slice_get ids i ≡ Some id)
+scan_has ids id from to [] h i k = absurd k
+scan_has ids id from to (p ∷ places) h i (inl e) =
+    (omega (arith, h.0, e), ap (slice_get ids) e ∙ h.2)
+scan_has ids id from to (p ∷ places) h i (inr k) =
+    let t = scan_has ids id (p + 1) to places h.4 i k in (omega (arith, h.0, t.0), t.1)
+
+scan_misses : (ids : List (List ℕ)) (id : List ℕ) (from to : ℕ) (places : List ℕ)
+    → IsScan ids id from to places → (i : ℕ) → from ≤ i → i < to → slice_get ids i ≡ Some id
+    → IsIn i places
+scan_misses ids id from to [] h i le lt e = absurd (h i le lt e)
+scan_misses ids id from to (p ∷ places) h i le lt e =
+    elim (cases_eq i p) [
+      | inl s ↦ inl s
+      | inr differ ↦ elim (before_or_after i p) [
+        | inl before ↦ absurd (h.3 i le before e)
+        | inr after ↦
+            inr (scan_misses ids id (p + 1) to places h.4 i (omega (arith, after, differ)) lt e)
+      ]
+    ]
+
+abbrev IsAfter : ℕ → List ℕ → Type 0
+IsAfter p places = (i : ℕ) → IsIn i places → p < i
+
+ascends_cons : (p : ℕ) (places : List ℕ) → IsAfter p places → AllPairs (λ i j. i < j) places
+    → AllPairs (λ i j. i < j) (p ∷ places)
+ascends_cons p places after h zero zero d lt len = absurd (omega (arith, lt))
+ascends_cons p places after h zero (suc j) d lt len =
+    after (get_or places j d) (get_is_in places j d (omega (arith, len)))
+ascends_cons p places after h (suc i) zero d lt len = absurd (omega (arith, lt))
+ascends_cons p places after h (suc i) (suc j) d lt len =
+    h i j d (omega (arith, lt)) (omega (arith, len))
+
+ascends_tail : (p : ℕ) (places : List ℕ) → AllPairs (λ i j. i < j) (p ∷ places)
+    → AllPairs (λ i j. i < j) places
+ascends_tail p places h i j d lt len = h (suc i) (suc j) d (omega (arith, lt)) (omega (arith, len))
+
+ascends_after : (p : ℕ) (places : List ℕ) → AllPairs (λ i j. i < j) (p ∷ places)
+    → IsAfter p places
+ascends_after p places h i k =
+    let t = is_in_get places i k in
+    let lt : p < get_or places t.0 0 = h 0 (suc t.0) 0 (omega arith) (omega (arith, t.1)) in
+    omega (arith, lt, t.2)
+
+scan_ascends : (ids : List (List ℕ)) (id : List ℕ) (from to : ℕ) (places : List ℕ)
+    → IsScan ids id from to places → AllPairs (λ i j. i < j) places
+scan_ascends ids id from to [] h = λ i j d lt len. absurd (omega (arith, len))
+scan_ascends ids id from to (p ∷ places) h =
+    ascends_cons p places
+    (λ i k. (let t = scan_has ids id (p + 1) to places h.4 i k in omega (arith, t.0)))
+    (scan_ascends ids id (p + 1) to places h.4)
+
+pub named_from_scan : (ids : List (List ℕ)) (id : List ℕ) (places : List ℕ)
+    → IsScan ids id 0 (length ids) places → IsNamed ids id places
+named_from_scan ids id places h = record {
+  ascends = scan_ascends ids id 0 (length ids) places h;
+  exact = λ i. (
+    λ k. (scan_has ids id 0 (length ids) places h i k).1,
+    λ e. scan_misses ids id 0 (length ids) places h i (omega arith) (in_range ids i id e) e,
+  );
+}
+
+to_scan : (ids : List (List ℕ)) (id : List ℕ) (from : ℕ) (places : List ℕ)
+    → AllPairs (λ i j. i < j) places
+    → ((i : ℕ) → IsIn i places → (from ≤ i) × (slice_get ids i ≡ Some id))
+    → ((i : ℕ) → from ≤ i → slice_get ids i ≡ Some id → IsIn i places)
+    → IsScan ids id from (length ids) places
+to_scan ids id from [] up has misses = λ j l lt e. misses j l e
+to_scan ids id from (p ∷ places) up has misses =
+    let here' = has p (inl refl) in
+    let after = ascends_after p places up in (
+      here'.0,
+      in_range ids p id here'.1,
+      here'.1,
+      λ j l lt e. elim (misses j l e) [
+        | inl s ↦ omega (arith, lt, s)
+        | inr k ↦ omega (arith, lt, after j k)
+      ],
+      to_scan ids id (p + 1) places (ascends_tail p places up)
+          (λ i k. (omega (arith, after i k), (has i (inr k)).1))
+          (λ i l e. elim (misses i (omega (arith, l, here'.0)) e) [
+            | inl s ↦ absurd (omega (arith, l, s))
+            | inr k ↦ k
+          ]),
+    )
+
+pub scan_from_named : (ids : List (List ℕ)) (id : List ℕ) (places : List ℕ)
+    → IsNamed ids id places → IsScan ids id 0 (length ids) places
+scan_from_named ids id places h =
+    to_scan ids id 0 places h.ascends (λ i k. (omega arith, (h.exact i).0 k))
+    (λ i l e. (h.exact i).1 e)

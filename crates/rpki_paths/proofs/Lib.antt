@@ -1,7 +1,11 @@
+-- The proofs that several functions share.
 pub mod Meets
 pub mod Chains
 pub mod Pairings
 pub mod Matches
 pub mod Indexing
+pub mod Taking
+pub mod PairingOff
+pub mod Costs
 pub mod Walking
 pub mod Grants

@@ -1,9 +1,9 @@
 -- The matching of subject keys, signers, end-entity certificates, CRLs and CAs.
-use Rattle.std.proofs.Common.{◌≡◌, ℕ, true, List, [], ◌∷◌, IsTrue, refl, sym, ap, ◌∙◌, subst, inl}
+use Rattle.std.proofs.Common.{◌≡◌, ℕ, true, List, [], ◌∷◌, refl, sym, ap, ◌∙◌, subst, inl}
 use Rattle.std.proofs.Common.{inr}
-use Rattle.std.proofs.Common.{⊎_elim, ◌⊎◌, map}
+use Rattle.std.proofs.Common.{map}
 use Rattle.rpki_paths.specs.Cert.{Cert, IsIn, NoTwice}
-use Rattle.rpki_paths.specs.Pairing.{IsPicked, IsPairing, Crl, Signer, Carried, IsMatching}
+use Rattle.rpki_paths.specs.Pairing.{IsPairing, Crl, Signer, Carried}
 use Rattle.rpki_paths.specs.Pairing.{AreAlike}
 use Rattle.rpki_paths.specs.Pairing.{HasKey, IsVerifiedBy, HasCrl, HasDistinctIds}
 use Rattle.rpki_paths.specs.Laws.{WhatFitsIsAlike, CrlsAreUnique}

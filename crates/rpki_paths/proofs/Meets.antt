@@ -1,6 +1,6 @@
 -- The set that is kept of a path is the meet of its explicit sets.
 use Rattle.std.proofs.Common.{◌≡◌, ℕ, Bool, true, false, ◌&&◌, List, [], ◌∷◌, Option, None, Some}
-use Rattle.std.proofs.Common.{IsTrue, refl, sym, ap, ◌∙◌, subst, inl, inr, ⊎_elim, ◌⊎◌}
+use Rattle.std.proofs.Common.{IsTrue, refl, sym, ap, ◌∙◌, subst, inl, inr}
 use Rattle.std.proofs.lemmas.Bool.{and_parts, true≢false}
 use Rattle.rpki_resources.specs.declared.block.Block.{Block}
 use Rattle.rpki_resources.specs.declared.resources.Claim.{Claim}
@@ -15,7 +15,7 @@ use Rattle.rpki_paths.specs.Cert.{Cert, Numbers, IsIn}
 use Rattle.rpki_paths.specs.Sets.{with_claim, meet, IsCovered, StandsFor, IsRaised, IsClimbed}
 use Rattle.rpki_paths.specs.Sets.{CoversKept}
 use Rattle.rpki_paths.specs.Path.{explicit_sets}
-use Rattle.rpki_paths.specs.Anchor.{Supply, Tal, Ca, Takes, supplied_claim, path_set}
+use Rattle.rpki_paths.specs.Anchor.{Supply, Tal, Ca, Takes, supplied_claim}
 use Rattle.rpki_paths.specs.Laws.{ClimbKeepsMeet, AnchoredIsPathSet, AnchoredIsKnown}
 use Rattle.rpki_paths.specs.Laws.{PathSetIsWithinEach}
 
@@ -118,13 +118,27 @@ covered_inherit Refuse [] = tt
 covered_inherit Refuse (s ∷ sets) = tt
 covered_inherit Trim sets = tt
 
-pub anchored_stands : AnchoredIsPathSet
+anchored_stands : (head : Cert) (p : List Cert) (s : Supply) (f : Family)
+    (old new : Option (Kept Numbers)) → StandsFor (λ n. n) old (explicit_sets (head ∷ p) f) →
+    Takes (head ∷ p) s → IsClimbed (λ n. n) head.overclaim old (supplied_claim s f) new →
+    StandsFor (λ n. n) new (with_claim (supplied_claim s f) (explicit_sets (head ∷ p) f))
 anchored_stands head p (Tal key) f old new stands takes step =
     climb_keeps (λ n. n) head.overclaim old new Inherit (explicit_sets (head ∷ p) f) stands
     (covered_inherit head.overclaim (explicit_sets (head ∷ p) f)) step
 anchored_stands head p (Ca ski key sets) f old new stands takes step =
     climb_keeps (λ n. n) head.overclaim old new (Explicit (sets f))
     (explicit_sets (head ∷ p) f) stands (takes f) step
+
+-- what is kept has the numbers that all sets have
+kept_numbers : (kept : Kept Numbers) (sets : List Numbers) → StandsFor (λ n. n) (Some kept) sets
+    → (n : ℕ) → holds (λ k. k) kept.met n ≡ meet (λ k. k) sets n
+kept_numbers kept [] stands n = absurd stands
+kept_numbers kept (t ∷ r) stands n = stands.1 n
+
+pub anchored_set : AnchoredIsPathSet
+anchored_set head p s f old new stands takes step =
+    kept_numbers new (with_claim (supplied_claim s f) (explicit_sets (head ∷ p) f))
+    (anchored_stands head p s f old (Some new) stands takes step)
 
 none_inherits : (claim : Claim Numbers) (sets : List Numbers) → with_claim claim sets ≡ []
     → claim ≡ Inherit

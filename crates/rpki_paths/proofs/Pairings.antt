@@ -1,5 +1,5 @@
 -- Where items that one fits are alike, any choice that fits leaves the others to be paired.
-use Rattle.std.proofs.Common.{◌≡◌, List, [], ◌∷◌, refl, sym, ap, subst, inl, inr, ⊎_elim, ◌⊎◌}
+use Rattle.std.proofs.Common.{◌≡◌, List, [], ◌∷◌, refl, sym, ap, subst, inl, inr, ◌⊎◌}
 use Rattle.rpki_paths.specs.Cert.{IsIn}
 use Rattle.rpki_paths.specs.Pairing.{IsPicked, here, there, IsPairing, IsPairable, AreAlike}
 use Rattle.rpki_paths.specs.Laws.{AnyChoicePairs}

@@ -1,11 +1,13 @@
 -- The walk over carried CAs, step by step.
 use Rattle.std.proofs.Common.{◌≡◌, ◌≢◌, ℕ, zero, suc, ◌+◌, ◌<◌, ◌≤◌, List, [], ◌∷◌, ◌++◌, length}
 use Rattle.std.proofs.Common.{set}
-use Rattle.std.proofs.Common.{map, Option, None, Some, IsTrue, IsFalse, refl, sym, ap, ◌∙◌, subst}
+use Rattle.std.proofs.Common.{Option, None, Some, IsTrue, IsFalse, refl, sym, ap, ◌∙◌, subst}
 use Rattle.std.proofs.Common.{inl, inr}
-use Rattle.std.proofs.Common.{⊎_elim, ◌⊎◌, arith, get_or-set_same, get_or-set_other, length-set}
+use Rattle.std.proofs.Common.{◌⊎◌, arith, get_or-set_same, get_or-set_other}
 use Rattle.std.proofs.Common.{get_or}
-use Rattle.std.specs.Prelude.{slice_get, slice_index, Bool}
+use Rattle.std.specs.Prelude.{slice_get, slice_index, Bool, option_map}
+use Rattle.std.proofs.lemmas.Option.{slice_get-map}
+use Rattle.std.proofs.Common.{map}
 use Rattle.std.proofs.lemmas.Bool.{true≢false, cases_eq}
 use Rattle.rpki_resources.specs.declared.resources.Claim.{Claim}
 use Rattle.rpki_resources.specs.declared.resources.Claim.TheVariants.{Explicit}
@@ -15,22 +17,21 @@ use Rattle.rpki_paths.specs.declared.kept.Kept.{Kept}
 use Rattle.rpki_paths.specs.declared.sets.KeptSets.{KeptSets}
 use Rattle.rpki_paths.specs.declared.overclaim.Overclaim.{Overclaim}
 use Rattle.rpki_paths.specs.declared.overclaim.Overclaim.TheVariants.{Refuse, Trim}
-use Rattle.rpki_paths.specs.declared.walker.PathFault.{PathFault}
 use Rattle.rpki_paths.specs.declared.walker.PathFault.TheVariants.{NoValidIssuer, Returns, Revoked}
 use Rattle.rpki_paths.specs.declared.walker.PathFault.TheVariants.{NotCovered, Memory}
-use Rattle.rpki_paths.specs.Cert.{Cert, Numbers, IsIn, IsSelfSigned, NoTwice}
+use Rattle.rpki_paths.specs.Cert.{Cert, Numbers, IsIn, IsSelfSigned}
 use Rattle.rpki_paths.specs.Sets.{StandsFor, IsCovered, CoversKept, IsClimbed}
 use Rattle.rpki_paths.specs.Path.{IsIssuedBy, IsOff, IsChain, HasNoIssuer, IsPath, IsDistinct}
 use Rattle.rpki_paths.specs.Path.{IsLinkCovered, explicit_sets}
 use Rattle.rpki_paths.specs.Walk.{FoundSays, kept_at, InEach, FailsFirst, IsNext, IsUnverified}
-use Rattle.rpki_paths.specs.Walk.{IsReached, placed, at_place}
-use Rattle.rpki_paths.specs.Walk.{StopsWhere, IsRefused, AreMarked, KeepsMarks, IsWalked}
-use Rattle.rpki_paths.specs.Walk.{IsNamed}
-use Rattle.rpki_paths.specs.Anchor.{Supply, Ca, Takes}
+use Rattle.rpki_paths.specs.Cert.{at_place}
+use Rattle.rpki_paths.specs.Walk.{IsReached, AreFirst, placed}
+use Rattle.rpki_paths.specs.Walk.{IsRefused, AreMarked, KeepsMarks, IsWalked}
 use Rattle.rpki_paths.specs.declared.places.Places.{Places}
 use Rattle.rpki_paths.specs.declared.walker.Found.TheVariants.{Issuer}
-use Rattle.rpki_paths.specs.Index.{IsIndex, places_of}
+use Rattle.rpki_paths.specs.Index.{IsIndex, IsNamed, IsNamedBy, places_of}
 use Rattle.rpki_paths.specs.Laws.{RefusedHasNoPath, KeptTellsTakes}
+use Rattle.rpki_paths.proofs.Indexing.{IsScan, scan_from_named, before_or_after}
 use Rattle.rpki_paths.proofs.Chains.{same_issuer, path_above, short, in_map}
 use Rattle.rpki_paths.proofs.Meets.{climb_keeps, covers_kept, from_covers_kept}
 
@@ -106,9 +107,70 @@ same_index (x ∷ cas) (suc i) zero c d dist e f s =
     (ap (λ (z : Cert). z.ski) (some_same x d f) ∙ sym s)))
 same_index (x ∷ cas) (suc i) (suc j) c d dist e f s = ap suc (same_index cas i j c d dist.1 e f s)
 
+-- the list has the places, from one on and below another, of the CAs with this identifier
+abbrev pub IsCertScan : List Cert → Option (List ℕ) → ℕ → ℕ → List ℕ → Type 0
+IsCertScan cas id from to [] =
+    (j : ℕ) (x : Cert) → from ≤ j → j < to → slice_get cas j ≡ Some x → ¬ (id ≡ Some x.ski)
+IsCertScan cas id from to (i ∷ places) =
+    (from ≤ i) × (i < to) × ((x : Cert) × (slice_get cas i ≡ Some x) × (id ≡ Some x.ski))
+    × ((j : ℕ) (x : Cert) → from ≤ j → j < i → slice_get cas j ≡ Some x → ¬ (id ≡ Some x.ski))
+    × IsCertScan cas id (i + 1) to places
+
+abbrev skis : List Cert → List (List ℕ)
+skis cas = map (λ c. c.ski) cas
+
+ski_at : (cas : List Cert) (id : List ℕ) (j : ℕ) (x : Cert) → slice_get cas j ≡ Some x
+    → Some id ≡ Some x.ski → slice_get (skis cas) j ≡ Some id
+ski_at cas id j x e n =
+    slice_get-map (λ (c : Cert). c.ski) cas j ∙ ap (option_map (λ (c : Cert). c.ski)) e ∙ sym n
+
+cert_at : (cas : List Cert) (id : List ℕ) (i : ℕ) → slice_get (skis cas) i ≡ Some id
+    → (x : Cert) × (slice_get cas i ≡ Some x) × (Some id ≡ Some x.ski)
+cert_at cas id i e = go (slice_get cas i) refl (sym (slice_get-map (λ (c : Cert). c.ski) cas i) ∙ e)
+  where
+    go : (o : Option Cert) → slice_get cas i ≡ o → option_map (λ (c : Cert). c.ski) o ≡ Some id
+        → (x : Cert) × (slice_get cas i ≡ Some x) × (Some id ≡ Some x.ski)
+    go None at_i f = absurd cc
+    go (Some x) at_i f = (x, at_i, sym f)
+
+cert_scan : (cas : List Cert) (id : List ℕ) (from to : ℕ) (places : List ℕ)
+    → IsScan (skis cas) id from to places → IsCertScan cas (Some id) from to places
+cert_scan cas id from to [] h = λ j x l lt e n. h j l lt (ski_at cas id j x e n)
+cert_scan cas id from to (i ∷ places) h = (
+  h.0,
+  h.1,
+  cert_at cas id i h.2,
+  λ j x l lt e n. h.3 j l lt (ski_at cas id j x e n),
+  cert_scan cas id (i + 1) to places h.4,
+)
+
+skis-placed : {C : Type 0} (cert : C → Cert) (k : ℕ) (cas : List C)
+    → map (λ c. (cert c).ski) cas ≡ skis (placed cert k cas)
+skis-placed cert k [] = refl
+skis-placed cert k (c ∷ cas) = ap (λ l. (cert c).ski ∷ l) (skis-placed cert (suc k) cas)
+
+length-skis : (cas : List Cert) → length (skis cas) ≡ length cas
+length-skis [] = refl
+length-skis (c ∷ cas) = ap suc (length-skis cas)
+
+-- what the identifiers of the CAs say of the CAs
+pub scan_of : {C : Type 0} (cert : C → Cert) (cas : List C) (aki : Option (List ℕ))
+    (places : List ℕ) → IsNamedBy (map (λ c. (cert c).ski) cas) aki places
+    → IsCertScan (placed cert 1 cas) aki 0 (length (placed cert 1 cas)) places
+scan_of cert cas None places h =
+    subst (λ l. IsCertScan (placed cert 1 cas) None 0 (length (placed cert 1 cas)) l) (sym h)
+    (λ j x l lt e n. cc)
+scan_of cert cas (Some id) places h =
+    let ids = skis (placed cert 1 cas) in
+    let named : IsNamed ids id places =
+    subst (λ l. IsNamed l id places) (skis-placed cert 1 cas) h in
+    cert_scan (placed cert 1 cas) id 0 (length (placed cert 1 cas)) places
+    (subst (λ n. IsScan ids id 0 n places) (length-skis (placed cert 1 cas))
+    (scan_from_named ids id places named))
+
 -- with distinct identifiers one CA at most is named
 pub named_once : (cas : List Cert) (id : Option (List ℕ)) (from to : ℕ) (places : List ℕ)
-    → IsDistinct cas → IsNamed cas id from to places → length places ≤ 1
+    → IsDistinct cas → IsCertScan cas id from to places → length places ≤ 1
 named_once cas id from to [] dist h = omega arith
 named_once cas id from to (i ∷ []) dist h = omega arith
 named_once cas id from to (i ∷ (j ∷ places)) dist h =
@@ -186,19 +248,12 @@ refused_has_no_path Memory cas ee q other dist h path cov = other refl
 
 -- ---- the search
 
-before_or_after : (a b : ℕ) → (a < b) ⊎ (b ≤ a)
-before_or_after zero zero = inr (omega arith)
-before_or_after zero (suc b) = inl (omega arith)
-before_or_after (suc a) zero = inr (omega arith)
-before_or_after (suc a) (suc b) =
-    elim (before_or_after a b) [ inl l ↦ inl (omega (arith, l)) | inr l ↦ inr (omega (arith, l)) ]
-
 -- what is left of the named places has all that may verify
 pub record IsSearching (cas : List Cert) (aki : Option (List ℕ)) (verifies : List ℕ → Bool)
     (named left : List ℕ)
     (before after : ℕ) : Type 0 where
   pub from : ℕ
-  pub rest : IsNamed cas aki from (length cas) left
+  pub rest : IsCertScan cas aki from (length cas) left
   pub passed : (j : ℕ) (x : Cert) → j < from → slice_get cas j ≡ Some x → aki ≡ Some x.ski
       → IsFalse (verifies x.key)
   pub cost : after + length left ≤ before + length named
@@ -207,7 +262,7 @@ pub record IsSearching (cas : List Cert) (aki : Option (List ℕ)) (verifies : L
 
 pub searching_none : (cas : List Cert) (aki : Option (List ℕ)) (verifies : List ℕ → Bool)
     (named : List ℕ) (before : ℕ)
-    → IsNamed cas aki 0 (length cas) named → IsSearching cas aki verifies named named before before
+    → IsCertScan cas aki 0 (length cas) named → IsSearching cas aki verifies named named before before
 searching_none cas aki verifies named before h = record {
   from = 0;
   rest = h;
@@ -219,7 +274,7 @@ searching_none cas aki verifies named before h = record {
 
 -- the first that is left, in range
 pub first_in_range : (cas : List Cert) (id : Option (List ℕ)) (from to i : ℕ) (rest : List ℕ)
-    → IsNamed cas id from to (i ∷ rest) → i < to
+    → IsCertScan cas id from to (i ∷ rest) → i < to
 first_in_range cas id from to i rest h = h.1
 
 named_at : (cas : List Cert) (i : ℕ) (x d : Cert) (id : Option (List ℕ)) → slice_get cas i ≡ Some x
@@ -271,7 +326,7 @@ searching_found cas aki verifies d named rest i before after w at_i verified = (
   refl,
 )
 
-pub none_named : (cas : List Cert) (aki : Option (List ℕ)) → IsNamed cas aki 0 (length cas) []
+pub none_named : (cas : List Cert) (aki : Option (List ℕ)) → IsCertScan cas aki 0 (length cas) []
     → (d : Cert)
     → IsIn d cas → ¬ (aki ≡ Some d.ski)
 none_named cas aki h d i = let t = in_get cas d i in
@@ -279,7 +334,7 @@ none_named cas aki h d i = let t = in_get cas d i in
 
 pub searching_done : (cas : List Cert) (aki : Option (List ℕ)) (verifies : List ℕ → Bool)
     (named : List ℕ) (before after : ℕ)
-    → IsSearching cas aki verifies named [] before after → IsNamed cas aki 0 (length cas) named
+    → IsSearching cas aki verifies named [] before after → IsCertScan cas aki 0 (length cas) named
     → ¬ (named ≡ []) → IsUnverified cas aki verifies
 searching_done cas aki verifies [] before after w h some = absurd (some refl)
 searching_done cas aki verifies (i ∷ named) before after w h some = (
@@ -297,6 +352,7 @@ pub record IsWalking (cas : List Cert) (ee head : Cert) (sets : KeptSets) (marks
     (turn steps : ℕ) : Type 0 where
   pub below : List Cert
   pub chain : IsChain cas ee (head ∷ below)
+  pub first : AreFirst cas (head ∷ below)
   pub covered : IsLinkCovered (head ∷ below)
   pub kept : (f : Family) → StandsFor (λ n. n) (kept_at sets f) (explicit_sets (head ∷ below) f)
   pub marked : AreMarked cas marks turn (head ∷ below)
@@ -318,6 +374,7 @@ pub walking_none : (cas : List Cert) (ee : Cert) (none sets : KeptSets) (marks :
 walking_none cas ee none sets marks turn apart empty climbed len fresh = record {
   below = [];
   chain = refl;
+  first = tt;
   covered = tt;
   kept = λ f. climb_keeps (λ n. n) ee.overclaim (kept_at none f) (kept_at sets f) (ee.claim f) []
       (none_stands (kept_at none f) (in_each (λ g. kept_at none g ≡ None) empty f))
@@ -337,6 +394,7 @@ module _ (cas : List Cert) (ee head : Cert) (sets : KeptSets) (marks : List ℕ)
   arrives top = record {
     below = w.below;
     path = record { chain = w.chain; top = top };
+    first = w.first;
     covered =
         w.covered;
     kept = w.kept;
@@ -344,7 +402,12 @@ module _ (cas : List Cert) (ee head : Cert) (sets : KeptSets) (marks : List ℕ)
   }
 
   reached : ¬ (IsSelfSigned head) → IsReached cas ee head w.below
-  reached open_head = record { chain = w.chain; covered = w.covered; not_self_signed = open_head }
+  reached open_head = record {
+    chain = w.chain;
+    first = w.first;
+    covered = w.covered;
+    not_self_signed = open_head;
+  }
 
   pub none_verifies : ¬ (IsSelfSigned head) → IsUnverified cas head.aki head.verifies
       → IsRefused NoValidIssuer cas ee
@@ -427,6 +490,7 @@ module _ (cas : List Cert) (ee head : Cert) (sets : KeptSets) (marks : List ℕ)
         record {
           below = head ∷ w.below;
           chain = (issued, off_next, w.chain);
+          first = (next, w.first);
           covered = (here', w.covered);
           kept = λ f. climb_keeps (λ n. n) head.overclaim (kept_at sets f) (kept_at new f)
               (d.claim f) (explicit_sets (head ∷ w.below) f) (w.kept f) (here' f)
@@ -473,13 +537,12 @@ kept_tells_takes head p kept ski key sets stands = (
 )
 
 -- what an index has of an identifier
-pub index_named : (cas : List Cert) (index : Places) (id aki : Option (List ℕ)) (named : List ℕ) →
-    IsIndex cas index → named ≡ places_of index id → id ≡ aki → IsNamed cas aki 0 (length cas) named
-index_named cas index id None named h e f =
-    subst (λ l. IsNamed cas None 0 (length cas) l) (sym (e ∙ ap (places_of index) f))
-    (λ j x l lt g n. cc)
-index_named cas index id (Some aki) named h e f =
-    subst (λ l. IsNamed cas (Some aki) 0 (length cas) l) (sym (e ∙ ap (places_of index) f)) (h aki)
+pub index_named : (ids : List (List ℕ)) (index : Places) (id aki : Option (List ℕ))
+    (named : List ℕ) → IsIndex ids index → named ≡ places_of index id → id ≡ aki
+    → IsNamedBy ids aki named
+index_named ids index id None named h e f = e ∙ ap (places_of index) f
+index_named ids index id (Some aki) named h e f =
+    subst (λ l. IsNamed ids aki l) (sym (e ∙ ap (places_of index) f)) (h aki)
 
 -- what was found, by the certificate at its place
 pub issuer_at : (cas : List Cert) (aki : Option (List ℕ)) (verifies : List ℕ → Bool) (i : ℕ)

@@ -30,6 +30,10 @@ pub record Cert : Type 0 where
   -- of a CA: whether the CRL that is paired with it lists the serial
   pub revokes : ℕ → Bool
 
+-- The certificate at this place.
+abbrev pub at_place : ℕ → Cert → Cert
+at_place n c = record c { place = n }
+
 -- The authority key identifier is left out or is the certificate's own (RFC 6487, section 4.8.3).
 abbrev pub IsOwn : Option (List ℕ) → List ℕ → Type 0
 IsOwn None ski = Unit {0}

@@ -1,12 +1,12 @@
--- CAs by their key identifiers.
-use Rattle.std.specs.Prelude.{◌≡◌, ℕ, List, [], Option, None, Some, Vec, length, cond}
+-- Certificates, keys and CRLs by their key identifiers (RFC 6487, section 4.8.2).
+use Rattle.std.specs.Prelude.{◌≡◌, ◌<◌, ◌↔◌, ℕ, List, [], Option, None, Some, Vec, cond}
+use Rattle.std.specs.Prelude.{AllPairs, slice_get}
 use Rattle.std.specs.declared.alloc.Global.{Global}
 use Rattle.std.specs.BTreeMap.{get, is_at, BTreeMap}
 use Rattle.std.specs.Ordering.{nat_cmp}
 use Rattle.std.specs.Cmp.Lexicographic.{slice_cmp}
 use Rattle.rpki_paths.specs.declared.places.Places.{Places}
-use Rattle.rpki_paths.specs.Cert.{Cert}
-use Rattle.rpki_paths.specs.Walk.{IsNamed}
+use Rattle.rpki_paths.specs.Cert.{IsIn}
 
 -- The places that stand at a key, or none.
 abbrev pub listed_in : Option (Vec ℕ Global) → List ℕ
@@ -29,6 +29,16 @@ abbrev pub places_of : Places → Option (List ℕ) → List ℕ
 places_of index None = []
 places_of index (Some id) = listed index.map id
 
--- The index has the places of all CAs.
-abbrev pub IsIndex : List Cert → Places → Type 0
-IsIndex cas index = (id : List ℕ) → IsNamed cas (Some id) 0 (length cas) (listed index.map id)
+-- The list ascends, and has just the places at which the identifier stands.
+pub record IsNamed (ids : List (List ℕ)) (id : List ℕ) (places : List ℕ) : Type 0 where
+  pub ascends : AllPairs (λ i j. i < j) places
+  pub exact : (i : ℕ) → IsIn i places ↔ (slice_get ids i ≡ Some id)
+
+-- The places of the identifier that a certificate names, and none where it names none.
+abbrev pub IsNamedBy : List (List ℕ) → Option (List ℕ) → List ℕ → Type 0
+IsNamedBy ids None places = places ≡ []
+IsNamedBy ids (Some id) places = IsNamed ids id places
+
+-- The index has the places of each of these identifiers.
+abbrev pub IsIndex : List (List ℕ) → Places → Type 0
+IsIndex ids index = (id : List ℕ) → IsNamed ids id (listed index.map id)

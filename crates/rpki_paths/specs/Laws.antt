@@ -1,5 +1,6 @@
 -- The laws of paths that public functions carry.
-use Rattle.std.specs.Prelude.{◌≡◌, ℕ, ◌+◌, ◌≤◌, List, ◌∷◌, Option, None, IsTrue, length, ◌↔◌}
+use Rattle.std.specs.Prelude.{◌≡◌, ℕ, ◌+◌, ◌≤◌, List, ◌∷◌, Option, None, Some, IsTrue}
+use Rattle.std.specs.Prelude.{length, ◌↔◌, [], ◌++◌}
 use Rattle.rpki_resources.specs.declared.block.Block.{Block}
 use Rattle.rpki_resources.specs.declared.resources.Claim.{Claim}
 use Rattle.rpki_resources.specs.declared.resources.Claim.TheVariants.{Inherit, Explicit}
@@ -12,12 +13,15 @@ use Rattle.rpki_paths.specs.declared.walker.PathFault.{PathFault}
 use Rattle.rpki_paths.specs.declared.walker.PathFault.TheVariants.{Memory}
 use Rattle.rpki_paths.specs.Walk.{IsRefused, kept_at, InEach}
 use Rattle.rpki_paths.specs.Cert.{Cert, Numbers, IsIn}
-use Rattle.rpki_paths.specs.Sets.{with_claim, meet, IsCovered, CoversKept, StandsFor, IsClimbed}
+use Rattle.rpki_paths.specs.Sets.{with_claim, IsCovered, CoversKept, StandsFor, IsClimbed}
 use Rattle.rpki_paths.specs.Path.{IsChain, IsPath, IsDistinct, IsLinkCovered, explicit_sets}
-use Rattle.rpki_paths.specs.Anchor.{Supply, Ca, Takes, supplied_claim, path_set}
+use Rattle.rpki_paths.specs.Anchor.{Supply, Ca, Takes, IsAnchored, supplied_claim, path_set}
 use Rattle.rpki_paths.specs.Pairing.{Carried, Crl, HasDistinctIds, IsMatching, HasKey}
 use Rattle.rpki_paths.specs.Pairing.{IsPicked, IsPairable, AreAlike, IsVerifiedBy, HasCrl}
-use Rattle.rpki_paths.specs.Grant.{IsAccepted, IsGranted, AreAnchored, union_of}
+use Rattle.rpki_paths.specs.Pairing.{IsPairing}
+use Rattle.rpki_paths.specs.Taking.{PairsOff, FitsNone, AllVerifyEach}
+use Rattle.rpki_paths.specs.Grant.{HasPaths, AreValid, AreUsed, authorities, IsAccepted, IsEarned}
+use Rattle.rpki_paths.specs.Grant.{IsGranted}
 
 -- One issuer more, whose claim covers what it has to, and what is kept stands for the sets again.
 abbrev pub ClimbKeepsMeet : {T : Type 0} → (T → ℕ) → Type 0
@@ -29,10 +33,11 @@ ClimbKeepsMeet {T} f =
 -- What is kept of a covered path, with the sets of the supply that takes it, stands for its set.
 abbrev pub AnchoredIsPathSet : Type 0
 AnchoredIsPathSet =
-    (head : Cert) (p : List Cert) (s : Supply) (f : Family) (old new : Option (Kept Numbers)) →
-    StandsFor (λ n. n) old (explicit_sets (head ∷ p) f) → Takes (head ∷ p) s →
-    IsClimbed (λ n. n) head.overclaim old (supplied_claim s f) new →
-    StandsFor (λ n. n) new (with_claim (supplied_claim s f) (explicit_sets (head ∷ p) f))
+    (head : Cert) (p : List Cert) (s : Supply) (f : Family) (old : Option (Kept Numbers))
+    (new : Kept Numbers) → StandsFor (λ n. n) old (explicit_sets (head ∷ p) f) →
+    Takes (head ∷ p) s →
+    IsClimbed (λ n. n) head.overclaim old (supplied_claim s f) (Some new) →
+    (n : ℕ) → holds (λ k. k) new.met n ≡ path_set (head ∷ p) s f n
 
 -- Nothing is inherited on a path that a supply takes, where a head that is a trust anchor inherits
 -- nothing (RFC 6487, sections 4.8.10 and 4.8.11; RFC 8630, section 2.3).
@@ -84,15 +89,30 @@ CrlsAreUnique =
 abbrev pub PathsAreThose : Type 0
 PathsAreThose =
     (a : Carried) (paths paths' : List (List Cert)) → HasDistinctIds a →
-    IsAccepted a paths → IsAccepted a paths' → (p : List Cert) → IsIn p paths → IsIn p paths'
+    HasPaths a paths → HasPaths a paths' → (p : List Cert) → IsIn p paths → IsIn p paths'
 
--- With distinct identifiers any paths and anchors that are found decide what is granted.
+-- With distinct identifiers any paths that are found decide whether the attestation is accepted: it
+-- is where the certificates are valid and every carried CA stands on one of them.
+abbrev pub AcceptanceIsDecided : Type 0
+AcceptanceIsDecided =
+    (a : Carried) (paths : List (List Cert)) (found : HasPaths a paths) → HasDistinctIds a →
+    ((paths' : List (List Cert)) × IsAccepted a paths')
+    ↔ (AreValid a × AreUsed (authorities a found.crls) paths)
+
+-- With distinct identifiers the paths that are found decide whether the attestation is granted: it
+-- is where each of them is anchored and the attested sets have just their numbers.
 abbrev pub GrantIsDecided : Type 0
 GrantIsDecided =
-    (a : Carried) (paths : List (List Cert)) (supplies anchors : List Supply)
+    (a : Carried) (paths : List (List Cert)) (supplies : List Supply)
     (attested : Family → Numbers) → HasDistinctIds a → IsAccepted a paths →
-    AreAnchored paths supplies anchors → IsGranted a supplies attested →
-    (f : Family) (n : ℕ) → holds (λ k. k) (attested f) n ≡ union_of paths anchors f n
+    IsGranted a supplies attested ↔ IsEarned paths supplies attested
+
+-- With distinct identifiers nothing is granted where a path that is found is not anchored.
+abbrev pub UnanchoredIsRefused : Type 0
+UnanchoredIsRefused =
+    (a : Carried) (paths : List (List Cert)) (p : List Cert) (supplies : List Supply)
+    (attested : Family → Numbers) → HasDistinctIds a → HasPaths a paths → IsIn p paths →
+    ((s : Supply) → ¬ (IsAnchored p supplies s)) → ¬ (IsGranted a supplies attested)
 
 -- With distinct identifiers a walk is refused, but for memory, only where there is no covered path.
 abbrev pub RefusedHasNoPath : Type 0
@@ -107,3 +127,24 @@ KeptTellsTakes =
     ((f : Family) → StandsFor (λ n. n) (kept_at kept f) (explicit_sets (head ∷ p) f)) →
     InEach (λ f. CoversKept (λ n. n) head.overclaim (kept_at kept f) (Explicit (sets f)))
     ↔ Takes (head ∷ p) (Ca ski key sets)
+
+-- What pairs off to the end, each taking the first that fits, is a pairing.
+abbrev pub FirstFitsArePairing : {A B : Type 0} → (A → B → Type 0) → Type 0
+FirstFitsArePairing {A} {B} R =
+    (xs : List A) (partners ys : List B) → PairsOff R xs partners ys [] →
+    IsPairing R xs partners ys
+
+-- Where items that one fits are alike and there is a pairing, each in turn finds one that fits.
+abbrev pub FirstFitsFindPairing : {A B : Type 0} → (A → B → Type 0) → Type 0
+FirstFitsFindPairing {A} {B} R =
+    (done : List A) (x : A) (more : List A) (partners ys left : List B) →
+    PairsOff R done partners ys left → AreAlike R (done ++ x ∷ more) ys →
+    IsPairable R (done ++ x ∷ more) ys → ¬ (FitsNone (R x) left)
+
+-- With distinct identifiers and a matching, whatever has the identifier that is sought also has the
+-- verdict, so that each signer and each CA asks for one.
+abbrev pub MatchingIsCheap : Type 0
+MatchingIsCheap =
+    (a : Carried) (ees : List Cert) (crls : List Crl) → HasDistinctIds a → IsMatching a ees crls →
+    AllVerifyEach (λ s. s.sid) (λ e. e.ski) (λ s e. s.verifies e.key) a.signers a.ees
+    × AllVerifyEach (λ d. d.ski) (λ l. l.aki) (λ d l. l.verifies d.key) a.cas a.crls

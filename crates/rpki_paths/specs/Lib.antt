@@ -5,6 +5,7 @@ pub mod Anchor
 pub mod Pairing
 pub mod Walk
 pub mod Index
+pub mod Taking
 pub mod Supplied
 pub mod Grant
 pub mod Laws

@@ -1,6 +1,7 @@
 -- One-to-one pairings of what an attestation carries (draft-michaelson-rpki-rta).
-use Rattle.std.specs.Prelude.{◌≡◌, ℕ, Bool, List, [], ◌∷◌, map, IsTrue}
-use Rattle.rpki_paths.specs.Cert.{Cert, IsIn, NoTwice}
+use Rattle.std.specs.Prelude.{◌≡◌, ℕ, Bool, List, [], ◌∷◌, IsTrue}
+use Rattle.rpki_paths.specs.Cert.{Cert, IsIn}
+use Rattle.rpki_paths.specs.Path.{IsDistinct}
 
 -- The list `xs` is `rest` with `x` at some place.
 pub data IsPicked {A : Type 0} : A → List A → List A → Type 0 where
@@ -68,5 +69,5 @@ pub record IsMatching (a : Carried) (ees : List Cert) (crls : List Crl) : Type 0
 -- No two carried CAs have one subject key identifier, and end-entity certificates that have one
 -- have one key.
 pub record HasDistinctIds (a : Carried) : Type 0 where
-  pub of_cas : NoTwice (map (λ c. c.ski) a.cas)
+  pub of_cas : IsDistinct a.cas
   pub of_ees : (e e' : Cert) → IsIn e a.ees → IsIn e' a.ees → e.ski ≡ e'.ski → e.key ≡ e'.key

@@ -40,12 +40,15 @@ StandsFor f (Some kept) [] = ⊥
 StandsFor f (Some kept) (set ∷ sets) =
     (kept.nearest ≡ set) × ((n : ℕ) → holds f kept.met n ≡ meet f (set ∷ sets) n)
 
+-- The nearest explicit set that is kept, alone, or none.
+abbrev pub nearest_kept : {T : Type 0} → Option (Kept (List (Block T))) → List (List (Block T))
+nearest_kept None = []
+nearest_kept (Some kept) = kept.nearest ∷ []
+
 -- The claim covers the nearest set that is kept, where it has to.
 abbrev pub CoversKept : {T : Type 0} → (T → ℕ) → Overclaim → Option (Kept (List (Block T))) →
     Claim (List (Block T)) → Type 0
-CoversKept f Refuse None claim = Unit {0}
-CoversKept f Refuse (Some kept) claim = IsCoveredBy f claim kept.nearest
-CoversKept f Trim kept claim = Unit {0}
+CoversKept f mode kept claim = IsCovered f mode (nearest_kept kept) claim
 
 -- How a set that is kept changes under one more explicit set: Trim cuts it, and Refuse leaves it.
 abbrev pub IsCut : {T : Type 0} → (T → ℕ) → Overclaim → List (Block T) → List (Block T) →

@@ -1,9 +1,7 @@
 -- What a supplied CA does to a path.
-use Rattle.std.specs.Prelude.{◌≡◌, ℕ, Bool, List, Result, Ok, Err, IsTrue, IsFalse, ◌⊎◌}
-use Rattle.rpki_resources.specs.declared.resources.Claim.{Claim}
+use Rattle.std.specs.Prelude.{◌≡◌, Bool, Result, Ok, Err, IsTrue, IsFalse, ◌⊎◌}
 use Rattle.rpki_resources.specs.declared.resources.Claim.TheVariants.{Explicit}
 use Rattle.rpki_paths.specs.declared.family.Family.{Family}
-use Rattle.rpki_paths.specs.declared.sets.KeptSets.{KeptSets}
 use Rattle.rpki_paths.specs.declared.walker.Path.{Path}
 use Rattle.rpki_paths.specs.declared.supply.SupplyFault.{SupplyFault}
 use Rattle.rpki_paths.specs.declared.supply.SupplyFault.TheVariants.{NotCovered, Memory}

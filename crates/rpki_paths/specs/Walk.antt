@@ -1,5 +1,5 @@
 -- What a walk up the carried CAs finds, and why it stops.
-use Rattle.std.specs.Prelude.{◌≡◌, ◌≢◌, ℕ, ◌+◌, ◌<◌, ◌≤◌, List, [], ◌∷◌, Option, None, Some, IsTrue}
+use Rattle.std.specs.Prelude.{◌≡◌, ◌≢◌, ℕ, ◌+◌, ◌<◌, ◌≤◌, List, [], ◌∷◌, Option, Some, IsTrue}
 use Rattle.std.specs.Prelude.{IsFalse}
 use Rattle.std.specs.Prelude.{slice_get, slice_index, suc, Bool}
 use Rattle.rpki_paths.specs.declared.family.Family.{Family}
@@ -11,7 +11,7 @@ use Rattle.rpki_paths.specs.declared.walker.Found.TheVariants.{NoIssuer, Invalid
 use Rattle.rpki_paths.specs.declared.walker.PathFault.{PathFault}
 use Rattle.rpki_paths.specs.declared.walker.PathFault.TheVariants.{NoValidIssuer, Returns, Revoked}
 use Rattle.rpki_paths.specs.declared.walker.PathFault.TheVariants.{NotCovered, Memory}
-use Rattle.rpki_paths.specs.Cert.{Cert, Numbers, IsIn, IsSelfSigned}
+use Rattle.rpki_paths.specs.Cert.{Cert, Numbers, IsIn, IsSelfSigned, at_place}
 use Rattle.rpki_paths.specs.Sets.{StandsFor, IsCovered}
 use Rattle.rpki_paths.specs.Path.{IsChain, IsOff, IsPath, IsLinkCovered, explicit_sets}
 
@@ -31,20 +31,6 @@ FailsFirst P As = ¬ (P As)
 FailsFirst P V4 = P As × ¬ (P V4)
 FailsFirst P V6 = P As × P V4 × ¬ (P V6)
 
--- The list has the places, from one on and below another, of the CAs with this identifier, in
--- order.
-abbrev pub IsNamed : List Cert → Option (List ℕ) → ℕ → ℕ → List ℕ → Type 0
-IsNamed cas id from to [] =
-    (j : ℕ) (x : Cert) → from ≤ j → j < to → slice_get cas j ≡ Some x → ¬ (id ≡ Some x.ski)
-IsNamed cas id from to (i ∷ places) =
-    (from ≤ i) × (i < to) × ((x : Cert) × (slice_get cas i ≡ Some x) × (id ≡ Some x.ski))
-    × ((j : ℕ) (x : Cert) → from ≤ j → j < i → slice_get cas j ≡ Some x → ¬ (id ≡ Some x.ski))
-    × IsNamed cas id (i + 1) to places
-
--- The certificate at this place.
-abbrev pub at_place : ℕ → Cert → Cert
-at_place n c = record c { place = n }
-
 -- The certificates as paths see them, at places that count from a number on.
 abbrev pub placed : {C : Type 0} → (C → Cert) → ℕ → List C → List Cert
 placed cert n [] = []
@@ -60,6 +46,12 @@ pub record IsNext (cas : List Cert) (aki : Option (List ℕ)) (verifies : List �
   pub first : (j : ℕ) (x : Cert) → j < index → slice_get cas j ≡ Some x → aki ≡ Some x.ski →
       IsFalse (verifies x.key)
 
+-- Each issuer on a chain is the first of the CAs that what is below names whose key verifies it.
+abbrev pub AreFirst : List Cert → List Cert → Type 0
+AreFirst cas [] = Unit {0}
+AreFirst cas (c ∷ []) = Unit {0}
+AreFirst cas (d ∷ c ∷ p) = IsNext cas c.aki c.verifies d × AreFirst cas (c ∷ p)
+
 -- There are CAs with this identifier, and the key of none verifies the certificate.
 abbrev pub IsUnverified : List Cert → Option (List ℕ) → (List ℕ → Bool) → Type 0
 IsUnverified cas aki verifies =
@@ -73,9 +65,10 @@ FoundSays cas aki verifies Invalid = IsUnverified cas aki verifies
 FoundSays cas aki verifies (Issuer i) =
     (d : Cert) × (next : IsNext cas aki verifies d) × (next.index ≡ i)
 
--- A covered chain goes up to the head `c`, which is not self-signed.
+-- A covered chain of first issuers goes up to the head `c`, which is not self-signed.
 pub record IsReached (cas : List Cert) (ee c : Cert) (p : List Cert) : Type 0 where
   pub chain : IsChain cas ee (c ∷ p)
+  pub first : AreFirst cas (c ∷ p)
   pub covered : IsLinkCovered (c ∷ p)
   pub not_self_signed : ¬ (IsSelfSigned c)
 
@@ -109,11 +102,13 @@ pub record AreMarked (cas : List Cert) (marks : List ℕ) (turn : ℕ) (p : List
 abbrev pub KeepsMarks : ℕ → List ℕ → List ℕ → Type 0
 KeepsMarks turn old new = (i : ℕ) → slice_index new i ≢ turn → slice_index new i ≡ slice_index old i
 
--- A covered path of `ee` with this head, for which what is kept stands, its CAs marked.
+-- A covered path of `ee` with this head, each issuer on it the first that verifies what is below;
+-- what is kept stands for it, and its CAs are marked.
 pub record IsWalked (cas : List Cert) (ee head : Cert) (sets : KeptSets) (marks : List ℕ)
     (turn : ℕ) : Type 0 where
   pub below : List Cert
   pub path : IsPath cas ee (head ∷ below)
+  pub first : AreFirst cas (head ∷ below)
   pub covered : IsLinkCovered (head ∷ below)
   pub kept : (f : Family) → StandsFor (λ n. n) (kept_at sets f) (explicit_sets (head ∷ below) f)
   pub marked : AreMarked cas marks turn (head ∷ below)

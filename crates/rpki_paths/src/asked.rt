@@ -2,11 +2,11 @@
 
 ghost use Rattle.std.specs.Prelude.{◌≡◌, ℕ, ◌+◌, ◌<◌};
 
-use crate::certificate::Certificate;
 use std::marker::Model;
 use std::sync::ledger::{Blank, Book, Ledger, Share};
 
-/// How many verdicts were asked. It takes no octets, and only `ask` changes it.
+/// How many verdicts on signatures were asked. It takes no octets, and only `count` changes it.
+/// Each call that answers a verdict takes it and raises it by one.
 #[derive(Drop)]
 pub struct Asked<L: Ledger> {
     book: Book<L>,
@@ -22,7 +22,7 @@ impl<L: Ledger> Model for Asked<L> {
 }
 
 impl<L: Ledger> Asked<L> {
-    /// Nothing asked yet.
+    /// Nothing asked yet. The blank is one that no other count was made of.
     pub fn new(blank: Blank) -> Self
         requires name { blank.name ≡ L.name }
         requires parts { blank.parts ≡ L.parts }
@@ -33,12 +33,10 @@ impl<L: Ledger> Asked<L> {
         Asked { book, share }
     }
 
-    /// Whether the key of an issuer verifies the signature of a certificate.
-    pub fn ask<C: Certificate>(&mut self, cert: &C, issuer: &C) -> bool
-        ensures says { result ≡ (C.cert cert.now).verifies (C.cert issuer.now).key }
-        ensures counts { self.new ≡ self.old + 1 }
+    /// One verdict more.
+    pub fn count(&mut self)
+        ensures { self.new ≡ self.old + 1 }
     {
         self.book.add(&mut self.share, 1);
-        cert.is_signed_by(issuer)
     }
 }

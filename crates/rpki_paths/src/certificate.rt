@@ -1,12 +1,14 @@
 //! What a walk asks of a carried certificate.
 
-ghost use Rattle.std.specs.Prelude.{◌≡◌, ◌↔◌, ℕ, List, IsTrue};
+ghost use Rattle.std.specs.Prelude.{◌≡◌, ◌↔◌, ℕ, ◌+◌, List, IsTrue};
 ghost use Rattle.rpki_paths.specs.declared.family.Family.{Family};
 ghost use Rattle.rpki_paths.specs.Anchor.{Supply, Fits};
 ghost use Rattle.rpki_paths.specs.Cert.{Cert, Numbers, IsSelfSigned};
 
+use crate::asked::Asked;
 use crate::overclaim::Overclaim;
 use rpki_resources::{AsBlocks, AsResources, IpBlocks, IpResources};
+use std::sync::ledger::Ledger;
 
 /// A key identifier: 20 octets (RFC 6487, section 4.8.2).
 pub type KeyId = [u8; 20];
@@ -29,9 +31,10 @@ pub trait Certificate {
     fn is_self_signed(&self) -> bool
         ensures { IsTrue result ↔ IsSelfSigned (cert self.now) };
 
-    /// Whether the key of another verifies its signature.
-    fn is_signed_by(&self, issuer: &Self) -> bool
-        ensures { result ≡ (cert self.now).verifies (cert issuer.now).key };
+    /// Whether the key of another verifies its signature: one verdict, which is counted.
+    fn is_signed_by<L: Ledger>(&self, issuer: &Self, asked: &mut Asked<L>) -> bool
+        ensures says { result ≡ (cert self.now).verifies (cert issuer.now).key }
+        ensures counts { asked.new ≡ asked.old + 1 };
 
     /// Whether the CRL that is paired with it lists the serial number of another.
     fn revokes(&self, subject: &Self) -> bool

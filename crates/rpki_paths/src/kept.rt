@@ -31,7 +31,8 @@ fn cut<T: Number>(
     }
 }
 
-/// What is kept with one more explicit set above a head of this mode.
+/// What is kept with one more explicit set above a head of this mode: Trim cuts what all sets have
+/// to it, and Refuse leaves that as it is. An error is want of memory.
 pub fn raised<T: Number>(
     overclaim: Overclaim,
     kept: &Option<Kept<Blocks<T>>>,
@@ -47,7 +48,8 @@ pub fn raised<T: Number>(
     Ok(Some(Kept { met, nearest }))
 }
 
-/// What is kept with one more claim above a head of this mode.
+/// What is kept with one more claim above a head of this mode; an inherited one changes nothing
+/// (RFC 3779, sections 2.2.3.5 and 3.2.3.3). An error is want of memory.
 pub fn climbed<T: Number>(
     alloc: Global,
     overclaim: Overclaim,
@@ -63,7 +65,8 @@ pub fn climbed<T: Number>(
     }
 }
 
-/// Whether a claim covers the nearest set that is kept, where it has to.
+/// Whether a claim covers the nearest set that is kept, where it has to (RFC 6487, section 7.2;
+/// under RFC 8360, section 4.2, it need not).
 pub fn covers_kept<T: Number>(
     overclaim: Overclaim,
     kept: &Option<Kept<Blocks<T>>>,

@@ -3,8 +3,10 @@
 ghost use Rattle.rpki_paths.specs.Laws.{ClimbKeepsMeet, AnchoredIsPathSet, AnchoredIsKnown};
 ghost use Rattle.rpki_paths.specs.Laws.{PathSetIsWithinEach, PathsAreUnique, PathsAreShort};
 ghost use Rattle.rpki_paths.specs.Laws.{AnyChoicePairs, WhatFitsIsAlike, CrlsAreUnique};
-ghost use Rattle.rpki_paths.specs.Laws.{PathsAreThose, GrantIsDecided, RefusedHasNoPath};
-ghost use Rattle.rpki_paths.specs.Laws.{KeptTellsTakes};
+ghost use Rattle.rpki_paths.specs.Laws.{PathsAreThose, AcceptanceIsDecided, GrantIsDecided};
+ghost use Rattle.rpki_paths.specs.Laws.{UnanchoredIsRefused, RefusedHasNoPath};
+ghost use Rattle.rpki_paths.specs.Laws.{KeptTellsTakes, FirstFitsArePairing};
+ghost use Rattle.rpki_paths.specs.Laws.{FirstFitsFindPairing, MatchingIsCheap};
 ghost use Rattle.rpki_paths.specs.Pairing.{HasKey, IsVerifiedBy, HasCrl};
 
 use rpki_resources::Number;
@@ -61,9 +63,19 @@ pub fn paths_are_those()
     ensures { PathsAreThose }
 {}
 
-/// With distinct identifiers the numbers of any anchored paths decide what is granted.
+/// With distinct identifiers any paths that are found decide what is accepted.
+pub fn acceptance_is_decided()
+    ensures { AcceptanceIsDecided }
+{}
+
+/// With distinct identifiers any accepted paths decide what is granted.
 pub fn grant_is_decided()
     ensures { GrantIsDecided }
+{}
+
+/// With distinct identifiers nothing is granted where a path that is found is not anchored.
+pub fn unanchored_is_refused()
+    ensures { UnanchoredIsRefused }
 {}
 
 /// With distinct identifiers a walk is refused only where there is no covered path.
@@ -74,4 +86,23 @@ pub fn refused_has_no_path()
 /// What is kept of a path tells whether a supplied CA takes it.
 pub fn kept_tells_takes()
     ensures { KeptTellsTakes }
+{}
+
+/// What pairs off, each taking the first that fits, is a pairing.
+pub fn first_fits_are_pairing()
+    ensures keys { FirstFitsArePairing HasKey }
+    ensures ees { FirstFitsArePairing IsVerifiedBy }
+    ensures crls { FirstFitsArePairing HasCrl }
+{}
+
+/// Where items that one fits are alike, taking the first that fits finds the pairing there is.
+pub fn first_fits_find_pairing()
+    ensures keys { FirstFitsFindPairing HasKey }
+    ensures ees { FirstFitsFindPairing IsVerifiedBy }
+    ensures crls { FirstFitsFindPairing HasCrl }
+{}
+
+/// With distinct identifiers a matching asks for one verdict of each signer and of each CA.
+pub fn matching_is_cheap()
+    ensures { MatchingIsCheap }
 {}

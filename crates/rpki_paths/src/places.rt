@@ -1,14 +1,13 @@
-//! CAs by their key identifiers.
+//! What is found by its key identifier.
 
 ghost use Rattle.std.specs.Prelude.{◌≡◌, None, IfOk};
 ghost use Rattle.rpki_paths.specs.Index.{IsIndex, IsPut, listed, places_of};
-ghost use Rattle.rpki_paths.specs.Walk.{placed};
 
-use crate::certificate::{Certificate, KeyId};
+use crate::certificate::KeyId;
 use std::alloc::{AllocError, Global};
 use std::collections::BTreeMap;
 
-/// The places of CAs by their key identifiers, those of one identifier in order.
+/// The places of carried items by their key identifiers, those of one identifier in carried order.
 #[derive(Drop)]
 pub struct Places {
     pub map: BTreeMap<KeyId, Vec<usize>>,
@@ -26,13 +25,13 @@ fn removed(alloc: Global, map: &mut BTreeMap<KeyId, Vec<usize>>, id: &KeyId) -> 
 }
 
 impl Places {
-    /// The places of these CAs.
-    pub fn of<C: Certificate>(alloc: Global, cas: &[C]) -> Result<Places, AllocError>
-        ensures { IfOk result (IsIndex (placed C.cert 1 cas.now)) }
+    /// The places of these identifiers. An error is want of memory.
+    pub fn of(alloc: Global, ids: &[KeyId]) -> Result<Places, AllocError>
+        ensures { IfOk result (IsIndex ids.now) }
     {
         let mut map: BTreeMap<KeyId, Vec<usize>> = BTreeMap::new(alloc);
-        for i in 0..cas.len() {
-            let id = cas[i].subject();
+        for i in 0..ids.len() {
+            let id = ids[i];
             let mut places = removed(alloc, &mut map, &id);
             places.push(i)?;
             map.insert(id, places)?;
@@ -40,7 +39,7 @@ impl Places {
         Ok(Places { map })
     }
 
-    /// The places of the CAs with this identifier.
+    /// The places of this identifier, and none where there is no identifier.
     pub fn named(&self, id: Option<KeyId>) -> &[usize]
         ensures { result.now ≡ places_of self.now id }
     {

@@ -33,7 +33,8 @@ impl KeptSets {
         }
     }
 
-    /// What is kept with one certificate more above a head of this mode.
+    /// What is kept with one certificate more above a head of this mode. An error is want of
+    /// memory.
     pub fn climbed<C: Certificate>(
         self,
         alloc: Global,
@@ -69,7 +70,8 @@ impl KeptSets {
         None
     }
 
-    /// What is kept with the sets of a supplied CA above a head of this mode.
+    /// What is kept with the sets of a supplied CA above a head of this mode. An error is want of
+    /// memory, and changes nothing.
     pub fn raised<C: Certificate, S: SuppliedCa<C>>(
         &self,
         overclaim: Overclaim,

@@ -29,7 +29,9 @@ impl From<AllocError> for SupplyFault {
 
 impl<'a, C: Certificate> Path<'a, C> {
     /// Anchors the path under a CA that is meant for its head, and answers whether the path is
-    /// anchored. A path that is anchored, and one of another head, stays as it is.
+    /// anchored. A path that is anchored, and one of another head, stays as it is. An error is the
+    /// first family whose nearest explicit set the CA does not have (RFC 6487, section 7.2), or
+    /// want of memory; it leaves the path as it was.
     pub fn supply_ca<S: SuppliedCa<C>>(&mut self, ca: &S) -> Result<bool, SupplyFault>
         ensures { Answers (Fits (C.cert self.old.head.now)
             (Supply.Ca (S.ski ca.now) (S.key ca.now) (S.sets ca.now)))

@@ -1,13 +1,14 @@
 //! The walk from an end-entity certificate up the carried CAs.
 
-ghost use Rattle.std.specs.Prelude.{◌≡◌, ◌≢◌, ℕ, ◌+◌, ◌<◌, ◌≤◌, length, IfOk, IfErr, OnOk};
+ghost use Rattle.std.specs.Prelude.{map, ◌≡◌, ◌≢◌, ℕ, ◌+◌, ◌<◌, ◌≤◌, length, IfOk, IfErr, OnOk};
 ghost use Rattle.std.specs.Prelude.{IsFalse, slice_index};
 ghost use Rattle.rpki_paths.specs.declared.walker.Found.{Found};
 ghost use Rattle.rpki_paths.specs.declared.walker.PathFault.{PathFault};
-ghost use Rattle.rpki_paths.specs.Index.{IsIndex};
+ghost use Rattle.rpki_paths.specs.Index.{IsIndex, IsNamedBy};
 ghost use Rattle.rpki_paths.specs.Path.{IsDistinct};
-ghost use Rattle.rpki_paths.specs.Walk.{IsNamed, FoundSays, IsRefused, IsWalked};
-ghost use Rattle.rpki_paths.specs.Walk.{KeepsMarks, at_place, placed};
+ghost use Rattle.rpki_paths.specs.Walk.{FoundSays, IsRefused, IsWalked};
+ghost use Rattle.rpki_paths.specs.Cert.{at_place};
+ghost use Rattle.rpki_paths.specs.Walk.{KeepsMarks, placed};
 
 use crate::asked::Asked;
 use crate::certificate::Certificate;
@@ -68,8 +69,7 @@ fn find_issuer<C: Certificate, L: Ledger>(
     named: &[usize],
     asked: &mut Asked<L>,
 ) -> Found
-    requires { IsNamed (placed C.cert 1 cas.now) (C.cert cert.now).aki 0
-        (length (placed C.cert 1 cas.now)) named.now }
+    requires { IsNamedBy (map (λ c. (C.cert c).ski) cas.now) (C.cert cert.now).aki named.now }
     ensures says { FoundSays (placed C.cert 1 cas.now) (C.cert cert.now).aki
         (C.cert cert.now).verifies result }
     ensures in_range { (i : ℕ) → result ≡ Found.Issuer i → i < length cas.now }
@@ -80,7 +80,7 @@ fn find_issuer<C: Certificate, L: Ledger>(
     while let Some((first, rest)) = left.split_first() {
         let i = *first;
         let ca = &cas[i];
-        if asked.ask(cert, ca) {
+        if cert.is_signed_by(ca, asked) {
             return Found::Issuer(i);
         }
         left = rest;
@@ -92,8 +92,11 @@ fn find_issuer<C: Certificate, L: Ledger>(
     }
 }
 
-/// Walks from an end-entity certificate up to the top. The index has the places of the CAs. A mark
-/// stands for each CA: the number of the walk that last took it.
+/// Walks from an end-entity certificate up to the top: to a head that is self-signed, or that names
+/// no carried CA. Each issuer is the first of those named whose key verifies what is below. The
+/// index has the CAs' subject key identifiers. A mark stands for each CA: the number of the walk
+/// that last took it. An error is the first cause, of the certificate where the walk stops, in the
+/// order of `PathFault`, or want of memory.
 pub fn walk<'a, C: Certificate, L: Ledger>(
     alloc: Global,
     ee: &'a C,
@@ -103,7 +106,7 @@ pub fn walk<'a, C: Certificate, L: Ledger>(
     turn: u64,
     asked: &mut Asked<L>,
 ) -> Result<Path<'a, C>, PathFault>
-    requires index { IsIndex (placed C.cert 1 cas.now) index.now }
+    requires index { IsIndex (map (λ c. (C.cert c).ski) cas.now) index.now }
     requires as_many { length marks.old ≡ length cas.now }
     requires fresh { (k : ℕ) → k < length marks.old → slice_index marks.old k ≢ turn }
     ensures path { IfOk result (λ path. IsWalked (placed C.cert 1 cas.now)

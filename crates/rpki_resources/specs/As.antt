@@ -1,4 +1,7 @@
 -- AS numbers, and blocks of them.
+pub mod Form
+pub mod Read
+pub mod Written
 use Rattle.std.specs.Prelude.{ℕ, ◌<◌, ◌^◌, List, ◌++◌, ◌==◌, if◌then◌else◌, codes, decimal}
 use Rattle.rpki_resources.specs.declared.block.Block.{Block}
 use Rattle.rpki_resources.specs.declared.asn.AsBlock.{AsBlock}

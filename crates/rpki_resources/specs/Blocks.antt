@@ -1,7 +1,7 @@
 -- Blocks of numbers, as a set: f tells the number of an end.
-use Rattle.std.specs.Prelude.{◌≡◌, ℕ, ◌+◌, ◌<◌, ◌≤◌, All, List, [], ◌∷◌, ◌++◌, Bool, nat_le, ◌&&◌}
+use Rattle.std.specs.Prelude.{◌≡◌, ℕ, ◌+◌, ◌<◌, ◌≤◌, All, List, [], ◌∷◌, Bool, nat_le, ◌&&◌}
 use Rattle.std.specs.Prelude.{◌||◌}
-use Rattle.std.specs.Prelude.{IsTrue, if◌then◌else◌}
+use Rattle.std.specs.Prelude.{IsTrue}
 use Rattle.std.specs.List.{list_any}
 use Rattle.rpki_resources.specs.declared.block.Block.{Block}
 
@@ -31,7 +31,8 @@ abbrev pub RisesFrom : {T : Type 0} → (T → ℕ) → ℕ → List (Block T) �
 RisesFrom f a [] = Unit {0}
 RisesFrom f a (b ∷ bs) = (a ≤ f b.min) × (f b.min ≤ f b.max) × RisesFrom f (f b.max + 2) bs
 
--- The blocks ascend, no block is empty, and at least one number lies between two of them.
+-- The blocks ascend, none is empty, and no two of them overlap or touch, so each set of numbers has
+-- one list of blocks alone (RFC 3779, sections 2.2.3.6 and 3.2.3.4).
 abbrev pub IsCanonical : {T : Type 0} → (T → ℕ) → List (Block T) → Type 0
 IsCanonical f bs = RisesFrom f 0 bs
 
@@ -39,19 +40,9 @@ IsCanonical f bs = RisesFrom f 0 bs
 abbrev pub IsBlock : {T : Type 0} → (T → ℕ) → Block T → Type 0
 IsBlock f b = f b.min ≤ f b.max
 
--- none of the first blocks begins behind one of the second
-abbrev pub Precede : {T : Type 0} → (T → ℕ) → List (Block T) → List (Block T) → Type 0
-Precede f first second = All (λ c. All (λ b. f b.min ≤ f c.min) first) second
-
 -- no block reaches up to a limit
 abbrev pub EndBelow : {T : Type 0} → (T → ℕ) → ℕ → List (Block T) → Type 0
 EndBelow f limit bs = All (λ b. f b.max < limit) bs
-
--- The blocks, and one more, if it isn't empty. Only a private step of the intersection speaks of
--- it.
-abbrev pub with_piece : {T : Type 0} → (T → ℕ) → List (Block T) → T → T → List (Block T)
-with_piece f bs lo hi =
-    if nat_le (f lo) (f hi) then bs ++ record { min = lo; max = hi } ∷ [] else bs
 
 -- the same numbers
 abbrev pub SameSet : {T : Type 0} → (T → ℕ) → List (Block T) → List (Block T) → Type 0

@@ -1,4 +1,6 @@
 -- What a certificate claims of a family of numbers.
+pub mod Form
+pub mod Read
 use Rattle.std.specs.Prelude.{◌≡◌, ℕ, List, [], ◌∷◌}
 use Rattle.rpki_resources.specs.declared.block.Block.{Block}
 use Rattle.rpki_resources.specs.declared.resources.Claim.{Claim}

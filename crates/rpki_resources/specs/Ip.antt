@@ -1,4 +1,7 @@
 -- Blocks of addresses.
+pub mod Form
+pub mod Read
+pub mod Written
 use Rattle.std.specs.Prelude.{ℕ, Option, None, Some}
 use Rattle.rpki_resources.specs.declared.block.Block.{Block}
 use Rattle.rpki_resources.specs.declared.ip.IpBlock.{IpBlock}

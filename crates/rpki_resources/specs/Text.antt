@@ -33,7 +33,7 @@ abbrev pub block_text : AddressFamily → IpBlock → List ℕ
 block_text family (Prefix p) = prefix_text family p
 block_text family (Range a b) = addr_text family a ++ (codes "-" ++ addr_text family b)
 
--- the length behind a dash, where there is one
+-- the length after a dash, where there is one
 abbrev pub with_max_len : List ℕ → Option ℕ → List ℕ
 with_max_len text None = text
 with_max_len text (Some len) = text ++ (codes "-" ++ decimal len)

@@ -3,18 +3,21 @@
 
 ghost use Rattle.std.specs.Prelude.{◌≡◌, ◌<◌, ◌≤◌, ◌^◌, ◌*◌, ◌+◌, ◌-◌, ◌%◌, IfOk, IfSome, length};
 ghost use Rattle.rpki_der.specs.Numbers.{number};
-ghost use Rattle.rpki_der.specs.Read.Parse.{bits_of, Finds};
-ghost use Rattle.rpki_der.specs.Read.Reads.{Reads};
+ghost use Rattle.rpki_der.specs.Tags.{BIT_STRING};
+ghost use Rattle.rpki_der.specs.Read.Parse.{bits_of};
+ghost use Rattle.rpki_der.specs.Read.Reads.{Reads, Stays};
 ghost use Rattle.rpki_der.specs.Write.Parts.{contents_small};
-ghost use Rattle.rpki_resources.specs.IpForm.{bit_count, lowest, highest};
-ghost use Rattle.rpki_resources.specs.IpRead.{ip_address_at};
-ghost use Rattle.rpki_resources.specs.IpWritten.{octet_count, first_bits, end_octets, lower_len};
-ghost use Rattle.rpki_resources.specs.IpWritten.{upper_len};
+ghost use Rattle.rpki_resources.specs.Ip.Form.{bit_count, lowest, highest};
+ghost use Rattle.rpki_resources.specs.Ip.Read.{ip_address_at};
+ghost use Rattle.rpki_resources.specs.Ip.Written.{octet_count, first_bits, end_octets, lower_len};
+ghost use Rattle.rpki_resources.specs.Ip.Written.{upper_len};
 
 use crate::addr::Addr;
 use crate::prefix::host_mask;
 use rpki_der::encode::bit_string;
-use rpki_der::{BitString, Constructed, DecodeError, Encode, EncodeError, Sink, SinkFailed};
+use rpki_der::{
+    BitString, Constructed, DecodeError, Encode, EncodeError, Reason, Sink, SinkFailed,
+};
 
 // The number with these digits to base 256.
 fn value_of(octets: &[u8]) -> u128
@@ -29,7 +32,7 @@ fn value_of(octets: &[u8]) -> u128
     value
 }
 
-/// How many bits are in octets without so many of the last one.
+/// How many bits are in octets without the unused ones of the last one.
 pub fn bit_count(octets: &[u8], unused: u8) -> u128
     ensures { result ≡ bit_count (octets.now, unused) }
 {
@@ -58,40 +61,23 @@ pub fn highest_of(octets: &[u8], unused: u8) -> u128
     lowest_of(octets, unused) + host_mask(bit_count(octets, unused) as u8)
 }
 
-/// The octets of a BIT STRING with these contents, and how many bits of the last one are not used.
-#[tactic(auto, unfolding(rpki_der::specs::Read::Parse::bits_of))]
-pub fn bits_in(contents: &[u8]) -> Option<(&[u8], u8)>
-    ensures found { Finds (λ bits. (bits.0.now, bits.1)) result (bits_of contents.now) }
-    ensures few { IfSome result (λ bits. bits.1 < 8) }
-{
-    match contents {
-        [] => None,
-        [unused, octets @ ..] => {
-            if *unused > 7 || (octets.is_empty() && *unused != 0) {
-                None
-            } else {
-                Some((octets, *unused))
-            }
-        }
-    }
-}
-
 /// Reads the bits of an end.
-#[tactic(auto, unfolding(crate::specs::IpRead::ip_address_at))]
+#[tactic(auto, unfolding(crate::specs::Ip::Read::ip_address_at, rpki_der::specs::Read::Parse::tested))]
 pub fn take_address(cons: &mut Constructed<'_>, most: u8) -> Result<BitString, DecodeError>
     ensures reads { Reads (λ bits. (bits.octets, bits.unused)) (ip_address_at most)
         cons.old result cons.new }
+    ensures stays { Stays result cons.new }
     ensures most { IfOk result (λ bits. bit_count (bits.octets, bits.unused) ≤ most) }
 {
     let bits = cons.take_bits()?;
     if bit_count(bits.octets.as_slice(), bits.unused) <= u128::from(most) {
         Ok(bits)
     } else {
-        Err(DecodeError::Malformed)
+        Err(cons.refuse_for(Reason::AddressTooLong))
     }
 }
 
-/// The first bits of an address, so many of them.
+/// The first `len` bits of an address.
 #[derive(Clone, Copy)]
 pub struct FirstBits {
     pub addr: Addr,
@@ -123,7 +109,7 @@ impl Encode for FirstBits {
 
     ghost is_short = { λ s. length (first_bits s.addr s.len) < 2 ^ 32 };
 
-    ghost small = { λ s h. contents_small 3 (first_bits s.addr s.len) h };
+    ghost small = { λ s h. contents_small BIT_STRING (first_bits s.addr s.len) h };
 
     fn encoded_len(&self) -> Result<u64, EncodeError> {
         let octets = self.addr.to_bits().to_be_bytes();

@@ -32,7 +32,7 @@ impl Model for Prefix {
 }
 
 impl Prefix {
-    /// The prefix of this length, in bits, that an address is in: the bits behind the length are
+    /// The prefix of this length, in bits, that an address is in: the bits after the length are
     /// cleared. The length is at most 128.
     pub fn new(addr: Addr, len: u8) -> Prefix
         requires { len ≤ 128 }
@@ -102,7 +102,7 @@ pub fn host_mask(len: u8) -> u128
     }
 }
 
-// The part of an address behind a prefix of this length.
+// The part of an address after a prefix of this length.
 fn host_part(addr: u128, len: u8) -> u128
     requires { len ≤ 128 }
     ensures { result ≡ addr % 2 ^ (128 - len) }

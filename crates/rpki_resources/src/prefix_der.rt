@@ -1,13 +1,13 @@
 //! Prefixes in DER and BER (RFC 3779, section 2.2.3.8; RFC 6482, section 3.3).
 
-ghost use Rattle.std.specs.Prelude.{◌≡◌, ◌<◌, ◌^◌, ℕ, List, IfOk, None, length};
-ghost use Rattle.rpki_der.specs.Read.Reads.{Reads, OkOrMemory};
-ghost use Rattle.rpki_der.specs.Grammar.{Front, IsBytes};
+ghost use Rattle.std.specs.Prelude.{◌<◌, ◌^◌, length};
+ghost use Rattle.rpki_der.specs.Tags.{BIT_STRING};
+ghost use Rattle.rpki_der.specs.Read.Reads.{Reads, Stays};
+ghost use Rattle.rpki_der.specs.Form.Decodes.{DecodesNext};
 ghost use Rattle.rpki_resources.specs.Family.{max_bits};
-ghost use Rattle.rpki_resources.specs.Prefix.{Network};
-ghost use Rattle.rpki_resources.specs.IpForm.{PrefixForm};
-ghost use Rattle.rpki_resources.specs.IpRead.{prefix_at};
-ghost use Rattle.rpki_resources.specs.IpWritten.{end_octets, first_bits};
+ghost use Rattle.rpki_resources.specs.Ip.Form.{PrefixForm};
+ghost use Rattle.rpki_resources.specs.Ip.Read.{prefix_at};
+ghost use Rattle.rpki_resources.specs.Ip.Written.{end_octets, first_bits};
 ghost use Rattle.rpki_der.specs.Write.Parts.{contents_small};
 
 use crate::addr::Addr;
@@ -17,9 +17,9 @@ use crate::prefix::Prefix;
 use rpki_der::{Constructed, DecodeError, Encode, EncodeError, Sink, SinkFailed};
 
 // Reads a prefix of the family.
-#[tactic(auto, unfolding(crate::specs::IpRead::prefix_at))]
 fn take_prefix(cons: &mut Constructed<'_>, family: AddressFamily) -> Result<Prefix, DecodeError>
-    ensures { Reads (λ p. p) (prefix_at (max_bits family)) cons.old result cons.new }
+    ensures reads { Reads (λ p. p) (prefix_at (max_bits family)) cons.old result cons.new }
+    ensures stays { Stays result cons.new }
 {
     let bits = take_address(cons, family.max_len())?;
     let octets = bits.octets.as_slice();
@@ -30,19 +30,18 @@ fn take_prefix(cons: &mut Constructed<'_>, family: AddressFamily) -> Result<Pref
 impl Prefix {
     /// Reads a prefix of the family: a BIT STRING of its bits (RFC 3779, section 2.2.3.8; RFC 6482,
     /// section 3.3). The bits of the last octet that are not used may be any, and are cleared. More
-    /// bits than an address of the family has are `Malformed`, as is what is no such string. Where
-    /// there is no memory for the bits, the answer is `Memory`.
+    /// bits than an address of the family has are refused by `Reason::AddressTooLong`, and what is
+    /// no such string is `Malformed`. Where there is no memory for the bits, the answer is
+    /// `Memory`.
     pub fn take_from(
         cons: &mut Constructed<'_>,
         family: AddressFamily,
     ) -> Result<Prefix, DecodeError>
         ensures reads { Reads (λ p. p) (prefix_at (max_bits family)) cons.old result cons.new }
-        ensures found { IfOk result (λ p. IsBytes cons.old.rest →
-            Front (PrefixForm family cons.old.mode) cons.old.rest p cons.new.rest) }
-        ensures accepted { cons.old.failed ≡ None → (prefix : Network) (rest : List ℕ) →
-            Front (PrefixForm family cons.old.mode) cons.old.rest prefix rest →
-            OkOrMemory result (λ read. (read ≡ prefix) × (cons.new.rest ≡ rest)) }
+        ensures stays { Stays result cons.new }
+        ensures decodes { DecodesNext (PrefixForm family) (λ p. p) cons.old result cons.new }
     {
+        cons.holds_octets();
         take_prefix(cons, family)
     }
 }
@@ -53,7 +52,7 @@ impl Encode for Prefix {
 
     ghost is_short = { λ p. length (first_bits p.addr p.len) < 2 ^ 32 };
 
-    ghost small = { λ p h. contents_small 3 (first_bits p.addr p.len) h };
+    ghost small = { λ p h. contents_small BIT_STRING (first_bits p.addr p.len) h };
 
     fn encoded_len(&self) -> Result<u64, EncodeError> {
         prefix_bits(self.addr(), self.addr_len()).encoded_len()

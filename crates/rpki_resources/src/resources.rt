@@ -1,7 +1,7 @@
 //! What a certificate claims of one family of numbers.
 
-ghost use Rattle.std.specs.Prelude.{◌≡◌, ℕ, ◌↔◌, List, Result, Ok, Err, IsTrue, IsOk, IfOk, OnOk};
-ghost use Rattle.std.specs.Prelude.{OnErr, Some, codes};
+ghost use Rattle.std.specs.Prelude.{◌≡◌, ℕ, ◌↔◌, ◌++◌, List, Result, Ok, Err, IsTrue, IsOk, IfOk};
+ghost use Rattle.std.specs.Prelude.{OnOk, OnErr, Some, codes};
 ghost use Rattle.std.specs.Fn.{FnOnceReturnsAtMut};
 ghost use Rattle.std.specs.declared.alloc.AllocError.{AllocError};
 ghost use Rattle.rpki_resources.specs.declared.block.Block.{Block};
@@ -255,6 +255,23 @@ impl<T: Number> ResourcesBuilder<T> {
         ensures { self.new ≡ Claim.Inherit }
     {
         self.claim = Claim::Inherit;
+    }
+
+    /// Adds the numbers of a set. What was inherited is inherited no longer. Where there is no
+    /// memory for its blocks, the builder stays as it was.
+    pub fn push_set(&mut self, set: &Blocks<T>) -> Result<(), AllocError>
+        ensures ok { OnOk result (self.new ≡ Claim.Explicit (added self.old ++ set.now)) }
+        ensures err { OnErr result (self.new ≡ self.old) }
+    {
+        match &mut self.claim {
+            Claim::Explicit(blocks) => blocks.push_set(set),
+            Claim::Missing | Claim::Inherit => {
+                let mut blocks = BlocksBuilder::new(self.alloc);
+                blocks.push_set(set)?;
+                self.claim = Claim::Explicit(blocks);
+                Ok(())
+            }
+        }
     }
 
     // A copy of the blocks that were added.

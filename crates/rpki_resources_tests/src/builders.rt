@@ -8,9 +8,10 @@ ghost use Rattle.rpki_resources.specs.Ip.{ip_range};
 use crate::sets::{as_set, gives, ip_set, v4, v4_end};
 use rpki_resources::{
     Addr, AddressFamily, AsBlock, AsBlocksBuilder, AsResourcesBuilder, Asn, IpBlock,
-    IpBlocksBuilder, IpResourcesBuilder, Prefix, SmallAsnSet,
+    IpBlocksBuilder, IpResourcesBuilder, MaxLenPrefix, Prefix, SmallAsnSet,
 };
 use std::alloc::{AllocError, Global};
+use std::collections::HashSet;
 use std::net::{Ipv4Addr, Ipv6Addr};
 
 /// Adds blocks at once.
@@ -32,7 +33,8 @@ fn are_extended(alloc: Global) -> Result<bool, AllocError> {
     builder.push(AsBlock::Id(Asn::from_u32(7)))?;
     let five = AsBlock::Range(Asn::from_u32(5), Asn::from_u32(6));
     add_as(&mut builder, &[five, AsBlock::Id(Asn::from_u32(1))])?;
-    Ok(builder.clone()?.finalize()? == as_set(alloc, &[(1, 1), (5, 7)])?)
+    builder.push_set(&as_set(alloc, &[(8, 9)])?)?;
+    Ok(builder.clone()?.finalize()? == as_set(alloc, &[(1, 1), (5, 9)])?)
 }
 
 fn are_addresses_extended(alloc: Global) -> Result<bool, AllocError> {
@@ -101,6 +103,30 @@ fn are_few(alloc: Global) -> Result<bool, AllocError> {
     Ok(few.len() == 2 && !few.is_empty() && few.as_slice() == two.as_slice())
 }
 
+/// Whether equal values are one key, and others are not.
+fn are_keys(alloc: Global) -> Result<bool, AllocError> {
+    let mut prefixes = HashSet::new(alloc);
+    let mut entries = HashSet::new(alloc);
+    let mut families = HashSet::new(alloc);
+    for (addr, len) in [
+        (v4(0xC000_02FF), 24),
+        (v4(0xC000_0200), 24),
+        (v4(0xC000_0200), 25),
+    ] {
+        let prefix = Prefix::new(addr, len);
+        prefixes.insert(prefix)?;
+        for (family, max_len) in [(AddressFamily::Ipv4, None), (AddressFamily::Ipv6, Some(26))] {
+            families.insert(family)?;
+            entries.insert(MaxLenPrefix {
+                family,
+                prefix,
+                max_len,
+            })?;
+        }
+    }
+    Ok(prefixes.len() == 2 && families.len() == 2 && entries.len() == 4)
+}
+
 #[test]
 fn builders(rt: HostRuntime) -> Result<(), AllocError> {
     let alloc = rt.alloc();
@@ -111,6 +137,7 @@ fn builders(rt: HostRuntime) -> Result<(), AllocError> {
     assert!(rt; are_iterated(alloc)?);
     assert!(rt; are_addresses_iterated(alloc)?);
     assert!(rt; are_few(alloc)?);
+    assert!(rt; are_keys(alloc)?);
     Ok(())
 }
 

@@ -8,6 +8,8 @@
 #[cfg(test)]
 mod builders;
 #[cfg(test)]
+mod claims;
+#[cfg(test)]
 mod octets;
 #[cfg(test)]
 mod sets;

@@ -5,7 +5,7 @@ use bytes::Bytes;
 use rpki_der::encode::sequence;
 use rpki_der::{Constructed, DecodeError, Encode, EncodeError, Mode};
 use rpki_resources::AddressFamily::{Ipv4, Ipv6};
-use rpki_resources::{AddressFamily, AsBlocks, Asn, IpBlocks};
+use rpki_resources::{Addr, AddressFamily, AsBlocks, Asn, IpBlocks, Prefix};
 use std::alloc::{AllocError, Global};
 
 /// The first address and the last one of each block.
@@ -43,7 +43,7 @@ fn read_family(
 }
 
 /// What was read, if the octets were not refused. Want of memory is handed on.
-fn read<T: Drop>(answer: Result<T, DecodeError>) -> Result<Option<T>, AllocError> {
+pub fn read<T: Drop>(answer: Result<T, DecodeError>) -> Result<Option<T>, AllocError> {
     match answer {
         Ok(found) => Ok(Some(found)),
         Err(DecodeError::Memory) => Err(AllocError),
@@ -60,8 +60,8 @@ fn are_octets(written: Result<Vec<u8>, EncodeError>, want: &[u8]) -> Result<bool
     }
 }
 
-/// AS numbers, and the octets that they are read of and written as (RFC 3779, sections 3.2.3 and
-/// B.2).
+/// AS numbers, and the octets that they are read of and written as (RFC 3779, section 3.2.3,
+/// and appendix C).
 pub static NUMBERS: [(Numbers, &[u8]); 5] = [
     (&[], &[0x30, 0]),
     (&[(5, 5)], &[0x30, 3, 2, 1, 5]),
@@ -380,6 +380,49 @@ fn are_families(alloc: Global) -> Result<bool, AllocError> {
     )
 }
 
+/// A prefix of a family, its bits and their number, and the octets that it is read of and written
+/// as (RFC 3779, section 2.2.3.8).
+static PREFIXES: [(AddressFamily, u128, u8, &[u8]); 4] = [
+    (Ipv6, 0x2001_0DB8 << 96, 32, &[3, 5, 0, 0x20, 1, 0x0D, 0xB8]),
+    (Ipv4, 0, 0, &[3, 1, 0]),
+    (Ipv4, 10 << 120, 7, &[3, 2, 1, 10]),
+    (Ipv4, 0xC000_0201 << 96, 32, &[3, 5, 0, 0xC0, 0, 2, 1]),
+];
+
+/// What is no prefix of IPv4: 33 bits, and a number.
+static WRONG_PREFIXES: [&[u8]; 2] = [&[3, 6, 7, 10, 0, 0, 0, 0x80], &[2, 1, 5]];
+
+/// The prefix that is read of these octets, and not refused.
+fn read_prefix(
+    alloc: Global,
+    mode: Mode,
+    family: AddressFamily,
+    octets: &[u8],
+) -> Result<Option<Prefix>, AllocError> {
+    let source = Bytes::copy_from_slice(alloc, octets)?;
+    read(Constructed::decode(source, mode, |cons| Prefix::take_from(cons, family)))
+}
+
+fn are_prefixes(alloc: Global) -> Result<bool, AllocError> {
+    for (family, bits, len, octets) in &PREFIXES {
+        let prefix = Prefix::new(Addr::from_bits(*bits), *len);
+        if read_prefix(alloc, Mode::Der, *family, octets)? != Some(prefix)
+            || read_prefix(alloc, Mode::Ber, *family, octets)? != Some(prefix)
+            || !are_octets(prefix.to_bytes(alloc), octets)?
+        {
+            return Ok(false);
+        }
+    }
+    for octets in &WRONG_PREFIXES {
+        if read_prefix(alloc, Mode::Ber, Ipv4, octets)?.is_some() {
+            return Ok(false);
+        }
+    }
+    // the bit that is not used is cleared
+    let ten = Prefix::new(Addr::from_bits(10 << 120), 7);
+    Ok(read_prefix(alloc, Mode::Der, Ipv4, &[3, 2, 1, 11])? == Some(ten))
+}
+
 #[test]
 fn octets(rt: HostRuntime) -> Result<(), AllocError> {
     let alloc = rt.alloc();
@@ -388,6 +431,7 @@ fn octets(rt: HostRuntime) -> Result<(), AllocError> {
     assert!(rt; are_addresses(alloc)?);
     assert!(rt; are_addresses_refused(alloc)?);
     assert!(rt; are_families(alloc)?);
+    assert!(rt; are_prefixes(alloc)?);
     assert!(rt; are_octets(Asn::from_u32(300).to_bytes(alloc), &[2, 2, 1, 0x2C])?);
     Ok(())
 }

@@ -1,8 +1,8 @@
 //! Rows of sets that are built, joined, intersected and covered.
 
 use rpki_resources::{
-    Addr, AsBlock, AsBlocks, AsBlocksBuilder, Asn, Blocks, BlocksError, IpBlock, IpBlocks,
-    IpBlocksBuilder, Number, Overclaimed, Resources,
+    Addr, AsBlock, AsBlocks, AsBlocksBuilder, Asn, Blocks, BlocksError, Claim, IpBlock, IpBlocks,
+    IpBlocksBuilder, Number, Overclaimed, Resources, ResourcesBuilder,
 };
 use std::alloc::{AllocError, Global};
 
@@ -134,13 +134,15 @@ fn is_pair<T: Number>(
     both: &Blocks<T>,
 ) -> Result<bool, AllocError> {
     let union = first.union(second)?;
-    let mut met = first.clone()?;
-    met.intersection_assign(second)?;
+    let intersection = first.intersection(second)?;
+    let mut common = first.clone()?;
+    common.intersection_assign(second)?;
     let is_covered = both == second;
     let claim = Resources::blocks(first.clone()?);
     let covers = first.contains(second) && second.verify_covered(&claim) == Ok(());
     let refuses = !first.contains(second) && second.verify_covered(&claim) == Err(Overclaimed);
-    Ok(union == *all && met == *both && (covers || !is_covered) && (refuses || is_covered))
+    let are_right = union == *all && intersection == *both && common == *both;
+    Ok(are_right && (covers || !is_covered) && (refuses || is_covered))
 }
 
 fn are_pairs(alloc: Global) -> Result<bool, AllocError> {
@@ -211,6 +213,18 @@ fn are_claims<T: Number>(alloc: Global, set: &Blocks<T>) -> Result<bool, AllocEr
     )
 }
 
+/// Whether a builder has a set that was pushed twice, after it had inherited.
+fn is_pushed<T: Number>(alloc: Global, set: &Blocks<T>) -> Result<bool, AllocError> {
+    let mut builder: ResourcesBuilder<T> = ResourcesBuilder::new(alloc);
+    builder.inherit();
+    builder.push_set(set)?;
+    builder.push_set(set)?;
+    match builder.finalize()?.claim() {
+        Claim::Explicit(found) => Ok(found == set),
+        Claim::Missing | Claim::Inherit => Ok(false),
+    }
+}
+
 #[test]
 fn sets(rt: HostRuntime) -> Result<(), AllocError> {
     let alloc = rt.alloc();
@@ -219,5 +233,7 @@ fn sets(rt: HostRuntime) -> Result<(), AllocError> {
     assert!(rt; are_address_pairs(alloc)?);
     assert!(rt; are_claims(alloc, &as_set(alloc, &[(1, 5)])?)?);
     assert!(rt; are_claims(alloc, &v4_set(alloc, &[(1, 5)])?)?);
+    assert!(rt; is_pushed(alloc, &as_set(alloc, &[(1, 5)])?)?);
+    assert!(rt; is_pushed(alloc, &v4_set(alloc, &[(1, 5), (9, 9)])?)?);
     Ok(())
 }

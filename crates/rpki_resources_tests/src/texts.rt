@@ -5,7 +5,9 @@ ghost use Rattle.rpki_resources.specs.Text.{prefix_text};
 ghost use Rattle.rpki_resources.specs.declared.family.AddressFamily.TheVariants.{Ipv4, Ipv6};
 
 use crate::sets::{v4, v4_end};
-use rpki_resources::{Addr, AddressFamily, AsBlock, Asn, IpBlock, MaxLenPrefix, Prefix};
+use rpki_resources::{
+    Addr, AddressFamily, AsBlock, Asn, BlocksError, IpBlock, MaxLenPrefix, Overclaimed, Prefix,
+};
 use std::alloc::{AllocError, Global};
 use std::fmt;
 
@@ -300,6 +302,13 @@ fn are_of_one_family(alloc: Global) -> Result<bool, AllocError> {
     Ok(format!(in alloc; "{low} {high}")?.as_str() == "192.0.2.0/24 2001:db8::/32")
 }
 
+/// Whether faults are printed by their texts.
+fn are_faults(alloc: Global) -> Result<bool, AllocError> {
+    let (inherit, memory) = (BlocksError::Inherit, BlocksError::Memory);
+    let text = format!(in alloc; "{inherit}, {memory}, {Overclaimed}")?;
+    Ok(text.as_str() == "inherited resources, out of memory, overclaimed resources")
+}
+
 #[test]
 fn texts(rt: HostRuntime) -> Result<(), AllocError> {
     let alloc = rt.alloc();
@@ -311,5 +320,6 @@ fn texts(rt: HostRuntime) -> Result<(), AllocError> {
     assert!(rt; is_as_block(alloc, AsBlock::Id(Asn::MAX), "AS4294967295")?);
     let range = AsBlock::Range(Asn::from_u32(10), Asn::from_u32(20));
     assert!(rt; is_as_block(alloc, range, "AS10-AS20")?);
+    assert!(rt; are_faults(alloc)?);
     Ok(())
 }

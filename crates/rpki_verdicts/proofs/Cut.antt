@@ -6,6 +6,7 @@ use Rattle.std.specs.Simd.{first_chunks}
 use Rattle.std.proofs.lemmas.List.{length-append, length-drop, take-append-drop}
 use Rattle.std.proofs.Math.Seq.{drop-append_seam, take-append_seam}
 use Rattle.rpki_verdicts.specs.Verdicts.{IsLine, AreVerdicts}
+use Rattle.rpki_verdicts.proofs.Line.{line-length}
 
 rest-of : {X : Type 0} (P : X → Type 0) (x : X) (xs : List X) → All P (x ∷ xs) → All P xs
 rest-of P x xs h = λ k d l. h (suc k) d (omega (arith, l))
@@ -27,7 +28,7 @@ cut-length (line ∷ lines) h =
     omega (
       arith,
       length-append line (concat lines),
-      (first-of IsLine line lines h).long,
+      line-length line (first-of IsLine line lines h),
       cut-length lines (rest-of IsLine line lines h),
     )
 
@@ -35,7 +36,7 @@ cut : (lines : List (List ℕ)) → All IsLine lines
     → first_chunks 195 (length lines) (concat lines) ≡ lines
 cut [] h = refl
 cut (line ∷ lines) h =
-    let long = (first-of IsLine line lines h).long in
+    let long = line-length line (first-of IsLine line lines h) in
     let a : take 195 (line ++ concat lines) ≡ line =
     subst (λ (n : ℕ). take n (line ++ concat lines) ≡ line) long
     (take-append_seam line (concat lines)) in

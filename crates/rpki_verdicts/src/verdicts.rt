@@ -1,9 +1,8 @@
 //! A list of verdicts as a text.
 
-ghost use Rattle.std.specs.Prelude.{◌≡◌, ◌↔◌, ◌++◌, ℕ, List, All, MatchOption, MatchBool, IsTrue};
-ghost use Rattle.sha2.specs.Sha256.{sha256};
-ghost use Rattle.hex.specs.Hex.{encode_lower};
-ghost use Rattle.rpki_verdicts.specs.Verdicts.{AreVerdicts, IsLine, is_place, IsLineOf, IsListed};
+ghost use Rattle.std.specs.Prelude.{◌≡◌, ◌↔◌, ◌++◌, ℕ, List, All, Contains, MatchOption, IsTrue};
+ghost use Rattle.rpki_verdicts.specs.Parts.{IsSpaced, HasParts, HasDigests};
+ghost use Rattle.rpki_verdicts.specs.Verdicts.{AreDigits, line_of, IsLine, AreVerdicts, digest_text};
 ghost use Rattle.rpki_verdicts.specs.Verdicts.{IsYes};
 
 use hex::encode_to_slice;
@@ -57,16 +56,16 @@ impl<'a> Verdicts<'a> {
         ensures { IsTrue result ↔ IsYes self.now
             (key_head.now ++ key_rest.now) message.now signature.now }
     {
-        let key = hex_digest(key_head, key_rest);
-        let message = hex_digest(message, &[]);
-        let signature = hex_digest(signature, &[]);
+        let key = digest_text(key_head, key_rest);
+        let message = digest_text(message, &[]);
+        let signature = digest_text(signature, &[]);
         lists(self.lines, &key, &message, &signature)
     }
 }
 
 /// The digest of two parts, as one message, in lower hexadecimal digits.
-fn hex_digest(first: &[u8], second: &[u8]) -> [u8; DIGITS]
-    ensures { result ≡ encode_lower (sha256 (first.now ++ second.now)) }
+fn digest_text(first: &[u8], second: &[u8]) -> [u8; DIGITS]
+    ensures { result ≡ digest_text (first.now ++ second.now) }
 {
     let mut hasher = Sha256::new();
     hasher.update(first);
@@ -77,9 +76,15 @@ fn hex_digest(first: &[u8], second: &[u8]) -> [u8; DIGITS]
     text
 }
 
-/// Whether a line is of these three texts.
-fn lists(lines: &[[u8; LINE]], key: &[u8], message: &[u8], signature: &[u8]) -> bool
-    ensures { IsTrue result ↔ IsListed lines.now key.now message.now signature.now }
+/// Whether one of the lines is that of these three digests.
+#[tactic(auto, using(crate::proofs::Line::line_has_parts, crate::proofs::Line::parts_make_line))]
+fn lists(
+    lines: &[[u8; LINE]],
+    key: &[u8; DIGITS],
+    message: &[u8; DIGITS],
+    signature: &[u8; DIGITS],
+) -> bool
+    ensures { IsTrue result ↔ Contains lines.now (line_of key.now message.now signature.now) }
 {
     for line in lines {
         if is_line_of(line, key, message, signature) {
@@ -89,14 +94,23 @@ fn lists(lines: &[[u8; LINE]], key: &[u8], message: &[u8], signature: &[u8]) -> 
     false
 }
 
-/// Whether the line is of these three texts.
-fn is_line_of(line: &[u8; LINE], key: &[u8], message: &[u8], signature: &[u8]) -> bool
-    ensures { IsTrue result ↔ IsLineOf line.now key.now message.now signature.now }
+/// Whether this is the line of these three digests.
+fn is_line_of(
+    line: &[u8; LINE],
+    key: &[u8; DIGITS],
+    message: &[u8; DIGITS],
+    signature: &[u8; DIGITS],
+) -> bool
+    ensures { IsTrue result ↔ HasParts line.now key.now message.now signature.now }
 {
-    &line[..64] == key && &line[65..129] == message && &line[130..194] == signature
+    is_spaced(line)
+        && &line[..64] == key.as_slice()
+        && &line[65..129] == message.as_slice()
+        && &line[130..194] == signature.as_slice()
 }
 
 /// Whether each is a line of three digests.
+#[tactic(auto, using(crate::proofs::Line::line_has_digits, crate::proofs::Line::digits_make_line))]
 fn are_lines(lines: &[[u8; LINE]]) -> bool
     ensures { IsTrue result ↔ All IsLine lines.now }
 {
@@ -110,23 +124,29 @@ fn are_lines(lines: &[[u8; LINE]]) -> bool
 
 /// Whether this is a line of three digests.
 fn is_line(line: &[u8; LINE]) -> bool
-    ensures { IsTrue result ↔ IsLine line.now }
+    ensures { IsTrue result ↔ HasDigests line.now }
 {
-    for place in 0..LINE {
-        if !is_place(place, line[place]) {
+    is_spaced(line)
+        && are_digits(&line[..64])
+        && are_digits(&line[65..129])
+        && are_digits(&line[130..194])
+}
+
+/// Whether a space stands after each of the first two digests, and LF at the end.
+fn is_spaced(line: &[u8; LINE]) -> bool
+    ensures { IsTrue result ↔ IsSpaced line.now }
+{
+    line[64] == b' ' && line[129] == b' ' && line[194] == b'\n'
+}
+
+/// Whether each is a lower hexadecimal digit.
+fn are_digits(text: &[u8]) -> bool
+    ensures { IsTrue result ↔ AreDigits text.now }
+{
+    for octet in text {
+        if !matches!(*octet, b'0'..=b'9' | b'a'..=b'f') {
             return false;
         }
     }
     true
-}
-
-/// Whether the octet may stand at this place of a line.
-fn is_place(place: usize, octet: u8) -> bool
-    ensures { result ≡ is_place place octet }
-{
-    match place {
-        64 | 129 => octet == b' ',
-        194 => octet == b'\n',
-        _ => matches!(octet, b'0'..=b'9' | b'a'..=b'f'),
-    }
 }

@@ -1,24 +1,16 @@
 //! Reading times (RFC 5280, section 4.1.2.5).
 
-ghost use Rattle.std.specs.Prelude.{◌≡◌, ℕ, List, IfOk, IfSome, None, ◌<◌};
+ghost use Rattle.std.specs.Prelude.{◌≡◌, IfSome, ◌<◌};
 ghost use Rattle.rpki_der.specs.Read.Parse.{Finds, primitive};
-ghost use Rattle.rpki_der.specs.Read.Reads.{Reads, OkOrMemory};
-ghost use Rattle.rpki_der.specs.Grammar.{Front, IsBytes};
+ghost use Rattle.rpki_der.specs.Read.Reads.{Reads, Stays};
+ghost use Rattle.rpki_der.specs.Form.Decodes.{DecodesNext};
 ghost use Rattle.rpki_der.specs.Tags.{GENERALIZED_TIME};
-ghost use Rattle.rpki_basics.specs.Moment.{Moment};
 ghost use Rattle.rpki_basics.specs.TimeForm.{TimeForm};
 ghost use Rattle.rpki_basics.specs.TimeRead.{pair_at, is_zulu, after_year_of, utc_of};
 ghost use Rattle.rpki_basics.specs.TimeRead.{generalized_of, time_at, IsTimeOf};
 
-use crate::contents::take_contents;
 use crate::time::Time;
-use rpki_der::{Constructed, DecodeError, Tag};
-
-// UTCTime (X.690, section 8.25).
-const UTC: Tag = Tag { octet: 0x17 };
-
-// GeneralizedTime (X.690, section 8.25).
-const GENERALIZED: Tag = Tag { octet: 0x18 };
+use rpki_der::{Constructed, DecodeError, Reason, Tag};
 
 // Two decimal digits at the front, and what follows them.
 #[tactic(auto, unfolding(crate::specs::TimeRead::pair_at))]
@@ -83,42 +75,57 @@ fn generalized_time(text: &[u8]) -> Option<Time>
     in_year(u16::from(century) * 100 + u16::from(year), text)
 }
 
+// Why these contents, which name no moment, are refused: they are not this number of digits and Z,
+// or they are, and there is no such date or time of day.
+fn fault_of(text: &[u8], digits: usize) -> Reason {
+    let is_time = text.len() > digits
+        && text[..digits].iter().all(|c| c.is_ascii_digit())
+        && is_zulu(&text[digits..]);
+    if is_time {
+        Reason::NoSuchTime
+    } else {
+        Reason::BadTime
+    }
+}
+
 // Reads a GeneralizedTime.
 fn take_generalized(cons: &mut Constructed<'_>) -> Result<Time, DecodeError>
-    ensures { Reads (λ t. t) (primitive GENERALIZED_TIME generalized_of) cons.old result cons.new }
+    ensures reads { Reads (λ t. t) (primitive GENERALIZED_TIME generalized_of)
+        cons.old result cons.new }
+    ensures stays { Stays result cons.new }
 {
-    let text = take_contents(cons, GENERALIZED)?;
+    let text = cons.take_primitive_if(Tag::GENERALIZED_TIME)?;
     match generalized_time(text.as_slice()) {
         Some(time) => Ok(time),
-        None => Err(DecodeError::Malformed),
+        None => Err(cons.refuse_for(fault_of(text.as_slice(), 14))),
     }
 }
 
 // Reads a time.
 #[tactic(auto, unfolding(crate::specs::TimeRead::time_at))]
 fn take_time(cons: &mut Constructed<'_>) -> Result<Time, DecodeError>
-    ensures { Reads (λ t. t) time_at cons.old result cons.new }
+    ensures reads { Reads (λ t. t) time_at cons.old result cons.new }
+    ensures stays { Stays result cons.new }
 {
-    match cons.take_opt_primitive_if(UTC)? {
+    match cons.take_opt_primitive_if(Tag::UTC_TIME)? {
         None => take_generalized(cons),
         Some(text) => match utc_time(text.as_slice()) {
             Some(time) => Ok(time),
-            None => Err(DecodeError::Malformed),
+            None => Err(cons.refuse_for(fault_of(text.as_slice(), 12))),
         },
     }
 }
 
 impl Time {
     /// Reads a time: a UTCTime or a GeneralizedTime of a real moment (RFC 5280, section 4.1.2.5),
-    /// in DER and in BER alike. All else is refused; `Memory` may come too.
+    /// in DER and in BER alike. A text of another form is refused by `BadTime`, a date or a time of
+    /// day that there is not by `NoSuchTime`, all else by `Malformed`; `Memory` may come too.
     pub fn take_from(cons: &mut Constructed<'_>) -> Result<Time, DecodeError>
         ensures reads { Reads (λ t. t) time_at cons.old result cons.new }
-        ensures found { IfOk result (λ t. IsBytes cons.old.rest →
-            Front (TimeForm cons.old.mode) cons.old.rest t cons.new.rest) }
-        ensures accepted { cons.old.failed ≡ None → (t : Moment) (rest : List ℕ) →
-            Front (TimeForm cons.old.mode) cons.old.rest t rest →
-            OkOrMemory result (λ read. (read ≡ t) × (cons.new.rest ≡ rest)) }
+        ensures decodes { DecodesNext TimeForm (λ t. t) cons.old result cons.new }
+        ensures stays { Stays result cons.new }
     {
+        cons.holds_octets();
         take_time(cons)
     }
 

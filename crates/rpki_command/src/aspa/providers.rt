@@ -13,7 +13,8 @@ use rpki_resources::Asn;
 use std::alloc::{AllocError, Global};
 use std::marker::Model;
 
-/// How many providers a customer has at most (draft-ietf-sidrops-aspa-profile-15, section 3.3).
+/// How many providers a customer has at most: the original's limit. The profile's ASN.1 has
+/// SIZE (1..MAX) (draft-ietf-sidrops-aspa-profile-15, section 3).
 const MAX_PROVIDERS: usize = 10_000;
 
 /// For how many providers memory is asked for with the first one: most customers have fewer.

@@ -1,24 +1,27 @@
 -- What a decoder answers follows from what its parser finds, where that is a part of a form.
-use Rattle.std.proofs.Common.{◌≡◌, ℕ, Bool, true, false, cond, List, Option, Some, None, Result, Ok}
-use Rattle.std.proofs.Common.{Err, refl, sym, ap, ◌∙◌}
+use Rattle.std.proofs.Common.{◌≡◌, ℕ, Bool, true, false, cond, List, [], Option, Some, None}
+use Rattle.std.proofs.Common.{Result, Ok, Err, refl, sym, ap, ◌∙◌, eq-eqb}
 use Rattle.std.specs.Prelude.{MatchOption}
 use Rattle.rpki_der.specs.declared.mode.Mode.{Mode}
 use Rattle.rpki_der.specs.declared.error.DecodeError.{DecodeError}
 use Rattle.rpki_der.specs.declared.error.DecodeError.TheVariants.{Malformed, Content, Memory}
 use Rattle.rpki_der.specs.Read.State.{State}
-use Rattle.rpki_der.specs.Read.Parse.{Parser, optional, some_of, is_next}
-use Rattle.rpki_der.specs.Read.Reads.{Reads, Answers, Fails, Found, RepeatsError}
+use Rattle.rpki_der.specs.Read.Parse.{Parser, ◌>>=◌, optional, some_of, is_next}
+use Rattle.rpki_der.specs.Read.Reads.{Reads, Answers, Refuses, Found, RepeatsError}
 use Rattle.rpki_der.specs.Grammar.{Front, IsBytes, HasNoFront}
 use Rattle.rpki_der.proofs.Reading.Lengths.{some_is}
 use Rattle.rpki_der.proofs.Reading.Many.{optional-some}
 use Rattle.rpki_der.specs.Form.Law.{TagSet, nothing, is, IsPart}
-use Rattle.rpki_der.specs.Form.Decodes.{IsOnlyFront, Refuses, Decodes, TakesFront, DecodesNext}
-use Rattle.rpki_der.specs.Form.Decodes.{IsNextOrAbsent, TakesIfNext, DecodesIfNext}
+use Rattle.rpki_der.specs.Form.Decodes.{IsOnlyFront, Decodes, TakesFront, DecodesNext}
+use Rattle.rpki_der.specs.Form.Decodes.{IsNextOrAbsent, TakesIfNext, DecodesIfNext, DecodesAll}
+use Rattle.rpki_der.specs.Form.Made.{to_end, all_read}
+use Rattle.rpki_der.proofs.Form.Apart.{starts-is}
+use Rattle.rpki_der.proofs.Form.Nested.{all-sound, all-complete}
 use Rattle.rpki_der.proofs.Form.Words.{part-unique, optional-none}
 
 -- an error other than for memory tells that nothing was found
 pub refuses : {Y : Type 0} {P : Type 0} (e : DecodeError) (found : Option Y) → (found ≡ None → P)
-    → Fails e found → Refuses e P
+    → Refuses e (found ≡ None) → Refuses e P
 refuses Memory found f h = tt
 refuses Malformed found f h = f h
 refuses (Content c) found f h = f h
@@ -59,7 +62,7 @@ module _ {X : Type 0} {first : TagSet} {p : Parser X} {form : Mode → List ℕ 
   decodes {T} view (Err e) bytes h =
       refuses e (p mode octets) without-front (fails (p mode octets) h)
     where
-      fails : (f : Option (X × List ℕ)) → Found {T = T} view f (Err e) → Fails e f
+      fails : (f : Option (X × List ℕ)) → Found {T = T} view f (Err e) → Refuses e (f ≡ None)
       fails None g = g
       fails (Some x) g = g
 
@@ -70,6 +73,34 @@ module _ {X : Type 0} {first : TagSet} {p : Parser X} {form : Mode → List ℕ 
     h.1,
   )
   takes view (Err e) new bytes h = refuses e (p mode octets) without-front h
+
+-- what a decoder of all of the octets answers
+module _ {X : Type 0} {first apart : TagSet} {p : Parser X} {form : Mode → List ℕ → X → Type 0}
+    (part : IsPart first apart p form) (mode : Mode) (octets : List ℕ) where
+  nothing-whole : to_end p mode octets ≡ None → (x : X) → form mode octets x → ⊥
+  nothing-whole none x g =
+      let all = all-complete part mode octets x g in
+      absurd (let both : (let n : Option (X × List ℕ) = None in
+      n) ≡ Some (x, []) = sym none ∙ rw all refl in cc)
+
+  pub decodes-all : {T : Type 0} (view : T → X) (result : Result T DecodeError) → IsBytes octets
+      → Found view (to_end p mode octets) result → DecodesAll (form mode) view octets result
+  decodes-all {T} view (Ok t) bytes h = at (all_read p mode octets) refl h
+    where
+      at : (f : Option X) → all_read p mode octets ≡ f
+          → Found view (f >>= λ x. Some (x, [])) (Ok t)
+          → form mode octets (view t) × ((x : X) → form mode octets x → x ≡ view t)
+      at None e g = absurd g
+      at (Some y) e g = (
+        all-sound part mode octets (view t) bytes (rw g e),
+        λ x k. some_is x (view t) (sym (all-complete part mode octets x k) ∙ (rw g e)),
+      )
+  decodes-all {T} view (Err e) bytes h =
+      refuses e (to_end p mode octets) nothing-whole (fails (to_end p mode octets) h)
+    where
+      fails : (f : Option (X × List ℕ)) → Found {T = T} view f (Err e) → Refuses e (f ≡ None)
+      fails None g = g
+      fails (Some x) g = g
 
 not-failed : (P Q : Type 0) (E : DecodeError → Type 0) (f : Option DecodeError) → (P → Q)
     → MatchOption f P E → MatchOption f Q E
@@ -91,10 +122,17 @@ decodes-next {T} {X} {first} {p} {form} part view old result new bytes h = (
 
 module _ {X : Type 0} {p : Parser X} {form : Mode → List ℕ → X → Type 0} (tag : ℕ)
     (part : IsPart (is tag) nothing p form) (mode : Mode) (octets : List ℕ) where
+  -- what is in the form begins with its tag
+  not-begun : is_next tag octets ≡ false → HasNoFront (form mode) octets
+  not-begun other x rest f =
+      let begun = starts-is tag f.0 (part.starts mode f.0 x f.2) in
+      let next : is_next tag octets ≡ true = rw (f.1, begun.1) (eq-eqb tag tag refl) in
+      absurd (let both : false ≡ true = sym other ∙ next in cc)
+
   next-or-absent : (x : Option X) (rest : List ℕ) → IsBytes octets
       → optional tag p mode octets ≡ Some (x, rest) → IsNextOrAbsent tag (form mode) octets x rest
   next-or-absent None rest bytes h = let n = optional-none tag p mode octets rest h in
-      (n.0, sym n.1)
+      (n.0, not-begun n.0, sym n.1)
   next-or-absent (Some x) rest bytes h = (
     of (is_next tag octets) refl h,
     only-front part mode octets x rest

@@ -9,13 +9,7 @@ use Rattle.std.proofs.lemmas.List.Kept.{AllPairs-cons}
 use Rattle.rpki_der.proofs.Reading.Lengths.{bind_some, some_is}
 use Rattle.rpki_der.specs.Form.Keyed.{AreDistinct, Keyed, Once, SaysNothing, First, with_key}
 use Rattle.rpki_der.specs.Form.Keyed.{has_key, are_distinct, said_of, said, only_one, said_once}
-use Rattle.rpki_der.specs.Form.Keyed.{first_said}
-
--- say understands what an item says, if it is good
-pub record IsSaid {I X : Type 0} (say : I → Option X) (Good : I → Type 0) (Say : I → X
-    → Type 0) : Type 0 where
-  pub sound : (i : I) (x : X) → Good i → say i ≡ Some x → Say i x
-  pub complete : (i : I) (x : X) → Say i x → say i ≡ Some x
+use Rattle.rpki_der.specs.Form.Keyed.{first_said, IsSaid}
 
 -- ---- keys
 

@@ -1,5 +1,14 @@
 -- The kinds of values as parts.
-use Rattle.std.proofs.Common.{◌<◌, ◌^◌, ℕ, suc, zero, List, Some, inl, inr, refl}
+use Rattle.std.proofs.Common.{◌≡◌, ◌<◌, ◌^◌, ℕ, suc, zero, List, [], ◌∷◌, ◌++◌, Some, inl, inr}
+use Rattle.std.proofs.Common.{refl, sym, ap, subst}
+use Rattle.std.specs.Prelude.{◌⊎◌}
+use Rattle.std.proofs.lemmas.List.{append-nil}
+use Rattle.rpki_der.specs.declared.mode.Mode.TheVariants.{Der, Ber}
+use Rattle.rpki_der.specs.Read.Parse.{all_of, there, skip_all_at}
+use Rattle.rpki_der.specs.Grammar.{ListOf}
+use Rattle.rpki_der.proofs.Reading.Lengths.{bind_some, some_is}
+use Rattle.rpki_der.proofs.Reading.Skips.{skip-all-sound, skip-all-complete}
+use Rattle.rpki_der.proofs.Reading.Unique.{items-as, skipped-ber}
 use Rattle.rpki_der.specs.declared.mode.Mode.{Mode}
 use Rattle.rpki_der.specs.Read.Parse.{primitive, u8_at, u32_at, this, boolean_at, null_of, oid_at}
 use Rattle.rpki_der.specs.Read.Parse.{bits_at, ia5_at, octets_at, skip_at}
@@ -105,3 +114,33 @@ octets-of-part n = part (or (is OCTET_STRING) (is OCTET_STRING_IN_PIECES)) (read
 pub flag-part : IsPart (is BOOLEAN) (is BOOLEAN) (default_at false BOOLEAN boolean_at)
     (λ mode. Default false (Boolean mode))
 flag-part = default BOOLEAN boolean-part false
+
+-- skipped values up to the end
+pub rest-part : IsPart every every skip_all_at (λ mode o _. ListOf (Skipped mode 32) o)
+rest-part = record {
+  exact = λ mode. record {
+    sound = λ b u r bytes h.
+        let s = bind_some (there (all_of (skip_at 32) mode b)) _ (u, r) h in
+        let q : (let t : Unit {0} × List ℕ = (s.0, []) in t) ≡ (u, r) = some_is _ _ s.2 in
+        let end : [] ≡ r = ap (λ (t : Unit {0} × List ℕ). t.1) q in (
+          b,
+          subst (λ (t : List ℕ). b ≡ b ++ t) end (sym (append-nil b)),
+          skip-all-sound mode b bytes
+              (subst (λ (t : List ℕ). skip_all_at mode b ≡ Some (tt, t)) (sym end) h),
+        );
+    complete = λ o u r er h.
+        subst (λ (t : List ℕ). skip_all_at mode (o ++ t) ≡ Some (u, t)) (sym er)
+        (subst (λ (t : List ℕ). skip_all_at mode t ≡ Some (u, [])) (sym (append-nil o))
+        (skip-all-complete mode o h));
+  };
+  starts = λ mode o u h. any-start o;
+  relaxed = λ o u l. (
+    l.0,
+    items-as (λ o _. Skipped Der 32 o) (λ o _. Skipped Ber 32 o)
+        (λ o _ k. skipped-ber 32 o k) o l.0 l.1,
+  );
+}
+  where
+    any-start : (o : List ℕ) → (o ≡ []) ⊎ StartsIn every o
+    any-start [] = inl refl
+    any-start (t ∷ o) = inr (t, o, refl, refl)

@@ -11,7 +11,8 @@ use Rattle.rpki_der.proofs.Reading.Lengths.{bind_some, some_is}
 use Rattle.rpki_der.proofs.Reading.Exact.{IsBytes-left, IsBytes-right, IsBytes-contents}
 use Rattle.rpki_der.specs.Tags.{OCTET_STRING, OCTET_STRING_IN_PIECES}
 use Rattle.rpki_der.specs.Form.Law.{TagSet, nothing, is, or, IsPart}
-use Rattle.rpki_der.specs.Form.Made.{Begins, OctetsOf, BitsOf, understood, front_of, all_read}
+use Rattle.rpki_der.specs.Form.Made.{Begins, OctetStringHolding, BitStringHolding, understood}
+use Rattle.rpki_der.specs.Form.Made.{front_of, all_read}
 use Rattle.rpki_der.proofs.Form.Apart.{none-at-end}
 use Rattle.rpki_der.proofs.Form.Words.{IsUnderstood, understand}
 use Rattle.rpki_der.proofs.Form.Kinds.{octets-part}
@@ -71,18 +72,27 @@ whole-some None x e = absurd cc
 whole-some (Some (y, [])) x e = let p : y ≡ x = some_is _ _ e in ap (λ (z : _). Some (z, [])) p
 whole-some (Some (y, b ∷ r)) x e = absurd cc
 
+-- all of the octets
+module _ {X : Type 0} {first apart : TagSet} {p : Parser X} {G : Mode → List ℕ → X → Type 0}
+    (e : IsPart first apart p G) (mode : Mode) (s : List ℕ) (x : X) where
+  pub all-sound : IsBytes s → all_read p mode s ≡ Some x → G mode s x
+  all-sound bytes h =
+      let f = (e.exact mode).sound s x [] bytes (whole-some (p mode s) x h) in
+      subst (λ (t : List ℕ). G mode t x) (sym (f.1 ∙ append-nil f.0)) f.2
+
+  pub all-complete : G mode s x → all_read p mode s ≡ Some x
+  all-complete h =
+      let found : p mode s ≡ Some (x, []) =
+      subst (λ (t : List ℕ). p mode t ≡ Some (x, [])) (append-nil s)
+      ((e.exact mode).complete s x [] (none-at-end apart) h) in
+      rw found refl
+
 -- all of the octets, in DER
 pub all-understood : {X : Type 0} {first apart : TagSet} {p : Parser X} {G : Mode → List ℕ → X
     → Type 0} → IsPart first apart p G → IsUnderstood (λ _. all_read p Der) IsBytes (λ _. G Der)
-all-understood {X} {first} {apart} {p} {G} e = record {
-  sound = λ _ s x bytes h.
-      let f = (e.exact Der).sound s x [] bytes (whole-some (p Der s) x h) in
-      subst (λ (t : List ℕ). G Der t x) (sym (f.1 ∙ append-nil f.0)) f.2;
-  complete = λ _ s x h.
-      let found : p Der s ≡ Some (x, []) =
-      subst (λ (t : List ℕ). p Der t ≡ Some (x, [])) (append-nil s)
-      ((e.exact Der).complete s x [] (none-at-end apart) h) in
-      rw found refl;
+all-understood e = record {
+  sound = λ _ s x bytes h. all-sound e Der s x bytes h;
+  complete = λ _ s x h. all-complete e Der s x h;
   relaxed = λ s x h. h;
 }
 
@@ -90,12 +100,12 @@ all-understood {X} {first} {apart} {p} {G} e = record {
 pub in-octets : {X : Type 0} {f : Mode → List ℕ → Option X} {M : Mode → List ℕ → X → Type 0}
     → IsUnderstood f IsBytes M
     → IsPart (or (is OCTET_STRING) (is OCTET_STRING_IN_PIECES)) nothing
-    (understood f (octets_at 32)) (λ mode. OctetsOf mode (M mode))
+    (understood f (octets_at 32)) (λ mode. OctetStringHolding mode (M mode))
 in-octets m = understand (octets-part 32) (λ mode o s bytes g. string-bytes 32 mode o s g bytes) m
 
 -- a BIT STRING of whole octets, which are understood
 pub in-bits : {X : Type 0} {first : TagSet} {b : Parser (List ℕ)} {f : Mode → List ℕ → Option X}
     {M : Mode → List ℕ → X → Type 0} → IsPart first nothing b (λ mode o s. BitString mode o (s, 0))
     → IsUnderstood f IsBytes M
-    → IsPart first nothing (understood f b) (λ mode. BitsOf mode (M mode))
+    → IsPart first nothing (understood f b) (λ mode. BitStringHolding mode (M mode))
 in-bits bits m = understand bits (λ mode o s bytes g. bits-bytes mode o s g bytes) m

@@ -8,19 +8,20 @@ use Rattle.std.proofs.lemmas.List.Elements.{All-nil, All-cons}
 use Rattle.rpki_der.specs.declared.mode.Mode.{Mode}
 use Rattle.rpki_der.specs.declared.mode.Mode.TheVariants.{Der, Ber}
 use Rattle.rpki_der.specs.Read.Parse.{Parser, in_value, is_next, some_of, optional, taken}
-use Rattle.rpki_der.specs.Read.Parse.{with_front, go_on, up_to, many, each, all_of, all_at, tested}
+use Rattle.rpki_der.specs.Read.Parse.{go_on, up_to, many, each, all_of, all_at, tested}
 use Rattle.rpki_der.specs.Read.Exact.{IsExact, IsReading}
 use Rattle.rpki_der.specs.Grammar.{IsBytes, Within, Front, Optional, Items, IsUnique}
 use Rattle.rpki_der.proofs.Reading.Lengths.{bind_some, some_is}
 use Rattle.rpki_der.proofs.Reading.Exact.{exact-in, IsBytes-left, IsBytes-right}
+use Rattle.rpki_der.proofs.Reading.Lists.{front-some}
 use Rattle.rpki_der.proofs.Reading.Many.{optional-some}
 use Rattle.rpki_der.proofs.Reading.Unique.{value-ber, before, unique, items-as}
 use Rattle.rpki_der.specs.Form.Parts.{items_at}
 use Rattle.rpki_der.specs.Form.Law.{TagSet, every, nothing, is, or, has, NoneNext, StartsIn, Starts}
 use Rattle.rpki_der.specs.Form.Law.{IsPart}
-use Rattle.rpki_der.specs.Form.Made.{Understood, Made, Partly, Ignored, Kept, Default, Choice}
-use Rattle.rpki_der.specs.Form.Made.{understood, made, partly, ignored, kept, default_at, or_read}
-use Rattle.rpki_der.specs.Form.Made.{choice_at}
+use Rattle.rpki_der.specs.Form.Made.{Understood, Made, Partly, Ignored, WithOctets, Default, Choice}
+use Rattle.rpki_der.specs.Form.Made.{understood, made, partly, ignored, with_octets, default_at}
+use Rattle.rpki_der.specs.Form.Made.{choice_at, or_read}
 use Rattle.rpki_der.proofs.Form.Apart.{none-at-end, not-next, starts-is, starts-as, in-left}
 use Rattle.rpki_der.proofs.Form.Apart.{in-right}
 use Rattle.rpki_der.proofs.Form.Fields.{starts-value}
@@ -197,7 +198,8 @@ ignore {X} {first} {apart} {p} {G} e =
 
 -- its octets are kept
 pub keep : {X : Type 0} {first apart : TagSet} {p : Parser X} {G : Mode → List ℕ → X → Type 0}
-    → IsPart first apart p G → IsPart first apart (kept p) (λ mode o y. Kept (G mode) o y.0 y.1)
+    → IsPart first apart p G
+    → IsPart first apart (with_octets p) (λ mode o y. WithOctets (G mode) o y.0 y.1)
 keep {X} {first} {apart} {p} {G} e = record {
   exact = λ mode. record {
     sound = λ b y r bytes h.
@@ -209,7 +211,7 @@ keep {X} {first} {apart} {p} {G} e = record {
         ap (λ (t : List ℕ). taken t s.0.1) g.1 ∙ before g.0 s.0.1 in (
           g.0,
           g.1 ∙ ap (λ (t : (X × List ℕ) × List ℕ). g.0 ++ t.1) q,
-          subst (λ (t : (X × List ℕ) × List ℕ). Kept (G mode) g.0 t.0.0 t.0.1) q (g.2, all),
+          subst (λ (t : (X × List ℕ) × List ℕ). WithOctets (G mode) g.0 t.0.0 t.0.1) q (g.2, all),
         );
     complete = λ o y r er h.
         let found : p mode (o ++ r) ≡ Some (y.0, r) = (e.exact mode).complete o y.0 r er h.0 in
@@ -341,18 +343,7 @@ module _ {X : Type 0} {second : TagSet} {p q : Parser X} {G H : Mode → List �
 
 -- ---- one after the other
 
-front-some : {X : Type 0} (x : X) (m : Option (List X × List ℕ)) (xs : List X) (r : List ℕ)
-    → with_front (x ∷ []) m ≡ Some (xs, r) → (ys : List X) × (m ≡ Some (ys, r)) × (x ∷ ys ≡ xs)
-front-some x None xs r e = absurd cc
-front-some {X} x (Some (ys, s)) xs r e =
-    let q : (let t : List X × List ℕ = (x ∷ ys, s) in t) ≡ (xs, r) = some_is _ _ e in (
-      ys,
-      ap (λ (t : List ℕ). (let o : Option (List X × List ℕ) = Some (ys, t) in o))
-          (ap (λ (t : List X × List ℕ). t.1) q),
-      ap (λ (t : List X × List ℕ). t.0) q,
-    )
-
-starts-long : (first : TagSet) (o : List ℕ) → StartsIn first o → 1 ≤ length o
+pub starts-long : (first : TagSet) (o : List ℕ) → StartsIn first o → 1 ≤ length o
 starts-long first o s = omega (arith, ap length s.2)
 
 items-start : {X : Type 0} (first : TagSet) (G : List ℕ → X → Type 0)

@@ -7,7 +7,7 @@ use Rattle.rpki_der.specs.declared.error.DecodeError.{DecodeError}
 use Rattle.rpki_der.specs.declared.error.DecodeError.TheVariants.{Malformed, Content, Memory}
 use Rattle.rpki_der.specs.Read.State.{State}
 use Rattle.rpki_der.specs.Read.Parse.{Parser}
-use Rattle.rpki_der.specs.Read.Reads.{Reads, RepeatsError, Answers, Fails, OkOrMemory}
+use Rattle.rpki_der.specs.Read.Reads.{Reads, RepeatsError, Answers, Refuses, OkOrMemory}
 use Rattle.rpki_der.specs.Grammar.{Front, IsBytes}
 use Rattle.rpki_der.specs.Read.Exact.{IsExact, anything}
 use Rattle.rpki_der.proofs.Reading.Many.{Shortens}
@@ -35,11 +35,11 @@ reads-ok view p old t new h =
 
 pub reads-err : {T X : Type 0} (view : T → X) (p : Parser X) (old : State) (e : DecodeError)
     (new : State) → Reads {T = T} view p old (Err e) new → old.failed ≡ None
-    → Fails e (p old.mode old.rest)
+    → Refuses e (p old.mode old.rest ≡ None)
 reads-err view p old e new h n = rw n at h.1
 
 pub fails-as : {Y Z : Type 0} (e : DecodeError) (y : Option Y) (z : Option Z)
-    → (y ≡ None → z ≡ None) → Fails e y → Fails e z
+    → (y ≡ None → z ≡ None) → Refuses e (y ≡ None) → Refuses e (z ≡ None)
 fails-as Memory y z h f = tt
 fails-as Malformed y z h f = h f
 fails-as (Content c) y z h f = h f

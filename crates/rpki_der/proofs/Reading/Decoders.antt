@@ -4,9 +4,9 @@ use Rattle.std.proofs.Common.{◌≡◌, ℕ, List, Option, Some, None, Result, 
 use Rattle.std.specs.Prelude.{IfOk}
 use Rattle.rpki_der.specs.declared.error.DecodeError.{DecodeError}
 use Rattle.rpki_der.specs.declared.error.DecodeError.TheVariants.{Malformed, Content, Memory}
-use Rattle.rpki_der.specs.Grammar.{Front, HasNoFront, IsBytes}
+use Rattle.rpki_der.specs.Grammar.{Front, IsBytes}
 use Rattle.rpki_der.specs.Read.Exact.{IsExact, anything}
-use Rattle.rpki_der.specs.Read.Reads.{Found, OkOrMemory, IfRefused}
+use Rattle.rpki_der.specs.Read.Reads.{Found, OkOrMemory}
 use Rattle.rpki_der.proofs.Reading.Exact.{IsBytes-of}
 
 found-at : {T X : Type 0} (view : T → X) (p : List ℕ → Option (X × List ℕ)) (G : List ℕ → X
@@ -39,13 +39,3 @@ pub decoded-only : {T X : Type 0} (view : T → X) (p : List ℕ → Option (X �
 decoded-only view p G e b result h x rest f =
     let found : p b ≡ Some (x, rest) = rw f.1 (e.complete f.0 x rest tt f.2) in
     only-at view x rest result (rw found at h)
-
--- What is refused has no front.
-pub refused-accepted : {T X : Type 0} (view : T → X) (G : List ℕ → X → Type 0) (b : List ℕ)
-    (result : Result T DecodeError)
-    → ((x : X) (rest : List ℕ) → Front G b x rest → OkOrMemory result (λ t. view t ≡ x))
-    → IfRefused result (HasNoFront G b)
-refused-accepted view G b (Ok t) h = tt
-refused-accepted view G b (Err Malformed) h = λ x rest f. let e = h x rest f in cc
-refused-accepted view G b (Err (Content fault)) h = λ x rest f. let e = h x rest f in cc
-refused-accepted view G b (Err Memory) h = tt

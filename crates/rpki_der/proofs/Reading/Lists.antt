@@ -32,7 +32,7 @@ pub record ReadsOne {X : Type 0} (p : List ℕ → Option (Option X × List ℕ)
   pub complete : (o : List ℕ) (x : X) (r : List ℕ) → G o x → p (o ++ r) ≡ Some (Some x, r)
   pub none : p [] ≡ Some (None, [])
 
-front-some : {X : Type 0} (x : X) (m : Option (List X × List ℕ)) (xs : List X) (r : List ℕ)
+pub front-some : {X : Type 0} (x : X) (m : Option (List X × List ℕ)) (xs : List X) (r : List ℕ)
     → with_front (x ∷ []) m ≡ Some (xs, r) → (ys : List X) × (m ≡ Some (ys, r)) × (x ∷ ys ≡ xs)
 front-some x None xs r e = absurd cc
 front-some {X} x (Some (ys, s)) xs r e =

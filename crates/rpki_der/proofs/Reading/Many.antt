@@ -115,6 +115,14 @@ pub optional-some : {X : Type 0} (tag : ℕ) (p : Parser X) (mode : Mode) (b : L
     (r : List ℕ) → optional tag p mode b ≡ Some (Some x, r) → p mode b ≡ Some (x, r)
 optional-some tag p mode b x r e = optional-cases (is_next tag b) (p mode b) b x r e
 
+pub shortens-tagged : {X : Type 0} (tag : ℕ) (p : Parser X)
+    → ((mode : Mode) (b : List ℕ) (x : X) (r : List ℕ) → p mode b ≡ Some (x, r)
+    → length r < length b)
+    → (mode : Mode) → Shortens (optional tag p mode)
+shortens-tagged tag p short mode = record {
+  at = λ b x r e. short mode b x r (optional-some tag p mode b x r e);
+}
+
 pub Shortens-optional : {X : Type 0} (tag : ℕ) (f : List ℕ → Option X) (mode : Mode)
     → Shortens (optional tag (primitive tag f) mode)
 Shortens-optional tag f mode =

@@ -3,10 +3,9 @@ use Rattle.std.specs.Prelude.{◌≡◌, ℕ, List, true, false, Option, None, S
 use Rattle.std.specs.Prelude.{MatchOption}
 use Rattle.rpki_der.specs.declared.mode.Mode.{Mode}
 use Rattle.rpki_der.specs.declared.error.DecodeError.{DecodeError}
-use Rattle.rpki_der.specs.declared.error.DecodeError.TheVariants.{Malformed, Content, Memory}
 use Rattle.rpki_der.specs.Grammar.{Front, HasNoFront}
 use Rattle.rpki_der.specs.Read.Parse.{is_next}
-use Rattle.rpki_der.specs.Read.Reads.{RepeatsError}
+use Rattle.rpki_der.specs.Read.Reads.{Refuses, RepeatsError}
 use Rattle.rpki_der.specs.Read.State.{State}
 
 -- The octets begin with x in the form, rest follows it, and they begin with nothing else in the
@@ -15,12 +14,6 @@ pub record IsOnlyFront {X : Type 0} (form : List ℕ → X → Type 0) (octets :
     (rest : List ℕ) : Type 0 where
   pub found : Front form octets x rest
   pub only : (y : X) (other : List ℕ) → Front form octets y other → (y ≡ x) × (other ≡ rest)
-
--- Memory may run out at any time. Any other refusal tells that P holds.
-abbrev pub Refuses : DecodeError → Type 0 → Type 0
-Refuses Memory P = Unit {0}
-Refuses Malformed P = P
-Refuses (Content fault) P = P
 
 -- What decodes the front of these octets by the form: what is answered is what they begin with, and
 -- where they are refused, they begin with nothing in the form, unless memory ran out.
@@ -36,7 +29,8 @@ DecodesAll {T} {X} form view octets (Ok t) = form octets (view t)
     × ((x : X) → form octets x → x ≡ view t)
 DecodesAll {T} {X} form view octets (Err e) = Refuses e ((x : X) → form octets x → ⊥)
 
--- What the reader of these octets answers and leaves.
+-- What the reader of these octets answers and leaves. Of a reader that refuses, `Stays` says what
+-- it answers from then on.
 abbrev pub TakesFront : {T X : Type 0} → (List ℕ → X → Type 0) → (T → X) → List ℕ
     → Result T DecodeError → State → Type 0
 TakesFront form view octets (Ok t) new = IsOnlyFront form octets (view t) new.rest
@@ -52,11 +46,12 @@ DecodesNext form view old result new =
     × MatchOption old.failed (TakesFront (form old.mode) view old.rest result new)
     (λ e. RepeatsError e result)
 
--- What may be next is absent, where its tag is not next, or is all that the octets begin with in
--- the form.
+-- What may be next is absent, where its tag is not next and the octets begin with nothing in the
+-- form, or is all that the octets begin with in the form.
 abbrev pub IsNextOrAbsent : {X : Type 0} → ℕ → (List ℕ → X → Type 0) → List ℕ → Option X → List ℕ
     → Type 0
-IsNextOrAbsent tag form octets None rest = (is_next tag octets ≡ false) × (rest ≡ octets)
+IsNextOrAbsent tag form octets None rest = (is_next tag octets ≡ false) × HasNoFront form octets
+    × (rest ≡ octets)
 IsNextOrAbsent tag form octets (Some x) rest = (is_next tag octets ≡ true)
     × IsOnlyFront form octets x rest
 

@@ -32,6 +32,12 @@ First {I} Say items (Some x) =
     (before : List I) × (item : I) × (after : List I) × (items ≡ before ++ item ∷ after)
     × All (SaysNothing Say) before × Say item x
 
+-- say understands what the items say of which Good holds
+pub record IsSaid {I X : Type 0} (say : I → Option X) (Good : I → Type 0) (Say : I → X
+    → Type 0) : Type 0 where
+  pub sound : (i : I) (x : X) → Good i → say i ≡ Some x → Say i x
+  pub complete : (i : I) (x : X) → Say i x → say i ≡ Some x
+
 -- ---- as functions
 
 -- the first item with this key

@@ -3,6 +3,8 @@ use Rattle.std.specs.Prelude.{◌≡◌, ℕ, List, [], ◌∷◌, ◌++◌, Boo
 use Rattle.std.specs.Prelude.{◌==◌}
 use Rattle.rpki_der.specs.declared.mode.Mode.{Mode}
 use Rattle.rpki_der.specs.declared.mode.Mode.TheVariants.{Der, Ber}
+use Rattle.std.specs.Prelude.{None}
+use Rattle.rpki_der.specs.Grammar.{IsBytes, HasNoFront}
 use Rattle.rpki_der.specs.Read.Parse.{Parser, is_next}
 use Rattle.rpki_der.specs.Read.Exact.{IsExact}
 use Rattle.rpki_der.specs.Form.Parts.{Parts}
@@ -85,3 +87,9 @@ pub record AreParts {Y : Type 0} (first : TagSet) (q : Parser Y) (parts : Mode �
       → (tag : ℕ) → has first tag ≡ false → is_next tag octets ≡ false
   pub relaxed : (octets : List ℕ) (y : Y) → Known y → Parts (parts Der y) octets
       → Parts (parts Ber y) octets
+
+-- p refuses what is malformed: where the tag of the form is next and the octets begin with nothing
+-- in the form, p does not read past it as if it were absent.
+abbrev pub RefusesMalformed : {X Y : Type 0} → ℕ → (Mode → List ℕ → X → Type 0) → Parser Y → Type 0
+RefusesMalformed tag G p = (mode : Mode) (octets : List ℕ) → IsBytes octets
+    → is_next tag octets ≡ true → HasNoFront (G mode) octets → p mode octets ≡ None

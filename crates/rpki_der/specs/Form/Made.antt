@@ -1,8 +1,9 @@
 -- What is made of a part: tests, functions of it, what its octets hold, and what is left out. And
 -- how they are read.
-use Rattle.std.specs.Prelude.{◌≡◌, ℕ, List, Option, None, Some, unwrap_or, ◌⊎◌}
+use Rattle.std.specs.Prelude.{◌≡◌, ℕ, List, [], Option, None, Some, unwrap_or, ◌⊎◌}
+use Rattle.rpki_der.specs.Numbers.{MAX_DEPTH}
 use Rattle.rpki_der.specs.declared.mode.Mode.{Mode}
-use Rattle.rpki_der.specs.Grammar.{Front, Optional, OctetString, BitString}
+use Rattle.rpki_der.specs.Grammar.{Front, Optional, OctetString, OctetsInBits}
 use Rattle.rpki_der.specs.Read.Parse.{Parser, ◌>>=◌, optional, taken, whole}
 
 -- what M understands of what is in G
@@ -23,15 +24,16 @@ abbrev pub Ignored : {X : Type 0} → (List ℕ → X → Type 0) → List ℕ �
 Ignored {X} G octets = (x : X) × G octets x
 
 -- what is in G, and these octets are its own
-abbrev pub Kept : {X : Type 0} → (List ℕ → X → Type 0) → List ℕ → X → List ℕ → Type 0
-Kept G octets x kept = G octets x × (kept ≡ octets)
+abbrev pub WithOctets : {X : Type 0} → (List ℕ → X → Type 0) → List ℕ → X → List ℕ → Type 0
+WithOctets G octets x kept = G octets x × (kept ≡ octets)
 
--- DEFAULT: what may be there, and else this (X.680, section 25)
+-- DEFAULT: what may be there, and else this (X.680, section 25). That the default may be written
+-- in DER too, against X.690, section 11.5, is this project's own rule.
 abbrev pub Default : {X : Type 0} → X → (List ℕ → X → Type 0) → List ℕ → X → Type 0
 Default {X} default G octets x =
     (written : Option X) × Optional G octets written × (x ≡ unwrap_or written default)
 
--- CHOICE of two kinds (X.690, section 8.13)
+-- CHOICE of two kinds, told apart by their tags (X.690, section 8.13)
 abbrev pub Choice : {X : Type 0} → (List ℕ → X → Type 0) → (List ℕ → X → Type 0) → List ℕ → X
     → Type 0
 Choice G H octets x = G octets x ⊎ H octets x
@@ -40,13 +42,17 @@ Choice G H octets x = G octets x ⊎ H octets x
 abbrev pub Begins : {X : Type 0} → (List ℕ → X → Type 0) → List ℕ → X → Type 0
 Begins G octets x = (rest : List ℕ) × Front G octets x rest
 
--- an OCTET STRING whose octets are in G
-abbrev pub OctetsOf : {X : Type 0} → Mode → (List ℕ → X → Type 0) → List ℕ → X → Type 0
-OctetsOf mode G octets x = (string : List ℕ) × OctetString mode 32 octets string × G string x
+-- an OCTET STRING that holds another value: its octets are in G (X.690, section 8.7)
+abbrev pub OctetStringHolding : {X : Type 0} → Mode → (List ℕ → X → Type 0) → List ℕ → X
+    → Type 0
+OctetStringHolding mode G octets x =
+    (string : List ℕ) × OctetString mode MAX_DEPTH octets string × G string x
 
--- a BIT STRING of whole octets, which are in G
-abbrev pub BitsOf : {X : Type 0} → Mode → (List ℕ → X → Type 0) → List ℕ → X → Type 0
-BitsOf mode G octets x = (string : List ℕ) × BitString mode octets (string, 0) × G string x
+-- a BIT STRING that holds another value: it has no unused bits, and its octets are in G (X.690,
+-- section 8.6)
+abbrev pub BitStringHolding : {X : Type 0} → Mode → (List ℕ → X → Type 0) → List ℕ → X → Type 0
+BitStringHolding mode G octets x =
+    (string : List ℕ) × OctetsInBits mode octets string × G string x
 
 -- ---- as functions
 
@@ -66,9 +72,9 @@ partly f p mode bytes = p mode bytes >>= λ u. (f u.0 >>= λ y. Some (y, u.1))
 abbrev pub ignored : {X : Type 0} → Parser X → Parser (Unit {0})
 ignored p mode bytes = p mode bytes >>= λ u. Some (tt, u.1)
 
--- what p reads, and its octets
-abbrev pub kept : {X : Type 0} → Parser X → Parser (X × List ℕ)
-kept p mode bytes = p mode bytes >>= λ u. Some ((u.0, taken bytes u.1), u.1)
+-- what p reads, with its octets
+abbrev pub with_octets : {X : Type 0} → Parser X → Parser (X × List ℕ)
+with_octets p mode bytes = p mode bytes >>= λ u. Some ((u.0, taken bytes u.1), u.1)
 
 -- what p reads where a value with this tag is next, and else the default
 abbrev pub default_at : {X : Type 0} → X → ℕ → Parser X → Parser X
@@ -87,6 +93,10 @@ choice_at tag p q mode bytes = optional tag p mode bytes >>= λ u. or_read u.0 u
 -- what p reads at the front
 abbrev pub front_of : {X : Type 0} → Parser X → Mode → List ℕ → Option X
 front_of p mode octets = p mode octets >>= λ u. Some u.0
+
+-- p reads all that is left
+abbrev pub to_end : {X : Type 0} → Parser X → Parser X
+to_end p mode bytes = whole (p mode bytes) >>= λ x. Some (x, [])
 
 -- what p reads of all the octets
 abbrev pub all_read : {X : Type 0} → Parser X → Mode → List ℕ → Option X

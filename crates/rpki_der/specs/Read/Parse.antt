@@ -6,7 +6,7 @@ use Rattle.std.specs.List.{list_all, concat}
 use Rattle.std.specs.Str.{bytes_eq}
 use Rattle.rpki_der.specs.Tags.{BOOLEAN, INTEGER, BIT_STRING, OCTET_STRING, OCTET_STRING_IN_PIECES}
 use Rattle.rpki_der.specs.Tags.{OBJECT_IDENTIFIER, IA5_STRING}
-use Rattle.rpki_der.specs.Numbers.{number, least}
+use Rattle.rpki_der.specs.Numbers.{MAX_DEPTH, number, least}
 use Rattle.rpki_der.specs.Oid.{is_oid}
 use Rattle.rpki_der.specs.Bits.{are_bits}
 use Rattle.rpki_der.specs.Identifier.{is_tag, is_constructed}
@@ -342,7 +342,7 @@ Finds view (Some t) found = found ≡ Some (view t)
 
 -- past all that is left
 abbrev pub skip_all_at : Parser (Unit {0})
-skip_all_at mode bytes = there (all_of (skip_at 32) mode bytes) >>= λ u. Some (u, [])
+skip_all_at mode bytes = there (all_of (skip_at MAX_DEPTH) mode bytes) >>= λ u. Some (u, [])
 
 -- what p reads, if it passes the test
 unfoldable pub tested : {X : Type 0} → (X → Bool) → Parser X → Parser X
@@ -350,12 +350,12 @@ tested test p mode bytes = p mode bytes >>= λ x. if test x.0 then Some x else N
 
 -- an OCTET STRING of this length
 abbrev pub octets_of : ℕ → Parser (List ℕ)
-octets_of n = tested (λ octets. length octets == n) (octets_at 32)
+octets_of n = tested (λ octets. length octets == n) (octets_at MAX_DEPTH)
 
 -- past the next value, whatever it is, or nothing at the end
 unfoldable pub skip_opt_at : Parser (Option (Unit {0}))
 skip_opt_at mode [] = Some (None, [])
-skip_opt_at mode (b ∷ bytes) = some_of (skip_at 32 mode (b ∷ bytes))
+skip_opt_at mode (b ∷ bytes) = some_of (skip_at MAX_DEPTH mode (b ∷ bytes))
 
 -- whether no octet is left
 unfoldable pub at_end : Parser Bool

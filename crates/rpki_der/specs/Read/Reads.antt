@@ -8,24 +8,24 @@ use Rattle.rpki_der.specs.Captured.{Kept}
 use Rattle.rpki_der.specs.Read.State.{State, fresh}
 use Rattle.rpki_der.specs.Read.Parse.{Parser, value_at, with_front, many, all_at, taken, is_next}
 
--- an error other than for memory comes only where nothing is found
-abbrev pub Fails : {Y : Type 0} → DecodeError → Option Y → Type 0
-Fails Memory found = Unit {0}
-Fails Malformed found = found ≡ None
-Fails (Content f) found = found ≡ None
+-- Memory may run out at any time. Any other refusal tells that P holds.
+abbrev pub Refuses : DecodeError → Type 0 → Type 0
+Refuses Memory P = Unit {0}
+Refuses Malformed P = P
+Refuses (Content fault) P = P
 
 -- What a reader that has not failed answers and leaves, where found is what stands in front of it.
 abbrev pub Answers : {T X : Type 0} → (T → X) → Option (X × List ℕ) → Result T DecodeError → State
     → Type 0
 Answers view found (Ok t) new = (found ≡ Some (view t, new.rest)) × (new.failed ≡ None)
-Answers view found (Err e) new = Fails e found
+Answers view found (Err e) new = Refuses e (found ≡ None)
 
 -- the type of a signed attribute, whose copy may take memory
-abbrev pub IsContent : DecodeError → Type 0
-IsContent Malformed = ⊥
-IsContent (Content (InvalidSignedAttr attr)) = Unit {0}
-IsContent (Content (Text reason)) = ⊥
-IsContent Memory = ⊥
+abbrev pub HoldsAttributeType : DecodeError → Type 0
+HoldsAttributeType Malformed = ⊥
+HoldsAttributeType (Content (InvalidSignedAttr attr)) = Unit {0}
+HoldsAttributeType (Content (Text reason)) = ⊥
+HoldsAttributeType Memory = ⊥
 
 -- an error that is answered again: the same one, or Memory where a copy of the type of a signed
 -- attribute is not to be had
@@ -44,19 +44,12 @@ FailsAgain e (Err d) new = IsAgain e d × (new.failed ≡ Some d)
 abbrev pub Found : {T X : Type 0} → (T → X) → Option (X × List ℕ) → Result T DecodeError → Type 0
 Found view None (Ok t) = ⊥
 Found view (Some x) (Ok t) = view t ≡ x.0
-Found view found (Err e) = Fails e found
+Found view found (Err e) = Refuses e (found ≡ None)
 
 -- a value of which P holds, unless memory runs out
 abbrev pub OkOrMemory : {T : Type 0} → Result T DecodeError → (T → Type 0) → Type 0
 OkOrMemory (Ok t) P = P t
 OkOrMemory (Err e) P = e ≡ Memory
-
--- P holds where the octets are refused, for another cause than memory
-abbrev pub IfRefused : {T : Type 0} → Result T DecodeError → Type 0 → Type 0
-IfRefused (Ok t) P = Unit {0}
-IfRefused (Err Malformed) P = P
-IfRefused (Err (Content fault)) P = P
-IfRefused (Err Memory) P = Unit {0}
 
 -- a failed reader answers its error again
 abbrev pub RepeatsError : {T : Type 0} → DecodeError → Result T DecodeError → Type 0
@@ -160,26 +153,8 @@ pub record ReadSoFar {X : Type 0} (p : Parser (Option X)) (front : List X)
   pub failed : now.failed ≡ begun.failed
   pub read : with_front front (many p begun.mode now.rest) ≡ many p begun.mode begun.rest
 
--- what a capture of a call answers, where read is what the call answered and after what it left
-abbrev pub Captured : Result (Unit {0}) DecodeError → State → State → Result Kept DecodeError
-    → State → Type 0
-Captured read old after (Ok kept) new = (read ≡ Ok tt) × (kept.octets ≡ taken old.rest after.rest)
-    × (kept.mode ≡ old.mode) × (new ≡ after)
-Captured (Ok u) old after (Err e) new = (e ≡ Memory) × (new.failed ≡ Some Memory)
-    × (new.mode ≡ after.mode)
-Captured (Err d) old after (Err e) new = IsAgain d e × (new.failed ≡ Some e)
-    × (new.mode ≡ after.mode)
-
--- the octets that step took
-abbrev pub Captures : (State → Result (Unit {0}) DecodeError → State → Type 0) → State
-    → Result Kept DecodeError → State → Type 0
-Captures step old result new =
-    MatchOption old.failed
-    ((r : Result (Unit {0}) DecodeError) × (after : State) × step old r after
-    × Captured (not_failed r after) old after result new)
-    (λ e. FailsAgain e result new × (new.mode ≡ old.mode))
-
--- the same, with what the call answered
+-- what a capture answers, where read is what the call answered and after what it left: what was
+-- answered, and the octets that were taken
 abbrev pub CapturedWith : {T : Type 0} → Result T DecodeError → State → State
     → Result (T × Kept) DecodeError → State
     → Type 0
@@ -199,6 +174,16 @@ CapturesWith {T} step old result new =
     ((r : Result T DecodeError) × (after : State) × step old r after
     × CapturedWith (not_failed r after) old after result new)
     (λ e. FailsAgain e result new × (new.mode ≡ old.mode))
+
+-- a capture, where the call answers nothing beside it
+abbrev pub beside_nothing : Result Kept DecodeError → Result (Unit {0} × Kept) DecodeError
+beside_nothing (Ok kept) = Ok (tt, kept)
+beside_nothing (Err e) = Err e
+
+-- the octets that step took, where it answers nothing
+abbrev pub Captures : (State → Result (Unit {0}) DecodeError → State → Type 0) → State
+    → Result Kept DecodeError → State → Type 0
+Captures step old result new = CapturesWith step old (beside_nothing result) new
 
 -- what a loop up to the end has read, where p reads each
 pub record ReadUpTo {X : Type 0} (p : Parser X) (front : List X) (begun now : State) : Type 0 where

@@ -4,6 +4,8 @@ use Rattle.rpki_der.specs.declared.error.DecodeError.{DecodeError}
 use Rattle.rpki_der.specs.declared.error.DecodeError.TheVariants.{Malformed, Content, Memory}
 use Rattle.rpki_der.specs.declared.error.ContentFault.{ContentFault}
 use Rattle.rpki_der.specs.declared.error.ContentFault.TheVariants.{InvalidSignedAttr, Text}
+use Rattle.rpki_der.specs.declared.encode.EncodeError.{EncodeError}
+use Rattle.rpki_der.specs.declared.stream.source.SourceError.{SourceError}
 use Rattle.rpki_der.specs.Oid.{oid_text}
 use Rattle.rpki_der.specs.Text.Reason.{reason_text}
 
@@ -17,3 +19,15 @@ abbrev pub error_text : DecodeError → List ℕ
 error_text Malformed = codes "malformed"
 error_text (Content fault) = fault_text fault
 error_text Memory = codes "out of memory"
+
+-- why a value was not written
+abbrev pub encode_error_text : EncodeError → List ℕ
+encode_error_text EncodeError.NotDer = codes "not in DER"
+encode_error_text EncodeError.TooLong = codes "too long"
+encode_error_text EncodeError.Io = codes "write failed"
+encode_error_text EncodeError.Memory = codes "out of memory"
+
+-- why a source was not read to its end
+abbrev pub source_error_text : SourceError → List ℕ
+source_error_text SourceError.Io = codes "read failed"
+source_error_text SourceError.Memory = codes "out of memory"

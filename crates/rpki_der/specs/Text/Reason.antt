@@ -28,7 +28,7 @@ use Rattle.rpki_der.specs.declared.reason.Reason.TheVariants.{NoRsyncUri, NoCrlN
 use Rattle.rpki_der.specs.declared.reason.Reason.TheVariants.{UnusedBitsInKey}
 use Rattle.rpki_der.specs.declared.reason.Reason.TheVariants.{UnusedBitsInSignature}
 
--- Each reason has a text of its own.
+-- the text of a reason
 abbrev pub reason_text : Reason → List ℕ
 reason_text WrongVersion = codes "wrong version"
 reason_text UnknownAlgorithm = codes "unknown algorithm"

@@ -2,9 +2,12 @@
 
 ghost use Rattle.std.specs.Prelude.{Result, IfOk, IfSome, ◌≡◌, ◌<◌, ◌≤◌, length, drop, take, None};
 ghost use Rattle.std.specs.Prelude.{Some, IsNone, MatchOption, Ok, Err, OnOk, OnErr, IsSomeAnd};
+ghost use Rattle.std.specs.Prelude.{unwrap_or};
 ghost use Rattle.std.specs.Fn.{FnOnceReturnsAtMut};
 ghost use Rattle.rpki_der.specs.Tags.{SEQUENCE, SET};
 ghost use Rattle.rpki_der.specs.Grammar.{IsBytes};
+ghost use Rattle.rpki_der.specs.declared.error.DecodeError.TheVariants.{Content};
+ghost use Rattle.rpki_der.specs.declared.error.ContentFault.TheVariants.{Text};
 ghost use Rattle.rpki_der.specs.Read.State.{State, fresh, failing};
 ghost use Rattle.rpki_der.specs.Read.Parse.{at_end, is_next};
 ghost use Rattle.rpki_der.specs.Read.Reads.{Captures, CapturesWith, Reads, Stays, OnlyMalformed};
@@ -12,11 +15,12 @@ ghost use Rattle.rpki_der.specs.Read.Reads.{Opens, OpensIfNext, Opened, FailsAga
 ghost use Rattle.rpki_der.specs.Read.Reads.{unfinished, closed, not_failed};
 
 use crate::captured::Captured;
-use crate::error::DecodeError;
+use crate::error::{ContentFault, DecodeError};
 use crate::laws::slices_hold_octets;
 use crate::mode::Mode;
 use crate::read::header::place_of;
 use crate::read::window::Window;
+use crate::reason::Reason;
 use crate::tag::Tag;
 use bytes::Bytes;
 use std::marker::Model;
@@ -57,14 +61,36 @@ fn twice(error: DecodeError) -> (DecodeError, DecodeError)
 }
 
 impl<'a> Constructed<'a> {
-    /// Keeps an error, and answers it.
-    pub(super) fn fail(&mut self, error: DecodeError) -> DecodeError
+    /// Marks this reader as failed by an error, and answers it, to be answered again from then on.
+    /// Where no memory for a copy of it is to be had, it is want of memory.
+    pub(super) fn mark(&mut self, error: DecodeError) -> DecodeError
         ensures again { IsAgain error result }
         ensures new { self.new ≡ failing self.old result }
     {
         let (error, copy) = twice(error);
         self.failed = Some(copy);
         error
+    }
+
+    /// Refuses by a rule of the caller's own: marks this reader as failed by the error, and answers
+    /// it, to be answered again from then on. A reader that has failed already answers its first
+    /// error again. Where no memory for a copy of it is to be had, it is want of memory.
+    pub fn fail(&mut self, error: DecodeError) -> DecodeError
+        ensures again { IsAgain (unwrap_or self.old.failed error) result }
+        ensures new { self.new ≡ failing self.old result }
+    {
+        match self.failed.take() {
+            None => self.mark(error),
+            Some(first) => self.mark(first),
+        }
+    }
+
+    /// Refuses what was read for this reason, by a rule of the caller's own, as `fail` does.
+    pub fn refuse_for(&mut self, reason: Reason) -> DecodeError
+        ensures reason { self.old.failed ≡ None → result ≡ Content (Text reason) }
+        ensures stays { self.new ≡ failing self.old result }
+    {
+        self.fail(DecodeError::Content(ContentFault::Text(reason)))
     }
 
     /// Finds that the octets are not of the form.
@@ -103,7 +129,7 @@ impl<'a> Constructed<'a> {
         let failed = self.failed.take();
         match failed {
             None => Ok(()),
-            Some(error) => Err(self.fail(error)),
+            Some(error) => Err(self.mark(error)),
         }
     }
 
@@ -329,7 +355,7 @@ impl<'a> Constructed<'a> {
             failed: None,
         };
         match inner.run(op) {
-            Err(e) => Err(self.fail(e)),
+            Err(e) => Err(self.mark(e)),
             Ok(t) => Ok(t),
         }
     }
@@ -422,7 +448,7 @@ impl<'a> Constructed<'a> {
         let mode = self.mode();
         let before = self.window();
         match self.run_front(op) {
-            Err(e) => Err(self.fail(e)),
+            Err(e) => Err(self.mark(e)),
             Ok(t) => {
                 let octets = self.keep(&before.before(self.rest().len()))?;
                 Ok((t, Captured::new(octets, mode)))

@@ -5,7 +5,7 @@ ghost use Rattle.rpki_der.specs.Tags.{BOOLEAN, INTEGER, NULL, OBJECT_IDENTIFIER,
 ghost use Rattle.rpki_der.specs.Read.Parse.{octets_at, u8_at, u32_at, u160_at, boolean_at};
 ghost use Rattle.rpki_der.specs.Read.Parse.{null_of, oid_at, these, bits_at, octets_in_bits_at};
 ghost use Rattle.rpki_der.specs.Read.Parse.{octets_of, ia5_at, this, primitive, optional};
-ghost use Rattle.rpki_der.specs.Numbers.{number};
+ghost use Rattle.rpki_der.specs.Numbers.{MAX_DEPTH, number};
 ghost use Rattle.rpki_der.specs.Form.Made.{default_at};
 ghost use Rattle.rpki_der.specs.Read.Reads.{Reads, Stays, OnlyMalformed, OnlyMalformedOrMemory};
 
@@ -177,8 +177,10 @@ impl<'a> Constructed<'a> {
         }
     }
 
-    /// Reads an OBJECT IDENTIFIER that has these contents (X.690, section 8.19). Refuses by
-    /// `Malformed`.
+    /// Reads a value with the tag of an OBJECT IDENTIFIER that has these contents (X.690, section
+    /// 8.19). Refuses by `Malformed`. The contents that are asked for are compared and not tested:
+    /// where they are those of no OBJECT IDENTIFIER, as none at all, the value that has them is
+    /// read, and it is no OBJECT IDENTIFIER either.
     #[tactic(auto, unfolding(crate::specs::Read::Parse::these))]
     pub fn skip_oid_if(&mut self, expected: &[u8]) -> Result<(), DecodeError>
         ensures reads { Reads (λ u. u)
@@ -318,7 +320,7 @@ impl<'a> Constructed<'a> {
     /// had.
     #[tactic(auto, using(crate::proofs::Reading::Strings::octets_next))]
     pub fn take_octets(&mut self, alloc: Global) -> Result<Bytes, DecodeError>
-        ensures reads { Reads (λ octets. octets) (octets_at 32) self.old result self.new }
+        ensures reads { Reads (λ octets. octets) (octets_at MAX_DEPTH) self.old result self.new }
         ensures stays { Stays result self.new }
         ensures refused { OnlyMalformedOrMemory self.old result }
     {
@@ -333,17 +335,17 @@ impl<'a> Constructed<'a> {
 
     /// Reads an OCTET STRING, and joins its octets.
     fn take_pieces(&mut self, alloc: Global) -> Result<Bytes, DecodeError>
-        ensures reads { Reads (λ octets. octets) (octets_at 32) self.old result self.new }
+        ensures reads { Reads (λ octets. octets) (octets_at MAX_DEPTH) self.old result self.new }
         ensures stays { Stays result self.new }
         ensures refused { OnlyMalformedOrMemory self.old result }
     {
         self.check()?;
         let mut octets = Vec::new(alloc);
         match string_place(self.mode(), self.rest(), &mut octets) {
-            Err(_) => Err(self.fail(DecodeError::Memory)),
+            Err(_) => Err(self.mark(DecodeError::Memory)),
             Ok(None) => Err(self.refuse()),
             Ok(Some(end)) => match Bytes::from_vec(octets) {
-                Err(_) => Err(self.fail(DecodeError::Memory)),
+                Err(_) => Err(self.mark(DecodeError::Memory)),
                 Ok(octets) => {
                     self.go_to(end);
                     Ok(octets)

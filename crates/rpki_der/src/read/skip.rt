@@ -2,6 +2,7 @@
 
 ghost use Rattle.std.specs.Prelude.{◌≡◌, ◌≤◌, ◌<◌, ◌-◌, length, slice_range, None, Some};
 ghost use Rattle.std.specs.Prelude.{MatchOption, is_some};
+ghost use Rattle.rpki_der.specs.Numbers.{MAX_DEPTH};
 ghost use Rattle.rpki_der.specs.Read.Parse.{skip_at, Finds, all_of, there};
 
 use crate::mode::Mode;
@@ -29,8 +30,10 @@ pub fn skip_of(depth: u32, mode: Mode, bytes: &[u8]) -> Option<&[u8]>
 
 /// Where the value in front ends.
 pub fn skip_place(mode: Mode, bytes: &[u8]) -> Option<usize>
-    ensures { MatchOption result (skip_at 32 mode bytes.now ≡ None) (λ end. (end ≤ length bytes.now)
-        × (skip_at 32 mode bytes.now ≡ Some (tt, slice_range bytes.now end (length bytes.now)))) }
+    ensures { MatchOption result (skip_at MAX_DEPTH mode bytes.now ≡ None)
+        (λ end. (end ≤ length bytes.now)
+        × (skip_at MAX_DEPTH mode bytes.now
+        ≡ Some (tt, slice_range bytes.now end (length bytes.now)))) }
 {
     let after = skip_of(DEPTH, mode, bytes)?;
     Some(bytes.len() - after.len())
@@ -38,7 +41,7 @@ pub fn skip_place(mode: Mode, bytes: &[u8]) -> Option<usize>
 
 /// Whether octets are values that nest at most 32 deep, one after the other.
 pub fn are_skipped(mode: Mode, bytes: &[u8]) -> bool
-    ensures { result ≡ is_some (there (all_of (skip_at 32) mode bytes.now)) }
+    ensures { result ≡ is_some (there (all_of (skip_at MAX_DEPTH) mode bytes.now)) }
 {
     let mut rest = bytes;
     while !rest.is_empty() {

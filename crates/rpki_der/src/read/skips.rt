@@ -1,5 +1,6 @@
 //! Values that are gone past.
 
+ghost use Rattle.rpki_der.specs.Numbers.{MAX_DEPTH};
 ghost use Rattle.rpki_der.specs.Read.Parse.{skip_at, skip_opt_at, skip_all_at};
 ghost use Rattle.rpki_der.specs.Read.Reads.{Reads, Stays, OnlyMalformed};
 
@@ -11,7 +12,7 @@ impl<'a> Constructed<'a> {
     /// Goes past the next value, whatever it is (X.690, section 8.1.1). Values in it nest at most
     /// 32 deep, itself included. Refuses by `Malformed`.
     pub fn skip_one(&mut self) -> Result<(), DecodeError>
-        ensures reads { Reads (λ u. u) (skip_at 32) self.old result self.new }
+        ensures reads { Reads (λ u. u) (skip_at MAX_DEPTH) self.old result self.new }
         ensures stays { Stays result self.new }
         ensures refused { OnlyMalformed self.old result }
     {

@@ -2,6 +2,7 @@
 
 ghost use Rattle.std.specs.Prelude.{◌≡◌, ◌≤◌, ◌<◌, ◌-◌, ◌++◌, length, slice_range, None, Some};
 ghost use Rattle.std.specs.Prelude.{IfOk, MatchOption, List, ℕ};
+ghost use Rattle.rpki_der.specs.Numbers.{MAX_DEPTH};
 ghost use Rattle.rpki_der.specs.Read.Parse.{octets_at, Appends, pieces};
 
 use crate::mode::Mode;
@@ -56,9 +57,10 @@ pub fn string_place(
     out: &mut Vec<u8>,
 ) -> Result<Option<usize>, AllocError>
     ensures { IfOk result
-        (λ o. MatchOption o (octets_at 32 mode bytes.now ≡ None) (λ end. (end ≤ length bytes.now)
+        (λ o. MatchOption o (octets_at MAX_DEPTH mode bytes.now ≡ None)
+        (λ end. (end ≤ length bytes.now)
         × (octets : List ℕ)
-        × (octets_at 32 mode bytes.now
+        × (octets_at MAX_DEPTH mode bytes.now
         ≡ Some (octets, slice_range bytes.now end (length bytes.now)))
         × (out.new.items ≡ out.old.items ++ octets))) }
 {

@@ -2,9 +2,24 @@ ghost use Rattle.std.specs.Prelude.{◌≡◌, ℕ, ◌+◌, ◌<◌, ◌≤◌,
 ghost use Rattle.std.specs.Io.KnownBytes.{Appends, WriteAppends, Keeps};
 ghost use Rattle.rpki_der.specs.Write.Sink.{AppendsFront, IsTakenCount};
 
+use std::error::Error;
+use std::fmt;
+
 /// A call of a sink has failed. It is not tried again.
 #[derive(Debug, Drop)]
 pub struct SinkFailed;
+
+impl fmt::Display for SinkFailed {
+    ghost use Rattle.std.specs.Prelude.{Some, codes};
+
+    ghost output = { λ _. Some (codes "write failed") };
+
+    fn fmt<W: fmt::Write>(&self, f: &mut fmt::Formatter<W>) -> fmt::Result {
+        f.write_str("write failed")
+    }
+}
+
+impl Error for SinkFailed {}
 
 /// What takes octets.
 pub trait Sink {

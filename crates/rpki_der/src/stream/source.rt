@@ -3,6 +3,8 @@ ghost use Rattle.std.specs.Prelude.{IsErrOf};
 ghost use Rattle.std.specs.Io.KnownBytes.{ReadConsumes, Consumes, IsAtEnd};
 
 use std::alloc::Global;
+use std::error::Error;
+use std::fmt;
 
 /// A call of a source has failed. It is not tried again.
 #[derive(Debug, Drop)]
@@ -16,6 +18,34 @@ pub enum SourceError {
     /// No memory was to be had.
     Memory,
 }
+
+impl fmt::Display for SourceFailed {
+    ghost use Rattle.std.specs.Prelude.{Some, codes};
+
+    ghost output = { λ _. Some (codes "read failed") };
+
+    fn fmt<W: fmt::Write>(&self, f: &mut fmt::Formatter<W>) -> fmt::Result {
+        f.write_str("read failed")
+    }
+}
+
+impl Error for SourceFailed {}
+
+impl fmt::Display for SourceError {
+    ghost use Rattle.std.specs.Prelude.{Some};
+    ghost use Rattle.rpki_der.specs.Text.Error.{source_error_text};
+
+    ghost output = { λ error. Some (source_error_text error) };
+
+    fn fmt<W: fmt::Write>(&self, f: &mut fmt::Formatter<W>) -> fmt::Result {
+        f.write_str(match self {
+            SourceError::Io => "read failed",
+            SourceError::Memory => "out of memory",
+        })
+    }
+}
+
+impl Error for SourceError {}
 
 /// What gives octets.
 pub trait Source {

@@ -1,5 +1,5 @@
 use Rattle.std.proofs.Common.{◌≡◌, ◌+◌, subst}
-use Rattle.rpki_command.specs.Command.{reads_of}
+use Rattle.rpki_command.specs.Command.{order_task, task_reads}
 use Rattle.rpki_command.specs.declared.words.Order.{Order}
 use Rattle.rpki_command.proofs.Orders.{asked-once}
 use Rattle.rpki_command.proofs.program.answer.Goals as goal
@@ -9,6 +9,6 @@ returns-in-Some-clause-reads g c = record {
   usage = λ nothing. absurd (nothing c.in-Some.order c.in-Some.ensures);
   done = λ o asked. subst
       (λ (p : Order). g.S.Store.reads c.answer_order.new.store
-      ≡ g.S.Store.reads c.args.store.now + reads_of p)
+      ≡ g.S.Store.reads c.args.store.now + task_reads (order_task p))
       (asked-once _ c.in-Some.order o c.in-Some.ensures asked) c.answer_order.ensures.reads;
 }

@@ -1,3 +1,4 @@
+use Rattle.std.proofs.Common.{arith}
 use Rattle.rpki_command.proofs.Reading.{first-unreadable}
 use Rattle.rpki_command.proofs.store.read_all.Goals as goal
 
@@ -7,6 +8,7 @@ returns-in-Err-Unreadable-clause-answer g c =
     first-unreadable (g.S.Store.told c.args.store.now)
     (g.S.Store.told c.loop-name.store)
     c.in-Err-Unreadable.field-0 c.args.names.now c.loop-name.name-index _
-    c.loop-name.files.items
+    c.loop-name.files.items _ _
     c.loop-name-test.true i.2 i.3 i.0 c.in-Err-Unreadable.field-0-is
     c.in-Err-Unreadable.ensures.answer
+    (omega (arith, i.1, c.in-Err-Unreadable.ensures.counted))

@@ -2,6 +2,7 @@ use Rattle.rpki_der.specs.declared.mode.Mode.TheVariants.{Der, Ber}
 use Rattle.rpki_der.specs.Grammar.{Skipped}
 use Rattle.rpki_der.proofs.Reading.Skips.{skip-all-sound, skip-all-complete}
 use Rattle.rpki_der.proofs.Reading.Unique.{items-as, skipped-ber}
+use Rattle.rpki_der.proofs.Form.Kinds.{rest-part}
 use Rattle.rpki_der.proofs.laws.skipped_contents.Goals as goal
 
 pub returns-clause-exact : goal.returns-clause-exact
@@ -15,3 +16,6 @@ returns-clause-relaxed c =
       items-as (λ o _. Skipped Der 32 o) (λ o _. Skipped Ber 32 o)
           (λ o _ k. skipped-ber 32 o k) octets l.0 l.1,
     )
+
+pub returns-clause-part : goal.returns-clause-part
+returns-clause-part c = rest-part

@@ -1,3 +1,4 @@
+-- A trust anchor, or the supplied CA, has an explicit set.
 use Rattle.rpki_paths.proofs.Meets.{anchored_known}
 use Rattle.rpki_paths.proofs.laws.anchored_is_known.Goals as goal
 

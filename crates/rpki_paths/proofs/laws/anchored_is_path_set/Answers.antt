@@ -1,5 +1,6 @@
-use Rattle.rpki_paths.proofs.Meets.{anchored_stands}
+-- The sets of the supply are one more claim.
+use Rattle.rpki_paths.proofs.Meets.{anchored_set}
 use Rattle.rpki_paths.proofs.laws.anchored_is_path_set.Goals as goal
 
 pub returns : goal.returns
-returns c = anchored_stands
+returns c = anchored_set

@@ -1,3 +1,4 @@
+-- Any choice among alike items, at each kind of pairing.
 use Rattle.rpki_paths.specs.Pairing.{HasKey, IsVerifiedBy, HasCrl}
 use Rattle.rpki_paths.proofs.Pairings.{any_choice_pairs}
 use Rattle.rpki_paths.proofs.laws.any_choice_pairs.Goals as goal

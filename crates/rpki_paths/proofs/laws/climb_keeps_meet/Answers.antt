@@ -1,3 +1,4 @@
+-- One claim more, over a covered path.
 use Rattle.rpki_paths.proofs.Meets.{climb_keeps}
 use Rattle.rpki_paths.proofs.laws.climb_keeps_meet.Goals as goal
 

@@ -1,3 +1,4 @@
+-- A chain of issuers is the only one.
 use Rattle.rpki_paths.proofs.Chains.{unique}
 use Rattle.rpki_paths.proofs.laws.paths_are_unique.Goals as goal
 

@@ -1,3 +1,4 @@
+-- The places that are left have all that may verify.
 use Rattle.std.proofs.Common.{length}
 use Rattle.rpki_paths.specs.Walk.{placed}
 use Rattle.rpki_paths.proofs.Walking.{IsSearching}

@@ -1,12 +1,13 @@
-use Rattle.std.proofs.Common.{◌≡◌, ◌≢◌, ℕ, ◌+◌, ◌<◌, ◌≤◌, length, refl, sym, ap, ◌∙◌, subst, arith}
-use Rattle.std.proofs.Common.{true, false}
-use Rattle.std.proofs.Common.{set, length-set, Some}
-use Rattle.std.specs.Prelude.{slice_get}
+-- One issuer more, and each reason to stop.
+use Rattle.std.proofs.Common.{refl, sym, ◌∙◌, subst, arith}
+use Rattle.std.proofs.Common.{length-set}
 use Rattle.std.proofs.lemmas.Bool.{true≢false}
 use Rattle.rpki_paths.specs.Sets.{CoversKept, IsClimbed}
-use Rattle.rpki_paths.specs.Walk.{placed, at_place, kept_at, InEach, FailsFirst}
+use Rattle.rpki_paths.specs.Cert.{at_place}
+use Rattle.rpki_paths.specs.Walk.{placed, kept_at, InEach, FailsFirst}
 use Rattle.rpki_paths.proofs.Walking.{walking_none, apart_placed, keeps_none, keeps_more}
-use Rattle.rpki_paths.proofs.Walking.{index_named, issuer_at}
+use Rattle.std.proofs.Common.{map}
+use Rattle.rpki_paths.proofs.Walking.{index_named, issuer_at, scan_of}
 use Rattle.rpki_paths.proofs.Walking.{get_placed, length-placed, returns_to_mark, is_revoked}
 use Rattle.rpki_paths.proofs.Walking.{is_uncovered}
 use Rattle.rpki_paths.proofs.Walking.{walks_on, few_steps, named_once}
@@ -30,7 +31,7 @@ loop-step-init g c =
 
 pub find_issuer-requires : goal.find_issuer-requires
 find_issuer-requires g c =
-    index_named (placed g.C.Certificate.cert 1 c.args.cas.now)
+    index_named (map (λ x. (g.C.Certificate.cert x).ski) c.args.cas.now)
     c.args.index.now c.authority.result _ c.named.result.now c.requires.index c.named.ensures
     c.authority.ensures
 
@@ -73,10 +74,10 @@ loop-step-preserved g c =
     let lt = c.in-Issuer.ensures.in_range c.in-Issuer.i refl in
     let at_i = get_placed cert 1 c.args.cas.now c.in-Issuer.i c.index-cas-i.result lt
     c.index-cas-i.is in
-    let named = index_named
-    (placed cert 1 c.args.cas.now)
+    let named = scan_of cert c.args.cas.now _ _ (index_named
+    (map (λ x. (cert x).ski) c.args.cas.now)
     c.args.index.now c.authority.result _ c.named.result.now c.requires.index
-    c.named.ensures c.authority.ensures in (
+    c.named.ensures c.authority.ensures) in (
       length-set c.loop-step.marks c.in-Issuer.i c.args.turn ∙ c.loop-step.invariant.0,
       walks_on _ _ _ _ _ _ _ c.loop-step.invariant.1 _ c.in-Issuer.i at_i
           (λ s. true≢false (sym (c.is_self_signed.ensures.1 s) ∙ c.if-is_self_signed.false))

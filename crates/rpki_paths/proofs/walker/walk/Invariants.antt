@@ -1,6 +1,8 @@
+-- In the middle of a walk: a covered chain of first issuers, and what is kept and marked of it.
 use Rattle.std.proofs.Common.{◌≡◌, ◌≤◌, ◌+◌, length}
 use Rattle.rpki_paths.specs.Path.{IsDistinct}
-use Rattle.rpki_paths.specs.Walk.{KeepsMarks, placed, at_place}
+use Rattle.rpki_paths.specs.Cert.{at_place}
+use Rattle.rpki_paths.specs.Walk.{KeepsMarks, placed}
 use Rattle.rpki_paths.proofs.Walking.{IsWalking}
 use Rattle.rpki_paths.proofs.walker.walk.Given as goal
 

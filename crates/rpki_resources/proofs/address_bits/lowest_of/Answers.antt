@@ -1,6 +1,6 @@
 use Rattle.std.proofs.Common.{ℕ, ◌-◌, ◌*◌, ◌/◌, ◌^◌, length, refl}
 use Rattle.std.proofs.Math.Nat.{mul-mod_left}
-use Rattle.rpki_resources.proofs.Bits.{value_below, shift_whole, room_below}
+use Rattle.rpki_resources.proofs.Addresses.Bits.{value_below, shift_whole, room_below}
 use Rattle.rpki_resources.proofs.address_bits.lowest_of.Goals as goal
 
 pub returns-else-len-eq0-clause-value : goal.returns-else-len-eq0-clause-value

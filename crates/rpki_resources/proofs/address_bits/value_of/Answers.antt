@@ -1,5 +1,5 @@
 use Rattle.std.proofs.Common.{◌+◌, ◌*◌, ◌<◌, ◌^◌, rules, arith}
-use Rattle.rpki_resources.proofs.Bits.{number_more, small_more, small_fits}
+use Rattle.rpki_resources.proofs.Addresses.Bits.{number_more, small_more, small_fits}
 use Rattle.rpki_resources.proofs.address_bits.value_of.Goals as goal
 
 pub overflow_mul-value : goal.overflow_mul-value

@@ -1,14 +1,8 @@
-use Rattle.std.proofs.Common.{ap, sym, subst, ◌∙◌}
+use Rattle.std.proofs.Common.{subst}
 use Rattle.rpki_der.specs.declared.mode.Mode.TheVariants.{Der}
-use Rattle.rpki_basics.specs.Serial.{digits, SerialForm, serial_octets}
-use Rattle.rpki_basics.specs.Digits.{digits_again}
+use Rattle.rpki_basics.specs.Serial.{SerialForm, serial_octets}
 use Rattle.rpki_basics.proofs.SerialWriting.{digits-written}
 use Rattle.rpki_basics.proofs.serial.Serial.encode_ref.Goals as goal
-
-pub returns-clause-digits : goal.returns-clause-digits
-returns-clause-digits c =
-    c.integer_of.ensures.digits ∙ sym (digits_again c.self.inside.octets c.self.invariant)
-    ∙ ap (digits 20) c.self.view_is
 
 pub returns-clause-written : goal.returns-clause-written
 returns-clause-written c =

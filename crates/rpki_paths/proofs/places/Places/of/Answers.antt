@@ -1,24 +1,22 @@
+-- Each identifier is put to the places that it had.
 use Rattle.std.proofs.Common.{◌≡◌, ◌+◌, ℕ, [], ◌∷◌, ◌++◌, length, Some, sym, ap, ◌∙◌, subst, arith}
-use Rattle.rpki_paths.specs.Walk.{placed, IsNamed}
+use Rattle.std.proofs.Common.{refl}
+use Rattle.std.proofs.lemmas.Option.{slice_get-get_or}
 use Rattle.rpki_paths.specs.Index.{listed}
-use Rattle.rpki_paths.proofs.Indexing.{indexed_more}
-use Rattle.rpki_paths.proofs.Walking.{get_placed, length-placed}
+use Rattle.rpki_paths.proofs.Indexing.{IsScan, indexed_more, named_from_scan}
 use Rattle.rpki_paths.proofs.places.Places.of.Goals as goal
 
 pub loop-i-preserved : goal.loop-i-preserved
-loop-i-preserved g c =
-    indexed_more (placed g.C.Certificate.cert 1 c.args.cas.now)
-    c.loop-i.map c.removed-places.new.map
-    c.insert.new.self c.subject-id.result c.loop-i.i _ c.push.new.self c.loop-i.invariant
-    (get_placed g.C.Certificate.cert 1 c.args.cas.now c.loop-i.i c.index-cas-i.result
-    c.loop-i-test.true c.index-cas-i.is)
-    c.subject-id.ensures c.removed-places.ensures.others c.in_ok-insert.ensures.updates.0
+loop-i-preserved c =
+    indexed_more c.args.ids.now c.loop-i.map c.removed-places.new.map
+    c.insert.new.self _ c.loop-i.i c.push.new.self c.loop-i.invariant
+    (slice_get-get_or c.args.ids.now c.loop-i.i [] c.loop-i-test.true)
+    c.removed-places.ensures.others c.in_ok-insert.ensures.updates.0
     (c.in_ok-push.ensures.items ∙ ap (λ l. l ++ c.loop-i.i ∷ []) c.removed-places.ensures.places)
 
 pub returns : goal.returns
-returns g c =
-    let cas = placed g.C.Certificate.cert 1 c.args.cas.now in
-    let end : c.loop-i.i ≡ length cas =
-    omega (arith, length-placed g.C.Certificate.cert 1 c.args.cas.now) in
-    λ id. subst (λ n. IsNamed cas (Some id) 0 n (listed c.loop-i.map id)) end
-    (c.loop-i.invariant id)
+returns c =
+    let ids = c.args.ids.now in
+    let end : c.loop-i.i ≡ length ids = omega arith in
+    λ id. named_from_scan ids id (listed c.loop-i.map id)
+    (subst (λ n. IsScan ids id 0 n (listed c.loop-i.map id)) end (c.loop-i.invariant id))

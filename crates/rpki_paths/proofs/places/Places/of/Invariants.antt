@@ -1,8 +1,8 @@
-use Rattle.std.proofs.Common.{ℕ, List, Some}
-use Rattle.rpki_paths.specs.Walk.{IsNamed, placed}
+-- The map has the places of the identifiers so far.
+use Rattle.std.proofs.Common.{ℕ, List}
 use Rattle.rpki_paths.specs.Index.{listed}
+use Rattle.rpki_paths.proofs.Indexing.{IsScan}
 use Rattle.rpki_paths.proofs.places.Places.of.Given as goal
 
 abbrev pub invariant-loop-i : goal.invariant-loop-i
-invariant-loop-i g l =
-    (id : List ℕ) → IsNamed (placed g.C.Certificate.cert 1 l.cas) (Some id) 0 l.i (listed l.map id)
+invariant-loop-i l = (id : List ℕ) → IsScan l.ids id 0 l.i (listed l.map id)

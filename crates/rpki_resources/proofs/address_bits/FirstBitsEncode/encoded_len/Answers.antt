@@ -2,7 +2,7 @@ use Rattle.std.proofs.Common.{ℕ, ◌≡◌, ◌<◌, ◌^◌, List, length, �
 use Rattle.std.specs.Int.{w128, to_be_bytes}
 use Rattle.rpki_der.specs.Write.Encode.{IsLenOf}
 use Rattle.rpki_der.specs.Write.Written.{value_octets, bit_string_contents}
-use Rattle.rpki_resources.proofs.Ends.{first_bits_of}
+use Rattle.rpki_resources.proofs.Addresses.Ends.{first_bits_of}
 use Rattle.rpki_resources.proofs.address_bits.FirstBitsEncode.encoded_len.Goals as goal
 
 pub returns : goal.returns

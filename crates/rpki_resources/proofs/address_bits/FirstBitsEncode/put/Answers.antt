@@ -2,7 +2,7 @@ use Rattle.std.proofs.Common.{ℕ, ◌≡◌, List, length, OnOk, OnErr, ◌∙�
 use Rattle.std.specs.Io.KnownBytes.{Appends}
 use Rattle.std.specs.Int.{w128, to_be_bytes}
 use Rattle.rpki_der.specs.Write.Sink.{AppendsFront}
-use Rattle.rpki_resources.proofs.Ends.{end_octets_of}
+use Rattle.rpki_resources.proofs.Addresses.Ends.{end_octets_of}
 use Rattle.rpki_resources.proofs.address_bits.FirstBitsEncode.put.Goals as goal
 
 -- the octets of the address

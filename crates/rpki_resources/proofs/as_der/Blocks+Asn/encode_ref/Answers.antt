@@ -1,4 +1,4 @@
-use Rattle.rpki_resources.proofs.AsWriting.{as_written}
+use Rattle.rpki_resources.proofs.AsNumbers.Writing.{as_written}
 use Rattle.rpki_resources.proofs.as_der.Blocks+Asn.encode_ref.Goals as goal
 
 pub returns-clause-written : goal.returns-clause-written

@@ -1,5 +1,5 @@
 use Rattle.std.proofs.Common.{◌∙◌}
-use Rattle.rpki_resources.proofs.Names.{as_ranges}
+use Rattle.rpki_resources.proofs.AsNumbers.Names.{as_ranges}
 use Rattle.rpki_resources.proofs.asn.Blocks+Asn.iter.Goals as goal
 
 pub returns-clause-ranges : goal.returns-clause-ranges

@@ -2,7 +2,7 @@ use Rattle.std.proofs.Common.{◌≡◌, ◌≤◌, List, ◌++◌, All, Bool, t
 use Rattle.std.specs.Prelude.{if◌then◌else◌}
 use Rattle.std.proofs.lemmas.List.Elements.{All-append}
 use Rattle.rpki_resources.specs.Blocks.{IsCanonical}
-use Rattle.rpki_resources.proofs.Rises.{rises_valid}
+use Rattle.rpki_resources.proofs.Sets.Rises.{rises_valid}
 use Rattle.rpki_resources.proofs.blocks.BlocksBuilder.push_set.Goals as goal
 
 -- each of those that are there after others may have been added

@@ -1,8 +1,8 @@
 use Rattle.std.proofs.Common.{ap}
 use Rattle.std.proofs.lemmas.Bool.Decides.{Decides-at}
-use Rattle.rpki_resources.proofs.Same.{same_blocks}
+use Rattle.rpki_resources.proofs.Sets.Same.{same_blocks}
 use Rattle.rpki_resources.specs.Blocks.{holds}
-use Rattle.rpki_resources.proofs.Equality.{lists_decide}
+use Rattle.rpki_resources.proofs.Sets.Equality.{lists_decide}
 use Rattle.rpki_resources.proofs.blocks.BlocksPartialEq.eq.Goals as goal
 
 pub returns-clause-same : goal.returns-clause-same

@@ -1,5 +1,5 @@
 use Rattle.std.proofs.Common.{◌∙◌}
-use Rattle.rpki_resources.proofs.IpNames.{ip_ranges}
+use Rattle.rpki_resources.proofs.Addresses.Names.{ip_ranges}
 use Rattle.rpki_resources.proofs.ip.Blocks+Addr.iter.Goals as goal
 
 pub returns-clause-ranges : goal.returns-clause-ranges

@@ -1,7 +1,7 @@
 use Rattle.std.proofs.Common.{All, rules}
 use Rattle.rpki_resources.specs.Blocks.{IsBlock}
 use Rattle.rpki_resources.specs.Ip.{ip_range}
-use Rattle.rpki_resources.proofs.Names.{All-map}
+use Rattle.rpki_resources.proofs.AsNumbers.Names.{All-map}
 use Rattle.rpki_resources.proofs.ip.BlocksBuilder+Addr.extend.Goals as goal
 
 pub append-requires : goal.append-requires

@@ -1,6 +1,6 @@
 use Rattle.std.proofs.Common.{ap}
 use Rattle.rpki_resources.specs.declared.ip.IpBlock.TheVariants.{Prefix}
-use Rattle.rpki_resources.proofs.PrefixLengths.{prefix_unique, network_of}
+use Rattle.rpki_resources.proofs.Prefixes.Lengths.{prefix_unique, network_of}
 use Rattle.rpki_resources.proofs.ip.IpBlock.from_range.Goals as goal
 
 pub returns-in-Some-clause-prefix : goal.returns-in-Some-clause-prefix

@@ -1,5 +1,5 @@
-use Rattle.rpki_resources.proofs.IpWithin.{set-six}
-use Rattle.rpki_resources.proofs.IpWriting.{ip_written}
+use Rattle.rpki_resources.proofs.Addresses.Within.{set-six}
+use Rattle.rpki_resources.proofs.Addresses.Writing.{ip_written}
 use Rattle.rpki_resources.proofs.ip_der.Blocks+Addr.encode_ref.Goals as goal
 
 pub returns-clause-addresses : goal.returns-clause-addresses

@@ -1,5 +1,5 @@
 use Rattle.std.proofs.Common.{◌≡◌, true, false, Bool, [], refl}
-use Rattle.rpki_resources.proofs.Same.{same_blocks}
+use Rattle.rpki_resources.proofs.Sets.Same.{same_blocks}
 use Rattle.rpki_resources.specs.Blocks.{holds}
 use Rattle.rpki_resources.proofs.laws.sets.covered_by_the_empty_set.Goals as goal
 

@@ -1,4 +1,4 @@
-use Rattle.rpki_resources.proofs.Same.{same_blocks}
+use Rattle.rpki_resources.proofs.Sets.Same.{same_blocks}
 use Rattle.rpki_resources.proofs.laws.sets.same_blocks.Goals as goal
 
 pub returns : goal.returns

@@ -1,6 +1,6 @@
 use Rattle.std.proofs.Common.{rules, ◌<◌, ◌^◌}
 use Rattle.rpki_resources.specs.Prefix.{IsPrefix}
-use Rattle.rpki_resources.proofs.IpWithin.{prefix-within}
+use Rattle.rpki_resources.proofs.Addresses.Within.{prefix-within}
 use Rattle.rpki_resources.proofs.prefix.Prefix.range.Goals as goal
 
 pub returns-clause-within : goal.returns-clause-within

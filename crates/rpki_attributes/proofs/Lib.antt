@@ -1,0 +1,4 @@
+pub mod AttributeExact
+pub mod AttrsExact
+pub mod AttrsWritten
+pub mod Sorted

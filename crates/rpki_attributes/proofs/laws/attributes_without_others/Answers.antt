@@ -1,0 +1,5 @@
+use Rattle.rpki_attributes.proofs.AttrsWritten.{attrs-skip}
+use Rattle.rpki_attributes.proofs.laws.attributes_without_others.Goals as goal
+
+pub returns : goal.returns
+returns c = attrs-skip

@@ -1,0 +1,5 @@
+use Rattle.rpki_attributes.proofs.AttrsExact.{attrs-reading}
+use Rattle.rpki_attributes.proofs.laws.signed_attributes.Goals as goal
+
+pub returns : goal.returns
+returns c = attrs-reading

@@ -1,0 +1,53 @@
+//! What the definitions of signed attributes say: laws, as functions that do nothing.
+
+ghost use Rattle.std.specs.Prelude.{◌≡◌, ◌++◌, ◌≤◌, ℕ, List, length, Some};
+ghost use Rattle.rpki_der.specs.declared.mode.Mode.{Mode};
+ghost use Rattle.rpki_der.specs.declared.mode.Mode.TheVariants.{Der};
+ghost use Rattle.rpki_der.specs.Grammar.{Value};
+ghost use Rattle.rpki_der.specs.Oid.{IsOid};
+ghost use Rattle.rpki_der.specs.Read.Exact.{IsReading};
+ghost use Rattle.rpki_der.specs.Tags.{SET};
+ghost use Rattle.rpki_basics.specs.Moment.{Moment, IsMoment};
+ghost use Rattle.rpki_attributes.specs.declared.attribute.OtherTypes.{OtherTypes};
+ghost use Rattle.rpki_attributes.specs.declared.attribute.OtherTypes.TheVariants.{Refuse, Skip};
+ghost use Rattle.rpki_attributes.specs.Attrs.{SignedAttributes, SignedAttrsForm, most_octets};
+ghost use Rattle.rpki_attributes.specs.AttrsRead.{attrs_at};
+ghost use Rattle.rpki_attributes.specs.AttrsMade.{InOrder, attributes_of, attrs_octets};
+ghost use Rattle.rpki_attributes.specs.AttrsMade.{message_of};
+
+/// Reading signed attributes is exact and unique, and DER is a part of BER, whether attributes of
+/// other types are refused or gone past (RFC 5652, section 5.3; RFC 6488, section 2.1.6.4).
+pub fn signed_attributes()
+    ensures { (others : OtherTypes) → IsReading (attrs_at others) (SignedAttrsForm others) }
+{}
+
+/// Where no attribute of another type stands among them, both ways to read them agree.
+pub fn attributes_without_others()
+    ensures { (mode : Mode) (octets : List ℕ) (x : SignedAttributes)
+        → SignedAttrsForm Refuse mode octets x → SignedAttrsForm Skip mode octets x }
+{}
+
+/// What is made of a type, a digest and a time is in the form, and read again in both modes and
+/// both ways, whatever follows it.
+pub fn attributes_are_made()
+    ensures written { (type digest contents : List ℕ) (time : Moment) → IsOid type
+        → IsMoment time → InOrder (attributes_of type digest time) contents
+        → length contents ≤ most_octets
+        → let x : SignedAttributes = record {
+          contents = contents;
+          content_type = type;
+          message_digest = digest;
+          signing_time = time;
+        } in
+        SignedAttrsForm Refuse Der (attrs_octets x) x }
+    ensures read { (others : OtherTypes) (mode : Mode) (x : SignedAttributes) (rest : List ℕ)
+        → SignedAttrsForm Refuse Der (attrs_octets x) x
+        → attrs_at others mode (attrs_octets x ++ rest) ≡ Some (x, rest) }
+{}
+
+/// The message that is signed is the one SET in DER that has these octets as its contents (RFC
+/// 5652, section 5.4).
+pub fn messages()
+    ensures { (x : SignedAttributes) → length x.contents ≤ most_octets
+        → Value Der (message_of x) SET x.contents }
+{}

@@ -1,0 +1,186 @@
+//! Rows of attributes that are read.
+
+use bytes::Bytes;
+use rpki_attributes::SignedAttrs;
+use rpki_der::build::tlv;
+use rpki_der::{Constructed, DecodeError, Encode, EncodeError, Mode};
+use std::alloc::{AllocError, Global};
+
+/// The content type of a ROA (RFC 9582, section 3).
+pub const TYPE: &[u8] = b"\x30\x1A\x06\x09\x2A\x86\x48\x86\xF7\x0D\x01\x09\x03\
+    \x31\x0D\x06\x0B\x2A\x86\x48\x86\xF7\x0D\x01\x09\x10\x01\x18";
+
+/// The signing time 2024-01-01 00:00:00.
+pub const TIME: &[u8] = b"\x30\x1C\x06\x09\x2A\x86\x48\x86\xF7\x0D\x01\x09\x05\
+    \x31\x0F\x17\x0D240101000000Z";
+
+/// A digest of 32 zero octets.
+pub const DIGEST: &[u8] = b"\x30\x2F\x06\x09\x2A\x86\x48\x86\xF7\x0D\x01\x09\x04\x31\x22\x04\x20\
+    \0\0\0\0\0\0\0\0\0\0\0\0\0\0\0\0\0\0\0\0\0\0\0\0\0\0\0\0\0\0\0\0";
+
+/// A digest of the octet 07 in pieces (X.690, section 8.7.3).
+const PIECES: &[u8] = b"\x30\x14\x06\x09\x2A\x86\x48\x86\xF7\x0D\x01\x09\x04\
+    \x31\x07\x24\x80\x04\x01\x07\0\0";
+
+/// Of the type 1.2.3: with an empty SET, without values, and cut.
+const OTHER: &[u8] = b"\x30\x06\x06\x02\x2A\x03\x31\0";
+
+const BARE: &[u8] = b"\x30\x04\x06\x02\x2A\x03";
+
+const CUT: &[u8] = b"\x30\x06\x06\x02\x2A\x03\x31\x05";
+
+/// Content types with no value, with two, with one behind the SET, and in a SEQUENCE.
+const NO_VALUE: &[u8] = b"\x30\x0D\x06\x09\x2A\x86\x48\x86\xF7\x0D\x01\x09\x03\x31\0";
+
+const TWO_VALUES: &[u8] = b"\x30\x15\x06\x09\x2A\x86\x48\x86\xF7\x0D\x01\x09\x03\
+    \x31\x08\x06\x02\x2A\x03\x06\x02\x2A\x03";
+
+const BEHIND: &[u8] = b"\x30\x13\x06\x09\x2A\x86\x48\x86\xF7\x0D\x01\x09\x03\
+    \x31\x04\x06\x02\x2A\x03\x05\0";
+
+const NO_SET: &[u8] = b"\x30\x11\x06\x09\x2A\x86\x48\x86\xF7\x0D\x01\x09\x03\
+    \x30\x04\x06\x02\x2A\x03";
+
+/// A signing time of a day that there is not.
+const NO_DAY: &[u8] = b"\x30\x1C\x06\x09\x2A\x86\x48\x86\xF7\x0D\x01\x09\x05\
+    \x31\x0F\x17\x0D230229000000Z";
+
+const TWICE: &str = "signed attribute more than once";
+
+const TYPE_IS_OTHER: &str = "invalid extension 1.2.3";
+
+/// Attributes, and why `take_from` refuses them and why `take_from_signed_message` does, if it
+/// does.
+static ROWS: [(&[&[u8]], &str, &str); 22] = [
+    (&[TYPE, TIME, DIGEST], "", ""),
+    (&[TYPE, DIGEST, TIME], "", ""),
+    (&[TIME, TYPE, DIGEST], "", ""),
+    (&[TIME, DIGEST, TYPE], "", ""),
+    (&[DIGEST, TYPE, TIME], "", ""),
+    (&[DIGEST, TIME, TYPE], "", ""),
+    (&[TYPE, TIME, DIGEST, TYPE], TWICE, TWICE),
+    (&[TYPE, TIME, TIME, DIGEST], TWICE, TWICE),
+    (&[DIGEST, DIGEST, TYPE, TIME], TWICE, TWICE),
+    (&[], "no content type", "no content type"),
+    (&[TIME, DIGEST], "no content type", "no content type"),
+    (&[TYPE, TIME], "no message digest", "no message digest"),
+    (&[TYPE, DIGEST], "no signing time", "no signing time"),
+    (&[TYPE, OTHER, TIME, DIGEST], TYPE_IS_OTHER, ""),
+    (&[BARE, TYPE, TIME, DIGEST, OTHER], TYPE_IS_OTHER, ""),
+    (&[OTHER, TYPE, TIME], TYPE_IS_OTHER, "no message digest"),
+    (&[CUT, TYPE, TIME, DIGEST], TYPE_IS_OTHER, "malformed"),
+    (&[NO_VALUE, TIME, DIGEST], "malformed", "malformed"),
+    (&[TWO_VALUES, TIME, DIGEST], "malformed", "malformed"),
+    (&[BEHIND, TIME, DIGEST], "malformed", "malformed"),
+    (&[NO_SET, TIME, DIGEST], "malformed", "malformed"),
+    (&[TYPE, TIME, PIECES], "malformed", "malformed"),
+];
+
+/// These octets, one after the other.
+pub fn joined(alloc: Global, parts: &[&[u8]]) -> Result<Vec<u8>, AllocError> {
+    let mut octets = Vec::new(alloc);
+    for part in parts {
+        octets.extend_from_slice(part)?;
+    }
+    Ok(octets)
+}
+
+/// A value with this tag. Its contents are short.
+pub fn value(alloc: Global, tag: u8, contents: &[u8]) -> Result<Vec<u8>, AllocError> {
+    match tlv(alloc, tag, contents) {
+        Ok(octets) => Ok(octets),
+        Err(_) => Err(AllocError),
+    }
+}
+
+/// What is read of these octets under [0], strictly or as a message.
+pub fn read(
+    alloc: Global,
+    contents: &[u8],
+    mode: Mode,
+    is_strict: bool,
+) -> Result<Result<SignedAttrs, DecodeError>, AllocError> {
+    let source = Bytes::from_vec(value(alloc, 0xA0, contents)?)?;
+    Ok(if is_strict {
+        Constructed::decode(source, mode, |cons| SignedAttrs::take_from(alloc, cons))
+    } else {
+        Constructed::decode(source, mode, |cons| {
+            SignedAttrs::take_from_signed_message(alloc, cons)
+        })
+    })
+}
+
+/// Whether the answer is these octets, or is refused for this reason.
+pub fn is_answer(
+    alloc: Global,
+    answer: Result<SignedAttrs, DecodeError>,
+    contents: &[u8],
+    why: &str,
+) -> Result<bool, AllocError> {
+    match answer {
+        Ok(attrs) => Ok(why.is_empty() && attrs.as_slice() == contents),
+        Err(DecodeError::Memory) => Err(AllocError),
+        Err(error) => Ok(format!(in alloc; "{error}")?.as_str() == why),
+    }
+}
+
+#[test]
+fn rows(rt: HostRuntime) -> Result<(), AllocError> {
+    let alloc = rt.alloc();
+    for (parts, strict, message) in &ROWS {
+        let contents = joined(alloc, parts)?;
+        let answer = read(alloc, &contents, Mode::Der, true)?;
+        assert!(rt; is_answer(alloc, answer, &contents, strict)?);
+        let answer = read(alloc, &contents, Mode::Der, false)?;
+        assert!(rt; is_answer(alloc, answer, &contents, message)?);
+    }
+    Ok(())
+}
+
+#[test]
+fn in_pieces(rt: HostRuntime) -> Result<(), AllocError> {
+    let alloc = rt.alloc();
+    let contents = joined(alloc, &[TYPE, TIME, PIECES])?;
+    match read(alloc, &contents, Mode::Ber, true)? {
+        Ok(attrs) => {
+            assert!(rt; attrs.message_digest().as_slice() == b"\x07".as_slice());
+            assert!(rt; attrs.mode() == Mode::Ber);
+            assert!(rt; matches!(attrs.encode_ref().to_bytes(alloc), Err(EncodeError::NotDer)));
+            let message = value(alloc, 0x31, &contents)?;
+            assert!(rt; attrs.encode_verify(alloc)?.as_slice() == message.as_slice());
+        }
+        Err(_) => assert!(rt; false),
+    }
+    Ok(())
+}
+
+/// A digest whose pieces nest to this depth.
+fn nested(alloc: Global, depth: usize) -> Result<Vec<u8>, AllocError> {
+    let mut string = value(alloc, 4, b"\x07")?;
+    for _ in 1..depth {
+        string = value(alloc, 0x24, &string)?;
+    }
+    let set = value(alloc, 0x31, &string)?;
+    let oid = b"\x06\x09\x2A\x86\x48\x86\xF7\x0D\x01\x09\x04";
+    value(alloc, 0x30, &joined(alloc, &[oid, &set])?)
+}
+
+#[test]
+fn depths(rt: HostRuntime) -> Result<(), AllocError> {
+    let alloc = rt.alloc();
+    for (depth, why) in [(32, ""), (33, "malformed")] {
+        let digest = nested(alloc, depth)?;
+        let contents = joined(alloc, &[TYPE, TIME, &digest])?;
+        let answer = read(alloc, &contents, Mode::Ber, true)?;
+        assert!(rt; is_answer(alloc, answer, &contents, why)?);
+    }
+    Ok(())
+}
+
+#[test]
+fn no_such_day(rt: HostRuntime) -> Result<(), AllocError> {
+    let alloc = rt.alloc();
+    let contents = joined(alloc, &[TYPE, NO_DAY, DIGEST])?;
+    assert!(rt; read(alloc, &contents, Mode::Der, true)?.is_err());
+    Ok(())
+}

@@ -1,0 +1,37 @@
+//! The lines of a trust anchor locator.
+
+ghost use Rattle.std.specs.List.{flat_map};
+ghost use Rattle.rpki_command.specs.Grows.{Grows};
+ghost use Rattle.rpki_command.specs.Texts.Tal.{tal_text, uri_line, key_line};
+
+use rpki_keys::PublicKey;
+use rpki_tal::Tal;
+use std::alloc::AllocError;
+use std::fmt::Write;
+
+/// Appends the lines of a locator.
+pub fn push_tal(text: &mut String, tal: &Tal) -> Result<(), AllocError>
+    ensures { Grows result text.old text.new (tal_text tal.now.uris tal.now.key) }
+{
+    write!(text, "tal\n")?;
+    push_uris(text, tal)?;
+    push_key(text, tal.key_info())
+}
+
+/// Appends a line for each URI.
+fn push_uris(text: &mut String, tal: &Tal) -> Result<(), AllocError>
+    ensures { Grows result text.old text.new (flat_map uri_line tal.now.uris) }
+{
+    for uri in tal.uris() {
+        write!(text, "uri {uri}\n")?;
+    }
+    Ok(())
+}
+
+/// Appends the line of the key.
+fn push_key(text: &mut String, key: &PublicKey) -> Result<(), AllocError>
+    ensures { Grows result text.old text.new (key_line key.now) }
+{
+    let identifier = key.key_identifier();
+    write!(text, "key {identifier}\n")
+}

@@ -1,0 +1,3 @@
+pub mod Inspection
+pub mod Verification
+pub mod Validation

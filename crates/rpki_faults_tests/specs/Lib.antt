@@ -1,0 +1,2 @@
+pub mod Inspected
+pub mod Families

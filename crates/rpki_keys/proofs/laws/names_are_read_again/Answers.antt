@@ -1,0 +1,5 @@
+use Rattle.rpki_keys.proofs.NameExact.{name-read}
+use Rattle.rpki_keys.proofs.laws.names_are_read_again.Goals as goal
+
+pub returns : goal.returns
+returns c = name-read

@@ -1,0 +1,66 @@
+-- Pairing in carried order: each item takes the first of the others that fits it and is left.
+use Rattle.std.specs.Prelude.{◌≡◌, ℕ, Bool, true, false, List, [], ◌∷◌, Some, IsTrue}
+use Rattle.std.specs.Prelude.{slice_get}
+use Rattle.rpki_paths.specs.Cert.{IsIn}
+use Rattle.rpki_paths.specs.Pairing.{IsPairing}
+
+-- The identifier that one seeks is the other's, and the verdict on the two is yes.
+abbrev pub Fits : {X Y : Type 0} → (X → List ℕ) → (Y → List ℕ) → (X → Y → Bool) → X → Y → Type 0
+Fits sought held verdict x y = (sought x ≡ held y) × IsTrue (verdict x y)
+
+-- The items that are not marked as taken.
+abbrev pub left_of : {A : Type 0} → List Bool → List A → List A
+left_of [] ys = []
+left_of (taken ∷ marks) [] = []
+left_of (true ∷ marks) (y ∷ ys) = left_of marks ys
+left_of (false ∷ marks) (y ∷ ys) = y ∷ left_of marks ys
+
+-- `y` is the first of a list that fits, and `rest` is the list without it.
+pub data IsFirst {A : Type 0} (P : A → Type 0) : A → List A → List A → Type 0 where
+  first : {y : A} {ys : List A} → P y → IsFirst P y ys (y ∷ ys)
+  later : {y z : A} {rest ys : List A} → ¬ (P z) → IsFirst P y rest ys →
+      IsFirst P y (z ∷ rest) (z ∷ ys)
+
+-- None of the list fits.
+abbrev pub FitsNone : {A : Type 0} → (A → Type 0) → List A → Type 0
+FitsNone {A} P ys = (y : A) → IsIn y ys → ¬ (P y)
+
+-- The item at this place is the first that fits of those that were left, and is marked alone.
+abbrev pub IsTakenAt : {A : Type 0} → (A → Type 0) → List A → List Bool → List Bool → ℕ → Type 0
+IsTakenAt {A} P ys old new place =
+    (y : A) × (slice_get ys place ≡ Some y) × IsFirst P y (left_of new ys) (left_of old ys)
+
+-- Each in turn takes the first that fits of those that are left: the partners, and what remains.
+abbrev pub PairsOff : {A B : Type 0} → (A → B → Type 0) → List A → List B → List B → List B → Type 0
+PairsOff R [] [] ys left = ys ≡ left
+PairsOff R [] (p ∷ partners) ys left = ⊥
+PairsOff R (x ∷ xs) [] ys left = ⊥
+PairsOff {A} {B} R (x ∷ xs) (p ∷ partners) ys left =
+    (rest : List B) × IsFirst (R x) p rest ys × PairsOff R xs partners rest left
+
+-- The items at these places.
+abbrev pub AreAt : {A : Type 0} → List A → List ℕ → List A → Type 0
+AreAt ys [] [] = Unit {0}
+AreAt ys [] (p ∷ items) = ⊥
+AreAt ys (place ∷ places) [] = ⊥
+AreAt ys (place ∷ places) (p ∷ items) = (slice_get ys place ≡ Some p) × AreAt ys places items
+
+-- Whatever has the identifier that is sought also has the verdict.
+abbrev pub AllVerify : {X Y : Type 0} → (X → List ℕ) → (Y → List ℕ) → (X → Y → Bool) → X → List Y →
+    Type 0
+AllVerify {X} {Y} sought held verdict x ys =
+    (y : Y) → IsIn y ys → sought x ≡ held y → IsTrue (verdict x y)
+
+-- Whatever has the identifier that one of them seeks also has the verdict.
+abbrev pub AllVerifyEach : {X Y : Type 0} → (X → List ℕ) → (Y → List ℕ) → (X → Y → Bool) → List X →
+    List Y → Type 0
+AllVerifyEach {X} {Y} sought held verdict xs ys =
+    (x : X) → IsIn x xs → AllVerify sought held verdict x ys
+
+-- The places are those of a pairing, in which each takes the first that fits of those left.
+pub record ArePaired {A B : Type 0} (R : A → B → Type 0) (xs : List A) (ys : List B)
+    (places : List ℕ) : Type 0 where
+  pub partners : List B
+  pub at_places : AreAt ys places partners
+  pub first : PairsOff R xs partners ys []
+  pub pairing : IsPairing R xs partners ys

@@ -1,0 +1,9 @@
+pub mod Aligned
+pub mod Bits
+pub mod Ends
+pub mod Exact
+pub mod FirstBits
+pub mod Names
+pub mod Trailing
+pub mod Within
+pub mod Writing

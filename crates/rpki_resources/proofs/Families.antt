@@ -1,0 +1,4 @@
+pub mod ByFamily
+pub mod Exact
+pub mod Gathered
+pub mod Writing

@@ -1,0 +1,14 @@
+pub mod Adding
+pub mod Between
+pub mod Bools
+pub mod Covering
+pub mod Equality
+pub mod Joining
+pub mod Listed
+pub mod Meeting
+pub mod Merging
+pub mod Rises
+pub mod Same
+pub mod Searching
+pub mod Sorting
+pub mod Upto

@@ -1,0 +1,10 @@
+use Rattle.rpki_der.proofs.Form.Decoders.{decodes-next}
+use Rattle.rpki_resources.proofs.Addresses.Exact.{ip-part}
+use Rattle.rpki_resources.proofs.Families.ByFamily.{families-part}
+use Rattle.rpki_resources.proofs.by_family.ByFamily+IpBlocks.take_from.Goals as goal
+
+pub returns-clause-decodes : goal.returns-clause-decodes
+returns-clause-decodes c =
+    decodes-next (families-part ip-part) (λ x. x) c.args.cons.now
+    c.take_families.result c.take_families.new.cons
+    c.holds_octets.ensures c.take_families.ensures.reads

@@ -1,8 +1,0 @@
-use Rattle.rpki_resources.proofs.Relaxed.{family_written, family_read}
-use Rattle.rpki_resources.proofs.forms.families_are_written.Goals as goal
-
-pub returns-clause-written : goal.returns-clause-written
-returns-clause-written c = family_written
-
-pub returns-clause-read : goal.returns-clause-read
-returns-clause-read c = family_read

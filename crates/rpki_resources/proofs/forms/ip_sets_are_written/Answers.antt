@@ -1,8 +1,0 @@
-use Rattle.rpki_resources.proofs.IpWriting.{ip_written, ip_read}
-use Rattle.rpki_resources.proofs.forms.ip_sets_are_written.Goals as goal
-
-pub returns-clause-written : goal.returns-clause-written
-returns-clause-written c = ip_written
-
-pub returns-clause-read : goal.returns-clause-read
-returns-clause-read c = ip_read

@@ -1,8 +1,0 @@
-use Rattle.rpki_resources.proofs.PrefixExact.{prefix_written, prefix_read}
-use Rattle.rpki_resources.proofs.forms.prefixes_are_written.Goals as goal
-
-pub returns-clause-written : goal.returns-clause-written
-returns-clause-written c = prefix_written
-
-pub returns-clause-read : goal.returns-clause-read
-returns-clause-read c = prefix_read

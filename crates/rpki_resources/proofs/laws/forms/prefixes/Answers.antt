@@ -1,0 +1,5 @@
+use Rattle.rpki_resources.proofs.Prefixes.Writing.{prefix_reading}
+use Rattle.rpki_resources.proofs.laws.forms.prefixes.Goals as goal
+
+pub returns : goal.returns
+returns c = prefix_reading

@@ -1,0 +1,3 @@
+-- What stands for each address family.
+pub mod Form
+pub mod Read

@@ -1,0 +1,50 @@
+//! Lists of values that are read to their end.
+
+ghost use Rattle.std.specs.Prelude.{All, IfOk};
+ghost use Rattle.rpki_der.specs.Read.Parse.{all_at};
+ghost use Rattle.rpki_der.specs.Read.Reads.{Reads};
+ghost use Rattle.rpki_resources.specs.Lists.{TakesOctets};
+
+use rpki_der::{Constructed, DecodeError};
+use std::alloc::Global;
+
+/// What stands in a list.
+pub trait Listed: Drop + Sized {
+    ghost use Rattle.rpki_der.specs.Read.Parse.{Parser};
+
+    /// What its form depends on: the family of addresses, or nothing.
+    type Kind: Copy;
+
+    // How one is read.
+    ghost parser: { Self.Kind → Parser Self };
+
+    // What is known of one that was read.
+    ghost known: { Self → Type 0 };
+
+    /// Reads one.
+    fn take_one(
+        cons: &mut Constructed<'_>,
+        alloc: Global,
+        kind: Self::Kind,
+    ) -> Result<Self, DecodeError>
+        ensures reads { Reads (λ x. x) (parser kind) cons.old result cons.new }
+        ensures known { IfOk result known };
+}
+
+/// Reads them to the end. Where there is no memory for them, the answer is `Memory`.
+pub fn take_list<T: Listed>(
+    cons: &mut Constructed<'_>,
+    alloc: Global,
+    kind: T::Kind,
+) -> Result<Vec<T>, DecodeError>
+    requires { TakesOctets (T.parser kind) }
+    ensures reads { Reads (λ list. list.items) (all_at (T.parser kind)) cons.old result cons.new }
+    ensures known { IfOk result (λ list. All T.known list.items) }
+{
+    let mut list = Vec::new(alloc);
+    while !cons.is_at_end()? {
+        let one = T::take_one(cons, alloc, kind)?;
+        list.push(one)?;
+    }
+    Ok(list)
+}

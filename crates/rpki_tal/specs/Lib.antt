@@ -1,0 +1,6 @@
+pub mod Lines
+pub mod Uri
+pub mod Form
+pub mod Faults
+pub mod Tal
+pub mod Read

@@ -1,0 +1,12 @@
+//! Tests of `rpki_tal`, each a table of rows that one small function walks.
+//!
+//! The expected values follow from RFC 8630 and RFC 4648 by hand. A test hands want of memory on
+//! and asserts everything else.
+#![tactic(auto)]
+
+#[cfg(test)]
+mod sources;
+#[cfg(test)]
+mod texts;
+#[cfg(test)]
+mod uris;

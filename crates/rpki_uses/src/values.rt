@@ -1,0 +1,76 @@
+//! Times, keys and names, and cryptography of one's own.
+
+ghost use Rattle.std.specs.Prelude.{◌≡◌, ◌&&◌, ℕ, List, IfOk, Some, nat_le, bytes_eq};
+ghost use Rattle.sha1.specs.Sha1.{sha1};
+ghost use Rattle.rpki_der.specs.declared.mode.Mode.TheVariants.{Der};
+ghost use Rattle.rpki_der.specs.Grammar.{Front};
+ghost use Rattle.rpki_der.specs.Read.Parse.{◌>>=◌ as ◌and_then◌};
+ghost use Rattle.rpki_der.specs.Read.Reads.{Reads};
+ghost use Rattle.rpki_keys.specs.KeyForm.{KeyForm};
+ghost use Rattle.rpki_keys.specs.NameForm.{key_name_octets};
+ghost use Rattle.rpki_basics.specs.Moment.{stamp};
+ghost use Rattle.rpki_basics.specs.TimeRead.{time_at};
+
+use bytes::Bytes;
+use rpki_basics::{Crypto, Digest, KeyIdentifier, PublicKey, RpkiSignature, Time, Validity};
+use rpki_der::{Constructed, DecodeError, Encode, EncodeError};
+use std::alloc::Global;
+
+/// Reads two times, one after the other, as those of a validity (RFC 5280, section 4.1.2.5).
+pub fn take_times(cons: &mut Constructed<'_>) -> Result<(Time, Time), DecodeError>
+    ensures { Reads (λ times. times) (λ mode octets. (time_at mode octets) and_then
+        (λ first. (time_at mode first.1) and_then
+        (λ second. Some ((first.0, second.0), second.1)))) cons.old result cons.new }
+{
+    let first = Time::take_from(cons)?;
+    let second = Time::take_from(cons)?;
+    Ok((first, second))
+}
+
+/// Whether a moment lies between the ends of a validity, or is one of them.
+pub fn is_valid_at(validity: Validity, now: Time) -> bool
+    ensures { result ≡ (nat_le (stamp validity.not_before) (stamp now)
+        && nat_le (stamp now) (stamp validity.not_after)) }
+{
+    validity.not_before() <= now && now <= validity.not_after()
+}
+
+/// The identifier of the key at the front of octets in DER.
+pub fn identifier_in(octets: Bytes) -> Result<KeyIdentifier, DecodeError>
+    ensures { IfOk result (λ identifier. (bits rest : List ℕ) × Front (KeyForm Der) octets bits rest
+        × (identifier ≡ sha1 bits)) }
+{
+    let key = PublicKey::decode(octets)?;
+    Ok(key.key_identifier())
+}
+
+/// The octets of the name of a key.
+pub fn name_of(alloc: Global, key: &PublicKey) -> Result<Vec<u8>, EncodeError>
+    ensures { IfOk result (λ octets. octets.items ≡ key_name_octets (sha1 key.now)) }
+{
+    match key.to_subject_name(alloc) {
+        Ok(name) => name.encode_ref().to_bytes(alloc),
+        Err(_) => Err(EncodeError::Memory),
+    }
+}
+
+/// Cryptography that says yes to signatures by one key alone.
+pub struct Pinned<C> {
+    crypto: C,
+    key: PublicKey,
+}
+
+impl<C: Crypto> Crypto for Pinned<C> {
+    ghost digest_of = { λ p octets. C.digest_of p.crypto octets };
+
+    ghost is_signed = { λ p key message signature.
+        bytes_eq key p.key && C.is_signed p.crypto key message signature };
+
+    fn digest(&self, octets: &[u8]) -> Digest {
+        self.crypto.digest(octets)
+    }
+
+    fn verify(&self, key: &PublicKey, message: &[u8], signature: &RpkiSignature) -> bool {
+        *key == self.key && self.crypto.verify(key, message, signature)
+    }
+}
