@@ -18,14 +18,14 @@ use bytes::Bytes;
 pub use encoder::SignedAttrsEncoder;
 use rpki_basics::Time;
 use rpki_der::build::tlv;
-use rpki_der::{Constructed, DecodeError, Mode, Oid, Tag};
+use rpki_der::{Constructed, DecodeError, EncodeError, Mode, Oid, Tag};
 use std::alloc::{AllocError, Global};
 use std::marker::Model;
 
-/// How many octets signed attributes have at most.
+// How many octets signed attributes have at most.
 const MOST: usize = 65535;
 
-/// What signed attributes say, and their octets.
+// What signed attributes say, and their octets.
 #[derive(Debug, Drop)]
 struct Fields {
     contents: Bytes,
@@ -66,7 +66,7 @@ impl Model for SignedAttrs {
     ghost invariant = { λ a. AreKept (record { attributes = a.fields; mode = a.mode }) };
 }
 
-/// Reads signed attributes.
+// Reads signed attributes.
 fn take_attrs(
     cons: &mut Constructed<'_>,
     alloc: Global,
@@ -87,8 +87,10 @@ fn take_attrs(
 }
 
 impl SignedAttrs {
-    /// Reads signed attributes: content type, message digest and signing time, each once, in any
-    /// order (RFC 6488, section 2.1.6.4). An attribute of another type is refused.
+    /// Reads signed attributes: content type, message digest and signing time, each once (RFC 6488,
+    /// section 2.1.6.4). An attribute of another type is refused. That they are read in BER too,
+    /// and in any order in DER too, against RFC 5652, section 5.3, and X.690, section 11.6, is this
+    /// project's own rule.
     ///
     /// Refuses by `Malformed`, by `InvalidSignedAttr` for an attribute of another type, by
     /// `AttributeTwice`, `NoContentType`, `NoMessageDigest`, `NoSigningTime`, by
@@ -103,9 +105,10 @@ impl SignedAttrs {
         take_attrs(cons, alloc, OtherTypes::Refuse)
     }
 
-    /// Reads signed attributes as `take_from` does, and goes past those of other types, whatever
-    /// values follow their type (RFC 5652, section 5.3). It is for the messages of RFC 6492 and
-    /// RFC 8181, whose profiles do not forbid further attributes.
+    /// Reads signed attributes as `take_from` does, and skips those of other types. It is for the
+    /// messages of RFC 6492 and RFC 8181. That any values may follow another type, or none, and
+    /// that the signing time has to be there, is this project's own rule: RFC 5652 has a SET in
+    /// section 5.3, and leaves the signing time open in section 11.3.
     pub fn take_from_signed_message(
         alloc: Global,
         cons: &mut Constructed<'_>,
@@ -166,14 +169,17 @@ impl SignedAttrs {
         SignedAttrsEncoder::new(self)
     }
 
-    /// The message that is signed: the attributes under the header of a SET, in DER (RFC 5652,
-    /// section 5.4). Refuses only for want of memory.
+    /// The message that is signed: the header of a SET with its length in DER, and the octets as
+    /// they were read or made. It is the message of RFC 5652, section 5.4, where these are the DER
+    /// of the SET, in order; that they are not encoded anew is this project's own rule. Refuses
+    /// only for want of memory.
     pub fn encode_verify(&self, alloc: Global) -> Result<Vec<u8>, AllocError>
         ensures { IfOk result (λ message. message.items ≡ message_of self.now.attributes) }
     {
         match tlv(alloc, Tag::SET.octet, self.as_slice()) {
             Ok(message) => Ok(message),
-            Err(_) => Err(AllocError),
+            Err(EncodeError::Memory) => Err(AllocError),
+            Err(_) => unreachable!(),
         }
     }
 }
@@ -190,7 +196,7 @@ impl Clone for SignedAttrs {
 }
 
 impl Fields {
-    /// A copy, unless no memory for it is to be had.
+    // A copy, unless no memory for it is to be had.
     fn copy(&self) -> Result<Fields, AllocError>
         ensures { IfOk result (λ copy. copy ≡ self.now) }
     {
