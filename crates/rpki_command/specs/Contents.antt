@@ -3,7 +3,7 @@ use Rattle.std.specs.Prelude.{◌≡◌, ℕ, ◌⊎◌, List}
 use Rattle.rpki_der.specs.declared.mode.Mode.TheVariants.{Der}
 use Rattle.rpki_der.specs.Grammar.{Front}
 use Rattle.rpki_command.specs.Answer.{Said, out_of_memory, malformed, shown}
-use Rattle.rpki_command.specs.Aspa.{AspaForm}
+use Rattle.rpki_command.specs.Aspa.Form.{AspaForm}
 use Rattle.rpki_command.specs.Texts.Aspa.{aspa_text}
 use Rattle.rpki_command.specs.declared.words.Kind.{Kind}
 

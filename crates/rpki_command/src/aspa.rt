@@ -10,9 +10,10 @@ ghost use Rattle.rpki_der.specs.Read.Reads.{Reads, Found};
 ghost use Rattle.rpki_der.specs.Form.Decodes.{Decodes};
 ghost use Rattle.rpki_der.specs.declared.mode.Mode.TheVariants.{Der};
 ghost use Rattle.rpki_der.specs.Grammar.{IsBytes};
-ghost use Rattle.rpki_command.specs.Aspa.{Aspa, AspaForm, IsAttestation};
-ghost use Rattle.rpki_command.specs.AspaRead.{fields_at};
-ghost use Rattle.rpki_command.specs.AspaWritten.{aspa_octets};
+ghost use Rattle.rpki_command.specs.Aspa.{Aspa, IsAttestation};
+ghost use Rattle.rpki_command.specs.Aspa.Form.{AspaForm};
+ghost use Rattle.rpki_command.specs.Aspa.Read.{fields_at};
+ghost use Rattle.rpki_command.specs.Aspa.Written.{aspa_octets};
 
 use bytes::Bytes;
 pub use encoder::AsProviderAttestationEncoder;
