@@ -45,8 +45,8 @@ impl Model for AsProviderAttestation {
 
 impl AsProviderAttestation {
     /// Reads the content at the front of the source, by the rules of DER (section 3 of the
-    /// profile). Refuses by `Malformed` or by the `Content` fault that is found first where there
-    /// is none, and by `Memory` where no memory was to be had.
+    /// profile). Where the source begins with no content, refuses by `Malformed` or by the
+    /// `Content` fault that is found first, and by `Memory` where no memory was to be had.
     pub fn decode(alloc: Global, source: Bytes) -> Result<AsProviderAttestation, DecodeError>
         ensures { Decodes (AspaForm Der) (λ a. a) source result }
     {
@@ -96,7 +96,7 @@ fn read_front(alloc: Global, source: Bytes) -> Result<AsProviderAttestation, Dec
 }
 
 /// Reads the version, the customer and the providers.
-#[tactic(auto, unfolding(crate::specs::AspaRead::fields_at))]
+#[tactic(auto, unfolding(crate::specs::Aspa::Read::fields_at))]
 fn take_fields(
     cons: &mut Constructed<'_>,
     alloc: Global,
