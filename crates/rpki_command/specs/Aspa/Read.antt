@@ -12,8 +12,8 @@ pub record AreProviders (customer : ℕ) (providers : List ℕ) : Type 0 where
   pub set : IsProviderSet providers
   pub others : Contains providers customer → ⊥
 
--- What may be the beginning of a customer's providers: at most 10000, each below the next, none of
--- them the customer, and 0 only alone.
+-- What may be the beginning of a customer's providers: no more than a customer has at most, each
+-- below the next, none of them the customer, and 0 only alone.
 pub record MayBegin (customer : ℕ) (providers : List ℕ) : Type 0 where
   pub most : length providers ≤ most_providers
   pub ascending : IsStrictlyIncreasing providers

@@ -17,9 +17,10 @@ use Rattle.rpki_der.proofs.Writing.Numbers.{length-number_octets}
 use Rattle.rpki_der.proofs.Writing.Values.{number-in, number-written, number-unique}
 use Rattle.rpki_resources.specs.As.{IsAsn}
 use Rattle.rpki_resources.specs.As.Form.{AsId}
-use Rattle.rpki_command.specs.Aspa.{Aspa, most_providers, IsAttestation, AspaForm}
-use Rattle.rpki_command.specs.AspaWritten.{version_octets, providers_octets, aspa_contents}
-use Rattle.rpki_command.specs.AspaWritten.{aspa_octets}
+use Rattle.rpki_command.specs.Aspa.{Aspa, most_providers, IsAttestation}
+use Rattle.rpki_command.specs.Aspa.Form.{AspaForm}
+use Rattle.rpki_command.specs.Aspa.Written.{version_octets, providers_octets, aspa_contents}
+use Rattle.rpki_command.specs.Aspa.Written.{aspa_octets}
 
 -- ---- how many octets there are
 

@@ -14,9 +14,10 @@ use Rattle.rpki_der.proofs.Form.Kinds.{u32-part, this-part}
 use Rattle.rpki_der.proofs.Form.Words.{in-tag, pass, items, items-all, also, and-also, out-of}
 use Rattle.rpki_resources.specs.As.{IsAsn}
 use Rattle.rpki_resources.specs.As.Form.{AsId}
-use Rattle.rpki_command.specs.Aspa.{Aspa, IsAttestation, AspaForm}
-use Rattle.rpki_command.specs.AspaRead.{MayBegin, are_providers, providers_at, fields_at}
-use Rattle.rpki_command.proofs.Providers.{test-sound, test-complete, not-true, not-is}
+use Rattle.rpki_command.specs.Aspa.{Aspa, IsAttestation}
+use Rattle.rpki_command.specs.Aspa.Form.{AspaForm}
+use Rattle.rpki_command.specs.Aspa.Read.{MayBegin, are_providers, providers_at, fields_at}
+use Rattle.rpki_command.proofs.Attestations.Providers.{test-sound, test-complete, not-true, not-is}
 
 abbrev aspa : ℕ → List ℕ → Aspa
 aspa customer providers = record { customer = customer; providers = providers }

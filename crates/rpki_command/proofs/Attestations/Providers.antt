@@ -6,7 +6,7 @@ use Rattle.std.specs.List.Sorted.{IsStrictlyIncreasing}
 use Rattle.std.proofs.lemmas.Bool.{ltb-true, lt-ltb, leb-true, le-leb, eqb-true, eq-eqb}
 use Rattle.std.proofs.lemmas.List.{get_or_append_left}
 use Rattle.std.proofs.lemmas.List.Elements.{Contains-append_left}
-use Rattle.rpki_command.specs.AspaRead.{MayBegin, ascend, has, are_providers}
+use Rattle.rpki_command.specs.Aspa.Read.{MayBegin, ascend, has, are_providers}
 
 -- ---- what comes before others
 
