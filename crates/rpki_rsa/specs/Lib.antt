@@ -1,0 +1,3 @@
+pub mod KeyParts
+pub mod Limbs
+pub mod Signature
