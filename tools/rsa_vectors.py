@@ -17,6 +17,7 @@ import pathlib
 import subprocess
 import sys
 import tempfile
+import textwrap
 
 INFO = bytes.fromhex("3031300d060960864801650304020105000420")
 OWN = True
@@ -318,18 +319,31 @@ def main():
     keys = {key.name: key for key, _ in made}
     other = keys["OTHER_2048"] = Key("OTHER_2048", 2048)
     key, wide = keys["KEY_2048"], keys["KEY_2052"]
-    right = [row for _, row in made] + list(right_rows(key, other))
-    wrong = [*wrong_numbers(key, wide), *wrong_messages(key, other), *wrong_encodings(key)]
-    wrong += wrong_keys(key)
-    for row in right + wrong:
-        der = keys[row[1]].der if isinstance(row[1], str) else row[1]
-        answer = says_yes(der, row[2], row[3])
-        if row in right:
-            assert answer, row[0]
-        elif len(row) == 4:
-            assert not answer, row[0]
+    right = {
+        "SIZES": ("Moduli of many sizes", [row for _, row in made]),
+        "MESSAGES": ("Messages of many lengths", list(right_rows(key, other))),
+    }
+    bad_keys = list(wrong_keys(key))
+    wrong = {
+        "NUMBERS": ("Signatures of another number or length", list(wrong_numbers(key, wide))),
+        "KINDS": ("Signatures of other messages and kinds", list(wrong_messages(key, other))),
+        "ENCODINGS": ("Encoded messages that are another", list(wrong_encodings(key))),
+        "MODULI": ("Keys of another modulus or exponent", bad_keys[:10]),
+        "KEYS": ("Octets that are no key", bad_keys[10:]),
+    }
+    for tables, verdict in ((right, True), (wrong, False)):
+        for _, rows in tables.values():
+            for row in rows:
+                ask(keys, row, verdict)
     write(folder, keys, right, wrong)
-    print(f"{len(right)} right, {len(wrong)} wrong")
+    print(*(f"{name} {len(rows)}" for name, (_, rows) in [*right.items(), *wrong.items()]))
+
+
+def ask(keys, row, verdict):
+    """Asks openssl for the verdict of a row, which may be a yes where the rule is our own."""
+    why, key, message, signature, *own = row
+    der = keys[key].der if key in keys else key
+    assert says_yes(der, message, signature) == verdict or own, why
 
 
 def write(folder, keys, right, wrong):
@@ -337,15 +351,25 @@ def write(folder, keys, right, wrong):
     for name, key in keys.items():
         text += f"\npub const {name}: &[u8] = {literal(key.der, 4)};\n"
     (folder / "keys.rt").write_text(text)
-    head = "//! {}, which `tools/rsa_vectors.py` made by `openssl`.\n\nuse crate::keys::{};\n\n"
-    for word, doc, rows in (
+    for word, doc, tables in (
         ("right", "Keys, messages and signatures", right),
         ("wrong", "Keys, messages and octets that are no signature", wrong),
     ):
-        names = sorted({row[1] for row in rows if isinstance(row[1], str)})
-        used = "{" + ", ".join(names) + "}"
-        text = head.format(doc, used) + table(word.upper(), doc + ".", [row[:4] for row in rows])
+        names = {row[1] for _, rows in tables.values() for row in rows}
+        names = sorted(name for name in names if isinstance(name, str))
+        text = f"//! {doc}, which `tools/rsa_vectors.py` made by `openssl`.\n\n"
+        text += use_line(names)
+        for name, (why, rows) in tables.items():
+            text += "\n" + table(name, why + ".", [row[:4] for row in rows])
         (folder / f"{word}.rt").write_text(text)
+
+
+def use_line(names):
+    line = f"use crate::keys::{{{', '.join(names)}}};\n"
+    if len(line) <= 101:
+        return line
+    lines = textwrap.wrap(", ".join(names) + ",", 96)
+    return "use crate::keys::{\n" + "".join(f"    {line}\n" for line in lines) + "};\n"
 
 
 if __name__ == "__main__":

@@ -234,7 +234,7 @@ pow-some : (k : ℕ) → 0 < 256 ^ k
 pow-some zero = omega arith
 pow-some (suc k) = let h : 0 < 256 ^ k = pow-some k in rw (pow-suc 256 k) (omega (arith, h))
 
-bytes-digits : (k n : ℕ) → n < 256 ^ k → IsBytes (digits k n)
+pub bytes-digits : (k n : ℕ) → n < 256 ^ k → IsBytes (digits k n)
 unfolding digits
 bytes-digits zero n h = tt
 bytes-digits (suc k) n h =
@@ -290,7 +290,7 @@ same-octets n j k h i =
 bits_2048 : 2 ^ 2047 ≡ 128 * 256 ^ 255
 bits_2048 = refl
 
-bits_4096 : 2 ^ 4096 ≡ 256 ^ 512
+pub bits_4096 : 2 ^ 4096 ≡ 256 ^ 512
 bits_4096 = refl
 
 pub too-short : (d : List ℕ) → IsBytes d → length d < 256 → number 0 d < 2 ^ 2047

@@ -8,11 +8,11 @@ use Rattle.rpki_rsa.specs.Signature.{rsa_key_octets, modulus_in, IsRsaKey, IsSig
 use Rattle.rpki_rsa.specs.Signature.{IsRsaSignature, is_rsa_key, is_signature_of, is_rsa_signature}
 use Rattle.rpki_rsa.proofs.KeyFacts.{modulus-is}
 
-first-of : (a b : Bool) → (a && b) ≡ true → a ≡ true
+pub first-of : (a b : Bool) → (a && b) ≡ true → a ≡ true
 first-of true b h = refl
 first-of false b h = cc
 
-second-of : (a b : Bool) → (a && b) ≡ true → b ≡ true
+pub second-of : (a b : Bool) → (a && b) ≡ true → b ≡ true
 second-of true b h = h
 second-of false b h = cc
 

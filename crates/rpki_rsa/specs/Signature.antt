@@ -3,6 +3,9 @@
 use Rattle.std.specs.Prelude.{◌≡◌, ℕ, ◌+◌, ◌-◌, ◌^◌, ◌%◌, ◌<◌, ◌≤◌, List, [], ◌∷◌, ◌++◌, length}
 use Rattle.std.specs.Prelude.{replicate, take, drop, Bool, ◌&&◌, ◌==◌, bytes_eq, nat_le, nat_lt}
 use Rattle.sha2.specs.Sha256.{sha256}
+use Rattle.rpki_der.specs.declared.mode.Mode.{Mode}
+use Rattle.rpki_der.specs.Grammar.{Integer}
+use Rattle.rpki_der.specs.Form.Parts.{Sequence}
 use Rattle.rpki_der.specs.Numbers.{number}
 use Rattle.rpki_der.specs.Tags.{SEQUENCE, INTEGER, OCTET_STRING}
 use Rattle.rpki_der.specs.Write.Written.{value_octets, integer_contents, number_octets}
@@ -31,6 +34,14 @@ pub record IsModulus (n : ℕ) : Type 0 where
 pub record IsRsaKey (key : List ℕ) (n : ℕ) : Type 0 where
   pub octets : key ≡ rsa_key_octets n
   pub modulus : IsModulus n
+
+-- RSAPublicKey ::= SEQUENCE { modulus INTEGER, publicExponent INTEGER }, of the exponent 65537 (RFC
+-- 8017, appendix A.1.1; RFC 7935, section 3)
+abbrev pub RsaKeyForm : Mode → List ℕ → ℕ → Type 0
+RsaKeyForm mode octets n = Sequence mode (
+    (λ o. Integer mode o n)
+    ∷ (λ o. Integer mode o 65537)
+    ∷ []) octets
 
 -- ---- the encoded message
 

@@ -5,6 +5,7 @@
 mod encoding;
 mod inverse;
 mod key;
+pub mod laws;
 mod limbs;
 mod modular;
 mod montgomery;

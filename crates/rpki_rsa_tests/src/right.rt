@@ -1,9 +1,12 @@
 //! Keys, messages and signatures, which `tools/rsa_vectors.py` made by `openssl`.
 
-use crate::keys::{KEY_2048, KEY_2049, KEY_2052, KEY_2055, KEY_2056, KEY_2057, KEY_2112, KEY_3072, KEY_3073, KEY_4089, KEY_4095, KEY_4096, OTHER_2048};
+use crate::keys::{
+    KEY_2048, KEY_2049, KEY_2052, KEY_2055, KEY_2056, KEY_2057, KEY_2112, KEY_3072, KEY_3073,
+    KEY_4089, KEY_4095, KEY_4096, OTHER_2048,
+};
 
-/// Keys, messages and signatures.
-pub static RIGHT: [(&[u8], &[u8], &[u8]); 20] = [
+/// Moduli of many sizes.
+pub static SIZES: [(&[u8], &[u8], &[u8]); 12] = [
     // a modulus of 2048 bits
     (
         KEY_2048,
@@ -256,6 +259,10 @@ pub static RIGHT: [(&[u8], &[u8], &[u8]); 20] = [
         \xD9\x4C\x5E\x09\xE3\xC0\xC6\x74\x55\x01\x73\xE9\x65\x86\x8D\x29\xB2\x48\x3B\x26\xA7\x94\
         \xF5\x90\xDD\x19\x6F\x01",
     ),
+];
+
+/// Messages of many lengths.
+pub static MESSAGES: [(&[u8], &[u8], &[u8]); 8] = [
     // a message of 0 octets
     (
         KEY_2048,

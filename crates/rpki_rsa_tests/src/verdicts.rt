@@ -1,7 +1,7 @@
 //! Rows of verdicts, and a digest.
 
-use crate::right::RIGHT;
-use crate::wrong::WRONG;
+use crate::right::{MESSAGES, SIZES};
+use crate::wrong::{ENCODINGS, KEYS, KINDS, MODULI, NUMBERS};
 use bytes::Bytes;
 use rpki_basics::{Crypto, PublicKey, RpkiSignature, RpkiSignatureAlgorithm};
 use rpki_rsa::Rsa;
@@ -27,7 +27,8 @@ fn have(rows: &'static [(&[u8], &[u8], &[u8])], verdict: bool) -> bool {
 
 #[test]
 fn verdicts(rt: HostRuntime) {
-    assert!(rt; have(&RIGHT, true));
-    assert!(rt; have(&WRONG, false));
+    assert!(rt; have(&SIZES, true) && have(&MESSAGES, true));
+    assert!(rt; have(&NUMBERS, false) && have(&KINDS, false) && have(&ENCODINGS, false));
+    assert!(rt; have(&MODULI, false) && have(&KEYS, false));
     assert!(rt; Rsa.digest(b"abc").as_slice() == ABC.as_slice());
 }

@@ -2,8 +2,8 @@
 
 use crate::keys::{KEY_2048, KEY_2052, OTHER_2048};
 
-/// Keys, messages and octets that are no signature.
-pub static WRONG: [(&[u8], &[u8], &[u8]); 63] = [
+/// Signatures of another number or length.
+pub static NUMBERS: [(&[u8], &[u8], &[u8]); 16] = [
     // n is added to the signature
     (
         KEY_2048,
@@ -265,6 +265,10 @@ pub static WRONG: [(&[u8], &[u8], &[u8]); 63] = [
         \xDC\x9F\x7C\x6C\xF7\x79\x97\x6C\xE1\x37\x84\x89\x70\x77\x21\x37\x3E\xE9\xAA\x02\x0F\x91\
         \x36\x1F\xAF\x96\xD4\x82\x85\x6F\x6F\x2D\x16\x88\xD8",
     ),
+];
+
+/// Signatures of other messages and kinds.
+pub static KINDS: [(&[u8], &[u8], &[u8]); 9] = [
     // the message is another of 3 octets
     (
         KEY_2048,
@@ -418,6 +422,10 @@ pub static WRONG: [(&[u8], &[u8], &[u8]); 63] = [
         \x1C\x43\xB3\x00\xB8\x5D\xA5\x90\x94\x21\x69\xF6\x98\x57\x6E\xE3\xAF\xA1\xA9\x23\x90\x54\
         \xAE\xD8\xB7\xF2\xBE\xEA\x02\xC4\x12\x3B\x9E\xE5\x59\x39",
     ),
+];
+
+/// Encoded messages that are another.
+pub static ENCODINGS: [(&[u8], &[u8], &[u8]); 15] = [
     // digest alone
     (
         KEY_2048,
@@ -673,6 +681,10 @@ pub static WRONG: [(&[u8], &[u8], &[u8]); 63] = [
         \x19\xBC\x4D\x36\x53\xC3\x99\x8D\xE9\xFF\x00\x68\x52\x27\x3A\x11\x0E\x79\x28\x7D\x24\x20\
         \xD9\x94\x00\x87\x29\x50\x42\x14\xC8\xA2\xC3\xCD\x79\x88",
     ),
+];
+
+/// Keys of another modulus or exponent.
+pub static MODULI: [(&[u8], &[u8], &[u8]); 10] = [
     // a modulus of 1024 bits
     (
         b"\x30\x81\x89\x02\x81\x81\x00\xCC\x46\x57\x72\xD7\x38\xF6\xEF\x52\x7C\x83\x66\x4B\x77\x41\
@@ -997,6 +1009,10 @@ pub static WRONG: [(&[u8], &[u8], &[u8]); 63] = [
         \x8F\x59\x25\x08\xD4\xA9\xE3\x18\x2A\x89\x27\xCA\x5E\x66\x79\x6A\xB2\x49\x0A\xCF\xF5\xCE\
         \xFF\x4F\xA0\xC9\xFA\x28\x59\x70\x3F\x64\xDA\x25\xAB\xF5",
     ),
+];
+
+/// Octets that are no key.
+pub static KEYS: [(&[u8], &[u8], &[u8]); 13] = [
     // no key
     (
         b"",
