@@ -1,0 +1,4 @@
+pub mod BasicConstraints
+pub mod KeyIdentifiers
+pub mod Purposes
+pub mod Usage
