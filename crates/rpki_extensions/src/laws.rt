@@ -1,10 +1,12 @@
 //! What the definitions of extensions say: laws, as functions that do nothing.
 
 ghost use Rattle.rpki_der.specs.Read.Exact.{IsReading};
+ghost use Rattle.rpki_extensions.specs.Addresses.{IpClaimsForm, ip_claims_at};
 ghost use Rattle.rpki_extensions.specs.BasicConstraints.{BasicConstraintsForm};
 ghost use Rattle.rpki_extensions.specs.BasicConstraints.{basic_constraints_at};
 ghost use Rattle.rpki_extensions.specs.KeyIdentifiers.{SubjectKeyForm, AuthorityKeyForm};
 ghost use Rattle.rpki_extensions.specs.KeyIdentifiers.{subject_key_at, authority_key_at};
+ghost use Rattle.rpki_extensions.specs.Policies.{PoliciesForm, policies_at};
 ghost use Rattle.rpki_extensions.specs.Purposes.{PurposesForm, purposes_at};
 ghost use Rattle.rpki_extensions.specs.Usage.{KeyUsageForm, key_usage_at};
 
@@ -24,4 +26,14 @@ pub fn basic_constraints()
 pub fn usages()
     ensures usage { IsReading key_usage_at KeyUsageForm }
     ensures purposes { IsReading purposes_at PurposesForm }
+{}
+
+/// So it is with certificate policies (RFC 5280, section 4.2.1.4).
+pub fn policies()
+    ensures { IsReading policies_at PoliciesForm }
+{}
+
+/// So it is with the claims of addresses (RFC 3779, section 2.2.3).
+pub fn claims()
+    ensures { IsReading ip_claims_at IpClaimsForm }
 {}
