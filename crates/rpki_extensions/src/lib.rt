@@ -1,0 +1,18 @@
+//! What the extensions of resource certificates and of their revocation lists say (RFC 5280,
+//! section 4.2; RFC 6487, section 4.8; RFC 3779).
+#![tactic(auto)]
+
+mod addresses;
+mod basic;
+mod key_identifiers;
+pub mod laws;
+mod policies;
+mod purposes;
+mod usage;
+
+pub use addresses::IpClaims;
+pub use basic::take_basic_constraints;
+pub use key_identifiers::{take_authority_key_identifier, take_subject_key_identifier};
+pub use policies::take_certificate_policies;
+pub use purposes::{Purpose, take_purposes};
+pub use usage::take_key_usage;
