@@ -7,10 +7,11 @@ mod read;
 ghost use Rattle.std.specs.Prelude.{◌≡◌, ◌≤◌, IfOk, length};
 ghost use Rattle.rpki_der.specs.declared.mode.Mode.TheVariants.{Der};
 ghost use Rattle.rpki_der.specs.Form.Decodes.{DecodesNext};
-ghost use Rattle.rpki_der.specs.Read.Reads.{Stays};
+ghost use Rattle.rpki_der.specs.Read.Reads.{Reads, Stays};
 ghost use Rattle.rpki_attributes.specs.declared.attribute.OtherTypes.TheVariants.{Refuse, Skip};
 ghost use Rattle.rpki_attributes.specs.Attrs.{SignedAttrsForm, most_octets};
 ghost use Rattle.rpki_attributes.specs.AttrsMade.{attrs_octets, message_of};
+ghost use Rattle.rpki_attributes.specs.AttrsRead.{attrs_at};
 
 use crate::attribute::OtherTypes;
 use crate::digest::MessageDigest;
@@ -72,6 +73,7 @@ fn take_attrs(
     alloc: Global,
     others: OtherTypes,
 ) -> Result<SignedAttrs, DecodeError>
+    ensures reads { Reads (λ a. a.attributes) (attrs_at others) cons.old result cons.new }
     ensures decodes { DecodesNext (SignedAttrsForm others) (λ a. a.attributes)
         cons.old result cons.new }
     ensures mode { IfOk result (λ a. a.mode ≡ cons.old.mode) }
@@ -97,6 +99,7 @@ impl SignedAttrs {
     /// `AttributesTooLong` for more than 65535 octets, and by what `Time::take_from` refuses.
     /// `Memory` may come too.
     pub fn take_from(alloc: Global, cons: &mut Constructed<'_>) -> Result<SignedAttrs, DecodeError>
+        ensures reads { Reads (λ a. a.attributes) (attrs_at Refuse) cons.old result cons.new }
         ensures decodes { DecodesNext (SignedAttrsForm Refuse) (λ a. a.attributes)
             cons.old result cons.new }
         ensures mode { IfOk result (λ a. a.mode ≡ cons.old.mode) }
@@ -113,6 +116,7 @@ impl SignedAttrs {
         alloc: Global,
         cons: &mut Constructed<'_>,
     ) -> Result<SignedAttrs, DecodeError>
+        ensures reads { Reads (λ a. a.attributes) (attrs_at Skip) cons.old result cons.new }
         ensures decodes { DecodesNext (SignedAttrsForm Skip) (λ a. a.attributes)
             cons.old result cons.new }
         ensures mode { IfOk result (λ a. a.mode ≡ cons.old.mode) }
