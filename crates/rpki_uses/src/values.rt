@@ -3,6 +3,7 @@
 ghost use Rattle.std.specs.Prelude.{◌≡◌, ◌&&◌, ℕ, List, MatchResult, Some, nat_le, bytes_eq};
 ghost use Rattle.sha1.specs.Sha1.{sha1};
 ghost use Rattle.rpki_der.specs.declared.mode.Mode.TheVariants.{Der};
+ghost use Rattle.rpki_der.specs.declared.encode.EncodeError.TheVariants.{Memory};
 ghost use Rattle.rpki_der.specs.Grammar.{Front, HasNoFront};
 ghost use Rattle.rpki_der.specs.Read.Parse.{◌>>=◌ as ◌and_then◌};
 ghost use Rattle.rpki_der.specs.Read.Reads.{Reads, Refuses};
