@@ -272,7 +272,8 @@ power_below : (j k : ℕ) → 256 ^ j < 256 ^ k → j < k
 power_below j k h =
     elim (cases_lt j k) [
       | inl l ↦ l
-      | inr g ↦ absurd (omega (arith, h, pow-le-pow_right {n = 256} (omega arith) {i = k} {j = j} g))
+      | inr g ↦ absurd
+      (omega (arith, h, pow-le-pow_right {n = 256} (omega arith) {i = k} {j = j} g))
     ]
 
 pub same-octets : (n j k : ℕ) → HasOctets n j → HasOctets n k → j ≡ k
@@ -384,8 +385,10 @@ made key n h =
     let less = shorter (digits 512 n) (bytes-digits 512 n fits) in
     let d : List ℕ = significant (digits 512 n) in
     let same : number 0 (significant (digits 512 n)) ≡ n = less.same ∙ number-digits 512 n fits in
-    let long : 256 ≤ length (significant (digits 512 n)) = elim (cases_lt (length (significant (digits 512 n))) 256) [
-      | inl l ↦ absurd (omega (arith, too-short (significant (digits 512 n)) less.bytes l, same, h.modulus.least))
+    let long : 256 ≤ length (significant (digits 512 n)) =
+    elim (cases_lt (length (significant (digits 512 n))) 256) [
+      | inl l ↦ absurd
+      (omega (arith, too-short (significant (digits 512 n)) less.bytes l, same, h.modulus.least))
       | inr g ↦ g
     ] in
     let whole : key ≡ key_with (not_negative (significant (digits 512 n))) = h.octets in

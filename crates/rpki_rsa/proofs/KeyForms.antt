@@ -41,7 +41,8 @@ unfolding key_with
 key-octets n m =
     let a : List ℕ = value_octets INTEGER (integer_contents (digits 512 n)) in
     let b : List ℕ = number_octets 65537 in
-    let long : length (value_octets INTEGER (integer_contents (digits 512 n)) ++ number_octets 65537) < 2 ^ 32 =
+    let long : length
+    (value_octets INTEGER (integer_contents (digits 512 n)) ++ number_octets 65537) < 2 ^ 32 =
     omega (
       arith,
       length-append (value_octets INTEGER (integer_contents (digits 512 n))) (number_octets 65537),
@@ -65,7 +66,8 @@ unfolding key_with
 key-only key n bytes m h =
     let p = h.2 in
     let r = p.4 in
-    let c : IsBytes h.0 = IsBytes-contents Der key key [] SEQUENCE h.0 (sym (append-nil key)) h.1 bytes in
+    let c : IsBytes h.0 =
+    IsBytes-contents Der key key [] SEQUENCE h.0 (sym (append-nil key)) h.1 bytes in
     let f : IsBytes p.0 = IsBytes-left p.0 p.1 (subst IsBytes p.2 c) in
     let s : IsBytes p.1 = IsBytes-right p.0 p.1 (subst IsBytes p.2 c) in
     let e : IsBytes r.0 = IsBytes-left r.0 r.1 (subst IsBytes r.2 s) in
@@ -80,6 +82,7 @@ key-only key n bytes m h =
     record {
       octets = value-unique key SEQUENCE h.0 bytes h.1
           ∙ ap (value_octets SEQUENCE) (p.2 ∙ ap (λ (t : List ℕ). t ++ p.1) first
-          ∙ ap (λ (t : List ℕ). value_octets INTEGER (integer_contents (digits 512 n)) ++ t) second);
+          ∙ ap (λ (t : List ℕ). value_octets INTEGER (integer_contents (digits 512 n)) ++ t)
+          second);
       modulus = m;
     }

@@ -34,7 +34,8 @@ square-same n x y e =
 
 squared-is : (n x k : ℕ) → squared n x k % n ≡ (x ^ 2 ^ k) % n
 unfolding squared
-squared-is n x zero = ap (λ (t : ℕ). t % n) (omega (arith, pow-suc x 0, ap (λ (t : ℕ). t * x) (pow-zero x)))
+squared-is n x zero =
+    ap (λ (t : ℕ). t % n) (omega (arith, pow-suc x 0, ap (λ (t : ℕ). t * x) (pow-zero x)))
 squared-is n x (suc k) =
     let twice : 2 ^ k + 2 ^ k ≡ 2 ^ suc k = omega (arith, pow-suc 2 k) in
     square-same n (x ^ 2 ^ k) (squared n x k) (squared-is n x k)
@@ -96,7 +97,9 @@ digest_of_abc =
     0xAE ∷ 0x22 ∷ 0x23 ∷ 0xB0 ∷ 0x03 ∷ 0x61 ∷ 0xA3 ∷ 0x96 ∷ 0x17 ∷ 0x7A ∷ 0x9C ∷ 0xB4 ∷ 0x10 ∷
     0xFF ∷ 0x61 ∷ 0xF2 ∷ 0x00 ∷ 0x15 ∷ 0xAD ∷ []
 
-computed : (squared (number 0 sample_modulus) (number 0 sample_signature) 16 * number 0 sample_signature) % number 0 sample_modulus
+computed :
+    (squared (number 0 sample_modulus)
+    (number 0 sample_signature) 16 * number 0 sample_signature) % number 0 sample_modulus
     ≡ number 0 (encoded_of digest_of_abc)
 unfolding sample_modulus sample_signature squared square_of
 computed = refl

@@ -73,7 +73,8 @@ pub record IsSignatureOf (n : ℕ) (message signature : List ℕ) : Type 0 where
   -- its number is below the modulus (step 2b, by section 5.2.2, step 1)
   pub below : number 0 signature < n
   -- its power is the number of the encoded message (steps 2 to 4)
-  pub power : (number 0 signature ^ 65537) % n ≡ number 0 (encoded_message (length signature) message)
+  pub power : (number 0 signature ^ 65537) % n
+      ≡ number 0 (encoded_message (length signature) message)
 
 -- the key with these bits says yes to this signature of the message
 pub record IsRsaSignature (key message signature : List ℕ) : Type 0 where
