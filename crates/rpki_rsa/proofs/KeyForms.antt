@@ -1,5 +1,5 @@
 -- A key is what its ASN.1 says, in DER.
-use Rattle.std.proofs.Common.{◌≡◌, ℕ, ◌+◌, ◌<◌, ◌^◌, List, [], ◌++◌, length, refl, sym, ap, ◌∙◌}
+use Rattle.std.proofs.Common.{◌≡◌, ℕ, ◌<◌, ◌^◌, List, [], ◌++◌, length, refl, sym, ap, ◌∙◌}
 use Rattle.std.proofs.Common.{arith, subst, length-append}
 use Rattle.std.proofs.lemmas.List.{append-nil}
 use Rattle.rpki_der.specs.declared.mode.Mode.TheVariants.{Der}
@@ -33,7 +33,7 @@ modulus-written n m =
       c,
       value-written INTEGER c (tag-sound INTEGER refl) small,
       subst (λ (k : ℕ). IsInteger (integer_contents (digits 512 n)) k)
-      (number-digits 512 n (fits n m)) (integer-is (digits 512 n)),
+          (number-digits 512 n (fits n m)) (integer-is (digits 512 n)),
     )
 
 key-octets : (n : ℕ) → IsModulus n → RsaKeyForm Der (rsa_key_octets n) n
@@ -52,8 +52,13 @@ key-octets n m =
     ) in (
       a ++ b,
       value-written SEQUENCE (a ++ b) (tag-sound SEQUENCE refl) long,
-      (a, b, refl, modulus-written n m,
-      (b, [], sym (append-nil b), number-written 65537 (omega arith), refl)),
+      (
+        a,
+        b,
+        refl,
+        modulus-written n m,
+        (b, [], sym (append-nil b), number-written 65537 (omega arith), refl),
+      ),
     )
 
 pub key-form : (key : List ℕ) (n : ℕ) → IsRsaKey key n → RsaKeyForm Der key n

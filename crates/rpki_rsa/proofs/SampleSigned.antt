@@ -1,12 +1,11 @@
 -- The sample's signature is one, step by step.
-use Rattle.std.proofs.Common.{◌≡◌, ℕ, zero, suc, ◌+◌, ◌*◌, ◌%◌, ◌^◌, ◌<◌, ◌≤◌, List, [], ◌∷◌, ◌++◌}
-use Rattle.std.proofs.Common.{Bool, true, false, length, take, drop, replicate, codes, refl, sym}
+use Rattle.std.proofs.Common.{◌≡◌, ℕ, zero, suc, ◌+◌, ◌*◌, ◌%◌, ◌^◌, ◌<◌, List, [], ◌∷◌, ◌++◌}
+use Rattle.std.proofs.Common.{Bool, true, length, replicate, codes, refl, sym}
 use Rattle.std.proofs.Common.{ap, ◌∙◌, arith, subst}
 use Rattle.std.specs.Prelude.{nat_lt, ◌&&◌}
 use Rattle.std.proofs.lemmas.Bool.{leb-true, ltb-true}
 use Rattle.std.proofs.lemmas.Nat.{mul-mod_first, mul-mod, pow-add}
-use Rattle.std.proofs.Math.Nat.{mod-mod, pow-suc, pow-zero, mul-one}
-use Rattle.sha2.specs.Sha256.{sha256}
+use Rattle.std.proofs.Math.Nat.{mod-mod, pow-suc, pow-zero}
 use Rattle.sha2.proofs.Facts256.{digest_of_abc_256}
 use Rattle.rpki_der.specs.Grammar.{IsBytes}
 use Rattle.rpki_der.specs.Numbers.{number}

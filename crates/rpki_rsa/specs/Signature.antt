@@ -1,6 +1,6 @@
 -- Signatures by RSASSA-PKCS1-v1_5 with SHA-256 (RFC 8017, sections 8.2.2 and 9.2; RFC 7935,
 -- section 2).
-use Rattle.std.specs.Prelude.{◌≡◌, ℕ, ◌+◌, ◌-◌, ◌^◌, ◌%◌, ◌<◌, ◌≤◌, List, [], ◌∷◌, ◌++◌, length}
+use Rattle.std.specs.Prelude.{◌≡◌, ℕ, ◌-◌, ◌^◌, ◌%◌, ◌<◌, ◌≤◌, List, [], ◌∷◌, ◌++◌, length}
 use Rattle.std.specs.Prelude.{replicate, take, drop, Bool, ◌&&◌, ◌==◌, bytes_eq, nat_le, nat_lt}
 use Rattle.sha2.specs.Sha256.{sha256}
 use Rattle.rpki_der.specs.declared.mode.Mode.{Mode}

@@ -31,7 +31,7 @@ loop-i-preserved c =
     let g = grow _ _ (2 + i) 1 c.loop-i.invariant.below c.push_octets-in-loop-i.ensures.below in
     record {
       same = c.push_octets-in-loop-i.ensures.same ∙ number-one _ 255
-      ∙ number-repeat _ _ 255 i c.loop-i.invariant.same;
+          ∙ number-repeat _ _ 255 i c.loop-i.invariant.same;
       below = subst (λ (x : ℕ). value c.push_octets-in-loop-i.new.t + 1 ≤ 256 ^ x) e g;
     }
 
