@@ -387,8 +387,7 @@ made key n h =
     let same : number 0 (significant (digits 512 n)) ≡ n = less.same ∙ number-digits 512 n fits in
     let long : 256 ≤ length (significant (digits 512 n)) =
     elim (cases_lt (length (significant (digits 512 n))) 256) [
-      | inl l ↦ absurd
-          (omega (arith, too-short (significant (digits 512 n)) less.bytes l, same, h.modulus.least))
+      | inl l ↦ absurd (omega (arith, too-short d less.bytes l, same, h.modulus.least))
       | inr g ↦ g
     ] in
     let whole : key ≡ key_with (not_negative (significant (digits 512 n))) = h.octets in
