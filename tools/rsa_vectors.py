@@ -20,6 +20,7 @@ import tempfile
 import textwrap
 
 INFO = bytes.fromhex("3031300d060960864801650304020105000420")
+BARE = bytes.fromhex("302f300b06096086480165030402010420")
 OWN = True
 
 
@@ -120,7 +121,9 @@ class Key:
         assert done.returncode == 0 and len(done.stdout) == self.len, done
         return done.stdout
 
-    def encoded(self, message, info=INFO, head=b"\0\1", fill=0xFF, mark=b"\0", digest=None, end=b""):
+    def encoded(
+        self, message, info=INFO, head=b"\0\1", fill=0xFF, mark=b"\0", digest=None, end=b""
+    ):
         """The encoded message (RFC 8017, section 9.2), with the parts that are handed in."""
         digest = hashlib.sha256(message).digest() if digest is None else digest
         tail = mark + info + digest + end
@@ -231,7 +234,7 @@ def wrong_encodings(key):
     rows = [
         ("digest alone", {"info": b""}),
         ("DigestInfo of SHA-384", {"info": INFO[:14] + b"\x02" + INFO[15:]}),
-        ("DigestInfo without the NULL", {"info": bytes.fromhex("302f300b0609608648016503040201") + b"\4\x20"}),
+        ("DigestInfo without the NULL", {"info": BARE}),
         ("DigestInfo with a long length", {"info": b"\x30\x81" + INFO[1:]}),
         ("digest in a BIT STRING", {"info": INFO[:17] + b"\3\x20"}),
         ("digest of another message", {"digest": hashlib.sha256(b"abd").digest()}),
@@ -269,7 +272,7 @@ def wrong_keys(key):
     modulus, exponent = value(2, b"\0" + digits), value(2, b"\1\0\1")
     for why, der in (
         ("no key", b""),
-        ("a zero octet too many in the modulus", value(0x30, value(2, b"\0\0" + digits) + exponent)),
+        ("a zero octet too many", value(0x30, value(2, b"\0\0" + digits) + exponent)),
         ("a negative modulus", value(0x30, value(2, digits) + exponent)),
         ("a zero octet in the exponent", value(0x30, modulus + value(2, b"\0\1\0\1"))),
         ("a SET", value(0x31, modulus + exponent)),
@@ -291,12 +294,14 @@ def info_of(der):
     return value(0x30, algorithm + value(3, b"\0" + der))
 
 
-def literal(data, indent):
-    """A byte string over lines of at most 100 columns."""
-    width = (98 - indent) // 4
-    pieces = [data[i:i + width] for i in range(0, len(data), width)] or [b""]
-    lines = ["".join(f"\\x{b:02X}" for b in piece) for piece in pieces]
-    return 'b"' + ("\\\n" + " " * indent).join(lines) + '"'
+def literal(data, indent, begun=False):
+    """A byte string over lines of at most 100 columns, the first of which may be begun already."""
+    if all(octet in range(0x20, 0x7F) and chr(octet) not in '"\\' for octet in data):
+        return f'b"{data.decode()}"'
+    width = (97 - indent) // 4
+    pieces = [data[i : i + width] for i in range(0, len(data), width)]
+    lines = ["".join(f"\\x{octet:02X}" for octet in piece) for piece in pieces]
+    return 'b"' + ("\\\n" + " " * indent).join([""] * begun + lines) + '"'
 
 
 def table(name, doc, rows):
@@ -349,7 +354,7 @@ def ask(keys, row, verdict):
 def write(folder, keys, right, wrong):
     text = "//! Keys of many sizes, which `tools/rsa_vectors.py` made.\n"
     for name, key in keys.items():
-        text += f"\npub const {name}: &[u8] = {literal(key.der, 4)};\n"
+        text += f"\npub const {name}: &[u8] = {literal(key.der, 4, True)};\n"
     (folder / "keys.rt").write_text(text)
     for word, doc, tables in (
         ("right", "Keys, messages and signatures", right),

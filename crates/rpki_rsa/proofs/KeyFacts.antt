@@ -4,7 +4,7 @@ use Rattle.std.proofs.Common.{[], ◌∷◌, ◌++◌, length, take, drop, get_o
 use Rattle.std.proofs.Common.{length-append, subst, inl, inr, Bool, true, false, not}
 use Rattle.std.specs.Prelude.{nat_eq, ◌⊎◌}
 use Rattle.std.specs.Str.{bytes_eq}
-use Rattle.std.proofs.lemmas.Bool.{cases_lt, ltb-true, ltb-false, lt-ltb, le-ltb, eqb-true}
+use Rattle.std.proofs.lemmas.Bool.{cases_lt, lt-ltb, le-ltb, eqb-true}
 use Rattle.std.proofs.lemmas.Bool.{eqb-false, ne_eqb}
 use Rattle.std.proofs.lemmas.Slice.Eq.{bytes_eq-Decides}
 use Rattle.std.proofs.lemmas.List.{take-append-drop}
@@ -17,11 +17,11 @@ use Rattle.rpki_der.specs.Write.Written.{length_octets, value_octets, number_oct
 use Rattle.rpki_der.specs.Write.Written.{significant, not_negative, integer_contents}
 use Rattle.rpki_der.proofs.Reading.Digits.{number-head, number-below}
 use Rattle.rpki_der.proofs.Writing.Lengths.{test}
-use Rattle.rpki_der.proofs.Writing.Numbers.{integer-is, digits-unique, length-significant}
+use Rattle.rpki_der.proofs.Writing.Numbers.{integer-is, digits-unique}
 use Rattle.rpki_der.proofs.Writing.Numbers.{length-integer_contents}
 use Rattle.rpki_basics.specs.Serial.{digits}
 use Rattle.rpki_basics.proofs.SerialWriting.{length-digits, number-digits}
-use Rattle.rpki_rsa.specs.Signature.{key_with, rsa_key_octets, IsModulus, IsRsaKey, HasOctets}
+use Rattle.rpki_rsa.specs.Signature.{key_with, IsModulus, IsRsaKey, HasOctets}
 use Rattle.rpki_rsa.specs.Signature.{contents_in, modulus_in}
 use Rattle.rpki_rsa.specs.KeyParts.{key_front, key_end, HasContents, HasDigits, IsModulusOf}
 
@@ -272,7 +272,8 @@ power_below : (j k : ℕ) → 256 ^ j < 256 ^ k → j < k
 power_below j k h =
     elim (cases_lt j k) [
       | inl l ↦ l
-      | inr g ↦ absurd (omega (arith, h, pow-le-pow_right {n = 256} (omega arith) {i = k} {j = j} g))
+      | inr g ↦ absurd
+          (omega (arith, h, pow-le-pow_right {n = 256} (omega arith) {i = k} {j = j} g))
     ]
 
 pub same-octets : (n j k : ℕ) → HasOctets n j → HasOctets n k → j ≡ k
@@ -384,8 +385,9 @@ made key n h =
     let less = shorter (digits 512 n) (bytes-digits 512 n fits) in
     let d : List ℕ = significant (digits 512 n) in
     let same : number 0 (significant (digits 512 n)) ≡ n = less.same ∙ number-digits 512 n fits in
-    let long : 256 ≤ length (significant (digits 512 n)) = elim (cases_lt (length (significant (digits 512 n))) 256) [
-      | inl l ↦ absurd (omega (arith, too-short (significant (digits 512 n)) less.bytes l, same, h.modulus.least))
+    let long : 256 ≤ length (significant (digits 512 n)) =
+    elim (cases_lt (length (significant (digits 512 n))) 256) [
+      | inl l ↦ absurd (omega (arith, too-short d less.bytes l, same, h.modulus.least))
       | inr g ↦ g
     ] in
     let whole : key ≡ key_with (not_negative (significant (digits 512 n))) = h.octets in

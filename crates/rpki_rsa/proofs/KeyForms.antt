@@ -1,5 +1,5 @@
 -- A key is what its ASN.1 says, in DER.
-use Rattle.std.proofs.Common.{◌≡◌, ℕ, ◌+◌, ◌<◌, ◌^◌, List, [], ◌++◌, length, refl, sym, ap, ◌∙◌}
+use Rattle.std.proofs.Common.{◌≡◌, ℕ, ◌<◌, ◌^◌, List, [], ◌++◌, length, refl, sym, ap, ◌∙◌}
 use Rattle.std.proofs.Common.{arith, subst, length-append}
 use Rattle.std.proofs.lemmas.List.{append-nil}
 use Rattle.rpki_der.specs.declared.mode.Mode.TheVariants.{Der}
@@ -33,7 +33,7 @@ modulus-written n m =
       c,
       value-written INTEGER c (tag-sound INTEGER refl) small,
       subst (λ (k : ℕ). IsInteger (integer_contents (digits 512 n)) k)
-      (number-digits 512 n (fits n m)) (integer-is (digits 512 n)),
+          (number-digits 512 n (fits n m)) (integer-is (digits 512 n)),
     )
 
 key-octets : (n : ℕ) → IsModulus n → RsaKeyForm Der (rsa_key_octets n) n
@@ -41,7 +41,8 @@ unfolding key_with
 key-octets n m =
     let a : List ℕ = value_octets INTEGER (integer_contents (digits 512 n)) in
     let b : List ℕ = number_octets 65537 in
-    let long : length (value_octets INTEGER (integer_contents (digits 512 n)) ++ number_octets 65537) < 2 ^ 32 =
+    let long : length
+    (value_octets INTEGER (integer_contents (digits 512 n)) ++ number_octets 65537) < 2 ^ 32 =
     omega (
       arith,
       length-append (value_octets INTEGER (integer_contents (digits 512 n))) (number_octets 65537),
@@ -51,8 +52,13 @@ key-octets n m =
     ) in (
       a ++ b,
       value-written SEQUENCE (a ++ b) (tag-sound SEQUENCE refl) long,
-      (a, b, refl, modulus-written n m,
-      (b, [], sym (append-nil b), number-written 65537 (omega arith), refl)),
+      (
+        a,
+        b,
+        refl,
+        modulus-written n m,
+        (b, [], sym (append-nil b), number-written 65537 (omega arith), refl),
+      ),
     )
 
 pub key-form : (key : List ℕ) (n : ℕ) → IsRsaKey key n → RsaKeyForm Der key n
@@ -65,7 +71,8 @@ unfolding key_with
 key-only key n bytes m h =
     let p = h.2 in
     let r = p.4 in
-    let c : IsBytes h.0 = IsBytes-contents Der key key [] SEQUENCE h.0 (sym (append-nil key)) h.1 bytes in
+    let c : IsBytes h.0 =
+    IsBytes-contents Der key key [] SEQUENCE h.0 (sym (append-nil key)) h.1 bytes in
     let f : IsBytes p.0 = IsBytes-left p.0 p.1 (subst IsBytes p.2 c) in
     let s : IsBytes p.1 = IsBytes-right p.0 p.1 (subst IsBytes p.2 c) in
     let e : IsBytes r.0 = IsBytes-left r.0 r.1 (subst IsBytes r.2 s) in
@@ -80,6 +87,7 @@ key-only key n bytes m h =
     record {
       octets = value-unique key SEQUENCE h.0 bytes h.1
           ∙ ap (value_octets SEQUENCE) (p.2 ∙ ap (λ (t : List ℕ). t ++ p.1) first
-          ∙ ap (λ (t : List ℕ). value_octets INTEGER (integer_contents (digits 512 n)) ++ t) second);
+          ∙ ap (λ (t : List ℕ). value_octets INTEGER (integer_contents (digits 512 n)) ++ t)
+          second);
       modulus = m;
     }

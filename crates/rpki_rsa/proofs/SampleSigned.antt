@@ -1,12 +1,11 @@
 -- The sample's signature is one, step by step.
-use Rattle.std.proofs.Common.{◌≡◌, ℕ, zero, suc, ◌+◌, ◌*◌, ◌%◌, ◌^◌, ◌<◌, ◌≤◌, List, [], ◌∷◌, ◌++◌}
-use Rattle.std.proofs.Common.{Bool, true, false, length, take, drop, replicate, codes, refl, sym}
+use Rattle.std.proofs.Common.{◌≡◌, ℕ, zero, suc, ◌+◌, ◌*◌, ◌%◌, ◌^◌, ◌<◌, List, [], ◌∷◌, ◌++◌}
+use Rattle.std.proofs.Common.{Bool, true, length, replicate, codes, refl, sym}
 use Rattle.std.proofs.Common.{ap, ◌∙◌, arith, subst}
 use Rattle.std.specs.Prelude.{nat_lt, ◌&&◌}
 use Rattle.std.proofs.lemmas.Bool.{leb-true, ltb-true}
 use Rattle.std.proofs.lemmas.Nat.{mul-mod_first, mul-mod, pow-add}
-use Rattle.std.proofs.Math.Nat.{mod-mod, pow-suc, pow-zero, mul-one}
-use Rattle.sha2.specs.Sha256.{sha256}
+use Rattle.std.proofs.Math.Nat.{mod-mod, pow-suc, pow-zero}
 use Rattle.sha2.proofs.Facts256.{digest_of_abc_256}
 use Rattle.rpki_der.specs.Grammar.{IsBytes}
 use Rattle.rpki_der.specs.Numbers.{number}
@@ -34,7 +33,8 @@ square-same n x y e =
 
 squared-is : (n x k : ℕ) → squared n x k % n ≡ (x ^ 2 ^ k) % n
 unfolding squared
-squared-is n x zero = ap (λ (t : ℕ). t % n) (omega (arith, pow-suc x 0, ap (λ (t : ℕ). t * x) (pow-zero x)))
+squared-is n x zero =
+    ap (λ (t : ℕ). t % n) (omega (arith, pow-suc x 0, ap (λ (t : ℕ). t * x) (pow-zero x)))
 squared-is n x (suc k) =
     let twice : 2 ^ k + 2 ^ k ≡ 2 ^ suc k = omega (arith, pow-suc 2 k) in
     square-same n (x ^ 2 ^ k) (squared n x k) (squared-is n x k)
@@ -96,7 +96,9 @@ digest_of_abc =
     0xAE ∷ 0x22 ∷ 0x23 ∷ 0xB0 ∷ 0x03 ∷ 0x61 ∷ 0xA3 ∷ 0x96 ∷ 0x17 ∷ 0x7A ∷ 0x9C ∷ 0xB4 ∷ 0x10 ∷
     0xFF ∷ 0x61 ∷ 0xF2 ∷ 0x00 ∷ 0x15 ∷ 0xAD ∷ []
 
-computed : (squared (number 0 sample_modulus) (number 0 sample_signature) 16 * number 0 sample_signature) % number 0 sample_modulus
+computed :
+    (squared (number 0 sample_modulus)
+    (number 0 sample_signature) 16 * number 0 sample_signature) % number 0 sample_modulus
     ≡ number 0 (encoded_of digest_of_abc)
 unfolding sample_modulus sample_signature squared square_of
 computed = refl

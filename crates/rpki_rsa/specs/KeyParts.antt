@@ -1,6 +1,5 @@
 -- A key, part by part.
 use Rattle.std.specs.Prelude.{◌≡◌, ℕ, ◌+◌, ◌/◌, ◌%◌, ◌<◌, ◌≤◌, List, [], ◌∷◌, length, slice_index}
-use Rattle.rpki_der.specs.Grammar.{IsBytes}
 use Rattle.rpki_der.specs.Numbers.{number}
 use Rattle.rpki_der.specs.Write.Written.{not_negative}
 use Rattle.rpki_rsa.specs.Signature.{key_with, IsRsaKey, HasOctets}

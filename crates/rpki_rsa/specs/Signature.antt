@@ -1,6 +1,6 @@
 -- Signatures by RSASSA-PKCS1-v1_5 with SHA-256 (RFC 8017, sections 8.2.2 and 9.2; RFC 7935,
 -- section 2).
-use Rattle.std.specs.Prelude.{◌≡◌, ℕ, ◌+◌, ◌-◌, ◌^◌, ◌%◌, ◌<◌, ◌≤◌, List, [], ◌∷◌, ◌++◌, length}
+use Rattle.std.specs.Prelude.{◌≡◌, ℕ, ◌-◌, ◌^◌, ◌%◌, ◌<◌, ◌≤◌, List, [], ◌∷◌, ◌++◌, length}
 use Rattle.std.specs.Prelude.{replicate, take, drop, Bool, ◌&&◌, ◌==◌, bytes_eq, nat_le, nat_lt}
 use Rattle.sha2.specs.Sha256.{sha256}
 use Rattle.rpki_der.specs.declared.mode.Mode.{Mode}
@@ -73,7 +73,8 @@ pub record IsSignatureOf (n : ℕ) (message signature : List ℕ) : Type 0 where
   -- its number is below the modulus (step 2b, by section 5.2.2, step 1)
   pub below : number 0 signature < n
   -- its power is the number of the encoded message (steps 2 to 4)
-  pub power : (number 0 signature ^ 65537) % n ≡ number 0 (encoded_message (length signature) message)
+  pub power : (number 0 signature ^ 65537) % n
+      ≡ number 0 (encoded_message (length signature) message)
 
 -- the key with these bits says yes to this signature of the message
 pub record IsRsaSignature (key message signature : List ℕ) : Type 0 where

@@ -9,12 +9,12 @@ use crate::signature::is_signature;
 use rpki_basics::{Crypto, Digest, PublicKey, RpkiSignature};
 use sha2::{Digest as _, Sha256};
 
-/// The cryptography of the RPKI (RFC 7935, section 2). Digests are SHA-256 (FIPS 180-4). The
-/// signatures of a message are those of RSASSA-PKCS1-v1_5 with SHA-256 (RFC 8017, section 8.2.2):
-/// the key is the SEQUENCE of an odd modulus of 2048 to 4096 bits and of the exponent 65537, in
-/// DER; the signature has as many octets as the modulus, its number is below the modulus, and its
-/// power is the number of the encoded message. It takes no memory, and a verdict takes as long as
-/// the octets are many, whatever their values are, but for refusals: it keeps no secret.
+/// The cryptography of the RPKI (RFC 7935, section 2): digests are SHA-256 (FIPS 180-4), and
+/// signatures are RSASSA-PKCS1-v1_5 with SHA-256 (RFC 8017, section 8.2.2).
+///
+/// A verdict is a yes where the key's bits are, in DER, the SEQUENCE of an odd modulus of 2048 to
+/// 4096 bits and of the exponent 65537, the signature has as many octets as the modulus, its number
+/// is below the modulus, and its power is the number of the encoded message. All else is a no.
 #[derive(Clone, Copy, Debug)]
 pub struct Rsa;
 

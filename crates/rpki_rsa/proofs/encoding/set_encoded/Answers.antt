@@ -1,4 +1,5 @@
-use Rattle.std.proofs.Common.{rules, ◌≡◌, ℕ, ◌+◌, ◌^◌, ◌≤◌, ◌-◌, length, [], ◌∷◌, ap, ◌∙◌, arith, subst}
+use Rattle.std.proofs.Common.{rules, ◌≡◌, ℕ, ◌+◌, ◌^◌, ◌≤◌, ◌-◌, length, [], ◌∷◌, ap, ◌∙◌, arith}
+use Rattle.std.proofs.Common.{subst}
 use Rattle.std.proofs.Math.Nat.{pow-zero}
 use Rattle.rpki_der.specs.Numbers.{number}
 use Rattle.rpki_rsa.specs.Limbs.{value}
@@ -20,7 +21,8 @@ loop-i-init c =
     }
 
 pub push_octets-requires-in-loop-i : goal.push_octets-requires-in-loop-i
-push_octets-requires-in-loop-i c = room _ (2 + c.loop-i._i) 1 _ c.loop-i.invariant.below (omega arith)
+push_octets-requires-in-loop-i c =
+    room _ (2 + c.loop-i._i) 1 _ c.loop-i.invariant.below (omega arith)
 
 pub loop-i-preserved : goal.loop-i-preserved
 loop-i-preserved c =
@@ -28,7 +30,8 @@ loop-i-preserved c =
     let e : 2 + i + 1 ≡ 2 + (i + 1) = omega arith in
     let g = grow _ _ (2 + i) 1 c.loop-i.invariant.below c.push_octets-in-loop-i.ensures.below in
     record {
-      same = c.push_octets-in-loop-i.ensures.same ∙ number-one _ 255 ∙ number-repeat _ _ 255 i c.loop-i.invariant.same;
+      same = c.push_octets-in-loop-i.ensures.same ∙ number-one _ 255
+          ∙ number-repeat _ _ 255 i c.loop-i.invariant.same;
       below = subst (λ (x : ℕ). value c.push_octets-in-loop-i.new.t + 1 ≤ 256 ^ x) e g;
     }
 
@@ -54,4 +57,5 @@ returns c =
     encoded_number c.args.k c.args.message.now _ _ _ _ _
     (c.push_octets.ensures.same ∙ ap (λ v. number v (0 ∷ 1 ∷ [])) c.clear.ensures)
     fill c.push_octets-2.ensures.same c.push_octets-3.ensures.same
-    (c.push_octets-4.ensures.same ∙ ap (λ d. number (value c.push_octets-3.new.t) d) c.digest-digest.ensures)
+    (c.push_octets-4.ensures.same
+    ∙ ap (λ d. number (value c.push_octets-3.new.t) d) c.digest-digest.ensures)

@@ -1,4 +1,4 @@
-use Rattle.std.proofs.Common.{ℕ, sym, subst, ◌∙◌}
+use Rattle.std.proofs.Common.{ℕ, subst}
 use Rattle.rpki_rsa.specs.Signature.{IsSignatureOf}
 use Rattle.rpki_rsa.proofs.KeyFacts.{one-modulus}
 use Rattle.rpki_rsa.proofs.rsa.is_signed_by.Goals as goal

@@ -8,6 +8,7 @@ pub returns : goal.returns
 returns c =
     let message = c.args.message.now in
     let signature = c.value.result.now in
-    same_from_decides _ _ c.is_signed_by.ensures (signature-test c.bits.result.now message signature)
+    same_from_decides _ _ c.is_signed_by.ensures
+    (signature-test c.bits.result.now message signature)
     ∙ ap (λ key. is_rsa_signature key message signature) c.bits.ensures
     ∙ ap (λ s. is_rsa_signature c.args.key.now message s) c.value.ensures
