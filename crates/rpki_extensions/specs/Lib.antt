@@ -1,6 +1,8 @@
 pub mod Access
 pub mod Addresses
 pub mod BasicConstraints
+pub mod Extension
+pub mod Extensions
 pub mod Identifiers
 pub mod KeyIdentifiers
 pub mod Names

@@ -6,6 +6,8 @@ ghost use Rattle.rpki_extensions.specs.Access.{authority_access_at, subject_acce
 ghost use Rattle.rpki_extensions.specs.Addresses.{IpClaimsForm, ip_claims_at};
 ghost use Rattle.rpki_extensions.specs.BasicConstraints.{BasicConstraintsForm};
 ghost use Rattle.rpki_extensions.specs.BasicConstraints.{basic_constraints_at};
+ghost use Rattle.rpki_extensions.specs.Extension.{ExtensionForm, extension_at};
+ghost use Rattle.rpki_extensions.specs.Extensions.{ExtensionsForm, extensions_at};
 ghost use Rattle.rpki_extensions.specs.KeyIdentifiers.{SubjectKeyForm, AuthorityKeyForm};
 ghost use Rattle.rpki_extensions.specs.KeyIdentifiers.{subject_key_at, authority_key_at};
 ghost use Rattle.rpki_extensions.specs.Points.{PointsForm, points_at};
@@ -48,4 +50,11 @@ pub fn locations()
     ensures lists { IsReading points_at PointsForm }
     ensures issuer { IsReading authority_access_at AuthorityAccessForm }
     ensures subject { IsReading subject_access_at SubjectAccessForm }
+{}
+
+/// So it is with one extension, and with all extensions of a resource certificate (RFC 5280, section
+/// 4.1; RFC 6487, section 4.8).
+pub fn extensions()
+    ensures one { IsReading extension_at ExtensionForm }
+    ensures all { IsReading extensions_at ExtensionsForm }
 {}
