@@ -65,14 +65,11 @@ fn take_fields(cons: &mut Constructed<'_>) -> Result<Access, DecodeError>
 
 impl ListItem for Access {
     ghost use Rattle.rpki_der.specs.Tags.{SEQUENCE};
-    ghost use Rattle.rpki_der.proofs.Reading.Many.{in_value-shorter};
     ghost use Rattle.rpki_extensions.specs.Access.{access_fields_at, access_at};
 
     ghost tag = { SEQUENCE };
 
     ghost at = { access_at };
-
-    ghost shorter = { in_value-shorter SEQUENCE access_fields_at };
 
     fn take_opt_from(
         cons: &mut Constructed<'_>,

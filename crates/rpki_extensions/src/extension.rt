@@ -38,14 +38,11 @@ fn take_fields(cons: &mut Constructed<'_>, alloc: Global) -> Result<Extension, D
 
 impl ListItem for Extension {
     ghost use Rattle.rpki_der.specs.Tags.{SEQUENCE};
-    ghost use Rattle.rpki_der.proofs.Reading.Many.{in_value-shorter};
     ghost use Rattle.rpki_extensions.specs.Extension.{extension_fields_at, extension_at};
 
     ghost tag = { SEQUENCE };
 
     ghost at = { extension_at };
-
-    ghost shorter = { in_value-shorter SEQUENCE extension_fields_at };
 
     fn take_opt_from(
         cons: &mut Constructed<'_>,

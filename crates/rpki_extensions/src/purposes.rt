@@ -36,13 +36,10 @@ impl Purpose {
 impl ListItem for Purpose {
     ghost use Rattle.rpki_der.specs.Tags.{OBJECT_IDENTIFIER};
     ghost use Rattle.rpki_der.specs.Read.Parse.{oid_at, oid_of};
-    ghost use Rattle.rpki_der.proofs.Reading.Many.{primitive-shorter};
 
     ghost tag = { OBJECT_IDENTIFIER };
 
     ghost at = { oid_at };
-
-    ghost shorter = { primitive-shorter OBJECT_IDENTIFIER oid_of };
 
     #[tactic(auto, unfolding(rpki_der::specs::Read::Parse::oid_of))]
     fn take_opt_from(
