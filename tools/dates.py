@@ -4,8 +4,7 @@
     tools/dates.py table          the 40 rows of the fixed table of tests, as Rust
     tools/dates.py rows [COUNT]   COUNT rows (400 where none is given): the text, and the moment as
                                   YYYY-MM-DDTHH:MM:SSZ, or nothing where there is no such moment
-    tools/dates.py test [COUNT]   the same rows as the Rust of a test, to be put in the place of the
-                                  table in crates/rpki_basics_tests/src/dates.rt
+    tools/dates.py test [COUNT]   the same rows as the Rust of a test, for sweeps/rpki_basics
 
 The rows are the same in each run. Python begins with the year 1, so no row has the year 0.
 """

@@ -9,7 +9,7 @@
  * The calls of malloc, calloc and realloc are counted together, from 1.
  * FAIL_AT=N: the N-th of them answers NULL, and no other.
  * FAIL_COUNT=1: at the end a line "growths N" goes to standard error.
- * tools/growth compiles and uses this file.
+ * tools/growth and tools/runs compile and use this file.
  */
 #include <stddef.h>
 #include <stdio.h>

@@ -1,5 +1,8 @@
 #!/usr/bin/env python3
-"""Writes a module of tests that compares 400 dates with those of Python's datetime, by tools/dates.py."""
+"""Writes a module of tests that compares 400 dates with those of Python's datetime.
+
+The rows are those of tools/dates.py.
+"""
 import pathlib
 import subprocess
 import sys
@@ -32,7 +35,8 @@ fn dates(rt: HostRuntime) -> Result<(), AllocError> {
 
 
 def main():
-    rows = subprocess.run([sys.executable, TOP / "tools" / "dates.py", "test"], capture_output=True, text=True, check=True)
+    words = [sys.executable, TOP / "tools" / "dates.py", "test"]
+    rows = subprocess.run(words, capture_output=True, text=True, check=True)
     print(HEAD + rows.stdout, end="")
 
 

@@ -25,7 +25,7 @@ use Rattle.rpki_der.specs.Write.Written.{value_octets}
 use Rattle.rpki_der.proofs.Reading.Calls.{reads-ok}
 use Rattle.rpki_der.proofs.Reading.Scan.{tag-sound}
 use Rattle.rpki_der.proofs.Reading.Unique.{items-as}
-use Rattle.rpki_der.proofs.Writing.Lengths.{value-written}
+use Rattle.rpki_der.proofs.Writing.Lengths.{value-written, value-unique}
 use Rattle.rpki_basics.specs.Moment.{Moment}
 use Rattle.rpki_basics.specs.TimeForm.{TimeForm, time_octets}
 use Rattle.rpki_attributes.specs.declared.attribute.OtherTypes.{OtherTypes}
@@ -110,10 +110,18 @@ kept-written k h der =
     attrs-written Skip k.attributes h.most
     (subst (λ (m : Mode). AttributesForm Skip m k.attributes.contents k.attributes) der h.form)
 
+pub attrs-unique : (others : OtherTypes) (octets : List ℕ) (x : SignedAttributes) → IsBytes octets
+    → SignedAttrsForm others Der octets x → octets ≡ attrs_octets x
+attrs-unique others octets x bytes h = value-unique octets (context 0) x.contents bytes h.0
+
 pub message-written : (x : SignedAttributes) → length x.contents ≤ most_octets
     → Value Der (message_of x) SET x.contents
 message-written x short =
     value-written SET x.contents (tag-sound SET refl) (omega (arith, short))
+
+pub message-unique : (octets : List ℕ) (x : SignedAttributes) → IsBytes octets
+    → Value Der octets SET x.contents → octets ≡ message_of x
+message-unique octets x bytes h = value-unique octets SET x.contents bytes h
 
 read-alike : (mode : Mode) (others : OtherTypes) (x : SignedAttributes) (rest : List ℕ)
     → SignedAttrsForm others Der (attrs_octets x) x

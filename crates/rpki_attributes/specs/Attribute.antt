@@ -39,14 +39,16 @@ abbrev pub IsKnown : List ℕ → Type 0
 IsKnown oid = (oid ≡ id_content_type) ⊎ ((oid ≡ id_message_digest) ⊎ (oid ≡ id_signing_time))
 
 -- What follows the type of an attribute. Of a known type it is the SET of its values. Of another
--- type, where those are skipped, it is any skipped values, of which none is kept.
+-- type, where those are skipped, it is any skipped values, of which none is kept. That these need
+-- be no SET, and may be none, is this project's own rule: RFC 5652, section 5.3, has attrValues as
+-- a SET.
 abbrev pub HasValues : OtherTypes → Mode → List ℕ → List ℕ → List ℕ → Type 0
 HasValues others mode oid octets values =
     (IsKnown oid × Value mode octets SET values)
     ⊎ ((IsKnown oid → ⊥) × (others ≡ Skip) × ListOf (Skipped mode MAX_DEPTH) octets × (values ≡ []))
 
 -- Attribute: SEQUENCE { attrType OBJECT IDENTIFIER, attrValues SET OF AttributeValue } (RFC 5652,
--- section 5.3)
+-- section 5.3), but for the values of other types, of which HasValues speaks
 abbrev pub AttributeForm : OtherTypes → Mode → List ℕ → Attribute → Type 0
 AttributeForm others mode octets a = Sequence mode (
     (λ o. ObjectIdentifier mode o a.oid)

@@ -30,14 +30,17 @@ HasOne list oid G x = Once type_of (λ a y. G a.values y) list oid x
 
 -- Each of the three stands once, and each field is what its attribute says: ContentType is an
 -- OBJECT IDENTIFIER, MessageDigest an OCTET STRING, SigningTime a Time (RFC 5652, sections 11.1 to
--- 11.3). Each has to be there (RFC 6488, section 2.1.6.4, as RFC 9589 updates it).
+-- 11.3). Each has to be there in signed objects (RFC 6488, section 2.1.6.4, as RFC 9589 updates
+-- it). That the signing time has to be there too where other types are skipped is this project's
+-- own rule, since RFC 5652, section 11.3, leaves it open.
 pub record AreAttributes (mode : Mode) (list : List Attribute) (x : SignedAttributes) : Type 0 where
   pub content_type : HasOne list id_content_type (ObjectIdentifier mode) x.content_type
   pub message_digest : HasOne list id_message_digest (OctetString mode MAX_DEPTH) x.message_digest
   pub signing_time : HasOne list id_signing_time (TimeForm mode) x.signing_time
 
--- SET OF Attribute without its header, in any order (RFC 5652, section 5.3; RFC 6488, section
--- 2.1.6.4). Where others is Skip, attributes of other types may stand among the three.
+-- SET OF Attribute without its header (RFC 5652, section 5.3). Where others is Skip, attributes of
+-- other types may stand among the three. That they are read in BER too, and in any order in DER
+-- too, against RFC 5652, section 5.3, and X.690, section 11.6, is this project's own rule.
 abbrev pub AttributesForm : OtherTypes → Mode → List ℕ → SignedAttributes → Type 0
 AttributesForm others mode octets x =
     (list : List Attribute) × Items (AttributeForm others mode) octets list

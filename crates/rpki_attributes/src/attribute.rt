@@ -26,7 +26,7 @@ pub const SIGNING_TIME: [u8; 9] = [0x2A, 0x86, 0x48, 0x86, 0xF7, 0x0D, 0x01, 0x0
 pub enum OtherTypes {
     /// They are refused.
     Refuse,
-    /// They are gone past.
+    /// They are skipped.
     Skip,
 }
 
@@ -61,7 +61,7 @@ impl Attribute {
     }
 }
 
-/// Whether this is one of the three types that are known.
+// Whether this is one of the three types that are known.
 fn is_known(oid: &[u8]) -> bool
     ensures { result ≡ is_known oid.now }
 {
@@ -70,8 +70,8 @@ fn is_known(oid: &[u8]) -> bool
         || oid == SIGNING_TIME.as_slice()
 }
 
-/// Reads the type of an attribute and its values.
-#[tactic(auto, unfolding(crate::specs::AttributeRead::attribute_fields_at, crate::specs::AttributeRead::values_at, crate::specs::AttributeRead::others_at,))]
+// Reads the type of an attribute and its values.
+#[tactic(auto, unfolding(crate::specs::AttributeRead::attribute_fields_at, crate::specs::AttributeRead::values_at, crate::specs::AttributeRead::others_at))]
 fn take_fields(
     cons: &mut Constructed<'_>,
     alloc: Global,

@@ -7,10 +7,11 @@ mod read;
 ghost use Rattle.std.specs.Prelude.{◌≡◌, ◌≤◌, IfOk, length};
 ghost use Rattle.rpki_der.specs.declared.mode.Mode.TheVariants.{Der};
 ghost use Rattle.rpki_der.specs.Form.Decodes.{DecodesNext};
-ghost use Rattle.rpki_der.specs.Read.Reads.{Stays};
+ghost use Rattle.rpki_der.specs.Read.Reads.{Reads, Stays};
 ghost use Rattle.rpki_attributes.specs.declared.attribute.OtherTypes.TheVariants.{Refuse, Skip};
 ghost use Rattle.rpki_attributes.specs.Attrs.{SignedAttrsForm, most_octets};
 ghost use Rattle.rpki_attributes.specs.AttrsMade.{attrs_octets, message_of};
+ghost use Rattle.rpki_attributes.specs.AttrsRead.{attrs_at};
 
 use crate::attribute::OtherTypes;
 use crate::digest::MessageDigest;
@@ -18,14 +19,14 @@ use bytes::Bytes;
 pub use encoder::SignedAttrsEncoder;
 use rpki_basics::Time;
 use rpki_der::build::tlv;
-use rpki_der::{Constructed, DecodeError, Mode, Oid, Tag};
+use rpki_der::{Constructed, DecodeError, EncodeError, Mode, Oid, Tag};
 use std::alloc::{AllocError, Global};
 use std::marker::Model;
 
-/// How many octets signed attributes have at most.
+// How many octets signed attributes have at most.
 const MOST: usize = 65535;
 
-/// What signed attributes say, and their octets.
+// What signed attributes say, and their octets.
 #[derive(Debug, Drop)]
 struct Fields {
     contents: Bytes,
@@ -66,12 +67,13 @@ impl Model for SignedAttrs {
     ghost invariant = { λ a. AreKept (record { attributes = a.fields; mode = a.mode }) };
 }
 
-/// Reads signed attributes.
+// Reads signed attributes.
 fn take_attrs(
     cons: &mut Constructed<'_>,
     alloc: Global,
     others: OtherTypes,
 ) -> Result<SignedAttrs, DecodeError>
+    ensures reads { Reads (λ a. a.attributes) (attrs_at others) cons.old result cons.new }
     ensures decodes { DecodesNext (SignedAttrsForm others) (λ a. a.attributes)
         cons.old result cons.new }
     ensures mode { IfOk result (λ a. a.mode ≡ cons.old.mode) }
@@ -87,14 +89,17 @@ fn take_attrs(
 }
 
 impl SignedAttrs {
-    /// Reads signed attributes: content type, message digest and signing time, each once, in any
-    /// order (RFC 6488, section 2.1.6.4). An attribute of another type is refused.
+    /// Reads signed attributes: content type, message digest and signing time, each once (RFC 6488,
+    /// section 2.1.6.4). An attribute of another type is refused. That they are read in BER too,
+    /// and in any order in DER too, against RFC 5652, section 5.3, and X.690, section 11.6, is this
+    /// project's own rule.
     ///
     /// Refuses by `Malformed`, by `InvalidSignedAttr` for an attribute of another type, by
     /// `AttributeTwice`, `NoContentType`, `NoMessageDigest`, `NoSigningTime`, by
     /// `AttributesTooLong` for more than 65535 octets, and by what `Time::take_from` refuses.
     /// `Memory` may come too.
     pub fn take_from(alloc: Global, cons: &mut Constructed<'_>) -> Result<SignedAttrs, DecodeError>
+        ensures reads { Reads (λ a. a.attributes) (attrs_at Refuse) cons.old result cons.new }
         ensures decodes { DecodesNext (SignedAttrsForm Refuse) (λ a. a.attributes)
             cons.old result cons.new }
         ensures mode { IfOk result (λ a. a.mode ≡ cons.old.mode) }
@@ -103,13 +108,15 @@ impl SignedAttrs {
         take_attrs(cons, alloc, OtherTypes::Refuse)
     }
 
-    /// Reads signed attributes as `take_from` does, and goes past those of other types, whatever
-    /// values follow their type (RFC 5652, section 5.3). It is for the messages of RFC 6492 and
-    /// RFC 8181, whose profiles do not forbid further attributes.
+    /// Reads signed attributes as `take_from` does, and skips those of other types. It is for the
+    /// messages of RFC 6492 and RFC 8181. That any values may follow another type, or none, and
+    /// that the signing time has to be there, is this project's own rule: RFC 5652 has a SET in
+    /// section 5.3, and leaves the signing time open in section 11.3.
     pub fn take_from_signed_message(
         alloc: Global,
         cons: &mut Constructed<'_>,
     ) -> Result<SignedAttrs, DecodeError>
+        ensures reads { Reads (λ a. a.attributes) (attrs_at Skip) cons.old result cons.new }
         ensures decodes { DecodesNext (SignedAttrsForm Skip) (λ a. a.attributes)
             cons.old result cons.new }
         ensures mode { IfOk result (λ a. a.mode ≡ cons.old.mode) }
@@ -166,14 +173,17 @@ impl SignedAttrs {
         SignedAttrsEncoder::new(self)
     }
 
-    /// The message that is signed: the attributes under the header of a SET, in DER (RFC 5652,
-    /// section 5.4). Refuses only for want of memory.
+    /// The message that is signed: the header of a SET with its length in DER, and the octets as
+    /// they were read or made. It is the message of RFC 5652, section 5.4, where these are the DER
+    /// of the SET, in order; that they are not encoded anew is this project's own rule. Refuses
+    /// only for want of memory.
     pub fn encode_verify(&self, alloc: Global) -> Result<Vec<u8>, AllocError>
         ensures { IfOk result (λ message. message.items ≡ message_of self.now.attributes) }
     {
         match tlv(alloc, Tag::SET.octet, self.as_slice()) {
             Ok(message) => Ok(message),
-            Err(_) => Err(AllocError),
+            Err(EncodeError::Memory) => Err(AllocError),
+            Err(_) => unreachable!(),
         }
     }
 }
@@ -190,7 +200,7 @@ impl Clone for SignedAttrs {
 }
 
 impl Fields {
-    /// A copy, unless no memory for it is to be had.
+    // A copy, unless no memory for it is to be had.
     fn copy(&self) -> Result<Fields, AllocError>
         ensures { IfOk result (λ copy. copy ≡ self.now) }
     {

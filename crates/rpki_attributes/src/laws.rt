@@ -3,7 +3,7 @@
 ghost use Rattle.std.specs.Prelude.{◌≡◌, ◌++◌, ◌≤◌, ℕ, List, length, Some};
 ghost use Rattle.rpki_der.specs.declared.mode.Mode.{Mode};
 ghost use Rattle.rpki_der.specs.declared.mode.Mode.TheVariants.{Der};
-ghost use Rattle.rpki_der.specs.Grammar.{Value};
+ghost use Rattle.rpki_der.specs.Grammar.{Value, IsBytes};
 ghost use Rattle.rpki_der.specs.Oid.{IsOid};
 ghost use Rattle.rpki_der.specs.Read.Exact.{IsReading};
 ghost use Rattle.rpki_der.specs.Tags.{SET};
@@ -16,12 +16,12 @@ ghost use Rattle.rpki_attributes.specs.AttrsMade.{InOrder, attributes_of, attrs_
 ghost use Rattle.rpki_attributes.specs.AttrsMade.{message_of};
 
 /// Reading signed attributes is exact and unique, and DER is a part of BER, whether attributes of
-/// other types are refused or gone past (RFC 5652, section 5.3; RFC 6488, section 2.1.6.4).
+/// other types are refused or skipped (RFC 5652, section 5.3; RFC 6488, section 2.1.6.4).
 pub fn signed_attributes()
     ensures { (others : OtherTypes) → IsReading (attrs_at others) (SignedAttrsForm others) }
 {}
 
-/// Where no attribute of another type stands among them, both ways to read them agree.
+/// What `take_from` reads, `take_from_signed_message` reads alike.
 pub fn attributes_without_others()
     ensures { (mode : Mode) (octets : List ℕ) (x : SignedAttributes)
         → SignedAttrsForm Refuse mode octets x → SignedAttrsForm Skip mode octets x }
@@ -45,9 +45,18 @@ pub fn attributes_are_made()
         → attrs_at others mode (attrs_octets x ++ rest) ≡ Some (x, rest) }
 {}
 
-/// The message that is signed is the one SET in DER that has these octets as its contents (RFC
-/// 5652, section 5.4).
+/// What was read in DER is written as it was read: there are no other octets in DER for these
+/// contents. So what `take_from` has read in DER is written in the form that it was read in.
+pub fn attributes_are_written()
+    ensures { (others : OtherTypes) (octets : List ℕ) (x : SignedAttributes) → IsBytes octets
+        → SignedAttrsForm others Der octets x → octets ≡ attrs_octets x }
+{}
+
+/// The message that is signed is the SET whose header is in DER and whose contents are the octets,
+/// as they were read or made, and there is one such message alone.
 pub fn messages()
-    ensures { (x : SignedAttributes) → length x.contents ≤ most_octets
+    ensures written { (x : SignedAttributes) → length x.contents ≤ most_octets
         → Value Der (message_of x) SET x.contents }
+    ensures unique { (octets : List ℕ) (x : SignedAttributes) → IsBytes octets
+        → Value Der octets SET x.contents → octets ≡ message_of x }
 {}

@@ -29,7 +29,7 @@ pub fn take_list(
     Ok(list)
 }
 
-/// Whether an attribute has this type.
+// Whether an attribute has this type.
 fn has(list: &[Attribute], oid: &[u8]) -> bool
     ensures { result ≡ has_key type_of oid.now list.now }
 {

@@ -22,14 +22,14 @@ pub const DIGEST: &[u8] = b"\x30\x2F\x06\x09\x2A\x86\x48\x86\xF7\x0D\x01\x09\x04
 const PIECES: &[u8] = b"\x30\x14\x06\x09\x2A\x86\x48\x86\xF7\x0D\x01\x09\x04\
     \x31\x07\x24\x80\x04\x01\x07\0\0";
 
-/// Of the type 1.2.3: with an empty SET, without values, and cut.
+// Of the type 1.2.3: with an empty SET, without values, and cut.
 const OTHER: &[u8] = b"\x30\x06\x06\x02\x2A\x03\x31\0";
 
 const BARE: &[u8] = b"\x30\x04\x06\x02\x2A\x03";
 
 const CUT: &[u8] = b"\x30\x06\x06\x02\x2A\x03\x31\x05";
 
-/// Content types with no value, with two, with one behind the SET, and in a SEQUENCE.
+// Content types with no value, with two, with one behind the SET, and in a SEQUENCE.
 const NO_VALUE: &[u8] = b"\x30\x0D\x06\x09\x2A\x86\x48\x86\xF7\x0D\x01\x09\x03\x31\0";
 
 const TWO_VALUES: &[u8] = b"\x30\x15\x06\x09\x2A\x86\x48\x86\xF7\x0D\x01\x09\x03\
@@ -49,9 +49,11 @@ const TWICE: &str = "signed attribute more than once";
 
 const TYPE_IS_OTHER: &str = "invalid extension 1.2.3";
 
+const NO_SUCH_TIME: &str = "no such date or time of day";
+
 /// Attributes, and why `take_from` refuses them and why `take_from_signed_message` does, if it
 /// does.
-static ROWS: [(&[&[u8]], &str, &str); 22] = [
+static ROWS: [(&[&[u8]], &str, &str); 23] = [
     (&[TYPE, TIME, DIGEST], "", ""),
     (&[TYPE, DIGEST, TIME], "", ""),
     (&[TIME, TYPE, DIGEST], "", ""),
@@ -74,6 +76,7 @@ static ROWS: [(&[&[u8]], &str, &str); 22] = [
     (&[BEHIND, TIME, DIGEST], "malformed", "malformed"),
     (&[NO_SET, TIME, DIGEST], "malformed", "malformed"),
     (&[TYPE, TIME, PIECES], "malformed", "malformed"),
+    (&[TYPE, NO_DAY, DIGEST], NO_SUCH_TIME, NO_SUCH_TIME),
 ];
 
 /// These octets, one after the other.
@@ -93,7 +96,7 @@ pub fn value(alloc: Global, tag: u8, contents: &[u8]) -> Result<Vec<u8>, AllocEr
     }
 }
 
-/// What is read of these octets under [0], strictly or as a message.
+/// What is read of these octets under [0], strictly or as a message. Want of memory is handed on.
 pub fn read(
     alloc: Global,
     contents: &[u8],
@@ -101,13 +104,29 @@ pub fn read(
     is_strict: bool,
 ) -> Result<Result<SignedAttrs, DecodeError>, AllocError> {
     let source = Bytes::from_vec(value(alloc, 0xA0, contents)?)?;
-    Ok(if is_strict {
+    let answer = if is_strict {
         Constructed::decode(source, mode, |cons| SignedAttrs::take_from(alloc, cons))
     } else {
         Constructed::decode(source, mode, |cons| {
             SignedAttrs::take_from_signed_message(alloc, cons)
         })
-    })
+    };
+    match answer {
+        Err(DecodeError::Memory) => Err(AllocError),
+        answer => Ok(answer),
+    }
+}
+
+/// Whether the octets of attributes are these, and their message is this head and these octets.
+pub fn is_message(
+    alloc: Global,
+    attrs: &SignedAttrs,
+    head: &[u8],
+    contents: &[u8],
+) -> Result<bool, AllocError> {
+    let want = joined(alloc, &[head, contents])?;
+    let message = attrs.encode_verify(alloc)?;
+    Ok(attrs.as_slice() == contents && message.as_slice() == want.as_slice())
 }
 
 /// Whether the answer is these octets, or is refused for this reason.
@@ -119,7 +138,6 @@ pub fn is_answer(
 ) -> Result<bool, AllocError> {
     match answer {
         Ok(attrs) => Ok(why.is_empty() && attrs.as_slice() == contents),
-        Err(DecodeError::Memory) => Err(AllocError),
         Err(error) => Ok(format!(in alloc; "{error}")?.as_str() == why),
     }
 }
@@ -138,6 +156,20 @@ fn rows(rt: HostRuntime) -> Result<(), AllocError> {
 }
 
 #[test]
+fn message(rt: HostRuntime) -> Result<(), AllocError> {
+    let alloc = rt.alloc();
+    let contents = joined(alloc, &[TYPE, TIME, DIGEST])?;
+    assert!(rt; contents.len() == 107);
+    for mode in [Mode::Der, Mode::Ber] {
+        match read(alloc, &contents, mode, true)? {
+            Ok(attrs) => assert!(rt; is_message(alloc, &attrs, b"\x31\x6B", &contents)?),
+            Err(_) => assert!(rt; false),
+        }
+    }
+    Ok(())
+}
+
+#[test]
 fn in_pieces(rt: HostRuntime) -> Result<(), AllocError> {
     let alloc = rt.alloc();
     let contents = joined(alloc, &[TYPE, TIME, PIECES])?;
@@ -146,8 +178,7 @@ fn in_pieces(rt: HostRuntime) -> Result<(), AllocError> {
             assert!(rt; attrs.message_digest().as_slice() == b"\x07".as_slice());
             assert!(rt; attrs.mode() == Mode::Ber);
             assert!(rt; matches!(attrs.encode_ref().to_bytes(alloc), Err(EncodeError::NotDer)));
-            let message = value(alloc, 0x31, &contents)?;
-            assert!(rt; attrs.encode_verify(alloc)?.as_slice() == message.as_slice());
+            assert!(rt; is_message(alloc, &attrs, b"\x31\x50", &contents)?);
         }
         Err(_) => assert!(rt; false),
     }
@@ -174,13 +205,5 @@ fn depths(rt: HostRuntime) -> Result<(), AllocError> {
         let answer = read(alloc, &contents, Mode::Ber, true)?;
         assert!(rt; is_answer(alloc, answer, &contents, why)?);
     }
-    Ok(())
-}
-
-#[test]
-fn no_such_day(rt: HostRuntime) -> Result<(), AllocError> {
-    let alloc = rt.alloc();
-    let contents = joined(alloc, &[TYPE, NO_DAY, DIGEST])?;
-    assert!(rt; read(alloc, &contents, Mode::Der, true)?.is_err());
     Ok(())
 }

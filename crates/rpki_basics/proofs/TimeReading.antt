@@ -42,7 +42,8 @@ exact-time mode =
     }
 
 time-ber : (o : List ℕ) (m : Moment) → TimeForm Der o m → TimeForm Ber o m
-time-ber o m (inl h) = inl (within-ber UTC_TIME (λ c. IsUtcTime c m) (λ c. IsUtcTime c m) (λ c k. k) o h)
+time-ber o m (inl h) =
+    inl (within-ber UTC_TIME (λ c. IsUtcTime c m) (λ c. IsUtcTime c m) (λ c k. k) o h)
 time-ber o m (inr h) =
     inr (within-ber GENERALIZED_TIME (λ c. IsGeneralizedTime c m) (λ c. IsGeneralizedTime c m)
     (λ c k. k) o h)

@@ -13,7 +13,8 @@ use Rattle.std.proofs.lemmas.Bool.{leb-true, ltb-true, and_parts}
 use Rattle.rpki_der.specs.Write.Written.{value_octets}
 use Rattle.rpki_der.proofs.Reading.Scan.{tag-sound}
 use Rattle.rpki_basics.specs.Moment.{Moment, IsMoment}
-use Rattle.rpki_basics.specs.TimeForm.{TimeForm, utc_text, generalized_text, is_utc_year}
+use Rattle.rpki_basics.specs.TimeForm.{TimeForm, IsUtcYear, utc_text, generalized_text}
+use Rattle.rpki_basics.specs.TimeForm.{is_utc_year}
 use Rattle.rpki_basics.specs.TimeForm.{generalized_octets, time_octets}
 
 pub generalized_written : (m : Moment) → IsMoment m → TimeForm Der (generalized_octets m) m
@@ -41,9 +42,9 @@ time_written m h = written_by (is_utc_year m.year) m refl h
 
 -- In DER there are these two octets at most for a moment.
 pub time-only : (o : List ℕ) (m : Moment) → IsBytes o → TimeForm Der o m
-    → (o ≡ value_octets UTC_TIME (utc_text m)) ⊎ (o ≡ generalized_octets m)
+    → (IsUtcYear m.year × (o ≡ value_octets UTC_TIME (utc_text m))) ⊎ (o ≡ generalized_octets m)
 time-only o m bytes (inl h) =
-    inl (value-unique o UTC_TIME h.0 bytes h.1 ∙ ap (value_octets UTC_TIME) h.2.0)
+    inl (h.2.1, value-unique o UTC_TIME h.0 bytes h.1 ∙ ap (value_octets UTC_TIME) h.2.0)
 time-only o m bytes (inr h) =
     inr (value-unique o GENERALIZED_TIME h.0 bytes h.1 ∙ ap (value_octets GENERALIZED_TIME) h.2.0)
 

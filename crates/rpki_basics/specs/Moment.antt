@@ -30,8 +30,8 @@ is_moment m =
     && nat_le m.day (days_in_month (pos m.year) m.month)
     && nat_lt m.hour 24 && nat_lt m.minute 60 && nat_lt m.second 60
 
--- A number for each moment, which grows with time. It is no count of seconds: a year has room for 13
--- months in it and a month for 32 days, so that each part is below the factor before it.
+-- A number for each moment, which grows with time. It is no count of seconds: a year has room for
+-- 13 months in it and a month for 32 days, so that each part is below the factor before it.
 abbrev pub stamp : Moment → ℕ
 stamp m =
     ((((m.year * 13 + m.month) * 32 + m.day) * 24 + m.hour) * 60 + m.minute) * 60 + m.second

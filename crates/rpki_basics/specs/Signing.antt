@@ -1,5 +1,5 @@
 -- Why something is not built and signed.
-use Rattle.std.specs.Prelude.{◌≡◌, ◌<◌, ℕ, List, Option, Some, Result, Ok, Err, codes}
+use Rattle.std.specs.Prelude.{ℕ, List, Option, Some, codes}
 use Rattle.rpki_keys.specs.declared.signer.SignerFault.{SignerFault}
 use Rattle.rpki_keys.specs.declared.signer.SignerFault.TheVariants as fault
 use Rattle.rpki_basics.specs.Build.{fault_text}
@@ -12,19 +12,6 @@ signing_error fault.KeyNotFound = error.KeyNotFound
 signing_error fault.IncompatibleKey = error.IncompatibleKey
 signing_error (fault.Signer e) = error.Signer e
 signing_error fault.Memory = error.Memory
-
--- The signer's three errors raise the count of its failed calls, and nothing else does. It is meant
--- for calls that build and sign; none of this crate does.
-abbrev pub CountsSigning : {T E : Type 0} → ℕ → ℕ → Result T (SigningError E) → Type 0
-CountsSigning old new (Ok t) = new ≡ old
-CountsSigning old new (Err error.KeyNotFound) = old < new
-CountsSigning old new (Err error.IncompatibleKey) = old < new
-CountsSigning old new (Err (error.Signer e)) = old < new
-CountsSigning old new (Err error.AttrsTooLong) = new ≡ old
-CountsSigning old new (Err error.TooLong) = new ≡ old
-CountsSigning old new (Err (error.Content e)) = new ≡ old
-CountsSigning old new (Err error.NotDer) = new ≡ old
-CountsSigning old new (Err error.Memory) = new ≡ old
 
 -- The text of an error, where own are the texts of a signer's own faults.
 abbrev pub signing_text : {E : Type 0} → (E → Option (List ℕ)) → SigningError E → Option (List ℕ)

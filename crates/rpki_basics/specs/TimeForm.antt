@@ -40,8 +40,8 @@ abbrev pub IsGeneralizedTime : List ℕ → Moment → Type 0
 IsGeneralizedTime contents m = (contents ≡ generalized_text m) × IsMoment m
 
 -- CHOICE { UTCTime, GeneralizedTime } of a real moment (section 4.1). That a GeneralizedTime may
--- name a year before 2050 too, against section 4.1.2.5, is this project's own rule, and so is that
--- both are primitive in BER too, where X.690, sections 8.23 and 8.25, allow pieces.
+-- name a year of 1950 to 2049 too, against section 4.1.2.5, is this project's own rule, and so is
+-- that both are primitive in BER too, where X.690, sections 8.23 and 8.25, allow pieces.
 abbrev pub TimeForm : Mode → List ℕ → Moment → Type 0
 TimeForm mode octets m = Choice
     (λ o m. Within mode UTC_TIME (λ c. IsUtcTime c m) o)
@@ -55,7 +55,8 @@ is_utc_year year = nat_le 1950 year && nat_lt year 2050
 abbrev pub generalized_octets : Moment → List ℕ
 generalized_octets m = value_octets GENERALIZED_TIME (generalized_text m)
 
--- The moment as UTCTime in the years 1950 to 2049, and else as GeneralizedTime (section 4.1.2.5).
+-- The moment as UTCTime in the years 1950 to 2049, and else as GeneralizedTime (section 4.1.2.5;
+-- before 1950 RFC 5652, section 11.3).
 abbrev pub time_octets : Moment → List ℕ
 time_octets m =
     if is_utc_year m.year then value_octets UTC_TIME (utc_text m) else generalized_octets m

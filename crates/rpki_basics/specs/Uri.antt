@@ -11,9 +11,9 @@ use Rattle.rpki_basics.specs.declared.uri.Error.TheVariants.{InvalidCharacters, 
 use Rattle.rpki_basics.specs.declared.uri.Error.TheVariants.{Memory}
 
 -- An octet that a URI may have: a visible character of ASCII, but for " < > \ ^ ` { | } (section
--- 2). That it may not have # either, which begins a fragment, is this project's own rule. So is that
--- % may stand without two hexadecimal digits (section 2.1), and [ and ] outside an address (section
--- 3.2.2).
+-- 2). That it may not have # either, which begins a fragment, is this project's own rule. So is
+-- that % may stand without two hexadecimal digits (section 2.1), and [ and ] outside an address
+-- (section 3.2.2).
 abbrev pub is_uri_octet : ℕ → Bool
 is_uri_octet octet =
     nat_le 0x21 octet && nat_le octet 0x7E
@@ -38,23 +38,23 @@ HasScheme scheme text = (rest : List ℕ) × Follows scheme text rest
 abbrev pub IsNoDotSegment : List ℕ → Type 0
 IsNoDotSegment segment = (segment ≢ codes ".") × (segment ≢ codes "..")
 
--- The segments of a path (section 3.3): none is . or .., and none but the last is empty, which is
--- this project's own rule.
+-- The segments of a path (section 3.3). None is . or .., and none but the last is empty: both are
+-- this project's own rules.
 abbrev pub IsPath : List (List ℕ) → Type 0
 IsPath [] = Unit {0}
 IsPath (segment ∷ []) = IsNoDotSegment segment
 IsPath (segment ∷ next ∷ others) =
     IsNoDotSegment segment × (0 < length segment) × IsPath (next ∷ others)
 
--- An authority, a module and a path (RFC 5781, section 2). That the authority and the module are
--- not empty, and the module is not . or .., is this project's own rule. So is that the authority
--- ends at the first slash alone, and may have any octets of a URI, and that ? may stand in the module
--- and in the path, where RFC 5781 has no query.
+-- An authority, a module and a path (RFC 5781, section 2). That there are an authority and a
+-- module, that neither is empty, and that the module is not . or .., is this project's own rule. So
+-- is that the authority ends at the first slash alone, and may have any octets of a URI, and that ?
+-- may stand in the module and in the path, where RFC 5781 has no query.
 abbrev pub AreRsyncSegments : List (List ℕ) → Type 0
 AreRsyncSegments [] = ⊥
 AreRsyncSegments (authority ∷ []) = ⊥
-AreRsyncSegments (authority ∷ named ∷ path) =
-    (0 < length authority) × (0 < length named) × IsNoDotSegment named × IsPath path
+AreRsyncSegments (authority ∷ folder ∷ path) =
+    (0 < length authority) × (0 < length folder) × IsNoDotSegment folder × IsPath path
 
 -- An authority, which is not empty, and anything (RFC 9110, section 4.2.2). That the authority ends
 -- at the first slash alone, where section 3.2 ends it at ? and # too, and may have any octets of a
@@ -63,7 +63,8 @@ abbrev pub AreHttpsSegments : List (List ℕ) → Type 0
 AreHttpsSegments [] = ⊥
 AreHttpsSegments (authority ∷ others) = 0 < length authority
 
--- Two slashes, and segments of which this holds (section 3).
+-- Two slashes, and segments of which this holds (section 3). That the slashes are asked for, where
+-- section 3 has URIs without them, is this project's own rule for rsync (RFC 5781, section 2).
 abbrev pub GoesOn : (List (List ℕ) → Type 0) → List ℕ → Type 0
 GoesOn P text = (rest : List ℕ) × (text ≡ codes "//" ++ rest) × P (segments rest)
 

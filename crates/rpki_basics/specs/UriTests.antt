@@ -5,8 +5,8 @@ use Rattle.std.specs.Prelude.{List, [], ◌∷◌, length}
 -- Whether it is . or .. (RFC 3986, section 3.3).
 abbrev pub is_dot_segment : List ℕ → Bool
 is_dot_segment [] = false
-is_dot_segment (a ∷ []) = a == 46
-is_dot_segment (a ∷ b ∷ []) = (a == 46) && (b == 46)
+is_dot_segment (a ∷ []) = a == 0x2E
+is_dot_segment (a ∷ b ∷ []) = (a == 0x2E) && (b == 0x2E)
 is_dot_segment (a ∷ b ∷ c ∷ rest) = false
 
 -- Whether these are the segments of a path: the test of `IsPath`.

@@ -9,7 +9,8 @@ ghost use Rattle.rpki_der.specs.Read.Parse.{u160_at};
 ghost use Rattle.rpki_der.specs.Write.Written.{value_octets};
 ghost use Rattle.rpki_der.specs.Tags.{UTC_TIME};
 ghost use Rattle.rpki_basics.specs.Moment.{Moment, IsMoment, IsEarlier, stamp};
-ghost use Rattle.rpki_basics.specs.TimeForm.{TimeForm, utc_text, time_octets, generalized_octets};
+ghost use Rattle.rpki_basics.specs.TimeForm.{TimeForm, IsUtcYear, utc_text, time_octets};
+ghost use Rattle.rpki_basics.specs.TimeForm.{generalized_octets};
 ghost use Rattle.rpki_basics.specs.TimeRead.{time_at};
 ghost use Rattle.rpki_basics.specs.Serial.{SerialForm, serial_octets};
 
@@ -18,13 +19,14 @@ pub fn times()
     ensures { IsReading time_at TimeForm }
 {}
 
-/// A time is written in its form, in both ways that there are for one in DER, and read again,
-/// whatever follows it (RFC 5280, section 4.1.2.5).
+/// What is written of a time is in its form, one of the two that DER has for it (the other alone
+/// outside 1950 to 2049), and is read again, whatever follows it (RFC 5280, section 4.1.2.5).
 pub fn times_are_written()
     ensures written { (m : Moment) → IsMoment m → TimeForm Der (time_octets m) m }
     ensures generalized { (m : Moment) → IsMoment m → TimeForm Der (generalized_octets m) m }
     ensures only { (o : List ℕ) (m : Moment) → IsBytes o → TimeForm Der o m
-        → (o ≡ value_octets UTC_TIME (utc_text m)) ⊎ (o ≡ generalized_octets m) }
+        → (IsUtcYear m.year × (o ≡ value_octets UTC_TIME (utc_text m)))
+        ⊎ (o ≡ generalized_octets m) }
     ensures read { (mode : Mode) (m : Moment) (rest : List ℕ) → IsMoment m
         → time_at mode (time_octets m ++ rest) ≡ Some (m, rest) }
     ensures read_generalized { (mode : Mode) (m : Moment) (rest : List ℕ) → IsMoment m

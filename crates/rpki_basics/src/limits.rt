@@ -6,11 +6,12 @@ ghost use Rattle.rpki_basics.specs.Limits.{most_providers};
 /// Which file names a manifest may have.
 #[derive(Clone, Copy, Debug, PartialEq, Eq)]
 pub enum ManifestRule {
-    /// Any name with three ASCII letters after the dot, which is wider than RFC 9286, section
-    /// 4.2.2, and one that comes twice too: this project's own rule.
+    /// Any name of `[A-Za-z0-9_-]+`, a dot and three ASCII letters, and the same name more than
+    /// once: wider than RFC 9286, section 4.2.2, by this project's own rule.
     Any,
-    /// Only names that end in `asa`, `cer`, `crl`, `gbr`, `mft`, `roa`, `sig` or `tak`, without
-    /// regard to case, and no name twice. The list is this project's own.
+    /// As `Any`, where the three letters are, without regard to case, one of `asa`, `cer`, `crl`,
+    /// `gbr`, `mft`, `roa`, `sig` and `tak`, and no name comes twice. The list is this project's
+    /// own.
     Registered,
 }
 

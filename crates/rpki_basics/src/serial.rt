@@ -19,7 +19,8 @@ use std::fmt;
 use std::fmt::Write;
 use std::marker::Model;
 
-/// A number below 2^160, so of 20 octets at most (RFC 5280, section 4.1.2.2).
+/// A number below 2^160, zero included, which is wider than RFC 5280, section 4.1.2.2: this
+/// project's own rule.
 #[derive(Clone, Copy, Debug)]
 pub struct Serial {
     octets: [u8; 20],
@@ -105,8 +106,9 @@ impl Encode for SerialEncoder<'_> {
 }
 
 impl Serial {
-    /// Reads a serial number: an INTEGER that is not negative and below 2^160 (RFC 5280, section
-    /// 4.1.2.2), in DER and in BER alike. All else is refused by `Malformed`.
+    /// Reads a serial number: an INTEGER that is not negative and below 2^160, in DER and in BER
+    /// alike. Zero, and a number whose contents have 21 octets, are read too, which is wider than
+    /// RFC 5280, section 4.1.2.2: this project's own rule. All else is refused by `Malformed`.
     pub fn take_from(cons: &mut Constructed<'_>) -> Result<Serial, DecodeError>
         ensures reads { Reads (λ s. s) u160_at cons.old result cons.new }
         ensures decodes { DecodesNext SerialForm (λ s. s) cons.old result cons.new }

@@ -10,8 +10,8 @@ use std::alloc::{AllocError, AllocFailed};
 use std::error::Error;
 use std::fmt;
 
-/// What a call that builds and signs answers. The first three come exactly where the signer's count
-/// of failed calls grew.
+/// What a call that builds and signs answers. The first three are faults of the signer, and the
+/// others are not; which of them come of a call, its contract says.
 #[derive(Debug, Drop)]
 pub enum SigningError<E> {
     /// The signer has no such key.

@@ -1,8 +1,9 @@
 //! Rows of algorithms.
 
+use crate::octets::has_octets;
 use bytes::Bytes;
 use rpki_basics::{DigestAlgorithm, RpkiSignatureAlgorithm};
-use rpki_der::{Constructed, DecodeError, Encode, EncodeError, Mode};
+use rpki_der::{Constructed, DecodeError, Encode, Mode};
 use std::alloc::{AllocError, Global};
 
 const READ: &str = "read";
@@ -138,22 +139,14 @@ fn read(rt: HostRuntime) -> Result<(), AllocError> {
     Ok(())
 }
 
-fn are_octets(written: Result<Vec<u8>, EncodeError>, want: &[u8]) -> Result<bool, AllocError> {
-    match written {
-        Ok(octets) => Ok(octets.as_slice() == want),
-        Err(EncodeError::Memory) => Err(AllocError),
-        Err(_) => Ok(false),
-    }
-}
-
 #[test]
 fn written(rt: HostRuntime) -> Result<(), AllocError> {
     let alloc = rt.alloc();
     assert!(rt; DigestAlgorithm::default() == DigestAlgorithm::sha256());
     let digest = DigestAlgorithm::sha256().encode_ref().to_bytes(alloc);
-    assert!(rt; are_octets(digest, ROWS[0].0)?);
+    assert!(rt; has_octets(digest, ROWS[0].0)?);
     let algorithm = RpkiSignatureAlgorithm::default();
-    assert!(rt; are_octets(algorithm.encode_cms().to_bytes(alloc), ROWS[3].0)?);
-    assert!(rt; are_octets(algorithm.encode_cert().to_bytes(alloc), ROWS[5].0)?);
+    assert!(rt; has_octets(algorithm.encode_cms().to_bytes(alloc), ROWS[3].0)?);
+    assert!(rt; has_octets(algorithm.encode_cert().to_bytes(alloc), ROWS[5].0)?);
     Ok(())
 }

@@ -1,6 +1,6 @@
-//! Rows of moments and of their texts.
+//! Rows of moments and of their texts, a clock, and limits.
 
-use rpki_basics::{Clock, FixedClock, Time, Validity};
+use rpki_basics::{Clock, FixedClock, ProviderLimit, Time, Validity};
 use std::alloc::{AllocError, Global};
 
 /// A text, and the moment that it names, if there is one: those of Python's datetime.
@@ -101,11 +101,18 @@ fn order(rt: HostRuntime) -> Result<(), AllocError> {
         assert!(rt; false);
         return Ok(());
     };
-    assert!(rt; early < late);
+    assert!(rt; early < late && early.stamp() < late.stamp());
     assert!(rt; !(late < early));
     assert!(rt; early == early && early != late);
     let validity = Validity::new(early, late);
     assert!(rt; validity.not_before() == early && validity.not_after() == late);
     assert!(rt; FixedClock(late).now() == late);
+    Ok(())
+}
+
+#[test]
+fn limits(rt: HostRuntime) -> Result<(), AllocError> {
+    assert!(rt; ProviderLimit::Narrow.most() == 10_000);
+    assert!(rt; ProviderLimit::Wide.most() == 16_380);
     Ok(())
 }

@@ -7,7 +7,7 @@ use rpki_basics::{
     BuildError, BuildFault, DigestAlgorithm, PublicKey, Serial, SignerFault, SigningError, Time,
 };
 use rpki_der::{Constructed, DecodeError, Mode};
-use std::alloc::AllocError;
+use std::alloc::{AllocError, AllocFailed};
 
 #[test]
 fn of_building(rt: HostRuntime) -> Result<(), AllocError> {
@@ -82,19 +82,37 @@ fn of_uris(rt: HostRuntime) -> Result<(), AllocError> {
     Ok(())
 }
 
+#[test]
+fn of_memory(rt: HostRuntime) -> Result<(), AllocError> {
+    let alloc = rt.alloc();
+    let fault: SignerFault<Refused> = SignerFault::from(AllocError);
+    assert!(rt; format!(in alloc; "{fault}")?.as_str() == "out of memory");
+    let value: AllocFailed<u8> = AllocFailed { value: 0 };
+    for error in [BuildError::from(AllocError), BuildError::from(value)] {
+        assert!(rt; format!(in alloc; "{error}")?.as_str() == "out of memory");
+    }
+    let value: AllocFailed<u8> = AllocFailed { value: 0 };
+    let errors: [SigningError<Refused>; 2] = [
+        SigningError::from(AllocError),
+        SigningError::from(value),
+    ];
+    for error in errors {
+        assert!(rt; format!(in alloc; "{error}")?.as_str() == "out of memory");
+    }
+    let error = Error::from(AllocError);
+    assert!(rt; format!(in alloc; "{error}")?.as_str() == "out of memory");
+    Ok(())
+}
+
 // Reads a value and goes on whatever that answers.
 fn swallow(cons: &mut Constructed<'_>, kind: usize) -> Result<(), DecodeError> {
-    let refused = match kind {
+    let _ = match kind {
         0 => Time::take_from(cons).is_err(),
         1 => Serial::take_from(cons).is_err(),
         2 => PublicKey::take_from(cons).is_err(),
         _ => DigestAlgorithm::take_from(cons).is_err(),
     };
-    if refused {
-        Ok(())
-    } else {
-        Err(DecodeError::Memory)
-    }
+    Ok(())
 }
 
 /// Octets that each kind refuses, and what is answered round a call that goes on.

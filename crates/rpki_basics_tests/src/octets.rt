@@ -28,7 +28,7 @@ static TIMES: [(&[u8], &str); 19] = [
     (b"\x17\x0D500101000000", "malformed"),
 ];
 
-/// The octets that a time of these is written as again.
+/// Times whose octets are written again as they were read.
 static WRITTEN: [&[u8]; 4] = [
     b"\x18\x0F19491231235959Z",
     b"\x17\x0D500101000000Z",
@@ -67,7 +67,8 @@ fn times_read(rt: HostRuntime) -> Result<(), AllocError> {
     Ok(())
 }
 
-fn has_octets(written: Result<Vec<u8>, EncodeError>, want: &[u8]) -> Result<bool, AllocError> {
+// Whether these octets were written.
+pub fn has_octets(written: Result<Vec<u8>, EncodeError>, want: &[u8]) -> Result<bool, AllocError> {
     match written {
         Ok(octets) => Ok(octets.as_slice() == want),
         Err(EncodeError::Memory) => Err(AllocError),

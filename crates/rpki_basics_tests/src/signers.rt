@@ -2,10 +2,13 @@
 
 use bytes::Bytes;
 use rpki_basics::standin::{Refused, StandIn, StandInSigner};
-use rpki_basics::{Crypto, PublicKey, RpkiSignature, RpkiSignatureAlgorithm, Signer, SignerFault};
+use rpki_basics::{
+    Crypto, Digest, PublicKey, RpkiSignature, RpkiSignatureAlgorithm, Signer, SignerFault,
+};
 use std::alloc::{AllocError, Global};
 
-/// Octets, and their SHA-256 (FIPS 180-4, as in RFC 6234, section 8.5).
+/// Octets, and their SHA-256 (FIPS 180-4). The last two are in RFC 6234, section 8.5, and no octets
+/// in NIST's vectors of short messages.
 static DIGESTS: [(&[u8], [u8; 32]); 3] = [
     (
         b"",
@@ -52,6 +55,8 @@ fn digests(rt: HostRuntime) -> Result<(), AllocError> {
     let alloc = rt.alloc();
     for (octets, want) in &DIGESTS {
         assert!(rt; StandIn.digest(octets).as_slice() == want.as_slice());
+        assert!(rt; StandIn.digest(octets) == Digest::new(*want));
+        assert!(rt; StandIn.digest(octets) != StandIn.digest(b"b"));
         // the message alone, the bits alone, and one octet of bits before the others
         assert!(rt; is_signed(alloc, b"", octets, want)?);
         assert!(rt; is_signed(alloc, octets, b"", want)?);

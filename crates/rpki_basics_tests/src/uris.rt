@@ -13,10 +13,11 @@ enum Kind {
     BadScheme,
     BadUri,
     Memory,
+    OtherText,
 }
 
 /// A text, and what it is as an rsync URI and as an https URI.
-static ROWS: [(&str, Kind, Kind); 24] = [
+static ROWS: [(&str, Kind, Kind); 25] = [
     ("rsync://a/b", Kind::Uri, Kind::BadScheme),
     ("rsync://a/b/", Kind::Uri, Kind::BadScheme),
     ("RSYNC://a/b/c", Kind::Uri, Kind::BadScheme),
@@ -41,18 +42,55 @@ static ROWS: [(&str, Kind, Kind); 24] = [
     ("ftp://a/b", Kind::BadScheme, Kind::BadScheme),
     ("rsync//a/b", Kind::BadScheme, Kind::BadScheme),
     ("rsync://a/b c", Kind::BadCharacters, Kind::BadCharacters),
+    ("ftp://a b", Kind::BadCharacters, Kind::BadCharacters),
 ];
 
-/// A URI, a name, and the URI of both.
-static JOINED: [(&str, &str, &str); 4] = [
+/// Octets, and what a URI is that has one in its path (RFC 3986, section 2): the first that no URI
+/// has are controls and a space, the ten that are not in its grammar, and what is no visible ASCII;
+/// then some that are in it.
+static OCTETS: [(u8, Kind); 24] = [
+    (0x00, Kind::BadCharacters),
+    (0x1F, Kind::BadCharacters),
+    (b' ', Kind::BadCharacters),
+    (b'"', Kind::BadCharacters),
+    (b'#', Kind::BadCharacters),
+    (b'<', Kind::BadCharacters),
+    (b'>', Kind::BadCharacters),
+    (b'\\', Kind::BadCharacters),
+    (b'^', Kind::BadCharacters),
+    (b'`', Kind::BadCharacters),
+    (b'{', Kind::BadCharacters),
+    (b'|', Kind::BadCharacters),
+    (b'}', Kind::BadCharacters),
+    (0x7F, Kind::BadCharacters),
+    (0x80, Kind::BadCharacters),
+    (0xFF, Kind::BadCharacters),
+    (b'!', Kind::Uri),
+    (b'$', Kind::Uri),
+    (b'%', Kind::Uri),
+    (b'?', Kind::Uri),
+    (b'[', Kind::Uri),
+    (b']', Kind::Uri),
+    (b'_', Kind::Uri),
+    (b'~', Kind::Uri),
+];
+
+/// A URI, a name, what their joined text is, and that text.
+static JOINED: [(&str, &str, Kind, &str); 9] = [
     (
         "rsync://example.com/m/p",
         "file.cer",
+        Kind::Uri,
         "rsync://example.com/m/p/file.cer",
     ),
-    ("rsync://a/m/", "x", "rsync://a/m/x"),
-    ("rsync://a/m", "", "rsync://a/m/"),
-    ("rsync://a/m", "x/y/", "rsync://a/m/x/y/"),
+    ("rsync://a/m/", "x", Kind::Uri, "rsync://a/m/x"),
+    ("rsync://a/m", "", Kind::Uri, "rsync://a/m/"),
+    ("rsync://a/m", "x/y/", Kind::Uri, "rsync://a/m/x/y/"),
+    ("rsync://a/m", "..", Kind::BadUri, ""),
+    ("rsync://a/m", "x//y", Kind::BadUri, ""),
+    ("rsync://a/m/", "/x", Kind::BadUri, ""),
+    ("rsync://a/m", "a b", Kind::BadCharacters, ""),
+    ("rsync://a/m", "../#", Kind::BadCharacters, ""),
 ];
 
 fn fault(error: Error) -> Kind {
@@ -67,7 +105,7 @@ fn fault(error: Error) -> Kind {
 fn rsync_kind(alloc: Global, text: &str) -> Result<Kind, AllocError> {
     match Rsync::from_bytes(Bytes::copy_from_slice(alloc, text.as_bytes())?) {
         Ok(uri) if uri.as_str() == text && uri.as_slice() == text.as_bytes() => Ok(Kind::Uri),
-        Ok(_) => Ok(Kind::Memory),
+        Ok(_) => Ok(Kind::OtherText),
         Err(error) => Ok(fault(error)),
     }
 }
@@ -75,9 +113,30 @@ fn rsync_kind(alloc: Global, text: &str) -> Result<Kind, AllocError> {
 fn https_kind(alloc: Global, text: &str) -> Result<Kind, AllocError> {
     match Https::from_bytes(Bytes::copy_from_slice(alloc, text.as_bytes())?) {
         Ok(uri) if uri.as_str() == text && uri.as_slice() == text.as_bytes() => Ok(Kind::Uri),
-        Ok(_) => Ok(Kind::Memory),
+        Ok(_) => Ok(Kind::OtherText),
         Err(error) => Ok(fault(error)),
     }
+}
+
+// What an rsync URI is that ends in this octet.
+fn kind_with(alloc: Global, octet: u8) -> Result<Kind, AllocError> {
+    let mut text = Vec::new(alloc);
+    text.extend_from_slice(b"rsync://a/m/")?;
+    text.push(octet)?;
+    match Rsync::from_bytes(Bytes::from_vec(text)?) {
+        Ok(uri) if uri.as_slice()[12] == octet => Ok(Kind::Uri),
+        Ok(_) => Ok(Kind::OtherText),
+        Err(error) => Ok(fault(error)),
+    }
+}
+
+#[test]
+fn octets(rt: HostRuntime) -> Result<(), AllocError> {
+    let alloc = rt.alloc();
+    for (octet, want) in &OCTETS {
+        assert!(rt; kind_with(alloc, *octet)? == *want);
+    }
+    Ok(())
 }
 
 #[test]
@@ -90,13 +149,23 @@ fn kinds(rt: HostRuntime) -> Result<(), AllocError> {
     Ok(())
 }
 
-fn is_joined(alloc: Global, base: &str, name: &str, want: &str) -> Result<bool, AllocError> {
+// What the joined text is, which is to be this one where it is a URI; nothing where the base is
+// none.
+fn joined_kind(
+    alloc: Global,
+    base: &str,
+    name: &str,
+    text: &str,
+) -> Result<Option<Kind>, AllocError> {
     match Rsync::from_bytes(Bytes::copy_from_slice(alloc, base.as_bytes())?) {
-        Err(_) => Ok(false),
+        Err(_) => Ok(None),
         Ok(base) => match base.join(alloc, name.as_bytes()) {
-            Ok(uri) => Ok(uri.as_str() == want && uri.clone()? == uri && uri != base),
+            Ok(uri) if uri.as_str() == text && uri.clone()? == uri && uri != base => {
+                Ok(Some(Kind::Uri))
+            }
+            Ok(_) => Ok(Some(Kind::OtherText)),
             Err(Error::Memory) => Err(AllocError),
-            Err(_) => Ok(false),
+            Err(error) => Ok(Some(fault(error))),
         },
     }
 }
@@ -104,12 +173,9 @@ fn is_joined(alloc: Global, base: &str, name: &str, want: &str) -> Result<bool, 
 #[test]
 fn joined(rt: HostRuntime) -> Result<(), AllocError> {
     let alloc = rt.alloc();
-    for (base, name, want) in &JOINED {
-        assert!(rt; is_joined(alloc, base, name, want)?);
+    for (base, name, want, text) in &JOINED {
+        assert!(rt; joined_kind(alloc, base, name, text)? == Some(*want));
     }
-    // a name that leaves the folder, and one that no URI has
-    assert!(rt; !is_joined(alloc, "rsync://a/m", "..", "rsync://a/m/..")?);
-    assert!(rt; !is_joined(alloc, "rsync://a/m", "a b", "rsync://a/m/a b")?);
     Ok(())
 }
 

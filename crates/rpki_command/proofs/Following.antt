@@ -86,3 +86,6 @@ next_text words word is h = record {
       (sym (map-append string_bytes words (word ∷ [])))
       (All-push IsUtf8 (map string_bytes words) (string_bytes word) h.each is);
 }
+
+-- what a loop over the words asks of them
+pub ruleset word_by_word = (no_words, next_word, next_text)

@@ -1,11 +1,9 @@
-pub mod AspaExact
+pub mod Attestations
 pub mod Following
 pub mod Located
 pub mod Named
 pub mod Orders
-pub mod Providers
 pub mod Reading
 pub mod Running
 pub mod Saying
 pub mod Shown
-pub mod Written

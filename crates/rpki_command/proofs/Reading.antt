@@ -2,7 +2,7 @@
 use Rattle.std.proofs.Common.{◌≡◌, ◌+◌, ◌<◌, ℕ, List, [], ◌∷◌, length, get_or, Option, Some, None, Ok}
 use Rattle.std.proofs.Common.{Err, Vec, Global, Bor, arith, subst}
 use Rattle.std.proofs.lemmas.List.{length-map, get_or-map}
-use Rattle.rpki_command.specs.Store.{Told, IsRead, AreReadTo, IsFirstUnreadable}
+use Rattle.rpki_command.specs.Store.{Told, IsRead, AreReadTo, IsFirstUnreadable, AreSomeRead}
 use Rattle.rpki_command.specs.Words.{texts}
 use Rattle.rpki_command.specs.declared.store.StoreError.{StoreError}
 use Rattle.rpki_command.specs.declared.store.StoreError.TheVariants.{Unreadable}
@@ -31,4 +31,14 @@ first-unreadable told now error names i d files old new l e h same is r n = reco
       (subst (λ (t : Told). IsRead (t (get_or names i d).now) (Err error)) same r);
   before = none-before told (texts names) i files e h;
   reads = n;
+}
+
+pub some-read : (told : Told) (names : List (Bor (List ℕ))) (i : ℕ) (files : List (Vec ℕ Global))
+    (old new : ℕ)
+    → i < length names → length files ≡ i → AreReadTo told (texts names) i files
+    → new ≡ old + (i + 1) → AreSomeRead told (texts names) old new
+some-read told names i files old new l e h n = record {
+  some = omega (arith, n);
+  most = omega (arith, n, l, length-map names (λ (w : Bor (List ℕ)). w.now));
+  before = λ k d b. none-before told (texts names) i files e h k d (omega (arith, b, n));
 }

@@ -9,6 +9,7 @@ use Rattle.rpki_command.specs.Answer.{Said}
 use Rattle.rpki_command.specs.Contents.{HasLines, LinesOf, IsLinesOf, IsShown}
 use Rattle.rpki_command.specs.Refusal.{refusal}
 use Rattle.rpki_command.specs.declared.words.Kind.{Kind}
+use Rattle.rpki_command.specs.declared.words.Kind.TheVariants.{Aspa}
 
 module _ {X : Type 0} (form : List ℕ → X → Type 0) (text : X → List ℕ) (octets : List ℕ)
     (s : Said) where
@@ -38,3 +39,8 @@ module _ {X : Type 0} (form : List ℕ → X → Type 0) (text : X → List ℕ)
 pub of_kind : (kind is : Kind) (octets : List ℕ) (s : Said) → kind ≡ is
     → IsShown (LinesOf is) octets s → IsShown (LinesOf kind) octets s
 of_kind kind is octets s e h = subst (λ (k : Kind). IsShown (LinesOf k) octets s) (sym e) h
+
+-- the same where there is one kind
+pub of_only_kind : (kind : Kind) (octets : List ℕ) (s : Said) → IsShown (LinesOf Aspa) octets s
+    → IsShown (LinesOf kind) octets s
+of_only_kind Aspa octets s h = h

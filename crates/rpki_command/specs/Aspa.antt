@@ -1,11 +1,10 @@
 -- The content of an AS provider attestation (draft-ietf-sidrops-aspa-profile-15, section 3).
+pub mod Form
+pub mod Read
+pub mod Written
 use Rattle.std.specs.Prelude.{◌≡◌, ◌≢◌, ℕ, ◌≤◌, List, [], ◌∷◌, length, All, Contains}
 use Rattle.std.specs.List.Sorted.{IsStrictlyIncreasing}
-use Rattle.rpki_der.specs.declared.mode.Mode.{Mode}
-use Rattle.rpki_der.specs.Grammar.{Integer}
-use Rattle.rpki_der.specs.Form.Parts.{Sequence, SequenceOf, Explicit}
 use Rattle.rpki_resources.specs.As.{IsAsn}
-use Rattle.rpki_resources.specs.As.Form.{AsId}
 
 -- what a content says
 pub record Aspa : Type 0 where
@@ -31,11 +30,3 @@ pub record IsAttestation (a : Aspa) : Type 0 where
   pub number : IsAsn a.customer
   pub providers : IsProviderSet a.providers
   pub others : Contains a.providers a.customer → ⊥
-
--- SEQUENCE { [0] { INTEGER 1 }, customer, SEQUENCE OF provider }, section 3 of the profile
-abbrev pub AspaForm : Mode → List ℕ → Aspa → Type 0
-AspaForm mode octets a = Sequence mode (
-    (λ o. Explicit 0 mode (λ c. Integer mode c 1) o)
-    ∷ (λ o. AsId mode o a.customer)
-    ∷ (λ o. SequenceOf mode (AsId mode) o a.providers)
-    ∷ []) octets × IsAttestation a

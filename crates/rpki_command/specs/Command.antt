@@ -16,12 +16,16 @@ use Rattle.rpki_command.specs.declared.words.Command.TheVariants.{Content, ShowT
 use Rattle.rpki_command.specs.declared.words.Options.{Options}
 use Rattle.rpki_command.specs.declared.words.Order.{Order}
 
+-- what is said where a file is not read
+abbrev pub unread : List ℕ → StoreError → Said
+unread name Unreadable = cannot_read name
+unread name Memory = out_of_memory
+
 -- what is said where a read of a file answers this
 abbrev pub IsOfRead : List ℕ → (List ℕ → Said → Type 0) → Result (Vec ℕ Global) StoreError → Said
     → Type 0
 IsOfRead name P (Ok octets) s = P octets.items s
-IsOfRead name P (Err Memory) s = s ≡ out_of_memory
-IsOfRead name P (Err Unreadable) s = s ≡ cannot_read name
+IsOfRead name P (Err error) s = s ≡ unread name error
 
 -- what is said of a file in a store that tells this
 abbrev pub IsOfFile : Told → List ℕ → (List ℕ → Said → Type 0) → Said → Type 0
@@ -101,7 +105,7 @@ pub record IsRunOf (told : Told) (words : List (List ℕ)) (run : Run) : Type 0 
   pub answered : (s : Said) × IsAnswer told words s × IsSaid s run
 
 -- How often a store was read before and after a run: not at all for words that ask for nothing, and
--- for others once for each file.
+-- for others as often as their task reads.
 pub record HaveRead (words : List (List ℕ)) (old new : ℕ) : Type 0 where
   pub usage : AskForNothing words → new ≡ old
   pub done : (o : Order) → IsAsked words o → new ≡ old + task_reads (order_task o)

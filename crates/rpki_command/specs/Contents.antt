@@ -3,19 +3,19 @@ use Rattle.std.specs.Prelude.{◌≡◌, ℕ, ◌⊎◌, List}
 use Rattle.rpki_der.specs.declared.mode.Mode.TheVariants.{Der}
 use Rattle.rpki_der.specs.Grammar.{Front}
 use Rattle.rpki_command.specs.Answer.{Said, out_of_memory, malformed, shown}
-use Rattle.rpki_command.specs.Aspa.{AspaForm}
+use Rattle.rpki_command.specs.Aspa.Form.{AspaForm}
 use Rattle.rpki_command.specs.Texts.Aspa.{aspa_text}
 use Rattle.rpki_command.specs.declared.words.Kind.{Kind}
+use Rattle.rpki_command.specs.declared.words.Kind.TheVariants.{Aspa}
 
 -- these are the lines of what stands at the front of the octets
 abbrev pub HasLines : {X : Type 0} → (List ℕ → X → Type 0) → (X → List ℕ) → List ℕ → List ℕ → Type 0
 HasLines {X} form text octets lines =
     (x : X) × (rest : List ℕ) × Front form octets x rest × (lines ≡ text x)
 
--- The lines of a bare content at the front of the octets: a row for each kind. The last row is that
--- of the kind which no row above it names: the ASPA.
+-- the lines of a bare content at the front of the octets: a row for each kind
 abbrev pub LinesOf : Kind → List ℕ → List ℕ → Type 0
-LinesOf _ = HasLines (AspaForm Der) aspa_text
+LinesOf Aspa = HasLines (AspaForm Der) aspa_text
 
 -- no lines are those of the octets
 abbrev pub HasNoLines : (List ℕ → List ℕ → Type 0) → List ℕ → Type 0

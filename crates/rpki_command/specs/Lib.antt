@@ -1,8 +1,6 @@
 pub mod Answer
 pub mod Arguments
 pub mod Aspa
-pub mod AspaRead
-pub mod AspaWritten
 pub mod Command
 pub mod Contents
 pub mod Grows

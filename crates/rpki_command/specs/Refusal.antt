@@ -2,7 +2,7 @@
 use Rattle.rpki_der.specs.declared.error.DecodeError.{DecodeError}
 use Rattle.rpki_der.specs.declared.error.DecodeError.TheVariants as error
 use Rattle.rpki_tal.specs.declared.error.ReadError.{ReadError}
-use Rattle.rpki_tal.specs.declared.error.ReadError.TheVariants.{Memory}
+use Rattle.rpki_tal.specs.declared.error.ReadError.TheVariants as tal
 use Rattle.rpki_command.specs.Answer.{Said, out_of_memory, malformed}
 
 -- that memory ran out is said as such, and every other fault is malformed
@@ -13,5 +13,9 @@ refusal (error.Content fault) = malformed
 
 -- the same of a locator
 abbrev pub tal_refusal : ReadError → Said
-tal_refusal Memory = out_of_memory
-tal_refusal _ = malformed
+tal_refusal tal.Memory = out_of_memory
+tal_refusal tal.Io = malformed
+tal_refusal tal.UnexpectedEof = malformed
+tal_refusal (tal.BadUri cause) = malformed
+tal_refusal tal.BadKeyInfoEncoding = malformed
+tal_refusal (tal.BadKeyInfo cause) = malformed

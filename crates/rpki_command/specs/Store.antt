@@ -45,10 +45,14 @@ pub record IsFirstUnreadable (told : Told) (names : List (List ℕ)) (old new : 
   pub before : (k : ℕ) (d : List ℕ) → k < place → told (slice_index_or names k d) ≡ Some None → ⊥
   pub reads : new ≡ old + (place + 1)
 
--- where memory runs out, the store was read at least once, and no file twice
-pub record AreSomeRead (names : List (List ℕ)) (old new : ℕ) : Type 0 where
+-- Where memory runs out, the store was read at least once, at most once for each name, and never
+-- after a file that is told to be unreadable. A read after one that has answered that memory ran
+-- out is not seen: a count does not tell of which file a read was.
+pub record AreSomeRead (told : Told) (names : List (List ℕ)) (old new : ℕ) : Type 0 where
   pub some : old + 1 ≤ new
   pub most : new ≤ old + length names
+  pub before : (k : ℕ) (d : List ℕ) → old + (k + 1) < new
+      → told (slice_index_or names k d) ≡ Some None → ⊥
 
 -- What a read of several files answers: all of them, or the first that can't be read, or want of
 -- memory; and how often the store, which was read so often before, is read for it.
@@ -57,7 +61,7 @@ abbrev pub AreRead : Told → List (List ℕ) → ℕ → ℕ → Result (Vec (V
 AreRead told names old new (Ok files) = AreAllRead told names old new files.items
 AreRead told names old new (Err (unread.Unreadable name)) =
     IsFirstUnreadable told names old new name.now
-AreRead told names old new (Err unread.Memory) = AreSomeRead names old new
+AreRead told names old new (Err unread.Memory) = AreSomeRead told names old new
 
 -- why a file was not read, as a text
 abbrev pub store_error_text : StoreError → List ℕ

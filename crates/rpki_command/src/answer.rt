@@ -7,6 +7,18 @@ ghost use Rattle.rpki_command.specs.Answer.{Writes, IsSaid, run_of, said};
 
 use rpki_der::{Sink, SinkFailed};
 
+/// The exit status where lines are shown.
+const SHOWN: u8 = 0;
+
+/// The exit status where nothing of what was asked for is to be shown.
+const REFUSED: u8 = 1;
+
+/// The exit status of wrong words, of a file that can't be used, and of a write that failed.
+const FAILED: u8 = 2;
+
+/// The exit status where memory ran out.
+const NO_MEMORY: u8 = 3;
+
 /// What the program answers.
 #[derive(Drop)]
 pub enum Answer<'a> {
@@ -14,7 +26,7 @@ pub enum Answer<'a> {
     Usage,
     /// This file can't be read.
     CannotRead(&'a str),
-    /// The file of verdicts is none.
+    /// A file is no list of verdicts.
     BadVerdicts,
     /// No memory was to be had.
     OutOfMemory,
@@ -33,13 +45,13 @@ pub fn say<O: Sink, E: Sink>(answer: &Answer<'_>, out: &mut O, err: &mut E) -> u
         (run_of O.taken O.failures out.old out.new E.taken E.failures err.old err.new result) }
 {
     match answer {
-        Answer::Usage => write(b"usage\n", 2, err),
-        Answer::CannotRead(file) => write_line(b"cannot read ", file.as_bytes(), 2, err),
-        Answer::BadVerdicts => write(b"bad verdicts\n", 2, err),
-        Answer::OutOfMemory => write(b"out of memory\n", 3, err),
-        Answer::Malformed => write(b"malformed\n", 1, out),
-        Answer::Refused(cause) => write_line(b"refused: ", cause.as_bytes(), 1, out),
-        Answer::Shown(text) => write(text.as_bytes(), 0, out),
+        Answer::Usage => write(b"usage\n", FAILED, err),
+        Answer::CannotRead(file) => write_line(b"cannot read ", file.as_bytes(), FAILED, err),
+        Answer::BadVerdicts => write(b"bad verdicts\n", FAILED, err),
+        Answer::OutOfMemory => write(b"out of memory\n", NO_MEMORY, err),
+        Answer::Malformed => write(b"malformed\n", REFUSED, out),
+        Answer::Refused(cause) => write_line(b"refused: ", cause.as_bytes(), REFUSED, out),
+        Answer::Shown(text) => write(text.as_bytes(), SHOWN, out),
     }
 }
 
@@ -50,7 +62,7 @@ fn write<W: Sink>(octets: &[u8], status: u8, sink: &mut W) -> u8
 {
     match sink.take_all(octets) {
         Ok(()) => status,
-        Err(SinkFailed) => 2,
+        Err(SinkFailed) => FAILED,
     }
 }
 
@@ -61,7 +73,7 @@ fn write_line<W: Sink>(first: &[u8], second: &[u8], status: u8, sink: &mut W) ->
 {
     match write_parts(first, second, b"\n", sink) {
         Ok(()) => status,
-        Err(SinkFailed) => 2,
+        Err(SinkFailed) => FAILED,
     }
 }
 

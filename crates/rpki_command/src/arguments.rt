@@ -7,6 +7,9 @@ use std::alloc::{AllocError, Global};
 use std::env::{Env, FillError};
 use std::marker::Model;
 
+/// How many octets an argument has at first room for.
+const FIRST_ROOM: usize = 256;
+
 /// The arguments of a program: its name, and the words after it.
 pub trait Arguments {
     // What they tell: nothing, or the octets of each, the program's name first.
@@ -27,7 +30,7 @@ pub enum WordsError {
 }
 
 /// Gives the words after the program's name, which need not be a text.
-#[tactic(auto, using(crate::proofs::Following::no_words, crate::proofs::Following::next_word, crate::proofs::Following::next_text))]
+#[tactic(auto, using(crate::proofs::Following::word_by_word))]
 pub fn words_of<A: Arguments>(alloc: Global, arguments: &A) -> Result<Vec<String>, WordsError>
     ensures { AreWords (A.told arguments.now) result }
 {
@@ -68,9 +71,6 @@ fn word_at<A: Arguments>(
         },
     }
 }
-
-/// How many octets an argument has at first room for.
-const FIRST_ROOM: usize = 256;
 
 /// The arguments of the process.
 #[derive(Drop)]

@@ -10,9 +10,10 @@ ghost use Rattle.rpki_der.specs.Read.Reads.{Reads, Found};
 ghost use Rattle.rpki_der.specs.Form.Decodes.{Decodes};
 ghost use Rattle.rpki_der.specs.declared.mode.Mode.TheVariants.{Der};
 ghost use Rattle.rpki_der.specs.Grammar.{IsBytes};
-ghost use Rattle.rpki_command.specs.Aspa.{Aspa, AspaForm, IsAttestation};
-ghost use Rattle.rpki_command.specs.AspaRead.{fields_at};
-ghost use Rattle.rpki_command.specs.AspaWritten.{aspa_octets};
+ghost use Rattle.rpki_command.specs.Aspa.{Aspa, IsAttestation};
+ghost use Rattle.rpki_command.specs.Aspa.Form.{AspaForm};
+ghost use Rattle.rpki_command.specs.Aspa.Read.{fields_at};
+ghost use Rattle.rpki_command.specs.Aspa.Written.{aspa_octets};
 
 use bytes::Bytes;
 pub use encoder::AsProviderAttestationEncoder;
@@ -44,8 +45,8 @@ impl Model for AsProviderAttestation {
 
 impl AsProviderAttestation {
     /// Reads the content at the front of the source, by the rules of DER (section 3 of the
-    /// profile). Refuses by `Malformed` or by the `Content` fault that is found first where there
-    /// is none, and by `Memory` where no memory was to be had.
+    /// profile). Where the source begins with no content, refuses by `Malformed` or by the
+    /// `Content` fault that is found first, and by `Memory` where no memory was to be had.
     pub fn decode(alloc: Global, source: Bytes) -> Result<AsProviderAttestation, DecodeError>
         ensures { Decodes (AspaForm Der) (λ a. a) source result }
     {
@@ -95,7 +96,7 @@ fn read_front(alloc: Global, source: Bytes) -> Result<AsProviderAttestation, Dec
 }
 
 /// Reads the version, the customer and the providers.
-#[tactic(auto, unfolding(crate::specs::AspaRead::fields_at))]
+#[tactic(auto, unfolding(crate::specs::Aspa::Read::fields_at))]
 fn take_fields(
     cons: &mut Constructed<'_>,
     alloc: Global,

@@ -4,7 +4,7 @@ ghost use Rattle.std.specs.Prelude.{◌≡◌, ℕ, List};
 ghost use Rattle.rpki_der.specs.declared.mode.Mode.TheVariants.{Der};
 ghost use Rattle.rpki_der.specs.Form.Decodes.{Decodes};
 ghost use Rattle.rpki_command.specs.Answer.{said};
-ghost use Rattle.rpki_command.specs.Aspa.{AspaForm};
+ghost use Rattle.rpki_command.specs.Aspa.Form.{AspaForm};
 ghost use Rattle.rpki_command.specs.Contents.{HasLines, LinesOf, IsShown, IsLinesOf};
 ghost use Rattle.rpki_command.specs.Grows.{Grows};
 ghost use Rattle.rpki_command.specs.Refusal.{refusal};

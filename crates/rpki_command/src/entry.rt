@@ -23,10 +23,11 @@ pub fn start<A: Arguments, S: Store, O: Sink, E: Sink>(
     out: &mut O,
     err: &mut E,
 ) -> ExitCode
-    ensures { IsStartOf (A.told arguments.now) (S.told store.old)
+    ensures started { IsStartOf (A.told arguments.now) (S.told store.old)
         (S.reads store.old) (S.reads store.new)
         (run_of O.taken O.failures out.old out.new E.taken E.failures err.old err.new
         (exit_status result)) }
+    ensures same { S.told store.new ≡ S.told store.old }
 {
     ExitCode::from(run(alloc, arguments, store, out, err))
 }
@@ -41,9 +42,10 @@ pub fn run<A: Arguments, S: Store, O: Sink, E: Sink>(
     out: &mut O,
     err: &mut E,
 ) -> u8
-    ensures { IsStartOf (A.told arguments.now) (S.told store.old)
+    ensures started { IsStartOf (A.told arguments.now) (S.told store.old)
         (S.reads store.old) (S.reads store.new)
         (run_of O.taken O.failures out.old out.new E.taken E.failures err.old err.new result) }
+    ensures same { S.told store.new ≡ S.told store.old }
 {
     match words_of(alloc, arguments) {
         Err(WordsError::Memory) => say(&Answer::OutOfMemory, out, err),
@@ -60,11 +62,12 @@ fn run_with<S: Store, O: Sink, E: Sink>(
     out: &mut O,
     err: &mut E,
 ) -> u8
-    ensures { IsSaidUnread out_of_memory (S.reads store.old) (S.reads store.new)
+    ensures started { IsSaidUnread out_of_memory (S.reads store.old) (S.reads store.new)
         (run_of O.taken O.failures out.old out.new E.taken E.failures err.old err.new result)
         ⊎ IsRunWith (S.told store.old) (map string_bytes words.now)
         (S.reads store.old) (S.reads store.new)
         (run_of O.taken O.failures out.old out.new E.taken E.failures err.old err.new result) }
+    ensures same { S.told store.new ≡ S.told store.old }
 {
     match texts_of(alloc, words) {
         Err(_) => say(&Answer::OutOfMemory, out, err),

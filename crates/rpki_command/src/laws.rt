@@ -4,8 +4,9 @@ ghost use Rattle.std.specs.Prelude.{◌≡◌, ◌++◌, ℕ, List};
 ghost use Rattle.rpki_der.specs.declared.mode.Mode.{Mode};
 ghost use Rattle.rpki_der.specs.declared.mode.Mode.TheVariants.{Der};
 ghost use Rattle.rpki_der.specs.Grammar.{Front, IsBytes, IsUnique, Value, HasNoFront};
-ghost use Rattle.rpki_command.specs.Aspa.{Aspa, AspaForm, IsAttestation};
-ghost use Rattle.rpki_command.specs.AspaWritten.{aspa_octets};
+ghost use Rattle.rpki_command.specs.Aspa.{Aspa, IsAttestation};
+ghost use Rattle.rpki_command.specs.Aspa.Form.{AspaForm};
+ghost use Rattle.rpki_command.specs.Aspa.Written.{aspa_octets};
 ghost use Rattle.rpki_command.specs.Words.{IsAsked};
 ghost use Rattle.rpki_command.specs.declared.words.Order.{Order};
 

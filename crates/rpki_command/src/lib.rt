@@ -20,4 +20,4 @@ pub use aspa::{
 };
 pub use entry::{run, start};
 pub use program::command;
-pub use store::{Disk, Store, StoreError};
+pub use store::{Disk, Store, StoreError, Unread, read_all};

@@ -3,7 +3,7 @@
 ghost use Rattle.std.specs.Prelude.{◌≡◌, ◌+◌};
 ghost use Rattle.rpki_command.specs.Answer.{run_of, said};
 ghost use Rattle.rpki_command.specs.Command.{command_task, order_task, task_reads, IsTaskAnswer};
-ghost use Rattle.rpki_command.specs.Command.{IsOfFile, IsAnswer, IsRunOf, HaveRead};
+ghost use Rattle.rpki_command.specs.Command.{unread, IsOfFile, IsAnswer, IsRunOf, HaveRead};
 ghost use Rattle.rpki_command.specs.Contents.{LinesOf, IsShown};
 ghost use Rattle.rpki_command.specs.Texts.Tal.{TalLines};
 ghost use Rattle.rpki_command.specs.Words.{texts};
@@ -30,6 +30,7 @@ pub fn command<S: Store, O: Sink, E: Sink>(
     ensures run { IsRunOf (S.told store.old) (texts words.now)
         (run_of O.taken O.failures out.old out.new E.taken E.failures err.old err.new result) }
     ensures reads { HaveRead (texts words.now) (S.reads store.old) (S.reads store.new) }
+    ensures same { S.told store.new ≡ S.told store.old }
 {
     say(&answer(alloc, words, store), out, err)
 }
@@ -38,6 +39,7 @@ pub fn command<S: Store, O: Sink, E: Sink>(
 fn answer<'a, S: Store>(alloc: Global, words: &'a [&'a str], store: &mut S) -> Answer<'a>
     ensures said { IsAnswer (S.told store.old) (texts words.now) (said result) }
     ensures reads { HaveRead (texts words.now) (S.reads store.old) (S.reads store.new) }
+    ensures same { S.told store.new ≡ S.told store.old }
 {
     match parse(words) {
         None => Answer::Usage,
@@ -49,6 +51,7 @@ fn answer<'a, S: Store>(alloc: Global, words: &'a [&'a str], store: &mut S) -> A
 fn answer_order<'a, S: Store>(alloc: Global, order: &Order<'a>, store: &mut S) -> Answer<'a>
     ensures said { IsTaskAnswer (S.told store.old) (order_task order.now) (said result) }
     ensures reads { S.reads store.new ≡ S.reads store.old + task_reads (order_task order.now) }
+    ensures same { S.told store.new ≡ S.told store.old }
 {
     let options = order.options;
     if options.relaxed || options.registered || options.wide {
@@ -63,6 +66,7 @@ fn answer_command<'a, S: Store>(alloc: Global, command: &Command<'a>, store: &mu
     ensures said { IsTaskAnswer (S.told store.old) (command_task command.now) (said result) }
     ensures reads { S.reads store.new
         ≡ S.reads store.old + task_reads (command_task command.now) }
+    ensures same { S.told store.new ≡ S.told store.old }
 {
     match command {
         Command::Content { kind, file } => show_file(alloc, *kind, file.0, store),
@@ -79,11 +83,11 @@ fn answer_command<'a, S: Store>(alloc: Global, command: &Command<'a>, store: &mu
 fn show_file<'a, S: Store>(alloc: Global, kind: Kind, file: &'a str, store: &mut S) -> Answer<'a>
     ensures said { IsOfFile (S.told store.old) file.now (IsShown (LinesOf kind)) (said result) }
     ensures reads { S.reads store.new ≡ S.reads store.old + 1 }
+    ensures same { S.told store.new ≡ S.told store.old }
 {
     match store.read(alloc, file) {
         Ok(octets) => show_kind(alloc, kind, octets),
-        Err(StoreError::Unreadable) => Answer::CannotRead(file),
-        Err(StoreError::Memory) => Answer::OutOfMemory,
+        Err(error) => unread(error, file),
     }
 }
 
@@ -91,10 +95,20 @@ fn show_file<'a, S: Store>(alloc: Global, kind: Kind, file: &'a str, store: &mut
 fn show_locator<'a, S: Store>(alloc: Global, name: &'a str, store: &mut S) -> Answer<'a>
     ensures said { IsOfFile (S.told store.old) name.now (IsShown TalLines) (said result) }
     ensures reads { S.reads store.new ≡ S.reads store.old + 1 }
+    ensures same { S.told store.new ≡ S.told store.old }
 {
     match store.read(alloc, name) {
         Ok(octets) => show_tal(alloc, octets.as_slice()),
-        Err(StoreError::Unreadable) => Answer::CannotRead(name),
-        Err(StoreError::Memory) => Answer::OutOfMemory,
+        Err(error) => unread(error, name),
+    }
+}
+
+/// The answer where the file of this name is not read.
+fn unread<'a>(error: StoreError, file: &'a str) -> Answer<'a>
+    ensures { said result ≡ unread file.now error }
+{
+    match error {
+        StoreError::Unreadable => Answer::CannotRead(file),
+        StoreError::Memory => Answer::OutOfMemory,
     }
 }

@@ -49,7 +49,7 @@ pub trait Store {
 }
 
 /// Why several files were not read.
-#[derive(Drop)]
+#[derive(Debug, Drop)]
 pub enum Unread<'a> {
     /// This one can't be read.
     Unreadable(&'a str),
@@ -58,7 +58,8 @@ pub enum Unread<'a> {
 }
 
 /// The octets of the files with these names, which are read in their order, once each. The first
-/// that can't be read is answered by its name, and none is read after it; `Memory` may come too.
+/// that can't be read is answered by its name, and none is read after it. Where memory runs out,
+/// the answer is `Memory`.
 pub fn read_all<'a, S: Store>(
     alloc: Global,
     names: &[&'a str],

@@ -7,9 +7,10 @@ use crate::octets::{
     WITHOUT_VERSION,
 };
 use bytes::Bytes;
-use rpki_command::AsProviderAttestation;
+use rpki_command::{AsProviderAttestation, ProviderAsSet};
 use rpki_der::{ContentFault, DecodeError, Encode, Reason};
 use std::alloc::Global;
+use std::process::Abort;
 use std::test::Fail;
 
 #[test]
@@ -28,18 +29,32 @@ fn contents_are_read_and_written(rt: HostRuntime) -> Result<(), Fail> {
     ];
     for (octets, written, customer, providers) in rows {
         let content = read(rt.alloc(), octets)??;
+        let set = content.provider_as_set();
         let mut numbers = Vec::new(rt.alloc());
-        for provider in content.provider_as_set().iter() {
+        for provider in set.iter() {
             numbers.push(provider.into_u32())?;
         }
         assert_eq!(rt; content.customer_as().into_u32(), customer);
         assert_eq!(rt; numbers.as_slice(), providers);
+        assert_eq!(rt; (set.len(), set.is_empty()), (providers.len(), false));
+        are_left(&rt, set, providers.len());
         assert_eq!(rt;
             content.encode_ref().to_bytes(rt.alloc())?.as_slice(),
             written
         );
     }
     Ok(())
+}
+
+/// That the iterator of these providers tells how many it has before and after each.
+fn are_left(rt: &impl Abort, set: &ProviderAsSet, count: usize) {
+    let mut providers = set.iter();
+    for taken in 0..=count {
+        let left = count - taken;
+        assert_eq!(rt; providers.size_hint(), (left, Some(left)));
+        assert_eq!(rt; providers.len(), left);
+        assert_eq!(rt; providers.next().is_some(), left > 0);
+    }
 }
 
 #[test]

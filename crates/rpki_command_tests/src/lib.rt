@@ -14,4 +14,6 @@ mod octets;
 #[cfg(test)]
 mod runs;
 #[cfg(test)]
+mod stores;
+#[cfg(test)]
 mod verdicts;

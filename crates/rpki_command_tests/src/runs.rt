@@ -1,12 +1,13 @@
 //! Runs of the program.
 
-use crate::given::{Given, OneFile};
+use crate::given::{Given, OneFile, TooLarge};
 use crate::octets::{
-    CONTENT, CONTENT_AND_MORE, CUSTOMER_AS0, LARGEST_CUSTOMER, LARGEST_PROVIDER, WITHOUT_VERSION,
+    CONTENT, CONTENT_AND_MORE, CONTENT_CUT, CUSTOMER_AS0, LARGEST_CUSTOMER, LARGEST_PROVIDER,
+    WITHOUT_VERSION,
 };
-use rpki_command::{command, run};
+use rpki_command::{Arguments, command, run, start};
 use rpki_der::Counted;
-use std::process::Abort;
+use std::process::{Abort, ExitCode};
 use std::test::Fail;
 
 /// What is said, on standard output or on standard error, and the exit status.
@@ -50,6 +51,12 @@ const TAL_SHOWN: Said = Said {
     err: "",
 };
 
+/// The same without what follows its URI.
+const TAL_WITHOUT_KEY: &[u8] = b"# c\nrsync://a.example.com/1/1\n";
+
+/// The line of its URI alone.
+const URI_ALONE: &[u8] = b"rsync://a.example.com/1/1\n";
+
 /// A locator without a comment, with two URIs and line ends of two octets.
 const TAL_OF_TWO: &[u8] = b"https://a.example.com/1\r\nrsync://a.example.com/1/1\r\n\r\n\
     MBUwDQYJKoZIhvcNAQEBBQADBABhYmM=\r\n";
@@ -89,102 +96,138 @@ pub const OUT_OF_MEMORY: Said = Said {
     err: "out of memory\n",
 };
 
+/// Words, the octets of the file, what is said, and how often the store is read.
+type Row<'a> = (&'a [&'a str], &'a [u8], Said<'a>, usize);
+
+/// That the words of each row are answered so.
+fn are_answered(rt: &(impl Abort + AllocGlobal), rows: &[Row<'_>]) {
+    for (words, octets, said, reads) in rows {
+        let mut store = OneFile::new(octets);
+        let mut out = Counted::new(Vec::new(rt.alloc()));
+        let mut err = Counted::new(Vec::new(rt.alloc()));
+        let status = command(rt.alloc(), words, &mut store, &mut out, &mut err);
+        is_said(rt, said, status, &out.inner, &err.inner);
+        assert_eq!(rt; store.calls(), *reads);
+    }
+}
+
 #[test]
 fn words_are_answered(rt: HostRuntime) -> Result<(), Fail> {
-    let rows: [(&[&str], &[u8], Said, usize); 18] = [
+    let rows: [Row; 9] = [
         (&ASK, &CONTENT, SHOWN, 1),
         (&ASK, &CONTENT_AND_MORE, SHOWN, 1),
-        (&ASK, &CONTENT[..30], MALFORMED, 1),
+        (&ASK, &CONTENT_CUT, MALFORMED, 1),
         (&ASK, &WITHOUT_VERSION, MALFORMED, 1),
         (&ASK, &CUSTOMER_AS0, MALFORMED, 1),
         (&ASK, &LARGEST_CUSTOMER, LARGEST_CUSTOMER_SHOWN, 1),
         (&ASK, &LARGEST_PROVIDER, LARGEST_PROVIDER_SHOWN, 1),
         (&["content", "aspa", "other"], &CONTENT, CANNOT_READ, 1),
         (&["content", "aspa", "large"], &CONTENT, OUT_OF_MEMORY, 1),
-        (&[], &CONTENT, USAGE, 0),
-        (&["content", "aspa"], &CONTENT, USAGE, 0),
-        (&["content", "aspa", ""], &CONTENT, USAGE, 0),
-        (&["content", "none", "file"], &CONTENT, USAGE, 0),
-        (&["content", "aspa", "file", "file"], &CONTENT, USAGE, 0),
-        (
-            &["--relaxed", "content", "aspa", "file"],
-            &CONTENT,
-            USAGE,
-            0,
-        ),
-        (
-            &["--wide", "--relaxed", "content", "aspa", "file"],
-            &CONTENT,
-            USAGE,
-            0,
-        ),
-        (
-            &["content", "--relaxed", "aspa", "file"],
-            &CONTENT,
-            USAGE,
-            0,
-        ),
-        (&["--help"], &CONTENT, USAGE, 0),
     ];
-    for (words, octets, said, reads) in rows {
-        let mut store = OneFile::new(octets);
-        let mut out = Counted::new(Vec::new(rt.alloc()));
-        let mut err = Counted::new(Vec::new(rt.alloc()));
-        let status = command(rt.alloc(), words, &mut store, &mut out, &mut err);
-        is_said(&rt, &said, status, &out.inner, &err.inner);
-        assert_eq!(rt; store.calls(), reads);
-    }
+    are_answered(&rt, &rows);
     Ok(())
 }
 
 #[test]
 fn locators_are_shown(rt: HostRuntime) -> Result<(), Fail> {
-    let rows: [(&[&str], &[u8], Said, usize); 9] = [
+    let rows: [Row; 7] = [
         (&["show", "tal", "file"], TAL, TAL_SHOWN, 1),
         (&["show", "tal", "file"], TAL_OF_TWO, TAL_OF_TWO_SHOWN, 1),
-        (&["show", "tal", "file"], &TAL[..30], MALFORMED, 1),
-        (&["show", "tal", "file"], &TAL[4..30], MALFORMED, 1),
+        (&["show", "tal", "file"], TAL_WITHOUT_KEY, MALFORMED, 1),
+        (&["show", "tal", "file"], URI_ALONE, MALFORMED, 1),
         (&["show", "tal", "file"], &CONTENT, MALFORMED, 1),
         (&["show", "tal", "other"], TAL, CANNOT_READ, 1),
         (&["show", "tal", "large"], TAL, OUT_OF_MEMORY, 1),
-        (&["show", "tal", ""], TAL, USAGE, 0),
-        (&["content", "tal", "file"], TAL, USAGE, 0),
     ];
-    for (words, octets, said, reads) in rows {
-        let mut store = OneFile::new(octets);
-        let mut out = Counted::new(Vec::new(rt.alloc()));
-        let mut err = Counted::new(Vec::new(rt.alloc()));
-        let status = command(rt.alloc(), words, &mut store, &mut out, &mut err);
-        is_said(&rt, &said, status, &out.inner, &err.inner);
-        assert_eq!(rt; store.calls(), reads);
+    are_answered(&rt, &rows);
+    Ok(())
+}
+
+/// Words that ask for nothing.
+static NOTHING: [&[&str]; 12] = [
+    &[],
+    &["content", "aspa"],
+    &["content", "aspa", ""],
+    &["content", "none", "file"],
+    &["content", "tal", "file"],
+    &["content", "aspa", "file", "file"],
+    &["show", "tal", ""],
+    &["--wide", "--relaxed", "content", "aspa", "file"],
+    &["content", "--relaxed", "aspa", "file"],
+    &["check", "aspa", "file", "moment", "verdicts", "anchor", ""],
+    &["rta", "file", "moment", "", "anchor"],
+    &["--help"],
+];
+
+/// Words that ask for what is not there yet.
+static NOT_THERE: [&[&str]; 9] = [
+    &["--relaxed", "content", "aspa", "file"],
+    &["--registered", "content", "aspa", "file"],
+    &["--wide", "content", "aspa", "file"],
+    &["--relaxed", "show", "tal", "file"],
+    &["content", "rta", "file"],
+    &["show", "aspa", "file"],
+    &["show", "rta", "file"],
+    &[
+        "check", "aspa", "file", "moment", "verdicts", "anchor", "other",
+    ],
+    &["rta", "file", "moment", "verdicts", "anchor", "other"],
+];
+
+#[test]
+fn other_words_are_usage(rt: HostRuntime) -> Result<(), Fail> {
+    for words in &NOTHING {
+        are_answered(&rt, &[(words, &CONTENT, USAGE, 0)]);
+    }
+    for words in &NOT_THERE {
+        are_answered(&rt, &[(words, &CONTENT, USAGE, 0)]);
     }
     Ok(())
 }
 
+/// The words after the program's name, as octets.
+static ASKED: [&[u8]; 4] = [b"name", b"content", b"aspa", b"file"];
+
 #[test]
 fn arguments_are_words(rt: HostRuntime) -> Result<(), Fail> {
-    let rows: [(&[&[u8]], Said); 6] = [
-        (&[], USAGE),
-        (&[b"name"], USAGE),
-        (&[b"name", b"content", b"aspa", b"file"], SHOWN),
-        (&[&[0xFF], b"content", b"aspa", b"file"], SHOWN),
-        (&[b"name", b"content", b"aspa", &[0xFF]], USAGE),
-        (&[b"name", b"content", b"aspa", b"file", b"file"], USAGE),
+    let rows: [(&[&[u8]], Said, usize); 6] = [
+        (&[], USAGE, 0),
+        (&[b"name"], USAGE, 0),
+        (&ASKED, SHOWN, 1),
+        (&[&[0xFF], b"content", b"aspa", b"file"], SHOWN, 1),
+        (&[b"name", b"content", b"aspa", &[0xFF]], USAGE, 0),
+        (&[b"name", b"content", b"aspa", b"file", b"file"], USAGE, 0),
     ];
-    for (arguments, said) in rows {
-        let mut store = OneFile::new(&CONTENT);
-        let mut out = Counted::new(Vec::new(rt.alloc()));
-        let mut err = Counted::new(Vec::new(rt.alloc()));
-        let status = run(
-            rt.alloc(),
-            &Given(arguments),
-            &mut store,
-            &mut out,
-            &mut err,
-        );
-        is_said(&rt, &said, status, &out.inner, &err.inner);
+    for (arguments, said, reads) in rows {
+        is_started(&rt, &Given(arguments), &said, reads);
+    }
+    for place in 1..=ASKED.len() {
+        is_started(&rt, &TooLarge(&ASKED, place), &OUT_OF_MEMORY, 0);
     }
     Ok(())
+}
+
+/// That this is said where the program is started with these arguments, and where it is run.
+fn is_started<A: Arguments>(
+    rt: &(impl Abort + AllocGlobal),
+    arguments: &A,
+    said: &Said<'_>,
+    reads: usize,
+) {
+    let alloc = rt.alloc();
+    let mut store = OneFile::new(&CONTENT);
+    let mut out = Counted::new(Vec::new(alloc));
+    let mut err = Counted::new(Vec::new(alloc));
+    let status = run(alloc, arguments, &mut store, &mut out, &mut err);
+    is_said(rt, said, status, &out.inner, &err.inner);
+    assert_eq!(rt; store.calls(), reads);
+    let mut store = OneFile::new(&CONTENT);
+    let mut out = Counted::new(Vec::new(alloc));
+    let mut err = Counted::new(Vec::new(alloc));
+    let code = start(alloc, arguments, &mut store, &mut out, &mut err);
+    assert!(rt; code == ExitCode::from(said.status));
+    is_said(rt, said, said.status, &out.inner, &err.inner);
+    assert_eq!(rt; store.calls(), reads);
 }
 
 /// That this was said, and nothing else.

@@ -4,6 +4,7 @@ pub mod Exact
 pub mod Many
 pub mod Calls
 pub mod Loops
+pub mod Within
 pub mod UpToEnd
 pub mod Tested
 pub mod Integers

@@ -33,8 +33,10 @@ abbrev pub IsLength : Mode → List ℕ → ℕ → Type 0
 IsLength mode octets n = IsShort octets n ⊎ IsLong mode octets n
 
 mutual
-  -- the octets are one value with this tag and these contents (8.1.1): identifier, length and
-  -- contents, or in BER identifier, 80, values and the end 00 00 (8.1.3.6, 8.1.5)
+  -- The octets are one value with this tag and these contents (8.1.1): identifier, length and
+  -- contents, or in BER identifier, 80, values and the end 00 00 (8.1.3.6, 8.1.5). That the
+  -- contents of a constructed value with a definite length are values (8.1.4) is not asked here,
+  -- but by the form of the contents, which is this project's own rule.
   pub data Value : Mode → List ℕ → ℕ → List ℕ → Type 0 where
     definite : (mode : Mode) (octets : List ℕ) (tag : ℕ) (len contents : List ℕ) → IsTag tag
         → IsLength mode len (length contents) → octets ≡ tag ∷ (len ++ contents)

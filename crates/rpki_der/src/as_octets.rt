@@ -1,3 +1,5 @@
+//! What shows octets.
+
 ghost use Rattle.std.specs.Prelude.{◌≡◌};
 
 use bytes::Bytes;

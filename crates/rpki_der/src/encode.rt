@@ -132,7 +132,7 @@ pub trait Encode {
     }
 }
 
-/// How many octets a value has that can be written.
+// How many octets a value has that can be written.
 #[inline(always)]
 fn len_of<T: Encode>(value: &T) -> u64
     requires der { T.is_der value.now }

@@ -17,7 +17,8 @@ use std::marker::Model;
 pub enum DecodeError {
     /// They are not of the form.
     Malformed,
-    /// They are of the form, and what they say is not allowed.
+    /// Their ASN.1 is right, and a rule of the format beyond it is broken. Such octets are as
+    /// little in the form as malformed ones; which of the two is answered is not promised.
     Content(ContentFault),
     /// No memory was to be had.
     Memory,
@@ -27,9 +28,10 @@ pub enum DecodeError {
 #[derive(Debug, Drop)]
 pub enum ContentFault {
     /// A signed attribute of another type than content type, message digest and signing time
-    /// (RFC 6488, section 2.1.6.4).
+    /// (RFC 6488, section 2.1.6.4). A binary signing time, which that section names too, is one of
+    /// them, by this project's own rule.
     InvalidSignedAttr(InvalidSignedAttr),
-    /// What the text says.
+    /// A rule of the format that is broken. `Reason` has a text for each.
     Text(Reason),
 }
 

@@ -22,7 +22,7 @@ impl fmt::Display for LowerHex<'_> {
     }
 }
 
-/// The two digits of an octet.
+// The two digits of an octet.
 #[derive(Clone, Copy)]
 struct Pair(u8);
 
@@ -36,7 +36,7 @@ impl fmt::Display for Pair {
     }
 }
 
-/// The digit of a number below 16.
+// The digit of a number below 16.
 fn digit(n: u8) -> char
     requires { n < 16 }
     ensures value { result ≡ digit n }

@@ -1,6 +1,6 @@
 //! The rules that values are read by.
 
-/// The rules that values are read by (X.690, sections 8 and 10).
+/// The rules that values are read by (X.690, sections 8, 10 and 11.1).
 #[derive(Clone, Copy, Debug, PartialEq, Eq)]
 pub enum Mode {
     /// Strict: lengths in their shortest form, no indefinite lengths, no strings in pieces, true as

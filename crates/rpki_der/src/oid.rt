@@ -78,7 +78,7 @@ impl Eq for Oid {
     ghost laws = { nat_list_eq_equiv };
 }
 
-/// Whether octets are the contents of an OBJECT IDENTIFIER.
+// Whether octets are the contents of an OBJECT IDENTIFIER.
 fn is_oid(contents: &[u8]) -> bool
     ensures { result ≡ is_oid contents.now }
 {

@@ -1,11 +1,12 @@
-//! Why a content of the right form is not allowed.
+//! Which rule of a format is broken, beyond its ASN.1.
 
 ghost use Rattle.std.specs.Prelude.{◌≡◌, Some};
 ghost use Rattle.rpki_der.specs.Text.Reason.{reason_text};
 
 use std::fmt;
 
-/// What is not allowed in a content that is of its form.
+/// A rule of a format, beyond its ASN.1, that octets break. Which of several broken rules is named,
+/// and whether it is named at all or the octets are `Malformed`, is not promised.
 #[derive(Clone, Copy, Debug, PartialEq, Eq)]
 pub enum Reason {
     // Any content
@@ -19,8 +20,8 @@ pub enum Reason {
     /// A time has a date that is in no calendar, or no such time of day (RFC 5280, section
     /// 4.1.2.5).
     NoSuchTime,
-    /// A serial number or a number of a manifest or CRL is 2^160 or more (RFC 5280, section
-    /// 4.1.2.2).
+    /// A serial number or a number of a manifest or CRL is 2^160 or more. RFC 5280, section
+    /// 4.1.2.2, allows 20 octets; that 2^160 is the limit is this project's own rule.
     SerialTooLarge,
     /// A URI breaks its grammar (RFC 3986, section 3).
     BadUri,
@@ -39,24 +40,24 @@ pub enum Reason {
     RoutingDomains,
 
     // Route origin attestations
-    /// A prefix is longer than the addresses of its family (RFC 9582, section 4.3.2).
+    /// A prefix is longer than the addresses of its family (RFC 6482, section 3.3).
     PrefixTooLong,
-    /// A max length is below that of its prefix, or above that of the addresses (RFC 9582, section
-    /// 4.3.2.2).
+    /// A max length is below that of its prefix, or above that of the addresses (RFC 6482, section
+    /// 3.3).
     MaxLengthOutOfRange,
 
     // Provider attestations
-    /// The customer of an ASPA is AS0.
+    /// The customer of an ASPA is AS0 (draft-ietf-sidrops-aspa-profile-15, section 3).
     CustomerAs0,
-    /// An ASPA names no provider.
+    /// An ASPA names no provider (the same section).
     NoProviders,
-    /// An ASPA names more providers than `most`, which is what its profile allows.
+    /// An ASPA names more providers than `most`, which is this project's own rule.
     TooManyProviders { most: usize },
-    /// The providers of an ASPA don't stand in ascending order.
+    /// The providers of an ASPA don't stand in ascending order (the same section).
     ProvidersNotAscending,
-    /// The customer of an ASPA is one of its providers.
+    /// The customer of an ASPA is one of its providers (the same section).
     CustomerAmongProviders,
-    /// AS0 is a provider beside others.
+    /// AS0 is a provider beside others (the same section).
     As0BesideOthers,
 
     // Manifests

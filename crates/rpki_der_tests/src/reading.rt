@@ -42,6 +42,7 @@ pub enum Call {
     AtEnd,
     CaptureWith,
     Items,
+    Contents,
 }
 
 /// What it answers.
@@ -54,6 +55,7 @@ pub enum Found {
     Octets(Bytes),
     Bits(Bytes, u8),
     Kept(Captured, Mode),
+    Beside(u8, Captured, Mode),
 }
 
 /// What it should answer.
@@ -66,6 +68,7 @@ pub enum Want {
     Truth(bool),
     Octets(&'static [u8]),
     Bits(&'static [u8], u8),
+    Beside(u8, &'static [u8]),
 }
 
 /// A call, the octets that it is made on, and its answer.
@@ -180,6 +183,7 @@ fn take_more(cons: &mut Constructed<'_>, alloc: Global, call: Call) -> Result<Fo
         }
         Call::WholeBits => Ok(string(Some(cons.take_octets_in_bits()?))),
         Call::Primitive => Ok(string(Some(cons.take_primitive_if(Tag::CTX_0_PRIMITIVE)?))),
+        Call::Contents => Ok(string(cons.take_opt_primitive_if(Tag::CTX_0)?)),
         Call::Flag => Ok(Found::Truth(cons.take_flag()?)),
         Call::AtEnd => Ok(Found::Truth(cons.is_at_end()?)),
         Call::Name => {
@@ -192,8 +196,8 @@ fn take_more(cons: &mut Constructed<'_>, alloc: Global, call: Call) -> Result<Fo
         },
         _ => {
             let mode = cons.mode();
-            let (_, kept) = cons.capture_with(small)?;
-            Ok(Found::Kept(kept, mode))
+            let (digit, kept) = cons.capture_with(small)?;
+            Ok(Found::Beside(digit, kept, mode))
         }
     }
 }
@@ -212,14 +216,11 @@ impl Model for Digit {
 
 impl ListItem for Digit {
     ghost use Rattle.rpki_der.specs.Tags.{INTEGER};
-    ghost use Rattle.rpki_der.specs.Read.Parse.{u8_at, unsigned_of};
-    ghost use Rattle.rpki_der.proofs.Reading.Many.{primitive-shorter};
+    ghost use Rattle.rpki_der.specs.Read.Parse.{u8_at};
 
     ghost tag = { INTEGER };
 
     ghost at = { u8_at };
-
-    ghost shorter = { primitive-shorter INTEGER (unsigned_of 1) };
 
     fn take_opt_from(
         cons: &mut Constructed<'_>,
@@ -274,6 +275,9 @@ fn is_found(found: &Found, want: Want) -> bool {
         }
         (Found::Bits(octets, unused), Want::Bits(others, n)) => {
             octets.as_slice() == others && *unused == n
+        }
+        (Found::Beside(digit, kept, mode), Want::Beside(n, others)) => {
+            *digit == n && kept.as_slice() == others && kept.mode() == *mode
         }
         _ => false,
     }
@@ -407,7 +411,7 @@ pub static READ: [Row; 54] = [
         Want::Octets(&[0xCD, 0xEF]),
     ),
     (Call::SkipOptOne, &[0x30, 2, 5, 0], Want::Done),
-    (Call::CaptureWith, &[2, 1, 9], Want::Octets(&[2, 1, 9])),
+    (Call::CaptureWith, &[2, 1, 9], Want::Beside(9, &[2, 1, 9])),
 ];
 
 /// Whole values that are read in BER, and that DER refuses (sections 8.1.3, 8.7, 10.1 and 10.2).
@@ -539,7 +543,7 @@ pub static WRONG: [Row; 41] = [
 ];
 
 /// Other answers, in both modes: another value, none, octets after the value, and too few.
-static OTHERS: [Row; 33] = [
+static OTHERS: [Row; 34] = [
     (Call::OptU8, &[4, 0], Want::Absent),
     (Call::OptU8, &[], Want::Absent),
     (Call::OptU32, &[4, 0], Want::Absent),
@@ -577,6 +581,8 @@ static OTHERS: [Row; 33] = [
     (Call::Items, &[2, 1, 5, 5, 0], Want::Octets(&[5])),
     (Call::Items, &[2, 1, 5, 2, 0], Want::Refused),
     (Call::Name, &[6, 0], Want::Refused),
+    // contents of a constructed value that are no values
+    (Call::Contents, &[0xA0, 1, 0xFF], Want::Octets(&[0xFF])),
 ];
 
 /// The number of the first row that is answered otherwise than it should be.
@@ -637,10 +643,12 @@ fn are_all(alloc: Global, octets: &[u8]) -> Result<bool, AllocError> {
     }
 }
 
-/// Marks a reader as failed by a rule of its own, then by another one, and goes on as if it had not.
+/// Marks a reader as failed by a rule of its own, then by others, and goes on as if it had not.
 fn mark(cons: &mut Constructed<'_>) -> Result<(), DecodeError> {
-    let _ = cons.fail(DecodeError::Content(ContentFault::Text(Reason::BadTime)));
+    let _ = cons.refuse_for(Reason::BadTime);
     let _ = cons.fail(DecodeError::Malformed);
+    let _ = cons.fail(DecodeError::Content(ContentFault::Text(Reason::WrongVersion)));
+    let _ = cons.refuse_for(Reason::BadUri);
     Ok(())
 }
 

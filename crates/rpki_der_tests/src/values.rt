@@ -55,6 +55,16 @@ fn are_identifiers(alloc: Global) -> Result<bool, AllocError> {
     Ok(true)
 }
 
+/// Whether these contents are those of two identifiers that are equal.
+fn are_equal(alloc: Global, a: &[u8], b: &[u8]) -> Result<bool, AllocError> {
+    let a = Oid::from_bytes(Bytes::copy_from_slice(alloc, a)?);
+    let b = Oid::from_bytes(Bytes::copy_from_slice(alloc, b)?);
+    Ok(match (a, b) {
+        (Some(a), Some(b)) => a == b,
+        (_, _) => false,
+    })
+}
+
 /// The octets of what shows them.
 fn shown<T: AsOctets>(value: &T) -> &[u8] {
     value.as_octets()
@@ -70,6 +80,9 @@ fn are_shown(alloc: Global, octets: &[u8]) -> Result<bool, AllocError> {
 fn values(rt: HostRuntime) -> Result<(), AllocError> {
     assert!(rt; are_bits(rt.alloc())?);
     assert!(rt; are_identifiers(rt.alloc())?);
+    assert!(rt; are_equal(rt.alloc(), &[0x2A, 3], &[0x2A, 3])?);
+    assert!(rt; !are_equal(rt.alloc(), &[0x2A, 3], &[0x2A, 4])?);
+    assert!(rt; !are_equal(rt.alloc(), &[0x2A], &[0x2A, 3])?);
     assert!(rt; are_shown(rt.alloc(), &[1, 2, 3])?);
     Ok(())
 }

@@ -7,7 +7,7 @@ use rpki_resources::MaxLenPrefix;
 use std::error::Error;
 use std::fmt;
 
-/// A prefix of a ROA that is not among the numbers of its certificate (RFC 6482, section 4).
+/// A prefix of a ROA that is not among the numbers of its certificate (RFC 9582, section 5).
 #[derive(Clone, Copy, Debug, PartialEq, Eq)]
 pub struct UncoveredPrefix {
     /// The prefix, with its maximum length where the ROA has one, in bits.

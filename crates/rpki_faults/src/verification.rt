@@ -1,7 +1,7 @@
 //! Why a certificate or an object is not good.
 
-ghost use Rattle.std.specs.Prelude.{◌≡◌, Some, IfOk, IfErr};
-ghost use Rattle.rpki_faults.specs.Text.Verification.{verification_text};
+ghost use Rattle.std.specs.Prelude.{◌≡◌, false, Some, MatchOption};
+ghost use Rattle.rpki_faults.specs.Text.Verification.{verification_text, is_of_attestation};
 ghost use Rattle.rpki_faults.specs.declared.verification.VerificationError.{VerificationError};
 
 use crate::family::Family;
@@ -20,7 +20,7 @@ pub enum VerificationError {
     /// The key did not sign this (RFC 5652, section 5.6; RFC 5280, section 6.1.3).
     BadSignature,
     /// The authority key identifier is not the key identifier of the issuer (RFC 6487, section
-    /// 7.2).
+    /// 4.8.3).
     IssuerClaim,
     /// The moment is before notBefore (RFC 5280, section 4.1.2.5).
     NotYetValid,
@@ -45,29 +45,31 @@ pub enum VerificationError {
     IpResources,
     /// The customer of an ASPA is not among the numbers that its certificate has.
     CustomerNotHeld,
-    /// A ROA has prefixes of this family, and its certificate has no address of it (RFC 6482,
-    /// section 4).
+    /// A ROA has prefixes of this family, and its certificate has no address of it (RFC 9582,
+    /// section 5).
     NoPrefixCovered(AddressFamily),
-    /// A prefix of a ROA is not among the addresses that its certificate has (RFC 6482, section 4).
+    /// A prefix of a ROA is not among the addresses that its certificate has (RFC 9582, section 5).
     UncoveredPrefix(UncoveredPrefix),
     /// The numbers of a checklist are not all among those that its certificate has (RFC 9323,
     /// section 5).
     ChecklistNotHeld,
     /// A file has not the digest that the manifest lists (RFC 9286, section 6.5).
     ManifestHash,
-    /// A signer of an attestation is none of its subject keys.
+    /// No subject key of an attestation that is left is that of a signer; each signer takes one.
     UnknownKey,
     /// The digest that a signer of an attestation signed is not that of the content.
     SignerDigest,
-    /// No certificate in an attestation verifies one of its signers.
+    /// No end-entity certificate in an attestation that is left verifies a signer; each signer
+    /// takes one.
     MissingCertificate,
-    /// A CA certificate in an attestation has no revocation list there.
+    /// No revocation list in an attestation that is left is that of a CA certificate there; each of
+    /// these takes one.
     MissingCrl,
-    /// A subject key of an attestation has no signer.
+    /// A subject key of an attestation is taken by no signer.
     UnusedSubjectKeys,
-    /// A revocation list in an attestation is of no CA there.
+    /// A revocation list in an attestation is taken by no CA certificate there.
     UnusedCrls,
-    /// An end-entity certificate in an attestation is of no signer.
+    /// An end-entity certificate in an attestation is taken by no signer.
     UnusedEeCertificates,
     /// CA certificates in an attestation are named as an issuer, and the key of none verifies.
     InvalidCaCertificates,
@@ -109,48 +111,27 @@ fn no_prefix_covered(family: AddressFamily) -> &'static str
 }
 
 impl VerificationError {
-    // The text, or the prefix that it is made with.
-    fn text(&self) -> Result<&'static str, UncoveredPrefix>
-        ensures text { IfOk result (λ text. text.now ≡ verification_text self.now) }
-        ensures prefix { IfErr result (λ p. self.now ≡ VerificationError.UncoveredPrefix p) }
+    // The text of a fault that an attestation alone may have.
+    fn attestation_text(&self) -> Option<&'static str>
+        ensures { MatchOption result (is_of_attestation self.now ≡ false)
+            (λ text. text.now ≡ verification_text self.now) }
     {
         match self {
-            Self::DigestMismatch => Ok("message digest mismatch in signed object"),
-            Self::SigningTime => Ok("signing time is after not_after validity time"),
-            Self::BadSignature => Ok("signature is not valid"),
-            Self::IssuerClaim => Ok("not issued by this CA"),
-            Self::NotYetValid => Ok("certificate is not yet valid"),
-            Self::Expired => Ok("certificate has expired"),
-            Self::Overclaimed(family) => Ok(overclaimed(*family)),
-            Self::NoAsResources => Ok("EE certificate is missing AS resources"),
-            Self::InheritedAsResources => Ok("EE certificate contains inherited AS resources"),
-            Self::EmptyAsResources => Ok("EE certificate contains empty AS resources"),
-            Self::SeveralAsBlocks => Ok("EE certificate contains multiple AS resource blocks"),
-            Self::AsRange => Ok("EE certificate contains AS resource with range"),
-            Self::OtherCustomer => Ok(
-                "EE certificate does not contain customer AS in AS resources",
-            ),
-            Self::IpResources => Ok("EE certificate is contains IP resources"),
-            Self::CustomerNotHeld => Ok("customer AS not held"),
-            Self::NoPrefixCovered(family) => Ok(no_prefix_covered(*family)),
-            Self::UncoveredPrefix(uncovered) => Err(*uncovered),
-            Self::ChecklistNotHeld => Ok("checklist resources not held"),
-            Self::ManifestHash => Ok("manifest hash mismatch"),
-            Self::UnknownKey => Ok("public key not found in chain"),
-            Self::SignerDigest => Ok("message digest mismatch"),
-            Self::MissingCertificate => Ok("missing certificate"),
-            Self::MissingCrl => Ok("missing CRL"),
-            Self::UnusedSubjectKeys => Ok("unused subject keys"),
-            Self::UnusedCrls => Ok("unused CRLs"),
-            Self::UnusedEeCertificates => Ok("unused EE certificates"),
-            Self::InvalidCaCertificates => Ok("only invalid CA certificates found"),
-            Self::PathReturns => Ok("path returns"),
-            Self::Revoked => Ok("CA certificate has been revoked"),
-            Self::UnusedCaCertificates => Ok("unused CA certificates"),
-            Self::NotAnchored => Ok("RTA could not be validated"),
-            Self::AsNotFullyCovered => Ok("AS resources not fully covered"),
-            Self::IpNotFullyCovered => Ok("IP resources not fully covered"),
-            Self::Caller => Ok("refused by the caller"),
+            Self::UnknownKey => Some("public key not found in chain"),
+            Self::SignerDigest => Some("message digest mismatch"),
+            Self::MissingCertificate => Some("missing certificate"),
+            Self::MissingCrl => Some("missing CRL"),
+            Self::UnusedSubjectKeys => Some("unused subject keys"),
+            Self::UnusedCrls => Some("unused CRLs"),
+            Self::UnusedEeCertificates => Some("unused EE certificates"),
+            Self::InvalidCaCertificates => Some("only invalid CA certificates found"),
+            Self::PathReturns => Some("path returns"),
+            Self::Revoked => Some("CA certificate has been revoked"),
+            Self::UnusedCaCertificates => Some("unused CA certificates"),
+            Self::NotAnchored => Some("RTA could not be validated"),
+            Self::AsNotFullyCovered => Some("AS resources not fully covered"),
+            Self::IpNotFullyCovered => Some("IP resources not fully covered"),
+            _ => None,
         }
     }
 }
@@ -159,9 +140,37 @@ impl fmt::Display for VerificationError {
     ghost output = { λ error. Some (verification_text error) };
 
     fn fmt<W: fmt::Write>(&self, f: &mut fmt::Formatter<W>) -> fmt::Result {
-        match self.text() {
-            Ok(text) => f.write_str(text),
-            Err(uncovered) => uncovered.fmt(f),
+        if let Some(text) = self.attestation_text() {
+            return f.write_str(text);
+        }
+        match self {
+            Self::UncoveredPrefix(uncovered) => uncovered.fmt(f),
+            Self::DigestMismatch => f.write_str("message digest mismatch in signed object"),
+            Self::SigningTime => f.write_str("signing time is after not_after validity time"),
+            Self::BadSignature => f.write_str("signature is not valid"),
+            Self::IssuerClaim => f.write_str("not issued by this CA"),
+            Self::NotYetValid => f.write_str("certificate is not yet valid"),
+            Self::Expired => f.write_str("certificate has expired"),
+            Self::Overclaimed(family) => f.write_str(overclaimed(*family)),
+            Self::NoAsResources => f.write_str("EE certificate is missing AS resources"),
+            Self::InheritedAsResources => f.write_str(
+                "EE certificate contains inherited AS resources",
+            ),
+            Self::EmptyAsResources => f.write_str("EE certificate contains empty AS resources"),
+            Self::SeveralAsBlocks => f.write_str(
+                "EE certificate contains multiple AS resource blocks",
+            ),
+            Self::AsRange => f.write_str("EE certificate contains AS resource with range"),
+            Self::OtherCustomer => f.write_str(
+                "EE certificate does not contain customer AS in AS resources",
+            ),
+            Self::IpResources => f.write_str("EE certificate is contains IP resources"),
+            Self::CustomerNotHeld => f.write_str("customer AS not held"),
+            Self::NoPrefixCovered(family) => f.write_str(no_prefix_covered(*family)),
+            Self::ChecklistNotHeld => f.write_str("checklist resources not held"),
+            Self::ManifestHash => f.write_str("manifest hash mismatch"),
+            Self::Caller => f.write_str("refused by the caller"),
+            _ => unreachable!(),
         }
     }
 }

@@ -12,10 +12,10 @@ use Rattle.rpki_faults.specs.declared.verification.VerificationError.{Verificati
 use Rattle.rpki_faults.specs.declared.verification.VerificationError.TheVariants as verifications
 use Rattle.rpki_faults_tests.specs.declared.inspected.Facts.{Facts}
 
--- The certificate of a trust anchor fits the profile (RFC 6487, section 4.8; RFC 8630, section
--- 2.3).
-abbrev pub anchor_checks : Facts → List (Check InspectionError)
-anchor_checks c =
+-- The certificate of a CA fits the profile, as far as those of trust anchors do as well (RFC 6487,
+-- section 4.8).
+abbrev pub authority_checks : Facts → List (Check InspectionError)
+authority_checks c =
     (inspections.KeyIdentifier unless (c.subject_key_id ≡ c.key_id))
     ∷ (inspections.NoResources unless (c.names_numbers ≡ true))
     ∷ (inspections.BasicCa unless (c.basic_ca ≡ Some true))
@@ -24,11 +24,18 @@ anchor_checks c =
     ∷ (inspections.MissingRepository unless (c.ca_repository ≢ None))
     ∷ (inspections.MissingManifest unless (c.rpki_manifest ≢ None))
     ∷ (inspections.SignedObject unless (c.signed_object ≡ None))
-    ∷ (inspections.TaAki unless IfSome c.authority_key_id (λ aki. aki ≡ c.subject_key_id))
+    ∷ []
+
+-- The certificate of a trust anchor fits the profile (RFC 6487, section 4.8; RFC 8630, section
+-- 2.3).
+abbrev pub anchor_checks : Facts → List (Check InspectionError)
+anchor_checks c =
+    authority_checks c
+    ++ ((inspections.TaAki unless IfSome c.authority_key_id (λ aki. aki ≡ c.subject_key_id))
     ∷ (inspections.TaCrlUri unless (c.crl_uri ≡ None))
     ∷ (inspections.TaCaIssuer unless (c.ca_issuer ≡ None))
     ∷ (inspections.TaInherit unless (c.inherits ≡ false))
-    ∷ []
+    ∷ [])
 
 -- Both ends belong to the validity (RFC 5280, section 4.1.2.5).
 abbrev pub validity_checks : Facts → ℕ → List (Check VerificationError)

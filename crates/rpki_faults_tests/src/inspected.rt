@@ -2,7 +2,8 @@
 
 ghost use Rattle.rpki_faults.specs.Checks.{AnswersFirstFault};
 ghost use Rattle.rpki_faults_tests.specs.Inspected.{anchor_checks, anchor_validation};
-ghost use Rattle.rpki_faults_tests.specs.Inspected.{signature_checks, validity_checks};
+ghost use Rattle.rpki_faults_tests.specs.Inspected.{authority_checks, signature_checks};
+ghost use Rattle.rpki_faults_tests.specs.Inspected.{validity_checks};
 
 use rpki_faults::{InspectionError, KeyUsage, ValidationError, VerificationError};
 
@@ -28,9 +29,9 @@ pub struct Facts {
 }
 
 impl Facts {
-    /// Inspects the certificate of a trust anchor.
-    pub fn inspect_ta(&self) -> Result<(), InspectionError>
-        ensures { AnswersFirstFault (anchor_checks self.now) result }
+    /// Inspects what the certificates of all CAs have to have.
+    pub fn inspect_authority(&self) -> Result<(), InspectionError>
+        ensures { AnswersFirstFault (authority_checks self.now) result }
     {
         if self.subject_key_id != self.key_id {
             return Err(InspectionError::KeyIdentifier);
@@ -56,6 +57,14 @@ impl Facts {
         if self.signed_object.is_some() {
             return Err(InspectionError::SignedObject);
         }
+        Ok(())
+    }
+
+    /// Inspects the certificate of a trust anchor.
+    pub fn inspect_ta(&self) -> Result<(), InspectionError>
+        ensures { AnswersFirstFault (anchor_checks self.now) result }
+    {
+        self.inspect_authority()?;
         if self
             .authority_key_id
             .is_some_and(|aki| aki != self.subject_key_id)

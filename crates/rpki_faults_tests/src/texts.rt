@@ -2,7 +2,7 @@
 
 use rpki_faults::{Family, InspectionError, UncoveredPrefix, ValidationError, VerificationError};
 use rpki_resources::{Addr, AddressFamily, MaxLenPrefix, Prefix};
-use std::alloc::{AllocError, Global};
+use std::alloc::{AllocError, AllocFailed, Global};
 use std::fmt;
 
 /// What does not fit the profile, and its text.
@@ -249,8 +249,10 @@ fn texts(rt: HostRuntime) -> Result<(), AllocError> {
     assert!(rt; are_inspections(alloc)?);
     assert!(rt; are_verifications(alloc)?);
     assert!(rt; are_prefixes(alloc)?);
-    let memory = ValidationError::from(AllocError);
-    assert!(rt; memory == ValidationError::Memory);
-    assert!(rt; is_told(alloc, &memory, "out of memory")?);
+    let refused = ValidationError::from(AllocFailed { value: 7u8 });
+    for memory in [ValidationError::from(AllocError), refused] {
+        assert!(rt; memory == ValidationError::Memory);
+        assert!(rt; is_told(alloc, &memory, "out of memory")?);
+    }
     Ok(())
 }

@@ -76,7 +76,9 @@ name-reading = reading name_at NameForm exact-name name-ber
     (λ mode o kept h. (SEQUENCE, h.1.0, h.1.1))
 
 pub name-part : IsPart (is SEQUENCE) nothing name_at NameForm
-name-part = part (is SEQUENCE) name-reading (λ mode o kept h. starts-value mode SEQUENCE o h.1.0 h.1.1)
+name-part =
+    part (is SEQUENCE) name-reading
+    (λ mode o kept h. starts-value mode SEQUENCE o h.1.0 h.1.1)
 
 -- what was read is a name
 pub is-name : (mode : Mode) (b kept rest : List ℕ) → IsBytes b → name_at mode b ≡ Some (kept, rest)

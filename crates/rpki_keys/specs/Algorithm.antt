@@ -22,8 +22,8 @@ abbrev pub sha256_with_rsa : List ℕ
 sha256_with_rsa = 0x2A ∷ 0x86 ∷ 0x48 ∷ 0x86 ∷ 0xF7 ∷ 0x0D ∷ 0x01 ∷ 0x01 ∷ 0x0B ∷ []
 
 -- AlgorithmIdentifier ::= SEQUENCE { algorithm, NULL OPTIONAL } (RFC 5280, section 4.1.1.2). That
--- the NULL may be missing after rsaEncryption and sha256WithRSAEncryption too, against RFC 3370,
--- section 3.2, and RFC 4055, section 5, is this project's own rule.
+-- the NULL may be missing after rsaEncryption too, against RFC 3370, section 3.2, is this project's
+-- own rule; after sha256WithRSAEncryption RFC 4055, section 5, asks readers to take both.
 abbrev pub AlgorithmForm : Mode → List ℕ → List ℕ → Type 0
 AlgorithmForm mode octets oid = Sequence mode (
     (λ o. ObjectIdentifier mode o oid)

@@ -164,15 +164,15 @@ impl Encode for KeyEncoder<'_> {
 }
 
 impl PublicKey {
-    /// The key as a SubjectPublicKeyInfo: rsaEncryption with a NULL, and its bits (RFC 7935,
-    /// section 3.1).
+    /// The key as a SubjectPublicKeyInfo: rsaEncryption with a NULL, and its bits (RFC 3279,
+    /// section 2.3.1).
     pub fn encode_ref(&self) -> KeyEncoder<'_>
         ensures { result.0.now ≡ self.now }
     {
         KeyEncoder(self)
     }
 
-    /// The octets of the key as a SubjectPublicKeyInfo (RFC 7935, section 3.1), or `TooLong` where
+    /// The octets of the key as a SubjectPublicKeyInfo (RFC 3279, section 2.3.1), or `TooLong` where
     /// its contents have 2^32 octets or more, or `Memory`.
     pub fn to_info_bytes(&self, alloc: Global) -> Result<Vec<u8>, EncodeError>
         ensures { IsBytesOf (Unit {0}) (length (key_contents self.now) < 2 ^ 32)

@@ -45,7 +45,7 @@ pub fn keys()
 {}
 
 /// What is written of a key is in its form, one of the two ways that there are in DER, and read
-/// again, whatever follows it (RFC 7935, section 3.1).
+/// again, whatever follows it (RFC 3279, section 2.3.1).
 pub fn keys_are_written()
     ensures written { (bits : List ℕ) → length (key_contents bits) < 2 ^ 32
         → KeyForm Der (key_octets bits) bits }

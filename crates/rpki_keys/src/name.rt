@@ -183,9 +183,9 @@ fn key_name(alloc: Global, identifier: KeyIdentifier) -> Result<Bytes, AllocErro
 }
 
 impl PublicKey {
-    /// The name of the key: a common name (RFC 6487, section 4.5) of the upper hexadecimal digits of
-    /// its identifier, which is this project's own rule, or `AllocError` where no memory was to be
-    /// had.
+    /// The name of the key: a common name (RFC 6487, section 4.5) of the upper hexadecimal digits
+    /// of its identifier, which is this project's own rule, or `AllocError` where no memory was to
+    /// be had.
     pub fn to_subject_name(&self, alloc: Global) -> Result<Name, AllocError>
         ensures octets { IfOk result (λ n. n.octets ≡ key_name_octets (sha1 self.now)) }
         ensures mode { IfOk result (λ n. n.mode ≡ Der) }

@@ -20,7 +20,8 @@ abbrev pub as_range : AsBlock → Block ℕ
 as_range (Id n) = record { min = n; max = n }
 as_range (Range a b) = record { min = a; max = b }
 
--- AS15562: the letters and the number in decimal (asplain, RFC 5396, section 2)
+-- AS15562: the number in decimal (asplain, RFC 5396, section 2) after the letters, which are this
+-- project's own
 abbrev pub asn_text : ℕ → List ℕ
 asn_text n = codes "AS" ++ decimal n
 

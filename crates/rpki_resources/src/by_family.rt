@@ -20,7 +20,7 @@ use rpki_der::{Constructed, ContentFault, DecodeError, Reason};
 use std::alloc::Global;
 
 /// What stands for IPv4 and for IPv6, where there is something.
-#[derive(Debug, Drop)]
+#[derive(Clone, Debug, Drop)]
 pub struct ByFamily<T> {
     /// What stands for IPv4.
     pub v4: Option<T>,

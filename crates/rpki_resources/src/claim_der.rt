@@ -4,14 +4,14 @@ ghost use Rattle.rpki_der.specs.Read.Reads.{Reads, Stays};
 ghost use Rattle.rpki_der.specs.Form.Decodes.{DecodesNext};
 ghost use Rattle.rpki_resources.specs.Claim.Form.{AsClaimForm, IpClaimForm, AsIdentifiersForm};
 ghost use Rattle.rpki_resources.specs.Claim.Read.{as_claim_at, ip_claim_at, numbers_at};
-ghost use Rattle.rpki_resources.specs.Claim.Read.{as_identifiers_at};
+ghost use Rattle.rpki_resources.specs.Claim.Read.{as_identifiers_at, no_domains_at};
 
 use crate::addr::Addr;
 use crate::asn::{AsBlocks, Asn};
 use crate::family::AddressFamily;
 use crate::ip::IpBlocks;
 use crate::resources::{AsResources, IpResources, Resources};
-use rpki_der::{Constructed, DecodeError, Tag};
+use rpki_der::{Constructed, DecodeError, Reason, Tag};
 use std::alloc::Global;
 
 // Reads NULL, or a set of AS numbers.
@@ -42,13 +42,28 @@ fn take_ip_claim(
     }
 }
 
-// Reads what stands under [0].
+// Refuses routing domain identifiers, which stand under [1].
+#[tactic(auto, unfolding(crate::specs::Claim::Read::no_domains_at))]
+fn refuse_domains(cons: &mut Constructed<'_>) -> Result<(), DecodeError>
+    ensures reads { Reads (λ u. u) no_domains_at cons.old result cons.new }
+    ensures stays { Stays result cons.new }
+{
+    match cons.take_opt_constructed_if(Tag::CTX_1, |cons| cons.skip_all())? {
+        Some(()) => Err(cons.refuse_for(Reason::RoutingDomains)),
+        None => Ok(()),
+    }
+}
+
+// Reads what stands under [0], and no routing domain identifiers.
 #[tactic(auto, unfolding(crate::specs::Claim::Read::numbers_at))]
 fn take_numbers(cons: &mut Constructed<'_>, alloc: Global) -> Result<AsResources, DecodeError>
     ensures reads { Reads (λ claim. claim) numbers_at cons.old result cons.new }
     ensures stays { Stays result cons.new }
 {
-    cons.take_constructed_if(Tag::CTX_0, |cons| take_as_claim(cons, alloc))
+    refuse_domains(cons)?;
+    let claim = cons.take_constructed_if(Tag::CTX_0, |cons| take_as_claim(cons, alloc))?;
+    refuse_domains(cons)?;
+    Ok(claim)
 }
 
 // Reads the SEQUENCE.
@@ -72,9 +87,9 @@ impl Resources<Asn> {
     }
 
     /// Reads the value of the extension of AS numbers: a SEQUENCE of NULL or a set of AS numbers
-    /// under [0] (RFC 3779, section 3.2.3.1). Routing domain identifiers, [1], are refused (RFC
-    /// 6487, section 4.8.11), and so is a value without [0]. Where there is no memory for the
-    /// numbers, the answer is `Memory`.
+    /// under [0] (RFC 3779, section 3.2.3.1). Routing domain identifiers, [1], are refused by
+    /// `Reason::RoutingDomains` (RFC 6487, section 4.8.11), and a value without [0] by `Malformed`.
+    /// Where there is no memory for the numbers, the answer is `Memory`.
     pub fn take_identifiers_from(
         alloc: Global,
         cons: &mut Constructed<'_>,

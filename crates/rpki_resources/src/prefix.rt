@@ -10,8 +10,8 @@ use crate::addr::Addr;
 use std::marker::Model;
 use std::net::{Ipv4Addr, Ipv6Addr};
 
-/// The addresses that begin with the same bits (RFC 3779, section 2.1.1): an address, in which all
-/// other bits are zero, and how many bits they are, from 0 to 128.
+/// The addresses that begin with the same bits (RFC 3779, section 2.1.1): the first of them, and
+/// how many bits they share, from 0 to 128.
 #[derive(Clone, Copy, Debug, PartialEq, Eq, Hash)]
 pub struct Prefix {
     addr: Addr,

@@ -8,7 +8,7 @@ ghost use Rattle.rpki_resources.specs.Ip.{ip_range};
 use crate::sets::{as_set, gives, ip_set, v4, v4_end};
 use rpki_resources::{
     Addr, AddressFamily, AsBlock, AsBlocksBuilder, AsResourcesBuilder, Asn, IpBlock,
-    IpBlocksBuilder, IpResourcesBuilder, MaxLenPrefix, Prefix, SmallAsnSet,
+    IpBlocksBuilder, IpResourcesBuilder, MaxLenPrefix, Number, Prefix, SmallAsnSet,
 };
 use std::alloc::{AllocError, Global};
 use std::collections::HashSet;
@@ -64,6 +64,19 @@ fn is_left(alloc: Global) -> Result<bool, AllocError> {
     Ok(refused.is_err() && gives(alloc, &claim, &as_set(alloc, &[(4, 5)])?)?)
 }
 
+/// The same of addresses.
+fn are_addresses_left(alloc: Global) -> Result<bool, AllocError> {
+    let mut builder = IpResourcesBuilder::new(alloc);
+    let eight = IpBlock::Prefix(Prefix::new(Addr::from_bits(8), 127));
+    builder.blocks(|blocks| blocks.push(eight))?;
+    let refused = builder.blocks(|blocks| {
+        *blocks = IpBlocksBuilder::new(alloc);
+        Err(AllocError)
+    });
+    let claim = builder.finalize()?;
+    Ok(refused.is_err() && gives(alloc, &claim, &ip_set(alloc, &[(8, 9)])?)?)
+}
+
 /// Whether what was inherited is inherited no longer where blocks are added.
 fn is_named(alloc: Global) -> Result<bool, AllocError> {
     let mut builder = IpResourcesBuilder::new(alloc);
@@ -82,8 +95,9 @@ fn are_iterated(alloc: Global) -> Result<bool, AllocError> {
     let two = AsBlock::Range(Asn::from_u32(1), Asn::from_u32(2));
     let is_first = blocks.next() == Some(two);
     let is_second = blocks.clone()?.next() == Some(AsBlock::Id(Asn::from_u32(8)));
-    let is_held = numbers.contains_block(two);
-    Ok(is_first && is_second && is_held && !numbers.contains_block(AsBlock::Id(Asn::MAX)))
+    let is_third = blocks.next().is_some() && blocks.next().is_some();
+    let is_held = numbers.contains_block(two) && !numbers.contains_block(AsBlock::Id(Asn::MAX));
+    Ok(is_first && is_second && !is_third && is_held)
 }
 
 fn are_addresses_iterated(alloc: Global) -> Result<bool, AllocError> {
@@ -94,7 +108,9 @@ fn are_addresses_iterated(alloc: Global) -> Result<bool, AllocError> {
     let seven = IpBlock::Range(Addr::from_bits(6), Addr::from_bits(7));
     let is_first = blocks.next() == Some(zero);
     let is_second = blocks.clone()?.next() == Some(five);
-    Ok(is_first && is_second && addresses.contains_block(five) && !addresses.contains_block(seven))
+    let is_third = blocks.next().is_some() && blocks.next().is_some();
+    let is_held = addresses.contains_block(five) && !addresses.contains_block(seven);
+    Ok(is_first && is_second && !is_third && is_held)
 }
 
 fn are_few(alloc: Global) -> Result<bool, AllocError> {
@@ -133,6 +149,7 @@ fn builders(rt: HostRuntime) -> Result<(), AllocError> {
     assert!(rt; are_extended(alloc)?);
     assert!(rt; are_addresses_extended(alloc)?);
     assert!(rt; is_left(alloc)?);
+    assert!(rt; are_addresses_left(alloc)?);
     assert!(rt; is_named(alloc)?);
     assert!(rt; are_iterated(alloc)?);
     assert!(rt; are_addresses_iterated(alloc)?);
@@ -146,6 +163,7 @@ fn numbers(rt: HostRuntime) {
     let (addr, prefix) = (v4(0xC000_02FF), Prefix::new(v4(0xC000_02FF), 24));
     let one = Addr::from_bits(1);
     assert!(rt; Asn::MIN.into_u32() == 0 && Asn::MAX.into_u32() == u32::MAX);
+    assert!(rt; Asn::from_u32(7).value() == 7 && one.value() == 1);
     assert!(rt; AsBlock::from(Asn::MAX) == AsBlock::Id(Asn::MAX));
     assert!(rt; prefix.addr() == v4(0xC000_0200) && prefix.addr_len() == 24);
     assert!(rt; prefix.range() == (v4(0xC000_0200), v4_end(0xC000_02FF)));

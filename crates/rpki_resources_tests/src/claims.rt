@@ -73,6 +73,22 @@ fn is_claim(
     }
 }
 
+/// Whether these octets are refused since they name routing domains.
+fn names_domains(alloc: Global, octets: &[u8]) -> Result<bool, AllocError> {
+    let source = Bytes::copy_from_slice(alloc, octets)?;
+    match Constructed::decode(
+        source,
+        Mode::Der,
+        |cons| AsResources::take_identifiers_from(alloc, cons),
+    ) {
+        Err(DecodeError::Memory) => Err(AllocError),
+        Err(DecodeError::Content(ContentFault::Text(reason))) => {
+            Ok(reason == Reason::RoutingDomains)
+        }
+        Err(_) | Ok(_) => Ok(false),
+    }
+}
+
 fn are_identifiers(alloc: Global) -> Result<bool, AllocError> {
     for (mode, octets, want) in &IDENTIFIERS {
         if !is_claim(alloc, read_identifiers(alloc, *mode, octets)?, *want)? {
@@ -86,7 +102,12 @@ fn are_identifiers(alloc: Global) -> Result<bool, AllocError> {
             return Ok(false);
         }
     }
-    Ok(read_identifiers(alloc, Mode::Der, IDENTIFIERS[3].1)?.is_none())
+    Ok(
+        names_domains(alloc, WRONG_IDENTIFIERS[1])?
+            && names_domains(alloc, WRONG_IDENTIFIERS[2])?
+            && !names_domains(alloc, WRONG_IDENTIFIERS[0])?
+            && read_identifiers(alloc, Mode::Der, IDENTIFIERS[3].1)?.is_none(),
+    )
 }
 
 /// 10.0.0.0/8
@@ -273,8 +294,26 @@ static NUMBERS: [(&[u8], Option<Numbers>); 3] = [
     (&[0x30, 3, 2, 1, 5], Some(&[(5, 5)])),
 ];
 
+/// A claim of IPv4 addresses that stands alone: inherited, and of 10.0.0.0/8.
+static ADDRESSES: [(&[u8], Option<Addresses>); 2] = [
+    (&[5, 0], None),
+    (&[0x30, 4, 3, 2, 0, 10], Some(TEN)),
+];
+
 /// Whether each of the claims is read.
 fn are_claims(alloc: Global) -> Result<bool, AllocError> {
+    for (octets, want) in &ADDRESSES {
+        let source = Bytes::copy_from_slice(alloc, octets)?;
+        let found = read(Constructed::decode(
+            source,
+            Mode::Der,
+            |cons| IpResources::take_from(alloc, cons, Ipv4),
+        ))?;
+        if !claims(alloc, &found, Some(*want))? {
+            return Ok(false);
+        }
+    }
+
     for (octets, want) in &NUMBERS {
         let source = Bytes::copy_from_slice(alloc, octets)?;
         let found = read(Constructed::decode(
@@ -329,7 +368,7 @@ fn swallow(alloc: Global, cons: &mut Constructed<'_>, kind: Read) -> Result<u32,
 
 /// Octets that each kind refuses, a number after them, and the reason that is still answered, or
 /// `None` for what is malformed.
-static SWALLOWED: [(Read, &[u8], Option<Reason>); 10] = [
+static SWALLOWED: [(Read, &[u8], Option<Reason>); 11] = [
     (
         Read::Numbers,
         &[0x30, 8, 0x30, 6, 2, 1, 9, 2, 1, 8, 2, 1, 5],
@@ -354,6 +393,11 @@ static SWALLOWED: [(Read, &[u8], Option<Reason>); 10] = [
     (Read::NumbersClaim, &[5, 1, 0, 2, 1, 5], None),
     (Read::AddressesClaim, &[0x30, 2, 5, 0, 2, 1, 5], None),
     (Read::Identifiers, &[0x30, 0, 2, 1, 5], None),
+    (
+        Read::Identifiers,
+        &[0x30, 4, 0xA1, 2, 5, 0, 2, 1, 5],
+        Some(Reason::RoutingDomains),
+    ),
     (
         Read::Families,
         &[0x30, 8, 0x30, 6, 4, 2, 0, 3, 0x30, 0, 2, 1, 5],
@@ -397,6 +441,18 @@ fn is_copied(alloc: Global) -> Result<bool, AllocError> {
     })
 }
 
+/// Whether a copy of what stands for the families has both.
+fn are_copied(alloc: Global) -> Result<bool, AllocError> {
+    let values = ByFamily {
+        v4: Some(ip_set(alloc, TEN)?),
+        v6: Some(ip_set(alloc, DOCS)?),
+    };
+    let copy = values.clone()?;
+    let none: ByFamily<IpBlocks> = ByFamily { v4: None, v6: None };
+    let nothing = none.clone()?;
+    Ok(are_sets(alloc, Some(copy))? && nothing.v4.is_none() && nothing.v6.is_none())
+}
+
 #[test]
 fn claims_of_octets(rt: HostRuntime) -> Result<(), AllocError> {
     let alloc = rt.alloc();
@@ -406,6 +462,7 @@ fn claims_of_octets(rt: HostRuntime) -> Result<(), AllocError> {
     assert!(rt; are_claims(alloc)?);
     assert!(rt; they_stay(alloc)?);
     assert!(rt; is_copied(alloc)?);
+    assert!(rt; are_copied(alloc)?);
     let (own, generic) = read_sets(alloc, FAMILIES[3].0)?;
     assert!(rt; are_sets(alloc, own)? && are_sets(alloc, generic)?);
     let (own, generic) = read_sets(alloc, FAMILIES[1].0)?;

@@ -43,7 +43,8 @@ bad-bad list c d h k =
     (bad-line k.1 k.2 k.3 d k.5 k.7) in
     let line = first-line IsLine line-kind h.5.0 k.5.0 h.3 k.3 h.2 k.2 h.5.2 k.5.2
     (sym h.5.1 ∙ same.1 ∙ k.5.1) in
-    cause-of (codes "https") AreHttpsSegments k.2 c d (subst (λ (t : List ℕ). IsNoTalUri t c) line.1 h.7).1 k.7.1
+    cause-of (codes "https") AreHttpsSegments k.2 c d
+    (subst (λ (t : List ℕ). IsNoTalUri t c) line.1 h.7).1 k.7.1
 
 open-bad : (list : List ℕ) (c : Error) → EndsInLine list → HasBadLine list c → ⊥
 open-bad list c h k =

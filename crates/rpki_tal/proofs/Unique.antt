@@ -6,7 +6,8 @@ use Rattle.base64.specs.Engines.{standard}
 use Rattle.base64.specs.GeneralPurpose.{IsBytes, encode_of, decode_of}
 use Rattle.base64.proofs.EngineFacts.{decode_of-encode_of}
 use Rattle.rpki_der.specs.declared.mode.Mode.TheVariants.{Der}
-use Rattle.rpki_der.specs.declared.error.DecodeError.TheVariants.{Malformed, Content, Memory as OutOfMemory}
+use Rattle.rpki_der.specs.declared.error.DecodeError.TheVariants.{Malformed, Content}
+use Rattle.rpki_der.specs.declared.error.DecodeError.TheVariants.{Memory as OutOfMemory}
 use Rattle.rpki_der.specs.Grammar.{Items, Front, HasNoFront}
 use Rattle.rpki_der.proofs.Form.Words.{part-unique}
 use Rattle.rpki_keys.specs.KeyForm.{KeyForm}
@@ -40,8 +41,9 @@ open-comment text list h k =
 
 -- ---- the list
 
-pub uris-stop : (list : List ℕ) (u v : List TalUri) (a b : List ℕ) → Front (Items IsUriLine) list u a
-    → Front (Items IsUriLine) list v b → HasNoFront IsUriLine a → HasNoFront IsUriLine b
+pub uris-stop : (list : List ℕ) (u v : List TalUri) (a b : List ℕ)
+    → Front (Items IsUriLine) list u a → Front (Items IsUriLine) list v b
+    → HasNoFront IsUriLine a → HasNoFront IsUriLine b
     → (u ≡ v) × (a ≡ b)
 uris-stop list u v a b f g n m = lines-stop IsUriLine uri-line-kind list u v a b f g n m
 

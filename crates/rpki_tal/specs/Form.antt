@@ -25,7 +25,9 @@ abbrev pub HasUris : List ℕ → List TalUri → List ℕ → Type 0
 HasUris list uris rest =
     (end : List ℕ) × Front (Items IsUriLine) list uris end × Front IsLine end [] rest
 
--- The text is canonical base64 of these octets (RFC 4648, section 4), broken up by blanks.
+-- The text is base64 of these octets (RFC 4648, section 4), broken up by blanks. It is canonical:
+-- that bits which no octet needs have to be zeros is this project's own rule, since RFC 4648,
+-- section 3.5, leaves it open.
 abbrev pub IsBase64 : List ℕ → List ℕ → Type 0
 IsBase64 text octets = IsBytes octets × (without_blanks text ≡ encode_of standard octets)
 

@@ -32,7 +32,8 @@ IsLine octets text =
     (line : List ℕ) × IsOneLine line × (octets ≡ line ++ LINE_FEED ∷ [])
     × (text ≡ without_cr line)
 
--- A line that begins with #, and what it says after that (RFC 8630, section 2.2).
+-- A line that begins with #, and what it says after that (RFC 8630, section 2.2). That it may say
+-- any octets, and not UTF-8 alone, is this project's own rule.
 abbrev pub IsComment : List ℕ → List ℕ → Type 0
 IsComment octets comment =
     IsOneLine comment × (octets ≡ NUMBER_SIGN ∷ (comment ++ LINE_FEED ∷ []))

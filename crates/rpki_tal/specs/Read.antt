@@ -7,7 +7,8 @@ use Rattle.rpki_tal.specs.Tal.{Locator}
 use Rattle.rpki_tal.specs.Form.{IsOnlyTal, IsNoTal}
 use Rattle.rpki_tal.specs.Faults.{IsFault}
 
--- The source has given this text, and it has ended.
+-- The source has given this text, and it has ended. A source that does not tell its octets may have
+-- given any text.
 pub record HasGiven (old new : Option (List ℕ)) (text : List ℕ) : Type 0 where
   pub given : Consumes old new text
   pub ended : IsAtEnd new

@@ -21,7 +21,8 @@ pub enum ReadError {
     /// `uri::Error::Memory`.
     #[error("bad trust anchor URI: {0}")]
     BadUri(uri::Error),
-    /// What follows the list is not canonical base64 (RFC 4648, section 4).
+    /// What follows the list is not base64 (RFC 4648, section 4), or has other bits than zeros
+    /// where no octet needs them, which section 3.5 leaves open.
     #[error("bad key info: bad base64")]
     BadKeyInfoEncoding,
     /// What is encoded does not begin with a key (RFC 7935, section 3). It is never

@@ -1,4 +1,4 @@
-//! What is known of a trust anchor locator beside its text.
+//! The name of a trust anchor locator.
 
 ghost use Rattle.std.specs.Prelude.{◌≡◌, IfOk};
 ghost use Rattle.std.specs.String.{string_bytes};
@@ -7,8 +7,7 @@ use std::alloc::{AllocError, Global};
 use std::marker::Model;
 use std::rc::Rc;
 
-/// The name of a trust anchor locator, under which what hangs from it is told apart. Contracts see
-/// it as the octets of the name.
+/// The name of a trust anchor locator. Contracts see it as the octets of the name.
 #[derive(Debug, Drop)]
 pub struct TalInfo {
     name: String,
@@ -24,14 +23,14 @@ impl Model for TalInfo {
 }
 
 impl TalInfo {
-    /// What has this name.
+    /// A `TalInfo` of this name.
     pub fn from_name(name: String) -> TalInfo
         ensures { result ≡ string_bytes name }
     {
         TalInfo { name }
     }
 
-    /// The same with several owners, unless no memory for it is to be had.
+    /// Moves it into an `Rc`. Refused where no memory is to be had.
     pub fn into_rc(self, alloc: Global) -> Result<Rc<TalInfo>, AllocError>
         ensures { IfOk result (λ shared. shared.value ≡ self) }
     {

@@ -16,8 +16,8 @@ use rpki_basics::PublicKey;
 use rpki_der::DecodeError;
 use std::alloc::Global;
 
-// Reads the key whose canonical base64 the text is, broken up by blanks. Octets after the key are
-// left.
+/// Reads the key whose canonical base64 the text is, broken up by blanks. Octets after the key are
+/// left.
 pub fn read_key(alloc: Global, text: &[u8]) -> Result<PublicKey, ReadError>
     ensures ok { IfOk result (λ key. HasKey text.now key) }
     ensures err { IfErr result (λ e. Refuses e (IsKeyFault text.now e)) }

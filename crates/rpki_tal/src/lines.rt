@@ -7,8 +7,8 @@ ghost use Rattle.rpki_tal.specs.Lines.{IsOneLine, IsLine};
 
 use std::alloc::{AllocError, Global};
 
-// The text of the first line, and what follows its line feed, or nothing where there is no line
-// feed.
+/// The text of the first line, and what follows its line feed, or nothing where there is no line
+/// feed.
 pub fn take_line(text: &[u8]) -> Option<(&[u8], &[u8])>
     ensures line { MatchOption result (IsOneLine text.now)
         (λ l. Front IsLine text.now l.0.now l.1.now) }
@@ -44,7 +44,7 @@ fn without_cr(line: &[u8]) -> &[u8]
     }
 }
 
-// The octets without those that may break base64 up.
+/// The octets without those that may break base64 up.
 pub fn without_blanks(alloc: Global, text: &[u8]) -> Result<Vec<u8>, AllocError>
     ensures { IfOk result (λ symbols. symbols.items ≡ without_blanks text.now) }
 {

@@ -38,7 +38,8 @@ impl Model for Tal {
 impl Tal {
     /// Reads the locator that is all the text of a source, to its end (RFC 8630, section 2.2), and
     /// gives it this name. `Io` comes exactly where a call of the source has failed; the other
-    /// refusals say what is wrong with the text, and `Memory` may come too.
+    /// refusals say what is wrong with the text, and `Memory` may come too. A source that does not
+    /// tell its octets may have given any text.
     pub fn read_named<S: Source>(
         alloc: Global,
         name: String,
@@ -71,9 +72,7 @@ impl Tal {
     {
         self.uris.sort_by_key(|uri| uri.is_rsync())
     }
-}
 
-impl Tal {
     /// The URIs under which the certificate of the trust anchor is published, in their order.
     pub fn uris(&self) -> Iter<'_, TalUri>
         ensures { iter_rest result ≡ self.now.uris }

@@ -10,7 +10,8 @@ use std::alloc::{AllocError, Global};
 use std::fmt;
 use std::hash::{Hash, Hasher};
 
-/// A URI under which the certificate of a trust anchor is published (RFC 8630, section 2.2).
+/// A URI under which the certificate of a trust anchor is published (RFC 8630, section 2.2). That
+/// the URI of a directory, which that section forbids, is not refused is this project's own rule.
 #[derive(Debug, Drop)]
 pub enum TalUri {
     /// An rsync URI (RFC 5781).
@@ -52,9 +53,7 @@ impl TalUri {
             },
         }
     }
-}
 
-impl TalUri {
     /// Whether it is an rsync URI.
     pub fn is_rsync(&self) -> bool
         ensures { result ≡ not (is_https self.now) }

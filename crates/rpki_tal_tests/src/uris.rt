@@ -77,8 +77,8 @@ fn kinds(rt: HostRuntime) -> Result<(), AllocError> {
     Ok(())
 }
 
-/// Whether a URI made of a part of it is equal to one that was read, to its clone, and found under
-/// it in a map, and another one is not.
+/// Whether a URI made of a part of it is equal to one that was read, and is found under it in a map
+/// by its clone, and another one is not.
 fn is_equal(alloc: Global, uri: TalUri, text: &str) -> Result<bool, uri::Error> {
     let read = TalUri::from_slice(alloc, text.as_bytes())?;
     let copy = uri.clone()?;

@@ -3,4 +3,6 @@
 
 pub mod peers;
 pub mod sets;
+#[cfg(test)]
+mod tests;
 pub mod values;

@@ -7,7 +7,7 @@
 //!     peers  SEQUENCE OF INTEGER (0..4294967295) }
 //! ```
 
-ghost use Rattle.std.specs.Prelude.{◌<◌, ◌^◌, length};
+ghost use Rattle.std.specs.Prelude.{◌≡◌, ◌<◌, ◌^◌, length};
 ghost use Rattle.std.specs.List.{flat_map};
 ghost use Rattle.rpki_der.specs.declared.mode.Mode.TheVariants.{Der};
 ghost use Rattle.rpki_der.specs.Tags.{IA5_STRING, INTEGER, SEQUENCE};
@@ -109,6 +109,22 @@ fn take_peers(cons: &mut Constructed<'_>, alloc: Global) -> Result<Peers, Decode
         peers.push(Asn::from_u32(peer))?;
     }
     Ok(Peers(peers))
+}
+
+impl PeerList {
+    /// The AS whose peers these are.
+    pub fn local(&self) -> Asn
+        ensures { result ≡ self.now.local }
+    {
+        self.local
+    }
+
+    /// Its peers, in the order of the list.
+    pub fn peers(&self) -> &[Asn]
+        ensures { result.now ≡ self.now.peers }
+    {
+        self.peers.0.as_slice()
+    }
 }
 
 impl Encode for Note {

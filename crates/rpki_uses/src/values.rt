@@ -1,11 +1,12 @@
 //! Times, keys and names, and cryptography of one's own.
 
-ghost use Rattle.std.specs.Prelude.{◌≡◌, ◌&&◌, ℕ, List, IfOk, Some, nat_le, bytes_eq};
+ghost use Rattle.std.specs.Prelude.{◌≡◌, ◌&&◌, ℕ, List, MatchResult, Some, nat_le, bytes_eq};
 ghost use Rattle.sha1.specs.Sha1.{sha1};
 ghost use Rattle.rpki_der.specs.declared.mode.Mode.TheVariants.{Der};
-ghost use Rattle.rpki_der.specs.Grammar.{Front};
+ghost use Rattle.rpki_der.specs.declared.encode.EncodeError.TheVariants.{Memory};
+ghost use Rattle.rpki_der.specs.Grammar.{Front, HasNoFront};
 ghost use Rattle.rpki_der.specs.Read.Parse.{◌>>=◌ as ◌and_then◌};
-ghost use Rattle.rpki_der.specs.Read.Reads.{Reads};
+ghost use Rattle.rpki_der.specs.Read.Reads.{Reads, Refuses};
 ghost use Rattle.rpki_keys.specs.KeyForm.{KeyForm};
 ghost use Rattle.rpki_keys.specs.NameForm.{key_name_octets};
 ghost use Rattle.rpki_basics.specs.Moment.{stamp};
@@ -15,6 +16,7 @@ use bytes::Bytes;
 use rpki_basics::{Crypto, Digest, KeyIdentifier, PublicKey, RpkiSignature, Time, Validity};
 use rpki_der::{Constructed, DecodeError, Encode, EncodeError};
 use std::alloc::Global;
+use std::marker::Model;
 
 /// Reads two times, one after the other, as those of a validity (RFC 5280, section 4.1.2.5).
 pub fn take_times(cons: &mut Constructed<'_>) -> Result<(Time, Time), DecodeError>
@@ -37,16 +39,19 @@ pub fn is_valid_at(validity: Validity, now: Time) -> bool
 
 /// The identifier of the key at the front of octets in DER.
 pub fn identifier_in(octets: Bytes) -> Result<KeyIdentifier, DecodeError>
-    ensures { IfOk result (λ identifier. (bits rest : List ℕ) × Front (KeyForm Der) octets bits rest
-        × (identifier ≡ sha1 bits)) }
+    ensures { MatchResult result
+        (λ identifier. (bits rest : List ℕ) × Front (KeyForm Der) octets bits rest
+        × (identifier ≡ sha1 bits))
+        (λ error. Refuses error (HasNoFront (KeyForm Der) octets)) }
 {
     let key = PublicKey::decode(octets)?;
     Ok(key.key_identifier())
 }
 
-/// The octets of the name of a key.
+/// The octets of the name of a key. Only memory may be wanting.
 pub fn name_of(alloc: Global, key: &PublicKey) -> Result<Vec<u8>, EncodeError>
-    ensures { IfOk result (λ octets. octets.items ≡ key_name_octets (sha1 key.now)) }
+    ensures { MatchResult result (λ octets. octets.items ≡ key_name_octets (sha1 key.now))
+        (λ error. error ≡ Memory) }
 {
     match key.to_subject_name(alloc) {
         Ok(name) => name.encode_ref().to_bytes(alloc),
@@ -55,16 +60,35 @@ pub fn name_of(alloc: Global, key: &PublicKey) -> Result<Vec<u8>, EncodeError>
 }
 
 /// Cryptography that says yes to signatures by one key alone.
+#[derive(Drop)]
 pub struct Pinned<C> {
     crypto: C,
     key: PublicKey,
 }
 
+impl<C> Model for Pinned<C> {
+    ghost use Rattle.std.specs.Prelude.{ℕ, List};
+
+    // The cryptography, and the bits of the key.
+    ghost Value = { C × List ℕ };
+
+    ghost view = { λ p. (p.crypto, p.key) };
+}
+
+impl<C> Pinned<C> {
+    /// What says yes to signatures by this key, where this cryptography does.
+    pub fn new(crypto: C, key: PublicKey) -> Pinned<C>
+        ensures { result ≡ (crypto, key) }
+    {
+        Pinned { crypto, key }
+    }
+}
+
 impl<C: Crypto> Crypto for Pinned<C> {
-    ghost digest_of = { λ p octets. C.digest_of p.crypto octets };
+    ghost digest_of = { λ p octets. C.digest_of p.0 octets };
 
     ghost is_signed = { λ p key message signature.
-        bytes_eq key p.key && C.is_signed p.crypto key message signature };
+        bytes_eq key p.1 && C.is_signed p.0 key message signature };
 
     fn digest(&self, octets: &[u8]) -> Digest {
         self.crypto.digest(octets)

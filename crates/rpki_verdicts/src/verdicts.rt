@@ -2,19 +2,27 @@
 
 ghost use Rattle.std.specs.Prelude.{◌≡◌, ◌↔◌, ◌++◌, ℕ, List, All, Contains, MatchOption, IsTrue};
 ghost use Rattle.rpki_verdicts.specs.Parts.{IsSpaced, HasParts, HasDigests};
-ghost use Rattle.rpki_verdicts.specs.Verdicts.{AreDigits, line_of, IsLine, AreVerdicts, digest_text};
-ghost use Rattle.rpki_verdicts.specs.Verdicts.{IsYes};
+ghost use Rattle.rpki_verdicts.specs.Verdicts.{AreDigits, line_of, IsLine, AreVerdicts};
+ghost use Rattle.rpki_verdicts.specs.Verdicts.{digest_text, IsYes};
 
 use hex::encode_to_slice;
 use sha2::{Digest, Sha256};
 use std::marker::Model;
 
-/// The octets of a line: three digests in hexadecimal digits, a space after each of the first two,
-/// and LF at the end.
-const LINE: usize = 195;
-
 /// The hexadecimal digits of a SHA-256 digest.
 const DIGITS: usize = 64;
+
+/// Where the digest of the message begins in a line: after that of the key and a space.
+const MESSAGE: usize = DIGITS + 1;
+
+/// Where the digest of the signature begins: after that of the message and a space.
+const SIGNATURE: usize = MESSAGE + DIGITS + 1;
+
+/// Where LF stands: after the digest of the signature.
+const END: usize = SIGNATURE + DIGITS;
+
+/// The octets of a line.
+const LINE: usize = END + 1;
 
 /// A list of verdicts: the triples of a key, a message and a signature to which the answer is yes.
 /// To every other triple it is no. It borrows its text, and takes no memory.
@@ -34,7 +42,8 @@ impl<'a> Model for Verdicts<'a> {
 impl<'a> Verdicts<'a> {
     /// The verdicts that a text lists, or `None` where it is no list of verdicts. Each line has the
     /// SHA-256 digests of a key, of a message and of a signature, in 64 lower hexadecimal digits
-    /// each, with one space between them and LF at the end. The empty text is a list of none.
+    /// each, with one space between them and LF at the end. Lines stand in any order, and may
+    /// repeat. The empty text is a list of none.
     pub fn read(text: &'a [u8]) -> Option<Verdicts<'a>>
         ensures { MatchOption result ((lines : List (List ℕ)) → AreVerdicts text.now lines → ⊥)
             (AreVerdicts text.now) }
@@ -50,8 +59,10 @@ impl<'a> Verdicts<'a> {
         }
     }
 
-    /// Whether the list says yes to this signature of the message by the key, whose octets are
-    /// handed in as two pieces.
+    /// Whether the list says yes to this signature of the message by the key: each line is looked
+    /// at, up to the first that fits. The octets of the key are those of its SubjectPublicKeyInfo,
+    /// as `PublicKey::to_info_bytes` of `rpki_keys` writes them, handed in as two pieces: those
+    /// before its bits, and its bits.
     pub fn verify(&self, key_head: &[u8], key_rest: &[u8], message: &[u8], signature: &[u8]) -> bool
         ensures { IsTrue result ↔ IsYes self.now
             (key_head.now ++ key_rest.now) message.now signature.now }
@@ -72,6 +83,7 @@ fn digest_text(first: &[u8], second: &[u8]) -> [u8; DIGITS]
     hasher.update(second);
     let digest = hasher.finalize();
     let mut text = [0; DIGITS];
+    // It fits: two digits for each of the 32 octets of a digest.
     let _ = encode_to_slice(digest, &mut text);
     text
 }
@@ -104,9 +116,9 @@ fn is_line_of(
     ensures { IsTrue result ↔ HasParts line.now key.now message.now signature.now }
 {
     is_spaced(line)
-        && &line[..64] == key.as_slice()
-        && &line[65..129] == message.as_slice()
-        && &line[130..194] == signature.as_slice()
+        && &line[..DIGITS] == key.as_slice()
+        && &line[MESSAGE..MESSAGE + DIGITS] == message.as_slice()
+        && &line[SIGNATURE..END] == signature.as_slice()
 }
 
 /// Whether each is a line of three digests.
@@ -127,16 +139,16 @@ fn is_line(line: &[u8; LINE]) -> bool
     ensures { IsTrue result ↔ HasDigests line.now }
 {
     is_spaced(line)
-        && are_digits(&line[..64])
-        && are_digits(&line[65..129])
-        && are_digits(&line[130..194])
+        && are_digits(&line[..DIGITS])
+        && are_digits(&line[MESSAGE..MESSAGE + DIGITS])
+        && are_digits(&line[SIGNATURE..END])
 }
 
 /// Whether a space stands after each of the first two digests, and LF at the end.
 fn is_spaced(line: &[u8; LINE]) -> bool
     ensures { IsTrue result ↔ IsSpaced line.now }
 {
-    line[64] == b' ' && line[129] == b' ' && line[194] == b'\n'
+    line[DIGITS] == b' ' && line[MESSAGE + DIGITS] == b' ' && line[END] == b'\n'
 }
 
 /// Whether each is a lower hexadecimal digit.

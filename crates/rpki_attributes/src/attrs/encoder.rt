@@ -34,7 +34,7 @@ impl<'a> SignedAttrsEncoder<'a> {
         SignedAttrsEncoder { attrs }
     }
 
-    /// The attributes under their header.
+    // The attributes under their header.
     fn value(&self) -> Value<Raw<'a>>
         ensures tag { result.tag.octet ≡ context 0 }
         ensures contents { result.contents.0.now ≡ self.now.attributes.contents }

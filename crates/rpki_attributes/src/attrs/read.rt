@@ -19,7 +19,7 @@ use rpki_basics::Time;
 use rpki_der::{Captured, Constructed, ContentFault, DecodeError, Mode, Oid, Reason, Tag};
 use std::alloc::Global;
 
-/// The type of the content (RFC 5652, section 11.1).
+// The type of the content (RFC 5652, section 11.1).
 fn content_type(list: &[Attribute], mode: Mode) -> Result<Oid, DecodeError>
     ensures { Tells (λ oid. oid) (said_by id_content_type oid_at mode list.now) result }
 {
@@ -28,7 +28,7 @@ fn content_type(list: &[Attribute], mode: Mode) -> Result<Oid, DecodeError>
     Constructed::decode_all(values, mode, |cons| cons.take_oid())
 }
 
-/// The digest of the content (RFC 5652, section 11.2).
+// The digest of the content (RFC 5652, section 11.2).
 fn message_digest(
     list: &[Attribute],
     mode: Mode,
@@ -43,7 +43,7 @@ fn message_digest(
     Ok(MessageDigest::from(octets))
 }
 
-/// When the content was signed (RFC 5652, section 11.3).
+// When the content was signed (RFC 5652, section 11.3).
 fn signing_time(list: &[Attribute], mode: Mode) -> Result<Time, DecodeError>
     ensures { Tells (λ t. t) (said_by id_signing_time time_at mode list.now) result }
 {
@@ -52,7 +52,7 @@ fn signing_time(list: &[Attribute], mode: Mode) -> Result<Time, DecodeError>
     Constructed::decode_all(values, mode, |cons| Time::take_from(cons))
 }
 
-/// What these attributes say.
+// What these attributes say.
 #[tactic(auto, unfolding(crate::specs::AttrsRead::fields_of))]
 fn fields_of(
     contents: Bytes,
@@ -73,7 +73,7 @@ fn fields_of(
     })
 }
 
-/// What these attributes say, if they are not too many octets.
+// What these attributes say, if they are not too many octets.
 #[tactic(auto, unfolding(crate::specs::AttrsRead::says_of))]
 fn says_of(
     contents: Bytes,
@@ -90,7 +90,7 @@ fn says_of(
     }
 }
 
-/// Reads the attributes, and keeps their octets.
+// Reads the attributes, and keeps their octets.
 fn take_kept(
     cons: &mut Constructed<'_>,
     alloc: Global,
@@ -101,7 +101,7 @@ fn take_kept(
     cons.capture_with(|cons| take_list(cons, alloc, others))
 }
 
-/// Reads the attributes, and what they say.
+// Reads the attributes, and what they say.
 fn take_contents(
     cons: &mut Constructed<'_>,
     alloc: Global,

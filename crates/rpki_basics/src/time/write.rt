@@ -100,7 +100,7 @@ impl Time {
     }
 
     /// The time as UTCTime in the years 1950 to 2049, and else as GeneralizedTime (RFC 5280,
-    /// section 4.1.2.5).
+    /// section 4.1.2.5; before 1950 RFC 5652, section 11.3).
     pub fn encode_ref(&self) -> TimeEncoder
         ensures octets { result ≡ time_octets self.now }
         ensures written { TimeForm Der (time_octets self.now) self.now }

@@ -1,6 +1,7 @@
-//! What texts are tested for.
+//! The syntax of URIs, as tests on octets (RFC 3986, section 3).
 
-ghost use Rattle.std.specs.Prelude.{◌≡◌, ◌↔◌, ◌∷◌, ℕ, List, length, map, MatchOption, IsTrue};
+ghost use Rattle.std.specs.Prelude.{◌≡◌, ◌↔◌, ◌++◌, ℕ, List, codes, length, map, MatchOption};
+ghost use Rattle.std.specs.Prelude.{IsTrue};
 ghost use Rattle.std.specs.Char.{to_ascii_lowercase};
 ghost use Rattle.std.specs.List.{list_all};
 ghost use Rattle.rpki_basics.specs.Segments.{segments};
@@ -51,8 +52,8 @@ pub fn behind_scheme<'a>(scheme: &[u8], text: &'a [u8]) -> Option<&'a [u8]>
 
 // What follows two slashes.
 fn behind_slashes(text: &[u8]) -> Option<&[u8]>
-    ensures { MatchOption result ((rest : List ℕ) → text.now ≡ 47 ∷ 47 ∷ rest → ⊥)
-        (λ rest. text.now ≡ 47 ∷ 47 ∷ rest.now) }
+    ensures { MatchOption result ((rest : List ℕ) → text.now ≡ codes "//" ++ rest → ⊥)
+        (λ rest. text.now ≡ codes "//" ++ rest.now) }
 {
     match text {
         [b'/', b'/', rest @ ..] => Some(rest),
@@ -113,7 +114,7 @@ fn is_rsync(text: &[u8]) -> bool
     }
 }
 
-// Whether these are an authority and anything.
+// Whether these are an authority, and anything after it.
 fn is_https(text: &[u8]) -> bool
     ensures { result ≡ are_https_segments (segments text.now) }
 {
@@ -121,7 +122,7 @@ fn is_https(text: &[u8]) -> bool
     !authority.is_empty()
 }
 
-// Whether an rsync URI goes on so behind its scheme.
+// Whether the octets behind `rsync:` are two slashes, an authority, a module and a path.
 pub fn goes_on_as_rsync(text: &[u8]) -> bool
     ensures { IsTrue result ↔ GoesOn AreRsyncSegments text.now }
 {
@@ -131,7 +132,7 @@ pub fn goes_on_as_rsync(text: &[u8]) -> bool
     }
 }
 
-// Whether an https URI goes on so behind its scheme.
+// Whether the octets behind `https:` are two slashes, an authority, and anything after it.
 pub fn goes_on_as_https(text: &[u8]) -> bool
     ensures { IsTrue result ↔ GoesOn AreHttpsSegments text.now }
 {

@@ -4,7 +4,7 @@ ghost use Rattle.std.specs.Prelude.{◌≡◌, ◌<◌, ◌^◌, length};
 ghost use Rattle.rpki_der.specs.Tags.{SEQUENCE, context};
 ghost use Rattle.rpki_der.specs.Write.Parts.{contents_small};
 ghost use Rattle.rpki_der.specs.Write.Written.{number_octets, value_octets};
-ghost use Rattle.rpki_command.specs.AspaWritten.{version_octets, providers_octets};
+ghost use Rattle.rpki_command.specs.Aspa.Written.{version_octets, providers_octets};
 
 use crate::aspa::AsProviderAttestation;
 use rpki_der::encode::{each, integer, sequence, tagged};
@@ -48,7 +48,7 @@ impl<'a> AsProviderAttestationEncoder<'a> {
 }
 
 impl<'a> Encode for AsProviderAttestationEncoder<'a> {
-    ghost use Rattle.rpki_command.specs.AspaWritten.{aspa_contents, aspa_octets};
+    ghost use Rattle.rpki_command.specs.Aspa.Written.{aspa_contents, aspa_octets};
 
     ghost octets = { aspa_octets };
 

@@ -6,7 +6,7 @@ ghost use Rattle.rpki_der.specs.Tags.{SEQUENCE};
 ghost use Rattle.rpki_der.specs.Read.Parse.{in_value};
 ghost use Rattle.rpki_der.specs.Read.Reads.{Reads};
 ghost use Rattle.rpki_command.specs.Aspa.{IsProviderSet};
-ghost use Rattle.rpki_command.specs.AspaRead.{MayBegin, AreProviders, providers_at};
+ghost use Rattle.rpki_command.specs.Aspa.Read.{MayBegin, AreProviders, providers_at};
 
 use rpki_der::{Constructed, ContentFault, DecodeError, Reason};
 use rpki_resources::Asn;

@@ -42,9 +42,9 @@ long_at k mode bytes =
 unfoldable pub length_at : Parser ℕ
 length_at mode [] = None
 length_at mode (b ∷ rest) =
-    if nat_lt b 128 then Some
-    (b, rest) else if nat_lt b 129 then None else if nat_lt 132 b then None else long_at
-    (b - 128) mode rest
+    if nat_lt b 0x80 then Some
+    (b, rest) else if nat_lt b 0x81 then None else if nat_lt 0x84 b then None else long_at
+    (b - 0x80) mode rest
 
 -- the contents after a length, and what follows them
 unfoldable pub contents_at : Parser (List ℕ)
@@ -55,7 +55,7 @@ contents_at mode bytes = do
 -- one step after this identifier and this octet of a length
 unfoldable pub value_step : ℕ → ℕ → ℕ → List ℕ → Option (Option ℕ × List ℕ)
 value_step depth t l b =
-    if is_tag t then (if l == 128 then
+    if is_tag t then (if l == 0x80 then
     (if is_constructed t then Some (Some (suc depth), b) else None) else contents_at Ber (l ∷ b)
     >>= λ v. Some (Some depth, v.1)) else None
 
@@ -103,7 +103,7 @@ indefinite_at tag Ber bytes =
 unfoldable pub body_at : ℕ → Parser (List ℕ)
 body_at tag mode [] = None
 body_at tag mode (l ∷ bytes) =
-    if is_tag tag then (if l == 128 then indefinite_at tag mode bytes else contents_at mode
+    if is_tag tag then (if l == 0x80 then indefinite_at tag mode bytes else contents_at mode
     (l ∷ bytes)) else None
 
 -- the contents of a value with this tag, and what follows the value

@@ -39,8 +39,8 @@ not_negative (d ∷ ds) = if nat_lt d 128 then d ∷ ds else 0 ∷ d ∷ ds
 abbrev pub integer_contents : List ℕ → List ℕ
 integer_contents digits = not_negative (significant digits)
 
--- X.690, 8.6.2: how many bits of the last octet are not used: 7 at most, and none where there is no
--- octet
+-- How many bits of the last octet are not used: 7 at most, and none where there is no octet (X.690,
+-- 8.6.2). That a greater number is taken for these is this project's own rule.
 abbrev pub unused_bits : List ℕ → ℕ → ℕ
 unused_bits [] unused = 0
 unused_bits (octet ∷ octets) unused = if nat_lt unused 8 then unused else 7

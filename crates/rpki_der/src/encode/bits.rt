@@ -1,3 +1,5 @@
+//! Strings of bits, as they are written.
+
 ghost use Rattle.std.specs.Prelude.{◌≡◌, ◌^◌, ◌<◌, ◌-◌, ◌%◌};
 ghost use Rattle.rpki_der.specs.Tags.{BIT_STRING};
 ghost use Rattle.rpki_der.specs.Write.Written.{bit_string_contents, unused_bits, zero_bits};
@@ -40,7 +42,7 @@ impl Encode for Bits<'_> {
     }
 }
 
-/// How many bits of the last octet are not used.
+// How many bits of the last octet are not used.
 fn unused_bits(octets: &[u8], unused: u8) -> u8
     ensures value { result ≡ unused_bits octets.now unused }
     ensures few { result < 8 }
@@ -54,7 +56,7 @@ fn unused_bits(octets: &[u8], unused: u8) -> u8
     }
 }
 
-/// An octet with zeros for its `unused` lowest bits, 7 at most.
+// An octet with zeros for its `unused` lowest bits, 7 at most.
 fn zero_bits(octet: u8, unused: u8) -> u8
     requires { unused < 8 }
     ensures { result ≡ zero_bits octet unused }

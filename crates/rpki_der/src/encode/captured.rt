@@ -1,3 +1,5 @@
+//! Captured octets, as they are written.
+
 ghost use Rattle.std.specs.Prelude.{◌≡◌};
 ghost use Rattle.rpki_der.specs.declared.mode.Mode.TheVariants.{Der};
 

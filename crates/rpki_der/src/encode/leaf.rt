@@ -1,3 +1,5 @@
+//! Values without values in them, as they are written.
+
 ghost use Rattle.std.specs.Prelude.{◌≡◌, []};
 ghost use Rattle.rpki_der.specs.Tags.{BOOLEAN, OCTET_STRING, NULL, OBJECT_IDENTIFIER, IA5_STRING};
 ghost use Rattle.rpki_der.specs.Write.Written.{boolean_contents};
@@ -7,7 +9,8 @@ use crate::encode::value::Value;
 use crate::oid::Oid;
 use crate::tag::Tag;
 
-/// A value with this tag and these contents (X.690, section 8.1.1).
+/// A value with this tag, primitive or constructed, and these contents, which are written as they
+/// are (X.690, section 8.1.1).
 pub fn primitive(tag: Tag, octets: &[u8]) -> Value<Raw<'_>>
     ensures tag { result.tag ≡ tag }
     ensures contents { result.contents.0.now ≡ octets.now }

@@ -1,3 +1,5 @@
+//! References, options and lists, as they are written.
+
 ghost use Rattle.std.specs.Prelude.{◌≡◌, All};
 ghost use Rattle.std.specs.List.{flat_map};
 ghost use Rattle.rpki_der.specs.Write.Parts.{optional_octets, IsEach, optional_small, each_small};

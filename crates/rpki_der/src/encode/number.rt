@@ -1,3 +1,5 @@
+//! Numbers, as they are written.
+
 ghost use Rattle.std.specs.Prelude.{◌≡◌};
 ghost use Rattle.rpki_der.specs.Tags.{INTEGER};
 ghost use Rattle.rpki_der.specs.Write.Written.{significant, integer_contents, number_octets};
@@ -45,7 +47,7 @@ impl Encode for Digits<'_> {
     }
 }
 
-/// The digits without zeros in front.
+// The digits without zeros in front.
 #[inline(always)]
 fn significant(digits: &[u8]) -> &[u8]
     ensures { result.now ≡ significant digits.now }

@@ -1,3 +1,5 @@
+//! Octets that are written as they are.
+
 use crate::encode::{Encode, EncodeError};
 use crate::stream::{Sink, SinkFailed};
 

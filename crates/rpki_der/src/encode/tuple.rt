@@ -1,3 +1,5 @@
+//! Values that are written one after another.
+
 ghost use Rattle.std.specs.Prelude.{◌++◌};
 ghost use Rattle.rpki_der.specs.Write.Parts.{pair_small};
 

@@ -1,3 +1,5 @@
+//! A value round its contents, as it is written.
+
 ghost use Rattle.std.specs.Prelude.{◌∷◌, ◌≡◌, ℕ, ◌+◌, ◌<◌, ◌≤◌, ◌^◌, length, OnOk, OnErr};
 ghost use Rattle.std.specs.Io.KnownBytes.{Appends};
 ghost use Rattle.rpki_der.specs.Tags.{SEQUENCE, SET};
@@ -101,7 +103,7 @@ impl Encode for Header {
     }
 }
 
-/// How many octets a length has.
+// How many octets a length has.
 #[tactic(auto, unfolding(crate::specs::Write::Written::length_octets))]
 #[inline(always)]
 fn length_size(n: u32) -> u64
@@ -121,7 +123,7 @@ fn length_size(n: u32) -> u64
     }
 }
 
-/// How many contents octets there are in a value of this length.
+// How many contents octets there are in a value of this length.
 #[tactic(auto, unfolding(crate::specs::Write::Written::length_octets))]
 #[inline(always)]
 fn contents_len(len: u64) -> u64
@@ -137,7 +139,7 @@ fn contents_len(len: u64) -> u64
     len.saturating_sub(header)
 }
 
-/// Writes an identifier and a length, in one call of the sink.
+// Writes an identifier and a length, in one call of the sink.
 #[tactic(auto, unfolding(crate::specs::Write::Written::length_octets))]
 #[inline(always)]
 fn put_header<W: Sink>(tag: u8, n: u32, out: &mut W) -> Result<(), SinkFailed>

@@ -8,14 +8,14 @@ ghost use Rattle.rpki_der.specs.Read.Parse.{Finds};
 
 use std::fmt;
 
-/// Each printed arc is below this.
+// Each printed arc is below this.
 const LIMIT: u64 = 1 << 32;
 
-/// The first subidentifier is below this: from 80 on it stands for the arcs 2 and itself without
-/// 80.
+// The first subidentifier is below this: from 80 on it stands for the arcs 2 and itself without
+// 80.
 const FIRST_LIMIT: u64 = LIMIT + 80;
 
-/// The first subidentifier and what follows it, if it is below the limit.
+// The first subidentifier and what follows it, if it is below the limit.
 #[tactic(auto, unfolding(crate::specs::Text::Arcs::first_below))]
 fn subidentifier(limit: u64, octets: &[u8]) -> Option<(u64, &[u8])>
     requires { limit ≤ 2 ^ 40 }
@@ -37,7 +37,7 @@ fn subidentifier(limit: u64, octets: &[u8]) -> Option<(u64, &[u8])>
     None
 }
 
-/// Whether each subidentifier has at most 32 bits.
+// Whether each subidentifier has at most 32 bits.
 fn are_small(octets: &[u8]) -> bool
     requires { is_whole octets.now ≡ true }
     ensures { result ≡ are_small (subidentifiers 0 octets.now) }

@@ -49,7 +49,7 @@ impl<'a> Model for Constructed<'a> {
     ghost view = { λ s. record { mode = s.mode; rest = s.rest; failed = s.failed } };
 }
 
-/// The error twice, or `Memory` twice where no copy of it is to be had.
+// The error twice, or `Memory` twice where no copy of it is to be had.
 fn twice(error: DecodeError) -> (DecodeError, DecodeError)
     ensures again { IsAgain error result.0 }
     ensures same { result.1 ≡ result.0 }
@@ -87,6 +87,7 @@ impl<'a> Constructed<'a> {
 
     /// Refuses what was read for this reason, by a rule of the caller's own, as `fail` does.
     pub fn refuse_for(&mut self, reason: Reason) -> DecodeError
+        ensures again { IsAgain (unwrap_or self.old.failed (Content (Text reason))) result }
         ensures reason { self.old.failed ≡ None → result ≡ Content (Text reason) }
         ensures stays { self.new ≡ failing self.old result }
     {
@@ -119,7 +120,7 @@ impl<'a> Constructed<'a> {
         }
     }
 
-    /// Answers the error of this reader again, if it has one.
+    // Answers the error of this reader again, if it has one.
     fn repeat(&mut self) -> Result<(), DecodeError>
         ensures ok { OnOk result ((self.old.failed ≡ None) × (self.new ≡ self.old)) }
         ensures err { OnErr result
@@ -141,7 +142,7 @@ impl<'a> Constructed<'a> {
         self.rest.as_slice()
     }
 
-    /// The part of the source that is left.
+    // The part of the source that is left.
     fn window(&self) -> Window<'a>
         ensures { result ≡ self.now.rest }
     {
@@ -169,7 +170,7 @@ impl<'a> Constructed<'a> {
         Ok(self.rest().is_empty())
     }
 
-    /// What is left are octets: numbers below 256.
+    /// What is left are octets: numbers below 256. The call does nothing: it is a law for proofs.
     pub fn holds_octets(&self)
         ensures { IsBytes self.now.rest }
     {
@@ -230,7 +231,7 @@ impl<'a> Constructed<'a> {
         }
     }
 
-    /// Takes the error of this reader, or that something is left.
+    // Takes the error of this reader, or that something is left.
     fn unfinished(&mut self) -> Option<DecodeError>
         ensures { result ≡ unfinished self.old.failed self.old.rest }
     {
@@ -244,7 +245,7 @@ impl<'a> Constructed<'a> {
         }
     }
 
-    /// Reads all of the contents of this reader.
+    // Reads all of the contents of this reader.
     fn run<T: Drop, F: FnOnce(&mut Constructed<'_>) -> Result<T, DecodeError>>(
         &mut self,
         op: F,
@@ -262,7 +263,7 @@ impl<'a> Constructed<'a> {
         }
     }
 
-    /// Takes the error of this reader.
+    // Takes the error of this reader.
     fn take_error(&mut self) -> Option<DecodeError>
         ensures result { result ≡ self.old.failed }
         ensures new { self.new ≡ record self.old { failed = None } }
@@ -274,7 +275,7 @@ impl<'a> Constructed<'a> {
         }
     }
 
-    /// Reads what stands at the front.
+    // Reads what stands at the front.
     fn run_front<T: Drop, F: FnOnce(&mut Constructed<'_>) -> Result<T, DecodeError>>(
         &mut self,
         op: F,
@@ -295,8 +296,8 @@ impl<'a> Constructed<'a> {
     }
 
     /// Reads what stands at the front of the source, by the rules of the mode (X.690, section 8,
-    /// and 10 for DER). What op leaves stands after it. Refuses by the error of op, or by that
-    /// which op's reader has answered.
+    /// and 10 and 11.1 for DER). What `op` leaves stands after it. Refuses by the error of `op`, or
+    /// by that which its reader has answered.
     pub fn decode<T: Drop, F: FnOnce(&mut Constructed<'_>) -> Result<T, DecodeError>>(
         source: Bytes,
         mode: Mode,
@@ -316,8 +317,8 @@ impl<'a> Constructed<'a> {
     }
 
     /// Reads all of the source, by the rules of the mode, as the contents of a value. Refuses by
-    /// `Malformed` where op leaves a part of it, and else by the error of op, or by that which op's
-    /// reader has answered.
+    /// `Malformed` where `op` leaves a part of it, and else by the error of `op`, or by that which
+    /// its reader has answered.
     pub fn decode_all<T: Drop, F: FnOnce(&mut Constructed<'_>) -> Result<T, DecodeError>>(
         source: Bytes,
         mode: Mode,
@@ -336,9 +337,9 @@ impl<'a> Constructed<'a> {
         outer.run(op)
     }
 
-    /// Opens the value in front, which has this tag (X.690, sections 8.1 and 8.14). op reads its
-    /// contents, all of them. Refuses by `Malformed` where another value stands there or op leaves
-    /// a part of the contents, and else by op's error.
+    /// Opens the value in front, which has this tag (X.690, sections 8.1 and 8.14). `op` reads its
+    /// contents, all of them. Refuses by `Malformed` where another value stands there or `op`
+    /// leaves a part of the contents, and else by the error of `op`.
     pub fn take_constructed_if<T: Drop, F: FnOnce(&mut Constructed<'_>) -> Result<T, DecodeError>>(
         &mut self,
         tag: Tag,
@@ -367,8 +368,10 @@ impl<'a> Constructed<'a> {
         F: FnOnce(&mut Constructed<'_>) -> Result<T, DecodeError>,
     >(&mut self, tag: Tag, op: F) -> Result<Option<T>, DecodeError>
         requires { F.IsAlwaysCallable op }
-        ensures { OpensIfNext tag.octet
+        ensures opens { OpensIfNext tag.octet
             (λ s r after. FnOnceReturnsAtMut F.FnOnce op s r after) self.old result self.new }
+        ensures shorter { IfOk result
+            (λ t. IfSome t (λ _. length self.new.rest < length self.old.rest)) }
     {
         self.check()?;
         if self.is_next(tag) {
@@ -393,7 +396,7 @@ impl<'a> Constructed<'a> {
         self.take_constructed_if(Tag::SEQUENCE, op)
     }
 
-    /// Opens the SET in front (X.690, sections 8.11 and 8.12), as `take_constructed_if` does. op
+    /// Opens the SET in front (X.690, sections 8.11 and 8.12), as `take_constructed_if` does. `op`
     /// reads its members in the order in which they stand.
     pub fn take_set<T: Drop, F: FnOnce(&mut Constructed<'_>) -> Result<T, DecodeError>>(
         &mut self,
@@ -413,14 +416,16 @@ impl<'a> Constructed<'a> {
         op: F,
     ) -> Result<Option<T>, DecodeError>
         requires { F.IsAlwaysCallable op }
-        ensures { OpensIfNext SEQUENCE
+        ensures opens { OpensIfNext SEQUENCE
             (λ s r after. FnOnceReturnsAtMut F.FnOnce op s r after) self.old result self.new }
+        ensures shorter { IfOk result
+            (λ t. IfSome t (λ _. length self.new.rest < length self.old.rest)) }
     {
         self.take_opt_constructed_if(Tag::SEQUENCE, op)
     }
 
-    /// Keeps the octets of the source that op reads, as they stand there, and the mode. Refuses by
-    /// the error of op, or by `Memory`.
+    /// Keeps the octets of the source that `op` reads, as they stand there, and the mode. Refuses
+    /// by the error of `op`, or by `Memory`.
     pub fn capture<F: FnOnce(&mut Constructed<'_>) -> Result<(), DecodeError>>(
         &mut self,
         op: F,
@@ -435,7 +440,7 @@ impl<'a> Constructed<'a> {
         }
     }
 
-    /// Keeps the octets of the source that op reads, as `capture` does, beside what op answers.
+    /// Keeps the octets of the source that `op` reads, as `capture` does, beside what `op` answers.
     pub fn capture_with<T: Drop, F: FnOnce(&mut Constructed<'_>) -> Result<T, DecodeError>>(
         &mut self,
         op: F,

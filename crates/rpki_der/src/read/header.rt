@@ -12,7 +12,7 @@ use crate::mode::Mode;
 use crate::read::integer::number_in;
 use crate::tag::{Tag, is_tag};
 
-/// The length, unless it is not in the shortest form.
+// The length, unless it is not in the shortest form.
 #[inline(always)]
 fn shortest_of(mode: Mode, least: usize, len: usize, rest: &[u8]) -> Option<(usize, &[u8])>
     ensures { Finds (λ r. (r.0, r.1.now)) result (shortest mode least len rest.now) }
@@ -23,18 +23,20 @@ fn shortest_of(mode: Mode, least: usize, len: usize, rest: &[u8]) -> Option<(usi
     }
 }
 
+// The least length that has a long form of `k` octets as its shortest one.
 #[inline(always)]
 fn least(k: usize) -> usize
     ensures { result ≡ least k }
 {
     match k {
-        1 => 128,
-        2 => 256,
-        3 => 65536,
-        _ => 16777216,
+        1 => 0x80,
+        2 => 0x100,
+        3 => 0x1_0000,
+        _ => 0x100_0000,
     }
 }
 
+// A length of `k` octets, and what follows it.
 #[tactic(auto, unfolding(crate::specs::Read::Parse::long_at, crate::specs::Read::Parse::number_of))]
 #[inline(always)]
 fn long_of(mode: Mode, k: usize, bytes: &[u8]) -> Option<(usize, &[u8])>
@@ -49,6 +51,7 @@ fn long_of(mode: Mode, k: usize, bytes: &[u8]) -> Option<(usize, &[u8])>
     shortest_of(mode, least(k), len as usize, rest)
 }
 
+// A length, and what follows it.
 #[tactic(auto, unfolding(crate::specs::Read::Parse::length_at))]
 #[inline(always)]
 fn length_of(mode: Mode, bytes: &[u8]) -> Option<(usize, &[u8])>
@@ -57,17 +60,18 @@ fn length_of(mode: Mode, bytes: &[u8]) -> Option<(usize, &[u8])>
     match bytes {
         [] => None,
         [b, rest @ ..] => {
-            if *b < 128 {
+            if *b < 0x80 {
                 Some((*b as usize, rest))
-            } else if *b < 129 || *b > 132 {
+            } else if *b < 0x81 || *b > 0x84 {
                 None
             } else {
-                long_of(mode, *b as usize - 128, rest)
+                long_of(mode, *b as usize - 0x80, rest)
             }
         }
     }
 }
 
+// The contents after a length, and what follows them.
 #[tactic(auto, unfolding(crate::specs::Read::Parse::contents_at))]
 #[inline(always)]
 fn contents_of(mode: Mode, bytes: &[u8]) -> Option<(&[u8], &[u8])>
@@ -88,13 +92,14 @@ pub fn is_constructed(t: u8) -> bool
     t % 64 >= 32
 }
 
+// How many values are open after an end, if any value is.
 fn outer(depth: usize) -> Option<usize>
     ensures { result ≡ outer depth }
 {
     if depth == 0 { None } else { Some(depth - 1) }
 }
 
-/// Past an end, past a value of definite length, or into one of indefinite length.
+// Past an end, past a value of definite length, or into one of indefinite length.
 #[tactic(auto, unfolding(crate::specs::Read::Parse::step, crate::specs::Read::Parse::value_step))]
 fn step(depth: usize, bytes: &[u8]) -> Option<(Option<usize>, &[u8])>
     requires { depth + 1 < 2 ^ 64 }
@@ -113,7 +118,7 @@ fn step(depth: usize, bytes: &[u8]) -> Option<(Option<usize>, &[u8])>
                 }
             } else if !is_tag(*t) {
                 None
-            } else if l == 128 {
+            } else if l == 0x80 {
                 if is_constructed(*t) {
                     Some((Some(depth + 1), &rest[1..]))
                 } else {
@@ -127,7 +132,7 @@ fn step(depth: usize, bytes: &[u8]) -> Option<(Option<usize>, &[u8])>
     }
 }
 
-/// What follows the end of the contents of an indefinite value.
+// What follows the end of the contents of an indefinite value.
 fn end_of(bytes: &[u8]) -> Option<&[u8]>
     ensures { Finds (λ r. r.now) result (end_of 0 bytes.now) }
 {
@@ -144,6 +149,7 @@ fn end_of(bytes: &[u8]) -> Option<&[u8]>
     }
 }
 
+// The contents up to their end, in BER, and what follows the end.
 #[tactic(auto, using(crate::proofs::Reading::Scan::end_room), unfolding(crate::specs::Read::Parse::indefinite_at))]
 fn indefinite_of(mode: Mode, tag: u8, bytes: &[u8]) -> Option<(&[u8], &[u8])>
     ensures { Finds (λ r. (r.0.now, r.1.now)) result (indefinite_at tag mode bytes.now) }
@@ -160,6 +166,7 @@ fn indefinite_of(mode: Mode, tag: u8, bytes: &[u8]) -> Option<(&[u8], &[u8])>
     }
 }
 
+// The contents after this identifier, and what follows the value.
 #[tactic(auto, unfolding(crate::specs::Read::Parse::body_at))]
 #[inline(always)]
 fn body_of(mode: Mode, tag: u8, bytes: &[u8]) -> Option<(&[u8], &[u8])>
@@ -170,7 +177,7 @@ fn body_of(mode: Mode, tag: u8, bytes: &[u8]) -> Option<(&[u8], &[u8])>
         [l, rest @ ..] => {
             if !is_tag(tag) {
                 None
-            } else if *l == 128 {
+            } else if *l == 0x80 {
                 indefinite_of(mode, tag, rest)
             } else {
                 contents_of(mode, bytes)
@@ -179,6 +186,7 @@ fn body_of(mode: Mode, tag: u8, bytes: &[u8]) -> Option<(&[u8], &[u8])>
     }
 }
 
+// The contents of the value in front, which has this tag, and what follows the value.
 #[tactic(auto, unfolding(crate::specs::Read::Parse::value_at))]
 #[inline(always)]
 fn value_of(mode: Mode, tag: Tag, bytes: &[u8]) -> Option<(&[u8], &[u8])>
@@ -221,6 +229,6 @@ pub fn place_of(mode: Mode, tag: Tag, bytes: &[u8]) -> Option<(usize, usize, usi
 {
     let (contents, after) = value_of(mode, tag, bytes)?;
     let next = bytes.len() - after.len();
-    let end = if bytes[1] == 128 { next - 2 } else { next };
+    let end = if bytes[1] == 0x80 { next - 2 } else { next };
     Some((end - contents.len(), end, next))
 }

@@ -22,8 +22,8 @@ pub fn number_in(digits: &[u8]) -> Option<u32>
     }
 }
 
-/// The digits to base 256 of a number that is not negative, from its shortest contents: without the
-/// 0 that says so.
+// The digits to base 256 of a number that is not negative, from its shortest contents: without the
+// 0 that says so.
 #[tactic(auto, unfolding(crate::specs::Read::Parse::digits_of))]
 #[inline(always)]
 fn digits_of(contents: &[u8]) -> Option<&[u8]>
@@ -58,7 +58,7 @@ pub fn u8_of(contents: &[u8]) -> Option<u8>
     }
 }
 
-/// Twenty digits to base 256, the highest one first: these, after zeros.
+// Twenty digits to base 256, the highest one first: these, after zeros.
 #[tactic(auto, unfolding(crate::specs::Read::Parse::number_of))]
 fn padded(digits: &[u8]) -> Option<[u8; 20]>
     ensures { Finds (λ octets. number 0 octets) result (number_of 20 digits.now) }

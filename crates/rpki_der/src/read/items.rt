@@ -9,8 +9,7 @@ use std::alloc::Global;
 
 /// What stands in a SEQUENCE OF or a SET OF (X.690, sections 8.10 and 8.12): values with one tag.
 pub trait ListItem: Sized {
-    ghost use Rattle.std.specs.Prelude.{◌≡◌, ◌<◌, ℕ, List, length, Some};
-    ghost use Rattle.rpki_der.specs.declared.mode.Mode.{Mode};
+    ghost use Rattle.std.specs.Prelude.{◌<◌, ℕ, length, IfOk, IfSome};
     ghost use Rattle.rpki_der.specs.Read.Parse.{Parser, optional};
 
     // The tag of each.
@@ -19,14 +18,13 @@ pub trait ListItem: Sized {
     // What reads one.
     ghost at: { Parser Self };
 
-    // Each has an octet at least.
-    ghost shorter: { (mode : Mode) (octets : List ℕ) (item : Self) (rest : List ℕ)
-        → at mode octets ≡ Some (item, rest) → length rest < length octets };
-
     /// Takes the value in front if it has the tag. Refuses by `Malformed` or the `Content` fault
-    /// where it has the tag and is not of the form, or by `Memory`.
+    /// where it has the tag and is not of the form, or by `Memory`. A value that is taken has an
+    /// octet at least.
     fn take_opt_from(cons: &mut Constructed<'_>, alloc: Global) -> Result<Option<Self>, DecodeError>
-        ensures { Reads (λ item. item) (optional tag at) cons.old result cons.new };
+        ensures reads { Reads (λ item. item) (optional tag at) cons.old result cons.new }
+        ensures shorter { IfOk result
+            (λ item. IfSome item (λ _. length cons.new.rest < length cons.old.rest)) };
 }
 
 impl<'a> Constructed<'a> {
@@ -34,7 +32,8 @@ impl<'a> Constructed<'a> {
     /// they stand (X.690, sections 8.10 and 8.12). Refuses as the items do, or by `Memory`.
     #[tactic(auto, using(crate::proofs::Reading::Marked::reads_marked))]
     pub fn take_items<T: ListItem + Drop>(&mut self, alloc: Global) -> Result<Vec<T>, DecodeError>
-        ensures reads { Reads (λ items. items.items) (items_at T.tag T.at) self.old result self.new }
+        ensures reads { Reads (λ items. items.items) (items_at T.tag T.at)
+            self.old result self.new }
         ensures stays { Stays result self.new }
     {
         match self.gather(alloc) {
@@ -43,7 +42,7 @@ impl<'a> Constructed<'a> {
         }
     }
 
-    /// Takes the items, and leaves the reader as the refusal of an item leaves it.
+    // Takes the items, and leaves the reader as the refusal of an item leaves it.
     fn gather<T: ListItem + Drop>(&mut self, alloc: Global) -> Result<Vec<T>, DecodeError>
         ensures { Reads (λ items. items.items) (items_at T.tag T.at) self.old result self.new }
     {

@@ -38,6 +38,8 @@ impl<'a> Constructed<'a> {
     /// `Malformed`.
     pub fn take_opt_u8(&mut self) -> Result<Option<u8>, DecodeError>
         ensures reads { Reads (λ n. n) (optional INTEGER u8_at) self.old result self.new }
+        ensures shorter { IfOk result
+            (λ n. IfSome n (λ _. length self.new.rest < length self.old.rest)) }
         ensures stays { Stays result self.new }
         ensures refused { OnlyMalformed self.old result }
     {
@@ -113,6 +115,8 @@ impl<'a> Constructed<'a> {
     /// Reads a BOOLEAN, if one is next (X.690, sections 8.2 and 11.1). Refuses by `Malformed`.
     pub fn take_opt_bool(&mut self) -> Result<Option<bool>, DecodeError>
         ensures reads { Reads (λ b. b) (optional BOOLEAN boolean_at) self.old result self.new }
+        ensures shorter { IfOk result
+            (λ b. IfSome b (λ _. length self.new.rest < length self.old.rest)) }
         ensures stays { Stays result self.new }
         ensures refused { OnlyMalformed self.old result }
     {
@@ -146,6 +150,8 @@ impl<'a> Constructed<'a> {
     pub fn skip_opt_null(&mut self) -> Result<Option<()>, DecodeError>
         ensures reads { Reads (λ u. u)
             (optional NULL (primitive NULL null_of)) self.old result self.new }
+        ensures shorter { IfOk result
+            (λ u. IfSome u (λ _. length self.new.rest < length self.old.rest)) }
         ensures stays { Stays result self.new }
         ensures refused { OnlyMalformed self.old result }
     {
@@ -260,6 +266,8 @@ impl<'a> Constructed<'a> {
     /// where no memory was to be had.
     pub fn take_opt_ia5(&mut self) -> Result<Option<Bytes>, DecodeError>
         ensures reads { Reads (λ text. text) (optional IA5_STRING ia5_at) self.old result self.new }
+        ensures shorter { IfOk result
+            (λ t. IfSome t (λ _. length self.new.rest < length self.old.rest)) }
         ensures stays { Stays result self.new }
         ensures refused { OnlyMalformedOrMemory self.old result }
     {
@@ -271,12 +279,14 @@ impl<'a> Constructed<'a> {
         }
     }
 
-    /// Reads the contents of the value in front if it has this tag, whatever they are. Those of a
-    /// constructed tag are the octets of its values (X.690, section 8.1.4). Answers `Malformed`, or
-    /// `Memory` where no memory was to be had.
+    /// Reads the contents of the value in front if it has this tag, primitive or constructed. They
+    /// are handed on as they are: those of a constructed value with a definite length may be values
+    /// or not. Answers `Malformed`, or `Memory` where no memory was to be had.
     pub fn take_opt_primitive_if(&mut self, tag: Tag) -> Result<Option<Bytes>, DecodeError>
         ensures reads { Reads (λ contents. contents)
             (optional tag.octet (primitive tag.octet Some)) self.old result self.new }
+        ensures shorter { IfOk result
+            (λ c. IfSome c (λ _. length self.new.rest < length self.old.rest)) }
         ensures stays { Stays result self.new }
         ensures refused { OnlyMalformedOrMemory self.old result }
     {
@@ -333,7 +343,7 @@ impl<'a> Constructed<'a> {
         }
     }
 
-    /// Reads an OCTET STRING, and joins its octets.
+    // Reads an OCTET STRING, and joins its octets.
     fn take_pieces(&mut self, alloc: Global) -> Result<Bytes, DecodeError>
         ensures reads { Reads (λ octets. octets) (octets_at MAX_DEPTH) self.old result self.new }
         ensures stays { Stays result self.new }

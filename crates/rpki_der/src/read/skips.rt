@@ -1,5 +1,6 @@
 //! Values that are gone past.
 
+ghost use Rattle.std.specs.Prelude.{◌<◌, length, IfOk, IfSome};
 ghost use Rattle.rpki_der.specs.Numbers.{MAX_DEPTH};
 ghost use Rattle.rpki_der.specs.Read.Parse.{skip_at, skip_opt_at, skip_all_at};
 ghost use Rattle.rpki_der.specs.Read.Reads.{Reads, Stays, OnlyMalformed};
@@ -30,6 +31,8 @@ impl<'a> Constructed<'a> {
     #[tactic(auto, unfolding(crate::specs::Read::Parse::skip_opt_at))]
     pub fn skip_opt_one(&mut self) -> Result<Option<()>, DecodeError>
         ensures reads { Reads (λ u. u) skip_opt_at self.old result self.new }
+        ensures shorter { IfOk result
+            (λ u. IfSome u (λ _. length self.new.rest < length self.old.rest)) }
         ensures stays { Stays result self.new }
         ensures refused { OnlyMalformed self.old result }
     {

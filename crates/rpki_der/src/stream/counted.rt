@@ -1,3 +1,5 @@
+//! Sinks and sources over writers and readers.
+
 ghost use Rattle.std.specs.Prelude.{◌≡◌, ◌+◌};
 
 use crate::count::Count;
@@ -25,7 +27,7 @@ impl<T> Counted<T> {
         }
     }
 
-    /// One more call has failed.
+    // One more call has failed.
     fn count_failure(&mut self)
         ensures inner { self.new.inner ≡ self.old.inner }
         ensures failures { self.new.failures.number ≡ self.old.failures.number + 1 }

@@ -1,3 +1,5 @@
+//! What takes octets.
+
 ghost use Rattle.std.specs.Prelude.{◌≡◌, ℕ, ◌+◌, ◌<◌, ◌≤◌, List, length, Option, OnOk, OnErr, IfOk};
 ghost use Rattle.std.specs.Io.KnownBytes.{Appends, WriteAppends, Keeps};
 ghost use Rattle.rpki_der.specs.Write.Sink.{AppendsFront, IsTakenCount};

@@ -29,7 +29,7 @@ abbrev pub AsIdOrRange : Mode → List ℕ → Block ℕ → Type 0
 AsIdOrRange mode = Choice (AsRange mode) (Made only (AsId mode))
 
 -- asIdsOrRanges: SEQUENCE OF ASIdOrRange (3.2.3.4), as the set of their numbers. In RFC 3779 they
--- ascend, no two of them overlap or touch, and one number is an id. Here they may stand in any
--- order, overlap, and be none, and one number may be a range: this project's own rule.
+-- ascend, and no two of them overlap or touch. Here they may stand in any order, overlap, and be
+-- none, and one number may be a range: this project's own rule.
 abbrev pub AsForm : Mode → List ℕ → List (Block ℕ) → Type 0
 AsForm mode = Understood IsSetOf (SequenceOf mode (AsIdOrRange mode))

@@ -1,5 +1,8 @@
-use Rattle.rpki_attributes.proofs.AttrsWritten.{message-written}
+use Rattle.rpki_attributes.proofs.AttrsWritten.{message-written, message-unique}
 use Rattle.rpki_attributes.proofs.laws.messages.Goals as goal
 
-pub returns : goal.returns
-returns c = message-written
+pub returns-clause-written : goal.returns-clause-written
+returns-clause-written c = message-written
+
+pub returns-clause-unique : goal.returns-clause-unique
+returns-clause-unique c = message-unique

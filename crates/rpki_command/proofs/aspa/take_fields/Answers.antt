@@ -1,5 +1,5 @@
 use Rattle.std.proofs.Common.{arith}
-use Rattle.rpki_command.specs.AspaRead.{AreProviders}
+use Rattle.rpki_command.specs.Aspa.Read.{AreProviders}
 use Rattle.rpki_command.proofs.aspa.take_fields.Goals as goal
 
 pub invariant_of-result : goal.invariant_of-result

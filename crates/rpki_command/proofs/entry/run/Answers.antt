@@ -3,16 +3,16 @@ use Rattle.std.proofs.Common.{refl, inl, inr}
 use Rattle.rpki_command.proofs.Running.{of-words}
 use Rattle.rpki_command.proofs.entry.run.Goals as goal
 
-pub returns-in-Err-Memory : goal.returns-in-Err-Memory
-returns-in-Err-Memory g c = inr (inr (record { said = c.say.ensures; reads = refl }))
+pub returns-in-Err-Memory-clause-started : goal.returns-in-Err-Memory-clause-started
+returns-in-Err-Memory-clause-started g c = inr (inr (record { said = c.say.ensures; reads = refl }))
 
-pub returns-in-Err-NoText : goal.returns-in-Err-NoText
-returns-in-Err-NoText g c =
+pub returns-in-Err-NoText-clause-started : goal.returns-in-Err-NoText-clause-started
+returns-in-Err-NoText-clause-started g c =
     inr (inl (
       rw c.in-Err-NoText.field-0-is at c.in-Err-NoText.ensures,
       record { said = c.say-in-Err-NoText.ensures; reads = refl },
     ))
 
-pub returns-in-Ok : goal.returns-in-Ok
-returns-in-Ok g c = of-words _ _ _ _ _ _ c.in-Ok.ensures
-    (rw c.deref.ensures.value at c.run_with.ensures)
+pub returns-in-Ok-clause-started : goal.returns-in-Ok-clause-started
+returns-in-Ok-clause-started g c = of-words _ _ _ _ _ _ c.in-Ok.ensures
+    (rw c.deref.ensures.value at c.run_with.ensures.started)

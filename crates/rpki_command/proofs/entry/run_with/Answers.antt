@@ -2,5 +2,5 @@
 use Rattle.std.proofs.Common.{refl, inl}
 use Rattle.rpki_command.proofs.entry.run_with.Goals as goal
 
-pub returns-in-Err : goal.returns-in-Err
-returns-in-Err g c = inl (record { said = c.say.ensures; reads = refl })
+pub returns-in-Err-clause-started : goal.returns-in-Err-clause-started
+returns-in-Err-clause-started g c = inl (record { said = c.say.ensures; reads = refl })

@@ -1,6 +1,6 @@
 use Rattle.std.proofs.Common.{refl}
-use Rattle.rpki_command.specs.AspaWritten.{aspa_octets}
-use Rattle.rpki_command.proofs.Written.{aspa-written, aspa-only}
+use Rattle.rpki_command.specs.Aspa.Written.{aspa_octets}
+use Rattle.rpki_command.proofs.Attestations.Written.{aspa-written, aspa-only}
 use Rattle.rpki_command.proofs.laws.contents_are_written.Goals as goal
 
 pub returns-clause-written : goal.returns-clause-written

@@ -6,7 +6,8 @@ use Rattle.rpki_der.specs.Grammar.{Front, Value}
 use Rattle.rpki_der.specs.Read.Parse.{any_at}
 use Rattle.rpki_der.proofs.Reading.Exact.{exact-any}
 use Rattle.rpki_der.proofs.Reading.Unique.{unique}
-use Rattle.rpki_command.specs.Aspa.{Aspa, AspaForm}
+use Rattle.rpki_command.specs.Aspa.{Aspa}
+use Rattle.rpki_command.specs.Aspa.Form.{AspaForm}
 use Rattle.rpki_command.proofs.laws.octets_after_a_content_are_left.Goals as goal
 
 -- a content at the front of one whole value and further octets is that value

@@ -2,7 +2,7 @@
 use Rattle.rpki_der.specs.declared.mode.Mode.TheVariants.{Der}
 use Rattle.rpki_der.proofs.Form.Decoders.{decodes}
 use Rattle.rpki_command.specs.Aspa.{Aspa}
-use Rattle.rpki_command.proofs.AspaExact.{aspa-part}
+use Rattle.rpki_command.proofs.Attestations.Exact.{aspa-part}
 use Rattle.rpki_command.proofs.aspa.AsProviderAttestation.decode.Goals as goal
 
 pub returns : goal.returns

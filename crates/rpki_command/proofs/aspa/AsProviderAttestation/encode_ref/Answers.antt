@@ -1,6 +1,6 @@
 use Rattle.std.proofs.Common.{subst}
 use Rattle.rpki_command.specs.Aspa.{IsAttestation}
-use Rattle.rpki_command.proofs.Written.{short-octets, aspa-written, aspa-only}
+use Rattle.rpki_command.proofs.Attestations.Written.{short-octets, aspa-written, aspa-only}
 use Rattle.rpki_command.proofs.aspa.AsProviderAttestation.encode_ref.Goals as goal
 
 pub returns-clause-short : goal.returns-clause-short

@@ -8,8 +8,8 @@ use Rattle.rpki_der.specs.Read.Parse.{optional, u32_at, unsigned_of, many}
 use Rattle.rpki_der.proofs.Reading.Many.{Shortens-optional}
 use Rattle.rpki_der.proofs.Reading.Loops.{so_far-more, so_far-end, so_far-err}
 use Rattle.rpki_resources.specs.As.{IsAsn}
-use Rattle.rpki_command.specs.AspaRead.{are_providers}
-use Rattle.rpki_command.proofs.Providers.{test-refuses, test-complete, test-none}
+use Rattle.rpki_command.specs.Aspa.Read.{are_providers}
+use Rattle.rpki_command.proofs.Attestations.Providers.{test-refuses, test-complete, test-none}
 use Rattle.rpki_der.proofs.Reading.Tested.{tested-next, tested-ok, tested-refused, tested-err}
 use Rattle.rpki_command.proofs.aspa.providers.take_each.Goals as goal
 

@@ -3,7 +3,7 @@ use Rattle.std.specs.Prelude.{All}
 use Rattle.rpki_der.specs.Read.Parse.{optional, u32_at}
 use Rattle.rpki_der.specs.Read.Reads.{ReadSoFar}
 use Rattle.rpki_resources.specs.As.{IsAsn}
-use Rattle.rpki_command.specs.AspaRead.{MayBegin}
+use Rattle.rpki_command.specs.Aspa.Read.{MayBegin}
 use Rattle.rpki_command.proofs.aspa.providers.take_each.Given as goal
 
 -- what was read so far may begin the providers

@@ -1,0 +1,3 @@
+pub mod Exact
+pub mod Providers
+pub mod Written

@@ -1,0 +1,8 @@
+use Rattle.rpki_der.proofs.Form.Decoders.{decodes-next}
+use Rattle.rpki_extensions.proofs.Values.{authority-key-part}
+use Rattle.rpki_extensions.proofs.key_identifiers.take_authority_key_identifier.Goals as goal
+
+pub returns-clause-decodes : goal.returns-clause-decodes
+returns-clause-decodes c =
+    decodes-next authority-key-part (λ x. x) c.args.cons.now c.take_authority.result c.take_authority.new.cons
+    c.holds_octets.ensures c.take_authority.ensures.reads

@@ -1,0 +1,57 @@
+-- One extension. The sections are those of RFC 5280.
+use Rattle.std.specs.Prelude.{ℕ, List, [], ◌∷◌, false, Option, Some}
+use Rattle.rpki_der.specs.declared.mode.Mode.{Mode}
+use Rattle.rpki_der.specs.declared.mode.Mode.TheVariants.{Der}
+use Rattle.rpki_der.specs.Grammar.{Boolean, ObjectIdentifier, OctetString}
+use Rattle.rpki_der.specs.Numbers.{MAX_DEPTH}
+use Rattle.rpki_der.specs.Form.Keyed.{Keyed, said}
+use Rattle.rpki_der.specs.Form.Made.{Default, Begins, default_at, front_of}
+use Rattle.rpki_der.specs.Form.Parts.{Sequence, sequence_at, items_at}
+use Rattle.rpki_der.specs.Read.Parse.{Parser, ◌>>=◌, oid_at, boolean_at, octets_at}
+use Rattle.rpki_der.specs.Tags.{BOOLEAN, SEQUENCE}
+use Rattle.rpki_extensions.specs.declared.extension.Extension.{Extension}
+
+-- Extension: SEQUENCE { extnID OBJECT IDENTIFIER, critical BOOLEAN DEFAULT FALSE, extnValue OCTET
+-- STRING } (4.1)
+abbrev pub ExtensionForm : Mode → List ℕ → Extension → Type 0
+ExtensionForm mode octets e = Sequence mode (
+    (λ o. ObjectIdentifier mode o e.oid)
+    ∷ (λ o. Default false (Boolean mode) o e.critical)
+    ∷ (λ o. OctetString mode MAX_DEPTH o e.value)
+    ∷ []) octets
+
+-- the identifier of an extension
+abbrev pub oid_of : Extension → List ℕ
+oid_of e = e.oid
+
+-- What the value of an extension begins with, in DER, is in G, and means x (4.1).
+abbrev pub SaysBy : {X : Type 0} → (Mode → List ℕ → X → Type 0) → Extension → X → Type 0
+SaysBy G e x = Begins (G Der) e.value x
+
+-- The extension with this identifier says x by G. Where it says nothing, there is no such
+-- extension.
+abbrev pub Stated : {X : Type 0} → List Extension → List ℕ → (Mode → List ℕ → X → Type 0)
+    → Option X → Type 0
+Stated list oid G x = Keyed oid_of (SaysBy G) list oid x
+
+-- ---- as functions
+
+-- what stands in the SEQUENCE
+unfoldable pub extension_fields_at : Parser Extension
+extension_fields_at mode bytes = do
+  oid ← oid_at mode bytes
+  critical ← default_at false BOOLEAN boolean_at mode oid.1
+  value ← octets_at MAX_DEPTH mode critical.1
+  Some (record { oid = oid.0; critical = critical.0; value = value.0 }, value.1)
+
+-- an extension
+abbrev pub extension_at : Parser Extension
+extension_at = sequence_at extension_fields_at
+
+-- extensions, as many as there are
+abbrev pub list_at : Parser (List Extension)
+list_at = items_at SEQUENCE extension_at
+
+-- what p reads at the front of the value of the extension with this identifier
+abbrev pub stated : {X : Type 0} → List ℕ → Parser X → List Extension → Option (Option X)
+stated oid p list = said oid_of (λ e. front_of p Der e.value) oid list

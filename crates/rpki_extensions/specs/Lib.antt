@@ -1,0 +1,13 @@
+pub mod Access
+pub mod Addresses
+pub mod BasicConstraints
+pub mod Extension
+pub mod Extensions
+pub mod Identifiers
+pub mod KeyIdentifiers
+pub mod Names
+pub mod Points
+pub mod Policies
+pub mod Purposes
+pub mod UriTests
+pub mod Usage

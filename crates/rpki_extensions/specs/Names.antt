@@ -1,0 +1,40 @@
+-- Names. The sections are those of RFC 5280.
+use Rattle.std.specs.Prelude.{◌≡◌, ℕ, List, false, Option, None}
+use Rattle.rpki_der.specs.declared.mode.Mode.{Mode}
+use Rattle.rpki_der.specs.Grammar.{Skipped}
+use Rattle.rpki_der.specs.Numbers.{MAX_DEPTH}
+use Rattle.rpki_der.specs.Form.Made.{made, choice_at}
+use Rattle.rpki_der.specs.Form.Parts.{ImplicitString, implicit_string_at}
+use Rattle.rpki_der.specs.Read.Parse.{Parser, is_next, skip_at, all_at}
+use Rattle.rpki_der.specs.Tags.{context_primitive}
+use Rattle.rpki_extensions.specs.declared.name.Name.{Name}
+use Rattle.rpki_extensions.specs.declared.name.Name.TheVariants.{Uri, Other}
+
+-- the tag of uniformResourceIdentifier, [6] IMPLICIT IA5String (4.2.1.6)
+abbrev pub URI : ℕ
+URI = context_primitive 6
+
+-- GeneralName: CHOICE { uniformResourceIdentifier [6], .. } (4.2.1.6). What has another tag is
+-- skipped, whatever it is, which is this project's own rule.
+abbrev pub NameForm : Mode → List ℕ → Name → Type 0
+NameForm mode octets (Uri text) = ImplicitString 6 mode octets text
+NameForm mode octets Other = Skipped mode MAX_DEPTH octets × (is_next URI octets ≡ false)
+
+-- The name is this URI, and P holds of its text.
+abbrev pub IsNamed : (List ℕ → Type 0) → Name → List ℕ → Type 0
+IsNamed P name uri = (name ≡ Uri uri) × P uri
+
+-- ---- as functions
+
+-- a name
+abbrev pub name_at : Parser Name
+name_at = choice_at URI (made Uri (implicit_string_at 6)) (made (λ _. Other) (skip_at MAX_DEPTH))
+
+-- names, up to the end
+abbrev pub names_at : Parser (List Name)
+names_at = all_at name_at
+
+-- the URI that a name is, by what makes one of a text
+abbrev pub named : {X : Type 0} → (List ℕ → Option X) → Name → Option X
+named of (Uri text) = of text
+named of Other = None

@@ -1,0 +1,190 @@
+//! Where more is to be had: access descriptions.
+
+ghost use Rattle.std.specs.Prelude.{◌≡◌, IfOk};
+ghost use Rattle.rpki_der.specs.Form.Decodes.{DecodesNext};
+ghost use Rattle.rpki_der.specs.Form.Keyed.{first_said};
+ghost use Rattle.rpki_der.specs.Form.Made.{made};
+ghost use Rattle.rpki_der.specs.Read.Reads.{Reads, Stays};
+ghost use Rattle.rpki_extensions.specs.Access.{AuthorityAccessForm, SubjectAccessForm, located};
+ghost use Rattle.rpki_extensions.specs.Access.{access_fields_at, accesses_at, issuer_of};
+ghost use Rattle.rpki_extensions.specs.Access.{subject_of, authority_access_at};
+ghost use Rattle.rpki_extensions.specs.Access.{subject_access_at};
+
+use crate::name::{Name, take_name, uri_of};
+use crate::uri::NamedUri;
+use rpki_basics::{Https, Rsync};
+use rpki_der::{Constructed, DecodeError, ListItem, Oid};
+use std::alloc::{AllocError, Global};
+
+// id-ad-caIssuers (RFC 5280, section 4.2.2.1).
+const CA_ISSUERS: [u8; 8] = [0x2B, 0x06, 0x01, 0x05, 0x05, 0x07, 0x30, 0x02];
+
+// id-ad-caRepository (RFC 5280, section 4.2.2.2).
+const CA_REPOSITORY: [u8; 8] = [0x2B, 0x06, 0x01, 0x05, 0x05, 0x07, 0x30, 0x05];
+
+// id-ad-rpkiManifest (RFC 6487, section 4.8.8.1).
+const RPKI_MANIFEST: [u8; 8] = [0x2B, 0x06, 0x01, 0x05, 0x05, 0x07, 0x30, 0x0A];
+
+// id-ad-signedObject (RFC 6487, section 4.8.8.2).
+const SIGNED_OBJECT: [u8; 8] = [0x2B, 0x06, 0x01, 0x05, 0x05, 0x07, 0x30, 0x0B];
+
+// id-ad-rpkiNotify (RFC 8182, section 3.2).
+const RPKI_NOTIFY: [u8; 8] = [0x2B, 0x06, 0x01, 0x05, 0x05, 0x07, 0x30, 0x0D];
+
+/// An access description (RFC 5280, section 4.2.2.1).
+#[derive(Debug, Drop)]
+pub struct Access {
+    /// How to get there.
+    pub method: Oid,
+    /// Where it lies.
+    pub location: Name,
+}
+
+/// Where more is to be had from the subject of a certificate (RFC 6487, section 4.8.8).
+#[derive(Debug, Drop)]
+pub struct SubjectAccess {
+    /// The folder in which a CA publishes.
+    pub ca_repository: Option<Rsync>,
+    /// The manifest of a CA.
+    pub rpki_manifest: Option<Rsync>,
+    /// The object that is signed by the key.
+    pub signed_object: Option<Rsync>,
+    /// The notification file of a repository (RFC 8182, section 3.2).
+    pub rpki_notify: Option<Https>,
+}
+
+// Reads the method and the location.
+#[tactic(auto, unfolding(crate::specs::Access::access_fields_at))]
+fn take_fields(cons: &mut Constructed<'_>) -> Result<Access, DecodeError>
+    ensures { Reads (λ access. access) access_fields_at cons.old result cons.new }
+{
+    let method = cons.take_oid()?;
+    let location = take_name(cons)?;
+    Ok(Access { method, location })
+}
+
+impl ListItem for Access {
+    ghost use Rattle.rpki_der.specs.Tags.{SEQUENCE};
+    ghost use Rattle.rpki_extensions.specs.Access.{access_fields_at, access_at};
+
+    ghost tag = { SEQUENCE };
+
+    ghost at = { access_at };
+
+    fn take_opt_from(
+        cons: &mut Constructed<'_>,
+        _alloc: Global,
+    ) -> Result<Option<Access>, DecodeError> {
+        cons.take_opt_sequence(take_fields)
+    }
+}
+
+// The URI of a description, if it has this method.
+fn location_of<U: NamedUri>(access: &Access, method: &[u8]) -> Result<Option<U>, AllocError>
+    ensures { IfOk result (λ uri. uri ≡ located U.of method.now access.now) }
+{
+    if access.method.as_slice() == method {
+        uri_of(&access.location)
+    } else {
+        Ok(None)
+    }
+}
+
+// The first URI of descriptions with this method.
+fn first_location<U: NamedUri>(list: &[Access], method: &[u8]) -> Result<Option<U>, AllocError>
+    ensures { IfOk result (λ uri. uri ≡ first_said (located U.of method.now) list.now) }
+{
+    for access in list {
+        if let Some(uri) = location_of(access, method)? {
+            return Ok(Some(uri));
+        }
+    }
+    Ok(None)
+}
+
+// Where the descriptions say that the issuer's certificate lies.
+fn issuer_of(list: &[Access]) -> Result<Option<Rsync>, AllocError>
+    ensures { IfOk result (λ uri. uri ≡ issuer_of list.now) }
+{
+    first_location::<Rsync>(list, &CA_ISSUERS)
+}
+
+// What the descriptions say of the subject.
+fn subject_of(list: &[Access]) -> Result<SubjectAccess, AllocError>
+    ensures { IfOk result (λ x. x ≡ subject_of list.now) }
+{
+    let ca_repository = first_location::<Rsync>(list, &CA_REPOSITORY)?;
+    let rpki_manifest = first_location::<Rsync>(list, &RPKI_MANIFEST)?;
+    let signed_object = first_location::<Rsync>(list, &SIGNED_OBJECT)?;
+    let rpki_notify = first_location::<Https>(list, &RPKI_NOTIFY)?;
+    Ok(SubjectAccess {
+        ca_repository,
+        rpki_manifest,
+        signed_object,
+        rpki_notify,
+    })
+}
+
+// Reads as many descriptions as there are, and what they say of the issuer.
+fn take_issuer(cons: &mut Constructed<'_>, alloc: Global) -> Result<Option<Rsync>, DecodeError>
+    ensures { Reads (λ uri. uri) (made issuer_of accesses_at) cons.old result cons.new }
+{
+    let list: Vec<Access> = cons.take_items(alloc)?;
+    Ok(issuer_of(&list)?)
+}
+
+// Reads as many descriptions as there are, and what they say of the subject.
+fn take_subject(cons: &mut Constructed<'_>, alloc: Global) -> Result<SubjectAccess, DecodeError>
+    ensures { Reads (λ x. x) (made subject_of accesses_at) cons.old result cons.new }
+{
+    let list: Vec<Access> = cons.take_items(alloc)?;
+    Ok(subject_of(&list)?)
+}
+
+// Reads what is said of the issuer.
+fn take_authority(cons: &mut Constructed<'_>, alloc: Global) -> Result<Option<Rsync>, DecodeError>
+    ensures reads { Reads (λ uri. uri) authority_access_at cons.old result cons.new }
+    ensures stays { Stays result cons.new }
+{
+    cons.take_sequence(|cons| take_issuer(cons, alloc))
+}
+
+/// Reads where the issuer's certificate lies: the first rsync URI among the access descriptions
+/// with the method caIssuers, if there is one (RFC 5280, section 4.2.2.1; RFC 6487, section 4.8.7).
+/// Descriptions with other methods and names of other kinds are gone past. Refuses by `Malformed`,
+/// or by `Memory`.
+pub fn take_authority_info_access(
+    alloc: Global,
+    cons: &mut Constructed<'_>,
+) -> Result<Option<Rsync>, DecodeError>
+    ensures reads { Reads (λ uri. uri) authority_access_at cons.old result cons.new }
+    ensures decodes { DecodesNext AuthorityAccessForm (λ uri. uri) cons.old result cons.new }
+    ensures stays { Stays result cons.new }
+{
+    cons.holds_octets();
+    take_authority(cons, alloc)
+}
+
+// Reads what is said of the subject.
+fn take_accesses(cons: &mut Constructed<'_>, alloc: Global) -> Result<SubjectAccess, DecodeError>
+    ensures reads { Reads (λ x. x) subject_access_at cons.old result cons.new }
+    ensures stays { Stays result cons.new }
+{
+    cons.take_sequence(|cons| take_subject(cons, alloc))
+}
+
+/// Reads where more is to be had from the subject: of each method the first rsync URI, and of
+/// rpkiNotify the first https URI, if there is one (RFC 5280, section 4.2.2.2; RFC 6487, section
+/// 4.8.8; RFC 8182, section 3.2). Descriptions with other methods and names of other kinds are gone
+/// past. Refuses by `Malformed`, or by `Memory`.
+pub fn take_subject_info_access(
+    alloc: Global,
+    cons: &mut Constructed<'_>,
+) -> Result<SubjectAccess, DecodeError>
+    ensures reads { Reads (λ x. x) subject_access_at cons.old result cons.new }
+    ensures decodes { DecodesNext SubjectAccessForm (λ x. x) cons.old result cons.new }
+    ensures stays { Stays result cons.new }
+{
+    cons.holds_octets();
+    take_accesses(cons, alloc)
+}

@@ -1,0 +1,138 @@
+//! What the extensions of a certificate claim.
+
+ghost use Rattle.std.specs.Prelude.{◌≡◌};
+ghost use Rattle.rpki_der.specs.Form.Keyed.{must};
+ghost use Rattle.rpki_der.specs.Form.Made.{front_of};
+ghost use Rattle.rpki_der.specs.declared.mode.Mode.TheVariants.{Der};
+ghost use Rattle.rpki_resources.specs.declared.resources.Claim.TheVariants.{Missing};
+ghost use Rattle.rpki_resources.specs.Claim.Read.{as_identifiers_at};
+ghost use Rattle.rpki_extensions.specs.Addresses.{ip_claims_at};
+ghost use Rattle.rpki_extensions.specs.Extension.{stated};
+ghost use Rattle.rpki_extensions.specs.Extensions.{Tells, stated_or, no_addresses, has_other};
+ghost use Rattle.rpki_extensions.specs.Extensions.{certificate_policies, ip_resources};
+ghost use Rattle.rpki_extensions.specs.Extensions.{as_resources, claims_under, claims_of_list};
+ghost use Rattle.rpki_extensions.specs.Policies.{policies_at};
+
+use crate::addresses::IpClaims;
+use crate::extension::{Extension, has_oid, with_oid};
+use crate::identifiers::{CERTIFICATE_POLICIES, as_resources, ip_resources, other};
+use crate::keys::refused;
+use crate::policies::take_certificate_policies;
+use bytes::Bytes;
+use rpki_der::{Constructed, DecodeError, Mode, Reason};
+use rpki_faults::Overclaim;
+use rpki_resources::{AsResources, Resources};
+use std::alloc::Global;
+
+/// What the extensions of a certificate claim.
+#[derive(Debug, Drop)]
+pub struct Claims {
+    /// What is done where the issuer has less than is claimed (RFC 6487, section 4.8.9).
+    pub policy: Overclaim,
+    /// The claims of addresses (RFC 6487, section 4.8.10).
+    pub addresses: IpClaims,
+    /// The claim of AS numbers (RFC 6487, section 4.8.11).
+    pub as_numbers: AsResources,
+}
+
+// The policy, in a value.
+fn policy_in(value: Bytes) -> Result<Overclaim, DecodeError>
+    ensures { Tells (λ policy. policy) (front_of policies_at Der value) result }
+{
+    Constructed::decode(value, Mode::Der, |cons| take_certificate_policies(cons))
+}
+
+// The policy.
+fn policy(list: &[Extension]) -> Result<Overclaim, DecodeError>
+    ensures { Tells (λ policy. policy)
+        (must (stated certificate_policies policies_at list.now)) result }
+{
+    match with_oid(list, &CERTIFICATE_POLICIES) {
+        None => Err(refused(Reason::NoPolicy)),
+        Some(extension) => policy_in(extension.value.clone()?),
+    }
+}
+
+// The claims of addresses, in a value.
+fn addresses_in(value: Bytes, alloc: Global) -> Result<IpClaims, DecodeError>
+    ensures { Tells (λ claims. claims) (front_of ip_claims_at Der value) result }
+{
+    Constructed::decode(value, Mode::Der, |cons| IpClaims::take_from(alloc, cons))
+}
+
+// The claims of addresses.
+fn addresses(
+    list: &[Extension],
+    policy: Overclaim,
+    alloc: Global,
+) -> Result<IpClaims, DecodeError>
+    ensures { Tells (λ claims. claims)
+        (stated_or no_addresses (ip_resources policy) ip_claims_at list.now) result }
+{
+    match with_oid(list, &ip_resources(policy)) {
+        None => Ok(IpClaims {
+            v4: Resources::missing(),
+            v6: Resources::missing(),
+        }),
+        Some(extension) => addresses_in(extension.value.clone()?, alloc),
+    }
+}
+
+// The claim of AS numbers, in a value.
+fn as_numbers_in(value: Bytes, alloc: Global) -> Result<AsResources, DecodeError>
+    ensures { Tells (λ claim. claim) (front_of as_identifiers_at Der value) result }
+{
+    Constructed::decode(value, Mode::Der, |cons| AsResources::take_identifiers_from(alloc, cons))
+}
+
+// The claim of AS numbers.
+fn as_numbers(
+    list: &[Extension],
+    policy: Overclaim,
+    alloc: Global,
+) -> Result<AsResources, DecodeError>
+    ensures { Tells (λ claim. claim)
+        (stated_or Missing (as_resources policy) as_identifiers_at list.now) result }
+{
+    match with_oid(list, &as_resources(policy)) {
+        None => Ok(Resources::missing()),
+        Some(extension) => as_numbers_in(extension.value.clone()?, alloc),
+    }
+}
+
+// The claims under this policy.
+#[tactic(auto, unfolding(crate::specs::Extensions::claims_under))]
+fn claims_under(
+    policy: Overclaim,
+    list: &[Extension],
+    alloc: Global,
+) -> Result<Claims, DecodeError>
+    ensures { Tells (λ claims. claims) (claims_under policy list.now) result }
+{
+    let addresses = addresses(list, policy, alloc)?;
+    let as_numbers = as_numbers(list, policy, alloc)?;
+    Ok(Claims {
+        policy,
+        addresses,
+        as_numbers,
+    })
+}
+
+// Whether an extension of the other policy stands there.
+fn has_other(policy: Overclaim, list: &[Extension]) -> bool
+    ensures { result ≡ has_other policy list.now }
+{
+    has_oid(list, &ip_resources(other(policy))) || has_oid(list, &as_resources(other(policy)))
+}
+
+// What the extensions claim.
+#[tactic(auto, unfolding(crate::specs::Extensions::claims_of_list))]
+pub fn claims_of(list: &[Extension], alloc: Global) -> Result<Claims, DecodeError>
+    ensures { Tells (λ claims. claims) (claims_of_list list.now) result }
+{
+    let policy = policy(list)?;
+    if has_other(policy, list) {
+        return Err(refused(Reason::ResourcesOfOtherPolicy));
+    }
+    claims_under(policy, list, alloc)
+}

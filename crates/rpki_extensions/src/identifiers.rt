@@ -1,0 +1,109 @@
+//! The identifiers of extensions.
+
+ghost use Rattle.std.specs.Prelude.{◌≡◌};
+ghost use Rattle.std.specs.List.{list_all};
+ghost use Rattle.rpki_extensions.specs.Extensions.{is_among, known, may_stand, ip_resources};
+ghost use Rattle.rpki_extensions.specs.Extensions.{as_resources, other};
+
+use crate::extension::Extension;
+use rpki_faults::Overclaim;
+
+// id-ce-subjectKeyIdentifier (RFC 6487, section 4.8.2).
+pub const SUBJECT_KEY_IDENTIFIER: [u8; 3] = [0x55, 0x1D, 14];
+
+// id-ce-keyUsage (RFC 6487, section 4.8.4).
+pub const KEY_USAGE: [u8; 3] = [0x55, 0x1D, 15];
+
+// id-ce-basicConstraints (RFC 6487, section 4.8.1).
+pub const BASIC_CONSTRAINTS: [u8; 3] = [0x55, 0x1D, 19];
+
+// id-ce-cRLDistributionPoints (RFC 6487, section 4.8.6).
+pub const CRL_DISTRIBUTION_POINTS: [u8; 3] = [0x55, 0x1D, 31];
+
+// id-ce-certificatePolicies (RFC 6487, section 4.8.9).
+pub const CERTIFICATE_POLICIES: [u8; 3] = [0x55, 0x1D, 32];
+
+// id-ce-authorityKeyIdentifier (RFC 6487, section 4.8.3).
+pub const AUTHORITY_KEY_IDENTIFIER: [u8; 3] = [0x55, 0x1D, 35];
+
+// id-ce-extKeyUsage (RFC 6487, section 4.8.5).
+pub const EXTENDED_KEY_USAGE: [u8; 3] = [0x55, 0x1D, 37];
+
+// id-pe-authorityInfoAccess (RFC 6487, section 4.8.7).
+pub const AUTHORITY_INFO_ACCESS: [u8; 8] = [0x2B, 0x06, 0x01, 0x05, 0x05, 0x07, 0x01, 1];
+
+// id-pe-subjectInfoAccess (RFC 6487, section 4.8.8).
+pub const SUBJECT_INFO_ACCESS: [u8; 8] = [0x2B, 0x06, 0x01, 0x05, 0x05, 0x07, 0x01, 11];
+
+// id-pe-ipAddrBlocks (RFC 6487, section 4.8.10).
+const IP_RESOURCES: [u8; 8] = [0x2B, 0x06, 0x01, 0x05, 0x05, 0x07, 0x01, 7];
+
+// id-pe-autonomousSysIds (RFC 6487, section 4.8.11).
+const AS_RESOURCES: [u8; 8] = [0x2B, 0x06, 0x01, 0x05, 0x05, 0x07, 0x01, 8];
+
+// id-pe-ipAddrBlocks-v2 (RFC 8360, section 4.2.2.1).
+const IP_RESOURCES_V2: [u8; 8] = [0x2B, 0x06, 0x01, 0x05, 0x05, 0x07, 0x01, 28];
+
+// id-pe-autonomousSysIds-v2 (RFC 8360, section 4.2.2.2).
+const AS_RESOURCES_V2: [u8; 8] = [0x2B, 0x06, 0x01, 0x05, 0x05, 0x07, 0x01, 29];
+
+// The extension of addresses that goes with a policy.
+pub fn ip_resources(policy: Overclaim) -> [u8; 8]
+    ensures { result ≡ ip_resources policy }
+{
+    match policy {
+        Overclaim::Refuse => IP_RESOURCES,
+        Overclaim::Trim => IP_RESOURCES_V2,
+    }
+}
+
+// The extension of AS numbers that goes with a policy.
+pub fn as_resources(policy: Overclaim) -> [u8; 8]
+    ensures { result ≡ as_resources policy }
+{
+    match policy {
+        Overclaim::Refuse => AS_RESOURCES,
+        Overclaim::Trim => AS_RESOURCES_V2,
+    }
+}
+
+// The other policy.
+pub fn other(policy: Overclaim) -> Overclaim
+    ensures { result ≡ other policy }
+{
+    match policy {
+        Overclaim::Refuse => Overclaim::Trim,
+        Overclaim::Trim => Overclaim::Refuse,
+    }
+}
+
+// Whether an extension is known.
+fn is_known(oid: &[u8]) -> bool
+    ensures { result ≡ is_among known oid.now }
+{
+    oid == SUBJECT_KEY_IDENTIFIER.as_slice()
+        || oid == KEY_USAGE.as_slice()
+        || oid == BASIC_CONSTRAINTS.as_slice()
+        || oid == CRL_DISTRIBUTION_POINTS.as_slice()
+        || oid == CERTIFICATE_POLICIES.as_slice()
+        || oid == AUTHORITY_KEY_IDENTIFIER.as_slice()
+        || oid == EXTENDED_KEY_USAGE.as_slice()
+        || oid == AUTHORITY_INFO_ACCESS.as_slice()
+        || oid == SUBJECT_INFO_ACCESS.as_slice()
+        || oid == IP_RESOURCES.as_slice()
+        || oid == AS_RESOURCES.as_slice()
+        || oid == IP_RESOURCES_V2.as_slice()
+        || oid == AS_RESOURCES_V2.as_slice()
+}
+
+// Whether each extension is known or not critical.
+pub fn may_stand(list: &[Extension]) -> bool
+    ensures { result ≡ list_all may_stand list.now }
+{
+    for extension in list {
+        if extension.critical && !is_known(extension.oid.as_slice()) {
+            return false;
+        }
+    }
+    true
+}

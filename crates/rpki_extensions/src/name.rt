@@ -1,0 +1,67 @@
+//! Names.
+
+ghost use Rattle.std.specs.Prelude.{◌≡◌, IfOk};
+ghost use Rattle.rpki_der.specs.Form.Keyed.{first_said};
+ghost use Rattle.rpki_der.specs.Read.Reads.{Reads};
+ghost use Rattle.rpki_extensions.specs.Names.{name_at, names_at, named};
+
+use crate::uri::NamedUri;
+use bytes::Bytes;
+use rpki_der::{Constructed, DecodeError, Tag};
+use std::alloc::{AllocError, Global};
+
+/// A name (RFC 5280, section 4.2.1.6).
+#[derive(Debug, Drop)]
+pub enum Name {
+    /// The text of a URI.
+    Uri(Bytes),
+    /// A name of another kind, which is not kept.
+    Other,
+}
+
+// Reads a name.
+pub fn take_name(cons: &mut Constructed<'_>) -> Result<Name, DecodeError>
+    ensures { Reads (λ name. name) name_at cons.old result cons.new }
+{
+    match cons.take_opt_primitive_if(Tag::CTX_6_PRIMITIVE)? {
+        Some(text) => Ok(Name::Uri(text)),
+        None => {
+            cons.skip_one()?;
+            Ok(Name::Other)
+        }
+    }
+}
+
+// Reads names, up to the end.
+pub fn take_names(cons: &mut Constructed<'_>, alloc: Global) -> Result<Vec<Name>, DecodeError>
+    ensures { Reads (λ names. names.items) names_at cons.old result cons.new }
+{
+    let mut names = Vec::new(alloc);
+    while !cons.is_at_end()? {
+        let name = take_name(cons)?;
+        names.push(name)?;
+    }
+    Ok(names)
+}
+
+// The URI that a name is.
+pub fn uri_of<U: NamedUri>(name: &Name) -> Result<Option<U>, AllocError>
+    ensures { IfOk result (λ uri. uri ≡ named U.of name.now) }
+{
+    match name {
+        Name::Uri(text) => Ok(U::of_text(text.clone()?)),
+        Name::Other => Ok(None),
+    }
+}
+
+// The first URI of names.
+pub fn first_uri<U: NamedUri>(names: &[Name]) -> Result<Option<U>, AllocError>
+    ensures { IfOk result (λ uri. uri ≡ first_said (named U.of) names.now) }
+{
+    for name in names {
+        if let Some(uri) = uri_of(name)? {
+            return Ok(Some(uri));
+        }
+    }
+    Ok(None)
+}

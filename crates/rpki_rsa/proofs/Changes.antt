@@ -1,0 +1,88 @@
+-- Other octets are another number, and other digests another encoded message.
+use Rattle.std.proofs.Common.{◌≡◌, ℕ, zero, suc, ◌+◌, ◌-◌, ◌*◌, List, [], ◌∷◌, ◌++◌}
+use Rattle.std.proofs.Common.{length}
+use Rattle.std.proofs.Common.{replicate, refl, sym, ap, subst, ◌∙◌, arith}
+use Rattle.std.specs.Prelude.{slice_index}
+use Rattle.std.specs.Int.{w32, to_be_bytes}
+use Rattle.sha2.specs.Sha256.{sha256, digest_bytes, final_hash, initial_hash_256}
+use Rattle.sha2.proofs.Facts256.{length-sha256}
+use Rattle.rpki_der.specs.Grammar.{IsBytes}
+use Rattle.rpki_der.specs.Numbers.{number}
+use Rattle.rpki_rsa.specs.Signature.{encoded_message, IsSignatureOf, IsRsaSignature}
+use Rattle.rpki_rsa.proofs.EncodedParts.{digest_front, encoded-parts, encoded_number}
+use Rattle.rpki_rsa.proofs.KeyFacts.{one-modulus}
+
+pub same-octets : (xs ys : List ℕ) (a b : ℕ) → length xs ≡ length ys → IsBytes xs → IsBytes ys
+    → number a xs ≡ number b ys → (a ≡ b) × (xs ≡ ys)
+same-octets [] [] a b l hx hy e = (e, refl)
+same-octets [] (y ∷ ys) a b l hx hy e = absurd (omega (arith, l))
+same-octets (x ∷ xs) [] a b l hx hy e = absurd (omega (arith, l))
+same-octets (x ∷ xs) (y ∷ ys) a b l hx hy e =
+    let more = same-octets xs ys (a * 256 + x) (b * 256 + y) (omega (arith, l)) hx.1 hy.1 e in
+    let first : x ≡ y = omega (arith, more.0, hx.0, hy.0) in (
+      omega (arith, more.0, hx.0, hy.0),
+      ap (λ (d : ℕ). d ∷ xs) first
+          ∙ ap (λ (ds : List ℕ). y ∷ ds) more.1,
+    )
+
+bytes-append : (a b : List ℕ) → IsBytes a → IsBytes b → IsBytes (a ++ b)
+bytes-append [] b ha hb = hb
+bytes-append (x ∷ a) b ha hb = (ha.0, bytes-append a b ha.1 hb)
+
+bytes-word : (x : ℕ) → IsBytes (to_be_bytes w32 x)
+bytes-word x = (omega arith, (omega arith, (omega arith, (omega arith, tt))))
+
+bytes-digest : (h : List ℕ) (n : ℕ) → IsBytes (digest_bytes h n)
+unfolding digest_bytes
+bytes-digest h zero = tt
+bytes-digest h (suc n) =
+    bytes-append (digest_bytes h n) (to_be_bytes w32 (slice_index h n)) (bytes-digest h n)
+    (bytes-word (slice_index h n))
+
+bytes-sha256 : (m : List ℕ) → IsBytes (sha256 m)
+unfolding sha256
+bytes-sha256 m = bytes-digest (final_hash initial_hash_256 m) 8
+
+-- the number of an encoded message up to the digest
+abbrev front_number : ℕ → ℕ
+front_number k =
+    number (number (number (number 0 (0 ∷ 1 ∷ [])) (replicate (k - 54) 0xFF)) (0 ∷ [])) digest_front
+
+front-then : (k : ℕ) (m : List ℕ)
+    → number (front_number k) (sha256 m) ≡ number 0 (encoded_message k m)
+front-then k m = encoded_number k m _ _ _ _ _ refl refl refl refl refl
+
+same-digest : (k : ℕ) (a b : List ℕ)
+    → number 0 (encoded_message k a) ≡ number 0 (encoded_message k b) → sha256 a ≡ sha256 b
+same-digest k a b e =
+    (same-octets (sha256 a) (sha256 b) (front_number k) (front_number k)
+    (length-sha256 a ∙ sym (length-sha256 b)) (bytes-sha256 a) (bytes-sha256 b)
+    (front-then k a ∙ e ∙ sym (front-then k b))).1
+
+pub message-digest : (key a b s : List ℕ) → IsRsaSignature key a s → IsRsaSignature key b s
+    → sha256 a ≡ sha256 b
+message-digest key a b s h i =
+    let same : i.n ≡ h.n = one-modulus key i.n h.n i.key_is h.key_is in
+    let other : IsSignatureOf h.n b s =
+    subst (λ (n : ℕ). IsSignatureOf n b s) same i.signed in
+    same-digest (length s) a b (sym h.signed.power ∙ other.power)
+
+same-encoded : (k : ℕ) (a b : List ℕ) → sha256 a ≡ sha256 b
+    → encoded_message k a ≡ encoded_message k b
+same-encoded k a b e =
+    encoded-parts k a
+    ∙ ap (λ (d : List ℕ). (0x00 ∷ 0x01 ∷ []) ++ (replicate (k - 54) 0xFF
+    ++ ((0x00 ∷ []) ++ (digest_front ++ d)))) e
+    ∙ sym (encoded-parts k b)
+
+pub digest-message : (key a b s : List ℕ) → sha256 a ≡ sha256 b → IsRsaSignature key a s
+    → IsRsaSignature key b s
+digest-message key a b s e h = record {
+  n = h.n;
+  key_is = h.key_is;
+  signed = record {
+    long = h.signed.long;
+    below = h.signed.below;
+    power = h.signed.power ∙ ap (number 0) (same-encoded (length s) a b e);
+  };
+}

@@ -1,0 +1,77 @@
+-- The definitions of signatures as tests.
+use Rattle.std.proofs.Common.{◌≡◌, ℕ, List, refl, subst, sym}
+use Rattle.std.proofs.Common.{Bool, true, false}
+use Rattle.std.specs.Prelude.{Decides, ◌&&◌}
+use Rattle.std.proofs.lemmas.Bool.{leb-true, ltb-true, eqb-true, le-leb, lt-ltb, eq-eqb}
+use Rattle.std.proofs.lemmas.Slice.Eq.{bytes_eq-Decides}
+use Rattle.rpki_rsa.specs.Signature.{rsa_key_octets, modulus_in, IsRsaKey, IsSignatureOf}
+use Rattle.rpki_rsa.specs.Signature.{IsRsaSignature, is_rsa_key, is_signature_of, is_rsa_signature}
+use Rattle.rpki_rsa.proofs.KeyFacts.{modulus-is}
+
+pub first-of : (a b : Bool) → (a && b) ≡ true → a ≡ true
+first-of true b h = refl
+first-of false b h = cc
+
+pub second-of : (a b : Bool) → (a && b) ≡ true → b ≡ true
+second-of true b h = h
+second-of false b h = cc
+
+both : (a b : Bool) → a ≡ true → b ≡ true → (a && b) ≡ true
+both true b e h = h
+both false b e h = cc
+
+pub key-test : (key : List ℕ) (n : ℕ) → Decides (is_rsa_key key n) (IsRsaKey key n)
+unfolding is_rsa_key
+key-test key n = (
+  λ t.
+      let a = second-of _ _ t in
+      let b = second-of _ _ a in
+      record {
+        octets = (bytes_eq-Decides key (rsa_key_octets n)).0 (first-of _ _ t);
+        modulus = record {
+          least = leb-true _ _ (first-of _ _ a);
+          most = ltb-true _ _ (first-of _ _ b);
+          odd = eqb-true _ _ (second-of _ _ b);
+        };
+      },
+  λ h. both _ _ ((bytes_eq-Decides key (rsa_key_octets n)).1 h.octets)
+      (both _ _ (le-leb _ _ h.modulus.least)
+      (both _ _ (lt-ltb _ _ h.modulus.most) (eq-eqb _ _ h.modulus.odd))),
+)
+
+signed-test : (n : ℕ) (message signature : List ℕ)
+    → Decides (is_signature_of n message signature) (IsSignatureOf n message signature)
+unfolding is_signature_of
+signed-test n message signature = (
+  λ t.
+      let a = second-of _ _ t in
+      let b = second-of _ _ a in
+      record {
+        long = record {
+          least = leb-true _ _ (first-of _ _ t);
+          most = ltb-true _ _ (first-of _ _ a);
+        };
+        below = ltb-true _ _ (first-of _ _ b);
+        power = eqb-true _ _ (second-of _ _ b);
+      },
+  λ h. both _ _ (le-leb _ _ h.long.least)
+      (both _ _ (lt-ltb _ _ h.long.most)
+      (both _ _ (lt-ltb _ _ h.below) (eq-eqb _ _ h.power))),
+)
+
+pub signature-test : (key message signature : List ℕ)
+    → Decides (is_rsa_signature key message signature) (IsRsaSignature key message signature)
+unfolding is_rsa_signature
+signature-test key message signature = (
+  λ t. record {
+    n = modulus_in key;
+    key_is = (key-test key (modulus_in key)).0 (first-of _ _ t);
+    signed = (signed-test (modulus_in key) message signature).0 (second-of _ _ t);
+  },
+  λ h.
+      let same : h.n ≡ modulus_in key = sym (modulus-is key h.n h.key_is) in
+      both _ _
+      ((key-test key (modulus_in key)).1 (subst (λ (m : ℕ). IsRsaKey key m) same h.key_is))
+      ((signed-test (modulus_in key) message signature).1
+      (subst (λ (m : ℕ). IsSignatureOf m message signature) same h.signed)),
+)

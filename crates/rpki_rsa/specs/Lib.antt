@@ -1,0 +1,4 @@
+pub mod KeyParts
+pub mod Limbs
+pub mod Sample
+pub mod Signature

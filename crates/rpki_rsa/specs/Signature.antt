@@ -1,0 +1,113 @@
+-- Signatures by RSASSA-PKCS1-v1_5 with SHA-256 (RFC 8017, sections 8.2.2 and 9.2; RFC 7935,
+-- section 2).
+use Rattle.std.specs.Prelude.{◌≡◌, ℕ, ◌-◌, ◌^◌, ◌%◌, ◌<◌, ◌≤◌, List, [], ◌∷◌, ◌++◌, length}
+use Rattle.std.specs.Prelude.{replicate, take, drop, Bool, ◌&&◌, ◌==◌, bytes_eq, nat_le, nat_lt}
+use Rattle.sha2.specs.Sha256.{sha256}
+use Rattle.rpki_der.specs.declared.mode.Mode.{Mode}
+use Rattle.rpki_der.specs.Grammar.{Integer}
+use Rattle.rpki_der.specs.Form.Parts.{Sequence}
+use Rattle.rpki_der.specs.Numbers.{number}
+use Rattle.rpki_der.specs.Tags.{SEQUENCE, INTEGER, OCTET_STRING}
+use Rattle.rpki_der.specs.Write.Written.{value_octets, integer_contents, number_octets}
+use Rattle.rpki_keys.specs.Algorithm.{sha_256, algorithm_and_null}
+use Rattle.rpki_basics.specs.Serial.{digits}
+
+-- ---- the key
+
+-- RSAPublicKey ::= SEQUENCE { modulus INTEGER, publicExponent INTEGER } in DER, of the exponent
+-- 65537, with these contents of the modulus (RFC 8017, appendix A.1.1; RFC 7935, section 3)
+unfoldable pub key_with : List ℕ → List ℕ
+key_with contents = value_octets SEQUENCE (value_octets INTEGER contents ++ number_octets 65537)
+
+-- the key of this modulus, which has at most 512 octets
+abbrev pub rsa_key_octets : ℕ → List ℕ
+rsa_key_octets n = key_with (integer_contents (digits 512 n))
+
+-- A modulus is odd and has 2048 to 4096 bits. RFC 7935, section 3, asks for 2048: that more may
+-- come is this project's own rule.
+pub record IsModulus (n : ℕ) : Type 0 where
+  pub least : 2 ^ 2047 ≤ n
+  pub most : n < 2 ^ 4096
+  pub odd : n % 2 ≡ 1
+
+-- the bits of a key are those of this modulus and of the exponent 65537
+pub record IsRsaKey (key : List ℕ) (n : ℕ) : Type 0 where
+  pub octets : key ≡ rsa_key_octets n
+  pub modulus : IsModulus n
+
+-- RSAPublicKey ::= SEQUENCE { modulus INTEGER, publicExponent INTEGER }, of the exponent 65537 (RFC
+-- 8017, appendix A.1.1; RFC 7935, section 3)
+abbrev pub RsaKeyForm : Mode → List ℕ → ℕ → Type 0
+RsaKeyForm mode octets n = Sequence mode (
+    (λ o. Integer mode o n)
+    ∷ (λ o. Integer mode o 65537)
+    ∷ []) octets
+
+-- ---- the encoded message
+
+-- DigestInfo ::= SEQUENCE { digestAlgorithm, digest OCTET STRING }, the algorithm with a NULL (RFC
+-- 8017, section 9.2, step 2 and note 1)
+unfoldable pub digest_info : List ℕ → List ℕ
+digest_info message =
+    value_octets SEQUENCE (algorithm_and_null sha_256 ++ value_octets OCTET_STRING (sha256 message))
+
+-- the encoded message of k octets: 00, 01, octets FF, 00 and the DigestInfo (RFC 8017, section 9.2,
+-- step 5)
+unfoldable pub encoded_message : ℕ → List ℕ → List ℕ
+encoded_message k message =
+    (0x00 ∷ 0x01 ∷ [])
+    ++ (replicate (k - length (digest_info message) - 3) 0xFF
+    ++ ((0x00 ∷ []) ++ digest_info message))
+
+-- ---- the signature
+
+-- the number is written with k octets, the first of which is not zero
+pub record HasOctets (n k : ℕ) : Type 0 where
+  pub least : 256 ^ (k - 1) ≤ n
+  pub most : n < 256 ^ k
+
+-- the signature of the message by the key with this modulus (RFC 8017, section 8.2.2)
+pub record IsSignatureOf (n : ℕ) (message signature : List ℕ) : Type 0 where
+  -- it has as many octets as the modulus (step 1)
+  pub long : HasOctets n (length signature)
+  -- its number is below the modulus (step 2b, by section 5.2.2, step 1)
+  pub below : number 0 signature < n
+  -- its power is the number of the encoded message (steps 2 to 4)
+  pub power : (number 0 signature ^ 65537) % n
+      ≡ number 0 (encoded_message (length signature) message)
+
+-- the key with these bits says yes to this signature of the message
+pub record IsRsaSignature (key message signature : List ℕ) : Type 0 where
+  pub n : ℕ
+  pub key_is : IsRsaKey key n
+  pub signed : IsSignatureOf n message signature
+
+-- ---- the same, as a test
+
+-- the contents of the modulus of a key, which stand behind eight octets and in front of five
+abbrev pub contents_in : List ℕ → List ℕ
+contents_in key = take (length key - 13) (drop 8 key)
+
+-- the number of the modulus of a key
+abbrev pub modulus_in : List ℕ → ℕ
+modulus_in key = number 0 (contents_in key)
+
+-- whether this is the key of this modulus
+unfoldable pub is_rsa_key : List ℕ → ℕ → Bool
+is_rsa_key key n =
+    bytes_eq key (rsa_key_octets n)
+    && (nat_le (2 ^ 2047) n && (nat_lt n (2 ^ 4096) && (n % 2 == 1)))
+
+-- whether this is the signature of the message by the key with this modulus
+unfoldable pub is_signature_of : ℕ → List ℕ → List ℕ → Bool
+is_signature_of n message signature =
+    nat_le (256 ^ (length signature - 1)) n
+    && (nat_lt n (256 ^ length signature)
+    && (nat_lt (number 0 signature) n
+    && ((number 0 signature ^ 65537) % n
+    == number 0 (encoded_message (length signature) message))))
+
+-- whether the key with these bits says yes to this signature of the message
+unfoldable pub is_rsa_signature : List ℕ → List ℕ → List ℕ → Bool
+is_rsa_signature key message signature =
+    is_rsa_key key (modulus_in key) && is_signature_of (modulus_in key) message signature
