@@ -1,16 +1,16 @@
 -- The extensions of a certificate are read exactly, in any order.
 use Rattle.std.proofs.Common.{◌≡◌, ℕ, Bool, true, false, cond, List, [], ◌∷◌, ◌++◌, Option, Some}
-use Rattle.std.proofs.Common.{None, inl, inr, refl, sym, ap, subst, ◌∙◌}
-use Rattle.std.specs.Prelude.{All, Decides, not, ◌&&◌, ◌||◌, ◌⊎◌, unwrap_or, bytes_eq}
+use Rattle.std.proofs.Common.{None, inl, inr, refl, sym, ap, subst}
+use Rattle.std.specs.Prelude.{All, Decides, not, ◌&&◌, ◌||◌, bytes_eq}
 use Rattle.std.specs.List.{list_all}
 use Rattle.std.proofs.lemmas.Bool.Decides.{Decides-and, Decides-or, Decides-by_and}
 use Rattle.std.proofs.lemmas.List.Elements.{All-nil, All-cons, All-head, All-tail}
 use Rattle.std.proofs.lemmas.Slice.Eq.{bytes_eq-Decides}
 use Rattle.rpki_der.specs.declared.mode.Mode.{Mode}
 use Rattle.rpki_der.specs.declared.mode.Mode.TheVariants.{Der}
-use Rattle.rpki_der.specs.Form.Keyed.{IsSaid, AreDistinct, Keyed, are_distinct, has_key, must}
+use Rattle.rpki_der.specs.Form.Keyed.{IsSaid, AreDistinct, are_distinct, has_key, must}
 use Rattle.rpki_der.specs.Form.Law.{TagSet, nothing, is, IsPart}
-use Rattle.rpki_der.specs.Form.Made.{Made, front_of}
+use Rattle.rpki_der.specs.Form.Made.{front_of}
 use Rattle.rpki_der.specs.Grammar.{IsBytes, Items}
 use Rattle.rpki_der.specs.Read.Parse.{Parser}
 use Rattle.rpki_der.specs.Tags.{SEQUENCE}
@@ -21,10 +21,6 @@ use Rattle.rpki_der.proofs.Form.Nested.{contents-bytes, string-bytes, front-unde
 use Rattle.rpki_der.proofs.Form.Words.{IsUnderstood, understand, items, in-tag, part-as, make}
 use Rattle.rpki_der.proofs.Reading.Exact.{IsBytes-left, IsBytes-right}
 use Rattle.rpki_der.proofs.Reading.Lengths.{bind_some, some_is}
-use Rattle.rpki_faults.specs.declared.overclaim.Overclaim.{Overclaim}
-use Rattle.rpki_faults.specs.declared.usage.KeyUsage.{KeyUsage}
-use Rattle.rpki_resources.specs.declared.block.Block.{Block}
-use Rattle.rpki_resources.specs.declared.resources.Claim.{Claim}
 use Rattle.rpki_resources.specs.declared.resources.Claim.TheVariants.{Missing}
 use Rattle.rpki_resources.specs.Claim.Read.{as_identifiers_at}
 use Rattle.rpki_resources.proofs.Claims.{as-identifiers-part}
@@ -52,7 +48,6 @@ use Rattle.rpki_extensions.specs.Extensions.{said_by_all, extensions_of, extensi
 use Rattle.rpki_extensions.specs.KeyIdentifiers.{subject_key_at, authority_key_at}
 use Rattle.rpki_extensions.specs.Points.{points_at}
 use Rattle.rpki_extensions.specs.Policies.{policies_at}
-use Rattle.rpki_extensions.specs.Purposes.{PurposesForm}
 use Rattle.rpki_extensions.specs.Usage.{key_usage_at}
 use Rattle.rpki_extensions.proofs.Resources.{policies-part, ip-claims-part}
 use Rattle.rpki_extensions.proofs.UrisExact.{points-part, authority-access-part}

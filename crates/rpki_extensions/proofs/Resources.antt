@@ -1,9 +1,8 @@
 -- Policies and claims are read exactly: a line for each field.
-use Rattle.std.proofs.Common.{◌≡◌, ℕ, Bool, true, false, cond, List, Option, Some, None, refl}
+use Rattle.std.proofs.Common.{◌≡◌, ℕ, Bool, true, false, cond, List, Some, None, refl}
 use Rattle.std.proofs.Common.{subst}
-use Rattle.std.specs.Prelude.{bytes_eq, Decides}
+use Rattle.std.specs.Prelude.{Decides}
 use Rattle.std.proofs.lemmas.Slice.Eq.{bytes_eq-Decides}
-use Rattle.rpki_der.specs.declared.mode.Mode.{Mode}
 use Rattle.rpki_der.specs.Grammar.{ObjectIdentifier}
 use Rattle.rpki_der.specs.Tags.{SEQUENCE, OBJECT_IDENTIFIER}
 use Rattle.rpki_der.specs.Form.Law.{nothing, is, IsPart}

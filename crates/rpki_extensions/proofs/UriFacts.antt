@@ -1,20 +1,19 @@
 -- The tests of URIs tell what a URI is.
-use Rattle.std.proofs.Common.{◌≡◌, ℕ, ◌+◌, ◌<◌, Bool, true, false, cond, List, [], ◌∷◌, ◌++◌}
-use Rattle.std.proofs.Common.{length, map, get_or, take, drop, Option, Some, None, Result, Ok, Err}
-use Rattle.std.proofs.Common.{refl, sym, ap, subst, ◌∙◌, codes}
-use Rattle.std.specs.Prelude.{Decides, ◌&&◌, ◌==◌, nat_lt, bytes_eq}
+use Rattle.std.proofs.Common.{◌≡◌, ℕ, ◌+◌, Bool, true, false, cond, List, [], ◌∷◌}
+use Rattle.std.proofs.Common.{length, get_or, drop, Option, Some, None, Ok, Err}
+use Rattle.std.proofs.Common.{refl, sym, codes}
+use Rattle.std.specs.Prelude.{Decides, ◌==◌, nat_lt}
 use Rattle.std.specs.List.{list_all}
-use Rattle.std.specs.Char.{to_ascii_lowercase}
 use Rattle.std.proofs.lemmas.Bool.{eqb-true, eq-eqb, ltb-true, lt-ltb, and_parts, and_from}
 use Rattle.std.proofs.lemmas.Slice.Eq.{bytes_eq-Decides}
 use Rattle.rpki_basics.specs.Segments.{segments}
-use Rattle.rpki_basics.specs.Uri.{is_uri_octet, Follows, GoesOn, IsUri, IsUriOf, AreRsyncSegments}
+use Rattle.rpki_basics.specs.Uri.{is_uri_octet, GoesOn, IsUri, IsUriOf, AreRsyncSegments}
 use Rattle.rpki_basics.specs.Uri.{AreHttpsSegments, IsRsync, IsHttps}
 use Rattle.rpki_basics.specs.UriTests.{are_rsync_segments, are_https_segments}
 use Rattle.rpki_basics.specs.declared.uri.Error.{Error}
 use Rattle.rpki_basics.specs.declared.uri.Error.TheVariants.{InvalidCharacters, BadScheme, BadUri}
 use Rattle.rpki_basics.specs.declared.uri.Error.TheVariants.{Memory}
-use Rattle.rpki_basics.proofs.UriFacts.{follows-at, Placed, placed, rsync-true, rsync-is, https-true}
+use Rattle.rpki_basics.proofs.UriFacts.{follows-at, placed, rsync-true, rsync-is, https-true}
 use Rattle.rpki_basics.proofs.UriFacts.{https-is}
 use Rattle.rpki_extensions.specs.UriTests.{does_go_on, has_scheme, is_uri, rsync_of, https_of}
 
@@ -60,13 +59,17 @@ module _ {P : List (List ℕ) → Type 0} {test : List (List ℕ) → Bool}
 
 pub rsync-decides : (text : List ℕ)
     → Decides (is_uri (codes "rsync") are_rsync_segments text) (IsRsync text)
-rsync-decides text =
-    (uri-true rsync-true rsync-is (codes "rsync") text, uri-is rsync-true rsync-is (codes "rsync") text)
+rsync-decides text = (
+  uri-true rsync-true rsync-is (codes "rsync") text,
+  uri-is rsync-true rsync-is (codes "rsync") text,
+)
 
 pub https-decides : (text : List ℕ)
     → Decides (is_uri (codes "https") are_https_segments text) (IsHttps text)
-https-decides text =
-    (uri-true https-true https-is (codes "https") text, uri-is https-true https-is (codes "https") text)
+https-decides text = (
+  uri-true https-true https-is (codes "https") text,
+  uri-is https-true https-is (codes "https") text,
+)
 
 -- a text that is refused is no URI
 no-uri : (scheme : List ℕ) (P : List (List ℕ) → Type 0) (text : List ℕ) (e : Error)

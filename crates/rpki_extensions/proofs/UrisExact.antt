@@ -1,9 +1,8 @@
 -- The extensions that hold URIs are read exactly: a line for each field.
 use Rattle.std.proofs.Common.{◌≡◌, ℕ, Bool, true, false, cond, List, Option, Some, None, refl, ap}
-use Rattle.std.proofs.Common.{sym, subst, ◌∙◌}
-use Rattle.std.specs.Prelude.{Decides, All, bytes_eq}
+use Rattle.std.proofs.Common.{sym, subst}
+use Rattle.std.specs.Prelude.{Decides}
 use Rattle.std.proofs.lemmas.Slice.Eq.{bytes_eq-Decides}
-use Rattle.rpki_der.specs.declared.mode.Mode.{Mode}
 use Rattle.rpki_der.specs.Form.Keyed.{IsSaid, First, first_said}
 use Rattle.rpki_der.specs.Form.Law.{nothing, is, IsPart}
 use Rattle.rpki_der.specs.Form.Parts.{sequence_at, context_at}
@@ -12,19 +11,17 @@ use Rattle.rpki_der.proofs.Form.Fields.{field, done, within}
 use Rattle.rpki_der.proofs.Form.Keyed.{first-sound, first-complete}
 use Rattle.rpki_der.proofs.Form.Kinds.{oid-part}
 use Rattle.rpki_der.proofs.Form.Words.{part-as, make, make-some, in-tag, items, all-items}
-use Rattle.rpki_basics.specs.Uri.{IsRsync, IsHttps}
 use Rattle.rpki_extensions.specs.declared.access.Access.{Access}
 use Rattle.rpki_extensions.specs.declared.access.SubjectAccess.{SubjectAccess}
-use Rattle.rpki_extensions.specs.declared.name.Name.{Name}
-use Rattle.rpki_extensions.specs.Access.{AccessForm, IsLocated, IsIssuerAccess, AuthorityAccessForm}
+use Rattle.rpki_extensions.specs.Access.{AccessForm, IsLocated, AuthorityAccessForm}
 use Rattle.rpki_extensions.specs.Access.{AreSubjectAccess, SubjectAccessForm, access_fields_at}
 use Rattle.rpki_extensions.specs.Access.{access_at, located, issuer_of, subject_of, ca_issuers}
 use Rattle.rpki_extensions.specs.Access.{authority_access_at, subject_access_at, ca_repository}
 use Rattle.rpki_extensions.specs.Access.{rpki_manifest, signed_object, rpki_notify}
-use Rattle.rpki_extensions.specs.Names.{IsNamed, named}
-use Rattle.rpki_extensions.specs.Points.{IsFirstRsync, FullNameForm, PointForm, PointsForm}
+use Rattle.rpki_extensions.specs.Names.{named}
+use Rattle.rpki_extensions.specs.Points.{FullNameForm, PointForm, PointsForm}
 use Rattle.rpki_extensions.specs.Points.{first_rsync_at, point_fields_at, one_point_at, points_at}
-use Rattle.rpki_extensions.specs.UriTests.{rsync_of, https_of}
+use Rattle.rpki_extensions.specs.UriTests.{rsync_of}
 use Rattle.rpki_extensions.proofs.NamesExact.{name-part, named-sound, named-complete, named-said}
 use Rattle.rpki_extensions.proofs.UriFacts.{rsync-decides, https-decides}
 

@@ -1,9 +1,8 @@
 -- The values of extensions are read exactly: a line for each field.
-use Rattle.std.proofs.Common.{◌≡◌, ◌<◌, ℕ, Bool, true, false, cond, List, length, Option, Some}
+use Rattle.std.proofs.Common.{◌≡◌, ℕ, Bool, true, false, cond, List, length, Some}
 use Rattle.std.proofs.Common.{None, refl, subst, eqb, ltb}
 use Rattle.std.specs.Prelude.{Decides, ◌&&◌, get_or, ◌/◌, ◌%◌, ◌^◌, ◌-◌}
 use Rattle.std.proofs.lemmas.Bool.Decides.{Decides-and, Decides-eqb, Decides-ltb}
-use Rattle.rpki_der.specs.declared.mode.Mode.{Mode}
 use Rattle.rpki_der.specs.Tags.{OCTET_STRING, OCTET_STRING_IN_PIECES, SEQUENCE, BIT_STRING}
 use Rattle.rpki_der.specs.Tags.{OBJECT_IDENTIFIER, context_primitive}
 use Rattle.rpki_der.specs.Form.Law.{nothing, is, or, IsPart}

@@ -1,5 +1,5 @@
 -- What is claimed of both families of addresses.
-use Rattle.std.specs.Prelude.{ℕ, List, Option, unwrap_or}
+use Rattle.std.specs.Prelude.{ℕ, List, unwrap_or}
 use Rattle.rpki_der.specs.declared.mode.Mode.{Mode}
 use Rattle.rpki_der.specs.Form.Made.{Made, made}
 use Rattle.rpki_der.specs.Read.Parse.{Parser}

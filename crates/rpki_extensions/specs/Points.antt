@@ -20,8 +20,8 @@ abbrev pub FullNameForm : Mode → List ℕ → List ℕ → Type 0
 FullNameForm mode = Understood IsFirstRsync (ImplicitOf 0 mode (NameForm mode))
 
 -- DistributionPoint: SEQUENCE { distributionPoint [0] DistributionPointName }, where the name is a
--- CHOICE, so that [0] is explicit (4.2.1.13). Neither reasons nor the issuer of the list are allowed
--- (RFC 6487, section 4.8.6).
+-- CHOICE, so that [0] is explicit (4.2.1.13). Neither reasons nor the issuer of the list are
+-- allowed (RFC 6487, section 4.8.6).
 abbrev pub PointForm : Mode → List ℕ → List ℕ → Type 0
 PointForm mode octets uri = Sequence mode (
     (λ o. Explicit 0 mode (λ c. FullNameForm mode c uri) o)

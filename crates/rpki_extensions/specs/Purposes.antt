@@ -16,4 +16,5 @@ PurposesForm mode octets purposes =
 
 -- the purposes, of which there is one at least
 abbrev pub purposes_at : Parser (List (List ℕ))
-purposes_at = tested (λ purposes. nat_le 1 (length purposes)) (sequence_of_at OBJECT_IDENTIFIER oid_at)
+purposes_at =
+    tested (λ purposes. nat_le 1 (length purposes)) (sequence_of_at OBJECT_IDENTIFIER oid_at)

@@ -42,9 +42,9 @@ fn take_claims(cons: &mut Constructed<'_>, alloc: Global) -> Result<IpClaims, De
 }
 
 impl IpClaims {
-    /// Reads the claims of addresses: for each family, in either order and at most once, NULL, which
-    /// inherits, or a set (RFC 3779, section 2.2.3; RFC 6487, section 4.8.10). A family that is
-    /// named with an empty set is claimed. Refuses as `ByFamily::take_from` does.
+    /// Reads the claims of addresses: for each family, in either order and at most once, NULL,
+    /// which inherits, or a set (RFC 3779, section 2.2.3; RFC 6487, section 4.8.10). A family that
+    /// is named with an empty set is claimed. Refuses as `ByFamily::take_from` does.
     pub fn take_from(alloc: Global, cons: &mut Constructed<'_>) -> Result<IpClaims, DecodeError>
         ensures reads { Reads (λ claims. claims) ip_claims_at cons.old result cons.new }
         ensures decodes { DecodesNext IpClaimsForm (λ claims. claims) cons.old result cons.new }

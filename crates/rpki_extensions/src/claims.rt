@@ -61,11 +61,7 @@ fn addresses_in(value: Bytes, alloc: Global) -> Result<IpClaims, DecodeError>
 }
 
 // The claims of addresses.
-fn addresses(
-    list: &[Extension],
-    policy: Overclaim,
-    alloc: Global,
-) -> Result<IpClaims, DecodeError>
+fn addresses(list: &[Extension], policy: Overclaim, alloc: Global) -> Result<IpClaims, DecodeError>
     ensures { Tells (λ claims. claims)
         (stated_or no_addresses (ip_resources policy) ip_claims_at list.now) result }
 {
@@ -82,7 +78,11 @@ fn addresses(
 fn as_numbers_in(value: Bytes, alloc: Global) -> Result<AsResources, DecodeError>
     ensures { Tells (λ claim. claim) (front_of as_identifiers_at Der value) result }
 {
-    Constructed::decode(value, Mode::Der, |cons| AsResources::take_identifiers_from(alloc, cons))
+    Constructed::decode(
+        value,
+        Mode::Der,
+        |cons| AsResources::take_identifiers_from(alloc, cons),
+    )
 }
 
 // The claim of AS numbers.
@@ -102,11 +102,7 @@ fn as_numbers(
 
 // The claims under this policy.
 #[tactic(auto, unfolding(crate::specs::Extensions::claims_under))]
-fn claims_under(
-    policy: Overclaim,
-    list: &[Extension],
-    alloc: Global,
-) -> Result<Claims, DecodeError>
+fn claims_under(policy: Overclaim, list: &[Extension], alloc: Global) -> Result<Claims, DecodeError>
     ensures { Tells (λ claims. claims) (claims_under policy list.now) result }
 {
     let addresses = addresses(list, policy, alloc)?;

@@ -55,7 +55,11 @@ pub fn refused(reason: Reason) -> DecodeError
 fn subject_key_in(value: Bytes, alloc: Global) -> Result<KeyIdentifier, DecodeError>
     ensures { Tells (λ id. id) (front_of subject_key_at Der value) result }
 {
-    Constructed::decode(value, Mode::Der, |cons| take_subject_key_identifier(alloc, cons))
+    Constructed::decode(
+        value,
+        Mode::Der,
+        |cons| take_subject_key_identifier(alloc, cons),
+    )
 }
 
 // The identifier of the key.

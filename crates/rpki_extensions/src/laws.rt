@@ -15,8 +15,8 @@ ghost use Rattle.rpki_extensions.specs.Policies.{PoliciesForm, policies_at};
 ghost use Rattle.rpki_extensions.specs.Purposes.{PurposesForm, purposes_at};
 ghost use Rattle.rpki_extensions.specs.Usage.{KeyUsageForm, key_usage_at};
 
-/// Reading the identifiers of keys is exact and unique, and DER is a part of BER (RFC 5280, sections
-/// 4.2.1.1 and 4.2.1.2).
+/// Reading the identifiers of keys is exact and unique, and DER is a part of BER (RFC 5280,
+/// sections 4.2.1.1 and 4.2.1.2).
 pub fn key_identifiers()
     ensures subject { IsReading subject_key_at SubjectKeyForm }
     ensures authority { IsReading authority_key_at AuthorityKeyForm }
@@ -52,8 +52,8 @@ pub fn locations()
     ensures subject { IsReading subject_access_at SubjectAccessForm }
 {}
 
-/// So it is with one extension, and with all extensions of a resource certificate (RFC 5280, section
-/// 4.1; RFC 6487, section 4.8).
+/// So it is with one extension, and with all extensions of a resource certificate (RFC 5280,
+/// section 4.1; RFC 6487, section 4.8).
 pub fn extensions()
     ensures one { IsReading extension_at ExtensionForm }
     ensures all { IsReading extensions_at ExtensionsForm }

@@ -1,5 +1,5 @@
-//! What the extensions of resource certificates and of their revocation lists say (RFC 5280,
-//! section 4.2; RFC 6487, section 4.8; RFC 3779).
+//! What the extensions of resource certificates say (RFC 5280, section 4.2; RFC 6487, section 4.8;
+//! RFC 3779).
 #![tactic(auto)]
 
 mod access;

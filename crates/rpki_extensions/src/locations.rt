@@ -34,7 +34,11 @@ pub struct Locations {
 fn crl_in(value: Bytes, alloc: Global) -> Result<Rsync, DecodeError>
     ensures { Tells (λ uri. uri) (front_of points_at Der value) result }
 {
-    Constructed::decode(value, Mode::Der, |cons| take_crl_distribution_points(alloc, cons))
+    Constructed::decode(
+        value,
+        Mode::Der,
+        |cons| take_crl_distribution_points(alloc, cons),
+    )
 }
 
 // The revocation list.
@@ -51,7 +55,11 @@ fn crl(list: &[Extension], alloc: Global) -> Result<Option<Rsync>, DecodeError>
 fn ca_issuer_in(value: Bytes, alloc: Global) -> Result<Option<Rsync>, DecodeError>
     ensures { Tells (λ uri. uri) (front_of authority_access_at Der value) result }
 {
-    Constructed::decode(value, Mode::Der, |cons| take_authority_info_access(alloc, cons))
+    Constructed::decode(
+        value,
+        Mode::Der,
+        |cons| take_authority_info_access(alloc, cons),
+    )
 }
 
 // The issuer's certificate.
@@ -69,7 +77,11 @@ fn ca_issuer(list: &[Extension], alloc: Global) -> Result<Option<Rsync>, DecodeE
 fn subject_in(value: Bytes, alloc: Global) -> Result<SubjectAccess, DecodeError>
     ensures { Tells (λ x. x) (front_of subject_access_at Der value) result }
 {
-    Constructed::decode(value, Mode::Der, |cons| take_subject_info_access(alloc, cons))
+    Constructed::decode(
+        value,
+        Mode::Der,
+        |cons| take_subject_info_access(alloc, cons),
+    )
 }
 
 // What is to be had from the subject.

@@ -17,7 +17,8 @@ const KEY_CERT_SIGN: usize = 5;
 // cRLSign (RFC 5280, section 4.2.1.3).
 const CRL_SIGN: usize = 6;
 
-// Whether the bit of this number is set (X.690, section 8.6.2). Those that are not used are no bits.
+// Whether the bit of this number is set (X.690, section 8.6.2). Those that are not used are no
+// bits.
 fn is_bit_set(bits: &BitString, number: usize) -> bool
     ensures { result ≡ is_bit_set number (bits.now.octets, bits.now.unused) }
 {

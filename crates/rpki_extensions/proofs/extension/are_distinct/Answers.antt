@@ -1,4 +1,4 @@
-use Rattle.std.proofs.Common.{◌≡◌, ◌<◌, false, true, length, get_or, refl, ap, ◌∙◌, rules, arith}
+use Rattle.std.proofs.Common.{◌≡◌, ◌<◌, false, true, length, get_or, refl, ap, ◌∙◌, rules}
 use Rattle.std.proofs.lemmas.Bool.Decides.{same_from_decides}
 use Rattle.rpki_der.proofs.Form.Keyed.{distinct-decides}
 use Rattle.rpki_extensions.specs.Extension.{oid_of}

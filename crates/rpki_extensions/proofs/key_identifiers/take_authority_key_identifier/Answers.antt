@@ -4,5 +4,6 @@ use Rattle.rpki_extensions.proofs.key_identifiers.take_authority_key_identifier.
 
 pub returns-clause-decodes : goal.returns-clause-decodes
 returns-clause-decodes c =
-    decodes-next authority-key-part (λ x. x) c.args.cons.now c.take_authority.result c.take_authority.new.cons
+    decodes-next authority-key-part (λ x. x)
+    c.args.cons.now c.take_authority.result c.take_authority.new.cons
     c.holds_octets.ensures c.take_authority.ensures.reads

@@ -4,5 +4,6 @@ use Rattle.rpki_extensions.proofs.key_identifiers.take_subject_key_identifier.Go
 
 pub returns-clause-decodes : goal.returns-clause-decodes
 returns-clause-decodes c =
-    decodes-next subject-key-part (λ x. x) c.args.cons.now c.take_subject.result c.take_subject.new.cons
+    decodes-next subject-key-part (λ x. x)
+    c.args.cons.now c.take_subject.result c.take_subject.new.cons
     c.holds_octets.ensures c.take_subject.ensures.reads
