@@ -243,11 +243,7 @@ pub static NUMBERS: [(&[u8], &[u8], &[u8]); 16] = [
         \xC0\x49\xA4\x46\xA8\x27\x87\x6E\xAB\x8F\xC8\x45\x5E",
     ),
     // empty
-    (
-        KEY_2048,
-        b"abc",
-        b"",
-    ),
+    (KEY_2048, b"abc", b""),
     // without the zero octet in front
     (
         KEY_2048,
