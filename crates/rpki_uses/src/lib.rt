@@ -1,6 +1,8 @@
 //! Proved callers of the libraries, which their pages `CALLING.md` quote.
 #![tactic(auto)]
 
+pub mod attributes;
+pub mod locators;
 pub mod peers;
 pub mod sets;
 #[cfg(test)]
