@@ -1,14 +1,12 @@
 //! Each call with its exact answer, where memory suffices.
 
-use crate::attributes::{attributes_for, message_for, take_signed};
-use crate::locators::{is_key_of, read_https_first};
 use crate::peers::PeerList;
 use crate::sets::{has_both, shared};
 use crate::values::{Pinned, identifier_in, is_valid_at, name_of, take_times};
 use bytes::Bytes;
 use rpki_basics::standin::StandIn;
 use rpki_basics::{Crypto, PublicKey, RpkiSignature, RpkiSignatureAlgorithm, Time, Validity};
-use rpki_der::{Constructed, Counted, DecodeError, Encode, Mode, Oid};
+use rpki_der::{Constructed, DecodeError, Encode, Mode};
 use rpki_resources::{
     Addr, AsBlock, AsBlocks, AsBlocksBuilder, Asn, IpBlock, IpBlocks, IpBlocksBuilder,
 };
@@ -135,47 +133,5 @@ fn sets(rt: HostRuntime) -> Result<(), Fail> {
     assert!(rt; has_both(&all, &as_set(alloc, &[1])?, &as_set(alloc, &[3])?));
     assert!(rt; !has_both(&all, &as_set(alloc, &[4])?, &as_set(alloc, &[3])?));
     assert!(rt; !has_both(&all, &as_set(alloc, &[1])?, &as_set(alloc, &[4])?));
-    Ok(())
-}
-
-#[test]
-fn attributes(rt: HostRuntime) -> Result<(), Fail> {
-    let alloc = rt.alloc();
-    let digest = StandIn.digest(b"abc");
-    let oid = Oid::from_bytes(Bytes::copy_from_slice(alloc, b"\x2A\x03")?);
-    let (Some(oid), Some(now)) = (oid, Time::utc(2024, 1, 1, 0, 0, 0)) else {
-        assert!(rt; false);
-        return Ok(());
-    };
-    let mut octets = attributes_for(alloc, &oid, &digest, now)?;
-    let len = octets.len();
-    octets.extend_from_slice(b"\x04\x01\x07")?;
-    let source = Bytes::copy_from_slice(alloc, octets.as_slice())?;
-    let read = Constructed::decode(source, Mode::Der, |cons| take_signed(alloc, cons));
-    let (attrs, signature) = read?;
-    assert!(rt; attrs.signing_time() == now && signature.as_slice() == b"\x07".as_slice());
-    let Some(message) = message_for(alloc, &attrs, &digest)? else {
-        assert!(rt; false);
-        return Ok(());
-    };
-    assert!(rt; message[0] == 0x31 && message[1..] == octets[1..len]);
-    assert!(rt; message_for(alloc, &attrs, &StandIn.digest(b"abd"))?.is_none());
-    Ok(())
-}
-
-/// A locator of the key whose bits are `abc`, in base64.
-const TAL: &[u8] = b"rsync://a/b\nhttps://a\n\nMBUwDQYJKoZIhvcNAQEBBQADBABhYmM=";
-
-#[test]
-fn locators(rt: HostRuntime) -> Result<(), Fail> {
-    let alloc = rt.alloc();
-    let tal = read_https_first(alloc, String::new(alloc), &mut Counted::new(TAL))?;
-    let mut text = String::new(alloc);
-    for uri in tal.uris() {
-        text.push_str(uri.as_str())?;
-    }
-    assert_eq!(rt; text.as_str(), "https://arsync://a/b");
-    let key = PublicKey::decode(Bytes::copy_from_slice(alloc, KEY)?)?;
-    assert!(rt; is_key_of(&tal, &key) && !is_key_of(&tal, &key_of(alloc, b"ab")?));
     Ok(())
 }
