@@ -1,14 +1,12 @@
 -- Reading signed attributes, as functions on lists.
-use Rattle.std.specs.Prelude.{◌≡◌, ℕ, List, length, nat_le, Option, None, Some, Result, Ok, Err}
+use Rattle.std.specs.Prelude.{◌≡◌, ℕ, List, length, nat_le, Option, None, Some}
 use Rattle.std.specs.Prelude.{if◌then◌else◌}
 use Rattle.rpki_der.specs.declared.mode.Mode.{Mode}
-use Rattle.rpki_der.specs.declared.error.DecodeError.{DecodeError}
 use Rattle.rpki_der.specs.Form.Keyed.{said_once}
 use Rattle.rpki_der.specs.Form.Made.{understood, with_octets, all_read}
 use Rattle.rpki_der.specs.Form.Parts.{items_at, context_at}
 use Rattle.rpki_der.specs.Numbers.{MAX_DEPTH}
 use Rattle.rpki_der.specs.Read.Parse.{Parser, ◌>>=◌, oid_at, octets_at}
-use Rattle.rpki_der.specs.Read.Reads.{Refuses}
 use Rattle.rpki_der.specs.Tags.{SEQUENCE}
 use Rattle.rpki_basics.specs.TimeRead.{time_at}
 use Rattle.rpki_attributes.specs.declared.attribute.OtherTypes.{OtherTypes}
@@ -16,12 +14,6 @@ use Rattle.rpki_attributes.specs.Attribute.{Attribute, type_of, id_content_type}
 use Rattle.rpki_attributes.specs.Attribute.{id_message_digest, id_signing_time}
 use Rattle.rpki_attributes.specs.AttributeRead.{attribute_at}
 use Rattle.rpki_attributes.specs.Attrs.{SignedAttributes, most_octets}
-
--- what was understood is what was found, and other errors than for memory come only where nothing
--- is found
-abbrev pub Tells : {T X : Type 0} → (T → X) → Option X → Result T DecodeError → Type 0
-Tells view found (Ok t) = found ≡ Some (view t)
-Tells view found (Err e) = Refuses e (found ≡ None)
 
 -- what p reads in the values of the only attribute of this type, all of them
 abbrev pub said_by : {X : Type 0} → List ℕ → Parser X → Mode → List Attribute → Option X

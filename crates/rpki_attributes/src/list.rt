@@ -3,11 +3,10 @@
 ghost use Rattle.std.specs.Prelude.{◌≡◌};
 ghost use Rattle.rpki_der.specs.Form.Keyed.{has_key, only_one};
 ghost use Rattle.rpki_der.specs.Form.Parts.{items_at};
-ghost use Rattle.rpki_der.specs.Read.Reads.{Reads};
+ghost use Rattle.rpki_der.specs.Read.Reads.{Reads, Tells};
 ghost use Rattle.rpki_der.specs.Tags.{SEQUENCE};
 ghost use Rattle.rpki_attributes.specs.Attribute.{type_of};
 ghost use Rattle.rpki_attributes.specs.AttributeRead.{attribute_at};
-ghost use Rattle.rpki_attributes.specs.AttrsRead.{Tells};
 
 use crate::attribute::{Attribute, OtherTypes, take_opt_attribute};
 use rpki_der::{Constructed, ContentFault, DecodeError, Reason};

@@ -223,8 +223,8 @@ impl ListItem for Digit {
     ghost at = { u8_at };
 
     fn take_opt_from(
-        cons: &mut Constructed<'_>,
         _alloc: Global,
+        cons: &mut Constructed<'_>,
     ) -> Result<Option<Digit>, DecodeError> {
         match cons.take_opt_u8()? {
             Some(n) => Ok(Some(Digit(n))),

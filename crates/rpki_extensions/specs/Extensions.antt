@@ -1,16 +1,14 @@
 -- The extensions of a resource certificate. The sections are those of RFC 6487, where no other RFC
 -- is named.
 use Rattle.std.specs.Prelude.{◌≡◌, ℕ, List, [], ◌∷◌, Bool, true, false, not, ◌&&◌, ◌||◌, ◌⊎◌, All}
-use Rattle.std.specs.Prelude.{Option, None, Some, Result, Ok, Err, unwrap_or, if◌then◌else◌}
+use Rattle.std.specs.Prelude.{Option, None, Some, unwrap_or, if◌then◌else◌}
 use Rattle.std.specs.Prelude.{bytes_eq}
 use Rattle.std.specs.List.{list_all}
-use Rattle.rpki_der.specs.declared.error.DecodeError.{DecodeError}
 use Rattle.rpki_der.specs.declared.mode.Mode.{Mode}
 use Rattle.rpki_der.specs.Form.Keyed.{AreDistinct, are_distinct, has_key, must}
 use Rattle.rpki_der.specs.Form.Made.{Understood, Made, made, partly}
 use Rattle.rpki_der.specs.Form.Parts.{SequenceOf, sequence_at}
 use Rattle.rpki_der.specs.Read.Parse.{Parser, ◌>>=◌}
-use Rattle.rpki_der.specs.Read.Reads.{Refuses}
 use Rattle.rpki_faults.specs.declared.overclaim.Overclaim.{Overclaim}
 use Rattle.rpki_faults.specs.declared.overclaim.Overclaim.TheVariants.{Refuse, Trim}
 use Rattle.rpki_resources.specs.declared.resources.Claim.TheVariants.{Missing}
@@ -179,12 +177,6 @@ abbrev pub ExtensionsForm : Mode → List ℕ → Extensions → Type 0
 ExtensionsForm mode = Understood AreExtensions (SequenceOf mode (ExtensionForm mode))
 
 -- ---- as functions
-
--- What was understood is what was found, and errors other than for memory come only where nothing
--- is found.
-abbrev pub Tells : {T X : Type 0} → (T → X) → Option X → Result T DecodeError → Type 0
-Tells view found (Ok t) = found ≡ Some (view t)
-Tells view found (Err e) = Refuses e (found ≡ None)
 
 -- whether it is one of these
 abbrev pub is_among : List (List ℕ) → List ℕ → Bool

@@ -72,8 +72,8 @@ impl ListItem for Access {
     ghost at = { access_at };
 
     fn take_opt_from(
-        cons: &mut Constructed<'_>,
         _alloc: Global,
+        cons: &mut Constructed<'_>,
     ) -> Result<Option<Access>, DecodeError> {
         cons.take_opt_sequence(take_fields)
     }

@@ -45,8 +45,8 @@ impl ListItem for Extension {
     ghost at = { extension_at };
 
     fn take_opt_from(
-        cons: &mut Constructed<'_>,
         alloc: Global,
+        cons: &mut Constructed<'_>,
     ) -> Result<Option<Extension>, DecodeError> {
         cons.take_opt_sequence(|cons| take_fields(cons, alloc))
     }

@@ -3,9 +3,9 @@
 ghost use Rattle.std.specs.Prelude.{◌≡◌};
 ghost use Rattle.rpki_der.specs.Form.Decodes.{DecodesNext};
 ghost use Rattle.rpki_der.specs.Form.Made.{partly};
-ghost use Rattle.rpki_der.specs.Read.Reads.{Reads, Stays};
+ghost use Rattle.rpki_der.specs.Read.Reads.{Reads, Stays, Tells};
 ghost use Rattle.rpki_extensions.specs.Extension.{list_at};
-ghost use Rattle.rpki_extensions.specs.Extensions.{ExtensionsForm, Tells, said_by_all};
+ghost use Rattle.rpki_extensions.specs.Extensions.{ExtensionsForm, said_by_all};
 ghost use Rattle.rpki_extensions.specs.Extensions.{extensions_of, extensions_at};
 
 use crate::claims::{Claims, claims_of};

@@ -2,12 +2,12 @@
 
 ghost use Rattle.rpki_der.specs.Form.Keyed.{must};
 ghost use Rattle.rpki_der.specs.Form.Made.{front_of};
-ghost use Rattle.rpki_der.specs.Read.Reads.{Reads};
+ghost use Rattle.rpki_der.specs.Read.Reads.{Reads, Tells};
 ghost use Rattle.rpki_der.specs.declared.mode.Mode.TheVariants.{Der};
 ghost use Rattle.std.specs.Prelude.{◌≡◌, false};
 ghost use Rattle.rpki_extensions.specs.BasicConstraints.{basic_constraints_at};
 ghost use Rattle.rpki_extensions.specs.Extension.{stated};
-ghost use Rattle.rpki_extensions.specs.Extensions.{Tells, stated_or, has_purposes_at, key_facts_of};
+ghost use Rattle.rpki_extensions.specs.Extensions.{stated_or, has_purposes_at, key_facts_of};
 ghost use Rattle.rpki_extensions.specs.Extensions.{subject_key_identifier, key_usage};
 ghost use Rattle.rpki_extensions.specs.Extensions.{authority_key_identifier, basic_constraints};
 ghost use Rattle.rpki_extensions.specs.Extensions.{extended_key_usage};

@@ -3,9 +3,10 @@
 ghost use Rattle.std.specs.Prelude.{◌≡◌, None};
 ghost use Rattle.rpki_der.specs.Form.Made.{front_of};
 ghost use Rattle.rpki_der.specs.declared.mode.Mode.TheVariants.{Der};
+ghost use Rattle.rpki_der.specs.Read.Reads.{Tells};
 ghost use Rattle.rpki_extensions.specs.Access.{authority_access_at, subject_access_at};
 ghost use Rattle.rpki_extensions.specs.Extension.{stated};
-ghost use Rattle.rpki_extensions.specs.Extensions.{Tells, stated_or, no_access, locations_of};
+ghost use Rattle.rpki_extensions.specs.Extensions.{stated_or, no_access, locations_of};
 ghost use Rattle.rpki_extensions.specs.Extensions.{crl_distribution_points};
 ghost use Rattle.rpki_extensions.specs.Extensions.{authority_info_access, subject_info_access};
 ghost use Rattle.rpki_extensions.specs.Points.{points_at};

@@ -43,8 +43,8 @@ impl ListItem for Purpose {
 
     #[tactic(auto, unfolding(rpki_der::specs::Read::Parse::oid_of))]
     fn take_opt_from(
-        cons: &mut Constructed<'_>,
         _alloc: Global,
+        cons: &mut Constructed<'_>,
     ) -> Result<Option<Purpose>, DecodeError> {
         match cons.take_opt_primitive_if(Tag::OBJECT_IDENTIFIER)? {
             None => Ok(None),

@@ -3,11 +3,11 @@
 ghost use Rattle.std.specs.Prelude.{◌≡◌};
 ghost use Rattle.rpki_der.specs.Numbers.{MAX_DEPTH};
 ghost use Rattle.rpki_der.specs.Read.Parse.{oid_at, octets_at};
-ghost use Rattle.rpki_der.specs.Read.Reads.{Reads, Stays};
+ghost use Rattle.rpki_der.specs.Read.Reads.{Reads, Stays, Tells};
 ghost use Rattle.rpki_basics.specs.TimeRead.{time_at};
 ghost use Rattle.rpki_attributes.specs.Attribute.{id_content_type, id_message_digest};
 ghost use Rattle.rpki_attributes.specs.Attribute.{id_signing_time};
-ghost use Rattle.rpki_attributes.specs.AttrsRead.{Tells, said_by, fields_of, says_of, list_at};
+ghost use Rattle.rpki_attributes.specs.AttrsRead.{said_by, fields_of, says_of, list_at};
 ghost use Rattle.rpki_attributes.specs.AttrsRead.{contents_at, attrs_at};
 
 use crate::attribute::{Attribute, CONTENT_TYPE, MESSAGE_DIGEST, OtherTypes, SIGNING_TIME};

@@ -46,6 +46,12 @@ Found view None (Ok t) = ⊥
 Found view (Some x) (Ok t) = view t ≡ x.0
 Found view found (Err e) = Refuses e (found ≡ None)
 
+-- What was understood is what was found, and other errors than for memory come only where nothing
+-- is found.
+abbrev pub Tells : {T X : Type 0} → (T → X) → Option X → Result T DecodeError → Type 0
+Tells view found (Ok t) = found ≡ Some (view t)
+Tells view found (Err e) = Refuses e (found ≡ None)
+
 -- a value of which P holds, unless memory runs out
 abbrev pub OkOrMemory : {T : Type 0} → Result T DecodeError → (T → Type 0) → Type 0
 OkOrMemory (Ok t) P = P t

@@ -21,7 +21,7 @@ pub trait ListItem: Sized {
     /// Takes the value in front if it has the tag. Refuses by `Malformed` or the `Content` fault
     /// where it has the tag and is not of the form, or by `Memory`. A value that is taken has an
     /// octet at least.
-    fn take_opt_from(cons: &mut Constructed<'_>, alloc: Global) -> Result<Option<Self>, DecodeError>
+    fn take_opt_from(alloc: Global, cons: &mut Constructed<'_>) -> Result<Option<Self>, DecodeError>
         ensures reads { Reads (λ item. item) (optional tag at) cons.old result cons.new }
         ensures shorter { IfOk result
             (λ item. IfSome item (λ _. length cons.new.rest < length cons.old.rest)) };
@@ -47,7 +47,7 @@ impl<'a> Constructed<'a> {
         ensures { Reads (λ items. items.items) (items_at T.tag T.at) self.old result self.new }
     {
         let mut items = Vec::new(alloc);
-        while let Some(item) = T::take_opt_from(self, alloc)? {
+        while let Some(item) = T::take_opt_from(alloc, self)? {
             items.push(item)?;
         }
         Ok(items)
