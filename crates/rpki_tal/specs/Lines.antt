@@ -3,17 +3,29 @@ use Rattle.std.specs.Prelude.{◌≡◌, ◌≢◌, ℕ, ◌-◌, List, [], ◌�
 use Rattle.std.specs.Prelude.{All, Bool, ◌==◌, ◌||◌, not, if◌then◌else◌}
 use Rattle.std.specs.List.{filter}
 
+-- a space
+abbrev pub SPACE : ℕ
+SPACE = 0x20
+
+-- a horizontal tab
+abbrev pub TAB : ℕ
+TAB = 0x09
+
+-- a form feed
+abbrev pub FORM_FEED : ℕ
+FORM_FEED = 0x0C
+
 -- a line feed
 abbrev pub LINE_FEED : ℕ
-LINE_FEED = 10
+LINE_FEED = 0x0A
 
 -- a carriage return
 abbrev pub CARRIAGE_RETURN : ℕ
-CARRIAGE_RETURN = 13
+CARRIAGE_RETURN = 0x0D
 
 -- the sign # of a comment
 abbrev pub NUMBER_SIGN : ℕ
-NUMBER_SIGN = 35
+NUMBER_SIGN = 0x23
 
 -- No line feed stands in the text.
 abbrev pub IsOneLine : List ℕ → Type 0
@@ -42,7 +54,8 @@ IsComment octets comment =
 -- That others than line ends may stand there is this project's own rule.
 abbrev pub is_blank : ℕ → Bool
 is_blank octet =
-    (octet == 0x20) || (octet == 0x09) || (octet == 0x0A) || (octet == 0x0C) || (octet == 0x0D)
+    (octet == SPACE) || (octet == TAB) || (octet == LINE_FEED) || (octet == FORM_FEED)
+    || (octet == CARRIAGE_RETURN)
 
 -- The text without the octets that may break base64 up.
 abbrev pub without_blanks : List ℕ → List ℕ

@@ -7,6 +7,9 @@ ghost use Rattle.rpki_tal.specs.Lines.{IsOneLine, IsLine};
 
 use std::alloc::{AllocError, Global};
 
+/// The octet of a form feed, which Rust has no escape for.
+const FORM_FEED: u8 = 0x0C;
+
 /// The text of the first line, and what follows its line feed, or nothing where there is no line
 /// feed.
 pub fn take_line(text: &[u8]) -> Option<(&[u8], &[u8])>
@@ -58,5 +61,5 @@ pub fn without_blanks(alloc: Global, text: &[u8]) -> Result<Vec<u8>, AllocError>
 fn is_blank(octet: u8) -> bool
     ensures { result ≡ is_blank octet }
 {
-    matches!(octet, b' ' | b'\t' | b'\n' | 0x0C | b'\r')
+    matches!(octet, b' ' | b'\t' | b'\n' | FORM_FEED | b'\r')
 }
