@@ -12,8 +12,8 @@ use std::time::Instant;
 
 /// How often one measurement tests a signature, and how many measurements there are, of which the fastest counts; the
 /// fastest of so many seconds of openssl counts too.
-const ROUNDS: u32 = 50;
-const TRIES: u32 = 20;
+const ROUNDS: u32 = 20;
+const TRIES: u32 = 200;
 const SECONDS: u32 = 3;
 
 const SIZES: [u32; 3] = [2048, 3072, 4096];

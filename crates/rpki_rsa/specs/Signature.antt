@@ -22,8 +22,8 @@ public_exponent = 65537
 abbrev pub least_bits : ℕ
 least_bits = 2048
 
--- How many bits a modulus has at most. RFC 7935, section 3, asks for 2048: that more may come is this
--- project's own rule.
+-- How many bits a modulus has at most. RFC 7935, section 3, asks for 2048: that more may come is
+-- this project's own rule.
 abbrev pub most_bits : ℕ
 most_bits = 4096
 
@@ -36,7 +36,8 @@ abbrev pub most_octets : ℕ
 most_octets = 512
 
 -- RSAPublicKey ::= SEQUENCE { modulus INTEGER, publicExponent INTEGER } in DER, of the exponent
--- 65537, with these contents of the modulus (RFC 8017, appendix A.1.1; RFC 7935, sections 3 and 3.1)
+-- 65537, with these contents of the modulus (RFC 8017, appendix A.1.1; RFC 7935, sections 3 and
+-- 3.1)
 unfoldable pub key_with : List ℕ → List ℕ
 key_with contents =
     value_octets SEQUENCE (value_octets INTEGER contents ++ number_octets public_exponent)
@@ -46,8 +47,8 @@ abbrev pub rsa_key_octets : ℕ → List ℕ
 rsa_key_octets n = key_with (integer_contents (digits most_octets n))
 
 -- What is taken for a modulus: an odd number of 2048 to 4096 bits. RFC 7935, section 3, asks for
--- 2048: that more may come is this project's own rule. That it is a product of two primes (RFC 8017,
--- section 3.1) can't be seen from the number, and is no part of this.
+-- 2048: that more may come is this project's own rule. That it is a product of two primes (RFC
+-- 8017, section 3.1) can't be seen from the number, and is no part of this.
 pub record IsModulus (n : ℕ) : Type 0 where
   -- it has 2048 bits or more
   pub least : 2 ^ (least_bits - 1) ≤ n
@@ -89,7 +90,8 @@ padding_octet = 0xFF
 abbrev pub padding_end : List ℕ
 padding_end = 0x00 ∷ []
 
--- how many octets of padding make the encoded message one of k octets (RFC 8017, section 9.2, step 4)
+-- how many octets of padding make the encoded message one of k octets (RFC 8017, section 9.2, step
+-- 4)
 abbrev pub padding_length : ℕ → List ℕ → ℕ
 padding_length k message = k - length (digest_info message) - length (padding_front ++ padding_end)
 

@@ -9,12 +9,13 @@ use crate::limbs::clear;
 use crate::octets::push_octets;
 use sha2::{Digest, Sha256};
 
-// What stands in front of the padding, what it is made of, and what stands between it and the
-// DigestInfo (RFC 8017, section 9.2, steps 4 and 5).
+// What stands in front of the padding (RFC 8017, section 9.2, step 5).
 const FRONT: [u8; 2] = [0x00, 0x01];
 
+// What the padding is made of (RFC 8017, section 9.2, step 4).
 const PADDING: [u8; 1] = [0xFF];
 
+// What stands between the padding and the DigestInfo (RFC 8017, section 9.2, step 5).
 const END: [u8; 1] = [0x00];
 
 // A DigestInfo of SHA-256 up to its digest (RFC 8017, section 9.2, note 1).
