@@ -1,7 +1,8 @@
 #!/usr/bin/env python3
 """Makes the rows of crates/rpki_rsa_tests: keys, messages and signatures.
 
-    tools/rsa_vectors.py FOLDER      writes FOLDER/keys.rt, FOLDER/right.rt and FOLDER/wrong.rt
+    tools/rsa_vectors.py FOLDER      writes FOLDER/keys.rt, right.rt, numbers.rt, kinds.rt,
+                                     encodings.rt, moduli.rt and others.rt
 
 The primes of a key are drawn from SHA-256 of its name, so each run makes the same rows. `openssl`
 tests each key, and makes each signature by `openssl dgst` or, of an encoded message that is wrong,
@@ -305,14 +306,14 @@ def literal(data, indent, begun=False):
 
 
 def table(name, doc, rows):
-    lines = [f"/// {doc}", f"pub static {name}: [(&[u8], &[u8], &[u8]); {len(rows)}] = ["]
+    lines = [f"/// {doc}", f"pub static {name}: [(&str, &[u8], &[u8], &[u8]); {len(rows)}] = ["]
     for why, key, message, signature in rows:
-        lines.append(f"    // {why}")
-        lines.append("    (")
-        lines.append(f"        {key if isinstance(key, str) else literal(key, 8)},")
-        lines.append(f"        {literal(message, 8)},")
-        lines.append(f"        {literal(signature, 8)},")
-        lines.append("    ),")
+        key = key if isinstance(key, str) else literal(key, 8)
+        parts = [f'"{why}"', key, literal(message, 8), literal(signature, 8)]
+        line = f"    ({', '.join(parts)}),"
+        if "\n" in line or len(line) > 100:
+            line = "    (\n" + "".join(f"        {part},\n" for part in parts) + "    ),"
+        lines.append(line)
     return "\n".join(lines) + "\n];\n"
 
 
@@ -324,24 +325,28 @@ def main():
     keys = {key.name: key for key, _ in made}
     other = keys["OTHER_2048"] = Key("OTHER_2048", 2048)
     key, wide = keys["KEY_2048"], keys["KEY_2052"]
-    right = {
-        "SIZES": ("Moduli of many sizes", [row for _, row in made]),
-        "MESSAGES": ("Messages of many lengths", list(right_rows(key, other))),
-    }
-    bad_keys = list(wrong_keys(key))
+    bad = list(wrong_keys(key))
+    right = [
+        ("SIZES", "Moduli of many sizes", [row for _, row in made]),
+        ("MESSAGES", "Messages of many lengths", list(right_rows(key, other))),
+    ]
     wrong = {
-        "NUMBERS": ("Signatures of another number or length", list(wrong_numbers(key, wide))),
-        "KINDS": ("Signatures of other messages and kinds", list(wrong_messages(key, other))),
-        "ENCODINGS": ("Encoded messages that are another", list(wrong_encodings(key))),
-        "MODULI": ("Keys of another modulus or exponent", bad_keys[:10]),
-        "KEYS": ("Octets that are no key", bad_keys[10:]),
+        "numbers": ("Signatures of another number or length", list(wrong_numbers(key, wide))),
+        "kinds": ("Signatures of other messages and kinds", list(wrong_messages(key, other))),
+        "encodings": ("Other encoded messages", list(wrong_encodings(key))),
+        "moduli": ("Keys of another modulus or exponent", bad[:10]),
+        "others": ("Octets that are no key", bad[10:]),
     }
-    for tables, verdict in ((right, True), (wrong, False)):
-        for _, rows in tables.values():
+    wrong = {word: (word.upper(), doc, rows) for word, (doc, rows) in wrong.items()}
+    for tables, verdict in ((right, True), (wrong.values(), False)):
+        for _, _, rows in tables:
             for row in rows:
                 ask(keys, row, verdict)
-    write(folder, keys, right, wrong)
-    print(*(f"{name} {len(rows)}" for name, (_, rows) in [*right.items(), *wrong.items()]))
+    write_keys(folder, keys)
+    write(folder / "right.rt", "Rows that are a signature", right)
+    for word, of_word in wrong.items():
+        write(folder / f"{word}.rt", "Rows that are no signature", [of_word])
+    print(*(f"{name} {len(rows)}" for name, _, rows in [*right, *wrong.values()]))
 
 
 def ask(keys, row, verdict):
@@ -351,25 +356,28 @@ def ask(keys, row, verdict):
     assert says_yes(der, message, signature) == verdict or own, why
 
 
-def write(folder, keys, right, wrong):
+def write_keys(folder, keys):
     text = "//! Keys of many sizes, which `tools/rsa_vectors.py` made.\n"
     for name, key in keys.items():
         text += f"\npub const {name}: &[u8] = {literal(key.der, 4, True)};\n"
     (folder / "keys.rt").write_text(text)
-    for word, doc, tables in (
-        ("right", "Keys, messages and signatures", right),
-        ("wrong", "Keys, messages and octets that are no signature", wrong),
-    ):
-        names = {row[1] for _, rows in tables.values() for row in rows}
-        names = sorted(name for name in names if isinstance(name, str))
-        text = f"//! {doc}, which `tools/rsa_vectors.py` made by `openssl`.\n\n"
-        text += use_line(names)
-        for name, (why, rows) in tables.items():
-            text += "\n" + table(name, why + ".", [row[:4] for row in rows])
-        (folder / f"{word}.rt").write_text(text)
+
+
+def write(path, doc, tables):
+    """Writes tables of rows: what is tried, a key, a message and a signature."""
+    names = {row[1] for _, _, rows in tables for row in rows}
+    names = sorted(name for name in names if isinstance(name, str))
+    text = f"//! {doc}, made by `openssl` (`tools/rsa_vectors.py`).\n"
+    if names:
+        text += "\n" + use_line(names)
+    for name, why, rows in tables:
+        text += "\n" + table(name, why + ".", [row[:4] for row in rows])
+    path.write_text(text)
 
 
 def use_line(names):
+    if len(names) == 1:
+        return f"use crate::keys::{names[0]};\n"
     line = f"use crate::keys::{{{', '.join(names)}}};\n"
     if len(line) <= 101:
         return line

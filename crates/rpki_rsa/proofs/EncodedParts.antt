@@ -9,7 +9,7 @@ use Rattle.rpki_der.specs.Write.Written.{length_octets, value_octets}
 use Rattle.rpki_keys.specs.Algorithm.{sha_256, algorithm_and_null}
 use Rattle.rpki_rsa.specs.Limbs.{value}
 use Rattle.rpki_rsa.specs.Signature.{digest_info, encoded_message}
-use Rattle.rpki_rsa.proofs.LimbFacts.{number-append}
+use Rattle.rpki_rsa.proofs.LimbFacts.{number-append, value_below-zero}
 use Rattle.rpki_rsa.proofs.Remainders.{low_limb_all}
 
 -- a DigestInfo up to its digest
@@ -80,5 +80,10 @@ encoded_number k m v1 v2 v3 v4 v5 e1 e2 e3 e4 e5 =
     ∙ sym (number-append 0 head (fill ++ (zero_octet ++ info)))
     ∙ ap (number 0) (sym (encoded-parts k m))
 
-pub parity : (xs : List ℕ) → 0 < length xs → value xs % 2 ≡ get_or xs 0 0 % 2
+parity : (xs : List ℕ) → 0 < length xs → value xs % 2 ≡ get_or xs 0 0 % 2
 parity xs h = omega (arith, (low_limb_all xs h).1)
+
+-- an odd number has an odd lowest limb
+pub odd-limb : (xs : List ℕ) → value xs % 2 ≡ 1 → get_or xs 0 0 % 2 ≡ 1
+odd-limb [] h = absurd (omega (arith, h, value_below-zero []))
+odd-limb (x ∷ xs) h = sym (parity (x ∷ xs) (omega arith)) ∙ h

@@ -5,7 +5,7 @@ use Rattle.std.proofs.Common.{ap, ◌∙◌, arith, subst}
 use Rattle.std.specs.Prelude.{nat_lt, ◌&&◌}
 use Rattle.std.proofs.lemmas.Bool.{leb-true, ltb-true}
 use Rattle.std.proofs.lemmas.Nat.{mul-mod_first, mul-mod, pow-add}
-use Rattle.std.proofs.Math.Nat.{mod-mod, pow-suc, pow-zero}
+use Rattle.std.proofs.Math.Nat.{mod-mod, pow-suc}
 use Rattle.sha2.proofs.Facts256.{digest_of_abc_256}
 use Rattle.rpki_der.specs.Grammar.{IsBytes}
 use Rattle.rpki_der.specs.Numbers.{number}
@@ -13,6 +13,7 @@ use Rattle.rpki_rsa.specs.Signature.{encoded_message, IsModulus, IsRsaSignature,
 use Rattle.rpki_rsa.specs.KeyParts.{HasContents, HasDigits, IsModulusOf}
 use Rattle.rpki_rsa.specs.Sample.{sample_modulus, sample_key, sample_signature}
 use Rattle.rpki_rsa.proofs.EncodedParts.{digest_front, encoded-parts}
+use Rattle.rpki_rsa.proofs.Remainders.{power_one}
 use Rattle.rpki_rsa.proofs.Verdicts.{first-of, second-of}
 use Rattle.rpki_rsa.proofs.KeyFacts.{key-whole, digits-put, is-modulus-of}
 
@@ -33,8 +34,7 @@ square-same n x y e =
 
 squared-is : (n x k : ℕ) → squared n x k % n ≡ (x ^ 2 ^ k) % n
 unfolding squared
-squared-is n x zero =
-    ap (λ (t : ℕ). t % n) (omega (arith, pow-suc x 0, ap (λ (t : ℕ). t * x) (pow-zero x)))
+squared-is n x zero = ap (λ (t : ℕ). t % n) (sym (power_one x))
 squared-is n x (suc k) =
     let twice : 2 ^ k + 2 ^ k ≡ 2 ^ suc k = omega (arith, pow-suc 2 k) in
     square-same n (x ^ 2 ^ k) (squared n x k) (squared-is n x k)

@@ -1,23 +1,34 @@
 -- A key, part by part.
-use Rattle.std.specs.Prelude.{◌≡◌, ℕ, ◌+◌, ◌/◌, ◌%◌, ◌<◌, ◌≤◌, List, [], ◌∷◌, length, slice_index}
+use Rattle.std.specs.Prelude.{◌≡◌, ℕ, ◌+◌, ◌/◌, ◌%◌, ◌<◌, ◌≤◌, List, [], ◌∷◌, ◌++◌, length}
+use Rattle.std.specs.Prelude.{slice_index}
 use Rattle.rpki_der.specs.Numbers.{number}
+use Rattle.rpki_der.specs.Tags.{SEQUENCE, INTEGER}
 use Rattle.rpki_der.specs.Write.Written.{not_negative}
-use Rattle.rpki_rsa.specs.Signature.{key_with, IsRsaKey, HasOctets}
+use Rattle.rpki_rsa.specs.Signature.{key_with, IsRsaKey, HasOctets, least_octets, most_octets}
+use Rattle.rpki_rsa.specs.Signature.{header_octets, octets_behind}
+
+-- the first octet of a length that has two octets more (X.690, section 8.1.3.5)
+abbrev pub length_of_two_octets : ℕ
+length_of_two_octets = 0x82
+
+-- the header of a value with this number of octets of contents, which are 256 to 65535 (X.690,
+-- sections 8.1.2 and 8.1.3.5)
+abbrev pub header : ℕ → ℕ → List ℕ
+header identifier k = identifier ∷ length_of_two_octets ∷ k / 256 ∷ k % 256 ∷ []
 
 -- the octets in front of this number of octets of a modulus' contents, which are 256 to 513
 abbrev pub key_front : ℕ → List ℕ
-key_front k =
-    0x30 ∷ 0x82 ∷ (k + 9) / 256 ∷ (k + 9) % 256 ∷ 0x02 ∷ 0x82 ∷ k / 256 ∷ k % 256 ∷ []
+key_front k = header SEQUENCE (k + (header_octets + octets_behind)) ++ header INTEGER k
 
 -- the INTEGER 65537
 abbrev pub key_end : List ℕ
-key_end = 0x02 ∷ 0x03 ∷ 0x01 ∷ 0x00 ∷ 0x01 ∷ []
+key_end = INTEGER ∷ 0x03 ∷ 0x01 ∷ 0x00 ∷ 0x01 ∷ []
 
--- the key has these contents of its modulus
+-- The key has these contents of its modulus, whose octets may have a zero in front.
 pub record HasContents (key contents : List ℕ) : Type 0 where
   pub whole : key ≡ key_with contents
-  pub least : 256 ≤ length contents
-  pub most : length contents ≤ 513
+  pub least : least_octets ≤ length contents
+  pub most : length contents ≤ most_octets + 1
 
 -- the octets of a number that is not zero, without zeros in front, and the contents of an INTEGER
 -- that has it
@@ -29,5 +40,5 @@ pub record HasDigits (contents octets : List ℕ) : Type 0 where
 pub record IsModulusOf (key octets : List ℕ) : Type 0 where
   pub is_key : IsRsaKey key (number 0 octets)
   pub long : HasOctets (number 0 octets) (length octets)
-  pub least : 256 ≤ length octets
-  pub most : length octets ≤ 512
+  pub least : least_octets ≤ length octets
+  pub most : length octets ≤ most_octets

@@ -4,10 +4,18 @@
 #![tactic(auto)]
 
 #[cfg(test)]
+mod encodings;
+#[cfg(test)]
 mod keys;
+#[cfg(test)]
+mod kinds;
+#[cfg(test)]
+mod moduli;
+#[cfg(test)]
+mod numbers;
+#[cfg(test)]
+mod others;
 #[cfg(test)]
 mod right;
 #[cfg(test)]
 mod verdicts;
-#[cfg(test)]
-mod wrong;

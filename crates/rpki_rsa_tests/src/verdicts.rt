@@ -1,7 +1,11 @@
 //! Rows of verdicts, and a digest.
 
+use crate::encodings::ENCODINGS;
+use crate::kinds::KINDS;
+use crate::moduli::MODULI;
+use crate::numbers::NUMBERS;
+use crate::others::OTHERS;
 use crate::right::{MESSAGES, SIZES};
-use crate::wrong::{ENCODINGS, KEYS, KINDS, MODULI, NUMBERS};
 use bytes::Bytes;
 use rpki_basics::{Crypto, PublicKey, RpkiSignature, RpkiSignatureAlgorithm};
 use rpki_rsa::Rsa;
@@ -12,23 +16,39 @@ static ABC: [u8; 32] = [
     0xB0, 0x03, 0x61, 0xA3, 0x96, 0x17, 0x7A, 0x9C, 0xB4, 0x10, 0xFF, 0x61, 0xF2, 0x00, 0x15, 0xAD,
 ];
 
-/// Whether each row has this verdict.
-fn have(rows: &'static [(&[u8], &[u8], &[u8])], verdict: bool) -> bool {
-    for (key, message, signature) in rows {
-        let key = PublicKey::from_bits(Bytes::from_static(key));
-        let octets = Bytes::from_static(signature);
-        let signature = RpkiSignature::new(RpkiSignatureAlgorithm::RsaSha256, octets);
-        if Rsa.verify(&key, message, &signature) != verdict {
-            return false;
-        }
-    }
-    true
+/// The verdict on a signature.
+fn verdict(key: &'static [u8], message: &[u8], signature: &'static [u8]) -> bool {
+    let key = PublicKey::from_bits(Bytes::from_static(key));
+    let octets = Bytes::from_static(signature);
+    let signature = RpkiSignature::new(RpkiSignatureAlgorithm::RsaSha256, octets);
+    Rsa.verify(&key, message, &signature)
 }
 
 #[test]
-fn verdicts(rt: HostRuntime) {
-    assert!(rt; have(&SIZES, true) && have(&MESSAGES, true));
-    assert!(rt; have(&NUMBERS, false) && have(&KINDS, false) && have(&ENCODINGS, false));
-    assert!(rt; have(&MODULI, false) && have(&KEYS, false));
+fn signatures(rt: HostRuntime) {
+    for rows in [SIZES.as_slice(), MESSAGES.as_slice()] {
+        for (what, key, message, signature) in rows {
+            assert!(rt; verdict(key, message, signature), "{what}");
+        }
+    }
+}
+
+#[test]
+fn others(rt: HostRuntime) {
+    for rows in [
+        NUMBERS.as_slice(),
+        KINDS.as_slice(),
+        ENCODINGS.as_slice(),
+        MODULI.as_slice(),
+        OTHERS.as_slice(),
+    ] {
+        for (what, key, message, signature) in rows {
+            assert!(rt; !verdict(key, message, signature), "{what}");
+        }
+    }
+}
+
+#[test]
+fn digests(rt: HostRuntime) {
     assert!(rt; Rsa.digest(b"abc").as_slice() == ABC.as_slice());
 }
