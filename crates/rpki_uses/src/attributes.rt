@@ -1,6 +1,6 @@
 //! Signed attributes, as readers and makers of signed objects use them.
 
-ghost use Rattle.std.specs.Prelude.{◌≡◌, ℕ, List, IfOk, IfSome, Some};
+ghost use Rattle.std.specs.Prelude.{◌≡◌, ◌≢◌, ℕ, List, IfOk, MatchOption, Some};
 ghost use Rattle.rpki_der.specs.declared.mode.Mode.TheVariants.{Der};
 ghost use Rattle.rpki_der.specs.Numbers.{MAX_DEPTH};
 ghost use Rattle.rpki_der.specs.Read.Parse.{◌>>=◌ as ◌and_then◌, octets_at};
@@ -31,14 +31,16 @@ pub fn take_signed(
     Ok((attrs, signature))
 }
 
-/// The message that is signed, where the attributes are those of a content with this digest.
+/// The message that is signed, where the attributes are those of a content with this digest, and
+/// `None` where they say another one.
 pub fn message_for(
     alloc: Global,
     attrs: &SignedAttrs,
     digest: &Digest,
 ) -> Result<Option<Vec<u8>>, AllocError>
-    ensures { IfOk result (λ found. IfSome found (λ message.
-        (message.items ≡ message_of attrs.now.attributes)
+    ensures { IfOk result (λ found. MatchOption found
+        (attrs.now.attributes.message_digest ≢ digest.now)
+        (λ message. (message.items ≡ message_of attrs.now.attributes)
         × (attrs.now.attributes.message_digest ≡ digest.now))) }
 {
     if attrs.message_digest().as_slice() != digest.as_slice() {

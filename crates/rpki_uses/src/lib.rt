@@ -2,9 +2,14 @@
 #![tactic(auto)]
 
 pub mod attributes;
+pub mod checks;
+pub mod extensions;
+pub mod listed;
 pub mod locators;
+pub mod pairs;
 pub mod peers;
 pub mod sets;
+pub mod signatures;
 #[cfg(test)]
 mod tests;
 pub mod values;
