@@ -1,0 +1,2 @@
+pub mod Attestations
+pub mod Fronts

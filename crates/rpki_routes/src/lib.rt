@@ -1,0 +1,10 @@
+//! Contents of route origin attestations (RFC 6482) and of AS provider attestations
+//! (draft-ietf-sidrops-aspa-profile-15).
+#![tactic(auto)]
+
+mod aspa;
+pub mod laws;
+
+pub use aspa::{
+    AsProviderAttestation, AsProviderAttestationEncoder, ProviderAsIter, ProviderAsSet,
+};
