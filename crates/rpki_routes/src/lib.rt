@@ -4,7 +4,12 @@
 
 mod aspa;
 pub mod laws;
+mod roa;
 
 pub use aspa::{
     AsProviderAttestation, AsProviderAttestationEncoder, ProviderAsIter, ProviderAsSet,
+};
+pub use roa::{
+    FriendlyRoaIpAddress, RoaAddrIter, RoaIpAddress, RoaIpAddressIter, RoaIpAddresses,
+    RoaOriginIter, RouteOrigin, RouteOriginAttestation, RouteOriginAttestationEncoder,
 };
