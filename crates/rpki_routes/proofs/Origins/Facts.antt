@@ -1,6 +1,6 @@
 -- What is known of addresses that were read.
 use Rattle.std.proofs.Common.{◌≡◌, ℕ, ◌+◌, ◌-◌, ◌*◌, ◌^◌, ◌<◌, List, [], ◌∷◌, ◌++◌, length, All}
-use Rattle.std.proofs.Common.{Option, Some, None, refl, sym, subst, arith}
+use Rattle.std.proofs.Common.{Option, Some, None, refl, sym, ap, subst, arith}
 use Rattle.std.specs.Prelude.{unwrap_or}
 use Rattle.std.proofs.Math.Nat.{mul-mod_left}
 use Rattle.std.proofs.lemmas.Nat.{pow_pos}
@@ -24,8 +24,8 @@ use Rattle.rpki_resources.specs.Ip.Form.{bit_count, bit_value, PrefixForm}
 use Rattle.rpki_resources.specs.Prefix.{Network}
 use Rattle.rpki_resources.proofs.Addresses.Bits.{small_more, value_below, room_below}
 use Rattle.rpki_resources.proofs.Addresses.Within.{max_most}
-use Rattle.rpki_routes.specs.Roa.{Address, IsPrefixOf, IsAddress}
-use Rattle.rpki_routes.specs.Roa.Form.{AddressForm, AddressesForm}
+use Rattle.rpki_routes.specs.Roa.{Address, Roa, IsPrefixOf, IsAddress, IsRoa}
+use Rattle.rpki_routes.specs.Roa.Form.{AddressForm, AddressesForm, RoaForm}
 
 -- ---- a prefix
 
@@ -141,3 +141,27 @@ families-facts mode o values bytes h =
     (entry-facts mode) list.0 h.0
     (items-bytes (EntryForm AddressesForm mode) list.0 h.0 contents list.2) in
     (stands h.0 each Ipv4 values.v4 h.2.v4, stands h.0 each Ipv6 values.v6 h.2.v6)
+
+-- ---- the content
+
+pub roa-facts : (o : List ℕ) (r : Roa) → IsBytes o → RoaForm o r → IsRoa r
+roa-facts o r bytes h =
+    let contents : IsBytes h.0 =
+    IsBytes-contents Der o o [] SEQUENCE h.0 (sym (append-nil o)) h.1 bytes in
+    let one = h.2 in
+    let first : IsBytes (one.0 ++ one.1) = subst IsBytes one.2 contents in
+    let two = one.4 in
+    let second : IsBytes (two.0 ++ two.1) =
+    subst IsBytes two.2 (IsBytes-right one.0 one.1 first) in
+    let three = two.4 in
+    let third : IsBytes (three.0 ++ three.1) =
+    subst IsBytes three.2 (IsBytes-right two.0 two.1 second) in
+    let blocks = three.3 in
+    let facts = families-facts Der three.0 blocks.0 (IsBytes-left three.0 three.1 third) blocks.1 in
+    record {
+      number = two.3.2.1;
+      v4 = subst (All (IsAddress Ipv4))
+          (sym (ap (λ (p : List Address × List Address). p.0) blocks.2)) facts.0;
+      v6 = subst (All (IsAddress Ipv6))
+          (sym (ap (λ (p : List Address × List Address). p.1) blocks.2)) facts.1;
+    }
