@@ -1,0 +1,4 @@
+pub mod Claims
+pub mod Exact
+pub mod Providers
+pub mod Written

@@ -1,0 +1,3 @@
+pub mod Attestations
+pub mod Fronts
+pub mod Origins

@@ -1,0 +1,4 @@
+pub mod Exact
+pub mod Facts
+pub mod Small
+pub mod Written

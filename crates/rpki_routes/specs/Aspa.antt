@@ -1,0 +1,35 @@
+-- The content of an AS provider attestation (draft-ietf-sidrops-aspa-profile-15, section 3).
+pub mod Form
+pub mod Read
+pub mod Written
+use Rattle.std.specs.Prelude.{◌≡◌, ◌≢◌, ℕ, ◌≤◌, List, length, All, Contains}
+use Rattle.std.specs.List.Sorted.{IsStrictlyIncreasing}
+use Rattle.rpki_basics.specs.declared.limits.ProviderLimit.{ProviderLimit}
+use Rattle.rpki_basics.specs.Limits.{most_providers}
+use Rattle.rpki_resources.specs.As.{IsAsn}
+
+-- what a content says
+pub record Aspa : Type 0 where
+  pub customer : ℕ
+  pub providers : List ℕ
+
+-- 1 to as many numbers as the limit says, each below the next, and 0 only alone. The profile's
+-- ASN.1 has SIZE (1..MAX) (section 3); the limits are this project's own.
+pub record IsProviderSet (limit : ProviderLimit) (providers : List ℕ) : Type 0 where
+  pub some : 1 ≤ length providers
+  pub most : length providers ≤ most_providers limit
+  pub ascending : IsStrictlyIncreasing providers
+  pub alone : Contains providers 0 → length providers ≡ 1
+  pub numbers : All IsAsn providers
+
+-- The customer is not 0, and not among its providers.
+pub record IsAttestation (limit : ProviderLimit) (a : Aspa) : Type 0 where
+  pub not_zero : a.customer ≢ 0
+  pub number : IsAsn a.customer
+  pub providers : IsProviderSet limit a.providers
+  pub others : Contains a.providers a.customer → ⊥
+
+-- the providers of a customer
+pub record AreProviders (limit : ProviderLimit) (customer : ℕ) (providers : List ℕ) : Type 0 where
+  pub set : IsProviderSet limit providers
+  pub others : Contains providers customer → ⊥

@@ -1,0 +1,17 @@
+-- The form of the content of an AS provider attestation.
+use Rattle.std.specs.Prelude.{ℕ, List, [], ◌∷◌}
+use Rattle.rpki_der.specs.declared.mode.Mode.TheVariants.{Der}
+use Rattle.rpki_der.specs.Grammar.{Integer}
+use Rattle.rpki_der.specs.Form.Parts.{Sequence, SequenceOf, Explicit}
+use Rattle.rpki_basics.specs.declared.limits.ProviderLimit.{ProviderLimit}
+use Rattle.rpki_resources.specs.As.Form.{AsId}
+use Rattle.rpki_routes.specs.Aspa.{Aspa, IsAttestation}
+
+-- SEQUENCE { [0] { INTEGER 1 }, customer, SEQUENCE OF provider }, section 3 of the profile. A
+-- content is in DER (RFC 6488, section 2.1.3.2).
+abbrev pub AspaForm : ProviderLimit → List ℕ → Aspa → Type 0
+AspaForm limit octets a = Sequence Der (
+    (λ o. Explicit 0 Der (λ c. Integer Der c 1) o)
+    ∷ (λ o. AsId Der o a.customer)
+    ∷ (λ o. SequenceOf Der (AsId Der) o a.providers)
+    ∷ []) octets × IsAttestation limit a

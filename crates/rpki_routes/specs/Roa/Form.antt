@@ -1,0 +1,50 @@
+-- The form of the content of a route origin attestation, which is in DER (RFC 6488, section
+-- 2.1.3.2). The sections are those of RFC 6482.
+use Rattle.std.specs.Prelude.{ℕ, List, [], ◌∷◌, Option, unwrap_or, IfSome}
+use Rattle.rpki_der.specs.declared.mode.Mode.{Mode}
+use Rattle.rpki_der.specs.declared.mode.Mode.TheVariants.{Der}
+use Rattle.rpki_der.specs.Grammar.{Integer, IntegerBelow, Optional}
+use Rattle.rpki_der.specs.Form.Parts.{Sequence, SequenceOf, Explicit}
+use Rattle.rpki_der.specs.Form.Made.{Made, Ignored}
+use Rattle.rpki_resources.specs.declared.by_family.ByFamily.{ByFamily}
+use Rattle.rpki_resources.specs.declared.family.AddressFamily.{AddressFamily}
+use Rattle.rpki_resources.specs.As.Form.{AsId}
+use Rattle.rpki_resources.specs.Families.Form.{FamiliesForm}
+use Rattle.rpki_resources.specs.Ip.Form.{PrefixForm}
+use Rattle.rpki_routes.specs.Roa.{Address, Roa, IsMaxLength}
+
+-- ROAIPAddress: SEQUENCE { address, maxLength INTEGER OPTIONAL } (3.3). The bits of the prefix that
+-- are not used may be any, which is this project's own rule.
+abbrev pub AddressForm : AddressFamily → List ℕ → Address → Type 0
+AddressForm family octets a = Sequence Der (
+    (λ o. PrefixForm family Der o a.prefix)
+    ∷ (λ o. Optional (IntegerBelow 256 Der) o a.max_length)
+    ∷ []) octets × IfSome a.max_length (IsMaxLength family a.prefix.len)
+
+-- addresses: SEQUENCE OF ROAIPAddress (3.3). In RFC 6482 there is at least one. Here there may be
+-- none, which is this project's own rule.
+abbrev pub AddressesForm : AddressFamily → Mode → List ℕ → List Address → Type 0
+AddressesForm family mode = SequenceOf mode (AddressForm family)
+
+-- version: [0] { INTEGER 0 } DEFAULT 0 (3.1). That it may be written in DER too, against X.690,
+-- section 11.5, is this project's own rule.
+abbrev pub VersionForm : List ℕ → Type 0
+VersionForm = Ignored (Optional {X = Unit {0}} (λ o _. Explicit 0 Der (λ c. Integer Der c 0) o))
+
+-- the addresses of each family, none where the family is not named
+abbrev pub lists_of : ByFamily (List Address) → List Address × List Address
+lists_of values = (unwrap_or values.v4 [], unwrap_or values.v6 [])
+
+-- ipAddrBlocks: SEQUENCE OF ROAIPAddressFamily, each family at most once (3.3). In RFC 6482 there
+-- is at least one, and nothing is said of a family that stands twice. Here there may be none,
+-- and no family stands twice, which is this project's own rule.
+abbrev pub BlocksForm : List ℕ → List Address × List Address → Type 0
+BlocksForm = Made lists_of (FamiliesForm AddressesForm Der)
+
+-- RouteOriginAttestation: SEQUENCE { version, asID, ipAddrBlocks } (3)
+abbrev pub RoaForm : List ℕ → Roa → Type 0
+RoaForm octets r = Sequence Der (
+    VersionForm
+    ∷ (λ o. AsId Der o r.as_id)
+    ∷ (λ o. BlocksForm o (r.v4, r.v6))
+    ∷ []) octets

@@ -1,0 +1,81 @@
+//! What the definitions say, as functions that do nothing.
+
+ghost use Rattle.std.specs.Prelude.{◌≡◌, ◌++◌, ◌≤◌, ◌<◌, ◌^◌, ℕ, List, length};
+ghost use Rattle.rpki_der.specs.declared.mode.Mode.TheVariants.{Der};
+ghost use Rattle.rpki_der.specs.Grammar.{Front, IsBytes, IsUnique, Value, HasNoFront};
+ghost use Rattle.rpki_basics.specs.declared.limits.ProviderLimit.{ProviderLimit};
+ghost use Rattle.rpki_basics.specs.declared.limits.ProviderLimit.TheVariants.{Narrow, Wide};
+ghost use Rattle.rpki_basics.specs.Limits.{most_providers};
+ghost use Rattle.rpki_routes.specs.Aspa.{Aspa, IsAttestation};
+ghost use Rattle.rpki_routes.specs.Aspa.Form.{AspaForm};
+ghost use Rattle.rpki_routes.specs.Aspa.Written.{aspa_octets};
+ghost use Rattle.rpki_routes.specs.Roa.{Roa, IsRoa};
+ghost use Rattle.rpki_routes.specs.Roa.Form.{RoaForm};
+ghost use Rattle.rpki_routes.specs.Roa.Written.{roa_octets};
+
+/// At most one beginning of given octets is an ASPA content, and it says one thing.
+pub fn attestations_are_unique()
+    ensures { (limit : ProviderLimit) → IsUnique (AspaForm limit) }
+{}
+
+/// Octets after an ASPA content change nothing: they are left. Nor do octets after one whole
+/// value make it a content that it is not.
+pub fn octets_after_an_attestation_are_left()
+    ensures left { (limit : ProviderLimit) (octets more : List ℕ) (a : Aspa) (rest : List ℕ)
+        → Front (AspaForm limit) octets a rest
+        → Front (AspaForm limit) (octets ++ more) a (rest ++ more) }
+    ensures whole { (limit : ProviderLimit) (octets contents more : List ℕ) (tag : ℕ) (a : Aspa)
+        (rest : List ℕ) → Value Der octets tag contents
+        → Front (AspaForm limit) (octets ++ more) a rest
+        → AspaForm limit octets a × (rest ≡ more) }
+    ensures refused { (limit : ProviderLimit) (octets contents more : List ℕ) (tag : ℕ)
+        → Value Der octets tag contents → HasNoFront (AspaForm limit) octets
+        → HasNoFront (AspaForm limit) (octets ++ more) }
+{}
+
+/// What an attestation is written as is a content that says it, and no other octets are. Whatever
+/// follows, it stands at the front.
+pub fn attestations_are_written()
+    ensures written { (limit : ProviderLimit) (a : Aspa) → IsAttestation limit a
+        → AspaForm limit (aspa_octets a) a }
+    ensures only { (limit : ProviderLimit) (octets : List ℕ) (a : Aspa) → IsBytes octets
+        → AspaForm limit octets a → octets ≡ aspa_octets a }
+    ensures read { (limit : ProviderLimit) (a : Aspa) (rest : List ℕ) → IsAttestation limit a
+        → Front (AspaForm limit) (aspa_octets a ++ rest) a rest }
+{}
+
+/// A content of the narrow limit is one of the wide limit that says the same, and one of the wide
+/// limit is one of the narrow limit where it has no more providers.
+pub fn limits_are_nested()
+    ensures wider { (octets : List ℕ) (a : Aspa) → AspaForm Narrow octets a
+        → AspaForm Wide octets a }
+    ensures narrower { (octets : List ℕ) (a : Aspa) → AspaForm Wide octets a
+        → length a.providers ≤ most_providers Narrow → AspaForm Narrow octets a }
+{}
+
+/// At most one beginning of given octets is a ROA content, and it says one thing.
+pub fn roas_are_unique()
+    ensures { IsUnique RoaForm }
+{}
+
+/// Octets after a ROA content change nothing: they are left. Nor do octets after one whole value
+/// make it a content that it is not.
+pub fn octets_after_a_roa_are_left()
+    ensures left { (octets more : List ℕ) (r : Roa) (rest : List ℕ) → Front RoaForm octets r rest
+        → Front RoaForm (octets ++ more) r (rest ++ more) }
+    ensures whole { (octets contents more : List ℕ) (tag : ℕ) (r : Roa) (rest : List ℕ)
+        → Value Der octets tag contents → Front RoaForm (octets ++ more) r rest
+        → RoaForm octets r × (rest ≡ more) }
+    ensures refused { (octets contents more : List ℕ) (tag : ℕ) → Value Der octets tag contents
+        → HasNoFront RoaForm octets → HasNoFront RoaForm (octets ++ more) }
+{}
+
+/// What a ROA says is written as a content that says it, where it has fewer than 2^32 octets, and
+/// whatever follows, it stands at the front. What was read can be written so.
+pub fn roas_are_written()
+    ensures written { (r : Roa) → IsRoa r → length (roa_octets r) < 2 ^ 32
+        → RoaForm (roa_octets r) r }
+    ensures read { (r : Roa) (rest : List ℕ) → IsRoa r → length (roa_octets r) < 2 ^ 32
+        → Front RoaForm (roa_octets r ++ rest) r rest }
+    ensures found { (octets : List ℕ) (r : Roa) → IsBytes octets → RoaForm octets r → IsRoa r }
+{}
