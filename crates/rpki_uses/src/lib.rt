@@ -10,6 +10,4 @@ pub mod pairs;
 pub mod peers;
 pub mod sets;
 pub mod signatures;
-#[cfg(test)]
-mod tests;
 pub mod values;
