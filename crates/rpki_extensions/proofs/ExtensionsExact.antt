@@ -1,14 +1,14 @@
 -- The extensions of a certificate are read exactly, in any order.
 use Rattle.std.proofs.Common.{◌≡◌, ℕ, Bool, true, false, cond, List, [], ◌∷◌, ◌++◌, Option, Some}
 use Rattle.std.proofs.Common.{None, inl, inr, refl, sym, ap, subst}
-use Rattle.std.specs.Prelude.{All, Decides, not, ◌&&◌, ◌||◌, bytes_eq}
+use Rattle.std.specs.Prelude.{All, Decides, not, ◌||◌, bytes_eq}
 use Rattle.std.specs.List.{list_all}
 use Rattle.std.proofs.lemmas.Bool.Decides.{Decides-and, Decides-or, Decides-by_and}
 use Rattle.std.proofs.lemmas.List.Elements.{All-nil, All-cons, All-head, All-tail}
 use Rattle.std.proofs.lemmas.Slice.Eq.{bytes_eq-Decides}
 use Rattle.rpki_der.specs.declared.mode.Mode.{Mode}
 use Rattle.rpki_der.specs.declared.mode.Mode.TheVariants.{Der}
-use Rattle.rpki_der.specs.Form.Keyed.{IsSaid, AreDistinct, are_distinct, has_key, must}
+use Rattle.rpki_der.specs.Form.Keyed.{IsSaid, AreDistinct, has_key, must}
 use Rattle.rpki_der.specs.Form.Law.{TagSet, nothing, is, IsPart}
 use Rattle.rpki_der.specs.Form.Made.{front_of}
 use Rattle.rpki_der.specs.Grammar.{IsBytes, Items}
@@ -19,6 +19,7 @@ use Rattle.rpki_der.proofs.Form.Keyed.{said-sound, said-complete, distinct-decid
 use Rattle.rpki_der.proofs.Form.Kinds.{oid-part, flag-part, octets-part}
 use Rattle.rpki_der.proofs.Form.Nested.{contents-bytes, string-bytes, front-understood}
 use Rattle.rpki_der.proofs.Form.Words.{IsUnderstood, understand, items, in-tag, part-as, make}
+use Rattle.rpki_der.proofs.Form.Words.{pass}
 use Rattle.rpki_der.proofs.Reading.Exact.{IsBytes-left, IsBytes-right}
 use Rattle.rpki_der.proofs.Reading.Lengths.{bind_some, some_is}
 use Rattle.rpki_resources.specs.declared.resources.Claim.TheVariants.{Missing}
@@ -32,19 +33,21 @@ use Rattle.rpki_extensions.specs.declared.locations.Locations.{Locations}
 use Rattle.rpki_extensions.specs.Access.{authority_access_at, subject_access_at}
 use Rattle.rpki_extensions.specs.Addresses.{ip_claims_at}
 use Rattle.rpki_extensions.specs.BasicConstraints.{basic_constraints_at}
-use Rattle.rpki_extensions.specs.Extension.{ExtensionForm, oid_of, SaysBy, Stated}
-use Rattle.rpki_extensions.specs.Extension.{extension_fields_at, extension_at, stated}
+use Rattle.rpki_extensions.specs.Extension.{ExtensionForm, oid_of, SaysBy, Stated, IsAmong}
+use Rattle.rpki_extensions.specs.Extension.{MayStand, extension_fields_at, extension_at, stated}
+use Rattle.rpki_extensions.specs.Extension.{is_among, may_stand, all_may_stand, standing_at}
 use Rattle.rpki_extensions.specs.Extensions.{subject_key_identifier, key_usage, basic_constraints}
 use Rattle.rpki_extensions.specs.Extensions.{crl_distribution_points, certificate_policies}
 use Rattle.rpki_extensions.specs.Extensions.{authority_key_identifier, extended_key_usage}
 use Rattle.rpki_extensions.specs.Extensions.{authority_info_access, subject_info_access}
-use Rattle.rpki_extensions.specs.Extensions.{ip_resources, as_resources, other, known, IsAmong}
+use Rattle.rpki_extensions.specs.Extensions.{ip_resources, as_resources, other}
+use Rattle.rpki_extensions.specs.Extensions.{certificate_extensions}
 use Rattle.rpki_extensions.specs.Extensions.{no_access, no_addresses, StatedOr, HasPurposes}
-use Rattle.rpki_extensions.specs.Extensions.{AreKeyFacts, AreLocations, AreClaims, MayStand}
-use Rattle.rpki_extensions.specs.Extensions.{AreExtensions, ExtensionsForm, is_among, may_stand}
+use Rattle.rpki_extensions.specs.Extensions.{AreKeyFacts, AreLocations, AreClaims}
+use Rattle.rpki_extensions.specs.Extensions.{AreExtensions, ExtensionsForm}
 use Rattle.rpki_extensions.specs.Extensions.{stated_or, has_purposes_at, key_facts_of}
 use Rattle.rpki_extensions.specs.Extensions.{locations_of, claims_under, has_other, claims_of_list}
-use Rattle.rpki_extensions.specs.Extensions.{said_by_all, extensions_of, extensions_at}
+use Rattle.rpki_extensions.specs.Extensions.{said_by_all, extensions_at}
 use Rattle.rpki_extensions.specs.KeyIdentifiers.{subject_key_at, authority_key_at}
 use Rattle.rpki_extensions.specs.Points.{points_at}
 use Rattle.rpki_extensions.specs.Policies.{policies_at}
@@ -67,7 +70,7 @@ extension-part = within SEQUENCE (
     (λ e k i. record { oid = k.0.0.1 i; critical = k.0.1 i; value = k.1 i })) refl) refl) refl)
 
 -- the octets of a value are octets
-abbrev HasBytes : Extension → Type 0
+abbrev pub HasBytes : Extension → Type 0
 HasBytes e = IsBytes e.value
 
 value-bytes : (mode : Mode) (o : List ℕ) (e : Extension) → ExtensionForm mode o e → IsBytes o
@@ -81,7 +84,7 @@ value-bytes mode o e h bytes =
     let c = b.4 in
     string-bytes 32 mode c.0 e.value c.3 (IsBytes-left c.0 c.1 (subst IsBytes c.2 last))
 
-values-bytes : (mode : Mode) (o : List ℕ) (list : List Extension) → IsBytes o
+pub values-bytes : (mode : Mode) (o : List ℕ) (list : List Extension) → IsBytes o
     → Items (ExtensionForm mode) o list → All HasBytes list
 values-bytes mode o [] bytes h = All-nil HasBytes
 values-bytes mode o (e ∷ list) bytes h =
@@ -101,20 +104,40 @@ among-decides (k ∷ []) oid = let d = bytes_eq-Decides oid k in (
 among-decides (k ∷ l ∷ ks) oid =
     Decides-or _ _ (bytes_eq-Decides oid k) (among-decides (l ∷ ks) oid)
 
-abbrev Stands : Extension → Type 0
-Stands e = e.critical ≡ true → IsAmong known (oid_of e)
+abbrev Stands : List (List ℕ) → Extension → Type 0
+Stands known e = e.critical ≡ true → IsAmong known (oid_of e)
 
-stands-decides : (e : Extension) → Decides (may_stand e) (Stands e)
-stands-decides e = of e.critical (among-decides known e.oid)
+stands-decides : (known : List (List ℕ)) (e : Extension)
+    → Decides (may_stand known e) (Stands known e)
+stands-decides known e = of e.critical (among-decides known e.oid)
   where
     of : (t : Bool) → Decides (is_among known e.oid) (IsAmong known e.oid)
         → Decides (not t || is_among known e.oid) (t ≡ true → IsAmong known e.oid)
     of true d = ((λ h _. d.0 h), λ h. d.1 (h refl))
     of false d = ((λ _ never. absurd cc), λ _. refl)
 
-all-stand : (list : List Extension) → Decides (list_all may_stand list) (All Stands list)
-all-stand list =
-    Decides-by_and may_stand Stands (list_all may_stand) stands-decides refl (λ _ _. refl) list
+all-stand : (known : List (List ℕ)) (list : List Extension)
+    → Decides (list_all (may_stand known) list) (All (Stands known) list)
+all-stand known list =
+    Decides-by_and (may_stand known) (Stands known) (list_all (may_stand known))
+    (stands-decides known) refl (λ _ _. refl) list
+
+stand-decides : (known : List (List ℕ)) (list : List Extension)
+    → Decides (all_may_stand known list) (MayStand known list)
+stand-decides known list =
+    let d = Decides-and _ _ (distinct-decides oid_of list) (all-stand known list) in (
+      (λ e. let h = d.0 e in record { distinct = h.0; critical = h.1 }),
+      λ h. d.1 (h.distinct, h.critical),
+    )
+
+-- extensions that may stand together
+abbrev pub AreStanding : List (List ℕ) → Mode → List ℕ → List Extension → Type 0
+AreStanding known mode o list = Items (ExtensionForm mode) o list × MayStand known list
+
+pub standing-part : (known : List (List ℕ))
+    → IsPart (is SEQUENCE) (is SEQUENCE) (standing_at known) (AreStanding known)
+standing-part known =
+    pass (all_may_stand known) (items SEQUENCE extension-part) (stand-decides known)
 
 -- ---- what one extension says
 
@@ -130,18 +153,18 @@ module _ {X : Type 0} {first : TagSet} {p : Parser X} {G : Mode → List ℕ →
     complete = λ e x h. u.complete Der e.value x h;
   }
 
-  reads : All HasBytes list → (o : Option X) → stated oid p list ≡ Some o → Stated list oid G o
+  pub reads : All HasBytes list → (o : Option X) → stated oid p list ≡ Some o → Stated list oid G o
   reads bytes o h = said-sound oid_of value-said oid list bytes o h
 
-  says : AreDistinct oid_of list → (o : Option X) → Stated list oid G o
+  pub says : AreDistinct oid_of list → (o : Option X) → Stated list oid G o
       → stated oid p list ≡ Some o
   says once o h = said-complete oid_of value-said oid list once o h
 
-  must-read : All HasBytes list → (x : X) → must (stated oid p list) ≡ Some x
+  pub must-read : All HasBytes list → (x : X) → must (stated oid p list) ≡ Some x
       → Stated list oid G (Some x)
   must-read bytes x h = reads bytes (Some x) (must-some _ x h)
 
-  must-say : AreDistinct oid_of list → (x : X) → Stated list oid G (Some x)
+  pub must-say : AreDistinct oid_of list → (x : X) → Stated list oid G (Some x)
       → must (stated oid p list) ≡ Some x
   must-say once x h = rw (says once (Some x) h) refl
 
@@ -307,18 +330,9 @@ claims-complete list once x h =
 
 -- ---- all extensions
 
-stand-decides : (list : List Extension)
-    → Decides (are_distinct oid_of list && list_all may_stand list)
-    (AreDistinct oid_of list × All Stands list)
-stand-decides list = Decides-and _ _ (distinct-decides oid_of list) (all-stand list)
-
-where-true : {A : Type 0} (t : Bool) (f : Option A) (x : A) → cond t f None ≡ Some x
-    → (t ≡ true) × (f ≡ Some x)
-where-true true f x e = (refl, e)
-where-true false f x e = absurd cc
-
-said-sound-all : (list : List Extension) → All HasBytes list → MayStand list → (x : Extensions)
-    → said_by_all list ≡ Some x → AreExtensions list x
+said-sound-all : (list : List Extension) → All HasBytes list
+    → MayStand certificate_extensions list → (x : Extensions) → said_by_all list ≡ Some x
+    → AreExtensions list x
 unfolding said_by_all
 said-sound-all list bytes stand x h =
     let a = bind_some (key_facts_of list) _ x h in
@@ -345,23 +359,17 @@ said-complete-all list x h =
     claims-complete list h.stand.distinct x.claims h.claims in
     rw a (rw b (rw c refl))
 
-extensions-understood : IsUnderstood (λ _. extensions_of) (All HasBytes) (λ _. AreExtensions)
-unfolding extensions_of
+extensions-understood : IsUnderstood (λ _. said_by_all)
+    (λ list. All HasBytes list × MayStand certificate_extensions list) (λ _. AreExtensions)
 extensions-understood = record {
-  sound = λ _ list x bytes h.
-      let g = where-true (are_distinct oid_of list && list_all may_stand list) _ x h in
-      let s = (stand-decides list).0 g.0 in
-      said-sound-all list bytes (record { distinct = s.0; critical = s.1 }) x g.1;
-  complete = λ _ list x h.
-      let t : (are_distinct oid_of list && list_all may_stand list) ≡ true =
-      (stand-decides list).1 (h.stand.distinct, h.stand.critical) in
-      rw t (said-complete-all list x h);
+  sound = λ _ list x known h. said-sound-all list known.0 known.1 x h;
+  complete = λ _ list x h. said-complete-all list x h;
   relaxed = λ list x h. h;
 }
 
 pub extensions-part : IsPart (is SEQUENCE) nothing extensions_at ExtensionsForm
 extensions-part = part-as
-    (in-tag SEQUENCE (understand (items SEQUENCE extension-part)
-    (λ mode o list bytes g. values-bytes mode o list bytes g) extensions-understood))
-    (λ mode o x h. (h.2.0, (h.0, h.1, h.2.1), h.2.2))
-    (λ mode o x h. (h.1.0, h.1.1, (h.0, h.1.2, h.2)))
+    (in-tag SEQUENCE (understand (standing-part certificate_extensions)
+    (λ mode o list bytes g. (values-bytes mode o list bytes g.0, g.1)) extensions-understood))
+    (λ mode o x h. (h.2.0, (h.0, h.1, h.2.1.0), h.2.2))
+    (λ mode o x h. (h.1.0, h.1.1, (h.0, (h.1.2, h.2.stand), h.2)))

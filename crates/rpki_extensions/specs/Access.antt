@@ -15,7 +15,7 @@ use Rattle.rpki_extensions.specs.Identifiers.{id_pkix}
 use Rattle.rpki_extensions.specs.Names.{NameForm, IsNamed, name_at, named}
 use Rattle.rpki_extensions.specs.UriTests.{rsync_of, https_of}
 
--- id-ad, and an arc (4.2.2)
+-- id-ad, and an arc (4.2.2.1)
 abbrev pub id_ad : ℕ → List ℕ
 id_ad arc = id_pkix 0x30 arc
 
@@ -51,7 +51,8 @@ AccessForm mode octets access = Sequence mode (
 abbrev pub IsLocated : (List ℕ → Type 0) → List ℕ → Access → List ℕ → Type 0
 IsLocated P method access uri = (access.method ≡ method) × IsNamed P access.location uri
 
--- The first rsync URI of the issuer's certificate, if there is one (RFC 6487, section 4.8.7)
+-- The first rsync URI of the issuer's certificate, if there is one (RFC 6487, section 4.8.7). That
+-- the first one counts, and that there may be none, is this project's own rule.
 abbrev pub IsIssuerAccess : List Access → Option (List ℕ) → Type 0
 IsIssuerAccess list uri = First (IsLocated IsRsync ca_issuers) list uri
 
@@ -61,7 +62,8 @@ abbrev pub AuthorityAccessForm : Mode → List ℕ → Option (List ℕ) → Typ
 AuthorityAccessForm mode = Understood IsIssuerAccess (SequenceOf mode (AccessForm mode))
 
 -- Each is the first URI of its method, if there is one: an rsync URI, and for the notification file
--- an https URI (RFC 6487, section 4.8.8; RFC 8182, section 3.2).
+-- an https URI (RFC 6487, section 4.8.8; RFC 8182, section 3.2). That the first one counts, and that
+-- there may be none, is this project's own rule.
 pub record AreSubjectAccess (list : List Access) (x : SubjectAccess) : Type 0 where
   pub ca_repository : First (IsLocated IsRsync ca_repository) list x.ca_repository
   pub rpki_manifest : First (IsLocated IsRsync rpki_manifest) list x.rpki_manifest

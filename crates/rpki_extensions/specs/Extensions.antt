@@ -1,11 +1,9 @@
 -- The extensions of a resource certificate. The sections are those of RFC 6487, where no other RFC
 -- is named.
-use Rattle.std.specs.Prelude.{◌≡◌, ℕ, List, [], ◌∷◌, Bool, true, false, not, ◌&&◌, ◌||◌, ◌⊎◌, All}
+use Rattle.std.specs.Prelude.{◌≡◌, ℕ, List, [], ◌∷◌, Bool, true, false, ◌||◌, All}
 use Rattle.std.specs.Prelude.{Option, None, Some, unwrap_or, if◌then◌else◌}
-use Rattle.std.specs.Prelude.{bytes_eq}
-use Rattle.std.specs.List.{list_all}
 use Rattle.rpki_der.specs.declared.mode.Mode.{Mode}
-use Rattle.rpki_der.specs.Form.Keyed.{AreDistinct, are_distinct, has_key, must}
+use Rattle.rpki_der.specs.Form.Keyed.{has_key, must}
 use Rattle.rpki_der.specs.Form.Made.{Understood, Made, made, partly}
 use Rattle.rpki_der.specs.Form.Parts.{SequenceOf, sequence_at}
 use Rattle.rpki_der.specs.Read.Parse.{Parser, ◌>>=◌}
@@ -25,7 +23,8 @@ use Rattle.rpki_extensions.specs.Access.{AuthorityAccessForm, SubjectAccessForm}
 use Rattle.rpki_extensions.specs.Access.{authority_access_at, subject_access_at}
 use Rattle.rpki_extensions.specs.Addresses.{IpClaimsForm, ip_claims_at}
 use Rattle.rpki_extensions.specs.BasicConstraints.{BasicConstraintsForm, basic_constraints_at}
-use Rattle.rpki_extensions.specs.Extension.{ExtensionForm, oid_of, Stated, list_at, stated}
+use Rattle.rpki_extensions.specs.Extension.{ExtensionForm, MayStand, oid_of, Stated, stated}
+use Rattle.rpki_extensions.specs.Extension.{standing_at}
 use Rattle.rpki_extensions.specs.Identifiers.{id_ce, id_pkix}
 use Rattle.rpki_extensions.specs.KeyIdentifiers.{SubjectKeyForm, AuthorityKeyForm}
 use Rattle.rpki_extensions.specs.KeyIdentifiers.{subject_key_at, authority_key_at}
@@ -79,7 +78,7 @@ ip_resources Refuse = id_pkix 1 7
 ip_resources Trim = id_pkix 1 28
 
 -- The extension of AS numbers that goes with a policy: id-pe-autonomousSysIds (4.8.11), or
--- id-pe-autonomousSysIds-v2 (RFC 8360, section 4.2.2.2).
+-- id-pe-autonomousSysIds-v2 (RFC 8360, section 4.2.2.3).
 abbrev pub as_resources : Overclaim → List ℕ
 as_resources Refuse = id_pkix 1 8
 as_resources Trim = id_pkix 1 29
@@ -89,9 +88,9 @@ abbrev pub other : Overclaim → Overclaim
 other Refuse = Trim
 other Trim = Refuse
 
--- the extensions that are known
-abbrev pub known : List (List ℕ)
-known =
+-- the extensions that are known in a resource certificate (4.8; RFC 8360, section 4.2.2)
+abbrev pub certificate_extensions : List (List ℕ)
+certificate_extensions =
     subject_key_identifier
     ∷ key_usage
     ∷ basic_constraints
@@ -106,11 +105,6 @@ known =
     ∷ ip_resources Trim
     ∷ as_resources Trim
     ∷ []
-
--- It is one of these.
-abbrev pub IsAmong : List (List ℕ) → List ℕ → Type 0
-IsAmong [] oid = ⊥
-IsAmong (k ∷ ks) oid = (oid ≡ k) ⊎ IsAmong ks oid
 
 -- ---- what they say
 
@@ -137,7 +131,9 @@ StatedOr {X} default list oid G x =
 abbrev pub HasPurposes : Mode → List ℕ → Bool → Type 0
 HasPurposes mode = Made (λ _. true) (PurposesForm mode)
 
--- What is said of the key. Its identifier and what it is for have to be there (4.8.2, 4.8.4).
+-- What is said of the key. Its identifier and what it is for have to be there (4.8.2, 4.8.4). That
+-- the others may be missing is this project's own rule: checks of a certificate tell where they have
+-- to be there.
 pub record AreKeyFacts (list : List Extension) (x : KeyFacts) : Type 0 where
   pub subject_key : Stated list subject_key_identifier SubjectKeyForm (Some x.subject_key)
   pub authority_key : Stated list authority_key_identifier AuthorityKeyForm x.authority_key
@@ -145,7 +141,8 @@ pub record AreKeyFacts (list : List Extension) (x : KeyFacts) : Type 0 where
   pub usage : Stated list key_usage KeyUsageForm (Some x.usage)
   pub has_purposes : StatedOr false list extended_key_usage HasPurposes x.has_purposes
 
--- Where something lies (4.8.6 to 4.8.8).
+-- Where something lies (4.8.6 to 4.8.8). That each may be missing is this project's own rule: checks
+-- of a certificate tell where it has to be there.
 pub record AreLocations (list : List Extension) (x : Locations) : Type 0 where
   pub crl : Stated list crl_distribution_points PointsForm x.crl
   pub ca_issuer : StatedOr None list authority_info_access AuthorityAccessForm x.ca_issuer
@@ -160,14 +157,9 @@ pub record AreClaims (list : List Extension) (x : Claims) : Type 0 where
   pub no_other_addresses : All (λ e. ¬ (oid_of e ≡ ip_resources (other x.policy))) list
   pub no_other_as_numbers : All (λ e. ¬ (oid_of e ≡ as_resources (other x.policy))) list
 
--- No identifier stands twice, and one that is not known is not critical (RFC 5280, section 4.2).
-pub record MayStand (list : List Extension) : Type 0 where
-  pub distinct : AreDistinct oid_of list
-  pub critical : All (λ e. e.critical ≡ true → IsAmong known (oid_of e)) list
-
 -- What the extensions say. Those that are not known say nothing.
 pub record AreExtensions (list : List Extension) (x : Extensions) : Type 0 where
-  pub stand : MayStand list
+  pub stand : MayStand certificate_extensions list
   pub key : AreKeyFacts list x.key
   pub locations : AreLocations list x.locations
   pub claims : AreClaims list x.claims
@@ -177,16 +169,6 @@ abbrev pub ExtensionsForm : Mode → List ℕ → Extensions → Type 0
 ExtensionsForm mode = Understood AreExtensions (SequenceOf mode (ExtensionForm mode))
 
 -- ---- as functions
-
--- whether it is one of these
-abbrev pub is_among : List (List ℕ) → List ℕ → Bool
-is_among [] oid = false
-is_among (k ∷ []) oid = bytes_eq oid k
-is_among (k ∷ l ∷ ks) oid = bytes_eq oid k || is_among (l ∷ ks) oid
-
--- whether an extension is known or not critical
-abbrev pub may_stand : Extension → Bool
-may_stand e = not e.critical || is_among known e.oid
 
 -- what the extension says, or else this
 abbrev pub stated_or : {X : Type 0} → X → List ℕ → Parser X → List Extension → Option X
@@ -239,7 +221,7 @@ claims_of_list list =
     must (stated certificate_policies policies_at list)
     >>= λ policy. (if has_other policy list then None else claims_under policy list)
 
--- what the extensions say, where they may stand
+-- what the extensions say
 unfoldable pub said_by_all : List Extension → Option Extensions
 said_by_all list = do
   key ← key_facts_of list
@@ -247,11 +229,6 @@ said_by_all list = do
   claims ← claims_of_list list
   Some (record { key = key; locations = locations; claims = claims })
 
--- what the extensions say
-unfoldable pub extensions_of : List Extension → Option Extensions
-extensions_of list =
-    if are_distinct oid_of list && list_all may_stand list then said_by_all list else None
-
 -- the extensions
 abbrev pub extensions_at : Parser Extensions
-extensions_at = sequence_at (partly extensions_of list_at)
+extensions_at = sequence_at (partly said_by_all (standing_at certificate_extensions))

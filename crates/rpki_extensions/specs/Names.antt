@@ -10,14 +10,19 @@ use Rattle.rpki_der.specs.Tags.{context_primitive}
 use Rattle.rpki_extensions.specs.declared.name.Name.{Name}
 use Rattle.rpki_extensions.specs.declared.name.Name.TheVariants.{Uri, Other}
 
+-- the number of uniformResourceIdentifier among the kinds of names (4.2.1.6)
+abbrev pub uri_kind : ℕ
+uri_kind = 6
+
 -- the tag of uniformResourceIdentifier, [6] IMPLICIT IA5String (4.2.1.6)
 abbrev pub URI : ℕ
-URI = context_primitive 6
+URI = context_primitive uri_kind
 
--- GeneralName: CHOICE { uniformResourceIdentifier [6], .. } (4.2.1.6). What has another tag is
--- skipped, whatever it is, which is this project's own rule.
+-- GeneralName: CHOICE { uniformResourceIdentifier [6], .. } (4.2.1.6). Two rules are this project's
+-- own: octets from 80 on, which an IA5String has not, make a text that is no URI, and are not
+-- refused; and what has another tag is skipped, whatever it is.
 abbrev pub NameForm : Mode → List ℕ → Name → Type 0
-NameForm mode octets (Uri text) = ImplicitString 6 mode octets text
+NameForm mode octets (Uri text) = ImplicitString uri_kind mode octets text
 NameForm mode octets Other = Skipped mode MAX_DEPTH octets × (is_next URI octets ≡ false)
 
 -- The name is this URI, and P holds of its text.
@@ -28,7 +33,8 @@ IsNamed P name uri = (name ≡ Uri uri) × P uri
 
 -- a name
 abbrev pub name_at : Parser Name
-name_at = choice_at URI (made Uri (implicit_string_at 6)) (made (λ _. Other) (skip_at MAX_DEPTH))
+name_at =
+    choice_at URI (made Uri (implicit_string_at uri_kind)) (made (λ _. Other) (skip_at MAX_DEPTH))
 
 -- names, up to the end
 abbrev pub names_at : Parser (List Name)

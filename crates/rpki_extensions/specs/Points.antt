@@ -11,7 +11,8 @@ use Rattle.rpki_extensions.specs.declared.name.Name.{Name}
 use Rattle.rpki_extensions.specs.Names.{NameForm, IsNamed, names_at, named}
 use Rattle.rpki_extensions.specs.UriTests.{rsync_of}
 
--- The first of the names that is an rsync URI is this one (RFC 6487, section 4.8.6).
+-- The first of the names that is an rsync URI is this one (RFC 6487, section 4.8.6). That the first
+-- one counts is this project's own rule.
 abbrev pub IsFirstRsync : List Name → List ℕ → Type 0
 IsFirstRsync names uri = First (IsNamed IsRsync) names (Some uri)
 

@@ -11,7 +11,7 @@ use Rattle.rpki_faults.specs.declared.usage.KeyUsage.TheVariants.{Ca, Ee}
 use Rattle.rpki_resources.specs.Ip.Form.{bit_count}
 
 -- The bit of this number is set. They are counted from the highest one of the first octet (X.690,
--- section 8.6.2.1), and those that are not used are no bits (8.6.2.3).
+-- section 8.6.2.1), and those that are not used are no bits (8.6.2.2).
 abbrev pub IsBitSet : ℕ → List ℕ × ℕ → Type 0
 IsBitSet n bits = (n < bit_count bits) × (get_or bits.0 (n / 8) 0 / 2 ^ (7 - n % 8) % 2 ≡ 1)
 
@@ -31,13 +31,14 @@ crl_sign = 6
 abbrev pub SignsCertificates : List ℕ × ℕ → Type 0
 SignsCertificates bits = IsBitSet key_cert_sign bits × IsBitSet crl_sign bits
 
--- The two usages that are allowed (RFC 6487, section 4.8.4). That further bits may be set is this
--- project's own rule.
+-- The two usages that are allowed (RFC 6487, section 4.8.4). Two rules are this project's own:
+-- further bits may be set, and a usage that has those of a CA and of an end entity is that of a CA.
 abbrev pub IsUsage : List ℕ × ℕ → KeyUsage → Type 0
 IsUsage bits Ca = SignsCertificates bits
 IsUsage bits Ee = ¬ SignsCertificates bits × IsBitSet digital_signature bits
 
--- KeyUsage: BIT STRING (4.2.1.3)
+-- KeyUsage: BIT STRING (4.2.1.3). That bits that are zero may end it in DER too, against X.690,
+-- section 11.2.2, is this project's own rule.
 abbrev pub KeyUsageForm : Mode → List ℕ → KeyUsage → Type 0
 KeyUsageForm mode = Understood IsUsage (BitString mode)
 

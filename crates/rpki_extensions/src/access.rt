@@ -53,6 +53,19 @@ pub struct SubjectAccess {
     pub rpki_notify: Option<Https>,
 }
 
+impl Clone for SubjectAccess {
+    ghost is_clone = { λ x copy. copy ≡ x };
+
+    fn clone(&self) -> Result<SubjectAccess, AllocError> {
+        Ok(SubjectAccess {
+            ca_repository: self.ca_repository.clone()?,
+            rpki_manifest: self.rpki_manifest.clone()?,
+            signed_object: self.signed_object.clone()?,
+            rpki_notify: self.rpki_notify.clone()?,
+        })
+    }
+}
+
 // Reads the method and the location.
 #[tactic(auto, unfolding(crate::specs::Access::access_fields_at))]
 fn take_fields(cons: &mut Constructed<'_>) -> Result<Access, DecodeError>
@@ -126,7 +139,7 @@ fn subject_of(list: &[Access]) -> Result<SubjectAccess, AllocError>
 }
 
 // Reads as many descriptions as there are, and what they say of the issuer.
-fn take_issuer(cons: &mut Constructed<'_>, alloc: Global) -> Result<Option<Rsync>, DecodeError>
+fn take_issuer(alloc: Global, cons: &mut Constructed<'_>) -> Result<Option<Rsync>, DecodeError>
     ensures { Reads (λ uri. uri) (made issuer_of accesses_at) cons.old result cons.new }
 {
     let list: Vec<Access> = cons.take_items(alloc)?;
@@ -134,7 +147,7 @@ fn take_issuer(cons: &mut Constructed<'_>, alloc: Global) -> Result<Option<Rsync
 }
 
 // Reads as many descriptions as there are, and what they say of the subject.
-fn take_subject(cons: &mut Constructed<'_>, alloc: Global) -> Result<SubjectAccess, DecodeError>
+fn take_subject(alloc: Global, cons: &mut Constructed<'_>) -> Result<SubjectAccess, DecodeError>
     ensures { Reads (λ x. x) (made subject_of accesses_at) cons.old result cons.new }
 {
     let list: Vec<Access> = cons.take_items(alloc)?;
@@ -142,17 +155,18 @@ fn take_subject(cons: &mut Constructed<'_>, alloc: Global) -> Result<SubjectAcce
 }
 
 // Reads what is said of the issuer.
-fn take_authority(cons: &mut Constructed<'_>, alloc: Global) -> Result<Option<Rsync>, DecodeError>
+fn take_authority(alloc: Global, cons: &mut Constructed<'_>) -> Result<Option<Rsync>, DecodeError>
     ensures reads { Reads (λ uri. uri) authority_access_at cons.old result cons.new }
     ensures stays { Stays result cons.new }
 {
-    cons.take_sequence(|cons| take_issuer(cons, alloc))
+    cons.take_sequence(|cons| take_issuer(alloc, cons))
 }
 
 /// Reads where the issuer's certificate lies: the first rsync URI among the access descriptions
 /// with the method caIssuers, if there is one (RFC 5280, section 4.2.2.1; RFC 6487, section 4.8.7).
-/// Descriptions with other methods and names of other kinds are gone past. Refuses by `Malformed`,
-/// or by `Memory`.
+/// Descriptions with other methods and names of other kinds are gone past. That the first one
+/// counts, and that there may be none, is this project's own rule. Refuses by `Malformed`, or by
+/// `Memory`.
 pub fn take_authority_info_access(
     alloc: Global,
     cons: &mut Constructed<'_>,
@@ -162,21 +176,22 @@ pub fn take_authority_info_access(
     ensures stays { Stays result cons.new }
 {
     cons.holds_octets();
-    take_authority(cons, alloc)
+    take_authority(alloc, cons)
 }
 
 // Reads what is said of the subject.
-fn take_accesses(cons: &mut Constructed<'_>, alloc: Global) -> Result<SubjectAccess, DecodeError>
+fn take_accesses(alloc: Global, cons: &mut Constructed<'_>) -> Result<SubjectAccess, DecodeError>
     ensures reads { Reads (λ x. x) subject_access_at cons.old result cons.new }
     ensures stays { Stays result cons.new }
 {
-    cons.take_sequence(|cons| take_subject(cons, alloc))
+    cons.take_sequence(|cons| take_subject(alloc, cons))
 }
 
 /// Reads where more is to be had from the subject: of each method the first rsync URI, and of
 /// rpkiNotify the first https URI, if there is one (RFC 5280, section 4.2.2.2; RFC 6487, section
 /// 4.8.8; RFC 8182, section 3.2). Descriptions with other methods and names of other kinds are gone
-/// past. Refuses by `Malformed`, or by `Memory`.
+/// past. That the first one counts, and that there may be none, is this project's own rule. Refuses
+/// by `Malformed`, or by `Memory`.
 pub fn take_subject_info_access(
     alloc: Global,
     cons: &mut Constructed<'_>,
@@ -186,5 +201,5 @@ pub fn take_subject_info_access(
     ensures stays { Stays result cons.new }
 {
     cons.holds_octets();
-    take_accesses(cons, alloc)
+    take_accesses(alloc, cons)
 }

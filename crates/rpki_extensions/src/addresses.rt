@@ -8,7 +8,7 @@ ghost use Rattle.rpki_extensions.specs.Addresses.{IpClaimsForm, ip_claims_at};
 
 use rpki_der::{Constructed, DecodeError};
 use rpki_resources::{ByFamily, IpResources, Resources};
-use std::alloc::Global;
+use std::alloc::{AllocError, Global};
 
 /// What a certificate claims of IPv4 and of IPv6 addresses (RFC 3779, section 2.2.3).
 #[derive(Debug, Drop)]
@@ -17,6 +17,17 @@ pub struct IpClaims {
     pub v4: IpResources,
     /// The claim of IPv6 addresses, missing where the family is not named.
     pub v6: IpResources,
+}
+
+impl Clone for IpClaims {
+    ghost is_clone = { λ x copy. copy ≡ x };
+
+    fn clone(&self) -> Result<IpClaims, AllocError> {
+        Ok(IpClaims {
+            v4: self.v4.clone()?,
+            v6: self.v6.clone()?,
+        })
+    }
 }
 
 // The claim, or one that is missing.
@@ -30,7 +41,7 @@ fn or_missing(claim: Option<IpResources>) -> IpResources
 }
 
 // Reads the claims.
-fn take_claims(cons: &mut Constructed<'_>, alloc: Global) -> Result<IpClaims, DecodeError>
+fn take_claims(alloc: Global, cons: &mut Constructed<'_>) -> Result<IpClaims, DecodeError>
     ensures reads { Reads (λ claims. claims) ip_claims_at cons.old result cons.new }
     ensures stays { Stays result cons.new }
 {
@@ -51,6 +62,6 @@ impl IpClaims {
         ensures stays { Stays result cons.new }
     {
         cons.holds_octets();
-        take_claims(cons, alloc)
+        take_claims(alloc, cons)
     }
 }

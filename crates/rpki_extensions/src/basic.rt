@@ -1,7 +1,7 @@
 //! Whether the subject is a CA.
 
 ghost use Rattle.rpki_der.specs.Form.Decodes.{DecodesNext};
-ghost use Rattle.rpki_der.specs.Read.Reads.{Reads, Stays};
+ghost use Rattle.rpki_der.specs.Read.Reads.{Reads, Stays, OnlyMalformed};
 ghost use Rattle.rpki_extensions.specs.BasicConstraints.{BasicConstraintsForm, basic_fields_at};
 ghost use Rattle.rpki_extensions.specs.BasicConstraints.{basic_constraints_at};
 
@@ -10,7 +10,8 @@ use rpki_der::{Constructed, DecodeError};
 // Reads what stands in the SEQUENCE.
 #[tactic(auto, unfolding(crate::specs::BasicConstraints::basic_fields_at))]
 fn take_fields(cons: &mut Constructed<'_>) -> Result<bool, DecodeError>
-    ensures { Reads (λ ca. ca) basic_fields_at cons.old result cons.new }
+    ensures reads { Reads (λ ca. ca) basic_fields_at cons.old result cons.new }
+    ensures refused { OnlyMalformed cons.old result }
 {
     cons.take_flag()
 }
@@ -19,6 +20,7 @@ fn take_fields(cons: &mut Constructed<'_>) -> Result<bool, DecodeError>
 fn take_constraints(cons: &mut Constructed<'_>) -> Result<bool, DecodeError>
     ensures reads { Reads (λ ca. ca) basic_constraints_at cons.old result cons.new }
     ensures stays { Stays result cons.new }
+    ensures refused { OnlyMalformed cons.old result }
 {
     cons.take_sequence(take_fields)
 }
@@ -30,6 +32,7 @@ pub fn take_basic_constraints(cons: &mut Constructed<'_>) -> Result<bool, Decode
     ensures reads { Reads (λ ca. ca) basic_constraints_at cons.old result cons.new }
     ensures decodes { DecodesNext BasicConstraintsForm (λ ca. ca) cons.old result cons.new }
     ensures stays { Stays result cons.new }
+    ensures refused { OnlyMalformed cons.old result }
 {
     cons.holds_octets();
     take_constraints(cons)

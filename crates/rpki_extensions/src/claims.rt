@@ -15,15 +15,14 @@ ghost use Rattle.rpki_extensions.specs.Extensions.{as_resources, claims_under, c
 ghost use Rattle.rpki_extensions.specs.Policies.{policies_at};
 
 use crate::addresses::IpClaims;
-use crate::extension::{Extension, has_oid, with_oid};
+use crate::extension::{Extension, has_oid, refused, with_oid};
 use crate::identifiers::{CERTIFICATE_POLICIES, as_resources, ip_resources, other};
-use crate::keys::refused;
 use crate::policies::take_certificate_policies;
 use bytes::Bytes;
 use rpki_der::{Constructed, DecodeError, Mode, Reason};
 use rpki_faults::Overclaim;
 use rpki_resources::{AsResources, Resources};
-use std::alloc::Global;
+use std::alloc::{AllocError, Global};
 
 /// What the extensions of a certificate claim.
 #[derive(Debug, Drop)]
@@ -34,6 +33,18 @@ pub struct Claims {
     pub addresses: IpClaims,
     /// The claim of AS numbers (RFC 6487, section 4.8.11).
     pub as_numbers: AsResources,
+}
+
+impl Clone for Claims {
+    ghost is_clone = { λ x copy. copy ≡ x };
+
+    fn clone(&self) -> Result<Claims, AllocError> {
+        Ok(Claims {
+            policy: self.policy,
+            addresses: self.addresses.clone()?,
+            as_numbers: self.as_numbers.clone()?,
+        })
+    }
 }
 
 // The policy, in a value.
@@ -55,14 +66,14 @@ fn policy(list: &[Extension]) -> Result<Overclaim, DecodeError>
 }
 
 // The claims of addresses, in a value.
-fn addresses_in(value: Bytes, alloc: Global) -> Result<IpClaims, DecodeError>
+fn addresses_in(alloc: Global, value: Bytes) -> Result<IpClaims, DecodeError>
     ensures { Tells (λ claims. claims) (front_of ip_claims_at Der value) result }
 {
     Constructed::decode(value, Mode::Der, |cons| IpClaims::take_from(alloc, cons))
 }
 
 // The claims of addresses.
-fn addresses(list: &[Extension], policy: Overclaim, alloc: Global) -> Result<IpClaims, DecodeError>
+fn addresses(alloc: Global, list: &[Extension], policy: Overclaim) -> Result<IpClaims, DecodeError>
     ensures { Tells (λ claims. claims)
         (stated_or no_addresses (ip_resources policy) ip_claims_at list.now) result }
 {
@@ -71,12 +82,12 @@ fn addresses(list: &[Extension], policy: Overclaim, alloc: Global) -> Result<IpC
             v4: Resources::missing(),
             v6: Resources::missing(),
         }),
-        Some(extension) => addresses_in(extension.value.clone()?, alloc),
+        Some(extension) => addresses_in(alloc, extension.value.clone()?),
     }
 }
 
 // The claim of AS numbers, in a value.
-fn as_numbers_in(value: Bytes, alloc: Global) -> Result<AsResources, DecodeError>
+fn as_numbers_in(alloc: Global, value: Bytes) -> Result<AsResources, DecodeError>
     ensures { Tells (λ claim. claim) (front_of as_identifiers_at Der value) result }
 {
     Constructed::decode(
@@ -88,26 +99,26 @@ fn as_numbers_in(value: Bytes, alloc: Global) -> Result<AsResources, DecodeError
 
 // The claim of AS numbers.
 fn as_numbers(
+    alloc: Global,
     list: &[Extension],
     policy: Overclaim,
-    alloc: Global,
 ) -> Result<AsResources, DecodeError>
     ensures { Tells (λ claim. claim)
         (stated_or Missing (as_resources policy) as_identifiers_at list.now) result }
 {
     match with_oid(list, &as_resources(policy)) {
         None => Ok(Resources::missing()),
-        Some(extension) => as_numbers_in(extension.value.clone()?, alloc),
+        Some(extension) => as_numbers_in(alloc, extension.value.clone()?),
     }
 }
 
 // The claims under this policy.
 #[tactic(auto, unfolding(crate::specs::Extensions::claims_under))]
-fn claims_under(policy: Overclaim, list: &[Extension], alloc: Global) -> Result<Claims, DecodeError>
+fn claims_under(alloc: Global, policy: Overclaim, list: &[Extension]) -> Result<Claims, DecodeError>
     ensures { Tells (λ claims. claims) (claims_under policy list.now) result }
 {
-    let addresses = addresses(list, policy, alloc)?;
-    let as_numbers = as_numbers(list, policy, alloc)?;
+    let addresses = addresses(alloc, list, policy)?;
+    let as_numbers = as_numbers(alloc, list, policy)?;
     Ok(Claims {
         policy,
         addresses,
@@ -124,12 +135,12 @@ fn has_other(policy: Overclaim, list: &[Extension]) -> bool
 
 // What the extensions claim.
 #[tactic(auto, unfolding(crate::specs::Extensions::claims_of_list))]
-pub fn claims_of(list: &[Extension], alloc: Global) -> Result<Claims, DecodeError>
+pub fn claims_of(alloc: Global, list: &[Extension]) -> Result<Claims, DecodeError>
     ensures { Tells (λ claims. claims) (claims_of_list list.now) result }
 {
     let policy = policy(list)?;
     if has_other(policy, list) {
         return Err(refused(Reason::ResourcesOfOtherPolicy));
     }
-    claims_under(policy, list, alloc)
+    claims_under(alloc, policy, list)
 }

@@ -1,12 +1,14 @@
 //! Extensions, whose values are not read yet.
 
 ghost use Rattle.std.specs.Prelude.{◌≡◌, IfOk, option_map};
+ghost use Rattle.std.specs.List.{list_all};
 ghost use Rattle.rpki_der.specs.Form.Keyed.{are_distinct, with_key, has_key};
 ghost use Rattle.rpki_der.specs.Read.Reads.{Reads};
-ghost use Rattle.rpki_extensions.specs.Extension.{extension_fields_at, oid_of};
+ghost use Rattle.rpki_extensions.specs.Extension.{extension_fields_at, oid_of, may_stand};
+ghost use Rattle.rpki_extensions.specs.Extension.{standing_at};
 
 use bytes::Bytes;
-use rpki_der::{Constructed, DecodeError, ListItem, Oid};
+use rpki_der::{Constructed, ContentFault, DecodeError, ListItem, Oid, Reason};
 use std::alloc::{AllocError, Global};
 use std::collections::BTreeSet;
 
@@ -21,9 +23,28 @@ pub struct Extension {
     pub value: Bytes,
 }
 
+impl Clone for Extension {
+    ghost is_clone = { λ e copy. copy ≡ e };
+
+    fn clone(&self) -> Result<Extension, AllocError> {
+        Ok(Extension {
+            oid: self.oid.clone()?,
+            critical: self.critical,
+            value: self.value.clone()?,
+        })
+    }
+}
+
+/// What is refused for this reason.
+pub fn refused(reason: Reason) -> DecodeError
+    ensures { result ≡ DecodeError.Content (ContentFault.Text reason) }
+{
+    DecodeError::Content(ContentFault::Text(reason))
+}
+
 // Reads what stands in the SEQUENCE.
 #[tactic(auto, unfolding(crate::specs::Extension::extension_fields_at))]
-fn take_fields(cons: &mut Constructed<'_>, alloc: Global) -> Result<Extension, DecodeError>
+fn take_fields(alloc: Global, cons: &mut Constructed<'_>) -> Result<Extension, DecodeError>
     ensures { Reads (λ e. e) extension_fields_at cons.old result cons.new }
 {
     let oid = cons.take_oid()?;
@@ -48,7 +69,7 @@ impl ListItem for Extension {
         alloc: Global,
         cons: &mut Constructed<'_>,
     ) -> Result<Option<Extension>, DecodeError> {
-        cons.take_opt_sequence(|cons| take_fields(cons, alloc))
+        cons.take_opt_sequence(|cons| take_fields(alloc, cons))
     }
 }
 
@@ -65,7 +86,53 @@ pub fn are_distinct(alloc: Global, list: &[Extension]) -> Result<bool, AllocErro
     Ok(true)
 }
 
-// The first extension with this identifier.
+/// What extensions belong to: which of them are known there.
+pub trait Profile {
+    ghost use Rattle.std.specs.Prelude.{◌≡◌, ℕ, List};
+    ghost use Rattle.rpki_extensions.specs.Extension.{is_among};
+
+    // The identifiers of the extensions that are known.
+    ghost known: { List (List ℕ) };
+
+    /// Whether this is the identifier of an extension that is known.
+    fn is_known(oid: &[u8]) -> bool
+        ensures { result ≡ is_among known oid.now };
+}
+
+// Whether each extension is known or not critical.
+fn may_stand<P: Profile>(list: &[Extension]) -> bool
+    ensures { result ≡ list_all (may_stand P.known) list.now }
+{
+    for extension in list {
+        if extension.critical && !P::is_known(extension.oid.as_slice()) {
+            return false;
+        }
+    }
+    true
+}
+
+/// Takes as many extensions as there are, in any order (RFC 5280, section 4.2). Refuses by
+/// `ExtensionTwice` where an identifier stands twice, after one look-up in an ordered set for each;
+/// by `UnknownCriticalExtension` for a critical one that is not known; by `Malformed`, or by
+/// `Memory`.
+#[tactic(auto, unfolding(rpki_der::specs::Read::Parse::tested))]
+pub fn take_standing<P: Profile>(
+    alloc: Global,
+    cons: &mut Constructed<'_>,
+) -> Result<Vec<Extension>, DecodeError>
+    ensures { Reads (λ list. list.items) (standing_at P.known) cons.old result cons.new }
+{
+    let list: Vec<Extension> = cons.take_items(alloc)?;
+    if !are_distinct(alloc, &list)? {
+        return Err(refused(Reason::ExtensionTwice));
+    }
+    if !may_stand::<P>(&list) {
+        return Err(refused(Reason::UnknownCriticalExtension));
+    }
+    Ok(list)
+}
+
+/// The extension with this identifier, the first one where there are several.
 pub fn with_oid<'l>(list: &'l [Extension], oid: &[u8]) -> Option<&'l Extension>
     ensures { option_map (λ e. e.now) result ≡ with_key oid_of oid.now list.now }
 {

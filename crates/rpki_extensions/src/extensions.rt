@@ -4,17 +4,17 @@ ghost use Rattle.std.specs.Prelude.{◌≡◌};
 ghost use Rattle.rpki_der.specs.Form.Decodes.{DecodesNext};
 ghost use Rattle.rpki_der.specs.Form.Made.{partly};
 ghost use Rattle.rpki_der.specs.Read.Reads.{Reads, Stays, Tells};
-ghost use Rattle.rpki_extensions.specs.Extension.{list_at};
-ghost use Rattle.rpki_extensions.specs.Extensions.{ExtensionsForm, said_by_all};
-ghost use Rattle.rpki_extensions.specs.Extensions.{extensions_of, extensions_at};
+ghost use Rattle.rpki_extensions.specs.Extension.{standing_at};
+ghost use Rattle.rpki_extensions.specs.Extensions.{ExtensionsForm, certificate_extensions};
+ghost use Rattle.rpki_extensions.specs.Extensions.{said_by_all, extensions_at};
 
 use crate::claims::{Claims, claims_of};
-use crate::extension::{Extension, are_distinct};
-use crate::identifiers::may_stand;
-use crate::keys::{KeyFacts, key_facts_of, refused};
+use crate::extension::{Extension, Profile, take_standing};
+use crate::identifiers::is_known;
+use crate::keys::{KeyFacts, key_facts_of};
 use crate::locations::{Locations, locations_of};
-use rpki_der::{Constructed, DecodeError, Reason};
-use std::alloc::Global;
+use rpki_der::{Constructed, DecodeError};
+use std::alloc::{AllocError, Global};
 
 /// What the extensions of a resource certificate say (RFC 6487, section 4.8).
 #[derive(Debug, Drop)]
@@ -27,14 +27,36 @@ pub struct Extensions {
     pub claims: Claims,
 }
 
+impl Clone for Extensions {
+    ghost is_clone = { λ x copy. copy ≡ x };
+
+    fn clone(&self) -> Result<Extensions, AllocError> {
+        Ok(Extensions {
+            key: self.key.clone()?,
+            locations: self.locations.clone()?,
+            claims: self.claims.clone()?,
+        })
+    }
+}
+
+impl Profile for Extensions {
+    ghost use Rattle.rpki_extensions.specs.Extensions.{certificate_extensions};
+
+    ghost known = { certificate_extensions };
+
+    fn is_known(oid: &[u8]) -> bool {
+        is_known(oid)
+    }
+}
+
 // What the extensions say, where they may stand.
 #[tactic(auto, unfolding(crate::specs::Extensions::said_by_all))]
-fn said_by(list: &[Extension], alloc: Global) -> Result<Extensions, DecodeError>
+fn said_by(alloc: Global, list: &[Extension]) -> Result<Extensions, DecodeError>
     ensures { Tells (λ x. x) (said_by_all list.now) result }
 {
-    let key = key_facts_of(list, alloc)?;
-    let locations = locations_of(list, alloc)?;
-    let claims = claims_of(list, alloc)?;
+    let key = key_facts_of(alloc, list)?;
+    let locations = locations_of(alloc, list)?;
+    let claims = claims_of(alloc, list)?;
     Ok(Extensions {
         key,
         locations,
@@ -42,41 +64,29 @@ fn said_by(list: &[Extension], alloc: Global) -> Result<Extensions, DecodeError>
     })
 }
 
-// What the extensions say.
-#[tactic(auto, unfolding(crate::specs::Extensions::extensions_of))]
-fn extensions_of(list: &[Extension], alloc: Global) -> Result<Extensions, DecodeError>
-    ensures { Tells (λ x. x) (extensions_of list.now) result }
-{
-    if !are_distinct(alloc, list)? {
-        return Err(refused(Reason::ExtensionTwice));
-    }
-    if !may_stand(list) {
-        return Err(refused(Reason::UnknownCriticalExtension));
-    }
-    said_by(list, alloc)
-}
-
 // Reads as many extensions as there are, and what they say.
-fn take_list(cons: &mut Constructed<'_>, alloc: Global) -> Result<Extensions, DecodeError>
-    ensures { Reads (λ x. x) (partly extensions_of list_at) cons.old result cons.new }
+fn take_list(alloc: Global, cons: &mut Constructed<'_>) -> Result<Extensions, DecodeError>
+    ensures { Reads (λ x. x) (partly said_by_all (standing_at certificate_extensions))
+        cons.old result cons.new }
 {
-    let list: Vec<Extension> = cons.take_items(alloc)?;
-    extensions_of(&list, alloc)
+    let list = take_standing::<Extensions>(alloc, cons)?;
+    said_by(alloc, &list)
 }
 
 // Reads the extensions.
-fn take_extensions(cons: &mut Constructed<'_>, alloc: Global) -> Result<Extensions, DecodeError>
+fn take_extensions(alloc: Global, cons: &mut Constructed<'_>) -> Result<Extensions, DecodeError>
     ensures reads { Reads (λ x. x) extensions_at cons.old result cons.new }
     ensures stays { Stays result cons.new }
 {
-    cons.take_sequence(|cons| take_list(cons, alloc))
+    cons.take_sequence(|cons| take_list(alloc, cons))
 }
 
 impl Extensions {
     /// Reads the extensions of a resource certificate, a SEQUENCE OF Extension in any order (RFC
     /// 5280, section 4.1; RFC 6487, section 4.8). Each value is read in DER, whatever the mode of
-    /// the reader is, and what follows it within the extension is left. One that is not known says
-    /// nothing.
+    /// the reader is. Own rules of this project are: octets after a value within its extension are
+    /// left, an extension that is known has either flag, and one that is not known says nothing
+    /// where it is not critical, which RFC 6487, section 8, does not permit.
     ///
     /// Refuses by `ExtensionTwice`, by `UnknownCriticalExtension`, by `NoSubjectKeyIdentifier`,
     /// `NoKeyUsage` and `NoPolicy` for what has to be there, by `ResourcesOfOtherPolicy`, by what
@@ -87,6 +97,6 @@ impl Extensions {
         ensures stays { Stays result cons.new }
     {
         cons.holds_octets();
-        take_extensions(cons, alloc)
+        take_extensions(alloc, cons)
     }
 }

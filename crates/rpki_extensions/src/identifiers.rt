@@ -1,11 +1,10 @@
 //! The identifiers of extensions.
 
 ghost use Rattle.std.specs.Prelude.{◌≡◌};
-ghost use Rattle.std.specs.List.{list_all};
-ghost use Rattle.rpki_extensions.specs.Extensions.{is_among, known, may_stand, ip_resources};
+ghost use Rattle.rpki_extensions.specs.Extension.{is_among};
+ghost use Rattle.rpki_extensions.specs.Extensions.{certificate_extensions, ip_resources};
 ghost use Rattle.rpki_extensions.specs.Extensions.{as_resources, other};
 
-use crate::extension::Extension;
 use rpki_faults::Overclaim;
 
 // id-ce-subjectKeyIdentifier (RFC 6487, section 4.8.2).
@@ -44,7 +43,7 @@ const AS_RESOURCES: [u8; 8] = [0x2B, 0x06, 0x01, 0x05, 0x05, 0x07, 0x01, 8];
 // id-pe-ipAddrBlocks-v2 (RFC 8360, section 4.2.2.1).
 const IP_RESOURCES_V2: [u8; 8] = [0x2B, 0x06, 0x01, 0x05, 0x05, 0x07, 0x01, 28];
 
-// id-pe-autonomousSysIds-v2 (RFC 8360, section 4.2.2.2).
+// id-pe-autonomousSysIds-v2 (RFC 8360, section 4.2.2.3).
 const AS_RESOURCES_V2: [u8; 8] = [0x2B, 0x06, 0x01, 0x05, 0x05, 0x07, 0x01, 29];
 
 // The extension of addresses that goes with a policy.
@@ -77,9 +76,9 @@ pub fn other(policy: Overclaim) -> Overclaim
     }
 }
 
-// Whether an extension is known.
-fn is_known(oid: &[u8]) -> bool
-    ensures { result ≡ is_among known oid.now }
+// Whether an extension is known in a resource certificate.
+pub fn is_known(oid: &[u8]) -> bool
+    ensures { result ≡ is_among certificate_extensions oid.now }
 {
     oid == SUBJECT_KEY_IDENTIFIER.as_slice()
         || oid == KEY_USAGE.as_slice()
@@ -94,16 +93,4 @@ fn is_known(oid: &[u8]) -> bool
         || oid == AS_RESOURCES.as_slice()
         || oid == IP_RESOURCES_V2.as_slice()
         || oid == AS_RESOURCES_V2.as_slice()
-}
-
-// Whether each extension is known or not critical.
-pub fn may_stand(list: &[Extension]) -> bool
-    ensures { result ≡ list_all may_stand list.now }
-{
-    for extension in list {
-        if extension.critical && !is_known(extension.oid.as_slice()) {
-            return false;
-        }
-    }
-    true
 }

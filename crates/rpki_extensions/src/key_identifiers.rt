@@ -1,7 +1,7 @@
 //! Identifiers of keys.
 
 ghost use Rattle.rpki_der.specs.Form.Decodes.{DecodesNext};
-ghost use Rattle.rpki_der.specs.Read.Reads.{Reads, Stays};
+ghost use Rattle.rpki_der.specs.Read.Reads.{Reads, Stays, OnlyMalformedOrMemory};
 ghost use Rattle.rpki_extensions.specs.KeyIdentifiers.{SubjectKeyForm, AuthorityKeyForm};
 ghost use Rattle.rpki_extensions.specs.KeyIdentifiers.{subject_key_at, key_id_at};
 ghost use Rattle.rpki_extensions.specs.KeyIdentifiers.{authority_fields_at, authority_key_at};
@@ -10,12 +10,16 @@ use rpki_basics::KeyIdentifier;
 use rpki_der::{Constructed, DecodeError, Tag};
 use std::alloc::Global;
 
+// How many octets an identifier has: those of a SHA-1 digest (RFC 6487, section 4.8.2).
+const ID_LENGTH: usize = 20;
+
 // Reads the identifier of the subject's key.
-fn take_subject(cons: &mut Constructed<'_>, alloc: Global) -> Result<KeyIdentifier, DecodeError>
+fn take_subject(alloc: Global, cons: &mut Constructed<'_>) -> Result<KeyIdentifier, DecodeError>
     ensures reads { Reads (λ id. id) subject_key_at cons.old result cons.new }
     ensures stays { Stays result cons.new }
+    ensures refused { OnlyMalformedOrMemory cons.old result }
 {
-    let octets = cons.take_octets_of::<20>(alloc)?;
+    let octets = cons.take_octets_of::<ID_LENGTH>(alloc)?;
     Ok(KeyIdentifier::from_octets(octets))
 }
 
@@ -28,9 +32,10 @@ pub fn take_subject_key_identifier(
     ensures reads { Reads (λ id. id) subject_key_at cons.old result cons.new }
     ensures decodes { DecodesNext SubjectKeyForm (λ id. id) cons.old result cons.new }
     ensures stays { Stays result cons.new }
+    ensures refused { OnlyMalformedOrMemory cons.old result }
 {
     cons.holds_octets();
-    take_subject(cons, alloc)
+    take_subject(alloc, cons)
 }
 
 // Reads the identifier under [0].
@@ -38,9 +43,10 @@ pub fn take_subject_key_identifier(
 fn take_key_id(cons: &mut Constructed<'_>) -> Result<KeyIdentifier, DecodeError>
     ensures reads { Reads (λ id. id) key_id_at cons.old result cons.new }
     ensures stays { Stays result cons.new }
+    ensures refused { OnlyMalformedOrMemory cons.old result }
 {
     let octets = cons.take_primitive_if(Tag::CTX_0_PRIMITIVE)?;
-    match <[u8; 20]>::try_from(octets.as_slice()) {
+    match <[u8; ID_LENGTH]>::try_from(octets.as_slice()) {
         Ok(octets) => Ok(KeyIdentifier::from_octets(octets)),
         Err(_) => Err(cons.fail(DecodeError::Malformed)),
     }
@@ -49,7 +55,8 @@ fn take_key_id(cons: &mut Constructed<'_>) -> Result<KeyIdentifier, DecodeError>
 // Reads what stands in the SEQUENCE.
 #[tactic(auto, unfolding(crate::specs::KeyIdentifiers::authority_fields_at))]
 fn take_fields(cons: &mut Constructed<'_>) -> Result<KeyIdentifier, DecodeError>
-    ensures { Reads (λ id. id) authority_fields_at cons.old result cons.new }
+    ensures reads { Reads (λ id. id) authority_fields_at cons.old result cons.new }
+    ensures refused { OnlyMalformedOrMemory cons.old result }
 {
     take_key_id(cons)
 }
@@ -58,6 +65,7 @@ fn take_fields(cons: &mut Constructed<'_>) -> Result<KeyIdentifier, DecodeError>
 fn take_authority(cons: &mut Constructed<'_>) -> Result<KeyIdentifier, DecodeError>
     ensures reads { Reads (λ id. id) authority_key_at cons.old result cons.new }
     ensures stays { Stays result cons.new }
+    ensures refused { OnlyMalformedOrMemory cons.old result }
 {
     cons.take_sequence(take_fields)
 }
@@ -71,6 +79,7 @@ pub fn take_authority_key_identifier(
     ensures reads { Reads (λ id. id) authority_key_at cons.old result cons.new }
     ensures decodes { DecodesNext AuthorityKeyForm (λ id. id) cons.old result cons.new }
     ensures stays { Stays result cons.new }
+    ensures refused { OnlyMalformedOrMemory cons.old result }
 {
     cons.holds_octets();
     take_authority(cons)

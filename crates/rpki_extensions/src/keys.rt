@@ -15,7 +15,7 @@ ghost use Rattle.rpki_extensions.specs.KeyIdentifiers.{subject_key_at, authority
 ghost use Rattle.rpki_extensions.specs.Usage.{key_usage_at};
 
 use crate::basic::take_basic_constraints;
-use crate::extension::{Extension, with_oid};
+use crate::extension::{Extension, refused, with_oid};
 use crate::identifiers::{
     AUTHORITY_KEY_IDENTIFIER, BASIC_CONSTRAINTS, EXTENDED_KEY_USAGE, KEY_USAGE,
     SUBJECT_KEY_IDENTIFIER,
@@ -25,9 +25,9 @@ use crate::purposes::take_purposes;
 use crate::usage::take_key_usage;
 use bytes::Bytes;
 use rpki_basics::KeyIdentifier;
-use rpki_der::{Constructed, ContentFault, DecodeError, Mode, Reason};
+use rpki_der::{Constructed, DecodeError, Mode, Reason};
 use rpki_faults::KeyUsage;
-use std::alloc::Global;
+use std::alloc::{AllocError, Global};
 
 /// What the extensions of a certificate say of its key.
 #[derive(Debug, Drop)]
@@ -44,15 +44,22 @@ pub struct KeyFacts {
     pub has_purposes: bool,
 }
 
-// Refuses for this reason.
-pub fn refused(reason: Reason) -> DecodeError
-    ensures { result ≡ DecodeError.Content (ContentFault.Text reason) }
-{
-    DecodeError::Content(ContentFault::Text(reason))
+impl Clone for KeyFacts {
+    ghost is_clone = { λ x copy. copy ≡ x };
+
+    fn clone(&self) -> Result<KeyFacts, AllocError> {
+        Ok(KeyFacts {
+            subject_key: self.subject_key,
+            authority_key: self.authority_key,
+            basic_ca: self.basic_ca,
+            usage: self.usage,
+            has_purposes: self.has_purposes,
+        })
+    }
 }
 
 // The identifier of the key in a value.
-fn subject_key_in(value: Bytes, alloc: Global) -> Result<KeyIdentifier, DecodeError>
+fn subject_key_in(alloc: Global, value: Bytes) -> Result<KeyIdentifier, DecodeError>
     ensures { Tells (λ id. id) (front_of subject_key_at Der value) result }
 {
     Constructed::decode(
@@ -63,13 +70,13 @@ fn subject_key_in(value: Bytes, alloc: Global) -> Result<KeyIdentifier, DecodeEr
 }
 
 // The identifier of the key.
-fn subject_key(list: &[Extension], alloc: Global) -> Result<KeyIdentifier, DecodeError>
+fn subject_key(alloc: Global, list: &[Extension]) -> Result<KeyIdentifier, DecodeError>
     ensures { Tells (λ id. id)
         (must (stated subject_key_identifier subject_key_at list.now)) result }
 {
     match with_oid(list, &SUBJECT_KEY_IDENTIFIER) {
         None => Err(refused(Reason::NoSubjectKeyIdentifier)),
-        Some(extension) => subject_key_in(extension.value.clone()?, alloc),
+        Some(extension) => subject_key_in(alloc, extension.value.clone()?),
     }
 }
 
@@ -125,7 +132,7 @@ fn usage(list: &[Extension]) -> Result<KeyUsage, DecodeError>
 }
 
 // Reads purposes, of which it is kept that they are there.
-fn take_has_purposes(cons: &mut Constructed<'_>, alloc: Global) -> Result<bool, DecodeError>
+fn take_has_purposes(alloc: Global, cons: &mut Constructed<'_>) -> Result<bool, DecodeError>
     ensures { Reads (λ has. has) has_purposes_at cons.old result cons.new }
 {
     take_purposes(alloc, cons)?;
@@ -133,33 +140,33 @@ fn take_has_purposes(cons: &mut Constructed<'_>, alloc: Global) -> Result<bool, 
 }
 
 // Whether there are purposes in a value.
-fn purposes_in(value: Bytes, alloc: Global) -> Result<bool, DecodeError>
+fn purposes_in(alloc: Global, value: Bytes) -> Result<bool, DecodeError>
     ensures { Tells (λ has. has) (front_of has_purposes_at Der value) result }
 {
-    Constructed::decode(value, Mode::Der, |cons| take_has_purposes(cons, alloc))
+    Constructed::decode(value, Mode::Der, |cons| take_has_purposes(alloc, cons))
 }
 
 // Whether there is an extended key usage.
-fn has_purposes(list: &[Extension], alloc: Global) -> Result<bool, DecodeError>
+fn has_purposes(alloc: Global, list: &[Extension]) -> Result<bool, DecodeError>
     ensures { Tells (λ has. has)
         (stated_or false extended_key_usage has_purposes_at list.now) result }
 {
     match with_oid(list, &EXTENDED_KEY_USAGE) {
         None => Ok(false),
-        Some(extension) => purposes_in(extension.value.clone()?, alloc),
+        Some(extension) => purposes_in(alloc, extension.value.clone()?),
     }
 }
 
 // What the extensions say of the key.
 #[tactic(auto, unfolding(crate::specs::Extensions::key_facts_of))]
-pub fn key_facts_of(list: &[Extension], alloc: Global) -> Result<KeyFacts, DecodeError>
+pub fn key_facts_of(alloc: Global, list: &[Extension]) -> Result<KeyFacts, DecodeError>
     ensures { Tells (λ facts. facts) (key_facts_of list.now) result }
 {
-    let subject_key = subject_key(list, alloc)?;
+    let subject_key = subject_key(alloc, list)?;
     let authority_key = authority_key(list)?;
     let basic_ca = basic_ca(list)?;
     let usage = usage(list)?;
-    let has_purposes = has_purposes(list, alloc)?;
+    let has_purposes = has_purposes(alloc, list)?;
     Ok(KeyFacts {
         subject_key,
         authority_key,

@@ -18,7 +18,7 @@ use crate::points::take_crl_distribution_points;
 use bytes::Bytes;
 use rpki_basics::Rsync;
 use rpki_der::{Constructed, DecodeError, Mode};
-use std::alloc::Global;
+use std::alloc::{AllocError, Global};
 
 /// Where the extensions of a certificate say that something lies.
 #[derive(Debug, Drop)]
@@ -31,8 +31,20 @@ pub struct Locations {
     pub subject: SubjectAccess,
 }
 
+impl Clone for Locations {
+    ghost is_clone = { λ x copy. copy ≡ x };
+
+    fn clone(&self) -> Result<Locations, AllocError> {
+        Ok(Locations {
+            crl: self.crl.clone()?,
+            ca_issuer: self.ca_issuer.clone()?,
+            subject: self.subject.clone()?,
+        })
+    }
+}
+
 // The revocation list, in a value.
-fn crl_in(value: Bytes, alloc: Global) -> Result<Rsync, DecodeError>
+fn crl_in(alloc: Global, value: Bytes) -> Result<Rsync, DecodeError>
     ensures { Tells (λ uri. uri) (front_of points_at Der value) result }
 {
     Constructed::decode(
@@ -43,17 +55,17 @@ fn crl_in(value: Bytes, alloc: Global) -> Result<Rsync, DecodeError>
 }
 
 // The revocation list.
-fn crl(list: &[Extension], alloc: Global) -> Result<Option<Rsync>, DecodeError>
+fn crl(alloc: Global, list: &[Extension]) -> Result<Option<Rsync>, DecodeError>
     ensures { Tells (λ uri. uri) (stated crl_distribution_points points_at list.now) result }
 {
     match with_oid(list, &CRL_DISTRIBUTION_POINTS) {
         None => Ok(None),
-        Some(extension) => Ok(Some(crl_in(extension.value.clone()?, alloc)?)),
+        Some(extension) => Ok(Some(crl_in(alloc, extension.value.clone()?)?)),
     }
 }
 
 // The issuer's certificate, in a value.
-fn ca_issuer_in(value: Bytes, alloc: Global) -> Result<Option<Rsync>, DecodeError>
+fn ca_issuer_in(alloc: Global, value: Bytes) -> Result<Option<Rsync>, DecodeError>
     ensures { Tells (λ uri. uri) (front_of authority_access_at Der value) result }
 {
     Constructed::decode(
@@ -64,18 +76,18 @@ fn ca_issuer_in(value: Bytes, alloc: Global) -> Result<Option<Rsync>, DecodeErro
 }
 
 // The issuer's certificate.
-fn ca_issuer(list: &[Extension], alloc: Global) -> Result<Option<Rsync>, DecodeError>
+fn ca_issuer(alloc: Global, list: &[Extension]) -> Result<Option<Rsync>, DecodeError>
     ensures { Tells (λ uri. uri)
         (stated_or None authority_info_access authority_access_at list.now) result }
 {
     match with_oid(list, &AUTHORITY_INFO_ACCESS) {
         None => Ok(None),
-        Some(extension) => ca_issuer_in(extension.value.clone()?, alloc),
+        Some(extension) => ca_issuer_in(alloc, extension.value.clone()?),
     }
 }
 
 // What is to be had from the subject, in a value.
-fn subject_in(value: Bytes, alloc: Global) -> Result<SubjectAccess, DecodeError>
+fn subject_in(alloc: Global, value: Bytes) -> Result<SubjectAccess, DecodeError>
     ensures { Tells (λ x. x) (front_of subject_access_at Der value) result }
 {
     Constructed::decode(
@@ -86,7 +98,7 @@ fn subject_in(value: Bytes, alloc: Global) -> Result<SubjectAccess, DecodeError>
 }
 
 // What is to be had from the subject.
-fn subject(list: &[Extension], alloc: Global) -> Result<SubjectAccess, DecodeError>
+fn subject(alloc: Global, list: &[Extension]) -> Result<SubjectAccess, DecodeError>
     ensures { Tells (λ x. x)
         (stated_or no_access subject_info_access subject_access_at list.now) result }
 {
@@ -97,18 +109,18 @@ fn subject(list: &[Extension], alloc: Global) -> Result<SubjectAccess, DecodeErr
             signed_object: None,
             rpki_notify: None,
         }),
-        Some(extension) => subject_in(extension.value.clone()?, alloc),
+        Some(extension) => subject_in(alloc, extension.value.clone()?),
     }
 }
 
 // Where the extensions say that something lies.
 #[tactic(auto, unfolding(crate::specs::Extensions::locations_of))]
-pub fn locations_of(list: &[Extension], alloc: Global) -> Result<Locations, DecodeError>
+pub fn locations_of(alloc: Global, list: &[Extension]) -> Result<Locations, DecodeError>
     ensures { Tells (λ x. x) (locations_of list.now) result }
 {
-    let crl = crl(list, alloc)?;
-    let ca_issuer = ca_issuer(list, alloc)?;
-    let subject = subject(list, alloc)?;
+    let crl = crl(alloc, list)?;
+    let ca_issuer = ca_issuer(alloc, list)?;
+    let subject = subject(alloc, list)?;
     Ok(Locations {
         crl,
         ca_issuer,

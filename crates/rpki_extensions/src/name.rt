@@ -33,7 +33,7 @@ pub fn take_name(cons: &mut Constructed<'_>) -> Result<Name, DecodeError>
 }
 
 // Reads names, up to the end.
-pub fn take_names(cons: &mut Constructed<'_>, alloc: Global) -> Result<Vec<Name>, DecodeError>
+pub fn take_names(alloc: Global, cons: &mut Constructed<'_>) -> Result<Vec<Name>, DecodeError>
     ensures { Reads (λ names. names.items) names_at cons.old result cons.new }
 {
     let mut names = Vec::new(alloc);

@@ -9,7 +9,7 @@ ghost use Rattle.rpki_der.specs.Tags.{OBJECT_IDENTIFIER};
 ghost use Rattle.rpki_extensions.specs.Purposes.{PurposesForm, purposes_at};
 
 use rpki_der::{Constructed, DecodeError, ListItem, Oid, Reason, Tag};
-use std::alloc::Global;
+use std::alloc::{AllocError, Global};
 use std::marker::Model;
 
 /// A purpose of a key (RFC 5280, section 4.2.1.12).
@@ -22,6 +22,14 @@ impl Model for Purpose {
     ghost Value = { List ℕ };
 
     ghost view = { λ p. p.0 };
+}
+
+impl Clone for Purpose {
+    ghost is_clone = { λ p copy. copy ≡ p };
+
+    fn clone(&self) -> Result<Purpose, AllocError> {
+        Ok(Purpose(self.0.clone()?))
+    }
 }
 
 impl Purpose {
@@ -57,7 +65,7 @@ impl ListItem for Purpose {
 }
 
 // Reads a SEQUENCE OF purposes.
-fn take_list(cons: &mut Constructed<'_>, alloc: Global) -> Result<Vec<Purpose>, DecodeError>
+fn take_list(alloc: Global, cons: &mut Constructed<'_>) -> Result<Vec<Purpose>, DecodeError>
     ensures reads { Reads (λ purposes. purposes.items) (sequence_of_at OBJECT_IDENTIFIER oid_at)
         cons.old result cons.new }
     ensures stays { Stays result cons.new }
@@ -67,11 +75,11 @@ fn take_list(cons: &mut Constructed<'_>, alloc: Global) -> Result<Vec<Purpose>, 
 
 // Reads the purposes, of which there is one at least.
 #[tactic(auto, unfolding(rpki_der::specs::Read::Parse::tested))]
-fn take_some(cons: &mut Constructed<'_>, alloc: Global) -> Result<Vec<Purpose>, DecodeError>
+fn take_some(alloc: Global, cons: &mut Constructed<'_>) -> Result<Vec<Purpose>, DecodeError>
     ensures reads { Reads (λ purposes. purposes.items) purposes_at cons.old result cons.new }
     ensures stays { Stays result cons.new }
 {
-    let purposes = take_list(cons, alloc)?;
+    let purposes = take_list(alloc, cons)?;
     if purposes.is_empty() {
         return Err(cons.refuse_for(Reason::NoPurposes));
     }
@@ -87,5 +95,5 @@ pub fn take_purposes(alloc: Global, cons: &mut Constructed<'_>) -> Result<Vec<Pu
     ensures stays { Stays result cons.new }
 {
     cons.holds_octets();
-    take_some(cons, alloc)
+    take_some(alloc, cons)
 }

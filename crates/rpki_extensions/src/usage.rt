@@ -54,7 +54,8 @@ fn take_usage(cons: &mut Constructed<'_>) -> Result<KeyUsage, DecodeError>
 
 /// Reads the usage of a key: of a CA where the bits keyCertSign and cRLSign are set, and else of an
 /// end entity where digitalSignature is set (RFC 5280, section 4.2.1.3; RFC 6487, section 4.8.4).
-/// Further bits may be set. Refuses by `WrongKeyUsage` where the bits are those of neither, by
+/// That further bits may be set, and that bits that are zero may end them in DER too, are this
+/// project's own rules. Refuses by `WrongKeyUsage` where the bits are those of neither, by
 /// `Malformed`, or by `Memory`.
 pub fn take_key_usage(cons: &mut Constructed<'_>) -> Result<KeyUsage, DecodeError>
     ensures reads { Reads (λ usage. usage) key_usage_at cons.old result cons.new }

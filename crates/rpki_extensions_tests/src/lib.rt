@@ -7,4 +7,6 @@
 #[cfg(test)]
 mod lists;
 #[cfg(test)]
+mod parts;
+#[cfg(test)]
 mod values;

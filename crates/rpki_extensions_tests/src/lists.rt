@@ -1,98 +1,23 @@
 //! Rows of lists of extensions.
 
+use crate::parts::{
+    AS, AS_V2, AUTHORITY_KEY, BARE, BASIC, BASIC_FALSE, CRITICAL, CRITICAL_KEY, CRL, DOMAINS,
+    EE_USAGE, FOLLOWED, IP, IP_V2, ISSUER, KEY_IN_BER, KEY_IN_PIECES, NO_PURPOSES, NO_URI, OBJECT,
+    OTHER_FAMILY, OTHER_POLICY, PURPOSES, REFUSE, REFUSE_NOT_CRITICAL, SUBJECT, SUBJECT_KEY, TRIM,
+    TWO_BLOCKS, TWO_NUMBERS, UNKNOWN, USAGE, WRONG_AUTHORITY, WRONG_BASIC, WRONG_ISSUER, WRONG_KEY,
+    WRONG_SUBJECT, WRONG_USAGE,
+};
 use crate::values::{claims_text, rsync_text, shown, subject_text};
 use bytes::Bytes;
 use rpki_basics::KeyIdentifier;
 use rpki_der::build::tlv;
 use rpki_der::{Constructed, DecodeError, Mode};
-use rpki_extensions::{Claims, Extensions, KeyFacts, Locations};
-use rpki_resources::Claim;
+use rpki_extensions::{Claims, Extension, Extensions, KeyFacts, Locations};
+use rpki_resources::{AsResources, Claim};
 use std::alloc::{AllocError, Global};
 
-/// The identifier of the key.
-const SUBJECT_KEY: &[u8] = b"\x30\x1D\x06\x03\x55\x1D\x0E\x04\x16\x04\x14ABCDEFGHIJKLMNOPQRST";
-
-/// The identifier of the issuer's key.
-const AUTHORITY_KEY: &[u8] =
-    b"\x30\x1F\x06\x03\x55\x1D\x23\x04\x18\x30\x16\x80\x14ABCDEFGHIJKLMNOPQRST";
-
-/// Basic constraints of a CA.
-const BASIC: &[u8] = b"\x30\x0F\x06\x03\x55\x1D\x13\x01\x01\xFF\x04\x05\x30\x03\x01\x01\xFF";
-
-/// The usage of a CA.
-const USAGE: &[u8] = b"\x30\x0E\x06\x03\x55\x1D\x0F\x01\x01\xFF\x04\x04\x03\x02\x01\x06";
-
-/// Purposes.
-const PURPOSES: &[u8] =
-    b"\x30\x13\x06\x03\x55\x1D\x25\x04\x0C\x30\x0A\x06\x08\x2B\x06\x01\x05\x05\x07\x03\x1E";
-
-/// A distribution point.
-const CRL: &[u8] =
-    b"\x30\x1E\x06\x03\x55\x1D\x1F\x04\x17\x30\x15\x30\x13\xA0\x11\xA0\x0F\x86\x0Drsync://h/m/\
-        a";
-
-/// The issuer's certificate.
-const ISSUER: &[u8] =
-    b"\x30\x29\x06\x08\x2B\x06\x01\x05\x05\x07\x01\x01\x04\x1D\x30\x1B\x30\x19\x06\x08\x2B\x06\
-        \x01\x05\x05\x07\x30\x02\x86\x0Drsync://h/m/b";
-
-/// What is to be had from the subject.
-const SUBJECT: &[u8] =
-    b"\x30\x81\xC9\x06\x08\x2B\x06\x01\x05\x05\x07\x01\x0B\x04\x81\xBC\x30\x81\xB9\x30\x19\x06\
-        \x08\x2B\x06\x01\x05\x05\x07\x30\x0D\x86\x0Drsync://h/m/a\x30\x17\x06\x08\x2B\x06\x01\
-        \x05\x05\x07\x30\x0A\x86\x0Bhttps://h/n\x30\x19\x06\x08\x2B\x06\x01\x05\x05\x07\x30\x0A\
-        \x86\x0Drsync://h/m/b\x30\x19\x06\x08\x2B\x06\x01\x05\x05\x07\x30\x0A\x86\x0Drsync://h/m\
-        /a\x30\x17\x06\x08\x2B\x06\x01\x05\x05\x07\x30\x0D\x86\x0Bhttps://h/n\x30\x19\x06\x08\
-        \x2B\x06\x01\x05\x05\x07\x30\x05\x86\x0Drsync://h/m/a\x30\x19\x06\x08\x2B\x06\x01\x05\
-        \x05\x07\x30\x05\x86\x0Drsync://h/m/b";
-
-/// The policy of RFC 6487.
-const REFUSE: &[u8] =
-    b"\x30\x18\x06\x03\x55\x1D\x20\x01\x01\xFF\x04\x0E\x30\x0C\x30\x0A\x06\x08\x2B\x06\x01\x05\
-        \x05\x07\x0E\x02";
-
-/// The policy of RFC 8360.
-const TRIM: &[u8] =
-    b"\x30\x18\x06\x03\x55\x1D\x20\x01\x01\xFF\x04\x0E\x30\x0C\x30\x0A\x06\x08\x2B\x06\x01\x05\
-        \x05\x07\x0E\x03";
-
-/// Inherited addresses.
-const IP: &[u8] =
-    b"\x30\x21\x06\x08\x2B\x06\x01\x05\x05\x07\x01\x07\x01\x01\xFF\x04\x12\x30\x10\x30\x06\x04\
-        \x02\x00\x01\x05\x00\x30\x06\x04\x02\x00\x02\x05\x00";
-
-/// The same for the policy of RFC 8360.
-const IP_V2: &[u8] =
-    b"\x30\x19\x06\x08\x2B\x06\x01\x05\x05\x07\x01\x1C\x01\x01\xFF\x04\x0A\x30\x08\x30\x06\x04\
-        \x02\x00\x01\x05\x00";
-
-/// Inherited AS numbers.
-const AS: &[u8] =
-    b"\x30\x15\x06\x08\x2B\x06\x01\x05\x05\x07\x01\x08\x01\x01\xFF\x04\x06\x30\x04\xA0\x02\x05\
-        \x00";
-
-/// The same for the policy of RFC 8360.
-const AS_V2: &[u8] =
-    b"\x30\x15\x06\x08\x2B\x06\x01\x05\x05\x07\x01\x1D\x01\x01\xFF\x04\x06\x30\x04\xA0\x02\x05\
-        \x00";
-
-/// An extension that is not known, 1.2.3.
-const UNKNOWN: &[u8] = b"\x30\x0B\x06\x02\x2A\x03\x01\x01\x00\x04\x02\x05\x00";
-
-/// A critical one that is not known, 1.2.3.
-const CRITICAL: &[u8] = b"\x30\x0B\x06\x02\x2A\x03\x01\x01\xFF\x04\x02\x05\x00";
-
-/// The identifier of the key, with octets behind it.
-const FOLLOWED: &[u8] = b"\x30\x1E\x06\x03\x55\x1D\x0E\x04\x17\x04\x14ABCDEFGHIJKLMNOPQRST\xFF";
-
-/// The identifier of a key that is too short.
-const WRONG_KEY: &[u8] = b"\x30\x1C\x06\x03\x55\x1D\x0E\x04\x15\x04\x13BCDEFGHIJKLMNOPQRST";
-
-/// An extension without a value.
-const BARE: &[u8] = b"\x30\x05\x06\x03\x55\x1D\x0E";
-
 /// Extensions, and what they say or why they are refused.
-static ROWS: [(&[&[u8]], &str); 17] = [
+pub static ROWS: [(&[&[u8]], &str); 30] = [
     (
         &[SUBJECT_KEY, USAGE, REFUSE],
         "4142434445464748494A4B4C4D4E4F5051525354 none none Ca false none none none none \
@@ -160,11 +85,72 @@ static ROWS: [(&[&[u8]], &str); 17] = [
     ),
     (&[WRONG_KEY, USAGE, REFUSE], "malformed"),
     (&[BARE, USAGE, REFUSE], "malformed"),
+    (
+        &[
+            SUBJECT_KEY,
+            AUTHORITY_KEY,
+            EE_USAGE,
+            CRL,
+            ISSUER,
+            OBJECT,
+            REFUSE,
+            IP,
+        ],
+        "4142434445464748494A4B4C4D4E4F5051525354 \
+            4142434445464748494A4B4C4D4E4F5051525354 none Ee false rsync://h/m/a \
+            rsync://h/m/b none none rsync://h/m/o none Refuse inherit inherit missing",
+    ),
+    (
+        &[
+            CRITICAL_KEY,
+            BASIC_FALSE,
+            USAGE,
+            REFUSE_NOT_CRITICAL,
+            TWO_BLOCKS,
+            TWO_NUMBERS,
+        ],
+        "4142434445464748494A4B4C4D4E4F5051525354 none false Ca false none none none none \
+            none none Refuse 10.0.0.0/8,192.0.2.0/24 missing AS1,AS5-AS7",
+    ),
+    (&[KEY_IN_BER, USAGE, REFUSE], "malformed"),
+    (&[SUBJECT_KEY, WRONG_AUTHORITY, USAGE, REFUSE], "malformed"),
+    (&[SUBJECT_KEY, WRONG_BASIC, USAGE, REFUSE], "malformed"),
+    (
+        &[SUBJECT_KEY, WRONG_USAGE, REFUSE],
+        "key usage of neither a CA nor an end entity",
+    ),
+    (
+        &[SUBJECT_KEY, USAGE, NO_PURPOSES, REFUSE],
+        "extended key usage without purposes",
+    ),
+    (&[SUBJECT_KEY, USAGE, NO_URI, REFUSE], "no rsync URI"),
+    (&[SUBJECT_KEY, USAGE, WRONG_ISSUER, REFUSE], "malformed"),
+    (&[SUBJECT_KEY, USAGE, WRONG_SUBJECT, REFUSE], "malformed"),
+    (
+        &[SUBJECT_KEY, USAGE, OTHER_POLICY],
+        "unknown certificate policy",
+    ),
+    (
+        &[SUBJECT_KEY, USAGE, REFUSE, OTHER_FAMILY],
+        "unknown address family",
+    ),
+    (
+        &[SUBJECT_KEY, USAGE, REFUSE, DOMAINS],
+        "routing domain identifiers",
+    ),
     (&[], "no subject key identifier"),
 ];
 
+/// Extensions whose value stands in pieces, and what is answered in DER and in BER.
+static BY_MODE: [(&[&[u8]], &str, &str); 1] = [(
+    &[KEY_IN_PIECES, USAGE, REFUSE],
+    "malformed",
+    "4142434445464748494A4B4C4D4E4F5051525354 none none Ca false none none none none \
+        none none Refuse missing missing missing",
+)];
+
 /// The octets of a list of extensions.
-fn list(alloc: Global, parts: &[&[u8]]) -> Result<Bytes, AllocError> {
+pub fn list(alloc: Global, parts: &[&[u8]]) -> Result<Bytes, AllocError> {
     let mut contents = Vec::new(alloc);
     for part in parts {
         contents.extend_from_slice(part)?;
@@ -205,36 +191,100 @@ fn locations_text(alloc: Global, locations: &Locations) -> Result<String, AllocE
     format!(in alloc; "{crl} {issuer} {subject}")
 }
 
+/// What is claimed of AS numbers.
+fn numbers_text(alloc: Global, claim: &AsResources) -> Result<String, AllocError> {
+    match claim.claim() {
+        Claim::Missing => format!(in alloc; "missing"),
+        Claim::Inherit => format!(in alloc; "inherit"),
+        Claim::Explicit(blocks) => {
+            let mut text = String::new(alloc);
+            for block in blocks.iter() {
+                let comma = if text.is_empty() { "" } else { "," };
+                text.push_str(&format!(in alloc; "{comma}{block}")?)?;
+            }
+            Ok(text)
+        }
+    }
+}
+
 /// What is claimed.
 fn all_claims_text(alloc: Global, claims: &Claims) -> Result<String, AllocError> {
     let policy = claims.policy;
     let addresses = claims_text(alloc, &claims.addresses)?;
-    let numbers = match claims.as_numbers.claim() {
-        Claim::Missing => "missing",
-        Claim::Inherit => "inherit",
-        Claim::Explicit(_) => "explicit",
-    };
+    let numbers = numbers_text(alloc, &claims.as_numbers)?;
     format!(in alloc; "{policy:?} {addresses} {numbers}")
 }
 
-/// What extensions say.
-fn answer(alloc: Global, source: Bytes, mode: Mode) -> Result<String, DecodeError> {
-    let x = Constructed::decode(source, mode, |cons| Extensions::take_from(alloc, cons))?;
+/// What extensions say, by a copy of what was read.
+pub fn answer(alloc: Global, source: Bytes, mode: Mode) -> Result<String, DecodeError> {
+    let read = Constructed::decode(source, mode, |cons| Extensions::take_from(alloc, cons))?;
+    let x = read.clone()?;
     let key = key_text(alloc, &x.key)?;
     let locations = locations_text(alloc, &x.locations)?;
     let claims = all_claims_text(alloc, &x.claims)?;
     Ok(format!(in alloc; "{key} {locations} {claims}")?)
 }
 
+/// What extensions in this mode say, or why they are refused.
+fn found(alloc: Global, parts: &[&[u8]], mode: Mode) -> Result<String, AllocError> {
+    let source = list(alloc, parts)?;
+    shown(alloc, answer(alloc, source, mode))
+}
+
 #[test]
 fn rows(rt: HostRuntime) -> Result<(), AllocError> {
     let alloc = rt.alloc();
     for (parts, text) in &ROWS {
-        let source = list(alloc, parts)?;
-        let found = shown(alloc, answer(alloc, source.clone()?, Mode::Der))?;
-        assert_eq!(rt; found.as_str(), *text);
-        let again = shown(alloc, answer(alloc, source, Mode::Ber))?;
-        assert_eq!(rt; again.as_str(), *text);
+        assert_eq!(rt; found(alloc, parts, Mode::Der)?.as_str(), *text);
+        assert_eq!(rt; found(alloc, parts, Mode::Ber)?.as_str(), *text);
     }
+    Ok(())
+}
+
+#[test]
+fn modes(rt: HostRuntime) -> Result<(), AllocError> {
+    let alloc = rt.alloc();
+    for (parts, strict, relaxed) in &BY_MODE {
+        assert_eq!(rt; found(alloc, parts, Mode::Der)?.as_str(), *strict);
+        assert_eq!(rt; found(alloc, parts, Mode::Ber)?.as_str(), *relaxed);
+    }
+    Ok(())
+}
+
+/// Reads extensions, each by itself.
+fn take_each(alloc: Global, cons: &mut Constructed<'_>) -> Result<Vec<Extension>, DecodeError> {
+    cons.take_sequence(|cons| cons.take_items(alloc))
+}
+
+/// The identifier of each extension, whether it is critical, and how many octets its value has.
+fn each_text(alloc: Global, list: &[Extension]) -> Result<String, AllocError> {
+    let mut text = String::new(alloc);
+    for extension in list {
+        let Extension {
+            oid,
+            critical,
+            value,
+        } = extension.clone()?;
+        let count = value.len();
+        text.push_str(&format!(in alloc; "{oid} {critical} {count}\n")?)?;
+    }
+    Ok(text)
+}
+
+/// Extensions, each by itself.
+fn each(alloc: Global, source: Bytes) -> Result<String, DecodeError> {
+    let list = Constructed::decode(source, Mode::Der, |cons| take_each(alloc, cons))?;
+    Ok(each_text(alloc, &list)?)
+}
+
+#[test]
+fn extensions_by_themselves(rt: HostRuntime) -> Result<(), AllocError> {
+    let alloc = rt.alloc();
+    let source = list(alloc, &[SUBJECT_KEY, CRITICAL, UNKNOWN])?;
+    let text = shown(alloc, each(alloc, source))?;
+    assert_eq!(rt;
+        text.as_str(),
+        "2.5.29.14 false 22\n1.2.3 true 2\n1.2.3 false 2\n"
+    );
     Ok(())
 }

@@ -27,7 +27,7 @@ pub enum Call {
 }
 
 /// A call, the octets of a value, and what it says or why it is refused.
-static ROWS: [(Call, &[u8], &str); 61] = [
+pub static ROWS: [(Call, &[u8], &str); 63] = [
     (
         Call::SubjectKey,
         b"\x04\x14ABCDEFGHIJKLMNOPQRST",
@@ -113,6 +113,7 @@ static ROWS: [(Call, &[u8], &str); 61] = [
         b"\x03\x03\x00\x00\x86",
         "key usage of neither a CA nor an end entity",
     ),
+    (Call::Usage, b"\x03\x03\x00\x06\x00", "Ca"),
     (Call::Usage, b"\x03\x02\x08\x06", "malformed"),
     (Call::Usage, b"\x30\x04\x03\x02\x01\x06", "malformed"),
     (
@@ -201,6 +202,11 @@ static ROWS: [(Call, &[u8], &str); 61] = [
         b"\x30\x36\x30\x34\xA0\x32\xA0\x30\x81\x03\x61\x40\x68\x86\x0Bhttps://h/n\x86\x0Drsync\
             ://h/m/b\x86\x0Drsync://h/m/a",
         "rsync://h/m/b",
+    ),
+    (
+        Call::Points,
+        b"\x30\x18\x30\x16\xA0\x14\xA0\x12\x86\x01\x80\x86\x0Drsync://h/m/a",
+        "rsync://h/m/a",
     ),
     (
         Call::Points,
@@ -318,13 +324,16 @@ fn claim_text(
     match claim.claim() {
         Claim::Missing => format!(in alloc; "missing"),
         Claim::Inherit => format!(in alloc; "inherit"),
-        Claim::Explicit(blocks) => match blocks.iter().next() {
-            None => format!(in alloc; "none"),
-            Some(block) => {
+        Claim::Explicit(blocks) if blocks.is_empty() => format!(in alloc; "none"),
+        Claim::Explicit(blocks) => {
+            let mut text = String::new(alloc);
+            for block in blocks.iter() {
+                let comma = if text.is_empty() { "" } else { "," };
                 let shown = block.display(family);
-                format!(in alloc; "{shown}")
+                text.push_str(&format!(in alloc; "{comma}{shown}")?)?;
             }
-        },
+            Ok(text)
+        }
     }
 }
 
@@ -376,7 +385,7 @@ fn purposes_answer(alloc: Global, source: Bytes) -> Result<String, DecodeError> 
 }
 
 /// What a value says of what is claimed, or of where something lies.
-fn answer(alloc: Global, call: Call, source: Bytes) -> Result<String, DecodeError> {
+pub fn answer(alloc: Global, call: Call, source: Bytes) -> Result<String, DecodeError> {
     let mode = Mode::Der;
     match call {
         Call::Policies => {
