@@ -94,7 +94,6 @@ pub struct Ascending {
 }
 
 impl Rule for Ascending {
-    ghost use Rattle.std.specs.Prelude.{Some, Option};
     ghost use Rattle.rpki_lists_tests.specs.Ascending.{above_last};
 
     type Kind = Numbers;
