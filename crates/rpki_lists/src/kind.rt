@@ -7,7 +7,6 @@ ghost use Rattle.rpki_lists.specs.Entries.{PassesFront, Shrinks};
 
 use crate::slice::SliceReader;
 use rpki_der::Reason;
-use std::marker::PhantomData;
 
 /// Why an entry is refused.
 #[derive(Clone, Copy, Debug)]
@@ -34,14 +33,9 @@ pub trait Kind {
     ghost shrinks: { Shrinks entry_at };
 }
 
-/// Entries of a kind, in slices of a lifetime.
-pub struct In<'a, K> {
-    kind: PhantomData<K>,
-    octets: PhantomData<&'a [u8]>,
-}
-
-/// How the entries of a kind are read from a slice. It is implemented by `In<'a, K>`, with
-/// `SliceReader<'a>` as the reader.
+/// How the entries of a kind are read from a slice. A kind implements it for a type with the
+/// lifetime of the slice, as `struct NumberEntry<'a>(PhantomData<&'a [u8]>)`, and with
+/// `SliceReader<'a>` as its reader.
 pub trait Entry {
     type Kind: Kind;
 

@@ -11,6 +11,7 @@ use crate::rule::{Free, count_by, take_list};
 use crate::slice::SliceReader;
 use bytes::Bytes;
 use rpki_der::{Constructed, DecodeError};
+use std::alloc::AllocError;
 use std::marker::{Model, PhantomData};
 
 /// Entries of a kind, kept as their octets in DER, one after the other.
@@ -31,6 +32,18 @@ impl<K: Kind> Model for EntryList<K> {
 
     ghost invariant = { λ l. AreEntries K.entry_at l.octets
         × (l.count ≡ length (entries_of K.entry_at l.octets)) };
+}
+
+impl<K: Kind> Clone for EntryList<K> {
+    ghost is_clone = { λ l copy. copy ≡ l };
+
+    fn clone(&self) -> Result<EntryList<K>, AllocError> {
+        Ok(EntryList {
+            octets: self.octets.clone()?,
+            count: self.count,
+            kind: PhantomData,
+        })
+    }
 }
 
 impl<K: Kind> EntryList<K> {

@@ -58,6 +58,14 @@ impl<'a> SliceReader<'a> {
         SliceReader { rest: self.rest }
     }
 
+    /// The octets that are left.
+    #[inline(always)]
+    pub fn rest(&self) -> &'a [u8]
+        ensures { result.now ≡ self.now }
+    {
+        self.rest
+    }
+
     /// Whether no octet is left.
     #[inline(always)]
     pub fn is_empty(&self) -> bool
