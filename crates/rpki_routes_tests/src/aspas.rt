@@ -1,0 +1,191 @@
+//! Contents of AS provider attestations.
+
+use bytes::Bytes;
+use rpki_basics::ProviderLimit;
+use rpki_der::{DecodeError, Encode};
+use rpki_resources::Claim;
+use rpki_routes::AsProviderAttestation;
+use std::alloc::{AllocError, Global};
+use std::test::Fail;
+
+/// AS15562 with four providers.
+const CONTENT: &[u8] = b"\x30\x1D\xA0\x03\x02\x01\x01\x02\x02\x3C\xCA\x30\x12\x02\x02\x0B\x62\x02\
+    \x02\x20\x5B\x02\x03\x00\xC7\x90\x02\x03\x03\x25\x9E";
+
+/// Contents, what they say or why they are refused, and what is written.
+pub static ROWS: [(&[u8], &str, &[u8]); 17] = [
+    (CONTENT, "AS15562 AS2914 AS8283 AS51088 AS206238", CONTENT),
+    (
+        b"\x30\x1D\xA0\x03\x02\x01\x01\x02\x02\x3C\xCA\x30\x12\x02\x02\x0B\x62\x02\x02\x20\x5B\x02\
+            \x03\x00\xC7\x90\x02\x03\x03\x25\x9E\xFF\xFF",
+        "AS15562 AS2914 AS8283 AS51088 AS206238",
+        CONTENT,
+    ),
+    // AS0 alone.
+    (
+        b"\x30\x0E\xA0\x03\x02\x01\x01\x02\x02\x3C\xCA\x30\x03\x02\x01\x00",
+        "AS15562 AS0",
+        b"\x30\x0E\xA0\x03\x02\x01\x01\x02\x02\x3C\xCA\x30\x03\x02\x01\x00",
+    ),
+    // The largest numbers.
+    (
+        b"\x30\x15\xA0\x03\x02\x01\x01\x02\x05\x00\xFF\xFF\xFF\xFE\x30\x07\x02\x05\x00\xFF\xFF\xFF\
+            \xFF",
+        "AS4294967294 AS4294967295",
+        b"\x30\x15\xA0\x03\x02\x01\x01\x02\x05\x00\xFF\xFF\xFF\xFE\x30\x07\x02\x05\x00\xFF\xFF\xFF\
+            \xFF",
+    ),
+    // Without the last octet, and without the version.
+    (
+        b"\x30\x1D\xA0\x03\x02\x01\x01\x02\x02\x3C\xCA\x30\x12\x02\x02\x0B\x62\x02\x02\x20\x5B\x02\
+            \x03\x00\xC7\x90\x02\x03\x03\x25",
+        "malformed",
+        b"",
+    ),
+    (
+        b"\x30\x18\x02\x02\x3C\xCA\x30\x12\x02\x02\x0B\x62\x02\x02\x20\x5B\x02\x03\x00\xC7\x90\x02\
+            \x03\x03\x25\x9E",
+        "malformed",
+        b"",
+    ),
+    // Version 0.
+    (
+        b"\x30\x0E\xA0\x03\x02\x01\x00\x02\x02\x3C\xCA\x30\x03\x02\x01\x01",
+        "malformed",
+        b"",
+    ),
+    // Customer AS0.
+    (
+        b"\x30\x0D\xA0\x03\x02\x01\x01\x02\x01\x00\x30\x03\x02\x01\x01",
+        "customer is AS0",
+        b"",
+    ),
+    // AS0 before another, and after one.
+    (
+        b"\x30\x11\xA0\x03\x02\x01\x01\x02\x02\x3C\xCA\x30\x06\x02\x01\x00\x02\x01\x01",
+        "AS0 beside other providers",
+        b"",
+    ),
+    (
+        b"\x30\x11\xA0\x03\x02\x01\x01\x02\x02\x3C\xCA\x30\x06\x02\x01\x01\x02\x01\x00",
+        "providers not in ascending order",
+        b"",
+    ),
+    // Swapped, and twice.
+    (
+        b"\x30\x11\xA0\x03\x02\x01\x01\x02\x02\x3C\xCA\x30\x06\x02\x01\x02\x02\x01\x01",
+        "providers not in ascending order",
+        b"",
+    ),
+    (
+        b"\x30\x11\xA0\x03\x02\x01\x01\x02\x02\x3C\xCA\x30\x06\x02\x01\x02\x02\x01\x02",
+        "providers not in ascending order",
+        b"",
+    ),
+    // The customer among its providers.
+    (
+        b"\x30\x10\xA0\x03\x02\x01\x01\x02\x01\x05\x30\x06\x02\x01\x02\x02\x01\x05",
+        "customer among its providers",
+        b"",
+    ),
+    // No provider.
+    (
+        b"\x30\x0B\xA0\x03\x02\x01\x01\x02\x02\x3C\xCA\x30\x00",
+        "no providers",
+        b"",
+    ),
+    // A provider of five octets, a negative one, and a list of indefinite length.
+    (
+        b"\x30\x12\xA0\x03\x02\x01\x01\x02\x02\x3C\xCA\x30\x07\x02\x05\x01\x00\x00\x00\x00",
+        "malformed",
+        b"",
+    ),
+    (
+        b"\x30\x0E\xA0\x03\x02\x01\x01\x02\x02\x3C\xCA\x30\x03\x02\x01\xFF",
+        "malformed",
+        b"",
+    ),
+    (
+        b"\x30\x10\xA0\x03\x02\x01\x01\x02\x02\x3C\xCA\x30\x80\x02\x01\x01\x00\x00",
+        "malformed",
+        b"",
+    ),
+];
+
+/// What is read of these octets.
+pub fn read(
+    alloc: Global,
+    octets: &[u8],
+    limit: ProviderLimit,
+) -> Result<Result<AsProviderAttestation, DecodeError>, AllocError> {
+    let source = Bytes::copy_from_slice(alloc, octets)?;
+    match AsProviderAttestation::decode(source, limit) {
+        Err(DecodeError::Memory) => Err(AllocError),
+        read => Ok(read),
+    }
+}
+
+/// The customer and its providers.
+fn content_text(alloc: Global, content: &AsProviderAttestation) -> Result<String, AllocError> {
+    let customer = content.customer_as();
+    let mut text = format!(in alloc; "{customer}")?;
+    for provider in content.provider_as_set().iter() {
+        let one = format!(in alloc; " {provider}")?;
+        text.push_str(&one)?;
+    }
+    Ok(text)
+}
+
+/// What these octets say, or why they are refused.
+pub fn text_of(alloc: Global, octets: &[u8], limit: ProviderLimit) -> Result<String, AllocError> {
+    match read(alloc, octets, limit)? {
+        Ok(content) => content_text(alloc, &content),
+        Err(error) => format!(in alloc; "{error}"),
+    }
+}
+
+#[test]
+fn contents(rt: HostRuntime) -> Result<(), AllocError> {
+    for (octets, text, _) in &ROWS {
+        for limit in [ProviderLimit::Narrow, ProviderLimit::Wide] {
+            assert_eq!(rt; text_of(rt.alloc(), octets, limit)?.as_str(), *text);
+        }
+    }
+    Ok(())
+}
+
+#[test]
+fn contents_are_written(rt: HostRuntime) -> Result<(), Fail> {
+    for (octets, _, written) in &ROWS {
+        if let Ok(content) = read(rt.alloc(), octets, ProviderLimit::Narrow)? {
+            let again = content.encode_ref().to_bytes(rt.alloc())?;
+            assert_eq!(rt; again.as_slice(), *written);
+        }
+    }
+    Ok(())
+}
+
+#[test]
+fn sets_and_claims(rt: HostRuntime) -> Result<(), AllocError> {
+    let Ok(content) = read(rt.alloc(), CONTENT, ProviderLimit::Narrow)? else {
+        assert!(rt; false);
+        return Ok(());
+    };
+    let providers = content.provider_as_set();
+    assert!(rt; providers.len() == 4 && !providers.is_empty());
+    let set = providers.to_set(rt.alloc())?;
+    assert_eq!(rt; set.as_slice().first().map(|n| n.into_u32()), Some(2914));
+    assert_eq!(rt; set.len(), 4);
+    match content.as_resources(rt.alloc())?.claim() {
+        Claim::Explicit(blocks) => {
+            let block = blocks
+                .as_slice()
+                .first()
+                .map(|b| (b.min.into_u32(), b.max.into_u32()));
+            assert_eq!(rt; block, Some((15562, 15562)));
+            assert_eq!(rt; blocks.as_slice().len(), 1);
+        }
+        _ => assert!(rt; false),
+    }
+    Ok(())
+}
