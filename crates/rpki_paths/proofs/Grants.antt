@@ -17,7 +17,7 @@ use Rattle.rpki_paths.proofs.Chains.{unique}
 use Rattle.rpki_paths.proofs.Pairings.{all_partners, partners_in}
 use Rattle.rpki_paths.proofs.Matches.{crls_are_unique}
 
-same_skis : (k : ℕ) (cas : List Cert) (crls ys : List Crl) → IsPairing HasCrl cas crls ys
+pub same_skis : (k : ℕ) (cas : List Cert) (crls ys : List Crl) → IsPairing HasCrl cas crls ys
     → map (λ c. c.ski) (with_crls k cas crls) ≡ map (λ (c : Cert). c.ski) cas
 same_skis k [] [] ys h = refl
 same_skis k [] (l ∷ crls) ys h = absurd h
@@ -25,7 +25,7 @@ same_skis k (d ∷ cas) [] ys h = absurd h
 same_skis k (d ∷ cas) (l ∷ crls) ys h =
     ap (λ m. d.ski ∷ m) (same_skis (suc k) cas crls h.1.0 h.1.2)
 
-path_at : (cas ees : List Cert) (paths : List (List Cert)) → ArePaths cas ees paths → (e : Cert)
+pub path_at : (cas ees : List Cert) (paths : List (List Cert)) → ArePaths cas ees paths → (e : Cert)
     → IsIn e ees → (p : List Cert) × IsIn p paths × IsPath cas (at_place 0 e) p × IsLinkCovered p
 path_at cas [] paths h e i = absurd i
 path_at cas (x ∷ ees) [] h e i = absurd h
@@ -86,7 +86,7 @@ acceptance_is_decided a paths found dist = (
   λ h. (paths, record { valid = h.0; found = found; used = h.1 }),
 )
 
-same_anchor : (p : List Cert) (supplies : List Supply) (s t : Supply) → IsAnchored p supplies s
+pub same_anchor : (p : List Cert) (supplies : List Supply) (s t : Supply) → IsAnchored p supplies s
     → IsAnchored p supplies t → s ≡ t
 same_anchor [] supplies s t h k = absurd h
 same_anchor (head ∷ p) [] s t h k = absurd h

@@ -9,3 +9,8 @@ pub mod PairingOff
 pub mod Costs
 pub mod Walking
 pub mod Grants
+pub mod Supplies
+pub mod WalkingEach
+pub mod Finals
+pub mod Keeps
+pub mod Granting

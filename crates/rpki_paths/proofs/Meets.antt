@@ -118,7 +118,7 @@ covered_inherit Refuse [] = tt
 covered_inherit Refuse (s ∷ sets) = tt
 covered_inherit Trim sets = tt
 
-anchored_stands : (head : Cert) (p : List Cert) (s : Supply) (f : Family)
+pub anchored_stands : (head : Cert) (p : List Cert) (s : Supply) (f : Family)
     (old new : Option (Kept Numbers)) → StandsFor (λ n. n) old (explicit_sets (head ∷ p) f) →
     Takes (head ∷ p) s → IsClimbed (λ n. n) head.overclaim old (supplied_claim s f) new →
     StandsFor (λ n. n) new (with_claim (supplied_claim s f) (explicit_sets (head ∷ p) f))
@@ -130,7 +130,7 @@ anchored_stands head p (Ca ski key sets) f old new stands takes step =
     (explicit_sets (head ∷ p) f) stands (takes f) step
 
 -- what is kept has the numbers that all sets have
-kept_numbers : (kept : Kept Numbers) (sets : List Numbers) → StandsFor (λ n. n) (Some kept) sets
+pub kept_numbers : (kept : Kept Numbers) (sets : List Numbers) → StandsFor (λ n. n) (Some kept) sets
     → (n : ℕ) → holds (λ k. k) kept.met n ≡ meet (λ k. k) sets n
 kept_numbers kept [] stands n = absurd stands
 kept_numbers kept (t ∷ r) stands n = stands.1 n

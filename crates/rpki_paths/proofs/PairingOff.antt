@@ -28,11 +28,11 @@ length_picked here = refl
 length_picked (there p) = ap suc (length_picked p)
 
 -- what a loan of a whole list writes back
-pub written_back : (n : ℕ) (new old : List Bool) → length new ≡ length old → length new ≤ n
-    → take n (new ++ drop (length new) old) ≡ new
-written_back n new old e le = ap (take n) (all_written new old e) ∙ take_all n new le
+pub written_back : {A : Type 0} (n : ℕ) (new old : List A) → length new ≡ length old
+    → length new ≤ n → take n (new ++ drop (length new) old) ≡ new
+written_back {A} n new old e le = ap (take n) (all_written new old e) ∙ take_all n new le
   where
-    all_written : (xs ys : List Bool) → length xs ≡ length ys → xs ++ drop (length xs) ys ≡ xs
+    all_written : (xs ys : List A) → length xs ≡ length ys → xs ++ drop (length xs) ys ≡ xs
     all_written [] [] f = refl
     all_written [] (y ∷ ys) f = absurd (omega (arith, f))
     all_written (x ∷ xs) [] f = absurd (omega (arith, f))

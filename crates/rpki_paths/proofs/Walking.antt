@@ -193,7 +193,7 @@ fails_first P Q to from As h = λ q. h (from As q)
 fails_first P Q to from V4 h = (to As h.0, λ q. h.1 (from V4 q))
 fails_first P Q to from V6 h = (to As h.0, to V4 h.1, λ q. h.2 (from V6 q))
 
-fails_one : (P : Family → Type 0) (f : Family) → FailsFirst P f → ¬ (P f)
+pub fails_one : (P : Family → Type 0) (f : Family) → FailsFirst P f → ¬ (P f)
 fails_one P As h = h
 fails_one P V4 h = h.1
 fails_one P V6 h = h.2

@@ -25,11 +25,15 @@ Fits head (Tal key) = IsSelfSigned head × (head.key ≡ key)
 Fits head (Ca ski key sets) =
     ¬ (IsSelfSigned head) × (head.aki ≡ Some ski) × IsTrue (head.verifies key)
 
--- The path stands under the supply: its head is a trust anchor that its own key verifies (RFC 8630,
--- section 3), or the sets of the CA cover what is below, where they have to.
+-- The certificate is a trust anchor, and its own key verifies it (RFC 8630, section 3).
+abbrev pub IsAnchor : Cert → Type 0
+IsAnchor c = IsTrue c.is_anchor × IsTrue (c.verifies c.key)
+
+-- The path stands under the supply: its head is a trust anchor, or the sets of the CA cover what is
+-- below, where they have to.
 abbrev pub Takes : List Cert → Supply → Type 0
 Takes [] s = ⊥
-Takes (head ∷ p) (Tal key) = IsTrue head.is_anchor × IsTrue (head.verifies head.key)
+Takes (head ∷ p) (Tal key) = IsAnchor head
 Takes (head ∷ p) (Ca ski key sets) =
     (f : Family) →
     IsCovered (λ n. n) head.overclaim (explicit_sets (head ∷ p) f) (Explicit (sets f))

@@ -1,6 +1,6 @@
 -- The laws of paths that public functions carry.
 use Rattle.std.specs.Prelude.{◌≡◌, ℕ, ◌+◌, ◌≤◌, List, ◌∷◌, Option, None, Some, IsTrue}
-use Rattle.std.specs.Prelude.{length, ◌↔◌, [], ◌++◌}
+use Rattle.std.specs.Prelude.{length, ◌↔◌, [], ◌++◌, Ok, Err}
 use Rattle.rpki_resources.specs.declared.block.Block.{Block}
 use Rattle.rpki_resources.specs.declared.resources.Claim.{Claim}
 use Rattle.rpki_resources.specs.declared.resources.Claim.TheVariants.{Inherit, Explicit}
@@ -11,6 +11,16 @@ use Rattle.rpki_paths.specs.declared.overclaim.Overclaim.{Overclaim}
 use Rattle.rpki_paths.specs.declared.sets.KeptSets.{KeptSets}
 use Rattle.rpki_paths.specs.declared.walker.PathFault.{PathFault}
 use Rattle.rpki_paths.specs.declared.walker.PathFault.TheVariants.{Memory}
+use Rattle.rpki_paths.specs.declared.walks.WalksFault.{WalksFault}
+use Rattle.rpki_paths.specs.declared.walks.WalksFault.TheVariants.{Memory as OutOfMemory}
+use Rattle.rpki_paths.specs.declared.walker.Path.{Path}
+use Rattle.rpki_paths.specs.declared.supply.SupplyFault.{SupplyFault}
+use Rattle.rpki_paths.specs.declared.supply.SupplyFault.TheVariants.{Memory as NoMemory}
+use Rattle.rpki_paths.specs.declared.decision.FinalFault.{FinalFault}
+use Rattle.rpki_paths.specs.declared.decision.FinalFault.TheVariants.{Memory as UnionMemory}
+use Rattle.rpki_paths.specs.Kept.{AreRefused, AreKept, AreWalked}
+use Rattle.rpki_paths.specs.Supplied.{AreSuppliedAll}
+use Rattle.rpki_paths.specs.Final.{all_anchored, IsWhole, Decides}
 use Rattle.rpki_paths.specs.Walk.{IsRefused, kept_at, InEach}
 use Rattle.rpki_paths.specs.Cert.{Cert, Numbers, IsIn}
 use Rattle.rpki_paths.specs.Sets.{with_claim, IsCovered, CoversKept, StandsFor, IsClimbed}
@@ -21,6 +31,7 @@ use Rattle.rpki_paths.specs.Pairing.{IsPicked, IsPairable, AreAlike, IsVerifiedB
 use Rattle.rpki_paths.specs.Pairing.{IsPairing}
 use Rattle.rpki_paths.specs.Taking.{PairsOff, FitsNone, AllVerifyEach}
 use Rattle.rpki_paths.specs.Grant.{HasPaths, AreValid, AreUsed, authorities, IsAccepted, IsEarned}
+use Rattle.rpki_paths.specs.Grant.{ArePaths}
 use Rattle.rpki_paths.specs.Grant.{IsGranted}
 
 -- One issuer more, whose claim covers what it has to, and what is kept stands for the sets again.
@@ -119,6 +130,65 @@ abbrev pub RefusedHasNoPath : Type 0
 RefusedHasNoPath =
     (fault : PathFault) (cas : List Cert) (ee : Cert) (p : List Cert) → ¬ (fault ≡ Memory) →
     IsDistinct cas → IsRefused fault cas ee → IsPath cas ee p → ¬ (IsLinkCovered p)
+
+-- With distinct identifiers walks from several certificates are refused, but for memory, only where
+-- these have no covered paths on which all CAs stand.
+abbrev pub RefusedHasNoPaths : Type 0
+RefusedHasNoPaths =
+    (fault : WalksFault) (cas ees : List Cert) (paths : List (List Cert)) →
+    ¬ (fault ≡ OutOfMemory) → IsDistinct cas → AreRefused fault cas ees →
+    ArePaths cas ees paths → ¬ (AreUsed cas paths)
+
+-- What is kept of paths under supplies decides what they earn.
+abbrev pub FinalIsDecided : {C : Type 0} → (C → Cert) → Type 0
+FinalIsDecided {C} cert =
+    (supplies : List Supply) (kept : List (Path C)) (paths : List (List Cert))
+    (attested : Family → Numbers) → AreKept cert supplies kept paths →
+    IsEarned paths supplies attested
+    ↔ (IsTrue (all_anchored kept) × InEach (IsWhole kept attested))
+
+-- Walks from the certificates of a matching up its CAs find paths that are accepted.
+abbrev pub WalksAreAccepted : {C : Type 0} → (C → Cert) → Type 0
+WalksAreAccepted {C} cert =
+    (a : Carried) (ees : List Cert) (crls : List Crl) (kept : List (Path C)) → AreValid a →
+    IsMatching a ees crls → (w : AreWalked cert (authorities a crls) ees kept) →
+    IsAccepted a w.paths
+
+-- With distinct identifiers such walks are refused, but for memory, only where no paths are
+-- accepted.
+abbrev pub RefusedIsNotAccepted : Type 0
+RefusedIsNotAccepted =
+    (a : Carried) (ees : List Cert) (crls : List Crl) (fault : WalksFault) → HasDistinctIds a →
+    IsMatching a ees crls → ¬ (fault ≡ OutOfMemory) →
+    AreRefused fault (authorities a crls) ees → (paths : List (List Cert)) →
+    ¬ (IsAccepted a paths)
+
+-- Where all supplies are handed in to such paths and the end says yes, the attestation is granted.
+abbrev pub YesIsGranted : {C : Type 0} → (C → Cert) → Type 0 → Type 0
+YesIsGranted {C} cert F =
+    (a : Carried) (ees : List Cert) (crls : List Crl) (walked kept : List (Path C))
+    (supplies : List Supply) (attested : Family → Numbers) → AreValid a →
+    IsMatching a ees crls → AreWalked cert (authorities a crls) ees walked →
+    AreSuppliedAll {F = F} cert supplies walked kept (Ok tt) → Decides kept attested (Ok tt) →
+    IsGranted a supplies attested
+
+-- With distinct identifiers a supply ends the call, but for memory, only where nothing is granted.
+abbrev pub UnsuppliedIsRefused : {C : Type 0} → (C → Cert) → Type 0 → Type 0
+UnsuppliedIsRefused {C} cert F =
+    (a : Carried) (ees : List Cert) (crls : List Crl) (walked kept : List (Path C))
+    (supplies : List Supply) (attested : Family → Numbers) (fault : SupplyFault F) →
+    HasDistinctIds a → IsMatching a ees crls → AreWalked cert (authorities a crls) ees walked →
+    ¬ (fault ≡ NoMemory) → AreSuppliedAll cert supplies walked kept (Err fault) →
+    ¬ (IsGranted a supplies attested)
+
+-- With distinct identifiers the end says no, but for memory, only where nothing is granted.
+abbrev pub UndecidedIsRefused : {C : Type 0} → (C → Cert) → Type 0 → Type 0
+UndecidedIsRefused {C} cert F =
+    (a : Carried) (ees : List Cert) (crls : List Crl) (walked kept : List (Path C))
+    (supplies : List Supply) (attested : Family → Numbers) (fault : FinalFault) →
+    HasDistinctIds a → IsMatching a ees crls → AreWalked cert (authorities a crls) ees walked →
+    ¬ (fault ≡ UnionMemory) → AreSuppliedAll {F = F} cert supplies walked kept (Ok tt) →
+    Decides kept attested (Err fault) → ¬ (IsGranted a supplies attested)
 
 -- What is kept of a path tells whether a CA takes it.
 abbrev pub KeptTellsTakes : Type 0

@@ -8,4 +8,6 @@ pub mod Index
 pub mod Taking
 pub mod Supplied
 pub mod Grant
+pub mod Kept
+pub mod Final
 pub mod Laws

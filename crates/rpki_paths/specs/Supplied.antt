@@ -1,38 +1,107 @@
--- What a supplied CA does to a path.
-use Rattle.std.specs.Prelude.{◌≡◌, Bool, Result, Ok, Err, IsTrue, IsFalse, ◌⊎◌}
+-- What a supply does to paths.
+use Rattle.std.specs.Prelude.{◌≡◌, ℕ, ◌<◌, ◌≤◌, Bool, List, [], length, Result, Ok, Err, IsTrue, IsFalse}
+use Rattle.std.specs.Prelude.{◌⊎◌, ◌↔◌, Some, slice_get}
 use Rattle.rpki_resources.specs.declared.resources.Claim.TheVariants.{Explicit}
 use Rattle.rpki_paths.specs.declared.family.Family.{Family}
 use Rattle.rpki_paths.specs.declared.walker.Path.{Path}
+use Rattle.rpki_paths.specs.declared.supply.Supplied.{Supplied}
+use Rattle.rpki_paths.specs.declared.supply.Supplied.TheVariants.{Tal, Ca}
 use Rattle.rpki_paths.specs.declared.supply.SupplyFault.{SupplyFault}
-use Rattle.rpki_paths.specs.declared.supply.SupplyFault.TheVariants.{NotCovered, Memory}
-use Rattle.rpki_paths.specs.Cert.{Cert, Numbers}
-use Rattle.rpki_paths.specs.Sets.{CoversKept, IsRaised}
+use Rattle.rpki_paths.specs.declared.supply.SupplyFault.TheVariants.{NoAnchor, NotCovered, Memory}
+use Rattle.rpki_paths.specs.Cert.{Cert, Numbers, IsIn}
+use Rattle.rpki_paths.specs.Kept.{AreKept}
+use Rattle.rpki_paths.specs.Sets.{CoversKept, IsClimbed}
+use Rattle.rpki_paths.specs.Anchor.{Supply, Fits, IsAnchor, IsAnchored, supplied_claim}
 use Rattle.rpki_paths.specs.Walk.{kept_at, InEach, FailsFirst}
 
--- The path stays as it is: it is anchored already, or the CA is not meant for its head.
-abbrev pub IsPassed : {C : Type 0} → Type 0 → Path C → Path C → Type 0
-IsPassed fits old new = (IsTrue old.anchored ⊎ ¬ fits) × (new ≡ old)
+-- The sets of a CA cover what is kept of a path in the family, where they have to.
+abbrev pub CoversPath : {C : Type 0} → (C → Cert) → Path C → (Family → Numbers) → Family → Type 0
+CoversPath cert path sets f =
+    CoversKept (λ n. n) (cert path.head).overclaim (kept_at path.sets f) (Explicit (sets f))
 
--- The path is anchored under the CA, whose sets cover what they have to, and are kept.
-pub record IsTaken {C : Type 0} (fits : Type 0) (cert : C → Cert) (sets : Family → Numbers)
-    (old new : Path C) : Type 0 where
+-- What is kept of a path tells that the supply takes it: its head is a trust anchor, or the sets of
+-- the CA cover what they have to.
+abbrev pub TakesKept : {C : Type 0} → (C → Cert) → Path C → Supply → Type 0
+TakesKept cert path (Supply.Tal key) = IsAnchor (cert path.head)
+TakesKept cert path (Supply.Ca ski key sets) = InEach (CoversPath cert path sets)
+
+-- The path stays as it is: it is anchored already, or the supply is not meant for its head.
+abbrev pub IsPassed : {C : Type 0} → (C → Cert) → Supply → Path C → Path C → Type 0
+IsPassed cert s old new = (IsTrue old.anchored ⊎ ¬ (Fits (cert old.head) s)) × (new ≡ old)
+
+-- The path is anchored under the supply, which takes it, and whose sets are kept.
+pub record IsTaken {C : Type 0} (cert : C → Cert) (s : Supply) (old new : Path C) : Type 0 where
   pub open_path : IsFalse old.anchored
-  pub meant : fits
-  pub covered : InEach (λ f. CoversKept (λ n. n) (cert old.head.now).overclaim
-      (kept_at old.sets f) (Explicit (sets f)))
-  pub raised : InEach (λ f. IsRaised (λ n. n) (cert old.head.now).overclaim
-      (kept_at old.sets f) (sets f) (kept_at new.sets f))
+  pub meant : Fits (cert old.head) s
+  pub takes : TakesKept cert old s
+  pub raised : InEach (λ f. IsClimbed (λ n. n) (cert old.head).overclaim
+      (kept_at old.sets f) (supplied_claim s f) (kept_at new.sets f))
   pub head : new.head ≡ old.head
   pub place : new.place ≡ old.place
   pub anchored : IsTrue new.anchored
 
--- What a supply answers. A path that it refuses stays as it is.
-abbrev pub Answers : {C : Type 0} → Type 0 → (C → Cert) → (Family → Numbers) → Path C → Path C →
-    Result Bool SupplyFault → Type 0
-Answers fits cert sets old new (Ok done) =
-    (done ≡ new.anchored) × (IsPassed fits old new ⊎ IsTaken fits cert sets old new)
-Answers fits cert sets old new (Err (NotCovered family)) =
-    (new ≡ old) × IsFalse old.anchored × fits
-    × FailsFirst (λ f. CoversKept (λ n. n) (cert old.head.now).overclaim
-    (kept_at old.sets f) (Explicit (sets f))) family
-Answers fits cert sets old new (Err Memory) = new ≡ old
+-- What a supply does to a path.
+abbrev pub IsSupplied : {C : Type 0} → (C → Cert) → Supply → Path C → Path C → Type 0
+IsSupplied cert s old new = IsPassed cert s old new ⊎ IsTaken cert s old new
+
+-- Why the supply does not take the path. Only a CA needs memory.
+abbrev pub Declines : {C F : Type 0} → (C → Cert) → Path C → Supply → SupplyFault F → Type 0
+Declines cert path (Supply.Tal key) (NoAnchor fault) = ¬ (IsAnchor (cert path.head))
+Declines cert path (Supply.Tal key) (NotCovered family) = ⊥
+Declines cert path (Supply.Tal key) Memory = ⊥
+Declines cert path (Supply.Ca ski key sets) (NoAnchor fault) = ⊥
+Declines cert path (Supply.Ca ski key sets) (NotCovered family) =
+    FailsFirst (CoversPath cert path sets) family
+Declines cert path (Supply.Ca ski key sets) Memory = Unit {0}
+
+-- The path is not anchored, and the supply, which is meant for its head, does not take it.
+pub record IsDeclined {C F : Type 0} (cert : C → Cert) (s : Supply) (path : Path C)
+    (fault : SupplyFault F) : Type 0 where
+  pub open_path : IsFalse path.anchored
+  pub meant : Fits (cert path.head) s
+  pub declines : Declines cert path s fault
+
+-- What a supply answers to a path. A path that it declines stays as it is.
+abbrev pub Answers : {C F : Type 0} → (C → Cert) → Supply → Path C → Path C →
+    Result Bool (SupplyFault F) → Type 0
+Answers cert s old new (Ok done) = (done ≡ new.anchored) × IsSupplied cert s old new
+Answers cert s old new (Err fault) = (new ≡ old) × IsDeclined cert s old fault
+
+-- The paths below this place are supplied, and the others stay as they are.
+pub record AreSupplied {C : Type 0} (cert : C → Cert) (s : Supply) (old new : List (Path C))
+    (i : ℕ) : Type 0 where
+  pub below : (k : ℕ) (p q : Path C) → k < i → slice_get old k ≡ Some p → slice_get new k ≡ Some q →
+      IsSupplied cert s p q
+  pub above : (k : ℕ) → i ≤ k → slice_get new k ≡ slice_get old k
+  pub as_many : length new ≡ length old
+
+-- All of the paths below this place are anchored.
+abbrev pub AreAnchoredTo : {C : Type 0} → List (Path C) → ℕ → Type 0
+AreAnchoredTo {C} paths i =
+    (k : ℕ) (p : Path C) → k < i → slice_get paths k ≡ Some p → IsTrue p.anchored
+
+-- What a supply answers to several paths: whether all are anchored then. The first that it declines
+-- ends the call: those before it keep what they got, and it and those behind it stay as they were.
+abbrev pub AnswersEach : {C F : Type 0} → (C → Cert) → Supply → List (Path C) → List (Path C) →
+    Result Bool (SupplyFault F) → Type 0
+AnswersEach cert s old new (Ok done) =
+    AreSupplied cert s old new (length old) × (IsTrue done ↔ AreAnchoredTo new (length new))
+AnswersEach {C} cert s old new (Err fault) =
+    (i : ℕ) × (p : Path C) × (slice_get old i ≡ Some p) × IsDeclined cert s p fault
+    × AreSupplied cert s old new i
+
+-- The supply that is handed in.
+abbrev pub supply_of : {T S : Type 0} → (T → List ℕ) → (S → List ℕ) → (S → List ℕ) →
+    (S → Family → Numbers) → Supplied T S → Supply
+supply_of tal_key ski key sets (Tal tal) = Supply.Tal (tal_key tal.now)
+supply_of tal_key ski key sets (Ca ca) = Supply.Ca (ski ca.now) (key ca.now) (sets ca.now)
+
+-- Supplies that are handed in one after the other: what is kept then is kept under all of them, or
+-- one of the paths, which one of them is meant for and does not take, is anchored by none.
+abbrev pub AreSuppliedAll : {C F : Type 0} → (C → Cert) → List Supply → List (Path C) →
+    List (Path C) → Result (Unit {0}) (SupplyFault F) → Type 0
+AreSuppliedAll cert supplies old new (Ok done) =
+    (paths : List (List Cert)) → AreKept cert [] old paths → AreKept cert supplies new paths
+AreSuppliedAll cert supplies old new (Err fault) =
+    ¬ (fault ≡ Memory) → (paths : List (List Cert)) → AreKept cert [] old paths →
+    (p : List Cert) × IsIn p paths × ((s : Supply) → ¬ (IsAnchored p supplies s))

@@ -1,8 +1,8 @@
 //! What a walk asks of a carried certificate.
 
-ghost use Rattle.std.specs.Prelude.{◌≡◌, ◌↔◌, ℕ, ◌+◌, List, IsTrue};
+ghost use Rattle.std.specs.Prelude.{◌≡◌, ◌↔◌, ℕ, ◌+◌, List, IsTrue, IfOk, IfErr};
 ghost use Rattle.rpki_paths.specs.declared.family.Family.{Family};
-ghost use Rattle.rpki_paths.specs.Anchor.{Supply, Fits};
+ghost use Rattle.rpki_paths.specs.Anchor.{Supply, Fits, IsAnchor};
 ghost use Rattle.rpki_paths.specs.Cert.{Cert, Numbers, IsSelfSigned};
 
 use crate::asked::Asked;
@@ -13,9 +13,9 @@ use std::sync::ledger::Ledger;
 /// A key identifier: 20 octets (RFC 6487, section 4.8.2).
 pub type KeyId = [u8; 20];
 
-/// A carried certificate, with its place among the carried ones and, where it is a CA's, the CRL
-/// that is paired with it.
-pub trait Certificate {
+/// A carried certificate and, where it is a CA's, the CRL that is paired with it: a handle, which is
+/// copied.
+pub trait Certificate: Copy {
     // What paths see of it.
     ghost cert: { Self → Cert };
 
@@ -55,6 +55,25 @@ pub trait Certificate {
     /// What it claims of IPv6 addresses.
     fn v6(&self) -> &IpResources
         ensures { result.now ≡ (cert self.now).claim Family.V6 };
+}
+
+/// A trust anchor locator, for the heads of paths (RFC 8630).
+pub trait Locator<C: Certificate> {
+    /// Why a head is no trust anchor.
+    type Fault;
+
+    // The key that it names.
+    ghost key: { Self → List ℕ };
+
+    /// Whether a head is self-signed and has its key.
+    fn fits(&self, head: &C) -> bool
+        ensures { IsTrue result ↔ Fits (C.cert head.now) (Supply.Tal (key self.now)) };
+
+    /// Asks whether a head passes the inspection of a trust anchor, is valid at the moment, and is
+    /// verified by its own key.
+    fn validate(&self, head: &C) -> Result<(), Self::Fault>
+        ensures ok { IfOk result (λ _. IsAnchor (C.cert head.now)) }
+        ensures refused { IfErr result (λ _. ¬ (IsAnchor (C.cert head.now))) };
 }
 
 /// A CA certificate that was validated elsewhere, for the heads of paths.

@@ -4,11 +4,14 @@ ghost use Rattle.rpki_paths.specs.Laws.{ClimbKeepsMeet, AnchoredIsPathSet, Ancho
 ghost use Rattle.rpki_paths.specs.Laws.{PathSetIsWithinEach, PathsAreUnique, PathsAreShort};
 ghost use Rattle.rpki_paths.specs.Laws.{AnyChoicePairs, WhatFitsIsAlike, CrlsAreUnique};
 ghost use Rattle.rpki_paths.specs.Laws.{PathsAreThose, AcceptanceIsDecided, GrantIsDecided};
-ghost use Rattle.rpki_paths.specs.Laws.{UnanchoredIsRefused, RefusedHasNoPath};
+ghost use Rattle.rpki_paths.specs.Laws.{WalksAreAccepted, RefusedIsNotAccepted, YesIsGranted};
+ghost use Rattle.rpki_paths.specs.Laws.{UnsuppliedIsRefused, UndecidedIsRefused};
+ghost use Rattle.rpki_paths.specs.Laws.{FinalIsDecided, UnanchoredIsRefused, RefusedHasNoPath, RefusedHasNoPaths};
 ghost use Rattle.rpki_paths.specs.Laws.{KeptTellsTakes, FirstFitsArePairing};
 ghost use Rattle.rpki_paths.specs.Laws.{FirstFitsFindPairing, MatchingIsCheap};
 ghost use Rattle.rpki_paths.specs.Pairing.{HasKey, IsVerifiedBy, HasCrl};
 
+use crate::certificate::Certificate;
 use rpki_resources::Number;
 
 /// One issuer more on a covered path keeps what is kept right.
@@ -81,6 +84,42 @@ pub fn unanchored_is_refused()
 /// With distinct identifiers a walk is refused only where there is no covered path.
 pub fn refused_has_no_path()
     ensures { RefusedHasNoPath }
+{}
+
+/// With distinct identifiers walks from several certificates are refused only where these have no
+/// covered paths on which all CAs stand.
+pub fn refused_has_no_paths()
+    ensures { RefusedHasNoPaths }
+{}
+
+/// What is kept of paths under supplies decides what they earn.
+pub fn final_is_decided<C: Certificate>()
+    ensures { FinalIsDecided C.cert }
+{}
+
+/// Walks from the certificates of a matching find paths that are accepted.
+pub fn walks_are_accepted<C: Certificate>()
+    ensures { WalksAreAccepted C.cert }
+{}
+
+/// With distinct identifiers such walks are refused only where no paths are accepted.
+pub fn refused_is_not_accepted()
+    ensures { RefusedIsNotAccepted }
+{}
+
+/// Where all supplies are handed in and the end says yes, the attestation is granted.
+pub fn yes_is_granted<C: Certificate, F>()
+    ensures { YesIsGranted C.cert F }
+{}
+
+/// With distinct identifiers a supply ends the call only where nothing is granted.
+pub fn unsupplied_is_refused<C: Certificate, F>()
+    ensures { UnsuppliedIsRefused C.cert F }
+{}
+
+/// With distinct identifiers the end says no only where nothing is granted.
+pub fn undecided_is_refused<C: Certificate, F>()
+    ensures { UndecidedIsRefused C.cert F }
 {}
 
 /// What is kept of a path tells whether a supplied CA takes it.

@@ -4,6 +4,7 @@
 
 mod asked;
 mod certificate;
+mod decision;
 mod family;
 mod kept;
 pub mod laws;
@@ -13,14 +14,17 @@ mod places;
 mod sets;
 mod supply;
 mod walker;
+mod walks;
 
 pub use asked::Asked;
-pub use certificate::{Certificate, KeyId, SuppliedCa};
+pub use certificate::{Certificate, KeyId, Locator, SuppliedCa};
+pub use decision::{Attested, FinalFault, finalize};
 pub use family::Family;
 pub use kept::{Kept, climbed, covers_kept, raised, set_covers_kept};
 pub use overclaim::Overclaim;
 pub use pairs::{PairFault, Seeks, pair_off, take_first};
 pub use places::Places;
 pub use sets::KeptSets;
-pub use supply::SupplyFault;
+pub use supply::{Supplied, SupplyFault, supply_all, supply_each};
 pub use walker::{Path, PathFault, walk};
+pub use walks::{WalksFault, walk_each};

@@ -123,11 +123,11 @@ fn identifiers<X: Seeks<Y>, Y>(alloc: Global, others: &[Y]) -> Result<Vec<KeyId>
     Ok(ids)
 }
 
-// Adds a place after the others.
-fn append(places: &mut Vec<usize>, place: usize) -> Result<(), AllocError>
-    ensures { IfOk result (λ _. places.new.items ≡ places.old.items ++ place ∷ []) }
+// Adds an item after the others.
+pub(crate) fn append<T: Drop>(items: &mut Vec<T>, item: T) -> Result<(), AllocError>
+    ensures { IfOk result (λ _. items.new.items ≡ items.old.items ++ item ∷ []) }
 {
-    places.push(place)?;
+    items.push(item)?;
     Ok(())
 }
 

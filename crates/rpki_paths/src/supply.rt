@@ -1,46 +1,76 @@
-//! How a CA that was validated elsewhere anchors a path.
+//! How paths are anchored: at trust anchors, or under CAs that were validated elsewhere.
 
-ghost use Rattle.std.specs.Prelude.{◌≡◌};
+ghost use Rattle.std.specs.Prelude.{◌≡◌, ◌↔◌, IsTrue, map};
 ghost use Rattle.rpki_paths.specs.declared.supply.SupplyFault.{SupplyFault};
-ghost use Rattle.rpki_paths.specs.Anchor.{Supply, Fits};
-ghost use Rattle.rpki_paths.specs.Supplied.{Answers};
+ghost use Rattle.rpki_paths.specs.declared.supply.Supplied.{Supplied};
+ghost use Rattle.rpki_paths.specs.Anchor.{Supply};
+ghost use Rattle.rpki_paths.specs.Supplied.{Answers, AnswersEach, AreSuppliedAll, supply_of};
 
-use crate::certificate::{Certificate, SuppliedCa};
+use crate::certificate::{Certificate, Locator, SuppliedCa};
 use crate::family::Family;
 use crate::walker::Path;
 use std::alloc::AllocError;
 
-/// Why a supplied CA ends a call.
+/// Why a supply ends a call.
 #[derive(Clone, Copy, Debug, PartialEq, Eq)]
-pub enum SupplyFault {
-    /// It does not have the numbers of this family.
+pub enum SupplyFault<F> {
+    /// The head, which a locator is meant for, is no trust anchor.
+    NoAnchor(F),
+    /// The CA does not have the numbers of this family.
     NotCovered(Family),
     /// There is no memory for the sets.
     Memory,
 }
 
-impl From<AllocError> for SupplyFault {
+impl<F> From<AllocError> for SupplyFault<F> {
     ghost from_gives = { λ _ fault. fault ≡ SupplyFault.Memory };
 
-    fn from(_error: AllocError) -> SupplyFault {
+    fn from(_error: AllocError) -> SupplyFault<F> {
         SupplyFault::Memory
     }
 }
 
-impl<'a, C: Certificate> Path<'a, C> {
-    /// Anchors the path under a CA that is meant for its head, and answers whether the path is
-    /// anchored. A path that is anchored, and one of another head, stays as it is. An error is the
-    /// first family whose nearest explicit set the CA does not have (RFC 6487, section 7.2), or
-    /// want of memory; it leaves the path as it was.
-    pub fn supply_ca<S: SuppliedCa<C>>(&mut self, ca: &S) -> Result<bool, SupplyFault>
-        ensures { Answers (Fits (C.cert self.old.head.now)
-            (Supply.Ca (S.ski ca.now) (S.key ca.now) (S.sets ca.now)))
-            C.cert (S.sets ca.now) self.old self.new result }
+/// What paths are anchored under.
+#[derive(Drop)]
+pub enum Supplied<'a, T, S> {
+    /// A trust anchor locator.
+    Tal(&'a T),
+    /// A CA certificate that was validated elsewhere.
+    Ca(&'a S),
+}
+
+impl<C: Certificate> Path<C> {
+    /// Anchors the path at its head, where a locator is meant for it, and answers whether the path
+    /// is anchored. A path that is anchored, and one of another head, stays as it is. An error is
+    /// why the head is no trust anchor; it leaves the path as it was. No memory is taken.
+    pub fn supply_tal<T: Locator<C>>(&mut self, tal: &T) -> Result<bool, SupplyFault<T::Fault>>
+        ensures { Answers C.cert (Supply.Tal (T.key tal.now)) self.old self.new result }
     {
         if self.anchored {
             return Ok(true);
         }
-        if !ca.fits(self.head) {
+        if !tal.fits(&self.head) {
+            return Ok(false);
+        }
+        if let Err(fault) = tal.validate(&self.head) {
+            return Err(SupplyFault::NoAnchor(fault));
+        }
+        self.anchored = true;
+        Ok(true)
+    }
+
+    /// Anchors the path under a CA that is meant for its head, and answers whether the path is
+    /// anchored. A path that is anchored, and one of another head, stays as it is. An error is the
+    /// first family whose nearest explicit set the CA does not have (RFC 6487, section 7.2), or
+    /// want of memory; it leaves the path as it was.
+    pub fn supply_ca<S: SuppliedCa<C>, F>(&mut self, ca: &S) -> Result<bool, SupplyFault<F>>
+        ensures { Answers C.cert (Supply.Ca (S.ski ca.now) (S.key ca.now) (S.sets ca.now))
+            self.old self.new result }
+    {
+        if self.anchored {
+            return Ok(true);
+        }
+        if !ca.fits(&self.head) {
             return Ok(false);
         }
         let overclaim = self.head.overclaim();
@@ -51,4 +81,61 @@ impl<'a, C: Certificate> Path<'a, C> {
         self.anchored = true;
         Ok(true)
     }
+
+    /// Anchors the path under a locator or a CA, as `supply_tal` and `supply_ca` do.
+    pub fn supply<T: Locator<C>, S: SuppliedCa<C>>(
+        &mut self,
+        supplied: &Supplied<T, S>,
+    ) -> Result<bool, SupplyFault<T::Fault>>
+        ensures { Answers C.cert (supply_of T.key S.ski S.key S.sets supplied.now)
+            self.old self.new result }
+    {
+        match supplied {
+            Supplied::Tal(tal) => self.supply_tal(*tal),
+            Supplied::Ca(ca) => self.supply_ca(*ca),
+        }
+    }
+}
+
+/// Anchors each path under a locator or a CA, in order, and answers whether all paths are anchored
+/// then. The first path that it is meant for and does not take ends the call: earlier paths keep
+/// their anchor, and that path and later ones stay as they were.
+pub fn supply_each<C: Certificate, T: Locator<C>, S: SuppliedCa<C>>(
+    paths: &mut [Path<C>],
+    supplied: &Supplied<T, S>,
+) -> Result<bool, SupplyFault<T::Fault>>
+    ensures { AnswersEach C.cert (supply_of T.key S.ski S.key S.sets supplied.now)
+        paths.old paths.new result }
+{
+    let mut done = true;
+    for i in 0..paths.len() {
+        match paths[i].supply(supplied) {
+            Ok(anchored) => {
+                done &= anchored;
+            }
+            Err(fault) => {
+                return Err(fault);
+            }
+        }
+    }
+    Ok(done)
+}
+
+/// Hands in several supplies in order, each to all paths. The first fault ends the call.
+pub fn supply_all<C: Certificate, T: Locator<C>, S: SuppliedCa<C>>(
+    paths: &mut [Path<C>],
+    supplies: &[Supplied<T, S>],
+) -> Result<(), SupplyFault<T::Fault>>
+    ensures { AreSuppliedAll C.cert (map (supply_of T.key S.ski S.key S.sets) supplies.now)
+        paths.old paths.new result }
+{
+    for i in 0..supplies.len() {
+        match supply_each(paths, &supplies[i]) {
+            Ok(_) => {}
+            Err(fault) => {
+                return Err(fault);
+            }
+        }
+    }
+    Ok(())
 }

@@ -21,8 +21,8 @@ use std::sync::ledger::Ledger;
 /// The head of a path, its place (0 for the end-entity certificate, else one more than the CA's
 /// index), what is kept of the explicit sets, and whether the path is anchored.
 #[derive(Drop)]
-pub struct Path<'a, C> {
-    pub head: &'a C,
+pub struct Path<C> {
+    pub head: C,
     pub place: usize,
     pub sets: KeptSets,
     pub anchored: bool,
@@ -97,20 +97,20 @@ fn find_issuer<C: Certificate, L: Ledger>(
 /// index has the CAs' subject key identifiers. A mark stands for each CA: the number of the walk
 /// that last took it. An error is the first cause, of the certificate where the walk stops, in the
 /// order of `PathFault`, or want of memory.
-pub fn walk<'a, C: Certificate, L: Ledger>(
+pub fn walk<C: Certificate, L: Ledger>(
     alloc: Global,
-    ee: &'a C,
-    cas: &'a [C],
+    ee: &C,
+    cas: &[C],
     index: &Places,
     marks: &mut [u64],
     turn: u64,
     asked: &mut Asked<L>,
-) -> Result<Path<'a, C>, PathFault>
+) -> Result<Path<C>, PathFault>
     requires index { IsIndex (map (λ c. (C.cert c).ski) cas.now) index.now }
     requires as_many { length marks.old ≡ length cas.now }
     requires fresh { (k : ℕ) → k < length marks.old → slice_index marks.old k ≢ turn }
     ensures path { IfOk result (λ path. IsWalked (placed C.cert 1 cas.now)
-        (at_place 0 (C.cert ee.now)) (at_place path.place (C.cert path.head.now))
+        (at_place 0 (C.cert ee.now)) (at_place path.place (C.cert path.head))
         path.sets marks.new turn) }
     ensures not_anchored { IfOk result (λ path. IsFalse path.anchored) }
     ensures refused { IfErr result (λ fault.
@@ -120,7 +120,7 @@ pub fn walk<'a, C: Certificate, L: Ledger>(
     ensures cost { OnOk result (IsDistinct (placed C.cert 1 cas.now) →
         asked.new ≤ asked.old + length cas.now) }
 {
-    let mut head = ee;
+    let mut head = *ee;
     let mut place: usize = 0;
     let mut sets = KeptSets::none().climbed(alloc, ee.overclaim(), ee)?;
     for step in 0..marks.len() + 1 {
@@ -132,7 +132,7 @@ pub fn walk<'a, C: Certificate, L: Ledger>(
                 anchored: false,
             });
         }
-        match find_issuer(head, cas, index.named(head.authority()), asked) {
+        match find_issuer(&head, cas, index.named(head.authority()), asked) {
             Found::NoIssuer => {
                 return Ok(Path {
                     head,
@@ -149,7 +149,7 @@ pub fn walk<'a, C: Certificate, L: Ledger>(
                 if marks[i] == turn {
                     return Err(PathFault::Returns);
                 }
-                if ca.revokes(head) {
+                if ca.revokes(&head) {
                     return Err(PathFault::Revoked);
                 }
                 match sets.uncovered(head.overclaim(), ca) {
@@ -159,7 +159,7 @@ pub fn walk<'a, C: Certificate, L: Ledger>(
                     None => {
                         sets = sets.climbed(alloc, head.overclaim(), ca)?;
                         marks[i] = turn;
-                        head = ca;
+                        head = *ca;
                         place = i + 1;
                     }
                 }

@@ -1,6 +1,6 @@
 //! Certificates with plain fields.
 
-use rpki_paths::{Asked, Certificate, KeyId, Overclaim, Seeks, SuppliedCa};
+use rpki_paths::{Asked, Certificate, KeyId, Locator, Overclaim, Seeks, SuppliedCa};
 use rpki_resources::{AsBlock, AsBlocks, AsBlocksBuilder, AsResources, Asn, IpBlocks, IpResources};
 use std::alloc::{AllocError, Global};
 use std::sync::ledger::Ledger;
@@ -21,6 +21,17 @@ pub fn numbers(alloc: Global, first: u32, last: u32) -> Result<AsBlocks, AllocEr
     builder.finalize()
 }
 
+/// The set of the numbers of these ranges.
+pub fn ranges(alloc: Global, ranges: &[(u32, u32)]) -> Result<AsBlocks, AllocError> {
+    let mut builder = AsBlocksBuilder::new(alloc);
+    for (first, last) in ranges {
+        if first <= last {
+            builder.push(AsBlock::Range(Asn::from_u32(*first), Asn::from_u32(*last)))?;
+        }
+    }
+    builder.finalize()
+}
+
 /// A certificate of AS numbers alone.
 #[derive(Drop)]
 pub struct Plain {
@@ -34,9 +45,15 @@ pub struct Plain {
     pub overclaim: Overclaim,
     pub asn: AsResources,
     pub ip: IpResources,
+    /// Whether it passes the inspection of a trust anchor.
+    pub is_anchor: bool,
 }
 
-impl Certificate for Plain {
+/// A carried certificate.
+#[derive(Clone, Copy)]
+pub struct Seen<'a>(pub &'a Plain);
+
+impl<'a> Certificate for Seen<'a> {
     ghost use Rattle.std.specs.Prelude.{nat_eq, true, ◌==◌};
     ghost use Rattle.std.specs.List.{list_any};
     ghost use Rattle.std.specs.Cmp.Lexicographic.{pointwise};
@@ -44,56 +61,91 @@ impl Certificate for Plain {
 
     ghost cert = { λ s. record {
       place = 0;
-      ski = s.subject;
-      aki = s.authority;
-      key = s.key;
-      serial = s.serial;
-      overclaim = s.overclaim;
-      claim = claims_of s.asn s.ip;
-      verifies = λ k. pointwise nat_eq s.signer k;
+      ski = s.0.now.subject;
+      aki = s.0.now.authority;
+      key = s.0.now.key;
+      serial = s.0.now.serial;
+      overclaim = s.0.now.overclaim;
+      claim = claims_of s.0.now.asn s.0.now.ip;
+      verifies = λ k. pointwise nat_eq s.0.now.signer k;
       is_valid = true;
-      is_anchor = true;
-      revokes = λ n. list_any (λ x. x == n) s.revoked.items;
+      is_anchor = s.0.now.is_anchor;
+      revokes = λ n. list_any (λ x. x == n) s.0.now.revoked.items;
     } };
 
     fn subject(&self) -> KeyId {
-        self.subject
+        self.0.subject
     }
 
     fn authority(&self) -> Option<KeyId> {
-        self.authority
+        self.0.authority
     }
 
     fn is_self_signed(&self) -> bool {
-        match self.authority {
+        match self.0.authority {
             None => true,
-            Some(authority) => authority == self.subject,
+            Some(authority) => authority == self.0.subject,
         }
     }
 
     fn is_signed_by<L: Ledger>(&self, issuer: &Self, asked: &mut Asked<L>) -> bool {
         asked.count();
-        self.signer == issuer.key
+        self.0.signer == issuer.0.key
     }
 
     fn revokes(&self, subject: &Self) -> bool {
-        self.revoked.contains(&subject.serial)
+        self.0.revoked.contains(&subject.0.serial)
     }
 
     fn overclaim(&self) -> Overclaim {
-        self.overclaim
+        self.0.overclaim
     }
 
     fn asn(&self) -> &AsResources {
-        &self.asn
+        &self.0.asn
     }
 
     fn v4(&self) -> &IpResources {
-        &self.ip
+        &self.0.ip
     }
 
     fn v6(&self) -> &IpResources {
-        &self.ip
+        &self.0.ip
+    }
+}
+
+/// Why a head is no trust anchor.
+#[derive(Clone, Copy, Debug, PartialEq, Eq)]
+pub enum NoAnchor {
+    /// It does not pass the inspection of one.
+    Inspection,
+    /// Its own key does not verify it.
+    Signature,
+}
+
+/// A trust anchor locator, by its key.
+#[derive(Clone, Copy)]
+pub struct Root {
+    pub key: [u8; 1],
+}
+
+impl<'a> Locator<Seen<'a>> for Root {
+    type Fault = NoAnchor;
+
+    ghost key = { λ s. s.key };
+
+    fn fits(&self, head: &Seen<'a>) -> bool {
+        head.is_self_signed() && head.0.key == self.key
+    }
+
+    fn validate(&self, head: &Seen<'a>) -> Result<(), NoAnchor> {
+        if !head.0.is_anchor {
+            return Err(NoAnchor::Inspection);
+        }
+        if head.0.signer != head.0.key {
+            return Err(NoAnchor::Signature);
+        }
+        Ok(())
     }
 }
 
@@ -106,7 +158,7 @@ pub struct Above {
     pub ip: IpBlocks,
 }
 
-impl SuppliedCa<Plain> for Above {
+impl<'a> SuppliedCa<Seen<'a>> for Above {
     ghost use Rattle.rpki_paths_tests.specs.Plain.{sets_of};
 
     ghost ski = { λ s. s.subject };
@@ -115,11 +167,11 @@ impl SuppliedCa<Plain> for Above {
 
     ghost sets = { λ s. sets_of s.asn s.ip };
 
-    fn fits(&self, head: &Plain) -> bool {
+    fn fits(&self, head: &Seen<'a>) -> bool {
         if head.is_self_signed() {
             return false;
         }
-        head.authority == Some(self.subject) && head.signer == self.key
+        head.0.authority == Some(self.subject) && head.0.signer == self.key
     }
 
     fn asn(&self) -> &AsBlocks {

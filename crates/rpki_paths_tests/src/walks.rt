@@ -1,10 +1,10 @@
-//! Walks and supplies, row by row.
+//! Walks, supplies and what is granted, row by row.
 
-ghost use Rattle.std.specs.Prelude.{◌≡◌, ◌≢◌, ◌<◌, ℕ, length, map, slice_index, IfOk};
-ghost use Rattle.rpki_paths.specs.Index.{IsIndex};
+ghost use Rattle.std.specs.Prelude.{◌≡◌, ◌<◌};
 
-use crate::plain::{Above, Plain, id, numbers};
-use rpki_paths::{Asked, Family, KeyId, Overclaim, Path, PathFault, Places, SupplyFault, walk};
+use crate::plain::{Above, NoAnchor, Plain, Root, Seen, id, numbers, ranges};
+use rpki_paths::{Asked, Attested, Family, FinalFault, Overclaim, Path, PathFault, Supplied};
+use rpki_paths::{SupplyFault, WalksFault, finalize, supply_all, walk_each};
 use rpki_resources::{AsResources, IpBlocks, IpResources};
 use std::alloc::{AllocError, Global};
 use std::marker::Brand;
@@ -12,20 +12,32 @@ use std::sync::ledger::{Blank, Ledger};
 
 /// What is claimed of AS numbers.
 #[derive(Clone, Copy)]
-enum Claimed {
+pub enum Claimed {
     Inherited,
     From(u32, u32),
 }
 
 /// A certificate by the last octets of its identifier, its issuer's and its signer's, what becomes
-/// of numbers that its issuer has not, what it claims, and the serial number that it revokes.
+/// of numbers that its issuer has not, what it claims, and the serial number that it revokes. It
+/// passes the inspection of a trust anchor where it inherits nothing.
 #[derive(Clone, Copy)]
-struct Row(u8, u8, u8, Overclaim, Claimed, u64);
+pub struct Row(pub u8, pub u8, pub u8, pub Overclaim, pub Claimed, pub u64);
+
+/// A supply: the key of a locator, or a CA by its identifier and its AS numbers.
+#[derive(Clone, Copy)]
+pub enum Given {
+    Tal(u8),
+    Ca(u8, u32, u32),
+}
 
 fn plain(alloc: Global, row: Row) -> Result<Plain, AllocError> {
     let Row(subject, issuer, signer, overclaim, claimed, revokes) = row;
     let mut revoked = Vec::new(alloc);
     revoked.push(revokes)?;
+    let (asn, is_anchor) = match claimed {
+        Claimed::Inherited => (AsResources::inherit(), false),
+        Claimed::From(first, last) => (AsResources::blocks(numbers(alloc, first, last)?), true),
+    };
     Ok(Plain {
         subject: id(subject),
         authority: Some(id(issuer)),
@@ -34,210 +46,356 @@ fn plain(alloc: Global, row: Row) -> Result<Plain, AllocError> {
         serial: u64::from(subject),
         revoked,
         overclaim,
-        asn: match claimed {
-            Claimed::Inherited => AsResources::inherit(),
-            Claimed::From(first, last) => AsResources::blocks(numbers(alloc, first, last)?),
-        },
+        asn,
         ip: IpResources::missing(),
+        is_anchor,
     })
 }
 
-/// What a walk and a supplied CA answer.
-#[derive(Clone, Copy, Debug, PartialEq, Eq)]
-enum Answer {
-    /// These AS numbers are granted.
-    Numbers(u32, u32),
-    /// The path goes up to a head that the supplied CA did not issue.
-    Open,
-    NoPath(PathFault),
-    NotSupplied(SupplyFault),
-}
-
-// The identifiers of the certificates.
-fn identifiers(alloc: Global, cas: &[Plain]) -> Result<Vec<KeyId>, AllocError>
-    ensures { IfOk result (λ ids. ids.items ≡ map (λ ca. ca.subject) cas.now) }
-{
-    let mut ids = Vec::new(alloc);
-    for i in 0..cas.len() {
-        ids.push(cas[i].subject)?;
+fn plains(alloc: Global, rows: &[Row]) -> Result<Vec<Plain>, AllocError> {
+    let mut plains = Vec::new(alloc);
+    for row in rows {
+        plains.push(plain(alloc, *row)?)?;
     }
-    Ok(ids)
+    Ok(plains)
 }
 
-// The places of the certificates by their identifiers.
-fn places(alloc: Global, cas: &[Plain]) -> Result<Places, AllocError>
-    ensures { IfOk result (IsIndex (map (λ ca. ca.subject) cas.now)) }
-{
-    let ids = identifiers(alloc, cas)?;
-    let index = Places::of(alloc, &ids)?;
-    Ok(index)
+fn seen<'a>(alloc: Global, plains: &'a [Plain]) -> Result<Vec<Seen<'a>>, AllocError> {
+    let mut seen = Vec::new(alloc);
+    for plain in plains {
+        seen.push(Seen(plain))?;
+    }
+    Ok(seen)
 }
 
-// A mark for each certificate; none is that of the first walk.
-fn unmarked(alloc: Global, cas: &[Plain]) -> Result<Vec<u64>, AllocError>
-    ensures as_many { IfOk result (λ marks. length marks.items ≡ length cas.now) }
-    ensures fresh { IfOk result (λ marks.
-        (k : ℕ) → k < length marks.items → slice_index marks.items k ≢ 1) }
-{
-    let marks = vec![in alloc; 0u64; cas.len()]?;
-    Ok(marks)
+/// A locator and a CA, of which one is supplied.
+#[derive(Drop)]
+struct Pair {
+    root: Root,
+    above: Above,
 }
 
-/// Walks up from the first certificate among the others, and supplies a CA of octet 0.
+fn pairs(alloc: Global, given: &[Given]) -> Result<Vec<Pair>, AllocError> {
+    let mut pairs = Vec::new(alloc);
+    for one in given {
+        let (octet, first, last) = match one {
+            Given::Tal(key) => (*key, 1, 0),
+            Given::Ca(subject, first, last) => (*subject, *first, *last),
+        };
+        pairs.push(Pair {
+            root: Root { key: [octet] },
+            above: Above {
+                subject: id(octet),
+                key: [octet],
+                asn: numbers(alloc, first, last)?,
+                ip: IpBlocks::new(alloc),
+            },
+        })?;
+    }
+    Ok(pairs)
+}
+
+fn supplies<'a>(
+    alloc: Global,
+    given: &[Given],
+    pairs: &'a [Pair],
+) -> Result<Vec<Supplied<'a, Root, Above>>, AllocError> {
+    let mut supplies = Vec::new(alloc);
+    for (one, pair) in given.iter().zip(pairs.iter()) {
+        supplies.push(match one {
+            Given::Tal(_) => Supplied::Tal(&pair.root),
+            Given::Ca(_, _, _) => Supplied::Ca(&pair.above),
+        })?;
+    }
+    Ok(supplies)
+}
+
+/// What walks, supplies and the end answer.
+#[derive(Clone, Copy, Debug, PartialEq, Eq)]
+pub enum Answer {
+    Granted,
+    NotWalked(WalksFault),
+    /// Why a supply ends the call, and how many paths are anchored then.
+    NotSupplied(SupplyFault<NoAnchor>, usize),
+    NotGranted(FinalFault),
+}
+
+/// End-entity certificates, CAs, supplies, the AS numbers that are attested, and the answer.
+type Case = (
+    &'static [Row],
+    &'static [Row],
+    &'static [Given],
+    &'static [(u32, u32)],
+    Answer,
+);
+
+/// Supplies what is given to paths, and tells whether these numbers are granted.
+fn decided(
+    alloc: Global,
+    paths: &mut [Path<Seen>],
+    given: &[Given],
+    attested: &[(u32, u32)],
+) -> Result<Answer, AllocError> {
+    let pairs = pairs(alloc, given)?;
+    let supplies = supplies(alloc, given, &pairs)?;
+    match supply_all(paths, &supplies) {
+        Ok(()) => {}
+        Err(SupplyFault::Memory) => return Err(AllocError),
+        Err(fault) => {
+            let anchored = paths.iter().filter(|path| path.anchored).count();
+            return Ok(Answer::NotSupplied(fault, anchored));
+        }
+    }
+    let asn = ranges(alloc, attested)?;
+    let none = IpBlocks::new(alloc);
+    let attested = Attested {
+        asn: &asn,
+        v4: &none,
+        v6: &none,
+    };
+    match finalize(alloc, paths, &attested) {
+        Ok(()) => Ok(Answer::Granted),
+        Err(FinalFault::Memory) => Err(AllocError),
+        Err(fault) => Ok(Answer::NotGranted(fault)),
+    }
+}
+
 fn answer_of<L: Ledger>(
     alloc: Global,
-    rows: &[Row],
-    supplied: (u32, u32),
-    expected: (u32, u32),
+    certs: (&[Row], &[Row]),
+    given: &[Given],
+    attested: &[(u32, u32)],
     blank: Blank,
 ) -> Result<Answer, AllocError>
     requires name { blank.name ≡ L.name }
     requires parts { blank.parts ≡ L.parts }
     requires some { 0 < blank.parts }
 {
-    let mut cas = Vec::new(alloc);
-    for row in rows {
-        cas.push(plain(alloc, *row)?)?;
-    }
-    let above = Above {
-        subject: id(0),
-        key: [0],
-        asn: numbers(alloc, supplied.0, supplied.1)?,
-        ip: IpBlocks::new(alloc),
-    };
-    let Some((ee, cas)) = cas.as_slice().split_first() else {
-        return Ok(Answer::Open);
-    };
-    let index = places(alloc, cas)?;
-    let mut marks = unmarked(alloc, cas)?;
+    let ees = plains(alloc, certs.0)?;
+    let cas = plains(alloc, certs.1)?;
+    let ees = seen(alloc, &ees)?;
+    let cas = seen(alloc, &cas)?;
     let mut asked = Asked::<L>::new(blank);
-    let mut path = match walk(alloc, ee, cas, &index, &mut marks, 1, &mut asked) {
-        Ok(path) => path,
-        Err(PathFault::Memory) => return Err(AllocError),
-        Err(fault) => return Ok(Answer::NoPath(fault)),
-    };
-    match path.supply_ca(&above) {
-        Ok(true) => {}
-        Ok(false) => return Ok(Answer::Open),
-        Err(SupplyFault::Memory) => return Err(AllocError),
-        Err(fault) => return Ok(Answer::NotSupplied(fault)),
-    }
-    let numbers = numbers(alloc, expected.0, expected.1)?;
-    match &path.sets.asn {
-        Some(kept) if kept.met == numbers => Ok(Answer::Numbers(expected.0, expected.1)),
-        _ => Ok(Answer::Open),
+    match walk_each(alloc, &ees, &cas, &mut asked) {
+        Ok(mut paths) => decided(alloc, &mut paths, given, attested),
+        Err(WalksFault::Memory) => Err(AllocError),
+        Err(fault) => Ok(Answer::NotWalked(fault)),
     }
 }
 
-/// The answer, counted by a ledger of its own.
-fn answered(
+/// What is answered for these end-entity certificates and CAs, counted by a ledger of its own.
+pub fn answered(
     alloc: Global,
-    rows: &[Row],
-    supplied: (u32, u32),
-    expected: (u32, u32),
+    certs: (&[Row], &[Row]),
+    given: &[Given],
+    attested: &[(u32, u32)],
 ) -> Result<Answer, AllocError> {
-    answer_of::<Brand>(alloc, rows, supplied, expected, Blank::new(1))
+    answer_of::<Brand>(alloc, certs, given, attested, Blank::new(1))
 }
 
-/// Certificates from the end-entity certificate on, the AS numbers of the supplied CA, the answer.
-type Case = (&'static [Row], (u32, u32), Answer);
+const TRIM: Overclaim = Overclaim::Trim;
+const REFUSE: Overclaim = Overclaim::Refuse;
+const INHERITED: Claimed = Claimed::Inherited;
+/// No certificate has this serial number.
+const NONE: u64 = 255;
 
-static CASES: [Case; 10] = [
+static CASES: [Case; 22] = [
     // a set is trimmed to the issuer's, an inherited one is the issuer's
     (
-        &[
-            Row(1, 2, 2, Overclaim::Trim, Claimed::From(10, 20), 255),
-            Row(2, 0, 0, Overclaim::Trim, Claimed::Inherited, 255),
-        ],
-        (15, 30),
-        Answer::Numbers(15, 20),
+        &[Row(1, 2, 2, TRIM, Claimed::From(10, 20), NONE)],
+        &[Row(2, 0, 0, TRIM, INHERITED, NONE)],
+        &[Given::Ca(0, 15, 30)],
+        &[(15, 20)],
+        Answer::Granted,
     ),
     (
-        &[
-            Row(1, 2, 2, Overclaim::Trim, Claimed::From(10, 20), 255),
-            Row(2, 0, 0, Overclaim::Refuse, Claimed::Inherited, 255),
-        ],
-        (15, 30),
-        Answer::NotSupplied(SupplyFault::NotCovered(Family::As)),
+        &[Row(1, 2, 2, TRIM, Claimed::From(10, 20), NONE)],
+        &[Row(2, 0, 0, TRIM, INHERITED, NONE)],
+        &[Given::Ca(0, 15, 30)],
+        &[(10, 20)],
+        Answer::NotGranted(FinalFault::AsNumbers),
     ),
     (
+        &[Row(1, 2, 2, TRIM, Claimed::From(10, 20), NONE)],
+        &[Row(2, 0, 0, REFUSE, INHERITED, NONE)],
+        &[Given::Ca(0, 15, 30)],
+        &[(15, 20)],
+        Answer::NotSupplied(SupplyFault::NotCovered(Family::As), 0),
+    ),
+    (
+        &[Row(1, 2, 2, TRIM, INHERITED, NONE)],
         &[
-            Row(1, 2, 2, Overclaim::Trim, Claimed::Inherited, 255),
-            Row(2, 3, 3, Overclaim::Trim, Claimed::From(1, 10), 255),
-            Row(3, 0, 0, Overclaim::Trim, Claimed::From(5, 20), 255),
+            Row(2, 3, 3, TRIM, Claimed::From(1, 10), NONE),
+            Row(3, 0, 0, TRIM, Claimed::From(5, 20), NONE),
         ],
-        (8, 30),
-        Answer::Numbers(8, 10),
+        &[Given::Ca(0, 8, 30)],
+        &[(8, 10)],
+        Answer::Granted,
     ),
     // an inheriting head answers for what is below it
     (
+        &[Row(1, 2, 2, REFUSE, Claimed::From(1, 5), NONE)],
         &[
-            Row(1, 2, 2, Overclaim::Refuse, Claimed::From(1, 5), 255),
-            Row(2, 3, 3, Overclaim::Refuse, Claimed::Inherited, 255),
-            Row(3, 0, 0, Overclaim::Trim, Claimed::From(1, 3), 255),
+            Row(2, 3, 3, REFUSE, INHERITED, NONE),
+            Row(3, 0, 0, TRIM, Claimed::From(1, 3), NONE),
         ],
-        (1, 9),
-        Answer::NoPath(PathFault::NotCovered(Family::As)),
+        &[Given::Ca(0, 1, 9)],
+        &[(1, 3)],
+        Answer::NotWalked(WalksFault::NoPath(PathFault::NotCovered(Family::As))),
     ),
     // two CAs that signed each other
     (
+        &[Row(1, 2, 2, TRIM, Claimed::From(1, 5), NONE)],
         &[
-            Row(1, 2, 2, Overclaim::Trim, Claimed::From(1, 5), 255),
-            Row(2, 3, 3, Overclaim::Trim, Claimed::Inherited, 255),
-            Row(3, 2, 2, Overclaim::Trim, Claimed::Inherited, 255),
+            Row(2, 3, 3, TRIM, INHERITED, NONE),
+            Row(3, 2, 2, TRIM, INHERITED, NONE),
         ],
-        (1, 9),
-        Answer::NoPath(PathFault::Returns),
+        &[Given::Ca(0, 1, 9)],
+        &[(1, 5)],
+        Answer::NotWalked(WalksFault::NoPath(PathFault::Returns)),
     ),
     // the issuer has revoked the certificate
     (
-        &[
-            Row(1, 2, 2, Overclaim::Trim, Claimed::From(1, 5), 255),
-            Row(2, 0, 0, Overclaim::Trim, Claimed::Inherited, 1),
-        ],
-        (1, 9),
-        Answer::NoPath(PathFault::Revoked),
+        &[Row(1, 2, 2, TRIM, Claimed::From(1, 5), NONE)],
+        &[Row(2, 0, 0, TRIM, INHERITED, 1)],
+        &[Given::Ca(0, 1, 9)],
+        &[(1, 5)],
+        Answer::NotWalked(WalksFault::NoPath(PathFault::Revoked)),
     ),
     // another key signed the certificate
     (
-        &[
-            Row(1, 2, 9, Overclaim::Trim, Claimed::From(1, 5), 255),
-            Row(2, 0, 0, Overclaim::Trim, Claimed::Inherited, 255),
-        ],
-        (1, 9),
-        Answer::NoPath(PathFault::NoValidIssuer),
+        &[Row(1, 2, 9, TRIM, Claimed::From(1, 5), NONE)],
+        &[Row(2, 0, 0, TRIM, INHERITED, NONE)],
+        &[Given::Ca(0, 1, 9)],
+        &[(1, 5)],
+        Answer::NotWalked(WalksFault::NoPath(PathFault::NoValidIssuer)),
     ),
-    // of two CAs with one identifier the first whose key fits is taken
+    // two paths, and the union of their numbers
     (
         &[
-            Row(1, 2, 2, Overclaim::Trim, Claimed::From(1, 5), 255),
-            Row(2, 0, 0, Overclaim::Trim, Claimed::From(1, 3), 255),
-            Row(2, 0, 0, Overclaim::Trim, Claimed::From(1, 2), 255),
+            Row(1, 3, 3, TRIM, Claimed::From(1, 5), NONE),
+            Row(2, 3, 3, TRIM, Claimed::From(4, 9), NONE),
         ],
-        (1, 9),
-        Answer::Numbers(1, 3),
+        &[Row(3, 0, 0, TRIM, INHERITED, NONE)],
+        &[Given::Ca(0, 1, 9)],
+        &[(1, 9)],
+        Answer::Granted,
     ),
-    // the supplied CA is not the issuer
+    // three paths that share a CA
     (
-        &[Row(1, 7, 7, Overclaim::Trim, Claimed::From(1, 5), 255)],
-        (1, 9),
-        Answer::Open,
+        &[
+            Row(1, 4, 4, TRIM, Claimed::From(1, 3), NONE),
+            Row(2, 4, 4, TRIM, Claimed::From(3, 6), NONE),
+            Row(3, 4, 4, TRIM, Claimed::From(9, 9), NONE),
+        ],
+        &[Row(4, 0, 0, TRIM, INHERITED, NONE)],
+        &[Given::Ca(0, 1, 9)],
+        &[(9, 9), (1, 6)],
+        Answer::Granted,
     ),
-    // no carried CA
+    // no path, and no numbers
+    (&[], &[], &[], &[], Answer::Granted),
     (
-        &[Row(1, 0, 0, Overclaim::Refuse, Claimed::From(1, 5), 255)],
-        (1, 9),
-        Answer::Numbers(1, 5),
+        &[],
+        &[],
+        &[],
+        &[(1, 1)],
+        Answer::NotGranted(FinalFault::AsNumbers),
+    ),
+    // nothing is supplied, or a CA that is not the issuer
+    (
+        &[Row(1, 7, 7, TRIM, Claimed::From(1, 5), NONE)],
+        &[],
+        &[],
+        &[(1, 5)],
+        Answer::NotGranted(FinalFault::NotAnchored),
+    ),
+    (
+        &[Row(1, 7, 7, TRIM, Claimed::From(1, 5), NONE)],
+        &[],
+        &[Given::Ca(0, 1, 9)],
+        &[(1, 5)],
+        Answer::NotGranted(FinalFault::NotAnchored),
+    ),
+    // a self-signed head, and locators: of its key, of another, of another and then of its own
+    (
+        &[Row(1, 2, 2, TRIM, INHERITED, NONE)],
+        &[Row(2, 2, 2, TRIM, Claimed::From(1, 5), NONE)],
+        &[Given::Tal(2)],
+        &[(1, 5)],
+        Answer::Granted,
+    ),
+    (
+        &[Row(1, 2, 2, TRIM, INHERITED, NONE)],
+        &[Row(2, 2, 2, TRIM, Claimed::From(1, 5), NONE)],
+        &[Given::Tal(3)],
+        &[(1, 5)],
+        Answer::NotGranted(FinalFault::NotAnchored),
+    ),
+    (
+        &[Row(1, 2, 2, TRIM, INHERITED, NONE)],
+        &[Row(2, 2, 2, TRIM, Claimed::From(1, 5), NONE)],
+        &[Given::Tal(3), Given::Tal(2)],
+        &[(1, 5)],
+        Answer::Granted,
+    ),
+    // its own key does not verify the head
+    (
+        &[Row(1, 2, 2, TRIM, INHERITED, NONE)],
+        &[Row(2, 2, 9, TRIM, Claimed::From(1, 5), NONE)],
+        &[Given::Tal(2)],
+        &[(1, 5)],
+        Answer::NotSupplied(SupplyFault::NoAnchor(NoAnchor::Signature), 0),
+    ),
+    // the head inherits
+    (
+        &[Row(1, 2, 2, TRIM, Claimed::From(1, 5), NONE)],
+        &[Row(2, 2, 2, TRIM, INHERITED, NONE)],
+        &[Given::Tal(2)],
+        &[(1, 5)],
+        Answer::NotSupplied(SupplyFault::NoAnchor(NoAnchor::Inspection), 0),
+    ),
+    // the first path is anchored, and the second is not
+    (
+        &[
+            Row(1, 0, 0, TRIM, Claimed::From(1, 5), NONE),
+            Row(2, 0, 0, REFUSE, Claimed::From(7, 7), NONE),
+        ],
+        &[],
+        &[Given::Ca(0, 1, 5)],
+        &[(1, 5)],
+        Answer::NotSupplied(SupplyFault::NotCovered(Family::As), 1),
+    ),
+    // a CA that issued nothing that is carried
+    (
+        &[Row(1, 2, 2, TRIM, Claimed::From(1, 5), NONE)],
+        &[
+            Row(2, 0, 0, TRIM, INHERITED, NONE),
+            Row(3, 0, 0, TRIM, INHERITED, NONE),
+        ],
+        &[Given::Ca(0, 1, 9)],
+        &[(1, 5)],
+        Answer::NotWalked(WalksFault::Unused(1)),
+    ),
+    // two end-entity certificates under one key, and two CAs of that key: each takes the first
+    (
+        &[
+            Row(1, 3, 3, TRIM, Claimed::From(1, 5), NONE),
+            Row(2, 3, 3, TRIM, Claimed::From(1, 5), NONE),
+        ],
+        &[
+            Row(3, 0, 0, TRIM, Claimed::From(1, 3), NONE),
+            Row(3, 0, 0, TRIM, Claimed::From(1, 2), NONE),
+        ],
+        &[Given::Ca(0, 1, 9)],
+        &[(1, 3)],
+        Answer::NotWalked(WalksFault::Unused(1)),
     ),
 ];
 
 fn are_answered(alloc: Global) -> Result<bool, AllocError> {
-    for (rows, supplied, want) in &CASES {
-        let expected = match want {
-            Answer::Numbers(first, last) => (*first, *last),
-            _ => (1, 0),
-        };
-        if answered(alloc, rows, *supplied, expected)? != *want {
+    for (ees, cas, given, attested, want) in &CASES {
+        if answered(alloc, (ees, cas), given, attested)? != *want {
             return Ok(false);
         }
     }

@@ -58,7 +58,7 @@ loop-i-preserved g c =
     let taken = subst (λ m. IsTakenAt (R x) others m new c.in-Some.place)
     c.deref_mut.ensures.value c.in-Some.ensures.first in (
       ap length back ∙ as_many ∙ c.loop-i.invariant.0,
-      subst (λ m. IsPairingOff R takers others m c.append.new.places.items (i + 1)) (sym back)
+      subst (λ m. IsPairingOff R takers others m c.append.new.items.items (i + 1)) (sym back)
           (pairing_more R takers others old new c.loop-i.places.items i x c.in-Some.place _
           c.loop-i.invariant.1 one_more taken c.in_ok-append-in-Some.ensures),
       λ each.

@@ -1,0 +1,232 @@
+-- Walks from several certificates, one after the other.
+use Rattle.std.proofs.Common.{◌≡◌, ◌≢◌, ℕ, zero, suc, ◌+◌, ◌<◌, ◌≤◌, Bool, false, List, [], ◌∷◌}
+use Rattle.std.proofs.Common.{◌++◌, length, map, replicate, take, get_or, Some, IsFalse, refl, sym, ap}
+use Rattle.std.proofs.Common.{◌∙◌, subst, inl, inr, ◌⊎◌, arith}
+use Rattle.std.specs.Prelude.{slice_get, slice_index}
+use Rattle.std.proofs.lemmas.Bool.{cases_eq}
+use Rattle.std.proofs.lemmas.List.{map-append}
+use Rattle.rpki_paths.specs.declared.family.Family.{Family}
+use Rattle.rpki_paths.specs.declared.walker.Path.{Path}
+use Rattle.rpki_paths.specs.declared.walker.PathFault.{PathFault}
+use Rattle.rpki_paths.specs.declared.walker.PathFault.TheVariants.{NoValidIssuer, Returns, Revoked}
+use Rattle.rpki_paths.specs.declared.walker.PathFault.TheVariants.{NotCovered}
+use Rattle.rpki_paths.specs.declared.walker.PathFault.TheVariants.{Memory as OutOfMemory}
+use Rattle.rpki_paths.specs.declared.walks.WalksFault.TheVariants.{NoPath, Unused, Memory}
+use Rattle.rpki_paths.specs.Cert.{Cert, IsIn, at_place}
+use Rattle.rpki_paths.specs.Path.{IsOff, IsPath, IsLinkCovered, IsDistinct}
+use Rattle.rpki_paths.specs.Anchor.{Supply}
+use Rattle.rpki_paths.specs.Walk.{AreFirst, IsRefused, IsWalked, KeepsMarks}
+use Rattle.rpki_paths.specs.Grant.{ArePaths, AreUsed, IsUsed}
+use Rattle.rpki_paths.specs.Kept.{IsUnder, IsKept, AreKept, AreWalked, AreRefused, walks_fault}
+use Rattle.rpki_paths.specs.Laws.{RefusedHasNoPaths}
+use Rattle.rpki_paths.proofs.Chains.{unique}
+use Rattle.rpki_paths.proofs.Walking.{in_get, get_lt, get_in, refused_has_no_path}
+
+-- ---- lists that grow at the end
+
+in_front : {A : Type 0} (x : A) (xs ys : List A) → IsIn x xs → IsIn x (xs ++ ys)
+in_front x [] ys i = absurd i
+in_front x (z ∷ xs) ys (inl e) = inl e
+in_front x (z ∷ xs) ys (inr i) = inr (in_front x xs ys i)
+
+pub in_last : {A : Type 0} (x : A) (xs ys : List A) → IsIn x (xs ++ x ∷ ys)
+in_last x [] ys = inl refl
+in_last x (z ∷ xs) ys = inr (in_last x xs ys)
+
+pub in_more : {A : Type 0} (x y : A) (xs : List A) → IsIn x (xs ++ y ∷ []) → IsIn x xs ⊎ (x ≡ y)
+in_more x y [] (inl e) = inr e
+in_more x y [] (inr i) = absurd i
+in_more x y (z ∷ xs) (inl e) = inl (inl e)
+in_more x y (z ∷ xs) (inr i) = elim (in_more x y xs i) [ inl j ↦ inl (inr j) | inr e ↦ inr e ]
+
+zeros : (n k : ℕ) → slice_index (replicate n 0) k ≡ 0
+zeros zero k = refl
+zeros (suc n) zero = refl
+zeros (suc n) (suc k) = zeros n k
+
+module _ {C : Type 0} (cert : C → Cert) (cas : List Cert) where
+  paths_more : (es : List C) (e : C) (paths : List (List Cert)) (p : List Cert)
+      → ArePaths cas (map cert es) paths → IsPath cas (at_place 0 (cert e)) p → IsLinkCovered p
+      → ArePaths cas (map cert (es ++ e ∷ [])) (paths ++ p ∷ [])
+  paths_more [] e [] p h path cov = (path, cov, tt)
+  paths_more [] e (q ∷ paths) p h path cov = absurd h
+  paths_more (x ∷ es) e [] p h path cov = absurd h
+  paths_more (x ∷ es) e (q ∷ paths) p h path cov =
+      (h.0, h.1, paths_more es e paths p h.2 path cov)
+
+  kept_more : (supplies : List Supply) (kept : List (Path C)) (k : Path C)
+      (paths : List (List Cert)) (p : List Cert) → AreKept cert supplies kept paths
+      → IsKept cert supplies k p → AreKept cert supplies (kept ++ k ∷ []) (paths ++ p ∷ [])
+  kept_more supplies [] k [] p h i = (i, tt)
+  kept_more supplies [] k (q ∷ paths) p h i = absurd h
+  kept_more supplies (l ∷ kept) k [] p h i = absurd h
+  kept_more supplies (l ∷ kept) k (q ∷ paths) p h i =
+      (h.0, kept_more supplies kept k paths p h.1 i)
+
+  -- ---- in the middle
+
+  -- The certificates so far have paths. A CA that stands on one of them is marked by a number that
+  -- is not 0, and no mark is above the number of the last walk.
+  pub record IsWalkingEach (ees : List C) (kept : List (Path C)) (marks : List ℕ) (turn : ℕ) :
+      Type 0 where
+    pub paths : List (List Cert)
+    pub stand : ArePaths cas (map cert ees) paths
+    pub first : (p : List Cert) → IsIn p paths → AreFirst cas p
+    pub are_kept : AreKept cert [] kept paths
+    pub on : (k : ℕ) (d : Cert) → slice_get cas k ≡ Some d → slice_index marks k ≢ 0
+        → IsUsed d paths
+    pub off : (k : ℕ) (d : Cert) → slice_get cas k ≡ Some d → slice_index marks k ≡ 0
+        → (p : List Cert) → IsIn p paths → IsOff d p
+    pub small : (k : ℕ) → slice_index marks k ≤ turn
+
+  pub each_none : (ees : List C) (kept : List (Path C)) (marks : List ℕ) (n : ℕ) → ees ≡ []
+      → kept ≡ [] → marks ≡ replicate n 0 → IsWalkingEach ees kept marks 0
+  each_none ees kept marks n none empty e =
+      let zero_at : (k : ℕ) → slice_index marks k ≡ 0 =
+      λ k. ap (λ m. slice_index m k) e ∙ zeros n k in
+      record {
+        paths = [];
+        stand = subst (λ l. ArePaths cas (map cert l) []) (sym none) tt;
+        first = λ p i. absurd i;
+        are_kept = subst (λ l. AreKept cert [] l []) (sym empty) tt;
+        on = λ k d at_k ne. absurd (ne (zero_at k));
+        off = λ k d at_k z p i. absurd i;
+        small = λ k. omega (arith, zero_at k);
+      }
+
+  module _ (ees : List C) (kept : List (Path C)) (marks : List ℕ) (turn : ℕ)
+      (w : IsWalkingEach ees kept marks turn) where
+    -- the walk from one more
+    pub each_more : (all : List C) (e : C) (path : Path C) (longer : List (Path C))
+        (new : List ℕ) → all ≡ ees ++ e ∷ [] → longer ≡ kept ++ path ∷ []
+        → IsWalked cas (at_place 0 (cert e)) (at_place path.place (cert path.head)) path.sets new
+        (turn + 1) → IsFalse path.anchored → KeepsMarks (turn + 1) marks new
+        → IsWalkingEach all longer new (turn + 1)
+    each_more all e path longer new more put walked open_path keeps =
+        let p = at_place path.place (cert path.head) ∷ walked.below in
+        let here : IsKept cert [] path p =
+        record {
+          below = walked.below;
+          whole = refl;
+          under = subst (λ (b : Bool). IsUnder p [] path.sets b) (sym open_path)
+              ((λ s i. absurd i), walked.kept);
+        } in
+        record {
+          paths = w.paths ++ p ∷ [];
+          stand = subst (λ l. ArePaths cas (map cert l) (w.paths ++ p ∷ [])) (sym more)
+              (paths_more ees e w.paths p w.stand walked.path walked.covered);
+          first = λ q i. elim (in_more q p w.paths i) [
+            | inl j ↦ w.first q j
+            | inr same ↦ subst (λ z. AreFirst cas z) (sym same) walked.first
+          ];
+          are_kept = subst (λ l. AreKept cert [] l (w.paths ++ p ∷ [])) (sym put)
+              (kept_more [] kept path w.paths p w.are_kept here);
+          on = λ k d at_k ne. elim (cases_eq (slice_index new k) (turn + 1)) [
+            | inl same ↦ (p, in_last p w.paths [], walked.marked.on k d at_k same)
+            | inr differ ↦
+                (let t = w.on k d at_k (λ z. ne (keeps k differ ∙ z)) in
+                (t.0, in_front t.0 w.paths (p ∷ []) t.1, t.2))
+          ];
+          off = λ k d at_k z q i.
+              (let differ : ¬ (slice_index new k ≡ turn + 1) =
+              λ s. absurd (omega (arith, z, s)) in
+              elim (in_more q p w.paths i) [
+                | inl j ↦ w.off k d at_k (sym (keeps k differ) ∙ z) q j
+                | inr same ↦ subst (λ l. IsOff d l) (sym same)
+                    (walked.marked.off k d at_k differ)
+              ]);
+          small = λ k. elim (cases_eq (slice_index new k) (turn + 1)) [
+            | inl same ↦ omega (arith, same)
+            | inr differ ↦ omega (arith, keeps k differ, w.small k)
+          ];
+        }
+
+    pub each_fresh : (k : ℕ) → ¬ (slice_index marks k ≡ turn + 1)
+    each_fresh k e = omega (arith, w.small k, e)
+
+    -- one that has no path
+    module _ (all : List C) (e : C) (more : List C) (parts : ees ++ e ∷ more ≡ all) where
+      no_path : (fault : PathFault) → IsRefused fault cas (at_place 0 (cert e))
+          → ¬ (fault ≡ OutOfMemory) → AreRefused (NoPath fault) cas (map cert all)
+      no_path fault r other = (
+        map cert ees,
+        cert e,
+        map cert more,
+        w.paths,
+        ap (map cert) (sym parts) ∙ map-append cert ees (e ∷ more),
+        w.stand,
+        r,
+        other,
+      )
+
+      pub each_refused : (fault : PathFault) → IsRefused fault cas (at_place 0 (cert e))
+          → AreRefused (walks_fault fault) cas (map cert all)
+      each_refused NoValidIssuer r = no_path NoValidIssuer r (λ f. cc)
+      each_refused Returns r = no_path Returns r (λ f. cc)
+      each_refused Revoked r = no_path Revoked r (λ f. cc)
+      each_refused (NotCovered family) r = no_path (NotCovered family) r (λ f. cc)
+      each_refused OutOfMemory r = tt
+
+    -- a CA that stands on none
+    pub each_unused : (all : List C) (place : ℕ) → ees ≡ all → place < length cas
+        → slice_index marks place ≡ 0 → AreRefused (Unused place) cas (map cert all)
+    each_unused all place e lt z =
+        let t = some_at cas place lt in (
+          w.paths,
+          t.0,
+          subst (λ l. ArePaths cas (map cert l) w.paths) e w.stand,
+          t.1,
+          λ u. u.2 (w.off place t.0 t.1 z u.0 u.1),
+        )
+      where
+        some_at : (xs : List Cert) (k : ℕ) → k < length xs
+            → (x : Cert) × (slice_get xs k ≡ Some x)
+        some_at [] k l = absurd (omega (arith, l))
+        some_at (x ∷ xs) zero l = (x, refl)
+        some_at (x ∷ xs) (suc k) l = some_at xs k (omega (arith, l))
+
+    pub each_done : (all : List C) → ees ≡ all → length marks ≡ length cas
+        → ((k : ℕ) → k < length marks → slice_index marks k ≢ 0)
+        → AreWalked cert cas (map cert all) kept
+    each_done all e len none = record {
+      paths = w.paths;
+      stand = subst (λ l. ArePaths cas (map cert l) w.paths) e w.stand;
+      first = w.first;
+      used = λ d i.
+          (let t = in_get cas d i in
+          let lt = get_lt cas t.0 d t.1 in
+          w.on t.0 d t.1 (none t.0 (omega (arith, lt, len))));
+      are_kept = w.are_kept;
+    }
+
+-- ---- refused walks have no paths
+
+-- with distinct identifiers there is one list of paths
+same_paths : (cas ees : List Cert) (ps qs : List (List Cert)) → IsDistinct cas
+    → ArePaths cas ees ps → ArePaths cas ees qs → ps ≡ qs
+same_paths cas [] [] [] dist h k = refl
+same_paths cas [] [] (q ∷ qs) dist h k = absurd k
+same_paths cas [] (p ∷ ps) qs dist h k = absurd h
+same_paths cas (e ∷ ees) [] qs dist h k = absurd h
+same_paths cas (e ∷ ees) (p ∷ ps) [] dist h k = absurd k
+same_paths cas (e ∷ ees) (p ∷ ps) (q ∷ qs) dist h k =
+    ap (λ x. x ∷ ps) (unique cas (at_place 0 e) p q dist h.0 k.0)
+    ∙ ap (λ l. q ∷ l) (same_paths cas ees ps qs dist h.2 k.2)
+
+path_of : (cas done : List Cert) (e : Cert) (more : List Cert) (paths : List (List Cert))
+    → ArePaths cas (done ++ e ∷ more) paths
+    → (p : List Cert) × IsPath cas (at_place 0 e) p × IsLinkCovered p
+path_of cas [] e more [] h = absurd h
+path_of cas [] e more (p ∷ paths) h = (p, h.0, h.1)
+path_of cas (d ∷ done) e more [] h = absurd h
+path_of cas (d ∷ done) e more (p ∷ paths) h = path_of cas done e more paths h.2
+
+pub refused_has_no_paths : RefusedHasNoPaths
+refused_has_no_paths (NoPath fault) cas ees paths other dist h stand used =
+    let t = path_of cas h.0 h.1 h.2 paths
+    (subst (λ l. ArePaths cas l paths) h.4 stand) in
+    refused_has_no_path fault cas (at_place 0 h.1) t.0 h.7 dist h.6 t.1 t.2
+refused_has_no_paths (Unused place) cas ees paths other dist h stand used =
+    h.4 (subst (λ l. IsUsed h.1 l) (same_paths cas ees paths h.0 dist stand h.2)
+    (used h.1 (get_in cas place h.1 h.3)))
+refused_has_no_paths Memory cas ees paths other dist h stand used = other refl

@@ -1,0 +1,6 @@
+-- What is kept under all supplies is what the paths earn.
+use Rattle.rpki_paths.proofs.Granting.{yes_is_granted}
+use Rattle.rpki_paths.proofs.laws.yes_is_granted.Goals as goal
+
+pub returns : goal.returns
+returns g c = yes_is_granted g.C.Certificate.cert g.row.F.Denot

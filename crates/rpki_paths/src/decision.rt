@@ -1,0 +1,150 @@
+//! Whether the sets that an attestation names are those of its paths.
+
+ghost use Rattle.std.specs.Prelude.{◌≡◌, ◌↔◌, ℕ, false, IsTrue, IfOk, OnOk, ◌||◌};
+ghost use Rattle.rpki_resources.specs.Blocks.{holds};
+ghost use Rattle.rpki_paths.specs.declared.decision.FinalFault.{FinalFault};
+ghost use Rattle.rpki_paths.specs.declared.family.Family.{Family};
+ghost use Rattle.rpki_paths.specs.Final.{Decides, all_anchored, attested_sets, kept_has, some_has};
+ghost use Rattle.rpki_paths.specs.Final.{union_has};
+
+use crate::kept::Kept;
+use crate::walker::Path;
+use rpki_resources::{Addr, AsBlocks, Asn, Blocks, BlocksBuilder, IpBlocks, Number};
+use std::alloc::{AllocError, Global};
+
+/// The sets that an attestation names.
+#[derive(Clone, Copy)]
+pub struct Attested<'a> {
+    pub asn: &'a AsBlocks,
+    pub v4: &'a IpBlocks,
+    pub v6: &'a IpBlocks,
+}
+
+/// Why attested sets are not granted.
+#[derive(Clone, Copy, Debug, PartialEq, Eq)]
+pub enum FinalFault {
+    /// A path is not anchored.
+    NotAnchored,
+    /// The AS numbers are not those of the paths.
+    AsNumbers,
+    /// The addresses are not those of the paths.
+    Addresses,
+    /// There is no memory for the numbers of the paths.
+    Memory,
+}
+
+impl From<AllocError> for FinalFault {
+    ghost from_gives = { λ _ fault. fault ≡ FinalFault.Memory };
+
+    fn from(_error: AllocError) -> FinalFault {
+        FinalFault::Memory
+    }
+}
+
+/// The numbers of several paths in a family, and whether all of them are known: a path on which all
+/// certificates inherit has numbers that nothing names.
+#[derive(Drop)]
+struct Union<T: Number> {
+    numbers: BlocksBuilder<T>,
+    is_known: bool,
+}
+
+impl<T: Number> Union<T> {
+    // The numbers of no path.
+    fn none(alloc: Global) -> Self
+        ensures { (n : ℕ) → union_has T.number result n ≡ false }
+    {
+        Union {
+            numbers: BlocksBuilder::new(alloc),
+            is_known: true,
+        }
+    }
+
+    // Adds the numbers of a path.
+    fn add(&mut self, kept: &Option<Kept<Blocks<T>>>) -> Result<(), AllocError>
+        ensures { OnOk result ((n : ℕ) → union_has T.number self.new n
+            ≡ (union_has T.number self.old n || kept_has T.number kept.now n)) }
+    {
+        match kept {
+            Some(kept) => self.numbers.push_set(&kept.met),
+            None => {
+                self.is_known = false;
+                Ok(())
+            }
+        }
+    }
+
+    // Whether they are just the numbers of a set.
+    fn equals(self, set: &Blocks<T>) -> Result<bool, AllocError>
+        ensures { IfOk result (λ same. IsTrue same
+            ↔ ((n : ℕ) → holds T.number set.now n ≡ union_has T.number self n)) }
+    {
+        let Union { numbers, is_known } = self;
+        let numbers = numbers.finalize()?;
+        if !is_known {
+            return Ok(false);
+        }
+        Ok(numbers == *set)
+    }
+}
+
+// Whether all of the paths are anchored.
+fn are_anchored<C>(paths: &[Path<C>]) -> bool
+    ensures { result ≡ all_anchored paths.now }
+{
+    paths.iter().all(|path| path.anchored)
+}
+
+/// The numbers of several paths in each family.
+#[derive(Drop)]
+struct Unions {
+    asn: Union<Asn>,
+    v4: Union<Addr>,
+    v6: Union<Addr>,
+}
+
+// The numbers that are kept of the paths.
+fn gathered<C>(alloc: Global, paths: &[Path<C>]) -> Result<Unions, AllocError>
+    ensures asn { IfOk result (λ u. (n : ℕ) →
+        union_has (λ k. k) u.asn n ≡ some_has paths.now Family.As n) }
+    ensures v4 { IfOk result (λ u. (n : ℕ) →
+        union_has (λ k. k) u.v4 n ≡ some_has paths.now Family.V4 n) }
+    ensures v6 { IfOk result (λ u. (n : ℕ) →
+        union_has (λ k. k) u.v6 n ≡ some_has paths.now Family.V6 n) }
+{
+    let mut asn = Union::none(alloc);
+    let mut v4 = Union::none(alloc);
+    let mut v6 = Union::none(alloc);
+    for i in 0..paths.len() {
+        let path = &paths[i];
+        asn.add(&path.sets.asn)?;
+        v4.add(&path.sets.v4)?;
+        v6.add(&path.sets.v6)?;
+    }
+    Ok(Unions { asn, v4, v6 })
+}
+
+/// Tells whether each path is anchored, and each attested set has just the numbers that are kept of
+/// some path. An error is the first that does not hold, or want of memory.
+pub fn finalize<C>(
+    alloc: Global,
+    paths: &[Path<C>],
+    attested: &Attested,
+) -> Result<(), FinalFault>
+    ensures { Decides paths.now (attested_sets attested.now) result }
+{
+    if !are_anchored(paths) {
+        return Err(FinalFault::NotAnchored);
+    }
+    let Unions { asn, v4, v6 } = gathered(alloc, paths)?;
+    if !asn.equals(attested.asn)? {
+        return Err(FinalFault::AsNumbers);
+    }
+    if !v4.equals(attested.v4)? {
+        return Err(FinalFault::Addresses);
+    }
+    if !v6.equals(attested.v6)? {
+        return Err(FinalFault::Addresses);
+    }
+    Ok(())
+}

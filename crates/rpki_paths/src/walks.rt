@@ -1,0 +1,108 @@
+//! Walks from several end-entity certificates up the same CAs.
+
+ghost use Rattle.std.specs.Prelude.{◌≡◌, ◌≢◌, ℕ, ◌+◌, ◌*◌, ◌<◌, ◌≤◌, map, length, slice_index};
+ghost use Rattle.std.specs.Prelude.{IfOk, IfErr, OnOk};
+ghost use Rattle.rpki_paths.specs.declared.walks.WalksFault.{WalksFault};
+ghost use Rattle.rpki_paths.specs.Kept.{AreRefused, AreWalked, walks_fault};
+ghost use Rattle.rpki_paths.specs.Path.{IsDistinct};
+ghost use Rattle.rpki_paths.specs.Walk.{placed};
+
+use crate::asked::Asked;
+use crate::certificate::{Certificate, KeyId};
+use crate::pairs::append;
+use crate::places::Places;
+use crate::walker::{Path, PathFault, walk};
+use std::alloc::{AllocError, Global};
+use std::sync::ledger::Ledger;
+
+/// Why not all end-entity certificates have paths on which all CAs stand.
+#[derive(Clone, Copy, Debug, PartialEq, Eq)]
+pub enum WalksFault {
+    /// An end-entity certificate has no path.
+    NoPath(PathFault),
+    /// The CA at this place stands on no path.
+    Unused(usize),
+    /// There is no memory for the paths.
+    Memory,
+}
+
+impl WalksFault {
+    // The cause for several walks, from that of one.
+    fn from_path(fault: PathFault) -> WalksFault
+        ensures { result ≡ walks_fault fault }
+    {
+        match fault {
+            PathFault::NoValidIssuer => WalksFault::NoPath(PathFault::NoValidIssuer),
+            PathFault::Returns => WalksFault::NoPath(PathFault::Returns),
+            PathFault::Revoked => WalksFault::NoPath(PathFault::Revoked),
+            PathFault::NotCovered(family) => WalksFault::NoPath(PathFault::NotCovered(family)),
+            PathFault::Memory => WalksFault::Memory,
+        }
+    }
+}
+
+impl From<AllocError> for WalksFault {
+    ghost from_gives = { λ _ fault. fault ≡ WalksFault.Memory };
+
+    fn from(_error: AllocError) -> WalksFault {
+        WalksFault::Memory
+    }
+}
+
+// The subject key identifiers of certificates.
+fn subjects<C: Certificate>(alloc: Global, certs: &[C]) -> Result<Vec<KeyId>, AllocError>
+    ensures { IfOk result (λ ids. ids.items ≡ map (λ c. (C.cert c).ski) certs.now) }
+{
+    let mut ids = Vec::new(alloc);
+    for i in 0..certs.len() {
+        ids.push(certs[i].subject())?;
+    }
+    Ok(ids)
+}
+
+// The place of the first mark that is 0, or how many marks there are.
+fn unmarked(marks: &[u64]) -> usize
+    ensures before { (k : ℕ) → k < result → slice_index marks.now k ≢ 0 }
+    ensures found { result < length marks.now → slice_index marks.now result ≡ 0 }
+{
+    for (i, mark) in marks.iter().enumerate() {
+        if *mark == 0 {
+            return i;
+        }
+    }
+    marks.len()
+}
+
+/// Walks from each of some end-entity certificates up the CAs, in order. The first that has no path
+/// ends the call with the cause; then a CA that stands on no path is an error, or want of memory.
+/// Among CAs with distinct identifiers each walk asks for at most one verdict of each CA.
+pub fn walk_each<C: Certificate, L: Ledger>(
+    alloc: Global,
+    ees: &[C],
+    cas: &[C],
+    asked: &mut Asked<L>,
+) -> Result<Vec<Path<C>>, WalksFault>
+    ensures paths { IfOk result (λ paths.
+        AreWalked C.cert (placed C.cert 1 cas.now) (map C.cert ees.now) paths.items) }
+    ensures refused { IfErr result (λ fault.
+        AreRefused fault (placed C.cert 1 cas.now) (map C.cert ees.now)) }
+    ensures cost { OnOk result (IsDistinct (placed C.cert 1 cas.now) →
+        asked.new ≤ asked.old + length ees.now * length cas.now) }
+{
+    let ids = subjects(alloc, cas)?;
+    let index = Places::of(alloc, &ids)?;
+    let mut marks = vec![in alloc; 0u64; cas.len()]?;
+    let mut paths = Vec::new(alloc);
+    for i in 0..ees.len() {
+        let turn = i as u64 + 1;
+        match walk(alloc, &ees[i], cas, &index, &mut marks, turn, asked) {
+            Ok(path) => append(&mut paths, path)?,
+            Err(fault) => return Err(WalksFault::from_path(fault)),
+        }
+    }
+    let place = unmarked(marks.as_slice());
+    if place < cas.len() {
+        return Err(WalksFault::Unused(place));
+    }
+    Ok(paths)
+}
