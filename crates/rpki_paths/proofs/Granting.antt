@@ -87,9 +87,9 @@ module _ {C : Type 0} (cert : C → Cert) where
   not_decided kept attested Memory other h d = other refl
 
   pub undecided_is_refused : (F : Type 0) → UndecidedIsRefused cert F
-  undecided_is_refused F a ees crls walked kept supplies attested fault dist m w other supplied h g =
+  undecided_is_refused F a ees crls walked kept supplies sets fault dist m w other supplied h g =
       let accepted = walks_are_accepted a ees crls walked g.accepted.valid m w in
-      let earned = (grant_is_decided a w.paths supplies attested dist accepted).0 g in
-      not_decided kept attested fault other h
-      ((final_is_decided cert supplies kept w.paths attested
+      let earned = (grant_is_decided a w.paths supplies sets dist accepted).0 g in
+      not_decided kept sets fault other h
+      ((final_is_decided cert supplies kept w.paths sets
       (supplied w.paths w.are_kept)).0 earned)

@@ -13,8 +13,8 @@ use std::sync::ledger::Ledger;
 /// A key identifier: 20 octets (RFC 6487, section 4.8.2).
 pub type KeyId = [u8; 20];
 
-/// A carried certificate and, where it is a CA's, the CRL that is paired with it: a handle, which is
-/// copied.
+/// A carried certificate and, where it is a CA's, the CRL that is paired with it: a handle, which
+/// is copied.
 pub trait Certificate: Copy {
     // What paths see of it.
     ghost cert: { Self → Cert };

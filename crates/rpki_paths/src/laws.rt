@@ -6,7 +6,8 @@ ghost use Rattle.rpki_paths.specs.Laws.{AnyChoicePairs, WhatFitsIsAlike, CrlsAre
 ghost use Rattle.rpki_paths.specs.Laws.{PathsAreThose, AcceptanceIsDecided, GrantIsDecided};
 ghost use Rattle.rpki_paths.specs.Laws.{WalksAreAccepted, RefusedIsNotAccepted, YesIsGranted};
 ghost use Rattle.rpki_paths.specs.Laws.{UnsuppliedIsRefused, UndecidedIsRefused};
-ghost use Rattle.rpki_paths.specs.Laws.{FinalIsDecided, UnanchoredIsRefused, RefusedHasNoPath, RefusedHasNoPaths};
+ghost use Rattle.rpki_paths.specs.Laws.{FinalIsDecided, UnanchoredIsRefused, RefusedHasNoPath};
+ghost use Rattle.rpki_paths.specs.Laws.{RefusedHasNoPaths};
 ghost use Rattle.rpki_paths.specs.Laws.{KeptTellsTakes, FirstFitsArePairing};
 ghost use Rattle.rpki_paths.specs.Laws.{FirstFitsFindPairing, MatchingIsCheap};
 ghost use Rattle.rpki_paths.specs.Pairing.{HasKey, IsVerifiedBy, HasCrl};

@@ -22,9 +22,9 @@ pub fn numbers(alloc: Global, first: u32, last: u32) -> Result<AsBlocks, AllocEr
 }
 
 /// The set of the numbers of these ranges.
-pub fn ranges(alloc: Global, ranges: &[(u32, u32)]) -> Result<AsBlocks, AllocError> {
+pub fn ranges(alloc: Global, given: &[(u32, u32)]) -> Result<AsBlocks, AllocError> {
     let mut builder = AsBlocksBuilder::new(alloc);
-    for (first, last) in ranges {
+    for (first, last) in given {
         if first <= last {
             builder.push(AsBlock::Range(Asn::from_u32(*first), Asn::from_u32(*last)))?;
         }
@@ -159,6 +159,7 @@ pub struct Above {
 }
 
 impl<'a> SuppliedCa<Seen<'a>> for Above {
+    ghost use Rattle.std.specs.Prelude.{◌≡◌};
     ghost use Rattle.rpki_paths_tests.specs.Plain.{sets_of};
 
     ghost ski = { λ s. s.subject };
@@ -174,15 +175,21 @@ impl<'a> SuppliedCa<Seen<'a>> for Above {
         head.0.authority == Some(self.subject) && head.0.signer == self.key
     }
 
-    fn asn(&self) -> &AsBlocks {
+    fn asn(&self) -> &AsBlocks
+        ensures { result.now ≡ self.now.asn }
+    {
         &self.asn
     }
 
-    fn v4(&self) -> &IpBlocks {
+    fn v4(&self) -> &IpBlocks
+        ensures { result.now ≡ self.now.ip }
+    {
         &self.ip
     }
 
-    fn v6(&self) -> &IpBlocks {
+    fn v6(&self) -> &IpBlocks
+        ensures { result.now ≡ self.now.ip }
+    {
         &self.ip
     }
 }

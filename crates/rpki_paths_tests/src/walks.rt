@@ -130,9 +130,9 @@ type Case = (
 );
 
 /// Supplies what is given to paths, and tells whether these numbers are granted.
-fn decided(
+fn decided<'a>(
     alloc: Global,
-    paths: &mut [Path<Seen>],
+    paths: &mut [Path<Seen<'a>>],
     given: &[Given],
     attested: &[(u32, u32)],
 ) -> Result<Answer, AllocError> {
@@ -162,7 +162,8 @@ fn decided(
 
 fn answer_of<L: Ledger>(
     alloc: Global,
-    certs: (&[Row], &[Row]),
+    ees: &[Row],
+    cas: &[Row],
     given: &[Given],
     attested: &[(u32, u32)],
     blank: Blank,
@@ -171,8 +172,8 @@ fn answer_of<L: Ledger>(
     requires parts { blank.parts ≡ L.parts }
     requires some { 0 < blank.parts }
 {
-    let ees = plains(alloc, certs.0)?;
-    let cas = plains(alloc, certs.1)?;
+    let ees = plains(alloc, ees)?;
+    let cas = plains(alloc, cas)?;
     let ees = seen(alloc, &ees)?;
     let cas = seen(alloc, &cas)?;
     let mut asked = Asked::<L>::new(blank);
@@ -186,11 +187,12 @@ fn answer_of<L: Ledger>(
 /// What is answered for these end-entity certificates and CAs, counted by a ledger of its own.
 pub fn answered(
     alloc: Global,
-    certs: (&[Row], &[Row]),
+    ees: &[Row],
+    cas: &[Row],
     given: &[Given],
     attested: &[(u32, u32)],
 ) -> Result<Answer, AllocError> {
-    answer_of::<Brand>(alloc, certs, given, attested, Blank::new(1))
+    answer_of::<Brand>(alloc, ees, cas, given, attested, Blank::new(1))
 }
 
 const TRIM: Overclaim = Overclaim::Trim;
@@ -395,7 +397,7 @@ static CASES: [Case; 22] = [
 
 fn are_answered(alloc: Global) -> Result<bool, AllocError> {
     for (ees, cas, given, attested, want) in &CASES {
-        if answered(alloc, (ees, cas), given, attested)? != *want {
+        if answered(alloc, ees, cas, given, attested)? != *want {
             return Ok(false);
         }
     }
