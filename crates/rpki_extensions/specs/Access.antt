@@ -62,8 +62,8 @@ abbrev pub AuthorityAccessForm : Mode → List ℕ → Option (List ℕ) → Typ
 AuthorityAccessForm mode = Understood IsIssuerAccess (SequenceOf mode (AccessForm mode))
 
 -- Each is the first URI of its method, if there is one: an rsync URI, and for the notification file
--- an https URI (RFC 6487, section 4.8.8; RFC 8182, section 3.2). That the first one counts, and that
--- there may be none, is this project's own rule.
+-- an https URI (RFC 6487, section 4.8.8; RFC 8182, section 3.2). That the first one counts, and
+-- that there may be none, is this project's own rule.
 pub record AreSubjectAccess (list : List Access) (x : SubjectAccess) : Type 0 where
   pub ca_repository : First (IsLocated IsRsync ca_repository) list x.ca_repository
   pub rpki_manifest : First (IsLocated IsRsync rpki_manifest) list x.rpki_manifest

@@ -132,8 +132,8 @@ abbrev pub HasPurposes : Mode → List ℕ → Bool → Type 0
 HasPurposes mode = Made (λ _. true) (PurposesForm mode)
 
 -- What is said of the key. Its identifier and what it is for have to be there (4.8.2, 4.8.4). That
--- the others may be missing is this project's own rule: checks of a certificate tell where they have
--- to be there.
+-- the others may be missing is this project's own rule: checks of a certificate tell where they
+-- have to be there.
 pub record AreKeyFacts (list : List Extension) (x : KeyFacts) : Type 0 where
   pub subject_key : Stated list subject_key_identifier SubjectKeyForm (Some x.subject_key)
   pub authority_key : Stated list authority_key_identifier AuthorityKeyForm x.authority_key
@@ -141,8 +141,8 @@ pub record AreKeyFacts (list : List Extension) (x : KeyFacts) : Type 0 where
   pub usage : Stated list key_usage KeyUsageForm (Some x.usage)
   pub has_purposes : StatedOr false list extended_key_usage HasPurposes x.has_purposes
 
--- Where something lies (4.8.6 to 4.8.8). That each may be missing is this project's own rule: checks
--- of a certificate tell where it has to be there.
+-- Where something lies (4.8.6 to 4.8.8). That each may be missing is this project's own rule:
+-- checks of a certificate tell where it has to be there.
 pub record AreLocations (list : List Extension) (x : Locations) : Type 0 where
   pub crl : Stated list crl_distribution_points PointsForm x.crl
   pub ca_issuer : StatedOr None list authority_info_access AuthorityAccessForm x.ca_issuer

@@ -1,0 +1,3 @@
+pub mod CrlExact
+pub mod ExtensionsExact
+pub mod Kept

@@ -1,0 +1,7 @@
+use Rattle.rpki_crls.proofs.Kept.{kept-there}
+use Rattle.rpki_crls.proofs.crl.take_opt_crl.Goals as goal
+
+pub of-requires : goal.of-requires
+of-requires c =
+    kept-there c.args.cons.now c.in-Some.contents c.in-Ok.captured c.take_opt_kept.new.cons
+    c.holds_octets.ensures (rw c.in-Some.is at c.in-Ok.ensures.reads) c.in-Ok.ensures.mode

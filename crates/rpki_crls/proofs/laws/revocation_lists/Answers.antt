@@ -1,0 +1,7 @@
+use Rattle.rpki_der.specs.Tags.{SEQUENCE}
+use Rattle.rpki_resources.proofs.Readings.{part-reading}
+use Rattle.rpki_crls.proofs.CrlExact.{crl-part}
+use Rattle.rpki_crls.proofs.laws.revocation_lists.Goals as goal
+
+pub returns : goal.returns
+returns c = part-reading crl-part (λ mode o x h. (SEQUENCE, h.1.0, h.1.1))

@@ -1,0 +1,3 @@
+pub mod Crl
+pub mod Entry
+pub mod Extensions

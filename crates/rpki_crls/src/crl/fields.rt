@@ -1,0 +1,74 @@
+//! What a revocation list says, and who signed it.
+
+ghost use Rattle.std.specs.Prelude.{◌≡◌, ◌↔◌, [], ◌∷◌, true, IsTrue, Contains};
+ghost use Rattle.rpki_faults.specs.Checks.{AnswersFirstFault, ◌unless◌};
+
+use crate::crl::Crl;
+use crate::entry::Entry;
+use rpki_basics::{Crypto, KeyIdentifier, Name, PublicKey, Serial, Time};
+use rpki_faults::VerificationError;
+
+impl Crl {
+    /// The name of its issuer (RFC 5280, section 5.1.2.3).
+    pub fn issuer(&self) -> &Name
+        ensures { result.now.octets ≡ self.now.list.tbs.issuer }
+    {
+        &self.contents.tbs.issuer
+    }
+
+    /// When it was made (RFC 5280, section 5.1.2.4).
+    pub fn this_update(&self) -> Time
+        ensures { result ≡ self.now.list.tbs.this_update }
+    {
+        self.contents.tbs.this_update
+    }
+
+    /// Until when the next one is made (RFC 5280, section 5.1.2.5).
+    pub fn next_update(&self) -> Time
+        ensures { result ≡ self.now.list.tbs.next_update }
+    {
+        self.contents.tbs.next_update
+    }
+
+    /// The identifier of its issuer's key (RFC 5280, section 5.2.1).
+    pub fn authority_key_identifier(&self) -> KeyIdentifier
+        ensures { result ≡ self.now.list.tbs.extensions.authority_key }
+    {
+        self.contents.tbs.extensions.authority_key
+    }
+
+    /// Its number (RFC 5280, section 5.2.3).
+    pub fn crl_number(&self) -> Serial
+        ensures { result ≡ self.now.list.tbs.extensions.number }
+    {
+        self.contents.tbs.extensions.number
+    }
+
+    /// Whether it revokes the certificate with this serial number: an entry has it (RFC 5280,
+    /// section 5.1.2.6). All entries are gone through.
+    pub fn contains(&self, serial: Serial) -> bool
+        ensures { IsTrue result ↔ Contains self.now.list.tbs.revoked serial }
+    {
+        self.contents.tbs.revoked.contains(&Entry::new(serial))
+    }
+
+    /// Whether this key signed it (RFC 5280, section 6.3.3). What was signed are the octets as they
+    /// were read.
+    pub fn verify_signature<C: Crypto>(
+        &self,
+        key: &PublicKey,
+        crypto: &C,
+    ) -> Result<(), VerificationError>
+        ensures { AnswersFirstFault
+            ((VerificationError.BadSignature unless
+            (C.is_signed crypto.now key.now self.now.list.signed self.now.list.signature ≡ true))
+            ∷ []) result }
+    {
+        let contents = &self.contents;
+        if crypto.verify(key, contents.signed.as_slice(), &contents.signature) {
+            Ok(())
+        } else {
+            Err(VerificationError::BadSignature)
+        }
+    }
+}

@@ -1,0 +1,10 @@
+//! Revocation lists (RFC 5280, section 5; RFC 6487, section 5): reading, and what they say.
+#![tactic(auto)]
+
+mod crl;
+mod entry;
+mod extensions;
+pub mod laws;
+
+pub use crl::{Crl, CrlEncoder};
+pub use extensions::CrlExtensions;
