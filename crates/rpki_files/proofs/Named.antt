@@ -1,12 +1,12 @@
 -- The files of a list have the names that are asked for.
 use Rattle.std.proofs.Common.{◌≡◌, ℕ, zero, suc, Bool, true, false, cond, List, [], ◌∷◌, Option}
-use Rattle.std.proofs.Common.{Some, None, All, refl, sym, ap, subst, ◌∙◌}
+use Rattle.std.proofs.Common.{Some, None, All, refl, sym, ap, subst}
 use Rattle.std.proofs.lemmas.List.Elements.{All-cons, All-nil}
 use Rattle.rpki_der.specs.Tags.{SEQUENCE}
 use Rattle.rpki_der.specs.declared.mode.Mode.TheVariants.{Der}
-use Rattle.rpki_der.specs.Read.Parse.{Parser, ◌>>=◌, value_at, whole, each, all_of, tested, ia5_at}
+use Rattle.rpki_der.specs.Read.Parse.{Parser, value_at, whole, each, all_of, tested, ia5_at}
 use Rattle.rpki_der.proofs.Reading.Lengths.{bind_some, some_is}
-use Rattle.rpki_lists.specs.Entries.{or_empty, entries_of, AreEntries}
+use Rattle.rpki_lists.specs.Entries.{entries_of, AreEntries}
 use Rattle.rpki_files.specs.Name.{IsFileName, is_file_name}
 use Rattle.rpki_files.specs.File.{File, name_of, name_at, hash_at, file_fields_at, file_at}
 use Rattle.rpki_files.proofs.Names.{name-decides}

@@ -3,7 +3,7 @@ use Rattle.std.proofs.Common.{◌≡◌, ℕ, ◌+◌, ◌-◌, ◌≤◌, ◌<�
 use Rattle.std.proofs.Common.{◌∷◌, ◌++◌, length, take, drop, All, refl, sym, ap, subst, ◌∙◌, arith}
 use Rattle.std.specs.Prelude.{◌&&◌, ◌||◌, ◌==◌, Decides, nat_lt}
 use Rattle.std.specs.List.{list_all}
-use Rattle.std.proofs.lemmas.Bool.{eqb-true, ltb-true, ltb-false, lt-ltb, le-ltb, leb-true}
+use Rattle.std.proofs.lemmas.Bool.{eqb-true, ltb-false, le-ltb, leb-true}
 use Rattle.std.proofs.lemmas.List.{take_at, drop_at, take-append-drop, length-append, length-take-le}
 use Rattle.std.proofs.lemmas.List.Elements.{All-append, All-cons, All-nil}
 use Rattle.rpki_files.specs.Name.{IsFileName, is_file_name, is_ending, is_letter, is_stem, is_from}
@@ -80,7 +80,7 @@ name-complete name h =
     let len : length name ≡ length (h.stem ++ (0x2E ∷ h.ending)) = ap length h.parts in
     let all : length name ≡ length h.stem + 4 =
     omega (arith, len, length-append h.stem (0x2E ∷ h.ending), h.three) in
-    let long : nat_lt (length name) 5 ≡ false = le-ltb 5 (length name) (omega (arith, all, h.some)) in
+    let long : nat_lt (length name) 5 ≡ false = le-ltb _ _ (omega (arith, all, h.some)) in
     let at : length h.stem ≡ length name - 4 = omega (arith, all) in
     let front : take (length name - 4) name ≡ h.stem =
     ap (take (length name - 4)) h.parts ∙ take_at h.stem (0x2E ∷ h.ending) (length name - 4) at in

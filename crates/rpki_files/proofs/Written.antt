@@ -1,7 +1,6 @@
 -- What is written of a manifest is in its form.
-use Rattle.std.proofs.Common.{◌≡◌, ℕ, zero, suc, ◌<◌, ◌≤◌, ◌^◌, List, [], ◌∷◌, ◌++◌, length, All, Option}
-use Rattle.std.proofs.Common.{Some, None, refl, sym, ap, subst, ◌∙◌, arith, lit<}
-use Rattle.std.specs.List.{flat_map}
+use Rattle.std.proofs.Common.{◌≡◌, ℕ, ◌<◌, ◌≤◌, ◌^◌, List, [], ◌∷◌, length, All}
+use Rattle.std.proofs.Common.{None, refl, sym, arith, lit<}
 use Rattle.std.proofs.lemmas.List.{append-nil}
 use Rattle.rpki_basics.specs.declared.limits.ManifestRule.TheVariants.{Any}
 use Rattle.rpki_basics.specs.Moment.{stamp}
@@ -11,13 +10,11 @@ use Rattle.rpki_keys.specs.Algorithm.{sha_256}
 use Rattle.rpki_der.specs.Tags.{SEQUENCE, OBJECT_IDENTIFIER, IA5_STRING, BIT_STRING}
 use Rattle.rpki_der.specs.declared.mode.Mode.TheVariants.{Der}
 use Rattle.rpki_der.specs.Oid.{IsOid}
-use Rattle.rpki_der.specs.Grammar.{ObjectIdentifier, Ia5String, BitString, Within, Items}
+use Rattle.rpki_der.specs.Grammar.{ObjectIdentifier, Items}
 use Rattle.rpki_der.specs.Form.Parts.{SequenceOf}
-use Rattle.rpki_der.specs.Read.Parse.{Parser, ◌>>=◌, all_of, tested}
 use Rattle.rpki_der.specs.Write.Parts.{contents_small, each_small, length_parts}
 use Rattle.rpki_der.specs.Write.Written.{value_octets, bit_string_contents}
 use Rattle.rpki_der.proofs.Reading.Scan.{tag-sound}
-use Rattle.rpki_der.proofs.Reading.Lengths.{bind_some, some_is}
 use Rattle.rpki_der.proofs.Writing.Leaves.{within-written, items-written}
 use Rattle.rpki_der.proofs.Writing.Strings.{bits-whole}
 use Rattle.rpki_files.specs.Name.{IsFileName}

@@ -1,5 +1,6 @@
 -- The files of a manifest. The sections are those of RFC 9286.
 use Rattle.std.specs.Prelude.{◌≡◌, ◌<◌, ◌^◌, ◌++◌, ℕ, List, [], ◌∷◌, length, Some, Bool, true}
+use Rattle.std.specs.List.{list_all}
 use Rattle.std.specs.Prelude.{Option, None, Result, Ok, Err, if◌then◌else◌}
 use Rattle.rpki_basics.specs.declared.limits.ManifestRule.{ManifestRule}
 use Rattle.rpki_basics.specs.declared.limits.ManifestRule.TheVariants.{Any, Registered}

@@ -1,5 +1,5 @@
 -- The content of a manifest. The sections are those of RFC 9286.
-use Rattle.std.specs.Prelude.{◌≡◌, ℕ, ◌≤◌, List, [], ◌∷◌, ◌++◌, Option, Some, None}
+use Rattle.std.specs.Prelude.{ℕ, ◌≤◌, List, [], ◌∷◌, ◌++◌, Option, Some, None}
 use Rattle.std.specs.Prelude.{nat_le, ◌==◌, if◌then◌else◌}
 use Rattle.std.specs.List.{flat_map}
 use Rattle.rpki_basics.specs.declared.limits.ManifestRule.{ManifestRule}
@@ -59,21 +59,44 @@ zero_alone n = if n == 0 then Some tt else None
 abbrev pub version_at : Parser (Unit {0})
 version_at = context_at 0 (partly zero_alone u8_at)
 
--- the fields, one after another
-unfoldable pub fields_at : ManifestRule → Parser Manifest
-fields_at rule mode bytes = do
+-- the number and both updates
+abbrev pub Head : Type 0
+Head = ℕ × Moment × Moment
+
+-- these, where the next update is not before this one
+abbrev pub ordered : ℕ → Moment → Moment → List ℕ → Option (Head × List ℕ)
+ordered number this next rest =
+    if nat_le (stamp this) (stamp next) then Some ((number, this, next), rest) else None
+
+-- the version, the number and both updates
+unfoldable pub head_at : Parser Head
+head_at mode bytes = do
   version ← optional (context 0) version_at mode bytes
   number ← u160_at mode version.1
   this ← time_at mode number.1
   next ← time_at mode this.1
-  if nat_le (stamp this.0) (stamp next.0) then
-      (partly (named sha_256) oid_at mode next.1
-      >>= λ algorithm. (files_at rule mode algorithm.1
-      >>= λ files. Some (
-        record
-            { number = number.0; this_update = this.0; next_update = next.0; files = files.0 },
-        files.1,
-      ))) else None
+  ordered number.0 this.0 next.0 next.1
+
+-- the algorithm and the files
+abbrev pub rest_at : ManifestRule → Head → Parser Manifest
+rest_at rule head mode bytes = do
+  algorithm ← partly (named sha_256) oid_at mode bytes
+  files ← files_at rule mode algorithm.1
+  Some (
+    record {
+      number = head.0;
+      this_update = head.1;
+      next_update = head.2;
+      files = files.0;
+    },
+    files.1,
+  )
+
+-- the fields, one after another
+unfoldable pub fields_at : ManifestRule → Parser Manifest
+fields_at rule mode bytes = do
+  head ← head_at mode bytes
+  rest_at rule head.0 mode head.1
 
 abbrev pub manifest_at : ManifestRule → Parser Manifest
 manifest_at rule = sequence_at (fields_at rule)

@@ -3,7 +3,8 @@
 mod encoder;
 mod read;
 
-ghost use Rattle.std.specs.Prelude.{◌≡◌, ◌↔◌, ◌<◌, ◌≤◌, ◌^◌, length, IsTrue, nat_lt};
+ghost use Rattle.std.specs.Prelude.{◌≡◌, ◌↔◌, ◌<◌, ◌≤◌, ◌^◌, ◌++◌, ℕ, List, Some, length};
+ghost use Rattle.std.specs.Prelude.{IsTrue, nat_lt};
 ghost use Rattle.rpki_basics.specs.Moment.{stamp};
 ghost use Rattle.rpki_basics.specs.declared.limits.ManifestRule.TheVariants.{Any};
 ghost use Rattle.rpki_keys.specs.declared.algorithm.DigestAlgorithm.TheVariants.{Sha256};
@@ -20,7 +21,7 @@ use rpki_basics::{DigestAlgorithm, ManifestRule, Serial, Time};
 use rpki_der::laws::slices_hold_octets;
 use rpki_der::{Constructed, DecodeError};
 use rpki_lists::EntryList;
-use std::alloc::Global;
+use std::alloc::{AllocError, Global};
 use std::marker::Model;
 
 /// Which files a publication point holds, and until when that is said.
@@ -47,6 +48,19 @@ impl Model for ManifestContent {
     } };
 
     ghost invariant = { λ m. stamp m.this_update ≤ stamp m.next_update };
+}
+
+impl Clone for ManifestContent {
+    ghost is_clone = { λ m copy. copy ≡ m };
+
+    fn clone(&self) -> Result<ManifestContent, AllocError> {
+        Ok(ManifestContent {
+            number: self.number,
+            this_update: self.this_update,
+            next_update: self.next_update,
+            files: self.files.clone()?,
+        })
+    }
 }
 
 impl ManifestContent {
@@ -143,6 +157,8 @@ impl ManifestContent {
         ensures value { result ≡ self.now }
         ensures written { length (manifest_octets self.now) < 2 ^ 32
             → ManifestForm Any Der (manifest_octets self.now) self.now }
+        ensures read { length (manifest_octets self.now) < 2 ^ 32 → (rest : List ℕ)
+            → manifest_at Any Der (manifest_octets self.now ++ rest) ≡ Some (self.now, rest) }
     {
         // The proof takes from these calls that each field is written in its form.
         let _ = self.number.encode_ref();

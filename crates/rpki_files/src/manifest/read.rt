@@ -1,13 +1,13 @@
 //! Reading a content.
 
-ghost use Rattle.std.specs.Prelude.{◌≡◌, ◌↔◌, ◌≤◌, IsTrue, nat_le};
+ghost use Rattle.std.specs.Prelude.{◌≡◌, ◌↔◌, ◌≤◌, IfOk, IsTrue, nat_le};
 ghost use Rattle.rpki_basics.specs.Moment.{stamp};
 ghost use Rattle.rpki_keys.specs.Algorithm.{named, sha_256};
 ghost use Rattle.rpki_der.specs.declared.mode.Mode.TheVariants.{Der};
 ghost use Rattle.rpki_der.specs.Read.Parse.{u8_at, oid_at};
 ghost use Rattle.rpki_der.specs.Read.Reads.{Found, Reads, Stays};
 ghost use Rattle.rpki_der.specs.Form.Made.{partly};
-ghost use Rattle.rpki_files.specs.Manifest.{zero_alone, fields_at, manifest_at};
+ghost use Rattle.rpki_files.specs.Manifest.{zero_alone, head_at, fields_at, manifest_at};
 
 use crate::files::take_files;
 use crate::manifest::ManifestContent;
@@ -50,6 +50,23 @@ fn are_in_order(this_update: Time, next_update: Time) -> bool
     this_update <= next_update
 }
 
+// Reads the version, the number and both updates.
+#[tactic(auto, unfolding(crate::specs::Manifest::head_at))]
+fn take_head(cons: &mut Constructed<'_>) -> Result<(Serial, Time, Time), DecodeError>
+    ensures reads { Reads (λ head. head) head_at cons.old result cons.new }
+    ensures order { IfOk result (λ head. stamp head.1 ≤ stamp head.2) }
+{
+    cons.take_opt_constructed_if(Tag::CTX_0, take_version)?;
+    let number = Serial::take_from(cons)?;
+    let this_update = Time::take_from(cons)?;
+    let next_update = Time::take_from(cons)?;
+    if are_in_order(this_update, next_update) {
+        Ok((number, this_update, next_update))
+    } else {
+        Err(cons.refuse_for(Reason::UpdatesNotInOrder))
+    }
+}
+
 // Reads the fields, one after another.
 #[tactic(auto, unfolding(crate::specs::Manifest::fields_at))]
 fn take_fields(
@@ -59,13 +76,7 @@ fn take_fields(
 ) -> Result<ManifestContent, DecodeError>
     ensures { Reads (λ m. m) (fields_at rule) cons.old result cons.new }
 {
-    cons.take_opt_constructed_if(Tag::CTX_0, take_version)?;
-    let number = Serial::take_from(cons)?;
-    let this_update = Time::take_from(cons)?;
-    let next_update = Time::take_from(cons)?;
-    if !are_in_order(this_update, next_update) {
-        return Err(cons.refuse_for(Reason::UpdatesNotInOrder));
-    }
+    let (number, this_update, next_update) = take_head(cons)?;
     take_algorithm(cons)?;
     let files = take_files(alloc, cons, rule)?;
     Ok(ManifestContent {

@@ -1,9 +1,10 @@
-use Rattle.std.proofs.Common.{ℕ, ◌<◌, ◌^◌, List, All, length, subst}
+use Rattle.std.proofs.Common.{◌<◌, ◌^◌, List, All, length, subst}
 use Rattle.rpki_basics.specs.declared.limits.ManifestRule.TheVariants.{Any}
 use Rattle.rpki_der.specs.declared.mode.Mode.TheVariants.{Der}
 use Rattle.rpki_files.specs.Name.{IsFileName}
 use Rattle.rpki_files.specs.File.{File}
 use Rattle.rpki_files.specs.Manifest.{Manifest, ManifestForm, manifest_octets}
+use Rattle.rpki_files.proofs.Exact.{manifest-part}
 use Rattle.rpki_files.proofs.Named.{files-named}
 use Rattle.rpki_files.proofs.Written.{manifest-written}
 use Rattle.rpki_files.proofs.manifest.ManifestContent.encode_ref.Goals as goal
@@ -22,3 +23,8 @@ returns-clause-written c =
     → ManifestForm Any Der (manifest_octets m) m) c.self.view_is
     (manifest-written m c.encode_ref.ensures.written c.encode_generalized.ensures.written
     c.encode_generalized-2.ensures.written c.self.invariant named)
+
+pub returns-clause-read : goal.returns-clause-read
+returns-clause-read c = λ short rest.
+    ((manifest-part Any).exact Der).complete (manifest_octets c.args.self.now) c.args.self.now rest
+    tt (returns-clause-written c short)
