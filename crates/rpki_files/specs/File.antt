@@ -52,18 +52,22 @@ MeetsRule Registered files =
 
 -- ---- as functions
 
+-- the name of a file
 abbrev pub name_at : Parser (List ℕ)
 name_at = tested is_file_name ia5_at
 
+-- the hash of a file
 abbrev pub hash_at : Parser (List ℕ)
 hash_at = made (λ bits. bits.0) bits_at
 
+-- the name and the hash, one after the other
 unfoldable pub file_fields_at : Parser File
 file_fields_at mode bytes = do
   name ← name_at mode bytes
   hash ← hash_at mode name.1
   Some (record { file = name.0; hash = hash.0 }, hash.1)
 
+-- a file
 abbrev pub file_at : Parser File
 file_at = sequence_at file_fields_at
 
@@ -92,6 +96,7 @@ Takes view p old (Err e) new = p Der old ≡ None
 
 -- ---- as octets
 
+-- what stands in the SEQUENCE of a file
 abbrev pub file_contents : File → List ℕ
 file_contents f =
     value_octets IA5_STRING f.file ++ value_octets BIT_STRING (bit_string_contents f.hash 0)
@@ -100,11 +105,13 @@ file_contents f =
 abbrev pub file_octets : File → List ℕ
 file_octets f = value_octets SEQUENCE (file_contents f)
 
+-- Each contents in a file has fewer than 2^32 octets.
 abbrev pub is_short_file : File → Type 0
 is_short_file f =
     ((length f.file < 2 ^ 32) × (length (bit_string_contents f.hash 0) < 2 ^ 32))
     × (length (file_contents f) < 2 ^ 32)
 
+-- where a file has few octets, each contents in it has
 pub file-small : (f : File) → length (file_octets f) < 2 ^ 32 → is_short_file f
 file-small f h =
     let c = contents_small SEQUENCE (file_contents f) h in (

@@ -56,6 +56,7 @@ ManifestForm rule mode octets m = Sequence mode (
 abbrev pub zero_alone : ℕ → Option (Unit {0})
 zero_alone n = if n == 0 then Some tt else None
 
+-- the version
 abbrev pub version_at : Parser (Unit {0})
 version_at = context_at 0 (partly zero_alone u8_at)
 
@@ -98,6 +99,7 @@ fields_at rule mode bytes = do
   head ← head_at mode bytes
   rest_at rule head.0 mode head.1
 
+-- a content
 abbrev pub manifest_at : ManifestRule → Parser Manifest
 manifest_at rule = sequence_at (fields_at rule)
 
@@ -107,6 +109,7 @@ manifest_at rule = sequence_at (fields_at rule)
 abbrev pub files_octets : List File → List ℕ
 files_octets files = flat_map file_octets files
 
+-- what stands in the SEQUENCE of a content
 abbrev pub manifest_contents : Manifest → List ℕ
 manifest_contents m =
     serial_octets m.number ++ (generalized_octets m.this_update
