@@ -147,12 +147,11 @@ fn a_thousand_entries(rt: HostRuntime) -> Result<(), AllocError> {
         Err(_) => assert!(rt; false),
         Ok(list) => {
             assert!(rt; list.len() == 1000 && !list.is_empty());
-            let mut n = 0;
-            for found in in_order(&list) {
-                assert!(rt; found == (4 + n / 250) * 256 + n % 250);
-                n += 1;
+            let mut rest = in_order(&list);
+            for n in 0..1000u32 {
+                assert!(rt; rest.next() == Some((4 + n / 250) * 256 + n % 250));
             }
-            assert!(rt; n == 1000);
+            assert!(rt; rest.next().is_none());
         }
     }
     Ok(())
