@@ -1,0 +1,3 @@
+pub mod Name
+pub mod File
+pub mod Manifest

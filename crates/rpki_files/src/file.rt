@@ -1,0 +1,79 @@
+//! An entry of a manifest.
+
+ghost use Rattle.std.specs.Prelude.{◌≡◌, MatchResult};
+ghost use Rattle.rpki_der.specs.Tags.{SEQUENCE};
+ghost use Rattle.rpki_files.specs.Name.{IsFileName};
+
+use crate::name::is_file_name;
+use bytes::Bytes;
+use rpki_der::AsOctets;
+use rpki_der::encode::{Bits, Raw, Value, bit_string, ia5, sequence};
+
+/// The name of a file and its hash (RFC 9286, section 4.2).
+#[derive(Debug, Drop)]
+pub struct FileAndHash<F, H> {
+    pub file: F,
+    pub hash: H,
+}
+
+/// What writes an entry: SEQUENCE { IA5String, BIT STRING without unused bits }.
+pub type FileEncoder<'a> = Value<(Value<Raw<'a>>, Value<Bits<'a>>)>;
+
+impl<F, H> FileAndHash<F, H> {
+    /// An entry of this name and this hash.
+    pub fn new(file: F, hash: H) -> FileAndHash<F, H>
+        ensures { result ≡ record { file = file; hash = hash } }
+    {
+        FileAndHash { file, hash }
+    }
+
+    /// The name of the file.
+    pub fn file(&self) -> &F
+        ensures { result.now ≡ self.now.file }
+    {
+        &self.file
+    }
+
+    /// The hash of the file.
+    pub fn hash(&self) -> &H
+        ensures { result.now ≡ self.now.hash }
+    {
+        &self.hash
+    }
+
+    /// The name and the hash.
+    pub fn into_pair(self) -> (F, H)
+        ensures { result ≡ (self.file, self.hash) }
+    {
+        (self.file, self.hash)
+    }
+}
+
+impl<F: AsOctets, H: AsOctets> FileAndHash<F, H> {
+    /// The entry, to be written, whatever its octets are. The hash has no unused bits.
+    pub fn encode_ref(&self) -> FileEncoder<'_>
+        ensures tag { result.tag.octet ≡ SEQUENCE }
+        ensures file { result.contents.0.contents.0.now ≡ F.meaning self.now.file }
+        ensures hash { result.contents.1.contents.octets.now ≡ H.meaning self.now.hash }
+        ensures unused { result.contents.1.contents.unused ≡ 0 }
+    {
+        sequence((
+            ia5(self.file.as_octets()),
+            bit_string(self.hash.as_octets(), 0),
+        ))
+    }
+}
+
+impl FileAndHash<Bytes, Bytes> {
+    /// Whether octets are the name of a file in a manifest: one or more letters, digits, `-` and
+    /// `_`, a dot and three letters (RFC 9286, section 4.2.2).
+    pub fn validate_file_name(name: &[u8]) -> Result<(), &'static str>
+        ensures { MatchResult result (λ _. IsFileName name.now) (λ _. IsFileName name.now → ⊥) }
+    {
+        if is_file_name(name) {
+            Ok(())
+        } else {
+            Err("not the name of a file in a manifest")
+        }
+    }
+}

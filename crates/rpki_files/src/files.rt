@@ -1,0 +1,224 @@
+//! The files of a manifest, as entries of a list.
+
+ghost use Rattle.std.specs.Prelude.{◌≡◌, IfOk};
+ghost use Rattle.rpki_der.specs.Read.Reads.{Reads, Stays};
+ghost use Rattle.rpki_der.specs.Form.Keyed.{are_distinct};
+ghost use Rattle.rpki_files.specs.File.{Takes, name_of, name_at, hash_at, file_at, files_at};
+ghost use Rattle.rpki_files.specs.File.{is_unrepeated};
+
+use crate::file::{FileAndHash, FileEncoder};
+use crate::name::{is_allowed, is_file_name};
+use bytes::Bytes;
+use rpki_basics::ManifestRule;
+use rpki_der::encode::{bit_string, ia5, sequence};
+use rpki_der::{Constructed, DecodeError, Reason};
+use rpki_lists::{
+    Entry, EntryIter, EntryList, Kind, Refused, Rule, SliceReader, Written, take_list,
+};
+use std::alloc::{AllocError, Global};
+use std::collections::BTreeSet;
+use std::marker::PhantomData;
+
+// An entry whose parts lie in a slice.
+type FileSlices<'a> = FileAndHash<&'a [u8], &'a [u8]>;
+
+// Reads the name in front.
+#[tactic(auto, unfolding(rpki_der::specs::Read::Parse::tested))]
+fn take_name<'a>(reader: &mut SliceReader<'a>) -> Result<&'a [u8], Refused>
+    ensures { Takes (λ n. n.now) name_at reader.old result reader.new }
+{
+    let Some(name) = reader.take_ia5() else {
+        return Err(Refused::Malformed);
+    };
+    if is_file_name(name) {
+        Ok(name)
+    } else {
+        Err(Refused::For(Reason::BadManifestName))
+    }
+}
+
+// Reads the hash in front.
+fn take_hash<'a>(reader: &mut SliceReader<'a>) -> Result<&'a [u8], Refused>
+    ensures { Takes (λ h. h.now) hash_at reader.old result reader.new }
+{
+    match reader.take_bits() {
+        Some(bits) => Ok(bits.octets),
+        None => Err(Refused::Malformed),
+    }
+}
+
+// Reads the file in front.
+#[tactic(auto, unfolding(crate::specs::File::file_fields_at))]
+fn take_file<'a>(reader: &mut SliceReader<'a>) -> Result<FileSlices<'a>, Refused>
+    ensures { Takes (λ f. record { file = f.file.now; hash = f.hash.now }) file_at
+        reader.old result reader.new }
+{
+    let Some(mut fields) = reader.take_sequence() else {
+        return Err(Refused::Malformed);
+    };
+    let file = take_name(&mut fields)?;
+    let hash = take_hash(&mut fields)?;
+    match fields.close(FileAndHash { file, hash }) {
+        Some(file) => Ok(file),
+        None => Err(Refused::Malformed),
+    }
+}
+
+/// The files of a manifest, as a kind of entries.
+#[derive(Drop, Debug)]
+pub struct Files;
+
+impl Kind for Files {
+    ghost use Rattle.rpki_der.specs.Tags.{SEQUENCE};
+    ghost use Rattle.rpki_der.specs.declared.mode.Mode.TheVariants.{Der};
+    ghost use Rattle.rpki_der.proofs.Reading.Many.{in_value-shorter};
+    ghost use Rattle.rpki_files.specs.File.{file_at, file_fields_at};
+
+    type Shown = FileAndHash<Bytes, Bytes>;
+
+    ghost entry_at = { file_at };
+
+    ghost shrinks = { λ b x r e. in_value-shorter SEQUENCE file_fields_at Der b x r e };
+
+    fn skip(reader: &mut SliceReader<'_>) -> Result<(), Refused> {
+        match take_file(reader) {
+            Ok(_) => Ok(()),
+            Err(refused) => Err(refused),
+        }
+    }
+}
+
+/// A file of a manifest, in a slice.
+#[derive(Drop)]
+pub struct FileEntry<'a>(PhantomData<&'a [u8]>);
+
+impl<'a> Entry for FileEntry<'a> {
+    type Kind = Files;
+
+    type Item = FileAndHash<&'a [u8], &'a [u8]>;
+
+    type Reader = SliceReader<'a>;
+
+    ghost slice = { λ r. r };
+
+    ghost shown = { λ f. record { file = f.file.now; hash = f.hash.now } };
+
+    fn is_end(reader: &SliceReader<'a>) -> bool {
+        reader.is_empty()
+    }
+
+    fn read(reader: &mut SliceReader<'a>) -> Option<FileAndHash<&'a [u8], &'a [u8]>> {
+        match take_file(reader) {
+            Ok(file) => Some(file),
+            Err(_) => None,
+        }
+    }
+}
+
+impl<'a> Written for FileEntry<'a> {
+    ghost use Rattle.rpki_files.specs.File.{file_octets, is_short_file, file-small};
+
+    type Encoder = FileEncoder<'a>;
+
+    ghost octets = { file_octets };
+
+    ghost is_short = { is_short_file };
+
+    ghost small = { file-small };
+
+    fn encoder(file: FileAndHash<&'a [u8], &'a [u8]>) -> FileEncoder<'a> {
+        sequence((ia5(file.file), bit_string(file.hash, 0)))
+    }
+
+    fn again(reader: &SliceReader<'a>) -> SliceReader<'a> {
+        reader.again()
+    }
+}
+
+/// The files of a manifest that are still to come, in order: names and hashes that lie in its
+/// octets.
+pub type FileListIter<'a> = EntryIter<FileEntry<'a>>;
+
+/// The rule of a caller over the names of files.
+#[derive(Drop)]
+pub struct NamesBy {
+    pub rule: ManifestRule,
+}
+
+impl Rule for NamesBy {
+    ghost use Rattle.rpki_files.specs.File.{names_by};
+
+    type Kind = Files;
+
+    ghost after = { names_by };
+
+    fn pass(&mut self, reader: &mut SliceReader<'_>) -> Result<(), Refused> {
+        match take_file(reader) {
+            Ok(file) => {
+                if is_allowed(self.rule, file.file) {
+                    Ok(())
+                } else {
+                    Err(Refused::For(Reason::FileTypeNotRegistered))
+                }
+            }
+            Err(refused) => Err(refused),
+        }
+    }
+}
+
+/// The files of a list, in order.
+pub fn files_of(list: &EntryList<Files>) -> FileListIter<'_>
+    ensures { result ≡ list.now }
+{
+    EntryIter::of(list.reader())
+}
+
+// Whether no two of the files have the same name, after one look-up in an ordered set for each.
+#[tactic(auto, using(crate::proofs::Distinct::seen_all))]
+fn are_distinct(alloc: Global, files: FileListIter<'_>) -> Result<bool, AllocError>
+    ensures { IfOk result (λ b. b ≡ are_distinct name_of files.entry) }
+{
+    let mut files = files;
+    let mut seen = BTreeSet::new(alloc);
+    while let Some(file) = files.next() {
+        if !seen.insert(file.file)? {
+            return Ok(false);
+        }
+    }
+    Ok(true)
+}
+
+// Whether no name stands twice, where the rule asks for it.
+fn is_unrepeated(
+    alloc: Global,
+    rule: ManifestRule,
+    files: &EntryList<Files>,
+) -> Result<bool, AllocError>
+    ensures { IfOk result (λ b. b ≡ is_unrepeated rule files.now) }
+{
+    match rule {
+        ManifestRule::Any => Ok(true),
+        ManifestRule::Registered => are_distinct(alloc, files_of(files)),
+    }
+}
+
+/// Reads the list of files (RFC 9286, section 4.2). A name of another form is refused by
+/// `BadManifestName`, a type that is not registered and a name that comes twice, where the rule
+/// asks for that, by `FileTypeNotRegistered` and `FileNameTwice`, all else by `Malformed`;
+/// `Memory` may come too.
+#[tactic(auto, unfolding(rpki_der::specs::Read::Parse::tested))]
+pub fn take_files(
+    alloc: Global,
+    cons: &mut Constructed<'_>,
+    rule: ManifestRule,
+) -> Result<EntryList<Files>, DecodeError>
+    ensures reads { Reads (λ l. l) (files_at rule) cons.old result cons.new }
+    ensures stays { Stays result cons.new }
+{
+    let files = take_list(cons, NamesBy { rule })?;
+    match is_unrepeated(alloc, rule, &files) {
+        Ok(true) => Ok(files),
+        Ok(false) => Err(cons.refuse_for(Reason::FileNameTwice)),
+        Err(_) => Err(cons.fail(DecodeError::Memory)),
+    }
+}

@@ -1,0 +1,31 @@
+//! What the definitions of files and manifests say: laws, as functions that do nothing.
+
+ghost use Rattle.std.specs.Prelude.{◌≡◌, ◌<◌, ◌^◌, ◌++◌, ℕ, List, Some, Decides, length};
+ghost use Rattle.rpki_basics.specs.declared.limits.ManifestRule.{ManifestRule};
+ghost use Rattle.rpki_basics.specs.declared.limits.ManifestRule.TheVariants.{Any, Registered};
+ghost use Rattle.rpki_der.specs.Tags.{SEQUENCE};
+ghost use Rattle.rpki_der.specs.declared.mode.Mode.{Mode};
+ghost use Rattle.rpki_der.specs.Read.Exact.{IsReading};
+ghost use Rattle.rpki_files.specs.Name.{IsFileName, is_file_name};
+ghost use Rattle.rpki_files.specs.File.{FileForm, file_at};
+ghost use Rattle.rpki_files.specs.Manifest.{Manifest, ManifestForm, manifest_at};
+
+/// What the name of a file is (RFC 9286, section 4.2.2).
+pub fn file_names()
+    ensures { (name : List ℕ) → Decides (is_file_name name) (IsFileName name) }
+{}
+
+/// A file and a manifest are read exactly, they are unique, and DER is a part of BER (RFC 9286,
+/// section 4.2).
+pub fn manifests()
+    ensures file { IsReading file_at FileForm }
+    ensures manifest { (rule : ManifestRule)
+        → IsReading (manifest_at rule) (ManifestForm rule) }
+{}
+
+/// What is taken where types have to be registered and no name may come twice, is taken with the
+/// same record where not.
+pub fn registered_is_any()
+    ensures { (mode : Mode) (octets : List ℕ) (m : Manifest)
+        → ManifestForm Registered mode octets m → ManifestForm Any mode octets m }
+{}

@@ -1,0 +1,111 @@
+//! Reading a content.
+
+ghost use Rattle.std.specs.Prelude.{◌≡◌, ◌↔◌, ◌≤◌, IfOk, IsTrue, nat_le};
+ghost use Rattle.rpki_basics.specs.Moment.{stamp};
+ghost use Rattle.rpki_keys.specs.Algorithm.{named, sha_256};
+ghost use Rattle.rpki_der.specs.declared.mode.Mode.TheVariants.{Der};
+ghost use Rattle.rpki_der.specs.Read.Parse.{u8_at, oid_at};
+ghost use Rattle.rpki_der.specs.Read.Reads.{Found, Reads, Stays};
+ghost use Rattle.rpki_der.specs.Form.Made.{partly};
+ghost use Rattle.rpki_files.specs.Manifest.{zero_alone, head_at, fields_at, manifest_at};
+
+use crate::files::take_files;
+use crate::manifest::ManifestContent;
+use bytes::Bytes;
+use rpki_basics::{ManifestRule, Serial, Time};
+use rpki_der::{Constructed, DecodeError, Mode, Reason, Tag};
+use std::alloc::Global;
+
+// SHA-256 (RFC 5754, section 2.2).
+const SHA_256: [u8; 9] = [0x60, 0x86, 0x48, 0x01, 0x65, 0x03, 0x04, 0x02, 0x01];
+
+// Reads the number of the version, which is 0.
+fn take_version(cons: &mut Constructed<'_>) -> Result<(), DecodeError>
+    ensures { Reads (λ u. u) (partly zero_alone u8_at) cons.old result cons.new }
+{
+    if cons.take_u8()? == 0 {
+        Ok(())
+    } else {
+        Err(cons.refuse_for(Reason::WrongVersion))
+    }
+}
+
+// Reads the algorithm of the hashes, SHA-256.
+fn take_algorithm(cons: &mut Constructed<'_>) -> Result<(), DecodeError>
+    ensures { Reads (λ u. u) (partly (named sha_256) oid_at) cons.old result cons.new }
+{
+    let oid = cons.take_oid()?;
+    if oid.as_slice() == &SHA_256[..] {
+        Ok(())
+    } else {
+        Err(cons.refuse_for(Reason::UnknownAlgorithm))
+    }
+}
+
+// Whether the next update is not before this one.
+fn are_in_order(this_update: Time, next_update: Time) -> bool
+    ensures test { result ≡ nat_le (stamp this_update) (stamp next_update) }
+    ensures order { IsTrue result ↔ (stamp this_update ≤ stamp next_update) }
+{
+    this_update <= next_update
+}
+
+// Reads the version, the number and both updates.
+#[tactic(auto, unfolding(crate::specs::Manifest::head_at))]
+fn take_head(cons: &mut Constructed<'_>) -> Result<(Serial, Time, Time), DecodeError>
+    ensures reads { Reads (λ head. head) head_at cons.old result cons.new }
+    ensures order { IfOk result (λ head. stamp head.1 ≤ stamp head.2) }
+{
+    cons.take_opt_constructed_if(Tag::CTX_0, take_version)?;
+    let number = Serial::take_from(cons)?;
+    let this_update = Time::take_from(cons)?;
+    let next_update = Time::take_from(cons)?;
+    if are_in_order(this_update, next_update) {
+        Ok((number, this_update, next_update))
+    } else {
+        Err(cons.refuse_for(Reason::UpdatesNotInOrder))
+    }
+}
+
+// Reads the fields, one after another.
+#[tactic(auto, unfolding(crate::specs::Manifest::fields_at))]
+fn take_fields(
+    alloc: Global,
+    cons: &mut Constructed<'_>,
+    rule: ManifestRule,
+) -> Result<ManifestContent, DecodeError>
+    ensures { Reads (λ m. m) (fields_at rule) cons.old result cons.new }
+{
+    let (number, this_update, next_update) = take_head(cons)?;
+    take_algorithm(cons)?;
+    let files = take_files(alloc, cons, rule)?;
+    Ok(ManifestContent {
+        number,
+        this_update,
+        next_update,
+        files,
+    })
+}
+
+/// Reads a content.
+pub fn take_manifest(
+    alloc: Global,
+    cons: &mut Constructed<'_>,
+    rule: ManifestRule,
+) -> Result<ManifestContent, DecodeError>
+    ensures reads { Reads (λ m. m) (manifest_at rule) cons.old result cons.new }
+    ensures stays { Stays result cons.new }
+{
+    cons.take_sequence(|cons| take_fields(alloc, cons, rule))
+}
+
+/// Reads the content at the front.
+pub fn read_front(
+    alloc: Global,
+    source: Bytes,
+    rule: ManifestRule,
+) -> Result<ManifestContent, DecodeError>
+    ensures { Found (λ m. m) (manifest_at rule Der source) result }
+{
+    Constructed::decode(source, Mode::Der, |cons| take_manifest(alloc, cons, rule))
+}

@@ -1,0 +1,6 @@
+pub mod Lists
+pub mod Counting
+pub mod Exact
+pub mod OctetsInDer
+pub mod Taking
+pub mod Writing

@@ -1,0 +1,53 @@
+//! Entries that are still to come.
+
+ghost use Rattle.std.specs.Prelude.{◌≡◌};
+ghost use Rattle.rpki_lists.specs.Entries.{AreEntries, entries_of};
+
+use crate::kind::Entry;
+use std::marker::Model;
+
+/// The entries that are still to come, in order. It borrows the octets, reads one entry for each
+/// `next`, and takes no memory.
+#[derive(Drop)]
+pub struct EntryIter<E: Entry> {
+    pub(crate) reader: E::Reader,
+}
+
+impl<E: Entry> Model for EntryIter<E> {
+    ghost use Rattle.std.specs.Prelude.{ℕ, List};
+    ghost use Rattle.rpki_lists.specs.Entries.{AreEntries, entries_of};
+
+    ghost Value = { List E.Kind.Shown };
+
+    ghost view = { λ i. entries_of E.Kind.entry_at (E.slice i.reader) };
+
+    ghost invariant = { λ i. AreEntries E.Kind.entry_at (E.slice i.reader) };
+}
+
+impl<E: Entry> EntryIter<E> {
+    /// The entries of this reader.
+    pub fn of(reader: E::Reader) -> EntryIter<E>
+        requires { AreEntries E.Kind.entry_at (E.slice reader) }
+        ensures { result ≡ entries_of E.Kind.entry_at (E.slice reader) }
+    {
+        EntryIter { reader }
+    }
+}
+
+impl<E: Entry> Iterator for EntryIter<E> {
+    type Item = E::Item;
+
+    ghost use Rattle.std.specs.Iterator.{YieldsFirstBy, item_count};
+
+    ghost next_gives = { YieldsFirstBy E.shown (λ rest. rest) };
+
+    ghost remaining = { item_count (λ rest. rest) };
+
+    fn next(&mut self) -> Option<E::Item> {
+        if E::is_end(&self.reader) {
+            None
+        } else {
+            E::read(&mut self.reader)
+        }
+    }
+}

@@ -1,0 +1,62 @@
+//! Kinds of entries, and how they are read from a slice.
+
+ghost use Rattle.std.specs.Prelude.{◌≡◌, ◌↔◌, ℕ, List, length, IsTrue};
+ghost use Rattle.rpki_der.specs.Read.Parse.{Parser};
+ghost use Rattle.rpki_lists.specs.Slice.{TakesFront};
+ghost use Rattle.rpki_lists.specs.Entries.{PassesFront, Shrinks};
+
+use crate::slice::SliceReader;
+use rpki_der::Reason;
+
+/// Why an entry is refused.
+#[derive(Clone, Copy, Debug)]
+pub enum Refused {
+    /// The octets don't begin with an entry.
+    Malformed,
+    /// A rule of the format is broken.
+    For(Reason),
+}
+
+/// A kind of entries.
+pub trait Kind {
+    /// What an entry says.
+    type Shown;
+
+    // What reads an entry.
+    ghost entry_at: { Parser Self.Shown };
+
+    /// Goes past the entry in front, if there is one.
+    fn skip(reader: &mut SliceReader<'_>) -> Result<(), Refused>
+        ensures { PassesFront entry_at reader.old result reader.new };
+
+    // Each has an octet at least.
+    ghost shrinks: { Shrinks entry_at };
+}
+
+/// How the entries of a kind are read from a slice. A kind implements it for a type with the
+/// lifetime of the slice, as `struct NumberEntry<'a>(PhantomData<&'a [u8]>)`, and with
+/// `SliceReader<'a>` as its reader.
+pub trait Entry {
+    type Kind: Kind;
+
+    /// An entry, whose parts lie in the slice.
+    type Item: Drop;
+
+    /// The reader of the slice.
+    type Reader: Drop;
+
+    // The octets that the reader has left.
+    ghost slice: { Self.Reader → List ℕ };
+
+    // What the entry says.
+    ghost shown: { Self.Item → Self.Kind.Shown };
+
+    /// Whether the reader is at its end.
+    fn is_end(reader: &Self::Reader) -> bool
+        ensures { IsTrue result ↔ (length (slice reader.now) ≡ 0) };
+
+    /// Reads the entry in front, if there is one.
+    fn read(reader: &mut Self::Reader) -> Option<Self::Item>
+        ensures { TakesFront shown Self.Kind.entry_at
+            (slice reader.old) result (slice reader.new) };
+}

@@ -1,0 +1,43 @@
+//! What the definitions of lists say: laws, as functions that do nothing.
+
+ghost use Rattle.std.specs.Prelude.{◌≡◌, ◌<◌, ◌^◌, ℕ, List, All, length};
+ghost use Rattle.std.specs.List.{flat_map};
+ghost use Rattle.rpki_der.specs.Tags.{SEQUENCE, OCTET_STRING};
+ghost use Rattle.rpki_der.specs.Numbers.{MAX_DEPTH};
+ghost use Rattle.rpki_der.specs.declared.mode.Mode.TheVariants.{Der};
+ghost use Rattle.rpki_der.specs.Grammar.{IsBytes};
+ghost use Rattle.rpki_der.specs.Read.Parse.{octets_at, value_at};
+ghost use Rattle.rpki_der.specs.Read.Exact.{IsReading};
+ghost use Rattle.rpki_der.specs.Form.Law.{TagSet, IsPart, nothing, is};
+ghost use Rattle.rpki_der.specs.Form.Parts.{SequenceOf};
+ghost use Rattle.rpki_der.specs.Write.Written.{value_octets};
+ghost use Rattle.rpki_lists.specs.Entries.{list_at};
+
+use rpki_der::laws::forms::Part;
+
+/// A SEQUENCE OF entries in DER is read exactly where each entry is.
+pub fn lists_of_entries<T: Part>()
+    ensures part { (first : TagSet) → IsPart first nothing T.at T.form
+        → IsPart (is SEQUENCE) nothing (list_at T.at) (λ mode. SequenceOf mode (T.form Der)) }
+    ensures reading { (first : TagSet) → IsPart first nothing T.at T.form
+        → IsReading (list_at T.at) (λ mode. SequenceOf mode (T.form Der)) }
+{}
+
+/// A list is in the form where each of its entries is as it is written, and in no other octets
+/// where each entry is written in one way only.
+pub fn lists_are_written<T: Part>()
+    ensures written { (octets : T → List ℕ) (entries : List T)
+        → All (λ x. T.form Der (octets x) x) entries → length (flat_map octets entries) < 2 ^ 32
+        → SequenceOf Der (T.form Der) (value_octets SEQUENCE (flat_map octets entries)) entries }
+    ensures only { (octets : T → List ℕ)
+        → ((o : List ℕ) (x : T) → IsBytes o → T.form Der o x → o ≡ octets x)
+        → (o : List ℕ) (entries : List T) → IsBytes o
+        → SequenceOf Der (T.form Der) o entries
+        → o ≡ value_octets SEQUENCE (flat_map octets entries) }
+{}
+
+/// In DER an OCTET STRING is one value, as the reader of a slice takes it (X.690, sections 8.7 and
+/// 10.2).
+pub fn octet_strings_in_der()
+    ensures { (b : List ℕ) → octets_at MAX_DEPTH Der b ≡ value_at OCTET_STRING Der b }
+{}

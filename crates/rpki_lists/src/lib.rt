@@ -1,0 +1,18 @@
+//! Lists of contents that are kept as the octets of their entries, and a reader of slices that
+//! takes no memory.
+#![tactic(auto)]
+
+pub mod encode;
+mod iter;
+mod kind;
+pub mod laws;
+mod list;
+mod rule;
+mod slice;
+
+pub use encode::{EntriesEncoder, Written};
+pub use iter::EntryIter;
+pub use kind::{Entry, Kind, Refused};
+pub use list::EntryList;
+pub use rule::{Free, Rule, take_list};
+pub use slice::{BitSlice, SliceReader};

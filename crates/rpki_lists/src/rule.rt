@@ -1,0 +1,84 @@
+//! Rules over the entries of a list, which are tested while the entries are counted.
+
+ghost use Rattle.std.specs.Prelude.{◌≡◌, ℕ, List, Option, Some};
+ghost use Rattle.rpki_der.specs.declared.mode.Mode.TheVariants.{Der};
+ghost use Rattle.rpki_der.specs.Read.Parse.{all_of, tested};
+ghost use Rattle.rpki_der.specs.Read.Reads.{Reads, Stays};
+ghost use Rattle.rpki_lists.specs.Entries.{list_at};
+ghost use Rattle.rpki_lists.specs.Rules.{admits, PassesBy, CountsBy};
+
+use crate::kind::{Kind, Refused};
+use crate::list::EntryList;
+use crate::slice::SliceReader;
+use rpki_der::{Constructed, DecodeError, Tag};
+use std::marker::PhantomData;
+
+/// A rule over the entries of a list, in order. Its value is what it has seen so far.
+pub trait Rule {
+    type Kind: Kind;
+
+    // What it has seen after an entry, if the entry may stand there.
+    ghost after: { Self → Self.Kind.Shown → Option Self };
+
+    /// Goes past the entry in front, if there is one that may stand there.
+    fn pass(&mut self, reader: &mut SliceReader<'_>) -> Result<(), Refused>
+        ensures { PassesBy Self.Kind.entry_at after
+            self.old reader.old result self.new reader.new };
+}
+
+/// No rule: each entry may stand anywhere.
+#[derive(Drop)]
+pub struct Free<K> {
+    kind: PhantomData<K>,
+}
+
+impl<K: Kind> Free<K> {
+    /// No rule.
+    pub fn new() -> Free<K> {
+        Free { kind: PhantomData }
+    }
+}
+
+impl<K: Kind> Rule for Free<K> {
+    ghost use Rattle.std.specs.Prelude.{Some};
+
+    type Kind = K;
+
+    ghost after = { λ s _. Some s };
+
+    fn pass(&mut self, reader: &mut SliceReader<'_>) -> Result<(), Refused> {
+        K::skip(reader)
+    }
+}
+
+/// How many entries the octets are, if they are entries that the rule admits.
+pub(crate) fn count_by<R: Rule + Drop>(octets: &[u8], rule: R) -> Result<usize, Refused>
+    ensures { CountsBy (admits R.after rule) (all_of R.Kind.entry_at Der octets.now) result }
+{
+    let mut rule = rule;
+    let mut reader = SliceReader::new(octets);
+    let mut count = 0;
+    while !reader.is_empty() {
+        rule.pass(&mut reader)?;
+        count += 1;
+    }
+    Ok(count)
+}
+
+/// Reads a SEQUENCE of entries that the rule admits. What breaks the rule is refused by the reason
+/// that the rule gives, all else by `Malformed`; `Memory` may come too.
+pub fn take_list<R: Rule + Drop>(
+    cons: &mut Constructed<'_>,
+    rule: R,
+) -> Result<EntryList<R::Kind>, DecodeError>
+    ensures reads { Reads (λ l. l) (tested (admits R.after rule) (list_at R.Kind.entry_at))
+        cons.old result cons.new }
+    ensures stays { Stays result cons.new }
+{
+    let octets = cons.take_primitive_if(Tag::SEQUENCE)?;
+    match count_by(octets.as_slice(), rule) {
+        Ok(count) => Ok(EntryList::counted(octets, count)),
+        Err(Refused::Malformed) => Err(cons.fail(DecodeError::Malformed)),
+        Err(Refused::For(reason)) => Err(cons.refuse_for(reason)),
+    }
+}

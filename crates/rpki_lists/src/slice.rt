@@ -1,0 +1,206 @@
+//! The reader of values that lie in a slice.
+
+ghost use Rattle.std.specs.Prelude.{◌≡◌, ◌↔◌, length, IsTrue};
+ghost use Rattle.rpki_der.specs.Tags.{INTEGER, OCTET_STRING, IA5_STRING, SEQUENCE};
+ghost use Rattle.rpki_der.specs.Read.Parse.{is_next, value_at, u8_at, u32_at, bits_at, bits_of};
+ghost use Rattle.rpki_der.specs.Read.Parse.{ia5_at, optional, Finds};
+ghost use Rattle.rpki_lists.specs.Slice.{TakesFront, Keeps, Closes, seen};
+
+mod contents;
+mod header;
+
+use contents::{bits_of, is_ia5, u8_of, u32_of};
+use header::value_of;
+use rpki_der::Tag;
+use std::marker::Model;
+
+/// A reader of values in DER that lie in a slice, one after the other (X.690, sections 8.1 and 10).
+/// It hands out parts of the slice, and takes no memory.
+///
+/// A call answers `None` where the octets that are left don't begin with what it asks for, and
+/// leaves them as they are.
+#[derive(Drop, Debug)]
+pub struct SliceReader<'a> {
+    rest: &'a [u8],
+}
+
+impl<'a> Model for SliceReader<'a> {
+    ghost use Rattle.std.specs.Prelude.{ℕ, List};
+
+    // The octets that are left.
+    ghost Value = { List ℕ };
+
+    ghost view = { λ s. s.rest.now };
+}
+
+/// A BIT STRING (X.690, section 8.6) in a slice: its octets, and how many bits of the last one are
+/// not used.
+#[derive(Clone, Copy, Debug)]
+pub struct BitSlice<'a> {
+    pub octets: &'a [u8],
+    pub unused: u8,
+}
+
+impl<'a> SliceReader<'a> {
+    /// A reader of these octets.
+    #[inline(always)]
+    pub fn new(octets: &'a [u8]) -> SliceReader<'a>
+        ensures { result ≡ octets.now }
+    {
+        SliceReader { rest: octets }
+    }
+
+    /// The same reader again.
+    #[inline(always)]
+    pub fn again(&self) -> SliceReader<'a>
+        ensures { result ≡ self.now }
+    {
+        SliceReader { rest: self.rest }
+    }
+
+    /// The octets that are left.
+    #[inline(always)]
+    pub fn rest(&self) -> &'a [u8]
+        ensures { result.now ≡ self.now }
+    {
+        self.rest
+    }
+
+    /// Whether no octet is left.
+    #[inline(always)]
+    pub fn is_empty(&self) -> bool
+        ensures { IsTrue result ↔ (length self.now ≡ 0) }
+    {
+        self.rest.is_empty()
+    }
+
+    /// The value, if no octet is left.
+    #[inline(always)]
+    pub fn close<T: Drop>(&self, value: T) -> Option<T>
+        ensures { Closes value self.now result }
+    {
+        match self.rest {
+            [] => Some(value),
+            [_first, _others @ ..] => None,
+        }
+    }
+
+    // Whether a value with this tag is next.
+    #[inline(always)]
+    fn is_next(&self, tag: Tag) -> bool
+        ensures { result ≡ is_next tag.octet self.now }
+    {
+        match self.rest {
+            [] => false,
+            [t, ..] => *t == tag.octet,
+        }
+    }
+
+    /// Takes the contents of the value in front, which has this tag (X.690, section 8.1).
+    #[inline(always)]
+    pub fn take_contents(&mut self, tag: Tag) -> Option<&'a [u8]>
+        ensures found { TakesFront (λ c. c.now) (value_at tag.octet) self.old result self.new }
+        ensures kept { Keeps result self.old self.new }
+    {
+        let (contents, rest) = value_of(tag, self.rest)?;
+        self.rest = rest;
+        Some(contents)
+    }
+
+    /// Opens the SEQUENCE in front (X.690, sections 8.9 and 8.10): a reader of its contents.
+    #[inline(always)]
+    pub fn take_sequence(&mut self) -> Option<SliceReader<'a>>
+        ensures found { TakesFront (λ r. r) (value_at SEQUENCE) self.old result self.new }
+        ensures kept { Keeps result self.old self.new }
+    {
+        let (contents, rest) = value_of(Tag::SEQUENCE, self.rest)?;
+        self.rest = rest;
+        Some(SliceReader { rest: contents })
+    }
+
+    /// Reads an INTEGER from 0 to 255 (X.690, section 8.3).
+    #[inline(always)]
+    pub fn take_u8(&mut self) -> Option<u8>
+        ensures found { TakesFront (λ n. n) u8_at self.old result self.new }
+        ensures kept { Keeps result self.old self.new }
+    {
+        let (contents, rest) = value_of(Tag::INTEGER, self.rest)?;
+        let n = u8_of(contents)?;
+        self.rest = rest;
+        Some(n)
+    }
+
+    /// Reads an INTEGER from 0 to 255, if an INTEGER is next (X.690, section 8.3).
+    #[inline(always)]
+    pub fn take_opt_u8(&mut self) -> Option<Option<u8>>
+        ensures found { TakesFront (λ n. n) (optional INTEGER u8_at) self.old result self.new }
+        ensures kept { Keeps result self.old self.new }
+    {
+        if !self.is_next(Tag::INTEGER) {
+            return Some(None);
+        }
+        Some(Some(self.take_u8()?))
+    }
+
+    /// Reads an INTEGER from 0 to 2^32 - 1 (X.690, section 8.3).
+    #[inline(always)]
+    pub fn take_u32(&mut self) -> Option<u32>
+        ensures found { TakesFront (λ n. n) u32_at self.old result self.new }
+        ensures kept { Keeps result self.old self.new }
+    {
+        let (contents, rest) = value_of(Tag::INTEGER, self.rest)?;
+        let n = u32_of(contents)?;
+        self.rest = rest;
+        Some(n)
+    }
+
+    /// Reads a BIT STRING (X.690, section 8.6).
+    #[inline(always)]
+    pub fn take_bits(&mut self) -> Option<BitSlice<'a>>
+        ensures found { TakesFront (λ b. (b.octets.now, b.unused)) bits_at
+            self.old result self.new }
+        ensures kept { Keeps result self.old self.new }
+    {
+        let (contents, rest) = value_of(Tag::BIT_STRING, self.rest)?;
+        let bits = bits_of(contents)?;
+        self.rest = rest;
+        Some(bits)
+    }
+
+    /// Reads an IA5String: octets below 80 hexadecimal (X.690, section 8.23).
+    #[tactic(auto, unfolding(rpki_der::specs::Read::Parse::ia5_of))]
+    #[inline(always)]
+    pub fn take_ia5(&mut self) -> Option<&'a [u8]>
+        ensures found { TakesFront (λ c. c.now) ia5_at self.old result self.new }
+        ensures kept { Keeps result self.old self.new }
+    {
+        let (contents, rest) = value_of(Tag::IA5_STRING, self.rest)?;
+        if !is_ia5(contents) {
+            return None;
+        }
+        self.rest = rest;
+        Some(contents)
+    }
+
+    /// Reads an IA5String, if one is next (X.690, section 8.23).
+    #[inline(always)]
+    pub fn take_opt_ia5(&mut self) -> Option<Option<&'a [u8]>>
+        ensures found { TakesFront (seen (λ c. c.now)) (optional IA5_STRING ia5_at)
+            self.old result self.new }
+        ensures kept { Keeps result self.old self.new }
+    {
+        if !self.is_next(Tag::IA5_STRING) {
+            return Some(None);
+        }
+        Some(Some(self.take_ia5()?))
+    }
+
+    /// Reads an OCTET STRING, which has one piece in DER (X.690, sections 8.7 and 10.2).
+    #[inline(always)]
+    pub fn take_octets(&mut self) -> Option<&'a [u8]>
+        ensures found { TakesFront (λ c. c.now) (value_at OCTET_STRING) self.old result self.new }
+        ensures kept { Keeps result self.old self.new }
+    {
+        self.take_contents(Tag::OCTET_STRING)
+    }
+}

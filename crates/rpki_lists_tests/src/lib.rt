@@ -1,0 +1,6 @@
+//! Tests of `rpki_lists` by a kind of entries: numbers that ascend.
+//!
+//! A test hands want of memory on and asserts everything else.
+#![tactic(auto)]
+
+pub mod numbers;
