@@ -4,3 +4,7 @@
 #![tactic(auto)]
 
 pub mod numbers;
+#[cfg(test)]
+mod rows;
+#[cfg(test)]
+mod slices;
