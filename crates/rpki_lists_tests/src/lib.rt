@@ -1,4 +1,4 @@
-//! Tests of `rpki_lists` by two kinds of entries: numbers that ascend, and names.
+//! Tests of `rpki_lists` by a kind of entries: numbers that ascend.
 //!
 //! A test hands want of memory on and asserts everything else.
 #![tactic(auto)]
