@@ -1,4 +1,5 @@
--- The content of a route origin attestation (RFC 6482, section 3).
+-- The content of a route origin attestation (RFC 6482, section 3). The sections are those of RFC
+-- 6482.
 pub mod Form
 pub mod Read
 pub mod Written
@@ -63,7 +64,11 @@ addresses r = map (of_family Ipv4) r.v4 ++ map (of_family Ipv6) r.v6
 
 -- the same as it is printed
 abbrev pub max_len_prefix : FamilyAddress → MaxLenPrefix
-max_len_prefix a = record { family = a.family; prefix = a.address.prefix; max_len = a.address.max_length }
+max_len_prefix a = record {
+  family = a.family;
+  prefix = a.address.prefix;
+  max_len = a.address.max_length;
+}
 
 -- an address in 128 bits: one of IPv4 in the upper 32
 abbrev pub addr_of : IpAddr → ℕ

@@ -1,5 +1,5 @@
 -- The claim of one number.
-use Rattle.std.proofs.Common.{◌≡◌, ℕ, List, [], ◌∷◌, ◌++◌, subst, arith}
+use Rattle.std.proofs.Common.{◌≡◌, ℕ, List, [], ◌∷◌, ◌++◌, arith}
 use Rattle.rpki_resources.specs.declared.block.Block.{Block}
 use Rattle.rpki_resources.specs.Blocks.{IsCanonical, SameSet}
 use Rattle.rpki_resources.proofs.Sets.Same.{same_blocks}

@@ -1,5 +1,5 @@
 -- ASPA contents are read exactly: a line for each field.
-use Rattle.std.proofs.Common.{◌≡◌, ℕ, ◌≤◌, true, List, [], ◌∷◌, length, refl, sym, subst, ◌∙◌}
+use Rattle.std.proofs.Common.{◌≡◌, ℕ, true, List, [], ◌∷◌, refl, sym, subst, ◌∙◌}
 use Rattle.std.proofs.Common.{arith}
 use Rattle.std.specs.Prelude.{not, ◌==◌, All}
 use Rattle.std.proofs.lemmas.Bool.{eqb-true, eqb-false}

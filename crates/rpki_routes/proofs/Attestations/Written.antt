@@ -46,7 +46,8 @@ length-version : length (version_octets) ≤ 17
 length-version = omega
     (arith, length_value_octets_le (context 0) (number_octets 1), length-number_octets 1)
 
-length-contents : (limit : ProviderLimit) (a : Aspa) → IsAttestation limit a → length (aspa_contents a) ≤ 180240
+length-contents : (limit : ProviderLimit) (a : Aspa) → IsAttestation limit a
+    → length (aspa_contents a) ≤ 180240
 length-contents limit a h =
     let rest = number_octets a.customer ++ value_octets SEQUENCE (providers_octets a.providers) in
     omega (
@@ -62,7 +63,8 @@ length-contents limit a h =
       length-providers_octets a.providers,
     )
 
-pub short-octets : (limit : ProviderLimit) (a : Aspa) → IsAttestation limit a → length (aspa_octets a) < 2 ^ 32
+pub short-octets : (limit : ProviderLimit) (a : Aspa) → IsAttestation limit a
+    → length (aspa_octets a) < 2 ^ 32
 short-octets limit a h = omega
     (arith, length_value_octets_le SEQUENCE (aspa_contents a), length-contents limit a h)
 
@@ -83,7 +85,8 @@ providers-written ps most h =
     (omega (arith, most, length-providers_octets ps))
     (items-written (AsId Der) number_octets ps (λ i d l. number-in Der _ (h i d l)))
 
-pub aspa-written : (limit : ProviderLimit) (a : Aspa) → IsAttestation limit a → AspaForm limit (aspa_octets a) a
+pub aspa-written : (limit : ProviderLimit) (a : Aspa) → IsAttestation limit a
+    → AspaForm limit (aspa_octets a) a
 aspa-written limit a h =
     let customer = number_octets a.customer in
     let providers = value_octets SEQUENCE (providers_octets a.providers) in
@@ -155,7 +158,8 @@ fields-only a c bytes h =
     ∙ ap (λ (x : List ℕ). number_octets a.customer ++ x) (end ∙ providers) in
     h.2 ∙ ap (λ (x : List ℕ). x ++ h.1) version ∙ ap (λ (x : List ℕ). version_octets ++ x) two
 
-pub aspa-only : (limit : ProviderLimit) (o : List ℕ) (a : Aspa) → IsBytes o → AspaForm limit o a → o ≡ aspa_octets a
+pub aspa-only : (limit : ProviderLimit) (o : List ℕ) (a : Aspa) → IsBytes o → AspaForm limit o a
+    → o ≡ aspa_octets a
 aspa-only limit o a bytes h =
     within-only SEQUENCE (λ c. Fields c a) o (aspa_contents a) bytes (fields-only a) h.0
 

@@ -1,12 +1,12 @@
 -- ROA contents are read exactly: a line for each field.
-use Rattle.std.proofs.Common.{◌≡◌, ℕ, ◌≤◌, Bool, true, false, List, [], ◌∷◌, Option, None, Some, refl, sym}
-use Rattle.std.proofs.Common.{ap, ◌∙◌, arith}
+use Rattle.std.proofs.Common.{◌≡◌, ℕ, ◌≤◌, Bool, true, false, List, [], ◌∷◌, Option, None, Some}
+use Rattle.std.proofs.Common.{refl, ap, arith}
 use Rattle.std.specs.Prelude.{All, IfSome, Decides, ◌&&◌, if◌then◌else◌}
 use Rattle.std.proofs.lemmas.Bool.{leb-true, le-leb}
 use Rattle.std.proofs.lemmas.List.Elements.{All-nil, All-cons, All-head, All-tail}
 use Rattle.rpki_der.specs.declared.mode.Mode.{Mode}
 use Rattle.rpki_der.specs.declared.mode.Mode.TheVariants.{Der}
-use Rattle.rpki_der.specs.Tags.{BIT_STRING, INTEGER, SEQUENCE, context}
+use Rattle.rpki_der.specs.Tags.{INTEGER, SEQUENCE, context}
 use Rattle.rpki_der.specs.Grammar.{Integer, IntegerBelow, Optional, Items}
 use Rattle.rpki_der.specs.Form.Made.{Ignored, Made}
 use Rattle.rpki_der.specs.Form.Law.{nothing, is, or, IsPart, AreParts}
@@ -27,7 +27,7 @@ use Rattle.rpki_resources.specs.Prefix.{Network}
 use Rattle.rpki_resources.proofs.Addresses.Exact.{prefix-part}
 use Rattle.rpki_resources.proofs.Addresses.Within.{max_most}
 use Rattle.rpki_resources.proofs.Families.ByFamily.{families-part}
-use Rattle.rpki_routes.specs.Roa.{Address, Roa, IsMaxLength}
+use Rattle.rpki_routes.specs.Roa.{Address, IsMaxLength}
 use Rattle.rpki_routes.specs.Roa.Form.{AddressForm, AddressesForm, lists_of}
 use Rattle.rpki_routes.specs.Roa.Read.{address_fields_at, address_at, is_max, is_of, addresses_at}
 use Rattle.rpki_routes.specs.Roa.Read.{after_address, fields_at}

@@ -1,5 +1,5 @@
 -- What a ROA content is written as is in its form.
-use Rattle.std.proofs.Common.{◌≡◌, ℕ, ◌+◌, ◌*◌, ◌^◌, ◌<◌, ◌≤◌, List, [], ◌∷◌, ◌++◌, length, All}
+use Rattle.std.proofs.Common.{◌≡◌, ℕ, ◌^◌, ◌<◌, ◌≤◌, List, [], ◌∷◌, ◌++◌, length, All}
 use Rattle.std.proofs.Common.{Option, Some, None, refl, sym, ap, ◌∙◌, append_assoc, length-append}
 use Rattle.std.proofs.Common.{arith}
 use Rattle.std.specs.Prelude.{IfSome, unwrap_or}
@@ -20,7 +20,7 @@ use Rattle.rpki_resources.specs.declared.family.AddressFamily.{AddressFamily}
 use Rattle.rpki_resources.specs.declared.family.AddressFamily.TheVariants.{Ipv4, Ipv6}
 use Rattle.rpki_resources.specs.As.Form.{AsId}
 use Rattle.rpki_resources.specs.Family.Form.{afi, FamilyForm}
-use Rattle.rpki_resources.specs.Families.Form.{EntryForm, FamiliesForm}
+use Rattle.rpki_resources.specs.Families.Form.{EntryForm}
 use Rattle.rpki_resources.specs.Families.Read.{gathered, no_values}
 use Rattle.rpki_resources.specs.Ip.Form.{PrefixForm}
 use Rattle.rpki_resources.specs.Ip.Written.{end_octets}
@@ -30,7 +30,7 @@ use Rattle.rpki_resources.proofs.Families.Gathered.{entries-sound}
 use Rattle.rpki_resources.proofs.Families.Writing.{family_written}
 use Rattle.rpki_resources.proofs.Prefixes.Writing.{prefix_written}
 use Rattle.rpki_routes.specs.Roa.{Address, Roa, IsAddress, IsMaxLength, IsRoa}
-use Rattle.rpki_routes.specs.Roa.Form.{AddressForm, AddressesForm, VersionForm, BlocksForm, lists_of}
+use Rattle.rpki_routes.specs.Roa.Form.{AddressForm, AddressesForm, VersionForm, BlocksForm}
 use Rattle.rpki_routes.specs.Roa.Form.{RoaForm}
 use Rattle.rpki_routes.specs.Roa.Written.{address_contents, address_octets, list_octets}
 use Rattle.rpki_routes.specs.Roa.Written.{family_contents, family_octets, families_octets}
@@ -77,7 +77,13 @@ address-written family a h =
             max,
             refl,
             prefix_written family a.prefix h.prefix.within h.prefix.address h.prefix.aligned,
-            (max, [], sym (append-nil max), max-in family a.prefix.len a.max_length h.longest, refl),
+            (
+              max,
+              [],
+              sym (append-nil max),
+              max-in family a.prefix.len a.max_length h.longest,
+              refl,
+            ),
           ),
       h.longest,
     )

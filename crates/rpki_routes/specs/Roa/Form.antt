@@ -1,6 +1,6 @@
 -- The form of the content of a route origin attestation, which is in DER (RFC 6488, section
 -- 2.1.3.2). The sections are those of RFC 6482.
-use Rattle.std.specs.Prelude.{ℕ, List, [], ◌∷◌, Option, unwrap_or, IfSome}
+use Rattle.std.specs.Prelude.{ℕ, List, [], ◌∷◌, unwrap_or, IfSome}
 use Rattle.rpki_der.specs.declared.mode.Mode.{Mode}
 use Rattle.rpki_der.specs.declared.mode.Mode.TheVariants.{Der}
 use Rattle.rpki_der.specs.Grammar.{Integer, IntegerBelow, Optional}

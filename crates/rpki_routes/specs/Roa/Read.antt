@@ -43,7 +43,8 @@ after_address rule a = if is_of rule.family a then Some rule else None
 
 -- addresses of the family
 abbrev pub addresses_at : AddressFamily → Parser (List Address)
-addresses_at family = tested (admits after_address (record { family = family })) (list_at address_at)
+addresses_at family = tested (admits after_address (record { family = family }))
+    (list_at address_at)
 
 -- the version, which may be there
 abbrev pub version_at : Parser (Option (Unit {0}))

@@ -1,7 +1,6 @@
 //! Addresses of a ROA (RFC 6482, section 3.3).
 
-ghost use Rattle.std.specs.Prelude.{◌≡◌, ◌≤◌, ◌↔◌, ◌*◌, ◌^◌, ℕ, Some, IsTrue, unwrap_or};
-ghost use Rattle.std.specs.Net.Addr.{ipv4_bits, ipv6_bits};
+ghost use Rattle.std.specs.Prelude.{◌≡◌, ◌≤◌, ◌↔◌, Some, IsTrue, unwrap_or};
 ghost use Rattle.rpki_resources.specs.declared.family.AddressFamily.{AddressFamily};
 ghost use Rattle.rpki_resources.specs.Family.{IsWithin, max_bits};
 ghost use Rattle.rpki_resources.specs.Prefix.{IsPrefix, first_of, last_of};

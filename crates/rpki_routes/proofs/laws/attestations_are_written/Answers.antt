@@ -10,4 +10,5 @@ pub returns-clause-only : goal.returns-clause-only
 returns-clause-only c = aspa-only
 
 pub returns-clause-read : goal.returns-clause-read
-returns-clause-read c = λ limit a rest attested. (aspa_octets a, refl, aspa-written limit a attested)
+returns-clause-read c = λ limit a rest attested.
+    (aspa_octets a, refl, aspa-written limit a attested)
