@@ -106,24 +106,32 @@ fn cut_lists_are_refused(rt: HostRuntime) -> Result<(), AllocError> {
     Ok(())
 }
 
-/// The octets that a list is written as.
-fn written(alloc: Global, list: &EntryList<Numbers>) -> Result<Vec<u8>, EncodeError> {
-    sequence(EntriesEncoder(in_order(list))).to_bytes(alloc)
+/// Whether a list is written as these octets.
+fn is_written(
+    alloc: Global,
+    list: &EntryList<Numbers>,
+    octets: &[u8],
+) -> Result<bool, AllocError> {
+    match sequence(EntriesEncoder(in_order(list))).to_bytes(alloc) {
+        Ok(found) => Ok(found.as_slice() == octets),
+        Err(EncodeError::Memory) => Err(AllocError),
+        Err(_) => Ok(false),
+    }
+}
+
+/// Whether a list that is read is written as its octets.
+fn is_written_anew(alloc: Global, octets: &[u8]) -> Result<bool, AllocError> {
+    match read(alloc, octets, Mode::Der) {
+        Ok(list) => is_written(alloc, &list, octets),
+        Err(DecodeError::Memory) => Err(AllocError),
+        Err(_) => Ok(false),
+    }
 }
 
 #[test]
 fn lists_are_written_anew(rt: HostRuntime) -> Result<(), AllocError> {
-    let alloc = rt.alloc();
     for octets in &WHOLE {
-        match read(alloc, octets, Mode::Der) {
-            Err(DecodeError::Memory) => return Err(AllocError),
-            Err(_) => assert!(rt; false),
-            Ok(list) => match written(alloc, &list) {
-                Err(EncodeError::Memory) => return Err(AllocError),
-                Err(_) => assert!(rt; false),
-                Ok(found) => assert!(rt; found.as_slice() == *octets),
-            },
-        }
+        assert!(rt; is_written_anew(rt.alloc(), octets)?);
     }
     Ok(())
 }
@@ -138,21 +146,30 @@ fn thousand(alloc: Global) -> Result<Vec<u8>, AllocError> {
     Ok(octets)
 }
 
+/// Whether the numbers of a list are those thousand.
+fn are_thousand(list: &EntryList<Numbers>) -> bool {
+    let mut rest = in_order(list);
+    for n in 0..1000u32 {
+        if rest.next() != Some((4 + n / 250) * 256 + n % 250) {
+            return false;
+        }
+    }
+    list.len() == 1000 && rest.next().is_none()
+}
+
+/// Whether octets are read as those thousand.
+fn are_read(alloc: Global, octets: &[u8]) -> Result<bool, AllocError> {
+    match read(alloc, octets, Mode::Der) {
+        Ok(list) => Ok(are_thousand(&list)),
+        Err(DecodeError::Memory) => Err(AllocError),
+        Err(_) => Ok(false),
+    }
+}
+
 #[test]
 fn a_thousand_entries(rt: HostRuntime) -> Result<(), AllocError> {
     let alloc = rt.alloc();
     let octets = thousand(alloc)?;
-    match read(alloc, &octets, Mode::Der) {
-        Err(DecodeError::Memory) => return Err(AllocError),
-        Err(_) => assert!(rt; false),
-        Ok(list) => {
-            assert!(rt; list.len() == 1000 && !list.is_empty());
-            let mut rest = in_order(&list);
-            for n in 0..1000u32 {
-                assert!(rt; rest.next() == Some((4 + n / 250) * 256 + n % 250));
-            }
-            assert!(rt; rest.next().is_none());
-        }
-    }
+    assert!(rt; are_read(alloc, &octets)?);
     Ok(())
 }
