@@ -79,14 +79,12 @@ fn indefinite_length_is_read_in_ber_alone(rt: HostRuntime) -> Result<(), AllocEr
 
 /// How many lists stand one after another, and how many octets are left behind them.
 fn take_each(alloc: Global, cons: &mut Constructed<'_>) -> Result<usize, DecodeError> {
-    let mut count = 0;
-    for _ in 0..4 {
-        match Crl::take_opt_from(alloc, cons)? {
-            Some(_) => count += 1,
-            None => return Ok(count),
+    for count in 0..4 {
+        if Crl::take_opt_from(alloc, cons)?.is_none() {
+            return Ok(count);
         }
     }
-    Ok(count)
+    Ok(4)
 }
 
 /// What stands behind two lists, and how many are read, if what stands there is not refused.

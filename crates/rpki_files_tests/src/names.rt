@@ -70,7 +70,9 @@ fn entries(rt: HostRuntime) -> Result<(), AllocError> {
     let entry = FileAndHash::new(&b"a.cer"[..], &b"h"[..]);
     assert!(rt; *entry.file() == &b"a.cer"[..] && *entry.hash() == &b"h"[..]);
     match entry.encode_ref().to_bytes(alloc) {
-        Ok(found) => assert!(rt; found.as_slice() == b"\x30\x0B\x16\x05a.cer\x03\x02\x00h".as_slice()),
+        Ok(found) => assert!(rt;
+            found.as_slice() == b"\x30\x0B\x16\x05a.cer\x03\x02\x00h".as_slice()
+        ),
         Err(_) => return Err(AllocError),
     }
     let (file, hash) = entry.into_pair();

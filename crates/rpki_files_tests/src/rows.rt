@@ -378,19 +378,32 @@ fn cut_manifests_are_refused(rt: HostRuntime) -> Result<(), AllocError> {
     Ok(())
 }
 
+/// Whether a manifest is written as these octets.
+fn is_written(
+    alloc: Global,
+    manifest: &ManifestContent,
+    wanted: &[u8],
+) -> Result<bool, AllocError> {
+    match manifest.encode_ref().to_bytes(alloc) {
+        Ok(found) => Ok(found.as_slice() == wanted),
+        Err(EncodeError::Memory) => Err(AllocError),
+        Err(_) => Ok(false),
+    }
+}
+
+/// Whether a manifest that is read is written as these octets.
+fn is_written_anew(alloc: Global, octets: &[u8], wanted: &[u8]) -> Result<bool, AllocError> {
+    match read(alloc, octets, ManifestRule::Any, Mode::Der) {
+        Ok(manifest) => is_written(alloc, &manifest, wanted),
+        Err(DecodeError::Memory) => Err(AllocError),
+        Err(_) => Ok(false),
+    }
+}
+
 #[test]
 fn manifests_are_written_anew(rt: HostRuntime) -> Result<(), AllocError> {
-    let alloc = rt.alloc();
     for (octets, wanted) in &WRITTEN {
-        match read(alloc, octets, ManifestRule::Any, Mode::Der) {
-            Err(DecodeError::Memory) => return Err(AllocError),
-            Err(_) => assert!(rt; false),
-            Ok(manifest) => match manifest.encode_ref().to_bytes(alloc) {
-                Err(EncodeError::Memory) => return Err(AllocError),
-                Err(_) => assert!(rt; false),
-                Ok(found) => assert!(rt; found.as_slice() == *wanted),
-            },
-        }
+        assert!(rt; is_written_anew(rt.alloc(), octets, wanted)?);
     }
     Ok(())
 }

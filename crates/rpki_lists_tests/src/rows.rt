@@ -107,11 +107,7 @@ fn cut_lists_are_refused(rt: HostRuntime) -> Result<(), AllocError> {
 }
 
 /// Whether a list is written as these octets.
-fn is_written(
-    alloc: Global,
-    list: &EntryList<Numbers>,
-    octets: &[u8],
-) -> Result<bool, AllocError> {
+fn is_written(alloc: Global, list: &EntryList<Numbers>, octets: &[u8]) -> Result<bool, AllocError> {
     match sequence(EntriesEncoder(in_order(list))).to_bytes(alloc) {
         Ok(found) => Ok(found.as_slice() == octets),
         Err(EncodeError::Memory) => Err(AllocError),

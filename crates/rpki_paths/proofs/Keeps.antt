@@ -152,8 +152,11 @@ module _ {C : Type 0} (cert : C → Cert) where
     declined_at i [] paths k fault more h e d other = absurd cc
     declined_at i (x ∷ old) [] k fault more h e d other = absurd h
     declined_at zero (x ∷ old) (p ∷ paths) k fault more h e d other =
-        let same : x ≡ k = cc in
-        (p, inl refl, λ t. declined_stays k p fault more t
-            (subst (λ (z : Path C). IsKept cert supplies z p) same h.0) d other)
+        let same : x ≡ k = cc in (
+          p,
+          inl refl,
+          λ t. declined_stays k p fault more t
+              (subst (λ (z : Path C). IsKept cert supplies z p) same h.0) d other,
+        )
     declined_at (suc i) (x ∷ old) (p ∷ paths) k fault more h e d other =
         let t = declined_at i old paths k fault more h.1 e d other in (t.0, inr t.1, t.2)

@@ -126,11 +126,7 @@ fn gathered<C>(alloc: Global, paths: &[Path<C>]) -> Result<Unions, AllocError>
 
 /// Tells whether each path is anchored, and each attested set has just the numbers that are kept of
 /// some path. An error is the first that does not hold, or want of memory.
-pub fn finalize<C>(
-    alloc: Global,
-    paths: &[Path<C>],
-    attested: &Attested,
-) -> Result<(), FinalFault>
+pub fn finalize<C>(alloc: Global, paths: &[Path<C>], attested: &Attested) -> Result<(), FinalFault>
     ensures { Decides paths.now (attested_sets attested.now) result }
 {
     if !are_anchored(paths) {

@@ -3,8 +3,10 @@
 ghost use Rattle.std.specs.Prelude.{◌≡◌, ◌<◌};
 
 use crate::plain::{Above, NoAnchor, Plain, Root, Seen, id, numbers, ranges};
-use rpki_paths::{Asked, Attested, Family, FinalFault, Overclaim, Path, PathFault, Supplied};
-use rpki_paths::{SupplyFault, WalksFault, finalize, supply_all, walk_each};
+use rpki_paths::{
+    Asked, Attested, Family, FinalFault, Overclaim, Path, PathFault, Supplied, SupplyFault,
+    WalksFault, finalize, supply_all, walk_each,
+};
 use rpki_resources::{AsResources, IpBlocks, IpResources};
 use std::alloc::{AllocError, Global};
 use std::marker::Brand;
@@ -196,7 +198,9 @@ pub fn answered(
 }
 
 const TRIM: Overclaim = Overclaim::Trim;
+
 const REFUSE: Overclaim = Overclaim::Refuse;
+
 const INHERITED: Claimed = Claimed::Inherited;
 /// No certificate has this serial number.
 const NONE: u64 = 255;
