@@ -1,8 +1,7 @@
 -- With distinct identifiers each signer and each CA costs one verdict.
-use Rattle.std.proofs.Common.{◌≡◌, ℕ, Bool, true, List, [], ◌∷◌, IsTrue, sym, ◌∙◌, subst, inl, inr}
-use Rattle.std.proofs.Common.{⊎_elim, ◌⊎◌}
+use Rattle.std.proofs.Common.{◌≡◌, List, [], ◌∷◌, IsTrue, sym, ◌∙◌, subst, inl, inr}
 use Rattle.rpki_paths.specs.Cert.{Cert, IsIn}
-use Rattle.rpki_paths.specs.Pairing.{IsPairing, Crl, Signer, Carried, IsMatching, HasDistinctIds}
+use Rattle.rpki_paths.specs.Pairing.{IsPairing}
 use Rattle.rpki_paths.specs.Pairing.{IsVerifiedBy, HasCrl}
 use Rattle.rpki_paths.specs.Laws.{MatchingIsCheap}
 use Rattle.rpki_paths.proofs.Chains.{same_by_ski}

@@ -3,24 +3,21 @@ use Rattle.std.proofs.Common.{◌≡◌, ℕ, suc, ◌+◌, ◌<◌, ◌≤◌, 
 use Rattle.std.proofs.Common.{◌∷◌, ◌++◌}
 use Rattle.std.proofs.Common.{length, get_or, take, Option, None, Some, IsTrue, refl, sym, ap, ◌∙◌}
 use Rattle.std.proofs.Common.{subst, inl, inr, arith}
-use Rattle.std.specs.Prelude.{◌↔◌}
-use Rattle.std.specs.List.{list_any}
 use Rattle.std.proofs.lemmas.Bool.{and_parts, or_cases, true≢false}
 use Rattle.std.proofs.lemmas.List.Folds.{list_any-append, list_any_more}
 use Rattle.rpki_resources.specs.declared.block.Block.{Block}
 use Rattle.rpki_resources.specs.Blocks.{holds, within}
 use Rattle.rpki_resources.proofs.Sets.Between.{between_high}
 use Rattle.rpki_paths.specs.declared.family.Family.{Family}
-use Rattle.rpki_paths.specs.declared.decision.Union.{Union}
 use Rattle.rpki_paths.specs.declared.kept.Kept.{Kept}
 use Rattle.rpki_paths.specs.declared.sets.KeptSets.{KeptSets}
 use Rattle.rpki_paths.specs.declared.walker.Path.{Path}
-use Rattle.rpki_paths.specs.Cert.{Cert, Numbers, IsIn}
+use Rattle.rpki_paths.specs.Cert.{Cert, Numbers}
 use Rattle.rpki_paths.specs.Sets.{meet, with_claim, StandsFor}
 use Rattle.rpki_paths.specs.Path.{explicit_sets}
 use Rattle.rpki_paths.specs.Anchor.{Supply, IsAnchored, path_set, supplied_claim}
 use Rattle.rpki_paths.specs.Walk.{kept_at}
-use Rattle.rpki_paths.specs.Grant.{AreAnchored, union_of, IsEarned}
+use Rattle.rpki_paths.specs.Grant.{AreAnchored, union_of}
 use Rattle.rpki_paths.specs.Kept.{NoneFits, IsUnder, AreKept}
 use Rattle.rpki_paths.specs.Final.{kept_has, some_has, all_anchored, IsWhole}
 use Rattle.rpki_paths.specs.Laws.{FinalIsDecided}

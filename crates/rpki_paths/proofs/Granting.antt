@@ -1,5 +1,5 @@
 -- What walks, supplies and the end say of an attestation.
-use Rattle.std.proofs.Common.{◌≡◌, List, [], ◌∷◌, ◌++◌, Ok, Err, map, refl, sym, subst, inl, inr}
+use Rattle.std.proofs.Common.{◌≡◌, List, Ok, Err, refl, sym, subst}
 use Rattle.rpki_paths.specs.declared.family.Family.{Family}
 use Rattle.rpki_paths.specs.declared.decision.FinalFault.{FinalFault}
 use Rattle.rpki_paths.specs.declared.decision.FinalFault.TheVariants.{NotAnchored, AsNumbers}
@@ -9,12 +9,11 @@ use Rattle.rpki_paths.specs.declared.walks.WalksFault.TheVariants.{NoPath, Unuse
 use Rattle.rpki_paths.specs.declared.walks.WalksFault.TheVariants.{Memory as OutOfMemory}
 use Rattle.rpki_paths.specs.Cert.{Cert, Numbers, IsIn, NoTwice, at_place}
 use Rattle.rpki_paths.specs.Path.{IsPath, IsDistinct}
-use Rattle.rpki_paths.specs.Anchor.{Supply}
 use Rattle.rpki_paths.specs.Pairing.{Carried, Crl, IsMatching, IsPairing, HasDistinctIds}
 use Rattle.rpki_paths.specs.Pairing.{IsVerifiedBy, HasCrl}
-use Rattle.rpki_paths.specs.Grant.{authorities, HasPaths, AreValid, IsAccepted, IsGranted}
-use Rattle.rpki_paths.specs.Kept.{AreWalked, AreKept}
-use Rattle.rpki_paths.specs.Final.{Decides, IsWhole}
+use Rattle.rpki_paths.specs.Grant.{authorities, HasPaths}
+use Rattle.rpki_paths.specs.Kept.{AreWalked}
+use Rattle.rpki_paths.specs.Final.{Decides}
 use Rattle.rpki_paths.specs.Laws.{WalksAreAccepted, YesIsGranted, RefusedIsNotAccepted}
 use Rattle.rpki_paths.specs.Laws.{UnsuppliedIsRefused, UndecidedIsRefused}
 use Rattle.rpki_paths.proofs.Pairings.{all_partners, partners_in}

@@ -1,14 +1,13 @@
 -- Taking the first that fits: the search over the places of an identifier, and what is then left.
-use Rattle.std.proofs.Common.{◌≡◌, ◌≢◌, ℕ, zero, suc, ◌+◌, ◌<◌, ◌≤◌, Bool, true, false, List, []}
-use Rattle.std.proofs.Common.{◌∷◌, ◌++◌, length, map, set, Option, None, Some, IsTrue, IsFalse, refl}
-use Rattle.std.proofs.Common.{sym, ap, ◌∙◌, subst, inl, inr, ⊎_elim, ◌⊎◌, arith}
+use Rattle.std.proofs.Common.{◌≡◌, ℕ, zero, suc, ◌+◌, ◌<◌, Bool, true, false, List, []}
+use Rattle.std.proofs.Common.{◌∷◌, length, map, set, Some, IsTrue, IsFalse, refl}
+use Rattle.std.proofs.Common.{sym, ap, ◌∙◌, subst, inl, inr, arith}
 use Rattle.std.specs.Prelude.{slice_get, option_map}
 use Rattle.std.proofs.lemmas.Bool.{true≢false, cases_eq}
 use Rattle.std.proofs.lemmas.Option.{slice_get-map, slice_get_within}
 use Rattle.rpki_paths.specs.Cert.{IsIn}
 use Rattle.rpki_paths.specs.Index.{IsNamed}
 use Rattle.rpki_paths.specs.Taking.{left_of, IsFirst, first, later, FitsNone, IsTakenAt}
-use Rattle.rpki_paths.specs.Taking.{AllVerify}
 use Rattle.rpki_paths.proofs.Indexing.{IsScan, scan_from_named, before_or_after}
 
 some_same : {A : Type 0} (a b : A) → Some a ≡ Some b → a ≡ b

@@ -1,12 +1,11 @@
 -- Walks from several certificates, one after the other.
-use Rattle.std.proofs.Common.{◌≡◌, ◌≢◌, ℕ, zero, suc, ◌+◌, ◌<◌, ◌≤◌, Bool, false, List, [], ◌∷◌}
-use Rattle.std.proofs.Common.{◌++◌, length, map, replicate, take, get_or, Some, IsFalse, refl, sym}
+use Rattle.std.proofs.Common.{◌≡◌, ◌≢◌, ℕ, zero, suc, ◌+◌, ◌<◌, ◌≤◌, Bool, List, [], ◌∷◌}
+use Rattle.std.proofs.Common.{◌++◌, length, map, replicate, Some, IsFalse, refl, sym}
 use Rattle.std.proofs.Common.{ap}
 use Rattle.std.proofs.Common.{◌∙◌, subst, inl, inr, ◌⊎◌, arith}
 use Rattle.std.specs.Prelude.{slice_get, slice_index}
 use Rattle.std.proofs.lemmas.Bool.{cases_eq}
 use Rattle.std.proofs.lemmas.List.{map-append}
-use Rattle.rpki_paths.specs.declared.family.Family.{Family}
 use Rattle.rpki_paths.specs.declared.walker.Path.{Path}
 use Rattle.rpki_paths.specs.declared.walker.PathFault.{PathFault}
 use Rattle.rpki_paths.specs.declared.walker.PathFault.TheVariants.{NoValidIssuer, Returns, Revoked}
@@ -17,7 +16,7 @@ use Rattle.rpki_paths.specs.Cert.{Cert, IsIn, at_place}
 use Rattle.rpki_paths.specs.Path.{IsOff, IsPath, IsLinkCovered, IsDistinct}
 use Rattle.rpki_paths.specs.Anchor.{Supply}
 use Rattle.rpki_paths.specs.Walk.{AreFirst, IsRefused, IsWalked, KeepsMarks}
-use Rattle.rpki_paths.specs.Grant.{ArePaths, AreUsed, IsUsed}
+use Rattle.rpki_paths.specs.Grant.{ArePaths, IsUsed}
 use Rattle.rpki_paths.specs.Kept.{IsUnder, IsKept, AreKept, AreWalked, AreRefused, walks_fault}
 use Rattle.rpki_paths.specs.Laws.{RefusedHasNoPaths}
 use Rattle.rpki_paths.proofs.Chains.{unique}

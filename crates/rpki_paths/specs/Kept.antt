@@ -1,5 +1,5 @@
 -- What is kept of paths under supplies, and what walks from several certificates answer.
-use Rattle.std.specs.Prelude.{◌≡◌, ℕ, Bool, true, false, List, [], ◌∷◌, ◌++◌, Some, slice_get}
+use Rattle.std.specs.Prelude.{◌≡◌, Bool, true, false, List, [], ◌∷◌, ◌++◌, Some, slice_get}
 use Rattle.rpki_paths.specs.declared.family.Family.{Family}
 use Rattle.rpki_paths.specs.declared.sets.KeptSets.{KeptSets}
 use Rattle.rpki_paths.specs.declared.walker.Path.{Path}

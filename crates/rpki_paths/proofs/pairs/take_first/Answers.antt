@@ -1,10 +1,10 @@
 -- The search ends at the first that fits, or has passed all that are left.
-use Rattle.std.proofs.Common.{◌≡◌, ◌<◌, length, map, refl, sym, ap, ◌∙◌, subst, arith, false, true, set, Some}
+use Rattle.std.proofs.Common.{◌<◌, length, map, refl, sym, ap, ◌∙◌, subst, arith, false, true, set, Some}
 use Rattle.std.proofs.lemmas.Option.{slice_get_read, slice_get-get_or}
 use Rattle.std.proofs.lemmas.List.{length-map}
 use Rattle.rpki_paths.specs.Index.{listed, IsNamed}
 use Rattle.rpki_paths.specs.Taking.{IsTakenAt, left_of, FitsNone}
-use Rattle.rpki_paths.proofs.Taking.{IsFit, IsTaking, taking_none, taking_at, taking_within}
+use Rattle.rpki_paths.proofs.Taking.{IsFit, taking_none, taking_at, taking_within}
 use Rattle.rpki_paths.proofs.Taking.{taking_more, taking_found, taking_done}
 use Rattle.rpki_paths.proofs.Walking.{empty_from}
 use Rattle.rpki_paths.proofs.pairs.take_first.Goals as goal

@@ -1,5 +1,5 @@
 -- One certificate more has a path, or none has one that a CA stands on.
-use Rattle.std.proofs.Common.{◌≡◌, ◌<◌, ◌≤◌, ◌+◌, ◌*◌, ℕ, length, map, take, ◌++◌, ◌∷◌, [], refl}
+use Rattle.std.proofs.Common.{◌≡◌, ◌<◌, ◌+◌, ◌*◌, ℕ, length, map, take, ◌++◌, ◌∷◌, [], refl}
 use Rattle.std.proofs.Common.{sym, ap}
 use Rattle.std.proofs.Common.{◌∙◌, subst, arith, suc, suc-mul}
 use Rattle.std.specs.Prelude.{slice_index}

@@ -1,6 +1,5 @@
 -- Each identifier is put to the places that it had.
-use Rattle.std.proofs.Common.{◌≡◌, ◌+◌, ℕ, [], ◌∷◌, ◌++◌, length, Some, sym, ap, ◌∙◌, subst, arith}
-use Rattle.std.proofs.Common.{refl}
+use Rattle.std.proofs.Common.{◌≡◌, [], ◌∷◌, ◌++◌, length, ap, ◌∙◌, subst, arith}
 use Rattle.std.proofs.lemmas.Option.{slice_get-get_or}
 use Rattle.rpki_paths.specs.Index.{listed}
 use Rattle.rpki_paths.proofs.Indexing.{IsScan, indexed_more, named_from_scan}
