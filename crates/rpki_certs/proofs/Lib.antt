@@ -1,0 +1,3 @@
+pub mod CertExact
+pub mod Steps
+pub mod Kept

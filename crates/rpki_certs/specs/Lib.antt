@@ -1,0 +1,3 @@
+pub mod Cert
+pub mod Inspect
+pub mod Verify

@@ -1,0 +1,13 @@
+//! Octets of certificates, for tests: put together from values, and signed by the stand-in.
+//!
+//! Key n has the eight octets of n as its bits, the highest one first, as for
+//! `rpki_keys::standin::StandInSigner`.
+#![tactic(auto)]
+
+mod cert;
+mod numbers;
+mod octets;
+
+pub use cert::{CA, CertOf, DETACHED, EE, TA, cert_octets};
+pub use numbers::Numbers;
+pub use octets::{joined, key_identifier, signature_of, value};
