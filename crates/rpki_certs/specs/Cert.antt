@@ -68,8 +68,8 @@ CertForm mode octets c = (c.octets ≡ octets) × Sequence mode (
     ∷ (λ o. OctetsInBits mode o c.signature)
     ∷ []) octets
 
--- The certificate is self-signed by its form: the identifier of the issuer's key is missing, or that
--- of its own key (RFC 6487, section 4.8.3).
+-- The certificate is self-signed by its form: the identifier of the issuer's key is missing, or
+-- that of its own key (RFC 6487, section 4.8.3).
 abbrev pub IsSelfSigned : Tbs → Type 0
 IsSelfSigned t = IfSome t.extensions.key.authority_key (λ id. id ≡ t.extensions.key.subject_key)
 

@@ -20,8 +20,8 @@ abbrev pub Inherits : Claims → Type 0
 Inherits x =
     (x.as_numbers ≡ Inherit) ⊎ ((x.addresses.v4 ≡ Inherit) ⊎ (x.addresses.v6 ≡ Inherit))
 
--- Each certificate states the identifier of its own key, the SHA-1 digest of the key's bits (4.8.2),
--- and names numbers (4.8.10).
+-- Each certificate states the identifier of its own key, the SHA-1 digest of the key's bits
+-- (4.8.2), and names numbers (4.8.10).
 abbrev pub subject_checks : Tbs → List (Check InspectionError)
 subject_checks t =
     (faults.KeyIdentifier unless (t.extensions.key.subject_key ≡ sha1 t.key))

@@ -15,7 +15,8 @@ returns-in_err-algorithm c =
     let p = err_from_is_err_and r.result r.ensures.1 in
     let tbs = first (λ (k : Tbs × Kept). (k.0, k.1.octets)) (with_octets tbs_at) c.args.cons.now
     (c.in_ok-tbs.tbs, c.in_ok-tbs.signed) c.keep_tbs.new.cons c.in_ok-tbs.ensures in
-    rw (p.1, p.2) (fails (λ (_ : RpkiSignatureAlgorithm). tt) cert_algorithm_at (λ (k : Contents). k) contents_at
+    rw (p.1, p.2) (fails (λ (_ : RpkiSignatureAlgorithm). tt) cert_algorithm_at
+    (λ (k : Contents). k) contents_at
     c.args.cons.now c.keep_tbs.new.cons _ c.take_cert_from.new.cons tbs.0
     (contents-none _ _ _ _ tbs.1) c.in_err-algorithm.ensures.reads)
 
@@ -26,7 +27,8 @@ returns-in_err-signature c =
     let tbs = first (λ (k : Tbs × Kept). (k.0, k.1.octets)) (with_octets tbs_at) c.args.cons.now
     (c.in_ok-tbs.tbs, c.in_ok-tbs.signed) c.keep_tbs.new.cons c.in_ok-tbs.ensures in
     let algorithm = next (λ (_ : RpkiSignatureAlgorithm). tt) cert_algorithm_at c.args.cons.now
-    c.keep_tbs.new.cons c.in_ok-algorithm.algorithm c.take_cert_from.new.cons tbs.0 c.in_ok-algorithm.ensures.reads in
+    c.keep_tbs.new.cons c.in_ok-algorithm.algorithm c.take_cert_from.new.cons tbs.0
+    c.in_ok-algorithm.ensures.reads in
     rw (p.1, p.2) (fails (λ (s : List ℕ). s) octets_in_bits_at (λ (k : Contents). k) contents_at
     c.args.cons.now c.take_cert_from.new.cons _ c.take_octets_in_bits.new.self algorithm.0
     (contents-none-last _ _ _ _ _ _ tbs.1 algorithm.1) c.in_err-signature.ensures.reads)

@@ -23,9 +23,11 @@ returns-in_err-extensions c =
     c.args.cons.now c.in_ok-skip_version.field-0
     c.skip_version.new.cons c.in_ok-skip_version.ensures in
     let serial = next (λ (n : ℕ). n) u160_at c.args.cons.now c.skip_version.new.cons
-    c.in_ok-serial_number.serial_number c.take_from.new.cons version.0 c.in_ok-serial_number.ensures.reads in
+    c.in_ok-serial_number.serial_number c.take_from.new.cons version.0
+    c.in_ok-serial_number.ensures.reads in
     let algorithm = next (λ (_ : RpkiSignatureAlgorithm). tt) cert_algorithm_at c.args.cons.now
-    c.take_from.new.cons c.in_ok-take_cert_from.field-0 c.take_cert_from.new.cons serial.0 c.in_ok-take_cert_from.ensures.reads in
+    c.take_from.new.cons c.in_ok-take_cert_from.field-0 c.take_cert_from.new.cons serial.0
+    c.in_ok-take_cert_from.ensures.reads in
     let issuer = next (λ (n : Kept). n.octets) name_at c.args.cons.now c.take_cert_from.new.cons
     c.in_ok-issuer.issuer c.take_from-2.new.cons algorithm.0 c.in_ok-issuer.ensures.reads in
     let validity = next (λ (v : Period). v) validity_at c.args.cons.now c.take_from-2.new.cons
@@ -46,9 +48,11 @@ returns c =
     c.args.cons.now c.in_ok-skip_version.field-0
     c.skip_version.new.cons c.in_ok-skip_version.ensures in
     let serial = next (λ (n : ℕ). n) u160_at c.args.cons.now c.skip_version.new.cons
-    c.in_ok-serial_number.serial_number c.take_from.new.cons version.0 c.in_ok-serial_number.ensures.reads in
+    c.in_ok-serial_number.serial_number c.take_from.new.cons version.0
+    c.in_ok-serial_number.ensures.reads in
     let algorithm = next (λ (_ : RpkiSignatureAlgorithm). tt) cert_algorithm_at c.args.cons.now
-    c.take_from.new.cons c.in_ok-take_cert_from.field-0 c.take_cert_from.new.cons serial.0 c.in_ok-take_cert_from.ensures.reads in
+    c.take_from.new.cons c.in_ok-take_cert_from.field-0 c.take_cert_from.new.cons serial.0
+    c.in_ok-take_cert_from.ensures.reads in
     let issuer = next (λ (n : Kept). n.octets) name_at c.args.cons.now c.take_cert_from.new.cons
     c.in_ok-issuer.issuer c.take_from-2.new.cons algorithm.0 c.in_ok-issuer.ensures.reads in
     let validity = next (λ (v : Period). v) validity_at c.args.cons.now c.take_from-2.new.cons
