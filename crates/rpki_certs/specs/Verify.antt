@@ -30,15 +30,18 @@ HasNotEnded p now = stamp now ≤ stamp p.not_after
 abbrev pub IsSignedBy : Verdict → List ℕ → Certificate → Type 0
 IsSignedBy verdict key c = verdict key c.signed c.signature ≡ true
 
+-- What a certificate says of its issuer has to be what the issuer is.
 abbrev pub claim_checks : Tbs → Tbs → List (Check VerificationError)
 claim_checks issuer t = (faults.IssuerClaim unless IsClaimedOf issuer t) ∷ []
 
+-- The moment has to lie in the validity: first its beginning is looked at, then its end.
 abbrev pub validity_checks : Period → Moment → List (Check VerificationError)
 validity_checks p now =
     (faults.NotYetValid unless HasBegun p now)
     ∷ (faults.Expired unless HasNotEnded p now)
     ∷ []
 
+-- The key with these bits has to have signed the certificate.
 abbrev pub signature_checks : Verdict → List ℕ → Certificate → List (Check VerificationError)
 signature_checks verdict key c = (faults.BadSignature unless IsSignedBy verdict key c) ∷ []
 
