@@ -115,7 +115,7 @@ fn compare(alloc: Global, rows: &str) -> Result<(u32, u32), Fail> {
         let cas = certs(alloc, parts.next().unwrap_or(""))?;
         let given = supplies(alloc, parts.next().unwrap_or(""))?;
         let attested = sets(alloc, parts.next().unwrap_or(""))?;
-        let answer = answered(alloc, &ees, &cas, &given, &attested)?;
+        let answer = answered(alloc, Family::As, &ees, &cas, &given, &attested)?;
         all += 1;
         if is_wanted(answer, parts.next().unwrap_or("")) {
             good += 1;

@@ -1,3 +1,4 @@
 pub mod Cert
 pub mod Inspect
 pub mod Verify
+pub mod Validate

@@ -25,6 +25,9 @@ HasBegun p now = stamp p.not_before ≤ stamp now
 abbrev pub HasNotEnded : Period → Moment → Type 0
 HasNotEnded p now = stamp now ≤ stamp p.not_after
 
+abbrev pub IsInTime : Period → Moment → Type 0
+IsInTime p now = HasBegun p now × HasNotEnded p now
+
 -- The key with these bits signed the certificate: the octets of what is signed, as they stand in it
 -- (RFC 5280, section 6.1.3).
 abbrev pub IsSignedBy : Verdict → List ℕ → Certificate → Type 0

@@ -18,7 +18,7 @@ pub use fields::are_same;
 use read::Contents;
 use rpki_der::laws::slices_hold_octets;
 use rpki_der::{Captured, Constructed, DecodeError, Mode};
-use std::alloc::Global;
+use std::alloc::{AllocError, Global};
 use std::marker::Model;
 
 /// A certificate of resources (RFC 5280, section 4.1; RFC 6487, section 4), with its octets as they
@@ -161,5 +161,15 @@ impl Cert {
         // What a value's type promises is known to the proof only where one of its fields is read.
         let _ = &self.captured;
         CertEncoder(self)
+    }
+}
+
+impl Clone for Cert {
+    ghost is_clone = { λ c copy. copy ≡ c };
+
+    fn clone(&self) -> Result<Cert, AllocError> {
+        let contents = self.contents.clone()?;
+        let captured = self.captured.clone()?;
+        Ok(Cert { contents, captured })
     }
 }

@@ -1,9 +1,9 @@
 -- Files and manifests are read exactly.
 use Rattle.std.proofs.Common.{◌≡◌, ℕ, ◌≤◌, Bool, true, false, cond, List, [], ◌∷◌, Option, Some}
-use Rattle.std.proofs.Common.{None, refl, sym, ap, subst, ◌∙◌, arith}
-use Rattle.std.specs.Prelude.{Decides, nat_le, ◌==◌, bytes_eq}
+use Rattle.std.proofs.Common.{None, refl, sym, ap, subst, ◌∙◌}
+use Rattle.std.specs.Prelude.{Decides, nat_le, bytes_eq}
 use Rattle.std.specs.List.{list_all}
-use Rattle.std.proofs.lemmas.Bool.{leb-true, le-leb, eqb-true}
+use Rattle.std.proofs.lemmas.Bool.{leb-true, le-leb}
 use Rattle.std.proofs.lemmas.Slice.Eq.{bytes_eq-Decides}
 use Rattle.rpki_basics.specs.declared.limits.ManifestRule.{ManifestRule}
 use Rattle.rpki_basics.specs.declared.limits.ManifestRule.TheVariants.{Any, Registered}
@@ -15,7 +15,7 @@ use Rattle.rpki_der.specs.Tags.{SEQUENCE, IA5_STRING, BIT_STRING, OBJECT_IDENTIF
 use Rattle.rpki_der.specs.Tags.{context}
 use Rattle.rpki_der.specs.declared.mode.Mode.{Mode}
 use Rattle.rpki_der.specs.declared.mode.Mode.TheVariants.{Der}
-use Rattle.rpki_der.specs.Grammar.{Integer, ObjectIdentifier}
+use Rattle.rpki_der.specs.Grammar.{ObjectIdentifier}
 use Rattle.rpki_der.specs.Read.Parse.{Parser, ◌>>=◌, u160_at, oid_at}
 use Rattle.rpki_der.specs.Read.Parse.{optional, value_at, whole, in_value}
 use Rattle.rpki_der.specs.Read.Exact.{IsReading}
@@ -25,8 +25,8 @@ use Rattle.rpki_der.specs.Form.Parts.{SequenceOf}
 use Rattle.rpki_der.specs.Form.Keyed.{AreDistinct}
 use Rattle.rpki_der.proofs.Form.Keyed.{distinct-decides}
 use Rattle.rpki_der.proofs.Form.Fields.{field, field-if, fixed, skipped, guard, done, within, within-if}
-use Rattle.rpki_der.proofs.Form.Kinds.{u8-part, u160-part, oid-part, bits-part, ia5-part}
-use Rattle.rpki_der.proofs.Form.Words.{in-tag, pass, part-as, make, make-some, option}
+use Rattle.rpki_der.proofs.Form.Kinds.{u160-part, oid-part, bits-part, ia5-part}
+use Rattle.rpki_der.proofs.Form.Words.{pass, part-as, make, make-some, option}
 use Rattle.rpki_der.proofs.Reading.Unique.{reading, IsOneValue}
 use Rattle.rpki_lists.specs.Rules.{admits}
 use Rattle.rpki_lists.proofs.Exact.{list-part, part-spelt}
@@ -34,10 +34,12 @@ use Rattle.rpki_files.specs.Name.{is_file_name, is_registered}
 use Rattle.rpki_files.specs.File.{File, NameForm, HashForm, FileForm, MeetsRule, name_of, name_at}
 use Rattle.rpki_files.specs.File.{hash_at, file_fields_at, file_at, is_allowed, names_by}
 use Rattle.rpki_files.specs.File.{is_unrepeated, files_at}
-use Rattle.rpki_files.specs.Manifest.{Manifest, VersionForm, ManifestForm, zero_alone}
-use Rattle.rpki_files.specs.Manifest.{Head, version_at, ordered, head_at, rest_at, fields_at}
+use Rattle.rpki_files.specs.Version.{version_at}
+use Rattle.rpki_files.specs.Manifest.{Manifest, ManifestForm}
+use Rattle.rpki_files.specs.Manifest.{Head, ordered, head_at, rest_at, fields_at}
 use Rattle.rpki_files.specs.Manifest.{manifest_at}
 use Rattle.rpki_files.proofs.Names.{name-decides}
+use Rattle.rpki_files.proofs.VersionExact.{found, found-true, version-part}
 
 -- ---- a file
 
@@ -116,21 +118,6 @@ files-part rule = part-as
     (λ mode o fs h. let m = met rule fs h.1 in ((h.0, m.0), m.1))
 
 -- ---- a manifest
-
-abbrev found : Bool → Option (Unit {0})
-found t = cond t (Some tt) None
-
-found-true : (t : Bool) → found t ≡ Some tt → t ≡ true
-found-true true e = refl
-found-true false e = absurd cc
-
-zero-is : (n : ℕ) → zero_alone n ≡ Some tt → n ≡ 0
-zero-is n e = eqb-true n 0 (found-true (n == 0) e)
-
-version-part : IsPart (is (context 0)) nothing version_at VersionForm
-version-part = in-tag (context 0) (part-as (make-some zero_alone u8-part)
-    (λ mode c u h. subst (λ (n : ℕ). Integer mode c n) (zero-is h.0 h.2) (h.1.0, h.1.1, h.1.2.0))
-    (λ mode c u h. (0, (h.0, h.1, (h.2, omega arith)), refl)))
 
 named-is : (oid read : List ℕ) → named oid read ≡ Some tt → read ≡ oid
 named-is oid read e = (bytes_eq-Decides read oid).0 (found-true (bytes_eq read oid) e)
@@ -223,7 +210,7 @@ fields-spelt rule mode b = of (optional (context 0) version_at mode b)
     of None = refl
     of (Some version) = number-spelt rule mode (u160_at mode version.1)
 
-within-spelt : {X : Type 0} (tag : ℕ) (p q : Parser X)
+pub within-spelt : {X : Type 0} (tag : ℕ) (p q : Parser X)
     → ((mode : Mode) (c : List ℕ) → p mode c ≡ q mode c) → (mode : Mode) (b : List ℕ)
     → in_value tag p mode b ≡ in_value tag q mode b
 within-spelt {X} tag p q same mode b = of (value_at tag mode b)
@@ -267,7 +254,7 @@ manifest-part rule = part-spelt
 
 -- ---- as readings
 
-as-reading : {X : Type 0} {p : Parser X} {G : Mode → List ℕ → X → Type 0}
+pub as-reading : {X : Type 0} {p : Parser X} {G : Mode → List ℕ → X → Type 0}
     → IsPart (is SEQUENCE) nothing p G → IsOneValue G → IsReading p G
 as-reading {X} {p} {G} part one = reading p G
     (λ mode. record {

@@ -5,8 +5,9 @@ use Rattle.std.proofs.lemmas.List.Elements.{All-cons, All-nil}
 use Rattle.rpki_der.specs.Tags.{SEQUENCE}
 use Rattle.rpki_der.specs.declared.mode.Mode.TheVariants.{Der}
 use Rattle.rpki_der.specs.Read.Parse.{Parser, value_at, whole, each, all_of, tested, ia5_at}
+use Rattle.rpki_der.specs.Form.Parts.{sequence_at}
 use Rattle.rpki_der.proofs.Reading.Lengths.{bind_some, some_is}
-use Rattle.rpki_lists.specs.Entries.{entries_of, AreEntries}
+use Rattle.rpki_lists.specs.Entries.{entries_of, HoldEntries}
 use Rattle.rpki_files.specs.Name.{IsFileName, is_file_name}
 use Rattle.rpki_files.specs.File.{File, name_of, name_at, hash_at, file_fields_at, file_at}
 use Rattle.rpki_files.proofs.Names.{name-decides}
@@ -32,7 +33,7 @@ module _ {X : Type 0} (p : Parser X) (Good : X → Type 0)
   unfolding all_of
   all-good b xs e = each-good _ b xs e
 
-  pub entries-good : (b : List ℕ) → AreEntries p b → All Good (entries_of p b)
+  pub entries-good : (b : List ℕ) → HoldEntries p b → All Good (entries_of p b)
   entries-good b h =
       let same : entries_of p b ≡ h.0 = rw h.1 refl in
       subst (All Good) (sym same) (all-good b h.0 h.1)
@@ -41,12 +42,13 @@ passed : {A : Type 0} (t : Bool) (u v : A) → cond t (Some u) None ≡ Some v �
 passed true u v e = (refl, some_is u v e)
 passed false u v e = absurd cc
 
-name-good : (b name r : List ℕ) → name_at Der b ≡ Some (name, r) → is_file_name name ≡ true
+pub tested-good : {X : Type 0} (test : X → Bool) (p : Parser X) (b : List ℕ) (x : X) (r : List ℕ)
+    → tested test p Der b ≡ Some (x, r) → test x ≡ true
 unfolding tested
-name-good b name r e =
-    let u = bind_some (ia5_at Der b) _ (name, r) e in
-    let t = passed (is_file_name u.0.0) u.0 (name, r) u.2 in
-    subst (λ (v : List ℕ × List ℕ). is_file_name v.0 ≡ true) t.1 t.0
+tested-good {X} test p b x r e =
+    let u = bind_some (p Der b) _ (x, r) e in
+    let t = passed (test u.0.0) u.0 (x, r) u.2 in
+    subst (λ (v : X × List ℕ). test v.0 ≡ true) t.1 t.0
 
 fields-good : (b : List ℕ) (f : File) (r : List ℕ) → file_fields_at Der b ≡ Some (f, r)
     → IsFileName (name_of f)
@@ -57,24 +59,36 @@ fields-good b f r e =
     let q : (let t : File × List ℕ = (record { file = u.0.0; hash = v.0.0 }, v.0.1) in t) ≡ (f, r) =
     some_is _ _ v.2 in
     subst (λ (t : File × List ℕ). IsFileName (name_of t.0)) q
-    ((name-decides u.0.0).0 (name-good b u.0.0 u.0.1 u.1))
+    ((name-decides u.0.0).0 (tested-good is_file_name ia5_at b u.0.0 u.0.1 u.1))
 
-whole-is : (o : Option (File × List ℕ)) (f : File) → whole o ≡ Some f
-    → (r : List ℕ) × (o ≡ Some (f, r))
-whole-is None f e = absurd cc
-whole-is (Some (g, [])) f e =
-    ([], ap (λ (t : File). (let o : Option (File × List ℕ) = Some (t, []) in o)) (some_is g f e))
-whole-is (Some (g, b ∷ r)) f e = absurd cc
+whole-is : {X : Type 0} (o : Option (X × List ℕ)) (x : X) → whole o ≡ Some x
+    → (r : List ℕ) × (o ≡ Some (x, r))
+whole-is None x e = absurd cc
+whole-is {X} (Some (y, [])) x e =
+    ([], ap (λ (t : X). (let o : Option (X × List ℕ) = Some (t, []) in o)) (some_is y x e))
+whole-is (Some (y, b ∷ r)) x e = absurd cc
+
+-- what stands in a SEQUENCE
+pub in-sequence : {X : Type 0} (p : Parser X) (b : List ℕ) (x : X) (r : List ℕ)
+    → sequence_at p Der b ≡ Some (x, r)
+    → (c : List ℕ) × (s : List ℕ) × (p Der c ≡ Some (x, s))
+in-sequence {X} p b x r e =
+    let u = bind_some (value_at SEQUENCE Der b) _ (x, r) e in
+    let v = bind_some (whole (p Der u.0.0)) _ (x, r) u.2 in
+    let q : (let t : X × List ℕ = (v.0, u.0.1) in t) ≡ (x, r) = some_is _ _ v.2 in
+    let w = whole-is (p Der u.0.0) v.0 v.1 in (
+      u.0.0,
+      w.0,
+      subst (λ (t : X × List ℕ). (let o : Option (X × List ℕ) = Some (t.0, w.0) in
+          p Der u.0.0 ≡ o)) q w.1,
+    )
 
 file-good : (b : List ℕ) (f : File) (r : List ℕ) → file_at Der b ≡ Some (f, r)
     → IsFileName (name_of f)
 file-good b f r e =
-    let u = bind_some (value_at SEQUENCE Der b) _ (f, r) e in
-    let v = bind_some (whole (file_fields_at Der u.0.0)) _ (f, r) u.2 in
-    let q : (let t : File × List ℕ = (v.0, u.0.1) in t) ≡ (f, r) = some_is _ _ v.2 in
-    let w = whole-is (file_fields_at Der u.0.0) v.0 v.1 in
-    subst (λ (t : File × List ℕ). IsFileName (name_of t.0)) q (fields-good u.0.0 v.0 w.0 w.1)
+    let c = in-sequence file_fields_at b f r e in
+    fields-good c.0 f c.1 c.2
 
-pub files-named : (b : List ℕ) → AreEntries file_at b
+pub files-named : (b : List ℕ) → HoldEntries file_at b
     → All (λ (f : File). IsFileName (name_of f)) (entries_of file_at b)
 files-named b h = entries-good file_at (λ f. IsFileName (name_of f)) file-good b h

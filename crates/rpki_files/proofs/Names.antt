@@ -6,6 +6,7 @@ use Rattle.std.specs.List.{list_all}
 use Rattle.std.proofs.lemmas.Bool.{eqb-true, ltb-false, le-ltb, leb-true}
 use Rattle.std.proofs.lemmas.List.{take_at, drop_at, take-append-drop, length-append, length-take-le}
 use Rattle.std.proofs.lemmas.List.Elements.{All-append, All-cons, All-nil}
+use Rattle.rpki_files.specs.Checked.{is_portable, is_portable_name}
 use Rattle.rpki_files.specs.Name.{IsFileName, is_file_name, is_ending, is_letter, is_stem, is_from}
 
 pub and-true : (a b : Bool) → (a && b) ≡ true → (a ≡ true) × (b ≡ true)
@@ -130,3 +131,9 @@ name-below name h =
     (all-below is_stem stem-below h.stem h.characters)
     (All-cons (λ b. b < 128) 0x2E h.ending (omega arith)
     (all-below is_letter letter-below h.ending h.letters)))
+
+-- ---- and so are those of a checklist
+
+pub portable-below : (name : List ℕ) → is_portable_name name ≡ true → All (λ b. b < 128) name
+portable-below name h = all-below is_portable (λ b k. or-true (is_stem b) (b == 0x2E) k (b < 128)
+    (stem-below b) (λ e. let is : b ≡ 0x2E = eqb-true b 0x2E e in omega (arith, is))) name h

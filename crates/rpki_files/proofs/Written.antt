@@ -74,9 +74,8 @@ pub manifest-written : (m : Manifest) → SerialForm Der (serial_octets m.number
     → TimeForm Der (generalized_octets m.this_update) m.this_update
     → TimeForm Der (generalized_octets m.next_update) m.next_update
     → stamp m.this_update ≤ stamp m.next_update → All (λ (f : File). IsFileName f.file) m.files
-    → length (manifest_octets m) < 2 ^ 32 → ManifestForm Any Der (manifest_octets m) m
-manifest-written m number this next order names h =
-    let short = contents_small SEQUENCE (manifest_contents m) h in
+    → length (manifest_contents m) < 2 ^ 32 → ManifestForm Any Der (manifest_octets m) m
+manifest-written m number this next order names short =
     let a = length_parts (serial_octets m.number) _ short in
     let b = length_parts (generalized_octets m.this_update) _ a.1 in
     let c = length_parts (generalized_octets m.next_update) _ b.1 in

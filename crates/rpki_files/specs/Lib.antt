@@ -1,3 +1,6 @@
+pub mod Version
 pub mod Name
 pub mod File
 pub mod Manifest
+pub mod Checked
+pub mod Checklist

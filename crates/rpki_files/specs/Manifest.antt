@@ -1,6 +1,6 @@
 -- The content of a manifest. The sections are those of RFC 9286.
 use Rattle.std.specs.Prelude.{ℕ, ◌≤◌, List, [], ◌∷◌, ◌++◌, Option, Some, None}
-use Rattle.std.specs.Prelude.{nat_le, ◌==◌, if◌then◌else◌}
+use Rattle.std.specs.Prelude.{nat_le, if◌then◌else◌}
 use Rattle.std.specs.List.{flat_map}
 use Rattle.rpki_basics.specs.declared.limits.ManifestRule.{ManifestRule}
 use Rattle.rpki_basics.specs.Moment.{Moment, stamp}
@@ -11,11 +11,12 @@ use Rattle.rpki_keys.specs.Algorithm.{sha_256, named}
 use Rattle.rpki_der.specs.Tags.{SEQUENCE, OBJECT_IDENTIFIER, context}
 use Rattle.rpki_der.specs.declared.mode.Mode.{Mode}
 use Rattle.rpki_der.specs.declared.mode.Mode.TheVariants.{Der}
-use Rattle.rpki_der.specs.Grammar.{Integer, ObjectIdentifier, Optional}
-use Rattle.rpki_der.specs.Read.Parse.{Parser, ◌>>=◌, u8_at, u160_at, oid_at, optional}
-use Rattle.rpki_der.specs.Form.Parts.{Sequence, SequenceOf, Explicit, sequence_at, context_at}
+use Rattle.rpki_der.specs.Grammar.{ObjectIdentifier, Optional}
+use Rattle.rpki_der.specs.Read.Parse.{Parser, ◌>>=◌, u160_at, oid_at, optional}
+use Rattle.rpki_der.specs.Form.Parts.{Sequence, SequenceOf, sequence_at}
 use Rattle.rpki_der.specs.Form.Made.{Ignored, partly}
 use Rattle.rpki_der.specs.Write.Written.{value_octets}
+use Rattle.rpki_files.specs.Version.{VersionForm, version_at}
 use Rattle.rpki_files.specs.File.{File, FileForm, MeetsRule, files_at, file_octets}
 
 -- what a content says
@@ -30,10 +31,6 @@ pub record Manifest : Type 0 where
 pub record IsManifest (rule : ManifestRule) (m : Manifest) : Type 0 where
   pub order : stamp m.this_update ≤ stamp m.next_update
   pub files : MeetsRule rule m.files
-
--- [0] INTEGER that is 0 (section 4.2.1)
-abbrev pub VersionForm : Mode → List ℕ → Unit {0} → Type 0
-VersionForm mode octets _ = Explicit 0 mode (λ c. Integer mode c 0) octets
 
 -- Manifest ::= SEQUENCE { version [0] INTEGER DEFAULT 0, manifestNumber INTEGER (0..MAX),
 -- thisUpdate, nextUpdate, fileHashAlg OBJECT IDENTIFIER, fileList SEQUENCE OF FileAndHash }
@@ -51,14 +48,6 @@ ManifestForm rule mode octets m = Sequence mode (
     ∷ []) octets × IsManifest rule m
 
 -- ---- as functions
-
--- the number, where it is 0
-abbrev pub zero_alone : ℕ → Option (Unit {0})
-zero_alone n = if n == 0 then Some tt else None
-
--- the version
-abbrev pub version_at : Parser (Unit {0})
-version_at = context_at 0 (partly zero_alone u8_at)
 
 -- the number and both updates
 abbrev pub Head : Type 0

@@ -13,7 +13,7 @@ use rpki_basics::ManifestRule;
 use rpki_der::encode::{bit_string, ia5, sequence};
 use rpki_der::{Constructed, DecodeError, Reason};
 use rpki_lists::{
-    Entry, EntryIter, EntryList, Kind, Refused, Rule, SliceReader, Written, take_list,
+    EntryIter, EntryList, Kind, Refused, Rule, SliceEntry, SliceReader, Written, take_list,
 };
 use std::alloc::{AllocError, Global};
 use std::collections::BTreeSet;
@@ -92,7 +92,7 @@ impl Kind for Files {
 #[derive(Drop)]
 pub struct FileEntry<'a>(PhantomData<&'a [u8]>);
 
-impl<'a> Entry for FileEntry<'a> {
+impl<'a> SliceEntry for FileEntry<'a> {
     type Kind = Files;
 
     type Item = FileAndHash<&'a [u8], &'a [u8]>;
@@ -113,6 +113,10 @@ impl<'a> Entry for FileEntry<'a> {
             Err(_) => None,
         }
     }
+
+    fn again(reader: &SliceReader<'a>) -> SliceReader<'a> {
+        reader.again()
+    }
 }
 
 impl<'a> Written for FileEntry<'a> {
@@ -128,10 +132,6 @@ impl<'a> Written for FileEntry<'a> {
 
     fn encoder(file: FileAndHash<&'a [u8], &'a [u8]>) -> FileEncoder<'a> {
         sequence((ia5(file.file), bit_string(file.hash, 0)))
-    }
-
-    fn again(reader: &SliceReader<'a>) -> SliceReader<'a> {
-        reader.again()
     }
 }
 

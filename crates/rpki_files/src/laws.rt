@@ -1,4 +1,4 @@
-//! What the definitions of files and manifests say: laws, as functions that do nothing.
+//! What the definitions of files, manifests and checklists say: laws, as functions that do nothing.
 
 ghost use Rattle.std.specs.Prelude.{◌≡◌, ◌<◌, ◌^◌, ◌++◌, ℕ, List, Some, Decides, length};
 ghost use Rattle.rpki_basics.specs.declared.limits.ManifestRule.{ManifestRule};
@@ -8,6 +8,8 @@ ghost use Rattle.rpki_der.specs.declared.mode.Mode.{Mode};
 ghost use Rattle.rpki_der.specs.Read.Exact.{IsReading};
 ghost use Rattle.rpki_files.specs.Name.{IsFileName, is_file_name};
 ghost use Rattle.rpki_files.specs.File.{FileForm, file_at};
+ghost use Rattle.rpki_files.specs.Checked.{CheckedForm, checked_at};
+ghost use Rattle.rpki_files.specs.Checklist.{ChecklistForm, checklist_at};
 ghost use Rattle.rpki_files.specs.Manifest.{Manifest, ManifestForm, manifest_at};
 
 /// What the name of a file is (RFC 9286, section 4.2.2).
@@ -21,6 +23,13 @@ pub fn manifests()
     ensures file { IsReading file_at FileForm }
     ensures manifest { (rule : ManifestRule)
         → IsReading (manifest_at rule) (ManifestForm rule) }
+{}
+
+/// A file of a checklist and a checklist are read exactly, they are unique, and DER is a part of BER
+/// (RFC 9323, section 4).
+pub fn checklists()
+    ensures file { IsReading checked_at CheckedForm }
+    ensures checklist { IsReading checklist_at ChecklistForm }
 {}
 
 /// What is taken where types have to be registered and no name may come twice, is taken with the

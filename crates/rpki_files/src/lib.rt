@@ -1,13 +1,18 @@
-//! Contents that list files: manifests (RFC 9286).
+//! Contents that list files: manifests (RFC 9286) and signed checklists (RFC 9323).
 #![tactic(auto)]
 
+mod checked;
+mod checklist;
 mod file;
 mod files;
 mod hash;
 pub mod laws;
 mod manifest;
 mod name;
+mod version;
 
+pub use checked::{CheckListIter, CheckedEntry, CheckedFiles, FileNameAndHash};
+pub use checklist::{ChecklistEncoder, ResourceSignedChecklist};
 pub use file::{FileAndHash, FileEncoder};
 pub use files::{FileEntry, FileListIter, Files};
 pub use hash::{ManifestHash, ManifestHashMismatch};

@@ -11,7 +11,8 @@ ghost use Rattle.rpki_keys.specs.declared.algorithm.DigestAlgorithm.TheVariants.
 ghost use Rattle.rpki_der.specs.declared.mode.Mode.TheVariants.{Der};
 ghost use Rattle.rpki_der.specs.Read.Reads.{Reads, Stays};
 ghost use Rattle.rpki_der.specs.Form.Decodes.{Decodes, DecodesNext};
-ghost use Rattle.rpki_files.specs.Manifest.{ManifestForm, manifest_at, manifest_octets};
+ghost use Rattle.rpki_files.specs.Manifest.{ManifestForm, manifest_at, manifest_contents};
+ghost use Rattle.rpki_files.specs.Manifest.{manifest_octets};
 
 use crate::files::{FileListIter, Files, files_of};
 use bytes::Bytes;
@@ -155,9 +156,9 @@ impl ManifestContent {
     /// each hash without unused bits.
     pub fn encode_ref(&self) -> ManifestEncoder<'_>
         ensures value { result ≡ self.now }
-        ensures written { length (manifest_octets self.now) < 2 ^ 32
+        ensures written { length (manifest_contents self.now) < 2 ^ 32
             → ManifestForm Any Der (manifest_octets self.now) self.now }
-        ensures read { length (manifest_octets self.now) < 2 ^ 32 → (rest : List ℕ)
+        ensures read { length (manifest_contents self.now) < 2 ^ 32 → (rest : List ℕ)
             → manifest_at Any Der (manifest_octets self.now ++ rest) ≡ Some (self.now, rest) }
     {
         // The proof takes from these calls that each field is written in its form.

@@ -16,9 +16,9 @@ fn is_letter(b: u8) -> bool
     (b'a'..=b'z').contains(&b) || (b'A'..=b'Z').contains(&b)
 }
 
-// Whether a character may stand before the dot.
+/// Whether a character may stand before the dot.
 #[inline(always)]
-fn is_stem(b: u8) -> bool
+pub fn is_stem(b: u8) -> bool
     ensures { result ≡ is_stem b }
 {
     is_letter(b) || (b'0'..=b'9').contains(&b) || b == b'-' || b == b'_'

@@ -1,9 +1,11 @@
 //! Tests of `rpki_files`, each a table of rows that one small function walks.
 //!
-//! The octets follow from RFC 9286, section 4.2, and X.690. A test hands want of memory on and
-//! asserts everything else.
+//! The octets follow from RFC 9286, section 4.2, RFC 9323, section 4, and X.690. A test hands want
+//! of memory on and asserts everything else.
 #![tactic(auto)]
 
+#[cfg(test)]
+mod checklists;
 #[cfg(test)]
 mod names;
 #[cfg(test)]

@@ -5,9 +5,11 @@
 #![tactic(auto)]
 
 mod cert;
+mod change;
 mod numbers;
 mod octets;
 
 pub use cert::{CA, CertOf, DETACHED, EE, TA, cert_octets};
+pub use change::{Change, Place, changed};
 pub use numbers::Numbers;
 pub use octets::{joined, key_identifier, signature_of, value};

@@ -6,7 +6,7 @@ use Rattle.std.proofs.lemmas.List.{length-append, append-nil}
 use Rattle.rpki_der.specs.declared.mode.Mode.TheVariants.{Der}
 use Rattle.rpki_der.specs.Read.Parse.{Parser, ◌>>=◌, all_of}
 use Rattle.rpki_lists.specs.Entries.{Shrinks}
-use Rattle.rpki_lists.specs.Rules.{goes_on, admits, PassesBy}
+use Rattle.rpki_lists.specs.Rules.{goes_on, admits, lets_all, PassesBy}
 use Rattle.rpki_lists.proofs.Lists.{all-first, all-refused, all-ended}
 
 abbrev pub with_all : {X : Type 0} → List X → Option (List X) → Option (List X)
@@ -111,6 +111,6 @@ module _ {S X : Type 0} (p : Parser X) (after : S → X → Option S) (s : Shrin
 
 -- what is free is admitted
 pub free-admits : {S X : Type 0} (s : S) (xs : List X)
-    → admits {S = S} {X = X} (λ t _. Some t) s xs ≡ true
+    → admits {S = S} {X = X} lets_all s xs ≡ true
 free-admits s [] = refl
 free-admits s (x ∷ xs) = free-admits s xs

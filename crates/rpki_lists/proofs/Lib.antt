@@ -4,3 +4,4 @@ pub mod Exact
 pub mod OctetsInDer
 pub mod Taking
 pub mod Writing
+pub mod Fronts

@@ -6,8 +6,8 @@ use Rattle.std.specs.Iterator.{YieldsFirstBy, MakesProgress, at_most}
 use Rattle.rpki_der.specs.declared.mode.Mode.TheVariants.{Der}
 use Rattle.rpki_der.specs.Read.Parse.{Parser, ◌>>=◌, all_of}
 use Rattle.rpki_der.proofs.Reading.Skips.{Takes, all-more, all-none, all-end}
-use Rattle.rpki_lists.specs.Slice.{TakesFront}
-use Rattle.rpki_lists.specs.Entries.{or_empty, entries_of, AreEntries, Shrinks}
+use Rattle.rpki_lists.specs.Slice.{FindsFront}
+use Rattle.rpki_lists.specs.Entries.{or_empty, entries_of, HoldEntries, Shrinks}
 
 takes : {X : Type 0} (p : Parser X) → Shrinks p → Takes (p Der)
 takes p s = record { at = s }
@@ -36,15 +36,15 @@ module _ {X : Type 0} (p : Parser X) (s : Shrinks p) where
   bound-some x None xs e = absurd cc
   bound-some x (Some ys) xs e = (ys, refl)
 
-  still-entries : (b : List ℕ) (x : X) (r : List ℕ) → p Der b ≡ Some (x, r) → AreEntries p b
-      → AreEntries p r
+  still-entries : (b : List ℕ) (x : X) (r : List ℕ) → p Der b ≡ Some (x, r) → HoldEntries p b
+      → HoldEntries p r
   still-entries b x r e h = bound-some x (all_of p Der r) h.0 (sym (all-first b x r e) ∙ h.1)
 
   first-of : (x : X) (o : Option (List X)) (ys : List X) → o ≡ Some ys
       → or_empty (o >>= λ zs. Some (x ∷ zs)) ≡ x ∷ or_empty o
   first-of x o ys e = rw e refl
 
-  gives-first : (b : List ℕ) (x : X) (r : List ℕ) → p Der b ≡ Some (x, r) → AreEntries p b
+  gives-first : (b : List ℕ) (x : X) (r : List ℕ) → p Der b ≡ Some (x, r) → HoldEntries p b
       → entries_of p b ≡ x ∷ entries_of p r
   gives-first b x r e h =
       let t = still-entries b x r e h in
@@ -53,13 +53,13 @@ module _ {X : Type 0} (p : Parser X) (s : Shrinks p) where
 -- what a step of an iterator that is not at its end gives: the first of the entries that are left
 pub record Stepped {T X : Type 0} (view : T → X) (p : Parser X) (old : List ℕ) (result : Option T)
     (new : List ℕ) : Type 0 where
-  pub are : AreEntries p new
+  pub are : HoldEntries p new
   pub gives : YieldsFirstBy view (λ (l : List X). l) (entries_of p old) result (entries_of p new)
   pub some : (t : T) × (result ≡ Some t)
 
 pub stepped : {T X : Type 0} (view : T → X) (p : Parser X) → Shrinks p → (old : List ℕ)
-    (result : Option T) (new : List ℕ) → AreEntries p old → (length old ≡ 0 → ⊥)
-    → TakesFront view p old result new → Stepped view p old result new
+    (result : Option T) (new : List ℕ) → HoldEntries p old → (length old ≡ 0 → ⊥)
+    → FindsFront view p old result new → Stepped view p old result new
 stepped view p s old None new are some h =
     absurd (let none : all_of p Der old ≡ None = all-refused p s old some h in
     let never : (let o : Option (List _) = None in o) ≡ Some are.0 = sym none ∙ are.1 in cc)

@@ -14,7 +14,7 @@ use Rattle.rpki_der.specs.Read.Parse.{Parser, ◌>>=◌, primitive, value_at, al
 use Rattle.rpki_der.specs.Read.Reads.{Reads, IsAgain}
 use Rattle.rpki_der.proofs.Reading.Calls.{reads-ok, err-as}
 use Rattle.rpki_lists.specs.Entries.{entries_of, list_at}
-use Rattle.rpki_lists.specs.Rules.{admits, CountsBy}
+use Rattle.rpki_lists.specs.Rules.{admits, CountsBy, lets_all}
 use Rattle.rpki_lists.proofs.Counting.{free-admits}
 
 module _ {X : Type 0} (p : Parser X) (test : List X → Bool) (mode : Mode) (b : List ℕ) where
@@ -106,19 +106,19 @@ module _ {X : Type 0} (p : Parser X) (test : List X → Bool) (old : State) wher
 
 -- a rule that admits all
 free-tested : {S X : Type 0} (p : Parser X) (s : S) (mode : Mode) (b : List ℕ)
-    → tested (admits (λ t _. Some t) s) (list_at p) mode b ≡ list_at p mode b
+    → tested (admits lets_all s) (list_at p) mode b ≡ list_at p mode b
 unfolding tested
 free-tested {S} {X} p s mode b = of (list_at p mode b)
   where
     of : (o : Option (List X × List ℕ))
         → ◌>>=◌ {B = List X × List ℕ} o
-        (λ x. cond (admits {S = S} {X = X} (λ t _. Some t) s x.0) (Some x) None) ≡ o
+        (λ x. cond (admits {S = S} {X = X} lets_all s x.0) (Some x) None) ≡ o
     of None = refl
     of (Some x) = rw (free-admits s x.0) refl
 
 pub take-free : {S T X : Type 0} (p : Parser X) (s : S) (view : T → List X) (old : State)
     (result : Result T DecodeError) (new : State)
-    → Reads view (tested (admits (λ t _. Some t) s) (list_at p)) old result new
+    → Reads view (tested (admits lets_all s) (list_at p)) old result new
     → Reads view (list_at p) old result new
 take-free p s view old result new h =
     let same = free-tested p s old.mode old.rest in

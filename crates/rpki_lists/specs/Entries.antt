@@ -15,8 +15,8 @@ abbrev pub entries_of : {X : Type 0} → Parser X → List ℕ → List X
 entries_of p octets = or_empty (all_of p Der octets)
 
 -- The octets are entries in DER, one after the other.
-abbrev pub AreEntries : {X : Type 0} → Parser X → List ℕ → Type 0
-AreEntries {X} p octets = (xs : List X) × (all_of p Der octets ≡ Some xs)
+abbrev pub HoldEntries : {X : Type 0} → Parser X → List ℕ → Type 0
+HoldEntries {X} p octets = (xs : List X) × (all_of p Der octets ≡ Some xs)
 
 -- A SEQUENCE OF entries, each of which p reads. The entries stand in DER whatever the mode is.
 abbrev pub list_at : {X : Type 0} → Parser X → Parser (List X)

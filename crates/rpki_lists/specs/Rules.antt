@@ -15,6 +15,10 @@ abbrev pub admits : {S X : Type 0} → (S → X → Option S) → S → List X �
 admits after s [] = true
 admits after s (x ∷ xs) = goes_on (λ t. admits after t xs) (after s x)
 
+-- what a rule has seen that lets each entry stand anywhere
+abbrev pub lets_all : {S X : Type 0} → S → X → Option S
+lets_all s x = Some s
+
 -- An entry is gone past, where there is one that may stand there.
 abbrev pub PassesBy : {S X E : Type 0} → Parser X → (S → X → Option S) → S → List ℕ
     → Result (Unit {0}) E → S → List ℕ → Type 0

@@ -4,9 +4,9 @@ use Rattle.rpki_der.specs.declared.mode.Mode.TheVariants.{Der}
 use Rattle.rpki_der.specs.Read.Parse.{Parser}
 
 -- The call finds what p finds by the rules of DER, and leaves what p leaves.
-abbrev pub TakesFront : {T X : Type 0} → (T → X) → Parser X → List ℕ → Option T → List ℕ → Type 0
-TakesFront view p old None new = p Der old ≡ None
-TakesFront view p old (Some t) new = p Der old ≡ Some (view t, new)
+abbrev pub FindsFront : {T X : Type 0} → (T → X) → Parser X → List ℕ → Option T → List ℕ → Type 0
+FindsFront view p old None new = p Der old ≡ None
+FindsFront view p old (Some t) new = p Der old ≡ Some (view t, new)
 
 -- a call that finds nothing leaves all
 abbrev pub Keeps : {T : Type 0} → Option T → List ℕ → List ℕ → Type 0

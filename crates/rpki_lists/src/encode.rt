@@ -5,11 +5,11 @@ ghost use Rattle.std.specs.List.{flat_map};
 ghost use Rattle.rpki_der.specs.Write.Parts.{each_small};
 
 use crate::iter::EntryIter;
-use crate::kind::{Entry, Kind};
+use crate::kind::{Kind, SliceEntry};
 use rpki_der::{Encode, EncodeError, Sink, SinkFailed};
 
 /// Entries that are written.
-pub trait Written: Entry {
+pub trait Written: SliceEntry {
     /// What writes an entry.
     type Encoder: Encode + Drop;
 
@@ -25,29 +25,14 @@ pub trait Written: Entry {
         ensures der { Self.Encoder.is_der result }
         ensures short { Self.Encoder.is_short result ↔ is_short (Self.shown item) };
 
-    /// The same reader again.
-    fn again(reader: &Self::Reader) -> Self::Reader
-        ensures { Self.slice result ≡ Self.slice reader.now };
-
     // What has few octets has no long contents.
     ghost small: { (x : Self.Kind.Shown) → length (octets x) < 2 ^ 32 → is_short x };
-}
-
-impl<E: Written> EntryIter<E> {
-    /// The same entries again.
-    pub fn again(&self) -> EntryIter<E>
-        ensures { result ≡ self.now }
-    {
-        EntryIter {
-            reader: E::again(&self.reader),
-        }
-    }
 }
 
 /// Entries, written one after another, each anew. They are read once for their length and once to
 /// be written; no memory is taken.
 #[derive(Drop)]
-pub struct EntriesEncoder<E: Entry>(pub EntryIter<E>);
+pub struct EntriesEncoder<E: SliceEntry>(pub EntryIter<E>);
 
 impl<E: Written> Encode for EntriesEncoder<E> {
     ghost octets = { λ s. flat_map E.octets s.0 };

@@ -2,11 +2,12 @@
 
 ghost use Rattle.std.specs.Prelude.{◌≡◌, ◌↔◌, ℕ, List, length, IsTrue};
 ghost use Rattle.rpki_der.specs.Read.Parse.{Parser};
-ghost use Rattle.rpki_lists.specs.Slice.{TakesFront};
+ghost use Rattle.rpki_lists.specs.Slice.{FindsFront};
 ghost use Rattle.rpki_lists.specs.Entries.{PassesFront, Shrinks};
 
 use crate::slice::SliceReader;
 use rpki_der::Reason;
+use std::fmt::Debug;
 
 /// Why an entry is refused.
 #[derive(Clone, Copy, Debug)]
@@ -36,14 +37,14 @@ pub trait Kind {
 /// How the entries of a kind are read from a slice. A kind implements it for a type with the
 /// lifetime of the slice, as `struct NumberEntry<'a>(PhantomData<&'a [u8]>)`, and with
 /// `SliceReader<'a>` as its reader.
-pub trait Entry {
+pub trait SliceEntry {
     type Kind: Kind;
 
     /// An entry, whose parts lie in the slice.
     type Item: Drop;
 
     /// The reader of the slice.
-    type Reader: Drop;
+    type Reader: Drop + Debug;
 
     // The octets that the reader has left.
     ghost slice: { Self.Reader → List ℕ };
@@ -57,6 +58,10 @@ pub trait Entry {
 
     /// Reads the entry in front, if there is one.
     fn read(reader: &mut Self::Reader) -> Option<Self::Item>
-        ensures { TakesFront shown Self.Kind.entry_at
+        ensures { FindsFront shown Self.Kind.entry_at
             (slice reader.old) result (slice reader.new) };
+
+    /// The same reader again.
+    fn again(reader: &Self::Reader) -> Self::Reader
+        ensures { slice result ≡ slice reader.now };
 }

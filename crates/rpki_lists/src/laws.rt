@@ -1,17 +1,19 @@
 //! What the definitions of lists say: laws, as functions that do nothing.
 
-ghost use Rattle.std.specs.Prelude.{◌≡◌, ◌<◌, ◌^◌, ℕ, List, All, length};
+ghost use Rattle.std.specs.Prelude.{◌≡◌, ◌<◌, ◌^◌, ℕ, List, Option, MatchOption, All, length};
 ghost use Rattle.std.specs.List.{flat_map};
 ghost use Rattle.rpki_der.specs.Tags.{SEQUENCE, OCTET_STRING};
 ghost use Rattle.rpki_der.specs.Numbers.{MAX_DEPTH};
 ghost use Rattle.rpki_der.specs.declared.mode.Mode.TheVariants.{Der};
-ghost use Rattle.rpki_der.specs.Grammar.{IsBytes};
+ghost use Rattle.rpki_der.specs.Grammar.{IsBytes, HasNoFront};
 ghost use Rattle.rpki_der.specs.Read.Parse.{octets_at, value_at};
 ghost use Rattle.rpki_der.specs.Read.Exact.{IsReading};
+ghost use Rattle.rpki_der.specs.Form.Decodes.{IsOnlyFront};
 ghost use Rattle.rpki_der.specs.Form.Law.{TagSet, IsPart, nothing, is};
 ghost use Rattle.rpki_der.specs.Form.Parts.{SequenceOf};
 ghost use Rattle.rpki_der.specs.Write.Written.{value_octets};
 ghost use Rattle.rpki_lists.specs.Entries.{list_at};
+ghost use Rattle.rpki_lists.specs.Slice.{FindsFront};
 
 use rpki_der::laws::forms::Part;
 
@@ -34,6 +36,16 @@ pub fn lists_are_written<T: Part>()
         → (o : List ℕ) (entries : List T) → IsBytes o
         → SequenceOf Der (T.form Der) o entries
         → o ≡ value_octets SEQUENCE (flat_map octets entries) }
+{}
+
+/// What a call of a reader of a slice finds by a parser that reads a form exactly, stands at the
+/// front of the octets in DER, and nothing else of the form does; where it finds nothing, nothing
+/// of the form stands there.
+pub fn fronts_are_found<U: Drop, T: Part>()
+    ensures { IsReading T.at T.form → (view : U → T) (octets : List ℕ) (result : Option U)
+        (rest : List ℕ) → IsBytes octets → FindsFront view T.at octets result rest
+        → MatchOption result (HasNoFront (T.form Der) octets)
+        (λ found. IsOnlyFront (T.form Der) octets (view found) rest) }
 {}
 
 /// In DER an OCTET STRING is one value, as the reader of a slice takes it (X.690, sections 8.7 and

@@ -4,7 +4,7 @@ ghost use Rattle.std.specs.Prelude.{◌≡◌, ◌↔◌, length, IsTrue};
 ghost use Rattle.rpki_der.specs.declared.mode.Mode.TheVariants.{Der};
 ghost use Rattle.rpki_der.specs.Read.Parse.{all_of, Finds};
 ghost use Rattle.rpki_der.specs.Read.Reads.{Reads, Stays};
-ghost use Rattle.rpki_lists.specs.Entries.{AreEntries, entries_of, list_at};
+ghost use Rattle.rpki_lists.specs.Entries.{HoldEntries, entries_of, list_at};
 
 use crate::kind::Kind;
 use crate::rule::{Free, count_by, take_list};
@@ -24,13 +24,13 @@ pub struct EntryList<K: Kind> {
 
 impl<K: Kind> Model for EntryList<K> {
     ghost use Rattle.std.specs.Prelude.{ℕ, List, length, ◌≡◌};
-    ghost use Rattle.rpki_lists.specs.Entries.{AreEntries, entries_of};
+    ghost use Rattle.rpki_lists.specs.Entries.{HoldEntries, entries_of};
 
     ghost Value = { List K.Shown };
 
     ghost view = { λ l. entries_of K.entry_at l.octets };
 
-    ghost invariant = { λ l. AreEntries K.entry_at l.octets
+    ghost invariant = { λ l. HoldEntries K.entry_at l.octets
         × (l.count ≡ length (entries_of K.entry_at l.octets)) };
 }
 
@@ -49,7 +49,7 @@ impl<K: Kind> Clone for EntryList<K> {
 impl<K: Kind> EntryList<K> {
     /// The list whose entries these octets are, of which there are so many.
     pub(crate) fn counted(octets: Bytes, count: usize) -> EntryList<K>
-        requires entries { AreEntries K.entry_at octets }
+        requires entries { HoldEntries K.entry_at octets }
         requires count { count ≡ length (entries_of K.entry_at octets) }
         ensures { result ≡ entries_of K.entry_at octets }
     {
@@ -95,7 +95,7 @@ impl<K: Kind> EntryList<K> {
 
     /// A reader of the entries, one after the other.
     pub fn reader(&self) -> SliceReader<'_>
-        ensures entries { AreEntries K.entry_at result }
+        ensures entries { HoldEntries K.entry_at result }
         ensures list { entries_of K.entry_at result ≡ self.now }
     {
         SliceReader::new(self.octets.as_slice())

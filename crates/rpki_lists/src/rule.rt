@@ -1,11 +1,11 @@
 //! Rules over the entries of a list, which are tested while the entries are counted.
 
-ghost use Rattle.std.specs.Prelude.{◌≡◌, ℕ, List, Option, Some};
+ghost use Rattle.std.specs.Prelude.{◌≡◌, ℕ, List, Option, Some, true};
 ghost use Rattle.rpki_der.specs.declared.mode.Mode.TheVariants.{Der};
 ghost use Rattle.rpki_der.specs.Read.Parse.{all_of, tested};
 ghost use Rattle.rpki_der.specs.Read.Reads.{Reads, Stays};
 ghost use Rattle.rpki_lists.specs.Entries.{list_at};
-ghost use Rattle.rpki_lists.specs.Rules.{admits, PassesBy, CountsBy};
+ghost use Rattle.rpki_lists.specs.Rules.{admits, lets_all, PassesBy, CountsBy};
 
 use crate::kind::{Kind, Refused};
 use crate::list::EntryList;
@@ -28,23 +28,25 @@ pub trait Rule {
 
 /// No rule: each entry may stand anywhere.
 #[derive(Drop)]
-pub struct Free<K> {
+pub(crate) struct Free<K> {
     kind: PhantomData<K>,
 }
 
 impl<K: Kind> Free<K> {
-    /// No rule.
-    pub fn new() -> Free<K> {
+    /// No rule, which admits all entries.
+    pub(crate) fn new() -> Free<K>
+        ensures { (entries : List K.Shown) → admits lets_all result entries ≡ true }
+    {
         Free { kind: PhantomData }
     }
 }
 
 impl<K: Kind> Rule for Free<K> {
-    ghost use Rattle.std.specs.Prelude.{Some};
+    ghost use Rattle.rpki_lists.specs.Rules.{lets_all};
 
     type Kind = K;
 
-    ghost after = { λ s _. Some s };
+    ghost after = { lets_all };
 
     fn pass(&mut self, reader: &mut SliceReader<'_>) -> Result<(), Refused> {
         K::skip(reader)

@@ -4,7 +4,7 @@ ghost use Rattle.std.specs.Prelude.{◌≡◌, ◌↔◌, length, IsTrue};
 ghost use Rattle.rpki_der.specs.Tags.{INTEGER, OCTET_STRING, IA5_STRING, SEQUENCE};
 ghost use Rattle.rpki_der.specs.Read.Parse.{is_next, value_at, u8_at, u32_at, bits_at, bits_of};
 ghost use Rattle.rpki_der.specs.Read.Parse.{ia5_at, optional, Finds};
-ghost use Rattle.rpki_lists.specs.Slice.{TakesFront, Keeps, Closes, seen};
+ghost use Rattle.rpki_lists.specs.Slice.{FindsFront, Keeps, Closes, seen};
 
 mod contents;
 mod header;
@@ -99,7 +99,7 @@ impl<'a> SliceReader<'a> {
     /// Takes the contents of the value in front, which has this tag (X.690, section 8.1).
     #[inline(always)]
     pub fn take_contents(&mut self, tag: Tag) -> Option<&'a [u8]>
-        ensures found { TakesFront (λ c. c.now) (value_at tag.octet) self.old result self.new }
+        ensures found { FindsFront (λ c. c.now) (value_at tag.octet) self.old result self.new }
         ensures kept { Keeps result self.old self.new }
     {
         let (contents, rest) = value_of(tag, self.rest)?;
@@ -110,7 +110,7 @@ impl<'a> SliceReader<'a> {
     /// Opens the SEQUENCE in front (X.690, sections 8.9 and 8.10): a reader of its contents.
     #[inline(always)]
     pub fn take_sequence(&mut self) -> Option<SliceReader<'a>>
-        ensures found { TakesFront (λ r. r) (value_at SEQUENCE) self.old result self.new }
+        ensures found { FindsFront (λ r. r) (value_at SEQUENCE) self.old result self.new }
         ensures kept { Keeps result self.old self.new }
     {
         let (contents, rest) = value_of(Tag::SEQUENCE, self.rest)?;
@@ -121,7 +121,7 @@ impl<'a> SliceReader<'a> {
     /// Reads an INTEGER from 0 to 255 (X.690, section 8.3).
     #[inline(always)]
     pub fn take_u8(&mut self) -> Option<u8>
-        ensures found { TakesFront (λ n. n) u8_at self.old result self.new }
+        ensures found { FindsFront (λ n. n) u8_at self.old result self.new }
         ensures kept { Keeps result self.old self.new }
     {
         let (contents, rest) = value_of(Tag::INTEGER, self.rest)?;
@@ -133,7 +133,7 @@ impl<'a> SliceReader<'a> {
     /// Reads an INTEGER from 0 to 255, if an INTEGER is next (X.690, section 8.3).
     #[inline(always)]
     pub fn take_opt_u8(&mut self) -> Option<Option<u8>>
-        ensures found { TakesFront (λ n. n) (optional INTEGER u8_at) self.old result self.new }
+        ensures found { FindsFront (λ n. n) (optional INTEGER u8_at) self.old result self.new }
         ensures kept { Keeps result self.old self.new }
     {
         if !self.is_next(Tag::INTEGER) {
@@ -145,7 +145,7 @@ impl<'a> SliceReader<'a> {
     /// Reads an INTEGER from 0 to 2^32 - 1 (X.690, section 8.3).
     #[inline(always)]
     pub fn take_u32(&mut self) -> Option<u32>
-        ensures found { TakesFront (λ n. n) u32_at self.old result self.new }
+        ensures found { FindsFront (λ n. n) u32_at self.old result self.new }
         ensures kept { Keeps result self.old self.new }
     {
         let (contents, rest) = value_of(Tag::INTEGER, self.rest)?;
@@ -157,7 +157,7 @@ impl<'a> SliceReader<'a> {
     /// Reads a BIT STRING (X.690, section 8.6).
     #[inline(always)]
     pub fn take_bits(&mut self) -> Option<BitSlice<'a>>
-        ensures found { TakesFront (λ b. (b.octets.now, b.unused)) bits_at
+        ensures found { FindsFront (λ b. (b.octets.now, b.unused)) bits_at
             self.old result self.new }
         ensures kept { Keeps result self.old self.new }
     {
@@ -171,7 +171,7 @@ impl<'a> SliceReader<'a> {
     #[tactic(auto, unfolding(rpki_der::specs::Read::Parse::ia5_of))]
     #[inline(always)]
     pub fn take_ia5(&mut self) -> Option<&'a [u8]>
-        ensures found { TakesFront (λ c. c.now) ia5_at self.old result self.new }
+        ensures found { FindsFront (λ c. c.now) ia5_at self.old result self.new }
         ensures kept { Keeps result self.old self.new }
     {
         let (contents, rest) = value_of(Tag::IA5_STRING, self.rest)?;
@@ -185,7 +185,7 @@ impl<'a> SliceReader<'a> {
     /// Reads an IA5String, if one is next (X.690, section 8.23).
     #[inline(always)]
     pub fn take_opt_ia5(&mut self) -> Option<Option<&'a [u8]>>
-        ensures found { TakesFront (seen (λ c. c.now)) (optional IA5_STRING ia5_at)
+        ensures found { FindsFront (seen (λ c. c.now)) (optional IA5_STRING ia5_at)
             self.old result self.new }
         ensures kept { Keeps result self.old self.new }
     {
@@ -198,7 +198,7 @@ impl<'a> SliceReader<'a> {
     /// Reads an OCTET STRING, which has one piece in DER (X.690, sections 8.7 and 10.2).
     #[inline(always)]
     pub fn take_octets(&mut self) -> Option<&'a [u8]>
-        ensures found { TakesFront (λ c. c.now) (value_at OCTET_STRING) self.old result self.new }
+        ensures found { FindsFront (λ c. c.now) (value_at OCTET_STRING) self.old result self.new }
         ensures kept { Keeps result self.old self.new }
     {
         self.take_contents(Tag::OCTET_STRING)

@@ -10,7 +10,7 @@ ghost use Rattle.rpki_lists.specs.Rules.{admits};
 use rpki_der::encode::{Unsigned, integer};
 use rpki_der::{Constructed, DecodeError, Reason};
 use rpki_lists::{
-    Entry, EntryIter, EntryList, Kind, Refused, Rule, SliceReader, Written, take_list,
+    EntryIter, EntryList, Kind, Refused, Rule, SliceEntry, SliceReader, Written, take_list,
 };
 use std::marker::PhantomData;
 
@@ -42,7 +42,7 @@ impl Kind for Numbers {
 #[derive(Drop)]
 pub struct NumberEntry<'a>(PhantomData<&'a [u8]>);
 
-impl<'a> Entry for NumberEntry<'a> {
+impl<'a> SliceEntry for NumberEntry<'a> {
     type Kind = Numbers;
 
     type Item = u32;
@@ -59,6 +59,10 @@ impl<'a> Entry for NumberEntry<'a> {
 
     fn read(reader: &mut SliceReader<'a>) -> Option<u32> {
         reader.take_u32()
+    }
+
+    fn again(reader: &SliceReader<'a>) -> SliceReader<'a> {
+        reader.again()
     }
 }
 
@@ -80,10 +84,6 @@ impl<'a> Written for NumberEntry<'a> {
         ensures short { Unit {0} ↔ Unit {0} }
     {
         integer(n)
-    }
-
-    fn again(reader: &SliceReader<'a>) -> SliceReader<'a> {
-        reader.again()
     }
 }
 

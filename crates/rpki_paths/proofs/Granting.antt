@@ -1,5 +1,5 @@
 -- What walks, supplies and the end say of an attestation.
-use Rattle.std.proofs.Common.{◌≡◌, List, Ok, Err, refl, sym, subst}
+use Rattle.std.proofs.Common.{◌≡◌, List, [], map, Ok, Err, refl, sym, subst}
 use Rattle.rpki_paths.specs.declared.family.Family.{Family}
 use Rattle.rpki_paths.specs.declared.decision.FinalFault.{FinalFault}
 use Rattle.rpki_paths.specs.declared.decision.FinalFault.TheVariants.{NotAnchored, AsNumbers}
@@ -12,6 +12,7 @@ use Rattle.rpki_paths.specs.Path.{IsPath, IsDistinct}
 use Rattle.rpki_paths.specs.Pairing.{Carried, Crl, IsMatching, IsPairing, HasDistinctIds}
 use Rattle.rpki_paths.specs.Pairing.{IsVerifiedBy, HasCrl}
 use Rattle.rpki_paths.specs.Grant.{authorities, HasPaths}
+use Rattle.rpki_paths.specs.Anchor.{Supply}
 use Rattle.rpki_paths.specs.Kept.{AreWalked}
 use Rattle.rpki_paths.specs.Final.{Decides}
 use Rattle.rpki_paths.specs.Laws.{WalksAreAccepted, YesIsGranted, RefusedIsNotAccepted}
@@ -23,6 +24,7 @@ use Rattle.rpki_paths.proofs.WalkingEach.{in_last}
 use Rattle.rpki_paths.proofs.Grants.{same_skis, path_at, acceptance_is_decided, grant_is_decided}
 use Rattle.rpki_paths.proofs.Grants.{unanchored_is_refused}
 use Rattle.rpki_paths.proofs.Finals.{final_is_decided}
+use Rattle.rpki_paths.proofs.Keeps.{all_are_kept, refused_is_unanchored}
 
 distinct_authorities : (a : Carried) (crls : List Crl) → HasDistinctIds a
     → IsPairing HasCrl a.cas crls a.crls → IsDistinct (authorities a crls)
@@ -33,19 +35,20 @@ pub refused_is_not_accepted : RefusedIsNotAccepted
 refused_is_not_accepted a ees crls (NoPath fault) dist m other h paths acc =
     let same : crls ≡ acc.found.crls =
     crls_are_unique a ees acc.found.ees crls acc.found.crls dist m acc.found.matching in
-    let e = h.1 in
-    let mine : IsIn e ees = subst (λ l. IsIn e l) (sym h.4) (in_last e h.0 h.2) in
+    let e = h.ee in
+    let mine : IsIn e ees = subst (λ l. IsIn e l) (sym h.parts) (in_last e h.done h.more) in
     let theirs : IsIn e acc.found.ees =
     all_partners IsVerifiedBy a.signers acc.found.ees a.ees acc.found.matching.signed e
     (partners_in IsVerifiedBy a.signers ees a.ees m.signed e mine) in
     let t = path_at (authorities a acc.found.crls) acc.found.ees paths acc.found.stand e theirs in
-    refused_has_no_path fault (authorities a crls) (at_place 0 e) t.0 h.7
-    (distinct_authorities a crls dist m.crl_of) h.6
+    refused_has_no_path fault (authorities a crls) (at_place 0 e) t.0 h.not_memory
+    (distinct_authorities a crls dist m.crl_of) h.refused
     (subst (λ l. IsPath (authorities a l) (at_place 0 e) t.0) (sym same) t.2) t.3
 refused_is_not_accepted a ees crls (Unused place) dist m other h paths acc =
-    let found : HasPaths a h.0 = record { ees = ees; crls = crls; matching = m; stand = h.2 } in
-    let used = (acceptance_is_decided a h.0 found dist).0 (paths, acc) in
-    h.4 (used.1 h.1 (get_in (authorities a crls) place h.1 h.3))
+    let found : HasPaths a h.paths =
+    record { ees = ees; crls = crls; matching = m; stand = h.stand } in
+    let used = (acceptance_is_decided a h.paths found dist).0 (paths, acc) in
+    h.unused (used.1 h.ca (get_in (authorities a crls) place h.ca h.at_index))
 refused_is_not_accepted a ees crls OutOfMemory dist m other h paths acc = other refl
 
 module _ {C : Type 0} (cert : C → Cert) where
@@ -63,32 +66,34 @@ module _ {C : Type 0} (cert : C → Cert) where
     used = w.used;
   }
 
-  pub yes_is_granted : (F : Type 0) → YesIsGranted cert F
-  yes_is_granted F a ees crls walked kept supplies attested valid m w supplied d = record {
+not_decided : {C : Type 0} (kept : List (Path C)) (attested : Family → Numbers)
+    (fault : FinalFault) → ¬ (fault ≡ Memory) → Decides kept attested (Err fault)
+    → ¬ (Decides kept attested (Ok tt))
+not_decided kept attested NotAnchored other h d = h d.0
+not_decided kept attested AsNumbers other h d = h.1 d.1.0
+not_decided kept attested Addresses other h d = h.2 (d.1.1, d.1.2)
+not_decided kept attested Memory other h d = other refl
+
+module _ {X C F : Type 0} (cert : C → Cert) (of : X → Supply) (refuses : X → C → F → Type 0) where
+  pub yes_is_granted : YesIsGranted cert of refuses
+  yes_is_granted a ees crls walked kept xs attested valid m w supplied d = record {
     paths = w.paths;
-    accepted = walks_are_accepted a ees crls walked valid m w;
-    earned = (final_is_decided cert supplies kept w.paths attested
-        (supplied w.paths w.are_kept)).1 d;
+    accepted = walks_are_accepted cert a ees crls walked valid m w;
+    earned = (final_is_decided cert (map of xs) kept w.paths attested
+        (all_are_kept cert of refuses xs [] walked kept w.paths supplied w.are_kept)).1 d;
   }
 
-  pub unsupplied_is_refused : (F : Type 0) → UnsuppliedIsRefused cert F
-  unsupplied_is_refused F a ees crls walked kept supplies attested fault dist m w other supplied =
-      let t = supplied other w.paths w.are_kept in
-      unanchored_is_refused a w.paths t.0 supplies attested dist
-      (found_of a ees crls walked m w) t.1 t.2
+  pub unsupplied_is_refused : UnsuppliedIsRefused cert of refuses
+  unsupplied_is_refused a ees crls walked kept xs attested fault dist m w other supplied =
+      let t = refused_is_unanchored cert of refuses xs [] walked kept w.paths fault other supplied
+      w.are_kept in
+      unanchored_is_refused a w.paths t.0 (map of xs) attested dist
+      (found_of cert a ees crls walked m w) t.1 t.2
 
-  not_decided : (kept : List (Path C)) (attested : Family → Numbers) (fault : FinalFault)
-      → ¬ (fault ≡ Memory) → Decides kept attested (Err fault)
-      → ¬ (Decides kept attested (Ok tt))
-  not_decided kept attested NotAnchored other h d = h d.0
-  not_decided kept attested AsNumbers other h d = h.1 d.1.0
-  not_decided kept attested Addresses other h d = h.2 (d.1.1, d.1.2)
-  not_decided kept attested Memory other h d = other refl
-
-  pub undecided_is_refused : (F : Type 0) → UndecidedIsRefused cert F
-  undecided_is_refused F a ees crls walked kept supplies sets fault dist m w other supplied h g =
-      let accepted = walks_are_accepted a ees crls walked g.accepted.valid m w in
-      let earned = (grant_is_decided a w.paths supplies sets dist accepted).0 g in
+  pub undecided_is_refused : UndecidedIsRefused cert of refuses
+  undecided_is_refused a ees crls walked kept xs sets fault dist m w other supplied h g =
+      let accepted = walks_are_accepted cert a ees crls walked g.accepted.valid m w in
+      let earned = (grant_is_decided a w.paths (map of xs) sets dist accepted).0 g in
       not_decided kept sets fault other h
-      ((final_is_decided cert supplies kept w.paths sets
-      (supplied w.paths w.are_kept)).0 earned)
+      ((final_is_decided cert (map of xs) kept w.paths sets
+      (all_are_kept cert of refuses xs [] walked kept w.paths supplied w.are_kept)).0 earned)

@@ -1,21 +1,26 @@
 -- Supplies go from what is kept of paths to what is kept of them then.
 use Rattle.std.proofs.Common.{◌≡◌, ℕ, zero, suc, Bool, true, false, List, [], ◌∷◌, ◌++◌}
-use Rattle.std.proofs.Common.{length}
+use Rattle.std.proofs.Common.{length, map, Ok, Err}
 use Rattle.std.proofs.Common.{Some, IsTrue, refl, sym, ap, ◌∙◌, subst, inl, inr, ◌⊎◌, arith}
 use Rattle.std.specs.Prelude.{slice_get, ◌↔◌}
 use Rattle.std.proofs.lemmas.Bool.{true≢false}
+use Rattle.std.proofs.lemmas.List.{append_assoc, append-nil}
+use Rattle.std.proofs.lemmas.Option.{slice_get_within}
 use Rattle.rpki_paths.specs.declared.family.Family.{Family}
 use Rattle.rpki_paths.specs.declared.sets.KeptSets.{KeptSets}
 use Rattle.rpki_paths.specs.declared.supply.SupplyFault.{SupplyFault}
 use Rattle.rpki_paths.specs.declared.supply.SupplyFault.TheVariants.{NoAnchor, NotCovered, Memory}
 use Rattle.rpki_paths.specs.declared.walker.Path.{Path}
-use Rattle.rpki_paths.specs.Cert.{Cert, IsIn, at_place}
+use Rattle.rpki_paths.specs.Cert.{Cert, at_place}
 use Rattle.rpki_paths.specs.Sets.{StandsFor, IsClimbed}
 use Rattle.rpki_paths.specs.Path.{explicit_sets}
-use Rattle.rpki_paths.specs.Anchor.{Supply, Tal, Ca, Fits, Takes, IsAnchored, supplied_claim}
+use Rattle.rpki_paths.specs.Anchor.{Supply, Tal, Ca, Fits, Takes, IsAnchored, HasUnanchored}
+use Rattle.rpki_paths.specs.Anchor.{supplied_claim}
 use Rattle.rpki_paths.specs.Walk.{kept_at}
 use Rattle.rpki_paths.specs.Kept.{NoneFits, IsUnder, IsKept, AreKept}
 use Rattle.rpki_paths.specs.Supplied.{TakesKept, IsSupplied, IsDeclined, Declines, CoversPath}
+use Rattle.rpki_paths.specs.Supplied.{AnswersEach, AreSuppliedAll}
+use Rattle.rpki_paths.specs.Laws.{EachIsKept, DeclinedIsUnanchored, AllAreKept, RefusedIsUnanchored}
 use Rattle.rpki_paths.proofs.Meets.{anchored_stands}
 use Rattle.rpki_paths.proofs.Walking.{kept_tells_takes, in_each, fails_one}
 use Rattle.rpki_paths.proofs.WalkingEach.{in_more}
@@ -69,16 +74,17 @@ module _ {C : Type 0} (cert : C → Cert) where
   takes_kept k p (Ca ski key sets) stands =
       kept_tells_takes (at_place k.place (cert k.head)) p k.sets ski key sets stands
 
-  not_taken : {F : Type 0} (k : Path C) (s : Supply) (fault : SupplyFault F)
-      → Declines cert k s fault → ¬ (fault ≡ Memory) → ¬ (TakesKept cert k s)
-  not_taken k (Tal key) (NoAnchor fault) h other = h
-  not_taken k (Tal key) (NotCovered family) h other = absurd h
-  not_taken k (Tal key) Memory h other = absurd h
-  not_taken k (Ca ski key sets) (NoAnchor fault) h other = absurd h
-  not_taken k (Ca ski key sets) (NotCovered family) h other =
+  not_taken : {F : Type 0} (refuses : C → F → Type 0) (k : Path C) (s : Supply)
+      (fault : SupplyFault F) → Declines cert refuses k s fault → ¬ (fault ≡ Memory)
+      → ¬ (TakesKept cert k s)
+  not_taken refuses k (Tal key) (NoAnchor fault) h other = h.0
+  not_taken refuses k (Tal key) (NotCovered family) h other = absurd h
+  not_taken refuses k (Tal key) Memory h other = absurd h
+  not_taken refuses k (Ca ski key sets) (NoAnchor fault) h other = absurd h
+  not_taken refuses k (Ca ski key sets) (NotCovered family) h other =
       λ takes. fails_one (CoversPath cert k sets) family h
       (in_each (CoversPath cert k sets) takes family)
-  not_taken k (Ca ski key sets) Memory h other = absurd (other refl)
+  not_taken refuses k (Ca ski key sets) Memory h other = absurd (other refl)
 
   module _ (supplies : List Supply) (s : Supply) where
     -- what is kept before, by the head
@@ -133,30 +139,81 @@ module _ {C : Type 0} (cert : C → Cert) where
     )
 
     -- a path that is meant and not taken is never anchored
-    declined_stays : {F : Type 0} (k : Path C) (p : List Cert) (fault : SupplyFault F)
-        (more : List Supply) (t : Supply) → IsKept cert supplies k p → IsDeclined cert s k fault
-        → ¬ (fault ≡ Memory) → ¬ (IsAnchored p (supplies ++ s ∷ more) t)
-    declined_stays k p fault more t h d other anchored =
-        let head = at_place k.place (cert k.head) in
-        let u : IsUnder (head ∷ h.below) supplies k.sets false = under_of k p h false d.open_path in
-        never_anchored head h.below supplies s more t u.0 d.meant
-        (λ takes. not_taken k s fault d.declines other ((takes_kept k h.below s u.1).1 takes))
-        (subst (λ l. IsAnchored l (supplies ++ s ∷ more) t) h.whole anchored)
+    module _ {F : Type 0} (refuses : C → F → Type 0) where
+      declined_stays : (k : Path C) (p : List Cert) (fault : SupplyFault F) (more : List Supply)
+          (t : Supply) → IsKept cert supplies k p → IsDeclined cert refuses s k fault
+          → ¬ (fault ≡ Memory) → ¬ (IsAnchored p (supplies ++ s ∷ more) t)
+      declined_stays k p fault more t h d other anchored =
+          let head = at_place k.place (cert k.head) in
+          let u : IsUnder (head ∷ h.below) supplies k.sets false =
+          under_of k p h false d.open_path in
+          never_anchored head h.below supplies s more t u.0 d.meant
+          (λ takes. not_taken refuses k s fault d.declines other
+          ((takes_kept k h.below s u.1).1 takes))
+          (subst (λ l. IsAnchored l (supplies ++ s ∷ more) t) h.whole anchored)
 
-    pub declined_at : {F : Type 0} (i : ℕ) (old : List (Path C)) (paths : List (List Cert))
-        (k : Path C) (fault : SupplyFault F) (more : List Supply)
-        → AreKept cert supplies old paths → slice_get old i ≡ Some k
-        → IsDeclined cert s k fault → ¬ (fault ≡ Memory)
-        → (p : List Cert) × IsIn p paths
-        × ((t : Supply) → ¬ (IsAnchored p (supplies ++ s ∷ more) t))
-    declined_at i [] paths k fault more h e d other = absurd cc
-    declined_at i (x ∷ old) [] k fault more h e d other = absurd h
-    declined_at zero (x ∷ old) (p ∷ paths) k fault more h e d other =
-        let same : x ≡ k = cc in (
-          p,
-          inl refl,
-          λ t. declined_stays k p fault more t
-              (subst (λ (z : Path C). IsKept cert supplies z p) same h.0) d other,
-        )
-    declined_at (suc i) (x ∷ old) (p ∷ paths) k fault more h e d other =
-        let t = declined_at i old paths k fault more h.1 e d other in (t.0, inr t.1, t.2)
+      pub declined_at : (i : ℕ) (old : List (Path C)) (paths : List (List Cert)) (k : Path C)
+          (fault : SupplyFault F) (more : List Supply) → AreKept cert supplies old paths
+          → slice_get old i ≡ Some k → IsDeclined cert refuses s k fault → ¬ (fault ≡ Memory)
+          → HasUnanchored paths (supplies ++ s ∷ more)
+      declined_at i [] paths k fault more h e d other = absurd cc
+      declined_at i (x ∷ old) [] k fault more h e d other = absurd h
+      declined_at zero (x ∷ old) (p ∷ paths) k fault more h e d other =
+          let same : x ≡ k = cc in (
+            p,
+            inl refl,
+            λ t. declined_stays k p fault more t
+                (subst (λ (z : Path C). IsKept cert supplies z p) same h.0) d other,
+          )
+      declined_at (suc i) (x ∷ old) (p ∷ paths) k fault more h e d other =
+          let t = declined_at i old paths k fault more h.1 e d other in (t.0, inr t.1, t.2)
+
+-- ---- supplies that are handed in
+
+module _ {X C F : Type 0} (cert : C → Cert) (of : X → Supply) (refuses : X → C → F → Type 0) where
+  pub each_is_kept : EachIsKept cert of refuses
+  each_is_kept x supplies old new paths all h kept =
+      kept_each cert supplies (of x) old new paths kept h.0.as_many
+      (λ k a b e f. h.0.below k a b (slice_get_within old k a e) e f)
+
+  pub declined_is_unanchored : DeclinedIsUnanchored cert of refuses
+  declined_is_unanchored x supplies more old new paths fault other h kept =
+      declined_at cert supplies (of x) (refuses x) h.0 old paths h.1 fault more kept h.2 h.3 other
+
+  pub all_are_kept : AllAreKept cert of refuses
+  all_are_kept [] supplies old new paths h kept =
+      subst (λ l. AreKept cert l new paths) (sym (append-nil supplies))
+      (subst (λ l. AreKept cert supplies l paths) (sym h) kept)
+  all_are_kept (x ∷ xs) supplies old new paths h kept =
+      subst (λ l. AreKept cert l new paths) (append_assoc supplies (of x ∷ []) (map of xs))
+      (all_are_kept xs (supplies ++ of x ∷ []) h.0 new paths h.3
+      (each_is_kept x supplies old h.0 paths h.1 h.2 kept))
+
+  pub refused_is_unanchored : RefusedIsUnanchored cert of refuses
+  refused_is_unanchored [] supplies old new paths fault other h kept = absurd h
+  refused_is_unanchored (x ∷ xs) supplies old new paths fault other (inl h) kept =
+      declined_is_unanchored x supplies (map of xs) old new paths fault other h kept
+  refused_is_unanchored (x ∷ xs) supplies old new paths fault other (inr h) kept =
+      subst (λ l. HasUnanchored paths l) (append_assoc supplies (of x ∷ []) (map of xs))
+      (refused_is_unanchored xs (supplies ++ of x ∷ []) h.0 new paths fault other h.3
+      (each_is_kept x supplies old h.0 paths h.1 h.2 kept))
+
+  -- one more is handed in
+  pub all_more : (xs : List X) (x : X) (old mid new : List (Path C)) (all : Bool)
+      → AreSuppliedAll cert of refuses xs old mid (Ok tt)
+      → AnswersEach cert (refuses x) (of x) mid new (Ok all)
+      → AreSuppliedAll cert of refuses (xs ++ x ∷ []) old new (Ok tt)
+  all_more [] x old mid new all h a =
+      (new, all, subst (λ l. AnswersEach cert (refuses x) (of x) l new (Ok all)) h a, refl)
+  all_more (y ∷ xs) x old mid new all h a =
+      (h.0, h.1, h.2, all_more xs x h.0 mid new all h.3 a)
+
+  -- one declines a path
+  pub all_stops : (xs : List X) (x : X) (more : List X) (old mid new : List (Path C))
+      (fault : SupplyFault F) → AreSuppliedAll cert of refuses xs old mid (Ok tt)
+      → AnswersEach cert (refuses x) (of x) mid new (Err fault)
+      → AreSuppliedAll cert of refuses (xs ++ x ∷ more) old new (Err fault)
+  all_stops [] x more old mid new fault h a =
+      inl (subst (λ l. AnswersEach cert (refuses x) (of x) l new (Err fault)) h a)
+  all_stops (y ∷ xs) x more old mid new fault h a =
+      inr (h.0, h.1, h.2, all_stops xs x more h.0 mid new fault h.3 a)

@@ -4,12 +4,13 @@ use Rattle.std.proofs.Common.{[], ◌∷◌, ◌++◌, length, take, drop, repli
 use Rattle.std.proofs.Common.{refl}
 use Rattle.std.proofs.Common.{sym, ap, ◌∙◌, subst, inl, inr, arith}
 use Rattle.std.specs.Prelude.{slice_get}
-use Rattle.std.proofs.lemmas.List.{take_all}
+use Rattle.std.proofs.lemmas.List.{take_all, length-take-le}
+use Rattle.rpki_paths.specs.declared.pairs.PairFault.TheVariants.{Unpaired, LeftOver, Memory}
 use Rattle.rpki_paths.specs.Cert.{IsIn}
 use Rattle.rpki_paths.specs.Pairing.{IsPicked, here, there, IsPairing, IsPairable, AreAlike}
 use Rattle.rpki_paths.specs.Taking.{left_of, IsFirst, first, later, FitsNone, IsTakenAt, PairsOff}
-use Rattle.rpki_paths.specs.Taking.{AreAt, ArePaired}
-use Rattle.rpki_paths.specs.Laws.{FirstFitsFindPairing}
+use Rattle.rpki_paths.specs.Taking.{AreAt, ArePaired, FindsNone, LeavesSome}
+use Rattle.rpki_paths.specs.Laws.{FirstFitsFindPairing, LeftOverIsUnpairable, UnpairedIsUnpairable}
 use Rattle.rpki_paths.proofs.Pairings.{picked_in, picked_sub, any_choice_pairs}
 
 -- ---- the first that fits is picked
@@ -169,16 +170,53 @@ module _ {A B : Type 0} (R : A → B → Type 0) where
   }
 
   pub pairing_stops : (xs : List A) (ys : List B) (marks : List Bool) (places : List ℕ) (i : ℕ)
-      (x : A) (more : List A) → IsPairingOff xs ys marks places i → take i xs ++ x ∷ more ≡ xs
-      → FitsNone (R x) (left_of marks ys) → AreAlike R xs ys → ¬ (IsPairable R xs ys)
-  pairing_stops xs ys marks places i x more w e none alike pairable =
-      unpairable (take i xs) x more w.partners ys (left_of marks ys) w.pairs
-      (subst (λ l. AreAlike R l ys) (sym e) alike) none
-      (subst (λ l. IsPairable R l ys) (sym e) pairable)
+      (x : A) (more : List A) → IsPairingOff xs ys marks places i → i < length xs
+      → take i xs ++ x ∷ more ≡ xs → FitsNone (R x) (left_of marks ys) → FindsNone R xs ys i
+  pairing_stops xs ys marks places i x more w lt e none = record {
+    done = take i xs;
+    x = x;
+    more = more;
+    partners = w.partners;
+    left = left_of marks ys;
+    parts = sym e;
+    at_place = length-take-le i xs (omega (arith, lt));
+    pairs = w.pairs;
+    none = none;
+  }
 
-  pub some_left : (xs : List A) (ys : List B) → length xs < length ys → ¬ (IsPairable R xs ys)
-  some_left xs ys lt pairable =
-      omega (arith, lt, pairing_length xs pairable.0 ys pairable.1)
+  pub pairing_leaves : (xs : List A) (ys : List B) (marks : List Bool) (places : List ℕ) (i : ℕ)
+      → IsPairingOff xs ys marks places i → take i xs ≡ xs → length xs < length ys
+      → LeavesSome R xs ys
+  pairing_leaves xs ys marks places i w e lt =
+      let pairs : PairsOff R xs w.partners ys (left_of marks ys) =
+      subst (λ l. PairsOff R l w.partners ys (left_of marks ys)) e w.pairs in
+      record {
+        partners = w.partners;
+        left = left_of marks ys;
+        pairs = pairs;
+        some = λ empty.
+            (let n : length (left_of marks ys) ≡ 0 = ap (λ (l : List B). length l) empty in
+            absurd (omega (arith, lt, n, pairs_length xs w.partners ys (left_of marks ys) pairs)));
+      }
+
+  -- what is left over has no partner
+  pub left_over_is_unpairable : LeftOverIsUnpairable R
+  left_over_is_unpairable xs ps ys [] h some pairable = some refl
+  left_over_is_unpairable xs ps ys (y ∷ left) h some pairable =
+      omega (
+        arith,
+        pairs_length xs ps ys (y ∷ left) h,
+        pairing_length xs pairable.0 ys pairable.1,
+      )
+
+  pub unpaired_is_unpairable : UnpairedIsUnpairable R
+  unpaired_is_unpairable xs ys (Unpaired place) other h alike pairable =
+      unpairable h.done h.x h.more h.partners ys h.left h.pairs
+      (subst (λ l. AreAlike R l ys) h.parts alike) h.none
+      (subst (λ l. IsPairable R l ys) h.parts pairable)
+  unpaired_is_unpairable xs ys LeftOver other h alike pairable =
+      left_over_is_unpairable xs h.partners ys h.left h.pairs h.some pairable
+  unpaired_is_unpairable xs ys Memory other h alike pairable = other refl
 
   none_remains : (ys : List B) → length ys ≡ 0 → ys ≡ []
   none_remains [] e = refl

@@ -18,6 +18,7 @@ use Rattle.rpki_paths.specs.Anchor.{Supply}
 use Rattle.rpki_paths.specs.Walk.{AreFirst, IsRefused, IsWalked, KeepsMarks}
 use Rattle.rpki_paths.specs.Grant.{ArePaths, IsUsed}
 use Rattle.rpki_paths.specs.Kept.{IsUnder, IsKept, AreKept, AreWalked, AreRefused, walks_fault}
+use Rattle.rpki_paths.specs.Kept.{AreFirstOnEach}
 use Rattle.rpki_paths.specs.Laws.{RefusedHasNoPaths}
 use Rattle.rpki_paths.proofs.Chains.{unique}
 use Rattle.rpki_paths.proofs.Walking.{in_get, get_lt, get_in, refused_has_no_path}
@@ -71,7 +72,7 @@ module _ {C : Type 0} (cert : C → Cert) (cas : List Cert) where
       Type 0 where
     pub paths : List (List Cert)
     pub stand : ArePaths cas (map cert ees) paths
-    pub first : (p : List Cert) → IsIn p paths → AreFirst cas p
+    pub first : AreFirstOnEach cas paths
     pub are_kept : AreKept cert [] kept paths
     pub on : (k : ℕ) (d : Cert) → slice_get cas k ≡ Some d → slice_index marks k ≢ 0
         → IsUsed d paths
@@ -148,16 +149,17 @@ module _ {C : Type 0} (cert : C → Cert) (cas : List Cert) where
     module _ (all : List C) (e : C) (more : List C) (parts : ees ++ e ∷ more ≡ all) where
       no_path : (fault : PathFault) → IsRefused fault cas (at_place 0 (cert e))
           → ¬ (fault ≡ OutOfMemory) → AreRefused (NoPath fault) cas (map cert all)
-      no_path fault r other = (
-        map cert ees,
-        cert e,
-        map cert more,
-        w.paths,
-        ap (map cert) (sym parts) ∙ map-append cert ees (e ∷ more),
-        w.stand,
-        r,
-        other,
-      )
+      no_path fault r other = record {
+        done = map cert ees;
+        ee = cert e;
+        more = map cert more;
+        paths = w.paths;
+        parts = ap (map cert) (sym parts) ∙ map-append cert ees (e ∷ more);
+        stand = w.stand;
+        first = w.first;
+        refused = r;
+        not_memory = other;
+      }
 
       pub each_refused : (fault : PathFault) → IsRefused fault cas (at_place 0 (cert e))
           → AreRefused (walks_fault fault) cas (map cert all)
@@ -169,15 +171,19 @@ module _ {C : Type 0} (cert : C → Cert) (cas : List Cert) where
 
     -- a CA that stands on none
     pub each_unused : (all : List C) (place : ℕ) → ees ≡ all → place < length cas
-        → slice_index marks place ≡ 0 → AreRefused (Unused place) cas (map cert all)
-    each_unused all place e lt z =
-        let t = some_at cas place lt in (
-          w.paths,
-          t.0,
-          subst (λ l. ArePaths cas (map cert l) w.paths) e w.stand,
-          t.1,
-          λ u. u.2 (w.off place t.0 t.1 z u.0 u.1),
-        )
+        → slice_index marks place ≡ 0 → ((k : ℕ) → k < place → slice_index marks k ≢ 0)
+        → AreRefused (Unused place) cas (map cert all)
+    each_unused all place e lt z before =
+        let t = some_at cas place lt in
+        record {
+          paths = w.paths;
+          ca = t.0;
+          stand = subst (λ l. ArePaths cas (map cert l) w.paths) e w.stand;
+          first = w.first;
+          at_index = t.1;
+          unused = λ u. u.2 (w.off place t.0 t.1 z u.0 u.1);
+          before = λ k d less at_k. w.on k d at_k (before k less);
+        }
       where
         some_at : (xs : List Cert) (k : ℕ) → k < length xs
             → (x : Cert) × (slice_get xs k ≡ Some x)
@@ -223,10 +229,10 @@ path_of cas (d ∷ done) e more (p ∷ paths) h = path_of cas done e more paths 
 
 pub refused_has_no_paths : RefusedHasNoPaths
 refused_has_no_paths (NoPath fault) cas ees paths other dist h stand used =
-    let t = path_of cas h.0 h.1 h.2 paths
-    (subst (λ l. ArePaths cas l paths) h.4 stand) in
-    refused_has_no_path fault cas (at_place 0 h.1) t.0 h.7 dist h.6 t.1 t.2
+    let t = path_of cas h.done h.ee h.more paths
+    (subst (λ l. ArePaths cas l paths) h.parts stand) in
+    refused_has_no_path fault cas (at_place 0 h.ee) t.0 h.not_memory dist h.refused t.1 t.2
 refused_has_no_paths (Unused place) cas ees paths other dist h stand used =
-    h.4 (subst (λ l. IsUsed h.1 l) (same_paths cas ees paths h.0 dist stand h.2)
-    (used h.1 (get_in cas place h.1 h.3)))
+    h.unused (subst (λ l. IsUsed h.ca l) (same_paths cas ees paths h.paths dist stand h.stand)
+    (used h.ca (get_in cas place h.ca h.at_index)))
 refused_has_no_paths Memory cas ees paths other dist h stand used = other refl

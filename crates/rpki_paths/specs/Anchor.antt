@@ -3,7 +3,7 @@ use Rattle.std.specs.Prelude.{◌≡◌, ℕ, Bool, List, [], ◌∷◌, Some, I
 use Rattle.rpki_resources.specs.declared.resources.Claim.{Claim}
 use Rattle.rpki_resources.specs.declared.resources.Claim.TheVariants.{Inherit, Explicit}
 use Rattle.rpki_paths.specs.declared.family.Family.{Family}
-use Rattle.rpki_paths.specs.Cert.{Cert, Numbers, IsSelfSigned}
+use Rattle.rpki_paths.specs.Cert.{Cert, Numbers, IsSelfSigned, IsIn}
 use Rattle.rpki_paths.specs.Sets.{with_claim, meet, IsCovered}
 use Rattle.rpki_paths.specs.Path.{explicit_sets}
 
@@ -45,6 +45,11 @@ IsAnchored (head ∷ p) [] s = ⊥
 IsAnchored (head ∷ p) (t ∷ supplies) s =
     (Fits head t × Takes (head ∷ p) t × (s ≡ t))
     ⊎ (¬ (Fits head t) × IsAnchored (head ∷ p) supplies s)
+
+-- One of the paths is anchored by none of the supplies.
+abbrev pub HasUnanchored : List (List Cert) → List Supply → Type 0
+HasUnanchored paths supplies =
+    (p : List Cert) × IsIn p paths × ((s : Supply) → ¬ (IsAnchored p supplies s))
 
 -- Whether an anchored path stands for the number: it lies in each explicit set on the path, those
 -- of the supplied CA among them.

@@ -1,5 +1,6 @@
 -- What is kept of paths under supplies, and what walks from several certificates answer.
-use Rattle.std.specs.Prelude.{◌≡◌, Bool, true, false, List, [], ◌∷◌, ◌++◌, Some, slice_get}
+use Rattle.std.specs.Prelude.{◌≡◌, ◌<◌, ℕ, Bool, true, false, List, [], ◌∷◌, ◌++◌, Some}
+use Rattle.std.specs.Prelude.{slice_get}
 use Rattle.rpki_paths.specs.declared.family.Family.{Family}
 use Rattle.rpki_paths.specs.declared.sets.KeptSets.{KeptSets}
 use Rattle.rpki_paths.specs.declared.walker.Path.{Path}
@@ -49,26 +50,47 @@ AreKept cert supplies (k ∷ kept) [] = ⊥
 AreKept cert supplies (k ∷ kept) (p ∷ paths) =
     IsKept cert supplies k p × AreKept cert supplies kept paths
 
+-- Each issuer on each of these paths is the first that verifies what is below.
+abbrev pub AreFirstOnEach : List Cert → List (List Cert) → Type 0
+AreFirstOnEach cas paths = (p : List Cert) → IsIn p paths → AreFirst cas p
+
 -- Each certificate has a covered path, each issuer on it the first that verifies what is below;
 -- every CA stands on one of these paths, and this is kept of them.
 pub record AreWalked {C : Type 0} (cert : C → Cert) (cas ees : List Cert) (kept : List (Path C)) :
     Type 0 where
   pub paths : List (List Cert)
   pub stand : ArePaths cas ees paths
-  pub first : (p : List Cert) → IsIn p paths → AreFirst cas p
+  pub first : AreFirstOnEach cas paths
   pub used : AreUsed cas paths
   pub are_kept : AreKept cert [] kept paths
 
+-- The first certificate that has no path: those before it have paths, and this is its cause.
+pub record StopsFor (fault : PathFault) (cas ees : List Cert) : Type 0 where
+  pub done : List Cert
+  pub ee : Cert
+  pub more : List Cert
+  pub paths : List (List Cert)
+  pub parts : ees ≡ done ++ ee ∷ more
+  pub stand : ArePaths cas done paths
+  pub first : AreFirstOnEach cas paths
+  pub refused : IsRefused fault cas (at_place 0 ee)
+  pub not_memory : ¬ (fault ≡ OutOfMemory)
+
+-- The first CA that stands on none of the paths is the one at this place.
+pub record IsFirstUnused (cas ees : List Cert) (place : ℕ) : Type 0 where
+  pub paths : List (List Cert)
+  pub ca : Cert
+  pub stand : ArePaths cas ees paths
+  pub first : AreFirstOnEach cas paths
+  pub at_index : slice_get cas place ≡ Some ca
+  pub unused : ¬ (IsUsed ca paths)
+  pub before : (k : ℕ) (d : Cert) → k < place → slice_get cas k ≡ Some d → IsUsed d paths
+
 -- Why walks from these certificates are refused: of the first that has no path, the cause; or the
--- CA at a place stands on none of the paths.
+-- first CA that stands on none of the paths.
 abbrev pub AreRefused : WalksFault → List Cert → List Cert → Type 0
-AreRefused (NoPath fault) cas ees =
-    (done : List Cert) × (e : Cert) × (more : List Cert) × (paths : List (List Cert))
-    × (ees ≡ done ++ e ∷ more) × ArePaths cas done paths
-    × IsRefused fault cas (at_place 0 e) × ¬ (fault ≡ OutOfMemory)
-AreRefused (Unused place) cas ees =
-    (paths : List (List Cert)) × (d : Cert) × ArePaths cas ees paths
-    × (slice_get cas place ≡ Some d) × ¬ (IsUsed d paths)
+AreRefused (NoPath fault) cas ees = StopsFor fault cas ees
+AreRefused (Unused place) cas ees = IsFirstUnused cas ees place
 AreRefused Memory cas ees = Unit {0}
 
 -- The cause for several walks, from that of one.

@@ -1,6 +1,6 @@
 -- The laws of paths that public functions carry.
 use Rattle.std.specs.Prelude.{◌≡◌, ℕ, ◌+◌, ◌≤◌, List, ◌∷◌, Option, None, Some, IsTrue}
-use Rattle.std.specs.Prelude.{length, ◌↔◌, [], ◌++◌, Ok, Err}
+use Rattle.std.specs.Prelude.{length, ◌↔◌, [], ◌++◌, Ok, Err, Bool, map}
 use Rattle.rpki_resources.specs.declared.block.Block.{Block}
 use Rattle.rpki_resources.specs.declared.resources.Claim.{Claim}
 use Rattle.rpki_resources.specs.declared.resources.Claim.TheVariants.{Inherit, Explicit}
@@ -18,18 +18,21 @@ use Rattle.rpki_paths.specs.declared.supply.SupplyFault.{SupplyFault}
 use Rattle.rpki_paths.specs.declared.supply.SupplyFault.TheVariants.{Memory as NoMemory}
 use Rattle.rpki_paths.specs.declared.decision.FinalFault.{FinalFault}
 use Rattle.rpki_paths.specs.declared.decision.FinalFault.TheVariants.{Memory as UnionMemory}
+use Rattle.rpki_paths.specs.declared.pairs.PairFault.{PairFault}
+use Rattle.rpki_paths.specs.declared.pairs.PairFault.TheVariants.{Memory as PairMemory}
 use Rattle.rpki_paths.specs.Kept.{AreRefused, AreKept, AreWalked}
-use Rattle.rpki_paths.specs.Supplied.{AreSuppliedAll}
+use Rattle.rpki_paths.specs.Supplied.{AnswersEach, AreSuppliedAll}
 use Rattle.rpki_paths.specs.Final.{all_anchored, IsWhole, Decides}
 use Rattle.rpki_paths.specs.Walk.{IsRefused, kept_at, InEach}
 use Rattle.rpki_paths.specs.Cert.{Cert, Numbers, IsIn}
 use Rattle.rpki_paths.specs.Sets.{with_claim, IsCovered, CoversKept, StandsFor, IsClimbed}
 use Rattle.rpki_paths.specs.Path.{IsChain, IsPath, IsDistinct, IsLinkCovered, explicit_sets}
-use Rattle.rpki_paths.specs.Anchor.{Supply, Ca, Takes, IsAnchored, supplied_claim, path_set}
+use Rattle.rpki_paths.specs.Anchor.{Supply, Ca, Takes, IsAnchored, HasUnanchored}
+use Rattle.rpki_paths.specs.Anchor.{supplied_claim, path_set}
 use Rattle.rpki_paths.specs.Pairing.{Carried, Crl, HasDistinctIds, IsMatching, HasKey}
 use Rattle.rpki_paths.specs.Pairing.{IsPicked, IsPairable, AreAlike, IsVerifiedBy, HasCrl}
 use Rattle.rpki_paths.specs.Pairing.{IsPairing}
-use Rattle.rpki_paths.specs.Taking.{PairsOff, FitsNone, AllVerifyEach}
+use Rattle.rpki_paths.specs.Taking.{PairsOff, FitsNone, AllVerifyEach, AreUnpaired}
 use Rattle.rpki_paths.specs.Grant.{HasPaths, AreValid, AreUsed, authorities, IsAccepted, IsEarned}
 use Rattle.rpki_paths.specs.Grant.{ArePaths}
 use Rattle.rpki_paths.specs.Grant.{IsGranted}
@@ -163,32 +166,69 @@ RefusedIsNotAccepted =
     AreRefused fault (authorities a crls) ees → (paths : List (List Cert)) →
     ¬ (IsAccepted a paths)
 
+-- What is kept of paths before a supply is handed in and none is declined, is kept under it too.
+abbrev pub EachIsKept : {X C F : Type 0} → (C → Cert) → (X → Supply) → (X → C → F → Type 0) → Type 0
+EachIsKept {X} {C} cert of refuses =
+    (x : X) (supplies : List Supply) (old new : List (Path C)) (paths : List (List Cert))
+    (all : Bool) → AnswersEach cert (refuses x) (of x) old new (Ok all) →
+    AreKept cert supplies old paths → AreKept cert (supplies ++ of x ∷ []) new paths
+
+-- Where a supply declines a path, but for memory, this path is anchored by none, whatever comes
+-- after.
+abbrev pub DeclinedIsUnanchored : {X C F : Type 0} → (C → Cert) → (X → Supply) →
+    (X → C → F → Type 0) → Type 0
+DeclinedIsUnanchored {X} {C} {F} cert of refuses =
+    (x : X) (supplies more : List Supply) (old new : List (Path C)) (paths : List (List Cert))
+    (fault : SupplyFault F) → ¬ (fault ≡ NoMemory) →
+    AnswersEach cert (refuses x) (of x) old new (Err fault) → AreKept cert supplies old paths →
+    HasUnanchored paths (supplies ++ of x ∷ more)
+
+-- What is kept of paths after some supplies are handed in, none of which declines one, is kept
+-- under these too.
+abbrev pub AllAreKept : {X C F : Type 0} → (C → Cert) → (X → Supply) → (X → C → F → Type 0) → Type 0
+AllAreKept {X} {C} cert of refuses =
+    (xs : List X) (supplies : List Supply) (old new : List (Path C)) (paths : List (List Cert)) →
+    AreSuppliedAll cert of refuses xs old new (Ok tt) → AreKept cert supplies old paths →
+    AreKept cert (supplies ++ map of xs) new paths
+
+-- Where one of some supplies declines a path, but for memory, one path is anchored by none of them.
+abbrev pub RefusedIsUnanchored : {X C F : Type 0} → (C → Cert) → (X → Supply) →
+    (X → C → F → Type 0) → Type 0
+RefusedIsUnanchored {X} {C} {F} cert of refuses =
+    (xs : List X) (supplies : List Supply) (old new : List (Path C)) (paths : List (List Cert))
+    (fault : SupplyFault F) → ¬ (fault ≡ NoMemory) →
+    AreSuppliedAll cert of refuses xs old new (Err fault) → AreKept cert supplies old paths →
+    HasUnanchored paths (supplies ++ map of xs)
+
 -- Where all supplies are handed in to such paths and the end says yes, the attestation is granted.
-abbrev pub YesIsGranted : {C : Type 0} → (C → Cert) → Type 0 → Type 0
-YesIsGranted {C} cert F =
+abbrev pub YesIsGranted : {X C F : Type 0} → (C → Cert) → (X → Supply) → (X → C → F → Type 0) →
+    Type 0
+YesIsGranted {X} {C} cert of refuses =
     (a : Carried) (ees : List Cert) (crls : List Crl) (walked kept : List (Path C))
-    (supplies : List Supply) (attested : Family → Numbers) → AreValid a →
+    (xs : List X) (attested : Family → Numbers) → AreValid a →
     IsMatching a ees crls → AreWalked cert (authorities a crls) ees walked →
-    AreSuppliedAll {F = F} cert supplies walked kept (Ok tt) → Decides kept attested (Ok tt) →
-    IsGranted a supplies attested
+    AreSuppliedAll cert of refuses xs walked kept (Ok tt) → Decides kept attested (Ok tt) →
+    IsGranted a (map of xs) attested
 
 -- With distinct identifiers a supply ends the call, but for memory, only where nothing is granted.
-abbrev pub UnsuppliedIsRefused : {C : Type 0} → (C → Cert) → Type 0 → Type 0
-UnsuppliedIsRefused {C} cert F =
+abbrev pub UnsuppliedIsRefused : {X C F : Type 0} → (C → Cert) → (X → Supply) →
+    (X → C → F → Type 0) → Type 0
+UnsuppliedIsRefused {X} {C} {F} cert of refuses =
     (a : Carried) (ees : List Cert) (crls : List Crl) (walked kept : List (Path C))
-    (supplies : List Supply) (attested : Family → Numbers) (fault : SupplyFault F) →
+    (xs : List X) (attested : Family → Numbers) (fault : SupplyFault F) →
     HasDistinctIds a → IsMatching a ees crls → AreWalked cert (authorities a crls) ees walked →
-    ¬ (fault ≡ NoMemory) → AreSuppliedAll cert supplies walked kept (Err fault) →
-    ¬ (IsGranted a supplies attested)
+    ¬ (fault ≡ NoMemory) → AreSuppliedAll cert of refuses xs walked kept (Err fault) →
+    ¬ (IsGranted a (map of xs) attested)
 
 -- With distinct identifiers the end says no, but for memory, only where nothing is granted.
-abbrev pub UndecidedIsRefused : {C : Type 0} → (C → Cert) → Type 0 → Type 0
-UndecidedIsRefused {C} cert F =
+abbrev pub UndecidedIsRefused : {X C F : Type 0} → (C → Cert) → (X → Supply) →
+    (X → C → F → Type 0) → Type 0
+UndecidedIsRefused {X} {C} cert of refuses =
     (a : Carried) (ees : List Cert) (crls : List Crl) (walked kept : List (Path C))
-    (supplies : List Supply) (attested : Family → Numbers) (fault : FinalFault) →
+    (xs : List X) (attested : Family → Numbers) (fault : FinalFault) →
     HasDistinctIds a → IsMatching a ees crls → AreWalked cert (authorities a crls) ees walked →
-    ¬ (fault ≡ UnionMemory) → AreSuppliedAll {F = F} cert supplies walked kept (Ok tt) →
-    Decides kept attested (Err fault) → ¬ (IsGranted a supplies attested)
+    ¬ (fault ≡ UnionMemory) → AreSuppliedAll cert of refuses xs walked kept (Ok tt) →
+    Decides kept attested (Err fault) → ¬ (IsGranted a (map of xs) attested)
 
 -- What is kept of a path tells whether a CA takes it.
 abbrev pub KeptTellsTakes : Type 0
@@ -210,6 +250,18 @@ FirstFitsFindPairing {A} {B} R =
     (done : List A) (x : A) (more : List A) (partners ys left : List B) →
     PairsOff R done partners ys left → AreAlike R (done ++ x ∷ more) ys →
     IsPairable R (done ++ x ∷ more) ys → ¬ (FitsNone (R x) left)
+
+-- Where some are left over there is no pairing.
+abbrev pub LeftOverIsUnpairable : {A B : Type 0} → (A → B → Type 0) → Type 0
+LeftOverIsUnpairable {A} {B} R =
+    (xs : List A) (partners ys left : List B) → PairsOff R xs partners ys left →
+    ¬ (left ≡ []) → ¬ (IsPairable R xs ys)
+
+-- Where items that one fits are alike and cannot be paired off, but for memory, there is no pairing.
+abbrev pub UnpairedIsUnpairable : {A B : Type 0} → (A → B → Type 0) → Type 0
+UnpairedIsUnpairable {A} {B} R =
+    (xs : List A) (ys : List B) (fault : PairFault) → ¬ (fault ≡ PairMemory) →
+    AreUnpaired R xs ys fault → AreAlike R xs ys → ¬ (IsPairable R xs ys)
 
 -- With distinct identifiers and a matching, whatever has the identifier that is sought also has the
 -- verdict, so that each signer and each CA asks for one.

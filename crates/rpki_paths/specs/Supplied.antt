@@ -1,6 +1,6 @@
 -- What a supply does to paths.
-use Rattle.std.specs.Prelude.{◌≡◌, ℕ, ◌<◌, ◌≤◌, Bool, List, [], length, Result, Ok, Err, IsTrue}
-use Rattle.std.specs.Prelude.{IsFalse}
+use Rattle.std.specs.Prelude.{◌≡◌, ℕ, ◌<◌, ◌≤◌, Bool, List, [], ◌∷◌, length, Result, Ok, Err}
+use Rattle.std.specs.Prelude.{IsTrue, IsFalse}
 use Rattle.std.specs.Prelude.{◌⊎◌, ◌↔◌, Some, slice_get}
 use Rattle.rpki_resources.specs.declared.resources.Claim.TheVariants.{Explicit}
 use Rattle.rpki_paths.specs.declared.family.Family.{Family}
@@ -9,10 +9,9 @@ use Rattle.rpki_paths.specs.declared.supply.Supplied.{Supplied}
 use Rattle.rpki_paths.specs.declared.supply.Supplied.TheVariants.{Tal, Ca}
 use Rattle.rpki_paths.specs.declared.supply.SupplyFault.{SupplyFault}
 use Rattle.rpki_paths.specs.declared.supply.SupplyFault.TheVariants.{NoAnchor, NotCovered, Memory}
-use Rattle.rpki_paths.specs.Cert.{Cert, Numbers, IsIn}
-use Rattle.rpki_paths.specs.Kept.{AreKept}
+use Rattle.rpki_paths.specs.Cert.{Cert, Numbers}
 use Rattle.rpki_paths.specs.Sets.{CoversKept, IsClimbed}
-use Rattle.rpki_paths.specs.Anchor.{Supply, Fits, IsAnchor, IsAnchored, supplied_claim}
+use Rattle.rpki_paths.specs.Anchor.{Supply, Fits, IsAnchor, supplied_claim}
 use Rattle.rpki_paths.specs.Walk.{kept_at, InEach, FailsFirst}
 
 -- The sets of a CA cover what is kept of a path in the family, where they have to.
@@ -45,28 +44,31 @@ pub record IsTaken {C : Type 0} (cert : C → Cert) (s : Supply) (old new : Path
 abbrev pub IsSupplied : {C : Type 0} → (C → Cert) → Supply → Path C → Path C → Type 0
 IsSupplied cert s old new = IsPassed cert s old new ⊎ IsTaken cert s old new
 
--- Why the supply does not take the path. Only a CA needs memory.
-abbrev pub Declines : {C F : Type 0} → (C → Cert) → Path C → Supply → SupplyFault F → Type 0
-Declines cert path (Supply.Tal key) (NoAnchor fault) = ¬ (IsAnchor (cert path.head))
-Declines cert path (Supply.Tal key) (NotCovered family) = ⊥
-Declines cert path (Supply.Tal key) Memory = ⊥
-Declines cert path (Supply.Ca ski key sets) (NoAnchor fault) = ⊥
-Declines cert path (Supply.Ca ski key sets) (NotCovered family) =
+-- Why the supply does not take the path; `refuses` tells the faults that a locator gives of a head.
+-- Only a CA needs memory.
+abbrev pub Declines : {C F : Type 0} → (C → Cert) → (C → F → Type 0) → Path C → Supply →
+    SupplyFault F → Type 0
+Declines cert refuses path (Supply.Tal key) (NoAnchor fault) =
+    ¬ (IsAnchor (cert path.head)) × refuses path.head fault
+Declines cert refuses path (Supply.Tal key) (NotCovered family) = ⊥
+Declines cert refuses path (Supply.Tal key) Memory = ⊥
+Declines cert refuses path (Supply.Ca ski key sets) (NoAnchor fault) = ⊥
+Declines cert refuses path (Supply.Ca ski key sets) (NotCovered family) =
     FailsFirst (CoversPath cert path sets) family
-Declines cert path (Supply.Ca ski key sets) Memory = Unit {0}
+Declines cert refuses path (Supply.Ca ski key sets) Memory = Unit {0}
 
 -- The path is not anchored, and the supply, which is meant for its head, does not take it.
-pub record IsDeclined {C F : Type 0} (cert : C → Cert) (s : Supply) (path : Path C)
-    (fault : SupplyFault F) : Type 0 where
+pub record IsDeclined {C F : Type 0} (cert : C → Cert) (refuses : C → F → Type 0) (s : Supply)
+    (path : Path C) (fault : SupplyFault F) : Type 0 where
   pub open_path : IsFalse path.anchored
   pub meant : Fits (cert path.head) s
-  pub declines : Declines cert path s fault
+  pub declines : Declines cert refuses path s fault
 
 -- What a supply answers to a path. A path that it declines stays as it is.
-abbrev pub Answers : {C F : Type 0} → (C → Cert) → Supply → Path C → Path C →
+abbrev pub Answers : {C F : Type 0} → (C → Cert) → (C → F → Type 0) → Supply → Path C → Path C →
     Result Bool (SupplyFault F) → Type 0
-Answers cert s old new (Ok done) = (done ≡ new.anchored) × IsSupplied cert s old new
-Answers cert s old new (Err fault) = (new ≡ old) × IsDeclined cert s old fault
+Answers cert refuses s old new (Ok done) = (done ≡ new.anchored) × IsSupplied cert s old new
+Answers cert refuses s old new (Err fault) = (new ≡ old) × IsDeclined cert refuses s old fault
 
 -- The paths below this place are supplied, and the others stay as they are.
 pub record AreSupplied {C : Type 0} (cert : C → Cert) (s : Supply) (old new : List (Path C))
@@ -83,12 +85,12 @@ AreAnchoredTo {C} paths i =
 
 -- What a supply answers to several paths: whether all are anchored then. The first that it declines
 -- ends the call: those before it keep what they got, and it and those behind it stay as they were.
-abbrev pub AnswersEach : {C F : Type 0} → (C → Cert) → Supply → List (Path C) → List (Path C) →
-    Result Bool (SupplyFault F) → Type 0
-AnswersEach cert s old new (Ok done) =
+abbrev pub AnswersEach : {C F : Type 0} → (C → Cert) → (C → F → Type 0) → Supply → List (Path C) →
+    List (Path C) → Result Bool (SupplyFault F) → Type 0
+AnswersEach cert refuses s old new (Ok done) =
     AreSupplied cert s old new (length old) × (IsTrue done ↔ AreAnchoredTo new (length new))
-AnswersEach {C} cert s old new (Err fault) =
-    (i : ℕ) × (p : Path C) × (slice_get old i ≡ Some p) × IsDeclined cert s p fault
+AnswersEach {C} cert refuses s old new (Err fault) =
+    (i : ℕ) × (p : Path C) × (slice_get old i ≡ Some p) × IsDeclined cert refuses s p fault
     × AreSupplied cert s old new i
 
 -- The supply that is handed in.
@@ -97,12 +99,22 @@ abbrev pub supply_of : {T S : Type 0} → (T → List ℕ) → (S → List ℕ) 
 supply_of tal_key ski key sets (Tal tal) = Supply.Tal (tal_key tal.now)
 supply_of tal_key ski key sets (Ca ca) = Supply.Ca (ski ca.now) (key ca.now) (sets ca.now)
 
--- Supplies that are handed in one after the other: what is kept then is kept under all of them, or
--- one of the paths, which one of them is meant for and does not take, is anchored by none.
-abbrev pub AreSuppliedAll : {C F : Type 0} → (C → Cert) → List Supply → List (Path C) →
-    List (Path C) → Result (Unit {0}) (SupplyFault F) → Type 0
-AreSuppliedAll cert supplies old new (Ok done) =
-    (paths : List (List Cert)) → AreKept cert [] old paths → AreKept cert supplies new paths
-AreSuppliedAll cert supplies old new (Err fault) =
-    ¬ (fault ≡ Memory) → (paths : List (List Cert)) → AreKept cert [] old paths →
-    (p : List Cert) × IsIn p paths × ((s : Supply) → ¬ (IsAnchored p supplies s))
+-- The faults that it gives of a head: those of the locator, and none where it is a CA.
+abbrev pub refusal_of : {T S C F : Type 0} → (T → C → F → Type 0) → Supplied T S → C → F → Type 0
+refusal_of refuses (Tal tal) = refuses tal.now
+refusal_of refuses (Ca ca) = λ head fault. ⊥
+
+-- Supplies that are handed in one after the other, each to the paths as the one before it left
+-- them. The first that declines a path ends the call, with its fault and the paths as it leaves
+-- them.
+abbrev pub AreSuppliedAll : {X C F : Type 0} → (C → Cert) → (X → Supply) → (X → C → F → Type 0) →
+    List X → List (Path C) → List (Path C) → Result (Unit {0}) (SupplyFault F) → Type 0
+AreSuppliedAll cert of refuses [] old new (Ok done) = new ≡ old
+AreSuppliedAll cert of refuses [] old new (Err fault) = ⊥
+AreSuppliedAll {X} {C} cert of refuses (s ∷ supplies) old new (Ok done) =
+    (mid : List (Path C)) × (all : Bool) × AnswersEach cert (refuses s) (of s) old mid (Ok all)
+    × AreSuppliedAll cert of refuses supplies mid new (Ok done)
+AreSuppliedAll {X} {C} cert of refuses (s ∷ supplies) old new (Err fault) =
+    AnswersEach cert (refuses s) (of s) old new (Err fault)
+    ⊎ ((mid : List (Path C)) × (all : Bool) × AnswersEach cert (refuses s) (of s) old mid (Ok all)
+    × AreSuppliedAll cert of refuses supplies mid new (Err fault))

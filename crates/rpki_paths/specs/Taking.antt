@@ -1,6 +1,8 @@
 -- Pairing in carried order: each item takes the first of the others that fits it and is left.
-use Rattle.std.specs.Prelude.{◌≡◌, ℕ, Bool, true, false, List, [], ◌∷◌, Some, IsTrue}
-use Rattle.std.specs.Prelude.{slice_get}
+use Rattle.std.specs.Prelude.{◌≡◌, ℕ, Bool, true, false, List, [], ◌∷◌, ◌++◌, Some, IsTrue}
+use Rattle.std.specs.Prelude.{length, slice_get}
+use Rattle.rpki_paths.specs.declared.pairs.PairFault.{PairFault}
+use Rattle.rpki_paths.specs.declared.pairs.PairFault.TheVariants.{Unpaired, LeftOver, Memory}
 use Rattle.rpki_paths.specs.Cert.{IsIn}
 use Rattle.rpki_paths.specs.Pairing.{IsPairing}
 
@@ -64,3 +66,30 @@ pub record ArePaired {A B : Type 0} (R : A → B → Type 0) (xs : List A) (ys :
   pub at_places : AreAt ys places partners
   pub first : PairsOff R xs partners ys []
   pub pairing : IsPairing R xs partners ys
+
+-- The items before this place each took the first that fits of those that were left, and none that
+-- is left then fits the item at the place.
+pub record FindsNone {A B : Type 0} (R : A → B → Type 0) (xs : List A) (ys : List B) (place : ℕ) :
+    Type 0 where
+  pub done : List A
+  pub x : A
+  pub more : List A
+  pub partners : List B
+  pub left : List B
+  pub parts : xs ≡ done ++ x ∷ more
+  pub at_place : length done ≡ place
+  pub pairs : PairsOff R done partners ys left
+  pub none : FitsNone (R x) left
+
+-- Each took the first that fits of those that were left, and some are left over.
+pub record LeavesSome {A B : Type 0} (R : A → B → Type 0) (xs : List A) (ys : List B) : Type 0 where
+  pub partners : List B
+  pub left : List B
+  pub pairs : PairsOff R xs partners ys left
+  pub some : ¬ (left ≡ [])
+
+-- Why items are not paired off: the first that finds none, or those that are left over.
+abbrev pub AreUnpaired : {A B : Type 0} → (A → B → Type 0) → List A → List B → PairFault → Type 0
+AreUnpaired R xs ys (Unpaired place) = FindsNone R xs ys place
+AreUnpaired R xs ys LeftOver = LeavesSome R xs ys
+AreUnpaired R xs ys Memory = Unit {0}

@@ -65,15 +65,19 @@ pub trait Locator<C: Certificate> {
     // The key that it names.
     ghost key: { Self → List ℕ };
 
+    // The faults that it gives of a head that is no trust anchor.
+    ghost refuses: { Self → C → Self.Fault → Type 0 };
+
     /// Whether a head is self-signed and has its key.
     fn fits(&self, head: &C) -> bool
         ensures { IsTrue result ↔ Fits (C.cert head.now) (Supply.Tal (key self.now)) };
 
     /// Asks whether a head passes the inspection of a trust anchor, is valid at the moment, and is
-    /// verified by its own key.
+    /// verified by its own key. An error is why it is no trust anchor.
     fn validate(&self, head: &C) -> Result<(), Self::Fault>
         ensures ok { IfOk result (λ _. IsAnchor (C.cert head.now)) }
-        ensures refused { IfErr result (λ _. ¬ (IsAnchor (C.cert head.now))) };
+        ensures refused { IfErr result (λ _. ¬ (IsAnchor (C.cert head.now))) }
+        ensures fault { IfErr result (λ fault. refuses self.now head.now fault) };
 }
 
 /// A CA certificate that was validated elsewhere, for the heads of paths.

@@ -6,13 +6,19 @@ ghost use Rattle.rpki_paths.specs.Laws.{AnyChoicePairs, WhatFitsIsAlike, CrlsAre
 ghost use Rattle.rpki_paths.specs.Laws.{PathsAreThose, AcceptanceIsDecided, GrantIsDecided};
 ghost use Rattle.rpki_paths.specs.Laws.{WalksAreAccepted, RefusedIsNotAccepted, YesIsGranted};
 ghost use Rattle.rpki_paths.specs.Laws.{UnsuppliedIsRefused, UndecidedIsRefused};
+ghost use Rattle.rpki_paths.specs.Laws.{EachIsKept, DeclinedIsUnanchored, AllAreKept};
+ghost use Rattle.rpki_paths.specs.Laws.{RefusedIsUnanchored, LeftOverIsUnpairable};
+ghost use Rattle.rpki_paths.specs.Laws.{UnpairedIsUnpairable};
 ghost use Rattle.rpki_paths.specs.Laws.{FinalIsDecided, UnanchoredIsRefused, RefusedHasNoPath};
 ghost use Rattle.rpki_paths.specs.Laws.{RefusedHasNoPaths};
 ghost use Rattle.rpki_paths.specs.Laws.{KeptTellsTakes, FirstFitsArePairing};
 ghost use Rattle.rpki_paths.specs.Laws.{FirstFitsFindPairing, MatchingIsCheap};
 ghost use Rattle.rpki_paths.specs.Pairing.{HasKey, IsVerifiedBy, HasCrl};
+ghost use Rattle.rpki_paths.specs.Supplied.{supply_of, refusal_of};
+ghost use Rattle.rpki_paths.specs.Taking.{Fits};
 
-use crate::certificate::Certificate;
+use crate::certificate::{Certificate, Locator, SuppliedCa};
+use crate::pairs::Seeks;
 use rpki_resources::Number;
 
 /// One issuer more on a covered path keeps what is kept right.
@@ -108,19 +114,39 @@ pub fn refused_is_not_accepted()
     ensures { RefusedIsNotAccepted }
 {}
 
+/// What is kept of paths is kept under one supply more, where it declines none of them.
+pub fn each_is_kept<C: Certificate, T: Locator<C>, S: SuppliedCa<C>>()
+    ensures { EachIsKept C.cert (supply_of T.key S.ski S.key S.sets) (refusal_of T.refuses) }
+{}
+
+/// A path that a supply declines is anchored by none.
+pub fn declined_is_unanchored<C: Certificate, T: Locator<C>, S: SuppliedCa<C>>()
+    ensures { DeclinedIsUnanchored C.cert (supply_of T.key S.ski S.key S.sets) (refusal_of T.refuses) }
+{}
+
+/// What is kept of paths is kept under some supplies more, where these decline none of them.
+pub fn all_are_kept<C: Certificate, T: Locator<C>, S: SuppliedCa<C>>()
+    ensures { AllAreKept C.cert (supply_of T.key S.ski S.key S.sets) (refusal_of T.refuses) }
+{}
+
+/// Where one of some supplies declines a path, some path is anchored by none of them.
+pub fn refused_is_unanchored<C: Certificate, T: Locator<C>, S: SuppliedCa<C>>()
+    ensures { RefusedIsUnanchored C.cert (supply_of T.key S.ski S.key S.sets) (refusal_of T.refuses) }
+{}
+
 /// Where all supplies are handed in and the end says yes, the attestation is granted.
-pub fn yes_is_granted<C: Certificate, F>()
-    ensures { YesIsGranted C.cert F }
+pub fn yes_is_granted<C: Certificate, T: Locator<C>, S: SuppliedCa<C>>()
+    ensures { YesIsGranted C.cert (supply_of T.key S.ski S.key S.sets) (refusal_of T.refuses) }
 {}
 
 /// With distinct identifiers a supply ends the call only where nothing is granted.
-pub fn unsupplied_is_refused<C: Certificate, F>()
-    ensures { UnsuppliedIsRefused C.cert F }
+pub fn unsupplied_is_refused<C: Certificate, T: Locator<C>, S: SuppliedCa<C>>()
+    ensures { UnsuppliedIsRefused C.cert (supply_of T.key S.ski S.key S.sets) (refusal_of T.refuses) }
 {}
 
 /// With distinct identifiers the end says no only where nothing is granted.
-pub fn undecided_is_refused<C: Certificate, F>()
-    ensures { UndecidedIsRefused C.cert F }
+pub fn undecided_is_refused<C: Certificate, T: Locator<C>, S: SuppliedCa<C>>()
+    ensures { UndecidedIsRefused C.cert (supply_of T.key S.ski S.key S.sets) (refusal_of T.refuses) }
 {}
 
 /// What is kept of a path tells whether a supplied CA takes it.
@@ -140,6 +166,27 @@ pub fn first_fits_find_pairing()
     ensures keys { FirstFitsFindPairing HasKey }
     ensures ees { FirstFitsFindPairing IsVerifiedBy }
     ensures crls { FirstFitsFindPairing HasCrl }
+{}
+
+/// What pairs off, each taking the first that fits, is a pairing, of whatever is paired.
+pub fn pairs_are_pairing<X: Seeks<Y>, Y>()
+    ensures { FirstFitsArePairing (Fits X.sought X.held X.verdict) }
+{}
+
+/// Where items that one fits are alike, taking the first that fits finds the pairing there is, of
+/// whatever is paired.
+pub fn pairs_are_found<X: Seeks<Y>, Y>()
+    ensures { FirstFitsFindPairing (Fits X.sought X.held X.verdict) }
+{}
+
+/// Where some are left over there is no pairing.
+pub fn left_over_is_unpairable<X: Seeks<Y>, Y>()
+    ensures { LeftOverIsUnpairable (Fits X.sought X.held X.verdict) }
+{}
+
+/// Where items that one fits are alike, there is no pairing where they cannot be paired off.
+pub fn unpaired_is_unpairable<X: Seeks<Y>, Y>()
+    ensures { UnpairedIsUnpairable (Fits X.sought X.held X.verdict) }
 {}
 
 /// With distinct identifiers a matching asks for one verdict of each signer and of each CA.

@@ -4,9 +4,8 @@ ghost use Rattle.std.specs.Prelude.{◌≡◌, ◌≤◌, ◌+◌, ◌*◌, ℕ,
 ghost use Rattle.std.specs.Prelude.{IsTrue, IsFalse, IfOk, IfErr, IfNone, IfSome, OnOk};
 ghost use Rattle.rpki_paths.specs.declared.pairs.PairFault.{PairFault};
 ghost use Rattle.rpki_paths.specs.Index.{IsIndex};
-ghost use Rattle.rpki_paths.specs.Pairing.{IsPairable, AreAlike};
 ghost use Rattle.rpki_paths.specs.Taking.{Fits, left_of, FitsNone, IsTakenAt};
-ghost use Rattle.rpki_paths.specs.Taking.{AllVerify, AllVerifyEach, ArePaired};
+ghost use Rattle.rpki_paths.specs.Taking.{AllVerify, AllVerifyEach, ArePaired, AreUnpaired};
 
 use crate::asked::Asked;
 use crate::certificate::KeyId;
@@ -133,8 +132,8 @@ pub(crate) fn append<T: Drop>(items: &mut Vec<T>, item: T) -> Result<(), AllocEr
 
 /// Pairs each of some items with one of the others: in order, each takes the first that fits and is
 /// left. Answers the places of the partners. An error is the first item that finds none, others
-/// that are left over, or want of memory; but for memory there is then no pairing at all, where
-/// those that one item fits are alike.
+/// that are left over, or want of memory. Where others are left over there is no pairing at all; nor
+/// where an item finds none, if those that one item fits are alike.
 pub fn pair_off<X: Seeks<Y>, Y, L: Ledger>(
     alloc: Global,
     takers: &[X],
@@ -143,9 +142,8 @@ pub fn pair_off<X: Seeks<Y>, Y, L: Ledger>(
 ) -> Result<Vec<usize>, PairFault>
     ensures paired { IfOk result (λ places.
         ArePaired (Fits X.sought X.held X.verdict) takers.now others.now places.items) }
-    ensures refused { IfErr result (λ fault. ¬ (fault ≡ PairFault.Memory) →
-        AreAlike (Fits X.sought X.held X.verdict) takers.now others.now →
-        ¬ (IsPairable (Fits X.sought X.held X.verdict) takers.now others.now)) }
+    ensures refused { IfErr result
+        (AreUnpaired (Fits X.sought X.held X.verdict) takers.now others.now) }
     ensures cost { OnOk result
         (AllVerifyEach X.sought X.held X.verdict takers.now others.now →
         asked.new ≤ asked.old + X.price * length takers.now) }

@@ -1,10 +1,11 @@
 //! How paths are anchored: at trust anchors, or under CAs that were validated elsewhere.
 
-ghost use Rattle.std.specs.Prelude.{◌≡◌, ◌↔◌, IsTrue, map};
+ghost use Rattle.std.specs.Prelude.{◌≡◌};
 ghost use Rattle.rpki_paths.specs.declared.supply.SupplyFault.{SupplyFault};
 ghost use Rattle.rpki_paths.specs.declared.supply.Supplied.{Supplied};
 ghost use Rattle.rpki_paths.specs.Anchor.{Supply};
 ghost use Rattle.rpki_paths.specs.Supplied.{Answers, AnswersEach, AreSuppliedAll, supply_of};
+ghost use Rattle.rpki_paths.specs.Supplied.{refusal_of};
 
 use crate::certificate::{Certificate, Locator, SuppliedCa};
 use crate::family::Family;
@@ -44,7 +45,8 @@ impl<C: Certificate> Path<C> {
     /// is anchored. A path that is anchored, and one of another head, stays as it is. An error is
     /// why the head is no trust anchor; it leaves the path as it was. No memory is taken.
     pub fn supply_tal<T: Locator<C>>(&mut self, tal: &T) -> Result<bool, SupplyFault<T::Fault>>
-        ensures { Answers C.cert (Supply.Tal (T.key tal.now)) self.old self.new result }
+        ensures { Answers C.cert (T.refuses tal.now) (Supply.Tal (T.key tal.now))
+            self.old self.new result }
     {
         if self.anchored {
             return Ok(true);
@@ -64,8 +66,8 @@ impl<C: Certificate> Path<C> {
     /// first family whose nearest explicit set the CA does not have (RFC 6487, section 7.2), or
     /// want of memory; it leaves the path as it was.
     pub fn supply_ca<S: SuppliedCa<C>, F>(&mut self, ca: &S) -> Result<bool, SupplyFault<F>>
-        ensures { Answers C.cert (Supply.Ca (S.ski ca.now) (S.key ca.now) (S.sets ca.now))
-            self.old self.new result }
+        ensures { Answers C.cert (λ head fault. ⊥)
+            (Supply.Ca (S.ski ca.now) (S.key ca.now) (S.sets ca.now)) self.old self.new result }
     {
         if self.anchored {
             return Ok(true);
@@ -87,8 +89,8 @@ impl<C: Certificate> Path<C> {
         &mut self,
         supplied: &Supplied<T, S>,
     ) -> Result<bool, SupplyFault<T::Fault>>
-        ensures { Answers C.cert (supply_of T.key S.ski S.key S.sets supplied.now)
-            self.old self.new result }
+        ensures { Answers C.cert (refusal_of T.refuses supplied.now)
+            (supply_of T.key S.ski S.key S.sets supplied.now) self.old self.new result }
     {
         match supplied {
             Supplied::Tal(tal) => self.supply_tal(*tal),
@@ -104,8 +106,8 @@ pub fn supply_each<C: Certificate, T: Locator<C>, S: SuppliedCa<C>>(
     paths: &mut [Path<C>],
     supplied: &Supplied<T, S>,
 ) -> Result<bool, SupplyFault<T::Fault>>
-    ensures { AnswersEach C.cert (supply_of T.key S.ski S.key S.sets supplied.now)
-        paths.old paths.new result }
+    ensures { AnswersEach C.cert (refusal_of T.refuses supplied.now)
+        (supply_of T.key S.ski S.key S.sets supplied.now) paths.old paths.new result }
 {
     let mut done = true;
     for i in 0..paths.len() {
@@ -121,13 +123,14 @@ pub fn supply_each<C: Certificate, T: Locator<C>, S: SuppliedCa<C>>(
     Ok(done)
 }
 
-/// Hands in several supplies in order, each to all paths. The first fault ends the call.
+/// Hands in several supplies in order, each to all paths, as `supply_each` does. The first fault
+/// ends the call, and leaves the paths as that supply left them.
 pub fn supply_all<C: Certificate, T: Locator<C>, S: SuppliedCa<C>>(
     paths: &mut [Path<C>],
     supplies: &[Supplied<T, S>],
 ) -> Result<(), SupplyFault<T::Fault>>
-    ensures { AreSuppliedAll C.cert (map (supply_of T.key S.ski S.key S.sets) supplies.now)
-        paths.old paths.new result }
+    ensures { AreSuppliedAll C.cert (supply_of T.key S.ski S.key S.sets) (refusal_of T.refuses)
+        supplies.now paths.old paths.new result }
 {
     for i in 0..supplies.len() {
         match supply_each(paths, &supplies[i]) {

@@ -1,7 +1,12 @@
 //! Certificates with plain fields.
 
+ghost use Rattle.std.specs.Prelude.{◌≡◌};
+
 use rpki_paths::{Asked, Certificate, KeyId, Locator, Overclaim, Seeks, SuppliedCa};
-use rpki_resources::{AsBlock, AsBlocks, AsBlocksBuilder, AsResources, Asn, IpBlocks, IpResources};
+use rpki_resources::{
+    Addr, AsBlock, AsBlocks, AsBlocksBuilder, AsResources, Asn, IpBlock, IpBlocks, IpBlocksBuilder,
+    IpResources,
+};
 use std::alloc::{AllocError, Global};
 use std::sync::ledger::Ledger;
 
@@ -12,17 +17,8 @@ pub fn id(last: u8) -> KeyId {
     id
 }
 
-/// The set of the numbers from the first to the second.
-pub fn numbers(alloc: Global, first: u32, last: u32) -> Result<AsBlocks, AllocError> {
-    let mut builder = AsBlocksBuilder::new(alloc);
-    if first <= last {
-        builder.push(AsBlock::Range(Asn::from_u32(first), Asn::from_u32(last)))?;
-    }
-    builder.finalize()
-}
-
-/// The set of the numbers of these ranges.
-pub fn ranges(alloc: Global, given: &[(u32, u32)]) -> Result<AsBlocks, AllocError> {
+/// The set of the numbers of these ranges. One whose first number is above its last has none.
+pub fn as_set(alloc: Global, given: &[(u32, u32)]) -> Result<AsBlocks, AllocError> {
     let mut builder = AsBlocksBuilder::new(alloc);
     for (first, last) in given {
         if first <= last {
@@ -32,7 +28,24 @@ pub fn ranges(alloc: Global, given: &[(u32, u32)]) -> Result<AsBlocks, AllocErro
     builder.finalize()
 }
 
-/// A certificate of AS numbers alone.
+/// The set of the addresses of these ranges.
+pub fn ip_set(alloc: Global, given: &[(u32, u32)]) -> Result<IpBlocks, AllocError> {
+    let mut builder = IpBlocksBuilder::new(alloc);
+    for (first, last) in given {
+        if first <= last {
+            builder.push(IpBlock::Range(address(*first), address(*last)))?;
+        }
+    }
+    builder.finalize()
+}
+
+fn address(number: u32) -> Addr
+    ensures { result ≡ number }
+{
+    Addr::from_bits(u128::from(number))
+}
+
+/// A certificate.
 #[derive(Drop)]
 pub struct Plain {
     pub subject: KeyId,
@@ -44,7 +57,8 @@ pub struct Plain {
     pub revoked: Vec<u64>,
     pub overclaim: Overclaim,
     pub asn: AsResources,
-    pub ip: IpResources,
+    pub v4: IpResources,
+    pub v6: IpResources,
     /// Whether it passes the inspection of a trust anchor.
     pub is_anchor: bool,
 }
@@ -66,7 +80,7 @@ impl<'a> Certificate for Seen<'a> {
       key = s.0.now.key;
       serial = s.0.now.serial;
       overclaim = s.0.now.overclaim;
-      claim = claims_of s.0.now.asn s.0.now.ip;
+      claim = claims_of s.0.now.asn s.0.now.v4 s.0.now.v6;
       verifies = λ k. pointwise nat_eq s.0.now.signer k;
       is_valid = true;
       is_anchor = s.0.now.is_anchor;
@@ -106,11 +120,11 @@ impl<'a> Certificate for Seen<'a> {
     }
 
     fn v4(&self) -> &IpResources {
-        &self.0.ip
+        &self.0.v4
     }
 
     fn v6(&self) -> &IpResources {
-        &self.0.ip
+        &self.0.v6
     }
 }
 
@@ -130,9 +144,16 @@ pub struct Root {
 }
 
 impl<'a> Locator<Seen<'a>> for Root {
+    ghost use Rattle.std.specs.Prelude.{nat_eq};
+    ghost use Rattle.std.specs.Cmp.Lexicographic.{pointwise};
+    ghost use Rattle.rpki_paths_tests.specs.Plain.{IsNoAnchor};
+
     type Fault = NoAnchor;
 
     ghost key = { λ s. s.key };
+
+    ghost refuses = { λ s head fault. IsNoAnchor head.0.now.is_anchor
+        (pointwise nat_eq head.0.now.signer head.0.now.key) fault };
 
     fn fits(&self, head: &Seen<'a>) -> bool {
         head.is_self_signed() && head.0.key == self.key
@@ -149,13 +170,14 @@ impl<'a> Locator<Seen<'a>> for Root {
     }
 }
 
-/// A supplied CA of AS numbers alone.
+/// A supplied CA.
 #[derive(Drop)]
 pub struct Above {
     pub subject: KeyId,
     pub key: [u8; 1],
     pub asn: AsBlocks,
-    pub ip: IpBlocks,
+    pub v4: IpBlocks,
+    pub v6: IpBlocks,
 }
 
 impl<'a> SuppliedCa<Seen<'a>> for Above {
@@ -166,7 +188,7 @@ impl<'a> SuppliedCa<Seen<'a>> for Above {
 
     ghost key = { λ s. s.key };
 
-    ghost sets = { λ s. sets_of s.asn s.ip };
+    ghost sets = { λ s. sets_of s.asn s.v4 s.v6 };
 
     fn fits(&self, head: &Seen<'a>) -> bool {
         if head.is_self_signed() {
@@ -182,15 +204,15 @@ impl<'a> SuppliedCa<Seen<'a>> for Above {
     }
 
     fn v4(&self) -> &IpBlocks
-        ensures { result.now ≡ self.now.ip }
+        ensures { result.now ≡ self.now.v4 }
     {
-        &self.ip
+        &self.v4
     }
 
     fn v6(&self) -> &IpBlocks
-        ensures { result.now ≡ self.now.ip }
+        ensures { result.now ≡ self.now.v6 }
     {
-        &self.ip
+        &self.v6
     }
 }
 

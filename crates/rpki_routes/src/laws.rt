@@ -11,7 +11,7 @@ ghost use Rattle.rpki_routes.specs.Aspa.Form.{AspaForm};
 ghost use Rattle.rpki_routes.specs.Aspa.Written.{aspa_octets};
 ghost use Rattle.rpki_routes.specs.Roa.{Roa, IsRoa};
 ghost use Rattle.rpki_routes.specs.Roa.Form.{RoaForm};
-ghost use Rattle.rpki_routes.specs.Roa.Written.{roa_octets};
+ghost use Rattle.rpki_routes.specs.Roa.Written.{roa_contents, roa_octets};
 
 /// At most one beginning of given octets is an ASPA content, and it says one thing.
 pub fn attestations_are_unique()
@@ -70,12 +70,13 @@ pub fn octets_after_a_roa_are_left()
         → HasNoFront RoaForm octets → HasNoFront RoaForm (octets ++ more) }
 {}
 
-/// What a ROA says is written as a content that says it, where it has fewer than 2^32 octets, and
-/// whatever follows, it stands at the front. What was read can be written so.
+/// What a ROA says is written as a content that says it, where what stands in its SEQUENCE has
+/// fewer than 2^32 octets, and whatever follows, it stands at the front. What was read can be
+/// written so.
 pub fn roas_are_written()
-    ensures written { (r : Roa) → IsRoa r → length (roa_octets r) < 2 ^ 32
+    ensures written { (r : Roa) → IsRoa r → length (roa_contents r) < 2 ^ 32
         → RoaForm (roa_octets r) r }
-    ensures read { (r : Roa) (rest : List ℕ) → IsRoa r → length (roa_octets r) < 2 ^ 32
+    ensures read { (r : Roa) (rest : List ℕ) → IsRoa r → length (roa_contents r) < 2 ^ 32
         → Front RoaForm (roa_octets r ++ rest) r rest }
     ensures found { (octets : List ℕ) (r : Roa) → IsBytes octets → RoaForm octets r → IsRoa r }
 {}

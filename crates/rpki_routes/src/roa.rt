@@ -14,7 +14,7 @@ ghost use Rattle.rpki_der.specs.declared.mode.Mode.TheVariants.{Der};
 ghost use Rattle.rpki_routes.specs.Roa.{Roa, IsRoa, addresses, origin_of};
 ghost use Rattle.rpki_routes.specs.Roa.Form.{RoaForm};
 ghost use Rattle.rpki_routes.specs.Roa.Read.{fields_at};
-ghost use Rattle.rpki_routes.specs.Roa.Written.{roa_octets};
+ghost use Rattle.rpki_routes.specs.Roa.Written.{roa_contents, roa_octets};
 
 pub use address::{FriendlyRoaIpAddress, RoaIpAddress, RouteOrigin};
 pub use addresses::{RoaIpAddressIter, RoaIpAddresses};
@@ -102,7 +102,7 @@ impl RouteOriginAttestation {
     /// addresses left out, and the bits that are not used zero, whatever was read.
     pub fn encode_ref(&self) -> RouteOriginAttestationEncoder<'_>
         ensures value { result ≡ self.now }
-        ensures written { length (roa_octets self.now) < 2 ^ 32
+        ensures written { length (roa_contents self.now) < 2 ^ 32
             → RoaForm (roa_octets self.now) self.now }
     {
         // What a value's type promises is known to the proof only where one of its fields is read.

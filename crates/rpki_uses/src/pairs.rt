@@ -4,6 +4,7 @@ ghost use Rattle.std.specs.Prelude.{IsFalse, IsTrue, IfOk};
 ghost use Rattle.rpki_paths.specs.Pairing.{AreAlike, IsPairable};
 ghost use Rattle.rpki_paths.specs.Taking.{Fits};
 
+use rpki_paths::laws::unpaired_is_unpairable;
 use rpki_paths::{Asked, PairFault, Seeks, pair_off};
 use std::alloc::{AllocError, Global};
 use std::sync::ledger::Ledger;
@@ -23,6 +24,7 @@ pub fn are_paired<X: Seeks<Y>, Y, L: Ledger>(
         AreAlike (Fits X.sought X.held X.verdict) takers.now others.now →
         ¬ (IsPairable (Fits X.sought X.held X.verdict) takers.now others.now)) }
 {
+    unpaired_is_unpairable::<X, Y>();
     match pair_off(alloc, takers, others, asked) {
         Ok(_) => Ok(true),
         Err(PairFault::Memory) => Err(AllocError),

@@ -14,7 +14,7 @@ use bytes::Bytes;
 use rpki_basics::{Name, PublicKey, RpkiSignature, RpkiSignatureAlgorithm, Serial, Time, Validity};
 use rpki_der::{Captured, Constructed, DecodeError, Tag};
 use rpki_extensions::Extensions;
-use std::alloc::Global;
+use std::alloc::{AllocError, Global};
 use std::marker::Model;
 
 /// What is signed of a certificate (RFC 5280, section 4.1.2).
@@ -59,12 +59,42 @@ impl Model for Contents {
     ghost view = { λ c. record { tbs = c.tbs; signed = c.signed; signature = c.signature } };
 }
 
+impl Clone for Tbs {
+    ghost is_clone = { λ t copy. copy ≡ t };
+
+    fn clone(&self) -> Result<Tbs, AllocError> {
+        Ok(Tbs {
+            serial_number: self.serial_number,
+            issuer: self.issuer.clone()?,
+            validity: self.validity,
+            subject: self.subject.clone()?,
+            key: self.key.clone()?,
+            extensions: self.extensions.clone()?,
+        })
+    }
+}
+
+impl Clone for Contents {
+    ghost is_clone = { λ c copy. copy ≡ c };
+
+    fn clone(&self) -> Result<Contents, AllocError> {
+        Ok(Contents {
+            tbs: self.tbs.clone()?,
+            signed: self.signed.clone()?,
+            signature: self.signature.clone()?,
+        })
+    }
+}
+
+// The number of the version v3 (RFC 5280, section 4.1.2.1).
+const V3: u8 = 2;
+
 // Reads the version, which is v3.
 fn skip_version(cons: &mut Constructed<'_>) -> Result<(), DecodeError>
     ensures { Reads (λ u. u) (context_at 0 (primitive INTEGER (this v3)))
         cons.old result cons.new }
 {
-    cons.take_constructed_if(Tag::CTX_0, |cons| cons.skip_u8_if(2))
+    cons.take_constructed_if(Tag::CTX_0, |cons| cons.skip_u8_if(V3))
 }
 
 // Reads the two ends of the validity.

@@ -4,13 +4,14 @@ ghost use Rattle.std.specs.Prelude.{◌≡◌, ◌↔◌, ◌≤◌, IfOk, IsTru
 ghost use Rattle.rpki_basics.specs.Moment.{stamp};
 ghost use Rattle.rpki_keys.specs.Algorithm.{named, sha_256};
 ghost use Rattle.rpki_der.specs.declared.mode.Mode.TheVariants.{Der};
-ghost use Rattle.rpki_der.specs.Read.Parse.{u8_at, oid_at};
+ghost use Rattle.rpki_der.specs.Read.Parse.{oid_at};
 ghost use Rattle.rpki_der.specs.Read.Reads.{Found, Reads, Stays};
 ghost use Rattle.rpki_der.specs.Form.Made.{partly};
-ghost use Rattle.rpki_files.specs.Manifest.{zero_alone, head_at, fields_at, manifest_at};
+ghost use Rattle.rpki_files.specs.Manifest.{head_at, fields_at, manifest_at};
 
 use crate::files::take_files;
 use crate::manifest::ManifestContent;
+use crate::version::take_version;
 use bytes::Bytes;
 use rpki_basics::{ManifestRule, Serial, Time};
 use rpki_der::{Constructed, DecodeError, Mode, Reason, Tag};
@@ -18,17 +19,6 @@ use std::alloc::Global;
 
 // SHA-256 (RFC 5754, section 2.2).
 const SHA_256: [u8; 9] = [0x60, 0x86, 0x48, 0x01, 0x65, 0x03, 0x04, 0x02, 0x01];
-
-// Reads the number of the version, which is 0.
-fn take_version(cons: &mut Constructed<'_>) -> Result<(), DecodeError>
-    ensures { Reads (λ u. u) (partly zero_alone u8_at) cons.old result cons.new }
-{
-    if cons.take_u8()? == 0 {
-        Ok(())
-    } else {
-        Err(cons.refuse_for(Reason::WrongVersion))
-    }
-}
 
 // Reads the algorithm of the hashes, SHA-256.
 fn take_algorithm(cons: &mut Constructed<'_>) -> Result<(), DecodeError>

@@ -192,12 +192,11 @@ blocks-written r h short =
 
 -- ---- the content
 
-pub roa-written : (r : Roa) → IsRoa r → length (roa_octets r) < 2 ^ 32
+pub roa-written : (r : Roa) → IsRoa r → length (roa_contents r) < 2 ^ 32
     → RoaForm (roa_octets r) r
-roa-written r h short =
+roa-written r h inner =
     let number = number_octets r.as_id in
     let blocks = value_octets SEQUENCE (families_octets r) in
-    let inner = contents_small SEQUENCE (roa_contents r) short in
     within-written SEQUENCE
     (Parts (VersionForm ∷ (λ o. AsId Der o r.as_id) ∷ (λ o. BlocksForm o (r.v4, r.v6)) ∷ []))
     (roa_contents r) (tag-sound SEQUENCE refl) inner (

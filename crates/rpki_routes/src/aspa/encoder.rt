@@ -10,7 +10,7 @@ use crate::aspa::AsProviderAttestation;
 use crate::aspa::providers::{ProviderAsSet, ProvidersIn};
 use rpki_der::encode::{integer, sequence, tagged};
 use rpki_der::{Encode, EncodeError, Sink, SinkFailed, Tag};
-use rpki_lists::{EntriesEncoder, SliceReader, Written};
+use rpki_lists::{EntriesEncoder, Written};
 use rpki_resources::Asn;
 use std::marker::Model;
 
@@ -104,10 +104,6 @@ impl<'a> Written for ProvidersIn<'a> {
         ensures short { Unit {0} ↔ Unit {0} }
     {
         number
-    }
-
-    fn again(reader: &SliceReader<'a>) -> SliceReader<'a> {
-        reader.again()
     }
 
     ghost small = { λ _ _. tt };

@@ -8,7 +8,7 @@ ghost use Rattle.rpki_routes.specs.Aspa.Read.{in_order_at, providers_at, follows
 
 use rpki_basics::ProviderLimit;
 use rpki_der::{Constructed, DecodeError, Reason};
-use rpki_lists::{Entry, EntryIter, EntryList, Kind, Refused, Rule, SliceReader, take_list};
+use rpki_lists::{EntryIter, EntryList, Kind, Refused, Rule, SliceEntry, SliceReader, take_list};
 use rpki_resources::{Asn, SmallAsnSet};
 use std::alloc::{AllocError, Global};
 use std::marker::{Model, PhantomData};
@@ -42,7 +42,7 @@ pub struct ProvidersIn<'a> {
     octets: PhantomData<&'a [u8]>,
 }
 
-impl<'a> Entry for ProvidersIn<'a> {
+impl<'a> SliceEntry for ProvidersIn<'a> {
     type Kind = Providers;
 
     type Item = Asn;
@@ -60,6 +60,10 @@ impl<'a> Entry for ProvidersIn<'a> {
     fn read(reader: &mut SliceReader<'a>) -> Option<Asn> {
         let number = reader.take_u32()?;
         Some(Asn::from_u32(number))
+    }
+
+    fn again(reader: &SliceReader<'a>) -> SliceReader<'a> {
+        reader.again()
     }
 }
 

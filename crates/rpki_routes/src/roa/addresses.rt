@@ -1,14 +1,14 @@
 //! Lists of addresses of a ROA (RFC 6482, section 3.3).
 
 ghost use Rattle.std.specs.Prelude.{◌≡◌, ◌↔◌, [], length, IsTrue, IsSome, false};
-ghost use Rattle.rpki_lists.specs.Slice.{TakesFront};
+ghost use Rattle.rpki_lists.specs.Slice.{FindsFront};
 ghost use Rattle.rpki_routes.specs.Roa.Read.{address_at, address_fields_at, is_of};
 
 use crate::roa::address::RoaIpAddress;
 use crate::roa::bits::take_prefix;
 use bytes::Bytes;
 use rpki_der::{Constructed, DecodeError, Reason};
-use rpki_lists::{Entry, EntryIter, EntryList, Kind, Refused, Rule, SliceReader, take_list};
+use rpki_lists::{EntryIter, EntryList, Kind, Refused, Rule, SliceEntry, SliceReader, take_list};
 use rpki_resources::{AddressFamily, OfFamily};
 use std::alloc::Global;
 use std::marker::{Model, PhantomData};
@@ -16,7 +16,7 @@ use std::marker::{Model, PhantomData};
 // Reads the fields of an address.
 #[tactic(auto, unfolding(crate::specs::Roa::Read::address_fields_at))]
 fn take_fields(fields: &mut SliceReader<'_>) -> Option<RoaIpAddress>
-    ensures { TakesFront (λ a. a) address_fields_at fields.old result fields.new }
+    ensures { FindsFront (λ a. a) address_fields_at fields.old result fields.new }
 {
     let prefix = take_prefix(fields)?;
     let max_length = fields.take_opt_u8()?;
@@ -25,7 +25,7 @@ fn take_fields(fields: &mut SliceReader<'_>) -> Option<RoaIpAddress>
 
 // Reads the address in front, if there is one, of either family.
 fn take_address(reader: &mut SliceReader<'_>) -> Option<RoaIpAddress>
-    ensures { TakesFront (λ a. a) address_at reader.old result reader.new }
+    ensures { FindsFront (λ a. a) address_at reader.old result reader.new }
 {
     let mut fields = reader.take_sequence()?;
     let address = take_fields(&mut fields)?;
@@ -83,7 +83,7 @@ pub struct AddressesIn<'a> {
     octets: PhantomData<&'a [u8]>,
 }
 
-impl<'a> Entry for AddressesIn<'a> {
+impl<'a> SliceEntry for AddressesIn<'a> {
     type Kind = Addresses;
 
     type Item = RoaIpAddress;
@@ -100,6 +100,10 @@ impl<'a> Entry for AddressesIn<'a> {
 
     fn read(reader: &mut SliceReader<'a>) -> Option<RoaIpAddress> {
         take_address(reader)
+    }
+
+    fn again(reader: &SliceReader<'a>) -> SliceReader<'a> {
+        reader.again()
     }
 }
 

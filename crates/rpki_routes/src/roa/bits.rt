@@ -2,7 +2,7 @@
 
 ghost use Rattle.std.specs.Prelude.{◌≡◌, ◌<◌, ◌≤◌, ◌^◌, ◌*◌, ◌+◌, ◌-◌, ◌%◌, length};
 ghost use Rattle.rpki_der.specs.Numbers.{number};
-ghost use Rattle.rpki_lists.specs.Slice.{TakesFront};
+ghost use Rattle.rpki_lists.specs.Slice.{FindsFront};
 ghost use Rattle.rpki_resources.specs.Ip.Form.{bit_count, lowest, network};
 ghost use Rattle.rpki_resources.specs.Ip.Read.{prefix_at};
 
@@ -56,7 +56,7 @@ fn prefix_of(octets: &[u8], unused: u8) -> Prefix
 /// are not used may be any, and are cleared.
 #[tactic(auto, unfolding(rpki_resources::specs::Ip::Read::ip_address_at, rpki_der::specs::Read::Parse::tested))]
 pub fn take_prefix(reader: &mut SliceReader<'_>) -> Option<Prefix>
-    ensures { TakesFront (λ p. p) (prefix_at 128) reader.old result reader.new }
+    ensures { FindsFront (λ p. p) (prefix_at 128) reader.old result reader.new }
 {
     let BitSlice { octets, unused } = reader.take_bits()?;
     if bit_count(octets, unused) <= 128 {

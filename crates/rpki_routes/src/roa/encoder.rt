@@ -13,7 +13,7 @@ use crate::roa::address::RoaIpAddress;
 use crate::roa::addresses::{AddressesIn, RoaIpAddresses};
 use rpki_der::encode::{Unsigned, integer_u8, sequence};
 use rpki_der::{Encode, EncodeError, Sink, SinkFailed};
-use rpki_lists::{EntriesEncoder, SliceReader, Written};
+use rpki_lists::{EntriesEncoder, Written};
 use rpki_resources::{AddressFamily, AddressFamilyEncoder, Asn, Prefix};
 use std::marker::Model;
 
@@ -185,10 +185,6 @@ impl<'a> Written for AddressesIn<'a> {
             ↔ (length (address_contents address) < 2 ^ 32) }
     {
         address
-    }
-
-    fn again(reader: &SliceReader<'a>) -> SliceReader<'a> {
-        reader.again()
     }
 
     ghost small = { λ a h. contents_small SEQUENCE (address_contents a) h };

@@ -8,7 +8,7 @@ use Rattle.rpki_paths.specs.Index.{IsIndex}
 use Rattle.rpki_paths.specs.Taking.{Fits, IsTakenAt, FitsNone, left_of}
 use Rattle.rpki_paths.proofs.Walking.{get_in}
 use Rattle.rpki_paths.proofs.PairingOff.{IsPairingOff, pairing_none, pairing_more, pairing_stops}
-use Rattle.rpki_paths.proofs.PairingOff.{pairing_done, some_left, written_back, split_at, left_in}
+use Rattle.rpki_paths.proofs.PairingOff.{pairing_done, pairing_leaves, written_back, split_at, left_in}
 use Rattle.rpki_paths.proofs.pairs.pair_off.Goals as goal
 
 pub loop-i-init : goal.loop-i-init
@@ -36,8 +36,8 @@ returns-in-None-clause-refused g c =
     let parts = split_at takers i c.index-takers-i.result at_i in
     let none = subst (λ m. FitsNone (R c.index-takers-i.result) (left_of m c.args.others.now))
     c.deref_mut.ensures.value c.in-None.ensures.none in
-    λ other. pairing_stops R takers c.args.others.now c.loop-i.taken.items c.loop-i.places.items i
-    c.index-takers-i.result parts.0 c.loop-i.invariant.1 parts.1 none
+    pairing_stops R takers c.args.others.now c.loop-i.taken.items c.loop-i.places.items i
+    c.index-takers-i.result parts.0 c.loop-i.invariant.1 c.loop-i-test.true parts.1 none
 
 pub loop-i-preserved : goal.loop-i-preserved
 loop-i-preserved g c =
@@ -73,8 +73,10 @@ loop-i-preserved g c =
 
 pub returns-then-takers-others-clause-refused : goal.returns-then-takers-others-clause-refused
 returns-then-takers-others-clause-refused g c =
-    λ other alike. some_left (Fits g.X.Seeks.sought g.X.Seeks.held g.X.Seeks.verdict)
-    c.args.takers.now c.args.others.now c.if-takers-others.true
+    pairing_leaves (Fits g.X.Seeks.sought g.X.Seeks.held g.X.Seeks.verdict) c.args.takers.now
+    c.args.others.now c.loop-i.taken.items c.loop-i.places.items c.loop-i.i c.loop-i.invariant.1
+    (take_all c.loop-i.i c.args.takers.now (omega (arith, c.loop-i-test.false)))
+    c.if-takers-others.true
 
 pub returns-clause-paired : goal.returns-clause-paired
 returns-clause-paired g c =

@@ -93,6 +93,7 @@ returns-then-place-cas-clause-refused g c =
     (sym (ap (λ m. slice_index m place) value)
     ∙ c.unmarked-place.ensures.found
     (omega (arith, c.if-place-cas.true, ap length value, c.loop-i.invariant.0)))
+    (λ k lt e. c.unmarked-place.ensures.before k lt (ap (λ m. slice_index m k) value ∙ e))
 
 pub returns-clause-paths : goal.returns-clause-paths
 returns-clause-paths g c =

@@ -3,7 +3,7 @@ use Rattle.rpki_basics.specs.declared.limits.ManifestRule.TheVariants.{Any}
 use Rattle.rpki_der.specs.declared.mode.Mode.TheVariants.{Der}
 use Rattle.rpki_files.specs.Name.{IsFileName}
 use Rattle.rpki_files.specs.File.{File}
-use Rattle.rpki_files.specs.Manifest.{Manifest, ManifestForm, manifest_octets}
+use Rattle.rpki_files.specs.Manifest.{Manifest, ManifestForm, manifest_contents, manifest_octets}
 use Rattle.rpki_files.proofs.Exact.{manifest-part}
 use Rattle.rpki_files.proofs.Named.{files-named}
 use Rattle.rpki_files.proofs.Written.{manifest-written}
@@ -19,7 +19,7 @@ returns-clause-written c =
       next_update = c.self.inside.next_update;
       files = c.self.inside.files;
     } in
-    subst (λ (m : Manifest). length (manifest_octets m) < 2 ^ 32
+    subst (λ (m : Manifest). length (manifest_contents m) < 2 ^ 32
     → ManifestForm Any Der (manifest_octets m) m) c.self.view_is
     (manifest-written m c.encode_ref.ensures.written c.encode_generalized.ensures.written
     c.encode_generalized-2.ensures.written c.self.invariant named)

@@ -1,5 +1,4 @@
 use Rattle.std.proofs.Common.{◌≡◌, List, Option, Some, None, true, false, refl, sym, ◌∙◌}
-use Rattle.rpki_lists.proofs.Counting.{free-admits}
 use Rattle.rpki_lists.proofs.list.EntryList.of.Goals as goal
 
 -- what is admitted wherever it is found is not found where it is not admitted
@@ -10,5 +9,5 @@ not-found (Some xs) h = absurd (let never = h xs refl in cc)
 
 pub returns-in-Err : goal.returns-in-Err
 returns-in-Err g c =
-    not-found _ (λ xs e. sym (free-admits c.new.result xs)
+    not-found _ (λ xs e. sym (c.new.ensures xs)
     ∙ c.in-Err.ensures xs (rw c.as_slice.ensures e))

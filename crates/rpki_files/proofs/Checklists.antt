@@ -1,0 +1,5 @@
+-- Checklists.
+pub mod Exact
+pub mod Facts
+pub mod Named
+pub mod Written

@@ -1,0 +1,114 @@
+-- The addresses of a checklist are those of their families.
+use Rattle.std.proofs.Common.{◌≡◌, ℕ, List, [], ◌∷◌, ◌++◌, All, Option, Some, None, refl, sym}
+use Rattle.std.proofs.Common.{subst}
+use Rattle.std.specs.Prelude.{unwrap_or}
+use Rattle.std.proofs.lemmas.List.{append-nil}
+use Rattle.std.proofs.lemmas.List.Elements.{All-nil}
+use Rattle.rpki_der.specs.Tags.{SEQUENCE, context}
+use Rattle.rpki_der.specs.declared.mode.Mode.{Mode}
+use Rattle.rpki_der.specs.Grammar.{IsBytes, Items, Optional}
+use Rattle.rpki_der.specs.Form.Keyed.{Keyed}
+use Rattle.rpki_der.specs.Form.Made.{Made, Default}
+use Rattle.rpki_der.specs.Form.Parts.{Explicit}
+use Rattle.rpki_der.proofs.Form.Words.{items-all}
+use Rattle.rpki_der.proofs.Reading.Exact.{IsBytes-left, IsBytes-right, IsBytes-contents}
+use Rattle.rpki_resources.specs.declared.by_family.ByFamily.{ByFamily}
+use Rattle.rpki_resources.specs.declared.by_family.Entry.{Entry}
+use Rattle.rpki_resources.specs.declared.family.AddressFamily.{AddressFamily}
+use Rattle.rpki_resources.specs.declared.family.AddressFamily.TheVariants.{Ipv4, Ipv6}
+use Rattle.rpki_resources.specs.Family.{IsWithin}
+use Rattle.rpki_resources.specs.Family.Form.{afi}
+use Rattle.rpki_resources.specs.Families.Form.{EntryForm, FamiliesForm, afi_of, IsValueOf}
+use Rattle.rpki_resources.specs.Families.Read.{no_values}
+use Rattle.rpki_resources.specs.Ip.Form.{IpForm}
+use Rattle.rpki_resources.proofs.Addresses.Within.{set-within}
+use Rattle.rpki_files.specs.Checklist.{Set, NamedForm, or_nothing, sets_of}
+
+items-bytes : {X : Type 0} (G : List ℕ → X → Type 0) (o : List ℕ) (xs : List X) → IsBytes o
+    → Items G o xs → Items (λ p x. IsBytes p × G p x) o xs
+items-bytes G o [] bytes h = h
+items-bytes G o (x ∷ xs) bytes h =
+    let parts : IsBytes (h.0 ++ h.1) = subst IsBytes h.2 bytes in (
+      h.0,
+      h.1,
+      h.2,
+      (IsBytes-left h.0 h.1 parts, h.3),
+      items-bytes G h.1 xs (IsBytes-right h.0 h.1 parts) h.4,
+    )
+
+-- the addresses of an entry are those of its family
+abbrev OfItsFamily : Entry Set → Type 0
+OfItsFamily e = All (IsWithin e.family) e.value
+
+entry-facts : (mode : Mode) (o : List ℕ) (e : Entry Set)
+    → IsBytes o × EntryForm IpForm mode o e → OfItsFamily e
+entry-facts mode o e (bytes, h) =
+    let contents : IsBytes h.0 =
+    IsBytes-contents mode o o [] SEQUENCE h.0 (sym (append-nil o)) h.1 bytes in
+    let parts = h.2 in
+    let both : IsBytes (parts.0 ++ parts.1) = subst IsBytes parts.2 contents in
+    let list = parts.4 in
+    let rest : IsBytes (list.0 ++ list.1) =
+    subst IsBytes list.2 (IsBytes-right parts.0 parts.1 both) in
+    set-within e.family mode list.0 e.value (IsBytes-left list.0 list.1 rest) list.3
+
+same-family : (a b : AddressFamily) → afi a ≡ afi b → a ≡ b
+same-family Ipv4 Ipv4 e = refl
+same-family Ipv4 Ipv6 e = absurd cc
+same-family Ipv6 Ipv4 e = absurd cc
+same-family Ipv6 Ipv6 e = refl
+
+stands : (entries : List (Entry Set)) → All OfItsFamily entries
+    → (family : AddressFamily) (found : Option Set)
+    → Keyed afi_of IsValueOf entries (afi family) found → All (IsWithin family) (or_nothing found)
+stands entries all family None k = All-nil (IsWithin family)
+stands entries all family (Some set) k =
+    let its : OfItsFamily k.1 = subst OfItsFamily k.3 (all k.0 k.1 k.2) in
+    subst (λ (f : AddressFamily). All (IsWithin f) set)
+    (same-family (k.1.family) family k.4.0)
+    (subst (λ (s : Set). All (IsWithin k.1.family) s) k.4.1 its)
+
+families-facts : (mode : Mode) (o : List ℕ) (values : ByFamily Set) → IsBytes o
+    → FamiliesForm IpForm mode o values → All (IsWithin Ipv4) (or_nothing values.v4)
+families-facts mode o values bytes h =
+    let list = h.1 in
+    let contents : IsBytes list.0 =
+    IsBytes-contents mode o o [] SEQUENCE list.0 (sym (append-nil o)) list.1 bytes in
+    let each = items-all (λ p e. IsBytes p × EntryForm IpForm mode p e) OfItsFamily
+    (entry-facts mode) list.0 h.0
+    (items-bytes (EntryForm IpForm mode) list.0 h.0 contents list.2) in
+    stands h.0 each Ipv4 values.v4 h.2.v4
+
+-- the addresses that may be named
+abbrev AddressesForm : Mode → List ℕ → ByFamily Set → Type 0
+AddressesForm mode = Default no_values (λ c values. Explicit 1 mode
+    (λ d. FamiliesForm IpForm mode d values) c)
+
+written-facts : (mode : Mode) (o : List ℕ) (written : Option (ByFamily Set)) → IsBytes o
+    → Optional (λ c values. Explicit 1 mode (λ d. FamiliesForm IpForm mode d values) c) o written
+    → All (IsWithin Ipv4) (or_nothing (unwrap_or written no_values).v4)
+written-facts mode o None bytes h = All-nil (IsWithin Ipv4)
+written-facts mode o (Some values) bytes h =
+    families-facts mode h.0 values
+    (IsBytes-contents mode o o [] (context 1) h.0 (sym (append-nil o)) h.1 bytes) h.2
+
+addresses-facts : (mode : Mode) (o : List ℕ) (values : ByFamily Set) → IsBytes o
+    → AddressesForm mode o values → All (IsWithin Ipv4) (or_nothing values.v4)
+addresses-facts mode o values bytes h =
+    subst (λ (v : ByFamily Set). All (IsWithin Ipv4) (or_nothing v.v4)) (sym h.2)
+    (written-facts mode o h.0 bytes h.1)
+
+-- of what was read, the IPv4 addresses are such
+pub sets-facts : (mode : Mode) (o : List ℕ) (sets : Set × (Set × Set)) → IsBytes o
+    → Made sets_of (NamedForm mode) o sets → All (IsWithin Ipv4) sets.1.0
+sets-facts mode o sets bytes h =
+    let named = h.1.0 in
+    let contents : IsBytes named.0 =
+    IsBytes-contents mode o o [] SEQUENCE named.0 (sym (append-nil o)) named.1 bytes in
+    let one = named.2 in
+    let first : IsBytes (one.0 ++ one.1) = subst IsBytes one.2 contents in
+    let two = one.4 in
+    let second : IsBytes (two.0 ++ two.1) =
+    subst IsBytes two.2 (IsBytes-right one.0 one.1 first) in
+    subst (λ (s : Set × (Set × Set)). All (IsWithin Ipv4) s.1.0) (sym h.2)
+    (addresses-facts mode two.0 h.0.addresses (IsBytes-left two.0 two.1 second) two.3)

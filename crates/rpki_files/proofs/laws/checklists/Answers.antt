@@ -1,0 +1,8 @@
+use Rattle.rpki_files.proofs.Checklists.Exact.{checked-reading, checklist-reading}
+use Rattle.rpki_files.proofs.laws.checklists.Goals as goal
+
+pub returns-clause-file : goal.returns-clause-file
+returns-clause-file c = checked-reading
+
+pub returns-clause-checklist : goal.returns-clause-checklist
+returns-clause-checklist c = checklist-reading

@@ -1,0 +1,10 @@
+-- One supply more, path by path.
+use Rattle.rpki_paths.specs.Supplied.{supply_of, refusal_of}
+use Rattle.rpki_paths.proofs.Keeps.{each_is_kept}
+use Rattle.rpki_paths.proofs.laws.each_is_kept.Goals as goal
+
+pub returns : goal.returns
+returns g c =
+    each_is_kept g.C.Certificate.cert
+    (supply_of g.T.Locator.key g.S.SuppliedCa.ski g.S.SuppliedCa.key g.S.SuppliedCa.sets)
+    (refusal_of g.T.Locator.refuses)
