@@ -17,6 +17,7 @@ use Rattle.std.specs.Prelude.{◌++◌}
 pub anchor-valid : (verdict : Verdict) (c : Certificate) (now : Moment)
     → AllHold (ta_validation verdict c now)
     ↔ (AllHold (ta_checks c.tbs) × IsGoodAnchor verdict c now)
+unfolding ta_validation
 anchor-valid verdict c now = (
   λ h. let s = hold-split (Inspection as_faults_of ta_checks c.tbs)
       (Verification as_faults_of ta_ref_checks verdict c now) h in (

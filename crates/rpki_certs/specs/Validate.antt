@@ -92,27 +92,27 @@ issued_validation verdict c issuer now =
     ++ covering_checks c.tbs.extensions.claims issuer.sets
 
 -- The certificate of a trust anchor is valid.
-abbrev pub ta_validation : Verdict → Certificate → Moment → List (Check ValidationError)
+unfoldable pub ta_validation : Verdict → Certificate → Moment → List (Check ValidationError)
 ta_validation verdict c now =
     (Inspection as_faults_of ta_checks c.tbs)
     ++ (Verification as_faults_of ta_ref_checks verdict c now)
 
 -- The certificate of a CA is valid under this issuer.
-abbrev pub ca_validation : Verdict → Certificate → Validated → Moment
+unfoldable pub ca_validation : Verdict → Certificate → Validated → Moment
     → List (Check ValidationError)
 ca_validation verdict c issuer now =
     (Inspection as_faults_of ca_checks c.tbs)
     ++ issued_validation verdict c issuer now
 
 -- That of an end entity that signed a published object is.
-abbrev pub ee_validation : Verdict → Certificate → Validated → Moment
+unfoldable pub ee_validation : Verdict → Certificate → Validated → Moment
     → List (Check ValidationError)
 ee_validation verdict c issuer now =
     (Inspection as_faults_of ee_checks c.tbs)
     ++ issued_validation verdict c issuer now
 
 -- That of an end entity that signed an object which need not be published is.
-abbrev pub detached_ee_validation : Verdict → Certificate → Validated → Moment
+unfoldable pub detached_ee_validation : Verdict → Certificate → Validated → Moment
     → List (Check ValidationError)
 detached_ee_validation verdict c issuer now =
     (Inspection as_faults_of detached_ee_checks c.tbs)
@@ -134,10 +134,10 @@ pub record IsGoodUnder (verdict : Verdict) (c : Certificate) (issuer : Validated
   pub allowed : AreAllowed c.tbs.extensions.claims issuer.sets
 
 -- The certificate with the sets that it claims itself.
-abbrev pub IsAnchorOf : KeptCertificate → Validated → Type 0
+unfoldable pub IsAnchorOf : KeptCertificate → Validated → Type 0
 IsAnchorOf c v = (v.cert ≡ c) × AreClaimed c.certificate.tbs.extensions.claims v.sets
 
 -- The certificate with its validated sets under this issuer.
-abbrev pub IsValidatedUnder : KeptCertificate → Validated → Validated → Type 0
+unfoldable pub IsValidatedUnder : KeptCertificate → Validated → Validated → Type 0
 IsValidatedUnder c issuer v =
     (v.cert ≡ c) × AreValidated c.certificate.tbs.extensions.claims issuer.sets v.sets

@@ -160,6 +160,7 @@ impl Cert {
     }
 
     // Its sets, if it is the valid certificate of a trust anchor.
+    #[tactic(auto, unfolding(crate::specs::Validate::ta_validation))]
     fn anchor_sets<C: Crypto>(
         &self,
         alloc: Global,
@@ -246,6 +247,7 @@ impl Cert {
     ///
     /// Refuses by the fault of the first check that does not hold, in this order: those of
     /// `inspect_ta`, `NotYetValid`, `Expired`, `BadSignature`; or by `Memory`.
+    #[tactic(auto, unfolding(crate::specs::Validate::IsAnchorOf))]
     pub fn validate_ta_at<C: Crypto>(
         self,
         alloc: Global,
@@ -268,6 +270,7 @@ impl Cert {
     /// Refuses by the fault of the first check that does not hold, in this order: those of
     /// `inspect_ca`, `IssuerClaim`, `NotYetValid`, `Expired`, `BadSignature`, and `Overclaimed` for
     /// AS numbers, IPv4 and IPv6; or by `Memory`.
+    #[tactic(auto, unfolding(crate::specs::Validate::IsValidatedUnder))]
     pub fn validate_ca_at<C: Crypto>(
         self,
         alloc: Global,
@@ -286,6 +289,7 @@ impl Cert {
 
     /// Validates the certificate of an end entity that signed a published object, as
     /// `validate_ca_at` does that of a CA, with the faults of `inspect_ee` in front.
+    #[tactic(auto, unfolding(crate::specs::Validate::IsValidatedUnder))]
     pub fn validate_ee_at<C: Crypto>(
         self,
         alloc: Global,
@@ -305,6 +309,7 @@ impl Cert {
     /// Validates the certificate of an end entity that signed an object which need not be
     /// published, as a checklist (RFC 9323, section 2), as `validate_ca_at` does that of a CA, with
     /// the faults of `inspect_detached_ee` in front.
+    #[tactic(auto, unfolding(crate::specs::Validate::IsValidatedUnder))]
     pub fn validate_detached_ee_at<C: Crypto>(
         self,
         alloc: Global,

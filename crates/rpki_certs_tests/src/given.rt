@@ -2,7 +2,6 @@
 
 use rpki_certs::Cert;
 use rpki_der::DecodeError;
-use rpki_faults::ValidationError;
 use rpki_fixtures::{CA, CertOf, Change, DETACHED, EE, TA, cert_octets, changed};
 use std::alloc::{AllocError, Global};
 
@@ -25,16 +24,6 @@ impl From<DecodeError> for Fail {
             DecodeError::Memory => Fail::Memory,
             DecodeError::Malformed => Fail::Refused,
             DecodeError::Content(_) => Fail::Refused,
-        }
-    }
-}
-
-impl From<ValidationError> for Fail {
-    fn from(error: ValidationError) -> Fail {
-        match error {
-            ValidationError::Memory => Fail::Memory,
-            ValidationError::Inspection(_) => Fail::Refused,
-            ValidationError::Verification(_) => Fail::Refused,
         }
     }
 }

@@ -10,5 +10,3 @@ mod given;
 mod inspections;
 #[cfg(test)]
 mod reading;
-#[cfg(test)]
-mod validations;

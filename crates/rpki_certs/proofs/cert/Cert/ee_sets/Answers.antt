@@ -2,11 +2,12 @@ use Rattle.std.proofs.lemmas.Result.{err_from_is_err_and}
 use Rattle.rpki_faults.specs.declared.validation.ValidationError.TheVariants.{Memory}
 use Rattle.rpki_faults.specs.declared.validation.ValidationError.TheVariants.{Inspection}
 use Rattle.rpki_certs.specs.Inspect.{ee_checks}
-use Rattle.rpki_certs.specs.Validate.{AreValidated, issued_validation}
+use Rattle.rpki_certs.specs.Validate.{AreValidated, issued_validation, ee_validation}
 use Rattle.rpki_certs.proofs.Checking.{shown-refuses, shown-answers}
 use Rattle.rpki_certs.proofs.cert.Cert.ee_sets.Goals as goal
 
 pub returns-in_err-inspect_ee : goal.returns-in_err-inspect_ee
+unfolding ee_validation
 returns-in_err-inspect_ee g c =
     let p = err_from_is_err_and c.from_residual.result c.from_residual.ensures.1 in
     let verdict = g.C.Crypto.is_signed c.args.crypto.now in
@@ -15,6 +16,7 @@ returns-in_err-inspect_ee g c =
     (issued_validation verdict d c.args.issuer.now c.args.now) _ c.in_err-inspect_ee.ensures)
 
 pub returns : goal.returns
+unfolding ee_validation
 returns g c =
     let verdict = g.C.Crypto.is_signed c.args.crypto.now in
     let d = c.args.self.now.certificate in
