@@ -26,7 +26,7 @@ use Rattle.rpki_paths.proofs.Grants.{unanchored_is_refused}
 use Rattle.rpki_paths.proofs.Finals.{final_is_decided}
 use Rattle.rpki_paths.proofs.Keeps.{all_are_kept, refused_is_unanchored}
 
-distinct_authorities : (a : Carried) (crls : List Crl) → HasDistinctIds a
+pub distinct_authorities : (a : Carried) (crls : List Crl) → HasDistinctIds a
     → IsPairing HasCrl a.cas crls a.crls → IsDistinct (authorities a crls)
 distinct_authorities a crls dist pairing =
     subst (λ l. NoTwice l) (sym (same_skis 1 a.cas crls a.crls pairing)) dist.of_cas

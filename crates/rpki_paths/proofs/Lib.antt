@@ -14,3 +14,4 @@ pub mod WalkingEach
 pub mod Finals
 pub mod Keeps
 pub mod Granting
+pub mod Verdicts

@@ -1,5 +1,5 @@
 -- The laws of paths that public functions carry.
-use Rattle.std.specs.Prelude.{◌≡◌, ℕ, ◌+◌, ◌≤◌, List, ◌∷◌, Option, None, Some, IsTrue}
+use Rattle.std.specs.Prelude.{◌≡◌, ℕ, ◌+◌, ◌*◌, ◌≤◌, List, ◌∷◌, Option, None, Some, IsTrue}
 use Rattle.std.specs.Prelude.{length, ◌↔◌, [], ◌++◌, Ok, Err, Bool, map}
 use Rattle.rpki_resources.specs.declared.block.Block.{Block}
 use Rattle.rpki_resources.specs.declared.resources.Claim.{Claim}
@@ -270,3 +270,18 @@ MatchingIsCheap =
     (a : Carried) (ees : List Cert) (crls : List Crl) → HasDistinctIds a → IsMatching a ees crls →
     AllVerifyEach (λ s. s.sid) (λ e. e.ski) (λ s e. s.verifies e.key) a.signers a.ees
     × AllVerifyEach (λ d. d.ski) (λ l. l.aki) (λ d l. l.verifies d.key) a.cas a.crls
+
+-- With distinct identifiers and a matching, where the pairing of the signers, that of the CRLs and
+-- the walks each ask for what they cost, they ask in all for at most s + l + s * a verdicts, of s
+-- signers, l CRLs and a CAs.
+abbrev pub VerdictsAreFew : Type 0
+VerdictsAreFew =
+    (a : Carried) (ees : List Cert) (crls : List Crl) (none signed listed walked : ℕ) →
+    HasDistinctIds a → IsMatching a ees crls →
+    (AllVerifyEach (λ s. s.sid) (λ e. e.ski) (λ s e. s.verifies e.key) a.signers a.ees →
+    signed ≤ none + 1 * length a.signers) →
+    (AllVerifyEach (λ d. d.ski) (λ l. l.aki) (λ d l. l.verifies d.key) a.cas a.crls →
+    listed ≤ signed + 1 * length a.cas) →
+    (IsDistinct (authorities a crls) →
+    walked ≤ listed + length ees * length (authorities a crls)) →
+    walked ≤ none + (length a.signers + length a.crls + length a.signers * length a.cas)

@@ -12,7 +12,7 @@ ghost use Rattle.rpki_paths.specs.Laws.{UnpairedIsUnpairable};
 ghost use Rattle.rpki_paths.specs.Laws.{FinalIsDecided, UnanchoredIsRefused, RefusedHasNoPath};
 ghost use Rattle.rpki_paths.specs.Laws.{RefusedHasNoPaths};
 ghost use Rattle.rpki_paths.specs.Laws.{KeptTellsTakes, FirstFitsArePairing};
-ghost use Rattle.rpki_paths.specs.Laws.{FirstFitsFindPairing, MatchingIsCheap};
+ghost use Rattle.rpki_paths.specs.Laws.{FirstFitsFindPairing, MatchingIsCheap, VerdictsAreFew};
 ghost use Rattle.rpki_paths.specs.Pairing.{HasKey, IsVerifiedBy, HasCrl};
 ghost use Rattle.rpki_paths.specs.Supplied.{supply_of, refusal_of};
 ghost use Rattle.rpki_paths.specs.Taking.{Fits};
@@ -192,4 +192,10 @@ pub fn unpaired_is_unpairable<X: Seeks<Y>, Y>()
 /// With distinct identifiers a matching asks for one verdict of each signer and of each CA.
 pub fn matching_is_cheap()
     ensures { MatchingIsCheap }
+{}
+
+/// With distinct identifiers an attestation of s signers, l CRLs and a CAs takes at most
+/// s + l + s * a verdicts: those that its pairings and its walks ask for.
+pub fn verdicts_are_few()
+    ensures { VerdictsAreFew }
 {}
