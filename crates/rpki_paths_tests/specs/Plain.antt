@@ -4,8 +4,8 @@ use Rattle.rpki_resources.specs.declared.resources.Claim.{Claim}
 use Rattle.rpki_paths.specs.declared.family.Family.{Family}
 use Rattle.rpki_paths.specs.declared.family.Family.TheVariants.{As, V4, V6}
 use Rattle.rpki_paths.specs.Cert.{Numbers}
-use Rattle.rpki_paths_tests.specs.declared.plain.NoAnchor.{NoAnchor}
-use Rattle.rpki_paths_tests.specs.declared.plain.NoAnchor.TheVariants.{Inspection, Signature}
+use Rattle.rpki_paths_tests.specs.declared.anchor.NoAnchor.{NoAnchor}
+use Rattle.rpki_paths_tests.specs.declared.anchor.NoAnchor.TheVariants.{Inspection, Signature}
 
 -- The claim of each family.
 abbrev pub claims_of : Claim Numbers → Claim Numbers → Claim Numbers → Family → Claim Numbers

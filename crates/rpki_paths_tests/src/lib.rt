@@ -2,6 +2,10 @@
 //! answer. The rows stand in the drafts' worked examples or follow from them by hand.
 #![tactic(auto)]
 
+mod anchor;
+
+pub use anchor::NoAnchor;
+
 #[cfg(test)]
 mod pairs;
 #[cfg(test)]

@@ -2,6 +2,7 @@
 
 ghost use Rattle.std.specs.Prelude.{◌≡◌};
 
+use crate::anchor::NoAnchor;
 use rpki_paths::{Asked, Certificate, KeyId, Locator, Overclaim, Seeks, SuppliedCa};
 use rpki_resources::{
     Addr, AsBlock, AsBlocks, AsBlocksBuilder, AsResources, Asn, IpBlock, IpBlocks, IpBlocksBuilder,
@@ -126,15 +127,6 @@ impl<'a> Certificate for Seen<'a> {
     fn v6(&self) -> &IpResources {
         &self.0.v6
     }
-}
-
-/// Why a head is no trust anchor.
-#[derive(Clone, Copy, Debug, PartialEq, Eq)]
-pub enum NoAnchor {
-    /// It does not pass the inspection of one.
-    Inspection,
-    /// Its own key does not verify it.
-    Signature,
 }
 
 /// A trust anchor locator, by its key.

@@ -2,7 +2,8 @@
 
 ghost use Rattle.std.specs.Prelude.{◌≡◌, ◌<◌};
 
-use crate::plain::{Above, NoAnchor, Plain, Root, Seen, as_set, id, ip_set};
+use crate::anchor::NoAnchor;
+use crate::plain::{Above, Plain, Root, Seen, as_set, id, ip_set};
 use rpki_paths::{
     Asked, Attested, Certificate, Family, FinalFault, KeptSets, KeyId, Overclaim, Path, PathFault,
     Supplied, SupplyFault, WalksFault, finalize, supply_all, supply_each, walk_each,
