@@ -1,8 +1,8 @@
-pub mod Attestations
 pub mod Following
 pub mod Located
 pub mod Named
 pub mod Orders
+pub mod Printed
 pub mod Reading
 pub mod Running
 pub mod Saying

@@ -9,7 +9,7 @@ use Rattle.rpki_command.specs.Answer.{Said}
 use Rattle.rpki_command.specs.Contents.{HasLines, LinesOf, IsLinesOf, IsShown}
 use Rattle.rpki_command.specs.Refusal.{refusal}
 use Rattle.rpki_command.specs.declared.words.Kind.{Kind}
-use Rattle.rpki_command.specs.declared.words.Kind.TheVariants.{Aspa}
+use Rattle.rpki_command.specs.declared.words.Options.{Options}
 
 module _ {X : Type 0} (form : List ℕ → X → Type 0) (text : X → List ℕ) (octets : List ℕ)
     (s : Said) where
@@ -36,11 +36,7 @@ module _ {X : Type 0} (form : List ℕ → X → Type 0) (text : X → List ℕ)
   }
 
 -- what is shown of a kind
-pub of_kind : (kind is : Kind) (octets : List ℕ) (s : Said) → kind ≡ is
-    → IsShown (LinesOf is) octets s → IsShown (LinesOf kind) octets s
-of_kind kind is octets s e h = subst (λ (k : Kind). IsShown (LinesOf k) octets s) (sym e) h
-
--- the same where there is one kind
-pub of_only_kind : (kind : Kind) (octets : List ℕ) (s : Said) → IsShown (LinesOf Aspa) octets s
-    → IsShown (LinesOf kind) octets s
-of_only_kind Aspa octets s h = h
+pub of_kind : (options : Options) (kind is : Kind) (octets : List ℕ) (s : Said) → kind ≡ is
+    → IsShown (LinesOf options is) octets s → IsShown (LinesOf options kind) octets s
+of_kind options kind is octets s e h =
+    subst (λ (k : Kind). IsShown (LinesOf options k) octets s) (sym e) h

@@ -1,6 +1,5 @@
 -- What the program answers to its words, and what a run of it does.
 use Rattle.std.specs.Prelude.{◌≡◌, ℕ, ◌⊎◌, ◌+◌, List, None, Some, Result, Ok, Err, Vec}
-use Rattle.std.specs.Prelude.{Bool, true, false, ◌||◌}
 use Rattle.std.specs.declared.alloc.Global.{Global}
 use Rattle.rpki_command.specs.Answer.{Run, Said, IsSaid, usage, cannot_read, out_of_memory}
 use Rattle.rpki_command.specs.Answer.{malformed, shown}
@@ -39,24 +38,16 @@ pub data Task : Type 1 where
   -- nothing that there is yet
   NotThere : Task
 
--- What each command comes to without options: the table of the commands.
-abbrev pub command_task : Command → Task
-command_task (Content kind file) = ShowLines file (LinesOf kind)
-command_task (ShowTal file) = ShowLines file TalLines
-command_task other = NotThere
-
--- there is an option
-abbrev pub has_option : Options → Bool
-has_option o = o.relaxed || (o.registered || o.wide)
-
--- what a command comes to, with options or without them: no option is there yet
-abbrev pub option_task : Bool → Command → Task
-option_task true command = NotThere
-option_task false command = command_task command
+-- What each command comes to with these options: the table of the commands. A locator is a text, of
+-- which no option speaks.
+abbrev pub command_task : Options → Command → Task
+command_task options (Content kind file) = ShowLines file (LinesOf options kind)
+command_task options (ShowTal file) = ShowLines file TalLines
+command_task options other = NotThere
 
 -- what an order comes to
 abbrev pub order_task : Order → Task
-order_task o = option_task (has_option o.options) o.command
+order_task o = command_task o.options o.command
 
 -- what is said for a task
 abbrev pub IsTaskAnswer : Told → Task → Said → Type 0

@@ -1,9 +1,10 @@
 pub mod Answer
 pub mod Arguments
-pub mod Aspa
 pub mod Command
 pub mod Contents
 pub mod Grows
+pub mod Ia5
+pub mod Options
 pub mod Refusal
 pub mod Store
 pub mod Texts

@@ -1,3 +1,6 @@
 -- The lines of each kind of content.
 pub mod Aspa
+pub mod Manifest
+pub mod Roa
+pub mod Rsc
 pub mod Tal

@@ -3,7 +3,7 @@ use Rattle.std.specs.Prelude.{◌≡◌, ℕ, List, [], ◌∷◌, ◌++◌, Boo
 use Rattle.std.specs.Prelude.{length, map, codes}
 use Rattle.std.specs.Borrow.{Bor}
 use Rattle.rpki_command.specs.declared.words.Kind.{Kind}
-use Rattle.rpki_command.specs.declared.words.Kind.TheVariants.{Aspa}
+use Rattle.rpki_command.specs.declared.words.Kind.TheVariants.{Aspa, Manifest, Roa, Rsc}
 use Rattle.rpki_command.specs.declared.words.Command.{Command}
 use Rattle.rpki_command.specs.declared.words.Command.TheVariants.{Content, ContentRta, Show}
 use Rattle.rpki_command.specs.declared.words.Command.TheVariants.{ShowRta, ShowTal, Check, Rta}
@@ -16,6 +16,9 @@ texts words = map (λ w. w.now) words
 -- the word of each kind
 abbrev pub kind_word : Kind → List ℕ
 kind_word Aspa = codes "aspa"
+kind_word Manifest = codes "manifest"
+kind_word Roa = codes "roa"
+kind_word Rsc = codes "rsc"
 
 -- this word, where it is wanted
 abbrev pub word_if : Bool → List ℕ → List (List ℕ)

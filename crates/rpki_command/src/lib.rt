@@ -4,7 +4,6 @@
 
 mod answer;
 mod arguments;
-mod aspa;
 mod contents;
 mod entry;
 pub mod laws;
@@ -15,9 +14,6 @@ mod texts;
 mod words;
 
 pub use arguments::{Arguments, ProcessArguments};
-pub use aspa::{
-    AsProviderAttestation, AsProviderAttestationEncoder, ProviderAsIter, ProviderAsSet,
-};
 pub use entry::{run, start};
 pub use program::command;
 pub use store::{Disk, Store, StoreError, Unread, read_all};

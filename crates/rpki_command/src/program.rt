@@ -2,7 +2,7 @@
 
 ghost use Rattle.std.specs.Prelude.{◌≡◌, ◌+◌};
 ghost use Rattle.rpki_command.specs.Answer.{run_of, said};
-ghost use Rattle.rpki_command.specs.Command.{command_task, order_task, task_reads, IsTaskAnswer};
+ghost use Rattle.rpki_command.specs.Command.{order_task, task_reads, IsTaskAnswer};
 ghost use Rattle.rpki_command.specs.Command.{unread, IsOfFile, IsAnswer, IsRunOf, HaveRead};
 ghost use Rattle.rpki_command.specs.Contents.{LinesOf, IsShown};
 ghost use Rattle.rpki_command.specs.Texts.Tal.{TalLines};
@@ -12,7 +12,7 @@ use crate::answer::{Answer, say};
 use crate::contents::show_kind;
 use crate::locator::show_tal;
 use crate::store::{Store, StoreError};
-use crate::words::{Command, Kind, Order, parse};
+use crate::words::{Command, Kind, Options, Order, parse};
 use rpki_der::Sink;
 use std::alloc::Global;
 
@@ -47,29 +47,15 @@ fn answer<'a, S: Store>(alloc: Global, words: &'a [&'a str], store: &mut S) -> A
     }
 }
 
-/// What the program answers to an order.
+/// What the program answers to an order. A command that there is not yet is answered with the
+/// usage.
 fn answer_order<'a, S: Store>(alloc: Global, order: &Order<'a>, store: &mut S) -> Answer<'a>
     ensures said { IsTaskAnswer (S.told store.old) (order_task order.now) (said result) }
     ensures reads { S.reads store.new ≡ S.reads store.old + task_reads (order_task order.now) }
     ensures same { S.told store.new ≡ S.told store.old }
 {
-    let options = order.options;
-    if options.relaxed || options.registered || options.wide {
-        return Answer::Usage;
-    }
-    answer_command(alloc, &order.command, store)
-}
-
-/// What the program answers to a command without options. One that there is not yet is answered
-/// with the usage.
-fn answer_command<'a, S: Store>(alloc: Global, command: &Command<'a>, store: &mut S) -> Answer<'a>
-    ensures said { IsTaskAnswer (S.told store.old) (command_task command.now) (said result) }
-    ensures reads { S.reads store.new
-        ≡ S.reads store.old + task_reads (command_task command.now) }
-    ensures same { S.told store.new ≡ S.told store.old }
-{
-    match command {
-        Command::Content { kind, file } => show_file(alloc, *kind, file.0, store),
+    match &order.command {
+        Command::Content { kind, file } => show_file(alloc, order.options, *kind, file.0, store),
         Command::ContentRta { .. } => Answer::Usage,
         Command::Show { .. } => Answer::Usage,
         Command::ShowRta { .. } => Answer::Usage,
@@ -80,13 +66,20 @@ fn answer_command<'a, S: Store>(alloc: Global, command: &Command<'a>, store: &mu
 }
 
 /// Answers with the lines of the content of this kind in a file, if there is one.
-fn show_file<'a, S: Store>(alloc: Global, kind: Kind, file: &'a str, store: &mut S) -> Answer<'a>
-    ensures said { IsOfFile (S.told store.old) file.now (IsShown (LinesOf kind)) (said result) }
+fn show_file<'a, S: Store>(
+    alloc: Global,
+    options: Options,
+    kind: Kind,
+    file: &'a str,
+    store: &mut S,
+) -> Answer<'a>
+    ensures said { IsOfFile (S.told store.old) file.now (IsShown (LinesOf options kind))
+        (said result) }
     ensures reads { S.reads store.new ≡ S.reads store.old + 1 }
     ensures same { S.told store.new ≡ S.told store.old }
 {
     match store.read(alloc, file) {
-        Ok(octets) => show_kind(alloc, kind, octets),
+        Ok(octets) => show_kind(alloc, options, kind, octets),
         Err(error) => unread(error, file),
     }
 }

@@ -1,5 +1,9 @@
 //! The lines of each kind of content.
 
 pub mod aspa;
+pub mod ia5;
 pub mod lines;
+pub mod manifest;
+pub mod roa;
+pub mod rsc;
 pub mod tal;

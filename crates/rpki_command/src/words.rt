@@ -1,6 +1,7 @@
 //! What the program is asked.
 
 ghost use Rattle.std.specs.Prelude.{◌≡◌, ◌++◌, Bool, MatchOption};
+ghost use Rattle.rpki_command.specs.Options.{provider_limit, manifest_rule};
 ghost use Rattle.rpki_command.specs.Words.{IsAsked, AskForNothing, texts, kind_word, word_if};
 ghost use Rattle.rpki_command.specs.Words.{word_registered, word_wide, command_words, order_words};
 ghost use Rattle.rpki_command.specs.Words.{files_of, are_named};
@@ -8,6 +9,7 @@ ghost use Rattle.rpki_command.specs.declared.words.Kind.{Kind};
 ghost use Rattle.rpki_command.specs.declared.words.Command.{Command};
 ghost use Rattle.rpki_command.specs.declared.words.Order.{Order};
 
+use rpki_basics::{ManifestRule, ProviderLimit};
 use std::marker::Model;
 
 /// The kinds of signed objects that may be shown and checked.
@@ -15,6 +17,12 @@ use std::marker::Model;
 pub enum Kind {
     /// An autonomous system provider authorization.
     Aspa,
+    /// A manifest.
+    Manifest,
+    /// A route origin authorization.
+    Roa,
+    /// A signed checklist.
+    Rsc,
 }
 
 /// A word of the command line.
@@ -95,6 +103,30 @@ pub struct Options {
     pub registered: bool,
     /// A customer may have more providers.
     pub wide: bool,
+}
+
+impl Options {
+    /// How many providers a customer may have.
+    pub fn provider_limit(self) -> ProviderLimit
+        ensures { result ≡ provider_limit self }
+    {
+        if self.wide {
+            ProviderLimit::Wide
+        } else {
+            ProviderLimit::Narrow
+        }
+    }
+
+    /// Which names a manifest may have.
+    pub fn manifest_rule(self) -> ManifestRule
+        ensures { result ≡ manifest_rule self }
+    {
+        if self.registered {
+            ManifestRule::Registered
+        } else {
+            ManifestRule::Any
+        }
+    }
 }
 
 /// What the program is asked.
@@ -252,6 +284,9 @@ fn kind_of(word: &str) -> Option<Kind>
 {
     match word {
         "aspa" => Some(Kind::Aspa),
+        "manifest" => Some(Kind::Manifest),
+        "roa" => Some(Kind::Roa),
+        "rsc" => Some(Kind::Rsc),
         _ => None,
     }
 }

@@ -2,8 +2,10 @@
 
 use crate::given::{Given, OneFile, TooLarge};
 use crate::octets::{
-    CONTENT, CONTENT_AND_MORE, CONTENT_CUT, CUSTOMER_AS0, LARGEST_CUSTOMER, LARGEST_PROVIDER,
-    WITHOUT_VERSION,
+    CONTENT, CONTENT_AND_MORE, CONTENT_CUT, CONTENT_IN_BER, CUSTOMER_AS0, LARGEST_CUSTOMER,
+    LARGEST_PROVIDER, MANIFEST, MANIFEST_BACKWARDS, MANIFEST_OF_NONE, MANIFEST_OF_ONE,
+    MANIFEST_OF_OTHER_TYPE, ROA, ROA_BELOW, ROA_OF_BOTH, ROA_OF_NONE, RSC, RSC_OF_ALL,
+    RSC_OF_NOTHING, WITHOUT_VERSION,
 };
 use rpki_command::{Arguments, command, run, start};
 use rpki_der::Counted;
@@ -20,6 +22,12 @@ pub struct Said<'a> {
 
 /// The words that ask for the content in the file.
 pub const ASK: [&str; 3] = ["content", "aspa", "file"];
+
+const ASK_RELAXED: [&str; 4] = ["--relaxed", "content", "aspa", "file"];
+
+const ASK_REGISTERED: [&str; 4] = ["--registered", "content", "aspa", "file"];
+
+const ASK_WIDE: [&str; 4] = ["--wide", "content", "aspa", "file"];
 
 /// What is said of the first content.
 pub const SHOWN: Said = Said {
@@ -38,6 +46,68 @@ const LARGEST_CUSTOMER_SHOWN: Said = Said {
 const LARGEST_PROVIDER_SHOWN: Said = Said {
     status: 0,
     out: "aspa\ncustomer AS1\nprovider AS4294967295\n",
+    err: "",
+};
+
+/// What is said of the first ROA.
+pub const ROA_SHOWN: Said = Said {
+    status: 0,
+    out: "roa\nas AS64496\norigin 192.0.2.0/24-26\n",
+    err: "",
+};
+
+const ROA_OF_BOTH_SHOWN: Said = Said {
+    status: 0,
+    out: "roa\nas AS1\norigin 10.0.0.0/8-8\norigin 2001:db8::/32\n",
+    err: "",
+};
+
+const ROA_OF_NONE_SHOWN: Said = Said {
+    status: 0,
+    out: "roa\nas AS64496\n",
+    err: "",
+};
+
+const MANIFEST_SHOWN: Said = Said {
+    status: 0,
+    out: "manifest\nnumber c\nthis 2024-01-01T00:00:00Z\nnext 2024-01-08T00:00:00Z\n\
+        file file.cer 68617368\nfile file.cer 68617368\n",
+    err: "",
+};
+
+/// What is said of the manifest with one file.
+pub const MANIFEST_OF_ONE_SHOWN: Said = Said {
+    status: 0,
+    out: "manifest\nnumber c\nthis 2024-01-01T00:00:00Z\nnext 2024-01-08T00:00:00Z\n\
+        file file.cer 68617368\n",
+    err: "",
+};
+
+const MANIFEST_OF_NONE_SHOWN: Said = Said {
+    status: 0,
+    out: "manifest\nnumber 0\nthis 2024-02-29T23:59:59Z\nnext 2024-02-29T23:59:59Z\n",
+    err: "",
+};
+
+const MANIFEST_OF_OTHER_TYPE_SHOWN: Said = Said {
+    status: 0,
+    out: "manifest\nnumber 1234\nthis 2024-02-29T23:59:59Z\nnext 2024-02-29T23:59:59Z\n\
+        file F-_o0.abc \n",
+    err: "",
+};
+
+/// What is said of the first checklist.
+pub const RSC_SHOWN: Said = Said {
+    status: 0,
+    out: "rsc\nas AS64496\nunnamed 68617368\n",
+    err: "",
+};
+
+const RSC_OF_ALL_SHOWN: Said = Said {
+    status: 0,
+    out: "rsc\nas AS10\nas AS20-AS30\nv4 10.0.0.0/8\n\
+        v6 2001:db8::-2001:dba:ffff:ffff:ffff:ffff:ffff:ffff\n\
+        named a.b_-9 abcd\nunnamed \nnamed  00\n",
     err: "",
 };
 
@@ -113,8 +183,12 @@ fn are_answered(rt: &(impl Abort + AllocGlobal), rows: &[Row<'_>]) {
 
 #[test]
 fn words_are_answered(rt: HostRuntime) -> Result<(), Fail> {
-    let rows: [Row; 9] = [
+    let rows: [Row; 13] = [
         (&ASK, &CONTENT, SHOWN, 1),
+        (&ASK_RELAXED, &CONTENT, SHOWN, 1),
+        (&ASK_REGISTERED, &CONTENT, SHOWN, 1),
+        (&ASK_WIDE, &CONTENT, SHOWN, 1),
+        (&ASK_RELAXED, &CONTENT_IN_BER, MALFORMED, 1),
         (&ASK, &CONTENT_AND_MORE, SHOWN, 1),
         (&ASK, &CONTENT_CUT, MALFORMED, 1),
         (&ASK, &WITHOUT_VERSION, MALFORMED, 1),
@@ -128,10 +202,91 @@ fn words_are_answered(rt: HostRuntime) -> Result<(), Fail> {
     Ok(())
 }
 
+/// The words that ask for the ROA in the file.
+pub const ASK_ROA: [&str; 3] = ["content", "roa", "file"];
+
+/// Each option, of which none changes what is shown of a ROA.
+const ASK_ROA_WITH_ALL: [&str; 6] = [
+    "--relaxed",
+    "--registered",
+    "--wide",
+    "content",
+    "roa",
+    "file",
+];
+
+#[test]
+fn roas_are_shown(rt: HostRuntime) -> Result<(), Fail> {
+    let rows: [Row; 7] = [
+        (&ASK_ROA, &ROA, ROA_SHOWN, 1),
+        (&ASK_ROA_WITH_ALL, &ROA, ROA_SHOWN, 1),
+        (&ASK_ROA, &ROA_OF_BOTH, ROA_OF_BOTH_SHOWN, 1),
+        (&ASK_ROA, &ROA_OF_NONE, ROA_OF_NONE_SHOWN, 1),
+        (&ASK_ROA, &ROA_BELOW, MALFORMED, 1),
+        (&ASK_ROA, &CONTENT, MALFORMED, 1),
+        (&ASK, &ROA, MALFORMED, 1),
+    ];
+    are_answered(&rt, &rows);
+    Ok(())
+}
+
+/// The words that ask for the content of a manifest in the file.
+const ASK_MANIFEST: [&str; 3] = ["content", "manifest", "file"];
+
+/// The same where types have to be registered.
+pub const ASK_MANIFEST_REGISTERED: [&str; 4] = ["--registered", "content", "manifest", "file"];
+
+#[test]
+fn manifests_are_shown(rt: HostRuntime) -> Result<(), Fail> {
+    let rows: [Row; 8] = [
+        (&ASK_MANIFEST, &MANIFEST, MANIFEST_SHOWN, 1),
+        (&ASK_MANIFEST_REGISTERED, &MANIFEST, MALFORMED, 1),
+        (&ASK_MANIFEST, &MANIFEST_OF_ONE, MANIFEST_OF_ONE_SHOWN, 1),
+        (
+            &ASK_MANIFEST_REGISTERED,
+            &MANIFEST_OF_ONE,
+            MANIFEST_OF_ONE_SHOWN,
+            1,
+        ),
+        (&ASK_MANIFEST, &MANIFEST_OF_NONE, MANIFEST_OF_NONE_SHOWN, 1),
+        (
+            &ASK_MANIFEST,
+            &MANIFEST_OF_OTHER_TYPE,
+            MANIFEST_OF_OTHER_TYPE_SHOWN,
+            1,
+        ),
+        (
+            &ASK_MANIFEST_REGISTERED,
+            &MANIFEST_OF_OTHER_TYPE,
+            MALFORMED,
+            1,
+        ),
+        (&ASK_MANIFEST, &MANIFEST_BACKWARDS, MALFORMED, 1),
+    ];
+    are_answered(&rt, &rows);
+    Ok(())
+}
+
+/// The words that ask for the content of a checklist in the file.
+pub const ASK_RSC: [&str; 3] = ["content", "rsc", "file"];
+
+#[test]
+fn checklists_are_shown(rt: HostRuntime) -> Result<(), Fail> {
+    let rows: [Row; 4] = [
+        (&ASK_RSC, &RSC, RSC_SHOWN, 1),
+        (&ASK_RSC, &RSC_OF_ALL, RSC_OF_ALL_SHOWN, 1),
+        (&ASK_RSC, &RSC_OF_NOTHING, MALFORMED, 1),
+        (&ASK_RSC, &MANIFEST, MALFORMED, 1),
+    ];
+    are_answered(&rt, &rows);
+    Ok(())
+}
+
 #[test]
 fn locators_are_shown(rt: HostRuntime) -> Result<(), Fail> {
-    let rows: [Row; 7] = [
+    let rows: [Row; 8] = [
         (&["show", "tal", "file"], TAL, TAL_SHOWN, 1),
+        (&["--relaxed", "show", "tal", "file"], TAL, TAL_SHOWN, 1),
         (&["show", "tal", "file"], TAL_OF_TWO, TAL_OF_TWO_SHOWN, 1),
         (&["show", "tal", "file"], TAL_WITHOUT_KEY, MALFORMED, 1),
         (&["show", "tal", "file"], URI_ALONE, MALFORMED, 1),
@@ -144,7 +299,7 @@ fn locators_are_shown(rt: HostRuntime) -> Result<(), Fail> {
 }
 
 /// Words that ask for nothing.
-static NOTHING: [&[&str]; 12] = [
+static NOTHING: [&[&str]; 15] = [
     &[],
     &["content", "aspa"],
     &["content", "aspa", ""],
@@ -153,19 +308,19 @@ static NOTHING: [&[&str]; 12] = [
     &["content", "aspa", "file", "file"],
     &["show", "tal", ""],
     &["--wide", "--relaxed", "content", "aspa", "file"],
+    &["--registered", "--relaxed", "content", "roa", "file"],
+    &["--relaxed", "--relaxed", "content", "aspa", "file"],
     &["content", "--relaxed", "aspa", "file"],
+    &["--wide"],
     &["check", "aspa", "file", "moment", "verdicts", "anchor", ""],
     &["rta", "file", "moment", "", "anchor"],
     &["--help"],
 ];
 
 /// Words that ask for what is not there yet.
-static NOT_THERE: [&[&str]; 9] = [
-    &["--relaxed", "content", "aspa", "file"],
-    &["--registered", "content", "aspa", "file"],
-    &["--wide", "content", "aspa", "file"],
-    &["--relaxed", "show", "tal", "file"],
+static NOT_THERE: [&[&str]; 6] = [
     &["content", "rta", "file"],
+    &["--relaxed", "content", "rta", "file"],
     &["show", "aspa", "file"],
     &["show", "rta", "file"],
     &[

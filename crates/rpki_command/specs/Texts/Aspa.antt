@@ -2,7 +2,7 @@
 use Rattle.std.specs.Prelude.{ℕ, List, ◌++◌, codes}
 use Rattle.std.specs.List.{flat_map}
 use Rattle.rpki_resources.specs.As.{asn_text}
-use Rattle.rpki_command.specs.Aspa.{Aspa}
+use Rattle.rpki_routes.specs.Aspa.{Aspa}
 
 -- the line of a customer
 abbrev pub customer_line : ℕ → List ℕ
@@ -14,4 +14,4 @@ provider_line n = codes "provider " ++ (asn_text n ++ codes "\n")
 
 -- the name of the kind, the customer, and a line for each provider
 abbrev pub aspa_text : Aspa → List ℕ
-aspa_text a = (codes "aspa\n" ++ customer_line a.customer) ++ flat_map provider_line a.providers
+aspa_text a = codes "aspa\n" ++ (customer_line a.customer ++ flat_map provider_line a.providers)

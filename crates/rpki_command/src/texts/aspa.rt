@@ -2,9 +2,10 @@
 
 ghost use Rattle.std.specs.List.{flat_map};
 ghost use Rattle.rpki_command.specs.Grows.{Grows};
-ghost use Rattle.rpki_command.specs.Texts.Aspa.{aspa_text, provider_line};
+ghost use Rattle.rpki_command.specs.Texts.Aspa.{aspa_text, customer_line, provider_line};
 
-use crate::aspa::{AsProviderAttestation, ProviderAsSet};
+use rpki_resources::Asn;
+use rpki_routes::{AsProviderAttestation, ProviderAsSet};
 use std::alloc::AllocError;
 use std::fmt::Write;
 
@@ -12,9 +13,16 @@ use std::fmt::Write;
 pub fn push_aspa(text: &mut String, content: &AsProviderAttestation) -> Result<(), AllocError>
     ensures { Grows result text.old text.new (aspa_text content.now) }
 {
-    let customer = content.customer_as();
-    write!(text, "aspa\ncustomer {customer}\n")?;
+    write!(text, "aspa\n")?;
+    push_customer(text, content.customer_as())?;
     push_providers(text, content.provider_as_set())
+}
+
+/// Appends the line of the customer.
+fn push_customer(text: &mut String, customer: Asn) -> Result<(), AllocError>
+    ensures { Grows result text.old text.new (customer_line customer) }
+{
+    write!(text, "customer {customer}\n")
 }
 
 /// Appends a line for each provider.

@@ -1,3 +1,0 @@
-pub mod Exact
-pub mod Providers
-pub mod Written

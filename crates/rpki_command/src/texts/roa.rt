@@ -1,0 +1,37 @@
+//! The lines of a ROA content.
+
+ghost use Rattle.std.specs.List.{flat_map};
+ghost use Rattle.rpki_routes.specs.Roa.{addresses};
+ghost use Rattle.rpki_command.specs.Grows.{Grows};
+ghost use Rattle.rpki_command.specs.Texts.Roa.{roa_text, number_line, origin_line};
+
+use rpki_resources::Asn;
+use rpki_routes::RouteOriginAttestation;
+use std::alloc::AllocError;
+use std::fmt::Write;
+
+/// Appends the lines of a ROA content.
+pub fn push_roa(text: &mut String, content: &RouteOriginAttestation) -> Result<(), AllocError>
+    ensures { Grows result text.old text.new (roa_text content.now) }
+{
+    write!(text, "roa\n")?;
+    push_number(text, content.as_id())?;
+    push_origins(text, content)
+}
+
+/// Appends the line of the autonomous system.
+fn push_number(text: &mut String, number: Asn) -> Result<(), AllocError>
+    ensures { Grows result text.old text.new (number_line number) }
+{
+    write!(text, "as {number}\n")
+}
+
+/// Appends a line for each prefix, those of IPv4 first.
+fn push_origins(text: &mut String, content: &RouteOriginAttestation) -> Result<(), AllocError>
+    ensures { Grows result text.old text.new (flat_map origin_line (addresses content.now)) }
+{
+    for origin in content.iter() {
+        write!(text, "origin {origin}\n")?;
+    }
+    Ok(())
+}

@@ -1,0 +1,82 @@
+//! The lines of the content of a signed checklist.
+
+ghost use Rattle.std.specs.List.{flat_map};
+ghost use Rattle.rpki_lists.specs.Slice.{seen};
+ghost use Rattle.rpki_command.specs.Grows.{Grows};
+ghost use Rattle.rpki_command.specs.Texts.Rsc.{rsc_text, as_lines, v4_lines, v6_lines};
+ghost use Rattle.rpki_command.specs.Texts.Rsc.{name_text, checked_line};
+
+use crate::texts::ia5::Ia5;
+use rpki_der::LowerHex;
+use rpki_files::ResourceSignedChecklist;
+use rpki_resources::{AddressFamily, AsBlocks, IpBlocks};
+use std::alloc::AllocError;
+use std::fmt::Write;
+
+/// Appends the lines of the content of a checklist.
+pub fn push_rsc(text: &mut String, content: &ResourceSignedChecklist) -> Result<(), AllocError>
+    ensures { Grows result text.old text.new (rsc_text content.now) }
+{
+    write!(text, "rsc\n")?;
+    push_numbers(text, content.as_resources())?;
+    push_v4(text, content.v4_resources())?;
+    push_v6(text, content.v6_resources())?;
+    push_files(text, content)
+}
+
+/// Appends a line for each block of AS numbers.
+fn push_numbers(text: &mut String, blocks: &AsBlocks) -> Result<(), AllocError>
+    ensures { Grows result text.old text.new (as_lines blocks.now) }
+{
+    for block in blocks.iter() {
+        write!(text, "as {block}\n")?;
+    }
+    Ok(())
+}
+
+/// Appends a line for each block of IPv4 addresses.
+fn push_v4(text: &mut String, blocks: &IpBlocks) -> Result<(), AllocError>
+    ensures { Grows result text.old text.new (v4_lines blocks.now) }
+{
+    for block in blocks.iter() {
+        let block = block.display(AddressFamily::Ipv4);
+        write!(text, "v4 {block}\n")?;
+    }
+    Ok(())
+}
+
+/// Appends a line for each block of IPv6 addresses.
+fn push_v6(text: &mut String, blocks: &IpBlocks) -> Result<(), AllocError>
+    ensures { Grows result text.old text.new (v6_lines blocks.now) }
+{
+    for block in blocks.iter() {
+        let block = block.display(AddressFamily::Ipv6);
+        write!(text, "v6 {block}\n")?;
+    }
+    Ok(())
+}
+
+/// Appends a line for each file.
+fn push_files(text: &mut String, content: &ResourceSignedChecklist) -> Result<(), AllocError>
+    ensures { Grows result text.old text.new (flat_map checked_line content.now.files) }
+{
+    for file in content.iter() {
+        push_name(text, file.file_name)?;
+        let hash = LowerHex(file.hash);
+        write!(text, "{hash}\n")?;
+    }
+    Ok(())
+}
+
+/// Appends what stands before the hash of a file: its name, if it has one.
+fn push_name(text: &mut String, name: Option<&[u8]>) -> Result<(), AllocError>
+    ensures { Grows result text.old text.new (name_text (seen (λ n. n.now) name.entry)) }
+{
+    match name {
+        Some(name) => {
+            let name = Ia5(name);
+            write!(text, "named {name} ")
+        }
+        None => write!(text, "unnamed "),
+    }
+}
