@@ -1,0 +1,130 @@
+//! The same work through the crate bcder, with the tests that the formats ask: a content keeps the octets of its
+//! entries, which are tested when it is read, and which are gone over a second time.
+
+use crate::der::generalized_time;
+use crate::plain::{Address, SHA_256, is_file_name};
+use bcder::decode::{Constructed, Error, Source};
+use bcder::{BitString, Captured, Ia5String, Mode, Oid, Tag, Unsigned};
+use bytes::Bytes;
+use std::hint::black_box;
+
+/// Refuses what is not so.
+fn must<S: Source>(holds: bool) -> Result<(), S::Err> {
+    if holds { Ok(()) } else { Err(Error::Malformed.into()) }
+}
+
+fn skip_version<S: Source>(cons: &mut Constructed<S>) -> Result<(), S::Err> {
+    cons.take_opt_constructed_if(Tag::CTX_0, |cons| cons.skip_u8_if(0)).map(|_| ())
+}
+
+fn take_time<S: Source>(cons: &mut Constructed<S>) -> Result<u64, S::Err> {
+    cons.take_primitive_if(Tag::GENERALIZED_TIME, |text| {
+        generalized_time(&text.take_all()?).ok_or_else(|| Error::Malformed.into())
+    })
+}
+
+/// An entry of a manifest: the name of a file and its hash.
+fn take_opt_file<S: Source>(cons: &mut Constructed<S>) -> Result<Option<(Bytes, Bytes)>, S::Err> {
+    cons.take_opt_sequence(|cons| {
+        let name = Ia5String::take_from(cons)?.into_bytes();
+        let hash = BitString::take_from(cons)?.octet_bytes();
+        must::<S>(is_file_name(&name))?;
+        Ok((name, hash))
+    })
+}
+
+fn manifest(octets: &'static [u8]) -> Result<(Unsigned, u64, u64, Captured), Error> {
+    Mode::Der.decode(Bytes::from_static(octets), |cons| {
+        cons.take_sequence(|cons| {
+            skip_version(cons)?;
+            let number = Unsigned::take_from(cons)?;
+            let (this_update, next_update) = (take_time(cons)?, take_time(cons)?);
+            must::<Bytes>(this_update <= next_update && Oid::take_from(cons)?.as_ref() == SHA_256)?;
+            let files = cons.take_sequence(|cons| {
+                cons.capture(|cons| {
+                    while take_opt_file(cons)?.is_some() {}
+                    Ok(())
+                })
+            })?;
+            Ok((number, this_update, next_update, files))
+        })
+    })
+}
+
+/// The sum of the lengths of the names and of the octets in front of the hashes.
+fn sum_of_manifest(octets: &'static [u8]) -> Result<u64, Error> {
+    let (_, _, _, files) = black_box(manifest(octets)?);
+    files.decode(|cons| {
+        let mut sum = 0;
+        while let Some((name, hash)) = take_opt_file(cons)? {
+            sum += name.len() as u64 + u64::from(hash[0]);
+        }
+        Ok(sum)
+    })
+}
+
+pub fn walk_manifest(octets: &'static [u8], rounds: u32) -> u64 {
+    (0..rounds).map(|_| sum_of_manifest(black_box(octets)).expect("a manifest")).sum()
+}
+
+fn take_opt_address<S: Source>(cons: &mut Constructed<S>) -> Result<Option<Address>, S::Err> {
+    cons.take_opt_sequence(|cons| {
+        let bits = BitString::take_from(cons)?;
+        let max_length = cons.take_opt_u8()?;
+        let octets = bits.octet_slice().unwrap_or_default();
+        Address::of(octets, bits.unused(), max_length).ok_or_else(|| Error::Malformed.into())
+    })
+}
+
+/// The addresses of a family.
+fn take_addresses<S: Source>(cons: &mut Constructed<S>, most: u8) -> Result<Captured, S::Err> {
+    cons.take_sequence(|cons| {
+        cons.capture(|cons| {
+            while let Some(address) = take_opt_address(cons)? {
+                must::<S>(address.is_of(most))?;
+            }
+            Ok(())
+        })
+    })
+}
+
+fn roa(octets: &'static [u8]) -> Result<(u32, [Option<Captured>; 2]), Error> {
+    Mode::Der.decode(Bytes::from_static(octets), |cons| {
+        cons.take_sequence(|cons| {
+            skip_version(cons)?;
+            let as_id = cons.take_u32()?;
+            let mut families = [None, None];
+            cons.take_sequence(|cons| {
+                while let Some(()) = cons.take_opt_sequence(|cons| {
+                    let (place, most) = match bcder::OctetString::take_from(cons)?.to_bytes()[..] {
+                        [0, 1] => (0, 32),
+                        [0, 2] => (1, 128),
+                        _ => return Err(Error::Malformed),
+                    };
+                    must::<Bytes>(families[place].replace(take_addresses(cons, most)?).is_none())
+                })? {}
+                Ok(())
+            })?;
+            Ok((as_id, families))
+        })
+    })
+}
+
+/// The sum of the upper halves of the bits of the addresses and of their maximum lengths.
+fn sum_of_roa(octets: &'static [u8]) -> Result<u64, Error> {
+    let (_, families) = black_box(roa(octets)?);
+    let mut sum = 0u64;
+    for addresses in families.into_iter().flatten() {
+        addresses.decode(|cons| {
+            while let Some(address) = take_opt_address(cons)? {
+                sum = sum.wrapping_add((address.addr >> 64) as u64).wrapping_add(u64::from(address.max_length()));
+            }
+            Ok(())
+        })?;
+    }
+    Ok(sum)
+}
+
+pub fn walk_roa(octets: &'static [u8], rounds: u32) -> u64 {
+    (0..rounds).fold(0, |sum: u64, _| sum.wrapping_add(sum_of_roa(black_box(octets)).expect("an attestation")))
+}
