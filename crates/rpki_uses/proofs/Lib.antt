@@ -1,1 +1,3 @@
+mod Answered
 mod PeersExact
+mod Search

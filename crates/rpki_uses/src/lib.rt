@@ -2,12 +2,17 @@
 #![tactic(auto)]
 
 pub mod attributes;
+pub mod certs;
 pub mod checks;
 pub mod extensions;
+pub mod files;
 pub mod listed;
 pub mod locators;
+pub mod numbers;
 pub mod pairs;
 pub mod peers;
+pub mod revoked;
+pub mod routes;
 pub mod sets;
 pub mod signatures;
 pub mod values;

@@ -1,0 +1,17 @@
+-- What follows from an answer, where it is a yes.
+use Rattle.std.proofs.Common.{List, Result, Ok, Err}
+use Rattle.std.specs.Prelude.{IfOk}
+use Rattle.rpki_faults.specs.Checks.{Check, AllHold, AnswersFirstOr}
+
+-- all checks hold
+pub of_a_yes : {T F : Type 0} (memory : F) (checks : List (Check F)) (Yes Q : T → Type 0)
+    (r : Result T F) → ((t : T) → AllHold checks → Yes t → Q t)
+    → AnswersFirstOr memory checks Yes r → IfOk r Q
+of_a_yes memory checks Yes Q (Ok t) f h = f t h.0 h.1
+of_a_yes memory checks Yes Q (Err e) f h = tt
+
+-- both are so
+pub of_both : {T F : Type 0} (P Q R : T → Type 0) (r : Result T F)
+    → ((t : T) → P t → Q t → R t) → IfOk r P → IfOk r Q → IfOk r R
+of_both P Q R (Ok t) f p q = f t p q
+of_both P Q R (Err e) f p q = tt

@@ -1,0 +1,28 @@
+use Rattle.std.proofs.Common.{◌≡◌}
+use Rattle.rpki_certs.specs.Validate.{Validated, AreHeld, IsAnchorOf, IsGoodAnchor, IsGoodUnder}
+use Rattle.rpki_uses.proofs.Answered.{of_both}
+use Rattle.rpki_uses.proofs.certs.authority_of.Goals as goal
+
+pub returns : goal.returns
+unfolding IsAnchorOf
+returns g c =
+    let verdict = g.C.Crypto.is_signed c.args.crypto.now in
+    let a = c.in_ok-anchor.anchor in
+    let now = c.args.now in
+    let valid = c.valid_anchors.ensures verdict c.args.anchor.certificate now in
+    of_both (λ _. IsGoodUnder verdict c.args.cert.certificate a now)
+    (λ (v : Validated). (v.cert ≡ c.args.cert) × AreHeld a.sets v.sets)
+    (λ (v : Validated). (issuer : Validated) × (issuer.cert ≡ c.args.anchor)
+    × IsGoodAnchor verdict c.args.anchor.certificate now
+    × IsGoodUnder verdict c.args.cert.certificate issuer now × (v.cert ≡ c.args.cert)
+    × AreHeld issuer.sets v.sets)
+    c.authority_under.result
+    (λ v good held. (
+      a,
+      c.in_ok-anchor.ensures.1.0,
+      (valid.0 c.in_ok-anchor.ensures.0).1,
+      good,
+      held.0,
+      held.1,
+    ))
+    c.authority_under.ensures.good c.authority_under.ensures.held
