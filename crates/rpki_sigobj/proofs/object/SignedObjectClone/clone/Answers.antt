@@ -1,0 +1,5 @@
+use Rattle.rpki_sigobj.proofs.object.SignedObjectClone.clone.Goals as goal
+
+pub invariant_of-result : goal.invariant_of-result
+invariant_of-result c =
+    rw (c.in_ok-captured.ensures.cases, c.in_ok-contents.ensures.cases) c.self.invariant

@@ -1,0 +1,122 @@
+//! What the signer of a signed object says.
+
+ghost use Rattle.std.specs.Prelude.{◌≡◌};
+ghost use Rattle.rpki_der.specs.Read.Reads.{Reads};
+ghost use Rattle.rpki_extensions.specs.KeyIdentifiers.{key_id_at};
+ghost use Rattle.rpki_sigobj.specs.SignerInfo.{version_at, typed_attrs_at, signer_fields_at};
+ghost use Rattle.rpki_sigobj.specs.SignerInfo.{signer_info_at};
+
+use rpki_attributes::SignedAttrs;
+use rpki_basics::{DigestAlgorithm, KeyIdentifier, RpkiSignature, RpkiSignatureAlgorithm};
+use rpki_der::{Constructed, DecodeError, Oid, Reason, Tag};
+use std::alloc::{AllocError, Global};
+use std::marker::Model;
+
+/// What a signer says (RFC 5652, section 5.3): the identifier of its key, the attributes that it
+/// signed, and its signature.
+#[derive(Debug, Drop)]
+pub struct SignerInfo {
+    pub sid: KeyIdentifier,
+    pub attributes: SignedAttrs,
+    pub signature: RpkiSignature,
+}
+
+impl Model for SignerInfo {
+    ghost use Rattle.rpki_sigobj.specs.SignerInfo.{SignerInfo as Said};
+
+    ghost Value = { Said };
+
+    ghost view = { λ s. record {
+      sid = s.sid;
+      attributes = s.attributes.attributes;
+      signature = s.signature;
+    } };
+}
+
+// The version of what is signed and of what its signer says (RFC 6488, sections 2.1.1 and 2.1.6.1).
+const VERSION: u8 = 3;
+
+// How many octets the identifier of a key has: those of a SHA-1 digest (RFC 6487, section 4.8.2).
+const ID_LENGTH: usize = 20;
+
+/// Reads the version, which is 3.
+pub fn skip_version(cons: &mut Constructed<'_>) -> Result<(), DecodeError>
+    ensures { Reads (λ u. u) version_at cons.old result cons.new }
+{
+    cons.skip_u8_if(VERSION)
+}
+
+// Reads the identifier of the signer's key.
+#[tactic(auto, unfolding(rpki_der::specs::Read::Parse::tested))]
+fn take_sid(cons: &mut Constructed<'_>) -> Result<KeyIdentifier, DecodeError>
+    ensures { Reads (λ id. id) key_id_at cons.old result cons.new }
+{
+    let octets = cons.take_primitive_if(Tag::CTX_0_PRIMITIVE)?;
+    match <[u8; ID_LENGTH]>::try_from(octets.as_slice()) {
+        Ok(octets) => Ok(KeyIdentifier::from_octets(octets)),
+        Err(_) => Err(cons.fail(DecodeError::Malformed)),
+    }
+}
+
+// Reads the signed attributes of a content of this type.
+#[tactic(auto, unfolding(rpki_der::specs::Read::Parse::tested))]
+fn take_attributes(
+    cons: &mut Constructed<'_>,
+    alloc: Global,
+    content_type: &Oid,
+) -> Result<SignedAttrs, DecodeError>
+    ensures { Reads (λ a. a.attributes) (typed_attrs_at content_type.now)
+        cons.old result cons.new }
+{
+    let attributes = SignedAttrs::take_from(alloc, cons)?;
+    if attributes.content_type().as_slice() == content_type.as_slice() {
+        Ok(attributes)
+    } else {
+        Err(cons.refuse_for(Reason::WrongContentType))
+    }
+}
+
+// Reads what stands in the SEQUENCE.
+#[tactic(auto, unfolding(crate::specs::SignerInfo::signer_fields_at))]
+fn take_fields(
+    cons: &mut Constructed<'_>,
+    alloc: Global,
+    content_type: &Oid,
+) -> Result<SignerInfo, DecodeError>
+    ensures { Reads (λ s. s) (signer_fields_at content_type.now) cons.old result cons.new }
+{
+    skip_version(cons)?;
+    let sid = take_sid(cons)?;
+    DigestAlgorithm::take_from(cons)?;
+    let attributes = take_attributes(cons, alloc, content_type)?;
+    let algorithm = RpkiSignatureAlgorithm::take_cms_from(cons)?;
+    let value = cons.take_octets(alloc)?;
+    Ok(SignerInfo {
+        sid,
+        attributes,
+        signature: RpkiSignature::new(algorithm, value),
+    })
+}
+
+/// Reads what the signer says of a content of this type.
+pub fn take_signer_info(
+    cons: &mut Constructed<'_>,
+    alloc: Global,
+    content_type: &Oid,
+) -> Result<SignerInfo, DecodeError>
+    ensures { Reads (λ s. s) (signer_info_at content_type.now) cons.old result cons.new }
+{
+    cons.take_sequence(|cons| take_fields(cons, alloc, content_type))
+}
+
+impl Clone for SignerInfo {
+    ghost is_clone = { λ s copy. copy ≡ s };
+
+    fn clone(&self) -> Result<SignerInfo, AllocError> {
+        Ok(SignerInfo {
+            sid: self.sid,
+            attributes: self.attributes.clone()?,
+            signature: self.signature.clone()?,
+        })
+    }
+}
