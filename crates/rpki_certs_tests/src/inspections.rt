@@ -147,12 +147,7 @@ static ROWS: [(Call, Call, Change, Result<(), InspectionError>); 6] = [
         Change::Place(Place::CaRepository, URI),
         Err(InspectionError::CaAccess),
     ),
-    (
-        Call::Ee,
-        Call::Ee,
-        Change::As(Numbers::These(&[])),
-        Ok(()),
-    ),
+    (Call::Ee, Call::Ee, Change::As(Numbers::These(&[])), Ok(())),
 ];
 
 fn inspected(cert: &Cert, call: Call) -> Result<(), InspectionError> {

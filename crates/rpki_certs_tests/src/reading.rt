@@ -177,15 +177,19 @@ fn taken(alloc: Global, source: Bytes, mode: Mode) -> Result<Cert, DecodeError> 
     Constructed::decode(source, mode, |cons| Cert::take_from(alloc, cons))
 }
 
-/// How many certificates stand one after the other.
-fn count(alloc: Global, source: Bytes) -> Result<u32, DecodeError> {
-    Constructed::decode(source, Mode::Ber, |cons| {
-        let mut count: u32 = 0;
-        while let Some(_cert) = Cert::take_opt_from(alloc, cons)? {
-            count = count.saturating_add(1);
+/// Whether a certificate stands there.
+fn is_there(alloc: Global, cons: &mut Constructed<'_>) -> Result<bool, DecodeError> {
+    Ok(Cert::take_opt_from(alloc, cons)?.is_some())
+}
+
+/// How many certificates stand one after the other, of the first four.
+fn count(alloc: Global, cons: &mut Constructed<'_>) -> Result<usize, DecodeError> {
+    for count in 0..4 {
+        if !is_there(alloc, cons)? {
+            return Ok(count);
         }
-        Ok(count)
-    })
+    }
+    Ok(4)
 }
 
 /// Whether the certificate of a row says this, or is refused for this, in both modes.
@@ -215,20 +219,53 @@ fn keys(rt: HostRuntime) -> Result<(), Fail> {
     Ok(())
 }
 
+/// Whether a certificate is written as these octets.
+fn is_written(alloc: Global, cert: &Cert, octets: &[u8]) -> Result<bool, AllocError> {
+    match cert.encode_ref().to_bytes(alloc) {
+        Ok(again) => Ok(again.as_slice() == octets),
+        Err(EncodeError::Memory) => Err(AllocError),
+        Err(_) => Ok(false),
+    }
+}
+
+/// Whether a certificate is not written, since it was not read in DER.
+fn is_not_der(cert: &Cert) -> bool {
+    match cert.encode_ref().encoded_len() {
+        Ok(_) => false,
+        Err(error) => error == EncodeError::NotDer,
+    }
+}
+
+/// A copy of what is read from these octets.
+fn copied(alloc: Global, octets: Bytes) -> Result<Cert, DecodeError> {
+    Ok(Cert::decode(alloc, octets)?.clone()?)
+}
+
+/// Whether a copy of what these octets hold is written as they stand.
+fn is_kept(alloc: Global, octets: Bytes) -> Result<bool, AllocError> {
+    let source = octets.clone()?;
+    match copied(alloc, source) {
+        Ok(cert) => is_written(alloc, &cert, octets.as_slice()),
+        Err(DecodeError::Memory) => Err(AllocError),
+        Err(_) => Ok(false),
+    }
+}
+
+/// Whether what these octets hold in BER is not written.
+fn is_refused(alloc: Global, octets: Bytes) -> Result<bool, AllocError> {
+    match taken(alloc, octets, Mode::Ber) {
+        Ok(cert) => Ok(is_not_der(&cert)),
+        Err(DecodeError::Memory) => Err(AllocError),
+        Err(_) => Ok(false),
+    }
+}
+
 #[test]
-fn written(rt: HostRuntime) -> Result<(), Fail> {
+fn written(rt: HostRuntime) -> Result<(), AllocError> {
     let alloc = rt.alloc();
     let octets = cert_octets(alloc, good(Call::Ca))?;
-    let strict = read(alloc, Call::Ca, &[])?.clone()?;
-    match strict.encode_ref().to_bytes(alloc) {
-        Ok(again) => assert!(rt; again.as_slice() == octets.as_slice()),
-        Err(error) => assert!(rt; error == EncodeError::Memory),
-    }
-    let relaxed = taken(alloc, octets, Mode::Ber)?;
-    match relaxed.encode_ref().encoded_len() {
-        Ok(_) => assert!(rt; false),
-        Err(error) => assert!(rt; error == EncodeError::NotDer),
-    }
+    assert!(rt; is_kept(alloc, octets.clone()?)?);
+    assert!(rt; is_refused(alloc, octets)?);
     Ok(())
 }
 
@@ -242,6 +279,7 @@ fn two(alloc: Global) -> Result<Bytes, AllocError> {
 #[test]
 fn several(rt: HostRuntime) -> Result<(), Fail> {
     let alloc = rt.alloc();
-    assert!(rt; count(alloc, two(alloc)?)? == 2);
+    let found = Constructed::decode(two(alloc)?, Mode::Ber, |cons| count(alloc, cons))?;
+    assert!(rt; found == 2);
     Ok(())
 }
