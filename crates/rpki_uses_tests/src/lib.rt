@@ -8,11 +8,17 @@ mod attributes;
 #[cfg(test)]
 mod certificates;
 #[cfg(test)]
+mod files;
+#[cfg(test)]
 mod formats;
+#[cfg(test)]
+mod lists;
 #[cfg(test)]
 mod locators;
 #[cfg(test)]
 mod pairs;
+#[cfg(test)]
+mod routes;
 #[cfg(test)]
 mod signed;
 #[cfg(test)]
