@@ -18,6 +18,8 @@ mod locators;
 #[cfg(test)]
 mod pairs;
 #[cfg(test)]
+mod revoked;
+#[cfg(test)]
 mod routes;
 #[cfg(test)]
 mod signed;
