@@ -1,2 +1,4 @@
 pub mod Object
 pub mod SignerInfo
+pub mod Validate
+pub mod Verify

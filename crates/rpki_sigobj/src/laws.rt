@@ -1,10 +1,35 @@
 //! What the definitions of signed objects say: laws, as functions that do nothing.
 
 ghost use Rattle.rpki_der.specs.Read.Exact.{IsReading};
-ghost use Rattle.rpki_sigobj.specs.Object.{SignedForm, object_at};
+ghost use Rattle.std.specs.Prelude.{◌↔◌};
+ghost use Rattle.rpki_basics.specs.Moment.{Moment};
+ghost use Rattle.rpki_faults.specs.Checks.{AllHold};
+ghost use Rattle.rpki_certs.specs.Inspect.{ee_checks, detached_ee_checks};
+ghost use Rattle.rpki_certs.specs.Verify.{Verdict};
+ghost use Rattle.rpki_certs.specs.Validate.{Validated, IsGoodUnder};
+ghost use Rattle.rpki_sigobj.specs.Object.{SignedData, SignedForm, object_at};
+ghost use Rattle.rpki_sigobj.specs.Validate.{object_validation, detached_validation};
+ghost use Rattle.rpki_sigobj.specs.Verify.{Digester, IsWellSigned};
 
 /// Reading a signed object is exact and unique, and DER is a part of BER (RFC 5652, section 3; RFC
 /// 6488, section 2).
 pub fn signed_objects()
     ensures { IsReading object_at SignedForm }
+{}
+
+/// What a yes of `validate_at` and of `validate_detached_at` means (RFC 6488, section 3): the key
+/// of the certificate signed the object, over the digest of its content and no later than the
+/// certificate is valid; the certificate fits the profile of its kind, states the issuer, is in
+/// time and signed by the issuer's key, and claims what is allowed.
+pub fn valid_objects()
+    ensures published { (digest : Digester) (verdict : Verdict) (s : SignedData)
+        (issuer : Validated) (now : Moment) →
+        AllHold (object_validation digest verdict s issuer now)
+        ↔ (IsWellSigned digest verdict s × AllHold (ee_checks s.cert.tbs)
+        × IsGoodUnder verdict s.cert issuer now) }
+    ensures detached { (digest : Digester) (verdict : Verdict) (s : SignedData)
+        (issuer : Validated) (now : Moment) →
+        AllHold (detached_validation digest verdict s issuer now)
+        ↔ (IsWellSigned digest verdict s × AllHold (detached_ee_checks s.cert.tbs)
+        × IsGoodUnder verdict s.cert issuer now) }
 {}

@@ -1,8 +1,10 @@
-//! Signed objects (RFC 5652; RFC 6488): reading, and what they say.
+//! Signed objects (RFC 5652; RFC 6488): reading, what they say, and validation.
 #![tactic(auto)]
 
 pub mod laws;
 mod object;
 mod signer_info;
+mod validate;
+mod verify;
 
 pub use object::{SignedObject, SignedObjectEncoder};

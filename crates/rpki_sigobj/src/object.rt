@@ -2,6 +2,7 @@
 
 mod encoder;
 mod fields;
+mod parts;
 mod read;
 
 ghost use Rattle.std.specs.Prelude.{◌≡◌, IfOk, IfErr, Err};

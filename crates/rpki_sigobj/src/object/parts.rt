@@ -1,0 +1,40 @@
+//! What is verified of a signed object.
+
+ghost use Rattle.std.specs.Prelude.{◌≡◌};
+ghost use Rattle.rpki_sigobj.specs.Object.{cert_of};
+
+use crate::object::SignedObject;
+use rpki_attributes::SignedAttrs;
+use rpki_basics::{KeyIdentifier, RpkiSignature};
+use rpki_certs::Cert;
+
+impl SignedObject {
+    /// The identifier of the signer's key (RFC 5652, section 5.3).
+    pub(crate) fn sid(&self) -> KeyIdentifier
+        ensures { result ≡ self.now.object.signed.signer.sid }
+    {
+        self.contents.signer.sid
+    }
+
+    /// The attributes that the signer signed (RFC 5652, section 5.3).
+    pub(crate) fn attributes(&self) -> &SignedAttrs
+        ensures { result.now.attributes ≡ self.now.object.signed.signer.attributes }
+    {
+        &self.contents.signer.attributes
+    }
+
+    /// The signature (RFC 5652, section 5.3).
+    pub(crate) fn signature(&self) -> &RpkiSignature
+        ensures { result.now ≡ self.now.object.signed.signer.signature }
+    {
+        &self.contents.signer.signature
+    }
+
+    /// The certificate of its signer.
+    pub(crate) fn into_cert(self) -> Cert
+        ensures { result ≡ cert_of self }
+    {
+        let contents = self.contents;
+        contents.cert
+    }
+}
