@@ -52,7 +52,18 @@ issued-valid inspected verdict c issuer now = (
       hold-join (Inspection as_faults_of inspected)
       (issued_validation verdict c issuer now) (
         hold-shown Inspection inspected h.0,
-        (h.1.claimed, (h.1.in_time.0, (h.1.in_time.1, (h.1.signed,
-        (sets.as_numbers, (sets.v4, (sets.v6, tt))))))),
+        (
+          h.1.claimed,
+          (
+            h.1.in_time.0,
+            (
+              h.1.in_time.1,
+              (
+                h.1.signed,
+                (sets.as_numbers, (sets.v4, (sets.v6, tt))),
+              ),
+            ),
+          ),
+        ),
       ),
 )

@@ -23,12 +23,12 @@ verdicts_are_few a ees crls none signed listed walked dist m of_signers of_crls 
     let steps = of_walks (distinct_authorities a crls dist m.crl_of) in
     let many : length (authorities a crls) ≡ length a.cas =
     sym (length-map (authorities a crls) (λ (c : Cert). c.ski))
-        ∙ ap (λ (l : List (List ℕ)). length l) (same_skis 1 a.cas crls a.crls m.crl_of)
-        ∙ length-map a.cas (λ (c : Cert). c.ski) in
+    ∙ ap (λ (l : List (List ℕ)). length l) (same_skis 1 a.cas crls a.crls m.crl_of)
+    ∙ length-map a.cas (λ (c : Cert). c.ski) in
     let each : length ees * length (authorities a crls) ≡ length a.signers * length a.cas =
     ap (λ n. n * length (authorities a crls))
-        (partners_length IsVerifiedBy a.signers ees a.ees m.signed)
-        ∙ ap (λ n. length a.signers * n) many in
+    (partners_length IsVerifiedBy a.signers ees a.ees m.signed)
+    ∙ ap (λ n. length a.signers * n) many in
     omega (
       arith,
       of_signers cheap.0,
