@@ -172,8 +172,8 @@ impl PublicKey {
         KeyEncoder(self)
     }
 
-    /// The octets of the key as a SubjectPublicKeyInfo (RFC 3279, section 2.3.1), or `TooLong` where
-    /// its contents have 2^32 octets or more, or `Memory`.
+    /// The octets of the key as a SubjectPublicKeyInfo (RFC 3279, section 2.3.1), or `TooLong`
+    /// where its contents have 2^32 octets or more, or `Memory`.
     pub fn to_info_bytes(&self, alloc: Global) -> Result<Vec<u8>, EncodeError>
         ensures { IsBytesOf (Unit {0}) (length (key_contents self.now) < 2 ^ 32)
             (key_octets self.now) result }
