@@ -1,3 +1,4 @@
+pub mod Asked
 pub mod Kept
 pub mod ObjectExact
 pub mod Types

@@ -1,4 +1,5 @@
 pub mod Object
+pub mod Process
 pub mod SignerInfo
 pub mod Validate
 pub mod Verify

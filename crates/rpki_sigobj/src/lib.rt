@@ -3,6 +3,7 @@
 
 pub mod laws;
 mod object;
+mod process;
 mod signer_info;
 mod validate;
 mod verify;

@@ -119,6 +119,7 @@ impl SignedObject {
                 if object.content_type().as_slice() == content_type.as_slice() {
                     Ok(object)
                 } else {
+                    drop(object);
                     Err(DecodeError::Content(ContentFault::Text(Reason::WrongContentType)))
                 }
             }
@@ -174,8 +175,8 @@ impl Clone for SignedObject {
     ghost is_clone = { λ o copy. copy ≡ o };
 
     fn clone(&self) -> Result<SignedObject, AllocError> {
-        let contents = self.contents.clone()?;
         let captured = self.captured.clone()?;
+        let contents = self.contents.clone()?;
         Ok(SignedObject { contents, captured })
     }
 }

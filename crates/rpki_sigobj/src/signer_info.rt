@@ -72,6 +72,7 @@ fn take_attributes(
     if attributes.content_type().as_slice() == content_type.as_slice() {
         Ok(attributes)
     } else {
+        drop(attributes);
         Err(cons.refuse_for(Reason::WrongContentType))
     }
 }

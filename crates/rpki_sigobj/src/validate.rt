@@ -32,7 +32,10 @@ impl SignedObject {
             (IsCertUnder self issuer.now) result }
     {
         match self.verify_signed(alloc, crypto) {
-            Err(e) => Err(e),
+            Err(e) => {
+                drop(self);
+                Err(e)
+            }
             Ok(()) => self
                 .into_cert()
                 .validate_ee_at(alloc, issuer, strict, crypto, now),
@@ -71,7 +74,10 @@ impl SignedObject {
             (IsCertUnder self issuer.now) result }
     {
         match self.verify_signed(alloc, crypto) {
-            Err(e) => Err(e),
+            Err(e) => {
+                drop(self);
+                Err(e)
+            }
             Ok(()) => self
                 .into_cert()
                 .validate_detached_ee_at(alloc, issuer, strict, crypto, now),

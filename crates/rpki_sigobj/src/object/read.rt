@@ -121,15 +121,21 @@ fn take_behind_content(
     ensures mode { IfOk result (λ d. d.cert_mode ≡ cons.old.mode) }
 {
     let cert = take_cert(cons, alloc)?;
-    let (content_type, content) = content;
-    match take_signer(cons, alloc, &content_type) {
-        Err(e) => Err(e),
-        Ok(signer) => Ok(SignedData {
-            content_type,
-            content,
-            cert,
-            signer,
-        }),
+    match take_signer(cons, alloc, &content.0) {
+        Err(e) => {
+            drop(content);
+            drop(cert);
+            Err(e)
+        }
+        Ok(signer) => {
+            let (content_type, content) = content;
+            Ok(SignedData {
+                content_type,
+                content,
+                cert,
+                signer,
+            })
+        }
     }
 }
 
@@ -197,11 +203,20 @@ impl Clone for SignedData {
     ghost is_clone = { λ d copy. copy ≡ d };
 
     fn clone(&self) -> Result<SignedData, AllocError> {
-        Ok(SignedData {
-            content_type: self.content_type.clone()?,
-            content: self.content.clone()?,
-            cert: self.cert.clone()?,
-            signer: self.signer.clone()?,
-        })
+        let content_type = self.content_type.clone()?;
+        let content = self.content.clone()?;
+        let cert = self.cert.clone()?;
+        match self.signer.clone() {
+            Err(e) => {
+                drop(cert);
+                Err(e)
+            }
+            Ok(signer) => Ok(SignedData {
+                content_type,
+                content,
+                cert,
+                signer,
+            }),
+        }
     }
 }
