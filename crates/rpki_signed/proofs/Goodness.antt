@@ -1,0 +1,96 @@
+-- What the answer of a check means, by the law of its kind.
+use Rattle.std.proofs.Common.{◌≡◌, List, ◌++◌, Result, Ok, Err, refl, sym}
+use Rattle.std.proofs.Common.{subst}
+use Rattle.rpki_der.specs.declared.mode.Mode.{Mode}
+use Rattle.rpki_basics.specs.Moment.{Moment}
+use Rattle.rpki_faults.specs.Checks.{Check, AllHold}
+use Rattle.rpki_faults.specs.declared.validation.ValidationError.{ValidationError}
+use Rattle.rpki_faults.proofs.Order.{first-fails, hold-split, hold-join}
+use Rattle.rpki_extensions.specs.declared.claims.Claims.{Claims}
+use Rattle.rpki_certs.specs.Validate.{Validated, AreValidated, IsValidatedUnder}
+use Rattle.rpki_certs.specs.Verify.{Verdict}
+use Rattle.rpki_sigobj.specs.Verify.{Digester}
+use Rattle.rpki_signed.specs.Kind.{Kind}
+use Rattle.rpki_signed.specs.Object.{Whole, cert_in}
+use Rattle.rpki_signed.specs.Process.{validation, unasked, said_checks, IsAsked}
+use Rattle.rpki_signed.specs.Good.{IsGood, IsNotGood, Means}
+
+are-validated : {X : Type 0} (mode : Mode) (o : Whole X) (issuer v : Validated)
+    → IsValidatedUnder (cert_in mode o) issuer v
+    → AreValidated o.object.signed.cert.tbs.extensions.claims issuer.sets v.sets
+unfolding IsValidatedUnder
+are-validated mode o issuer v h = h.1
+
+module _ {X : Type 0} (kind : Kind X) (mode : Mode) (digest : Digester) (verdict : Verdict)
+    (issuer : Validated) (now : Moment) (o : Whole X) (means : Means kind o.content)
+    (Says : Result (Unit {0}) ValidationError → Type 0) where
+  abbrev claims : Claims
+  claims = o.object.signed.cert.tbs.extensions.claims
+
+  abbrev Claimed : List (Check ValidationError)
+  Claimed = kind.claimed o.content claims
+
+  abbrev Valid : List (Check ValidationError)
+  Valid = validation kind.is_published digest verdict o.object.signed issuer now
+
+  abbrev Asked : Result (Validated × X) ValidationError → Type 0
+  Asked = IsAsked (unasked kind digest verdict o issuer now)
+      (IsValidatedUnder (cert_in mode o) issuer) Says (kind.held o.content) o.content
+
+  -- a yes
+  pub good : (a : Validated × X) → Asked (Ok a)
+      → Says (Ok tt) × IsGood kind mode digest verdict issuer now (Ok tt) o a.0
+      × (a.1 ≡ o.content)
+  good a h = of h.said refl
+    where
+      of : (said : Result (Unit {0}) ValidationError) → h.said ≡ said
+          → Says (Ok tt) × IsGood kind mode digest verdict issuer now (Ok tt) o a.0
+          × (a.1 ≡ o.content)
+      of (Err fault) e = absurd
+          (hold-split (unasked kind digest verdict o issuer now)
+          (said_checks (Err fault) ++ kind.held o.content h.valid.sets) (rw e at h.first.0)).1.0
+      of (Ok done) e =
+          let s = hold-split (unasked kind digest verdict o issuer now)
+          (said_checks (Ok done) ++ kind.held o.content h.valid.sets) (rw e at h.first.0) in
+          let front = hold-split Claimed Valid s.0 in
+          let asked = h.asked s.0 in
+          let sets = are-validated mode o issuer h.valid asked.0 in (
+            subst Says e asked.1,
+            record {
+              valid = front.1;
+              certificate =
+                  subst (IsValidatedUnder (cert_in mode o) issuer) (sym h.first.1.0) asked.0;
+              is_yes = refl;
+              covered = subst (λ (v : Validated). kind.covers o.content claims v.sets)
+                  (sym h.first.1.0)
+                  ((means.checks claims issuer.sets h.valid.sets sets).0 (front.0, s.1));
+            },
+            h.first.1.1,
+          )
+
+  -- a no
+  pub not-good : (fault : ValidationError) → Asked (Err fault)
+      → IsNotGood kind mode digest verdict issuer now Says o
+  not-good fault h = record {
+    said = h.said;
+    asked = λ all. (h.asked all).1;
+    none = λ v g.
+        let sets = are-validated mode o issuer v g.certificate in
+        let numbers = (means.checks claims issuer.sets v.sets sets).1 g.covered in
+        let before = hold-join Claimed Valid (numbers.0, g.valid) in
+        let asked = h.asked before in
+        let mine = are-validated mode o issuer h.valid asked.0 in
+        let covered = means.same claims issuer.sets v.sets h.valid.sets sets mine g.covered in
+        let held = (means.checks claims issuer.sets h.valid.sets mine).1 covered in
+        first-fails (unasked kind digest verdict o issuer now
+        ++ (said_checks h.said ++ kind.held o.content h.valid.sets)) fault h.first
+        (hold-join (unasked kind digest verdict o issuer now)
+        (said_checks h.said ++ kind.held o.content h.valid.sets) (
+          before,
+          hold-join (said_checks h.said) (kind.held o.content h.valid.sets) (
+            subst (λ (s : Result (Unit {0}) ValidationError). AllHold (said_checks s))
+                (sym g.is_yes) tt,
+            held.1,
+          ),
+        ));
+  }

@@ -1,0 +1,25 @@
+use Rattle.rpki_sigobj.specs.Object.{mode_of}
+use Rattle.rpki_signed.proofs.Fronts.{object-refused, content-refused, whole-found}
+use Rattle.rpki_signed.proofs.signed.Signed.read.Goals as goal
+
+pub returns-in-Err-clause-decodes : goal.returns-in-Err-clause-decodes
+returns-in-Err-clause-decodes g c =
+    object-refused g.T.Content.kind.type (g.T.Content.form c.args.rule) (mode_of c.args.strict)
+    c.args.source c.in-Err.e c.in-Err.ensures.decodes
+
+pub returns-in-Err-read_content-clause-decodes : goal.returns-in-Err-read_content-clause-decodes
+returns-in-Err-read_content-clause-decodes g c =
+    let front = c.in-Ok.ensures.decodes in
+    content-refused g.T.Content.kind.type (g.T.Content.form c.args.rule) (mode_of c.args.strict)
+    c.args.source c.in-Ok.object.object front.0 front.1 c.in-Err-read_content.e
+    c.in-Err-read_content.ensures.decodes
+
+pub returns-in-Ok-read_content-clause-decodes : goal.returns-in-Ok-read_content-clause-decodes
+returns-in-Ok-read_content-clause-decodes g c =
+    let front = c.in-Ok.ensures.decodes in
+    let content = c.in-Ok-read_content.ensures.decodes in (
+      front.0,
+      whole-found g.T.Content.kind.type (g.T.Content.form c.args.rule) (mode_of c.args.strict)
+          c.args.source c.in-Ok.object.object front.0 front.1 c.in-Ok-read_content.content
+          content.0 content.1,
+    )

@@ -1,0 +1,31 @@
+-- Signed objects with their contents.
+use Rattle.std.specs.Prelude.{ℕ, List}
+use Rattle.rpki_der.specs.declared.mode.Mode.{Mode}
+use Rattle.rpki_der.specs.Form.Made.{Begins}
+use Rattle.rpki_sigobj.specs.Object.{SignedObject, SignedFormOf, KeptObject}
+use Rattle.rpki_certs.specs.Cert.{KeptCertificate}
+
+-- a signed object, and what its content says
+pub record Whole (X : Type 0) : Type 0 where
+  pub object : SignedObject
+  pub content : X
+
+-- A signed object of this type (RFC 6488, section 2), whose content's octets begin with what the
+-- content says (RFC 5652, section 5.2). That octets may follow it there is this project's own rule.
+abbrev pub ObjectForm : {X : Type 0} → List ℕ → (List ℕ → X → Type 0) → Mode → List ℕ → Whole X
+    → Type 0
+ObjectForm type form mode octets o =
+    SignedFormOf type mode octets o.object × Begins form o.object.signed.content o.content
+
+-- the same, with the mode that it was read in
+pub record KeptWhole (X : Type 0) : Type 0 where
+  pub object : KeptObject
+  pub content : X
+
+-- without the mode
+abbrev pub whole_of : {X : Type 0} → KeptWhole X → Whole X
+whole_of k = record { object = k.object.object; content = k.content }
+
+-- the certificate of the signer, which was read in this mode
+abbrev pub cert_in : {X : Type 0} → Mode → Whole X → KeptCertificate
+cert_in mode o = record { certificate = o.object.signed.cert; mode = mode }

@@ -1,0 +1,198 @@
+//! Whether octets are a good object, under a validated issuer, at a moment.
+
+ghost use Rattle.std.specs.Prelude.{Some};
+ghost use Rattle.std.specs.Fn.{FnOnceTakesAt, FnOnceReturnsAt};
+ghost use Rattle.rpki_sigobj.specs.Object.{mode_of};
+ghost use Rattle.rpki_der.specs.declared.mode.Mode.TheVariants.{Der};
+ghost use Rattle.rpki_files.specs.Checklist.{ChecklistForm};
+ghost use Rattle.rpki_files.specs.Manifest.{ManifestForm};
+ghost use Rattle.rpki_routes.specs.Aspa.Form.{AspaForm};
+ghost use Rattle.rpki_routes.specs.Roa.Form.{RoaForm};
+ghost use Rattle.rpki_signed.specs.Aspa.{aspa_kind};
+ghost use Rattle.rpki_signed.specs.Check.{MayAsk, Checks, ChecksSaid};
+ghost use Rattle.rpki_signed.specs.Checklist.{checklist_kind};
+ghost use Rattle.rpki_signed.specs.Exact.{IsExact};
+ghost use Rattle.rpki_signed.specs.Manifest.{manifest_kind};
+ghost use Rattle.rpki_signed.specs.Roa.{roa_kind};
+ghost use Rattle.rpki_signed.specs.Text.{check_text};
+
+use crate::content::Content;
+use crate::signed::Signed;
+use bytes::Bytes;
+use rpki_basics::{Crypto, ManifestRule, ProviderLimit, Time};
+use rpki_certs::{Cert, ResourceCert};
+use rpki_der::DecodeError;
+use rpki_faults::ValidationError;
+use rpki_files::{ManifestContent, ResourceSignedChecklist};
+use rpki_routes::{AsProviderAttestation, RouteOriginAttestation};
+use std::alloc::Global;
+use std::error::Error;
+use std::fmt;
+
+/// Why octets are not a good object.
+#[derive(Debug, Drop)]
+pub enum CheckError {
+    /// They don't begin with an object of the kind.
+    Decode(DecodeError),
+    /// They begin with one, and a check of it fails.
+    Validation(ValidationError),
+}
+
+impl fmt::Display for CheckError {
+    ghost output = { λ error. Some (check_text error) };
+
+    fn fmt<W: fmt::Write>(&self, f: &mut fmt::Formatter<W>) -> fmt::Result {
+        match self {
+            CheckError::Decode(error) => error.fmt(f),
+            CheckError::Validation(error) => error.fmt(f),
+        }
+    }
+}
+
+impl Error for CheckError {}
+
+// Checks the object at the front of the octets.
+fn check_front<T: Content, C: Crypto, F: FnOnce(&Cert) -> Result<(), ValidationError>>(
+    alloc: Global,
+    bytes: Bytes,
+    strict: bool,
+    rule: T::Rule,
+    issuer: &ResourceCert,
+    crypto: &C,
+    now: Time,
+    check_crl: F,
+) -> Result<(ResourceCert, T), CheckError>
+    requires { MayAsk T.kind (T.form rule) (mode_of strict) (C.digest_of crypto.now)
+        (C.is_signed crypto.now) issuer.now now (FnOnceTakesAt F.FnOnce check_crl) bytes }
+    ensures { ChecksSaid T.is_said T.kind (T.form rule) (mode_of strict) (C.digest_of crypto.now)
+        (C.is_signed crypto.now) issuer.now now (FnOnceReturnsAt F.FnOnce check_crl) bytes result }
+{
+    match Signed::<T>::read(alloc, bytes, strict, rule) {
+        Err(e) => Err(CheckError::Decode(e)),
+        Ok(object) => {
+            match object.process_at(alloc, issuer, strict, crypto, now, check_crl) {
+                Err(e) => Err(CheckError::Validation(e)),
+                Ok(checked) => Ok(checked),
+            }
+        }
+    }
+}
+
+/// Whether the octets begin with a good manifest (RFC 9286) with the names that the rule takes, as
+/// `roa` says of a ROA. A manifest claims no numbers.
+pub fn manifest<C: Crypto, F: FnOnce(&Cert) -> Result<(), ValidationError>>(
+    alloc: Global,
+    bytes: Bytes,
+    strict: bool,
+    issuer: &ResourceCert,
+    crypto: &C,
+    now: Time,
+    check_crl: F,
+    rule: ManifestRule,
+) -> Result<(ResourceCert, ManifestContent), CheckError>
+    requires { MayAsk manifest_kind (ManifestForm rule Der) (mode_of strict)
+        (C.digest_of crypto.now) (C.is_signed crypto.now) issuer.now now
+        (FnOnceTakesAt F.FnOnce check_crl) bytes }
+    ensures first { Checks manifest_kind (ManifestForm rule Der) (mode_of strict)
+        (C.digest_of crypto.now) (C.is_signed crypto.now) issuer.now now
+        (FnOnceReturnsAt F.FnOnce check_crl) bytes result }
+    ensures exact { IsExact manifest_kind (ManifestForm rule Der) (mode_of strict)
+        (C.digest_of crypto.now) (C.is_signed crypto.now) issuer.now now
+        (FnOnceReturnsAt F.FnOnce check_crl) bytes result }
+{
+    check_front::<ManifestContent, C, F>(alloc, bytes, strict, rule, issuer, crypto, now, check_crl)
+}
+
+/// Whether the octets begin with a good ROA (RFC 9582), read strictly, in DER, or in BER, under
+/// this issuer and at this moment: the answer is its validated certificate and what it says.
+///
+/// It is exactly so where the octets begin with a ROA, it is valid as `Roa::process` says, among
+/// that what `check_crl` says of its certificate, and the certificate has the addresses of each of
+/// its prefixes. Memory aside, the answer is `Decode` exactly where the octets begin with no ROA,
+/// and `Validation`, with the fault of the first check that fails, exactly where they do and one
+/// fails. `check_crl` is called once at most, where each check before it holds.
+pub fn roa<C: Crypto, F: FnOnce(&Cert) -> Result<(), ValidationError>>(
+    alloc: Global,
+    bytes: Bytes,
+    strict: bool,
+    issuer: &ResourceCert,
+    crypto: &C,
+    now: Time,
+    check_crl: F,
+) -> Result<(ResourceCert, RouteOriginAttestation), CheckError>
+    requires { MayAsk roa_kind RoaForm (mode_of strict) (C.digest_of crypto.now)
+        (C.is_signed crypto.now) issuer.now now (FnOnceTakesAt F.FnOnce check_crl) bytes }
+    ensures first { Checks roa_kind RoaForm (mode_of strict) (C.digest_of crypto.now)
+        (C.is_signed crypto.now) issuer.now now (FnOnceReturnsAt F.FnOnce check_crl) bytes result }
+    ensures exact { IsExact roa_kind RoaForm (mode_of strict) (C.digest_of crypto.now)
+        (C.is_signed crypto.now) issuer.now now (FnOnceReturnsAt F.FnOnce check_crl) bytes result }
+{
+    check_front::<RouteOriginAttestation, C, F>(
+        alloc,
+        bytes,
+        strict,
+        (),
+        issuer,
+        crypto,
+        now,
+        check_crl,
+    )
+}
+
+/// Whether the octets begin with a good ASPA (draft-ietf-sidrops-aspa-profile-15) with at most as
+/// many providers as the limit says, as `roa` says of a ROA: its certificate claims the customer
+/// and nothing else, and has it once it was validated.
+pub fn aspa<C: Crypto, F: FnOnce(&Cert) -> Result<(), ValidationError>>(
+    alloc: Global,
+    bytes: Bytes,
+    strict: bool,
+    issuer: &ResourceCert,
+    crypto: &C,
+    now: Time,
+    check_crl: F,
+    limit: ProviderLimit,
+) -> Result<(ResourceCert, AsProviderAttestation), CheckError>
+    requires { MayAsk aspa_kind (AspaForm limit) (mode_of strict) (C.digest_of crypto.now)
+        (C.is_signed crypto.now) issuer.now now (FnOnceTakesAt F.FnOnce check_crl) bytes }
+    ensures first { Checks aspa_kind (AspaForm limit) (mode_of strict) (C.digest_of crypto.now)
+        (C.is_signed crypto.now) issuer.now now (FnOnceReturnsAt F.FnOnce check_crl) bytes result }
+    ensures exact { IsExact aspa_kind (AspaForm limit) (mode_of strict) (C.digest_of crypto.now)
+        (C.is_signed crypto.now) issuer.now now (FnOnceReturnsAt F.FnOnce check_crl) bytes result }
+{
+    check_front::<AsProviderAttestation, C, F>(
+        alloc, bytes, strict, limit, issuer, crypto, now, check_crl,
+    )
+}
+
+/// Whether the octets begin with a good signed checklist (RFC 9323), as `roa` says of a ROA: its
+/// certificate, which need not say where the checklist is published, claims the numbers of the
+/// checklist and has them once it was validated.
+pub fn rsc<C: Crypto, F: FnOnce(&Cert) -> Result<(), ValidationError>>(
+    alloc: Global,
+    bytes: Bytes,
+    strict: bool,
+    issuer: &ResourceCert,
+    crypto: &C,
+    now: Time,
+    check_crl: F,
+) -> Result<(ResourceCert, ResourceSignedChecklist), CheckError>
+    requires { MayAsk checklist_kind (ChecklistForm Der) (mode_of strict) (C.digest_of crypto.now)
+        (C.is_signed crypto.now) issuer.now now (FnOnceTakesAt F.FnOnce check_crl) bytes }
+    ensures first { Checks checklist_kind (ChecklistForm Der) (mode_of strict)
+        (C.digest_of crypto.now) (C.is_signed crypto.now) issuer.now now
+        (FnOnceReturnsAt F.FnOnce check_crl) bytes result }
+    ensures exact { IsExact checklist_kind (ChecklistForm Der) (mode_of strict)
+        (C.digest_of crypto.now) (C.is_signed crypto.now) issuer.now now
+        (FnOnceReturnsAt F.FnOnce check_crl) bytes result }
+{
+    check_front::<ResourceSignedChecklist, C, F>(
+        alloc,
+        bytes,
+        strict,
+        (),
+        issuer,
+        crypto,
+        now,
+        check_crl,
+    )
+}

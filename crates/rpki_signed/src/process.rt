@@ -1,0 +1,187 @@
+//! The validation of objects with their contents.
+
+ghost use Rattle.std.specs.Prelude.{◌≡◌};
+ghost use Rattle.std.specs.Fn.{FnOnceTakesAt, FnOnceReturnsAt};
+ghost use Rattle.rpki_faults.specs.Checks.{AllHold, AnswersFirstOr};
+ghost use Rattle.rpki_faults.specs.declared.validation.ValidationError.TheVariants.{Memory};
+ghost use Rattle.rpki_sigobj.specs.Object.{cert_of};
+ghost use Rattle.rpki_sigobj.specs.Validate.{IsCertUnder};
+ghost use Rattle.rpki_signed.specs.Object.{whole_of};
+ghost use Rattle.rpki_signed.specs.Process.{validation, unasked, AsksFirst, AnswersAsked};
+
+use crate::content::Content;
+use crate::signed::Signed;
+use rpki_basics::{Clock, Crypto, Time};
+use rpki_certs::{Cert, ResourceCert};
+use rpki_faults::ValidationError;
+use rpki_sigobj::SignedObject;
+use std::alloc::Global;
+
+// Validates an object, which has to be published or need not be.
+fn validate_object<C: Crypto>(
+    object: SignedObject,
+    is_published: bool,
+    alloc: Global,
+    issuer: &ResourceCert,
+    strict: bool,
+    crypto: &C,
+    now: Time,
+) -> Result<ResourceCert, ValidationError>
+    ensures { AnswersFirstOr Memory (validation is_published (C.digest_of crypto.now)
+        (C.is_signed crypto.now) object.object.signed issuer.now now)
+        (IsCertUnder object issuer.now) result }
+{
+    if is_published {
+        object.validate_at(alloc, issuer, strict, crypto, now)
+    } else {
+        object.validate_detached_at(alloc, issuer, strict, crypto, now)
+    }
+}
+
+// What is validated before the caller is asked.
+fn validate_unasked<T: Content, C: Crypto>(
+    object: SignedObject,
+    content: &T,
+    alloc: Global,
+    issuer: &ResourceCert,
+    strict: bool,
+    crypto: &C,
+    now: Time,
+) -> Result<ResourceCert, ValidationError>
+    ensures { AnswersFirstOr Memory (unasked T.kind (C.digest_of crypto.now)
+        (C.is_signed crypto.now) (record { object = object.object; content = content.now })
+        issuer.now now) (IsCertUnder object issuer.now) result }
+{
+    match content.verify_claims(object.cert()) {
+        Err(e) => Err(e),
+        Ok(()) => {
+            validate_object(
+                object,
+                T::is_published(),
+                alloc,
+                issuer,
+                strict,
+                crypto,
+                now,
+            )
+        }
+    }
+}
+
+// What the caller says of the certificate.
+fn asked<F: FnOnce(&Cert) -> Result<(), ValidationError>>(
+    cert: &ResourceCert,
+    check_crl: F,
+) -> Result<(), ValidationError>
+    requires { FnOnceTakesAt F.FnOnce check_crl cert.now.cert }
+    ensures { FnOnceReturnsAt F.FnOnce check_crl cert.now.cert result }
+{
+    check_crl(cert.cert())
+}
+
+// Asks the caller, and looks at the numbers of the certificate.
+fn ask<T: Content, F: FnOnce(&Cert) -> Result<(), ValidationError>>(
+    cert: &ResourceCert,
+    content: &T,
+    check_crl: F,
+) -> Result<(), ValidationError>
+    requires { FnOnceTakesAt F.FnOnce check_crl cert.now.cert }
+    ensures { AsksFirst (λ said. FnOnceReturnsAt F.FnOnce check_crl cert.now.cert said)
+        (T.kind.held content.now cert.now.sets) result }
+{
+    match asked(cert, check_crl) {
+        Err(e) => Err(e),
+        Ok(()) => content.verify_held(cert),
+    }
+}
+
+// Validates an object with this content.
+fn process_parts<T: Content, C: Crypto, F: FnOnce(&Cert) -> Result<(), ValidationError>>(
+    object: SignedObject,
+    content: T,
+    alloc: Global,
+    issuer: &ResourceCert,
+    strict: bool,
+    crypto: &C,
+    now: Time,
+    check_crl: F,
+) -> Result<(ResourceCert, T), ValidationError>
+    requires { AllHold (unasked T.kind (C.digest_of crypto.now) (C.is_signed crypto.now)
+        (record { object = object.object; content = content }) issuer.now now)
+        → FnOnceTakesAt F.FnOnce check_crl (cert_of object) }
+    ensures { AnswersAsked (unasked T.kind (C.digest_of crypto.now) (C.is_signed crypto.now)
+        (record { object = object.object; content = content }) issuer.now now)
+        (IsCertUnder object issuer.now)
+        (λ said. FnOnceReturnsAt F.FnOnce check_crl (cert_of object) said)
+        (T.kind.held content) content result }
+{
+    match validate_unasked(object, &content, alloc, issuer, strict, crypto, now) {
+        Err(e) => {
+            drop(content);
+            Err(e)
+        }
+        Ok(cert) => match ask(&cert, &content, check_crl) {
+            Err(e) => {
+                drop(cert);
+                drop(content);
+                Err(e)
+            }
+            Ok(()) => Ok((cert, content)),
+        },
+    }
+}
+
+impl<T: Content> Signed<T> {
+    /// Validates it under its issuer, at this moment (RFC 6488, section 3): what its certificate
+    /// claims, where the kind asks it first; the object and its certificate, as
+    /// `SignedObject::validate_at` does; then whether the caller says that the certificate was not
+    /// revoked; and then that the certificate has the numbers of which the content speaks. Answers
+    /// the validated certificate and the content. `strict` changes nothing.
+    ///
+    /// `check_crl` is called once at most, with the certificate, where each check before it holds,
+    /// and what it refuses by is refused. Else refuses by the fault of the first check that does
+    /// not hold, or by `Memory`.
+    pub fn process_at<C: Crypto, F: FnOnce(&Cert) -> Result<(), ValidationError>>(
+        self,
+        alloc: Global,
+        issuer: &ResourceCert,
+        strict: bool,
+        crypto: &C,
+        now: Time,
+        check_crl: F,
+    ) -> Result<(ResourceCert, T), ValidationError>
+        requires { AllHold (unasked T.kind (C.digest_of crypto.now) (C.is_signed crypto.now)
+            (whole_of self) issuer.now now)
+            → FnOnceTakesAt F.FnOnce check_crl (cert_of self.object) }
+        ensures { AnswersAsked (unasked T.kind (C.digest_of crypto.now) (C.is_signed crypto.now)
+            (whole_of self) issuer.now now) (IsCertUnder self.object issuer.now)
+            (λ said. FnOnceReturnsAt F.FnOnce check_crl (cert_of self.object) said)
+            (T.kind.held self.content) self.content result }
+    {
+        let (object, content) = self.into_parts();
+        process_parts(
+            object, content, alloc, issuer, strict, crypto, now, check_crl,
+        )
+    }
+
+    /// Validates it under its issuer, at the moment that the clock tells, as `process_at` does.
+    pub fn process<C: Crypto, K: Clock, F: FnOnce(&Cert) -> Result<(), ValidationError>>(
+        self,
+        alloc: Global,
+        issuer: &ResourceCert,
+        strict: bool,
+        crypto: &C,
+        clock: &K,
+        check_crl: F,
+    ) -> Result<(ResourceCert, T), ValidationError>
+        requires { AllHold (unasked T.kind (C.digest_of crypto.now) (C.is_signed crypto.now)
+            (whole_of self) issuer.now (K.moment clock.now))
+            → FnOnceTakesAt F.FnOnce check_crl (cert_of self.object) }
+        ensures { AnswersAsked (unasked T.kind (C.digest_of crypto.now) (C.is_signed crypto.now)
+            (whole_of self) issuer.now (K.moment clock.now)) (IsCertUnder self.object issuer.now)
+            (λ said. FnOnceReturnsAt F.FnOnce check_crl (cert_of self.object) said)
+            (T.kind.held self.content) self.content result }
+    {
+        self.process_at(alloc, issuer, strict, crypto, clock.now(), check_crl)
+    }
+}

@@ -1,0 +1,146 @@
+//! Signed objects with their contents.
+
+ghost use Rattle.std.specs.Prelude.{◌≡◌, IfOk, IfErr, Err};
+ghost use Rattle.rpki_der.specs.declared.mode.Mode.TheVariants.{Der, Ber};
+ghost use Rattle.rpki_der.specs.declared.encode.EncodeError.TheVariants.{NotDer, Memory};
+ghost use Rattle.rpki_der.specs.Form.Decodes.{Decodes};
+ghost use Rattle.rpki_sigobj.specs.Object.{SignedForm, SignedFormOf, mode_of, cert_of};
+ghost use Rattle.rpki_signed.specs.Object.{ObjectForm, whole_of};
+
+use crate::content::Content;
+use bytes::Bytes;
+use rpki_certs::Cert;
+use rpki_der::{DecodeError, EncodeError};
+use rpki_sigobj::{SignedObject, SignedObjectEncoder};
+use std::alloc::Global;
+use std::marker::Model;
+
+/// A signed object with a content of this kind.
+#[derive(Debug, Drop)]
+pub struct Signed<T: Content> {
+    object: SignedObject,
+    content: T,
+}
+
+impl<T: Content> Model for Signed<T> {
+    ghost use Rattle.rpki_signed.specs.Object.{KeptWhole};
+
+    ghost Value = { KeptWhole T };
+
+    ghost view = { λ s. record { object = s.object; content = s.content } };
+}
+
+// Reads a signed object whose content has the type of this kind.
+fn read_object<T: Content>(
+    alloc: Global,
+    source: Bytes,
+    strict: bool,
+) -> Result<SignedObject, DecodeError>
+    ensures decodes { Decodes (SignedFormOf T.kind.type (mode_of strict)) (λ o. o.object)
+        source result }
+    ensures mode { IfOk result (λ o. o.mode ≡ mode_of strict) }
+{
+    let oid = T::oid();
+    SignedObject::decode_if_type(alloc, source, &oid, strict)
+}
+
+// Reads what the content of an object begins with.
+fn read_content<T: Content>(
+    alloc: Global,
+    object: &SignedObject,
+    rule: T::Rule,
+) -> Result<T, DecodeError>
+    ensures decodes { Decodes (T.form rule) (λ x. x) object.now.object.signed.content result }
+    ensures said { IfOk result T.is_said }
+{
+    match object.content().clone() {
+        Err(_) => Err(DecodeError::Memory),
+        Ok(octets) => T::read(alloc, octets, rule),
+    }
+}
+
+impl<T: Content> Signed<T> {
+    /// Reads the object at the front of the source, by the rules of DER where it is read strictly,
+    /// and else by those of BER; its content is in DER. Octets behind it are left, and so are those
+    /// behind what the content says.
+    pub(crate) fn read(
+        alloc: Global,
+        source: Bytes,
+        strict: bool,
+        rule: T::Rule,
+    ) -> Result<Signed<T>, DecodeError>
+        ensures decodes { Decodes (ObjectForm T.kind.type (T.form rule) (mode_of strict)) whole_of
+            source result }
+        ensures mode { IfOk result (λ o. o.object.mode ≡ mode_of strict) }
+        ensures said { IfOk result (λ o. T.is_said o.content) }
+    {
+        match read_object::<T>(alloc, source, strict) {
+            Err(e) => Err(e),
+            Ok(object) => match read_content::<T>(alloc, &object, rule) {
+                Err(e) => {
+                    drop(object);
+                    Err(e)
+                }
+                Ok(content) => Ok(Signed { object, content }),
+            },
+        }
+    }
+
+    /// The object and the content.
+    pub(crate) fn into_parts(self) -> (SignedObject, T)
+        ensures object { result.0 ≡ self.object }
+        ensures content { result.1 ≡ self.content }
+    {
+        let Signed { object, content } = self;
+        (object, content)
+    }
+
+    /// The signed object.
+    pub fn signed(&self) -> &SignedObject
+        ensures { result.now ≡ self.now.object }
+    {
+        &self.object
+    }
+
+    /// The certificate of its signer.
+    pub fn cert(&self) -> &Cert
+        ensures { result.now ≡ cert_of self.now.object }
+    {
+        self.object.cert()
+    }
+
+    /// What its content says.
+    pub fn content(&self) -> &T
+        ensures { result.now ≡ self.now.content }
+    {
+        &self.content
+    }
+
+    /// What its content says.
+    pub fn into_content(self) -> T
+        ensures { result ≡ self.content }
+    {
+        let Signed { object: _, content } = self;
+        content
+    }
+
+    /// What writes the octets of the object as they were read, where they are DER, and answers
+    /// `NotDer` where they were read in BER.
+    pub fn encode_ref(&self) -> SignedObjectEncoder<'_>
+        ensures object { result.0.now ≡ self.now.object }
+        ensures written { SignedForm self.now.object.mode self.now.object.object.octets
+            self.now.object.object }
+    {
+        self.object.encode_ref()
+    }
+
+    /// The octets of the object as they were read, where they are DER. Refuses by `NotDer` where
+    /// they were read in BER, and else only for want of memory.
+    pub fn to_captured(&self) -> Result<Bytes, EncodeError>
+        ensures octets { IfOk result (λ octets. octets ≡ self.now.object.object.octets) }
+        ensures der { self.now.object.mode ≡ Der → IfErr result (λ e. e ≡ Memory) }
+        ensures ber { self.now.object.mode ≡ Ber → result ≡ Err NotDer }
+    {
+        self.object.to_captured()
+    }
+}
