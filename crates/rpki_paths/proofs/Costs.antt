@@ -26,6 +26,6 @@ matching_is_cheap a ees crls dist m = (
   λ d i l j named.
       (let own = partner HasCrl a.cas crls a.crls m.crl_of l j in
       let same : own.0 ≡ d =
-      same_by_ski a.cas own.0 d dist.of_cas own.1 i (sym own.2.0 ∙ sym named) in
+      same_by_ski a.cas own.0 d dist.of_cas own.1 i (own.2.0 ∙ sym named) in
       subst (λ (x : Cert). IsTrue (l.verifies x.key)) same own.2.1),
 )

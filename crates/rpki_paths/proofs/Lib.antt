@@ -14,4 +14,6 @@ pub mod WalkingEach
 pub mod Finals
 pub mod Keeps
 pub mod Granting
+pub mod Mapping
 pub mod Verdicts
+pub mod Accepting

@@ -11,7 +11,7 @@ use Rattle.rpki_paths.proofs.Chains.{same_by_ski, in_map}
 use Rattle.rpki_paths.proofs.Pairings.{pick_two, picked_in, partner}
 
 keys_alike : (signers : List Signer) (keys : List (List ℕ)) → AreAlike HasKey signers keys
-keys_alike signers keys x x' y y' i i' j j' e f g = g ∙ sym e ∙ f
+keys_alike signers keys x x' y y' i i' j j' e f g = (g.0 ∙ sym e.0 ∙ f.0, refl)
 
 module _ (a : Carried) (dist : HasDistinctIds a) where
   ees_alike : AreAlike IsVerifiedBy a.signers a.ees
@@ -23,7 +23,7 @@ module _ (a : Carried) (dist : HasDistinctIds a) where
   -- a CRL fits one CA alone
   one_ca : (x x' : Cert) (y : Crl) → IsIn x a.cas → IsIn x' a.cas → HasCrl x y → HasCrl x' y
       → x ≡ x'
-  one_ca x x' y i i' e f = same_by_ski a.cas x x' dist.of_cas i i' (sym e.0 ∙ f.0)
+  one_ca x x' y i i' e f = same_by_ski a.cas x x' dist.of_cas i i' (e.0 ∙ sym f.0)
 
   crls_alike : AreAlike HasCrl a.cas a.crls
   crls_alike x x' y y' i i' j j' e f g = subst (λ d. HasCrl d y') (one_ca x x' y i i' e g) f

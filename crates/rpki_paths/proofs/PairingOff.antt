@@ -1,12 +1,12 @@
 -- Items that pair off in turn: what is paired so far, and why there is no pairing where it stops.
 use Rattle.std.proofs.Common.{◌≡◌, ℕ, zero, suc, ◌+◌, ◌<◌, ◌≤◌, Bool, true, false, List}
-use Rattle.std.proofs.Common.{[], ◌∷◌, ◌++◌, length, take, drop, replicate, Some}
+use Rattle.std.proofs.Common.{[], ◌∷◌, ◌++◌, length, take, drop, replicate, Some, set, ◌⊎◌}
 use Rattle.std.proofs.Common.{refl}
 use Rattle.std.proofs.Common.{sym, ap, ◌∙◌, subst, inl, inr, arith}
 use Rattle.std.specs.Prelude.{slice_get}
 use Rattle.std.proofs.lemmas.List.{take_all, length-take-le}
 use Rattle.rpki_paths.specs.declared.pairs.PairFault.TheVariants.{Unpaired, LeftOver, Memory}
-use Rattle.rpki_paths.specs.Cert.{IsIn}
+use Rattle.rpki_paths.specs.Cert.{IsIn, NoTwice}
 use Rattle.rpki_paths.specs.Pairing.{IsPicked, here, there, IsPairing, IsPairable, AreAlike}
 use Rattle.rpki_paths.specs.Taking.{left_of, IsFirst, first, later, FitsNone, IsTakenAt, PairsOff}
 use Rattle.rpki_paths.specs.Taking.{AreAt, ArePaired, FindsNone, LeavesSome}
@@ -67,6 +67,44 @@ at_more ys [] [] place p h e = (e, tt)
 at_more ys [] (q ∷ items) place p h e = absurd h
 at_more ys (k ∷ places) [] place p h e = absurd h
 at_more ys (k ∷ places) (q ∷ items) place p h e = (h.0, at_more ys places items place p h.1 e)
+
+-- ---- marks of places
+
+set_keeps : (marks : List Bool) (i k : ℕ) → slice_get marks k ≡ Some true
+    → slice_get (set marks i true) k ≡ Some true
+set_keeps [] i k e = absurd cc
+set_keeps (m ∷ marks) zero zero e = refl
+set_keeps (m ∷ marks) zero (suc k) e = e
+set_keeps (m ∷ marks) (suc i) zero e = e
+set_keeps (m ∷ marks) (suc i) (suc k) e = set_keeps marks i k e
+
+set_here : (marks : List Bool) (i : ℕ) → slice_get marks i ≡ Some false
+    → slice_get (set marks i true) i ≡ Some true
+set_here [] i e = absurd cc
+set_here (m ∷ marks) zero e = refl
+set_here (m ∷ marks) (suc i) e = set_here marks i e
+
+-- these places are marked
+abbrev pub AreTaken : List Bool → List ℕ → Type 0
+AreTaken marks places = (k : ℕ) → IsIn k places → slice_get marks k ≡ Some true
+
+in_more : {A : Type 0} (xs : List A) (x k : A) → IsIn k (xs ++ x ∷ []) → IsIn k xs ⊎ (k ≡ x)
+in_more [] x k (inl e) = inr e
+in_more [] x k (inr i) = absurd i
+in_more (y ∷ xs) x k (inl e) = inl (inl e)
+in_more (y ∷ xs) x k (inr i) = elim (in_more xs x k i) [ inl j ↦ inl (inr j) | inr e ↦ inr e ]
+
+no_twice_more : {A : Type 0} (xs : List A) (x : A) → NoTwice xs → ¬ (IsIn x xs)
+    → NoTwice (xs ++ x ∷ [])
+no_twice_more [] x h n = (λ i. i, tt)
+no_twice_more (y ∷ xs) x h n = (
+  λ i. elim (in_more xs x y i) [ inl j ↦ h.0 j | inr e ↦ n (inl (sym e)) ],
+  no_twice_more xs x h.1 (λ i. n (inr i)),
+)
+
+not_marked : (marks : List Bool) (place : ℕ) → slice_get marks place ≡ Some false
+    → ¬ (slice_get marks place ≡ Some true)
+not_marked marks place e f = absurd cc
 
 module _ {A B : Type 0} (R : A → B → Type 0) where
   -- one more takes the first that fits
@@ -147,6 +185,8 @@ module _ {A B : Type 0} (R : A → B → Type 0) where
       (i : ℕ) : Type 0 where
     pub partners : List B
     pub at_places : AreAt ys places partners
+    pub distinct : NoTwice places
+    pub taken : AreTaken marks places
     pub pairs : PairsOff R (take i xs) partners ys (left_of marks ys)
 
   pub pairing_none : (xs : List A) (ys : List B) (marks : List Bool) (places : List ℕ)
@@ -154,6 +194,8 @@ module _ {A B : Type 0} (R : A → B → Type 0) where
   pairing_none xs ys marks places e f = record {
     partners = [];
     at_places = subst (λ l. AreAt ys l []) (sym f) tt;
+    distinct = subst (λ l. NoTwice l) (sym f) tt;
+    taken = subst (λ l. AreTaken marks l) (sym f) (λ k j. absurd j);
     pairs = sym (ap (λ m. left_of m ys) e ∙ left_all ys);
   }
 
@@ -165,8 +207,17 @@ module _ {A B : Type 0} (R : A → B → Type 0) where
     partners = w.partners ++ t.0 ∷ [];
     at_places = subst (λ l. AreAt ys l (w.partners ++ t.0 ∷ [])) (sym f)
         (at_more ys places w.partners place t.0 w.at_places t.1);
+    distinct = subst (λ l. NoTwice l) (sym f)
+        (no_twice_more places place w.distinct (λ j. not_marked old place t.2 (w.taken place j)));
+    taken = subst (λ l. AreTaken new l) (sym f)
+        (λ k j. subst (λ m. slice_get m k ≡ Some true) (sym t.3)
+        (elim (in_more places place k j) [
+          | inl h ↦ set_keeps old place k (w.taken k h)
+          | inr e ↦ subst (λ n. slice_get (set old place true) n ≡ Some true) (sym e)
+              (set_here old place t.2)
+        ]));
     pairs = subst (λ l. PairsOff R l (w.partners ++ t.0 ∷ []) ys (left_of new ys)) (sym e)
-        (pairs_more (take i xs) w.partners ys (left_of old ys) (left_of new ys) x t.0 w.pairs t.2);
+        (pairs_more (take i xs) w.partners ys (left_of old ys) (left_of new ys) x t.0 w.pairs t.4);
   }
 
   pub pairing_stops : (xs : List A) (ys : List B) (marks : List Bool) (places : List ℕ) (i : ℕ)
@@ -235,6 +286,7 @@ module _ {A B : Type 0} (R : A → B → Type 0) where
       record {
         partners = w.partners;
         at_places = w.at_places;
+        distinct = w.distinct;
         first = all;
         pairing = pairs_are_pairing xs w.partners ys all;
       }

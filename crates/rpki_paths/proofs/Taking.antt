@@ -134,6 +134,8 @@ module _ {Y : Type 0} (held : Y → List ℕ) (id : List ℕ) (verdict : Y → B
   taking_found i y rest before after w at_i mark verified = (
     y,
     at_i,
+    mark,
+    refl,
     first_left IsFit marks ys i y at_i mark (named_at i y rest before after w at_i, verified)
         (λ j z lt e f p. true≢false (sym p.1 ∙ earlier i rest before after w j z lt e f p.0)),
   )

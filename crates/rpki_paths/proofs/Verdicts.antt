@@ -10,7 +10,7 @@ use Rattle.rpki_paths.proofs.Grants.{same_skis}
 use Rattle.rpki_paths.proofs.Granting.{distinct_authorities}
 use Rattle.rpki_paths.proofs.PairingOff.{pairing_length}
 
-partners_length : {A B : Type 0} (R : A → B → Type 0) (xs : List A) (ps ys : List B)
+pub partners_length : {A B : Type 0} (R : A → B → Type 0) (xs : List A) (ps ys : List B)
     → IsPairing R xs ps ys → length ps ≡ length xs
 partners_length R [] [] ys h = refl
 partners_length R [] (p ∷ ps) ys h = absurd h
@@ -18,7 +18,7 @@ partners_length R (x ∷ xs) [] ys h = absurd h
 partners_length R (x ∷ xs) (p ∷ ps) ys h = ap suc (partners_length R xs ps h.1.0 h.1.2)
 
 pub verdicts_are_few : VerdictsAreFew
-verdicts_are_few a ees crls none signed listed walked dist m of_signers of_crls of_walks =
+verdicts_are_few a ees crls none listed signed walked dist m of_crls of_signers of_walks =
     let cheap = matching_is_cheap a ees crls dist m in
     let steps = of_walks (distinct_authorities a crls dist m.crl_of) in
     let many : length (authorities a crls) ≡ length a.cas =

@@ -14,6 +14,16 @@ with_crls n (d ∷ cas) [] = []
 with_crls n (d ∷ cas) (l ∷ crls) =
     at_place n (record d { revokes = l.serials }) ∷ with_crls (suc n) cas crls
 
+-- The handles of CAs with their CRLs: each is that of the CA, with what the CRL lists.
+abbrev pub HaveCrls : {C R : Type 0} → (C → Cert) → (R → Crl) → List C → List R → List C → Type 0
+HaveCrls cert crl [] [] [] = Unit {0}
+HaveCrls cert crl [] [] (h ∷ with) = ⊥
+HaveCrls cert crl [] (l ∷ crls) with = ⊥
+HaveCrls cert crl (d ∷ cas) [] with = ⊥
+HaveCrls cert crl (d ∷ cas) (l ∷ crls) [] = ⊥
+HaveCrls cert crl (d ∷ cas) (l ∷ crls) (h ∷ with) =
+    (cert h ≡ record (cert d) { revokes = (crl l).serials }) × HaveCrls cert crl cas crls with
+
 -- The CAs of an attestation, with their CRLs. Place 0 is that of the end-entity certificate of a
 -- path, so that no two certificates of a path share one.
 abbrev pub authorities : Carried → List Crl → List Cert

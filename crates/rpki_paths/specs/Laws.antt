@@ -1,6 +1,6 @@
 -- The laws of paths that public functions carry.
 use Rattle.std.specs.Prelude.{◌≡◌, ℕ, ◌+◌, ◌*◌, ◌≤◌, List, ◌∷◌, Option, None, Some, IsTrue}
-use Rattle.std.specs.Prelude.{length, ◌↔◌, [], ◌++◌, Ok, Err, Bool, map}
+use Rattle.std.specs.Prelude.{length, ◌↔◌, ◌⊎◌, [], ◌++◌, Ok, Err, Bool, map}
 use Rattle.rpki_resources.specs.declared.block.Block.{Block}
 use Rattle.rpki_resources.specs.declared.resources.Claim.{Claim}
 use Rattle.rpki_resources.specs.declared.resources.Claim.TheVariants.{Inherit, Explicit}
@@ -23,7 +23,7 @@ use Rattle.rpki_paths.specs.declared.pairs.PairFault.TheVariants.{Memory as Pair
 use Rattle.rpki_paths.specs.Kept.{AreRefused, AreKept, AreWalked}
 use Rattle.rpki_paths.specs.Supplied.{AnswersEach, AreSuppliedAll}
 use Rattle.rpki_paths.specs.Final.{all_anchored, IsWhole, Decides}
-use Rattle.rpki_paths.specs.Walk.{IsRefused, kept_at, InEach}
+use Rattle.rpki_paths.specs.Walk.{IsRefused, kept_at, InEach, placed}
 use Rattle.rpki_paths.specs.Cert.{Cert, Numbers, IsIn}
 use Rattle.rpki_paths.specs.Sets.{with_claim, IsCovered, CoversKept, StandsFor, IsClimbed}
 use Rattle.rpki_paths.specs.Path.{IsChain, IsPath, IsDistinct, IsLinkCovered, explicit_sets}
@@ -32,10 +32,12 @@ use Rattle.rpki_paths.specs.Anchor.{supplied_claim, path_set}
 use Rattle.rpki_paths.specs.Pairing.{Carried, Crl, HasDistinctIds, IsMatching, HasKey}
 use Rattle.rpki_paths.specs.Pairing.{IsPicked, IsPairable, AreAlike, IsVerifiedBy, HasCrl}
 use Rattle.rpki_paths.specs.Pairing.{IsPairing}
-use Rattle.rpki_paths.specs.Taking.{PairsOff, FitsNone, AllVerifyEach, AreUnpaired}
+use Rattle.rpki_paths.specs.Taking.{PairsOff, FitsNone, AllVerifyEach, ArePaired, AreUnpaired}
 use Rattle.rpki_paths.specs.Grant.{HasPaths, AreValid, AreUsed, authorities, IsAccepted, IsEarned}
-use Rattle.rpki_paths.specs.Grant.{ArePaths}
+use Rattle.rpki_paths.specs.Grant.{ArePaths, with_crls, HaveCrls}
 use Rattle.rpki_paths.specs.Grant.{IsGranted}
+use Rattle.rpki_paths.specs.declared.acceptance.AcceptFault.{AcceptFault}
+use Rattle.rpki_paths.specs.Accepting.{WhyNot, WantsMemory}
 
 -- One issuer more, whose claim covers what it has to, and what is kept stands for the sets again.
 abbrev pub ClimbKeepsMeet : {T : Type 0} → (T → ℕ) → Type 0
@@ -263,6 +265,39 @@ UnpairedIsUnpairable {A} {B} R =
     (xs : List A) (ys : List B) (fault : PairFault) → ¬ (fault ≡ PairMemory) →
     AreUnpaired R xs ys fault → AreAlike R xs ys → ¬ (IsPairable R xs ys)
 
+-- Handles are paired off by `R` where what they stand for is by `S`, and where they are not, it is for
+-- the same reason.
+abbrev pub PairsAlongMap : {X Y A B : Type 0} → (X → A) → (Y → B) → (X → Y → Type 0) →
+    (A → B → Type 0) → Type 0
+PairsAlongMap {X} {Y} f g R S =
+    (xs : List X) (ys : List Y) →
+    ((places : List ℕ) → ArePaired R xs ys places → ArePaired S (map f xs) (map g ys) places)
+    × ((fault : PairFault) → AreUnpaired R xs ys fault →
+    AreUnpaired S (map f xs) (map g ys) fault)
+
+-- CAs with their CRLs, as walks see them, are the authorities of the definitions.
+abbrev pub PlacedAreAuthorities : {C R : Type 0} → (C → Cert) → (R → Crl) → Type 0
+PlacedAreAuthorities {C} {R} cert crl =
+    (n : ℕ) (cas : List C) (crls : List R) (with : List C) → HaveCrls cert crl cas crls with →
+    placed cert n with ≡ with_crls n (map cert cas) (map crl crls)
+
+-- With distinct identifiers, where keys, signers or CAs cannot be paired off, but for memory, no
+-- paths are accepted.
+abbrev pub UnmatchedIsNotAccepted : Type 0
+UnmatchedIsNotAccepted =
+    (a : Carried) (fault : PairFault) (paths : List (List Cert)) → HasDistinctIds a →
+    ¬ (fault ≡ PairMemory) →
+    (AreUnpaired HasKey a.signers a.subject_keys fault
+    ⊎ AreUnpaired IsVerifiedBy a.signers a.ees fault ⊎ AreUnpaired HasCrl a.cas a.crls fault) →
+    ¬ (IsAccepted a paths)
+
+-- With distinct identifiers an attestation is refused, but for memory, only where no paths are
+-- accepted.
+abbrev pub RefusalIsRight : Type 0
+RefusalIsRight =
+    (a : Carried) (fault : AcceptFault) (paths : List (List Cert)) → HasDistinctIds a →
+    ¬ (WantsMemory fault) → WhyNot a fault → ¬ (IsAccepted a paths)
+
 -- With distinct identifiers and a matching, whatever has the identifier that is sought also has the
 -- verdict, so that each signer and each CA asks for one.
 abbrev pub MatchingIsCheap : Type 0
@@ -271,17 +306,17 @@ MatchingIsCheap =
     AllVerifyEach (λ s. s.sid) (λ e. e.ski) (λ s e. s.verifies e.key) a.signers a.ees
     × AllVerifyEach (λ d. d.ski) (λ l. l.aki) (λ d l. l.verifies d.key) a.cas a.crls
 
--- With distinct identifiers and a matching, where the pairing of the signers, that of the CRLs and
+-- With distinct identifiers and a matching, where the pairing of the CRLs, that of the signers and
 -- the walks each ask for what they cost, they ask in all for at most s + l + s * a verdicts, of s
 -- signers, l CRLs and a CAs.
 abbrev pub VerdictsAreFew : Type 0
 VerdictsAreFew =
-    (a : Carried) (ees : List Cert) (crls : List Crl) (none signed listed walked : ℕ) →
+    (a : Carried) (ees : List Cert) (crls : List Crl) (none listed signed walked : ℕ) →
     HasDistinctIds a → IsMatching a ees crls →
-    (AllVerifyEach (λ s. s.sid) (λ e. e.ski) (λ s e. s.verifies e.key) a.signers a.ees →
-    signed ≤ none + 1 * length a.signers) →
     (AllVerifyEach (λ d. d.ski) (λ l. l.aki) (λ d l. l.verifies d.key) a.cas a.crls →
-    listed ≤ signed + 1 * length a.cas) →
+    listed ≤ none + 1 * length a.cas) →
+    (AllVerifyEach (λ s. s.sid) (λ e. e.ski) (λ s e. s.verifies e.key) a.signers a.ees →
+    signed ≤ listed + 1 * length a.signers) →
     (IsDistinct (authorities a crls) →
-    walked ≤ listed + length ees * length (authorities a crls)) →
+    walked ≤ signed + length ees * length (authorities a crls)) →
     walked ≤ none + (length a.signers + length a.crls + length a.signers * length a.cas)

@@ -10,4 +10,6 @@ pub mod Supplied
 pub mod Grant
 pub mod Kept
 pub mod Final
+pub mod Accepting
+pub mod Granting
 pub mod Laws

@@ -1,5 +1,5 @@
 -- One-to-one pairings of what an attestation carries (draft-michaelson-rpki-rta).
-use Rattle.std.specs.Prelude.{◌≡◌, ℕ, Bool, List, [], ◌∷◌, IsTrue}
+use Rattle.std.specs.Prelude.{◌≡◌, ℕ, Bool, true, List, [], ◌∷◌, IsTrue}
 use Rattle.rpki_paths.specs.Cert.{Cert, IsIn}
 use Rattle.rpki_paths.specs.Path.{IsDistinct}
 
@@ -20,11 +20,16 @@ IsPairing {B} R (x ∷ xs) (p ∷ partners) ys =
 abbrev pub IsPairable : {A B : Type 0} → (A → B → Type 0) → List A → List B → Type 0
 IsPairable {B} R xs ys = (partners : List B) × IsPairing R xs partners ys
 
--- Two items that one fits are fit by the same ones.
+-- Of the first list, the items that share one partner that fits have all their fitting partners in
+-- common.
 abbrev pub AreAlike : {A B : Type 0} → (A → B → Type 0) → List A → List B → Type 0
 AreAlike {A} {B} R xs ys =
     (x x' : A) (y y' : B) → IsIn x xs → IsIn x' xs → IsIn y ys → IsIn y' ys →
     R x y → R x y' → R x' y → R x' y'
+
+-- The two are a pair: the identifier that one seeks is the other's, and the verdict on them is yes.
+abbrev pub IsPair : {X Y : Type 0} → (X → List ℕ) → (Y → List ℕ) → (X → Y → Bool) → X → Y → Type 0
+IsPair sought held verdict x y = (sought x ≡ held y) × IsTrue (verdict x y)
 
 -- A carried CRL: its authority key identifier, its serials, and whether a key verifies it.
 pub record Crl : Type 0 where
@@ -49,15 +54,15 @@ pub record Carried : Type 0 where
 
 -- The signer has this subject key.
 abbrev pub HasKey : Signer → List ℕ → Type 0
-HasKey s key = s.sid ≡ key
+HasKey = IsPair (λ s. s.sid) (λ key. key) (λ s key. true)
 
 -- The signer names this end-entity certificate, whose key verifies it.
 abbrev pub IsVerifiedBy : Signer → Cert → Type 0
-IsVerifiedBy s e = (s.sid ≡ e.ski) × IsTrue (s.verifies e.key)
+IsVerifiedBy = IsPair (λ s. s.sid) (λ e. e.ski) (λ s e. s.verifies e.key)
 
 -- The CRL names this CA, whose key verifies it (RFC 6487, section 5).
 abbrev pub HasCrl : Cert → Crl → Type 0
-HasCrl d l = (l.aki ≡ d.ski) × IsTrue (l.verifies d.key)
+HasCrl = IsPair (λ d. d.ski) (λ l. l.aki) (λ d l. l.verifies d.key)
 
 -- Subject keys, signers and end-entity certificates pair off one to one, and so do CAs and CRLs.
 pub record IsMatching (a : Carried) (ees : List Cert) (crls : List Crl) : Type 0 where

@@ -1,14 +1,10 @@
 -- Pairing in carried order: each item takes the first of the others that fits it and is left.
 use Rattle.std.specs.Prelude.{◌≡◌, ℕ, Bool, true, false, List, [], ◌∷◌, ◌++◌, Some, IsTrue}
-use Rattle.std.specs.Prelude.{length, slice_get}
+use Rattle.std.specs.Prelude.{length, set, slice_get}
 use Rattle.rpki_paths.specs.declared.pairs.PairFault.{PairFault}
 use Rattle.rpki_paths.specs.declared.pairs.PairFault.TheVariants.{Unpaired, LeftOver, Memory}
-use Rattle.rpki_paths.specs.Cert.{IsIn}
+use Rattle.rpki_paths.specs.Cert.{IsIn, NoTwice}
 use Rattle.rpki_paths.specs.Pairing.{IsPairing}
-
--- The identifier that one seeks is the other's, and the verdict on the two is yes.
-abbrev pub Fits : {X Y : Type 0} → (X → List ℕ) → (Y → List ℕ) → (X → Y → Bool) → X → Y → Type 0
-Fits sought held verdict x y = (sought x ≡ held y) × IsTrue (verdict x y)
 
 -- The items that are not marked as taken.
 abbrev pub left_of : {A : Type 0} → List Bool → List A → List A
@@ -27,10 +23,12 @@ pub data IsFirst {A : Type 0} (P : A → Type 0) : A → List A → List A → T
 abbrev pub FitsNone : {A : Type 0} → (A → Type 0) → List A → Type 0
 FitsNone {A} P ys = (y : A) → IsIn y ys → ¬ (P y)
 
--- The item at this place is the first that fits of those that were left, and is marked alone.
+-- The item at this place is the first that fits of those that were left, and its mark alone changes.
 abbrev pub IsTakenAt : {A : Type 0} → (A → Type 0) → List A → List Bool → List Bool → ℕ → Type 0
 IsTakenAt {A} P ys old new place =
-    (y : A) × (slice_get ys place ≡ Some y) × IsFirst P y (left_of new ys) (left_of old ys)
+    (y : A) × (slice_get ys place ≡ Some y)
+    × (slice_get old place ≡ Some false) × (new ≡ set old place true)
+    × IsFirst P y (left_of new ys) (left_of old ys)
 
 -- Each in turn takes the first that fits of those that are left: the partners, and what remains.
 abbrev pub PairsOff : {A B : Type 0} → (A → B → Type 0) → List A → List B → List B → List B → Type 0
@@ -59,11 +57,13 @@ abbrev pub AllVerifyEach : {X Y : Type 0} → (X → List ℕ) → (Y → List �
 AllVerifyEach {X} {Y} sought held verdict xs ys =
     (x : X) → IsIn x xs → AllVerify sought held verdict x ys
 
--- The places are those of a pairing, in which each takes the first that fits of those left.
+-- The places, of which none stands twice, are those of a pairing, in which each takes the first that
+-- fits of those left.
 pub record ArePaired {A B : Type 0} (R : A → B → Type 0) (xs : List A) (ys : List B)
     (places : List ℕ) : Type 0 where
   pub partners : List B
   pub at_places : AreAt ys places partners
+  pub distinct : NoTwice places
   pub first : PairsOff R xs partners ys []
   pub pairing : IsPairing R xs partners ys
 

@@ -6,7 +6,8 @@ use std::marker::Model;
 use std::sync::ledger::{Blank, Book, Ledger, Share};
 
 /// How many verdicts on signatures were asked. It takes no octets, and only `count` changes it.
-/// Each call that answers a verdict takes it and raises it by one.
+/// Each verdict that pairings and walks ask raises it by one; those that a locator or a supplied CA
+/// asks do not.
 #[derive(Drop)]
 pub struct Asked<L: Ledger> {
     book: Book<L>,

@@ -31,11 +31,6 @@ pub trait Certificate: Copy {
     fn is_self_signed(&self) -> bool
         ensures { IsTrue result ↔ IsSelfSigned (cert self.now) };
 
-    /// Whether the key of another verifies its signature: one verdict, which is counted.
-    fn is_signed_by<L: Ledger>(&self, issuer: &Self, asked: &mut Asked<L>) -> bool
-        ensures says { result ≡ (cert self.now).verifies (cert issuer.now).key }
-        ensures counts { asked.new ≡ asked.old + 1 };
-
     /// Whether the CRL that is paired with it lists the serial number of another.
     fn revokes(&self, subject: &Self) -> bool
         ensures { result ≡ (cert self.now).revokes (cert subject.now).serial };
@@ -55,6 +50,15 @@ pub trait Certificate: Copy {
     /// What it claims of IPv6 addresses.
     fn v6(&self) -> &IpResources
         ensures { result.now ≡ (cert self.now).claim Family.V6 };
+}
+
+/// A carried certificate whose signature is asked about on this count, and on no other: a caller who
+/// knows no more of `L` has no count but the one that is handed in.
+pub trait Signed<L: Ledger>: Certificate {
+    /// Whether the key of another verifies its signature: one verdict, which is counted.
+    fn is_signed_by(&self, issuer: &Self, asked: &mut Asked<L>) -> bool
+        ensures says { result ≡ (Self.cert self.now).verifies (Self.cert issuer.now).key }
+        ensures counts { asked.new ≡ asked.old + 1 };
 }
 
 /// A trust anchor locator, for the heads of paths (RFC 8630).

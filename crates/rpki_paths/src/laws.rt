@@ -11,12 +11,15 @@ ghost use Rattle.rpki_paths.specs.Laws.{RefusedIsUnanchored, LeftOverIsUnpairabl
 ghost use Rattle.rpki_paths.specs.Laws.{UnpairedIsUnpairable};
 ghost use Rattle.rpki_paths.specs.Laws.{FinalIsDecided, UnanchoredIsRefused, RefusedHasNoPath};
 ghost use Rattle.rpki_paths.specs.Laws.{RefusedHasNoPaths};
+ghost use Rattle.rpki_paths.specs.Laws.{PairsAlongMap, PlacedAreAuthorities, UnmatchedIsNotAccepted};
+ghost use Rattle.rpki_paths.specs.Laws.{RefusalIsRight};
 ghost use Rattle.rpki_paths.specs.Laws.{KeptTellsTakes, FirstFitsArePairing};
 ghost use Rattle.rpki_paths.specs.Laws.{FirstFitsFindPairing, MatchingIsCheap, VerdictsAreFew};
 ghost use Rattle.rpki_paths.specs.Pairing.{HasKey, IsVerifiedBy, HasCrl};
 ghost use Rattle.rpki_paths.specs.Supplied.{supply_of, refusal_of};
-ghost use Rattle.rpki_paths.specs.Taking.{Fits};
+ghost use Rattle.rpki_paths.specs.Pairing.{IsPair};
 
+use crate::acceptance::{CarriedCert, CarriedSigner};
 use crate::certificate::{Certificate, Locator, SuppliedCa};
 use crate::pairs::Seeks;
 use rpki_resources::Number;
@@ -170,23 +173,44 @@ pub fn first_fits_find_pairing()
 
 /// What pairs off, each taking the first that fits, is a pairing, of whatever is paired.
 pub fn pairs_are_pairing<X: Seeks<Y>, Y>()
-    ensures { FirstFitsArePairing (Fits X.sought X.held X.verdict) }
+    ensures { FirstFitsArePairing (IsPair X.sought X.held X.verdict) }
 {}
 
 /// Where items that one fits are alike, taking the first that fits finds the pairing there is, of
 /// whatever is paired.
 pub fn pairs_are_found<X: Seeks<Y>, Y>()
-    ensures { FirstFitsFindPairing (Fits X.sought X.held X.verdict) }
+    ensures { FirstFitsFindPairing (IsPair X.sought X.held X.verdict) }
 {}
 
 /// Where some are left over there is no pairing.
 pub fn left_over_is_unpairable<X: Seeks<Y>, Y>()
-    ensures { LeftOverIsUnpairable (Fits X.sought X.held X.verdict) }
+    ensures { LeftOverIsUnpairable (IsPair X.sought X.held X.verdict) }
 {}
 
 /// Where items that one fits are alike, there is no pairing where they cannot be paired off.
 pub fn unpaired_is_unpairable<X: Seeks<Y>, Y>()
-    ensures { UnpairedIsUnpairable (Fits X.sought X.held X.verdict) }
+    ensures { UnpairedIsUnpairable (IsPair X.sought X.held X.verdict) }
+{}
+
+/// Handles pair off where what they stand for does, and where they do not, for the same reason.
+pub fn pairs_along_map<S: CarriedSigner<C>, C: CarriedCert<R>, R>()
+    ensures ees { PairsAlongMap S.signer C.cert (IsPair S.sought S.held S.verdict) IsVerifiedBy }
+    ensures crls { PairsAlongMap C.cert C.crl (IsPair C.sought C.held C.verdict) HasCrl }
+{}
+
+/// CAs with their CRLs, as walks see them, are the authorities of the definitions.
+pub fn placed_are_authorities<C: CarriedCert<R>, R>()
+    ensures { PlacedAreAuthorities C.cert C.crl }
+{}
+
+/// With distinct identifiers, where keys, signers or CAs are not paired off, no paths are accepted.
+pub fn unmatched_is_not_accepted()
+    ensures { UnmatchedIsNotAccepted }
+{}
+
+/// With distinct identifiers an attestation is refused only where no paths are accepted.
+pub fn refusal_is_right()
+    ensures { RefusalIsRight }
 {}
 
 /// With distinct identifiers a matching asks for one verdict of each signer and of each CA.

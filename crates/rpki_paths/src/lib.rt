@@ -2,7 +2,9 @@
 //! where it is anchored and which numbers it stands for, and the laws that decide them.
 #![tactic(auto)]
 
+mod acceptance;
 mod asked;
+mod attestation;
 mod certificate;
 mod decision;
 mod family;
@@ -16,13 +18,15 @@ mod supply;
 mod walker;
 mod walks;
 
+pub use acceptance::{AcceptFault, Attestation, CarriedCert, CarriedSigner, accept};
 pub use asked::Asked;
-pub use certificate::{Certificate, KeyId, Locator, SuppliedCa};
+pub use attestation::{GrantFault, grant};
+pub use certificate::{Certificate, KeyId, Locator, Signed, SuppliedCa};
 pub use decision::{Attested, FinalFault, finalize};
 pub use family::Family;
 pub use kept::{Kept, climbed, covers_kept, raised, set_covers_kept};
 pub use overclaim::Overclaim;
-pub use pairs::{PairFault, Seeks, pair_off, take_first};
+pub use pairs::{Accepts, PairFault, Seeks, pair_off, take_first};
 pub use places::Places;
 pub use sets::KeptSets;
 pub use supply::{Supplied, SupplyFault, supply_all, supply_each};

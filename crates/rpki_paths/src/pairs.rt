@@ -4,7 +4,8 @@ ghost use Rattle.std.specs.Prelude.{◌≡◌, ◌≤◌, ◌+◌, ◌*◌, ℕ,
 ghost use Rattle.std.specs.Prelude.{IsTrue, IsFalse, IfOk, IfErr, IfNone, IfSome, OnOk};
 ghost use Rattle.rpki_paths.specs.declared.pairs.PairFault.{PairFault};
 ghost use Rattle.rpki_paths.specs.Index.{IsIndex};
-ghost use Rattle.rpki_paths.specs.Taking.{Fits, left_of, FitsNone, IsTakenAt};
+ghost use Rattle.rpki_paths.specs.Taking.{left_of, FitsNone, IsTakenAt};
+ghost use Rattle.rpki_paths.specs.Pairing.{IsPair};
 ghost use Rattle.rpki_paths.specs.Taking.{AllVerify, AllVerifyEach, ArePaired, AreUnpaired};
 
 use crate::asked::Asked;
@@ -35,10 +36,17 @@ pub trait Seeks<Y> {
     fn identifier(other: &Y) -> KeyId
         ensures { result ≡ held other.now };
 
+    // What costs no verdict on a signature depends on none.
+    ghost free_is_yes: { (x : Self) (y : Y) → price ≡ 0 → IsTrue (verdict x y) };
+}
+
+/// What takes one of some others, where the verdict on the two is asked on this count, and on no
+/// other.
+pub trait Accepts<Y, L: Ledger>: Seeks<Y> {
     /// The verdict on the two.
-    fn accepts<L: Ledger>(&self, other: &Y, asked: &mut Asked<L>) -> bool
-        ensures says { result ≡ verdict self.now other.now }
-        ensures counts { asked.new ≡ asked.old + price };
+    fn accepts(&self, other: &Y, asked: &mut Asked<L>) -> bool
+        ensures says { result ≡ Self.verdict self.now other.now }
+        ensures counts { asked.new ≡ asked.old + Self.price };
 }
 
 /// Why items cannot be paired.
@@ -61,7 +69,7 @@ impl From<AllocError> for PairFault {
 }
 
 // The verdict on an item that is left. One that is taken costs none.
-fn accepts_left<X: Seeks<Y>, Y, L: Ledger>(
+fn accepts_left<X: Accepts<Y, L>, Y, L: Ledger>(
     taker: &X,
     other: &Y,
     is_taken: bool,
@@ -81,7 +89,7 @@ fn accepts_left<X: Seeks<Y>, Y, L: Ledger>(
 
 /// Takes the first of some others that fits and is left, and answers its place. The index has the
 /// others' identifiers, and a mark stands for each of them: whether it is taken.
-pub fn take_first<X: Seeks<Y>, Y, L: Ledger>(
+pub fn take_first<X: Accepts<Y, L>, Y, L: Ledger>(
     taker: &X,
     others: &[Y],
     index: &Places,
@@ -90,10 +98,10 @@ pub fn take_first<X: Seeks<Y>, Y, L: Ledger>(
 ) -> Option<usize>
     requires index { IsIndex (map X.held others.now) index.now }
     requires as_many { length taken.old ≡ length others.now }
-    ensures first { IfSome result (IsTakenAt (Fits X.sought X.held X.verdict taker.now)
+    ensures first { IfSome result (IsTakenAt (IsPair X.sought X.held X.verdict taker.now)
         others.now taken.old taken.new) }
     ensures none { IfNone result
-        (FitsNone (Fits X.sought X.held X.verdict taker.now) (left_of taken.old others.now)) }
+        (FitsNone (IsPair X.sought X.held X.verdict taker.now) (left_of taken.old others.now)) }
     ensures unchanged { IfNone result (taken.new ≡ taken.old) }
     ensures as_many { length taken.new ≡ length taken.old }
     ensures cost { AllVerify X.sought X.held X.verdict taker.now (left_of taken.old others.now) →
@@ -131,19 +139,19 @@ pub(crate) fn append<T: Drop>(items: &mut Vec<T>, item: T) -> Result<(), AllocEr
 }
 
 /// Pairs each of some items with one of the others: in order, each takes the first that fits and is
-/// left. Answers the places of the partners. An error is the first item that finds none, others
-/// that are left over, or want of memory. Where others are left over there is no pairing at all; nor
-/// where an item finds none, if those that one item fits are alike.
-pub fn pair_off<X: Seeks<Y>, Y, L: Ledger>(
+/// left. Answers the places of the partners, none of them twice. An error is the first item that
+/// finds none, others that are left over, or want of memory. Where others are left over there is no
+/// pairing at all; nor where an item finds none, if those that one item fits are alike.
+pub fn pair_off<X: Accepts<Y, L>, Y, L: Ledger>(
     alloc: Global,
     takers: &[X],
     others: &[Y],
     asked: &mut Asked<L>,
 ) -> Result<Vec<usize>, PairFault>
     ensures paired { IfOk result (λ places.
-        ArePaired (Fits X.sought X.held X.verdict) takers.now others.now places.items) }
+        ArePaired (IsPair X.sought X.held X.verdict) takers.now others.now places.items) }
     ensures refused { IfErr result
-        (AreUnpaired (Fits X.sought X.held X.verdict) takers.now others.now) }
+        (AreUnpaired (IsPair X.sought X.held X.verdict) takers.now others.now) }
     ensures cost { OnOk result
         (AllVerifyEach X.sought X.held X.verdict takers.now others.now →
         asked.new ≤ asked.old + X.price * length takers.now) }

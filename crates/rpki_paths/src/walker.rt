@@ -11,7 +11,7 @@ ghost use Rattle.rpki_paths.specs.Cert.{at_place};
 ghost use Rattle.rpki_paths.specs.Walk.{KeepsMarks, placed};
 
 use crate::asked::Asked;
-use crate::certificate::Certificate;
+use crate::certificate::Signed;
 use crate::family::Family;
 use crate::places::Places;
 use crate::sets::KeptSets;
@@ -63,7 +63,7 @@ pub enum Found {
 }
 
 // The first of the named CAs whose key verifies the certificate.
-fn find_issuer<C: Certificate, L: Ledger>(
+fn find_issuer<C: Signed<L>, L: Ledger>(
     cert: &C,
     cas: &[C],
     named: &[usize],
@@ -97,7 +97,7 @@ fn find_issuer<C: Certificate, L: Ledger>(
 /// index has the CAs' subject key identifiers. A mark stands for each CA: the number of the walk
 /// that last took it. An error is the first cause, of the certificate where the walk stops, in the
 /// order of `PathFault`, or want of memory.
-pub fn walk<C: Certificate, L: Ledger>(
+pub fn walk<C: Signed<L>, L: Ledger>(
     alloc: Global,
     ee: &C,
     cas: &[C],

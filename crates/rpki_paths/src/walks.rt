@@ -8,7 +8,7 @@ ghost use Rattle.rpki_paths.specs.Path.{IsDistinct};
 ghost use Rattle.rpki_paths.specs.Walk.{placed};
 
 use crate::asked::Asked;
-use crate::certificate::{Certificate, KeyId};
+use crate::certificate::{Certificate, KeyId, Signed};
 use crate::pairs::append;
 use crate::places::Places;
 use crate::walker::{Path, PathFault, walk};
@@ -76,7 +76,7 @@ fn unmarked(marks: &[u64]) -> usize
 /// Walks from each of some end-entity certificates up the CAs, in order. The first that has no path
 /// ends the call with the cause; then a CA that stands on no path is an error, or want of memory.
 /// Among CAs with distinct identifiers each walk asks for at most one verdict of each CA.
-pub fn walk_each<C: Certificate, L: Ledger>(
+pub fn walk_each<C: Signed<L>, L: Ledger>(
     alloc: Global,
     ees: &[C],
     cas: &[C],

@@ -1,11 +1,13 @@
-//! Tests of `rpki_paths`: rows of certificates that one function walks, each with what it must
-//! answer. The rows stand in the drafts' worked examples or follow from them by hand.
+//! Tests of `rpki_paths`: rows of certificates that are walked, of items that are paired and of whole
+//! attestations, each with what must be answered. The answers follow from the draft by hand.
 #![tactic(auto)]
 
 mod anchor;
 
 pub use anchor::NoAnchor;
 
+#[cfg(test)]
+mod grants;
 #[cfg(test)]
 mod pairs;
 #[cfg(test)]

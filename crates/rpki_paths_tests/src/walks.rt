@@ -95,7 +95,7 @@ fn plains(alloc: Global, family: Family, rows: &[Row]) -> Result<Vec<Plain>, All
 fn seen<'a>(alloc: Global, plains: &'a [Plain]) -> Result<Vec<Seen<'a>>, AllocError> {
     let mut seen = Vec::new(alloc);
     for plain in plains {
-        seen.push(Seen(plain))?;
+        seen.push(Seen(plain, plain.revoked.as_slice()))?;
     }
     Ok(seen)
 }
@@ -181,20 +181,24 @@ fn decided<'a>(
 ) -> Result<Answer, AllocError> {
     let pairs = pairs(alloc, family, given)?;
     let supplies = supplies(alloc, given, &pairs)?;
-    match supply_all(paths, &supplies) {
-        Ok(()) => {}
-        Err(SupplyFault::Memory) => return Err(AllocError),
-        Err(fault) => {
-            let anchored = paths.iter().filter(|path| path.anchored).count();
-            return Ok(Answer::NotSupplied(fault, anchored));
-        }
-    }
     let sets = above(alloc, family, 0, attested)?;
     let attested = Attested {
         asn: &sets.asn,
         v4: &sets.v4,
         v6: &sets.v6,
     };
+    match supply_all(paths, &supplies) {
+        Ok(()) => {}
+        Err(SupplyFault::Memory) => return Err(AllocError),
+        Err(fault) => {
+            let anchored = paths.iter().filter(|path| path.anchored).count();
+            // the path that is declined is not anchored, so the end says no for that
+            return match finalize(alloc, paths, &attested) {
+                Err(FinalFault::NotAnchored) => Ok(Answer::NotSupplied(fault, anchored)),
+                _ => Ok(Answer::Granted),
+            };
+        }
+    }
     match finalize(alloc, paths, &attested) {
         Ok(()) => Ok(Answer::Granted),
         Err(FinalFault::Memory) => Err(AllocError),
@@ -599,13 +603,15 @@ static HEADS: [Row; 3] = [
 ];
 
 /// Supplies that are handed in one after the other, and what each answers.
-static SINGLES: [(Given, Result<bool, SupplyFault<NoAnchor>>); 6] = [
-    (Given::Tal(2), Ok(false)),
+static SINGLES: [(Given, Result<bool, SupplyFault<NoAnchor>>); 7] = [
     (Given::Ca(7, 2, 9), Err(SupplyFault::NotCovered(Family::V6))),
     (Given::Ca(7, 1, 9), Ok(false)),
     // the path is anchored already
     (Given::Ca(7, 2, 9), Ok(false)),
-    (Given::Ca(8, 1, 9), Ok(true)),
+    (Given::Ca(8, 1, 9), Ok(false)),
+    // of another key, and of its own
+    (Given::Tal(3), Ok(false)),
+    (Given::Tal(2), Ok(true)),
     // meant for none
     (Given::Ca(9, 1, 1), Ok(true)),
 ];
@@ -632,7 +638,7 @@ fn are_answered_alone(alloc: Global) -> Result<bool, AllocError> {
     let heads = plains(alloc, Family::V6, &HEADS)?;
     let mut paths = Vec::new(alloc);
     for head in &heads {
-        paths.push(alone(alloc, Seen(head))?)?;
+        paths.push(alone(alloc, Seen(head, head.revoked.as_slice()))?)?;
     }
     for (given, want) in &SINGLES {
         if !is_answered_alone(alloc, &mut paths, *given, want)? {

@@ -5,7 +5,8 @@ use Rattle.std.proofs.Math.Nat.{mul-suc}
 use Rattle.std.proofs.lemmas.Option.{slice_get_read}
 use Rattle.std.proofs.lemmas.List.{take_more, take_all, length-replicate}
 use Rattle.rpki_paths.specs.Index.{IsIndex}
-use Rattle.rpki_paths.specs.Taking.{Fits, IsTakenAt, FitsNone, left_of}
+use Rattle.rpki_paths.specs.Taking.{IsTakenAt, FitsNone, left_of}
+use Rattle.rpki_paths.specs.Pairing.{IsPair}
 use Rattle.rpki_paths.proofs.Walking.{get_in}
 use Rattle.rpki_paths.proofs.PairingOff.{IsPairingOff, pairing_none, pairing_more, pairing_stops}
 use Rattle.rpki_paths.proofs.PairingOff.{pairing_done, pairing_leaves, written_back, split_at, left_in}
@@ -15,7 +16,7 @@ pub loop-i-init : goal.loop-i-init
 loop-i-init g c =
     let none = c.in_ok-taken.ensures.items_if_clones_equal (λ y e. e) in (
       ap length none ∙ length-replicate (length c.args.others.now) _,
-      pairing_none (Fits g.X.Seeks.sought g.X.Seeks.held g.X.Seeks.verdict) c.args.takers.now
+      pairing_none (IsPair g.X.Seeks.sought g.X.Seeks.held g.X.Seeks.verdict) c.args.takers.now
           c.args.others.now c.in_ok-taken.taken.items c.new-places.result.items none
           c.new-places.ensures.items,
       λ each. omega arith,
@@ -28,7 +29,7 @@ take_first-requires-clause-index g c =
 
 pub returns-in-None-clause-refused : goal.returns-in-None-clause-refused
 returns-in-None-clause-refused g c =
-    let R = Fits g.X.Seeks.sought g.X.Seeks.held g.X.Seeks.verdict in
+    let R = IsPair g.X.Seeks.sought g.X.Seeks.held g.X.Seeks.verdict in
     let takers = c.args.takers.now in
     let i = c.loop-i.i in
     let at_i = slice_get_read takers (length takers) i _ refl c.loop-i-test.true
@@ -41,7 +42,7 @@ returns-in-None-clause-refused g c =
 
 pub loop-i-preserved : goal.loop-i-preserved
 loop-i-preserved g c =
-    let R = Fits g.X.Seeks.sought g.X.Seeks.held g.X.Seeks.verdict in
+    let R = IsPair g.X.Seeks.sought g.X.Seeks.held g.X.Seeks.verdict in
     let takers = c.args.takers.now in
     let others = c.args.others.now in
     let i = c.loop-i.i in
@@ -73,14 +74,14 @@ loop-i-preserved g c =
 
 pub returns-then-takers-others-clause-refused : goal.returns-then-takers-others-clause-refused
 returns-then-takers-others-clause-refused g c =
-    pairing_leaves (Fits g.X.Seeks.sought g.X.Seeks.held g.X.Seeks.verdict) c.args.takers.now
+    pairing_leaves (IsPair g.X.Seeks.sought g.X.Seeks.held g.X.Seeks.verdict) c.args.takers.now
     c.args.others.now c.loop-i.taken.items c.loop-i.places.items c.loop-i.i c.loop-i.invariant.1
     (take_all c.loop-i.i c.args.takers.now (omega (arith, c.loop-i-test.false)))
     c.if-takers-others.true
 
 pub returns-clause-paired : goal.returns-clause-paired
 returns-clause-paired g c =
-    pairing_done (Fits g.X.Seeks.sought g.X.Seeks.held g.X.Seeks.verdict) c.args.takers.now
+    pairing_done (IsPair g.X.Seeks.sought g.X.Seeks.held g.X.Seeks.verdict) c.args.takers.now
     c.args.others.now c.loop-i.taken.items c.loop-i.places.items c.loop-i.i c.loop-i.invariant.1
     (take_all c.loop-i.i c.args.takers.now (omega (arith, c.loop-i-test.false)))
     (omega (arith, c.if-takers-others.false))

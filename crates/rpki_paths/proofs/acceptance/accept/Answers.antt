@@ -1,0 +1,119 @@
+-- What is paired and walked is accepted, and each refusal has its cause.
+use Rattle.std.proofs.Common.{◌≤◌, ◌+◌, ◌*◌, length, map, sym, ◌∙◌, subst}
+use Rattle.rpki_paths.specs.Accepting.{carried_of}
+use Rattle.rpki_paths.specs.Cert.{Cert}
+use Rattle.rpki_paths.specs.Grant.{AreValid}
+use Rattle.rpki_paths.specs.Kept.{AreWalked, AreRefused}
+use Rattle.rpki_paths.specs.Pairing.{IsMatching, Signer}
+use Rattle.rpki_paths.specs.Path.{IsDistinct}
+use Rattle.rpki_paths.specs.Walk.{placed}
+use Rattle.rpki_paths.proofs.Accepting.{all_in, not_all, few_verdicts}
+use Rattle.rpki_paths.proofs.acceptance.accept.Goals as goal
+
+pub returns-then-not-good_ees-clause-refused : goal.returns-then-not-good_ees-clause-refused
+returns-then-not-good_ees-clause-refused g c = λ valid.
+    not_all g.C.Certificate.cert (λ (x : Cert). x.is_valid) c.args.a.now.ees.now
+    (sym c.are_valid-good_ees.ensures ∙ c.if-not-good_ees.true) valid.ees
+
+pub returns-then-not-good_cas-clause-refused : goal.returns-then-not-good_cas-clause-refused
+returns-then-not-good_cas-clause-refused g c = λ valid.
+    not_all g.C.Certificate.cert (λ (x : Cert). x.is_valid) c.args.a.now.cas.now
+    (sym c.are_valid-good_cas.ensures ∙ c.if-not-good_cas.true) valid.cas
+
+pub returns-then-not-good_digests-clause-refused :
+    goal.returns-then-not-good_digests-clause-refused
+returns-then-not-good_digests-clause-refused g c =
+    not_all g.S.CarriedSigner.signer (λ (s : Signer). s.digest_holds) c.args.a.now.signers.now
+    (sym c.have_digest-good_digests.ensures ∙ c.if-not-good_digests.true)
+
+pub returns-in-Ok-clause-accepted : goal.returns-in-Ok-clause-accepted
+returns-in-Ok-clause-accepted g c =
+    let cert = g.C.Certificate.cert in
+    let signer = g.S.CarriedSigner.signer in
+    let crl = g.C.CarriedCert.crl in
+    let a = carried_of signer cert crl c.args.a.now in
+    let listed = c.in_ok-cas.ensures.listed in
+    let ees = c.in_ok-ees.ees.items in
+    let matching : IsMatching a (map cert ees) listed.0 = record {
+      keys = c.in_ok-take_keys.ensures.paired;
+      digests = all_in signer (λ (s : Signer). s.digest_holds) c.args.a.now.signers.now
+          (sym c.have_digest-good_digests.ensures ∙ c.if-not-good_digests.false);
+      signed = c.in_ok-ees.ensures.paired;
+      crl_of = listed.1;
+    } in
+    let seen_ees = c.as_slice-seen_ees.ensures.value in
+    let seen_cas = c.as_slice-seen_cas.ensures.value in
+    let valid : AreValid a = record {
+      ees = all_in cert (λ (x : Cert). x.is_valid) c.args.a.now.ees.now
+          (sym c.are_valid-good_ees.ensures ∙ c.if-not-good_ees.false);
+      cas = all_in cert (λ (x : Cert). x.is_valid) c.args.a.now.cas.now
+          (sym c.are_valid-good_cas.ensures ∙ c.if-not-good_cas.false);
+    } in
+    record {
+      ees = map cert ees;
+      crls = listed.0;
+      valid = valid;
+      matching = matching;
+      walked = subst (λ l. AreWalked cert l (map cert ees) c.in-Ok.paths.items) listed.2
+          (subst (λ l. AreWalked cert (placed cert 1 l) (map cert ees) c.in-Ok.paths.items) seen_cas
+          (subst (λ l. AreWalked cert (placed cert 1 c.as_slice-seen_cas.result.now) (map cert l)
+          c.in-Ok.paths.items) seen_ees c.in-Ok.ensures.paths));
+    }
+
+pub returns-in-Ok-clause-cost : goal.returns-in-Ok-clause-cost
+returns-in-Ok-clause-cost g c = λ dist. (
+    let cert = g.C.Certificate.cert in
+    let signer = g.S.CarriedSigner.signer in
+    let crl = g.C.CarriedCert.crl in
+    let a = carried_of signer cert crl c.args.a.now in
+    let listed = c.in_ok-cas.ensures.listed in
+    let ees = c.in_ok-ees.ees.items in
+    let matching : IsMatching a (map cert ees) listed.0 = record {
+      keys = c.in_ok-take_keys.ensures.paired;
+      digests = all_in signer (λ (s : Signer). s.digest_holds) c.args.a.now.signers.now
+          (sym c.have_digest-good_digests.ensures ∙ c.if-not-good_digests.false);
+      signed = c.in_ok-ees.ensures.paired;
+      crl_of = listed.1;
+    } in
+    let seen_ees = c.as_slice-seen_ees.ensures.value in
+    let seen_cas = c.as_slice-seen_cas.ensures.value in
+    let walked = c.walk_each.new.asked in
+    let signed = c.take_ees.new.asked in
+    let cas = c.in_ok-cas.cas.items in
+    let of_walks =
+    subst (λ l. IsDistinct (placed cert 1 cas) → walked ≤ signed + length l * length cas) seen_ees
+    (subst (λ l. IsDistinct (placed cert 1 l) →
+    walked ≤ signed + length c.as_slice-seen_ees.result.now * length l) seen_cas
+    c.in-Ok.ensures.cost) in
+    few_verdicts signer cert crl c.args.a.now.subject_keys.now c.args.a.now.signers.now
+    c.args.a.now.ees.now c.args.a.now.cas.now c.args.a.now.crls.now ees cas listed.0
+    c.args.asked.now c.list_cas.new.asked c.take_keys.new.asked signed walked dist matching
+    listed.2 c.in_ok-cas.ensures.cost c.in_ok-take_keys.ensures.cost c.in_ok-ees.ensures.cost
+    of_walks)
+
+pub returns-clause-refused : goal.returns-clause-refused
+returns-clause-refused g c =
+    let cert = g.C.Certificate.cert in
+    let signer = g.S.CarriedSigner.signer in
+    let crl = g.C.CarriedCert.crl in
+    let a = carried_of signer cert crl c.args.a.now in
+    let listed = c.in_ok-cas.ensures.listed in
+    let ees = c.in_ok-ees.ees.items in
+    let matching : IsMatching a (map cert ees) listed.0 = record {
+      keys = c.in_ok-take_keys.ensures.paired;
+      digests = all_in signer (λ (s : Signer). s.digest_holds) c.args.a.now.signers.now
+          (sym c.have_digest-good_digests.ensures ∙ c.if-not-good_digests.false);
+      signed = c.in_ok-ees.ensures.paired;
+      crl_of = listed.1;
+    } in
+    let seen_ees = c.as_slice-seen_ees.ensures.value in
+    let seen_cas = c.as_slice-seen_cas.ensures.value in
+    let fault = c.in-Err.fault in (
+      map cert ees,
+      listed.0,
+      matching,
+      subst (λ l. AreRefused fault l (map cert ees)) listed.2
+          (subst (λ l. AreRefused fault (placed cert 1 l) (map cert ees)) seen_cas
+          (subst (λ l. AreRefused fault (placed cert 1 c.as_slice-seen_cas.result.now) (map cert l))
+          seen_ees c.in-Err.ensures.refused)),
+    )

@@ -1,0 +1,68 @@
+-- What the checks of a whole attestation answer (draft-michaelson-rpki-rta).
+use Rattle.std.specs.Prelude.{◌≡◌, List, map, IsTrue}
+use Rattle.rpki_paths.specs.declared.acceptance.AcceptFault.{AcceptFault}
+use Rattle.rpki_paths.specs.declared.acceptance.AcceptFault.TheVariants.{NotValid, Crls, Keys, Digest}
+use Rattle.rpki_paths.specs.declared.acceptance.AcceptFault.TheVariants.{Signers, Walks, Memory}
+use Rattle.rpki_paths.specs.declared.acceptance.Attestation.{Attestation}
+use Rattle.rpki_paths.specs.declared.pairs.PairFault.TheVariants.{Memory as PairMemory}
+use Rattle.rpki_paths.specs.declared.walker.Path.{Path}
+use Rattle.rpki_paths.specs.declared.walks.WalksFault.TheVariants.{Memory as WalksMemory}
+use Rattle.rpki_paths.specs.Cert.{Cert, IsIn}
+use Rattle.rpki_paths.specs.Pairing.{Carried, Crl, Signer, IsPairing, IsMatching}
+use Rattle.rpki_paths.specs.Pairing.{HasKey, IsVerifiedBy, HasCrl}
+use Rattle.rpki_paths.specs.Taking.{AreUnpaired}
+use Rattle.rpki_paths.specs.Walk.{placed}
+use Rattle.rpki_paths.specs.Grant.{authorities, AreValid}
+use Rattle.rpki_paths.specs.Kept.{AreRefused, AreWalked}
+
+-- What an attestation carries, as its handles stand for it.
+abbrev pub carried_of : {S C R : Type 0} → (S → Signer) → (C → Cert) → (R → Crl) →
+    Attestation S C R → Carried
+carried_of signer cert crl a = record {
+  subject_keys = a.subject_keys.now;
+  signers = map signer a.signers.now;
+  ees = map cert a.ees.now;
+  cas = map cert a.cas.now;
+  crls = map crl a.crls.now;
+}
+
+-- These are the CAs, each with the CRL that a pairing gives it, as walks see them.
+abbrev pub AreListed : {C : Type 0} → (C → Cert) → Carried → List C → Type 0
+AreListed cert a cas =
+    (crls : List Crl) × IsPairing HasCrl a.cas crls a.crls × (placed cert 1 cas ≡ authorities a crls)
+
+-- Every certificate is valid, all is paired, and this is kept of the paths of the certificates of
+-- the signers, on which every carried CA stands.
+pub record AreAccepted {C : Type 0} (cert : C → Cert) (a : Carried) (kept : List (Path C)) :
+    Type 0 where
+  pub ees : List Cert
+  pub crls : List Crl
+  pub valid : AreValid a
+  pub matching : IsMatching a ees crls
+  pub walked : AreWalked cert (authorities a crls) ees kept
+
+-- Every signer has the digest of the content.
+abbrev pub HaveDigest : Carried → Type 0
+HaveDigest a = (s : Signer) → IsIn s a.signers → IsTrue s.digest_holds
+
+-- Why an attestation is not accepted.
+abbrev pub WhyNot : Carried → AcceptFault → Type 0
+WhyNot a NotValid = ¬ (AreValid a)
+WhyNot a (Crls fault) = AreUnpaired HasCrl a.cas a.crls fault
+WhyNot a (Keys fault) = AreUnpaired HasKey a.signers a.subject_keys fault
+WhyNot a Digest = ¬ (HaveDigest a)
+WhyNot a (Signers fault) = AreUnpaired IsVerifiedBy a.signers a.ees fault
+WhyNot a (Walks fault) =
+    (ees : List Cert) × (crls : List Crl) × IsMatching a ees crls
+    × AreRefused fault (authorities a crls) ees
+WhyNot a Memory = Unit {0}
+
+-- Memory was wanting.
+abbrev pub WantsMemory : AcceptFault → Type 0
+WantsMemory NotValid = ⊥
+WantsMemory (Crls fault) = fault ≡ PairMemory
+WantsMemory (Keys fault) = fault ≡ PairMemory
+WantsMemory Digest = ⊥
+WantsMemory (Signers fault) = fault ≡ PairMemory
+WantsMemory (Walks fault) = fault ≡ WalksMemory
+WantsMemory Memory = Unit {0}
