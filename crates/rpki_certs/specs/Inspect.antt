@@ -91,7 +91,7 @@ ta_checks t = subject_checks t ++ (authority_checks t ++ anchor_checks t)
 abbrev pub ca_checks : Tbs → List (Check InspectionError)
 ca_checks t = subject_checks t ++ (issued_checks t ++ authority_checks t)
 
--- The certificate of an end entity that signed an object without its place of publication fits the
+-- The certificate of an end entity that signed an object which need not be published fits the
 -- profile (RFC 9323, section 2).
 abbrev pub detached_ee_checks : Tbs → List (Check InspectionError)
 detached_ee_checks t =

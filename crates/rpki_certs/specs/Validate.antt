@@ -29,18 +29,20 @@ pub record Validated : Type 0 where
   pub cert : KeptCertificate
   pub sets : Sets
 
--- The issuer has what is claimed of each family, where a claim of too much is refused (RFC 6487,
--- section 7.2).
+-- The claim of AS numbers has to be allowed under the issuer's set: where a claim of too much is
+-- refused, the issuer has all that is claimed (RFC 6487, section 7.2).
 abbrev pub as_check : Claims → Sets → Check ValidationError
 as_check x issuer =
     Verification (Overclaimed As)
     unless IsAllowed (λ (n : ℕ). n) x.policy x.as_numbers issuer.as_numbers
 
+-- The claim of IPv4 addresses has to be, in the same way.
 abbrev pub v4_check : Claims → Sets → Check ValidationError
 v4_check x issuer =
     Verification (Overclaimed V4)
     unless IsAllowed (λ (n : ℕ). n) x.policy x.addresses.v4 issuer.v4
 
+-- The claim of IPv6 addresses has to be, in the same way.
 abbrev pub v6_check : Claims → Sets → Check ValidationError
 v6_check x issuer =
     Verification (Overclaimed V6)
@@ -50,7 +52,7 @@ v6_check x issuer =
 abbrev pub covering_checks : Claims → Sets → List (Check ValidationError)
 covering_checks x issuer = as_check x issuer ∷ v4_check x issuer ∷ v6_check x issuer ∷ []
 
--- The same, as facts.
+-- The claims of each family are allowed under these sets.
 pub record AreAllowed (x : Claims) (issuer : Sets) : Type 0 where
   pub as_numbers : IsAllowed (λ (n : ℕ). n) x.policy x.as_numbers issuer.as_numbers
   pub v4 : IsAllowed (λ (n : ℕ). n) x.policy x.addresses.v4 issuer.v4
@@ -83,8 +85,8 @@ issuing_checks verdict c issuer now =
     claim_checks issuer.tbs c.tbs
     ++ (validity_checks c.tbs.validity now ++ signature_checks verdict issuer.tbs.key c)
 
--- What is checked of a certificate that fits the profile, under an issuer that was validated: it is
--- verified, and then its claims are looked at.
+-- What is checked of a certificate under an issuer that was validated: it is verified, and then its
+-- claims are looked at.
 abbrev pub issued_validation : Verdict → Certificate → Validated → Moment
     → List (Check ValidationError)
 issued_validation verdict c issuer now =

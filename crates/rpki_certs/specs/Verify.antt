@@ -1,4 +1,4 @@
--- What is verified of a certificate that fits the profile, and in which order.
+-- What is verified of a certificate, and in which order.
 use Rattle.std.specs.Prelude.{◌≡◌, ◌≤◌, ℕ, List, [], ◌∷◌, ◌++◌, Bool, true, Some}
 use Rattle.rpki_basics.specs.Moment.{Moment, Period, stamp}
 use Rattle.rpki_faults.specs.Checks.{Check, ◌unless◌}
@@ -17,14 +17,17 @@ abbrev pub IsClaimedOf : Tbs → Tbs → Type 0
 IsClaimedOf issuer t =
     t.extensions.key.authority_key ≡ Some issuer.extensions.key.subject_key
 
--- The moment lies in the time in which the certificate is valid, both of whose ends belong to it
--- (RFC 5280, section 4.1.2.5).
+-- The time in which the certificate is valid has begun: its first moment belongs to it (RFC 5280,
+-- section 4.1.2.5).
 abbrev pub HasBegun : Period → Moment → Type 0
 HasBegun p now = stamp p.not_before ≤ stamp now
 
+-- The time in which the certificate is valid has not ended: its last moment belongs to it (RFC
+-- 5280, section 4.1.2.5).
 abbrev pub HasNotEnded : Period → Moment → Type 0
 HasNotEnded p now = stamp now ≤ stamp p.not_after
 
+-- The moment lies in the time in which the certificate is valid: both hold.
 abbrev pub IsInTime : Period → Moment → Type 0
 IsInTime p now = HasBegun p now × HasNotEnded p now
 

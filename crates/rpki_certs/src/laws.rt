@@ -3,7 +3,8 @@
 ghost use Rattle.rpki_der.specs.Read.Exact.{IsReading};
 ghost use Rattle.std.specs.Prelude.{◌↔◌};
 ghost use Rattle.rpki_basics.specs.Moment.{Moment};
-ghost use Rattle.rpki_faults.specs.Checks.{AllHold};
+ghost use Rattle.rpki_faults.specs.Checks.{AllHold, IsFirstFault};
+ghost use Rattle.rpki_faults.specs.declared.validation.ValidationError.{ValidationError};
 ghost use Rattle.rpki_extensions.specs.declared.claims.Claims.{Claims};
 ghost use Rattle.rpki_certs.specs.Cert.{Certificate, CertForm, cert_at};
 ghost use Rattle.rpki_certs.specs.Inspect.{ta_checks, ca_checks, ee_checks, detached_ee_checks};
@@ -43,6 +44,28 @@ pub fn valid_certificates()
     ensures detached { (verdict : Verdict) (c : Certificate) (issuer : Validated)
         (now : Moment) → AllHold (detached_ee_validation verdict c issuer now)
         ↔ (AllHold (detached_ee_checks c.tbs) × IsGoodUnder verdict c issuer now) }
+{}
+
+/// What a refusal of `validate_ta_at` means, unless memory ran out: the certificate does not fit
+/// the profile, or is not good at this moment.
+pub fn refused_anchors()
+    ensures { (verdict : Verdict) (c : Certificate) (now : Moment) (fault : ValidationError) →
+        IsFirstFault (ta_validation verdict c now) fault
+        → ¬ (AllHold (ta_checks c.tbs) × IsGoodAnchor verdict c now) }
+{}
+
+/// What a refusal of the other validations means, unless memory ran out: the certificate does not
+/// fit the profile of its kind, or is not good under the issuer.
+pub fn refused_certificates()
+    ensures ca { (verdict : Verdict) (c : Certificate) (issuer : Validated) (now : Moment)
+        (fault : ValidationError) → IsFirstFault (ca_validation verdict c issuer now) fault
+        → ¬ (AllHold (ca_checks c.tbs) × IsGoodUnder verdict c issuer now) }
+    ensures ee { (verdict : Verdict) (c : Certificate) (issuer : Validated) (now : Moment)
+        (fault : ValidationError) → IsFirstFault (ee_validation verdict c issuer now) fault
+        → ¬ (AllHold (ee_checks c.tbs) × IsGoodUnder verdict c issuer now) }
+    ensures detached { (verdict : Verdict) (c : Certificate) (issuer : Validated) (now : Moment)
+        (fault : ValidationError) → IsFirstFault (detached_ee_validation verdict c issuer now) fault
+        → ¬ (AllHold (detached_ee_checks c.tbs) × IsGoodUnder verdict c issuer now) }
 {}
 
 /// What is validated under an issuer lies in the sets of the issuer, in each family.

@@ -3,7 +3,7 @@
 ghost use Rattle.std.specs.Prelude.{◌≡◌, IfOk, option_map};
 ghost use Rattle.std.specs.List.{list_all};
 ghost use Rattle.rpki_der.specs.Form.Keyed.{are_distinct, with_key, has_key};
-ghost use Rattle.rpki_der.specs.Read.Reads.{Reads};
+ghost use Rattle.rpki_der.specs.Read.Reads.{Reads, Stays};
 ghost use Rattle.rpki_extensions.specs.Extension.{extension_fields_at, oid_of, may_stand};
 ghost use Rattle.rpki_extensions.specs.Extension.{standing_at};
 
@@ -120,14 +120,17 @@ pub fn take_standing<P: Profile>(
     alloc: Global,
     cons: &mut Constructed<'_>,
 ) -> Result<Vec<Extension>, DecodeError>
-    ensures { Reads (λ list. list.items) (standing_at P.known) cons.old result cons.new }
+    ensures reads { Reads (λ list. list.items) (standing_at P.known) cons.old result cons.new }
+    ensures stays { Stays result cons.new }
 {
     let list: Vec<Extension> = cons.take_items(alloc)?;
-    if !are_distinct(alloc, &list)? {
-        return Err(refused(Reason::ExtensionTwice));
+    match are_distinct(alloc, &list) {
+        Ok(true) => {}
+        Ok(false) => return Err(cons.refuse_for(Reason::ExtensionTwice)),
+        Err(_) => return Err(cons.fail(DecodeError::Memory)),
     }
     if !may_stand::<P>(&list) {
-        return Err(refused(Reason::UnknownCriticalExtension));
+        return Err(cons.refuse_for(Reason::UnknownCriticalExtension));
     }
     Ok(list)
 }
