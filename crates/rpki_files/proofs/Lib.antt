@@ -5,3 +5,5 @@ pub mod Distinct
 pub mod Written
 pub mod Named
 pub mod Checklists
+pub mod Joined
+pub mod Contents

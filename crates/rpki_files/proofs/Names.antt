@@ -96,7 +96,7 @@ name-decides name = (name-sound name, name-complete name)
 
 -- ---- they are characters of an IA5String
 
-or-true : (a b : Bool) → (a || b) ≡ true → (P : Type 0) → (a ≡ true → P) → (b ≡ true → P) → P
+pub or-true : (a b : Bool) → (a || b) ≡ true → (P : Type 0) → (a ≡ true → P) → (b ≡ true → P) → P
 or-true true b e P f g = f refl
 or-true false b e P f g = g e
 

@@ -1,6 +1,6 @@
 -- The files of a checklist. The sections are those of RFC 9323.
 use Rattle.std.specs.Prelude.{◌≡◌, ◌++◌, ◌||◌, ◌==◌, ℕ, List, [], ◌∷◌, Bool, true}
-use Rattle.std.specs.Prelude.{Option, Some}
+use Rattle.std.specs.Prelude.{Option, Some, IfSome}
 use Rattle.std.specs.List.{list_all}
 use Rattle.rpki_der.specs.Numbers.{MAX_DEPTH}
 use Rattle.rpki_der.specs.Tags.{SEQUENCE, IA5_STRING, OCTET_STRING}
@@ -24,6 +24,10 @@ is_portable b = is_stem b || (b == 0x2E)
 -- whether each character is one of these
 abbrev pub is_portable_name : List ℕ → Bool
 is_portable_name name = list_all is_portable name
+
+-- its name, if there is one, has no other characters (section 4)
+abbrev pub IsNamed : Checked → Type 0
+IsNamed f = IfSome f.file_name (λ name. is_portable_name name ≡ true)
 
 -- PortableFilename ::= IA5String (FROM ("a".."z" | "A".."Z" | "0".."9" | "." | "_" | "-")) (section
 -- 4). That there may be no character is this project's own reading.

@@ -2,5 +2,6 @@ pub mod Version
 pub mod Name
 pub mod File
 pub mod Manifest
+pub mod Uris
 pub mod Checked
 pub mod Checklist

@@ -1,6 +1,6 @@
 //! An entry of a checklist.
 
-ghost use Rattle.std.specs.Prelude.{◌≡◌, ◌<◌, ◌^◌, ◌↔◌, length};
+ghost use Rattle.std.specs.Prelude.{◌≡◌, ◌<◌, ◌^◌, ◌↔◌, IfOk, IfSome, length};
 ghost use Rattle.std.specs.List.{list_all};
 ghost use Rattle.rpki_der.specs.Numbers.{MAX_DEPTH};
 ghost use Rattle.rpki_der.specs.Tags.{SEQUENCE, IA5_STRING};
@@ -18,6 +18,7 @@ use bytes::Bytes;
 use rpki_der::Reason;
 use rpki_der::encode::{Raw, Value, ia5, octet_string, sequence};
 use rpki_lists::{EntryIter, Kind, Refused, SliceEntry, SliceReader, Written};
+use std::alloc::AllocError;
 use std::marker::PhantomData;
 
 /// The name of a file, if it is given, and its hash (RFC 9323, section 4.4.1).
@@ -54,6 +55,25 @@ impl<F, H> FileNameAndHash<F, H> {
         ensures { result ≡ (self.file_name, self.hash) }
     {
         (self.file_name, self.hash)
+    }
+}
+
+impl<F: Clone, H: Clone> FileNameAndHash<F, H> {
+    /// The same entry again, where what its parts are cloned to is the same as they.
+    pub fn clone(&self) -> Result<FileNameAndHash<F, H>, AllocError>
+        requires name { IfSome self.now.file_name
+            (λ name. (copy : F) → F.is_clone name copy → copy ≡ name) }
+        requires hash { (copy : H) → H.is_clone self.now.hash copy → copy ≡ self.now.hash }
+        ensures { IfOk result (λ copy. copy ≡ self.now) }
+    {
+        let file_name = match &self.file_name {
+            Some(name) => Some(name.clone()?),
+            None => None,
+        };
+        Ok(FileNameAndHash {
+            file_name,
+            hash: self.hash.clone()?,
+        })
     }
 }
 
@@ -145,7 +165,7 @@ impl Kind for CheckedFiles {
 }
 
 /// A file of a checklist, in a slice.
-#[derive(Drop)]
+#[derive(Debug, Drop)]
 pub struct CheckedEntry<'a>(PhantomData<&'a [u8]>);
 
 impl<'a> SliceEntry for CheckedEntry<'a> {

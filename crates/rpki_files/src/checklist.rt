@@ -12,6 +12,7 @@ ghost use Rattle.rpki_resources.specs.declared.family.AddressFamily.TheVariants.
 ghost use Rattle.rpki_resources.specs.Family.{IsWithin};
 ghost use Rattle.rpki_files.specs.Checklist.{ChecklistForm, checklist_at, checklist_contents};
 ghost use Rattle.rpki_files.specs.Checklist.{checklist_octets};
+ghost use Rattle.rpki_files.specs.Checked.{IsNamed};
 
 use crate::checked::{CheckListIter, CheckedFiles};
 use bytes::Bytes;
@@ -122,7 +123,8 @@ impl ResourceSignedChecklist {
 
     /// The files, in order.
     pub fn iter(&self) -> CheckListIter<'_>
-        ensures { result ≡ self.now.files }
+        ensures files { result ≡ self.now.files }
+        ensures names { All IsNamed self.now.files }
     {
         EntryIter::of(self.files.reader())
     }

@@ -1,6 +1,6 @@
 //! An entry of a manifest.
 
-ghost use Rattle.std.specs.Prelude.{◌≡◌, MatchResult};
+ghost use Rattle.std.specs.Prelude.{◌≡◌, IfOk, MatchResult};
 ghost use Rattle.rpki_der.specs.Tags.{SEQUENCE};
 ghost use Rattle.rpki_files.specs.Name.{IsFileName};
 
@@ -8,6 +8,7 @@ use crate::name::is_file_name;
 use bytes::Bytes;
 use rpki_der::AsOctets;
 use rpki_der::encode::{Bits, Raw, Value, bit_string, ia5, sequence};
+use std::alloc::AllocError;
 
 /// The name of a file and its hash (RFC 9286, section 4.2).
 #[derive(Debug, Drop)]
@@ -46,6 +47,20 @@ impl<F, H> FileAndHash<F, H> {
         ensures { result ≡ (self.file, self.hash) }
     {
         (self.file, self.hash)
+    }
+}
+
+impl<F: Clone, H: Clone> FileAndHash<F, H> {
+    /// The same entry again, where what its parts are cloned to is the same as they.
+    pub fn clone(&self) -> Result<FileAndHash<F, H>, AllocError>
+        requires file { (copy : F) → F.is_clone self.now.file copy → copy ≡ self.now.file }
+        requires hash { (copy : H) → H.is_clone self.now.hash copy → copy ≡ self.now.hash }
+        ensures { IfOk result (λ copy. copy ≡ self.now) }
+    {
+        Ok(FileAndHash {
+            file: self.file.clone()?,
+            hash: self.hash.clone()?,
+        })
     }
 }
 

@@ -1,17 +1,18 @@
 //! The files of a manifest, as entries of a list.
 
-ghost use Rattle.std.specs.Prelude.{◌≡◌, IfOk};
+ghost use Rattle.std.specs.Prelude.{◌≡◌, All, IfOk};
 ghost use Rattle.rpki_der.specs.Read.Reads.{Reads, Stays};
 ghost use Rattle.rpki_der.specs.Form.Keyed.{are_distinct};
 ghost use Rattle.rpki_files.specs.File.{Takes, name_of, name_at, hash_at, file_at, files_at};
 ghost use Rattle.rpki_files.specs.File.{is_unrepeated};
+ghost use Rattle.rpki_files.specs.Name.{IsFileName};
 
 use crate::file::{FileAndHash, FileEncoder};
 use crate::name::{is_allowed, is_file_name};
 use bytes::Bytes;
 use rpki_basics::ManifestRule;
 use rpki_der::encode::{bit_string, ia5, sequence};
-use rpki_der::{Constructed, DecodeError, Reason};
+use rpki_der::{Constructed, DecodeError, Reason, Tag};
 use rpki_lists::{
     EntryIter, EntryList, Kind, Refused, Rule, SliceEntry, SliceReader, Written, take_list,
 };
@@ -19,15 +20,15 @@ use std::alloc::{AllocError, Global};
 use std::collections::BTreeSet;
 use std::marker::PhantomData;
 
-// An entry whose parts lie in a slice.
-type FileSlices<'a> = FileAndHash<&'a [u8], &'a [u8]>;
+/// An entry whose parts lie in a slice.
+pub type FileSlices<'a> = FileAndHash<&'a [u8], &'a [u8]>;
 
-// Reads the name in front.
-#[tactic(auto, unfolding(rpki_der::specs::Read::Parse::tested))]
+// Reads the name in front. That it is an IA5String has no test of its own: each name is one.
+#[tactic(auto, using(crate::proofs::Contents::name_found, crate::proofs::Contents::name_other, crate::proofs::Contents::name_none))]
 fn take_name<'a>(reader: &mut SliceReader<'a>) -> Result<&'a [u8], Refused>
     ensures { Takes (λ n. n.now) name_at reader.old result reader.new }
 {
-    let Some(name) = reader.take_ia5() else {
+    let Some(name) = reader.take_contents(Tag::IA5_STRING) else {
         return Err(Refused::Malformed);
     };
     if is_file_name(name) {
@@ -89,7 +90,7 @@ impl Kind for Files {
 }
 
 /// A file of a manifest, in a slice.
-#[derive(Drop)]
+#[derive(Debug, Drop)]
 pub struct FileEntry<'a>(PhantomData<&'a [u8]>);
 
 impl<'a> SliceEntry for FileEntry<'a> {
@@ -168,7 +169,8 @@ impl Rule for NamesBy {
 
 /// The files of a list, in order.
 pub fn files_of(list: &EntryList<Files>) -> FileListIter<'_>
-    ensures { result ≡ list.now }
+    ensures files { result ≡ list.now }
+    ensures names { All (λ f. IsFileName (name_of f)) list.now }
 {
     EntryIter::of(list.reader())
 }

@@ -4,9 +4,11 @@ ghost use Rattle.std.specs.Prelude.{◌≡◌, nat_eq, MatchResult, Some, codes}
 ghost use Rattle.std.specs.Cmp.{partial_equiv_from_equiv};
 ghost use Rattle.std.specs.Cmp.Lexicographic.{pointwise, nat_list_eq_equiv};
 ghost use Rattle.rpki_keys.specs.declared.algorithm.DigestAlgorithm.TheVariants.{Sha256};
+ghost use Rattle.rpki_faults.specs.declared.verification.VerificationError.{VerificationError};
 
 use bytes::Bytes;
 use rpki_basics::{Crypto, DigestAlgorithm};
+use rpki_faults::VerificationError;
 use std::alloc::AllocError;
 use std::error::Error;
 use std::fmt;
@@ -119,3 +121,11 @@ impl fmt::Display for ManifestHashMismatch {
 }
 
 impl Error for ManifestHashMismatch {}
+
+impl From<ManifestHashMismatch> for VerificationError {
+    ghost from_gives = { λ _ error. error ≡ VerificationError.ManifestHash };
+
+    fn from(_mismatch: ManifestHashMismatch) -> VerificationError {
+        VerificationError::ManifestHash
+    }
+}

@@ -1,6 +1,6 @@
 //! What the definitions of files, manifests and checklists say: laws, as functions that do nothing.
 
-ghost use Rattle.std.specs.Prelude.{◌≡◌, ◌<◌, ◌^◌, ◌++◌, ℕ, List, Some, Decides, length};
+ghost use Rattle.std.specs.Prelude.{◌≡◌, ◌<◌, ℕ, List, All, Decides, true};
 ghost use Rattle.rpki_basics.specs.declared.limits.ManifestRule.{ManifestRule};
 ghost use Rattle.rpki_basics.specs.declared.limits.ManifestRule.TheVariants.{Any, Registered};
 ghost use Rattle.rpki_der.specs.Tags.{SEQUENCE};
@@ -8,13 +8,21 @@ ghost use Rattle.rpki_der.specs.declared.mode.Mode.{Mode};
 ghost use Rattle.rpki_der.specs.Read.Exact.{IsReading};
 ghost use Rattle.rpki_files.specs.Name.{IsFileName, is_file_name};
 ghost use Rattle.rpki_files.specs.File.{FileForm, file_at};
-ghost use Rattle.rpki_files.specs.Checked.{CheckedForm, checked_at};
+ghost use Rattle.rpki_files.specs.Checked.{CheckedForm, checked_at, is_portable_name};
+ghost use Rattle.rpki_basics.specs.Uri.{IsRsync, join_text};
 ghost use Rattle.rpki_files.specs.Checklist.{ChecklistForm, checklist_at};
 ghost use Rattle.rpki_files.specs.Manifest.{Manifest, ManifestForm, manifest_at};
 
-/// What the name of a file is (RFC 9286, section 4.2.2).
+/// What the name of a file is, and that it is an IA5String (RFC 9286, section 4.2.2).
 pub fn file_names()
-    ensures { (name : List ℕ) → Decides (is_file_name name) (IsFileName name) }
+    ensures test { (name : List ℕ) → Decides (is_file_name name) (IsFileName name) }
+    ensures ia5 { (name : List ℕ) → IsFileName name → All (λ b. b < 128) name }
+{}
+
+/// The name of a file, joined to an rsync URI, is an rsync URI (RFC 9286, section 4.2.2; RFC 5781).
+pub fn joined_names()
+    ensures { (base name : List ℕ) → IsRsync base → IsFileName name
+        → IsRsync (join_text base name) }
 {}
 
 /// A file and a manifest are read exactly, they are unique, and DER is a part of BER (RFC 9286,
@@ -25,11 +33,12 @@ pub fn manifests()
         → IsReading (manifest_at rule) (ManifestForm rule) }
 {}
 
-/// A file of a checklist and a checklist are read exactly, they are unique, and DER is a part of BER
-/// (RFC 9323, section 4).
+/// A file of a checklist and a checklist are read exactly, they are unique, and DER is a part of
+/// BER. The name of a file is an IA5String (RFC 9323, section 4).
 pub fn checklists()
     ensures file { IsReading checked_at CheckedForm }
     ensures checklist { IsReading checklist_at ChecklistForm }
+    ensures ia5 { (name : List ℕ) → is_portable_name name ≡ true → All (λ b. b < 128) name }
 {}
 
 /// What is taken where types have to be registered and no name may come twice, is taken with the

@@ -9,6 +9,7 @@ mod hash;
 pub mod laws;
 mod manifest;
 mod name;
+mod uris;
 mod version;
 
 pub use checked::{CheckListIter, CheckedEntry, CheckedFiles, FileNameAndHash};
@@ -17,3 +18,4 @@ pub use file::{FileAndHash, FileEncoder};
 pub use files::{FileEntry, FileListIter, Files};
 pub use hash::{ManifestHash, ManifestHashMismatch};
 pub use manifest::{ManifestContent, ManifestEncoder};
+pub use uris::ManifestUriIter;

@@ -3,7 +3,7 @@
 mod encoder;
 mod read;
 
-ghost use Rattle.std.specs.Prelude.{◌≡◌, ◌↔◌, ◌<◌, ◌≤◌, ◌^◌, ◌++◌, ℕ, List, Some, length};
+ghost use Rattle.std.specs.Prelude.{◌≡◌, ◌↔◌, ◌<◌, ◌≤◌, ◌^◌, ◌++◌, ℕ, List, All, Some, length};
 ghost use Rattle.std.specs.Prelude.{IsTrue, nat_lt};
 ghost use Rattle.rpki_basics.specs.Moment.{stamp};
 ghost use Rattle.rpki_basics.specs.declared.limits.ManifestRule.TheVariants.{Any};
@@ -13,12 +13,16 @@ ghost use Rattle.rpki_der.specs.Read.Reads.{Reads, Stays};
 ghost use Rattle.rpki_der.specs.Form.Decodes.{Decodes, DecodesNext};
 ghost use Rattle.rpki_files.specs.Manifest.{ManifestForm, manifest_at, manifest_contents};
 ghost use Rattle.rpki_files.specs.Manifest.{manifest_octets};
+ghost use Rattle.rpki_files.specs.File.{name_of};
+ghost use Rattle.rpki_files.specs.Name.{IsFileName};
+ghost use Rattle.rpki_files.specs.Uris.{uris_of};
 
 use crate::files::{FileListIter, Files, files_of};
+use crate::uris::ManifestUriIter;
 use bytes::Bytes;
 pub use encoder::ManifestEncoder;
 use read::{read_front, take_manifest};
-use rpki_basics::{DigestAlgorithm, ManifestRule, Serial, Time};
+use rpki_basics::{DigestAlgorithm, ManifestRule, Rsync, Serial, Time};
 use rpki_der::laws::slices_hold_octets;
 use rpki_der::{Constructed, DecodeError};
 use rpki_lists::EntryList;
@@ -126,9 +130,17 @@ impl ManifestContent {
 
     /// The files, in order.
     pub fn iter(&self) -> FileListIter<'_>
-        ensures { result ≡ self.now.files }
+        ensures files { result ≡ self.now.files }
+        ensures names { All (λ f. IsFileName (name_of f)) self.now.files }
     {
         files_of(&self.files)
+    }
+
+    /// The URIs of the files below this one, in order, each with the hash of its file.
+    pub fn iter_uris<'a>(&'a self, alloc: Global, base: &'a Rsync) -> ManifestUriIter<'a>
+        ensures { result ≡ uris_of base.now self.now.files }
+    {
+        ManifestUriIter::new(alloc, base, self.iter())
     }
 
     /// How many files there are.

@@ -381,7 +381,7 @@ fn is_written(
 /// Whether a checklist that is read is written as these octets.
 fn is_written_anew(alloc: Global, octets: &[u8], wanted: &[u8]) -> Result<bool, AllocError> {
     match read(alloc, octets, Mode::Der) {
-        Ok(checklist) => is_written(alloc, &checklist, wanted),
+        Ok(checklist) => is_written(alloc, &checklist.clone()?, wanted),
         Err(DecodeError::Memory) => Err(AllocError),
         Err(_) => Ok(false),
     }

@@ -10,3 +10,5 @@ mod checklists;
 mod names;
 #[cfg(test)]
 mod rows;
+#[cfg(test)]
+mod uris;

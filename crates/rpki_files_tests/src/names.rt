@@ -4,7 +4,10 @@ use bytes::Bytes;
 use rpki_basics::standin::StandIn;
 use rpki_basics::{DigestAlgorithm, ManifestRule, Time};
 use rpki_der::Encode;
-use rpki_files::{FileAndHash, ManifestContent, ManifestHash};
+use rpki_faults::VerificationError;
+use rpki_files::{
+    FileAndHash, FileNameAndHash, ManifestContent, ManifestHash, ManifestHashMismatch,
+};
 use std::alloc::AllocError;
 
 /// Octets, and whether they are the name of a file.
@@ -61,6 +64,7 @@ fn hashes(rt: HostRuntime) -> Result<(), AllocError> {
         Err(mismatch) => format!(in alloc; "{mismatch}")?,
     };
     assert_eq!(rt; text.as_str(), "manifest hash mismatch");
+    assert!(rt; VerificationError::from(ManifestHashMismatch) == VerificationError::ManifestHash);
     Ok(())
 }
 
@@ -75,8 +79,19 @@ fn entries(rt: HostRuntime) -> Result<(), AllocError> {
         ),
         Err(_) => return Err(AllocError),
     }
-    let (file, hash) = entry.into_pair();
+    let (file, hash) = entry.clone()?.into_pair();
     assert!(rt; file == &b"a.cer"[..] && hash == &b"h"[..]);
+    Ok(())
+}
+
+#[test]
+fn entries_of_checklists(rt: HostRuntime) -> Result<(), AllocError> {
+    let alloc = rt.alloc();
+    let name = Bytes::copy_from_slice(alloc, b"a")?;
+    let entry = FileNameAndHash::new(Some(name), Bytes::copy_from_slice(alloc, b"h")?);
+    let (name, hash) = entry.clone()?.into_pair();
+    assert!(rt; name.as_ref() == entry.file_name() && hash == *entry.hash());
+    assert!(rt; name.is_some() && hash.as_slice() == b"h".as_slice());
     Ok(())
 }
 

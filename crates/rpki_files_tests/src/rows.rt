@@ -214,7 +214,7 @@ static ROWS: [(ManifestRule, &[u8], &str); 39] = [
         ManifestRule::Any,
         b"0@\x02\x01\x0C\x18\x0F20240101000000Z\x18\x0F20240108000000Z\x06\x09`\x86H\x01e\
           \x03\x04\x02\x010\x0E0\x0C\x16\x06a\x80.cer\x03\x02\x00h",
-        "malformed",
+        "bad file name in a manifest",
     ),
     (
         ManifestRule::Any,

@@ -21,7 +21,8 @@ with_all-twice : {X : Type 0} (front : List X) (x : X) (o : Option (List X))
     → with_all front (o >>= λ xs. Some (x ∷ xs)) ≡ with_all (front ++ x ∷ []) o
 with_all-twice front x None = refl
 with_all-twice front x (Some xs) =
-    ap (λ (l : List _). (let o : Option (List _) = Some l in o)) (sym (append_assoc front (x ∷ []) xs))
+    ap (λ (l : List _). (let o : Option (List _) = Some l in o))
+    (sym (append_assoc front (x ∷ []) xs))
 
 -- so many entries stood before what is left, and the rule admits what it admits after them
 pub record CountSoFar {S X : Type 0} (p : Parser X) (after : S → X → Option S) (begun now : S)

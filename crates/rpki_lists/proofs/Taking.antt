@@ -83,7 +83,8 @@ module _ {X : Type 0} (p : Parser X) (test : List X → Bool) (old : State) wher
       r.found in
       refused p test old.mode old.rest c mid.rest (all_of p Der c) there refl k
 
-  pub take-malformed : {T : Type 0} (E : Type 0) (view : T → List X) (c : List ℕ) (e : E) (mid : State)
+  pub take-malformed : {T : Type 0} (E : Type 0) (view : T → List X) (c : List ℕ) (e : E)
+      (mid : State)
       (d : DecodeError) → Reads (λ (d : List ℕ). d) (primitive SEQUENCE Some) old (Ok c) mid
       → CountsBy {E = E} test (all_of p Der c) (Err e) → IsAgain (unwrap_or mid.failed Malformed) d
       → Reads {T = T} view (tested test (list_at p)) old (Err d) (failing mid d)
@@ -93,7 +94,8 @@ module _ {X : Type 0} (p : Parser X) (test : List X → Bool) (old : State) wher
       let is : d ≡ Malformed = rw r.after at again in
       (r.mode, rw (r.before, is) none)
 
-  pub take-refused : {T : Type 0} (E : Type 0) (view : T → List X) (c : List ℕ) (e : E) (mid : State)
+  pub take-refused : {T : Type 0} (E : Type 0) (view : T → List X) (c : List ℕ) (e : E)
+      (mid : State)
       (reason : Reason) (d : DecodeError)
       → Reads (λ (d : List ℕ). d) (primitive SEQUENCE Some) old (Ok c) mid
       → CountsBy {E = E} test (all_of p Der c) (Err e)

@@ -46,6 +46,17 @@ impl Model for AsProviderAttestation {
         (record { customer = a.customer; providers = a.providers }) };
 }
 
+impl Clone for AsProviderAttestation {
+    ghost is_clone = { λ a copy. copy ≡ a };
+
+    fn clone(&self) -> Result<AsProviderAttestation, AllocError> {
+        Ok(AsProviderAttestation {
+            customer: self.customer,
+            providers: self.providers.clone()?,
+        })
+    }
+}
+
 impl AsProviderAttestation {
     /// Reads the content at the front of the source, in DER (section 3 of the profile), with at
     /// most as many providers as the limit says. Where the source begins with no content, refuses

@@ -24,7 +24,7 @@ pub use iter::{RoaAddrIter, RoaOriginIter};
 use rpki_der::laws::slices_hold_octets;
 use rpki_der::{Constructed, DecodeError, Mode, Tag};
 use rpki_resources::{Asn, ByFamily, take_families};
-use std::alloc::Global;
+use std::alloc::{AllocError, Global};
 use std::marker::Model;
 
 /// Which prefixes an autonomous system may originate.
@@ -44,6 +44,18 @@ impl Model for RouteOriginAttestation {
 
     ghost invariant = { λ r. IsRoa
         (record { as_id = r.as_id; v4 = r.v4_addrs; v6 = r.v6_addrs }) };
+}
+
+impl Clone for RouteOriginAttestation {
+    ghost is_clone = { λ r copy. copy ≡ r };
+
+    fn clone(&self) -> Result<RouteOriginAttestation, AllocError> {
+        Ok(RouteOriginAttestation {
+            as_id: self.as_id,
+            v4_addrs: self.v4_addrs.clone()?,
+            v6_addrs: self.v6_addrs.clone()?,
+        })
+    }
 }
 
 impl RouteOriginAttestation {

@@ -189,3 +189,16 @@ fn sets_and_claims(rt: HostRuntime) -> Result<(), AllocError> {
     }
     Ok(())
 }
+
+#[test]
+fn copies(rt: HostRuntime) -> Result<(), AllocError> {
+    let Ok(content) = read(rt.alloc(), CONTENT, ProviderLimit::Narrow)? else {
+        assert!(rt; false);
+        return Ok(());
+    };
+    let (text, copy) = (content_text(rt.alloc(), &content)?, content.clone()?);
+    assert!(rt; content_text(rt.alloc(), &copy)? == text);
+    let providers = copy.provider_as_set().clone()?;
+    assert_eq!(rt; providers.iter().clone()?.count(), 4);
+    Ok(())
+}

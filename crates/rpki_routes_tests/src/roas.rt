@@ -233,3 +233,19 @@ fn origins(rt: HostRuntime) -> Result<(), AllocError> {
     );
     Ok(())
 }
+
+#[test]
+fn copies(rt: HostRuntime) -> Result<(), AllocError> {
+    let Ok(content) = read(rt.alloc(), BOTH)? else {
+        assert!(rt; false);
+        return Ok(());
+    };
+    let (text, copy) = (content_text(rt.alloc(), &content)?, content.clone()?);
+    assert!(rt; content_text(rt.alloc(), &copy)? == text);
+    let mut origins = copy.iter_origins();
+    assert!(rt; origins.next().is_some());
+    assert_eq!(rt; origins.clone()?.count(), 1);
+    assert_eq!(rt; copy.iter().clone()?.count(), 2);
+    assert_eq!(rt; copy.v6_addrs().clone()?.iter().count(), 1);
+    Ok(())
+}

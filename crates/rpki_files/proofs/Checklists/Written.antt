@@ -33,7 +33,7 @@ use Rattle.rpki_resources.proofs.Families.Gathered.{entries-sound}
 use Rattle.rpki_resources.proofs.Families.Writing.{family_written}
 use Rattle.rpki_files.specs.declared.checklist.read.Named.{Named}
 use Rattle.rpki_files.specs.Version.{VersionForm}
-use Rattle.rpki_files.specs.Checked.{Checked, CheckedForm, PortableForm, is_portable_name}
+use Rattle.rpki_files.specs.Checked.{Checked, CheckedForm, IsNamed, PortableForm, is_portable_name}
 use Rattle.rpki_files.specs.Checked.{checked_contents, checked_octets}
 use Rattle.rpki_files.specs.Checklist.{Checklist, Set, NumbersForm, NamedForm, ChecklistForm}
 use Rattle.rpki_files.specs.Checklist.{or_nothing, sets_of, is_there, is_none, written_numbers}
@@ -286,10 +286,6 @@ sets-written l w inner =
     )
 
 -- ---- the files
-
--- the name is of the characters that a name may have
-abbrev pub IsNamed : Checked → Type 0
-IsNamed f = IfSome f.file_name (λ name. is_portable_name name ≡ true)
 
 name-written : (name : Option (List ℕ)) → IfSome name (λ n. is_portable_name n ≡ true)
     → length (optional_octets (value_octets IA5_STRING) name) < 2 ^ 32

@@ -38,6 +38,7 @@ impl Kind for Providers {
 }
 
 /// Providers in slices of a lifetime.
+#[derive(Debug, Drop)]
 pub struct ProvidersIn<'a> {
     octets: PhantomData<&'a [u8]>,
 }
@@ -87,6 +88,16 @@ impl Model for ProviderAsSet {
     ghost view = { λ s. s.numbers };
 
     ghost invariant = { λ s. IsProviderSet Wide s.numbers };
+}
+
+impl Clone for ProviderAsSet {
+    ghost is_clone = { λ s copy. copy ≡ s };
+
+    fn clone(&self) -> Result<ProviderAsSet, AllocError> {
+        Ok(ProviderAsSet {
+            numbers: self.numbers.clone()?,
+        })
+    }
 }
 
 impl ProviderAsSet {

@@ -10,7 +10,7 @@ use bytes::Bytes;
 use rpki_der::{Constructed, DecodeError, Reason};
 use rpki_lists::{EntryIter, EntryList, Kind, Refused, Rule, SliceEntry, SliceReader, take_list};
 use rpki_resources::{AddressFamily, OfFamily};
-use std::alloc::Global;
+use std::alloc::{AllocError, Global};
 use std::marker::{Model, PhantomData};
 
 // Reads the fields of an address.
@@ -79,6 +79,7 @@ impl Kind for Addresses {
 }
 
 /// Addresses in slices of a lifetime.
+#[derive(Debug, Drop)]
 pub struct AddressesIn<'a> {
     octets: PhantomData<&'a [u8]>,
 }
@@ -123,6 +124,16 @@ impl Model for RoaIpAddresses {
     ghost Value = { List Address };
 
     ghost view = { λ s. s.list };
+}
+
+impl Clone for RoaIpAddresses {
+    ghost is_clone = { λ s copy. copy ≡ s };
+
+    fn clone(&self) -> Result<RoaIpAddresses, AllocError> {
+        Ok(RoaIpAddresses {
+            list: self.list.clone()?,
+        })
+    }
 }
 
 impl RoaIpAddresses {

@@ -7,10 +7,11 @@ ghost use Rattle.rpki_routes.specs.Roa.{of_family, origin_of};
 use crate::roa::address::{FriendlyRoaIpAddress, RouteOrigin};
 use crate::roa::addresses::RoaIpAddressIter;
 use rpki_resources::{AddressFamily, Asn};
+use std::alloc::AllocError;
 use std::marker::Model;
 
 /// The addresses that are still to come, those of IPv4 first.
-#[derive(Drop)]
+#[derive(Debug, Drop)]
 pub struct RoaAddrIter<'a> {
     v4: RoaIpAddressIter<'a>,
     v6: RoaIpAddressIter<'a>,
@@ -35,6 +36,26 @@ impl<'a> RoaAddrIter<'a> {
     }
 }
 
+impl<'a> RoaAddrIter<'a> {
+    // The same addresses again.
+    pub(crate) fn again(&self) -> RoaAddrIter<'a>
+        ensures { result ≡ self.now }
+    {
+        RoaAddrIter {
+            v4: self.v4.again(),
+            v6: self.v6.again(),
+        }
+    }
+}
+
+impl<'a> Clone for RoaAddrIter<'a> {
+    ghost is_clone = { λ i copy. copy ≡ i };
+
+    fn clone(&self) -> Result<RoaAddrIter<'a>, AllocError> {
+        Ok(self.again())
+    }
+}
+
 impl<'a> Iterator for RoaAddrIter<'a> {
     type Item = FriendlyRoaIpAddress;
 
@@ -54,7 +75,7 @@ impl<'a> Iterator for RoaAddrIter<'a> {
 }
 
 /// The origins that are still to come, those of IPv4 first.
-#[derive(Drop)]
+#[derive(Debug, Drop)]
 pub struct RoaOriginIter<'a> {
     asn: Asn,
     addrs: RoaAddrIter<'a>,
@@ -76,6 +97,17 @@ impl<'a> RoaOriginIter<'a> {
         ensures { result ≡ map (origin_of asn) addrs.entry }
     {
         RoaOriginIter { asn, addrs }
+    }
+}
+
+impl<'a> Clone for RoaOriginIter<'a> {
+    ghost is_clone = { λ i copy. copy ≡ i };
+
+    fn clone(&self) -> Result<RoaOriginIter<'a>, AllocError> {
+        Ok(RoaOriginIter {
+            asn: self.asn,
+            addrs: self.addrs.again(),
+        })
     }
 }
 

@@ -7,7 +7,8 @@ use Rattle.rpki_lists.proofs.rule.take_list.Goals as goal
 pub returns-in_err-octets-clause-reads : goal.returns-in_err-octets-clause-reads
 returns-in_err-octets-clause-reads g c =
     let p = err_from_is_err_and c.from_residual.result c.from_residual.ensures.1 in
-    rw (p.1, p.2) (take-err g.R.Kind.Kind.entry_at (admits g.R.Rule.after c.args.rule) c.args.cons.now
+    rw (p.1, p.2) (take-err g.R.Kind.Kind.entry_at
+    (admits g.R.Rule.after c.args.rule) c.args.cons.now
     (λ l. l) _ c.take_primitive_if.new.self c.in_err-octets.ensures.reads)
 
 pub returns-in-Ok-clause-reads : goal.returns-in-Ok-clause-reads

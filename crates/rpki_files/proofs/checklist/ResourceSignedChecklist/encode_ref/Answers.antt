@@ -1,11 +1,11 @@
 use Rattle.std.proofs.Common.{◌<◌, ◌^◌, List, All, length, subst}
 use Rattle.rpki_der.specs.declared.mode.Mode.TheVariants.{Der}
-use Rattle.rpki_files.specs.Checked.{Checked}
+use Rattle.rpki_files.specs.Checked.{Checked, IsNamed}
 use Rattle.rpki_files.specs.Checklist.{Checklist, ChecklistForm, checklist_contents}
 use Rattle.rpki_files.specs.Checklist.{checklist_octets}
 use Rattle.rpki_files.proofs.Checklists.Exact.{checklist-part}
 use Rattle.rpki_files.proofs.Checklists.Named.{checked-named}
-use Rattle.rpki_files.proofs.Checklists.Written.{IsNamed, checklist-written}
+use Rattle.rpki_files.proofs.Checklists.Written.{checklist-written}
 use Rattle.rpki_keys.proofs.AlgorithmWriting.{digest-written}
 use Rattle.rpki_files.proofs.checklist.ResourceSignedChecklist.encode_ref.Goals as goal
 

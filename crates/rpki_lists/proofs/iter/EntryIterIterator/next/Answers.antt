@@ -5,8 +5,10 @@ use Rattle.rpki_lists.proofs.iter.EntryIterIterator.next.Goals as goal
 pub invariant_of-self : goal.invariant_of-self
 invariant_of-self g c =
     (stepped g.E.SliceEntry.shown g.E.Kind.Kind.entry_at g.met.E.Kind.Kind.shrinks
-    (g.E.SliceEntry.slice c.self.inside.reader) c.read.result (g.E.SliceEntry.slice c.read.new.reader)
-    c.self.invariant (said-no c.is_end.result c.is_end.ensures c.if-is_end.false) c.read.ensures).are
+    (g.E.SliceEntry.slice c.self.inside.reader) c.read.result
+    (g.E.SliceEntry.slice c.read.new.reader)
+    c.self.invariant (said-no c.is_end.result c.is_end.ensures c.if-is_end.false)
+    c.read.ensures).are
 
 pub returns-then-is_end-clause-steps : goal.returns-then-is_end-clause-steps
 returns-then-is_end-clause-steps g c =
@@ -26,6 +28,7 @@ pub returns-else-is_end-clause-goes : goal.returns-else-is_end-clause-goes
 returns-else-is_end-clause-goes g c =
     rw (← c.self.view_is) (made-progress g.E.SliceEntry.shown _ _ c.read.result
     (stepped g.E.SliceEntry.shown g.E.Kind.Kind.entry_at g.met.E.Kind.Kind.shrinks
-    (g.E.SliceEntry.slice c.self.inside.reader) c.read.result (g.E.SliceEntry.slice c.read.new.reader)
+    (g.E.SliceEntry.slice c.self.inside.reader) c.read.result
+    (g.E.SliceEntry.slice c.read.new.reader)
     c.self.invariant (said-no c.is_end.result c.is_end.ensures c.if-is_end.false)
     c.read.ensures).gives)

@@ -1,0 +1,5 @@
+use Rattle.rpki_files.proofs.Joined.{name_joined}
+use Rattle.rpki_files.proofs.laws.joined_names.Goals as goal
+
+pub returns : goal.returns
+returns c = name_joined
