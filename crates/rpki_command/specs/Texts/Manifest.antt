@@ -14,11 +14,11 @@ abbrev pub serial_line : ℕ → List ℕ
 serial_line n = codes "number " ++ (serial_text n ++ codes "\n")
 
 -- the line of the moment from which the manifest is
-abbrev pub this_line : Moment → List ℕ
+unfoldable pub this_line : Moment → List ℕ
 this_line m = codes "this " ++ (iso_text m ++ codes "\n")
 
 -- the line of the moment at which the next one is due
-abbrev pub next_line : Moment → List ℕ
+unfoldable pub next_line : Moment → List ℕ
 next_line m = codes "next " ++ (iso_text m ++ codes "\n")
 
 -- the line of a file: its name, and its hash in lower hexadecimal

@@ -4,6 +4,7 @@ ghost use Rattle.std.specs.List.{flat_map};
 ghost use Rattle.rpki_command.specs.Grows.{Grows};
 ghost use Rattle.rpki_command.specs.Texts.Aspa.{aspa_text, customer_line, provider_line};
 
+use crate::texts::lines::push_each;
 use rpki_resources::Asn;
 use rpki_routes::{AsProviderAttestation, ProviderAsSet};
 use std::alloc::AllocError;
@@ -29,8 +30,7 @@ fn push_customer(text: &mut String, customer: Asn) -> Result<(), AllocError>
 fn push_providers(text: &mut String, providers: &ProviderAsSet) -> Result<(), AllocError>
     ensures { Grows result text.old text.new (flat_map provider_line providers.now) }
 {
-    for provider in providers.iter() {
-        write!(text, "provider {provider}\n")?;
-    }
-    Ok(())
+    push_each(text, providers.iter(), |text, provider| {
+        write!(text, "provider {provider}\n")
+    })
 }

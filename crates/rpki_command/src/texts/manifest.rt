@@ -6,6 +6,7 @@ ghost use Rattle.rpki_command.specs.Texts.Manifest.{manifest_text, serial_line, 
 ghost use Rattle.rpki_command.specs.Texts.Manifest.{next_line, file_line};
 
 use crate::texts::ia5::Ia5;
+use crate::texts::lines::push_each;
 use rpki_basics::{Serial, Time};
 use rpki_der::LowerHex;
 use rpki_files::ManifestContent;
@@ -31,6 +32,7 @@ fn push_number(text: &mut String, number: Serial) -> Result<(), AllocError>
 }
 
 /// Appends the line of the moment of this manifest.
+#[tactic(auto, unfolding(crate::specs::Texts::Manifest::this_line))]
 fn push_this(text: &mut String, moment: Time) -> Result<(), AllocError>
     ensures { Grows result text.old text.new (this_line moment) }
 {
@@ -38,6 +40,7 @@ fn push_this(text: &mut String, moment: Time) -> Result<(), AllocError>
 }
 
 /// Appends the line of the moment of the next one.
+#[tactic(auto, unfolding(crate::specs::Texts::Manifest::next_line))]
 fn push_next(text: &mut String, moment: Time) -> Result<(), AllocError>
     ensures { Grows result text.old text.new (next_line moment) }
 {
@@ -48,10 +51,9 @@ fn push_next(text: &mut String, moment: Time) -> Result<(), AllocError>
 fn push_files(text: &mut String, content: &ManifestContent) -> Result<(), AllocError>
     ensures { Grows result text.old text.new (flat_map file_line content.now.files) }
 {
-    for file in content.iter() {
+    push_each(text, content.iter(), |text, file| {
         let name = Ia5(file.file);
         let hash = LowerHex(file.hash);
-        write!(text, "file {name} {hash}\n")?;
-    }
-    Ok(())
+        write!(text, "file {name} {hash}\n")
+    })
 }

@@ -5,6 +5,7 @@ ghost use Rattle.rpki_routes.specs.Roa.{addresses};
 ghost use Rattle.rpki_command.specs.Grows.{Grows};
 ghost use Rattle.rpki_command.specs.Texts.Roa.{roa_text, number_line, origin_line};
 
+use crate::texts::lines::push_each;
 use rpki_resources::Asn;
 use rpki_routes::RouteOriginAttestation;
 use std::alloc::AllocError;
@@ -30,8 +31,7 @@ fn push_number(text: &mut String, number: Asn) -> Result<(), AllocError>
 fn push_origins(text: &mut String, content: &RouteOriginAttestation) -> Result<(), AllocError>
     ensures { Grows result text.old text.new (flat_map origin_line (addresses content.now)) }
 {
-    for origin in content.iter() {
-        write!(text, "origin {origin}\n")?;
-    }
-    Ok(())
+    push_each(text, content.iter(), |text, origin| {
+        write!(text, "origin {origin}\n")
+    })
 }

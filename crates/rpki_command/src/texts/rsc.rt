@@ -7,6 +7,7 @@ ghost use Rattle.rpki_command.specs.Texts.Rsc.{rsc_text, as_lines, v4_lines, v6_
 ghost use Rattle.rpki_command.specs.Texts.Rsc.{name_text, checked_line};
 
 use crate::texts::ia5::Ia5;
+use crate::texts::lines::push_each;
 use rpki_der::LowerHex;
 use rpki_files::ResourceSignedChecklist;
 use rpki_resources::{AddressFamily, AsBlocks, IpBlocks};
@@ -28,44 +29,40 @@ pub fn push_rsc(text: &mut String, content: &ResourceSignedChecklist) -> Result<
 fn push_numbers(text: &mut String, blocks: &AsBlocks) -> Result<(), AllocError>
     ensures { Grows result text.old text.new (as_lines blocks.now) }
 {
-    for block in blocks.iter() {
-        write!(text, "as {block}\n")?;
-    }
-    Ok(())
+    push_each(text, blocks.iter(), |text, block| {
+        write!(text, "as {block}\n")
+    })
 }
 
 /// Appends a line for each block of IPv4 addresses.
 fn push_v4(text: &mut String, blocks: &IpBlocks) -> Result<(), AllocError>
     ensures { Grows result text.old text.new (v4_lines blocks.now) }
 {
-    for block in blocks.iter() {
+    push_each(text, blocks.iter(), |text, block| {
         let block = block.display(AddressFamily::Ipv4);
-        write!(text, "v4 {block}\n")?;
-    }
-    Ok(())
+        write!(text, "v4 {block}\n")
+    })
 }
 
 /// Appends a line for each block of IPv6 addresses.
 fn push_v6(text: &mut String, blocks: &IpBlocks) -> Result<(), AllocError>
     ensures { Grows result text.old text.new (v6_lines blocks.now) }
 {
-    for block in blocks.iter() {
+    push_each(text, blocks.iter(), |text, block| {
         let block = block.display(AddressFamily::Ipv6);
-        write!(text, "v6 {block}\n")?;
-    }
-    Ok(())
+        write!(text, "v6 {block}\n")
+    })
 }
 
 /// Appends a line for each file.
 fn push_files(text: &mut String, content: &ResourceSignedChecklist) -> Result<(), AllocError>
     ensures { Grows result text.old text.new (flat_map checked_line content.now.files) }
 {
-    for file in content.iter() {
+    push_each(text, content.iter(), |text, file| {
         push_name(text, file.file_name)?;
         let hash = LowerHex(file.hash);
-        write!(text, "{hash}\n")?;
-    }
-    Ok(())
+        write!(text, "{hash}\n")
+    })
 }
 
 /// Appends what stands before the hash of a file: its name, if it has one.

@@ -1,11 +1,12 @@
 //! The lines of a trust anchor locator.
 
+ghost use Rattle.std.specs.List.{flat_map};
 ghost use Rattle.rpki_command.specs.Grows.{Grows};
 ghost use Rattle.rpki_command.specs.Texts.Tal.{tal_text, uri_line, key_line};
 
-use crate::texts::lines::{Lines, push_each};
+use crate::texts::lines::push_each;
 use rpki_keys::PublicKey;
-use rpki_tal::{Tal, TalUri};
+use rpki_tal::Tal;
 use std::alloc::AllocError;
 use std::fmt::Write;
 
@@ -14,17 +15,15 @@ pub fn push_tal(text: &mut String, tal: &Tal) -> Result<(), AllocError>
     ensures { Grows result text.old text.new (tal_text tal.now.uris tal.now.key) }
 {
     write!(text, "tal\n")?;
-    push_each(text, tal.uris().as_slice())?;
+    push_uris(text, tal)?;
     push_key(text, tal.key_info())
 }
 
-impl Lines for TalUri {
-    ghost lines = { uri_line };
-
-    fn push(&self, text: &mut String) -> Result<(), AllocError> {
-        let uri = self;
-        write!(text, "uri {uri}\n")
-    }
+/// Appends a line for each URI.
+fn push_uris(text: &mut String, tal: &Tal) -> Result<(), AllocError>
+    ensures { Grows result text.old text.new (flat_map uri_line tal.now.uris) }
+{
+    push_each(text, tal.uris(), |text, uri| write!(text, "uri {uri}\n"))
 }
 
 /// Appends the line of the key.
