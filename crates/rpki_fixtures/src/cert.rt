@@ -23,6 +23,8 @@ pub struct CertOf {
     pub basic_ca: Option<bool>,
     pub usage: KeyUsage,
     pub has_purposes: bool,
+    /// A URI in front of that of the revocation list.
+    pub before_crl: Option<&'static str>,
     pub crl: Option<&'static str>,
     pub ca_issuer: Option<&'static str>,
     pub ca_repository: Option<&'static str>,
@@ -30,6 +32,8 @@ pub struct CertOf {
     pub signed_object: Option<&'static str>,
     pub rpki_notify: Option<&'static str>,
     pub overclaim: Overclaim,
+    /// The qualifiers of the policy, with their header.
+    pub qualifiers: &'static [u8],
     pub as_numbers: Numbers,
     pub v4: Numbers,
     pub v6: Numbers,
@@ -48,6 +52,7 @@ pub const TA: CertOf = CertOf {
     basic_ca: Some(true),
     usage: KeyUsage::Ca,
     has_purposes: false,
+    before_crl: None,
     crl: None,
     ca_issuer: None,
     ca_repository: Some("rsync://h/m/1/"),
@@ -55,6 +60,7 @@ pub const TA: CertOf = CertOf {
     signed_object: None,
     rpki_notify: Some("https://h/n"),
     overclaim: Overclaim::Refuse,
+    qualifiers: b"",
     as_numbers: Numbers::These(&[(0, 70000)]),
     v4: Numbers::These(&[(0, u32::MAX)]),
     v6: Numbers::These(&[(0, u32::MAX)]),
@@ -224,13 +230,22 @@ fn key_extensions(alloc: Global, cert: &CertOf) -> Result<Vec<u8>, AllocError> {
     joined(alloc, &[&basic, &subject, &authority, &usage, &purposes])
 }
 
+/// A URI as a GeneralName, where there is one.
+fn name(alloc: Global, uri: Option<&'static str>) -> Result<Vec<u8>, AllocError> {
+    match uri {
+        None => Ok(Vec::new(alloc)),
+        Some(uri) => value(alloc, 0x86, &[uri.as_bytes()]),
+    }
+}
+
 /// The place of the revocation list, where it is stated.
 fn crl(alloc: Global, cert: &CertOf) -> Result<Vec<u8>, AllocError> {
-    let Some(uri) = cert.crl else {
+    if cert.crl.is_none() {
         return Ok(Vec::new(alloc));
-    };
-    let name = value(alloc, 0x86, &[uri.as_bytes()])?;
-    let names = value(alloc, 0xA0, &[&name])?;
+    }
+    let before = name(alloc, cert.before_crl)?;
+    let own = name(alloc, cert.crl)?;
+    let names = value(alloc, 0xA0, &[&before, &own])?;
     let point = value(alloc, 0xA0, &[&names])?;
     let point = value(alloc, 0x30, &[&point])?;
     let points = value(alloc, 0x30, &[&point])?;
@@ -282,11 +297,13 @@ fn places(alloc: Global, cert: &CertOf) -> Result<Vec<u8>, AllocError> {
 
 /// The policy.
 fn policy(alloc: Global, cert: &CertOf) -> Result<Vec<u8>, AllocError> {
-    let octets: &[u8] = match cert.overclaim {
-        Overclaim::Refuse => b"\x30\x0C\x30\x0A\x06\x08\x2B\x06\x01\x05\x05\x07\x0E\x02",
-        Overclaim::Trim => b"\x30\x0C\x30\x0A\x06\x08\x2B\x06\x01\x05\x05\x07\x0E\x03",
+    let oid: &[u8] = match cert.overclaim {
+        Overclaim::Refuse => b"\x06\x08\x2B\x06\x01\x05\x05\x07\x0E\x02",
+        Overclaim::Trim => b"\x06\x08\x2B\x06\x01\x05\x05\x07\x0E\x03",
     };
-    extension(alloc, POLICIES, true, octets)
+    let policy = value(alloc, 0x30, &[oid, cert.qualifiers])?;
+    let policies = value(alloc, 0x30, &[&policy])?;
+    extension(alloc, POLICIES, true, &policies)
 }
 
 /// The claims of addresses, where there are any.

@@ -12,6 +12,8 @@ pub enum Change {
     Serial(u8),
     /// Both ends, as texts of UTCTime.
     Validity(&'static str, &'static str),
+    NotBefore(&'static str),
+    NotAfter(&'static str),
     /// What it states of its own key, of its issuer's, and of their use.
     SubjectKey(u64),
     AuthorityKey(Option<u64>),
@@ -20,8 +22,11 @@ pub enum Change {
     HasPurposes,
     /// Where it says that something lies.
     Place(Place, Option<&'static str>),
-    /// What it claims.
+    /// A URI in front of that of its revocation list.
+    BeforeCrl(&'static str),
+    /// What it claims, and the qualifiers of its policy, with their header.
     Overclaim(Overclaim),
+    Qualifiers(&'static [u8]),
     As(Numbers),
     V4(Numbers),
     V6(Numbers),
@@ -59,13 +64,17 @@ fn apply(cert: &mut CertOf, change: Change) {
         Change::Signer(key) => cert.signer = key,
         Change::Serial(serial) => cert.serial = serial,
         Change::Validity(first, last) => cert.validity = (first, last),
+        Change::NotBefore(first) => cert.validity.0 = first,
+        Change::NotAfter(last) => cert.validity.1 = last,
         Change::SubjectKey(key) => cert.subject_key = key,
         Change::AuthorityKey(key) => cert.authority_key = key,
         Change::BasicCa(basic) => cert.basic_ca = basic,
         Change::Usage(usage) => cert.usage = usage,
         Change::HasPurposes => cert.has_purposes = true,
         Change::Place(of, uri) => say_place(cert, of, uri),
+        Change::BeforeCrl(uri) => cert.before_crl = Some(uri),
         Change::Overclaim(overclaim) => cert.overclaim = overclaim,
+        Change::Qualifiers(qualifiers) => cert.qualifiers = qualifiers,
         Change::As(numbers) => cert.as_numbers = numbers,
         Change::V4(numbers) => cert.v4 = numbers,
         Change::V6(numbers) => cert.v6 = numbers,
