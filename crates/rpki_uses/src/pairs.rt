@@ -2,27 +2,27 @@
 
 ghost use Rattle.std.specs.Prelude.{IsFalse, IsTrue, IfOk};
 ghost use Rattle.rpki_paths.specs.Pairing.{AreAlike, IsPairable};
-ghost use Rattle.rpki_paths.specs.Taking.{Fits};
+ghost use Rattle.rpki_paths.specs.Pairing.{IsPair};
 
 use rpki_paths::laws::unpaired_is_unpairable;
-use rpki_paths::{Asked, PairFault, Seeks, pair_off};
+use rpki_paths::{Accepts, Asked, PairFault, pair_off};
 use std::alloc::{AllocError, Global};
 use std::sync::ledger::Ledger;
 
 /// Whether some items pair off with some others, one to one: each in its turn takes the first that
 /// fits and is left. A no means that there is no pairing at all, where those that one item fits are
 /// alike.
-pub fn are_paired<X: Seeks<Y>, Y, L: Ledger>(
+pub fn are_paired<X: Accepts<Y, L>, Y, L: Ledger>(
     alloc: Global,
     takers: &[X],
     others: &[Y],
     asked: &mut Asked<L>,
 ) -> Result<bool, AllocError>
     ensures yes { IfOk result (λ yes. IsTrue yes →
-        IsPairable (Fits X.sought X.held X.verdict) takers.now others.now) }
+        IsPairable (IsPair X.sought X.held X.verdict) takers.now others.now) }
     ensures no { IfOk result (λ yes. IsFalse yes →
-        AreAlike (Fits X.sought X.held X.verdict) takers.now others.now →
-        ¬ (IsPairable (Fits X.sought X.held X.verdict) takers.now others.now)) }
+        AreAlike (IsPair X.sought X.held X.verdict) takers.now others.now →
+        ¬ (IsPairable (IsPair X.sought X.held X.verdict) takers.now others.now)) }
 {
     unpaired_is_unpairable::<X, Y>();
     match pair_off(alloc, takers, others, asked) {
