@@ -9,7 +9,7 @@ use std::alloc::{AllocError, Global};
 use std::test::Fail;
 
 /// AS15562 with four providers.
-const CONTENT: &[u8] = b"\x30\x1D\xA0\x03\x02\x01\x01\x02\x02\x3C\xCA\x30\x12\x02\x02\x0B\x62\x02\
+pub const CONTENT: &[u8] = b"\x30\x1D\xA0\x03\x02\x01\x01\x02\x02\x3C\xCA\x30\x12\x02\x02\x0B\x62\x02\
     \x02\x20\x5B\x02\x03\x00\xC7\x90\x02\x03\x03\x25\x9E";
 
 /// Contents, what they say or why they are refused, and what is written.
@@ -126,7 +126,7 @@ pub fn read(
 }
 
 /// The customer and its providers.
-fn content_text(alloc: Global, content: &AsProviderAttestation) -> Result<String, AllocError> {
+pub fn content_text(alloc: Global, content: &AsProviderAttestation) -> Result<String, AllocError> {
     let customer = content.customer_as();
     let mut text = format!(in alloc; "{customer}")?;
     for provider in content.provider_as_set().iter() {
@@ -187,18 +187,5 @@ fn sets_and_claims(rt: HostRuntime) -> Result<(), AllocError> {
         }
         _ => assert!(rt; false),
     }
-    Ok(())
-}
-
-#[test]
-fn copies(rt: HostRuntime) -> Result<(), AllocError> {
-    let Ok(content) = read(rt.alloc(), CONTENT, ProviderLimit::Narrow)? else {
-        assert!(rt; false);
-        return Ok(());
-    };
-    let (text, copy) = (content_text(rt.alloc(), &content)?, content.clone()?);
-    assert!(rt; content_text(rt.alloc(), &copy)? == text);
-    let providers = copy.provider_as_set().clone()?;
-    assert_eq!(rt; providers.iter().clone()?.count(), 4);
     Ok(())
 }

@@ -18,7 +18,7 @@ const WITH_MAX: &[u8] = b"\x30\x1A\x02\x03\x00\xFB\xF0\x30\x13\x30\x11\x04\x02\x
 const NONE: &[u8] = b"\x30\x07\x02\x03\x00\xFB\xF0\x30\x00";
 
 /// AS64496, 192.0.2.0/24 and 2001:db8::/32.
-const BOTH: &[u8] = b"\x30\x28\x02\x03\x00\xFB\xF0\x30\x21\x30\x0E\x04\x02\x00\x01\x30\x08\x30\x06\
+pub const BOTH: &[u8] = b"\x30\x28\x02\x03\x00\xFB\xF0\x30\x21\x30\x0E\x04\x02\x00\x01\x30\x08\x30\x06\
     \x03\x04\x00\xC0\x00\x02\x30\x0F\x04\x02\x00\x02\x30\x09\x30\x07\x03\x05\x00\x20\x01\x0D\xB8";
 
 /// Contents, what they say or why they are refused, and what is written.
@@ -177,7 +177,7 @@ pub fn read(
 }
 
 /// The autonomous system and its prefixes.
-fn content_text(alloc: Global, content: &RouteOriginAttestation) -> Result<String, AllocError> {
+pub fn content_text(alloc: Global, content: &RouteOriginAttestation) -> Result<String, AllocError> {
     let asn = content.as_id();
     let mut text = format!(in alloc; "{asn}")?;
     for address in content.iter() {
@@ -231,21 +231,5 @@ fn origins(rt: HostRuntime) -> Result<(), AllocError> {
         text.as_str(),
         "AS64496 192.0.2.0/24;AS64496 2001:db8::/32;"
     );
-    Ok(())
-}
-
-#[test]
-fn copies(rt: HostRuntime) -> Result<(), AllocError> {
-    let Ok(content) = read(rt.alloc(), BOTH)? else {
-        assert!(rt; false);
-        return Ok(());
-    };
-    let (text, copy) = (content_text(rt.alloc(), &content)?, content.clone()?);
-    assert!(rt; content_text(rt.alloc(), &copy)? == text);
-    let mut origins = copy.iter_origins();
-    assert!(rt; origins.next().is_some());
-    assert_eq!(rt; origins.clone()?.count(), 1);
-    assert_eq!(rt; copy.iter().clone()?.count(), 2);
-    assert_eq!(rt; copy.v6_addrs().clone()?.iter().count(), 1);
     Ok(())
 }
