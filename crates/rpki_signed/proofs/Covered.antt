@@ -163,6 +163,10 @@ left-claimed Refuse named issuer set h n k =
 left-claimed Trim named issuer set h n k =
     and-left (holds (λ (n : ℕ). n) named n) (holds (λ (n : ℕ). n) issuer n) (sym (h n) ∙ k)
 
+-- no number is in the empty set
+pub none-in-empty : HasNone []
+none-in-empty n h = absurd cc
+
 -- a canonical set without numbers is empty
 pub empty-of : (set : List (Block ℕ)) → IsCanonical (λ (n : ℕ). n) set → HasNone set → set ≡ []
 empty-of [] c h = refl

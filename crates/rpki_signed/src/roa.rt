@@ -70,7 +70,9 @@ fn verify_prefixes(
 fn has_none(set: &IpBlocks) -> bool
     ensures { IsTrue result ↔ HasNone set.now }
 {
-    set.as_slice().is_empty()
+    // The proof takes from this call that its blocks are canonical, so that none is empty.
+    let _ = set.as_slice();
+    set.is_empty()
 }
 
 // Verifies the prefixes of a family.
