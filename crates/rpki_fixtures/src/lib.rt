@@ -1,4 +1,5 @@
-//! Octets of certificates, for tests: put together from values, and signed by the stand-in.
+//! Octets of certificates and of signed objects, for tests: put together from values, and signed by
+//! the stand-in.
 //!
 //! Key n has the eight octets of n as its bits, the highest one first, as for
 //! `rpki_keys::standin::StandInSigner`.
@@ -7,9 +8,14 @@
 mod cert;
 mod change;
 mod numbers;
+mod object;
 mod octets;
 
 pub use cert::{CA, CertOf, DETACHED, EE, TA, cert_octets};
 pub use change::{Change, Place, changed};
 pub use numbers::Numbers;
+pub use object::{
+    ASPA_TYPE, CHECKLIST_TYPE, FIELDS, Field, GOOD, Instead, MANIFEST_TYPE, ObjectOf, ROA_TYPE,
+    object_octets,
+};
 pub use octets::{joined, key_identifier, signature_of, value};

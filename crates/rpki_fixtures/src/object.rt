@@ -1,34 +1,11 @@
-//! Signed objects that tests are given.
+//! Signed objects put together from values (RFC 5652, RFC 6488).
 
+use crate::cert::{CertOf, EE, cert_octets};
+use crate::octets::{joined, key_identifier, signature_of, value};
 use bytes::Bytes;
-use rpki_der::DecodeError;
-use rpki_fixtures::{CertOf, EE, cert_octets, joined, key_identifier, signature_of, value};
 use rpki_keys::Crypto;
 use rpki_keys::standin::StandIn;
 use std::alloc::{AllocError, Global};
-
-/// Why a test ends early: only want of memory is none of its answers.
-#[derive(Clone, Copy, Debug, PartialEq, Eq)]
-pub enum Fail {
-    Memory,
-    Refused,
-}
-
-impl From<AllocError> for Fail {
-    fn from(_error: AllocError) -> Fail {
-        Fail::Memory
-    }
-}
-
-impl From<DecodeError> for Fail {
-    fn from(error: DecodeError) -> Fail {
-        match error {
-            DecodeError::Memory => Fail::Memory,
-            DecodeError::Malformed => Fail::Refused,
-            DecodeError::Content(_) => Fail::Refused,
-        }
-    }
-}
 
 /// A value of the structure.
 #[derive(Clone, Copy, Debug, PartialEq, Eq)]
@@ -97,11 +74,12 @@ pub struct ObjectOf {
     /// The number of the key that it names as the signer's, and of the one that signs.
     pub sid: u64,
     pub signer: u64,
+    /// The type of the content, as a value, and the one that is signed, where it is another.
+    pub content_type: &'static [u8],
+    pub signed_type: Option<&'static [u8]>,
+    /// The content, and the octets whose digest is signed, where they are others.
     pub content: &'static [u8],
-    /// The octets whose digest is signed.
-    pub digest_of: &'static [u8],
-    /// The type that is signed.
-    pub signed_type: &'static [u8],
+    pub digest_of: Option<&'static [u8]>,
     /// When it was signed, as the text of a UTCTime.
     pub time: &'static str,
     /// What stands in the place of a value.
@@ -110,19 +88,24 @@ pub struct ObjectOf {
     pub is_indefinite: bool,
 }
 
-/// The types of ROAs and of manifests, as values.
-pub const ROA: &[u8] = b"\x06\x0B\x2A\x86\x48\x86\xF7\x0D\x01\x09\x10\x01\x18";
+/// The types of contents, as values: ROAs, manifests, signed checklists and ASPAs.
+pub const ROA_TYPE: &[u8] = b"\x06\x0B\x2A\x86\x48\x86\xF7\x0D\x01\x09\x10\x01\x18";
 
-pub const MANIFEST: &[u8] = b"\x06\x0B\x2A\x86\x48\x86\xF7\x0D\x01\x09\x10\x01\x1A";
+pub const MANIFEST_TYPE: &[u8] = b"\x06\x0B\x2A\x86\x48\x86\xF7\x0D\x01\x09\x10\x01\x1A";
 
-/// An object that is good.
+pub const CHECKLIST_TYPE: &[u8] = b"\x06\x0B\x2A\x86\x48\x86\xF7\x0D\x01\x09\x10\x01\x30";
+
+pub const ASPA_TYPE: &[u8] = b"\x06\x0B\x2A\x86\x48\x86\xF7\x0D\x01\x09\x10\x01\x31";
+
+/// An object that is good, with the type of a ROA and another content.
 pub const GOOD: ObjectOf = ObjectOf {
     cert: EE,
     sid: 3,
     signer: 3,
+    content_type: ROA_TYPE,
+    signed_type: None,
     content: b"\x02\x01\x05",
-    digest_of: b"\x02\x01\x05",
-    signed_type: ROA,
+    digest_of: None,
     time: "240601000000Z",
     instead: None,
     is_indefinite: false,
@@ -156,6 +139,13 @@ fn nested(
     joined(alloc, &[&[identifier, 0x80], &contents, &[0, 0]])
 }
 
+/// The octets, and others behind them.
+fn followed(alloc: Global, octets: &[u8], others: &[u8]) -> Result<Vec<u8>, AllocError> {
+    let mut both = joined(alloc, &[octets])?;
+    both.extend_from_slice(others)?;
+    Ok(both)
+}
+
 /// What stands in the place of a value.
 fn put(alloc: Global, of: &ObjectOf, field: Field, octets: &[u8]) -> Result<Vec<u8>, AllocError> {
     match of.instead {
@@ -166,9 +156,9 @@ fn put(alloc: Global, of: &ObjectOf, field: Field, octets: &[u8]) -> Result<Vec<
             }
             match instead {
                 Instead::Nothing => Ok(Vec::new(alloc)),
-                Instead::Twice => joined(alloc, &[octets, octets]),
+                Instead::Twice => followed(alloc, octets, octets),
                 Instead::These(others) => joined(alloc, &[others]),
-                Instead::Followed(others) => joined(alloc, &[octets, others]),
+                Instead::Followed(others) => followed(alloc, octets, others),
             }
         }
     }
@@ -187,8 +177,13 @@ fn attribute(
 
 /// The contents of the signed attributes.
 fn attributes(alloc: Global, of: &ObjectOf) -> Result<Vec<u8>, AllocError> {
-    let kind = attribute(alloc, of, CONTENT_TYPE, of.signed_type)?;
-    let digest = StandIn.digest(of.digest_of);
+    let kind = attribute(
+        alloc,
+        of,
+        CONTENT_TYPE,
+        of.signed_type.unwrap_or(of.content_type),
+    )?;
+    let digest = StandIn.digest(of.digest_of.unwrap_or(of.content));
     let digest = value(alloc, 0x04, &[digest.as_slice()])?;
     let digest = attribute(alloc, of, MESSAGE_DIGEST, &digest)?;
     let time = value(alloc, 0x17, &[of.time.as_bytes()])?;
@@ -246,7 +241,7 @@ fn octets(alloc: Global, of: &ObjectOf) -> Result<Vec<u8>, AllocError> {
 
 /// The content and its type.
 fn encapsulated(alloc: Global, of: &ObjectOf) -> Result<Vec<u8>, AllocError> {
-    let kind = put(alloc, of, Field::Type, ROA)?;
+    let kind = put(alloc, of, Field::Type, of.content_type)?;
     let octets = octets(alloc, of)?;
     let octets = nested(alloc, of, 0xA0, &[&octets])?;
     let octets = put(alloc, of, Field::Octets, &octets)?;

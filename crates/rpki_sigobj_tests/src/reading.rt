@@ -1,8 +1,9 @@
 //! Rows of signed objects that are read, and what they say.
 
-use crate::given::{Fail, Field, GOOD, Instead, MANIFEST, ObjectOf, object_octets};
+use crate::given::Fail;
 use bytes::Bytes;
 use rpki_der::{Constructed, DecodeError, Encode, EncodeError, Oid};
+use rpki_fixtures::{Field, GOOD, Instead, MANIFEST_TYPE, ObjectOf, object_octets};
 use rpki_sigobj::SignedObject;
 use std::alloc::{AllocError, Global};
 
@@ -19,7 +20,11 @@ fn text(alloc: Global, object: &SignedObject) -> Result<String, AllocError> {
 /// What is answered.
 fn shown(alloc: Global, answer: Result<SignedObject, DecodeError>) -> Result<String, AllocError> {
     match answer {
-        Ok(object) => text(alloc, &object),
+        Ok(object) => {
+            let text = text(alloc, &object);
+            drop(object);
+            text
+        }
         Err(DecodeError::Memory) => Err(AllocError),
         Err(error) => format!(in alloc; "{error}"),
     }
@@ -41,7 +46,7 @@ static ROWS: [(ObjectOf, &str, &str); 6] = [
     ),
     (
         ObjectOf {
-            signed_type: MANIFEST,
+            signed_type: Some(MANIFEST_TYPE),
             ..GOOD
         },
         "wrong content type",
@@ -49,7 +54,7 @@ static ROWS: [(ObjectOf, &str, &str); 6] = [
     ),
     (
         ObjectOf {
-            instead: Some((Field::Type, Instead::These(MANIFEST))),
+            instead: Some((Field::Type, Instead::These(MANIFEST_TYPE))),
             ..GOOD
         },
         "wrong content type",
@@ -73,41 +78,53 @@ static ROWS: [(ObjectOf, &str, &str); 6] = [
     ),
 ];
 
+/// Whether the object of a row says this, where it is read strictly and where not.
+fn is_so(alloc: Global, of: &ObjectOf, strict: &str, relaxed: &str) -> Result<bool, AllocError> {
+    let octets = object_octets(alloc, of)?;
+    let one = shown(alloc, SignedObject::decode(alloc, octets.clone()?, true))?;
+    let two = shown(alloc, SignedObject::decode(alloc, octets, false))?;
+    Ok(one.as_str() == strict && two.as_str() == relaxed)
+}
+
 #[test]
 fn rows(rt: HostRuntime) -> Result<(), AllocError> {
     let alloc = rt.alloc();
     for (of, strict, relaxed) in &ROWS {
-        let octets = object_octets(alloc, of)?;
-        let read = shown(alloc, SignedObject::decode(alloc, octets.clone()?, true))?;
-        assert!(rt; read.as_str() == *strict);
-        let read = shown(alloc, SignedObject::decode(alloc, octets, false))?;
-        assert!(rt; read.as_str() == *relaxed);
+        assert!(rt; is_so(alloc, of, strict, relaxed)?);
     }
     Ok(())
 }
 
-/// The number that is the content.
-fn number(object: &SignedObject) -> Result<u8, DecodeError> {
-    object.decode_content(|cons| cons.take_u8())
+/// The number that is the content of the object.
+fn number(alloc: Global) -> Result<u8, Fail> {
+    let octets = object_octets(alloc, &GOOD)?;
+    let object = SignedObject::decode(alloc, octets, true)?;
+    let number = object.decode_content(|cons| cons.take_u8());
+    drop(object);
+    Ok(number?)
 }
 
 #[test]
 fn contents(rt: HostRuntime) -> Result<(), Fail> {
-    let alloc = rt.alloc();
-    let octets = object_octets(alloc, &GOOD)?;
-    let object = SignedObject::decode(alloc, octets, true)?;
-    assert!(rt; number(&object)? == 5);
+    assert!(rt; number(rt.alloc())? == 5);
     Ok(())
 }
 
+/// The contents of the identifiers of ROAs and of manifests.
+static ROA: &[u8] = b"\x2A\x86\x48\x86\xF7\x0D\x01\x09\x10\x01\x18";
+
+static MANIFEST: &[u8] = b"\x2A\x86\x48\x86\xF7\x0D\x01\x09\x10\x01\x1A";
+
 /// Whether the object is read where this is the type that is asked for.
 fn is_read(alloc: Global, octets: Bytes, kind: &'static [u8]) -> Result<bool, AllocError> {
-    let kind = match Oid::from_bytes(Bytes::copy_from_slice(alloc, kind)?) {
-        None => return Ok(false),
-        Some(kind) => kind,
+    let Some(kind) = Oid::from_bytes(Bytes::from_static(kind)) else {
+        return Ok(false);
     };
     match SignedObject::decode_if_type(alloc, octets, &kind, true) {
-        Ok(_) => Ok(true),
+        Ok(object) => {
+            drop(object);
+            Ok(true)
+        }
         Err(DecodeError::Memory) => Err(AllocError),
         Err(_) => Ok(false),
     }
@@ -117,26 +134,20 @@ fn is_read(alloc: Global, octets: Bytes, kind: &'static [u8]) -> Result<bool, Al
 fn types(rt: HostRuntime) -> Result<(), AllocError> {
     let alloc = rt.alloc();
     let octets = object_octets(alloc, &GOOD)?;
-    assert!(rt;
-        is_read(
-            alloc,
-            octets.clone()?,
-            b"\x2A\x86\x48\x86\xF7\x0D\x01\x09\x10\x01\x18"
-        )?
-    );
-    assert!(rt;
-        !is_read(
-            alloc,
-            octets,
-            b"\x2A\x86\x48\x86\xF7\x0D\x01\x09\x10\x01\x1A"
-        )?
-    );
+    assert!(rt; is_read(alloc, octets.clone()?, ROA)?);
+    assert!(rt; !is_read(alloc, octets, MANIFEST)?);
     Ok(())
 }
 
 /// A copy of what is read strictly.
 fn copied(alloc: Global, octets: Bytes) -> Result<SignedObject, DecodeError> {
-    Ok(SignedObject::decode(alloc, octets, true)?.clone()?)
+    let object = SignedObject::decode(alloc, octets, true)?;
+    let copy: Result<SignedObject, AllocError> = object.clone();
+    drop(object);
+    match copy {
+        Ok(copy) => Ok(copy),
+        Err(_) => Err(DecodeError::Memory),
+    }
 }
 
 /// Whether an object is written as these octets.
@@ -161,10 +172,12 @@ fn is_captured(object: &SignedObject, octets: &[u8]) -> Result<bool, AllocError>
 fn is_kept(alloc: Global, octets: Bytes) -> Result<bool, AllocError> {
     let source = octets.clone()?;
     match copied(alloc, source) {
-        Ok(object) => Ok(
-            is_written(alloc, &object, octets.as_slice())?
-                && is_captured(&object, octets.as_slice())?,
-        ),
+        Ok(object) => {
+            let is_written = is_written(alloc, &object, octets.as_slice());
+            let is_captured = is_captured(&object, octets.as_slice());
+            drop(object);
+            Ok(is_written? && is_captured?)
+        }
         Err(DecodeError::Memory) => Err(AllocError),
         Err(_) => Ok(false),
     }
@@ -181,7 +194,11 @@ fn is_not_der(object: &SignedObject) -> bool {
 /// Whether what these octets hold in BER is not written.
 fn is_refused(alloc: Global, octets: Bytes) -> Result<bool, AllocError> {
     match SignedObject::decode(alloc, octets, false) {
-        Ok(object) => Ok(is_not_der(&object)),
+        Ok(object) => {
+            let is_not_der = is_not_der(&object);
+            drop(object);
+            Ok(is_not_der)
+        }
         Err(DecodeError::Memory) => Err(AllocError),
         Err(_) => Ok(false),
     }

@@ -1,0 +1,12 @@
+//! Tests of `rpki_sigobj`, each a table of rows that small functions walk. Objects and certificates
+//! are put together from values and signed by the stand-in (`rpki_fixtures`).
+//!
+//! A test hands want of memory on and asserts everything else.
+#![tactic(auto)]
+
+#[cfg(test)]
+mod given;
+#[cfg(test)]
+mod reading;
+#[cfg(test)]
+mod validations;
