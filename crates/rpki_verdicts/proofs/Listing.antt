@@ -1,16 +1,16 @@
 -- A verdict of a list as a test, and the octets of a key as pieces.
 use Rattle.std.proofs.Common.{◌≡◌, ℕ, ◌+◌, ◌<◌, ◌^◌, List, [], ◌∷◌, ◌++◌, length, Bool, true, false, refl}
-use Rattle.std.proofs.Common.{sym, ap, subst, ◌∙◌, arith, IsTrue, append_assoc, length-append}
-use Rattle.std.specs.Prelude.{bytes_eq, ◌&&◌, nat_lt, ◌↔◌}
+use Rattle.std.proofs.Common.{sym, ap, ◌∙◌, arith, append_assoc, length-append}
+use Rattle.std.specs.Prelude.{bytes_eq, ◌&&◌, nat_lt}
 use Rattle.std.specs.Bool.{Decides}
-use Rattle.std.specs.List.{list_any, Contains}
-use Rattle.std.proofs.lemmas.Bool.Decides.{same_from_decides, Decides-ltb}
+use Rattle.std.specs.List.{Contains}
+use Rattle.std.proofs.lemmas.Bool.Decides.{Decides-ltb}
 use Rattle.std.proofs.lemmas.List.Folds.{list_any_at}
 use Rattle.std.proofs.lemmas.Map.Views.{Contains-from_any}
 use Rattle.std.proofs.lemmas.Slice.Eq.{bytes_eq-Decides}
 use Rattle.rpki_der.specs.Write.Written.{length_octets, value_octets, bit_string_contents}
 use Rattle.rpki_der.specs.Write.Written.{length_value_octets_le}
-use Rattle.rpki_der.specs.Tags.{SEQUENCE, BIT_STRING}
+use Rattle.rpki_der.specs.Tags.{BIT_STRING}
 use Rattle.rpki_der.proofs.Writing.Strings.{bits-whole}
 use Rattle.rpki_keys.specs.Algorithm.{algorithm_and_null, rsa_encryption}
 use Rattle.rpki_keys.specs.KeyForm.{key_contents, key_octets}
