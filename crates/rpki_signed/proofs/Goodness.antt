@@ -87,8 +87,8 @@ module _ {X : Type 0} (kind : Kind X) (mode : Mode) (digest : Digester) (verdict
           (means.same claims issuer.sets v.sets h.valid.sets sets mine g.covered)).1
 
       of : (said : Result (Unit {0}) ValidationError) → h.said ≡ said
-          → (no : ValidationError) × Says (Err no)
-      of (Err no) e = (no, subst Says e (h.asked before).1)
+          → (fault : ValidationError) × Says (Err fault)
+      of (Err why) e = (why, subst Says e (h.asked before).1)
       of (Ok done) e = absurd (first-fails (unasked kind digest verdict o issuer now
           ++ (said_checks h.said ++ kind.held o.content h.valid.sets)) fault h.first
           (hold-join (unasked kind digest verdict o issuer now)
