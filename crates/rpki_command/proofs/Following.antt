@@ -38,7 +38,8 @@ no-text [] n l none all = absurd (omega (arith, l))
 no-text (name ∷ rest) n l none all =
     none name (subst IsUtf8 (sym (at-next name rest n name)) (all n name (omega (arith, l))))
 
-pub no_words : (told : ToldArguments) (n : ℕ) (error : WordsError) → IsWordAt told (n + 1) (Err error)
+pub no_words : (told : ToldArguments) (n : ℕ) (error : WordsError)
+    → IsWordAt told (n + 1) (Err error)
     → AreWords told (Err error)
 no_words None n NoText h = tt
 no_words None n Memory h = tt
@@ -51,7 +52,8 @@ all-first : (arguments words : List (List ℕ)) (n : ℕ) → length arguments �
 all-first [] words n l e = e ∙ all-taken n [] (omega arith)
 all-first (name ∷ rest) words n l e = e ∙ all-taken n rest (omega (arith, l))
 
-pub no-more : (told : ToldArguments) (n : ℕ) (words : List (List ℕ)) → IsWordAt told (n + 1) (Ok None)
+pub no-more : (told : ToldArguments) (n : ℕ) (words : List (List ℕ))
+    → IsWordAt told (n + 1) (Ok None)
     → AreFirst told n words → Follow told words
 no-more None n words l e = tt
 no-more (Some arguments) n words l e = all-first arguments words n l e

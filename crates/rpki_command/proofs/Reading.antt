@@ -1,5 +1,6 @@
 -- The first file that can't be read.
-use Rattle.std.proofs.Common.{◌≡◌, ◌+◌, ◌<◌, ℕ, List, [], ◌∷◌, length, get_or, Option, Some, None, Ok}
+use Rattle.std.proofs.Common.{◌≡◌, ◌+◌, ◌<◌, ℕ, List, [], ◌∷◌, length, get_or, Option, Some, None}
+use Rattle.std.proofs.Common.{Ok}
 use Rattle.std.proofs.Common.{Err, Vec, Global, Bor, arith, subst}
 use Rattle.std.proofs.lemmas.List.{length-map, get_or-map}
 use Rattle.rpki_command.specs.Store.{Told, IsRead, AreReadTo, IsFirstUnreadable, AreSomeRead}
@@ -19,7 +20,8 @@ none-before told names i (f ∷ fs) e h k d l t =
     subst (λ (x : Option (Option (List ℕ))). IsRead x (Ok (get_or (f ∷ fs) k f))) t (h k d f l)
 
 pub first-unreadable : (told now : Told) (error : StoreError) (names : List (Bor (List ℕ))) (i : ℕ)
-    (d : Bor (List ℕ)) (files : List (Vec ℕ Global)) (old new : ℕ) → i < length names → length files ≡ i
+    (d : Bor (List ℕ)) (files : List (Vec ℕ Global)) (old new : ℕ) → i < length names
+    → length files ≡ i
     → AreReadTo told (texts names) i files
     → now ≡ told → error ≡ Unreadable → IsRead (now (get_or names i d).now) (Err error)
     → new ≡ old + (i + 1) → IsFirstUnreadable told (texts names) old new (get_or names i d).now

@@ -11,7 +11,8 @@ Grows result old new octets = OnOk result (string_bytes new ≡ string_bytes old
 -- A call that is handed a text and an item, and of which this is known, appends the line of what
 -- the item says, unless memory runs out.
 abbrev pub AppendsLine : {Item Shown : Type 0}
-    → (MutBor (String Global) → Item → Result (Unit {0}) AllocError → MutBor (String Global) → Type 0)
+    → (MutBor (String Global) → Item → Result (Unit {0}) AllocError → MutBor (String Global)
+    → Type 0)
     → (Item → Shown) → (Shown → List ℕ) → Type 0
 AppendsLine {Item} called shown line = (item : Item) (text : MutBor (String Global))
     (result : Result (Unit {0}) AllocError) (after : MutBor (String Global))

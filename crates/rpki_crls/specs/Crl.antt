@@ -1,5 +1,5 @@
 -- Revocation lists. The sections are those of RFC 5280, where no other RFC is named.
-use Rattle.std.specs.Prelude.{◌≡◌, ℕ, List, [], ◌∷◌, Some}
+use Rattle.std.specs.Prelude.{◌≡◌, ℕ, List, [], ◌∷◌, Some, Bool, true}
 use Rattle.rpki_der.specs.declared.mode.Mode.{Mode}
 use Rattle.rpki_der.specs.Grammar.{Integer, OctetsInBits}
 use Rattle.rpki_der.specs.Form.Made.{WithOctets, made, with_octets}
@@ -11,6 +11,9 @@ use Rattle.rpki_keys.specs.NameForm.{NameForm, name_at}
 use Rattle.rpki_basics.specs.Moment.{Moment}
 use Rattle.rpki_basics.specs.TimeForm.{TimeForm}
 use Rattle.rpki_basics.specs.TimeRead.{time_at}
+use Rattle.rpki_faults.specs.Checks.{Check, ◌unless◌}
+use Rattle.rpki_faults.specs.declared.verification.VerificationError.{VerificationError}
+use Rattle.rpki_faults.specs.declared.verification.VerificationError.TheVariants.{BadSignature}
 use Rattle.rpki_crls.specs.declared.extensions.CrlExtensions.{CrlExtensions}
 use Rattle.rpki_crls.specs.Entry.{RevokedForm, revoked_at}
 use Rattle.rpki_crls.specs.Extensions.{CrlExtensionsForm, crl_extensions_at}
@@ -67,6 +70,16 @@ pub record KeptCrl : Type 0 where
 -- The octets that are kept are those of the list, in their mode.
 abbrev pub IsKept : KeptCrl → Type 0
 IsKept k = CrlForm k.mode k.list.octets k.list
+
+-- The key with these bits signed the list, by this verdict on key, message and signature: the
+-- octets of what is signed, as they stand in it (6.3.3).
+abbrev pub IsSignedBy : (List ℕ → List ℕ → List ℕ → Bool) → List ℕ → RevocationList → Type 0
+IsSignedBy verdict key list = verdict key list.signed list.signature ≡ true
+
+-- The key with these bits has to have signed the list.
+abbrev pub signature_checks : (List ℕ → List ℕ → List ℕ → Bool) → List ℕ → RevocationList
+    → List (Check VerificationError)
+signature_checks verdict key list = (BadSignature unless IsSignedBy verdict key list) ∷ []
 
 -- ---- as functions
 

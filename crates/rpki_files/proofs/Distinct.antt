@@ -58,7 +58,8 @@ module _ {I : Type 0} (key : I → List ℕ) where
   none-seen set e [] = refl
   none-seen set e (i ∷ items) =
       let none : has_octets set (key i) ≡ false =
-      subst (λ (ks : List (Bor (List ℕ))). has_octets (record { keys = ks }) (key i) ≡ false) (sym e)
+      subst (λ (ks : List (Bor (List ℕ))). has_octets (record { keys = ks }) (key i) ≡ false)
+      (sym e)
       refl in
       rw none (none-seen set e items)
 
@@ -70,7 +71,8 @@ module _ {I : Type 0} (key : I → List ℕ) where
       (q : List ℕ) → SeenSoFar key all set rest → rest ≡ x ∷ r → q ≡ key x
       → has_octets set q ≡ true → are_distinct key all ≡ false
   seen_again all rest set x r q s e is there =
-      let at : has_octets set (key x) ≡ true = subst (λ (t : List ℕ). has_octets set t ≡ true) is there in
+      let at : has_octets set (key x) ≡ true =
+      subst (λ (t : List ℕ). has_octets set t ≡ true) is there in
       s.left ∙ rw e (rw at refl)
 
   module _ (set new : BTreeSet (Bor (List ℕ))) (k : Bor (List ℕ))
@@ -84,7 +86,8 @@ module _ {I : Type 0} (key : I → List ℕ) where
         → are_fresh key new items ≡ (are_fresh key set items && not (has_key key k.now items))
     fresh-new [] = refl
     fresh-new (i ∷ items) =
-        let first : not (has_octets new (key i)) ≡ not (cond (bytes_eq (key i) k.now) true (has_octets set (key i))) =
+        let first : not (has_octets new (key i))
+        ≡ not (cond (bytes_eq (key i) k.now) true (has_octets set (key i))) =
         ap not (has-new (key i) ∙ ap (λ (t : Bool). cond t true (has_octets set (key i)))
         (bytes-swap k.now (key i))) in
         rw (first, fresh-new items)
@@ -101,11 +104,13 @@ module _ {I : Type 0} (key : I → List ℕ) where
     seen_more all rest x r s e is fresh =
         let at : has_octets set (key x) ≡ false =
         subst (λ (t : List ℕ). has_octets set t ≡ false) is fresh in
-        let begun : are_distinct key all ≡ (are_fresh key set r && (not (has_key key (key x) r) && are_distinct key r)) =
+        let begun : are_distinct key all
+        ≡ (are_fresh key set r && (not (has_key key (key x) r) && are_distinct key r)) =
         s.left ∙ rw e (rw at refl) in
         record {
           left = begun ∙ assoc (are_fresh key set r) (has_key key (key x) r) (are_distinct key r)
-              ∙ ap (λ (t : List ℕ). ((are_fresh key set r && not (has_key key t r)) && are_distinct key r)) (sym is)
+              ∙ ap (λ (t : List ℕ).
+              ((are_fresh key set r && not (has_key key t r)) && are_distinct key r)) (sym is)
               ∙ ap (λ (t : Bool). t && are_distinct key r) (sym (fresh-new r));
         }
 

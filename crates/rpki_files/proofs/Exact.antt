@@ -24,7 +24,8 @@ use Rattle.rpki_der.specs.Form.Made.{partly}
 use Rattle.rpki_der.specs.Form.Parts.{SequenceOf}
 use Rattle.rpki_der.specs.Form.Keyed.{AreDistinct}
 use Rattle.rpki_der.proofs.Form.Keyed.{distinct-decides}
-use Rattle.rpki_der.proofs.Form.Fields.{field, field-if, fixed, skipped, guard, done, within, within-if}
+use Rattle.rpki_der.proofs.Form.Fields.{field, field-if, fixed, skipped, guard, done, within}
+use Rattle.rpki_der.proofs.Form.Fields.{within-if}
 use Rattle.rpki_der.proofs.Form.Kinds.{u160-part, oid-part, bits-part, ia5-part}
 use Rattle.rpki_der.proofs.Form.Words.{pass, part-as, make, make-some, option}
 use Rattle.rpki_der.proofs.Reading.Unique.{reading, IsOneValue}
@@ -70,7 +71,8 @@ goes-on-by rule f fs false e h = rw e refl
 admits-all : (rule : ManifestRule) (fs : List File)
     → admits names_by (record { rule = rule }) fs ≡ list_all (λ f. is_allowed rule (name_of f)) fs
 admits-all rule [] = refl
-admits-all rule (f ∷ fs) = goes-on-by rule f fs (is_allowed rule (name_of f)) refl (admits-all rule fs)
+admits-all rule (f ∷ fs) =
+    goes-on-by rule f fs (is_allowed rule (name_of f)) refl (admits-all rule fs)
 
 any-all : (fs : List File) → list_all (λ f. is_allowed Any (name_of f)) fs ≡ true
 any-all [] = refl

@@ -2,7 +2,7 @@
 use Rattle.std.proofs.Common.{◌≡◌, ℕ, ◌<◌, ◌≤◌, ◌^◌, List, [], ◌∷◌, length, All}
 use Rattle.std.proofs.Common.{None, refl, sym, arith, lit<}
 use Rattle.std.proofs.lemmas.List.{append-nil}
-use Rattle.rpki_basics.specs.declared.limits.ManifestRule.TheVariants.{Any}
+use Rattle.rpki_basics.specs.declared.limits.ManifestRule.{ManifestRule}
 use Rattle.rpki_basics.specs.Moment.{stamp}
 use Rattle.rpki_basics.specs.TimeForm.{TimeForm, generalized_octets}
 use Rattle.rpki_basics.specs.Serial.{SerialForm, serial_octets}
@@ -19,7 +19,7 @@ use Rattle.rpki_der.proofs.Writing.Leaves.{within-written, items-written}
 use Rattle.rpki_der.proofs.Writing.Strings.{bits-whole}
 use Rattle.rpki_files.specs.Name.{IsFileName}
 use Rattle.rpki_files.specs.File.{File, FileForm, HashForm, NameForm, file_octets, file_contents}
-use Rattle.rpki_files.specs.File.{is_short_file, file-small}
+use Rattle.rpki_files.specs.File.{MeetsRule, is_short_file, file-small}
 use Rattle.rpki_files.specs.Manifest.{Manifest, ManifestForm, files_octets, manifest_contents}
 use Rattle.rpki_files.specs.Manifest.{manifest_octets}
 use Rattle.rpki_files.proofs.Names.{name-below}
@@ -70,12 +70,13 @@ algorithm-written : ObjectIdentifier Der (value_octets OBJECT_IDENTIFIER sha_256
 algorithm-written = within-written 6 (λ c. (c ≡ sha_256) × IsOid sha_256) sha_256
     (tag-sound 6 refl) (lit< tt) (refl, (lit< tt, lit< tt))
 
-pub manifest-written : (m : Manifest) → SerialForm Der (serial_octets m.number) m.number
+pub manifest-written : (rule : ManifestRule) (m : Manifest) → SerialForm Der (serial_octets m.number) m.number
     → TimeForm Der (generalized_octets m.this_update) m.this_update
     → TimeForm Der (generalized_octets m.next_update) m.next_update
     → stamp m.this_update ≤ stamp m.next_update → All (λ (f : File). IsFileName f.file) m.files
-    → length (manifest_contents m) < 2 ^ 32 → ManifestForm Any Der (manifest_octets m) m
-manifest-written m number this next order names short =
+    → MeetsRule rule m.files → length (manifest_contents m) < 2 ^ 32
+    → ManifestForm rule Der (manifest_octets m) m
+manifest-written rule m number this next order names meets short =
     let a = length_parts (serial_octets m.number) _ short in
     let b = length_parts (generalized_octets m.this_update) _ a.1 in
     let c = length_parts (generalized_octets m.next_update) _ b.1 in
@@ -118,5 +119,5 @@ manifest-written m number this next order names short =
           ),
         ),
       ),
-      record { order = order; files = tt },
+      record { order = order; files = meets },
     )

@@ -87,7 +87,8 @@ is_unrepeated Registered files = are_distinct name_of files
 
 -- the files that the rule takes
 abbrev pub files_at : ManifestRule → Parser (List File)
-files_at rule = tested (is_unrepeated rule) (tested (admits names_by (record { rule = rule })) (list_at file_at))
+files_at rule = tested (is_unrepeated rule)
+    (tested (admits names_by (record { rule = rule })) (list_at file_at))
 
 -- what a call that names its refusal answers: what p finds, and what p leaves
 abbrev pub Takes : {T X E : Type 0} → (T → X) → Parser X → List ℕ → Result T E → List ℕ → Type 0

@@ -26,8 +26,9 @@ pub record Manifest : Type 0 where
   pub next_update : Moment
   pub files : List File
 
--- What is asked beyond the grammar: the next update is not before this one (section 4.2.1), and the
--- files are those that the caller's rule takes.
+-- What is asked beyond the grammar: the next update is not before this one, and the files are those
+-- that the caller's rule takes. In the standard the next update is later than this one (section
+-- 4.2.1); that both may be equal is this project's own rule.
 pub record IsManifest (rule : ManifestRule) (m : Manifest) : Type 0 where
   pub order : stamp m.this_update ≤ stamp m.next_update
   pub files : MeetsRule rule m.files

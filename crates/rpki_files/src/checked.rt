@@ -141,7 +141,7 @@ fn take_checked<'a>(reader: &mut SliceReader<'a>) -> Result<CheckedSlices<'a>, R
 }
 
 /// The files of a checklist, as a kind of entries.
-#[derive(Drop, Debug)]
+#[derive(Clone, Debug, Drop)]
 pub struct CheckedFiles;
 
 impl Kind for CheckedFiles {
@@ -165,7 +165,7 @@ impl Kind for CheckedFiles {
 }
 
 /// A file of a checklist, in a slice.
-#[derive(Debug, Drop)]
+#[derive(Clone, Debug, Drop)]
 pub struct CheckedEntry<'a>(PhantomData<&'a [u8]>);
 
 impl<'a> SliceEntry for CheckedEntry<'a> {

@@ -79,7 +79,7 @@ impl ResourceSignedChecklist {
         read_front(alloc, source)
     }
 
-    /// Reads a content, as `decode` does.
+    /// Reads a content in the mode of the reader; its files stand in DER.
     pub fn take_from(
         alloc: Global,
         cons: &mut Constructed<'_>,

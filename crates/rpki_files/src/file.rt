@@ -1,13 +1,13 @@
 //! An entry of a manifest.
 
-ghost use Rattle.std.specs.Prelude.{◌≡◌, IfOk, MatchResult};
-ghost use Rattle.rpki_der.specs.Tags.{SEQUENCE};
+ghost use Rattle.std.specs.Prelude.{◌≡◌, ◌↔◌, IfOk, MatchResult};
+ghost use Rattle.rpki_files.specs.File.{file_octets, is_short_file};
 ghost use Rattle.rpki_files.specs.Name.{IsFileName};
 
 use crate::name::is_file_name;
 use bytes::Bytes;
-use rpki_der::AsOctets;
 use rpki_der::encode::{Bits, Raw, Value, bit_string, ia5, sequence};
+use rpki_der::{AsOctets, Encode};
 use std::alloc::AllocError;
 
 /// The name of a file and its hash (RFC 9286, section 4.2).
@@ -65,12 +65,14 @@ impl<F: Clone, H: Clone> FileAndHash<F, H> {
 }
 
 impl<F: AsOctets, H: AsOctets> FileAndHash<F, H> {
-    /// The entry, to be written, whatever its octets are. The hash has no unused bits.
+    /// The entry, to be written as a SEQUENCE of its name, an IA5String, and its hash, a BIT STRING
+    /// without unused bits, whatever their octets are (RFC 9286, section 4.2).
     pub fn encode_ref(&self) -> FileEncoder<'_>
-        ensures tag { result.tag.octet ≡ SEQUENCE }
-        ensures file { result.contents.0.contents.0.now ≡ F.meaning self.now.file }
-        ensures hash { result.contents.1.contents.octets.now ≡ H.meaning self.now.hash }
-        ensures unused { result.contents.1.contents.unused ≡ 0 }
+        ensures octets { ⟦<FileEncoder<'static> as Encode>⟧.octets result ≡ file_octets
+            (record { file = F.meaning self.now.file; hash = H.meaning self.now.hash }) }
+        ensures der { ⟦<FileEncoder<'static> as Encode>⟧.is_der result }
+        ensures short { ⟦<FileEncoder<'static> as Encode>⟧.is_short result ↔ is_short_file
+            (record { file = F.meaning self.now.file; hash = H.meaning self.now.hash }) }
     {
         sequence((
             ia5(self.file.as_octets()),

@@ -66,7 +66,7 @@ fn take_file<'a>(reader: &mut SliceReader<'a>) -> Result<FileSlices<'a>, Refused
 }
 
 /// The files of a manifest, as a kind of entries.
-#[derive(Drop, Debug)]
+#[derive(Clone, Debug, Drop)]
 pub struct Files;
 
 impl Kind for Files {
@@ -90,7 +90,7 @@ impl Kind for Files {
 }
 
 /// A file of a manifest, in a slice.
-#[derive(Debug, Drop)]
+#[derive(Clone, Debug, Drop)]
 pub struct FileEntry<'a>(PhantomData<&'a [u8]>);
 
 impl<'a> SliceEntry for FileEntry<'a> {

@@ -6,14 +6,14 @@ mod read;
 ghost use Rattle.std.specs.Prelude.{◌≡◌, ◌↔◌, ◌<◌, ◌≤◌, ◌^◌, ◌++◌, ℕ, List, All, Some, length};
 ghost use Rattle.std.specs.Prelude.{IsTrue, nat_lt};
 ghost use Rattle.rpki_basics.specs.Moment.{stamp};
-ghost use Rattle.rpki_basics.specs.declared.limits.ManifestRule.TheVariants.{Any};
+ghost use Rattle.rpki_basics.specs.declared.limits.ManifestRule.{ManifestRule};
 ghost use Rattle.rpki_keys.specs.declared.algorithm.DigestAlgorithm.TheVariants.{Sha256};
 ghost use Rattle.rpki_der.specs.declared.mode.Mode.TheVariants.{Der};
 ghost use Rattle.rpki_der.specs.Read.Reads.{Reads, Stays};
 ghost use Rattle.rpki_der.specs.Form.Decodes.{Decodes, DecodesNext};
 ghost use Rattle.rpki_files.specs.Manifest.{ManifestForm, manifest_at, manifest_contents};
 ghost use Rattle.rpki_files.specs.Manifest.{manifest_octets};
-ghost use Rattle.rpki_files.specs.File.{name_of};
+ghost use Rattle.rpki_files.specs.File.{MeetsRule, name_of};
 ghost use Rattle.rpki_files.specs.Name.{IsFileName};
 ghost use Rattle.rpki_files.specs.Uris.{uris_of};
 
@@ -85,7 +85,7 @@ impl ManifestContent {
         read_front(alloc, source, rule)
     }
 
-    /// Reads a content, as `decode` does.
+    /// Reads a content in the mode of the reader; its files stand in DER.
     pub fn take_from(
         alloc: Global,
         cons: &mut Constructed<'_>,
@@ -165,13 +165,16 @@ impl ManifestContent {
     }
 
     /// The content, to be written in DER: without its version, both times as GeneralizedTime, and
-    /// each hash without unused bits.
+    /// each hash without unused bits. What is written is a content under each rule that the files
+    /// meet, and every content meets `Any`.
     pub fn encode_ref(&self) -> ManifestEncoder<'_>
         ensures value { result ≡ self.now }
-        ensures written { length (manifest_contents self.now) < 2 ^ 32
-            → ManifestForm Any Der (manifest_octets self.now) self.now }
-        ensures read { length (manifest_contents self.now) < 2 ^ 32 → (rest : List ℕ)
-            → manifest_at Any Der (manifest_octets self.now ++ rest) ≡ Some (self.now, rest) }
+        ensures written { (rule : ManifestRule) → MeetsRule rule self.now.files
+            → length (manifest_contents self.now) < 2 ^ 32
+            → ManifestForm rule Der (manifest_octets self.now) self.now }
+        ensures read { (rule : ManifestRule) → MeetsRule rule self.now.files
+            → length (manifest_contents self.now) < 2 ^ 32 → (rest : List ℕ)
+            → manifest_at rule Der (manifest_octets self.now ++ rest) ≡ Some (self.now, rest) }
     {
         // The proof takes from these calls that each field is written in its form.
         let _ = self.number.encode_ref();

@@ -97,7 +97,8 @@ fn entries_of_checklists(rt: HostRuntime) -> Result<(), AllocError> {
 
 /// A content without files, whose next update is at the beginning of 2024-01-08.
 static EMPTY: &[u8] =
-    b"0\x32\x02\x01\x0C\x18\x0F20240101000000Z\x18\x0F20240108000000Z\x06\x09`\x86H\x01e\x03\x04\x02\x010\x00";
+    b"0\x32\x02\x01\x0C\x18\x0F20240101000000Z\x18\x0F20240108000000Z\x06\x09`\x86H\x01e\x03\x04\
+    \x02\x010\x00";
 
 #[test]
 fn a_manifest_gets_stale(rt: HostRuntime) -> Result<(), AllocError> {

@@ -183,7 +183,8 @@ static ROWS: [(ManifestRule, &[u8], &str); 39] = [
           cer\x03\x05\x00hash0\x0E\x16\x05-.crl\x03\x05\x00hash0\x0E\x16\x05-.gbr\x03\x05\
           \x00hash0\x0E\x16\x05-.mft\x03\x05\x00hash0\x0E\x16\x05-.roa\x03\x05\x00hash0\
           \x0E\x16\x05-.sig\x03\x05\x00hash0\x0E\x16\x05-.tak\x03\x05\x00hash",
-        "c 2024-01-01T00:00:00Z 2024-01-08T00:00:00Z -.asa 68617368 -.cer 68617368 -.crl 68617368 -.gbr 68617368 -.mft 68617368 -.roa 68617368 -.sig 68617368 -.tak 68617368",
+        "c 2024-01-01T00:00:00Z 2024-01-08T00:00:00Z -.asa 68617368 -.cer 68617368 -.crl 68617368 \
+            -.gbr 68617368 -.mft 68617368 -.roa 68617368 -.sig 68617368 -.tak 68617368",
     ),
     (
         ManifestRule::Registered,

@@ -8,7 +8,8 @@ use crate::iter::EntryIter;
 use crate::kind::{Kind, SliceEntry};
 use rpki_der::{Encode, EncodeError, Sink, SinkFailed};
 
-/// Entries that are written.
+/// Entries that are written. That what is written is read again is each content's own clause: see
+/// `laws::lists_are_written`.
 pub trait Written: SliceEntry {
     /// What writes an entry.
     type Encoder: Encode + Drop;

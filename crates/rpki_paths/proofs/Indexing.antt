@@ -54,12 +54,19 @@ scan_push : (ids : List (List ℕ)) (id : List ℕ) (from i : ℕ) (places : Lis
     → IsScan ids id from (i + 1) (places ++ i ∷ [])
 scan_push ids id from i [] h le at_i =
     (le, omega arith, at_i, h, λ j l lt e. absurd (omega (arith, l, lt)))
-scan_push ids id from i (k ∷ places) h le at_i =
-    (h.0, omega (arith, h.1), h.2, h.3, scan_push ids id (k + 1) i places h.4 (omega (arith, h.1)) at_i)
+scan_push ids id from i (k ∷ places) h le at_i = (
+  h.0,
+  omega (arith, h.1),
+  h.2,
+  h.3,
+  scan_push ids id (k + 1) i places h.4 (omega (arith, h.1))
+      at_i,
+)
 
 -- one place more, of another identifier
 scan_other : (ids : List (List ℕ)) (id : List ℕ) (from i : ℕ) (places : List ℕ)
-    → IsScan ids id from i places → ¬ (slice_get ids i ≡ Some id) → IsScan ids id from (i + 1) places
+    → IsScan ids id from i places → ¬ (slice_get ids i ≡ Some id)
+    → IsScan ids id from (i + 1) places
 scan_other ids id from i [] h other =
     λ j l lt e. elim (cases_eq j i) [
       | inl s ↦ other (sym (ap (slice_get ids) s) ∙ e)

@@ -262,7 +262,8 @@ pub record IsSearching (cas : List Cert) (aki : Option (List ℕ)) (verifies : L
 
 pub searching_none : (cas : List Cert) (aki : Option (List ℕ)) (verifies : List ℕ → Bool)
     (named : List ℕ) (before : ℕ)
-    → IsCertScan cas aki 0 (length cas) named → IsSearching cas aki verifies named named before before
+    → IsCertScan cas aki 0 (length cas) named
+    → IsSearching cas aki verifies named named before before
 searching_none cas aki verifies named before h = record {
   from = 0;
   rest = h;

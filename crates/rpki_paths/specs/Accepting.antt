@@ -1,7 +1,8 @@
 -- What the checks of a whole attestation answer (draft-michaelson-rpki-rta).
 use Rattle.std.specs.Prelude.{◌≡◌, List, map, IsTrue}
 use Rattle.rpki_paths.specs.declared.acceptance.AcceptFault.{AcceptFault}
-use Rattle.rpki_paths.specs.declared.acceptance.AcceptFault.TheVariants.{NotValid, Crls, Keys, Digest}
+use Rattle.rpki_paths.specs.declared.acceptance.AcceptFault.TheVariants.{NotValid, Crls, Keys}
+use Rattle.rpki_paths.specs.declared.acceptance.AcceptFault.TheVariants.{Digest}
 use Rattle.rpki_paths.specs.declared.acceptance.AcceptFault.TheVariants.{Signers, Walks, Memory}
 use Rattle.rpki_paths.specs.declared.acceptance.Attestation.{Attestation}
 use Rattle.rpki_paths.specs.declared.pairs.PairFault.TheVariants.{Memory as PairMemory}
@@ -29,7 +30,8 @@ carried_of signer cert crl a = record {
 -- These are the CAs, each with the CRL that a pairing gives it, as walks see them.
 abbrev pub AreListed : {C : Type 0} → (C → Cert) → Carried → List C → Type 0
 AreListed cert a cas =
-    (crls : List Crl) × IsPairing HasCrl a.cas crls a.crls × (placed cert 1 cas ≡ authorities a crls)
+    (crls : List Crl) × IsPairing HasCrl a.cas crls a.crls
+    × (placed cert 1 cas ≡ authorities a crls)
 
 -- Every certificate is valid, all is paired, and this is kept of the paths of the certificates of
 -- the signers, on which every carried CA stands.

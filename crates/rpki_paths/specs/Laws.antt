@@ -259,14 +259,15 @@ LeftOverIsUnpairable {A} {B} R =
     (xs : List A) (partners ys left : List B) → PairsOff R xs partners ys left →
     ¬ (left ≡ []) → ¬ (IsPairable R xs ys)
 
--- Where items that one fits are alike and cannot be paired off, but for memory, there is no pairing.
+-- Where items that one fits are alike and cannot be paired off, but for memory, there is no
+-- pairing.
 abbrev pub UnpairedIsUnpairable : {A B : Type 0} → (A → B → Type 0) → Type 0
 UnpairedIsUnpairable {A} {B} R =
     (xs : List A) (ys : List B) (fault : PairFault) → ¬ (fault ≡ PairMemory) →
     AreUnpaired R xs ys fault → AreAlike R xs ys → ¬ (IsPairable R xs ys)
 
--- Handles are paired off by `R` where what they stand for is by `S`, and where they are not, it is for
--- the same reason.
+-- Handles are paired off by `R` where what they stand for is by `S`, and where they are not, it is
+-- for the same reason.
 abbrev pub PairsAlongMap : {X Y A B : Type 0} → (X → A) → (Y → B) → (X → Y → Type 0) →
     (A → B → Type 0) → Type 0
 PairsAlongMap {X} {Y} f g R S =

@@ -23,7 +23,8 @@ pub data IsFirst {A : Type 0} (P : A → Type 0) : A → List A → List A → T
 abbrev pub FitsNone : {A : Type 0} → (A → Type 0) → List A → Type 0
 FitsNone {A} P ys = (y : A) → IsIn y ys → ¬ (P y)
 
--- The item at this place is the first that fits of those that were left, and its mark alone changes.
+-- The item at this place is the first that fits of those that were left, and its mark alone
+-- changes.
 abbrev pub IsTakenAt : {A : Type 0} → (A → Type 0) → List A → List Bool → List Bool → ℕ → Type 0
 IsTakenAt {A} P ys old new place =
     (y : A) × (slice_get ys place ≡ Some y)
@@ -57,8 +58,8 @@ abbrev pub AllVerifyEach : {X Y : Type 0} → (X → List ℕ) → (Y → List �
 AllVerifyEach {X} {Y} sought held verdict xs ys =
     (x : X) → IsIn x xs → AllVerify sought held verdict x ys
 
--- The places, of which none stands twice, are those of a pairing, in which each takes the first that
--- fits of those left.
+-- The places, of which none stands twice, are those of a pairing, in which each takes the first
+-- that fits of those left.
 pub record ArePaired {A B : Type 0} (R : A → B → Type 0) (xs : List A) (ys : List B)
     (places : List ℕ) : Type 0 where
   pub partners : List B

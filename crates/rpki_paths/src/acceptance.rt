@@ -20,7 +20,8 @@ use crate::walks::{WalksFault, walk_each};
 use std::alloc::{AllocError, Global};
 use std::sync::ledger::Ledger;
 
-/// A carried signer, which takes the end-entity certificate that it names and whose key verifies it.
+/// A carried signer, which takes the end-entity certificate that it names and whose key verifies
+/// it.
 pub trait CarriedSigner<C: Certificate>: Seeks<C> {
     // What pairings see of it.
     ghost signer: { Self → Signer };
@@ -40,8 +41,8 @@ pub trait CarriedSigner<C: Certificate>: Seeks<C> {
     ghost one_verdict: { Self.price ≡ 1 };
 }
 
-/// A carried certificate, and, where it is a CA's, what takes the CRL that names it and that its key
-/// verifies.
+/// A carried certificate, and, where it is a CA's, what takes the CRL that names it and that its
+/// key verifies.
 pub trait CarriedCert<R>: Certificate + Seeks<R> {
     // What pairings see of a CRL.
     ghost crl: { R → Crl };
@@ -246,9 +247,9 @@ fn take_ees<S: CarriedSigner<C> + Accepts<C, L>, C: CarriedCert<R>, R, L: Ledger
 }
 
 /// Accepts an attestation: every certificate is valid, CAs and CRLs, signers and subject keys,
-/// signers and end-entity certificates pair off, the signers have the digest of the content, and the
-/// walks from the certificates of the signers find paths on which all CAs stand. An error is the
-/// first of these that does not hold, or want of memory. Of s signers, l CRLs and a CAs, with
+/// signers and end-entity certificates pair off, the signers have the digest of the content, and
+/// the walks from the certificates of the signers find paths on which all CAs stand. An error is
+/// the first of these that does not hold, or want of memory. Of s signers, l CRLs and a CAs, with
 /// distinct identifiers, at most s + l + s * a verdicts are asked.
 pub fn accept<S, C, R: Copy, L: Ledger>(
     alloc: Global,

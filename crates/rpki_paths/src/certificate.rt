@@ -52,8 +52,8 @@ pub trait Certificate: Copy {
         ensures { result.now ≡ (cert self.now).claim Family.V6 };
 }
 
-/// A carried certificate whose signature is asked about on this count, and on no other: a caller who
-/// knows no more of `L` has no count but the one that is handed in.
+/// A carried certificate whose signature is asked about on this count, and on no other: a caller
+/// who knows no more of `L` has no count but the one that is handed in.
 pub trait Signed<L: Ledger>: Certificate {
     /// Whether the key of another verifies its signature: one verdict, which is counted.
     fn is_signed_by(&self, issuer: &Self, asked: &mut Asked<L>) -> bool

@@ -11,7 +11,8 @@ ghost use Rattle.rpki_paths.specs.Laws.{RefusedIsUnanchored, LeftOverIsUnpairabl
 ghost use Rattle.rpki_paths.specs.Laws.{UnpairedIsUnpairable};
 ghost use Rattle.rpki_paths.specs.Laws.{FinalIsDecided, UnanchoredIsRefused, RefusedHasNoPath};
 ghost use Rattle.rpki_paths.specs.Laws.{RefusedHasNoPaths};
-ghost use Rattle.rpki_paths.specs.Laws.{PairsAlongMap, PlacedAreAuthorities, UnmatchedIsNotAccepted};
+ghost use Rattle.rpki_paths.specs.Laws.{PairsAlongMap, PlacedAreAuthorities};
+ghost use Rattle.rpki_paths.specs.Laws.{UnmatchedIsNotAccepted};
 ghost use Rattle.rpki_paths.specs.Laws.{RefusalIsRight};
 ghost use Rattle.rpki_paths.specs.Laws.{KeptTellsTakes, FirstFitsArePairing};
 ghost use Rattle.rpki_paths.specs.Laws.{FirstFitsFindPairing, MatchingIsCheap, VerdictsAreFew};
@@ -124,7 +125,8 @@ pub fn each_is_kept<C: Certificate, T: Locator<C>, S: SuppliedCa<C>>()
 
 /// A path that a supply declines is anchored by none.
 pub fn declined_is_unanchored<C: Certificate, T: Locator<C>, S: SuppliedCa<C>>()
-    ensures { DeclinedIsUnanchored C.cert (supply_of T.key S.ski S.key S.sets) (refusal_of T.refuses) }
+    ensures { DeclinedIsUnanchored C.cert (supply_of T.key S.ski S.key S.sets)
+        (refusal_of T.refuses) }
 {}
 
 /// What is kept of paths is kept under some supplies more, where these decline none of them.
@@ -134,7 +136,8 @@ pub fn all_are_kept<C: Certificate, T: Locator<C>, S: SuppliedCa<C>>()
 
 /// Where one of some supplies declines a path, some path is anchored by none of them.
 pub fn refused_is_unanchored<C: Certificate, T: Locator<C>, S: SuppliedCa<C>>()
-    ensures { RefusedIsUnanchored C.cert (supply_of T.key S.ski S.key S.sets) (refusal_of T.refuses) }
+    ensures { RefusedIsUnanchored C.cert (supply_of T.key S.ski S.key S.sets)
+        (refusal_of T.refuses) }
 {}
 
 /// Where all supplies are handed in and the end says yes, the attestation is granted.
@@ -144,12 +147,14 @@ pub fn yes_is_granted<C: Certificate, T: Locator<C>, S: SuppliedCa<C>>()
 
 /// With distinct identifiers a supply ends the call only where nothing is granted.
 pub fn unsupplied_is_refused<C: Certificate, T: Locator<C>, S: SuppliedCa<C>>()
-    ensures { UnsuppliedIsRefused C.cert (supply_of T.key S.ski S.key S.sets) (refusal_of T.refuses) }
+    ensures { UnsuppliedIsRefused C.cert (supply_of T.key S.ski S.key S.sets)
+        (refusal_of T.refuses) }
 {}
 
 /// With distinct identifiers the end says no only where nothing is granted.
 pub fn undecided_is_refused<C: Certificate, T: Locator<C>, S: SuppliedCa<C>>()
-    ensures { UndecidedIsRefused C.cert (supply_of T.key S.ski S.key S.sets) (refusal_of T.refuses) }
+    ensures { UndecidedIsRefused C.cert (supply_of T.key S.ski S.key S.sets)
+        (refusal_of T.refuses) }
 {}
 
 /// What is kept of a path tells whether a supplied CA takes it.

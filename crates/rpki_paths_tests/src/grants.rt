@@ -13,8 +13,9 @@ use std::alloc::{AllocError, Global};
 use std::marker::Brand;
 use std::sync::ledger::{Blank, Ledger};
 
-/// A certificate of Trim by its key, its issuer's, and the ends of the AS numbers that it claims: it
-/// inherits them where the first is above the last. Its identifier and its serial number are its key.
+/// A certificate of Trim by its key, its issuer's, and the ends of the AS numbers that it claims:
+/// it inherits them where the first is above the last. Its identifier and its serial number are its
+/// key.
 type Row = (u8, u8, u32, u32);
 
 /// A revocation list by the identifier of its CA, the key that signed it, and a serial number.

@@ -1,5 +1,5 @@
-//! Tests of `rpki_paths`: rows of certificates that are walked, of items that are paired and of whole
-//! attestations, each with what must be answered. The answers follow from the draft by hand.
+//! Tests of `rpki_paths`: rows of certificates that are walked, of items that are paired and of
+//! whole attestations, each with what must be answered. The answers follow from the draft by hand.
 #![tactic(auto)]
 
 mod anchor;

@@ -49,7 +49,7 @@ module _ {X : Type 0} (kind : Kind X) (form : List ℕ → X → Type 0) (digest
       → (b : BeginsWith (ObjectForm kind.type form mode) octets (AnswersOf mode (Ok a)))
       → Means kind b.object.content
       → BeginsWith (ObjectForm kind.type form mode) octets (λ (o : Whole X).
-      Says (cert_in mode o) (Ok tt) × IsGood kind mode digest verdict issuer now (Ok tt) o a.0
+      Says (cert_in mode o) (Ok tt) × IsGood kind mode digest verdict issuer now o a.0
       × (a.1 ≡ o.content))
   yes-means mode octets a b m = record {
     object = b.object;
@@ -59,7 +59,7 @@ module _ {X : Type 0} (kind : Kind X) (form : List ℕ → X → Type 0) (digest
   }
     where
       of : AnswersOf mode (Ok a) b.object → Says (cert_in mode b.object) (Ok tt)
-          × IsGood kind mode digest verdict issuer now (Ok tt) b.object a.0
+          × IsGood kind mode digest verdict issuer now b.object a.0
           × (a.1 ≡ b.object.content)
       of (inl e) = absurd cc
       of (inr h) = good kind mode digest verdict issuer now b.object m

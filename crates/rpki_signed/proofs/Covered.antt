@@ -27,7 +27,7 @@ use Rattle.rpki_routes.specs.Roa.{Address, Roa, IsAddress, IsPrefixOf, IsRoa}
 use Rattle.rpki_signed.specs.Aspa.{block_checks, number_checks, address_checks}
 use Rattle.rpki_signed.specs.Aspa.{aspa_claimed, aspa_held, AspaCovered}
 use Rattle.rpki_signed.specs.Checklist.{checklist_claimed, checklist_held, sets_of, AreCanonical}
-use Rattle.rpki_signed.specs.Roa.{HasPrefix, prefix_checks, family_checks, roa_held}
+use Rattle.rpki_signed.specs.Roa.{HasNone, HasPrefix, prefix_checks, family_checks, roa_held}
 use Rattle.rpki_signed.specs.Roa.{RoaCovered}
 
 -- ---- ROAs
@@ -42,14 +42,12 @@ first-in family p is =
 or-yes : (x : Bool) → x ≡ true → (x || false) ≡ true
 or-yes x e = rw e refl
 
--- the empty set has no prefix
-not-of-nothing : (family : AddressFamily) (a : Address) → IsPrefixOf family a.prefix
-    → HasPrefix [] a → ⊥
-not-of-nothing family a is h =
-    let never : false ≡ true = h a.prefix.addr
+-- a set that has a prefix has a number
+has-some : (family : AddressFamily) (set : List (Block ℕ)) (a : Address)
+    → IsPrefixOf family a.prefix → HasPrefix set a → HasNone set → ⊥
+has-some family set a is h none = none a.prefix.addr (h a.prefix.addr
     (or-yes (is_between a.prefix.addr (last_of a.prefix.addr a.prefix.len) a.prefix.addr)
-    (first-in family a.prefix is)) in
-    absurd cc
+    (first-in family a.prefix is)))
 
 module _ (family : AddressFamily) (set : List (Block ℕ)) where
   covered-all : (list : List Address) → AllHold (prefix_checks family set list)
@@ -63,13 +61,12 @@ module _ (family : AddressFamily) (set : List (Block ℕ)) where
   all-covered (a ∷ list) h =
       (All-head (HasPrefix set) a list h, all-covered list (All-tail (HasPrefix set) a list h))
 
-  -- where there is a prefix that the set has, it is not empty
+  -- where there is a prefix that the set has, it has a number
   some-held : (list : List Address) → All (IsAddress family) list → All (HasPrefix set) list
-      → set ≡ [] → list ≡ []
-  some-held [] are h e = refl
-  some-held (a ∷ list) are h e = absurd (not-of-nothing family a
-      (All-head (IsAddress family) a list are).prefix
-      (subst (λ (s : List (Block ℕ)). HasPrefix s a) e (All-head (HasPrefix set) a list h)))
+      → HasNone set → list ≡ []
+  some-held [] are h none = refl
+  some-held (a ∷ list) are h none = absurd (has-some family set a
+      (All-head (IsAddress family) a list are).prefix (All-head (HasPrefix set) a list h) none)
 
   family-covered : (list : List Address) → All (IsAddress family) list
       → AllHold (family_checks family set list) ↔ All (HasPrefix set) list
@@ -166,9 +163,12 @@ left-claimed Refuse named issuer set h n k =
 left-claimed Trim named issuer set h n k =
     and-left (holds (λ (n : ℕ). n) named n) (holds (λ (n : ℕ). n) issuer n) (sym (h n) ∙ k)
 
+-- no number is in the empty set
+pub none-in-empty : HasNone []
+none-in-empty n h = absurd cc
+
 -- a canonical set without numbers is empty
-empty-of : (set : List (Block ℕ)) → IsCanonical (λ (n : ℕ). n) set
-    → ((n : ℕ) → Holds (λ (n : ℕ). n) set n → ⊥) → set ≡ []
+pub empty-of : (set : List (Block ℕ)) → IsCanonical (λ (n : ℕ). n) set → HasNone set → set ≡ []
 empty-of [] c h = refl
 empty-of (b ∷ bs) c h = absurd (h b.min (or-left (is_between b.min b.max b.min)
     (holds (λ (n : ℕ). n) bs b.min)

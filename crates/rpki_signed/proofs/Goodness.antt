@@ -39,12 +39,12 @@ module _ {X : Type 0} (kind : Kind X) (mode : Mode) (digest : Digester) (verdict
 
   -- a yes
   pub good : (a : Validated × X) → Asked (Ok a)
-      → Says (Ok tt) × IsGood kind mode digest verdict issuer now (Ok tt) o a.0
+      → Says (Ok tt) × IsGood kind mode digest verdict issuer now o a.0
       × (a.1 ≡ o.content)
   good a h = of h.said refl
     where
       of : (said : Result (Unit {0}) ValidationError) → h.said ≡ said
-          → Says (Ok tt) × IsGood kind mode digest verdict issuer now (Ok tt) o a.0
+          → Says (Ok tt) × IsGood kind mode digest verdict issuer now o a.0
           × (a.1 ≡ o.content)
       of (Err fault) e = absurd
           (hold-split (unasked kind digest verdict o issuer now)
@@ -60,7 +60,6 @@ module _ {X : Type 0} (kind : Kind X) (mode : Mode) (digest : Digester) (verdict
               valid = front.1;
               certificate =
                   subst (IsValidatedUnder (cert_in mode o) issuer) (sym h.first.1.0) asked.0;
-              is_yes = refl;
               covered = subst (λ (v : Validated). kind.covers o.content claims v.sets)
                   (sym h.first.1.0)
                   ((means.checks claims issuer.sets h.valid.sets sets).0 (front.0, s.1));
@@ -71,26 +70,33 @@ module _ {X : Type 0} (kind : Kind X) (mode : Mode) (digest : Digester) (verdict
   -- a no
   pub not-good : (fault : ValidationError) → Asked (Err fault)
       → IsNotGood kind mode digest verdict issuer now Says o
-  not-good fault h = record {
-    said = h.said;
-    asked = λ all. (h.asked all).1;
-    none = λ v g.
-        let sets = are-validated mode o issuer v g.certificate in
-        let numbers = (means.checks claims issuer.sets v.sets sets).1 g.covered in
-        let before = hold-join Claimed Valid (numbers.0, g.valid) in
-        let asked = h.asked before in
-        let mine = are-validated mode o issuer h.valid asked.0 in
-        let covered = means.same claims issuer.sets v.sets h.valid.sets sets mine g.covered in
-        let held = (means.checks claims issuer.sets h.valid.sets mine).1 covered in
-        first-fails (unasked kind digest verdict o issuer now
-        ++ (said_checks h.said ++ kind.held o.content h.valid.sets)) fault h.first
-        (hold-join (unasked kind digest verdict o issuer now)
-        (said_checks h.said ++ kind.held o.content h.valid.sets) (
-          before,
-          hold-join (said_checks h.said) (kind.held o.content h.valid.sets) (
-            subst (λ (s : Result (Unit {0}) ValidationError). AllHold (said_checks s))
-                (sym g.is_yes) tt,
-            held.1,
-          ),
-        ));
-  }
+  not-good fault h v g = of h.said refl
+    where
+      sets : AreValidated claims issuer.sets v.sets
+      sets = are-validated mode o issuer v g.certificate
+
+      before : AllHold (unasked kind digest verdict o issuer now)
+      before = hold-join Claimed Valid
+          (((means.checks claims issuer.sets v.sets sets).1 g.covered).0, g.valid)
+
+      mine : AreValidated claims issuer.sets h.valid.sets
+      mine = are-validated mode o issuer h.valid (h.asked before).0
+
+      held : AllHold (kind.held o.content h.valid.sets)
+      held = ((means.checks claims issuer.sets h.valid.sets mine).1
+          (means.same claims issuer.sets v.sets h.valid.sets sets mine g.covered)).1
+
+      of : (said : Result (Unit {0}) ValidationError) → h.said ≡ said
+          → (fault : ValidationError) × Says (Err fault)
+      of (Err why) e = (why, subst Says e (h.asked before).1)
+      of (Ok done) e = absurd (first-fails (unasked kind digest verdict o issuer now
+          ++ (said_checks h.said ++ kind.held o.content h.valid.sets)) fault h.first
+          (hold-join (unasked kind digest verdict o issuer now)
+          (said_checks h.said ++ kind.held o.content h.valid.sets) (
+            before,
+            hold-join (said_checks h.said) (kind.held o.content h.valid.sets) (
+              subst (λ (s : Result (Unit {0}) ValidationError). AllHold (said_checks s)) (sym e)
+                  tt,
+              held,
+            ),
+          )))

@@ -4,5 +4,6 @@ pub mod Checked
 pub mod Covered
 pub mod Fronts
 pub mod Goodness
+pub mod InBer
 pub mod Meanings
 pub mod Prefixes

@@ -26,7 +26,7 @@ abbrev pub IsExact : {X : Type 0} → Kind X → (List ℕ → X → Type 0) →
     → List ℕ → Result (Validated × X) CheckError → Type 0
 IsExact {X} kind form mode digest verdict issuer now Says octets (Ok a) =
     BeginsWith (ObjectForm kind.type form mode) octets (λ (o : Whole X).
-    Says (cert_in mode o) (Ok tt) × IsGood kind mode digest verdict issuer now (Ok tt) o a.0
+    Says (cert_in mode o) (Ok tt) × IsGood kind mode digest verdict issuer now o a.0
     × (a.1 ≡ o.content))
 IsExact kind form mode digest verdict issuer now Says octets (Err (Decode e)) =
     Refuses e (HasNoFront (ObjectForm kind.type form mode) octets)

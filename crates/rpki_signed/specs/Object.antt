@@ -1,6 +1,7 @@
 -- Signed objects with their contents.
 use Rattle.std.specs.Prelude.{ℕ, List}
 use Rattle.rpki_der.specs.declared.mode.Mode.{Mode}
+use Rattle.rpki_der.specs.declared.mode.Mode.TheVariants.{Der, Ber}
 use Rattle.rpki_der.specs.Form.Made.{Begins}
 use Rattle.rpki_sigobj.specs.Object.{SignedObject, SignedFormOf, KeptObject}
 use Rattle.rpki_certs.specs.Cert.{KeptCertificate}
@@ -16,6 +17,11 @@ abbrev pub ObjectForm : {X : Type 0} → List ℕ → (List ℕ → X → Type 0
     → Type 0
 ObjectForm type form mode octets o =
     SignedFormOf type mode octets o.object × Begins form o.object.signed.content o.content
+
+-- What is in the form in DER is in it in BER, and says the same (X.690, section 8.1.1.1).
+abbrev pub IsInBer : {X : Type 0} → List ℕ → (List ℕ → X → Type 0) → Type 0
+IsInBer {X} type form = (octets : List ℕ) (o : Whole X) → ObjectForm type form Der octets o
+    → ObjectForm type form Ber octets o
 
 -- the same, with the mode that it was read in
 pub record KeptWhole (X : Type 0) : Type 0 where

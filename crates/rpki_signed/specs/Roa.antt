@@ -4,7 +4,7 @@ use Rattle.std.specs.Prelude.{◌≡◌, ℕ, List, [], ◌∷◌, ◌++◌, All
 use Rattle.rpki_resources.specs.declared.block.Block.{Block}
 use Rattle.rpki_resources.specs.declared.family.AddressFamily.{AddressFamily}
 use Rattle.rpki_resources.specs.declared.family.AddressFamily.TheVariants.{Ipv4, Ipv6}
-use Rattle.rpki_resources.specs.Blocks.{Covers}
+use Rattle.rpki_resources.specs.Blocks.{Covers, Holds}
 use Rattle.rpki_resources.specs.Prefix.{Network, last_of}
 use Rattle.rpki_faults.specs.Checks.{Check, ◌unless◌, ◌as_faults_of◌}
 use Rattle.rpki_faults.specs.declared.validation.ValidationError.TheVariants.{Verification}
@@ -39,12 +39,16 @@ prefix_checks family set [] = []
 prefix_checks family set (a ∷ others) =
     (uncovered family a unless HasPrefix set a) ∷ prefix_checks family set others
 
+-- No number is in the set.
+abbrev pub HasNone : List (Block ℕ) → Type 0
+HasNone set = (n : ℕ) → Holds (λ n. n) set n → ⊥
+
 -- The prefixes of a family: where there is one, the certificate has an address of the family, and
 -- then each prefix is looked at (5).
 abbrev pub family_checks : AddressFamily → List (Block ℕ) → List Address
     → List (Check VerificationError)
 family_checks family set list =
-    (faults.NoPrefixCovered family unless (set ≡ [] → list ≡ []))
+    (faults.NoPrefixCovered family unless (HasNone set → list ≡ []))
     ∷ prefix_checks family set list
 
 -- Those of IPv4, and then those of IPv6.
@@ -56,7 +60,9 @@ pub record RoaCovered (r : Roa) (sets : Sets) : Type 0 where
   pub v4 : All (HasPrefix sets.v4) r.v4
   pub v6 : All (HasPrefix sets.v6) r.v6
 
--- A ROA is published, and its prefixes are looked at once its certificate was validated (5).
+-- A ROA is published, and its prefixes are looked at once its certificate was validated (5). That
+-- the certificate may inherit addresses and may name AS numbers, against section 5, is this
+-- project's own rule.
 abbrev pub roa_kind : Kind Roa
 roa_kind = record {
   type = route_origin_authz;

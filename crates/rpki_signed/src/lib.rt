@@ -17,4 +17,5 @@ pub use checklist::Rsc;
 pub use content::Content;
 pub use manifest::Manifest;
 pub use roa::Roa;
+pub use rpki_sigobj::SignedObjectEncoder;
 pub use signed::Signed;

@@ -7,7 +7,7 @@ ghost use Rattle.rpki_faults.specs.declared.verification.VerificationError.{Veri
 ghost use Rattle.rpki_sigobj.specs.Object.{mode_of};
 ghost use Rattle.rpki_routes.specs.Roa.Form.{RoaForm};
 ghost use Rattle.rpki_signed.specs.Object.{ObjectForm, whole_of};
-ghost use Rattle.rpki_signed.specs.Roa.{route_origin_authz, HasPrefix, uncovered};
+ghost use Rattle.rpki_signed.specs.Roa.{route_origin_authz, HasNone, HasPrefix, uncovered};
 ghost use Rattle.rpki_signed.specs.Roa.{prefix_checks, family_checks, roa_held};
 
 use crate::content::{Content, oid_of};
@@ -66,6 +66,15 @@ fn verify_prefixes(
     Ok(())
 }
 
+// Whether no number is in the set.
+fn has_none(set: &IpBlocks) -> bool
+    ensures { IsTrue result ↔ HasNone set.now }
+{
+    // The proof takes from this call that its blocks are canonical, so that none is empty.
+    let _ = set.as_slice();
+    set.is_empty()
+}
+
 // Verifies the prefixes of a family.
 fn verify_family(
     family: AddressFamily,
@@ -74,7 +83,7 @@ fn verify_family(
 ) -> Result<(), VerificationError>
     ensures { AnswersFirstFault (family_checks family set.now addresses.now) result }
 {
-    if set.is_empty() && !addresses.is_empty() {
+    if has_none(set) && !addresses.is_empty() {
         return Err(VerificationError::NoPrefixCovered(family));
     }
     verify_prefixes(family, set, addresses)

@@ -12,7 +12,7 @@ use bytes::Bytes;
 use rpki_certs::Cert;
 use rpki_der::{DecodeError, EncodeError};
 use rpki_sigobj::{SignedObject, SignedObjectEncoder};
-use std::alloc::Global;
+use std::alloc::{AllocError, Global};
 use std::marker::Model;
 
 /// A signed object with a content of this kind.
@@ -28,6 +28,23 @@ impl<T: Content> Model for Signed<T> {
     ghost Value = { KeptWhole T };
 
     ghost view = { λ s. record { object = s.object; content = s.content } };
+}
+
+impl<T: Content + Clone> Clone for Signed<T> {
+    ghost use Rattle.std.specs.Prelude.{◌≡◌};
+
+    ghost is_clone = { λ s copy. (copy.object ≡ s.object) × T.is_clone s.content copy.content };
+
+    fn clone(&self) -> Result<Signed<T>, AllocError> {
+        let object = self.object.clone()?;
+        match self.content.clone() {
+            Err(e) => {
+                drop(object);
+                Err(e)
+            }
+            Ok(content) => Ok(Signed { object, content }),
+        }
+    }
 }
 
 // Reads a signed object whose content has the type of this kind.
@@ -116,7 +133,7 @@ impl<T: Content> Signed<T> {
         &self.content
     }
 
-    /// What its content says.
+    /// What its content says, by value.
     pub fn into_content(self) -> T
         ensures { result ≡ self.content }
     {

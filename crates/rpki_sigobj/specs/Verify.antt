@@ -1,5 +1,5 @@
--- What is verified of a signed object, and in which order. The sections are those of RFC 6488, where
--- no other RFC is named.
+-- What is verified of a signed object, and in which order. The sections are those of RFC 6488,
+-- where no other RFC is named.
 use Rattle.std.specs.Prelude.{◌≡◌, ◌≤◌, ℕ, List, [], ◌∷◌, ◌++◌, true}
 use Rattle.rpki_basics.specs.Moment.{stamp}
 use Rattle.rpki_faults.specs.Checks.{Check, ◌unless◌, ◌as_faults_of◌}

@@ -1,6 +1,7 @@
 //! A list of verdicts as a text.
 
 ghost use Rattle.std.specs.Prelude.{◌≡◌, ◌↔◌, ◌++◌, ℕ, List, All, Contains, MatchOption, IsTrue};
+ghost use Rattle.hex.specs.Hex.{encode_lower};
 ghost use Rattle.rpki_verdicts.specs.Parts.{IsSpaced, HasParts, HasDigests};
 ghost use Rattle.rpki_verdicts.specs.Verdicts.{AreDigits, line_of, IsLine, AreVerdicts};
 ghost use Rattle.rpki_verdicts.specs.Verdicts.{digest_text, IsYes};
@@ -10,7 +11,7 @@ use sha2::{Digest, Sha256};
 use std::marker::Model;
 
 /// The hexadecimal digits of a SHA-256 digest.
-const DIGITS: usize = 64;
+pub(crate) const DIGITS: usize = 64;
 
 /// Where the digest of the message begins in a line: after that of the key and a space.
 const MESSAGE: usize = DIGITS + 1;
@@ -28,7 +29,7 @@ const LINE: usize = END + 1;
 /// To every other triple it is no. It borrows its text, and takes no memory.
 #[derive(Drop)]
 pub struct Verdicts<'a> {
-    lines: &'a [[u8; LINE]],
+    pub(crate) lines: &'a [[u8; LINE]],
 }
 
 impl<'a> Model for Verdicts<'a> {
@@ -75,13 +76,19 @@ impl<'a> Verdicts<'a> {
 }
 
 /// The digest of two parts, as one message, in lower hexadecimal digits.
-fn digest_text(first: &[u8], second: &[u8]) -> [u8; DIGITS]
+pub(crate) fn digest_text(first: &[u8], second: &[u8]) -> [u8; DIGITS]
     ensures { result ≡ digest_text (first.now ++ second.now) }
 {
     let mut hasher = Sha256::new();
     hasher.update(first);
     hasher.update(second);
-    let digest = hasher.finalize();
+    text_of(hasher.finalize())
+}
+
+/// A digest in lower hexadecimal digits.
+pub(crate) fn text_of(digest: [u8; 32]) -> [u8; DIGITS]
+    ensures { result ≡ encode_lower digest }
+{
     let mut text = [0; DIGITS];
     // It fits: two digits for each of the 32 octets of a digest.
     let _ = encode_to_slice(digest, &mut text);
@@ -90,7 +97,7 @@ fn digest_text(first: &[u8], second: &[u8]) -> [u8; DIGITS]
 
 /// Whether one of the lines is that of these three digests.
 #[tactic(auto, using(crate::proofs::Line::line_has_parts, crate::proofs::Line::parts_make_line))]
-fn lists(
+pub(crate) fn lists(
     lines: &[[u8; LINE]],
     key: &[u8; DIGITS],
     message: &[u8; DIGITS],

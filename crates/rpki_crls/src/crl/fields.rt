@@ -1,7 +1,8 @@
 //! What a revocation list says, and who signed it.
 
-ghost use Rattle.std.specs.Prelude.{◌≡◌, ◌↔◌, [], ◌∷◌, true, IsTrue, Contains};
-ghost use Rattle.rpki_faults.specs.Checks.{AnswersFirstFault, ◌unless◌};
+ghost use Rattle.std.specs.Prelude.{◌≡◌, ◌↔◌, IsTrue, Contains};
+ghost use Rattle.rpki_faults.specs.Checks.{AnswersFirstFault};
+ghost use Rattle.rpki_crls.specs.Crl.{signature_checks};
 
 use crate::crl::Crl;
 use crate::entry::Entry;
@@ -60,9 +61,7 @@ impl Crl {
         crypto: &C,
     ) -> Result<(), VerificationError>
         ensures { AnswersFirstFault
-            ((VerificationError.BadSignature unless
-            (C.is_signed crypto.now key.now self.now.list.signed self.now.list.signature ≡ true))
-            ∷ []) result }
+            (signature_checks (C.is_signed crypto.now) key.now self.now.list) result }
     {
         let contents = &self.contents;
         if crypto.verify(key, contents.signed.as_slice(), &contents.signature) {

@@ -204,9 +204,11 @@ struct FamiliesField<'a>(&'a ResourceSignedChecklist);
 impl<'a> FamiliesField<'a> {
     // What is written for each family.
     fn fields(&self) -> (Option<FamilyField<'a>>, Option<FamilyField<'a>>)
-        ensures v4 { optional_octets (λ f. value_octets SEQUENCE (family_contents f.family f.set.now))
+        ensures v4 { optional_octets
+            (λ f. value_octets SEQUENCE (family_contents f.family f.set.now))
             result.0 ≡ family_octets Ipv4 self.now.0.now.v4_resources }
-        ensures v6 { optional_octets (λ f. value_octets SEQUENCE (family_contents f.family f.set.now))
+        ensures v6 { optional_octets
+            (λ f. value_octets SEQUENCE (family_contents f.family f.set.now))
             result.1 ≡ family_octets Ipv6 self.now.0.now.v6_resources }
     {
         (

@@ -9,14 +9,12 @@ ghost use Rattle.rpki_der.specs.Write.Written.{value_octets};
 ghost use Rattle.rpki_files.specs.Manifest.{files_octets};
 
 use crate::manifest::ManifestContent;
+use crate::manifest::read::SHA_256;
 use rpki_basics::{SerialEncoder, TimeEncoder};
 use rpki_der::encode::{Raw, Value, primitive, sequence};
 use rpki_der::{Encode, EncodeError, Sink, SinkFailed, Tag};
 use rpki_lists::EntriesEncoder;
 use std::marker::Model;
-
-// SHA-256 (RFC 5754, section 2.2).
-const SHA_256: [u8; 9] = [0x60, 0x86, 0x48, 0x01, 0x65, 0x03, 0x04, 0x02, 0x01];
 
 /// A content, to be written in DER.
 #[derive(Drop)]

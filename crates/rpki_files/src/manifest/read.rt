@@ -17,8 +17,8 @@ use rpki_basics::{ManifestRule, Serial, Time};
 use rpki_der::{Constructed, DecodeError, Mode, Reason, Tag};
 use std::alloc::Global;
 
-// SHA-256 (RFC 5754, section 2.2).
-const SHA_256: [u8; 9] = [0x60, 0x86, 0x48, 0x01, 0x65, 0x03, 0x04, 0x02, 0x01];
+/// The contents of the OBJECT IDENTIFIER of SHA-256 (RFC 5754, section 2.2).
+pub const SHA_256: [u8; 9] = [0x60, 0x86, 0x48, 0x01, 0x65, 0x03, 0x04, 0x02, 0x01];
 
 // Reads the algorithm of the hashes, SHA-256.
 fn take_algorithm(cons: &mut Constructed<'_>) -> Result<(), DecodeError>

@@ -17,5 +17,6 @@ returns-clause-paired g c =
     let keys = c.args.a.now.subject_keys.now in
     keys_paired g.S.CarriedSigner.signer g.S.Seeks.sought g.met.S.CarriedSigner.seeks_sid
     c.args.a.now.signers.now keys c.in-Ok.field-0.items
-    (subst (λ l. ArePaired IsSame l keys c.in-Ok.field-0.items) (c.deref.ensures.value ∙ c.in_ok-ids.ensures)
+    (subst (λ l. ArePaired IsSame l keys c.in-Ok.field-0.items)
+    (c.deref.ensures.value ∙ c.in_ok-ids.ensures)
     c.in-Ok.ensures.paired)

@@ -9,7 +9,8 @@ use Rattle.rpki_paths.specs.Taking.{IsTakenAt, FitsNone, left_of}
 use Rattle.rpki_paths.specs.Pairing.{IsPair}
 use Rattle.rpki_paths.proofs.Walking.{get_in}
 use Rattle.rpki_paths.proofs.PairingOff.{IsPairingOff, pairing_none, pairing_more, pairing_stops}
-use Rattle.rpki_paths.proofs.PairingOff.{pairing_done, pairing_leaves, written_back, split_at, left_in}
+use Rattle.rpki_paths.proofs.PairingOff.{pairing_done, pairing_leaves, written_back, split_at}
+use Rattle.rpki_paths.proofs.PairingOff.{left_in}
 use Rattle.rpki_paths.proofs.pairs.pair_off.Goals as goal
 
 pub loop-i-init : goal.loop-i-init

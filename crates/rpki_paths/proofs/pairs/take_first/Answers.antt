@@ -1,5 +1,6 @@
 -- The search ends at the first that fits, or has passed all that are left.
-use Rattle.std.proofs.Common.{◌<◌, length, map, refl, sym, ap, ◌∙◌, subst, arith, false, true, set, Some}
+use Rattle.std.proofs.Common.{◌<◌, length, map, refl, sym, ap, ◌∙◌, subst, arith, false, true, set}
+use Rattle.std.proofs.Common.{Some}
 use Rattle.std.proofs.lemmas.Option.{slice_get_read, slice_get-get_or}
 use Rattle.std.proofs.lemmas.List.{length-map}
 use Rattle.rpki_paths.specs.Index.{listed, IsNamed}

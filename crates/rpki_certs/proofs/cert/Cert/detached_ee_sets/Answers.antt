@@ -13,7 +13,8 @@ returns-in_err-inspect_detached_ee g c =
     let verdict = g.C.Crypto.is_signed c.args.crypto.now in
     let d = c.args.self.now.certificate in
     rw (p.1, p.2) (shown-refuses Inspection Memory (detached_ee_checks d.tbs)
-    (issued_validation verdict d c.args.issuer.now c.args.now) _ c.in_err-inspect_detached_ee.ensures)
+    (issued_validation verdict d c.args.issuer.now c.args.now) _
+        c.in_err-inspect_detached_ee.ensures)
 
 pub returns : goal.returns
 unfolding detached_ee_validation

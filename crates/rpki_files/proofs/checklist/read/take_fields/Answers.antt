@@ -17,7 +17,8 @@ invariant_of-result c =
     ) in
     let r = reads-ok (λ (s : Set × (Set × Set)). s) sets_at old sets new
     c.in_ok-as_resources.ensures in
-    let f = (sets-part.exact old.mode).sound old.rest sets new.rest c.holds_octets.ensures r.found in
+    let f =
+    (sets-part.exact old.mode).sound old.rest sets new.rest c.holds_octets.ensures r.found in
     let octets : IsBytes f.0 =
     IsBytes-left f.0 new.rest (subst IsBytes f.1 c.holds_octets.ensures) in
     sets-facts old.mode f.0 sets octets f.2

@@ -6,13 +6,15 @@ use Rattle.rpki_files.proofs.uris.ManifestUriIterIterator.next.Goals as goal
 
 pub uri_of-requires : goal.uri_of-requires
 uri_of-requires c =
-    let f : File = record { file = c.in_ok-file.file.file.now; hash = c.in_ok-file.file.hash.now } in
+    let f : File =
+    record { file = c.in_ok-file.file.file.now; hash = c.in_ok-file.file.hash.now } in
     All-head (λ (g : File). IsFileName (name_of g)) f c.next.new.self
     (subst (All (λ (g : File). IsFileName (name_of g))) c.in_ok-file.ensures.steps
     c.self.invariant)
 
 pub invariant_of-self-2 : goal.invariant_of-self-2
 invariant_of-self-2 c =
-    let f : File = record { file = c.in_ok-file.file.file.now; hash = c.in_ok-file.file.hash.now } in
+    let f : File =
+    record { file = c.in_ok-file.file.file.now; hash = c.in_ok-file.file.hash.now } in
     All-rest (λ (g : File). IsFileName (name_of g)) f c.next.new.self c.self.inside.files
     c.in_ok-file.ensures.steps c.self.invariant

@@ -1,0 +1,2 @@
+pub mod Issuer
+pub mod Text
