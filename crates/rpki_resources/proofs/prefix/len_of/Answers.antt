@@ -4,7 +4,9 @@ use Rattle.rpki_resources.specs.Prefix.{IsPrefix}
 use Rattle.rpki_resources.proofs.Prefixes.Lengths.{prefix_leading, prefix_len_some, prefix_len_none}
 use Rattle.rpki_resources.proofs.Prefixes.Lengths.{prefix_order}
 use Rattle.rpki_resources.proofs.prefix.len_of.Goals as goal
-use Rattle.rpki_resources.proofs.prefix.len_of.Goals.{else-host-host_mask-via-then-host-host_mask+else-host_part-eq0}
+use Rattle.rpki_resources.proofs.prefix.len_of.Goals.{
+  else-host-host_mask-via-then-host-host_mask+else-host_part-eq0,
+}
 use Rattle.rpki_resources.proofs.prefix.len_of.Goals.{else-host-host_mask-via-else-host-host_mask}
 
 pub returns-then-host_part-eq0-clause-value : goal.returns-then-host_part-eq0-clause-value
