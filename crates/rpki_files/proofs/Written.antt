@@ -70,7 +70,8 @@ algorithm-written : ObjectIdentifier Der (value_octets OBJECT_IDENTIFIER sha_256
 algorithm-written = within-written 6 (λ c. (c ≡ sha_256) × IsOid sha_256) sha_256
     (tag-sound 6 refl) (lit< tt) (refl, (lit< tt, lit< tt))
 
-pub manifest-written : (rule : ManifestRule) (m : Manifest) → SerialForm Der (serial_octets m.number) m.number
+pub manifest-written : (rule : ManifestRule) (m : Manifest)
+    → SerialForm Der (serial_octets m.number) m.number
     → TimeForm Der (generalized_octets m.this_update) m.this_update
     → TimeForm Der (generalized_octets m.next_update) m.next_update
     → stamp m.this_update ≤ stamp m.next_update → All (λ (f : File). IsFileName f.file) m.files

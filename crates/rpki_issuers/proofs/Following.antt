@@ -7,11 +7,13 @@ use Rattle.rpki_certs.specs.Verify.{Verdict}
 use Rattle.rpki_issuers.specs.Issuer.{octets_of, IsIssued, Then, Follows}
 use Rattle.rpki_issuers.specs.declared.issuer.IssuerError.{IssuerError}
 
-module _ (verdict : Verdict) (now : Moment) (issuer : Validated) (next : Result Validated IssuerError)
+module _ (verdict : Verdict) (now : Moment) (issuer : Validated)
+    (next : Result Validated IssuerError)
     (result : Result Validated IssuerError) where
   step : (chain : List (Vec ℕ Global)) (i : ℕ) (d : Vec ℕ Global) → i < length chain
       → IsIssued verdict now issuer (get_or chain i d).items next
-      → Then (λ valid. Follows verdict now valid (octets_of (drop (suc i) chain)) result) next result
+      → Then (λ valid. Follows verdict now valid (octets_of (drop (suc i) chain)) result) next
+      result
       → Follows verdict now issuer (octets_of (drop i chain)) result
   step [] i d l is t = absurd (omega (arith, l))
   step (x ∷ xs) zero d l is t = (next, is, t)

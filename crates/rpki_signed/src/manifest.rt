@@ -89,9 +89,9 @@ impl Signed<ManifestContent> {
         Signed::read(alloc, source, strict, rule)
     }
 
-    /// Validates it under its issuer, at this moment (RFC 6488, section 3; RFC 9286, section 4.4), as
-    /// `SignedObject::validate_at` does. Answers the validated certificate and the content. Whether
-    /// the certificate was revoked is left to the caller.
+    /// Validates it under its issuer, at this moment (RFC 6488, section 3; RFC 9286, section 4.4),
+    /// as `SignedObject::validate_at` does. Answers the validated certificate and the content.
+    /// Whether the certificate was revoked is left to the caller.
     pub fn validate_at<C: Crypto>(
         self,
         alloc: Global,

@@ -1,5 +1,6 @@
 -- A verdict of a list as a test, and the octets of a key as pieces.
-use Rattle.std.proofs.Common.{◌≡◌, ℕ, ◌+◌, ◌<◌, ◌^◌, List, [], ◌∷◌, ◌++◌, length, Bool, true, false, refl}
+use Rattle.std.proofs.Common.{◌≡◌, ℕ, ◌+◌, ◌<◌, ◌^◌, List, [], ◌∷◌, ◌++◌, length, Bool, true, false}
+use Rattle.std.proofs.Common.{refl}
 use Rattle.std.proofs.Common.{sym, ap, ◌∙◌, arith, append_assoc, length-append}
 use Rattle.std.specs.Prelude.{bytes_eq, ◌&&◌, nat_lt}
 use Rattle.std.specs.Bool.{Decides}
@@ -19,7 +20,8 @@ use Rattle.rpki_verdicts.specs.Verdicts.{digest_text, line_of}
 
 -- ---- a line of the list
 
-line-decided : (lines : List (List ℕ)) (line : List ℕ) → Decides (has_line lines line) (Contains lines line)
+line-decided : (lines : List (List ℕ)) (line : List ℕ)
+    → Decides (has_line lines line) (Contains lines line)
 line-decided lines line = (
   λ e. Contains-from_any {eq = bytes_eq} (λ x y h. (bytes_eq-Decides x y).0 h) line lines e,
   λ h. list_any_at (bytes_eq line) lines h.0 line h.1 ((bytes_eq-Decides line _).1 (sym h.2)),
@@ -92,8 +94,9 @@ joined a b c d e =
 
 -- the pieces of a key make its octets
 pub pieces : (bits : List ℕ) (len m : ℕ) → len ≡ length (key_contents bits) → m ≡ length bits + 1
-    → (((((0x30 ∷ length_octets len) ++ (0x30 ∷ 0x0D ∷ 0x06 ∷ 0x09 ∷ 0x2A ∷ 0x86 ∷ 0x48 ∷ 0x86 ∷ 0xF7
-    ∷ 0x0D ∷ 0x01 ∷ 0x01 ∷ 0x01 ∷ 0x05 ∷ 0x00 ∷ [])) ++ (0x03 ∷ length_octets m)) ++ (0x00 ∷ []))
+    → (((((0x30 ∷ length_octets len) ++ (0x30 ∷ 0x0D ∷ 0x06 ∷ 0x09 ∷ 0x2A ∷ 0x86 ∷ 0x48 ∷ 0x86
+    ∷ 0xF7 ∷ 0x0D ∷ 0x01 ∷ 0x01 ∷ 0x01 ∷ 0x05 ∷ 0x00 ∷ [])) ++ (0x03 ∷ length_octets m))
+    ++ (0x00 ∷ []))
     ++ bits) ≡ key_octets bits
 pieces bits len m e h =
     let b : List ℕ = 0x30 ∷ 0x0D ∷ 0x06 ∷ 0x09 ∷ 0x2A ∷ 0x86 ∷ 0x48 ∷ 0x86 ∷ 0xF7 ∷ 0x0D ∷ 0x01
@@ -105,6 +108,7 @@ pieces bits len m e h =
     ∙ (ap (λ (y : List ℕ). b ++ (0x03 ∷ (length_octets (length y) ++ y))) (bits-whole bits)
     ∙ ap (λ (k : ℕ). b ++ (0x03 ∷ (length_octets k ++ (0x00 ∷ bits)))) few) in
     joined (0x30 ∷ length_octets len) b (0x03 ∷ length_octets m) (0x00 ∷ []) bits
-    ∙ (ap (λ (k : ℕ). 0x30 ∷ (length_octets k ++ (b ++ (0x03 ∷ (length_octets m ++ (0x00 ∷ bits))))))
+    ∙ (ap (λ (k : ℕ).
+    0x30 ∷ (length_octets k ++ (b ++ (0x03 ∷ (length_octets m ++ (0x00 ∷ bits))))))
     e
     ∙ ap (λ (z : List ℕ). 0x30 ∷ (length_octets (length (key_contents bits)) ++ z)) (sym t))

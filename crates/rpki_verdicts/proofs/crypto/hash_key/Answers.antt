@@ -4,10 +4,12 @@ use Rattle.rpki_verdicts.proofs.Listing.{few-bits, pieces}
 use Rattle.rpki_verdicts.proofs.crypto.hash_key.Goals as goal
 
 pub overflow_cast-bits : goal.overflow_cast-bits
-overflow_cast-bits c = omega (arith, few-bits c.args.bits.now c.args.len c.requires c.ranges.len.fits)
+overflow_cast-bits c =
+    omega (arith, few-bits c.args.bits.now c.args.len c.requires c.ranges.len.fits)
 
 pub overflow_add-bits : goal.overflow_add-bits
-overflow_add-bits c = omega (arith, few-bits c.args.bits.now c.args.len c.requires c.ranges.len.fits)
+overflow_add-bits c =
+    omega (arith, few-bits c.args.bits.now c.args.len c.requires c.ranges.len.fits)
 
 pub returns : goal.returns
 returns c =
