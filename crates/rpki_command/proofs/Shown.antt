@@ -7,6 +7,7 @@ use Rattle.rpki_der.specs.Form.Decodes.{IsOnlyFront}
 use Rattle.rpki_der.specs.Read.Reads.{Refuses}
 use Rattle.rpki_command.specs.Answer.{Said}
 use Rattle.rpki_command.specs.Contents.{HasLines, LinesOf, IsLinesOf, IsShown}
+use Rattle.rpki_command.specs.Objects.{ObjectLinesOf}
 use Rattle.rpki_command.specs.Refusal.{refusal}
 use Rattle.rpki_command.specs.declared.words.Kind.{Kind}
 use Rattle.rpki_command.specs.declared.words.Options.{Options}
@@ -40,3 +41,8 @@ pub of_kind : (options : Options) (kind is : Kind) (octets : List ℕ) (s : Said
     → IsShown (LinesOf options is) octets s → IsShown (LinesOf options kind) octets s
 of_kind options kind is octets s e h =
     subst (λ (k : Kind). IsShown (LinesOf options k) octets s) (sym e) h
+
+pub object_of_kind : (options : Options) (kind is : Kind) (octets : List ℕ) (s : Said) → kind ≡ is
+    → IsShown (ObjectLinesOf options is) octets s → IsShown (ObjectLinesOf options kind) octets s
+object_of_kind options kind is octets s e h =
+    subst (λ (k : Kind). IsShown (ObjectLinesOf options k) octets s) (sym e) h

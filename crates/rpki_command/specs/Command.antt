@@ -5,13 +5,14 @@ use Rattle.rpki_command.specs.Answer.{Run, Said, IsSaid, usage, cannot_read, out
 use Rattle.rpki_command.specs.Answer.{malformed, shown}
 use Rattle.rpki_command.specs.Arguments.{ToldArguments, AreTexts, HaveNoText}
 use Rattle.rpki_command.specs.Contents.{LinesOf, HasNoLines, IsShown}
+use Rattle.rpki_command.specs.Objects.{ObjectLinesOf}
 use Rattle.rpki_command.specs.Texts.Tal.{TalLines}
 use Rattle.rpki_command.specs.Store.{Told, IsRead}
 use Rattle.rpki_command.specs.Words.{IsAsked, AskForNothing}
 use Rattle.rpki_command.specs.declared.store.StoreError.{StoreError}
 use Rattle.rpki_command.specs.declared.store.StoreError.TheVariants.{Unreadable, Memory}
 use Rattle.rpki_command.specs.declared.words.Command.{Command}
-use Rattle.rpki_command.specs.declared.words.Command.TheVariants.{Content, ShowTal}
+use Rattle.rpki_command.specs.declared.words.Command.TheVariants.{Content, Show, ShowTal}
 use Rattle.rpki_command.specs.declared.words.Options.{Options}
 use Rattle.rpki_command.specs.declared.words.Order.{Order}
 
@@ -42,6 +43,7 @@ pub data Task : Type 1 where
 -- which no option speaks.
 abbrev pub command_task : Options → Command → Task
 command_task options (Content kind file) = ShowLines file (LinesOf options kind)
+command_task options (Show kind file) = ShowLines file (ObjectLinesOf options kind)
 command_task options (ShowTal file) = ShowLines file TalLines
 command_task options other = NotThere
 

@@ -4,6 +4,7 @@ pub mod Command
 pub mod Contents
 pub mod Grows
 pub mod Ia5
+pub mod Objects
 pub mod Options
 pub mod Refusal
 pub mod Store

@@ -1,9 +1,11 @@
--- What the options ask of contents.
-use Rattle.std.specs.Prelude.{if◌then◌else◌}
+-- What the options ask of objects and contents.
+use Rattle.std.specs.Prelude.{if◌then◌else◌, not}
 use Rattle.rpki_basics.specs.declared.limits.ManifestRule.{ManifestRule}
 use Rattle.rpki_basics.specs.declared.limits.ManifestRule.TheVariants.{Any, Registered}
 use Rattle.rpki_basics.specs.declared.limits.ProviderLimit.{ProviderLimit}
 use Rattle.rpki_basics.specs.declared.limits.ProviderLimit.TheVariants.{Narrow, Wide}
+use Rattle.rpki_der.specs.declared.mode.Mode.{Mode}
+use Rattle.rpki_sigobj.specs.Object.{mode_of}
 use Rattle.rpki_command.specs.declared.words.Options.{Options}
 
 -- how many providers a customer may have: more with `--wide`
@@ -13,3 +15,7 @@ provider_limit o = if o.wide then Wide else Narrow
 -- which names a manifest may have: registered types, and none twice, with `--registered`
 abbrev pub manifest_rule : Options → ManifestRule
 manifest_rule o = if o.registered then Registered else Any
+
+-- The mode that an object is read in: DER, or BER with `--relaxed`.
+abbrev pub read_mode : Options → Mode
+read_mode o = mode_of (not o.relaxed)

@@ -1,6 +1,7 @@
 -- The lines of each kind of content.
 pub mod Aspa
 pub mod Manifest
+pub mod Object
 pub mod Roa
 pub mod Rsc
 pub mod Tal

@@ -1,8 +1,6 @@
 //! What the program shows of the octets of a file: a row for each kind of content.
 
 ghost use Rattle.std.specs.Prelude.{◌≡◌, ℕ, List};
-ghost use Rattle.rpki_der.specs.declared.mode.Mode.TheVariants.{Der};
-ghost use Rattle.rpki_der.specs.Form.Decodes.{Decodes};
 ghost use Rattle.rpki_command.specs.Answer.{said};
 ghost use Rattle.rpki_command.specs.Contents.{HasLines, LinesOf, IsShown, IsLinesOf};
 ghost use Rattle.rpki_command.specs.Grows.{Grows};
@@ -13,10 +11,6 @@ ghost use Rattle.rpki_command.specs.Texts.Manifest.{manifest_text};
 ghost use Rattle.rpki_command.specs.Texts.Roa.{roa_text};
 ghost use Rattle.rpki_command.specs.Texts.Rsc.{rsc_text};
 ghost use Rattle.rpki_command.specs.declared.words.Options.{Options};
-ghost use Rattle.rpki_files.specs.Checklist.{ChecklistForm};
-ghost use Rattle.rpki_files.specs.Manifest.{ManifestForm};
-ghost use Rattle.rpki_routes.specs.Aspa.Form.{AspaForm};
-ghost use Rattle.rpki_routes.specs.Roa.Form.{RoaForm};
 
 use crate::answer::Answer;
 use crate::texts::aspa::push_aspa;
@@ -25,22 +19,24 @@ use crate::texts::roa::push_roa;
 use crate::texts::rsc::push_rsc;
 use crate::words::{Kind, Options};
 use bytes::Bytes;
+use rpki_basics::{ManifestRule, ProviderLimit};
 use rpki_der::DecodeError;
 use rpki_files::{ManifestContent, ResourceSignedChecklist};
 use rpki_routes::{AsProviderAttestation, RouteOriginAttestation};
+use rpki_signed::Content;
 use std::alloc::{AllocError, Global};
 
-/// A content that is shown.
-pub trait Content: Drop {
-    // The octets that are such a content with these options, and what they say.
-    ghost form: { Options → List ℕ → Self → Type 0 };
+/// A content that has lines.
+pub trait Lines: Content {
+    // How it is read with these options.
+    ghost rule_of: { Options → Self.Rule };
 
     // Its lines.
     ghost lines: { Self → List ℕ };
 
-    /// Reads the content at the front.
-    fn read(alloc: Global, options: Options, source: Bytes) -> Result<Self, DecodeError>
-        ensures { Decodes (form options) (λ a. a) source result };
+    /// How it is read with these options.
+    fn rule(options: Options) -> Self::Rule
+        ensures { result ≡ rule_of options };
 
     /// Appends its lines.
     fn push(&self, text: &mut String) -> Result<(), AllocError>
@@ -61,8 +57,8 @@ pub fn show_kind<'a>(alloc: Global, options: Options, kind: Kind, octets: Vec<u8
 }
 
 /// Answers with the lines of the content at the front of the octets, if there is one.
-fn show_octets<'a, C: Content>(alloc: Global, options: Options, octets: Vec<u8>) -> Answer<'a>
-    ensures { IsShown (HasLines (C.form options) C.lines) octets.items (said result) }
+fn show_octets<'a, C: Lines>(alloc: Global, options: Options, octets: Vec<u8>) -> Answer<'a>
+    ensures { IsShown (HasLines (C.form (C.rule_of options)) C.lines) octets.items (said result) }
 {
     match Bytes::from_vec(octets) {
         Ok(source) => show::<C>(alloc, options, source),
@@ -71,17 +67,17 @@ fn show_octets<'a, C: Content>(alloc: Global, options: Options, octets: Vec<u8>)
 }
 
 /// Answers with the lines of the content at the front of the source, if there is one.
-fn show<'a, C: Content>(alloc: Global, options: Options, source: Bytes) -> Answer<'a>
-    ensures { IsShown (HasLines (C.form options) C.lines) source (said result) }
+fn show<'a, C: Lines>(alloc: Global, options: Options, source: Bytes) -> Answer<'a>
+    ensures { IsShown (HasLines (C.form (C.rule_of options)) C.lines) source (said result) }
 {
-    match C::read(alloc, options, source) {
+    match C::read(alloc, source, C::rule(options)) {
         Err(error) => refusal(error),
         Ok(content) => show_lines(alloc, &content),
     }
 }
 
 /// The answer where octets are not read.
-fn refusal<'a>(error: DecodeError) -> Answer<'a>
+pub fn refusal<'a>(error: DecodeError) -> Answer<'a>
     ensures { said result ≡ refusal error }
 {
     match error {
@@ -91,7 +87,7 @@ fn refusal<'a>(error: DecodeError) -> Answer<'a>
 }
 
 /// The lines of a content.
-fn show_lines<'a, C: Content>(alloc: Global, content: &C) -> Answer<'a>
+fn show_lines<'a, C: Lines>(alloc: Global, content: &C) -> Answer<'a>
     ensures { IsLinesOf (C.lines content.now) (said result) }
 {
     let mut text = String::new(alloc);
@@ -101,17 +97,13 @@ fn show_lines<'a, C: Content>(alloc: Global, content: &C) -> Answer<'a>
     }
 }
 
-impl Content for AsProviderAttestation {
-    ghost form = { λ options. AspaForm (provider_limit options) };
+impl Lines for AsProviderAttestation {
+    ghost rule_of = { provider_limit };
 
     ghost lines = { aspa_text };
 
-    fn read(
-        _alloc: Global,
-        options: Options,
-        source: Bytes,
-    ) -> Result<AsProviderAttestation, DecodeError> {
-        AsProviderAttestation::decode(source, options.provider_limit())
+    fn rule(options: Options) -> ProviderLimit {
+        options.provider_limit()
     }
 
     fn push(&self, text: &mut String) -> Result<(), AllocError> {
@@ -119,17 +111,13 @@ impl Content for AsProviderAttestation {
     }
 }
 
-impl Content for ManifestContent {
-    ghost form = { λ options. ManifestForm (manifest_rule options) Der };
+impl Lines for ManifestContent {
+    ghost rule_of = { manifest_rule };
 
     ghost lines = { manifest_text };
 
-    fn read(
-        alloc: Global,
-        options: Options,
-        source: Bytes,
-    ) -> Result<ManifestContent, DecodeError> {
-        ManifestContent::decode(alloc, source, options.manifest_rule())
+    fn rule(options: Options) -> ManifestRule {
+        options.manifest_rule()
     }
 
     fn push(&self, text: &mut String) -> Result<(), AllocError> {
@@ -137,36 +125,24 @@ impl Content for ManifestContent {
     }
 }
 
-impl Content for RouteOriginAttestation {
-    ghost form = { λ _. RoaForm };
+impl Lines for RouteOriginAttestation {
+    ghost rule_of = { λ _. tt };
 
     ghost lines = { roa_text };
 
-    fn read(
-        alloc: Global,
-        _options: Options,
-        source: Bytes,
-    ) -> Result<RouteOriginAttestation, DecodeError> {
-        RouteOriginAttestation::decode(alloc, source)
-    }
+    fn rule(_options: Options) {}
 
     fn push(&self, text: &mut String) -> Result<(), AllocError> {
         push_roa(text, self)
     }
 }
 
-impl Content for ResourceSignedChecklist {
-    ghost form = { λ _. ChecklistForm Der };
+impl Lines for ResourceSignedChecklist {
+    ghost rule_of = { λ _. tt };
 
     ghost lines = { rsc_text };
 
-    fn read(
-        alloc: Global,
-        _options: Options,
-        source: Bytes,
-    ) -> Result<ResourceSignedChecklist, DecodeError> {
-        ResourceSignedChecklist::decode(alloc, source)
-    }
+    fn rule(_options: Options) {}
 
     fn push(&self, text: &mut String) -> Result<(), AllocError> {
         push_rsc(text, self)

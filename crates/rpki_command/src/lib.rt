@@ -8,6 +8,7 @@ mod contents;
 mod entry;
 pub mod laws;
 mod locator;
+mod objects;
 mod program;
 mod store;
 mod texts;

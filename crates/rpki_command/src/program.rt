@@ -5,12 +5,14 @@ ghost use Rattle.rpki_command.specs.Answer.{run_of, said};
 ghost use Rattle.rpki_command.specs.Command.{order_task, task_reads, IsTaskAnswer};
 ghost use Rattle.rpki_command.specs.Command.{unread, IsOfFile, IsAnswer, IsRunOf, HaveRead};
 ghost use Rattle.rpki_command.specs.Contents.{LinesOf, IsShown};
+ghost use Rattle.rpki_command.specs.Objects.{ObjectLinesOf};
 ghost use Rattle.rpki_command.specs.Texts.Tal.{TalLines};
 ghost use Rattle.rpki_command.specs.Words.{texts};
 
 use crate::answer::{Answer, say};
 use crate::contents::show_kind;
 use crate::locator::show_tal;
+use crate::objects::show_object;
 use crate::store::{Store, StoreError};
 use crate::words::{Command, Kind, Options, Order, parse};
 use rpki_der::Sink;
@@ -57,7 +59,7 @@ fn answer_order<'a, S: Store>(alloc: Global, order: &Order<'a>, store: &mut S) -
     match &order.command {
         Command::Content { kind, file } => show_file(alloc, order.options, *kind, file.0, store),
         Command::ContentRta { .. } => Answer::Usage,
-        Command::Show { .. } => Answer::Usage,
+        Command::Show { kind, file } => { show_signed(alloc, order.options, *kind, file.0, store) }
         Command::ShowRta { .. } => Answer::Usage,
         Command::ShowTal { file } => show_locator(alloc, file.0, store),
         Command::Check { .. } => Answer::Usage,
@@ -81,6 +83,25 @@ fn show_file<'a, S: Store>(
     match store.read(alloc, file) {
         Ok(octets) => show_kind(alloc, options, kind, octets),
         Err(error) => unread(error, file),
+    }
+}
+
+/// Answers with the lines of the signed object of this kind in a file, if there is one.
+fn show_signed<'a, S: Store>(
+    alloc: Global,
+    options: Options,
+    kind: Kind,
+    object: &'a str,
+    store: &mut S,
+) -> Answer<'a>
+    ensures said { IsOfFile (S.told store.old) object.now (IsShown (ObjectLinesOf options kind))
+        (said result) }
+    ensures reads { S.reads store.new ≡ S.reads store.old + 1 }
+    ensures same { S.told store.new ≡ S.told store.old }
+{
+    match store.read(alloc, object) {
+        Ok(octets) => show_object(alloc, options, kind, octets),
+        Err(error) => unread(error, object),
     }
 }
 

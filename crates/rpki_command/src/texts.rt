@@ -4,6 +4,7 @@ pub mod aspa;
 pub mod ia5;
 pub mod lines;
 pub mod manifest;
+pub mod object;
 pub mod roa;
 pub mod rsc;
 pub mod tal;

@@ -283,6 +283,19 @@ fn checklists_are_shown(rt: HostRuntime) -> Result<(), Fail> {
 }
 
 #[test]
+fn objects_are_shown(rt: HostRuntime) -> Result<(), Fail> {
+    let rows: [Row; 5] = [
+        (&["show", "aspa", "file"], &CONTENT, MALFORMED, 1),
+        (&["--relaxed", "show", "manifest", "file"], &MANIFEST, MALFORMED, 1),
+        (&["show", "rsc", "file"], &[], MALFORMED, 1),
+        (&["show", "roa", "other"], &ROA, CANNOT_READ, 1),
+        (&["show", "roa", "large"], &ROA, OUT_OF_MEMORY, 1),
+    ];
+    are_answered(&rt, &rows);
+    Ok(())
+}
+
+#[test]
 fn locators_are_shown(rt: HostRuntime) -> Result<(), Fail> {
     let rows: [Row; 8] = [
         (&["show", "tal", "file"], TAL, TAL_SHOWN, 1),
@@ -318,10 +331,9 @@ static NOTHING: [&[&str]; 15] = [
 ];
 
 /// Words that ask for what is not there yet.
-static NOT_THERE: [&[&str]; 6] = [
+static NOT_THERE: [&[&str]; 5] = [
     &["content", "rta", "file"],
     &["--relaxed", "content", "rta", "file"],
-    &["show", "aspa", "file"],
     &["show", "rta", "file"],
     &[
         "check", "aspa", "file", "moment", "verdicts", "anchor", "other",

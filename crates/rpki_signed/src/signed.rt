@@ -80,7 +80,7 @@ impl<T: Content> Signed<T> {
     /// Reads the object at the front of the source, by the rules of DER where it is read strictly,
     /// and else by those of BER; its content is in DER. Octets behind it are left, and so are those
     /// behind what the content says.
-    pub(crate) fn read(
+    pub fn read(
         alloc: Global,
         source: Bytes,
         strict: bool,

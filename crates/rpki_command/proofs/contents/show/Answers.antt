@@ -1,12 +1,19 @@
 -- One beginning of the source at most is such a content.
+use Rattle.std.proofs.Common.{subst}
+use Rattle.rpki_command.specs.Answer.{said}
+use Rattle.rpki_command.specs.Contents.{HasLines, IsShown}
 use Rattle.rpki_command.proofs.Shown.{shown-refusal, shown-lines}
 use Rattle.rpki_command.proofs.contents.show.Goals as goal
 
 pub returns-in-Err : goal.returns-in-Err
 returns-in-Err g c =
-    shown-refusal _ _ _ _ c.in-Err.error c.refusal.ensures c.in-Err.ensures
+    subst (λ rule. IsShown (HasLines (g.C.Content.form rule) g.C.Lines.lines) c.args.source
+    (said c.refusal.result)) c.rule.ensures
+    (shown-refusal _ _ _ _ c.in-Err.error c.refusal.ensures c.in-Err.ensures.decodes)
 
 pub returns-in-Ok : goal.returns-in-Ok
 returns-in-Ok g c =
-    let decoded = c.in-Ok.ensures in
-    shown-lines _ _ _ _ c.in-Ok.content decoded.0 decoded.1 c.show_lines.ensures
+    let decoded = c.in-Ok.ensures.decodes in
+    subst (λ rule. IsShown (HasLines (g.C.Content.form rule) g.C.Lines.lines) c.args.source
+    (said c.show_lines.result)) c.rule.ensures
+    (shown-lines _ _ _ _ c.in-Ok.content decoded.0 decoded.1 c.show_lines.ensures)

@@ -1,0 +1,25 @@
+-- The lines of a signed object.
+use Rattle.std.specs.Prelude.{ℕ, List, ◌++◌, codes}
+use Rattle.rpki_basics.specs.Moment.{Moment}
+use Rattle.rpki_basics.specs.Serial.{serial_text}
+use Rattle.rpki_basics.specs.TimeForm.{iso_text}
+use Rattle.rpki_certs.specs.Cert.{Certificate}
+use Rattle.rpki_keys.specs.Hex.{upper_hex}
+use Rattle.rpki_signed.specs.Object.{Whole}
+
+-- the line of the moment at which it was signed, by what the signer says
+unfoldable pub signing_line : Moment → List ℕ
+signing_line m = codes "signing " ++ (iso_text m ++ codes "\n")
+
+-- the line of the certificate of the signer, an end entity: its serial number, and the identifier
+-- of its key
+unfoldable pub signer_line : Certificate → List ℕ
+signer_line c =
+    codes "ee " ++ (serial_text c.tbs.serial_number
+    ++ (codes " " ++ (upper_hex c.tbs.extensions.key.subject_key ++ codes "\n")))
+
+-- the lines of the content, and those of the signer
+abbrev pub object_text : {X : Type 0} → (X → List ℕ) → Whole X → List ℕ
+object_text text o =
+    text o.content ++ (signing_line o.object.signed.signer.attributes.signing_time
+    ++ signer_line o.object.signed.cert)

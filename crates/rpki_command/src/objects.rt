@@ -1,0 +1,69 @@
+//! What the program shows of signed objects.
+
+ghost use Rattle.rpki_signed.specs.Object.{ObjectForm, whole_of};
+ghost use Rattle.rpki_command.specs.Answer.{said};
+ghost use Rattle.rpki_command.specs.Contents.{HasLines, IsShown, IsLinesOf};
+ghost use Rattle.rpki_command.specs.Objects.{ObjectLinesOf};
+ghost use Rattle.rpki_command.specs.Options.{read_mode};
+ghost use Rattle.rpki_command.specs.Texts.Object.{object_text};
+
+use crate::answer::Answer;
+use crate::contents::{Lines, refusal};
+use crate::texts::object::push_object;
+use crate::words::{Kind, Options};
+use bytes::Bytes;
+use rpki_files::{ManifestContent, ResourceSignedChecklist};
+use rpki_routes::{AsProviderAttestation, RouteOriginAttestation};
+use rpki_signed::Signed;
+use std::alloc::Global;
+
+/// Answers with the lines of the signed object of this kind at the front of the octets, if there is
+/// one.
+#[tactic(auto, using(crate::proofs::Shown::object_of_kind))]
+pub fn show_object<'a>(alloc: Global, options: Options, kind: Kind, octets: Vec<u8>) -> Answer<'a>
+    ensures { IsShown (ObjectLinesOf options kind) octets.items (said result) }
+{
+    match kind {
+        Kind::Aspa => show_octets::<AsProviderAttestation>(alloc, options, octets),
+        Kind::Manifest => show_octets::<ManifestContent>(alloc, options, octets),
+        Kind::Roa => show_octets::<RouteOriginAttestation>(alloc, options, octets),
+        Kind::Rsc => show_octets::<ResourceSignedChecklist>(alloc, options, octets),
+    }
+}
+
+/// Answers with the lines of the object at the front of the octets, if there is one.
+fn show_octets<'a, C: Lines>(alloc: Global, options: Options, octets: Vec<u8>) -> Answer<'a>
+    ensures { IsShown (HasLines (ObjectForm C.kind.type (C.form (C.rule_of options))
+        (read_mode options)) (object_text C.lines)) octets.items (said result) }
+{
+    match Bytes::from_vec(octets) {
+        Ok(source) => show::<C>(alloc, options, source),
+        Err(_) => Answer::OutOfMemory,
+    }
+}
+
+/// Answers with the lines of the object at the front of the source, if there is one.
+fn show<'a, C: Lines>(alloc: Global, options: Options, source: Bytes) -> Answer<'a>
+    ensures { IsShown (HasLines (ObjectForm C.kind.type (C.form (C.rule_of options))
+        (read_mode options)) (object_text C.lines)) source (said result) }
+{
+    match Signed::<C>::read(alloc, source, !options.relaxed, C::rule(options)) {
+        Err(error) => refusal(error),
+        Ok(object) => {
+            let answer = show_lines(alloc, &object);
+            drop(object);
+            answer
+        }
+    }
+}
+
+/// The lines of an object.
+fn show_lines<'a, C: Lines>(alloc: Global, object: &Signed<C>) -> Answer<'a>
+    ensures { IsLinesOf (object_text C.lines (whole_of object.now)) (said result) }
+{
+    let mut text = String::new(alloc);
+    match push_object(&mut text, object) {
+        Ok(()) => Answer::Shown(text),
+        Err(_) => Answer::OutOfMemory,
+    }
+}
