@@ -286,7 +286,12 @@ fn checklists_are_shown(rt: HostRuntime) -> Result<(), Fail> {
 fn objects_are_shown(rt: HostRuntime) -> Result<(), Fail> {
     let rows: [Row; 5] = [
         (&["show", "aspa", "file"], &CONTENT, MALFORMED, 1),
-        (&["--relaxed", "show", "manifest", "file"], &MANIFEST, MALFORMED, 1),
+        (
+            &["--relaxed", "show", "manifest", "file"],
+            &MANIFEST,
+            MALFORMED,
+            1,
+        ),
         (&["show", "rsc", "file"], &[], MALFORMED, 1),
         (&["show", "roa", "other"], &ROA, CANNOT_READ, 1),
         (&["show", "roa", "large"], &ROA, OUT_OF_MEMORY, 1),

@@ -14,7 +14,7 @@ returns-in_err-inspect_detached_ee g c =
     let d = c.args.self.now.certificate in
     rw (p.1, p.2) (shown-refuses Inspection Memory (detached_ee_checks d.tbs)
     (issued_validation verdict d c.args.issuer.now c.args.now) _
-        c.in_err-inspect_detached_ee.ensures)
+    c.in_err-inspect_detached_ee.ensures)
 
 pub returns : goal.returns
 unfolding detached_ee_validation
