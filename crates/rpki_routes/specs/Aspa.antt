@@ -1,4 +1,5 @@
--- The content of an AS provider attestation (draft-ietf-sidrops-aspa-profile-15, section 3).
+-- The content of an Autonomous System Provider Authorization (ASPA;
+-- draft-ietf-sidrops-aspa-profile-15, section 3).
 pub mod Form
 pub mod Read
 pub mod Written

@@ -1,5 +1,4 @@
--- The content of a route origin attestation (RFC 6482, section 3). The sections are those of RFC
--- 6482.
+-- The content of a Route Origin Authorization (ROA). The sections are those of RFC 9582.
 pub mod Form
 pub mod Read
 pub mod Written
@@ -16,7 +15,7 @@ use Rattle.rpki_routes.specs.declared.roa.address.RouteOrigin.{RouteOrigin}
 use Rattle.rpki_resources.specs.Family.{max_bits}
 use Rattle.rpki_resources.specs.Prefix.{Network}
 
--- a prefix, and the length up to which longer ones are authorized too (3.3)
+-- a prefix, and the length up to which longer ones are authorized too (4.3)
 pub record Address : Type 0 where
   pub prefix : Network
   pub max_length : Option ℕ
@@ -34,7 +33,7 @@ pub record IsPrefixOf (family : AddressFamily) (p : Network) : Type 0 where
   pub aligned : p.addr % 2 ^ (128 - p.len) ≡ 0
 
 -- The maximum length is between the length of the prefix and that of an address of the family
--- (3.3).
+-- (4.3).
 abbrev pub IsMaxLength : AddressFamily → ℕ → ℕ → Type 0
 IsMaxLength family len max = (len ≤ max) × (max ≤ max_bits family)
 

@@ -1,4 +1,5 @@
-//! Contents of AS provider attestations (draft-ietf-sidrops-aspa-profile-15, section 3).
+//! Contents of Autonomous System Provider Authorizations (ASPAs;
+//! draft-ietf-sidrops-aspa-profile-15, section 3).
 
 mod encoder;
 mod providers;

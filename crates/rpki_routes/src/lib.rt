@@ -1,5 +1,5 @@
-//! Contents of route origin attestations (RFC 6482) and of AS provider attestations
-//! (draft-ietf-sidrops-aspa-profile-15).
+//! Contents of Route Origin Authorizations (ROAs, RFC 9582) and of Autonomous System Provider
+//! Authorizations (ASPAs, draft-ietf-sidrops-aspa-profile-15).
 #![tactic(auto)]
 
 mod aspa;

@@ -1,4 +1,4 @@
-//! Contents of route origin attestations (RFC 6482, section 3).
+//! Contents of Route Origin Authorizations (ROAs; RFC 9582, section 4).
 
 mod address;
 mod addresses;
@@ -59,7 +59,7 @@ impl Clone for RouteOriginAttestation {
 }
 
 impl RouteOriginAttestation {
-    /// Reads the content at the front of the source, in DER (RFC 6482, section 3). Where the source
+    /// Reads the content at the front of the source, in DER (RFC 9582, section 4). Where the source
     /// begins with no content, refuses by `Malformed` or by the `Content` fault that is found
     /// first, and by `Memory` where no memory was to be had. The octets of the addresses are shared
     /// with the source.

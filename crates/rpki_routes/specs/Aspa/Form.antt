@@ -1,4 +1,4 @@
--- The form of the content of an AS provider attestation.
+-- The form of the content of an ASPA.
 use Rattle.std.specs.Prelude.{ℕ, List, [], ◌∷◌}
 use Rattle.rpki_der.specs.declared.mode.Mode.TheVariants.{Der}
 use Rattle.rpki_der.specs.Grammar.{Integer}

@@ -1,5 +1,5 @@
--- The form of the content of a route origin attestation, which is in DER (RFC 6488, section
--- 2.1.3.2). The sections are those of RFC 6482.
+-- The form of the content of a ROA, which is in DER (RFC 6488, section 2.1.3.2). The sections are
+-- those of RFC 9582.
 use Rattle.std.specs.Prelude.{ℕ, List, [], ◌∷◌, unwrap_or, IfSome}
 use Rattle.rpki_der.specs.declared.mode.Mode.{Mode}
 use Rattle.rpki_der.specs.declared.mode.Mode.TheVariants.{Der}
@@ -13,7 +13,7 @@ use Rattle.rpki_resources.specs.Families.Form.{FamiliesForm}
 use Rattle.rpki_resources.specs.Ip.Form.{PrefixForm}
 use Rattle.rpki_routes.specs.Roa.{Address, Roa, IsMaxLength}
 
--- ROAIPAddress: SEQUENCE { address, maxLength INTEGER OPTIONAL } (3.3). The bits of the prefix that
+-- ROAIPAddress: SEQUENCE { address, maxLength INTEGER OPTIONAL } (4.3). The bits of the prefix that
 -- are not used may be any, which is this project's own rule.
 abbrev pub AddressForm : AddressFamily → List ℕ → Address → Type 0
 AddressForm family octets a = Sequence Der (
@@ -21,12 +21,12 @@ AddressForm family octets a = Sequence Der (
     ∷ (λ o. Optional (IntegerBelow 256 Der) o a.max_length)
     ∷ []) octets × IfSome a.max_length (IsMaxLength family a.prefix.len)
 
--- addresses: SEQUENCE OF ROAIPAddress (3.3). In RFC 6482 there is at least one. Here there may be
--- none, which is this project's own rule.
+-- addresses: SEQUENCE OF ROAIPAddress, where there is at least one (4.3). Here there may be none,
+-- which is this project's own rule.
 abbrev pub AddressesForm : AddressFamily → Mode → List ℕ → List Address → Type 0
 AddressesForm family mode = SequenceOf mode (AddressForm family)
 
--- version: [0] { INTEGER 0 } DEFAULT 0 (3.1). That it may be written in DER too, against X.690,
+-- version: [0] { INTEGER 0 } DEFAULT 0 (4.1). That it may be written in DER too, against X.690,
 -- section 11.5, is this project's own rule.
 abbrev pub VersionForm : List ℕ → Type 0
 VersionForm = Ignored (Optional {X = Unit {0}} (λ o _. Explicit 0 Der (λ c. Integer Der c 0) o))
@@ -35,13 +35,13 @@ VersionForm = Ignored (Optional {X = Unit {0}} (λ o _. Explicit 0 Der (λ c. In
 abbrev pub lists_of : ByFamily (List Address) → List Address × List Address
 lists_of values = (unwrap_or values.v4 [], unwrap_or values.v6 [])
 
--- ipAddrBlocks: SEQUENCE OF ROAIPAddressFamily, each family at most once (3.3). In RFC 6482 there
--- is at least one, and nothing is said of a family that stands twice. Here there may be none,
--- and no family stands twice, which is this project's own rule.
+-- ipAddrBlocks: SEQUENCE OF ROAIPAddressFamily, where there is at least one, and each family stands
+-- at most once (4.3). RFC 6482, the earlier profile, says nothing of a family that stands twice.
+-- Here there may be none, which is this project's own rule.
 abbrev pub BlocksForm : List ℕ → List Address × List Address → Type 0
 BlocksForm = Made lists_of (FamiliesForm AddressesForm Der)
 
--- RouteOriginAttestation: SEQUENCE { version, asID, ipAddrBlocks } (3)
+-- RouteOriginAttestation: SEQUENCE { version, asID, ipAddrBlocks } (4)
 abbrev pub RoaForm : List ℕ → Roa → Type 0
 RoaForm octets r = Sequence Der (
     VersionForm

@@ -1,4 +1,4 @@
--- The octets that a ROA content is written as in DER (RFC 6482, section 3): the version is left
+-- The octets that a ROA content is written as in DER (RFC 9582, section 4): the version is left
 -- out, IPv4 comes first, a family without addresses is left out, and the bits that are not used
 -- are zero.
 use Rattle.std.specs.Prelude.{ℕ, List, [], ◌∷◌, ◌++◌}

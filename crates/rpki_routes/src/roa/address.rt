@@ -1,4 +1,4 @@
-//! Addresses of a ROA (RFC 6482, section 3.3).
+//! Addresses of a ROA (RFC 9582, section 4.3).
 
 ghost use Rattle.std.specs.Prelude.{◌≡◌, ◌≤◌, ◌↔◌, Some, IsTrue, unwrap_or};
 ghost use Rattle.rpki_resources.specs.declared.family.AddressFamily.{AddressFamily};

@@ -1,4 +1,4 @@
-//! Lists of addresses of a ROA (RFC 6482, section 3.3).
+//! Lists of addresses of a ROA (RFC 9582, section 4.3).
 
 ghost use Rattle.std.specs.Prelude.{◌≡◌, ◌↔◌, [], length, IsTrue, IsSome, false};
 ghost use Rattle.rpki_lists.specs.Slice.{FindsFront};

@@ -203,7 +203,7 @@ fn address_fields(address: RoaIpAddress) -> (Prefix, Option<Unsigned>)
     (address.prefix(), max_length)
 }
 
-/// A SEQUENCE of the prefix and, where one is set, the maximum length (RFC 6482, section 3.3). The
+/// A SEQUENCE of the prefix and, where one is set, the maximum length (RFC 9582, section 4.3). The
 /// bits that are not used are zero.
 impl Encode for RoaIpAddress {
     ghost octets = { address_octets };
