@@ -146,7 +146,8 @@ fn keys_at_the_front(rt: HostRuntime) -> Result<(), AllocError> {
 #[test]
 fn written(rt: HostRuntime) -> Result<(), AllocError> {
     let alloc = rt.alloc();
-    let key = match PublicKey::decode(Bytes::copy_from_slice(alloc, KEY)?) {
+    // what was read without a NULL is written with one
+    let key = match PublicKey::decode(Bytes::copy_from_slice(alloc, KEYS[1].0)?) {
         Ok(key) => key,
         Err(DecodeError::Memory) => return Err(AllocError),
         Err(_) => {
@@ -156,6 +157,7 @@ fn written(rt: HostRuntime) -> Result<(), AllocError> {
     };
     assert!(rt; key.clone()? == key);
     assert!(rt; has_octets(key.to_info_bytes(alloc), KEY)?);
+    assert!(rt; has_octets(key.encode_ref().to_bytes(alloc), KEY)?);
     let name = key.to_subject_name(alloc)?;
     assert!(rt; name.as_slice() == NAME);
     assert!(rt; has_octets(name.encode_ref().to_bytes(alloc), NAME)?);
