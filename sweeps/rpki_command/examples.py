@@ -21,7 +21,8 @@ type Row<'a> = (&'a [&'a str], Said<'a>, usize);
 /// That this is said to the words.
 fn is_answered(rt: &(impl Abort + AllocGlobal), row: &Row<'_>) {
     let (words, said, reads) = row;
-    let mut store = Files::new(&FILES);
+    let files = files();
+    let mut store = Files::new(&files);
     let mut out = Counted::new(Vec::new(rt.alloc()));
     let mut err = Counted::new(Vec::new(rt.alloc()));
     let status = command(rt.alloc(), words, &mut store, &mut out, &mut err);
@@ -125,10 +126,11 @@ def main():
         print(f"static {table}: [u8; {len(octets)}] = [")
         print(textwrap.fill(", ".join(f"0x{it:02X}" for it in octets), 100))
         print("];\n")
-    print(f"static FILES: [(&str, &[u8]); {len(FILES)}] = [")
+    print("/// The files.")
+    print(f"fn files() -> [(&'static str, &'static [u8]); {len(FILES)}] {{\n    [")
     for name in FILES:
-        print(f'    ("{name}", &{name.upper().replace(".", "_")}),')
-    print("];\n")
+        print(f'        ("{name}", &{name.upper().replace(".", "_")}),')
+    print("    ]\n}\n")
     for number, (words, status, said, reads) in enumerate(ROWS + CHECKS):
         out, err = (text(said), '""') if status < 2 else ('""', text(said))
         print(f"#[test]\nfn row_{number}(rt: HostRuntime) -> Result<(), Fail> {{")

@@ -1,3 +1,5 @@
+pub mod Asking
+pub mod Checking
 pub mod Following
 pub mod Located
 pub mod Named

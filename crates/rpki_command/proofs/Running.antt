@@ -1,16 +1,22 @@
 -- What a run of the program does, from what it says.
 use Rattle.std.proofs.Common.{◌≡◌, ℕ, List, Option, Some, None, Result, Ok, Err, Vec, Global}
-use Rattle.std.proofs.Common.{sym, subst, inl, inr}
+use Rattle.std.proofs.Common.{sym, subst, inl, inr, refl, arith, ◌<◌, [], ◌∷◌, zero, suc, length, map}
+use Rattle.std.proofs.Common.{get_or}
 use Rattle.std.specs.Prelude.{◌⊎◌}
 use Rattle.rpki_command.specs.Answer.{Run, Said, IsSaid, usage, cannot_read, out_of_memory}
 use Rattle.rpki_command.specs.Answer.{malformed, shown}
-use Rattle.rpki_command.specs.Command.{IsOfRead, IsOfFile, Task, ShowLines, NotThere, order_task}
+use Rattle.rpki_command.specs.Command.{IsOfRead, IsOfFile, Task, ShowLines, CheckFiles, NotThere}
+use Rattle.rpki_command.specs.Command.{order_task, IsOfReads, IsOfFiles, IsAtTime, IsSaidAt, AreTold}
 use Rattle.rpki_command.specs.Command.{IsTaskAnswer, IsAnswer, OrOutOfMemory, Shows, IsTaskDone}
 use Rattle.rpki_command.specs.Command.{IsRunOf, IsRunWith, IsSaidUnread, IsStartOf}
 use Rattle.rpki_command.specs.Arguments.{ToldArguments, AreTexts}
 use Rattle.rpki_command.specs.Contents.{HasNoLines, IsSaidOf, IsShown}
-use Rattle.rpki_command.specs.Store.{Told, IsRead}
+use Rattle.rpki_command.specs.Store.{Told, IsRead, AreRead, AreReadTo, IsFirstUnreadable}
 use Rattle.rpki_command.specs.Words.{IsAsked, AskForNothing}
+use Rattle.rpki_basics.specs.Moment.{Moment}
+use Rattle.rpki_issuers.specs.Issuer.{octets_of}
+use Rattle.rpki_command.specs.declared.store.Unread.{Unread}
+use Rattle.rpki_command.specs.declared.store.Unread.TheVariants as reads
 use Rattle.rpki_command.specs.declared.store.StoreError.{StoreError}
 use Rattle.rpki_command.specs.declared.store.StoreError.TheVariants.{Unreadable, Memory}
 use Rattle.rpki_command.specs.declared.words.Order.{Order}
@@ -63,11 +69,72 @@ module _ (lines_of : List ℕ → List ℕ → Type 0) (s : Said) (run : Run) (h
             (tells (Some (Some octets)) e) a.2 (λ h. shown-said octets lines is h.said);
       }
 
+-- ---- files that are checked
+
+told-octets : (told : Told) (names : List (List ℕ)) (files : List (Vec ℕ Global))
+    (octets : List (List ℕ)) → length files ≡ length names
+    → AreReadTo told names (length names) files → AreTold told names octets
+    → octets_of files ≡ octets
+told-octets told [] [] [] e a t = refl
+told-octets told [] [] (o ∷ os) e a t = absurd cc
+told-octets told [] (f ∷ fs) octets e a t = absurd (omega (arith, e))
+told-octets told (n ∷ ns) [] octets e a t = absurd (omega (arith, e))
+told-octets told (n ∷ ns) (f ∷ fs) [] e a t = absurd cc
+told-octets told (n ∷ ns) (f ∷ fs) (o ∷ os) e a t =
+    let first : told n ≡ Some (Some o) = cc in
+    let others : map told ns ≡ map (λ (x : List ℕ). Some (Some x)) os = cc in
+    let is : f.items ≡ o =
+    subst (λ (x : Option (Option (List ℕ))). IsRead x (Ok f)) first (a 0 n f (omega arith)) in
+    let rest : octets_of fs ≡ os = told-octets told ns fs os (omega (arith, e))
+    (λ k d x l. a (suc k) d x (omega (arith, l))) others in
+    cc
+
+told-at : (told : Told) (names octets : List (List ℕ)) (k : ℕ) (d : List ℕ) → k < length names
+    → AreTold told names octets → (o : List ℕ) × (told (get_or names k d) ≡ Some (Some o))
+told-at told [] octets k d l t = absurd (omega (arith, l))
+told-at told (n ∷ ns) [] k d l t = absurd cc
+told-at told (n ∷ ns) (o ∷ os) zero d l t = (o, cc)
+told-at told (n ∷ ns) (o ∷ os) (suc k) d l t =
+    told-at told ns os k d (omega (arith, l)) cc
+
+readable : (told : Told) (names octets : List (List ℕ)) (old new : ℕ) (name : List ℕ)
+    → IsFirstUnreadable told names old new name → AreTold told names octets → ⊥
+readable told names octets old new name u t =
+    let at = told-at told names octets u.place [] u.there t in
+    let same : told name ≡ Some (Some at.0) =
+    subst (λ (n : List ℕ). told n ≡ Some (Some at.0)) (u.named []) at.1 in
+    subst (λ (x : Option (Option (List ℕ))). IsRead x (Err Unreadable)) same u.unreadable
+
+module _ (told : Told) (names octets : List (List ℕ)) (t : AreTold told names octets) (s : Said)
+    (run : Run) (h : IsSaid s run) where
+  of-reads : (P : List (List ℕ) → Said → Type 0) (old new : ℕ)
+      (read : Result (Vec (Vec ℕ Global) Global) Unread) → AreRead told names old new read
+      → IsOfReads P read s → (s ≡ out_of_memory) ⊎ P octets s
+  of-reads P old new (Ok files) a o =
+      inr (subst (λ (os : List (List ℕ)). P os s)
+      (told-octets told names files.items octets a.count a.each t) o)
+  of-reads P old new (Err (reads.Unreadable name)) a o =
+      absurd (readable told names octets old new name.now a t)
+  of-reads P old new (Err reads.Memory) a o = inl o
+
+  of-files : (P : List (List ℕ) → Said → Type 0) → IsOfFiles told names P s
+      → (s ≡ out_of_memory) ⊎ P octets s
+  of-files P (inl e) = inl e
+  of-files P (inr r) = of-reads P r.0 r.1 r.2 r.3 r.4
+
+  at-time : (P : Moment → List (List ℕ) → Said → Type 0) (time : Option Moment)
+      → IsAtTime told names P time s → IsSaidAt P octets time run
+  at-time P None e = said-as s usage run e h
+  at-time P (Some now) a = (s, of-files (P now) a, h)
+
 -- ---- the whole
 
 module _ (told : Told) (s : Said) (run : Run) (h : IsSaid s run) where
   task-done : (task : Task) → IsTaskAnswer told task s → IsTaskDone told task run
   task-done (ShowLines file lines_of) a = shows lines_of s run h told file a
+  task-done (CheckFiles moment files P) a = record {
+    checked = λ octets t. (a.0, a.1, at-time told files octets t s run h P a.0 a.2);
+  }
   task-done NotThere a = said-as s usage run a h
 
   order-done : (words : List (List ℕ)) (o : Order) → IsAsked words o → IsAnswer told words s

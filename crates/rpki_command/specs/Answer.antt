@@ -6,7 +6,7 @@ use Rattle.rpki_der.specs.Write.Encode.{Sunk}
 use Rattle.rpki_command.specs.declared.answer.Answer.{Answer}
 use Rattle.rpki_command.specs.declared.answer.Answer.TheVariants.{Usage, CannotRead, BadVerdicts}
 use Rattle.rpki_command.specs.declared.answer.Answer.TheVariants.{OutOfMemory, Malformed, Refused}
-use Rattle.rpki_command.specs.declared.answer.Answer.TheVariants.{Shown}
+use Rattle.rpki_command.specs.declared.answer.Answer.TheVariants.{IssuerMalformed, IssuerRefused, Shown}
 
 -- what a run did to standard output and to standard error, and its exit status
 pub record Run : Type 0 where
@@ -86,6 +86,10 @@ malformed = Printed (codes "malformed\n") 1
 abbrev pub refused : List ℕ → Said
 refused cause = Printed (codes "refused: " ++ (cause ++ codes "\n")) 1
 
+-- certificates make no issuer, for this cause
+abbrev pub issuer_refused : List ℕ → Said
+issuer_refused cause = Printed (codes "issuer refused: " ++ (cause ++ codes "\n")) 1
+
 -- these lines are shown
 abbrev pub shown : List ℕ → Said
 shown lines = Printed lines 0
@@ -98,6 +102,8 @@ said BadVerdicts = bad_verdicts
 said OutOfMemory = out_of_memory
 said Malformed = malformed
 said (Refused cause) = refused (string_bytes cause)
+said IssuerMalformed = issuer_refused (codes "malformed")
+said (IssuerRefused cause) = issuer_refused (string_bytes cause)
 said (Shown lines) = shown (string_bytes lines)
 
 -- the run says it

@@ -1,18 +1,25 @@
 -- What the program answers to its words, and what a run of it does.
-use Rattle.std.specs.Prelude.{◌≡◌, ℕ, ◌⊎◌, ◌+◌, List, None, Some, Result, Ok, Err, Vec}
+use Rattle.std.specs.Prelude.{◌≡◌, ℕ, ◌⊎◌, ◌+◌, ◌≤◌, List, ◌∷◌, length, map, Option, None, Some}
+use Rattle.std.specs.Prelude.{Result, Ok, Err, Vec}
 use Rattle.std.specs.declared.alloc.Global.{Global}
+use Rattle.rpki_basics.specs.Moment.{Moment}
+use Rattle.rpki_basics.specs.TimeRead.{IsTimeOf}
+use Rattle.rpki_issuers.specs.Issuer.{octets_of}
 use Rattle.rpki_command.specs.Answer.{Run, Said, IsSaid, usage, cannot_read, out_of_memory}
 use Rattle.rpki_command.specs.Answer.{malformed, shown}
 use Rattle.rpki_command.specs.Arguments.{ToldArguments, AreTexts, HaveNoText}
+use Rattle.rpki_command.specs.Check.{CheckOf}
 use Rattle.rpki_command.specs.Contents.{LinesOf, HasNoLines, IsShown}
 use Rattle.rpki_command.specs.Objects.{ObjectLinesOf}
 use Rattle.rpki_command.specs.Texts.Tal.{TalLines}
-use Rattle.rpki_command.specs.Store.{Told, IsRead}
+use Rattle.rpki_command.specs.Store.{Told, IsRead, AreRead}
 use Rattle.rpki_command.specs.Words.{IsAsked, AskForNothing}
 use Rattle.rpki_command.specs.declared.store.StoreError.{StoreError}
 use Rattle.rpki_command.specs.declared.store.StoreError.TheVariants.{Unreadable, Memory}
+use Rattle.rpki_command.specs.declared.store.Unread.{Unread}
+use Rattle.rpki_command.specs.declared.store.Unread.TheVariants as reads
 use Rattle.rpki_command.specs.declared.words.Command.{Command}
-use Rattle.rpki_command.specs.declared.words.Command.TheVariants.{Content, Show, ShowTal}
+use Rattle.rpki_command.specs.declared.words.Command.TheVariants.{Content, Show, ShowTal, Check}
 use Rattle.rpki_command.specs.declared.words.Options.{Options}
 use Rattle.rpki_command.specs.declared.words.Order.{Order}
 
@@ -36,6 +43,10 @@ IsOfFile told name P s = (read : Result (Vec ℕ Global) StoreError) × IsRead (
 pub data Task : Type 1 where
   -- to show the lines of what stands in a file
   ShowLines : (file : List ℕ) (lines_of : List ℕ → List ℕ → Type 0) → Task
+  -- to look at the moment that a text names, to read these files, in this order, and to say what is
+  -- said of their octets at this moment
+  CheckFiles : (moment : List ℕ) (files : List (List ℕ))
+      (answers : Moment → List (List ℕ) → Said → Type 0) → Task
   -- nothing that there is yet
   NotThere : Task
 
@@ -45,21 +56,66 @@ abbrev pub command_task : Options → Command → Task
 command_task options (Content kind file) = ShowLines file (LinesOf options kind)
 command_task options (Show kind file) = ShowLines file (ObjectLinesOf options kind)
 command_task options (ShowTal file) = ShowLines file TalLines
+command_task options (Check kind file moment verdicts anchor chain) =
+    CheckFiles moment (file ∷ verdicts ∷ anchor ∷ chain) (CheckOf options kind)
 command_task options other = NotThere
 
 -- what an order comes to
 abbrev pub order_task : Order → Task
 order_task o = command_task o.options o.command
 
+-- what is said where reads of files answer this
+abbrev pub IsOfReads : (List (List ℕ) → Said → Type 0) → Result (Vec (Vec ℕ Global) Global) Unread
+    → Said → Type 0
+IsOfReads P (Ok files) s = P (octets_of files.items) s
+IsOfReads P (Err (reads.Unreadable name)) s = s ≡ cannot_read name.now
+IsOfReads P (Err reads.Memory) s = s ≡ out_of_memory
+
+-- What is said of files in a store that tells this, however often it was read before, unless memory
+-- runs out.
+abbrev pub IsOfFiles : Told → List (List ℕ) → (List (List ℕ) → Said → Type 0) → Said → Type 0
+IsOfFiles told names P s =
+    (s ≡ out_of_memory)
+    ⊎ ((old : ℕ) × (new : ℕ) × (read : Result (Vec (Vec ℕ Global) Global) Unread)
+    × AreRead told names old new read × IsOfReads P read s)
+
+-- what is said of files at a moment, or the usage where there is none
+abbrev pub IsAtTime : Told → List (List ℕ) → (Moment → List (List ℕ) → Said → Type 0)
+    → Option Moment → Said → Type 0
+IsAtTime told files P None s = s ≡ usage
+IsAtTime told files P (Some now) s = IsOfFiles told files (P now) s
+
+-- what is said of files at the moment that a text names, or the usage where it names none
+abbrev pub IsAnswerAt : Told → List ℕ → List (List ℕ) → (Moment → List (List ℕ) → Said → Type 0)
+    → Said → Type 0
+IsAnswerAt told moment files P s =
+    (time : Option Moment) × IsTimeOf moment time × IsAtTime told files P time s
+
 -- what is said for a task
 abbrev pub IsTaskAnswer : Told → Task → Said → Type 0
 IsTaskAnswer told (ShowLines file lines_of) s = IsOfFile told file (IsShown lines_of) s
+IsTaskAnswer told (CheckFiles moment files P) s = IsAnswerAt told moment files P s
 IsTaskAnswer told NotThere s = s ≡ usage
 
--- how many files are read for a task
-abbrev pub task_reads : Task → ℕ
-task_reads (ShowLines file lines_of) = 1
-task_reads NotThere = 0
+-- these files are read once at most
+abbrev pub AreReadAtMost : List (List ℕ) → ℕ → ℕ → Type 0
+AreReadAtMost files old new = (old ≤ new) × (new ≤ old + length files)
+
+-- the same at a moment, and none is read where there is no moment
+abbrev pub AreReadIf : List (List ℕ) → Option Moment → ℕ → ℕ → Type 0
+AreReadIf files None old new = new ≡ old
+AreReadIf files (Some now) old new = AreReadAtMost files old new
+
+-- the same at the moment that a text names
+abbrev pub HaveReadAt : List ℕ → List (List ℕ) → ℕ → ℕ → Type 0
+HaveReadAt moment files old new =
+    (time : Option Moment) × IsTimeOf moment time × AreReadIf files time old new
+
+-- how often a store was read before and after a task
+abbrev pub HasRead : Task → ℕ → ℕ → Type 0
+HasRead (ShowLines file lines_of) old new = new ≡ old + 1
+HasRead (CheckFiles moment files P) old new = HaveReadAt moment files old new
+HasRead NotThere old new = new ≡ old
 
 -- what is said for the order that the words ask for, or the usage where they ask for none
 abbrev pub IsAnswer : Told → List (List ℕ) → Said → Type 0
@@ -83,9 +139,28 @@ pub record Shows (told : Told) (file : List ℕ) (lines_of : List ℕ → List �
   pub shown : (octets lines : List ℕ) → told file ≡ Some (Some octets) → lines_of octets lines
       → OrOutOfMemory (shown lines) run
 
+-- the store tells these octets of these files
+abbrev pub AreTold : Told → List (List ℕ) → List (List ℕ) → Type 0
+AreTold told files octets = map told files ≡ map (λ o. Some (Some o)) octets
+
+-- the run says at a moment, of files with these octets, what is to be said of them, unless memory
+-- runs out; and the usage where there is no moment
+abbrev pub IsSaidAt : (Moment → List (List ℕ) → Said → Type 0) → List (List ℕ) → Option Moment
+    → Run → Type 0
+IsSaidAt P octets None run = IsSaid usage run
+IsSaidAt P octets (Some now) run =
+    (s : Said) × ((s ≡ out_of_memory) ⊎ P now octets s) × IsSaid s run
+
+-- The run checks files at the moment that a text names, where the store tells them.
+pub record ChecksFiles (told : Told) (moment : List ℕ) (files : List (List ℕ))
+    (P : Moment → List (List ℕ) → Said → Type 0) (run : Run) : Type 0 where
+  pub checked : (octets : List (List ℕ)) → AreTold told files octets
+      → (time : Option Moment) × IsTimeOf moment time × IsSaidAt P octets time run
+
 -- the run does a task
 abbrev pub IsTaskDone : Told → Task → Run → Type 0
 IsTaskDone told (ShowLines file lines_of) run = Shows told file lines_of run
+IsTaskDone told (CheckFiles moment files P) run = ChecksFiles told moment files P run
 IsTaskDone told NotThere run = IsSaid usage run
 
 -- What a run of the program does, where the store tells this of each file by its name.
@@ -101,7 +176,7 @@ pub record IsRunOf (told : Told) (words : List (List ℕ)) (run : Run) : Type 0 
 -- for others as often as their task reads.
 pub record HaveRead (words : List (List ℕ)) (old new : ℕ) : Type 0 where
   pub usage : AskForNothing words → new ≡ old
-  pub done : (o : Order) → IsAsked words o → new ≡ old + task_reads (order_task o)
+  pub done : (o : Order) → IsAsked words o → HasRead (order_task o) old new
 
 -- the words are run, with the reads that they ask for
 pub record IsRunWith (told : Told) (words : List (List ℕ)) (old new : ℕ) (run : Run) : Type 0 where

@@ -34,6 +34,10 @@ pub enum Answer<'a> {
     Malformed,
     /// The object is refused, for this cause.
     Refused(String),
+    /// The certificates make no issuer: one of them is not read.
+    IssuerMalformed,
+    /// The certificates make no issuer, for this cause.
+    IssuerRefused(String),
     /// These lines.
     Shown(String),
 }
@@ -51,6 +55,10 @@ pub fn say<O: Sink, E: Sink>(answer: &Answer<'_>, out: &mut O, err: &mut E) -> u
         Answer::OutOfMemory => write(b"out of memory\n", NO_MEMORY, err),
         Answer::Malformed => write(b"malformed\n", REFUSED, out),
         Answer::Refused(cause) => write_line(b"refused: ", cause.as_bytes(), REFUSED, out),
+        Answer::IssuerMalformed => write(b"issuer refused: malformed\n", REFUSED, out),
+        Answer::IssuerRefused(cause) => {
+            write_line(b"issuer refused: ", cause.as_bytes(), REFUSED, out)
+        }
         Answer::Shown(text) => write(text.as_bytes(), SHOWN, out),
     }
 }

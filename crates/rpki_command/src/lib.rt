@@ -4,6 +4,7 @@
 
 mod answer;
 mod arguments;
+mod check;
 mod contents;
 mod entry;
 pub mod laws;

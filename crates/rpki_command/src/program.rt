@@ -1,8 +1,10 @@
 //! The program as a function.
 
-ghost use Rattle.std.specs.Prelude.{◌≡◌, ◌+◌};
+ghost use Rattle.std.specs.Prelude.{◌≡◌, ◌+◌, ◌≤◌, length, IfOk};
 ghost use Rattle.rpki_command.specs.Answer.{run_of, said};
-ghost use Rattle.rpki_command.specs.Command.{order_task, task_reads, IsTaskAnswer};
+ghost use Rattle.rpki_command.specs.Check.{CheckOf};
+ghost use Rattle.rpki_command.specs.Command.{order_task, HasRead, IsTaskAnswer, IsAnswerAt};
+ghost use Rattle.rpki_command.specs.Command.{HaveReadAt, AreReadAtMost, IsOfFiles};
 ghost use Rattle.rpki_command.specs.Command.{unread, IsOfFile, IsAnswer, IsRunOf, HaveRead};
 ghost use Rattle.rpki_command.specs.Contents.{LinesOf, IsShown};
 ghost use Rattle.rpki_command.specs.Objects.{ObjectLinesOf};
@@ -10,18 +12,22 @@ ghost use Rattle.rpki_command.specs.Texts.Tal.{TalLines};
 ghost use Rattle.rpki_command.specs.Words.{texts};
 
 use crate::answer::{Answer, say};
+use crate::check::check_files;
 use crate::contents::show_kind;
 use crate::locator::show_tal;
 use crate::objects::show_object;
-use crate::store::{Store, StoreError};
+use crate::store::{Store, StoreError, Unread, read_all};
 use crate::words::{Command, Kind, Options, Order, parse};
+use rpki_basics::Time;
 use rpki_der::Sink;
-use std::alloc::Global;
+use std::alloc::{AllocError, Global};
+use std::marker::Model;
 
 /// The program: does what the words ask for, which follow its name, with the files of the store.
-/// Gives the exit status: 0 where lines were shown, 1 for `malformed`, both on standard output; 2
-/// for `usage` and `cannot read FILE`, 3 for `out of memory`, both on standard error; and 2 where
-/// a write failed, after which nothing more is written.
+/// Gives the exit status: 0 where lines were shown, with a `yes` before them where an object was
+/// checked; 1 for `malformed`, `refused: CAUSE` and `issuer refused: CAUSE`, all on standard output;
+/// 2 for `usage`, `cannot read FILE` and `bad verdicts`, 3 for `out of memory`, on standard error;
+/// and 2 where a write failed, after which nothing more is written.
 pub fn command<S: Store, O: Sink, E: Sink>(
     alloc: Global,
     words: &[&str],
@@ -53,7 +59,7 @@ fn answer<'a, S: Store>(alloc: Global, words: &'a [&'a str], store: &mut S) -> A
 /// usage.
 fn answer_order<'a, S: Store>(alloc: Global, order: &Order<'a>, store: &mut S) -> Answer<'a>
     ensures said { IsTaskAnswer (S.told store.old) (order_task order.now) (said result) }
-    ensures reads { S.reads store.new ≡ S.reads store.old + task_reads (order_task order.now) }
+    ensures reads { HasRead (order_task order.now) (S.reads store.old) (S.reads store.new) }
     ensures same { S.told store.new ≡ S.told store.old }
 {
     match &order.command {
@@ -62,7 +68,22 @@ fn answer_order<'a, S: Store>(alloc: Global, order: &Order<'a>, store: &mut S) -
         Command::Show { kind, file } => { show_signed(alloc, order.options, *kind, file.0, store) }
         Command::ShowRta { .. } => Answer::Usage,
         Command::ShowTal { file } => show_locator(alloc, file.0, store),
-        Command::Check { .. } => Answer::Usage,
+        Command::Check {
+            kind,
+            file,
+            moment,
+            verdicts,
+            anchor,
+            chain,
+        } => {
+            let names = Names {
+                object: file.0,
+                verdicts: verdicts.0,
+                anchor: anchor.0,
+                chain: chain.0,
+            };
+            check_moment(alloc, order.options, *kind, moment.0, &names, store)
+        }
         Command::Rta { .. } => Answer::Usage,
     }
 }
@@ -114,6 +135,105 @@ fn show_locator<'a, S: Store>(alloc: Global, name: &'a str, store: &mut S) -> An
     match store.read(alloc, name) {
         Ok(octets) => show_tal(alloc, octets.as_slice()),
         Err(error) => unread(error, name),
+    }
+}
+
+/// The files of a check, by their names. Contracts see them as a list, in the order of the words.
+#[derive(Drop)]
+struct Names<'a> {
+    object: &'a str,
+    verdicts: &'a str,
+    anchor: &'a str,
+    chain: &'a [&'a str],
+}
+
+impl<'a> Model for Names<'a> {
+    ghost use Rattle.std.specs.Prelude.{ℕ, List, ◌∷◌, map};
+
+    ghost Value = { List (List ℕ) };
+
+    ghost view = { λ n. n.object.now ∷ n.verdicts.now ∷ n.anchor.now
+        ∷ map (λ t. t.now) n.chain.now };
+}
+
+/// Answers whether a file is a good object of this kind at the moment that a word names, under the
+/// certificates of these files; with the usage where it names none.
+#[tactic(auto, using(crate::proofs::Asking::by_moment))]
+fn check_moment<'a, S: Store>(
+    alloc: Global,
+    options: Options,
+    kind: Kind,
+    moment: &str,
+    names: &Names<'a>,
+    store: &mut S,
+) -> Answer<'a>
+    ensures said { IsAnswerAt (S.told store.old) moment.now names.now (CheckOf options kind)
+        (said result) }
+    ensures reads { HaveReadAt moment.now names.now (S.reads store.old) (S.reads store.new) }
+    ensures same { S.told store.new ≡ S.told store.old }
+{
+    match Time::from_generalized(moment.as_bytes()) {
+        None => Answer::Usage,
+        Some(now) => check_at(alloc, options, kind, now, names, store),
+    }
+}
+
+/// Answers whether a file is a good object of this kind at this moment, under the certificates of
+/// these files.
+#[tactic(auto, using(crate::proofs::Asking::by_names))]
+fn check_at<'a, S: Store>(
+    alloc: Global,
+    options: Options,
+    kind: Kind,
+    now: Time,
+    names: &Names<'a>,
+    store: &mut S,
+) -> Answer<'a>
+    ensures said { IsOfFiles (S.told store.old) names.now (CheckOf options kind now)
+        (said result) }
+    ensures reads { AreReadAtMost names.now (S.reads store.old) (S.reads store.new) }
+    ensures same { S.told store.new ≡ S.told store.old }
+{
+    match names_of(alloc, names) {
+        Err(_) => Answer::OutOfMemory,
+        Ok(names) => check_named(alloc, options, kind, now, &names, store),
+    }
+}
+
+/// The names of the files of a check, in the order of the words.
+fn names_of<'a>(alloc: Global, names: &Names<'a>) -> Result<Vec<&'a str>, AllocError>
+    ensures same { IfOk result (λ all. texts all.items ≡ names.now) }
+    ensures many { IfOk result (λ all. 3 ≤ length all.items) }
+{
+    let mut all = Vec::new(alloc);
+    all.push(names.object)?;
+    all.push(names.verdicts)?;
+    all.push(names.anchor)?;
+    all.extend_from_slice(names.chain)?;
+    Ok(all)
+}
+
+/// Answers whether the first of these files is a good object of this kind at this moment, by the
+/// verdicts of the second, under the certificates of the others.
+#[tactic(auto, using(crate::proofs::Asking::by_reads))]
+fn check_named<'a, S: Store>(
+    alloc: Global,
+    options: Options,
+    kind: Kind,
+    now: Time,
+    names: &[&'a str],
+    store: &mut S,
+) -> Answer<'a>
+    requires { 3 ≤ length names.now }
+    ensures said { IsOfFiles (S.told store.old) (texts names.now) (CheckOf options kind now)
+        (said result) }
+    ensures reads { AreReadAtMost (texts names.now) (S.reads store.old) (S.reads store.new) }
+    ensures same { S.told store.new ≡ S.told store.old }
+{
+    match read_all(alloc, names, store) {
+        Err(Unread::Unreadable(name)) => Answer::CannotRead(name),
+        Err(Unread::Memory) => Answer::OutOfMemory,
+        Ok(files) => check_files(alloc, options, kind, now, &files),
     }
 }
 

@@ -1,0 +1,131 @@
+-- What a check answers, where nobody asks whether a certificate was revoked.
+use Rattle.std.proofs.Common.{◌≡◌, ◌≤◌, ℕ, List, [], ◌∷◌, Result, Ok, Err, Vec, Global, inl, inr}
+use Rattle.std.proofs.Common.{subst, sym, arith, length, get_or, take, drop, ◌-◌}
+use Rattle.std.proofs.lemmas.List.{take_rest}
+use Rattle.std.specs.Prelude.{◌⊎◌}
+use Rattle.sha2.specs.Sha256.{sha256}
+use Rattle.rpki_der.specs.declared.mode.Mode.{Mode}
+use Rattle.rpki_basics.specs.Moment.{Moment}
+use Rattle.rpki_faults.specs.Checks.{Check}
+use Rattle.rpki_faults.specs.declared.validation.ValidationError.{ValidationError}
+use Rattle.rpki_faults.specs.declared.validation.ValidationError.TheVariants.{Memory}
+use Rattle.rpki_certs.specs.Cert.{KeptCertificate}
+use Rattle.rpki_certs.specs.Validate.{Sets, Validated}
+use Rattle.rpki_certs.specs.Verify.{Verdict}
+use Rattle.rpki_issuers.specs.Issuer.{octets_of}
+use Rattle.rpki_signed.specs.Check.{Checks}
+use Rattle.rpki_signed.specs.Exact.{IsExact}
+use Rattle.rpki_signed.specs.Good.{IsNotGood}
+use Rattle.rpki_signed.specs.Kind.{Kind}
+use Rattle.rpki_signed.specs.Object.{Whole, cert_in}
+use Rattle.rpki_signed.specs.Process.{AnswersAsked}
+use Rattle.rpki_signed.specs.declared.check.CheckError.{CheckError}
+use Rattle.rpki_signed.specs.declared.check.CheckError.TheVariants.{Decode, Validation}
+use Rattle.rpki_sigobj.specs.Verify.{Digester}
+use Rattle.rpki_command.specs.Answer.{Said}
+use Rattle.rpki_verdicts.specs.Listed.{is_listed}
+use Rattle.rpki_verdicts.specs.Verdicts.{AreVerdicts}
+use Rattle.rpki_command.specs.Check.{CheckedUnder, IsCheckedWith, CheckOf}
+use Rattle.rpki_command.specs.declared.words.Kind as words
+use Rattle.rpki_command.specs.declared.words.Options.{Options}
+
+asked-more : {X : Type 0} (before : List (Check ValidationError)) (IsValid : Validated → Type 0)
+    (Says More : Result (Unit {0}) ValidationError → Type 0)
+    (held : Sets → List (Check ValidationError)) (content : X)
+    (result : Result (Validated × X) ValidationError)
+    → ((said : Result (Unit {0}) ValidationError) → Says said → More said)
+    → AnswersAsked before IsValid Says held content result
+    → AnswersAsked before IsValid More held content result
+asked-more before IsValid Says More held content result more (inl e) = inl e
+asked-more before IsValid Says More held content result more (inr a) = inr (record {
+  valid = a.valid;
+  said = a.said;
+  asked = λ all. let p = a.asked all in (p.0, more a.said p.1);
+  first = a.first;
+})
+
+module _ {X : Type 0} (kind : Kind X) (form : List ℕ → X → Type 0) (mode : Mode) (digest : Digester)
+    (verdict : Verdict) (issuer : Validated) (now : Moment)
+    (Says More : KeptCertificate → Result (Unit {0}) ValidationError → Type 0)
+    (more : (k : KeptCertificate) (said : Result (Unit {0}) ValidationError) → Says k said → More k said)
+    (octets : List ℕ) where
+  -- what is known of what was said may be weakened
+  pub first-more : (result : Result (Validated × X) CheckError)
+      → Checks kind form mode digest verdict issuer now Says octets result
+      → Checks kind form mode digest verdict issuer now More octets result
+  first-more (Ok a) h = record {
+    object = h.object;
+    rest = h.rest;
+    front = h.front;
+    holds = asked-more _ _ _ _ _ _ _ (more _) h.holds;
+  }
+  first-more (Err (Decode e)) h = h
+  first-more (Err (Validation fault)) h = record {
+    object = h.object;
+    rest = h.rest;
+    front = h.front;
+    holds = asked-more _ _ _ _ _ _ _ (more _) h.holds;
+  }
+
+  no-more : (o : Whole X) (fault : ValidationError)
+      → (fault ≡ Memory) ⊎ IsNotGood kind mode digest verdict issuer now (Says (cert_in mode o)) o
+      → (fault ≡ Memory) ⊎ IsNotGood kind mode digest verdict issuer now (More (cert_in mode o)) o
+  no-more o fault (inl e) = inl e
+  no-more o fault (inr n) = inr (λ v good. let p = n v good in (p.0, more _ _ p.1))
+
+  pub exact-more : (result : Result (Validated × X) CheckError)
+      → IsExact kind form mode digest verdict issuer now Says octets result
+      → IsExact kind form mode digest verdict issuer now More octets result
+  exact-more (Ok a) h = record {
+    object = h.object;
+    rest = h.rest;
+    front = h.front;
+    holds = let p = h.holds in (more _ _ p.0, p.1, p.2);
+  }
+  exact-more (Err (Decode e)) h = h
+  exact-more (Err (Validation fault)) h = record {
+    object = h.object;
+    rest = h.rest;
+    front = h.front;
+    holds = no-more h.object fault h.holds;
+  }
+
+-- what is said of a kind
+pub checked_of_kind : (options : Options) (kind is : words.Kind) (digest : Digester)
+    (verdict : Verdict) (issuer : Validated) (now : Moment) (octets : List ℕ) (s : Said)
+    → kind ≡ is → CheckedUnder options is digest verdict issuer now octets s
+    → CheckedUnder options kind digest verdict issuer now octets s
+checked_of_kind options kind is digest verdict issuer now octets s e h =
+    subst (λ (k : words.Kind). CheckedUnder options k digest verdict issuer now octets s) (sym e) h
+
+-- ---- files
+
+three : {T : Type 0} (xs : List T) (a b c : T) → 3 ≤ length xs → a ≡ get_or xs 0 a
+    → b ≡ get_or xs 1 b → c ≡ get_or xs 2 c → xs ≡ a ∷ b ∷ c ∷ drop 3 xs
+three [] a b c l e f g = absurd (omega arith)
+three (x ∷ []) a b c l e f g = absurd (omega arith)
+three (x ∷ y ∷ []) a b c l e f g = absurd (omega arith)
+three (x ∷ y ∷ z ∷ rest) a b c l e f g =
+    let p : a ≡ x = e in
+    let q : b ≡ y = f in
+    let r : c ≡ z = g in rw (p, q, r)
+
+-- what is said of the octets of files, by those of the first three
+pub checked-files : (options : Options) (kind : words.Kind) (now : Moment)
+    (files : List (Vec ℕ Global)) (o v a : Vec ℕ Global) (object verdicts anchor : List ℕ)
+    → object ≡ o.items → verdicts ≡ v.items → anchor ≡ a.items
+    → (lines : List (List ℕ)) (s : Said) → 3 ≤ length files → o ≡ get_or files 0 o
+    → v ≡ get_or files 1 v → a ≡ get_or files 2 a → AreVerdicts verdicts lines
+    → IsCheckedWith options kind sha256 (is_listed lines) now object anchor
+    (octets_of (take (length files - 3) (drop 3 files))) s
+    → CheckOf options kind now (octets_of files) s
+checked-files options kind now files o v a object verdicts anchor d e f lines s l i j k w h =
+    let rest = subst (λ (tail : List (Vec ℕ Global)). IsCheckedWith options kind sha256
+    (is_listed lines) now object anchor (octets_of tail) s) (take_rest files 3) h in
+    let anchored = subst (λ (end : List ℕ). IsCheckedWith options kind sha256 (is_listed lines) now
+    object end (octets_of (drop 3 files)) s) f rest in
+    let checked = subst (λ (front : List ℕ). IsCheckedWith options kind sha256 (is_listed lines) now
+    front a.items (octets_of (drop 3 files)) s) d anchored in
+    subst (λ (fs : List (Vec ℕ Global)). CheckOf options kind now (octets_of fs) s)
+    (sym (three files o v a l i j k))
+    (inr (lines, subst (λ (text : List ℕ). AreVerdicts text lines) e w, checked))

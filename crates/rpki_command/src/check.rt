@@ -1,0 +1,357 @@
+//! What the program answers of signed objects under a chain of certificates.
+
+ghost use Rattle.std.specs.Prelude.{◌≡◌, ◌++◌, ◌≤◌, codes, length, IfOk, Result, string_bytes};
+ghost use Rattle.std.specs.Fn.{FnOnceTakesAt, FnOnceReturnsAt};
+ghost use Rattle.rpki_faults.specs.Text.Validation.{validation_text};
+ghost use Rattle.rpki_faults.specs.declared.validation.ValidationError.{ValidationError};
+ghost use Rattle.rpki_certs.specs.Cert.{KeptCertificate};
+ghost use Rattle.rpki_issuers.specs.Issuer.{octets_of};
+ghost use Rattle.rpki_signed.specs.Check.{Checks};
+ghost use Rattle.rpki_signed.specs.Exact.{IsExact};
+ghost use Rattle.rpki_command.specs.Answer.{said};
+ghost use Rattle.rpki_command.specs.Check.{passes, IsCheckSaid, IsCheckedAs, CheckedUnder};
+ghost use Rattle.rpki_command.specs.Check.{IsRefused, IsIssuerRefused, IsCheckedWith, CheckOf};
+ghost use Rattle.rpki_command.specs.Contents.{IsLinesOf};
+ghost use Rattle.rpki_command.specs.Grows.{Grows};
+ghost use Rattle.rpki_command.specs.Options.{read_mode};
+
+use crate::answer::Answer;
+use crate::contents::{Lines, refusal};
+use crate::words::{Kind, Options};
+use bytes::Bytes;
+use rpki_basics::{Crypto, Time};
+use rpki_certs::{Cert, ResourceCert};
+use rpki_der::DecodeError;
+use rpki_faults::ValidationError;
+use rpki_files::{ManifestContent, ResourceSignedChecklist};
+use rpki_issuers::{IssuerError, issuer_at};
+use rpki_routes::{AsProviderAttestation, RouteOriginAttestation};
+use rpki_signed::check;
+use rpki_signed::check::CheckError;
+use rpki_verdicts::Verdicts;
+use std::alloc::{AllocError, Global};
+use std::fmt::Write;
+
+/// A content whose objects are checked.
+trait Checked: Lines {
+    /// Whether the octets begin with a good object with such a content, with these options, under
+    /// this issuer and at this moment. `check_crl` says whether its certificate was revoked.
+    fn check<K: Crypto, F: FnOnce(&Cert) -> Result<(), ValidationError>>(
+        alloc: Global,
+        options: Options,
+        octets: Bytes,
+        issuer: &ResourceCert,
+        crypto: &K,
+        now: Time,
+        check_crl: F,
+    ) -> Result<(ResourceCert, Self), CheckError>
+        requires { (k : KeptCertificate) → FnOnceTakesAt F.FnOnce check_crl k }
+        ensures first { Checks Self.kind (Self.form (Self.rule_of options)) (read_mode options)
+            (K.digest_of crypto.now) (K.is_signed crypto.now) issuer.now now
+            (FnOnceReturnsAt F.FnOnce check_crl) octets result }
+        ensures exact { IsExact Self.kind (Self.form (Self.rule_of options)) (read_mode options)
+            (K.digest_of crypto.now) (K.is_signed crypto.now) issuer.now now
+            (FnOnceReturnsAt F.FnOnce check_crl) octets result };
+}
+
+/// What is said of a certificate where nobody asks whether it was revoked.
+fn pass(_cert: &Cert) -> Result<(), ValidationError>
+    ensures { result ≡ Ok tt }
+{
+    Ok(())
+}
+
+/// Answers whether the first of these files is a good object of the kind at this moment. The second
+/// is the list of verdicts, the third the certificate of a trust anchor, and the others are those
+/// of CAs, each under the one before.
+pub fn check_files<'a>(
+    alloc: Global,
+    options: Options,
+    kind: Kind,
+    now: Time,
+    files: &[Vec<u8>],
+) -> Answer<'a>
+    requires { 3 ≤ length files.now }
+    ensures { CheckOf options kind now (octets_of files.now) (said result) }
+{
+    match files {
+        [object, verdicts, anchor, chain @ ..] => match Verdicts::read(verdicts) {
+            None => Answer::BadVerdicts,
+            Some(verdicts) => {
+                check_with(alloc, options, kind, object, anchor, chain, &verdicts, now)
+            }
+        },
+        _ => unreachable!(),
+    }
+}
+
+/// Answers whether the octets begin with a good object of the kind under the issuer that these
+/// certificates make, at this moment.
+fn check_with<'a, K: Crypto>(
+    alloc: Global,
+    options: Options,
+    kind: Kind,
+    object: &[u8],
+    anchor: &[u8],
+    chain: &[Vec<u8>],
+    crypto: &K,
+    now: Time,
+) -> Answer<'a>
+    ensures { IsCheckedWith options kind (K.digest_of crypto.now) (K.is_signed crypto.now) now
+        object.now anchor.now (octets_of chain.now) (said result) }
+{
+    match issuer_at(alloc, anchor, chain, crypto, now) {
+        Err(error) => refused_issuer(alloc, error),
+        Ok(issuer) => {
+            let answer = check_kind(alloc, options, kind, object, &issuer, crypto, now);
+            drop(issuer);
+            answer
+        }
+    }
+}
+
+/// Answers whether the octets begin with a good object of the kind under this issuer, at this
+/// moment.
+#[tactic(auto, using(crate::proofs::Checking::checked_of_kind))]
+fn check_kind<'a, K: Crypto>(
+    alloc: Global,
+    options: Options,
+    kind: Kind,
+    octets: &[u8],
+    issuer: &ResourceCert,
+    crypto: &K,
+    now: Time,
+) -> Answer<'a>
+    ensures { CheckedUnder options kind (K.digest_of crypto.now) (K.is_signed crypto.now)
+        issuer.now now octets.now (said result) }
+{
+    match kind {
+        Kind::Aspa => {
+            check_octets::<AsProviderAttestation, K>(alloc, options, octets, issuer, crypto, now)
+        }
+        Kind::Manifest => {
+            check_octets::<ManifestContent, K>(alloc, options, octets, issuer, crypto, now)
+        }
+        Kind::Roa => {
+            check_octets::<RouteOriginAttestation, K>(alloc, options, octets, issuer, crypto, now)
+        }
+        Kind::Rsc => {
+            check_octets::<ResourceSignedChecklist, K>(alloc, options, octets, issuer, crypto, now)
+        }
+    }
+}
+
+/// Answers whether the octets begin with a good object with such a content under this issuer, at
+/// this moment.
+fn check_octets<'a, C: Checked, K: Crypto>(
+    alloc: Global,
+    options: Options,
+    octets: &[u8],
+    issuer: &ResourceCert,
+    crypto: &K,
+    now: Time,
+) -> Answer<'a>
+    ensures { IsCheckedAs C.kind (C.form (C.rule_of options)) C.lines (read_mode options)
+        (K.digest_of crypto.now) (K.is_signed crypto.now) issuer.now now octets.now (said result) }
+{
+    match Bytes::copy_from_slice(alloc, octets) {
+        Err(_) => Answer::OutOfMemory,
+        Ok(source) => {
+            let checked = check_passed::<C, K, _>(
+                alloc, options, source, issuer, crypto, now, pass,
+            );
+            answer_checked(alloc, checked)
+        }
+    }
+}
+
+/// Whether the octets begin with a good object, where it is known what is said of a certificate:
+/// that it was not revoked.
+fn check_passed<C: Checked, K: Crypto, F: FnOnce(&Cert) -> Result<(), ValidationError>>(
+    alloc: Global,
+    options: Options,
+    octets: Bytes,
+    issuer: &ResourceCert,
+    crypto: &K,
+    now: Time,
+    check_crl: F,
+) -> Result<(ResourceCert, C), CheckError>
+    requires takes { (k : KeptCertificate) → FnOnceTakesAt F.FnOnce check_crl k }
+    requires says { (k : KeptCertificate) (said : Result (Unit {0}) ValidationError) →
+        FnOnceReturnsAt F.FnOnce check_crl k said → passes k said }
+    ensures first { Checks C.kind (C.form (C.rule_of options)) (read_mode options)
+        (K.digest_of crypto.now) (K.is_signed crypto.now) issuer.now now passes octets result }
+    ensures exact { IsExact C.kind (C.form (C.rule_of options)) (read_mode options)
+        (K.digest_of crypto.now) (K.is_signed crypto.now) issuer.now now passes octets result }
+{
+    C::check(alloc, options, octets, issuer, crypto, now, check_crl)
+}
+
+/// What is said of what a check answers.
+fn answer_checked<'a, C: Lines>(
+    alloc: Global,
+    checked: Result<(ResourceCert, C), CheckError>,
+) -> Answer<'a>
+    ensures { IsCheckSaid C.lines checked (said result) }
+{
+    match checked {
+        Err(CheckError::Decode(error)) => refusal(error),
+        Err(CheckError::Validation(error)) => refused(alloc, error),
+        Ok((cert, content)) => {
+            drop(cert);
+            let answer = say_yes(alloc, &content);
+            drop(content);
+            answer
+        }
+    }
+}
+
+/// A yes, and the lines of a content.
+fn say_yes<'a, C: Lines>(alloc: Global, content: &C) -> Answer<'a>
+    ensures { IsLinesOf (codes "yes\n" ++ C.lines content.now) (said result) }
+{
+    let mut text = String::new(alloc);
+    match push_yes(&mut text, content) {
+        Ok(()) => Answer::Shown(text),
+        Err(_) => Answer::OutOfMemory,
+    }
+}
+
+/// Appends a yes, and the lines of a content.
+fn push_yes<C: Lines>(text: &mut String, content: &C) -> Result<(), AllocError>
+    ensures { Grows result text.old text.new (codes "yes\n" ++ C.lines content.now) }
+{
+    write!(text, "yes\n")?;
+    content.push(text)
+}
+
+/// The answer where an object is refused for this fault.
+fn refused<'a>(alloc: Global, error: ValidationError) -> Answer<'a>
+    ensures { IsRefused error (said result) }
+{
+    match error {
+        ValidationError::Memory => Answer::OutOfMemory,
+        ValidationError::Inspection(_) | ValidationError::Verification(_) => {
+            match cause_of(alloc, error) {
+                Ok(cause) => Answer::Refused(cause),
+                Err(_) => Answer::OutOfMemory,
+            }
+        }
+    }
+}
+
+/// The answer where certificates make no issuer for this fault.
+fn refused_issuer<'a>(alloc: Global, error: IssuerError) -> Answer<'a>
+    ensures { IsIssuerRefused error (said result) }
+{
+    match error {
+        IssuerError::Decode(DecodeError::Memory) => Answer::OutOfMemory,
+        IssuerError::Decode(_) => Answer::IssuerMalformed,
+        IssuerError::Validation(ValidationError::Memory) => Answer::OutOfMemory,
+        IssuerError::Validation(error) => match cause_of(alloc, error) {
+            Ok(cause) => Answer::IssuerRefused(cause),
+            Err(_) => Answer::OutOfMemory,
+        },
+    }
+}
+
+/// A fault as a text.
+fn cause_of(alloc: Global, error: ValidationError) -> Result<String, AllocError>
+    ensures { IfOk result (λ text. string_bytes text ≡ validation_text error) }
+{
+    let mut text = String::new(alloc);
+    write!(text, "{error}")?;
+    Ok(text)
+}
+
+impl Checked for AsProviderAttestation {
+    fn check<K: Crypto, F: FnOnce(&Cert) -> Result<(), ValidationError>>(
+        alloc: Global,
+        options: Options,
+        octets: Bytes,
+        issuer: &ResourceCert,
+        crypto: &K,
+        now: Time,
+        check_crl: F,
+    ) -> Result<(ResourceCert, AsProviderAttestation), CheckError> {
+        let limit = options.provider_limit();
+        check::aspa(
+            alloc,
+            octets,
+            !options.relaxed,
+            issuer,
+            crypto,
+            now,
+            check_crl,
+            limit,
+        )
+    }
+}
+
+impl Checked for ManifestContent {
+    fn check<K: Crypto, F: FnOnce(&Cert) -> Result<(), ValidationError>>(
+        alloc: Global,
+        options: Options,
+        octets: Bytes,
+        issuer: &ResourceCert,
+        crypto: &K,
+        now: Time,
+        check_crl: F,
+    ) -> Result<(ResourceCert, ManifestContent), CheckError> {
+        let rule = options.manifest_rule();
+        check::manifest(
+            alloc,
+            octets,
+            !options.relaxed,
+            issuer,
+            crypto,
+            now,
+            check_crl,
+            rule,
+        )
+    }
+}
+
+impl Checked for RouteOriginAttestation {
+    fn check<K: Crypto, F: FnOnce(&Cert) -> Result<(), ValidationError>>(
+        alloc: Global,
+        options: Options,
+        octets: Bytes,
+        issuer: &ResourceCert,
+        crypto: &K,
+        now: Time,
+        check_crl: F,
+    ) -> Result<(ResourceCert, RouteOriginAttestation), CheckError> {
+        check::roa(
+            alloc,
+            octets,
+            !options.relaxed,
+            issuer,
+            crypto,
+            now,
+            check_crl,
+        )
+    }
+}
+
+impl Checked for ResourceSignedChecklist {
+    fn check<K: Crypto, F: FnOnce(&Cert) -> Result<(), ValidationError>>(
+        alloc: Global,
+        options: Options,
+        octets: Bytes,
+        issuer: &ResourceCert,
+        crypto: &K,
+        now: Time,
+        check_crl: F,
+    ) -> Result<(ResourceCert, ResourceSignedChecklist), CheckError> {
+        check::rsc(
+            alloc,
+            octets,
+            !options.relaxed,
+            issuer,
+            crypto,
+            now,
+            check_crl,
+        )
+    }
+}
