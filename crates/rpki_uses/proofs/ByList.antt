@@ -17,7 +17,7 @@ use Rattle.rpki_signed.specs.declared.check.CheckError.TheVariants.{Decode, Vali
 use Rattle.rpki_signed.specs.Exact.{IsExact}
 use Rattle.rpki_signed.specs.Good.{IsNotGood}
 use Rattle.rpki_signed.specs.Kind.{Kind}
-use Rattle.rpki_signed.specs.Object.{Whole, cert_in}
+use Rattle.rpki_signed.specs.Object.{cert_in}
 use Rattle.rpki_signed.specs.Roa.{RoaCovered, roa_kind}
 use Rattle.rpki_uses.specs.Received.{IsUnrevoked, SaysOf, SaysAs, IsGoodByList, LooksInto}
 

@@ -4,7 +4,7 @@ use Rattle.rpki_der.specs.declared.mode.Mode.TheVariants.{Der}
 use Rattle.rpki_der.specs.Grammar.{HasNoFront}
 use Rattle.rpki_der.specs.Read.Reads.{Refuses}
 use Rattle.rpki_basics.specs.Moment.{Moment}
-use Rattle.rpki_faults.specs.Checks.{Check, ◌unless◌, AnswersFirstFault}
+use Rattle.rpki_faults.specs.Checks.{◌unless◌, AnswersFirstFault}
 use Rattle.rpki_faults.specs.declared.validation.ValidationError.{ValidationError}
 use Rattle.rpki_faults.specs.declared.validation.ValidationError.TheVariants.{Memory, Verification}
 use Rattle.rpki_faults.specs.declared.verification.VerificationError.TheVariants.{Revoked}

@@ -114,7 +114,14 @@ pub fn roa_under<C: Crypto>(
     ensures held { IfOk result (λ a. RoaCovered a.1 a.0.sets
         × IsUnrevoked list.now.list a.0.cert.certificate) }
 {
-    roa_asking(alloc, octets, issuer, crypto, now, |cert| verify_unrevoked(list, cert))
+    roa_asking(
+        alloc,
+        octets,
+        issuer,
+        crypto,
+        now,
+        |cert| verify_unrevoked(list, cert),
+    )
 }
 
 /// What the manifest at the front of octets in DER says, and its certificate, where it is good
@@ -131,7 +138,14 @@ pub fn manifest_under<C: Crypto>(
         (C.digest_of crypto.now) (C.is_signed crypto.now) issuer.now now (SaysOf list.now.list)
         octets result }
 {
-    manifest_asking(alloc, octets, issuer, crypto, now, |cert| verify_unrevoked(list, cert))
+    manifest_asking(
+        alloc,
+        octets,
+        issuer,
+        crypto,
+        now,
+        |cert| verify_unrevoked(list, cert),
+    )
 }
 
 /// Whether the manifest at the front of octets in DER, which is good under an issuer and which the
@@ -175,7 +189,14 @@ pub fn checklist_under<C: Crypto>(
     ensures { IsExact checklist_kind (ChecklistForm Der) Der (C.digest_of crypto.now)
         (C.is_signed crypto.now) issuer.now now (SaysOf list.now.list) octets result }
 {
-    checklist_asking(alloc, octets, issuer, crypto, now, |cert| verify_unrevoked(list, cert))
+    checklist_asking(
+        alloc,
+        octets,
+        issuer,
+        crypto,
+        now,
+        |cert| verify_unrevoked(list, cert),
+    )
 }
 
 /// Whether the checklist at the front of octets in DER, which is good under an issuer and which the
