@@ -22,8 +22,10 @@ pub const DIGEST: &[u8] = b"\x30\x2F\x06\x09\x2A\x86\x48\x86\xF7\x0D\x01\x09\x04
 const PIECES: &[u8] = b"\x30\x14\x06\x09\x2A\x86\x48\x86\xF7\x0D\x01\x09\x04\
     \x31\x07\x24\x80\x04\x01\x07\0\0";
 
-// Of the type 1.2.3: with an empty SET, without values, and cut.
+// Of the type 1.2.3: with an empty SET, with values that are no SET, without values, and cut.
 const OTHER: &[u8] = b"\x30\x06\x06\x02\x2A\x03\x31\0";
+
+const NO_SETS: &[u8] = b"\x30\x0B\x06\x02\x2A\x03\x05\0\x30\x03\x04\x01\x07";
 
 const BARE: &[u8] = b"\x30\x04\x06\x02\x2A\x03";
 
@@ -53,7 +55,7 @@ const NO_SUCH_TIME: &str = "no such date or time of day";
 
 /// Attributes, and why `take_from` refuses them and why `take_from_signed_message` does, if it
 /// does.
-static ROWS: [(&[&[u8]], &str, &str); 23] = [
+static ROWS: [(&[&[u8]], &str, &str); 24] = [
     (&[TYPE, TIME, DIGEST], "", ""),
     (&[TYPE, DIGEST, TIME], "", ""),
     (&[TIME, TYPE, DIGEST], "", ""),
@@ -69,6 +71,7 @@ static ROWS: [(&[&[u8]], &str, &str); 23] = [
     (&[TYPE, DIGEST], "no signing time", "no signing time"),
     (&[TYPE, OTHER, TIME, DIGEST], TYPE_IS_OTHER, ""),
     (&[BARE, TYPE, TIME, DIGEST, OTHER], TYPE_IS_OTHER, ""),
+    (&[TYPE, TIME, NO_SETS, DIGEST, NO_SETS], TYPE_IS_OTHER, ""),
     (&[OTHER, TYPE, TIME], TYPE_IS_OTHER, "no message digest"),
     (&[CUT, TYPE, TIME, DIGEST], TYPE_IS_OTHER, "malformed"),
     (&[NO_VALUE, TIME, DIGEST], "malformed", "malformed"),

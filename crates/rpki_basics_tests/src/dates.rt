@@ -1,6 +1,6 @@
-//! Rows of moments and of their texts, a clock, and limits.
+//! Rows of moments and of their texts.
 
-use rpki_basics::{Clock, FixedClock, ProviderLimit, Time, Validity};
+use rpki_basics::Time;
 use std::alloc::{AllocError, Global};
 
 /// A text, and the moment that it names, if there is one: those of Python's datetime.
@@ -69,50 +69,32 @@ fn are_named(alloc: Global) -> Result<bool, AllocError> {
     Ok(true)
 }
 
+/// Years, months and days, and whether there is one.
+static DAYS: [(u16, u8, u8, bool); 5] = [
+    (0, 2, 29, true),
+    (9999, 12, 31, true),
+    (10000, 1, 1, false),
+    (1900, 2, 29, false),
+    (2000, 2, 29, true),
+];
+
+// Whether other texts name no moment, and each day is there or not.
+fn are_there() -> bool {
+    for text in &OTHERS {
+        if Time::from_generalized(text.as_bytes()).is_some() {
+            return false;
+        }
+    }
+    for (year, month, day, is_there) in &DAYS {
+        if Time::utc(*year, *month, *day, 0, 0, 0).is_some() != *is_there {
+            return false;
+        }
+    }
+    true
+}
+
 #[test]
 fn named(rt: HostRuntime) -> Result<(), AllocError> {
-    assert!(rt; are_named(rt.alloc())?);
-    for text in &OTHERS {
-        assert!(rt; Time::from_generalized(text.as_bytes()).is_none());
-    }
-    Ok(())
-}
-
-#[test]
-fn years(rt: HostRuntime) -> Result<(), AllocError> {
-    for (year, month, day, is_there) in [
-        (0u16, 2u8, 29u8, true),
-        (9999, 12, 31, true),
-        (10000, 1, 1, false),
-        (1900, 2, 29, false),
-        (2000, 2, 29, true),
-    ] {
-        assert!(rt; Time::utc(year, month, day, 0, 0, 0).is_some() == is_there);
-    }
-    Ok(())
-}
-
-#[test]
-fn order(rt: HostRuntime) -> Result<(), AllocError> {
-    let (Some(early), Some(late)) = (
-        Time::utc(2023, 12, 31, 23, 59, 59),
-        Time::utc(2024, 1, 1, 0, 0, 0),
-    ) else {
-        assert!(rt; false);
-        return Ok(());
-    };
-    assert!(rt; early < late && early.stamp() < late.stamp());
-    assert!(rt; !(late < early));
-    assert!(rt; early == early && early != late);
-    let validity = Validity::new(early, late);
-    assert!(rt; validity.not_before() == early && validity.not_after() == late);
-    assert!(rt; FixedClock(late).now() == late);
-    Ok(())
-}
-
-#[test]
-fn limits(rt: HostRuntime) -> Result<(), AllocError> {
-    assert!(rt; ProviderLimit::Narrow.most() == 10_000);
-    assert!(rt; ProviderLimit::Wide.most() == 16_380);
+    assert!(rt; are_named(rt.alloc())? && are_there());
     Ok(())
 }

@@ -28,25 +28,6 @@ static TIMES: [(&[u8], &str); 19] = [
     (b"\x17\x0D500101000000", "malformed"),
 ];
 
-/// Times whose octets are written again as they were read.
-static WRITTEN: [&[u8]; 4] = [
-    b"\x18\x0F19491231235959Z",
-    b"\x17\x0D500101000000Z",
-    b"\x17\x0D491231235959Z",
-    b"\x18\x0F20500101000000Z",
-];
-
-const MODES: [Mode; 2] = [Mode::Der, Mode::Ber];
-
-fn time_in(alloc: Global, octets: &[u8], mode: Mode) -> Result<Option<Time>, AllocError> {
-    let source = Bytes::copy_from_slice(alloc, octets)?;
-    match Constructed::decode(source, mode, Time::take_from) {
-        Ok(time) => Ok(Some(time)),
-        Err(DecodeError::Memory) => Err(AllocError),
-        Err(_) => Ok(None),
-    }
-}
-
 fn is_read(alloc: Global, octets: &[u8], mode: Mode, want: &str) -> Result<bool, AllocError> {
     let source = Bytes::copy_from_slice(alloc, octets)?;
     match Constructed::decode(source, mode, Time::take_from) {
@@ -56,17 +37,6 @@ fn is_read(alloc: Global, octets: &[u8], mode: Mode, want: &str) -> Result<bool,
     }
 }
 
-#[test]
-fn times_read(rt: HostRuntime) -> Result<(), AllocError> {
-    let alloc = rt.alloc();
-    for (octets, want) in &TIMES {
-        for mode in MODES {
-            assert!(rt; is_read(alloc, octets, mode, want)?);
-        }
-    }
-    Ok(())
-}
-
 // Whether these octets were written.
 pub fn has_octets(written: Result<Vec<u8>, EncodeError>, want: &[u8]) -> Result<bool, AllocError> {
     match written {
@@ -74,24 +44,6 @@ pub fn has_octets(written: Result<Vec<u8>, EncodeError>, want: &[u8]) -> Result<
         Err(EncodeError::Memory) => Err(AllocError),
         Err(_) => Ok(false),
     }
-}
-
-#[test]
-fn times_written(rt: HostRuntime) -> Result<(), AllocError> {
-    let alloc = rt.alloc();
-    for octets in &WRITTEN {
-        match time_in(alloc, octets, Mode::Der)? {
-            None => assert!(rt; false),
-            Some(time) => assert!(rt; has_octets(time.encode_ref().to_bytes(alloc), octets)?),
-        }
-    }
-    let Some(time) = Time::utc(2024, 1, 8, 0, 0, 0) else {
-        assert!(rt; false);
-        return Ok(());
-    };
-    let written = time.encode_generalized().to_bytes(alloc);
-    assert!(rt; has_octets(written, b"\x18\x0F20240108000000Z")?);
-    Ok(())
 }
 
 /// The octets of an INTEGER, and the text of its number, if it is read as a serial number.
@@ -119,6 +71,7 @@ static SERIALS: [(&[u8], &str); 9] = [
     (b"\x02\x00", ""),
 ];
 
+/// The serial number that is read of these octets, if they are not refused.
 fn serial_in(alloc: Global, octets: &[u8], mode: Mode) -> Result<Option<Serial>, AllocError> {
     let source = Bytes::copy_from_slice(alloc, octets)?;
     match Constructed::decode(source, mode, Serial::take_from) {
@@ -128,23 +81,35 @@ fn serial_in(alloc: Global, octets: &[u8], mode: Mode) -> Result<Option<Serial>,
     }
 }
 
-#[test]
-fn serials(rt: HostRuntime) -> Result<(), AllocError> {
-    let alloc = rt.alloc();
-    for (octets, want) in &SERIALS {
-        for mode in MODES {
-            match serial_in(alloc, octets, mode)? {
-                None => assert!(rt; want.is_empty()),
-                Some(serial) => {
-                    assert!(rt; format!(in alloc; "{serial}")?.as_str() == *want);
-                    assert!(rt; has_octets(serial.encode_ref().to_bytes(alloc), octets)?);
-                }
-            }
+/// Whether the serial number that these octets are read as has this text, and is written as them.
+fn is_serial(alloc: Global, octets: &[u8], mode: Mode, want: &str) -> Result<bool, AllocError> {
+    match serial_in(alloc, octets, mode)? {
+        None => Ok(want.is_empty()),
+        Some(serial) => {
+            let is_text = format!(in alloc; "{serial}")?.as_str() == want;
+            Ok(is_text && has_octets(serial.encode_ref().to_bytes(alloc), octets)?)
         }
     }
-    assert!(rt; Serial::from(0xABC) == Serial::from(0xABC));
-    assert!(rt; Serial::from(0xABC) != Serial::from(0xABD));
-    let most = Serial::from(u64::MAX);
-    assert!(rt; format!(in alloc; "{most}")?.as_str() == "ffffffffffffffff");
+}
+
+/// Whether the rows are read so in a mode.
+fn are_read(alloc: Global, mode: Mode) -> Result<bool, AllocError> {
+    for (octets, want) in &TIMES {
+        if !is_read(alloc, octets, mode, want)? {
+            return Ok(false);
+        }
+    }
+    for (octets, want) in &SERIALS {
+        if !is_serial(alloc, octets, mode, want)? {
+            return Ok(false);
+        }
+    }
+    Ok(true)
+}
+
+#[test]
+fn times_and_serials(rt: HostRuntime) -> Result<(), AllocError> {
+    let alloc = rt.alloc();
+    assert!(rt; are_read(alloc, Mode::Der)? && are_read(alloc, Mode::Ber)?);
     Ok(())
 }

@@ -7,12 +7,12 @@ use crate::parts::{
     TWO_BLOCKS, TWO_NUMBERS, UNKNOWN, USAGE, WRONG_AUTHORITY, WRONG_BASIC, WRONG_ISSUER, WRONG_KEY,
     WRONG_SUBJECT, WRONG_USAGE,
 };
-use crate::values::{claims_text, rsync_text, shown, subject_text};
+use crate::texts::{claims_text, rsync_text, shown, subject_text};
 use bytes::Bytes;
 use rpki_basics::KeyIdentifier;
 use rpki_der::build::tlv;
 use rpki_der::{Constructed, DecodeError, Mode};
-use rpki_extensions::{Claims, Extension, Extensions, KeyFacts, Locations};
+use rpki_extensions::{Claims, Extensions, KeyFacts, Locations};
 use rpki_resources::{AsResources, Claim};
 use std::alloc::{AllocError, Global};
 
@@ -215,14 +215,23 @@ fn all_claims_text(alloc: Global, claims: &Claims) -> Result<String, AllocError>
     format!(in alloc; "{policy:?} {addresses} {numbers}")
 }
 
-/// What extensions say, by a copy of what was read.
-pub fn answer(alloc: Global, source: Bytes, mode: Mode) -> Result<String, DecodeError> {
-    let read = Constructed::decode(source, mode, |cons| Extensions::take_from(alloc, cons))?;
-    let x = read.clone()?;
+/// What extensions say.
+fn text_of(alloc: Global, x: &Extensions) -> Result<String, AllocError> {
     let key = key_text(alloc, &x.key)?;
     let locations = locations_text(alloc, &x.locations)?;
     let claims = all_claims_text(alloc, &x.claims)?;
-    Ok(format!(in alloc; "{key} {locations} {claims}")?)
+    format!(in alloc; "{key} {locations} {claims}")
+}
+
+/// What extensions say, by a copy of what was read.
+pub fn answer(alloc: Global, source: Bytes, mode: Mode) -> Result<String, DecodeError> {
+    let read = Constructed::decode(source, mode, |cons| Extensions::take_from(alloc, cons))?;
+    let copied: Result<_, _> = read.clone();
+    drop(read);
+    let copy = copied?;
+    let text = text_of(alloc, &copy);
+    drop(copy);
+    Ok(text?)
 }
 
 /// What extensions in this mode say, or why they are refused.
@@ -231,60 +240,35 @@ fn found(alloc: Global, parts: &[&[u8]], mode: Mode) -> Result<String, AllocErro
     shown(alloc, answer(alloc, source, mode))
 }
 
+/// Whether this is what extensions in this mode say, or why they are refused.
+fn is_said(alloc: Global, parts: &[&[u8]], mode: Mode, want: &str) -> Result<bool, AllocError> {
+    Ok(found(alloc, parts, mode)?.as_str() == want)
+}
+
+/// The number of the first row of which something else is said.
+fn wrong_row(alloc: Global) -> Result<Option<usize>, AllocError> {
+    for (i, (parts, text)) in ROWS.iter().enumerate() {
+        if !is_said(alloc, parts, Mode::Der, text)? || !is_said(alloc, parts, Mode::Ber, text)? {
+            return Ok(Some(i));
+        }
+    }
+    Ok(None)
+}
+
+/// Whether extensions in pieces are told apart by their mode.
+fn are_by_mode(alloc: Global) -> Result<bool, AllocError> {
+    for (parts, strict, relaxed) in &BY_MODE {
+        if !is_said(alloc, parts, Mode::Der, strict)?
+            || !is_said(alloc, parts, Mode::Ber, relaxed)?
+        {
+            return Ok(false);
+        }
+    }
+    Ok(true)
+}
+
 #[test]
 fn rows(rt: HostRuntime) -> Result<(), AllocError> {
-    let alloc = rt.alloc();
-    for (parts, text) in &ROWS {
-        assert_eq!(rt; found(alloc, parts, Mode::Der)?.as_str(), *text);
-        assert_eq!(rt; found(alloc, parts, Mode::Ber)?.as_str(), *text);
-    }
-    Ok(())
-}
-
-#[test]
-fn modes(rt: HostRuntime) -> Result<(), AllocError> {
-    let alloc = rt.alloc();
-    for (parts, strict, relaxed) in &BY_MODE {
-        assert_eq!(rt; found(alloc, parts, Mode::Der)?.as_str(), *strict);
-        assert_eq!(rt; found(alloc, parts, Mode::Ber)?.as_str(), *relaxed);
-    }
-    Ok(())
-}
-
-/// Reads extensions, each by itself.
-fn take_each(alloc: Global, cons: &mut Constructed<'_>) -> Result<Vec<Extension>, DecodeError> {
-    cons.take_sequence(|cons| cons.take_items(alloc))
-}
-
-/// The identifier of each extension, whether it is critical, and how many octets its value has.
-fn each_text(alloc: Global, list: &[Extension]) -> Result<String, AllocError> {
-    let mut text = String::new(alloc);
-    for extension in list {
-        let Extension {
-            oid,
-            critical,
-            value,
-        } = extension.clone()?;
-        let count = value.len();
-        text.push_str(&format!(in alloc; "{oid} {critical} {count}\n")?)?;
-    }
-    Ok(text)
-}
-
-/// Extensions, each by itself.
-fn each(alloc: Global, source: Bytes) -> Result<String, DecodeError> {
-    let list = Constructed::decode(source, Mode::Der, |cons| take_each(alloc, cons))?;
-    Ok(each_text(alloc, &list)?)
-}
-
-#[test]
-fn extensions_by_themselves(rt: HostRuntime) -> Result<(), AllocError> {
-    let alloc = rt.alloc();
-    let source = list(alloc, &[SUBJECT_KEY, CRITICAL, UNKNOWN])?;
-    let text = shown(alloc, each(alloc, source))?;
-    assert_eq!(rt;
-        text.as_str(),
-        "2.5.29.14 false 22\n1.2.3 true 2\n1.2.3 false 2\n"
-    );
+    assert!(rt; wrong_row(rt.alloc())?.is_none() && are_by_mode(rt.alloc())?);
     Ok(())
 }

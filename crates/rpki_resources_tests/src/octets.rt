@@ -5,7 +5,7 @@ use bytes::Bytes;
 use rpki_der::encode::sequence;
 use rpki_der::{Constructed, DecodeError, Encode, EncodeError, Mode};
 use rpki_resources::AddressFamily::{Ipv4, Ipv6};
-use rpki_resources::{Addr, AddressFamily, AsBlocks, Asn, IpBlocks, Prefix};
+use rpki_resources::{AddressFamily, AsBlocks, IpBlocks};
 use std::alloc::{AllocError, Global};
 
 /// The first address and the last one of each block.
@@ -32,16 +32,6 @@ pub fn read_ip(
     ))
 }
 
-/// The same of a family.
-fn read_family(
-    alloc: Global,
-    mode: Mode,
-    octets: &[u8],
-) -> Result<Option<AddressFamily>, AllocError> {
-    let source = Bytes::copy_from_slice(alloc, octets)?;
-    read(Constructed::decode(source, mode, |cons| AddressFamily::take_from(alloc, cons)))
-}
-
 /// What was read, if the octets were not refused. Want of memory is handed on.
 pub fn read<T: Drop>(answer: Result<T, DecodeError>) -> Result<Option<T>, AllocError> {
     match answer {
@@ -52,7 +42,7 @@ pub fn read<T: Drop>(answer: Result<T, DecodeError>) -> Result<Option<T>, AllocE
 }
 
 /// Whether these octets are written. Want of memory is handed on.
-fn are_octets(written: Result<Vec<u8>, EncodeError>, want: &[u8]) -> Result<bool, AllocError> {
+pub fn are_octets(written: Result<Vec<u8>, EncodeError>, want: &[u8]) -> Result<bool, AllocError> {
     match written {
         Ok(octets) => Ok(octets.as_slice() == want),
         Err(EncodeError::Memory) => Err(AllocError),
@@ -82,27 +72,6 @@ pub static NUMBERS: [(Numbers, &[u8]); 5] = [
     ),
 ];
 
-/// AS numbers that are written otherwise than they are read here: out of order, overlapping, and
-/// one of them twice.
-static SHUFFLED: [(Numbers, &[u8]); 2] = [
-    (
-        &[(1, 9), (64496, 64496)],
-        &[
-            0x30, 0x22, 0x02, 0x03, 0x00, 0xFB, 0xF0, 0x30, 0x06, 0x02, 0x01, 0x04, 0x02, 0x01,
-            0x09, 0x30, 0x06, 0x02, 0x01, 0x01, 0x02, 0x01, 0x05, 0x30, 0x06, 0x02, 0x01, 0x04,
-            0x02, 0x01, 0x09, 0x02, 0x03, 0x00, 0xFB, 0xF0, 0xFF,
-        ],
-    ),
-    (&[(5, 5)], &[0x30, 8, 0x30, 6, 2, 1, 5, 2, 1, 5]),
-];
-
-/// AS numbers in octets that only BER allows: of indefinite length, and of a length in a longer
-/// form than it needs.
-static RELAXED: [(Numbers, &[u8]); 2] = [
-    (&[(5, 5)], &[0x30, 0x80, 2, 1, 5, 0, 0]),
-    (&[(5, 5)], &[0x30, 0x81, 3, 2, 1, 5]),
-];
-
 /// What is no set of AS numbers: the lower end above the upper end, three numbers in a range, one
 /// below 0, and one above the largest.
 static WRONG: [&[u8]; 5] = [
@@ -113,44 +82,36 @@ static WRONG: [&[u8]; 5] = [
     &[0x31, 3, 2, 1, 5],
 ];
 
-/// Whether this set is read of these octets.
-fn is_as(alloc: Global, mode: Mode, octets: &[u8], set: &AsBlocks) -> Result<bool, AllocError> {
-    match read_as(alloc, mode, octets)? {
-        Some(found) => Ok(found == *set),
-        None => Ok(false),
+/// Whether this set is read of these octets, or none where they are refused.
+pub fn is_as(
+    alloc: Global,
+    mode: Mode,
+    octets: &[u8],
+    want: Option<Numbers>,
+) -> Result<bool, AllocError> {
+    match (read_as(alloc, mode, octets)?, want) {
+        (Some(found), Some(blocks)) => Ok(found == as_set(alloc, blocks)?),
+        (found, want) => Ok(found.is_none() && want.is_none()),
     }
+}
+
+/// Whether this set is written as these octets.
+fn is_as_written(alloc: Global, blocks: Numbers, octets: &[u8]) -> Result<bool, AllocError> {
+    let set = as_set(alloc, blocks)?;
+    are_octets(sequence(set.encode_ref()).to_bytes(alloc), octets)
 }
 
 fn are_numbers(alloc: Global) -> Result<bool, AllocError> {
     for (blocks, octets) in &NUMBERS {
-        let set = as_set(alloc, blocks)?;
-        if !is_as(alloc, Mode::Der, octets, &set)?
-            || !is_as(alloc, Mode::Ber, octets, &set)?
-            || !are_octets(sequence(set.encode_ref()).to_bytes(alloc), octets)?
+        if !is_as(alloc, Mode::Der, octets, Some(blocks))?
+            || !is_as(alloc, Mode::Ber, octets, Some(blocks))?
+            || !is_as_written(alloc, blocks, octets)?
         {
             return Ok(false);
         }
     }
-    for (blocks, octets) in &SHUFFLED {
-        let set = as_set(alloc, blocks)?;
-        if !is_as(alloc, Mode::Der, octets, &set)? || !is_as(alloc, Mode::Ber, octets, &set)? {
-            return Ok(false);
-        }
-    }
-    Ok(true)
-}
-
-fn are_refused(alloc: Global) -> Result<bool, AllocError> {
     for octets in &WRONG {
-        if read_as(alloc, Mode::Der, octets)?.is_some()
-            || read_as(alloc, Mode::Ber, octets)?.is_some()
-        {
-            return Ok(false);
-        }
-    }
-    for (blocks, octets) in &RELAXED {
-        let set = as_set(alloc, blocks)?;
-        if !is_as(alloc, Mode::Ber, octets, &set)? || read_as(alloc, Mode::Der, octets)?.is_some() {
+        if !is_as(alloc, Mode::Der, octets, None)? || !is_as(alloc, Mode::Ber, octets, None)? {
             return Ok(false);
         }
     }
@@ -223,57 +184,6 @@ pub static ADDRESSES: [(AddressFamily, Addresses, &[u8]); 10] = [
     ),
 ];
 
-/// Addresses that are written otherwise than they are read here: prefixes out of order, overlapping
-/// and twice, unused bits that are not zero, a lower end and an upper end of the most bits.
-static SHUFFLED_ADDRESSES: [(AddressFamily, Addresses, &[u8]); 5] = [
-    (
-        Ipv4,
-        &[(10 << 120, (12 << 120) - 1)],
-        &[
-            0x30, 0x11, 3, 2, 0, 11, 3, 2, 0, 10, 3, 2, 0, 10, 3, 3, 7, 10, 0,
-        ],
-    ),
-    (
-        Ipv4,
-        &[(10 << 120, (12 << 120) - 1)],
-        &[0x30, 4, 3, 2, 1, 11],
-    ),
-    (
-        Ipv6,
-        &[((10 << 120) + (1 << 95), (10 << 120) + (1 << 96) - 1)],
-        &[0x30, 8, 3, 6, 7, 10, 0, 0, 0, 0x80],
-    ),
-    (
-        Ipv6,
-        &[(10 << 120, (11 << 120) - 1)],
-        &[0x30, 14, 0x30, 12, 3, 6, 7, 10, 0, 0, 0, 0, 3, 2, 0, 10],
-    ),
-    (
-        Ipv6,
-        &[(10 << 120, (10 << 120) + (1 << 96) - 1)],
-        &[0x30, 14, 0x30, 12, 3, 2, 0, 10, 3, 6, 7, 10, 0, 0, 0, 0x80],
-    ),
-];
-
-/// Addresses in octets that only BER allows.
-static RELAXED_ADDRESSES: [(AddressFamily, Addresses, &[u8]); 3] = [
-    (
-        Ipv4,
-        &[(10 << 120, (12 << 120) - 1)],
-        &[0x30, 0x80, 3, 2, 1, 10, 0, 0],
-    ),
-    (
-        Ipv4,
-        &[(10 << 120, (12 << 120) - 1)],
-        &[0x30, 0x81, 5, 3, 0x81, 2, 1, 10],
-    ),
-    (
-        Ipv4,
-        &[(10 << 120, (12 << 120) - 1)],
-        &[0x30, 0x80, 0x30, 0x80, 3, 2, 0, 10, 3, 2, 0, 11, 0, 0, 0, 0],
-    ),
-];
-
 /// What is no set of addresses: the lower end above the upper end, 33 bits of IPv4 in a prefix and
 /// in each end, and 129 bits.
 static WRONG_ADDRESSES: [(AddressFamily, &[u8]); 6] = [
@@ -301,137 +211,53 @@ static WRONG_ADDRESSES: [(AddressFamily, &[u8]); 6] = [
     ),
 ];
 
-/// Whether this set is read of these octets.
-fn is_ip(
+/// Whether this set is read of these octets, or none where they are refused.
+pub fn is_ip(
     alloc: Global,
     mode: Mode,
     family: AddressFamily,
     octets: &[u8],
-    set: &IpBlocks,
+    want: Option<Addresses>,
 ) -> Result<bool, AllocError> {
-    match read_ip(alloc, mode, family, octets)? {
-        Some(found) => Ok(found == *set),
-        None => Ok(false),
+    match (read_ip(alloc, mode, family, octets)?, want) {
+        (Some(found), Some(blocks)) => Ok(found == ip_set(alloc, blocks)?),
+        (found, want) => Ok(found.is_none() && want.is_none()),
     }
+}
+
+/// Whether this set is written as these octets.
+fn is_ip_written(
+    alloc: Global,
+    family: AddressFamily,
+    blocks: Addresses,
+    octets: &[u8],
+) -> Result<bool, AllocError> {
+    let set = ip_set(alloc, blocks)?;
+    are_octets(sequence(set.encode_ref(family)).to_bytes(alloc), octets)
 }
 
 fn are_addresses(alloc: Global) -> Result<bool, AllocError> {
     for (family, blocks, octets) in &ADDRESSES {
-        let set = ip_set(alloc, blocks)?;
-        if !is_ip(alloc, Mode::Der, *family, octets, &set)?
-            || !is_ip(alloc, Mode::Ber, *family, octets, &set)?
-            || !are_octets(sequence(set.encode_ref(*family)).to_bytes(alloc), octets)?
+        if !is_ip(alloc, Mode::Der, *family, octets, Some(blocks))?
+            || !is_ip(alloc, Mode::Ber, *family, octets, Some(blocks))?
+            || !is_ip_written(alloc, *family, blocks, octets)?
         {
             return Ok(false);
         }
     }
-    for (family, blocks, octets) in &SHUFFLED_ADDRESSES {
-        let set = ip_set(alloc, blocks)?;
-        if !is_ip(alloc, Mode::Der, *family, octets, &set)?
-            || !is_ip(alloc, Mode::Ber, *family, octets, &set)?
-        {
-            return Ok(false);
-        }
-    }
-    Ok(true)
-}
-
-fn are_addresses_refused(alloc: Global) -> Result<bool, AllocError> {
     for (family, octets) in &WRONG_ADDRESSES {
-        if read_ip(alloc, Mode::Der, *family, octets)?.is_some()
-            || read_ip(alloc, Mode::Ber, *family, octets)?.is_some()
-        {
-            return Ok(false);
-        }
-    }
-    for (family, blocks, octets) in &RELAXED_ADDRESSES {
-        let set = ip_set(alloc, blocks)?;
-        if !is_ip(alloc, Mode::Ber, *family, octets, &set)?
-            || read_ip(alloc, Mode::Der, *family, octets)?.is_some()
+        if !is_ip(alloc, Mode::Der, *family, octets, None)?
+            || !is_ip(alloc, Mode::Ber, *family, octets, None)?
         {
             return Ok(false);
         }
     }
     Ok(true)
-}
-
-/// The octets of an OCTET STRING, and the family that it names. The last one is in pieces, as only
-/// BER allows.
-static FAMILIES: [(&[u8], Option<AddressFamily>, Option<AddressFamily>); 6] = [
-    (&[4, 2, 0, 1], Some(Ipv4), Some(Ipv4)),
-    (&[4, 2, 0, 2], Some(Ipv6), Some(Ipv6)),
-    (&[4, 2, 0, 3], None, None),
-    (&[4, 2, 1, 1], None, None),
-    (&[4, 1, 1, 0], None, None),
-    (&[0x24, 0x80, 4, 1, 0, 4, 1, 2, 0, 0], None, Some(Ipv6)),
-];
-
-fn are_families(alloc: Global) -> Result<bool, AllocError> {
-    for (octets, der, ber) in &FAMILIES {
-        if read_family(alloc, Mode::Der, octets)? != *der
-            || read_family(alloc, Mode::Ber, octets)? != *ber
-        {
-            return Ok(false);
-        }
-    }
-    Ok(
-        are_octets(Ipv4.encode_ref().to_bytes(alloc), &[4, 2, 0, 1])?
-            && are_octets(Ipv6.encode_ref().to_bytes(alloc), &[4, 2, 0, 2])?,
-    )
-}
-
-/// A prefix of a family, its bits and their number, and the octets that it is read of and written
-/// as (RFC 3779, section 2.2.3.8).
-static PREFIXES: [(AddressFamily, u128, u8, &[u8]); 4] = [
-    (Ipv6, 0x2001_0DB8 << 96, 32, &[3, 5, 0, 0x20, 1, 0x0D, 0xB8]),
-    (Ipv4, 0, 0, &[3, 1, 0]),
-    (Ipv4, 10 << 120, 7, &[3, 2, 1, 10]),
-    (Ipv4, 0xC000_0201 << 96, 32, &[3, 5, 0, 0xC0, 0, 2, 1]),
-];
-
-/// What is no prefix of IPv4: 33 bits, and a number.
-static WRONG_PREFIXES: [&[u8]; 2] = [&[3, 6, 7, 10, 0, 0, 0, 0x80], &[2, 1, 5]];
-
-/// The prefix that is read of these octets, and not refused.
-fn read_prefix(
-    alloc: Global,
-    mode: Mode,
-    family: AddressFamily,
-    octets: &[u8],
-) -> Result<Option<Prefix>, AllocError> {
-    let source = Bytes::copy_from_slice(alloc, octets)?;
-    read(Constructed::decode(source, mode, |cons| Prefix::take_from(cons, family)))
-}
-
-fn are_prefixes(alloc: Global) -> Result<bool, AllocError> {
-    for (family, bits, len, octets) in &PREFIXES {
-        let prefix = Prefix::new(Addr::from_bits(*bits), *len);
-        if read_prefix(alloc, Mode::Der, *family, octets)? != Some(prefix)
-            || read_prefix(alloc, Mode::Ber, *family, octets)? != Some(prefix)
-            || !are_octets(prefix.to_bytes(alloc), octets)?
-        {
-            return Ok(false);
-        }
-    }
-    for octets in &WRONG_PREFIXES {
-        if read_prefix(alloc, Mode::Ber, Ipv4, octets)?.is_some() {
-            return Ok(false);
-        }
-    }
-    // the bit that is not used is cleared
-    let ten = Prefix::new(Addr::from_bits(10 << 120), 7);
-    Ok(read_prefix(alloc, Mode::Der, Ipv4, &[3, 2, 1, 11])? == Some(ten))
 }
 
 #[test]
 fn octets(rt: HostRuntime) -> Result<(), AllocError> {
     let alloc = rt.alloc();
-    assert!(rt; are_numbers(alloc)?);
-    assert!(rt; are_refused(alloc)?);
-    assert!(rt; are_addresses(alloc)?);
-    assert!(rt; are_addresses_refused(alloc)?);
-    assert!(rt; are_families(alloc)?);
-    assert!(rt; are_prefixes(alloc)?);
-    assert!(rt; are_octets(Asn::from_u32(300).to_bytes(alloc), &[2, 2, 1, 0x2C])?);
+    assert!(rt; are_numbers(alloc)? && are_addresses(alloc)?);
     Ok(())
 }

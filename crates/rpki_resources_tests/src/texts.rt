@@ -1,15 +1,7 @@
 //! Rows of printed texts.
 
-ghost use Rattle.std.specs.Prelude.{Some};
-ghost use Rattle.rpki_resources.specs.Text.{prefix_text};
-ghost use Rattle.rpki_resources.specs.declared.family.AddressFamily.TheVariants.{Ipv4, Ipv6};
-
-use crate::sets::{v4, v4_end};
-use rpki_resources::{
-    Addr, AddressFamily, AsBlock, Asn, BlocksError, IpBlock, MaxLenPrefix, Overclaimed, Prefix,
-};
+use rpki_resources::{Addr, AddressFamily};
 use std::alloc::{AllocError, Global};
-use std::fmt;
 
 /// The addresses that `tools/addresses.py table` prints, with the texts that Python has for them.
 static TEXTS: [(AddressFamily, u128, &str); 40] = [
@@ -225,101 +217,9 @@ fn are_addresses(alloc: Global) -> Result<bool, AllocError> {
     Ok(true)
 }
 
-/// A prefix, and its text.
-static PREFIXES: [(AddressFamily, u128, u8, &str); 5] = [
-    (AddressFamily::Ipv4, 0xC000_02FF << 96, 24, "192.0.2.0/24"),
-    (AddressFamily::Ipv4, 0xC000_0201 << 96, 32, "192.0.2.1/32"),
-    (AddressFamily::Ipv6, u128::MAX, 0, "::/0"),
-    (AddressFamily::Ipv6, 1, 128, "::1/128"),
-    (AddressFamily::Ipv6, 0x2001_0DB8 << 96, 32, "2001:db8::/32"),
-];
-
-/// Whether a block of addresses is printed so.
-fn is_block(
-    alloc: Global,
-    block: IpBlock,
-    family: AddressFamily,
-    want: &str,
-) -> Result<bool, AllocError> {
-    let text = block.display(family);
-    Ok(format!(in alloc; "{text}")?.as_str() == want)
-}
-
-fn are_prefixes(alloc: Global) -> Result<bool, AllocError> {
-    for (family, bits, len, want) in &PREFIXES {
-        let prefix = Prefix::new(Addr::from_bits(*bits), *len);
-        let text = prefix.display(*family);
-        if format!(in alloc; "{text}")?.as_str() != *want
-            || !is_block(alloc, IpBlock::Prefix(prefix), *family, want)?
-        {
-            return Ok(false);
-        }
-    }
-    let range = IpBlock::from_range(v4(0x0A00_0000), v4_end(0x0A00_0002));
-    is_block(alloc, range, AddressFamily::Ipv4, "10.0.0.0-10.0.0.2")
-}
-
-fn is_entry(alloc: Global, max_len: Option<u8>, want: &str) -> Result<bool, AllocError> {
-    let entry = MaxLenPrefix {
-        family: AddressFamily::Ipv4,
-        prefix: Prefix::new(v4(0xC000_0200), 24),
-        max_len,
-    };
-    Ok(format!(in alloc; "{entry}")?.as_str() == want)
-}
-
-fn is_as_block(alloc: Global, block: AsBlock, want: &str) -> Result<bool, AllocError> {
-    Ok(format!(in alloc; "{block}")?.as_str() == want)
-}
-
-/// An IPv4 prefix, printed by its own function.
-#[derive(Clone, Copy)]
-struct PrefixV4(Prefix);
-
-impl fmt::Display for PrefixV4 {
-    ghost output = { λ p. Some (prefix_text Ipv4 p.0) };
-
-    fn fmt<W: fmt::Write>(&self, f: &mut fmt::Formatter<W>) -> fmt::Result {
-        self.0.fmt_v4(f)
-    }
-}
-
-/// The same of IPv6.
-#[derive(Clone, Copy)]
-struct PrefixV6(Prefix);
-
-impl fmt::Display for PrefixV6 {
-    ghost output = { λ p. Some (prefix_text Ipv6 p.0) };
-
-    fn fmt<W: fmt::Write>(&self, f: &mut fmt::Formatter<W>) -> fmt::Result {
-        self.0.fmt_v6(f)
-    }
-}
-
-fn are_of_one_family(alloc: Global) -> Result<bool, AllocError> {
-    let low = PrefixV4(Prefix::new(v4(0xC000_0201), 24));
-    let high = PrefixV6(Prefix::new(v4(0x2001_0DB8), 32));
-    Ok(format!(in alloc; "{low} {high}")?.as_str() == "192.0.2.0/24 2001:db8::/32")
-}
-
-/// Whether faults are printed by their texts.
-fn are_faults(alloc: Global) -> Result<bool, AllocError> {
-    let (inherit, memory) = (BlocksError::Inherit, BlocksError::Memory);
-    let text = format!(in alloc; "{inherit}, {memory}, {Overclaimed}")?;
-    Ok(text.as_str() == "inherited resources, out of memory, overclaimed resources")
-}
-
 #[test]
 fn texts(rt: HostRuntime) -> Result<(), AllocError> {
     let alloc = rt.alloc();
     assert!(rt; are_addresses(alloc)?);
-    assert!(rt; are_prefixes(alloc)?);
-    assert!(rt; are_of_one_family(alloc)?);
-    assert!(rt; is_entry(alloc, Some(26), "192.0.2.0/24-26")?);
-    assert!(rt; is_entry(alloc, None, "192.0.2.0/24")?);
-    assert!(rt; is_as_block(alloc, AsBlock::Id(Asn::MAX), "AS4294967295")?);
-    let range = AsBlock::Range(Asn::from_u32(10), Asn::from_u32(20));
-    assert!(rt; is_as_block(alloc, range, "AS10-AS20")?);
-    assert!(rt; are_faults(alloc)?);
     Ok(())
 }

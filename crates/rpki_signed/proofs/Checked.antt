@@ -13,12 +13,12 @@ use Rattle.rpki_sigobj.specs.Validate.{IsCertUnder}
 use Rattle.rpki_sigobj.specs.Verify.{Digester}
 use Rattle.rpki_signed.specs.declared.check.CheckError.{CheckError}
 use Rattle.rpki_signed.specs.declared.check.CheckError.TheVariants.{Decode, Validation}
-use Rattle.rpki_signed.specs.Check.{BeginsWith, Checks, ChecksSaid}
+use Rattle.rpki_signed.specs.Check.{BeginsWith, Checks, ChecksContent}
 use Rattle.rpki_signed.specs.Exact.{IsExact}
 use Rattle.rpki_signed.specs.Good.{IsGood, IsNotGood, Means}
 use Rattle.rpki_signed.specs.Kind.{Kind}
 use Rattle.rpki_signed.specs.Object.{Whole, KeptWhole, ObjectForm, whole_of, cert_in}
-use Rattle.rpki_signed.specs.Process.{unasked, AnswersAsked}
+use Rattle.rpki_signed.specs.Process.{before_revocation, AnswersAsked}
 use Rattle.rpki_signed.proofs.Goodness.{good, not-good}
 
 module _ {X : Type 0} (kind : Kind X) (form : List ℕ → X → Type 0) (digest : Digester)
@@ -26,7 +26,7 @@ module _ {X : Type 0} (kind : Kind X) (form : List ℕ → X → Type 0) (digest
     (Says : KeptCertificate → Result (Unit {0}) ValidationError → Type 0) where
   -- what is answered of the object, with its certificate in this mode
   abbrev AnswersOf : Mode → Result (Validated × X) ValidationError → Whole X → Type 0
-  AnswersOf mode r o = AnswersAsked (unasked kind digest verdict o issuer now)
+  AnswersOf mode r o = AnswersAsked (before_revocation kind digest verdict o issuer now)
       (IsValidatedUnder (cert_in mode o) issuer) (Says (cert_in mode o)) (kind.held o.content)
       o.content r
 
@@ -34,7 +34,7 @@ module _ {X : Type 0} (kind : Kind X) (form : List ℕ → X → Type 0) (digest
       → k.object.mode ≡ mode
       → IsOnlyFront (ObjectForm kind.type form mode) octets (whole_of k) rest
       → (r : Result (Validated × X) ValidationError)
-      → AnswersAsked (unasked kind digest verdict (whole_of k) issuer now)
+      → AnswersAsked (before_revocation kind digest verdict (whole_of k) issuer now)
       (IsCertUnder k.object issuer) (Says (cert_of k.object)) (kind.held k.content) k.content r
       → BeginsWith (ObjectForm kind.type form mode) octets (AnswersOf mode r)
   answered mode octets k rest e front r h = record {
@@ -84,15 +84,15 @@ module _ {X : Type 0} (kind : Kind X) (form : List ℕ → X → Type 0) (digest
       of (inr h) = inr (not-good kind mode digest verdict issuer now b.object m
           (Says (cert_in mode b.object)) fault h)
 
-  module _ (IsSaid : X → Type 0) (mode : Mode) (octets : List ℕ) where
-    pub answered-said : (k : KeptWhole X) (rest : List ℕ) → k.object.mode ≡ mode
+  module _ (IsContent : X → Type 0) (mode : Mode) (octets : List ℕ) where
+    pub answered-content : (k : KeptWhole X) (rest : List ℕ) → k.object.mode ≡ mode
         → IsOnlyFront (ObjectForm kind.type form mode) octets (whole_of k) rest
-        → IsSaid k.content → (r : Result (Validated × X) ValidationError)
-        → AnswersAsked (unasked kind digest verdict (whole_of k) issuer now)
+        → IsContent k.content → (r : Result (Validated × X) ValidationError)
+        → AnswersAsked (before_revocation kind digest verdict (whole_of k) issuer now)
         (IsCertUnder k.object issuer) (Says (cert_of k.object)) (kind.held k.content) k.content r
         → BeginsWith (ObjectForm kind.type form mode) octets
-        (λ (o : Whole X). IsSaid o.content × AnswersOf mode r o)
-    answered-said k rest e front said r h = record {
+        (λ (o : Whole X). IsContent o.content × AnswersOf mode r o)
+    answered-content k rest e front said r h = record {
       object = whole_of k;
       rest = rest;
       front = front;
@@ -100,7 +100,7 @@ module _ {X : Type 0} (kind : Kind X) (form : List ℕ → X → Type 0) (digest
     }
 
     pub first-of : (r : Result (Validated × X) CheckError)
-        → ChecksSaid IsSaid kind form mode digest verdict issuer now Says octets r
+        → ChecksContent IsContent kind form mode digest verdict issuer now Says octets r
         → Checks kind form mode digest verdict issuer now Says octets r
     first-of (Ok a) b = record {
       object = b.object;
@@ -116,9 +116,9 @@ module _ {X : Type 0} (kind : Kind X) (form : List ℕ → X → Type 0) (digest
       holds = b.holds.1;
     }
 
-    pub exact-of : ((x : X) → IsSaid x → Means kind x)
+    pub exact-of : ((x : X) → IsContent x → Means kind x)
         → (r : Result (Validated × X) CheckError)
-        → ChecksSaid IsSaid kind form mode digest verdict issuer now Says octets r
+        → ChecksContent IsContent kind form mode digest verdict issuer now Says octets r
         → IsExact kind form mode digest verdict issuer now Says octets r
     unfolding first-of
     exact-of means (Ok a) b =

@@ -1,13 +1,13 @@
 -- Objects at the front of octets, whose contents are at the front of other octets.
-use Rattle.std.proofs.Common.{◌≡◌, ℕ, List, refl, subst}
+use Rattle.std.proofs.Common.{◌≡◌, ℕ, List, refl, subst, sym}
 use Rattle.rpki_der.specs.declared.mode.Mode.{Mode}
 use Rattle.rpki_der.specs.declared.error.DecodeError.{DecodeError}
 use Rattle.rpki_der.specs.declared.error.DecodeError.TheVariants.{Malformed, Content, Memory}
 use Rattle.rpki_der.specs.Form.Decodes.{IsOnlyFront}
 use Rattle.rpki_der.specs.Grammar.{Front, HasNoFront}
 use Rattle.rpki_der.specs.Read.Reads.{Refuses}
-use Rattle.rpki_sigobj.specs.Object.{SignedObject, SignedFormOf}
-use Rattle.rpki_signed.specs.Object.{Whole, ObjectForm}
+use Rattle.rpki_sigobj.specs.Object.{SignedObject, KeptObject, SignedFormOf}
+use Rattle.rpki_signed.specs.Object.{Whole, ObjectForm, IsKeptWhole}
 
 same-whole : {X : Type 0} (y : Whole X) (s : SignedObject) (x : X) → y.object ≡ s → y.content ≡ x
     → y ≡ record { object = s; content = x }
@@ -52,3 +52,19 @@ module _ {X : Type 0} (type : List ℕ) (form : List ℕ → X → Type 0) (mode
     content-refused Memory h = tt
     content-refused Malformed h = none h
     content-refused (Content fault) h = none h
+
+-- what is kept of an object at the front, and of what its content begins with
+pub kept-whole : {R X : Type 0} (type : List ℕ) (form : R → List ℕ → X → Type 0) (rule : R)
+    (k : KeptObject) (mode : Mode) (octets rest : List ℕ) → k.mode ≡ mode
+    → IsOnlyFront (SignedFormOf type mode) octets k.object rest
+    → (x : X) (behind : List ℕ) → IsOnlyFront (form rule) k.object.signed.content x behind
+    → IsKeptWhole type form (record { object = k; content = x })
+kept-whole type form rule k mode octets rest e front x behind content =
+    let o = front.found in (
+      rule,
+      (
+        subst (λ (m : Mode). SignedFormOf type m k.object.octets k.object) (sym e)
+            (subst (λ (l : List ℕ). SignedFormOf type mode l k.object) (sym o.2.0.0) o.2),
+        (behind, content.found),
+      ),
+    )

@@ -12,7 +12,7 @@ use Rattle.rpki_certs.specs.Verify.{Verdict}
 use Rattle.rpki_sigobj.specs.Verify.{Digester}
 use Rattle.rpki_signed.specs.Kind.{Kind}
 use Rattle.rpki_signed.specs.Object.{Whole, cert_in}
-use Rattle.rpki_signed.specs.Process.{validation, unasked, said_checks, IsAsked}
+use Rattle.rpki_signed.specs.Process.{validation, before_revocation, said_checks, IsProcessed}
 use Rattle.rpki_signed.specs.Good.{IsGood, IsNotGood, Means}
 
 are-validated : {X : Type 0} (mode : Mode) (o : Whole X) (issuer v : Validated)
@@ -34,7 +34,7 @@ module _ {X : Type 0} (kind : Kind X) (mode : Mode) (digest : Digester) (verdict
   Valid = validation kind.is_published digest verdict o.object.signed issuer now
 
   abbrev Asked : Result (Validated × X) ValidationError → Type 0
-  Asked = IsAsked (unasked kind digest verdict o issuer now)
+  Asked = IsProcessed (before_revocation kind digest verdict o issuer now)
       (IsValidatedUnder (cert_in mode o) issuer) Says (kind.held o.content) o.content
 
   -- a yes
@@ -47,10 +47,10 @@ module _ {X : Type 0} (kind : Kind X) (mode : Mode) (digest : Digester) (verdict
           → Says (Ok tt) × IsGood kind mode digest verdict issuer now o a.0
           × (a.1 ≡ o.content)
       of (Err fault) e = absurd
-          (hold-split (unasked kind digest verdict o issuer now)
+          (hold-split (before_revocation kind digest verdict o issuer now)
           (said_checks (Err fault) ++ kind.held o.content h.valid.sets) (rw e at h.first.0)).1.0
       of (Ok done) e =
-          let s = hold-split (unasked kind digest verdict o issuer now)
+          let s = hold-split (before_revocation kind digest verdict o issuer now)
           (said_checks (Ok done) ++ kind.held o.content h.valid.sets) (rw e at h.first.0) in
           let front = hold-split Claimed Valid s.0 in
           let asked = h.asked s.0 in
@@ -75,7 +75,7 @@ module _ {X : Type 0} (kind : Kind X) (mode : Mode) (digest : Digester) (verdict
       sets : AreValidated claims issuer.sets v.sets
       sets = are-validated mode o issuer v g.certificate
 
-      before : AllHold (unasked kind digest verdict o issuer now)
+      before : AllHold (before_revocation kind digest verdict o issuer now)
       before = hold-join Claimed Valid
           (((means.checks claims issuer.sets v.sets sets).1 g.covered).0, g.valid)
 
@@ -89,9 +89,9 @@ module _ {X : Type 0} (kind : Kind X) (mode : Mode) (digest : Digester) (verdict
       of : (said : Result (Unit {0}) ValidationError) → h.said ≡ said
           → (fault : ValidationError) × Says (Err fault)
       of (Err why) e = (why, subst Says e (h.asked before).1)
-      of (Ok done) e = absurd (first-fails (unasked kind digest verdict o issuer now
+      of (Ok done) e = absurd (first-fails (before_revocation kind digest verdict o issuer now
           ++ (said_checks h.said ++ kind.held o.content h.valid.sets)) fault h.first
-          (hold-join (unasked kind digest verdict o issuer now)
+          (hold-join (before_revocation kind digest verdict o issuer now)
           (said_checks h.said ++ kind.held o.content h.valid.sets) (
             before,
             hold-join (said_checks h.said) (kind.held o.content h.valid.sets) (

@@ -15,7 +15,7 @@ use Rattle.rpki_signed.specs.declared.check.CheckError.{CheckError}
 use Rattle.rpki_signed.specs.declared.check.CheckError.TheVariants.{Decode, Validation}
 use Rattle.rpki_signed.specs.Kind.{Kind}
 use Rattle.rpki_signed.specs.Object.{Whole, ObjectForm, cert_in}
-use Rattle.rpki_signed.specs.Process.{unasked, AnswersAsked}
+use Rattle.rpki_signed.specs.Process.{before_revocation, AnswersAsked}
 
 -- The octets begin with an object in the form, and with nothing else in it, and P holds of it.
 pub record BeginsWith {X : Type 0} (form : List ℕ → Whole X → Type 0) (octets : List ℕ)
@@ -40,7 +40,7 @@ abbrev pub MayAsk : {X : Type 0} → Kind X → (List ℕ → X → Type 0) → 
     → Validated → Moment → (KeptCertificate → Type 0) → List ℕ → Type 0
 MayAsk {X} kind form mode digest verdict issuer now Takes octets =
     (o : Whole X) (rest : List ℕ) → Front (ObjectForm kind.type form mode) octets o rest
-    → AllHold (unasked kind digest verdict o issuer now) → Takes (cert_in mode o)
+    → AllHold (before_revocation kind digest verdict o issuer now) → Takes (cert_in mode o)
 
 -- What is answered of octets: whether they begin with an object of the kind, and then by the first
 -- of its checks, in one list: what its certificate claims, the object, what was said of the
@@ -50,18 +50,18 @@ abbrev pub Checks : {X : Type 0} → Kind X → (List ℕ → X → Type 0) → 
     → List ℕ → Result (Validated × X) CheckError → Type 0
 Checks kind form mode digest verdict issuer now Says octets result =
     OfFront (ObjectForm kind.type form mode) octets
-    (λ o r. AnswersAsked (unasked kind digest verdict o issuer now)
+    (λ o r. AnswersAsked (before_revocation kind digest verdict o issuer now)
     (IsValidatedUnder (cert_in mode o) issuer) (Says (cert_in mode o)) (kind.held o.content)
     o.content r) result
 
 -- The same, with what holds of each content.
-abbrev pub ChecksSaid : {X : Type 0} → (X → Type 0) → Kind X → (List ℕ → X → Type 0) → Mode
+abbrev pub ChecksContent : {X : Type 0} → (X → Type 0) → Kind X → (List ℕ → X → Type 0) → Mode
     → Digester → Verdict → Validated → Moment
     → (KeptCertificate → Result (Unit {0}) ValidationError → Type 0)
     → List ℕ → Result (Validated × X) CheckError → Type 0
-ChecksSaid IsSaid kind form mode digest verdict issuer now Says octets result =
+ChecksContent IsContent kind form mode digest verdict issuer now Says octets result =
     OfFront (ObjectForm kind.type form mode) octets
-    (λ o r. IsSaid o.content
-    × AnswersAsked (unasked kind digest verdict o issuer now)
+    (λ o r. IsContent o.content
+    × AnswersAsked (before_revocation kind digest verdict o issuer now)
     (IsValidatedUnder (cert_in mode o) issuer) (Says (cert_in mode o)) (kind.held o.content)
     o.content r) result

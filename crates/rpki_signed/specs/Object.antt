@@ -32,6 +32,12 @@ pub record KeptWhole (X : Type 0) : Type 0 where
 abbrev pub whole_of : {X : Type 0} → KeptWhole X → Whole X
 whole_of k = record { object = k.object.object; content = k.content }
 
+-- The octets that are kept are those of the object, in their mode, and say what is kept as its
+-- content, by some rule for how contents are read.
+abbrev pub IsKeptWhole : {R X : Type 0} → List ℕ → (R → List ℕ → X → Type 0) → KeptWhole X → Type 0
+IsKeptWhole {R} type form k = (rule : R)
+    × ObjectForm type (form rule) k.object.mode k.object.object.octets (whole_of k)
+
 -- the certificate of the signer, which was read in this mode
 abbrev pub cert_in : {X : Type 0} → Mode → Whole X → KeptCertificate
 cert_in mode o = record { certificate = o.object.signed.cert; mode = mode }

@@ -20,11 +20,11 @@ abbrev pub validation : Bool → Digester → Verdict → SignedData → Validat
 validation true digest verdict s issuer now = object_validation digest verdict s issuer now
 validation false digest verdict s issuer now = detached_validation digest verdict s issuer now
 
--- What is checked before the caller is asked whether the certificate was revoked: what it claims,
--- and then the object.
-abbrev pub unasked : {X : Type 0} → Kind X → Digester → Verdict → Whole X → Validated → Moment
-    → List (Check ValidationError)
-unasked kind digest verdict o issuer now =
+-- What is checked before it is asked whether the certificate was revoked: what it claims, and then
+-- the object.
+abbrev pub before_revocation : {X : Type 0} → Kind X → Digester → Verdict → Whole X → Validated
+    → Moment → List (Check ValidationError)
+before_revocation kind digest verdict o issuer now =
     kind.claimed o.content o.object.signed.cert.tbs.extensions.claims
     ++ validation kind.is_published digest verdict o.object.signed issuer now
 
@@ -40,11 +40,11 @@ AsksFirst Says later result =
     (said : Result (Unit {0}) ValidationError) × Says said
     × AnswersFirstFault (said_checks said ++ later) result
 
--- What is answered where checks come before a question and after it. The question is asked where
--- those before it hold; `valid` is the certificate, which is such a one where they hold, and `said`
--- what was said of it then. A value means that all hold, and is `valid` with the content; a fault
--- is that of the first check that does not hold.
-pub record IsAsked {X : Type 0} (before : List (Check ValidationError))
+-- What is answered where checks come before the question whether the certificate was revoked, and
+-- after it. It is asked where those before it hold; `valid` is the certificate, which is such a one
+-- where they hold, and `said` what was said of it then. A value means that all hold, and is `valid`
+-- with the content; a fault is that of the first check that does not hold.
+pub record IsProcessed {X : Type 0} (before : List (Check ValidationError))
     (IsValid : Validated → Type 0) (Says : Result (Unit {0}) ValidationError → Type 0)
     (held : Sets → List (Check ValidationError)) (content : X)
     (result : Result (Validated × X) ValidationError) : Type 0 where
@@ -59,4 +59,4 @@ abbrev pub AnswersAsked : {X : Type 0} → List (Check ValidationError) → (Val
     → (Result (Unit {0}) ValidationError → Type 0) → (Sets → List (Check ValidationError)) → X
     → Result (Validated × X) ValidationError → Type 0
 AnswersAsked before IsValid Says held content result =
-    (result ≡ Err Memory) ⊎ IsAsked before IsValid Says held content result
+    (result ≡ Err Memory) ⊎ IsProcessed before IsValid Says held content result

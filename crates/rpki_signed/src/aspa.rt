@@ -106,7 +106,9 @@ impl Content for AsProviderAttestation {
 
     ghost form = { AspaForm };
 
-    ghost is_said = { λ _. Unit {0} };
+    ghost is_content = { λ _. Unit {0} };
+
+    ghost copies = { λ x copy e. e };
 
     fn oid() -> Oid {
         oid_of(&CT_ASPA)

@@ -9,7 +9,7 @@ ghost use Rattle.rpki_files.specs.Manifest.{ManifestForm};
 ghost use Rattle.rpki_routes.specs.Aspa.Form.{AspaForm};
 ghost use Rattle.rpki_routes.specs.Roa.Form.{RoaForm};
 ghost use Rattle.rpki_signed.specs.Aspa.{aspa_kind};
-ghost use Rattle.rpki_signed.specs.Check.{MayAsk, Checks, ChecksSaid};
+ghost use Rattle.rpki_signed.specs.Check.{MayAsk, Checks, ChecksContent};
 ghost use Rattle.rpki_signed.specs.Checklist.{checklist_kind};
 ghost use Rattle.rpki_signed.specs.Exact.{IsExact};
 ghost use Rattle.rpki_signed.specs.Manifest.{manifest_kind};
@@ -17,6 +17,7 @@ ghost use Rattle.rpki_signed.specs.Roa.{roa_kind};
 ghost use Rattle.rpki_signed.specs.Text.{check_text};
 
 use crate::content::Content;
+use crate::process::Under;
 use crate::signed::Signed;
 use bytes::Bytes;
 use rpki_basics::{Crypto, ManifestRule, ProviderLimit, Time};
@@ -51,30 +52,26 @@ impl fmt::Display for CheckError {
 
 impl Error for CheckError {}
 
-// Checks the object at the front of the octets.
+// Checks the object at the front of the octets, whose content is read by this rule.
 fn check_front<T: Content, C: Crypto, F: FnOnce(&Cert) -> Result<(), ValidationError>>(
-    alloc: Global,
     bytes: Bytes,
-    strict: bool,
     rule: T::Rule,
-    issuer: &ResourceCert,
-    crypto: &C,
-    now: Time,
+    under: &Under<'_, C>,
     check_crl: F,
 ) -> Result<(ResourceCert, T), CheckError>
-    requires { MayAsk T.kind (T.form rule) (mode_of strict) (C.digest_of crypto.now)
-        (C.is_signed crypto.now) issuer.now now (FnOnceTakesAt F.FnOnce check_crl) bytes }
-    ensures { ChecksSaid T.is_said T.kind (T.form rule) (mode_of strict) (C.digest_of crypto.now)
-        (C.is_signed crypto.now) issuer.now now (FnOnceReturnsAt F.FnOnce check_crl) bytes result }
+    requires { MayAsk T.kind (T.form rule) (mode_of under.now.strict)
+        (C.digest_of under.now.crypto.now) (C.is_signed under.now.crypto.now)
+        under.now.issuer.now under.now.moment (FnOnceTakesAt F.FnOnce check_crl) bytes }
+    ensures { ChecksContent T.is_content T.kind (T.form rule) (mode_of under.now.strict)
+        (C.digest_of under.now.crypto.now) (C.is_signed under.now.crypto.now)
+        under.now.issuer.now under.now.moment (FnOnceReturnsAt F.FnOnce check_crl) bytes result }
 {
-    match Signed::<T>::read(alloc, bytes, strict, rule) {
+    match Signed::<T>::read(under.alloc, bytes, under.strict, rule) {
         Err(e) => Err(CheckError::Decode(e)),
-        Ok(object) => {
-            match object.process_at(alloc, issuer, strict, crypto, now, check_crl) {
-                Err(e) => Err(CheckError::Validation(e)),
-                Ok(checked) => Ok(checked),
-            }
-        }
+        Ok(object) => match object.process_under(under, check_crl) {
+            Err(e) => Err(CheckError::Validation(e)),
+            Ok(checked) => Ok(checked),
+        },
     }
 }
 
@@ -100,7 +97,14 @@ pub fn manifest<C: Crypto, F: FnOnce(&Cert) -> Result<(), ValidationError>>(
         (C.digest_of crypto.now) (C.is_signed crypto.now) issuer.now now
         (FnOnceReturnsAt F.FnOnce check_crl) bytes result }
 {
-    check_front::<ManifestContent, C, F>(alloc, bytes, strict, rule, issuer, crypto, now, check_crl)
+    let under = Under {
+        alloc,
+        issuer,
+        strict,
+        crypto,
+        moment: now,
+    };
+    check_front::<ManifestContent, C, F>(bytes, rule, &under, check_crl)
 }
 
 /// Whether the octets begin with a good ROA (RFC 9582), read strictly, in DER, or in BER, under
@@ -127,16 +131,14 @@ pub fn roa<C: Crypto, F: FnOnce(&Cert) -> Result<(), ValidationError>>(
     ensures exact { IsExact roa_kind RoaForm (mode_of strict) (C.digest_of crypto.now)
         (C.is_signed crypto.now) issuer.now now (FnOnceReturnsAt F.FnOnce check_crl) bytes result }
 {
-    check_front::<RouteOriginAttestation, C, F>(
+    let under = Under {
         alloc,
-        bytes,
-        strict,
-        (),
         issuer,
+        strict,
         crypto,
-        now,
-        check_crl,
-    )
+        moment: now,
+    };
+    check_front::<RouteOriginAttestation, C, F>(bytes, (), &under, check_crl)
 }
 
 /// Whether the octets begin with a good ASPA (draft-ietf-sidrops-aspa-profile-15) with at most as
@@ -159,9 +161,14 @@ pub fn aspa<C: Crypto, F: FnOnce(&Cert) -> Result<(), ValidationError>>(
     ensures exact { IsExact aspa_kind (AspaForm limit) (mode_of strict) (C.digest_of crypto.now)
         (C.is_signed crypto.now) issuer.now now (FnOnceReturnsAt F.FnOnce check_crl) bytes result }
 {
-    check_front::<AsProviderAttestation, C, F>(
-        alloc, bytes, strict, limit, issuer, crypto, now, check_crl,
-    )
+    let under = Under {
+        alloc,
+        issuer,
+        strict,
+        crypto,
+        moment: now,
+    };
+    check_front::<AsProviderAttestation, C, F>(bytes, limit, &under, check_crl)
 }
 
 /// Whether the octets begin with a good signed checklist (RFC 9323), as `roa` says of a ROA: its
@@ -185,14 +192,12 @@ pub fn rsc<C: Crypto, F: FnOnce(&Cert) -> Result<(), ValidationError>>(
         (C.digest_of crypto.now) (C.is_signed crypto.now) issuer.now now
         (FnOnceReturnsAt F.FnOnce check_crl) bytes result }
 {
-    check_front::<ResourceSignedChecklist, C, F>(
+    let under = Under {
         alloc,
-        bytes,
-        strict,
-        (),
         issuer,
+        strict,
         crypto,
-        now,
-        check_crl,
-    )
+        moment: now,
+    };
+    check_front::<ResourceSignedChecklist, C, F>(bytes, (), &under, check_crl)
 }

@@ -94,7 +94,9 @@ impl Content for ResourceSignedChecklist {
 
     ghost form = { λ rule. ChecklistForm Der };
 
-    ghost is_said = { AreCanonical };
+    ghost is_content = { AreCanonical };
+
+    ghost copies = { λ x copy e. e };
 
     fn oid() -> Oid {
         oid_of(&CT_CHECKLIST)

@@ -14,7 +14,7 @@ use std::alloc::Global;
 use std::fmt::Debug;
 
 /// The content of a kind of signed objects.
-pub trait Content: Debug + Drop {
+pub trait Content: Clone + Debug + Drop {
     /// What the caller chooses of how contents are read.
     type Rule: Copy;
 
@@ -24,8 +24,8 @@ pub trait Content: Debug + Drop {
     // What the octets of a content are, by the caller's choice.
     ghost form: { Self.Rule → List ℕ → Self → Type 0 };
 
-    // What holds of each content.
-    ghost is_said: { Self → Type 0 };
+    // What holds of each content that was read.
+    ghost is_content: { Self → Type 0 };
 
     /// The type of such contents.
     fn oid() -> Oid
@@ -38,7 +38,7 @@ pub trait Content: Debug + Drop {
     /// Reads the content at the front of the source, by the rules of DER.
     fn read(alloc: Global, source: Bytes, rule: Self::Rule) -> Result<Self, DecodeError>
         ensures decodes { Decodes (form rule) (λ x. x) source result }
-        ensures said { IfOk result is_said };
+        ensures content { IfOk result is_content };
 
     /// Looks at what the certificate of the signer claims, before it is validated.
     fn verify_claims(&self, cert: &Cert) -> Result<(), ValidationError>
@@ -48,6 +48,9 @@ pub trait Content: Debug + Drop {
     /// Looks at the numbers that the certificate has, after it was validated.
     fn verify_held(&self, cert: &ResourceCert) -> Result<(), ValidationError>
         ensures { AnswersFirstFault (kind.held self.now cert.now.sets) result };
+
+    // A copy says the same.
+    ghost copies: { (x copy : Self) → Self.Clone.is_clone x copy → copy ≡ x };
 }
 
 /// The OBJECT IDENTIFIER with these contents.

@@ -41,7 +41,9 @@ impl Content for ManifestContent {
 
     ghost form = { λ rule. ManifestForm rule Der };
 
-    ghost is_said = { λ _. Unit {0} };
+    ghost is_content = { λ _. Unit {0} };
+
+    ghost copies = { λ x copy e. e };
 
     fn oid() -> Oid {
         oid_of(&CT_MANIFEST)

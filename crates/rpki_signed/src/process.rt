@@ -7,7 +7,8 @@ ghost use Rattle.rpki_faults.specs.declared.validation.ValidationError.TheVarian
 ghost use Rattle.rpki_sigobj.specs.Object.{cert_of};
 ghost use Rattle.rpki_sigobj.specs.Validate.{IsCertUnder};
 ghost use Rattle.rpki_signed.specs.Object.{whole_of};
-ghost use Rattle.rpki_signed.specs.Process.{validation, unasked, AsksFirst, AnswersAsked};
+ghost use Rattle.rpki_signed.specs.Process.{validation, before_revocation};
+ghost use Rattle.rpki_signed.specs.Process.{AsksFirst, AnswersAsked};
 
 use crate::content::Content;
 use crate::signed::Signed;
@@ -17,59 +18,60 @@ use rpki_faults::ValidationError;
 use rpki_sigobj::SignedObject;
 use std::alloc::Global;
 
+/// Under which issuer and at which moment an object is validated, and what computes digests and
+/// verifies signatures.
+#[derive(Drop)]
+pub(crate) struct Under<'a, C> {
+    pub alloc: Global,
+    pub issuer: &'a ResourceCert,
+    pub strict: bool,
+    pub crypto: &'a C,
+    pub moment: Time,
+}
+
 // Validates an object, which has to be published or need not be.
 fn validate_object<C: Crypto>(
     object: SignedObject,
     is_published: bool,
-    alloc: Global,
-    issuer: &ResourceCert,
-    strict: bool,
-    crypto: &C,
-    now: Time,
+    under: &Under<'_, C>,
 ) -> Result<ResourceCert, ValidationError>
-    ensures { AnswersFirstOr Memory (validation is_published (C.digest_of crypto.now)
-        (C.is_signed crypto.now) object.object.signed issuer.now now)
-        (IsCertUnder object issuer.now) result }
+    ensures { AnswersFirstOr Memory (validation is_published (C.digest_of under.now.crypto.now)
+        (C.is_signed under.now.crypto.now) object.object.signed under.now.issuer.now
+        under.now.moment) (IsCertUnder object under.now.issuer.now) result }
 {
+    let Under {
+        alloc,
+        issuer,
+        strict,
+        crypto,
+        moment,
+    } = *under;
     if is_published {
-        object.validate_at(alloc, issuer, strict, crypto, now)
+        object.validate_at(alloc, issuer, strict, crypto, moment)
     } else {
-        object.validate_detached_at(alloc, issuer, strict, crypto, now)
+        object.validate_detached_at(alloc, issuer, strict, crypto, moment)
     }
 }
 
-// What is validated before the caller is asked.
-fn validate_unasked<T: Content, C: Crypto>(
+// Validates what comes before the question whether the certificate was revoked.
+fn validate_before_revocation<T: Content, C: Crypto>(
     object: SignedObject,
     content: &T,
-    alloc: Global,
-    issuer: &ResourceCert,
-    strict: bool,
-    crypto: &C,
-    now: Time,
+    under: &Under<'_, C>,
 ) -> Result<ResourceCert, ValidationError>
-    ensures { AnswersFirstOr Memory (unasked T.kind (C.digest_of crypto.now)
-        (C.is_signed crypto.now) (record { object = object.object; content = content.now })
-        issuer.now now) (IsCertUnder object issuer.now) result }
+    ensures { AnswersFirstOr Memory (before_revocation T.kind (C.digest_of under.now.crypto.now)
+        (C.is_signed under.now.crypto.now)
+        (record { object = object.object; content = content.now })
+        under.now.issuer.now under.now.moment) (IsCertUnder object under.now.issuer.now) result }
 {
     match content.verify_claims(object.cert()) {
         Err(e) => Err(e),
-        Ok(()) => {
-            validate_object(
-                object,
-                T::is_published(),
-                alloc,
-                issuer,
-                strict,
-                crypto,
-                now,
-            )
-        }
+        Ok(()) => validate_object(object, T::is_published(), under),
     }
 }
 
-// What the caller says of the certificate.
-fn asked<F: FnOnce(&Cert) -> Result<(), ValidationError>>(
+// Asks whether the certificate was revoked.
+fn ask_revocation<F: FnOnce(&Cert) -> Result<(), ValidationError>>(
     cert: &ResourceCert,
     check_crl: F,
 ) -> Result<(), ValidationError>
@@ -79,8 +81,8 @@ fn asked<F: FnOnce(&Cert) -> Result<(), ValidationError>>(
     check_crl(cert.cert())
 }
 
-// Asks the caller, and looks at the numbers of the certificate.
-fn ask<T: Content, F: FnOnce(&Cert) -> Result<(), ValidationError>>(
+// Asks whether the certificate was revoked, and then looks at its numbers.
+fn ask_before_numbers<T: Content, F: FnOnce(&Cert) -> Result<(), ValidationError>>(
     cert: &ResourceCert,
     content: &T,
     check_crl: F,
@@ -89,7 +91,7 @@ fn ask<T: Content, F: FnOnce(&Cert) -> Result<(), ValidationError>>(
     ensures { AsksFirst (λ said. FnOnceReturnsAt F.FnOnce check_crl cert.now.cert said)
         (T.kind.held content.now cert.now.sets) result }
 {
-    match asked(cert, check_crl) {
+    match ask_revocation(cert, check_crl) {
         Err(e) => Err(e),
         Ok(()) => content.verify_held(cert),
     }
@@ -99,28 +101,24 @@ fn ask<T: Content, F: FnOnce(&Cert) -> Result<(), ValidationError>>(
 fn process_parts<T: Content, C: Crypto, F: FnOnce(&Cert) -> Result<(), ValidationError>>(
     object: SignedObject,
     content: T,
-    alloc: Global,
-    issuer: &ResourceCert,
-    strict: bool,
-    crypto: &C,
-    now: Time,
+    under: &Under<'_, C>,
     check_crl: F,
 ) -> Result<(ResourceCert, T), ValidationError>
-    requires { AllHold (unasked T.kind (C.digest_of crypto.now) (C.is_signed crypto.now)
-        (record { object = object.object; content = content }) issuer.now now)
-        → FnOnceTakesAt F.FnOnce check_crl (cert_of object) }
-    ensures { AnswersAsked (unasked T.kind (C.digest_of crypto.now) (C.is_signed crypto.now)
-        (record { object = object.object; content = content }) issuer.now now)
-        (IsCertUnder object issuer.now)
+    requires { AllHold (before_revocation T.kind (C.digest_of under.now.crypto.now)
+        (C.is_signed under.now.crypto.now) (record { object = object.object; content = content })
+        under.now.issuer.now under.now.moment) → FnOnceTakesAt F.FnOnce check_crl (cert_of object) }
+    ensures { AnswersAsked (before_revocation T.kind (C.digest_of under.now.crypto.now)
+        (C.is_signed under.now.crypto.now) (record { object = object.object; content = content })
+        under.now.issuer.now under.now.moment) (IsCertUnder object under.now.issuer.now)
         (λ said. FnOnceReturnsAt F.FnOnce check_crl (cert_of object) said)
         (T.kind.held content) content result }
 {
-    match validate_unasked(object, &content, alloc, issuer, strict, crypto, now) {
+    match validate_before_revocation(object, &content, under) {
         Err(e) => {
             drop(content);
             Err(e)
         }
-        Ok(cert) => match ask(&cert, &content, check_crl) {
+        Ok(cert) => match ask_before_numbers(&cert, &content, check_crl) {
             Err(e) => {
                 drop(cert);
                 drop(content);
@@ -132,6 +130,25 @@ fn process_parts<T: Content, C: Crypto, F: FnOnce(&Cert) -> Result<(), Validatio
 }
 
 impl<T: Content> Signed<T> {
+    /// Validates it under this issuer, at this moment, as `process_at` does.
+    pub(crate) fn process_under<C: Crypto, F: FnOnce(&Cert) -> Result<(), ValidationError>>(
+        self,
+        under: &Under<'_, C>,
+        check_crl: F,
+    ) -> Result<(ResourceCert, T), ValidationError>
+        requires { AllHold (before_revocation T.kind (C.digest_of under.now.crypto.now)
+            (C.is_signed under.now.crypto.now) (whole_of self) under.now.issuer.now
+            under.now.moment) → FnOnceTakesAt F.FnOnce check_crl (cert_of self.object) }
+        ensures { AnswersAsked (before_revocation T.kind (C.digest_of under.now.crypto.now)
+            (C.is_signed under.now.crypto.now) (whole_of self) under.now.issuer.now
+            under.now.moment) (IsCertUnder self.object under.now.issuer.now)
+            (λ said. FnOnceReturnsAt F.FnOnce check_crl (cert_of self.object) said)
+            (T.kind.held self.content) self.content result }
+    {
+        let (object, content) = self.into_parts();
+        process_parts(object, content, under, check_crl)
+    }
+
     /// Validates it under its issuer, at this moment (RFC 6488, section 3): what its certificate
     /// claims, where the kind asks it first; the object and its certificate, as
     /// `SignedObject::validate_at` does; then whether the caller says that the certificate was not
@@ -150,18 +167,23 @@ impl<T: Content> Signed<T> {
         now: Time,
         check_crl: F,
     ) -> Result<(ResourceCert, T), ValidationError>
-        requires { AllHold (unasked T.kind (C.digest_of crypto.now) (C.is_signed crypto.now)
-            (whole_of self) issuer.now now)
+        requires { AllHold (before_revocation T.kind (C.digest_of crypto.now)
+            (C.is_signed crypto.now) (whole_of self) issuer.now now)
             → FnOnceTakesAt F.FnOnce check_crl (cert_of self.object) }
-        ensures { AnswersAsked (unasked T.kind (C.digest_of crypto.now) (C.is_signed crypto.now)
-            (whole_of self) issuer.now now) (IsCertUnder self.object issuer.now)
+        ensures { AnswersAsked (before_revocation T.kind (C.digest_of crypto.now)
+            (C.is_signed crypto.now) (whole_of self) issuer.now now)
+            (IsCertUnder self.object issuer.now)
             (λ said. FnOnceReturnsAt F.FnOnce check_crl (cert_of self.object) said)
             (T.kind.held self.content) self.content result }
     {
-        let (object, content) = self.into_parts();
-        process_parts(
-            object, content, alloc, issuer, strict, crypto, now, check_crl,
-        )
+        let under = Under {
+            alloc,
+            issuer,
+            strict,
+            crypto,
+            moment: now,
+        };
+        self.process_under(&under, check_crl)
     }
 
     /// Validates it under its issuer, at the moment that the clock tells, as `process_at` does.
@@ -174,11 +196,12 @@ impl<T: Content> Signed<T> {
         clock: &K,
         check_crl: F,
     ) -> Result<(ResourceCert, T), ValidationError>
-        requires { AllHold (unasked T.kind (C.digest_of crypto.now) (C.is_signed crypto.now)
-            (whole_of self) issuer.now (K.moment clock.now))
+        requires { AllHold (before_revocation T.kind (C.digest_of crypto.now)
+            (C.is_signed crypto.now) (whole_of self) issuer.now (K.moment clock.now))
             → FnOnceTakesAt F.FnOnce check_crl (cert_of self.object) }
-        ensures { AnswersAsked (unasked T.kind (C.digest_of crypto.now) (C.is_signed crypto.now)
-            (whole_of self) issuer.now (K.moment clock.now)) (IsCertUnder self.object issuer.now)
+        ensures { AnswersAsked (before_revocation T.kind (C.digest_of crypto.now)
+            (C.is_signed crypto.now) (whole_of self) issuer.now (K.moment clock.now))
+            (IsCertUnder self.object issuer.now)
             (λ said. FnOnceReturnsAt F.FnOnce check_crl (cert_of self.object) said)
             (T.kind.held self.content) self.content result }
     {

@@ -108,7 +108,9 @@ impl Content for RouteOriginAttestation {
 
     ghost form = { λ rule. RoaForm };
 
-    ghost is_said = { IsRoa };
+    ghost is_content = { IsRoa };
+
+    ghost copies = { λ x copy e. e };
 
     fn oid() -> Oid {
         oid_of(&ROUTE_ORIGIN_AUTHZ)

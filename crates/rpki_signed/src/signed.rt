@@ -5,7 +5,7 @@ ghost use Rattle.rpki_der.specs.declared.mode.Mode.TheVariants.{Der, Ber};
 ghost use Rattle.rpki_der.specs.declared.encode.EncodeError.TheVariants.{NotDer, Memory};
 ghost use Rattle.rpki_der.specs.Form.Decodes.{Decodes};
 ghost use Rattle.rpki_sigobj.specs.Object.{SignedForm, SignedFormOf, mode_of, cert_of};
-ghost use Rattle.rpki_signed.specs.Object.{ObjectForm, whole_of};
+ghost use Rattle.rpki_signed.specs.Object.{ObjectForm, IsKeptWhole, whole_of};
 
 use crate::content::Content;
 use bytes::Bytes;
@@ -23,17 +23,20 @@ pub struct Signed<T: Content> {
 }
 
 impl<T: Content> Model for Signed<T> {
-    ghost use Rattle.rpki_signed.specs.Object.{KeptWhole};
+    ghost use Rattle.rpki_signed.specs.Object.{KeptWhole, IsKeptWhole};
 
     ghost Value = { KeptWhole T };
 
     ghost view = { λ s. record { object = s.object; content = s.content } };
+
+    ghost invariant = { λ s. IsKeptWhole T.kind.type T.form (record {
+      object = s.object;
+      content = s.content;
+    }) };
 }
 
-impl<T: Content + Clone> Clone for Signed<T> {
-    ghost use Rattle.std.specs.Prelude.{◌≡◌};
-
-    ghost is_clone = { λ s copy. (copy.object ≡ s.object) × T.is_clone s.content copy.content };
+impl<T: Content> Clone for Signed<T> {
+    ghost is_clone = { λ s copy. copy ≡ s };
 
     fn clone(&self) -> Result<Signed<T>, AllocError> {
         let object = self.object.clone()?;
@@ -68,7 +71,7 @@ fn read_content<T: Content>(
     rule: T::Rule,
 ) -> Result<T, DecodeError>
     ensures decodes { Decodes (T.form rule) (λ x. x) object.now.object.signed.content result }
-    ensures said { IfOk result T.is_said }
+    ensures content { IfOk result T.is_content }
 {
     match object.content().clone() {
         Err(_) => Err(DecodeError::Memory),
@@ -89,7 +92,7 @@ impl<T: Content> Signed<T> {
         ensures decodes { Decodes (ObjectForm T.kind.type (T.form rule) (mode_of strict)) whole_of
             source result }
         ensures mode { IfOk result (λ o. o.object.mode ≡ mode_of strict) }
-        ensures said { IfOk result (λ o. T.is_said o.content) }
+        ensures content { IfOk result (λ o. T.is_content o.content) }
     {
         match read_object::<T>(alloc, source, strict) {
             Err(e) => Err(e),
@@ -126,9 +129,11 @@ impl<T: Content> Signed<T> {
         self.object.cert()
     }
 
-    /// What its content says.
+    /// What its content says: by some choice of how contents are read, the octets of the object say
+    /// this, in the mode that they were read in.
     pub fn content(&self) -> &T
-        ensures { result.now ≡ self.now.content }
+        ensures value { result.now ≡ self.now.content }
+        ensures said { IsKeptWhole T.kind.type T.form self.now }
     {
         &self.content
     }

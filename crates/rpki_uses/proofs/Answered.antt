@@ -1,6 +1,6 @@
 -- What follows from an answer, where it is a yes.
 use Rattle.std.proofs.Common.{List, Result, Ok, Err}
-use Rattle.std.specs.Prelude.{IfOk}
+use Rattle.std.specs.Prelude.{IfOk, IfErr, MatchResult}
 use Rattle.rpki_faults.specs.Checks.{Check, AllHold, AnswersFirstOr}
 
 -- all checks hold
@@ -15,3 +15,9 @@ pub of_both : {T F : Type 0} (P Q R : T → Type 0) (r : Result T F)
     → ((t : T) → P t → Q t → R t) → IfOk r P → IfOk r Q → IfOk r R
 of_both P Q R (Ok t) f p q = f t p q
 of_both P Q R (Err e) f p q = tt
+
+-- a yes is so, and a refusal is so
+pub of_either : {T F : Type 0} (P : T → Type 0) (Q : F → Type 0) (r : Result T F) → IfOk r P
+    → IfErr r Q → MatchResult r P Q
+of_either P Q (Ok t) p q = p
+of_either P Q (Err e) p q = q

@@ -1,3 +1,4 @@
 mod Answered
+mod ByList
 mod PeersExact
 mod Search

@@ -1,3 +1,4 @@
 pub mod Checks
 pub mod Peers
+pub mod Received
 pub mod Routes

@@ -75,3 +75,12 @@ pub fn has_hash(checklist: &ResourceSignedChecklist, hash: &[u8]) -> bool
     }
     false
 }
+
+/// Whether a checklist has a document, under whatever name.
+pub fn attests<C: Crypto>(checklist: &ResourceSignedChecklist, crypto: &C, document: &[u8]) -> bool
+    ensures { IsTrue result
+        ↔ Any (λ file. file.hash ≡ C.digest_of crypto.now document.now) checklist.now.files }
+{
+    let digest = crypto.digest(document);
+    has_hash(checklist, digest.as_slice())
+}

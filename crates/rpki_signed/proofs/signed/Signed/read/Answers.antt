@@ -1,5 +1,5 @@
 use Rattle.rpki_sigobj.specs.Object.{mode_of}
-use Rattle.rpki_signed.proofs.Fronts.{object-refused, content-refused, whole-found}
+use Rattle.rpki_signed.proofs.Fronts.{object-refused, content-refused, whole-found, kept-whole}
 use Rattle.rpki_signed.proofs.signed.Signed.read.Goals as goal
 
 pub returns-in-Err-clause-decodes : goal.returns-in-Err-clause-decodes
@@ -23,3 +23,11 @@ returns-in-Ok-read_content-clause-decodes g c =
           c.args.source c.in-Ok.object.object front.0 front.1 c.in-Ok-read_content.content
           content.0 content.1,
     )
+
+pub invariant_of-result : goal.invariant_of-result
+invariant_of-result g c =
+    let front = c.in-Ok.ensures.decodes in
+    let content = c.in-Ok-read_content.ensures.decodes in
+    kept-whole g.T.Content.kind.type g.T.Content.form c.args.rule c.in-Ok.object
+    (mode_of c.args.strict) c.args.source front.0 c.in-Ok.ensures.mode front.1
+    c.in-Ok-read_content.content content.0 content.1

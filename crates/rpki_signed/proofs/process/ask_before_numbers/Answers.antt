@@ -1,5 +1,5 @@
 use Rattle.std.proofs.Common.{inr, Ok, Err, refl}
-use Rattle.rpki_signed.proofs.process.ask.Goals as goal
+use Rattle.rpki_signed.proofs.process.ask_before_numbers.Goals as goal
 
 pub returns-in-Err : goal.returns-in-Err
 returns-in-Err g c = (Err c.in-Err.e, c.in-Err.ensures, inr ((λ never. never), refl))

@@ -1,4 +1,4 @@
-use Rattle.rpki_signed.proofs.signed.Signed.process_at.Goals as goal
+use Rattle.rpki_signed.proofs.signed.Signed.process_under.Goals as goal
 
 pub process_parts-requires : goal.process_parts-requires
 process_parts-requires g c =
