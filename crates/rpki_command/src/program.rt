@@ -24,10 +24,10 @@ use std::alloc::{AllocError, Global};
 use std::marker::Model;
 
 /// The program: does what the words ask for, which follow its name, with the files of the store.
-/// Gives the exit status: 0 where lines were shown, with a `yes` before them where an object was
-/// checked; 1 for `malformed`, `refused: CAUSE` and `issuer refused: CAUSE`, all on standard output;
-/// 2 for `usage`, `cannot read FILE` and `bad verdicts`, 3 for `out of memory`, on standard error;
-/// and 2 where a write failed, after which nothing more is written.
+/// Gives the exit status: 0 where lines were shown, after a `yes` where an object was checked, 1
+/// for `malformed`, `refused: CAUSE` and `issuer refused: CAUSE`, all on standard output; 2 for
+/// `usage`, `cannot read FILE` and `bad verdicts`, 3 for `out of memory`, on standard error; and 2
+/// where a write failed, after which nothing more is written.
 pub fn command<S: Store, O: Sink, E: Sink>(
     alloc: Global,
     words: &[&str],
