@@ -2,7 +2,7 @@
 //!
 //! The expected values follow from the profile by hand. A test hands on that memory ran out and
 //! asserts everything else, so `tools/growth` can refuse each of its allocations in turn. Streams
-//! that fail at each of their calls, and long lists, are in the sweeps.
+//! that fail at each of their calls, long lists, and objects that are checked are in the sweeps.
 #![tactic(auto)]
 
 #[cfg(test)]

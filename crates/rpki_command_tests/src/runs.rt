@@ -316,6 +316,61 @@ fn locators_are_shown(rt: HostRuntime) -> Result<(), Fail> {
     Ok(())
 }
 
+#[test]
+fn objects_are_checked(rt: HostRuntime) -> Result<(), Fail> {
+    let rows: [Row; 5] = [
+        (
+            &["check", "aspa", "file", MOMENT, "file", "file"],
+            &CONTENT,
+            BAD_VERDICTS,
+            3,
+        ),
+        (
+            &["check", "aspa", "file", MOMENT, "file", "file", "file"],
+            &[],
+            ISSUER_MALFORMED,
+            4,
+        ),
+        (
+            &["check", "roa", "other", MOMENT, "file", "file"],
+            &ROA,
+            CANNOT_READ,
+            1,
+        ),
+        (
+            &["check", "roa", "file", MOMENT, "other", "large"],
+            &ROA,
+            CANNOT_READ,
+            2,
+        ),
+        (
+            &["check", "roa", "file", MOMENT, "file", "large"],
+            &ROA,
+            OUT_OF_MEMORY,
+            3,
+        ),
+    ];
+    are_answered(&rt, &rows);
+    Ok(())
+}
+
+/// A moment.
+const MOMENT: &str = "20240101000000Z";
+
+/// What is said where a file is no list of verdicts.
+const BAD_VERDICTS: Said = Said {
+    status: 2,
+    out: "",
+    err: "bad verdicts\n",
+};
+
+/// What is said where a certificate is not read.
+const ISSUER_MALFORMED: Said = Said {
+    status: 1,
+    out: "issuer refused: malformed\n",
+    err: "",
+};
+
 /// Words that ask for nothing.
 static NOTHING: [&[&str]; 15] = [
     &[],
@@ -336,14 +391,20 @@ static NOTHING: [&[&str]; 15] = [
 ];
 
 /// Words that ask for what is not there yet.
-static NOT_THERE: [&[&str]; 5] = [
+static NOT_THERE: [&[&str]; 4] = [
     &["content", "rta", "file"],
     &["--relaxed", "content", "rta", "file"],
     &["show", "rta", "file"],
-    &[
-        "check", "aspa", "file", "moment", "verdicts", "anchor", "other",
-    ],
     &["rta", "file", "moment", "verdicts", "anchor", "other"],
+];
+
+/// Words that name no moment.
+static NO_MOMENT: [&[&str]; 5] = [
+    &["check", "aspa", "file", "moment", "file", "file"],
+    &["check", "roa", "file", "20240230000000Z", "file", "file"],
+    &["check", "roa", "file", "20240101000000", "file", "file"],
+    &["check", "rsc", "file", "240101000000Z", "file", "other"],
+    &["check", "manifest", "other", "", "large", "other"],
 ];
 
 #[test]
@@ -352,6 +413,9 @@ fn other_words_are_usage(rt: HostRuntime) -> Result<(), Fail> {
         are_answered(&rt, &[(words, &CONTENT, USAGE, 0)]);
     }
     for words in &NOT_THERE {
+        are_answered(&rt, &[(words, &CONTENT, USAGE, 0)]);
+    }
+    for words in &NO_MOMENT {
         are_answered(&rt, &[(words, &CONTENT, USAGE, 0)]);
     }
     Ok(())
