@@ -57,7 +57,7 @@ def is_prime(n):
 
 
 def prime(name, bits, e):
-    """The first prime behind a number drawn from a name, with its two highest bits set."""
+    """The first prime after a number drawn from a name, with its two highest bits set."""
     octets = drawn(name)
     n = int.from_bytes(bytes(next(octets) for _ in range(bits // 8 + 1)), "big")
     n = n % 2**bits | 3 << bits - 2 | 1
@@ -240,14 +240,14 @@ def wrong_encodings(key):
         ("digest in a BIT STRING", {"info": INFO[:17] + b"\3\x20"}),
         ("digest of another message", {"digest": hashlib.sha256(b"abd").digest()}),
         ("digest without its last octet", {"digest": digest[:-1]}),
-        ("an octet behind the digest", {"end": b"\0"}),
-        ("eight octets of padding, and others behind the digest", {"end": b"\x5a" * half}),
+        ("an octet after the digest", {"end": b"\0"}),
+        ("eight octets of padding, and others after the digest", {"end": b"\x5a" * half}),
         ("padding of another kind", {"head": b"\0\2"}),
         ("padding of zeros", {"head": b"\0\0", "fill": 0}),
         ("padding begins with another octet", {"head": b"\0\1\xfe"}),
-        ("no zero behind the padding", {"mark": b""}),
-        ("two zeros behind the padding", {"mark": b"\0\0"}),
-        ("another octet behind the padding", {"mark": b"\1"}),
+        ("no zero after the padding", {"mark": b""}),
+        ("two zeros after the padding", {"mark": b"\0\0"}),
+        ("another octet after the padding", {"mark": b"\1"}),
     ]
     for why, parts in rows:
         encoded = key.encoded(b"abc", **parts)
@@ -282,7 +282,7 @@ def wrong_keys(key):
         ("without the exponent", value(0x30, modulus)),
         ("the exponent first", value(0x30, exponent + modulus)),
         ("a third number", value(0x30, modulus + exponent + integer(0))),
-        ("an octet behind the key", key.der + b"\0"),
+        ("an octet after the key", key.der + b"\0"),
         ("without the last octet", key.der[:-1]),
         ("the key in a SubjectPublicKeyInfo", info_of(key.der)),
     ):

@@ -328,7 +328,7 @@ fn subject_access(octets: &[u8]) -> Option<SubjectAccess<'_>> {
 }
 
 /// What follows a scheme, in any letters, a colon and two slashes, where all octets are those of a URI.
-fn behind<'a>(scheme: &[u8], text: &'a [u8]) -> Option<&'a [u8]> {
+fn after<'a>(scheme: &[u8], text: &'a [u8]) -> Option<&'a [u8]> {
     let is_of_uri = |octet: &u8| (0x21..=0x7E).contains(octet) && !b"\"#<>\\^`{|}".contains(octet);
     if !text.iter().all(is_of_uri) {
         return None;
@@ -344,7 +344,7 @@ fn is_dots(segment: &[u8]) -> bool {
 /// Whether a text is an rsync URI: an authority, a module and a path, whose segments are no dots, and none of which but
 /// the last one of the path is empty.
 fn is_rsync(text: &[u8]) -> bool {
-    let Some(rest) = behind(b"rsync", text) else {
+    let Some(rest) = after(b"rsync", text) else {
         return false;
     };
     let mut segments = rest.split(|octet| *octet == b'/');
@@ -366,7 +366,7 @@ fn is_rsync(text: &[u8]) -> bool {
 }
 
 fn is_https(text: &[u8]) -> bool {
-    behind(b"https", text).is_some_and(|rest| !rest.is_empty() && rest[0] != b'/')
+    after(b"https", text).is_some_and(|rest| !rest.is_empty() && rest[0] != b'/')
 }
 
 /// Whether more is trimmed than refused, and what is claimed.

@@ -40,6 +40,7 @@ use Rattle.rpki_attributes.specs.AttrsMade.{attribute_octets, attributes_of, InO
 use Rattle.rpki_attributes.specs.AttrsMade.{message_of}
 use Rattle.rpki_attributes.proofs.AttributeExact.{attribute-part}
 use Rattle.rpki_attributes.proofs.AttrsExact.{attrs-part}
+use Rattle.rpki_der.proofs.Form.Keyed.{differ}
 
 -- ---- where no other types stand
 
@@ -196,10 +197,6 @@ tally-other : (oid : List ℕ) (a : Attribute) (list : List Attribute)
 tally-other oid a list e =
     let none : tally oid a ≡ 0 = rw e refl in
     omega (arith, sum_by-cons (tally oid) a list, none)
-
-differ : (oid other : List ℕ) → bytes_eq oid other ≡ false → oid ≢ other
-differ oid other e same =
-    let both : false ≡ true = sym e ∙ (bytes_eq-Decides oid other).1 same in cc
 
 none-left : (oid : List ℕ) (list : List Attribute) → sum_by (tally oid) list ≡ 0
     → All (Other oid) list

@@ -31,13 +31,13 @@ const BARE: &[u8] = b"\x30\x04\x06\x02\x2A\x03";
 
 const CUT: &[u8] = b"\x30\x06\x06\x02\x2A\x03\x31\x05";
 
-// Content types with no value, with two, with one behind the SET, and in a SEQUENCE.
+// Content types with no value, with two, with one after the SET, and in a SEQUENCE.
 const NO_VALUE: &[u8] = b"\x30\x0D\x06\x09\x2A\x86\x48\x86\xF7\x0D\x01\x09\x03\x31\0";
 
 const TWO_VALUES: &[u8] = b"\x30\x15\x06\x09\x2A\x86\x48\x86\xF7\x0D\x01\x09\x03\
     \x31\x08\x06\x02\x2A\x03\x06\x02\x2A\x03";
 
-const BEHIND: &[u8] = b"\x30\x13\x06\x09\x2A\x86\x48\x86\xF7\x0D\x01\x09\x03\
+const AFTER: &[u8] = b"\x30\x13\x06\x09\x2A\x86\x48\x86\xF7\x0D\x01\x09\x03\
     \x31\x04\x06\x02\x2A\x03\x05\0";
 
 const NO_SET: &[u8] = b"\x30\x11\x06\x09\x2A\x86\x48\x86\xF7\x0D\x01\x09\x03\
@@ -76,7 +76,7 @@ static ROWS: [(&[&[u8]], &str, &str); 24] = [
     (&[CUT, TYPE, TIME, DIGEST], TYPE_IS_OTHER, "malformed"),
     (&[NO_VALUE, TIME, DIGEST], "malformed", "malformed"),
     (&[TWO_VALUES, TIME, DIGEST], "malformed", "malformed"),
-    (&[BEHIND, TIME, DIGEST], "malformed", "malformed"),
+    (&[AFTER, TIME, DIGEST], "malformed", "malformed"),
     (&[NO_SET, TIME, DIGEST], "malformed", "malformed"),
     (&[TYPE, TIME, PIECES], "malformed", "malformed"),
     (&[TYPE, NO_DAY, DIGEST], NO_SUCH_TIME, NO_SUCH_TIME),

@@ -37,7 +37,7 @@ pub record Placed (scheme text rest : List ℕ) : Type 0 where
   pub long : length scheme < length text
   pub colon : (d : ℕ) → get_or text (length scheme) d ≡ 58
   pub letters : map to_ascii_lowercase (take (length scheme) text) ≡ scheme
-  pub behind : drop (length scheme + 1) text ≡ rest
+  pub after : drop (length scheme + 1) text ≡ rest
 
 placed-at : (scheme name rest : List ℕ) → map to_ascii_lowercase name ≡ scheme
     → Placed scheme (name ++ 58 ∷ rest) rest
@@ -50,7 +50,7 @@ placed-at scheme name rest m =
       long = omega (arith, len, length-append name (58 ∷ rest));
       colon = λ d. get_or_at name 58 rest d (length scheme) len;
       letters = rw (take_at name (58 ∷ rest) (length scheme) len) m;
-      behind = rw joined (drop_at (name ++ 58 ∷ []) rest (length scheme + 1)
+      after = rw joined (drop_at (name ++ 58 ∷ []) rest (length scheme + 1)
           (omega (arith, len, length-append name (58 ∷ []))));
     }
 
@@ -58,8 +58,8 @@ pub placed : (scheme text rest : List ℕ) → Follows scheme text rest → Plac
 placed scheme text rest f = rw f.1 (placed-at scheme f.0 rest f.2)
 
 pub follows-one : (scheme text r s : List ℕ) → Follows scheme text r → Follows scheme text s → r ≡ s
-follows-one scheme text r s f g = sym (placed scheme text r f).behind
-    ∙ (placed scheme text s g).behind
+follows-one scheme text r s f g = sym (placed scheme text r f).after
+    ∙ (placed scheme text s g).after
 
 -- ---- segments
 
@@ -157,7 +157,7 @@ goes_on P test to from text rest b e h = (
       h ∙ ap (λ (t : List ℕ). test (segments t)) (sym same) ∙ from (segments g.0) g.2,
 )
 
--- the text goes on otherwise behind its scheme
+-- the text goes on otherwise after its scheme
 pub uri-bad : (scheme : List ℕ) (P : List (List ℕ) → Type 0) (text rest : List ℕ)
     → Follows scheme text rest → (GoesOn P rest → ⊥) → ¬ IsUri scheme P text
 uri-bad scheme P text rest f not_so h =

@@ -13,7 +13,7 @@ use bytes::Bytes;
 use std::alloc::{AllocError, Global};
 use std::fmt;
 use std::marker::Model;
-use tests_of::{are_uri_octets, behind_scheme, goes_on_as_https, goes_on_as_rsync};
+use tests_of::{are_uri_octets, after_scheme, goes_on_as_https, goes_on_as_rsync};
 
 /// Why a text is no URI of the kind that was asked for: the first cause in this order.
 #[derive(Debug, Drop)]
@@ -87,7 +87,7 @@ impl Rsync {
         if !are_uri_octets(octets) {
             return Err(Error::InvalidCharacters);
         }
-        match behind_scheme(b"rsync", octets) {
+        match after_scheme(b"rsync", octets) {
             None => Err(Error::BadScheme),
             Some(rest) => {
                 if goes_on_as_rsync(rest) {
@@ -110,7 +110,7 @@ impl Https {
         if !are_uri_octets(octets) {
             return Err(Error::InvalidCharacters);
         }
-        match behind_scheme(b"https", octets) {
+        match after_scheme(b"https", octets) {
             None => Err(Error::BadScheme),
             Some(rest) => {
                 if goes_on_as_https(rest) {

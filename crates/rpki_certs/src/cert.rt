@@ -102,7 +102,7 @@ fn read_front(alloc: Global, source: Bytes) -> Result<Cert, DecodeError>
 
 impl Cert {
     /// Reads the certificate at the front of the source, by the rules of DER (RFC 5280, section
-    /// 4.1; RFC 6487, section 4). Octets behind it are left. Refuses as `take_from` does.
+    /// 4.1; RFC 6487, section 4). Octets after it are left. Refuses as `take_from` does.
     pub fn decode(alloc: Global, source: Bytes) -> Result<Cert, DecodeError>
         ensures decodes { Decodes (CertForm Der) (λ c. c.certificate) source result }
         ensures mode { IfOk result (λ c. c.mode ≡ Der) }

@@ -5,13 +5,10 @@ use Rattle.std.specs.Prelude.{encode_utf8, ◌&&◌, false}
 use Rattle.std.specs.List.{list_all}
 use Rattle.std.proofs.lemmas.Str.{encode_ascii}
 use Rattle.std.proofs.lemmas.List.Concat.{flat_map-append}
+use Rattle.std.proofs.lemmas.Bool.{and_parts}
 use Rattle.rpki_command.specs.Ia5.{ia5_text}
 use Rattle.rpki_files.specs.Name.{IsFileName, is_letter, is_stem}
 use Rattle.rpki_files.specs.Checked.{is_portable, is_portable_name}
-
-both : (a b : Bool) → (a && b) ≡ true → (a ≡ true) × (b ≡ true)
-both true b e = (refl, e)
-both false b e = absurd (search rules)
 
 -- what passes the test is below 128
 abbrev pub IsIa5Test : (ℕ → Bool) → Type 0
@@ -30,7 +27,7 @@ same : (p : ℕ → Bool) → IsIa5Test p → (name : List ℕ) → list_all p n
     → ia5_text name ≡ name
 same p h [] e = refl
 same p h (b ∷ bs) e =
-    let k = both (p b) (list_all p bs) e in
+    let k = and_parts (p b) (list_all p bs) e in
     rw (encode_ascii b (h b k.0), same p h bs k.1) refl
 
 pub portable-printed : (name : List ℕ) → is_portable_name name ≡ true → ia5_text name ≡ name

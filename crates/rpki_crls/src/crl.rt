@@ -100,7 +100,7 @@ fn read_front(alloc: Global, source: Bytes) -> Result<Crl, DecodeError>
 
 impl Crl {
     /// Reads the revocation list at the front of the source, by the rules of DER (RFC 5280, section
-    /// 5.1; RFC 6487, section 5). Octets behind it are left. Refuses as `take_from` does.
+    /// 5.1; RFC 6487, section 5). Octets after it are left. Refuses as `take_from` does.
     pub fn decode(alloc: Global, source: Bytes) -> Result<Crl, DecodeError>
         ensures decodes { Decodes (CrlForm Der) (λ c. c.list) source result }
         ensures mode { IfOk result (λ c. c.mode ≡ Der) }

@@ -12,7 +12,7 @@ use rpki_der::build::tlv;
 use rpki_der::{Constructed, DecodeError, Mode};
 use std::alloc::{AllocError, Global};
 
-/// What is signed, what stands behind it, and what is said or why it is refused: the two times, the
+/// What is signed, what stands after it, and what is said or why it is refused: the two times, the
 /// number, the identifier of the key, and which numbers from 0 to 3 are revoked.
 type Row = (
     &'static [&'static [u8]],

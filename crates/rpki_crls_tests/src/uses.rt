@@ -55,7 +55,7 @@ fn lists_are_written_as_they_were_read(rt: HostRuntime) -> Result<(), AllocError
     Ok(())
 }
 
-/// A list whose outermost value has an indefinite length, and octets behind it.
+/// A list whose outermost value has an indefinite length, and octets after it.
 fn indefinite(alloc: Global) -> Result<Bytes, AllocError> {
     let mut octets = Vec::from_slice(alloc, b"\x30\x80")?;
     octets.extend_from_slice(&sequence(alloc, TBS)?)?;
@@ -77,7 +77,7 @@ fn indefinite_length_is_read_in_ber_alone(rt: HostRuntime) -> Result<(), AllocEr
     Ok(())
 }
 
-/// How many lists stand one after another, and how many octets are left behind them.
+/// How many lists stand one after another, and how many octets are left after them.
 fn take_each(alloc: Global, cons: &mut Constructed<'_>) -> Result<usize, DecodeError> {
     for count in 0..4 {
         if Crl::take_opt_from(alloc, cons)?.is_none() {
@@ -87,7 +87,7 @@ fn take_each(alloc: Global, cons: &mut Constructed<'_>) -> Result<usize, DecodeE
     Ok(4)
 }
 
-/// What stands behind two lists, and how many are read, if what stands there is not refused.
+/// What stands after two lists, and how many are read, if what stands there is not refused.
 static TAILS: [(&[u8], Option<usize>); 3] = [
     (b"", Some(2)),
     (b"\x04\x00", Some(2)),

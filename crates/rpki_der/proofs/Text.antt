@@ -6,7 +6,7 @@ use Rattle.std.proofs.lemmas.List.{append-nil}
 use Rattle.std.specs.Prelude.{◌⊎◌, decimal}
 use Rattle.std.proofs.lemmas.Fmt.{decimal_digit}
 use Rattle.std.specs.List.{flat_map}
-use Rattle.std.proofs.lemmas.Bool.{ltb-true, ltb-false, lt-ltb, le-ltb}
+use Rattle.std.proofs.lemmas.Bool.{ltb-true, ltb-false, lt-ltb, le-ltb, cases_Bool}
 use Rattle.rpki_der.specs.Oid.{IsOid, subidentifiers, arcs_of, arcs, point, dotted}
 use Rattle.rpki_der.specs.Text.Arcs.{is_whole, first_below, are_small, head_text}
 use Rattle.rpki_der.proofs.Reading.Lengths.{chosen, some_is}
@@ -21,10 +21,6 @@ pub record IsFirst (limit n : ℕ) (octets : List ℕ) (m : ℕ) (rest : List �
 whole-rest : (a : ℕ) (rest : List ℕ) → is_whole (a ∷ rest) ≡ true → is_whole rest ≡ true
 whole-rest a [] h = refl
 whole-rest a (b ∷ rest) h = h
-
-is-or : (t : Bool) → (t ≡ true) ⊎ (t ≡ false)
-is-or true = inl refl
-is-or false = inr refl
 
 pub found : (limit n : ℕ) (o : List ℕ) (m : ℕ) (r : List ℕ) → first_below limit n o ≡ Some (m, r)
     → IsFirst limit n o m r
@@ -60,7 +56,7 @@ at_least : (n a : ℕ) (o : List ℕ) → is_whole (a ∷ o) ≡ true
 unfolding subidentifiers
 at_least n a [] w = (n * 128 + a % 128, subidentifiers 0 [], rw w refl, omega arith)
 at_least n a (b ∷ o) w =
-    elim (is-or (ltb a 128)) [
+    elim (cases_Bool (ltb a 128)) [
       | inl t ↦ (n * 128 + a % 128, subidentifiers 0 (b ∷ o), rw t refl, omega arith)
       | inr t ↦ let h = at_least (n * 128 + a % 128) b o w in
           (h.0, h.1, rw t h.2, let k = h.3 in omega (arith, k))
@@ -87,15 +83,15 @@ pub missed : (limit n a : ℕ) (o : List ℕ) → is_whole (a ∷ o) ≡ true
     → (x : ℕ) × (xs : List ℕ) × (subidentifiers n (a ∷ o) ≡ x ∷ xs) × (limit ≤ x)
 unfolding first_below subidentifiers
 missed limit n a [] w e =
-    elim (is-or (ltb (n * 128 + a % 128) limit)) [
+    elim (cases_Bool (ltb (n * 128 + a % 128) limit)) [
       | inl t ↦ absurd (let no : (let x : Option (ℕ × List ℕ) = Some (n * 128 + a % 128, []) in
           x) ≡ None = rw (t, w) at e in cc)
       | inr t ↦ let h = at_least n a [] w in
           (h.0, h.1, h.2, let k = h.3 in let g = ltb-false _ _ t in omega (arith, k, g))
     ]
 missed limit n a (b ∷ o) w e =
-    elim (is-or (ltb (n * 128 + a % 128) limit)) [
-      | inl t ↦ elim (is-or (ltb a 128)) [
+    elim (cases_Bool (ltb (n * 128 + a % 128) limit)) [
+      | inl t ↦ elim (cases_Bool (ltb a 128)) [
         | inl s ↦ absurd (let no : (let x : Option (ℕ × List ℕ) = Some (n * 128 + a % 128, b ∷ o) in
             x) ≡ None = sym (last-octet limit n a (b ∷ o) t s) ∙ e in cc)
         | inr s ↦
@@ -137,10 +133,10 @@ small-end (a ∷ o) e = absurd (omega (arith, e))
 
 arcs-small : (x : ℕ) (xs : List ℕ) → x < 2 ^ 32 + 80 → are_small (arcs_of (x ∷ xs)) ≡ are_small xs
 arcs-small x xs h =
-    elim (is-or (ltb x 40)) [
+    elim (cases_Bool (ltb x 40)) [
       | inl a ↦ let lt = ltb-true _ _ a in
           let t : ltb x (2 ^ 32) ≡ true = lt-ltb _ _ (omega (arith, lt)) in rw (a, t) refl
-      | inr a ↦ elim (is-or (ltb x 80)) [
+      | inr a ↦ elim (cases_Bool (ltb x 80)) [
         | inl b ↦ let lt = ltb-true _ _ b in
             let t : ltb (x - 40) (2 ^ 32) ≡ true = lt-ltb _ _ (omega (arith, lt)) in
             rw (a, b, t) refl
@@ -187,9 +183,9 @@ head-dotted x xs =
     let zero-text : decimal 0 ≡ 48 ∷ [] = decimal_digit 0 (omega arith) in
     let one-text : decimal 1 ≡ 49 ∷ [] = decimal_digit 1 (omega arith) in
     let two-text : decimal 2 ≡ 50 ∷ [] = decimal_digit 2 (omega arith) in
-    elim (is-or (ltb x 40)) [
+    elim (cases_Bool (ltb x 40)) [
       | inl a ↦ rw (a, zero-text) refl
-      | inr a ↦ elim (is-or (ltb x 80)) [
+      | inr a ↦ elim (cases_Bool (ltb x 80)) [
         | inl b ↦ rw (a, b, one-text) refl
         | inr b ↦ rw (a, b, two-text) refl
       ]

@@ -148,4 +148,8 @@ impl fmt::Display for DecodeError {
     }
 }
 
+impl Error for InvalidSignedAttr {}
+
+impl Error for ContentFault {}
+
 impl Error for DecodeError {}

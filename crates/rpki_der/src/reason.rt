@@ -3,6 +3,7 @@
 ghost use Rattle.std.specs.Prelude.{◌≡◌, Some};
 ghost use Rattle.rpki_der.specs.Text.Reason.{reason_text};
 
+use std::error::Error;
 use std::fmt;
 
 /// A rule of a format, beyond its ASN.1, that octets break. Which of several broken rules is named,
@@ -183,3 +184,5 @@ impl fmt::Display for Reason {
         f.write_str(self.text())
     }
 }
+
+impl Error for Reason {}

@@ -89,7 +89,7 @@ fn is_refused(alloc: Global) -> bool {
     }
 }
 
-/// What a sink behind a reference has taken.
+/// What a sink after a reference has taken.
 fn taken(alloc: Global, octets: &[u8]) -> Result<Option<Vec<u8>>, AllocError> {
     let mut sink = Counted::new(Vec::with_capacity(alloc, octets.len())?);
     match (&mut sink).take_all(octets) {

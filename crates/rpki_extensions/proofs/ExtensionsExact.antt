@@ -6,6 +6,7 @@ use Rattle.std.specs.List.{list_all}
 use Rattle.std.proofs.lemmas.Bool.Decides.{Decides-and, Decides-or, Decides-by_and}
 use Rattle.std.proofs.lemmas.List.Elements.{All-nil, All-cons, All-head, All-tail}
 use Rattle.std.proofs.lemmas.Slice.Eq.{bytes_eq-Decides}
+use Rattle.std.proofs.lemmas.Bool.{or_parts}
 use Rattle.rpki_der.specs.declared.mode.Mode.{Mode}
 use Rattle.rpki_der.specs.declared.mode.Mode.TheVariants.{Der}
 use Rattle.rpki_der.specs.Form.Keyed.{IsSaid, AreDistinct, has_key, must}
@@ -283,10 +284,6 @@ module _ (oid : List ℕ) where
       other-head (bytes_eq e.oid oid) e list (bytes_eq-Decides e.oid oid)
       (All-head Others e list h) (none-complete list (All-tail Others e list h))
 
-or-false : (a b : Bool) → (a || b) ≡ false → (a ≡ false) × (b ≡ false)
-or-false true b e = absurd cc
-or-false false b e = (refl, e)
-
 unless : {A : Type 0} (t : Bool) (f : Option A) (x : A) → cond t None f ≡ Some x
     → (t ≡ false) × (f ≡ Some x)
 unless true f x e = absurd cc
@@ -298,7 +295,7 @@ unfolding claims_of_list claims_under
 claims-sound list bytes x h =
     let p = bind_some (must (stated certificate_policies policies_at list)) _ x h in
     let g = unless (has_other p.0 list) _ x p.2 in
-    let n = or-false _ _ g.0 in
+    let n = or_parts _ _ g.0 in
     let a = bind_some (stated_or no_addresses (ip_resources p.0) ip_claims_at list) _ x g.1 in
     let b = bind_some (stated_or Missing (as_resources p.0) as_identifiers_at list) _ x a.2 in
     let same : (let q : Claims = record { policy = p.0; addresses = a.0; as_numbers = b.0 } in

@@ -9,7 +9,7 @@ use Rattle.std.specs.Ordering.{is_eq}
 use Rattle.std.specs.Str.{bytes_eq}
 use Rattle.std.specs.Cmp.Lexicographic.{slice_cmp}
 use Rattle.std.specs.BTreeSet.{BTreeSet, contains_by, Updates}
-use Rattle.std.proofs.lemmas.Bool.{eq-eqb, ltb-true, ltb-false}
+use Rattle.std.proofs.lemmas.Bool.{eq-eqb, ltb-true, ltb-false, cases_Bool}
 use Rattle.std.proofs.lemmas.Map.Lookups.{exact_bytes}
 use Rattle.std.proofs.lemmas.Map.Text.{is_eq-slice_cmp}
 use Rattle.rpki_der.specs.Form.Keyed.{AreDistinct}
@@ -47,10 +47,6 @@ bytes-self (x ∷ a) = rw (eq-eqb x x refl) (bytes-self a)
 
 order-self : (a : List ℕ) → is_eq (slice_cmp nat_cmp a a) ≡ true
 order-self a = is_eq-slice_cmp a a ∙ bytes-self a
-
-decide : (b : Bool) → (b ≡ true) ⊎ (b ≡ false)
-decide true = inl refl
-decide false = inr refl
 
 pub not-true : (a b : Bool) → a ≡ not b → a ≡ true → b ≡ false
 not-true a true e t = absurd (let no : false ≡ true = sym e ∙ t in cc)
@@ -122,7 +118,7 @@ module _ {I : Type 0} (key : I → List ℕ) (set : BTreeSet (Bor (List ℕ))) (
     here false c e = absurd cc
 
     cases : (i : ℕ) → i < suc n → (i < n) ⊎ (i ≡ n)
-    cases i l = elim (decide (ltb i n)) [
+    cases i l = elim (cases_Bool (ltb i n)) [
       | inl t ↦ inl (ltb-true i n t)
       | inr f ↦ inr (let le = ltb-false i n f in omega (arith, le, l))
     ]

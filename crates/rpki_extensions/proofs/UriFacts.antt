@@ -53,7 +53,7 @@ module _ {P : List (List ℕ) → Type 0} {test : List (List ℕ) → Bool}
   uri-is scheme text h =
       let p = placed scheme text h.1.0 h.1.1 in
       let on : does_go_on test (drop (length scheme + 1) text) ≡ true =
-      rw p.behind (on-goes h.1.0 h.1.2) in
+      rw p.after (on-goes h.1.0 h.1.2) in
       and_from _ _ h.0 (and_from _ _ (and_from _ _ (lt-ltb _ _ p.long)
       (and_from _ _ (eq-eqb _ 58 (p.colon 58)) ((bytes_eq-Decides _ scheme).1 p.letters))) on)
 

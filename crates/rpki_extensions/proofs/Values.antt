@@ -29,7 +29,7 @@ pub subject-key-part : IsPart (or (is OCTET_STRING) (is OCTET_STRING_IN_PIECES))
     subject_key_at SubjectKeyForm
 subject-key-part = octets-of-part 20
 
-key-id-part : IsPart (is (context_primitive 0)) nothing key_id_at KeyIdForm
+pub key-id-part : IsPart (is (context_primitive 0)) nothing key_id_at KeyIdForm
 key-id-part = pass (λ (id : List ℕ). eqb (length id) 20) (contents-part (context_primitive 0))
     (λ id. Decides-eqb (length id) 20)
 

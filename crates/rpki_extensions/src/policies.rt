@@ -71,7 +71,7 @@ fn take_policies(cons: &mut Constructed<'_>) -> Result<Overclaim, DecodeError>
 
 /// Reads certificate policies, of which there is one: it says what is done where the certificate
 /// claims more than its issuer has (RFC 5280, section 4.2.1.4; RFC 6487, section 4.8.9; RFC 8360,
-/// section 4.2.1). Values behind the identifier are gone past. Refuses by `UnknownPolicy` for
+/// section 4.2.1). Values after the identifier are gone past. Refuses by `UnknownPolicy` for
 /// another policy, by `Malformed`, or by `Memory`.
 pub fn take_certificate_policies(cons: &mut Constructed<'_>) -> Result<Overclaim, DecodeError>
     ensures reads { Reads (λ o. o) policies_at cons.old result cons.new }

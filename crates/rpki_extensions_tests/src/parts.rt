@@ -73,7 +73,7 @@ pub const UNKNOWN: &[u8] = b"\x30\x0B\x06\x02\x2A\x03\x01\x01\x00\x04\x02\x05\x0
 /// A critical one that is not known, 1.2.3.
 pub const CRITICAL: &[u8] = b"\x30\x0B\x06\x02\x2A\x03\x01\x01\xFF\x04\x02\x05\x00";
 
-/// The identifier of the key, with octets behind it.
+/// The identifier of the key, with octets after it.
 pub const FOLLOWED: &[u8] = b"\x30\x1E\x06\x03\x55\x1D\x0E\x04\x17\x04\x14ABCDEFGHIJKLMNOPQRST\xFF";
 
 /// The identifier of a key that is too short.

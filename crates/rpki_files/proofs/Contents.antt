@@ -10,20 +10,16 @@ use Rattle.rpki_der.specs.declared.mode.Mode.TheVariants.{Der}
 use Rattle.rpki_der.specs.Read.Parse.{◌>>=◌, value_at, ia5_of, tested}
 use Rattle.rpki_files.specs.Name.{is_file_name}
 use Rattle.rpki_files.specs.File.{name_at}
-use Rattle.rpki_files.proofs.Names.{both-true, name-below, name-decides}
-
-are-below : (bs : List ℕ) → All (λ b. b < 128) bs → list_all (λ b. nat_lt b 128) bs ≡ true
-are-below [] h = refl
-are-below (b ∷ bs) h = both-true (nat_lt b 128) _
-    (lt-ltb b 128 (All-head (λ (x : ℕ). x < 128) b bs h))
-    (are-below bs (All-tail (λ (x : ℕ). x < 128) b bs h))
+use Rattle.std.proofs.lemmas.Bool.{and_from}
+use Rattle.rpki_files.proofs.Names.{name-below, name-decides}
+use Rattle.rpki_der.proofs.Writing.Values.{all-below}
 
 -- the contents are a name
 pub name_found : (b name r : List ℕ) → value_at IA5_STRING Der b ≡ Some (name, r)
     → is_file_name name ≡ true → name_at Der b ≡ Some (name, r)
 unfolding tested ia5_of
 name_found b name r e h =
-    rw (e, are-below name (name-below name ((name-decides name).0 h)), h) refl
+    rw (e, all-below name (name-below name ((name-decides name).0 h)), h) refl
 
 -- they are none, whether or not they are an IA5String
 pub name_other : (b name r : List ℕ) → value_at IA5_STRING Der b ≡ Some (name, r)

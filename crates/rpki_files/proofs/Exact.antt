@@ -41,6 +41,7 @@ use Rattle.rpki_files.specs.Manifest.{Head, ordered, head_at, rest_at, fields_at
 use Rattle.rpki_files.specs.Manifest.{manifest_at}
 use Rattle.rpki_files.proofs.Names.{name-decides}
 use Rattle.rpki_files.proofs.VersionExact.{found, found-true, version-part}
+use Rattle.rpki_keys.proofs.AlgorithmParts.{named-is, named-self}
 
 -- ---- a file
 
@@ -121,12 +122,6 @@ files-part rule = part-as
 
 -- ---- a manifest
 
-named-is : (oid read : List ℕ) → named oid read ≡ Some tt → read ≡ oid
-named-is oid read e = (bytes_eq-Decides read oid).0 (found-true (bytes_eq read oid) e)
-
-named-self : (oid : List ℕ) → named oid oid ≡ Some tt
-named-self oid = ap found ((bytes_eq-Decides oid oid).1 refl)
-
 algorithm-part : IsPart (is OBJECT_IDENTIFIER) nothing (partly (named sha_256) oid_at)
     (λ mode o _. ObjectIdentifier mode o sha_256)
 algorithm-part = part-as (make-some (named sha_256) oid-part)
@@ -151,9 +146,9 @@ flat_at rule mode bytes = do
   cond (nat_le (stamp this.0) (stamp next.0))
       (rest_at rule (number.0, this.0, next.0) mode next.1) None
 
--- what stands behind the head
-abbrev behind : ManifestRule → Mode → Option (Head × List ℕ) → Option (Manifest × List ℕ)
-behind rule mode o = o >>= λ head. rest_at rule head.0 mode head.1
+-- what stands after the head
+abbrev after : ManifestRule → Mode → Option (Head × List ℕ) → Option (Manifest × List ℕ)
+after rule mode o = o >>= λ head. rest_at rule head.0 mode head.1
 
 abbrev after_next : ManifestRule → Mode → ℕ → Moment → Option (Moment × List ℕ)
     → Option (Manifest × List ℕ)
@@ -170,21 +165,21 @@ after_number rule mode o = o >>= λ number. after_this rule mode number.0 (time_
 
 ordered-spelt : (rule : ManifestRule) (mode : Mode) (number : ℕ) (this next : Moment) (r : List ℕ)
     (t : Bool)
-    → behind rule mode (cond t (Some ((number, this, next), r)) None)
+    → after rule mode (cond t (Some ((number, this, next), r)) None)
     ≡ cond t (rest_at rule (number, this, next) mode r) None
 ordered-spelt rule mode number this next r true = refl
 ordered-spelt rule mode number this next r false = refl
 
 next-spelt : (rule : ManifestRule) (mode : Mode) (number : ℕ) (this : Moment)
     (o : Option (Moment × List ℕ))
-    → behind rule mode (o >>= λ next. ordered number this next.0 next.1)
+    → after rule mode (o >>= λ next. ordered number this next.0 next.1)
     ≡ after_next rule mode number this o
 next-spelt rule mode number this None = refl
 next-spelt rule mode number this (Some next) =
     ordered-spelt rule mode number this next.0 next.1 (nat_le (stamp this) (stamp next.0))
 
 this-spelt : (rule : ManifestRule) (mode : Mode) (number : ℕ) (o : Option (Moment × List ℕ))
-    → behind rule mode
+    → after rule mode
     (o >>= λ this. (time_at mode this.1 >>= λ next. ordered number this.0 next.0 next.1))
     ≡ after_this rule mode number o
 this-spelt rule mode number None = refl
@@ -192,7 +187,7 @@ this-spelt rule mode number (Some this) =
     next-spelt rule mode number this.0 (time_at mode this.1)
 
 number-spelt : (rule : ManifestRule) (mode : Mode) (o : Option (ℕ × List ℕ))
-    → behind rule mode (o >>= λ number. (time_at mode number.1
+    → after rule mode (o >>= λ number. (time_at mode number.1
     >>= λ this. (time_at mode this.1 >>= λ next. ordered number.0 this.0 next.0 next.1)))
     ≡ after_number rule mode o
 number-spelt rule mode None = refl
@@ -205,7 +200,7 @@ unfolding fields_at head_at
 fields-spelt rule mode b = of (optional (context 0) version_at mode b)
   where
     of : (o : Option (Option (Unit {0}) × List ℕ))
-        → behind rule mode (o >>= λ version. (u160_at mode version.1
+        → after rule mode (o >>= λ version. (u160_at mode version.1
         >>= λ number. (time_at mode number.1
         >>= λ this. (time_at mode this.1 >>= λ next. ordered number.0 this.0 next.0 next.1))))
         ≡ (o >>= λ version. after_number rule mode (u160_at mode version.1))

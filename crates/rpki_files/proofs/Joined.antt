@@ -12,7 +12,8 @@ use Rattle.rpki_basics.specs.Uri.{is_uri_octet, AreUriOctets, IsNoDotSegment, Is
 use Rattle.rpki_basics.specs.Uri.{AreRsyncSegments, IsRsync, join_text}
 use Rattle.rpki_basics.proofs.SegmentFacts.{segments-some}
 use Rattle.rpki_files.specs.Name.{IsFileName, is_from, is_letter, is_stem}
-use Rattle.rpki_files.proofs.Names.{and-true, both-true, or-true}
+use Rattle.std.proofs.lemmas.Bool.{and_parts, and_from}
+use Rattle.rpki_files.proofs.Names.{or-true}
 
 -- ---- the octets of a name
 
@@ -24,7 +25,7 @@ among : (test : ℕ → Bool) (n low b : ℕ) → list_all test (range_with_len 
     → b < low + n → test b ≡ true
 among test zero low b h l u = absurd (omega (arith, l, u))
 among test (suc n) low b h l u =
-    let p = and-true (test low) _ h in
+    let p = and_parts (test low) _ h in
     at p.0 (λ more. among test n (low + 1) b p.1 (omega (arith, more)) (omega (arith, u)))
     (nat_lt low b) refl
   where
@@ -39,7 +40,7 @@ among test (suc n) low b h l u =
 plain-from : (low high n b : ℕ) → list_all is_plain (range_with_len low n) ≡ true
     → high < low + n → is_from low high b ≡ true → is_plain b ≡ true
 plain-from low high n b h u e =
-    let p = and-true _ _ e in
+    let p = and_parts _ _ e in
     let l : low ≤ b = leb-true low b p.0 in
     let m : b ≤ high = leb-true b high p.1 in
     among is_plain n low b h l (omega (arith, m, u))
@@ -62,12 +63,12 @@ all-plain : (test : ℕ → Bool) → ((b : ℕ) → test b ≡ true → is_plai
     → list_all test bs ≡ true → list_all is_plain bs ≡ true
 all-plain test f [] h = refl
 all-plain test f (b ∷ bs) h =
-    let p = and-true (test b) _ h in
-    both-true (is_plain b) _ (f b p.0) (all-plain test f bs p.1)
+    let p = and_parts (test b) _ h in
+    and_from (is_plain b) _ (f b p.0) (all-plain test f bs p.1)
 
 all-join : (test : ℕ → Bool) (a b : List ℕ) → list_all test a ≡ true → list_all test b ≡ true
     → list_all test (a ++ b) ≡ true
-all-join test a b h k = list_all-append test a b ∙ both-true (list_all test a) _ h k
+all-join test a b h k = list_all-append test a b ∙ and_from (list_all test a) _ h k
 
 -- What is asked of a name: plain octets, and no dot segment.
 pub record IsPlain (name : List ℕ) : Type 0 where
@@ -93,9 +94,9 @@ name-plain name h =
 plain-uri : (bs : List ℕ) → list_all is_plain bs ≡ true → AreUriOctets bs
 plain-uri [] h = refl
 plain-uri (b ∷ bs) h =
-    let p = and-true (is_plain b) _ h in
-    let q = and-true (is_uri_octet b) _ p.0 in
-    both-true (is_uri_octet b) _ q.0 (plain-uri bs p.1)
+    let p = and_parts (is_plain b) _ h in
+    let q = and_parts (is_uri_octet b) _ p.0 in
+    and_from (is_uri_octet b) _ q.0 (plain-uri bs p.1)
 
 -- ---- cutting at slashes
 
@@ -121,8 +122,8 @@ segments-plain : (name : List ℕ) → list_all is_plain name ≡ true → segme
 unfolding segments
 segments-plain [] h = refl
 segments-plain (b ∷ name) h =
-    let p = and-true (is_plain b) _ h in
-    let q = and-true (is_uri_octet b) _ p.0 in
+    let p = and_parts (is_plain b) _ h in
+    let q = and_parts (is_uri_octet b) _ p.0 in
     let other : (b == 47) ≡ false = not-true _ q.1 in
     rw (other, segments-plain name p.1) refl
 
@@ -160,16 +161,16 @@ path-grown name n [] h e = n
 path-grown name n (p ∷ []) h e = (h, e, n)
 path-grown name n (p ∷ q ∷ ps) h e = (h.0, h.1, path-grown name n (q ∷ ps) h.2 e)
 
-behind-some : (p : List ℕ) (ps : List (List ℕ)) → EndsInSome (p ∷ ps) → EndsInSome ps
-behind-some p [] e = tt
-behind-some p (q ∷ ps) e = e
+after-some : (p : List ℕ) (ps : List (List ℕ)) → EndsInSome (p ∷ ps) → EndsInSome ps
+after-some p [] e = tt
+after-some p (q ∷ ps) e = e
 
 segments-grown : (name : List ℕ) → IsNoDotSegment name → (ps : List (List ℕ)) → AreRsyncSegments ps
     → EndsInSome ps → AreRsyncSegments (ps ++ (name ∷ []))
 segments-grown name n [] h e = absurd h
 segments-grown name n (a ∷ []) h e = absurd h
 segments-grown name n (a ∷ f ∷ ps) h e =
-    (h.0, h.1, h.2, path-grown name n ps h.3 (behind-some f ps e))
+    (h.0, h.1, h.2, path-grown name n ps h.3 (after-some f ps e))
 
 -- a name in the place of an empty last segment
 path-ended : (name : List ℕ) → IsNoDotSegment name → (ps : List (List ℕ)) → IsPath (ps ++ ([] ∷ []))
@@ -218,7 +219,7 @@ grown base more h u k = (
   ),
 )
 
--- there is an octet behind the two slashes
+-- there is an octet after the two slashes
 some-rest : (rest : List ℕ) → AreRsyncSegments (segments rest)
     → (front : List ℕ) × (x : ℕ) × (rest ≡ front ++ (x ∷ []))
 unfolding segments
@@ -229,7 +230,7 @@ segments-none : segments [] ≡ [] ∷ []
 unfolding segments
 segments-none = refl
 
--- what stands behind the two slashes, where it ends in a slash
+-- what stands after the two slashes, where it ends in a slash
 after-slash : (rest front name : List ℕ) → IsPlain name → rest ≡ front ++ (47 ∷ [])
     → AreRsyncSegments (segments rest) → AreRsyncSegments (segments (rest ++ name))
 after-slash rest front name p e h =
@@ -280,7 +281,7 @@ plain-joined base name h p =
         let other : (x == 47) ≡ false = ne_eqb x 47 (λ m. absurd
         (let no : true ≡ false = sym (eq-eqb 47 x (sym m)) ∙ k in cc)) in
         grown base (47 ∷ name) h
-        (both-true (is_uri_octet 47) _ refl (plain-uri name p.octets))
+        (and_from (is_uri_octet 47) _ refl (plain-uri name p.octets))
         (after-other h.1.2.0 front name x p e other h.1.2.2)
 
 -- the URI of a file below a base

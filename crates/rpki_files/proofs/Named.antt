@@ -11,6 +11,7 @@ use Rattle.rpki_lists.specs.Entries.{entries_of, HoldEntries}
 use Rattle.rpki_files.specs.Name.{IsFileName, is_file_name}
 use Rattle.rpki_files.specs.File.{File, name_of, name_at, hash_at, file_fields_at, file_at}
 use Rattle.rpki_files.proofs.Names.{name-decides}
+use Rattle.rpki_der.proofs.Reading.Contents.{guarded}
 
 -- what p reads is good, and so is each of what it reads up to the end
 module _ {X : Type 0} (p : Parser X) (Good : X → Type 0)
@@ -38,16 +39,12 @@ module _ {X : Type 0} (p : Parser X) (Good : X → Type 0)
       let same : entries_of p b ≡ h.0 = rw h.1 refl in
       subst (All Good) (sym same) (all-good b h.0 h.1)
 
-passed : {A : Type 0} (t : Bool) (u v : A) → cond t (Some u) None ≡ Some v → (t ≡ true) × (u ≡ v)
-passed true u v e = (refl, some_is u v e)
-passed false u v e = absurd cc
-
 pub tested-good : {X : Type 0} (test : X → Bool) (p : Parser X) (b : List ℕ) (x : X) (r : List ℕ)
     → tested test p Der b ≡ Some (x, r) → test x ≡ true
 unfolding tested
 tested-good {X} test p b x r e =
     let u = bind_some (p Der b) _ (x, r) e in
-    let t = passed (test u.0.0) u.0 (x, r) u.2 in
+    let t = guarded (test u.0.0) u.0 (x, r) u.2 in
     subst (λ (v : X × List ℕ). test v.0 ≡ true) t.1 t.0
 
 fields-good : (b : List ℕ) (f : File) (r : List ℕ) → file_fields_at Der b ≡ Some (f, r)

@@ -3,20 +3,12 @@ use Rattle.std.proofs.Common.{◌≡◌, ℕ, ◌+◌, ◌-◌, ◌≤◌, ◌<�
 use Rattle.std.proofs.Common.{◌∷◌, ◌++◌, length, take, drop, All, refl, sym, ap, subst, ◌∙◌, arith}
 use Rattle.std.specs.Prelude.{◌&&◌, ◌||◌, ◌==◌, Decides, nat_lt}
 use Rattle.std.specs.List.{list_all}
-use Rattle.std.proofs.lemmas.Bool.{eqb-true, ltb-false, le-ltb, leb-true}
+use Rattle.std.proofs.lemmas.Bool.{eqb-true, ltb-false, le-ltb, leb-true, and_parts, and_from}
 use Rattle.std.proofs.lemmas.List.{take_at, drop_at, take-append-drop, length-append}
 use Rattle.std.proofs.lemmas.List.{length-take-le}
 use Rattle.std.proofs.lemmas.List.Elements.{All-append, All-cons, All-nil}
 use Rattle.rpki_files.specs.Checked.{is_portable, is_portable_name}
 use Rattle.rpki_files.specs.Name.{IsFileName, is_file_name, is_ending, is_letter, is_stem, is_from}
-
-pub and-true : (a b : Bool) → (a && b) ≡ true → (a ≡ true) × (b ≡ true)
-and-true true b e = (refl, e)
-and-true false b e = absurd cc
-
-pub both-true : (a b : Bool) → a ≡ true → b ≡ true → (a && b) ≡ true
-both-true true b e f = f
-both-true false b e f = absurd cc
 
 ending-sound : (e : List ℕ) → is_ending e ≡ true
     → (letters : List ℕ) × (e ≡ 0x2E ∷ letters) × (length letters ≡ 3)
@@ -26,15 +18,15 @@ ending-sound (d ∷ []) h = absurd cc
 ending-sound (d ∷ x ∷ []) h = absurd cc
 ending-sound (d ∷ x ∷ y ∷ []) h = absurd cc
 ending-sound (d ∷ x ∷ y ∷ z ∷ []) h =
-    let p = and-true (d == 0x2E) _ h in
-    let q = and-true (is_letter x) _ p.1 in
-    let r = and-true (is_letter y) (is_letter z) q.1 in
+    let p = and_parts (d == 0x2E) _ h in
+    let q = and_parts (is_letter x) _ p.1 in
+    let r = and_parts (is_letter y) (is_letter z) q.1 in
     let dot : d ≡ 0x2E = eqb-true _ _ p.0 in (
       x ∷ y ∷ z ∷ [],
       ap (λ (n : ℕ). n ∷ x ∷ y ∷ z ∷ []) dot,
       refl,
-      both-true (is_letter x) _ q.0 (both-true (is_letter y) _ r.0
-          (both-true (is_letter z) true r.1 refl)),
+      and_from (is_letter x) _ q.0 (and_from (is_letter y) _ r.0
+          (and_from (is_letter z) true r.1 refl)),
     )
 ending-sound (d ∷ x ∷ y ∷ z ∷ w ∷ others) h = absurd cc
 
@@ -44,10 +36,10 @@ ending-complete [] n h = absurd (omega (arith, n))
 ending-complete (x ∷ []) n h = absurd (omega (arith, n))
 ending-complete (x ∷ y ∷ []) n h = absurd (omega (arith, n))
 ending-complete (x ∷ y ∷ z ∷ []) n h =
-    let q = and-true (is_letter x) _ h in
-    let r = and-true (is_letter y) _ q.1 in
-    let s = and-true (is_letter z) true r.1 in
-    both-true (is_letter x) _ q.0 (both-true (is_letter y) (is_letter z) r.0 s.0)
+    let q = and_parts (is_letter x) _ h in
+    let r = and_parts (is_letter y) _ q.1 in
+    let s = and_parts (is_letter z) true r.1 in
+    and_from (is_letter x) _ q.0 (and_from (is_letter y) (is_letter z) r.0 s.0)
 ending-complete (x ∷ y ∷ z ∷ w ∷ others) n h = absurd (omega (arith, n))
 
 name-sound : (name : List ℕ) → is_file_name name ≡ true → IsFileName name
@@ -61,7 +53,7 @@ name-sound name h = of (nat_lt (length name) 5) refl h
     of true e g = absurd cc
     of false e g =
         let long : 5 ≤ length name = ltb-false (length name) 5 e in
-        let p = and-true (list_all is_stem (take (length name - 4) name)) _ g in
+        let p = and_parts (list_all is_stem (take (length name - 4) name)) _ g in
         let q = ending-sound (drop (length name - 4) name) p.1 in
         let len : length (take (length name - 4) name) ≡ length name - 4 =
         length-take-le (length name - 4) name (omega arith) in
@@ -89,7 +81,7 @@ name-complete name h =
     let back : drop (length name - 4) name ≡ 0x2E ∷ h.ending =
     ap (drop (length name - 4)) h.parts ∙ drop_at h.stem (0x2E ∷ h.ending) (length name - 4) at in
     rw (long, front, back)
-    (both-true (list_all is_stem h.stem) _ h.characters
+    (and_from (list_all is_stem h.stem) _ h.characters
     (ending-complete h.ending h.three h.letters))
 
 pub name-decides : (name : List ℕ) → Decides (is_file_name name) (IsFileName name)
@@ -103,7 +95,7 @@ or-true false b e P f g = g e
 
 from-below : (low high b : ℕ) → high < 128 → is_from low high b ≡ true → b < 128
 from-below low high b small h =
-    let p = and-true _ _ h in
+    let p = and_parts _ _ h in
     let le : b ≤ high = leb-true b high p.1 in
     omega (arith, le, small)
 
@@ -122,7 +114,7 @@ all-below : (test : ℕ → Bool) → ((b : ℕ) → test b ≡ true → b < 128
     → list_all test bs ≡ true → All (λ b. b < 128) bs
 all-below test f [] h = All-nil (λ b. b < 128)
 all-below test f (b ∷ bs) h =
-    let p = and-true (test b) _ h in
+    let p = and_parts (test b) _ h in
     All-cons (λ b. b < 128) b bs (f b p.0) (all-below test f bs p.1)
 
 pub name-below : (name : List ℕ) → IsFileName name → All (λ b. b < 128) name

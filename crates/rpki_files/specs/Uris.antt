@@ -8,7 +8,7 @@ abbrev pub UriAndHash : Type 0
 UriAndHash = List ℕ × List ℕ
 
 -- The URI of a file in the publication point at this base (section 4.2.1), and its hash. Its name
--- stands behind the base, and a slash between them where the base does not end in one.
+-- stands after the base, and a slash between them where the base does not end in one.
 abbrev pub uri_of : List ℕ → File → UriAndHash
 uri_of base f = (join_text base (name_of f), f.hash)
 

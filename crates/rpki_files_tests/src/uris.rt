@@ -35,7 +35,7 @@ static BASES: [(&[u8], &str); 5] = [
     ),
 ];
 
-/// The URIs that are left and their hashes, each with a space behind it.
+/// The URIs that are left and their hashes, each with a space after it.
 fn text_of(alloc: Global, uris: ManifestUriIter<'_>) -> Result<String, AllocError> {
     let mut text = String::new(alloc);
     for item in uris {

@@ -63,7 +63,7 @@ pub enum Instead {
     Nothing,
     Twice,
     These(&'static [u8]),
-    /// It, and these octets behind it.
+    /// It, and these octets after it.
     Followed(&'static [u8]),
 }
 
@@ -139,7 +139,7 @@ fn nested(
     joined(alloc, &[&[identifier, 0x80], &contents, &[0, 0]])
 }
 
-/// The octets, and others behind them.
+/// The octets, and others after them.
 fn followed(alloc: Global, octets: &[u8], others: &[u8]) -> Result<Vec<u8>, AllocError> {
     let mut both = joined(alloc, &[octets])?;
     both.extend_from_slice(others)?;

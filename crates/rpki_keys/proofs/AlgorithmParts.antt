@@ -3,6 +3,7 @@ use Rattle.std.proofs.Common.{◌≡◌, ℕ, Bool, true, false, cond, List, Opt
 use Rattle.std.proofs.Common.{subst, ap, ◌++◌, inl, inr}
 use Rattle.std.specs.Prelude.{bytes_eq, ◌||◌, ◌⊎◌}
 use Rattle.std.proofs.lemmas.Slice.Eq.{bytes_eq-Decides}
+use Rattle.std.proofs.lemmas.Bool.{or_left}
 use Rattle.rpki_der.specs.declared.mode.Mode.{Mode}
 use Rattle.rpki_der.specs.declared.mode.Mode.TheVariants.{Der, Ber}
 use Rattle.rpki_der.specs.Read.Parse.{Parser}
@@ -34,10 +35,10 @@ found-true : (t : Bool) → found t ≡ Some tt → t ≡ true
 found-true true e = refl
 found-true false e = absurd cc
 
-named-is : (oid read : List ℕ) → named oid read ≡ Some tt → read ≡ oid
+pub named-is : (oid read : List ℕ) → named oid read ≡ Some tt → read ≡ oid
 named-is oid read e = (bytes_eq-Decides read oid).0 (found-true (bytes_eq read oid) e)
 
-named-self : (oid : List ℕ) → named oid oid ≡ Some tt
+pub named-self : (oid : List ℕ) → named oid oid ≡ Some tt
 named-self oid = ap found ((bytes_eq-Decides oid oid).1 refl)
 
 or-cases : (t u : Bool) → (t || u) ≡ true → (t ≡ true) ⊎ (u ≡ true)
@@ -47,10 +48,6 @@ or-cases false u e = inr e
 or-second : (t u : Bool) → u ≡ true → (t || u) ≡ true
 or-second true u e = refl
 or-second false u e = e
-
-or-first : (t u : Bool) → t ≡ true → (t || u) ≡ true
-or-first true u e = refl
-or-first false u e = absurd cc
 
 either-is : (a b read : List ℕ) → either_named a b read ≡ Some tt → (read ≡ a) ⊎ (read ≡ b)
 either-is a b read e =
@@ -63,7 +60,7 @@ either-is a b read e =
 
 either-first : (a b : List ℕ) → either_named a b a ≡ Some tt
 either-first a b =
-    ap found (or-first (bytes_eq a a) (bytes_eq a b) ((bytes_eq-Decides a a).1 refl))
+    ap found (or_left (bytes_eq a a) (bytes_eq a b) ((bytes_eq-Decides a a).1 refl))
 
 either-second : (a b : List ℕ) → either_named a b b ≡ Some tt
 either-second a b =

@@ -1,6 +1,7 @@
 //! What the definitions of keys say: laws, as functions that do nothing.
 
-ghost use Rattle.std.specs.Prelude.{◌≡◌, ◌<◌, ◌^◌, ◌++◌, ◌⊎◌, ℕ, List, length, Some};
+ghost use Rattle.std.specs.Prelude.{◌≡◌, ◌<◌, ◌^◌, ◌++◌, ◌⊎◌, ◌↔◌, ℕ, List, length, Some};
+ghost use Rattle.std.specs.Prelude.{IsTrue};
 ghost use Rattle.rpki_der.specs.declared.mode.Mode.{Mode};
 ghost use Rattle.rpki_der.specs.declared.mode.Mode.TheVariants.{Der};
 ghost use Rattle.rpki_der.specs.Read.Exact.{IsReading};
@@ -14,6 +15,7 @@ ghost use Rattle.rpki_keys.specs.Algorithm.{algorithm_and_null, digest_algorithm
 ghost use Rattle.rpki_keys.specs.Algorithm.{cms_algorithm_octets, cert_algorithm_octets};
 ghost use Rattle.rpki_keys.specs.KeyForm.{KeyForm, key_at, key_contents, key_octets};
 ghost use Rattle.rpki_keys.specs.KeyForm.{key_octets_alone};
+ghost use Rattle.rpki_keys.specs.StandIn.{IsStandInSignature, is_stand_in_signature};
 
 /// Reading an algorithm is exact and unique, and DER is a part of BER (RFC 5280, section 4.1.1.2).
 pub fn algorithms()
@@ -79,4 +81,12 @@ pub fn key_names_are_written()
     ensures read { (mode : Mode) (identifier rest : List ℕ) → length identifier ≡ 20
         → name_at mode (key_name_octets identifier ++ rest)
         ≡ Some (key_name_octets identifier, rest) }
+{}
+
+/// A verdict of the stand-in is a yes exactly where the signature is the digest of the key's bits
+/// followed by the message.
+pub fn stand_in_verdicts()
+    ensures { (key message signature : List ℕ) →
+        IsTrue (is_stand_in_signature key message signature)
+        ↔ IsStandInSignature key message signature }
 {}

@@ -1,6 +1,6 @@
 //! A stand-in for cryptography, for tests: it keeps no secret.
 
-ghost use Rattle.std.specs.Prelude.{◌≡◌, ◌++◌, ◌+◌, ◌%◌, ◌^◌, ◌↔◌, ℕ, List, IfOk, IsTrue};
+ghost use Rattle.std.specs.Prelude.{◌≡◌, ◌++◌, ◌+◌, ◌%◌, ◌^◌, ℕ, List, IfOk};
 ghost use Rattle.std.specs.Int.{w64, to_be_bytes};
 ghost use Rattle.sha2.specs.Sha256.{sha256};
 ghost use Rattle.rpki_keys.specs.StandIn.{IsStandInSignature, is_stand_in_signature};
@@ -50,14 +50,6 @@ fn digest_of_two(first: &[u8], second: &[u8]) -> Digest
     hasher.update(second);
     Digest::new(hasher.finalize())
 }
-
-/// A verdict of the stand-in is a yes exactly where the signature is the digest of the key's bits
-/// followed by the message.
-pub fn verdicts()
-    ensures { (key message signature : List ℕ) →
-        IsTrue (is_stand_in_signature key message signature)
-        ↔ IsStandInSignature key message signature }
-{}
 
 /// That a call was told to fail.
 #[derive(Clone, Copy, Debug)]

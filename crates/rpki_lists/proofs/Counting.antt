@@ -24,7 +24,7 @@ with_all-twice front x (Some xs) =
     ap (λ (l : List _). (let o : Option (List _) = Some l in o))
     (sym (append_assoc front (x ∷ []) xs))
 
--- so many entries stood before what is left, and the rule admits what it admits after them
+-- how many entries stood before what is left, and the rule admits what it admits after them
 pub record CountSoFar {S X : Type 0} (p : Parser X) (after : S → X → Option S) (begun now : S)
     (octets rest : List ℕ) (count : ℕ) : Type 0 where
   pub front : List X

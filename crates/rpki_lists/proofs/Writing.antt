@@ -29,6 +29,7 @@ use Rattle.std.proofs.Common.{
 use Rattle.std.specs.List.{flat_map}
 use Rattle.std.specs.Io.KnownBytes.{Appends}
 use Rattle.std.proofs.lemmas.List.{length-append}
+use Rattle.std.proofs.lemmas.List.Elements.{All-head, All-tail, All-cons}
 use Rattle.rpki_der.specs.Write.Encode.{IsLenOf}
 use Rattle.rpki_der.specs.Write.Sink.{AppendsFront}
 use Rattle.rpki_der.specs.declared.encode.EncodeError.{EncodeError}
@@ -39,16 +40,6 @@ use Rattle.rpki_der.proofs.Writing.Taken.{
   AppendsFront-more,
   AppendsFront-after,
 }
-
-all-head : {T : Type 0} (P : T → Type 0) (x : T) (xs : List T) → All P (x ∷ xs) → P x
-all-head P x xs h = h zero x (omega arith)
-
-all-tail : {T : Type 0} (P : T → Type 0) (x : T) (xs : List T) → All P (x ∷ xs) → All P xs
-all-tail P x xs h = λ k d l. h (suc k) d (omega arith)
-
-all-cons : {T : Type 0} (P : T → Type 0) (x : T) (xs : List T) → P x → All P xs → All P (x ∷ xs)
-all-cons P x xs p h zero d l = p
-all-cons P x xs p h (suc k) d l = h k d (omega arith)
 
 -- the octets of those that are left, and what is known of the others
 pub record LenSoFar {T : Type 0} (f : T → List ℕ) (S : T → Type 0) (all rest : List T)
@@ -73,8 +64,8 @@ len-more f S all old rest x total n s e m p = record {
     length-append (f x)
         (flat_map f rest),
   );
-  short = λ h. s.short (rw e (all-cons S x rest p h));
-  back = λ h. all-tail S x rest (rw e at s.back h);
+  short = λ h. s.short (rw e (All-cons S x rest p h));
+  back = λ h. All-tail S x rest (rw e at s.back h);
 }
 
 pub len-within : {T : Type 0} (f : T → List ℕ) (S : T → Type 0) (all old rest : List T) (x : T)
@@ -90,7 +81,7 @@ len-within f S all old rest x total s e = omega (
 
 pub len-head : {T : Type 0} (f : T → List ℕ) (S : T → Type 0) (all old rest : List T) (x : T)
     (total : ℕ) → LenSoFar f S all old total → old ≡ x ∷ rest → All S all → S x
-len-head f S all old rest x total s e h = all-head S x rest (rw e at s.back h)
+len-head f S all old rest x total s e h = All-head S x rest (rw e at s.back h)
 
 -- a fault of one is a fault of all
 pub len-fault : (D1 S1 D S : Type 0) (one whole : List ℕ) (e : EncodeError) → D1 → (S → S1)
@@ -143,7 +134,7 @@ put-none f S all rest old e h = record {
 
 pub put-short : {T : Type 0} (f : T → List ℕ) (S : T → Type 0) (all left rest : List T)
     (old now : Option (List ℕ)) (x : T) → PutSoFar f S all left old now → left ≡ x ∷ rest → S x
-put-short f S all left rest old now x s e = all-head S x rest (rw e at s.short)
+put-short f S all left rest old now x s e = All-head S x rest (rw e at s.short)
 
 pub put-len : {T : Type 0} (f : T → List ℕ) (S : T → Type 0) (all left rest : List T)
     (old now : Option (List ℕ)) (x : T) → PutSoFar f S all left old now → left ≡ x ∷ rest
@@ -173,7 +164,7 @@ put-more f S all left rest old now new x one s e is a = record {
   done = s.done ++ f x;
   taken = Appends-trans old now new s.done (f x) s.taken (rw is at a);
   whole = whole-is f all left rest s.done x s.whole e;
-  short = all-tail S x rest (rw e at s.short);
+  short = All-tail S x rest (rw e at s.short);
 }
 
 pub put-begun : {T : Type 0} (f : T → List ℕ) (S : T → Type 0) (all left rest : List T)

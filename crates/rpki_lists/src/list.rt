@@ -47,7 +47,7 @@ impl<K: Kind> Clone for EntryList<K> {
 }
 
 impl<K: Kind> EntryList<K> {
-    /// The list whose entries these octets are, of which there are so many.
+    /// The list whose entries these octets are; the count is that of the entries.
     pub(crate) fn counted(octets: Bytes, count: usize) -> EntryList<K>
         requires entries { HoldEntries K.entry_at octets }
         requires count { count ≡ length (entries_of K.entry_at octets) }

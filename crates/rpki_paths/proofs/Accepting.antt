@@ -4,7 +4,7 @@ use Rattle.std.proofs.Common.{◌∷◌, ◌++◌, length, map, refl, sym, ap, �
 use Rattle.std.proofs.Common.{subst, inl, inr, ◌↔◌, arith, ◌&&◌}
 use Rattle.std.specs.Prelude.{slice_get}
 use Rattle.std.specs.List.{list_all}
-use Rattle.std.proofs.lemmas.Bool.{and_parts, true≢false}
+use Rattle.std.proofs.lemmas.Bool.{and_parts, true≢false, and_from}
 use Rattle.std.proofs.lemmas.Option.{slice_get_within}
 use Rattle.std.proofs.lemmas.List.{length-map}
 use Rattle.rpki_paths.specs.declared.acceptance.AcceptFault.TheVariants.{NotValid, Crls, Keys}
@@ -152,11 +152,6 @@ module _ {X : Type 0} (signer : X → Signer) (s : X → List ℕ) (sid : (x : X
 
 -- ---- what holds of all
 
-and_both : (a b : Bool) → a ≡ true → b ≡ true → (a && b) ≡ true
-and_both true true h k = refl
-and_both false b h k = absurd (true≢false (sym h))
-and_both true false h k = absurd (true≢false (sym k))
-
 module _ {A B : Type 0} (f : A → B) (P : B → Bool) where
   pub all_in : (xs : List A) → list_all (λ x. P (f x)) xs ≡ true → (y : B) → IsIn y (map f xs)
       → P y ≡ true
@@ -168,7 +163,7 @@ module _ {A B : Type 0} (f : A → B) (P : B → Bool) where
       → list_all (λ x. P (f x)) xs ≡ true
   of_all [] h = refl
   of_all (x ∷ xs) h =
-      and_both (P (f x)) (list_all (λ z. P (f z)) xs) (h (f x) (inl refl))
+      and_from (P (f x)) (list_all (λ z. P (f z)) xs) (h (f x) (inl refl))
       (of_all xs (λ y i. h y (inr i)))
 
   pub not_all : (xs : List A) → list_all (λ x. P (f x)) xs ≡ false

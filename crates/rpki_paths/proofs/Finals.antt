@@ -24,6 +24,7 @@ use Rattle.rpki_paths.specs.Laws.{FinalIsDecided}
 use Rattle.rpki_paths.proofs.Meets.{kept_numbers}
 use Rattle.rpki_paths.proofs.Grants.{same_anchor}
 use Rattle.rpki_paths.proofs.Walking.{in_each, to_each}
+use Rattle.rpki_paths.proofs.Supplies.{both}
 
 -- ---- gathered numbers
 
@@ -95,10 +96,6 @@ anchored_true : (p : List Cert) (supplies : List Supply) (sets : KeptSets) (b : 
     → IsUnder p supplies sets b → IsAnchored p supplies s → b ≡ true
 anchored_true p supplies sets true s u h = refl
 anchored_true p supplies sets false s u h = absurd (none_anchors p supplies s u.0 h)
-
-both : (a b : Bool) → IsTrue a → IsTrue b → IsTrue (a && b)
-both true b h k = k
-both false b h k = absurd (true≢false (sym h))
 
 module _ {C : Type 0} (cert : C → Cert) (supplies : List Supply) where
   all_from_anchors : (kept : List (Path C)) (paths : List (List Cert)) (anchors : List Supply)

@@ -17,7 +17,7 @@ use Rattle.std.proofs.lemmas.Map.Lookups.{exact_bytes}
 use Rattle.rpki_paths.specs.Cert.{IsIn}
 use Rattle.rpki_paths.specs.Index.{listed_in, listed, IsNamed}
 
-some_same : {A : Type 0} (a b : A) → Some a ≡ Some b → a ≡ b
+pub some_same : {A : Type 0} (a b : A) → Some a ≡ Some b → a ≡ b
 some_same a b e = cc
 
 pub before_or_after : (a b : ℕ) → (a < b) ⊎ (b ≤ a)

@@ -9,9 +9,7 @@ use Rattle.rpki_paths.specs.declared.walker.Path.{Path}
 use Rattle.rpki_paths.specs.Cert.{Cert}
 use Rattle.rpki_paths.specs.Anchor.{Supply}
 use Rattle.rpki_paths.specs.Supplied.{IsSupplied, AreSupplied, AreAnchoredTo}
-
-some_same : {A : Type 0} (a b : A) → Some a ≡ Some b → a ≡ b
-some_same a b e = cc
+use Rattle.rpki_paths.proofs.Indexing.{some_same}
 
 pub set_same : {A : Type 0} (xs : List A) (i : ℕ) (p q : A) → slice_get xs i ≡ Some p
     → slice_get (set xs i q) i ≡ Some q
@@ -27,7 +25,7 @@ set_other (x ∷ xs) zero (suc k) q differ = refl
 set_other (x ∷ xs) (suc i) zero q differ = refl
 set_other (x ∷ xs) (suc i) (suc k) q differ = set_other xs i k q (λ e. differ (ap suc e))
 
-both : (a b : Bool) → IsTrue a → IsTrue b → IsTrue (a && b)
+pub both : (a b : Bool) → IsTrue a → IsTrue b → IsTrue (a && b)
 both true b h k = k
 both false b h k = absurd (true≢false (sym h))
 

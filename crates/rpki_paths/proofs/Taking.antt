@@ -8,10 +8,7 @@ use Rattle.std.proofs.lemmas.Option.{slice_get-map, slice_get_within}
 use Rattle.rpki_paths.specs.Cert.{IsIn}
 use Rattle.rpki_paths.specs.Index.{IsNamed}
 use Rattle.rpki_paths.specs.Taking.{left_of, IsFirst, first, later, FitsNone, IsTakenAt}
-use Rattle.rpki_paths.proofs.Indexing.{IsScan, scan_from_named, before_or_after}
-
-some_same : {A : Type 0} (a b : A) → Some a ≡ Some b → a ≡ b
-some_same a b e = cc
+use Rattle.rpki_paths.proofs.Indexing.{IsScan, scan_from_named, before_or_after, some_same}
 
 -- ---- what is left
 

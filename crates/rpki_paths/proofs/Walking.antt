@@ -31,7 +31,7 @@ use Rattle.rpki_paths.specs.declared.places.Places.{Places}
 use Rattle.rpki_paths.specs.declared.walker.Found.TheVariants.{Issuer}
 use Rattle.rpki_paths.specs.Index.{IsIndex, IsNamed, IsNamedBy, places_of}
 use Rattle.rpki_paths.specs.Laws.{RefusedHasNoPath, KeptTellsTakes}
-use Rattle.rpki_paths.proofs.Indexing.{IsScan, scan_from_named, before_or_after}
+use Rattle.rpki_paths.proofs.Indexing.{IsScan, scan_from_named, before_or_after, some_same}
 use Rattle.rpki_paths.proofs.Chains.{same_issuer, path_above, short, in_map}
 use Rattle.rpki_paths.proofs.Meets.{climb_keeps, covers_kept, from_covers_kept}
 
@@ -90,9 +90,6 @@ apart_placed cert ee xs = (
       absurd (omega (arith, p, z))),
   λ i j c d e f s. omega (arith, place_at cert 1 xs i c e, place_at cert 1 xs j d f, s),
 )
-
-some_same : {A : Type 0} (a b : A) → Some a ≡ Some b → a ≡ b
-some_same a b e = cc
 
 -- two CAs of one identifier are one, and have one place
 pub same_index : (cas : List Cert) (i j : ℕ) (c d : Cert) → IsDistinct cas

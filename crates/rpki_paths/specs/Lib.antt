@@ -12,4 +12,5 @@ pub mod Kept
 pub mod Final
 pub mod Accepting
 pub mod Granting
+pub mod Texts
 pub mod Laws

@@ -84,7 +84,7 @@ AreAnchoredTo {C} paths i =
     (k : ℕ) (p : Path C) → k < i → slice_get paths k ≡ Some p → IsTrue p.anchored
 
 -- What a supply answers to several paths: whether all are anchored then. The first that it declines
--- ends the call: those before it keep what they got, and it and those behind it stay as they were.
+-- ends the call: those before it keep what they got, and it and those after it stay as they were.
 abbrev pub AnswersEach : {C F : Type 0} → (C → Cert) → (C → F → Type 0) → Supply → List (Path C) →
     List (Path C) → Result Bool (SupplyFault F) → Type 0
 AnswersEach cert refuses s old new (Ok done) =

@@ -1,6 +1,6 @@
 //! Whether an attestation is accepted: all that it carries is valid and paired, and has paths.
 
-ghost use Rattle.std.specs.Prelude.{◌≡◌, ◌↔◌, ◌<◌, ◌≤◌, ◌+◌, ◌*◌, ℕ, length, map};
+ghost use Rattle.std.specs.Prelude.{◌≡◌, ◌↔◌, ◌<◌, ◌≤◌, ◌+◌, ◌*◌, ℕ, length, map, Some};
 ghost use Rattle.std.specs.Prelude.{IfOk, IfErr, OnOk};
 ghost use Rattle.std.specs.List.{list_all};
 ghost use Rattle.rpki_paths.specs.declared.acceptance.AcceptFault.{AcceptFault};
@@ -10,6 +10,7 @@ ghost use Rattle.rpki_paths.specs.Grant.{HaveCrls};
 ghost use Rattle.rpki_paths.specs.Pairing.{Crl, Signer, HasDistinctIds, HasKey, IsPairable};
 ghost use Rattle.rpki_paths.specs.Pairing.{IsPairing, IsVerifiedBy};
 ghost use Rattle.rpki_paths.specs.Taking.{AreAt, AllVerifyEach};
+ghost use Rattle.rpki_paths.specs.Texts.{accept_text};
 
 use crate::asked::Asked;
 use crate::certificate::{Certificate, KeyId, Signed};
@@ -19,6 +20,8 @@ use crate::walker::Path;
 use crate::walks::{WalksFault, walk_each};
 use std::alloc::{AllocError, Global};
 use std::sync::ledger::Ledger;
+use std::error::Error;
+use std::fmt;
 
 /// A carried signer, which takes the end-entity certificate that it names and whose key verifies
 /// it.
@@ -104,6 +107,24 @@ impl From<AllocError> for AcceptFault {
         AcceptFault::Memory
     }
 }
+
+impl fmt::Display for AcceptFault {
+    ghost output = { λ fault. Some (accept_text fault) };
+
+    fn fmt<W: fmt::Write>(&self, f: &mut fmt::Formatter<W>) -> fmt::Result {
+        match self {
+            AcceptFault::NotValid => f.write_str("invalid certificate"),
+            AcceptFault::Crls(fault) => write!(f, "revocation lists: {fault}"),
+            AcceptFault::Keys(fault) => write!(f, "subject keys: {fault}"),
+            AcceptFault::Digest => f.write_str("wrong digest of the content"),
+            AcceptFault::Signers(fault) => write!(f, "signers: {fault}"),
+            AcceptFault::Walks(fault) => fault.fmt(f),
+            AcceptFault::Memory => f.write_str("out of memory"),
+        }
+    }
+}
+
+impl Error for AcceptFault {}
 
 impl Seeks<KeyId> for KeyId {
     ghost use Rattle.std.specs.Prelude.{true, refl};

@@ -7,6 +7,7 @@ ghost use Rattle.rpki_paths.specs.Grant.{IsGranted};
 ghost use Rattle.rpki_paths.specs.Granting.{LacksMemory};
 ghost use Rattle.rpki_paths.specs.Pairing.{HasDistinctIds};
 ghost use Rattle.rpki_paths.specs.Supplied.{supply_of};
+ghost use Rattle.rpki_paths.specs.Texts.{grant_text};
 
 use crate::acceptance::{AcceptFault, Attestation, CarriedCert, CarriedSigner, accept};
 use crate::asked::Asked;
@@ -17,6 +18,8 @@ use crate::supply::{Supplied, SupplyFault, supply_all};
 use crate::walker::Path;
 use std::alloc::Global;
 use std::sync::ledger::Ledger;
+use std::error::Error;
+use std::fmt;
 
 /// Why an attestation is not granted.
 #[derive(Clone, Copy, Debug, PartialEq, Eq)]
@@ -28,6 +31,20 @@ pub enum GrantFault<F> {
     /// A path is not anchored, or the sets are not those of the paths.
     NotGranted(FinalFault),
 }
+
+impl<F: fmt::Display> fmt::Display for GrantFault<F> {
+    ghost output = { λ fault. grant_text F.Display.output fault };
+
+    fn fmt<W: fmt::Write>(&self, f: &mut fmt::Formatter<W>) -> fmt::Result {
+        match self {
+            GrantFault::NotAccepted(fault) => fault.fmt(f),
+            GrantFault::NotSupplied(fault) => fault.fmt(f),
+            GrantFault::NotGranted(fault) => fault.fmt(f),
+        }
+    }
+}
+
+impl<F: Error> Error for GrantFault<F> {}
 
 // Whether an attestation with these paths is granted under some supplies.
 fn decide<S, C, R, T, U>(

@@ -1,16 +1,19 @@
 //! Whether the sets that an attestation names are those of its paths.
 
-ghost use Rattle.std.specs.Prelude.{◌≡◌, ◌↔◌, ℕ, false, IsTrue, IfOk, OnOk, ◌||◌};
+ghost use Rattle.std.specs.Prelude.{◌≡◌, ◌↔◌, ℕ, false, IsTrue, IfOk, OnOk, ◌||◌, Some};
 ghost use Rattle.rpki_resources.specs.Blocks.{holds};
 ghost use Rattle.rpki_paths.specs.declared.decision.FinalFault.{FinalFault};
 ghost use Rattle.rpki_paths.specs.declared.family.Family.{Family};
 ghost use Rattle.rpki_paths.specs.Final.{Decides, all_anchored, attested_sets, kept_has, some_has};
 ghost use Rattle.rpki_paths.specs.Final.{union_has};
+ghost use Rattle.rpki_paths.specs.Texts.{final_text};
 
 use crate::kept::Kept;
 use crate::walker::Path;
 use rpki_resources::{Addr, AsBlocks, Asn, Blocks, BlocksBuilder, IpBlocks, Number};
 use std::alloc::{AllocError, Global};
+use std::error::Error;
+use std::fmt;
 
 /// The sets that an attestation names.
 #[derive(Clone, Copy)]
@@ -40,6 +43,21 @@ impl From<AllocError> for FinalFault {
         FinalFault::Memory
     }
 }
+
+impl fmt::Display for FinalFault {
+    ghost output = { λ fault. Some (final_text fault) };
+
+    fn fmt<W: fmt::Write>(&self, f: &mut fmt::Formatter<W>) -> fmt::Result {
+        match self {
+            FinalFault::NotAnchored => f.write_str("path not anchored"),
+            FinalFault::AsNumbers => f.write_str("AS numbers not those of the paths"),
+            FinalFault::Addresses => f.write_str("addresses not those of the paths"),
+            FinalFault::Memory => f.write_str("out of memory"),
+        }
+    }
+}
+
+impl Error for FinalFault {}
 
 /// The numbers of several paths in a family, and whether all of them are known: a path on which all
 /// certificates inherit has numbers that nothing names.

@@ -7,12 +7,15 @@ ghost use Rattle.rpki_paths.specs.Index.{IsIndex};
 ghost use Rattle.rpki_paths.specs.Taking.{left_of, FitsNone, IsTakenAt};
 ghost use Rattle.rpki_paths.specs.Pairing.{IsPair};
 ghost use Rattle.rpki_paths.specs.Taking.{AllVerify, AllVerifyEach, ArePaired, AreUnpaired};
+ghost use Rattle.rpki_paths.specs.Texts.{pair_text};
 
 use crate::asked::Asked;
 use crate::certificate::KeyId;
 use crate::places::Places;
 use std::alloc::{AllocError, Global};
 use std::sync::ledger::Ledger;
+use std::error::Error;
+use std::fmt;
 
 /// What takes one of some others: by a key identifier, and by a verdict on the two.
 pub trait Seeks<Y> {
@@ -67,6 +70,20 @@ impl From<AllocError> for PairFault {
         PairFault::Memory
     }
 }
+
+impl fmt::Display for PairFault {
+    ghost output = { λ fault. Some (pair_text fault) };
+
+    fn fmt<W: fmt::Write>(&self, f: &mut fmt::Formatter<W>) -> fmt::Result {
+        match self {
+            PairFault::Unpaired(place) => write!(f, "nothing left for item {place}"),
+            PairFault::LeftOver => f.write_str("items left over"),
+            PairFault::Memory => f.write_str("out of memory"),
+        }
+    }
+}
+
+impl Error for PairFault {}
 
 // The verdict on an item that is left. One that is taken costs none.
 fn accepts_left<X: Accepts<Y, L>, Y, L: Ledger>(

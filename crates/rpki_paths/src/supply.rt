@@ -6,11 +6,14 @@ ghost use Rattle.rpki_paths.specs.declared.supply.Supplied.{Supplied};
 ghost use Rattle.rpki_paths.specs.Anchor.{Supply};
 ghost use Rattle.rpki_paths.specs.Supplied.{Answers, AnswersEach, AreSuppliedAll, supply_of};
 ghost use Rattle.rpki_paths.specs.Supplied.{refusal_of};
+ghost use Rattle.rpki_paths.specs.Texts.{supply_text};
 
 use crate::certificate::{Certificate, Locator, SuppliedCa};
 use crate::family::Family;
 use crate::walker::Path;
 use std::alloc::AllocError;
+use std::error::Error;
+use std::fmt;
 
 /// Why a supply ends a call.
 #[derive(Clone, Copy, Debug, PartialEq, Eq)]
@@ -30,6 +33,20 @@ impl<F> From<AllocError> for SupplyFault<F> {
         SupplyFault::Memory
     }
 }
+
+impl<F: fmt::Display> fmt::Display for SupplyFault<F> {
+    ghost output = { λ fault. supply_text F.Display.output fault };
+
+    fn fmt<W: fmt::Write>(&self, f: &mut fmt::Formatter<W>) -> fmt::Result {
+        match self {
+            SupplyFault::NoAnchor(fault) => fault.fmt(f),
+            SupplyFault::NotCovered(family) => f.write_str(family.overclaimed()),
+            SupplyFault::Memory => f.write_str("out of memory"),
+        }
+    }
+}
+
+impl<F: Error> Error for SupplyFault<F> {}
 
 /// What paths are anchored under.
 #[derive(Drop)]

@@ -1,6 +1,6 @@
 //! The walk from an end-entity certificate up the carried CAs.
 
-ghost use Rattle.std.specs.Prelude.{map, ◌≡◌, ◌≢◌, ℕ, ◌+◌, ◌<◌, ◌≤◌, length, IfOk, IfErr, OnOk};
+ghost use Rattle.std.specs.Prelude.{map, ◌≡◌, ◌≢◌, ℕ, ◌+◌, ◌<◌, ◌≤◌, length, IfOk, IfErr, OnOk, Some};
 ghost use Rattle.std.specs.Prelude.{IsFalse, slice_index};
 ghost use Rattle.rpki_paths.specs.declared.walker.Found.{Found};
 ghost use Rattle.rpki_paths.specs.declared.walker.PathFault.{PathFault};
@@ -9,6 +9,7 @@ ghost use Rattle.rpki_paths.specs.Path.{IsDistinct};
 ghost use Rattle.rpki_paths.specs.Walk.{FoundSays, IsRefused, IsWalked};
 ghost use Rattle.rpki_paths.specs.Cert.{at_place};
 ghost use Rattle.rpki_paths.specs.Walk.{KeepsMarks, placed};
+ghost use Rattle.rpki_paths.specs.Texts.{path_text};
 
 use crate::asked::Asked;
 use crate::certificate::Signed;
@@ -17,6 +18,8 @@ use crate::places::Places;
 use crate::sets::KeptSets;
 use std::alloc::{AllocError, Global};
 use std::sync::ledger::Ledger;
+use std::error::Error;
+use std::fmt;
 
 /// The head of a path, its place (0 for the end-entity certificate, else one more than the CA's
 /// index), what is kept of the explicit sets, and whether the path is anchored.
@@ -50,6 +53,22 @@ impl From<AllocError> for PathFault {
         PathFault::Memory
     }
 }
+
+impl fmt::Display for PathFault {
+    ghost output = { λ fault. Some (path_text fault) };
+
+    fn fmt<W: fmt::Write>(&self, f: &mut fmt::Formatter<W>) -> fmt::Result {
+        match self {
+            PathFault::NoValidIssuer => f.write_str("no valid issuer"),
+            PathFault::Returns => f.write_str("path returns to its issuer"),
+            PathFault::Revoked => f.write_str("certificate revoked"),
+            PathFault::NotCovered(family) => f.write_str(family.overclaimed()),
+            PathFault::Memory => f.write_str("out of memory"),
+        }
+    }
+}
+
+impl Error for PathFault {}
 
 /// What a search for an issuer found.
 #[derive(Clone, Copy)]

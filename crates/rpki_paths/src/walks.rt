@@ -1,11 +1,12 @@
 //! Walks from several end-entity certificates up the same CAs.
 
-ghost use Rattle.std.specs.Prelude.{◌≡◌, ◌≢◌, ℕ, ◌+◌, ◌*◌, ◌<◌, ◌≤◌, map, length, slice_index};
+ghost use Rattle.std.specs.Prelude.{◌≡◌, ◌≢◌, ℕ, ◌+◌, ◌*◌, ◌<◌, ◌≤◌, map, length, slice_index, Some};
 ghost use Rattle.std.specs.Prelude.{IfOk, IfErr, OnOk};
 ghost use Rattle.rpki_paths.specs.declared.walks.WalksFault.{WalksFault};
 ghost use Rattle.rpki_paths.specs.Kept.{AreRefused, AreWalked, walks_fault};
 ghost use Rattle.rpki_paths.specs.Path.{IsDistinct};
 ghost use Rattle.rpki_paths.specs.Walk.{placed};
+ghost use Rattle.rpki_paths.specs.Texts.{walks_text};
 
 use crate::asked::Asked;
 use crate::certificate::{Certificate, KeyId, Signed};
@@ -14,6 +15,8 @@ use crate::places::Places;
 use crate::walker::{Path, PathFault, walk};
 use std::alloc::{AllocError, Global};
 use std::sync::ledger::Ledger;
+use std::error::Error;
+use std::fmt;
 
 /// Why not all end-entity certificates have paths on which all CAs stand.
 #[derive(Clone, Copy, Debug, PartialEq, Eq)]
@@ -48,6 +51,20 @@ impl From<AllocError> for WalksFault {
         WalksFault::Memory
     }
 }
+
+impl fmt::Display for WalksFault {
+    ghost output = { λ fault. Some (walks_text fault) };
+
+    fn fmt<W: fmt::Write>(&self, f: &mut fmt::Formatter<W>) -> fmt::Result {
+        match self {
+            WalksFault::NoPath(fault) => fault.fmt(f),
+            WalksFault::Unused(place) => write!(f, "unused CA certificate {place}"),
+            WalksFault::Memory => f.write_str("out of memory"),
+        }
+    }
+}
+
+impl Error for WalksFault {}
 
 // The subject key identifiers of certificates.
 fn subjects<C: Certificate>(alloc: Global, certs: &[C]) -> Result<Vec<KeyId>, AllocError>

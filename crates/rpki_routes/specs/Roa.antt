@@ -26,7 +26,7 @@ pub record Roa : Type 0 where
   pub v4 : List Address
   pub v6 : List Address
 
--- a prefix of the family: no more bits than an address has, and none behind its length
+-- a prefix of the family: no more bits than an address has, and none after its length
 pub record IsPrefixOf (family : AddressFamily) (p : Network) : Type 0 where
   pub within : p.len ≤ max_bits family
   pub address : p.addr < 2 ^ 128

@@ -144,7 +144,7 @@ pub static ROWS: [(&[u8], &str, &[u8]); 25] = [
         "malformed",
         b"",
     ),
-    // Something behind the maximum length, and eight unused bits.
+    // Something after the maximum length, and eight unused bits.
     (
         b"\x30\x1C\x02\x03\x00\xFB\xF0\x30\x15\x30\x13\x04\x02\x00\x01\x30\x0D\x30\x0B\x03\x04\x00\
             \xC0\x00\x02\x02\x01\x1A\x05\x00",

@@ -11,6 +11,7 @@ use Rattle.rpki_der.specs.Numbers.{number}
 use Rattle.rpki_rsa.specs.Signature.{encoded_message, IsSignatureOf, IsRsaSignature}
 use Rattle.rpki_rsa.proofs.EncodedParts.{digest_front, encoded-parts, encoded_number}
 use Rattle.rpki_rsa.proofs.KeyFacts.{one-modulus}
+use Rattle.rpki_der.proofs.Reading.Unique.{bytes-both}
 
 pub same-octets : (xs ys : List ℕ) (a b : ℕ) → length xs ≡ length ys → IsBytes xs → IsBytes ys
     → number a xs ≡ number b ys → (a ≡ b) × (xs ≡ ys)
@@ -25,10 +26,6 @@ same-octets (x ∷ xs) (y ∷ ys) a b l hx hy e =
           ∙ ap (λ (ds : List ℕ). y ∷ ds) more.1,
     )
 
-bytes-append : (a b : List ℕ) → IsBytes a → IsBytes b → IsBytes (a ++ b)
-bytes-append [] b ha hb = hb
-bytes-append (x ∷ a) b ha hb = (ha.0, bytes-append a b ha.1 hb)
-
 bytes-word : (x : ℕ) → IsBytes (to_be_bytes w32 x)
 bytes-word x = (omega arith, (omega arith, (omega arith, (omega arith, tt))))
 
@@ -36,7 +33,7 @@ bytes-digest : (h : List ℕ) (n : ℕ) → IsBytes (digest_bytes h n)
 unfolding digest_bytes
 bytes-digest h zero = tt
 bytes-digest h (suc n) =
-    bytes-append (digest_bytes h n) (to_be_bytes w32 (slice_index h n)) (bytes-digest h n)
+    bytes-both (digest_bytes h n) (to_be_bytes w32 (slice_index h n)) (bytes-digest h n)
     (bytes-word (slice_index h n))
 
 bytes-sha256 : (m : List ℕ) → IsBytes (sha256 m)

@@ -15,7 +15,7 @@ use Rattle.rpki_der.specs.Numbers.{number}
 use Rattle.rpki_der.specs.Tags.{SEQUENCE, INTEGER}
 use Rattle.rpki_der.specs.Write.Written.{length_octets, value_octets, number_octets}
 use Rattle.rpki_der.specs.Write.Written.{significant, not_negative, integer_contents}
-use Rattle.rpki_der.proofs.Reading.Digits.{number-head, number-below}
+use Rattle.rpki_der.proofs.Reading.Digits.{number-head, number-below, at_least}
 use Rattle.rpki_der.proofs.Writing.Lengths.{test}
 use Rattle.rpki_der.proofs.Writing.Numbers.{integer-is, digits-unique}
 use Rattle.rpki_der.proofs.Writing.Numbers.{length-integer_contents}
@@ -254,9 +254,6 @@ between x xs h =
     let e = number-head x xs in
     let b : number 0 xs < 256 ^ length xs = number-below xs h.1 in
     record { least = omega (arith, e); most = omega (arith, e, b) }
-
-at_least : (d b : ℕ) → 1 ≤ d → b ≤ d * b
-at_least d b h = grind arith
 
 power-least : (d : List ℕ) → IsBytes d → 0 < get_or d 0 0 → 256 ^ (length d - 1) ≤ number 0 d
 power-least [] h some = absurd (omega (arith, some))

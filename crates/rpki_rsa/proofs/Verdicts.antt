@@ -2,7 +2,7 @@
 use Rattle.std.proofs.Common.{◌≡◌, ℕ, List, refl, subst, sym}
 use Rattle.std.proofs.Common.{Bool, true, false}
 use Rattle.std.specs.Prelude.{Decides, ◌&&◌}
-use Rattle.std.proofs.lemmas.Bool.{leb-true, ltb-true, eqb-true, le-leb, lt-ltb, eq-eqb}
+use Rattle.std.proofs.lemmas.Bool.{leb-true, ltb-true, eqb-true, le-leb, lt-ltb, eq-eqb, and_from}
 use Rattle.std.proofs.lemmas.Slice.Eq.{bytes_eq-Decides}
 use Rattle.rpki_rsa.specs.Signature.{rsa_key_octets, modulus_in, IsRsaKey, IsSignatureOf}
 use Rattle.rpki_rsa.specs.Signature.{IsRsaSignature, is_rsa_key, is_signature_of, is_rsa_signature}
@@ -15,10 +15,6 @@ first-of false b h = cc
 pub second-of : (a b : Bool) → (a && b) ≡ true → b ≡ true
 second-of true b h = h
 second-of false b h = cc
-
-both : (a b : Bool) → a ≡ true → b ≡ true → (a && b) ≡ true
-both true b e h = h
-both false b e h = cc
 
 pub key-test : (key : List ℕ) (n : ℕ) → Decides (is_rsa_key key n) (IsRsaKey key n)
 unfolding is_rsa_key
@@ -34,9 +30,9 @@ key-test key n = (
           odd = eqb-true _ _ (second-of _ _ b);
         };
       },
-  λ h. both _ _ ((bytes_eq-Decides key (rsa_key_octets n)).1 h.octets)
-      (both _ _ (le-leb _ _ h.modulus.least)
-      (both _ _ (lt-ltb _ _ h.modulus.most) (eq-eqb _ _ h.modulus.odd))),
+  λ h. and_from _ _ ((bytes_eq-Decides key (rsa_key_octets n)).1 h.octets)
+      (and_from _ _ (le-leb _ _ h.modulus.least)
+      (and_from _ _ (lt-ltb _ _ h.modulus.most) (eq-eqb _ _ h.modulus.odd))),
 )
 
 signed-test : (n : ℕ) (message signature : List ℕ)
@@ -54,9 +50,9 @@ signed-test n message signature = (
         below = ltb-true _ _ (first-of _ _ b);
         power = eqb-true _ _ (second-of _ _ b);
       },
-  λ h. both _ _ (le-leb _ _ h.long.least)
-      (both _ _ (lt-ltb _ _ h.long.most)
-      (both _ _ (lt-ltb _ _ h.below) (eq-eqb _ _ h.power))),
+  λ h. and_from _ _ (le-leb _ _ h.long.least)
+      (and_from _ _ (lt-ltb _ _ h.long.most)
+      (and_from _ _ (lt-ltb _ _ h.below) (eq-eqb _ _ h.power))),
 )
 
 pub signature-test : (key message signature : List ℕ)
@@ -70,7 +66,7 @@ signature-test key message signature = (
   },
   λ h.
       let same : h.n ≡ modulus_in key = sym (modulus-is key h.n h.key_is) in
-      both _ _
+      and_from _ _
       ((key-test key (modulus_in key)).1 (subst (λ (m : ℕ). IsRsaKey key m) same h.key_is))
       ((signed-test (modulus_in key) message signature).1
       (subst (λ (m : ℕ). IsSignatureOf m message signature) same h.signed)),

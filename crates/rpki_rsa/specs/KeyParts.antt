@@ -5,7 +5,7 @@ use Rattle.rpki_der.specs.Numbers.{number}
 use Rattle.rpki_der.specs.Tags.{SEQUENCE, INTEGER}
 use Rattle.rpki_der.specs.Write.Written.{not_negative}
 use Rattle.rpki_rsa.specs.Signature.{key_with, IsRsaKey, HasOctets, least_octets, most_octets}
-use Rattle.rpki_rsa.specs.Signature.{header_octets, octets_behind}
+use Rattle.rpki_rsa.specs.Signature.{header_octets, octets_after}
 
 -- the first octet of a length that has two octets more (X.690, section 8.1.3.5)
 abbrev pub length_of_two_octets : ℕ
@@ -18,7 +18,7 @@ header identifier k = identifier ∷ length_of_two_octets ∷ k / 256 ∷ k % 25
 
 -- the octets in front of this number of octets of a modulus' contents, which are 256 to 513
 abbrev pub key_front : ℕ → List ℕ
-key_front k = header SEQUENCE (k + (header_octets + octets_behind)) ++ header INTEGER k
+key_front k = header SEQUENCE (k + (header_octets + octets_after)) ++ header INTEGER k
 
 -- the INTEGER 65537
 abbrev pub key_end : List ℕ

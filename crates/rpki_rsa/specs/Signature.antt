@@ -138,13 +138,13 @@ header_octets = 4
 abbrev pub octets_before : ℕ
 octets_before = header_octets + header_octets
 
--- how many octets of a key stand behind the contents of the modulus: the INTEGER 65537
-abbrev pub octets_behind : ℕ
-octets_behind = 5
+-- how many octets of a key stand after the contents of the modulus: the INTEGER 65537
+abbrev pub octets_after : ℕ
+octets_after = 5
 
 -- the contents of the modulus of a key
 abbrev pub contents_in : List ℕ → List ℕ
-contents_in key = take (length key - (octets_before + octets_behind)) (drop octets_before key)
+contents_in key = take (length key - (octets_before + octets_after)) (drop octets_before key)
 
 -- the number of the modulus of a key
 abbrev pub modulus_in : List ℕ → ℕ

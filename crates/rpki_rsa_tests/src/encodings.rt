@@ -124,7 +124,7 @@ pub static ENCODINGS: [(&str, &[u8], &[u8], &[u8]); 15] = [
         \xE3\x20\x05\x13\x85\xD2\x5F\x14\x9C\xEC\x82\x4D\x0B\xA5",
     ),
     (
-        "an octet behind the digest",
+        "an octet after the digest",
         KEY_2048,
         b"abc",
         b"\x4B\xE1\x2C\x2D\xA1\x3A\x61\xD6\x70\xA6\x0E\x91\x54\x8B\x00\x0A\x3A\x04\x0D\xBE\xFE\xD2\
@@ -141,7 +141,7 @@ pub static ENCODINGS: [(&str, &[u8], &[u8], &[u8]); 15] = [
         \xCB\x76\xB7\xED\x56\x96\xFE\x5D\xAB\xE6\x5A\xE1\x08\x91",
     ),
     (
-        "eight octets of padding, and others behind the digest",
+        "eight octets of padding, and others after the digest",
         KEY_2048,
         b"abc",
         b"\x8C\xF4\xDD\xF0\x26\x7D\xCB\x57\x4F\xCE\xA2\xE5\x0B\xDF\x1D\x2B\x2F\x5F\xE0\x93\x20\x1D\
@@ -209,7 +209,7 @@ pub static ENCODINGS: [(&str, &[u8], &[u8], &[u8]); 15] = [
         \xEB\x2E\x25\xDF\x57\xDA\xF2\x86\x09\xE7\x61\xB1\x2B\x71",
     ),
     (
-        "no zero behind the padding",
+        "no zero after the padding",
         KEY_2048,
         b"abc",
         b"\x03\x3D\x18\x4F\x9F\xCC\x44\xBE\x51\xC0\xF8\xB1\xEA\x79\x25\xEC\x44\xBE\x43\xFD\x53\x74\
@@ -226,7 +226,7 @@ pub static ENCODINGS: [(&str, &[u8], &[u8], &[u8]); 15] = [
         \x7E\xA6\x90\x2C\xD1\x74\x1D\x09\x79\x63\x6E\x15\x1D\x7F",
     ),
     (
-        "two zeros behind the padding",
+        "two zeros after the padding",
         KEY_2048,
         b"abc",
         b"\x51\x1A\x7A\x61\x2F\xDB\xB1\x67\xBD\x80\x3A\x65\x4E\x85\x47\xA9\xA4\xFB\x5A\x2A\x27\x0C\
@@ -243,7 +243,7 @@ pub static ENCODINGS: [(&str, &[u8], &[u8], &[u8]); 15] = [
         \xB2\x43\xA4\xCA\x3A\xCD\x21\x10\x9E\x38\xC1\x26\x72\x29",
     ),
     (
-        "another octet behind the padding",
+        "another octet after the padding",
         KEY_2048,
         b"abc",
         b"\x62\x93\x51\x39\xC9\x0E\xC7\xBC\x45\x87\x45\x13\x32\xE4\xE5\x1D\xF3\x6A\x3D\x92\x6A\x7C\

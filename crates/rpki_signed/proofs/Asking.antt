@@ -29,10 +29,10 @@ module _ {X : Type 0} (before : List (Check ValidationError)) (IsValid : Validat
 
   module _ (all : AllHold before) (valid : Validated) (is : IsValid valid)
       (said : Result (Unit {0}) ValidationError) (says : Says said) where
-    -- the question, or a check behind it, is answered by a no
-    pub refused-behind : (fault : ValidationError)
+    -- the question, or a check after it, is answered by a no
+    pub refused-after : (fault : ValidationError)
         → IsFirstFault (said_checks said ++ held valid.sets) fault → Answers (Err fault)
-    refused-behind fault h = inr (record {
+    refused-after fault h = inr (record {
       valid = valid;
       said = said;
       asked = λ _. (is, says);

@@ -4,6 +4,7 @@ use Rattle.std.proofs.Common.{Bool, true, false, refl, subst, sym, ◌∙◌, ar
 use Rattle.std.specs.Prelude.{◌↔◌, ◌||◌, ◌&&◌, All}
 use Rattle.std.proofs.lemmas.List.Elements.{All-nil, All-cons, All-head, All-tail}
 use Rattle.std.proofs.Math.Pow.{pow_pos}
+use Rattle.std.proofs.lemmas.Bool.{or_left}
 use Rattle.rpki_resources.specs.declared.block.Block.{Block}
 use Rattle.rpki_resources.specs.declared.family.AddressFamily.{AddressFamily}
 use Rattle.rpki_resources.specs.declared.family.AddressFamily.TheVariants.{Ipv4, Ipv6}
@@ -151,10 +152,6 @@ and-left : (x y : Bool) → (x && y) ≡ true → x ≡ true
 and-left true y e = refl
 and-left false y e = e
 
-or-left : (x y : Bool) → x ≡ true → (x || y) ≡ true
-or-left true y e = refl
-or-left false y e = absurd cc
-
 -- what is left of a claim lies in it
 left-claimed : (policy : Overclaim) (named issuer set : List (Block ℕ))
     → IsLeft (λ (n : ℕ). n) policy named issuer set → Covers (λ (n : ℕ). n) named set
@@ -170,7 +167,7 @@ none-in-empty n h = absurd cc
 -- a canonical set without numbers is empty
 pub empty-of : (set : List (Block ℕ)) → IsCanonical (λ (n : ℕ). n) set → HasNone set → set ≡ []
 empty-of [] c h = refl
-empty-of (b ∷ bs) c h = absurd (h b.min (or-left (is_between b.min b.max b.min)
+empty-of (b ∷ bs) c h = absurd (h b.min (or_left (is_between b.min b.max b.min)
     (holds (λ (n : ℕ). n) bs b.min)
     (between_in b.min b.max b.min (omega arith) c.1)))
 

@@ -33,10 +33,10 @@ module _ {X : Type 0} (type : List ℕ) (form : List ℕ → X → Type 0) (mode
         subst (λ (o : SignedObject). Front form o.signed.content y.content f.2.1.0) same.0 f.2.1.1
 
     -- the object with what its content begins with
-    pub whole-found : (x : X) (behind : List ℕ) → IsOnlyFront form s.signed.content x behind
+    pub whole-found : (x : X) (after : List ℕ) → IsOnlyFront form s.signed.content x after
         → IsOnlyFront (ObjectForm type form mode) octets (record { object = s; content = x }) rest
-    whole-found x behind c = record {
-      found = (only.found.0, only.found.1, (only.found.2, (behind, c.found)));
+    whole-found x after c = record {
+      found = (only.found.0, only.found.1, (only.found.2, (after, c.found)));
       only = λ y other f.
           let same = only.only y.object other (f.0, f.1, f.2.0) in
           let content = c.only y.content f.2.1.0 (content-of y other f) in
@@ -57,14 +57,14 @@ module _ {X : Type 0} (type : List ℕ) (form : List ℕ → X → Type 0) (mode
 pub kept-whole : {R X : Type 0} (type : List ℕ) (form : R → List ℕ → X → Type 0) (rule : R)
     (k : KeptObject) (mode : Mode) (octets rest : List ℕ) → k.mode ≡ mode
     → IsOnlyFront (SignedFormOf type mode) octets k.object rest
-    → (x : X) (behind : List ℕ) → IsOnlyFront (form rule) k.object.signed.content x behind
+    → (x : X) (after : List ℕ) → IsOnlyFront (form rule) k.object.signed.content x after
     → IsKeptWhole type form (record { object = k; content = x })
-kept-whole type form rule k mode octets rest e front x behind content =
+kept-whole type form rule k mode octets rest e front x after content =
     let o = front.found in (
       rule,
       (
         subst (λ (m : Mode). SignedFormOf type m k.object.octets k.object) (sym e)
             (subst (λ (l : List ℕ). SignedFormOf type mode l k.object) (sym o.2.0.0) o.2),
-        (behind, content.found),
+        (after, content.found),
       ),
     )

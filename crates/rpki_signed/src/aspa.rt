@@ -140,7 +140,7 @@ impl Content for AsProviderAttestation {
 impl Signed<AsProviderAttestation> {
     /// Reads the ASPA at the front of the source, by the rules of DER where it is read strictly,
     /// and else by those of BER; its content is in DER (sections 2 and 3 of the profile), with at
-    /// most as many providers as the limit says. Octets behind it are left, and so are those behind
+    /// most as many providers as the limit says. Octets after it are left, and so are those after
     /// what the content says.
     ///
     /// Refuses by `WrongContentType` where the object has another type, by what signed objects and

@@ -134,7 +134,7 @@ impl Content for ResourceSignedChecklist {
 impl Signed<ResourceSignedChecklist> {
     /// Reads the checklist at the front of the source, by the rules of DER where it is read
     /// strictly, and else by those of BER; its content is in DER (RFC 9323, sections 3 and 4).
-    /// Octets behind it are left, and so are those behind what the content says.
+    /// Octets after it are left, and so are those after what the content says.
     ///
     /// Refuses by `WrongContentType` where the object has another type, by what signed objects and
     /// contents of checklists are refused by, or by `Memory`.

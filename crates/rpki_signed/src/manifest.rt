@@ -73,7 +73,7 @@ impl Content for ManifestContent {
 impl Signed<ManifestContent> {
     /// Reads the manifest at the front of the source, by the rules of DER where it is read
     /// strictly, and else by those of BER; its content is in DER (RFC 9286, section 4), with the
-    /// names of files that the rule takes. Octets behind it are left, and so are those behind what
+    /// names of files that the rule takes. Octets after it are left, and so are those after what
     /// the content says.
     ///
     /// Refuses by `WrongContentType` where the object has another type, by what signed objects and

@@ -147,8 +147,8 @@ impl Content for RouteOriginAttestation {
 
 impl Signed<RouteOriginAttestation> {
     /// Reads the ROA at the front of the source, by the rules of DER where it is read strictly, and
-    /// else by those of BER; its content is in DER (RFC 9582, sections 3 and 4). Octets behind it
-    /// are left, and so are those behind what the content says.
+    /// else by those of BER; its content is in DER (RFC 9582, sections 3 and 4). Octets after it
+    /// are left, and so are those after what the content says.
     ///
     /// Refuses by `WrongContentType` where the object has another type, by what signed objects and
     /// contents of ROAs are refused by, or by `Memory`.

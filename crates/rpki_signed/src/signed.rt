@@ -81,8 +81,8 @@ fn read_content<T: Content>(
 
 impl<T: Content> Signed<T> {
     /// Reads the object at the front of the source, by the rules of DER where it is read strictly,
-    /// and else by those of BER; its content is in DER. Octets behind it are left, and so are those
-    /// behind what the content says.
+    /// and else by those of BER; its content is in DER. Octets after it are left, and so are those
+    /// after what the content says.
     pub fn read(
         alloc: Global,
         source: Bytes,

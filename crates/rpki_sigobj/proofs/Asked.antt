@@ -17,13 +17,13 @@ RefusesThen memory checks fault Later =
     (fault ≡ memory) ⊎ (IsFirstFault checks fault ⊎ (AllHold checks × Later))
 
 module _ {F : Type 0} (memory : F) (checks : List (Check F)) (fault : F) where
-  -- the same, behind checks that hold
-  pub refuses-behind : {Later : Type 0} (front : List (Check F)) → AllHold front
+  -- the same, after checks that hold
+  pub refuses-after : {Later : Type 0} (front : List (Check F)) → AllHold front
       → RefusesThen memory checks fault Later → RefusesThen memory (front ++ checks) fault Later
-  refuses-behind front held (inl h) = inl h
-  refuses-behind front held (inr (inl h)) =
+  refuses-after front held (inl h) = inl h
+  refuses-after front held (inr (inl h)) =
       inr (inl (first-join front checks fault (inr (held, h))))
-  refuses-behind front held (inr (inr h)) = inr (inr (hold-join front checks (held, h.0), h.1))
+  refuses-after front held (inr (inr h)) = inr (inr (hold-join front checks (held, h.0), h.1))
 
   -- the same, where more follows a yes
   pub refuses-anyway : {No Yes Later : Type 0}

@@ -23,13 +23,10 @@ use Rattle.rpki_sigobj.specs.SignerInfo.{typed_attrs_at}
 use Rattle.rpki_sigobj.specs.SignerInfo.{signer_fields_at, signer_info_at}
 use Rattle.rpki_sigobj.specs.Object.{SignedData, ContentForm, SignedDataForm, SignedForm}
 use Rattle.rpki_sigobj.specs.Object.{SetOfOne, id_signed_data}
-use Rattle.rpki_sigobj.specs.Object.{content_fields_at, content_at, behind_content_at}
+use Rattle.rpki_sigobj.specs.Object.{content_fields_at, content_at, after_content_at}
 use Rattle.rpki_sigobj.specs.Object.{signed_fields_at, signed_at, info_fields_at, info_at}
 use Rattle.rpki_sigobj.specs.Object.{object_of, object_at}
-
-key-id-part : IsPart (is (context_primitive 0)) nothing key_id_at KeyIdForm
-key-id-part = pass (λ (id : List ℕ). eqb (length id) 20) (contents-part (context_primitive 0))
-    (λ id. Decides-eqb (length id) 20)
+use Rattle.rpki_extensions.proofs.Values.{key-id-part}
 
 typed-attrs-part : (type : List ℕ)
     → IsPart (is (context 0)) nothing (typed_attrs_at type) (TypedAttrsForm type)
@@ -65,7 +62,7 @@ abbrev OneSigner : List ℕ → Mode → List ℕ → SignerInfo → Type 0
 OneSigner type mode octets s = SetOfOne mode (λ i. SignerInfoForm type mode i s) octets
 
 signed-part : IsPart (is SEQUENCE) nothing signed_at SignedDataForm
-unfolding signed_fields_at behind_content_at
+unfolding signed_fields_at after_content_at
 signed-part = within SEQUENCE (
     fixed (this-part 3 (omega arith)) (
     fixed (in-tag SET digest-part) (

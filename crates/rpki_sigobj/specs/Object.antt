@@ -108,9 +108,9 @@ content_fields_at mode bytes = do
 abbrev pub content_at : Parser (List ℕ × List ℕ)
 content_at = sequence_at content_fields_at
 
--- the certificate and what the signer says, behind this content
-unfoldable pub behind_content_at : List ℕ × List ℕ → Parser SignedData
-behind_content_at content mode bytes = do
+-- the certificate and what the signer says, after this content
+unfoldable pub after_content_at : List ℕ × List ℕ → Parser SignedData
+after_content_at content mode bytes = do
   cert ← context_at 0 cert_at mode bytes
   signer ← set_at (signer_info_at content.0) mode cert.1
   Some (
@@ -129,7 +129,7 @@ signed_fields_at mode bytes = do
   version ← version_at mode bytes
   algorithm ← set_at digest_algorithm_at mode version.1
   content ← content_at mode algorithm.1
-  behind_content_at content.0 mode content.1
+  after_content_at content.0 mode content.1
 
 -- what is signed
 abbrev pub signed_at : Parser SignedData

@@ -91,7 +91,7 @@ fn read_front(alloc: Global, source: Bytes, mode: Mode) -> Result<SignedObject, 
 
 impl SignedObject {
     /// Reads the signed object at the front of the source, by the rules of DER where it is read
-    /// strictly, and else by those of BER (RFC 5652, section 3; RFC 6488, section 2). Octets behind
+    /// strictly, and else by those of BER (RFC 5652, section 3; RFC 6488, section 2). Octets after
     /// it are left. Refuses as `take_from` does.
     pub fn decode(alloc: Global, source: Bytes, strict: bool) -> Result<SignedObject, DecodeError>
         ensures decodes { Decodes (SignedForm (mode_of strict)) (λ o. o.object) source result }

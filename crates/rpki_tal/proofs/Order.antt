@@ -74,7 +74,7 @@ rsync-ties (Rsync u) = refl
 abbrev AllLater : List TalUri → Type 0
 AllLater us = (k : ℕ) (d : TalUri) → k < length us → is_later (get_or us k d) ≡ true
 
--- no https URI stands behind another URI
+-- no https URI stands after another URI
 abbrev InOrder : List TalUri → Type 0
 InOrder us = (k : ℕ) (d : TalUri) → k + 1 < length us
     → is_lt (bool_cmp (is_later (get_or us (k + 1) d)) (is_later (get_or us k d))) ≡ false

@@ -44,8 +44,8 @@ IsGoodByList kind digest verdict issuer now list o = (v : Validated)
     × IsGood kind Der digest verdict issuer now o v × IsUnrevoked list o.object.signed.cert
 
 -- What is answered by a look at the content of the object that octets begin with, in DER: P, where
--- the object is good and not revoked. Want of memory aside, `Decode` means that they begin with no
--- object of this kind, and `Validation` that they begin with one that is not good or is revoked.
+-- the object is good and not revoked. Unless memory runs out, `Decode` means that they begin with
+-- no object of this kind, and `Validation` that they begin with one that is not good or is revoked.
 abbrev pub LooksInto : {X T : Type 0} → Kind X → (List ℕ → X → Type 0) → Digester → Verdict
     → Validated → Moment → RevocationList → (T → X → Type 0) → List ℕ → Result T CheckError
     → Type 0

@@ -5,14 +5,9 @@ use Rattle.std.specs.List.{concat}
 use Rattle.std.specs.Simd.{first_chunks}
 use Rattle.std.proofs.lemmas.List.{length-append, length-drop, take-append-drop}
 use Rattle.std.proofs.Math.Seq.{drop-append_seam, take-append_seam}
+use Rattle.std.proofs.lemmas.List.Elements.{All-head, All-tail}
 use Rattle.rpki_verdicts.specs.Verdicts.{IsLine, AreVerdicts}
 use Rattle.rpki_verdicts.proofs.Line.{line-length}
-
-rest-of : {X : Type 0} (P : X → Type 0) (x : X) (xs : List X) → All P (x ∷ xs) → All P xs
-rest-of P x xs h = λ k d l. h (suc k) d (omega (arith, l))
-
-first-of : {X : Type 0} (P : X → Type 0) (x : X) (xs : List X) → All P (x ∷ xs) → P x
-first-of P x xs h = h 0 x (omega arith)
 
 joined : (k : ℕ) (text : List ℕ) → length text ≡ k * 195 → concat (first_chunks 195 k text) ≡ text
 joined zero [] e = refl
@@ -28,22 +23,22 @@ cut-length (line ∷ lines) h =
     omega (
       arith,
       length-append line (concat lines),
-      line-length line (first-of IsLine line lines h),
-      cut-length lines (rest-of IsLine line lines h),
+      line-length line (All-head IsLine line lines h),
+      cut-length lines (All-tail IsLine line lines h),
     )
 
 cut : (lines : List (List ℕ)) → All IsLine lines
     → first_chunks 195 (length lines) (concat lines) ≡ lines
 cut [] h = refl
 cut (line ∷ lines) h =
-    let long = line-length line (first-of IsLine line lines h) in
+    let long = line-length line (All-head IsLine line lines h) in
     let a : take 195 (line ++ concat lines) ≡ line =
     subst (λ (n : ℕ). take n (line ++ concat lines) ≡ line) long
     (take-append_seam line (concat lines)) in
     let b : drop 195 (line ++ concat lines) ≡ concat lines =
     subst (λ (n : ℕ). drop n (line ++ concat lines) ≡ concat lines) long
     (drop-append_seam line (concat lines)) in
-    let r = cut lines (rest-of IsLine line lines h) in
+    let r = cut lines (All-tail IsLine line lines h) in
     cc
 
 nothing : (rest : List ℕ) → (length rest == 0) ≡ true → length rest ≡ 0

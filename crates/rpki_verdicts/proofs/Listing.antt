@@ -5,7 +5,7 @@ use Rattle.std.proofs.Common.{sym, ap, ◌∙◌, arith, append_assoc, length-ap
 use Rattle.std.specs.Prelude.{bytes_eq, ◌&&◌, nat_lt}
 use Rattle.std.specs.Bool.{Decides}
 use Rattle.std.specs.List.{Contains}
-use Rattle.std.proofs.lemmas.Bool.Decides.{Decides-ltb}
+use Rattle.std.proofs.lemmas.Bool.Decides.{Decides-ltb, Decides-and}
 use Rattle.std.proofs.lemmas.List.Folds.{list_any_at}
 use Rattle.std.proofs.lemmas.Map.Views.{Contains-from_any}
 use Rattle.std.proofs.lemmas.Slice.Eq.{bytes_eq-Decides}
@@ -27,14 +27,10 @@ line-decided lines line = (
   λ h. list_any_at (bytes_eq line) lines h.0 line h.1 ((bytes_eq-Decides line _).1 (sym h.2)),
 )
 
-both : {P Q : Type 0} (a b : Bool) → Decides a P → Decides b Q → Decides (a && b) (P × Q)
-both true b d e = (λ h. (d.0 refl, e.0 h), λ p. e.1 p.1)
-both false b d e = (λ h. absurd cc, λ p. d.1 p.0)
-
 pub listed-decided : (lines : List (List ℕ)) (key message signature : List ℕ)
     → Decides (is_listed lines key message signature) (IsListed lines key message signature)
 listed-decided lines key message signature =
-    let d = both (nat_lt (length (key_contents key)) (2 ^ 32)) _
+    let d = Decides-and (nat_lt (length (key_contents key)) (2 ^ 32)) _
     (Decides-ltb (length (key_contents key)) (2 ^ 32))
     (line-decided lines
     (line_of (digest_text (key_octets key)) (digest_text message) (digest_text signature))) in (

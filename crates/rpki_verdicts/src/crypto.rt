@@ -45,13 +45,6 @@ impl Crypto for Verdicts<'_> {
     }
 }
 
-/// What a yes of a list means.
-pub fn listed_verdicts()
-    ensures { (lines : List (List ℕ)) (key message signature : List ℕ) →
-        IsTrue (is_listed lines key message signature)
-        ↔ IsListed lines key message signature }
-{}
-
 /// Whether the list says yes to this signature of the message by the key with these bits.
 fn is_listed(list: &Verdicts<'_>, key: &[u8], message: &[u8], signature: &[u8]) -> bool
     ensures { IsTrue result ↔ IsListed list.now key.now message.now signature.now }

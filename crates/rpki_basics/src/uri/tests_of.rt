@@ -31,7 +31,7 @@ pub fn are_uri_octets(text: &[u8]) -> bool
 }
 
 // What follows this scheme, in any letters, and its colon.
-pub fn behind_scheme<'a>(scheme: &[u8], text: &'a [u8]) -> Option<&'a [u8]>
+pub fn after_scheme<'a>(scheme: &[u8], text: &'a [u8]) -> Option<&'a [u8]>
     requires { map to_ascii_lowercase scheme.now ≡ scheme.now }
     ensures { MatchOption result (¬ HasScheme scheme.now text.now)
         (λ rest. Follows scheme.now text.now rest.now) }
@@ -51,7 +51,7 @@ pub fn behind_scheme<'a>(scheme: &[u8], text: &'a [u8]) -> Option<&'a [u8]>
 }
 
 // What follows two slashes.
-fn behind_slashes(text: &[u8]) -> Option<&[u8]>
+fn after_slashes(text: &[u8]) -> Option<&[u8]>
     ensures { MatchOption result ((rest : List ℕ) → text.now ≡ codes "//" ++ rest → ⊥)
         (λ rest. text.now ≡ codes "//" ++ rest.now) }
 {
@@ -122,21 +122,21 @@ fn is_https(text: &[u8]) -> bool
     !authority.is_empty()
 }
 
-// Whether the octets behind `rsync:` are two slashes, an authority, a module and a path.
+// Whether the octets after `rsync:` are two slashes, an authority, a module and a path.
 pub fn goes_on_as_rsync(text: &[u8]) -> bool
     ensures { IsTrue result ↔ GoesOn AreRsyncSegments text.now }
 {
-    match behind_slashes(text) {
+    match after_slashes(text) {
         None => false,
         Some(rest) => is_rsync(rest),
     }
 }
 
-// Whether the octets behind `https:` are two slashes, an authority, and anything after it.
+// Whether the octets after `https:` are two slashes, an authority, and anything after it.
 pub fn goes_on_as_https(text: &[u8]) -> bool
     ensures { IsTrue result ↔ GoesOn AreHttpsSegments text.now }
 {
-    match behind_slashes(text) {
+    match after_slashes(text) {
         None => false,
         Some(rest) => is_https(rest),
     }

@@ -2,30 +2,14 @@
 use Rattle.std.proofs.Common.{◌≡◌, ◌≢◌, ℕ, Bool, true, false, List, [], ◌∷◌, ◌++◌, inl, inr, refl}
 use Rattle.std.proofs.Common.{sym, ap, ◌∙◌, eq-eqb}
 use Rattle.std.specs.Prelude.{not, ◌&&◌, ◌||◌, ◌==◌, ◌⊎◌}
-use Rattle.std.proofs.lemmas.Bool.{eqb-true, ne_eqb}
+use Rattle.std.proofs.lemmas.Bool.{eqb-true, ne_eqb, and_parts, or_parts, or_left, not-true}
 use Rattle.rpki_der.specs.Read.Parse.{is_next}
 use Rattle.rpki_der.specs.Form.Law.{TagSet, every, only, is, or, is_one_of, has, NoneNext}
 use Rattle.rpki_der.specs.Form.Law.{StartsIn, Starts, are_apart}
 
-and-true : (a b : Bool) → (a && b) ≡ true → (a ≡ true) × (b ≡ true)
-and-true true b e = (refl, e)
-and-true false b e = absurd cc
-
-not-true : (a : Bool) → not a ≡ true → a ≡ false
-not-true true e = absurd cc
-not-true false e = refl
-
-or-false : (a b : Bool) → (a || b) ≡ false → (a ≡ false) × (b ≡ false)
-or-false true b e = absurd cc
-or-false false b e = (refl, e)
-
 pub or-cases : (a b : Bool) → (a || b) ≡ true → (a ≡ true) ⊎ (b ≡ true)
 or-cases true b e = inl refl
 or-cases false b e = inr e
-
-or-left : (a b : Bool) → a ≡ true → (a || b) ≡ true
-or-left true b e = refl
-or-left false b e = absurd cc
 
 one-of-both : (a b : List ℕ) (tag : ℕ)
     → is_one_of (a ++ b) tag ≡ (is_one_of a tag || is_one_of b tag)
@@ -43,7 +27,7 @@ pub in-neither : (a b : TagSet) (tag : ℕ) → has (or a b) tag ≡ false
 in-neither every b tag e = absurd cc
 in-neither (only x) every tag e = absurd cc
 in-neither (only x) (only y) tag e =
-    or-false (is_one_of x tag) (is_one_of y tag) (sym (one-of-both x y tag) ∙ e)
+    or_parts (is_one_of x tag) (is_one_of y tag) (sym (one-of-both x y tag) ∙ e)
 
 or-true : (a : Bool) → (a || true) ≡ true
 or-true true = refl
@@ -54,7 +38,7 @@ pub in-left : (a b : TagSet) (tag : ℕ) → has a tag ≡ true → has (or a b)
 in-left every b tag e = refl
 in-left (only x) every tag e = refl
 in-left (only x) (only y) tag e = one-of-both x y tag
-    ∙ or-left (is_one_of x tag) (is_one_of y tag) e
+    ∙ or_left (is_one_of x tag) (is_one_of y tag) e
 
 pub in-right : (a b : TagSet) (tag : ℕ) → has b tag ≡ true → has (or a b) tag ≡ true
 in-right every b tag e = refl
@@ -71,7 +55,7 @@ pub none-next : (apart first : TagSet) → are_apart apart first ≡ true → (o
     → ((tag : ℕ) → has first tag ≡ false → is_next tag o ≡ false) → NoneNext apart o
 none-next (only []) first e o h = tt
 none-next (only (tag ∷ tags)) first e o h =
-    let p = and-true (not (has first tag)) (are_apart (only tags) first) e in
+    let p = and_parts (not (has first tag)) (are_apart (only tags) first) e in
     (h tag (not-true (has first tag) p.0), none-next (only tags) first p.1 o h)
 none-next every every e o h = absurd cc
 none-next every (only []) e o h = none-at-all o (λ tag. h tag refl)

@@ -6,6 +6,7 @@ use Rattle.std.specs.Str.{bytes_eq}
 use Rattle.std.proofs.lemmas.Slice.Eq.{bytes_eq-Decides}
 use Rattle.std.proofs.lemmas.List.Elements.{All-nil, All-cons, All-head, All-tail}
 use Rattle.std.proofs.lemmas.List.Kept.{AllPairs-cons}
+use Rattle.std.proofs.lemmas.Bool.{and_parts, cases_Bool, or_parts, not-true}
 use Rattle.rpki_der.proofs.Reading.Lengths.{bind_some, some_is}
 use Rattle.rpki_der.specs.Form.Keyed.{AreDistinct, Keyed, Once, SaysNothing, First, with_key}
 use Rattle.rpki_der.specs.Form.Keyed.{has_key, are_distinct, said_of, said, only_one, said_once}
@@ -13,61 +14,45 @@ use Rattle.rpki_der.specs.Form.Keyed.{first_said, IsSaid}
 
 -- ---- keys
 
-decide : (b : Bool) → (b ≡ true) ⊎ (b ≡ false)
-decide true = inl refl
-decide false = inr refl
-
-and-true : (a b : Bool) → (a && b) ≡ true → (a ≡ true) × (b ≡ true)
-and-true true b e = (refl, e)
-and-true false b e = absurd cc
-
-not-true : (a : Bool) → not a ≡ true → a ≡ false
-not-true true e = absurd cc
-not-true false e = refl
-
-or-false : (a b : Bool) → (a || b) ≡ false → (a ≡ false) × (b ≡ false)
-or-false true b e = absurd cc
-or-false false b e = (refl, e)
-
 same-is : (xs ys : List ℕ) → bytes_eq xs ys ≡ true → xs ≡ ys
 same-is xs ys e = (bytes_eq-Decides xs ys).0 e
 
 same-self : (xs ys : List ℕ) → xs ≡ ys → bytes_eq xs ys ≡ true
 same-self xs ys e = (bytes_eq-Decides xs ys).1 e
 
-differ : (xs ys : List ℕ) → bytes_eq xs ys ≡ false → xs ≢ ys
+pub differ : (xs ys : List ℕ) → bytes_eq xs ys ≡ false → xs ≢ ys
 differ xs ys f e = let both : true ≡ false = sym (same-self xs ys e) ∙ f in absurd cc
 
 differ-is : (xs ys : List ℕ) → xs ≢ ys → bytes_eq xs ys ≡ false
-differ-is xs ys ne = elim (decide (bytes_eq xs ys)) [
+differ-is xs ys ne = elim (cases_Bool (bytes_eq xs ys)) [
   | inl t ↦ absurd (ne (same-is xs ys t))
   | inr f ↦ f
 ]
 
 -- ---- some element
 
-any-here : {I : Type 0} (P : I → Type 0) (x : I) (xs : List I) → P x → Any P (x ∷ xs)
+pub any-here : {I : Type 0} (P : I → Type 0) (x : I) (xs : List I) → P x → Any P (x ∷ xs)
 any-here P x xs p = (zero, x, omega arith, refl, p)
 
-any-there : {I : Type 0} (P : I → Type 0) (x : I) (xs : List I) → Any P xs → Any P (x ∷ xs)
+pub any-there : {I : Type 0} (P : I → Type 0) (x : I) (xs : List I) → Any P xs → Any P (x ∷ xs)
 any-there P x xs h = (suc h.0, h.1, omega (arith, h.2), h.3, h.4)
 
-any-cases : {I : Type 0} (P : I → Type 0) (x : I) (xs : List I) → Any P (x ∷ xs) → P x ⊎ Any P xs
+pub any-cases : {I : Type 0} (P : I → Type 0) (x : I) (xs : List I) → Any P (x ∷ xs) → P x ⊎ Any P xs
 any-cases P x xs (zero, y, lt, is, p) = inl (subst P (sym is) p)
 any-cases P x xs (suc k, y, lt, is, p) = inr (k, y, omega (arith, lt), is, p)
 
-none-nil : {I : Type 0} (P : I → Type 0) → Any P [] → ⊥
+pub none-nil : {I : Type 0} (P : I → Type 0) → Any P [] → ⊥
 none-nil P h = absurd (omega (arith, h.2))
 
-none-both : {I : Type 0} (P Q : I → Type 0) (xs : List I) → ((x : I) → P x → Q x → ⊥) → Any P xs
+pub none-both : {I : Type 0} (P Q : I → Type 0) (xs : List I) → ((x : I) → P x → Q x → ⊥) → Any P xs
     → All Q xs → ⊥
 none-both P Q xs f h all = f h.1 h.4 (subst Q h.3 (all h.0 h.1 h.2))
 
-pairs-head : {I : Type 0} (R : I → I → Type 0) (x : I) (xs : List I) → AllPairs R (x ∷ xs)
+pub pairs-head : {I : Type 0} (R : I → I → Type 0) (x : I) (xs : List I) → AllPairs R (x ∷ xs)
     → All (R x) xs
 pairs-head R x xs h = λ k d lt. h zero (suc k) d (omega arith) (omega (arith, lt))
 
-pairs-tail : {I : Type 0} (R : I → I → Type 0) (x : I) (xs : List I) → AllPairs R (x ∷ xs)
+pub pairs-tail : {I : Type 0} (R : I → I → Type 0) (x : I) (xs : List I) → AllPairs R (x ∷ xs)
     → AllPairs R xs
 pairs-tail R x xs h = λ i j d lt le. h (suc i) (suc j) d (omega (arith, lt)) (omega (arith, le))
 
@@ -93,7 +78,7 @@ module _ {I : Type 0} (key : I → List ℕ) where
 
     with-none : (items : List I) → with_key key oid items ≡ None → All Other items
     with-none [] h = All-nil Other
-    with-none (i ∷ items) h = elim (decide (bytes_eq (key i) oid)) [
+    with-none (i ∷ items) h = elim (cases_Bool (bytes_eq (key i) oid)) [
       | inl t ↦ absurd (let both : (let n : Option I = None in
           n) ≡ Some i = sym h ∙ here i items t in cc)
       | inr f ↦ All-cons Other i items (differ (key i) oid f)
@@ -103,7 +88,7 @@ module _ {I : Type 0} (key : I → List ℕ) where
     with-some : (found : I) (items : List I) → with_key key oid items ≡ Some found
         → Any (λ i. (key i ≡ oid) × (i ≡ found)) items
     with-some found [] h = absurd cc
-    with-some found (i ∷ items) h = elim (decide (bytes_eq (key i) oid)) [
+    with-some found (i ∷ items) h = elim (cases_Bool (bytes_eq (key i) oid)) [
       | inl t ↦ any-here (λ x. (key x ≡ oid) × (x ≡ found)) i items
           (same-is (key i) oid t, some_is i found (sym (here i items t) ∙ h))
       | inr f ↦ any-there (λ x. (key x ≡ oid) × (x ≡ found)) i items
@@ -120,7 +105,7 @@ module _ {I : Type 0} (key : I → List ℕ) where
     with-is : (P : I → Type 0) (items : List I) → AreDistinct key items
         → Any (λ i. (key i ≡ oid) × P i) items → (i : I) × (with_key key oid items ≡ Some i) × P i
     with-is P [] once h = absurd (none-nil (λ (i : I). (key i ≡ oid) × P i) h)
-    with-is P (i ∷ items) once h = elim (decide (bytes_eq (key i) oid)) [
+    with-is P (i ∷ items) once h = elim (cases_Bool (bytes_eq (key i) oid)) [
       | inl t ↦ elim (any-cases (λ (x : I). (key x ≡ oid) × P x) i items h) [
         | inl p ↦ (i, here i items t, p.1)
         | inr there ↦ absurd (none-both (λ (x : I). (key x ≡ oid) × P x)
@@ -139,7 +124,7 @@ module _ {I : Type 0} (key : I → List ℕ) where
     has-none : (items : List I) → has_key key oid items ≡ false → All Other items
     has-none [] e = All-nil Other
     has-none (i ∷ items) e =
-        let p = or-false (bytes_eq (key i) oid) (has_key key oid items) e in
+        let p = or_parts (bytes_eq (key i) oid) (has_key key oid items) e in
         All-cons Other i items (differ (key i) oid p.0) (has-none items p.1)
 
     none-has : (items : List I) → All Other items → has_key key oid items ≡ false
@@ -161,7 +146,7 @@ module _ {I : Type 0} (key : I → List ℕ) where
   distinct-decides (i ∷ items) =
       let others = distinct-decides items in (
         (λ e.
-            let p = and-true _ _ e in
+            let p = and_parts _ _ e in
             AllPairs-cons (λ (x y : I). key x ≢ key y) i items
             (turned i items (has-none (key i) items (not-true _ p.0))) (others.0 p.1)),
         λ h.
@@ -218,8 +203,8 @@ module _ {I : Type 0} (key : I → List ℕ) where
     only-sound : (items : List I) (found : I) → only_one key oid items ≡ Some found
         → Once key (λ i (u : Unit {0}). i ≡ found) items oid tt
     only-sound [] found h = absurd cc
-    only-sound (i ∷ items) found h = elim (decide (bytes_eq (key i) oid)) [
-      | inl t ↦ elim (decide (has_key key oid items)) [
+    only-sound (i ∷ items) found h = elim (cases_Bool (bytes_eq (key i) oid)) [
+      | inl t ↦ elim (cases_Bool (has_key key oid items)) [
         | inl u ↦ absurd (let both : (let n : Option I = None in
             n) ≡ Some found = sym (twice i items t u) ∙ h in cc)
         | inr f ↦ (

@@ -86,7 +86,7 @@ skipped-start zero mode o h = absurd h
 skipped-start (suc depth) mode o h = let t = starts-value mode h.0 o h.1 h.2 in
     (t.0, t.1, t.2, refl)
 
--- any value that nests at most so deep
+-- any value that nests at most as deep as the limit
 pub any-part : (depth : ℕ) → IsPart every nothing (skip_at depth) (λ mode o _. Skipped mode depth o)
 any-part depth = part every (reading-skipped depth) (λ mode o _ h. skipped-start depth mode o h)
 

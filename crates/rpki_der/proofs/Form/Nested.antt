@@ -8,7 +8,7 @@ use Rattle.rpki_der.specs.Read.Parse.{Parser, whole, octets_at}
 use Rattle.std.specs.List.{concat}
 use Rattle.rpki_der.specs.Grammar.{IsBytes, Value, BitString, OctetString, Items}
 use Rattle.rpki_der.proofs.Reading.Lengths.{bind_some, some_is}
-use Rattle.rpki_der.proofs.Reading.Exact.{IsBytes-left, IsBytes-right, IsBytes-contents}
+use Rattle.rpki_der.proofs.Reading.Exact.{IsBytes-left, IsBytes-right, IsBytes-contents, whole-some}
 use Rattle.rpki_der.specs.Tags.{OCTET_STRING, OCTET_STRING_IN_PIECES}
 use Rattle.rpki_der.specs.Form.Law.{TagSet, nothing, is, or, IsPart}
 use Rattle.rpki_der.specs.Form.Made.{Begins, OctetStringHolding, BitStringHolding, understood}
@@ -16,12 +16,9 @@ use Rattle.rpki_der.specs.Form.Made.{front_of, all_read}
 use Rattle.rpki_der.proofs.Form.Apart.{none-at-end}
 use Rattle.rpki_der.proofs.Form.Words.{IsUnderstood, understand}
 use Rattle.rpki_der.proofs.Form.Kinds.{octets-part}
+use Rattle.rpki_der.proofs.Reading.Unique.{bytes-both}
 
 -- ---- the octets of a string are octets
-
-both : (a b : List ℕ) → IsBytes a → IsBytes b → IsBytes (a ++ b)
-both [] b h k = k
-both (x ∷ a) b h k = (h.0, both a b h.1 k)
 
 pub contents-bytes : (mode : Mode) (o : List ℕ) (tag : ℕ) (c : List ℕ) → Value mode o tag c
     → IsBytes o → IsBytes c
@@ -33,7 +30,7 @@ pieces-bytes : (G : List ℕ → List ℕ → Type 0) → ((o s : List ℕ) → 
 pieces-bytes G f c [] h bytes = tt
 pieces-bytes G f c (p ∷ parts) h bytes =
     let all : IsBytes (h.0 ++ h.1) = subst IsBytes h.2 bytes in
-    both p (concat parts) (f h.0 p h.3 (IsBytes-left h.0 h.1 all))
+    bytes-both p (concat parts) (f h.0 p h.3 (IsBytes-left h.0 h.1 all))
     (pieces-bytes G f h.1 parts h.4 (IsBytes-right h.0 h.1 all))
 
 pub string-bytes : (depth : ℕ) (mode : Mode) (o s : List ℕ) → OctetString mode depth o s → IsBytes o
@@ -66,11 +63,6 @@ front-understood {X} {first} {p} {G} e = record {
       rw found refl;
   relaxed = λ s x h. h;
 }
-
-whole-some : {X : Type 0} (f : Option (X × List ℕ)) (x : X) → whole f ≡ Some x → f ≡ Some (x, [])
-whole-some None x e = absurd cc
-whole-some (Some (y, [])) x e = let p : y ≡ x = some_is _ _ e in ap (λ (z : _). Some (z, [])) p
-whole-some (Some (y, b ∷ r)) x e = absurd cc
 
 -- all of the octets
 module _ {X : Type 0} {first apart : TagSet} {p : Parser X} {G : Mode → List ℕ → X → Type 0}

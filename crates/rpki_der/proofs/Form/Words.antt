@@ -495,6 +495,31 @@ pub items-all : {X : Type 0} (G : List ℕ → X → Type 0) (P : X → Type 0)
 items-all G P f o [] h = All-nil P
 items-all G P f o (x ∷ xs) h = All-cons P x xs (f h.0 x h.3) (items-all G P f h.1 xs h.4)
 
+-- the items of octets are octets
+pub items-bytes : {X : Type 0} (G : List ℕ → X → Type 0) (o : List ℕ) (xs : List X) → IsBytes o
+    → Items G o xs → Items (λ p x. IsBytes p × G p x) o xs
+items-bytes G o [] bytes h = h
+items-bytes G o (x ∷ xs) bytes h =
+    let parts : IsBytes (h.0 ++ h.1) = subst IsBytes h.2 bytes in (
+      h.0,
+      h.1,
+      h.2,
+      (IsBytes-left h.0 h.1 parts, h.3),
+      items-bytes G h.1 xs (IsBytes-right h.0 h.1 parts) h.4,
+    )
+
+-- the items of one list, and after them those of another
+pub items-join : {X : Type 0} (G : List ℕ → X → Type 0) (o p : List ℕ) (xs ys : List X)
+    → Items G o xs → Items G p ys → Items G (o ++ p) (xs ++ ys)
+items-join G o p [] ys h k = rw h k
+items-join G o p (x ∷ xs) ys h k = (
+  h.0,
+  h.1 ++ p,
+  ap (λ (t : List ℕ). t ++ p) h.2 ∙ append_assoc h.0 h.1 p,
+  h.3,
+  items-join G h.1 p xs ys h.4 k,
+)
+
 -- ---- what is known besides
 
 -- what follows from the form

@@ -16,23 +16,22 @@ use Rattle.rpki_der.specs.Read.Parse.{ia5_of}
 use Rattle.rpki_der.specs.Grammar.{IsBoolean, IsBitString}
 use Rattle.rpki_der.proofs.Reading.Lengths.{chosen, some_is}
 use Rattle.rpki_der.proofs.Reading.Exact.{IsExactContents}
-
-no-some : {X : Type 0} (x : X) → (let o : Option X = None in o) ≡ Some x → ⊥
-no-some x e = cc
+use Rattle.rpki_der.proofs.Writing.Strings.{are-bits}
+use Rattle.rpki_der.proofs.Reading.Scan.{none-is}
 
 -- what passes a test is a some of it
-guarded : {X : Type 0} (test : Bool) (x y : X) → cond test (Some x) None ≡ Some y
+pub guarded : {X : Type 0} (test : Bool) (x y : X) → cond test (Some x) None ≡ Some y
     → (test ≡ true) × (x ≡ y)
 guarded true x y e = (refl, some_is _ _ e)
-guarded false x y e = absurd (no-some y e)
+guarded false x y e = absurd (none-is y e)
 
 -- ---- BOOLEAN
 
 boolean-sound : (mode : Mode) (c : List ℕ) (b : Bool) → boolean_of mode c ≡ Some b
     → IsBoolean mode c b
 unfolding boolean_of
-boolean-sound Der [] b e = absurd (no-some b e)
-boolean-sound Ber [] b e = absurd (no-some b e)
+boolean-sound Der [] b e = absurd (none-is b e)
+boolean-sound Ber [] b e = absurd (none-is b e)
 boolean-sound Der (x ∷ []) b e =
     elim (chosen (nat_eq x 0) (Some false) _ (Some b) e) [
       | inl h ↦ let zero-is : x ≡ 0 = eqb-true _ _ h.0 in
@@ -45,8 +44,8 @@ boolean-sound Ber (x ∷ []) b e =
       | inl h ↦ (x, refl, inl (eqb-true _ _ h.0, sym (some_is _ _ h.1)))
       | inr h ↦ (x, refl, inr (eqb-false _ _ h.0, sym (some_is _ _ h.1)))
     ]
-boolean-sound Der (x ∷ y ∷ c) b e = absurd (no-some b e)
-boolean-sound Ber (x ∷ y ∷ c) b e = absurd (no-some b e)
+boolean-sound Der (x ∷ y ∷ c) b e = absurd (none-is b e)
+boolean-sound Ber (x ∷ y ∷ c) b e = absurd (none-is b e)
 
 boolean-complete : (mode : Mode) (c : List ℕ) (b : Bool) → IsBoolean mode c b
     → boolean_of mode c ≡ Some b
@@ -75,7 +74,7 @@ boolean-ber c b (inr h) = (255, h.0, inr ((λ e. cc), h.1))
 null-sound : (c : List ℕ) (x : Unit {0}) → null_of c ≡ Some x → c ≡ []
 unfolding null_of
 null-sound [] x e = refl
-null-sound (b ∷ c) x e = absurd (no-some x e)
+null-sound (b ∷ c) x e = absurd (none-is x e)
 
 pub exact-null : IsExactContents null_of (λ c (_ : Unit {0}). c ≡ [])
 unfolding null_of
@@ -118,13 +117,9 @@ bits-where : (t : Bool) (octets : List ℕ) (unused : ℕ) → eqb (length octet
 bits-where true octets unused e h = eq-eqb _ _ (h.none (eqb-true _ _ e))
 bits-where false octets unused e h = refl
 
-bits-tested : (octets : List ℕ) (unused : ℕ) → IsBits octets unused → are_bits octets unused ≡ true
-bits-tested octets unused h = let f : ltb unused 8 ≡ true = lt-ltb _ _ h.few in
-    rw f (bits-where (eqb (length octets) 0) octets unused refl h)
-
 bits-sound : (c : List ℕ) (bits : List ℕ × ℕ) → bits_of c ≡ Some bits → IsBitString c bits
 unfolding bits_of
-bits-sound [] bits e = absurd (no-some bits e)
+bits-sound [] bits e = absurd (none-is bits e)
 bits-sound (u ∷ octets) bits e =
     let g = guarded (are_bits octets u) (octets, u) bits e in (
       ap (λ (b : List ℕ × ℕ). b.1 ∷ b.0) g.1,
@@ -133,7 +128,7 @@ bits-sound (u ∷ octets) bits e =
 
 bits-complete : (c : List ℕ) (bits : List ℕ × ℕ) → IsBitString c bits → bits_of c ≡ Some bits
 unfolding bits_of
-bits-complete c bits h = let t : are_bits bits.0 bits.1 ≡ true = bits-tested bits.0 bits.1 h.1 in
+bits-complete c bits h = let t : are_bits bits.0 bits.1 ≡ true = are-bits bits.0 bits.1 h.1 in
     rw (h.0, t) refl
 
 pub exact-bits : IsExactContents bits_of IsBitString
@@ -185,7 +180,7 @@ exact-these oid is = record {
 
 whole-sound : (c string : List ℕ) → whole_octets_of c ≡ Some string → IsBitString c (string, 0)
 unfolding whole_octets_of
-whole-sound [] string e = absurd (no-some string e)
+whole-sound [] string e = absurd (none-is string e)
 whole-sound (unused ∷ octets) string e =
     let g = guarded (eqb unused 0) octets string e in
     let none : unused ≡ 0 = eqb-true _ _ g.0 in (

@@ -45,7 +45,7 @@ below20 ds h l =
     pow-le-pow_right {n = 256} (omega arith) {i = length ds} {j = 20} l in
     omega (arith, a, b)
 
-at_least : (d b : ℕ) → 1 ≤ d → b ≤ d * b
+pub at_least : (d b : ℕ) → 1 ≤ d → b ≤ d * b
 at_least d b h = grind arith
 
 enough20 : (d : ℕ) (ds : List ℕ) → 1 ≤ d → number 0 (d ∷ ds) < 2 ^ 160 → length (d ∷ ds) ≤ 20

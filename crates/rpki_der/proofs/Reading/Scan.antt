@@ -14,7 +14,7 @@ use Rattle.rpki_der.specs.Grammar.{IsLength, Value, Values, definite, indefinite
 use Rattle.rpki_der.proofs.Reading.Lengths.{bind_some, chosen, some_is, contents-sound}
 use Rattle.rpki_der.proofs.Reading.Lengths.{contents-complete, length-first, length-any}
 
-none-is : {A : Type 0} (x : A) → (let n : Option A = None in n) ≡ Some x → ⊥
+pub none-is : {A : Type 0} (x : A) → (let n : Option A = None in n) ≡ Some x → ⊥
 none-is x e = absurd cc
 
 -- an identifier passes the test exactly

@@ -88,7 +88,7 @@ octets-one zero mode o s h = absurd h
 octets-one (suc depth) mode o s (inl h) = (4, s, h)
 octets-one (suc depth) mode o s (inr h) = (36, h.1, h.3)
 
-bytes-both : (a b : List ℕ) → IsBytes a → IsBytes b → IsBytes (a ++ b)
+pub bytes-both : (a b : List ℕ) → IsBytes a → IsBytes b → IsBytes (a ++ b)
 bytes-both [] b h k = k
 bytes-both (x ∷ a) b h k = (h.0, bytes-both a b h.1 k)
 

@@ -65,7 +65,7 @@ bits-whole [] = refl
 bits-whole (a ∷ octets) = ap (λ (ys : List ℕ). 0 ∷ ys) (zero_last-none (a ∷ octets))
 
 -- what reading tests
-are-bits : (octets : List ℕ) (unused : ℕ) → IsBits octets unused → are_bits octets unused ≡ true
+pub are-bits : (octets : List ℕ) (unused : ℕ) → IsBits octets unused → are_bits octets unused ≡ true
 are-bits [] unused h = rw (lt-ltb _ _ h.few) (eq-eqb unused 0 (h.none refl))
 are-bits (a ∷ octets) unused h =
     rw (lt-ltb _ _ h.few, ne_eqb (length (a ∷ octets)) 0 (λ e. absurd (omega (arith, e)))) refl

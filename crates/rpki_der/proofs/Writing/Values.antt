@@ -178,7 +178,7 @@ pub oid-read : (mode : Mode) (oid rest : List ℕ) → IsOid oid → length oid 
 oid-read mode oid rest h short =
     primitive-read 6 oid_of mode oid rest oid (tag-sound 6 refl) short (oid-of oid h)
 
-all-below : (text : List ℕ) → All (λ b. b < 128) text → list_all (λ b. nat_lt b 128) text ≡ true
+pub all-below : (text : List ℕ) → All (λ b. b < 128) text → list_all (λ b. nat_lt b 128) text ≡ true
 all-below [] h = refl
 all-below (b ∷ text) h =
     rw (lt-ltb b 128 (h 0 b (omega arith)))

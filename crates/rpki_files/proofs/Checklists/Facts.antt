@@ -10,7 +10,7 @@ use Rattle.rpki_der.specs.Grammar.{IsBytes, Items, Optional}
 use Rattle.rpki_der.specs.Form.Keyed.{Keyed}
 use Rattle.rpki_der.specs.Form.Made.{Made, Default}
 use Rattle.rpki_der.specs.Form.Parts.{Explicit}
-use Rattle.rpki_der.proofs.Form.Words.{items-all}
+use Rattle.rpki_der.proofs.Form.Words.{items-all, items-bytes}
 use Rattle.rpki_der.proofs.Reading.Exact.{IsBytes-left, IsBytes-right, IsBytes-contents}
 use Rattle.rpki_resources.specs.declared.by_family.ByFamily.{ByFamily}
 use Rattle.rpki_resources.specs.declared.by_family.Entry.{Entry}
@@ -23,18 +23,7 @@ use Rattle.rpki_resources.specs.Families.Read.{no_values}
 use Rattle.rpki_resources.specs.Ip.Form.{IpForm}
 use Rattle.rpki_resources.proofs.Addresses.Within.{set-within}
 use Rattle.rpki_files.specs.Checklist.{Set, NamedForm, or_nothing, sets_of}
-
-items-bytes : {X : Type 0} (G : List ℕ → X → Type 0) (o : List ℕ) (xs : List X) → IsBytes o
-    → Items G o xs → Items (λ p x. IsBytes p × G p x) o xs
-items-bytes G o [] bytes h = h
-items-bytes G o (x ∷ xs) bytes h =
-    let parts : IsBytes (h.0 ++ h.1) = subst IsBytes h.2 bytes in (
-      h.0,
-      h.1,
-      h.2,
-      (IsBytes-left h.0 h.1 parts, h.3),
-      items-bytes G h.1 xs (IsBytes-right h.0 h.1 parts) h.4,
-    )
+use Rattle.rpki_resources.proofs.Families.Gathered.{same-family}
 
 -- the addresses of an entry are those of its family
 abbrev OfItsFamily : Entry Set → Type 0
@@ -51,12 +40,6 @@ entry-facts mode o e (bytes, h) =
     let rest : IsBytes (list.0 ++ list.1) =
     subst IsBytes list.2 (IsBytes-right parts.0 parts.1 both) in
     set-within e.family mode list.0 e.value (IsBytes-left list.0 list.1 rest) list.3
-
-same-family : (a b : AddressFamily) → afi a ≡ afi b → a ≡ b
-same-family Ipv4 Ipv4 e = refl
-same-family Ipv4 Ipv6 e = absurd cc
-same-family Ipv6 Ipv4 e = absurd cc
-same-family Ipv6 Ipv6 e = refl
 
 stands : (entries : List (Entry Set)) → All OfItsFamily entries
     → (family : AddressFamily) (found : Option Set)

@@ -43,6 +43,7 @@ use Rattle.rpki_files.specs.Checklist.{numbers_octets, family_contents, family_o
 use Rattle.rpki_files.specs.Checklist.{families_octets, addresses_octets, named_contents}
 use Rattle.rpki_files.specs.Checklist.{files_octets, checklist_contents, checklist_octets}
 use Rattle.rpki_files.proofs.Names.{portable-below}
+use Rattle.rpki_der.proofs.Form.Words.{items-join}
 
 -- a set that is written in its form, where it is short
 abbrev pub AsWritten : Set → Type 0
@@ -117,15 +118,6 @@ family-items family (b ∷ set) written short = (
   refl,
 )
 
-items-join : {X : Type 0} (G : List ℕ → X → Type 0) (o p : List ℕ) (xs ys : List X) → Items G o xs
-    → Items G p ys → Items G (o ++ p) (xs ++ ys)
-items-join G o p [] ys h k = rw h k
-items-join G o p (x ∷ xs) ys h k = (
-  h.0,
-  h.1 ++ p,
-  ap (λ (t : List ℕ). t ++ p) h.2 ∙ append_assoc h.0 h.1 p,
-  h.3,
-  items-join G h.1 p xs ys h.4 k,
 )
 
 -- ---- both families

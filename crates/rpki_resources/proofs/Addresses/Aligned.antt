@@ -147,13 +147,13 @@ set_within family p a (b ∷ bs) l rises whole small =
     let last : holds n_of (b ∷ bs) b.max ≡ true =
     or_left (within n_of b.max b) (holds n_of bs b.max)
     (between_in b.min b.max b.max rises.1 (omega arith)) in
-    let behind : (n : ℕ) → b.max < n
+    let after : (n : ℕ) → b.max < n
     → within n_of n b ≡ false = λ n m. between_after b.min b.max n m in
     let others : IsWhole k c bs = λ q r s g m n.
     let at : c * k ≤ q * k = mul-le c k q k g (omega arith) in
     let same : holds n_of (b ∷ bs) (q * k + r) ≡ holds n_of (b ∷ bs) (q * k + s) =
     whole q r s (omega (arith, later, g)) m n in
-    rw (behind (q * k + r) (omega (arith, at, next)), behind (q * k + s) (omega (arith, at, next)))
+    rw (after (q * k + r) (omega (arith, at, next)), after (q * k + s) (omega (arith, at, next)))
     at same in
     All-cons (IsWithin family) b bs
     (record {

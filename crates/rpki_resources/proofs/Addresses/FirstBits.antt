@@ -15,7 +15,7 @@ use Rattle.rpki_der.proofs.Writing.Strings.{length_zero_last, bits-written, unus
 use Rattle.rpki_resources.specs.Ip.Form.{bit_count, bit_value, lowest, highest}
 use Rattle.rpki_resources.specs.Ip.Written.{octet_count, first_bits, end_octets}
 use Rattle.rpki_resources.proofs.Addresses.Bits.{number_more}
-use Rattle.rpki_resources.proofs.Addresses.Trailing.{zeros_behind, ones_behind}
+use Rattle.rpki_resources.proofs.Addresses.Trailing.{zeros_after, ones_after}
 
 pow_256-step : (i j : ℕ) → j ≡ i + 1 → 256 ^ i ≡ 2 ^ (8 * i) → 256 ^ j ≡ 2 ^ (8 * j)
 pow_256-step i j e h =
@@ -153,9 +153,9 @@ end_short addr len l =
 pub lowest_end : (addr len : ℕ) → len ≤ 128 → addr < 2 ^ 128 → addr % 2 ^ (128 - len) ≡ 0
     → lowest (end_bits addr len) ≡ addr
 lowest_end addr len l h e =
-    rw (end_value addr len l h, end_count addr len l) (zeros_behind addr (128 - len) e)
+    rw (end_value addr len l h, end_count addr len l) (zeros_after addr (128 - len) e)
 
 pub highest_end : (addr len : ℕ) → len ≤ 128 → addr < 2 ^ 128 → (addr + 1) % 2 ^ (128 - len) ≡ 0
     → highest (end_bits addr len) ≡ addr
 highest_end addr len l h e =
-    rw (end_value addr len l h, end_count addr len l) (ones_behind addr (128 - len) e)
+    rw (end_value addr len l h, end_count addr len l) (ones_after addr (128 - len) e)

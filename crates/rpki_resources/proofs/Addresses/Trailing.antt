@@ -90,8 +90,8 @@ upper_most n = trailing_le 128 (2 ^ 128 - 1 - n)
 -- ---- without the bits, and with them again
 
 -- zeros after the bits of a number that ends in zeros
-pub zeros_behind : (n k : ℕ) → n % 2 ^ k ≡ 0 → n / 2 ^ k * 2 ^ k ≡ n
-zeros_behind n k h = omega (arith, shr_split n k, h)
+pub zeros_after : (n k : ℕ) → n % 2 ^ k ≡ 0 → n / 2 ^ k * 2 ^ k ≡ n
+zeros_after n k h = omega (arith, shr_split n k, h)
 
 -- a multiple of m up to m is m
 all_of_it : (x m : ℕ) → 0 < x → x ≤ m → x % m ≡ 0 → x ≡ m
@@ -108,5 +108,5 @@ rest_of n m pos h =
     all_of_it (n % m + 1) m (omega arith) (omega (arith, mod-lt n pos)) e
 
 -- ones after the bits of a number that ends in ones
-pub ones_behind : (n k : ℕ) → (n + 1) % 2 ^ k ≡ 0 → n / 2 ^ k * 2 ^ k + 2 ^ k - 1 ≡ n
-ones_behind n k h = omega (arith, shr_split n k, rest_of n (2 ^ k) (pow_pos k) h)
+pub ones_after : (n k : ℕ) → (n + 1) % 2 ^ k ≡ 0 → n / 2 ^ k * 2 ^ k + 2 ^ k - 1 ≡ n
+ones_after n k h = omega (arith, shr_split n k, rest_of n (2 ^ k) (pow_pos k) h)

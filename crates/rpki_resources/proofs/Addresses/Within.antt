@@ -24,20 +24,20 @@ use Rattle.rpki_resources.proofs.Addresses.Bits.{small_more, value_below, room_b
 use Rattle.rpki_resources.proofs.Addresses.Exact.{item-block}
 use Rattle.rpki_resources.proofs.Sets.Joining.{joined-all}
 use Rattle.rpki_resources.proofs.Sets.Listed.{set-joined}
-use Rattle.rpki_der.proofs.Form.Words.{items-all}
+use Rattle.rpki_der.proofs.Form.Words.{items-all, items-bytes}
 use Rattle.rpki_der.specs.Tags.{BIT_STRING, SEQUENCE}
 
 -- ---- the ends
 
 -- n digits to base 256 make a number of 8 * n bits
-number_small : (a i : ℕ) (s : List ℕ) → a < 2 ^ (8 * i) → IsBytes s
+pub number_small : (a i : ℕ) (s : List ℕ) → a < 2 ^ (8 * i) → IsBytes s
     → number a s < 2 ^ (8 * (i + length s))
 number_small a i [] l h = let e : i + 0 ≡ i = omega arith in rw e l
 number_small a i (o ∷ s) l h =
     let e : i + length (o ∷ s) ≡ i + 1 + length s = omega arith in
     rw e (number_small (a * 256 + o) (i + 1) s (small_more a o i l h.0) h.1)
 
-value_small : (bits : List ℕ × ℕ) → IsBytes bits.0 → bits.1 < 8
+pub value_small : (bits : List ℕ × ℕ) → IsBytes bits.0 → bits.1 < 8
     → bit_value bits < 2 ^ bit_count bits
 value_small bits h l =
     let e : 0 + length bits.0 ≡ length bits.0 = omega arith in
@@ -122,18 +122,6 @@ merged-within family b c h k = record {
 }
 
 -- ---- a set
-
-items-bytes : {X : Type 0} (G : List ℕ → X → Type 0) (o : List ℕ) (xs : List X) → IsBytes o
-    → Items G o xs → Items (λ p x. IsBytes p × G p x) o xs
-items-bytes G o [] bytes h = h
-items-bytes G o (x ∷ xs) bytes h =
-    let parts : IsBytes (h.0 ++ h.1) = subst IsBytes h.2 bytes in (
-      h.0,
-      h.1,
-      h.2,
-      (IsBytes-left h.0 h.1 parts, h.3),
-      items-bytes G h.1 xs (IsBytes-right h.0 h.1 parts) h.4,
-    )
 
 pub set-within : (family : AddressFamily) (mode : Mode) (o : List ℕ) (set : List (Block ℕ))
     → IsBytes o → IpForm family mode o set → All (IsWithin family) set

@@ -70,9 +70,9 @@ prefix_written most b len l h below p =
     let pos : 0 < 2 ^ (128 - len) = pow_pos (128 - len) in
     let low : lowest (end_bits b.min len) ≡ b.min =
     lowest_end b.min len (omega arith) (omega arith) p.aligned in
-    let behind : 2 ^ (128 - bit_count (end_bits b.min len)) ≡ 2 ^ (128 - len) =
+    let after : 2 ^ (128 - bit_count (end_bits b.min len)) ≡ 2 ^ (128 - len) =
     ap (λ (n : ℕ). 2 ^ (128 - n)) (end_count b.min len (omega arith)) in
-    let high : highest (end_bits b.min len) ≡ b.max = omega (arith, low, behind, p.size) in (
+    let high : highest (end_bits b.min len) ≡ b.max = omega (arith, low, after, p.size) in (
       end_bits b.min len,
       address_written most b.min len l h,
       λ i. record { min = sym low i; max = sym high i },

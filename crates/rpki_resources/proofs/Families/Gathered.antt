@@ -13,35 +13,16 @@ use Rattle.rpki_resources.specs.declared.family.AddressFamily.TheVariants.{Ipv4,
 use Rattle.rpki_resources.specs.Family.Form.{afi}
 use Rattle.rpki_resources.specs.Families.Form.{afi_of, IsValueOf, AreEntries}
 use Rattle.rpki_resources.specs.Families.Read.{gathered, with_value}
-
--- ---- some element
-
-any-here : {I : Type 0} (P : I → Type 0) (x : I) (xs : List I) → P x → Any P (x ∷ xs)
-any-here P x xs p = (zero, x, omega arith, refl, p)
-
-any-there : {I : Type 0} (P : I → Type 0) (x : I) (xs : List I) → Any P xs → Any P (x ∷ xs)
-any-there P x xs h = (suc h.0, h.1, omega (arith, h.2), h.3, h.4)
-
-any-cases : {I : Type 0} (P : I → Type 0) (x : I) (xs : List I) → Any P (x ∷ xs) → P x ⊎ Any P xs
-any-cases P x xs (zero, y, lt, is, p) = inl (subst P (sym is) p)
-any-cases P x xs (suc k, y, lt, is, p) = inr (k, y, omega (arith, lt), is, p)
-
-none-nil : {I : Type 0} (P : I → Type 0) → Any P [] → ⊥
-none-nil P h = absurd (omega (arith, h.2))
-
-none-both : {I : Type 0} (P Q : I → Type 0) (xs : List I) → ((x : I) → P x → Q x → ⊥) → Any P xs
-    → All Q xs → ⊥
-none-both P Q xs f h all = f h.1 h.4 (subst Q h.3 (all h.0 h.1 h.2))
-
-pairs-head : {I : Type 0} (R : I → I → Type 0) (x : I) (xs : List I) → AllPairs R (x ∷ xs)
-    → All (R x) xs
-pairs-head R x xs h = λ k d lt. h zero (suc k) d (omega arith) (omega (arith, lt))
-
-pairs-tail : {I : Type 0} (R : I → I → Type 0) (x : I) (xs : List I) → AllPairs R (x ∷ xs)
-    → AllPairs R xs
-pairs-tail R x xs h = λ i j d lt le. h (suc i) (suc j) d (omega (arith, lt)) (omega (arith, le))
+use Rattle.rpki_der.proofs.Form.Keyed.{any-here, any-cases, none-nil, none-both, pairs-head}
+use Rattle.rpki_der.proofs.Form.Keyed.{pairs-tail, any-there}
 
 -- ---- what stands for a family
+
+pub same-family : (a b : AddressFamily) → afi a ≡ afi b → a ≡ b
+same-family Ipv4 Ipv4 e = refl
+same-family Ipv4 Ipv6 e = absurd cc
+same-family Ipv6 Ipv4 e = absurd cc
+same-family Ipv6 Ipv6 e = refl
 
 four-six : afi Ipv4 ≢ afi Ipv6
 four-six e = absurd cc

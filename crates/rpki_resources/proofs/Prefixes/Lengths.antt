@@ -4,7 +4,7 @@ use Rattle.std.proofs.Common.{true, false, ◌&&◌, refl, sym, ◌∙◌, subst
 use Rattle.std.specs.Int.Count.{count_leading_zeros, leading_unique}
 use native.Mathlib.Numerals.{unary_clauses}
 use Rattle.std.proofs.lemmas.Nat.{pow_pos}
-use Rattle.std.proofs.lemmas.Bool.{eqb-true, eq-eqb}
+use Rattle.std.proofs.lemmas.Bool.{eqb-true, eq-eqb, and_parts, and_from}
 use Rattle.rpki_resources.specs.Prefix.{Network, IsPrefix, is_prefix, below, prefix_len, first_of}
 use Rattle.rpki_resources.specs.Prefix.{last_of}
 
@@ -20,19 +20,12 @@ prefix_leading lo hi len p =
 pub prefix_unique : (lo hi len k : ℕ) → IsPrefix lo hi len → IsPrefix lo hi k → len ≡ k
 prefix_unique lo hi len k p q = prefix_leading lo hi len p ∙ sym (prefix_leading lo hi k q)
 
-and_true : (a b : Bool) → (a && b) ≡ true → (a ≡ true) × (b ≡ true)
-and_true true b e = (refl, e)
-and_true false b e = absurd cc
-
-true_and : (a b : Bool) → a ≡ true → b ≡ true → (a && b) ≡ true
-true_and a b p q = rw (p, q) refl
-
 tested : (lo hi len : ℕ) → len ≤ 128 → is_prefix lo hi len ≡ true → IsPrefix lo hi len
-tested lo hi len l e = let p = and_true _ _ e in
+tested lo hi len l e = let p = and_parts _ _ e in
     record { within = l; aligned = eqb-true _ _ p.0; size = eqb-true _ _ p.1 }
 
 is_tested : (lo hi len : ℕ) → IsPrefix lo hi len → is_prefix lo hi len ≡ true
-is_tested lo hi len p = true_and _ _ (eq-eqb _ _ p.aligned) (eq-eqb _ _ p.size)
+is_tested lo hi len p = and_from _ _ (eq-eqb _ _ p.aligned) (eq-eqb _ _ p.size)
 
 -- one step, by the answer of the test
 step_some : (b : Bool) (n lo hi len : ℕ) → n ≤ 128 → is_prefix lo hi n ≡ b → len < suc n

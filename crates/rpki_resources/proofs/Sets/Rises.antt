@@ -78,9 +78,9 @@ not_covers_before f a b xs y r l v c =
     (holds_below f a (f b.min) xs r l)
 
 -- the first block of the inner set ends after that of the outer set, in which it begins
-pub not_covers_behind : {T : Type 0} (f : T → ℕ) (a b : Block T) (x y : List (Block T))
+pub not_covers_after : {T : Type 0} (f : T → ℕ) (a b : Block T) (x y : List (Block T))
     → RisesFrom f 0 (a ∷ x) → f b.min ≤ f a.max → f a.max < f b.max → Covers f (a ∷ x) (b ∷ y) → ⊥
-not_covers_behind f a b x y r l h c =
+not_covers_after f a b x y r l h c =
     let n : ℕ = f a.max + 1 in
     let k : (within f n a || holds f x n) ≡ true =
     c n (or_left (within f n b) (holds f y n)

@@ -2,7 +2,7 @@
 use Rattle.std.proofs.Common.{◌≡◌, ℕ, true, List, [], ◌∷◌, refl, sym, subst, ◌∙◌}
 use Rattle.std.proofs.Common.{arith}
 use Rattle.std.specs.Prelude.{not, ◌==◌, All}
-use Rattle.std.proofs.lemmas.Bool.{eqb-true, eqb-false}
+use Rattle.std.proofs.lemmas.Bool.{eqb-true, eqb-false, not-true}
 use Rattle.rpki_der.specs.declared.mode.Mode.{Mode}
 use Rattle.rpki_der.specs.declared.mode.Mode.TheVariants.{Der}
 use Rattle.rpki_der.specs.Tags.{INTEGER, SEQUENCE, context}
@@ -21,7 +21,7 @@ use Rattle.rpki_routes.specs.Aspa.{Aspa, IsAttestation, AreProviders}
 use Rattle.rpki_routes.specs.Aspa.Read.{in_order_at, providers_at, fields_at, has_one}
 use Rattle.rpki_routes.specs.Aspa.Read.{after_provider, at_first}
 use Rattle.rpki_lists.specs.Rules.{admits}
-use Rattle.rpki_routes.proofs.Attestations.Providers.{in-order, some-one, not-true, not-is}
+use Rattle.rpki_routes.proofs.Attestations.Providers.{in-order, some-one, not-is}
 
 abbrev aspa : ℕ → List ℕ → Aspa
 aspa customer providers = record { customer = customer; providers = providers }

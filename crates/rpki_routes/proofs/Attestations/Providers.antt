@@ -4,8 +4,9 @@ use Rattle.std.proofs.Common.{◌∷◌, length, Option, None, Some, refl, add-o
 use Rattle.std.specs.Prelude.{◌&&◌, not, ◌==◌, nat_lt, Contains, slice_index, All, Decides}
 use Rattle.std.specs.Prelude.{if◌then◌else◌}
 use Rattle.std.specs.List.Sorted.{IsStrictlyIncreasing}
-use Rattle.std.proofs.lemmas.Bool.{ltb-true, lt-ltb, eqb-true, eqb-false}
+use Rattle.std.proofs.lemmas.Bool.{ltb-true, lt-ltb, eqb-true, eqb-false, and_parts, and_from}
 use Rattle.std.proofs.lemmas.List.Elements.{All-nil, All-cons, All-head, All-tail}
+use Rattle.std.proofs.lemmas.Bool.{not-true}
 use Rattle.rpki_lists.specs.Rules.{admits, goes_on}
 use Rattle.rpki_basics.specs.declared.limits.ProviderLimit.{ProviderLimit}
 use Rattle.rpki_basics.specs.Limits.{most_providers}
@@ -13,17 +14,6 @@ use Rattle.rpki_routes.specs.declared.aspa.providers.InOrder.{InOrder}
 use Rattle.rpki_routes.specs.Aspa.Read.{follows, may_come, after_provider, at_first, has_one}
 
 -- ---- truth values
-
-pub and-true : (a b : Bool) → (a && b) ≡ true → (a ≡ true) × (b ≡ true)
-and-true true b e = (refl, e)
-and-true false b e = absurd cc
-
-pub true-and : (a b : Bool) → a ≡ true → b ≡ true → (a && b) ≡ true
-true-and a b p q = rw (p, q) refl
-
-pub not-true : (a : Bool) → not a ≡ true → a ≡ false
-not-true true e = absurd cc
-not-true false e = refl
 
 pub not-is : (a : Bool) → (a ≡ true → ⊥) → not a ≡ true
 not-is true h = absurd (h refl)
@@ -66,12 +56,12 @@ comes false t xs e h = absurd cc
 chain-more : (last : Option ℕ) (x : ℕ) (xs : List ℕ) → follows last x ≡ true → Chain (Some x) xs
     → Chain last (x ∷ xs)
 chain-more None x xs f h = h
-chain-more (Some a) x xs f h = let p = and-true _ _ f in (ltb-true _ _ p.0, ltb-true _ _ p.1, h)
+chain-more (Some a) x xs f h = let p = and_parts _ _ f in (ltb-true _ _ p.0, ltb-true _ _ p.1, h)
 
 chain-first : (last : Option ℕ) (x : ℕ) (xs : List ℕ) → Chain last (x ∷ xs)
     → (follows last x ≡ true) × Chain (Some x) xs
 chain-first None x xs h = (refl, h)
-chain-first (Some a) x xs h = (true-and _ _ (lt-ltb _ _ h.0) (lt-ltb _ _ h.1), h.2)
+chain-first (Some a) x xs h = (and_from _ _ (lt-ltb _ _ h.0) (lt-ltb _ _ h.1), h.2)
 
 goes-sound : (seen : InOrder) (xs : List ℕ) → seen.count ≤ most_providers seen.limit
     → admits after_provider seen xs ≡ true → Goes seen xs
@@ -79,9 +69,9 @@ goes-sound seen [] le e =
     record { most = omega (arith, le); others = All-nil (λ n. n ≢ seen.customer); chain = tt }
 goes-sound seen (x ∷ xs) le e =
     let c = came (may_come seen x) (next seen x) xs e in
-    let p = and-true (nat_lt seen.count (most_providers seen.limit))
+    let p = and_parts (nat_lt seen.count (most_providers seen.limit))
     (not (x == seen.customer) && follows seen.last x) c.0 in
-    let q = and-true (not (x == seen.customer)) (follows seen.last x) p.1 in
+    let q = and_parts (not (x == seen.customer)) (follows seen.last x) p.1 in
     let room : seen.count < most_providers seen.limit = ltb-true _ _ p.0 in
     let g = goes-sound (next seen x) xs (omega (arith, room)) c.1 in
     record {
@@ -98,8 +88,8 @@ goes-complete seen (x ∷ xs) g =
     let first = chain-first seen.last x xs g.chain in
     let other = All-head (λ n. n ≢ seen.customer) x xs g.others in
     let may : may_come seen x ≡ true =
-    true-and _ _ (lt-ltb _ _ (omega (arith, g.most)))
-    (true-and _ _ (not-is _ (λ same. other (eqb-true _ _ same))) first.0) in
+    and_from _ _ (lt-ltb _ _ (omega (arith, g.most)))
+    (and_from _ _ (not-is _ (λ same. other (eqb-true _ _ same))) first.0) in
     comes (may_come seen x) (next seen x) xs may
     (goes-complete (next seen x) xs (record {
       most = omega (arith, g.most);

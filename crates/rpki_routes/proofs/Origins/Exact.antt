@@ -2,7 +2,7 @@
 use Rattle.std.proofs.Common.{◌≡◌, ℕ, ◌≤◌, Bool, true, false, List, [], ◌∷◌, Option, None, Some}
 use Rattle.std.proofs.Common.{refl, ap, arith}
 use Rattle.std.specs.Prelude.{All, IfSome, Decides, ◌&&◌, if◌then◌else◌}
-use Rattle.std.proofs.lemmas.Bool.{leb-true, le-leb}
+use Rattle.std.proofs.lemmas.Bool.{leb-true, le-leb, and_parts, and_from}
 use Rattle.std.proofs.lemmas.List.Elements.{All-nil, All-cons, All-head, All-tail}
 use Rattle.rpki_der.specs.declared.mode.Mode.{Mode}
 use Rattle.rpki_der.specs.declared.mode.Mode.TheVariants.{Der}
@@ -57,29 +57,22 @@ pub record Fits (family : AddressFamily) (a : Address) : Type 0 where
   pub within : a.prefix.len ≤ max_bits family
   pub longest : IfSome a.max_length (IsMaxLength family a.prefix.len)
 
-and-true : (a b : Bool) → (a && b) ≡ true → (a ≡ true) × (b ≡ true)
-and-true true b e = (refl, e)
-and-true false b e = absurd cc
-
-true-and : (a b : Bool) → a ≡ true → b ≡ true → (a && b) ≡ true
-true-and a b p q = rw (p, q) refl
-
 max-decides : (family : AddressFamily) (len : ℕ) (max : Option ℕ)
     → Decides (is_max len (max_bits family) max) (IfSome max (IsMaxLength family len))
 max-decides family len None = (λ e. tt, λ h. refl)
 max-decides family len (Some max) = (
-  λ e. let p = and-true _ _ e in (leb-true _ _ p.0, leb-true _ _ p.1),
-  λ h. true-and _ _ (le-leb _ _ h.0) (le-leb _ _ h.1),
+  λ e. let p = and_parts _ _ e in (leb-true _ _ p.0, leb-true _ _ p.1),
+  λ h. and_from _ _ (le-leb _ _ h.0) (le-leb _ _ h.1),
 )
 
 pub fits-decides : (family : AddressFamily) (a : Address) → Decides (is_of family a) (Fits family a)
 unfolding is_of
 fits-decides family a = (
-  λ e. let p = and-true _ _ e in record {
+  λ e. let p = and_parts _ _ e in record {
     within = leb-true _ _ p.0;
     longest = (max-decides family a.prefix.len a.max_length).0 p.1;
   },
-  λ h. true-and _ _ (le-leb _ _ h.within)
+  λ h. and_from _ _ (le-leb _ _ h.within)
       ((max-decides family a.prefix.len a.max_length).1 h.longest),
 )
 
@@ -95,11 +88,11 @@ pub one-family : (rule : OneFamily) (xs : List Address)
     → Decides (admits after_address rule xs) (All (Fits rule.family) xs)
 one-family rule [] = (λ e. All-nil (Fits rule.family), λ h. refl)
 one-family rule (x ∷ xs) = (
-  λ e. let p = and-true _ _ ((gone-on (is_of rule.family x) rule xs).0 e) in
+  λ e. let p = and_parts _ _ ((gone-on (is_of rule.family x) rule xs).0 e) in
       All-cons (Fits rule.family) x xs ((fits-decides rule.family x).0 p.0)
       ((one-family rule xs).0 p.1),
   λ h. (gone-on (is_of rule.family x) rule xs).1
-      (true-and _ _ ((fits-decides rule.family x).1 (All-head (Fits rule.family) x xs h))
+      (and_from _ _ ((fits-decides rule.family x).1 (All-head (Fits rule.family) x xs h))
       ((one-family rule xs).1 (All-tail (Fits rule.family) x xs h))),
 )
 

@@ -12,7 +12,7 @@ use Rattle.rpki_der.specs.Grammar.{IsBytes, Items}
 use Rattle.rpki_der.specs.Numbers.{number}
 use Rattle.rpki_der.specs.Tags.{BIT_STRING, SEQUENCE}
 use Rattle.rpki_der.specs.Form.Keyed.{Keyed}
-use Rattle.rpki_der.proofs.Form.Words.{items-all}
+use Rattle.rpki_der.proofs.Form.Words.{items-all, items-bytes}
 use Rattle.rpki_der.proofs.Reading.Exact.{IsBytes-left, IsBytes-right, IsBytes-contents}
 use Rattle.rpki_resources.specs.declared.by_family.ByFamily.{ByFamily}
 use Rattle.rpki_resources.specs.declared.by_family.Entry.{Entry}
@@ -23,26 +23,12 @@ use Rattle.rpki_resources.specs.Families.Form.{EntryForm, FamiliesForm, afi_of, 
 use Rattle.rpki_resources.specs.Ip.Form.{bit_count, bit_value, PrefixForm}
 use Rattle.rpki_resources.specs.Prefix.{Network}
 use Rattle.rpki_resources.proofs.Addresses.Bits.{small_more, value_below, room_below}
-use Rattle.rpki_resources.proofs.Addresses.Within.{max_most}
+use Rattle.rpki_resources.proofs.Addresses.Within.{max_most, number_small, value_small}
 use Rattle.rpki_routes.specs.Roa.{Address, Roa, IsPrefixOf, IsAddress, IsRoa}
 use Rattle.rpki_routes.specs.Roa.Form.{AddressForm, AddressesForm, RoaForm}
+use Rattle.rpki_resources.proofs.Families.Gathered.{same-family}
 
 -- ---- a prefix
-
--- n digits to base 256 make a number of 8 * n bits
-number-small : (a i : ℕ) (s : List ℕ) → a < 2 ^ (8 * i) → IsBytes s
-    → number a s < 2 ^ (8 * (i + length s))
-number-small a i [] l h = let e : i + 0 ≡ i = omega arith in rw e l
-number-small a i (o ∷ s) l h =
-    let e : i + length (o ∷ s) ≡ i + 1 + length s = omega arith in
-    rw e (number-small (a * 256 + o) (i + 1) s (small_more a o i l h.0) h.1)
-
-value-small : (bits : List ℕ × ℕ) → IsBytes bits.0 → bits.1 < 8
-    → bit_value bits < 2 ^ bit_count bits
-value-small bits h few =
-    let e : 0 + length bits.0 ≡ length bits.0 = omega arith in
-    value_below (length bits.0) bits.1 (number 0 bits.0) few
-    (rw e at (number-small 0 0 bits.0 (omega arith) h))
 
 prefix-facts : (family : AddressFamily) (o : List ℕ) (p : Network) → IsBytes o
     → PrefixForm family Der o p → IsPrefixOf family p
@@ -51,7 +37,7 @@ prefix-facts family o p bytes h =
     let contents : IsBytes h.1.0.0 =
     IsBytes-contents Der o o [] BIT_STRING h.1.0.0 (sym (append-nil o)) h.1.0.1 bytes in
     let all : IsBytes (bits.1 ∷ bits.0) = subst IsBytes h.1.0.2.0 contents in
-    let small = value-small bits all.1 h.1.0.2.1.few in
+    let small = value_small bits all.1 h.1.0.2.1.few in
     let most = max_most family in
     let room = room_below (bit_value bits) (bit_count bits) small (omega (arith, most, h.1.1)) in
     let pos = pow_pos (128 - bit_count bits) in
@@ -74,18 +60,6 @@ address-facts family o a (bytes, h) =
       prefix = prefix-facts family parts.0 a.prefix (IsBytes-left parts.0 parts.1 both) parts.3;
       longest = h.1;
     }
-
-items-bytes : {X : Type 0} (G : List ℕ → X → Type 0) (o : List ℕ) (xs : List X) → IsBytes o
-    → Items G o xs → Items (λ p x. IsBytes p × G p x) o xs
-items-bytes G o [] bytes h = h
-items-bytes G o (x ∷ xs) bytes h =
-    let parts : IsBytes (h.0 ++ h.1) = subst IsBytes h.2 bytes in (
-      h.0,
-      h.1,
-      h.2,
-      (IsBytes-left h.0 h.1 parts, h.3),
-      items-bytes G h.1 xs (IsBytes-right h.0 h.1 parts) h.4,
-    )
 
 addresses-facts : (family : AddressFamily) (mode : Mode) (o : List ℕ) (xs : List Address)
     → IsBytes o → AddressesForm family mode o xs → All (IsAddress family) xs
@@ -112,12 +86,6 @@ entry-facts mode o e (bytes, h) =
     let rest : IsBytes (list.0 ++ list.1) =
     subst IsBytes list.2 (IsBytes-right parts.0 parts.1 both) in
     addresses-facts e.family mode list.0 e.value (IsBytes-left list.0 list.1 rest) list.3
-
-same-family : (a b : AddressFamily) → afi a ≡ afi b → a ≡ b
-same-family Ipv4 Ipv4 e = refl
-same-family Ipv4 Ipv6 e = absurd cc
-same-family Ipv6 Ipv4 e = absurd cc
-same-family Ipv6 Ipv6 e = refl
 
 stands : (entries : List (Entry (List Address))) → All OfItsFamily entries
     → (family : AddressFamily) (found : Option (List Address))

@@ -35,6 +35,7 @@ use Rattle.rpki_routes.specs.Roa.Form.{RoaForm}
 use Rattle.rpki_routes.specs.Roa.Written.{address_contents, address_octets, list_octets}
 use Rattle.rpki_routes.specs.Roa.Written.{family_contents, family_octets, families_octets}
 use Rattle.rpki_routes.specs.Roa.Written.{roa_contents, roa_octets}
+use Rattle.rpki_der.proofs.Form.Words.{items-join}
 
 -- ---- an address
 
@@ -138,15 +139,6 @@ family-items family (a ∷ xs) all short = (
   refl,
 )
 
-items-join : {X : Type 0} (G : List ℕ → X → Type 0) (o p : List ℕ) (xs ys : List X) → Items G o xs
-    → Items G p ys → Items G (o ++ p) (xs ++ ys)
-items-join G o p [] ys h k = rw h k
-items-join G o p (x ∷ xs) ys h k = (
-  h.0,
-  h.1 ++ p,
-  ap (λ (t : List ℕ). t ++ p) h.2 ∙ append_assoc h.0 h.1 p,
-  h.3,
-  items-join G h.1 p xs ys h.4 k,
 )
 
 -- ---- both families

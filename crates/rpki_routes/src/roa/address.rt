@@ -168,7 +168,7 @@ impl FriendlyRoaIpAddress {
     }
 }
 
-/// The prefix, and the maximum length behind `-` where one is set: `192.0.2.0/24-26`.
+/// The prefix, and the maximum length after `-` where one is set: `192.0.2.0/24-26`.
 impl fmt::Display for FriendlyRoaIpAddress {
     ghost output = { λ a. Some (max_len_text (max_len_prefix a)) };
 

@@ -9,7 +9,7 @@ ghost use Rattle.rpki_der.specs.Read.Reads.{Reads, Stays};
 ghost use Rattle.rpki_keys.specs.Algorithm.{digest_algorithm_at};
 ghost use Rattle.rpki_certs.specs.Cert.{cert_at};
 ghost use Rattle.rpki_sigobj.specs.SignerInfo.{signer_info_at};
-ghost use Rattle.rpki_sigobj.specs.Object.{content_fields_at, content_at, behind_content_at};
+ghost use Rattle.rpki_sigobj.specs.Object.{content_fields_at, content_at, after_content_at};
 ghost use Rattle.rpki_sigobj.specs.Object.{signed_fields_at, signed_at, info_fields_at, info_at};
 
 use crate::signer_info::{SignerInfo, skip_version, take_signer_info};
@@ -110,14 +110,14 @@ fn take_signer(
     cons.take_set(|cons| take_signer_info(cons, alloc, content_type))
 }
 
-// Reads the certificate and what the signer says, behind this content.
-#[tactic(auto, unfolding(crate::specs::Object::behind_content_at))]
-fn take_behind_content(
+// Reads the certificate and what the signer says, after this content.
+#[tactic(auto, unfolding(crate::specs::Object::after_content_at))]
+fn take_after_content(
     cons: &mut Constructed<'_>,
     alloc: Global,
     content: (Oid, Bytes),
 ) -> Result<SignedData, DecodeError>
-    ensures reads { Reads (λ d. d.signed) (behind_content_at content) cons.old result cons.new }
+    ensures reads { Reads (λ d. d.signed) (after_content_at content) cons.old result cons.new }
     ensures mode { IfOk result (λ d. d.cert_mode ≡ cons.old.mode) }
 {
     let cert = take_cert(cons, alloc)?;
@@ -148,7 +148,7 @@ fn take_signed_fields(cons: &mut Constructed<'_>, alloc: Global) -> Result<Signe
     skip_version(cons)?;
     skip_digests(cons)?;
     let content = take_content(cons, alloc)?;
-    take_behind_content(cons, alloc, content)
+    take_after_content(cons, alloc, content)
 }
 
 // Reads what is signed.

@@ -4,7 +4,7 @@ use Rattle.rpki_faults.specs.declared.validation.ValidationError.{ValidationErro
 use Rattle.rpki_sigobj.specs.Object.{cert_of}
 use Rattle.rpki_sigobj.specs.Validate.{IsCertUnder}
 use Rattle.rpki_signed.specs.Process.{before_revocation}
-use Rattle.rpki_signed.proofs.Asking.{not-asked, refused-behind, all-held, cert-under}
+use Rattle.rpki_signed.proofs.Asking.{not-asked, refused-after, all-held, cert-under}
 use Rattle.rpki_signed.proofs.process.process_parts.Goals as goal
 
 pub ask_before_numbers-requires : goal.ask_before_numbers-requires
@@ -34,7 +34,7 @@ returns-in-Err-ask_before_numbers g c =
     let verdict = g.C.Crypto.is_signed under.crypto.now in
     let held = c.in-Ok.ensures in
     let asked = c.in-Err-ask_before_numbers.ensures in
-    refused-behind (before_revocation kind digest verdict
+    refused-after (before_revocation kind digest verdict
     (record { object = c.args.object.object; content = c.args.content })
     under.issuer.now under.moment)
     (IsCertUnder c.args.object under.issuer.now)

@@ -1,0 +1,66 @@
+-- The texts of faults.
+use Rattle.std.specs.Prelude.{ℕ, List, ◌++◌, Option, Some, codes, decimal}
+use Rattle.rpki_paths.specs.declared.family.Family.{Family}
+use Rattle.rpki_paths.specs.declared.family.Family.TheVariants.{As, V4, V6}
+use Rattle.rpki_paths.specs.declared.pairs.PairFault.{PairFault}
+use Rattle.rpki_paths.specs.declared.walker.PathFault.{PathFault}
+use Rattle.rpki_paths.specs.declared.walks.WalksFault.{WalksFault}
+use Rattle.rpki_paths.specs.declared.acceptance.AcceptFault.{AcceptFault}
+use Rattle.rpki_paths.specs.declared.supply.SupplyFault.{SupplyFault}
+use Rattle.rpki_paths.specs.declared.decision.FinalFault.{FinalFault}
+use Rattle.rpki_paths.specs.declared.attestation.GrantFault.{GrantFault}
+
+-- the text of a family of which more is claimed than the issuer has
+abbrev pub overclaimed_text : Family → List ℕ
+overclaimed_text As = codes "overclaimed AS resources"
+overclaimed_text V4 = codes "overclaimed IPv4 resources"
+overclaimed_text V6 = codes "overclaimed IPv6 resources"
+
+-- why items cannot be paired
+abbrev pub pair_text : PairFault → List ℕ
+pair_text (PairFault.Unpaired place) = codes "nothing left for item " ++ decimal place
+pair_text PairFault.LeftOver = codes "items left over"
+pair_text PairFault.Memory = codes "out of memory"
+
+-- why an end-entity certificate has no path
+abbrev pub path_text : PathFault → List ℕ
+path_text PathFault.NoValidIssuer = codes "no valid issuer"
+path_text PathFault.Returns = codes "path returns to its issuer"
+path_text PathFault.Revoked = codes "certificate revoked"
+path_text (PathFault.NotCovered family) = overclaimed_text family
+path_text PathFault.Memory = codes "out of memory"
+
+-- why not all end-entity certificates have paths on which all CAs stand
+abbrev pub walks_text : WalksFault → List ℕ
+walks_text (WalksFault.NoPath fault) = path_text fault
+walks_text (WalksFault.Unused place) = codes "unused CA certificate " ++ decimal place
+walks_text WalksFault.Memory = codes "out of memory"
+
+-- why an attestation is not accepted
+abbrev pub accept_text : AcceptFault → List ℕ
+accept_text AcceptFault.NotValid = codes "invalid certificate"
+accept_text (AcceptFault.Crls fault) = codes "revocation lists: " ++ pair_text fault
+accept_text (AcceptFault.Keys fault) = codes "subject keys: " ++ pair_text fault
+accept_text AcceptFault.Digest = codes "wrong digest of the content"
+accept_text (AcceptFault.Signers fault) = codes "signers: " ++ pair_text fault
+accept_text (AcceptFault.Walks fault) = walks_text fault
+accept_text AcceptFault.Memory = codes "out of memory"
+
+-- why a supply ends a call, where own are the texts of a locator's own faults
+abbrev pub supply_text : {F : Type 0} → (F → Option (List ℕ)) → SupplyFault F → Option (List ℕ)
+supply_text own (SupplyFault.NoAnchor fault) = own fault
+supply_text own (SupplyFault.NotCovered family) = Some (overclaimed_text family)
+supply_text own SupplyFault.Memory = Some (codes "out of memory")
+
+-- why attested sets are not granted
+abbrev pub final_text : FinalFault → List ℕ
+final_text FinalFault.NotAnchored = codes "path not anchored"
+final_text FinalFault.AsNumbers = codes "AS numbers not those of the paths"
+final_text FinalFault.Addresses = codes "addresses not those of the paths"
+final_text FinalFault.Memory = codes "out of memory"
+
+-- why an attestation is not granted, where own are the texts of a locator's own faults
+abbrev pub grant_text : {F : Type 0} → (F → Option (List ℕ)) → GrantFault F → Option (List ℕ)
+grant_text own (GrantFault.NotAccepted fault) = Some (accept_text fault)
+grant_text own (GrantFault.NotSupplied fault) = supply_text own fault
+grant_text own (GrantFault.NotGranted fault) = Some (final_text fault)
