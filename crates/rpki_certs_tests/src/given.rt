@@ -1,32 +1,8 @@
 //! Certificates that tests are given.
 
 use rpki_certs::Cert;
-use rpki_der::DecodeError;
-use rpki_fixtures::{CA, CertOf, Change, DETACHED, EE, TA, cert_octets, changed};
-use std::alloc::{AllocError, Global};
-
-/// Why a test ends early: only want of memory is none of its answers.
-#[derive(Clone, Copy, Debug, PartialEq, Eq)]
-pub enum Fail {
-    Memory,
-    Refused,
-}
-
-impl From<AllocError> for Fail {
-    fn from(_error: AllocError) -> Fail {
-        Fail::Memory
-    }
-}
-
-impl From<DecodeError> for Fail {
-    fn from(error: DecodeError) -> Fail {
-        match error {
-            DecodeError::Memory => Fail::Memory,
-            DecodeError::Malformed => Fail::Refused,
-            DecodeError::Content(_) => Fail::Refused,
-        }
-    }
-}
+use rpki_fixtures::{CA, CertOf, Change, DETACHED, EE, Fail, TA, cert_octets, changed};
+use std::alloc::Global;
 
 /// An inspection or a validation, and the kind of certificate that it is for.
 #[derive(Clone, Copy, Debug)]

@@ -1,9 +1,9 @@
 //! Each fault of each inspection, alone and with the one that is looked for before it.
 
-use crate::given::{Call, Fail, read};
+use crate::given::{Call, read};
 use rpki_certs::Cert;
 use rpki_faults::{InspectionError, KeyUsage};
-use rpki_fixtures::{Change, Numbers, Place};
+use rpki_fixtures::{Change, Fail, Numbers, Place};
 use std::alloc::Global;
 
 /// A change, and the fault that it brings into a certificate that had none.

@@ -1,12 +1,14 @@
 //! Rows of certificates that are read, and what they say.
 
-use crate::given::{Call, Fail, good, read};
+use crate::given::{Call, good, read};
 use bytes::Bytes;
 use rpki_basics::{Https, KeyIdentifier, Rsync};
 use rpki_certs::Cert;
 use rpki_der::{Constructed, DecodeError, Encode, EncodeError, Mode};
 use rpki_faults::Overclaim;
-use rpki_fixtures::{CertOf, Change, Numbers, Place, cert_octets, changed, joined, key_identifier};
+use rpki_fixtures::{
+    CertOf, Change, Fail, Numbers, Place, cert_octets, changed, joined, key_identifier,
+};
 use rpki_resources::{Claim, Number, Resources};
 use std::alloc::{AllocError, Global};
 

@@ -610,39 +610,6 @@ fn are_refused(alloc: Global, rows: &[Row]) -> Result<bool, AllocError> {
     Ok(true)
 }
 
-/// Values of this identifier and indefinite length round these octets, one in the other.
-pub fn nested(alloc: Global, tag: u8, n: usize, inner: &[u8]) -> Result<Vec<u8>, AllocError> {
-    let mut octets = Vec::new(alloc);
-    for _ in 0..n {
-        octets.extend_from_slice(&[tag, 0x80])?;
-    }
-    octets.extend_from_slice(inner)?;
-    for _ in 0..n {
-        octets.extend_from_slice(&[0, 0])?;
-    }
-    Ok(octets)
-}
-
-/// Whether a string in pieces is read, and skipped, or not: a value round n others has one level
-/// more.
-fn is_deep(alloc: Global, n: usize, string: Want, skipped: Want) -> Result<bool, AllocError> {
-    let pieces = nested(alloc, 0x24, n, &[4, 1, 0x41])?;
-    Ok(
-        is_so(alloc, Mode::Ber, Call::Octets, &pieces, string)?
-            && is_so(alloc, Mode::Ber, Call::SkipOne, &pieces, skipped)?,
-    )
-}
-
-/// Whether one value is all that a reader is given.
-fn are_all(alloc: Global, octets: &[u8]) -> Result<bool, AllocError> {
-    let source = Bytes::copy_from_slice(alloc, octets)?;
-    match Constructed::decode_all(source, Mode::Der, skip) {
-        Ok(()) => Ok(true),
-        Err(DecodeError::Memory) => Err(AllocError),
-        Err(_) => Ok(false),
-    }
-}
-
 /// Marks a reader as failed by a rule of its own, then by others, and goes on as if it had not.
 fn mark(cons: &mut Constructed<'_>) -> Result<(), DecodeError> {
     let _ = cons.refuse_for(Reason::BadTime);
@@ -665,15 +632,8 @@ fn is_marked(alloc: Global) -> Result<bool, AllocError> {
 #[test]
 fn rows(rt: HostRuntime) -> Result<(), AllocError> {
     let alloc = rt.alloc();
-    assert!(rt; are_answered(alloc, &READ)?);
-    assert!(rt; are_answered(alloc, &WRONG)?);
-    assert!(rt; are_answered(alloc, &OTHERS)?);
-    assert!(rt; wrong_row(alloc, Mode::Ber, &RELAXED)?.is_none());
-    assert!(rt; are_refused(alloc, &RELAXED)?);
-    assert!(rt; are_all(alloc, &[5, 0])? && !are_all(alloc, &[5, 0, 5])?);
-    assert!(rt; is_marked(alloc)?);
-    // 32 levels are read, and 33 are refused
-    assert!(rt; is_deep(alloc, 31, Want::Octets(b"A"), Want::Done)?);
-    assert!(rt; is_deep(alloc, 32, Want::Refused, Want::Refused)?);
+    assert!(rt; are_answered(alloc, &READ)? && are_answered(alloc, &WRONG)?);
+    assert!(rt; are_answered(alloc, &OTHERS)? && is_marked(alloc)?);
+    assert!(rt; wrong_row(alloc, Mode::Ber, &RELAXED)?.is_none() && are_refused(alloc, &RELAXED)?);
     Ok(())
 }

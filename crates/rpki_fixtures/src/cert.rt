@@ -149,18 +149,18 @@ const OBJECT: &[u8] = b"\x06\x08\x2B\x06\x01\x05\x05\x07\x30\x0B";
 const NOTIFY: &[u8] = b"\x06\x08\x2B\x06\x01\x05\x05\x07\x30\x0D";
 
 /// sha256WithRSAEncryption, with a NULL.
-const ALGORITHM: &[u8] = b"\x30\x0D\x06\x09\x2A\x86\x48\x86\xF7\x0D\x01\x01\x0B\x05\x00";
+pub const ALGORITHM: &[u8] = b"\x30\x0D\x06\x09\x2A\x86\x48\x86\xF7\x0D\x01\x01\x0B\x05\x00";
 
 /// rsaEncryption, with a NULL.
 const RSA: &[u8] = b"\x30\x0D\x06\x09\x2A\x86\x48\x86\xF7\x0D\x01\x01\x01\x05\x00";
 
 /// The names of the issuer and of the subject: CN=i and CN=s.
-const ISSUER: &[u8] = b"\x30\x0C\x31\x0A\x30\x08\x06\x03\x55\x04\x03\x13\x01\x69";
+pub const ISSUER: &[u8] = b"\x30\x0C\x31\x0A\x30\x08\x06\x03\x55\x04\x03\x13\x01\x69";
 
 const SUBJECT: &[u8] = b"\x30\x0C\x31\x0A\x30\x08\x06\x03\x55\x04\x03\x13\x01\x73";
 
 /// An extension with this identifier.
-fn extension(
+pub fn extension(
     alloc: Global,
     oid: &'static [u8],
     is_critical: bool,
@@ -188,8 +188,8 @@ fn subject_key(alloc: Global, cert: &CertOf) -> Result<Vec<u8>, AllocError> {
 }
 
 /// The identifier of the issuer's key, where one is stated.
-fn authority_key(alloc: Global, cert: &CertOf) -> Result<Vec<u8>, AllocError> {
-    let Some(key) = cert.authority_key else {
+pub fn authority_key(alloc: Global, key: Option<u64>) -> Result<Vec<u8>, AllocError> {
+    let Some(key) = key else {
         return Ok(Vec::new(alloc));
     };
     let id = key_identifier(key);
@@ -224,7 +224,7 @@ fn purposes(alloc: Global, cert: &CertOf) -> Result<Vec<u8>, AllocError> {
 fn key_extensions(alloc: Global, cert: &CertOf) -> Result<Vec<u8>, AllocError> {
     let basic = basic(alloc, cert)?;
     let subject = subject_key(alloc, cert)?;
-    let authority = authority_key(alloc, cert)?;
+    let authority = authority_key(alloc, cert.authority_key)?;
     let usage = usage(alloc, cert)?;
     let purposes = purposes(alloc, cert)?;
     joined(alloc, &[&basic, &subject, &authority, &usage, &purposes])
@@ -377,7 +377,8 @@ fn tbs(alloc: Global, cert: &CertOf) -> Result<Vec<u8>, AllocError> {
 }
 
 /// The octets of a certificate in DER (RFC 5280, section 4.1), signed by the key with the number of
-/// its signer.
+/// its signer. No clause says what they are: the form of a certificate stands above this crate, and
+/// what reads them tests them.
 pub fn cert_octets(alloc: Global, cert: &CertOf) -> Result<Bytes, AllocError> {
     let tbs = tbs(alloc, cert)?;
     let signature = signature_of(alloc, cert.signer, &tbs)?;

@@ -87,7 +87,8 @@ fn apply(cert: &mut CertOf, change: Change) {
     }
 }
 
-/// The certificate with these changes, one after the other.
+/// The certificate with these changes, one after the other. No clause says more: each change is an
+/// assignment to one field, which a clause could only repeat.
 pub fn changed(cert: &CertOf, changes: &[Change]) -> CertOf {
     let mut made = *cert;
     for one in changes {

@@ -1,5 +1,7 @@
 //! Claims of numbers, as values of extensions (RFC 3779).
 
+ghost use Rattle.std.specs.Prelude.{◌≡◌, ◌↔◌, IsTrue};
+
 use crate::octets::{joined, value, written};
 use rpki_der::Encode;
 use rpki_der::encode::integer;
@@ -19,7 +21,9 @@ pub enum Numbers {
 
 impl Numbers {
     /// Whether the family is not named.
-    pub fn is_missing(self) -> bool {
+    pub fn is_missing(self) -> bool
+        ensures { IsTrue result ↔ (self ≡ Numbers.Missing) }
+    {
         match self {
             Numbers::Missing => true,
             Numbers::Inherit => false,
@@ -65,7 +69,8 @@ fn claim(alloc: Global, numbers: Numbers, are_as: bool) -> Result<Vec<u8>, Alloc
     }
 }
 
-/// ASIdentifiers (RFC 3779, section 3.2.3).
+/// ASIdentifiers (RFC 3779, section 3.2.3). No clause says what they are: their form stands above
+/// this crate, and what reads them tests them.
 pub fn as_value(alloc: Global, numbers: Numbers) -> Result<Vec<u8>, AllocError> {
     let claim = claim(alloc, numbers, true)?;
     let tagged = value(alloc, 0xA0, &[&claim])?;
@@ -81,7 +86,8 @@ fn family(alloc: Global, number: u8, numbers: Numbers) -> Result<Vec<u8>, AllocE
     value(alloc, 0x30, &[b"\x04\x02\x00", &[number], &claim])
 }
 
-/// IPAddrBlocks (RFC 3779, section 2.2.3).
+/// IPAddrBlocks (RFC 3779, section 2.2.3). No clause says what they are: their form stands above
+/// this crate, and what reads them tests them.
 pub fn ip_value(alloc: Global, v4: Numbers, v6: Numbers) -> Result<Vec<u8>, AllocError> {
     let v4 = family(alloc, 1, v4)?;
     let v6 = family(alloc, 2, v6)?;

@@ -1,45 +1,10 @@
-//! What tests are given, and why they end early.
+//! What tests are given.
 
 use rpki_basics::Time;
 use rpki_certs::{Cert, ResourceCert};
-use rpki_der::DecodeError;
-use rpki_faults::ValidationError;
-use rpki_fixtures::{CertOf, TA, cert_octets};
+use rpki_fixtures::{CertOf, Fail, TA, cert_octets};
 use rpki_keys::standin::StandIn;
-use std::alloc::{AllocError, Global};
-
-/// Why a test ends early: only want of memory is none of its answers.
-#[derive(Clone, Copy, Debug, PartialEq, Eq)]
-pub enum Fail {
-    Memory,
-    Refused,
-}
-
-impl From<AllocError> for Fail {
-    fn from(_error: AllocError) -> Fail {
-        Fail::Memory
-    }
-}
-
-impl From<DecodeError> for Fail {
-    fn from(error: DecodeError) -> Fail {
-        match error {
-            DecodeError::Memory => Fail::Memory,
-            DecodeError::Malformed => Fail::Refused,
-            DecodeError::Content(_) => Fail::Refused,
-        }
-    }
-}
-
-impl From<ValidationError> for Fail {
-    fn from(error: ValidationError) -> Fail {
-        match error {
-            ValidationError::Memory => Fail::Memory,
-            ValidationError::Inspection(_) => Fail::Refused,
-            ValidationError::Verification(_) => Fail::Refused,
-        }
-    }
-}
+use std::alloc::Global;
 
 /// Year, month, day, hour, minute and second.
 pub type Moment = (u16, u8, u8, u8, u8, u8);

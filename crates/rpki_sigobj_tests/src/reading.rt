@@ -1,9 +1,8 @@
 //! Rows of signed objects that are read, and what they say.
 
-use crate::given::Fail;
 use bytes::Bytes;
 use rpki_der::{Constructed, DecodeError, Encode, EncodeError, Oid};
-use rpki_fixtures::{Field, GOOD, Instead, MANIFEST_TYPE, ObjectOf, object_octets};
+use rpki_fixtures::{Fail, Field, GOOD, Instead, MANIFEST_TYPE, ObjectOf, object_octets};
 use rpki_sigobj::SignedObject;
 use std::alloc::{AllocError, Global};
 

@@ -1,11 +1,11 @@
 //! Rows of signed objects under their issuers: what is answered, and when the caller is asked.
 
-use crate::given::{AFTER, FIRST, Fail, LAST, Moment, issuer, time};
+use crate::given::{AFTER, FIRST, LAST, Moment, issuer, time};
 use bytes::Bytes;
 use rpki_basics::{FixedClock, Time};
 use rpki_certs::ResourceCert;
 use rpki_faults::{ValidationError, VerificationError};
-use rpki_fixtures::{Change, DETACHED, GOOD, ObjectOf, changed, object_octets};
+use rpki_fixtures::{Change, DETACHED, Fail, GOOD, ObjectOf, changed, object_octets};
 use rpki_keys::standin::StandIn;
 use rpki_sigobj::SignedObject;
 use std::alloc::{AllocError, Global};

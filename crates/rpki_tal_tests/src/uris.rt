@@ -1,14 +1,12 @@
 //! URIs of trust anchors, and their order.
 
-use bytes::Bytes;
-use rpki_basics::{Https, Rsync, uri};
+use rpki_basics::uri;
 use rpki_der::Counted;
 use rpki_tal::{ReadError, Tal, TalUri};
 use std::alloc::{AllocError, Global};
-use std::collections::HashMap;
 
 /// Texts, and what they are: the kind of URI, or why they are none.
-static ROWS: [(&str, &str); 10] = [
+pub static ROWS: [(&str, &str); 10] = [
     ("rsync://a/b", "rsync"),
     ("RSYNC://a/b/c", "rsync"),
     ("https://a", "https"),
@@ -20,6 +18,39 @@ static ROWS: [(&str, &str); 10] = [
     ("https:/a", "bad URI"),
     ("https://a b", "invalid characters"),
 ];
+
+/// Whether a URI was made, or refused, as wanted. Want of memory is handed on.
+pub fn is_made(
+    alloc: Global,
+    made: Result<TalUri, uri::Error>,
+    text: &str,
+    want: &str,
+) -> Result<bool, AllocError> {
+    match made {
+        Ok(uri) => {
+            let kind = if uri.is_https() { "https" } else { "rsync" };
+            let is_one = uri.is_https() != uri.is_rsync();
+            let shown = format!(in alloc; "{uri}")?;
+            Ok(is_one && kind == want && uri.as_str() == text && shown.as_str() == text)
+        }
+        Err(uri::Error::Memory) => Err(AllocError),
+        Err(e) => Ok(format!(in alloc; "{e}")?.as_str() == want),
+    }
+}
+
+fn are_made(alloc: Global) -> Result<bool, AllocError> {
+    for (text, want) in &ROWS {
+        if !is_made(
+            alloc,
+            TalUri::from_slice(alloc, text.as_bytes()),
+            text,
+            want,
+        )? {
+            return Ok(false);
+        }
+    }
+    Ok(true)
+}
 
 /// The URIs of a locator, and their order where https is preferred.
 const LISTED: [&str; 7] = [
@@ -41,73 +72,6 @@ const PREFERRED: [&str; 7] = [
     "rsync://k.example.com/1/1",
     "rsync://g.example.com/1/1",
 ];
-
-/// Whether a URI was made, or refused, as wanted. Want of memory is handed on.
-fn is_made(
-    alloc: Global,
-    made: Result<TalUri, uri::Error>,
-    text: &str,
-    want: &str,
-) -> Result<bool, AllocError> {
-    match made {
-        Ok(uri) => {
-            let kind = if uri.is_https() { "https" } else { "rsync" };
-            let is_one = uri.is_https() != uri.is_rsync();
-            let shown = format!(in alloc; "{uri}")?;
-            Ok(is_one && kind == want && uri.as_str() == text && shown.as_str() == text)
-        }
-        Err(uri::Error::Memory) => Err(AllocError),
-        Err(e) => Ok(format!(in alloc; "{e}")?.as_str() == want),
-    }
-}
-
-#[test]
-fn kinds(rt: HostRuntime) -> Result<(), AllocError> {
-    let alloc = rt.alloc();
-    for (text, want) in &ROWS {
-        let slice = TalUri::from_slice(alloc, text.as_bytes());
-        assert!(rt; is_made(alloc, slice, text, want)?, "{text}");
-        let bytes = TalUri::from_bytes(Bytes::copy_from_slice(alloc, text.as_bytes())?);
-        assert!(rt; is_made(alloc, bytes, text, want)?, "{text}");
-        let string = TalUri::from_string(String::from_str(alloc, text)?);
-        assert!(rt; is_made(alloc, string, text, want)?, "{text}");
-        let tried = TalUri::try_from(String::from_str(alloc, text)?);
-        assert!(rt; is_made(alloc, tried, text, want)?, "{text}");
-    }
-    Ok(())
-}
-
-/// Whether a URI made of a part of it is equal to one that was read, and is found under it in a map
-/// by its clone, and another one is not.
-fn is_equal(alloc: Global, uri: TalUri, text: &str) -> Result<bool, uri::Error> {
-    let read = TalUri::from_slice(alloc, text.as_bytes())?;
-    let copy = uri.clone()?;
-    let other = TalUri::from_slice(alloc, b"https://other")?;
-    let mut map = HashMap::new(alloc);
-    if map.insert(copy, 1u8).is_err() {
-        return Err(uri::Error::Memory);
-    }
-    let found = map.get(&read).copied() == Some(1) && map.get(&other).is_none();
-    Ok(found && read == uri && read != other)
-}
-
-/// The answer of a test of URIs, with want of memory handed on.
-fn answer(said: Result<bool, uri::Error>) -> Result<bool, AllocError> {
-    match said {
-        Ok(is) => Ok(is),
-        Err(uri::Error::Memory) => Err(AllocError),
-        Err(_) => Ok(false),
-    }
-}
-
-fn are_equal(alloc: Global) -> Result<bool, uri::Error> {
-    let rsync = Rsync::from_bytes(Bytes::copy_from_slice(alloc, b"rsync://a/b")?)?;
-    let https = Https::from_bytes(Bytes::copy_from_slice(alloc, b"https://a/b")?)?;
-    Ok(
-        is_equal(alloc, TalUri::from(rsync), "rsync://a/b")?
-            && is_equal(alloc, TalUri::from(https), "https://a/b")?,
-    )
-}
 
 /// Whether these are the URIs of a locator, in this order.
 fn are_uris(tal: &Tal, want: &[&str]) -> bool {
@@ -139,10 +103,9 @@ fn is_ordered(alloc: Global) -> Result<bool, ReadError> {
 }
 
 #[test]
-fn orders(rt: HostRuntime) -> Result<(), AllocError> {
-    let alloc = rt.alloc();
-    assert!(rt; answer(are_equal(alloc))?);
-    match is_ordered(alloc) {
+fn uris(rt: HostRuntime) -> Result<(), AllocError> {
+    assert!(rt; are_made(rt.alloc())?);
+    match is_ordered(rt.alloc()) {
         Ok(is) => assert!(rt; is),
         Err(ReadError::Memory) => return Err(AllocError),
         Err(_) => assert!(rt; false),
