@@ -1,4 +1,2 @@
-pub mod AttributeExact
-pub mod AttrsExact
-pub mod AttrsWritten
-pub mod Sorted
+pub mod Attributes
+pub mod SignedAttrs

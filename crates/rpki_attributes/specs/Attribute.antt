@@ -1,4 +1,5 @@
 -- One signed attribute.
+pub mod Read
 use Rattle.std.specs.Prelude.{◌≡◌, ℕ, List, [], ◌∷◌, ◌⊎◌}
 use Rattle.rpki_der.specs.declared.mode.Mode.{Mode}
 use Rattle.rpki_der.specs.Form.Parts.{Sequence}

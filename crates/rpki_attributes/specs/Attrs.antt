@@ -1,4 +1,6 @@
 -- Signed attributes.
+pub mod Made
+pub mod Read
 use Rattle.std.specs.Prelude.{ℕ, ◌≤◌, List, length}
 use Rattle.rpki_der.specs.declared.mode.Mode.{Mode}
 use Rattle.rpki_der.specs.Form.Keyed.{Once}
@@ -6,7 +8,7 @@ use Rattle.rpki_der.specs.Grammar.{Value, ObjectIdentifier, OctetString, Items}
 use Rattle.rpki_der.specs.Numbers.{MAX_DEPTH}
 use Rattle.rpki_der.specs.Tags.{context}
 use Rattle.rpki_basics.specs.Moment.{Moment}
-use Rattle.rpki_basics.specs.TimeForm.{TimeForm}
+use Rattle.rpki_basics.specs.Time.Form.{TimeForm}
 use Rattle.rpki_attributes.specs.declared.attribute.OtherTypes.{OtherTypes}
 use Rattle.rpki_attributes.specs.declared.attribute.OtherTypes.TheVariants.{Skip}
 use Rattle.rpki_attributes.specs.Attribute.{Attribute, type_of, AttributeForm, id_content_type}

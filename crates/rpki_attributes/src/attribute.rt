@@ -4,8 +4,8 @@ ghost use Rattle.std.specs.Prelude.{◌≡◌};
 ghost use Rattle.rpki_der.specs.Read.Parse.{optional};
 ghost use Rattle.rpki_der.specs.Read.Reads.{Reads};
 ghost use Rattle.rpki_der.specs.Tags.{SEQUENCE};
-ghost use Rattle.rpki_attributes.specs.AttributeRead.{is_known, attribute_fields_at};
-ghost use Rattle.rpki_attributes.specs.AttributeRead.{attribute_at};
+ghost use Rattle.rpki_attributes.specs.Attribute.Read.{is_known, attribute_fields_at};
+ghost use Rattle.rpki_attributes.specs.Attribute.Read.{attribute_at};
 
 use bytes::Bytes;
 use rpki_der::{Constructed, ContentFault, DecodeError, InvalidSignedAttr, Oid, Tag};
@@ -71,7 +71,7 @@ fn is_known(oid: &[u8]) -> bool
 }
 
 // Reads the type of an attribute and its values.
-#[tactic(auto, unfolding(crate::specs::AttributeRead::attribute_fields_at, crate::specs::AttributeRead::values_at, crate::specs::AttributeRead::others_at))]
+#[tactic(auto, unfolding(crate::specs::Attribute::Read::attribute_fields_at, crate::specs::Attribute::Read::values_at, crate::specs::Attribute::Read::others_at))]
 fn take_fields(
     cons: &mut Constructed<'_>,
     alloc: Global,

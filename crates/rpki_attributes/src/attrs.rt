@@ -10,8 +10,8 @@ ghost use Rattle.rpki_der.specs.Form.Decodes.{DecodesNext};
 ghost use Rattle.rpki_der.specs.Read.Reads.{Reads, Stays};
 ghost use Rattle.rpki_attributes.specs.declared.attribute.OtherTypes.TheVariants.{Refuse, Skip};
 ghost use Rattle.rpki_attributes.specs.Attrs.{SignedAttrsForm, most_octets};
-ghost use Rattle.rpki_attributes.specs.AttrsMade.{attrs_octets, message_of};
-ghost use Rattle.rpki_attributes.specs.AttrsRead.{attrs_at};
+ghost use Rattle.rpki_attributes.specs.Attrs.Made.{attrs_octets, message_of};
+ghost use Rattle.rpki_attributes.specs.Attrs.Read.{attrs_at};
 
 use crate::attribute::OtherTypes;
 use crate::digest::MessageDigest;

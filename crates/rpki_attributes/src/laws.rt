@@ -11,9 +11,9 @@ ghost use Rattle.rpki_basics.specs.Moment.{Moment, IsMoment};
 ghost use Rattle.rpki_attributes.specs.declared.attribute.OtherTypes.{OtherTypes};
 ghost use Rattle.rpki_attributes.specs.declared.attribute.OtherTypes.TheVariants.{Refuse, Skip};
 ghost use Rattle.rpki_attributes.specs.Attrs.{SignedAttributes, SignedAttrsForm, most_octets};
-ghost use Rattle.rpki_attributes.specs.AttrsRead.{attrs_at};
-ghost use Rattle.rpki_attributes.specs.AttrsMade.{InOrder, attributes_of, attrs_octets};
-ghost use Rattle.rpki_attributes.specs.AttrsMade.{message_of};
+ghost use Rattle.rpki_attributes.specs.Attrs.Read.{attrs_at};
+ghost use Rattle.rpki_attributes.specs.Attrs.Made.{InOrder, attributes_of, attrs_octets};
+ghost use Rattle.rpki_attributes.specs.Attrs.Made.{message_of};
 
 /// Reading signed attributes is exact and unique, and DER is a part of BER, whether attributes of
 /// other types are refused or skipped (RFC 5652, section 5.3; RFC 6488, section 2.1.6.4).

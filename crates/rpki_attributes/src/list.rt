@@ -6,7 +6,7 @@ ghost use Rattle.rpki_der.specs.Form.Parts.{items_at};
 ghost use Rattle.rpki_der.specs.Read.Reads.{Reads, Tells};
 ghost use Rattle.rpki_der.specs.Tags.{SEQUENCE};
 ghost use Rattle.rpki_attributes.specs.Attribute.{type_of};
-ghost use Rattle.rpki_attributes.specs.AttributeRead.{attribute_at};
+ghost use Rattle.rpki_attributes.specs.Attribute.Read.{attribute_at};
 
 use crate::attribute::{Attribute, OtherTypes, take_opt_attribute};
 use rpki_der::{Constructed, ContentFault, DecodeError, Reason};

@@ -1,10 +1,4 @@
 pub mod BigEndian
-pub mod SegmentFacts
-pub mod SerialFacts
-pub mod SerialWriting
-pub mod TimeExact
-pub mod TimeOrder
-pub mod TimeReading
-pub mod TimeWriting
-pub mod UriFacts
-pub mod UriOctets
+pub mod Uris
+pub mod Serials
+pub mod Times

@@ -5,13 +5,11 @@ pub mod Moment
 pub mod Segments
 pub mod Serial
 pub mod Signing
-pub mod TimeForm
-pub mod TimeRead
+pub mod Time
 pub mod Uri
-pub mod UriTests
 pub use Rattle.rpki_keys.specs.Algorithm
 pub use Rattle.rpki_keys.specs.Hex
-pub use Rattle.rpki_keys.specs.KeyForm
-pub use Rattle.rpki_keys.specs.NameForm
+pub use Rattle.rpki_keys.specs.Key
+pub use Rattle.rpki_keys.specs.Name
 pub use Rattle.rpki_keys.specs.Signer
 pub use Rattle.rpki_keys.specs.StandIn

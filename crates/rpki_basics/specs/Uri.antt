@@ -1,5 +1,6 @@
 -- URIs of objects: rsync and https. The sections are those of RFC 3986, where no other RFC is
 -- named.
+pub mod Tests
 use Rattle.std.specs.Prelude.{◌≡◌, ◌≢◌, ℕ, ◌<◌, Bool, true, ◌&&◌, ◌||◌, not, nat_le}
 use Rattle.std.specs.Prelude.{nat_eq, ◌==◌, if◌then◌else◌, List, [], ◌∷◌, ◌++◌, length, map, codes}
 use Rattle.std.specs.Prelude.{Result, Ok, Err}

@@ -9,9 +9,9 @@ ghost use Rattle.rpki_der.specs.Read.Parse.{u160_at};
 ghost use Rattle.rpki_der.specs.Write.Written.{value_octets};
 ghost use Rattle.rpki_der.specs.Tags.{UTC_TIME};
 ghost use Rattle.rpki_basics.specs.Moment.{Moment, IsMoment, IsEarlier, stamp};
-ghost use Rattle.rpki_basics.specs.TimeForm.{TimeForm, IsUtcYear, utc_text, time_octets};
-ghost use Rattle.rpki_basics.specs.TimeForm.{generalized_octets};
-ghost use Rattle.rpki_basics.specs.TimeRead.{time_at};
+ghost use Rattle.rpki_basics.specs.Time.Form.{TimeForm, IsUtcYear, utc_text, time_octets};
+ghost use Rattle.rpki_basics.specs.Time.Form.{generalized_octets};
+ghost use Rattle.rpki_basics.specs.Time.Read.{time_at};
 ghost use Rattle.rpki_basics.specs.Serial.{SerialForm, serial_octets};
 
 /// Reading a time is exact and unique, and DER is a part of BER (RFC 5280, section 4.1.2.5).

@@ -8,7 +8,7 @@ ghost use Rattle.std.specs.Ordering.{on, nat_cmp, as_partial_cmp};
 ghost use Rattle.jiff.specs.Words.{days_in_month};
 ghost use Rattle.rpki_der.specs.Read.Parse.{Finds};
 ghost use Rattle.rpki_basics.specs.Moment.{Moment, IsMoment, stamp};
-ghost use Rattle.rpki_basics.specs.TimeRead.{checked};
+ghost use Rattle.rpki_basics.specs.Time.Read.{checked};
 
 mod read;
 mod text;

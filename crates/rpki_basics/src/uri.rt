@@ -13,7 +13,7 @@ use bytes::Bytes;
 use std::alloc::{AllocError, Global};
 use std::fmt;
 use std::marker::Model;
-use tests_of::{are_uri_octets, after_scheme, goes_on_as_https, goes_on_as_rsync};
+use tests_of::{after_scheme, are_uri_octets, goes_on_as_https, goes_on_as_rsync};
 
 /// Why a text is no URI of the kind that was asked for: the first cause in this order.
 #[derive(Debug, Drop)]

@@ -1,5 +1,4 @@
-pub mod CertExact
+pub mod Certs
 pub mod Steps
 pub mod Valid
 pub mod Checking
-pub mod Kept

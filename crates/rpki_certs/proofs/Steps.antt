@@ -10,8 +10,8 @@ use Rattle.rpki_der.specs.Read.Reads.{Reads}
 use Rattle.rpki_der.specs.Tags.{INTEGER}
 use Rattle.rpki_der.proofs.Reading.Calls.{reads-ok, reads-err, fails-as}
 use Rattle.rpki_keys.specs.Algorithm.{cert_algorithm_at}
-use Rattle.rpki_keys.specs.KeyForm.{key_at}
-use Rattle.rpki_keys.specs.NameForm.{name_at}
+use Rattle.rpki_keys.specs.Key.{key_at}
+use Rattle.rpki_keys.specs.Name.{name_at}
 use Rattle.rpki_basics.specs.Moment.{Period}
 use Rattle.rpki_extensions.specs.declared.extensions.Extensions.{Extensions}
 use Rattle.rpki_extensions.specs.Extensions.{extensions_at}

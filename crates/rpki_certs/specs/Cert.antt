@@ -7,12 +7,12 @@ use Rattle.rpki_der.specs.Form.Parts.{Sequence, Explicit, sequence_at, context_a
 use Rattle.rpki_der.specs.Read.Parse.{Parser, ◌>>=◌, primitive, this, u160_at, octets_in_bits_at}
 use Rattle.rpki_der.specs.Tags.{INTEGER}
 use Rattle.rpki_keys.specs.Algorithm.{CertAlgorithmForm, cert_algorithm_at}
-use Rattle.rpki_keys.specs.KeyForm.{KeyForm, key_at}
-use Rattle.rpki_keys.specs.NameForm.{NameForm, name_at}
+use Rattle.rpki_keys.specs.Key.{KeyForm, key_at}
+use Rattle.rpki_keys.specs.Name.{NameForm, name_at}
 use Rattle.rpki_basics.specs.Moment.{Period}
 use Rattle.rpki_basics.specs.Serial.{SerialForm}
-use Rattle.rpki_basics.specs.TimeForm.{TimeForm}
-use Rattle.rpki_basics.specs.TimeRead.{time_at}
+use Rattle.rpki_basics.specs.Time.Form.{TimeForm}
+use Rattle.rpki_basics.specs.Time.Read.{time_at}
 use Rattle.rpki_extensions.specs.declared.extensions.Extensions.{Extensions}
 use Rattle.rpki_extensions.specs.Extensions.{ExtensionsForm, extensions_at}
 

@@ -4,7 +4,7 @@ use Rattle.std.proofs.Common.{inl, inr, subst, ap, ◌∙◌, arith, length}
 use Rattle.std.proofs.lemmas.List.{length-map}
 use Rattle.std.specs.Borrow.{Bor}
 use Rattle.rpki_basics.specs.Moment.{Moment}
-use Rattle.rpki_basics.specs.TimeRead.{IsTimeOf}
+use Rattle.rpki_basics.specs.Time.Read.{IsTimeOf}
 use Rattle.rpki_issuers.specs.Issuer.{octets_of}
 use Rattle.rpki_command.specs.Answer.{Said, usage, cannot_read}
 use Rattle.rpki_command.specs.Command.{IsAnswerAt, HaveReadAt, AreReadAtMost, IsOfFiles}

@@ -47,7 +47,8 @@ asked-more before IsValid Says More held content result more (inr a) = inr (reco
 module _ {X : Type 0} (kind : Kind X) (form : List ℕ → X → Type 0) (mode : Mode) (digest : Digester)
     (verdict : Verdict) (issuer : Validated) (now : Moment)
     (Says More : KeptCertificate → Result (Unit {0}) ValidationError → Type 0)
-    (more : (k : KeptCertificate) (said : Result (Unit {0}) ValidationError) → Says k said → More k said)
+    (more : (k : KeptCertificate) (said : Result (Unit {0}) ValidationError)
+    → Says k said → More k said)
     (octets : List ℕ) where
   -- what is known of what was said may be weakened
   pub first-more : (result : Result (Validated × X) CheckError)

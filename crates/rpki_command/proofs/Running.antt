@@ -1,12 +1,14 @@
 -- What a run of the program does, from what it says.
 use Rattle.std.proofs.Common.{◌≡◌, ℕ, List, Option, Some, None, Result, Ok, Err, Vec, Global}
-use Rattle.std.proofs.Common.{sym, subst, inl, inr, refl, arith, ◌<◌, [], ◌∷◌, zero, suc, length, map}
+use Rattle.std.proofs.Common.{sym, subst, inl, inr, refl, arith, ◌<◌, [], ◌∷◌, zero, suc, length}
+use Rattle.std.proofs.Common.{map}
 use Rattle.std.proofs.Common.{get_or}
 use Rattle.std.specs.Prelude.{◌⊎◌}
 use Rattle.rpki_command.specs.Answer.{Run, Said, IsSaid, usage, cannot_read, out_of_memory}
 use Rattle.rpki_command.specs.Answer.{malformed, shown}
 use Rattle.rpki_command.specs.Command.{IsOfRead, IsOfFile, Task, ShowLines, CheckFiles, NotThere}
-use Rattle.rpki_command.specs.Command.{order_task, IsOfReads, IsOfFiles, IsAtTime, IsSaidAt, AreTold}
+use Rattle.rpki_command.specs.Command.{order_task, IsOfReads, IsOfFiles, IsAtTime, IsSaidAt}
+use Rattle.rpki_command.specs.Command.{AreTold}
 use Rattle.rpki_command.specs.Command.{IsTaskAnswer, IsAnswer, OrOutOfMemory, Shows, IsTaskDone}
 use Rattle.rpki_command.specs.Command.{IsRunOf, IsRunWith, IsSaidUnread, IsStartOf}
 use Rattle.rpki_command.specs.Arguments.{ToldArguments, AreTexts}

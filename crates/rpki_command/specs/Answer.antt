@@ -6,7 +6,8 @@ use Rattle.rpki_der.specs.Write.Encode.{Sunk}
 use Rattle.rpki_command.specs.declared.answer.Answer.{Answer}
 use Rattle.rpki_command.specs.declared.answer.Answer.TheVariants.{Usage, CannotRead, BadVerdicts}
 use Rattle.rpki_command.specs.declared.answer.Answer.TheVariants.{OutOfMemory, Malformed, Refused}
-use Rattle.rpki_command.specs.declared.answer.Answer.TheVariants.{IssuerMalformed, IssuerRefused, Shown}
+use Rattle.rpki_command.specs.declared.answer.Answer.TheVariants.{IssuerMalformed, IssuerRefused}
+use Rattle.rpki_command.specs.declared.answer.Answer.TheVariants.{Shown}
 
 -- what a run did to standard output and to standard error, and its exit status
 pub record Run : Type 0 where

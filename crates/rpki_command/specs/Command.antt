@@ -3,7 +3,7 @@ use Rattle.std.specs.Prelude.{◌≡◌, ℕ, ◌⊎◌, ◌+◌, ◌≤◌, Lis
 use Rattle.std.specs.Prelude.{Result, Ok, Err, Vec}
 use Rattle.std.specs.declared.alloc.Global.{Global}
 use Rattle.rpki_basics.specs.Moment.{Moment}
-use Rattle.rpki_basics.specs.TimeRead.{IsTimeOf}
+use Rattle.rpki_basics.specs.Time.Read.{IsTimeOf}
 use Rattle.rpki_issuers.specs.Issuer.{octets_of}
 use Rattle.rpki_command.specs.Answer.{Run, Said, IsSaid, usage, cannot_read, out_of_memory}
 use Rattle.rpki_command.specs.Answer.{malformed, shown}

@@ -1,3 +1,2 @@
-pub mod CrlExact
-pub mod ExtensionsExact
-pub mod Kept
+pub mod Crls
+pub mod CrlExtensions

@@ -7,10 +7,10 @@ use Rattle.rpki_der.specs.Form.Parts.{Sequence, Explicit, sequence_at, context_a
 use Rattle.rpki_der.specs.Read.Parse.{Parser, ◌>>=◌, primitive, this, octets_in_bits_at}
 use Rattle.rpki_der.specs.Tags.{INTEGER}
 use Rattle.rpki_keys.specs.Algorithm.{CertAlgorithmForm, cert_algorithm_at}
-use Rattle.rpki_keys.specs.NameForm.{NameForm, name_at}
+use Rattle.rpki_keys.specs.Name.{NameForm, name_at}
 use Rattle.rpki_basics.specs.Moment.{Moment}
-use Rattle.rpki_basics.specs.TimeForm.{TimeForm}
-use Rattle.rpki_basics.specs.TimeRead.{time_at}
+use Rattle.rpki_basics.specs.Time.Form.{TimeForm}
+use Rattle.rpki_basics.specs.Time.Read.{time_at}
 use Rattle.rpki_faults.specs.Checks.{Check, ◌unless◌}
 use Rattle.rpki_faults.specs.declared.verification.VerificationError.{VerificationError}
 use Rattle.rpki_faults.specs.declared.verification.VerificationError.TheVariants.{BadSignature}

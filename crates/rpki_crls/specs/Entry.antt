@@ -9,8 +9,8 @@ use Rattle.rpki_der.specs.Form.Parts.{Sequence, SequenceOf, sequence_at, sequenc
 use Rattle.rpki_der.specs.Read.Parse.{Parser, ◌>>=◌, optional, skip_all_at, u160_at}
 use Rattle.rpki_der.specs.Tags.{SEQUENCE}
 use Rattle.rpki_basics.specs.Serial.{SerialForm}
-use Rattle.rpki_basics.specs.TimeForm.{TimeForm}
-use Rattle.rpki_basics.specs.TimeRead.{time_at}
+use Rattle.rpki_basics.specs.Time.Form.{TimeForm}
+use Rattle.rpki_basics.specs.Time.Read.{time_at}
 
 -- crlEntryExtensions: a SEQUENCE of values that are skipped (5.1). That an entry may have any,
 -- against RFC 6487, section 5, is this project's own rule.

@@ -2,7 +2,8 @@
 //!
 //! The expected values stand in X.690 or follow from it by hand. A test hands want of memory on and
 //! asserts everything else, so `tools/growth` can refuse each of its allocations in turn. Streams,
-//! texts of errors, values that are made and copied, and rows that are long and cut are in the sweeps.
+//! texts of errors, values that are made and copied, and rows that are long and cut are in the
+//! sweeps.
 #![tactic(auto)]
 
 #[cfg(test)]

@@ -1,7 +1,5 @@
-pub mod ExtensionsExact
-pub mod NamesExact
+pub mod CertExtensions
+pub mod GeneralNames
 pub mod Resources
-pub mod Seen
-pub mod UriFacts
-pub mod UrisExact
+pub mod Uris
 pub mod Values

@@ -13,7 +13,7 @@ use Rattle.rpki_extensions.specs.declared.access.Access.{Access}
 use Rattle.rpki_extensions.specs.declared.access.SubjectAccess.{SubjectAccess}
 use Rattle.rpki_extensions.specs.Identifiers.{id_pkix}
 use Rattle.rpki_extensions.specs.Names.{NameForm, IsNamed, name_at, named}
-use Rattle.rpki_extensions.specs.UriTests.{rsync_of, https_of}
+use Rattle.rpki_extensions.specs.Uri.{rsync_of, https_of}
 
 -- id-ad, and an arc (4.2.2.1)
 abbrev pub id_ad : ℕ → List ℕ

@@ -9,5 +9,5 @@ pub mod Names
 pub mod Points
 pub mod Policies
 pub mod Purposes
-pub mod UriTests
+pub mod Uri
 pub mod Usage

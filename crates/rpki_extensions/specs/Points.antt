@@ -9,7 +9,7 @@ use Rattle.rpki_der.specs.Read.Parse.{Parser, ◌>>=◌}
 use Rattle.rpki_basics.specs.Uri.{IsRsync}
 use Rattle.rpki_extensions.specs.declared.name.Name.{Name}
 use Rattle.rpki_extensions.specs.Names.{NameForm, IsNamed, names_at, named}
-use Rattle.rpki_extensions.specs.UriTests.{rsync_of}
+use Rattle.rpki_extensions.specs.Uri.{rsync_of}
 
 -- The first of the names that is an rsync URI is this one (RFC 6487, section 4.8.6). That the first
 -- one counts is this project's own rule.

@@ -1,7 +1,7 @@
 //! URIs of texts.
 
 ghost use Rattle.std.specs.Prelude.{◌≡◌};
-ghost use Rattle.rpki_extensions.specs.UriTests.{rsync_of, https_of};
+ghost use Rattle.rpki_extensions.specs.Uri.{rsync_of, https_of};
 
 use bytes::Bytes;
 use rpki_basics::{Https, Rsync};

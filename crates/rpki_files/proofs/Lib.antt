@@ -1,9 +1,4 @@
 pub mod Names
-pub mod VersionExact
-pub mod Exact
-pub mod Distinct
-pub mod Written
-pub mod Named
+pub mod Versions
+pub mod Manifests
 pub mod Checklists
-pub mod Joined
-pub mod Contents

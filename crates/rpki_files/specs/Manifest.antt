@@ -4,8 +4,8 @@ use Rattle.std.specs.Prelude.{nat_le, if◌then◌else◌}
 use Rattle.std.specs.List.{flat_map}
 use Rattle.rpki_basics.specs.declared.limits.ManifestRule.{ManifestRule}
 use Rattle.rpki_basics.specs.Moment.{Moment, stamp}
-use Rattle.rpki_basics.specs.TimeForm.{TimeForm, generalized_octets}
-use Rattle.rpki_basics.specs.TimeRead.{time_at}
+use Rattle.rpki_basics.specs.Time.Form.{TimeForm, generalized_octets}
+use Rattle.rpki_basics.specs.Time.Read.{time_at}
 use Rattle.rpki_basics.specs.Serial.{SerialForm, serial_octets}
 use Rattle.rpki_keys.specs.Algorithm.{sha_256, named}
 use Rattle.rpki_der.specs.Tags.{SEQUENCE, OBJECT_IDENTIFIER, context}

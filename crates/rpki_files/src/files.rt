@@ -24,7 +24,7 @@ use std::marker::PhantomData;
 pub type FileSlices<'a> = FileAndHash<&'a [u8], &'a [u8]>;
 
 // Reads the name in front. That it is an IA5String has no test of its own: each name is one.
-#[tactic(auto, using(crate::proofs::Contents::name_found, crate::proofs::Contents::name_other, crate::proofs::Contents::name_none))]
+#[tactic(auto, using(crate::proofs::Names::Ia5::name_found, crate::proofs::Names::Ia5::name_other, crate::proofs::Names::Ia5::name_none))]
 fn take_name<'a>(reader: &mut SliceReader<'a>) -> Result<&'a [u8], Refused>
     ensures { Takes (λ n. n.now) name_at reader.old result reader.new }
 {
@@ -176,7 +176,7 @@ pub fn files_of(list: &EntryList<Files>) -> FileListIter<'_>
 }
 
 // Whether no two of the files have the same name, after one look-up in an ordered set for each.
-#[tactic(auto, using(crate::proofs::Distinct::seen_all))]
+#[tactic(auto, using(crate::proofs::Manifests::Distinct::seen_all))]
 fn are_distinct(alloc: Global, files: FileListIter<'_>) -> Result<bool, AllocError>
     ensures { IfOk result (λ b. b ≡ are_distinct name_of files.entry) }
 {

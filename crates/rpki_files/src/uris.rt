@@ -15,7 +15,7 @@ use std::alloc::{AllocError, Global};
 use std::marker::Model;
 
 // The URI with the name of a file after it.
-#[tactic(auto, using(crate::proofs::Joined::name_joined))]
+#[tactic(auto, using(crate::proofs::Names::Joined::name_joined))]
 fn below(alloc: Global, base: &Rsync, name: &[u8]) -> Result<Rsync, AllocError>
     requires { IsFileName name.now }
     ensures { IfOk result (λ uri. uri ≡ join_text base.now name.now) }

@@ -270,8 +270,8 @@ fn signed_data(alloc: Global, of: &ObjectOf) -> Result<Vec<u8>, AllocError> {
     nested(alloc, of, 0x30, &[&head, &content, &certs, &signer])
 }
 
-/// The octets of a signed object (RFC 5652, section 3). No clause says what they are: the form of an
-/// object stands above this crate, and what reads them tests them.
+/// The octets of a signed object (RFC 5652, section 3). No clause says what they are: the form of
+/// an object stands above this crate, and what reads them tests them.
 pub fn object_octets(alloc: Global, of: &ObjectOf) -> Result<Bytes, AllocError> {
     let kind = put(alloc, of, Field::InfoType, SIGNED_DATA)?;
     let signed = signed_data(alloc, of)?;

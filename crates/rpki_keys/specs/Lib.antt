@@ -1,6 +1,6 @@
 pub mod Algorithm
 pub mod Hex
-pub mod KeyForm
-pub mod NameForm
+pub mod Key
+pub mod Name
 pub mod Signer
 pub mod StandIn

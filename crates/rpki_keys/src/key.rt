@@ -10,7 +10,7 @@ ghost use Rattle.rpki_der.specs.Write.Parts.{contents_small};
 ghost use Rattle.rpki_der.specs.Read.Reads.{Reads, Found, Stays};
 ghost use Rattle.rpki_der.specs.Form.Decodes.{Decodes, DecodesNext};
 ghost use Rattle.rpki_der.specs.Tags.{SEQUENCE};
-ghost use Rattle.rpki_keys.specs.KeyForm.{KeyForm, key_fields_at, key_at, key_contents, key_octets};
+ghost use Rattle.rpki_keys.specs.Key.{KeyForm, key_fields_at, key_at, key_contents, key_octets};
 
 use crate::algorithm::{RSA_ENCRYPTION, RpkiSignatureAlgorithm, skip_algorithm};
 use crate::identifier::KeyIdentifier;
@@ -90,7 +90,7 @@ impl Eq for PublicKey {
 }
 
 // Reads the algorithm and the bits of a key.
-#[tactic(auto, unfolding(crate::specs::KeyForm::key_fields_at))]
+#[tactic(auto, unfolding(crate::specs::Key::key_fields_at))]
 fn take_fields(cons: &mut Constructed<'_>) -> Result<PublicKey, DecodeError>
     ensures { Reads (λ k. k) key_fields_at cons.old result cons.new }
 {
@@ -144,7 +144,7 @@ pub struct KeyEncoder<'a>(pub &'a PublicKey);
 impl Encode for KeyEncoder<'_> {
     ghost use Rattle.rpki_der.specs.Tags.{SEQUENCE};
     ghost use Rattle.rpki_der.specs.Write.Parts.{contents_small};
-    ghost use Rattle.rpki_keys.specs.KeyForm.{key_contents, key_octets};
+    ghost use Rattle.rpki_keys.specs.Key.{key_contents, key_octets};
 
     ghost octets = { λ e. key_octets e.0.now };
 

@@ -6,15 +6,15 @@ ghost use Rattle.rpki_der.specs.declared.mode.Mode.{Mode};
 ghost use Rattle.rpki_der.specs.declared.mode.Mode.TheVariants.{Der};
 ghost use Rattle.rpki_der.specs.Read.Exact.{IsReading};
 ghost use Rattle.rpki_der.specs.Grammar.{IsBytes};
-ghost use Rattle.rpki_keys.specs.NameForm.{IsName, NameForm, KeyNameForm, name_at};
-ghost use Rattle.rpki_keys.specs.NameForm.{key_name_octets};
+ghost use Rattle.rpki_keys.specs.Name.{IsName, NameForm, KeyNameForm, name_at};
+ghost use Rattle.rpki_keys.specs.Name.{key_name_octets};
 ghost use Rattle.rpki_keys.specs.Algorithm.{AlgorithmForm, DigestAlgorithmForm, CmsAlgorithmForm};
 ghost use Rattle.rpki_keys.specs.Algorithm.{CertAlgorithmForm, algorithm_at, digest_algorithm_at};
 ghost use Rattle.rpki_keys.specs.Algorithm.{cms_algorithm_at, cert_algorithm_at, algorithm_alone};
 ghost use Rattle.rpki_keys.specs.Algorithm.{algorithm_and_null, digest_algorithm_octets};
 ghost use Rattle.rpki_keys.specs.Algorithm.{cms_algorithm_octets, cert_algorithm_octets};
-ghost use Rattle.rpki_keys.specs.KeyForm.{KeyForm, key_at, key_contents, key_octets};
-ghost use Rattle.rpki_keys.specs.KeyForm.{key_octets_alone};
+ghost use Rattle.rpki_keys.specs.Key.{KeyForm, key_at, key_contents, key_octets};
+ghost use Rattle.rpki_keys.specs.Key.{key_octets_alone};
 ghost use Rattle.rpki_keys.specs.StandIn.{IsStandInSignature, is_stand_in_signature};
 
 /// Reading an algorithm is exact and unique, and DER is a part of BER (RFC 5280, section 4.1.1.2).

@@ -8,7 +8,7 @@ ghost use Rattle.rpki_der.specs.Read.Parse.{skip_all_at};
 ghost use Rattle.rpki_der.specs.Read.Reads.{Reads, Stays, OnlyMalformed, OnlyMalformedOrMemory};
 ghost use Rattle.rpki_der.specs.Form.Decodes.{DecodesNext};
 ghost use Rattle.rpki_der.specs.Form.Parts.{sequence_at};
-ghost use Rattle.rpki_keys.specs.NameForm.{IsName, NameForm, name_at, key_name_octets};
+ghost use Rattle.rpki_keys.specs.Name.{IsName, NameForm, name_at, key_name_octets};
 
 use crate::hex::push_hex;
 use crate::identifier::KeyIdentifier;
@@ -28,7 +28,7 @@ pub struct Name {
 
 impl Model for Name {
     ghost use Rattle.rpki_der.specs.Captured.{Kept};
-    ghost use Rattle.rpki_keys.specs.NameForm.{IsName};
+    ghost use Rattle.rpki_keys.specs.Name.{IsName};
 
     ghost Value = { Kept };
 

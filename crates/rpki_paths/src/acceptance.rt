@@ -19,9 +19,9 @@ use crate::pairs::{Accepts, PairFault, Seeks, pair_off};
 use crate::walker::Path;
 use crate::walks::{WalksFault, walk_each};
 use std::alloc::{AllocError, Global};
-use std::sync::ledger::Ledger;
 use std::error::Error;
 use std::fmt;
+use std::sync::ledger::Ledger;
 
 /// A carried signer, which takes the end-entity certificate that it names and whose key verifies
 /// it.

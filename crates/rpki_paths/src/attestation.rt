@@ -17,9 +17,9 @@ use crate::pairs::Accepts;
 use crate::supply::{Supplied, SupplyFault, supply_all};
 use crate::walker::Path;
 use std::alloc::Global;
-use std::sync::ledger::Ledger;
 use std::error::Error;
 use std::fmt;
+use std::sync::ledger::Ledger;
 
 /// Why an attestation is not granted.
 #[derive(Clone, Copy, Debug, PartialEq, Eq)]

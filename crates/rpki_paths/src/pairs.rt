@@ -13,9 +13,9 @@ use crate::asked::Asked;
 use crate::certificate::KeyId;
 use crate::places::Places;
 use std::alloc::{AllocError, Global};
-use std::sync::ledger::Ledger;
 use std::error::Error;
 use std::fmt;
+use std::sync::ledger::Ledger;
 
 /// What takes one of some others: by a key identifier, and by a verdict on the two.
 pub trait Seeks<Y> {

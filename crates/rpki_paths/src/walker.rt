@@ -1,6 +1,7 @@
 //! The walk from an end-entity certificate up the carried CAs.
 
-ghost use Rattle.std.specs.Prelude.{map, ◌≡◌, ◌≢◌, ℕ, ◌+◌, ◌<◌, ◌≤◌, length, IfOk, IfErr, OnOk, Some};
+ghost use Rattle.std.specs.Prelude.{map, ◌≡◌, ◌≢◌, ℕ, ◌+◌, ◌<◌, ◌≤◌, length, IfOk, IfErr, OnOk};
+ghost use Rattle.std.specs.Prelude.{Some};
 ghost use Rattle.std.specs.Prelude.{IsFalse, slice_index};
 ghost use Rattle.rpki_paths.specs.declared.walker.Found.{Found};
 ghost use Rattle.rpki_paths.specs.declared.walker.PathFault.{PathFault};
@@ -17,9 +18,9 @@ use crate::family::Family;
 use crate::places::Places;
 use crate::sets::KeptSets;
 use std::alloc::{AllocError, Global};
-use std::sync::ledger::Ledger;
 use std::error::Error;
 use std::fmt;
+use std::sync::ledger::Ledger;
 
 /// The head of a path, its place (0 for the end-entity certificate, else one more than the CA's
 /// index), what is kept of the explicit sets, and whether the path is anchored.

@@ -1,6 +1,7 @@
 //! Walks from several end-entity certificates up the same CAs.
 
-ghost use Rattle.std.specs.Prelude.{◌≡◌, ◌≢◌, ℕ, ◌+◌, ◌*◌, ◌<◌, ◌≤◌, map, length, slice_index, Some};
+ghost use Rattle.std.specs.Prelude.{◌≡◌, ◌≢◌, ℕ, ◌+◌, ◌*◌, ◌<◌, ◌≤◌, map, length, slice_index};
+ghost use Rattle.std.specs.Prelude.{Some};
 ghost use Rattle.std.specs.Prelude.{IfOk, IfErr, OnOk};
 ghost use Rattle.rpki_paths.specs.declared.walks.WalksFault.{WalksFault};
 ghost use Rattle.rpki_paths.specs.Kept.{AreRefused, AreWalked, walks_fault};
@@ -14,9 +15,9 @@ use crate::pairs::append;
 use crate::places::Places;
 use crate::walker::{Path, PathFault, walk};
 use std::alloc::{AllocError, Global};
-use std::sync::ledger::Ledger;
 use std::error::Error;
 use std::fmt;
+use std::sync::ledger::Ledger;
 
 /// Why not all end-entity certificates have paths on which all CAs stand.
 #[derive(Clone, Copy, Debug, PartialEq, Eq)]

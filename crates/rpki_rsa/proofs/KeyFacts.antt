@@ -20,7 +20,7 @@ use Rattle.rpki_der.proofs.Writing.Lengths.{test}
 use Rattle.rpki_der.proofs.Writing.Numbers.{integer-is, digits-unique}
 use Rattle.rpki_der.proofs.Writing.Numbers.{length-integer_contents}
 use Rattle.rpki_basics.specs.Serial.{digits}
-use Rattle.rpki_basics.proofs.SerialWriting.{length-digits, number-digits}
+use Rattle.rpki_basics.proofs.Serials.Written.{length-digits, number-digits}
 use Rattle.rpki_rsa.specs.Signature.{key_with, IsModulus, IsRsaKey, HasOctets}
 use Rattle.rpki_rsa.specs.Signature.{contents_in, modulus_in}
 use Rattle.rpki_rsa.specs.KeyParts.{key_front, key_end, HasContents, HasDigits, IsModulusOf}

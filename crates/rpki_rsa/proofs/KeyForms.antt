@@ -15,7 +15,7 @@ use Rattle.rpki_der.proofs.Writing.Numbers.{integer-is, length-integer_contents}
 use Rattle.rpki_der.proofs.Writing.Numbers.{length-number_octets}
 use Rattle.rpki_der.proofs.Writing.Values.{number-written, number-unique, integer-unique}
 use Rattle.rpki_basics.specs.Serial.{digits}
-use Rattle.rpki_basics.proofs.SerialWriting.{length-digits, number-digits}
+use Rattle.rpki_basics.proofs.Serials.Written.{length-digits, number-digits}
 use Rattle.rpki_rsa.specs.Signature.{key_with, rsa_key_octets, IsModulus, IsRsaKey, RsaKeyForm}
 use Rattle.rpki_rsa.proofs.KeyFacts.{bytes-digits, bits_4096}
 

@@ -2,7 +2,7 @@
 use Rattle.std.proofs.Common.{ℕ, List}
 use Rattle.rpki_der.specs.Tags.{SEQUENCE}
 use Rattle.rpki_resources.proofs.Readings.{part-reading}
-use Rattle.rpki_sigobj.proofs.ObjectExact.{object-part}
+use Rattle.rpki_sigobj.proofs.Objects.Exact.{object-part}
 use Rattle.rpki_signed.specs.Object.{IsInBer}
 
 pub in-ber : {X : Type 0} (type : List ℕ) (form : List ℕ → X → Type 0) → IsInBer type form

@@ -1,5 +1,3 @@
 pub mod Asked
-pub mod Kept
-pub mod ObjectExact
-pub mod Types
+pub mod Objects
 pub mod Valid

@@ -11,7 +11,7 @@ use Rattle.rpki_keys.specs.Algorithm.{DigestAlgorithmForm, CmsAlgorithmForm}
 use Rattle.rpki_keys.specs.Algorithm.{digest_algorithm_at, cms_algorithm_at}
 use Rattle.rpki_attributes.specs.declared.attribute.OtherTypes.TheVariants.{Refuse}
 use Rattle.rpki_attributes.specs.Attrs.{SignedAttributes, SignedAttrsForm}
-use Rattle.rpki_attributes.specs.AttrsRead.{attrs_at}
+use Rattle.rpki_attributes.specs.Attrs.Read.{attrs_at}
 use Rattle.rpki_extensions.specs.KeyIdentifiers.{KeyIdForm, key_id_at}
 
 -- What a signer says: the identifier of its key, the attributes that it signed, and its signature.

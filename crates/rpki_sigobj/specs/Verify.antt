@@ -10,7 +10,7 @@ use Rattle.rpki_faults.specs.declared.validation.ValidationError.TheVariants.{In
 use Rattle.rpki_faults.specs.declared.validation.ValidationError.TheVariants.{Verification}
 use Rattle.rpki_faults.specs.declared.verification.VerificationError.{VerificationError}
 use Rattle.rpki_faults.specs.declared.verification.VerificationError.TheVariants as faults
-use Rattle.rpki_attributes.specs.AttrsMade.{message_of}
+use Rattle.rpki_attributes.specs.Attrs.Made.{message_of}
 use Rattle.rpki_certs.specs.Verify.{Verdict}
 use Rattle.rpki_sigobj.specs.Object.{SignedData}
 

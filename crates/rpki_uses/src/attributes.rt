@@ -7,8 +7,8 @@ ghost use Rattle.rpki_der.specs.Read.Parse.{◌>>=◌ as ◌and_then◌, octets_
 ghost use Rattle.rpki_der.specs.Read.Reads.{Reads};
 ghost use Rattle.rpki_attributes.specs.declared.attribute.OtherTypes.TheVariants.{Refuse};
 ghost use Rattle.rpki_attributes.specs.Attrs.{SignedAttributes, SignedAttrsForm};
-ghost use Rattle.rpki_attributes.specs.AttrsMade.{message_of};
-ghost use Rattle.rpki_attributes.specs.AttrsRead.{attrs_at};
+ghost use Rattle.rpki_attributes.specs.Attrs.Made.{message_of};
+ghost use Rattle.rpki_attributes.specs.Attrs.Read.{attrs_at};
 
 use bytes::Bytes;
 use rpki_attributes::{AttrsFault, MessageDigest, SignedAttrs};

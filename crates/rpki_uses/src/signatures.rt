@@ -1,7 +1,7 @@
 //! Signatures, as those who rely on signed objects test them.
 
 ghost use Rattle.std.specs.Prelude.{◌≡◌, ◌↔◌, IsTrue, IfOk};
-ghost use Rattle.rpki_attributes.specs.AttrsMade.{message_of};
+ghost use Rattle.rpki_attributes.specs.Attrs.Made.{message_of};
 ghost use Rattle.rpki_rsa.specs.Signature.{IsRsaSignature};
 
 use crate::attributes::message_for;

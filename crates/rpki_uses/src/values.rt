@@ -7,10 +7,10 @@ ghost use Rattle.rpki_der.specs.declared.encode.EncodeError.TheVariants.{Memory}
 ghost use Rattle.rpki_der.specs.Grammar.{Front, HasNoFront};
 ghost use Rattle.rpki_der.specs.Read.Parse.{◌>>=◌ as ◌and_then◌};
 ghost use Rattle.rpki_der.specs.Read.Reads.{Reads, Refuses};
-ghost use Rattle.rpki_keys.specs.KeyForm.{KeyForm};
-ghost use Rattle.rpki_keys.specs.NameForm.{key_name_octets};
+ghost use Rattle.rpki_keys.specs.Key.{KeyForm};
+ghost use Rattle.rpki_keys.specs.Name.{key_name_octets};
 ghost use Rattle.rpki_basics.specs.Moment.{stamp};
-ghost use Rattle.rpki_basics.specs.TimeRead.{time_at};
+ghost use Rattle.rpki_basics.specs.Time.Read.{time_at};
 
 use bytes::Bytes;
 use rpki_basics::{Crypto, Digest, KeyIdentifier, PublicKey, RpkiSignature, Time, Validity};

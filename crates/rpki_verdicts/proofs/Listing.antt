@@ -14,7 +14,7 @@ use Rattle.rpki_der.specs.Write.Written.{length_value_octets_le}
 use Rattle.rpki_der.specs.Tags.{BIT_STRING}
 use Rattle.rpki_der.proofs.Writing.Strings.{bits-whole}
 use Rattle.rpki_keys.specs.Algorithm.{algorithm_and_null, rsa_encryption}
-use Rattle.rpki_keys.specs.KeyForm.{key_contents, key_octets}
+use Rattle.rpki_keys.specs.Key.{key_contents, key_octets}
 use Rattle.rpki_verdicts.specs.Listed.{IsListed, has_line, is_listed}
 use Rattle.rpki_verdicts.specs.Verdicts.{digest_text, line_of}
 

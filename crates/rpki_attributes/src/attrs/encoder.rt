@@ -4,7 +4,7 @@ ghost use Rattle.std.specs.Prelude.{◌≡◌, ◌<◌, ◌^◌, length};
 ghost use Rattle.rpki_der.specs.declared.mode.Mode.TheVariants.{Der};
 ghost use Rattle.rpki_der.specs.Tags.{context};
 ghost use Rattle.rpki_der.specs.Write.Parts.{contents_small};
-ghost use Rattle.rpki_attributes.specs.AttrsMade.{attrs_octets};
+ghost use Rattle.rpki_attributes.specs.Attrs.Made.{attrs_octets};
 
 use crate::attrs::SignedAttrs;
 use rpki_der::encode::{Raw, Value, tagged};

@@ -4,11 +4,11 @@ ghost use Rattle.std.specs.Prelude.{◌≡◌};
 ghost use Rattle.rpki_der.specs.Numbers.{MAX_DEPTH};
 ghost use Rattle.rpki_der.specs.Read.Parse.{oid_at, octets_at};
 ghost use Rattle.rpki_der.specs.Read.Reads.{Reads, Stays, Tells};
-ghost use Rattle.rpki_basics.specs.TimeRead.{time_at};
+ghost use Rattle.rpki_basics.specs.Time.Read.{time_at};
 ghost use Rattle.rpki_attributes.specs.Attribute.{id_content_type, id_message_digest};
 ghost use Rattle.rpki_attributes.specs.Attribute.{id_signing_time};
-ghost use Rattle.rpki_attributes.specs.AttrsRead.{said_by, fields_of, says_of, list_at};
-ghost use Rattle.rpki_attributes.specs.AttrsRead.{contents_at, attrs_at};
+ghost use Rattle.rpki_attributes.specs.Attrs.Read.{said_by, fields_of, says_of, list_at};
+ghost use Rattle.rpki_attributes.specs.Attrs.Read.{contents_at, attrs_at};
 
 use crate::attribute::{Attribute, CONTENT_TYPE, MESSAGE_DIGEST, OtherTypes, SIGNING_TIME};
 use crate::attrs::{Fields, MOST};
@@ -53,7 +53,7 @@ fn signing_time(list: &[Attribute], mode: Mode) -> Result<Time, DecodeError>
 }
 
 // What these attributes say.
-#[tactic(auto, unfolding(crate::specs::AttrsRead::fields_of))]
+#[tactic(auto, unfolding(crate::specs::Attrs::Read::fields_of))]
 fn fields_of(
     contents: Bytes,
     mode: Mode,
@@ -74,7 +74,7 @@ fn fields_of(
 }
 
 // What these attributes say, if they are not too many octets.
-#[tactic(auto, unfolding(crate::specs::AttrsRead::says_of))]
+#[tactic(auto, unfolding(crate::specs::Attrs::Read::says_of))]
 fn says_of(
     contents: Bytes,
     mode: Mode,

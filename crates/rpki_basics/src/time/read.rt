@@ -5,15 +5,15 @@ ghost use Rattle.rpki_der.specs.Read.Parse.{Finds, primitive};
 ghost use Rattle.rpki_der.specs.Read.Reads.{Reads, Stays};
 ghost use Rattle.rpki_der.specs.Form.Decodes.{DecodesNext};
 ghost use Rattle.rpki_der.specs.Tags.{GENERALIZED_TIME};
-ghost use Rattle.rpki_basics.specs.TimeForm.{TimeForm};
-ghost use Rattle.rpki_basics.specs.TimeRead.{pair_at, is_zulu, after_year_of, utc_of};
-ghost use Rattle.rpki_basics.specs.TimeRead.{generalized_of, time_at, IsTimeOf};
+ghost use Rattle.rpki_basics.specs.Time.Form.{TimeForm};
+ghost use Rattle.rpki_basics.specs.Time.Read.{pair_at, is_zulu, after_year_of, utc_of};
+ghost use Rattle.rpki_basics.specs.Time.Read.{generalized_of, time_at, IsTimeOf};
 
 use crate::time::Time;
 use rpki_der::{Constructed, DecodeError, Reason, Tag};
 
 // Two decimal digits at the front, and what follows them.
-#[tactic(auto, unfolding(crate::specs::TimeRead::pair_at))]
+#[tactic(auto, unfolding(crate::specs::Time::Read::pair_at))]
 fn take_pair(text: &[u8]) -> Option<(u8, &[u8])>
     ensures digits { Finds (λ p. (p.0, p.1.now)) result (pair_at text.now) }
     ensures small { IfSome result (λ p. p.0 < 100) }
@@ -27,7 +27,7 @@ fn take_pair(text: &[u8]) -> Option<(u8, &[u8])>
 }
 
 // Whether a text is Z alone.
-#[tactic(auto, unfolding(crate::specs::TimeRead::is_zulu))]
+#[tactic(auto, unfolding(crate::specs::Time::Read::is_zulu))]
 fn is_zulu(text: &[u8]) -> bool
     ensures { result ≡ is_zulu text.now }
 {
@@ -38,7 +38,7 @@ fn is_zulu(text: &[u8]) -> bool
 }
 
 // The moment in that year that these digits name.
-#[tactic(auto, unfolding(crate::specs::TimeRead::after_year_of))]
+#[tactic(auto, unfolding(crate::specs::Time::Read::after_year_of))]
 fn in_year(year: u16, text: &[u8]) -> Option<Time>
     ensures { Finds (λ t. t) result (after_year_of year text.now) }
 {
@@ -55,7 +55,7 @@ fn in_year(year: u16, text: &[u8]) -> Option<Time>
 }
 
 // The moment of a UTCTime.
-#[tactic(auto, unfolding(crate::specs::TimeRead::utc_of))]
+#[tactic(auto, unfolding(crate::specs::Time::Read::utc_of))]
 fn utc_time(text: &[u8]) -> Option<Time>
     ensures { Finds (λ t. t) result (utc_of text.now) }
 {
@@ -66,7 +66,7 @@ fn utc_time(text: &[u8]) -> Option<Time>
 }
 
 // The moment of a GeneralizedTime.
-#[tactic(auto, unfolding(crate::specs::TimeRead::generalized_of))]
+#[tactic(auto, unfolding(crate::specs::Time::Read::generalized_of))]
 fn generalized_time(text: &[u8]) -> Option<Time>
     ensures { Finds (λ t. t) result (generalized_of text.now) }
 {
@@ -102,7 +102,7 @@ fn take_generalized(cons: &mut Constructed<'_>) -> Result<Time, DecodeError>
 }
 
 // Reads a time.
-#[tactic(auto, unfolding(crate::specs::TimeRead::time_at))]
+#[tactic(auto, unfolding(crate::specs::Time::Read::time_at))]
 fn take_time(cons: &mut Constructed<'_>) -> Result<Time, DecodeError>
     ensures reads { Reads (λ t. t) time_at cons.old result cons.new }
     ensures stays { Stays result cons.new }

@@ -1,7 +1,7 @@
 //! The text of a time.
 
 ghost use Rattle.std.specs.Prelude.{◌≡◌, ◌<◌, Some};
-ghost use Rattle.rpki_basics.specs.TimeForm.{two_digits, iso_text};
+ghost use Rattle.rpki_basics.specs.Time.Form.{two_digits, iso_text};
 
 use crate::time::Time;
 use std::fmt;
@@ -15,7 +15,7 @@ struct Two {
 }
 
 impl fmt::Display for Two {
-    ghost use Rattle.rpki_basics.specs.TimeForm.{two_digits};
+    ghost use Rattle.rpki_basics.specs.Time.Form.{two_digits};
 
     ghost output = { λ two. Some (two_digits two.n) };
 
@@ -28,7 +28,7 @@ impl fmt::Display for Two {
 
 /// As `2024-01-01T00:00:00Z` (RFC 3339, section 5.6).
 impl fmt::Display for Time {
-    ghost use Rattle.rpki_basics.specs.TimeForm.{iso_text};
+    ghost use Rattle.rpki_basics.specs.Time.Form.{iso_text};
 
     ghost output = { λ t. Some (iso_text t) };
 

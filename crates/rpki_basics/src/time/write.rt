@@ -4,8 +4,8 @@ ghost use Rattle.std.specs.Prelude.{◌≡◌, ◌<◌, true, false};
 ghost use Rattle.rpki_der.specs.Write.Written.{value_octets};
 ghost use Rattle.rpki_der.specs.declared.mode.Mode.TheVariants.{Der};
 ghost use Rattle.rpki_der.specs.Tags.{UTC_TIME};
-ghost use Rattle.rpki_basics.specs.TimeForm.{TimeForm, two_digits, utc_text, is_utc_year};
-ghost use Rattle.rpki_basics.specs.TimeForm.{time_octets, generalized_octets, encoded_time};
+ghost use Rattle.rpki_basics.specs.Time.Form.{TimeForm, two_digits, utc_text, is_utc_year};
+ghost use Rattle.rpki_basics.specs.Time.Form.{time_octets, generalized_octets, encoded_time};
 
 use crate::time::Time;
 use rpki_der::{Encode, EncodeError, Sink, SinkFailed};
@@ -21,7 +21,7 @@ pub struct TimeEncoder {
 
 impl Model for TimeEncoder {
     ghost use Rattle.std.specs.Prelude.{ℕ, List};
-    ghost use Rattle.rpki_basics.specs.TimeForm.{encoded_time};
+    ghost use Rattle.rpki_basics.specs.Time.Form.{encoded_time};
 
     ghost Value = { List ℕ };
 

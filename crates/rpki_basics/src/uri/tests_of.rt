@@ -7,8 +7,8 @@ ghost use Rattle.std.specs.List.{list_all};
 ghost use Rattle.rpki_basics.specs.Segments.{segments};
 ghost use Rattle.rpki_basics.specs.Uri.{is_uri_octet, Follows, HasScheme, GoesOn, AreRsyncSegments};
 ghost use Rattle.rpki_basics.specs.Uri.{AreHttpsSegments};
-ghost use Rattle.rpki_basics.specs.UriTests.{is_dot_segment, is_path, are_rsync_segments};
-ghost use Rattle.rpki_basics.specs.UriTests.{are_https_segments};
+ghost use Rattle.rpki_basics.specs.Uri.Tests.{is_dot_segment, is_path, are_rsync_segments};
+ghost use Rattle.rpki_basics.specs.Uri.Tests.{are_https_segments};
 
 use super::segments::split_segment;
 

@@ -2,7 +2,7 @@
 use Rattle.std.specs.Prelude.{ℕ, List, ◌++◌, codes}
 use Rattle.rpki_basics.specs.Moment.{Moment}
 use Rattle.rpki_basics.specs.Serial.{serial_text}
-use Rattle.rpki_basics.specs.TimeForm.{iso_text}
+use Rattle.rpki_basics.specs.Time.Form.{iso_text}
 use Rattle.rpki_certs.specs.Cert.{Certificate}
 use Rattle.rpki_keys.specs.Hex.{upper_hex}
 use Rattle.rpki_signed.specs.Object.{Whole}

@@ -37,7 +37,8 @@ any-here P x xs p = (zero, x, omega arith, refl, p)
 pub any-there : {I : Type 0} (P : I → Type 0) (x : I) (xs : List I) → Any P xs → Any P (x ∷ xs)
 any-there P x xs h = (suc h.0, h.1, omega (arith, h.2), h.3, h.4)
 
-pub any-cases : {I : Type 0} (P : I → Type 0) (x : I) (xs : List I) → Any P (x ∷ xs) → P x ⊎ Any P xs
+pub any-cases : {I : Type 0} (P : I → Type 0) (x : I) (xs : List I) → Any P (x ∷ xs)
+    → P x ⊎ Any P xs
 any-cases P x xs (zero, y, lt, is, p) = inl (subst P (sym is) p)
 any-cases P x xs (suc k, y, lt, is, p) = inr (k, y, omega (arith, lt), is, p)
 

@@ -162,7 +162,8 @@ exact-guard ends false p G e = record {
 
 -- ---- values whose contents are understood
 
-pub whole-some : {X : Type 0} (f : Option (X × List ℕ)) (x : X) → whole f ≡ Some x → f ≡ Some (x, [])
+pub whole-some : {X : Type 0} (f : Option (X × List ℕ)) (x : X) → whole f ≡ Some x
+    → f ≡ Some (x, [])
 whole-some None x e = absurd cc
 whole-some (Some (y, [])) x e = let p : y ≡ x = some_is _ _ e in ap (λ (z : _). Some (z, [])) p
 whole-some (Some (y, b ∷ r)) x e = absurd cc

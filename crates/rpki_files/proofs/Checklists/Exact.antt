@@ -13,7 +13,7 @@ use Rattle.rpki_der.proofs.Form.Fields.{field, fixed, skipped, done, within}
 use Rattle.rpki_der.proofs.Form.Kinds.{ia5-part, octets-part}
 use Rattle.rpki_der.proofs.Form.Words.{in-tag, pass, make, option, default}
 use Rattle.rpki_keys.specs.Algorithm.{digest_algorithm_at}
-use Rattle.rpki_keys.proofs.AlgorithmParts.{digest-part}
+use Rattle.rpki_keys.proofs.Algorithms.Parts.{digest-part}
 use Rattle.rpki_lists.specs.Entries.{list_at}
 use Rattle.rpki_lists.proofs.Exact.{list-part, part-spelt}
 use Rattle.rpki_resources.specs.Families.Form.{FamiliesForm}
@@ -30,8 +30,8 @@ use Rattle.rpki_files.specs.Checklist.{names_some, sets_of, number_fields_at}
 use Rattle.rpki_files.specs.Checklist.{addresses_at, named_fields_at, sets_at, listed_at, fields_at}
 use Rattle.rpki_files.specs.Checklist.{checklist_at}
 use Rattle.rpki_files.specs.declared.checklist.read.Named.{Named}
-use Rattle.rpki_files.proofs.Exact.{as-reading, within-spelt}
-use Rattle.rpki_files.proofs.VersionExact.{version-part}
+use Rattle.rpki_files.proofs.Manifests.Exact.{as-reading, within-spelt}
+use Rattle.rpki_files.proofs.Versions.Exact.{version-part}
 
 -- ---- a file
 

@@ -11,7 +11,7 @@ use Rattle.rpki_lists.specs.Entries.{entries_of, HoldEntries}
 use Rattle.rpki_files.specs.Checked.{Checked, IsNamed, is_portable_name, portable_at}
 use Rattle.rpki_files.specs.Checked.{portable_if_at}
 use Rattle.rpki_files.specs.Checked.{checked_fields_at, checked_at}
-use Rattle.rpki_files.proofs.Named.{entries-good, in-sequence, tested-good}
+use Rattle.rpki_files.proofs.Manifests.Named.{entries-good, in-sequence, tested-good}
 
 name-good : (b : List ℕ) (name : Option (List ℕ)) (r : List ℕ)
     → portable_if_at Der b ≡ Some (name, r) → IfSome name (λ n. is_portable_name n ≡ true)

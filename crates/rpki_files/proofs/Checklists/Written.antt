@@ -42,7 +42,7 @@ use Rattle.rpki_files.specs.Checklist.{or_nothing, sets_of, is_there, is_none, w
 use Rattle.rpki_files.specs.Checklist.{numbers_octets, family_contents, family_octets}
 use Rattle.rpki_files.specs.Checklist.{families_octets, addresses_octets, named_contents}
 use Rattle.rpki_files.specs.Checklist.{files_octets, checklist_contents, checklist_octets}
-use Rattle.rpki_files.proofs.Names.{portable-below}
+use Rattle.rpki_files.proofs.Names.Decided.{portable-below}
 use Rattle.rpki_der.proofs.Form.Words.{items-join}
 
 -- a set that is written in its form, where it is short
@@ -116,8 +116,6 @@ family-items family (b ∷ set) written short = (
   sym (append-nil (family_octets family (b ∷ set))),
   entry-written family (b ∷ set) written short,
   refl,
-)
-
 )
 
 -- ---- both families

@@ -139,8 +139,6 @@ family-items family (a ∷ xs) all short = (
   refl,
 )
 
-)
-
 -- ---- both families
 
 -- what stands for a family with addresses

@@ -5,8 +5,8 @@ use Rattle.rpki_der.specs.Tags.{SEQUENCE}
 use Rattle.rpki_der.proofs.Reading.Calls.{reads_shorter}
 use Rattle.rpki_der.proofs.Reading.Loops.{so_far-more, so_far-end, so_far-err}
 use Rattle.rpki_attributes.specs.Attribute.{Attribute}
-use Rattle.rpki_attributes.specs.AttributeRead.{attribute_at}
-use Rattle.rpki_attributes.proofs.AttributeExact.{attribute-shortens}
+use Rattle.rpki_attributes.specs.Attribute.Read.{attribute_at}
+use Rattle.rpki_attributes.proofs.Attributes.Exact.{attribute-shortens}
 use Rattle.rpki_attributes.proofs.list.take_list.Goals as goal
 
 pub returns-in_err-attribute : goal.returns-in_err-attribute

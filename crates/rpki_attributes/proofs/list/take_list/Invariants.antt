@@ -2,7 +2,7 @@ use Rattle.std.proofs.Common.{length}
 use Rattle.rpki_der.specs.Read.Parse.{optional}
 use Rattle.rpki_der.specs.Read.Reads.{ReadSoFar}
 use Rattle.rpki_der.specs.Tags.{SEQUENCE}
-use Rattle.rpki_attributes.specs.AttributeRead.{attribute_at}
+use Rattle.rpki_attributes.specs.Attribute.Read.{attribute_at}
 use Rattle.rpki_attributes.proofs.list.take_list.Given as goal
 
 abbrev pub invariant-loop-list : goal.invariant-loop-list

@@ -1,6 +1,6 @@
-use Rattle.rpki_basics.proofs.SerialWriting.{serial-written}
-use Rattle.rpki_basics.proofs.SerialWriting.{serial-unique}
-use Rattle.rpki_basics.proofs.SerialWriting.{serial-read}
+use Rattle.rpki_basics.proofs.Serials.Written.{serial-written}
+use Rattle.rpki_basics.proofs.Serials.Written.{serial-unique}
+use Rattle.rpki_basics.proofs.Serials.Written.{serial-read}
 use Rattle.rpki_basics.proofs.laws.serials_are_written.Goals as goal
 
 pub returns-clause-written : goal.returns-clause-written

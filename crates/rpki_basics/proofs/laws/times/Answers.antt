@@ -1,4 +1,4 @@
-use Rattle.rpki_basics.proofs.TimeReading.{time_reading}
+use Rattle.rpki_basics.proofs.Times.Read.{time_reading}
 use Rattle.rpki_basics.proofs.laws.times.Goals as goal
 
 pub returns : goal.returns

@@ -1,5 +1,5 @@
-use Rattle.rpki_basics.proofs.TimeOrder.{stamp-order}
-use Rattle.rpki_basics.proofs.TimeOrder.{stamp-one}
+use Rattle.rpki_basics.proofs.Times.Order.{stamp-order}
+use Rattle.rpki_basics.proofs.Times.Order.{stamp-one}
 use Rattle.rpki_basics.proofs.laws.times_are_ordered.Goals as goal
 
 pub returns-clause-order : goal.returns-clause-order

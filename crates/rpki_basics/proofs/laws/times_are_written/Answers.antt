@@ -1,8 +1,8 @@
-use Rattle.rpki_basics.proofs.TimeWriting.{time_written}
-use Rattle.rpki_basics.proofs.TimeWriting.{generalized_written}
-use Rattle.rpki_basics.proofs.TimeWriting.{time-only}
-use Rattle.rpki_basics.proofs.TimeWriting.{time_read}
-use Rattle.rpki_basics.proofs.TimeWriting.{generalized_read}
+use Rattle.rpki_basics.proofs.Times.Written.{time_written}
+use Rattle.rpki_basics.proofs.Times.Written.{generalized_written}
+use Rattle.rpki_basics.proofs.Times.Written.{time-only}
+use Rattle.rpki_basics.proofs.Times.Written.{time_read}
+use Rattle.rpki_basics.proofs.Times.Written.{generalized_read}
 use Rattle.rpki_basics.proofs.laws.times_are_written.Goals as goal
 
 pub returns-clause-written : goal.returns-clause-written

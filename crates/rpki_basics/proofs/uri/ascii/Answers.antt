@@ -1,4 +1,4 @@
-use Rattle.rpki_basics.proofs.UriOctets.{uri-utf8}
+use Rattle.rpki_basics.proofs.Uris.Octets.{uri-utf8}
 use Rattle.rpki_basics.proofs.uri.ascii.Goals as goal
 
 pub unreachable-requires : goal.unreachable-requires

@@ -1,4 +1,4 @@
-use Rattle.rpki_certs.proofs.Kept.{kept-of}
+use Rattle.rpki_certs.proofs.Certs.Kept.{kept-of}
 use Rattle.rpki_certs.proofs.cert.take_cert.Goals as goal
 
 pub of-requires : goal.of-requires

@@ -1,4 +1,4 @@
-use Rattle.rpki_certs.proofs.Kept.{opt-kept-of}
+use Rattle.rpki_certs.proofs.Certs.Kept.{opt-kept-of}
 use Rattle.rpki_certs.proofs.cert.take_opt_cert.Goals as goal
 
 pub of-requires : goal.of-requires

@@ -1,6 +1,6 @@
 use Rattle.rpki_der.specs.Tags.{SEQUENCE}
 use Rattle.rpki_resources.proofs.Readings.{part-reading}
-use Rattle.rpki_certs.proofs.CertExact.{cert-part}
+use Rattle.rpki_certs.proofs.Certs.Exact.{cert-part}
 use Rattle.rpki_certs.proofs.laws.certificates.Goals as goal
 
 pub returns : goal.returns

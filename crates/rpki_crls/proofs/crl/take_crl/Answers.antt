@@ -1,4 +1,4 @@
-use Rattle.rpki_crls.proofs.Kept.{kept}
+use Rattle.rpki_crls.proofs.Crls.Kept.{kept}
 use Rattle.rpki_crls.proofs.crl.take_crl.Goals as goal
 
 pub of-requires : goal.of-requires

@@ -1,6 +1,6 @@
 use Rattle.rpki_der.specs.Tags.{SEQUENCE}
 use Rattle.rpki_resources.proofs.Readings.{part-reading}
-use Rattle.rpki_crls.proofs.CrlExact.{crl-part}
+use Rattle.rpki_crls.proofs.Crls.Exact.{crl-part}
 use Rattle.rpki_crls.proofs.laws.revocation_lists.Goals as goal
 
 pub returns : goal.returns

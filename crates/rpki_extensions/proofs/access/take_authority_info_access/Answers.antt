@@ -1,5 +1,5 @@
 use Rattle.rpki_der.proofs.Form.Decoders.{decodes-next}
-use Rattle.rpki_extensions.proofs.UrisExact.{authority-access-part}
+use Rattle.rpki_extensions.proofs.Uris.Exact.{authority-access-part}
 use Rattle.rpki_extensions.proofs.access.take_authority_info_access.Goals as goal
 
 pub returns-clause-decodes : goal.returns-clause-decodes

@@ -2,8 +2,9 @@ use Rattle.std.proofs.Common.{◌≡◌, ◌<◌, false, true, length, get_or, r
 use Rattle.std.proofs.lemmas.Bool.Decides.{same_from_decides}
 use Rattle.rpki_der.proofs.Form.Keyed.{distinct-decides}
 use Rattle.rpki_extensions.specs.Extension.{oid_of}
-use Rattle.rpki_extensions.proofs.Seen.{seen-none, item-at, seen-again, seen-more, not-true}
-use Rattle.rpki_extensions.proofs.Seen.{not-false, has_octets}
+use Rattle.rpki_extensions.proofs.CertExtensions.Seen.{seen-none, item-at, seen-again, seen-more}
+use Rattle.rpki_extensions.proofs.CertExtensions.Seen.{not-true}
+use Rattle.rpki_extensions.proofs.CertExtensions.Seen.{not-false, has_octets}
 use Rattle.rpki_extensions.proofs.extension.are_distinct.Goals as goal
 
 pub loop-extension-init : goal.loop-extension-init

@@ -1,6 +1,6 @@
 use Rattle.rpki_der.specs.Tags.{SEQUENCE}
 use Rattle.rpki_resources.proofs.Readings.{part-reading}
-use Rattle.rpki_extensions.proofs.ExtensionsExact.{extension-part, extensions-part}
+use Rattle.rpki_extensions.proofs.CertExtensions.Exact.{extension-part, extensions-part}
 use Rattle.rpki_extensions.proofs.laws.extensions.Goals as goal
 
 pub returns-clause-one : goal.returns-clause-one

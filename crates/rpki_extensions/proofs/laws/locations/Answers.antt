@@ -1,7 +1,7 @@
 use Rattle.rpki_der.specs.Tags.{SEQUENCE}
 use Rattle.rpki_resources.proofs.Readings.{part-reading}
-use Rattle.rpki_extensions.proofs.UrisExact.{points-part, authority-access-part}
-use Rattle.rpki_extensions.proofs.UrisExact.{subject-access-part}
+use Rattle.rpki_extensions.proofs.Uris.Exact.{points-part, authority-access-part}
+use Rattle.rpki_extensions.proofs.Uris.Exact.{subject-access-part}
 use Rattle.rpki_extensions.proofs.laws.locations.Goals as goal
 
 pub returns-clause-lists : goal.returns-clause-lists

@@ -4,7 +4,7 @@ use Rattle.rpki_der.proofs.Reading.UpToEnd.{up_to-more, up_to-smaller, up_to-end
 use Rattle.rpki_der.proofs.Reading.UpToEnd.{up_to-failed}
 use Rattle.rpki_extensions.specs.declared.name.Name.{Name}
 use Rattle.rpki_extensions.specs.Names.{name_at}
-use Rattle.rpki_extensions.proofs.NamesExact.{name-takes}
+use Rattle.rpki_extensions.proofs.GeneralNames.Exact.{name-takes}
 use Rattle.rpki_extensions.proofs.name.take_names.Goals as goal
 
 pub returns-in_err-is_at_end : goal.returns-in_err-is_at_end

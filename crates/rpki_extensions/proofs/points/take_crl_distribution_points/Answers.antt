@@ -1,5 +1,5 @@
 use Rattle.rpki_der.proofs.Form.Decoders.{decodes-next}
-use Rattle.rpki_extensions.proofs.UrisExact.{points-part}
+use Rattle.rpki_extensions.proofs.Uris.Exact.{points-part}
 use Rattle.rpki_extensions.proofs.points.take_crl_distribution_points.Goals as goal
 
 pub returns-clause-decodes : goal.returns-clause-decodes

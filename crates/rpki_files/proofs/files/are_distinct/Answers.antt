@@ -1,6 +1,7 @@
 use Rattle.std.proofs.Common.{refl, sym}
 use Rattle.rpki_files.specs.File.{File, name_of}
-use Rattle.rpki_files.proofs.Distinct.{seen_none, seen_again, seen_more, not-true, not-false}
+use Rattle.rpki_files.proofs.Manifests.Distinct.{seen_none, seen_again, seen_more, not-true}
+use Rattle.rpki_files.proofs.Manifests.Distinct.{not-false}
 use Rattle.rpki_files.proofs.files.are_distinct.Goals as goal
 
 pub loop-file-init : goal.loop-file-init

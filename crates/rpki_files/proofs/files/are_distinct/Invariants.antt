@@ -1,6 +1,6 @@
 use Rattle.std.proofs.Common.{length}
 use Rattle.rpki_files.specs.File.{name_of}
-use Rattle.rpki_files.proofs.Distinct.{SeenSoFar}
+use Rattle.rpki_files.proofs.Manifests.Distinct.{SeenSoFar}
 use Rattle.rpki_files.proofs.files.are_distinct.Given as goal
 
 abbrev pub invariant-loop-file : goal.invariant-loop-file

@@ -1,7 +1,7 @@
 use Rattle.std.proofs.Common.{List, All, subst}
 use Rattle.rpki_files.specs.Name.{IsFileName}
 use Rattle.rpki_files.specs.File.{File}
-use Rattle.rpki_files.proofs.Named.{files-named}
+use Rattle.rpki_files.proofs.Manifests.Named.{files-named}
 use Rattle.rpki_files.proofs.files.files_of.Goals as goal
 
 pub returns-clause-names : goal.returns-clause-names

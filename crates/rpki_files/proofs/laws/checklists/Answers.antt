@@ -1,5 +1,5 @@
 use Rattle.rpki_files.proofs.Checklists.Exact.{checked-reading, checklist-reading}
-use Rattle.rpki_files.proofs.Names.{portable-below}
+use Rattle.rpki_files.proofs.Names.Decided.{portable-below}
 use Rattle.rpki_files.proofs.laws.checklists.Goals as goal
 
 pub returns-clause-file : goal.returns-clause-file

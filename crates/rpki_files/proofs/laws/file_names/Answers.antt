@@ -1,4 +1,4 @@
-use Rattle.rpki_files.proofs.Names.{name-decides, name-below}
+use Rattle.rpki_files.proofs.Names.Decided.{name-decides, name-below}
 use Rattle.rpki_files.proofs.laws.file_names.Goals as goal
 
 pub returns-clause-test : goal.returns-clause-test

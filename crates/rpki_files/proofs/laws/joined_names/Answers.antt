@@ -1,4 +1,4 @@
-use Rattle.rpki_files.proofs.Joined.{name_joined}
+use Rattle.rpki_files.proofs.Names.Joined.{name_joined}
 use Rattle.rpki_files.proofs.laws.joined_names.Goals as goal
 
 pub returns : goal.returns

@@ -1,4 +1,4 @@
-use Rattle.rpki_files.proofs.Exact.{file-reading, manifest-reading}
+use Rattle.rpki_files.proofs.Manifests.Exact.{file-reading, manifest-reading}
 use Rattle.rpki_files.proofs.laws.manifests.Goals as goal
 
 pub returns-clause-file : goal.returns-clause-file

@@ -1,5 +1,5 @@
-use Rattle.rpki_keys.proofs.AlgorithmParts.{algorithm-part, digest-part, cms-part, cert-part}
-use Rattle.rpki_keys.proofs.AlgorithmParts.{reading-of, one-algorithm, one-cms}
+use Rattle.rpki_keys.proofs.Algorithms.Parts.{algorithm-part, digest-part, cms-part, cert-part}
+use Rattle.rpki_keys.proofs.Algorithms.Parts.{reading-of, one-algorithm, one-cms}
 use Rattle.rpki_keys.specs.Algorithm.{sha_256, sha256_with_rsa}
 use Rattle.rpki_keys.proofs.laws.algorithms.Goals as goal
 

@@ -1,9 +1,9 @@
 use Rattle.std.proofs.Common.{inl}
 use Rattle.rpki_keys.specs.Algorithm.{digest_algorithm_octets, cms_algorithm_octets}
 use Rattle.rpki_keys.specs.Algorithm.{cert_algorithm_octets}
-use Rattle.rpki_keys.proofs.AlgorithmParts.{digest-part, cms-part, cert-part, read-back}
-use Rattle.rpki_keys.proofs.AlgorithmUnique.{algorithm-only}
-use Rattle.rpki_keys.proofs.AlgorithmWriting.{digest-written, rsa-written, cert-written}
+use Rattle.rpki_keys.proofs.Algorithms.Parts.{digest-part, cms-part, cert-part, read-back}
+use Rattle.rpki_keys.proofs.Algorithms.Unique.{algorithm-only}
+use Rattle.rpki_keys.proofs.Algorithms.Written.{digest-written, rsa-written, cert-written}
 use Rattle.rpki_keys.proofs.laws.algorithms_are_written.Goals as goal
 
 pub returns-clause-digest : goal.returns-clause-digest

@@ -1,7 +1,7 @@
-use Rattle.rpki_keys.specs.NameForm.{key_name_octets}
-use Rattle.rpki_keys.proofs.NameExact.{name-read}
-use Rattle.rpki_keys.proofs.NameWriting.{key-name-written, key-name-skipped}
-use Rattle.rpki_keys.proofs.NameUnique.{key-name-only}
+use Rattle.rpki_keys.specs.Name.{key_name_octets}
+use Rattle.rpki_keys.proofs.Names.Exact.{name-read}
+use Rattle.rpki_keys.proofs.Names.Written.{key-name-written, key-name-skipped}
+use Rattle.rpki_keys.proofs.Names.Unique.{key-name-only}
 use Rattle.rpki_keys.proofs.laws.key_names_are_written.Goals as goal
 
 pub returns-clause-written : goal.returns-clause-written

@@ -1,6 +1,6 @@
 use Rattle.rpki_der.specs.Tags.{SEQUENCE}
-use Rattle.rpki_keys.proofs.AlgorithmParts.{reading-of}
-use Rattle.rpki_keys.proofs.KeyParts.{key-part}
+use Rattle.rpki_keys.proofs.Algorithms.Parts.{reading-of}
+use Rattle.rpki_keys.proofs.Keys.Parts.{key-part}
 use Rattle.rpki_keys.proofs.laws.keys.Goals as goal
 
 pub returns : goal.returns

@@ -1,5 +1,5 @@
-use Rattle.rpki_keys.proofs.AlgorithmUnique.{key-only}
-use Rattle.rpki_keys.proofs.KeyWriting.{key-written, key-read}
+use Rattle.rpki_keys.proofs.Algorithms.Unique.{key-only}
+use Rattle.rpki_keys.proofs.Keys.Written.{key-written, key-read}
 use Rattle.rpki_keys.proofs.laws.keys_are_written.Goals as goal
 
 pub returns-clause-written : goal.returns-clause-written

@@ -1,4 +1,4 @@
-use Rattle.rpki_keys.proofs.NameExact.{name-reading}
+use Rattle.rpki_keys.proofs.Names.Exact.{name-reading}
 use Rattle.rpki_keys.proofs.laws.names.Goals as goal
 
 pub returns : goal.returns

@@ -1,8 +1,8 @@
 use Rattle.std.proofs.Common.{ap, sym, subst, ◌++◌, ◌∙◌}
 use Rattle.rpki_der.specs.declared.mode.Mode.TheVariants.{Der}
 use Rattle.rpki_keys.specs.Hex.{upper_hex}
-use Rattle.rpki_keys.specs.NameForm.{IsName}
-use Rattle.rpki_keys.proofs.NameWriting.{head, key-name-is, key-name-skipped}
+use Rattle.rpki_keys.specs.Name.{IsName}
+use Rattle.rpki_keys.proofs.Names.Written.{head, key-name-is, key-name-skipped}
 use Rattle.rpki_keys.proofs.name.key_name.Goals as goal
 
 pub returns-clause-octets : goal.returns-clause-octets

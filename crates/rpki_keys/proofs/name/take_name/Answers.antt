@@ -1,4 +1,4 @@
-use Rattle.rpki_keys.proofs.NameExact.{name-of}
+use Rattle.rpki_keys.proofs.Names.Exact.{name-of}
 use Rattle.rpki_keys.proofs.name.take_name.Goals as goal
 
 pub of-requires : goal.of-requires

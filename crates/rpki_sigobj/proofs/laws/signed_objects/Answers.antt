@@ -1,6 +1,6 @@
 use Rattle.rpki_der.specs.Tags.{SEQUENCE}
 use Rattle.rpki_resources.proofs.Readings.{part-reading}
-use Rattle.rpki_sigobj.proofs.ObjectExact.{object-part}
+use Rattle.rpki_sigobj.proofs.Objects.Exact.{object-part}
 use Rattle.rpki_sigobj.proofs.laws.signed_objects.Goals as goal
 
 pub returns : goal.returns

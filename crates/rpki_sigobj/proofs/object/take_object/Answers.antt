@@ -1,5 +1,5 @@
 use Rattle.std.proofs.Common.{sym, ◌∙◌}
-use Rattle.rpki_sigobj.proofs.Kept.{kept-of}
+use Rattle.rpki_sigobj.proofs.Objects.Kept.{kept-of}
 use Rattle.rpki_sigobj.proofs.object.take_object.Goals as goal
 
 pub of-requires-clause-form : goal.of-requires-clause-form

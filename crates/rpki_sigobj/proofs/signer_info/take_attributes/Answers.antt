@@ -6,7 +6,7 @@ use Rattle.rpki_der.proofs.Reading.Calls.{reads-ok}
 use Rattle.rpki_der.proofs.Reading.Tested.{tested-refused}
 use Rattle.rpki_attributes.specs.declared.attribute.OtherTypes.TheVariants.{Refuse}
 use Rattle.rpki_attributes.specs.Attrs.{KeptAttributes, SignedAttributes}
-use Rattle.rpki_attributes.specs.AttrsRead.{attrs_at}
+use Rattle.rpki_attributes.specs.Attrs.Read.{attrs_at}
 use Rattle.rpki_sigobj.proofs.signer_info.take_attributes.Goals as goal
 
 pub returns-else-eq : goal.returns-else-eq

@@ -1,6 +1,6 @@
 use Rattle.rpki_der.specs.declared.mode.Mode.TheVariants.{Der}
 use Rattle.rpki_der.proofs.Form.Decoders.{decodes}
-use Rattle.rpki_extensions.proofs.ExtensionsExact.{extensions-part}
+use Rattle.rpki_extensions.proofs.CertExtensions.Exact.{extensions-part}
 use Rattle.rpki_uses.proofs.extensions.extensions_in.Goals as goal
 
 pub returns : goal.returns

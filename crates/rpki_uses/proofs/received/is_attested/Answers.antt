@@ -23,4 +23,5 @@ returns-in-Ok g c =
     c.args.list.now.list
     (λ (yes : Bool) (l : Checklist). IsTrue yes ↔ Any (λ (file : Checked).
     file.hash ≡ g.C.Crypto.digest_of c.args.crypto.now c.args.document.now) l.files)
-    (c.in-Ok.cert, c.in-Ok.checklist) c.attests-is_listed.result c.in-Ok.ensures c.attests-is_listed.ensures
+    (c.in-Ok.cert, c.in-Ok.checklist) c.attests-is_listed.result
+    c.in-Ok.ensures c.attests-is_listed.ensures

@@ -26,4 +26,5 @@ returns-in-Ok g c =
       file = c.args.name.now;
       hash = g.C.Crypto.digest_of c.args.crypto.now c.args.file.now;
     }))
-    (c.in-Ok.cert, c.in-Ok.manifest) c.names_octets-is_named.result c.in-Ok.ensures c.names_octets-is_named.ensures
+    (c.in-Ok.cert, c.in-Ok.manifest) c.names_octets-is_named.result
+    c.in-Ok.ensures c.names_octets-is_named.ensures

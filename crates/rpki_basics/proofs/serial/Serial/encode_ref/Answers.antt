@@ -1,7 +1,7 @@
 use Rattle.std.proofs.Common.{subst}
 use Rattle.rpki_der.specs.declared.mode.Mode.TheVariants.{Der}
 use Rattle.rpki_basics.specs.Serial.{SerialForm, serial_octets}
-use Rattle.rpki_basics.proofs.SerialWriting.{digits-written}
+use Rattle.rpki_basics.proofs.Serials.Written.{digits-written}
 use Rattle.rpki_basics.proofs.serial.Serial.encode_ref.Goals as goal
 
 pub returns-clause-written : goal.returns-clause-written

@@ -1,5 +1,5 @@
 use Rattle.std.proofs.Common.{◌∙◌}
-use Rattle.rpki_basics.proofs.SerialFacts.{same_number}
+use Rattle.rpki_basics.proofs.Serials.Unique.{same_number}
 use Rattle.rpki_basics.proofs.serial.SerialPartialEq.eq.Goals as goal
 
 pub returns : goal.returns

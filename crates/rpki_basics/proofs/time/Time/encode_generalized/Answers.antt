@@ -1,6 +1,6 @@
 use Rattle.std.proofs.Common.{subst}
 use Rattle.rpki_basics.specs.Moment.{IsMoment}
-use Rattle.rpki_basics.proofs.TimeWriting.{generalized_written}
+use Rattle.rpki_basics.proofs.Times.Written.{generalized_written}
 use Rattle.rpki_basics.proofs.time.Time.encode_generalized.Goals as goal
 
 pub returns-clause-written : goal.returns-clause-written

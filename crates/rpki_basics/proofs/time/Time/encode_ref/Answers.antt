@@ -1,6 +1,6 @@
 use Rattle.std.proofs.Common.{subst}
 use Rattle.rpki_basics.specs.Moment.{IsMoment}
-use Rattle.rpki_basics.proofs.TimeWriting.{time_written}
+use Rattle.rpki_basics.proofs.Times.Written.{time_written}
 use Rattle.rpki_basics.proofs.time.Time.encode_ref.Goals as goal
 
 pub returns-clause-written : goal.returns-clause-written

@@ -1,4 +1,4 @@
-use Rattle.rpki_basics.proofs.TimeReading.{time-of}
+use Rattle.rpki_basics.proofs.Times.Read.{time-of}
 use Rattle.rpki_basics.proofs.time.Time.from_generalized.Goals as goal
 
 pub returns : goal.returns

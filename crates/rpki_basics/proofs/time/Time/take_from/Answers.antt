@@ -1,5 +1,5 @@
 use Rattle.rpki_der.proofs.Form.Decoders.{decodes-next}
-use Rattle.rpki_basics.proofs.TimeReading.{time-part}
+use Rattle.rpki_basics.proofs.Times.Read.{time-part}
 use Rattle.rpki_basics.proofs.time.Time.take_from.Goals as goal
 
 pub returns-clause-decodes : goal.returns-clause-decodes

@@ -1,7 +1,7 @@
 use Rattle.std.proofs.Common.{rules, codes}
 use Rattle.std.proofs.lemmas.Bool.{both_ways}
 use Rattle.rpki_basics.specs.Uri.{Follows, AreRsyncSegments}
-use Rattle.rpki_basics.proofs.UriFacts.{uri-bad}
+use Rattle.rpki_basics.proofs.Uris.Tests.{uri-bad}
 use Rattle.rpki_basics.proofs.uri.Rsync.from_bytes.Goals as goal
 
 pub returns-else-goes_on_as_rsync : goal.returns-else-goes_on_as_rsync

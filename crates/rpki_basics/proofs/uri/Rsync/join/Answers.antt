@@ -1,6 +1,6 @@
 use Rattle.std.proofs.Common.{ap, subst, ◌∙◌}
 use Rattle.rpki_basics.specs.Uri.{IsRsync, join_text}
-use Rattle.rpki_basics.proofs.UriFacts.{joined-of}
+use Rattle.rpki_basics.proofs.Uris.Tests.{joined-of}
 use Rattle.rpki_basics.proofs.uri.Rsync.join.Goals as goal
 
 pub returns : goal.returns

@@ -1,6 +1,7 @@
 use Rattle.std.proofs.Common.{refl}
 use Rattle.std.proofs.lemmas.List.{take_rest}
-use Rattle.rpki_basics.proofs.SegmentFacts.{segment-none, segment-more, segment-found, segment-last}
+use Rattle.rpki_basics.proofs.Uris.Segments.{segment-none, segment-more, segment-found}
+use Rattle.rpki_basics.proofs.Uris.Segments.{segment-last}
 use Rattle.rpki_basics.proofs.uri.segments.split_segment.Goals as goal
 
 pub octets-init : goal.octets-init

@@ -1,6 +1,6 @@
 use Rattle.rpki_basics.specs.Uri.{AreRsyncSegments}
-use Rattle.rpki_basics.specs.UriTests.{are_rsync_segments}
-use Rattle.rpki_basics.proofs.UriFacts.{goes_on, rsync-true, rsync-is}
+use Rattle.rpki_basics.specs.Uri.Tests.{are_rsync_segments}
+use Rattle.rpki_basics.proofs.Uris.Tests.{goes_on, rsync-true, rsync-is}
 use Rattle.rpki_basics.proofs.uri.tests_of.goes_on_as_rsync.Goals as goal
 
 pub returns-in-Some : goal.returns-in-Some

@@ -1,6 +1,6 @@
 use Rattle.std.proofs.Common.{sym, ap, ◌∙◌}
-use Rattle.rpki_basics.specs.UriTests.{is_path}
-use Rattle.rpki_basics.proofs.UriFacts.{path-empty}
+use Rattle.rpki_basics.specs.Uri.Tests.{is_path}
+use Rattle.rpki_basics.proofs.Uris.Tests.{path-empty}
 use Rattle.rpki_basics.proofs.uri.tests_of.is_path.Goals as goal
 
 pub returns-then-is_empty : goal.returns-then-is_empty

@@ -1,6 +1,6 @@
 use Rattle.std.proofs.Common.{◌≡◌, length}
 use Rattle.rpki_basics.specs.Segments.{segments}
-use Rattle.rpki_basics.specs.UriTests.{is_path}
+use Rattle.rpki_basics.specs.Uri.Tests.{is_path}
 use Rattle.rpki_basics.proofs.uri.tests_of.is_path.Given as goal
 
 abbrev pub invariant-segments : goal.invariant-segments

@@ -1,7 +1,7 @@
 use Rattle.rpki_der.specs.declared.mode.Mode.TheVariants.{Der}
 use Rattle.rpki_der.proofs.Form.Decoders.{decodes}
 use Rattle.rpki_certs.specs.Cert.{KeptCertificate}
-use Rattle.rpki_certs.proofs.CertExact.{cert-part}
+use Rattle.rpki_certs.proofs.Certs.Exact.{cert-part}
 use Rattle.rpki_certs.proofs.cert.Cert.decode.Goals as goal
 
 pub returns-clause-decodes : goal.returns-clause-decodes

@@ -1,6 +1,6 @@
 use Rattle.rpki_der.proofs.Form.Decoders.{decodes-next}
 use Rattle.rpki_certs.specs.Cert.{KeptCertificate}
-use Rattle.rpki_certs.proofs.CertExact.{cert-part}
+use Rattle.rpki_certs.proofs.Certs.Exact.{cert-part}
 use Rattle.rpki_certs.proofs.cert.Cert.take_from.Goals as goal
 
 pub returns-clause-decodes : goal.returns-clause-decodes

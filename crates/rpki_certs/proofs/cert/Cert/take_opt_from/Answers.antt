@@ -3,7 +3,7 @@ use Rattle.std.specs.Prelude.{option_map}
 use Rattle.rpki_der.specs.Tags.{SEQUENCE}
 use Rattle.rpki_der.proofs.Form.Decoders.{decodes-if-next}
 use Rattle.rpki_certs.specs.Cert.{KeptCertificate}
-use Rattle.rpki_certs.proofs.CertExact.{cert-part}
+use Rattle.rpki_certs.proofs.Certs.Exact.{cert-part}
 use Rattle.rpki_certs.proofs.cert.Cert.take_opt_from.Goals as goal
 
 pub returns-clause-decodes : goal.returns-clause-decodes

@@ -1,7 +1,7 @@
 use Rattle.rpki_der.specs.declared.mode.Mode.TheVariants.{Der}
 use Rattle.rpki_der.proofs.Form.Decoders.{decodes}
 use Rattle.rpki_crls.specs.Crl.{KeptCrl}
-use Rattle.rpki_crls.proofs.CrlExact.{crl-part}
+use Rattle.rpki_crls.proofs.Crls.Exact.{crl-part}
 use Rattle.rpki_crls.proofs.crl.Crl.decode.Goals as goal
 
 pub returns-clause-decodes : goal.returns-clause-decodes

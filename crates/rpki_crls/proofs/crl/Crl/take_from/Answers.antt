@@ -1,6 +1,6 @@
 use Rattle.rpki_der.proofs.Form.Decoders.{decodes-next}
 use Rattle.rpki_crls.specs.Crl.{KeptCrl}
-use Rattle.rpki_crls.proofs.CrlExact.{crl-part}
+use Rattle.rpki_crls.proofs.Crls.Exact.{crl-part}
 use Rattle.rpki_crls.proofs.crl.Crl.take_from.Goals as goal
 
 pub returns-clause-decodes : goal.returns-clause-decodes

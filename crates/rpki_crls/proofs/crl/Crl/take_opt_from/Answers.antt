@@ -3,7 +3,7 @@ use Rattle.std.specs.Prelude.{option_map}
 use Rattle.rpki_der.specs.Tags.{SEQUENCE}
 use Rattle.rpki_der.proofs.Form.Decoders.{decodes-if-next}
 use Rattle.rpki_crls.specs.Crl.{KeptCrl}
-use Rattle.rpki_crls.proofs.CrlExact.{crl-part}
+use Rattle.rpki_crls.proofs.Crls.Exact.{crl-part}
 use Rattle.rpki_crls.proofs.crl.Crl.take_opt_from.Goals as goal
 
 pub returns-clause-decodes : goal.returns-clause-decodes

@@ -1,5 +1,5 @@
 use Rattle.rpki_der.proofs.Form.Decoders.{decodes-next}
-use Rattle.rpki_extensions.proofs.ExtensionsExact.{extensions-part}
+use Rattle.rpki_extensions.proofs.CertExtensions.Exact.{extensions-part}
 use Rattle.rpki_extensions.proofs.extensions.Extensions.take_from.Goals as goal
 
 pub returns-clause-decodes : goal.returns-clause-decodes

@@ -1,4 +1,4 @@
-use Rattle.rpki_extensions.proofs.UriFacts.{https-kept, https-out}
+use Rattle.rpki_extensions.proofs.Uris.Tests.{https-kept, https-out}
 use Rattle.rpki_extensions.proofs.uri.HttpsNamedUri.of_text.Goals as goal
 
 pub returns-in-Ok : goal.returns-in-Ok

@@ -1,4 +1,4 @@
-use Rattle.rpki_extensions.proofs.UriFacts.{rsync-kept, rsync-out}
+use Rattle.rpki_extensions.proofs.Uris.Tests.{rsync-kept, rsync-out}
 use Rattle.rpki_extensions.proofs.uri.RsyncNamedUri.of_text.Goals as goal
 
 pub returns-in-Ok : goal.returns-in-Ok

@@ -1,5 +1,5 @@
 use Rattle.std.proofs.Common.{◌≡◌, true, false, sym, ◌∙◌}
-use Rattle.rpki_files.proofs.Names.{name-decides}
+use Rattle.rpki_files.proofs.Names.Decided.{name-decides}
 use Rattle.rpki_files.proofs.file.FileAndHash+Bytes+Bytes.validate_file_name.Goals as goal
 
 pub returns-then-is_file_name : goal.returns-then-is_file_name

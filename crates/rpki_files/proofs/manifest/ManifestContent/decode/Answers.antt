@@ -2,7 +2,7 @@
 use Rattle.rpki_der.specs.declared.mode.Mode.TheVariants.{Der}
 use Rattle.rpki_der.proofs.Form.Decoders.{decodes}
 use Rattle.rpki_files.specs.Manifest.{Manifest}
-use Rattle.rpki_files.proofs.Exact.{manifest-part}
+use Rattle.rpki_files.proofs.Manifests.Exact.{manifest-part}
 use Rattle.rpki_files.proofs.manifest.ManifestContent.decode.Goals as goal
 
 pub returns : goal.returns

@@ -3,9 +3,9 @@ use Rattle.rpki_der.specs.declared.mode.Mode.TheVariants.{Der}
 use Rattle.rpki_files.specs.Name.{IsFileName}
 use Rattle.rpki_files.specs.File.{File, MeetsRule}
 use Rattle.rpki_files.specs.Manifest.{Manifest, ManifestForm, manifest_contents, manifest_octets}
-use Rattle.rpki_files.proofs.Exact.{manifest-part}
-use Rattle.rpki_files.proofs.Named.{files-named}
-use Rattle.rpki_files.proofs.Written.{manifest-written}
+use Rattle.rpki_files.proofs.Manifests.Exact.{manifest-part}
+use Rattle.rpki_files.proofs.Manifests.Named.{files-named}
+use Rattle.rpki_files.proofs.Manifests.Written.{manifest-written}
 use Rattle.rpki_files.proofs.manifest.ManifestContent.encode_ref.Goals as goal
 
 pub returns-clause-written : goal.returns-clause-written

@@ -1,6 +1,6 @@
 use Rattle.rpki_der.proofs.Form.Decoders.{decodes-next}
 use Rattle.rpki_files.specs.Manifest.{Manifest}
-use Rattle.rpki_files.proofs.Exact.{manifest-part}
+use Rattle.rpki_files.proofs.Manifests.Exact.{manifest-part}
 use Rattle.rpki_files.proofs.manifest.ManifestContent.take_from.Goals as goal
 
 pub returns-clause-decodes : goal.returns-clause-decodes

@@ -1,5 +1,5 @@
 use Rattle.rpki_der.proofs.Form.Decoders.{decodes-next}
-use Rattle.rpki_keys.proofs.AlgorithmParts.{cert-part}
+use Rattle.rpki_keys.proofs.Algorithms.Parts.{cert-part}
 use Rattle.rpki_keys.proofs.algorithm.RpkiSignatureAlgorithm.take_cert_from.Goals as goal
 
 pub returns-clause-decodes : goal.returns-clause-decodes

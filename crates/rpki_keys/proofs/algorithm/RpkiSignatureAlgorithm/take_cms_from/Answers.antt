@@ -1,5 +1,5 @@
 use Rattle.rpki_der.proofs.Form.Decoders.{decodes-next}
-use Rattle.rpki_keys.proofs.AlgorithmParts.{cms-part}
+use Rattle.rpki_keys.proofs.Algorithms.Parts.{cms-part}
 use Rattle.rpki_keys.proofs.algorithm.RpkiSignatureAlgorithm.take_cms_from.Goals as goal
 
 pub returns-clause-decodes : goal.returns-clause-decodes

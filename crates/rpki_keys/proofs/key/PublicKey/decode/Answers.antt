@@ -1,6 +1,6 @@
 use Rattle.rpki_der.specs.declared.mode.Mode.TheVariants.{Der}
 use Rattle.rpki_der.proofs.Form.Decoders.{decodes}
-use Rattle.rpki_keys.proofs.KeyParts.{key-part}
+use Rattle.rpki_keys.proofs.Keys.Parts.{key-part}
 use Rattle.rpki_keys.proofs.key.PublicKey.decode.Goals as goal
 
 pub returns : goal.returns

@@ -1,5 +1,5 @@
 use Rattle.rpki_der.proofs.Form.Decoders.{decodes-next}
-use Rattle.rpki_keys.proofs.KeyParts.{key-part}
+use Rattle.rpki_keys.proofs.Keys.Parts.{key-part}
 use Rattle.rpki_keys.proofs.key.PublicKey.take_from.Goals as goal
 
 pub returns-clause-decodes : goal.returns-clause-decodes

@@ -1,5 +1,5 @@
 use Rattle.rpki_der.proofs.Form.Decoders.{decodes-next}
-use Rattle.rpki_keys.proofs.NameExact.{name-part}
+use Rattle.rpki_keys.proofs.Names.Exact.{name-part}
 use Rattle.rpki_keys.proofs.name.Name.take_from.Goals as goal
 
 pub returns-clause-decodes : goal.returns-clause-decodes

@@ -1,6 +1,6 @@
 use Rattle.rpki_der.proofs.Form.Decoders.{decodes}
 use Rattle.rpki_sigobj.specs.Object.{KeptObject, mode_of}
-use Rattle.rpki_sigobj.proofs.ObjectExact.{object-part}
+use Rattle.rpki_sigobj.proofs.Objects.Exact.{object-part}
 use Rattle.rpki_sigobj.proofs.object.SignedObject.decode.Goals as goal
 
 pub returns-clause-decodes : goal.returns-clause-decodes

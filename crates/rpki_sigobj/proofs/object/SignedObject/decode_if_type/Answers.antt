@@ -2,7 +2,7 @@ use Rattle.std.proofs.Common.{◌≡◌, true, false, sym, ◌∙◌}
 use Rattle.std.specs.Prelude.{bytes_eq}
 use Rattle.std.proofs.lemmas.Slice.Eq.{bytes_eq-Decides}
 use Rattle.rpki_sigobj.specs.Object.{SignedObject, SignedForm, mode_of}
-use Rattle.rpki_sigobj.proofs.Types.{narrow-found, narrow-refuses, other-refused}
+use Rattle.rpki_sigobj.proofs.Objects.Types.{narrow-found, narrow-refuses, other-refused}
 use Rattle.rpki_sigobj.proofs.object.SignedObject.decode_if_type.Goals as goal
 
 pub returns-in-Err-clause-decodes : goal.returns-in-Err-clause-decodes

@@ -1,0 +1,2 @@
+-- A signed attribute.
+pub mod Exact

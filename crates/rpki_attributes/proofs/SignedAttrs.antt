@@ -1,0 +1,4 @@
+-- Signed attributes.
+pub mod Exact
+pub mod Written
+pub mod Sorted

@@ -1,0 +1,3 @@
+-- Serial numbers.
+pub mod Unique
+pub mod Written

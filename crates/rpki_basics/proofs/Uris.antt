@@ -1,0 +1,4 @@
+-- URIs.
+pub mod Segments
+pub mod Tests
+pub mod Octets

@@ -1,0 +1,3 @@
+-- Times.
+pub mod Form
+pub mod Read

@@ -1,0 +1,2 @@
+-- The extensions of a revocation list.
+pub mod Exact

@@ -1,0 +1,3 @@
+-- The extensions of a certificate.
+pub mod Exact
+pub mod Seen

@@ -1,0 +1,2 @@
+-- General names.
+pub mod Exact

@@ -1,0 +1,3 @@
+-- URIs.
+pub mod Tests
+pub mod Exact

@@ -1,0 +1,5 @@
+-- Manifests.
+pub mod Exact
+pub mod Written
+pub mod Named
+pub mod Distinct

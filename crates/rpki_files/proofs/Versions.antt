@@ -1,0 +1,2 @@
+-- Versions.
+pub mod Exact

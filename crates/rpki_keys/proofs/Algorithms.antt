@@ -1,0 +1,4 @@
+-- Algorithms.
+pub mod Parts
+pub mod Unique
+pub mod Written

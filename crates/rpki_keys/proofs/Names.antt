@@ -1,0 +1,4 @@
+-- Names.
+pub mod Exact
+pub mod Unique
+pub mod Written

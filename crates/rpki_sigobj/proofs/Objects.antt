@@ -1,0 +1,4 @@
+-- Signed objects.
+pub mod Exact
+pub mod Kept
+pub mod Types
