@@ -39,7 +39,7 @@ pub static DIGESTS: [(&[u8], [u8; 32]); 3] = [
 ];
 
 /// The name of the key: its header, and the digits of the key's identifier.
-const NAME: &[u8] = b"\x30\x33\x31\x31\x30\x2F\x06\x03\x55\x04\x03\x13\x28\
+pub const NAME: &[u8] = b"\x30\x33\x31\x31\x30\x2F\x06\x03\x55\x04\x03\x13\x28\
     A9993E364706816ABA3E25717850C26C9CD0D89D";
 
 // Whether the stand-in's digests are these.
@@ -75,7 +75,7 @@ fn is_generalized(alloc: Global) -> Result<bool, AllocError> {
 }
 
 // The key that was written without a NULL.
-fn key(alloc: Global) -> Result<Option<PublicKey>, AllocError> {
+pub fn key(alloc: Global) -> Result<Option<PublicKey>, AllocError> {
     match PublicKey::decode(Bytes::copy_from_slice(alloc, KEYS[1].0)?) {
         Ok(key) => Ok(Some(key)),
         Err(DecodeError::Memory) => Err(AllocError),

@@ -10,6 +10,8 @@ mod algorithms;
 #[cfg(test)]
 mod calls;
 #[cfg(test)]
+mod copies;
+#[cfg(test)]
 mod dates;
 #[cfg(test)]
 mod keys;
