@@ -5,8 +5,10 @@ use crate::octets::has_octets;
 use bytes::Bytes;
 use rpki_basics::standin::{StandIn, StandInSigner};
 use rpki_basics::uri::Error;
-use rpki_basics::{Crypto, DigestAlgorithm, Https, Name, RpkiSignature, RpkiSignatureAlgorithm};
-use rpki_basics::{Rsync, Signer, SignerFault, Time};
+use rpki_basics::{
+    Crypto, DigestAlgorithm, Https, Name, RpkiSignature, RpkiSignatureAlgorithm, Rsync, Signer,
+    SignerFault, Time,
+};
 use rpki_der::{Constructed, DecodeError, Encode, Mode};
 use std::alloc::{AllocError, Global};
 
@@ -81,7 +83,9 @@ fn is_digest_written(alloc: Global) -> Result<bool, AllocError> {
 // Whether the algorithm of a signer is rsaEncryption (RFC 7935, section 2), with a NULL.
 fn is_cms_written(alloc: Global) -> Result<bool, AllocError> {
     has_octets(
-        RpkiSignatureAlgorithm::default().encode_cms().to_bytes(alloc),
+        RpkiSignatureAlgorithm::default()
+            .encode_cms()
+            .to_bytes(alloc),
         b"\x30\x0D\x06\x09\x2A\x86\x48\x86\xF7\x0D\x01\x01\x01\x05\x00",
     )
 }
@@ -89,7 +93,9 @@ fn is_cms_written(alloc: Global) -> Result<bool, AllocError> {
 // Whether that of a certificate is sha256WithRSAEncryption (RFC 7935, section 2), with a NULL.
 fn is_cert_written(alloc: Global) -> Result<bool, AllocError> {
     has_octets(
-        RpkiSignatureAlgorithm::default().encode_cert().to_bytes(alloc),
+        RpkiSignatureAlgorithm::default()
+            .encode_cert()
+            .to_bytes(alloc),
         b"\x30\x0D\x06\x09\x2A\x86\x48\x86\xF7\x0D\x01\x01\x0B\x05\x00",
     )
 }

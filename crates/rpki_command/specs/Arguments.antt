@@ -1,6 +1,6 @@
 -- What the arguments of a program tell, and the words that they are.
 use Rattle.std.specs.Prelude.{◌≡◌, ℕ, ◌<◌, ◌≤◌, List, length, drop, map, slice_index_or, Option}
-use Rattle.std.specs.Prelude.{None, Some, Result, Ok, Err, Vec, String, string_bytes, All}
+use Rattle.std.specs.Prelude.{None, Some, Result, Ok, Err, Vec, String, string_bytes, All, codes}
 use Rattle.std.specs.Str.{IsUtf8}
 use Rattle.std.specs.declared.alloc.Global.{Global}
 use Rattle.rpki_command.specs.declared.arguments.WordsError.{WordsError}
@@ -53,3 +53,8 @@ abbrev pub AreWords : ToldArguments → Result (Vec (String Global) Global) Word
 AreWords told (Ok words) = AreTexts told (map string_bytes words.items)
 AreWords told (Err NoText) = HaveNoText told
 AreWords told (Err Memory) = Unit {0}
+
+-- why there are no words, as a text
+abbrev pub words_error_text : WordsError → List ℕ
+words_error_text NoText = codes "argument that is no text"
+words_error_text Memory = codes "out of memory"

@@ -1,6 +1,6 @@
 -- What a store tells of a file, and what a read of it answers.
 use Rattle.std.specs.Prelude.{◌≡◌, ℕ, ◌+◌, ◌<◌, ◌≤◌, List, length, slice_index_or, Option, None}
-use Rattle.std.specs.Prelude.{Some, Result, Ok, Err, Vec, codes}
+use Rattle.std.specs.Prelude.{Some, Result, Ok, Err, Vec, ◌++◌, codes}
 use Rattle.std.specs.declared.alloc.Global.{Global}
 use Rattle.rpki_command.specs.declared.store.StoreError.{StoreError}
 use Rattle.rpki_command.specs.declared.store.StoreError.TheVariants.{Unreadable, Memory}
@@ -67,3 +67,8 @@ AreRead told names old new (Err unread.Memory) = AreSomeRead told names old new
 abbrev pub store_error_text : StoreError → List ℕ
 store_error_text Unreadable = codes "unreadable file"
 store_error_text Memory = codes "out of memory"
+
+-- why several files were not read, as a text
+abbrev pub unread_text : Unread → List ℕ
+unread_text (unread.Unreadable name) = codes "unreadable file " ++ name.now
+unread_text unread.Memory = codes "out of memory"

@@ -1,10 +1,13 @@
 //! The arguments of a program.
 
-ghost use Rattle.std.specs.Prelude.{◌≡◌, ℕ, List, Option, None, IfOk};
+ghost use Rattle.std.specs.Prelude.{◌≡◌, ℕ, List, Option, None, Some, IfOk};
 ghost use Rattle.rpki_command.specs.Arguments.{IsArgument, IsWordAt, IsText, AreWords};
+ghost use Rattle.rpki_command.specs.Arguments.{words_error_text};
 
 use std::alloc::{AllocError, Global};
 use std::env::{Env, FillError};
+use std::error::Error;
+use std::fmt;
 use std::marker::Model;
 
 /// How many octets an argument has at first room for.
@@ -28,6 +31,19 @@ pub enum WordsError {
     /// No memory was to be had.
     Memory,
 }
+
+impl fmt::Display for WordsError {
+    ghost output = { λ error. Some (words_error_text error) };
+
+    fn fmt<W: fmt::Write>(&self, f: &mut fmt::Formatter<W>) -> fmt::Result {
+        match self {
+            WordsError::NoText => f.write_str("argument that is no text"),
+            WordsError::Memory => f.write_str("out of memory"),
+        }
+    }
+}
+
+impl Error for WordsError {}
 
 /// Gives the words after the program's name, which need not be a text.
 #[tactic(auto, using(crate::proofs::Following::word_by_word))]

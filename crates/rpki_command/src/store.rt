@@ -1,7 +1,7 @@
 //! Where the program's files come from.
 
 ghost use Rattle.std.specs.Prelude.{◌≡◌, ◌+◌, ℕ, List, Option, None, Some};
-ghost use Rattle.rpki_command.specs.Store.{IsRead, AreRead, store_error_text};
+ghost use Rattle.rpki_command.specs.Store.{IsRead, AreRead, store_error_text, unread_text};
 ghost use Rattle.rpki_command.specs.Words.{texts};
 
 use rpki_der::Count;
@@ -56,6 +56,19 @@ pub enum Unread<'a> {
     /// No memory was to be had.
     Memory,
 }
+
+impl fmt::Display for Unread<'_> {
+    ghost output = { λ unread. Some (unread_text unread) };
+
+    fn fmt<W: fmt::Write>(&self, f: &mut fmt::Formatter<W>) -> fmt::Result {
+        match self {
+            Unread::Unreadable(name) => write!(f, "unreadable file {name}"),
+            Unread::Memory => f.write_str("out of memory"),
+        }
+    }
+}
+
+impl Error for Unread<'_> {}
 
 /// The octets of the files with these names, which are read in their order, once each. The first
 /// that can't be read is answered by its name, and none is read after it. Where memory runs out,

@@ -1,3 +1,4 @@
 pub mod Slice
 pub mod Entries
 pub mod Rules
+pub mod Text

@@ -1,13 +1,15 @@
 //! Kinds of entries, and how they are read from a slice.
 
-ghost use Rattle.std.specs.Prelude.{◌≡◌, ◌↔◌, ℕ, List, length, IsTrue};
+ghost use Rattle.std.specs.Prelude.{◌≡◌, ◌↔◌, ℕ, List, length, IsTrue, Some};
 ghost use Rattle.rpki_der.specs.Read.Parse.{Parser};
 ghost use Rattle.rpki_lists.specs.Slice.{FindsFront};
 ghost use Rattle.rpki_lists.specs.Entries.{PassesFront, Shrinks};
+ghost use Rattle.rpki_lists.specs.Text.{refused_text};
 
 use crate::slice::SliceReader;
 use rpki_der::Reason;
-use std::fmt::Debug;
+use std::error::Error;
+use std::fmt::{self, Debug};
 
 /// Why an entry is refused.
 #[derive(Clone, Copy, Debug)]
@@ -17,6 +19,19 @@ pub enum Refused {
     /// A rule of the format is broken.
     For(Reason),
 }
+
+impl fmt::Display for Refused {
+    ghost output = { λ refused. Some (refused_text refused) };
+
+    fn fmt<W: fmt::Write>(&self, f: &mut fmt::Formatter<W>) -> fmt::Result {
+        match self {
+            Refused::Malformed => f.write_str("malformed"),
+            Refused::For(reason) => reason.fmt(f),
+        }
+    }
+}
+
+impl Error for Refused {}
 
 /// A kind of entries.
 pub trait Kind {
