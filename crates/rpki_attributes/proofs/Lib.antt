@@ -1,2 +1,2 @@
 pub mod Attributes
-pub mod SignedAttrs
+pub mod Lists

@@ -26,7 +26,7 @@ impl fmt::Display for Refused {
     fn fmt<W: fmt::Write>(&self, f: &mut fmt::Formatter<W>) -> fmt::Result {
         match self {
             Refused::Malformed => f.write_str("malformed"),
-            Refused::For(reason) => reason.fmt(f),
+            Refused::For(reason) => fmt::Display::fmt(reason, f),
         }
     }
 }

@@ -16,7 +16,7 @@ use Rattle.rpki_keys.proofs.Algorithms.Parts.{digest-part, cms-part}
 use Rattle.rpki_extensions.specs.KeyIdentifiers.{KeyIdForm, key_id_at}
 use Rattle.rpki_attributes.specs.declared.attribute.OtherTypes.TheVariants.{Refuse}
 use Rattle.rpki_attributes.specs.Attrs.{SignedAttributes}
-use Rattle.rpki_attributes.proofs.SignedAttrs.Exact.{attrs-part}
+use Rattle.rpki_attributes.proofs.Lists.Exact.{attrs-part}
 use Rattle.rpki_certs.proofs.Certs.Exact.{cert-part}
 use Rattle.rpki_sigobj.specs.SignerInfo.{SignerInfo, TypedAttrsForm, SignerInfoForm}
 use Rattle.rpki_sigobj.specs.SignerInfo.{typed_attrs_at}

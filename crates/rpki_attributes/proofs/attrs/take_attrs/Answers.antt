@@ -1,8 +1,8 @@
 use Rattle.std.proofs.Common.{Ok, Err}
 use Rattle.rpki_der.proofs.Form.Decoders.{decodes-next}
 use Rattle.rpki_attributes.specs.Attrs.{KeptAttributes}
-use Rattle.rpki_attributes.proofs.SignedAttrs.Exact.{attrs-part}
-use Rattle.rpki_attributes.proofs.SignedAttrs.Written.{read-kept}
+use Rattle.rpki_attributes.proofs.Lists.Exact.{attrs-part}
+use Rattle.rpki_attributes.proofs.Lists.Written.{read-kept}
 use Rattle.rpki_attributes.proofs.attrs.take_attrs.Goals as goal
 
 pub invariant_of-result : goal.invariant_of-result

@@ -1,6 +1,6 @@
 use Rattle.rpki_basics.proofs.Times.Written.{time_written}
 use Rattle.rpki_attributes.specs.declared.attribute.OtherTypes.TheVariants.{Refuse}
-use Rattle.rpki_attributes.proofs.SignedAttrs.Written.{attrs-written, made-form, read-again}
+use Rattle.rpki_attributes.proofs.Lists.Written.{attrs-written, made-form, read-again}
 use Rattle.rpki_attributes.proofs.laws.attributes_are_made.Goals as goal
 
 pub returns-clause-written : goal.returns-clause-written

@@ -1,4 +1,4 @@
-use Rattle.rpki_attributes.proofs.SignedAttrs.Written.{attrs-skip}
+use Rattle.rpki_attributes.proofs.Lists.Written.{attrs-skip}
 use Rattle.rpki_attributes.proofs.laws.attributes_without_others.Goals as goal
 
 pub returns : goal.returns

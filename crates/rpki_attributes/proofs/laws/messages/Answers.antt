@@ -1,4 +1,4 @@
-use Rattle.rpki_attributes.proofs.SignedAttrs.Written.{message-written, message-unique}
+use Rattle.rpki_attributes.proofs.Lists.Written.{message-written, message-unique}
 use Rattle.rpki_attributes.proofs.laws.messages.Goals as goal
 
 pub returns-clause-written : goal.returns-clause-written

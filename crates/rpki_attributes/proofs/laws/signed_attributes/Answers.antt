@@ -1,4 +1,4 @@
-use Rattle.rpki_attributes.proofs.SignedAttrs.Exact.{attrs-reading}
+use Rattle.rpki_attributes.proofs.Lists.Exact.{attrs-reading}
 use Rattle.rpki_attributes.proofs.laws.signed_attributes.Goals as goal
 
 pub returns : goal.returns

@@ -1,6 +1,6 @@
 use Rattle.std.proofs.Common.{subst}
 use Rattle.rpki_attributes.specs.Attrs.{AreKept}
-use Rattle.rpki_attributes.proofs.SignedAttrs.Written.{kept-written}
+use Rattle.rpki_attributes.proofs.Lists.Written.{kept-written}
 use Rattle.rpki_attributes.proofs.attrs.SignedAttrs.encode_ref.Goals as goal
 
 pub returns-clause-written : goal.returns-clause-written

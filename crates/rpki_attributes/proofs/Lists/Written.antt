@@ -39,7 +39,7 @@ use Rattle.rpki_attributes.specs.Attrs.Read.{attrs_at}
 use Rattle.rpki_attributes.specs.Attrs.Made.{attribute_octets, attributes_of, InOrder, attrs_octets}
 use Rattle.rpki_attributes.specs.Attrs.Made.{message_of}
 use Rattle.rpki_attributes.proofs.Attributes.Exact.{attribute-part}
-use Rattle.rpki_attributes.proofs.SignedAttrs.Exact.{attrs-part}
+use Rattle.rpki_attributes.proofs.Lists.Exact.{attrs-part}
 use Rattle.rpki_der.proofs.Form.Keyed.{differ}
 
 -- ---- where no other types stand
