@@ -1,2 +1,2 @@
 pub mod Crls
-pub mod CrlExtensions
+pub mod Extensions
