@@ -1,2 +1,2 @@
 pub mod Crls
-pub mod Extensions
+pub mod ListExtensions

@@ -1,6 +1,6 @@
 use Rattle.rpki_der.specs.Tags.{SEQUENCE}
 use Rattle.rpki_resources.proofs.Readings.{part-reading}
-use Rattle.rpki_crls.proofs.Extensions.Exact.{crl-extensions-part}
+use Rattle.rpki_crls.proofs.ListExtensions.Exact.{crl-extensions-part}
 use Rattle.rpki_crls.proofs.laws.extensions.Goals as goal
 
 pub returns : goal.returns

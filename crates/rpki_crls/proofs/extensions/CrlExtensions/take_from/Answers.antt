@@ -1,5 +1,5 @@
 use Rattle.rpki_der.proofs.Form.Decoders.{decodes-next}
-use Rattle.rpki_crls.proofs.Extensions.Exact.{crl-extensions-part}
+use Rattle.rpki_crls.proofs.ListExtensions.Exact.{crl-extensions-part}
 use Rattle.rpki_crls.proofs.extensions.CrlExtensions.take_from.Goals as goal
 
 pub returns-clause-decodes : goal.returns-clause-decodes
