@@ -1,7 +1,7 @@
 -- What follows from the tags that a part may begin with.
 use Rattle.std.proofs.Common.{◌≡◌, ◌≢◌, ℕ, Bool, true, false, List, [], ◌∷◌, ◌++◌, inl, inr, refl}
 use Rattle.std.proofs.Common.{sym, ap, ◌∙◌, eq-eqb}
-use Rattle.std.specs.Prelude.{not, ◌&&◌, ◌||◌, ◌==◌, ◌⊎◌}
+use Rattle.std.specs.Prelude.{not, ◌||◌, ◌==◌, ◌⊎◌}
 use Rattle.std.proofs.lemmas.Bool.{eqb-true, ne_eqb, and_parts, or_parts, or_left, not-true}
 use Rattle.rpki_der.specs.Read.Parse.{is_next}
 use Rattle.rpki_der.specs.Form.Law.{TagSet, every, only, is, or, is_one_of, has, NoneNext}

@@ -1,10 +1,10 @@
 -- Strings that hold other values are read exactly.
-use Rattle.std.proofs.Common.{◌≡◌, ℕ, zero, suc, List, [], ◌∷◌, ◌++◌, Option, Some, None, inl, inr}
-use Rattle.std.proofs.Common.{refl, sym, ap, subst, ◌∙◌}
+use Rattle.std.proofs.Common.{◌≡◌, ℕ, zero, suc, List, [], ◌∷◌, ◌++◌, Option, Some, inl, inr}
+use Rattle.std.proofs.Common.{refl, sym, subst, ◌∙◌}
 use Rattle.std.proofs.lemmas.List.{append-nil}
 use Rattle.rpki_der.specs.declared.mode.Mode.{Mode}
 use Rattle.rpki_der.specs.declared.mode.Mode.TheVariants.{Der}
-use Rattle.rpki_der.specs.Read.Parse.{Parser, whole, octets_at}
+use Rattle.rpki_der.specs.Read.Parse.{Parser, octets_at}
 use Rattle.std.specs.List.{concat}
 use Rattle.rpki_der.specs.Grammar.{IsBytes, Value, BitString, OctetString, Items}
 use Rattle.rpki_der.proofs.Reading.Lengths.{bind_some, some_is}
