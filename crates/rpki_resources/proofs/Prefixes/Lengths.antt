@@ -1,6 +1,6 @@
 -- the length of the prefix whose addresses are given
 use Rattle.std.proofs.Common.{◌≡◌, ℕ, zero, suc, ◌+◌, ◌-◌, ◌%◌, ◌^◌, ◌<◌, ◌≤◌, None, Some, Bool}
-use Rattle.std.proofs.Common.{true, false, ◌&&◌, refl, sym, ◌∙◌, subst, ◌≢◌, arith}
+use Rattle.std.proofs.Common.{true, false, refl, sym, ◌∙◌, subst, ◌≢◌, arith}
 use Rattle.std.specs.Int.Count.{count_leading_zeros, leading_unique}
 use native.Mathlib.Numerals.{unary_clauses}
 use Rattle.std.proofs.lemmas.Nat.{pow_pos}
