@@ -1,9 +1,9 @@
 -- A text has one fault at most.
-use Rattle.std.proofs.Common.{◌≡◌, ◌≢◌, ℕ, List, [], ◌∷◌, codes, Result, Ok, Err, inl, inr, refl}
+use Rattle.std.proofs.Common.{◌≡◌, ℕ, List, codes, Err, inl, inr, refl}
 use Rattle.std.proofs.Common.{sym, ap, subst, ◌∙◌}
 use Rattle.rpki_der.specs.declared.error.DecodeError.TheVariants.{Malformed, Content}
 use Rattle.rpki_der.specs.declared.error.DecodeError.TheVariants.{Memory as OutOfMemory}
-use Rattle.rpki_der.specs.Grammar.{Items, Front}
+use Rattle.rpki_der.specs.Grammar.{Front}
 use Rattle.rpki_basics.specs.declared.uri.Error.{Error}
 use Rattle.rpki_basics.specs.declared.uri.Error.TheVariants.{InvalidCharacters, BadScheme}
 use Rattle.rpki_basics.specs.declared.uri.Error.TheVariants.{BadUri as NoUri, Memory as NoMemory}
@@ -14,10 +14,9 @@ use Rattle.rpki_tal.specs.declared.error.ReadError.TheVariants.{BadKeyInfoEncodi
 use Rattle.rpki_tal.specs.declared.error.ReadError.TheVariants.{Memory}
 use Rattle.rpki_tal.specs.Lines.{IsLine}
 use Rattle.rpki_tal.specs.Uri.{IsNoTalUri}
-use Rattle.rpki_tal.specs.Form.{IsUriLine, HasComments}
-use Rattle.rpki_tal.specs.Faults.{EndsInLine, HasBadLine, IsKeyFault, IsUrisFault, HasKeyFault}
-use Rattle.rpki_tal.specs.Faults.{IsListFault, IsFault, IsSameFault, HasOtherOctets}
-use Rattle.rpki_tal.specs.Faults.{IsEncodingFault}
+use Rattle.rpki_tal.specs.Form.{IsUriLine}
+use Rattle.rpki_tal.specs.Faults.{EndsInLine, HasBadLine, IsKeyFault, IsUrisFault}
+use Rattle.rpki_tal.specs.Faults.{IsListFault, IsFault, IsSameFault}
 use Rattle.rpki_tal.proofs.LineFacts.{line-kind, first-line, no-open}
 use Rattle.rpki_tal.proofs.UriFacts.{uri-line-kind, bad-line}
 use Rattle.rpki_tal.proofs.Unique.{comments-same, open-comment, uris-stop, uris-same, uris-fault}

@@ -1,5 +1,5 @@
 -- What refusals tell.
-use Rattle.std.proofs.Common.{◌≡◌, ◌≢◌, ℕ, List, [], Option, Result, Ok, Err, inl, inr, refl, subst}
+use Rattle.std.proofs.Common.{◌≡◌, ◌≢◌, ℕ, List, [], Option, Err, inl, inr, refl, subst}
 use Rattle.std.proofs.Common.{sym}
 use Rattle.std.specs.Io.KnownBytes.{Consumes, IsAtEnd}
 use Rattle.rpki_der.specs.declared.mode.Mode.TheVariants.{Der}

@@ -1,9 +1,9 @@
 -- A text has one reading as a locator, and none where it has a fault.
-use Rattle.std.proofs.Common.{◌≡◌, ◌≢◌, ℕ, ◌⊎◌, List, [], ◌∷◌, ◌++◌, Result, Ok, Err, inl, inr}
+use Rattle.std.proofs.Common.{◌≡◌, ◌≢◌, ℕ, List, [], ◌∷◌, Result, Ok, inl, inr}
 use Rattle.std.proofs.Common.{refl, sym, ap, subst, ◌∙◌}
 use Rattle.base64.specs.declared.decode.DecodeError.{DecodeError as Undecoded}
 use Rattle.base64.specs.Engines.{standard}
-use Rattle.base64.specs.GeneralPurpose.{IsBytes, encode_of, decode_of}
+use Rattle.base64.specs.GeneralPurpose.{encode_of, decode_of}
 use Rattle.base64.proofs.EngineFacts.{decode_of-encode_of}
 use Rattle.rpki_der.specs.declared.mode.Mode.TheVariants.{Der}
 use Rattle.rpki_der.specs.declared.error.DecodeError.TheVariants.{Malformed, Content}
@@ -17,11 +17,11 @@ use Rattle.rpki_tal.specs.declared.error.ReadError.TheVariants.{Io, UnexpectedEo
 use Rattle.rpki_tal.specs.declared.error.ReadError.TheVariants.{BadKeyInfoEncoding, BadKeyInfo}
 use Rattle.rpki_tal.specs.declared.error.ReadError.TheVariants.{Memory}
 use Rattle.rpki_tal.specs.declared.uri.TalUri.{TalUri}
-use Rattle.rpki_tal.specs.Lines.{IsOneLine, IsLine, IsComment}
+use Rattle.rpki_tal.specs.Lines.{IsLine, IsComment}
 use Rattle.rpki_tal.specs.Form.{IsUriLine, HasComments, HasUris, HasList, HasKey, IsBase64}
 use Rattle.rpki_tal.specs.Form.{TalForm, IsOnlyTal, IsNoTal}
-use Rattle.rpki_tal.specs.Faults.{EndsInComment, EndsInLine, HasBadLine, IsKeyFault, IsUrisFault}
-use Rattle.rpki_tal.specs.Faults.{IsListFault, IsFault, HasKeyFault, HasOtherOctets}
+use Rattle.rpki_tal.specs.Faults.{EndsInComment, EndsInLine, IsKeyFault, IsUrisFault}
+use Rattle.rpki_tal.specs.Faults.{IsListFault, IsFault, HasOtherOctets}
 use Rattle.rpki_tal.proofs.LineFacts.{comment-kind, line-kind, lines-stop, first-line, no-open}
 use Rattle.rpki_tal.proofs.LineFacts.{no-comment, sign-one}
 use Rattle.rpki_tal.proofs.UriFacts.{uri-line-kind, empty-line, bad-line}

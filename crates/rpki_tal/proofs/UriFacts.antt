@@ -1,5 +1,5 @@
 -- URIs of trust anchors, each of one kind.
-use Rattle.std.proofs.Common.{◌≡◌, ◌≢◌, ℕ, List, [], ◌∷◌, ◌++◌, map, codes, Result, Ok, Err, refl}
+use Rattle.std.proofs.Common.{◌≡◌, ℕ, List, [], ◌∷◌, ◌++◌, map, codes, Err}
 use Rattle.std.proofs.Common.{sym, ap, subst, ◌∙◌, arith}
 use Rattle.std.specs.Char.{to_ascii_lowercase}
 use Rattle.rpki_der.specs.Grammar.{Front, HasNoFront}
@@ -10,7 +10,7 @@ use Rattle.rpki_basics.specs.Uri.{IsUri, IsUriOf, IsRsync, IsHttps, AreRsyncSegm
 use Rattle.rpki_basics.specs.Uri.{AreHttpsSegments}
 use Rattle.rpki_tal.specs.declared.uri.TalUri.{TalUri}
 use Rattle.rpki_tal.specs.declared.uri.TalUri.TheVariants.{Rsync, Https}
-use Rattle.rpki_tal.specs.Lines.{IsOneLine, IsLine}
+use Rattle.rpki_tal.specs.Lines.{IsLine}
 use Rattle.rpki_tal.specs.Uri.{IsTalUri, IsNoTalUri, IsTalUriOf}
 use Rattle.rpki_tal.specs.Form.{IsUriLine}
 use Rattle.rpki_tal.proofs.LineFacts.{IsLineKind, line-kind, first-line}

@@ -1,5 +1,5 @@
 -- What reading a locator answers.
-use Rattle.std.specs.Prelude.{◌≡◌, ℕ, List, Option, Result, Ok, Err}
+use Rattle.std.specs.Prelude.{ℕ, List, Option, Result, Ok, Err}
 use Rattle.std.specs.Io.KnownBytes.{Consumes, IsAtEnd}
 use Rattle.rpki_tal.specs.declared.error.ReadError.{ReadError}
 use Rattle.rpki_tal.specs.declared.error.ReadError.TheVariants.{Io, Memory}

@@ -1,6 +1,5 @@
-use Rattle.std.proofs.Common.{◌≡◌, ◌+◌, ap, sym, ◌∙◌, rules}
 use Rattle.std.proofs.lemmas.Result.{err_from_is_err_and}
-use Rattle.rpki_tal.proofs.Refusing.{text-refused, none-failed}
+use Rattle.rpki_tal.proofs.Refusing.{text-refused}
 use Rattle.rpki_tal.proofs.tal.Tal.read_named.Goals as goal
 
 pub returns-in_err-uris-clause-read : goal.returns-in_err-uris-clause-read
