@@ -1,12 +1,12 @@
 -- The addresses of a checklist are those of their families.
-use Rattle.std.proofs.Common.{◌≡◌, ℕ, List, [], ◌∷◌, ◌++◌, All, Option, Some, None, refl, sym}
+use Rattle.std.proofs.Common.{ℕ, List, [], ◌++◌, All, Option, Some, None, sym}
 use Rattle.std.proofs.Common.{subst}
 use Rattle.std.specs.Prelude.{unwrap_or}
 use Rattle.std.proofs.lemmas.List.{append-nil}
 use Rattle.std.proofs.lemmas.List.Elements.{All-nil}
 use Rattle.rpki_der.specs.Tags.{SEQUENCE, context}
 use Rattle.rpki_der.specs.declared.mode.Mode.{Mode}
-use Rattle.rpki_der.specs.Grammar.{IsBytes, Items, Optional}
+use Rattle.rpki_der.specs.Grammar.{IsBytes, Optional}
 use Rattle.rpki_der.specs.Form.Keyed.{Keyed}
 use Rattle.rpki_der.specs.Form.Made.{Made, Default}
 use Rattle.rpki_der.specs.Form.Parts.{Explicit}
@@ -15,7 +15,7 @@ use Rattle.rpki_der.proofs.Reading.Exact.{IsBytes-left, IsBytes-right, IsBytes-c
 use Rattle.rpki_resources.specs.declared.by_family.ByFamily.{ByFamily}
 use Rattle.rpki_resources.specs.declared.by_family.Entry.{Entry}
 use Rattle.rpki_resources.specs.declared.family.AddressFamily.{AddressFamily}
-use Rattle.rpki_resources.specs.declared.family.AddressFamily.TheVariants.{Ipv4, Ipv6}
+use Rattle.rpki_resources.specs.declared.family.AddressFamily.TheVariants.{Ipv4}
 use Rattle.rpki_resources.specs.Family.{IsWithin}
 use Rattle.rpki_resources.specs.Family.Form.{afi}
 use Rattle.rpki_resources.specs.Families.Form.{EntryForm, FamiliesForm, afi_of, IsValueOf}

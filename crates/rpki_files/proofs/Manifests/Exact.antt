@@ -1,10 +1,9 @@
 -- Files and manifests are read exactly.
 use Rattle.std.proofs.Common.{◌≡◌, ℕ, ◌≤◌, Bool, true, false, cond, List, [], ◌∷◌, Option, Some}
 use Rattle.std.proofs.Common.{None, refl, sym, ap, subst, ◌∙◌}
-use Rattle.std.specs.Prelude.{Decides, nat_le, bytes_eq}
+use Rattle.std.specs.Prelude.{Decides, nat_le}
 use Rattle.std.specs.List.{list_all}
 use Rattle.std.proofs.lemmas.Bool.{leb-true, le-leb}
-use Rattle.std.proofs.lemmas.Slice.Eq.{bytes_eq-Decides}
 use Rattle.rpki_basics.specs.declared.limits.ManifestRule.{ManifestRule}
 use Rattle.rpki_basics.specs.declared.limits.ManifestRule.TheVariants.{Any, Registered}
 use Rattle.rpki_basics.specs.Moment.{Moment, stamp}
@@ -40,7 +39,7 @@ use Rattle.rpki_files.specs.Manifest.{Manifest, ManifestForm}
 use Rattle.rpki_files.specs.Manifest.{Head, ordered, head_at, rest_at, fields_at}
 use Rattle.rpki_files.specs.Manifest.{manifest_at}
 use Rattle.rpki_files.proofs.Names.Decided.{name-decides}
-use Rattle.rpki_files.proofs.Versions.Exact.{found, found-true, version-part}
+use Rattle.rpki_files.proofs.Versions.Exact.{version-part}
 use Rattle.rpki_keys.proofs.Algorithms.Parts.{named-is, named-self}
 
 -- ---- a file

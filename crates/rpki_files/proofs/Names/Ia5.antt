@@ -1,16 +1,13 @@
 -- What is the name of a file needs no test that it is an IA5String.
-use Rattle.std.proofs.Common.{◌≡◌, ℕ, ◌<◌, Bool, true, false, cond, List, [], ◌∷◌, Some, None}
-use Rattle.std.proofs.Common.{All, refl}
+use Rattle.std.proofs.Common.{◌≡◌, ℕ, Bool, true, false, cond, List, Some, None}
+use Rattle.std.proofs.Common.{refl}
 use Rattle.std.specs.Prelude.{nat_lt}
 use Rattle.std.specs.List.{list_all}
-use Rattle.std.proofs.lemmas.Bool.{lt-ltb}
-use Rattle.std.proofs.lemmas.List.Elements.{All-head, All-tail}
 use Rattle.rpki_der.specs.Tags.{IA5_STRING}
 use Rattle.rpki_der.specs.declared.mode.Mode.TheVariants.{Der}
 use Rattle.rpki_der.specs.Read.Parse.{◌>>=◌, value_at, ia5_of, tested}
 use Rattle.rpki_files.specs.Name.{is_file_name}
 use Rattle.rpki_files.specs.File.{name_at}
-use Rattle.std.proofs.lemmas.Bool.{and_from}
 use Rattle.rpki_files.proofs.Names.Decided.{name-below, name-decides}
 use Rattle.rpki_der.proofs.Writing.Values.{all-below}
 
