@@ -1,6 +1,6 @@
 -- What is known of addresses that were read.
-use Rattle.std.proofs.Common.{◌≡◌, ℕ, ◌+◌, ◌-◌, ◌*◌, ◌^◌, ◌<◌, List, [], ◌∷◌, ◌++◌, length, All}
-use Rattle.std.proofs.Common.{Option, Some, None, refl, sym, ap, subst, arith}
+use Rattle.std.proofs.Common.{ℕ, ◌-◌, ◌^◌, List, [], ◌∷◌, ◌++◌, All}
+use Rattle.std.proofs.Common.{Option, Some, None, sym, ap, subst, arith}
 use Rattle.std.specs.Prelude.{unwrap_or}
 use Rattle.std.proofs.Math.Nat.{mul-mod_left}
 use Rattle.std.proofs.lemmas.Nat.{pow_pos}
@@ -8,8 +8,7 @@ use Rattle.std.proofs.lemmas.List.{append-nil}
 use Rattle.std.proofs.lemmas.List.Elements.{All-nil}
 use Rattle.rpki_der.specs.declared.mode.Mode.{Mode}
 use Rattle.rpki_der.specs.declared.mode.Mode.TheVariants.{Der}
-use Rattle.rpki_der.specs.Grammar.{IsBytes, Items}
-use Rattle.rpki_der.specs.Numbers.{number}
+use Rattle.rpki_der.specs.Grammar.{IsBytes}
 use Rattle.rpki_der.specs.Tags.{BIT_STRING, SEQUENCE}
 use Rattle.rpki_der.specs.Form.Keyed.{Keyed}
 use Rattle.rpki_der.proofs.Form.Words.{items-all, items-bytes}
@@ -22,8 +21,8 @@ use Rattle.rpki_resources.specs.Family.Form.{afi}
 use Rattle.rpki_resources.specs.Families.Form.{EntryForm, FamiliesForm, afi_of, IsValueOf}
 use Rattle.rpki_resources.specs.Ip.Form.{bit_count, bit_value, PrefixForm}
 use Rattle.rpki_resources.specs.Prefix.{Network}
-use Rattle.rpki_resources.proofs.Addresses.Bits.{small_more, value_below, room_below}
-use Rattle.rpki_resources.proofs.Addresses.Within.{max_most, number_small, value_small}
+use Rattle.rpki_resources.proofs.Addresses.Bits.{room_below}
+use Rattle.rpki_resources.proofs.Addresses.Within.{max_most, value_small}
 use Rattle.rpki_routes.specs.Roa.{Address, Roa, IsPrefixOf, IsAddress, IsRoa}
 use Rattle.rpki_routes.specs.Roa.Form.{AddressForm, AddressesForm, RoaForm}
 use Rattle.rpki_resources.proofs.Families.Gathered.{same-family}
