@@ -13,8 +13,8 @@ use rpki_der::{Constructed, DecodeError, Encode, Mode};
 use std::alloc::{AllocError, Global};
 
 // What is no want of memory.
-fn or_none<T: Drop>(result: Result<T, Error>) -> Result<Option<T>, AllocError> {
-    match result {
+fn or_none<T: Drop>(read: Result<T, Error>) -> Result<Option<T>, AllocError> {
+    match read {
         Ok(value) => Ok(Some(value)),
         Err(Error::Memory) => Err(AllocError),
         Err(_) => Ok(None),
@@ -43,7 +43,7 @@ fn is_https_copied(alloc: Global) -> Result<bool, AllocError> {
 fn is_key_copied(alloc: Global) -> Result<bool, AllocError> {
     match key(alloc)? {
         None => Ok(false),
-        Some(key) => Ok(key.clone()?.bits() == b"abc"),
+        Some(key) => Ok(key.clone()?.bits() == b"abc".as_slice()),
     }
 }
 
@@ -69,7 +69,7 @@ fn is_name_copied(alloc: Global) -> Result<bool, AllocError> {
 fn is_signature_copied(alloc: Global) -> Result<bool, AllocError> {
     let value = Bytes::copy_from_slice(alloc, b"abc")?;
     let signature = RpkiSignature::new(RpkiSignatureAlgorithm::default(), value);
-    Ok(signature.clone()?.value() == b"abc")
+    Ok(signature.clone()?.value() == b"abc".as_slice())
 }
 
 // Whether the algorithm of a digest is written without a NULL (RFC 5754, section 2).
