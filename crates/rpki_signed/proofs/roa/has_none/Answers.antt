@@ -1,4 +1,4 @@
-use Rattle.std.proofs.Common.{◌≡◌, List, subst, sym}
+use Rattle.std.proofs.Common.{List, subst, sym}
 use Rattle.rpki_resources.specs.declared.block.Block.{Block}
 use Rattle.rpki_signed.specs.Roa.{HasNone}
 use Rattle.rpki_signed.proofs.Covered.{empty-of, none-in-empty}
