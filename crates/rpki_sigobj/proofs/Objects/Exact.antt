@@ -1,19 +1,17 @@
 -- Signed objects are read exactly: a line for each field.
-use Rattle.std.proofs.Common.{ℕ, List, [], ◌∷◌, length, refl, sym, ap, subst, eqb, arith}
+use Rattle.std.proofs.Common.{ℕ, List, [], ◌∷◌, refl, sym, ap, subst, arith}
 use Rattle.std.specs.Prelude.{bytes_eq}
-use Rattle.std.proofs.lemmas.Bool.Decides.{Decides-eqb}
 use Rattle.std.proofs.lemmas.Slice.Eq.{bytes_eq-Decides}
 use Rattle.rpki_der.specs.declared.mode.Mode.{Mode}
 use Rattle.rpki_der.specs.Form.Law.{nothing, is, IsPart}
 use Rattle.rpki_der.specs.Form.Parts.{Sequence, Explicit}
 use Rattle.rpki_der.specs.Grammar.{ObjectIdentifier}
 use Rattle.rpki_der.specs.Numbers.{MAX_DEPTH}
-use Rattle.rpki_der.specs.Tags.{SEQUENCE, SET, context, context_primitive}
+use Rattle.rpki_der.specs.Tags.{SEQUENCE, SET, context}
 use Rattle.rpki_der.proofs.Form.Fields.{field, field-on, fixed, done, within}
-use Rattle.rpki_der.proofs.Form.Kinds.{this-part, these-part, oid-part, octets-part, contents-part}
+use Rattle.rpki_der.proofs.Form.Kinds.{this-part, these-part, oid-part, octets-part}
 use Rattle.rpki_der.proofs.Form.Words.{part-as, pass, make, keep, in-tag}
 use Rattle.rpki_keys.proofs.Algorithms.Parts.{digest-part, cms-part}
-use Rattle.rpki_extensions.specs.KeyIdentifiers.{KeyIdForm, key_id_at}
 use Rattle.rpki_attributes.specs.declared.attribute.OtherTypes.TheVariants.{Refuse}
 use Rattle.rpki_attributes.specs.Attrs.{SignedAttributes}
 use Rattle.rpki_attributes.proofs.Lists.Exact.{attrs-part}
