@@ -1,6 +1,6 @@
 -- What is said of files at a moment, by steps.
-use Rattle.std.proofs.Common.{◌≡◌, ◌≤◌, ℕ, List, Option, Some, None, Ok, Err, Vec, Global}
-use Rattle.std.proofs.Common.{inl, inr, subst, ap, ◌∙◌, arith, length}
+use Rattle.std.proofs.Common.{◌≡◌, ◌≤◌, ℕ, List, Some, None, Ok, Err, Vec, Global}
+use Rattle.std.proofs.Common.{inr, subst, ap, ◌∙◌, arith, length}
 use Rattle.std.proofs.lemmas.List.{length-map}
 use Rattle.std.specs.Borrow.{Bor}
 use Rattle.rpki_basics.specs.Moment.{Moment}
