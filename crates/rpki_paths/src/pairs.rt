@@ -1,7 +1,7 @@
 //! Pairing of what an attestation carries, in carried order.
 
 ghost use Rattle.std.specs.Prelude.{◌≡◌, ◌≤◌, ◌+◌, ◌*◌, ℕ, Bool, List, [], ◌∷◌, ◌++◌, map, length};
-ghost use Rattle.std.specs.Prelude.{IsTrue, IsFalse, IfOk, IfErr, IfNone, IfSome, OnOk};
+ghost use Rattle.std.specs.Prelude.{IsTrue, IsFalse, IfOk, IfErr, IfNone, IfSome, OnOk, Some};
 ghost use Rattle.rpki_paths.specs.declared.pairs.PairFault.{PairFault};
 ghost use Rattle.rpki_paths.specs.Index.{IsIndex};
 ghost use Rattle.rpki_paths.specs.Taking.{left_of, FitsNone, IsTakenAt};
