@@ -16,6 +16,7 @@ use rpki_resources::AddressFamily;
 use rpki_rsa::Rsa;
 use rpki_signed::check::CheckError;
 use rpki_sigobj::SignedObject;
+use rpki_uses::issuers::{key_of_issuer, roa_under_chain};
 use rpki_uses::objects::{content_in, copy_of, number_of, signer_under};
 use rpki_uses::received::{is_attested, is_in_manifest, roa_under};
 use std::alloc::{AllocError, Global};
@@ -112,6 +113,43 @@ fn attested(alloc: Global, list: &'static [u8], document: &[u8]) -> Result<Strin
     Ok(said(alloc, is_attested(alloc, octets, &ca, &list, &Rsa, now, document))?)
 }
 
+/// The certificates of a chain.
+fn chain_of(alloc: Global, certs: &[&[u8]]) -> Result<Vec<Vec<u8>>, Fail> {
+    let mut chain = Vec::new(alloc);
+    for cert in certs {
+        if chain.push(Vec::from_slice(alloc, cert)?).is_err() {
+            return Err(Fail::Memory);
+        }
+    }
+    Ok(chain)
+}
+
+/// The identifier of the key of the issuer that these make under the trust anchor, or why they make
+/// none.
+fn key(alloc: Global, certs: &[&[u8]], year: u16) -> Result<String, Fail> {
+    let now = time(year)?;
+    let chain = chain_of(alloc, certs)?;
+    Ok(match key_of_issuer(alloc, &ANCHOR_CER, &chain, &Rsa, now) {
+        Ok(key) => format!(in alloc; "{key}")?,
+        Err(error) => format!(in alloc; "{error}")?,
+    })
+}
+
+/// What is said to a ROA under the issuer that these make, as a text.
+fn under(alloc: Global, octets: &'static [u8], certs: &[&[u8]]) -> Result<String, Fail> {
+    let now = time(2027)?;
+    let chain = chain_of(alloc, certs)?;
+    let list = Crl::decode(alloc, Bytes::from_static(&NONE))?;
+    let octets = Bytes::from_static(octets);
+    Ok(match roa_under_chain(alloc, octets, &ANCHOR_CER, &chain, &list, &Rsa, now) {
+        Ok((_, roa)) => {
+            let system = roa.as_id();
+            format!(in alloc; "{system}")?
+        }
+        Err(error) => format!(in alloc; "{error}")?,
+    })
+}
+
 /// The types of ROAs and of manifests.
 static ROA: &[u8] = b"\\x2A\\x86\\x48\\x86\\xF7\\x0D\\x01\\x09\\x10\\x01\\x18";
 
@@ -197,6 +235,14 @@ ROWS = (
     ("attested", "&NONE, &DOCUMENT", "true"),
     ("attested", "&NONE, &ORIGIN", "false"),
     ("attested", "&THESE, &DOCUMENT", "CA certificate has been revoked"),
+    ("key", "&[], 2027", "1A3A434D3CB238F39188C4ED212421A717BB7C97"),
+    ("key", "&[&AUTHORITY_CER], 2027", "C78637259551E49913A293A978985D33FBECF9C1"),
+    ("key", "&[&AUTHORITY_CER], 2041", "certificate has expired"),
+    ("key", "&[&ORIGIN], 2027", "malformed"),
+    ("under", "&ORIGIN, &[&AUTHORITY_CER]", "AS64496"),
+    ("under", "&BROKEN, &[&AUTHORITY_CER]", "signature is not valid"),
+    ("under", "&OVERCLAIMING, &[&AUTHORITY_CER]", "overclaimed IPv4 resources"),
+    ("under", "&ORIGIN, &[&ORIGIN]", "malformed"),
     ("content", "ROA", "true"),
     ("content", "MFT", "wrong content type"),
     ("number", "&NUMBERED", "5"),

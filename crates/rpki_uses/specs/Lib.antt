@@ -1,4 +1,5 @@
 pub mod Checks
+pub mod Issuers
 pub mod Peers
 pub mod Received
 pub mod Routes

@@ -6,6 +6,7 @@ pub mod certs;
 pub mod checks;
 pub mod extensions;
 pub mod files;
+pub mod issuers;
 pub mod listed;
 pub mod locators;
 pub mod numbers;
