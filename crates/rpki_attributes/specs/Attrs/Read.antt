@@ -1,5 +1,5 @@
 -- Reading signed attributes, as functions on lists.
-use Rattle.std.specs.Prelude.{◌≡◌, ℕ, List, length, nat_le, Option, None, Some}
+use Rattle.std.specs.Prelude.{ℕ, List, length, nat_le, Option, None, Some}
 use Rattle.std.specs.Prelude.{if◌then◌else◌}
 use Rattle.rpki_der.specs.declared.mode.Mode.{Mode}
 use Rattle.rpki_der.specs.Form.Keyed.{said_once}
