@@ -1,10 +1,12 @@
 //! Tests of `rpki_tal`, each a table of rows that one small function walks.
 //!
 //! The expected values follow from RFC 8630 and RFC 4648 by hand. A test hands want of memory on
-//! and asserts everything else. Texts that are cut, sources that fail, the order of URIs, and texts
-//! of faults are in the sweeps.
+//! and asserts everything else. Texts that are cut, sources that fail, URIs that are equal, and
+//! texts of faults are in the sweeps.
 #![tactic(auto)]
 
+#[cfg(test)]
+mod calls;
 #[cfg(test)]
 mod texts;
 #[cfg(test)]
