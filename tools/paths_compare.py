@@ -213,17 +213,17 @@ def why_not_taken(path, supply):
     return "signature" if path[0].is_anchor else "inspection"
 
 
-def why_unaccepted(a):
-    """The first thing that is not valid or not paired, where identifiers are distinct."""
+def failing(a):
+    """What is not valid or not paired, in the order in which it is asked, where identifiers are distinct."""
     if not all(cert.is_valid for cert in a.ees + a.cas):
-        return "invalid"
+        yield "invalid"
     for name, related, xs, ys in (("crls", has_crl, a.cas, a.crls), ("keys", has_key, a.signers, a.keys)):
         if why := why_unpaired(related, xs, ys):
-            return f"{name} {why}"
+            yield f"{name} {why}"
     if not all(signer.has_digest for signer in a.signers):
-        return "digest"
-    why = why_unpaired(is_verified_by, a.signers, a.ees)
-    return f"signers {why}" if why else None
+        yield "digest"
+    if why := why_unpaired(is_verified_by, a.signers, a.ees):
+        yield f"signers {why}"
 
 
 def why_unwalked(a, paths):
@@ -252,6 +252,14 @@ def why_unearned(a, paths):
     return "numbers" if union(paths, a.supplies, 0) != a.attested[0] else "addresses"
 
 
+def failures(a):
+    """The checks that fail, in the order in which they are asked, where identifiers are distinct."""
+    found = [why.split()[0] for why in failing(a)]
+    if not set(found) - {"invalid"} and why_unwalked(a, []):
+        found.append("walks")
+    return found
+
+
 def answer(a):
     granted = is_granted(a)
     if not is_distinct(a):
@@ -259,7 +267,7 @@ def answer(a):
     if granted:
         return "yes"
     paths = []
-    return why_unaccepted(a) or why_unwalked(a, paths) or why_unearned(a, paths)
+    return next(failing(a), None) or why_unwalked(a, paths) or why_unearned(a, paths)
 
 
 # Random ones: a good attestation, and then what spoils some
@@ -428,6 +436,10 @@ def idle_ca(numbers, a):
     return a._replace(cas=cas, crls=a.crls + [Crl(77, 77, frozenset())])
 
 
+SPOILERS = (spoil_certs, spoil_certs, spoil_roots, return_to_below, revoke, revoke_issued, spoil_list, spoil_list,
+            other_signer, idle_ca)
+
+
 def some_attestation(numbers):
     cas = some_cas(numbers, numbers.choice((0, 1, 2, 2, 3, 3, 4)))
     ees = some_ees(numbers, cas)
@@ -439,10 +451,9 @@ def some_attestation(numbers):
     for items in (crls, signers, keys):
         numbers.shuffle(items)
     a = Attestation(keys, signers, ees, cas, crls, some_supplies(numbers, cas), (frozenset(),) * 3)
-    if numbers.random() < 0.6:
-        a = numbers.choice((spoil_certs, spoil_certs, spoil_roots, return_to_below, revoke, revoke_issued, spoil_list,
-                            spoil_list, other_signer, idle_ca))(numbers, a)
-    if len(a.ees) > 5 or len(a.cas) > 5:
+    for _ in range(numbers.choices(range(4), (40, 35, 15, 10))[0]):
+        a = numbers.choice(SPOILERS)(numbers, a)
+    if max(map(len, (a.ees, a.cas, a.signers, a.keys, a.crls))) > 6 or len(a.cas) > 5 or len(a.ees) > 5:
         return some_attestation(numbers)
     a = a._replace(attested=earned(a))
     if numbers.random() < 0.07:
@@ -520,6 +531,8 @@ def occurs(a):
             some and not some[0] and any(some) for some in takers),
     }
     yield from (what for what, holds in seen.items() if holds)
+    if is_distinct(a):
+        yield from (f"{one} and {other} fail" for one, other in itertools.combinations(failures(a), 2))
 
 
 def tell(count, seed):

@@ -103,7 +103,7 @@ fn authority(_count: u32) -> &'static [u8] {
     certificate(false).leak()
 }
 
-/// A revocation list with so many entries, each a number of four octets and a time.
+/// A revocation list with `count` entries, each a number of four octets and a time.
 fn crl(count: u32) -> &'static [u8] {
     let algorithm = value(0x30, &[&value(0x06, &[&plain::SHA256_WITH_RSA]), &value(0x05, &[])]);
     let name = b"\x30\x0C\x31\x0A\x30\x08\x06\x03\x55\x04\x03\x13\x01\x69";

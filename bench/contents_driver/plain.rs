@@ -1,5 +1,6 @@
-//! Manifests and route origin attestations in plain Rust, written by hand for these formats. A content keeps the octets
-//! of its entries, all of which are tested when it is read, and an entry is read from them when it is asked for.
+//! Manifests, signed checklists and route origin attestations in plain Rust, written by hand for these formats. A
+//! content keeps the octets of its entries, all of which are tested when it is read, and an entry is read from them when
+//! it is asked for.
 
 use crate::der::Reader;
 use std::collections::BTreeSet;
@@ -127,7 +128,7 @@ impl Address {
         Some(Address { addr, len, max_length })
     }
 
-    /// Whether it is one of a family whose addresses have so many bits.
+    /// Whether it is one of a family whose addresses have `most` bits.
     #[inline]
     pub fn is_of(&self, most: u8) -> bool {
         self.len <= most && (self.len..=most).contains(&self.max_length())
@@ -185,4 +186,153 @@ impl Roa<'_> {
         let (mut v4, mut v6) = (Reader(self.v4), Reader(self.v6));
         std::iter::from_fn(move || address(&mut v4)).chain(std::iter::from_fn(move || address(&mut v6)))
     }
+}
+
+/// Blocks of numbers: the lowest and the highest of each.
+type Blocks = Vec<(u128, u128)>;
+
+/// A signed checklist, of which the same holds.
+#[allow(dead_code)]
+pub struct Checklist<'a> {
+    as_resources: Blocks,
+    v4_resources: Blocks,
+    v6_resources: Blocks,
+    files: &'a [u8],
+}
+
+/// An entry of a checklist: the name of a file, which may be missing, and its hash.
+#[inline]
+fn listed<'a>(list: &mut Reader<'a>) -> Option<(Option<&'a [u8]>, &'a [u8])> {
+    let mut fields = list.sequence()?;
+    let name = fields.take_if(0x16)?;
+    let hash = fields.take(0x04)?;
+    fields.close((name, hash)).filter(|_| name.is_none_or(is_portable))
+}
+
+/// Whether octets are letters, digits, dots, `-` and `_`.
+#[inline]
+fn is_portable(name: &[u8]) -> bool {
+    name.iter().all(|octet| octet.is_ascii_alphanumeric() || matches!(octet, b'-' | b'_' | b'.'))
+}
+
+/// The checklist at the front.
+#[inline(never)]
+pub fn checklist(octets: &[u8]) -> Option<Checklist<'_>> {
+    let mut fields = Reader(octets).sequence()?;
+    version(&mut fields)?;
+    let [as_resources, v4_resources, v6_resources] = resources(fields.sequence()?)?;
+    let mut algorithm = fields.sequence()?;
+    if algorithm.oid()? != SHA_256 {
+        return None;
+    }
+    algorithm.null()?;
+    algorithm.close(())?;
+    let files = fields.take(0x30)?;
+    fields.close(())?;
+    let mut list = Reader(files);
+    while !list.is_empty() {
+        listed(&mut list)?;
+    }
+    Some(Checklist { as_resources, v4_resources, v6_resources, files })
+}
+
+impl<'a> Checklist<'a> {
+    /// The names and hashes of the files.
+    #[inline]
+    pub fn iter(&self) -> impl Iterator<Item = (Option<&'a [u8]>, &'a [u8])> {
+        let mut list = Reader(self.files);
+        std::iter::from_fn(move || listed(&mut list))
+    }
+}
+
+/// The AS numbers and the addresses of both families that are named: at least one of the three has to be.
+fn resources(mut fields: Reader) -> Option<[Blocks; 3]> {
+    let (numbers, families) = (fields.take_if(0xA0)?, fields.take_if(0xA1)?);
+    fields.close(())?;
+    let mut sets = [None, None, None];
+    if let Some(numbers) = numbers {
+        sets[0] = Some(as_blocks(Reader(numbers))?);
+    }
+    if let Some(families) = families {
+        let mut outer = Reader(families);
+        let mut families = outer.sequence()?;
+        outer.close(())?;
+        while !families.is_empty() {
+            let mut fields = families.sequence()?;
+            let (place, most) = match fields.take(0x04)? {
+                [0, 1] => (1, 32),
+                [0, 2] => (2, 128),
+                _ => return None,
+            };
+            let blocks = ip_blocks(fields.sequence()?, most)?;
+            fields.close(())?;
+            if sets[place].replace(blocks).is_some() {
+                return None;
+            }
+        }
+    }
+    sets.iter().any(Option::is_some).then(|| sets.map(Option::unwrap_or_default))
+}
+
+/// SEQUENCE { [0] { SEQUENCE OF numbers and ranges of them } }.
+fn as_blocks(mut outer: Reader) -> Option<Blocks> {
+    let mut fields = outer.sequence()?;
+    outer.close(())?;
+    let mut choice = fields.open(0xA0)?;
+    fields.close(())?;
+    let mut list = choice.sequence()?;
+    choice.close(())?;
+    let mut blocks = Blocks::new();
+    while !list.is_empty() {
+        let (low, high) = if list.is_next(0x30) {
+            let mut range = list.sequence()?;
+            let (low, high) = (range.unsigned()?, range.unsigned()?);
+            range.close((low, high))?
+        } else {
+            let number = list.unsigned()?;
+            (number, number)
+        };
+        if low > high {
+            return None;
+        }
+        blocks.push((low.into(), high.into()));
+    }
+    Some(joined(blocks))
+}
+
+/// Prefixes and ranges of addresses of so many bits.
+fn ip_blocks(mut list: Reader, most: u8) -> Option<Blocks> {
+    let mut blocks = Blocks::new();
+    while !list.is_empty() {
+        let (low, high) = if list.is_next(0x30) {
+            let mut range = list.sequence()?;
+            let (low, high) = (prefix(&mut range, most)?, prefix(&mut range, most)?);
+            range.close((low.0, high.1))?
+        } else {
+            prefix(&mut list, most)?
+        };
+        if low > high {
+            return None;
+        }
+        blocks.push((low, high));
+    }
+    Some(joined(blocks))
+}
+
+/// The lowest and the highest address that begin with the bits of a BIT STRING.
+fn prefix(fields: &mut Reader, most: u8) -> Option<(u128, u128)> {
+    let (octets, unused) = fields.bits()?;
+    let address = Address::of(octets, unused, None).filter(|address| address.is_of(most))?;
+    Some((address.addr, address.addr | u128::MAX.checked_shr(u32::from(address.len)).unwrap_or(0)))
+}
+
+/// The blocks in ascending order, with those that touch as one.
+fn joined(mut blocks: Blocks) -> Blocks {
+    blocks.sort_unstable();
+    blocks.dedup_by(|(low, high), (_, before)| {
+        let touches = *low <= before.saturating_add(1);
+        *before = if touches { (*high).max(*before) } else { *before };
+        touches
+    });
+    blocks
 }

@@ -2,7 +2,7 @@
 //! there), in one run. `bench/run` builds and calls it; bench/README.md says what is measured.
 //!
 //! driver                         the table
-//! driver SUBJECT COUNT ROUNDS    one subject alone, so many times, for a tool that counts instructions
+//! driver SUBJECT COUNT ROUNDS    one subject alone, ROUNDS times, for a tool that counts instructions
 //! driver --list                  the subjects' names
 
 #[cfg(bcder)]
@@ -31,7 +31,7 @@ unsafe extern "C" {
     fn bench_read_ber(octets: *const u8, len: usize, rounds: u32) -> u64;
 }
 
-/// What is measured: a name, and a call that does it so many times on the octets of a content. Its answer is the
+/// What is measured: a name, and a call that does it a number of times on the octets of a content. Its answer is the
 /// number of contents that were decoded, the sum of the providers, or the number of octets that were written.
 struct Subject {
     name: &'static str,
@@ -45,6 +45,11 @@ fn plain_decode(octets: &[u8], rounds: u32) -> u64 {
 
 fn plain_walk(octets: &[u8], rounds: u32) -> u64 {
     (0..rounds).map(|_| plain::walk(black_box(octets)).expect("a content")).sum()
+}
+
+fn plain_twice(octets: &[u8], rounds: u32) -> u64 {
+    let one = |octets: &[u8]| black_box(plain::kept(octets)).expect("a content").iter().map(u64::from).sum::<u64>();
+    (0..rounds).map(|_| one(black_box(octets))).sum()
 }
 
 fn plain_keep(octets: &[u8], rounds: u32) -> u64 {
@@ -93,6 +98,8 @@ fn subjects() -> Vec<Subject> {
         subject("proved-walk", "plain-walk", proved_walk),
         #[cfg(bcder)]
         subject("bcder-walk", "plain-walk", beside_bcder::walk),
+        subject("plain-twice", "plain-twice", plain_twice),
+        subject("proved-twice", "plain-twice", proved_walk),
         subject("plain-keep", "plain-keep", plain_keep),
         subject("shared-walk", "plain-keep", shared_walk),
         subject("strict-read", "plain-walk", strict_read),
@@ -102,7 +109,7 @@ fn subjects() -> Vec<Subject> {
     ]
 }
 
-/// The octets of a content with so many providers, each of which takes five octets. They are never given back, so that
+/// The octets of a content with `count` providers, each of which takes five octets. They are never given back, so that
 /// what reads them may borrow them for good.
 fn sample(count: u32) -> &'static [u8] {
     let providers = (0..count).map(|i| 60_000 + 35 * i).collect();

@@ -48,9 +48,9 @@ fn unsigned(contents: &[u8]) -> Option<u32> {
     }
 }
 
-/// Reads a content, tests all that the format asks, and calls `each` at each provider.
+/// The customer of the content in front, and the octets of its providers.
 #[inline]
-fn read(octets: &[u8], mut each: impl FnMut(u32)) -> Option<u32> {
+fn fields(octets: &[u8]) -> Option<(u32, &[u8])> {
     let (fields, _) = value(0x30, octets)?;
     let (version, fields) = value(0xa0, fields)?;
     let (version, after) = value(2, version)?;
@@ -62,15 +62,30 @@ fn read(octets: &[u8], mut each: impl FnMut(u32)) -> Option<u32> {
     if customer == 0 {
         return None;
     }
-    let (mut list, after) = value(0x30, fields)?;
+    let (list, after) = value(0x30, fields)?;
     if !after.is_empty() {
         return None;
     }
+    Some((customer, list))
+}
+
+/// The provider in front, and what follows it.
+#[inline]
+fn provider(list: &[u8]) -> Option<(u32, &[u8])> {
+    let (provider, after) = value(2, list)?;
+    Some((unsigned(provider)?, after))
+}
+
+/// Reads a content, tests all that the format asks, and calls `each` at each provider. Answers the customer and the
+/// octets of the providers.
+#[inline]
+fn read(octets: &[u8], mut each: impl FnMut(u32)) -> Option<(u32, &[u8])> {
+    let (customer, octets) = fields(octets)?;
+    let mut list = octets;
     let mut count = 0;
     let mut last = None;
     while !list.is_empty() {
-        let (provider, after) = value(2, list)?;
-        let provider = unsigned(provider)?;
+        let (provider, after) = provider(list)?;
         if count == 10_000 || provider == customer || last.is_some_and(|last| last == 0 || provider <= last) {
             return None;
         }
@@ -79,7 +94,7 @@ fn read(octets: &[u8], mut each: impl FnMut(u32)) -> Option<u32> {
         last = Some(provider);
         list = after;
     }
-    if count == 0 { None } else { Some(customer) }
+    if count == 0 { None } else { Some((customer, octets)) }
 }
 
 /// A content in memory.
@@ -92,7 +107,7 @@ pub struct Content {
 #[inline(never)]
 pub fn decode(octets: &[u8]) -> Option<Content> {
     let mut providers = Vec::new();
-    let customer = read(octets, |provider| providers.push(provider))?;
+    let (customer, _) = read(octets, |provider| providers.push(provider))?;
     Some(Content { customer, providers })
 }
 
@@ -102,6 +117,33 @@ pub fn walk(octets: &[u8]) -> Option<u64> {
     let mut sum = 0;
     read(octets, |provider| sum += provider as u64)?;
     Some(sum)
+}
+
+/// A content that keeps the octets of its providers. (The customer is not asked for here.)
+#[allow(dead_code)]
+pub struct Kept<'a> {
+    customer: u32,
+    providers: &'a [u8],
+}
+
+/// Reads a content, of which the octets of the providers are kept.
+#[inline(never)]
+pub fn kept(octets: &[u8]) -> Option<Kept<'_>> {
+    let (customer, providers) = read(octets, |_| {})?;
+    Some(Kept { customer, providers })
+}
+
+impl Kept<'_> {
+    /// The providers, each of which is read again.
+    #[inline]
+    pub fn iter(&self) -> impl Iterator<Item = u32> {
+        let mut list = self.providers;
+        std::iter::from_fn(move || {
+            let (provider, after) = provider(list)?;
+            list = after;
+            Some(provider)
+        })
+    }
 }
 
 /// Reads a content into memory from a source that is shared, gives its part of the source up, and answers the sum of

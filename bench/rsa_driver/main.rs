@@ -2,7 +2,7 @@
 //! it; bench/README.md says what is measured. Keys and signatures are made by openssl for each run.
 //!
 //! driver                         the table
-//! driver SUBJECT COUNT ROUNDS    one subject alone, so many times, for a tool that counts instructions
+//! driver SUBJECT COUNT ROUNDS    one subject alone, ROUNDS times, for a tool that counts instructions
 //! driver --list                  the subjects' names
 
 use std::error::Error;
@@ -10,8 +10,8 @@ use std::path::{Path, PathBuf};
 use std::process::Command;
 use std::time::Instant;
 
-/// How often one measurement tests a signature, and how many measurements there are, of which the fastest counts; the
-/// fastest of so many seconds of openssl counts too.
+/// How often one measurement tests a signature, and how many measurements there are, of which the fastest counts. Of
+/// openssl's measurements, each of a second, the fastest counts too.
 const ROUNDS: u32 = 20;
 const TRIES: u32 = 200;
 const SECONDS: u32 = 3;

@@ -2,7 +2,7 @@
 //! bench/README.md says what is measured.
 //!
 //! driver                         the table
-//! driver SUBJECT COUNT ROUNDS    one subject alone, so many times, for a tool that counts instructions
+//! driver SUBJECT COUNT ROUNDS    one subject alone, ROUNDS times, for a tool that counts instructions
 //! driver --list                  the subjects' names
 
 mod plain;
@@ -67,7 +67,7 @@ struct Sample {
     addresses: Ends<u64>,
 }
 
-/// What is measured: a name, and a call that does it so many times. Its answer is the number of blocks that were
+/// What is measured: a name, and a call that does it a number of times. Its answer is the number of blocks that were
 /// made, or how often the answer was yes.
 struct Subject {
     name: &'static str,

@@ -1,7 +1,7 @@
 //! Measures subjects in turn and prints a table. What a driver has to add are its subjects.
 //!
 //! driver                         the table
-//! driver SUBJECT COUNT ROUNDS    one subject alone, so many times, for a tool that counts instructions
+//! driver SUBJECT COUNT ROUNDS    one subject alone, ROUNDS times, for a tool that counts instructions
 //! driver --list                  the subjects' names, the ones that they are set beside, and the counts of each
 
 use std::hint::black_box;
@@ -10,13 +10,13 @@ use std::time::Instant;
 /// How many measurements there are of each subject, of which the fastest counts.
 const TRIES: u32 = 30;
 
-/// What is measured: a call that does it so many times on octets, and answers a sum over what was read.
+/// What is measured: a call that does it a number of times on octets, and answers a sum over what was read.
 pub struct Subject {
     pub name: &'static str,
     pub beside: &'static str,
     /// How many entries the octets have.
     pub counts: &'static [u32],
-    /// The octets with so many entries, which are never given back.
+    /// The octets with this number of entries, which are never given back.
     pub sample: fn(u32) -> &'static [u8],
     pub run: fn(&'static [u8], u32) -> u64,
 }
@@ -75,7 +75,7 @@ pub fn agree(name: &str, octets: &[u8], one: fn(&'static [u8], u32) -> u64, othe
     }
 }
 
-/// Does what the words after the program's name ask for. One measurement goes over about so many entries.
+/// Does what the words after the program's name ask for. One measurement goes over about `entries` entries.
 pub fn run(subjects: &[Subject], entries: u32) {
     let words: Vec<String> = std::env::args().skip(1).collect();
     match words.iter().map(String::as_str).collect::<Vec<_>>()[..] {

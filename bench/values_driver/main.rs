@@ -2,7 +2,7 @@
 //! calls it; bench/README.md says what is measured.
 //!
 //! driver                         the table
-//! driver SUBJECT COUNT ROUNDS    one subject alone, so many times, for a tool that counts instructions
+//! driver SUBJECT COUNT ROUNDS    one subject alone, ROUNDS times, for a tool that counts instructions
 //! driver --list                  the subjects' names
 
 mod plain;
@@ -24,8 +24,8 @@ unsafe extern "C" {
     fn bench_key(octets: *const u8, len: usize, rounds: u32) -> u64;
 }
 
-/// What is measured: a name, the octets, and a call that reads them so many times. Its answer is a sum over what was
-/// read.
+/// What is measured: a name, the octets, and a call that reads them a number of times. Its answer is a sum over what
+/// was read.
 struct Subject {
     name: &'static str,
     beside: &'static str,

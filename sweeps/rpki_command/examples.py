@@ -8,7 +8,7 @@ import textwrap
 TREE = pathlib.Path(__file__).resolve().parent.parent.parent / "examples"
 HEAD = '''//! The objects of examples/, each with what the program says of it.
 
-use crate::given::Files;
+use crate::files::Files;
 use crate::runs::{Said, is_said};
 use rpki_command::command;
 use rpki_der::Counted;

@@ -3,7 +3,7 @@
 use bytes::Bytes;
 use rpki_attributes::SignedAttrs;
 use rpki_der::build::tlv;
-use rpki_der::{Constructed, DecodeError, Encode, EncodeError, Mode};
+use rpki_der::{Constructed, DecodeError, Mode};
 use std::alloc::{AllocError, Global};
 
 /// The content type of a ROA (RFC 9582, section 3).
@@ -120,18 +120,6 @@ pub fn read(
     }
 }
 
-/// Whether the octets of attributes are these, and their message is this head and these octets.
-pub fn is_message(
-    alloc: Global,
-    attrs: &SignedAttrs,
-    head: &[u8],
-    contents: &[u8],
-) -> Result<bool, AllocError> {
-    let want = joined(alloc, &[head, contents])?;
-    let message = attrs.encode_verify(alloc)?;
-    Ok(attrs.as_slice() == contents && message.as_slice() == want.as_slice())
-}
-
 /// Whether the answer is these octets, or is refused for this reason.
 pub fn is_answer(
     alloc: Global,
@@ -154,59 +142,6 @@ fn rows(rt: HostRuntime) -> Result<(), AllocError> {
         assert!(rt; is_answer(alloc, answer, &contents, strict)?);
         let answer = read(alloc, &contents, Mode::Der, false)?;
         assert!(rt; is_answer(alloc, answer, &contents, message)?);
-    }
-    Ok(())
-}
-
-#[test]
-fn message(rt: HostRuntime) -> Result<(), AllocError> {
-    let alloc = rt.alloc();
-    let contents = joined(alloc, &[TYPE, TIME, DIGEST])?;
-    assert!(rt; contents.len() == 107);
-    for mode in [Mode::Der, Mode::Ber] {
-        match read(alloc, &contents, mode, true)? {
-            Ok(attrs) => assert!(rt; is_message(alloc, &attrs, b"\x31\x6B", &contents)?),
-            Err(_) => assert!(rt; false),
-        }
-    }
-    Ok(())
-}
-
-#[test]
-fn in_pieces(rt: HostRuntime) -> Result<(), AllocError> {
-    let alloc = rt.alloc();
-    let contents = joined(alloc, &[TYPE, TIME, PIECES])?;
-    match read(alloc, &contents, Mode::Ber, true)? {
-        Ok(attrs) => {
-            assert!(rt; attrs.message_digest().as_slice() == b"\x07".as_slice());
-            assert!(rt; attrs.mode() == Mode::Ber);
-            assert!(rt; matches!(attrs.encode_ref().to_bytes(alloc), Err(EncodeError::NotDer)));
-            assert!(rt; is_message(alloc, &attrs, b"\x31\x50", &contents)?);
-        }
-        Err(_) => assert!(rt; false),
-    }
-    Ok(())
-}
-
-/// A digest whose pieces nest to this depth.
-fn nested(alloc: Global, depth: usize) -> Result<Vec<u8>, AllocError> {
-    let mut string = value(alloc, 4, b"\x07")?;
-    for _ in 1..depth {
-        string = value(alloc, 0x24, &string)?;
-    }
-    let set = value(alloc, 0x31, &string)?;
-    let oid = b"\x06\x09\x2A\x86\x48\x86\xF7\x0D\x01\x09\x04";
-    value(alloc, 0x30, &joined(alloc, &[oid, &set])?)
-}
-
-#[test]
-fn depths(rt: HostRuntime) -> Result<(), AllocError> {
-    let alloc = rt.alloc();
-    for (depth, why) in [(32, ""), (33, "malformed")] {
-        let digest = nested(alloc, depth)?;
-        let contents = joined(alloc, &[TYPE, TIME, &digest])?;
-        let answer = read(alloc, &contents, Mode::Ber, true)?;
-        assert!(rt; is_answer(alloc, answer, &contents, why)?);
     }
     Ok(())
 }

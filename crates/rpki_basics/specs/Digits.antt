@@ -20,6 +20,6 @@ digits-of (d ∷ ds) h =
     ap (λ (m : ℕ). m % 256 ^ length ds) f ∙ mod-mul-add d (256 ^ length ds) (number 0 ds) r in
     rw (high, low, digits-of ds h.1) refl
 
--- twenty digits
+-- The law that twenty octets are the digits of the number that they are.
 pub digits_again : (ds : List ℕ) → IsDigits ds → digits 20 (number 0 ds) ≡ ds
 digits_again ds h = ap (λ (k : ℕ). digits k (number 0 ds)) (sym h.0) ∙ digits-of ds h.1

@@ -18,7 +18,7 @@ digits (suc count) n = (n / 256 ^ count) ∷ digits count (n % 256 ^ count)
 abbrev pub SerialForm : Mode → List ℕ → ℕ → Type 0
 SerialForm mode octets n = IntegerBelow (2 ^ 160) mode octets n
 
--- Twenty octets.
+-- There are twenty octets.
 abbrev pub IsDigits : List ℕ → Type 0
 IsDigits octets = (length octets ≡ 20) × IsBytes octets
 

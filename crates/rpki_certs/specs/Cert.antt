@@ -73,6 +73,20 @@ CertForm mode octets c = (c.octets ≡ octets) × Sequence mode (
 abbrev pub IsSelfSigned : Tbs → Type 0
 IsSelfSigned t = IfSome t.extensions.key.authority_key (λ id. id ≡ t.extensions.key.subject_key)
 
+-- the modes that the names of the issuer and of the subject were read in
+pub record NameModes : Type 0 where
+  pub issuer : Mode
+  pub subject : Mode
+
+-- both names were read in this mode
+abbrev pub both_in : Mode → NameModes
+both_in mode = record { issuer = mode; subject = mode }
+
+-- what is signed, and the modes that its names were read in
+pub record KeptTbs : Type 0 where
+  pub tbs : Tbs
+  pub names : NameModes
+
 -- a certificate, and the mode that it was read in
 pub record KeptCertificate : Type 0 where
   pub certificate : Certificate
@@ -127,6 +141,11 @@ pub record Contents : Type 0 where
   pub tbs : Tbs
   pub signed : List ℕ
   pub signature : List ℕ
+
+-- what stands in a certificate, and the modes that its names were read in
+pub record KeptContents : Type 0 where
+  pub contents : Contents
+  pub names : NameModes
 
 -- what stands in the SEQUENCE
 unfoldable pub contents_at : Parser Contents

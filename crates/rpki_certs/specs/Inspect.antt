@@ -52,7 +52,8 @@ authority_checks t =
 
 -- That of a trust anchor is self-signed by its form (4.8.3), says neither where a revocation list
 -- of its issuer (4.8.6) nor where the issuer's certificate is (4.8.7), and inherits no numbers (RFC
--- 8630, section 2.3).
+-- 8630, section 2.3). That each family may be named and empty, where that section asks for a set
+-- that is not empty, is this project's own rule.
 abbrev pub anchor_checks : Tbs → List (Check InspectionError)
 anchor_checks t =
     (faults.TaAki unless IsSelfSigned t)
@@ -92,7 +93,8 @@ abbrev pub ca_checks : Tbs → List (Check InspectionError)
 ca_checks t = subject_checks t ++ (issued_checks t ++ authority_checks t)
 
 -- The certificate of an end entity that signed an object which need not be published fits the
--- profile (RFC 9323, section 2).
+-- profile (RFC 9323, section 2). That it may say where a signed object or a notification file is,
+-- where that section has no subject information access, is this project's own rule.
 abbrev pub detached_ee_checks : Tbs → List (Check InspectionError)
 detached_ee_checks t =
     subject_checks t ++ (issued_checks t ++ (entity_checks t ++ access_checks t))

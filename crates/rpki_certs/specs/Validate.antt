@@ -106,14 +106,15 @@ ca_validation verdict c issuer now =
     (Inspection as_faults_of ca_checks c.tbs)
     ++ issued_validation verdict c issuer now
 
--- That of an end entity that signed a published object is.
+-- The certificate of an end entity that signed a published object is valid under this issuer.
 unfoldable pub ee_validation : Verdict → Certificate → Validated → Moment
     → List (Check ValidationError)
 ee_validation verdict c issuer now =
     (Inspection as_faults_of ee_checks c.tbs)
     ++ issued_validation verdict c issuer now
 
--- That of an end entity that signed an object which need not be published is.
+-- The certificate of an end entity that signed an object which need not be published is valid under
+-- this issuer.
 unfoldable pub detached_ee_validation : Verdict → Certificate → Validated → Moment
     → List (Check ValidationError)
 detached_ee_validation verdict c issuer now =

@@ -10,7 +10,7 @@ ghost use Rattle.rpki_der.specs.Form.Decodes.{Decodes, DecodesNext, DecodesIfNex
 ghost use Rattle.rpki_der.specs.Read.Parse.{optional};
 ghost use Rattle.rpki_der.specs.Read.Reads.{Reads, Stays, Found};
 ghost use Rattle.rpki_der.specs.Tags.{SEQUENCE};
-ghost use Rattle.rpki_certs.specs.Cert.{CertForm, cert_at, certificate_of, IsKept};
+ghost use Rattle.rpki_certs.specs.Cert.{CertForm, cert_at, certificate_of, IsKept, both_in};
 
 use bytes::Bytes;
 pub use encoder::CertEncoder;
@@ -30,29 +30,32 @@ pub struct Cert {
 }
 
 impl Model for Cert {
-    ghost use Rattle.rpki_certs.specs.Cert.{KeptCertificate, IsKept, certificate_of};
+    ghost use Rattle.std.specs.Prelude.{◌≡◌};
+    ghost use Rattle.rpki_certs.specs.Cert.{KeptCertificate, IsKept, certificate_of, both_in};
 
     ghost Value = { KeptCertificate };
 
     ghost view = { λ c. record {
-      certificate = certificate_of (c.contents, c.captured.octets);
+      certificate = certificate_of (c.contents.contents, c.captured.octets);
       mode = c.captured.mode;
     } };
 
     ghost invariant = { λ c. IsKept (record {
-      certificate = certificate_of (c.contents, c.captured.octets);
+      certificate = certificate_of (c.contents.contents, c.captured.octets);
       mode = c.captured.mode;
-    }) };
+    }) × (c.contents.names ≡ both_in c.captured.mode) };
 }
 
 impl Cert {
     // The certificate of these contents and octets.
     fn of(contents: Contents, captured: Captured) -> Cert
-        requires { IsKept (record {
-          certificate = certificate_of (contents, captured.octets);
+        requires form { IsKept (record {
+          certificate = certificate_of (contents.contents, captured.octets);
           mode = captured.mode;
         }) }
-        ensures certificate { result.certificate ≡ certificate_of (contents, captured.octets) }
+        requires names { contents.names ≡ both_in captured.mode }
+        ensures certificate { result.certificate
+            ≡ certificate_of (contents.contents, captured.octets) }
         ensures mode { result.mode ≡ captured.mode }
     {
         Cert { contents, captured }

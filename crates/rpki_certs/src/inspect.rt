@@ -140,7 +140,7 @@ impl Cert {
     }
 
     /// Whether it fits the profile of the certificate of a trust anchor (RFC 6487, section 4; RFC
-    /// 8630, section 2.3).
+    /// 8630, section 2.3). Each family may be named and empty, against RFC 8630.
     pub fn inspect_ta(&self) -> Result<(), InspectionError>
         ensures { AnswersFirstFault (ta_checks self.now.certificate.tbs) result }
     {
@@ -172,7 +172,8 @@ impl Cert {
     }
 
     /// Whether it fits the profile of the certificate of an end entity that signed an object which
-    /// need not be published, as a checklist (RFC 6487, section 4; RFC 9323, section 2).
+    /// need not be published, as a checklist (RFC 6487, section 4; RFC 9323, section 2). It may say
+    /// where a signed object or a notification file is, against RFC 9323.
     pub fn inspect_detached_ee(&self) -> Result<(), InspectionError>
         ensures { AnswersFirstFault (detached_ee_checks self.now.certificate.tbs) result }
     {

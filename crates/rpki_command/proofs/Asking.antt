@@ -1,44 +1,22 @@
--- What is said of files at a moment, by steps.
-use Rattle.std.proofs.Common.{◌≡◌, ◌≤◌, ℕ, List, Some, None, Ok, Err, Vec, Global}
-use Rattle.std.proofs.Common.{inr, subst, ap, ◌∙◌, arith, length}
+-- What is said of files, by steps.
+use Rattle.std.proofs.Common.{◌≡◌, ◌≤◌, ℕ, List, Ok, Err, Vec, Global, inr, subst, ap, ◌∙◌, arith}
+use Rattle.std.proofs.Common.{length}
 use Rattle.std.proofs.lemmas.List.{length-map}
 use Rattle.std.specs.Borrow.{Bor}
-use Rattle.rpki_basics.specs.Moment.{Moment}
-use Rattle.rpki_basics.specs.Time.Read.{IsTimeOf}
 use Rattle.rpki_issuers.specs.Issuer.{octets_of}
-use Rattle.rpki_command.specs.Answer.{Said, usage, cannot_read}
-use Rattle.rpki_command.specs.Command.{IsAnswerAt, HaveReadAt, AreReadAtMost, IsOfFiles}
-use Rattle.rpki_command.specs.Store.{Told, AreAllRead, IsFirstUnreadable}
+use Rattle.rpki_command.specs.Answer.{Said, cannot_read, out_of_memory}
+use Rattle.rpki_command.specs.Command.{AreReadAtMost, IsOfFiles}
+use Rattle.rpki_command.specs.Store.{Told, AreAllRead, IsFirstUnreadable, AreSomeRead}
 use Rattle.rpki_command.specs.Words.{texts}
 use Rattle.rpki_command.specs.declared.store.Unread.TheVariants as reads
 
--- a text that names no moment
-pub no_moment : (told : Told) (moment : List ℕ) (names : List (List ℕ))
-    (P : Moment → List (List ℕ) → Said → Type 0) (s : Said)
-    → IsTimeOf moment None → s ≡ usage → IsAnswerAt told moment names P s
-no_moment told moment names P s t e = (None, t, e)
-
-pub unread_at : (moment : List ℕ) (names : List (List ℕ)) (old new : ℕ)
-    → IsTimeOf moment None → new ≡ old → HaveReadAt moment names old new
-unread_at moment names old new t e = (None, t, e)
-
--- a text that names this moment
-pub at_moment : (told : Told) (moment : List ℕ) (names : List (List ℕ))
-    (P : Moment → List (List ℕ) → Said → Type 0) (now : Moment) (s : Said)
-    → IsTimeOf moment (Some now) → IsOfFiles told names (P now) s
-    → IsAnswerAt told moment names P s
-at_moment told moment names P now s t h = (Some now, t, h)
-
-pub read_at : (moment : List ℕ) (names : List (List ℕ)) (now : Moment) (old new : ℕ)
-    → IsTimeOf moment (Some now) → AreReadAtMost names old new → HaveReadAt moment names old new
-read_at moment names now old new t h = (Some now, t, h)
-
 -- the same names
 pub of_same : (told : Told) (seen names : List (Bor (List ℕ))) (all : List (List ℕ))
-    (P : List (List ℕ) → Said → Type 0) (s : Said) → IsOfFiles told (texts seen) P s
-    → texts names ≡ all → seen ≡ names → IsOfFiles told all P s
-of_same told seen names all P s h e d =
-    subst (λ (ns : List (List ℕ)). IsOfFiles told ns P s) (ap texts d ∙ e) h
+    (P : List (List ℕ) → Said → Type 0) (old new : ℕ) (s : Said)
+    → IsOfFiles told (texts seen) P old new s → texts names ≡ all → seen ≡ names
+    → IsOfFiles told all P old new s
+of_same told seen names all P old new s h e d =
+    subst (λ (ns : List (List ℕ)). IsOfFiles told ns P old new s) (ap texts d ∙ e) h
 
 pub read_same : (seen names : List (Bor (List ℕ))) (all : List (List ℕ)) (old new : ℕ)
     → AreReadAtMost (texts seen) old new → texts names ≡ all → seen ≡ names
@@ -50,17 +28,21 @@ read_same seen names all old new h e d =
 pub of_unreadable : (told : Told) (names : List (List ℕ)) (P : List (List ℕ) → Said → Type 0)
     (old new : ℕ) (name : Bor (List ℕ)) (s : Said)
     → IsFirstUnreadable told names old new name.now → s ≡ cannot_read name.now
-    → IsOfFiles told names P s
-of_unreadable told names P old new name s u e = inr (old, new, Err (reads.Unreadable name), u, e)
+    → IsOfFiles told names P old new s
+of_unreadable told names P old new name s u e = inr (Err (reads.Unreadable name), u, e)
+
+-- some are read, until memory runs out
+pub of_some_read : (told : Told) (names : List (List ℕ)) (P : List (List ℕ) → Said → Type 0)
+    (old new : ℕ) (s : Said) → AreSomeRead told names old new → s ≡ out_of_memory
+    → IsOfFiles told names P old new s
+of_some_read told names P old new s a e = inr (Err reads.Memory, a, e)
 
 -- all are read
 pub of_all_read : (told : Told) (names : List (List ℕ)) (P : List (List ℕ) → Said → Type 0)
     (old new : ℕ) (files : Vec (Vec ℕ Global) Global) (seen : List (Vec ℕ Global)) (s : Said)
     → AreAllRead told names old new files.items → P (octets_of seen) s → seen ≡ files.items
-    → IsOfFiles told names P s
+    → IsOfFiles told names P old new s
 of_all_read told names P old new files seen s a h e = inr (
-  old,
-  new,
   Ok files,
   a,
   subst (λ (fs : List (Vec ℕ Global)). P (octets_of fs) s) e h,
@@ -72,8 +54,6 @@ pub three_files : (names : List (Bor (List ℕ))) (files seen : List (Vec ℕ Gl
 three_files names files seen e d l =
     omega (arith, e, l, ap length d, length-map names (λ (x : Bor (List ℕ)). x.now))
 
-pub ruleset by_moment = (no_moment, at_moment, unread_at, read_at)
-
 pub ruleset by_names = (of_same, read_same)
 
-pub ruleset by_reads = (of_unreadable, of_all_read, three_files)
+pub ruleset by_reads = (of_unreadable, of_some_read, of_all_read, three_files)

@@ -1,13 +1,52 @@
 -- No words ask for two things.
 use Rattle.std.proofs.Common.{rules, ◌≡◌, ◌++◌, ℕ, List, ◌∷◌, Bool, true, false, sym, refl}
+use Rattle.std.proofs.Common.{Option, Some}
+use Rattle.rpki_basics.specs.Moment.{Moment, IsMoment}
+use Rattle.rpki_basics.specs.Time.Form.{generalized_text}
+use Rattle.rpki_basics.specs.Time.Read.{generalized_of}
+use Rattle.rpki_basics.proofs.Times.Exact.{exact-generalized}
 use Rattle.rpki_command.specs.Words.{word_if, word_relaxed, word_registered, word_wide}
-use Rattle.rpki_command.specs.Words.{command_words, order_words, files_of, are_named, IsAsked}
-use Rattle.rpki_command.specs.Words.{AskForNothing}
+use Rattle.rpki_command.specs.Words.{moment_word, command_words, order_words, files_of, are_named}
+use Rattle.rpki_command.specs.Words.{IsInTime, IsAsked, AskForNothing}
 use Rattle.rpki_command.specs.declared.words.Command.{Command}
+use Rattle.rpki_command.specs.declared.words.Command.TheVariants.{Content, ContentRta, Show}
+use Rattle.rpki_command.specs.declared.words.Command.TheVariants.{ShowRta, ShowTal, Check, Rta}
 use Rattle.rpki_command.specs.declared.words.Order.{Order}
 
-pub commands-once : (a b : Command) → command_words a ≡ command_words b → a ≡ b
-commands-once a b e = search rules
+some-once : (o : Option Moment) (a b : Moment) → o ≡ Some a → o ≡ Some b → a ≡ b
+some-once o a b p q = cc
+
+-- no word names two moments
+moments-once : (a b : Moment) → IsMoment a → IsMoment b → moment_word a ≡ moment_word b → a ≡ b
+unfolding moment_word
+moments-once a b i j e = some-once (generalized_of (generalized_text a)) a b
+    (exact-generalized.complete (generalized_text a) a (refl, i))
+    (exact-generalized.complete (generalized_text a) b (e, j))
+
+-- the moment of a command, where it has one, is such a one
+abbrev HasTime : (Moment → Type 0) → Command → Type 0
+HasTime P (Check kind file moment verdicts anchor chain) = P moment
+HasTime P (Rta file moment verdicts anchor anchors) = P moment
+HasTime P other = Unit {0}
+
+in-time : (c : Command) → IsInTime c → HasTime IsMoment c
+in-time (Content kind file) i = i
+in-time (ContentRta file) i = i
+in-time (Show kind file) i = i
+in-time (ShowRta file) i = i
+in-time (ShowTal file) i = i
+in-time (Check kind file moment verdicts anchor chain) i = i
+in-time (Rta file moment verdicts anchor anchors) i = i
+
+commands-by : (P : Moment → Type 0)
+    → ((a b : Moment) → P a → P b → moment_word a ≡ moment_word b → a ≡ b)
+    → (a b : Command) → HasTime P a → HasTime P b → command_words a ≡ command_words b → a ≡ b
+commands-by P once a b i j e = search (rules, once)
+
+pub commands-once : (a b : Command) → IsInTime a → IsInTime b → command_words a ≡ command_words b
+    → a ≡ b
+commands-once a b i j e =
+    commands-by IsMoment moments-once a b (in-time a i) (in-time b j) e
 
 not-wide : (rest : List (List ℕ)) (c : Command) → word_wide ∷ rest ≡ command_words c → ⊥
 not-wide rest c e = search rules
@@ -21,34 +60,34 @@ not-relaxed : (rest : List (List ℕ)) (r w : Bool) (c : Command)
     → ⊥
 not-relaxed rest r w c e = search rules
 
-wide-once : (v w : Bool) (a b : Command)
+wide-once : (v w : Bool) (a b : Command) → IsInTime a → IsInTime b
     → word_if v word_wide ++ command_words a ≡ word_if w word_wide ++ command_words b
     → (v ≡ w) × (a ≡ b)
-wide-once true true a b e = (refl, commands-once a b cc)
-wide-once true false a b e = absurd (not-wide _ b e)
-wide-once false true a b e = absurd (not-wide _ a (sym e))
-wide-once false false a b e = (refl, commands-once a b e)
+wide-once true true a b i j e = (refl, commands-once a b i j cc)
+wide-once true false a b i j e = absurd (not-wide _ b e)
+wide-once false true a b i j e = absurd (not-wide _ a (sym e))
+wide-once false false a b i j e = (refl, commands-once a b i j e)
 
-registered-once : (r s v w : Bool) (a b : Command)
+registered-once : (r s v w : Bool) (a b : Command) → IsInTime a → IsInTime b
     → word_if r word_registered
     ++ (word_if v word_wide ++ command_words a) ≡ word_if s word_registered
     ++ (word_if w word_wide ++ command_words b) → (r ≡ s) × (v ≡ w) × (a ≡ b)
-registered-once true true v w a b e = let p = wide-once v w a b cc in (refl, p.0, p.1)
-registered-once true false v w a b e = absurd (not-registered _ w b e)
-registered-once false true v w a b e = absurd (not-registered _ v a (sym e))
-registered-once false false v w a b e = let p = wide-once v w a b e in (refl, p.0, p.1)
+registered-once true true v w a b i j e = let p = wide-once v w a b i j cc in (refl, p.0, p.1)
+registered-once true false v w a b i j e = absurd (not-registered _ w b e)
+registered-once false true v w a b i j e = absurd (not-registered _ v a (sym e))
+registered-once false false v w a b i j e = let p = wide-once v w a b i j e in (refl, p.0, p.1)
 
-relaxed-once : (x y r s v w : Bool) (a b : Command)
+relaxed-once : (x y r s v w : Bool) (a b : Command) → IsInTime a → IsInTime b
     → word_if x word_relaxed
     ++ (word_if r word_registered ++ (word_if v word_wide ++ command_words a))
     ≡ word_if y word_relaxed
     ++ (word_if s word_registered ++ (word_if w word_wide ++ command_words b))
     → (x ≡ y) × (r ≡ s) × (v ≡ w) × (a ≡ b)
-relaxed-once true true r s v w a b e = let p = registered-once r s v w a b cc in
+relaxed-once true true r s v w a b i j e = let p = registered-once r s v w a b i j cc in
     (refl, p.0, p.1, p.2)
-relaxed-once true false r s v w a b e = absurd (not-relaxed _ s w b e)
-relaxed-once false true r s v w a b e = absurd (not-relaxed _ r v a (sym e))
-relaxed-once false false r s v w a b e = let p = registered-once r s v w a b e in
+relaxed-once true false r s v w a b i j e = absurd (not-relaxed _ s w b e)
+relaxed-once false true r s v w a b i j e = absurd (not-relaxed _ r v a (sym e))
+relaxed-once false false r s v w a b i j e = let p = registered-once r s v w a b i j e in
     (refl, p.0, p.1, p.2)
 
 abbrev made : Bool → Bool → Bool → Command → Order
@@ -59,18 +98,19 @@ made-same : (x y r s v w : Bool) (a b : Command) → x ≡ y → r ≡ s → v �
 made-same x y r s v w a b h i j k = cc
 
 -- no words ask for two things
-pub orders-once : (a b : Order) → order_words a ≡ order_words b → a ≡ b
-orders-once a b e =
+pub orders-once : (a b : Order) → IsInTime a.command → IsInTime b.command
+    → order_words a ≡ order_words b → a ≡ b
+orders-once a b i j e =
     let h = relaxed-once a.options.relaxed b.options.relaxed a.options.registered
-    b.options.registered a.options.wide b.options.wide a.command b.command e in
+    b.options.registered a.options.wide b.options.wide a.command b.command i j e in
     made-same a.options.relaxed b.options.relaxed a.options.registered b.options.registered
     a.options.wide b.options.wide a.command b.command h.0 h.1 h.2 h.3
 
 pub asked-once : (words : List (List ℕ)) (a b : Order) → IsAsked words a → IsAsked words b → a ≡ b
-asked-once words a b h k = let p = h.0 in let q = k.0 in orders-once a b cc
+asked-once words a b h k = let p = h.0 in let q = k.0 in orders-once a b h.2 k.2 cc
 
 -- words of a thing whose files have no names ask for nothing
 pub asked-unnamed : (words : List (List ℕ)) (o : Order) → words ≡ order_words o
-    → are_named (files_of o.command) ≡ false → AskForNothing words
-asked-unnamed words o e n = λ p asked. let f = asked.0 in let g = asked.1 in
-    let same = orders-once o p cc in cc
+    → IsInTime o.command → are_named (files_of o.command) ≡ false → AskForNothing words
+asked-unnamed words o e i n = λ p asked. let f = asked.0 in let g = asked.1 in
+    let same = orders-once o p i asked.2 cc in cc

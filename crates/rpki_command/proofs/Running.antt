@@ -1,21 +1,22 @@
 -- What a run of the program does, from what it says.
 use Rattle.std.proofs.Common.{◌≡◌, ℕ, List, Option, Some, None, Result, Ok, Err, Vec, Global}
 use Rattle.std.proofs.Common.{sym, subst, inl, inr, refl, arith, ◌<◌, [], ◌∷◌, zero, suc, length}
-use Rattle.std.proofs.Common.{map}
-use Rattle.std.proofs.Common.{get_or}
+use Rattle.std.proofs.Common.{map, get_or, ◌++◌, ◌∙◌, ◌+◌}
+use Rattle.std.proofs.Math.Seq.{get_or-append_seam}
+use Rattle.std.proofs.lemmas.Bool.{cases_order}
+use Rattle.std.proofs.lemmas.List.{get_or_append_left, length-append}
 use Rattle.std.specs.Prelude.{◌⊎◌}
 use Rattle.rpki_command.specs.Answer.{Run, Said, IsSaid, usage, cannot_read, out_of_memory}
 use Rattle.rpki_command.specs.Answer.{malformed, shown}
 use Rattle.rpki_command.specs.Command.{IsOfRead, IsOfFile, Task, ShowLines, CheckFiles, NotThere}
-use Rattle.rpki_command.specs.Command.{order_task, IsOfReads, IsOfFiles, IsAtTime, IsSaidAt}
-use Rattle.rpki_command.specs.Command.{AreTold}
+use Rattle.rpki_command.specs.Command.{order_task, IsOfReads, IsOfFiles, AreTold, ChecksFiles}
 use Rattle.rpki_command.specs.Command.{IsTaskAnswer, IsAnswer, OrOutOfMemory, Shows, IsTaskDone}
 use Rattle.rpki_command.specs.Command.{IsRunOf, IsRunWith, IsSaidUnread, IsStartOf}
 use Rattle.rpki_command.specs.Arguments.{ToldArguments, AreTexts}
 use Rattle.rpki_command.specs.Contents.{HasNoLines, IsSaidOf, IsShown}
-use Rattle.rpki_command.specs.Store.{Told, IsRead, AreRead, AreReadTo, IsFirstUnreadable}
+use Rattle.rpki_command.specs.Store.{Told, IsRead, AreRead, AreReadTo, AreAllRead}
+use Rattle.rpki_command.specs.Store.{IsFirstUnreadable}
 use Rattle.rpki_command.specs.Words.{IsAsked, AskForNothing}
-use Rattle.rpki_basics.specs.Moment.{Moment}
 use Rattle.rpki_issuers.specs.Issuer.{octets_of}
 use Rattle.rpki_command.specs.declared.store.Unread.{Unread}
 use Rattle.rpki_command.specs.declared.store.Unread.TheVariants as reads
@@ -107,52 +108,131 @@ readable told names octets old new name u t =
     subst (λ (n : List ℕ). told n ≡ Some (Some at.0)) (u.named []) at.1 in
     subst (λ (x : Option (Option (List ℕ))). IsRead x (Err Unreadable)) same u.unreadable
 
-module _ (told : Told) (names octets : List (List ℕ)) (t : AreTold told names octets) (s : Said)
-    (run : Run) (h : IsSaid s run) where
-  of-reads : (P : List (List ℕ) → Said → Type 0) (old new : ℕ)
-      (read : Result (Vec (Vec ℕ Global) Global) Unread) → AreRead told names old new read
-      → IsOfReads P read s → (s ≡ out_of_memory) ⊎ P octets s
-  of-reads P old new (Ok files) a o =
-      inr (subst (λ (os : List (List ℕ)). P os s)
-      (told-octets told names files.items octets a.count a.each t) o)
-  of-reads P old new (Err (reads.Unreadable name)) a o =
+-- the place of a file after others
+at-file : (before after : List (List ℕ)) (file : List ℕ) (d : List ℕ)
+    → get_or (before ++ file ∷ after) (length before) d ≡ file
+at-file before after file d = get_or-append_seam before file after d
+
+-- not all are read where one of them can't be
+one-unread : (told : Told) (before after : List (List ℕ)) (file : List ℕ) (old new : ℕ)
+    (files : List (Vec ℕ Global)) → AreAllRead told (before ++ file ∷ after) old new files
+    → told file ≡ Some None → ⊥
+one-unread told before after file old new [] a u =
+    absurd (omega (arith, a.count, length-append before (file ∷ after)))
+one-unread told before after file old new (f ∷ fs) a u =
+    let there : length before < length (before ++ file ∷ after) =
+    omega (arith, length-append before (file ∷ after)) in
+    let here : told (get_or (before ++ file ∷ after) (length before) []) ≡ Some None =
+    subst (λ (n : List ℕ). told n ≡ Some None) (sym (at-file before after file [])) u in
+    subst (λ (x : Option (Option (List ℕ))). IsRead x (Ok (get_or (f ∷ fs) (length before) f))) here
+    (a.each (length before) [] f there)
+
+-- the first file that can't be read is the one after those that can
+first-is : (told : Told) (before after octets : List (List ℕ)) (file : List ℕ) (old new : ℕ)
+    (name : List ℕ) → IsFirstUnreadable told (before ++ file ∷ after) old new name
+    → AreTold told before octets → told file ≡ Some None
+    → (name ≡ file) × (new ≡ old + (length before + 1))
+first-is told before after octets file old new name u t e =
+    elim (cases_order u.place (length before)) [
+      | inl same ↦ (
+        subst (λ (n : ℕ). name ≡ get_or (before ++ file ∷ after) n []) same (sym (u.named []))
+            ∙ at-file before after file [],
+        omega (arith, u.reads, same),
+      )
+      | inr (inl l) ↦
+          let at = told-at told before octets u.place [] l t in
+          let is : get_or before u.place [] ≡ name =
+          sym (get_or_append_left before (file ∷ after) [] u.place l) ∙ u.named [] in
+          let same : told name ≡ Some (Some at.0) =
+          subst (λ (n : List ℕ). told n ≡ Some (Some at.0)) is at.1 in
+          absurd (subst (λ (x : Option (Option (List ℕ))). IsRead x (Err Unreadable)) same
+          u.unreadable)
+      | inr (inr l) ↦
+          absurd (u.before (length before) [] l
+          (subst (λ (n : List ℕ). told n ≡ Some None) (sym (at-file before after file [])) e))
+    ]
+
+module _ (told : Told) (P : List (List ℕ) → Said → Type 0) (old new : ℕ) (s : Said) (run : Run)
+    (h : IsSaid s run) where
+  of-reads : (names octets : List (List ℕ)) → AreTold told names octets
+      → (read : Result (Vec (Vec ℕ Global) Global) Unread) → AreRead told names old new read
+      → IsOfReads P read s
+      → IsSaid out_of_memory run
+      ⊎ ((new ≡ old + length names) × (x : Said) × P octets x × IsSaid x run)
+  of-reads names octets t (Ok files) a o = inr (
+    a.reads,
+    s,
+    subst (λ (os : List (List ℕ)). P os s)
+        (told-octets told names files.items octets a.count a.each t) o,
+    h,
+  )
+  of-reads names octets t (Err (reads.Unreadable name)) a o =
       absurd (readable told names octets old new name.now a t)
-  of-reads P old new (Err reads.Memory) a o = inl o
+  of-reads names octets t (Err reads.Memory) a o = inl (said-as s out_of_memory run o h)
 
-  of-files : (P : List (List ℕ) → Said → Type 0) → IsOfFiles told names P s
-      → (s ≡ out_of_memory) ⊎ P octets s
-  of-files P (inl e) = inl e
-  of-files P (inr r) = of-reads P r.0 r.1 r.2 r.3 r.4
+  of-unread : (before after octets : List (List ℕ)) (file : List ℕ) → AreTold told before octets
+      → told file ≡ Some None → (read : Result (Vec (Vec ℕ Global) Global) Unread)
+      → AreRead told (before ++ file ∷ after) old new read → IsOfReads P read s
+      → IsSaid out_of_memory run
+      ⊎ ((new ≡ old + (length before + 1)) × IsSaid (cannot_read file) run)
+  of-unread before after octets file t e (Ok files) a o =
+      absurd (one-unread told before after file old new files.items a e)
+  of-unread before after octets file t e (Err (reads.Unreadable name)) a o =
+      let first = first-is told before after octets file old new name.now a t e in
+      inr (
+        first.1,
+        subst (λ (n : List ℕ). IsSaid (cannot_read n) run) first.0
+            (said-as s (cannot_read name.now) run o h),
+      )
+  of-unread before after octets file t e (Err reads.Memory) a o =
+      inl (said-as s out_of_memory run o h)
 
-  at-time : (P : Moment → List (List ℕ) → Said → Type 0) (time : Option Moment)
-      → IsAtTime told names P time s → IsSaidAt P octets time run
-  at-time P None e = said-as s usage run e h
-  at-time P (Some now) a = (s, of-files (P now) a, h)
+  all-told : (names octets : List (List ℕ)) → AreTold told names octets
+      → IsOfFiles told names P old new s
+      → IsSaid out_of_memory run
+      ⊎ ((new ≡ old + length names) × (x : Said) × P octets x × IsSaid x run)
+  all-told names octets t (inl m) = inl (said-as s out_of_memory run m.0 h)
+  all-told names octets t (inr r) = of-reads names octets t r.0 r.1 r.2
+
+  one-told : (before after octets : List (List ℕ)) (file : List ℕ) → AreTold told before octets
+      → told file ≡ Some None → IsOfFiles told (before ++ file ∷ after) P old new s
+      → IsSaid out_of_memory run
+      ⊎ ((new ≡ old + (length before + 1)) × IsSaid (cannot_read file) run)
+  one-told before after octets file t e (inl m) = inl (said-as s out_of_memory run m.0 h)
+  one-told before after octets file t e (inr r) =
+      of-unread before after octets file t e r.0 r.1 r.2
+
+  checks : (names : List (List ℕ)) → IsOfFiles told names P old new s
+      → ChecksFiles told names P old new run
+  checks names is = record {
+    checked = λ octets t. all-told names octets t is;
+    unreadable = λ before after octets file e t u. one-told before after octets file t u
+        (subst (λ (ns : List (List ℕ)). IsOfFiles told ns P old new s) e is);
+  }
 
 -- ---- the whole
 
-module _ (told : Told) (s : Said) (run : Run) (h : IsSaid s run) where
-  task-done : (task : Task) → IsTaskAnswer told task s → IsTaskDone told task run
+module _ (told : Told) (old new : ℕ) (s : Said) (run : Run) (h : IsSaid s run) where
+  task-done : (task : Task) → IsTaskAnswer told task old new s → IsTaskDone told task old new run
   task-done (ShowLines file lines_of) a = shows lines_of s run h told file a
-  task-done (CheckFiles moment files P) a = record {
-    checked = λ octets t. (a.0, a.1, at-time told files octets t s run h P a.0 a.2);
-  }
+  task-done (CheckFiles files P) a = checks told P old new s run h files a
   task-done NotThere a = said-as s usage run a h
 
-  order-done : (words : List (List ℕ)) (o : Order) → IsAsked words o → IsAnswer told words s
-      → IsTaskDone told (order_task o) run
+  order-done : (words : List (List ℕ)) (o : Order) → IsAsked words o
+      → IsAnswer told words old new s → IsTaskDone told (order_task o) old new run
   order-done words o asked (inl a) =
       task-done (order_task o)
-      (subst (λ (p : Order). IsTaskAnswer told (order_task p) s) (asked-once words a.0 o a.1 asked)
-      a.2)
+      (subst (λ (p : Order). IsTaskAnswer told (order_task p) old new s)
+      (asked-once words a.0 o a.1 asked) a.2)
   order-done words o asked (inr a) = absurd (a.0 o asked)
 
-  usage-said : (words : List (List ℕ)) → AskForNothing words → IsAnswer told words s
+  usage-said : (words : List (List ℕ)) → AskForNothing words → IsAnswer told words old new s
       → IsSaid usage run
   usage-said words nothing (inl a) = absurd (nothing a.0 a.1)
   usage-said words nothing (inr a) = said-as s usage run a.1 h
 
-  pub run-said : (words : List (List ℕ)) → IsAnswer told words s → IsRunOf told words run
+  pub run-said : (words : List (List ℕ)) → IsAnswer told words old new s
+      → IsRunOf told words old new run
   run-said words is = record {
     usage = λ nothing. usage-said words nothing is;
     done = λ o asked. order-done words o asked is;

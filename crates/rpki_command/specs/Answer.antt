@@ -75,9 +75,13 @@ cannot_read file = Complained (codes "cannot read " ++ (file ++ codes "\n")) 2
 abbrev pub bad_verdicts : Said
 bad_verdicts = Complained (codes "bad verdicts\n") 2
 
+-- that no memory was to be had, as a text
+abbrev pub memory_text : List ℕ
+memory_text = codes "out of memory"
+
 -- no memory was to be had
 abbrev pub out_of_memory : Said
-out_of_memory = Complained (codes "out of memory\n") 3
+out_of_memory = Complained (memory_text ++ codes "\n") 3
 
 -- a file does not begin with what was asked for
 abbrev pub malformed : Said
@@ -91,6 +95,10 @@ refused cause = Printed (codes "refused: " ++ (cause ++ codes "\n")) 1
 abbrev pub issuer_refused : List ℕ → Said
 issuer_refused cause = Printed (codes "issuer refused: " ++ (cause ++ codes "\n")) 1
 
+-- certificates make no issuer, since one of them is not read
+abbrev pub issuer_malformed : Said
+issuer_malformed = issuer_refused (codes "malformed")
+
 -- these lines are shown
 abbrev pub shown : List ℕ → Said
 shown lines = Printed lines 0
@@ -103,7 +111,7 @@ said BadVerdicts = bad_verdicts
 said OutOfMemory = out_of_memory
 said Malformed = malformed
 said (Refused cause) = refused (string_bytes cause)
-said IssuerMalformed = issuer_refused (codes "malformed")
+said IssuerMalformed = issuer_malformed
 said (IssuerRefused cause) = issuer_refused (string_bytes cause)
 said (Shown lines) = shown (string_bytes lines)
 

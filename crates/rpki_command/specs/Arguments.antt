@@ -3,6 +3,7 @@ use Rattle.std.specs.Prelude.{◌≡◌, ℕ, ◌<◌, ◌≤◌, List, length, 
 use Rattle.std.specs.Prelude.{None, Some, Result, Ok, Err, Vec, String, string_bytes, All, codes}
 use Rattle.std.specs.Str.{IsUtf8}
 use Rattle.std.specs.declared.alloc.Global.{Global}
+use Rattle.rpki_command.specs.Answer.{memory_text}
 use Rattle.rpki_command.specs.declared.arguments.WordsError.{WordsError}
 use Rattle.rpki_command.specs.declared.arguments.WordsError.TheVariants.{NoText, Memory}
 
@@ -10,14 +11,17 @@ use Rattle.rpki_command.specs.declared.arguments.WordsError.TheVariants.{NoText,
 abbrev pub ToldArguments : Type 0
 ToldArguments = Option (List (List ℕ))
 
--- what is given of the argument at a place
+-- What a call for the argument at a place gives: its octets, or nothing where there are not so many
+-- arguments. Where the arguments are not told, it may be anything.
 abbrev pub IsArgument : ToldArguments → ℕ → Option (Vec ℕ Global) → Type 0
 IsArgument None place argument = Unit {0}
 IsArgument (Some arguments) place None = length arguments ≤ place
 IsArgument (Some arguments) place (Some octets) =
     (place < length arguments) × ((d : List ℕ) → octets.items ≡ slice_index_or arguments place d)
 
--- what is given of the word at a place: it may be no text
+-- What a call for the word at a place gives: the argument as a text, nothing where there are not so
+-- many arguments, or the fault that it is no text or that memory ran out. Where the arguments are
+-- not told, it may be anything.
 abbrev pub IsWordAt : ToldArguments → ℕ → Result (Option (String Global)) WordsError → Type 0
 IsWordAt None place word = Unit {0}
 IsWordAt (Some arguments) place (Ok None) = length arguments ≤ place
@@ -57,4 +61,4 @@ AreWords told (Err Memory) = Unit {0}
 -- why there are no words, as a text
 abbrev pub words_error_text : WordsError → List ℕ
 words_error_text NoText = codes "argument that is no text"
-words_error_text Memory = codes "out of memory"
+words_error_text Memory = memory_text

@@ -1,9 +1,8 @@
 -- What is answered to a check of a signed object, by the octets of the files.
-use Rattle.std.specs.Prelude.{◌≡◌, ◌⊎◌, ℕ, List, [], ◌∷◌, ◌++◌, codes, Result, Ok, Err}
+use Rattle.std.specs.Prelude.{◌≡◌, ◌⊎◌, ℕ, List, ◌∷◌, ◌++◌, codes, Result, Ok, Err}
 use Rattle.sha2.specs.Sha256.{sha256}
 use Rattle.rpki_der.specs.declared.error.DecodeError.TheVariants as decoding
 use Rattle.rpki_der.specs.declared.mode.Mode.{Mode}
-use Rattle.rpki_der.specs.declared.mode.Mode.TheVariants.{Der}
 use Rattle.rpki_basics.specs.Moment.{Moment}
 use Rattle.rpki_faults.specs.Text.Inspection.{inspection_text}
 use Rattle.rpki_faults.specs.Text.Verification.{verification_text}
@@ -12,35 +11,24 @@ use Rattle.rpki_faults.specs.declared.validation.ValidationError.TheVariants as 
 use Rattle.rpki_certs.specs.Cert.{KeptCertificate}
 use Rattle.rpki_certs.specs.Validate.{Validated}
 use Rattle.rpki_certs.specs.Verify.{Verdict}
-use Rattle.rpki_files.specs.Checklist.{ChecklistForm}
-use Rattle.rpki_files.specs.Manifest.{ManifestForm}
 use Rattle.rpki_issuers.specs.Issuer.{MakesIssuer}
 use Rattle.rpki_issuers.specs.declared.issuer.IssuerError.{IssuerError}
 use Rattle.rpki_issuers.specs.declared.issuer.IssuerError.TheVariants as issuing
-use Rattle.rpki_routes.specs.Aspa.Form.{AspaForm}
-use Rattle.rpki_routes.specs.Roa.Form.{RoaForm}
-use Rattle.rpki_signed.specs.Aspa.{aspa_kind}
 use Rattle.rpki_signed.specs.Check.{Checks}
-use Rattle.rpki_signed.specs.Checklist.{checklist_kind}
 use Rattle.rpki_signed.specs.Exact.{IsExact}
 use Rattle.rpki_signed.specs.Kind as signed
-use Rattle.rpki_signed.specs.Manifest.{manifest_kind}
-use Rattle.rpki_signed.specs.Roa.{roa_kind}
 use Rattle.rpki_signed.specs.declared.check.CheckError.{CheckError}
 use Rattle.rpki_signed.specs.declared.check.CheckError.TheVariants.{Decode, Validation}
 use Rattle.rpki_sigobj.specs.Verify.{Digester}
 use Rattle.rpki_verdicts.specs.Listed.{is_listed}
 use Rattle.rpki_verdicts.specs.Verdicts.{AreVerdicts}
 use Rattle.rpki_command.specs.Answer.{Said, out_of_memory, bad_verdicts, refused, issuer_refused}
+use Rattle.rpki_command.specs.Answer.{issuer_malformed}
 use Rattle.rpki_command.specs.Contents.{IsLinesOf}
-use Rattle.rpki_command.specs.Options.{provider_limit, manifest_rule, read_mode}
+use Rattle.rpki_command.specs.Kinds.{OfKind}
+use Rattle.rpki_command.specs.Options.{read_mode}
 use Rattle.rpki_command.specs.Refusal.{refusal}
-use Rattle.rpki_command.specs.Texts.Aspa.{aspa_text}
-use Rattle.rpki_command.specs.Texts.Manifest.{manifest_text}
-use Rattle.rpki_command.specs.Texts.Roa.{roa_text}
-use Rattle.rpki_command.specs.Texts.Rsc.{rsc_text}
 use Rattle.rpki_command.specs.declared.words.Kind.{Kind}
-use Rattle.rpki_command.specs.declared.words.Kind.TheVariants.{Aspa, Manifest, Roa, Rsc}
 use Rattle.rpki_command.specs.declared.words.Options.{Options}
 
 -- nobody asks whether a certificate was revoked
@@ -60,8 +48,8 @@ IsRefused fault s = (s ≡ out_of_memory) ⊎ (s ≡ validation_refusal fault)
 -- what is said where certificates make no issuer
 abbrev pub issuer_refusal : IssuerError → Said
 issuer_refusal (issuing.Decode decoding.Memory) = out_of_memory
-issuer_refusal (issuing.Decode decoding.Malformed) = issuer_refused (codes "malformed")
-issuer_refusal (issuing.Decode (decoding.Content fault)) = issuer_refused (codes "malformed")
+issuer_refusal (issuing.Decode decoding.Malformed) = issuer_malformed
+issuer_refusal (issuing.Decode (decoding.Content fault)) = issuer_malformed
 issuer_refusal (issuing.Validation (validation.Inspection fault)) =
     issuer_refused (inspection_text fault)
 issuer_refusal (issuing.Validation (validation.Verification fault)) =
@@ -72,10 +60,14 @@ issuer_refusal (issuing.Validation validation.Memory) = out_of_memory
 abbrev pub IsIssuerRefused : IssuerError → Said → Type 0
 IsIssuerRefused fault s = (s ≡ out_of_memory) ⊎ (s ≡ issuer_refusal fault)
 
+-- the line that says that an object is good
+abbrev pub yes_line : List ℕ
+yes_line = codes "yes\n"
+
 -- What is said of what a check answers: yes, and the lines of the content.
 abbrev pub IsCheckSaid : {X : Type 0} → (X → List ℕ) → Result (Validated × X) CheckError → Said
     → Type 0
-IsCheckSaid text (Ok a) s = IsLinesOf (codes "yes\n" ++ text a.1) s
+IsCheckSaid text (Ok a) s = IsLinesOf (yes_line ++ text a.1) s
 IsCheckSaid text (Err (Decode fault)) s = s ≡ refusal fault
 IsCheckSaid text (Err (Validation fault)) s = IsRefused fault s
 
@@ -95,20 +87,13 @@ abbrev pub IsCheckedAs : {X : Type 0} → signed.Kind X → (List ℕ → X → 
 IsCheckedAs kind form text mode digest verdict issuer now octets s =
     (s ≡ out_of_memory) ⊎ IsChecked kind form text mode digest verdict issuer now octets s
 
--- What is said of octets under an issuer, with these options: a row for each kind.
+-- What is said of octets that may begin with an object of a kind, under an issuer, with these
+-- options.
 abbrev pub CheckedUnder : Options → Kind → Digester → Verdict → Validated → Moment → List ℕ → Said
     → Type 0
-CheckedUnder options Aspa digest verdict issuer now octets s =
-    IsCheckedAs aspa_kind (AspaForm (provider_limit options)) aspa_text (read_mode options) digest
-    verdict issuer now octets s
-CheckedUnder options Manifest digest verdict issuer now octets s =
-    IsCheckedAs manifest_kind (ManifestForm (manifest_rule options) Der) manifest_text
-    (read_mode options) digest verdict issuer now octets s
-CheckedUnder options Roa digest verdict issuer now octets s =
-    IsCheckedAs roa_kind RoaForm roa_text (read_mode options) digest verdict issuer now octets s
-CheckedUnder options Rsc digest verdict issuer now octets s =
-    IsCheckedAs checklist_kind (ChecklistForm Der) rsc_text (read_mode options) digest verdict
-    issuer now octets s
+CheckedUnder options kind digest verdict issuer now octets s =
+    OfKind options kind (λ X asked form text.
+    IsCheckedAs asked form text (read_mode options) digest verdict issuer now octets s)
 
 -- what is said of an object where certificates make this
 abbrev pub IsSaidUnder : (Validated → Said → Type 0) → Result Validated IssuerError → Said → Type 0

@@ -1,9 +1,7 @@
 -- What the program answers to its words, and what a run of it does.
-use Rattle.std.specs.Prelude.{◌≡◌, ℕ, ◌⊎◌, ◌+◌, ◌≤◌, List, ◌∷◌, length, map, Option, None, Some}
+use Rattle.std.specs.Prelude.{◌≡◌, ℕ, ◌⊎◌, ◌+◌, ◌≤◌, List, ◌∷◌, ◌++◌, length, map, None, Some}
 use Rattle.std.specs.Prelude.{Result, Ok, Err, Vec}
 use Rattle.std.specs.declared.alloc.Global.{Global}
-use Rattle.rpki_basics.specs.Moment.{Moment}
-use Rattle.rpki_basics.specs.Time.Read.{IsTimeOf}
 use Rattle.rpki_issuers.specs.Issuer.{octets_of}
 use Rattle.rpki_command.specs.Answer.{Run, Said, IsSaid, usage, cannot_read, out_of_memory}
 use Rattle.rpki_command.specs.Answer.{malformed, shown}
@@ -43,10 +41,8 @@ IsOfFile told name P s = (read : Result (Vec ℕ Global) StoreError) × IsRead (
 pub data Task : Type 1 where
   -- to show the lines of what stands in a file
   ShowLines : (file : List ℕ) (lines_of : List ℕ → List ℕ → Type 0) → Task
-  -- to look at the moment that a text names, to read these files, in this order, and to say what is
-  -- said of their octets at this moment
-  CheckFiles : (moment : List ℕ) (files : List (List ℕ))
-      (answers : Moment → List (List ℕ) → Said → Type 0) → Task
+  -- to read these files, in this order, and to say what is said of their octets
+  CheckFiles : (files : List (List ℕ)) (answers : List (List ℕ) → Said → Type 0) → Task
   -- nothing that there is yet
   NotThere : Task
 
@@ -57,7 +53,7 @@ command_task options (Content kind file) = ShowLines file (LinesOf options kind)
 command_task options (Show kind file) = ShowLines file (ObjectLinesOf options kind)
 command_task options (ShowTal file) = ShowLines file TalLines
 command_task options (Check kind file moment verdicts anchor chain) =
-    CheckFiles moment (file ∷ verdicts ∷ anchor ∷ chain) (CheckOf options kind)
+    CheckFiles (file ∷ verdicts ∷ anchor ∷ chain) (CheckOf options kind moment)
 command_task options other = NotThere
 
 -- what an order comes to
@@ -71,56 +67,37 @@ IsOfReads P (Ok files) s = P (octets_of files.items) s
 IsOfReads P (Err (reads.Unreadable name)) s = s ≡ cannot_read name.now
 IsOfReads P (Err reads.Memory) s = s ≡ out_of_memory
 
--- What is said of files in a store that tells this, however often it was read before, unless memory
--- runs out.
-abbrev pub IsOfFiles : Told → List (List ℕ) → (List (List ℕ) → Said → Type 0) → Said → Type 0
-IsOfFiles told names P s =
-    (s ≡ out_of_memory)
-    ⊎ ((old : ℕ) × (new : ℕ) × (read : Result (Vec (Vec ℕ Global) Global) Unread)
+-- What is said of files in a store that tells this, and that was read so often before and after it:
+-- the files are read in their order, each once, up to the first that can't be read, and no more.
+-- Where memory runs out before the first of them is read, none is.
+abbrev pub IsOfFiles : Told → List (List ℕ) → (List (List ℕ) → Said → Type 0) → ℕ → ℕ → Said
+    → Type 0
+IsOfFiles told names P old new s =
+    ((s ≡ out_of_memory) × (new ≡ old))
+    ⊎ ((read : Result (Vec (Vec ℕ Global) Global) Unread)
     × AreRead told names old new read × IsOfReads P read s)
 
--- what is said of files at a moment, or the usage where there is none
-abbrev pub IsAtTime : Told → List (List ℕ) → (Moment → List (List ℕ) → Said → Type 0)
-    → Option Moment → Said → Type 0
-IsAtTime told files P None s = s ≡ usage
-IsAtTime told files P (Some now) s = IsOfFiles told files (P now) s
+-- what is said for a task, where the store was read so often before and after it
+abbrev pub IsTaskAnswer : Told → Task → ℕ → ℕ → Said → Type 0
+IsTaskAnswer told (ShowLines file lines_of) old new s = IsOfFile told file (IsShown lines_of) s
+IsTaskAnswer told (CheckFiles files P) old new s = IsOfFiles told files P old new s
+IsTaskAnswer told NotThere old new s = s ≡ usage
 
--- what is said of files at the moment that a text names, or the usage where it names none
-abbrev pub IsAnswerAt : Told → List ℕ → List (List ℕ) → (Moment → List (List ℕ) → Said → Type 0)
-    → Said → Type 0
-IsAnswerAt told moment files P s =
-    (time : Option Moment) × IsTimeOf moment time × IsAtTime told files P time s
-
--- what is said for a task
-abbrev pub IsTaskAnswer : Told → Task → Said → Type 0
-IsTaskAnswer told (ShowLines file lines_of) s = IsOfFile told file (IsShown lines_of) s
-IsTaskAnswer told (CheckFiles moment files P) s = IsAnswerAt told moment files P s
-IsTaskAnswer told NotThere s = s ≡ usage
-
--- these files are read once at most
+-- there are no more reads than files
 abbrev pub AreReadAtMost : List (List ℕ) → ℕ → ℕ → Type 0
 AreReadAtMost files old new = (old ≤ new) × (new ≤ old + length files)
-
--- the same at a moment, and none is read where there is no moment
-abbrev pub AreReadIf : List (List ℕ) → Option Moment → ℕ → ℕ → Type 0
-AreReadIf files None old new = new ≡ old
-AreReadIf files (Some now) old new = AreReadAtMost files old new
-
--- the same at the moment that a text names
-abbrev pub HaveReadAt : List ℕ → List (List ℕ) → ℕ → ℕ → Type 0
-HaveReadAt moment files old new =
-    (time : Option Moment) × IsTimeOf moment time × AreReadIf files time old new
 
 -- how often a store was read before and after a task
 abbrev pub HasRead : Task → ℕ → ℕ → Type 0
 HasRead (ShowLines file lines_of) old new = new ≡ old + 1
-HasRead (CheckFiles moment files P) old new = HaveReadAt moment files old new
+HasRead (CheckFiles files P) old new = AreReadAtMost files old new
 HasRead NotThere old new = new ≡ old
 
--- what is said for the order that the words ask for, or the usage where they ask for none
-abbrev pub IsAnswer : Told → List (List ℕ) → Said → Type 0
-IsAnswer told words s =
-    ((o : Order) × IsAsked words o × IsTaskAnswer told (order_task o) s)
+-- What is said for the order that the words ask for, or the usage where they ask for none, where
+-- the store was read so often before and after it.
+abbrev pub IsAnswer : Told → List (List ℕ) → ℕ → ℕ → Said → Type 0
+IsAnswer told words old new s =
+    ((o : Order) × IsAsked words o × IsTaskAnswer told (order_task o) old new s)
     ⊎ (AskForNothing words × (s ≡ usage))
 
 -- this is said, unless memory runs out
@@ -143,34 +120,34 @@ pub record Shows (told : Told) (file : List ℕ) (lines_of : List ℕ → List �
 abbrev pub AreTold : Told → List (List ℕ) → List (List ℕ) → Type 0
 AreTold told files octets = map told files ≡ map (λ o. Some (Some o)) octets
 
--- the run says at a moment, of files with these octets, what is to be said of them, unless memory
--- runs out; and the usage where there is no moment
-abbrev pub IsSaidAt : (Moment → List (List ℕ) → Said → Type 0) → List (List ℕ) → Option Moment
-    → Run → Type 0
-IsSaidAt P octets None run = IsSaid usage run
-IsSaidAt P octets (Some now) run =
-    (s : Said) × ((s ≡ out_of_memory) ⊎ P now octets s) × IsSaid s run
-
--- The run checks files at the moment that a text names, where the store tells them.
-pub record ChecksFiles (told : Told) (moment : List ℕ) (files : List (List ℕ))
-    (P : Moment → List (List ℕ) → Said → Type 0) (run : Run) : Type 0 where
+-- The run checks files, where the store tells them and was read so often before and after it.
+pub record ChecksFiles (told : Told) (files : List (List ℕ)) (P : List (List ℕ) → Said → Type 0)
+    (old new : ℕ) (run : Run) : Type 0 where
+  -- files that can be read: each is read once, and what is to be said of them is said
   pub checked : (octets : List (List ℕ)) → AreTold told files octets
-      → (time : Option Moment) × IsTimeOf moment time × IsSaidAt P octets time run
+      → IsSaid out_of_memory run
+      ⊎ ((new ≡ old + length files) × (s : Said) × P octets s × IsSaid s run)
+  -- a file that can't be read, after some that can: it is the last that is read
+  pub unreadable : (before after octets : List (List ℕ)) (file : List ℕ)
+      → files ≡ before ++ file ∷ after → AreTold told before octets → told file ≡ Some None
+      → IsSaid out_of_memory run
+      ⊎ ((new ≡ old + (length before + 1)) × IsSaid (cannot_read file) run)
 
 -- the run does a task
-abbrev pub IsTaskDone : Told → Task → Run → Type 0
-IsTaskDone told (ShowLines file lines_of) run = Shows told file lines_of run
-IsTaskDone told (CheckFiles moment files P) run = ChecksFiles told moment files P run
-IsTaskDone told NotThere run = IsSaid usage run
+abbrev pub IsTaskDone : Told → Task → ℕ → ℕ → Run → Type 0
+IsTaskDone told (ShowLines file lines_of) old new run = Shows told file lines_of run
+IsTaskDone told (CheckFiles files P) old new run = ChecksFiles told files P old new run
+IsTaskDone told NotThere old new run = IsSaid usage run
 
--- What a run of the program does, where the store tells this of each file by its name.
-pub record IsRunOf (told : Told) (words : List (List ℕ)) (run : Run) : Type 0 where
+-- What a run of the program does, where the store tells this of each file by its name, and was read
+-- so often before and after it.
+pub record IsRunOf (told : Told) (words : List (List ℕ)) (old new : ℕ) (run : Run) : Type 0 where
   -- words that ask for nothing
   pub usage : AskForNothing words → IsSaid usage run
   -- words that ask for this
-  pub done : (o : Order) → IsAsked words o → IsTaskDone told (order_task o) run
+  pub done : (o : Order) → IsAsked words o → IsTaskDone told (order_task o) old new run
   -- whatever the store tells, one answer is said
-  pub answered : (s : Said) × IsAnswer told words s × IsSaid s run
+  pub answered : (s : Said) × IsAnswer told words old new s × IsSaid s run
 
 -- How often a store was read before and after a run: not at all for words that ask for nothing, and
 -- for others as often as their task reads.
@@ -180,7 +157,7 @@ pub record HaveRead (words : List (List ℕ)) (old new : ℕ) : Type 0 where
 
 -- the words are run, with the reads that they ask for
 pub record IsRunWith (told : Told) (words : List (List ℕ)) (old new : ℕ) (run : Run) : Type 0 where
-  pub done : IsRunOf told words run
+  pub done : IsRunOf told words old new run
   pub reads : HaveRead words old new
 
 -- this is said, and no file is read

@@ -1,33 +1,19 @@
 -- What is said of the octets of a file, by the kind of content that is asked for.
 use Rattle.std.specs.Prelude.{◌≡◌, ℕ, ◌⊎◌, List}
-use Rattle.rpki_der.specs.declared.mode.Mode.TheVariants.{Der}
 use Rattle.rpki_der.specs.Grammar.{Front}
 use Rattle.rpki_command.specs.Answer.{Said, out_of_memory, malformed, shown}
-use Rattle.rpki_command.specs.Options.{provider_limit, manifest_rule}
-use Rattle.rpki_command.specs.Texts.Aspa.{aspa_text}
-use Rattle.rpki_command.specs.Texts.Manifest.{manifest_text}
-use Rattle.rpki_command.specs.Texts.Roa.{roa_text}
-use Rattle.rpki_command.specs.Texts.Rsc.{rsc_text}
+use Rattle.rpki_command.specs.Kinds.{OfKind}
 use Rattle.rpki_command.specs.declared.words.Kind.{Kind}
-use Rattle.rpki_command.specs.declared.words.Kind.TheVariants.{Aspa, Manifest, Roa, Rsc}
 use Rattle.rpki_command.specs.declared.words.Options.{Options}
-use Rattle.rpki_files.specs.Checklist.{ChecklistForm}
-use Rattle.rpki_files.specs.Manifest.{ManifestForm}
-use Rattle.rpki_routes.specs.Aspa.Form.{AspaForm}
-use Rattle.rpki_routes.specs.Roa.Form.{RoaForm}
 
 -- these are the lines of what stands at the front of the octets
 abbrev pub HasLines : {X : Type 0} → (List ℕ → X → Type 0) → (X → List ℕ) → List ℕ → List ℕ → Type 0
 HasLines {X} form text octets lines =
     (x : X) × (rest : List ℕ) × Front form octets x rest × (lines ≡ text x)
 
--- The lines of a bare content at the front of the octets, with these options: a row for each kind.
--- A content is in DER, whatever the options are (RFC 6488, section 2.1.3.2).
+-- The lines of a bare content of a kind at the front of the octets, with these options.
 abbrev pub LinesOf : Options → Kind → List ℕ → List ℕ → Type 0
-LinesOf options Aspa = HasLines (AspaForm (provider_limit options)) aspa_text
-LinesOf options Manifest = HasLines (ManifestForm (manifest_rule options) Der) manifest_text
-LinesOf options Roa = HasLines RoaForm roa_text
-LinesOf options Rsc = HasLines (ChecklistForm Der) rsc_text
+LinesOf options kind = OfKind options kind (λ X asked form text. HasLines form text)
 
 -- no lines are those of the octets
 abbrev pub HasNoLines : (List ℕ → List ℕ → Type 0) → List ℕ → Type 0

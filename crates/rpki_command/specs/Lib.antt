@@ -5,6 +5,7 @@ pub mod Command
 pub mod Contents
 pub mod Grows
 pub mod Ia5
+pub mod Kinds
 pub mod Objects
 pub mod Options
 pub mod Refusal

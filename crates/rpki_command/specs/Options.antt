@@ -8,7 +8,7 @@ use Rattle.rpki_der.specs.declared.mode.Mode.{Mode}
 use Rattle.rpki_sigobj.specs.Object.{mode_of}
 use Rattle.rpki_command.specs.declared.words.Options.{Options}
 
--- how many providers a customer may have: more with `--wide`
+-- The limit of providers of a customer: the wide one with `--wide`, else the narrow one.
 abbrev pub provider_limit : Options → ProviderLimit
 provider_limit o = if o.wide then Wide else Narrow
 

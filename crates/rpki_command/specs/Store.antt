@@ -2,6 +2,7 @@
 use Rattle.std.specs.Prelude.{◌≡◌, ℕ, ◌+◌, ◌<◌, ◌≤◌, List, length, slice_index_or, Option, None}
 use Rattle.std.specs.Prelude.{Some, Result, Ok, Err, Vec, ◌++◌, codes}
 use Rattle.std.specs.declared.alloc.Global.{Global}
+use Rattle.rpki_command.specs.Answer.{memory_text}
 use Rattle.rpki_command.specs.declared.store.StoreError.{StoreError}
 use Rattle.rpki_command.specs.declared.store.StoreError.TheVariants.{Unreadable, Memory}
 use Rattle.rpki_command.specs.declared.store.Unread.{Unread}
@@ -63,12 +64,12 @@ AreRead told names old new (Err (unread.Unreadable name)) =
     IsFirstUnreadable told names old new name.now
 AreRead told names old new (Err unread.Memory) = AreSomeRead told names old new
 
--- why a file was not read, as a text
+-- The text that says why a file was not read.
 abbrev pub store_error_text : StoreError → List ℕ
 store_error_text Unreadable = codes "unreadable file"
-store_error_text Memory = codes "out of memory"
+store_error_text Memory = memory_text
 
--- why several files were not read, as a text
+-- The text that says why several files were not read.
 abbrev pub unread_text : Unread → List ℕ
 unread_text (unread.Unreadable name) = codes "unreadable file " ++ name.now
-unread_text unread.Memory = codes "out of memory"
+unread_text unread.Memory = memory_text

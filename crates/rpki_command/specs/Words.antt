@@ -2,6 +2,8 @@
 use Rattle.std.specs.Prelude.{◌≡◌, ℕ, List, [], ◌∷◌, ◌++◌, Bool, true, false, not, ◌&&◌, ◌==◌}
 use Rattle.std.specs.Prelude.{length, map, codes}
 use Rattle.std.specs.Borrow.{Bor}
+use Rattle.rpki_basics.specs.Moment.{Moment, IsMoment}
+use Rattle.rpki_basics.specs.Time.Form.{generalized_text}
 use Rattle.rpki_command.specs.declared.words.Kind.{Kind}
 use Rattle.rpki_command.specs.declared.words.Kind.TheVariants.{Aspa, Manifest, Roa, Rsc}
 use Rattle.rpki_command.specs.declared.words.Command.{Command}
@@ -34,6 +36,11 @@ word_registered = codes "--registered"
 abbrev pub word_wide : List ℕ
 word_wide = codes "--wide"
 
+-- the word of a moment, YYYYMMDDHHMMSSZ (RFC 5280, section 4.1.2.5.2)
+unfoldable pub moment_word : Moment → List ℕ
+moment_word m = generalized_text m
+
+-- the words of a command
 abbrev pub command_words : Command → List (List ℕ)
 command_words (Content kind file) = codes "content" ∷ kind_word kind ∷ file ∷ []
 command_words (ContentRta file) = codes "content" ∷ codes "rta" ∷ file ∷ []
@@ -41,9 +48,9 @@ command_words (Show kind file) = codes "show" ∷ kind_word kind ∷ file ∷ []
 command_words (ShowRta file) = codes "show" ∷ codes "rta" ∷ file ∷ []
 command_words (ShowTal file) = codes "show" ∷ codes "tal" ∷ file ∷ []
 command_words (Check kind file moment verdicts anchor chain) =
-    codes "check" ∷ kind_word kind ∷ file ∷ moment ∷ verdicts ∷ anchor ∷ chain
+    codes "check" ∷ kind_word kind ∷ file ∷ moment_word moment ∷ verdicts ∷ anchor ∷ chain
 command_words (Rta file moment verdicts anchor anchors) =
-    codes "rta" ∷ file ∷ moment ∷ verdicts ∷ anchor ∷ anchors
+    codes "rta" ∷ file ∷ moment_word moment ∷ verdicts ∷ anchor ∷ anchors
 
 -- the words, without the program's name, that an order is written as
 abbrev pub order_words : Order → List (List ℕ)
@@ -66,9 +73,17 @@ abbrev pub are_named : List (List ℕ) → Bool
 are_named [] = true
 are_named (file ∷ files) = not (length file == 0) && are_named files
 
--- the words ask for this
+-- the moment of a command, where it has one, is one of the calendar (RFC 5280, section 4.1.2.5)
+abbrev pub IsInTime : Command → Type 0
+IsInTime (Check kind file moment verdicts anchor chain) = IsMoment moment
+IsInTime (Rta file moment verdicts anchor anchors) = IsMoment moment
+IsInTime other = Unit {0}
+
+-- The words ask for this: they are its words, each file has a name, and the moment is one of the
+-- calendar.
 abbrev pub IsAsked : List (List ℕ) → Order → Type 0
-IsAsked words o = (words ≡ order_words o) × (are_named (files_of o.command) ≡ true)
+IsAsked words o =
+    (words ≡ order_words o) × (are_named (files_of o.command) ≡ true) × IsInTime o.command
 
 -- they ask for nothing that there is
 abbrev pub AskForNothing : List (List ℕ) → Type 0

@@ -1,6 +1,6 @@
 //! What the program answers of signed objects under a chain of certificates.
 
-ghost use Rattle.std.specs.Prelude.{◌≡◌, ◌++◌, ◌≤◌, codes, length, IfOk, Result, string_bytes};
+ghost use Rattle.std.specs.Prelude.{◌≡◌, ◌++◌, ◌≤◌, length, IfOk, Result, string_bytes};
 ghost use Rattle.std.specs.Fn.{FnOnceTakesAt, FnOnceReturnsAt};
 ghost use Rattle.rpki_faults.specs.Text.Validation.{validation_text};
 ghost use Rattle.rpki_faults.specs.declared.validation.ValidationError.{ValidationError};
@@ -9,7 +9,8 @@ ghost use Rattle.rpki_issuers.specs.Issuer.{octets_of};
 ghost use Rattle.rpki_signed.specs.Check.{Checks};
 ghost use Rattle.rpki_signed.specs.Exact.{IsExact};
 ghost use Rattle.rpki_command.specs.Answer.{said};
-ghost use Rattle.rpki_command.specs.Check.{passes, IsCheckSaid, IsCheckedAs, CheckedUnder};
+ghost use Rattle.rpki_command.specs.Check.{passes, yes_line, IsCheckSaid, IsCheckedAs};
+ghost use Rattle.rpki_command.specs.Check.{CheckedUnder};
 ghost use Rattle.rpki_command.specs.Check.{IsRefused, IsIssuerRefused, IsCheckedWith, CheckOf};
 ghost use Rattle.rpki_command.specs.Contents.{IsLinesOf};
 ghost use Rattle.rpki_command.specs.Grows.{Grows};
@@ -31,28 +32,6 @@ use rpki_signed::check::CheckError;
 use rpki_verdicts::Verdicts;
 use std::alloc::{AllocError, Global};
 use std::fmt::Write;
-
-/// A content whose objects are checked.
-trait Checked: Lines {
-    /// Whether the octets begin with a good object with such a content, with these options, under
-    /// this issuer and at this moment. `check_crl` says whether its certificate was revoked.
-    fn check<K: Crypto, F: FnOnce(&Cert) -> Result<(), ValidationError>>(
-        alloc: Global,
-        options: Options,
-        octets: Bytes,
-        issuer: &ResourceCert,
-        crypto: &K,
-        now: Time,
-        check_crl: F,
-    ) -> Result<(ResourceCert, Self), CheckError>
-        requires { (k : KeptCertificate) → FnOnceTakesAt F.FnOnce check_crl k }
-        ensures first { Checks Self.kind (Self.form (Self.rule_of options)) (read_mode options)
-            (K.digest_of crypto.now) (K.is_signed crypto.now) issuer.now now
-            (FnOnceReturnsAt F.FnOnce check_crl) octets result }
-        ensures exact { IsExact Self.kind (Self.form (Self.rule_of options)) (read_mode options)
-            (K.digest_of crypto.now) (K.is_signed crypto.now) issuer.now now
-            (FnOnceReturnsAt F.FnOnce check_crl) octets result };
-}
 
 /// What is said of a certificate where nobody asks whether it was revoked.
 fn pass(_cert: &Cert) -> Result<(), ValidationError>
@@ -143,7 +122,7 @@ fn check_kind<'a, K: Crypto>(
 
 /// Answers whether the octets begin with a good object with such a content under this issuer, at
 /// this moment.
-fn check_octets<'a, C: Checked, K: Crypto>(
+fn check_octets<'a, C: Lines, K: Crypto>(
     alloc: Global,
     options: Options,
     octets: &[u8],
@@ -167,7 +146,7 @@ fn check_octets<'a, C: Checked, K: Crypto>(
 
 /// Whether the octets begin with a good object, where it is known what is said of a certificate:
 /// that it was not revoked.
-fn check_passed<C: Checked, K: Crypto, F: FnOnce(&Cert) -> Result<(), ValidationError>>(
+fn check_passed<C: Lines, K: Crypto, F: FnOnce(&Cert) -> Result<(), ValidationError>>(
     alloc: Global,
     options: Options,
     octets: Bytes,
@@ -184,7 +163,9 @@ fn check_passed<C: Checked, K: Crypto, F: FnOnce(&Cert) -> Result<(), Validation
     ensures exact { IsExact C.kind (C.form (C.rule_of options)) (read_mode options)
         (K.digest_of crypto.now) (K.is_signed crypto.now) issuer.now now passes octets result }
 {
-    C::check(alloc, options, octets, issuer, crypto, now, check_crl)
+    let strict = !options.relaxed;
+    let rule = C::rule(options);
+    check::object(alloc, octets, strict, issuer, crypto, now, check_crl, rule)
 }
 
 /// What is said of what a check answers.
@@ -208,7 +189,7 @@ fn answer_checked<'a, C: Lines>(
 
 /// A yes, and the lines of a content.
 fn say_yes<'a, C: Lines>(alloc: Global, content: &C) -> Answer<'a>
-    ensures { IsLinesOf (codes "yes\n" ++ C.lines content.now) (said result) }
+    ensures { IsLinesOf (yes_line ++ C.lines content.now) (said result) }
 {
     let mut text = String::new(alloc);
     match push_yes(&mut text, content) {
@@ -219,7 +200,7 @@ fn say_yes<'a, C: Lines>(alloc: Global, content: &C) -> Answer<'a>
 
 /// Appends a yes, and the lines of a content.
 fn push_yes<C: Lines>(text: &mut String, content: &C) -> Result<(), AllocError>
-    ensures { Grows result text.old text.new (codes "yes\n" ++ C.lines content.now) }
+    ensures { Grows result text.old text.new (yes_line ++ C.lines content.now) }
 {
     write!(text, "yes\n")?;
     content.push(text)
@@ -262,96 +243,4 @@ fn cause_of(alloc: Global, error: ValidationError) -> Result<String, AllocError>
     let mut text = String::new(alloc);
     write!(text, "{error}")?;
     Ok(text)
-}
-
-impl Checked for AsProviderAttestation {
-    fn check<K: Crypto, F: FnOnce(&Cert) -> Result<(), ValidationError>>(
-        alloc: Global,
-        options: Options,
-        octets: Bytes,
-        issuer: &ResourceCert,
-        crypto: &K,
-        now: Time,
-        check_crl: F,
-    ) -> Result<(ResourceCert, AsProviderAttestation), CheckError> {
-        let limit = options.provider_limit();
-        check::aspa(
-            alloc,
-            octets,
-            !options.relaxed,
-            issuer,
-            crypto,
-            now,
-            check_crl,
-            limit,
-        )
-    }
-}
-
-impl Checked for ManifestContent {
-    fn check<K: Crypto, F: FnOnce(&Cert) -> Result<(), ValidationError>>(
-        alloc: Global,
-        options: Options,
-        octets: Bytes,
-        issuer: &ResourceCert,
-        crypto: &K,
-        now: Time,
-        check_crl: F,
-    ) -> Result<(ResourceCert, ManifestContent), CheckError> {
-        let rule = options.manifest_rule();
-        check::manifest(
-            alloc,
-            octets,
-            !options.relaxed,
-            issuer,
-            crypto,
-            now,
-            check_crl,
-            rule,
-        )
-    }
-}
-
-impl Checked for RouteOriginAttestation {
-    fn check<K: Crypto, F: FnOnce(&Cert) -> Result<(), ValidationError>>(
-        alloc: Global,
-        options: Options,
-        octets: Bytes,
-        issuer: &ResourceCert,
-        crypto: &K,
-        now: Time,
-        check_crl: F,
-    ) -> Result<(ResourceCert, RouteOriginAttestation), CheckError> {
-        check::roa(
-            alloc,
-            octets,
-            !options.relaxed,
-            issuer,
-            crypto,
-            now,
-            check_crl,
-        )
-    }
-}
-
-impl Checked for ResourceSignedChecklist {
-    fn check<K: Crypto, F: FnOnce(&Cert) -> Result<(), ValidationError>>(
-        alloc: Global,
-        options: Options,
-        octets: Bytes,
-        issuer: &ResourceCert,
-        crypto: &K,
-        now: Time,
-        check_crl: F,
-    ) -> Result<(ResourceCert, ResourceSignedChecklist), CheckError> {
-        check::rsc(
-            alloc,
-            octets,
-            !options.relaxed,
-            issuer,
-            crypto,
-            now,
-            check_crl,
-        )
-    }
 }

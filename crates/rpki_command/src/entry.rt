@@ -32,9 +32,9 @@ pub fn start<A: Arguments, S: Store, O: Sink, E: Sink>(
     ExitCode::from(run(alloc, arguments, store, out, err))
 }
 
-/// Runs the program with its arguments, the first of which is its name, and gives the exit status:
-/// 0 where lines were shown, 1 for `malformed`, 2 for `usage`, `cannot read FILE` and a write that
-/// failed, 3 for `out of memory`. Words that are no text (UTF-8) are `usage`.
+/// Runs the program with its arguments, the first of which is its name, and gives the exit status,
+/// as `command` answers it. `usage` with 2 is the answer too where a word is no text (UTF-8), and
+/// `out of memory` with 3 where the words take too much.
 pub fn run<A: Arguments, S: Store, O: Sink, E: Sink>(
     alloc: Global,
     arguments: &A,

@@ -3,8 +3,8 @@
 ghost use Rattle.std.specs.Prelude.{◌≡◌, ◌+◌, ◌≤◌, length, IfOk};
 ghost use Rattle.rpki_command.specs.Answer.{run_of, said};
 ghost use Rattle.rpki_command.specs.Check.{CheckOf};
-ghost use Rattle.rpki_command.specs.Command.{order_task, HasRead, IsTaskAnswer, IsAnswerAt};
-ghost use Rattle.rpki_command.specs.Command.{HaveReadAt, AreReadAtMost, IsOfFiles};
+ghost use Rattle.rpki_command.specs.Command.{order_task, HasRead, IsTaskAnswer};
+ghost use Rattle.rpki_command.specs.Command.{AreReadAtMost, IsOfFiles};
 ghost use Rattle.rpki_command.specs.Command.{unread, IsOfFile, IsAnswer, IsRunOf, HaveRead};
 ghost use Rattle.rpki_command.specs.Contents.{LinesOf, IsShown};
 ghost use Rattle.rpki_command.specs.Objects.{ObjectLinesOf};
@@ -36,6 +36,7 @@ pub fn command<S: Store, O: Sink, E: Sink>(
     err: &mut E,
 ) -> u8
     ensures run { IsRunOf (S.told store.old) (texts words.now)
+        (S.reads store.old) (S.reads store.new)
         (run_of O.taken O.failures out.old out.new E.taken E.failures err.old err.new result) }
     ensures reads { HaveRead (texts words.now) (S.reads store.old) (S.reads store.new) }
     ensures same { S.told store.new ≡ S.told store.old }
@@ -45,7 +46,8 @@ pub fn command<S: Store, O: Sink, E: Sink>(
 
 /// What the program answers to its words.
 fn answer<'a, S: Store>(alloc: Global, words: &'a [&'a str], store: &mut S) -> Answer<'a>
-    ensures said { IsAnswer (S.told store.old) (texts words.now) (said result) }
+    ensures said { IsAnswer (S.told store.old) (texts words.now)
+        (S.reads store.old) (S.reads store.new) (said result) }
     ensures reads { HaveRead (texts words.now) (S.reads store.old) (S.reads store.new) }
     ensures same { S.told store.new ≡ S.told store.old }
 {
@@ -58,7 +60,8 @@ fn answer<'a, S: Store>(alloc: Global, words: &'a [&'a str], store: &mut S) -> A
 /// What the program answers to an order. A command that there is not yet is answered with the
 /// usage.
 fn answer_order<'a, S: Store>(alloc: Global, order: &Order<'a>, store: &mut S) -> Answer<'a>
-    ensures said { IsTaskAnswer (S.told store.old) (order_task order.now) (said result) }
+    ensures said { IsTaskAnswer (S.told store.old) (order_task order.now)
+        (S.reads store.old) (S.reads store.new) (said result) }
     ensures reads { HasRead (order_task order.now) (S.reads store.old) (S.reads store.new) }
     ensures same { S.told store.new ≡ S.told store.old }
 {
@@ -82,7 +85,7 @@ fn answer_order<'a, S: Store>(alloc: Global, order: &Order<'a>, store: &mut S) -
                 anchor: anchor.0,
                 chain: chain.0,
             };
-            check_moment(alloc, order.options, *kind, moment.0, &names, store)
+            check_at(alloc, order.options, *kind, *moment, &names, store)
         }
         Command::Rta { .. } => Answer::Usage,
     }
@@ -156,28 +159,6 @@ impl<'a> Model for Names<'a> {
         ∷ map (λ t. t.now) n.chain.now };
 }
 
-/// Answers whether a file is a good object of this kind at the moment that a word names, under the
-/// certificates of these files; with the usage where it names none.
-#[tactic(auto, using(crate::proofs::Asking::by_moment))]
-fn check_moment<'a, S: Store>(
-    alloc: Global,
-    options: Options,
-    kind: Kind,
-    moment: &str,
-    names: &Names<'a>,
-    store: &mut S,
-) -> Answer<'a>
-    ensures said { IsAnswerAt (S.told store.old) moment.now names.now (CheckOf options kind)
-        (said result) }
-    ensures reads { HaveReadAt moment.now names.now (S.reads store.old) (S.reads store.new) }
-    ensures same { S.told store.new ≡ S.told store.old }
-{
-    match Time::from_generalized(moment.as_bytes()) {
-        None => Answer::Usage,
-        Some(now) => check_at(alloc, options, kind, now, names, store),
-    }
-}
-
 /// Answers whether a file is a good object of this kind at this moment, under the certificates of
 /// these files.
 #[tactic(auto, using(crate::proofs::Asking::by_names))]
@@ -190,7 +171,7 @@ fn check_at<'a, S: Store>(
     store: &mut S,
 ) -> Answer<'a>
     ensures said { IsOfFiles (S.told store.old) names.now (CheckOf options kind now)
-        (said result) }
+        (S.reads store.old) (S.reads store.new) (said result) }
     ensures reads { AreReadAtMost names.now (S.reads store.old) (S.reads store.new) }
     ensures same { S.told store.new ≡ S.told store.old }
 {
@@ -226,7 +207,7 @@ fn check_named<'a, S: Store>(
 ) -> Answer<'a>
     requires { 3 ≤ length names.now }
     ensures said { IsOfFiles (S.told store.old) (texts names.now) (CheckOf options kind now)
-        (said result) }
+        (S.reads store.old) (S.reads store.new) (said result) }
     ensures reads { AreReadAtMost (texts names.now) (S.reads store.old) (S.reads store.new) }
     ensures same { S.told store.new ≡ S.told store.old }
 {

@@ -1,15 +1,16 @@
 //! What the program is asked.
 
 ghost use Rattle.std.specs.Prelude.{◌≡◌, ◌++◌, Bool, MatchOption};
+ghost use Rattle.rpki_basics.specs.Moment.{Moment, IsMoment};
 ghost use Rattle.rpki_command.specs.Options.{provider_limit, manifest_rule};
 ghost use Rattle.rpki_command.specs.Words.{IsAsked, AskForNothing, texts, kind_word, word_if};
 ghost use Rattle.rpki_command.specs.Words.{word_registered, word_wide, command_words, order_words};
-ghost use Rattle.rpki_command.specs.Words.{files_of, are_named};
+ghost use Rattle.rpki_command.specs.Words.{files_of, are_named, moment_word, IsInTime};
 ghost use Rattle.rpki_command.specs.declared.words.Kind.{Kind};
 ghost use Rattle.rpki_command.specs.declared.words.Command.{Command};
 ghost use Rattle.rpki_command.specs.declared.words.Order.{Order};
 
-use rpki_basics::{ManifestRule, ProviderLimit};
+use rpki_basics::{ManifestRule, ProviderLimit, Time};
 use std::marker::Model;
 
 /// The kinds of signed objects that may be shown and checked.
@@ -79,7 +80,7 @@ pub enum Command<'a> {
     Check {
         kind: Kind,
         file: Word<'a>,
-        moment: Word<'a>,
+        moment: Time,
         verdicts: Word<'a>,
         anchor: Word<'a>,
         chain: Words<'a>,
@@ -87,7 +88,7 @@ pub enum Command<'a> {
     /// To check an attestation with several signers under these anchors.
     Rta {
         file: Word<'a>,
-        moment: Word<'a>,
+        moment: Time,
         verdicts: Word<'a>,
         anchor: Word<'a>,
         anchors: Words<'a>,
@@ -188,8 +189,9 @@ fn all_named(files: &[&str]) -> bool
 
 /// The order of words that may begin with the first option.
 fn parse_relaxed<'a>(words: &'a [&'a str]) -> Option<Order<'a>>
-    ensures { MatchOption result ((o : Order) → texts words.now ≡ order_words o → ⊥)
-        (λ o. texts words.now ≡ order_words o) }
+    ensures { MatchOption result
+        ((o : Order) → texts words.now ≡ order_words o → IsInTime o.command → ⊥)
+        (λ o. (texts words.now ≡ order_words o) × IsInTime o.command) }
 {
     match words {
         ["--relaxed", rest @ ..] => parse_registered(true, rest),
@@ -202,10 +204,11 @@ fn parse_registered<'a>(relaxed: bool, words: &'a [&'a str]) -> Option<Order<'a>
     ensures { MatchOption result
         ((registered wide : Bool) (c : Command)
         → texts words.now ≡ word_if registered word_registered
-        ++ (word_if wide word_wide ++ command_words c) → ⊥)
+        ++ (word_if wide word_wide ++ command_words c) → IsInTime c → ⊥)
         (λ o. (o.options.relaxed ≡ relaxed)
         × (texts words.now ≡ word_if o.options.registered word_registered
-        ++ (word_if o.options.wide word_wide ++ command_words o.command))) }
+        ++ (word_if o.options.wide word_wide ++ command_words o.command))
+        × IsInTime o.command) }
 {
     match words {
         ["--registered", rest @ ..] => parse_wide(relaxed, true, rest),
@@ -217,9 +220,10 @@ fn parse_registered<'a>(relaxed: bool, words: &'a [&'a str]) -> Option<Order<'a>
 fn parse_wide<'a>(relaxed: bool, registered: bool, words: &'a [&'a str]) -> Option<Order<'a>>
     ensures { MatchOption result
         ((wide : Bool) (c : Command) → texts words.now ≡ word_if wide word_wide ++ command_words c
-        → ⊥)
+        → IsInTime c → ⊥)
         (λ o. (o.options.relaxed ≡ relaxed) × (o.options.registered ≡ registered)
-        × (texts words.now ≡ word_if o.options.wide word_wide ++ command_words o.command)) }
+        × (texts words.now ≡ word_if o.options.wide word_wide ++ command_words o.command)
+        × IsInTime o.command) }
 {
     match words {
         ["--wide", rest @ ..] => Some(Order {
@@ -243,8 +247,9 @@ fn parse_wide<'a>(relaxed: bool, registered: bool, words: &'a [&'a str]) -> Opti
 
 /// The command of words without options.
 fn parse_command<'a>(words: &'a [&'a str]) -> Option<Command<'a>>
-    ensures { MatchOption result ((c : Command) → texts words.now ≡ command_words c → ⊥)
-        (λ c. texts words.now ≡ command_words c) }
+    ensures { MatchOption result
+        ((c : Command) → texts words.now ≡ command_words c → IsInTime c → ⊥)
+        (λ c. (texts words.now ≡ command_words c) × IsInTime c) }
 {
     match words {
         ["content", "rta", file] => Some(Command::ContentRta { file: Word(file) }),
@@ -260,21 +265,30 @@ fn parse_command<'a>(words: &'a [&'a str]) -> Option<Command<'a>>
         }),
         ["check", kind, file, moment, verdicts, anchor, chain @ ..] => Some(Command::Check {
             kind: kind_of(kind)?,
+            moment: moment_of(moment)?,
             file: Word(file),
-            moment: Word(moment),
             verdicts: Word(verdicts),
             anchor: Word(anchor),
             chain: Words(chain),
         }),
         ["rta", file, moment, verdicts, anchor, anchors @ ..] => Some(Command::Rta {
+            moment: moment_of(moment)?,
             file: Word(file),
-            moment: Word(moment),
             verdicts: Word(verdicts),
             anchor: Word(anchor),
             anchors: Words(anchors),
         }),
         _ => None,
     }
+}
+
+/// The moment that a word names, if it names one.
+#[tactic(auto, unfolding(crate::specs::Words::moment_word))]
+fn moment_of(word: &str) -> Option<Time>
+    ensures { MatchOption result ((m : Moment) → word.now ≡ moment_word m → IsMoment m → ⊥)
+        (λ m. (word.now ≡ moment_word m) × IsMoment m) }
+{
+    Time::from_generalized(word.as_bytes())
 }
 
 /// The kind of this name.

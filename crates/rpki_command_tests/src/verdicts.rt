@@ -12,63 +12,6 @@ const TEXT: &str = "2c70e12b7a0646f92279f427c7b38e7334d8e5389cff167a1dc30e73f826
     ab530a13e45914982b79f9b7e3fba994cfd1f3fb22f71cea1afbf02b460c6d1d \
     e3b0c44298fc1c149afbf4c8996fb92427ae41e4649b934ca495991b7852b855\n";
 
-/// The octets of a line.
-const LINE: usize = 195;
-
-#[test]
-fn whole_lines_are_read(rt: HostRuntime) -> Result<(), Fail> {
-    let text = TEXT.as_bytes();
-    assert_eq!(rt; text.len(), 2 * LINE);
-    for len in 0..text.len() {
-        assert_eq!(rt;
-            Verdicts::read(&text[..len]).is_some(),
-            len % LINE == 0,
-            "at {len}"
-        );
-    }
-    assert!(rt; Verdicts::read(text).is_some());
-    Ok(())
-}
-
-#[test]
-fn other_lines_are_refused(rt: HostRuntime) -> Result<(), Fail> {
-    // What stands at a place of the first line in the stead of what belongs there, and whether it
-    // may stand there.
-    let rows = [
-        (0, b'0', true),
-        (0, b'9', true),
-        (63, b'a', true),
-        (193, b'f', true),
-        (0, b'A', false),
-        (63, b'F', false),
-        (65, b'g', false),
-        (128, b'`', false),
-        (130, b'/', false),
-        (193, b':', false),
-        (0, b' ', false),
-        (193, b'\n', false),
-        (64, b'\t', false),
-        (64, b'0', false),
-        (129, b'\n', false),
-        (129, b'f', false),
-        (194, b' ', false),
-        (194, b'\r', false),
-        (194, b'0', false),
-    ];
-    for (place, octet, may_stand) in rows {
-        let mut text = Vec::from_slice(rt.alloc(), TEXT.as_bytes())?;
-        if let Some(there) = text.get_mut(place) {
-            *there = octet;
-        }
-        assert_eq!(rt;
-            Verdicts::read(&text).is_some(),
-            may_stand,
-            "{octet} at {place}"
-        );
-    }
-    Ok(())
-}
-
 #[test]
 fn listed_triples_are_a_yes(rt: HostRuntime) -> Result<(), Fail> {
     let rows: [(&str, &str, &str, &str, bool); 12] = [

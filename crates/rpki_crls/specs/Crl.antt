@@ -62,6 +62,11 @@ CrlForm mode octets c = (c.octets ≡ octets) × Sequence mode (
     ∷ (λ o. OctetsInBits mode o c.signature)
     ∷ []) octets
 
+-- what is signed, and the mode that the issuer's name was read in
+pub record KeptTbs : Type 0 where
+  pub tbs : Tbs
+  pub name_mode : Mode
+
 -- a revocation list, and the mode that it was read in
 pub record KeptCrl : Type 0 where
   pub list : RevocationList
@@ -113,6 +118,11 @@ pub record Contents : Type 0 where
   pub tbs : Tbs
   pub signed : List ℕ
   pub signature : List ℕ
+
+-- what stands in a revocation list, and the mode that the issuer's name was read in
+pub record KeptContents : Type 0 where
+  pub contents : Contents
+  pub name_mode : Mode
 
 -- what stands in the SEQUENCE
 unfoldable pub contents_at : Parser Contents

@@ -28,29 +28,31 @@ pub struct Crl {
 }
 
 impl Model for Crl {
+    ghost use Rattle.std.specs.Prelude.{◌≡◌};
     ghost use Rattle.rpki_crls.specs.Crl.{KeptCrl, IsKept, list_of};
 
     ghost Value = { KeptCrl };
 
     ghost view = { λ c. record {
-      list = list_of (c.contents, c.captured.octets);
+      list = list_of (c.contents.contents, c.captured.octets);
       mode = c.captured.mode;
     } };
 
     ghost invariant = { λ c. IsKept (record {
-      list = list_of (c.contents, c.captured.octets);
+      list = list_of (c.contents.contents, c.captured.octets);
       mode = c.captured.mode;
-    }) };
+    }) × (c.contents.name_mode ≡ c.captured.mode) };
 }
 
 impl Crl {
     // The revocation list of these contents and octets.
     fn of(contents: Contents, captured: Captured) -> Crl
-        requires { IsKept (record {
-          list = list_of (contents, captured.octets);
+        requires form { IsKept (record {
+          list = list_of (contents.contents, captured.octets);
           mode = captured.mode;
         }) }
-        ensures list { result.list ≡ list_of (contents, captured.octets) }
+        requires name { contents.name_mode ≡ captured.mode }
+        ensures list { result.list ≡ list_of (contents.contents, captured.octets) }
         ensures mode { result.mode ≡ captured.mode }
     {
         Crl { contents, captured }

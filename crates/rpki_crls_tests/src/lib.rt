@@ -1,12 +1,10 @@
 //! Tests of `rpki_crls`, each a table of rows that one small function walks.
 //!
 //! The octets follow from RFC 5280, section 5, and RFC 6487, section 5. A test hands want of memory
-//! on and asserts everything else.
+//! on and asserts everything else. What is done with a list that was read is in the sweeps.
 #![tactic(auto)]
 
 #[cfg(test)]
 mod lists;
 #[cfg(test)]
 mod parts;
-#[cfg(test)]
-mod uses;

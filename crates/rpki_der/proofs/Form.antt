@@ -6,3 +6,4 @@ pub mod Decoders
 pub mod Nested
 pub mod Keyed
 pub mod Malformed
+pub mod Taking

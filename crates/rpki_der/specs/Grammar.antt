@@ -11,7 +11,8 @@ use Rattle.rpki_der.specs.Oid.{IsOid}
 use Rattle.rpki_der.specs.Bits.{IsBits}
 use Rattle.rpki_der.specs.Numbers.{MAX_DEPTH, number, least}
 
--- where low is the least length that a form is for, DER takes it from there on (10.1)
+-- Whether a length n may have a form that is for the lengths from low on: in DER where it is one of
+-- these (10.1), in BER always.
 abbrev pub IsShortest : Mode → ℕ → ℕ → Type 0
 IsShortest Der low n = low ≤ n
 IsShortest Ber low n = Unit {0}
@@ -61,7 +62,7 @@ Within mode tag G octets = (contents : List ℕ) × Value mode octets tag conten
 abbrev pub Front : {X : Type 0} → (List ℕ → X → Type 0) → List ℕ → X → List ℕ → Type 0
 Front G octets x rest = (front : List ℕ) × (octets ≡ front ++ rest) × G front x
 
--- each is below 256
+-- each number of the list is below 256
 abbrev pub IsBytes : List ℕ → Type 0
 IsBytes [] = Unit {0}
 IsBytes (b ∷ bytes) = (b < 256) × IsBytes bytes
@@ -159,7 +160,7 @@ OctetStringOf n mode octets string = OctetString mode MAX_DEPTH octets string ×
 abbrev pub OctetsInBits : Mode → List ℕ → List ℕ → Type 0
 OctetsInBits mode octets string = BitString mode octets (string, 0)
 
--- what may be there, or nothing
+-- What may be there: octets in G with what they mean there, or no octets and no meaning.
 abbrev pub Optional : {X : Type 0} → (List ℕ → X → Type 0) → List ℕ → Option X → Type 0
 Optional G octets None = octets ≡ []
 Optional G octets (Some x) = G octets x

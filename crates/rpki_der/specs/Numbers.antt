@@ -1,7 +1,7 @@
 -- Numbers of digits to base 256, and how deep values nest.
 use Rattle.std.specs.Prelude.{ℕ, ◌+◌, ◌*◌, List, [], ◌∷◌, ◌==◌, if◌then◌else◌}
 
--- the number that has these digits after those of n
+-- The number whose digits to base 256 are those of n and then these.
 abbrev pub number : ℕ → List ℕ → ℕ
 number n [] = n
 number n (d ∷ ds) = number (n * 256 + d) ds

@@ -28,6 +28,7 @@ pub mod decoders;
 pub mod forms;
 pub mod keyed;
 pub mod records;
+pub mod written;
 
 /// What a slice of octets holds is below 256.
 pub fn slices_hold_octets(octets: &[u8])

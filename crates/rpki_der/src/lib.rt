@@ -16,7 +16,6 @@ mod read;
 mod reason;
 mod stream;
 mod tag;
-pub mod write_laws;
 
 pub use as_octets::AsOctets;
 pub use bit_string::BitString;

@@ -109,10 +109,10 @@ subject_of list = record {
   rpki_notify = first_said (located https_of rpki_notify) list;
 }
 
--- the issuer's certificate
+-- What reads the access descriptions of the issuer: the URI of its certificate, if they have one.
 abbrev pub authority_access_at : Parser (Option (List ℕ))
 authority_access_at = sequence_at (made issuer_of accesses_at)
 
--- what is said of the subject
+-- What reads the access descriptions of a certificate's subject.
 abbrev pub subject_access_at : Parser SubjectAccess
 subject_access_at = sequence_at (made subject_of accesses_at)

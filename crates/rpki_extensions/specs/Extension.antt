@@ -68,7 +68,7 @@ extension_at = sequence_at extension_fields_at
 abbrev pub list_at : Parser (List Extension)
 list_at = items_at SEQUENCE extension_at
 
--- whether it is one of these
+-- whether the identifier is one of the list
 abbrev pub is_among : List (List ℕ) → List ℕ → Bool
 is_among [] oid = false
 is_among (k ∷ []) oid = bytes_eq oid k

@@ -56,6 +56,6 @@ usage_of bits =
     else if is_bit_set digital_signature bits then Some Ee
     else None
 
--- what a key is for
+-- What reads a key usage: that of a CA or of an end entity.
 abbrev pub key_usage_at : Parser KeyUsage
 key_usage_at = partly usage_of bits_at

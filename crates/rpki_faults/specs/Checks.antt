@@ -5,7 +5,7 @@ use Rattle.std.specs.Prelude.{◌≡◌, ◌⊎◌, List, [], ◌∷◌, Result,
 abbrev pub Check : Type 0 → Type 1
 Check F = F × Type 0
 
--- The fault is answered unless this holds.
+-- a check: the fault a is answered unless b holds
 infix 20 ◌unless◌
 abbrev pub ◌unless◌ : {F : Type 0} → F → Type 0 → Check F
 fault unless P = (fault, P)
@@ -26,19 +26,20 @@ abbrev pub AnswersFirstFault : {F : Type 0} → List (Check F) → Result (Unit 
 AnswersFirstFault checks (Ok done) = AllHold checks
 AnswersFirstFault checks (Err fault) = IsFirstFault checks fault
 
--- A value means that each check holds, and it is such a one; a fault is that of the first check
--- that does not hold.
+-- A value means that each check holds, and Yes holds of the value; a fault is that of the first
+-- check that does not hold.
 abbrev pub AnswersFirst : {T F : Type 0} → List (Check F) → (T → Type 0) → Result T F → Type 0
 AnswersFirst checks Yes (Ok value) = AllHold checks × Yes value
 AnswersFirst checks Yes (Err fault) = IsFirstFault checks fault
 
--- The same, unless memory runs out.
+-- A value means that each check holds, and Yes holds of the value; a fault is memory, or that of
+-- the first check that does not hold.
 abbrev pub AnswersFirstOr : {T F : Type 0} → F → List (Check F) → (T → Type 0) → Result T F
     → Type 0
 AnswersFirstOr memory checks Yes (Ok value) = AllHold checks × Yes value
 AnswersFirstOr memory checks Yes (Err fault) = (fault ≡ memory) ⊎ IsFirstFault checks fault
 
--- The same checks, with their faults shown so, as where a call hands on the faults of another.
+-- The checks b, with the fault of each as a shows it: so a call hands on the faults of another.
 infix 20 ◌as_faults_of◌
 abbrev pub ◌as_faults_of◌ : {F G : Type 0} → (F → G) → List (Check F) → List (Check G)
 shown as_faults_of [] = []

@@ -18,7 +18,7 @@ pub enum InspectionError {
     NoResources,
     /// There is no authority key identifier (RFC 6487, section 4.8.3).
     MissingAki,
-    /// It does not say where its revocation list is (RFC 6487, section 4.8.6).
+    /// It does not say where the revocation list of its issuer is (RFC 6487, section 4.8.6).
     MissingCrlUri,
     /// It does not say where the certificate of its issuer is (RFC 6487, section 4.8.7).
     MissingCaIssuer,

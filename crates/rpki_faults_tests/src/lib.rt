@@ -1,5 +1,5 @@
-//! Tests of `rpki_faults`, each a table of rows that one small function walks, and two proved
-//! callers, which its page `CALLING.md` quotes.
+//! Tests of `rpki_faults`, and two proved callers, which its page `CALLING.md` quotes. Rows of sets
+//! and of texts are in the sweeps.
 #![tactic(auto)]
 
 mod families;
@@ -10,7 +10,3 @@ pub use inspected::Facts;
 
 #[cfg(test)]
 mod facts;
-#[cfg(test)]
-mod sets;
-#[cfg(test)]
-mod texts;

@@ -21,7 +21,7 @@ Checked = FileNameAndHash (List ℕ) (List ℕ)
 abbrev pub is_portable : ℕ → Bool
 is_portable b = is_stem b || (b == 0x2E)
 
--- whether each character is one of these
+-- whether each character is a letter, a digit, `-`, `_` or a dot
 abbrev pub is_portable_name : List ℕ → Bool
 is_portable_name name = list_all is_portable name
 
@@ -65,7 +65,7 @@ checked_at = sequence_at checked_fields_at
 
 -- ---- as octets
 
--- what stands in the SEQUENCE of a file
+-- The octets in the SEQUENCE of a file, without its header.
 abbrev pub checked_contents : Checked → List ℕ
 checked_contents f =
     optional_octets (value_octets IA5_STRING) f.file_name ++ value_octets OCTET_STRING f.hash

@@ -187,7 +187,7 @@ named_contents l = optional_octets numbers_octets (written_numbers l) ++ address
 abbrev pub files_octets : Checklist → List ℕ
 files_octets l = flat_map checked_octets l.files
 
--- what stands in the SEQUENCE of a content
+-- The octets in the SEQUENCE of a content, without its header.
 abbrev pub checklist_contents : Checklist → List ℕ
 checklist_contents l = value_octets SEQUENCE (named_contents l)
     ++ (digest_algorithm_octets ++ value_octets SEQUENCE (files_octets l))

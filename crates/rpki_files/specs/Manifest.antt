@@ -99,7 +99,7 @@ manifest_at rule = sequence_at (fields_at rule)
 abbrev pub files_octets : List File → List ℕ
 files_octets files = flat_map file_octets files
 
--- what stands in the SEQUENCE of a content
+-- The octets in the SEQUENCE of a content, without its header.
 abbrev pub manifest_contents : Manifest → List ℕ
 manifest_contents m =
     serial_octets m.number ++ (generalized_octets m.this_update

@@ -8,7 +8,7 @@ use Rattle.std.specs.List.{list_all, list_any}
 abbrev pub is_from : ℕ → ℕ → ℕ → Bool
 is_from low high b = nat_le low b && nat_le b high
 
--- a to z, A to Z
+-- a letter: `a` to `z`, or `A` to `Z`
 abbrev pub is_letter : ℕ → Bool
 is_letter b = is_from 0x61 0x7A b || is_from 0x41 0x5A b
 

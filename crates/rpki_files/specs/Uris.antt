@@ -12,7 +12,7 @@ UriAndHash = List ℕ × List ℕ
 abbrev pub uri_of : List ℕ → File → UriAndHash
 uri_of base f = (join_text base (name_of f), f.hash)
 
--- these of each file, in order
+-- the URI and the hash of each file, in order
 abbrev pub uris_of : List ℕ → List File → List UriAndHash
 uris_of base files = map (uri_of base) files
 

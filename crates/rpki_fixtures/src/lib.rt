@@ -5,6 +5,7 @@
 //! `rpki_keys::standin::StandInSigner`.
 #![tactic(auto)]
 
+mod ber;
 mod cert;
 mod change;
 mod crl;
@@ -13,6 +14,7 @@ mod numbers;
 mod object;
 mod octets;
 
+pub use ber::cert_in_ber;
 pub use cert::{CA, CertOf, DETACHED, EE, TA, cert_octets};
 pub use change::{Change, Place, changed};
 pub use crl::{CA_CRL, CrlOf, TA_CRL, crl_octets};

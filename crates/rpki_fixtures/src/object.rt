@@ -1,5 +1,6 @@
 //! Signed objects put together from values (RFC 5652, RFC 6488).
 
+use crate::ber::{cert_in_ber, in_pieces, indefinite};
 use crate::cert::{CertOf, EE, cert_octets};
 use crate::octets::{joined, key_identifier, signature_of, value};
 use bytes::Bytes;
@@ -10,18 +11,20 @@ use std::alloc::{AllocError, Global};
 /// A value of the structure.
 #[derive(Clone, Copy, Debug, PartialEq, Eq)]
 pub enum Field {
-    /// The identifier of signed data, and what stands under [0].
+    /// The identifier of signed data, what stands under [0], and the only value in it.
     InfoType,
     Info,
+    SignedData,
     /// The version, the algorithms, the content, the certificates and the signers.
     Version,
     Digests,
     Encapsulated,
     Certificates,
     Signers,
-    /// The type of the content, and what stands under [0].
+    /// The type of the content, what stands under [0], and the only value in it.
     Type,
     Octets,
+    Content,
     /// The algorithm, the certificate and the signer, each the only one.
     Digest,
     Certificate,
@@ -36,9 +39,10 @@ pub enum Field {
 }
 
 /// Each of them.
-pub static FIELDS: [Field; 18] = [
+pub static FIELDS: [Field; 20] = [
     Field::InfoType,
     Field::Info,
+    Field::SignedData,
     Field::Version,
     Field::Digests,
     Field::Encapsulated,
@@ -46,6 +50,7 @@ pub static FIELDS: [Field; 18] = [
     Field::Signers,
     Field::Type,
     Field::Octets,
+    Field::Content,
     Field::Digest,
     Field::Certificate,
     Field::Signer,
@@ -84,7 +89,8 @@ pub struct ObjectOf {
     pub time: &'static str,
     /// What stands in the place of a value.
     pub instead: Option<(Field, Instead)>,
-    /// Whether each constructed value has an indefinite length.
+    /// Whether each constructed value has an indefinite length, and the content is in pieces. The
+    /// certificate is in BER then, but for the values of its extensions.
     pub is_indefinite: bool,
 }
 
@@ -111,12 +117,12 @@ pub const GOOD: ObjectOf = ObjectOf {
     is_indefinite: false,
 };
 
-/// id-signedData, id-sha256 and rsaEncryption with a NULL, as values.
+/// id-signedData, id-sha256, and rsaEncryption and the NULL after it, as values.
 const SIGNED_DATA: &[u8] = b"\x06\x09\x2A\x86\x48\x86\xF7\x0D\x01\x07\x02";
 
-const SHA_256: &[u8] = b"\x30\x0B\x06\x09\x60\x86\x48\x01\x65\x03\x04\x02\x01";
+const SHA_256: &[u8] = b"\x06\x09\x60\x86\x48\x01\x65\x03\x04\x02\x01";
 
-const RSA: &[u8] = b"\x30\x0D\x06\x09\x2A\x86\x48\x86\xF7\x0D\x01\x01\x01\x05\x00";
+const RSA: &[u8] = b"\x06\x09\x2A\x86\x48\x86\xF7\x0D\x01\x01\x01\x05\x00";
 
 /// The types of attributes, as values.
 const CONTENT_TYPE: &[u8] = b"\x06\x09\x2A\x86\x48\x86\xF7\x0D\x01\x09\x03";
@@ -135,8 +141,7 @@ fn nested(
     if !of.is_indefinite {
         return value(alloc, identifier, parts);
     }
-    let contents = joined(alloc, parts)?;
-    joined(alloc, &[&[identifier, 0x80], &contents, &[0, 0]])
+    indefinite(alloc, identifier, parts)
 }
 
 /// The octets, and others after them.
@@ -162,6 +167,17 @@ fn put(alloc: Global, of: &ObjectOf, field: Field, octets: &[u8]) -> Result<Vec<
             }
         }
     }
+}
+
+/// What stands in the place of the SEQUENCE of an algorithm.
+fn algorithm(
+    alloc: Global,
+    of: &ObjectOf,
+    field: Field,
+    inside: &[u8],
+) -> Result<Vec<u8>, AllocError> {
+    let octets = nested(alloc, of, 0x30, &[inside])?;
+    put(alloc, of, field, &octets)
 }
 
 /// A signed attribute with one value.
@@ -210,7 +226,7 @@ fn signed(alloc: Global, of: &ObjectOf) -> Result<Vec<u8>, AllocError> {
     let contents = attributes(alloc, of)?;
     let attributes = nested(alloc, of, 0xA0, &[&contents])?;
     let attributes = put(alloc, of, Field::Attributes, &attributes)?;
-    let algorithm = put(alloc, of, Field::Algorithm, RSA)?;
+    let algorithm = algorithm(alloc, of, Field::Algorithm, RSA)?;
     let signature = signature(alloc, of, &contents)?;
     let signature = put(alloc, of, Field::Signature, &signature)?;
     joined(alloc, &[&attributes, &algorithm, &signature])
@@ -220,7 +236,7 @@ fn signed(alloc: Global, of: &ObjectOf) -> Result<Vec<u8>, AllocError> {
 fn signer(alloc: Global, of: &ObjectOf) -> Result<Vec<u8>, AllocError> {
     let version = put(alloc, of, Field::SignerVersion, b"\x02\x01\x03")?;
     let sid = sid(alloc, of)?;
-    let digest = put(alloc, of, Field::SignerDigest, SHA_256)?;
+    let digest = algorithm(alloc, of, Field::SignerDigest, SHA_256)?;
     let signed = signed(alloc, of)?;
     let signer = nested(alloc, of, 0x30, &[&version, &sid, &digest, &signed])?;
     let signer = put(alloc, of, Field::Signer, &signer)?;
@@ -230,13 +246,12 @@ fn signer(alloc: Global, of: &ObjectOf) -> Result<Vec<u8>, AllocError> {
 
 /// The octets of the content: where each length is indefinite, in three pieces.
 fn octets(alloc: Global, of: &ObjectOf) -> Result<Vec<u8>, AllocError> {
-    if !of.is_indefinite {
-        return value(alloc, 0x04, &[of.content]);
-    }
-    let (front, rest) = of.content.split_at(of.content.len() / 2);
-    let front = value(alloc, 0x04, &[front])?;
-    let rest = value(alloc, 0x04, &[rest])?;
-    nested(alloc, of, 0x24, &[&front, b"\x04\x00", &rest])
+    let octets = if of.is_indefinite {
+        in_pieces(alloc, of.content)?
+    } else {
+        value(alloc, 0x04, &[of.content])?
+    };
+    put(alloc, of, Field::Content, &octets)
 }
 
 /// The content and its type.
@@ -251,7 +266,11 @@ fn encapsulated(alloc: Global, of: &ObjectOf) -> Result<Vec<u8>, AllocError> {
 
 /// The certificate.
 fn certificates(alloc: Global, of: &ObjectOf) -> Result<Vec<u8>, AllocError> {
-    let cert = cert_octets(alloc, &of.cert)?;
+    let cert = if of.is_indefinite {
+        cert_in_ber(alloc, &of.cert)?
+    } else {
+        cert_octets(alloc, &of.cert)?
+    };
     let cert = put(alloc, of, Field::Certificate, &cert)?;
     let certs = nested(alloc, of, 0xA0, &[&cert])?;
     put(alloc, of, Field::Certificates, &certs)
@@ -260,14 +279,15 @@ fn certificates(alloc: Global, of: &ObjectOf) -> Result<Vec<u8>, AllocError> {
 /// What is signed.
 fn signed_data(alloc: Global, of: &ObjectOf) -> Result<Vec<u8>, AllocError> {
     let version = put(alloc, of, Field::Version, b"\x02\x01\x03")?;
-    let digest = put(alloc, of, Field::Digest, SHA_256)?;
+    let digest = algorithm(alloc, of, Field::Digest, SHA_256)?;
     let digests = nested(alloc, of, 0x31, &[&digest])?;
     let digests = put(alloc, of, Field::Digests, &digests)?;
     let content = encapsulated(alloc, of)?;
     let certs = certificates(alloc, of)?;
     let signer = signer(alloc, of)?;
     let head = joined(alloc, &[&version, &digests])?;
-    nested(alloc, of, 0x30, &[&head, &content, &certs, &signer])
+    let signed = nested(alloc, of, 0x30, &[&head, &content, &certs, &signer])?;
+    put(alloc, of, Field::SignedData, &signed)
 }
 
 /// The octets of a signed object (RFC 5652, section 3). No clause says what they are: the form of

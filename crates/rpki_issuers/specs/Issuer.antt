@@ -16,7 +16,7 @@ use Rattle.rpki_certs.specs.Verify.{Verdict}
 use Rattle.rpki_issuers.specs.declared.issuer.IssuerError.{IssuerError}
 use Rattle.rpki_issuers.specs.declared.issuer.IssuerError.TheVariants.{Decode, Validation}
 
--- the octets of each
+-- the octets of each file
 abbrev pub octets_of : List (Vec ℕ Global) → List (List ℕ)
 octets_of files = map (λ file. file.items) files
 
@@ -67,7 +67,11 @@ Follows verdict now first (octets ∷ others) result =
     (next : Result Validated IssuerError) × IsIssued verdict now first octets next
     × Then (λ valid. Follows verdict now valid others result) next result
 
--- What is answered of the octets of a trust anchor and of a chain under it.
+-- What is answered of the octets of a trust anchor's certificate and of a chain of certificates,
+-- where verdict tells which signatures are good and now is the moment. Each certificate is read and
+-- valid, the first as a trust anchor's and each of the chain as a CA's under the one before: then
+-- the answer is the last one, with its numbers. Else it is the fault of the first that is not,
+-- unless memory ran out.
 abbrev pub MakesIssuer : Verdict → Moment → List ℕ → List (List ℕ) → Result Validated IssuerError
     → Type 0
 MakesIssuer verdict now anchor chain result =

@@ -5,7 +5,7 @@ use Rattle.rpki_faults.specs.Text.Validation.{validation_text}
 use Rattle.rpki_issuers.specs.declared.issuer.IssuerError.{IssuerError}
 use Rattle.rpki_issuers.specs.declared.issuer.IssuerError.TheVariants.{Decode, Validation}
 
--- that of the fault in it
+-- the text of the fault in it
 abbrev pub issuer_text : IssuerError → List ℕ
 issuer_text (Decode error) = error_text error
 issuer_text (Validation error) = validation_text error

@@ -37,7 +37,7 @@ abbrev pub key_contents : List ℕ → List ℕ
 key_contents bits =
     algorithm_and_null rsa_encryption ++ value_octets BIT_STRING (bit_string_contents bits 0)
 
--- What a key is written as.
+-- The octets that a key with these bits is written as.
 abbrev pub key_octets : List ℕ → List ℕ
 key_octets bits = value_octets SEQUENCE (key_contents bits)
 

@@ -10,7 +10,7 @@ use Rattle.sha2.specs.Sha256.{sha256}
 abbrev pub IsStandInSignature : List ℕ → List ℕ → List ℕ → Type 0
 IsStandInSignature key message signature = signature ≡ sha256 (key ++ message)
 
--- The same, as a test.
+-- Whether the signature is the digest of the key's bits and the message: a test.
 abbrev pub is_stand_in_signature : List ℕ → List ℕ → List ℕ → Bool
 is_stand_in_signature key message signature = bytes_eq signature (sha256 (key ++ message))
 
@@ -26,7 +26,8 @@ pub record Turns : Type 0 where
 abbrev pub is_told : Turns → Bool
 is_told turns = turns.fails_in == 1
 
--- The same after a call, where next is the number of the next key that signs once.
+-- What is seen of the stand-in's signer after a call, where next is the number of the next key that
+-- signs once.
 abbrev pub after_call : Turns → ℕ → Turns
 after_call turns next = record {
   next = next;
@@ -34,8 +35,8 @@ after_call turns next = record {
   failures = if is_told turns then turns.failures + 1 else turns.failures;
 }
 
--- The same after a call that signs once: its key's number is not used again before 2^64 others,
--- also where memory ran out. Where the call was told to fail, no number is used.
+-- What is seen of it after a call that signs once: its key's number is not used again before 2^64
+-- others, also where memory ran out. Where the call was told to fail, no number is used.
 abbrev pub after_one_off : Turns → Turns
 after_one_off turns =
     after_call turns (if is_told turns then turns.next else (turns.next + 1) % 2 ^ 64)

@@ -6,6 +6,7 @@ use Rattle.std.proofs.lemmas.Bool.{eqb-false}
 use Rattle.rpki_der.specs.declared.mode.Mode.TheVariants.{Der}
 use Rattle.rpki_der.specs.Read.Parse.{body_at, value_at, any_at, octets_at}
 use Rattle.rpki_der.proofs.Reading.Strings.{octets-none, octets-der, octets_next}
+use Rattle.rpki_lists.specs.Slice.{FindsFront}
 
 any-none : (t : ℕ) (b : List ℕ) → body_at t Der b ≡ None → any_at Der (t ∷ b) ≡ None
 unfolding any_at
@@ -38,3 +39,10 @@ at-none = octets-none 32 Der [] refl
 pub octets-in-der : (b : List ℕ) → octets_at 32 Der b ≡ value_at 4 Der b
 octets-in-der [] = at-none
 octets-in-der (t ∷ b) = by-tag t b (nat_eq t 4) refl
+
+-- what is found as one value is found as a string
+pub as-string : {T : Type 0} (view : T → List ℕ) (octets : List ℕ) (result : Option T)
+    (rest : List ℕ) → FindsFront view (value_at 4) octets result rest
+    → FindsFront view (octets_at 32) octets result rest
+as-string view octets None rest h = octets-in-der octets ∙ h
+as-string view octets (Some t) rest h = octets-in-der octets ∙ h

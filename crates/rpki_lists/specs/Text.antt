@@ -4,7 +4,7 @@ use Rattle.rpki_der.specs.Text.Reason.{reason_text}
 use Rattle.rpki_lists.specs.declared.kind.Refused.{Refused}
 use Rattle.rpki_lists.specs.declared.kind.Refused.TheVariants.{Malformed, For}
 
--- why an entry is refused
+-- The text that says why an entry is refused.
 abbrev pub refused_text : Refused → List ℕ
 refused_text Malformed = codes "malformed"
 refused_text (For reason) = reason_text reason

@@ -2,18 +2,19 @@
 
 ghost use Rattle.std.specs.Prelude.{◌≡◌, ◌<◌, ◌^◌, ℕ, List, Option, MatchOption, All, length};
 ghost use Rattle.std.specs.List.{flat_map};
-ghost use Rattle.rpki_der.specs.Tags.{SEQUENCE, OCTET_STRING};
+ghost use Rattle.rpki_der.specs.Tags.{INTEGER, OCTET_STRING, IA5_STRING, SEQUENCE};
 ghost use Rattle.rpki_der.specs.Numbers.{MAX_DEPTH};
 ghost use Rattle.rpki_der.specs.declared.mode.Mode.TheVariants.{Der};
-ghost use Rattle.rpki_der.specs.Grammar.{IsBytes, HasNoFront};
-ghost use Rattle.rpki_der.specs.Read.Parse.{octets_at, value_at};
+ghost use Rattle.rpki_der.specs.Grammar.{IsBytes, HasNoFront, Value, IntegerBelow, BitString};
+ghost use Rattle.rpki_der.specs.Grammar.{Ia5String, OctetString};
+ghost use Rattle.rpki_der.specs.Read.Parse.{octets_at, value_at, u8_at, u32_at, bits_at, ia5_at};
 ghost use Rattle.rpki_der.specs.Read.Exact.{IsReading};
 ghost use Rattle.rpki_der.specs.Form.Decodes.{IsOnlyFront};
 ghost use Rattle.rpki_der.specs.Form.Law.{TagSet, IsPart, nothing, is};
 ghost use Rattle.rpki_der.specs.Form.Parts.{SequenceOf};
 ghost use Rattle.rpki_der.specs.Write.Written.{value_octets};
 ghost use Rattle.rpki_lists.specs.Entries.{list_at};
-ghost use Rattle.rpki_lists.specs.Slice.{FindsFront};
+ghost use Rattle.rpki_lists.specs.Slice.{FindsFront, IsTakenBy, IsTakenIfNextBy};
 
 use rpki_der::laws::forms::Part;
 
@@ -52,4 +53,21 @@ pub fn fronts_are_found<U: Drop, T: Part>()
 /// 10.2).
 pub fn octet_strings_in_der()
     ensures { (b : List ℕ) → octets_at MAX_DEPTH Der b ≡ value_at OCTET_STRING Der b }
+{}
+
+/// What the calls of a reader of a slice that answer a `T` find, by the grammar of X.690 alone: all
+/// that the octets begin with in the form of the call, in DER, or that they begin with nothing in
+/// it. A clause for each call, by the parser that its contract names.
+pub fn slices_are_read<T: Drop>()
+    ensures contents { (tag : ℕ)
+        → IsTakenBy T (value_at tag) (λ octets contents. Value Der octets tag contents) }
+    ensures sequence { IsTakenBy T (value_at SEQUENCE)
+        (λ octets contents. Value Der octets SEQUENCE contents) }
+    ensures u8 { IsTakenBy T u8_at (IntegerBelow 256 Der) }
+    ensures opt_u8 { IsTakenIfNextBy T INTEGER u8_at (IntegerBelow 256 Der) }
+    ensures u32 { IsTakenBy T u32_at (IntegerBelow (2 ^ 32) Der) }
+    ensures bits { IsTakenBy T bits_at (BitString Der) }
+    ensures ia5 { IsTakenBy T ia5_at (Ia5String Der) }
+    ensures opt_ia5 { IsTakenIfNextBy T IA5_STRING ia5_at (Ia5String Der) }
+    ensures octets { IsTakenBy T (value_at OCTET_STRING) (OctetString Der MAX_DEPTH) }
 {}

@@ -14,14 +14,16 @@ use Rattle.rpki_paths.specs.declared.pairs.PairFault.{PairFault}
 use Rattle.rpki_paths.specs.declared.pairs.PairFault.TheVariants.{Unpaired, LeftOver, Memory}
 use Rattle.rpki_paths.specs.Cert.{Cert, IsIn}
 use Rattle.rpki_paths.specs.Path.{IsDistinct}
-use Rattle.rpki_paths.specs.Pairing.{IsPair, IsPairing, IsPairable, IsMatching, Carried, Crl}
-use Rattle.rpki_paths.specs.Pairing.{Signer, HasKey, HasDistinctIds}
+use Rattle.rpki_paths.specs.Accepting.{HaveDigest, IsFirstMatching}
+use Rattle.rpki_paths.specs.Pairing.{IsPair, IsMatching, Carried, Crl}
+use Rattle.rpki_paths.specs.Pairing.{Signer, HasKey, HasCrl, IsVerifiedBy, HasDistinctIds}
 use Rattle.rpki_paths.specs.Taking.{IsFirst, first, later, PairsOff, AreAt, ArePaired}
-use Rattle.rpki_paths.specs.Taking.{AreUnpaired, AllVerifyEach}
+use Rattle.rpki_paths.specs.Taking.{AreAllPaired, AreUnpaired, AllVerifyEach}
 use Rattle.rpki_paths.specs.Walk.{placed}
 use Rattle.rpki_paths.specs.Grant.{authorities}
 use Rattle.rpki_paths.specs.Laws.{RefusalIsRight}
-use Rattle.rpki_paths.proofs.Mapping.{same_at, map_pairing}
+use Rattle.rpki_paths.proofs.Mapping.{same_at, map_pairs}
+use Rattle.rpki_paths.proofs.PairingOff.{pairs_are_pairing}
 use Rattle.rpki_paths.proofs.Mapping.{unmatched_is_not_accepted}
 use Rattle.rpki_paths.proofs.Granting.{refused_is_not_accepted}
 use Rattle.rpki_paths.proofs.Verdicts.{partners_length, verdicts_are_few}
@@ -39,14 +41,14 @@ at_in_range ys (n ∷ places) (p ∷ items) h k (inr i) = at_in_range ys places 
 
 module _ {X Y A B : Type 0} (f : X → A) (g : Y → B) (R : X → Y → Type 0) (S : A → B → Type 0)
     (same : (x : X) (y : Y) → R x y ↔ S (f x) (g y)) where
-  -- the partners that stand at the places of a pairing
-  pub found_pairing : (xs : List X) (ys : List Y) (places : List ℕ) (found : List Y)
+  -- the partners that stand at the places of what is paired
+  pub found_pairs : (xs : List X) (ys : List Y) (places : List ℕ) (found : List Y)
       → ArePaired R xs ys places → AreAt ys places found
-      → IsPairing S (map f xs) (map g found) (map g ys)
-  found_pairing xs ys places found p stands =
-      subst (λ l. IsPairing S (map f xs) (map g l) (map g ys))
+      → PairsOff S (map f xs) (map g found) (map g ys) []
+  found_pairs xs ys places found p stands =
+      subst (λ l. PairsOff S (map f xs) (map g l) (map g ys) [])
       (same_at ys places p.partners found p.at_places stands)
-      (map_pairing f g R S same xs p.partners ys p.pairing)
+      (map_pairs f g R S same xs p.partners ys [] p.first)
 
 pub as_many_found : {X Y : Type 0} (R : X → Y → Type 0) (xs : List X) (ys : List Y)
     (places : List ℕ) (found : List Y) → ArePaired R xs ys places → AreAt ys places found
@@ -64,21 +66,13 @@ module _ {X A B : Type 0} (f : X → A) (R : X → B → Type 0) (S : A → B �
   back_first x (first {y} h) = first ((same x y).1 h)
   back_first x (later {z} n h) = later (λ s. n ((same x z).0 s)) (back_first x h)
 
-  back_pairs : (xs : List X) (ps ys left : List B) → PairsOff S (map f xs) ps ys left
+  pub back_pairs : (xs : List X) (ps ys left : List B) → PairsOff S (map f xs) ps ys left
       → PairsOff R xs ps ys left
   back_pairs [] [] ys left h = h
   back_pairs [] (p ∷ ps) ys left h = absurd h
   back_pairs (x ∷ xs) [] ys left h = absurd h
   back_pairs (x ∷ xs) (p ∷ ps) ys left h =
       (h.0, back_first x h.1, back_pairs xs ps h.0 left h.2)
-
-  pub back_pairing : (xs : List X) (ps ys : List B) → IsPairing S (map f xs) ps ys
-      → IsPairing R xs ps ys
-  back_pairing [] [] ys h = h
-  back_pairing [] (p ∷ ps) ys h = absurd h
-  back_pairing (x ∷ xs) [] ys h = absurd h
-  back_pairing (x ∷ xs) (p ∷ ps) ys h =
-      ((same x p).1 h.0, (h.1.0, h.1.1, back_pairing xs ps h.1.0 h.1.2))
 
   split_image : (xs : List X) (done : List A) (y : A) (more : List A)
       → map f xs ≡ done ++ y ∷ more
@@ -137,11 +131,11 @@ module _ {X : Type 0} (signer : X → Signer) (s : X → List ℕ) (sid : (x : X
         ap (λ k. k ∷ map s xs) (sid x) ∙ ap (λ l. (signer x).sid ∷ l) (map_sid xs)
 
     pub keys_paired : (xs : List X) (keys : List (List ℕ)) (places : List ℕ)
-        → ArePaired IsSame (map s xs) keys places → IsPairable HasKey (map signer xs) keys
+        → ArePaired IsSame (map s xs) keys places → AreAllPaired HasKey (map signer xs) keys
     keys_paired xs keys places h = (
       h.partners,
-      back_pairing (λ (z : Signer). z.sid) HasKey IsSame (λ x y. (λ p. p, λ p. p)) (map signer xs)
-          h.partners keys (subst (λ l. IsPairing IsSame l h.partners keys) (map_sid xs) h.pairing),
+      back_pairs (λ (z : Signer). z.sid) HasKey IsSame (λ x y. (λ p. p, λ p. p)) (map signer xs)
+          h.partners keys [] (subst (λ l. PairsOff IsSame l h.partners keys []) (map_sid xs) h.first),
     )
 
     pub keys_unpaired : (xs : List X) (keys : List (List ℕ)) (fault : PairFault)
@@ -170,19 +164,36 @@ module _ {A B : Type 0} (f : A → B) (P : B → Bool) where
       → ¬ ((y : B) → IsIn y (map f xs) → P y ≡ true)
   not_all xs e h = true≢false (sym (of_all xs h) ∙ e)
 
+-- ---- what is paired, each taking the first that fits, is a matching
+
+pub first_matching : (a : Carried) (ees : List Cert) (crls : List Crl)
+    → AreAllPaired HasKey a.signers a.subject_keys → HaveDigest a
+    → PairsOff HasCrl a.cas crls a.crls [] → PairsOff IsVerifiedBy a.signers ees a.ees []
+    → IsFirstMatching a ees crls
+first_matching a ees crls keyed digests of_cas of_signers = record {
+  matching = record {
+    keys = (keyed.0, pairs_are_pairing HasKey a.signers keyed.0 a.subject_keys keyed.1);
+    digests = digests;
+    signed = pairs_are_pairing IsVerifiedBy a.signers ees a.ees of_signers;
+    crl_of = pairs_are_pairing HasCrl a.cas crls a.crls of_cas;
+  };
+  of_cas = of_cas;
+  of_signers = of_signers;
+}
+
 -- ---- refusals
 
 pub refusal_is_right : RefusalIsRight
 refusal_is_right a NotValid paths dist other h acc = h acc.valid
 refusal_is_right a (Crls fault) paths dist other h acc =
-    unmatched_is_not_accepted a fault paths dist other (inr (inr h)) acc
+    unmatched_is_not_accepted a fault paths dist other (inr (inr h.1)) acc
 refusal_is_right a (Keys fault) paths dist other h acc =
-    unmatched_is_not_accepted a fault paths dist other (inl h) acc
-refusal_is_right a Digest paths dist other h acc = h acc.found.matching.digests
+    unmatched_is_not_accepted a fault paths dist other (inl h.1) acc
+refusal_is_right a Digest paths dist other h acc = h.1 acc.found.matching.digests
 refusal_is_right a (Signers fault) paths dist other h acc =
-    unmatched_is_not_accepted a fault paths dist other (inr (inl h)) acc
+    unmatched_is_not_accepted a fault paths dist other (inr (inl h.1)) acc
 refusal_is_right a (Walks fault) paths dist other h acc =
-    refused_is_not_accepted a h.0 h.1 fault dist h.2 other h.3 paths acc
+    refused_is_not_accepted a h.1.0 h.1.1 fault dist h.1.2.matching other h.1.3 paths acc
 refusal_is_right a Wanting paths dist other h acc = other tt
 
 -- ---- the count of verdicts

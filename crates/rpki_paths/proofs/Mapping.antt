@@ -84,7 +84,7 @@ module _ {X Y A B : Type 0} (f : X → A) (g : Y → B) (R : X → Y → Type 0)
     (map g h.1.0, map_picked g h.1.1, map_pairing xs ps h.1.0 h.1.2),
   )
 
-  map_pairs : (xs : List X) (ps ys left : List Y) → PairsOff R xs ps ys left
+  pub map_pairs : (xs : List X) (ps ys left : List Y) → PairsOff R xs ps ys left
       → PairsOff S (map f xs) (map g ps) (map g ys) (map g left)
   map_pairs [] [] ys left h = ap (map g) h
   map_pairs [] (p ∷ ps) ys left h = absurd h

@@ -1,5 +1,5 @@
 -- What the checks of a whole attestation answer (draft-michaelson-rpki-rta).
-use Rattle.std.specs.Prelude.{◌≡◌, List, map, IsTrue}
+use Rattle.std.specs.Prelude.{◌≡◌, List, [], map, IsTrue}
 use Rattle.rpki_paths.specs.declared.acceptance.AcceptFault.{AcceptFault}
 use Rattle.rpki_paths.specs.declared.acceptance.AcceptFault.TheVariants.{NotValid, Crls, Keys}
 use Rattle.rpki_paths.specs.declared.acceptance.AcceptFault.TheVariants.{Digest}
@@ -9,14 +9,15 @@ use Rattle.rpki_paths.specs.declared.pairs.PairFault.TheVariants.{Memory as Pair
 use Rattle.rpki_paths.specs.declared.walker.Path.{Path}
 use Rattle.rpki_paths.specs.declared.walks.WalksFault.TheVariants.{Memory as WalksMemory}
 use Rattle.rpki_paths.specs.Cert.{Cert, IsIn}
-use Rattle.rpki_paths.specs.Pairing.{Carried, Crl, Signer, IsPairing, IsMatching}
+use Rattle.rpki_paths.specs.Pairing.{Carried, Crl, Signer, IsMatching}
 use Rattle.rpki_paths.specs.Pairing.{HasKey, IsVerifiedBy, HasCrl}
-use Rattle.rpki_paths.specs.Taking.{AreUnpaired}
+use Rattle.rpki_paths.specs.Taking.{PairsOff, AreAllPaired, AreUnpaired}
 use Rattle.rpki_paths.specs.Walk.{placed}
 use Rattle.rpki_paths.specs.Grant.{authorities, AreValid}
 use Rattle.rpki_paths.specs.Kept.{AreRefused, AreWalked}
 
--- What an attestation carries, as its handles stand for it.
+-- What an attestation carries: its subject keys, and of its other handles the signers, certificates
+-- and CRLs that they stand for by signer, cert and crl.
 abbrev pub carried_of : {S C R : Type 0} → (S → Signer) → (C → Cert) → (R → Crl) →
     Attestation S C R → Carried
 carried_of signer cert crl a = record {
@@ -27,36 +28,58 @@ carried_of signer cert crl a = record {
   crls = map crl a.crls.now;
 }
 
--- These are the CAs, each with the CRL that a pairing gives it, as walks see them.
+-- These are the CAs, as walks see them, each with the first CRL that fits it of those that are
+-- left; none is left over.
 abbrev pub AreListed : {C : Type 0} → (C → Cert) → Carried → List C → Type 0
 AreListed cert a cas =
-    (crls : List Crl) × IsPairing HasCrl a.cas crls a.crls
+    (crls : List Crl) × PairsOff HasCrl a.cas crls a.crls []
     × (placed cert 1 cas ≡ authorities a crls)
 
--- Every certificate is valid, all is paired, and this is kept of the paths of the certificates of
--- the signers, on which every carried CA stands.
+-- All is paired: in carried order each CA takes the first CRL that fits it of those that are left,
+-- and each signer the first end-entity certificate.
+pub record IsFirstMatching (a : Carried) (ees : List Cert) (crls : List Crl) : Type 0 where
+  pub matching : IsMatching a ees crls
+  pub of_cas : PairsOff HasCrl a.cas crls a.crls []
+  pub of_signers : PairsOff IsVerifiedBy a.signers ees a.ees []
+
+-- Every certificate is valid, all is paired, each taking the first that fits, and this is kept of
+-- the paths of the certificates of the signers, on which every carried CA stands.
 pub record AreAccepted {C : Type 0} (cert : C → Cert) (a : Carried) (kept : List (Path C)) :
     Type 0 where
   pub ees : List Cert
   pub crls : List Crl
   pub valid : AreValid a
-  pub matching : IsMatching a ees crls
+  pub paired : IsFirstMatching a ees crls
   pub walked : AreWalked cert (authorities a crls) ees kept
 
 -- Every signer has the digest of the content.
 abbrev pub HaveDigest : Carried → Type 0
 HaveDigest a = (s : Signer) → IsIn s a.signers → IsTrue s.digest_holds
 
--- Why an attestation is not accepted.
+-- Every certificate is valid, and CAs and CRLs pair off.
+abbrev pub PassesCrls : Carried → Type 0
+PassesCrls a = AreValid a × AreAllPaired HasCrl a.cas a.crls
+
+-- So they do, and signers and subject keys pair off.
+abbrev pub PassesKeys : Carried → Type 0
+PassesKeys a = PassesCrls a × AreAllPaired HasKey a.signers a.subject_keys
+
+-- So they do, and every signer has the digest of the content.
+abbrev pub PassesDigests : Carried → Type 0
+PassesDigests a = PassesKeys a × HaveDigest a
+
+-- Why an attestation is not accepted. The checks are asked in this order, and the first that fails
+-- is answered: those before it are passed.
 abbrev pub WhyNot : Carried → AcceptFault → Type 0
 WhyNot a NotValid = ¬ (AreValid a)
-WhyNot a (Crls fault) = AreUnpaired HasCrl a.cas a.crls fault
-WhyNot a (Keys fault) = AreUnpaired HasKey a.signers a.subject_keys fault
-WhyNot a Digest = ¬ (HaveDigest a)
-WhyNot a (Signers fault) = AreUnpaired IsVerifiedBy a.signers a.ees fault
+WhyNot a (Crls fault) = AreValid a × AreUnpaired HasCrl a.cas a.crls fault
+WhyNot a (Keys fault) = PassesCrls a × AreUnpaired HasKey a.signers a.subject_keys fault
+WhyNot a Digest = PassesKeys a × ¬ (HaveDigest a)
+WhyNot a (Signers fault) = PassesDigests a × AreUnpaired IsVerifiedBy a.signers a.ees fault
 WhyNot a (Walks fault) =
-    (ees : List Cert) × (crls : List Crl) × IsMatching a ees crls
-    × AreRefused fault (authorities a crls) ees
+    PassesDigests a
+    × ((ees : List Cert) × (crls : List Crl) × IsFirstMatching a ees crls
+    × AreRefused fault (authorities a crls) ees)
 WhyNot a Memory = Unit {0}
 
 -- Memory was wanting.

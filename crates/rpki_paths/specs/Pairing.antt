@@ -16,7 +16,7 @@ IsPairing R (x ∷ xs) [] ys = ⊥
 IsPairing {B} R (x ∷ xs) (p ∷ partners) ys =
     R x p × ((rest : List B) × IsPicked p rest ys × IsPairing R xs partners rest)
 
--- There is a pairing.
+-- There is a pairing of xs with ys by R.
 abbrev pub IsPairable : {A B : Type 0} → (A → B → Type 0) → List A → List B → Type 0
 IsPairable {B} R xs ys = (partners : List B) × IsPairing R xs partners ys
 

@@ -56,7 +56,9 @@ abbrev pub IsCut : {T : Type 0} → (T → ℕ) → Overclaim → List (Block T)
 IsCut f Trim met set cut = IsIntersection f met set cut
 IsCut f Refuse met set cut = cut ≡ met
 
--- What is kept with one more explicit set above a head of this mode.
+-- What is kept of the explicit sets of a path when one more, set, comes above a head of this mode:
+-- alone where nothing was kept (old); else what was kept, cut to the numbers of set under Trim and
+-- as it is under Refuse. The nearest explicit set is set.
 abbrev pub IsRaised : {T : Type 0} → (T → ℕ) → Overclaim → Option (Kept (List (Block T))) →
     List (Block T) → Option (Kept (List (Block T))) → Type 0
 IsRaised f mode old set None = ⊥

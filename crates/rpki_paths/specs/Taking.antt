@@ -19,7 +19,7 @@ pub data IsFirst {A : Type 0} (P : A → Type 0) : A → List A → List A → T
   later : {y z : A} {rest ys : List A} → ¬ (P z) → IsFirst P y rest ys →
       IsFirst P y (z ∷ rest) (z ∷ ys)
 
--- None of the list fits.
+-- P holds of none of ys.
 abbrev pub FitsNone : {A : Type 0} → (A → Type 0) → List A → Type 0
 FitsNone {A} P ys = (y : A) → IsIn y ys → ¬ (P y)
 
@@ -38,6 +38,10 @@ PairsOff R [] (p ∷ partners) ys left = ⊥
 PairsOff R (x ∷ xs) [] ys left = ⊥
 PairsOff {A} {B} R (x ∷ xs) (p ∷ partners) ys left =
     (rest : List B) × IsFirst (R x) p rest ys × PairsOff R xs partners rest left
+
+-- Each in turn takes the first that fits of those that are left, and none is left over.
+abbrev pub AreAllPaired : {A B : Type 0} → (A → B → Type 0) → List A → List B → Type 0
+AreAllPaired {A} {B} R xs ys = (partners : List B) × PairsOff R xs partners ys []
 
 -- The items at these places.
 abbrev pub AreAt : {A : Type 0} → List A → List ℕ → List A → Type 0

@@ -16,13 +16,13 @@ overclaimed_text As = codes "overclaimed AS resources"
 overclaimed_text V4 = codes "overclaimed IPv4 resources"
 overclaimed_text V6 = codes "overclaimed IPv6 resources"
 
--- why items cannot be paired
+-- The text that says why items cannot be paired.
 abbrev pub pair_text : PairFault → List ℕ
 pair_text (PairFault.Unpaired place) = codes "nothing left for item " ++ decimal place
 pair_text PairFault.LeftOver = codes "items left over"
 pair_text PairFault.Memory = codes "out of memory"
 
--- why an end-entity certificate has no path
+-- The text that says why an end-entity certificate has no path.
 abbrev pub path_text : PathFault → List ℕ
 path_text PathFault.NoValidIssuer = codes "no valid issuer"
 path_text PathFault.Returns = codes "path returns to its issuer"
@@ -30,13 +30,13 @@ path_text PathFault.Revoked = codes "certificate revoked"
 path_text (PathFault.NotCovered family) = overclaimed_text family
 path_text PathFault.Memory = codes "out of memory"
 
--- why not all end-entity certificates have paths on which all CAs stand
+-- The text that says why not all end-entity certificates have paths on which all CAs stand.
 abbrev pub walks_text : WalksFault → List ℕ
 walks_text (WalksFault.NoPath fault) = path_text fault
 walks_text (WalksFault.Unused place) = codes "unused CA certificate " ++ decimal place
 walks_text WalksFault.Memory = codes "out of memory"
 
--- why an attestation is not accepted
+-- The text that says why an attestation is not accepted.
 abbrev pub accept_text : AcceptFault → List ℕ
 accept_text AcceptFault.NotValid = codes "invalid certificate"
 accept_text (AcceptFault.Crls fault) = codes "revocation lists: " ++ pair_text fault
@@ -46,20 +46,21 @@ accept_text (AcceptFault.Signers fault) = codes "signers: " ++ pair_text fault
 accept_text (AcceptFault.Walks fault) = walks_text fault
 accept_text AcceptFault.Memory = codes "out of memory"
 
--- why a supply ends a call, where own are the texts of a locator's own faults
+-- The text that says why a supply ends a call, where own are the texts of a locator's own faults.
 abbrev pub supply_text : {F : Type 0} → (F → Option (List ℕ)) → SupplyFault F → Option (List ℕ)
 supply_text own (SupplyFault.NoAnchor fault) = own fault
 supply_text own (SupplyFault.NotCovered family) = Some (overclaimed_text family)
 supply_text own SupplyFault.Memory = Some (codes "out of memory")
 
--- why attested sets are not granted
+-- The text that says why attested sets are not granted.
 abbrev pub final_text : FinalFault → List ℕ
 final_text FinalFault.NotAnchored = codes "path not anchored"
 final_text FinalFault.AsNumbers = codes "AS numbers not those of the paths"
 final_text FinalFault.Addresses = codes "addresses not those of the paths"
 final_text FinalFault.Memory = codes "out of memory"
 
--- why an attestation is not granted, where own are the texts of a locator's own faults
+-- The text that says why an attestation is not granted, where own are the texts of a locator's own
+-- faults.
 abbrev pub grant_text : {F : Type 0} → (F → Option (List ℕ)) → GrantFault F → Option (List ℕ)
 grant_text own (GrantFault.NotAccepted fault) = Some (accept_text fault)
 grant_text own (GrantFault.NotSupplied fault) = supply_text own fault

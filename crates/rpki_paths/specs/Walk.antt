@@ -15,17 +15,17 @@ use Rattle.rpki_paths.specs.Cert.{Cert, Numbers, IsIn, IsSelfSigned, at_place}
 use Rattle.rpki_paths.specs.Sets.{StandsFor, IsCovered}
 use Rattle.rpki_paths.specs.Path.{IsChain, IsOff, IsPath, IsLinkCovered, explicit_sets}
 
--- What is kept in a family.
+-- What is kept of the explicit sets of a path in one family, of what sets keeps in all three.
 abbrev pub kept_at : KeptSets → Family → Option (Kept Numbers)
 kept_at sets As = sets.asn
 kept_at sets V4 = sets.v4
 kept_at sets V6 = sets.v6
 
--- It holds in each family.
+-- P holds in each family.
 abbrev pub InEach : (Family → Type 0) → Type 0
 InEach P = P As × P V4 × P V6
 
--- It fails in this family, and in none before it.
+-- P fails in this family, and in none before it: AS numbers come first, then IPv4, then IPv6.
 abbrev pub FailsFirst : (Family → Type 0) → Family → Type 0
 FailsFirst P As = ¬ (P As)
 FailsFirst P V4 = P As × ¬ (P V4)

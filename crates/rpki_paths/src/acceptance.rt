@@ -1,15 +1,15 @@
 //! Whether an attestation is accepted: all that it carries is valid and paired, and has paths.
 
-ghost use Rattle.std.specs.Prelude.{◌≡◌, ◌↔◌, ◌<◌, ◌≤◌, ◌+◌, ◌*◌, ℕ, length, map, Some};
+ghost use Rattle.std.specs.Prelude.{◌≡◌, ◌↔◌, ◌<◌, ◌≤◌, ◌+◌, ◌*◌, ℕ, [], length, map, Some};
 ghost use Rattle.std.specs.Prelude.{IfOk, IfErr, OnOk};
 ghost use Rattle.std.specs.List.{list_all};
 ghost use Rattle.rpki_paths.specs.declared.acceptance.AcceptFault.{AcceptFault};
 ghost use Rattle.rpki_paths.specs.Accepting.{carried_of, AreListed, AreAccepted, WhyNot};
+ghost use Rattle.rpki_paths.specs.Accepting.{PassesCrls, PassesDigests};
 ghost use Rattle.rpki_paths.specs.Cert.{IsIn};
-ghost use Rattle.rpki_paths.specs.Grant.{HaveCrls};
-ghost use Rattle.rpki_paths.specs.Pairing.{Crl, Signer, HasDistinctIds, HasKey, IsPairable};
-ghost use Rattle.rpki_paths.specs.Pairing.{IsPairing, IsVerifiedBy};
-ghost use Rattle.rpki_paths.specs.Taking.{AreAt, AllVerifyEach};
+ghost use Rattle.rpki_paths.specs.Grant.{HaveCrls, AreValid};
+ghost use Rattle.rpki_paths.specs.Pairing.{Crl, Signer, HasDistinctIds, HasKey, IsVerifiedBy};
+ghost use Rattle.rpki_paths.specs.Taking.{AreAt, AllVerifyEach, AreAllPaired, PairsOff};
 ghost use Rattle.rpki_paths.specs.Texts.{accept_text};
 
 use crate::asked::Asked;
@@ -216,7 +216,8 @@ fn list_cas<S: CarriedSigner<C>, C: CarriedCert<R> + Accepts<R, L>, R: Copy, L: 
 ) -> Result<Vec<C>, AcceptFault>
     ensures listed { IfOk result (λ cas.
         AreListed C.cert (carried_of S.signer C.cert C.crl a.now) cas.items) }
-    ensures refused { IfErr result (WhyNot (carried_of S.signer C.cert C.crl a.now)) }
+    ensures refused { IfErr result (λ fault. AreValid (carried_of S.signer C.cert C.crl a.now) →
+        WhyNot (carried_of S.signer C.cert C.crl a.now) fault) }
     ensures cost { OnOk result (AllVerifyEach (λ d. d.ski) (λ l. l.aki) (λ d l. l.verifies d.key)
         (map C.cert a.now.cas.now) (map C.crl a.now.crls.now) →
         asked.new ≤ asked.old + 1 * length (map C.cert a.now.cas.now)) }
@@ -237,8 +238,9 @@ fn take_keys<S: CarriedSigner<C>, C: CarriedCert<R>, R, L: Ledger>(
     asked: &mut Asked<L>,
 ) -> Result<(), AcceptFault>
     ensures paired { OnOk result
-        (IsPairable HasKey (map S.signer a.now.signers.now) a.now.subject_keys.now) }
-    ensures refused { IfErr result (WhyNot (carried_of S.signer C.cert C.crl a.now)) }
+        (AreAllPaired HasKey (map S.signer a.now.signers.now) a.now.subject_keys.now) }
+    ensures refused { IfErr result (λ fault. PassesCrls (carried_of S.signer C.cert C.crl a.now) →
+        WhyNot (carried_of S.signer C.cert C.crl a.now) fault) }
     ensures cost { OnOk result (asked.new ≤ asked.old) }
 {
     let ids = sought::<S, C>(alloc, a.signers)?;
@@ -254,9 +256,11 @@ fn take_ees<S: CarriedSigner<C> + Accepts<C, L>, C: CarriedCert<R>, R, L: Ledger
     a: &Attestation<S, C, R>,
     asked: &mut Asked<L>,
 ) -> Result<Vec<C>, AcceptFault>
-    ensures paired { IfOk result (λ ees. IsPairing IsVerifiedBy
-        (map S.signer a.now.signers.now) (map C.cert ees.items) (map C.cert a.now.ees.now)) }
-    ensures refused { IfErr result (WhyNot (carried_of S.signer C.cert C.crl a.now)) }
+    ensures paired { IfOk result (λ ees. PairsOff IsVerifiedBy
+        (map S.signer a.now.signers.now) (map C.cert ees.items) (map C.cert a.now.ees.now) []) }
+    ensures refused { IfErr result (λ fault.
+        PassesDigests (carried_of S.signer C.cert C.crl a.now) →
+        WhyNot (carried_of S.signer C.cert C.crl a.now) fault) }
     ensures cost { OnOk result (AllVerifyEach (λ s. s.sid) (λ e. e.ski) (λ s e. s.verifies e.key)
         (map S.signer a.now.signers.now) (map C.cert a.now.ees.now) →
         asked.new ≤ asked.old + 1 * length (map S.signer a.now.signers.now)) }
@@ -267,11 +271,12 @@ fn take_ees<S: CarriedSigner<C> + Accepts<C, L>, C: CarriedCert<R>, R, L: Ledger
     }
 }
 
-/// Accepts an attestation: every certificate is valid, CAs and CRLs, signers and subject keys,
-/// signers and end-entity certificates pair off, the signers have the digest of the content, and
-/// the walks from the certificates of the signers find paths on which all CAs stand. An error is
-/// the first of these that does not hold, or want of memory. Of s signers, l CRLs and a CAs, with
-/// distinct identifiers, at most s + l + s * a verdicts are asked.
+/// Accepts an attestation. In this order: every certificate is valid, CAs and CRLs pair off, and
+/// signers and subject keys; the signers have the digest of the content; signers and end-entity
+/// certificates pair off; and the walks from the certificates of the signers find paths on which
+/// all CAs stand. Whatever is paired takes the first that fits and is left. An error is the first
+/// of these that does not hold, or want of memory. Of s signers, l CRLs and a CAs, with distinct
+/// identifiers, at most s + l + s * a verdicts are asked where it succeeds.
 pub fn accept<S, C, R: Copy, L: Ledger>(
     alloc: Global,
     a: &Attestation<S, C, R>,

@@ -4,9 +4,9 @@ ghost use Rattle.std.specs.Prelude.{◌≤◌, ◌+◌, ◌*◌, length, map, If
 ghost use Rattle.rpki_paths.specs.Accepting.{carried_of, AreAccepted};
 ghost use Rattle.rpki_paths.specs.Final.{attested_sets};
 ghost use Rattle.rpki_paths.specs.Grant.{IsGranted};
-ghost use Rattle.rpki_paths.specs.Granting.{LacksMemory};
+ghost use Rattle.rpki_paths.specs.Granting.{LacksMemory, WhyNotGranted};
 ghost use Rattle.rpki_paths.specs.Pairing.{HasDistinctIds};
-ghost use Rattle.rpki_paths.specs.Supplied.{supply_of};
+ghost use Rattle.rpki_paths.specs.Supplied.{supply_of, refusal_of};
 ghost use Rattle.rpki_paths.specs.Texts.{grant_text};
 
 use crate::acceptance::{AcceptFault, Attestation, CarriedCert, CarriedSigner, accept};
@@ -67,6 +67,10 @@ where
         HasDistinctIds (carried_of S.signer C.cert C.crl a.now) →
         ¬ (IsGranted (carried_of S.signer C.cert C.crl a.now)
         (map (supply_of T.key U.ski U.key U.sets) supplies.now) (attested_sets a.now.sets))) }
+    ensures fault { IfErr result (λ fault.
+        AreAccepted C.cert (carried_of S.signer C.cert C.crl a.now) paths.old →
+        WhyNotGranted C.cert (supply_of T.key U.ski U.key U.sets) (refusal_of T.refuses)
+        (carried_of S.signer C.cert C.crl a.now) supplies.now (attested_sets a.now.sets) fault) }
 {
     match supply_all(paths, supplies) {
         Err(fault) => return Err(GrantFault::NotSupplied(fault)),
@@ -79,8 +83,9 @@ where
 }
 
 /// Whether an attestation is granted under some supplies, handed in one after the other. A yes is
-/// right always, and an error but for memory where identifiers are distinct. Of s signers, l CRLs
-/// and a CAs, with distinct identifiers, a yes asks for at most s + l + s * a verdicts.
+/// right always, and an error but for memory where identifiers are distinct. An error is the first
+/// thing that fails: what `accept` asks, then the supplies, then the end. Of s signers, l CRLs and
+/// a CAs, with distinct identifiers, a yes asks for at most s + l + s * a verdicts.
 pub fn grant<S, C, R: Copy, T, U, L: Ledger>(
     alloc: Global,
     a: &Attestation<S, C, R>,
@@ -98,6 +103,9 @@ where
         HasDistinctIds (carried_of S.signer C.cert C.crl a.now) →
         ¬ (IsGranted (carried_of S.signer C.cert C.crl a.now)
         (map (supply_of T.key U.ski U.key U.sets) supplies.now) (attested_sets a.now.sets))) }
+    ensures fault { IfErr result (WhyNotGranted C.cert (supply_of T.key U.ski U.key U.sets)
+        (refusal_of T.refuses) (carried_of S.signer C.cert C.crl a.now) supplies.now
+        (attested_sets a.now.sets)) }
     ensures cost { OnOk result (HasDistinctIds (carried_of S.signer C.cert C.crl a.now) →
         asked.new ≤ asked.old + (length a.now.signers.now + length a.now.crls.now
         + length a.now.signers.now * length a.now.cas.now)) }

@@ -92,13 +92,14 @@ pub fn unanchored_is_refused()
     ensures { UnanchoredIsRefused }
 {}
 
-/// With distinct identifiers a walk is refused only where there is no covered path.
+/// With distinct identifiers a walk is refused, but for memory, only where there is no covered
+/// path.
 pub fn refused_has_no_path()
     ensures { RefusedHasNoPath }
 {}
 
-/// With distinct identifiers walks from several certificates are refused only where these have no
-/// covered paths on which all CAs stand.
+/// With distinct identifiers walks from several certificates are refused, but for memory, only
+/// where these have no covered paths on which all CAs stand.
 pub fn refused_has_no_paths()
     ensures { RefusedHasNoPaths }
 {}
@@ -113,7 +114,8 @@ pub fn walks_are_accepted<C: Certificate>()
     ensures { WalksAreAccepted C.cert }
 {}
 
-/// With distinct identifiers such walks are refused only where no paths are accepted.
+/// With distinct identifiers such walks are refused, but for memory, only where no paths are
+/// accepted.
 pub fn refused_is_not_accepted()
     ensures { RefusedIsNotAccepted }
 {}
@@ -123,7 +125,7 @@ pub fn each_is_kept<C: Certificate, T: Locator<C>, S: SuppliedCa<C>>()
     ensures { EachIsKept C.cert (supply_of T.key S.ski S.key S.sets) (refusal_of T.refuses) }
 {}
 
-/// A path that a supply declines is anchored by none.
+/// A path that a supply declines, but for memory, is anchored by none.
 pub fn declined_is_unanchored<C: Certificate, T: Locator<C>, S: SuppliedCa<C>>()
     ensures { DeclinedIsUnanchored C.cert (supply_of T.key S.ski S.key S.sets)
         (refusal_of T.refuses) }
@@ -134,7 +136,8 @@ pub fn all_are_kept<C: Certificate, T: Locator<C>, S: SuppliedCa<C>>()
     ensures { AllAreKept C.cert (supply_of T.key S.ski S.key S.sets) (refusal_of T.refuses) }
 {}
 
-/// Where one of some supplies declines a path, some path is anchored by none of them.
+/// Where one of some supplies declines a path, but for memory, some path is anchored by none of
+/// them.
 pub fn refused_is_unanchored<C: Certificate, T: Locator<C>, S: SuppliedCa<C>>()
     ensures { RefusedIsUnanchored C.cert (supply_of T.key S.ski S.key S.sets)
         (refusal_of T.refuses) }
@@ -145,13 +148,13 @@ pub fn yes_is_granted<C: Certificate, T: Locator<C>, S: SuppliedCa<C>>()
     ensures { YesIsGranted C.cert (supply_of T.key S.ski S.key S.sets) (refusal_of T.refuses) }
 {}
 
-/// With distinct identifiers a supply ends the call only where nothing is granted.
+/// With distinct identifiers a supply ends the call, but for memory, only where nothing is granted.
 pub fn unsupplied_is_refused<C: Certificate, T: Locator<C>, S: SuppliedCa<C>>()
     ensures { UnsuppliedIsRefused C.cert (supply_of T.key S.ski S.key S.sets)
         (refusal_of T.refuses) }
 {}
 
-/// With distinct identifiers the end says no only where nothing is granted.
+/// With distinct identifiers the end says no, but for memory, only where nothing is granted.
 pub fn undecided_is_refused<C: Certificate, T: Locator<C>, S: SuppliedCa<C>>()
     ensures { UndecidedIsRefused C.cert (supply_of T.key S.ski S.key S.sets)
         (refusal_of T.refuses) }
@@ -192,7 +195,8 @@ pub fn left_over_is_unpairable<X: Seeks<Y>, Y>()
     ensures { LeftOverIsUnpairable (IsPair X.sought X.held X.verdict) }
 {}
 
-/// Where items that one fits are alike, there is no pairing where they cannot be paired off.
+/// Where items that one fits are alike, there is no pairing where they cannot be paired off, but
+/// for memory.
 pub fn unpaired_is_unpairable<X: Seeks<Y>, Y>()
     ensures { UnpairedIsUnpairable (IsPair X.sought X.held X.verdict) }
 {}
@@ -208,12 +212,14 @@ pub fn placed_are_authorities<C: CarriedCert<R>, R>()
     ensures { PlacedAreAuthorities C.cert C.crl }
 {}
 
-/// With distinct identifiers, where keys, signers or CAs are not paired off, no paths are accepted.
+/// With distinct identifiers, where keys, signers or CAs are not paired off, but for memory, no
+/// paths are accepted.
 pub fn unmatched_is_not_accepted()
     ensures { UnmatchedIsNotAccepted }
 {}
 
-/// With distinct identifiers an attestation is refused only where no paths are accepted.
+/// With distinct identifiers an attestation is refused, but for memory, only where no paths are
+/// accepted.
 pub fn refusal_is_right()
     ensures { RefusalIsRight }
 {}

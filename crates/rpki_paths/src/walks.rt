@@ -93,7 +93,8 @@ fn unmarked(marks: &[u64]) -> usize
 
 /// Walks from each of some end-entity certificates up the CAs, in order. The first that has no path
 /// ends the call with the cause; then a CA that stands on no path is an error, or want of memory.
-/// Among CAs with distinct identifiers each walk asks for at most one verdict of each CA.
+/// Among CAs with distinct identifiers a call that succeeds asks for at most as many verdicts for
+/// each certificate as there are CAs.
 pub fn walk_each<C: Signed<L>, L: Ledger>(
     alloc: Global,
     ees: &[C],

@@ -3,10 +3,7 @@
 ghost use Rattle.std.specs.Prelude.{◌≡◌};
 
 use crate::anchor::NoAnchor;
-use rpki_paths::{
-    Accepts, Asked, CarriedCert, CarriedSigner, Certificate, KeyId, Locator, Overclaim, Seeks,
-    Signed, SuppliedCa,
-};
+use rpki_paths::{Asked, Certificate, KeyId, Locator, Overclaim, Signed, SuppliedCa};
 use rpki_resources::{
     Addr, AsBlock, AsBlocks, AsBlocksBuilder, AsResources, Asn, IpBlock, IpBlocks, IpBlocksBuilder,
     IpResources,
@@ -134,143 +131,6 @@ impl<'a, L: Ledger> Signed<L> for Seen<'a> {
     }
 }
 
-/// A revocation list: whose it is, the key that signed it, and what it lists.
-#[derive(Drop)]
-pub struct List {
-    pub authority: KeyId,
-    pub signer: [u8; 1],
-    pub serials: Vec<u64>,
-}
-
-/// A carried revocation list.
-#[derive(Clone, Copy)]
-pub struct Listed<'a>(pub &'a List);
-
-impl<'a> Seeks<Listed<'a>> for Seen<'a> {
-    ghost use Rattle.std.proofs.Common.{rules};
-    ghost use Rattle.std.specs.Prelude.{nat_eq};
-    ghost use Rattle.std.specs.Cmp.Lexicographic.{pointwise};
-
-    ghost sought = { λ s. s.0.now.subject };
-
-    ghost held = { λ l. l.0.now.authority };
-
-    ghost verdict = { λ s l. pointwise nat_eq l.0.now.signer s.0.now.key };
-
-    ghost price = { 1 };
-
-    fn seeks(&self) -> KeyId {
-        self.0.subject
-    }
-
-    fn identifier(other: &Listed<'a>) -> KeyId {
-        other.0.authority
-    }
-
-    ghost free_is_yes = { Prim.search rules };
-}
-
-impl<'a, L: Ledger> Accepts<Listed<'a>, L> for Seen<'a> {
-    fn accepts(&self, other: &Listed<'a>, asked: &mut Asked<L>) -> bool {
-        asked.count();
-        other.0.signer == self.0.key
-    }
-}
-
-impl<'a> CarriedCert<Listed<'a>> for Seen<'a> {
-    ghost use Rattle.std.specs.Prelude.{nat_eq, ◌==◌, refl};
-    ghost use Rattle.std.specs.List.{list_any};
-    ghost use Rattle.std.specs.Cmp.Lexicographic.{pointwise};
-
-    ghost crl = { λ l. record {
-      aki = l.0.now.authority;
-      serials = λ n. list_any (λ x. x == n) l.0.now.serials.items;
-      verifies = λ k. pointwise nat_eq l.0.now.signer k;
-    } };
-
-    fn is_valid(&self) -> bool {
-        true
-    }
-
-    fn with_crl(&self, list: &Listed<'a>) -> Self {
-        Seen(self.0, list.0.serials.as_slice())
-    }
-
-    ghost seeks_ski = { λ c. refl };
-
-    ghost holds_aki = { λ l. refl };
-
-    ghost verdict_is_crl = { λ c l. refl };
-
-    ghost one_verdict = { refl };
-}
-
-/// A signer: the certificate that it names, the key that verifies it, and its digest.
-#[derive(Clone, Copy, Drop)]
-pub struct Signer {
-    pub sid: KeyId,
-    pub signer: [u8; 1],
-    pub has_digest: bool,
-}
-
-impl<'a> Seeks<Seen<'a>> for Signer {
-    ghost use Rattle.std.proofs.Common.{rules};
-    ghost use Rattle.std.specs.Prelude.{nat_eq};
-    ghost use Rattle.std.specs.Cmp.Lexicographic.{pointwise};
-
-    ghost sought = { λ s. s.sid };
-
-    ghost held = { λ c. c.0.now.subject };
-
-    ghost verdict = { λ s c. pointwise nat_eq s.signer c.0.now.key };
-
-    ghost price = { 1 };
-
-    fn seeks(&self) -> KeyId
-        ensures { result ≡ self.now.sid }
-    {
-        self.sid
-    }
-
-    fn identifier(other: &Seen<'a>) -> KeyId {
-        other.0.subject
-    }
-
-    ghost free_is_yes = { Prim.search rules };
-}
-
-impl<'a, L: Ledger> Accepts<Seen<'a>, L> for Signer {
-    fn accepts(&self, other: &Seen<'a>, asked: &mut Asked<L>) -> bool {
-        asked.count();
-        self.signer == other.0.key
-    }
-}
-
-impl<'a> CarriedSigner<Seen<'a>> for Signer {
-    ghost use Rattle.std.specs.Prelude.{nat_eq, refl};
-    ghost use Rattle.std.specs.Cmp.Lexicographic.{pointwise};
-
-    ghost signer = { λ s. record {
-      sid = s.sid;
-      digest_holds = s.has_digest;
-      verifies = λ k. pointwise nat_eq s.signer k;
-    } };
-
-    fn has_digest(&self) -> bool
-        ensures { result ≡ self.now.has_digest }
-    {
-        self.has_digest
-    }
-
-    ghost seeks_sid = { λ s. refl };
-
-    ghost holds_ski = { λ c. refl };
-
-    ghost verdict_is_own = { λ s c. refl };
-
-    ghost one_verdict = { refl };
-}
-
 /// A trust anchor locator, by its key.
 #[derive(Clone, Copy)]
 pub struct Root {
@@ -347,43 +207,5 @@ impl<'a> SuppliedCa<Seen<'a>> for Above {
         ensures { result.now ≡ self.now.v6 }
     {
         &self.v6
-    }
-}
-
-/// An item that is paired: by an identifier, and by the key that verifies it. It seeks one that has
-/// the identifier and is that key's.
-#[derive(Clone, Copy, Drop)]
-pub struct Item {
-    pub id: KeyId,
-    pub key: u8,
-}
-
-impl Seeks<Item> for Item {
-    ghost use Rattle.std.proofs.Common.{rules};
-    ghost use Rattle.std.specs.Prelude.{◌==◌};
-
-    ghost sought = { λ s. s.id };
-
-    ghost held = { λ s. s.id };
-
-    ghost verdict = { λ s t. s.key == t.key };
-
-    ghost price = { 1 };
-
-    fn seeks(&self) -> KeyId {
-        self.id
-    }
-
-    fn identifier(other: &Item) -> KeyId {
-        other.id
-    }
-
-    ghost free_is_yes = { Prim.search rules };
-}
-
-impl<L: Ledger> Accepts<Item, L> for Item {
-    fn accepts(&self, other: &Item, asked: &mut Asked<L>) -> bool {
-        asked.count();
-        self.key == other.key
     }
 }

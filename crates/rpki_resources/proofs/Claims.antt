@@ -23,7 +23,7 @@ use Rattle.rpki_resources.specs.Claim.Read.{claim_at, as_claim_at, ip_claim_at, 
 use Rattle.rpki_resources.specs.Claim.Read.{numbers_at, no_domains_at}
 use Rattle.rpki_resources.proofs.AsNumbers.Exact.{as-part}
 use Rattle.rpki_resources.proofs.Addresses.Exact.{ip-part}
-use Rattle.rpki_resources.proofs.Readings.{part-reading}
+use Rattle.rpki_der.proofs.Reading.Unique.{part-reading}
 
 -- NULL
 inherit-part : {X : Type 0}

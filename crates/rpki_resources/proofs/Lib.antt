@@ -5,5 +5,4 @@ pub mod Families
 pub mod Prefixes
 pub mod Readings
 pub mod Sets
-pub mod Taking
 pub mod Texts

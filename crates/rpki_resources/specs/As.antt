@@ -11,7 +11,7 @@ use Rattle.rpki_resources.specs.declared.asn.AsBlock.TheVariants.{Id, Range}
 abbrev pub IsAsn : ℕ → Type 0
 IsAsn n = n < 2 ^ 32
 
--- how a block is named: one number by itself
+-- The block by its name: a block of one number is that number, any other one a range.
 abbrev pub as_block : Block ℕ → AsBlock
 as_block b = if b.min == b.max then Id b.min else Range b.min b.max
 

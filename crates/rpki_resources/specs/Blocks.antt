@@ -44,7 +44,7 @@ IsBlock f b = f b.min ≤ f b.max
 abbrev pub EndBelow : {T : Type 0} → (T → ℕ) → ℕ → List (Block T) → Type 0
 EndBelow f limit bs = All (λ b. f b.max < limit) bs
 
--- the same numbers
+-- Both lists of blocks have the same numbers.
 abbrev pub SameSet : {T : Type 0} → (T → ℕ) → List (Block T) → List (Block T) → Type 0
 SameSet f xs ys = (n : ℕ) → holds f xs n ≡ holds f ys n
 

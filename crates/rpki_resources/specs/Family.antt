@@ -6,7 +6,7 @@ use Rattle.rpki_resources.specs.declared.block.Block.{Block}
 use Rattle.rpki_resources.specs.declared.family.AddressFamily.{AddressFamily}
 use Rattle.rpki_resources.specs.declared.family.AddressFamily.TheVariants.{Ipv4, Ipv6}
 
--- how many bits an address has
+-- How many bits an address of the family has: 32 or 128.
 abbrev pub max_bits : AddressFamily → ℕ
 max_bits Ipv4 = 32
 max_bits Ipv6 = 128

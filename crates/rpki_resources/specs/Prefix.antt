@@ -12,7 +12,7 @@ pub record Network : Type 0 where
 abbrev pub first_of : ℕ → ℕ → ℕ
 first_of addr len = addr - addr % 2 ^ (128 - len)
 
--- the last one
+-- the last address of the prefix of this length that an address is in
 abbrev pub last_of : ℕ → ℕ → ℕ
 last_of addr len = first_of addr len + 2 ^ (128 - len) - 1
 

@@ -42,7 +42,7 @@ with_max_len text (Some len) = text ++ (codes "-" ++ decimal len)
 abbrev pub max_len_text : MaxLenPrefix → List ℕ
 max_len_text m = with_max_len (prefix_text m.family m.prefix) m.max_len
 
--- why a claim has no blocks (this project's own)
+-- The text that says why a claim has no blocks (this project's own).
 abbrev pub blocks_error_text : BlocksError → List ℕ
 blocks_error_text Inherit = codes "inherited resources"
 blocks_error_text Memory = codes "out of memory"

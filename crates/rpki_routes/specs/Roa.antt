@@ -61,7 +61,7 @@ of_family family a = record { family = family; address = a }
 abbrev pub addresses : Roa → List FamilyAddress
 addresses r = map (of_family Ipv4) r.v4 ++ map (of_family Ipv6) r.v6
 
--- the same as it is printed
+-- the prefix of the address and its maximum length, as they are printed
 abbrev pub max_len_prefix : FamilyAddress → MaxLenPrefix
 max_len_prefix a = record {
   family = a.family;
@@ -74,13 +74,13 @@ abbrev pub addr_of : IpAddr → ℕ
 addr_of (V4 addr) = ipv4_bits addr * 2 ^ 96
 addr_of (V6 addr) = ipv6_bits addr
 
--- how an address of the family in 128 bits is shown
+-- The address of the family, held in 128 bits, is this address of the standard library.
 abbrev pub IsShown : AddressFamily → ℕ → IpAddr → Type 0
 IsShown Ipv4 addr (V4 shown) = IsIpv4OfBits shown (addr / 2 ^ 96)
 IsShown Ipv4 addr (V6 shown) = ⊥
 IsShown Ipv6 addr (V4 shown) = ⊥
 IsShown Ipv6 addr (V6 shown) = IsIpv6OfBits shown addr
 
--- that an autonomous system may originate the address
+-- the origin: the prefix of the address, with its maximum length, and the AS that may originate it
 abbrev pub origin_of : ℕ → FamilyAddress → RouteOrigin
 origin_of asn a = record { prefix = max_len_prefix a; asn = asn }

@@ -2,11 +2,9 @@
 
 use bytes::Bytes;
 use rpki_basics::ProviderLimit;
-use rpki_der::{DecodeError, Encode};
-use rpki_resources::Claim;
+use rpki_der::DecodeError;
 use rpki_routes::AsProviderAttestation;
 use std::alloc::{AllocError, Global};
-use std::test::Fail;
 
 /// AS15562 with four providers.
 pub const CONTENT: &[u8] = b"\x30\x1D\xA0\x03\x02\x01\x01\x02\x02\x3C\xCA\x30\x12\x02\x02\x0B\x62\
@@ -150,42 +148,6 @@ fn contents(rt: HostRuntime) -> Result<(), AllocError> {
         for limit in [ProviderLimit::Narrow, ProviderLimit::Wide] {
             assert_eq!(rt; text_of(rt.alloc(), octets, limit)?.as_str(), *text);
         }
-    }
-    Ok(())
-}
-
-#[test]
-fn contents_are_written(rt: HostRuntime) -> Result<(), Fail> {
-    for (octets, _, written) in &ROWS {
-        if let Ok(content) = read(rt.alloc(), octets, ProviderLimit::Narrow)? {
-            let again = content.encode_ref().to_bytes(rt.alloc())?;
-            assert_eq!(rt; again.as_slice(), *written);
-        }
-    }
-    Ok(())
-}
-
-#[test]
-fn sets_and_claims(rt: HostRuntime) -> Result<(), AllocError> {
-    let Ok(content) = read(rt.alloc(), CONTENT, ProviderLimit::Narrow)? else {
-        assert!(rt; false);
-        return Ok(());
-    };
-    let providers = content.provider_as_set();
-    assert!(rt; providers.len() == 4 && !providers.is_empty());
-    let set = providers.to_set(rt.alloc())?;
-    assert_eq!(rt; set.as_slice().first().map(|n| n.into_u32()), Some(2914));
-    assert_eq!(rt; set.len(), 4);
-    match content.as_resources(rt.alloc())?.claim() {
-        Claim::Explicit(blocks) => {
-            let block = blocks
-                .as_slice()
-                .first()
-                .map(|b| (b.min.into_u32(), b.max.into_u32()));
-            assert_eq!(rt; block, Some((15562, 15562)));
-            assert_eq!(rt; blocks.as_slice().len(), 1);
-        }
-        _ => assert!(rt; false),
     }
     Ok(())
 }

@@ -1,10 +1,9 @@
 //! Contents of route origin attestations.
 
 use bytes::Bytes;
-use rpki_der::{DecodeError, Encode};
+use rpki_der::DecodeError;
 use rpki_routes::RouteOriginAttestation;
 use std::alloc::{AllocError, Global};
-use std::test::Fail;
 
 /// AS64496 and 192.0.2.0/24.
 pub const ONE: &[u8] = b"\x30\x17\x02\x03\x00\xFB\xF0\x30\x10\x30\x0E\x04\x02\x00\x01\x30\x08\x30\
@@ -201,36 +200,5 @@ fn contents(rt: HostRuntime) -> Result<(), AllocError> {
     for (octets, text, _) in &ROWS {
         assert_eq!(rt; text_of(rt.alloc(), octets)?.as_str(), *text);
     }
-    Ok(())
-}
-
-#[test]
-fn contents_are_written(rt: HostRuntime) -> Result<(), Fail> {
-    for (octets, _, written) in &ROWS {
-        if let Ok(content) = read(rt.alloc(), octets)? {
-            let again = content.encode_ref().to_bytes(rt.alloc())?;
-            assert_eq!(rt; again.as_slice(), *written);
-        }
-    }
-    Ok(())
-}
-
-#[test]
-fn origins(rt: HostRuntime) -> Result<(), AllocError> {
-    let Ok(content) = read(rt.alloc(), BOTH)? else {
-        assert!(rt; false);
-        return Ok(());
-    };
-    assert!(rt; !content.v4_addrs().is_empty() && !content.v6_addrs().is_empty());
-    let mut text = String::new(rt.alloc());
-    for origin in content.iter_origins() {
-        let (asn, prefix) = (origin.asn, origin.prefix);
-        let one = format!(in rt.alloc(); "{asn} {prefix};")?;
-        text.push_str(&one)?;
-    }
-    assert_eq!(rt;
-        text.as_str(),
-        "AS64496 192.0.2.0/24;AS64496 2001:db8::/32;"
-    );
     Ok(())
 }

@@ -23,12 +23,12 @@ abbrev pub IsInBer : {X : Type 0} → List ℕ → (List ℕ → X → Type 0) �
 IsInBer {X} type form = (octets : List ℕ) (o : Whole X) → ObjectForm type form Der octets o
     → ObjectForm type form Ber octets o
 
--- the same, with the mode that it was read in
+-- A signed object, with the mode that it was read in, and what its content says.
 pub record KeptWhole (X : Type 0) : Type 0 where
   pub object : KeptObject
   pub content : X
 
--- without the mode
+-- the signed object and what its content says, without the mode
 abbrev pub whole_of : {X : Type 0} → KeptWhole X → Whole X
 whole_of k = record { object = k.object.object; content = k.content }
 

@@ -54,7 +54,7 @@ pub record IsProcessed {X : Type 0} (before : List (Check ValidationError))
   pub first : AnswersFirst (before ++ (said_checks said ++ held valid.sets))
       (λ (a : Validated × X). (a.0 ≡ valid) × (a.1 ≡ content)) result
 
--- The same, unless memory runs out.
+-- What `IsProcessed` says, unless memory runs out.
 abbrev pub AnswersAsked : {X : Type 0} → List (Check ValidationError) → (Validated → Type 0)
     → (Result (Unit {0}) ValidationError → Type 0) → (Sets → List (Check ValidationError)) → X
     → Result (Validated × X) ValidationError → Type 0

@@ -51,7 +51,8 @@ family_checks family set list =
     (faults.NoPrefixCovered family unless (HasNone set → list ≡ []))
     ∷ prefix_checks family set list
 
--- Those of IPv4, and then those of IPv6.
+-- What is checked of the validated certificate of a ROA: the prefixes of IPv4, and then those of
+-- IPv6.
 abbrev pub roa_held : Roa → Sets → List (Check VerificationError)
 roa_held r sets = family_checks Ipv4 sets.v4 r.v4 ++ family_checks Ipv6 sets.v6 r.v6
 

@@ -5,7 +5,7 @@ use Rattle.rpki_faults.specs.Text.Validation.{validation_text}
 use Rattle.rpki_signed.specs.declared.check.CheckError.{CheckError}
 use Rattle.rpki_signed.specs.declared.check.CheckError.TheVariants.{Decode, Validation}
 
--- that of the fault in it
+-- the text of the fault in it
 abbrev pub check_text : CheckError → List ℕ
 check_text (Decode error) = error_text error
 check_text (Validation error) = validation_text error

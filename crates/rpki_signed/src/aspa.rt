@@ -135,6 +135,8 @@ impl Content for AsProviderAttestation {
         verify_customer(self, cert)?;
         Ok(())
     }
+
+    fn meaning() {}
 }
 
 impl Signed<AsProviderAttestation> {

@@ -75,6 +75,37 @@ fn check_front<T: Content, C: Crypto, F: FnOnce(&Cert) -> Result<(), ValidationE
     }
 }
 
+/// Whether the octets begin with a good object whose content is of this type and is read by this
+/// rule. What is checked of such objects is said by their kind (`Content`); what is answered, and
+/// where `check_crl` is called, is as `roa` says of a ROA.
+pub fn object<T: Content, C: Crypto, F: FnOnce(&Cert) -> Result<(), ValidationError>>(
+    alloc: Global,
+    bytes: Bytes,
+    strict: bool,
+    issuer: &ResourceCert,
+    crypto: &C,
+    now: Time,
+    check_crl: F,
+    rule: T::Rule,
+) -> Result<(ResourceCert, T), CheckError>
+    requires { MayAsk T.kind (T.form rule) (mode_of strict) (C.digest_of crypto.now)
+        (C.is_signed crypto.now) issuer.now now (FnOnceTakesAt F.FnOnce check_crl) bytes }
+    ensures first { Checks T.kind (T.form rule) (mode_of strict) (C.digest_of crypto.now)
+        (C.is_signed crypto.now) issuer.now now (FnOnceReturnsAt F.FnOnce check_crl) bytes result }
+    ensures exact { IsExact T.kind (T.form rule) (mode_of strict) (C.digest_of crypto.now)
+        (C.is_signed crypto.now) issuer.now now (FnOnceReturnsAt F.FnOnce check_crl) bytes result }
+{
+    let under = Under {
+        alloc,
+        issuer,
+        strict,
+        crypto,
+        moment: now,
+    };
+    T::meaning();
+    check_front(bytes, rule, &under, check_crl)
+}
+
 /// Whether the octets begin with a good manifest (RFC 9286) with the names that the rule takes, as
 /// `roa` says of a ROA. A manifest claims no numbers.
 pub fn manifest<C: Crypto, F: FnOnce(&Cert) -> Result<(), ValidationError>>(
@@ -97,14 +128,7 @@ pub fn manifest<C: Crypto, F: FnOnce(&Cert) -> Result<(), ValidationError>>(
         (C.digest_of crypto.now) (C.is_signed crypto.now) issuer.now now
         (FnOnceReturnsAt F.FnOnce check_crl) bytes result }
 {
-    let under = Under {
-        alloc,
-        issuer,
-        strict,
-        crypto,
-        moment: now,
-    };
-    check_front::<ManifestContent, C, F>(bytes, rule, &under, check_crl)
+    object(alloc, bytes, strict, issuer, crypto, now, check_crl, rule)
 }
 
 /// Whether the octets begin with a good ROA (RFC 9582), read strictly, in DER, or in BER, under
@@ -131,14 +155,7 @@ pub fn roa<C: Crypto, F: FnOnce(&Cert) -> Result<(), ValidationError>>(
     ensures exact { IsExact roa_kind RoaForm (mode_of strict) (C.digest_of crypto.now)
         (C.is_signed crypto.now) issuer.now now (FnOnceReturnsAt F.FnOnce check_crl) bytes result }
 {
-    let under = Under {
-        alloc,
-        issuer,
-        strict,
-        crypto,
-        moment: now,
-    };
-    check_front::<RouteOriginAttestation, C, F>(bytes, (), &under, check_crl)
+    object(alloc, bytes, strict, issuer, crypto, now, check_crl, ())
 }
 
 /// Whether the octets begin with a good ASPA (draft-ietf-sidrops-aspa-profile-15) with at most as
@@ -161,14 +178,7 @@ pub fn aspa<C: Crypto, F: FnOnce(&Cert) -> Result<(), ValidationError>>(
     ensures exact { IsExact aspa_kind (AspaForm limit) (mode_of strict) (C.digest_of crypto.now)
         (C.is_signed crypto.now) issuer.now now (FnOnceReturnsAt F.FnOnce check_crl) bytes result }
 {
-    let under = Under {
-        alloc,
-        issuer,
-        strict,
-        crypto,
-        moment: now,
-    };
-    check_front::<AsProviderAttestation, C, F>(bytes, limit, &under, check_crl)
+    object(alloc, bytes, strict, issuer, crypto, now, check_crl, limit)
 }
 
 /// Whether the octets begin with a good signed checklist (RFC 9323), as `roa` says of a ROA: its
@@ -192,12 +202,5 @@ pub fn rsc<C: Crypto, F: FnOnce(&Cert) -> Result<(), ValidationError>>(
         (C.digest_of crypto.now) (C.is_signed crypto.now) issuer.now now
         (FnOnceReturnsAt F.FnOnce check_crl) bytes result }
 {
-    let under = Under {
-        alloc,
-        issuer,
-        strict,
-        crypto,
-        moment: now,
-    };
-    check_front::<ResourceSignedChecklist, C, F>(bytes, (), &under, check_crl)
+    object(alloc, bytes, strict, issuer, crypto, now, check_crl, ())
 }

@@ -129,6 +129,8 @@ impl Content for ResourceSignedChecklist {
         verify_numbers(self, cert)?;
         Ok(())
     }
+
+    fn meaning() {}
 }
 
 impl Signed<ResourceSignedChecklist> {

@@ -4,6 +4,7 @@ ghost use Rattle.std.specs.Prelude.{◌≡◌, ℕ, List, IfOk};
 ghost use Rattle.rpki_der.specs.Form.Decodes.{Decodes};
 ghost use Rattle.rpki_der.specs.Oid.{IsOid};
 ghost use Rattle.rpki_faults.specs.Checks.{AnswersFirstFault};
+ghost use Rattle.rpki_signed.specs.Good.{Means};
 ghost use Rattle.rpki_signed.specs.Kind.{Kind};
 
 use bytes::Bytes;
@@ -48,6 +49,11 @@ pub trait Content: Clone + Debug + Drop {
     /// Looks at the numbers that the certificate has, after it was validated.
     fn verify_held(&self, cert: &ResourceCert) -> Result<(), ValidationError>
         ensures { AnswersFirstFault (kind.held self.now cert.now.sets) result };
+
+    /// Does nothing: a law, that the checks of a content that was read mean what its kind says in
+    /// words.
+    fn meaning()
+        ensures { (x : Self) → is_content x → Means kind x };
 
     // A copy says the same.
     ghost copies: { (x copy : Self) → Self.Clone.is_clone x copy → copy ≡ x };

@@ -68,6 +68,8 @@ impl Content for ManifestContent {
     fn verify_held(&self, _cert: &ResourceCert) -> Result<(), ValidationError> {
         Ok(())
     }
+
+    fn meaning() {}
 }
 
 impl Signed<ManifestContent> {

@@ -143,6 +143,8 @@ impl Content for RouteOriginAttestation {
         verify_roa(self, cert)?;
         Ok(())
     }
+
+    fn meaning() {}
 }
 
 impl Signed<RouteOriginAttestation> {

@@ -1,8 +1,8 @@
-//! What the four checks answer, beside what is wanted.
+//! What a check answers, beside what is wanted.
 
 use crate::given::{Kind, content_of};
 use bytes::Bytes;
-use rpki_basics::{ManifestRule, ProviderLimit, Time};
+use rpki_basics::Time;
 use rpki_certs::ResourceCert;
 use rpki_der::{DecodeError, Encode, EncodeError};
 use rpki_faults::{ValidationError, VerificationError};
@@ -62,7 +62,7 @@ fn has_numbers(cert: &ResourceCert, want: Three) -> bool {
 }
 
 /// Whether these octets were written.
-fn is_written(written: Result<Vec<u8>, EncodeError>, want: &[u8]) -> Result<bool, AllocError> {
+pub fn is_written(written: Result<Vec<u8>, EncodeError>, want: &[u8]) -> Result<bool, AllocError> {
     match written {
         Ok(octets) => Ok(octets.as_slice() == want),
         Err(EncodeError::Memory) => Err(AllocError),
@@ -71,7 +71,7 @@ fn is_written(written: Result<Vec<u8>, EncodeError>, want: &[u8]) -> Result<bool
 }
 
 /// Whether a yes with this certificate is wanted.
-fn is_yes(cert: &ResourceCert, want: Want) -> bool {
+pub fn is_yes(cert: &ResourceCert, want: Want) -> bool {
     match want {
         Want::Yes(numbers) => has_numbers(cert, numbers),
         Want::Decode(_) => false,
@@ -80,7 +80,7 @@ fn is_yes(cert: &ResourceCert, want: Want) -> bool {
 }
 
 /// Whether this refusal is wanted.
-fn is_refusal(alloc: Global, error: &CheckError, want: Want) -> Result<bool, AllocError> {
+pub fn is_refusal(alloc: Global, error: &CheckError, want: Want) -> Result<bool, AllocError> {
     match (error, want) {
         (CheckError::Decode(DecodeError::Memory), _) => Err(AllocError),
         (CheckError::Validation(ValidationError::Memory), _) => Err(AllocError),
@@ -102,7 +102,7 @@ pub struct Caller {
 }
 
 /// What the caller says.
-fn said(caller: &Caller) -> Result<(), ValidationError> {
+pub fn said(caller: &Caller) -> Result<(), ValidationError> {
     caller.asked.set(caller.asked.get().saturating_add(1));
     if caller.is_refusing {
         return Err(ValidationError::Verification(VerificationError::Caller));
@@ -118,37 +118,6 @@ pub struct Call<'a> {
     pub issuer: &'a ResourceCert,
     pub now: Time,
     pub caller: &'a Caller,
-}
-
-/// Whether the check of a manifest answers this.
-pub fn manifest(call: &Call<'_>, octets: Bytes, want: Want) -> Result<bool, AllocError> {
-    let Call {
-        alloc,
-        strict,
-        issuer,
-        now,
-        caller,
-    } = *call;
-    let any = ManifestRule::Any;
-    match check::manifest(
-        alloc,
-        octets,
-        strict,
-        issuer,
-        &StandIn,
-        now,
-        |_| said(caller),
-        any,
-    ) {
-        Ok((cert, content)) => {
-            let is_yes = is_yes(&cert, want);
-            drop(cert);
-            let written = content.encode_ref().to_bytes(alloc);
-            drop(content);
-            Ok(is_written(written, content_of(Kind::Manifest))? && is_yes)
-        }
-        Err(error) => is_refusal(alloc, &error, want),
-    }
 }
 
 /// Whether the check of a ROA answers this.
@@ -177,80 +146,5 @@ pub fn roa(call: &Call<'_>, octets: Bytes, want: Want) -> Result<bool, AllocErro
             Ok(is_written(written, content_of(Kind::Roa))? && is_yes)
         }
         Err(error) => is_refusal(alloc, &error, want),
-    }
-}
-
-/// Whether the check of an ASPA answers this.
-pub fn aspa(call: &Call<'_>, octets: Bytes, want: Want) -> Result<bool, AllocError> {
-    let Call {
-        alloc,
-        strict,
-        issuer,
-        now,
-        caller,
-    } = *call;
-    let narrow = ProviderLimit::Narrow;
-    match check::aspa(
-        alloc,
-        octets,
-        strict,
-        issuer,
-        &StandIn,
-        now,
-        |_| said(caller),
-        narrow,
-    ) {
-        Ok((cert, content)) => {
-            let is_yes = is_yes(&cert, want);
-            drop(cert);
-            let written = content.encode_ref().to_bytes(alloc);
-            drop(content);
-            Ok(is_written(written, content_of(Kind::Aspa))? && is_yes)
-        }
-        Err(error) => is_refusal(alloc, &error, want),
-    }
-}
-
-/// Whether the check of a checklist answers this.
-pub fn rsc(call: &Call<'_>, octets: Bytes, want: Want) -> Result<bool, AllocError> {
-    let Call {
-        alloc,
-        strict,
-        issuer,
-        now,
-        caller,
-    } = *call;
-    match check::rsc(
-        alloc,
-        octets,
-        strict,
-        issuer,
-        &StandIn,
-        now,
-        |_| said(caller),
-    ) {
-        Ok((cert, content)) => {
-            let is_yes = is_yes(&cert, want);
-            drop(cert);
-            let written = content.encode_ref().to_bytes(alloc);
-            drop(content);
-            Ok(is_written(written, content_of(Kind::Rsc))? && is_yes)
-        }
-        Err(error) => is_refusal(alloc, &error, want),
-    }
-}
-
-/// Whether the check of this kind answers this.
-pub fn answered(
-    call: &Call<'_>,
-    kind: Kind,
-    octets: Bytes,
-    want: Want,
-) -> Result<bool, AllocError> {
-    match kind {
-        Kind::Manifest => manifest(call, octets, want),
-        Kind::Roa => roa(call, octets, want),
-        Kind::Aspa => aspa(call, octets, want),
-        Kind::Rsc => rsc(call, octets, want),
     }
 }

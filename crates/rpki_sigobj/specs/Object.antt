@@ -86,7 +86,7 @@ pub record KeptObject : Type 0 where
 abbrev pub IsKept : KeptObject → Type 0
 IsKept k = SignedForm k.mode k.object.octets k.object
 
--- its certificate, which was read in the same mode
+-- the certificate of a signed object, which was read in the same mode
 abbrev pub cert_of : KeptObject → KeptCertificate
 cert_of k = record { certificate = k.object.signed.cert; mode = k.mode }
 

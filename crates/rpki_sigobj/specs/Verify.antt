@@ -28,8 +28,8 @@ abbrev pub HasItsDigest : Digester → SignedData → Type 0
 HasItsDigest digest s = s.signer.attributes.message_digest ≡ digest s.content
 
 -- The signing time is not after the end of the validity of the certificate, which is this project's
--- own rule; that it may be before the beginning too. RFC 6488, section 2.1.6.4.3, asks nothing of
--- the signing time.
+-- own rule; it may be before the beginning. RFC 6488, section 2.1.6.4.3, does not say which moment
+-- the signing time has to be.
 abbrev pub IsSignedInTime : SignedData → Type 0
 IsSignedInTime s =
     stamp s.signer.attributes.signing_time ≤ stamp s.cert.tbs.validity.not_after
@@ -40,7 +40,9 @@ abbrev pub IsSignedByItsKey : Verdict → SignedData → Type 0
 IsSignedByItsKey verdict s =
     verdict s.cert.tbs.key (message_of s.signer.attributes) s.signer.signature ≡ true
 
--- The same, as facts.
+-- The object is well signed: it names the key of its certificate as its signer, the digest that was
+-- signed is that of its content, its signing time is not after the end of the certificate's
+-- validity, and that key signed it (RFC 6488, section 3).
 pub record IsWellSigned (digest : Digester) (verdict : Verdict) (s : SignedData) : Type 0 where
   pub names_its_key : NamesItsKey s
   pub has_its_digest : HasItsDigest digest s
@@ -55,7 +57,7 @@ signer_checks s = (SidMismatch unless NamesItsKey s) ∷ []
 abbrev pub digest_checks : Digester → SignedData → List (Check VerificationError)
 digest_checks digest s = (faults.DigestMismatch unless HasItsDigest digest s) ∷ []
 
--- The certificate has to have been in time.
+-- The signing time may not be after the end of the certificate's validity.
 abbrev pub time_checks : SignedData → List (Check VerificationError)
 time_checks s = (faults.SigningTime unless IsSignedInTime s) ∷ []
 

@@ -3,7 +3,8 @@
 ghost use Rattle.rpki_der.specs.Read.Exact.{IsReading};
 ghost use Rattle.std.specs.Prelude.{◌↔◌};
 ghost use Rattle.rpki_basics.specs.Moment.{Moment};
-ghost use Rattle.rpki_faults.specs.Checks.{AllHold};
+ghost use Rattle.rpki_faults.specs.Checks.{AllHold, IsFirstFault};
+ghost use Rattle.rpki_faults.specs.declared.validation.ValidationError.{ValidationError};
 ghost use Rattle.rpki_certs.specs.Inspect.{ee_checks, detached_ee_checks};
 ghost use Rattle.rpki_certs.specs.Verify.{Verdict};
 ghost use Rattle.rpki_certs.specs.Validate.{Validated, IsGoodUnder};
@@ -18,9 +19,9 @@ pub fn signed_objects()
 {}
 
 /// What a yes of `validate_at` and of `validate_detached_at` means (RFC 6488, section 3): the key
-/// of the certificate signed the object, over the digest of its content and no later than the
-/// certificate is valid; the certificate fits the profile of its kind, states the issuer, is in
-/// time and signed by the issuer's key, and claims what is allowed.
+/// of the certificate signed the object, over the digest of its content and, by its signing time,
+/// no later than the certificate is valid; the certificate fits the profile of its kind, states the
+/// issuer, is in time and signed by the issuer's key, and claims what is allowed.
 pub fn valid_objects()
     ensures published { (digest : Digester) (verdict : Verdict) (s : SignedData)
         (issuer : Validated) (now : Moment) →
@@ -31,5 +32,21 @@ pub fn valid_objects()
         (issuer : Validated) (now : Moment) →
         AllHold (detached_validation digest verdict s issuer now)
         ↔ (IsWellSigned digest verdict s × AllHold (detached_ee_checks s.cert.tbs)
+        × IsGoodUnder verdict s.cert issuer now) }
+{}
+
+/// What a refusal of `validate_at` and of `validate_detached_at` means, unless memory ran out: the
+/// object is not well signed, or its certificate does not fit the profile of its kind, or is not
+/// good under the issuer.
+pub fn refused_objects()
+    ensures published { (digest : Digester) (verdict : Verdict) (s : SignedData)
+        (issuer : Validated) (now : Moment) (fault : ValidationError) →
+        IsFirstFault (object_validation digest verdict s issuer now) fault
+        → ¬ (IsWellSigned digest verdict s × AllHold (ee_checks s.cert.tbs)
+        × IsGoodUnder verdict s.cert issuer now) }
+    ensures detached { (digest : Digester) (verdict : Verdict) (s : SignedData)
+        (issuer : Validated) (now : Moment) (fault : ValidationError) →
+        IsFirstFault (detached_validation digest verdict s issuer now) fault
+        → ¬ (IsWellSigned digest verdict s × AllHold (detached_ee_checks s.cert.tbs)
         × IsGoodUnder verdict s.cert issuer now) }
 {}

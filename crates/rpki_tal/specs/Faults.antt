@@ -85,14 +85,14 @@ abbrev pub Refuses : ReadError → Type 0 → Type 0
 Refuses Memory P = Unit {0}
 Refuses _ P = P
 
--- What is wrong with a text where this is wrong with a URI in it.
+-- The fault of a locator in which a URI has this fault.
 abbrev pub uri_fault : Error → ReadError
 uri_fault InvalidCharacters = BadUri InvalidCharacters
 uri_fault BadScheme = BadUri BadScheme
 uri_fault NoUri = BadUri NoUri
 uri_fault NoMemory = Memory
 
--- What is wrong with a text where this is wrong with the key in it.
+-- The fault of a locator in which the key has this fault.
 abbrev pub key_fault : DecodeError → ReadError
 key_fault Malformed = BadKeyInfo Malformed
 key_fault (Content fault) = BadKeyInfo (Content fault)

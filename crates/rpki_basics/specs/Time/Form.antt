@@ -61,7 +61,8 @@ abbrev pub time_octets : Moment → List ℕ
 time_octets m =
     if is_utc_year m.year then value_octets UTC_TIME (utc_text m) else generalized_octets m
 
--- The one or the other.
+-- The moment as a GeneralizedTime where this is asked for, and else as certificates have it
+-- (`time_octets`).
 abbrev pub encoded_time : Bool → Moment → List ℕ
 encoded_time generalized m = if generalized then generalized_octets m else time_octets m
 

@@ -17,16 +17,20 @@ impl Cert {
         self.contents.tbs.serial_number
     }
 
-    /// The name of its issuer (RFC 5280, section 4.1.2.4).
+    /// The name of its issuer (RFC 5280, section 4.1.2.4), in the mode that the certificate was
+    /// read in.
     pub fn issuer(&self) -> &Name
-        ensures { result.now.octets ≡ self.now.certificate.tbs.issuer }
+        ensures octets { result.now.octets ≡ self.now.certificate.tbs.issuer }
+        ensures mode { result.now.mode ≡ self.now.mode }
     {
         &self.contents.tbs.issuer
     }
 
-    /// The name of its subject (RFC 5280, section 4.1.2.6).
+    /// The name of its subject (RFC 5280, section 4.1.2.6), in the mode that the certificate was
+    /// read in.
     pub fn subject(&self) -> &Name
-        ensures { result.now.octets ≡ self.now.certificate.tbs.subject }
+        ensures octets { result.now.octets ≡ self.now.certificate.tbs.subject }
+        ensures mode { result.now.mode ≡ self.now.mode }
     {
         &self.contents.tbs.subject
     }

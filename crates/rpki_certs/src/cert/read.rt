@@ -1,6 +1,6 @@
 //! Reading certificates.
 
-ghost use Rattle.std.specs.Prelude.{◌≡◌, ◌<◌, IfOk, IfSome, length};
+ghost use Rattle.std.specs.Prelude.{◌≡◌, ◌<◌, IfOk, IfSome, length, option_map};
 ghost use Rattle.rpki_der.specs.Form.Made.{with_octets};
 ghost use Rattle.rpki_der.specs.Form.Parts.{sequence_at, context_at};
 ghost use Rattle.rpki_der.specs.Read.Parse.{optional, primitive, this};
@@ -8,7 +8,7 @@ ghost use Rattle.rpki_der.specs.Read.Reads.{Reads, Stays};
 ghost use Rattle.rpki_der.specs.Tags.{INTEGER, SEQUENCE};
 ghost use Rattle.rpki_extensions.specs.Extensions.{extensions_at};
 ghost use Rattle.rpki_certs.specs.Cert.{v3, validity_fields_at, validity_at, tbs_fields_at, tbs_at};
-ghost use Rattle.rpki_certs.specs.Cert.{contents_at};
+ghost use Rattle.rpki_certs.specs.Cert.{contents_at, both_in};
 
 use bytes::Bytes;
 use rpki_basics::{Name, PublicKey, RpkiSignature, RpkiSignatureAlgorithm, Serial, Time, Validity};
@@ -29,17 +29,20 @@ pub struct Tbs {
 }
 
 impl Model for Tbs {
-    ghost use Rattle.rpki_certs.specs.Cert.{Tbs as SignedFields};
+    ghost use Rattle.rpki_certs.specs.Cert.{KeptTbs};
 
-    ghost Value = { SignedFields };
+    ghost Value = { KeptTbs };
 
     ghost view = { λ t. record {
-      serial_number = t.serial_number;
-      issuer = t.issuer.octets;
-      validity = t.validity;
-      subject = t.subject.octets;
-      key = t.key;
-      extensions = t.extensions;
+      tbs = record {
+        serial_number = t.serial_number;
+        issuer = t.issuer.octets;
+        validity = t.validity;
+        subject = t.subject.octets;
+        key = t.key;
+        extensions = t.extensions;
+      };
+      names = record { issuer = t.issuer.mode; subject = t.subject.mode };
     } };
 }
 
@@ -52,11 +55,14 @@ pub struct Contents {
 }
 
 impl Model for Contents {
-    ghost use Rattle.rpki_certs.specs.Cert.{Contents as CertContents};
+    ghost use Rattle.rpki_certs.specs.Cert.{KeptContents};
 
-    ghost Value = { CertContents };
+    ghost Value = { KeptContents };
 
-    ghost view = { λ c. record { tbs = c.tbs; signed = c.signed; signature = c.signature } };
+    ghost view = { λ c. record {
+      contents = record { tbs = c.tbs.tbs; signed = c.signed; signature = c.signature };
+      names = c.tbs.names;
+    } };
 }
 
 impl Clone for Tbs {
@@ -124,7 +130,8 @@ fn take_extensions(cons: &mut Constructed<'_>, alloc: Global) -> Result<Extensio
 // Reads the fields that are signed.
 #[tactic(auto, unfolding(crate::specs::Cert::tbs_fields_at))]
 fn take_tbs_fields(cons: &mut Constructed<'_>, alloc: Global) -> Result<Tbs, DecodeError>
-    ensures { Reads (λ t. t) tbs_fields_at cons.old result cons.new }
+    ensures reads { Reads (λ t. t.tbs) tbs_fields_at cons.old result cons.new }
+    ensures names { IfOk result (λ t. t.names ≡ both_in cons.old.mode) }
 {
     skip_version(cons)?;
     let serial_number = Serial::take_from(cons)?;
@@ -146,14 +153,17 @@ fn take_tbs_fields(cons: &mut Constructed<'_>, alloc: Global) -> Result<Tbs, Dec
 
 // Reads what is signed.
 fn take_tbs(cons: &mut Constructed<'_>, alloc: Global) -> Result<Tbs, DecodeError>
-    ensures { Reads (λ t. t) tbs_at cons.old result cons.new }
+    ensures reads { Reads (λ t. t.tbs) tbs_at cons.old result cons.new }
+    ensures names { IfOk result (λ t. t.names ≡ both_in cons.old.mode) }
 {
     cons.take_sequence(|cons| take_tbs_fields(cons, alloc))
 }
 
 // Reads what is signed, and keeps its octets.
 fn keep_tbs(cons: &mut Constructed<'_>, alloc: Global) -> Result<(Tbs, Captured), DecodeError>
-    ensures { Reads (λ k. (k.0, k.1.octets)) (with_octets tbs_at) cons.old result cons.new }
+    ensures reads { Reads (λ k. (k.0.tbs, k.1.octets)) (with_octets tbs_at)
+        cons.old result cons.new }
+    ensures names { IfOk result (λ k. k.0.names ≡ both_in cons.old.mode) }
 {
     cons.capture_with(|cons| take_tbs(cons, alloc))
 }
@@ -161,7 +171,8 @@ fn keep_tbs(cons: &mut Constructed<'_>, alloc: Global) -> Result<(Tbs, Captured)
 // Reads what stands in a certificate.
 #[tactic(auto, unfolding(crate::specs::Cert::contents_at))]
 fn take_contents(cons: &mut Constructed<'_>, alloc: Global) -> Result<Contents, DecodeError>
-    ensures { Reads (λ c. c) contents_at cons.old result cons.new }
+    ensures reads { Reads (λ c. c.contents) contents_at cons.old result cons.new }
+    ensures names { IfOk result (λ c. c.names ≡ both_in cons.old.mode) }
 {
     let (tbs, signed) = keep_tbs(cons, alloc)?;
     let algorithm = RpkiSignatureAlgorithm::take_cert_from(cons)?;
@@ -175,7 +186,8 @@ fn take_contents(cons: &mut Constructed<'_>, alloc: Global) -> Result<Contents, 
 
 // Reads a certificate, without keeping its octets.
 fn take_whole(cons: &mut Constructed<'_>, alloc: Global) -> Result<Contents, DecodeError>
-    ensures { Reads (λ c. c) (sequence_at contents_at) cons.old result cons.new }
+    ensures reads { Reads (λ c. c.contents) (sequence_at contents_at) cons.old result cons.new }
+    ensures names { IfOk result (λ c. c.names ≡ both_in cons.old.mode) }
 {
     cons.take_sequence(|cons| take_contents(cons, alloc))
 }
@@ -185,8 +197,9 @@ pub fn take_kept(
     cons: &mut Constructed<'_>,
     alloc: Global,
 ) -> Result<(Contents, Captured), DecodeError>
-    ensures reads { Reads (λ k. (k.0, k.1.octets)) (with_octets (sequence_at contents_at))
-        cons.old result cons.new }
+    ensures reads { Reads (λ k. (k.0.contents, k.1.octets))
+        (with_octets (sequence_at contents_at)) cons.old result cons.new }
+    ensures names { IfOk result (λ k. k.0.names ≡ both_in cons.old.mode) }
     ensures mode { IfOk result (λ k. k.1.mode ≡ cons.old.mode) }
     ensures stays { Stays result cons.new }
 {
@@ -198,8 +211,9 @@ fn take_opt_whole(
     cons: &mut Constructed<'_>,
     alloc: Global,
 ) -> Result<Option<Contents>, DecodeError>
-    ensures reads { Reads (λ c. c) (optional SEQUENCE (sequence_at contents_at))
-        cons.old result cons.new }
+    ensures reads { Reads (option_map (λ c. c.contents))
+        (optional SEQUENCE (sequence_at contents_at)) cons.old result cons.new }
+    ensures names { IfOk result (λ c. IfSome c (λ c. c.names ≡ both_in cons.old.mode)) }
     ensures shorter { IfOk result
         (λ c. IfSome c (λ _. length cons.new.rest < length cons.old.rest)) }
 {
@@ -212,8 +226,9 @@ pub fn take_opt_kept(
     cons: &mut Constructed<'_>,
     alloc: Global,
 ) -> Result<(Option<Contents>, Captured), DecodeError>
-    ensures reads { Reads (λ k. (k.0, k.1.octets))
+    ensures reads { Reads (λ k. (option_map (λ c. c.contents) k.0, k.1.octets))
         (with_octets (optional SEQUENCE (sequence_at contents_at))) cons.old result cons.new }
+    ensures names { IfOk result (λ k. IfSome k.0 (λ c. c.names ≡ both_in cons.old.mode)) }
     ensures mode { IfOk result (λ k. k.1.mode ≡ cons.old.mode) }
     ensures stays { Stays result cons.new }
     ensures shorter { IfOk result

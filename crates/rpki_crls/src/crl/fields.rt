@@ -10,9 +10,10 @@ use rpki_basics::{Crypto, KeyIdentifier, Name, PublicKey, Serial, Time};
 use rpki_faults::VerificationError;
 
 impl Crl {
-    /// The name of its issuer (RFC 5280, section 5.1.2.3).
+    /// The name of its issuer (RFC 5280, section 5.1.2.3), in the mode that the list was read in.
     pub fn issuer(&self) -> &Name
-        ensures { result.now.octets ≡ self.now.list.tbs.issuer }
+        ensures octets { result.now.octets ≡ self.now.list.tbs.issuer }
+        ensures mode { result.now.mode ≡ self.now.mode }
     {
         &self.contents.tbs.issuer
     }

@@ -32,16 +32,19 @@ pub struct Tbs {
 }
 
 impl Model for Tbs {
-    ghost use Rattle.rpki_crls.specs.Crl.{Tbs as SignedFields};
+    ghost use Rattle.rpki_crls.specs.Crl.{KeptTbs};
 
-    ghost Value = { SignedFields };
+    ghost Value = { KeptTbs };
 
     ghost view = { λ t. record {
-      issuer = t.issuer.octets;
-      this_update = t.this_update;
-      next_update = t.next_update;
-      revoked = t.revoked.items;
-      extensions = t.extensions;
+      tbs = record {
+        issuer = t.issuer.octets;
+        this_update = t.this_update;
+        next_update = t.next_update;
+        revoked = t.revoked.items;
+        extensions = t.extensions;
+      };
+      name_mode = t.issuer.mode;
     } };
 }
 
@@ -54,11 +57,14 @@ pub struct Contents {
 }
 
 impl Model for Contents {
-    ghost use Rattle.rpki_crls.specs.Crl.{Contents as CrlContents};
+    ghost use Rattle.rpki_crls.specs.Crl.{KeptContents};
 
-    ghost Value = { CrlContents };
+    ghost Value = { KeptContents };
 
-    ghost view = { λ c. record { tbs = c.tbs; signed = c.signed; signature = c.signature } };
+    ghost view = { λ c. record {
+      contents = record { tbs = c.tbs.tbs; signed = c.signed; signature = c.signature };
+      name_mode = c.tbs.name_mode;
+    } };
 }
 
 impl Clone for Tbs {
@@ -118,7 +124,8 @@ fn take_extensions(alloc: Global, cons: &mut Constructed<'_>) -> Result<CrlExten
 // Reads the fields that are signed.
 #[tactic(auto, unfolding(crate::specs::Crl::tbs_fields_at))]
 fn take_tbs_fields(alloc: Global, cons: &mut Constructed<'_>) -> Result<Tbs, DecodeError>
-    ensures { Reads (λ t. t) tbs_fields_at cons.old result cons.new }
+    ensures reads { Reads (λ t. t.tbs) tbs_fields_at cons.old result cons.new }
+    ensures name { IfOk result (λ t. t.name_mode ≡ cons.old.mode) }
 {
     cons.skip_u8_if(V2)?;
     RpkiSignatureAlgorithm::take_cert_from(cons)?;
@@ -138,14 +145,17 @@ fn take_tbs_fields(alloc: Global, cons: &mut Constructed<'_>) -> Result<Tbs, Dec
 
 // Reads what is signed.
 fn take_tbs(alloc: Global, cons: &mut Constructed<'_>) -> Result<Tbs, DecodeError>
-    ensures { Reads (λ t. t) tbs_at cons.old result cons.new }
+    ensures reads { Reads (λ t. t.tbs) tbs_at cons.old result cons.new }
+    ensures name { IfOk result (λ t. t.name_mode ≡ cons.old.mode) }
 {
     cons.take_sequence(|cons| take_tbs_fields(alloc, cons))
 }
 
 // Reads what is signed, and keeps its octets.
 fn keep_tbs(alloc: Global, cons: &mut Constructed<'_>) -> Result<(Tbs, Captured), DecodeError>
-    ensures { Reads (λ k. (k.0, k.1.octets)) (with_octets tbs_at) cons.old result cons.new }
+    ensures reads { Reads (λ k. (k.0.tbs, k.1.octets)) (with_octets tbs_at)
+        cons.old result cons.new }
+    ensures name { IfOk result (λ k. k.0.name_mode ≡ cons.old.mode) }
 {
     cons.capture_with(|cons| take_tbs(alloc, cons))
 }
@@ -153,7 +163,8 @@ fn keep_tbs(alloc: Global, cons: &mut Constructed<'_>) -> Result<(Tbs, Captured)
 // Reads what stands in a revocation list.
 #[tactic(auto, unfolding(crate::specs::Crl::contents_at))]
 fn take_contents(alloc: Global, cons: &mut Constructed<'_>) -> Result<Contents, DecodeError>
-    ensures { Reads (λ c. c) contents_at cons.old result cons.new }
+    ensures reads { Reads (λ c. c.contents) contents_at cons.old result cons.new }
+    ensures name { IfOk result (λ c. c.name_mode ≡ cons.old.mode) }
 {
     let (tbs, signed) = keep_tbs(alloc, cons)?;
     let algorithm = RpkiSignatureAlgorithm::take_cert_from(cons)?;
@@ -167,7 +178,8 @@ fn take_contents(alloc: Global, cons: &mut Constructed<'_>) -> Result<Contents, 
 
 // Reads a revocation list, without keeping its octets.
 fn take_whole(alloc: Global, cons: &mut Constructed<'_>) -> Result<Contents, DecodeError>
-    ensures { Reads (λ c. c) (sequence_at contents_at) cons.old result cons.new }
+    ensures reads { Reads (λ c. c.contents) (sequence_at contents_at) cons.old result cons.new }
+    ensures name { IfOk result (λ c. c.name_mode ≡ cons.old.mode) }
 {
     cons.take_sequence(|cons| take_contents(alloc, cons))
 }
@@ -177,8 +189,9 @@ pub fn take_kept(
     alloc: Global,
     cons: &mut Constructed<'_>,
 ) -> Result<(Contents, Captured), DecodeError>
-    ensures reads { Reads (λ k. (k.0, k.1.octets)) (with_octets (sequence_at contents_at))
+    ensures reads { Reads (λ k. (k.0.contents, k.1.octets)) (with_octets (sequence_at contents_at))
         cons.old result cons.new }
+    ensures name { IfOk result (λ k. k.0.name_mode ≡ cons.old.mode) }
     ensures mode { IfOk result (λ k. k.1.mode ≡ cons.old.mode) }
     ensures stays { Stays result cons.new }
 {
@@ -190,8 +203,9 @@ fn take_opt_whole(
     alloc: Global,
     cons: &mut Constructed<'_>,
 ) -> Result<Option<Contents>, DecodeError>
-    ensures reads { Reads (λ c. c) (optional SEQUENCE (sequence_at contents_at))
-        cons.old result cons.new }
+    ensures reads { Reads (option_map (λ c. c.contents))
+        (optional SEQUENCE (sequence_at contents_at)) cons.old result cons.new }
+    ensures name { IfOk result (λ c. IfSome c (λ c. c.name_mode ≡ cons.old.mode)) }
     ensures shorter { IfOk result
         (λ c. IfSome c (λ _. length cons.new.rest < length cons.old.rest)) }
 {
@@ -204,8 +218,9 @@ pub fn take_opt_kept(
     alloc: Global,
     cons: &mut Constructed<'_>,
 ) -> Result<(Option<Contents>, Captured), DecodeError>
-    ensures reads { Reads (λ k. (k.0, k.1.octets))
+    ensures reads { Reads (λ k. (option_map (λ c. c.contents) k.0, k.1.octets))
         (with_octets (optional SEQUENCE (sequence_at contents_at))) cons.old result cons.new }
+    ensures name { IfOk result (λ k. IfSome k.0 (λ c. c.name_mode ≡ cons.old.mode)) }
     ensures mode { IfOk result (λ k. k.1.mode ≡ cons.old.mode) }
     ensures stays { Stays result cons.new }
     ensures shorter { IfOk result

@@ -1,15 +1,12 @@
 -- What follows from the tags that a part may begin with.
 use Rattle.std.proofs.Common.{◌≡◌, ◌≢◌, ℕ, Bool, true, false, List, [], ◌∷◌, ◌++◌, inl, inr, refl}
 use Rattle.std.proofs.Common.{sym, ap, ◌∙◌, eq-eqb}
-use Rattle.std.specs.Prelude.{not, ◌||◌, ◌==◌, ◌⊎◌}
-use Rattle.std.proofs.lemmas.Bool.{eqb-true, ne_eqb, and_parts, or_parts, or_left, not-true}
+use Rattle.std.specs.Prelude.{not, ◌||◌, ◌==◌}
+use Rattle.std.proofs.lemmas.Bool.{eqb-true, ne_eqb, and_parts, or_parts, or_cases, or_left}
+use Rattle.std.proofs.lemmas.Bool.{not-true}
 use Rattle.rpki_der.specs.Read.Parse.{is_next}
 use Rattle.rpki_der.specs.Form.Law.{TagSet, every, only, is, or, is_one_of, has, NoneNext}
 use Rattle.rpki_der.specs.Form.Law.{StartsIn, Starts, are_apart}
-
-pub or-cases : (a b : Bool) → (a || b) ≡ true → (a ≡ true) ⊎ (b ≡ true)
-or-cases true b e = inl refl
-or-cases false b e = inr e
 
 one-of-both : (a b : List ℕ) (tag : ℕ)
     → is_one_of (a ++ b) tag ≡ (is_one_of a tag || is_one_of b tag)
@@ -96,7 +93,7 @@ starts-as a b every o f (inr s) = inr (s.0, s.1, s.2, f s.0 s.3)
 pub starts-is : (tag : ℕ) (o : List ℕ) → StartsIn (is tag) o → (t : List ℕ) × (o ≡ tag ∷ t)
 starts-is tag o s = (
   s.1,
-  s.2 ∙ ap (λ (t : ℕ). t ∷ s.1) (elim (or-cases (tag == s.0) false s.3) [
+  s.2 ∙ ap (λ (t : ℕ). t ∷ s.1) (elim (or_cases (tag == s.0) false s.3) [
     | inl e ↦ sym (eqb-true tag s.0 e)
     | inr e ↦ absurd cc
   ]),

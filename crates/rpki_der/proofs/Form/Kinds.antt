@@ -4,6 +4,7 @@ use Rattle.std.proofs.Common.{refl, sym, ap, subst}
 use Rattle.std.specs.Prelude.{◌⊎◌}
 use Rattle.std.proofs.lemmas.List.{append-nil}
 use Rattle.rpki_der.specs.declared.mode.Mode.TheVariants.{Der, Ber}
+use Rattle.rpki_der.specs.Numbers.{MAX_DEPTH}
 use Rattle.rpki_der.specs.Read.Parse.{all_of, there, skip_all_at}
 use Rattle.rpki_der.specs.Grammar.{ListOf}
 use Rattle.rpki_der.proofs.Reading.Lengths.{bind_some, some_is}
@@ -108,7 +109,7 @@ pub octets-of-part : (n : ℕ)
     → IsPart (or (is OCTET_STRING) (is OCTET_STRING_IN_PIECES)) nothing (octets_of n)
     (OctetStringOf n)
 octets-of-part n = part (or (is OCTET_STRING) (is OCTET_STRING_IN_PIECES)) (reading-octets-of n)
-    (λ mode o s h. octets-start 32 mode o s h.0)
+    (λ mode o s h. octets-start MAX_DEPTH mode o s h.0)
 
 -- a BOOLEAN that is false where it is left out
 pub flag-part : IsPart (is BOOLEAN) (is BOOLEAN) (default_at false BOOLEAN boolean_at)
@@ -116,11 +117,11 @@ pub flag-part : IsPart (is BOOLEAN) (is BOOLEAN) (default_at false BOOLEAN boole
 flag-part = default BOOLEAN boolean-part false
 
 -- skipped values up to the end
-pub rest-part : IsPart every every skip_all_at (λ mode o _. ListOf (Skipped mode 32) o)
+pub rest-part : IsPart every every skip_all_at (λ mode o _. ListOf (Skipped mode MAX_DEPTH) o)
 rest-part = record {
   exact = λ mode. record {
     sound = λ b u r bytes h.
-        let s = bind_some (there (all_of (skip_at 32) mode b)) _ (u, r) h in
+        let s = bind_some (there (all_of (skip_at MAX_DEPTH) mode b)) _ (u, r) h in
         let q : (let t : Unit {0} × List ℕ = (s.0, []) in t) ≡ (u, r) = some_is _ _ s.2 in
         let end : [] ≡ r = ap (λ (t : Unit {0} × List ℕ). t.1) q in (
           b,
@@ -136,8 +137,8 @@ rest-part = record {
   starts = λ mode o u h. any-start o;
   relaxed = λ o u l. (
     l.0,
-    items-as (λ o _. Skipped Der 32 o) (λ o _. Skipped Ber 32 o)
-        (λ o _ k. skipped-ber 32 o k) o l.0 l.1,
+    items-as (λ o _. Skipped Der MAX_DEPTH o) (λ o _. Skipped Ber MAX_DEPTH o)
+        (λ o _ k. skipped-ber MAX_DEPTH o k) o l.0 l.1,
   );
 }
   where

@@ -4,6 +4,7 @@ use Rattle.std.proofs.Common.{refl, sym, subst, ◌∙◌}
 use Rattle.std.proofs.lemmas.List.{append-nil}
 use Rattle.rpki_der.specs.declared.mode.Mode.{Mode}
 use Rattle.rpki_der.specs.declared.mode.Mode.TheVariants.{Der}
+use Rattle.rpki_der.specs.Numbers.{MAX_DEPTH}
 use Rattle.rpki_der.specs.Read.Parse.{Parser, octets_at}
 use Rattle.std.specs.List.{concat}
 use Rattle.rpki_der.specs.Grammar.{IsBytes, Value, BitString, OctetString, Items}
@@ -92,8 +93,9 @@ all-understood e = record {
 pub in-octets : {X : Type 0} {f : Mode → List ℕ → Option X} {M : Mode → List ℕ → X → Type 0}
     → IsUnderstood f IsBytes M
     → IsPart (or (is OCTET_STRING) (is OCTET_STRING_IN_PIECES)) nothing
-    (understood f (octets_at 32)) (λ mode. OctetStringHolding mode (M mode))
-in-octets m = understand (octets-part 32) (λ mode o s bytes g. string-bytes 32 mode o s g bytes) m
+    (understood f (octets_at MAX_DEPTH)) (λ mode. OctetStringHolding mode (M mode))
+in-octets m = understand (octets-part MAX_DEPTH)
+    (λ mode o s bytes g. string-bytes MAX_DEPTH mode o s g bytes) m
 
 -- a BIT STRING of whole octets, which are understood
 pub in-bits : {X : Type 0} {first : TagSet} {b : Parser (List ℕ)} {f : Mode → List ℕ → Option X}

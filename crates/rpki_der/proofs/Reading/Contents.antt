@@ -5,6 +5,7 @@ use Rattle.std.proofs.Common.{subst, ◌∙◌, arith, inl, inr}
 use Rattle.std.specs.Prelude.{All, nat_lt, nat_eq}
 use Rattle.std.specs.List.{list_all}
 use Rattle.std.specs.Str.{bytes_eq}
+use Rattle.std.proofs.lemmas.Option.{cond_some}
 use Rattle.std.proofs.lemmas.Slice.Eq.{bytes_eq-Decides}
 use Rattle.std.proofs.lemmas.Bool.{eqb-true, eqb-false, eq-eqb, ne_eqb, ltb-true, lt-ltb, and_parts}
 use Rattle.rpki_der.specs.declared.mode.Mode.{Mode}
@@ -19,11 +20,10 @@ use Rattle.rpki_der.proofs.Reading.Exact.{IsExactContents}
 use Rattle.rpki_der.proofs.Writing.Strings.{are-bits}
 use Rattle.rpki_der.proofs.Reading.Scan.{none-is}
 
--- what passes a test is a some of it
+-- the name of std's lemma in the crates above
 pub guarded : {X : Type 0} (test : Bool) (x y : X) → cond test (Some x) None ≡ Some y
     → (test ≡ true) × (x ≡ y)
-guarded true x y e = (refl, some_is _ _ e)
-guarded false x y e = absurd (none-is y e)
+guarded = cond_some
 
 -- ---- BOOLEAN
 
@@ -36,7 +36,8 @@ boolean-sound Der (x ∷ []) b e =
     elim (chosen (nat_eq x 0) (Some false) _ (Some b) e) [
       | inl h ↦ let zero-is : x ≡ 0 = eqb-true _ _ h.0 in
           inl (ap (λ (n : ℕ). n ∷ []) zero-is, sym (some_is _ _ h.1))
-      | inr h ↦ let g = guarded (nat_eq x 255) true b h.1 in let is : x ≡ 255 = eqb-true _ _ g.0 in
+      | inr h ↦ let g = cond_some (nat_eq x 255) true b h.1 in
+          let is : x ≡ 255 = eqb-true _ _ g.0 in
           inr (ap (λ (n : ℕ). n ∷ []) is, sym g.1)
     ]
 boolean-sound Ber (x ∷ []) b e =
@@ -96,7 +97,7 @@ oid-tested c h = let p : ltb 0 (length c) ≡ true = lt-ltb _ _ h.0 in
 pub exact-oid : IsExactContents oid_of (λ c oid. (c ≡ oid) × IsOid oid)
 unfolding oid_of
 exact-oid = record {
-  sound = λ c oid _ e. let g = guarded (is_oid c) c oid e in
+  sound = λ c oid _ e. let g = cond_some (is_oid c) c oid e in
       (g.1, subst IsOid g.1 (oid-test c g.0));
   complete = λ c oid h. let t : is_oid oid ≡ true = oid-tested oid h.1 in rw (h.0, t) refl;
 }
@@ -117,11 +118,11 @@ bits-where : (t : Bool) (octets : List ℕ) (unused : ℕ) → eqb (length octet
 bits-where true octets unused e h = eq-eqb _ _ (h.none (eqb-true _ _ e))
 bits-where false octets unused e h = refl
 
-bits-sound : (c : List ℕ) (bits : List ℕ × ℕ) → bits_of c ≡ Some bits → IsBitString c bits
+pub bits-sound : (c : List ℕ) (bits : List ℕ × ℕ) → bits_of c ≡ Some bits → IsBitString c bits
 unfolding bits_of
 bits-sound [] bits e = absurd (none-is bits e)
 bits-sound (u ∷ octets) bits e =
-    let g = guarded (are_bits octets u) (octets, u) bits e in (
+    let g = cond_some (are_bits octets u) (octets, u) bits e in (
       ap (λ (b : List ℕ × ℕ). b.1 ∷ b.0) g.1,
       subst (λ (b : List ℕ × ℕ). IsBits b.0 b.1) g.1 (bits-test octets u g.0),
     )
@@ -159,7 +160,7 @@ ia5-tested (x ∷ c) h =
 pub exact-ia5 : IsExactContents ia5_of (λ c text. (c ≡ text) × All (λ b. b < 128) text)
 unfolding ia5_of
 exact-ia5 = record {
-  sound = λ c text _ e. let g = guarded (list_all (λ b. nat_lt b 128) c) c text e in
+  sound = λ c text _ e. let g = cond_some (list_all (λ b. nat_lt b 128) c) c text e in
       (g.1, subst (λ (t : List ℕ). All (λ b. b < 128) t) g.1 (ia5-at c g.0));
   complete = λ c text h. let t : list_all (λ b. nat_lt b 128) text ≡ true = ia5-tested text h.1 in
       rw (h.0, t) refl;
@@ -171,7 +172,7 @@ pub exact-these : (oid : List ℕ) → IsOid oid
     → IsExactContents (these oid) (λ c (_ : Unit {0}). (c ≡ oid) × IsOid oid)
 unfolding these
 exact-these oid is = record {
-  sound = λ c x _ e. let g = guarded (bytes_eq c oid) tt x e in
+  sound = λ c x _ e. let g = cond_some (bytes_eq c oid) tt x e in
       ((bytes_eq-Decides c oid).0 g.0, is);
   complete = λ c x h. let t : bytes_eq c oid ≡ true = (bytes_eq-Decides c oid).1 h.0 in rw t refl;
 }
@@ -182,7 +183,7 @@ whole-sound : (c string : List ℕ) → whole_octets_of c ≡ Some string → Is
 unfolding whole_octets_of
 whole-sound [] string e = absurd (none-is string e)
 whole-sound (unused ∷ octets) string e =
-    let g = guarded (eqb unused 0) octets string e in
+    let g = cond_some (eqb unused 0) octets string e in
     let none : unused ≡ 0 = eqb-true _ _ g.0 in (
       ap (λ (n : ℕ). n ∷ octets) none
           ∙ ap (λ (t : List ℕ). 0 ∷ t) g.1,

@@ -5,6 +5,7 @@ use Rattle.std.proofs.lemmas.Bool.{eqb-true}
 use Rattle.rpki_der.specs.Tags.{BOOLEAN, INTEGER, BIT_STRING, NULL, OBJECT_IDENTIFIER, IA5_STRING}
 use Rattle.rpki_der.specs.declared.mode.Mode.TheVariants.{Der, Ber}
 use Rattle.rpki_der.specs.Oid.{IsOid}
+use Rattle.rpki_der.specs.Numbers.{MAX_DEPTH}
 use Rattle.rpki_der.specs.Read.Parse.{value_at, skip_at, primitive, unsigned_of, this, these, u8_at}
 use Rattle.rpki_der.specs.Read.Parse.{u32_at, u160_at, boolean_at, boolean_of, null_of, ia5_at}
 use Rattle.rpki_der.specs.Read.Parse.{ia5_of, oid_at, oid_of, bits_at, bits_of, whole_octets_of}
@@ -104,9 +105,9 @@ pub reading-octets-of : (n : ℕ) → IsReading (octets_of n) (OctetStringOf n)
 reading-octets-of n =
     reading (octets_of n) (OctetStringOf n)
     (λ mode. exact-as anything (octets_of n mode)
-    (λ o s. OctetString mode 32 o s × ((length s == n) ≡ true))
+    (λ o s. OctetString mode MAX_DEPTH o s × ((length s == n) ≡ true))
     (OctetStringOf n mode)
-    (exact-tested anything (λ s. length s == n) (octets_at 32) mode (OctetString mode 32)
-    (exact-octets 32 mode))
+    (exact-tested anything (λ s. length s == n) (octets_at MAX_DEPTH) mode
+    (OctetString mode MAX_DEPTH) (exact-octets MAX_DEPTH mode))
     (λ o s h. (h.0, eqb-true _ _ h.1)) (λ o s h. (h.0, eq-eqb _ _ h.1)))
-    (λ o s h. (octets-ber 32 o s h.0, h.1)) (λ mode o s h. octets-one 32 mode o s h.0)
+    (λ o s h. (octets-ber MAX_DEPTH o s h.0, h.1)) (λ mode o s h. octets-one MAX_DEPTH mode o s h.0)

@@ -4,6 +4,7 @@ use Rattle.std.proofs.Common.{◌++◌, length, Option, Some, None, refl, ap, su
 use Rattle.std.proofs.lemmas.List.{length-append}
 use Rattle.rpki_der.specs.Identifier.{is_constructed}
 use Rattle.rpki_der.specs.declared.mode.Mode.{Mode}
+use Rattle.rpki_der.specs.Numbers.{MAX_DEPTH}
 use Rattle.rpki_der.specs.Read.Parse.{Parser, ◌>>=◌, any_at, each, all_of, there, skipped, skip_at}
 use Rattle.rpki_der.specs.Read.Parse.{skip_all_at}
 use Rattle.rpki_der.specs.Grammar.{Items, ListOf, Skipped, IsBytes}
@@ -231,17 +232,17 @@ there-end p mode takes (a ∷ b) e = absurd (omega (arith, e))
 -- ---- all that is left
 
 pub skip-all-sound : (mode : Mode) (b : List ℕ) → IsBytes b → skip_all_at mode b ≡ Some (tt, [])
-    → ListOf (Skipped mode 32) b
+    → ListOf (Skipped mode MAX_DEPTH) b
 skip-all-sound mode b bytes e =
-    let t = bind_some (there (all_of (skip_at 32) mode b)) _ (tt, []) e in
-    let s = there-some (all_of (skip_at 32) mode b) t.0 t.1 in (
+    let t = bind_some (there (all_of (skip_at MAX_DEPTH) mode b)) _ (tt, []) e in
+    let s = there-some (all_of (skip_at MAX_DEPTH) mode b) t.0 t.1 in (
       s.0,
-      (exact-all (skip_at 32) mode (skip-takes 32 mode) (λ o _. Skipped mode 32 o)
-          (exact-skip 32 mode)).sound b s.0 bytes s.1,
+      (exact-all (skip_at MAX_DEPTH) mode (skip-takes MAX_DEPTH mode)
+          (λ o _. Skipped mode MAX_DEPTH o) (exact-skip MAX_DEPTH mode)).sound b s.0 bytes s.1,
     )
 
-pub skip-all-complete : (mode : Mode) (b : List ℕ) → ListOf (Skipped mode 32) b
+pub skip-all-complete : (mode : Mode) (b : List ℕ) → ListOf (Skipped mode MAX_DEPTH) b
     → skip_all_at mode b ≡ Some (tt, [])
 skip-all-complete mode b l =
-    rw ((exact-all (skip_at 32) mode (skip-takes 32 mode) (λ o _. Skipped mode 32 o)
-    (exact-skip 32 mode)).complete b l.0 l.1) refl
+    rw ((exact-all (skip_at MAX_DEPTH) mode (skip-takes MAX_DEPTH mode)
+    (λ o _. Skipped mode MAX_DEPTH o) (exact-skip MAX_DEPTH mode)).complete b l.0 l.1) refl

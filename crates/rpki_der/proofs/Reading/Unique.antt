@@ -9,6 +9,7 @@ use Rattle.rpki_der.specs.Read.Parse.{Parser, primitive, captured, taken, any_at
 use Rattle.rpki_der.specs.Grammar.{IsBytes, IsUnique, Integer, Value, Within, definite, indefinite}
 use Rattle.rpki_der.specs.Grammar.{Items, Skipped, OctetString}
 use Rattle.rpki_der.specs.Read.Exact.{IsExact, IsReading, anything}
+use Rattle.rpki_der.specs.Form.Law.{TagSet, nothing, IsPart}
 use Rattle.rpki_der.proofs.Reading.Lengths.{bind_some, some_is, length-any}
 use Rattle.rpki_der.proofs.Reading.Exact.{IsExactContents, exact-any, exact-primitive}
 
@@ -127,6 +128,16 @@ reading p G exact ber one =
           ber;
       refused = refused p G exact one;
     }
+
+-- a part of a form that is one value is a reading
+pub part-reading : {X : Type 0} {first : TagSet} {p : Parser X} {G : Mode → List ℕ → X → Type 0}
+    → IsPart first nothing p G → IsOneValue G → IsReading p G
+part-reading {X} {first} {p} {G} e one = reading p G
+    (λ mode. record {
+      sound = (e.exact mode).sound;
+      complete = λ o x r er h. (e.exact mode).complete o x r tt h;
+    })
+    e.relaxed one
 
 -- a primitive value whose contents f understands alike in both modes
 pub reading-primitive : {X : Type 0} (tag : ℕ) (f : List ℕ → Option X) (M : List ℕ → X → Type 0)

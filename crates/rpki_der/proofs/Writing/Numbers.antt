@@ -203,13 +203,13 @@ own-contents (a ∷ b ∷ rest) n h = (sym h.2, sym (own-two a b rest h.0 h.1))
 
 -- ---- digits without zeros in front are those of one number
 
-injective : (xs ys : List ℕ) (a b : ℕ) → length xs ≡ length ys → IsBytes xs → IsBytes ys
+pub number-injective : (xs ys : List ℕ) (a b : ℕ) → length xs ≡ length ys → IsBytes xs → IsBytes ys
     → number a xs ≡ number b ys → (a ≡ b) × (xs ≡ ys)
-injective [] [] a b l hx hy e = (e, refl)
-injective [] (y ∷ ys) a b l hx hy e = absurd (omega (arith, l))
-injective (x ∷ xs) [] a b l hx hy e = absurd (omega (arith, l))
-injective (x ∷ xs) (y ∷ ys) a b l hx hy e =
-    let more = injective xs ys (a * 256 + x) (b * 256 + y) (omega (arith, l)) hx.1 hy.1 e in
+number-injective [] [] a b l hx hy e = (e, refl)
+number-injective [] (y ∷ ys) a b l hx hy e = absurd (omega (arith, l))
+number-injective (x ∷ xs) [] a b l hx hy e = absurd (omega (arith, l))
+number-injective (x ∷ xs) (y ∷ ys) a b l hx hy e =
+    let more = number-injective xs ys (a * 256 + x) (b * 256 + y) (omega (arith, l)) hx.1 hy.1 e in
     let first : x ≡ y = omega (arith, more.0, hx.0, hy.0) in (
       omega (arith, more.0, hx.0, hy.0),
       ap (λ (d : ℕ). d ∷ xs) first
@@ -242,7 +242,7 @@ significant-same : (a b : List ℕ) → IsBytes a → IsBytes b → number 0 a �
 significant-same a b ha hb e =
     let l : length (padded (length b) a) ≡ length (padded (length a) b) =
     omega (arith, length-padded (length b) a, length-padded (length a) b) in
-    let same = injective (padded (length b) a) (padded (length a) b) 0 0 l
+    let same = number-injective (padded (length b) a) (padded (length a) b) 0 0 l
     (bytes-padded (length b) a ha) (bytes-padded (length a) b hb)
     (number-padded (length b) a ∙ e ∙ sym (number-padded (length a) b)) in
     sym (significant-padded (length b) a) ∙ ap significant same.1 ∙ significant-padded (length a) b

@@ -9,13 +9,14 @@ use Rattle.rpki_der.specs.Read.Parse.{◌>>=◌}
 abbrev pub AreDistinct : {I : Type 0} → (I → List ℕ) → List I → Type 0
 AreDistinct key items = AllPairs (λ x y. key x ≢ key y) items
 
--- The item with this key says x. Where it says nothing, no item has this key.
+-- The last argument is what the item with the key oid says, or nothing where no item has this key;
+-- key tells the key of an item.
 abbrev pub Keyed : {I X : Type 0} → (I → List ℕ) → (I → X → Type 0) → List I → List ℕ → Option X
     → Type 0
 Keyed key Say items oid None = All (λ i. key i ≢ oid) items
 Keyed key Say items oid (Some x) = Any (λ i. (key i ≡ oid) × Say i x) items
 
--- One item has this key, and no second one, and it says x.
+-- One item has the key oid, and no second one, and it says x; key tells the key of an item.
 abbrev pub Once : {I X : Type 0} → (I → List ℕ) → (I → X → Type 0) → List I → List ℕ → X → Type 0
 Once {I} key Say items oid x =
     (before : List I) × (item : I) × (after : List I) × (items ≡ before ++ item ∷ after)
@@ -25,7 +26,8 @@ Once {I} key Say items oid x =
 abbrev pub SaysNothing : {I X : Type 0} → (I → X → Type 0) → I → Type 0
 SaysNothing {I} {X} Say item = (x : X) → Say item x → ⊥
 
--- The first item that says something says x, or none says anything.
+-- The last argument is what the first of the items says that says something, or nothing where none
+-- of the items says anything.
 abbrev pub First : {I X : Type 0} → (I → X → Type 0) → List I → Option X → Type 0
 First Say items None = All (SaysNothing Say) items
 First {I} Say items (Some x) =
@@ -86,7 +88,7 @@ abbrev pub or_later : {X : Type 0} → Option X → Option X → Option X
 or_later None other = other
 or_later (Some x) other = Some x
 
--- what say understands first
+-- What say understands of the first item of which it understands something.
 abbrev pub first_said : {I X : Type 0} → (I → Option X) → List I → Option X
 first_said say [] = None
 first_said say (i ∷ items) = or_later (say i) (first_said say items)

@@ -11,19 +11,19 @@ abbrev pub Understood : {X Y : Type 0} → (X → Y → Type 0) → (List ℕ �
     → Type 0
 Understood {X} M G octets y = (x : X) × G octets x × M x y
 
--- what f makes of what is in G
+-- The octets are in G, and y is what f makes of what they mean there.
 abbrev pub Made : {X Y : Type 0} → (X → Y) → (List ℕ → X → Type 0) → List ℕ → Y → Type 0
 Made {X} f G octets y = (x : X) × G octets x × (y ≡ f x)
 
--- what f makes of what is in G, where it makes something
+-- The octets are in G, and f makes y of what they mean there. (Of some values f makes nothing.)
 abbrev pub Partly : {X Y : Type 0} → (X → Option Y) → (List ℕ → X → Type 0) → List ℕ → Y → Type 0
 Partly {X} f G octets y = (x : X) × G octets x × (f x ≡ Some y)
 
--- what is in G, whatever it means
+-- The octets are in G, whatever they mean there.
 abbrev pub Ignored : {X : Type 0} → (List ℕ → X → Type 0) → List ℕ → Type 0
 Ignored {X} G octets = (x : X) × G octets x
 
--- what is in G, and these octets are its own
+-- The octets are in G and mean x there, and kept are these octets.
 abbrev pub WithOctets : {X : Type 0} → (List ℕ → X → Type 0) → List ℕ → X → List ℕ → Type 0
 WithOctets G octets x kept = G octets x × (kept ≡ octets)
 

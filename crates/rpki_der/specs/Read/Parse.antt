@@ -17,7 +17,7 @@ use Rattle.rpki_der.specs.declared.mode.Mode.TheVariants.{Der, Ber}
 abbrev pub Parser : Type 0 → Type 0
 Parser X = Mode → List ℕ → Option (X × List ℕ)
 
--- what f finds after what was found, if it was
+-- What b finds from what a found, and nothing where a found nothing.
 infixl 10 ◌>>=◌
 abbrev pub ◌>>=◌ : {A B : Type 0} → Option A → (A → Option B) → Option B
 (Some x) >>= f = f x
@@ -78,7 +78,8 @@ follow go None = None
 follow go (Some (None, rest)) = Some rest
 follow go (Some (Some k, b)) = go k b
 
--- what follows the end of the contents, after at most n steps
+-- What follows the end of the contents, where depth values of indefinite length are open within
+-- them, if it is found in at most n steps.
 unfoldable pub scan : ℕ → ℕ → List ℕ → Option (List ℕ)
 scan zero depth b = None
 scan (suc n) depth b = follow (scan n) (step depth b)
@@ -273,7 +274,7 @@ each zero p mode (b ∷ bytes) = None
 each (suc n) p mode (b ∷ bytes) =
     p mode (b ∷ bytes) >>= λ x. (each n p mode x.1 >>= λ xs. Some (x.0 ∷ xs))
 
--- the same, where each has an octet at least
+-- All of the octets are read by p, one value after the other, where each has an octet at least.
 unfoldable pub all_of : {X : Type 0} → Parser X → Mode → List ℕ → Option (List X)
 all_of p mode bytes = each (length bytes) p mode bytes
 

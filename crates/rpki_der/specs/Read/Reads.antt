@@ -8,7 +8,7 @@ use Rattle.rpki_der.specs.Captured.{Kept}
 use Rattle.rpki_der.specs.Read.State.{State, fresh}
 use Rattle.rpki_der.specs.Read.Parse.{Parser, value_at, with_front, many, all_at, taken, is_next}
 
--- Memory may run out at any time. Any other refusal tells that P holds.
+-- Memory may run out at any time. Any other error tells that P holds.
 abbrev pub Refuses : DecodeError → Type 0 → Type 0
 Refuses Memory P = Unit {0}
 Refuses Malformed P = P
@@ -100,7 +100,8 @@ abbrev pub closed : {T : Type 0} → Result T DecodeError → State → Result T
 closed (Err e) after = Err e
 closed (Ok t) after = or_error t (unfinished after.failed after.rest)
 
--- the same, where something may be left
+-- What a call answers after its closure: what the closure answered, if the reader has not failed
+-- then. Something may be left.
 abbrev pub not_failed : {T : Type 0} → Result T DecodeError → State → Result T DecodeError
 not_failed (Err e) after = Err e
 not_failed (Ok t) after = or_error t after.failed

@@ -35,7 +35,8 @@ IsWritten der short octets old new (Err Io) = AppendsFront old.0 new.0 octets ×
     × der × Fits short octets
 IsWritten der short octets old new (Err Memory) = ⊥
 
--- the octets, or Memory, or one of the two faults
+-- What `to_bytes` answers: these octets, where the value may be written (der, and Fits); `NotDer`
+-- or `TooLong` where one of the two is not so; or that memory ran out.
 abbrev pub IsBytesOf : Type 0 → Type 0 → List ℕ → Result (Vec ℕ Global) EncodeError → Type 0
 IsBytesOf der short octets (Ok v) = (v.items ≡ octets) × der × Fits short octets
 IsBytesOf der short octets (Err NotDer) = ¬ der

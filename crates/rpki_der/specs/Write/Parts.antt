@@ -31,7 +31,8 @@ abbrev pub IsEach : {T : Type 0} → (T → Type 0) → Option T → Type 0
 IsEach P None = Unit {0}
 IsEach P (Some x) = P x
 
--- where what may be there has few octets, P holds of it
+-- The law that P holds of what may be there, where its octets by f are fewer than 2^32, and P holds
+-- of each value of which that is so (h).
 pub optional_small : {T : Type 0} (f : T → List ℕ) (P : T → Type 0)
     → ((x : T) → length (f x) < 2 ^ 32 → P x) → (o : Option T)
     → length (optional_octets f o) < 2 ^ 32 → IsEach P o

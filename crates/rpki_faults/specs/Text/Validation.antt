@@ -5,7 +5,7 @@ use Rattle.rpki_faults.specs.declared.validation.ValidationError.TheVariants as 
 use Rattle.rpki_faults.specs.Text.Inspection.{inspection_text}
 use Rattle.rpki_faults.specs.Text.Verification.{verification_text}
 
--- Why a certificate or an object is not valid.
+-- The text that says why a certificate or an object is not valid: that of the fault in it.
 abbrev pub validation_text : ValidationError → List ℕ
 validation_text (errors.Inspection error) = inspection_text error
 validation_text (errors.Verification error) = verification_text error

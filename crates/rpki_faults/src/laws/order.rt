@@ -2,6 +2,7 @@
 
 ghost use Rattle.std.specs.Prelude.{◌≡◌, ◌↔◌, ◌⊎◌, ◌++◌, List, Contains, Ok, Err};
 ghost use Rattle.rpki_faults.specs.Checks.{Check, AllHold, IsFirstFault, AnswersFirst};
+ghost use Rattle.rpki_faults.specs.Checks.{AnswersFirstFault, AnswersFirstOr};
 ghost use Rattle.rpki_faults.specs.Checks.{faults_of, ◌as_faults_of◌};
 
 /// Faults, with checks that they are answered by.
@@ -31,6 +32,30 @@ pub fn a_fault_is_of_a_check<F: Checks, T: Promised>()
         Contains (faults_of F.checks) fault }
     ensures fails { (fault : F) → AnswersFirst F.checks T.promised (Err fault) →
         ¬ (AllHold F.checks) }
+{}
+
+/// Where a yes has no value: it means that all checks hold, and a fault is that of one of them, and
+/// not all of them hold.
+pub fn answers_without_a_value<F: Checks>()
+    ensures yes { AnswersFirstFault F.checks (Ok tt) → AllHold F.checks }
+    ensures contained { (fault : F) → AnswersFirstFault F.checks (Err fault) →
+        Contains (faults_of F.checks) fault }
+    ensures fails { (fault : F) → AnswersFirstFault F.checks (Err fault) →
+        ¬ (AllHold F.checks) }
+{}
+
+/// Where memory may run out: a yes means that all checks hold, and that the value is as promised; a
+/// fault says that memory ran out, or is that of one of the checks, and not all of them hold.
+pub fn answers_unless_memory_runs_out<F: Checks, T: Promised>()
+    ensures yes { (memory : F) (value : T) →
+        AnswersFirstOr memory F.checks T.promised (Ok value) →
+        AllHold F.checks × T.promised value }
+    ensures contained { (memory fault : F) →
+        AnswersFirstOr memory F.checks T.promised (Err fault) →
+        (fault ≡ memory) ⊎ Contains (faults_of F.checks) fault }
+    ensures fails { (memory fault : F) →
+        AnswersFirstOr memory F.checks T.promised (Err fault) →
+        (fault ≡ memory) ⊎ (¬ (AllHold F.checks)) }
 {}
 
 /// One fault is the first.

@@ -3,12 +3,12 @@ use Rattle.std.proofs.Common.{◌≡◌, ℕ, Bool, true, false, cond, List, Opt
 use Rattle.std.proofs.Common.{subst, ap, ◌++◌, inl, inr}
 use Rattle.std.specs.Prelude.{bytes_eq, ◌||◌, ◌⊎◌}
 use Rattle.std.proofs.lemmas.Slice.Eq.{bytes_eq-Decides}
-use Rattle.std.proofs.lemmas.Bool.{or_left}
+use Rattle.std.proofs.lemmas.Bool.{or_cases, or_left, or_right}
 use Rattle.rpki_der.specs.declared.mode.Mode.{Mode}
 use Rattle.rpki_der.specs.declared.mode.Mode.TheVariants.{Der, Ber}
 use Rattle.rpki_der.specs.Read.Parse.{Parser}
 use Rattle.rpki_der.specs.Read.Exact.{IsExact, IsReading, anything}
-use Rattle.rpki_der.proofs.Reading.Unique.{reading, IsOneValue}
+use Rattle.rpki_der.proofs.Reading.Unique.{IsOneValue}
 use Rattle.rpki_der.specs.Tags.{SEQUENCE, NULL}
 use Rattle.rpki_der.specs.Form.Law.{nothing, is, IsPart}
 use Rattle.rpki_der.specs.Form.Made.{Partly, partly}
@@ -41,19 +41,11 @@ named-is oid read e = (bytes_eq-Decides read oid).0 (found-true (bytes_eq read o
 pub named-self : (oid : List ℕ) → named oid oid ≡ Some tt
 named-self oid = ap found ((bytes_eq-Decides oid oid).1 refl)
 
-or-cases : (t u : Bool) → (t || u) ≡ true → (t ≡ true) ⊎ (u ≡ true)
-or-cases true u e = inl refl
-or-cases false u e = inr e
-
-or-second : (t u : Bool) → u ≡ true → (t || u) ≡ true
-or-second true u e = refl
-or-second false u e = e
-
 either-is : (a b read : List ℕ) → either_named a b read ≡ Some tt → (read ≡ a) ⊎ (read ≡ b)
 either-is a b read e =
     let or : (bytes_eq read a || bytes_eq read b) ≡ true =
     found-true (bytes_eq read a || bytes_eq read b) e in
-    elim (or-cases (bytes_eq read a) (bytes_eq read b) or) [
+    elim (or_cases (bytes_eq read a) (bytes_eq read b) or) [
       | inl t ↦ inl ((bytes_eq-Decides read a).0 t)
       | inr t ↦ inr ((bytes_eq-Decides read b).0 t)
     ]
@@ -64,7 +56,7 @@ either-first a b =
 
 either-second : (a b : List ℕ) → either_named a b b ≡ Some tt
 either-second a b =
-    ap found (or-second (bytes_eq b a) (bytes_eq b b) ((bytes_eq-Decides b b).1 refl))
+    ap found (or_right (bytes_eq b a) (bytes_eq b b) ((bytes_eq-Decides b b).1 refl))
 
 pub named-part : (oid : List ℕ)
     → IsPart (is SEQUENCE) nothing (partly (named oid) algorithm_at)
@@ -110,10 +102,6 @@ one-algorithm mode o oid h = (SEQUENCE, h.0, h.1)
 pub one-cms : IsOneValue CmsAlgorithmForm
 one-cms mode o u (inl h) = (SEQUENCE, h.0, h.1)
 one-cms mode o u (inr h) = (SEQUENCE, h.0, h.1)
-
-pub reading-of : {X : Type 0} {p : Parser X} {G : Mode → List ℕ → X → Type 0}
-    → IsPart (is SEQUENCE) nothing p G → IsOneValue G → IsReading p G
-reading-of {X} {p} {G} part one = reading p G (exact-of part) part.relaxed one
 
 -- what is in the form in DER is read in both modes
 pub read-back : {X : Type 0} {p : Parser X} {G : Mode → List ℕ → X → Type 0}

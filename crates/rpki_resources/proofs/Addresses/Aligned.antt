@@ -13,7 +13,8 @@ use Rattle.rpki_resources.specs.Blocks.{SameSet, IsUnion, IsIntersection}
 use Rattle.rpki_resources.specs.Family.{max_bits, IsWithin}
 use Rattle.rpki_resources.proofs.Sets.Between.{between_in, between_before, between_after}
 use Rattle.rpki_resources.proofs.Sets.Between.{between_high}
-use Rattle.rpki_resources.proofs.Sets.Rises.{holds_below, clash, or_left, or_right}
+use Rattle.std.proofs.lemmas.Bool.{or_left, or_right}
+use Rattle.rpki_resources.proofs.Sets.Rises.{holds_below, clash}
 
 abbrev n_of : ℕ → ℕ
 n_of n = n

@@ -7,9 +7,9 @@ use Rattle.rpki_der.specs.declared.mode.Mode.{Mode}
 use Rattle.rpki_der.specs.Tags.{SEQUENCE, BIT_STRING}
 use Rattle.rpki_der.specs.Read.Parse.{bits_at, bits_of}
 use Rattle.rpki_der.specs.Form.Made.{made}
-use Rattle.rpki_der.proofs.Reading.Many.{primitive-shorter}
 use Rattle.rpki_der.proofs.Reading.Skips.{Takes}
-use Rattle.rpki_resources.proofs.Taking.{takes-within, takes-made, takes-tested, takes-choice}
+use Rattle.rpki_der.proofs.Reading.UpToEnd.{takes-in, takes-primitive}
+use Rattle.rpki_der.proofs.Form.Taking.{takes-made, takes-tested, takes-choice}
 use Rattle.rpki_der.specs.Form.Law.{nothing, is, or, IsPart}
 use Rattle.rpki_der.specs.Form.Parts.{sequence_at}
 use Rattle.rpki_der.proofs.Form.Fields.{field, guard, done, within-if}
@@ -71,10 +71,10 @@ prefix-part family = make network (address-part (max_bits family))
 address-takes : (most : ℕ) (mode : Mode) → Takes (ip_address_at most mode)
 unfolding ip_address_at
 address-takes most mode = takes-tested (λ bits. nat_le (bit_count bits) most) bits_at mode
-    (record { at = λ b x r h. primitive-shorter BIT_STRING bits_of mode b x r h })
+    (takes-primitive BIT_STRING bits_of mode)
 
 pub ip-takes : (most : ℕ) (mode : Mode) → Takes (ip_item_at most mode)
 ip-takes most mode = takes-choice SEQUENCE (sequence_at (ip_ends_at most))
     (made beginning (ip_address_at most)) mode
-    (takes-within SEQUENCE (ip_ends_at most) mode)
+    (takes-in SEQUENCE (ip_ends_at most) mode)
     (takes-made beginning (ip_address_at most) mode (address-takes most mode))

@@ -30,7 +30,7 @@ use Rattle.rpki_resources.proofs.Addresses.FirstBits.{highest_end}
 use Rattle.rpki_resources.proofs.Addresses.Exact.{ip-part}
 use Rattle.rpki_resources.proofs.Addresses.Within.{max_most}
 use Rattle.rpki_resources.proofs.Prefixes.Lengths.{prefix_len_tells, prefix_order}
-use Rattle.rpki_resources.proofs.Readings.{part-reading}
+use Rattle.rpki_der.proofs.Reading.Unique.{part-reading}
 use Rattle.rpki_der.specs.Form.Made.{Made}
 use Rattle.rpki_der.specs.Tags.{SEQUENCE}
 use Rattle.rpki_der.specs.Read.Exact.{IsReading}

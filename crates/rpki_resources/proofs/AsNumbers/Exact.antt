@@ -6,9 +6,9 @@ use Rattle.rpki_der.specs.declared.mode.Mode.{Mode}
 use Rattle.rpki_der.specs.Tags.{SEQUENCE, INTEGER}
 use Rattle.rpki_der.specs.Read.Parse.{u32_at, unsigned_of}
 use Rattle.rpki_der.specs.Form.Made.{made}
-use Rattle.rpki_der.proofs.Reading.Many.{primitive-shorter}
 use Rattle.rpki_der.proofs.Reading.Skips.{Takes}
-use Rattle.rpki_resources.proofs.Taking.{takes-within, takes-made, takes-choice}
+use Rattle.rpki_der.proofs.Reading.UpToEnd.{takes-in, takes-primitive}
+use Rattle.rpki_der.proofs.Form.Taking.{takes-made, takes-choice}
 use Rattle.rpki_der.specs.Form.Law.{nothing, is, or, IsPart}
 use Rattle.rpki_der.specs.Form.Parts.{sequence_at}
 use Rattle.rpki_der.proofs.Form.Fields.{field, guard, done, within-if}
@@ -47,6 +47,5 @@ as-part = set-part item-block as-item
 -- it takes an octet at least
 pub as-takes : (mode : Mode) → Takes (as_item_at mode)
 as-takes mode = takes-choice SEQUENCE (sequence_at as_ends_at) (made only u32_at) mode
-    (takes-within SEQUENCE as_ends_at mode)
-    (takes-made only u32_at mode
-    (record { at = λ b x r h. primitive-shorter INTEGER (unsigned_of 4) mode b x r h }))
+    (takes-in SEQUENCE as_ends_at mode)
+    (takes-made only u32_at mode (takes-primitive INTEGER (unsigned_of 4) mode))

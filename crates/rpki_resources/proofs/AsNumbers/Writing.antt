@@ -21,7 +21,7 @@ use Rattle.rpki_resources.specs.Joined.{merged, joined}
 use Rattle.rpki_resources.proofs.AsNumbers.Exact.{as-part, item-block}
 use Rattle.rpki_resources.proofs.Sets.Joining.{joined-all}
 use Rattle.rpki_resources.proofs.Sets.Listed.{set-joined}
-use Rattle.rpki_resources.proofs.Readings.{part-reading}
+use Rattle.rpki_der.proofs.Reading.Unique.{part-reading}
 use Rattle.rpki_der.proofs.Form.Words.{items-all}
 use Rattle.rpki_der.specs.Tags.{SEQUENCE}
 use Rattle.rpki_der.specs.Read.Exact.{IsReading}

@@ -14,7 +14,7 @@ use Rattle.rpki_resources.specs.Families.Read.{values_at, no_values}
 use Rattle.rpki_resources.specs.Lists.{TakesOctets}
 use Rattle.rpki_resources.proofs.Families.Exact.{family-part}
 use Rattle.rpki_resources.proofs.Families.Gathered.{entries-sound, entries-complete}
-use Rattle.rpki_resources.proofs.Readings.{part-reading}
+use Rattle.rpki_der.proofs.Reading.Unique.{part-reading}
 
 -- an entry takes an octet at least
 pub entry-takes : {X : Type 0} (p : AddressFamily → Parser X) → TakesOctets (entry_at p)

@@ -12,7 +12,7 @@ use Rattle.rpki_resources.specs.declared.family.AddressFamily.TheVariants.{Ipv4,
 use Rattle.rpki_resources.specs.Family.Form.{afi, FamilyForm}
 use Rattle.rpki_resources.specs.Family.Read.{family_at}
 use Rattle.rpki_resources.proofs.Families.Exact.{family-part}
-use Rattle.rpki_resources.proofs.Readings.{part-reading}
+use Rattle.rpki_der.proofs.Reading.Unique.{part-reading}
 
 pub family_reading : IsReading family_at FamilyForm
 family_reading = part-reading family-part (λ mode o family h. octets-one 32 mode o (afi family) h)

@@ -14,7 +14,7 @@ use Rattle.rpki_resources.proofs.Addresses.Exact.{prefix-part}
 use Rattle.rpki_resources.proofs.Addresses.FirstBits.{end_bits, end_count, lowest_end}
 use Rattle.rpki_resources.proofs.Addresses.Within.{max_most}
 use Rattle.rpki_resources.proofs.Addresses.Writing.{address_written}
-use Rattle.rpki_resources.proofs.Readings.{part-reading}
+use Rattle.rpki_der.proofs.Reading.Unique.{part-reading}
 
 pub prefix_reading : (family : AddressFamily)
     → IsReading (prefix_at (max_bits family)) (PrefixForm family)

@@ -2,7 +2,7 @@
 use Rattle.std.proofs.Common.{◌≡◌, ℕ, ◌+◌, ◌<◌, ◌≤◌, List, [], ◌∷◌, Bool, true, false, ◌||◌, arith}
 use Rattle.std.proofs.Common.{inl, inr, refl, All}
 use Rattle.std.proofs.lemmas.List.Elements.{All-nil, All-cons}
-use Rattle.std.proofs.lemmas.Bool.{or_cases}
+use Rattle.std.proofs.lemmas.Bool.{or_cases, or_left, or_right}
 use Rattle.std.proofs.lemmas.Bool.Decides.{leb_tells}
 use Rattle.rpki_resources.specs.declared.block.Block.{Block}
 use Rattle.rpki_resources.specs.Blocks.{within, holds, Holds, Covers, RisesFrom}
@@ -34,13 +34,6 @@ held_above f a n bs r h =
       | inr q ↦ absurd
           (clash (holds f bs n) h (holds_below f a n bs r q.1))
     ]
-
-pub or_left : (x y : Bool) → x ≡ true → (x || y) ≡ true
-or_left x y e = rw e refl
-
-pub or_right : (x y : Bool) → y ≡ true → (x || y) ≡ true
-or_right true y e = refl
-or_right false y e = e
 
 -- The first block of the outer set ends before the inner set begins
 pub covers_later : {T : Type 0} (f : T → ℕ) (a b : Block T) (x y : List (Block T))

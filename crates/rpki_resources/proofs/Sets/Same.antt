@@ -5,7 +5,8 @@ use Rattle.std.proofs.lemmas.Bool.Decides.{leb_tells}
 use Rattle.rpki_resources.specs.declared.block.Block.{Block}
 use Rattle.rpki_resources.specs.Blocks.{within, holds, RisesFrom, SameSet}
 use Rattle.rpki_resources.proofs.Sets.Between.{between_in, between_after}
-use Rattle.rpki_resources.proofs.Sets.Rises.{holds_below, held_above, clash, or_left}
+use Rattle.std.proofs.lemmas.Bool.{or_left}
+use Rattle.rpki_resources.proofs.Sets.Rises.{holds_below, held_above, clash}
 
 same_block : {T : Type 0} (x y : Block T) → x.min ≡ y.min → x.max ≡ y.max → x ≡ y
 same_block x y p q = λ i. record { min = p i; max = q i }

@@ -1,6 +1,7 @@
 -- The octets of a set of addresses of a family. The sections are those of RFC 3779.
-use Rattle.std.specs.Prelude.{ℕ, ◌+◌, ◌-◌, ◌*◌, ◌/◌, ◌^◌, ◌≤◌, List, [], ◌∷◌, length}
+use Rattle.std.specs.Prelude.{◌≡◌, ℕ, ◌+◌, ◌-◌, ◌*◌, ◌/◌, ◌^◌, ◌≤◌, List, [], ◌∷◌, length}
 use Rattle.rpki_der.specs.declared.mode.Mode.{Mode}
+use Rattle.rpki_der.specs.Bits.{IsBits}
 use Rattle.rpki_der.specs.Numbers.{number}
 use Rattle.rpki_der.specs.Grammar.{BitString}
 use Rattle.rpki_der.specs.Form.Parts.{Sequence, SequenceOf}
@@ -34,6 +35,13 @@ beginning bits = record { min = lowest bits; max = highest bits }
 -- the prefix that the bits are
 abbrev pub network : List ℕ × ℕ → Network
 network bits = record { addr = lowest bits; len = bit_count bits }
+
+-- Octets, of the last of which some bits are not used, are this prefix of the family: they are a
+-- string of bits, and these are no more than an address of the family has (2.2.3.8).
+pub record IsNetworkOf (family : AddressFamily) (bits : List ℕ × ℕ) (p : Network) : Type 0 where
+  pub string : IsBits bits.0 bits.1
+  pub most : bit_count bits ≤ max_bits family
+  pub same : p ≡ network bits
 
 -- IPAddress: a BIT STRING (2.2.3.8), of no more bits than an address of the family has
 abbrev pub IpAddress : ℕ → Mode → List ℕ → List ℕ × ℕ → Type 0

@@ -15,7 +15,7 @@ unfoldable pub first_bits : ℕ → ℕ → List ℕ
 first_bits addr len =
     bit_string_contents (take (octet_count len) (to_be_bytes w128 addr)) (8 * octet_count len - len)
 
--- the same as a value
+-- The first len bits of an address, as a BIT STRING.
 abbrev pub end_octets : ℕ → ℕ → List ℕ
 end_octets addr len = value_octets BIT_STRING (first_bits addr len)
 

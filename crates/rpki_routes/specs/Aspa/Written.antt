@@ -18,6 +18,6 @@ abbrev pub aspa_contents : Aspa → List ℕ
 aspa_contents a = version_octets
     ++ (number_octets a.customer ++ value_octets SEQUENCE (providers_octets a.providers))
 
--- the content
+-- the content as it is written
 abbrev pub aspa_octets : Aspa → List ℕ
 aspa_octets a = value_octets SEQUENCE (aspa_contents a)

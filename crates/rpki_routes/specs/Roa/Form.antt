@@ -14,15 +14,17 @@ use Rattle.rpki_resources.specs.Ip.Form.{PrefixForm}
 use Rattle.rpki_routes.specs.Roa.{Address, Roa, IsMaxLength}
 
 -- ROAIPAddress: SEQUENCE { address, maxLength INTEGER OPTIONAL } (4.3). The bits of the prefix that
--- are not used may be any, which is this project's own rule.
+-- are not used may be any, and the maximum length may be that of the prefix, where it should be
+-- left out (4.3.2.2): both are this project's own rules.
 abbrev pub AddressForm : AddressFamily → List ℕ → Address → Type 0
 AddressForm family octets a = Sequence Der (
     (λ o. PrefixForm family Der o a.prefix)
     ∷ (λ o. Optional (IntegerBelow 256 Der) o a.max_length)
     ∷ []) octets × IfSome a.max_length (IsMaxLength family a.prefix.len)
 
--- addresses: SEQUENCE OF ROAIPAddress, where there is at least one (4.3). Here there may be none,
--- which is this project's own rule.
+-- addresses: SEQUENCE OF ROAIPAddress, where there is at least one (4.3), and which should stand in
+-- a canonical order, each once (4.3.3). Here there may be none, and they may stand in any order and
+-- more than once, which is this project's own rule.
 abbrev pub AddressesForm : AddressFamily → Mode → List ℕ → List Address → Type 0
 AddressesForm family mode = SequenceOf mode (AddressForm family)
 

@@ -43,6 +43,6 @@ families_octets r = family_octets Ipv4 r.v4 ++ family_octets Ipv6 r.v6
 abbrev pub roa_contents : Roa → List ℕ
 roa_contents r = number_octets r.as_id ++ value_octets SEQUENCE (families_octets r)
 
--- the content
+-- the content as it is written
 abbrev pub roa_octets : Roa → List ℕ
 roa_octets r = value_octets SEQUENCE (roa_contents r)

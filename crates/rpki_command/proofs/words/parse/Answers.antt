@@ -4,5 +4,5 @@ use Rattle.rpki_command.proofs.words.parse.Goals as goal
 
 pub returns-else-each_named : goal.returns-else-each_named
 returns-else-each_named c =
-    asked-unnamed _ c.in_ok-order.order c.in_ok-order.ensures
+    asked-unnamed _ c.in_ok-order.order c.in_ok-order.ensures.0 c.in_ok-order.ensures.1
     (sym c.each_named.ensures ∙ c.if-each_named.false)

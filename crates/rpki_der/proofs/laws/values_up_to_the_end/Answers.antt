@@ -1,15 +1,12 @@
 use Rattle.std.proofs.Common.{◌≡◌, ℕ, Bool, true, false, List, [], ◌∷◌, Option, Some, None, refl}
 use Rattle.std.proofs.Common.{sym, ap, ◌∙◌}
 use Rattle.std.specs.Prelude.{◌↔◌}
+use Rattle.std.proofs.lemmas.Bool.{false_from_ne_true}
 use Rattle.rpki_der.specs.declared.mode.Mode.{Mode}
 use Rattle.rpki_der.specs.Read.Parse.{any_at, some_of, skip_at, skip_opt_at, at_end}
 use Rattle.rpki_der.proofs.Reading.Lengths.{some_is}
 use Rattle.rpki_der.proofs.Reading.Skips.{skip-none}
 use Rattle.rpki_der.proofs.laws.values_up_to_the_end.Goals as goal
-
-not-true : (b : Bool) → (b ≡ true → ⊥) → b ≡ false
-not-true true h = absurd (h refl)
-not-true false h = refl
 
 ends : (mode : Mode) (o r : List ℕ) (e : Bool)
     → (at_end mode o ≡ Some (e, r)) ↔ ((r ≡ o) × ((e ≡ true) ↔ (o ≡ [])))
@@ -32,7 +29,7 @@ ends mode (b ∷ bytes) r e = (
           λ n. absurd cc,
         ),
       ),
-  λ h. rw (h.0, not-true e (λ t. let no = h.1.0 t in absurd cc)) refl,
+  λ h. rw (h.0, false_from_ne_true e (λ t. let no = h.1.0 t in absurd cc)) refl,
 )
 
 any-nothing : (mode : Mode) → any_at mode [] ≡ None

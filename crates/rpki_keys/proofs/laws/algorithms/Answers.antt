@@ -1,17 +1,18 @@
+use Rattle.rpki_der.proofs.Reading.Unique.{part-reading}
 use Rattle.rpki_keys.proofs.Algorithms.Parts.{algorithm-part, digest-part, cms-part, cert-part}
-use Rattle.rpki_keys.proofs.Algorithms.Parts.{reading-of, one-algorithm, one-cms}
+use Rattle.rpki_keys.proofs.Algorithms.Parts.{one-algorithm, one-cms}
 use Rattle.rpki_keys.specs.Algorithm.{sha_256, sha256_with_rsa}
 use Rattle.rpki_keys.proofs.laws.algorithms.Goals as goal
 
 pub returns-clause-any : goal.returns-clause-any
-returns-clause-any c = reading-of algorithm-part one-algorithm
+returns-clause-any c = part-reading algorithm-part one-algorithm
 
 pub returns-clause-digest : goal.returns-clause-digest
-returns-clause-digest c = reading-of digest-part (λ mode o _ h. one-algorithm mode o sha_256 h)
+returns-clause-digest c = part-reading digest-part (λ mode o _ h. one-algorithm mode o sha_256 h)
 
 pub returns-clause-cms : goal.returns-clause-cms
-returns-clause-cms c = reading-of cms-part one-cms
+returns-clause-cms c = part-reading cms-part one-cms
 
 pub returns-clause-cert : goal.returns-clause-cert
 returns-clause-cert c =
-    reading-of cert-part (λ mode o _ h. one-algorithm mode o sha256_with_rsa h)
+    part-reading cert-part (λ mode o _ h. one-algorithm mode o sha256_with_rsa h)

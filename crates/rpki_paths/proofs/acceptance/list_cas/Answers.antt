@@ -7,7 +7,7 @@ use Rattle.rpki_paths.specs.Taking.{AreAt}
 use Rattle.rpki_paths.specs.Grant.{HaveCrls}
 use Rattle.rpki_paths.proofs.Mapping.{same_pair, map_unpaired, placed_are_authorities}
 use Rattle.rpki_paths.proofs.Mapping.{cheap_along_map}
-use Rattle.rpki_paths.proofs.Accepting.{at_in_range, as_many_found, found_pairing}
+use Rattle.rpki_paths.proofs.Accepting.{at_in_range, as_many_found, found_pairs}
 use Rattle.rpki_paths.proofs.acceptance.list_cas.Goals as goal
 
 pub items_at-requires : goal.items_at-requires
@@ -33,9 +33,12 @@ returns-in-Err-clause-refused g c =
     g.C.Seeks.verdict (λ (d : Cert). d.ski) (λ (l : Crl). l.aki) (λ d l. l.verifies d.key)
     g.met.C.CarriedCert.seeks_ski g.met.C.CarriedCert.holds_aki
     g.met.C.CarriedCert.verdict_is_crl in
-    map_unpaired g.C.Certificate.cert g.C.CarriedCert.crl
-    (IsPair g.C.Seeks.sought g.C.Seeks.held g.C.Seeks.verdict) HasCrl same c.args.a.now.cas.now
-    c.args.a.now.crls.now c.in-Err.fault c.in-Err.ensures.refused
+    λ valid. (
+      valid,
+      map_unpaired g.C.Certificate.cert g.C.CarriedCert.crl
+          (IsPair g.C.Seeks.sought g.C.Seeks.held g.C.Seeks.verdict) HasCrl same
+          c.args.a.now.cas.now c.args.a.now.crls.now c.in-Err.fault c.in-Err.ensures.refused,
+    )
 
 pub returns-in_ok-with_crls-in-Ok-clause-listed :
     goal.returns-in_ok-with_crls-in-Ok-clause-listed
@@ -55,7 +58,7 @@ returns-in_ok-with_crls-in-Ok-clause-listed g c =
     let have = subst (λ l. HaveCrls cert crl cas l with_lists) c.deref-in-Ok.ensures.value
     c.in_ok-with_crls-in-Ok.ensures in (
       map crl found,
-      found_pairing cert crl (IsPair g.C.Seeks.sought g.C.Seeks.held g.C.Seeks.verdict) HasCrl same
+      found_pairs cert crl (IsPair g.C.Seeks.sought g.C.Seeks.held g.C.Seeks.verdict) HasCrl same
           cas crls c.in-Ok.places.items found c.in-Ok.ensures.paired stands,
       placed_are_authorities cert crl 1 cas found with_lists have,
     )

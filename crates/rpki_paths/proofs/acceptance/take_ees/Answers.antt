@@ -5,7 +5,7 @@ use Rattle.rpki_paths.specs.Cert.{Cert, IsIn}
 use Rattle.rpki_paths.specs.Pairing.{IsPair, IsVerifiedBy, Signer}
 use Rattle.rpki_paths.specs.Taking.{AreAt}
 use Rattle.rpki_paths.proofs.Mapping.{same_pair, map_unpaired, cheap_along_map}
-use Rattle.rpki_paths.proofs.Accepting.{at_in_range, found_pairing}
+use Rattle.rpki_paths.proofs.Accepting.{at_in_range, found_pairs}
 use Rattle.rpki_paths.proofs.acceptance.take_ees.Goals as goal
 
 pub items_at-requires : goal.items_at-requires
@@ -21,9 +21,12 @@ returns-in-Err-clause-refused g c =
     g.S.Seeks.held g.S.Seeks.verdict (λ (s : Signer). s.sid) (λ (e : Cert). e.ski)
     (λ s e. s.verifies e.key) g.met.S.CarriedSigner.seeks_sid g.met.S.CarriedSigner.holds_ski
     g.met.S.CarriedSigner.verdict_is_own in
-    map_unpaired g.S.CarriedSigner.signer g.C.Certificate.cert
-    (IsPair g.S.Seeks.sought g.S.Seeks.held g.S.Seeks.verdict) IsVerifiedBy same
-    c.args.a.now.signers.now c.args.a.now.ees.now c.in-Err.fault c.in-Err.ensures.refused
+    λ passed. (
+      passed,
+      map_unpaired g.S.CarriedSigner.signer g.C.Certificate.cert
+          (IsPair g.S.Seeks.sought g.S.Seeks.held g.S.Seeks.verdict) IsVerifiedBy same
+          c.args.a.now.signers.now c.args.a.now.ees.now c.in-Err.fault c.in-Err.ensures.refused,
+    )
 
 pub returns-in_ok-items_at-in-Ok-clause-paired : goal.returns-in_ok-items_at-in-Ok-clause-paired
 returns-in_ok-items_at-in-Ok-clause-paired g c =
@@ -35,7 +38,7 @@ returns-in_ok-items_at-in-Ok-clause-paired g c =
     g.met.S.CarriedSigner.verdict_is_own in
     let stands = subst (λ p. AreAt ees p found) c.deref.ensures.value
     c.in_ok-items_at-in-Ok.ensures in
-    found_pairing g.S.CarriedSigner.signer g.C.Certificate.cert
+    found_pairs g.S.CarriedSigner.signer g.C.Certificate.cert
     (IsPair g.S.Seeks.sought g.S.Seeks.held g.S.Seeks.verdict) IsVerifiedBy same
     c.args.a.now.signers.now ees c.in-Ok.places.items found c.in-Ok.ensures.paired stands
 

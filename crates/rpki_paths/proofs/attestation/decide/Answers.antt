@@ -15,7 +15,7 @@ returns-in-Err-clause-no g c = λ other acc dist. (
     let supplies = c.args.supplies.now in
     let sets = attested_sets c.args.a.now.sets in
     unsupplied_is_refused cert of refuses a acc.ees acc.crls c.args.paths.now
-    c.supply_all.new.paths supplies sets c.in-Err.fault dist acc.matching acc.walked other
+    c.supply_all.new.paths supplies sets c.in-Err.fault dist acc.paired.matching acc.walked other
     c.in-Err.ensures)
 
 pub returns-in-Ok-finalize-clause-yes : goal.returns-in-Ok-finalize-clause-yes
@@ -28,7 +28,7 @@ returns-in-Ok-finalize-clause-yes g c = λ acc. (
     let supplies = c.args.supplies.now in
     let sets = attested_sets c.args.a.now.sets in
     yes_is_granted cert of refuses a acc.ees acc.crls c.args.paths.now c.supply_all.new.paths
-    supplies sets acc.valid acc.matching acc.walked c.in-Ok.ensures c.in-Ok-finalize.ensures)
+    supplies sets acc.valid acc.paired.matching acc.walked c.in-Ok.ensures c.in-Ok-finalize.ensures)
 
 pub returns-in-Err-finalize-clause-no : goal.returns-in-Err-finalize-clause-no
 returns-in-Err-finalize-clause-no g c = λ other acc dist. (
@@ -40,5 +40,18 @@ returns-in-Err-finalize-clause-no g c = λ other acc dist. (
     let supplies = c.args.supplies.now in
     let sets = attested_sets c.args.a.now.sets in
     undecided_is_refused cert of refuses a acc.ees acc.crls c.args.paths.now
-    c.supply_all.new.paths supplies sets c.in-Err-finalize.fault dist acc.matching acc.walked other
+    c.supply_all.new.paths supplies sets c.in-Err-finalize.fault dist acc.paired.matching acc.walked other
     c.in-Ok.ensures c.in-Err-finalize.ensures)
+
+pub returns-in-Err-clause-fault : goal.returns-in-Err-clause-fault
+returns-in-Err-clause-fault g c = λ acc.
+    (c.args.paths.now, c.supply_all.new.paths, acc, c.in-Err.ensures)
+
+pub returns-in-Err-finalize-clause-fault : goal.returns-in-Err-finalize-clause-fault
+returns-in-Err-finalize-clause-fault g c = λ acc. (
+  c.args.paths.now,
+  c.supply_all.new.paths,
+  acc,
+  c.in-Ok.ensures,
+  c.in-Err-finalize.ensures,
+)
