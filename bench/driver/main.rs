@@ -100,6 +100,8 @@ fn subjects() -> Vec<Subject> {
         subject("bcder-walk", "plain-walk", beside_bcder::walk),
         subject("plain-twice", "plain-twice", plain_twice),
         subject("proved-twice", "plain-twice", proved_walk),
+        #[cfg(bcder)]
+        subject("bcder-twice", "plain-twice", beside_bcder::twice),
         subject("plain-keep", "plain-keep", plain_keep),
         subject("shared-walk", "plain-keep", shared_walk),
         subject("strict-read", "plain-walk", strict_read),

@@ -2,3 +2,4 @@
 pub mod Segments
 pub mod Tests
 pub mod Octets
+pub mod Refused

@@ -8,7 +8,7 @@ use Rattle.rpki_der.specs.Grammar.{Boolean, ObjectIdentifier, OctetString}
 use Rattle.rpki_der.specs.Numbers.{MAX_DEPTH}
 use Rattle.rpki_der.specs.Form.Keyed.{AreDistinct, are_distinct, Keyed, said}
 use Rattle.rpki_der.specs.Form.Made.{Default, Begins, default_at, front_of}
-use Rattle.rpki_der.specs.Form.Parts.{Sequence, sequence_at, items_at}
+use Rattle.rpki_der.specs.Form.Parts.{Sequence, SequenceOf, sequence_at, items_at}
 use Rattle.rpki_der.specs.Read.Parse.{Parser, ◌>>=◌, tested, oid_at, boolean_at, octets_at}
 use Rattle.rpki_der.specs.Tags.{BOOLEAN, SEQUENCE}
 use Rattle.rpki_extensions.specs.declared.extension.Extension.{Extension}
@@ -49,6 +49,11 @@ IsAmong (k ∷ ks) oid = (oid ≡ k) ⊎ IsAmong ks oid
 pub record MayStand (known : List (List ℕ)) (list : List Extension) : Type 0 where
   pub distinct : AreDistinct oid_of list
   pub critical : All (λ e. e.critical ≡ true → IsAmong known (oid_of e)) list
+
+-- SEQUENCE OF Extension, in any order, that may stand together where these are known (4.1, 4.2)
+abbrev pub StandingForm : List (List ℕ) → Mode → List ℕ → List Extension → Type 0
+StandingForm known mode octets list =
+    SequenceOf mode (ExtensionForm mode) octets list × MayStand known list
 
 -- ---- as functions
 

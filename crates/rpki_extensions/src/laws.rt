@@ -1,12 +1,15 @@
 //! What the definitions of extensions say: laws, as functions that do nothing.
 
+ghost use Rattle.std.specs.Prelude.{ℕ, List};
+ghost use Rattle.rpki_der.specs.Form.Parts.{sequence_at};
 ghost use Rattle.rpki_der.specs.Read.Exact.{IsReading};
 ghost use Rattle.rpki_extensions.specs.Access.{AuthorityAccessForm, SubjectAccessForm};
 ghost use Rattle.rpki_extensions.specs.Access.{authority_access_at, subject_access_at};
 ghost use Rattle.rpki_extensions.specs.Addresses.{IpClaimsForm, ip_claims_at};
 ghost use Rattle.rpki_extensions.specs.BasicConstraints.{BasicConstraintsForm};
 ghost use Rattle.rpki_extensions.specs.BasicConstraints.{basic_constraints_at};
-ghost use Rattle.rpki_extensions.specs.Extension.{ExtensionForm, extension_at};
+ghost use Rattle.rpki_extensions.specs.Extension.{ExtensionForm, StandingForm};
+ghost use Rattle.rpki_extensions.specs.Extension.{extension_at, standing_at};
 ghost use Rattle.rpki_extensions.specs.Extensions.{ExtensionsForm, extensions_at};
 ghost use Rattle.rpki_extensions.specs.KeyIdentifiers.{SubjectKeyForm, AuthorityKeyForm};
 ghost use Rattle.rpki_extensions.specs.KeyIdentifiers.{subject_key_at, authority_key_at};
@@ -50,6 +53,13 @@ pub fn locations()
     ensures lists { IsReading points_at PointsForm }
     ensures issuer { IsReading authority_access_at AuthorityAccessForm }
     ensures subject { IsReading subject_access_at SubjectAccessForm }
+{}
+
+/// So it is with the SEQUENCE of the extensions that `take_standing` takes, whichever are known (RFC
+/// 5280, sections 4.1 and 4.2).
+pub fn standing()
+    ensures { (known : List (List ℕ)) →
+        IsReading (sequence_at (standing_at known)) (StandingForm known) }
 {}
 
 /// So it is with one extension, and with all extensions of a resource certificate (RFC 5280,

@@ -7,7 +7,7 @@ use rpki_resources::AddressFamily;
 use std::alloc::{AllocError, Global};
 
 /// Octets, and in DER the numbers and the files, or why they are refused.
-static ROWS: [(&[u8], &str); 37] = [
+pub static ROWS: [(&[u8], &str); 37] = [
     (
         b"0&0\x0D\xA0\x0B0\x09\xA0\x070\x05\x02\x03\x00\xFB\xF00\x0B\x06\x09`\x86H\x01e\
           \x03\x04\x02\x010\x080\x06\x04\x04hash",
@@ -200,7 +200,7 @@ static ROWS: [(&[u8], &str); 37] = [
 ];
 
 /// The same in BER.
-static RELAXED: [(&[u8], &str); 5] = [
+pub static RELAXED: [(&[u8], &str); 5] = [
     (
         b"0\x800\x80\xA0\x0B0\x09\xA0\x070\x05\x02\x03\x00\xFB\xF0\x00\x000\x0B\x06\x09`\
           \x86H\x01e\x03\x04\x02\x010\x080\x06\x04\x04hash\x00\x00",

@@ -7,7 +7,19 @@ use rpki_files::ManifestContent;
 use std::alloc::{AllocError, Global};
 
 /// A rule, octets, and in DER the number, the times and the files, or why they are refused.
-static ROWS: [(ManifestRule, &[u8], &str); 39] = [
+pub static ROWS: [(ManifestRule, &[u8], &str); 41] = [
+    (
+        ManifestRule::Any,
+        b"0E\x02\x01\x0C\x18\x0F20240101000000Z\x18\x0F20240108000000Z\x06\x09`\x86H\x01e\
+          \x03\x04\x02\x010\x130\x11\x16\x08file.cer\x03\x05\x00hash",
+        "c 2024-01-01T00:00:00Z 2024-01-08T00:00:00Z file.cer 68617368",
+    ),
+    (
+        ManifestRule::Registered,
+        b"0E\x02\x01\x0C\x18\x0F20240101000000Z\x18\x0F20240108000000Z\x06\x09`\x86H\x01e\
+          \x03\x04\x02\x010\x130\x11\x16\x08file.cer\x03\x05\x00hash",
+        "c 2024-01-01T00:00:00Z 2024-01-08T00:00:00Z file.cer 68617368",
+    ),
     (
         ManifestRule::Any,
         b"0X\x02\x01\x0C\x18\x0F20240101000000Z\x18\x0F20240108000000Z\x06\x09`\x86H\x01e\
@@ -251,7 +263,7 @@ static ROWS: [(ManifestRule, &[u8], &str); 39] = [
 ];
 
 /// The same in BER: the entries stand in DER.
-static RELAXED: [(ManifestRule, &[u8], &str); 3] = [
+pub static RELAXED: [(ManifestRule, &[u8], &str); 3] = [
     (
         ManifestRule::Any,
         b"0\x80\x02\x01\x0C\x18\x0F20240101000000Z\x18\x0F20240108000000Z\x06\x09`\x86H\

@@ -9,6 +9,8 @@
 #[cfg(test)]
 mod octets;
 #[cfg(test)]
+mod prefixes;
+#[cfg(test)]
 mod sets;
 #[cfg(test)]
 mod texts;

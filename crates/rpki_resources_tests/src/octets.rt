@@ -3,7 +3,7 @@
 use crate::sets::{Numbers, as_set, ip_set};
 use bytes::Bytes;
 use rpki_der::encode::sequence;
-use rpki_der::{Constructed, DecodeError, Encode, EncodeError, Mode};
+use rpki_der::{Constructed, ContentFault, DecodeError, Encode, EncodeError, Mode, Reason};
 use rpki_resources::AddressFamily::{Ipv4, Ipv6};
 use rpki_resources::{AddressFamily, AsBlocks, IpBlocks};
 use std::alloc::{AllocError, Global};
@@ -11,10 +11,34 @@ use std::alloc::{AllocError, Global};
 /// The first address and the last one of each block.
 pub type Addresses = &'static [(u128, u128)];
 
+/// The answer to octets that are read as a set of AS numbers.
+fn decode_as(
+    alloc: Global,
+    mode: Mode,
+    octets: &[u8],
+) -> Result<Result<AsBlocks, DecodeError>, AllocError> {
+    let source = Bytes::copy_from_slice(alloc, octets)?;
+    Ok(Constructed::decode(source, mode, |cons| AsBlocks::take_from(alloc, cons)))
+}
+
+/// The answer to octets that are read as a set of addresses.
+fn decode_ip(
+    alloc: Global,
+    mode: Mode,
+    family: AddressFamily,
+    octets: &[u8],
+) -> Result<Result<IpBlocks, DecodeError>, AllocError> {
+    let source = Bytes::copy_from_slice(alloc, octets)?;
+    Ok(Constructed::decode(
+        source,
+        mode,
+        |cons| IpBlocks::take_from(alloc, cons, family),
+    ))
+}
+
 /// What is read of a set of AS numbers, or `None` where the octets are refused.
 pub fn read_as(alloc: Global, mode: Mode, octets: &[u8]) -> Result<Option<AsBlocks>, AllocError> {
-    let source = Bytes::copy_from_slice(alloc, octets)?;
-    read(Constructed::decode(source, mode, |cons| AsBlocks::take_from(alloc, cons)))
+    read(decode_as(alloc, mode, octets)?)
 }
 
 /// The same of a set of addresses.
@@ -24,12 +48,21 @@ pub fn read_ip(
     family: AddressFamily,
     octets: &[u8],
 ) -> Result<Option<IpBlocks>, AllocError> {
-    let source = Bytes::copy_from_slice(alloc, octets)?;
-    read(Constructed::decode(
-        source,
-        mode,
-        |cons| IpBlocks::take_from(alloc, cons, family),
-    ))
+    read(decode_ip(alloc, mode, family, octets)?)
+}
+
+/// Whether the answer is a refusal for this reason, or by `Malformed` where there is none. Want of
+/// memory is handed on.
+fn is_refused<T: Drop>(
+    answer: Result<T, DecodeError>,
+    want: Option<Reason>,
+) -> Result<bool, AllocError> {
+    match (answer, want) {
+        (Err(DecodeError::Memory), _) => Err(AllocError),
+        (Err(DecodeError::Content(ContentFault::Text(reason))), Some(want)) => Ok(reason == want),
+        (Err(DecodeError::Malformed), None) => Ok(true),
+        (Err(_), _) | (Ok(_), _) => Ok(false),
+    }
 }
 
 /// What was read, if the octets were not refused. Want of memory is handed on.
@@ -72,14 +105,21 @@ pub static NUMBERS: [(Numbers, &[u8]); 5] = [
     ),
 ];
 
-/// What is no set of AS numbers: the lower end above the upper end, three numbers in a range, one
-/// below 0, and one above the largest.
-static WRONG: [&[u8]; 5] = [
-    &[0x30, 8, 0x30, 6, 2, 1, 5, 2, 1, 4],
-    &[0x30, 11, 0x30, 9, 2, 1, 1, 2, 1, 2, 2, 1, 3],
-    &[0x30, 3, 2, 1, 0xFF],
-    &[0x30, 7, 2, 5, 1, 0, 0, 0, 0],
-    &[0x31, 3, 2, 1, 5],
+/// What is no set of AS numbers, and the reason that is named, or `None` for `Malformed`: the lower
+/// end above the upper end, three numbers in a range, one number in it, a number below 0, one above
+/// the largest, a SET, a set that is cut off, and a BOOLEAN among the numbers.
+static WRONG: [(&[u8], Option<Reason>); 8] = [
+    (
+        &[0x30, 8, 0x30, 6, 2, 1, 5, 2, 1, 4],
+        Some(Reason::LowerEndAboveUpperEnd),
+    ),
+    (&[0x30, 11, 0x30, 9, 2, 1, 1, 2, 1, 2, 2, 1, 3], None),
+    (&[0x30, 5, 0x30, 3, 2, 1, 1], None),
+    (&[0x30, 3, 2, 1, 0xFF], None),
+    (&[0x30, 7, 2, 5, 1, 0, 0, 0, 0], None),
+    (&[0x31, 3, 2, 1, 5], None),
+    (&[0x30, 4, 2, 1, 5], None),
+    (&[0x30, 6, 2, 1, 5, 1, 1, 0xFF], None),
 ];
 
 /// Whether this set is read of these octets, or none where they are refused.
@@ -110,8 +150,10 @@ fn are_numbers(alloc: Global) -> Result<bool, AllocError> {
             return Ok(false);
         }
     }
-    for octets in &WRONG {
-        if !is_as(alloc, Mode::Der, octets, None)? || !is_as(alloc, Mode::Ber, octets, None)? {
+    for (octets, want) in &WRONG {
+        if !is_refused(decode_as(alloc, Mode::Der, octets)?, *want)?
+            || !is_refused(decode_as(alloc, Mode::Ber, octets)?, *want)?
+        {
             return Ok(false);
         }
     }
@@ -184,31 +226,53 @@ pub static ADDRESSES: [(AddressFamily, Addresses, &[u8]); 10] = [
     ),
 ];
 
-/// What is no set of addresses: the lower end above the upper end, 33 bits of IPv4 in a prefix and
-/// in each end, and 129 bits.
-static WRONG_ADDRESSES: [(AddressFamily, &[u8]); 6] = [
-    (Ipv4, &[0x30, 10, 0x30, 8, 3, 2, 0, 11, 3, 2, 0, 10]),
-    (Ipv4, &[0x30, 8, 3, 6, 7, 10, 0, 0, 0, 0x80]),
+/// What is no set of addresses, and the reason that is named, or `None` for `Malformed`: the lower
+/// end above the upper end, 33 bits of IPv4 in a prefix and in each end, 129 bits, three ends, one
+/// end, eight bits that are not used, an INTEGER among the prefixes, and a SET.
+static WRONG_ADDRESSES: [(AddressFamily, &[u8], Option<Reason>); 11] = [
+    (
+        Ipv4,
+        &[0x30, 10, 0x30, 8, 3, 2, 0, 11, 3, 2, 0, 10],
+        Some(Reason::LowerEndAboveUpperEnd),
+    ),
+    (
+        Ipv4,
+        &[0x30, 8, 3, 6, 7, 10, 0, 0, 0, 0x80],
+        Some(Reason::AddressTooLong),
+    ),
     (
         Ipv4,
         &[0x30, 14, 0x30, 12, 3, 6, 7, 10, 0, 0, 0, 0, 3, 2, 0, 10],
+        Some(Reason::AddressTooLong),
     ),
     (
         Ipv4,
         &[0x30, 14, 0x30, 12, 3, 2, 0, 10, 3, 6, 7, 10, 0, 0, 0, 0x80],
+        Some(Reason::AddressTooLong),
     ),
     (
         Ipv4,
         &[
             0x30, 0x14, 3, 0x12, 7, 0, 0, 0, 0, 0, 0, 0, 0, 0, 0, 0, 0, 0, 0, 0, 0, 0,
         ],
+        Some(Reason::AddressTooLong),
     ),
     (
         Ipv6,
         &[
             0x30, 0x14, 3, 0x12, 7, 0, 0, 0, 0, 0, 0, 0, 0, 0, 0, 0, 0, 0, 0, 0, 0, 0,
         ],
+        Some(Reason::AddressTooLong),
     ),
+    (
+        Ipv4,
+        &[0x30, 14, 0x30, 12, 3, 2, 0, 10, 3, 2, 0, 11, 3, 2, 0, 12],
+        None,
+    ),
+    (Ipv4, &[0x30, 6, 0x30, 4, 3, 2, 0, 10], None),
+    (Ipv4, &[0x30, 4, 3, 2, 8, 10], None),
+    (Ipv6, &[0x30, 7, 3, 2, 0, 10, 2, 1, 5], None),
+    (Ipv6, &[0x31, 4, 3, 2, 0, 10], None),
 ];
 
 /// Whether this set is read of these octets, or none where they are refused.
@@ -245,9 +309,9 @@ fn are_addresses(alloc: Global) -> Result<bool, AllocError> {
             return Ok(false);
         }
     }
-    for (family, octets) in &WRONG_ADDRESSES {
-        if !is_ip(alloc, Mode::Der, *family, octets, None)?
-            || !is_ip(alloc, Mode::Ber, *family, octets, None)?
+    for (family, octets, want) in &WRONG_ADDRESSES {
+        if !is_refused(decode_ip(alloc, Mode::Der, *family, octets)?, *want)?
+            || !is_refused(decode_ip(alloc, Mode::Ber, *family, octets)?, *want)?
         {
             return Ok(false);
         }

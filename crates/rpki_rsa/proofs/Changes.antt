@@ -12,19 +12,7 @@ use Rattle.rpki_rsa.specs.Signature.{encoded_message, IsSignatureOf, IsRsaSignat
 use Rattle.rpki_rsa.proofs.EncodedParts.{digest_front, encoded-parts, encoded_number}
 use Rattle.rpki_rsa.proofs.KeyFacts.{one-modulus}
 use Rattle.rpki_der.proofs.Reading.Unique.{bytes-both}
-
-pub same-octets : (xs ys : List ℕ) (a b : ℕ) → length xs ≡ length ys → IsBytes xs → IsBytes ys
-    → number a xs ≡ number b ys → (a ≡ b) × (xs ≡ ys)
-same-octets [] [] a b l hx hy e = (e, refl)
-same-octets [] (y ∷ ys) a b l hx hy e = absurd (omega (arith, l))
-same-octets (x ∷ xs) [] a b l hx hy e = absurd (omega (arith, l))
-same-octets (x ∷ xs) (y ∷ ys) a b l hx hy e =
-    let more = same-octets xs ys (a * 256 + x) (b * 256 + y) (omega (arith, l)) hx.1 hy.1 e in
-    let first : x ≡ y = omega (arith, more.0, hx.0, hy.0) in (
-      omega (arith, more.0, hx.0, hy.0),
-      ap (λ (d : ℕ). d ∷ xs) first
-          ∙ ap (λ (ds : List ℕ). y ∷ ds) more.1,
-    )
+use Rattle.rpki_der.proofs.Writing.Numbers.{number-injective}
 
 bytes-word : (x : ℕ) → IsBytes (to_be_bytes w32 x)
 bytes-word x = (omega arith, (omega arith, (omega arith, (omega arith, tt))))
@@ -52,7 +40,7 @@ front-then k m = encoded_number k m _ _ _ _ _ refl refl refl refl refl
 same-digest : (k : ℕ) (a b : List ℕ)
     → number 0 (encoded_message k a) ≡ number 0 (encoded_message k b) → sha256 a ≡ sha256 b
 same-digest k a b e =
-    (same-octets (sha256 a) (sha256 b) (front_number k) (front_number k)
+    (number-injective (sha256 a) (sha256 b) (front_number k) (front_number k)
     (length-sha256 a ∙ sym (length-sha256 b)) (bytes-sha256 a) (bytes-sha256 b)
     (front-then k a ∙ e ∙ sym (front-then k b))).1
 

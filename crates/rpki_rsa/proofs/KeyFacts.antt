@@ -20,7 +20,7 @@ use Rattle.rpki_der.proofs.Writing.Lengths.{test}
 use Rattle.rpki_der.proofs.Writing.Numbers.{integer-is, digits-unique}
 use Rattle.rpki_der.proofs.Writing.Numbers.{length-integer_contents}
 use Rattle.rpki_basics.specs.Serial.{digits}
-use Rattle.rpki_basics.proofs.Serials.Written.{length-digits, number-digits}
+use Rattle.rpki_basics.proofs.Serials.Written.{length-digits, number-digits, bytes-digits}
 use Rattle.rpki_rsa.specs.Signature.{key_with, IsModulus, IsRsaKey, HasOctets}
 use Rattle.rpki_rsa.specs.Signature.{contents_in, modulus_in}
 use Rattle.rpki_rsa.specs.KeyParts.{key_front, key_end, HasContents, HasDigits, IsModulusOf}
@@ -229,18 +229,6 @@ shorter (d ∷ ds) h =
             head = inr (subst (λ (x : List ℕ). 0 < get_or x 0 0) (sym same) some);
           }
     ]
-
-pow-some : (k : ℕ) → 0 < 256 ^ k
-pow-some zero = omega arith
-pow-some (suc k) = let h : 0 < 256 ^ k = pow-some k in rw (pow-suc 256 k) (omega (arith, h))
-
-pub bytes-digits : (k n : ℕ) → n < 256 ^ k → IsBytes (digits k n)
-unfolding digits
-bytes-digits zero n h = tt
-bytes-digits (suc k) n h =
-    let p : 0 < 256 ^ k = pow-some k in
-    let b : n < 256 * 256 ^ k = rw (← mul_comm (256 ^ k) 256) (rw pow-suc at h) in
-    ((div-lt_iff_lt-mul p).1 b, bytes-digits k (n % 256 ^ k) (mod-lt n p))
 
 -- ---- how many octets a number has
 

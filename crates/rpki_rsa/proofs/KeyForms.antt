@@ -17,7 +17,8 @@ use Rattle.rpki_der.proofs.Writing.Values.{number-written, number-unique, intege
 use Rattle.rpki_basics.specs.Serial.{digits}
 use Rattle.rpki_basics.proofs.Serials.Written.{length-digits, number-digits}
 use Rattle.rpki_rsa.specs.Signature.{key_with, rsa_key_octets, IsModulus, IsRsaKey, RsaKeyForm}
-use Rattle.rpki_rsa.proofs.KeyFacts.{bytes-digits, bits_4096}
+use Rattle.rpki_basics.proofs.Serials.Written.{bytes-digits}
+use Rattle.rpki_rsa.proofs.KeyFacts.{bits_4096}
 
 fits : (n : ℕ) → IsModulus n → n < 256 ^ 512
 fits n m = rw bits_4096 at m.most

@@ -3,7 +3,7 @@ use Rattle.std.proofs.Common.{◌≡◌, ℕ, zero, suc, ◌+◌, ◌*◌, ◌%�
 use Rattle.std.proofs.Common.{Bool, true, length, replicate, codes, refl, sym}
 use Rattle.std.proofs.Common.{ap, ◌∙◌, arith, subst}
 use Rattle.std.specs.Prelude.{nat_lt, ◌&&◌}
-use Rattle.std.proofs.lemmas.Bool.{leb-true, ltb-true}
+use Rattle.std.proofs.lemmas.Bool.{leb-true, ltb-true, and_parts}
 use Rattle.std.proofs.lemmas.Nat.{mul-mod_first, mul-mod, pow-add}
 use Rattle.std.proofs.Math.Nat.{mod-mod, pow-suc}
 use Rattle.sha2.proofs.Facts256.{digest_of_abc_256}
@@ -14,7 +14,6 @@ use Rattle.rpki_rsa.specs.KeyParts.{HasContents, HasDigits, IsModulusOf}
 use Rattle.rpki_rsa.specs.Sample.{sample_modulus, sample_key, sample_signature}
 use Rattle.rpki_rsa.proofs.EncodedParts.{digest_front, encoded-parts}
 use Rattle.rpki_rsa.proofs.Remainders.{power_one}
-use Rattle.rpki_rsa.proofs.Verdicts.{first-of, second-of}
 use Rattle.rpki_rsa.proofs.KeyFacts.{key-whole, digits-put, is-modulus-of}
 
 -- ---- a power by squares
@@ -56,7 +55,7 @@ are_bytes (b ∷ bytes) = nat_lt b 256 && are_bytes bytes
 bytes-are : (xs : List ℕ) → are_bytes xs ≡ true → IsBytes xs
 unfolding are_bytes
 bytes-are [] h = tt
-bytes-are (x ∷ xs) h = (ltb-true _ _ (first-of _ _ h), bytes-are xs (second-of _ _ h))
+bytes-are (x ∷ xs) h = (ltb-true _ _ (and_parts _ _ h).0, bytes-are xs (and_parts _ _ h).1)
 
 contents : HasContents sample_key (0 ∷ sample_modulus)
 unfolding sample_key sample_modulus

@@ -3,31 +3,24 @@ use Rattle.std.proofs.Common.{◌≡◌, ℕ, List, refl, subst, sym}
 use Rattle.std.proofs.Common.{Bool, true, false}
 use Rattle.std.specs.Prelude.{Decides, ◌&&◌}
 use Rattle.std.proofs.lemmas.Bool.{leb-true, ltb-true, eqb-true, le-leb, lt-ltb, eq-eqb, and_from}
+use Rattle.std.proofs.lemmas.Bool.{and_parts}
 use Rattle.std.proofs.lemmas.Slice.Eq.{bytes_eq-Decides}
 use Rattle.rpki_rsa.specs.Signature.{rsa_key_octets, modulus_in, IsRsaKey, IsSignatureOf}
 use Rattle.rpki_rsa.specs.Signature.{IsRsaSignature, is_rsa_key, is_signature_of, is_rsa_signature}
 use Rattle.rpki_rsa.proofs.KeyFacts.{modulus-is}
 
-pub first-of : (a b : Bool) → (a && b) ≡ true → a ≡ true
-first-of true b h = refl
-first-of false b h = cc
-
-pub second-of : (a b : Bool) → (a && b) ≡ true → b ≡ true
-second-of true b h = h
-second-of false b h = cc
-
 pub key-test : (key : List ℕ) (n : ℕ) → Decides (is_rsa_key key n) (IsRsaKey key n)
 unfolding is_rsa_key
 key-test key n = (
   λ t.
-      let a = second-of _ _ t in
-      let b = second-of _ _ a in
+      let a = (and_parts _ _ t).1 in
+      let b = (and_parts _ _ a).1 in
       record {
-        octets = (bytes_eq-Decides key (rsa_key_octets n)).0 (first-of _ _ t);
+        octets = (bytes_eq-Decides key (rsa_key_octets n)).0 (and_parts _ _ t).0;
         modulus = record {
-          least = leb-true _ _ (first-of _ _ a);
-          most = ltb-true _ _ (first-of _ _ b);
-          odd = eqb-true _ _ (second-of _ _ b);
+          least = leb-true _ _ (and_parts _ _ a).0;
+          most = ltb-true _ _ (and_parts _ _ b).0;
+          odd = eqb-true _ _ (and_parts _ _ b).1;
         };
       },
   λ h. and_from _ _ ((bytes_eq-Decides key (rsa_key_octets n)).1 h.octets)
@@ -40,15 +33,15 @@ signed-test : (n : ℕ) (message signature : List ℕ)
 unfolding is_signature_of
 signed-test n message signature = (
   λ t.
-      let a = second-of _ _ t in
-      let b = second-of _ _ a in
+      let a = (and_parts _ _ t).1 in
+      let b = (and_parts _ _ a).1 in
       record {
         long = record {
-          least = leb-true _ _ (first-of _ _ t);
-          most = ltb-true _ _ (first-of _ _ a);
+          least = leb-true _ _ (and_parts _ _ t).0;
+          most = ltb-true _ _ (and_parts _ _ a).0;
         };
-        below = ltb-true _ _ (first-of _ _ b);
-        power = eqb-true _ _ (second-of _ _ b);
+        below = ltb-true _ _ (and_parts _ _ b).0;
+        power = eqb-true _ _ (and_parts _ _ b).1;
       },
   λ h. and_from _ _ (le-leb _ _ h.long.least)
       (and_from _ _ (lt-ltb _ _ h.long.most)
@@ -61,8 +54,8 @@ unfolding is_rsa_signature
 signature-test key message signature = (
   λ t. record {
     n = modulus_in key;
-    key_is = (key-test key (modulus_in key)).0 (first-of _ _ t);
-    signed = (signed-test (modulus_in key) message signature).0 (second-of _ _ t);
+    key_is = (key-test key (modulus_in key)).0 (and_parts _ _ t).0;
+    signed = (signed-test (modulus_in key) message signature).0 (and_parts _ _ t).1;
   },
   λ h.
       let same : h.n ≡ modulus_in key = sym (modulus-is key h.n h.key_is) in

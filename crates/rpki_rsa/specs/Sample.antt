@@ -1,5 +1,6 @@
 -- A signature that was made outside: by `openssl`, of "abc", with a key of 2048 bits.
 use Rattle.std.specs.Prelude.{ℕ, List, [], ◌∷◌, ◌++◌}
+use Rattle.rpki_der.specs.Tags.{INTEGER, SEQUENCE}
 
 -- the octets of the modulus
 unfoldable pub sample_modulus : List ℕ
@@ -29,8 +30,8 @@ sample_modulus =
 -- the key: the SEQUENCE of the modulus and 65537
 unfoldable pub sample_key : List ℕ
 sample_key =
-    (0x30 ∷ 0x82 ∷ 0x01 ∷ 0x0A ∷ 0x02 ∷ 0x82 ∷ 0x01 ∷ 0x01 ∷ 0x00 ∷ [])
-    ++ (sample_modulus ++ (0x02 ∷ 0x03 ∷ 0x01 ∷ 0x00 ∷ 0x01 ∷ []))
+    (SEQUENCE ∷ 0x82 ∷ 0x01 ∷ 0x0A ∷ INTEGER ∷ 0x82 ∷ 0x01 ∷ 0x01 ∷ 0x00 ∷ [])
+    ++ (sample_modulus ++ (INTEGER ∷ 0x03 ∷ 0x01 ∷ 0x00 ∷ 0x01 ∷ []))
 
 -- the signature
 unfoldable pub sample_signature : List ℕ

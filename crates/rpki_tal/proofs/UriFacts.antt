@@ -8,20 +8,13 @@ use Rattle.rpki_basics.specs.declared.uri.Error.TheVariants.{InvalidCharacters, 
 use Rattle.rpki_basics.specs.declared.uri.Error.TheVariants.{Memory}
 use Rattle.rpki_basics.specs.Uri.{IsUri, IsUriOf, IsRsync, IsHttps, AreRsyncSegments}
 use Rattle.rpki_basics.specs.Uri.{AreHttpsSegments}
+use Rattle.rpki_basics.proofs.Uris.Refused.{no-uri}
 use Rattle.rpki_tal.specs.declared.uri.TalUri.{TalUri}
 use Rattle.rpki_tal.specs.declared.uri.TalUri.TheVariants.{Rsync, Https}
 use Rattle.rpki_tal.specs.Lines.{IsLine}
 use Rattle.rpki_tal.specs.Uri.{IsTalUri, IsNoTalUri, IsTalUriOf}
 use Rattle.rpki_tal.specs.Form.{IsUriLine}
 use Rattle.rpki_tal.proofs.LineFacts.{IsLineKind, line-kind, first-line}
-
--- what is refused is no URI
-pub no-uri : (scheme : List ℕ) (P : List (List ℕ) → Type 0) (text : List ℕ) (e : Error)
-    → IsUriOf scheme P text (Err e) → ¬ IsUri scheme P text
-no-uri scheme P text InvalidCharacters h u = h u.0
-no-uri scheme P text BadScheme h u = h.1 (u.1.0, u.1.1)
-no-uri scheme P text BadUri h u = h.2 u
-no-uri scheme P text Memory h u = absurd h
 
 pub no-tal-uri : (text : List ℕ) (cause : Error) → IsNoTalUri text cause → (uri : TalUri)
     → ¬ IsTalUri text uri

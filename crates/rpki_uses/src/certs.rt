@@ -4,7 +4,7 @@ ghost use Rattle.std.specs.Prelude.{◌≡◌, ◌↔◌, IsTrue, IfOk};
 ghost use Rattle.rpki_faults.specs.Checks.{AllHold, AnswersFirstFault};
 ghost use Rattle.rpki_certs.specs.Inspect.{ca_checks};
 ghost use Rattle.rpki_certs.specs.Validate.{Validated, AreHeld, IsGoodAnchor, IsGoodUnder};
-ghost use Rattle.rpki_certs.specs.Validate.{issuing_checks};
+ghost use Rattle.rpki_certs.specs.Validate.{IsAnchorOf, issuing_checks};
 
 use rpki_basics::{Crypto, Time};
 use rpki_certs::laws::{numbers_are_held, valid_anchors, valid_certificates};
@@ -57,7 +57,8 @@ pub fn authority_under<C: Crypto>(
     cert.validate_ca_at(alloc, issuer, true, crypto, now)
 }
 
-/// The certificate of a CA with its numbers, under that of a trust anchor.
+/// The certificate of a CA with its numbers, under that of a trust anchor: the numbers are among
+/// those that the trust anchor claims.
 pub fn authority_of<C: Crypto>(
     alloc: Global,
     anchor: Cert,
@@ -65,7 +66,7 @@ pub fn authority_of<C: Crypto>(
     crypto: &C,
     now: Time,
 ) -> Result<ResourceCert, ValidationError>
-    ensures { IfOk result (λ made. (issuer : Validated) × (issuer.cert ≡ anchor)
+    ensures { IfOk result (λ made. (issuer : Validated) × IsAnchorOf anchor issuer
         × IsGoodAnchor (C.is_signed crypto.now) anchor.certificate now
         × IsGoodUnder (C.is_signed crypto.now) cert.certificate issuer now
         × (made.cert ≡ cert) × AreHeld issuer.sets made.sets) }

@@ -4,6 +4,7 @@ use Rattle.std.proofs.Common.{refl, sym, ◌∙◌, inl, inr}
 use Rattle.std.specs.Prelude.{Decides, ◌⊎◌}
 use Rattle.std.proofs.lemmas.Bool.Decides.{Decides-or}
 use Rattle.std.proofs.lemmas.Slice.Eq.{bytes_eq-Decides}
+use Rattle.rpki_der.specs.Numbers.{MAX_DEPTH}
 use Rattle.rpki_der.specs.declared.mode.Mode.{Mode}
 use Rattle.rpki_der.specs.Grammar.{ListOf, Skipped}
 use Rattle.rpki_der.specs.Form.Law.{TagSet, every, nothing, is, IsPart}
@@ -35,7 +36,8 @@ read-as e same = record {
   relaxed = e.relaxed;
 }
 
-skips : IsPart every every (others_at Skip) (λ mode o v. ListOf (Skipped mode 32) o × (v ≡ []))
+skips : IsPart every every (others_at Skip)
+    (λ mode o v. ListOf (Skipped mode MAX_DEPTH) o × (v ≡ []))
 unfolding others_at
 skips =
     read-as
@@ -45,7 +47,7 @@ skips =
 
 others-part : (others : OtherTypes)
     → IsPart every every (others_at others)
-    (λ mode o v. (others ≡ Skip) × ListOf (Skipped mode 32) o × (v ≡ []))
+    (λ mode o v. (others ≡ Skip) × ListOf (Skipped mode MAX_DEPTH) o × (v ≡ []))
 unfolding others_at
 others-part Skip = part-as skips (λ mode o v h. (refl, h.0, h.1)) (λ mode o v h. (h.1, h.2))
 others-part Refuse = record {

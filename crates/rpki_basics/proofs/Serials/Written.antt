@@ -45,7 +45,7 @@ number-digits (suc k) n h =
     ∙ ap (λ (m : ℕ). n / 256 ^ k * 256 ^ m + number 0 (digits k (n % 256 ^ k))) l
     ∙ ap (λ (m : ℕ). n / 256 ^ k * 256 ^ k + m) i ∙ div-add-mod' n (256 ^ k)
 
-bytes-digits : (k n : ℕ) → n < 256 ^ k → IsBytes (digits k n)
+pub bytes-digits : (k n : ℕ) → n < 256 ^ k → IsBytes (digits k n)
 unfolding digits
 bytes-digits zero n h = tt
 bytes-digits (suc k) n h =

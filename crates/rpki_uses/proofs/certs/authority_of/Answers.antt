@@ -4,7 +4,6 @@ use Rattle.rpki_uses.proofs.Answered.{of_both}
 use Rattle.rpki_uses.proofs.certs.authority_of.Goals as goal
 
 pub returns : goal.returns
-unfolding IsAnchorOf
 returns g c =
     let verdict = g.C.Crypto.is_signed c.args.crypto.now in
     let a = c.in_ok-anchor.anchor in
@@ -12,14 +11,14 @@ returns g c =
     let valid = c.valid_anchors.ensures verdict c.args.anchor.certificate now in
     of_both (λ _. IsGoodUnder verdict c.args.cert.certificate a now)
     (λ (v : Validated). (v.cert ≡ c.args.cert) × AreHeld a.sets v.sets)
-    (λ (v : Validated). (issuer : Validated) × (issuer.cert ≡ c.args.anchor)
+    (λ (v : Validated). (issuer : Validated) × IsAnchorOf c.args.anchor issuer
     × IsGoodAnchor verdict c.args.anchor.certificate now
     × IsGoodUnder verdict c.args.cert.certificate issuer now × (v.cert ≡ c.args.cert)
     × AreHeld issuer.sets v.sets)
     c.authority_under.result
     (λ v good held. (
       a,
-      c.in_ok-anchor.ensures.1.0,
+      c.in_ok-anchor.ensures.1,
       (valid.0 c.in_ok-anchor.ensures.0).1,
       good,
       held.0,

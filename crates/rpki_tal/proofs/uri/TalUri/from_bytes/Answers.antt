@@ -1,6 +1,7 @@
 use Rattle.std.proofs.Common.{◌≡◌, codes, rules, subst}
 use Rattle.rpki_basics.specs.Uri.{IsRsync, AreRsyncSegments}
-use Rattle.rpki_tal.proofs.UriFacts.{no-uri, tal-err}
+use Rattle.rpki_basics.proofs.Uris.Refused.{no-uri}
+use Rattle.rpki_tal.proofs.UriFacts.{tal-err}
 use Rattle.rpki_tal.proofs.uri.TalUri.from_bytes.Goals as goal
 
 pub returns-in-Err-from_bytes : goal.returns-in-Err-from_bytes
