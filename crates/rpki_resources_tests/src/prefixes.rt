@@ -10,12 +10,7 @@ static PREFIXES: [(&[u8], u8, AddressFamily, Option<(u128, u8)>); 9] = [
     (&[10], 0, Ipv4, Some((10 << 120, 8))),
     // the bits that are not used are cleared
     (&[10, 0xFF], 4, Ipv6, Some((0x0AF << 116, 12))),
-    (
-        &[0xC0, 0, 2, 1],
-        0,
-        Ipv4,
-        Some((0xC000_0201 << 96, 32)),
-    ),
+    (&[0xC0, 0, 2, 1], 0, Ipv4, Some((0xC000_0201 << 96, 32))),
     // one bit more than an address of IPv4 has
     (&[0xC0, 0, 2, 1, 0x80], 7, Ipv4, None),
     (

@@ -4,10 +4,12 @@ use Rattle.rpki_faults.proofs.laws.order.answers_unless_memory_runs_out.Goals as
 
 pub returns-clause-contained : goal.returns-clause-contained
 returns-clause-contained g c = λ memory fault h. elim h [
-  inl is ↦ inl is | inr first ↦ inr (first-contained g.F.Checks.checks fault first)
+  | inl is ↦ inl is
+  | inr first ↦ inr (first-contained g.F.Checks.checks fault first)
 ]
 
 pub returns-clause-fails : goal.returns-clause-fails
 returns-clause-fails g c = λ memory fault h. elim h [
-  inl is ↦ inl is | inr first ↦ inr (first-fails g.F.Checks.checks fault first)
+  | inl is ↦ inl is
+  | inr first ↦ inr (first-fails g.F.Checks.checks fault first)
 ]
