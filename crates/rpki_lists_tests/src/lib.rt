@@ -3,6 +3,8 @@
 //! A test hands want of memory on and asserts everything else.
 #![tactic(auto)]
 
+#[cfg(test)]
+mod calls;
 pub mod numbers;
 #[cfg(test)]
 mod rows;
