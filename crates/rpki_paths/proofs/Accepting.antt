@@ -14,13 +14,14 @@ use Rattle.rpki_paths.specs.declared.pairs.PairFault.{PairFault}
 use Rattle.rpki_paths.specs.declared.pairs.PairFault.TheVariants.{Unpaired, LeftOver, Memory}
 use Rattle.rpki_paths.specs.Cert.{Cert, IsIn}
 use Rattle.rpki_paths.specs.Path.{IsDistinct}
-use Rattle.rpki_paths.specs.Accepting.{HaveDigest, IsFirstMatching}
+use Rattle.rpki_paths.specs.declared.acceptance.Attestation.{Attestation}
+use Rattle.rpki_paths.specs.Accepting.{HaveDigest, IsFirstMatching, carried_of}
 use Rattle.rpki_paths.specs.Pairing.{IsPair, IsMatching, Carried, Crl}
 use Rattle.rpki_paths.specs.Pairing.{Signer, HasKey, HasCrl, IsVerifiedBy, HasDistinctIds}
 use Rattle.rpki_paths.specs.Taking.{IsFirst, first, later, PairsOff, AreAt, ArePaired}
 use Rattle.rpki_paths.specs.Taking.{AreAllPaired, AreUnpaired, AllVerifyEach}
 use Rattle.rpki_paths.specs.Walk.{placed}
-use Rattle.rpki_paths.specs.Grant.{authorities}
+use Rattle.rpki_paths.specs.Grant.{authorities, AreValid}
 use Rattle.rpki_paths.specs.Laws.{RefusalIsRight}
 use Rattle.rpki_paths.proofs.Mapping.{same_at, map_pairs}
 use Rattle.rpki_paths.proofs.PairingOff.{pairs_are_pairing}
@@ -135,7 +136,8 @@ module _ {X : Type 0} (signer : X → Signer) (s : X → List ℕ) (sid : (x : X
     keys_paired xs keys places h = (
       h.partners,
       back_pairs (λ (z : Signer). z.sid) HasKey IsSame (λ x y. (λ p. p, λ p. p)) (map signer xs)
-          h.partners keys [] (subst (λ l. PairsOff IsSame l h.partners keys []) (map_sid xs) h.first),
+          h.partners keys []
+          (subst (λ l. PairsOff IsSame l h.partners keys []) (map_sid xs) h.first),
     )
 
     pub keys_unpaired : (xs : List X) (keys : List (List ℕ)) (fault : PairFault)
@@ -163,6 +165,29 @@ module _ {A B : Type 0} (f : A → B) (P : B → Bool) where
   pub not_all : (xs : List A) → list_all (λ x. P (f x)) xs ≡ false
       → ¬ ((y : B) → IsIn y (map f xs) → P y ≡ true)
   not_all xs e h = true≢false (sym (of_all xs h) ∙ e)
+
+module _ {S C R : Type 0} (signer : S → Signer) (cert : C → Cert) (crl : R → Crl)
+    (a : Attestation S C R) where
+  pub valid_where : list_all (λ c. (cert c).is_valid) a.ees.now ≡ true
+      → list_all (λ c. (cert c).is_valid) a.cas.now ≡ true → AreValid (carried_of signer cert crl a)
+  valid_where ees cas = record {
+    ees = all_in cert (λ (c : Cert). c.is_valid) a.ees.now ees;
+    cas = all_in cert (λ (c : Cert). c.is_valid) a.cas.now cas;
+  }
+
+  pub digests_where : list_all (λ s. (signer s).digest_holds) a.signers.now ≡ true
+      → HaveDigest (carried_of signer cert crl a)
+  digests_where h = all_in signer (λ (s : Signer). s.digest_holds) a.signers.now h
+
+-- What holds of handles as they are seen holds of what they stand for.
+pub where_seen : {C : Type 0} (cert : C → Cert) (P : List Cert → List Cert → Type 0)
+    {cas seen_cas ees seen_ees : List C} {listed : List Cert} → placed cert 1 cas ≡ listed
+    → seen_cas ≡ cas → seen_ees ≡ ees → P (placed cert 1 seen_cas) (map cert seen_ees)
+    → P listed (map cert ees)
+where_seen cert P {seen_cas = seen} {ees = ees} listed same_cas same_ees h =
+    subst (λ l. P l (map cert ees)) listed
+    (subst (λ l. P (placed cert 1 l) (map cert ees)) same_cas
+    (subst (λ l. P (placed cert 1 seen) (map cert l)) same_ees h))
 
 -- ---- what is paired, each taking the first that fits, is a matching
 

@@ -40,8 +40,8 @@ returns-in-Err-finalize-clause-no g c = λ other acc dist. (
     let supplies = c.args.supplies.now in
     let sets = attested_sets c.args.a.now.sets in
     undecided_is_refused cert of refuses a acc.ees acc.crls c.args.paths.now
-    c.supply_all.new.paths supplies sets c.in-Err-finalize.fault dist acc.paired.matching acc.walked other
-    c.in-Ok.ensures c.in-Err-finalize.ensures)
+    c.supply_all.new.paths supplies sets c.in-Err-finalize.fault dist acc.paired.matching
+    acc.walked other c.in-Ok.ensures c.in-Err-finalize.ensures)
 
 pub returns-in-Err-clause-fault : goal.returns-in-Err-clause-fault
 returns-in-Err-clause-fault g c = λ acc.
