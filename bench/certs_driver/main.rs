@@ -1,6 +1,9 @@
-//! Measures reading and validating a certificate and reading a revocation list, by the proved code and by plain Rust,
-//! in one run. `bench/run --certs` builds and calls it; bench/README.md says what is measured.
+//! Measures reading and validating a certificate and reading a revocation list, by the proved code, by plain Rust and,
+//! where there is one, through the crate bcder, in one run. `bench/run --certs` builds and calls it; bench/README.md
+//! says what is measured.
 
+#[cfg(bcder)]
+mod beside_bcder;
 mod der;
 mod digests;
 mod plain;
@@ -59,7 +62,7 @@ fn blocks_of(octets: &[u8], issuer: &plain::Cert, sets: &plain::Sets) -> u64 {
         Some((cert, sets))
     });
     match black_box(validated) {
-        Some((_, sets)) => (sets.as_numbers.len() + sets.v4.len() + sets.v6.len()) as u64,
+        Some((_, sets)) => sets.count(),
         None => 0,
     }
 }
@@ -89,6 +92,29 @@ fn plain_crl(octets: &'static [u8], rounds: u32) -> u64 {
 fn plain_asked(octets: &'static [u8], rounds: u32) -> u64 {
     let crl = plain::crl(octets).expect("a revocation list");
     (0..rounds).map(|_| asked(black_box(&crl))).sum()
+}
+
+#[cfg(bcder)]
+fn bcder_decode(octets: &'static [u8], rounds: u32) -> u64 {
+    (0..rounds).map(|_| black_box(beside_bcder::cert(black_box(octets))).is_ok() as u64).sum()
+}
+
+#[cfg(bcder)]
+fn bcder_validate(octets: &'static [u8], rounds: u32) -> u64 {
+    let issuer = certificate(true);
+    let issuer = plain::cert(&issuer).expect("a certificate");
+    let sets = plain::anchor(&issuer, stamp(NOW)).expect("the one of a trust anchor");
+    (0..rounds).map(|_| beside_bcder::blocks_of(black_box(octets), &issuer, &sets, stamp(NOW))).sum()
+}
+
+#[cfg(bcder)]
+fn bcder_asks(crl: &beside_bcder::Crl) -> u64 {
+    if crl.contains(black_box(&serial(MISSING))) { 1 } else { 1 << 32 }
+}
+
+#[cfg(bcder)]
+fn bcder_crl(octets: &'static [u8], rounds: u32) -> u64 {
+    (0..rounds).map(|_| beside_bcder::crl(black_box(octets)).map_or(0, |crl| bcder_asks(black_box(&crl)))).sum()
 }
 
 /// The certificate of the trust anchor, or else of the CA.
@@ -133,10 +159,16 @@ fn main() {
     let subjects = [
         subject("plain-decode", "plain-decode", ONE, authority as fn(u32) -> _, plain_decode as fn(_, _) -> _),
         subject("proved-decode", "plain-decode", ONE, authority, proved_decode),
+        #[cfg(bcder)]
+        subject("bcder-decode", "plain-decode", ONE, authority, bcder_decode),
         subject("plain-validate", "plain-validate", ONE, authority, plain_validate),
         subject("proved-validate", "plain-validate", ONE, authority, proved_validate),
+        #[cfg(bcder)]
+        subject("bcder-validate", "plain-validate", ONE, authority, bcder_validate),
         subject("plain-crl", "plain-crl", ENTRIES, crl, plain_crl),
         subject("proved-crl", "plain-crl", ENTRIES, crl, proved_crl),
+        #[cfg(bcder)]
+        subject("bcder-crl", "plain-crl", ENTRIES, crl, bcder_crl),
         subject("plain-asked", "plain-asked", ENTRIES, crl, plain_asked),
         subject("proved-asked", "plain-asked", ENTRIES, crl, proved_asked),
     ];

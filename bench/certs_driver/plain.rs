@@ -5,18 +5,18 @@ use crate::der::Reader;
 use crate::digests::{sha1, sha256};
 
 pub const SHA256_WITH_RSA: [u8; 9] = [0x2A, 0x86, 0x48, 0x86, 0xF7, 0x0D, 0x01, 0x01, 0x0B];
-const RSA: [u8; 9] = [0x2A, 0x86, 0x48, 0x86, 0xF7, 0x0D, 0x01, 0x01, 0x01];
-const REFUSE: [u8; 8] = [0x2B, 0x06, 0x01, 0x05, 0x05, 0x07, 0x0E, 0x02];
-const TRIM: [u8; 8] = [0x2B, 0x06, 0x01, 0x05, 0x05, 0x07, 0x0E, 0x03];
+pub const RSA: [u8; 9] = [0x2A, 0x86, 0x48, 0x86, 0xF7, 0x0D, 0x01, 0x01, 0x01];
+pub const REFUSE: [u8; 8] = [0x2B, 0x06, 0x01, 0x05, 0x05, 0x07, 0x0E, 0x02];
+pub const TRIM: [u8; 8] = [0x2B, 0x06, 0x01, 0x05, 0x05, 0x07, 0x0E, 0x03];
 
 /// What stands before the last octet of the identifiers of standard extensions, of those of the PKIX working group, and
 /// of methods of access.
-const STANDARD: [u8; 2] = [0x55, 0x1D];
-const PKIX: [u8; 7] = [0x2B, 0x06, 0x01, 0x05, 0x05, 0x07, 0x01];
-const METHOD: [u8; 7] = [0x2B, 0x06, 0x01, 0x05, 0x05, 0x07, 0x30];
+pub const STANDARD: [u8; 2] = [0x55, 0x1D];
+pub const PKIX: [u8; 7] = [0x2B, 0x06, 0x01, 0x05, 0x05, 0x07, 0x01];
+pub const METHOD: [u8; 7] = [0x2B, 0x06, 0x01, 0x05, 0x05, 0x07, 0x30];
 
 pub struct Key<'a> {
-    bits: &'a [u8],
+    pub bits: &'a [u8],
     identifier: [u8; 20],
 }
 
@@ -43,8 +43,8 @@ pub struct Cert<'a> {
     subject: &'a [u8],
     not_before: u64,
     not_after: u64,
-    key: Key<'a>,
-    subject_key: &'a [u8; 20],
+    pub key: Key<'a>,
+    pub subject_key: &'a [u8; 20],
     authority_key: Option<&'a [u8; 20]>,
     basic_ca: Option<bool>,
     usage: Usage,
@@ -240,6 +240,12 @@ fn basic_ca(octets: &[u8]) -> Option<bool> {
 
 fn usage(octets: &[u8]) -> Option<Usage> {
     let (octets, unused) = Reader(octets).bits()?;
+    usage_of(octets, unused)
+}
+
+/// The usage that the octets of a BIT STRING say, of the last of which some bits are not used.
+#[inline]
+pub fn usage_of(octets: &[u8], unused: u8) -> Option<Usage> {
     let first = *octets.first()? & if octets.len() == 1 { 0xFF << unused } else { 0xFF };
     if first & 0x06 == 0x06 {
         Some(Usage::Ca)
@@ -343,7 +349,7 @@ fn is_dots(segment: &[u8]) -> bool {
 
 /// Whether a text is an rsync URI: an authority, a module and a path, whose segments are no dots, and none of which but
 /// the last one of the path is empty.
-fn is_rsync(text: &[u8]) -> bool {
+pub fn is_rsync(text: &[u8]) -> bool {
     let Some(rest) = after(b"rsync", text) else {
         return false;
     };
@@ -365,7 +371,7 @@ fn is_rsync(text: &[u8]) -> bool {
     true
 }
 
-fn is_https(text: &[u8]) -> bool {
+pub fn is_https(text: &[u8]) -> bool {
     after(b"https", text).is_some_and(|rest| !rest.is_empty() && rest[0] != b'/')
 }
 
@@ -397,7 +403,7 @@ fn policy(octets: &[u8]) -> Option<bool> {
 }
 
 /// The blocks in order, those joined that overlap or touch.
-fn canonical<T: Copy + Ord>(mut blocks: Vec<(T, T)>, next: impl Fn(T) -> Option<T>) -> Vec<(T, T)> {
+pub fn canonical<T: Copy + Ord>(mut blocks: Vec<(T, T)>, next: impl Fn(T) -> Option<T>) -> Vec<(T, T)> {
     blocks.sort_unstable_by_key(|block| block.0);
     blocks.dedup_by(|block, before| {
         let joins = next(before.1).is_none_or(|next| block.0 <= next);
@@ -437,6 +443,12 @@ fn as_numbers(octets: &[u8]) -> Option<Claim<u32>> {
 /// The first address that begins with the bits in front, and the last one.
 fn ends(reader: &mut Reader, most: usize) -> Option<(u128, u128)> {
     let (octets, unused) = reader.bits()?;
+    ends_of(octets, unused, most)
+}
+
+/// The same of the octets of a BIT STRING, of the last of which some bits are not used.
+#[inline]
+pub fn ends_of(octets: &[u8], unused: u8, most: usize) -> Option<(u128, u128)> {
     let len = 8 * octets.len() - usize::from(unused);
     if len > most {
         return None;
@@ -487,7 +499,7 @@ fn addresses(octets: &[u8]) -> Option<(Claim<u128>, Claim<u128>)> {
 }
 
 impl<T> Claim<T> {
-    fn is_missing(&self) -> bool {
+    pub fn is_missing(&self) -> bool {
         matches!(self, Claim::Missing)
     }
 }
@@ -497,6 +509,13 @@ pub struct Sets {
     pub as_numbers: Vec<(u32, u32)>,
     pub v4: Vec<(u128, u128)>,
     pub v6: Vec<(u128, u128)>,
+}
+
+impl Sets {
+    /// How many blocks they have.
+    pub fn count(&self) -> u64 {
+        (self.as_numbers.len() + self.v4.len() + self.v6.len()) as u64
+    }
 }
 
 fn is_ca(cert: &Cert) -> bool {
@@ -554,7 +573,7 @@ pub fn validate(cert: &Cert, issuer: &Cert, sets: &Sets, now: u64) -> Option<Set
 
 /// The numbers that are claimed, if the issuer has them all, or those of them that the issuer has, where the rest is
 /// trimmed.
-fn validated<T: Copy + Ord>(claim: &Claim<T>, issuer: &[(T, T)], trims: bool) -> Option<Vec<(T, T)>> {
+pub fn validated<T: Copy + Ord>(claim: &Claim<T>, issuer: &[(T, T)], trims: bool) -> Option<Vec<(T, T)>> {
     match claim {
         Claim::Missing => Some(Vec::new()),
         Claim::Inherit => Some(issuer.to_vec()),

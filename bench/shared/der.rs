@@ -204,7 +204,7 @@ fn days_in_month(year: u64, month: u64) -> u64 {
 }
 
 /// The number of the moment that the contents of a UTCTime name.
-fn utc_time(text: &[u8]) -> Option<u64> {
+pub fn utc_time(text: &[u8]) -> Option<u64> {
     if text.len() != 13 {
         return None;
     }
