@@ -12,7 +12,8 @@ use std::time::Instant;
 
 const COUNTS: [u32; 3] = [10_000, 100_000, 1_000_000];
 
-/// About how many blocks one measurement goes over: of a walk over sets, which builds them first, and of building.
+/// About how many blocks one measurement goes over: of a walk over sets, which builds them first, and of building a set
+/// or asking it for single blocks.
 const WALKED: u32 = 20_000_000;
 const BUILT: u32 = 1_000_000;
 
@@ -26,6 +27,7 @@ unsafe extern "C" {
     fn bench_union(mins: *const u32, n: usize, maxs: *const u32, m: usize, rounds: u32) -> u64;
     fn bench_meet(mins: *const u32, n: usize, maxs: *const u32, m: usize, rounds: u32) -> u64;
     fn bench_contains(mins: *const u32, n: usize, maxs: *const u32, m: usize, rounds: u32) -> u64;
+    fn bench_contains_block(mins: *const u32, n: usize, maxs: *const u32, m: usize, rounds: u32) -> u64;
 }
 
 // Of the C library: how its allocator, which all subjects ask for memory, deals with the system.
@@ -120,6 +122,18 @@ fn plain_contains(sample: &Sample, rounds: u32) -> u64 {
     (0..rounds).map(|_| plain::contains(black_box(&all), &y) as u64).sum()
 }
 
+fn plain_contains_block(sample: &Sample, rounds: u32) -> u64 {
+    let ends = &sample.numbers;
+    let all = as_set(&ends.mins, &ends.maxs);
+    let mut count = 0;
+    for _ in 0..rounds {
+        for (min, max) in black_box(&ends.mins).iter().zip(&ends.maxs) {
+            count += plain::contains_block(&all, (*min, max.saturating_add(max - min))) as u64;
+        }
+    }
+    count
+}
+
 type OfNumbers = unsafe extern "C" fn(*const u32, usize, *const u32, usize, u32) -> u64;
 
 /// A call of the proved code that takes blocks of numbers.
@@ -148,6 +162,8 @@ fn subjects() -> Vec<Subject> {
         walked("proved-meet", "plain-meet", |sample, rounds| proved(bench_meet, sample, rounds)),
         walked("plain-contains", "plain-contains", plain_contains),
         walked("proved-contains", "plain-contains", |sample, rounds| proved(bench_contains, sample, rounds)),
+        built("plain-has-block", "plain-has-block", plain_contains_block),
+        built("proved-has-block", "plain-has-block", |sample, rounds| proved(bench_contains_block, sample, rounds)),
     ]
 }
 
@@ -234,12 +250,12 @@ fn main() {
     let samples: Vec<Sample> = COUNTS.into_iter().map(sample).collect();
     samples.iter().for_each(|it| compare(&subjects, it));
     let times = measured(&subjects, &samples);
-    println!("{:<16}{:>10}{:>12}{:>10}{:>10}", "", "blocks", "ns/block", "ratio", "growth");
+    println!("{:<18}{:>10}{:>12}{:>10}{:>10}", "", "blocks", "ns/block", "ratio", "growth");
     for (i, (sample, row)) in samples.iter().zip(&times).enumerate() {
         for (j, (it, time)) in subjects.iter().zip(row).enumerate() {
             let ratio = time / row[plain(&subjects, it)];
             let growth = if i == 0 { String::new() } else { format!("{:.2}", 10.0 * time / times[i - 1][j]) };
-            println!("{:<16}{:>10}{time:>12.2}{ratio:>10.2}{growth:>10}", it.name, sample.count);
+            println!("{:<18}{:>10}{time:>12.2}{ratio:>10.2}{growth:>10}", it.name, sample.count);
         }
     }
 }

@@ -94,3 +94,10 @@ pub fn contains<T: Number>(mut x: &[(T, T)], y: &[(T, T)]) -> bool {
         false
     })
 }
+
+/// Whether each number of the block is in the set: a search for the first block that ends nowhere below its end.
+#[inline(never)]
+pub fn contains_block<T: Number>(x: &[(T, T)], block: (T, T)) -> bool {
+    let i = x.partition_point(|a| a.1 < block.1);
+    x.get(i).is_some_and(|a| a.0 <= block.0)
+}
