@@ -2,10 +2,11 @@
 //! entries, which are tested when it is read, and which are gone over a second time.
 
 use crate::der::generalized_time;
-use crate::plain::{Address, SHA_256, is_file_name};
+use crate::plain::{Address, Blocks, SHA_256, ends, is_file_name, is_portable, is_registered, joined};
 use bcder::decode::{Constructed, Error, Source};
-use bcder::{BitString, Captured, Ia5String, Mode, Oid, Tag, Unsigned};
+use bcder::{BitString, Captured, Ia5String, Mode, OctetString, Oid, Tag, Unsigned};
 use bytes::Bytes;
+use std::collections::BTreeSet;
 use std::hint::black_box;
 
 /// Refuses what is not so.
@@ -51,9 +52,13 @@ fn manifest(octets: &'static [u8]) -> Result<(Unsigned, u64, u64, Captured), Err
     })
 }
 
-/// The sum of the lengths of the names and of the octets in front of the hashes.
 fn sum_of_manifest(octets: &'static [u8]) -> Result<u64, Error> {
     let (_, _, _, files) = black_box(manifest(octets)?);
+    sum_of_files(files)
+}
+
+/// The sum of the lengths of the names and of the octets in front of the hashes.
+fn sum_of_files(files: Captured) -> Result<u64, Error> {
     files.decode(|cons| {
         let mut sum = 0;
         while let Some((name, hash)) = take_opt_file(cons)? {
@@ -65,6 +70,147 @@ fn sum_of_manifest(octets: &'static [u8]) -> Result<u64, Error> {
 
 pub fn walk_manifest(octets: &'static [u8], rounds: u32) -> u64 {
     (0..rounds).map(|_| sum_of_manifest(black_box(octets)).expect("a manifest")).sum()
+}
+
+/// The same where each name has to have a registered type, and none may come twice.
+fn sum_of_registered(octets: &'static [u8]) -> Result<u64, Error> {
+    let (_, _, _, files) = black_box(manifest(octets)?);
+    let mut seen = BTreeSet::new();
+    files.clone().decode(|cons| {
+        while let Some((name, _)) = take_opt_file(cons)? {
+            must::<Bytes>(is_registered(&name) && seen.insert(name))?;
+        }
+        Ok(())
+    })?;
+    drop(seen);
+    sum_of_files(files)
+}
+
+pub fn walk_registered(octets: &'static [u8], rounds: u32) -> u64 {
+    (0..rounds).map(|_| sum_of_registered(black_box(octets)).expect("a manifest")).sum()
+}
+
+/// A number, or a range of them.
+fn take_opt_as_block<S: Source>(cons: &mut Constructed<S>) -> Result<Option<(u128, u128)>, S::Err> {
+    if let Some(number) = cons.take_opt_u32()? {
+        return Ok(Some((number.into(), number.into())));
+    }
+    cons.take_opt_sequence(|cons| {
+        let (low, high) = (cons.take_u32()?, cons.take_u32()?);
+        must::<S>(low <= high)?;
+        Ok((low.into(), high.into()))
+    })
+}
+
+fn ends_of<S: Source>(bits: &BitString, most: u8) -> Result<(u128, u128), S::Err> {
+    let octets = bits.octet_slice().unwrap_or_default();
+    ends(octets, bits.unused(), most).ok_or_else(|| Error::Malformed.into())
+}
+
+/// The addresses that begin with some bits, or a range of addresses.
+fn take_opt_ip_block<S: Source>(cons: &mut Constructed<S>, most: u8) -> Result<Option<(u128, u128)>, S::Err> {
+    if let Some(bits) = cons.take_opt_value_if(Tag::BIT_STRING, BitString::from_content)? {
+        return ends_of::<S>(&bits, most).map(Some);
+    }
+    cons.take_opt_sequence(|cons| {
+        let (low, high) = (BitString::take_from(cons)?, BitString::take_from(cons)?);
+        let (low, high) = (ends_of::<S>(&low, most)?.0, ends_of::<S>(&high, most)?.1);
+        must::<S>(low <= high)?;
+        Ok((low, high))
+    })
+}
+
+fn take_as_blocks<S: Source>(cons: &mut Constructed<S>) -> Result<Blocks, S::Err> {
+    cons.take_sequence(|cons| {
+        cons.take_constructed_if(Tag::CTX_0, |cons| {
+            cons.take_sequence(|cons| {
+                let mut blocks = Blocks::new();
+                while let Some(block) = take_opt_as_block(cons)? {
+                    blocks.push(block);
+                }
+                Ok(joined(blocks))
+            })
+        })
+    })
+}
+
+/// The addresses of each family, beside the AS numbers.
+fn take_families<S: Source>(cons: &mut Constructed<S>, sets: &mut [Option<Blocks>; 3]) -> Result<(), S::Err> {
+    cons.take_sequence(|cons| {
+        while let Some(()) = cons.take_opt_sequence(|cons| {
+            let (place, most) = match OctetString::take_from(cons)?.to_bytes()[..] {
+                [0, 1] => (1, 32),
+                [0, 2] => (2, 128),
+                _ => return Err(Error::Malformed.into()),
+            };
+            let blocks = cons.take_sequence(|cons| {
+                let mut blocks = Blocks::new();
+                while let Some(block) = take_opt_ip_block(cons, most)? {
+                    blocks.push(block);
+                }
+                Ok(joined(blocks))
+            })?;
+            must::<S>(sets[place].replace(blocks).is_none())
+        })? {}
+        Ok(())
+    })
+}
+
+/// The AS numbers and the addresses of both families that are named: at least one of the three has to be.
+fn take_resources<S: Source>(cons: &mut Constructed<S>) -> Result<[Option<Blocks>; 3], S::Err> {
+    cons.take_sequence(|cons| {
+        let mut sets = [None, None, None];
+        sets[0] = cons.take_opt_constructed_if(Tag::CTX_0, take_as_blocks)?;
+        cons.take_opt_constructed_if(Tag::CTX_1, |cons| take_families(cons, &mut sets))?;
+        must::<S>(sets.iter().any(Option::is_some))?;
+        Ok(sets)
+    })
+}
+
+/// An entry of a checklist: the name of a file, which may be missing, and its hash.
+fn take_opt_listed<S: Source>(cons: &mut Constructed<S>) -> Result<Option<(Option<Bytes>, Bytes)>, S::Err> {
+    cons.take_opt_sequence(|cons| {
+        let name = cons.take_opt_value_if(Tag::IA5_STRING, Ia5String::from_content)?.map(Ia5String::into_bytes);
+        let hash = OctetString::take_from(cons)?.into_bytes();
+        must::<S>(name.as_ref().is_none_or(|name| is_portable(name)))?;
+        Ok((name, hash))
+    })
+}
+
+fn checklist(octets: &'static [u8]) -> Result<([Option<Blocks>; 3], Captured), Error> {
+    Mode::Der.decode(Bytes::from_static(octets), |cons| {
+        cons.take_sequence(|cons| {
+            skip_version(cons)?;
+            let sets = take_resources(cons)?;
+            cons.take_sequence(|cons| {
+                must::<Bytes>(Oid::take_from(cons)?.as_ref() == SHA_256)?;
+                cons.take_opt_null().map(|_| ())
+            })?;
+            let files = cons.take_sequence(|cons| {
+                cons.capture(|cons| {
+                    while take_opt_listed(cons)?.is_some() {}
+                    Ok(())
+                })
+            })?;
+            Ok((sets, files))
+        })
+    })
+}
+
+/// The sum of the lengths of the names, or of 1 where there is none, and of the octets in front of the hashes.
+fn sum_of_rsc(octets: &'static [u8]) -> Result<u64, Error> {
+    let (_, files) = black_box(checklist(octets)?);
+    files.decode(|cons| {
+        let mut sum = 0;
+        while let Some((name, hash)) = take_opt_listed(cons)? {
+            sum += name.map_or(1, |name| name.len() as u64) + u64::from(hash[0]);
+        }
+        Ok(sum)
+    })
+}
+
+pub fn walk_rsc(octets: &'static [u8], rounds: u32) -> u64 {
+    (0..rounds).map(|_| sum_of_rsc(black_box(octets)).expect("a checklist")).sum()
 }
 
 fn take_opt_address<S: Source>(cons: &mut Constructed<S>) -> Result<Option<Address>, S::Err> {

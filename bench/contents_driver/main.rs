@@ -146,8 +146,12 @@ fn main() {
         subject("bcder-manifest", "plain-manifest", manifest, beside_bcder::walk_manifest),
         subject("plain-registered", "plain-registered", manifest, plain_registered),
         subject("proved-registered", "plain-registered", manifest, proved_registered),
+        #[cfg(bcder)]
+        subject("bcder-registered", "plain-registered", manifest, beside_bcder::walk_registered),
         subject("plain-rsc", "plain-rsc", rsc, plain_rsc),
         subject("proved-rsc", "plain-rsc", rsc, proved_rsc),
+        #[cfg(bcder)]
+        subject("bcder-rsc", "plain-rsc", rsc, beside_bcder::walk_rsc),
         subject("plain-roa", "plain-roa", roa, plain_roa),
         subject("proved-roa", "plain-roa", roa, proved_roa),
         #[cfg(bcder)]

@@ -41,7 +41,7 @@ pub fn is_file_name(name: &[u8]) -> bool {
 }
 
 #[inline]
-fn is_registered(name: &[u8]) -> bool {
+pub fn is_registered(name: &[u8]) -> bool {
     name.last_chunk::<3>().is_some_and(|ending| TYPES.iter().any(|known| ending.eq_ignore_ascii_case(*known)))
 }
 
@@ -189,7 +189,7 @@ impl Roa<'_> {
 }
 
 /// Blocks of numbers: the lowest and the highest of each.
-type Blocks = Vec<(u128, u128)>;
+pub type Blocks = Vec<(u128, u128)>;
 
 /// A signed checklist, of which the same holds.
 #[allow(dead_code)]
@@ -211,7 +211,7 @@ fn listed<'a>(list: &mut Reader<'a>) -> Option<(Option<&'a [u8]>, &'a [u8])> {
 
 /// Whether octets are letters, digits, dots, `-` and `_`.
 #[inline]
-fn is_portable(name: &[u8]) -> bool {
+pub fn is_portable(name: &[u8]) -> bool {
     name.iter().all(|octet| octet.is_ascii_alphanumeric() || matches!(octet, b'-' | b'_' | b'.'))
 }
 
@@ -322,12 +322,17 @@ fn ip_blocks(mut list: Reader, most: u8) -> Option<Blocks> {
 /// The lowest and the highest address that begin with the bits of a BIT STRING.
 fn prefix(fields: &mut Reader, most: u8) -> Option<(u128, u128)> {
     let (octets, unused) = fields.bits()?;
+    ends(octets, unused, most)
+}
+
+/// The lowest and the highest address that begin with these bits.
+pub fn ends(octets: &[u8], unused: u8, most: u8) -> Option<(u128, u128)> {
     let address = Address::of(octets, unused, None).filter(|address| address.is_of(most))?;
     Some((address.addr, address.addr | u128::MAX.checked_shr(u32::from(address.len)).unwrap_or(0)))
 }
 
 /// The blocks in ascending order, with those that touch as one.
-fn joined(mut blocks: Blocks) -> Blocks {
+pub fn joined(mut blocks: Blocks) -> Blocks {
     blocks.sort_unstable();
     blocks.dedup_by(|(low, high), (_, before)| {
         let touches = *low <= before.saturating_add(1);
