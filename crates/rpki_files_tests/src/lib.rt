@@ -1,10 +1,11 @@
 //! Tests of `rpki_files`, each a table of rows that one small function walks.
 //!
 //! The octets follow from RFC 9286, section 4.2, RFC 9323, section 4, and X.690. A test hands want
-//! of memory on and asserts everything else. Hashes, single entries, URIs of files, and what is cut
-//! short are in the sweeps.
+//! of memory on and asserts everything else. What is cut short, and long lists, are in the sweeps.
 #![tactic(auto)]
 
+#[cfg(test)]
+mod calls;
 #[cfg(test)]
 mod checklists;
 #[cfg(test)]
