@@ -6,6 +6,7 @@ pub mod Named
 pub mod Orders
 pub mod Printed
 pub mod Reading
+pub mod Right
 pub mod Running
 pub mod Saying
 pub mod Shown

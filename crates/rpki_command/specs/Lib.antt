@@ -12,3 +12,4 @@ pub mod Refusal
 pub mod Store
 pub mod Texts
 pub mod Words
+pub mod Yes

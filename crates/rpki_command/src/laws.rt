@@ -1,10 +1,18 @@
 //! What the definitions say, as functions that do nothing.
 
 ghost use Rattle.std.specs.Prelude.{◌≡◌, ℕ, List, true};
+ghost use Rattle.rpki_basics.specs.Moment.{Moment};
 ghost use Rattle.rpki_files.specs.Checked.{is_portable_name};
 ghost use Rattle.rpki_files.specs.Name.{IsFileName};
+ghost use Rattle.rpki_command.specs.Answer.{Run};
+ghost use Rattle.rpki_command.specs.Command.{AreTold, IsRunOf};
 ghost use Rattle.rpki_command.specs.Ia5.{ia5_text};
+ghost use Rattle.rpki_command.specs.Store.{Told};
 ghost use Rattle.rpki_command.specs.Words.{IsAsked};
+ghost use Rattle.rpki_command.specs.Yes.{FilesOfCheck, in_order, check_order};
+ghost use Rattle.rpki_command.specs.Yes.{IsRightYes, IsRightNo};
+ghost use Rattle.rpki_command.specs.declared.words.Kind.{Kind};
+ghost use Rattle.rpki_command.specs.declared.words.Options.{Options};
 ghost use Rattle.rpki_command.specs.declared.words.Order.{Order};
 
 /// No words ask for two things.
@@ -16,4 +24,23 @@ pub fn words_ask_for_one_thing()
 pub fn names_are_printed()
     ensures manifest { (name : List ℕ) → IsFileName name → ia5_text name ≡ name }
     ensures checklist { (name : List ℕ) → is_portable_name name ≡ true → ia5_text name ≡ name }
+{}
+
+/// Where a store tells the files of a check, a run of it that ends with status 0 says yes, and that
+/// rightly: FILE begins with a good object under the issuer that the certificates make by the
+/// verdicts, at this moment. A run that ends with status 1 says no, and that rightly: they make
+/// none, or FILE begins with no good object under it.
+pub fn checks_are_right()
+    ensures yes { (told : Told) (words : List (List ℕ)) (before after : ℕ) (run : Run)
+        (options : Options) (kind : Kind) (now : Moment) (names files : FilesOfCheck)
+        → IsRunOf told words before after run
+        → IsAsked words (check_order options kind now names)
+        → AreTold told (in_order names) (in_order files)
+        → run.status ≡ 0 → IsRightYes options kind now files run }
+    ensures no { (told : Told) (words : List (List ℕ)) (before after : ℕ) (run : Run)
+        (options : Options) (kind : Kind) (now : Moment) (names files : FilesOfCheck)
+        → IsRunOf told words before after run
+        → IsAsked words (check_order options kind now names)
+        → AreTold told (in_order names) (in_order files)
+        → run.status ≡ 1 → IsRightNo options kind now files }
 {}

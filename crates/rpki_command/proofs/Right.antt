@@ -1,0 +1,303 @@
+-- What a yes and a no of the program mean, from what is said.
+use Rattle.std.proofs.Common.{◌≡◌, ℕ, List, Result, Ok, Err, inl, inr, subst, sym, ap, ◌∙◌, arith}
+use Rattle.std.proofs.Common.{◌++◌, rules}
+use Rattle.std.specs.Prelude.{◌⊎◌}
+use Rattle.sha2.specs.Sha256.{sha256}
+use Rattle.rpki_der.specs.Grammar.{HasNoFront}
+use Rattle.rpki_der.specs.Read.Reads.{Refuses}
+use Rattle.rpki_der.specs.declared.error.DecodeError.{DecodeError}
+use Rattle.rpki_der.specs.declared.error.DecodeError.TheVariants as decoding
+use Rattle.rpki_der.specs.declared.mode.Mode.{Mode}
+use Rattle.rpki_basics.specs.Moment.{Moment}
+use Rattle.rpki_faults.specs.declared.validation.ValidationError.{ValidationError}
+use Rattle.rpki_faults.specs.declared.validation.ValidationError.TheVariants as validation
+use Rattle.rpki_certs.specs.Cert.{KeptCertificate}
+use Rattle.rpki_certs.specs.Validate.{Validated}
+use Rattle.rpki_certs.specs.Verify.{Verdict}
+use Rattle.rpki_issuers.specs.Issuer.{MakesIssuer}
+use Rattle.rpki_issuers.specs.declared.issuer.IssuerError.{IssuerError}
+use Rattle.rpki_issuers.specs.declared.issuer.IssuerError.TheVariants as issuing
+use Rattle.rpki_signed.specs.Exact.{IsExact}
+use Rattle.rpki_signed.specs.Good.{IsGood, IsNotGood}
+use Rattle.rpki_signed.specs.Kind as signed
+use Rattle.rpki_signed.specs.Object.{Whole, ObjectForm, cert_in}
+use Rattle.rpki_signed.specs.declared.check.CheckError.{CheckError}
+use Rattle.rpki_signed.specs.declared.check.CheckError.TheVariants.{Decode, Validation}
+use Rattle.rpki_sigobj.specs.Verify.{Digester}
+use Rattle.rpki_verdicts.specs.Listed.{is_listed}
+use Rattle.rpki_verdicts.specs.Verdicts.{AreVerdicts}
+use Rattle.rpki_command.specs.Answer.{Run, Said, Printed, Complained, IsSaid, IsWhole}
+use Rattle.rpki_command.specs.Answer.{out_of_memory, bad_verdicts, shown}
+use Rattle.rpki_command.specs.Check.{yes_line, passes, issuer_refusal, validation_refusal}
+use Rattle.rpki_command.specs.Check.{IsCheckSaid, IsCheckedAs, CheckedUnder, IsSaidUnder, CheckOf}
+use Rattle.rpki_command.specs.Command.{AreTold, ChecksFiles, IsRunOf}
+use Rattle.rpki_command.specs.Contents.{IsLinesOf}
+use Rattle.rpki_command.specs.Kinds.{OfKind}
+use Rattle.rpki_command.specs.Options.{read_mode}
+use Rattle.rpki_command.specs.Refusal.{refusal}
+use Rattle.rpki_command.specs.Store.{Told}
+use Rattle.rpki_command.specs.Words.{IsAsked}
+use Rattle.rpki_command.specs.Yes.{FilesOfCheck, in_order, check_order, PrintsYes, IsRightYes}
+use Rattle.rpki_command.specs.Yes.{BeginsWithNoGood, IsRightNo}
+use Rattle.rpki_command.specs.declared.words.Kind.{Kind}
+use Rattle.rpki_command.specs.declared.words.Options.{Options}
+
+-- the status that goes with what is said
+abbrev status_of : Said → ℕ
+status_of (Printed text status) = status
+status_of (Complained text status) = status
+
+one : ◌≡◌ {A = ℕ} 1 0 → ⊥
+one e = omega (arith, e)
+
+two : ◌≡◌ {A = ℕ} 2 0 → ⊥
+two e = omega (arith, e)
+
+three : ◌≡◌ {A = ℕ} 3 0 → ⊥
+three e = omega (arith, e)
+
+-- a run that says this ends with its status, or with 2
+status-said : (s : Said) (run : Run) (n : ℕ) → IsSaid s run → run.status ≡ n → (n ≡ 2 → ⊥)
+    → status_of s ≡ n
+status-said (Printed text status) run n h e failed = elim h.out [
+  | inl w ↦ sym w.status_is ∙ e
+  | inr c ↦ absurd (failed (sym e ∙ c.status_is))
+]
+status-said (Complained text status) run n h e failed = elim h.err [
+  | inl w ↦ sym w.status_is ∙ e
+  | inr c ↦ absurd (failed (sym e ∙ c.status_is))
+]
+
+-- what has this status is not said with another one
+other-status : (s is : Said) (n : ℕ) → status_of s ≡ n → s ≡ is → (status_of is ≡ n → ⊥) → ⊥
+other-status s is n e same other = other (ap status_of (sym same) ∙ e)
+
+whole-lines : (lines : List ℕ) (run : Run) → IsSaid (shown lines) run → run.status ≡ 0
+    → IsWhole lines 0 run.out_before run.out_after run.status
+whole-lines lines run h z = elim h.out [
+  | inl w ↦ w
+  | inr c ↦ absurd (omega (arith, c.status_is, z))
+]
+
+refusal-is-none : (fault : DecodeError) → status_of (refusal fault) ≡ 0 → ⊥
+refusal-is-none decoding.Memory = three
+refusal-is-none decoding.Malformed = one
+refusal-is-none (decoding.Content fault) = one
+
+fault-is-none : (fault : ValidationError) → status_of (validation_refusal fault) ≡ 0 → ⊥
+fault-is-none (validation.Inspection fault) = one
+fault-is-none (validation.Verification fault) = one
+fault-is-none validation.Memory = three
+
+issuer-is-none : (fault : IssuerError) → status_of (issuer_refusal fault) ≡ 0 → ⊥
+issuer-is-none (issuing.Decode decoding.Memory) = three
+issuer-is-none (issuing.Decode decoding.Malformed) = one
+issuer-is-none (issuing.Decode (decoding.Content fault)) = one
+issuer-is-none (issuing.Validation (validation.Inspection fault)) = one
+issuer-is-none (issuing.Validation (validation.Verification fault)) = one
+issuer-is-none (issuing.Validation validation.Memory) = three
+
+no-pass : (cert : KeptCertificate) (fault : ValidationError) → passes cert (Err fault) → ⊥
+no-pass cert fault e = absurd cc
+
+-- ---- one object
+
+module _ {X : Type 0} (kind : signed.Kind X) (form : List ℕ → X → Type 0) (text : X → List ℕ)
+    (mode : Mode) (digest : Digester) (verdict : Verdict) (issuer : Validated) (now : Moment)
+    (octets : List ℕ) (s : Said) where
+  module _ (run : Run) (h : IsSaid s run) (z : run.status ≡ 0) (zero : status_of s ≡ 0) where
+    said-lines : (x : X) → IsLinesOf (yes_line ++ text x) s
+        → IsSaid (shown (yes_line ++ text x)) run
+    said-lines x (inl e) = absurd (other-status s out_of_memory 0 zero e three)
+    said-lines x (inr e) = subst (λ (y : Said). IsSaid y run) e h
+
+    yes-result : (result : Result (Validated × X) CheckError)
+        → IsExact kind form mode digest verdict issuer now passes octets result
+        → IsCheckSaid text result s
+        → PrintsYes kind form text mode digest verdict issuer now octets run
+    yes-result (Ok a) b is =
+        let holds = b.holds in
+        let lines = subst (λ (x : X). IsSaid (shown (yes_line ++ text x)) run) holds.2
+        (said-lines a.1 is) in
+        record {
+          object = b.object;
+          rest = b.rest;
+          front = b.front;
+          certificate = a.0;
+          good = holds.1;
+          printed = whole-lines (yes_line ++ text b.object.content) run lines z;
+          silent = lines.err;
+        }
+    yes-result (Err (Decode fault)) b is =
+        absurd (other-status s (refusal fault) 0 zero is (refusal-is-none fault))
+    yes-result (Err (Validation fault)) b (inl e) =
+        absurd (other-status s out_of_memory 0 zero e three)
+    yes-result (Err (Validation fault)) b (inr e) =
+        absurd (other-status s (validation_refusal fault) 0 zero e (fault-is-none fault))
+
+    yes-as : IsCheckedAs kind form text mode digest verdict issuer now octets s
+        → PrintsYes kind form text mode digest verdict issuer now octets run
+    yes-as (inl e) = absurd (other-status s out_of_memory 0 zero e three)
+    yes-as (inr c) = yes-result c.result c.exact c.said
+
+  module _ (first : status_of s ≡ 1) where
+    no-memory : s ≡ out_of_memory → ⊥
+    no-memory e = other-status s out_of_memory 1 first e (λ (n : 3 ≡ 1). omega (arith, n))
+
+    no-front : (fault : DecodeError) → s ≡ refusal fault
+        → Refuses fault (HasNoFront (ObjectForm kind.type form mode) octets)
+        → HasNoFront (ObjectForm kind.type form mode) octets
+    no-front decoding.Memory e none = absurd (no-memory e)
+    no-front decoding.Malformed e none = none
+    no-front (decoding.Content fault) e none = none
+
+    not-good : (o : Whole X) (fault : ValidationError) → s ≡ validation_refusal fault
+        → (fault ≡ validation.Memory)
+        ⊎ IsNotGood kind mode digest verdict issuer now (passes (cert_in mode o)) o
+        → (v : Validated) → IsGood kind mode digest verdict issuer now o v → ⊥
+    not-good o fault e (inl m) v good = no-memory (e ∙ ap validation_refusal m)
+    not-good o fault e (inr n) v good = let p = n v good in no-pass (cert_in mode o) p.0 p.1
+
+    no-result : (result : Result (Validated × X) CheckError)
+        → IsExact kind form mode digest verdict issuer now passes octets result
+        → IsCheckSaid text result s
+        → BeginsWithNoGood kind form mode digest verdict issuer now octets
+    no-result (Ok a) b (inl e) = absurd (no-memory e)
+    no-result (Ok a) b (inr e) = absurd
+        (other-status s (shown (yes_line ++ text a.1)) 1 first e (λ (n : 0 ≡ 1). omega (arith, n)))
+    no-result (Err (Decode fault)) b is = inl (no-front fault is b)
+    no-result (Err (Validation fault)) b (inl e) = absurd (no-memory e)
+    no-result (Err (Validation fault)) b (inr e) = inr (record {
+      object = b.object;
+      rest = b.rest;
+      front = b.front;
+      holds = not-good b.object fault e b.holds;
+    })
+
+    no-as : IsCheckedAs kind form text mode digest verdict issuer now octets s
+        → BeginsWithNoGood kind form mode digest verdict issuer now octets
+    no-as (inl e) = absurd (no-memory e)
+    no-as (inr c) = no-result c.result c.exact c.said
+
+-- ---- by its kind
+
+-- what follows for each kind follows for this one
+of-kind : (options : Options) (kind : Kind)
+    (P Q : (X : Type 0) → signed.Kind X → (List ℕ → X → Type 0) → (X → List ℕ) → Type 0)
+    → ((X : Type 0) (asked : signed.Kind X) (form : List ℕ → X → Type 0) (text : X → List ℕ)
+    → P X asked form text → Q X asked form text)
+    → OfKind options kind P → OfKind options kind Q
+of-kind options kind P Q more h = search rules
+
+module _ (s : Said) (options : Options) (kind : Kind) (verdict : Verdict) (issuer : Validated)
+    (now : Moment) (octets : List ℕ)
+    (c : CheckedUnder options kind sha256 verdict issuer now octets s) where
+  yes-under : (run : Run) → IsSaid s run → run.status ≡ 0 → status_of s ≡ 0
+      → OfKind options kind (λ X asked form text. PrintsYes asked form text (read_mode options)
+      sha256 verdict issuer now octets run)
+  yes-under run h z zero = of-kind options kind
+      (λ X asked form text. IsCheckedAs asked form text (read_mode options) sha256 verdict issuer
+      now octets s)
+      (λ X asked form text. PrintsYes asked form text (read_mode options) sha256 verdict issuer now
+      octets run)
+      (λ X asked form text is. yes-as asked form text (read_mode options) sha256 verdict issuer now
+      octets s run h z zero is) c
+
+  no-under : status_of s ≡ 1
+      → OfKind options kind (λ X asked form text. BeginsWithNoGood asked form (read_mode options)
+      sha256 verdict issuer now octets)
+  no-under first = of-kind options kind
+      (λ X asked form text. IsCheckedAs asked form text (read_mode options) sha256 verdict issuer
+      now octets s)
+      (λ X asked form text. BeginsWithNoGood asked form (read_mode options) sha256 verdict issuer
+      now octets)
+      (λ X asked form text is. no-as asked form text (read_mode options) sha256 verdict issuer now
+      octets s first is) c
+
+-- ---- by its files
+
+module _ (s : Said) (options : Options) (kind : Kind) (now : Moment) (files : FilesOfCheck) where
+  module _ (run : Run) (h : IsSaid s run) (z : run.status ≡ 0) (zero : status_of s ≡ 0) where
+    yes-made : (lines : List (List ℕ)) → AreVerdicts files.verdicts lines
+        → (issuer : Result Validated IssuerError)
+        → MakesIssuer (is_listed lines) now files.anchor files.chain issuer
+        → IsSaidUnder (λ v said.
+        CheckedUnder options kind sha256 (is_listed lines) v now files.object said) issuer s
+        → IsRightYes options kind now files run
+    yes-made lines are (Ok issuer) made is = record {
+      lines = lines;
+      listed = are;
+      issuer = issuer;
+      made = made;
+      yes = yes-under s options kind (is_listed lines) issuer now files.object is run h z zero;
+    }
+    yes-made lines are (Err fault) made (inl e) =
+        absurd (other-status s out_of_memory 0 zero e three)
+    yes-made lines are (Err fault) made (inr e) =
+        absurd (other-status s (issuer_refusal fault) 0 zero e (issuer-is-none fault))
+
+    yes-of : CheckOf options kind now (in_order files) s → IsRightYes options kind now files run
+    yes-of (inl n) = absurd (other-status s bad_verdicts 0 zero n.1 two)
+    yes-of (inr c) = yes-made c.0 c.1 c.2.0 c.2.1 c.2.2
+
+  module _ (first : status_of s ≡ 1) where
+    no-made : (lines : List (List ℕ)) → AreVerdicts files.verdicts lines
+        → (issuer : Result Validated IssuerError)
+        → MakesIssuer (is_listed lines) now files.anchor files.chain issuer
+        → IsSaidUnder (λ v said.
+        CheckedUnder options kind sha256 (is_listed lines) v now files.object said) issuer s
+        → IsRightNo options kind now files
+    no-made lines are (Ok issuer) made is = record {
+      lines = lines;
+      listed = are;
+      no = inr (record {
+        issuer = issuer;
+        made = made;
+        no = no-under s options kind (is_listed lines) issuer now files.object is first;
+      });
+    }
+    no-made lines are (Err fault) made (inl e) =
+        absurd (other-status s out_of_memory 1 first e (λ (n : 3 ≡ 1). omega (arith, n)))
+    no-made lines are (Err fault) made (inr e) = record {
+      lines = lines;
+      listed = are;
+      no = inl (record {
+        fault = fault;
+        made = made;
+        told = λ m. other-status s out_of_memory 1 first (e ∙ m)
+            (λ (n : 3 ≡ 1). omega (arith, n));
+      });
+    }
+
+    no-of : CheckOf options kind now (in_order files) s → IsRightNo options kind now files
+    no-of (inl n) =
+        absurd (other-status s bad_verdicts 1 first n.1 (λ (m : 2 ≡ 1). omega (arith, m)))
+    no-of (inr c) = no-made c.0 c.1 c.2.0 c.2.1 c.2.2
+
+-- ---- by the run
+
+module _ (told : Told) (words : List (List ℕ)) (old new : ℕ) (run : Run) (options : Options)
+    (kind : Kind) (now : Moment) (names files : FilesOfCheck) (is : IsRunOf told words old new run)
+    (asked : IsAsked words (check_order options kind now names))
+    (tells : AreTold told (in_order names) (in_order files)) where
+  done : ChecksFiles told (in_order names) (CheckOf options kind now) old new run
+  done = is.done (check_order options kind now names) asked
+
+  pub right-yes : run.status ≡ 0 → IsRightYes options kind now files run
+  right-yes z = elim (done.checked (in_order files) tells) [
+    | inl m ↦
+        absurd (three (status-said out_of_memory run 0 m z (λ (n : 0 ≡ 2). omega (arith, n))))
+    | inr c ↦
+        let zero = status-said c.1 run 0 c.3 z (λ (n : 0 ≡ 2). omega (arith, n)) in
+        yes-of c.1 options kind now files run c.3 z zero c.2
+  ]
+
+  pub right-no : run.status ≡ 1 → IsRightNo options kind now files
+  right-no z = elim (done.checked (in_order files) tells) [
+    | inl m ↦
+        let n : 3 ≡ 1 = status-said out_of_memory run 1 m z (λ (k : 1 ≡ 2). omega (arith, k)) in
+        absurd (omega (arith, n))
+    | inr c ↦
+        let first = status-said c.1 run 1 c.3 z (λ (n : 1 ≡ 2). omega (arith, n)) in
+        no-of c.1 options kind now files first c.2
+  ]

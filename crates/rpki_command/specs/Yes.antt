@@ -1,0 +1,100 @@
+-- What it means that a check ends with a yes, or with a no.
+use Rattle.std.specs.Prelude.{◌≡◌, ◌⊎◌, ℕ, List, ◌∷◌, ◌++◌, Ok, Err}
+use Rattle.sha2.specs.Sha256.{sha256}
+use Rattle.rpki_der.specs.Form.Decodes.{IsOnlyFront}
+use Rattle.rpki_der.specs.Grammar.{HasNoFront}
+use Rattle.rpki_der.specs.declared.mode.Mode.{Mode}
+use Rattle.rpki_basics.specs.Moment.{Moment}
+use Rattle.rpki_certs.specs.Validate.{Validated}
+use Rattle.rpki_certs.specs.Verify.{Verdict}
+use Rattle.rpki_issuers.specs.Issuer.{MakesIssuer}
+use Rattle.rpki_issuers.specs.declared.issuer.IssuerError.{IssuerError}
+use Rattle.rpki_signed.specs.Check.{BeginsWith}
+use Rattle.rpki_signed.specs.Good.{IsGood}
+use Rattle.rpki_signed.specs.Kind as signed
+use Rattle.rpki_signed.specs.Object.{Whole, ObjectForm}
+use Rattle.rpki_sigobj.specs.Verify.{Digester}
+use Rattle.rpki_verdicts.specs.Listed.{is_listed}
+use Rattle.rpki_verdicts.specs.Verdicts.{AreVerdicts}
+use Rattle.rpki_command.specs.Answer.{Run, IsWhole, out_of_memory}
+use Rattle.rpki_command.specs.Check.{yes_line, issuer_refusal}
+use Rattle.rpki_command.specs.Kinds.{OfKind}
+use Rattle.rpki_command.specs.Options.{read_mode}
+use Rattle.rpki_command.specs.declared.words.Command.TheVariants as commands
+use Rattle.rpki_command.specs.declared.words.Kind.{Kind}
+use Rattle.rpki_command.specs.declared.words.Options.{Options}
+use Rattle.rpki_command.specs.declared.words.Order.{Order}
+
+-- What is told of each file of a check: its name, or its octets.
+pub record FilesOfCheck : Type 0 where
+  pub object : List ℕ
+  pub verdicts : List ℕ
+  pub anchor : List ℕ
+  pub chain : List (List ℕ)
+
+-- the same in the order of the words
+abbrev pub in_order : FilesOfCheck → List (List ℕ)
+in_order files = files.object ∷ files.verdicts ∷ files.anchor ∷ files.chain
+
+-- to check the object in the file of such a name
+abbrev pub check_order : Options → Kind → Moment → FilesOfCheck → Order
+check_order options kind now names = record {
+  options = options;
+  command = commands.Check kind names.object now names.verdicts names.anchor names.chain;
+}
+
+-- The octets begin with a good object under this issuer, and the run prints yes and the lines of
+-- its content, whole, and nothing else.
+pub record PrintsYes {X : Type 0} (kind : signed.Kind X) (form : List ℕ → X → Type 0)
+    (text : X → List ℕ) (mode : Mode) (digest : Digester) (verdict : Verdict) (issuer : Validated)
+    (now : Moment) (octets : List ℕ) (run : Run) : Type 0 where
+  pub object : Whole X
+  pub rest : List ℕ
+  pub front : IsOnlyFront (ObjectForm kind.type form mode) octets object rest
+  pub certificate : Validated
+  pub good : IsGood kind mode digest verdict issuer now object certificate
+  pub printed : IsWhole (yes_line ++ text object.content) 0 run.out_before run.out_after run.status
+  pub silent : run.err_after ≡ run.err_before
+
+-- A yes is right: the verdicts are a list, by which the certificates make an issuer, and under it
+-- the object is good at this moment.
+pub record IsRightYes (options : Options) (kind : Kind) (now : Moment) (files : FilesOfCheck)
+    (run : Run) : Type 0 where
+  pub lines : List (List ℕ)
+  pub listed : AreVerdicts files.verdicts lines
+  pub issuer : Validated
+  pub made : MakesIssuer (is_listed lines) now files.anchor files.chain (Ok issuer)
+  pub yes : OfKind options kind (λ X asked form text. PrintsYes asked form text (read_mode options)
+      sha256 (is_listed lines) issuer now files.object run)
+
+-- The octets begin with no object of the kind, or with one that is not good under this issuer.
+abbrev pub BeginsWithNoGood : {X : Type 0} → signed.Kind X → (List ℕ → X → Type 0) → Mode
+    → Digester → Verdict → Validated → Moment → List ℕ → Type 0
+BeginsWithNoGood {X} kind form mode digest verdict issuer now octets =
+    HasNoFront (ObjectForm kind.type form mode) octets
+    ⊎ BeginsWith (ObjectForm kind.type form mode) octets (λ (o : Whole X).
+    (v : Validated) → IsGood kind mode digest verdict issuer now o v → ⊥)
+
+-- The certificates make no issuer, and not for want of memory.
+pub record MakeNoIssuer (verdict : Verdict) (now : Moment) (anchor : List ℕ)
+    (chain : List (List ℕ)) : Type 0 where
+  pub fault : IssuerError
+  pub made : MakesIssuer verdict now anchor chain (Err fault)
+  pub told : issuer_refusal fault ≡ out_of_memory → ⊥
+
+-- The certificates make an issuer, and under it the octets begin with no good object.
+pub record IsRefusedUnder (options : Options) (kind : Kind) (verdict : Verdict) (now : Moment)
+    (files : FilesOfCheck) : Type 0 where
+  pub issuer : Validated
+  pub made : MakesIssuer verdict now files.anchor files.chain (Ok issuer)
+  pub no : OfKind options kind (λ X asked form text. BeginsWithNoGood asked form
+      (read_mode options) sha256 verdict issuer now files.object)
+
+-- A no is right: the verdicts are a list, by which the certificates make no issuer, or one under
+-- which the octets begin with no good object at this moment.
+pub record IsRightNo (options : Options) (kind : Kind) (now : Moment) (files : FilesOfCheck)
+    : Type 0 where
+  pub lines : List (List ℕ)
+  pub listed : AreVerdicts files.verdicts lines
+  pub no : MakeNoIssuer (is_listed lines) now files.anchor files.chain
+      ⊎ IsRefusedUnder options kind (is_listed lines) now files
