@@ -7,6 +7,7 @@ pub mod checks;
 pub mod extensions;
 pub mod files;
 pub mod issuers;
+pub mod laws;
 pub mod listed;
 pub mod locators;
 pub mod numbers;
