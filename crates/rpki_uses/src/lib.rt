@@ -6,6 +6,7 @@ pub mod certs;
 pub mod checks;
 pub mod extensions;
 pub mod files;
+pub mod granted;
 pub mod issuers;
 pub mod laws;
 pub mod listed;
