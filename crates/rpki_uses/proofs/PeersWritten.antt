@@ -1,12 +1,12 @@
 -- Lists of peers are written in the form, nothing else is, and they are read again.
 use Rattle.std.proofs.Common.{◌≡◌, ℕ, ◌^◌, ◌<◌, List, [], ◌∷◌, ◌++◌, length, refl, sym, ap}
-use Rattle.std.proofs.Common.{subst, ◌∙◌, arith, length-append, Option, None, Some, All}
+use Rattle.std.proofs.Common.{subst, ◌∙◌, Option, None, Some, All}
 use Rattle.std.specs.List.{flat_map}
 use Rattle.std.proofs.lemmas.List.{append-nil}
 use Rattle.rpki_der.specs.declared.mode.Mode.{Mode}
 use Rattle.rpki_der.specs.declared.mode.Mode.TheVariants.{Der, Ber}
 use Rattle.rpki_der.specs.Tags.{SEQUENCE, IA5_STRING}
-use Rattle.rpki_der.specs.Grammar.{Within, IntegerBelow, Ia5String, Optional, IsBytes, Items}
+use Rattle.rpki_der.specs.Grammar.{IntegerBelow, Ia5String, Optional, IsBytes, Items}
 use Rattle.rpki_der.specs.Form.Parts.{Parts, SequenceOf, sequence_at}
 use Rattle.rpki_der.specs.Write.Parts.{optional_octets, IsEach, length_parts, contents_small}
 use Rattle.rpki_der.specs.Write.Written.{value_octets, number_octets}
