@@ -1,4 +1,5 @@
 mod Answered
 mod ByList
 mod PeersExact
+mod PeersWritten
 mod Search

@@ -1,12 +1,12 @@
 -- Lists of peers: a format of this crate's own, with an optional field and a list.
-use Rattle.std.specs.Prelude.{ℕ, ◌^◌, List, [], ◌∷◌, ◌++◌, Option, Some}
+use Rattle.std.specs.Prelude.{ℕ, ◌<◌, ◌^◌, List, [], ◌∷◌, ◌++◌, Option, Some, All}
 use Rattle.std.specs.List.{flat_map}
 use Rattle.rpki_der.specs.declared.mode.Mode.{Mode}
 use Rattle.rpki_der.specs.Tags.{SEQUENCE, INTEGER, IA5_STRING}
 use Rattle.rpki_der.specs.Grammar.{IntegerBelow, Ia5String, Optional}
 use Rattle.rpki_der.specs.Form.Parts.{Sequence, SequenceOf, sequence_of_at}
 use Rattle.rpki_der.specs.Read.Parse.{Parser, ◌>>=◌, optional, u32_at, ia5_at}
-use Rattle.rpki_der.specs.Write.Parts.{optional_octets}
+use Rattle.rpki_der.specs.Write.Parts.{optional_octets, IsEach}
 use Rattle.rpki_der.specs.Write.Written.{value_octets, number_octets}
 
 -- what a list of peers says
@@ -14,6 +14,12 @@ pub record PeerList : Type 0 where
   pub local : ℕ
   pub note : Option (List ℕ)
   pub peers : List ℕ
+
+-- the numbers and the characters are those that the ASN.1 has
+pub record IsPeerList (p : PeerList) : Type 0 where
+  pub local : p.local < 2 ^ 32
+  pub note : IsEach (All (λ c. c < 128)) p.note
+  pub peers : All (λ n. n < 2 ^ 32) p.peers
 
 -- SEQUENCE { local INTEGER, note IA5String OPTIONAL, peers SEQUENCE OF INTEGER }
 abbrev pub PeersForm : Mode → List ℕ → PeerList → Type 0

@@ -7,7 +7,7 @@
 //!     peers  SEQUENCE OF INTEGER (0..4294967295) }
 //! ```
 
-ghost use Rattle.std.specs.Prelude.{◌≡◌, ◌<◌, ◌^◌, length};
+ghost use Rattle.std.specs.Prelude.{◌≡◌, ◌<◌, ◌^◌, None, Some, length, MatchOption};
 ghost use Rattle.std.specs.List.{flat_map};
 ghost use Rattle.rpki_der.specs.declared.mode.Mode.TheVariants.{Der};
 ghost use Rattle.rpki_der.specs.Tags.{IA5_STRING, INTEGER, SEQUENCE};
@@ -22,7 +22,7 @@ ghost use Rattle.rpki_uses.specs.Peers.{PeersForm, fields_at, peers_contents, pe
 use bytes::Bytes;
 use rpki_der::encode::{each, ia5, sequence};
 use rpki_der::laws::slices_hold_octets;
-use rpki_der::{Constructed, DecodeError, Encode, EncodeError, Mode, Sink, SinkFailed};
+use rpki_der::{Constructed, DecodeError, Encode, EncodeError, ListItem, Mode, Sink, SinkFailed};
 use rpki_resources::Asn;
 use std::alloc::Global;
 use std::marker::Model;
@@ -39,9 +39,32 @@ impl Model for Note {
     ghost view = { λ n. n.0 };
 }
 
+/// One of the peers of an AS.
+#[derive(Clone, Copy, Debug)]
+pub struct Peer(Asn);
+
+impl Model for Peer {
+    ghost use Rattle.std.specs.Prelude.{ℕ};
+
+    ghost Value = { ℕ };
+
+    ghost view = { λ p. p.0 };
+
+    ghost inverse = { λ n. record { 0 = n } };
+}
+
+impl Peer {
+    /// Its AS.
+    pub fn asn(self) -> Asn
+        ensures { result ≡ self }
+    {
+        self.0
+    }
+}
+
 /// The peers of an AS.
 #[derive(Debug, Drop)]
-pub struct Peers(Vec<Asn>);
+pub struct Peers(Vec<Peer>);
 
 impl Model for Peers {
     ghost use Rattle.std.specs.Prelude.{ℕ, List};
@@ -100,15 +123,30 @@ fn take_fields(cons: &mut Constructed<'_>, alloc: Global) -> Result<PeerList, De
     Ok(PeerList { local, note, peers })
 }
 
-// Reads as many numbers as there are.
+// Reads as many peers as there are.
 fn take_peers(cons: &mut Constructed<'_>, alloc: Global) -> Result<Peers, DecodeError>
     ensures { Reads (λ peers. peers) (items_at INTEGER u32_at) cons.old result cons.new }
 {
-    let mut peers = Vec::new(alloc);
-    while let Some(peer) = cons.take_opt_u32()? {
-        peers.push(Asn::from_u32(peer))?;
+    Ok(Peers(cons.take_items(alloc)?))
+}
+
+impl ListItem for Peer {
+    ghost use Rattle.rpki_der.specs.Tags.{INTEGER};
+    ghost use Rattle.rpki_der.specs.Read.Parse.{u32_at};
+
+    ghost tag = { INTEGER };
+
+    ghost at = { u32_at };
+
+    fn take_opt_from(
+        _alloc: Global,
+        cons: &mut Constructed<'_>,
+    ) -> Result<Option<Peer>, DecodeError> {
+        match cons.take_opt_u32()? {
+            Some(number) => Ok(Some(Peer(Asn::from_u32(number)))),
+            None => Ok(None),
+        }
     }
-    Ok(Peers(peers))
 }
 
 impl PeerList {
@@ -119,8 +157,18 @@ impl PeerList {
         self.local
     }
 
+    /// Its note, if there is one.
+    pub fn note(&self) -> Option<&[u8]>
+        ensures { MatchOption result (self.now.note ≡ None) (λ n. self.now.note ≡ Some n.now) }
+    {
+        match &self.note {
+            Some(note) => Some(note.0.as_slice()),
+            None => None,
+        }
+    }
+
     /// Its peers, in the order of the list.
-    pub fn peers(&self) -> &[Asn]
+    pub fn peers(&self) -> &[Peer]
         ensures { result.now ≡ self.now.peers }
     {
         self.peers.0.as_slice()
@@ -140,6 +188,22 @@ impl Encode for Note {
 
     fn put<W: Sink>(&self, len: u64, out: &mut W) -> Result<(), SinkFailed> {
         ia5(self.0.as_slice()).put(len, out)
+    }
+}
+
+impl Encode for Peer {
+    ghost octets = { number_octets };
+
+    ghost is_short = { λ p. Unit {0} };
+
+    ghost small = { λ p h. tt };
+
+    fn encoded_len(&self) -> Result<u64, EncodeError> {
+        self.0.encoded_len()
+    }
+
+    fn put<W: Sink>(&self, len: u64, out: &mut W) -> Result<(), SinkFailed> {
+        self.0.put(len, out)
     }
 }
 
