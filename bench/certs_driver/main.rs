@@ -17,6 +17,11 @@ use table::Subject;
 const ONE: &[u32] = &[1];
 const ENTRIES: &[u32] = &[100_000];
 
+/// How often a list that was read is asked in a round, so that its reading hardly counts, and how many entries are
+/// gone through then.
+const TIMES: u32 = 500;
+const ASKED: &[u32] = &[50_000_000];
+
 /// About how many certificates or entries one measurement goes over.
 const EACH: u32 = 2_000;
 
@@ -48,7 +53,7 @@ fn proved_crl(octets: &'static [u8], rounds: u32) -> u64 {
 }
 
 fn proved_asked(octets: &'static [u8], rounds: u32) -> u64 {
-    unsafe { bench_ask_crl(octets.as_ptr(), octets.len(), u64::from(MISSING), rounds) }
+    unsafe { bench_ask_crl(octets.as_ptr(), octets.len(), u64::from(MISSING), rounds * TIMES) }
 }
 
 fn plain_decode(octets: &'static [u8], rounds: u32) -> u64 {
@@ -91,7 +96,7 @@ fn plain_crl(octets: &'static [u8], rounds: u32) -> u64 {
 
 fn plain_asked(octets: &'static [u8], rounds: u32) -> u64 {
     let crl = plain::crl(octets).expect("a revocation list");
-    (0..rounds).map(|_| asked(black_box(&crl))).sum()
+    (0..rounds * TIMES).map(|_| asked(black_box(&crl))).sum()
 }
 
 #[cfg(bcder)]
@@ -154,6 +159,11 @@ fn crl(count: u32) -> &'static [u8] {
     value(0x30, &[&signed, &algorithm, &value(0x03, &[&[0; 33]])]).leak()
 }
 
+/// The list that is asked, where this many entries are gone through in a round.
+fn asked_crl(count: u32) -> &'static [u8] {
+    crl(count / TIMES)
+}
+
 fn main() {
     let subject = |name, beside, counts, sample, run| Subject { name, beside, counts, sample, run };
     let subjects = [
@@ -169,8 +179,8 @@ fn main() {
         subject("proved-crl", "plain-crl", ENTRIES, crl, proved_crl),
         #[cfg(bcder)]
         subject("bcder-crl", "plain-crl", ENTRIES, crl, bcder_crl),
-        subject("plain-asked", "plain-asked", ENTRIES, crl, plain_asked),
-        subject("proved-asked", "plain-asked", ENTRIES, crl, proved_asked),
+        subject("plain-asked", "plain-asked", ASKED, asked_crl, plain_asked),
+        subject("proved-asked", "plain-asked", ASKED, asked_crl, proved_asked),
     ];
     if std::env::args().len() == 1 {
         table::agree("the certificate", authority(1), proved_decode, plain_decode);
