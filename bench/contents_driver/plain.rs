@@ -300,7 +300,7 @@ fn as_blocks(mut outer: Reader) -> Option<Blocks> {
     Some(joined(blocks))
 }
 
-/// Prefixes and ranges of addresses of so many bits.
+/// Prefixes and ranges of addresses of at most this number of bits.
 fn ip_blocks(mut list: Reader, most: u8) -> Option<Blocks> {
     let mut blocks = Blocks::new();
     while !list.is_empty() {

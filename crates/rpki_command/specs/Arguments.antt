@@ -11,16 +11,16 @@ use Rattle.rpki_command.specs.declared.arguments.WordsError.TheVariants.{NoText,
 abbrev pub ToldArguments : Type 0
 ToldArguments = Option (List (List ℕ))
 
--- What a call for the argument at a place gives: its octets, or nothing where there are not so many
--- arguments. Where the arguments are not told, it may be anything.
+-- What a call for the argument at a place gives: its octets, or nothing where no argument stands
+-- there. Where the arguments are not told, it may be anything.
 abbrev pub IsArgument : ToldArguments → ℕ → Option (Vec ℕ Global) → Type 0
 IsArgument None place argument = Unit {0}
 IsArgument (Some arguments) place None = length arguments ≤ place
 IsArgument (Some arguments) place (Some octets) =
     (place < length arguments) × ((d : List ℕ) → octets.items ≡ slice_index_or arguments place d)
 
--- What a call for the word at a place gives: the argument as a text, nothing where there are not so
--- many arguments, or the fault that it is no text or that memory ran out. Where the arguments are
+-- What a call for the word at a place gives: the argument as a text, nothing where no argument
+-- stands there, or the fault that it is no text or that memory ran out. Where the arguments are
 -- not told, it may be anything.
 abbrev pub IsWordAt : ToldArguments → ℕ → Result (Option (String Global)) WordsError → Type 0
 IsWordAt None place word = Unit {0}

@@ -68,7 +68,7 @@ fn leaf(alloc: Global, identifier: u8, contents: &[u8]) -> Result<Vec<u8>, Alloc
     }
 }
 
-/// These values of DER in BER, one after the other, and so many levels of those within them: where
+/// These values of DER in BER, one after the other, and those within them down to this depth: where
 /// a value is constructed its length is indefinite.
 fn in_ber(alloc: Global, values: &[u8], depth: u8) -> Result<Vec<u8>, AllocError> {
     let mut made = Vec::new(alloc);
