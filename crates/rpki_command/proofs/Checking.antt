@@ -69,10 +69,12 @@ module _ {X : Type 0} (kind : Kind X) (form : List ℕ → X → Type 0) (mode :
   }
 
   no-more : (o : Whole X) (fault : ValidationError)
-      → (fault ≡ Memory) ⊎ IsNotGood kind mode digest verdict issuer now (Says (cert_in mode o)) o
-      → (fault ≡ Memory) ⊎ IsNotGood kind mode digest verdict issuer now (More (cert_in mode o)) o
+      → (fault ≡ Memory)
+      ⊎ IsNotGood kind mode digest verdict issuer now (Says (cert_in mode o)) o fault
+      → (fault ≡ Memory)
+      ⊎ IsNotGood kind mode digest verdict issuer now (More (cert_in mode o)) o fault
   no-more o fault (inl e) = inl e
-  no-more o fault (inr n) = inr (λ v good. let p = n v good in (p.0, more _ _ p.1))
+  no-more o fault (inr n) = inr (λ v good. more _ _ (n v good))
 
   pub exact-more : (result : Result (Validated × X) CheckError)
       → IsExact kind form mode digest verdict issuer now Says octets result

@@ -153,10 +153,10 @@ module _ {X : Type 0} (kind : signed.Kind X) (form : List ℕ → X → Type 0) 
 
     not-good : (o : Whole X) (fault : ValidationError) → s ≡ validation_refusal fault
         → (fault ≡ validation.Memory)
-        ⊎ IsNotGood kind mode digest verdict issuer now (passes (cert_in mode o)) o
+        ⊎ IsNotGood kind mode digest verdict issuer now (passes (cert_in mode o)) o fault
         → (v : Validated) → IsGood kind mode digest verdict issuer now o v → ⊥
     not-good o fault e (inl m) v good = no-memory (e ∙ ap validation_refusal m)
-    not-good o fault e (inr n) v good = let p = n v good in no-pass (cert_in mode o) p.0 p.1
+    not-good o fault e (inr n) v good = no-pass (cert_in mode o) fault (n v good)
 
     no-result : (result : Result (Validated × X) CheckError)
         → IsExact kind form mode digest verdict issuer now passes octets result

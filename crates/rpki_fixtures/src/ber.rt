@@ -1,5 +1,8 @@
 //! Values in BER.
 
+ghost use Rattle.std.specs.Prelude.{◌≡◌, ◌∷◌, ◌++◌, [], IfOk};
+ghost use Rattle.std.specs.List.{flat_map};
+
 use crate::cert::{ALGORITHM, CertOf, cert_octets};
 use crate::octets::{joined, signature_of, value};
 use bytes::Bytes;
@@ -9,7 +12,10 @@ use std::alloc::{AllocError, Global};
 const DEPTH: u8 = 32;
 
 /// A value with this identifier, whose length is indefinite.
-pub fn indefinite(alloc: Global, identifier: u8, parts: &[&[u8]]) -> Result<Vec<u8>, AllocError> {
+pub fn indefinite(alloc: Global, identifier: u8, parts: &[&[u8]]) -> Result<Vec<u8>, AllocError>
+    ensures { IfOk result (λ v. v.items
+        ≡ identifier ∷ 0x80 ∷ (flat_map (λ x. x.now) parts.now ++ (0 ∷ 0 ∷ []))) }
+{
     let contents = joined(alloc, parts)?;
     joined(alloc, &[&[identifier, 0x80], &contents, &[0, 0]])
 }

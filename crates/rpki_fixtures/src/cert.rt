@@ -1,5 +1,11 @@
 //! Certificates put together from values.
 
+ghost use Rattle.std.specs.Prelude.{◌≡◌, ◌∷◌, ◌++◌, [], ℕ, Some, None, IfOk, cond};
+ghost use Rattle.std.specs.Int.{w64, to_be_bytes};
+ghost use Rattle.rpki_der.specs.Tags.{SEQUENCE, OCTET_STRING};
+ghost use Rattle.rpki_der.specs.Write.Written.{value_octets};
+ghost use Rattle.sha1.specs.Sha1.{sha1};
+
 use crate::numbers::{Numbers, as_value, ip_value};
 use crate::octets::{joined, key_identifier, signature_of, value};
 use bytes::Bytes;
@@ -165,7 +171,10 @@ pub fn extension(
     oid: &'static [u8],
     is_critical: bool,
     octets: &[u8],
-) -> Result<Vec<u8>, AllocError> {
+) -> Result<Vec<u8>, AllocError>
+    ensures { IfOk result (λ v. v.items ≡ value_octets SEQUENCE (oid.now
+        ++ (cond is_critical (1 ∷ 1 ∷ 0xFF ∷ []) [] ++ value_octets OCTET_STRING octets.now))) }
+{
     let critical: &[u8] = if is_critical { b"\x01\x01\xFF" } else { b"" };
     let octets = value(alloc, 0x04, &[octets])?;
     value(alloc, 0x30, &[oid, critical, &octets])
@@ -188,7 +197,12 @@ fn subject_key(alloc: Global, cert: &CertOf) -> Result<Vec<u8>, AllocError> {
 }
 
 /// The identifier of the issuer's key, where one is stated.
-pub fn authority_key(alloc: Global, key: Option<u64>) -> Result<Vec<u8>, AllocError> {
+pub fn authority_key(alloc: Global, key: Option<u64>) -> Result<Vec<u8>, AllocError>
+    ensures none { key ≡ None → IfOk result (λ v. v.items ≡ []) }
+    ensures some { (n : ℕ) → key ≡ Some n → IfOk result (λ v. v.items ≡ value_octets SEQUENCE (
+        0x06 ∷ 0x03 ∷ 0x55 ∷ 0x1D ∷ 0x23 ∷ value_octets OCTET_STRING (value_octets SEQUENCE
+        (value_octets 0x80 (sha1 (to_be_bytes w64 n)))))) }
+{
     let Some(key) = key else {
         return Ok(Vec::new(alloc));
     };

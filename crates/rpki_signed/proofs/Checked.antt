@@ -70,7 +70,7 @@ module _ {X : Type 0} (kind : Kind X) (form : List ℕ → X → Type 0) (digest
       → (b : BeginsWith (ObjectForm kind.type form mode) octets (AnswersOf mode (Err fault)))
       → Means kind b.object.content
       → BeginsWith (ObjectForm kind.type form mode) octets (λ (o : Whole X). (fault ≡ Memory)
-      ⊎ IsNotGood kind mode digest verdict issuer now (Says (cert_in mode o)) o)
+      ⊎ IsNotGood kind mode digest verdict issuer now (Says (cert_in mode o)) o fault)
   no-means mode octets fault b m = record {
     object = b.object;
     rest = b.rest;
@@ -80,6 +80,7 @@ module _ {X : Type 0} (kind : Kind X) (form : List ℕ → X → Type 0) (digest
     where
       of : AnswersOf mode (Err fault) b.object → (fault ≡ Memory)
           ⊎ IsNotGood kind mode digest verdict issuer now (Says (cert_in mode b.object)) b.object
+          fault
       of (inl e) = inl cc
       of (inr h) = inr (not-good kind mode digest verdict issuer now b.object m
           (Says (cert_in mode b.object)) fault h)

@@ -1,11 +1,11 @@
 -- What the answer of a check means, by the law of its kind.
-use Rattle.std.proofs.Common.{◌≡◌, List, ◌++◌, Result, Ok, Err, refl, sym}
+use Rattle.std.proofs.Common.{◌≡◌, inr, List, ◌++◌, Result, Ok, Err, refl, sym}
 use Rattle.std.proofs.Common.{subst}
 use Rattle.rpki_der.specs.declared.mode.Mode.{Mode}
 use Rattle.rpki_basics.specs.Moment.{Moment}
-use Rattle.rpki_faults.specs.Checks.{Check, AllHold}
+use Rattle.rpki_faults.specs.Checks.{Check, AllHold, IsFirstFault}
 use Rattle.rpki_faults.specs.declared.validation.ValidationError.{ValidationError}
-use Rattle.rpki_faults.proofs.Order.{first-fails, hold-split, hold-join}
+use Rattle.rpki_faults.proofs.Order.{first-fails, first-one, first-join, hold-split, hold-join}
 use Rattle.rpki_extensions.specs.declared.claims.Claims.{Claims}
 use Rattle.rpki_certs.specs.Validate.{Validated, AreValidated, IsValidatedUnder}
 use Rattle.rpki_certs.specs.Verify.{Verdict}
@@ -36,6 +36,11 @@ module _ {X : Type 0} (kind : Kind X) (mode : Mode) (digest : Digester) (verdict
   abbrev Asked : Result (Validated × X) ValidationError → Type 0
   Asked = IsProcessed (before_revocation kind digest verdict o issuer now)
       (IsValidatedUnder (cert_in mode o) issuer) Says (kind.held o.content) o.content
+
+  -- all checks, where this was said of the certificate and these are its sets
+  abbrev WithSaid : Validated → Result (Unit {0}) ValidationError → List (Check ValidationError)
+  WithSaid v said = before_revocation kind digest verdict o issuer now
+      ++ (said_checks said ++ kind.held o.content v.sets)
 
   -- a yes
   pub good : (a : Validated × X) → Asked (Ok a)
@@ -69,7 +74,7 @@ module _ {X : Type 0} (kind : Kind X) (mode : Mode) (digest : Digester) (verdict
 
   -- a no
   pub not-good : (fault : ValidationError) → Asked (Err fault)
-      → IsNotGood kind mode digest verdict issuer now Says o
+      → IsNotGood kind mode digest verdict issuer now Says o fault
   not-good fault h v g = of h.said refl
     where
       sets : AreValidated claims issuer.sets v.sets
@@ -86,9 +91,19 @@ module _ {X : Type 0} (kind : Kind X) (mode : Mode) (digest : Digester) (verdict
       held = ((means.checks claims issuer.sets h.valid.sets mine).1
           (means.same claims issuer.sets v.sets h.valid.sets sets mine g.covered)).1
 
+      -- what was said is what is answered
+      told : (why : ValidationError) → h.said ≡ Err why → fault ≡ why
+      told why e = first-one (WithSaid h.valid (Err why)) fault why
+          (subst (λ (s : Result (Unit {0}) ValidationError).
+          IsFirstFault (WithSaid h.valid s) fault) e h.first)
+          (first-join (before_revocation kind digest verdict o issuer now)
+          (said_checks (Err why) ++ kind.held o.content h.valid.sets) why
+          (inr (before, inr ((λ none. none), refl))))
+
       of : (said : Result (Unit {0}) ValidationError) → h.said ≡ said
-          → (fault : ValidationError) × Says (Err fault)
-      of (Err why) e = (why, subst Says e (h.asked before).1)
+          → Says (Err fault)
+      of (Err why) e = subst (λ (f : ValidationError). Says (Err f)) (sym (told why e))
+          (subst Says e (h.asked before).1)
       of (Ok done) e = absurd (first-fails (before_revocation kind digest verdict o issuer now
           ++ (said_checks h.said ++ kind.held o.content h.valid.sets)) fault h.first
           (hold-join (before_revocation kind digest verdict o issuer now)

@@ -20,7 +20,7 @@ use Rattle.rpki_signed.specs.Object.{Whole, ObjectForm, cert_in}
 -- A yes is answered exactly where the octets begin with a member of the form, every check holds,
 -- and the numbers claimed lie in the validated certificate's sets. Unless memory runs out, `Decode`
 -- is answered exactly where they begin with none, and `Validation` exactly where they begin with
--- one that is not good.
+-- one that is not good, or of whose certificate its fault was said.
 abbrev pub IsExact : {X : Type 0} → Kind X → (List ℕ → X → Type 0) → Mode → Digester → Verdict
     → Validated → Moment → (KeptCertificate → Result (Unit {0}) ValidationError → Type 0)
     → List ℕ → Result (Validated × X) CheckError → Type 0
@@ -32,4 +32,5 @@ IsExact kind form mode digest verdict issuer now Says octets (Err (Decode e)) =
     Refuses e (HasNoFront (ObjectForm kind.type form mode) octets)
 IsExact {X} kind form mode digest verdict issuer now Says octets (Err (Validation fault)) =
     BeginsWith (ObjectForm kind.type form mode) octets (λ (o : Whole X).
-    (fault ≡ Memory) ⊎ IsNotGood kind mode digest verdict issuer now (Says (cert_in mode o)) o)
+    (fault ≡ Memory)
+    ⊎ IsNotGood kind mode digest verdict issuer now (Says (cert_in mode o)) o fault)

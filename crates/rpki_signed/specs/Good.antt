@@ -22,13 +22,12 @@ pub record IsGood {X : Type 0} (kind : Kind X) (mode : Mode) (digest : Digester)
   pub certificate : IsValidatedUnder (cert_in mode o) issuer v
   pub covered : kind.covers o.content o.object.signed.cert.tbs.extensions.claims v.sets
 
--- It is not, whatever the sets of its certificate are; or it is, and what was said of its
--- certificate, of which was asked then, is a no.
+-- It is not, whatever the sets of its certificate are; or it is, and this fault is what was said of
+-- its certificate, of which was asked then.
 abbrev pub IsNotGood : {X : Type 0} → Kind X → Mode → Digester → Verdict → Validated → Moment
-    → (Result (Unit {0}) ValidationError → Type 0) → Whole X → Type 0
-IsNotGood kind mode digest verdict issuer now Says o =
-    (v : Validated) → IsGood kind mode digest verdict issuer now o v
-    → (fault : ValidationError) × Says (Err fault)
+    → (Result (Unit {0}) ValidationError → Type 0) → Whole X → ValidationError → Type 0
+IsNotGood kind mode digest verdict issuer now Says o fault =
+    (v : Validated) → IsGood kind mode digest verdict issuer now o v → Says (Err fault)
 
 -- What the checks of a kind mean for a content, by the sets of the validated certificate, which are
 -- determined up to how they are written.

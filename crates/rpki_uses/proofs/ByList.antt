@@ -45,12 +45,12 @@ module _ {X : Type 0} (kind : Kind X) (form : List ℕ → X → Type 0) (digest
     where
       of : (fault ≡ Memory)
           ⊎ IsNotGood kind Der digest verdict issuer now (Says (cert_in Der h.object)) h.object
+          fault
           → (fault ≡ Memory)
           ⊎ IsNotGood kind Der digest verdict issuer now (SaysOf list (cert_in Der h.object))
-          h.object
+          h.object fault
       of (inl e) = inl e
-      of (inr n) = inr (λ v g. let no = n v g in
-          (no.0, means (cert_in Der h.object) (Err no.0) no.1))
+      of (inr n) = inr (λ v g. means (cert_in Der h.object) (Err fault) (n v g))
 
   -- what is refused is revoked
   revoked : (k : KeptCertificate) (fault : ValidationError) → SaysOf list k (Err fault)
@@ -84,11 +84,10 @@ module _ {X : Type 0} (kind : Kind X) (form : List ℕ → X → Type 0) (digest
       where
         of : (fault ≡ Memory)
             ⊎ IsNotGood kind Der digest verdict issuer now (SaysOf list (cert_in Der h.object))
-            h.object
+            h.object fault
             → (fault ≡ Memory) ⊎ (¬ IsGoodByList kind digest verdict issuer now list h.object)
         of (inl e) = inl e
-        of (inr n) = inr (λ g. let no = n g.0 g.1 in
-            revoked (cert_in Der h.object) no.0 no.1 g.2)
+        of (inr n) = inr (λ g. revoked (cert_in Der h.object) fault (n g.0 g.1) g.2)
 
 -- what a yes means of a ROA
 pub roa-held : (digest : Digester) (verdict : Verdict) (issuer : Validated) (now : Moment)
