@@ -2,7 +2,7 @@
 
 use bytes::Bytes;
 use rpki_basics::ProviderLimit;
-use rpki_der::DecodeError;
+use rpki_der::{DecodeError, Encode, EncodeError};
 use rpki_routes::AsProviderAttestation;
 use std::alloc::{AllocError, Global};
 
@@ -142,12 +142,39 @@ pub fn text_of(alloc: Global, octets: &[u8], limit: ProviderLimit) -> Result<Str
     }
 }
 
+/// Whether a content is written as these octets.
+pub fn is_written(
+    alloc: Global,
+    content: &AsProviderAttestation,
+    wanted: &[u8],
+) -> Result<bool, AllocError> {
+    match content.encode_ref().to_bytes(alloc) {
+        Ok(found) => Ok(found.as_slice() == wanted),
+        Err(EncodeError::Memory) => Err(AllocError),
+        Err(_) => Ok(false),
+    }
+}
+
+/// Whether what is read of these octets is written as these others, and is refused where there are
+/// none.
+fn is_written_anew(alloc: Global, octets: &[u8], wanted: &[u8]) -> Result<bool, AllocError> {
+    match read(alloc, octets, ProviderLimit::Narrow)? {
+        Ok(content) => {
+            let is = is_written(alloc, &content, wanted);
+            drop(content);
+            is
+        }
+        Err(_error) => Ok(wanted.is_empty()),
+    }
+}
+
 #[test]
 fn contents(rt: HostRuntime) -> Result<(), AllocError> {
-    for (octets, text, _) in &ROWS {
+    for (octets, text, written) in &ROWS {
         for limit in [ProviderLimit::Narrow, ProviderLimit::Wide] {
             assert_eq!(rt; text_of(rt.alloc(), octets, limit)?.as_str(), *text);
         }
+        assert!(rt; is_written_anew(rt.alloc(), octets, written)?);
     }
     Ok(())
 }

@@ -1,7 +1,7 @@
 //! Contents of route origin attestations.
 
 use bytes::Bytes;
-use rpki_der::DecodeError;
+use rpki_der::{DecodeError, Encode, EncodeError};
 use rpki_routes::RouteOriginAttestation;
 use std::alloc::{AllocError, Global};
 
@@ -10,7 +10,8 @@ pub const ONE: &[u8] = b"\x30\x17\x02\x03\x00\xFB\xF0\x30\x10\x30\x0E\x04\x02\x0
     \x06\x03\x04\x00\xC0\x00\x02";
 
 /// The same with a maximum length of 26.
-const WITH_MAX: &[u8] = b"\x30\x1A\x02\x03\x00\xFB\xF0\x30\x13\x30\x11\x04\x02\x00\x01\x30\x0B\x30\
+pub const WITH_MAX: &[u8] =
+    b"\x30\x1A\x02\x03\x00\xFB\xF0\x30\x13\x30\x11\x04\x02\x00\x01\x30\x0B\x30\
     \x09\x03\x04\x00\xC0\x00\x02\x02\x01\x1A";
 
 /// AS64496 without a family.
@@ -195,10 +196,37 @@ pub fn text_of(alloc: Global, octets: &[u8]) -> Result<String, AllocError> {
     }
 }
 
+/// Whether a content is written as these octets.
+fn is_written(
+    alloc: Global,
+    content: &RouteOriginAttestation,
+    wanted: &[u8],
+) -> Result<bool, AllocError> {
+    match content.encode_ref().to_bytes(alloc) {
+        Ok(found) => Ok(found.as_slice() == wanted),
+        Err(EncodeError::Memory) => Err(AllocError),
+        Err(_) => Ok(false),
+    }
+}
+
+/// Whether what is read of these octets is written as these others, and is refused where there are
+/// none.
+fn is_written_anew(alloc: Global, octets: &[u8], wanted: &[u8]) -> Result<bool, AllocError> {
+    match read(alloc, octets)? {
+        Ok(content) => {
+            let is = is_written(alloc, &content, wanted);
+            drop(content);
+            is
+        }
+        Err(_error) => Ok(wanted.is_empty()),
+    }
+}
+
 #[test]
 fn contents(rt: HostRuntime) -> Result<(), AllocError> {
-    for (octets, text, _) in &ROWS {
+    for (octets, text, written) in &ROWS {
         assert_eq!(rt; text_of(rt.alloc(), octets)?.as_str(), *text);
+        assert!(rt; is_written_anew(rt.alloc(), octets, written)?);
     }
     Ok(())
 }
