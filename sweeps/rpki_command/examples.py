@@ -8,7 +8,7 @@ import textwrap
 TREE = pathlib.Path(__file__).resolve().parent.parent.parent / "examples"
 HEAD = '''//! The objects of examples/, each with what the program says of it.
 
-use crate::files::Files;
+use crate::given::Files;
 use crate::runs::{Said, is_said};
 use rpki_command::command;
 use rpki_der::Counted;
@@ -112,6 +112,15 @@ CHECKS = [
     (check("roa", "none", verdicts="large"), 2, "cannot read none\n", 1),
     (check("roa", "roa", "none", verdicts="large"), 3, "out of memory\n", 2),
 ]
+KINDS = "manifest", "roa", "aspa", "rsc"
+# Each file that can't be read, or that memory is not enough for, in turn.
+for kind in KINDS:
+    for file, status, said in (("none", 2, "cannot read none\n"), ("large", 3, "out of memory\n")):
+        ROWS.append((["show", kind, file], status, said, 1))
+        for at, place in enumerate((2, 4, 5, 6)):
+            words = check(kind, kind)
+            words[place] = file
+            CHECKS.append((words, status, said, at + 1))
 
 
 def text(of):

@@ -1,24 +1,26 @@
 //! A store that a run is given.
 
-ghost use Rattle.std.specs.Prelude.{if◌then◌else◌, bytes_eq, Some, None, codes};
+ghost use Rattle.std.specs.Prelude.{◌≡◌, MatchOption, bytes_eq, None, Some};
+ghost use Rattle.std.specs.Map.{lookup};
+ghost use Rattle.rpki_command_tests.specs.Given.{by_name};
 
 use rpki_command::{Store, StoreError};
 use rpki_der::Count;
 use std::alloc::Global;
 
-/// A store with one file, `file`, and one that memory is not enough for, `large`.
+/// A store with these files by name, and one that memory is not enough for, `large`.
 #[derive(Drop)]
-pub struct OneFile<'a> {
-    octets: &'a [u8],
+pub struct Files<'a> {
+    files: &'a [(&'a str, &'a [u8])],
     reads: Count,
     calls: usize,
 }
 
-impl<'a> OneFile<'a> {
-    /// A store with a file of these octets.
-    pub fn new(octets: &'a [u8]) -> OneFile<'a> {
-        OneFile {
-            octets,
+impl<'a> Files<'a> {
+    /// A store with these files.
+    pub fn new(files: &'a [(&'a str, &'a [u8])]) -> Files<'a> {
+        Files {
+            files,
             reads: Count::zero(),
             calls: 0,
         }
@@ -30,24 +32,40 @@ impl<'a> OneFile<'a> {
     }
 }
 
-impl Store for OneFile<'_> {
-    ghost told = { λ s name.
-        if bytes_eq name (codes "file") then Some (Some s.octets.now) else Some None };
+impl Store for Files<'_> {
+    ghost told = { λ s name. Some (lookup (bytes_eq name) (by_name s.files.now)) };
 
     ghost reads = { λ s. s.reads.number };
 
     fn read(&mut self, alloc: Global, name: &str) -> Result<Vec<u8>, StoreError> {
         self.reads = self.reads.next();
         self.calls = self.calls.saturating_add(1);
-        if name == "file" {
-            match Vec::from_slice(alloc, self.octets) {
+        if name == "large" {
+            return Err(StoreError::Memory);
+        }
+        match find(self.files, name) {
+            None => Err(StoreError::Unreadable),
+            Some(octets) => match Vec::from_slice(alloc, octets) {
                 Ok(copy) => Ok(copy),
                 Err(_) => Err(StoreError::Memory),
+            },
+        }
+    }
+}
+
+/// The octets of the first file with this name, if there is one.
+fn find<'a>(files: &'a [(&'a str, &'a [u8])], name: &str) -> Option<&'a [u8]>
+    ensures { MatchOption result (lookup (bytes_eq name.now) (by_name files.now) ≡ None)
+        (λ o. lookup (bytes_eq name.now) (by_name files.now) ≡ Some o.now) }
+{
+    match files {
+        [] => None,
+        [(there, octets), rest @ ..] => {
+            if name == *there {
+                Some(octets)
+            } else {
+                find(rest, name)
             }
-        } else if name == "large" {
-            Err(StoreError::Memory)
-        } else {
-            Err(StoreError::Unreadable)
         }
     }
 }

@@ -1,9 +1,9 @@
 //! Runs of the program.
 
-use crate::given::OneFile;
+use crate::given::Files;
 use crate::octets::{
-    CONTENT, CONTENT_AND_MORE, CONTENT_CUT, CONTENT_IN_BER, CUSTOMER_AS0, LARGEST_CUSTOMER,
-    LARGEST_PROVIDER, WITHOUT_VERSION,
+    ANCHOR, AUTHORITY, CONTENT, CONTENT_AND_MORE, CONTENT_CUT, CONTENT_IN_BER, CUSTOMER_AS0,
+    LARGEST_CUSTOMER, LARGEST_PROVIDER, ORIGIN, VERDICTS, WITHOUT_VERSION,
 };
 use rpki_command::command;
 use rpki_der::Counted;
@@ -74,13 +74,24 @@ type Row<'a> = (&'a [&'a str], &'a [u8], Said<'a>, usize);
 /// That the words of each row are answered so.
 fn are_answered(rt: &(impl Abort + AllocGlobal), rows: &[Row<'_>]) {
     for (words, octets, said, reads) in rows {
-        let mut store = OneFile::new(octets);
-        let mut out = Counted::new(Vec::new(rt.alloc()));
-        let mut err = Counted::new(Vec::new(rt.alloc()));
-        let status = command(rt.alloc(), words, &mut store, &mut out, &mut err);
-        is_said(rt, said, status, &out.inner, &err.inner);
-        assert_eq!(rt; store.calls(), *reads);
+        is_answered(rt, words, &[("file", octets)], said, *reads);
     }
+}
+
+/// That the words are answered so, where the files are these.
+fn is_answered(
+    rt: &(impl Abort + AllocGlobal),
+    words: &[&str],
+    files: &[(&str, &[u8])],
+    said: &Said<'_>,
+    reads: usize,
+) {
+    let mut store = Files::new(files);
+    let mut out = Counted::new(Vec::new(rt.alloc()));
+    let mut err = Counted::new(Vec::new(rt.alloc()));
+    let status = command(rt.alloc(), words, &mut store, &mut out, &mut err);
+    is_said(rt, said, status, &out.inner, &err.inner);
+    assert_eq!(rt; store.calls(), reads);
 }
 
 #[test]
@@ -101,6 +112,52 @@ fn words_are_answered(rt: HostRuntime) -> Result<(), Fail> {
         (&["content", "aspa", "large"], &CONTENT, OUT_OF_MEMORY, 1),
     ];
     are_answered(&rt, &rows);
+    Ok(())
+}
+
+/// What is said of the ROA of examples/, its signer's certificate as `openssl` prints it.
+pub const ORIGIN_SHOWN: Said = Said {
+    status: 0,
+    out: "roa\nas AS64496\norigin 192.0.2.0/24-26\norigin 2001:db8::/32-48\n\
+        signing 2026-11-01T00:00:00Z\nee 1 D499B0BF9D1519CFF7E9C67B077CDAECD7CBCA67\n",
+    err: "",
+};
+
+/// What is said where it is good.
+pub const ORIGIN_YES: Said = Said {
+    status: 0,
+    out: "yes\nroa\nas AS64496\norigin 192.0.2.0/24-26\norigin 2001:db8::/32-48\n",
+    err: "",
+};
+
+/// The words that ask for the ROA, and whether it is good.
+pub const SHOW: [&str; 3] = ["show", "roa", "origin.roa"];
+
+pub const CHECK: [&str; 7] = [
+    "check",
+    "roa",
+    "origin.roa",
+    "20270101000000Z",
+    "origin.roa.verdicts",
+    "anchor.cer",
+    "authority.cer",
+];
+
+/// Files of examples/, by name.
+pub fn example_files() -> [(&'static str, &'static [u8]); 4] {
+    [
+        ("anchor.cer", &ANCHOR),
+        ("authority.cer", &AUTHORITY),
+        ("origin.roa", &ORIGIN),
+        ("origin.roa.verdicts", VERDICTS.as_bytes()),
+    ]
+}
+
+#[test]
+fn a_good_roa_is_shown_and_checked(rt: HostRuntime) -> Result<(), Fail> {
+    let files = example_files();
+    is_answered(&rt, &SHOW, &files, &ORIGIN_SHOWN, 1);
+    is_answered(&rt, &CHECK, &files, &ORIGIN_YES, 4);
     Ok(())
 }
 
