@@ -1,5 +1,6 @@
 mod Answered
 mod ByList
+mod Earned
 mod PeersExact
 mod PeersWritten
 mod Search

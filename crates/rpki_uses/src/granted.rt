@@ -1,20 +1,25 @@
 //! Attestations and paths, as those who decide what is granted use them.
 
-ghost use Rattle.std.specs.Prelude.{◌≡◌, ◌↔◌, IsFalse, IsTrue, IfOk, map};
+ghost use Rattle.std.specs.Prelude.{◌≡◌, ◌↔◌, IsFalse, IsTrue, IfOk, List, map};
 ghost use Rattle.rpki_paths.specs.declared.decision.FinalFault.{FinalFault};
 ghost use Rattle.rpki_paths.specs.declared.pairs.PairFault.{PairFault};
 ghost use Rattle.rpki_paths.specs.declared.supply.SupplyFault.{SupplyFault};
 ghost use Rattle.rpki_paths.specs.declared.walks.WalksFault.{WalksFault};
 ghost use Rattle.rpki_paths.specs.Accepting.{WantsMemory, carried_of};
+ghost use Rattle.rpki_paths.specs.Cert.{Cert};
 ghost use Rattle.rpki_paths.specs.Final.{attested_sets};
-ghost use Rattle.rpki_paths.specs.Grant.{IsGranted};
+ghost use Rattle.rpki_paths.specs.Grant.{ArePaths, AreUsed, IsEarned, IsGranted};
 ghost use Rattle.rpki_paths.specs.Granting.{LacksMemory};
+ghost use Rattle.rpki_paths.specs.Kept.{AreWalked};
 ghost use Rattle.rpki_paths.specs.Pairing.{HasDistinctIds};
 ghost use Rattle.rpki_paths.specs.Supplied.{supply_of};
+ghost use Rattle.rpki_paths.specs.Walk.{placed};
 
+use rpki_paths::laws::{all_are_kept, final_is_decided};
 use rpki_paths::{
-    AcceptFault, Accepts, Asked, Attestation, CarriedCert, CarriedSigner, FinalFault, GrantFault,
-    Locator, PairFault, Signed, Supplied, SuppliedCa, SupplyFault, WalksFault, grant,
+    AcceptFault, Accepts, Asked, Attestation, Attested, CarriedCert, CarriedSigner, Certificate,
+    FinalFault, GrantFault, Locator, PairFault, Path, Signed, Supplied, SuppliedCa, SupplyFault,
+    WalksFault, finalize, grant, supply_all, walk_each,
 };
 use std::alloc::{AllocError, Global};
 use std::sync::ledger::Ledger;
@@ -120,5 +125,63 @@ where
             }
             Ok(false)
         }
+    }
+}
+
+// Whether paths that were walked earn the attested numbers under some supplies.
+fn earn<C: Certificate, T, U>(
+    alloc: Global,
+    paths: &mut [Path<C>],
+    supplies: &[Supplied<T, U>],
+    attested: &Attested,
+) -> Result<bool, AllocError>
+where
+    T: Locator<C>,
+    T::Fault: Copy,
+    U: SuppliedCa<C>,
+    ensures { IfOk result (λ yes. IsTrue yes → (cas ees : List Cert)
+        → AreWalked C.cert cas ees paths.old → (walked : List (List Cert))
+        × ArePaths cas ees walked × AreUsed cas walked
+        × IsEarned walked (map (supply_of T.key U.ski U.key U.sets) supplies.now)
+        (attested_sets attested.now)) }
+{
+    all_are_kept::<C, T, U>();
+    final_is_decided::<C>();
+    match supply_all(paths, supplies) {
+        Ok(()) => {}
+        Err(SupplyFault::Memory) => return Err(AllocError),
+        Err(_) => return Ok(false),
+    }
+    match finalize(alloc, paths, attested) {
+        Ok(()) => Ok(true),
+        Err(FinalFault::Memory) => Err(AllocError),
+        Err(_) => Ok(false),
+    }
+}
+
+/// Whether end-entity certificates have paths up some CAs, each on one of these, that earn just the
+/// attested numbers under some supplies: a yes means that they do.
+pub fn are_earned<C: Signed<L>, T, U, L: Ledger>(
+    alloc: Global,
+    ees: &[C],
+    cas: &[C],
+    supplies: &[Supplied<T, U>],
+    attested: &Attested,
+    asked: &mut Asked<L>,
+) -> Result<bool, AllocError>
+where
+    T: Locator<C>,
+    T::Fault: Copy,
+    U: SuppliedCa<C>,
+    ensures { IfOk result (λ yes. IsTrue yes → (paths : List (List Cert))
+        × ArePaths (placed C.cert 1 cas.now) (map C.cert ees.now) paths
+        × AreUsed (placed C.cert 1 cas.now) paths
+        × IsEarned paths (map (supply_of T.key U.ski U.key U.sets) supplies.now)
+        (attested_sets attested.now)) }
+{
+    match walk_each(alloc, ees, cas, asked) {
+        Ok(mut paths) => earn(alloc, paths.as_mut_slice(), supplies, attested),
+        Err(WalksFault::Memory) => Err(AllocError),
+        Err(_) => Ok(false),
     }
 }
