@@ -55,8 +55,8 @@ pub fn locations()
     ensures subject { IsReading subject_access_at SubjectAccessForm }
 {}
 
-/// So it is with the SEQUENCE of the extensions that `take_standing` takes, whichever are known (RFC
-/// 5280, sections 4.1 and 4.2).
+/// So it is with the SEQUENCE of the extensions that `take_standing` takes, whichever are known
+/// (RFC 5280, sections 4.1 and 4.2).
 pub fn standing()
     ensures { (known : List (List ℕ)) →
         IsReading (sequence_at (standing_at known)) (StandingForm known) }
