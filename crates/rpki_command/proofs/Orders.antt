@@ -17,7 +17,7 @@ some-once : (o : Option Moment) (a b : Moment) → o ≡ Some a → o ≡ Some b
 some-once o a b p q = cc
 
 -- no word names two moments
-moments-once : (a b : Moment) → IsMoment a → IsMoment b → moment_word a ≡ moment_word b → a ≡ b
+pub moments-once : (a b : Moment) → IsMoment a → IsMoment b → moment_word a ≡ moment_word b → a ≡ b
 unfolding moment_word
 moments-once a b i j e = some-once (generalized_of (generalized_text a)) a b
     (exact-generalized.complete (generalized_text a) a (refl, i))

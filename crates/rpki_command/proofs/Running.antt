@@ -25,7 +25,7 @@ use Rattle.rpki_command.specs.declared.store.StoreError.TheVariants.{Unreadable,
 use Rattle.rpki_command.specs.declared.words.Order.{Order}
 use Rattle.rpki_command.proofs.Orders.{asked-once}
 
-said-as : (s is : Said) (run : Run) → s ≡ is → IsSaid s run → IsSaid is run
+pub said-as : (s is : Said) (run : Run) → s ≡ is → IsSaid s run → IsSaid is run
 said-as s is run e h = subst (λ (x : Said). IsSaid x run) e h
 
 -- ---- a file that is shown
@@ -213,7 +213,7 @@ module _ (told : Told) (P : List (List ℕ) → Said → Type 0) (old new : ℕ)
 -- ---- the whole
 
 module _ (told : Told) (old new : ℕ) (s : Said) (run : Run) (h : IsSaid s run) where
-  task-done : (task : Task) → IsTaskAnswer told task old new s → IsTaskDone told task old new run
+  pub task-done : (task : Task) → IsTaskAnswer told task old new s → IsTaskDone told task old new run
   task-done (ShowLines file lines_of) a = shows lines_of s run h told file a
   task-done (CheckFiles files P) a = checks told P old new s run h files a
   task-done NotThere a = said-as s usage run a h

@@ -64,7 +64,7 @@ pub fn say<O: Sink, E: Sink>(answer: &Answer<'_>, out: &mut O, err: &mut E) -> u
 }
 
 /// Writes the octets, and gives the status, or 2 where the sink fails.
-fn write<W: Sink>(octets: &[u8], status: u8, sink: &mut W) -> u8
+pub fn write<W: Sink>(octets: &[u8], status: u8, sink: &mut W) -> u8
     ensures { Writes octets.now status (W.taken sink.old, W.failures sink.old)
         (W.taken sink.new, W.failures sink.new) result }
 {

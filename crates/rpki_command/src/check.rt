@@ -66,7 +66,7 @@ pub fn check_files<'a>(
 
 /// Answers whether the octets begin with a good object of the kind under the issuer that these
 /// certificates make, at this moment.
-fn check_with<'a, K: Crypto>(
+pub fn check_with<'a, K: Crypto>(
     alloc: Global,
     options: Options,
     kind: Kind,

@@ -76,7 +76,7 @@ fn run_with<S: Store, O: Sink, E: Sink>(
 }
 
 /// Gives the texts of the words, in their order.
-fn texts_of(alloc: Global, words: &[String]) -> Result<Vec<&str>, AllocError>
+pub fn texts_of(alloc: Global, words: &[String]) -> Result<Vec<&str>, AllocError>
     ensures { IfOk result (λ texts. map (λ t. t.now) texts.items ≡ map string_bytes words.now) }
 {
     let mut texts = Vec::new(alloc);

@@ -2,7 +2,7 @@
 //! which stream, and with which exit status.
 #![tactic(auto)]
 
-mod answer;
+pub mod answer;
 mod arguments;
 mod check;
 mod contents;
@@ -13,9 +13,10 @@ mod objects;
 mod program;
 mod store;
 mod texts;
-mod words;
+pub mod words;
 
-pub use arguments::{Arguments, ProcessArguments};
-pub use entry::{run, start};
-pub use program::command;
+pub use arguments::{Arguments, ProcessArguments, WordsError, words_of};
+pub use check::check_with;
+pub use entry::{run, start, texts_of};
+pub use program::{answer_order, command};
 pub use store::{Disk, Store, StoreError, Unread, read_all};

@@ -59,7 +59,7 @@ fn answer<'a, S: Store>(alloc: Global, words: &'a [&'a str], store: &mut S) -> A
 
 /// What the program answers to an order. A command that there is not yet is answered with the
 /// usage.
-fn answer_order<'a, S: Store>(alloc: Global, order: &Order<'a>, store: &mut S) -> Answer<'a>
+pub fn answer_order<'a, S: Store>(alloc: Global, order: &Order<'a>, store: &mut S) -> Answer<'a>
     ensures said { IsTaskAnswer (S.told store.old) (order_task order.now)
         (S.reads store.old) (S.reads store.new) (said result) }
     ensures reads { HasRead (order_task order.now) (S.reads store.old) (S.reads store.new) }

@@ -150,7 +150,7 @@ pub fn parse<'a>(words: &'a [&'a str]) -> Option<Order<'a>>
 }
 
 /// Whether each file has a name.
-fn each_named(command: &Command<'_>) -> bool
+pub fn each_named(command: &Command<'_>) -> bool
     ensures { result ≡ are_named (files_of command.now) }
 {
     match command {
@@ -176,7 +176,7 @@ fn each_named(command: &Command<'_>) -> bool
 }
 
 /// Whether each of these files has a name.
-fn all_named(files: &[&str]) -> bool
+pub fn all_named(files: &[&str]) -> bool
     ensures { result ≡ are_named (texts files.now) }
 {
     for file in files {
@@ -246,7 +246,7 @@ fn parse_wide<'a>(relaxed: bool, registered: bool, words: &'a [&'a str]) -> Opti
 }
 
 /// The command of words without options.
-fn parse_command<'a>(words: &'a [&'a str]) -> Option<Command<'a>>
+pub fn parse_command<'a>(words: &'a [&'a str]) -> Option<Command<'a>>
     ensures { MatchOption result
         ((c : Command) → texts words.now ≡ command_words c → IsInTime c → ⊥)
         (λ c. (texts words.now ≡ command_words c) × IsInTime c) }
@@ -284,7 +284,7 @@ fn parse_command<'a>(words: &'a [&'a str]) -> Option<Command<'a>>
 
 /// The moment that a word names, if it names one.
 #[tactic(auto, unfolding(crate::specs::Words::moment_word))]
-fn moment_of(word: &str) -> Option<Time>
+pub fn moment_of(word: &str) -> Option<Time>
     ensures { MatchOption result ((m : Moment) → word.now ≡ moment_word m → IsMoment m → ⊥)
         (λ m. (word.now ≡ moment_word m) × IsMoment m) }
 {
@@ -292,7 +292,7 @@ fn moment_of(word: &str) -> Option<Time>
 }
 
 /// The kind of this name.
-fn kind_of(word: &str) -> Option<Kind>
+pub fn kind_of(word: &str) -> Option<Kind>
     ensures { MatchOption result ((k : Kind) → word.now ≡ kind_word k → ⊥)
         (λ k. word.now ≡ kind_word k) }
 {

@@ -192,15 +192,16 @@ impl Cert {
         self.contents.tbs.extensions.key.has_purposes
     }
 
-    /// The octets that are signed (RFC 5280, section 4.1.1.1).
-    pub(crate) fn signed(&self) -> &[u8]
+    /// The octets that its issuer signed, as they were read: those of the TBSCertificate with its
+    /// header (RFC 5280, section 4.1.1.1).
+    pub fn signed(&self) -> &[u8]
         ensures { result.now ≡ self.now.certificate.signed }
     {
         self.contents.signed.as_slice()
     }
 
-    /// The signature (RFC 5280, section 4.1.1.3).
-    pub(crate) fn signature(&self) -> &RpkiSignature
+    /// The signature of its issuer over these octets (RFC 5280, section 4.1.1.3).
+    pub fn signature(&self) -> &RpkiSignature
         ensures { result.now ≡ self.now.certificate.signature }
     {
         &self.contents.signature

@@ -10,21 +10,22 @@ use rpki_certs::Cert;
 
 impl SignedObject {
     /// The identifier of the signer's key (RFC 5652, section 5.3).
-    pub(crate) fn sid(&self) -> KeyIdentifier
+    pub fn sid(&self) -> KeyIdentifier
         ensures { result ≡ self.now.object.signed.signer.sid }
     {
         self.contents.signer.sid
     }
 
     /// The attributes that the signer signed (RFC 5652, section 5.3).
-    pub(crate) fn attributes(&self) -> &SignedAttrs
+    pub fn attributes(&self) -> &SignedAttrs
         ensures { result.now.attributes ≡ self.now.object.signed.signer.attributes }
     {
         &self.contents.signer.attributes
     }
 
-    /// The signature (RFC 5652, section 5.3).
-    pub(crate) fn signature(&self) -> &RpkiSignature
+    /// The signature of the signer over the message of its attributes (RFC 5652, sections 5.3 and
+    /// 5.4).
+    pub fn signature(&self) -> &RpkiSignature
         ensures { result.now ≡ self.now.object.signed.signer.signature }
     {
         &self.contents.signer.signature
