@@ -6,7 +6,8 @@
 
 The primes of a key are drawn from SHA-256 of its name, so each run makes the same rows. `openssl`
 tests each key, and makes each signature by `openssl dgst` or, of an encoded message that is wrong,
-by `openssl pkeyutl` without padding. Of each row `openssl` is asked again whether the signature is
+by `openssl pkeyutl` without padding, but for plain numbers in a signature's place and those of the
+exponent 1 and of the even modulus. Of each row `openssl` is asked again whether the signature is
 one: a yes has to be one there, and a no is a no there too, but for the rows marked OWN, whose key
 or signature is refused by the rules of the RPKI alone. Needs `openssl` 3; the rows stand in the
 repository, so nobody has to run this.

@@ -1,5 +1,6 @@
 #!/usr/bin/env python3
-"""Writes a module of tests that shows and checks the objects of examples/ by the program.
+"""Writes a module of tests that shows and checks the objects of examples/ by the program, with
+streams that take all and with streams that fail at each of their calls.
 
 Serial numbers, key identifiers and moments of signing are those that `openssl` prints."""
 import pathlib
@@ -8,6 +9,7 @@ import textwrap
 TREE = pathlib.Path(__file__).resolve().parent.parent.parent / "examples"
 HEAD = '''//! The objects of examples/, each with what the program says of it.
 
+use crate::cuts::is_cut;
 use crate::given::Files;
 use crate::runs::{Said, is_said};
 use rpki_command::command;
@@ -121,10 +123,22 @@ for kind in KINDS:
             words = check(kind, kind)
             words[place] = file
             CHECKS.append((words, status, said, at + 1))
+# The first row of each kind, whose answer is cut.
+CUTS = [next(row for row in rows if kind in row[0]) for kind in KINDS for rows in (ROWS, CHECKS)]
 
 
 def text(of):
     return '"' + of.replace("\n", "\\n") + '"'
+
+
+def print_test(name, row, call):
+    """Prints a test that calls this with the words and what is said."""
+    words, status, said, _ = row
+    out, err = (text(said), '""') if status < 2 else ('""', text(said))
+    print(f"#[test]\nfn {name}(rt: HostRuntime) -> Result<(), Fail> {{")
+    print(f"    let words = [{', '.join(text(it) for it in words)}];")
+    print(f"    let said = Said {{ status: {status}, out: {out}, err: {err} }};")
+    print(f"    {call};\n    Ok(())\n}}\n")
 
 
 def main():
@@ -140,12 +154,10 @@ def main():
     for name in FILES:
         print(f'        ("{name}", &{name.upper().replace(".", "_")}),')
     print("    ]\n}\n")
-    for number, (words, status, said, reads) in enumerate(ROWS + CHECKS):
-        out, err = (text(said), '""') if status < 2 else ('""', text(said))
-        print(f"#[test]\nfn row_{number}(rt: HostRuntime) -> Result<(), Fail> {{")
-        print(f"    let words = [{', '.join(text(it) for it in words)}];")
-        print(f"    let said = Said {{ status: {status}, out: {out}, err: {err} }};")
-        print(f"    is_answered(&rt, &(&words, said, {reads}));\n    Ok(())\n}}\n")
+    for number, row in enumerate(ROWS + CHECKS):
+        print_test(f"row_{number}", row, f"is_answered(&rt, &(&words, said, {row[3]}))")
+    for number, row in enumerate(CUTS):
+        print_test(f"cut_{number}", row, "is_cut(&rt, &words, &files(), &said)")
 
 
 if __name__ == "__main__":

@@ -9,7 +9,7 @@ use std::error::Error;
 use std::fmt;
 
 /// Why signed attributes are not made.
-#[derive(Debug, Drop)]
+#[derive(Clone, Copy, Debug)]
 pub enum AttrsFault {
     /// They would have more than 65535 octets.
     AttrsTooLong,

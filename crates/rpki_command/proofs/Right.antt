@@ -43,7 +43,7 @@ use Rattle.rpki_command.specs.declared.words.Kind.{Kind}
 use Rattle.rpki_command.specs.declared.words.Options.{Options}
 
 -- the status that goes with what is said
-abbrev status_of : Said → ℕ
+abbrev pub status_of : Said → ℕ
 status_of (Printed text status) = status
 status_of (Complained text status) = status
 
@@ -57,7 +57,7 @@ three : ◌≡◌ {A = ℕ} 3 0 → ⊥
 three e = omega (arith, e)
 
 -- a run that says this ends with its status, or with 2
-status-said : (s : Said) (run : Run) (n : ℕ) → IsSaid s run → run.status ≡ n → (n ≡ 2 → ⊥)
+pub status-said : (s : Said) (run : Run) (n : ℕ) → IsSaid s run → run.status ≡ n → (n ≡ 2 → ⊥)
     → status_of s ≡ n
 status-said (Printed text status) run n h e failed = elim h.out [
   | inl w ↦ sym w.status_is ∙ e
@@ -69,7 +69,7 @@ status-said (Complained text status) run n h e failed = elim h.err [
 ]
 
 -- what has this status is not said with another one
-other-status : (s is : Said) (n : ℕ) → status_of s ≡ n → s ≡ is → (status_of is ≡ n → ⊥) → ⊥
+pub other-status : (s is : Said) (n : ℕ) → status_of s ≡ n → s ≡ is → (status_of is ≡ n → ⊥) → ⊥
 other-status s is n e same other = other (ap status_of (sym same) ∙ e)
 
 whole-lines : (lines : List ℕ) (run : Run) → IsSaid (shown lines) run → run.status ≡ 0
@@ -89,7 +89,7 @@ fault-is-none (validation.Inspection fault) = one
 fault-is-none (validation.Verification fault) = one
 fault-is-none validation.Memory = three
 
-issuer-is-none : (fault : IssuerError) → status_of (issuer_refusal fault) ≡ 0 → ⊥
+pub issuer-is-none : (fault : IssuerError) → status_of (issuer_refusal fault) ≡ 0 → ⊥
 issuer-is-none (issuing.Decode decoding.Memory) = three
 issuer-is-none (issuing.Decode decoding.Malformed) = one
 issuer-is-none (issuing.Decode (decoding.Content fault)) = one
@@ -192,7 +192,7 @@ of-kind options kind P Q more h = search rules
 module _ (s : Said) (options : Options) (kind : Kind) (verdict : Verdict) (issuer : Validated)
     (now : Moment) (octets : List ℕ)
     (c : CheckedUnder options kind sha256 verdict issuer now octets s) where
-  yes-under : (run : Run) → IsSaid s run → run.status ≡ 0 → status_of s ≡ 0
+  pub yes-under : (run : Run) → IsSaid s run → run.status ≡ 0 → status_of s ≡ 0
       → OfKind options kind (λ X asked form text. PrintsYes asked form text (read_mode options)
       sha256 verdict issuer now octets run)
   yes-under run h z zero = of-kind options kind
@@ -203,7 +203,7 @@ module _ (s : Said) (options : Options) (kind : Kind) (verdict : Verdict) (issue
       (λ X asked form text is. yes-as asked form text (read_mode options) sha256 verdict issuer now
       octets s run h z zero is) c
 
-  no-under : status_of s ≡ 1
+  pub no-under : status_of s ≡ 1
       → OfKind options kind (λ X asked form text. BeginsWithNoGood asked form (read_mode options)
       sha256 verdict issuer now octets)
   no-under first = of-kind options kind

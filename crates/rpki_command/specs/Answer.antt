@@ -83,9 +83,13 @@ memory_text = codes "out of memory"
 abbrev pub out_of_memory : Said
 out_of_memory = Complained (memory_text ++ codes "\n") 3
 
+-- that a file does not begin with what was asked for, as a text
+abbrev pub malformed_text : List ℕ
+malformed_text = codes "malformed"
+
 -- a file does not begin with what was asked for
 abbrev pub malformed : Said
-malformed = Printed (codes "malformed\n") 1
+malformed = Printed (malformed_text ++ codes "\n") 1
 
 -- an object is refused, for this cause
 abbrev pub refused : List ℕ → Said
@@ -97,7 +101,7 @@ issuer_refused cause = Printed (codes "issuer refused: " ++ (cause ++ codes "\n"
 
 -- certificates make no issuer, since one of them is not read
 abbrev pub issuer_malformed : Said
-issuer_malformed = issuer_refused (codes "malformed")
+issuer_malformed = issuer_refused malformed_text
 
 -- these lines are shown
 abbrev pub shown : List ℕ → Said

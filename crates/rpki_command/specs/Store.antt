@@ -64,12 +64,16 @@ AreRead told names old new (Err (unread.Unreadable name)) =
     IsFirstUnreadable told names old new name.now
 AreRead told names old new (Err unread.Memory) = AreSomeRead told names old new
 
+-- that a file can't be read, as a text
+abbrev pub unreadable_text : List ℕ
+unreadable_text = codes "unreadable file"
+
 -- The text that says why a file was not read.
 abbrev pub store_error_text : StoreError → List ℕ
-store_error_text Unreadable = codes "unreadable file"
+store_error_text Unreadable = unreadable_text
 store_error_text Memory = memory_text
 
 -- The text that says why several files were not read.
 abbrev pub unread_text : Unread → List ℕ
-unread_text (unread.Unreadable name) = codes "unreadable file " ++ name.now
+unread_text (unread.Unreadable name) = unreadable_text ++ (codes " " ++ name.now)
 unread_text unread.Memory = memory_text

@@ -7,6 +7,15 @@ ghost use Rattle.rpki_command.specs.Answer.{Writes, IsSaid, run_of, said};
 
 use rpki_der::{Sink, SinkFailed};
 
+/// That no memory was to be had.
+pub const OUT_OF_MEMORY: &str = "out of memory";
+
+/// That a file does not begin with what was asked for.
+const MALFORMED: &[u8] = b"malformed";
+
+/// What stands before the cause for which certificates make no issuer.
+const ISSUER_REFUSED: &[u8] = b"issuer refused: ";
+
 /// The exit status where lines are shown.
 const SHOWN: u8 = 0;
 
@@ -52,12 +61,12 @@ pub fn say<O: Sink, E: Sink>(answer: &Answer<'_>, out: &mut O, err: &mut E) -> u
         Answer::Usage => write(b"usage\n", FAILED, err),
         Answer::CannotRead(file) => write_line(b"cannot read ", file.as_bytes(), FAILED, err),
         Answer::BadVerdicts => write(b"bad verdicts\n", FAILED, err),
-        Answer::OutOfMemory => write(b"out of memory\n", NO_MEMORY, err),
-        Answer::Malformed => write(b"malformed\n", REFUSED, out),
+        Answer::OutOfMemory => write_line(OUT_OF_MEMORY.as_bytes(), b"", NO_MEMORY, err),
+        Answer::Malformed => write_line(MALFORMED, b"", REFUSED, out),
         Answer::Refused(cause) => write_line(b"refused: ", cause.as_bytes(), REFUSED, out),
-        Answer::IssuerMalformed => write(b"issuer refused: malformed\n", REFUSED, out),
+        Answer::IssuerMalformed => write_line(ISSUER_REFUSED, MALFORMED, REFUSED, out),
         Answer::IssuerRefused(cause) => {
-            write_line(b"issuer refused: ", cause.as_bytes(), REFUSED, out)
+            write_line(ISSUER_REFUSED, cause.as_bytes(), REFUSED, out)
         }
         Answer::Shown(text) => write(text.as_bytes(), SHOWN, out),
     }

@@ -4,6 +4,7 @@ ghost use Rattle.std.specs.Prelude.{◌≡◌, ℕ, List, Option, None, Some, If
 ghost use Rattle.rpki_command.specs.Arguments.{IsArgument, IsWordAt, IsText, AreWords};
 ghost use Rattle.rpki_command.specs.Arguments.{words_error_text};
 
+use crate::answer::OUT_OF_MEMORY;
 use std::alloc::{AllocError, Global};
 use std::env::{Env, FillError};
 use std::error::Error;
@@ -38,7 +39,7 @@ impl fmt::Display for WordsError {
     fn fmt<W: fmt::Write>(&self, f: &mut fmt::Formatter<W>) -> fmt::Result {
         match self {
             WordsError::NoText => f.write_str("argument that is no text"),
-            WordsError::Memory => f.write_str("out of memory"),
+            WordsError::Memory => f.write_str(OUT_OF_MEMORY),
         }
     }
 }

@@ -4,12 +4,16 @@ ghost use Rattle.std.specs.Prelude.{◌≡◌, ◌+◌, ℕ, List, Option, None,
 ghost use Rattle.rpki_command.specs.Store.{IsRead, AreRead, store_error_text, unread_text};
 ghost use Rattle.rpki_command.specs.Words.{texts};
 
+use crate::answer::OUT_OF_MEMORY;
 use rpki_der::Count;
 use std::alloc::Global;
 use std::error::Error;
 use std::marker::Model;
 use std::rt::Files;
 use std::{fmt, fs, io};
+
+/// That a file can't be read.
+const UNREADABLE: &str = "unreadable file";
 
 /// Why a file was not read.
 #[derive(Clone, Copy, Debug, PartialEq, Eq)]
@@ -25,8 +29,8 @@ impl fmt::Display for StoreError {
 
     fn fmt<W: fmt::Write>(&self, f: &mut fmt::Formatter<W>) -> fmt::Result {
         match self {
-            StoreError::Unreadable => f.write_str("unreadable file"),
-            StoreError::Memory => f.write_str("out of memory"),
+            StoreError::Unreadable => f.write_str(UNREADABLE),
+            StoreError::Memory => f.write_str(OUT_OF_MEMORY),
         }
     }
 }
@@ -62,8 +66,8 @@ impl fmt::Display for Unread<'_> {
 
     fn fmt<W: fmt::Write>(&self, f: &mut fmt::Formatter<W>) -> fmt::Result {
         match self {
-            Unread::Unreadable(name) => write!(f, "unreadable file {name}"),
-            Unread::Memory => f.write_str("out of memory"),
+            Unread::Unreadable(name) => write!(f, "{UNREADABLE} {name}"),
+            Unread::Memory => f.write_str(OUT_OF_MEMORY),
         }
     }
 }

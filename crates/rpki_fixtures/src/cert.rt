@@ -2,7 +2,8 @@
 
 ghost use Rattle.std.specs.Prelude.{◌≡◌, ◌∷◌, ◌++◌, [], ℕ, Some, None, IfOk, cond};
 ghost use Rattle.std.specs.Int.{w64, to_be_bytes};
-ghost use Rattle.rpki_der.specs.Tags.{SEQUENCE, OCTET_STRING};
+ghost use Rattle.rpki_der.specs.Tags.{BOOLEAN, OBJECT_IDENTIFIER, SEQUENCE, OCTET_STRING};
+ghost use Rattle.rpki_der.specs.Tags.{context_primitive};
 ghost use Rattle.rpki_der.specs.Write.Written.{value_octets};
 ghost use Rattle.sha1.specs.Sha1.{sha1};
 
@@ -173,7 +174,7 @@ pub fn extension(
     octets: &[u8],
 ) -> Result<Vec<u8>, AllocError>
     ensures { IfOk result (λ v. v.items ≡ value_octets SEQUENCE (oid.now
-        ++ (cond is_critical (1 ∷ 1 ∷ 0xFF ∷ []) [] ++ value_octets OCTET_STRING octets.now))) }
+        ++ (cond is_critical (BOOLEAN ∷ 1 ∷ 0xFF ∷ []) [] ++ value_octets OCTET_STRING octets.now))) }
 {
     let critical: &[u8] = if is_critical { b"\x01\x01\xFF" } else { b"" };
     let octets = value(alloc, 0x04, &[octets])?;
@@ -200,8 +201,8 @@ fn subject_key(alloc: Global, cert: &CertOf) -> Result<Vec<u8>, AllocError> {
 pub fn authority_key(alloc: Global, key: Option<u64>) -> Result<Vec<u8>, AllocError>
     ensures none { key ≡ None → IfOk result (λ v. v.items ≡ []) }
     ensures some { (n : ℕ) → key ≡ Some n → IfOk result (λ v. v.items ≡ value_octets SEQUENCE (
-        0x06 ∷ 0x03 ∷ 0x55 ∷ 0x1D ∷ 0x23 ∷ value_octets OCTET_STRING (value_octets SEQUENCE
-        (value_octets 0x80 (sha1 (to_be_bytes w64 n)))))) }
+        OBJECT_IDENTIFIER ∷ 3 ∷ 0x55 ∷ 0x1D ∷ 0x23 ∷ value_octets OCTET_STRING (value_octets
+        SEQUENCE (value_octets (context_primitive 0) (sha1 (to_be_bytes w64 n)))))) }
 {
     let Some(key) = key else {
         return Ok(Vec::new(alloc));

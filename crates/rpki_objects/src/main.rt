@@ -1,4 +1,4 @@
-//! Prints what is in signed objects of the RPKI.
+//! Shows and checks signed objects of the RPKI.
 #![tactic(auto)]
 
 use rpki_command::{Disk, ProcessArguments, start};

@@ -13,9 +13,11 @@ Numbers = List (Block ℕ)
 pub record Cert : Type 0 where
   -- where it stands among the carried certificates
   pub place : ℕ
-  -- the subject key identifier, and the authority key identifier (RFC 6487, sections 4.8.2, 4.8.3)
+  -- the subject key identifier (RFC 6487, section 4.8.2)
   pub ski : List ℕ
+  -- the authority key identifier, if there is one (RFC 6487, section 4.8.3)
   pub aki : Option (List ℕ)
+  -- the bits of its key
   pub key : List ℕ
   pub serial : ℕ
   -- what becomes of numbers that the issuer has not (RFC 6487, section 7.2; RFC 8360, section 4.2)
@@ -24,8 +26,9 @@ pub record Cert : Type 0 where
   pub claim : Family → Claim Numbers
   -- whether this key verifies its signature
   pub verifies : List ℕ → Bool
-  -- whether it passes the inspection of its own kind, and that of a trust anchor, at the moment
+  -- whether it passes the inspection of its own kind, at the moment
   pub is_valid : Bool
+  -- whether it passes the inspection of a trust anchor, at the moment
   pub is_anchor : Bool
   -- of a CA: whether the CRL that is paired with it lists the serial
   pub revokes : ℕ → Bool

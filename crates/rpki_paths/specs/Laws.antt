@@ -55,8 +55,8 @@ AnchoredIsPathSet =
     IsClimbed (λ n. n) head.overclaim old (supplied_claim s f) (Some new) →
     (n : ℕ) → holds (λ k. k) new.met n ≡ path_set (head ∷ p) s f n
 
--- Nothing is inherited on a path that a supply takes, where a head that is a trust anchor inherits
--- nothing (RFC 6487, sections 4.8.10 and 4.8.11; RFC 8630, section 2.3).
+-- A path that a supply takes has an explicit set in each family, where a head that is a trust
+-- anchor inherits nothing (RFC 6487, sections 4.8.10 and 4.8.11; RFC 8630, section 2.3).
 abbrev pub AnchoredIsKnown : Type 0
 AnchoredIsKnown =
     (head : Cert) (p : List Cert) (s : Supply) (f : Family) →
@@ -87,8 +87,8 @@ AnyChoicePairs {A} {B} R =
     (x : A) (y : B) (xs : List A) (ys rest : List B) → AreAlike R (x ∷ xs) ys →
     IsPairable R (x ∷ xs) ys → IsPicked y rest ys → R x y → IsPairable R xs rest
 
--- With distinct identifiers what fits one is alike: subject keys always, end-entity certificates
--- and CRLs by their identifiers.
+-- With distinct identifiers what fits one is alike: subject keys, and end-entity certificates and
+-- CRLs by their identifiers.
 abbrev pub WhatFitsIsAlike : Type 0
 WhatFitsIsAlike =
     (a : Carried) → HasDistinctIds a →

@@ -28,7 +28,7 @@ IsChain cas ee (d ∷ c ∷ p) = IsIssuedBy cas c d × IsOff d (c ∷ p) × IsCh
 abbrev pub HasNoIssuer : List Cert → Cert → Type 0
 HasNoIssuer cas c = (d : Cert) → IsIn d cas → c.aki ≡ Some d.ski → IsSelfSigned c
 
--- The head of the path names no carried CA as its issuer.
+-- The head of the path is self-signed, or it names no carried CA as its issuer.
 abbrev pub EndsAtTop : List Cert → List Cert → Type 0
 EndsAtTop cas [] = ⊥
 EndsAtTop cas (c ∷ p) = HasNoIssuer cas c

@@ -35,7 +35,7 @@ pub fn anchored_is_path_set()
     ensures { AnchoredIsPathSet }
 {}
 
-/// An anchored path inherits nothing, where its trust anchor does not.
+/// An anchored path has an explicit set, where its trust anchor does not inherit.
 pub fn anchored_is_known()
     ensures { AnchoredIsKnown }
 {}
@@ -72,7 +72,7 @@ pub fn crls_are_unique()
     ensures { CrlsAreUnique }
 {}
 
-/// With distinct identifiers the accepted paths are those of every choice.
+/// With distinct identifiers every choice of pairs has the same paths.
 pub fn paths_are_those()
     ensures { PathsAreThose }
 {}

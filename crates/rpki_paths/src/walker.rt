@@ -32,6 +32,23 @@ pub struct Path<C> {
     pub anchored: bool,
 }
 
+impl<C: Drop> Path<C> {
+    // A path up to this head, which is not anchored.
+    fn up_to(head: C, place: usize, sets: KeptSets) -> Path<C>
+        ensures head { result.head ≡ head }
+        ensures place { result.place ≡ place }
+        ensures sets { result.sets ≡ sets }
+        ensures not_anchored { IsFalse result.anchored }
+    {
+        Path {
+            head,
+            place,
+            sets,
+            anchored: false,
+        }
+    }
+}
+
 /// Why an end-entity certificate has no path.
 #[derive(Clone, Copy, Debug, PartialEq, Eq)]
 pub enum PathFault {
@@ -145,21 +162,11 @@ pub fn walk<C: Signed<L>, L: Ledger>(
     let mut sets = KeptSets::none().climbed(alloc, ee.overclaim(), ee)?;
     for step in 0..marks.len() + 1 {
         if head.is_self_signed() {
-            return Ok(Path {
-                head,
-                place,
-                sets,
-                anchored: false,
-            });
+            return Ok(Path::up_to(head, place, sets));
         }
         match find_issuer(&head, cas, index.named(head.authority()), asked) {
             Found::NoIssuer => {
-                return Ok(Path {
-                    head,
-                    place,
-                    sets,
-                    anchored: false,
-                });
+                return Ok(Path::up_to(head, place, sets));
             }
             Found::Invalid => {
                 return Err(PathFault::NoValidIssuer);

@@ -14,7 +14,8 @@ use sha2::{Digest as _, Sha256};
 ///
 /// A verdict is a yes where the key's bits are, in DER, the SEQUENCE of an odd modulus of 2048 to
 /// 4096 bits and of the exponent 65537, the signature has as many octets as the modulus, its number
-/// is below the modulus, and its power is the number of the encoded message. All else is a no.
+/// is below the modulus, and its 65537th power modulo the modulus is the number of the encoded
+/// message. All else is a no.
 #[derive(Clone, Copy, Debug)]
 pub struct Rsa;
 

@@ -1,4 +1,4 @@
--- AS provider attestations as signed objects. The sections are those of
+-- Autonomous System Provider Authorizations as signed objects. The sections are those of
 -- draft-ietf-sidrops-aspa-profile-15.
 use Rattle.std.specs.Prelude.{◌≡◌, ◌≢◌, ◌≤◌, ℕ, List, [], ◌∷◌, ◌++◌, length, All, true}
 use Rattle.rpki_resources.specs.declared.block.Block.{Block}

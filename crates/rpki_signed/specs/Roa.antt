@@ -1,4 +1,4 @@
--- Route origin attestations as signed objects. The sections are those of RFC 9582, where no other
+-- Route Origin Authorizations as signed objects. The sections are those of RFC 9582, where no other
 -- RFC is named.
 use Rattle.std.specs.Prelude.{◌≡◌, ℕ, List, [], ◌∷◌, ◌++◌, All, true}
 use Rattle.rpki_resources.specs.declared.block.Block.{Block}

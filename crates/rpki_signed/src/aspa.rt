@@ -1,4 +1,4 @@
-//! AS provider attestations (draft-ietf-sidrops-aspa-profile-15).
+//! Autonomous System Provider Authorizations (draft-ietf-sidrops-aspa-profile-15).
 
 ghost use Rattle.std.specs.Prelude.{◌≡◌, IfOk};
 ghost use Rattle.rpki_der.specs.Form.Decodes.{Decodes};
@@ -20,7 +20,7 @@ use rpki_resources::{AsBlock, AsBlocks, Asn, Claim};
 use rpki_routes::AsProviderAttestation;
 use std::alloc::Global;
 
-/// An AS provider attestation as a signed object.
+/// An Autonomous System Provider Authorization as a signed object.
 pub type Aspa = Signed<AsProviderAttestation>;
 
 // id-ct-ASPA (section 2 of the profile).

@@ -1,4 +1,4 @@
-//! Route origin attestations (RFC 9582).
+//! Route Origin Authorizations (RFC 9582).
 
 ghost use Rattle.std.specs.Prelude.{◌≡◌, ◌↔◌, IfOk, IsTrue};
 ghost use Rattle.rpki_der.specs.Form.Decodes.{Decodes};
@@ -20,7 +20,7 @@ use rpki_resources::{AddressFamily, IpBlock, IpBlocks, MaxLenPrefix};
 use rpki_routes::{RoaIpAddress, RoaIpAddresses, RouteOriginAttestation};
 use std::alloc::Global;
 
-/// A route origin attestation as a signed object.
+/// A Route Origin Authorization as a signed object.
 pub type Roa = Signed<RouteOriginAttestation>;
 
 // id-ct-routeOriginAuthz (RFC 9582, section 3).

@@ -48,14 +48,6 @@ bytes-self (x ∷ a) = rw (eq-eqb x x refl) (bytes-self a)
 order-self : (a : List ℕ) → is_eq (slice_cmp nat_cmp a a) ≡ true
 order-self a = is_eq-slice_cmp a a ∙ bytes-self a
 
-pub not-true : (a b : Bool) → a ≡ not b → a ≡ true → b ≡ false
-not-true a true e t = absurd (let no : false ≡ true = sym e ∙ t in cc)
-not-true a false e t = refl
-
-pub not-false : (a b : Bool) → a ≡ not b → a ≡ false → b ≡ true
-not-false a true e t = refl
-not-false a false e t = absurd (let no : true ≡ false = sym e ∙ t in cc)
-
 abbrev slice : List ℕ → Bor (List ℕ)
 slice q = record { ref_ptr = (0, 0); now = q }
 

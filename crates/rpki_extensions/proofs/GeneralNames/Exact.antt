@@ -11,6 +11,7 @@ use Rattle.rpki_der.specs.Form.Parts.{implicit_string_at}
 use Rattle.rpki_der.specs.Grammar.{IsBytes, Front}
 use Rattle.rpki_der.specs.Read.Parse.{Parser, ◌>>=◌, is_next, some_of, skip_at}
 use Rattle.rpki_der.proofs.Form.Kinds.{contents-part, any-part}
+use Rattle.rpki_der.proofs.Form.Taking.{takes-made}
 use Rattle.rpki_der.proofs.Form.Words.{part-as, make, optional-there}
 use Rattle.rpki_der.proofs.Reading.Lengths.{bind_some, some_is}
 use Rattle.rpki_der.proofs.Reading.Many.{primitive-shorter}
@@ -107,15 +108,6 @@ module _ {X : Type 0} {p q : Parser X} {G H : Mode → List ℕ → X → Type 0
     ];
   }
 
-made-takes : {X Y : Type 0} (f : X → Y) (p : Parser X) (mode : Mode) → Takes (p mode)
-    → Takes (made f p mode)
-made-takes {X} {Y} f p mode a = record {
-  at = λ b y r h.
-      let s = bind_some (p mode b) _ (y, r) h in
-      let q : (let t : Y × List ℕ = (f s.0.0, s.0.1) in t) ≡ (y, r) = some_is _ _ s.2 in
-      subst (λ (t : Y × List ℕ). length t.1 < length b) q (a.at b s.0.0 s.0.1 s.1);
-}
-
 -- ---- names
 
 pub name-part : IsPart every nothing name_at NameForm
@@ -136,9 +128,9 @@ name-part = part-as
 pub name-takes : (mode : Mode) → Takes (name_at mode)
 name-takes mode =
     either-takes URI (make Uri (contents-part URI)) (make (λ _. Other) (any-part 32)) mode
-    (made-takes Uri (implicit_string_at 6) mode
+    (takes-made Uri (implicit_string_at 6) mode
     (record { at = λ b x r h. primitive-shorter URI (λ c. Some c) mode b x r h }))
-    (made-takes (λ _. Other) (skip_at 32) mode (skip-takes 32 mode))
+    (takes-made (λ _. Other) (skip_at 32) mode (skip-takes 32 mode))
 
 -- ---- what a name says
 

@@ -11,8 +11,7 @@ use Rattle.rpki_basics.specs.Uri.{is_uri_octet, GoesOn, IsUri, IsUriOf, AreRsync
 use Rattle.rpki_basics.specs.Uri.{AreHttpsSegments, IsRsync, IsHttps}
 use Rattle.rpki_basics.specs.Uri.Tests.{are_rsync_segments, are_https_segments}
 use Rattle.rpki_basics.specs.declared.uri.Error.{Error}
-use Rattle.rpki_basics.specs.declared.uri.Error.TheVariants.{InvalidCharacters, BadScheme, BadUri}
-use Rattle.rpki_basics.specs.declared.uri.Error.TheVariants.{Memory}
+use Rattle.rpki_basics.proofs.Uris.Refused.{no-uri}
 use Rattle.rpki_basics.proofs.Uris.Tests.{follows-at, placed, rsync-true, rsync-is, https-true}
 use Rattle.rpki_basics.proofs.Uris.Tests.{https-is}
 use Rattle.rpki_extensions.specs.Uri.{does_go_on, has_scheme, is_uri, rsync_of, https_of}
@@ -70,14 +69,6 @@ https-decides text = (
   uri-true https-true https-is (codes "https") text,
   uri-is https-true https-is (codes "https") text,
 )
-
--- a text that is refused is no URI
-no-uri : (scheme : List ℕ) (P : List (List ℕ) → Type 0) (text : List ℕ) (e : Error)
-    → IsUriOf scheme P text (Err e) → ¬ IsUri scheme P text
-no-uri scheme P text InvalidCharacters h = λ u. h u.0
-no-uri scheme P text BadScheme h = λ u. h.1 (u.1.0, u.1.1)
-no-uri scheme P text BadUri h = h.2
-no-uri scheme P text Memory h = absurd h
 
 kept : {A : Type 0} {P : Type 0} (t : Bool) (x : A) → Decides t P → P
     → Some x ≡ cond t (Some x) None

@@ -44,14 +44,6 @@ algebra true false false k = refl
 algebra false true f k = refl
 algebra false false f k = refl
 
-pub not-true : (a b : Bool) → a ≡ not b → a ≡ true → b ≡ false
-not-true a true e t = absurd (let never : false ≡ true = sym e ∙ t in cc)
-not-true a false e t = refl
-
-pub not-false : (a b : Bool) → a ≡ not b → a ≡ false → b ≡ true
-not-false a true e t = refl
-not-false a false e t = absurd (let never : true ≡ false = sym e ∙ t in cc)
-
 module _ {I : Type 0} (key : I → List ℕ) where
   none-seen : (set : BTreeSet (Bor (List ℕ))) → set.keys ≡ [] → (items : List I)
       → are_fresh key set items ≡ true

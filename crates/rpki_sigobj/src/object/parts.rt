@@ -16,7 +16,8 @@ impl SignedObject {
         self.contents.signer.sid
     }
 
-    /// The attributes that the signer signed (RFC 5652, section 5.3).
+    /// The attributes that the signer signed (RFC 5652, section 5.3). They were read in the mode of
+    /// the object, which no clause tells.
     pub fn attributes(&self) -> &SignedAttrs
         ensures { result.now.attributes ≡ self.now.object.signed.signer.attributes }
     {

@@ -1,10 +1,10 @@
-use Rattle.std.proofs.Common.{◌≡◌, ◌<◌, false, true, length, get_or, refl, ap, ◌∙◌, rules}
+use Rattle.std.proofs.Common.{◌≡◌, ◌<◌, false, true, length, get_or, refl, sym, ap, ◌∙◌, rules}
+use Rattle.std.proofs.lemmas.Bool.{not-true, not-false}
 use Rattle.std.proofs.lemmas.Bool.Decides.{same_from_decides}
 use Rattle.rpki_der.proofs.Form.Keyed.{distinct-decides}
 use Rattle.rpki_extensions.specs.Extension.{oid_of}
 use Rattle.rpki_extensions.proofs.CertExtensions.Seen.{seen-none, item-at, seen-again, seen-more}
-use Rattle.rpki_extensions.proofs.CertExtensions.Seen.{not-true}
-use Rattle.rpki_extensions.proofs.CertExtensions.Seen.{not-false, has_octets}
+use Rattle.rpki_extensions.proofs.CertExtensions.Seen.{has_octets}
 use Rattle.rpki_extensions.proofs.extension.are_distinct.Goals as goal
 
 pub loop-extension-init : goal.loop-extension-init
@@ -19,7 +19,7 @@ returns-then-not-branch c =
     λ d. c.as_slice.ensures.octets
     ∙ ap oid_of (c.extension-item.is ∙ item-at c.args.list.now n c.extension-item.result d lt) in
     let there : has_octets c.loop-extension.seen c.as_slice.result.now ≡ true =
-    not-false c.in_ok-insert.field-0 _ c.in_ok-insert.ensures.added c.if-not-branch.true in
+    not-false _ (sym c.in_ok-insert.ensures.added ∙ c.if-not-branch.true) in
     let again = seen-again oid_of c.loop-extension.seen c.args.list.now n lt
     c.loop-extension.invariant c.as_slice.result is there in
     same_from_decides false _ ((λ e. absurd cc), λ d. absurd (again d))
@@ -33,7 +33,7 @@ loop-extension-preserved c =
     λ d. c.as_slice.ensures.octets
     ∙ ap oid_of (c.extension-item.is ∙ item-at c.args.list.now n c.extension-item.result d lt) in
     let fresh : has_octets c.loop-extension.seen c.as_slice.result.now ≡ false =
-    not-true c.in_ok-insert.field-0 _ c.in_ok-insert.ensures.added c.if-not-branch.false in
+    not-true _ (sym c.in_ok-insert.ensures.added ∙ c.if-not-branch.false) in
     seen-more oid_of c.loop-extension.seen c.args.list.now n lt c.loop-extension.invariant
     c.as_slice.result is c.insert.new.self c.in_ok-insert.ensures.updates fresh
 

@@ -1,7 +1,7 @@
-use Rattle.std.proofs.Common.{refl, sym}
+use Rattle.std.proofs.Common.{refl, sym, ◌∙◌}
+use Rattle.std.proofs.lemmas.Bool.{not-true, not-false}
 use Rattle.rpki_files.specs.File.{File, name_of}
-use Rattle.rpki_files.proofs.Manifests.Distinct.{seen_none, seen_again, seen_more, not-true}
-use Rattle.rpki_files.proofs.Manifests.Distinct.{not-false}
+use Rattle.rpki_files.proofs.Manifests.Distinct.{seen_none, seen_again, seen_more}
 use Rattle.rpki_files.proofs.files.are_distinct.Goals as goal
 
 pub loop-file-init : goal.loop-file-init
@@ -12,7 +12,7 @@ returns-then-not-branch c =
     let x : File = record { file = c.in-Some.file.file.now; hash = c.in-Some.file.hash.now } in
     sym (seen_again name_of _ c.loop-file.files c.loop-file.seen x c.next.new.self
     c.in-Some.file.file.now c.loop-file.invariant c.in-Some.ensures.steps refl
-    (not-false c.in_ok-insert.field-0 _ c.in_ok-insert.ensures.added c.if-not-branch.true))
+    (not-false _ (sym c.in_ok-insert.ensures.added ∙ c.if-not-branch.true)))
 
 pub loop-file-preserved : goal.loop-file-preserved
 loop-file-preserved c =
@@ -20,4 +20,4 @@ loop-file-preserved c =
     seen_more name_of c.loop-file.seen c.insert.new.self c.in-Some.file.file
     c.in_ok-insert.ensures.updates _ c.loop-file.files x c.next.new.self c.loop-file.invariant
     c.in-Some.ensures.steps refl
-    (not-true c.in_ok-insert.field-0 _ c.in_ok-insert.ensures.added c.if-not-branch.false)
+    (not-true _ (sym c.in_ok-insert.ensures.added ∙ c.if-not-branch.false))
