@@ -2,7 +2,7 @@
 """Measures the whole program's `check roa` beside `rpki-client -f` on the same objects, in one run.
 
     bench/check.py FOLDER [--callgrind]      makes the objects below FOLDER and prints the table of
-                                             times, or that of instructions
+                                             times, and then that of instructions
 
 `bench/run --check` calls it; bench/README.md says what is measured. A subject that is not there, as
 a built program or as Debian's package, is left out.
@@ -195,7 +195,9 @@ def main(folder, *words):
     objects = [short(folder / "short"), long(folder / "long")]
     for it in objects:
         compare(subjects, it)
-    (instructions if "--callgrind" in words else times)(subjects, objects)
+    times(subjects, objects)
+    if "--callgrind" in words:
+        instructions(subjects, objects)
 
 
 if __name__ == "__main__":

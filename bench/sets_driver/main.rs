@@ -221,11 +221,11 @@ fn plain(subjects: &[Subject], subject: &Subject) -> usize {
     subjects.iter().position(|other| other.name == subject.beside).expect("a plain subject")
 }
 
-/// Stops if subjects answer otherwise than the plain ones.
+/// Stops if subjects answer otherwise than the plain ones. Each of them is called once.
 fn compare(subjects: &[Subject], sample: &Sample) {
-    for it in subjects {
-        let beside = &subjects[plain(subjects, it)];
-        assert_eq!((it.run)(sample, 2), (beside.run)(sample, 2), "{} is wrong at {}", it.name, sample.count);
+    let answers: Vec<u64> = subjects.iter().map(|it| (it.run)(sample, 2)).collect();
+    for (it, answer) in subjects.iter().zip(&answers) {
+        assert_eq!(*answer, answers[plain(subjects, it)], "{} is wrong at {}", it.name, sample.count);
     }
 }
 

@@ -22,7 +22,7 @@ def main():
     print("/// The ASPA of AS1 with 10,001 providers, from AS2 on.")
     lines = (octets[at:at + 24] for at in range(0, len(octets), 24))
     text = "\\\n    ".join("".join(f"\\x{it:02X}" for it in line) for line in lines)
-    print(f'pub const PROVIDERS: &[u8] = b"{text}";')
+    print(f'pub static PROVIDERS: &[u8] = b"{text}";')
 
 
 if __name__ == "__main__":

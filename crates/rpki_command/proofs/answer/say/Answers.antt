@@ -12,8 +12,12 @@ returns-in-BadVerdicts g c =
 
 pub returns-in-OutOfMemory : goal.returns-in-OutOfMemory
 returns-in-OutOfMemory g c =
-    rw c.in-OutOfMemory.is (record { err = c.write-in-OutOfMemory.ensures; out = refl })
+    rw c.in-OutOfMemory.is
+    (record {
+      err = rw c.as_bytes-in-OutOfMemory.ensures.value at c.write_line-in-OutOfMemory.ensures;
+      out = refl;
+    })
 
 pub returns-in-Malformed : goal.returns-in-Malformed
 returns-in-Malformed g c =
-    rw c.in-Malformed.is (record { out = c.write-in-Malformed.ensures; err = refl })
+    rw c.in-Malformed.is (record { out = c.write_line-in-Malformed.ensures; err = refl })
