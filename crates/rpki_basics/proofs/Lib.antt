@@ -1,4 +1,5 @@
 pub mod BigEndian
+pub mod OctetSets
 pub mod Uris
 pub mod Serials
 pub mod Times

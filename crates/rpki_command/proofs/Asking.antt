@@ -11,49 +11,49 @@ use Rattle.rpki_command.specs.Words.{texts}
 use Rattle.rpki_command.specs.declared.store.Unread.TheVariants as reads
 
 -- the same names
-pub of_same : (told : Told) (seen names : List (Bor (List ℕ))) (all : List (List ℕ))
+pub of-same : (told : Told) (seen names : List (Bor (List ℕ))) (all : List (List ℕ))
     (P : List (List ℕ) → Said → Type 0) (old new : ℕ) (s : Said)
     → IsOfFiles told (texts seen) P old new s → texts names ≡ all → seen ≡ names
     → IsOfFiles told all P old new s
-of_same told seen names all P old new s h e d =
+of-same told seen names all P old new s h e d =
     subst (λ (ns : List (List ℕ)). IsOfFiles told ns P old new s) (ap texts d ∙ e) h
 
-pub read_same : (seen names : List (Bor (List ℕ))) (all : List (List ℕ)) (old new : ℕ)
+pub read-same : (seen names : List (Bor (List ℕ))) (all : List (List ℕ)) (old new : ℕ)
     → AreReadAtMost (texts seen) old new → texts names ≡ all → seen ≡ names
     → AreReadAtMost all old new
-read_same seen names all old new h e d =
+read-same seen names all old new h e d =
     subst (λ (ns : List (List ℕ)). AreReadAtMost ns old new) (ap texts d ∙ e) h
 
 -- the first file that can't be read
-pub of_unreadable : (told : Told) (names : List (List ℕ)) (P : List (List ℕ) → Said → Type 0)
+pub of-unreadable : (told : Told) (names : List (List ℕ)) (P : List (List ℕ) → Said → Type 0)
     (old new : ℕ) (name : Bor (List ℕ)) (s : Said)
     → IsFirstUnreadable told names old new name.now → s ≡ cannot_read name.now
     → IsOfFiles told names P old new s
-of_unreadable told names P old new name s u e = inr (Err (reads.Unreadable name), u, e)
+of-unreadable told names P old new name s u e = inr (Err (reads.Unreadable name), u, e)
 
 -- some are read, until memory runs out
-pub of_some_read : (told : Told) (names : List (List ℕ)) (P : List (List ℕ) → Said → Type 0)
+pub of-some-read : (told : Told) (names : List (List ℕ)) (P : List (List ℕ) → Said → Type 0)
     (old new : ℕ) (s : Said) → AreSomeRead told names old new → s ≡ out_of_memory
     → IsOfFiles told names P old new s
-of_some_read told names P old new s a e = inr (Err reads.Memory, a, e)
+of-some-read told names P old new s a e = inr (Err reads.Memory, a, e)
 
 -- all are read
-pub of_all_read : (told : Told) (names : List (List ℕ)) (P : List (List ℕ) → Said → Type 0)
+pub of-all-read : (told : Told) (names : List (List ℕ)) (P : List (List ℕ) → Said → Type 0)
     (old new : ℕ) (files : Vec (Vec ℕ Global) Global) (seen : List (Vec ℕ Global)) (s : Said)
     → AreAllRead told names old new files.items → P (octets_of seen) s → seen ≡ files.items
     → IsOfFiles told names P old new s
-of_all_read told names P old new files seen s a h e = inr (
+of-all-read told names P old new files seen s a h e = inr (
   Ok files,
   a,
   subst (λ (fs : List (Vec ℕ Global)). P (octets_of fs) s) e h,
 )
 
 -- as many files as names
-pub three_files : (names : List (Bor (List ℕ))) (files seen : List (Vec ℕ Global))
+pub three-files : (names : List (Bor (List ℕ))) (files seen : List (Vec ℕ Global))
     → length files ≡ length (texts names) → seen ≡ files → 3 ≤ length names → 3 ≤ length seen
-three_files names files seen e d l =
+three-files names files seen e d l =
     omega (arith, e, l, ap length d, length-map names (λ (x : Bor (List ℕ)). x.now))
 
-pub ruleset by_names = (of_same, read_same)
+pub ruleset by_names = (of-same, read-same)
 
-pub ruleset by_reads = (of_unreadable, of_some_read, of_all_read, three_files)
+pub ruleset by_reads = (of-unreadable, of-some-read, of-all-read, three-files)

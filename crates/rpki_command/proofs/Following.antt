@@ -38,13 +38,13 @@ no-text [] n l none all = absurd (omega (arith, l))
 no-text (name ∷ rest) n l none all =
     none name (subst IsUtf8 (sym (at-next name rest n name)) (all n name (omega (arith, l))))
 
-pub no_words : (told : ToldArguments) (n : ℕ) (error : WordsError)
+pub no-words : (told : ToldArguments) (n : ℕ) (error : WordsError)
     → IsWordAt told (n + 1) (Err error)
     → AreWords told (Err error)
-no_words None n NoText h = tt
-no_words None n Memory h = tt
-no_words (Some arguments) n NoText h = no-text arguments n h.0 h.1
-no_words (Some arguments) n Memory h = tt
+no-words None n NoText h = tt
+no-words None n Memory h = tt
+no-words (Some arguments) n NoText h = no-text arguments n h.0 h.1
+no-words (Some arguments) n Memory h = tt
 
 all-first : (arguments words : List (List ℕ)) (n : ℕ) → length arguments ≤ n + 1
     → words ≡ take n (drop 1 arguments)
@@ -68,12 +68,12 @@ one-more (name ∷ rest) words n word l is e =
     ap (λ (w : List (List ℕ)). w ++ word ∷ []) e
     ∙ ap (λ (w : List ℕ). take n rest ++ w ∷ []) it ∙ sym more
 
-pub next_word : (told : ToldArguments) (n : ℕ) (words : List (String Global)) (word : String Global)
+pub next-word : (told : ToldArguments) (n : ℕ) (words : List (String Global)) (word : String Global)
     → IsWordAt told (n + 1) (Ok (Some word))
     → AreFirst told n (map string_bytes words)
     → AreFirst told (n + 1) (map string_bytes (words ++ word ∷ []))
-next_word None n words word is e = tt
-next_word (Some arguments) n words word is e =
+next-word None n words word is e = tt
+next-word (Some arguments) n words word is e =
     map-append string_bytes words (word ∷ [])
     ∙ one-more arguments (map string_bytes words) n (string_bytes word) is.0 is.1 e
 
@@ -81,13 +81,13 @@ next_word (Some arguments) n words word is e =
 pub record AreUtf8 (words : List (String Global)) : Type 0 where
   pub each : All IsUtf8 (map string_bytes words)
 
-pub next_text : (words : List (String Global)) (word : String Global)
+pub next-text : (words : List (String Global)) (word : String Global)
     → IsText (Ok (Some word)) → AreUtf8 words → AreUtf8 (words ++ word ∷ [])
-next_text words word is h = record {
+next-text words word is h = record {
   each = subst (λ (all : List (List ℕ)). All IsUtf8 all)
       (sym (map-append string_bytes words (word ∷ [])))
       (All-push IsUtf8 (map string_bytes words) (string_bytes word) h.each is);
 }
 
 -- what a loop over the words asks of them
-pub ruleset word_by_word = (no_words, next_word, next_text)
+pub ruleset word_by_word = (no-words, next-word, next-text)

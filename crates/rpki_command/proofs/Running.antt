@@ -213,7 +213,8 @@ module _ (told : Told) (P : List (List ℕ) → Said → Type 0) (old new : ℕ)
 -- ---- the whole
 
 module _ (told : Told) (old new : ℕ) (s : Said) (run : Run) (h : IsSaid s run) where
-  pub task-done : (task : Task) → IsTaskAnswer told task old new s → IsTaskDone told task old new run
+  pub task-done : (task : Task) → IsTaskAnswer told task old new s
+      → IsTaskDone told task old new run
   task-done (ShowLines file lines_of) a = shows lines_of s run h told file a
   task-done (CheckFiles files P) a = checks told P old new s run h files a
   task-done NotThere a = said-as s usage run a h

@@ -27,12 +27,15 @@ abbrev pub word_if : Bool → List ℕ → List (List ℕ)
 word_if true word = word ∷ []
 word_if false word = []
 
+-- with this word an object is read in BER, else in DER
 abbrev pub word_relaxed : List ℕ
 word_relaxed = codes "--relaxed"
 
+-- with this word the names in a manifest have registered types, and none stands twice
 abbrev pub word_registered : List ℕ
 word_registered = codes "--registered"
 
+-- with this word the limit of providers is the wide one
 abbrev pub word_wide : List ℕ
 word_wide = codes "--wide"
 

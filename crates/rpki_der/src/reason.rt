@@ -40,14 +40,14 @@ pub enum Reason {
     /// Routing domain identifiers are named (RFC 6487, section 4.8.11).
     RoutingDomains,
 
-    // Route origin attestations
-    /// A prefix is longer than the addresses of its family (RFC 6482, section 3.3).
+    // Route Origin Authorizations
+    /// A prefix is longer than the addresses of its family (RFC 9582, section 4.3).
     PrefixTooLong,
-    /// A max length is below that of its prefix, or above that of the addresses (RFC 6482, section
-    /// 3.3).
+    /// A max length is below that of its prefix, or above that of the addresses (RFC 9582, section
+    /// 4.3).
     MaxLengthOutOfRange,
 
-    // Provider attestations
+    // Autonomous System Provider Authorizations
     /// The customer of an ASPA is AS0 (draft-ietf-sidrops-aspa-profile-15, section 3).
     CustomerAs0,
     /// An ASPA names no provider (the same section).

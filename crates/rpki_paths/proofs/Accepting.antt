@@ -23,66 +23,66 @@ use Rattle.rpki_paths.specs.Taking.{AreAllPaired, AreUnpaired, AllVerifyEach}
 use Rattle.rpki_paths.specs.Walk.{placed}
 use Rattle.rpki_paths.specs.Grant.{authorities, AreValid}
 use Rattle.rpki_paths.specs.Laws.{RefusalIsRight}
-use Rattle.rpki_paths.proofs.Mapping.{same_at, map_pairs}
+use Rattle.rpki_paths.proofs.Mapping.{same-at, map-pairs}
 use Rattle.rpki_paths.proofs.PairingOff.{pairs_are_pairing}
 use Rattle.rpki_paths.proofs.Mapping.{unmatched_is_not_accepted}
 use Rattle.rpki_paths.proofs.Granting.{refused_is_not_accepted}
-use Rattle.rpki_paths.proofs.Verdicts.{partners_length, verdicts_are_few}
+use Rattle.rpki_paths.proofs.Verdicts.{partners-length, verdicts_are_few}
 use Rattle.rpki_paths.proofs.Walking.{length-placed}
 
 -- ---- what stands at places
 
-pub at_in_range : {A : Type 0} (ys : List A) (places : List ℕ) (items : List A)
+pub at-in-range : {A : Type 0} (ys : List A) (places : List ℕ) (items : List A)
     → AreAt ys places items → (k : ℕ) → IsIn k places → k < length ys
-at_in_range ys [] items h k i = absurd i
-at_in_range ys (n ∷ places) [] h k i = absurd h
-at_in_range ys (n ∷ places) (p ∷ items) h k (inl e) =
+at-in-range ys [] items h k i = absurd i
+at-in-range ys (n ∷ places) [] h k i = absurd h
+at-in-range ys (n ∷ places) (p ∷ items) h k (inl e) =
     slice_get_within ys k p (ap (slice_get ys) e ∙ h.0)
-at_in_range ys (n ∷ places) (p ∷ items) h k (inr i) = at_in_range ys places items h.1 k i
+at-in-range ys (n ∷ places) (p ∷ items) h k (inr i) = at-in-range ys places items h.1 k i
 
 module _ {X Y A B : Type 0} (f : X → A) (g : Y → B) (R : X → Y → Type 0) (S : A → B → Type 0)
     (same : (x : X) (y : Y) → R x y ↔ S (f x) (g y)) where
   -- the partners that stand at the places of what is paired
-  pub found_pairs : (xs : List X) (ys : List Y) (places : List ℕ) (found : List Y)
+  pub found-pairs : (xs : List X) (ys : List Y) (places : List ℕ) (found : List Y)
       → ArePaired R xs ys places → AreAt ys places found
       → PairsOff S (map f xs) (map g found) (map g ys) []
-  found_pairs xs ys places found p stands =
+  found-pairs xs ys places found p stands =
       subst (λ l. PairsOff S (map f xs) (map g l) (map g ys) [])
-      (same_at ys places p.partners found p.at_places stands)
-      (map_pairs f g R S same xs p.partners ys [] p.first)
+      (same-at ys places p.partners found p.at_places stands)
+      (map-pairs f g R S same xs p.partners ys [] p.first)
 
-pub as_many_found : {X Y : Type 0} (R : X → Y → Type 0) (xs : List X) (ys : List Y)
+pub as-many-found : {X Y : Type 0} (R : X → Y → Type 0) (xs : List X) (ys : List Y)
     (places : List ℕ) (found : List Y) → ArePaired R xs ys places → AreAt ys places found
     → length found ≡ length xs
-as_many_found {X} {Y} R xs ys places found p stands =
-    ap (λ (l : List Y). length l) (sym (same_at ys places p.partners found p.at_places stands))
-    ∙ partners_length R xs p.partners ys p.pairing
+as-many-found {X} {Y} R xs ys places found p stands =
+    ap (λ (l : List Y). length l) (sym (same-at ys places p.partners found p.at_places stands))
+    ∙ partners-length R xs p.partners ys p.pairing
 
 -- ---- from what items stand for to the items
 
 module _ {X A B : Type 0} (f : X → A) (R : X → B → Type 0) (S : A → B → Type 0)
     (same : (x : X) (y : B) → R x y ↔ S (f x) y) where
-  back_first : (x : X) {p : B} {rest ys : List B} → IsFirst (S (f x)) p rest ys
+  back-first : (x : X) {p : B} {rest ys : List B} → IsFirst (S (f x)) p rest ys
       → IsFirst (R x) p rest ys
-  back_first x (first {y} h) = first ((same x y).1 h)
-  back_first x (later {z} n h) = later (λ s. n ((same x z).0 s)) (back_first x h)
+  back-first x (first {y} h) = first ((same x y).1 h)
+  back-first x (later {z} n h) = later (λ s. n ((same x z).0 s)) (back-first x h)
 
-  pub back_pairs : (xs : List X) (ps ys left : List B) → PairsOff S (map f xs) ps ys left
+  pub back-pairs : (xs : List X) (ps ys left : List B) → PairsOff S (map f xs) ps ys left
       → PairsOff R xs ps ys left
-  back_pairs [] [] ys left h = h
-  back_pairs [] (p ∷ ps) ys left h = absurd h
-  back_pairs (x ∷ xs) [] ys left h = absurd h
-  back_pairs (x ∷ xs) (p ∷ ps) ys left h =
-      (h.0, back_first x h.1, back_pairs xs ps h.0 left h.2)
+  back-pairs [] [] ys left h = h
+  back-pairs [] (p ∷ ps) ys left h = absurd h
+  back-pairs (x ∷ xs) [] ys left h = absurd h
+  back-pairs (x ∷ xs) (p ∷ ps) ys left h =
+      (h.0, back-first x h.1, back-pairs xs ps h.0 left h.2)
 
-  split_image : (xs : List X) (done : List A) (y : A) (more : List A)
+  split-image : (xs : List X) (done : List A) (y : A) (more : List A)
       → map f xs ≡ done ++ y ∷ more
       → (d : List X) × (x : X) × (m : List X) × (xs ≡ d ++ x ∷ m) × (map f d ≡ done) × (f x ≡ y)
-  split_image [] [] y more e = absurd cc
-  split_image [] (q ∷ done) y more e = absurd cc
-  split_image (x ∷ xs) [] y more e = ([], x, xs, refl, refl, cc)
-  split_image (x ∷ xs) (q ∷ done) y more e =
-      let t = split_image xs done y more cc in
+  split-image [] [] y more e = absurd cc
+  split-image [] (q ∷ done) y more e = absurd cc
+  split-image (x ∷ xs) [] y more e = ([], x, xs, refl, refl, cc)
+  split-image (x ∷ xs) (q ∷ done) y more e =
+      let t = split-image xs done y more cc in
       let head : f x ≡ q = cc in (
         x ∷ t.0,
         t.1,
@@ -92,10 +92,10 @@ module _ {X A B : Type 0} (f : X → A) (R : X → B → Type 0) (S : A → B �
         t.5,
       )
 
-  pub back_unpaired : (xs : List X) (ys : List B) (fault : PairFault)
+  pub back-unpaired : (xs : List X) (ys : List B) (fault : PairFault)
       → AreUnpaired S (map f xs) ys fault → AreUnpaired R xs ys fault
-  back_unpaired xs ys (Unpaired place) h =
-      let t = split_image xs h.done h.x h.more h.parts in
+  back-unpaired xs ys (Unpaired place) h =
+      let t = split-image xs h.done h.x h.more h.parts in
       record {
         done = t.0;
         x = t.1;
@@ -104,17 +104,17 @@ module _ {X A B : Type 0} (f : X → A) (R : X → B → Type 0) (S : A → B �
         left = h.left;
         parts = t.3;
         at_place = sym (length-map t.0 f) ∙ ap (λ (l : List A). length l) t.4 ∙ h.at_place;
-        pairs = back_pairs t.0 h.partners ys h.left
+        pairs = back-pairs t.0 h.partners ys h.left
             (subst (λ l. PairsOff S l h.partners ys h.left) (sym t.4) h.pairs);
         none = λ y i r. h.none y i (subst (λ z. S z y) t.5 ((same t.1 y).0 r));
       }
-  back_unpaired xs ys LeftOver h = record {
+  back-unpaired xs ys LeftOver h = record {
     partners = h.partners;
     left = h.left;
-    pairs = back_pairs xs h.partners ys h.left h.pairs;
+    pairs = back-pairs xs h.partners ys h.left h.pairs;
     some = h.some;
   }
-  back_unpaired xs ys Memory h = tt
+  back-unpaired xs ys Memory h = tt
 
 -- ---- keys
 
@@ -123,79 +123,79 @@ IsSame = IsPair (λ k. k) (λ k. k) (λ k l. true)
 
 module _ {X : Type 0} (signer : X → Signer) (s : X → List ℕ) (sid : (x : X) → s x ≡ (signer x).sid)
   where
-    same_key : (x : X) (k : List ℕ) → HasKey (signer x) k ↔ IsSame (s x) k
-    same_key x k = (λ p. (sid x ∙ p.0, p.1), λ p. (sym (sid x) ∙ p.0, p.1))
+    same-key : (x : X) (k : List ℕ) → HasKey (signer x) k ↔ IsSame (s x) k
+    same-key x k = (λ p. (sid x ∙ p.0, p.1), λ p. (sym (sid x) ∙ p.0, p.1))
 
-    map_sid : (xs : List X) → map s xs ≡ map (λ (z : Signer). z.sid) (map signer xs)
-    map_sid [] = refl
-    map_sid (x ∷ xs) =
-        ap (λ k. k ∷ map s xs) (sid x) ∙ ap (λ l. (signer x).sid ∷ l) (map_sid xs)
+    map-sid : (xs : List X) → map s xs ≡ map (λ (z : Signer). z.sid) (map signer xs)
+    map-sid [] = refl
+    map-sid (x ∷ xs) =
+        ap (λ k. k ∷ map s xs) (sid x) ∙ ap (λ l. (signer x).sid ∷ l) (map-sid xs)
 
-    pub keys_paired : (xs : List X) (keys : List (List ℕ)) (places : List ℕ)
+    pub keys-paired : (xs : List X) (keys : List (List ℕ)) (places : List ℕ)
         → ArePaired IsSame (map s xs) keys places → AreAllPaired HasKey (map signer xs) keys
-    keys_paired xs keys places h = (
+    keys-paired xs keys places h = (
       h.partners,
-      back_pairs (λ (z : Signer). z.sid) HasKey IsSame (λ x y. (λ p. p, λ p. p)) (map signer xs)
+      back-pairs (λ (z : Signer). z.sid) HasKey IsSame (λ x y. (λ p. p, λ p. p)) (map signer xs)
           h.partners keys []
-          (subst (λ l. PairsOff IsSame l h.partners keys []) (map_sid xs) h.first),
+          (subst (λ l. PairsOff IsSame l h.partners keys []) (map-sid xs) h.first),
     )
 
-    pub keys_unpaired : (xs : List X) (keys : List (List ℕ)) (fault : PairFault)
+    pub keys-unpaired : (xs : List X) (keys : List (List ℕ)) (fault : PairFault)
         → AreUnpaired IsSame (map s xs) keys fault → AreUnpaired HasKey (map signer xs) keys fault
-    keys_unpaired xs keys fault h =
-        back_unpaired (λ (z : Signer). z.sid) HasKey IsSame (λ x y. (λ p. p, λ p. p))
-        (map signer xs) keys fault (subst (λ l. AreUnpaired IsSame l keys fault) (map_sid xs) h)
+    keys-unpaired xs keys fault h =
+        back-unpaired (λ (z : Signer). z.sid) HasKey IsSame (λ x y. (λ p. p, λ p. p))
+        (map signer xs) keys fault (subst (λ l. AreUnpaired IsSame l keys fault) (map-sid xs) h)
 
 -- ---- what holds of all
 
 module _ {A B : Type 0} (f : A → B) (P : B → Bool) where
-  pub all_in : (xs : List A) → list_all (λ x. P (f x)) xs ≡ true → (y : B) → IsIn y (map f xs)
+  pub all-in : (xs : List A) → list_all (λ x. P (f x)) xs ≡ true → (y : B) → IsIn y (map f xs)
       → P y ≡ true
-  all_in [] h y i = absurd i
-  all_in (x ∷ xs) h y (inl e) = ap P e ∙ (and_parts (P (f x)) _ h).0
-  all_in (x ∷ xs) h y (inr i) = all_in xs (and_parts (P (f x)) _ h).1 y i
+  all-in [] h y i = absurd i
+  all-in (x ∷ xs) h y (inl e) = ap P e ∙ (and_parts (P (f x)) _ h).0
+  all-in (x ∷ xs) h y (inr i) = all-in xs (and_parts (P (f x)) _ h).1 y i
 
-  of_all : (xs : List A) → ((y : B) → IsIn y (map f xs) → P y ≡ true)
+  of-all : (xs : List A) → ((y : B) → IsIn y (map f xs) → P y ≡ true)
       → list_all (λ x. P (f x)) xs ≡ true
-  of_all [] h = refl
-  of_all (x ∷ xs) h =
+  of-all [] h = refl
+  of-all (x ∷ xs) h =
       and_from (P (f x)) (list_all (λ z. P (f z)) xs) (h (f x) (inl refl))
-      (of_all xs (λ y i. h y (inr i)))
+      (of-all xs (λ y i. h y (inr i)))
 
-  pub not_all : (xs : List A) → list_all (λ x. P (f x)) xs ≡ false
+  pub not-all : (xs : List A) → list_all (λ x. P (f x)) xs ≡ false
       → ¬ ((y : B) → IsIn y (map f xs) → P y ≡ true)
-  not_all xs e h = true≢false (sym (of_all xs h) ∙ e)
+  not-all xs e h = true≢false (sym (of-all xs h) ∙ e)
 
 module _ {S C R : Type 0} (signer : S → Signer) (cert : C → Cert) (crl : R → Crl)
     (a : Attestation S C R) where
-  pub valid_where : list_all (λ c. (cert c).is_valid) a.ees.now ≡ true
+  pub valid-where : list_all (λ c. (cert c).is_valid) a.ees.now ≡ true
       → list_all (λ c. (cert c).is_valid) a.cas.now ≡ true → AreValid (carried_of signer cert crl a)
-  valid_where ees cas = record {
-    ees = all_in cert (λ (c : Cert). c.is_valid) a.ees.now ees;
-    cas = all_in cert (λ (c : Cert). c.is_valid) a.cas.now cas;
+  valid-where ees cas = record {
+    ees = all-in cert (λ (c : Cert). c.is_valid) a.ees.now ees;
+    cas = all-in cert (λ (c : Cert). c.is_valid) a.cas.now cas;
   }
 
-  pub digests_where : list_all (λ s. (signer s).digest_holds) a.signers.now ≡ true
+  pub digests-where : list_all (λ s. (signer s).digest_holds) a.signers.now ≡ true
       → HaveDigest (carried_of signer cert crl a)
-  digests_where h = all_in signer (λ (s : Signer). s.digest_holds) a.signers.now h
+  digests-where h = all-in signer (λ (s : Signer). s.digest_holds) a.signers.now h
 
 -- What holds of handles as they are seen holds of what they stand for.
-pub where_seen : {C : Type 0} (cert : C → Cert) (P : List Cert → List Cert → Type 0)
+pub where-seen : {C : Type 0} (cert : C → Cert) (P : List Cert → List Cert → Type 0)
     {cas seen_cas ees seen_ees : List C} {listed : List Cert} → placed cert 1 cas ≡ listed
     → seen_cas ≡ cas → seen_ees ≡ ees → P (placed cert 1 seen_cas) (map cert seen_ees)
     → P listed (map cert ees)
-where_seen cert P {seen_cas = seen} {ees = ees} listed same_cas same_ees h =
+where-seen cert P {seen_cas = seen} {ees = ees} listed same_cas same_ees h =
     subst (λ l. P l (map cert ees)) listed
     (subst (λ l. P (placed cert 1 l) (map cert ees)) same_cas
     (subst (λ l. P (placed cert 1 seen) (map cert l)) same_ees h))
 
 -- ---- what is paired, each taking the first that fits, is a matching
 
-pub first_matching : (a : Carried) (ees : List Cert) (crls : List Crl)
+pub first-matching : (a : Carried) (ees : List Cert) (crls : List Crl)
     → AreAllPaired HasKey a.signers a.subject_keys → HaveDigest a
     → PairsOff HasCrl a.cas crls a.crls [] → PairsOff IsVerifiedBy a.signers ees a.ees []
     → IsFirstMatching a ees crls
-first_matching a ees crls keyed digests of_cas of_signers = record {
+first-matching a ees crls keyed digests of_cas of_signers = record {
   matching = record {
     keys = (keyed.0, pairs_are_pairing HasKey a.signers keyed.0 a.subject_keys keyed.1);
     digests = digests;
@@ -234,7 +234,7 @@ module _ {S C R : Type 0} (signer : S → Signer) (cert : C → Cert) (crl : R �
     crls = map crl crls;
   }
 
-  pub few_verdicts : (taken with : List C) (ls : List Crl) (none listed keyed signed walked : ℕ)
+  pub few-verdicts : (taken with : List C) (ls : List Crl) (none listed keyed signed walked : ℕ)
       → HasDistinctIds those → IsMatching those (map cert taken) ls
       → placed cert 1 with ≡ authorities those ls
       → (AllVerifyEach (λ (d : Cert). d.ski) (λ (l : Crl). l.aki) (λ d l. l.verifies d.key)
@@ -244,7 +244,7 @@ module _ {S C R : Type 0} (signer : S → Signer) (cert : C → Cert) (crl : R �
       (map signer signers) (map cert ees) → signed ≤ keyed + 1 * length (map signer signers))
       → (IsDistinct (placed cert 1 with) → walked ≤ signed + length taken * length with)
       → walked ≤ none + (length signers + length crls + length signers * length cas)
-  few_verdicts taken with ls none listed keyed signed walked dist m same of_crls of_keys of_signers
+  few-verdicts taken with ls none listed keyed signed walked dist m same of_crls of_keys of_signers
       of_walks =
       let many_signers = length-map signers signer in
       let many_cas = length-map cas cert in

@@ -17,124 +17,124 @@ use Rattle.rpki_paths.specs.Laws.{PairsAlongMap, PlacedAreAuthorities, Unmatched
 use Rattle.rpki_paths.proofs.PairingOff.{unpaired_is_unpairable}
 use Rattle.rpki_paths.proofs.Matches.{what_fits_is_alike}
 
-map_more : {A B : Type 0} (f : A → B) (xs ys : List A) → map f (xs ++ ys) ≡ map f xs ++ map f ys
-map_more f [] ys = refl
-map_more f (x ∷ xs) ys = ap (λ l. f x ∷ l) (map_more f xs ys)
+map-more : {A B : Type 0} (f : A → B) (xs ys : List A) → map f (xs ++ ys) ≡ map f xs ++ map f ys
+map-more f [] ys = refl
+map-more f (x ∷ xs) ys = ap (λ l. f x ∷ l) (map-more f xs ys)
 
-pub in_image : {A B : Type 0} (f : A → B) (xs : List A) (x : A) → IsIn x xs → IsIn (f x) (map f xs)
-in_image f [] x i = absurd i
-in_image f (y ∷ xs) x (inl e) = inl (ap f e)
-in_image f (y ∷ xs) x (inr i) = inr (in_image f xs x i)
+pub in-image : {A B : Type 0} (f : A → B) (xs : List A) (x : A) → IsIn x xs → IsIn (f x) (map f xs)
+in-image f [] x i = absurd i
+in-image f (y ∷ xs) x (inl e) = inl (ap f e)
+in-image f (y ∷ xs) x (inr i) = inr (in-image f xs x i)
 
-pub of_image : {A B : Type 0} (f : A → B) (xs : List A) (y : B) → IsIn y (map f xs)
+pub of-image : {A B : Type 0} (f : A → B) (xs : List A) (y : B) → IsIn y (map f xs)
     → (x : A) × IsIn x xs × (y ≡ f x)
-of_image f [] y i = absurd i
-of_image f (x ∷ xs) y (inl e) = (x, inl refl, e)
-of_image f (x ∷ xs) y (inr i) = let t = of_image f xs y i in (t.0, inr t.1, t.2)
+of-image f [] y i = absurd i
+of-image f (x ∷ xs) y (inl e) = (x, inl refl, e)
+of-image f (x ∷ xs) y (inr i) = let t = of-image f xs y i in (t.0, inr t.1, t.2)
 
-no_image : {A B : Type 0} (f : A → B) (xs : List A) → map f xs ≡ [] → xs ≡ []
-no_image f [] e = refl
-no_image f (x ∷ xs) e = absurd cc
+no-image : {A B : Type 0} (f : A → B) (xs : List A) → map f xs ≡ [] → xs ≡ []
+no-image f [] e = refl
+no-image f (x ∷ xs) e = absurd cc
 
-map_picked : {A B : Type 0} (g : A → B) {p : A} {rest ys : List A} → IsPicked p rest ys
+map-picked : {A B : Type 0} (g : A → B) {p : A} {rest ys : List A} → IsPicked p rest ys
     → IsPicked (g p) (map g rest) (map g ys)
-map_picked g here = here
-map_picked g (there q) = there (map_picked g q)
+map-picked g here = here
+map-picked g (there q) = there (map-picked g q)
 
-map_at : {A B : Type 0} (g : A → B) (ys : List A) (places : List ℕ) (items : List A)
+map-at : {A B : Type 0} (g : A → B) (ys : List A) (places : List ℕ) (items : List A)
     → AreAt ys places items → AreAt (map g ys) places (map g items)
-map_at g ys [] [] h = tt
-map_at g ys [] (p ∷ items) h = absurd h
-map_at g ys (k ∷ places) [] h = absurd h
-map_at g ys (k ∷ places) (p ∷ items) h =
-    (slice_get-map g ys k ∙ ap (option_map g) h.0, map_at g ys places items h.1)
+map-at g ys [] [] h = tt
+map-at g ys [] (p ∷ items) h = absurd h
+map-at g ys (k ∷ places) [] h = absurd h
+map-at g ys (k ∷ places) (p ∷ items) h =
+    (slice_get-map g ys k ∙ ap (option_map g) h.0, map-at g ys places items h.1)
 
 -- what stands at some places is determined
-pub same_at : {A : Type 0} (ys : List A) (places : List ℕ) (items others : List A)
+pub same-at : {A : Type 0} (ys : List A) (places : List ℕ) (items others : List A)
     → AreAt ys places items → AreAt ys places others → items ≡ others
-same_at ys [] [] [] h k = refl
-same_at ys [] [] (q ∷ others) h k = absurd k
-same_at ys [] (p ∷ items) others h k = absurd h
-same_at ys (n ∷ places) [] others h k = absurd h
-same_at ys (n ∷ places) (p ∷ items) [] h k = absurd k
-same_at ys (n ∷ places) (p ∷ items) (q ∷ others) h k =
+same-at ys [] [] [] h k = refl
+same-at ys [] [] (q ∷ others) h k = absurd k
+same-at ys [] (p ∷ items) others h k = absurd h
+same-at ys (n ∷ places) [] others h k = absurd h
+same-at ys (n ∷ places) (p ∷ items) [] h k = absurd k
+same-at ys (n ∷ places) (p ∷ items) (q ∷ others) h k =
     let one : p ≡ q = cc in
-    let more = same_at ys places items others h.1 k.1 in
+    let more = same-at ys places items others h.1 k.1 in
     ap (λ x. x ∷ items) one ∙ ap (λ l. q ∷ l) more
 
 module _ {X Y A B : Type 0} (f : X → A) (g : Y → B) (R : X → Y → Type 0) (S : A → B → Type 0)
     (same : (x : X) (y : Y) → R x y ↔ S (f x) (g y)) where
-  map_first : (x : X) {p : Y} {rest ys : List Y} → IsFirst (R x) p rest ys
+  map-first : (x : X) {p : Y} {rest ys : List Y} → IsFirst (R x) p rest ys
       → IsFirst (S (f x)) (g p) (map g rest) (map g ys)
-  map_first x (first {y} h) = first ((same x y).0 h)
-  map_first x (later {z} n h) = later (λ s. n ((same x z).1 s)) (map_first x h)
+  map-first x (first {y} h) = first ((same x y).0 h)
+  map-first x (later {z} n h) = later (λ s. n ((same x z).1 s)) (map-first x h)
 
-  map_none : (x : X) (ys : List Y) → FitsNone (R x) ys → FitsNone (S (f x)) (map g ys)
-  map_none x ys none y i s =
-      let t = of_image g ys y i in
+  map-none : (x : X) (ys : List Y) → FitsNone (R x) ys → FitsNone (S (f x)) (map g ys)
+  map-none x ys none y i s =
+      let t = of-image g ys y i in
       none t.0 t.1 ((same x t.0).1 (subst (λ z. S (f x) z) t.2 s))
 
-  pub map_pairing : (xs : List X) (ps ys : List Y) → IsPairing R xs ps ys
+  pub map-pairing : (xs : List X) (ps ys : List Y) → IsPairing R xs ps ys
       → IsPairing S (map f xs) (map g ps) (map g ys)
-  map_pairing [] [] ys h = ap (map g) h
-  map_pairing [] (p ∷ ps) ys h = absurd h
-  map_pairing (x ∷ xs) [] ys h = absurd h
-  map_pairing (x ∷ xs) (p ∷ ps) ys h = (
+  map-pairing [] [] ys h = ap (map g) h
+  map-pairing [] (p ∷ ps) ys h = absurd h
+  map-pairing (x ∷ xs) [] ys h = absurd h
+  map-pairing (x ∷ xs) (p ∷ ps) ys h = (
     (same x p).0 h.0,
-    (map g h.1.0, map_picked g h.1.1, map_pairing xs ps h.1.0 h.1.2),
+    (map g h.1.0, map-picked g h.1.1, map-pairing xs ps h.1.0 h.1.2),
   )
 
-  pub map_pairs : (xs : List X) (ps ys left : List Y) → PairsOff R xs ps ys left
+  pub map-pairs : (xs : List X) (ps ys left : List Y) → PairsOff R xs ps ys left
       → PairsOff S (map f xs) (map g ps) (map g ys) (map g left)
-  map_pairs [] [] ys left h = ap (map g) h
-  map_pairs [] (p ∷ ps) ys left h = absurd h
-  map_pairs (x ∷ xs) [] ys left h = absurd h
-  map_pairs (x ∷ xs) (p ∷ ps) ys left h =
-      (map g h.0, map_first x h.1, map_pairs xs ps h.0 left h.2)
+  map-pairs [] [] ys left h = ap (map g) h
+  map-pairs [] (p ∷ ps) ys left h = absurd h
+  map-pairs (x ∷ xs) [] ys left h = absurd h
+  map-pairs (x ∷ xs) (p ∷ ps) ys left h =
+      (map g h.0, map-first x h.1, map-pairs xs ps h.0 left h.2)
 
-  pub map_paired : (xs : List X) (ys : List Y) (places : List ℕ) → ArePaired R xs ys places
+  pub map-paired : (xs : List X) (ys : List Y) (places : List ℕ) → ArePaired R xs ys places
       → ArePaired S (map f xs) (map g ys) places
-  map_paired xs ys places h = record {
+  map-paired xs ys places h = record {
     partners = map g h.partners;
-    at_places = map_at g ys places h.partners h.at_places;
+    at_places = map-at g ys places h.partners h.at_places;
     distinct = h.distinct;
-    first = map_pairs xs h.partners ys [] h.first;
-    pairing = map_pairing xs h.partners ys h.pairing;
+    first = map-pairs xs h.partners ys [] h.first;
+    pairing = map-pairing xs h.partners ys h.pairing;
   }
 
-  pub map_unpaired : (xs : List X) (ys : List Y) (fault : PairFault) → AreUnpaired R xs ys fault
+  pub map-unpaired : (xs : List X) (ys : List Y) (fault : PairFault) → AreUnpaired R xs ys fault
       → AreUnpaired S (map f xs) (map g ys) fault
-  map_unpaired xs ys (Unpaired place) h = record {
+  map-unpaired xs ys (Unpaired place) h = record {
     done = map f h.done;
     x = f h.x;
     more = map f h.more;
     partners = map g h.partners;
     left = map g h.left;
-    parts = ap (map f) h.parts ∙ map_more f h.done (h.x ∷ h.more);
+    parts = ap (map f) h.parts ∙ map-more f h.done (h.x ∷ h.more);
     at_place = length-map h.done f ∙ h.at_place;
-    pairs = map_pairs h.done h.partners ys h.left h.pairs;
-    none = map_none h.x h.left h.none;
+    pairs = map-pairs h.done h.partners ys h.left h.pairs;
+    none = map-none h.x h.left h.none;
   }
-  map_unpaired xs ys LeftOver h = record {
+  map-unpaired xs ys LeftOver h = record {
     partners = map g h.partners;
     left = map g h.left;
-    pairs = map_pairs xs h.partners ys h.left h.pairs;
-    some = λ e. h.some (no_image g h.left e);
+    pairs = map-pairs xs h.partners ys h.left h.pairs;
+    some = λ e. h.some (no-image g h.left e);
   }
-  map_unpaired xs ys Memory h = tt
+  map-unpaired xs ys Memory h = tt
 
 pub pairs_along_map : {X Y A B : Type 0} (f : X → A) (g : Y → B) (R : X → Y → Type 0)
     (S : A → B → Type 0) → ((x : X) (y : Y) → R x y ↔ S (f x) (g y)) → PairsAlongMap f g R S
 pairs_along_map f g R S same xs ys =
-    (map_paired f g R S same xs ys, map_unpaired f g R S same xs ys)
+    (map-paired f g R S same xs ys, map-unpaired f g R S same xs ys)
 
 -- handles that have the identifiers and the verdict of what they stand for are related as these are
-pub same_pair : {X Y A B : Type 0} (f : X → A) (g : Y → B) (s : X → List ℕ) (h : Y → List ℕ)
+pub same-pair : {X Y A B : Type 0} (f : X → A) (g : Y → B) (s : X → List ℕ) (h : Y → List ℕ)
     (v : X → Y → Bool) (t : A → List ℕ) (k : B → List ℕ) (w : A → B → Bool)
     → ((x : X) → s x ≡ t (f x)) → ((y : Y) → h y ≡ k (g y))
     → ((x : X) (y : Y) → v x y ≡ w (f x) (g y)) → (x : X) (y : Y)
     → IsPair s h v x y ↔ IsPair t k w (f x) (g y)
-same_pair f g s h v t k w es eh ev x y = (
+same-pair f g s h v t k w es eh ev x y = (
   λ p. (sym (es x) ∙ p.0 ∙ eh y, sym (ev x y) ∙ p.1),
   λ p. (es x ∙ p.0 ∙ sym (eh y), ev x y ∙ p.1),
 )
@@ -153,16 +153,16 @@ module _ {C R : Type 0} (cert : C → Cert) (crl : R → Crl) where
       ∙ ap (λ m. at_place n (record (cert d) { revokes = (crl l).serials }) ∷ m)
       (placed_are_authorities (suc n) cas crls with h.1)
 
-  pub have_more : (cas : List C) (crls : List R) (with : List C) (d : C) (l : R) (e : C)
+  pub have-more : (cas : List C) (crls : List R) (with : List C) (d : C) (l : R) (e : C)
       → HaveCrls cert crl cas crls with → cert e ≡ record (cert d) { revokes = (crl l).serials }
       → HaveCrls cert crl (cas ++ d ∷ []) (crls ++ l ∷ []) (with ++ e ∷ [])
-  have_more [] [] [] d l e h s = (s, tt)
-  have_more [] [] (w ∷ with) d l e h s = absurd h
-  have_more [] (k ∷ crls) with d l e h s = absurd h
-  have_more (c ∷ cas) [] with d l e h s = absurd h
-  have_more (c ∷ cas) (k ∷ crls) [] d l e h s = absurd h
-  have_more (c ∷ cas) (k ∷ crls) (w ∷ with) d l e h s =
-      (h.0, have_more cas crls with d l e h.1 s)
+  have-more [] [] [] d l e h s = (s, tt)
+  have-more [] [] (w ∷ with) d l e h s = absurd h
+  have-more [] (k ∷ crls) with d l e h s = absurd h
+  have-more (c ∷ cas) [] with d l e h s = absurd h
+  have-more (c ∷ cas) (k ∷ crls) [] d l e h s = absurd h
+  have-more (c ∷ cas) (k ∷ crls) (w ∷ with) d l e h s =
+      (h.0, have-more cas crls with d l e h.1 s)
 
 -- ---- where they are not paired off
 
@@ -178,10 +178,10 @@ unmatched_is_not_accepted a fault paths dist other (inr (inr h)) acc =
     (what_fits_is_alike a dist).2 (acc.found.crls, acc.found.matching.crl_of)
 
 -- whatever has the identifier has the verdict, of handles too
-pub cheap_along_map : {X Y A B : Type 0} (f : X → A) (g : Y → B) (s : X → List ℕ) (h : Y → List ℕ)
+pub cheap-along-map : {X Y A B : Type 0} (f : X → A) (g : Y → B) (s : X → List ℕ) (h : Y → List ℕ)
     (v : X → Y → Bool) (t : A → List ℕ) (k : B → List ℕ) (w : A → B → Bool)
     → ((x : X) → s x ≡ t (f x)) → ((y : Y) → h y ≡ k (g y))
     → ((x : X) (y : Y) → v x y ≡ w (f x) (g y)) → (xs : List X) (ys : List Y)
     → AllVerifyEach t k w (map f xs) (map g ys) → AllVerifyEach s h v xs ys
-cheap_along_map f g s h v t k w es eh ev xs ys all x i y j named =
-    ev x y ∙ all (f x) (in_image f xs x i) (g y) (in_image g ys y j) (sym (es x) ∙ named ∙ eh y)
+cheap-along-map f g s h v t k w es eh ev xs ys all x i y j named =
+    ev x y ∙ all (f x) (in-image f xs x i) (g y) (in-image g ys y j) (sym (es x) ∙ named ∙ eh y)

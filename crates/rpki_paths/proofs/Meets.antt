@@ -1,6 +1,7 @@
 -- The set that is kept of a path is the meet of its explicit sets.
 use Rattle.std.proofs.Common.{◌≡◌, ℕ, Bool, true, false, ◌&&◌, List, [], ◌∷◌, Option, None, Some}
 use Rattle.std.proofs.Common.{IsTrue, refl, sym, ap, ◌∙◌, subst, inl, inr}
+use Rattle.std.proofs.Math.Bool.{and_comm, and-true}
 use Rattle.std.proofs.lemmas.Bool.{and_parts, true≢false}
 use Rattle.rpki_resources.specs.declared.block.Block.{Block}
 use Rattle.rpki_resources.specs.declared.resources.Claim.{Claim}
@@ -19,16 +20,6 @@ use Rattle.rpki_paths.specs.Anchor.{Supply, Tal, Ca, Takes, supplied_claim}
 use Rattle.rpki_paths.specs.Laws.{ClimbKeepsMeet, AnchoredIsPathSet, AnchoredIsKnown}
 use Rattle.rpki_paths.specs.Laws.{PathSetIsWithinEach}
 
-and-true : (a : Bool) → a && true ≡ a
-and-true true = refl
-and-true false = refl
-
-and_comm : (a b : Bool) → a && b ≡ b && a
-and_comm true true = refl
-and_comm true false = refl
-and_comm false true = refl
-and_comm false false = refl
-
 -- what lies in a set is not cut by it
 absorbed : (a b : Bool) → (IsTrue b → IsTrue a) → b ≡ a && b
 absorbed true b h = refl
@@ -42,16 +33,16 @@ CoversNearest f Refuse [] set = Unit {0}
 CoversNearest f Refuse (t ∷ r) set = (n : ℕ) → IsTrue (holds f t n) → IsTrue (holds f set n)
 CoversNearest f Trim sets set = Unit {0}
 
-covers_nearest : {T : Type 0} (f : T → ℕ) (mode : Overclaim) (sets : List (List (Block T)))
+covers-nearest : {T : Type 0} (f : T → ℕ) (mode : Overclaim) (sets : List (List (Block T)))
     (claim : Claim (List (Block T))) (set : List (Block T)) → HasBlocks claim set
     → IsCovered f mode sets claim → CoversNearest f mode sets set
-covers_nearest f Refuse [] claim set named cov = tt
-covers_nearest f Refuse (t ∷ r) Missing set named cov =
+covers-nearest f Refuse [] claim set named cov = tt
+covers-nearest f Refuse (t ∷ r) Missing set named cov =
     λ n h. absurd (true≢false (sym h ∙ ap (λ l. holds f l n) cov))
-covers_nearest f Refuse (t ∷ r) Inherit set named cov = absurd named
-covers_nearest f Refuse (t ∷ r) (Explicit s) set named cov = λ n h. ap (λ l. holds f l n) named
+covers-nearest f Refuse (t ∷ r) Inherit set named cov = absurd named
+covers-nearest f Refuse (t ∷ r) (Explicit s) set named cov = λ n h. ap (λ l. holds f l n) named
     ∙ cov n h
-covers_nearest f Trim sets claim set named cov = tt
+covers-nearest f Trim sets claim set named cov = tt
 
 raised : {T : Type 0} (f : T → ℕ) (mode : Overclaim) (old new : Option (Kept (List (Block T))))
     (set : List (Block T)) (sets : List (List (Block T))) →
@@ -76,20 +67,20 @@ raised f Refuse (Some old) (Some new) set (t ∷ r) stands cov step = (
       (λ e. cov n (and_parts (holds f t n) (meet f r n) e).0),
 )
 
-with_named : {T : Type 0} (claim : Claim (List (Block T))) (set : List (Block T))
+with-named : {T : Type 0} (claim : Claim (List (Block T))) (set : List (Block T))
     (sets : List (List (Block T))) → HasBlocks claim set → set ∷ sets ≡ with_claim claim sets
-with_named Missing set sets h = ap (λ l. l ∷ sets) h
-with_named Inherit set sets h = absurd h
-with_named (Explicit s) set sets h = ap (λ l. l ∷ sets) h
+with-named Missing set sets h = ap (λ l. l ∷ sets) h
+with-named Inherit set sets h = absurd h
+with-named (Explicit s) set sets h = ap (λ l. l ∷ sets) h
 
-pub climb_keeps : {T : Type 0} (f : T → ℕ) → ClimbKeepsMeet f
-climb_keeps f mode old new claim sets stands cov (inl step) =
+pub climb-keeps : {T : Type 0} (f : T → ℕ) → ClimbKeepsMeet f
+climb-keeps f mode old new claim sets stands cov (inl step) =
     subst (λ o. StandsFor f o (with_claim claim sets)) (sym step.1)
     (subst (λ c. StandsFor f old (with_claim c sets)) (sym step.0) stands)
-climb_keeps f mode old new claim sets stands cov (inr step) =
-    subst (λ l. StandsFor f new l) (with_named claim step.0 sets step.1)
+climb-keeps f mode old new claim sets stands cov (inr step) =
+    subst (λ l. StandsFor f new l) (with-named claim step.0 sets step.1)
     (raised f mode old new step.0 sets stands
-    (covers_nearest f mode sets claim step.0 step.1 cov) step.2)
+    (covers-nearest f mode sets claim step.0 step.1 cov) step.2)
 
 -- what is kept tells whether the claim covers what is below
 pub covers_kept : {T : Type 0} (f : T → ℕ) (mode : Overclaim)
@@ -102,66 +93,66 @@ covers_kept f Refuse (Some k) (s ∷ sets) claim stands cov =
     subst (λ l. IsCoveredBy f claim l) (sym stands.0) cov
 covers_kept f Trim kept sets claim stands cov = tt
 
-pub from_covers_kept : {T : Type 0} (f : T → ℕ) (mode : Overclaim)
+pub from-covers_kept : {T : Type 0} (f : T → ℕ) (mode : Overclaim)
     (kept : Option (Kept (List (Block T)))) (sets : List (List (Block T)))
     (claim : Claim (List (Block T))) →
     StandsFor f kept sets → CoversKept f mode kept claim → IsCovered f mode sets claim
-from_covers_kept f Refuse None sets claim stands cov =
+from-covers_kept f Refuse None sets claim stands cov =
     subst (λ l. IsCovered f Refuse l claim) (sym stands) tt
-from_covers_kept f Refuse (Some k) [] claim stands cov = absurd stands
-from_covers_kept f Refuse (Some k) (s ∷ sets) claim stands cov =
+from-covers_kept f Refuse (Some k) [] claim stands cov = absurd stands
+from-covers_kept f Refuse (Some k) (s ∷ sets) claim stands cov =
     subst (λ l. IsCoveredBy f claim l) stands.0 cov
-from_covers_kept f Trim kept sets claim stands cov = tt
+from-covers_kept f Trim kept sets claim stands cov = tt
 
-covered_inherit : (mode : Overclaim) (sets : List Numbers) → IsCovered (λ n. n) mode sets Inherit
-covered_inherit Refuse [] = tt
-covered_inherit Refuse (s ∷ sets) = tt
-covered_inherit Trim sets = tt
+covered-inherit : (mode : Overclaim) (sets : List Numbers) → IsCovered (λ n. n) mode sets Inherit
+covered-inherit Refuse [] = tt
+covered-inherit Refuse (s ∷ sets) = tt
+covered-inherit Trim sets = tt
 
-pub anchored_stands : (head : Cert) (p : List Cert) (s : Supply) (f : Family)
+pub anchored-stands : (head : Cert) (p : List Cert) (s : Supply) (f : Family)
     (old new : Option (Kept Numbers)) → StandsFor (λ n. n) old (explicit_sets (head ∷ p) f) →
     Takes (head ∷ p) s → IsClimbed (λ n. n) head.overclaim old (supplied_claim s f) new →
     StandsFor (λ n. n) new (with_claim (supplied_claim s f) (explicit_sets (head ∷ p) f))
-anchored_stands head p (Tal key) f old new stands takes step =
-    climb_keeps (λ n. n) head.overclaim old new Inherit (explicit_sets (head ∷ p) f) stands
-    (covered_inherit head.overclaim (explicit_sets (head ∷ p) f)) step
-anchored_stands head p (Ca ski key sets) f old new stands takes step =
-    climb_keeps (λ n. n) head.overclaim old new (Explicit (sets f))
+anchored-stands head p (Tal key) f old new stands takes step =
+    climb-keeps (λ n. n) head.overclaim old new Inherit (explicit_sets (head ∷ p) f) stands
+    (covered-inherit head.overclaim (explicit_sets (head ∷ p) f)) step
+anchored-stands head p (Ca ski key sets) f old new stands takes step =
+    climb-keeps (λ n. n) head.overclaim old new (Explicit (sets f))
     (explicit_sets (head ∷ p) f) stands (takes f) step
 
 -- what is kept has the numbers that all sets have
-pub kept_numbers : (kept : Kept Numbers) (sets : List Numbers) → StandsFor (λ n. n) (Some kept) sets
+pub kept-numbers : (kept : Kept Numbers) (sets : List Numbers) → StandsFor (λ n. n) (Some kept) sets
     → (n : ℕ) → holds (λ k. k) kept.met n ≡ meet (λ k. k) sets n
-kept_numbers kept [] stands n = absurd stands
-kept_numbers kept (t ∷ r) stands n = stands.1 n
+kept-numbers kept [] stands n = absurd stands
+kept-numbers kept (t ∷ r) stands n = stands.1 n
 
-pub anchored_set : AnchoredIsPathSet
-anchored_set head p s f old new stands takes step =
-    kept_numbers new (with_claim (supplied_claim s f) (explicit_sets (head ∷ p) f))
-    (anchored_stands head p s f old (Some new) stands takes step)
+pub anchored-set : AnchoredIsPathSet
+anchored-set head p s f old new stands takes step =
+    kept-numbers new (with_claim (supplied_claim s f) (explicit_sets (head ∷ p) f))
+    (anchored-stands head p s f old (Some new) stands takes step)
 
-none_inherits : (claim : Claim Numbers) (sets : List Numbers) → with_claim claim sets ≡ []
+none-inherits : (claim : Claim Numbers) (sets : List Numbers) → with_claim claim sets ≡ []
     → claim ≡ Inherit
-none_inherits Missing sets e = absurd cc
-none_inherits Inherit sets e = refl
-none_inherits (Explicit s) sets e = absurd cc
+none-inherits Missing sets e = absurd cc
+none-inherits Inherit sets e = refl
+none-inherits (Explicit s) sets e = absurd cc
 
-pub anchored_known : AnchoredIsKnown
-anchored_known head p (Tal key) f explicit takes e =
-    explicit takes.0 (none_inherits (head.claim f) (explicit_sets p f) e)
-anchored_known head p (Ca ski key sets) f explicit takes e = absurd cc
+pub anchored-known : AnchoredIsKnown
+anchored-known head p (Tal key) f explicit takes e =
+    explicit takes.0 (none-inherits (head.claim f) (explicit_sets p f) e)
+anchored-known head p (Ca ski key sets) f explicit takes e = absurd cc
 
-meet_within : (sets : List Numbers) (t : Numbers) → IsIn t sets → (n : ℕ)
+meet-within : (sets : List Numbers) (t : Numbers) → IsIn t sets → (n : ℕ)
     → IsTrue (meet (λ k. k) sets n) → IsTrue (holds (λ k. k) t n)
-meet_within [] t i n h = absurd i
-meet_within (s ∷ sets) t i n h =
+meet-within [] t i n h = absurd i
+meet-within (s ∷ sets) t i n h =
     let parts = and_parts (holds (λ k. k) s n) (meet (λ k. k) sets n) h in
     elim i [
       | inl e ↦ ap (λ (u : Numbers). holds (λ k. k) u n) e
           ∙ parts.0
-      | inr j ↦ meet_within sets t j n parts.1
+      | inr j ↦ meet-within sets t j n parts.1
     ]
 
-pub path_set_within : PathSetIsWithinEach
-path_set_within p s f t i n h =
-    meet_within (with_claim (supplied_claim s f) (explicit_sets p f)) t i n h
+pub path_set-within : PathSetIsWithinEach
+path_set-within p s f t i n h =
+    meet-within (with_claim (supplied_claim s f) (explicit_sets p f)) t i n h

@@ -11,133 +11,133 @@ use Rattle.rpki_paths.specs.Pairing.{IsPicked, here, there, IsPairing, IsPairabl
 use Rattle.rpki_paths.specs.Taking.{left_of, IsFirst, first, later, FitsNone, IsTakenAt, PairsOff}
 use Rattle.rpki_paths.specs.Taking.{AreAt, ArePaired, FindsNone, LeavesSome}
 use Rattle.rpki_paths.specs.Laws.{FirstFitsFindPairing, LeftOverIsUnpairable, UnpairedIsUnpairable}
-use Rattle.rpki_paths.proofs.Pairings.{picked_in, picked_sub, any_choice_pairs}
+use Rattle.rpki_paths.proofs.Pairings.{picked-in, picked-sub, any_choice_pairs}
 
 -- ---- the first that fits is picked
 
 module _ {A : Type 0} (P : A → Type 0) where
-  pub first_picked : {y : A} {rest ys : List A} → IsFirst P y rest ys → IsPicked y rest ys
-  first_picked (first p) = here
-  first_picked (later n f) = there (first_picked f)
+  pub first-picked : {y : A} {rest ys : List A} → IsFirst P y rest ys → IsPicked y rest ys
+  first-picked (first p) = here
+  first-picked (later n f) = there (first-picked f)
 
-  pub first_fits : {y : A} {rest ys : List A} → IsFirst P y rest ys → P y
-  first_fits (first p) = p
-  first_fits (later n f) = first_fits f
+  pub first-fits : {y : A} {rest ys : List A} → IsFirst P y rest ys → P y
+  first-fits (first p) = p
+  first-fits (later n f) = first-fits f
 
-length_picked : {A : Type 0} {x : A} {r xs : List A} → IsPicked x r xs
+length-picked : {A : Type 0} {x : A} {r xs : List A} → IsPicked x r xs
     → length xs ≡ suc (length r)
-length_picked here = refl
-length_picked (there p) = ap suc (length_picked p)
+length-picked here = refl
+length-picked (there p) = ap suc (length-picked p)
 
 -- what a loan of a whole list writes back
-pub written_back : {A : Type 0} (n : ℕ) (new old : List A) → length new ≡ length old
+pub written-back : {A : Type 0} (n : ℕ) (new old : List A) → length new ≡ length old
     → length new ≤ n → take n (new ++ drop (length new) old) ≡ new
-written_back {A} n new old e le = ap (take n) (all_written new old e) ∙ take_all n new le
+written-back {A} n new old e le = ap (take n) (all-written new old e) ∙ take_all n new le
   where
-    all_written : (xs ys : List A) → length xs ≡ length ys → xs ++ drop (length xs) ys ≡ xs
-    all_written [] [] f = refl
-    all_written [] (y ∷ ys) f = absurd (omega (arith, f))
-    all_written (x ∷ xs) [] f = absurd (omega (arith, f))
-    all_written (x ∷ xs) (y ∷ ys) f = ap (λ l. x ∷ l) (all_written xs ys (omega (arith, f)))
+    all-written : (xs ys : List A) → length xs ≡ length ys → xs ++ drop (length xs) ys ≡ xs
+    all-written [] [] f = refl
+    all-written [] (y ∷ ys) f = absurd (omega (arith, f))
+    all-written (x ∷ xs) [] f = absurd (omega (arith, f))
+    all-written (x ∷ xs) (y ∷ ys) f = ap (λ l. x ∷ l) (all-written xs ys (omega (arith, f)))
 
 -- the others after the item at a place
-pub split_at : {A : Type 0} (xs : List A) (i : ℕ) (x : A) → slice_get xs i ≡ Some x
+pub split-at : {A : Type 0} (xs : List A) (i : ℕ) (x : A) → slice_get xs i ≡ Some x
     → (more : List A) × (take i xs ++ x ∷ more ≡ xs)
-split_at [] i x e = absurd cc
-split_at (y ∷ xs) zero x e = (xs, ap (λ z. z ∷ xs) (let s : x ≡ y = cc in s))
-split_at (y ∷ xs) (suc i) x e =
-    let t = split_at xs i x e in (t.0, ap (λ l. y ∷ l) t.1)
+split-at [] i x e = absurd cc
+split-at (y ∷ xs) zero x e = (xs, ap (λ z. z ∷ xs) (let s : x ≡ y = cc in s))
+split-at (y ∷ xs) (suc i) x e =
+    let t = split-at xs i x e in (t.0, ap (λ l. y ∷ l) t.1)
 
-pub left_all : {A : Type 0} (ys : List A) → left_of (replicate (length ys) false) ys ≡ ys
-left_all [] = refl
-left_all (y ∷ ys) = ap (λ l. y ∷ l) (left_all ys)
+pub left-all : {A : Type 0} (ys : List A) → left_of (replicate (length ys) false) ys ≡ ys
+left-all [] = refl
+left-all (y ∷ ys) = ap (λ l. y ∷ l) (left-all ys)
 
-pub left_in : {A : Type 0} (marks : List Bool) (ys : List A) (y : A) → IsIn y (left_of marks ys)
+pub left-in : {A : Type 0} (marks : List Bool) (ys : List A) (y : A) → IsIn y (left_of marks ys)
     → IsIn y ys
-left_in [] ys y i = absurd i
-left_in (t ∷ marks) [] y i = absurd i
-left_in (true ∷ marks) (z ∷ ys) y i = inr (left_in marks ys y i)
-left_in (false ∷ marks) (z ∷ ys) y (inl e) = inl e
-left_in (false ∷ marks) (z ∷ ys) y (inr i) = inr (left_in marks ys y i)
+left-in [] ys y i = absurd i
+left-in (t ∷ marks) [] y i = absurd i
+left-in (true ∷ marks) (z ∷ ys) y i = inr (left-in marks ys y i)
+left-in (false ∷ marks) (z ∷ ys) y (inl e) = inl e
+left-in (false ∷ marks) (z ∷ ys) y (inr i) = inr (left-in marks ys y i)
 
-pub at_more : {A : Type 0} (ys : List A) (places : List ℕ) (items : List A) (place : ℕ) (p : A)
+pub at-more : {A : Type 0} (ys : List A) (places : List ℕ) (items : List A) (place : ℕ) (p : A)
     → AreAt ys places items → slice_get ys place ≡ Some p
     → AreAt ys (places ++ place ∷ []) (items ++ p ∷ [])
-at_more ys [] [] place p h e = (e, tt)
-at_more ys [] (q ∷ items) place p h e = absurd h
-at_more ys (k ∷ places) [] place p h e = absurd h
-at_more ys (k ∷ places) (q ∷ items) place p h e = (h.0, at_more ys places items place p h.1 e)
+at-more ys [] [] place p h e = (e, tt)
+at-more ys [] (q ∷ items) place p h e = absurd h
+at-more ys (k ∷ places) [] place p h e = absurd h
+at-more ys (k ∷ places) (q ∷ items) place p h e = (h.0, at-more ys places items place p h.1 e)
 
 -- ---- marks of places
 
-set_keeps : (marks : List Bool) (i k : ℕ) → slice_get marks k ≡ Some true
+set-keeps : (marks : List Bool) (i k : ℕ) → slice_get marks k ≡ Some true
     → slice_get (set marks i true) k ≡ Some true
-set_keeps [] i k e = absurd cc
-set_keeps (m ∷ marks) zero zero e = refl
-set_keeps (m ∷ marks) zero (suc k) e = e
-set_keeps (m ∷ marks) (suc i) zero e = e
-set_keeps (m ∷ marks) (suc i) (suc k) e = set_keeps marks i k e
+set-keeps [] i k e = absurd cc
+set-keeps (m ∷ marks) zero zero e = refl
+set-keeps (m ∷ marks) zero (suc k) e = e
+set-keeps (m ∷ marks) (suc i) zero e = e
+set-keeps (m ∷ marks) (suc i) (suc k) e = set-keeps marks i k e
 
-set_here : (marks : List Bool) (i : ℕ) → slice_get marks i ≡ Some false
+set-here : (marks : List Bool) (i : ℕ) → slice_get marks i ≡ Some false
     → slice_get (set marks i true) i ≡ Some true
-set_here [] i e = absurd cc
-set_here (m ∷ marks) zero e = refl
-set_here (m ∷ marks) (suc i) e = set_here marks i e
+set-here [] i e = absurd cc
+set-here (m ∷ marks) zero e = refl
+set-here (m ∷ marks) (suc i) e = set-here marks i e
 
 -- these places are marked
 abbrev pub AreTaken : List Bool → List ℕ → Type 0
 AreTaken marks places = (k : ℕ) → IsIn k places → slice_get marks k ≡ Some true
 
-in_more : {A : Type 0} (xs : List A) (x k : A) → IsIn k (xs ++ x ∷ []) → IsIn k xs ⊎ (k ≡ x)
-in_more [] x k (inl e) = inr e
-in_more [] x k (inr i) = absurd i
-in_more (y ∷ xs) x k (inl e) = inl (inl e)
-in_more (y ∷ xs) x k (inr i) = elim (in_more xs x k i) [ inl j ↦ inl (inr j) | inr e ↦ inr e ]
+in-more : {A : Type 0} (xs : List A) (x k : A) → IsIn k (xs ++ x ∷ []) → IsIn k xs ⊎ (k ≡ x)
+in-more [] x k (inl e) = inr e
+in-more [] x k (inr i) = absurd i
+in-more (y ∷ xs) x k (inl e) = inl (inl e)
+in-more (y ∷ xs) x k (inr i) = elim (in-more xs x k i) [ inl j ↦ inl (inr j) | inr e ↦ inr e ]
 
-no_twice_more : {A : Type 0} (xs : List A) (x : A) → NoTwice xs → ¬ (IsIn x xs)
+no-twice-more : {A : Type 0} (xs : List A) (x : A) → NoTwice xs → ¬ (IsIn x xs)
     → NoTwice (xs ++ x ∷ [])
-no_twice_more [] x h n = (λ i. i, tt)
-no_twice_more (y ∷ xs) x h n = (
-  λ i. elim (in_more xs x y i) [ inl j ↦ h.0 j | inr e ↦ n (inl (sym e)) ],
-  no_twice_more xs x h.1 (λ i. n (inr i)),
+no-twice-more [] x h n = (λ i. i, tt)
+no-twice-more (y ∷ xs) x h n = (
+  λ i. elim (in-more xs x y i) [ inl j ↦ h.0 j | inr e ↦ n (inl (sym e)) ],
+  no-twice-more xs x h.1 (λ i. n (inr i)),
 )
 
-not_marked : (marks : List Bool) (place : ℕ) → slice_get marks place ≡ Some false
+not-marked : (marks : List Bool) (place : ℕ) → slice_get marks place ≡ Some false
     → ¬ (slice_get marks place ≡ Some true)
-not_marked marks place e f = absurd cc
+not-marked marks place e f = absurd cc
 
 module _ {A B : Type 0} (R : A → B → Type 0) where
   -- one more takes the first that fits
-  pub pairs_more : (xs : List A) (ps ys left rest : List B) (x : A) (p : B)
+  pub pairs-more : (xs : List A) (ps ys left rest : List B) (x : A) (p : B)
       → PairsOff R xs ps ys left → IsFirst (R x) p rest left
       → PairsOff R (xs ++ x ∷ []) (ps ++ p ∷ []) ys rest
-  pairs_more [] [] ys left rest x p h f =
+  pairs-more [] [] ys left rest x p h f =
       (rest, subst (λ l. IsFirst (R x) p rest l) (sym h) f, refl)
-  pairs_more [] (q ∷ ps) ys left rest x p h f = absurd h
-  pairs_more (z ∷ xs) [] ys left rest x p h f = absurd h
-  pairs_more (z ∷ xs) (q ∷ ps) ys left rest x p h f =
-      (h.0, h.1, pairs_more xs ps h.0 left rest x p h.2 f)
+  pairs-more [] (q ∷ ps) ys left rest x p h f = absurd h
+  pairs-more (z ∷ xs) [] ys left rest x p h f = absurd h
+  pairs-more (z ∷ xs) (q ∷ ps) ys left rest x p h f =
+      (h.0, h.1, pairs-more xs ps h.0 left rest x p h.2 f)
 
-  pub pairs_length : (xs : List A) (ps ys left : List B) → PairsOff R xs ps ys left
+  pub pairs-length : (xs : List A) (ps ys left : List B) → PairsOff R xs ps ys left
       → length ys ≡ length xs + length left
-  pairs_length [] [] ys left h =
+  pairs-length [] [] ys left h =
       let same : length ys ≡ length left = ap (λ (l : List B). length l) h in omega (arith, same)
-  pairs_length [] (q ∷ ps) ys left h = absurd h
-  pairs_length (z ∷ xs) [] ys left h = absurd h
-  pairs_length (z ∷ xs) (q ∷ ps) ys left h =
+  pairs-length [] (q ∷ ps) ys left h = absurd h
+  pairs-length (z ∷ xs) [] ys left h = absurd h
+  pairs-length (z ∷ xs) (q ∷ ps) ys left h =
       omega (
         arith,
-        length_picked (first_picked (R z) h.1),
-        pairs_length xs ps h.0 left h.2,
+        length-picked (first-picked (R z) h.1),
+        pairs-length xs ps h.0 left h.2,
       )
 
-  pub pairing_length : (xs : List A) (ps ys : List B) → IsPairing R xs ps ys
+  pub pairing-length : (xs : List A) (ps ys : List B) → IsPairing R xs ps ys
       → length xs ≡ length ys
-  pairing_length [] [] ys h = ap (λ (l : List B). length l) (sym h)
-  pairing_length [] (p ∷ ps) ys h = absurd h
-  pairing_length (x ∷ xs) [] ys h = absurd h
-  pairing_length (x ∷ xs) (p ∷ ps) ys h =
-      omega (arith, pairing_length xs ps h.1.0 h.1.2, length_picked h.1.1)
+  pairing-length [] [] ys h = ap (λ (l : List B). length l) (sym h)
+  pairing-length [] (p ∷ ps) ys h = absurd h
+  pairing-length (x ∷ xs) [] ys h = absurd h
+  pairing-length (x ∷ xs) (p ∷ ps) ys h =
+      omega (arith, pairing-length xs ps h.1.0 h.1.2, length-picked h.1.1)
 
   -- what pairs off to the end is a pairing
   pub pairs_are_pairing : (xs : List A) (ps ys : List B) → PairsOff R xs ps ys []
@@ -146,38 +146,38 @@ module _ {A B : Type 0} (R : A → B → Type 0) where
   pairs_are_pairing [] (p ∷ ps) ys h = absurd h
   pairs_are_pairing (x ∷ xs) [] ys h = absurd h
   pairs_are_pairing (x ∷ xs) (p ∷ ps) ys h = (
-    first_fits (R x) h.1,
-    (h.0, first_picked (R x) h.1, pairs_are_pairing xs ps h.0 h.2),
+    first-fits (R x) h.1,
+    (h.0, first-picked (R x) h.1, pairs_are_pairing xs ps h.0 h.2),
   )
 
-  alike_tail : (x : A) (xs : List A) (p : B) (rest ys : List B) → AreAlike R (x ∷ xs) ys
+  alike-tail : (x : A) (xs : List A) (p : B) (rest ys : List B) → AreAlike R (x ∷ xs) ys
       → IsPicked p rest ys → AreAlike R xs rest
-  alike_tail x xs p rest ys alike pick y y' z z' i i' j j' =
-      alike y y' z z' (inr i) (inr i') (picked_sub pick z j) (picked_sub pick z' j')
+  alike-tail x xs p rest ys alike pick y y' z z' i i' j j' =
+      alike y y' z z' (inr i) (inr i') (picked-sub pick z j) (picked-sub pick z' j')
 
-  no_partner : (x : A) (more : List A) (ps ys left : List B) → ys ≡ left → FitsNone (R x) left
+  no-partner : (x : A) (more : List A) (ps ys left : List B) → ys ≡ left → FitsNone (R x) left
       → ¬ (IsPairing R (x ∷ more) ps ys)
-  no_partner x more [] ys left h none pairing = pairing
-  no_partner x more (p ∷ ps) ys left h none pairing =
-      none p (subst (λ l. IsIn p l) h (picked_in pairing.1.1)) pairing.0
+  no-partner x more [] ys left h none pairing = pairing
+  no-partner x more (p ∷ ps) ys left h none pairing =
+      none p (subst (λ l. IsIn p l) h (picked-in pairing.1.1)) pairing.0
 
   -- where none that is left fits the next, there is no pairing
   pub unpairable : (done : List A) (x : A) (more : List A) (ps ys left : List B)
       → PairsOff R done ps ys left → AreAlike R (done ++ x ∷ more) ys → FitsNone (R x) left
       → ¬ (IsPairable R (done ++ x ∷ more) ys)
   unpairable [] x more [] ys left h alike none pairable =
-      no_partner x more pairable.0 ys left h none pairable.1
+      no-partner x more pairable.0 ys left h none pairable.1
   unpairable [] x more (q ∷ ps) ys left h alike none pairable = absurd h
   unpairable (d ∷ done) x more [] ys left h alike none pairable = absurd h
   unpairable (d ∷ done) x more (q ∷ ps) ys left h alike none pairable =
-      let pick = first_picked (R d) h.1 in
+      let pick = first-picked (R d) h.1 in
       unpairable done x more ps h.0 left h.2
-      (alike_tail d (done ++ x ∷ more) q h.0 ys alike pick) none
+      (alike-tail d (done ++ x ∷ more) q h.0 ys alike pick) none
       (any_choice_pairs R d q (done ++ x ∷ more) ys h.0 alike pairable pick
-      (first_fits (R d) h.1))
+      (first-fits (R d) h.1))
 
-  pub finds_partner : FirstFitsFindPairing R
-  finds_partner done x more ps ys left h alike pairable none =
+  pub finds-partner : FirstFitsFindPairing R
+  finds-partner done x more ps ys left h alike pairable none =
       unpairable done x more ps ys left h alike none pairable
 
   -- the middle of a pairing: what is taken so far, and what is left
@@ -189,41 +189,41 @@ module _ {A B : Type 0} (R : A → B → Type 0) where
     pub taken : AreTaken marks places
     pub pairs : PairsOff R (take i xs) partners ys (left_of marks ys)
 
-  pub pairing_none : (xs : List A) (ys : List B) (marks : List Bool) (places : List ℕ)
+  pub pairing-none : (xs : List A) (ys : List B) (marks : List Bool) (places : List ℕ)
       → marks ≡ replicate (length ys) false → places ≡ [] → IsPairingOff xs ys marks places 0
-  pairing_none xs ys marks places e f = record {
+  pairing-none xs ys marks places e f = record {
     partners = [];
     at_places = subst (λ l. AreAt ys l []) (sym f) tt;
     distinct = subst (λ l. NoTwice l) (sym f) tt;
     taken = subst (λ l. AreTaken marks l) (sym f) (λ k j. absurd j);
-    pairs = sym (ap (λ m. left_of m ys) e ∙ left_all ys);
+    pairs = sym (ap (λ m. left_of m ys) e ∙ left-all ys);
   }
 
-  pub pairing_more : (xs : List A) (ys : List B) (old new : List Bool) (places : List ℕ) (i : ℕ)
+  pub pairing-more : (xs : List A) (ys : List B) (old new : List Bool) (places : List ℕ) (i : ℕ)
       (x : A) (place : ℕ) (next : List ℕ) → IsPairingOff xs ys old places i
       → take (i + 1) xs ≡ take i xs ++ x ∷ [] → IsTakenAt (R x) ys old new place
       → next ≡ places ++ place ∷ [] → IsPairingOff xs ys new next (i + 1)
-  pairing_more xs ys old new places i x place next w e t f = record {
+  pairing-more xs ys old new places i x place next w e t f = record {
     partners = w.partners ++ t.0 ∷ [];
     at_places = subst (λ l. AreAt ys l (w.partners ++ t.0 ∷ [])) (sym f)
-        (at_more ys places w.partners place t.0 w.at_places t.1);
+        (at-more ys places w.partners place t.0 w.at_places t.1);
     distinct = subst (λ l. NoTwice l) (sym f)
-        (no_twice_more places place w.distinct (λ j. not_marked old place t.2 (w.taken place j)));
+        (no-twice-more places place w.distinct (λ j. not-marked old place t.2 (w.taken place j)));
     taken = subst (λ l. AreTaken new l) (sym f)
         (λ k j. subst (λ m. slice_get m k ≡ Some true) (sym t.3)
-        (elim (in_more places place k j) [
-          | inl h ↦ set_keeps old place k (w.taken k h)
+        (elim (in-more places place k j) [
+          | inl h ↦ set-keeps old place k (w.taken k h)
           | inr e ↦ subst (λ n. slice_get (set old place true) n ≡ Some true) (sym e)
-              (set_here old place t.2)
+              (set-here old place t.2)
         ]));
     pairs = subst (λ l. PairsOff R l (w.partners ++ t.0 ∷ []) ys (left_of new ys)) (sym e)
-        (pairs_more (take i xs) w.partners ys (left_of old ys) (left_of new ys) x t.0 w.pairs t.4);
+        (pairs-more (take i xs) w.partners ys (left_of old ys) (left_of new ys) x t.0 w.pairs t.4);
   }
 
-  pub pairing_stops : (xs : List A) (ys : List B) (marks : List Bool) (places : List ℕ) (i : ℕ)
+  pub pairing-stops : (xs : List A) (ys : List B) (marks : List Bool) (places : List ℕ) (i : ℕ)
       (x : A) (more : List A) → IsPairingOff xs ys marks places i → i < length xs
       → take i xs ++ x ∷ more ≡ xs → FitsNone (R x) (left_of marks ys) → FindsNone R xs ys i
-  pairing_stops xs ys marks places i x more w lt e none = record {
+  pairing-stops xs ys marks places i x more w lt e none = record {
     done = take i xs;
     x = x;
     more = more;
@@ -235,10 +235,10 @@ module _ {A B : Type 0} (R : A → B → Type 0) where
     none = none;
   }
 
-  pub pairing_leaves : (xs : List A) (ys : List B) (marks : List Bool) (places : List ℕ) (i : ℕ)
+  pub pairing-leaves : (xs : List A) (ys : List B) (marks : List Bool) (places : List ℕ) (i : ℕ)
       → IsPairingOff xs ys marks places i → take i xs ≡ xs → length xs < length ys
       → LeavesSome R xs ys
-  pairing_leaves xs ys marks places i w e lt =
+  pairing-leaves xs ys marks places i w e lt =
       let pairs : PairsOff R xs w.partners ys (left_of marks ys) =
       subst (λ l. PairsOff R l w.partners ys (left_of marks ys)) e w.pairs in
       record {
@@ -247,7 +247,7 @@ module _ {A B : Type 0} (R : A → B → Type 0) where
         pairs = pairs;
         some = λ empty.
             (let n : length (left_of marks ys) ≡ 0 = ap (λ (l : List B). length l) empty in
-            absurd (omega (arith, lt, n, pairs_length xs w.partners ys (left_of marks ys) pairs)));
+            absurd (omega (arith, lt, n, pairs-length xs w.partners ys (left_of marks ys) pairs)));
       }
 
   -- what is left over has no partner
@@ -256,8 +256,8 @@ module _ {A B : Type 0} (R : A → B → Type 0) where
   left_over_is_unpairable xs ps ys (y ∷ left) h some pairable =
       omega (
         arith,
-        pairs_length xs ps ys (y ∷ left) h,
-        pairing_length xs pairable.0 ys pairable.1,
+        pairs-length xs ps ys (y ∷ left) h,
+        pairing-length xs pairable.0 ys pairable.1,
       )
 
   pub unpaired_is_unpairable : UnpairedIsUnpairable R
@@ -269,18 +269,18 @@ module _ {A B : Type 0} (R : A → B → Type 0) where
       left_over_is_unpairable xs h.partners ys h.left h.pairs h.some pairable
   unpaired_is_unpairable xs ys Memory other h alike pairable = other refl
 
-  none_remains : (ys : List B) → length ys ≡ 0 → ys ≡ []
-  none_remains [] e = refl
-  none_remains (y ∷ ys) e = absurd (omega (arith, e))
+  none-remains : (ys : List B) → length ys ≡ 0 → ys ≡ []
+  none-remains [] e = refl
+  none-remains (y ∷ ys) e = absurd (omega (arith, e))
 
-  pub pairing_done : (xs : List A) (ys : List B) (marks : List Bool) (places : List ℕ) (i : ℕ)
+  pub pairing-done : (xs : List A) (ys : List B) (marks : List Bool) (places : List ℕ) (i : ℕ)
       → IsPairingOff xs ys marks places i → take i xs ≡ xs → length ys ≤ length xs
       → ArePaired R xs ys places
-  pairing_done xs ys marks places i w e le =
+  pairing-done xs ys marks places i w e le =
       let pairs : PairsOff R xs w.partners ys (left_of marks ys) =
       subst (λ l. PairsOff R l w.partners ys (left_of marks ys)) e w.pairs in
-      let empty : left_of marks ys ≡ [] = none_remains (left_of marks ys)
-      (omega (arith, le, pairs_length xs w.partners ys (left_of marks ys) pairs)) in
+      let empty : left_of marks ys ≡ [] = none-remains (left_of marks ys)
+      (omega (arith, le, pairs-length xs w.partners ys (left_of marks ys) pairs)) in
       let all : PairsOff R xs w.partners ys [] =
       subst (λ l. PairsOff R xs w.partners ys l) empty pairs in
       record {

@@ -3,52 +3,52 @@ use Rattle.std.proofs.Common.{◌≡◌, ℕ, zero, suc, ◌+◌, ◌<◌, Bool,
 use Rattle.std.proofs.Common.{◌∷◌, length, map, set, Some, IsTrue, IsFalse, refl}
 use Rattle.std.proofs.Common.{sym, ap, ◌∙◌, subst, inl, inr, arith}
 use Rattle.std.specs.Prelude.{slice_get, option_map}
-use Rattle.std.proofs.lemmas.Bool.{true≢false, cases_eq}
-use Rattle.std.proofs.lemmas.Option.{slice_get-map, slice_get_within}
+use Rattle.std.proofs.lemmas.Bool.{true≢false, cases_eq, cases_lt}
+use Rattle.std.proofs.lemmas.Option.{slice_get-map, slice_get_within, same_Some}
 use Rattle.rpki_paths.specs.Cert.{IsIn}
 use Rattle.rpki_paths.specs.Index.{IsNamed}
 use Rattle.rpki_paths.specs.Taking.{left_of, IsFirst, first, later, FitsNone, IsTakenAt}
-use Rattle.rpki_paths.proofs.Indexing.{IsScan, scan_from_named, before_or_after, some_same}
+use Rattle.rpki_paths.proofs.Indexing.{IsScan, scan-from-named}
 
 -- ---- what is left
 
-left_has : {A : Type 0} (marks : List Bool) (ys : List A) (j : ℕ) (y : A) → slice_get ys j ≡ Some y
+left-has : {A : Type 0} (marks : List Bool) (ys : List A) (j : ℕ) (y : A) → slice_get ys j ≡ Some y
     → slice_get marks j ≡ Some false → IsIn y (left_of marks ys)
-left_has [] ys j y e f = absurd cc
-left_has (t ∷ marks) [] j y e f = absurd cc
-left_has (true ∷ marks) (z ∷ ys) zero y e f = absurd cc
-left_has (false ∷ marks) (z ∷ ys) zero y e f = inl (sym (some_same z y e))
-left_has (true ∷ marks) (z ∷ ys) (suc j) y e f = left_has marks ys j y e f
-left_has (false ∷ marks) (z ∷ ys) (suc j) y e f = inr (left_has marks ys j y e f)
+left-has [] ys j y e f = absurd cc
+left-has (t ∷ marks) [] j y e f = absurd cc
+left-has (true ∷ marks) (z ∷ ys) zero y e f = absurd cc
+left-has (false ∷ marks) (z ∷ ys) zero y e f = inl (sym (same_Some z y e))
+left-has (true ∷ marks) (z ∷ ys) (suc j) y e f = left-has marks ys j y e f
+left-has (false ∷ marks) (z ∷ ys) (suc j) y e f = inr (left-has marks ys j y e f)
 
 -- what holds of each item that is not marked holds of none of the others
-none_left : {A : Type 0} (P : A → Type 0) (marks : List Bool) (ys : List A)
+none-left : {A : Type 0} (P : A → Type 0) (marks : List Bool) (ys : List A)
     → ((j : ℕ) (y : A) → slice_get ys j ≡ Some y → slice_get marks j ≡ Some false → ¬ (P y))
     → FitsNone P (left_of marks ys)
-none_left P [] ys h y i = absurd i
-none_left P (t ∷ marks) [] h y i = absurd i
-none_left P (true ∷ marks) (z ∷ ys) h y i =
-    none_left P marks ys (λ j w e f. h (suc j) w e f) y i
-none_left P (false ∷ marks) (z ∷ ys) h y (inl e) =
+none-left P [] ys h y i = absurd i
+none-left P (t ∷ marks) [] h y i = absurd i
+none-left P (true ∷ marks) (z ∷ ys) h y i =
+    none-left P marks ys (λ j w e f. h (suc j) w e f) y i
+none-left P (false ∷ marks) (z ∷ ys) h y (inl e) =
     subst (λ w. ¬ (P w)) (sym e) (h 0 z refl refl)
-none_left P (false ∷ marks) (z ∷ ys) h y (inr i) =
-    none_left P marks ys (λ j w e f. h (suc j) w e f) y i
+none-left P (false ∷ marks) (z ∷ ys) h y (inr i) =
+    none-left P marks ys (λ j w e f. h (suc j) w e f) y i
 
-first_left : {A : Type 0} (P : A → Type 0) (marks : List Bool) (ys : List A) (i : ℕ) (y : A)
+first-left : {A : Type 0} (P : A → Type 0) (marks : List Bool) (ys : List A) (i : ℕ) (y : A)
     → slice_get ys i ≡ Some y → slice_get marks i ≡ Some false → P y
     → ((j : ℕ) (z : A) → j < i → slice_get ys j ≡ Some z → slice_get marks j ≡ Some false → ¬ (P z))
     → IsFirst P y (left_of (set marks i true) ys) (left_of marks ys)
-first_left P [] ys i y e f p h = absurd cc
-first_left P (t ∷ marks) [] i y e f p h = absurd cc
-first_left P (true ∷ marks) (z ∷ ys) zero y e f p h = absurd cc
-first_left P (false ∷ marks) (z ∷ ys) zero y e f p h =
-    let same : y ≡ z = sym (some_same z y e) in
+first-left P [] ys i y e f p h = absurd cc
+first-left P (t ∷ marks) [] i y e f p h = absurd cc
+first-left P (true ∷ marks) (z ∷ ys) zero y e f p h = absurd cc
+first-left P (false ∷ marks) (z ∷ ys) zero y e f p h =
+    let same : y ≡ z = sym (same_Some z y e) in
     subst (λ w. IsFirst P y (left_of marks ys) (w ∷ left_of marks ys)) same (first p)
-first_left P (true ∷ marks) (z ∷ ys) (suc i) y e f p h =
-    first_left P marks ys i y e f p (λ j w lt. h (suc j) w (omega (arith, lt)))
-first_left P (false ∷ marks) (z ∷ ys) (suc i) y e f p h =
+first-left P (true ∷ marks) (z ∷ ys) (suc i) y e f p h =
+    first-left P marks ys i y e f p (λ j w lt. h (suc j) w (omega (arith, lt)))
+first-left P (false ∷ marks) (z ∷ ys) (suc i) y e f p h =
     later (h 0 z (omega arith) refl refl)
-    (first_left P marks ys i y e f p (λ j w lt. h (suc j) w (omega (arith, lt))))
+    (first-left P marks ys i y e f p (λ j w lt. h (suc j) w (omega (arith, lt))))
 
 -- ---- the search
 
@@ -69,50 +69,50 @@ module _ {Y : Type 0} (held : Y → List ℕ) (id : List ℕ) (verdict : Y → B
         → slice_get marks j ≡ Some false → id ≡ held y → IsFalse (verdict y)
     pub cost : AllOk → after ≡ before
 
-  pub taking_none : (left : List ℕ) (before : ℕ) → IsNamed (map held ys) id left
+  pub taking-none : (left : List ℕ) (before : ℕ) → IsNamed (map held ys) id left
       → IsTaking left before before
-  taking_none left before h = record {
+  taking-none left before h = record {
     from = 0;
-    rest = scan_from_named (map held ys) id left h;
+    rest = scan-from-named (map held ys) id left h;
     passed = λ j y lt e f n. absurd (omega (arith, lt));
     cost = λ ok. refl;
   }
 
-  pub taking_at : (left right : List ℕ) (before after : ℕ) → IsTaking left before after
+  pub taking-at : (left right : List ℕ) (before after : ℕ) → IsTaking left before after
       → left ≡ right → IsTaking right before after
-  taking_at left right before after w e = subst (λ l. IsTaking l before after) e w
+  taking-at left right before after w e = subst (λ l. IsTaking l before after) e w
 
   -- the first that is left, in range
-  pub taking_within : (i : ℕ) (rest : List ℕ) (before after : ℕ)
+  pub taking-within : (i : ℕ) (rest : List ℕ) (before after : ℕ)
       → IsTaking (i ∷ rest) before after → i < length (map held ys)
-  taking_within i rest before after w = w.rest.1
+  taking-within i rest before after w = w.rest.1
 
-  held_at : (j : ℕ) (y : Y) → slice_get ys j ≡ Some y → slice_get (map held ys) j ≡ Some (held y)
-  held_at j y e = slice_get-map held ys j ∙ ap (option_map held) e
+  held-at : (j : ℕ) (y : Y) → slice_get ys j ≡ Some y → slice_get (map held ys) j ≡ Some (held y)
+  held-at j y e = slice_get-map held ys j ∙ ap (option_map held) e
 
-  named_at : (i : ℕ) (y : Y) (rest : List ℕ) (before after : ℕ)
+  named-at : (i : ℕ) (y : Y) (rest : List ℕ) (before after : ℕ)
       → IsTaking (i ∷ rest) before after → slice_get ys i ≡ Some y → id ≡ held y
-  named_at i y rest before after w e = some_same id (held y) (sym w.rest.2 ∙ held_at i y e)
+  named-at i y rest before after w e = same_Some id (held y) (sym w.rest.2 ∙ held-at i y e)
 
   -- those before the first that is left
   earlier : (i : ℕ) (rest : List ℕ) (before after : ℕ) → IsTaking (i ∷ rest) before after
       → (j : ℕ) (y : Y) → j < i → slice_get ys j ≡ Some y → slice_get marks j ≡ Some false
       → id ≡ held y → IsFalse (verdict y)
-  earlier i rest before after w j y lt e f n = elim (before_or_after j w.from) [
+  earlier i rest before after w j y lt e f n = elim (cases_lt j w.from) [
     | inl l ↦ w.passed j y l e f n
-    | inr l ↦ absurd (w.rest.3 j l lt (held_at j y e ∙ ap Some (sym n)))
+    | inr l ↦ absurd (w.rest.3 j l lt (held-at j y e ∙ ap Some (sym n)))
   ]
 
-  pub taking_more : (i : ℕ) (y : Y) (b : Bool) (rest : List ℕ) (before after next : ℕ)
+  pub taking-more : (i : ℕ) (y : Y) (b : Bool) (rest : List ℕ) (before after next : ℕ)
       → IsTaking (i ∷ rest) before after → slice_get ys i ≡ Some y → slice_get marks i ≡ Some b
       → (IsFalse b → IsFalse (verdict y)) → (IsTrue b → next ≡ after) → IsTaking rest before next
-  taking_more i y b rest before after next w at_i mark refused taken = record {
+  taking-more i y b rest before after next w at_i mark refused taken = record {
     from = i + 1;
     rest = w.rest.4;
     passed = λ j z lt e f n. elim (cases_eq j i) [
-      | inl s ↦ (let same : z ≡ y = some_same z y (sym e ∙ ap (slice_get ys) s ∙ at_i) in
+      | inl s ↦ (let same : z ≡ y = same_Some z y (sym e ∙ ap (slice_get ys) s ∙ at_i) in
           ap verdict same
-          ∙ refused (some_same b false (sym mark ∙ ap (slice_get marks) (sym s) ∙ f)))
+          ∙ refused (same_Some b false (sym mark ∙ ap (slice_get marks) (sym s) ∙ f)))
       | inr differ ↦ earlier i rest before after w j z (omega (arith, lt, differ)) e f n
     ];
     cost = λ ok. go b mark refused taken ok;
@@ -122,26 +122,26 @@ module _ {Y : Type 0} (held : Y → List ℕ) (id : List ℕ) (verdict : Y → B
           → (IsTrue c → next ≡ after) → AllOk → next ≡ before
       go true m r t ok = t refl ∙ w.cost ok
       go false m r t ok =
-          absurd (true≢false (sym (ok y (left_has marks ys i y at_i m)
-          (named_at i y rest before after w at_i)) ∙ r refl))
+          absurd (true≢false (sym (ok y (left-has marks ys i y at_i m)
+          (named-at i y rest before after w at_i)) ∙ r refl))
 
-  pub taking_found : (i : ℕ) (y : Y) (rest : List ℕ) (before after : ℕ)
+  pub taking-found : (i : ℕ) (y : Y) (rest : List ℕ) (before after : ℕ)
       → IsTaking (i ∷ rest) before after → slice_get ys i ≡ Some y → slice_get marks i ≡ Some false
       → IsTrue (verdict y) → IsTakenAt IsFit ys marks (set marks i true) i
-  taking_found i y rest before after w at_i mark verified = (
+  taking-found i y rest before after w at_i mark verified = (
     y,
     at_i,
     mark,
     refl,
-    first_left IsFit marks ys i y at_i mark (named_at i y rest before after w at_i, verified)
+    first-left IsFit marks ys i y at_i mark (named-at i y rest before after w at_i, verified)
         (λ j z lt e f p. true≢false (sym p.1 ∙ earlier i rest before after w j z lt e f p.0)),
   )
 
-  pub taking_done : (before after : ℕ) → IsTaking [] before after
+  pub taking-done : (before after : ℕ) → IsTaking [] before after
       → FitsNone IsFit (left_of marks ys)
-  taking_done before after w = none_left IsFit marks ys (λ j y e f p.
-      elim (before_or_after j w.from) [
+  taking-done before after w = none-left IsFit marks ys (λ j y e f p.
+      elim (cases_lt j w.from) [
         | inl l ↦ true≢false (sym p.1 ∙ w.passed j y l e f p.0)
-        | inr l ↦ (let at_j = held_at j y e ∙ ap Some (sym p.0) in
+        | inr l ↦ (let at_j = held-at j y e ∙ ap Some (sym p.0) in
             w.rest j l (slice_get_within (map held ys) j id at_j) at_j)
       ])

@@ -6,9 +6,9 @@ use Rattle.std.proofs.Common.{inl, inr}
 use Rattle.std.proofs.Common.{arith, get_or-set_same, get_or-set_other}
 use Rattle.std.proofs.Common.{get_or}
 use Rattle.std.specs.Prelude.{slice_get, slice_index, Bool, option_map}
-use Rattle.std.proofs.lemmas.Option.{slice_get-map}
+use Rattle.std.proofs.lemmas.Option.{slice_get-map, same_Some}
 use Rattle.std.proofs.Common.{map}
-use Rattle.std.proofs.lemmas.Bool.{true≢false, cases_eq}
+use Rattle.std.proofs.lemmas.Bool.{true≢false, cases_eq, cases_lt}
 use Rattle.rpki_resources.specs.declared.resources.Claim.{Claim}
 use Rattle.rpki_resources.specs.declared.resources.Claim.TheVariants.{Explicit}
 use Rattle.rpki_paths.specs.declared.family.Family.{Family}
@@ -31,36 +31,36 @@ use Rattle.rpki_paths.specs.declared.places.Places.{Places}
 use Rattle.rpki_paths.specs.declared.walker.Found.TheVariants.{Issuer}
 use Rattle.rpki_paths.specs.Index.{IsIndex, IsNamed, IsNamedBy, places_of}
 use Rattle.rpki_paths.specs.Laws.{RefusedHasNoPath, KeptTellsTakes}
-use Rattle.rpki_paths.proofs.Indexing.{IsScan, scan_from_named, before_or_after, some_same}
-use Rattle.rpki_paths.proofs.Chains.{same_issuer, path_above, short, in_map}
-use Rattle.rpki_paths.proofs.Meets.{climb_keeps, covers_kept, from_covers_kept}
+use Rattle.rpki_paths.proofs.Indexing.{IsScan, scan-from-named}
+use Rattle.rpki_paths.proofs.Chains.{same-issuer, path-above, short, in-map}
+use Rattle.rpki_paths.proofs.Meets.{climb-keeps, covers_kept, from-covers_kept}
 
 -- ---- places
 
-pub get_in : {A : Type 0} (xs : List A) (i : ℕ) (d : A) → slice_get xs i ≡ Some d → IsIn d xs
-get_in [] i d e = absurd cc
-get_in (x ∷ xs) zero d e = inl cc
-get_in (x ∷ xs) (suc i) d e = inr (get_in xs i d e)
+pub get-in : {A : Type 0} (xs : List A) (i : ℕ) (d : A) → slice_get xs i ≡ Some d → IsIn d xs
+get-in [] i d e = absurd cc
+get-in (x ∷ xs) zero d e = inl cc
+get-in (x ∷ xs) (suc i) d e = inr (get-in xs i d e)
 
-pub get_lt : {A : Type 0} (xs : List A) (i : ℕ) (d : A) → slice_get xs i ≡ Some d → i < length xs
-get_lt [] i d e = absurd cc
-get_lt (x ∷ xs) zero d e = omega arith
-get_lt (x ∷ xs) (suc i) d e = omega (arith, get_lt xs i d e)
+pub get-lt : {A : Type 0} (xs : List A) (i : ℕ) (d : A) → slice_get xs i ≡ Some d → i < length xs
+get-lt [] i d e = absurd cc
+get-lt (x ∷ xs) zero d e = omega arith
+get-lt (x ∷ xs) (suc i) d e = omega (arith, get-lt xs i d e)
 
-pub in_get : {A : Type 0} (xs : List A) (d : A) → IsIn d xs → (i : ℕ) × (slice_get xs i ≡ Some d)
-in_get [] d h = absurd h
-in_get (x ∷ xs) d (inl e) = (zero, ap Some (sym e))
-in_get (x ∷ xs) d (inr h) = let t = in_get xs d h in (suc t.0, t.1)
+pub in-get : {A : Type 0} (xs : List A) (d : A) → IsIn d xs → (i : ℕ) × (slice_get xs i ≡ Some d)
+in-get [] d h = absurd h
+in-get (x ∷ xs) d (inl e) = (zero, ap Some (sym e))
+in-get (x ∷ xs) d (inr h) = let t = in-get xs d h in (suc t.0, t.1)
 
-pub get_placed : {C : Type 0} (cert : C → Cert) (k : ℕ) (xs : List C) (i : ℕ) (x : C)
+pub get-placed : {C : Type 0} (cert : C → Cert) (k : ℕ) (xs : List C) (i : ℕ) (x : C)
     → i < length xs →
     x ≡ get_or xs i x → slice_get (placed cert k xs) i ≡ Some (at_place (i + k) (cert x))
-get_placed cert k [] i x lt e = absurd (omega (arith, lt))
-get_placed cert k (y ∷ xs) zero x lt e =
+get-placed cert k [] i x lt e = absurd (omega (arith, lt))
+get-placed cert k (y ∷ xs) zero x lt e =
     ap (λ z. Some (at_place k (cert z))) (sym e)
     ∙ ap (λ n. Some (at_place n (cert x))) (let t : k ≡ 0 + k = omega arith in t)
-get_placed cert k (y ∷ xs) (suc i) x lt e =
-    get_placed cert (suc k) xs i x (omega (arith, lt)) e
+get-placed cert k (y ∷ xs) (suc i) x lt e =
+    get-placed cert (suc k) xs i x (omega (arith, lt)) e
     ∙ ap (λ n. Some (at_place n (cert x))) (let t : i + suc k ≡ suc i + k = omega arith in t)
 
 pub length-placed : {C : Type 0} (cert : C → Cert) (k : ℕ) (xs : List C)
@@ -68,13 +68,13 @@ pub length-placed : {C : Type 0} (cert : C → Cert) (k : ℕ) (xs : List C)
 length-placed cert k [] = refl
 length-placed cert k (x ∷ xs) = ap suc (length-placed cert (suc k) xs)
 
-place_at : {C : Type 0} (cert : C → Cert) (k : ℕ) (xs : List C) (i : ℕ) (d : Cert)
+place-at : {C : Type 0} (cert : C → Cert) (k : ℕ) (xs : List C) (i : ℕ) (d : Cert)
     → slice_get (placed cert k xs) i ≡ Some d → d.place ≡ k + i
-place_at cert k [] i d e = absurd cc
-place_at cert k (x ∷ xs) zero d e =
+place-at cert k [] i d e = absurd cc
+place-at cert k (x ∷ xs) zero d e =
     let f : at_place k (cert x) ≡ d = cc in
     let p : k ≡ d.place = ap (λ (z : Cert). z.place) f in omega (arith, p)
-place_at cert k (x ∷ xs) (suc i) d e = let p = place_at cert (suc k) xs i d e in omega (arith, p)
+place-at cert k (x ∷ xs) (suc i) d e = let p = place-at cert (suc k) xs i d e in omega (arith, p)
 
 -- the certificates are told apart by their places
 abbrev pub AreApart : Cert → List Cert → Type 0
@@ -83,26 +83,26 @@ AreApart ee cas =
     × ((i j : ℕ) (c d : Cert) → slice_get cas i ≡ Some c → slice_get cas j ≡ Some d →
     c.place ≡ d.place → i ≡ j)
 
-pub apart_placed : {C : Type 0} (cert : C → Cert) (ee : Cert) (xs : List C)
+pub apart-placed : {C : Type 0} (cert : C → Cert) (ee : Cert) (xs : List C)
     → AreApart (at_place 0 ee) (placed cert 1 xs)
-apart_placed cert ee xs = (
-  λ i d e s. (let p = place_at cert 1 xs i d e in let z : d.place ≡ 0 = s in
+apart-placed cert ee xs = (
+  λ i d e s. (let p = place-at cert 1 xs i d e in let z : d.place ≡ 0 = s in
       absurd (omega (arith, p, z))),
-  λ i j c d e f s. omega (arith, place_at cert 1 xs i c e, place_at cert 1 xs j d f, s),
+  λ i j c d e f s. omega (arith, place-at cert 1 xs i c e, place-at cert 1 xs j d f, s),
 )
 
 -- two CAs of one identifier are one, and have one place
-pub same_index : (cas : List Cert) (i j : ℕ) (c d : Cert) → IsDistinct cas
+pub same-index : (cas : List Cert) (i j : ℕ) (c d : Cert) → IsDistinct cas
     → slice_get cas i ≡ Some c → slice_get cas j ≡ Some d → c.ski ≡ d.ski → i ≡ j
-same_index [] i j c d dist e f s = absurd cc
-same_index (x ∷ cas) zero zero c d dist e f s = refl
-same_index (x ∷ cas) zero (suc j) c d dist e f s =
-    absurd (dist.0 (in_map cas d (x.ski) (get_in cas j d f)
-    (ap (λ (z : Cert). z.ski) (some_same x c e) ∙ s)))
-same_index (x ∷ cas) (suc i) zero c d dist e f s =
-    absurd (dist.0 (in_map cas c (x.ski) (get_in cas i c e)
-    (ap (λ (z : Cert). z.ski) (some_same x d f) ∙ sym s)))
-same_index (x ∷ cas) (suc i) (suc j) c d dist e f s = ap suc (same_index cas i j c d dist.1 e f s)
+same-index [] i j c d dist e f s = absurd cc
+same-index (x ∷ cas) zero zero c d dist e f s = refl
+same-index (x ∷ cas) zero (suc j) c d dist e f s =
+    absurd (dist.0 (in-map cas d (x.ski) (get-in cas j d f)
+    (ap (λ (z : Cert). z.ski) (same_Some x c e) ∙ s)))
+same-index (x ∷ cas) (suc i) zero c d dist e f s =
+    absurd (dist.0 (in-map cas c (x.ski) (get-in cas i c e)
+    (ap (λ (z : Cert). z.ski) (same_Some x d f) ∙ sym s)))
+same-index (x ∷ cas) (suc i) (suc j) c d dist e f s = ap suc (same-index cas i j c d dist.1 e f s)
 
 -- the list has the places, from one on and below another, of the CAs with this identifier
 abbrev pub IsCertScan : List Cert → Option (List ℕ) → ℕ → ℕ → List ℕ → Type 0
@@ -116,29 +116,29 @@ IsCertScan cas id from to (i ∷ places) =
 abbrev skis : List Cert → List (List ℕ)
 skis cas = map (λ c. c.ski) cas
 
-ski_at : (cas : List Cert) (id : List ℕ) (j : ℕ) (x : Cert) → slice_get cas j ≡ Some x
+ski-at : (cas : List Cert) (id : List ℕ) (j : ℕ) (x : Cert) → slice_get cas j ≡ Some x
     → Some id ≡ Some x.ski → slice_get (skis cas) j ≡ Some id
-ski_at cas id j x e n =
+ski-at cas id j x e n =
     slice_get-map (λ (c : Cert). c.ski) cas j ∙ ap (option_map (λ (c : Cert). c.ski)) e ∙ sym n
 
-cert_at : (cas : List Cert) (id : List ℕ) (i : ℕ) → slice_get (skis cas) i ≡ Some id
+cert-at : (cas : List Cert) (id : List ℕ) (i : ℕ) → slice_get (skis cas) i ≡ Some id
     → (x : Cert) × (slice_get cas i ≡ Some x) × (Some id ≡ Some x.ski)
-cert_at cas id i e = go (slice_get cas i) refl (sym (slice_get-map (λ (c : Cert). c.ski) cas i) ∙ e)
+cert-at cas id i e = go (slice_get cas i) refl (sym (slice_get-map (λ (c : Cert). c.ski) cas i) ∙ e)
   where
     go : (o : Option Cert) → slice_get cas i ≡ o → option_map (λ (c : Cert). c.ski) o ≡ Some id
         → (x : Cert) × (slice_get cas i ≡ Some x) × (Some id ≡ Some x.ski)
     go None at_i f = absurd cc
     go (Some x) at_i f = (x, at_i, sym f)
 
-cert_scan : (cas : List Cert) (id : List ℕ) (from to : ℕ) (places : List ℕ)
+cert-scan : (cas : List Cert) (id : List ℕ) (from to : ℕ) (places : List ℕ)
     → IsScan (skis cas) id from to places → IsCertScan cas (Some id) from to places
-cert_scan cas id from to [] h = λ j x l lt e n. h j l lt (ski_at cas id j x e n)
-cert_scan cas id from to (i ∷ places) h = (
+cert-scan cas id from to [] h = λ j x l lt e n. h j l lt (ski-at cas id j x e n)
+cert-scan cas id from to (i ∷ places) h = (
   h.0,
   h.1,
-  cert_at cas id i h.2,
-  λ j x l lt e n. h.3 j l lt (ski_at cas id j x e n),
-  cert_scan cas id (i + 1) to places h.4,
+  cert-at cas id i h.2,
+  λ j x l lt e n. h.3 j l lt (ski-at cas id j x e n),
+  cert-scan cas id (i + 1) to places h.4,
 )
 
 skis-placed : {C : Type 0} (cert : C → Cert) (k : ℕ) (cas : List C)
@@ -151,68 +151,68 @@ length-skis [] = refl
 length-skis (c ∷ cas) = ap suc (length-skis cas)
 
 -- what the identifiers of the CAs say of the CAs
-pub scan_of : {C : Type 0} (cert : C → Cert) (cas : List C) (aki : Option (List ℕ))
+pub scan-of : {C : Type 0} (cert : C → Cert) (cas : List C) (aki : Option (List ℕ))
     (places : List ℕ) → IsNamedBy (map (λ c. (cert c).ski) cas) aki places
     → IsCertScan (placed cert 1 cas) aki 0 (length (placed cert 1 cas)) places
-scan_of cert cas None places h =
+scan-of cert cas None places h =
     subst (λ l. IsCertScan (placed cert 1 cas) None 0 (length (placed cert 1 cas)) l) (sym h)
     (λ j x l lt e n. cc)
-scan_of cert cas (Some id) places h =
+scan-of cert cas (Some id) places h =
     let ids = skis (placed cert 1 cas) in
     let named : IsNamed ids id places =
     subst (λ l. IsNamed l id places) (skis-placed cert 1 cas) h in
-    cert_scan (placed cert 1 cas) id 0 (length (placed cert 1 cas)) places
+    cert-scan (placed cert 1 cas) id 0 (length (placed cert 1 cas)) places
     (subst (λ n. IsScan ids id 0 n places) (length-skis (placed cert 1 cas))
-    (scan_from_named ids id places named))
+    (scan-from-named ids id places named))
 
 -- with distinct identifiers one CA at most is named
-pub named_once : (cas : List Cert) (id : Option (List ℕ)) (from to : ℕ) (places : List ℕ)
+pub named-once : (cas : List Cert) (id : Option (List ℕ)) (from to : ℕ) (places : List ℕ)
     → IsDistinct cas → IsCertScan cas id from to places → length places ≤ 1
-named_once cas id from to [] dist h = omega arith
-named_once cas id from to (i ∷ []) dist h = omega arith
-named_once cas id from to (i ∷ (j ∷ places)) dist h =
+named-once cas id from to [] dist h = omega arith
+named-once cas id from to (i ∷ []) dist h = omega arith
+named-once cas id from to (i ∷ (j ∷ places)) dist h =
     let a = h.2 in
     let b = h.4.2 in
-    let same : i ≡ j = same_index cas i j a.0 b.0 dist a.1 b.1 (some_same _ _ (sym a.2 ∙ b.2)) in
+    let same : i ≡ j = same-index cas i j a.0 b.0 dist a.1 b.1 (same_Some _ _ (sym a.2 ∙ b.2)) in
     absurd (omega (arith, same, h.4.0))
 
-pub in_each : (P : Family → Type 0) → InEach P → (f : Family) → P f
-in_each P h As = h.0
-in_each P h V4 = h.1
-in_each P h V6 = h.2
+pub in-each : (P : Family → Type 0) → InEach P → (f : Family) → P f
+in-each P h As = h.0
+in-each P h V4 = h.1
+in-each P h V6 = h.2
 
-pub to_each : (P : Family → Type 0) → ((f : Family) → P f) → InEach P
-to_each P h = (h As, h V4, h V6)
+pub to-each : (P : Family → Type 0) → ((f : Family) → P f) → InEach P
+to-each P h = (h As, h V4, h V6)
 
-pub fails_first : (P Q : Family → Type 0) → ((f : Family) → P f → Q f) → ((f : Family) → Q f → P f)
+pub fails-first : (P Q : Family → Type 0) → ((f : Family) → P f → Q f) → ((f : Family) → Q f → P f)
     → (f : Family) → FailsFirst P f → FailsFirst Q f
-fails_first P Q to from As h = λ q. h (from As q)
-fails_first P Q to from V4 h = (to As h.0, λ q. h.1 (from V4 q))
-fails_first P Q to from V6 h = (to As h.0, to V4 h.1, λ q. h.2 (from V6 q))
+fails-first P Q to from As h = λ q. h (from As q)
+fails-first P Q to from V4 h = (to As h.0, λ q. h.1 (from V4 q))
+fails-first P Q to from V6 h = (to As h.0, to V4 h.1, λ q. h.2 (from V6 q))
 
-pub fails_one : (P : Family → Type 0) (f : Family) → FailsFirst P f → ¬ (P f)
-fails_one P As h = h
-fails_one P V4 h = h.1
-fails_one P V6 h = h.2
+pub fails-one : (P : Family → Type 0) (f : Family) → FailsFirst P f → ¬ (P f)
+fails-one P As h = h
+fails-one P V4 h = h.1
+fails-one P V6 h = h.2
 
 -- ---- where a walk stops, no covered path goes on
 
-covered_above : (r q : List Cert) → IsLinkCovered (r ++ q) → IsLinkCovered q
-covered_above [] q l = l
-covered_above (x ∷ []) [] l = tt
-covered_above (x ∷ []) (y ∷ q) l = l.1
-covered_above (x ∷ (y ∷ r)) q l = covered_above (y ∷ r) q l.1
+covered-above : (r q : List Cert) → IsLinkCovered (r ++ q) → IsLinkCovered q
+covered-above [] q l = l
+covered-above (x ∷ []) [] l = tt
+covered-above (x ∷ []) (y ∷ q) l = l.1
+covered-above (x ∷ (y ∷ r)) q l = covered-above (y ∷ r) q l.1
 
 continues : (cas : List Cert) (ee c d : Cert) (p q : List Cert) → IsDistinct cas
     → IsReached cas ee c p → IsIn d cas → c.aki ≡ Some d.ski → IsPath cas ee q → IsLinkCovered q →
     IsIssuedBy cas c d × IsOff d (c ∷ p)
     × ((f : Family) → IsCovered (λ n. n) c.overclaim (explicit_sets (c ∷ p) f) (d.claim f))
 continues cas ee c d p q dist reached i e path cov =
-    elim (path_above cas ee c p q dist reached.chain path) [
+    elim (path-above cas ee c p q dist reached.chain path) [
       | inl t ↦ absurd (reached.not_self_signed (t.1 d i e))
       | inr t ↦
-          (let same : t.0 ≡ d = same_issuer cas c t.0 d dist t.2.carried i t.2.names_issuer e in
-          let below = covered_above t.1 (t.0 ∷ (c ∷ p)) (subst (λ x. IsLinkCovered x) t.4 cov) in (
+          (let same : t.0 ≡ d = same-issuer cas c t.0 d dist t.2.carried i t.2.names_issuer e in
+          let below = covered-above t.1 (t.0 ∷ (c ∷ p)) (subst (λ x. IsLinkCovered x) t.4 cov) in (
             subst (λ x. IsIssuedBy cas c x) same t.2,
             subst (λ x. IsOff x (c ∷ p)) same t.3,
             subst (λ x. (f : Family)
@@ -229,18 +229,18 @@ refused_has_no_path NoValidIssuer cas ee q other dist h path cov =
 refused_has_no_path Returns cas ee q other dist h path cov =
     let next = h.4 in
     h.5 (continues cas ee h.0 h.1 h.2 q dist h.3
-    (get_in cas next.index h.1 next.at_index) next.named path cov).1
+    (get-in cas next.index h.1 next.at_index) next.named path cov).1
 refused_has_no_path Revoked cas ee q other dist h path cov =
     let next = h.4 in
     true≢false (sym h.5.1
     ∙ (continues cas ee h.0 h.1 h.2 q dist h.3
-    (get_in cas next.index h.1 next.at_index) next.named path cov).0.not_revoked)
+    (get-in cas next.index h.1 next.at_index) next.named path cov).0.not_revoked)
 refused_has_no_path (NotCovered family) cas ee q other dist h path cov =
     let next = h.4 in
-    fails_one (λ f. IsCovered (λ n. n) h.0.overclaim (explicit_sets (h.0 ∷ h.2) f) (h.1.claim f))
+    fails-one (λ f. IsCovered (λ n. n) h.0.overclaim (explicit_sets (h.0 ∷ h.2) f) (h.1.claim f))
     family h.5.2
     ((continues cas ee h.0 h.1 h.2 q dist h.3
-    (get_in cas next.index h.1 next.at_index) next.named path cov).2 family)
+    (get-in cas next.index h.1 next.at_index) next.named path cov).2 family)
 refused_has_no_path Memory cas ee q other dist h path cov = other refl
 
 -- ---- the search
@@ -257,11 +257,11 @@ pub record IsSearching (cas : List Cert) (aki : Option (List ℕ)) (verifies : L
   pub grows : before ≤ after
   pub none_asked : named ≡ [] → after ≡ before
 
-pub searching_none : (cas : List Cert) (aki : Option (List ℕ)) (verifies : List ℕ → Bool)
+pub searching-none : (cas : List Cert) (aki : Option (List ℕ)) (verifies : List ℕ → Bool)
     (named : List ℕ) (before : ℕ)
     → IsCertScan cas aki 0 (length cas) named
     → IsSearching cas aki verifies named named before before
-searching_none cas aki verifies named before h = record {
+searching-none cas aki verifies named before h = record {
   from = 0;
   rest = h;
   passed = λ j x lt e f. absurd (omega (arith, lt));
@@ -271,25 +271,25 @@ searching_none cas aki verifies named before h = record {
 }
 
 -- the first that is left, in range
-pub first_in_range : (cas : List Cert) (id : Option (List ℕ)) (from to i : ℕ) (rest : List ℕ)
+pub first-in-range : (cas : List Cert) (id : Option (List ℕ)) (from to i : ℕ) (rest : List ℕ)
     → IsCertScan cas id from to (i ∷ rest) → i < to
-first_in_range cas id from to i rest h = h.1
+first-in-range cas id from to i rest h = h.1
 
-named_at : (cas : List Cert) (i : ℕ) (x d : Cert) (id : Option (List ℕ)) → slice_get cas i ≡ Some x
+named-at : (cas : List Cert) (i : ℕ) (x d : Cert) (id : Option (List ℕ)) → slice_get cas i ≡ Some x
     → slice_get cas i ≡ Some d → id ≡ Some x.ski → id ≡ Some d.ski
-named_at cas i x d id e f n = n ∙ ap (λ (z : Cert). Some z.ski) (some_same x d (sym e ∙ f))
+named-at cas i x d id e f n = n ∙ ap (λ (z : Cert). Some z.ski) (same_Some x d (sym e ∙ f))
 
-pub searching_more : (cas : List Cert) (aki : Option (List ℕ)) (verifies : List ℕ → Bool) (d : Cert)
+pub searching-more : (cas : List Cert) (aki : Option (List ℕ)) (verifies : List ℕ → Bool) (d : Cert)
     (named rest : List ℕ) (i before after : ℕ)
     → IsSearching cas aki verifies named (i ∷ rest) before after →
     slice_get cas i ≡ Some d → IsFalse (verifies d.key)
     → IsSearching cas aki verifies named rest before (after + 1)
-searching_more cas aki verifies d named rest i before after w at_i fails = record {
+searching-more cas aki verifies d named rest i before after w at_i fails = record {
   from = i + 1;
   rest = w.rest.4;
   passed = λ j x lt e f. elim (cases_eq j i) [
     | inl s ↦ ap (λ (z : Cert). verifies z.key)
-        (some_same x d (sym e ∙ ap (slice_get cas) s ∙ at_i)) ∙ fails
+        (same_Some x d (sym e ∙ ap (slice_get cas) s ∙ at_i)) ∙ fails
     | inr differ ↦ earlier j x (omega (arith, lt, differ)) e f
   ];
   cost = omega (arith, w.cost);
@@ -299,24 +299,24 @@ searching_more cas aki verifies d named rest i before after w at_i fails = recor
   where
     earlier : (j : ℕ) (x : Cert) → j < i → slice_get cas j ≡ Some x → aki ≡ Some x.ski
         → IsFalse (verifies x.key)
-    earlier j x lt e f = elim (before_or_after j w.from) [
+    earlier j x lt e f = elim (cases_lt j w.from) [
       | inl l ↦ w.passed j x l e f
       | inr l ↦ absurd (w.rest.3 j x l lt e f)
     ]
 
-pub searching_found : (cas : List Cert) (aki : Option (List ℕ)) (verifies : List ℕ → Bool)
+pub searching-found : (cas : List Cert) (aki : Option (List ℕ)) (verifies : List ℕ → Bool)
     (d : Cert) (named rest : List ℕ) (i before after : ℕ)
     → IsSearching cas aki verifies named (i ∷ rest) before after →
     slice_get cas i ≡ Some d → IsTrue (verifies d.key)
     → (x : Cert) × (next : IsNext cas aki verifies x) × (next.index ≡ i)
-searching_found cas aki verifies d named rest i before after w at_i verified = (
+searching-found cas aki verifies d named rest i before after w at_i verified = (
   d,
   record {
     index = i;
     at_index = at_i;
-    named = named_at cas i (w.rest.2.0) d aki w.rest.2.1 at_i w.rest.2.2;
+    named = named-at cas i (w.rest.2.0) d aki w.rest.2.1 at_i w.rest.2.2;
     verified = verified;
-    first = λ j x lt e f. elim (before_or_after j w.from) [
+    first = λ j x lt e f. elim (cases_lt j w.from) [
       | inl l ↦ w.passed j x l e f
       | inr l ↦ absurd (w.rest.3 j x l lt e f)
     ];
@@ -324,22 +324,22 @@ searching_found cas aki verifies d named rest i before after w at_i verified = (
   refl,
 )
 
-pub none_named : (cas : List Cert) (aki : Option (List ℕ)) → IsCertScan cas aki 0 (length cas) []
+pub none-named : (cas : List Cert) (aki : Option (List ℕ)) → IsCertScan cas aki 0 (length cas) []
     → (d : Cert)
     → IsIn d cas → ¬ (aki ≡ Some d.ski)
-none_named cas aki h d i = let t = in_get cas d i in
-    h t.0 d (omega arith) (get_lt cas t.0 d t.1) t.1
+none-named cas aki h d i = let t = in-get cas d i in
+    h t.0 d (omega arith) (get-lt cas t.0 d t.1) t.1
 
-pub searching_done : (cas : List Cert) (aki : Option (List ℕ)) (verifies : List ℕ → Bool)
+pub searching-done : (cas : List Cert) (aki : Option (List ℕ)) (verifies : List ℕ → Bool)
     (named : List ℕ) (before after : ℕ)
     → IsSearching cas aki verifies named [] before after → IsCertScan cas aki 0 (length cas) named
     → ¬ (named ≡ []) → IsUnverified cas aki verifies
-searching_done cas aki verifies [] before after w h some = absurd (some refl)
-searching_done cas aki verifies (i ∷ named) before after w h some = (
-  (h.2.0, get_in cas i h.2.0 h.2.1, h.2.2),
-  λ d j e. (let t = in_get cas d j in elim (before_or_after t.0 w.from) [
+searching-done cas aki verifies [] before after w h some = absurd (some refl)
+searching-done cas aki verifies (i ∷ named) before after w h some = (
+  (h.2.0, get-in cas i h.2.0 h.2.1, h.2.2),
+  λ d j e. (let t = in-get cas d j in elim (cases_lt t.0 w.from) [
     | inl l ↦ w.passed t.0 d l t.1 e
-    | inr l ↦ absurd (w.rest t.0 d l (get_lt cas t.0 d t.1) t.1 e)
+    | inr l ↦ absurd (w.rest t.0 d l (get-lt cas t.0 d t.1) t.1 e)
   ]),
 )
 
@@ -356,31 +356,31 @@ pub record IsWalking (cas : List Cert) (ee head : Cert) (sets : KeptSets) (marks
   pub marked : AreMarked cas marks turn (head ∷ below)
   pub count : length below ≡ steps
 
-none_stands : (kept : Option (Kept Numbers)) → kept ≡ None → StandsFor (λ n. n) kept []
-none_stands kept e = subst (λ k. StandsFor (λ n. n) k []) (sym e) refl
+none-stands : (kept : Option (Kept Numbers)) → kept ≡ None → StandsFor (λ n. n) kept []
+none-stands kept e = subst (λ k. StandsFor (λ n. n) k []) (sym e) refl
 
-nothing_below : (mode : Overclaim) (claim : Claim Numbers) → IsCovered (λ n. n) mode [] claim
-nothing_below Refuse claim = tt
-nothing_below Trim claim = tt
+nothing-below : (mode : Overclaim) (claim : Claim Numbers) → IsCovered (λ n. n) mode [] claim
+nothing-below Refuse claim = tt
+nothing-below Trim claim = tt
 
 -- the start of the walk
-pub walking_none : (cas : List Cert) (ee : Cert) (none sets : KeptSets) (marks : List ℕ) (turn : ℕ)
+pub walking-none : (cas : List Cert) (ee : Cert) (none sets : KeptSets) (marks : List ℕ) (turn : ℕ)
     → AreApart ee cas → InEach (λ f. kept_at none f ≡ None) →
     InEach (λ f. IsClimbed (λ n. n) ee.overclaim (kept_at none f) (ee.claim f) (kept_at sets f))
     → length marks ≡ length cas → ((k : ℕ) → k < length marks → slice_index marks k ≢ turn) →
     IsWalking cas ee ee sets marks turn 0
-walking_none cas ee none sets marks turn apart empty climbed len fresh = record {
+walking-none cas ee none sets marks turn apart empty climbed len fresh = record {
   below = [];
   chain = refl;
   first = tt;
   covered = tt;
-  kept = λ f. climb_keeps (λ n. n) ee.overclaim (kept_at none f) (kept_at sets f) (ee.claim f) []
-      (none_stands (kept_at none f) (in_each (λ g. kept_at none g ≡ None) empty f))
-      (nothing_below ee.overclaim (ee.claim f))
-      (in_each (λ g. IsClimbed (λ n. n) ee.overclaim (kept_at none g) (ee.claim g) (kept_at sets g))
+  kept = λ f. climb-keeps (λ n. n) ee.overclaim (kept_at none f) (kept_at sets f) (ee.claim f) []
+      (none-stands (kept_at none f) (in-each (λ g. kept_at none g ≡ None) empty f))
+      (nothing-below ee.overclaim (ee.claim f))
+      (in-each (λ g. IsClimbed (λ n. n) ee.overclaim (kept_at none g) (ee.claim g) (kept_at sets g))
       climbed f);
   marked = record {
-    on = λ i d g e off. fresh i (omega (arith, get_lt cas i d g, len)) e;
+    on = λ i d g e off. fresh i (omega (arith, get-lt cas i d g, len)) e;
     off = λ i d g e. (apart.0 i d g, tt);
   };
   count = refl;
@@ -407,18 +407,18 @@ module _ (cas : List Cert) (ee head : Cert) (sets : KeptSets) (marks : List ℕ)
     not_self_signed = open_head;
   }
 
-  pub none_verifies : ¬ (IsSelfSigned head) → IsUnverified cas head.aki head.verifies
+  pub none-verifies : ¬ (IsSelfSigned head) → IsUnverified cas head.aki head.verifies
       → IsRefused NoValidIssuer cas ee
-  none_verifies open_head u = (head, w.below, reached open_head, u)
+  none-verifies open_head u = (head, w.below, reached open_head, u)
 
   -- more steps than there are CAs
-  pub few_steps : steps ≤ length cas
-  few_steps = omega (arith, short cas ee (head ∷ w.below) w.chain, w.count)
+  pub few-steps : steps ≤ length cas
+  few-steps = omega (arith, short cas ee (head ∷ w.below) w.chain, w.count)
 
   module _ (d : Cert) (i : ℕ) (at_i : slice_get cas i ≡ Some d)
       (open_head : ¬ (IsSelfSigned head)) (next : IsNext cas head.aki head.verifies d) where
-    pub returns_to_mark : slice_index marks i ≡ turn → IsRefused Returns cas ee
-    returns_to_mark e = (
+    pub returns-to-mark : slice_index marks i ≡ turn → IsRefused Returns cas ee
+    returns-to-mark e = (
       head,
       d,
       w.below,
@@ -427,9 +427,9 @@ module _ (cas : List Cert) (ee head : Cert) (sets : KeptSets) (marks : List ℕ)
       w.marked.on i d at_i e,
     )
 
-    pub is_revoked : slice_index marks i ≢ turn → IsTrue (d.revokes head.serial)
+    pub is-revoked : slice_index marks i ≢ turn → IsTrue (d.revokes head.serial)
         → IsRefused Revoked cas ee
-    is_revoked e r = (
+    is-revoked e r = (
       head,
       d,
       w.below,
@@ -444,18 +444,18 @@ module _ (cas : List Cert) (ee head : Cert) (sets : KeptSets) (marks : List ℕ)
     abbrev pub IsKeptIn : Family → Type 0
     IsKeptIn f = CoversKept (λ n. n) head.overclaim (kept_at sets f) (d.claim f)
 
-    from_kept : (f : Family) → IsKeptIn f → IsCoveredIn f
-    from_kept f h = from_covers_kept (λ n. n) head.overclaim (kept_at sets f)
+    from-kept : (f : Family) → IsKeptIn f → IsCoveredIn f
+    from-kept f h = from-covers_kept (λ n. n) head.overclaim (kept_at sets f)
         (explicit_sets (head ∷ w.below) f) (d.claim f) (w.kept f) h
 
-    to_kept : (f : Family) → IsCoveredIn f → IsKeptIn f
-    to_kept f h = covers_kept (λ n. n) head.overclaim (kept_at sets f)
+    to-kept : (f : Family) → IsCoveredIn f → IsKeptIn f
+    to-kept f h = covers_kept (λ n. n) head.overclaim (kept_at sets f)
         (explicit_sets (head ∷ w.below) f) (d.claim f) (w.kept f) h
 
-    pub is_uncovered : (family : Family) → slice_index marks i ≢ turn
+    pub is-uncovered : (family : Family) → slice_index marks i ≢ turn
         → IsFalse (d.revokes head.serial) → FailsFirst IsKeptIn family
         → IsRefused (NotCovered family) cas ee
-    is_uncovered family e r h = (
+    is-uncovered family e r h = (
       head,
       d,
       w.below,
@@ -464,40 +464,40 @@ module _ (cas : List Cert) (ee head : Cert) (sets : KeptSets) (marks : List ℕ)
       (
         w.marked.off i d at_i e,
         r,
-        fails_first IsKeptIn IsCoveredIn from_kept to_kept family h,
+        fails-first IsKeptIn IsCoveredIn from-kept to-kept family h,
       ),
     )
 
-    pub walks_on : (new : KeptSets) → AreApart ee cas → i < length marks
+    pub walks-on : (new : KeptSets) → AreApart ee cas → i < length marks
         → slice_index marks i ≢ turn → IsFalse (d.revokes head.serial) → InEach IsKeptIn →
         InEach (λ f. IsClimbed (λ n. n) head.overclaim (kept_at sets f) (d.claim f) (kept_at new f))
         → IsWalking cas ee d new (set marks i turn) turn (steps + 1)
-    walks_on new apart lt ne fresh cov climbed =
+    walks-on new apart lt ne fresh cov climbed =
         let off_next : IsOff d (head ∷ w.below) = w.marked.off i d at_i ne in
         let issued : IsIssuedBy cas head d =
         record {
           not_self_signed = open_head;
           carried =
-              get_in cas i d at_i;
+              get-in cas i d at_i;
           names_issuer = next.named;
           signed =
               next.verified;
           not_revoked = fresh;
         } in
-        let here' : (f : Family) → IsCoveredIn f = λ f. from_kept f (in_each IsKeptIn cov f) in
+        let here' : (f : Family) → IsCoveredIn f = λ f. from-kept f (in-each IsKeptIn cov f) in
         record {
           below = head ∷ w.below;
           chain = (issued, off_next, w.chain);
           first = (next, w.first);
           covered = (here', w.covered);
-          kept = λ f. climb_keeps (λ n. n) head.overclaim (kept_at sets f) (kept_at new f)
+          kept = λ f. climb-keeps (λ n. n) head.overclaim (kept_at sets f) (kept_at new f)
               (d.claim f) (explicit_sets (head ∷ w.below) f) (w.kept f) (here' f)
-              (in_each (λ g. IsClimbed (λ n. n) head.overclaim (kept_at sets g) (d.claim g)
+              (in-each (λ g. IsClimbed (λ n. n) head.overclaim (kept_at sets g) (d.claim g)
               (kept_at new g)) climbed f);
           marked = record {
             on = λ j x g e off. elim (cases_eq j i) [
               | inl s ↦ off.0 (ap (λ (z : Cert). z.place)
-                  (some_same x d (sym g ∙ ap (slice_get cas) s ∙ at_i)))
+                  (same_Some x d (sym g ∙ ap (slice_get cas) s ∙ at_i)))
               | inr differ ↦ w.marked.on j x g
                   (sym (get_or-set_other marks i j turn 0 differ) ∙ e) off.1
             ];
@@ -513,12 +513,12 @@ module _ (cas : List Cert) (ee head : Cert) (sets : KeptSets) (marks : List ℕ)
           count = (let t : suc (length w.below) ≡ steps + 1 = omega (arith, w.count) in t);
         }
 
-pub keeps_none : (turn : ℕ) (marks : List ℕ) → KeepsMarks turn marks marks
-keeps_none turn marks i ne = refl
+pub keeps-none : (turn : ℕ) (marks : List ℕ) → KeepsMarks turn marks marks
+keeps-none turn marks i ne = refl
 
-pub keeps_more : (turn i : ℕ) (old marks : List ℕ) → i < length marks → KeepsMarks turn old marks
+pub keeps-more : (turn i : ℕ) (old marks : List ℕ) → i < length marks → KeepsMarks turn old marks
     → KeepsMarks turn old (set marks i turn)
-keeps_more turn i old marks lt h k ne =
+keeps-more turn i old marks lt h k ne =
     let differ : k ≢ i = λ s. ne
     (ap (λ n. get_or (set marks i turn) n 0) s ∙ get_or-set_same marks i turn 0 lt) in
     let same = get_or-set_other marks i k turn 0 differ in
@@ -526,49 +526,49 @@ keeps_more turn i old marks lt h k ne =
 
 pub kept_tells_takes : KeptTellsTakes
 kept_tells_takes head p kept ski key sets stands = (
-  λ h f. from_covers_kept (λ n. n) head.overclaim (kept_at kept f) (explicit_sets (head ∷ p) f)
+  λ h f. from-covers_kept (λ n. n) head.overclaim (kept_at kept f) (explicit_sets (head ∷ p) f)
       (Explicit (sets f)) (stands f)
-      (in_each (λ g. CoversKept (λ n. n) head.overclaim (kept_at kept g) (Explicit (sets g))) h f),
-  λ h. to_each (λ g. CoversKept (λ n. n) head.overclaim (kept_at kept g) (Explicit (sets g)))
+      (in-each (λ g. CoversKept (λ n. n) head.overclaim (kept_at kept g) (Explicit (sets g))) h f),
+  λ h. to-each (λ g. CoversKept (λ n. n) head.overclaim (kept_at kept g) (Explicit (sets g)))
       (λ f. covers_kept (λ n. n) head.overclaim (kept_at kept f) (explicit_sets (head ∷ p) f)
       (Explicit (sets f)) (stands f) (h f)),
 )
 
 -- what an index has of an identifier
-pub index_named : (ids : List (List ℕ)) (index : Places) (id aki : Option (List ℕ))
+pub index-named : (ids : List (List ℕ)) (index : Places) (id aki : Option (List ℕ))
     (named : List ℕ) → IsIndex ids index → named ≡ places_of index id → id ≡ aki
     → IsNamedBy ids aki named
-index_named ids index id None named h e f = e ∙ ap (places_of index) f
-index_named ids index id (Some aki) named h e f =
+index-named ids index id None named h e f = e ∙ ap (places_of index) f
+index-named ids index id (Some aki) named h e f =
     subst (λ l. IsNamed ids aki l) (sym (e ∙ ap (places_of index) f)) (h aki)
 
 -- what was found, by the certificate at its place
-pub issuer_at : (cas : List Cert) (aki : Option (List ℕ)) (verifies : List ℕ → Bool) (i : ℕ)
+pub issuer-at : (cas : List Cert) (aki : Option (List ℕ)) (verifies : List ℕ → Bool) (i : ℕ)
     (x : Cert) →
     slice_get cas i ≡ Some x → FoundSays cas aki verifies (Issuer i) → IsNext cas aki verifies x
-issuer_at cas aki verifies i x at_i h =
+issuer-at cas aki verifies i x at_i h =
     subst (λ z. IsNext cas aki verifies z)
-    (some_same h.0 x (sym h.1.at_index ∙ ap (slice_get cas) h.2 ∙ at_i)) h.1
+    (same_Some h.0 x (sym h.1.at_index ∙ ap (slice_get cas) h.2 ∙ at_i)) h.1
 
-pub empty_from : {A : Type 0} (xs : List A) → length xs ≡ 0 → xs ≡ []
-empty_from [] e = refl
-empty_from (x ∷ xs) e = absurd (omega (arith, e))
+pub empty-from : {A : Type 0} (xs : List A) → length xs ≡ 0 → xs ≡ []
+empty-from [] e = refl
+empty-from (x ∷ xs) e = absurd (omega (arith, e))
 
-pub searching_at : (cas : List Cert) (aki : Option (List ℕ)) (verifies : List ℕ → Bool)
+pub searching-at : (cas : List Cert) (aki : Option (List ℕ)) (verifies : List ℕ → Bool)
     (named left right : List ℕ) (before after : ℕ) →
     IsSearching cas aki verifies named left before after → left ≡ right
     → IsSearching cas aki verifies named right before after
-searching_at cas aki verifies named left right before after w e =
+searching-at cas aki verifies named left right before after w e =
     subst (λ l. IsSearching cas aki verifies named l before after) e w
 
-pub searching_next : (cas : List Cert) (aki : Option (List ℕ)) (verifies : List ℕ → Bool) (d : Cert)
+pub searching-next : (cas : List Cert) (aki : Option (List ℕ)) (verifies : List ℕ → Bool) (d : Cert)
     (named rest : List ℕ) (i before after next : ℕ) →
     IsSearching cas aki verifies named (i ∷ rest) before after → slice_get cas i ≡ Some d
     → IsFalse (verifies d.key) → next ≡ after + 1 →
     IsSearching cas aki verifies named rest before next
-searching_next cas aki verifies d named rest i before after next w at_i fails e =
+searching-next cas aki verifies d named rest i before after next w at_i fails e =
     subst (λ n. IsSearching cas aki verifies named rest before n) (sym e)
-    (searching_more cas aki verifies d named rest i before after w at_i fails)
+    (searching-more cas aki verifies d named rest i before after w at_i fails)
 
-pub issuer_same : (a b : ℕ) → Issuer a ≡ Issuer b → a ≡ b
-issuer_same a b e = cc
+pub issuer-same : (a b : ℕ) → Issuer a ≡ Issuer b → a ≡ b
+issuer-same a b e = cc

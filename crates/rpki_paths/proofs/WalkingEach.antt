@@ -21,24 +21,24 @@ use Rattle.rpki_paths.specs.Kept.{IsUnder, IsKept, AreKept, AreWalked, AreRefuse
 use Rattle.rpki_paths.specs.Kept.{AreFirstOnEach}
 use Rattle.rpki_paths.specs.Laws.{RefusedHasNoPaths}
 use Rattle.rpki_paths.proofs.Chains.{unique}
-use Rattle.rpki_paths.proofs.Walking.{in_get, get_lt, get_in, refused_has_no_path}
+use Rattle.rpki_paths.proofs.Walking.{in-get, get-lt, get-in, refused_has_no_path}
 
 -- ---- lists that grow at the end
 
-in_front : {A : Type 0} (x : A) (xs ys : List A) → IsIn x xs → IsIn x (xs ++ ys)
-in_front x [] ys i = absurd i
-in_front x (z ∷ xs) ys (inl e) = inl e
-in_front x (z ∷ xs) ys (inr i) = inr (in_front x xs ys i)
+in-front : {A : Type 0} (x : A) (xs ys : List A) → IsIn x xs → IsIn x (xs ++ ys)
+in-front x [] ys i = absurd i
+in-front x (z ∷ xs) ys (inl e) = inl e
+in-front x (z ∷ xs) ys (inr i) = inr (in-front x xs ys i)
 
-pub in_last : {A : Type 0} (x : A) (xs ys : List A) → IsIn x (xs ++ x ∷ ys)
-in_last x [] ys = inl refl
-in_last x (z ∷ xs) ys = inr (in_last x xs ys)
+pub in-last : {A : Type 0} (x : A) (xs ys : List A) → IsIn x (xs ++ x ∷ ys)
+in-last x [] ys = inl refl
+in-last x (z ∷ xs) ys = inr (in-last x xs ys)
 
-pub in_more : {A : Type 0} (x y : A) (xs : List A) → IsIn x (xs ++ y ∷ []) → IsIn x xs ⊎ (x ≡ y)
-in_more x y [] (inl e) = inr e
-in_more x y [] (inr i) = absurd i
-in_more x y (z ∷ xs) (inl e) = inl (inl e)
-in_more x y (z ∷ xs) (inr i) = elim (in_more x y xs i) [ inl j ↦ inl (inr j) | inr e ↦ inr e ]
+pub in-more : {A : Type 0} (x y : A) (xs : List A) → IsIn x (xs ++ y ∷ []) → IsIn x xs ⊎ (x ≡ y)
+in-more x y [] (inl e) = inr e
+in-more x y [] (inr i) = absurd i
+in-more x y (z ∷ xs) (inl e) = inl (inl e)
+in-more x y (z ∷ xs) (inr i) = elim (in-more x y xs i) [ inl j ↦ inl (inr j) | inr e ↦ inr e ]
 
 zeros : (n k : ℕ) → slice_index (replicate n 0) k ≡ 0
 zeros zero k = refl
@@ -46,23 +46,23 @@ zeros (suc n) zero = refl
 zeros (suc n) (suc k) = zeros n k
 
 module _ {C : Type 0} (cert : C → Cert) (cas : List Cert) where
-  paths_more : (es : List C) (e : C) (paths : List (List Cert)) (p : List Cert)
+  paths-more : (es : List C) (e : C) (paths : List (List Cert)) (p : List Cert)
       → ArePaths cas (map cert es) paths → IsPath cas (at_place 0 (cert e)) p → IsLinkCovered p
       → ArePaths cas (map cert (es ++ e ∷ [])) (paths ++ p ∷ [])
-  paths_more [] e [] p h path cov = (path, cov, tt)
-  paths_more [] e (q ∷ paths) p h path cov = absurd h
-  paths_more (x ∷ es) e [] p h path cov = absurd h
-  paths_more (x ∷ es) e (q ∷ paths) p h path cov =
-      (h.0, h.1, paths_more es e paths p h.2 path cov)
+  paths-more [] e [] p h path cov = (path, cov, tt)
+  paths-more [] e (q ∷ paths) p h path cov = absurd h
+  paths-more (x ∷ es) e [] p h path cov = absurd h
+  paths-more (x ∷ es) e (q ∷ paths) p h path cov =
+      (h.0, h.1, paths-more es e paths p h.2 path cov)
 
-  kept_more : (supplies : List Supply) (kept : List (Path C)) (k : Path C)
+  kept-more : (supplies : List Supply) (kept : List (Path C)) (k : Path C)
       (paths : List (List Cert)) (p : List Cert) → AreKept cert supplies kept paths
       → IsKept cert supplies k p → AreKept cert supplies (kept ++ k ∷ []) (paths ++ p ∷ [])
-  kept_more supplies [] k [] p h i = (i, tt)
-  kept_more supplies [] k (q ∷ paths) p h i = absurd h
-  kept_more supplies (l ∷ kept) k [] p h i = absurd h
-  kept_more supplies (l ∷ kept) k (q ∷ paths) p h i =
-      (h.0, kept_more supplies kept k paths p h.1 i)
+  kept-more supplies [] k [] p h i = (i, tt)
+  kept-more supplies [] k (q ∷ paths) p h i = absurd h
+  kept-more supplies (l ∷ kept) k [] p h i = absurd h
+  kept-more supplies (l ∷ kept) k (q ∷ paths) p h i =
+      (h.0, kept-more supplies kept k paths p h.1 i)
 
   -- ---- in the middle
 
@@ -80,9 +80,9 @@ module _ {C : Type 0} (cert : C → Cert) (cas : List Cert) where
         → (p : List Cert) → IsIn p paths → IsOff d p
     pub small : (k : ℕ) → slice_index marks k ≤ turn
 
-  pub each_none : (ees : List C) (kept : List (Path C)) (marks : List ℕ) (n : ℕ) → ees ≡ []
+  pub each-none : (ees : List C) (kept : List (Path C)) (marks : List ℕ) (n : ℕ) → ees ≡ []
       → kept ≡ [] → marks ≡ replicate n 0 → IsWalkingEach ees kept marks 0
-  each_none ees kept marks n none empty e =
+  each-none ees kept marks n none empty e =
       let zero_at : (k : ℕ) → slice_index marks k ≡ 0 =
       λ k. ap (λ m. slice_index m k) e ∙ zeros n k in
       record {
@@ -98,12 +98,12 @@ module _ {C : Type 0} (cert : C → Cert) (cas : List Cert) where
   module _ (ees : List C) (kept : List (Path C)) (marks : List ℕ) (turn : ℕ)
       (w : IsWalkingEach ees kept marks turn) where
     -- the walk from one more
-    pub each_more : (all : List C) (e : C) (path : Path C) (longer : List (Path C))
+    pub each-more : (all : List C) (e : C) (path : Path C) (longer : List (Path C))
         (new : List ℕ) → all ≡ ees ++ e ∷ [] → longer ≡ kept ++ path ∷ []
         → IsWalked cas (at_place 0 (cert e)) (at_place path.place (cert path.head)) path.sets new
         (turn + 1) → IsFalse path.anchored → KeepsMarks (turn + 1) marks new
         → IsWalkingEach all longer new (turn + 1)
-    each_more all e path longer new more put walked open_path keeps =
+    each-more all e path longer new more put walked open_path keeps =
         let p = at_place path.place (cert path.head) ∷ walked.below in
         let here : IsKept cert [] path p =
         record {
@@ -115,23 +115,23 @@ module _ {C : Type 0} (cert : C → Cert) (cas : List Cert) where
         record {
           paths = w.paths ++ p ∷ [];
           stand = subst (λ l. ArePaths cas (map cert l) (w.paths ++ p ∷ [])) (sym more)
-              (paths_more ees e w.paths p w.stand walked.path walked.covered);
-          first = λ q i. elim (in_more q p w.paths i) [
+              (paths-more ees e w.paths p w.stand walked.path walked.covered);
+          first = λ q i. elim (in-more q p w.paths i) [
             | inl j ↦ w.first q j
             | inr same ↦ subst (λ z. AreFirst cas z) (sym same) walked.first
           ];
           are_kept = subst (λ l. AreKept cert [] l (w.paths ++ p ∷ [])) (sym put)
-              (kept_more [] kept path w.paths p w.are_kept here);
+              (kept-more [] kept path w.paths p w.are_kept here);
           on = λ k d at_k ne. elim (cases_eq (slice_index new k) (turn + 1)) [
-            | inl same ↦ (p, in_last p w.paths [], walked.marked.on k d at_k same)
+            | inl same ↦ (p, in-last p w.paths [], walked.marked.on k d at_k same)
             | inr differ ↦
                 (let t = w.on k d at_k (λ z. ne (keeps k differ ∙ z)) in
-                (t.0, in_front t.0 w.paths (p ∷ []) t.1, t.2))
+                (t.0, in-front t.0 w.paths (p ∷ []) t.1, t.2))
           ];
           off = λ k d at_k z q i.
               (let differ : ¬ (slice_index new k ≡ turn + 1) =
               λ s. absurd (omega (arith, z, s)) in
-              elim (in_more q p w.paths i) [
+              elim (in-more q p w.paths i) [
                 | inl j ↦ w.off k d at_k (sym (keeps k differ) ∙ z) q j
                 | inr same ↦ subst (λ l. IsOff d l) (sym same)
                     (walked.marked.off k d at_k differ)
@@ -142,14 +142,14 @@ module _ {C : Type 0} (cert : C → Cert) (cas : List Cert) where
           ];
         }
 
-    pub each_fresh : (k : ℕ) → ¬ (slice_index marks k ≡ turn + 1)
-    each_fresh k e = omega (arith, w.small k, e)
+    pub each-fresh : (k : ℕ) → ¬ (slice_index marks k ≡ turn + 1)
+    each-fresh k e = omega (arith, w.small k, e)
 
     -- one that has no path
     module _ (all : List C) (e : C) (more : List C) (parts : ees ++ e ∷ more ≡ all) where
-      no_path : (fault : PathFault) → IsRefused fault cas (at_place 0 (cert e))
+      no-path : (fault : PathFault) → IsRefused fault cas (at_place 0 (cert e))
           → ¬ (fault ≡ OutOfMemory) → AreRefused (NoPath fault) cas (map cert all)
-      no_path fault r other = record {
+      no-path fault r other = record {
         done = map cert ees;
         ee = cert e;
         more = map cert more;
@@ -161,20 +161,20 @@ module _ {C : Type 0} (cert : C → Cert) (cas : List Cert) where
         not_memory = other;
       }
 
-      pub each_refused : (fault : PathFault) → IsRefused fault cas (at_place 0 (cert e))
+      pub each-refused : (fault : PathFault) → IsRefused fault cas (at_place 0 (cert e))
           → AreRefused (walks_fault fault) cas (map cert all)
-      each_refused NoValidIssuer r = no_path NoValidIssuer r (λ f. cc)
-      each_refused Returns r = no_path Returns r (λ f. cc)
-      each_refused Revoked r = no_path Revoked r (λ f. cc)
-      each_refused (NotCovered family) r = no_path (NotCovered family) r (λ f. cc)
-      each_refused OutOfMemory r = tt
+      each-refused NoValidIssuer r = no-path NoValidIssuer r (λ f. cc)
+      each-refused Returns r = no-path Returns r (λ f. cc)
+      each-refused Revoked r = no-path Revoked r (λ f. cc)
+      each-refused (NotCovered family) r = no-path (NotCovered family) r (λ f. cc)
+      each-refused OutOfMemory r = tt
 
     -- a CA that stands on none
-    pub each_unused : (all : List C) (place : ℕ) → ees ≡ all → place < length cas
+    pub each-unused : (all : List C) (place : ℕ) → ees ≡ all → place < length cas
         → slice_index marks place ≡ 0 → ((k : ℕ) → k < place → slice_index marks k ≢ 0)
         → AreRefused (Unused place) cas (map cert all)
-    each_unused all place e lt z before =
-        let t = some_at cas place lt in
+    each-unused all place e lt z before =
+        let t = some-at cas place lt in
         record {
           paths = w.paths;
           ca = t.0;
@@ -185,22 +185,22 @@ module _ {C : Type 0} (cert : C → Cert) (cas : List Cert) where
           before = λ k d less at_k. w.on k d at_k (before k less);
         }
       where
-        some_at : (xs : List Cert) (k : ℕ) → k < length xs
+        some-at : (xs : List Cert) (k : ℕ) → k < length xs
             → (x : Cert) × (slice_get xs k ≡ Some x)
-        some_at [] k l = absurd (omega (arith, l))
-        some_at (x ∷ xs) zero l = (x, refl)
-        some_at (x ∷ xs) (suc k) l = some_at xs k (omega (arith, l))
+        some-at [] k l = absurd (omega (arith, l))
+        some-at (x ∷ xs) zero l = (x, refl)
+        some-at (x ∷ xs) (suc k) l = some-at xs k (omega (arith, l))
 
-    pub each_done : (all : List C) → ees ≡ all → length marks ≡ length cas
+    pub each-done : (all : List C) → ees ≡ all → length marks ≡ length cas
         → ((k : ℕ) → k < length marks → slice_index marks k ≢ 0)
         → AreWalked cert cas (map cert all) kept
-    each_done all e len none = record {
+    each-done all e len none = record {
       paths = w.paths;
       stand = subst (λ l. ArePaths cas (map cert l) w.paths) e w.stand;
       first = w.first;
       used = λ d i.
-          (let t = in_get cas d i in
-          let lt = get_lt cas t.0 d t.1 in
+          (let t = in-get cas d i in
+          let lt = get-lt cas t.0 d t.1 in
           w.on t.0 d t.1 (none t.0 (omega (arith, lt, len))));
       are_kept = w.are_kept;
     }
@@ -208,31 +208,31 @@ module _ {C : Type 0} (cert : C → Cert) (cas : List Cert) where
 -- ---- refused walks have no paths
 
 -- with distinct identifiers there is one list of paths
-same_paths : (cas ees : List Cert) (ps qs : List (List Cert)) → IsDistinct cas
+same-paths : (cas ees : List Cert) (ps qs : List (List Cert)) → IsDistinct cas
     → ArePaths cas ees ps → ArePaths cas ees qs → ps ≡ qs
-same_paths cas [] [] [] dist h k = refl
-same_paths cas [] [] (q ∷ qs) dist h k = absurd k
-same_paths cas [] (p ∷ ps) qs dist h k = absurd h
-same_paths cas (e ∷ ees) [] qs dist h k = absurd h
-same_paths cas (e ∷ ees) (p ∷ ps) [] dist h k = absurd k
-same_paths cas (e ∷ ees) (p ∷ ps) (q ∷ qs) dist h k =
+same-paths cas [] [] [] dist h k = refl
+same-paths cas [] [] (q ∷ qs) dist h k = absurd k
+same-paths cas [] (p ∷ ps) qs dist h k = absurd h
+same-paths cas (e ∷ ees) [] qs dist h k = absurd h
+same-paths cas (e ∷ ees) (p ∷ ps) [] dist h k = absurd k
+same-paths cas (e ∷ ees) (p ∷ ps) (q ∷ qs) dist h k =
     ap (λ x. x ∷ ps) (unique cas (at_place 0 e) p q dist h.0 k.0)
-    ∙ ap (λ l. q ∷ l) (same_paths cas ees ps qs dist h.2 k.2)
+    ∙ ap (λ l. q ∷ l) (same-paths cas ees ps qs dist h.2 k.2)
 
-path_of : (cas done : List Cert) (e : Cert) (more : List Cert) (paths : List (List Cert))
+path-of : (cas done : List Cert) (e : Cert) (more : List Cert) (paths : List (List Cert))
     → ArePaths cas (done ++ e ∷ more) paths
     → (p : List Cert) × IsPath cas (at_place 0 e) p × IsLinkCovered p
-path_of cas [] e more [] h = absurd h
-path_of cas [] e more (p ∷ paths) h = (p, h.0, h.1)
-path_of cas (d ∷ done) e more [] h = absurd h
-path_of cas (d ∷ done) e more (p ∷ paths) h = path_of cas done e more paths h.2
+path-of cas [] e more [] h = absurd h
+path-of cas [] e more (p ∷ paths) h = (p, h.0, h.1)
+path-of cas (d ∷ done) e more [] h = absurd h
+path-of cas (d ∷ done) e more (p ∷ paths) h = path-of cas done e more paths h.2
 
 pub refused_has_no_paths : RefusedHasNoPaths
 refused_has_no_paths (NoPath fault) cas ees paths other dist h stand used =
-    let t = path_of cas h.done h.ee h.more paths
+    let t = path-of cas h.done h.ee h.more paths
     (subst (λ l. ArePaths cas l paths) h.parts stand) in
     refused_has_no_path fault cas (at_place 0 h.ee) t.0 h.not_memory dist h.refused t.1 t.2
 refused_has_no_paths (Unused place) cas ees paths other dist h stand used =
-    h.unused (subst (λ l. IsUsed h.ca l) (same_paths cas ees paths h.paths dist stand h.stand)
-    (used h.ca (get_in cas place h.ca h.at_index)))
+    h.unused (subst (λ l. IsUsed h.ca l) (same-paths cas ees paths h.paths dist stand h.stand)
+    (used h.ca (get-in cas place h.ca h.at_index)))
 refused_has_no_paths Memory cas ees paths other dist h stand used = other refl

@@ -1,11 +1,10 @@
 pub mod Adding
 pub mod Between
-pub mod Bools
 pub mod Covering
 pub mod Equality
+pub mod Intersecting
 pub mod Joining
 pub mod Listed
-pub mod Meeting
 pub mod Merging
 pub mod Rises
 pub mod Same

@@ -1,4 +1,4 @@
-//! Prefixes in DER and BER (RFC 3779, section 2.2.3.8; RFC 6482, section 3.3).
+//! Prefixes in DER and BER (RFC 3779, section 2.2.3.8; RFC 9582, section 4.3).
 
 ghost use Rattle.std.specs.Prelude.{◌<◌, ◌^◌, length, MatchOption};
 ghost use Rattle.rpki_der.specs.Tags.{BIT_STRING};
@@ -33,7 +33,7 @@ fn take_prefix(cons: &mut Constructed<'_>, family: AddressFamily) -> Result<Pref
 impl Prefix {
     /// The prefix of the family whose bits these octets are, without the `unused` last bits of the
     /// last octet, which may be any: the contents of a BIT STRING (RFC 3779, section 2.2.3.8; RFC
-    /// 6482, section 3.3). `None` where they are no string of bits, with 8 bits or more that are
+    /// 9582, section 4.3). `None` where they are no string of bits, with 8 bits or more that are
     /// not used or with any of no octet, or have more bits than an address of the family.
     pub fn from_bits(octets: &[u8], unused: u8, family: AddressFamily) -> Option<Prefix>
         ensures { MatchOption result
@@ -48,8 +48,8 @@ impl Prefix {
         Some(Prefix::new(addr, len as u8))
     }
 
-    /// Reads a prefix of the family: a BIT STRING of its bits (RFC 3779, section 2.2.3.8; RFC 6482,
-    /// section 3.3). The bits of the last octet that are not used may be any, and are cleared. More
+    /// Reads a prefix of the family: a BIT STRING of its bits (RFC 3779, section 2.2.3.8; RFC 9582,
+    /// section 4.3). The bits of the last octet that are not used may be any, and are cleared. More
     /// bits than an address of the family has are refused by `Reason::AddressTooLong`, and what is
     /// no such string is `Malformed`. Where there is no memory for the bits, the answer is
     /// `Memory`.

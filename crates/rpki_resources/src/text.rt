@@ -131,8 +131,8 @@ impl IpBlock {
     }
 }
 
-/// A prefix with, perhaps, the length up to which longer ones are authorized too (RFC 6482,
-/// section 3.3), both in bits.
+/// A prefix with, perhaps, the length up to which longer ones are authorized too (RFC 9582,
+/// section 4.3), both in bits.
 #[derive(Clone, Copy, Debug, PartialEq, Eq, Hash)]
 pub struct MaxLenPrefix {
     pub family: AddressFamily,

@@ -30,8 +30,8 @@ static COUNTS: [(u16, bool, bool); 7] = [
     (16_381, false, false),
 ];
 
-/// Whether these octets have so many providers, if the limit lets them pass, and are written again,
-/// or are refused for their number.
+/// Whether these octets have this number of providers, if the limit lets them pass, and are written
+/// again, or are refused for their number.
 fn is_limited(
     alloc: Global,
     octets: &[u8],

@@ -1,5 +1,5 @@
 -- Other octets are another number, and other digests another encoded message.
-use Rattle.std.proofs.Common.{◌≡◌, ℕ, zero, suc, ◌+◌, ◌-◌, ◌*◌, List, [], ◌∷◌, ◌++◌}
+use Rattle.std.proofs.Common.{◌≡◌, ℕ, zero, suc, ◌+◌, ◌-◌, List, [], ◌∷◌, ◌++◌}
 use Rattle.std.proofs.Common.{length}
 use Rattle.std.proofs.Common.{replicate, refl, sym, ap, subst, ◌∙◌, arith}
 use Rattle.std.specs.Prelude.{slice_index}
@@ -9,7 +9,7 @@ use Rattle.sha2.proofs.Facts256.{length-sha256}
 use Rattle.rpki_der.specs.Grammar.{IsBytes}
 use Rattle.rpki_der.specs.Numbers.{number}
 use Rattle.rpki_rsa.specs.Signature.{encoded_message, IsSignatureOf, IsRsaSignature}
-use Rattle.rpki_rsa.proofs.EncodedParts.{digest_front, encoded-parts, encoded_number}
+use Rattle.rpki_rsa.proofs.EncodedParts.{digest_front, encoded-parts, encoded-number}
 use Rattle.rpki_rsa.proofs.KeyFacts.{one-modulus}
 use Rattle.rpki_der.proofs.Reading.Unique.{bytes-both}
 use Rattle.rpki_der.proofs.Writing.Numbers.{number-injective}
@@ -35,7 +35,7 @@ front_number k =
 
 front-then : (k : ℕ) (m : List ℕ)
     → number (front_number k) (sha256 m) ≡ number 0 (encoded_message k m)
-front-then k m = encoded_number k m _ _ _ _ _ refl refl refl refl refl
+front-then k m = encoded-number k m _ _ _ _ _ refl refl refl refl refl
 
 same-digest : (k : ℕ) (a b : List ℕ)
     → number 0 (encoded_message k a) ≡ number 0 (encoded_message k b) → sha256 a ≡ sha256 b

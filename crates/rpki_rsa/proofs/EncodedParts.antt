@@ -10,7 +10,7 @@ use Rattle.rpki_keys.specs.Algorithm.{sha_256, algorithm_and_null}
 use Rattle.rpki_rsa.specs.Limbs.{value}
 use Rattle.rpki_rsa.specs.Signature.{digest_info, encoded_message}
 use Rattle.rpki_rsa.proofs.LimbFacts.{number-append, value_below-zero}
-use Rattle.rpki_rsa.proofs.Remainders.{low_limb_all}
+use Rattle.rpki_rsa.proofs.Remainders.{low-limb-all}
 
 -- a DigestInfo up to its digest
 abbrev pub digest_front : List ℕ
@@ -62,11 +62,11 @@ encoded-parts k m =
     ∙ ap (λ (j : ℕ). (0x00 ∷ 0x01 ∷ []) ++ (replicate j 0xFF ++ ((0x00 ∷ []) ++ t))) few
 
 -- pushed piece by piece
-pub encoded_number : (k : ℕ) (m : List ℕ) (v1 v2 v3 v4 v5 : ℕ) → v1 ≡ number 0 (0 ∷ 1 ∷ [])
+pub encoded-number : (k : ℕ) (m : List ℕ) (v1 v2 v3 v4 v5 : ℕ) → v1 ≡ number 0 (0 ∷ 1 ∷ [])
     → v2 ≡ number v1 (replicate (k - 54) 0xFF) → v3 ≡ number v2 (0 ∷ [])
     → v4 ≡ number v3 digest_front → v5 ≡ number v4 (sha256 m)
     → v5 ≡ number 0 (encoded_message k m)
-encoded_number k m v1 v2 v3 v4 v5 e1 e2 e3 e4 e5 =
+encoded-number k m v1 v2 v3 v4 v5 e1 e2 e3 e4 e5 =
     let d = sha256 m in
     let head = 0 ∷ 1 ∷ [] in
     let fill = replicate (k - 54) 0xFF in
@@ -81,7 +81,7 @@ encoded_number k m v1 v2 v3 v4 v5 e1 e2 e3 e4 e5 =
     ∙ ap (number 0) (sym (encoded-parts k m))
 
 parity : (xs : List ℕ) → 0 < length xs → value xs % 2 ≡ get_or xs 0 0 % 2
-parity xs h = omega (arith, (low_limb_all xs h).1)
+parity xs h = omega (arith, (low-limb-all xs h).1)
 
 -- an odd number has an odd lowest limb
 pub odd-limb : (xs : List ℕ) → value xs % 2 ≡ 1 → get_or xs 0 0 % 2 ≡ 1

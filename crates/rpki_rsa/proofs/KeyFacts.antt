@@ -1,5 +1,5 @@
 -- A key and its modulus, octet by octet.
-use Rattle.std.proofs.Common.{◌≡◌, ◌≢◌, ℕ, zero, suc, ◌+◌, ◌-◌, ◌*◌, ◌/◌, ◌%◌, ◌^◌, ◌<◌, ◌≤◌, List}
+use Rattle.std.proofs.Common.{◌≡◌, ◌≢◌, ℕ, suc, ◌+◌, ◌-◌, ◌*◌, ◌/◌, ◌%◌, ◌^◌, ◌<◌, ◌≤◌, List}
 use Rattle.std.proofs.Common.{[], ◌∷◌, ◌++◌, length, take, drop, get_or, refl, sym, ap, ◌∙◌, arith}
 use Rattle.std.proofs.Common.{length-append, subst, inl, inr, Bool, true, false, not}
 use Rattle.std.specs.Prelude.{nat_eq, ◌⊎◌}
@@ -8,7 +8,7 @@ use Rattle.std.proofs.lemmas.Bool.{cases_lt, lt-ltb, le-ltb, eqb-true}
 use Rattle.std.proofs.lemmas.Bool.{eqb-false, ne_eqb}
 use Rattle.std.proofs.lemmas.Slice.Eq.{bytes_eq-Decides}
 use Rattle.std.proofs.lemmas.List.{take-append-drop}
-use Rattle.std.proofs.Math.Nat.{pow-le-pow_right, pow-suc, mod-lt, div-lt_iff_lt-mul, mul_comm}
+use Rattle.std.proofs.Math.Nat.{pow-le-pow_right, pow-suc}
 use Rattle.std.proofs.Math.Seq.{drop-append_seam, take-append_seam}
 use Rattle.rpki_der.specs.Grammar.{IsBytes, IsInteger}
 use Rattle.rpki_der.specs.Numbers.{number}
@@ -112,19 +112,19 @@ key-whole key k f e len low high =
       most = most;
     }
 
-not_false : (b : Bool) → false ≡ not b → b ≡ true
-not_false true h = refl
-not_false false h = cc
+not-false : (b : Bool) → false ≡ not b → b ≡ true
+not-false true h = refl
+not-false false h = cc
 
-not_true : (b : Bool) → true ≡ not b → b ≡ true → ⊥
-not_true true h e = cc
-not_true false h e = cc
+not-true : (b : Bool) → true ≡ not b → b ≡ true → ⊥
+not-true true h e = cc
+not-true false h e = cc
 
 pub agree : (xs ys : List ℕ) → false ≡ not (bytes_eq xs ys) → xs ≡ ys
-agree xs ys h = (bytes_eq-Decides xs ys).0 (not_false _ h)
+agree xs ys h = (bytes_eq-Decides xs ys).0 (not-false _ h)
 
 pub differ : (xs ys : List ℕ) → true ≡ not (bytes_eq xs ys) → xs ≡ ys → ⊥
-differ xs ys h e = not_true _ h ((bytes_eq-Decides xs ys).1 e)
+differ xs ys h e = not-true _ h ((bytes_eq-Decides xs ys).1 e)
 
 -- ---- the digits in the contents
 
@@ -253,8 +253,8 @@ power-least (x ∷ xs) h some =
 pub has-octets : (d : List ℕ) → IsBytes d → 0 < get_or d 0 0 → HasOctets (number 0 d) (length d)
 has-octets d h some = record { least = power-least d h some; most = number-below d h }
 
-power_below : (j k : ℕ) → 256 ^ j < 256 ^ k → j < k
-power_below j k h =
+power-below : (j k : ℕ) → 256 ^ j < 256 ^ k → j < k
+power-below j k h =
     elim (cases_lt j k) [
       | inl l ↦ l
       | inr g ↦ absurd
@@ -265,31 +265,31 @@ pub same-octets : (n j k : ℕ) → HasOctets n j → HasOctets n k → j ≡ k
 same-octets n j k h i =
     omega (
       arith,
-      power_below (j - 1) j (omega (arith, h.least, h.most)),
-      power_below (j - 1) k (omega (arith, h.least, i.most)),
-      power_below (k - 1) k (omega (arith, i.least, i.most)),
-      power_below (k - 1) j (omega (arith, i.least, h.most)),
+      power-below (j - 1) j (omega (arith, h.least, h.most)),
+      power-below (j - 1) k (omega (arith, h.least, i.most)),
+      power-below (k - 1) k (omega (arith, i.least, i.most)),
+      power-below (k - 1) j (omega (arith, i.least, h.most)),
     )
 
 -- ---- a modulus
 
-bits_2048 : 2 ^ 2047 ≡ 128 * 256 ^ 255
-bits_2048 = refl
+bits-2048 : 2 ^ 2047 ≡ 128 * 256 ^ 255
+bits-2048 = refl
 
-pub bits_4096 : 2 ^ 4096 ≡ 256 ^ 512
-bits_4096 = refl
+pub bits-4096 : 2 ^ 4096 ≡ 256 ^ 512
+bits-4096 = refl
 
 pub too-short : (d : List ℕ) → IsBytes d → length d < 256 → number 0 d < 2 ^ 2047
 too-short d h l =
     let p : 256 ^ length d ≤ 256 ^ 255 =
     pow-le-pow_right {n = 256} (omega arith) {i = length d} {j = 255} (omega arith) in
-    rw bits_2048 (omega (arith, number-below d h, p))
+    rw bits-2048 (omega (arith, number-below d h, p))
 
 pub too-long : (d : List ℕ) → IsBytes d → 0 < get_or d 0 0 → 512 < length d → 2 ^ 4096 ≤ number 0 d
 too-long d h some l =
     let p : 256 ^ 512 ≤ 256 ^ (length d - 1) =
     pow-le-pow_right {n = 256} (omega arith) {i = 512} {j = length d - 1} (omega arith) in
-    rw bits_4096 (omega (arith, power-least d h some, p))
+    rw bits-4096 (omega (arith, power-least d h some, p))
 
 pub too-low : (d : List ℕ) → IsBytes d → length d ≡ 256 → get_or d 0 0 < 128
     → number 0 d < 2 ^ 2047
@@ -299,7 +299,7 @@ too-low (x ∷ xs) h l few =
     let e : length xs ≡ 255 = omega (arith, l) in
     let m : number 0 (x ∷ xs) < (x + 1) * 256 ^ 255 = rw e at b.most in
     let top : x + 1 ≤ 128 = omega (arith, few) in
-    rw bits_2048 (grind (arith, m, top))
+    rw bits-2048 (grind (arith, m, top))
 
 pub large : (d : List ℕ) → IsBytes d → 0 < get_or d 0 0 → 256 ≤ length d
     → (length d ≡ 256 → 128 ≤ get_or d 0 0) → 2 ^ 2047 ≤ number 0 d
@@ -311,19 +311,19 @@ large (x ∷ xs) h some l first =
           let p : 256 ^ 256 ≤ 256 ^ length xs =
           pow-le-pow_right {n = 256} (omega arith) {i = 256} {j = length xs} (omega arith) in
           let q : 128 * 256 ^ 255 ≤ 256 ^ 256 = omega (arith, pow-suc 256 255) in
-          rw bits_2048 (omega (arith, b.least, p, q, at_least x (256 ^ length xs) some))
+          rw bits-2048 (omega (arith, b.least, p, q, at_least x (256 ^ length xs) some))
       | inr least ↦
           let e : length xs ≡ 255 = omega (arith, l) in
           let top : 128 ≤ x = first (omega arith) in
           let m : x * 256 ^ 255 ≤ number 0 (x ∷ xs) = rw e at b.least in
-          rw bits_2048 (grind (arith, m, top))
+          rw bits-2048 (grind (arith, m, top))
     ]
 
 pub small : (d : List ℕ) → IsBytes d → length d ≤ 512 → number 0 d < 2 ^ 4096
 small d h l =
     let p : 256 ^ length d ≤ 256 ^ 512 =
     pow-le-pow_right {n = 256} (omega arith) {i = length d} {j = 512} l in
-    rw bits_4096 (omega (arith, number-below d h, p))
+    rw bits-4096 (omega (arith, number-below d h, p))
 
 pub last-parity : (a : ℕ) (d : List ℕ) → 0 < length d
     → number a d % 2 ≡ get_or d (length d - 1) 0 % 2
@@ -340,7 +340,7 @@ integer-digits : (d : List ℕ) → IsBytes d → 0 < get_or d 0 0 → number 0 
     → not_negative d ≡ integer_contents (digits 512 (number 0 d))
 integer-digits d h some few =
     let n = number 0 d in
-    let fits : number 0 d < 256 ^ 512 = rw bits_4096 at few in
+    let fits : number 0 d < 256 ^ 512 = rw bits-4096 at few in
     let own : integer_contents d ≡ not_negative d = ap not_negative (significant-own d some) in
     let is : IsInteger (not_negative d) (number 0 d) =
     subst (λ (c : List ℕ). IsInteger c (number 0 d)) own (integer-is d) in
@@ -366,7 +366,7 @@ pub record Made (key : List ℕ) (n : ℕ) : Type 0 where
 pub made : (key : List ℕ) (n : ℕ) → IsRsaKey key n → Made key n
 made key n h =
     let ds : List ℕ = digits 512 n in
-    let fits : n < 256 ^ 512 = rw bits_4096 at h.modulus.most in
+    let fits : n < 256 ^ 512 = rw bits-4096 at h.modulus.most in
     let less = shorter (digits 512 n) (bytes-digits 512 n fits) in
     let d : List ℕ = significant (digits 512 n) in
     let same : number 0 (significant (digits 512 n)) ≡ n = less.same ∙ number-digits 512 n fits in

@@ -18,10 +18,10 @@ use Rattle.rpki_basics.specs.Serial.{digits}
 use Rattle.rpki_basics.proofs.Serials.Written.{length-digits, number-digits}
 use Rattle.rpki_rsa.specs.Signature.{key_with, rsa_key_octets, IsModulus, IsRsaKey, RsaKeyForm}
 use Rattle.rpki_basics.proofs.Serials.Written.{bytes-digits}
-use Rattle.rpki_rsa.proofs.KeyFacts.{bits_4096}
+use Rattle.rpki_rsa.proofs.KeyFacts.{bits-4096}
 
 fits : (n : ℕ) → IsModulus n → n < 256 ^ 512
-fits n m = rw bits_4096 at m.most
+fits n m = rw bits-4096 at m.most
 
 short : (n : ℕ) → length (integer_contents (digits 512 n)) < 1000
 short n = omega (arith, length-integer_contents (digits 512 n), length-digits 512 n)

@@ -13,27 +13,27 @@ use Rattle.rpki_rsa.specs.Signature.{encoded_message, IsModulus, IsRsaSignature,
 use Rattle.rpki_rsa.specs.KeyParts.{HasContents, HasDigits, IsModulusOf}
 use Rattle.rpki_rsa.specs.Sample.{sample_modulus, sample_key, sample_signature}
 use Rattle.rpki_rsa.proofs.EncodedParts.{digest_front, encoded-parts}
-use Rattle.rpki_rsa.proofs.Remainders.{power_one}
+use Rattle.rpki_rsa.proofs.Remainders.{power-one}
 use Rattle.rpki_rsa.proofs.KeyFacts.{key-whole, digits-put, is-modulus-of}
 
 -- ---- a power by squares
 
-square_of : ℕ → ℕ → ℕ
-square_of n y = (y * y) % n
+square-of : ℕ → ℕ → ℕ
+square-of n y = (y * y) % n
 
 -- squared k times
 squared : ℕ → ℕ → ℕ → ℕ
 squared n x zero = x
-squared n x (suc k) = square_of n (squared n x k)
+squared n x (suc k) = square-of n (squared n x k)
 
-square-same : (n x y : ℕ) → y % n ≡ x % n → square_of n y % n ≡ (x * x) % n
-unfolding square_of
+square-same : (n x y : ℕ) → y % n ≡ x % n → square-of n y % n ≡ (x * x) % n
+unfolding square-of
 square-same n x y e =
     mod-mod (y * y) n ∙ mul-mod y y n ∙ ap (λ (t : ℕ). (t * t) % n) e ∙ sym (mul-mod x x n)
 
 squared-is : (n x k : ℕ) → squared n x k % n ≡ (x ^ 2 ^ k) % n
 unfolding squared
-squared-is n x zero = ap (λ (t : ℕ). t % n) (sym (power_one x))
+squared-is n x zero = ap (λ (t : ℕ). t % n) (sym (power-one x))
 squared-is n x (suc k) =
     let twice : 2 ^ k + 2 ^ k ≡ 2 ^ suc k = omega (arith, pow-suc 2 k) in
     square-same n (x ^ 2 ^ k) (squared n x k) (squared-is n x k)
@@ -48,12 +48,12 @@ power-is n x =
 
 -- ---- the sample
 
-are_bytes : List ℕ → Bool
-are_bytes [] = true
-are_bytes (b ∷ bytes) = nat_lt b 256 && are_bytes bytes
+are-bytes : List ℕ → Bool
+are-bytes [] = true
+are-bytes (b ∷ bytes) = nat_lt b 256 && are-bytes bytes
 
-bytes-are : (xs : List ℕ) → are_bytes xs ≡ true → IsBytes xs
-unfolding are_bytes
+bytes-are : (xs : List ℕ) → are-bytes xs ≡ true → IsBytes xs
+unfolding are-bytes
 bytes-are [] h = tt
 bytes-are (x ∷ xs) h = (ltb-true _ _ (and_parts _ _ h).0, bytes-are xs (and_parts _ _ h).1)
 
@@ -66,7 +66,7 @@ unfolding sample_modulus
 octets = digits-put (0 ∷ sample_modulus) (omega arith) refl (leb-true _ _ refl)
 
 bytes : IsBytes sample_modulus
-unfolding sample_modulus are_bytes
+unfolding sample_modulus are-bytes
 bytes = bytes-are sample_modulus refl
 
 modulus : IsModulus (number 0 sample_modulus)
@@ -99,7 +99,7 @@ computed :
     (squared (number 0 sample_modulus)
     (number 0 sample_signature) 16 * number 0 sample_signature) % number 0 sample_modulus
     ≡ number 0 (encoded_of digest_of_abc)
-unfolding sample_modulus sample_signature squared square_of
+unfolding sample_modulus sample_signature squared square-of
 computed = refl
 
 encoded : encoded_message (length sample_signature) (codes "abc") ≡ encoded_of digest_of_abc

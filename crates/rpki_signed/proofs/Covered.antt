@@ -14,7 +14,7 @@ use Rattle.rpki_resources.specs.As.Form.{only}
 use Rattle.rpki_resources.specs.Blocks.{Covers, Holds, holds, is_between, IsCanonical}
 use Rattle.rpki_resources.specs.Claim.{IsCoveredBy}
 use Rattle.rpki_resources.specs.Prefix.{Network, last_of}
-use Rattle.rpki_resources.proofs.Sets.Between.{between_in}
+use Rattle.rpki_resources.proofs.Sets.Between.{between-in}
 use Rattle.rpki_faults.specs.Checks.{AllHold}
 use Rattle.rpki_faults.specs.Validated.{IsValidated, IsLeft}
 use Rattle.rpki_faults.specs.declared.overclaim.Overclaim.{Overclaim}
@@ -38,7 +38,7 @@ first-in : (family : AddressFamily) (p : Network) → IsPrefixOf family p
     → is_between p.addr (last_of p.addr p.len) p.addr ≡ true
 first-in family p is =
     let size = pow_pos (128 - p.len) in
-    between_in p.addr (last_of p.addr p.len) p.addr (omega arith) (omega (arith, is.aligned, size))
+    between-in p.addr (last_of p.addr p.len) p.addr (omega arith) (omega (arith, is.aligned, size))
 
 or-yes : (x : Bool) → x ≡ true → (x || false) ≡ true
 or-yes x e = rw e refl
@@ -169,7 +169,7 @@ pub empty-of : (set : List (Block ℕ)) → IsCanonical (λ (n : ℕ). n) set �
 empty-of [] c h = refl
 empty-of (b ∷ bs) c h = absurd (h b.min (or_left (is_between b.min b.max b.min)
     (holds (λ (n : ℕ). n) bs b.min)
-    (between_in b.min b.max b.min (omega arith) c.1)))
+    (between-in b.min b.max b.min (omega arith) c.1)))
 
 -- what is validated was claimed
 claimed-held : (policy : Overclaim) (claim : Claim (List (Block ℕ)))

@@ -60,7 +60,8 @@ peers-written p h short =
     let later = (length_parts (number_octets p.local) after short).1 in
     let each = length_parts (note_octets p.note) (list_octets p.peers) later in
     let last = sym (append-nil (list_octets p.peers)) in
-    within-written SEQUENCE (λ c. Fields Der c p) (peers_contents p) (tag-sound SEQUENCE refl) short (
+    within-written SEQUENCE (λ c. Fields Der c p) (peers_contents p)
+    (tag-sound SEQUENCE refl) short (
       number_octets p.local,
       after,
       refl,

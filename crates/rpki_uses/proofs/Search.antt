@@ -50,12 +50,12 @@ module _ {X : Type 0} (P : X → Type 0) where
       of b = omega (arith, b.2)
 
 -- a list contains what is one of it
-pub contains_from_any : {X : Type 0} (xs : List X) (x : X) → Any (λ y. y ≡ x) xs → Contains xs x
-contains_from_any xs x a =
+pub contains-from-any : {X : Type 0} (xs : List X) (x : X) → Any (λ y. y ≡ x) xs → Contains xs x
+contains-from-any xs x a =
     (a.0, a.2, subst (λ (y : _). get_or xs a.0 y ≡ y) a.4 a.3)
 
-pub any_from_contains : {X : Type 0} (xs : List X) (x : X) → Contains xs x → Any (λ y. y ≡ x) xs
-any_from_contains xs x c = (c.0, x, c.1, c.2, refl)
+pub any-from-contains : {X : Type 0} (xs : List X) (x : X) → Contains xs x → Any (λ y. y ≡ x) xs
+any-from-contains xs x c = (c.0, x, c.1, c.2, refl)
 
 -- what is answered
 pub say-yes : {Q : Type 0} → Q → IsTrue true ↔ Q

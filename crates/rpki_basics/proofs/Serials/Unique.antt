@@ -8,9 +8,9 @@ use Rattle.rpki_der.specs.Numbers.{number}
 use Rattle.rpki_basics.specs.Digits.{digits_again}
 use Rattle.rpki_basics.specs.Serial.{digits, IsDigits}
 
-pub same_number : (xs ys : List ℕ) → IsDigits xs → IsDigits ys
+pub same-number : (xs ys : List ℕ) → IsDigits xs → IsDigits ys
     → bytes_eq xs ys ≡ (number 0 xs == number 0 ys)
-same_number xs ys h k = at (bytes_eq xs ys) refl
+same-number xs ys h k = at (bytes_eq xs ys) refl
   where
     at : (t : Bool) → bytes_eq xs ys ≡ t → t ≡ (number 0 xs == number 0 ys)
     at true e = sym (eq-eqb _ _ (ap (number 0) ((bytes_eq-Decides xs ys).0 e)))

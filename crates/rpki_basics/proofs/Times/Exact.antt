@@ -183,10 +183,10 @@ year-full n h =
     itself false = refl
 
 full-again : (year : ℕ) → 1950 ≤ year → year < 2050 → full_year (year % 100) ≡ year
-full-again year h k = full_by (year % 100) year refl h k
+full-again year h k = full-by (year % 100) year refl h k
   where
-    full_by : (n year : ℕ) → year % 100 ≡ n → 1950 ≤ year → year < 2050 → full_year n ≡ year
-    full_by n year e h k = grind arith
+    full-by : (n year : ℕ) → year % 100 ≡ n → 1950 ≤ year → year < 2050 → full_year n ≡ year
+    full-by n year e h k = grind arith
 
 utc-of : (c r : List ℕ) (m : Moment) (n : ℕ) → c ≡ two_digits n ++ r → r ≡ after_year m
     → m.year ≡ full_year n → (1950 ≤ full_year n) × (full_year n < 2050) × (full_year n % 100 ≡ n)

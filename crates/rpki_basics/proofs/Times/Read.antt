@@ -48,12 +48,12 @@ time-ber o m (inr h) =
     inr (within-ber GENERALIZED_TIME (λ c. IsGeneralizedTime c m) (λ c. IsGeneralizedTime c m)
     (λ c k. k) o h)
 
-pub time_reading : IsReading time_at TimeForm
-time_reading = reading time_at TimeForm exact-time time-ber
+pub time-reading : IsReading time_at TimeForm
+time-reading = reading time_at TimeForm exact-time time-ber
     (λ mode o m h. elim h [ inl k ↦ (UTC_TIME, k.0, k.1) | inr k ↦ (GENERALIZED_TIME, k.0, k.1) ])
 
 pub time-part : IsPart (or (is UTC_TIME) (is GENERALIZED_TIME)) nothing time_at TimeForm
-time-part = part (or (is UTC_TIME) (is GENERALIZED_TIME)) time_reading (λ mode o m h. elim h [
+time-part = part (or (is UTC_TIME) (is GENERALIZED_TIME)) time-reading (λ mode o m h. elim h [
   | inl k ↦ let t = (begins-within UTC_TIME mode IsUtcTime).at o m k in (UTC_TIME, t.0, t.1, refl)
   | inr k ↦ let t = (begins-within GENERALIZED_TIME mode IsGeneralizedTime).at o m k in
       (GENERALIZED_TIME, t.0, t.1, refl)

@@ -146,12 +146,12 @@ path-empty segment text e =
 
 -- ---- answers
 
-pub goes_on : (P : List (List ℕ) → Type 0) (test : List (List ℕ) → Bool)
+pub goes-on : (P : List (List ℕ) → Type 0) (test : List (List ℕ) → Bool)
     → ((ps : List (List ℕ)) → test ps ≡ true → P ps)
     → ((ps : List (List ℕ)) → P ps → test ps ≡ true)
     → (text rest : List ℕ) (b : Bool) → text ≡ 47 ∷ 47 ∷ rest → b ≡ test (segments rest)
     → (b ≡ true) ↔ GoesOn P text
-goes_on P test to from text rest b e h = (
+goes-on P test to from text rest b e h = (
   λ k. (rest, e, to (segments rest) (sym h ∙ k)),
   λ g. let same : g.0 ≡ rest = let q : 47 ∷ 47 ∷ g.0 ≡ 47 ∷ 47 ∷ rest = sym g.1 ∙ e in cc in
       h ∙ ap (λ (t : List ℕ). test (segments t)) (sym same) ∙ from (segments g.0) g.2,

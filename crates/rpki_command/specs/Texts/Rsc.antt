@@ -24,13 +24,15 @@ v4_line b = codes "v4 " ++ (block_text Ipv4 b ++ codes "\n")
 abbrev pub v6_line : IpBlock → List ℕ
 v6_line b = codes "v6 " ++ (block_text Ipv6 b ++ codes "\n")
 
--- a line for each block of a set
+-- a line for each block of AS numbers
 abbrev pub as_lines : Set → List ℕ
 as_lines set = flat_map as_line (map as_block set)
 
+-- a line for each block of IPv4 addresses
 abbrev pub v4_lines : Set → List ℕ
 v4_lines set = flat_map v4_line (map ip_block set)
 
+-- a line for each block of IPv6 addresses
 abbrev pub v6_lines : Set → List ℕ
 v6_lines set = flat_map v6_line (map ip_block set)
 

@@ -1,7 +1,8 @@
 -- What follows from the tags that a part may begin with.
-use Rattle.std.proofs.Common.{◌≡◌, ◌≢◌, ℕ, Bool, true, false, List, [], ◌∷◌, ◌++◌, inl, inr, refl}
+use Rattle.std.proofs.Common.{◌≡◌, ◌≢◌, ℕ, true, false, List, [], ◌∷◌, ◌++◌, inl, inr, refl}
 use Rattle.std.proofs.Common.{sym, ap, ◌∙◌, eq-eqb}
 use Rattle.std.specs.Prelude.{not, ◌||◌, ◌==◌}
+use Rattle.std.proofs.Math.Bool.{or_assoc, or-true}
 use Rattle.std.proofs.lemmas.Bool.{eqb-true, ne_eqb, and_parts, or_parts, or_cases, or_left}
 use Rattle.std.proofs.lemmas.Bool.{not-true}
 use Rattle.rpki_der.specs.Read.Parse.{is_next}
@@ -12,11 +13,7 @@ one-of-both : (a b : List ℕ) (tag : ℕ)
     → is_one_of (a ++ b) tag ≡ (is_one_of a tag || is_one_of b tag)
 one-of-both [] b tag = refl
 one-of-both (t ∷ a) b tag =
-    rw (one-of-both a b tag) (or-assoc (t == tag) (is_one_of a tag) (is_one_of b tag))
-  where
-    or-assoc : (x y z : Bool) → (x || (y || z)) ≡ ((x || y) || z)
-    or-assoc true y z = refl
-    or-assoc false y z = refl
+    rw (one-of-both a b tag) (sym (or_assoc (t == tag) (is_one_of a tag) (is_one_of b tag)))
 
 -- what is in neither set
 pub in-neither : (a b : TagSet) (tag : ℕ) → has (or a b) tag ≡ false
@@ -25,10 +22,6 @@ in-neither every b tag e = absurd cc
 in-neither (only x) every tag e = absurd cc
 in-neither (only x) (only y) tag e =
     or_parts (is_one_of x tag) (is_one_of y tag) (sym (one-of-both x y tag) ∙ e)
-
-or-true : (a : Bool) → (a || true) ≡ true
-or-true true = refl
-or-true false = refl
 
 -- what is in the first, or in the second
 pub in-left : (a b : TagSet) (tag : ℕ) → has a tag ≡ true → has (or a b) tag ≡ true

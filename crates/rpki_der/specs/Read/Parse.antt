@@ -152,11 +152,11 @@ primitive tag f mode bytes = do
   x ← f v.0
   Some (x, v.1)
 
--- an INTEGER of one octet
+-- an INTEGER from 0 to 255
 abbrev pub u8_at : Parser ℕ
 u8_at = primitive INTEGER (unsigned_of 1)
 
--- an INTEGER of at most four octets
+-- an INTEGER from 0 to 2^32 - 1
 abbrev pub u32_at : Parser ℕ
 u32_at = primitive INTEGER (unsigned_of 4)
 

@@ -2,25 +2,16 @@
 use Rattle.std.proofs.Common.{◌≡◌, ◌≢◌, ℕ, zero, suc, ◌+◌, ◌<◌, Bool, true, false, cond, List, []}
 use Rattle.std.proofs.Common.{◌∷◌, length, get_or, ◌⊎◌, inl, inr, refl, sym, subst, ◌∙◌, arith}
 use Rattle.std.proofs.Common.{Bor, nat_cmp, ltb}
-use Rattle.std.specs.Prelude.{not}
-use Rattle.std.specs.declared.cmp.Ordering.{Ordering}
-use Rattle.std.specs.declared.cmp.Ordering.TheVariants.{Less, Equal, Greater}
+use Rattle.std.specs.Cmp.{Equal-is}
 use Rattle.std.specs.Ordering.{is_eq}
 use Rattle.std.specs.Str.{bytes_eq}
 use Rattle.std.specs.Cmp.Lexicographic.{slice_cmp}
-use Rattle.std.specs.BTreeSet.{BTreeSet, contains_by, Updates}
+use Rattle.std.specs.BTreeSet.{BTreeSet, Updates}
 use Rattle.std.proofs.lemmas.Bool.{eq-eqb, ltb-true, ltb-false, cases_Bool}
 use Rattle.std.proofs.lemmas.Map.Lookups.{exact_bytes}
 use Rattle.std.proofs.lemmas.Map.Text.{is_eq-slice_cmp}
 use Rattle.rpki_der.specs.Form.Keyed.{AreDistinct}
-
--- the order of slices
-abbrev order : Bor (List ℕ) → Bor (List ℕ) → Ordering
-order x y = slice_cmp nat_cmp x.now y.now
-
--- whether the set has these octets
-abbrev pub has_octets : BTreeSet (Bor (List ℕ)) → List ℕ → Bool
-has_octets set q = contains_by (λ (k : Bor (List ℕ)). slice_cmp nat_cmp q k.now) set
+use Rattle.rpki_basics.proofs.OctetSets.{order, has_octets, slice}
 
 -- the set has the keys of the first n items, and no two of these have the same
 pub record SeenSoFar {I : Type 0} (key : I → List ℕ) (set : BTreeSet (Bor (List ℕ)))
@@ -33,13 +24,8 @@ pub record SeenSoFar {I : Type 0} (key : I → List ℕ) (set : BTreeSet (Bor (L
 
 -- ---- octets in order
 
-is_eq-equal : (o : Ordering) → is_eq o ≡ true → o ≡ Equal
-is_eq-equal Less e = absurd cc
-is_eq-equal Equal e = refl
-is_eq-equal Greater e = absurd cc
-
 order-is : (a b : List ℕ) → is_eq (slice_cmp nat_cmp a b) ≡ true → a ≡ b
-order-is a b e = exact_bytes a b (is_eq-equal (slice_cmp nat_cmp a b) e)
+order-is a b e = exact_bytes a b ((Equal-is (slice_cmp nat_cmp a b)).0 e)
 
 bytes-self : (a : List ℕ) → bytes_eq a a ≡ true
 bytes-self [] = refl
@@ -47,9 +33,6 @@ bytes-self (x ∷ a) = rw (eq-eqb x x refl) (bytes-self a)
 
 order-self : (a : List ℕ) → is_eq (slice_cmp nat_cmp a a) ≡ true
 order-self a = is_eq-slice_cmp a a ∙ bytes-self a
-
-abbrev slice : List ℕ → Bor (List ℕ)
-slice q = record { ref_ptr = (0, 0); now = q }
 
 -- ---- the loop
 

@@ -32,7 +32,7 @@ use Rattle.rpki_resources.specs.Families.Read.{gathered, no_values}
 use Rattle.rpki_resources.specs.Ip.Form.{IpForm}
 use Rattle.rpki_resources.specs.Ip.Written.{ip_octets}
 use Rattle.rpki_resources.proofs.Families.Gathered.{entries-sound}
-use Rattle.rpki_resources.proofs.Families.Writing.{family_written}
+use Rattle.rpki_resources.proofs.Families.Writing.{family-written}
 use Rattle.rpki_files.specs.declared.checklist.read.Named.{Named}
 use Rattle.rpki_files.specs.Version.{VersionForm}
 use Rattle.rpki_files.specs.Checked.{Checked, CheckedForm, IsNamed, PortableForm, is_portable_name}
@@ -97,7 +97,7 @@ entry-written family set written short =
       name,
       list,
       refl,
-      family_written family,
+      family-written family,
       (list, [], sym (append-nil list), written few, refl),
     )
 

@@ -1,24 +1,15 @@
 -- No name stands twice: the names that were seen, and those that are left.
 use Rattle.std.proofs.Common.{◌≡◌, ℕ, Bool, true, false, cond, List, [], ◌∷◌, refl, sym, ap, subst}
-use Rattle.std.proofs.Common.{◌∙◌, Bor, nat_cmp}
+use Rattle.std.proofs.Common.{◌∙◌, Bor}
 use Rattle.std.specs.Prelude.{not, ◌&&◌, ◌||◌}
 use Rattle.std.specs.List.{list_all}
-use Rattle.std.specs.declared.cmp.Ordering.{Ordering}
 use Rattle.std.specs.Str.{bytes_eq}
-use Rattle.std.specs.Cmp.Lexicographic.{slice_cmp}
-use Rattle.std.specs.BTreeSet.{BTreeSet, contains_by, Updates}
+use Rattle.std.specs.BTreeSet.{BTreeSet, Updates}
 use Rattle.std.proofs.lemmas.Bool.Decides.{same_from_decides}
 use Rattle.std.proofs.lemmas.Map.Text.{is_eq-slice_cmp}
 use Rattle.std.proofs.lemmas.Slice.Eq.{bytes_eq-Decides}
 use Rattle.rpki_der.specs.Form.Keyed.{has_key, are_distinct}
-
--- the order of slices
-abbrev order : Bor (List ℕ) → Bor (List ℕ) → Ordering
-order x y = slice_cmp nat_cmp x.now y.now
-
--- whether the set has these octets
-abbrev pub has_octets : BTreeSet (Bor (List ℕ)) → List ℕ → Bool
-has_octets set q = contains_by (λ (k : Bor (List ℕ)). slice_cmp nat_cmp q k.now) set
+use Rattle.rpki_basics.proofs.OctetSets.{order, has_octets, slice}
 
 -- whether no key of the items is in the set
 abbrev pub are_fresh : {I : Type 0} → (I → List ℕ) → BTreeSet (Bor (List ℕ)) → List I → Bool
@@ -28,9 +19,6 @@ are_fresh key set items = list_all (λ i. not (has_octets set (key i))) items
 pub record SeenSoFar {I : Type 0} (key : I → List ℕ) (all : List I)
     (set : BTreeSet (Bor (List ℕ))) (rest : List I) : Type 0 where
   pub left : are_distinct key all ≡ (are_fresh key set rest && are_distinct key rest)
-
-abbrev slice : List ℕ → Bor (List ℕ)
-slice q = record { ref_ptr = (0, 0); now = q }
 
 bytes-swap : (a b : List ℕ) → bytes_eq a b ≡ bytes_eq b a
 bytes-swap a b = same_from_decides {P = a ≡ b} (bytes_eq a b) (bytes_eq b a) (bytes_eq-Decides a b)
@@ -55,14 +43,14 @@ module _ {I : Type 0} (key : I → List ℕ) where
       refl in
       rw none (none-seen set e items)
 
-  pub seen_none : (set : BTreeSet (Bor (List ℕ))) (all : List I) → set.keys ≡ []
+  pub seen-none : (set : BTreeSet (Bor (List ℕ))) (all : List I) → set.keys ≡ []
       → SeenSoFar key all set all
-  seen_none set all e = record { left = rw (none-seen set e all) refl }
+  seen-none set all e = record { left = rw (none-seen set e all) refl }
 
-  pub seen_again : (all rest : List I) (set : BTreeSet (Bor (List ℕ))) (x : I) (r : List I)
+  pub seen-again : (all rest : List I) (set : BTreeSet (Bor (List ℕ))) (x : I) (r : List I)
       (q : List ℕ) → SeenSoFar key all set rest → rest ≡ x ∷ r → q ≡ key x
       → has_octets set q ≡ true → are_distinct key all ≡ false
-  seen_again all rest set x r q s e is there =
+  seen-again all rest set x r q s e is there =
       let at : has_octets set (key x) ≡ true =
       subst (λ (t : List ℕ). has_octets set t ≡ true) is there in
       s.left ∙ rw e (rw at refl)
@@ -90,10 +78,10 @@ module _ {I : Type 0} (key : I → List ℕ) where
     assoc true h d = refl
     assoc false h d = refl
 
-    pub seen_more : (all rest : List I) (x : I) (r : List I) → SeenSoFar key all set rest
+    pub seen-more : (all rest : List I) (x : I) (r : List I) → SeenSoFar key all set rest
         → rest ≡ x ∷ r → k.now ≡ key x → has_octets set k.now ≡ false → SeenSoFar key all new r
     unfolding are_distinct
-    seen_more all rest x r s e is fresh =
+    seen-more all rest x r s e is fresh =
         let at : has_octets set (key x) ≡ false =
         subst (λ (t : List ℕ). has_octets set t ≡ false) is fresh in
         let begun : are_distinct key all

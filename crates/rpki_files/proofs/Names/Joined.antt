@@ -3,8 +3,9 @@ use Rattle.std.proofs.Common.{◌≡◌, ℕ, zero, suc, ◌+◌, ◌<◌, ◌�
 use Rattle.std.proofs.Common.{◌∷◌, ◌++◌, length, refl, sym, ap, subst, ◌∙◌, arith}
 use Rattle.std.specs.Prelude.{◌-◌, ◌==◌, ◌&&◌, not, nat_eq, nat_lt}
 use Rattle.std.specs.List.{list_all, range_with_len, ends_with}
+use Rattle.std.proofs.Math.Bool.{and-true}
 use Rattle.std.proofs.lemmas.Bool.{eqb-true, eq-eqb, ne_eqb, ltb-true, ltb-false, leb-true}
-use Rattle.std.proofs.lemmas.Bool.{not-true}
+use Rattle.std.proofs.lemmas.Bool.{not-true, and_parts, and_from}
 use Rattle.std.proofs.lemmas.List.{append_assoc, drop_at, length-append}
 use Rattle.std.proofs.lemmas.List.Folds.{list_all-append}
 use Rattle.rpki_basics.specs.Segments.{segments, longer}
@@ -12,7 +13,6 @@ use Rattle.rpki_basics.specs.Uri.{is_uri_octet, AreUriOctets, IsNoDotSegment, Is
 use Rattle.rpki_basics.specs.Uri.{AreRsyncSegments, IsRsync, join_text}
 use Rattle.rpki_basics.proofs.Uris.Segments.{segments-some}
 use Rattle.rpki_files.specs.Name.{IsFileName, is_from, is_letter, is_stem}
-use Rattle.std.proofs.lemmas.Bool.{and_parts, and_from}
 use Rattle.rpki_files.proofs.Names.Decided.{or-true}
 
 -- ---- the octets of a name
@@ -193,15 +193,11 @@ last-of a [] = ([], a, refl)
 last-of a (b ∷ text) =
     let l = last-of b text in (a ∷ l.0, l.1, ap (λ (t : List ℕ). a ∷ t) l.2)
 
-and-same : (t : Bool) → (t && true) ≡ t
-and-same true = refl
-and-same false = refl
-
 ends-with : (front : List ℕ) (x : ℕ) → ends_with nat_eq (front ++ (x ∷ [])) (47 ∷ []) ≡ (47 == x)
 ends-with front x =
     let len : length front ≡ length (front ++ (x ∷ [])) - 1 =
     omega (arith, length-append front (x ∷ [])) in
-    rw (drop_at front (x ∷ []) (length (front ++ (x ∷ [])) - 1) len) (and-same (47 == x))
+    rw (drop_at front (x ∷ []) (length (front ++ (x ∷ [])) - 1) len) (and-true (47 == x))
 
 -- an rsync URI and more octets, where its segments stay those of one
 grown : (base more : List ℕ) (h : IsRsync base) → AreUriOctets more

@@ -7,7 +7,7 @@ use Rattle.std.proofs.lemmas.Bool.{or_cases, or_left, or_right}
 use Rattle.rpki_der.specs.declared.mode.Mode.{Mode}
 use Rattle.rpki_der.specs.declared.mode.Mode.TheVariants.{Der, Ber}
 use Rattle.rpki_der.specs.Read.Parse.{Parser}
-use Rattle.rpki_der.specs.Read.Exact.{IsExact, IsReading, anything}
+use Rattle.rpki_der.specs.Read.Exact.{IsExact, anything}
 use Rattle.rpki_der.proofs.Reading.Unique.{IsOneValue}
 use Rattle.rpki_der.specs.Tags.{SEQUENCE, NULL}
 use Rattle.rpki_der.specs.Form.Law.{nothing, is, IsPart}
@@ -28,10 +28,10 @@ algorithm-part = within SEQUENCE (
 
 -- ---- which algorithm it is
 
-abbrev found : Bool → Option (Unit {0})
+abbrev pub found : Bool → Option (Unit {0})
 found t = cond t (Some tt) None
 
-found-true : (t : Bool) → found t ≡ Some tt → t ≡ true
+pub found-true : (t : Bool) → found t ≡ Some tt → t ≡ true
 found-true true e = refl
 found-true false e = absurd cc
 

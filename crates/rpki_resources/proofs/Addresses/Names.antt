@@ -3,19 +3,19 @@ use Rattle.std.proofs.Common.{◌≡◌, ℕ, List, [], ◌∷◌, Option, None,
 use Rattle.rpki_resources.specs.declared.block.Block.{Block}
 use Rattle.rpki_resources.specs.Prefix.{prefix_len}
 use Rattle.rpki_resources.specs.Ip.{named_by, ip_block, ip_range}
-use Rattle.rpki_resources.proofs.Prefixes.Lengths.{prefix_len_tells, last_of_prefix}
+use Rattle.rpki_resources.proofs.Prefixes.Lengths.{prefix_len-tells, last_of-prefix}
 
-ip_range_by : (o : Option ℕ) (b : Block ℕ) → prefix_len b.min b.max ≡ o
+ip_range-by : (o : Option ℕ) (b : Block ℕ) → prefix_len b.min b.max ≡ o
     → ip_range (named_by o b) ≡ b
-ip_range_by None b e = refl
-ip_range_by (Some len) b e = let s =
-    last_of_prefix b.min b.max len (prefix_len_tells b.min b.max len e) in
+ip_range-by None b e = refl
+ip_range-by (Some len) b e = let s =
+    last_of-prefix b.min b.max len (prefix_len-tells b.min b.max len e) in
     λ i. record { min = b.min; max = s i }
 
 pub ip_range-ip_block : (b : Block ℕ) → ip_range (ip_block b) ≡ b
-ip_range-ip_block b = ip_range_by (prefix_len b.min b.max) b refl
+ip_range-ip_block b = ip_range-by (prefix_len b.min b.max) b refl
 
-pub ip_ranges : (bs : List (Block ℕ)) → map ip_range (map ip_block bs) ≡ bs
-ip_ranges [] = refl
-ip_ranges (b ∷ bs) = let first = ip_range-ip_block b in let others = ip_ranges bs in
+pub ip-ranges : (bs : List (Block ℕ)) → map ip_range (map ip_block bs) ≡ bs
+ip-ranges [] = refl
+ip-ranges (b ∷ bs) = let first = ip_range-ip_block b in let others = ip-ranges bs in
     λ i. first i ∷ others i

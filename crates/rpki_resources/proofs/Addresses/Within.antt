@@ -20,7 +20,7 @@ use Rattle.rpki_resources.specs.Ip.Form.{IpPrefixOrRange}
 use Rattle.rpki_resources.specs.Ip.Form.{IpForm}
 use Rattle.rpki_resources.specs.Joined.{merged, joined}
 use Rattle.rpki_resources.specs.Prefix.{IsPrefix}
-use Rattle.rpki_resources.proofs.Addresses.Bits.{small_more, value_below, room_below}
+use Rattle.rpki_resources.proofs.Addresses.Bits.{small-more, value-below, room-below}
 use Rattle.rpki_resources.proofs.Addresses.Exact.{item-block}
 use Rattle.rpki_resources.proofs.Sets.Joining.{joined-all}
 use Rattle.rpki_resources.proofs.Sets.Listed.{set-joined}
@@ -30,19 +30,19 @@ use Rattle.rpki_der.specs.Tags.{BIT_STRING, SEQUENCE}
 -- ---- the ends
 
 -- n digits to base 256 make a number of 8 * n bits
-pub number_small : (a i : ℕ) (s : List ℕ) → a < 2 ^ (8 * i) → IsBytes s
+pub number-small : (a i : ℕ) (s : List ℕ) → a < 2 ^ (8 * i) → IsBytes s
     → number a s < 2 ^ (8 * (i + length s))
-number_small a i [] l h = let e : i + 0 ≡ i = omega arith in rw e l
-number_small a i (o ∷ s) l h =
+number-small a i [] l h = let e : i + 0 ≡ i = omega arith in rw e l
+number-small a i (o ∷ s) l h =
     let e : i + length (o ∷ s) ≡ i + 1 + length s = omega arith in
-    rw e (number_small (a * 256 + o) (i + 1) s (small_more a o i l h.0) h.1)
+    rw e (number-small (a * 256 + o) (i + 1) s (small-more a o i l h.0) h.1)
 
-pub value_small : (bits : List ℕ × ℕ) → IsBytes bits.0 → bits.1 < 8
+pub value-small : (bits : List ℕ × ℕ) → IsBytes bits.0 → bits.1 < 8
     → bit_value bits < 2 ^ bit_count bits
-value_small bits h l =
+value-small bits h l =
     let e : 0 + length bits.0 ≡ length bits.0 = omega arith in
-    value_below (length bits.0) bits.1 (number 0 bits.0) l
-    (rw e at (number_small 0 0 bits.0 (omega arith) h))
+    value-below (length bits.0) bits.1 (number 0 bits.0) l
+    (rw e at (number-small 0 0 bits.0 (omega arith) h))
 
 -- after the bits of an address stand as many others as after all bits of the family, and more
 multiple : (q len most : ℕ) → len ≤ most → most ≤ 128 → q * 2 ^ (128 - len) % 2 ^ (128 - most) ≡ 0
@@ -52,9 +52,9 @@ multiple q len most l h =
     rw (s, pow-add 2 (most - len) (128 - most)) (omega arith) in
     rw e (mul-mod_left (q * 2 ^ (most - len)) (2 ^ (128 - most)))
 
-pub max_most : (family : AddressFamily) → max_bits family ≤ 128
-max_most Ipv4 = omega arith
-max_most Ipv6 = omega arith
+pub max-most : (family : AddressFamily) → max_bits family ≤ 128
+max-most Ipv4 = omega arith
+max-most Ipv6 = omega arith
 
 -- ---- a block
 
@@ -75,10 +75,10 @@ spanned-within : (family : AddressFamily) (mode : Mode) (o p : List ℕ) (lower 
     → IpAddress (max_bits family) mode o lower → IpAddress (max_bits family) mode p upper
     → IsWithin family (spanned lower upper)
 spanned-within family mode o p lower upper first second h k =
-    let most = max_most family in
+    let most = max-most family in
     let bits = address-bits mode (max_bits family) p upper second k in
-    let small = value_small upper bits.0 bits.1 in
-    let room = room_below (bit_value upper) (bit_count upper) small (omega (arith, most, k.1)) in
+    let small = value-small upper bits.0 bits.1 in
+    let room = room-below (bit_value upper) (bit_count upper) small (omega (arith, most, k.1)) in
     let pos = pow_pos (128 - bit_count upper) in
     let next : highest upper + 1 ≡ (bit_value upper + 1) * 2 ^ (128 - bit_count upper) =
     omega (arith, pos) in
@@ -104,8 +104,8 @@ item-within family mode o b (bytes, inr h) =
 
 -- ---- two that touch
 
-either_one : (P : ℕ → Type 0) (a b : ℕ) → P a → P b → P (min a b) × P (max a b)
-either_one P a b h k = elim (leb_tells a b) [
+either-one : (P : ℕ → Type 0) (a b : ℕ) → P a → P b → P (min a b) × P (max a b)
+either-one P a b h k = elim (leb_tells a b) [
   | inl t ↦ let e : min a b ≡ a = omega (arith, t.1) in let d : max a b ≡ b = omega (arith, t.1) in
       rw (e, d) (h, k)
   | inr t ↦ let e : min a b ≡ b = omega (arith, t.1) in let d : max a b ≡ a = omega (arith, t.1) in
@@ -115,8 +115,8 @@ either_one P a b h k = elim (leb_tells a b) [
 merged-within : (family : AddressFamily) (b c : Block ℕ) → IsWithin family b → IsWithin family c
     → IsWithin family (merged b c)
 merged-within family b c h k = record {
-  lower = (either_one (λ n. n % 2 ^ (128 - max_bits family) ≡ 0) b.min c.min h.lower k.lower).0;
-  upper = (either_one (λ n. (n + 1) % 2 ^ (128 - max_bits family) ≡ 0)
+  lower = (either-one (λ n. n % 2 ^ (128 - max_bits family) ≡ 0) b.min c.min h.lower k.lower).0;
+  upper = (either-one (λ n. (n + 1) % 2 ^ (128 - max_bits family) ≡ 0)
       b.max c.max h.upper k.upper).1;
   below = omega (arith, h.below, k.below);
 }
@@ -154,7 +154,7 @@ prefix-within family lo hi len p h l =
     let low : lo ≡ q * size = omega (arith, div-add-mod' lo size, p.aligned) in
     let high : hi + 1 ≡ (q + 1) * size = omega (arith, p.size, low) in
     record {
-      lower = rw low (multiple q len (max_bits family) l (max_most family));
-      upper = rw high (multiple (q + 1) len (max_bits family) l (max_most family));
+      lower = rw low (multiple q len (max_bits family) l (max-most family));
+      upper = rw high (multiple (q + 1) len (max_bits family) l (max-most family));
       below = h;
     }

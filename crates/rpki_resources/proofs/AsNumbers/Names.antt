@@ -8,17 +8,17 @@ use Rattle.rpki_resources.specs.declared.asn.AsBlock.TheVariants.{Id, Range}
 use Rattle.rpki_resources.specs.As.{as_block, as_range}
 
 -- the name of a block speaks of its numbers
-as_range_by : (t : Bool) (b : Block ℕ) → (b.min == b.max) ≡ t
+as_range-by : (t : Bool) (b : Block ℕ) → (b.min == b.max) ≡ t
     → as_range (if t then Id b.min else Range b.min b.max) ≡ b
-as_range_by true b e = let s = eqb-true b.min b.max e in λ i. record { min = b.min; max = s i }
-as_range_by false b e = refl
+as_range-by true b e = let s = eqb-true b.min b.max e in λ i. record { min = b.min; max = s i }
+as_range-by false b e = refl
 
 pub as_range-as_block : (b : Block ℕ) → as_range (as_block b) ≡ b
-as_range-as_block b = as_range_by (b.min == b.max) b refl
+as_range-as_block b = as_range-by (b.min == b.max) b refl
 
-pub as_ranges : (bs : List (Block ℕ)) → map as_range (map as_block bs) ≡ bs
-as_ranges [] = refl
-as_ranges (b ∷ bs) = let first = as_range-as_block b in let others = as_ranges bs in
+pub as-ranges : (bs : List (Block ℕ)) → map as_range (map as_block bs) ≡ bs
+as-ranges [] = refl
+as-ranges (b ∷ bs) = let first = as_range-as_block b in let others = as-ranges bs in
     λ i. first i ∷ others i
 
 -- a fact of each item's numbers, said of the numbers

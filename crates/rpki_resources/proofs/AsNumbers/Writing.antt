@@ -36,14 +36,14 @@ short b = omega (
 )
 
 -- a block of one number
-one_block : (b : Block ℕ) → b.min ≡ b.max → b ≡ only b.min
-one_block b e = λ i. record { min = b.min; max = (sym e) i }
+one-block : (b : Block ℕ) → b.min ≡ b.max → b ≡ only b.min
+one-block b e = λ i. record { min = b.min; max = (sym e) i }
 
-item_by : (t : Bool) (b : Block ℕ) → (b.min == b.max) ≡ t → b.min ≤ b.max → b.max < 2 ^ 32
+item-by : (t : Bool) (b : Block ℕ) → (b.min == b.max) ≡ t → b.min ≤ b.max → b.max < 2 ^ 32
     → AsIdOrRange Der (as_octets b) b
-item_by true b e l h =
-    rw e (inr (b.min, number-in Der b.min (omega arith), one_block b (eqb-true b.min b.max e)))
-item_by false b e l h =
+item-by true b e l h =
+    rw e (inr (b.min, number-in Der b.min (omega arith), one-block b (eqb-true b.min b.max e)))
+item-by false b e l h =
     let upper : List ℕ = number_octets b.max in
     rw e (inl (
       (
@@ -60,47 +60,47 @@ item_by false b e l h =
       l,
     ))
 
-items_written : (a : ℕ) (bs : List (Block ℕ)) → RisesFrom (λ n. n) a bs
+items-written : (a : ℕ) (bs : List (Block ℕ)) → RisesFrom (λ n. n) a bs
     → All (λ b. b.max < 2 ^ 32) bs
     → Items (AsIdOrRange Der) (flat_map as_octets bs) bs
-items_written a [] r h = refl
-items_written a (b ∷ bs) r h =
+items-written a [] r h = refl
+items-written a (b ∷ bs) r h =
     let small : b.max < 2 ^ 32 = All-head (λ (c : Block ℕ). c.max < 2 ^ 32) b bs h in (
       as_octets b,
       flat_map as_octets bs,
       refl,
-      item_by (b.min == b.max) b refl r.1 small,
-      items_written (b.max + 2) bs r.2 (All-tail (λ (c : Block ℕ). c.max < 2 ^ 32) b bs h),
+      item-by (b.min == b.max) b refl r.1 small,
+      items-written (b.max + 2) bs r.2 (All-tail (λ (c : Block ℕ). c.max < 2 ^ 32) b bs h),
     )
 
 -- the contents are those of a set
-pub as_written : (set : List (Block ℕ)) → IsCanonical (λ n. n) set → All (λ b. b.max < 2 ^ 32) set
+pub as-written : (set : List (Block ℕ)) → IsCanonical (λ n. n) set → All (λ b. b.max < 2 ^ 32) set
     → length (flat_map as_octets set) < 2 ^ 32
     → AsForm Der (value_octets SEQUENCE (flat_map as_octets set)) set
-as_written set r h l =
+as-written set r h l =
     let contents : List ℕ = flat_map as_octets set in (
       set,
       (
         contents,
         value-written SEQUENCE contents (tag-sound SEQUENCE refl) l,
-        items_written 0 set r h,
+        items-written 0 set r h,
       ),
       record { canonical = r; same = λ n. refl },
     )
 
-pub as_reading : IsReading as_blocks_at AsForm
-as_reading = part-reading as-part (λ mode o set h. (SEQUENCE, h.1.0, h.1.1))
+pub as-reading : IsReading as_blocks_at AsForm
+as-reading = part-reading as-part (λ mode o set h. (SEQUENCE, h.1.0, h.1.1))
 
-as_in : (mode : Mode) (o : List ℕ) (set : List (Block ℕ)) → AsForm Der o set → AsForm mode o set
-as_in Der o set h = h
-as_in Ber o set h = as_reading.relaxed o set h
+as-in : (mode : Mode) (o : List ℕ) (set : List (Block ℕ)) → AsForm Der o set → AsForm mode o set
+as-in Der o set h = h
+as-in Ber o set h = as-reading.relaxed o set h
 
-pub as_read : (mode : Mode) (set : List (Block ℕ)) (rest : List ℕ) → IsCanonical (λ n. n) set
+pub as-read : (mode : Mode) (set : List (Block ℕ)) (rest : List ℕ) → IsCanonical (λ n. n) set
     → All (λ b. b.max < 2 ^ 32) set → length (flat_map as_octets set) < 2 ^ 32
     → as_blocks_at mode (value_octets SEQUENCE (flat_map as_octets set) ++ rest) ≡ Some (set, rest)
-as_read mode set rest r h l =
+as-read mode set rest r h l =
     let o : List ℕ = value_octets SEQUENCE (flat_map as_octets set) in
-    (as_reading.exact mode).complete o set rest tt (as_in mode o set (as_written set r h l))
+    (as-reading.exact mode).complete o set rest tt (as-in mode o set (as-written set r h l))
 
 -- ---- what is read is written again
 

@@ -16,27 +16,27 @@ use Rattle.rpki_resources.specs.Family.Form.{afi, FamilyForm}
 use Rattle.rpki_resources.specs.Family.Read.{family_of, family_at}
 
 -- the last octet of two
-last_of : (b : ℕ) (family : AddressFamily) (s t : Bool) → (b == 1) ≡ s → (b == 2) ≡ t
+last-of : (b : ℕ) (family : AddressFamily) (s t : Bool) → (b == 1) ≡ s → (b == 2) ≡ t
     → cond s (Some Ipv4) (cond t (Some Ipv6) None) ≡ Some family → 0 ∷ b ∷ [] ≡ afi family
-last_of b family true t e h k = let f : Ipv4 ≡ family = some_is _ _ k in
+last-of b family true t e h k = let f : Ipv4 ≡ family = some_is _ _ k in
     subst (λ (x : AddressFamily). 0 ∷ b ∷ [] ≡ afi x) f (ap (λ n. 0 ∷ n ∷ []) (eqb-true b 1 e))
-last_of b family false true e h k = let f : Ipv6 ≡ family = some_is _ _ k in
+last-of b family false true e h k = let f : Ipv6 ≡ family = some_is _ _ k in
     subst (λ (x : AddressFamily). 0 ∷ b ∷ [] ≡ afi x) f (ap (λ n. 0 ∷ n ∷ []) (eqb-true b 2 h))
-last_of b family false false e h k = absurd cc
+last-of b family false false e h k = absurd cc
 
-first_of : (a b : ℕ) (family : AddressFamily) (s : Bool) → (a == 0) ≡ s
+first-of : (a b : ℕ) (family : AddressFamily) (s : Bool) → (a == 0) ≡ s
     → cond s (cond (b == 1) (Some Ipv4) (cond (b == 2) (Some Ipv6) None)) None ≡ Some family
     → a ∷ b ∷ [] ≡ afi family
-first_of a b family true e k = ap (λ n. n ∷ b ∷ []) (eqb-true a 0 e)
-    ∙ last_of b family (b == 1) (b == 2) refl refl k
-first_of a b family false e k = absurd cc
+first-of a b family true e k = ap (λ n. n ∷ b ∷ []) (eqb-true a 0 e)
+    ∙ last-of b family (b == 1) (b == 2) refl refl k
+first-of a b family false e k = absurd cc
 
 family-sound : (string : List ℕ) (family : AddressFamily) → family_of string ≡ Some family
     → string ≡ afi family
 unfolding family_of
 family-sound [] family e = absurd cc
 family-sound (a ∷ []) family e = absurd cc
-family-sound (a ∷ b ∷ []) family e = first_of a b family (a == 0) refl e
+family-sound (a ∷ b ∷ []) family e = first-of a b family (a == 0) refl e
 family-sound (a ∷ b ∷ c ∷ rest) family e = absurd cc
 
 family-complete : (family : AddressFamily) → family_of (afi family) ≡ Some family

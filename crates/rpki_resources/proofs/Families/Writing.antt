@@ -14,25 +14,25 @@ use Rattle.rpki_resources.specs.Family.Read.{family_at}
 use Rattle.rpki_resources.proofs.Families.Exact.{family-part}
 use Rattle.rpki_der.proofs.Reading.Unique.{part-reading}
 
-pub family_reading : IsReading family_at FamilyForm
-family_reading = part-reading family-part (λ mode o family h. octets-one 32 mode o (afi family) h)
+pub family-reading : IsReading family_at FamilyForm
+family-reading = part-reading family-part (λ mode o family h. octets-one 32 mode o (afi family) h)
 
 afi-short : (family : AddressFamily) → length (afi family) < 2 ^ 32
 afi-short Ipv4 = omega arith
 afi-short Ipv6 = omega arith
 
-pub family_written : (family : AddressFamily)
+pub family-written : (family : AddressFamily)
     → FamilyForm Der (value_octets OCTET_STRING (afi family)) family
-family_written family = octets-written 32 (afi family) (omega arith) (afi-short family)
+family-written family = octets-written 32 (afi family) (omega arith) (afi-short family)
 
-family_in : (mode : Mode) (family : AddressFamily)
+family-in : (mode : Mode) (family : AddressFamily)
     → FamilyForm mode (value_octets OCTET_STRING (afi family)) family
-family_in Der family = family_written family
-family_in Ber family =
-    family_reading.relaxed (value_octets OCTET_STRING (afi family)) family (family_written family)
+family-in Der family = family-written family
+family-in Ber family =
+    family-reading.relaxed (value_octets OCTET_STRING (afi family)) family (family-written family)
 
-pub family_read : (mode : Mode) (family : AddressFamily) (rest : List ℕ)
+pub family-read : (mode : Mode) (family : AddressFamily) (rest : List ℕ)
     → family_at mode (value_octets OCTET_STRING (afi family) ++ rest) ≡ Some (family, rest)
-family_read mode family rest =
-    (family_reading.exact mode).complete (value_octets OCTET_STRING (afi family)) family rest tt
-    (family_in mode family)
+family-read mode family rest =
+    (family-reading.exact mode).complete (value_octets OCTET_STRING (afi family)) family rest tt
+    (family-in mode family)

@@ -11,41 +11,41 @@ use Rattle.rpki_resources.specs.Ip.Form.{PrefixForm}
 use Rattle.rpki_resources.specs.Ip.Read.{prefix_at}
 use Rattle.rpki_resources.specs.Ip.Written.{end_octets}
 use Rattle.rpki_resources.proofs.Addresses.Exact.{prefix-part}
-use Rattle.rpki_resources.proofs.Addresses.FirstBits.{end_bits, end_count, lowest_end}
-use Rattle.rpki_resources.proofs.Addresses.Within.{max_most}
-use Rattle.rpki_resources.proofs.Addresses.Writing.{address_written}
+use Rattle.rpki_resources.proofs.Addresses.FirstBits.{end_bits, end-count, lowest-end}
+use Rattle.rpki_resources.proofs.Addresses.Within.{max-most}
+use Rattle.rpki_resources.proofs.Addresses.Writing.{address-written}
 use Rattle.rpki_der.proofs.Reading.Unique.{part-reading}
 
-pub prefix_reading : (family : AddressFamily)
+pub prefix-reading : (family : AddressFamily)
     → IsReading (prefix_at (max_bits family)) (PrefixForm family)
-prefix_reading family =
+prefix-reading family =
     part-reading (prefix-part family) (λ mode o p h. (BIT_STRING, h.1.0.0, h.1.0.1))
 
 -- ---- what is written
 
 -- a prefix of the family: no bit after its length is set, and it has no more bits than an address
 -- of the family
-pub prefix_written : (family : AddressFamily) (p : Network) → p.len ≤ max_bits family
+pub prefix-written : (family : AddressFamily) (p : Network) → p.len ≤ max_bits family
     → p.addr < 2 ^ 128
     → p.addr % 2 ^ (128 - p.len) ≡ 0 → PrefixForm family Der (end_octets p.addr p.len) p
-prefix_written family p l below aligned =
-    let most = max_most family in
-    let low = lowest_end p.addr p.len (omega arith) below aligned in
-    let count = end_count p.addr p.len (omega arith) in (
+prefix-written family p l below aligned =
+    let most = max-most family in
+    let low = lowest-end p.addr p.len (omega arith) below aligned in
+    let count = end-count p.addr p.len (omega arith) in (
       end_bits p.addr p.len,
-      address_written (max_bits family) p.addr p.len most l,
+      address-written (max_bits family) p.addr p.len most l,
       (λ i. record { addr = sym low i; len = sym count i }),
     )
 
-prefix_in : (family : AddressFamily) (mode : Mode) (o : List ℕ) (p : Network)
+prefix-in : (family : AddressFamily) (mode : Mode) (o : List ℕ) (p : Network)
     → PrefixForm family Der o p
     → PrefixForm family mode o p
-prefix_in family Der o p h = h
-prefix_in family Ber o p h = (prefix_reading family).relaxed o p h
+prefix-in family Der o p h = h
+prefix-in family Ber o p h = (prefix-reading family).relaxed o p h
 
-pub prefix_read : (family : AddressFamily) (mode : Mode) (p : Network) (rest : List ℕ)
+pub prefix-read : (family : AddressFamily) (mode : Mode) (p : Network) (rest : List ℕ)
     → p.len ≤ max_bits family → p.addr < 2 ^ 128 → p.addr % 2 ^ (128 - p.len) ≡ 0
     → prefix_at (max_bits family) mode (end_octets p.addr p.len ++ rest) ≡ Some (p, rest)
-prefix_read family mode p rest l below aligned =
-    ((prefix_reading family).exact mode).complete (end_octets p.addr p.len) p rest tt
-    (prefix_in family mode (end_octets p.addr p.len) p (prefix_written family p l below aligned))
+prefix-read family mode p rest l below aligned =
+    ((prefix-reading family).exact mode).complete (end_octets p.addr p.len) p rest tt
+    (prefix-in family mode (end_octets p.addr p.len) p (prefix-written family p l below aligned))

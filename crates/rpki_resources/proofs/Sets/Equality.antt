@@ -18,5 +18,5 @@ module _ {T : Type 0} (f : T → ℕ) (eq : T → T → Bool) (exact : (x y : T)
       (Decides-and (eq a.min b.min) (eq a.max b.max) (decides a.min b.min)
       (decides a.max b.max))
 
-  pub lists_decide : (xs ys : List (Block T)) → Decides (pointwise (same_ends eq) xs ys) (xs ≡ ys)
-  lists_decide xs ys = pointwise_decides both xs ys
+  pub lists-decide : (xs ys : List (Block T)) → Decides (pointwise (same_ends eq) xs ys) (xs ≡ ys)
+  lists-decide xs ys = pointwise_decides both xs ys

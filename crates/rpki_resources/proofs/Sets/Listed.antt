@@ -11,15 +11,15 @@ use Rattle.rpki_der.proofs.Form.Words.{part-as, in-tag, make, all-items, items-a
 use Rattle.rpki_resources.specs.declared.block.Block.{Block}
 use Rattle.rpki_resources.specs.Blocks.{IsBlock, IsSetOf}
 use Rattle.rpki_resources.specs.Joined.{joined}
-use Rattle.rpki_resources.proofs.Sets.Joining.{joined_rises, joined_held, joined_only}
+use Rattle.rpki_resources.proofs.Sets.Joining.{joined-rises, joined-held, joined-only}
 
 -- the set of the numbers in these blocks is what they are joined to
 pub joined-set : (list : List (Block ℕ)) → All (IsBlock (λ n. n)) list → IsSetOf list (joined list)
-joined-set list v = record { canonical = joined_rises list v; same = joined_held list v }
+joined-set list v = record { canonical = joined-rises list v; same = joined-held list v }
 
 pub set-joined : (list set : List (Block ℕ)) → All (IsBlock (λ n. n)) list → IsSetOf list set
     → set ≡ joined list
-set-joined list set v h = joined_only set list v h.canonical h.same
+set-joined list set v h = joined-only set list v h.canonical h.same
 
 module _ {first : TagSet} {p : Parser (Block ℕ)} {G : Mode → List ℕ → Block ℕ → Type 0}
     (ordered : (mode : Mode) (o : List ℕ) (b : Block ℕ) → G mode o b → IsBlock (λ n. n) b)

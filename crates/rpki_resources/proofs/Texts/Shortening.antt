@@ -14,9 +14,9 @@ record IsLongest (groups : List ℕ) (start len : ℕ) : Type 0 where
   longest : (other : ℕ) → zero_run (drop other groups) ≤ len
   first : (other : ℕ) → 0 < len → len ≤ zero_run (drop other groups) → start ≤ other
 
-none_left : (k : ℕ) → zero_run (drop k []) ≡ 0
-none_left zero = refl
-none_left (suc k) = refl
+none-left : (k : ℕ) → zero_run (drop k []) ≡ 0
+none-left zero = refl
+none-left (suc k) = refl
 
 here : (s : ℕ) (rest : List ℕ) (start len : ℕ) → IsLongest rest start len
     → len ≤ zero_run (s ∷ rest) → IsLongest (s ∷ rest) 0 (zero_run (s ∷ rest))
@@ -39,16 +39,16 @@ later s rest start len h l = record { zeros = h.zeros; longest = at; first = fro
     from zero p q = absurd (omega arith)
     from (suc k) p q = let i : start ≤ k = h.first k p q in omega arith
 
-is_longest : (groups : List ℕ)
+is-longest : (groups : List ℕ)
     → IsLongest groups (longest_zero_run groups).0 (longest_zero_run groups).1
-is_longest [] = record {
+is-longest [] = record {
   zeros = omega arith;
-  longest = λ other. rw (none_left other) (omega arith);
+  longest = λ other. rw (none-left other) (omega arith);
   first =
       λ other p q. omega arith;
 }
-is_longest (s ∷ rest) =
-    let k = is_longest rest in
+is-longest (s ∷ rest) =
+    let k = is-longest rest in
     elim (leb_tells (longest_zero_run rest).1 (zero_run (s ∷ rest))) [
       | inl p ↦ rw p.0 (here s rest (longest_zero_run rest).0 (longest_zero_run rest).1 k p.1)
       | inr q ↦ rw (q.0, add-one)
@@ -61,16 +61,16 @@ compressed : (groups : List ℕ) (run : ℕ × ℕ) (start len : ℕ) → run.0 
 compressed groups run start len e h l = let t : nat_lt 1 len ≡ true = lt-ltb 1 len (omega arith) in
     rw (e, h, t) refl
 
-not_compressed : (groups : List ℕ) (run : ℕ × ℕ) → run.1 ≤ 1
+not-compressed : (groups : List ℕ) (run : ℕ × ℕ) → run.1 ≤ 1
     → compressed_text groups run ≡ groups_text groups
-not_compressed groups run l = let t : nat_lt 1 run.1 ≡ false = grind (arith, nat_tests) in rw t refl
+not-compressed groups run l = let t : nat_lt 1 run.1 ≡ false = grind (arith, nat_tests) in rw t refl
 
-pub shortened_text : (groups : List ℕ) (start len : ℕ) → IsShortened groups start len
+pub shortened-text : (groups : List ℕ) (start len : ℕ) → IsShortened groups start len
     → hex_groups_text groups ≡ groups_text (take start groups) ++ codes "::"
     ++ groups_text (drop (start + len) groups)
 unfolding hex_groups_text
-shortened_text groups start len h =
-    let k = is_longest groups in
+shortened-text groups start len h =
+    let k = is-longest groups in
     let run = longest_zero_run groups in
     let above : run.1 ≤ len = let a = k.zeros in let b = h.longest run.0 in omega arith in
     let below : len ≤ run.1 = let a = h.zeros in let b = k.longest start in omega arith in
@@ -81,10 +81,10 @@ shortened_text groups start len h =
     let place : run.0 ≡ start = omega arith in
     compressed groups run start len place same many
 
-pub whole_text : (groups : List ℕ) → ((start : ℕ) → zero_run (drop start groups) ≤ 1)
+pub whole-text : (groups : List ℕ) → ((start : ℕ) → zero_run (drop start groups) ≤ 1)
     → hex_groups_text groups ≡ groups_text groups
 unfolding hex_groups_text
-whole_text groups h =
-    let k = is_longest groups in
+whole-text groups h =
+    let k = is-longest groups in
     let run = longest_zero_run groups in
-    not_compressed groups run (let a = k.zeros in let b = h run.0 in omega arith)
+    not-compressed groups run (let a = k.zeros in let b = h run.0 in omega arith)

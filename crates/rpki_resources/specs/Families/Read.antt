@@ -24,6 +24,7 @@ entry_fields_at p mode bytes = do
   value ← p family.0 mode family.1
   Some (record { family = family.0; value = value.0 }, value.1)
 
+-- a SEQUENCE of a family and what stands for it
 abbrev pub entry_at : {X : Type 0} → (AddressFamily → Parser X) → Parser (Entry X)
 entry_at p = sequence_at (entry_fields_at p)
 
@@ -31,15 +32,17 @@ entry_at p = sequence_at (entry_fields_at p)
 abbrev pub no_values : {X : Type 0} → ByFamily X
 no_values = record { v4 = None; v6 = None }
 
--- a value for a family beside the others, unless it has one
+-- a value for IPv4 beside what stands for IPv6, unless IPv4 has one
 abbrev pub with_v4 : {X : Type 0} → X → Option X → Option X → Option (ByFamily X)
 with_v4 x None v6 = Some (record { v4 = Some x; v6 = v6 })
 with_v4 x (Some y) v6 = None
 
+-- a value for IPv6 beside what stands for IPv4, unless IPv6 has one
 abbrev pub with_v6 : {X : Type 0} → X → Option X → Option X → Option (ByFamily X)
 with_v6 x v4 None = Some (record { v4 = v4; v6 = Some x })
 with_v6 x v4 (Some y) = None
 
+-- a value for a family beside the others, unless it has one
 abbrev pub with_value : {X : Type 0} → AddressFamily → X → ByFamily X → Option (ByFamily X)
 with_value Ipv4 x values = with_v4 x values.v4 values.v6
 with_value Ipv6 x values = with_v6 x values.v4 values.v6

@@ -65,6 +65,6 @@ IpPrefixOrRange most mode = Choice (IpRange most mode) (Made beginning (IpAddres
 abbrev pub IpForm : AddressFamily → Mode → List ℕ → List (Block ℕ) → Type 0
 IpForm family mode = Understood IsSetOf (SequenceOf mode (IpPrefixOrRange (max_bits family) mode))
 
--- addressPrefix as a prefix (2.2.3.8; RFC 6482, section 3.3)
+-- addressPrefix as a prefix (2.2.3.8; RFC 9582, section 4.3)
 abbrev pub PrefixForm : AddressFamily → Mode → List ℕ → Network → Type 0
 PrefixForm family mode = Made network (IpAddress (max_bits family) mode)

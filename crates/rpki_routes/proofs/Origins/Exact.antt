@@ -25,7 +25,7 @@ use Rattle.rpki_resources.specs.Families.Read.{families_at}
 use Rattle.rpki_resources.specs.Ip.Form.{PrefixForm, bit_count}
 use Rattle.rpki_resources.specs.Prefix.{Network}
 use Rattle.rpki_resources.proofs.Addresses.Exact.{prefix-part}
-use Rattle.rpki_resources.proofs.Addresses.Within.{max_most}
+use Rattle.rpki_resources.proofs.Addresses.Within.{max-most}
 use Rattle.rpki_resources.proofs.Families.ByFamily.{families-part}
 use Rattle.rpki_routes.specs.Roa.{Address, IsMaxLength}
 use Rattle.rpki_routes.specs.Roa.Form.{AddressForm, AddressesForm, lists_of}
@@ -108,7 +108,7 @@ widen : (family : AddressFamily) (o : List ℕ) (p : Network) → PrefixForm fam
     → PrefixForm Ipv6 Der o p × (p.len ≤ max_bits family)
 widen family o p h =
     let same : p.len ≡ bit_count h.0 = ap (λ (n : Network). n.len) h.2 in
-    ((h.0, (h.1.0, omega (arith, h.1.1, max_most family)), h.2), omega (arith, h.1.1, same))
+    ((h.0, (h.1.0, omega (arith, h.1.1, max-most family)), h.2), omega (arith, h.1.1, same))
 
 of-family : (family : AddressFamily) (o : List ℕ) (a : Address) → Plain Der o a → Fits family a
     → AddressForm family o a

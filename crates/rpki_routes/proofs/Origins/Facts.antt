@@ -21,8 +21,8 @@ use Rattle.rpki_resources.specs.Family.Form.{afi}
 use Rattle.rpki_resources.specs.Families.Form.{EntryForm, FamiliesForm, afi_of, IsValueOf}
 use Rattle.rpki_resources.specs.Ip.Form.{bit_count, bit_value, PrefixForm}
 use Rattle.rpki_resources.specs.Prefix.{Network}
-use Rattle.rpki_resources.proofs.Addresses.Bits.{room_below}
-use Rattle.rpki_resources.proofs.Addresses.Within.{max_most, value_small}
+use Rattle.rpki_resources.proofs.Addresses.Bits.{room-below}
+use Rattle.rpki_resources.proofs.Addresses.Within.{max-most, value-small}
 use Rattle.rpki_routes.specs.Roa.{Address, Roa, IsPrefixOf, IsAddress, IsRoa}
 use Rattle.rpki_routes.specs.Roa.Form.{AddressForm, AddressesForm, RoaForm}
 use Rattle.rpki_resources.proofs.Families.Gathered.{same-family}
@@ -36,9 +36,9 @@ prefix-facts family o p bytes h =
     let contents : IsBytes h.1.0.0 =
     IsBytes-contents Der o o [] BIT_STRING h.1.0.0 (sym (append-nil o)) h.1.0.1 bytes in
     let all : IsBytes (bits.1 ∷ bits.0) = subst IsBytes h.1.0.2.0 contents in
-    let small = value_small bits all.1 h.1.0.2.1.few in
-    let most = max_most family in
-    let room = room_below (bit_value bits) (bit_count bits) small (omega (arith, most, h.1.1)) in
+    let small = value-small bits all.1 h.1.0.2.1.few in
+    let most = max-most family in
+    let room = room-below (bit_value bits) (bit_count bits) small (omega (arith, most, h.1.1)) in
     let pos = pow_pos (128 - bit_count bits) in
     subst (IsPrefixOf family) (sym h.2) (record {
       within = h.1.1;

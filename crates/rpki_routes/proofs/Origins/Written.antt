@@ -24,11 +24,11 @@ use Rattle.rpki_resources.specs.Families.Form.{EntryForm}
 use Rattle.rpki_resources.specs.Families.Read.{gathered, no_values}
 use Rattle.rpki_resources.specs.Ip.Form.{PrefixForm}
 use Rattle.rpki_resources.specs.Ip.Written.{end_octets}
-use Rattle.rpki_resources.proofs.Addresses.FirstBits.{end_short}
-use Rattle.rpki_resources.proofs.Addresses.Within.{max_most}
+use Rattle.rpki_resources.proofs.Addresses.FirstBits.{end-short}
+use Rattle.rpki_resources.proofs.Addresses.Within.{max-most}
 use Rattle.rpki_resources.proofs.Families.Gathered.{entries-sound}
-use Rattle.rpki_resources.proofs.Families.Writing.{family_written}
-use Rattle.rpki_resources.proofs.Prefixes.Writing.{prefix_written}
+use Rattle.rpki_resources.proofs.Families.Writing.{family-written}
+use Rattle.rpki_resources.proofs.Prefixes.Writing.{prefix-written}
 use Rattle.rpki_routes.specs.Roa.{Address, Roa, IsAddress, IsMaxLength, IsRoa}
 use Rattle.rpki_routes.specs.Roa.Form.{AddressForm, AddressesForm, VersionForm, BlocksForm}
 use Rattle.rpki_routes.specs.Roa.Form.{RoaForm}
@@ -44,7 +44,7 @@ max-in : (family : AddressFamily) (len : ℕ) (max : Option ℕ)
     → Optional (IntegerBelow 256 Der) (optional_octets number_octets max) max
 max-in family len None h = refl
 max-in family len (Some m) h =
-    let most = max_most family in
+    let most = max-most family in
     let n = number-written m (omega (arith, h.1, most)) in
     (n.0, n.1, (n.2, omega (arith, h.1, most)))
 
@@ -55,8 +55,8 @@ max-short (Some m) = length-number_octets m
 address-short : (family : AddressFamily) (a : Address) → IsAddress family a
     → length (address_contents a) < 2 ^ 32
 address-short family a h =
-    let few = end_short a.prefix.addr a.prefix.len
-    (omega (arith, max_most family, h.prefix.within)) in
+    let few = end-short a.prefix.addr a.prefix.len
+    (omega (arith, max-most family, h.prefix.within)) in
     omega (
       arith,
       few,
@@ -77,7 +77,7 @@ address-written family a h =
             prefix,
             max,
             refl,
-            prefix_written family a.prefix h.prefix.within h.prefix.address h.prefix.aligned,
+            prefix-written family a.prefix h.prefix.within h.prefix.address h.prefix.aligned,
             (
               max,
               [],
@@ -118,7 +118,7 @@ entry-written family xs all short =
       name,
       list,
       refl,
-      family_written family,
+      family-written family,
       (list, [], sym (append-nil list), list-written family xs all few, refl),
     )
 

@@ -1,5 +1,5 @@
-use Rattle.rpki_basics.proofs.Times.Read.{time_reading}
+use Rattle.rpki_basics.proofs.Times.Read.{time-reading}
 use Rattle.rpki_basics.proofs.laws.times.Goals as goal
 
 pub returns : goal.returns
-returns c = time_reading
+returns c = time-reading

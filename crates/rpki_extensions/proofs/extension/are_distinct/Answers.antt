@@ -4,7 +4,7 @@ use Rattle.std.proofs.lemmas.Bool.Decides.{same_from_decides}
 use Rattle.rpki_der.proofs.Form.Keyed.{distinct-decides}
 use Rattle.rpki_extensions.specs.Extension.{oid_of}
 use Rattle.rpki_extensions.proofs.CertExtensions.Seen.{seen-none, item-at, seen-again, seen-more}
-use Rattle.rpki_extensions.proofs.CertExtensions.Seen.{has_octets}
+use Rattle.rpki_basics.proofs.OctetSets.{has_octets}
 use Rattle.rpki_extensions.proofs.extension.are_distinct.Goals as goal
 
 pub loop-extension-init : goal.loop-extension-init

@@ -7,18 +7,18 @@ use Rattle.rpki_paths.specs.Kept.{AreWalked, AreRefused}
 use Rattle.rpki_paths.specs.Pairing.{Signer}
 use Rattle.rpki_paths.specs.Path.{IsDistinct}
 use Rattle.rpki_paths.specs.Walk.{placed}
-use Rattle.rpki_paths.proofs.Accepting.{not_all, valid_where, digests_where}
-use Rattle.rpki_paths.proofs.Accepting.{first_matching, where_seen, few_verdicts}
+use Rattle.rpki_paths.proofs.Accepting.{not-all, valid-where, digests-where}
+use Rattle.rpki_paths.proofs.Accepting.{first-matching, where-seen, few-verdicts}
 use Rattle.rpki_paths.proofs.acceptance.accept.Goals as goal
 
 pub returns-then-not-good_ees-clause-refused : goal.returns-then-not-good_ees-clause-refused
 returns-then-not-good_ees-clause-refused g c = λ valid.
-    not_all g.C.Certificate.cert (λ (x : Cert). x.is_valid) c.args.a.now.ees.now
+    not-all g.C.Certificate.cert (λ (x : Cert). x.is_valid) c.args.a.now.ees.now
     (sym c.are_valid-good_ees.ensures ∙ c.if-not-good_ees.true) valid.ees
 
 pub returns-then-not-good_cas-clause-refused : goal.returns-then-not-good_cas-clause-refused
 returns-then-not-good_cas-clause-refused g c = λ valid.
-    not_all g.C.Certificate.cert (λ (x : Cert). x.is_valid) c.args.a.now.cas.now
+    not-all g.C.Certificate.cert (λ (x : Cert). x.is_valid) c.args.a.now.cas.now
     (sym c.are_valid-good_cas.ensures ∙ c.if-not-good_cas.true) valid.cas
 
 pub returns-in_err-cas-clause-refused : goal.returns-in_err-cas-clause-refused
@@ -26,7 +26,7 @@ returns-in_err-cas-clause-refused g c =
     let cert = g.C.Certificate.cert in
     let signer = g.S.CarriedSigner.signer in
     let crl = g.C.CarriedCert.crl in
-    let valid = valid_where signer cert crl c.args.a.now
+    let valid = valid-where signer cert crl c.args.a.now
     (sym c.are_valid-good_ees.ensures ∙ c.if-not-good_ees.false)
     (sym c.are_valid-good_cas.ensures ∙ c.if-not-good_cas.false) in
     let r = c.from_residual in
@@ -38,7 +38,7 @@ returns-in_err-take_keys-clause-refused g c =
     let cert = g.C.Certificate.cert in
     let signer = g.S.CarriedSigner.signer in
     let crl = g.C.CarriedCert.crl in
-    let valid = valid_where signer cert crl c.args.a.now
+    let valid = valid-where signer cert crl c.args.a.now
     (sym c.are_valid-good_ees.ensures ∙ c.if-not-good_ees.false)
     (sym c.are_valid-good_cas.ensures ∙ c.if-not-good_cas.false) in
     let r = c.from_residual-in_err-take_keys in
@@ -53,11 +53,11 @@ returns-then-not-good_digests-clause-refused g c =
     let signer = g.S.CarriedSigner.signer in
     let crl = g.C.CarriedCert.crl in
     let listed = c.in_ok-cas.ensures.listed in
-    let valid = valid_where signer cert crl c.args.a.now
+    let valid = valid-where signer cert crl c.args.a.now
     (sym c.are_valid-good_ees.ensures ∙ c.if-not-good_ees.false)
     (sym c.are_valid-good_cas.ensures ∙ c.if-not-good_cas.false) in (
       ((valid, (listed.0, listed.1)), c.in_ok-take_keys.ensures.paired),
-      not_all signer (λ (s : Signer). s.digest_holds) c.args.a.now.signers.now
+      not-all signer (λ (s : Signer). s.digest_holds) c.args.a.now.signers.now
           (sym c.have_digest-good_digests.ensures ∙ c.if-not-good_digests.true),
     )
 
@@ -66,13 +66,13 @@ returns-in_err-ees-clause-refused g c =
     let cert = g.C.Certificate.cert in
     let signer = g.S.CarriedSigner.signer in
     let crl = g.C.CarriedCert.crl in
-    let valid = valid_where signer cert crl c.args.a.now
+    let valid = valid-where signer cert crl c.args.a.now
     (sym c.are_valid-good_ees.ensures ∙ c.if-not-good_ees.false)
     (sym c.are_valid-good_cas.ensures ∙ c.if-not-good_cas.false) in
     let r = c.from_residual-in_err-ees in
     let p = err_from_is_err_and r.result r.ensures.1 in
     let listed = c.in_ok-cas.ensures.listed in
-    let digests = digests_where signer cert crl c.args.a.now
+    let digests = digests-where signer cert crl c.args.a.now
     (sym c.have_digest-good_digests.ensures ∙ c.if-not-good_digests.false) in
     rw (p.1, p.2) (c.in_err-ees.ensures.refused
     (((valid, (listed.0, listed.1)), c.in_ok-take_keys.ensures.paired), digests))
@@ -85,11 +85,11 @@ returns-in-Ok-clause-accepted g c =
     let a = carried_of signer cert crl c.args.a.now in
     let listed = c.in_ok-cas.ensures.listed in
     let ees = c.in_ok-ees.ees.items in
-    let digests = digests_where signer cert crl c.args.a.now
+    let digests = digests-where signer cert crl c.args.a.now
     (sym c.have_digest-good_digests.ensures ∙ c.if-not-good_digests.false) in
-    let paired = first_matching a (map cert ees) listed.0 c.in_ok-take_keys.ensures.paired digests
+    let paired = first-matching a (map cert ees) listed.0 c.in_ok-take_keys.ensures.paired digests
     listed.1 c.in_ok-ees.ensures.paired in
-    let valid = valid_where signer cert crl c.args.a.now
+    let valid = valid-where signer cert crl c.args.a.now
     (sym c.are_valid-good_ees.ensures ∙ c.if-not-good_ees.false)
     (sym c.are_valid-good_cas.ensures ∙ c.if-not-good_cas.false) in
     record {
@@ -97,7 +97,7 @@ returns-in-Ok-clause-accepted g c =
       crls = listed.0;
       valid = valid;
       paired = paired;
-      walked = where_seen cert (λ cas es. AreWalked cert cas es c.in-Ok.paths.items) listed.2
+      walked = where-seen cert (λ cas es. AreWalked cert cas es c.in-Ok.paths.items) listed.2
           c.as_slice-seen_cas.ensures.value c.as_slice-seen_ees.ensures.value
           c.in-Ok.ensures.paths;
     }
@@ -110,9 +110,9 @@ returns-in-Ok-clause-cost g c = λ dist. (
     let a = carried_of signer cert crl c.args.a.now in
     let listed = c.in_ok-cas.ensures.listed in
     let ees = c.in_ok-ees.ees.items in
-    let digests = digests_where signer cert crl c.args.a.now
+    let digests = digests-where signer cert crl c.args.a.now
     (sym c.have_digest-good_digests.ensures ∙ c.if-not-good_digests.false) in
-    let paired = first_matching a (map cert ees) listed.0 c.in_ok-take_keys.ensures.paired digests
+    let paired = first-matching a (map cert ees) listed.0 c.in_ok-take_keys.ensures.paired digests
     listed.1 c.in_ok-ees.ensures.paired in
     let seen_ees = c.as_slice-seen_ees.ensures.value in
     let seen_cas = c.as_slice-seen_cas.ensures.value in
@@ -124,7 +124,7 @@ returns-in-Ok-clause-cost g c = λ dist. (
     (subst (λ l. IsDistinct (placed cert 1 l) →
     walked ≤ signed + length c.as_slice-seen_ees.result.now * length l) seen_cas
     c.in-Ok.ensures.cost) in
-    few_verdicts signer cert crl c.args.a.now.subject_keys.now c.args.a.now.signers.now
+    few-verdicts signer cert crl c.args.a.now.subject_keys.now c.args.a.now.signers.now
     c.args.a.now.ees.now c.args.a.now.cas.now c.args.a.now.crls.now ees cas listed.0
     c.args.asked.now c.list_cas.new.asked c.take_keys.new.asked signed walked dist
     paired.matching listed.2 c.in_ok-cas.ensures.cost c.in_ok-take_keys.ensures.cost
@@ -138,11 +138,11 @@ returns-clause-refused g c =
     let a = carried_of signer cert crl c.args.a.now in
     let listed = c.in_ok-cas.ensures.listed in
     let ees = c.in_ok-ees.ees.items in
-    let digests = digests_where signer cert crl c.args.a.now
+    let digests = digests-where signer cert crl c.args.a.now
     (sym c.have_digest-good_digests.ensures ∙ c.if-not-good_digests.false) in
-    let paired = first_matching a (map cert ees) listed.0 c.in_ok-take_keys.ensures.paired digests
+    let paired = first-matching a (map cert ees) listed.0 c.in_ok-take_keys.ensures.paired digests
     listed.1 c.in_ok-ees.ensures.paired in
-    let valid = valid_where signer cert crl c.args.a.now
+    let valid = valid-where signer cert crl c.args.a.now
     (sym c.are_valid-good_ees.ensures ∙ c.if-not-good_ees.false)
     (sym c.are_valid-good_cas.ensures ∙ c.if-not-good_cas.false) in
     let fault = c.in-Err.fault in (
@@ -151,7 +151,7 @@ returns-clause-refused g c =
         map cert ees,
         listed.0,
         paired,
-        where_seen cert (λ cas es. AreRefused fault cas es) listed.2
+        where-seen cert (λ cas es. AreRefused fault cas es) listed.2
             c.as_slice-seen_cas.ensures.value c.as_slice-seen_ees.ensures.value
             c.in-Err.ensures.refused,
       ),

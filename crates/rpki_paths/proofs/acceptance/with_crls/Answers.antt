@@ -3,7 +3,7 @@ use Rattle.std.proofs.Common.{◌<◌, ◌+◌, length, take, ◌++◌, ◌∷�
 use Rattle.std.proofs.Common.{arith}
 use Rattle.std.proofs.lemmas.List.{take_more}
 use Rattle.rpki_paths.specs.Grant.{HaveCrls}
-use Rattle.rpki_paths.proofs.Mapping.{have_more}
+use Rattle.rpki_paths.proofs.Mapping.{have-more}
 use Rattle.rpki_paths.proofs.acceptance.with_crls.Goals as goal
 
 pub loop-i-preserved : goal.loop-i-preserved
@@ -21,7 +21,7 @@ loop-i-preserved g c =
     ∙ ap (λ z. take i cas ++ z ∷ []) (sym c.index-cas-i.is) in
     let more_crls = take_more crls i l lt
     ∙ ap (λ z. take i crls ++ z ∷ []) (sym c.index-crls-i.is) in
-    let more = have_more cert crl (take i cas) (take i crls) c.loop-i.with.items d l e
+    let more = have-more cert crl (take i cas) (take i crls) c.loop-i.with.items d l e
     c.loop-i.invariant c.with_crl.ensures in
     subst (λ m. HaveCrls cert crl (take (i + 1) cas) (take (i + 1) crls) m)
     (sym c.in_ok-push.ensures.items)

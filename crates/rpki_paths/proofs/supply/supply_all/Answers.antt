@@ -3,8 +3,8 @@ use Rattle.std.proofs.Common.{length, take, ◌++◌, ◌∷◌, [], Ok, Err, re
 use Rattle.std.proofs.lemmas.Option.{slice_get_read}
 use Rattle.std.proofs.lemmas.List.{take_more}
 use Rattle.rpki_paths.specs.Supplied.{AreSuppliedAll, supply_of, refusal_of}
-use Rattle.rpki_paths.proofs.Keeps.{all_more, all_stops}
-use Rattle.rpki_paths.proofs.PairingOff.{split_at}
+use Rattle.rpki_paths.proofs.Keeps.{all-more, all-stops}
+use Rattle.rpki_paths.proofs.PairingOff.{split-at}
 use Rattle.rpki_paths.proofs.supply.supply_all.Goals as goal
 
 pub returns-in-Err : goal.returns-in-Err
@@ -18,10 +18,10 @@ returns-in-Err g c =
     let x = c.index-supplies-i.result in
     let at_i = slice_get_read supplies (length supplies) i x refl c.loop-i-test.true
     c.index-supplies-i.is in
-    let parts = split_at supplies i x at_i in
+    let parts = split-at supplies i x at_i in
     subst (λ l. AreSuppliedAll cert of refuses l c.args.paths.now c.supply_each.new.paths
     (Err c.in-Err.fault)) parts.1
-    (all_stops cert of refuses (take i supplies) x parts.0 c.args.paths.now c.loop-i.paths
+    (all-stops cert of refuses (take i supplies) x parts.0 c.args.paths.now c.loop-i.paths
     c.supply_each.new.paths c.in-Err.fault c.loop-i.invariant c.in-Err.ensures)
 
 pub loop-i-preserved : goal.loop-i-preserved
@@ -37,5 +37,5 @@ loop-i-preserved g c =
     ∙ ap (λ z. take i supplies ++ z ∷ []) (sym c.index-supplies-i.is) in
     subst (λ l. AreSuppliedAll cert of refuses l c.args.paths.now c.supply_each.new.paths (Ok tt))
     (sym one_more)
-    (all_more cert of refuses (take i supplies) x c.args.paths.now c.loop-i.paths
+    (all-more cert of refuses (take i supplies) x c.args.paths.now c.loop-i.paths
     c.supply_each.new.paths _ c.loop-i.invariant c.in-Ok.ensures)

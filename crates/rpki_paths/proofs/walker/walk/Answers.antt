@@ -5,63 +5,63 @@ use Rattle.std.proofs.lemmas.Bool.{true≢false}
 use Rattle.rpki_paths.specs.Sets.{CoversKept, IsClimbed}
 use Rattle.rpki_paths.specs.Cert.{at_place}
 use Rattle.rpki_paths.specs.Walk.{placed, kept_at, InEach, FailsFirst}
-use Rattle.rpki_paths.proofs.Walking.{walking_none, apart_placed, keeps_none, keeps_more}
+use Rattle.rpki_paths.proofs.Walking.{walking-none, apart-placed, keeps-none, keeps-more}
 use Rattle.std.proofs.Common.{map}
-use Rattle.rpki_paths.proofs.Walking.{index_named, issuer_at, scan_of}
-use Rattle.rpki_paths.proofs.Walking.{get_placed, length-placed, returns_to_mark, is_revoked}
-use Rattle.rpki_paths.proofs.Walking.{is_uncovered}
-use Rattle.rpki_paths.proofs.Walking.{walks_on, few_steps, named_once}
+use Rattle.rpki_paths.proofs.Walking.{index-named, issuer-at, scan-of}
+use Rattle.rpki_paths.proofs.Walking.{get-placed, length-placed, returns-to-mark, is-revoked}
+use Rattle.rpki_paths.proofs.Walking.{is-uncovered}
+use Rattle.rpki_paths.proofs.Walking.{walks-on, few-steps, named-once}
 use Rattle.rpki_paths.proofs.walker.walk.Goals as goal
 
 pub loop-step-init : goal.loop-step-init
 loop-step-init g c =
     let cert = g.C.Certificate.cert in (
       c.requires.as_many,
-      walking_none (placed cert 1 c.args.cas.now)
+      walking-none (placed cert 1 c.args.cas.now)
           (at_place 0 (cert c.args.ee.now))
           c.none.result c.in_ok-sets.sets c.args.marks.now c.args.turn
-          (apart_placed cert (cert c.args.ee.now) c.args.cas.now) c.none.ensures
+          (apart-placed cert (cert c.args.ee.now) c.args.cas.now) c.none.ensures
           (subst (λ m. InEach (λ f. IsClimbed (λ n. n) m (kept_at c.none.result f)
           ((cert c.args.ee.now).claim f) (kept_at c.in_ok-sets.sets f)))
           c.overclaim.ensures c.in_ok-sets.ensures)
           (c.requires.as_many ∙ sym (length-placed cert 1 c.args.cas.now)) c.requires.fresh,
-      keeps_none c.args.turn c.args.marks.now,
+      keeps-none c.args.turn c.args.marks.now,
       λ dist. omega arith,
     )
 
 pub find_issuer-requires : goal.find_issuer-requires
 find_issuer-requires g c =
-    index_named (map (λ x. (g.C.Certificate.cert x).ski) c.args.cas.now)
+    index-named (map (λ x. (g.C.Certificate.cert x).ski) c.args.cas.now)
     c.args.index.now c.authority.result _ c.named.result.now c.requires.index c.named.ensures
     c.authority.ensures
 
 pub returns-then-marks-i-clause-refused : goal.returns-then-marks-i-clause-refused
 returns-then-marks-i-clause-refused g c =
     let cert = g.C.Certificate.cert in
-    let at_i = get_placed cert 1 c.args.cas.now c.in-Issuer.i c.index-cas-i.result
+    let at_i = get-placed cert 1 c.args.cas.now c.in-Issuer.i c.index-cas-i.result
     (c.in-Issuer.ensures.in_range c.in-Issuer.i refl) c.index-cas-i.is in
-    returns_to_mark _ _ _ _ _ _ _ c.loop-step.invariant.1 _ c.in-Issuer.i at_i
+    returns-to-mark _ _ _ _ _ _ _ c.loop-step.invariant.1 _ c.in-Issuer.i at_i
     (λ s. true≢false (sym (c.is_self_signed.ensures.1 s) ∙ c.if-is_self_signed.false))
-    (issuer_at _ _ _ c.in-Issuer.i _ at_i c.in-Issuer.ensures.says) c.if-marks-i.true
+    (issuer-at _ _ _ c.in-Issuer.i _ at_i c.in-Issuer.ensures.says) c.if-marks-i.true
 
 pub returns-then-revokes-clause-refused : goal.returns-then-revokes-clause-refused
 returns-then-revokes-clause-refused g c =
     let cert = g.C.Certificate.cert in
-    let at_i = get_placed cert 1 c.args.cas.now c.in-Issuer.i c.index-cas-i.result
+    let at_i = get-placed cert 1 c.args.cas.now c.in-Issuer.i c.index-cas-i.result
     (c.in-Issuer.ensures.in_range c.in-Issuer.i refl) c.index-cas-i.is in
-    is_revoked _ _ _ _ _ _ _ c.loop-step.invariant.1 _ c.in-Issuer.i at_i
+    is-revoked _ _ _ _ _ _ _ c.loop-step.invariant.1 _ c.in-Issuer.i at_i
     (λ s. true≢false (sym (c.is_self_signed.ensures.1 s) ∙ c.if-is_self_signed.false))
-    (issuer_at _ _ _ c.in-Issuer.i _ at_i c.in-Issuer.ensures.says) c.if-marks-i.false
+    (issuer-at _ _ _ c.in-Issuer.i _ at_i c.in-Issuer.ensures.says) c.if-marks-i.false
     (sym c.revokes.ensures ∙ c.if-revokes.true)
 
 pub returns-in-Some-clause-refused : goal.returns-in-Some-clause-refused
 returns-in-Some-clause-refused g c =
     let cert = g.C.Certificate.cert in
-    let at_i = get_placed cert 1 c.args.cas.now c.in-Issuer.i c.index-cas-i.result
+    let at_i = get-placed cert 1 c.args.cas.now c.in-Issuer.i c.index-cas-i.result
     (c.in-Issuer.ensures.in_range c.in-Issuer.i refl) c.index-cas-i.is in
-    is_uncovered _ _ _ _ _ _ _ c.loop-step.invariant.1 _ c.in-Issuer.i at_i
+    is-uncovered _ _ _ _ _ _ _ c.loop-step.invariant.1 _ c.in-Issuer.i at_i
     (λ s. true≢false (sym (c.is_self_signed.ensures.1 s) ∙ c.if-is_self_signed.false))
-    (issuer_at _ _ _ c.in-Issuer.i _ at_i c.in-Issuer.ensures.says)
+    (issuer-at _ _ _ c.in-Issuer.i _ at_i c.in-Issuer.ensures.says)
     c.in-Some.family c.if-marks-i.false (sym c.revokes.ensures ∙ c.if-revokes.false)
     (subst (λ m. FailsFirst
     (λ f. CoversKept (λ n. n) m (kept_at c.loop-step.sets f)
@@ -72,17 +72,17 @@ pub loop-step-preserved : goal.loop-step-preserved
 loop-step-preserved g c =
     let cert = g.C.Certificate.cert in
     let lt = c.in-Issuer.ensures.in_range c.in-Issuer.i refl in
-    let at_i = get_placed cert 1 c.args.cas.now c.in-Issuer.i c.index-cas-i.result lt
+    let at_i = get-placed cert 1 c.args.cas.now c.in-Issuer.i c.index-cas-i.result lt
     c.index-cas-i.is in
-    let named = scan_of cert c.args.cas.now _ _ (index_named
+    let named = scan-of cert c.args.cas.now _ _ (index-named
     (map (λ x. (cert x).ski) c.args.cas.now)
     c.args.index.now c.authority.result _ c.named.result.now c.requires.index
     c.named.ensures c.authority.ensures) in (
       length-set c.loop-step.marks c.in-Issuer.i c.args.turn ∙ c.loop-step.invariant.0,
-      walks_on _ _ _ _ _ _ _ c.loop-step.invariant.1 _ c.in-Issuer.i at_i
+      walks-on _ _ _ _ _ _ _ c.loop-step.invariant.1 _ c.in-Issuer.i at_i
           (λ s. true≢false (sym (c.is_self_signed.ensures.1 s) ∙ c.if-is_self_signed.false))
-          (issuer_at _ _ _ c.in-Issuer.i _ at_i c.in-Issuer.ensures.says) c.in_ok-sets-in-None.sets
-          (apart_placed cert (cert c.args.ee.now) c.args.cas.now)
+          (issuer-at _ _ _ c.in-Issuer.i _ at_i c.in-Issuer.ensures.says) c.in_ok-sets-in-None.sets
+          (apart-placed cert (cert c.args.ee.now) c.args.cas.now)
           (omega (arith, c.loop-step.invariant.0, lt)) c.if-marks-i.false
           (sym c.revokes.ensures ∙ c.if-revokes.false)
           (subst (λ m. InEach (λ f. CoversKept (λ n. n) m (kept_at c.loop-step.sets f)
@@ -91,13 +91,13 @@ loop-step-preserved g c =
           (subst (λ m. InEach (λ f. IsClimbed (λ n. n) m (kept_at c.loop-step.sets f)
           ((cert c.index-cas-i.result).claim f) (kept_at c.in_ok-sets-in-None.sets f)))
           c.overclaim-in-None.ensures c.in_ok-sets-in-None.ensures),
-      keeps_more c.args.turn c.in-Issuer.i c.args.marks.now c.loop-step.marks
+      keeps-more c.args.turn c.in-Issuer.i c.args.marks.now c.loop-step.marks
           (omega (arith, c.loop-step.invariant.0, lt)) c.loop-step.invariant.2,
       λ dist. omega (
         arith,
         c.loop-step.invariant.3 dist,
         c.in-Issuer.ensures.cost,
-        named_once _ _ _ _ _ dist named,
+        named-once _ _ _ _ _ dist named,
       ),
     )
 
@@ -105,7 +105,7 @@ pub returns-clause-refused : goal.returns-clause-refused
 returns-clause-refused g c =
     absurd (omega (
       arith,
-      few_steps _ _ _ _ _ _ _ c.loop-step.invariant.1,
+      few-steps _ _ _ _ _ _ _ c.loop-step.invariant.1,
       length-placed g.C.Certificate.cert 1 c.args.cas.now,
       c.loop-step.invariant.0,
     ))

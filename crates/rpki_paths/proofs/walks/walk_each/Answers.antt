@@ -8,17 +8,17 @@ use Rattle.std.proofs.lemmas.List.{take_more, take_all, length-replicate}
 use Rattle.rpki_paths.specs.Index.{IsIndex}
 use Rattle.rpki_paths.specs.Walk.{placed, KeepsMarks}
 use Rattle.rpki_paths.specs.Kept.{AreRefused}
-use Rattle.rpki_paths.proofs.PairingOff.{written_back, split_at}
+use Rattle.rpki_paths.proofs.PairingOff.{written-back, split-at}
 use Rattle.rpki_paths.proofs.Walking.{length-placed}
-use Rattle.rpki_paths.proofs.WalkingEach.{IsWalkingEach, each_none, each_more, each_fresh}
-use Rattle.rpki_paths.proofs.WalkingEach.{each_refused, each_unused, each_done}
+use Rattle.rpki_paths.proofs.WalkingEach.{IsWalkingEach, each-none, each-more, each-fresh}
+use Rattle.rpki_paths.proofs.WalkingEach.{each-refused, each-unused, each-done}
 use Rattle.rpki_paths.proofs.walks.walk_each.Goals as goal
 
 pub loop-i-init : goal.loop-i-init
 loop-i-init g c =
     let none = c.in_ok-marks.ensures.items_if_clones_equal (λ y e. e) in (
       ap length none ∙ length-replicate (length c.args.cas.now) _,
-      each_none g.C.Certificate.cert (placed g.C.Certificate.cert 1 c.args.cas.now) _ _ _
+      each-none g.C.Certificate.cert (placed g.C.Certificate.cert 1 c.args.cas.now) _ _ _
           (length c.args.cas.now) refl c.new-paths.ensures.items none,
       λ dist. omega arith,
     )
@@ -32,7 +32,7 @@ pub walk-requires-clause-fresh : goal.walk-requires-clause-fresh
 walk-requires-clause-fresh g c =
     subst (λ m. (k : ℕ) → k < length m → ¬ (slice_index m k ≡ c.loop-i.i + 1))
     (sym c.deref_mut.ensures.value)
-    (λ k lt. each_fresh g.C.Certificate.cert (placed g.C.Certificate.cert 1 c.args.cas.now)
+    (λ k lt. each-fresh g.C.Certificate.cert (placed g.C.Certificate.cert 1 c.args.cas.now)
     (take c.loop-i.i c.args.ees.now) c.loop-i.paths.items c.loop-i.marks.items c.loop-i.i
     c.loop-i.invariant.1 k)
 
@@ -43,9 +43,9 @@ returns-in-Err-clause-refused g c =
     let ees = c.args.ees.now in
     let i = c.loop-i.i in
     let at_i = slice_get_read ees (length ees) i _ refl c.loop-i-test.true c.index-ees-i.is in
-    let parts = split_at ees i c.index-ees-i.result at_i in
+    let parts = split-at ees i c.index-ees-i.result at_i in
     subst (λ f. AreRefused f cas (map cert ees)) (sym c.from_path.ensures)
-    (each_refused cert cas (take i ees) c.loop-i.paths.items c.loop-i.marks.items i
+    (each-refused cert cas (take i ees) c.loop-i.paths.items c.loop-i.marks.items i
     c.loop-i.invariant.1 ees c.index-ees-i.result parts.0 parts.1 c.in-Err.fault
     c.in-Err.ensures.refused)
 
@@ -60,7 +60,7 @@ loop-i-preserved g c =
     let new = c.walk.new.marks in
     let as_many : length new ≡ length old =
     c.in-Ok.ensures.as_many ∙ ap length c.deref_mut.ensures.value in
-    let back = written_back c.loop-i.marks.len new old as_many
+    let back = written-back c.loop-i.marks.len new old as_many
     (omega (arith, as_many, c.loop-i.marks.ok.0)) in
     let one_more = take_more ees i e c.loop-i-test.true
     ∙ ap (λ z. take i ees ++ z ∷ []) (sym c.index-ees-i.is) in
@@ -69,7 +69,7 @@ loop-i-preserved g c =
       ap length back ∙ as_many ∙ c.loop-i.invariant.0,
       subst (λ m. IsWalkingEach cert cas (take (i + 1) ees) c.append.new.items.items m (i + 1))
           (sym back)
-          (each_more cert cas (take i ees) c.loop-i.paths.items old i c.loop-i.invariant.1
+          (each-more cert cas (take i ees) c.loop-i.paths.items old i c.loop-i.invariant.1
           (take (i + 1) ees) e c.in-Ok.path c.append.new.items.items new one_more
           c.in_ok-append-in-Ok.ensures c.in-Ok.ensures.path c.in-Ok.ensures.not_anchored keeps),
       λ dist.
@@ -86,7 +86,7 @@ returns-then-place-cas-clause-refused g c =
     let i = c.loop-i.i in
     let place = c.unmarked-place.result in
     let value : c.as_slice.result.now ≡ c.loop-i.marks.items = c.as_slice.ensures.value in
-    each_unused cert cas (take i c.args.ees.now) c.loop-i.paths.items c.loop-i.marks.items i
+    each-unused cert cas (take i c.args.ees.now) c.loop-i.paths.items c.loop-i.marks.items i
     c.loop-i.invariant.1 c.args.ees.now place
     (take_all i c.args.ees.now (omega (arith, c.loop-i-test.false)))
     (omega (arith, c.if-place-cas.true, length-placed cert 1 c.args.cas.now))
@@ -101,7 +101,7 @@ returns-clause-paths g c =
     let cas = placed cert 1 c.args.cas.now in
     let i = c.loop-i.i in
     let value : c.as_slice.result.now ≡ c.loop-i.marks.items = c.as_slice.ensures.value in
-    each_done cert cas (take i c.args.ees.now) c.loop-i.paths.items c.loop-i.marks.items i
+    each-done cert cas (take i c.args.ees.now) c.loop-i.paths.items c.loop-i.marks.items i
     c.loop-i.invariant.1 c.args.ees.now
     (take_all i c.args.ees.now (omega (arith, c.loop-i-test.false)))
     (c.loop-i.invariant.0 ∙ sym (length-placed cert 1 c.args.cas.now))

@@ -2,7 +2,7 @@ use Rattle.std.proofs.Common.{rules}
 use Rattle.rpki_resources.specs.Family.{max_bits}
 use Rattle.rpki_resources.specs.Ip.Read.{ip_items_at}
 use Rattle.rpki_resources.proofs.Addresses.Exact.{ip-takes}
-use Rattle.rpki_resources.proofs.Sets.Joining.{joined_only}
+use Rattle.rpki_resources.proofs.Sets.Joining.{joined-only}
 use Rattle.rpki_resources.proofs.ip_der.take_items.Goals as goal
 
 pub take_list-requires : goal.take_list-requires
@@ -12,5 +12,5 @@ take_list-requires c = λ mode octets x rest e.
 pub returns : goal.returns
 unfolding ip_items_at
 returns c =
-    let e = joined_only c.in_ok-of.field-0 c.in_ok-list.list.items c.in_ok-list.ensures.known
+    let e = joined-only c.in_ok-of.field-0 c.in_ok-list.list.items c.in_ok-list.ensures.known
     c.in_ok-of.ensures.canonical c.in_ok-of.ensures.same in search rules

@@ -4,7 +4,7 @@ use Rattle.std.proofs.Math.Nat.{pow-zero}
 use Rattle.rpki_der.specs.Numbers.{number}
 use Rattle.rpki_rsa.specs.Limbs.{value}
 use Rattle.rpki_rsa.proofs.LimbFacts.{room, grow, number-one, number-repeat, number-nil-of}
-use Rattle.rpki_rsa.proofs.EncodedParts.{encoded_number}
+use Rattle.rpki_rsa.proofs.EncodedParts.{encoded-number}
 use Rattle.rpki_rsa.proofs.encoding.set_encoded.Goals as goal
 
 pub push_octets-requires : goal.push_octets-requires
@@ -54,7 +54,7 @@ pub returns : goal.returns
 returns c =
     let e : c.loop-i._i ≡ c.args.k - 54 = omega arith in
     let fill = rw e at c.loop-i.invariant.same in
-    encoded_number c.args.k c.args.message.now _ _ _ _ _
+    encoded-number c.args.k c.args.message.now _ _ _ _ _
     (c.push_octets.ensures.same ∙ ap (λ v. number v (0 ∷ 1 ∷ [])) c.clear.ensures)
     fill c.push_octets-2.ensures.same c.push_octets-3.ensures.same
     (c.push_octets-4.ensures.same

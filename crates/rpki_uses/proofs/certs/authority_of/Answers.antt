@@ -1,6 +1,6 @@
 use Rattle.std.proofs.Common.{◌≡◌}
 use Rattle.rpki_certs.specs.Validate.{Validated, AreHeld, IsAnchorOf, IsGoodAnchor, IsGoodUnder}
-use Rattle.rpki_uses.proofs.Answered.{of_both}
+use Rattle.rpki_uses.proofs.Answered.{of-both}
 use Rattle.rpki_uses.proofs.certs.authority_of.Goals as goal
 
 pub returns : goal.returns
@@ -9,7 +9,7 @@ returns g c =
     let a = c.in_ok-anchor.anchor in
     let now = c.args.now in
     let valid = c.valid_anchors.ensures verdict c.args.anchor.certificate now in
-    of_both (λ _. IsGoodUnder verdict c.args.cert.certificate a now)
+    of-both (λ _. IsGoodUnder verdict c.args.cert.certificate a now)
     (λ (v : Validated). (v.cert ≡ c.args.cert) × AreHeld a.sets v.sets)
     (λ (v : Validated). (issuer : Validated) × IsAnchorOf c.args.anchor issuer
     × IsGoodAnchor verdict c.args.anchor.certificate now

@@ -2,7 +2,7 @@ use Rattle.std.proofs.Common.{◌≡◌}
 use Rattle.rpki_faults.specs.declared.validation.ValidationError.TheVariants.{Memory}
 use Rattle.rpki_certs.specs.Validate.{ca_validation, Validated, AreHeld, IsGoodUnder}
 use Rattle.rpki_certs.specs.Validate.{IsValidatedUnder}
-use Rattle.rpki_uses.proofs.Answered.{of_a_yes}
+use Rattle.rpki_uses.proofs.Answered.{of-a-yes}
 use Rattle.rpki_uses.proofs.certs.authority_under.Goals as goal
 
 pub returns-clause-good : goal.returns-clause-good
@@ -10,7 +10,7 @@ returns-clause-good g c =
     let verdict = g.C.Crypto.is_signed c.args.crypto.now in
     let d = c.args.cert.certificate in
     let issuer = c.args.issuer.now in
-    of_a_yes Memory (ca_validation verdict d issuer c.args.now)
+    of-a-yes Memory (ca_validation verdict d issuer c.args.now)
     (IsValidatedUnder c.args.cert issuer) (λ _. IsGoodUnder verdict d issuer c.args.now)
     c.validate_ca_at.result
     (λ t all is. ((c.valid_certificates.ensures.ca verdict d issuer c.args.now).0 all).1)
@@ -22,7 +22,7 @@ returns-clause-held g c =
     let verdict = g.C.Crypto.is_signed c.args.crypto.now in
     let d = c.args.cert.certificate in
     let issuer = c.args.issuer.now in
-    of_a_yes Memory (ca_validation verdict d issuer c.args.now)
+    of-a-yes Memory (ca_validation verdict d issuer c.args.now)
     (IsValidatedUnder c.args.cert issuer)
     (λ (v : Validated). (v.cert ≡ c.args.cert) × AreHeld issuer.sets v.sets)
     c.validate_ca_at.result

@@ -10,5 +10,6 @@ returns-in-Ok g c =
     let cas = placed cert 1 c.args.cas.now in
     let ees = map cert c.args.ees.now in
     let walked : AreWalked cert cas ees c.as_mut_slice.result.now =
-    subst (λ l. AreWalked cert cas ees l) (sym c.as_mut_slice.ensures.value) c.in-Ok.ensures.paths in
+    subst (λ l. AreWalked cert cas ees l) (sym c.as_mut_slice.ensures.value)
+    c.in-Ok.ensures.paths in
     IfOk-weaker c.earn.result _ _ (λ answer earns yes. earns yes cas ees walked) c.earn.ensures

@@ -6,7 +6,7 @@ use Rattle.rpki_certs.specs.Validate.{Validated, AreHeld, IsGoodUnder, IsValidat
 use Rattle.rpki_sigobj.specs.Object.{cert_of}
 use Rattle.rpki_sigobj.specs.Validate.{object_validation}
 use Rattle.rpki_sigobj.specs.Verify.{IsWellSigned}
-use Rattle.rpki_uses.proofs.Answered.{of_a_yes}
+use Rattle.rpki_uses.proofs.Answered.{of-a-yes}
 use Rattle.rpki_uses.proofs.objects.signer_under.Goals as goal
 
 pub returns-clause-good : goal.returns-clause-good
@@ -15,7 +15,7 @@ returns-clause-good g c =
     let verdict = g.C.Crypto.is_signed c.args.crypto.now in
     let s = c.args.object.object.signed in
     let issuer = c.args.issuer.now in
-    of_a_yes Memory (object_validation digest verdict s issuer c.args.now)
+    of-a-yes Memory (object_validation digest verdict s issuer c.args.now)
     (IsValidatedUnder (cert_of c.args.object) issuer)
     (λ _. IsWellSigned digest verdict s × AllHold (ee_checks s.cert.tbs)
     × IsGoodUnder verdict s.cert issuer c.args.now)
@@ -30,7 +30,7 @@ returns-clause-held g c =
     let verdict = g.C.Crypto.is_signed c.args.crypto.now in
     let s = c.args.object.object.signed in
     let issuer = c.args.issuer.now in
-    of_a_yes Memory (object_validation digest verdict s issuer c.args.now)
+    of-a-yes Memory (object_validation digest verdict s issuer c.args.now)
     (IsValidatedUnder (cert_of c.args.object) issuer)
     (λ (v : Validated). (v.cert ≡ cert_of c.args.object) × AreHeld issuer.sets v.sets)
     c.validate_at.result

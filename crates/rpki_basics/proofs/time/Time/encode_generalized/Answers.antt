@@ -1,8 +1,8 @@
 use Rattle.std.proofs.Common.{subst}
 use Rattle.rpki_basics.specs.Moment.{IsMoment}
-use Rattle.rpki_basics.proofs.Times.Written.{generalized_written}
+use Rattle.rpki_basics.proofs.Times.Written.{generalized-written}
 use Rattle.rpki_basics.proofs.time.Time.encode_generalized.Goals as goal
 
 pub returns-clause-written : goal.returns-clause-written
 returns-clause-written c =
-    generalized_written c.args.self.now (subst IsMoment c.self.view_is c.self.invariant)
+    generalized-written c.args.self.now (subst IsMoment c.self.view_is c.self.invariant)

@@ -2,7 +2,7 @@ use Rattle.std.proofs.Common.{ℕ, ◌≡◌, ◌<◌, ◌^◌, List, length, �
 use Rattle.std.specs.Int.{w128, to_be_bytes}
 use Rattle.rpki_der.specs.Write.Encode.{IsLenOf}
 use Rattle.rpki_der.specs.Write.Written.{value_octets, bit_string_contents}
-use Rattle.rpki_resources.proofs.Addresses.Ends.{first_bits_of}
+use Rattle.rpki_resources.proofs.Addresses.Ends.{first_bits-of}
 use Rattle.rpki_resources.proofs.address_bits.FirstBitsEncode.encoded_len.Goals as goal
 
 pub returns : goal.returns
@@ -11,7 +11,7 @@ returns c =
     ≡ take c.octet_count.result (to_be_bytes w128 c.args.self.now.addr) =
     c.bit_string.ensures.octets
     ∙ rw (c.to_be_bytes-octets.ensures, c.to_bits.ensures) refl in
-    let contents = first_bits_of c.bit_string.result.contents.octets.now
+    let contents = first_bits-of c.bit_string.result.contents.octets.now
     c.bit_string.result.contents.unused c.octet_count.result c.args.self.now.addr
     c.args.self.now.len octets c.octet_count.ensures.value
     (c.bit_string.ensures.unused ∙ c.unused.ensures) in

@@ -1,5 +1,5 @@
-use Rattle.rpki_resources.proofs.Families.Writing.{family_reading}
+use Rattle.rpki_resources.proofs.Families.Writing.{family-reading}
 use Rattle.rpki_resources.proofs.laws.forms.families.Goals as goal
 
 pub returns : goal.returns
-returns c = family_reading
+returns c = family-reading

@@ -1,5 +1,5 @@
-use Rattle.rpki_resources.proofs.Prefixes.Writing.{prefix_reading}
+use Rattle.rpki_resources.proofs.Prefixes.Writing.{prefix-reading}
 use Rattle.rpki_resources.proofs.laws.forms.prefixes.Goals as goal
 
 pub returns : goal.returns
-returns c = prefix_reading
+returns c = prefix-reading
