@@ -577,7 +577,7 @@ pub fn validated<T: Copy + Ord>(claim: &Claim<T>, issuer: &[(T, T)], trims: bool
     match claim {
         Claim::Missing => Some(Vec::new()),
         Claim::Inherit => Some(issuer.to_vec()),
-        Claim::These(blocks) if trims => Some(meet(blocks, issuer)),
+        Claim::These(blocks) if trims => Some(intersection(blocks, issuer)),
         Claim::These(blocks) => covers(issuer, blocks).then(|| blocks.clone()),
     }
 }
@@ -593,7 +593,7 @@ fn covers<T: Copy + Ord>(outer: &[(T, T)], inner: &[(T, T)]) -> bool {
     })
 }
 
-fn meet<T: Copy + Ord>(mut one: &[(T, T)], mut other: &[(T, T)]) -> Vec<(T, T)> {
+fn intersection<T: Copy + Ord>(mut one: &[(T, T)], mut other: &[(T, T)]) -> Vec<(T, T)> {
     let mut both = Vec::new();
     while let ([a, ..], [b, ..]) = (one, other) {
         let (min, max) = (a.0.max(b.0), a.1.min(b.1));

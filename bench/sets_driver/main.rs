@@ -25,7 +25,7 @@ unsafe extern "C" {
     fn bench_as_build(mins: *const u32, n: usize, maxs: *const u32, m: usize, rounds: u32) -> u64;
     fn bench_ip_build(mins: *const u64, n: usize, maxs: *const u64, m: usize, rounds: u32) -> u64;
     fn bench_union(mins: *const u32, n: usize, maxs: *const u32, m: usize, rounds: u32) -> u64;
-    fn bench_meet(mins: *const u32, n: usize, maxs: *const u32, m: usize, rounds: u32) -> u64;
+    fn bench_intersection(mins: *const u32, n: usize, maxs: *const u32, m: usize, rounds: u32) -> u64;
     fn bench_contains(mins: *const u32, n: usize, maxs: *const u32, m: usize, rounds: u32) -> u64;
     fn bench_contains_block(mins: *const u32, n: usize, maxs: *const u32, m: usize, rounds: u32) -> u64;
 }
@@ -106,14 +106,14 @@ fn plain_union(sample: &Sample, rounds: u32) -> u64 {
     (0..rounds).map(|_| black_box(plain::union(black_box(&x), &y)).len() as u64).sum()
 }
 
-fn plain_meet(sample: &Sample, rounds: u32) -> u64 {
+fn plain_intersection(sample: &Sample, rounds: u32) -> u64 {
     let (x, y) = halves(sample);
-    let meet = || {
+    let intersected = || {
         let mut set = black_box(&x).clone();
         set = plain::intersection(&set, &y);
         set
     };
-    (0..rounds).map(|_| black_box(meet()).len() as u64).sum()
+    (0..rounds).map(|_| black_box(intersected()).len() as u64).sum()
 }
 
 fn plain_contains(sample: &Sample, rounds: u32) -> u64 {
@@ -158,8 +158,8 @@ fn subjects() -> Vec<Subject> {
         built("proved-ip-build", "plain-ip-build", proved_ip_build),
         walked("plain-union", "plain-union", plain_union),
         walked("proved-union", "plain-union", |sample, rounds| proved(bench_union, sample, rounds)),
-        walked("plain-meet", "plain-meet", plain_meet),
-        walked("proved-meet", "plain-meet", |sample, rounds| proved(bench_meet, sample, rounds)),
+        walked("plain-intersect", "plain-intersect", plain_intersection),
+        walked("proved-intersect", "plain-intersect", |sample, rounds| proved(bench_intersection, sample, rounds)),
         walked("plain-contains", "plain-contains", plain_contains),
         walked("proved-contains", "plain-contains", |sample, rounds| proved(bench_contains, sample, rounds)),
         built("plain-has-block", "plain-has-block", plain_contains_block),

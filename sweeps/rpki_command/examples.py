@@ -60,7 +60,8 @@ MANIFEST = ("manifest\nnumber 1\nthis 2026-11-01T00:00:00Z\nnext 2036-01-01T00:0
             "file broken.roa a8e43973fb1f5ad65ad6e2b41ba2ca2e5d96032a9b90a054d60f5ab15b5de724\n"
             "file expired.roa da50cfc2475a4660658d3cea6bb38db5546f9e0e34af392fbc1ba36ad5ff3384\n"
             "file origin.roa 08037c93987acfc144a1abe39e32d3ed0815b5226709643eac2e5f3b18d8e230\n"
-            "file overclaiming.roa 4e703e9f396ec9ce3bb6a47992bfadf5903564880b95c3a714de0e88797bbff3\n"
+            "file overclaiming.roa "
+            "4e703e9f396ec9ce3bb6a47992bfadf5903564880b95c3a714de0e88797bbff3\n"
             "file providers.asa 33cf45a3f25377272a51416da262879035349e1bb2e2a4ad1eaf6c521ceeae84\n")
 SIGNED = "signing 2026-11-01T00:00:00Z\nee "
 MALFORMED = "malformed\n"

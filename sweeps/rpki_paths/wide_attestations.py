@@ -1,5 +1,6 @@
 #!/usr/bin/env python3
-"""Writes a module of tests that compares what `grant` answers with the rows of tools/paths_compare.py."""
+"""Writes a module of tests that compares what `grant` answers with the rows of
+tools/paths_compare.py."""
 import pathlib
 import subprocess
 import sys
@@ -14,7 +15,8 @@ use std::test::Fail;
 
 def main():
     compare = TOP / "tools" / "paths_compare.py"
-    rows = subprocess.run([sys.executable, compare], stdout=subprocess.PIPE, text=True, check=True).stdout.splitlines()
+    ran = subprocess.run([sys.executable, compare], stdout=subprocess.PIPE, text=True, check=True)
+    rows = ran.stdout.splitlines()
     print(HEAD)
     for number, part in enumerate(rows[i:i + 500] for i in range(0, len(rows), 500)):
         print(f'''#[test]

@@ -1,5 +1,6 @@
 #!/usr/bin/env python3
-"""Writes a module of tests that compares the texts of addresses and prefixes with the 10,000 rows of tools/addresses.py."""
+"""Writes a module of tests that compares the texts of addresses and prefixes with the 10,000 rows
+of tools/addresses.py."""
 import pathlib
 import subprocess
 import sys
@@ -47,8 +48,8 @@ fn compare(alloc: Global, rows: &str) -> Result<(u32, u32), Fail> {
 
 
 def main():
-    rows = subprocess.run([sys.executable, TOP / "tools" / "addresses.py", "rows"], capture_output=True, text=True, check=True)
-    rows = rows.stdout.splitlines()
+    words = [sys.executable, TOP / "tools" / "addresses.py", "rows"]
+    rows = subprocess.run(words, capture_output=True, text=True, check=True).stdout.splitlines()
     print(HEAD)
     for number, part in enumerate(rows[i:i + 500] for i in range(0, len(rows), 500)):
         print(f'''#[test]

@@ -1,5 +1,6 @@
 #!/usr/bin/env python3
-"""Writes a module of tests that checks the objects of examples/, by the signatures that they have."""
+"""Writes a module of tests that checks the objects of examples/, by the signatures that they
+have."""
 import pathlib
 import textwrap
 

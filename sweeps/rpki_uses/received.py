@@ -1,5 +1,6 @@
 #!/usr/bin/env python3
-"""Writes a module of tests in which the callers check the objects of examples/, with a list that revokes some."""
+"""Writes a module of tests in which the callers check the objects of examples/, with a list that
+revokes some."""
 import pathlib
 import textwrap
 

@@ -72,7 +72,8 @@ status-said (Complained text status) run n h e failed = elim h.err [
 pub other-status : (s is : Said) (n : ℕ) → status_of s ≡ n → s ≡ is → (status_of is ≡ n → ⊥) → ⊥
 other-status s is n e same other = other (ap status_of (sym same) ∙ e)
 
-whole-lines : (lines : List ℕ) (run : Run) → IsSaid (shown lines) run → run.status ≡ 0
+-- lines that are shown with status 0 are printed whole
+pub whole-lines : (lines : List ℕ) (run : Run) → IsSaid (shown lines) run → run.status ≡ 0
     → IsWhole lines 0 run.out_before run.out_after run.status
 whole-lines lines run h z = elim h.out [
   | inl w ↦ w

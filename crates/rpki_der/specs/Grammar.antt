@@ -21,7 +21,7 @@ IsShortest Ber low n = Unit {0}
 abbrev pub IsShort : List ℕ → ℕ → Type 0
 IsShort octets n = (octets ≡ n ∷ []) × (n < 128)
 
--- the long form of a length: the number of further octets and 128, and then these octets (8.1.3.5).
+-- The long form of a length: the number of further octets and 128, and then these octets (8.1.3.5).
 -- Forms of more than 4 further octets are refused, which is this project's own rule.
 abbrev pub IsLong : Mode → List ℕ → ℕ → Type 0
 IsLong mode octets n =
@@ -93,7 +93,7 @@ IsUnique {X} G = (a b : List ℕ) (x y : X) (r s : List ℕ) → G a x → G b y
 abbrev pub ListOf : (List ℕ → Type 0) → List ℕ → Type 0
 ListOf G octets = (each : List (Unit {0})) × Items (λ o _. G o) octets each
 
--- the octets are a value whose contents are skipped: any contents of a primitive value (8.1.4), and
+-- The octets are a value whose contents are skipped: any contents of a primitive value (8.1.4), and
 -- values of which this holds, nested at most to this depth, in a constructed one (8.1.1, 8.1.4).
 -- That there is a limit is this project's own rule.
 unfoldable pub Skipped : Mode → ℕ → List ℕ → Type 0
@@ -101,7 +101,7 @@ Skipped mode zero octets = ⊥
 Skipped mode (suc depth) octets = (tag : ℕ) × (contents : List ℕ) × Value mode octets tag contents
     × (is_constructed tag ≡ true → ListOf (Skipped mode depth) contents)
 
--- the octets are an OCTET STRING of these octets (8.7): one primitive value or, in BER, OCTET
+-- The octets are an OCTET STRING of these octets (8.7): one primitive value or, in BER, OCTET
 -- STRINGs in a constructed one (8.7.3; not in DER, 10.2), nested at most to this depth. That there
 -- is a limit is this project's own rule.
 unfoldable pub OctetString : Mode → ℕ → List ℕ → List ℕ → Type 0
@@ -142,7 +142,7 @@ IsBitString contents bits = (contents ≡ bits.1 ∷ bits.0) × IsBits bits.0 bi
 abbrev pub BitString : Mode → List ℕ → List ℕ × ℕ → Type 0
 BitString mode octets bits = Within mode BIT_STRING (λ c. IsBitString c bits) octets
 
--- an IA5String of these characters (8.23): each is below 80. It is primitive, in DER by 10.2, in
+-- An IA5String of these characters (8.23): each is below 80. It is primitive, in DER by 10.2, in
 -- BER by this project's own rule.
 abbrev pub Ia5String : Mode → List ℕ → List ℕ → Type 0
 Ia5String mode octets text =

@@ -174,7 +174,8 @@ pub fn extension(
     octets: &[u8],
 ) -> Result<Vec<u8>, AllocError>
     ensures { IfOk result (λ v. v.items ≡ value_octets SEQUENCE (oid.now
-        ++ (cond is_critical (BOOLEAN ∷ 1 ∷ 0xFF ∷ []) [] ++ value_octets OCTET_STRING octets.now))) }
+        ++ (cond is_critical (BOOLEAN ∷ 1 ∷ 0xFF ∷ []) []
+        ++ value_octets OCTET_STRING octets.now))) }
 {
     let critical: &[u8] = if is_critical { b"\x01\x01\xFF" } else { b"" };
     let octets = value(alloc, 0x04, &[octets])?;

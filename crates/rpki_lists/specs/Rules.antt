@@ -15,7 +15,7 @@ abbrev pub admits : {S X : Type 0} → (S → X → Option S) → S → List X �
 admits after s [] = true
 admits after s (x ∷ xs) = goes_on (λ t. admits after t xs) (after s x)
 
--- what a rule has seen that lets each entry stand anywhere
+-- the step of a rule that admits every entry: it has seen the same
 abbrev pub lets_all : {S X : Type 0} → S → X → Option S
 lets_all s x = Some s
 

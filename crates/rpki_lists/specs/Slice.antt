@@ -40,7 +40,7 @@ TakesFormIfNext tag form view octets None rest = (is_next tag octets ≡ true)
     × HasNoFront form octets
 TakesFormIfNext tag form view octets (Some t) rest = IsNextOrAbsent tag form octets (view t) rest
 
--- Each call that answers a T, and finds what p finds, takes by the form.
+-- Each call that answers a T, and finds what p finds, answers as `TakesForm` says.
 abbrev pub IsTakenBy : (T : Type 0) → {X : Type 0} → Parser X → (List ℕ → X → Type 0) → Type 0
 IsTakenBy T {X} p form = (view : T → X) (octets : List ℕ) (result : Option T) (rest : List ℕ)
     → IsBytes octets → FindsFront view p octets result rest → TakesForm form view octets result rest

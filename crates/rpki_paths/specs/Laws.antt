@@ -87,8 +87,8 @@ AnyChoicePairs {A} {B} R =
     (x : A) (y : B) (xs : List A) (ys rest : List B) → AreAlike R (x ∷ xs) ys →
     IsPairable R (x ∷ xs) ys → IsPicked y rest ys → R x y → IsPairable R xs rest
 
--- With distinct identifiers what fits one is alike: subject keys, and end-entity certificates and
--- CRLs by their identifiers.
+-- With distinct identifiers two signers, or two CAs, that share one partner that fits have all such
+-- partners in common: subject keys, end-entity certificates and CRLs.
 abbrev pub WhatFitsIsAlike : Type 0
 WhatFitsIsAlike =
     (a : Carried) → HasDistinctIds a →

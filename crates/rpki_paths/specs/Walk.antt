@@ -72,7 +72,7 @@ pub record IsReached (cas : List Cert) (ee c : Cert) (p : List Cert) : Type 0 wh
   pub covered : IsLinkCovered (c ∷ p)
   pub not_self_signed : ¬ (IsSelfSigned c)
 
--- A covered chain goes up to a head whose next issuer is such.
+-- A covered chain goes up to a head of which, with its next issuer and the path below, P holds.
 abbrev pub StopsWhere : (Cert → Cert → List Cert → Type 0) → List Cert → Cert → Type 0
 StopsWhere P cas ee =
     (c : Cert) × (d : Cert) × (p : List Cert) × IsReached cas ee c p × IsNext cas c.aki c.verifies d

@@ -54,7 +54,7 @@ Checks kind form mode digest verdict issuer now Says octets result =
     (IsValidatedUnder (cert_in mode o) issuer) (Says (cert_in mode o)) (kind.held o.content)
     o.content r) result
 
--- The same, with what holds of each content.
+-- The same; and `IsContent` holds of the content.
 abbrev pub ChecksContent : {X : Type 0} → (X → Type 0) → Kind X → (List ℕ → X → Type 0) → Mode
     → Digester → Verdict → Validated → Moment
     → (KeptCertificate → Result (Unit {0}) ValidationError → Type 0)

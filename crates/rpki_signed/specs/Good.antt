@@ -22,8 +22,8 @@ pub record IsGood {X : Type 0} (kind : Kind X) (mode : Mode) (digest : Digester)
   pub certificate : IsValidatedUnder (cert_in mode o) issuer v
   pub covered : kind.covers o.content o.object.signed.cert.tbs.extensions.claims v.sets
 
--- It is not, whatever the sets of its certificate are; or it is, and this fault is what was said of
--- its certificate, of which was asked then.
+-- The object is good under no validated certificate, or the caller, asked of that certificate,
+-- answered this fault.
 abbrev pub IsNotGood : {X : Type 0} → Kind X → Mode → Digester → Verdict → Validated → Moment
     → (Result (Unit {0}) ValidationError → Type 0) → Whole X → ValidationError → Type 0
 IsNotGood kind mode digest verdict issuer now Says o fault =

@@ -34,7 +34,8 @@ First {I} Say items (Some x) =
     (before : List I) × (item : I) × (after : List I) × (items ≡ before ++ item ∷ after)
     × All (SaysNothing Say) before × Say item x
 
--- say understands what the items say of which Good holds
+-- Of an item of which Good holds, `say` finds x only where the item says x; and what an item says,
+-- `say` finds.
 pub record IsSaid {I X : Type 0} (say : I → Option X) (Good : I → Type 0) (Say : I → X
     → Type 0) : Type 0 where
   pub sound : (i : I) (x : X) → Good i → say i ≡ Some x → Say i x

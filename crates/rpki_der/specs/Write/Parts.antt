@@ -5,17 +5,17 @@ use Rattle.std.proofs.Common.{arith, length-append}
 use Rattle.std.proofs.lemmas.List.Folds.{length-flat_map-take}
 use Rattle.rpki_der.specs.Write.Written.{length_octets, value_octets}
 
--- each part of few octets has few
+-- where both together have fewer than 2^32 octets, so has each
 pub length_parts : (xs ys : List ℕ) → length (xs ++ ys) < 2 ^ 32
     → (length xs < 2 ^ 32) × (length ys < 2 ^ 32)
 length_parts xs ys h = (omega (arith, length-append xs ys), omega (arith, length-append xs ys))
 
--- where both together are few octets, each is
+-- where both together have fewer than 2^32 octets, what follows from that of each holds
 pub pair_small : {P Q : Type 0} (xs ys : List ℕ) → (length xs < 2 ^ 32 → P)
     → (length ys < 2 ^ 32 → Q) → length (xs ++ ys) < 2 ^ 32 → P × Q
 pair_small xs ys p q h = (p (length_parts xs ys h).0, q (length_parts xs ys h).1)
 
--- where a value has few octets, its contents have
+-- where a value has fewer than 2^32 octets, so have its contents
 pub contents_small : (identifier : ℕ) (contents : List ℕ)
     → length (value_octets identifier contents) < 2 ^ 32 → length contents < 2 ^ 32
 contents_small identifier contents h =
@@ -39,7 +39,7 @@ pub optional_small : {T : Type 0} (f : T → List ℕ) (P : T → Type 0)
 optional_small f P h None k = tt
 optional_small f P h (Some x) k = h x k
 
--- where all of it is few octets, each part is
+-- where the whole has fewer than 2^32 octets, P holds of each part
 pub each_small : {T : Type 0} (f : T → List ℕ) (P : T → Type 0)
     → ((x : T) → length (f x) < 2 ^ 32 → P x) → (xs : List T) → length (flat_map f xs) < 2 ^ 32
     → All P xs
