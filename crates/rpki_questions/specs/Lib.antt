@@ -1,0 +1,4 @@
+pub mod Grows
+pub mod Listing
+pub mod Lists
+pub mod Questions

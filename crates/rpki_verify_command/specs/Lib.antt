@@ -1,0 +1,6 @@
+pub mod Check
+pub mod Clock
+pub mod Command
+pub mod Reply
+pub mod Words
+pub mod Yes

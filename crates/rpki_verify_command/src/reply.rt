@@ -1,0 +1,65 @@
+//! What the program replies, and how it says it.
+
+ghost use Rattle.rpki_command.specs.Answer.{IsSaid, run_of};
+ghost use Rattle.rpki_verify_command.specs.Reply.{replied};
+
+use rpki_command::answer::{Answer, say, write};
+use rpki_der::Sink;
+
+/// How the program is called.
+const USAGE: &[u8] = b"usage: rpki_verify [OPTION ..] check KIND FILE MOMENT TA [CA ..]
+       rpki_verify [OPTION ..] verdicts FILE TA [CA ..]
+       rpki_verify [OPTION ..] show KIND FILE
+       rpki_verify [OPTION ..] content KIND FILE
+       rpki_verify show tal FILE
+       rpki_verify --help
+OPTION, in this order: --relaxed --registered --wide
+KIND: aspa, manifest, roa or rsc
+MOMENT: now, or YYYYMMDDHHMMSSZ
+";
+
+/// The same, after what is wrong.
+const WRONG: &[u8] = b"wrong words, expected:
+usage: rpki_verify [OPTION ..] check KIND FILE MOMENT TA [CA ..]
+       rpki_verify [OPTION ..] verdicts FILE TA [CA ..]
+       rpki_verify [OPTION ..] show KIND FILE
+       rpki_verify [OPTION ..] content KIND FILE
+       rpki_verify show tal FILE
+       rpki_verify --help
+OPTION, in this order: --relaxed --registered --wide
+KIND: aspa, manifest, roa or rsc
+MOMENT: now, or YYYYMMDDHHMMSSZ
+";
+
+/// The exit status where it is said how the program is called.
+const HELPED: u8 = 0;
+
+/// The exit status of wrong words, and of a clock that tells no moment.
+const FAILED: u8 = 2;
+
+/// What the program replies.
+#[derive(Drop)]
+pub enum Reply<'a> {
+    /// How it is called.
+    Help,
+    /// The words ask for nothing that there is.
+    Wrong,
+    /// The clock tells no moment.
+    NoMoment,
+    /// This answer to an order.
+    Answered(Answer<'a>),
+}
+
+/// Says the reply on one of the two sinks, and gives the exit status, which is 2 where the sink
+/// fails.
+pub fn tell<O: Sink, E: Sink>(reply: &Reply<'_>, out: &mut O, err: &mut E) -> u8
+    ensures { IsSaid (replied reply.now)
+        (run_of O.taken O.failures out.old out.new E.taken E.failures err.old err.new result) }
+{
+    match reply {
+        Reply::Help => write(USAGE, HELPED, out),
+        Reply::Wrong => write(WRONG, FAILED, err),
+        Reply::NoMoment => write(b"cannot tell the time\n", FAILED, err),
+        Reply::Answered(answer) => say(answer, out, err),
+    }
+}

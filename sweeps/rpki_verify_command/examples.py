@@ -1,0 +1,162 @@
+#!/usr/bin/env python3
+"""Writes a module of tests that checks the objects of examples/ by their signatures.
+
+What the program says of them by verdicts is that of sweeps/rpki_command/examples.py, and the lists
+of good signatures are the files NAME.verdicts, for which `openssl` was asked."""
+import pathlib
+import runpy
+import textwrap
+
+SWEEPS = pathlib.Path(__file__).resolve().parent.parent
+TREE = SWEEPS.parent / "examples"
+SHOWN = runpy.run_path(str(SWEEPS / "rpki_command" / "examples.py"))
+ROA, ASPA, RSC, MANIFEST = (SHOWN[name] for name in ("ROA", "ASPA", "RSC", "MANIFEST"))
+SIGNED, text = SHOWN["SIGNED"], SHOWN["text"]
+FILES = {name: path for name, path in SHOWN["FILES"].items() if not name.endswith(".verdicts")}
+LISTS = {name.removesuffix(".verdicts"): (TREE / path).read_text("ascii").splitlines(keepends=True)
+         for name, path in SHOWN["FILES"].items() if name.endswith(".verdicts")}
+HEAD = '''//! The objects of examples/, each with what the program says of it.
+
+use crate::given::{Row, is_said};
+use rpki_basics::Time;
+use std::test::Fail;
+'''
+MALFORMED = "malformed\n"
+ISSUER_MALFORMED = "issuer refused: malformed\n"
+CHAIN = "anchor", "authority"
+LARGE, NONE = (3, "out of memory\n"), (2, "cannot read none\n")
+HELP = """usage: rpki_verify [OPTION ..] check KIND FILE MOMENT TA [CA ..]
+       rpki_verify [OPTION ..] verdicts FILE TA [CA ..]
+       rpki_verify [OPTION ..] show KIND FILE
+       rpki_verify [OPTION ..] content KIND FILE
+       rpki_verify show tal FILE
+       rpki_verify --help
+OPTION, in this order: --relaxed --registered --wide
+KIND: aspa, manifest, roa or rsc
+MOMENT: now, or YYYYMMDDHHMMSSZ
+"""
+WRONG = 2, "wrong words, expected:\n" + HELP, 0
+NO_TIME = 2, "cannot tell the time\n", 0
+GOOD, EARLY, LATE = "20270101000000Z", "20250101000000Z", "20410101000000Z"
+NOT_YET = 1, "issuer refused: certificate is not yet valid\n"
+OVER = 1, "issuer refused: certificate has expired\n"
+
+
+def check(kind, file, *others, moment=GOOD, chain=CHAIN):
+    return ["check", kind, file, moment, *chain, *others]
+
+
+def listed(file, *others, chain=CHAIN):
+    return ["verdicts", file, *chain, *others]
+
+
+def without(name, *places):
+    return "".join(line for at, line in enumerate(LISTS[name]) if at not in places)
+
+
+# Words, the moment of the clock, the status, what is said, and how many files are read.
+ROWS = [
+    (["--help"], None, 0, HELP, 0),
+    (["--relaxed", "--registered", "--wide", "--help"], GOOD, 0, HELP, 0),
+    (check("manifest", "manifest"), None, 0, "yes\n" + MANIFEST, 3),
+    (check("roa", "roa"), EARLY, 0, "yes\n" + ROA, 3),
+    (check("aspa", "aspa"), None, 0, "yes\n" + ASPA, 3),
+    (check("rsc", "rsc"), None, 0, "yes\n" + RSC, 3),
+    (["--relaxed", "--registered", "--wide"] + check("manifest", "manifest"), None, 0,
+     "yes\n" + MANIFEST, 3),
+    (check("roa", "roa", moment="now"), GOOD, 0, "yes\n" + ROA, 3),
+    (check("roa", "roa", moment="now"), EARLY, *NOT_YET, 3),
+    (check("roa", "roa", moment=EARLY), GOOD, *NOT_YET, 3),
+    (check("roa", "roa", moment="now"), LATE, *OVER, 3),
+    (check("roa", "roa", moment="now"), None, *NO_TIME),
+    (check("roa", "overclaiming"), None, 1, "refused: overclaimed IPv4 resources\n", 3),
+    (check("roa", "expired"), None, 1, "refused: certificate has expired\n", 3),
+    (check("roa", "expired", moment="20260501000000Z"), None, 0, "yes\n" + ROA, 3),
+    (check("roa", "broken"), None, 1, "refused: signature is not valid\n", 3),
+    (check("roa", "roa", chain=["anchor"]), None, 1, "refused: not issued by this CA\n", 2),
+    (check("aspa", "roa"), None, 1, MALFORMED, 3),
+    (check("roa", "anchor"), None, 1, MALFORMED, 3),
+    (check("roa", "roa", "roa"), None, 1, ISSUER_MALFORMED, 4),
+    (check("roa", "anchor", chain=["roa"]), None, 1, ISSUER_MALFORMED, 2),
+    (check("roa", "none", "large"), None, *NONE, 1),
+    (check("roa", "large", "none"), None, *LARGE, 1),
+    (["show", "roa", "roa"], None, 0, ROA + SIGNED + "1 D499B0BF9D1519CFF7E9C67B077CDAECD7CBCA67\n",
+     1),
+    (["--relaxed", "show", "rsc", "rsc"], None, 0,
+     RSC + SIGNED + "7 1B95E79E269CA2092ABA65FB1D2FB3F9557D1C1A\n", 1),
+    (["show", "aspa", "roa"], None, 1, MALFORMED, 1),
+    (["show", "tal", "roa"], None, 1, MALFORMED, 1),
+    (["content", "roa", "roa"], None, 1, MALFORMED, 1),
+    (["content", "roa", "none"], None, *NONE, 1),
+    *((listed(name), None, 0, without(name), 3) for name in LISTS if name != "broken"),
+    (["--relaxed"] + listed("roa"), None, 0, without("roa"), 3),
+    (["--registered", "--wide"] + listed("manifest"), EARLY, 0, without("manifest"), 3),
+    (listed("broken"), None, 0, without("broken", 3), 3),
+    (listed("roa", chain=["anchor"]), None, 0, without("roa", 1, 2), 2),
+    (listed("roa", chain=["authority", "anchor"]), None, 0, without("roa", 0, 1, 2), 3),
+    (listed("anchor"), None, 1, MALFORMED, 3),
+    (["--relaxed"] + listed("anchor", chain=["anchor"]), None, 1, MALFORMED, 2),
+    (listed("roa", "roa"), None, 1, ISSUER_MALFORMED, 4),
+    (listed("anchor", chain=["roa"]), None, 1, ISSUER_MALFORMED, 2),
+    (listed("roa", "none", "large"), None, *NONE, 4),
+    (listed("roa", "large", "none"), None, *LARGE, 4),
+    (listed("none", "large"), None, *NONE, 1),
+    # A word after the command that looks like an option is the name of a file.
+    (["verdicts", "--relaxed", "roa", "anchor"], None, 2, "cannot read --relaxed\n", 1),
+]
+# Words that ask for nothing that there is.
+OTHER_WORDS = [
+    [], ["help"], ["--help", "--help"], ["--help", "roa"], ["check"], ["check", "roa", "roa", GOOD],
+    check("none", "roa"), check("tal", "roa"), check("rta", "roa"),
+    check("roa", "roa", moment="NOW"), check("roa", "roa", moment="today"),
+    check("roa", "roa", moment="20270229000000Z"), check("roa", "roa", moment="2027010100000Z"),
+    check("roa", "roa", moment="20270101000000"), check("roa", ""), check("roa", "roa", ""),
+    check("roa", "roa", chain=[""]), ["verdicts"], ["verdicts", "roa"], listed(""),
+    listed("roa", ""), listed("roa", chain=["", "authority"]), ["show", "rta", "roa"],
+    ["content", "rta", "roa"], ["content", "tal", "roa"], ["show", "roa", ""],
+    ["rta", "roa", GOOD, "roa", "tal=roa"],
+    ["--wide", "--relaxed"] + check("roa", "roa"), ["--relaxed", "--relaxed"] + listed("roa"),
+    ["--strict"] + check("roa", "roa"), ["check", "--wide"] + check("roa", "roa")[1:],
+]
+ROWS += [(words, GOOD, *WRONG) for words in OTHER_WORDS]
+KINDS = "manifest", "roa", "aspa", "rsc"
+# Each file that can't be read, or that memory is not enough for, in turn.
+for kind in KINDS:
+    for file, answer in (("none", NONE), ("large", LARGE)):
+        for words, places in ((check(kind, kind), (2, 4, 5)), (listed(kind), (1, 2, 3))):
+            for at, place in enumerate(places):
+                changed = list(words)
+                changed[place] = file
+                ROWS.append((changed, None, *answer, at + 1))
+
+
+def moment(of):
+    if of is None:
+        return "None"
+    parts = of[:4], of[4:6], of[6:8], of[8:10], of[10:12], of[12:14]
+    return f"Time::utc({', '.join(str(int(it)) for it in parts)})"
+
+
+def main():
+    print(HEAD)
+    for name, path in FILES.items():
+        octets = (TREE / path).read_bytes()
+        print(f"static {name.upper()}: [u8; {len(octets)}] = [")
+        print(textwrap.fill(", ".join(f"0x{it:02X}" for it in octets), 100))
+        print("];\n")
+    print("/// The files.")
+    print(f"fn files() -> [(&'static str, &'static [u8]); {len(FILES)}] {{\n    [")
+    for name in FILES:
+        print(f'        ("{name}", &{name.upper()}),')
+    print("    ]\n}\n")
+    for number, (words, now, status, said, reads) in enumerate(ROWS):
+        out, err = (text(said), '""') if status < 2 else ('""', text(said))
+        print(f"#[test]\nfn row_{number}(rt: HostRuntime) -> Result<(), Fail> {{")
+        print(f"    let words: [&str; {len(words)}] = [{', '.join(text(it) for it in words)}];")
+        print(f"    let row = Row {{ words: &words, now: {moment(now)}, status: {status},")
+        print(f"        out: {out}, err: {err}, reads: {reads} }};")
+        print("    let files = files();\n    is_said(&rt, &files, &row);\n    Ok(())\n}\n")
+
+
+if __name__ == "__main__":
+    main()
