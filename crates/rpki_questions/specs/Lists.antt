@@ -16,8 +16,8 @@ use Rattle.rpki_sigobj.specs.Object.{SignedObject, SignedForm}
 use Rattle.rpki_questions.specs.Listing.{good_line, listing}
 use Rattle.rpki_questions.specs.Questions.{cert_question, chain_questions, signer_question}
 use Rattle.rpki_questions.specs.Questions.{check_questions}
-use Rattle.rpki_questions.specs.declared.listing.ListingError.{ListingError}
-use Rattle.rpki_questions.specs.declared.listing.ListingError.TheVariants as fault
+use Rattle.rpki_questions.specs.declared.list.ListingError.{ListingError}
+use Rattle.rpki_questions.specs.declared.list.ListingError.TheVariants as fault
 
 -- The octets begin with this in the form, and with nothing else.
 abbrev pub BeginWith : {X : Type 0} → (List ℕ → X → Type 0) → List ℕ → X → Type 0

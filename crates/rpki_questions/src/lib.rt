@@ -4,6 +4,6 @@
 
 pub mod laws;
 mod lines;
-mod listing;
+mod list;
 
-pub use listing::{ListingError, listing};
+pub use list::{ListingError, listing};

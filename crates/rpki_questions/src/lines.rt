@@ -1,6 +1,7 @@
 //! The lines of signatures, each where it is good.
 
-ghost use Rattle.std.specs.Prelude.{◌≡◌, ◌++◌, IfOk, string_bytes};
+ghost use Rattle.std.specs.Prelude.{◌≡◌, ◌≢◌, ◌++◌, IfOk, OnOk, string_bytes};
+ghost use Rattle.rpki_der.specs.declared.encode.EncodeError.TheVariants.{Memory};
 ghost use Rattle.rpki_keys.specs.Key.{key_octets};
 ghost use Rattle.rpki_verdicts.specs.Verdicts.{digest_text, line_of};
 ghost use Rattle.rpki_questions.specs.Grows.{Grows};
@@ -70,7 +71,6 @@ fn push_signer<C: Crypto>(
 }
 
 /// Appends the line of a signature of the message, if it is one by this key.
-#[tactic(auto, using(crate::proofs::Unlisted::too_long))]
 fn push_good<C: Crypto>(
     alloc: Global,
     text: &mut String,
@@ -87,9 +87,18 @@ fn push_good<C: Crypto>(
     }
     match key.to_info_bytes(alloc) {
         Ok(info) => push_line(alloc, text, info.as_slice(), message, signature.value()),
-        Err(EncodeError::Memory) => Err(AllocError),
         // No list can say yes to a key that can't be written.
-        Err(EncodeError::NotDer | EncodeError::TooLong | EncodeError::Io) => Ok(()),
+        Err(error) => unless_memory(error),
+    }
+}
+
+/// Passes on that memory ran out. Any other error says that the key can't be written.
+fn unless_memory(error: EncodeError) -> Result<(), AllocError>
+    ensures { OnOk result (error ≢ Memory) }
+{
+    match error {
+        EncodeError::Memory => Err(AllocError),
+        EncodeError::NotDer | EncodeError::TooLong | EncodeError::Io => Ok(()),
     }
 }
 

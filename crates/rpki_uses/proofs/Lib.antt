@@ -1,4 +1,5 @@
 mod Answered
+mod Asked
 mod ByList
 mod Earned
 mod PeersExact

@@ -15,6 +15,7 @@ pub mod numbers;
 pub mod objects;
 pub mod pairs;
 pub mod peers;
+pub mod questions;
 pub mod received;
 pub mod revoked;
 pub mod routes;

@@ -5,4 +5,5 @@ pub mod Optioned
 pub mod Requests
 pub mod Right
 pub mod Running
+pub mod Sufficing
 pub mod Verifying

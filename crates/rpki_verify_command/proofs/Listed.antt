@@ -7,8 +7,8 @@ use Rattle.rpki_der.specs.declared.mode.Mode.{Mode}
 use Rattle.rpki_basics.specs.Moment.{Moment}
 use Rattle.rpki_rsa.specs.Signature.{is_rsa_signature}
 use Rattle.rpki_questions.specs.Lists.{Lists}
-use Rattle.rpki_questions.specs.declared.listing.ListingError.{ListingError}
-use Rattle.rpki_questions.specs.declared.listing.ListingError.TheVariants as listing
+use Rattle.rpki_questions.specs.declared.list.ListingError.{ListingError}
+use Rattle.rpki_questions.specs.declared.list.ListingError.TheVariants as listing
 use Rattle.rpki_command.specs.Answer.{Run, Said, IsSaid, out_of_memory, malformed, issuer_malformed}
 use Rattle.rpki_command.specs.Answer.{shown}
 use Rattle.rpki_command.specs.Command.{AreTold, ChecksFiles}

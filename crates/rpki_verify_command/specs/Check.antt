@@ -11,8 +11,8 @@ use Rattle.rpki_certs.specs.Cert.{Certificate}
 use Rattle.rpki_rsa.specs.Signature.{is_rsa_signature}
 use Rattle.rpki_sigobj.specs.Object.{SignedForm}
 use Rattle.rpki_questions.specs.Lists.{AreCerts, AreNoCerts, IsListingOf}
-use Rattle.rpki_questions.specs.declared.listing.ListingError.{ListingError}
-use Rattle.rpki_questions.specs.declared.listing.ListingError.TheVariants as listing
+use Rattle.rpki_questions.specs.declared.list.ListingError.{ListingError}
+use Rattle.rpki_questions.specs.declared.list.ListingError.TheVariants as listing
 use Rattle.rpki_command.specs.Answer.{Said, out_of_memory, malformed, issuer_malformed, shown}
 use Rattle.rpki_command.specs.Check.{IsCheckedWith}
 use Rattle.rpki_command.specs.Options.{read_mode}

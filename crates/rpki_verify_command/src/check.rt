@@ -1,6 +1,6 @@
 //! What the program answers of a signed object and a chain of certificates.
 
-ghost use Rattle.std.specs.Prelude.{◌≤◌, length};
+ghost use Rattle.std.specs.Prelude.{◌≡◌, ◌≤◌, length};
 ghost use Rattle.rpki_issuers.specs.Issuer.{octets_of};
 ghost use Rattle.rpki_command.specs.Answer.{said, malformed, issuer_malformed};
 ghost use Rattle.rpki_verify_command.specs.Check.{VerifiedOf, ListedOf, WorkOf};

@@ -1,13 +1,34 @@
 //! What the definitions say, as functions that do nothing.
 
-ghost use Rattle.std.specs.Prelude.{◌≡◌, ℕ, List, Option, Some};
+ghost use Rattle.std.specs.Prelude.{◌≡◌, ◌<◌, ◌^◌, ◌↔◌, ℕ, List, ◌∷◌, length, true, Option, Some};
+ghost use Rattle.std.specs.Prelude.{Result, Ok, Contains};
+ghost use Rattle.rpki_der.specs.declared.mode.Mode.{Mode};
+ghost use Rattle.rpki_keys.specs.Key.{key_contents};
 ghost use Rattle.rpki_basics.specs.Moment.{Moment};
+ghost use Rattle.rpki_certs.specs.Cert.{Certificate};
+ghost use Rattle.rpki_certs.specs.Validate.{Validated};
+ghost use Rattle.rpki_certs.specs.Verify.{Verdict};
+ghost use Rattle.rpki_sigobj.specs.Object.{SignedData};
+ghost use Rattle.rpki_sigobj.specs.Verify.{Digester};
+ghost use Rattle.rpki_issuers.specs.Issuer.{MakesIssuer};
+ghost use Rattle.rpki_issuers.specs.declared.issuer.IssuerError.{IssuerError};
+ghost use Rattle.rpki_rsa.specs.Signature.{is_rsa_signature};
+ghost use Rattle.rpki_signed.specs.Good.{IsGood};
+ghost use Rattle.rpki_signed.specs.Object.{Whole};
+ghost use Rattle.rpki_questions.specs.Lists.{AreCerts, IsListingOf};
+ghost use Rattle.rpki_questions.specs.Listing.{is_good};
+ghost use Rattle.rpki_questions.specs.Questions.{Question, check_questions};
 ghost use Rattle.rpki_command.specs.Answer.{Run};
 ghost use Rattle.rpki_command.specs.Command.{AreTold};
+ghost use Rattle.rpki_command.specs.Kinds.{OfKind};
+ghost use Rattle.rpki_command.specs.Options.{read_mode};
 ghost use Rattle.rpki_command.specs.Store.{Told};
+ghost use Rattle.rpki_command.specs.Yes as by_list;
 ghost use Rattle.rpki_command.specs.declared.words.Kind.{Kind};
 ghost use Rattle.rpki_command.specs.declared.words.Options.{Options};
 ghost use Rattle.rpki_verify_command.specs.Command.{IsRunOf};
+ghost use Rattle.rpki_verify_command.specs.Sufficing.{SaysYesToo, SayTheSame, HaveTheirOwnLines};
+ghost use Rattle.rpki_verify_command.specs.Sufficing.{says, with_list};
 ghost use Rattle.rpki_verify_command.specs.Words.{IsAsked, moment_at};
 ghost use Rattle.rpki_verify_command.specs.Yes.{FilesOfCheck, in_order, check_request};
 ghost use Rattle.rpki_verify_command.specs.Yes.{IsRightYes, IsRightNo};
@@ -58,4 +79,79 @@ pub fn lists_are_right()
         → IsAsked words (list_request options names)
         → AreTold told (in_order names) (in_order files)
         → run.status ≡ 1 → IsRightNoList options files }
+{}
+
+/// The key of a good signature can be written: so the signature has its line in a list of verdicts.
+pub fn good_signatures_have_lines()
+    ensures short { (key message signature : List ℕ) → is_rsa_signature key message signature ≡ true
+        → length (key_contents key) < 2 ^ 32 }
+    ensures good { (q : Question) → is_rsa_signature q.key q.message q.signature ≡ true
+        → is_good is_rsa_signature q ≡ true }
+{}
+
+/// A yes passes over to each verdict that says yes to those questions of the check to which the
+/// first verdict does: the certificates make the same issuer, and an object that is good under it
+/// stays good.
+pub fn a_yes_passes_over()
+    ensures issuer { (a b : Verdict) (now : Moment) (anchor : List ℕ) (chain : List (List ℕ))
+        (first : Certificate) (others : List Certificate) (s : SignedData)
+        → AreCerts (anchor ∷ chain) (first ∷ others)
+        → SaysYesToo a b (check_questions first others s) → (issuer : Validated)
+        → MakesIssuer a now anchor chain (Ok issuer)
+        → MakesIssuer b now anchor chain (Ok issuer) }
+    ensures object { (a b : Verdict) (now : Moment) (anchor : List ℕ) (chain : List (List ℕ))
+        (first : Certificate) (others : List Certificate) (s : SignedData)
+        → AreCerts (anchor ∷ chain) (first ∷ others)
+        → SaysYesToo a b (check_questions first others s) → (issuer : Validated)
+        → MakesIssuer a now anchor chain (Ok issuer) → (options : Options) (kind : Kind)
+        → OfKind options kind (λ X asked form text. (mode : Mode) (digest : Digester) (o : Whole X)
+        (v : Validated) → o.object.signed ≡ s → IsGood asked mode digest a issuer now o v
+        → IsGood asked mode digest b issuer now o v) }
+{}
+
+/// A check needs a yes to each of its questions: where it finds an object good, the verdict says yes
+/// to all of them.
+pub fn each_question_needs_a_yes()
+    ensures { (verdict : Verdict) (now : Moment) (anchor : List ℕ) (chain : List (List ℕ))
+        (first : Certificate) (others : List Certificate) (s : SignedData)
+        → AreCerts (anchor ∷ chain) (first ∷ others) → (issuer : Validated)
+        → MakesIssuer verdict now anchor chain (Ok issuer) → (options : Options) (kind : Kind)
+        → OfKind options kind (λ X asked form text. (mode : Mode) (digest : Digester) (o : Whole X)
+        (v : Validated) → o.object.signed ≡ s → IsGood asked mode digest verdict issuer now o v
+        → (q : Question) → Contains (check_questions first others s) q → says verdict q ≡ true) }
+{}
+
+/// What a check finds is decided by what is said to its questions: where two verdicts say the same
+/// to each of them, the certificates make the same by both, an issuer or a fault, and the same
+/// objects are good under the issuer. So a no passes over too.
+pub fn questions_decide()
+    ensures issuer { (a b : Verdict) (now : Moment) (anchor : List ℕ) (chain : List (List ℕ))
+        (first : Certificate) (others : List Certificate) (s : SignedData)
+        → AreCerts (anchor ∷ chain) (first ∷ others)
+        → SayTheSame a b (check_questions first others s) → (result : Result Validated IssuerError)
+        → MakesIssuer a now anchor chain result ↔ MakesIssuer b now anchor chain result }
+    ensures object { (a b : Verdict) (now : Moment) (anchor : List ℕ) (chain : List (List ℕ))
+        (first : Certificate) (others : List Certificate) (s : SignedData)
+        → AreCerts (anchor ∷ chain) (first ∷ others)
+        → SayTheSame a b (check_questions first others s) → (issuer : Validated)
+        → MakesIssuer a now anchor chain (Ok issuer) → (options : Options) (kind : Kind)
+        → OfKind options kind (λ X asked form text. (mode : Mode) (digest : Digester) (o : Whole X)
+        (v : Validated) → o.object.signed ≡ s → IsGood asked mode digest a issuer now o v
+        ↔ IsGood asked mode digest b issuer now o v) }
+{}
+
+/// The list of good signatures that `verdicts` prints suffices for a check by `rpki_command`: where
+/// a yes by the signatures is right, it is right by the list too. So is a no, where no two of the
+/// questions of the check have the same line, which is made of digests.
+pub fn lists_suffice()
+    ensures yes { (options : Options) (kind : Kind) (now : Moment) (files : FilesOfCheck)
+        (text : List ℕ) → IsListingOf (read_mode options) is_rsa_signature files.object files.anchor
+        files.chain text → (run : Run) → IsRightYes options kind now files run
+        → by_list.IsRightYes options kind now (with_list files text) run }
+    ensures no { (options : Options) (kind : Kind) (now : Moment) (files : FilesOfCheck)
+        (text : List ℕ) (list : IsListingOf (read_mode options) is_rsa_signature files.object
+        files.anchor files.chain text)
+        → HaveTheirOwnLines (check_questions list.first list.others list.signed.signed)
+        → IsRightNo options kind now files
+        → by_list.IsRightNo options kind now (with_list files text) }
 {}

@@ -2,7 +2,7 @@
 use Rattle.std.proofs.Common.{drop, string_bytes}
 use Rattle.rpki_issuers.specs.Issuer.{octets_of}
 use Rattle.rpki_questions.proofs.Pushing.{GoesOn}
-use Rattle.rpki_questions.proofs.listing.push_chain.Given as goal
+use Rattle.rpki_questions.proofs.list.push_chain.Given as goal
 
 -- what is left makes the lines that are missing
 abbrev pub invariant-loop-octets : goal.invariant-loop-octets

@@ -6,7 +6,7 @@ use Rattle.rpki_issuers.specs.Issuer.{octets_of}
 use Rattle.rpki_questions.specs.Lists.{PushesCert}
 use Rattle.rpki_questions.proofs.Pushing.{GoesOn, begun, one-pushed, one-refused, all-pushed}
 use Rattle.rpki_questions.proofs.Pushing.{next-left, none-left}
-use Rattle.rpki_questions.proofs.listing.push_chain.Goals as goal
+use Rattle.rpki_questions.proofs.list.push_chain.Goals as goal
 
 pub loop-octets-init : goal.loop-octets-init
 loop-octets-init g c = begun _ _ _ _

@@ -1,5 +1,5 @@
 use Rattle.rpki_questions.proofs.Pushing.{anchor-refused, certs-pushed}
-use Rattle.rpki_questions.proofs.listing.push_certs.Goals as goal
+use Rattle.rpki_questions.proofs.list.push_certs.Goals as goal
 
 pub returns-in-Err : goal.returns-in-Err
 returns-in-Err g c = anchor-refused c.in-Err.error c.args.anchor.now _ c.in-Err.ensures

@@ -1,0 +1,34 @@
+-- What two verdicts say to the questions of a check.
+use Rattle.std.specs.Prelude.{◌≡◌, ℕ, List, Bool, true, Contains}
+use Rattle.rpki_certs.specs.Verify.{Verdict}
+use Rattle.rpki_command.specs.Yes as by_list
+use Rattle.rpki_questions.specs.Listing.{question_line}
+use Rattle.rpki_questions.specs.Questions.{Question}
+use Rattle.rpki_verify_command.specs.Yes.{FilesOfCheck}
+
+-- what a verdict says to a question
+abbrev pub says : Verdict → Question → Bool
+says verdict q = verdict q.key q.message q.signature
+
+-- The second verdict says yes to each of these questions to which the first says yes.
+abbrev pub SaysYesToo : Verdict → Verdict → List Question → Type 0
+SaysYesToo a b questions =
+    (q : Question) → Contains questions q → says a q ≡ true → says b q ≡ true
+
+-- Both say the same to each of these questions.
+abbrev pub SayTheSame : Verdict → Verdict → List Question → Type 0
+SayTheSame a b questions = (q : Question) → Contains questions q → says a q ≡ says b q
+
+-- No two of these questions have the same line in a list of verdicts.
+abbrev pub HaveTheirOwnLines : List Question → Type 0
+HaveTheirOwnLines questions = (p q : Question) → Contains questions p → Contains questions q
+    → question_line p ≡ question_line q → p ≡ q
+
+-- the files of the same check, where this is the list of verdicts
+abbrev pub with_list : FilesOfCheck → List ℕ → by_list.FilesOfCheck
+with_list files text = record {
+  object = files.object;
+  verdicts = text;
+  anchor = files.anchor;
+  chain = files.chain;
+}
