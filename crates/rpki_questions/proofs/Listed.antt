@@ -1,9 +1,8 @@
 -- Lists of good signatures as lists of verdicts.
-use Rattle.std.proofs.Common.{◌≡◌, ℕ, zero, suc, ◌+◌, ◌/◌, ◌%◌, ◌<◌, ◌^◌, Bool, true, false, ◌&&◌, cond, List, []}
-use Rattle.std.proofs.Common.{◌∷◌, ◌++◌, length, get_or, All, refl, sym, ap, subst, ◌∙◌, arith, inl, inr}
+use Rattle.std.proofs.Common.{◌≡◌, ℕ, zero, suc, ◌/◌, ◌%◌, ◌<◌, ◌^◌, Bool, true, false, ◌&&◌, cond, List, []}
+use Rattle.std.proofs.Common.{◌∷◌, ◌++◌, length, refl, sym, ap, subst, ◌∙◌, arith, inl, inr}
 use Rattle.std.specs.Prelude.{◌*◌, slice_index, slice_index_or, nat_lt, Contains}
 use Rattle.std.specs.Int.{w32, to_be_bytes}
-use Rattle.std.specs.List.{concat}
 use Rattle.std.proofs.lemmas.Bool.{and_parts, cases_lt}
 use Rattle.std.proofs.lemmas.Bool.Decides.{Decides-ltb}
 use Rattle.std.proofs.lemmas.List.Elements.{All-cons, All-nil}
@@ -15,11 +14,11 @@ use Rattle.rpki_der.specs.Grammar.{IsBytes}
 use Rattle.rpki_der.proofs.Reading.Unique.{bytes-both}
 use Rattle.rpki_keys.specs.Key.{key_contents, key_octets}
 use Rattle.rpki_certs.specs.Verify.{Verdict}
-use Rattle.rpki_verdicts.specs.Listed.{IsListed, is_listed}
+use Rattle.rpki_verdicts.specs.Listed.{is_listed}
 use Rattle.rpki_verdicts.specs.Verdicts.{is_lower_hex, AreDigits, IsDigestText, IsLine, AreVerdicts}
 use Rattle.rpki_verdicts.specs.Verdicts.{digest_text, line_of}
 use Rattle.rpki_verdicts.proofs.Listing.{listed-decided}
-use Rattle.rpki_questions.specs.Listing.{is_good, question_line, good_line, good_lines, listing}
+use Rattle.rpki_questions.specs.Listing.{is_good, question_line, good_lines, listing}
 use Rattle.rpki_questions.specs.Listing.{IsAmongGood}
 use Rattle.rpki_questions.specs.Questions.{Question}
 

@@ -1,7 +1,6 @@
 -- What a list of good signatures means, from what is said.
-use Rattle.std.proofs.Common.{◌≡◌, ℕ, List, ◌∷◌, Option, Result, Ok, Err, inl, inr, arith, refl}
+use Rattle.std.proofs.Common.{◌≡◌, ℕ, List, Option, Result, Ok, Err, inl, inr, arith}
 use Rattle.std.proofs.Common.{String, string_bytes, Global}
-use Rattle.std.specs.Prelude.{◌⊎◌}
 use Rattle.rpki_der.specs.declared.error.DecodeError.TheVariants as decoding
 use Rattle.rpki_der.specs.declared.mode.Mode.{Mode}
 use Rattle.rpki_basics.specs.Moment.{Moment}

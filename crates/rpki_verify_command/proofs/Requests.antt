@@ -1,9 +1,8 @@
 -- No words ask for two things.
-use Rattle.std.proofs.Common.{rules, ◌≡◌, ◌++◌, ℕ, List, [], ◌∷◌, Bool, true, false, sym, refl, ◌∙◌}
+use Rattle.std.proofs.Common.{rules, ◌≡◌, ℕ, List, [], ◌∷◌, Bool, true, false, sym, refl, ◌∙◌}
 use Rattle.std.proofs.Common.{Option, Some, None, IsTrue, codes, ap}
 use Rattle.std.specs.Prelude.{MatchOption}
 use Rattle.rpki_basics.specs.Moment.{Moment, IsMoment}
-use Rattle.rpki_basics.specs.Time.Form.{generalized_text}
 use Rattle.rpki_basics.specs.Time.Read.{generalized_of, pair_at}
 use Rattle.rpki_basics.proofs.Times.Exact.{exact-generalized}
 use Rattle.rpki_command.specs.Words.{kind_word, moment_word, command_words, are_named, IsInTime}
@@ -14,7 +13,7 @@ use Rattle.rpki_command.specs.declared.words.Kind.{Kind}
 use Rattle.rpki_command.specs.declared.words.Options.{Options}
 use Rattle.rpki_command.proofs.Orders.{commands-once, moments-once}
 use Rattle.rpki_verify_command.specs.Words.{when_word, IsWhen, is_shared, action_words, files_in}
-use Rattle.rpki_verify_command.specs.Words.{request_words, IsFit, IsAsked, AskForNothing, IsPlain}
+use Rattle.rpki_verify_command.specs.Words.{IsFit, IsAsked, AskForNothing, IsPlain}
 use Rattle.rpki_verify_command.specs.Words.{AskForNoCheck, AskForNoList, AskForNothingShared}
 use Rattle.rpki_verify_command.specs.Words.{IsSharedBy, IsCut}
 use Rattle.rpki_verify_command.specs.declared.words.Action.{Action}

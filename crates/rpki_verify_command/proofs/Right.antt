@@ -1,5 +1,5 @@
 -- What a yes and a no of the program mean, from what is said.
-use Rattle.std.proofs.Common.{◌≡◌, ◌⊎◌, ℕ, List, Option, Some, Result, Ok, Err, inl, inr, subst, ◌∙◌}
+use Rattle.std.proofs.Common.{◌≡◌, ℕ, List, Option, Some, Result, Ok, Err, inl, inr, subst, ◌∙◌}
 use Rattle.std.proofs.Common.{arith}
 use Rattle.sha2.specs.Sha256.{sha256}
 use Rattle.rpki_basics.specs.Moment.{Moment}

@@ -1,5 +1,5 @@
 -- What a run of the program does, from what it says.
-use Rattle.std.proofs.Common.{◌≡◌, ℕ, List, Option, subst, inl, inr}
+use Rattle.std.proofs.Common.{ℕ, List, Option, subst, inl, inr}
 use Rattle.std.specs.Prelude.{◌⊎◌}
 use Rattle.rpki_basics.specs.Moment.{Moment}
 use Rattle.rpki_command.specs.Answer.{Run, Said, IsSaid, out_of_memory}

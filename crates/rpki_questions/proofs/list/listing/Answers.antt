@@ -1,4 +1,4 @@
-use Rattle.std.proofs.Common.{◌≡◌, ℕ, List, Ok, subst, string_bytes}
+use Rattle.std.proofs.Common.{ℕ, List, Ok, subst, string_bytes}
 use Rattle.rpki_issuers.specs.Issuer.{octets_of}
 use Rattle.rpki_sigobj.specs.Object.{mode_of}
 use Rattle.rpki_questions.specs.Lists.{PushesCerts}
