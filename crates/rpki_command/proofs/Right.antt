@@ -183,7 +183,7 @@ module _ {X : Type 0} (kind : signed.Kind X) (form : List ℕ → X → Type 0) 
 -- ---- by its kind
 
 -- what follows for each kind follows for this one
-of-kind : (options : Options) (kind : Kind)
+pub of-kind : (options : Options) (kind : Kind)
     (P Q : (X : Type 0) → signed.Kind X → (List ℕ → X → Type 0) → (X → List ℕ) → Type 0)
     → ((X : Type 0) (asked : signed.Kind X) (form : List ℕ → X → Type 0) (text : X → List ℕ)
     → P X asked form text → Q X asked form text)

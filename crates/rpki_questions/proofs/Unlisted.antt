@@ -1,5 +1,6 @@
 -- Keys that can't be written.
-use Rattle.std.proofs.Common.{◌≡◌, ℕ, ◌<◌, ◌^◌, Bool, true, false, ◌&&◌, cond, List, [], ◌++◌, length}
+use Rattle.std.proofs.Common.{◌≡◌, ℕ, ◌<◌, ◌^◌, Bool, true, false, ◌&&◌}
+use Rattle.std.proofs.Common.{cond, List, [], ◌++◌, length}
 use Rattle.std.proofs.Common.{refl, sym, ap, ◌∙◌, ◌≢◌, arith, Result, Ok, Err}
 use Rattle.std.specs.Prelude.{nat_lt, OnOk}
 use Rattle.std.specs.declared.alloc.AllocError.{AllocError}
@@ -39,8 +40,8 @@ too-long verdict q text n =
     contents-fit q.key n ((Decides-ltb (length (key_contents q.key)) (2 ^ 32)).0 e)) in
     sym (append-nil text)
     ∙ sym (ap (λ (t : List ℕ). text ++ t)
-    (empty-line (verdict q.key q.message q.signature) (nat_lt (length (key_contents q.key)) (2 ^ 32))
-    _ below))
+    (empty-line (verdict q.key q.message q.signature)
+    (nat_lt (length (key_contents q.key)) (2 ^ 32)) _ below))
 
 -- A key that is not written has no line, unless memory ran out.
 pub unwritten : (verdict : Verdict) (q : Question) (text : List ℕ) (error : EncodeError)

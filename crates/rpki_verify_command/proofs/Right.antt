@@ -66,8 +66,8 @@ module _ (told : Told) (clock : Option Moment) (words : List (List ℕ)) (old ne
     (tells : AreTold told (in_order names) (in_order files)) where
   done : ChecksFiles told (in_order names) (VerifiedOf options kind now) old new run
   done = subst (λ (m : Option Moment).
-      IsDeedDone told (check_deed (in_order names) (VerifiedOf options kind) m) old new run) moment-is
-      (is.done (check_request options kind moment names) asked)
+      IsDeedDone told (check_deed (in_order names) (VerifiedOf options kind) m) old new run)
+      moment-is (is.done (check_request options kind moment names) asked)
 
   pub right-yes : run.status ≡ 0 → IsRightYes options kind now files run
   right-yes z = elim (done.checked (in_order files) tells) [

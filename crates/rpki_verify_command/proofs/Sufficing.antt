@@ -1,7 +1,7 @@
 -- A check asks no more of a verdict than its questions, and a list of good signatures suffices.
 use Rattle.std.proofs.Common.{◌≡◌, ℕ, zero, suc, ◌+◌, ◌<◌, ◌≤◌, ◌^◌, Bool, true, false, List}
 use Rattle.std.proofs.Common.{[], ◌∷◌, ◌++◌, length, Result, Ok, Err, inl, inr, refl, sym, ap}
-use Rattle.std.proofs.Common.{subst, ◌∙◌, arith}
+use Rattle.std.proofs.Common.{subst, ◌∙◌, arith, rules}
 use Rattle.std.specs.Prelude.{◌⊎◌, ◌↔◌, Contains, nat_lt, slice_index_or}
 use Rattle.std.proofs.lemmas.Bool.{and_parts, and_from}
 use Rattle.std.proofs.lemmas.Bool.Decides.{Decides-ltb}
@@ -54,8 +54,8 @@ use Rattle.rpki_command.specs.Options.{read_mode}
 use Rattle.rpki_command.specs.Yes.{PrintsYes, BeginsWithNoGood, MakeNoIssuer}
 use Rattle.rpki_command.specs.Yes as by_list
 use Rattle.rpki_command.specs.declared.words.Kind.{Kind}
-use Rattle.rpki_command.specs.declared.words.Kind.TheVariants.{Aspa, Manifest, Roa, Rsc}
 use Rattle.rpki_command.specs.declared.words.Options.{Options}
+use Rattle.rpki_command.proofs.Right.{of-kind}
 use Rattle.rpki_verify_command.specs.Sufficing.{says, SaysYesToo, SayTheSame, HaveTheirOwnLines}
 use Rattle.rpki_verify_command.specs.Sufficing.{with_list}
 use Rattle.rpki_verify_command.specs.Yes.{FilesOfCheck, IsRightYes, IsRightNo}
@@ -545,20 +545,7 @@ each-kind : (options : Options) (kind : Kind)
     (P : (X : Type 0) → signed.Kind X → (List ℕ → X → Type 0) → (X → List ℕ) → Type 0)
     → ((X : Type 0) (asked : signed.Kind X) (form : List ℕ → X → Type 0) (text : X → List ℕ)
     → P X asked form text) → OfKind options kind P
-each-kind options Aspa P all = all _ _ _ _
-each-kind options Manifest P all = all _ _ _ _
-each-kind options Roa P all = all _ _ _ _
-each-kind options Rsc P all = all _ _ _ _
-
-of-kind : (options : Options) (kind : Kind)
-    (P Q : (X : Type 0) → signed.Kind X → (List ℕ → X → Type 0) → (X → List ℕ) → Type 0)
-    → ((X : Type 0) (asked : signed.Kind X) (form : List ℕ → X → Type 0) (text : X → List ℕ)
-    → P X asked form text → Q X asked form text)
-    → OfKind options kind P → OfKind options kind Q
-of-kind options Aspa P Q more h = more _ _ _ _ h
-of-kind options Manifest P Q more h = more _ _ _ _ h
-of-kind options Roa P Q more h = more _ _ _ _ h
-of-kind options Rsc P Q more h = more _ _ _ _ h
+each-kind options kind P all = search rules
 
 module _ (a b : Verdict) (now : Moment) (anchor : List ℕ) (chain : List (List ℕ))
     (first : Certificate) (others : List Certificate) (s : SignedData)

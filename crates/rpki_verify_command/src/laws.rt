@@ -109,8 +109,8 @@ pub fn a_yes_passes_over()
         → IsGood asked mode digest b issuer now o v) }
 {}
 
-/// A check needs a yes to each of its questions: where it finds an object good, the verdict says yes
-/// to all of them.
+/// A check needs a yes to each of its questions: where it finds an object good, the verdict says
+/// yes to all of them.
 pub fn each_question_needs_a_yes()
     ensures { (verdict : Verdict) (now : Moment) (anchor : List ℕ) (chain : List (List ℕ))
         (first : Certificate) (others : List Certificate) (s : SignedData)

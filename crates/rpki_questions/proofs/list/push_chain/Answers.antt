@@ -1,4 +1,5 @@
-use Rattle.std.proofs.Common.{◌+◌, ℕ, List, Vec, Global, Ok, Err, Result, arith, subst, drop, get_or}
+use Rattle.std.proofs.Common.{◌+◌, ℕ, List, Vec, Global, Ok, Err, Result, arith, subst, drop}
+use Rattle.std.proofs.Common.{get_or}
 use Rattle.std.proofs.Common.{string_bytes}
 use Rattle.rpki_der.specs.declared.error.DecodeError.{DecodeError}
 use Rattle.rpki_certs.specs.Cert.{KeptCertificate}

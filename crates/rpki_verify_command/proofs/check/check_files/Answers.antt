@@ -11,5 +11,5 @@ returns c =
     of-files (λ (fs : List (List ℕ)).
     VerifiedOf c.args.options c.args.kind c.args.now fs (said c.check_with.result))
     c.args.files.now c.object-item.result c.anchor-item.result c.deref.result.now
-    c.deref-in-len2-up.result.now object anchor c.in-len2-up.len_at_least c.object-item.is c.anchor-item.is
-    c.check_with.ensures
+    c.deref-in-len2-up.result.now object anchor c.in-len2-up.len_at_least c.object-item.is
+    c.anchor-item.is c.check_with.ensures

@@ -12,5 +12,5 @@ returns c =
     of-files (λ (fs : List (List ℕ)).
     ListedOf c.args.options fs (said c.answer_listed.result))
     c.args.files.now c.object-item.result c.anchor-item.result c.deref.result.now
-    c.deref-in-len2-up.result.now object anchor c.in-len2-up.len_at_least c.object-item.is c.anchor-item.is
-    (listed-said _ _ _ _ _ _ c.listing.ensures c.answer_listed.ensures)
+    c.deref-in-len2-up.result.now object anchor c.in-len2-up.len_at_least c.object-item.is
+    c.anchor-item.is (listed-said _ _ _ _ _ _ c.listing.ensures c.answer_listed.ensures)
