@@ -93,14 +93,6 @@ module _ {X : Type 0} (kind : Kind X) (form : List ℕ → X → Type 0) (mode :
     holds = no-more h.object fault h.holds;
   }
 
--- what is said of a kind
-pub checked_of_kind : (options : Options) (kind is : words.Kind) (digest : Digester)
-    (verdict : Verdict) (issuer : Validated) (now : Moment) (octets : List ℕ) (s : Said)
-    → kind ≡ is → CheckedUnder options is digest verdict issuer now octets s
-    → CheckedUnder options kind digest verdict issuer now octets s
-checked_of_kind options kind is digest verdict issuer now octets s e h =
-    subst (λ (k : words.Kind). CheckedUnder options k digest verdict issuer now octets s) (sym e) h
-
 -- ---- files
 
 three : {T : Type 0} (xs : List T) (a b c : T) → 3 ≤ length xs → a ≡ get_or xs 0 a

@@ -1,15 +1,20 @@
 -- What is said of octets that were read.
-use Rattle.std.proofs.Common.{◌≡◌, ℕ, List, refl, sym, ap, subst, ◌∙◌, inl, inr}
+use Rattle.std.proofs.Common.{◌≡◌, ℕ, List, refl, ap, ◌∙◌, inl, inr}
 use Rattle.rpki_der.specs.declared.error.DecodeError.{DecodeError}
 use Rattle.rpki_der.specs.declared.error.DecodeError.TheVariants.{Malformed, Content, Memory}
 use Rattle.rpki_der.specs.Grammar.{HasNoFront}
 use Rattle.rpki_der.specs.Form.Decodes.{IsOnlyFront}
 use Rattle.rpki_der.specs.Read.Reads.{Refuses}
+use Rattle.rpki_signed.specs.Object.{ObjectForm}
 use Rattle.rpki_command.specs.Answer.{Said}
 use Rattle.rpki_command.specs.Contents.{HasLines, LinesOf, IsLinesOf, IsShown}
+use Rattle.rpki_command.specs.Kinds.{OfKind}
 use Rattle.rpki_command.specs.Objects.{ObjectLinesOf}
+use Rattle.rpki_command.specs.Options.{read_mode}
 use Rattle.rpki_command.specs.Refusal.{refusal}
+use Rattle.rpki_command.specs.Texts.Object.{object_text}
 use Rattle.rpki_command.specs.declared.words.Kind.{Kind}
+use Rattle.rpki_command.specs.declared.words.Kind.TheVariants.{Aspa}
 use Rattle.rpki_command.specs.declared.words.Options.{Options}
 
 module _ {X : Type 0} (form : List ℕ → X → Type 0) (text : X → List ℕ) (octets : List ℕ)
@@ -36,13 +41,16 @@ module _ {X : Type 0} (form : List ℕ → X → Type 0) (text : X → List ℕ)
     ));
   }
 
--- what is shown of a kind
-pub of_kind : (options : Options) (kind is : Kind) (octets : List ℕ) (s : Said) → kind ≡ is
-    → IsShown (LinesOf options is) octets s → IsShown (LinesOf options kind) octets s
-of_kind options kind is octets s e h =
-    subst (λ (k : Kind). IsShown (LinesOf options k) octets s) (sym e) h
+-- What is shown for each kind is shown of this one: in each case by the same words.
+pub of_kind : (options : Options) (kind : Kind) (octets : List ℕ) (s : Said)
+    → OfKind options kind (λ X asked form text. IsShown (HasLines form text) octets s)
+    → IsShown (LinesOf options kind) octets s
+of_kind options Aspa octets s h = h
+of_kind options other octets s h = h
 
-pub object_of_kind : (options : Options) (kind is : Kind) (octets : List ℕ) (s : Said) → kind ≡ is
-    → IsShown (ObjectLinesOf options is) octets s → IsShown (ObjectLinesOf options kind) octets s
-object_of_kind options kind is octets s e h =
-    subst (λ (k : Kind). IsShown (ObjectLinesOf options k) octets s) (sym e) h
+pub object_of_kind : (options : Options) (kind : Kind) (octets : List ℕ) (s : Said)
+    → OfKind options kind (λ X asked form text. IsShown (HasLines (ObjectForm asked.type form
+    (read_mode options)) (object_text text)) octets s)
+    → IsShown (ObjectLinesOf options kind) octets s
+object_of_kind options Aspa octets s h = h
+object_of_kind options other octets s h = h

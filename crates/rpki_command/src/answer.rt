@@ -84,7 +84,7 @@ pub fn write<W: Sink>(octets: &[u8], status: u8, sink: &mut W) -> u8
 }
 
 /// Writes a line of two parts, and gives the status, or 2 where the sink fails.
-fn write_line<W: Sink>(first: &[u8], second: &[u8], status: u8, sink: &mut W) -> u8
+pub fn write_line<W: Sink>(first: &[u8], second: &[u8], status: u8, sink: &mut W) -> u8
     ensures { Writes (first.now ++ (second.now ++ codes "\n")) status
         (W.taken sink.old, W.failures sink.old) (W.taken sink.new, W.failures sink.new) result }
 {

@@ -10,23 +10,21 @@ ghost use Rattle.rpki_signed.specs.Check.{Checks};
 ghost use Rattle.rpki_signed.specs.Exact.{IsExact};
 ghost use Rattle.rpki_command.specs.Answer.{said};
 ghost use Rattle.rpki_command.specs.Check.{passes, yes_line, IsCheckSaid, IsCheckedAs};
-ghost use Rattle.rpki_command.specs.Check.{CheckedUnder};
 ghost use Rattle.rpki_command.specs.Check.{IsRefused, IsIssuerRefused, IsCheckedWith, CheckOf};
 ghost use Rattle.rpki_command.specs.Contents.{IsLinesOf};
 ghost use Rattle.rpki_command.specs.Grows.{Grows};
 ghost use Rattle.rpki_command.specs.Options.{read_mode};
 
 use crate::answer::Answer;
-use crate::contents::{Lines, refusal};
+use crate::contents::refusal;
+use crate::kinds::{Action, Lines, answer_for};
 use crate::words::{Kind, Options};
 use bytes::Bytes;
 use rpki_basics::{Crypto, Time};
 use rpki_certs::{Cert, ResourceCert};
 use rpki_der::DecodeError;
 use rpki_faults::ValidationError;
-use rpki_files::{ManifestContent, ResourceSignedChecklist};
 use rpki_issuers::{IssuerError, issuer_at};
-use rpki_routes::{AsProviderAttestation, RouteOriginAttestation};
 use rpki_signed::check;
 use rpki_signed::check::CheckError;
 use rpki_verdicts::Verdicts;
@@ -82,64 +80,39 @@ pub fn check_with<'a, K: Crypto>(
     match issuer_at(alloc, anchor, chain, crypto, now) {
         Err(error) => refused_issuer(alloc, error),
         Ok(issuer) => {
-            let answer = check_kind(alloc, options, kind, object, &issuer, crypto, now);
+            let action = CheckObject { octets: object, issuer: &issuer, crypto, moment: now };
+            let answer = answer_for(alloc, options, kind, action);
             drop(issuer);
             answer
         }
     }
 }
 
-/// Answers whether the octets begin with a good object of the kind under this issuer, at this
-/// moment.
-#[tactic(auto, using(crate::proofs::Checking::checked_of_kind))]
-fn check_kind<'a, K: Crypto>(
-    alloc: Global,
-    options: Options,
-    kind: Kind,
-    octets: &[u8],
-    issuer: &ResourceCert,
-    crypto: &K,
-    now: Time,
-) -> Answer<'a>
-    ensures { CheckedUnder options kind (K.digest_of crypto.now) (K.is_signed crypto.now)
-        issuer.now now octets.now (said result) }
-{
-    match kind {
-        Kind::Aspa => {
-            check_octets::<AsProviderAttestation, K>(alloc, options, octets, issuer, crypto, now)
-        }
-        Kind::Manifest => {
-            check_octets::<ManifestContent, K>(alloc, options, octets, issuer, crypto, now)
-        }
-        Kind::Roa => {
-            check_octets::<RouteOriginAttestation, K>(alloc, options, octets, issuer, crypto, now)
-        }
-        Kind::Rsc => {
-            check_octets::<ResourceSignedChecklist, K>(alloc, options, octets, issuer, crypto, now)
-        }
-    }
+/// To check the object at the front of the octets under this issuer, at this moment.
+#[derive(Drop)]
+struct CheckObject<'s, K: Crypto> {
+    octets: &'s [u8],
+    issuer: &'s ResourceCert,
+    crypto: &'s K,
+    moment: Time,
 }
 
-/// Answers whether the octets begin with a good object with such a content under this issuer, at
-/// this moment.
-fn check_octets<'a, C: Lines, K: Crypto>(
-    alloc: Global,
-    options: Options,
-    octets: &[u8],
-    issuer: &ResourceCert,
-    crypto: &K,
-    now: Time,
-) -> Answer<'a>
-    ensures { IsCheckedAs C.kind (C.form (C.rule_of options)) C.lines (read_mode options)
-        (K.digest_of crypto.now) (K.is_signed crypto.now) issuer.now now octets.now (said result) }
-{
-    match Bytes::copy_from_slice(alloc, octets) {
-        Err(_) => Answer::OutOfMemory,
-        Ok(source) => {
-            let checked = check_passed::<C, K, _>(
-                alloc, options, source, issuer, crypto, now, pass,
-            );
-            answer_checked(alloc, checked)
+impl<'s, K: Crypto> Action for CheckObject<'s, K> {
+    ghost says = {
+        λ options X asked form text action s. IsCheckedAs asked form text (read_mode options)
+        (K.digest_of action.crypto.now) (K.is_signed action.crypto.now) action.issuer.now
+        action.moment action.octets.now s
+    };
+
+    fn answer<'a, C: Lines>(self, alloc: Global, options: Options) -> Answer<'a> {
+        match Bytes::copy_from_slice(alloc, self.octets) {
+            Err(_) => Answer::OutOfMemory,
+            Ok(source) => {
+                let checked = check_passed::<C, K, _>(
+                    alloc, options, source, self.issuer, self.crypto, self.moment, pass,
+                );
+                answer_checked(alloc, checked)
+            }
         }
     }
 }

@@ -8,37 +8,39 @@ ghost use Rattle.rpki_command.specs.Options.{read_mode};
 ghost use Rattle.rpki_command.specs.Texts.Object.{object_text};
 
 use crate::answer::Answer;
-use crate::contents::{Lines, refusal};
+use crate::contents::refusal;
+use crate::kinds::{Action, Lines, answer_for};
 use crate::texts::object::push_object;
 use crate::words::{Kind, Options};
 use bytes::Bytes;
-use rpki_files::{ManifestContent, ResourceSignedChecklist};
-use rpki_routes::{AsProviderAttestation, RouteOriginAttestation};
 use rpki_signed::Signed;
 use std::alloc::Global;
 
 /// Answers with the lines of the signed object of this kind at the front of the octets, if there is
 /// one.
-#[tactic(auto, using(crate::proofs::Shown::object_of_kind))]
 pub fn show_object<'a>(alloc: Global, options: Options, kind: Kind, octets: Vec<u8>) -> Answer<'a>
     ensures { IsShown (ObjectLinesOf options kind) octets.items (said result) }
 {
-    match kind {
-        Kind::Aspa => show_octets::<AsProviderAttestation>(alloc, options, octets),
-        Kind::Manifest => show_octets::<ManifestContent>(alloc, options, octets),
-        Kind::Roa => show_octets::<RouteOriginAttestation>(alloc, options, octets),
-        Kind::Rsc => show_octets::<ResourceSignedChecklist>(alloc, options, octets),
-    }
+    answer_for(alloc, options, kind, ShowObject { octets })
 }
 
-/// Answers with the lines of the object at the front of the octets, if there is one.
-fn show_octets<'a, C: Lines>(alloc: Global, options: Options, octets: Vec<u8>) -> Answer<'a>
-    ensures { IsShown (HasLines (ObjectForm C.kind.type (C.form (C.rule_of options))
-        (read_mode options)) (object_text C.lines)) octets.items (said result) }
-{
-    match Bytes::from_vec(octets) {
-        Ok(source) => show::<C>(alloc, options, source),
-        Err(_) => Answer::OutOfMemory,
+/// To show the object at the front of the octets.
+#[derive(Drop)]
+struct ShowObject {
+    octets: Vec<u8>,
+}
+
+impl Action for ShowObject {
+    ghost says = {
+        λ options X asked form text action s. IsShown (HasLines (ObjectForm asked.type form
+        (read_mode options)) (object_text text)) action.octets.items s
+    };
+
+    fn answer<'a, C: Lines>(self, alloc: Global, options: Options) -> Answer<'a> {
+        match Bytes::from_vec(self.octets) {
+            Ok(source) => show::<C>(alloc, options, source),
+            Err(_) => Answer::OutOfMemory,
+        }
     }
 }
 

@@ -19,7 +19,7 @@ use Rattle.rpki_verdicts.specs.Listed.{is_listed}
 use Rattle.rpki_verdicts.specs.Verdicts.{is_lower_hex, AreDigits, IsDigestText, IsLine, AreVerdicts}
 use Rattle.rpki_verdicts.specs.Verdicts.{digest_text, line_of}
 use Rattle.rpki_verdicts.proofs.Listing.{listed-decided}
-use Rattle.rpki_questions.specs.Listing.{is_good, question_line, good_lines, listing}
+use Rattle.rpki_questions.specs.Listing.{is_listable, question_line, good_lines, listing}
 use Rattle.rpki_questions.specs.Listing.{IsAmongGood}
 use Rattle.rpki_questions.specs.Questions.{Question}
 
@@ -101,13 +101,13 @@ module _ (verdict : Verdict) where
 
   pub all-lines : (questions : List Question) → Lines questions
   all-lines [] = record { whole = refl; each = All-nil IsLine }
-  all-lines (q ∷ questions) = next-lines q questions (is_good verdict q) (all-lines questions)
+  all-lines (q ∷ questions) = next-lines q questions (is_listable verdict q) (all-lines questions)
 
   -- a line is that of a question whose answer is yes
   pub record IsGoodLine (questions : List Question) (line : List ℕ) : Type 0 where
     pub question : Question
     pub asked : Contains questions question
-    pub good : is_good verdict question ≡ true
+    pub good : is_listable verdict question ≡ true
     pub same : question_line question ≡ line
 
   later : (q : Question) (questions : List Question) (line : List ℕ)
@@ -120,7 +120,7 @@ module _ (verdict : Verdict) where
   }
 
   found-in : (q : Question) (questions : List Question) (line : List ℕ) (good : Bool) (k : ℕ)
-      → is_good verdict q ≡ good
+      → is_listable verdict q ≡ good
       → k < length (cond good (question_line q ∷ good_lines verdict questions)
       (good_lines verdict questions))
       → slice_index_or (cond good (question_line q ∷ good_lines verdict questions)
@@ -141,7 +141,7 @@ module _ (verdict : Verdict) where
       → Contains (good_lines verdict questions) line → IsGoodLine questions line
   found [] line h = absurd (omega (arith, h.1))
   found (q ∷ questions) line h =
-      found-in q questions line (is_good verdict q) h.0 refl h.1 h.2 (found questions line)
+      found-in q questions line (is_listable verdict q) h.0 refl h.1 h.2 (found questions line)
 
   pub only-good : (questions : List Question) (key message signature : List ℕ)
       → is_listed (good_lines verdict questions) key message signature ≡ true
@@ -167,18 +167,18 @@ module _ (verdict : Verdict) where
   after p questions line false h = h
 
   member : (questions : List Question) (q : Question) (k : ℕ) → k < length questions
-      → slice_index_or questions k q ≡ q → is_good verdict q ≡ true
+      → slice_index_or questions k q ≡ q → is_listable verdict q ≡ true
       → Contains (good_lines verdict questions) (question_line q)
   member [] q k l s g = absurd (omega (arith, l))
   member (p ∷ questions) q zero l s g =
-      here p q questions (is_good verdict p)
-      (subst (λ (x : Question). is_good verdict x ≡ true) (sym s) g) s
+      here p q questions (is_listable verdict p)
+      (subst (λ (x : Question). is_listable verdict x ≡ true) (sym s) g) s
   member (p ∷ questions) q (suc k) l s g =
-      after p questions (question_line q) (is_good verdict p)
+      after p questions (question_line q) (is_listable verdict p)
       (member questions q k (omega (arith, l)) s g)
 
   pub each-good : (questions : List Question) (q : Question) → Contains questions q
-      → is_good verdict q ≡ true
+      → is_listable verdict q ≡ true
       → is_listed (good_lines verdict questions) q.key q.message q.signature ≡ true
   each-good questions q h g =
       let parts = and_parts (verdict q.key q.message q.signature)

@@ -18,7 +18,7 @@ use Rattle.rpki_certs.specs.Verify.{Verdict}
 use Rattle.rpki_issuers.specs.Issuer.{octets_of}
 use Rattle.rpki_sigobj.specs.Object.{SignedData, SignedForm}
 use Rattle.rpki_questions.specs.Listing.{good_line, listing}
-use Rattle.rpki_questions.specs.Lists.{BeginWith, AreCerts, AreNoCerts, IsListingOf, IsKept}
+use Rattle.rpki_questions.specs.Lists.{BeginWith, AreCerts, AreNotAllCerts, IsListingOf, IsKept}
 use Rattle.rpki_questions.specs.Lists.{PushesCert, PushesChain}
 use Rattle.rpki_questions.specs.Lists.{PushesCerts, PushesObject, chain_lines}
 use Rattle.rpki_questions.specs.Questions.{cert_question, chain_questions, signer_question}
@@ -32,7 +32,7 @@ pub record GoesOn (verdict : Verdict) (key : List ℕ) (files : List (List ℕ))
       → (certs : List Certificate) × AreCerts files certs
       × ((tail : List Certificate) → old ++ chain_lines verdict key (certs ++ tail)
       ≡ text ++ chain_lines verdict last (end ++ tail))
-  pub none : AreNoCerts left → AreNoCerts files
+  pub none : AreNotAllCerts left → AreNotAllCerts files
 
 pub begun : (verdict : Verdict) (key : List ℕ) (files : List (List ℕ)) (old : List ℕ)
     → GoesOn verdict key files old key files old
@@ -42,11 +42,11 @@ begun verdict key files old = record {
 }
 
 no-certs : (file : List ℕ) (left : List (List ℕ)) → HasNoFront (CertForm Der) file
-    → AreNoCerts (file ∷ left)
+    → AreNotAllCerts (file ∷ left)
 no-certs file left absent [] are = are
 no-certs file left absent (cert ∷ certs) are = absent cert are.0.0 are.0.1.found
 
-none-after : (file : List ℕ) (left : List (List ℕ)) → AreNoCerts left → AreNoCerts (file ∷ left)
+none-after : (file : List ℕ) (left : List (List ℕ)) → AreNotAllCerts left → AreNotAllCerts (file ∷ left)
 none-after file left absent [] are = are
 none-after file left absent (cert ∷ certs) are = absent certs are.1
 
@@ -69,7 +69,7 @@ module _ (verdict : Verdict) (key : List ℕ) (files : List (List ℕ)) (old las
   }
 
   pub one-refused : (e : DecodeError) → Refuses e (HasNoFront (CertForm Der) file)
-      → Refuses e (AreNoCerts files)
+      → Refuses e (AreNotAllCerts files)
   one-refused Memory absent = tt
   one-refused Malformed absent = goes.none (no-certs file left absent)
   one-refused (Content fault) absent = goes.none (no-certs file left absent)
@@ -131,13 +131,13 @@ kept-pushes verdict key_of file old new cert key (Err e) result begins same grow
 -- ---- the whole
 
 pub anchor-refused : (e : DecodeError) (file : List ℕ) (left : List (List ℕ))
-    → Refuses e (HasNoFront (CertForm Der) file) → Refuses e (AreNoCerts (file ∷ left))
+    → Refuses e (HasNoFront (CertForm Der) file) → Refuses e (AreNotAllCerts (file ∷ left))
 anchor-refused Memory file left absent = tt
 anchor-refused Malformed file left absent = no-certs file left absent
 anchor-refused (Content fault) file left absent = no-certs file left absent
 
 chain-refused : (e : DecodeError) (file : List ℕ) (left : List (List ℕ))
-    → Refuses e (AreNoCerts left) → Refuses e (AreNoCerts (file ∷ left))
+    → Refuses e (AreNotAllCerts left) → Refuses e (AreNotAllCerts (file ∷ left))
 chain-refused Memory file left absent = tt
 chain-refused Malformed file left absent = none-after file left absent
 chain-refused (Content fault) file left absent = none-after file left absent

@@ -30,9 +30,9 @@ AreCerts [] (cert ∷ certs) = ⊥
 AreCerts (file ∷ files) [] = ⊥
 AreCerts (file ∷ files) (cert ∷ certs) = BeginWith (CertForm Der) file cert × AreCerts files certs
 
--- one of them begins with none
-abbrev pub AreNoCerts : List (List ℕ) → Type 0
-AreNoCerts files = (certs : List Certificate) → AreCerts files certs → ⊥
+-- it is not so that each of them begins with a certificate
+abbrev pub AreNotAllCerts : List (List ℕ) → Type 0
+AreNotAllCerts files = (certs : List Certificate) → AreCerts files certs → ⊥
 
 -- The text lists the good ones of the signatures that a check asks about: the files begin with a
 -- signed object, in this mode, with the certificate of a trust anchor, and with those of CAs.
@@ -45,14 +45,14 @@ pub record IsListingOf (mode : Mode) (verdict : Verdict) (object anchor : List �
   pub front : BeginWith (SignedForm mode) object signed
   pub whole : text ≡ listing verdict (check_questions first others signed.signed)
 
--- What is answered: the text, or that the certificates are none, or else that the object is none,
--- unless memory runs out.
+-- What is answered: the text, or that not all files of certificates begin with one, or else that the
+-- file of the object begins with none, unless memory runs out.
 abbrev pub Lists : Mode → Verdict → List ℕ → List ℕ → List (List ℕ)
     → Result (String Global) ListingError → Type 0
 Lists mode verdict object anchor chain (Ok text) =
     IsListingOf mode verdict object anchor chain (string_bytes text)
 Lists mode verdict object anchor chain (Err (fault.Certificate e)) =
-    Refuses e (AreNoCerts (anchor ∷ chain))
+    Refuses e (AreNotAllCerts (anchor ∷ chain))
 Lists mode verdict object anchor chain (Err (fault.Object e)) =
     ((certs : List Certificate) × AreCerts (anchor ∷ chain) certs)
     × Refuses e (HasNoFront (SignedForm mode) object)
@@ -82,17 +82,18 @@ PushesCert verdict key_of file old (Err e) new = Refuses e (HasNoFront (CertForm
 abbrev pub chain_lines : Verdict → List ℕ → List Certificate → List ℕ
 chain_lines verdict key certs = listing verdict (chain_questions key certs)
 
--- A text grows by the lines of a chain after this key: whatever certificates come after it, their
--- lines follow by the key of its last one.
+-- A text grows by the lines of a chain after this key, and the last certificate is given. It is said
+-- for whatever certificates follow (`tail`): their lines by the key of the last one are what is
+-- missing from the lines of all.
 abbrev pub PushesChain : Verdict → List ℕ → List (List ℕ) → List ℕ
     → Result KeptCertificate DecodeError → List ℕ → Type 0
 PushesChain verdict key chain old (Ok last) new =
     (certs : List Certificate) × AreCerts chain certs
     × ((tail : List Certificate) → old ++ chain_lines verdict key (certs ++ tail)
     ≡ new ++ chain_lines verdict last.certificate.tbs.key tail)
-PushesChain verdict key chain old (Err e) new = Refuses e (AreNoCerts chain)
+PushesChain verdict key chain old (Err e) new = Refuses e (AreNotAllCerts chain)
 
--- A text grows by the lines of a trust anchor's certificate and of a chain under it.
+-- The same, with the certificate of a trust anchor in front.
 abbrev pub PushesCerts : Verdict → List ℕ → List (List ℕ) → List ℕ
     → Result KeptCertificate DecodeError → List ℕ → Type 0
 PushesCerts verdict anchor chain old (Ok last) new =
@@ -100,7 +101,7 @@ PushesCerts verdict anchor chain old (Ok last) new =
     × AreCerts (anchor ∷ chain) (first ∷ others)
     × ((tail : List Certificate) → old ++ chain_lines verdict first.tbs.key
     (first ∷ (others ++ tail)) ≡ new ++ chain_lines verdict last.certificate.tbs.key tail)
-PushesCerts verdict anchor chain old (Err e) new = Refuses e (AreNoCerts (anchor ∷ chain))
+PushesCerts verdict anchor chain old (Err e) new = Refuses e (AreNotAllCerts (anchor ∷ chain))
 
 -- A text grows by the lines of an object under the issuer with this key.
 abbrev pub PushesObject : Mode → Verdict → List ℕ → List ℕ → List ℕ

@@ -1,7 +1,8 @@
 -- Which signatures a check asks about.
-use Rattle.std.specs.Prelude.{ℕ, List, [], ◌∷◌, ◌++◌}
+use Rattle.std.specs.Prelude.{ℕ, List, [], ◌∷◌, ◌++◌, Bool}
 use Rattle.rpki_attributes.specs.Attrs.Made.{message_of}
 use Rattle.rpki_certs.specs.Cert.{Certificate}
+use Rattle.rpki_certs.specs.Verify.{Verdict}
 use Rattle.rpki_sigobj.specs.Object.{SignedData}
 
 -- A key's bits, a message and a signature: the question whether it is a signature of the message by
@@ -10,6 +11,10 @@ pub record Question : Type 0 where
   pub key : List ℕ
   pub message : List ℕ
   pub signature : List ℕ
+
+-- what a verdict says to a question
+abbrev pub says : Verdict → Question → Bool
+says verdict q = verdict q.key q.message q.signature
 
 -- whether this key signed the certificate (RFC 5280, section 6.1.3)
 abbrev pub cert_question : List ℕ → Certificate → Question
@@ -30,9 +35,11 @@ signer_question s = record {
   signature = s.signer.signature;
 }
 
--- What a check of an object asks, where these are the certificate of a trust anchor and those of
--- CAs, each under the one before: of each certificate whether it is signed, that of the anchor by
--- its own key, and that in the object by the last one's; and then of the object.
+-- The signatures on which a check of an object rests, where these are the certificate of a trust
+-- anchor and those of CAs, each under the one before, in the order of the lines of a list (RFC 6487,
+-- section 7.2; RFC 6488, section 3): that of the anchor by its own key, those of the CAs and of the
+-- certificate in the object each by the key of the one before, and that of the object by the key of
+-- its certificate.
 abbrev pub check_questions : Certificate → List Certificate → SignedData → List Question
 check_questions anchor chain s =
     chain_questions anchor.tbs.key (anchor ∷ (chain ++ (s.cert ∷ []))) ++ (signer_question s ∷ [])

@@ -4,16 +4,17 @@ ghost use Rattle.std.specs.Prelude.{◌≡◌, ℕ, List, true, Contains};
 ghost use Rattle.rpki_certs.specs.Verify.{Verdict};
 ghost use Rattle.rpki_verdicts.specs.Listed.{is_listed};
 ghost use Rattle.rpki_verdicts.specs.Verdicts.{AreVerdicts};
-ghost use Rattle.rpki_questions.specs.Listing.{is_good, good_lines, listing, IsAmongGood};
+ghost use Rattle.rpki_questions.specs.Listing.{is_listable, good_lines, listing, IsAmongGood};
 ghost use Rattle.rpki_questions.specs.Questions.{Question};
 
-/// A list of good signatures is a list of verdicts. It says yes to each question whose answer is
-/// yes, and where it says yes to a signature, its digests are those of such a question.
+/// A list of good signatures is a list of verdicts. It says yes to each question whose answer is yes
+/// and whose key can be written, and where it says yes to a signature, its digests are those of such
+/// a question.
 pub fn lists_are_verdicts()
     ensures lines { (verdict : Verdict) (questions : List Question)
         → AreVerdicts (listing verdict questions) (good_lines verdict questions) }
     ensures all { (verdict : Verdict) (questions : List Question) (q : Question)
-        → Contains questions q → is_good verdict q ≡ true
+        → Contains questions q → is_listable verdict q ≡ true
         → is_listed (good_lines verdict questions) q.key q.message q.signature ≡ true }
     ensures only { (verdict : Verdict) (questions : List Question)
         (key message signature : List ℕ)

@@ -22,9 +22,10 @@ use std::fmt;
 /// Why no list is made.
 #[derive(Debug, Drop)]
 pub enum ListingError {
-    /// One of the files of certificates does not begin with one.
+    /// The certificates were not read: one of their files does not begin with one, or memory ran
+    /// out.
     Certificate(DecodeError),
-    /// The file of the object does not begin with one.
+    /// The object was not read: its file does not begin with one, or memory ran out.
     Object(DecodeError),
 }
 
@@ -42,11 +43,11 @@ impl fmt::Display for ListingError {
 impl Error for ListingError {}
 
 /// The list of verdicts that a check of an object needs, as `Verdicts::read` of `rpki_verdicts`
-/// reads it: a line for each good one of the signatures that it asks about. These are, in this
-/// order, that of the certificate of a trust anchor by its own key, that of each certificate of the
+/// reads it: a line for each of the signatures that it asks about which is good, and whose key can
+/// be written. These are, in this order, that of the certificate of a trust anchor by its own key, that of each certificate of the
 /// chain by the key of the one before, that of the certificate in the object by the key of the last
 /// one, and that of the object by the key of its certificate. A signature that is not good has no
-/// line.
+/// line, nor has one whose key would take 2^32 octets or more.
 ///
 /// Certificates are read in DER, before the object, which is read in DER where it is read strictly,
 /// and else in BER. Nothing is validated. Memory may run out at any of them.
@@ -113,7 +114,7 @@ fn push_anchor<C: Crypto>(
 }
 
 /// Appends the line of each certificate of a chain, if the key of the one before signed it, and
-/// gives the last one. The key of this one is before the first.
+/// gives the last one. `first` is the certificate in front of the chain.
 fn push_chain<C: Crypto>(
     alloc: Global,
     text: &mut String,
@@ -174,8 +175,8 @@ fn kept(cert: Cert, pushed: Result<(), AllocError>) -> Result<Cert, DecodeError>
     }
 }
 
-/// Appends the lines of the object at the front of the octets and of its certificate, each if it is
-/// signed by the key of its issuer.
+/// Appends the line of the certificate in the object at the front of the octets, if the key of this
+/// issuer signed it, and that of the object, if the key of that certificate did.
 fn push_object<C: Crypto>(
     alloc: Global,
     text: &mut String,

@@ -6,7 +6,7 @@ use Rattle.rpki_verdicts.specs.Listed.{is_listed}
 use Rattle.rpki_verdicts.specs.Verdicts.{AreVerdicts}
 use Rattle.rpki_verdicts.proofs.Cut.{only-lines}
 use Rattle.rpki_verdicts.proofs.Listing.{listed-decided}
-use Rattle.rpki_questions.specs.Listing.{is_good, good_lines, listing, IsAmongGood}
+use Rattle.rpki_questions.specs.Listing.{is_listable, good_lines, listing, IsAmongGood}
 use Rattle.rpki_questions.specs.Questions.{Question}
 use Rattle.rpki_uses.specs.Questions.{IsListedGood}
 
@@ -25,7 +25,7 @@ module _ (verdict : Verdict) (questions : List Question) where
       sym (only-lines text lines read).1 ∙ (only-lines text good (good-lines text e h)).1
 
   module _ (key message signature : List ℕ) (all : (q : Question) → Contains questions q
-      → is_good verdict q ≡ true → is_listed good q.key q.message q.signature ≡ true)
+      → is_listable verdict q ≡ true → is_listed good q.key q.message q.signature ≡ true)
       (only : is_listed good key message signature ≡ true
       → IsAmongGood verdict questions key message signature) where
     is-good : is_listed good key message signature ≡ true

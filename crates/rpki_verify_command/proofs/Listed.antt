@@ -16,7 +16,7 @@ use Rattle.rpki_command.specs.Store.{Told}
 use Rattle.rpki_command.specs.declared.words.Options.{Options}
 use Rattle.rpki_command.proofs.Right.{status_of, status-said, other-status, whole-lines}
 use Rattle.rpki_command.proofs.Running.{said-as}
-use Rattle.rpki_verify_command.specs.Check.{IsListed, IsListingSaid, ListedOf}
+use Rattle.rpki_verify_command.specs.Check.{IsListAnswer, IsListingSaid, ListedOf}
 use Rattle.rpki_verify_command.specs.Command.{IsRunOf}
 use Rattle.rpki_verify_command.specs.Words.{IsAsked}
 use Rattle.rpki_verify_command.specs.Yes.{FilesOfCheck, in_order, list_request}
@@ -26,7 +26,7 @@ use Rattle.rpki_verify_command.specs.Yes.{IsRightList, IsRightNoList}
 pub listed-said : (mode : Mode) (object anchor : List ℕ) (chain : List (List ℕ))
     (made : Result (String Global) ListingError) (s : Said)
     → Lists mode is_rsa_signature object anchor chain made → IsListingSaid made s
-    → IsListed mode object anchor chain s
+    → IsListAnswer mode object anchor chain s
 listed-said mode object anchor chain (Ok text) s h e =
     inr (inr (inr (string_bytes text, h, e)))
 listed-said mode object anchor chain (Err (listing.Certificate decoding.Memory)) s h e = inl e
@@ -42,7 +42,7 @@ listed-said mode object anchor chain (Err (listing.Object (decoding.Content faul
 
 module _ (s : Said) (options : Options) (files : FilesOfCheck) where
   list-of : (run : Run) → IsSaid s run → run.status ≡ 0 → status_of s ≡ 0
-      → IsListed (read_mode options) files.object files.anchor files.chain s
+      → IsListAnswer (read_mode options) files.object files.anchor files.chain s
       → IsRightList options files run
   list-of run h z zero (inl e) =
       absurd (other-status s out_of_memory 0 zero e (λ (n : 3 ≡ 0). omega (arith, n)))
@@ -60,7 +60,7 @@ module _ (s : Said) (options : Options) (files : FilesOfCheck) where
       }
 
   no-list-of : status_of s ≡ 1
-      → IsListed (read_mode options) files.object files.anchor files.chain s
+      → IsListAnswer (read_mode options) files.object files.anchor files.chain s
       → IsRightNoList options files
   no-list-of one (inl e) =
       absurd (other-status s out_of_memory 1 one e (λ (n : 3 ≡ 1). omega (arith, n)))

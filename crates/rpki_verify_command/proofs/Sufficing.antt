@@ -44,8 +44,8 @@ use Rattle.rpki_signed.specs.Kind as signed
 use Rattle.rpki_signed.specs.Object.{Whole, ObjectForm}
 use Rattle.rpki_signed.specs.Process.{validation}
 use Rattle.rpki_questions.specs.Lists.{BeginWith, AreCerts, IsListingOf}
-use Rattle.rpki_questions.specs.Listing.{is_good, good_lines}
-use Rattle.rpki_questions.specs.Questions.{Question, cert_question, chain_questions}
+use Rattle.rpki_questions.specs.Listing.{is_listable, good_lines}
+use Rattle.rpki_questions.specs.Questions.{Question, says, cert_question, chain_questions}
 use Rattle.rpki_questions.specs.Questions.{signer_question, check_questions}
 use Rattle.rpki_questions.proofs.Listed.{all-lines, each-good, only-good}
 use Rattle.rpki_command.specs.Answer.{Run}
@@ -56,7 +56,7 @@ use Rattle.rpki_command.specs.Yes as by_list
 use Rattle.rpki_command.specs.declared.words.Kind.{Kind}
 use Rattle.rpki_command.specs.declared.words.Options.{Options}
 use Rattle.rpki_command.proofs.Right.{of-kind}
-use Rattle.rpki_verify_command.specs.Sufficing.{says, SaysYesToo, SayTheSame, HaveTheirOwnLines}
+use Rattle.rpki_verify_command.specs.Sufficing.{SaysYesToo, SayTheSame, HaveTheirOwnLines}
 use Rattle.rpki_verify_command.specs.Sufficing.{with_list}
 use Rattle.rpki_verify_command.specs.Yes.{FilesOfCheck, IsRightYes, IsRightNo}
 
@@ -86,7 +86,7 @@ key-fits key message signature e =
 
 -- so the signature has its line
 pub good-has-line : (q : Question) → is_rsa_signature q.key q.message q.signature ≡ true
-    → is_good is_rsa_signature q ≡ true
+    → is_listable is_rsa_signature q ≡ true
 good-has-line q e =
     and_from (is_rsa_signature q.key q.message q.signature)
     (nat_lt (length (key_contents q.key)) (2 ^ 32)) e
@@ -626,7 +626,7 @@ module _ (options : Options) (kind : Kind) (now : Moment) (files : FilesOfCheck)
       alike (says is_rsa_signature q) (says (is_listed lines) q) (too q k)
       (λ e.
       let one = only-good is_rsa_signature questions q.key q.message q.signature e in
-      let good = subst (λ (p : Question). is_good is_rsa_signature p ≡ true)
+      let good = subst (λ (p : Question). is_listable is_rsa_signature p ≡ true)
       (own one.question q one.asked k one.same) one.good in
       (and_parts (is_rsa_signature q.key q.message q.signature)
       (nat_lt (length (key_contents q.key)) (2 ^ 32)) good).0)

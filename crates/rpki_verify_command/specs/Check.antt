@@ -10,7 +10,7 @@ use Rattle.rpki_basics.specs.Moment.{Moment}
 use Rattle.rpki_certs.specs.Cert.{Certificate}
 use Rattle.rpki_rsa.specs.Signature.{is_rsa_signature}
 use Rattle.rpki_sigobj.specs.Object.{SignedForm}
-use Rattle.rpki_questions.specs.Lists.{AreCerts, AreNoCerts, IsListingOf}
+use Rattle.rpki_questions.specs.Lists.{AreCerts, AreNotAllCerts, IsListingOf}
 use Rattle.rpki_questions.specs.declared.list.ListingError.{ListingError}
 use Rattle.rpki_questions.specs.declared.list.ListingError.TheVariants as listing
 use Rattle.rpki_command.specs.Answer.{Said, out_of_memory, malformed, issuer_malformed, shown}
@@ -31,10 +31,10 @@ VerifiedOf options kind now files s = ⊥
 
 -- What is said where the good ones of the signatures that a check asks about are listed: first that
 -- a certificate is none, then that the object is none, and else the list, unless memory runs out.
-abbrev pub IsListed : Mode → List ℕ → List ℕ → List (List ℕ) → Said → Type 0
-IsListed mode object anchor chain s =
+abbrev pub IsListAnswer : Mode → List ℕ → List ℕ → List (List ℕ) → Said → Type 0
+IsListAnswer mode object anchor chain s =
     (s ≡ out_of_memory)
-    ⊎ ((AreNoCerts (anchor ∷ chain) × (s ≡ issuer_malformed))
+    ⊎ ((AreNotAllCerts (anchor ∷ chain) × (s ≡ issuer_malformed))
     ⊎ (((certs : List Certificate) × AreCerts (anchor ∷ chain) certs
     × HasNoFront (SignedForm mode) object × (s ≡ malformed))
     ⊎ ((text : List ℕ) × IsListingOf mode is_rsa_signature object anchor chain text
@@ -42,7 +42,7 @@ IsListed mode object anchor chain s =
 
 -- The same, of the files of the object, of a trust anchor and of CAs.
 abbrev pub ListedOf : Options → List (List ℕ) → Said → Type 0
-ListedOf options (object ∷ anchor ∷ chain) s = IsListed (read_mode options) object anchor chain s
+ListedOf options (object ∷ anchor ∷ chain) s = IsListAnswer (read_mode options) object anchor chain s
 ListedOf options files s = ⊥
 
 -- what is said where a work is done with files

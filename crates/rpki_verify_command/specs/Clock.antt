@@ -4,7 +4,8 @@ use Rattle.jiff_core.specs.Calendar.{days_from_civil}
 use Rattle.rpki_basics.specs.Moment.{Moment}
 
 -- How many seconds after 1970-01-01T00:00:00Z a moment begins, where each day has 86400 of them
--- (POSIX.1-2017, Base Definitions, section 4.16).
+-- (POSIX.1-2017, Base Definitions, section 4.16). Moments before 1970, of which that section says
+-- nothing, are counted in the same way, by the Gregorian calendar.
 abbrev pub seconds_to : Moment → ℤ
 seconds_to m = days_from_civil (pos m.year) m.month m.day *ℤ pos 86400
     +ℤ pos (m.hour * 3600 + m.minute * 60 + m.second)

@@ -89,7 +89,8 @@ pub record IsRunWith (told : Told) (clock : Option Moment) (words : List (List �
   pub reads : HaveRead clock words old new
 
 -- What the start of a program does: it runs the words after the program's name, unless one of them
--- is no text (UTF-8) or memory runs out.
+-- is no text (UTF-8) or memory runs out; then it says that the words are wrong, or that memory ran
+-- out, and reads no file.
 abbrev pub IsStartOf : ToldArguments → Told → Option Moment → ℕ → ℕ → Run → Type 0
 IsStartOf arguments told clock old new run =
     ((words : List (List ℕ)) × AreTexts arguments words

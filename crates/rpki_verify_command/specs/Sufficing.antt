@@ -1,14 +1,10 @@
--- What two verdicts say to the questions of a check.
-use Rattle.std.specs.Prelude.{◌≡◌, ℕ, List, Bool, true, Contains}
+-- When a list of verdicts suffices for a check.
+use Rattle.std.specs.Prelude.{◌≡◌, ℕ, List, true, Contains}
 use Rattle.rpki_certs.specs.Verify.{Verdict}
 use Rattle.rpki_command.specs.Yes as by_list
 use Rattle.rpki_questions.specs.Listing.{question_line}
-use Rattle.rpki_questions.specs.Questions.{Question}
+use Rattle.rpki_questions.specs.Questions.{Question, says}
 use Rattle.rpki_verify_command.specs.Yes.{FilesOfCheck}
-
--- what a verdict says to a question
-abbrev pub says : Verdict → Question → Bool
-says verdict q = verdict q.key q.message q.signature
 
 -- The second verdict says yes to each of these questions to which the first says yes.
 abbrev pub SaysYesToo : Verdict → Verdict → List Question → Type 0
@@ -19,7 +15,7 @@ SaysYesToo a b questions =
 abbrev pub SayTheSame : Verdict → Verdict → List Question → Type 0
 SayTheSame a b questions = (q : Question) → Contains questions q → says a q ≡ says b q
 
--- No two of these questions have the same line in a list of verdicts.
+-- Those of these questions that have the same line in a list of verdicts are the same question.
 abbrev pub HaveTheirOwnLines : List Question → Type 0
 HaveTheirOwnLines questions = (p q : Question) → Contains questions p → Contains questions q
     → question_line p ≡ question_line q → p ≡ q

@@ -15,7 +15,7 @@ use Rattle.rpki_verify_command.specs.declared.words.Request.{Request}
 use Rattle.rpki_verify_command.specs.declared.words.When.{When}
 use Rattle.rpki_verify_command.specs.declared.words.When.TheVariants.{Now, At}
 
--- these words, after options
+-- these words after the options, each of which stands at most once, and in this order
 abbrev pub with_options : Options → List (List ℕ) → List (List ℕ)
 with_options o words = word_if o.relaxed word_relaxed
     ++ (word_if o.registered word_registered ++ (word_if o.wide word_wide ++ words))
@@ -35,7 +35,7 @@ abbrev pub moment_at : Option Moment → When → Option Moment
 moment_at now Now = now
 moment_at now (At moment) = Some moment
 
--- whether a command shows what a file holds
+-- whether both programs have this command: it shows what a file holds
 abbrev pub is_shared : Command → Bool
 is_shared (commands.Content kind file) = true
 is_shared (commands.Show kind file) = true
@@ -81,13 +81,13 @@ AskForNothing words = (r : Request) → IsAsked words r → ⊥
 
 -- ---- actions by their first word
 
--- the words ask for no check of a signed object after its first word
+-- words after the word `check` ask for no check of a signed object
 abbrev pub AskForNoCheck : List (List ℕ) → Type 0
 AskForNoCheck words = (kind : Kind) (file : List ℕ) (moment : When) (anchor : List ℕ)
     (chain : List (List ℕ))
     → words ≡ kind_word kind ∷ file ∷ when_word moment ∷ anchor ∷ chain → IsWhen moment → ⊥
 
--- the words ask for no list of good signatures after its first word
+-- words after the word `verdicts` ask for no list of good signatures
 abbrev pub AskForNoList : List (List ℕ) → Type 0
 AskForNoList words = (file anchor : List ℕ) (chain : List (List ℕ))
     → words ≡ file ∷ anchor ∷ chain → ⊥

@@ -7,7 +7,7 @@ use Rattle.rpki_certs.specs.Validate.{Validated}
 use Rattle.rpki_issuers.specs.Issuer.{MakesIssuer}
 use Rattle.rpki_rsa.specs.Signature.{is_rsa_signature}
 use Rattle.rpki_sigobj.specs.Object.{SignedForm}
-use Rattle.rpki_questions.specs.Lists.{AreNoCerts, IsListingOf}
+use Rattle.rpki_questions.specs.Lists.{AreNotAllCerts, IsListingOf}
 use Rattle.rpki_command.specs.Answer.{Run, IsWhole}
 use Rattle.rpki_command.specs.Kinds.{OfKind}
 use Rattle.rpki_command.specs.Options.{read_mode}
@@ -28,7 +28,8 @@ pub record FilesOfCheck : Type 0 where
 abbrev pub in_order : FilesOfCheck → List (List ℕ)
 in_order files = files.object ∷ files.anchor ∷ files.chain
 
--- to check the object in the file of such a name
+-- the request to check the object in the file of this name, under the certificates in those of the
+-- others
 abbrev pub check_request : Options → Kind → When → FilesOfCheck → Request
 check_request options kind moment names = record {
   options = options;
@@ -36,7 +37,8 @@ check_request options kind moment names = record {
 }
 
 -- A yes is right: by signatures as RFC 8017, section 8.2.2, has them, the certificates make an
--- issuer, and under it the object is good at this moment.
+-- issuer, under which the file begins with a good object at this moment, and the run prints yes and
+-- its lines, and nothing else. Digests are SHA-256 (RFC 7935, section 2).
 pub record IsRightYes (options : Options) (kind : Kind) (now : Moment) (files : FilesOfCheck)
     (run : Run) : Type 0 where
   pub issuer : Validated
@@ -59,7 +61,8 @@ IsRightNo options kind now files =
     MakeNoIssuer is_rsa_signature now files.anchor files.chain
     ⊎ IsRefusedUnder options kind now files
 
--- to list the good ones of the signatures of the object in the file of such a name
+-- the request to list the good ones of the signatures that a check of the object in the file of this
+-- name asks about, under the certificates in those of the others
 abbrev pub list_request : Options → FilesOfCheck → Request
 list_request options names = record {
   options = options;
@@ -80,5 +83,5 @@ pub record IsRightList (options : Options) (files : FilesOfCheck) (run : Run) : 
 -- object begins with no signed object.
 abbrev pub IsRightNoList : Options → FilesOfCheck → Type 0
 IsRightNoList options files =
-    AreNoCerts (files.anchor ∷ files.chain)
+    AreNotAllCerts (files.anchor ∷ files.chain)
     ⊎ HasNoFront (SignedForm (read_mode options)) files.object

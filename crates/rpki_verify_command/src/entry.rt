@@ -18,7 +18,7 @@ use std::process::ExitCode;
 /// Runs the program with its arguments, the first of which is its name, where the clock tells this
 /// moment, or none. Gives the status that the process ends with: 0, 1, 2 or 3, as `command` answers
 /// it. Where a word is no text (UTF-8), the words are wrong, and `out of memory` with 3 is the
-/// answer where they take too much.
+/// answer where there is not memory enough for them.
 pub fn start<A: Arguments, S: Store, O: Sink, E: Sink>(
     alloc: Global,
     arguments: &A,
@@ -38,7 +38,8 @@ pub fn start<A: Arguments, S: Store, O: Sink, E: Sink>(
 
 /// Runs the program with its arguments, the first of which is its name, where the clock tells this
 /// moment, or none. Gives the exit status, as `command` answers it. Where a word is no text
-/// (UTF-8), the words are wrong, and `out of memory` with 3 is the answer where they take too much.
+/// (UTF-8), the words are wrong, and `out of memory` with 3 is the answer where there is not memory
+/// enough for them.
 pub fn run<A: Arguments, S: Store, O: Sink, E: Sink>(
     alloc: Global,
     arguments: &A,

@@ -16,8 +16,8 @@ ghost use Rattle.rpki_rsa.specs.Signature.{is_rsa_signature};
 ghost use Rattle.rpki_signed.specs.Good.{IsGood};
 ghost use Rattle.rpki_signed.specs.Object.{Whole};
 ghost use Rattle.rpki_questions.specs.Lists.{AreCerts, IsListingOf};
-ghost use Rattle.rpki_questions.specs.Listing.{is_good};
-ghost use Rattle.rpki_questions.specs.Questions.{Question, check_questions};
+ghost use Rattle.rpki_questions.specs.Listing.{is_listable};
+ghost use Rattle.rpki_questions.specs.Questions.{Question, says, check_questions};
 ghost use Rattle.rpki_command.specs.Answer.{Run};
 ghost use Rattle.rpki_command.specs.Command.{AreTold};
 ghost use Rattle.rpki_command.specs.Kinds.{OfKind};
@@ -28,7 +28,7 @@ ghost use Rattle.rpki_command.specs.declared.words.Kind.{Kind};
 ghost use Rattle.rpki_command.specs.declared.words.Options.{Options};
 ghost use Rattle.rpki_verify_command.specs.Command.{IsRunOf};
 ghost use Rattle.rpki_verify_command.specs.Sufficing.{SaysYesToo, SayTheSame, HaveTheirOwnLines};
-ghost use Rattle.rpki_verify_command.specs.Sufficing.{says, with_list};
+ghost use Rattle.rpki_verify_command.specs.Sufficing.{with_list};
 ghost use Rattle.rpki_verify_command.specs.Words.{IsAsked, moment_at};
 ghost use Rattle.rpki_verify_command.specs.Yes.{FilesOfCheck, in_order, check_request};
 ghost use Rattle.rpki_verify_command.specs.Yes.{IsRightYes, IsRightNo};
@@ -44,8 +44,9 @@ pub fn words_ask_for_one_thing()
 
 /// Where a store tells the files of a check, a run of it that ends with status 0 says yes, and that
 /// rightly: FILE begins with a good object under the issuer that the certificates make, at this
-/// moment. A run that ends with status 1 says no, and that rightly: they make none, or FILE begins
-/// with no good object under it.
+/// moment. Where a run ends with status 1, they make none, or FILE begins with no good object under
+/// it; what it prints then, `IsRunOf` says. The store of the system's files tells nothing: the
+/// program is the same for every store, and these are the laws of those that tell.
 pub fn checks_are_right()
     ensures yes { (told : Told) (clock : Option Moment) (words : List (List ℕ))
         (before after : ℕ) (run : Run) (options : Options) (kind : Kind) (moment : When)
@@ -64,8 +65,8 @@ pub fn checks_are_right()
 {}
 
 /// Where a store tells the files of a list, a run that ends with status 0 prints the list of the
-/// good ones of the signatures that a check of FILE asks about. A run that ends with status 1 says
-/// rightly that one of the certificates is none, or that FILE begins with no signed object.
+/// good ones of the signatures that a check of FILE asks about. Where a run ends with status 1, not
+/// all files of certificates begin with one, or FILE begins with no signed object.
 pub fn lists_are_right()
     ensures yes { (told : Told) (clock : Option Moment) (words : List (List ℕ))
         (before after : ℕ) (run : Run) (options : Options) (names files : FilesOfCheck)
@@ -81,18 +82,18 @@ pub fn lists_are_right()
         → run.status ≡ 1 → IsRightNoList options files }
 {}
 
-/// The key of a good signature can be written: so the signature has its line in a list of verdicts.
+/// The key of a signature that `is_rsa_signature` calls good can be written: so its question may have
+/// a yes in a list of verdicts, and by `lists_are_verdicts` of `rpki_questions` it has its line there.
 pub fn good_signatures_have_lines()
     ensures short { (key message signature : List ℕ) → is_rsa_signature key message signature ≡ true
         → length (key_contents key) < 2 ^ 32 }
     ensures good { (q : Question) → is_rsa_signature q.key q.message q.signature ≡ true
-        → is_good is_rsa_signature q ≡ true }
+        → is_listable is_rsa_signature q ≡ true }
 {}
 
-/// A yes passes over to each verdict that says yes to those questions of the check to which the
-/// first verdict does: the certificates make the same issuer, and an object that is good under it
-/// stays good.
-pub fn a_yes_passes_over()
+/// Where a second verdict says yes to each question of a check to which a first one does, the
+/// certificates make the same issuer by it, and an object that is good under it stays good.
+pub fn a_yes_carries_over()
     ensures issuer { (a b : Verdict) (now : Moment) (anchor : List ℕ) (chain : List (List ℕ))
         (first : Certificate) (others : List Certificate) (s : SignedData)
         → AreCerts (anchor ∷ chain) (first ∷ others)
@@ -121,9 +122,9 @@ pub fn each_question_needs_a_yes()
         → (q : Question) → Contains (check_questions first others s) q → says verdict q ≡ true) }
 {}
 
-/// What a check finds is decided by what is said to its questions: where two verdicts say the same
-/// to each of them, the certificates make the same by both, an issuer or a fault, and the same
-/// objects are good under the issuer. So a no passes over too.
+/// What is said to its questions decides whether a check says yes: where two verdicts say the same to
+/// each of them, the certificates make the same by both, an issuer or a fault, and the object is good
+/// under the issuer by both or by neither. For which cause an object is refused is not said.
 pub fn questions_decide()
     ensures issuer { (a b : Verdict) (now : Moment) (anchor : List ℕ) (chain : List (List ℕ))
         (first : Certificate) (others : List Certificate) (s : SignedData)
@@ -140,9 +141,10 @@ pub fn questions_decide()
         ↔ IsGood asked mode digest b issuer now o v) }
 {}
 
-/// The list of good signatures that `verdicts` prints suffices for a check by `rpki_command`: where
-/// a yes by the signatures is right, it is right by the list too. So is a no, where no two of the
-/// questions of the check have the same line, which is made of digests.
+/// The list of good signatures that `verdicts` prints suffices for a check by `rpki_command` with the
+/// same options, of each kind and at each moment: where a yes by the signatures is right, it is right
+/// by the list too. So is a no, where different questions of the check have different lines, which are
+/// made of digests.
 pub fn lists_suffice()
     ensures yes { (options : Options) (kind : Kind) (now : Moment) (files : FilesOfCheck)
         (text : List ℕ) → IsListingOf (read_mode options) is_rsa_signature files.object files.anchor

@@ -3,10 +3,10 @@
 ghost use Rattle.rpki_command.specs.Answer.{IsSaid, run_of};
 ghost use Rattle.rpki_verify_command.specs.Reply.{replied};
 
-use rpki_command::answer::{Answer, say, write};
+use rpki_command::answer::{Answer, say, write, write_line};
 use rpki_der::Sink;
 
-/// How the program is called.
+/// How the program is called, but for the end of the last line.
 const USAGE: &[u8] = b"usage: rpki_verify [OPTION ..] check KIND FILE MOMENT TA [CA ..]
        rpki_verify [OPTION ..] verdicts FILE TA [CA ..]
        rpki_verify [OPTION ..] show KIND FILE
@@ -15,21 +15,10 @@ const USAGE: &[u8] = b"usage: rpki_verify [OPTION ..] check KIND FILE MOMENT TA 
        rpki_verify --help
 OPTION, in this order: --relaxed --registered --wide
 KIND: aspa, manifest, roa or rsc
-MOMENT: now, or YYYYMMDDHHMMSSZ
-";
+MOMENT: now, or YYYYMMDDHHMMSSZ";
 
-/// The same, after what is wrong.
-const WRONG: &[u8] = b"wrong words, expected:
-usage: rpki_verify [OPTION ..] check KIND FILE MOMENT TA [CA ..]
-       rpki_verify [OPTION ..] verdicts FILE TA [CA ..]
-       rpki_verify [OPTION ..] show KIND FILE
-       rpki_verify [OPTION ..] content KIND FILE
-       rpki_verify show tal FILE
-       rpki_verify --help
-OPTION, in this order: --relaxed --registered --wide
-KIND: aspa, manifest, roa or rsc
-MOMENT: now, or YYYYMMDDHHMMSSZ
-";
+/// What stands in front of it after wrong words.
+const WRONG: &[u8] = b"wrong words, expected:\n";
 
 /// The exit status where it is said how the program is called.
 const HELPED: u8 = 0;
@@ -57,8 +46,8 @@ pub fn tell<O: Sink, E: Sink>(reply: &Reply<'_>, out: &mut O, err: &mut E) -> u8
         (run_of O.taken O.failures out.old out.new E.taken E.failures err.old err.new result) }
 {
     match reply {
-        Reply::Help => write(USAGE, HELPED, out),
-        Reply::Wrong => write(WRONG, FAILED, err),
+        Reply::Help => write_line(b"", USAGE, HELPED, out),
+        Reply::Wrong => write_line(WRONG, USAGE, FAILED, err),
         Reply::NoMoment => write(b"cannot tell the time\n", FAILED, err),
         Reply::Answered(answer) => say(answer, out, err),
     }

@@ -5,7 +5,7 @@ ghost use Rattle.rpki_signed.specs.Object.{whole_of};
 ghost use Rattle.rpki_command.specs.Grows.{Grows};
 ghost use Rattle.rpki_command.specs.Texts.Object.{object_text, signing_line, signer_line};
 
-use crate::contents::Lines;
+use crate::kinds::Lines;
 use rpki_basics::Time;
 use rpki_certs::Cert;
 use rpki_signed::Signed;
