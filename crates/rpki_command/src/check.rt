@@ -80,7 +80,12 @@ pub fn check_with<'a, K: Crypto>(
     match issuer_at(alloc, anchor, chain, crypto, now) {
         Err(error) => refused_issuer(alloc, error),
         Ok(issuer) => {
-            let action = CheckObject { octets: object, issuer: &issuer, crypto, moment: now };
+            let action = CheckObject {
+                octets: object,
+                issuer: &issuer,
+                crypto,
+                moment: now,
+            };
             let answer = answer_for(alloc, options, kind, action);
             drop(issuer);
             answer
@@ -98,18 +103,22 @@ struct CheckObject<'s, K: Crypto> {
 }
 
 impl<'s, K: Crypto> Action for CheckObject<'s, K> {
-    ghost says = {
-        λ options X asked form text action s. IsCheckedAs asked form text (read_mode options)
-        (K.digest_of action.crypto.now) (K.is_signed action.crypto.now) action.issuer.now
-        action.moment action.octets.now s
-    };
+    ghost says = { λ options X asked form text action s.
+        IsCheckedAs asked form text (read_mode options) (K.digest_of action.crypto.now)
+        (K.is_signed action.crypto.now) action.issuer.now action.moment action.octets.now s };
 
     fn answer<'a, C: Lines>(self, alloc: Global, options: Options) -> Answer<'a> {
         match Bytes::copy_from_slice(alloc, self.octets) {
             Err(_) => Answer::OutOfMemory,
             Ok(source) => {
                 let checked = check_passed::<C, K, _>(
-                    alloc, options, source, self.issuer, self.crypto, self.moment, pass,
+                    alloc,
+                    options,
+                    source,
+                    self.issuer,
+                    self.crypto,
+                    self.moment,
+                    pass,
                 );
                 answer_checked(alloc, checked)
             }

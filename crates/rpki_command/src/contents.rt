@@ -26,9 +26,8 @@ struct ShowContent {
 }
 
 impl Action for ShowContent {
-    ghost says = {
-        λ options X asked form text action s. IsShown (HasLines form text) action.octets.items s
-    };
+    ghost says = { λ options X asked form text action s.
+        IsShown (HasLines form text) action.octets.items s };
 
     fn answer<'a, C: Lines>(self, alloc: Global, options: Options) -> Answer<'a> {
         match Bytes::from_vec(self.octets) {

@@ -31,10 +31,9 @@ struct ShowObject {
 }
 
 impl Action for ShowObject {
-    ghost says = {
-        λ options X asked form text action s. IsShown (HasLines (ObjectForm asked.type form
-        (read_mode options)) (object_text text)) action.octets.items s
-    };
+    ghost says = { λ options X asked form text action s.
+        IsShown (HasLines (ObjectForm asked.type form (read_mode options)) (object_text text))
+        action.octets.items s };
 
     fn answer<'a, C: Lines>(self, alloc: Global, options: Options) -> Answer<'a> {
         match Bytes::from_vec(self.octets) {
