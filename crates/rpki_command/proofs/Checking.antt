@@ -25,7 +25,7 @@ use Rattle.rpki_sigobj.specs.Verify.{Digester}
 use Rattle.rpki_command.specs.Answer.{Said}
 use Rattle.rpki_verdicts.specs.Listed.{is_listed}
 use Rattle.rpki_verdicts.specs.Verdicts.{AreVerdicts}
-use Rattle.rpki_command.specs.Check.{CheckedUnder, IsCheckedWith, CheckOf}
+use Rattle.rpki_command.specs.Check.{IsCheckedWith, CheckOf}
 use Rattle.rpki_command.specs.declared.words.Kind as words
 use Rattle.rpki_command.specs.declared.words.Options.{Options}
 
