@@ -43,8 +43,8 @@ pub trait Lines: Content {
 
 /// What is done with octets, whatever kind is asked for.
 pub trait Action: Drop {
-    // What is said, with these options, by the row of a kind: what is asked of its objects, the form
-    // of its contents, and their lines.
+    // What is said, with these options, by the row of a kind: what is asked of its objects, the
+    // form of its contents, and their lines.
     ghost says: { Options → (X : Type 0) → signed.Kind X → (List ℕ → X → Type 0) → (X → List ℕ)
         → Self → Said → Type 0 };
 

@@ -45,8 +45,8 @@ pub record IsListingOf (mode : Mode) (verdict : Verdict) (object anchor : List �
   pub front : BeginWith (SignedForm mode) object signed
   pub whole : text ≡ listing verdict (check_questions first others signed.signed)
 
--- What is answered: the text, or that not all files of certificates begin with one, or else that the
--- file of the object begins with none, unless memory runs out.
+-- What is answered: the text, or that not all files of certificates begin with one, or else that
+-- the file of the object begins with none, unless memory runs out.
 abbrev pub Lists : Mode → Verdict → List ℕ → List ℕ → List (List ℕ)
     → Result (String Global) ListingError → Type 0
 Lists mode verdict object anchor chain (Ok text) =
@@ -82,9 +82,9 @@ PushesCert verdict key_of file old (Err e) new = Refuses e (HasNoFront (CertForm
 abbrev pub chain_lines : Verdict → List ℕ → List Certificate → List ℕ
 chain_lines verdict key certs = listing verdict (chain_questions key certs)
 
--- A text grows by the lines of a chain after this key, and the last certificate is given. It is said
--- for whatever certificates follow (`tail`): their lines by the key of the last one are what is
--- missing from the lines of all.
+-- A text grows by the lines of a chain after this key, and the last certificate is given. It is
+-- said for whatever certificates follow (`tail`): their lines by the key of the last one are what
+-- is missing from the lines of all.
 abbrev pub PushesChain : Verdict → List ℕ → List (List ℕ) → List ℕ
     → Result KeptCertificate DecodeError → List ℕ → Type 0
 PushesChain verdict key chain old (Ok last) new =

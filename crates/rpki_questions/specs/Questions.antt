@@ -36,10 +36,10 @@ signer_question s = record {
 }
 
 -- The signatures on which a check of an object rests, where these are the certificate of a trust
--- anchor and those of CAs, each under the one before, in the order of the lines of a list (RFC 6487,
--- section 7.2; RFC 6488, section 3): that of the anchor by its own key, those of the CAs and of the
--- certificate in the object each by the key of the one before, and that of the object by the key of
--- its certificate.
+-- anchor and those of CAs, each under the one before, in the order of the lines of a list (RFC
+-- 6487, section 7.2; RFC 6488, section 3): that of the anchor by its own key, those of the CAs and
+-- of the certificate in the object each by the key of the one before, and that of the object by the
+-- key of its certificate.
 abbrev pub check_questions : Certificate → List Certificate → SignedData → List Question
 check_questions anchor chain s =
     chain_questions anchor.tbs.key (anchor ∷ (chain ++ (s.cert ∷ []))) ++ (signer_question s ∷ [])

@@ -7,9 +7,9 @@ ghost use Rattle.rpki_verdicts.specs.Verdicts.{AreVerdicts};
 ghost use Rattle.rpki_questions.specs.Listing.{is_listable, good_lines, listing, IsAmongGood};
 ghost use Rattle.rpki_questions.specs.Questions.{Question};
 
-/// A list of good signatures is a list of verdicts. It says yes to each question whose answer is yes
-/// and whose key can be written, and where it says yes to a signature, its digests are those of such
-/// a question.
+/// A list of good signatures is a list of verdicts. It says yes to each question whose answer is
+/// yes and whose key can be written, and where it says yes to a signature, its digests are those of
+/// such a question.
 pub fn lists_are_verdicts()
     ensures lines { (verdict : Verdict) (questions : List Question)
         → AreVerdicts (listing verdict questions) (good_lines verdict questions) }

@@ -44,10 +44,10 @@ impl Error for ListingError {}
 
 /// The list of verdicts that a check of an object needs, as `Verdicts::read` of `rpki_verdicts`
 /// reads it: a line for each of the signatures that it asks about which is good, and whose key can
-/// be written. These are, in this order, that of the certificate of a trust anchor by its own key, that of each certificate of the
-/// chain by the key of the one before, that of the certificate in the object by the key of the last
-/// one, and that of the object by the key of its certificate. A signature that is not good has no
-/// line, nor has one whose key would take 2^32 octets or more.
+/// be written. These are, in this order, that of the certificate of a trust anchor by its own key,
+/// that of each certificate of the chain by the key of the one before, that of the certificate in
+/// the object by the key of the last one, and that of the object by the key of its certificate. A
+/// signature that is not good has no line, nor has one whose key would take 2^32 octets or more.
 ///
 /// Certificates are read in DER, before the object, which is read in DER where it is read strictly,
 /// and else in BER. Nothing is validated. Memory may run out at any of them.

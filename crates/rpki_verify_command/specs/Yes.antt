@@ -61,8 +61,8 @@ IsRightNo options kind now files =
     MakeNoIssuer is_rsa_signature now files.anchor files.chain
     ⊎ IsRefusedUnder options kind now files
 
--- the request to list the good ones of the signatures that a check of the object in the file of this
--- name asks about, under the certificates in those of the others
+-- the request to list the good ones of the signatures that a check of the object in the file of
+-- this name asks about, under the certificates in those of the others
 abbrev pub list_request : Options → FilesOfCheck → Request
 list_request options names = record {
   options = options;

@@ -10,8 +10,8 @@ use rpki_basics::Time;
 use std::time::Clock;
 
 /// The moment that the clock tells, to the second, if that is not before 1970 and `jiff` has a
-/// timestamp for it, as it has until 30 December 9999, 22:00:00. The contract says only that it is a
-/// second of the calendar from 1970 on: what a clock tells can't be seen by a contract.
+/// timestamp for it, as it has until 30 December 9999, 22:00:00. The contract says only that it is
+/// a second of the calendar from 1970 on: what a clock tells can't be seen by a contract.
 pub fn now(clock: &impl Clock) -> Option<Time>
     ensures { IfSome result (λ m. IsMoment m × (n : ℤ) × (pos 0 ≤ℤ n) × IsSecondOf n m) }
 {

@@ -82,8 +82,9 @@ pub fn lists_are_right()
         → run.status ≡ 1 → IsRightNoList options files }
 {}
 
-/// The key of a signature that `is_rsa_signature` calls good can be written: so its question may have
-/// a yes in a list of verdicts, and by `lists_are_verdicts` of `rpki_questions` it has its line there.
+/// The key of a signature that `is_rsa_signature` calls good can be written: so its question may
+/// have a yes in a list of verdicts, and by `lists_are_verdicts` of `rpki_questions` it has its
+/// line there.
 pub fn good_signatures_have_lines()
     ensures short { (key message signature : List ℕ) → is_rsa_signature key message signature ≡ true
         → length (key_contents key) < 2 ^ 32 }
@@ -122,9 +123,9 @@ pub fn each_question_needs_a_yes()
         → (q : Question) → Contains (check_questions first others s) q → says verdict q ≡ true) }
 {}
 
-/// What is said to its questions decides whether a check says yes: where two verdicts say the same to
-/// each of them, the certificates make the same by both, an issuer or a fault, and the object is good
-/// under the issuer by both or by neither. For which cause an object is refused is not said.
+/// What is said to its questions decides whether a check says yes: where two verdicts say the same
+/// to each of them, the certificates make the same by both, an issuer or a fault, and the object is
+/// good under the issuer by both or by neither. For which cause an object is refused is not said.
 pub fn questions_decide()
     ensures issuer { (a b : Verdict) (now : Moment) (anchor : List ℕ) (chain : List (List ℕ))
         (first : Certificate) (others : List Certificate) (s : SignedData)
@@ -141,10 +142,10 @@ pub fn questions_decide()
         ↔ IsGood asked mode digest b issuer now o v) }
 {}
 
-/// The list of good signatures that `verdicts` prints suffices for a check by `rpki_command` with the
-/// same options, of each kind and at each moment: where a yes by the signatures is right, it is right
-/// by the list too. So is a no, where different questions of the check have different lines, which are
-/// made of digests.
+/// The list of good signatures that `verdicts` prints suffices for a check by `rpki_command` with
+/// the same options, of each kind and at each moment: where a yes by the signatures is right, it is
+/// right by the list too. So is a no, where different questions of the check have different lines,
+/// which are made of digests.
 pub fn lists_suffice()
     ensures yes { (options : Options) (kind : Kind) (now : Moment) (files : FilesOfCheck)
         (text : List ℕ) → IsListingOf (read_mode options) is_rsa_signature files.object files.anchor
