@@ -46,7 +46,8 @@ no-certs : (file : List ℕ) (left : List (List ℕ)) → HasNoFront (CertForm D
 no-certs file left absent [] are = are
 no-certs file left absent (cert ∷ certs) are = absent cert are.0.0 are.0.1.found
 
-none-after : (file : List ℕ) (left : List (List ℕ)) → AreNotAllCerts left → AreNotAllCerts (file ∷ left)
+none-after : (file : List ℕ) (left : List (List ℕ)) → AreNotAllCerts left
+    → AreNotAllCerts (file ∷ left)
 none-after file left absent [] are = are
 none-after file left absent (cert ∷ certs) are = absent certs are.1
 

@@ -42,7 +42,8 @@ IsListAnswer mode object anchor chain s =
 
 -- The same, of the files of the object, of a trust anchor and of CAs.
 abbrev pub ListedOf : Options → List (List ℕ) → Said → Type 0
-ListedOf options (object ∷ anchor ∷ chain) s = IsListAnswer (read_mode options) object anchor chain s
+ListedOf options (object ∷ anchor ∷ chain) s =
+    IsListAnswer (read_mode options) object anchor chain s
 ListedOf options files s = ⊥
 
 -- what is said where a work is done with files
