@@ -10,27 +10,8 @@ TREE = pathlib.Path(__file__).resolve().parent.parent.parent / "examples"
 HEAD = '''//! The objects of examples/, each with what the program says of it.
 
 use crate::cuts::is_cut;
-use crate::given::Files;
-use crate::runs::{Said, is_said};
-use rpki_command::command;
-use rpki_der::Counted;
-use std::process::Abort;
+use crate::runs::{Said, is_answered};
 use std::test::Fail;
-
-/// Words, what is said, and how many files are read.
-type Row<'a> = (&'a [&'a str], Said<'a>, usize);
-
-/// That this is said to the words.
-fn is_answered(rt: &(impl Abort + AllocGlobal), row: &Row<'_>) {
-    let (words, said, reads) = row;
-    let files = files();
-    let mut store = Files::new(&files);
-    let mut out = Counted::new(Vec::new(rt.alloc()));
-    let mut err = Counted::new(Vec::new(rt.alloc()));
-    let status = command(rt.alloc(), words, &mut store, &mut out, &mut err);
-    is_said(rt, said, status, &out.inner, &err.inner);
-    assert_eq!(rt; store.calls(), *reads);
-}
 '''
 FILES = {
     "anchor": "rpki.example.net/anchor.cer",
@@ -156,7 +137,7 @@ def main():
         print(f'        ("{name}", &{name.upper().replace(".", "_")}),')
     print("    ]\n}\n")
     for number, row in enumerate(ROWS + CHECKS):
-        print_test(f"row_{number}", row, f"is_answered(&rt, &(&words, said, {row[3]}))")
+        print_test(f"row_{number}", row, f"is_answered(&rt, &words, &files(), &said, {row[3]})?")
     for number, row in enumerate(CUTS):
         print_test(f"cut_{number}", row, "is_cut(&rt, &words, &files(), &said)")
 

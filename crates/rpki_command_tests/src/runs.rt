@@ -7,6 +7,7 @@ use crate::octets::{
 };
 use rpki_command::command;
 use rpki_der::Counted;
+use std::alloc::AllocError;
 use std::process::Abort;
 use std::test::Fail;
 
@@ -68,30 +69,35 @@ pub const OUT_OF_MEMORY: Said = Said {
     err: "out of memory\n",
 };
 
+/// The octets that a stream takes before it asks for memory, which are more than most runs say.
+pub const ROOM: usize = 4096;
+
 /// Words, the octets of the file, what is said, and how often the store is read.
-type Row<'a> = (&'a [&'a str], &'a [u8], Said<'a>, usize);
+pub type Row<'a> = (&'a [&'a str], &'a [u8], Said<'a>, usize);
 
 /// That the words of each row are answered so.
-fn are_answered(rt: &(impl Abort + AllocGlobal), rows: &[Row<'_>]) {
+pub fn are_answered(rt: &(impl Abort + AllocGlobal), rows: &[Row<'_>]) -> Result<(), AllocError> {
     for (words, octets, said, reads) in rows {
-        is_answered(rt, words, &[("file", octets)], said, *reads);
+        is_answered(rt, words, &[("file", octets)], said, *reads)?;
     }
+    Ok(())
 }
 
 /// That the words are answered so, where the files are these.
-fn is_answered(
+pub fn is_answered(
     rt: &(impl Abort + AllocGlobal),
     words: &[&str],
     files: &[(&str, &[u8])],
     said: &Said<'_>,
     reads: usize,
-) {
+) -> Result<(), AllocError> {
     let mut store = Files::new(files);
-    let mut out = Counted::new(Vec::new(rt.alloc()));
-    let mut err = Counted::new(Vec::new(rt.alloc()));
+    let mut out = Counted::new(Vec::with_capacity(rt.alloc(), ROOM)?);
+    let mut err = Counted::new(Vec::with_capacity(rt.alloc(), ROOM)?);
     let status = command(rt.alloc(), words, &mut store, &mut out, &mut err);
-    is_said(rt, said, status, &out.inner, &err.inner);
+    is_said(rt, said, status, &out.inner, &err.inner)?;
     assert_eq!(rt; store.calls(), reads);
+    Ok(())
 }
 
 #[test]
@@ -111,7 +117,7 @@ fn words_are_answered(rt: HostRuntime) -> Result<(), Fail> {
         (&["content", "aspa", "other"], &CONTENT, CANNOT_READ, 1),
         (&["content", "aspa", "large"], &CONTENT, OUT_OF_MEMORY, 1),
     ];
-    are_answered(&rt, &rows);
+    are_answered(&rt, &rows)?;
     Ok(())
 }
 
@@ -156,14 +162,24 @@ pub fn example_files() -> [(&'static str, &'static [u8]); 4] {
 #[test]
 fn a_good_roa_is_shown_and_checked(rt: HostRuntime) -> Result<(), Fail> {
     let files = example_files();
-    is_answered(&rt, &SHOW, &files, &ORIGIN_SHOWN, 1);
-    is_answered(&rt, &CHECK, &files, &ORIGIN_YES, 4);
+    is_answered(&rt, &SHOW, &files, &ORIGIN_SHOWN, 1)?;
+    is_answered(&rt, &CHECK, &files, &ORIGIN_YES, 4)?;
     Ok(())
 }
 
-/// That this was said, and nothing else.
-pub fn is_said(rt: &impl Abort, said: &Said<'_>, status: u8, out: &[u8], err: &[u8]) {
-    assert_eq!(rt; out, said.out.as_bytes());
-    assert_eq!(rt; err, said.err.as_bytes());
-    assert_eq!(rt; status, said.status);
+/// That this was said, and nothing else. Where the run says instead that memory ran out, and nothing
+/// else, that is handed on.
+pub fn is_said(
+    rt: &impl Abort,
+    said: &Said<'_>,
+    status: u8,
+    out: &[u8],
+    err: &[u8],
+) -> Result<(), AllocError> {
+    let has_memory = status != OUT_OF_MEMORY.status || said.status == status;
+    let wanted = if has_memory { said } else { &OUT_OF_MEMORY };
+    assert_eq!(rt; out, wanted.out.as_bytes());
+    assert_eq!(rt; err, wanted.err.as_bytes());
+    assert_eq!(rt; status, wanted.status);
+    if has_memory { Ok(()) } else { Err(AllocError) }
 }
