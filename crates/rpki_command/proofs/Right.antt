@@ -265,7 +265,7 @@ module _ (s : Said) (options : Options) (kind : Kind) (now : Moment) (files : Fi
       no = inl (record {
         fault = fault;
         made = made;
-        told = λ m. other-status s out_of_memory 1 first (e ∙ m)
+        has_memory = λ m. other-status s out_of_memory 1 first (e ∙ m)
             (λ (n : 3 ≡ 1). omega (arith, n));
       });
     }

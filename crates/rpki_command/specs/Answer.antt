@@ -34,8 +34,7 @@ pub record IsWhole (octets : List ℕ) (wanted : ℕ) (old new : Sunk) (status :
   pub no_failure : new.1 ≡ old.1
   pub status_is : status ≡ wanted
 
--- a call of the sink has failed, and none came after it: a beginning of the octets is written, and
--- the status is 2
+-- one call of the sink has failed: a beginning of the octets is written, and the status is 2
 pub record IsCut (octets : List ℕ) (old new : Sunk) (status : ℕ) : Type 0 where
   pub begun : AppendsFront old.0 new.0 octets
   pub one_failure : new.1 ≡ old.1 + 1
@@ -63,7 +62,7 @@ pub data Said : Type 0 where
   -- on standard error
   Complained : (text : List ℕ) (status : ℕ) → Said
 
--- the words ask for nothing
+-- the words are those of no order, or of one that is not built
 abbrev pub usage : Said
 usage = Complained (codes "usage\n") 2
 
@@ -83,11 +82,11 @@ memory_text = codes "out of memory"
 abbrev pub out_of_memory : Said
 out_of_memory = Complained (memory_text ++ codes "\n") 3
 
--- that a file does not begin with what was asked for, as a text
+-- that a file is not, or does not begin with, what was asked for, as a text
 abbrev pub malformed_text : List ℕ
 malformed_text = codes "malformed"
 
--- a file does not begin with what was asked for
+-- a file is not, or does not begin with, what was asked for
 abbrev pub malformed : Said
 malformed = Printed (malformed_text ++ codes "\n") 1
 

@@ -31,21 +31,21 @@ use Rattle.rpki_command.specs.Refusal.{refusal}
 use Rattle.rpki_command.specs.declared.words.Kind.{Kind}
 use Rattle.rpki_command.specs.declared.words.Options.{Options}
 
--- nobody asks whether a certificate was revoked
+-- what is said of a certificate where nobody asks whether it was revoked: a yes
 abbrev pub passes : KeptCertificate → Result (Unit {0}) ValidationError → Type 0
 passes cert said = said ≡ Ok tt
 
--- what is said where an object is refused
+-- why an object is refused, as it is said
 abbrev pub validation_refusal : ValidationError → Said
 validation_refusal (validation.Inspection fault) = refused (inspection_text fault)
 validation_refusal (validation.Verification fault) = refused (verification_text fault)
 validation_refusal validation.Memory = out_of_memory
 
--- the same, unless memory runs out
+-- what is said where an object is refused, unless memory runs out
 abbrev pub IsRefused : ValidationError → Said → Type 0
 IsRefused fault s = (s ≡ out_of_memory) ⊎ (s ≡ validation_refusal fault)
 
--- what is said where certificates make no issuer
+-- why certificates make no issuer, as it is said
 abbrev pub issuer_refusal : IssuerError → Said
 issuer_refusal (issuing.Decode decoding.Memory) = out_of_memory
 issuer_refusal (issuing.Decode decoding.Malformed) = issuer_malformed
@@ -56,7 +56,7 @@ issuer_refusal (issuing.Validation (validation.Verification fault)) =
     issuer_refused (verification_text fault)
 issuer_refusal (issuing.Validation validation.Memory) = out_of_memory
 
--- the same, unless memory runs out
+-- what is said where certificates make no issuer, unless memory runs out
 abbrev pub IsIssuerRefused : IssuerError → Said → Type 0
 IsIssuerRefused fault s = (s ≡ out_of_memory) ⊎ (s ≡ issuer_refusal fault)
 
@@ -64,7 +64,7 @@ IsIssuerRefused fault s = (s ≡ out_of_memory) ⊎ (s ≡ issuer_refusal fault)
 abbrev pub yes_line : List ℕ
 yes_line = codes "yes\n"
 
--- What is said of what a check answers: yes, and the lines of the content.
+-- What is said of what a check answers: yes and the lines of the content, or why not.
 abbrev pub IsCheckSaid : {X : Type 0} → (X → List ℕ) → Result (Validated × X) CheckError → Said
     → Type 0
 IsCheckSaid text (Ok a) s = IsLinesOf (yes_line ++ text a.1) s
@@ -81,7 +81,7 @@ pub record IsChecked {X : Type 0} (kind : signed.Kind X) (form : List ℕ → X 
   pub exact : IsExact kind form mode digest verdict issuer now passes octets result
   pub said : IsCheckSaid text result s
 
--- the same, unless memory runs out
+-- what is said of the check of such objects, unless memory runs out
 abbrev pub IsCheckedAs : {X : Type 0} → signed.Kind X → (List ℕ → X → Type 0) → (X → List ℕ)
     → Mode → Digester → Verdict → Validated → Moment → List ℕ → Said → Type 0
 IsCheckedAs kind form text mode digest verdict issuer now octets s =

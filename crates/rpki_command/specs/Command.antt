@@ -43,7 +43,7 @@ pub data Task : Type 1 where
   ShowLines : (file : List ℕ) (lines_of : List ℕ → List ℕ → Type 0) → Task
   -- to read these files, in this order, and to say what is said of their octets
   CheckFiles : (files : List (List ℕ)) (answers : List (List ℕ) → Said → Type 0) → Task
-  -- nothing that there is yet
+  -- nothing: the command is not built
   NotThere : Task
 
 -- What each command comes to with these options: the table of the commands. A locator is a text, of
@@ -69,7 +69,8 @@ IsOfReads P (Err reads.Memory) s = s ≡ out_of_memory
 
 -- What is said of files in a store that tells this, and that was read so often before and after it:
 -- the files are read in their order, each once, up to the first that can't be read, and no more.
--- Where memory runs out before the first of them is read, none is.
+-- Where memory runs out before the first of them is read, none is; where it runs out later, only
+-- the number of reads is told.
 abbrev pub IsOfFiles : Told → List (List ℕ) → (List (List ℕ) → Said → Type 0) → ℕ → ℕ → Said
     → Type 0
 IsOfFiles told names P old new s =
@@ -165,8 +166,8 @@ pub record IsSaidUnread (s : Said) (old new : ℕ) (run : Run) : Type 0 where
   pub said : IsSaid s run
   pub reads : new ≡ old
 
--- What the start of a program does: it runs the words after the program's name, unless one of them
--- is no text (UTF-8) or memory runs out.
+-- What the start of a program does: it runs the words after the program's name; where one of them
+-- is no text (UTF-8) it says the usage, or else that memory ran out, and reads no file.
 abbrev pub IsStartOf : ToldArguments → Told → ℕ → ℕ → Run → Type 0
 IsStartOf arguments told old new run =
     ((words : List (List ℕ)) × AreTexts arguments words × IsRunWith told words old new run)

@@ -20,8 +20,8 @@ use Rattle.rpki_command.specs.declared.words.Kind.TheVariants.{Aspa, Manifest, R
 use Rattle.rpki_command.specs.declared.words.Options.{Options}
 
 -- What P says of a kind, with these options: of what is asked of its objects, the form of its
--- contents, and the lines of these. A row for each kind. A content is in DER, whatever the options
--- are (RFC 6488, section 2.1.3.2).
+-- contents, and the lines of these. A row for each kind. A content is in DER (RFC 6488, section 2),
+-- with `--relaxed` too.
 abbrev pub OfKind : {R : Type 1} → Options → Kind
     → ((X : Type 0) → signed.Kind X → (List ℕ → X → Type 0) → (X → List ℕ) → R) → R
 OfKind options Aspa P = P _ aspa_kind (AspaForm (provider_limit options)) aspa_text

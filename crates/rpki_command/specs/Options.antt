@@ -12,7 +12,7 @@ use Rattle.rpki_command.specs.declared.words.Options.{Options}
 abbrev pub provider_limit : Options → ProviderLimit
 provider_limit o = if o.wide then Wide else Narrow
 
--- which names a manifest may have: registered types, and none twice, with `--registered`
+-- which names a manifest may have: registered extensions, and none twice, with `--registered`
 abbrev pub manifest_rule : Options → ManifestRule
 manifest_rule o = if o.registered then Registered else Any
 

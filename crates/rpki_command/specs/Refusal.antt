@@ -1,4 +1,4 @@
--- The answer where an object or a locator is not read.
+-- The answer where a content, an object or a locator is not read.
 use Rattle.rpki_der.specs.declared.error.DecodeError.{DecodeError}
 use Rattle.rpki_der.specs.declared.error.DecodeError.TheVariants as error
 use Rattle.rpki_tal.specs.declared.error.ReadError.{ReadError}
@@ -11,7 +11,7 @@ refusal error.Memory = out_of_memory
 refusal error.Malformed = malformed
 refusal (error.Content fault) = malformed
 
--- the same of a locator
+-- The same of a locator: that memory ran out is said as such, and every other fault is malformed.
 abbrev pub tal_refusal : ReadError → Said
 tal_refusal tal.Memory = out_of_memory
 tal_refusal tal.Io = malformed

@@ -31,7 +31,7 @@ word_if false word = []
 abbrev pub word_relaxed : List ℕ
 word_relaxed = codes "--relaxed"
 
--- with this word the names in a manifest have registered types, and none stands twice
+-- with this word the names in a manifest have registered extensions, and none stands twice
 abbrev pub word_registered : List ℕ
 word_registered = codes "--registered"
 
@@ -61,7 +61,8 @@ order_words o = word_if o.options.relaxed word_relaxed
     ++ (word_if o.options.registered word_registered
     ++ (word_if o.options.wide word_wide ++ command_words o.command))
 
--- the files that are named by a word, in the order of the words
+-- The files that are named by a word, in the order of the words; of an attestation, which is not
+-- built, without those of its anchors.
 abbrev pub files_of : Command → List (List ℕ)
 files_of (Content kind file) = file ∷ []
 files_of (ContentRta file) = file ∷ []
@@ -88,6 +89,6 @@ abbrev pub IsAsked : List (List ℕ) → Order → Type 0
 IsAsked words o =
     (words ≡ order_words o) × (are_named (files_of o.command) ≡ true) × IsInTime o.command
 
--- they ask for nothing that there is
+-- they are the words of no order
 abbrev pub AskForNothing : List (List ℕ) → Type 0
 AskForNothing words = (o : Order) → IsAsked words o → ⊥

@@ -25,7 +25,7 @@ use Rattle.rpki_command.specs.declared.words.Kind.{Kind}
 use Rattle.rpki_command.specs.declared.words.Options.{Options}
 use Rattle.rpki_command.specs.declared.words.Order.{Order}
 
--- What is told of each file of a check: its name, or its octets.
+-- The files of a check: the name of each, or its octets.
 pub record FilesOfCheck : Type 0 where
   pub object : List ℕ
   pub verdicts : List ℕ
@@ -80,7 +80,7 @@ pub record MakeNoIssuer (verdict : Verdict) (now : Moment) (anchor : List ℕ)
     (chain : List (List ℕ)) : Type 0 where
   pub fault : IssuerError
   pub made : MakesIssuer verdict now anchor chain (Err fault)
-  pub told : issuer_refusal fault ≡ out_of_memory → ⊥
+  pub has_memory : issuer_refusal fault ≡ out_of_memory → ⊥
 
 -- The certificates make an issuer, and under it the octets begin with no good object.
 pub record IsRefusedUnder (options : Options) (kind : Kind) (verdict : Verdict) (now : Moment)

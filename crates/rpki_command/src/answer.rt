@@ -10,7 +10,7 @@ use rpki_der::{Sink, SinkFailed};
 /// That no memory was to be had.
 pub const OUT_OF_MEMORY: &str = "out of memory";
 
-/// That a file does not begin with what was asked for.
+/// That a file is not, or does not begin with, what was asked for.
 const MALFORMED: &[u8] = b"malformed";
 
 /// What stands before the cause for which certificates make no issuer.
@@ -31,7 +31,7 @@ const NO_MEMORY: u8 = 3;
 /// What the program answers.
 #[derive(Drop)]
 pub enum Answer<'a> {
-    /// The words ask for nothing that there is.
+    /// The words are those of no order, or of one that is not built.
     Usage,
     /// This file can't be read.
     CannotRead(&'a str),
@@ -39,7 +39,7 @@ pub enum Answer<'a> {
     BadVerdicts,
     /// No memory was to be had.
     OutOfMemory,
-    /// The file does not begin with what was asked for.
+    /// The file is not, or does not begin with, what was asked for.
     Malformed,
     /// The object is refused, for this cause.
     Refused(String),

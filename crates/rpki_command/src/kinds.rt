@@ -36,24 +36,24 @@ pub trait Lines: Content {
     fn rule(options: Options) -> Self::Rule
         ensures { result ≡ rule_of options };
 
-    /// Appends its lines.
+    /// Appends its lines. Where memory runs out, nothing is promised of the text.
     fn push(&self, text: &mut String) -> Result<(), AllocError>
         ensures { Grows result text.old text.new (lines self.now) };
 }
 
-/// What is done with octets, whatever kind is asked for.
+/// What is answered in the same way for each kind.
 pub trait Action: Drop {
     // What is said, with these options, by the row of a kind: what is asked of its objects, the
     // form of its contents, and their lines.
     ghost says: { Options → (X : Type 0) → signed.Kind X → (List ℕ → X → Type 0) → (X → List ℕ)
         → Self → Said → Type 0 };
 
-    /// Does it for the kind with such contents.
+    /// Answers for the kind with such contents.
     fn answer<'a, C: Lines>(self, alloc: Global, options: Options) -> Answer<'a>
         ensures { says options C C.kind (C.form (C.rule_of options)) C.lines self (said result) };
 }
 
-/// Does this for a kind: a row for each kind.
+/// Answers by the action for a kind: a row for each kind.
 pub fn answer_for<'a, A: Action>(
     alloc: Global,
     options: Options,

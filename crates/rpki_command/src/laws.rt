@@ -29,8 +29,10 @@ pub fn names_are_printed()
 /// Where a store tells the files of a check, a run of it that ends with status 0 says yes, and that
 /// rightly: FILE begins with a good object under the issuer that the certificates make by the
 /// verdicts, at this moment. Where a run ends with status 1, they make none, or FILE begins with no
-/// good object under it; what it prints then, `IsRunOf` says. The store of the system's files tells
-/// nothing: the program is the same for every store, and these are the laws of those that tell.
+/// good object under it; what it prints then, `IsRunOf` says. That the two exclude each other is not
+/// said here: the issuer is determined up to how its numbers are written. The store of the system's
+/// files tells nothing: the program is the same for every store, and these are the laws of those
+/// that tell.
 pub fn checks_are_right()
     ensures yes { (told : Told) (words : List (List ℕ)) (before after : ℕ) (run : Run)
         (options : Options) (kind : Kind) (now : Moment) (names files : FilesOfCheck)

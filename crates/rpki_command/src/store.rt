@@ -45,7 +45,7 @@ pub trait Store {
     // How often it was read.
     ghost reads: { Self → ℕ };
 
-    /// The octets of the file with this name.
+    /// The octets of the file with this name, or that it can't be read, or that memory ran out.
     fn read(&mut self, alloc: Global, name: &str) -> Result<Vec<u8>, StoreError>
         ensures answer { IsRead (told self.old name.now) result }
         ensures same { told self.new ≡ told self.old }
@@ -76,7 +76,8 @@ impl Error for Unread<'_> {}
 
 /// The octets of the files with these names, which are read in their order, once each. The first
 /// that can't be read is answered by its name, and none is read after it. Where memory runs out,
-/// the answer is `Memory`.
+/// the answer is `Memory`; contracts count the reads, and do not tell of which file the read was
+/// that memory did not suffice for.
 pub fn read_all<'a, S: Store>(
     alloc: Global,
     names: &[&'a str],

@@ -16,13 +16,13 @@ use std::marker::Model;
 /// The kinds of signed objects that may be shown and checked.
 #[derive(Clone, Copy, Debug, PartialEq, Eq)]
 pub enum Kind {
-    /// An autonomous system provider authorization.
+    /// An Autonomous System Provider Authorization.
     Aspa,
     /// A manifest.
     Manifest,
-    /// A route origin authorization.
+    /// A Route Origin Authorization.
     Roa,
-    /// A signed checklist.
+    /// An RPKI Signed Checklist.
     Rsc,
 }
 
@@ -58,7 +58,7 @@ pub enum Command<'a> {
         kind: Kind,
         file: Word<'a>,
     },
-    /// To show the bare content of an attestation with several signers.
+    /// To show the bare content of a Resource Tagged Attestation, which has one signer or more.
     ContentRta {
         file: Word<'a>,
     },
@@ -67,7 +67,7 @@ pub enum Command<'a> {
         kind: Kind,
         file: Word<'a>,
     },
-    /// To show an attestation with several signers.
+    /// To show a Resource Tagged Attestation.
     ShowRta {
         file: Word<'a>,
     },
@@ -85,7 +85,7 @@ pub enum Command<'a> {
         anchor: Word<'a>,
         chain: Words<'a>,
     },
-    /// To check an attestation with several signers under these anchors.
+    /// To check a Resource Tagged Attestation under these anchors.
     Rta {
         file: Word<'a>,
         moment: Time,

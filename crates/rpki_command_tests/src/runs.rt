@@ -167,8 +167,8 @@ fn a_good_roa_is_shown_and_checked(rt: HostRuntime) -> Result<(), Fail> {
     Ok(())
 }
 
-/// That this was said, and nothing else. Where the run says instead that memory ran out, and nothing
-/// else, that is handed on.
+/// That this was said, and nothing else. Where the run says instead that memory ran out, and
+/// nothing else, that is handed on.
 pub fn is_said(
     rt: &impl Abort,
     said: &Said<'_>,

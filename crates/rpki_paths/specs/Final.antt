@@ -16,7 +16,8 @@ use Rattle.rpki_paths.specs.declared.walker.Path.{Path}
 use Rattle.rpki_paths.specs.Cert.{Numbers}
 use Rattle.rpki_paths.specs.Walk.{kept_at, InEach}
 
--- Whether the number is one of what is kept in a family: each is, where all certificates inherit.
+-- Whether the number is one of what is kept in a family: every number is, where all certificates
+-- inherit.
 abbrev pub kept_has : {T : Type 0} → (T → ℕ) → Option (Kept (List (Block T))) → ℕ → Bool
 kept_has f None n = true
 kept_has f (Some kept) n = holds f kept.met n
@@ -25,7 +26,7 @@ kept_has f (Some kept) n = holds f kept.met n
 abbrev pub some_has : {C : Type 0} → List (Path C) → Family → ℕ → Bool
 some_has paths f n = list_any (λ p. kept_has (λ k. k) (kept_at p.sets f) n) paths
 
--- Whether it is one of the numbers that are gathered: each is, where not all are known.
+-- Whether it is one of the numbers that are gathered: every number is, where not all are known.
 abbrev pub union_has : {T : Type 0} → (T → ℕ) → Union T → ℕ → Bool
 union_has f u n = not u.is_known || holds f u.numbers n
 

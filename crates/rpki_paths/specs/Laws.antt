@@ -39,7 +39,8 @@ use Rattle.rpki_paths.specs.Grant.{IsGranted}
 use Rattle.rpki_paths.specs.declared.acceptance.AcceptFault.{AcceptFault}
 use Rattle.rpki_paths.specs.Accepting.{WhyNot, WantsMemory}
 
--- One issuer more, whose claim covers what it has to, and what is kept stands for the sets again.
+-- If what is kept stands for the sets of a path, it does so after one more issuer, whose claim
+-- covers what it has to.
 abbrev pub ClimbKeepsMeet : {T : Type 0} → (T → ℕ) → Type 0
 ClimbKeepsMeet {T} f =
     (mode : Overclaim) (old new : Option (Kept (List (Block T)))) (claim : Claim (List (Block T)))

@@ -30,7 +30,7 @@ AreCerts [] (cert ∷ certs) = ⊥
 AreCerts (file ∷ files) [] = ⊥
 AreCerts (file ∷ files) (cert ∷ certs) = BeginWith (CertForm Der) file cert × AreCerts files certs
 
--- it is not so that each of them begins with a certificate
+-- not each of the files begins with a certificate
 abbrev pub AreNotAllCerts : List (List ℕ) → Type 0
 AreNotAllCerts files = (certs : List Certificate) → AreCerts files certs → ⊥
 

@@ -13,8 +13,8 @@ use Rattle.rpki_signed.specs.Object.{Whole, cert_in}
 use Rattle.rpki_signed.specs.Process.{validation}
 
 -- An object is good under this issuer, at this moment, but for what is said of its certificate: it
--- is valid, and the numbers of which its content speaks lie in the sets of the validated
--- certificate.
+-- is valid, and the numbers that its kind asks for (the prefixes of a ROA, the customer of an ASPA,
+-- the numbers of a checklist, of a manifest none) lie in the sets of the validated certificate.
 pub record IsGood {X : Type 0} (kind : Kind X) (mode : Mode) (digest : Digester)
     (verdict : Verdict) (issuer : Validated) (now : Moment) (o : Whole X) (v : Validated)
     : Type 0 where

@@ -134,12 +134,12 @@ pub fn manifest<C: Crypto, F: FnOnce(&Cert) -> Result<(), ValidationError>>(
 /// Whether the octets begin with a good ROA (RFC 9582), read strictly, in DER, or in BER, under
 /// this issuer and at this moment: the answer is its validated certificate and what it says.
 ///
-/// The answer is a yes exactly where the octets begin with a ROA, each check of `Roa::process`
-/// holds, what `check_crl` says of its certificate among them, and the certificate has the
-/// addresses of each of its prefixes. Unless memory runs out, the answer is `Decode` exactly where
-/// the octets begin with no ROA, and `Validation`, with the fault of the first check that fails,
-/// exactly where they do and one fails. `check_crl` is called once at most, where each check before
-/// it holds.
+/// A yes means that the octets begin with a ROA, that each check of `Roa::process` holds, what
+/// `check_crl` says of its certificate among them, and that the certificate has the addresses of
+/// each of its prefixes. Unless memory runs out, the answer is a yes exactly there, `Decode`
+/// exactly where the octets begin with no ROA, and `Validation`, with the fault of the first check
+/// that fails, exactly where they do and one fails. `check_crl` is called once at most, where each
+/// check before it holds.
 pub fn roa<C: Crypto, F: FnOnce(&Cert) -> Result<(), ValidationError>>(
     alloc: Global,
     bytes: Bytes,

@@ -25,8 +25,9 @@ const END: usize = SIGNATURE + DIGITS;
 /// The octets of a line.
 const LINE: usize = END + 1;
 
-/// A list of verdicts: the triples of a key, a message and a signature to which the answer is yes.
-/// To every other triple it is no. It borrows its text, and takes no memory.
+/// A list of verdicts: by their SHA-256 digests, the triples of a key, a message and a signature
+/// to which the answer is yes. To every other triple it is no. It borrows its text, and takes no
+/// memory.
 #[derive(Drop)]
 pub struct Verdicts<'a> {
     pub(crate) lines: &'a [[u8; LINE]],
@@ -60,10 +61,9 @@ impl<'a> Verdicts<'a> {
         }
     }
 
-    /// Whether the list says yes to this signature of the message by the key: each line is looked
-    /// at, up to the first that fits. The octets of the key are those of its SubjectPublicKeyInfo,
-    /// as `PublicKey::to_info_bytes` of `rpki_keys` writes them, handed in as two pieces: those
-    /// before its bits, and its bits.
+    /// Whether the list says yes to this signature of the message by the key. The octets of the key
+    /// are those of its SubjectPublicKeyInfo, as `PublicKey::to_info_bytes` of `rpki_keys` writes
+    /// them, handed in as two pieces: those before its bits, and its bits.
     pub fn verify(&self, key_head: &[u8], key_rest: &[u8], message: &[u8], signature: &[u8]) -> bool
         ensures { IsTrue result ↔ IsYes self.now
             (key_head.now ++ key_rest.now) message.now signature.now }

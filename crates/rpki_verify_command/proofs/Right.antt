@@ -54,7 +54,7 @@ module _ (s : Said) (options : Options) (kind : Kind) (now : Moment) (files : Fi
   no-of one (Err fault) made (inr e) = inl (record {
     fault = fault;
     made = made;
-    told = λ m. other-status s out_of_memory 1 one (e ∙ m)
+    has_memory = λ m. other-status s out_of_memory 1 one (e ∙ m)
         (λ (n : 3 ≡ 1). omega (arith, n));
   })
 

@@ -707,7 +707,7 @@ module _ (options : Options) (kind : Kind) (now : Moment) (files : FilesOfCheck)
     no-either (inl n) = inl (record {
       fault = n.fault;
       made = issuer-by-list (Err n.fault) n.made;
-      told = n.told;
+      has_memory = n.has_memory;
     })
     no-either (inr n) = inr (record {
       issuer = n.issuer;

@@ -40,7 +40,7 @@ IsListAnswer mode object anchor chain s =
     ⊎ ((text : List ℕ) × IsListingOf mode is_rsa_signature object anchor chain text
     × (s ≡ shown text))))
 
--- The same, of the files of the object, of a trust anchor and of CAs.
+-- What is said where they are listed, of the files of the object, of a trust anchor and of CAs.
 abbrev pub ListedOf : Options → List (List ℕ) → Said → Type 0
 ListedOf options (object ∷ anchor ∷ chain) s =
     IsListAnswer (read_mode options) object anchor chain s
@@ -53,7 +53,7 @@ WorkOf options Verdicts = ListedOf options
 
 -- ---- step by step
 
--- what is said where octets begin with nothing of the form, or memory ran out before that was seen
+-- what is said where octets are not read: that memory ran out, or else this
 abbrev pub undecoded : Said → DecodeError → Said
 undecoded s decoding.Memory = out_of_memory
 undecoded s decoding.Malformed = s

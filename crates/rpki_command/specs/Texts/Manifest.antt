@@ -10,10 +10,10 @@ use Rattle.rpki_files.specs.Manifest.{Manifest}
 use Rattle.rpki_command.specs.Ia5.{ia5_text}
 
 -- the line of the manifest's number, in lower hexadecimal
-abbrev pub serial_line : ℕ → List ℕ
-serial_line n = codes "number " ++ (serial_text n ++ codes "\n")
+abbrev pub number_line : ℕ → List ℕ
+number_line n = codes "number " ++ (serial_text n ++ codes "\n")
 
--- the line of the moment from which the manifest is
+-- the line of the moment at which the manifest was made (thisUpdate)
 unfoldable pub this_line : Moment → List ℕ
 this_line m = codes "this " ++ (iso_text m ++ codes "\n")
 
@@ -27,5 +27,5 @@ file_line f = codes "file " ++ (ia5_text f.file ++ (codes " " ++ (hex f.hash ++ 
 
 -- the name of the kind, the number, both moments, and a line for each file
 abbrev pub manifest_text : Manifest → List ℕ
-manifest_text m = codes "manifest\n" ++ (serial_line m.number ++ (this_line m.this_update
+manifest_text m = codes "manifest\n" ++ (number_line m.number ++ (this_line m.this_update
     ++ (next_line m.next_update ++ flat_map file_line m.files)))

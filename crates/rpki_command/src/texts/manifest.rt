@@ -2,7 +2,7 @@
 
 ghost use Rattle.std.specs.List.{flat_map};
 ghost use Rattle.rpki_command.specs.Grows.{Grows};
-ghost use Rattle.rpki_command.specs.Texts.Manifest.{manifest_text, serial_line, this_line};
+ghost use Rattle.rpki_command.specs.Texts.Manifest.{manifest_text, number_line, this_line};
 ghost use Rattle.rpki_command.specs.Texts.Manifest.{next_line, file_line};
 
 use crate::texts::ia5::Ia5;
@@ -26,7 +26,7 @@ pub fn push_manifest(text: &mut String, content: &ManifestContent) -> Result<(),
 
 /// Appends the line of the number.
 fn push_number(text: &mut String, number: Serial) -> Result<(), AllocError>
-    ensures { Grows result text.old text.new (serial_line number) }
+    ensures { Grows result text.old text.new (number_line number) }
 {
     write!(text, "number {number}\n")
 }

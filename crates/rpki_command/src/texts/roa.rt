@@ -3,7 +3,7 @@
 ghost use Rattle.std.specs.List.{flat_map};
 ghost use Rattle.rpki_routes.specs.Roa.{addresses};
 ghost use Rattle.rpki_command.specs.Grows.{Grows};
-ghost use Rattle.rpki_command.specs.Texts.Roa.{roa_text, number_line, origin_line};
+ghost use Rattle.rpki_command.specs.Texts.Roa.{roa_text, as_line, origin_line};
 
 use crate::texts::lines::push_each;
 use rpki_resources::Asn;
@@ -16,13 +16,13 @@ pub fn push_roa(text: &mut String, content: &RouteOriginAttestation) -> Result<(
     ensures { Grows result text.old text.new (roa_text content.now) }
 {
     write!(text, "roa\n")?;
-    push_number(text, content.as_id())?;
+    push_as(text, content.as_id())?;
     push_origins(text, content)
 }
 
 /// Appends the line of the autonomous system.
-fn push_number(text: &mut String, number: Asn) -> Result<(), AllocError>
-    ensures { Grows result text.old text.new (number_line number) }
+fn push_as(text: &mut String, number: Asn) -> Result<(), AllocError>
+    ensures { Grows result text.old text.new (as_line number) }
 {
     write!(text, "as {number}\n")
 }

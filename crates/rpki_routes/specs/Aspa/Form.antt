@@ -8,7 +8,7 @@ use Rattle.rpki_resources.specs.As.Form.{AsId}
 use Rattle.rpki_routes.specs.Aspa.{Aspa, IsAttestation}
 
 -- SEQUENCE { [0] { INTEGER 1 }, customer, SEQUENCE OF provider }, section 3 of the profile. A
--- content is in DER (RFC 6488, section 2.1.3.2).
+-- content is in DER (RFC 6488, section 2).
 abbrev pub AspaForm : ProviderLimit → List ℕ → Aspa → Type 0
 AspaForm limit octets a = Sequence Der (
     (λ o. Explicit 0 Der (λ c. Integer Der c 1) o)

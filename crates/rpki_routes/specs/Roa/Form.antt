@@ -1,5 +1,5 @@
--- The form of the content of a ROA, which is in DER (RFC 6488, section 2.1.3.2). The sections are
--- those of RFC 9582.
+-- The form of the content of a ROA, which is in DER (RFC 6488, section 2). The sections are those
+-- of RFC 9582.
 use Rattle.std.specs.Prelude.{ℕ, List, [], ◌∷◌, unwrap_or, IfSome}
 use Rattle.rpki_der.specs.declared.mode.Mode.{Mode}
 use Rattle.rpki_der.specs.declared.mode.Mode.TheVariants.{Der}

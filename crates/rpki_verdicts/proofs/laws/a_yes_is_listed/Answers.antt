@@ -1,5 +1,5 @@
 use Rattle.rpki_verdicts.proofs.Listing.{listed-decided}
-use Rattle.rpki_verdicts.proofs.laws.verdicts.Goals as goal
+use Rattle.rpki_verdicts.proofs.laws.a_yes_is_listed.Goals as goal
 
 pub returns : goal.returns
 returns c = listed-decided
