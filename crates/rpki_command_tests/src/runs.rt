@@ -83,7 +83,8 @@ pub fn are_answered(rt: &(impl Abort + AllocGlobal), rows: &[Row<'_>]) -> Result
     Ok(())
 }
 
-/// That the words are answered so, where the files are these.
+/// That the words are answered so, where the files are these. Where memory runs out before the read
+/// that it is wanted of, that is handed on.
 pub fn is_answered(
     rt: &(impl Abort + AllocGlobal),
     words: &[&str],
@@ -96,6 +97,9 @@ pub fn is_answered(
     let mut err = Counted::new(Vec::with_capacity(rt.alloc(), ROOM)?);
     let status = command(rt.alloc(), words, &mut store, &mut out, &mut err);
     is_said(rt, said, status, &out.inner, &err.inner)?;
+    if status == OUT_OF_MEMORY.status && store.calls() < reads {
+        return Err(AllocError);
+    }
     assert_eq!(rt; store.calls(), reads);
     Ok(())
 }
