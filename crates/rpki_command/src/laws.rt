@@ -29,7 +29,7 @@ pub fn names_are_printed()
 /// Where a store tells the files of a check, a run of it that ends with status 0 says yes, and that
 /// rightly: FILE begins with a good object under the issuer that the certificates make by the
 /// verdicts, at this moment. Where a run ends with status 1, they make none, or FILE begins with no
-/// good object under it; what it prints then, `IsRunOf` says. That the two exclude each other is not
+/// good object under it; what it prints then, `IsRunOf` says. That the two exclude each other isn't
 /// said here: the issuer is determined up to how its numbers are written. The store of the system's
 /// files tells nothing: the program is the same for every store, and these are the laws of those
 /// that tell.
