@@ -1,24 +1,24 @@
 -- What is said of files, by steps.
-use Rattle.std.proofs.Common.{◌≡◌, ◌≤◌, ℕ, List, Ok, Err, Vec, Global, inr, subst, ap, ◌∙◌, arith}
-use Rattle.std.proofs.Common.{length}
-use Rattle.std.proofs.lemmas.List.{length-map}
+use Rattle.std.proofs.Common.{◌≡◌, ◌+◌, ◌≤◌, ℕ, List, ◌++◌, Ok, Err, Vec, Global, inr, subst, sym}
+use Rattle.std.proofs.Common.{ap, ◌∙◌, arith, length}
+use Rattle.std.proofs.lemmas.List.{append-nil, length-map, take_all}
 use Rattle.std.specs.Borrow.{Bor}
 use Rattle.rpki_issuers.specs.Issuer.{octets_of}
 use Rattle.rpki_command.specs.Answer.{Said, cannot_read, out_of_memory}
 use Rattle.rpki_command.specs.Command.{AreReadAtMost, IsOfFiles}
-use Rattle.rpki_command.specs.Store.{Told, AreAllRead, IsFirstUnreadable, AreSomeRead}
+use Rattle.rpki_command.specs.Store.{Told, Names, AreAllRead, IsFirstUnreadable, AreSomeRead}
 use Rattle.rpki_command.specs.Words.{texts}
 use Rattle.rpki_command.specs.declared.store.Unread.TheVariants as reads
 
 -- the same names
 pub of-same : (told : Told) (seen names : List (Bor (List ℕ))) (all : List (List ℕ))
-    (P : List (List ℕ) → Said → Type 0) (old new : ℕ) (s : Said)
+    (P : List (List ℕ) → Said → Type 0) (old new : Names) (s : Said)
     → IsOfFiles told (texts seen) P old new s → texts names ≡ all → seen ≡ names
     → IsOfFiles told all P old new s
 of-same told seen names all P old new s h e d =
     subst (λ (ns : List (List ℕ)). IsOfFiles told ns P old new s) (ap texts d ∙ e) h
 
-pub read-same : (seen names : List (Bor (List ℕ))) (all : List (List ℕ)) (old new : ℕ)
+pub read-same : (seen names : List (Bor (List ℕ))) (all : List (List ℕ)) (old new : Names)
     → AreReadAtMost (texts seen) old new → texts names ≡ all → seen ≡ names
     → AreReadAtMost all old new
 read-same seen names all old new h e d =
@@ -26,20 +26,20 @@ read-same seen names all old new h e d =
 
 -- the first file that can't be read
 pub of-unreadable : (told : Told) (names : List (List ℕ)) (P : List (List ℕ) → Said → Type 0)
-    (old new : ℕ) (name : Bor (List ℕ)) (s : Said)
+    (old new : Names) (name : Bor (List ℕ)) (s : Said)
     → IsFirstUnreadable told names old new name.now → s ≡ cannot_read name.now
     → IsOfFiles told names P old new s
 of-unreadable told names P old new name s u e = inr (Err (reads.Unreadable name), u, e)
 
 -- some are read, until memory runs out
 pub of-some-read : (told : Told) (names : List (List ℕ)) (P : List (List ℕ) → Said → Type 0)
-    (old new : ℕ) (s : Said) → AreSomeRead told names old new → s ≡ out_of_memory
+    (old new : Names) (s : Said) → AreSomeRead told names old new → s ≡ out_of_memory
     → IsOfFiles told names P old new s
 of-some-read told names P old new s a e = inr (Err reads.Memory, a, e)
 
 -- all are read
 pub of-all-read : (told : Told) (names : List (List ℕ)) (P : List (List ℕ) → Said → Type 0)
-    (old new : ℕ) (files : Vec (Vec ℕ Global) Global) (seen : List (Vec ℕ Global)) (s : Said)
+    (old new : Names) (files : Vec (Vec ℕ Global) Global) (seen : List (Vec ℕ Global)) (s : Said)
     → AreAllRead told names old new files.items → P (octets_of seen) s → seen ≡ files.items
     → IsOfFiles told names P old new s
 of-all-read told names P old new files seen s a h e = inr (
@@ -48,12 +48,43 @@ of-all-read told names P old new files seen s a h e = inr (
   subst (λ (fs : List (Vec ℕ Global)). P (octets_of fs) s) e h,
 )
 
+-- no file is read
+pub none-at-most : (files names : Names) → AreReadAtMost files names names
+none-at-most files names = record { many = 0; reads = sym (append-nil names) }
+
+-- all are read, and no other
+pub all-at-most : (told : Told) (names : Names) (old new : Names) (files : List (Vec ℕ Global))
+    → AreAllRead told names old new files → AreReadAtMost names old new
+all-at-most told names old new files a = record {
+  many = length names;
+  reads = a.reads ∙ ap (λ (ns : Names). old ++ ns)
+      (sym (take_all (length names) names (omega arith)));
+}
+
+-- those up to the first that can't be read
+pub first-at-most : (told : Told) (names : Names) (old new : Names) (name : List ℕ)
+    → IsFirstUnreadable told names old new name → AreReadAtMost names old new
+first-at-most told names old new name u = record { many = u.place + 1; reads = u.reads }
+
+-- those up to one of them
+pub some-at-most : (told : Told) (names : Names) (old new : Names)
+    → AreSomeRead told names old new → AreReadAtMost names old new
+some-at-most told names old new a = record { many = a.place + 1; reads = a.reads }
+
 -- as many files as names
 pub three-files : (names : List (Bor (List ℕ))) (files seen : List (Vec ℕ Global))
     → length files ≡ length (texts names) → seen ≡ files → 3 ≤ length names → 3 ≤ length seen
 three-files names files seen e d l =
     omega (arith, e, l, ap length d, length-map names (λ (x : Bor (List ℕ)). x.now))
 
-pub ruleset by_names = (of-same, read-same)
+pub ruleset by_names = (of-same, read-same, none-at-most)
 
-pub ruleset by_reads = (of-unreadable, of-some-read, of-all-read, three-files)
+pub ruleset by_reads = (
+  of-unreadable,
+  of-some-read,
+  of-all-read,
+  three-files,
+  all-at-most,
+  first-at-most,
+  some-at-most,
+)

@@ -35,7 +35,7 @@ use Rattle.rpki_command.specs.Contents.{IsLinesOf}
 use Rattle.rpki_command.specs.Kinds.{OfKind}
 use Rattle.rpki_command.specs.Options.{read_mode}
 use Rattle.rpki_command.specs.Refusal.{refusal}
-use Rattle.rpki_command.specs.Store.{Told}
+use Rattle.rpki_command.specs.Store.{Told, Names}
 use Rattle.rpki_command.specs.Words.{IsAsked}
 use Rattle.rpki_command.specs.Yes.{FilesOfCheck, in_order, check_order, PrintsYes, IsRightYes}
 use Rattle.rpki_command.specs.Yes.{BeginsWithNoGood, IsRightNo}
@@ -277,7 +277,7 @@ module _ (s : Said) (options : Options) (kind : Kind) (now : Moment) (files : Fi
 
 -- ---- by the run
 
-module _ (told : Told) (words : List (List ℕ)) (old new : ℕ) (run : Run) (options : Options)
+module _ (told : Told) (words : List (List ℕ)) (old new : Names) (run : Run) (options : Options)
     (kind : Kind) (now : Moment) (names files : FilesOfCheck) (is : IsRunOf told words old new run)
     (asked : IsAsked words (check_order options kind now names))
     (tells : AreTold told (in_order names) (in_order files)) where

@@ -1,10 +1,10 @@
 -- What a run of the program does, from what it says.
 use Rattle.std.proofs.Common.{◌≡◌, ℕ, List, Option, Some, None, Result, Ok, Err, Vec, Global}
 use Rattle.std.proofs.Common.{sym, subst, inl, inr, refl, arith, ◌<◌, [], ◌∷◌, zero, suc, length}
-use Rattle.std.proofs.Common.{map, get_or, ◌++◌, ◌∙◌, ◌+◌}
+use Rattle.std.proofs.Common.{map, get_or, ◌++◌, ◌∙◌, ◌+◌, ap, take}
 use Rattle.std.proofs.Math.Seq.{get_or-append_seam}
 use Rattle.std.proofs.lemmas.Bool.{cases_order}
-use Rattle.std.proofs.lemmas.List.{get_or_append_left, length-append}
+use Rattle.std.proofs.lemmas.List.{append_assoc, get_or_append_left, length-append, take_at}
 use Rattle.std.specs.Prelude.{◌⊎◌}
 use Rattle.rpki_command.specs.Answer.{Run, Said, IsSaid, usage, cannot_read, out_of_memory}
 use Rattle.rpki_command.specs.Answer.{malformed, shown}
@@ -14,7 +14,7 @@ use Rattle.rpki_command.specs.Command.{IsTaskAnswer, IsAnswer, OrOutOfMemory, Sh
 use Rattle.rpki_command.specs.Command.{IsRunOf, IsRunWith, IsSaidUnread, IsStartOf}
 use Rattle.rpki_command.specs.Arguments.{ToldArguments, AreTexts}
 use Rattle.rpki_command.specs.Contents.{HasNoLines, IsSaidOf, IsShown}
-use Rattle.rpki_command.specs.Store.{Told, IsRead, AreRead, AreReadTo, AreAllRead}
+use Rattle.rpki_command.specs.Store.{Told, Names, IsRead, AreRead, AreReadTo, AreAllRead}
 use Rattle.rpki_command.specs.Store.{IsFirstUnreadable}
 use Rattle.rpki_command.specs.Words.{IsAsked, AskForNothing}
 use Rattle.rpki_issuers.specs.Issuer.{octets_of}
@@ -100,7 +100,7 @@ told-at told (n ∷ ns) (o ∷ os) zero d l t = (o, cc)
 told-at told (n ∷ ns) (o ∷ os) (suc k) d l t =
     told-at told ns os k d (omega (arith, l)) cc
 
-readable : (told : Told) (names octets : List (List ℕ)) (old new : ℕ) (name : List ℕ)
+readable : (told : Told) (names octets : List (List ℕ)) (old new : Names) (name : List ℕ)
     → IsFirstUnreadable told names old new name → AreTold told names octets → ⊥
 readable told names octets old new name u t =
     let at = told-at told names octets u.place [] u.there t in
@@ -113,8 +113,16 @@ at-file : (before after : List (List ℕ)) (file : List ℕ) (d : List ℕ)
     → get_or (before ++ file ∷ after) (length before) d ≡ file
 at-file before after file d = get_or-append_seam before file after d
 
+-- the files up to one
+up-to : (before after : Names) (file : List ℕ)
+    → take (length before + 1) (before ++ file ∷ after) ≡ before ++ file ∷ []
+up-to before after file =
+    ap (λ (ns : Names). take (length before + 1) ns) (sym (append_assoc before (file ∷ []) after))
+    ∙ take_at (before ++ file ∷ []) after (length before + 1)
+    (omega (arith, length-append before (file ∷ [])))
+
 -- not all are read where one of them can't be
-one-unread : (told : Told) (before after : List (List ℕ)) (file : List ℕ) (old new : ℕ)
+one-unread : (told : Told) (before after : List (List ℕ)) (file : List ℕ) (old new : Names)
     (files : List (Vec ℕ Global)) → AreAllRead told (before ++ file ∷ after) old new files
     → told file ≡ Some None → ⊥
 one-unread told before after file old new [] a u =
@@ -128,16 +136,18 @@ one-unread told before after file old new (f ∷ fs) a u =
     (a.each (length before) [] f there)
 
 -- the first file that can't be read is the one after those that can
-first-is : (told : Told) (before after octets : List (List ℕ)) (file : List ℕ) (old new : ℕ)
+first-is : (told : Told) (before after octets : List (List ℕ)) (file : List ℕ) (old new : Names)
     (name : List ℕ) → IsFirstUnreadable told (before ++ file ∷ after) old new name
     → AreTold told before octets → told file ≡ Some None
-    → (name ≡ file) × (new ≡ old + (length before + 1))
+    → (name ≡ file) × (new ≡ old ++ (before ++ file ∷ []))
 first-is told before after octets file old new name u t e =
     elim (cases_order u.place (length before)) [
       | inl same ↦ (
         subst (λ (n : ℕ). name ≡ get_or (before ++ file ∷ after) n []) same (sym (u.named []))
             ∙ at-file before after file [],
-        omega (arith, u.reads, same),
+        u.reads
+            ∙ ap (λ (n : ℕ). old ++ take (n + 1) (before ++ file ∷ after)) same
+            ∙ ap (λ (ns : Names). old ++ ns) (up-to before after file),
       )
       | inr (inl l) ↦
           let at = told-at told before octets u.place [] l t in
@@ -152,13 +162,13 @@ first-is told before after octets file old new name u t e =
           (subst (λ (n : List ℕ). told n ≡ Some None) (sym (at-file before after file [])) e))
     ]
 
-module _ (told : Told) (P : List (List ℕ) → Said → Type 0) (old new : ℕ) (s : Said) (run : Run)
+module _ (told : Told) (P : List (List ℕ) → Said → Type 0) (old new : Names) (s : Said) (run : Run)
     (h : IsSaid s run) where
   of-reads : (names octets : List (List ℕ)) → AreTold told names octets
       → (read : Result (Vec (Vec ℕ Global) Global) Unread) → AreRead told names old new read
       → IsOfReads P read s
       → IsSaid out_of_memory run
-      ⊎ ((new ≡ old + length names) × (x : Said) × P octets x × IsSaid x run)
+      ⊎ ((new ≡ old ++ names) × (x : Said) × P octets x × IsSaid x run)
   of-reads names octets t (Ok files) a o = inr (
     a.reads,
     s,
@@ -174,7 +184,7 @@ module _ (told : Told) (P : List (List ℕ) → Said → Type 0) (old new : ℕ)
       → told file ≡ Some None → (read : Result (Vec (Vec ℕ Global) Global) Unread)
       → AreRead told (before ++ file ∷ after) old new read → IsOfReads P read s
       → IsSaid out_of_memory run
-      ⊎ ((new ≡ old + (length before + 1)) × IsSaid (cannot_read file) run)
+      ⊎ ((new ≡ old ++ (before ++ file ∷ [])) × IsSaid (cannot_read file) run)
   of-unread before after octets file t e (Ok files) a o =
       absurd (one-unread told before after file old new files.items a e)
   of-unread before after octets file t e (Err (reads.Unreadable name)) a o =
@@ -190,14 +200,14 @@ module _ (told : Told) (P : List (List ℕ) → Said → Type 0) (old new : ℕ)
   all-told : (names octets : List (List ℕ)) → AreTold told names octets
       → IsOfFiles told names P old new s
       → IsSaid out_of_memory run
-      ⊎ ((new ≡ old + length names) × (x : Said) × P octets x × IsSaid x run)
+      ⊎ ((new ≡ old ++ names) × (x : Said) × P octets x × IsSaid x run)
   all-told names octets t (inl m) = inl (said-as s out_of_memory run m.0 h)
   all-told names octets t (inr r) = of-reads names octets t r.0 r.1 r.2
 
   one-told : (before after octets : List (List ℕ)) (file : List ℕ) → AreTold told before octets
       → told file ≡ Some None → IsOfFiles told (before ++ file ∷ after) P old new s
       → IsSaid out_of_memory run
-      ⊎ ((new ≡ old + (length before + 1)) × IsSaid (cannot_read file) run)
+      ⊎ ((new ≡ old ++ (before ++ file ∷ [])) × IsSaid (cannot_read file) run)
   one-told before after octets file t e (inl m) = inl (said-as s out_of_memory run m.0 h)
   one-told before after octets file t e (inr r) =
       of-unread before after octets file t e r.0 r.1 r.2
@@ -212,7 +222,7 @@ module _ (told : Told) (P : List (List ℕ) → Said → Type 0) (old new : ℕ)
 
 -- ---- the whole
 
-module _ (told : Told) (old new : ℕ) (s : Said) (run : Run) (h : IsSaid s run) where
+module _ (told : Told) (old new : Names) (s : Said) (run : Run) (h : IsSaid s run) where
   pub task-done : (task : Task) → IsTaskAnswer told task old new s
       → IsTaskDone told task old new run
   task-done (ShowLines file lines_of) a = shows lines_of s run h told file a
@@ -241,7 +251,7 @@ module _ (told : Told) (old new : ℕ) (s : Said) (run : Run) (h : IsSaid s run)
   }
 
 -- the words follow, and are run unless memory runs out
-pub of-words : (arguments : ToldArguments) (told : Told) (words : List (List ℕ)) (old new : ℕ)
+pub of-words : (arguments : ToldArguments) (told : Told) (words : List (List ℕ)) (old new : Names)
     (run : Run)
     → AreTexts arguments words
     → IsSaidUnread out_of_memory old new run ⊎ IsRunWith told words old new run

@@ -1,5 +1,5 @@
 -- What the program answers to its words, and what a run of it does.
-use Rattle.std.specs.Prelude.{◌≡◌, ℕ, ◌⊎◌, ◌+◌, ◌≤◌, List, ◌∷◌, ◌++◌, length, map, None, Some}
+use Rattle.std.specs.Prelude.{◌≡◌, ℕ, ◌⊎◌, List, [], ◌∷◌, ◌++◌, take, map, None, Some}
 use Rattle.std.specs.Prelude.{Result, Ok, Err, Vec}
 use Rattle.std.specs.declared.alloc.Global.{Global}
 use Rattle.rpki_issuers.specs.Issuer.{octets_of}
@@ -10,7 +10,7 @@ use Rattle.rpki_command.specs.Check.{CheckOf}
 use Rattle.rpki_command.specs.Contents.{LinesOf, HasNoLines, IsShown}
 use Rattle.rpki_command.specs.Objects.{ObjectLinesOf}
 use Rattle.rpki_command.specs.Texts.Tal.{TalLines}
-use Rattle.rpki_command.specs.Store.{Told, IsRead, AreRead}
+use Rattle.rpki_command.specs.Store.{Told, Names, IsRead, AreRead}
 use Rattle.rpki_command.specs.Words.{IsAsked, AskForNothing}
 use Rattle.rpki_command.specs.declared.store.StoreError.{StoreError}
 use Rattle.rpki_command.specs.declared.store.StoreError.TheVariants.{Unreadable, Memory}
@@ -67,36 +67,36 @@ IsOfReads P (Ok files) s = P (octets_of files.items) s
 IsOfReads P (Err (reads.Unreadable name)) s = s ≡ cannot_read name.now
 IsOfReads P (Err reads.Memory) s = s ≡ out_of_memory
 
--- What is said of files in a store that tells this, and that was read so often before and after it:
--- the files are read in their order, each once, up to the first that can't be read, and no more.
--- Where memory runs out before the first of them is read, none is; where it runs out later, only
--- the number of reads is told.
-abbrev pub IsOfFiles : Told → List (List ℕ) → (List (List ℕ) → Said → Type 0) → ℕ → ℕ → Said
+-- What is said of files in a store that tells this, and that was asked for these names before and
+-- after it: the files are read in their order, each once, up to the first that can't be read, and
+-- no more. Where memory runs out before the first of them is read, none is.
+abbrev pub IsOfFiles : Told → Names → (List (List ℕ) → Said → Type 0) → Names → Names → Said
     → Type 0
 IsOfFiles told names P old new s =
     ((s ≡ out_of_memory) × (new ≡ old))
     ⊎ ((read : Result (Vec (Vec ℕ Global) Global) Unread)
     × AreRead told names old new read × IsOfReads P read s)
 
--- what is said for a task, where the store was read so often before and after it
-abbrev pub IsTaskAnswer : Told → Task → ℕ → ℕ → Said → Type 0
+-- what is said for a task, where the store was asked for these names before and after it
+abbrev pub IsTaskAnswer : Told → Task → Names → Names → Said → Type 0
 IsTaskAnswer told (ShowLines file lines_of) old new s = IsOfFile told file (IsShown lines_of) s
 IsTaskAnswer told (CheckFiles files P) old new s = IsOfFiles told files P old new s
 IsTaskAnswer told NotThere old new s = s ≡ usage
 
--- there are no more reads than files
-abbrev pub AreReadAtMost : List (List ℕ) → ℕ → ℕ → Type 0
-AreReadAtMost files old new = (old ≤ new) × (new ≤ old + length files)
+-- only the first of these files are read, if any, in their order, each once
+pub record AreReadAtMost (files old new : Names) : Type 0 where
+  pub many : ℕ
+  pub reads : new ≡ old ++ take many files
 
--- how often a store was read before and after a task
-abbrev pub HasRead : Task → ℕ → ℕ → Type 0
-HasRead (ShowLines file lines_of) old new = new ≡ old + 1
+-- which files a task reads, by the names that the store was asked for before and after it
+abbrev pub HasRead : Task → Names → Names → Type 0
+HasRead (ShowLines file lines_of) old new = new ≡ old ++ file ∷ []
 HasRead (CheckFiles files P) old new = AreReadAtMost files old new
 HasRead NotThere old new = new ≡ old
 
 -- What is said for the order that the words ask for, or the usage where they ask for none, where
--- the store was read so often before and after it.
-abbrev pub IsAnswer : Told → List (List ℕ) → ℕ → ℕ → Said → Type 0
+-- the store was asked for these names before and after it.
+abbrev pub IsAnswer : Told → List (List ℕ) → Names → Names → Said → Type 0
 IsAnswer told words old new s =
     ((o : Order) × IsAsked words o × IsTaskAnswer told (order_task o) old new s)
     ⊎ (AskForNothing words × (s ≡ usage))
@@ -121,28 +121,30 @@ pub record Shows (told : Told) (file : List ℕ) (lines_of : List ℕ → List �
 abbrev pub AreTold : Told → List (List ℕ) → List (List ℕ) → Type 0
 AreTold told files octets = map told files ≡ map (λ o. Some (Some o)) octets
 
--- The run checks files, where the store tells them and was read so often before and after it.
-pub record ChecksFiles (told : Told) (files : List (List ℕ)) (P : List (List ℕ) → Said → Type 0)
-    (old new : ℕ) (run : Run) : Type 0 where
+-- The run checks files, where the store tells them and was asked for these names before and after
+-- it.
+pub record ChecksFiles (told : Told) (files : Names) (P : List (List ℕ) → Said → Type 0)
+    (old new : Names) (run : Run) : Type 0 where
   -- files that can be read: each is read once, and what is to be said of them is said
   pub checked : (octets : List (List ℕ)) → AreTold told files octets
       → IsSaid out_of_memory run
-      ⊎ ((new ≡ old + length files) × (s : Said) × P octets s × IsSaid s run)
+      ⊎ ((new ≡ old ++ files) × (s : Said) × P octets s × IsSaid s run)
   -- a file that can't be read, after some that can: it is the last that is read
   pub unreadable : (before after octets : List (List ℕ)) (file : List ℕ)
       → files ≡ before ++ file ∷ after → AreTold told before octets → told file ≡ Some None
       → IsSaid out_of_memory run
-      ⊎ ((new ≡ old + (length before + 1)) × IsSaid (cannot_read file) run)
+      ⊎ ((new ≡ old ++ (before ++ file ∷ [])) × IsSaid (cannot_read file) run)
 
 -- the run does a task
-abbrev pub IsTaskDone : Told → Task → ℕ → ℕ → Run → Type 0
+abbrev pub IsTaskDone : Told → Task → Names → Names → Run → Type 0
 IsTaskDone told (ShowLines file lines_of) old new run = Shows told file lines_of run
 IsTaskDone told (CheckFiles files P) old new run = ChecksFiles told files P old new run
 IsTaskDone told NotThere old new run = IsSaid usage run
 
--- What a run of the program does, where the store tells this of each file by its name, and was read
--- so often before and after it.
-pub record IsRunOf (told : Told) (words : List (List ℕ)) (old new : ℕ) (run : Run) : Type 0 where
+-- What a run of the program does, where the store tells this of each file by its name, and was
+-- asked for these names before and after it.
+pub record IsRunOf (told : Told) (words : List (List ℕ)) (old new : Names) (run : Run)
+    : Type 0 where
   -- words that ask for nothing
   pub usage : AskForNothing words → IsSaid usage run
   -- words that ask for this
@@ -150,25 +152,26 @@ pub record IsRunOf (told : Told) (words : List (List ℕ)) (old new : ℕ) (run 
   -- whatever the store tells, one answer is said
   pub answered : (s : Said) × IsAnswer told words old new s × IsSaid s run
 
--- How often a store was read before and after a run: not at all for words that ask for nothing, and
--- for others as often as their task reads.
-pub record HaveRead (words : List (List ℕ)) (old new : ℕ) : Type 0 where
+-- Which files a run reads, by the names that the store was asked for before and after it: none for
+-- words that ask for nothing, and for others those that their task reads.
+pub record HaveRead (words : List (List ℕ)) (old new : Names) : Type 0 where
   pub usage : AskForNothing words → new ≡ old
   pub done : (o : Order) → IsAsked words o → HasRead (order_task o) old new
 
 -- the words are run, with the reads that they ask for
-pub record IsRunWith (told : Told) (words : List (List ℕ)) (old new : ℕ) (run : Run) : Type 0 where
+pub record IsRunWith (told : Told) (words : List (List ℕ)) (old new : Names) (run : Run)
+    : Type 0 where
   pub done : IsRunOf told words old new run
   pub reads : HaveRead words old new
 
 -- this is said, and no file is read
-pub record IsSaidUnread (s : Said) (old new : ℕ) (run : Run) : Type 0 where
+pub record IsSaidUnread (s : Said) (old new : Names) (run : Run) : Type 0 where
   pub said : IsSaid s run
   pub reads : new ≡ old
 
 -- What the start of a program does: it runs the words after the program's name; where one of them
 -- is no text (UTF-8) it says the usage, or else that memory ran out, and reads no file.
-abbrev pub IsStartOf : ToldArguments → Told → ℕ → ℕ → Run → Type 0
+abbrev pub IsStartOf : ToldArguments → Told → Names → Names → Run → Type 0
 IsStartOf arguments told old new run =
     ((words : List (List ℕ)) × AreTexts arguments words × IsRunWith told words old new run)
     ⊎ ((HaveNoText arguments × IsSaidUnread usage old new run)

@@ -1,6 +1,6 @@
 -- What a store tells of a file, and what a read of it answers.
-use Rattle.std.specs.Prelude.{◌≡◌, ℕ, ◌+◌, ◌<◌, ◌≤◌, List, length, slice_index_or, Option, None}
-use Rattle.std.specs.Prelude.{Some, Result, Ok, Err, Vec, ◌++◌, codes}
+use Rattle.std.specs.Prelude.{◌≡◌, ℕ, ◌+◌, ◌<◌, List, ◌++◌, take, length, slice_index_or, codes}
+use Rattle.std.specs.Prelude.{Option, None, Some, Result, Ok, Err, Vec}
 use Rattle.std.specs.declared.alloc.Global.{Global}
 use Rattle.rpki_command.specs.Answer.{memory_text}
 use Rattle.rpki_command.specs.declared.store.StoreError.{StoreError}
@@ -19,6 +19,10 @@ IsRead (Some None) (Err Unreadable) = Unit {0}
 IsRead (Some (Some file)) (Ok octets) = octets.items ≡ file
 IsRead (Some (Some file)) (Err Unreadable) = ⊥
 
+-- Names of files, in an order.
+abbrev pub Names : Type 0
+Names = List (List ℕ)
+
 -- What a store tells of each file, by its name.
 abbrev pub Told : Type 0
 Told = List ℕ → Option (Option (List ℕ))
@@ -28,36 +32,35 @@ abbrev pub AreReadTo : Told → List (List ℕ) → ℕ → List (Vec ℕ Global
 AreReadTo told names n files = (k : ℕ) (d : List ℕ) (e : Vec ℕ Global) → k < n
     → IsRead (told (slice_index_or names k d)) (Ok (slice_index_or files k e))
 
--- Each file is read, and the store once for each.
-pub record AreAllRead (told : Told) (names : List (List ℕ)) (old new : ℕ)
-    (files : List (Vec ℕ Global)) : Type 0 where
+-- Each file is read, in the order of the names, once, and no other. What a store was asked for is
+-- told by names: by those before, `old`, and after, `new`.
+pub record AreAllRead (told : Told) (names old new : Names) (files : List (Vec ℕ Global))
+    : Type 0 where
   pub count : length files ≡ length names
   pub each : AreReadTo told names (length names) files
-  pub reads : new ≡ old + length names
+  pub reads : new ≡ old ++ names
 
--- The first file that can't be read: those before it are not told to be such. The store is read
--- once for each of these and once for it, and never after it.
-pub record IsFirstUnreadable (told : Told) (names : List (List ℕ)) (old new : ℕ) (name : List ℕ)
-    : Type 0 where
+-- The first file that can't be read: those before it are not told to be such. The files up to it
+-- are read, in the order of the names, each once, and no other.
+pub record IsFirstUnreadable (told : Told) (names old new : Names) (name : List ℕ) : Type 0 where
   pub place : ℕ
   pub there : place < length names
   pub named : (d : List ℕ) → slice_index_or names place d ≡ name
   pub unreadable : IsRead (told name) (Err Unreadable)
   pub before : (k : ℕ) (d : List ℕ) → k < place → told (slice_index_or names k d) ≡ Some None → ⊥
-  pub reads : new ≡ old + (place + 1)
+  pub reads : new ≡ old ++ take (place + 1) names
 
--- Where memory runs out, the store was read at least once, at most once for each name, and never
--- after a file that is told to be unreadable. A read after one that has answered that memory ran
--- out is not seen: a count does not tell of which file a read was.
-pub record AreSomeRead (told : Told) (names : List (List ℕ)) (old new : ℕ) : Type 0 where
-  pub some : old + 1 ≤ new
-  pub most : new ≤ old + length names
-  pub before : (k : ℕ) (d : List ℕ) → old + (k + 1) < new
-      → told (slice_index_or names k d) ≡ Some None → ⊥
+-- Where memory runs out, the files up to one of them are read, in the order of the names, each
+-- once, and no other; those before it are not told to be unreadable.
+pub record AreSomeRead (told : Told) (names old new : Names) : Type 0 where
+  pub place : ℕ
+  pub there : place < length names
+  pub before : (k : ℕ) (d : List ℕ) → k < place → told (slice_index_or names k d) ≡ Some None → ⊥
+  pub reads : new ≡ old ++ take (place + 1) names
 
 -- What a read of several files answers: all of them, or the first that can't be read, or want of
--- memory; and how often the store, which was read so often before, is read for it.
-abbrev pub AreRead : Told → List (List ℕ) → ℕ → ℕ → Result (Vec (Vec ℕ Global) Global) Unread
+-- memory; and which files are read for it.
+abbrev pub AreRead : Told → Names → Names → Names → Result (Vec (Vec ℕ Global) Global) Unread
     → Type 0
 AreRead told names old new (Ok files) = AreAllRead told names old new files.items
 AreRead told names old new (Err (unread.Unreadable name)) =

@@ -34,13 +34,13 @@ pub fn names_are_printed()
 /// files tells nothing: the program is the same for every store, and these are the laws of those
 /// that tell.
 pub fn checks_are_right()
-    ensures yes { (told : Told) (words : List (List ℕ)) (before after : ℕ) (run : Run)
+    ensures yes { (told : Told) (words : List (List ℕ)) (before after : List (List ℕ)) (run : Run)
         (options : Options) (kind : Kind) (now : Moment) (names files : FilesOfCheck)
         → IsRunOf told words before after run
         → IsAsked words (check_order options kind now names)
         → AreTold told (in_order names) (in_order files)
         → run.status ≡ 0 → IsRightYes options kind now files run }
-    ensures no { (told : Told) (words : List (List ℕ)) (before after : ℕ) (run : Run)
+    ensures no { (told : Told) (words : List (List ℕ)) (before after : List (List ℕ)) (run : Run)
         (options : Options) (kind : Kind) (now : Moment) (names files : FilesOfCheck)
         → IsRunOf told words before after run
         → IsAsked words (check_order options kind now names)

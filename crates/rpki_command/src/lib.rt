@@ -14,6 +14,7 @@ mod objects;
 mod program;
 mod store;
 mod texts;
+mod trace;
 pub mod words;
 
 pub use arguments::{Arguments, ProcessArguments, WordsError, words_of};
@@ -21,3 +22,4 @@ pub use check::check_with;
 pub use entry::{run, start, texts_of};
 pub use program::{answer_order, command};
 pub use store::{Disk, Store, StoreError, Unread, read_all};
+pub use trace::Trace;

@@ -1,6 +1,6 @@
 //! The program as a function.
 
-ghost use Rattle.std.specs.Prelude.{◌≡◌, ◌+◌, ◌≤◌, length, IfOk};
+ghost use Rattle.std.specs.Prelude.{◌≡◌, ◌≤◌, ◌∷◌, ◌++◌, [], length, IfOk};
 ghost use Rattle.rpki_command.specs.Answer.{run_of, said};
 ghost use Rattle.rpki_command.specs.Check.{CheckOf};
 ghost use Rattle.rpki_command.specs.Command.{order_task, HasRead, IsTaskAnswer};
@@ -101,7 +101,7 @@ fn show_file<'a, S: Store>(
 ) -> Answer<'a>
     ensures said { IsOfFile (S.told store.old) file.now (IsShown (LinesOf options kind))
         (said result) }
-    ensures reads { S.reads store.new ≡ S.reads store.old + 1 }
+    ensures reads { S.reads store.new ≡ S.reads store.old ++ file.now ∷ [] }
     ensures same { S.told store.new ≡ S.told store.old }
 {
     match store.read(alloc, file) {
@@ -120,7 +120,7 @@ fn show_signed<'a, S: Store>(
 ) -> Answer<'a>
     ensures said { IsOfFile (S.told store.old) object.now (IsShown (ObjectLinesOf options kind))
         (said result) }
-    ensures reads { S.reads store.new ≡ S.reads store.old + 1 }
+    ensures reads { S.reads store.new ≡ S.reads store.old ++ object.now ∷ [] }
     ensures same { S.told store.new ≡ S.told store.old }
 {
     match store.read(alloc, object) {
@@ -132,7 +132,7 @@ fn show_signed<'a, S: Store>(
 /// Answers with the lines of the trust anchor locator that the file of this name is, if it is one.
 fn show_locator<'a, S: Store>(alloc: Global, name: &'a str, store: &mut S) -> Answer<'a>
     ensures said { IsOfFile (S.told store.old) name.now (IsShown TalLines) (said result) }
-    ensures reads { S.reads store.new ≡ S.reads store.old + 1 }
+    ensures reads { S.reads store.new ≡ S.reads store.old ++ name.now ∷ [] }
     ensures same { S.told store.new ≡ S.told store.old }
 {
     match store.read(alloc, name) {

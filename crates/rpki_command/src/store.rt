@@ -1,11 +1,11 @@
 //! Where the program's files come from.
 
-ghost use Rattle.std.specs.Prelude.{◌≡◌, ◌+◌, ℕ, List, Option, None, Some};
+ghost use Rattle.std.specs.Prelude.{◌≡◌, ◌∷◌, ◌++◌, ℕ, List, [], Option, None, Some};
 ghost use Rattle.rpki_command.specs.Store.{IsRead, AreRead, store_error_text, unread_text};
 ghost use Rattle.rpki_command.specs.Words.{texts};
 
 use crate::answer::OUT_OF_MEMORY;
-use rpki_der::Count;
+use crate::trace::Trace;
 use std::alloc::Global;
 use std::error::Error;
 use std::marker::Model;
@@ -42,14 +42,14 @@ pub trait Store {
     // What it tells of the file of a name: nothing, or that it can't be read, or its octets.
     ghost told: { Self → List ℕ → Option (Option (List ℕ)) };
 
-    // How often it was read.
-    ghost reads: { Self → ℕ };
+    // The names of the files that it was asked for, in their order.
+    ghost reads: { Self → List (List ℕ) };
 
     /// The octets of the file with this name, or that it can't be read, or that memory ran out.
     fn read(&mut self, alloc: Global, name: &str) -> Result<Vec<u8>, StoreError>
         ensures answer { IsRead (told self.old name.now) result }
         ensures same { told self.new ≡ told self.old }
-        ensures counted { reads self.new ≡ reads self.old + 1 };
+        ensures noted { reads self.new ≡ reads self.old ++ name.now ∷ [] };
 }
 
 /// Why several files were not read.
@@ -76,8 +76,7 @@ impl Error for Unread<'_> {}
 
 /// The octets of the files with these names, which are read in their order, once each. The first
 /// that can't be read is answered by its name, and none is read after it. Where memory runs out,
-/// the answer is `Memory`; contracts count the reads, and do not tell of which file the read was
-/// that memory did not suffice for.
+/// the answer is `Memory`, and only the first of the files were read, in their order.
 pub fn read_all<'a, S: Store>(
     alloc: Global,
     names: &[&'a str],
@@ -106,26 +105,26 @@ pub fn read_all<'a, S: Store>(
 #[derive(Drop)]
 pub struct Disk<'a, R> {
     runtime: &'a R,
-    reads: Count,
+    reads: Trace,
 }
 
 impl<'a, R> Model for Disk<'a, R> {
-    ghost use Rattle.std.specs.Prelude.{ℕ};
+    ghost use Rattle.std.specs.Prelude.{ℕ, List};
 
-    // How often they were read.
-    ghost Value = { ℕ };
+    // The names of those that were asked for, in their order.
+    ghost Value = { List (List ℕ) };
 
-    ghost view = { λ d. d.reads.number };
+    ghost view = { λ d. d.reads.names };
 }
 
 impl<'a, R> Disk<'a, R> {
     /// The files that this runtime reaches. They have not been read yet.
     pub fn new(runtime: &'a R) -> Disk<'a, R>
-        ensures { result ≡ 0 }
+        ensures { result ≡ [] }
     {
         Disk {
             runtime,
-            reads: Count::zero(),
+            reads: Trace::empty(),
         }
     }
 }
@@ -136,7 +135,7 @@ impl<R: Files + AllocGlobal> Store for Disk<'_, R> {
     ghost reads = { λ d. d };
 
     fn read(&mut self, _alloc: Global, name: &str) -> Result<Vec<u8>, StoreError> {
-        self.reads = self.reads.next();
+        self.reads = self.reads.and(name);
         match fs::read(self.runtime, name) {
             Ok(octets) => Ok(octets),
             Err(e) => Err(match e.kind() {

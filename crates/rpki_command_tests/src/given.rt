@@ -4,15 +4,14 @@ ghost use Rattle.std.specs.Prelude.{◌≡◌, MatchOption, bytes_eq, None, Some
 ghost use Rattle.std.specs.Map.{lookup};
 ghost use Rattle.rpki_command_tests.specs.Given.{by_name};
 
-use rpki_command::{Store, StoreError};
-use rpki_der::Count;
+use rpki_command::{Store, StoreError, Trace};
 use std::alloc::Global;
 
 /// A store with these files by name, and one that memory is not enough for, `large`.
 #[derive(Drop)]
 pub struct Files<'a> {
     files: &'a [(&'a str, &'a [u8])],
-    reads: Count,
+    reads: Trace,
     calls: usize,
 }
 
@@ -21,7 +20,7 @@ impl<'a> Files<'a> {
     pub fn new(files: &'a [(&'a str, &'a [u8])]) -> Files<'a> {
         Files {
             files,
-            reads: Count::zero(),
+            reads: Trace::empty(),
             calls: 0,
         }
     }
@@ -35,10 +34,10 @@ impl<'a> Files<'a> {
 impl Store for Files<'_> {
     ghost told = { λ s name. Some (lookup (bytes_eq name) (by_name s.files.now)) };
 
-    ghost reads = { λ s. s.reads.number };
+    ghost reads = { λ s. s.reads.names };
 
     fn read(&mut self, alloc: Global, name: &str) -> Result<Vec<u8>, StoreError> {
-        self.reads = self.reads.next();
+        self.reads = self.reads.and(name);
         self.calls = self.calls.saturating_add(1);
         if name == "large" {
             return Err(StoreError::Memory);

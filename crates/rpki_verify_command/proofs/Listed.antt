@@ -12,7 +12,7 @@ use Rattle.rpki_command.specs.Answer.{Run, Said, IsSaid, out_of_memory, malforme
 use Rattle.rpki_command.specs.Answer.{shown}
 use Rattle.rpki_command.specs.Command.{AreTold, ChecksFiles}
 use Rattle.rpki_command.specs.Options.{read_mode}
-use Rattle.rpki_command.specs.Store.{Told}
+use Rattle.rpki_command.specs.Store.{Told, Names}
 use Rattle.rpki_command.specs.declared.words.Options.{Options}
 use Rattle.rpki_command.proofs.Right.{status_of, status-said, other-status, whole-lines}
 use Rattle.rpki_command.proofs.Running.{said-as}
@@ -69,7 +69,7 @@ module _ (s : Said) (options : Options) (files : FilesOfCheck) where
   no-list-of one (inr (inr (inr t))) =
       absurd (other-status s (shown t.0) 1 one t.2 (λ (n : 0 ≡ 1). omega (arith, n)))
 
-module _ (told : Told) (clock : Option Moment) (words : List (List ℕ)) (old new : ℕ) (run : Run)
+module _ (told : Told) (clock : Option Moment) (words : List (List ℕ)) (old new : Names) (run : Run)
     (options : Options) (names files : FilesOfCheck)
     (is : IsRunOf told clock words old new run)
     (asked : IsAsked words (list_request options names))

@@ -10,7 +10,7 @@ use Rattle.rpki_rsa.specs.Signature.{is_rsa_signature}
 use Rattle.rpki_command.specs.Answer.{Run, Said, IsSaid, out_of_memory}
 use Rattle.rpki_command.specs.Check.{CheckedUnder, IsSaidUnder, issuer_refusal}
 use Rattle.rpki_command.specs.Command.{AreTold, ChecksFiles}
-use Rattle.rpki_command.specs.Store.{Told}
+use Rattle.rpki_command.specs.Store.{Told, Names}
 use Rattle.rpki_command.specs.declared.words.Kind.{Kind}
 use Rattle.rpki_command.specs.declared.words.Options.{Options}
 use Rattle.rpki_command.proofs.Right.{status_of, status-said, other-status, issuer-is-none}
@@ -58,7 +58,7 @@ module _ (s : Said) (options : Options) (kind : Kind) (now : Moment) (files : Fi
         (λ (n : 3 ≡ 1). omega (arith, n));
   })
 
-module _ (told : Told) (clock : Option Moment) (words : List (List ℕ)) (old new : ℕ) (run : Run)
+module _ (told : Told) (clock : Option Moment) (words : List (List ℕ)) (old new : Names) (run : Run)
     (options : Options) (kind : Kind) (moment : When) (now : Moment) (names files : FilesOfCheck)
     (is : IsRunOf told clock words old new run)
     (asked : IsAsked words (check_request options kind moment names))

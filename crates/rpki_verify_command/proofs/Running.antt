@@ -5,7 +5,7 @@ use Rattle.rpki_basics.specs.Moment.{Moment}
 use Rattle.rpki_command.specs.Answer.{Run, Said, IsSaid, out_of_memory}
 use Rattle.rpki_command.specs.Arguments.{ToldArguments, AreTexts}
 use Rattle.rpki_command.specs.Command.{IsSaidUnread}
-use Rattle.rpki_command.specs.Store.{Told}
+use Rattle.rpki_command.specs.Store.{Told, Names}
 use Rattle.rpki_command.proofs.Running.{said-as, task-done}
 use Rattle.rpki_verify_command.specs.Command.{Deed, Say, Do, request_deed, IsDeedAnswer}
 use Rattle.rpki_verify_command.specs.Command.{IsDeedDone, HasReadFor, IsAnswer, IsRunOf, IsRunWith}
@@ -15,7 +15,7 @@ use Rattle.rpki_verify_command.specs.Words.{IsAsked, AskForNothing}
 use Rattle.rpki_verify_command.specs.declared.words.Request.{Request}
 use Rattle.rpki_verify_command.proofs.Requests.{asked-once}
 
-module _ (told : Told) (clock : Option Moment) (old new : ℕ) (s : Said) (run : Run)
+module _ (told : Told) (clock : Option Moment) (old new : Names) (s : Said) (run : Run)
     (h : IsSaid s run) where
   deed-done : (deed : Deed) → IsDeedAnswer told deed old new s → IsDeedDone told deed old new run
   deed-done (Say x) a = said-as s x run a h
@@ -43,7 +43,7 @@ module _ (told : Told) (clock : Option Moment) (old new : ℕ) (s : Said) (run :
   }
 
 -- reads of a request that is asked are those of what the words ask for
-pub read-once : (clock : Option Moment) (words : List (List ℕ)) (r : Request) (old new : ℕ)
+pub read-once : (clock : Option Moment) (words : List (List ℕ)) (r : Request) (old new : Names)
     → IsAsked words r → HasReadFor (request_deed clock r) old new → HaveRead clock words old new
 read-once clock words r old new asked has = record {
   wrong = λ nothing. absurd (nothing r asked);
@@ -53,7 +53,7 @@ read-once clock words r old new asked has = record {
 
 -- the words follow, and are run unless memory runs out
 pub of-words : (arguments : ToldArguments) (told : Told) (clock : Option Moment)
-    (words : List (List ℕ)) (old new : ℕ) (run : Run) → AreTexts arguments words
+    (words : List (List ℕ)) (old new : Names) (run : Run) → AreTexts arguments words
     → IsSaidUnread out_of_memory old new run ⊎ IsRunWith told clock words old new run
     → IsStartOf arguments told clock old new run
 of-words arguments told clock words old new run f (inl h) = inr (inr h)

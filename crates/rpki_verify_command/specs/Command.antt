@@ -5,7 +5,7 @@ use Rattle.rpki_command.specs.Answer.{Run, Said, IsSaid, out_of_memory}
 use Rattle.rpki_command.specs.Arguments.{ToldArguments, AreTexts, HaveNoText}
 use Rattle.rpki_command.specs.Command.{Task, CheckFiles, command_task, IsTaskAnswer, HasRead}
 use Rattle.rpki_command.specs.Command.{IsTaskDone, IsSaidUnread}
-use Rattle.rpki_command.specs.Store.{Told}
+use Rattle.rpki_command.specs.Store.{Told, Names}
 use Rattle.rpki_command.specs.declared.words.Options.{Options}
 use Rattle.rpki_verify_command.specs.Check.{VerifiedOf, ListedOf}
 use Rattle.rpki_verify_command.specs.Reply.{help, wrong_words, no_moment}
@@ -42,31 +42,31 @@ action_deed clock options (Verdicts file anchor chain) =
 abbrev pub request_deed : Option Moment → Request → Deed
 request_deed clock r = action_deed clock r.options r.action
 
--- what is said for a deed, where the store was read so often before and after it
-abbrev pub IsDeedAnswer : Told → Deed → ℕ → ℕ → Said → Type 0
+-- what is said for a deed, where the store was asked for these names before and after it
+abbrev pub IsDeedAnswer : Told → Deed → Names → Names → Said → Type 0
 IsDeedAnswer told (Say x) old new s = s ≡ x
 IsDeedAnswer told (Do task) old new s = IsTaskAnswer told task old new s
 
--- how often a store was read before and after a deed
-abbrev pub HasReadFor : Deed → ℕ → ℕ → Type 0
+-- which files a deed reads, by the names that the store was asked for before and after it
+abbrev pub HasReadFor : Deed → Names → Names → Type 0
 HasReadFor (Say x) old new = new ≡ old
 HasReadFor (Do task) old new = HasRead task old new
 
 -- the run does a deed
-abbrev pub IsDeedDone : Told → Deed → ℕ → ℕ → Run → Type 0
+abbrev pub IsDeedDone : Told → Deed → Names → Names → Run → Type 0
 IsDeedDone told (Say x) old new run = IsSaid x run
 IsDeedDone told (Do task) old new run = IsTaskDone told task old new run
 
 -- What is said for the request that the words make, or that they are wrong where they make none,
--- where the store was read so often before and after it.
-abbrev pub IsAnswer : Told → Option Moment → List (List ℕ) → ℕ → ℕ → Said → Type 0
+-- where the store was asked for these names before and after it.
+abbrev pub IsAnswer : Told → Option Moment → List (List ℕ) → Names → Names → Said → Type 0
 IsAnswer told clock words old new s =
     ((r : Request) × IsAsked words r × IsDeedAnswer told (request_deed clock r) old new s)
     ⊎ (AskForNothing words × (s ≡ wrong_words))
 
 -- What a run of the program does, where the store tells this of each file by its name, the clock
--- tells this moment, or none, and the store was read so often before and after it.
-pub record IsRunOf (told : Told) (clock : Option Moment) (words : List (List ℕ)) (old new : ℕ)
+-- tells this moment, or none, and the store was asked for these names before and after it.
+pub record IsRunOf (told : Told) (clock : Option Moment) (words : List (List ℕ)) (old new : Names)
     (run : Run) : Type 0 where
   -- words that ask for nothing
   pub wrong : AskForNothing words → IsSaid wrong_words run
@@ -76,22 +76,23 @@ pub record IsRunOf (told : Told) (clock : Option Moment) (words : List (List ℕ
   -- whatever the store tells, one answer is said
   pub answered : (s : Said) × IsAnswer told clock words old new s × IsSaid s run
 
--- How often a store was read before and after a run: not at all for words that ask for nothing, and
--- for others as often as their deed reads.
-pub record HaveRead (clock : Option Moment) (words : List (List ℕ)) (old new : ℕ) : Type 0 where
+-- Which files a run reads, by the names that the store was asked for before and after it: none for
+-- words that ask for nothing, and for others those that their deed reads.
+pub record HaveRead (clock : Option Moment) (words : List (List ℕ)) (old new : Names)
+    : Type 0 where
   pub wrong : AskForNothing words → new ≡ old
   pub done : (r : Request) → IsAsked words r → HasReadFor (request_deed clock r) old new
 
 -- the words are run, with the reads that they ask for
-pub record IsRunWith (told : Told) (clock : Option Moment) (words : List (List ℕ)) (old new : ℕ)
-    (run : Run) : Type 0 where
+pub record IsRunWith (told : Told) (clock : Option Moment) (words : List (List ℕ))
+    (old new : Names) (run : Run) : Type 0 where
   pub done : IsRunOf told clock words old new run
   pub reads : HaveRead clock words old new
 
 -- What the start of a program does: it runs the words after the program's name, unless one of them
 -- is no text (UTF-8) or memory runs out; then it says that the words are wrong, or that memory ran
 -- out, and reads no file.
-abbrev pub IsStartOf : ToldArguments → Told → Option Moment → ℕ → ℕ → Run → Type 0
+abbrev pub IsStartOf : ToldArguments → Told → Option Moment → Names → Names → Run → Type 0
 IsStartOf arguments told clock old new run =
     ((words : List (List ℕ)) × AreTexts arguments words
     × IsRunWith told clock words old new run)

@@ -49,14 +49,14 @@ pub fn words_ask_for_one_thing()
 /// program is the same for every store, and these are the laws of those that tell.
 pub fn checks_are_right()
     ensures yes { (told : Told) (clock : Option Moment) (words : List (List ℕ))
-        (before after : ℕ) (run : Run) (options : Options) (kind : Kind) (moment : When)
+        (before after : List (List ℕ)) (run : Run) (options : Options) (kind : Kind) (moment : When)
         (now : Moment) (names files : FilesOfCheck)
         → IsRunOf told clock words before after run
         → IsAsked words (check_request options kind moment names)
         → moment_at clock moment ≡ Some now → AreTold told (in_order names) (in_order files)
         → run.status ≡ 0 → IsRightYes options kind now files run }
     ensures no { (told : Told) (clock : Option Moment) (words : List (List ℕ))
-        (before after : ℕ) (run : Run) (options : Options) (kind : Kind) (moment : When)
+        (before after : List (List ℕ)) (run : Run) (options : Options) (kind : Kind) (moment : When)
         (now : Moment) (names files : FilesOfCheck)
         → IsRunOf told clock words before after run
         → IsAsked words (check_request options kind moment names)
@@ -69,13 +69,13 @@ pub fn checks_are_right()
 /// all files of certificates begin with one, or FILE begins with no signed object.
 pub fn lists_are_right()
     ensures yes { (told : Told) (clock : Option Moment) (words : List (List ℕ))
-        (before after : ℕ) (run : Run) (options : Options) (names files : FilesOfCheck)
+        (before after : List (List ℕ)) (run : Run) (options : Options) (names files : FilesOfCheck)
         → IsRunOf told clock words before after run
         → IsAsked words (list_request options names)
         → AreTold told (in_order names) (in_order files)
         → run.status ≡ 0 → IsRightList options files run }
     ensures no { (told : Told) (clock : Option Moment) (words : List (List ℕ))
-        (before after : ℕ) (run : Run) (options : Options) (names files : FilesOfCheck)
+        (before after : List (List ℕ)) (run : Run) (options : Options) (names files : FilesOfCheck)
         → IsRunOf told clock words before after run
         → IsAsked words (list_request options names)
         → AreTold told (in_order names) (in_order files)

@@ -1,6 +1,17 @@
-use Rattle.std.proofs.Common.{arith}
-use Rattle.rpki_command.proofs.Reading.{first-unreadable, some-read}
+use Rattle.std.proofs.Common.{rules, arith}
+use Rattle.std.proofs.lemmas.Grind.{common_steps}
+use Rattle.rpki_command.proofs.Reading.{one-more, first-unreadable, some-read}
 use Rattle.rpki_command.proofs.store.read_all.Goals as goal
+
+pub loop-name-preserved : goal.loop-name-preserved
+loop-name-preserved g c =
+    let i = c.loop-name.invariant in (
+      search rules,
+      one-more c.args.names.now c.loop-name.name-index _ _ _ _ c.loop-name-test.true i.1
+          c.in-Ok.ensures.noted,
+      search rules,
+      grind (arith, common_steps),
+    )
 
 pub returns-then-is_err-clause-answer : goal.returns-then-is_err-clause-answer
 returns-then-is_err-clause-answer g c =
@@ -8,7 +19,8 @@ returns-then-is_err-clause-answer g c =
     some-read (g.S.Store.told c.args.store.now) c.args.names.now c.loop-name.name-index
     c.loop-name.files.items _ _
     c.loop-name-test.true i.2 i.3
-    (omega (arith, i.1, c.in-Ok.ensures.counted))
+    (one-more c.args.names.now c.loop-name.name-index _ _ _ _ c.loop-name-test.true i.1
+    c.in-Ok.ensures.noted)
 
 pub returns-in-Err-Unreadable-clause-answer : goal.returns-in-Err-Unreadable-clause-answer
 returns-in-Err-Unreadable-clause-answer g c =
@@ -19,7 +31,8 @@ returns-in-Err-Unreadable-clause-answer g c =
     c.loop-name.files.items _ _
     c.loop-name-test.true i.2 i.3 i.0 c.in-Err-Unreadable.field-0-is
     c.in-Err-Unreadable.ensures.answer
-    (omega (arith, i.1, c.in-Err-Unreadable.ensures.counted))
+    (one-more c.args.names.now c.loop-name.name-index _ _ _ _ c.loop-name-test.true i.1
+    c.in-Err-Unreadable.ensures.noted)
 
 pub returns-in-Err-Memory-clause-answer : goal.returns-in-Err-Memory-clause-answer
 returns-in-Err-Memory-clause-answer g c =
@@ -27,4 +40,5 @@ returns-in-Err-Memory-clause-answer g c =
     some-read (g.S.Store.told c.args.store.now) c.args.names.now c.loop-name.name-index
     c.loop-name.files.items _ _
     c.loop-name-test.true i.2 i.3
-    (omega (arith, i.1, c.in-Err-Memory.ensures.counted))
+    (one-more c.args.names.now c.loop-name.name-index _ _ _ _ c.loop-name-test.true i.1
+    c.in-Err-Memory.ensures.noted)

@@ -1,4 +1,4 @@
-use Rattle.std.proofs.Common.{◌≡◌, ◌+◌, length}
+use Rattle.std.proofs.Common.{◌≡◌, ◌++◌, take, length}
 use Rattle.rpki_command.specs.Store.{AreReadTo}
 use Rattle.rpki_command.specs.Words.{texts}
 use Rattle.rpki_command.proofs.store.read_all.Given as goal
@@ -7,6 +7,6 @@ use Rattle.rpki_command.proofs.store.read_all.Given as goal
 abbrev pub invariant-loop-name : goal.invariant-loop-name
 invariant-loop-name g l =
     (g.S.Store.told l.store ≡ g.S.Store.told l.fn.store)
-    × (g.S.Store.reads l.store ≡ g.S.Store.reads l.fn.store + l.name-index)
+    × (g.S.Store.reads l.store ≡ g.S.Store.reads l.fn.store ++ take l.name-index (texts l.names))
     × (length l.files.items ≡ l.name-index)
     × AreReadTo (g.S.Store.told l.fn.store) (texts l.names) l.name-index l.files.items
