@@ -1,6 +1,6 @@
 //! Whether certificates fit the profile (RFC 6487, section 4).
 
-ghost use Rattle.std.specs.Prelude.{◌↔◌, ◌++◌, IsTrue};
+ghost use Rattle.std.specs.Prelude.{◌↔◌, IsTrue};
 ghost use Rattle.rpki_faults.specs.Checks.{AnswersFirstFault};
 ghost use Rattle.rpki_certs.specs.Inspect.{NamesNothing, Inherits, subject_checks, issued_checks};
 ghost use Rattle.rpki_certs.specs.Inspect.{authority_checks, anchor_checks, entity_checks};

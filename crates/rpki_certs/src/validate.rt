@@ -1,6 +1,6 @@
 //! The validation of certificates.
 
-ghost use Rattle.std.specs.Prelude.{◌≡◌, ◌++◌, []};
+ghost use Rattle.std.specs.Prelude.{◌≡◌, []};
 ghost use Rattle.rpki_resources.specs.declared.resources.Claim.TheVariants.{Inherit};
 ghost use Rattle.rpki_resources.specs.Claim.{HasBlocks};
 ghost use Rattle.rpki_faults.specs.Checks.{AnswersFirstFault, AnswersFirstOr};
@@ -8,8 +8,7 @@ ghost use Rattle.rpki_faults.specs.declared.validation.ValidationError.TheVarian
 ghost use Rattle.rpki_certs.specs.Inspect.{Inherits};
 ghost use Rattle.rpki_certs.specs.Validate.{AreClaimed, AreValidated, covering_checks};
 ghost use Rattle.rpki_certs.specs.Validate.{issuing_checks, issued_validation, ta_validation};
-ghost use Rattle.rpki_certs.specs.Validate.{ca_validation, ee_validation};
-ghost use Rattle.rpki_certs.specs.Validate.{detached_ee_validation};
+ghost use Rattle.rpki_certs.specs.Validate.{ca_validation, ee_validation, detached_ee_validation};
 ghost use Rattle.rpki_certs.specs.Validate.{IsAnchorOf, IsValidatedUnder};
 
 use crate::cert::Cert;

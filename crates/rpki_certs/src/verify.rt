@@ -1,6 +1,5 @@
 //! Whether certificates are good under their issuer, at a moment.
 
-ghost use Rattle.std.specs.Prelude.{◌++◌};
 ghost use Rattle.rpki_faults.specs.Checks.{AnswersFirstFault};
 ghost use Rattle.rpki_certs.specs.Verify.{claim_checks, validity_checks, signature_checks};
 ghost use Rattle.rpki_certs.specs.Verify.{ta_ref_checks};

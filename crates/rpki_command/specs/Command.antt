@@ -67,35 +67,36 @@ IsOfReads P (Ok files) s = P (octets_of files.items) s
 IsOfReads P (Err (reads.Unreadable name)) s = s ≡ cannot_read name.now
 IsOfReads P (Err reads.Memory) s = s ≡ out_of_memory
 
--- What is said of files in a store that tells this, and that was asked for these names before and
--- after it: the files are read in their order, each once, up to the first that can't be read, and
--- no more. Where memory runs out before the first of them is read, none is.
+-- What is said of files in a store that tells this: they are read in their order, each once, up to
+-- the first that can't be read or at which memory runs out, and no more. Memory may also run out
+-- before the first of them is read; then none is.
 abbrev pub IsOfFiles : Told → Names → (List (List ℕ) → Said → Type 0) → Names → Names → Said
     → Type 0
-IsOfFiles told names P old new s =
+IsOfFiles told files P old new s =
     ((s ≡ out_of_memory) × (new ≡ old))
     ⊎ ((read : Result (Vec (Vec ℕ Global) Global) Unread)
-    × AreRead told names old new read × IsOfReads P read s)
+    × AreRead told files old new read × IsOfReads P read s)
 
--- what is said for a task, where the store was asked for these names before and after it
+-- What is said for a task; for a check of files, together with which of them are read for that.
+-- Which file the others read is said by `HasRead`.
 abbrev pub IsTaskAnswer : Told → Task → Names → Names → Said → Type 0
 IsTaskAnswer told (ShowLines file lines_of) old new s = IsOfFile told file (IsShown lines_of) s
 IsTaskAnswer told (CheckFiles files P) old new s = IsOfFiles told files P old new s
 IsTaskAnswer told NotThere old new s = s ≡ usage
 
--- only the first of these files are read, if any, in their order, each once
+-- none, some or all of these files are read: those up to some place, in their order, each once
 pub record AreReadAtMost (files old new : Names) : Type 0 where
   pub many : ℕ
   pub reads : new ≡ old ++ take many files
 
--- which files a task reads, by the names that the store was asked for before and after it
+-- Which files a task reads. Of a check of files `IsTaskAnswer` says more: how many of them are read
+-- where this is said.
 abbrev pub HasRead : Task → Names → Names → Type 0
 HasRead (ShowLines file lines_of) old new = new ≡ old ++ file ∷ []
 HasRead (CheckFiles files P) old new = AreReadAtMost files old new
 HasRead NotThere old new = new ≡ old
 
--- What is said for the order that the words ask for, or the usage where they ask for none, where
--- the store was asked for these names before and after it.
+-- what is said for the order that the words ask for, or the usage where they ask for none
 abbrev pub IsAnswer : Told → List (List ℕ) → Names → Names → Said → Type 0
 IsAnswer told words old new s =
     ((o : Order) × IsAsked words o × IsTaskAnswer told (order_task o) old new s)
@@ -121,8 +122,7 @@ pub record Shows (told : Told) (file : List ℕ) (lines_of : List ℕ → List �
 abbrev pub AreTold : Told → List (List ℕ) → List (List ℕ) → Type 0
 AreTold told files octets = map told files ≡ map (λ o. Some (Some o)) octets
 
--- The run checks files, where the store tells them and was asked for these names before and after
--- it.
+-- The run checks files, where the store tells them.
 pub record ChecksFiles (told : Told) (files : Names) (P : List (List ℕ) → Said → Type 0)
     (old new : Names) (run : Run) : Type 0 where
   -- files that can be read: each is read once, and what is to be said of them is said
@@ -141,8 +141,7 @@ IsTaskDone told (ShowLines file lines_of) old new run = Shows told file lines_of
 IsTaskDone told (CheckFiles files P) old new run = ChecksFiles told files P old new run
 IsTaskDone told NotThere old new run = IsSaid usage run
 
--- What a run of the program does, where the store tells this of each file by its name, and was
--- asked for these names before and after it.
+-- What a run of the program does, where the store tells this of each file by its name.
 pub record IsRunOf (told : Told) (words : List (List ℕ)) (old new : Names) (run : Run)
     : Type 0 where
   -- words that ask for nothing
@@ -152,8 +151,8 @@ pub record IsRunOf (told : Told) (words : List (List ℕ)) (old new : Names) (ru
   -- whatever the store tells, one answer is said
   pub answered : (s : Said) × IsAnswer told words old new s × IsSaid s run
 
--- Which files a run reads, by the names that the store was asked for before and after it: none for
--- words that ask for nothing, and for others those that their task reads.
+-- Which files a run reads: none for words that ask for nothing, and for others those that their
+-- task reads.
 pub record HaveRead (words : List (List ℕ)) (old new : Names) : Type 0 where
   pub usage : AskForNothing words → new ≡ old
   pub done : (o : Order) → IsAsked words o → HasRead (order_task o) old new
@@ -169,8 +168,9 @@ pub record IsSaidUnread (s : Said) (old new : Names) (run : Run) : Type 0 where
   pub said : IsSaid s run
   pub reads : new ≡ old
 
--- What the start of a program does: it runs the words after the program's name; where one of them
--- is no text (UTF-8) it says the usage, or else that memory ran out, and reads no file.
+-- What the start of a program does: it runs the words after the program's name, unless one of them
+-- is no text (UTF-8) or memory runs out; then it says the usage, or that memory ran out, and reads
+-- no file.
 abbrev pub IsStartOf : ToldArguments → Told → Names → Names → Run → Type 0
 IsStartOf arguments told old new run =
     ((words : List (List ℕ)) × AreTexts arguments words × IsRunWith told words old new run)

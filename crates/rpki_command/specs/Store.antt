@@ -8,8 +8,9 @@ use Rattle.rpki_command.specs.declared.store.StoreError.TheVariants.{Unreadable,
 use Rattle.rpki_command.specs.declared.store.Unread.{Unread}
 use Rattle.rpki_command.specs.declared.store.Unread.TheVariants as unread
 
--- A read answers what is told, or that memory ran out. Told is nothing, or that the file can't be
--- read, or its octets.
+-- What a read of a file may answer, by what the store tells of it: its octets, that it can't be
+-- read, or nothing. The answer is what is told; where nothing is told, it is any; and it may always
+-- be that memory ran out.
 abbrev pub IsRead : Option (Option (List ℕ)) → Result (Vec ℕ Global) StoreError → Type 0
 IsRead told (Err Memory) = Unit {0}
 IsRead None (Ok octets) = Unit {0}
@@ -19,29 +20,31 @@ IsRead (Some None) (Err Unreadable) = Unit {0}
 IsRead (Some (Some file)) (Ok octets) = octets.items ≡ file
 IsRead (Some (Some file)) (Err Unreadable) = ⊥
 
--- Names of files, in an order.
+-- Names of files, in an order. As `old` and `new` they are those of all files that a store was ever
+-- asked for, in the order of asking, each as often as it was asked for: `old` where a call begins,
+-- and `new` where it has ended. So `new` is `old`, followed by what the call asked for.
 abbrev pub Names : Type 0
 Names = List (List ℕ)
 
--- What a store tells of each file, by its name.
+-- What a store tells of each file, by its name: its octets, that it can't be read, or nothing.
 abbrev pub Told : Type 0
 Told = List ℕ → Option (Option (List ℕ))
 
--- each of the first files is read
-abbrev pub AreReadTo : Told → List (List ℕ) → ℕ → List (Vec ℕ Global) → Type 0
+-- For each of the first `n` names, the octets at its place are an answer that a read of the file of
+-- this name may give.
+abbrev pub AreReadTo : Told → Names → ℕ → List (Vec ℕ Global) → Type 0
 AreReadTo told names n files = (k : ℕ) (d : List ℕ) (e : Vec ℕ Global) → k < n
     → IsRead (told (slice_index_or names k d)) (Ok (slice_index_or files k e))
 
--- Each file is read, in the order of the names, once, and no other. What a store was asked for is
--- told by names: by those before, `old`, and after, `new`.
+-- Each file is read, in the order of the names, once, and no other, and these are their octets.
 pub record AreAllRead (told : Told) (names old new : Names) (files : List (Vec ℕ Global))
     : Type 0 where
   pub count : length files ≡ length names
   pub each : AreReadTo told names (length names) files
   pub reads : new ≡ old ++ names
 
--- The first file that can't be read: those before it are not told to be such. The files up to it
--- are read, in the order of the names, each once, and no other.
+-- This name is that of the first file that can't be read: those before it are not told to be such.
+-- The files up to it are read, and it too, in the order of the names, each once, and no other.
 pub record IsFirstUnreadable (told : Told) (names old new : Names) (name : List ℕ) : Type 0 where
   pub place : ℕ
   pub there : place < length names
@@ -50,8 +53,8 @@ pub record IsFirstUnreadable (told : Told) (names old new : Names) (name : List 
   pub before : (k : ℕ) (d : List ℕ) → k < place → told (slice_index_or names k d) ≡ Some None → ⊥
   pub reads : new ≡ old ++ take (place + 1) names
 
--- Where memory runs out, the files up to one of them are read, in the order of the names, each
--- once, and no other; those before it are not told to be unreadable.
+-- Memory runs out at one of the files. Those up to it are read, and it too, in the order of the
+-- names, each once, and no other; those before it are not told to be unreadable.
 pub record AreSomeRead (told : Told) (names old new : Names) : Type 0 where
   pub place : ℕ
   pub there : place < length names

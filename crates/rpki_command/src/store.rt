@@ -42,7 +42,8 @@ pub trait Store {
     // What it tells of the file of a name: nothing, or that it can't be read, or its octets.
     ghost told: { Self → List ℕ → Option (Option (List ℕ)) };
 
-    // The names of the files that it was asked for, in their order.
+    // The names of the files that it was ever asked for, in the order of asking, each as often as
+    // it was asked for.
     ghost reads: { Self → List (List ℕ) };
 
     /// The octets of the file with this name, or that it can't be read, or that memory ran out.
@@ -76,7 +77,7 @@ impl Error for Unread<'_> {}
 
 /// The octets of the files with these names, which are read in their order, once each. The first
 /// that can't be read is answered by its name, and none is read after it. Where memory runs out,
-/// the answer is `Memory`, and only the first of the files were read, in their order.
+/// the answer is `Memory`, and the files up to one of them were read, this one too, in their order.
 pub fn read_all<'a, S: Store>(
     alloc: Global,
     names: &[&'a str],
@@ -111,14 +112,14 @@ pub struct Disk<'a, R> {
 impl<'a, R> Model for Disk<'a, R> {
     ghost use Rattle.std.specs.Prelude.{ℕ, List};
 
-    // The names of those that were asked for, in their order.
+    // The names of the files that were asked for, in the order of asking.
     ghost Value = { List (List ℕ) };
 
     ghost view = { λ d. d.reads.names };
 }
 
 impl<'a, R> Disk<'a, R> {
-    /// The files that this runtime reaches. They have not been read yet.
+    /// The files that this runtime reaches. It was asked for none yet.
     pub fn new(runtime: &'a R) -> Disk<'a, R>
         ensures { result ≡ [] }
     {

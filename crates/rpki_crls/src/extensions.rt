@@ -1,6 +1,5 @@
 //! What the extensions of a revocation list say.
 
-ghost use Rattle.std.specs.Prelude.{◌≡◌};
 ghost use Rattle.rpki_der.specs.Form.Decodes.{DecodesNext};
 ghost use Rattle.rpki_der.specs.Form.Keyed.{must};
 ghost use Rattle.rpki_der.specs.Form.Made.{front_of, partly};

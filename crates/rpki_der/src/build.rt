@@ -1,6 +1,6 @@
 //! Values put together from octets.
 
-ghost use Rattle.std.specs.Prelude.{◌≡◌, ◌<◌, ◌^◌, ◌⊎◌, ◌↔◌, length, IfOk, OnOk, IfErr, IsErrOf};
+ghost use Rattle.std.specs.Prelude.{◌≡◌, ◌<◌, ◌^◌, ◌⊎◌, length, IfOk, OnOk, IfErr, IsErrOf};
 ghost use Rattle.rpki_der.specs.Write.Written.{value_octets};
 
 use crate::encode::{Encode, EncodeError, Header, Raw};

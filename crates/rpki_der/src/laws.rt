@@ -3,8 +3,8 @@
 //! Each says of one kind of value that reading it is exact, that it is unique, that DER is a part
 //! of BER, and that one whole value that is refused alone is refused whatever octets follow it.
 
-ghost use Rattle.std.specs.Prelude.{◌≡◌, ◌↔◌, ◌<◌, ◌^◌, ◌++◌, ℕ, Bool, true, false, List, [], Some};
-ghost use Rattle.std.specs.Prelude.{None, Option, slice_index};
+ghost use Rattle.std.specs.Prelude.{◌≡◌, ◌↔◌, ◌<◌, ◌^◌, ℕ, Bool, true, false, List, [], Some};
+ghost use Rattle.std.specs.Prelude.{None, slice_index};
 ghost use Rattle.rpki_der.specs.Numbers.{MAX_DEPTH};
 ghost use Rattle.rpki_der.specs.Tags.{BOOLEAN, INTEGER, NULL, OBJECT_IDENTIFIER, IA5_STRING};
 ghost use Rattle.rpki_der.specs.Tags.{SEQUENCE};
@@ -12,7 +12,7 @@ ghost use Rattle.rpki_der.specs.declared.mode.Mode.TheVariants.{Der, Ber};
 ghost use Rattle.rpki_der.specs.declared.mode.Mode.{Mode};
 ghost use Rattle.rpki_der.specs.Read.Parse.{any_at, value_at, primitive, boolean_at};
 ghost use Rattle.rpki_der.specs.Read.Parse.{null_of, oid_at, these, bits_at, octets_in_bits_at};
-ghost use Rattle.rpki_der.specs.Read.Parse.{ia5_at, in_value, optional, many, is_next, skip_at};
+ghost use Rattle.rpki_der.specs.Read.Parse.{ia5_at, in_value, optional, many, skip_at};
 ghost use Rattle.rpki_der.specs.Read.Parse.{skip_opt_at, skip_all_at, at_end, octets_at, octets_of};
 ghost use Rattle.rpki_der.specs.Read.Parse.{u8_at, u32_at, u160_at, this, captured};
 ghost use Rattle.rpki_der.specs.Oid.{IsOid};
@@ -22,7 +22,7 @@ ghost use Rattle.rpki_der.specs.Grammar.{Value, IntegerBelow, Boolean, Null};
 ghost use Rattle.rpki_der.specs.Grammar.{ObjectIdentifier, BitString, OctetsInBits, Ia5String};
 ghost use Rattle.rpki_der.specs.Grammar.{Within, Skipped, ListOf, OctetString, OctetStringOf};
 ghost use Rattle.rpki_der.specs.Grammar.{Items, IsBytes};
-ghost use Rattle.rpki_der.specs.Read.Exact.{IsExact, IsReading, IsOptionalReading};
+ghost use Rattle.rpki_der.specs.Read.Exact.{IsReading, IsOptionalReading};
 
 pub mod decoders;
 pub mod forms;

@@ -3,7 +3,6 @@
 ghost use Rattle.std.specs.Prelude.{◌≡◌};
 ghost use Rattle.rpki_der.specs.Form.Decodes.{DecodesNext};
 ghost use Rattle.rpki_der.specs.Form.Made.{partly};
-ghost use Rattle.rpki_der.specs.Form.Parts.{sequence_at};
 ghost use Rattle.rpki_der.specs.Read.Parse.{oid_at};
 ghost use Rattle.rpki_der.specs.Read.Reads.{Reads, Stays};
 ghost use Rattle.rpki_extensions.specs.Policies.{PoliciesForm, overclaim_of, policy_fields_at};

@@ -1,6 +1,6 @@
 //! A stand-in for cryptography, for tests: it keeps no secret.
 
-ghost use Rattle.std.specs.Prelude.{◌≡◌, ◌++◌, ◌+◌, ◌%◌, ◌^◌, ℕ, List, IfOk};
+ghost use Rattle.std.specs.Prelude.{◌≡◌, ◌++◌, ◌+◌, ◌^◌, IfOk};
 ghost use Rattle.std.specs.Int.{w64, to_be_bytes};
 ghost use Rattle.sha2.specs.Sha256.{sha256};
 ghost use Rattle.rpki_keys.specs.StandIn.{IsStandInSignature, is_stand_in_signature};

@@ -15,7 +15,7 @@ pub struct EntryIter<E: SliceEntry> {
 }
 
 impl<E: SliceEntry> Model for EntryIter<E> {
-    ghost use Rattle.std.specs.Prelude.{ℕ, List};
+    ghost use Rattle.std.specs.Prelude.{List};
     ghost use Rattle.rpki_lists.specs.Entries.{HoldEntries, entries_of};
 
     ghost Value = { List E.Kind.Shown };

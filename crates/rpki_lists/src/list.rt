@@ -23,7 +23,7 @@ pub struct EntryList<K: Kind> {
 }
 
 impl<K: Kind> Model for EntryList<K> {
-    ghost use Rattle.std.specs.Prelude.{ℕ, List, length, ◌≡◌};
+    ghost use Rattle.std.specs.Prelude.{List, length, ◌≡◌};
     ghost use Rattle.rpki_lists.specs.Entries.{HoldEntries, entries_of};
 
     ghost Value = { List K.Shown };

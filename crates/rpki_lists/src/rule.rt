@@ -1,6 +1,6 @@
 //! Rules over the entries of a list, which are tested while the entries are counted.
 
-ghost use Rattle.std.specs.Prelude.{◌≡◌, ℕ, List, Option, Some, true};
+ghost use Rattle.std.specs.Prelude.{◌≡◌, List, Option, true};
 ghost use Rattle.rpki_der.specs.declared.mode.Mode.TheVariants.{Der};
 ghost use Rattle.rpki_der.specs.Read.Parse.{all_of, tested};
 ghost use Rattle.rpki_der.specs.Read.Reads.{Reads, Stays};

@@ -3,7 +3,7 @@
 ghost use Rattle.std.specs.Prelude.{◌≡◌, ◌↔◌, length, IsTrue};
 ghost use Rattle.rpki_der.specs.Tags.{INTEGER, OCTET_STRING, IA5_STRING, SEQUENCE};
 ghost use Rattle.rpki_der.specs.Read.Parse.{is_next, value_at, u8_at, u32_at, bits_at, bits_of};
-ghost use Rattle.rpki_der.specs.Read.Parse.{ia5_at, optional, Finds};
+ghost use Rattle.rpki_der.specs.Read.Parse.{ia5_at, optional};
 ghost use Rattle.rpki_lists.specs.Slice.{FindsFront, Keeps, Closes, seen};
 
 mod contents;

@@ -1,6 +1,6 @@
 //! What is kept of a path in one family.
 
-ghost use Rattle.std.specs.Prelude.{◌≡◌, ◌↔◌, ℕ, IsTrue, IfOk};
+ghost use Rattle.std.specs.Prelude.{◌↔◌, IsTrue, IfOk};
 ghost use Rattle.rpki_resources.specs.declared.resources.Claim.{Claim};
 ghost use Rattle.rpki_paths.specs.Sets.{CoversKept, IsClimbed, IsCut, IsRaised};
 

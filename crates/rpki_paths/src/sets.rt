@@ -1,6 +1,6 @@
 //! What is kept of a path in each family.
 
-ghost use Rattle.std.specs.Prelude.{◌≡◌, ℕ, None, IfOk, IfSome, IfNone};
+ghost use Rattle.std.specs.Prelude.{◌≡◌, None, IfOk, IfSome, IfNone};
 ghost use Rattle.rpki_paths.specs.declared.family.Family.{Family};
 ghost use Rattle.rpki_resources.specs.declared.resources.Claim.{Claim};
 ghost use Rattle.rpki_paths.specs.Sets.{CoversKept, IsClimbed, IsRaised};

@@ -2,7 +2,6 @@
 
 ghost use Rattle.std.specs.Prelude.{◌≡◌, ◌≢◌, ◌++◌, IfOk, OnOk, string_bytes};
 ghost use Rattle.rpki_der.specs.declared.encode.EncodeError.TheVariants.{Memory};
-ghost use Rattle.rpki_keys.specs.Key.{key_octets};
 ghost use Rattle.rpki_verdicts.specs.Verdicts.{digest_text, line_of};
 ghost use Rattle.rpki_questions.specs.Grows.{Grows};
 ghost use Rattle.rpki_questions.specs.Listing.{good_line};

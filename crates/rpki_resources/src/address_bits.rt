@@ -1,10 +1,9 @@
 //! Addresses as strings of bits: those that begin with them, and the first bits of an address (RFC
 //! 3779, sections 2.1.1 and 2.1.2).
 
-ghost use Rattle.std.specs.Prelude.{◌≡◌, ◌<◌, ◌≤◌, ◌^◌, ◌*◌, ◌+◌, ◌-◌, ◌%◌, IfOk, IfSome, length};
+ghost use Rattle.std.specs.Prelude.{◌≡◌, ◌<◌, ◌≤◌, ◌^◌, ◌*◌, ◌+◌, ◌-◌, ◌%◌, IfOk, length};
 ghost use Rattle.rpki_der.specs.Numbers.{number};
 ghost use Rattle.rpki_der.specs.Tags.{BIT_STRING};
-ghost use Rattle.rpki_der.specs.Read.Parse.{bits_of};
 ghost use Rattle.rpki_der.specs.Read.Reads.{Reads, Stays};
 ghost use Rattle.rpki_der.specs.Write.Parts.{contents_small};
 ghost use Rattle.rpki_resources.specs.Ip.Form.{bit_count, lowest, highest};

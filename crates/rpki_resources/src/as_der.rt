@@ -1,17 +1,15 @@
 //! Sets of AS numbers in DER and BER (RFC 3779, section 3.2.3).
 
-ghost use Rattle.std.specs.Prelude.{◌≡◌, ◌==◌, IfOk, All, ◌<◌, ◌^◌, length};
+ghost use Rattle.std.specs.Prelude.{◌≡◌, IfOk, All, ◌<◌, ◌^◌, length};
 ghost use Rattle.std.specs.List.{flat_map};
 ghost use Rattle.rpki_der.specs.declared.mode.Mode.TheVariants.{Der};
 ghost use Rattle.rpki_der.specs.Tags.{SEQUENCE};
 ghost use Rattle.rpki_der.specs.Write.Written.{value_octets};
-ghost use Rattle.rpki_der.specs.Read.Parse.{all_at};
 ghost use Rattle.rpki_der.specs.Read.Reads.{Reads, Stays};
 ghost use Rattle.rpki_der.specs.Form.Decodes.{DecodesNext};
 ghost use Rattle.rpki_resources.specs.As.Form.{AsForm};
 ghost use Rattle.rpki_resources.specs.declared.block.Block.{Block};
 ghost use Rattle.rpki_resources.specs.Blocks.{EndBelow, IsBlock};
-ghost use Rattle.rpki_resources.specs.Joined.{joined};
 ghost use Rattle.rpki_der.specs.Write.Parts.{contents_small, each_small};
 ghost use Rattle.rpki_resources.specs.As.Written.{IsAsShort, as_ends, as_octets};
 ghost use Rattle.rpki_resources.specs.As.Read.{as_ends_at, as_item_at, as_items_at, as_blocks_at};

@@ -1,6 +1,6 @@
 //! AS numbers and sets of them.
 
-ghost use Rattle.std.specs.Prelude.{◌≡◌, ℕ, ◌≤◌, ◌↔◌, ◌∷◌, [], ◌++◌, List, IsTrue, OnOk, OnErr};
+ghost use Rattle.std.specs.Prelude.{◌≡◌, ℕ, ◌↔◌, ◌∷◌, [], ◌++◌, List, IsTrue, OnOk, OnErr};
 ghost use Rattle.std.specs.Prelude.{All, Some, map, length, ◌^◌};
 ghost use Rattle.std.specs.Iterator.{Drains, HoldsAlong, IsFinite};
 ghost use Rattle.std.specs.List.Sorted.{IsStrictlyIncreasing};

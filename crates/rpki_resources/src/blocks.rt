@@ -1,7 +1,6 @@
 //! Sets of numbers, and what builds them.
 
-ghost use Rattle.std.specs.Prelude.{◌≡◌, ℕ, ◌≤◌, ◌↔◌, ◌∷◌, [], ◌++◌, List, IsTrue, IfOk, OnOk};
-ghost use Rattle.std.specs.Prelude.{OnErr, All};
+ghost use Rattle.std.specs.Prelude.{◌≡◌, ◌↔◌, ◌∷◌, [], ◌++◌, List, IsTrue, IfOk, OnOk, OnErr, All};
 ghost use Rattle.rpki_resources.specs.declared.block.Block.{Block};
 ghost use Rattle.rpki_resources.specs.Blocks.{Covers, EndBelow, IsBlock, IsCanonical, SameSet};
 ghost use Rattle.rpki_resources.specs.Blocks.{IsIntersection, IsUnion};

@@ -1,6 +1,6 @@
 //! Blocks of addresses and sets of them.
 
-ghost use Rattle.std.specs.Prelude.{◌≡◌, ℕ, ◌≤◌, ◌↔◌, ◌∷◌, [], ◌++◌, List, IsTrue, OnOk, OnErr};
+ghost use Rattle.std.specs.Prelude.{◌≡◌, ℕ, ◌↔◌, ◌∷◌, [], ◌++◌, List, IsTrue, OnOk, OnErr};
 ghost use Rattle.std.specs.Prelude.{All, map, ◌^◌, ◌<◌};
 ghost use Rattle.std.specs.Iterator.{Drains, HoldsAlong, IsFinite};
 ghost use Rattle.rpki_resources.specs.declared.ip.IpBlock.{IpBlock};

@@ -1,7 +1,6 @@
 //! Sets of addresses in DER and BER (RFC 3779, section 2.2.3).
 
-ghost use Rattle.std.specs.Prelude.{◌≡◌, ◌<◌, ◌≤◌, ◌^◌, ℕ, List, IfOk, IfSome, All, None, length};
-ghost use Rattle.rpki_der.specs.Read.Parse.{all_at};
+ghost use Rattle.std.specs.Prelude.{◌≡◌, ◌<◌, ◌≤◌, ◌^◌, ℕ, List, IfOk, All, None, length};
 ghost use Rattle.rpki_der.specs.Form.Made.{made};
 ghost use Rattle.rpki_der.specs.Form.Decodes.{DecodesNext};
 ghost use Rattle.rpki_der.specs.Read.Reads.{Reads, Stays};
@@ -13,7 +12,6 @@ ghost use Rattle.rpki_der.specs.Tags.{SEQUENCE};
 ghost use Rattle.rpki_der.specs.Write.Written.{value_octets};
 ghost use Rattle.rpki_resources.specs.declared.family.AddressFamily.TheVariants.{Ipv6};
 ghost use Rattle.rpki_resources.specs.Family.{IsWithin, max_bits};
-ghost use Rattle.rpki_resources.specs.Joined.{joined};
 ghost use Rattle.rpki_resources.specs.Ip.Form.{IpForm, beginning};
 ghost use Rattle.rpki_der.specs.Write.Parts.{contents_small, each_small};
 ghost use Rattle.rpki_resources.specs.Prefix.{prefix_len};

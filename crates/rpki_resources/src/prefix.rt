@@ -1,6 +1,6 @@
 //! Prefixes of addresses.
 
-ghost use Rattle.std.specs.Prelude.{◌≡◌, ℕ, ◌+◌, ◌-◌, ◌*◌, ◌%◌, ◌/◌, ◌^◌, ◌≤◌, ◌<◌, IfSome, IfNone};
+ghost use Rattle.std.specs.Prelude.{◌≡◌, ℕ, ◌+◌, ◌-◌, ◌%◌, ◌/◌, ◌^◌, ◌≤◌, ◌<◌, IfSome, IfNone};
 ghost use Rattle.std.specs.Net.Addr.{IsIpv4OfBits, IsIpv6OfBits};
 ghost use Rattle.rpki_resources.specs.declared.family.AddressFamily.{AddressFamily};
 ghost use Rattle.rpki_resources.specs.Family.{IsWithin, max_bits};

@@ -1,6 +1,6 @@
 //! Verdicts that are computed.
 
-ghost use Rattle.std.specs.Prelude.{◌≡◌, ◌↔◌, IsTrue};
+ghost use Rattle.std.specs.Prelude.{◌↔◌, IsTrue};
 ghost use Rattle.sha2.specs.Sha256.{sha256};
 ghost use Rattle.rpki_rsa.specs.Signature.{IsRsaSignature, is_rsa_signature};
 

@@ -1,14 +1,12 @@
 //! The validation of objects with their contents.
 
-ghost use Rattle.std.specs.Prelude.{◌≡◌};
 ghost use Rattle.std.specs.Fn.{FnOnceTakesAt, FnOnceReturnsAt};
 ghost use Rattle.rpki_faults.specs.Checks.{AllHold, AnswersFirstOr};
 ghost use Rattle.rpki_faults.specs.declared.validation.ValidationError.TheVariants.{Memory};
 ghost use Rattle.rpki_sigobj.specs.Object.{cert_of};
 ghost use Rattle.rpki_sigobj.specs.Validate.{IsCertUnder};
 ghost use Rattle.rpki_signed.specs.Object.{whole_of};
-ghost use Rattle.rpki_signed.specs.Process.{validation, before_revocation};
-ghost use Rattle.rpki_signed.specs.Process.{AsksFirst, AnswersAsked};
+ghost use Rattle.rpki_signed.specs.Process.{validation, before_revocation, AsksFirst, AnswersAsked};
 
 use crate::content::Content;
 use crate::signed::Signed;

@@ -1,6 +1,5 @@
 //! Whether signed objects are signed by the key of their certificate.
 
-ghost use Rattle.std.specs.Prelude.{◌≡◌, ◌++◌, ◌↔◌, IsTrue};
 ghost use Rattle.rpki_faults.specs.Checks.{AnswersFirstFault, AnswersFirstOr, ◌as_faults_of◌};
 ghost use Rattle.rpki_faults.specs.declared.validation.ValidationError.TheVariants.{Memory};
 ghost use Rattle.rpki_faults.specs.declared.validation.ValidationError.TheVariants.{Verification};

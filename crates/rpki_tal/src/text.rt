@@ -1,6 +1,6 @@
 //! The text of a locator, from its first line on.
 
-ghost use Rattle.std.specs.Prelude.{◌≡◌, IfOk, IfErr, MatchOption};
+ghost use Rattle.std.specs.Prelude.{IfOk, IfErr, MatchOption};
 ghost use Rattle.rpki_tal.specs.Form.{HasComments, HasUris, HasList, IsOnlyTal, IsNoTal};
 ghost use Rattle.rpki_tal.specs.Faults.{EndsInComment, IsUrisFault, IsListFault, IsFault, Refuses};
 

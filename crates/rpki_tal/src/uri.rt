@@ -2,7 +2,7 @@
 
 ghost use Rattle.std.specs.Prelude.{◌≡◌, not, Some};
 ghost use Rattle.std.specs.String.{string_bytes};
-ghost use Rattle.rpki_tal.specs.Uri.{IsTalUri, IsTalUriOf, uri_text, is_https};
+ghost use Rattle.rpki_tal.specs.Uri.{IsTalUriOf, uri_text, is_https};
 
 use bytes::Bytes;
 use rpki_basics::{Https, Rsync, uri};

@@ -1,6 +1,6 @@
 //! Trust anchor locators, as a program that fetches certificates uses them.
 
-ghost use Rattle.std.specs.Prelude.{◌≡◌, ◌+◌, List, IfOk, Ok, bytes_eq};
+ghost use Rattle.std.specs.Prelude.{◌≡◌, List, IfOk, Ok, bytes_eq};
 ghost use Rattle.rpki_tal.specs.declared.uri.TalUri.{TalUri};
 ghost use Rattle.rpki_tal.specs.Uri.{https_first};
 ghost use Rattle.rpki_tal.specs.Read.{ReadsTal};

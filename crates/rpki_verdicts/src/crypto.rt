@@ -8,7 +8,7 @@ ghost use Rattle.rpki_der.specs.Tags.{BIT_STRING};
 ghost use Rattle.rpki_der.specs.Write.Encode.{IsLenOf};
 ghost use Rattle.rpki_der.specs.Write.Written.{length_octets, value_octets, bit_string_contents};
 ghost use Rattle.rpki_keys.specs.Key.{key_contents, key_octets};
-ghost use Rattle.rpki_verdicts.specs.Verdicts.{digest_text, IsYes};
+ghost use Rattle.rpki_verdicts.specs.Verdicts.{digest_text};
 ghost use Rattle.rpki_verdicts.specs.Listed.{IsListed, is_listed};
 
 use crate::verdicts::{DIGITS, Verdicts, digest_text, lists, text_of};

@@ -42,12 +42,12 @@ action_deed clock options (Verdicts file anchor chain) =
 abbrev pub request_deed : Option Moment → Request → Deed
 request_deed clock r = action_deed clock r.options r.action
 
--- what is said for a deed, where the store was asked for these names before and after it
+-- What is said for a deed; for a check of files, together with which of them are read for that.
 abbrev pub IsDeedAnswer : Told → Deed → Names → Names → Said → Type 0
 IsDeedAnswer told (Say x) old new s = s ≡ x
 IsDeedAnswer told (Do task) old new s = IsTaskAnswer told task old new s
 
--- which files a deed reads, by the names that the store was asked for before and after it
+-- which files a deed reads
 abbrev pub HasReadFor : Deed → Names → Names → Type 0
 HasReadFor (Say x) old new = new ≡ old
 HasReadFor (Do task) old new = HasRead task old new
@@ -57,15 +57,14 @@ abbrev pub IsDeedDone : Told → Deed → Names → Names → Run → Type 0
 IsDeedDone told (Say x) old new run = IsSaid x run
 IsDeedDone told (Do task) old new run = IsTaskDone told task old new run
 
--- What is said for the request that the words make, or that they are wrong where they make none,
--- where the store was asked for these names before and after it.
+-- what is said for the request that the words make, or that they are wrong where they make none
 abbrev pub IsAnswer : Told → Option Moment → List (List ℕ) → Names → Names → Said → Type 0
 IsAnswer told clock words old new s =
     ((r : Request) × IsAsked words r × IsDeedAnswer told (request_deed clock r) old new s)
     ⊎ (AskForNothing words × (s ≡ wrong_words))
 
--- What a run of the program does, where the store tells this of each file by its name, the clock
--- tells this moment, or none, and the store was asked for these names before and after it.
+-- What a run of the program does, where the store tells this of each file by its name, and the
+-- clock tells this moment, or none.
 pub record IsRunOf (told : Told) (clock : Option Moment) (words : List (List ℕ)) (old new : Names)
     (run : Run) : Type 0 where
   -- words that ask for nothing
@@ -76,8 +75,8 @@ pub record IsRunOf (told : Told) (clock : Option Moment) (words : List (List ℕ
   -- whatever the store tells, one answer is said
   pub answered : (s : Said) × IsAnswer told clock words old new s × IsSaid s run
 
--- Which files a run reads, by the names that the store was asked for before and after it: none for
--- words that ask for nothing, and for others those that their deed reads.
+-- Which files a run reads: none for words that ask for nothing, and for others those that their
+-- deed reads.
 pub record HaveRead (clock : Option Moment) (words : List (List ℕ)) (old new : Names)
     : Type 0 where
   pub wrong : AskForNothing words → new ≡ old

@@ -6,8 +6,7 @@ ghost use Rattle.rpki_command.specs.Command.{AreReadAtMost, IsOfFiles};
 ghost use Rattle.rpki_command.specs.Words.{texts};
 ghost use Rattle.rpki_verify_command.specs.Check.{VerifiedOf, WorkOf};
 ghost use Rattle.rpki_verify_command.specs.Command.{IsAnswer, IsRunOf, HaveRead, IsDeedAnswer};
-ghost use Rattle.rpki_verify_command.specs.Command.{HasReadFor, request_deed, action_deed};
-ghost use Rattle.rpki_verify_command.specs.Command.{check_deed};
+ghost use Rattle.rpki_verify_command.specs.Command.{HasReadFor, request_deed, check_deed};
 ghost use Rattle.rpki_verify_command.specs.Reply.{replied};
 
 use crate::check::{Work, work_files};

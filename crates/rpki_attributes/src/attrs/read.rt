@@ -1,6 +1,5 @@
 //! Reading signed attributes.
 
-ghost use Rattle.std.specs.Prelude.{◌≡◌};
 ghost use Rattle.rpki_der.specs.Numbers.{MAX_DEPTH};
 ghost use Rattle.rpki_der.specs.Read.Parse.{oid_at, octets_at};
 ghost use Rattle.rpki_der.specs.Read.Reads.{Reads, Stays, Tells};

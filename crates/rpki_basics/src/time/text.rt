@@ -1,6 +1,6 @@
 //! The text of a time.
 
-ghost use Rattle.std.specs.Prelude.{◌≡◌, ◌<◌, Some};
+ghost use Rattle.std.specs.Prelude.{◌<◌, Some};
 ghost use Rattle.rpki_basics.specs.Time.Form.{two_digits, iso_text};
 
 use crate::time::Time;

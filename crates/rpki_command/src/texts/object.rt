@@ -1,6 +1,5 @@
 //! The lines of a signed object.
 
-ghost use Rattle.rpki_certs.specs.Cert.{KeptCertificate};
 ghost use Rattle.rpki_signed.specs.Object.{whole_of};
 ghost use Rattle.rpki_command.specs.Grows.{Grows};
 ghost use Rattle.rpki_command.specs.Texts.Object.{object_text, signing_line, signer_line};

@@ -2,7 +2,7 @@
 
 ghost use Rattle.std.specs.Prelude.{◌≡◌, ◌<◌, IfOk, IfSome, length, option_map};
 ghost use Rattle.rpki_der.specs.Form.Made.{with_octets};
-ghost use Rattle.rpki_der.specs.Form.Parts.{items_at, sequence_at, sequence_of_at, context_at};
+ghost use Rattle.rpki_der.specs.Form.Parts.{sequence_at, sequence_of_at, context_at};
 ghost use Rattle.rpki_der.specs.Read.Parse.{optional};
 ghost use Rattle.rpki_der.specs.Read.Reads.{Reads, Stays};
 ghost use Rattle.rpki_der.specs.Tags.{SEQUENCE};

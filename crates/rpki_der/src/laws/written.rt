@@ -10,7 +10,7 @@ ghost use Rattle.rpki_der.specs.declared.mode.Mode.TheVariants.{Der};
 ghost use Rattle.rpki_der.specs.Identifier.{IsTag, is_constructed};
 ghost use Rattle.rpki_der.specs.Oid.{IsOid};
 ghost use Rattle.rpki_der.specs.Bits.{IsBits};
-ghost use Rattle.rpki_der.specs.Read.Parse.{Parser, value_at, in_value, primitive, unsigned_of};
+ghost use Rattle.rpki_der.specs.Read.Parse.{value_at, in_value, primitive, unsigned_of};
 ghost use Rattle.rpki_der.specs.Read.Parse.{u8_at, u32_at, boolean_at, null_of, oid_at, bits_at};
 ghost use Rattle.rpki_der.specs.Read.Parse.{ia5_at, octets_at, captured, many, optional, skip_at};
 ghost use Rattle.rpki_der.specs.Numbers.{number};

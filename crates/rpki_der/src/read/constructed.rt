@@ -1,8 +1,7 @@
 //! The reader of the values of a constructed value.
 
 ghost use Rattle.std.specs.Prelude.{Result, IfOk, IfSome, ◌≡◌, ◌<◌, ◌≤◌, length, drop, take, None};
-ghost use Rattle.std.specs.Prelude.{Some, IsNone, MatchOption, Ok, Err, OnOk, OnErr, IsSomeAnd};
-ghost use Rattle.std.specs.Prelude.{unwrap_or};
+ghost use Rattle.std.specs.Prelude.{Some, Ok, Err, OnOk, OnErr, IsSomeAnd, unwrap_or};
 ghost use Rattle.std.specs.Fn.{FnOnceReturnsAtMut};
 ghost use Rattle.rpki_der.specs.Tags.{SEQUENCE, SET};
 ghost use Rattle.rpki_der.specs.Grammar.{IsBytes};

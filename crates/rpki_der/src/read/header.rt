@@ -1,10 +1,10 @@
 //! Identifiers and lengths.
 
-ghost use Rattle.std.specs.Prelude.{slice_range, ◌≡◌, ◌<◌, ◌≤◌, ◌+◌, ◌^◌, length, drop, take, None};
-ghost use Rattle.std.specs.Prelude.{Some, IsNone, MatchOption, List, ℕ, Option};
+ghost use Rattle.std.specs.Prelude.{slice_range, ◌≡◌, ◌<◌, ◌≤◌, ◌+◌, ◌^◌, length, None};
+ghost use Rattle.std.specs.Prelude.{Some, MatchOption, Option};
 ghost use Rattle.rpki_der.specs.Identifier.{is_constructed, is_tag};
 ghost use Rattle.rpki_der.specs.Read.Parse.{shortest, value_at, length_at, long_at, contents_at};
-ghost use Rattle.rpki_der.specs.Read.Parse.{step, outer, end_of, before_end, indefinite_at};
+ghost use Rattle.rpki_der.specs.Read.Parse.{step, outer, end_of, indefinite_at};
 ghost use Rattle.rpki_der.specs.Read.Parse.{body_at, any_at, Finds};
 ghost use Rattle.rpki_der.specs.Numbers.{least};
 

@@ -1,7 +1,6 @@
 //! Contents of an INTEGER.
 
-ghost use Rattle.std.specs.Prelude.{◌≡◌, ◌<◌, ◌≤◌, length, drop, take, None, Some, IsNone};
-ghost use Rattle.std.specs.Prelude.{MatchOption, List, ℕ, Option};
+ghost use Rattle.std.specs.Prelude.{◌<◌, None, Some, Option};
 ghost use Rattle.rpki_der.specs.Read.Parse.{digits_of, number_of, unsigned_of, Finds};
 ghost use Rattle.rpki_der.specs.Numbers.{number};
 

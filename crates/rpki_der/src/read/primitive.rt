@@ -1,6 +1,6 @@
 //! Values whose contents are understood: numbers, truth values, identifiers, strings.
 
-ghost use Rattle.std.specs.Prelude.{◌≡◌, ◌<◌, length, IfOk, IfSome, Some, false};
+ghost use Rattle.std.specs.Prelude.{◌<◌, length, IfOk, IfSome, Some, false};
 ghost use Rattle.rpki_der.specs.Tags.{BOOLEAN, INTEGER, NULL, OBJECT_IDENTIFIER, IA5_STRING};
 ghost use Rattle.rpki_der.specs.Read.Parse.{octets_at, u8_at, u32_at, u160_at, boolean_at};
 ghost use Rattle.rpki_der.specs.Read.Parse.{null_of, oid_at, these, bits_at, octets_in_bits_at};

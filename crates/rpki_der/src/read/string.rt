@@ -3,7 +3,7 @@
 ghost use Rattle.std.specs.Prelude.{◌≡◌, ◌≤◌, ◌<◌, ◌-◌, ◌++◌, length, slice_range, None, Some};
 ghost use Rattle.std.specs.Prelude.{IfOk, MatchOption, List, ℕ};
 ghost use Rattle.rpki_der.specs.Numbers.{MAX_DEPTH};
-ghost use Rattle.rpki_der.specs.Read.Parse.{octets_at, Appends, pieces};
+ghost use Rattle.rpki_der.specs.Read.Parse.{octets_at, Appends};
 
 use crate::mode::Mode;
 use crate::read::header::any_of;

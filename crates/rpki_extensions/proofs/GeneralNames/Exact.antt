@@ -1,19 +1,19 @@
 -- Names are read exactly.
-use Rattle.std.proofs.Common.{◌≡◌, ◌<◌, ℕ, Bool, true, false, cond, List, ◌∷◌, ◌++◌, length}
+use Rattle.std.proofs.Common.{◌≡◌, ℕ, Bool, true, false, cond, List, ◌∷◌, ◌++◌}
 use Rattle.std.proofs.Common.{Option, Some, None, inl, inr, refl, sym, subst, ap}
 use Rattle.std.specs.Prelude.{◌⊎◌, Decides}
 use Rattle.rpki_der.specs.declared.mode.Mode.{Mode}
 use Rattle.rpki_der.specs.declared.mode.Mode.TheVariants.{Der, Ber}
 use Rattle.rpki_der.specs.Form.Keyed.{IsSaid}
 use Rattle.rpki_der.specs.Form.Law.{every, nothing, is, StartsIn, Starts, IsPart}
-use Rattle.rpki_der.specs.Form.Made.{made, choice_at, or_read}
+use Rattle.rpki_der.specs.Form.Made.{choice_at, or_read}
 use Rattle.rpki_der.specs.Form.Parts.{implicit_string_at}
 use Rattle.rpki_der.specs.Grammar.{IsBytes, Front}
 use Rattle.rpki_der.specs.Read.Parse.{Parser, ◌>>=◌, is_next, some_of, skip_at}
 use Rattle.rpki_der.proofs.Form.Kinds.{contents-part, any-part}
 use Rattle.rpki_der.proofs.Form.Taking.{takes-made}
 use Rattle.rpki_der.proofs.Form.Words.{part-as, make, optional-there}
-use Rattle.rpki_der.proofs.Reading.Lengths.{bind_some, some_is}
+use Rattle.rpki_der.proofs.Reading.Lengths.{some_is}
 use Rattle.rpki_der.proofs.Reading.Many.{primitive-shorter}
 use Rattle.rpki_der.proofs.Reading.Skips.{Takes, skip-takes}
 use Rattle.rpki_extensions.specs.declared.name.Name.{Name}

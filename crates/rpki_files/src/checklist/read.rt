@@ -1,14 +1,13 @@
 //! Reading a content.
 
-ghost use Rattle.std.specs.Prelude.{◌≡◌, []};
-ghost use Rattle.rpki_der.specs.Tags.{context};
+ghost use Rattle.std.specs.Prelude.{◌≡◌};
 ghost use Rattle.rpki_der.specs.declared.mode.Mode.TheVariants.{Der};
-ghost use Rattle.rpki_der.specs.Form.Parts.{sequence_at, context_at};
+ghost use Rattle.rpki_der.specs.Form.Parts.{sequence_at};
 ghost use Rattle.rpki_der.specs.Read.Reads.{Found, Reads, Stays};
 ghost use Rattle.rpki_lists.specs.Entries.{list_at};
 ghost use Rattle.rpki_files.specs.Checked.{checked_at};
 ghost use Rattle.rpki_files.specs.Checklist.{or_nothing, is_there, names_some, sets_of};
-ghost use Rattle.rpki_files.specs.Checklist.{number_fields_at, numbers_at, addresses_at};
+ghost use Rattle.rpki_files.specs.Checklist.{number_fields_at, addresses_at};
 ghost use Rattle.rpki_files.specs.Checklist.{named_fields_at, sets_at, listed_at, fields_at};
 ghost use Rattle.rpki_files.specs.Checklist.{checklist_at};
 
