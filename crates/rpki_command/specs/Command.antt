@@ -1,4 +1,5 @@
--- What the program answers to its words, and what a run of it does.
+-- What the program answers to its words, and what a run of it does. What `old` and `new` are is
+-- said with `Names` (specs/Store.antt).
 use Rattle.std.specs.Prelude.{◌≡◌, ℕ, ◌⊎◌, List, [], ◌∷◌, ◌++◌, take, map, None, Some}
 use Rattle.std.specs.Prelude.{Result, Ok, Err, Vec}
 use Rattle.std.specs.declared.alloc.Global.{Global}
@@ -21,7 +22,7 @@ use Rattle.rpki_command.specs.declared.words.Command.TheVariants.{Content, Show,
 use Rattle.rpki_command.specs.declared.words.Options.{Options}
 use Rattle.rpki_command.specs.declared.words.Order.{Order}
 
--- what is said where a file is not read
+-- what is said where a read of a file fails
 abbrev pub unread : List ℕ → StoreError → Said
 unread name Unreadable = cannot_read name
 unread name Memory = out_of_memory
@@ -32,7 +33,7 @@ abbrev pub IsOfRead : List ℕ → (List ℕ → Said → Type 0) → Result (Ve
 IsOfRead name P (Ok octets) s = P octets.items s
 IsOfRead name P (Err error) s = s ≡ unread name error
 
--- what is said of a file in a store that tells this
+-- what is said of a file in a store that tells this, where `P` says what is said of its octets
 abbrev pub IsOfFile : Told → List ℕ → (List ℕ → Said → Type 0) → Said → Type 0
 IsOfFile told name P s = (read : Result (Vec ℕ Global) StoreError) × IsRead (told name) read
     × IsOfRead name P read s
@@ -67,9 +68,10 @@ IsOfReads P (Ok files) s = P (octets_of files.items) s
 IsOfReads P (Err (reads.Unreadable name)) s = s ≡ cannot_read name.now
 IsOfReads P (Err reads.Memory) s = s ≡ out_of_memory
 
--- What is said of files in a store that tells this: they are read in their order, each once, up to
--- the first that can't be read or at which memory runs out, and no more. Memory may also run out
--- before the first of them is read; then none is.
+-- What is said of files in a store that tells this, and which of them are read for it, in their
+-- order, each once. Where all are read, it is what `P` says of their octets. Where one can't be
+-- read, it is that, and none is read after it. Where memory runs out, it is that: none is read, or
+-- those up to some place, and none after one that is told to be unreadable.
 abbrev pub IsOfFiles : Told → Names → (List (List ℕ) → Said → Type 0) → Names → Names → Said
     → Type 0
 IsOfFiles told files P old new s =
@@ -77,26 +79,28 @@ IsOfFiles told files P old new s =
     ⊎ ((read : Result (Vec (Vec ℕ Global) Global) Unread)
     × AreRead told files old new read × IsOfReads P read s)
 
--- What is said for a task; for a check of files, together with which of them are read for that.
--- Which file the others read is said by `HasRead`.
+-- What is said for a task; for `CheckFiles`, together with which of the files are read for that.
+-- What the other tasks read, `HasRead` says.
 abbrev pub IsTaskAnswer : Told → Task → Names → Names → Said → Type 0
 IsTaskAnswer told (ShowLines file lines_of) old new s = IsOfFile told file (IsShown lines_of) s
 IsTaskAnswer told (CheckFiles files P) old new s = IsOfFiles told files P old new s
 IsTaskAnswer told NotThere old new s = s ≡ usage
 
--- none, some or all of these files are read: those up to some place, in their order, each once
+-- None, some or all of these files are read: those up to some place, in their order, each once, and
+-- no other.
 pub record AreReadAtMost (files old new : Names) : Type 0 where
   pub many : ℕ
   pub reads : new ≡ old ++ take many files
 
--- Which files a task reads. Of a check of files `IsTaskAnswer` says more: how many of them are read
--- where this is said.
+-- Which files a task reads. For `CheckFiles`, `IsTaskAnswer` says more: which of them are read for
+-- what is said.
 abbrev pub HasRead : Task → Names → Names → Type 0
 HasRead (ShowLines file lines_of) old new = new ≡ old ++ file ∷ []
 HasRead (CheckFiles files P) old new = AreReadAtMost files old new
 HasRead NotThere old new = new ≡ old
 
--- what is said for the order that the words ask for, or the usage where they ask for none
+-- What is said for the order that the words ask for, or the usage where they ask for none; for
+-- `CheckFiles`, together with which of the files are read for that.
 abbrev pub IsAnswer : Told → List (List ℕ) → Names → Names → Said → Type 0
 IsAnswer told words old new s =
     ((o : Order) × IsAsked words o × IsTaskAnswer told (order_task o) old new s)
@@ -122,14 +126,16 @@ pub record Shows (told : Told) (file : List ℕ) (lines_of : List ℕ → List �
 abbrev pub AreTold : Told → List (List ℕ) → List (List ℕ) → Type 0
 AreTold told files octets = map told files ≡ map (λ o. Some (Some o)) octets
 
--- The run checks files, where the store tells them.
+-- The run checks files, where the store tells them, unless memory runs out.
 pub record ChecksFiles (told : Told) (files : Names) (P : List (List ℕ) → Said → Type 0)
     (old new : Names) (run : Run) : Type 0 where
-  -- files that can be read: each is read once, and what is to be said of them is said
+  -- files that can be read: they are read in their order, each once, and no other, and what is to
+  -- be said of them is said
   pub checked : (octets : List (List ℕ)) → AreTold told files octets
       → IsSaid out_of_memory run
       ⊎ ((new ≡ old ++ files) × (s : Said) × P octets s × IsSaid s run)
-  -- a file that can't be read, after some that can: it is the last that is read
+  -- a file that can't be read, after any number that can: these are read in their order, each
+  -- once, then it, and no other, and it is said that it can't be read
   pub unreadable : (before after octets : List (List ℕ)) (file : List ℕ)
       → files ≡ before ++ file ∷ after → AreTold told before octets → told file ≡ Some None
       → IsSaid out_of_memory run
@@ -168,9 +174,9 @@ pub record IsSaidUnread (s : Said) (old new : Names) (run : Run) : Type 0 where
   pub said : IsSaid s run
   pub reads : new ≡ old
 
--- What the start of a program does: it runs the words after the program's name, unless one of them
--- is no text (UTF-8) or memory runs out; then it says the usage, or that memory ran out, and reads
--- no file.
+-- What the start of a program does: it runs the words after the program's name. Where one of them
+-- is no text (UTF-8) it says the usage instead, and where memory runs out before they are run it
+-- says that; either way it reads no file. Where the arguments are not told, the words may be any.
 abbrev pub IsStartOf : ToldArguments → Told → Names → Names → Run → Type 0
 IsStartOf arguments told old new run =
     ((words : List (List ℕ)) × AreTexts arguments words × IsRunWith told words old new run)

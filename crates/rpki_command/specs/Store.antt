@@ -8,9 +8,9 @@ use Rattle.rpki_command.specs.declared.store.StoreError.TheVariants.{Unreadable,
 use Rattle.rpki_command.specs.declared.store.Unread.{Unread}
 use Rattle.rpki_command.specs.declared.store.Unread.TheVariants as unread
 
--- What a read of a file may answer, by what the store tells of it: its octets, that it can't be
--- read, or nothing. The answer is what is told; where nothing is told, it is any; and it may always
--- be that memory ran out.
+-- What a read of a file may answer. Of the file the store tells its octets, or that it can't be
+-- read, or nothing. The answer is what is told, and any where nothing is; and it may always be that
+-- memory ran out.
 abbrev pub IsRead : Option (Option (List ℕ)) → Result (Vec ℕ Global) StoreError → Type 0
 IsRead told (Err Memory) = Unit {0}
 IsRead None (Ok octets) = Unit {0}
@@ -20,9 +20,10 @@ IsRead (Some None) (Err Unreadable) = Unit {0}
 IsRead (Some (Some file)) (Ok octets) = octets.items ≡ file
 IsRead (Some (Some file)) (Err Unreadable) = ⊥
 
--- Names of files, in an order. As `old` and `new` they are those of all files that a store was ever
--- asked for, in the order of asking, each as often as it was asked for: `old` where a call begins,
--- and `new` where it has ended. So `new` is `old`, followed by what the call asked for.
+-- Names of files, in an order; where one stands twice, these are two. As `old` and `new` they are
+-- those of all files that a store was ever asked for, in the order of asking: `old` where a call
+-- begins, and `new` where it has ended. A file is read, here, where the store is asked for it,
+-- whatever it answers.
 abbrev pub Names : Type 0
 Names = List (List ℕ)
 
@@ -36,15 +37,16 @@ abbrev pub AreReadTo : Told → Names → ℕ → List (Vec ℕ Global) → Type
 AreReadTo told names n files = (k : ℕ) (d : List ℕ) (e : Vec ℕ Global) → k < n
     → IsRead (told (slice_index_or names k d)) (Ok (slice_index_or files k e))
 
--- Each file is read, in the order of the names, once, and no other, and these are their octets.
+-- Each file is read, in the order of the names, once, and no other. For each there are octets,
+-- which are an answer that its read may give.
 pub record AreAllRead (told : Told) (names old new : Names) (files : List (Vec ℕ Global))
     : Type 0 where
   pub count : length files ≡ length names
   pub each : AreReadTo told names (length names) files
   pub reads : new ≡ old ++ names
 
--- This name is that of the first file that can't be read: those before it are not told to be such.
--- The files up to it are read, and it too, in the order of the names, each once, and no other.
+-- The read of the file of this name may answer that it can't be read, and none before it is told to
+-- be such. Those up to it are read, it too, in the order of the names, each once, and no other.
 pub record IsFirstUnreadable (told : Told) (names old new : Names) (name : List ℕ) : Type 0 where
   pub place : ℕ
   pub there : place < length names
@@ -53,8 +55,8 @@ pub record IsFirstUnreadable (told : Told) (names old new : Names) (name : List 
   pub before : (k : ℕ) (d : List ℕ) → k < place → told (slice_index_or names k d) ≡ Some None → ⊥
   pub reads : new ≡ old ++ take (place + 1) names
 
--- Memory runs out at one of the files. Those up to it are read, and it too, in the order of the
--- names, each once, and no other; those before it are not told to be unreadable.
+-- Memory runs out. The files up to some place are read, one at least, in the order of the names,
+-- each once, and no other; of those before the last of them none is told to be unreadable.
 pub record AreSomeRead (told : Told) (names old new : Names) : Type 0 where
   pub place : ℕ
   pub there : place < length names
@@ -74,12 +76,12 @@ AreRead told names old new (Err unread.Memory) = AreSomeRead told names old new
 abbrev pub unreadable_text : List ℕ
 unreadable_text = codes "unreadable file"
 
--- The text that says why a file was not read.
+-- The text that says why a read of a file failed.
 abbrev pub store_error_text : StoreError → List ℕ
 store_error_text Unreadable = unreadable_text
 store_error_text Memory = memory_text
 
--- The text that says why several files were not read.
+-- The text that says why a read of several files failed.
 abbrev pub unread_text : Unread → List ℕ
 unread_text (unread.Unreadable name) = unreadable_text ++ (codes " " ++ name.now)
 unread_text unread.Memory = memory_text

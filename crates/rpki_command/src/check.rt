@@ -38,9 +38,9 @@ fn pass(_cert: &Cert) -> Result<(), ValidationError>
     Ok(())
 }
 
-/// Answers whether the first of these files is a good object of the kind at this moment. The second
-/// is the list of verdicts, the third the certificate of a trust anchor, and the others are those
-/// of CAs, each under the one before.
+/// Answers whether the first of these files begins with a good object of the kind at this moment.
+/// The second is the list of verdicts, the third the certificate of a trust anchor, and the others
+/// are those of CAs, each under the one before.
 pub fn check_files<'a>(
     alloc: Global,
     options: Options,

@@ -159,8 +159,8 @@ impl<'a> Model for Names<'a> {
         ∷ map (λ t. t.now) n.chain.now };
 }
 
-/// Answers whether a file is a good object of this kind at this moment, under the certificates of
-/// these files.
+/// Answers whether the first of these files begins with a good object of this kind at this moment,
+/// by the verdicts of the second, under the certificates of the others.
 #[tactic(auto, using(crate::proofs::Asking::by_names))]
 fn check_at<'a, S: Store>(
     alloc: Global,
@@ -194,8 +194,8 @@ fn names_of<'a>(alloc: Global, names: &Names<'a>) -> Result<Vec<&'a str>, AllocE
     Ok(all)
 }
 
-/// Answers whether the first of these files is a good object of this kind at this moment, by the
-/// verdicts of the second, under the certificates of the others.
+/// Answers whether the first of these files, by their names, begins with a good object of this kind
+/// at this moment, by the verdicts of the second, under the certificates of the others.
 #[tactic(auto, using(crate::proofs::Asking::by_reads))]
 fn check_named<'a, S: Store>(
     alloc: Global,
@@ -218,7 +218,7 @@ fn check_named<'a, S: Store>(
     }
 }
 
-/// The answer where the file of this name is not read.
+/// The answer where a read of the file of this name fails.
 fn unread<'a>(error: StoreError, file: &'a str) -> Answer<'a>
     ensures { said result ≡ unread file.now error }
 {

@@ -15,7 +15,7 @@ use std::{fmt, fs, io};
 /// That a file can't be read.
 const UNREADABLE: &str = "unreadable file";
 
-/// Why a file was not read.
+/// Why a read of a file failed.
 #[derive(Clone, Copy, Debug, PartialEq, Eq)]
 pub enum StoreError {
     /// It can't be read.
@@ -53,7 +53,7 @@ pub trait Store {
         ensures noted { reads self.new ≡ reads self.old ++ name.now ∷ [] };
 }
 
-/// Why several files were not read.
+/// Why a read of several files failed.
 #[derive(Debug, Drop)]
 pub enum Unread<'a> {
     /// This one can't be read.
@@ -77,7 +77,8 @@ impl Error for Unread<'_> {}
 
 /// The octets of the files with these names, which are read in their order, once each. The first
 /// that can't be read is answered by its name, and none is read after it. Where memory runs out,
-/// the answer is `Memory`, and the files up to one of them were read, this one too, in their order.
+/// the answer is `Memory`: the files up to one of them were read, this one too, and none after one
+/// that the store tells to be unreadable.
 pub fn read_all<'a, S: Store>(
     alloc: Global,
     names: &[&'a str],
@@ -131,6 +132,7 @@ impl<'a, R> Disk<'a, R> {
 }
 
 impl<R: Files + AllocGlobal> Store for Disk<'_, R> {
+    // Of the files of the system nothing is told.
     ghost told = { λ _ _. None };
 
     ghost reads = { λ d. d };

@@ -5,8 +5,8 @@ ghost use Rattle.std.specs.Borrow.{ftrue};
 
 use std::marker::Model;
 
-/// Names of files in an order, which clauses alone see: those that a store was asked for. It takes
-/// no bytes.
+/// Names of files in an order, which clauses alone see: a store notes here those that it was asked
+/// for. It takes no bytes.
 #[derive(Drop)]
 pub struct Trace {
     seal: (),
@@ -25,7 +25,7 @@ impl Trace {
         Trace { seal: () }
     }
 
-    /// These names, and one more.
+    /// These names, and one more after them.
     pub fn and(&self, name: &str) -> Trace
         ensures { result.names ≡ self.now.names ++ name.now ∷ [] }
     {

@@ -1,4 +1,5 @@
--- What the program replies to its words, and what a run of it does.
+-- What the program replies to its words, and what a run of it does. What `old` and `new` are is
+-- said with `Names` of `rpki_command` (specs/Store.antt).
 use Rattle.std.specs.Prelude.{◌≡◌, ℕ, ◌⊎◌, List, ◌∷◌, Option, None, Some}
 use Rattle.rpki_basics.specs.Moment.{Moment}
 use Rattle.rpki_command.specs.Answer.{Run, Said, IsSaid, out_of_memory}
@@ -22,7 +23,7 @@ pub data Deed : Type 1 where
   -- a task with files
   Do : (task : Task) → Deed
 
--- what a check of these files comes to at a moment, if there is one
+-- what a check of these files comes to at a moment; where there is none, to say that none is told
 abbrev pub check_deed : List (List ℕ) → (Moment → List (List ℕ) → Said → Type 0) → Option Moment
     → Deed
 check_deed files P None = Say no_moment
@@ -42,7 +43,8 @@ action_deed clock options (Verdicts file anchor chain) =
 abbrev pub request_deed : Option Moment → Request → Deed
 request_deed clock r = action_deed clock r.options r.action
 
--- What is said for a deed; for a check of files, together with which of them are read for that.
+-- What is said for a deed; for `CheckFiles`, together with which of the files are read for that.
+-- What the others read, `HasReadFor` says.
 abbrev pub IsDeedAnswer : Told → Deed → Names → Names → Said → Type 0
 IsDeedAnswer told (Say x) old new s = s ≡ x
 IsDeedAnswer told (Do task) old new s = IsTaskAnswer told task old new s
@@ -57,7 +59,8 @@ abbrev pub IsDeedDone : Told → Deed → Names → Names → Run → Type 0
 IsDeedDone told (Say x) old new run = IsSaid x run
 IsDeedDone told (Do task) old new run = IsTaskDone told task old new run
 
--- what is said for the request that the words make, or that they are wrong where they make none
+-- What is said for the request that the words make, or that they are wrong where they make none;
+-- for `CheckFiles`, together with which of the files are read for that.
 abbrev pub IsAnswer : Told → Option Moment → List (List ℕ) → Names → Names → Said → Type 0
 IsAnswer told clock words old new s =
     ((r : Request) × IsAsked words r × IsDeedAnswer told (request_deed clock r) old new s)
@@ -88,9 +91,10 @@ pub record IsRunWith (told : Told) (clock : Option Moment) (words : List (List �
   pub done : IsRunOf told clock words old new run
   pub reads : HaveRead clock words old new
 
--- What the start of a program does: it runs the words after the program's name, unless one of them
--- is no text (UTF-8) or memory runs out; then it says that the words are wrong, or that memory ran
--- out, and reads no file.
+-- What the start of a program does: it runs the words after the program's name. Where one of them
+-- is no text (UTF-8) it says that they are wrong instead, and where memory runs out before they are
+-- run it says that; either way it reads no file. Where the arguments are not told, the words may be
+-- any.
 abbrev pub IsStartOf : ToldArguments → Told → Option Moment → Names → Names → Run → Type 0
 IsStartOf arguments told clock old new run =
     ((words : List (List ℕ)) × AreTexts arguments words

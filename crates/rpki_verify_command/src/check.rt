@@ -18,7 +18,7 @@ use std::alloc::Global;
 /// What is to be answered of the files of an object and of certificates.
 #[derive(Clone, Copy, Debug)]
 pub enum Work {
-    /// Whether the object is a good one of this kind at this moment.
+    /// Whether the first file begins with a good object of this kind at this moment.
     Check(Kind, Time),
     /// Which of the signatures that a check asks about are good.
     Verdicts,
@@ -36,8 +36,8 @@ pub fn work_files<'a>(alloc: Global, options: Options, work: Work, files: &[Vec<
     }
 }
 
-/// Answers whether the first of these files is a good object of the kind at this moment, under the
-/// certificates of the others.
+/// Answers whether the first of these files begins with a good object of the kind at this moment,
+/// under the certificates of the others.
 fn check_files<'a>(
     alloc: Global,
     options: Options,
