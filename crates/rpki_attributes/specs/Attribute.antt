@@ -35,7 +35,8 @@ id_message_digest = pkcs_9 4
 abbrev pub id_signing_time : List ℕ
 id_signing_time = pkcs_9 5
 
--- These three are known (RFC 6488, section 2.1.6.4, as RFC 9589 updates it).
+-- The type is one of these three, which are known (RFC 6488, section 2.1.6.4, as RFC 9589 updates
+-- it).
 abbrev pub IsKnown : List ℕ → Type 0
 IsKnown oid = (oid ≡ id_content_type) ⊎ ((oid ≡ id_message_digest) ⊎ (oid ≡ id_signing_time))
 

@@ -11,8 +11,8 @@ pub record Moment : Type 0 where
   pub minute : ℕ
   pub second : ℕ
 
--- The Gregorian calendar has the day, and the day has the second (RFC 5280, section 4.1.2.5). That
--- there are no leap seconds is this project's own rule.
+-- The year is 9999 at most, the Gregorian calendar has the day, and the day has the second (RFC
+-- 5280, section 4.1.2.5). That there are no leap seconds is this project's own rule.
 pub record IsMoment (m : Moment) : Type 0 where
   pub year : m.year ≤ 9999
   pub some_month : 1 ≤ m.month

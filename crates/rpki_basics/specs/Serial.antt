@@ -8,7 +8,8 @@ use Rattle.rpki_der.specs.Text.Hex.{hex}
 use Rattle.rpki_der.specs.Write.Written.{value_octets, integer_contents, significant}
 use Rattle.rpki_der.specs.Tags.{INTEGER}
 
--- The lowest digits to base 256 of a number, of which there are count, the highest one first.
+-- The digits to base 256 of a number below 256^count, of which there are count, the highest one
+-- first. Of a greater number the first one is no digit: it holds all that the others leave.
 unfoldable pub digits : ℕ → ℕ → List ℕ
 digits zero n = []
 digits (suc count) n = (n / 256 ^ count) ∷ digits count (n % 256 ^ count)

@@ -12,9 +12,9 @@ use Rattle.rpki_basics.specs.declared.uri.Error.TheVariants.{InvalidCharacters, 
 use Rattle.rpki_basics.specs.declared.uri.Error.TheVariants.{Memory}
 
 -- An octet that a URI may have: a visible character of ASCII, but for " < > \ ^ ` { | } (section
--- 2). That it may not have # either, which begins a fragment, is this project's own rule. So is
--- that % may stand without two hexadecimal digits (section 2.1), and [ and ] outside an address
--- (section 3.2.2).
+-- 2), and for #, which begins a fragment: the syntax of rsync and https has none (RFC 5781, section
+-- 2; RFC 9110, section 4.2.2). That % may stand without two hexadecimal digits (section 2.1), and [
+-- and ] outside an address (section 3.2.2), is this project's own rule.
 abbrev pub is_uri_octet : ℕ → Bool
 is_uri_octet octet =
     nat_le 0x21 octet && nat_le octet 0x7E
@@ -26,7 +26,7 @@ is_uri_octet octet =
 abbrev pub AreUriOctets : List ℕ → Type 0
 AreUriOctets text = list_all is_uri_octet text ≡ true
 
--- The text is this scheme in any letters, a colon, and this rest (section 3.1).
+-- The text is this scheme in letters of either case, a colon, and this rest (section 3.1).
 abbrev pub Follows : List ℕ → List ℕ → List ℕ → Type 0
 Follows scheme text rest =
     (name : List ℕ) × (text ≡ name ++ (codes ":" ++ rest)) × (map to_ascii_lowercase name ≡ scheme)

@@ -19,8 +19,8 @@ pub fn times()
     ensures { IsReading time_at TimeForm }
 {}
 
-/// What is written of a time is in its form, one of the two that DER has for it (the other alone
-/// outside 1950 to 2049), and is read again, whatever follows it (RFC 5280, section 4.1.2.5).
+/// What is written of a time is in its form, one of the two that DER has for it (GeneralizedTime
+/// alone outside 1950 to 2049), and is read again, whatever follows it (RFC 5280, section 4.1.2.5).
 pub fn times_are_written()
     ensures written { (m : Moment) → IsMoment m → TimeForm Der (time_octets m) m }
     ensures generalized { (m : Moment) → IsMoment m → TimeForm Der (generalized_octets m) m }

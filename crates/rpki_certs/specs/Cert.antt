@@ -60,7 +60,9 @@ TbsForm mode octets t = Sequence mode (
     ∷ []) octets
 
 -- Certificate: SEQUENCE { tbsCertificate, signatureAlgorithm, signatureValue BIT STRING } (4.1).
--- What is signed are the octets of the first, as they stand there.
+-- What is signed are the octets of the first, as they stand there. That of the two identifiers of
+-- the algorithm one may have a NULL and the other none, where 4.1.1.2 has them the same, is this
+-- project's own rule.
 abbrev pub CertForm : Mode → List ℕ → Certificate → Type 0
 CertForm mode octets c = (c.octets ≡ octets) × Sequence mode (
     (λ o. WithOctets (TbsForm mode) o c.tbs c.signed)

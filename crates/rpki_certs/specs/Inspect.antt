@@ -21,7 +21,8 @@ Inherits x =
     (x.as_numbers ≡ Inherit) ⊎ ((x.addresses.v4 ≡ Inherit) ⊎ (x.addresses.v6 ≡ Inherit))
 
 -- Each certificate states the identifier of its own key, the SHA-1 digest of the key's bits
--- (4.8.2), and names numbers (4.8.10).
+-- (4.8.2), and names one family of numbers at least (4.8.10 and 4.8.11), be it as inherited or
+-- empty.
 abbrev pub subject_checks : Tbs → List (Check InspectionError)
 subject_checks t =
     (faults.KeyIdentifier unless (t.extensions.key.subject_key ≡ sha1 t.key))
@@ -38,8 +39,8 @@ issued_checks t =
     ∷ []
 
 -- That of a CA has the basic constraints (4.8.1) and the key usage (4.8.4) of a CA, no extended key
--- usage (4.8.5), and says where the CA publishes and where its manifest is, and no object that its
--- key signed (4.8.8.1).
+-- usage (4.8.5), and says where the CA publishes and where its manifest is (4.8.8.1). That it may
+-- not say where an object is that its key signed is this project's own rule.
 abbrev pub authority_checks : Tbs → List (Check InspectionError)
 authority_checks t =
     (faults.BasicCa unless (t.extensions.key.basic_ca ≡ Some true))
@@ -77,7 +78,9 @@ object_checks t =
     (faults.MissingSignedObject unless (t.extensions.locations.subject.signed_object ≢ None))
     ∷ []
 
--- An end entity publishes nothing, and has no manifest (4.8.8.2).
+-- That of an end entity says neither where a CA publishes nor where a manifest is (4.8.8.2). That
+-- it may say where a notification file is (RFC 8182, section 3.2), where 4.8.8.2 has no other
+-- access method than that of the signed object, is this project's own rule.
 abbrev pub access_checks : Tbs → List (Check InspectionError)
 access_checks t =
     (faults.CaAccess unless ((t.extensions.locations.subject.ca_repository ≡ None)

@@ -71,7 +71,8 @@ pub record AreHeld (issuer sets : Sets) : Type 0 where
   pub v4 : Covers (λ (n : ℕ). n) issuer.v4 sets.v4
   pub v6 : Covers (λ (n : ℕ). n) issuer.v6 sets.v6
 
--- Each set is the one that is claimed, empty where the family is missing.
+-- Each set is the one that is claimed, empty where the family is missing. Where a family is
+-- inherited, there is no such set.
 pub record AreClaimed (x : Claims) (sets : Sets) : Type 0 where
   pub as_numbers : HasBlocks x.as_numbers sets.as_numbers
   pub v4 : HasBlocks x.addresses.v4 sets.v4
@@ -93,13 +94,15 @@ issued_validation verdict c issuer now =
     (Verification as_faults_of issuing_checks verdict c issuer.cert.certificate now)
     ++ covering_checks c.tbs.extensions.claims issuer.sets
 
--- The certificate of a trust anchor is valid.
+-- The certificate of a trust anchor is valid: it fits the profile, the moment lies in its validity,
+-- and its own key signed it (RFC 6487, section 7; RFC 8630, section 3).
 unfoldable pub ta_validation : Verdict → Certificate → Moment → List (Check ValidationError)
 ta_validation verdict c now =
     (Inspection as_faults_of ta_checks c.tbs)
     ++ (Verification as_faults_of ta_ref_checks verdict c now)
 
--- The certificate of a CA is valid under this issuer.
+-- The certificate of a CA is valid under this issuer: it fits the profile, it is verified under the
+-- issuer, and its claims are allowed, in this order (RFC 6487, section 7.2).
 unfoldable pub ca_validation : Verdict → Certificate → Validated → Moment
     → List (Check ValidationError)
 ca_validation verdict c issuer now =

@@ -71,8 +71,9 @@ IsCheckSaid text (Ok a) s = IsLinesOf (yes_line ++ text a.1) s
 IsCheckSaid text (Err (Decode fault)) s = s ≡ refusal fault
 IsCheckSaid text (Err (Validation fault)) s = IsRefused fault s
 
--- What the check of such objects answers, and what is said of it: a yes exactly where the octets
--- begin with a good one, and a fault is that of its first check that fails.
+-- What the check of such objects answers, and what is said of it: unless memory runs out, a yes
+-- exactly where the octets begin with a good one, and where they begin with one that is not good,
+-- the fault of its first check that fails.
 pub record IsChecked {X : Type 0} (kind : signed.Kind X) (form : List ℕ → X → Type 0)
     (text : X → List ℕ) (mode : Mode) (digest : Digester) (verdict : Verdict) (issuer : Validated)
     (now : Moment) (octets : List ℕ) (s : Said) : Type 0 where

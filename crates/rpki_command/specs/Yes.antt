@@ -36,7 +36,8 @@ pub record FilesOfCheck : Type 0 where
 abbrev pub in_order : FilesOfCheck → List (List ℕ)
 in_order files = files.object ∷ files.verdicts ∷ files.anchor ∷ files.chain
 
--- to check the object in the file of such a name
+-- the order to check the object in the file of this name at this moment, by the verdicts and under
+-- the certificates in those of the others
 abbrev pub check_order : Options → Kind → Moment → FilesOfCheck → Order
 check_order options kind now names = record {
   options = options;

@@ -39,9 +39,9 @@ abbrev pub v2 : ℕ
 v2 = 1
 
 -- TBSCertList: SEQUENCE { version, signature, issuer, thisUpdate, nextUpdate, revokedCertificates
--- OPTIONAL, crlExtensions [0] } (5.1). The version is v2, and nextUpdate and the extensions have to
--- be there (RFC 6487, section 5). That the two times may stand in any order is this project's own
--- rule.
+-- OPTIONAL, crlExtensions [0] } (5.1). The version is v2, and the extensions have to be there (RFC
+-- 6487, section 5); nextUpdate has to be there too (5.1.2.5). That the next update may be before
+-- this one is this project's own rule.
 abbrev pub TbsForm : Mode → List ℕ → Tbs → Type 0
 TbsForm mode octets t = Sequence mode (
     (λ o. Integer mode o v2)
@@ -54,7 +54,9 @@ TbsForm mode octets t = Sequence mode (
     ∷ []) octets
 
 -- CertificateList: SEQUENCE { tbsCertList, signatureAlgorithm, signatureValue BIT STRING } (5.1).
--- What is signed are the octets of the first, as they stand there.
+-- What is signed are the octets of the first, as they stand there. That of the two identifiers of
+-- the algorithm one may have a NULL and the other none, where 5.1.1.2 has them the same, is this
+-- project's own rule.
 abbrev pub CrlForm : Mode → List ℕ → RevocationList → Type 0
 CrlForm mode octets c = (c.octets ≡ octets) × Sequence mode (
     (λ o. WithOctets (TbsForm mode) o c.tbs c.signed)

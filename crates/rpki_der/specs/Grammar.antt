@@ -35,9 +35,10 @@ IsLength mode octets n = IsShort octets n ⊎ IsLong mode octets n
 
 mutual
   -- The octets are one value with this tag and these contents (8.1.1): identifier, length and
-  -- contents, or in BER identifier, 80, values and the end 00 00 (8.1.3.6, 8.1.5). That the
-  -- contents of a constructed value with a definite length are values (8.1.4) is not asked here,
-  -- but by the form of the contents, which is this project's own rule.
+  -- contents, or in BER, where the tag is that of a constructed value (8.1.3.2), identifier, 80
+  -- hexadecimal, values and the end 00 00 (8.1.3.6, 8.1.5). That the contents of a constructed
+  -- value with a definite length are values (8.1.4) is not asked here, but by the form of the
+  -- contents, which is this project's own rule.
   pub data Value : Mode → List ℕ → ℕ → List ℕ → Type 0 where
     definite : (mode : Mode) (octets : List ℕ) (tag : ℕ) (len contents : List ℕ) → IsTag tag
         → IsLength mode len (length contents) → octets ≡ tag ∷ (len ++ contents)
@@ -58,7 +59,7 @@ mutual
 abbrev pub Within : Mode → ℕ → (List ℕ → Type 0) → List ℕ → Type 0
 Within mode tag G octets = (contents : List ℕ) × Value mode octets tag contents × G contents
 
--- some beginning of the octets is related by the grammar, and rest follows it
+-- some beginning of the octets is in G and means x, and rest follows it
 abbrev pub Front : {X : Type 0} → (List ℕ → X → Type 0) → List ℕ → X → List ℕ → Type 0
 Front G octets x rest = (front : List ℕ) × (octets ≡ front ++ rest) × G front x
 
@@ -94,16 +95,16 @@ abbrev pub ListOf : (List ℕ → Type 0) → List ℕ → Type 0
 ListOf G octets = (each : List (Unit {0})) × Items (λ o _. G o) octets each
 
 -- The octets are a value whose contents are skipped: any contents of a primitive value (8.1.4), and
--- values of which this holds, nested at most to this depth, in a constructed one (8.1.1, 8.1.4).
--- That there is a limit is this project's own rule.
+-- values of which this holds in a constructed one (8.1.1, 8.1.4), nested at most to this depth,
+-- the outermost value counted. That there is a limit is this project's own rule.
 unfoldable pub Skipped : Mode → ℕ → List ℕ → Type 0
 Skipped mode zero octets = ⊥
 Skipped mode (suc depth) octets = (tag : ℕ) × (contents : List ℕ) × Value mode octets tag contents
     × (is_constructed tag ≡ true → ListOf (Skipped mode depth) contents)
 
 -- The octets are an OCTET STRING of these octets (8.7): one primitive value or, in BER, OCTET
--- STRINGs in a constructed one (8.7.3; not in DER, 10.2), nested at most to this depth. That there
--- is a limit is this project's own rule.
+-- STRINGs in a constructed one (8.7.3; not in DER, 10.2), nested at most to this depth, the
+-- outermost string counted. That there is a limit is this project's own rule.
 unfoldable pub OctetString : Mode → ℕ → List ℕ → List ℕ → Type 0
 OctetString mode zero octets string = ⊥
 OctetString mode (suc depth) octets string =
@@ -142,7 +143,7 @@ IsBitString contents bits = (contents ≡ bits.1 ∷ bits.0) × IsBits bits.0 bi
 abbrev pub BitString : Mode → List ℕ → List ℕ × ℕ → Type 0
 BitString mode octets bits = Within mode BIT_STRING (λ c. IsBitString c bits) octets
 
--- An IA5String of these characters (8.23): each is below 80. It is primitive, in DER by 10.2, in
+-- An IA5String of these characters (8.23): each is below 128. It is primitive, in DER by 10.2, in
 -- BER by this project's own rule.
 abbrev pub Ia5String : Mode → List ℕ → List ℕ → Type 0
 Ia5String mode octets text =
@@ -152,7 +153,7 @@ Ia5String mode octets text =
 abbrev pub IntegerBelow : ℕ → Mode → List ℕ → ℕ → Type 0
 IntegerBelow limit mode octets n = Within mode INTEGER (λ c. IsInteger c n × (n < limit)) octets
 
--- an OCTET STRING of this length, whose pieces nest at most 32 deep (8.7)
+-- an OCTET STRING of this length, which nests at most 32 deep, the outermost string counted (8.7)
 abbrev pub OctetStringOf : ℕ → Mode → List ℕ → List ℕ → Type 0
 OctetStringOf n mode octets string = OctetString mode MAX_DEPTH octets string × (length string ≡ n)
 

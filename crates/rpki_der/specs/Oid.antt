@@ -5,7 +5,7 @@ use Rattle.std.specs.List.{list_all, flat_map}
 use Rattle.rpki_der.specs.Text.Hex.{hex}
 
 -- X.690, 8.19.2: there are octets, and the last one ends a subidentifier. That a subidentifier may
--- begin with 80, which 8.19.2 forbids, is this project's own rule.
+-- begin with 80 hexadecimal, which 8.19.2 forbids, is this project's own rule.
 abbrev pub IsOid : List ℕ → Type 0
 IsOid contents = (0 < length contents) × (slice_index contents (length contents - 1) < 128)
 
@@ -41,7 +41,8 @@ abbrev pub dotted : List ℕ → List ℕ
 dotted [] = []
 dotted (arc ∷ others) = decimal arc ++ flat_map point others
 
--- the arcs in dotted form, or the octets in hexadecimal digits where an arc has more than 32 bits
+-- the arcs in dotted form, or x and the octets in hexadecimal digits where an arc has more than 32
+-- bits
 abbrev pub oid_text : List ℕ → List ℕ
 oid_text contents = if list_all (λ arc. nat_lt arc (2 ^ 32)) (arcs contents) then dotted
     (arcs contents) else codes "x" ++ hex contents

@@ -28,8 +28,8 @@ pub enum DecodeError {
 #[derive(Debug, Drop)]
 pub enum ContentFault {
     /// A signed attribute of another type than content type, message digest and signing time
-    /// (RFC 6488, section 2.1.6.4). A binary signing time, which that section names too, is one of
-    /// them, by this project's own rule.
+    /// (RFC 6488, section 2.1.6.4, as RFC 9589 updates it: a binary signing time, which that
+    /// section names too, is no longer allowed).
     InvalidSignedAttr(InvalidSignedAttr),
     /// A rule of the format that is broken. `Reason` has a text for each.
     Text(Reason),

@@ -84,7 +84,8 @@ pub enum Reason {
     NoContentType,
     /// No message digest is among the signed attributes (RFC 6488, section 2.1.6.4.2).
     NoMessageDigest,
-    /// No signing time is among the signed attributes, which this project asks for.
+    /// No signing time is among the signed attributes. RFC 9589 asks for one in signed objects;
+    /// that one is asked for in messages too is this project's own rule.
     NoSigningTime,
     /// The signed attributes have more than 65535 octets, which is this project's own rule.
     AttributesTooLong,

@@ -61,9 +61,9 @@ IsIssuerAccess list uri = First (IsLocated IsRsync ca_issuers) list uri
 abbrev pub AuthorityAccessForm : Mode → List ℕ → Option (List ℕ) → Type 0
 AuthorityAccessForm mode = Understood IsIssuerAccess (SequenceOf mode (AccessForm mode))
 
--- Each is the first URI of its method, if there is one: an rsync URI, and for the notification file
--- an https URI (RFC 6487, section 4.8.8; RFC 8182, section 3.2). That the first one counts, and
--- that there may be none, is this project's own rule.
+-- Each is the first rsync URI of its method, and for the notification file the first https URI, if
+-- there is one (RFC 6487, section 4.8.8; RFC 8182, section 3.2). URIs of another scheme are gone
+-- past. That the first one counts, and that there may be none, is this project's own rule.
 pub record AreSubjectAccess (list : List Access) (x : SubjectAccess) : Type 0 where
   pub ca_repository : First (IsLocated IsRsync ca_repository) list x.ca_repository
   pub rpki_manifest : First (IsLocated IsRsync rpki_manifest) list x.rpki_manifest

@@ -37,15 +37,15 @@ abbrev pub Stated : {X : Type 0} → List Extension → List ℕ → (Mode → L
     → Option X → Type 0
 Stated list oid G x = Keyed oid_of (SaysBy G) list oid x
 
--- It is one of these.
+-- The identifier, which is the last argument, is one of the list.
 abbrev pub IsAmong : List (List ℕ) → List ℕ → Type 0
 IsAmong [] oid = ⊥
 IsAmong (k ∷ ks) oid = (oid ≡ k) ⊎ IsAmong ks oid
 
 -- No identifier stands twice, and an extension that is not known is not critical (4.2). Two rules
--- are this project's own: a known extension has either flag, where RFC 6487 fixes each (sections
--- 4.8 and 5), and unknown ones that are not critical may stand, which RFC 6487 does not permit
--- (section 8).
+-- are this project's own: a known extension has either flag, where the flag of each is fixed (RFC
+-- 6487, section 4.8; in a revocation list 4.2.1.1 and 5.2.3), and unknown ones that are not
+-- critical may stand, which RFC 6487 does not permit (sections 5 and 8).
 pub record MayStand (known : List (List ℕ)) (list : List Extension) : Type 0 where
   pub distinct : AreDistinct oid_of list
   pub critical : All (λ e. e.critical ≡ true → IsAmong known (oid_of e)) list

@@ -127,7 +127,7 @@ abbrev pub StatedOr : {X : Type 0} → X → List Extension → List ℕ → (Mo
 StatedOr {X} default list oid G x =
     (found : Option X) × Stated list oid G found × (x ≡ unwrap_or found default)
 
--- It has the form of purposes.
+-- The octets have the form of purposes, and what they mean is true: that purposes are there.
 abbrev pub HasPurposes : Mode → List ℕ → Bool → Type 0
 HasPurposes mode = Made (λ _. true) (PurposesForm mode)
 

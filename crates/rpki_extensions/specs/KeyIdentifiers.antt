@@ -9,11 +9,12 @@ use Rattle.rpki_der.specs.Read.Parse.{Parser, ◌>>=◌, octets_of, tested}
 abbrev pub id_length : ℕ
 id_length = 20
 
--- SubjectKeyIdentifier: KeyIdentifier, which is an OCTET STRING (4.2.1.2)
+-- SubjectKeyIdentifier: KeyIdentifier, which is an OCTET STRING (4.2.1.2), of 20 octets (RFC 6487,
+-- section 4.8.2)
 abbrev pub SubjectKeyForm : Mode → List ℕ → List ℕ → Type 0
 SubjectKeyForm mode octets id = OctetStringOf id_length mode octets id
 
--- keyIdentifier [0] IMPLICIT KeyIdentifier (4.2.1.1)
+-- keyIdentifier [0] IMPLICIT KeyIdentifier (4.2.1.1), of 20 octets (RFC 6487, section 4.8.3)
 abbrev pub KeyIdForm : Mode → List ℕ → List ℕ → Type 0
 KeyIdForm mode octets id = ImplicitString 0 mode octets id × (length id ≡ id_length)
 

@@ -14,7 +14,8 @@ does_go_on test [] = false
 does_go_on test (a ∷ []) = false
 does_go_on test (a ∷ b ∷ rest) = (a == 0x2F) && ((b == 0x2F) && test (segments rest))
 
--- whether a text begins with this scheme and a colon: the test of `HasScheme`
+-- whether a text begins with this scheme, in upper or lower case, and a colon: the test of
+-- `HasScheme`
 abbrev pub has_scheme : List ℕ → List ℕ → Bool
 has_scheme scheme text =
     nat_lt (length scheme) (length text)

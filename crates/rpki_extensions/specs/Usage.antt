@@ -10,8 +10,8 @@ use Rattle.rpki_faults.specs.declared.usage.KeyUsage.{KeyUsage}
 use Rattle.rpki_faults.specs.declared.usage.KeyUsage.TheVariants.{Ca, Ee}
 use Rattle.rpki_resources.specs.Ip.Form.{bit_count}
 
--- The bit of this number is set. They are counted from the highest one of the first octet (X.690,
--- section 8.6.2.1), and those that are not used are no bits (8.6.2.2).
+-- The bit of this number is set. Bits are counted from 0, which is the highest one of the first
+-- octet (X.690, section 8.6.2.1); those that are not used are no bits (X.690, section 8.6.2.2).
 abbrev pub IsBitSet : ℕ → List ℕ × ℕ → Type 0
 IsBitSet n bits = (n < bit_count bits) × (get_or bits.0 (n / 8) 0 / 2 ^ (7 - n % 8) % 2 ≡ 1)
 
@@ -31,8 +31,10 @@ crl_sign = 6
 abbrev pub SignsCertificates : List ℕ × ℕ → Type 0
 SignsCertificates bits = IsBitSet key_cert_sign bits × IsBitSet crl_sign bits
 
--- The two usages that are allowed (RFC 6487, section 4.8.4). Two rules are this project's own:
--- further bits may be set, and a usage that has those of a CA and of an end entity is that of a CA.
+-- The bits are this usage, one of the two that are allowed (RFC 6487, section 4.8.4): that of a CA
+-- where keyCertSign and cRLSign are set, and that of an end entity where digitalSignature is set
+-- and not both of the others. Two rules are this project's own: further bits may be set, and a
+-- usage that has those of a CA and of an end entity is that of a CA.
 abbrev pub IsUsage : List ℕ × ℕ → KeyUsage → Type 0
 IsUsage bits Ca = SignsCertificates bits
 IsUsage bits Ee = ¬ SignsCertificates bits × IsBitSet digital_signature bits

@@ -37,7 +37,8 @@ anchor_checks c =
     ∷ (inspections.TaInherit unless (c.inherits ≡ false))
     ∷ [])
 
--- Both ends belong to the validity (RFC 5280, section 4.1.2.5).
+-- The moment is not before the validity begins and not after it ends: both ends belong to it (RFC
+-- 5280, section 4.1.2.5).
 abbrev pub validity_checks : Facts → ℕ → List (Check VerificationError)
 validity_checks c now =
     (verifications.NotYetValid unless (c.not_before ≤ now))

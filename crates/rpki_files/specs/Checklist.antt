@@ -34,14 +34,15 @@ use Rattle.rpki_files.specs.Checked.{Checked, CheckedForm, checked_at, checked_o
 abbrev pub Set : Type 0
 Set = List (Block ℕ)
 
--- what a content says: the numbers that the signer holds, and the files
+-- what a content says: the numbers that it names, which its signer has to hold (4.2), and the
+-- files
 pub record Checklist : Type 0 where
   pub as_resources : Set
   pub v4_resources : Set
   pub v6_resources : Set
   pub files : List Checked
 
--- the list, none of which is the empty one
+-- the list, or the empty one where there is none
 abbrev pub or_nothing : {T : Type 0} → Option (List T) → List T
 or_nothing list = unwrap_or list []
 

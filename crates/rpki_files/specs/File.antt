@@ -28,7 +28,7 @@ File = FileAndHash (List ℕ) (List ℕ)
 abbrev pub name_of : File → List ℕ
 name_of f = f.file
 
--- a name of the form that section 4.2.2 asks for
+-- an IA5String that is a name by IsFileName (section 4.2.2), whose type need not be registered
 abbrev pub NameForm : Mode → List ℕ → List ℕ → Type 0
 NameForm mode octets name = Ia5String mode octets name × IsFileName name
 
@@ -112,7 +112,7 @@ is_short_file f =
     ((length f.file < 2 ^ 32) × (length (bit_string_contents f.hash 0) < 2 ^ 32))
     × (length (file_contents f) < 2 ^ 32)
 
--- where a file has few octets, each contents in it has
+-- where a file has fewer than 2^32 octets, each contents in it has fewer too
 pub file-small : (f : File) → length (file_octets f) < 2 ^ 32 → is_short_file f
 file-small f h =
     let c = contents_small SEQUENCE (file_contents f) h in (

@@ -26,7 +26,8 @@ use rpki_resources::{AddressFamily, AsBlocks, IpBlocks};
 use std::alloc::{AllocError, Global};
 use std::marker::Model;
 
-/// Which files the holder of numbers has signed, and which numbers these are.
+/// Which files a checklist lists, and which numbers it names, whose holder is to have signed it
+/// (RFC 9323, section 4). Nothing of a signature is tested here.
 #[derive(Debug, Drop)]
 pub struct ResourceSignedChecklist {
     as_resources: AsBlocks,
@@ -92,14 +93,16 @@ impl ResourceSignedChecklist {
         take_checklist(alloc, cons)
     }
 
-    /// The AS numbers that the signer holds.
+    /// The AS numbers that the content names (RFC 9323, section 4.2). Whether the signer holds them
+    /// is not tested here.
     pub fn as_resources(&self) -> &AsBlocks
         ensures { result.now ≡ self.now.as_resources }
     {
         &self.as_resources
     }
 
-    /// The IPv4 addresses that the signer holds.
+    /// The IPv4 addresses that the content names (RFC 9323, section 4.2). Whether the signer holds
+    /// them is not tested here.
     pub fn v4_resources(&self) -> &IpBlocks
         ensures value { result.now ≡ self.now.v4_resources }
         ensures addresses { All (IsWithin Ipv4) self.now.v4_resources }
@@ -107,7 +110,8 @@ impl ResourceSignedChecklist {
         &self.v4_resources
     }
 
-    /// The IPv6 addresses that the signer holds.
+    /// The IPv6 addresses that the content names (RFC 9323, section 4.2). Whether the signer holds
+    /// them is not tested here.
     pub fn v6_resources(&self) -> &IpBlocks
         ensures { result.now ≡ self.now.v6_resources }
     {

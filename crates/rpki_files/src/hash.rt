@@ -33,7 +33,7 @@ impl Model for ManifestHash {
 }
 
 impl ManifestHash {
-    /// The hash of these octets.
+    /// The hash that these octets are. Nothing is hashed.
     pub fn new(hash: Bytes, algorithm: DigestAlgorithm) -> ManifestHash
         ensures { result ≡ hash }
     {

@@ -40,8 +40,8 @@ pub fn checklists()
     ensures ia5 { (name : List ℕ) → is_portable_name name ≡ true → All (λ b. b < 128) name }
 {}
 
-/// What is taken where types have to be registered and no name may come twice, is taken with the
-/// same record where not.
+/// What is a manifest where types have to be registered and no name may come twice, is the same
+/// manifest where neither is asked for.
 pub fn registered_is_any()
     ensures { (mode : Mode) (octets : List ℕ) (m : Manifest)
         → ManifestForm Registered mode octets m → ManifestForm Any mode octets m }

@@ -31,8 +31,9 @@ pub record BeginsWithCert (octets : List ℕ) (P : Certificate → Type 0) : Typ
 abbrev pub in_der : Certificate → KeptCertificate
 in_der c = record { certificate = c; mode = Der }
 
--- What is answered of octets: of the certificate that they begin with by the first of its checks,
--- unless memory runs out; where they begin with none they don't decode.
+-- What is answered of octets, unless memory runs out: where they begin with a certificate, the
+-- fault of the first of its checks that does not hold, and where each holds, a value of which
+-- `IsValid` holds; where they begin with none, they don't decode.
 abbrev pub OfCert : (Certificate → List (Check ValidationError))
     → (KeptCertificate → Validated → Type 0) → List ℕ → Result Validated IssuerError → Type 0
 OfCert checks IsValid octets (Ok v) =

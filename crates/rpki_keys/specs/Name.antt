@@ -28,7 +28,8 @@ common_name = 0x55 ∷ 0x04 ∷ 0x03 ∷ []
 
 -- The name of the key with this identifier: SEQUENCE { SET { SEQUENCE { commonName,
 -- PrintableString } } } of the upper hexadecimal digits of the identifier. RFC 6487, section 4.5,
--- asks for a name that no other key has; that it is of these digits is this project's own rule.
+-- asks for a name that no other key has under the same issuer; that it is of these digits is this
+-- project's own rule.
 abbrev pub KeyNameForm : Mode → List ℕ → List ℕ → Type 0
 KeyNameForm mode octets identifier = Sequence mode (
     Set mode (

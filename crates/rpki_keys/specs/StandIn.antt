@@ -35,8 +35,8 @@ after_call turns next = record {
   failures = if is_told turns then turns.failures + 1 else turns.failures;
 }
 
--- What is seen of it after a call that signs once: its key's number is not used again before 2^64
--- others, also where memory ran out. Where the call was told to fail, no number is used.
+-- What is seen of it after a call that signs once: the number of the next key is one more, modulo
+-- 2^64, also where memory ran out. Where the call was told to fail, no number is used.
 abbrev pub after_one_off : Turns → Turns
 after_one_off turns =
     after_call turns (if is_told turns then turns.next else (turns.next + 1) % 2 ^ 64)

@@ -4,7 +4,7 @@ use Rattle.std.specs.Prelude.{Result, Ok, Err}
 use Rattle.rpki_der.specs.declared.mode.Mode.TheVariants.{Der}
 use Rattle.rpki_der.specs.Read.Parse.{Parser}
 
--- the test goes on by what is there
+-- whether something is there, and the test holds of it
 abbrev pub goes_on : {S : Type 0} → (S → Bool) → Option S → Bool
 goes_on test None = false
 goes_on test (Some s) = test s

@@ -35,15 +35,17 @@ AreListed cert a cas =
     (crls : List Crl) × PairsOff HasCrl a.cas crls a.crls []
     × (placed cert 1 cas ≡ authorities a crls)
 
--- All is paired: in carried order each CA takes the first CRL that fits it of those that are left,
--- and each signer the first end-entity certificate.
+-- All is paired, and every signer has the digest of the content (`IsMatching`): in carried order
+-- each CA takes the first CRL that fits it of those that are left, and each signer the first
+-- end-entity certificate.
 pub record IsFirstMatching (a : Carried) (ees : List Cert) (crls : List Crl) : Type 0 where
   pub matching : IsMatching a ees crls
   pub of_cas : PairsOff HasCrl a.cas crls a.crls []
   pub of_signers : PairsOff IsVerifiedBy a.signers ees a.ees []
 
--- Every certificate is valid, all is paired, each taking the first that fits, and this is kept of
--- the paths of the certificates of the signers, on which every carried CA stands.
+-- Every certificate is valid, all is paired, each taking the first that fits, every signer has the
+-- digest of the content, and this is kept of the paths of the certificates of the signers, on which
+-- every carried CA stands.
 pub record AreAccepted {C : Type 0} (cert : C → Cert) (a : Carried) (kept : List (Path C)) :
     Type 0 where
   pub ees : List Cert
@@ -60,16 +62,20 @@ HaveDigest a = (s : Signer) → IsIn s a.signers → IsTrue s.digest_holds
 abbrev pub PassesCrls : Carried → Type 0
 PassesCrls a = AreValid a × AreAllPaired HasCrl a.cas a.crls
 
--- So they do, and signers and subject keys pair off.
+-- Every certificate is valid, CAs and CRLs pair off, and so do signers and subject keys.
 abbrev pub PassesKeys : Carried → Type 0
 PassesKeys a = PassesCrls a × AreAllPaired HasKey a.signers a.subject_keys
 
--- So they do, and every signer has the digest of the content.
+-- Every certificate is valid, CAs and CRLs pair off, so do signers and subject keys, and every
+-- signer has the digest of the content.
 abbrev pub PassesDigests : Carried → Type 0
 PassesDigests a = PassesKeys a × HaveDigest a
 
--- Why an attestation is not accepted. The checks are asked in this order, and the first that fails
--- is answered: those before it are passed.
+-- Why an attestation is not accepted. In this order: not every certificate is valid; CAs and CRLs
+-- do not pair off; signers and subject keys do not; not every signer has the digest of the content;
+-- signers and end-entity certificates do not pair off; walks from these are refused. The first that
+-- fails is answered: the checks before it are passed. Where memory is wanting, none of them need
+-- have failed.
 abbrev pub WhyNot : Carried → AcceptFault → Type 0
 WhyNot a NotValid = ¬ (AreValid a)
 WhyNot a (Crls fault) = AreValid a × AreUnpaired HasCrl a.cas a.crls fault

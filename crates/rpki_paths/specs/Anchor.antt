@@ -13,13 +13,14 @@ pub data Supply : Type 0 where
   Tal : (key : List ℕ) → Supply
   Ca : (ski key : List ℕ) → (Family → Numbers) → Supply
 
--- The sets of a supplied CA are one more explicit claim above the path.
+-- What a supply claims above a path: a CA its sets, as one more explicit claim; a locator an
+-- inherited one, which adds no set.
 abbrev pub supplied_claim : Supply → Family → Claim Numbers
 supplied_claim (Tal key) f = Inherit
 supplied_claim (Ca ski key sets) f = Explicit (sets f)
 
--- The supply is meant for this head: the locator has the key of a self-signed one; the CA is named
--- as its issuer, and its key verifies it.
+-- The supply is meant for this head: a locator for one that is self-signed and has its key; a CA
+-- for one that is not self-signed, names it as its issuer, and is verified by its key.
 abbrev pub Fits : Cert → Supply → Type 0
 Fits head (Tal key) = IsSelfSigned head × (head.key ≡ key)
 Fits head (Ca ski key sets) =

@@ -46,7 +46,8 @@ pub record AreValid (a : Carried) : Type 0 where
   pub ees : (c : Cert) → IsIn c a.ees → IsTrue c.is_valid
   pub cas : (c : Cert) → IsIn c a.cas → IsTrue c.is_valid
 
--- All is paired, and the certificate of each signer has a path whose links are covered.
+-- All is paired, every signer has the digest of the content (`IsMatching`), and its certificate a
+-- path whose links are covered.
 pub record HasPaths (a : Carried) (paths : List (List Cert)) : Type 0 where
   pub ees : List Cert
   pub crls : List Crl
@@ -57,8 +58,8 @@ pub record HasPaths (a : Carried) (paths : List (List Cert)) : Type 0 where
 abbrev pub AreUsed : List Cert → List (List Cert) → Type 0
 AreUsed cas paths = (d : Cert) → IsIn d cas → IsUsed d paths
 
--- Every certificate is valid, all is paired, each signer has a path, and every carried CA stands on
--- one of these.
+-- Every certificate is valid, all is paired, every signer has the digest of the content, and its
+-- certificate a path whose links are covered; and every carried CA stands on one of these paths.
 pub record IsAccepted (a : Carried) (paths : List (List Cert)) : Type 0 where
   pub valid : AreValid a
   pub found : HasPaths a paths

@@ -64,7 +64,8 @@ pub record AreWalked {C : Type 0} (cert : C → Cert) (cas ees : List Cert) (kep
   pub used : AreUsed cas paths
   pub are_kept : AreKept cert [] kept paths
 
--- The first certificate that has no path: those before it have paths, and this is its cause.
+-- The first certificate from which the walk is refused, for this cause, which is not want of
+-- memory: from those before it walks find paths.
 pub record StopsFor (fault : PathFault) (cas ees : List Cert) : Type 0 where
   pub done : List Cert
   pub ee : Cert
@@ -86,8 +87,8 @@ pub record IsFirstUnused (cas ees : List Cert) (place : ℕ) : Type 0 where
   pub unused : ¬ (IsUsed ca paths)
   pub before : (k : ℕ) (d : Cert) → k < place → slice_get cas k ≡ Some d → IsUsed d paths
 
--- Why walks from these certificates are refused: of the first that has no path, the cause; or the
--- first CA that stands on none of the paths.
+-- Why walks from these certificates are refused: the cause of the first walk that is refused; or
+-- the first CA that stands on none of the paths.
 abbrev pub AreRefused : WalksFault → List Cert → List Cert → Type 0
 AreRefused (NoPath fault) cas ees = StopsFor fault cas ees
 AreRefused (Unused place) cas ees = IsFirstUnused cas ees place

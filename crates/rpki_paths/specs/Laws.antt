@@ -82,7 +82,8 @@ abbrev pub PathsAreShort : Type 0
 PathsAreShort =
     (cas : List Cert) (ee : Cert) (p : List Cert) → IsChain cas ee p → length p ≤ 1 + length cas
 
--- Where items that one fits are alike, any choice that fits leaves the others to be paired.
+-- Where items that share one partner that fits have all such partners in common, and there is a
+-- pairing, any choice that fits leaves a pairing of the others.
 abbrev pub AnyChoicePairs : {A B : Type 0} → (A → B → Type 0) → Type 0
 AnyChoicePairs {A} {B} R =
     (x : A) (y : B) (xs : List A) (ys rest : List B) → AreAlike R (x ∷ xs) ys →
@@ -116,8 +117,8 @@ AcceptanceIsDecided =
     ((paths' : List (List Cert)) × IsAccepted a paths')
     ↔ (AreValid a × AreUsed (authorities a found.crls) paths)
 
--- With distinct identifiers the paths that are found decide whether the attestation is granted: it
--- is where each of them is anchored and the attested sets have just their numbers.
+-- With distinct identifiers any paths that are accepted decide whether the attestation is granted:
+-- it is where each of them is anchored and the attested sets have just their numbers.
 abbrev pub GrantIsDecided : Type 0
 GrantIsDecided =
     (a : Carried) (paths : List (List Cert)) (supplies : List Supply)
@@ -153,7 +154,8 @@ FinalIsDecided {C} cert =
     IsEarned paths supplies attested
     ↔ (IsTrue (all_anchored kept) × InEach (IsWhole kept attested))
 
--- Walks from the certificates of a matching up its CAs find paths that are accepted.
+-- Where every carried certificate is valid, walks from the certificates of a matching up its CAs,
+-- on whose paths every CA stands, find paths that are accepted.
 abbrev pub WalksAreAccepted : {C : Type 0} → (C → Cert) → Type 0
 WalksAreAccepted {C} cert =
     (a : Carried) (ees : List Cert) (crls : List Crl) (kept : List (Path C)) → AreValid a →
@@ -169,15 +171,16 @@ RefusedIsNotAccepted =
     AreRefused fault (authorities a crls) ees → (paths : List (List Cert)) →
     ¬ (IsAccepted a paths)
 
--- What is kept of paths before a supply is handed in and none is declined, is kept under it too.
+-- What is kept of paths after one supply more is handed in, which declines none of them, is kept
+-- under it too.
 abbrev pub EachIsKept : {X C F : Type 0} → (C → Cert) → (X → Supply) → (X → C → F → Type 0) → Type 0
 EachIsKept {X} {C} cert of refuses =
     (x : X) (supplies : List Supply) (old new : List (Path C)) (paths : List (List Cert))
     (all : Bool) → AnswersEach cert (refuses x) (of x) old new (Ok all) →
     AreKept cert supplies old paths → AreKept cert (supplies ++ of x ∷ []) new paths
 
--- Where a supply declines a path, but for memory, this path is anchored by none, whatever comes
--- after.
+-- Where a supply declines a path, but for memory, there is a path that no supply anchors, whatever
+-- supplies come after.
 abbrev pub DeclinedIsUnanchored : {X C F : Type 0} → (C → Cert) → (X → Supply) →
     (X → C → F → Type 0) → Type 0
 DeclinedIsUnanchored {X} {C} {F} cert of refuses =
@@ -203,7 +206,9 @@ RefusedIsUnanchored {X} {C} {F} cert of refuses =
     AreSuppliedAll cert of refuses xs old new (Err fault) → AreKept cert supplies old paths →
     HasUnanchored paths (supplies ++ map of xs)
 
--- Where all supplies are handed in to such paths and the end says yes, the attestation is granted.
+-- Where every certificate is valid, walks from the certificates of a matching find paths, all
+-- supplies are handed in to these and none declines one, and the end says yes, the attestation is
+-- granted.
 abbrev pub YesIsGranted : {X C F : Type 0} → (C → Cert) → (X → Supply) → (X → C → F → Type 0) →
     Type 0
 YesIsGranted {X} {C} cert of refuses =
@@ -267,8 +272,8 @@ UnpairedIsUnpairable {A} {B} R =
     (xs : List A) (ys : List B) (fault : PairFault) → ¬ (fault ≡ PairMemory) →
     AreUnpaired R xs ys fault → AreAlike R xs ys → ¬ (IsPairable R xs ys)
 
--- Handles are paired off by `R` where what they stand for is by `S`, and where they are not, it is
--- for the same reason.
+-- Where handles are paired off by `R`, what they stand for is paired off by `S`, at the same
+-- places; and where they are not, it is not, for the same reason.
 abbrev pub PairsAlongMap : {X Y A B : Type 0} → (X → A) → (Y → B) → (X → Y → Type 0) →
     (A → B → Type 0) → Type 0
 PairsAlongMap {X} {Y} f g R S =

@@ -64,15 +64,17 @@ IsVerifiedBy = IsPair (λ s. s.sid) (λ e. e.ski) (λ s e. s.verifies e.key)
 abbrev pub HasCrl : Cert → Crl → Type 0
 HasCrl = IsPair (λ d. d.ski) (λ l. l.aki) (λ d l. l.verifies d.key)
 
--- Subject keys, signers and end-entity certificates pair off one to one, and so do CAs and CRLs.
+-- All matches: signers pair off one to one with subject keys and with end-entity certificates, CAs
+-- pair off with CRLs, and every signer has the digest of the content. In order, ees are the
+-- partners of the signers, and crls those of the CAs.
 pub record IsMatching (a : Carried) (ees : List Cert) (crls : List Crl) : Type 0 where
   pub keys : IsPairable HasKey a.signers a.subject_keys
   pub digests : (s : Signer) → IsIn s a.signers → IsTrue s.digest_holds
   pub signed : IsPairing IsVerifiedBy a.signers ees a.ees
   pub crl_of : IsPairing HasCrl a.cas crls a.crls
 
--- No two carried CAs have one subject key identifier, and end-entity certificates that have one
--- have one key.
+-- No two carried CAs share a subject key identifier, and end-entity certificates that share one
+-- have the same key.
 pub record HasDistinctIds (a : Carried) : Type 0 where
   pub of_cas : IsDistinct a.cas
   pub of_ees : (e e' : Cert) → IsIn e a.ees → IsIn e' a.ees → e.ski ≡ e'.ski → e.key ≡ e'.key

@@ -22,7 +22,7 @@ pair_text (PairFault.Unpaired place) = codes "nothing left for item " ++ decimal
 pair_text PairFault.LeftOver = codes "items left over"
 pair_text PairFault.Memory = codes "out of memory"
 
--- The text that says why an end-entity certificate has no path.
+-- The text that says why a walk from an end-entity certificate is refused.
 abbrev pub path_text : PathFault → List ℕ
 path_text PathFault.NoValidIssuer = codes "no valid issuer"
 path_text PathFault.Returns = codes "path returns to its issuer"

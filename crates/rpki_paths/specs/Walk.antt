@@ -78,8 +78,9 @@ StopsWhere P cas ee =
     (c : Cert) × (d : Cert) × (p : List Cert) × IsReached cas ee c p × IsNext cas c.aki c.verifies d
     × P c d p
 
--- Why there is no path from `ee`. The walk asks in this order: an issuer is verified, it is not on
--- the path, it has not revoked the certificate, its claims cover what is below, AS numbers first.
+-- Why a walk from `ee` is refused. It asks in this order: the key of a CA that is named as the
+-- issuer verifies the certificate; the first such CA is not on the path, it has not revoked the
+-- certificate, and its claims cover what is below, AS numbers first.
 abbrev pub IsRefused : PathFault → List Cert → Cert → Type 0
 IsRefused NoValidIssuer cas ee =
     (c : Cert) × (p : List Cert) × IsReached cas ee c p × IsUnverified cas c.aki c.verifies

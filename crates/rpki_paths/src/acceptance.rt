@@ -94,7 +94,7 @@ pub enum AcceptFault {
     Digest,
     /// Signers and end-entity certificates are not paired off.
     Signers(PairFault),
-    /// An end-entity certificate has no path, or a CA stands on none.
+    /// A walk from an end-entity certificate is refused, or a CA stands on no path.
     Walks(WalksFault),
     /// There is no memory for the handles.
     Memory,

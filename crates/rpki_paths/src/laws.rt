@@ -201,7 +201,8 @@ pub fn unpaired_is_unpairable<X: Seeks<Y>, Y>()
     ensures { UnpairedIsUnpairable (IsPair X.sought X.held X.verdict) }
 {}
 
-/// Handles pair off where what they stand for does, and where they do not, for the same reason.
+/// Where handles pair off, what they stand for does, at the same places; where they do not, it does
+/// not, for the same reason.
 pub fn pairs_along_map<S: CarriedSigner<C>, C: CarriedCert<R>, R>()
     ensures ees { PairsAlongMap S.signer C.cert (IsPair S.sought S.held S.verdict) IsVerifiedBy }
     ensures crls { PairsAlongMap C.cert C.crl (IsPair C.sought C.held C.verdict) HasCrl }

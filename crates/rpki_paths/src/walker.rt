@@ -49,7 +49,7 @@ impl<C: Drop> Path<C> {
     }
 }
 
-/// Why an end-entity certificate has no path.
+/// Why a walk from an end-entity certificate is refused.
 #[derive(Clone, Copy, Debug, PartialEq, Eq)]
 pub enum PathFault {
     /// CAs are named as the issuer, and the key of none verifies the certificate.

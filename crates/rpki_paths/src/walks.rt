@@ -19,12 +19,13 @@ use std::error::Error;
 use std::fmt;
 use std::sync::ledger::Ledger;
 
-/// Why not all end-entity certificates have paths on which all CAs stand.
+/// Why walks from end-entity certificates are refused.
 #[derive(Clone, Copy, Debug, PartialEq, Eq)]
 pub enum WalksFault {
-    /// An end-entity certificate has no path.
+    /// The walk from an end-entity certificate is refused, for this cause.
     NoPath(PathFault),
-    /// The CA at this place stands on no path.
+    /// The CA with this index, which counts from 0, stands on none of the paths. It is no `place`
+    /// of a `Path`, which is one more.
     Unused(usize),
     /// There is no memory for the paths.
     Memory,
@@ -91,8 +92,9 @@ fn unmarked(marks: &[u64]) -> usize
     marks.len()
 }
 
-/// Walks from each of some end-entity certificates up the CAs, in order. The first that has no path
-/// ends the call with the cause; then a CA that stands on no path is an error, or want of memory.
+/// Walks from each of some end-entity certificates up the CAs, in order. The first walk that is
+/// refused ends the call with its cause; then a CA that stands on no path is an error, or want of
+/// memory.
 /// Among CAs with distinct identifiers a call that succeeds asks for at most as many verdicts for
 /// each certificate as there are CAs.
 pub fn walk_each<C: Signed<L>, L: Ledger>(

@@ -40,7 +40,8 @@ added Missing = []
 added Inherit = []
 added (Explicit blocks) = blocks
 
--- what is built: of blocks that were added the claim of the set of their numbers
+-- what is built: of blocks that were added the claim of the set of their numbers, and of a claim
+-- that is missing or inherited this claim itself
 abbrev pub IsBuilt : {T : Type 0} → (T → ℕ) → Claim (List (Block T)) → Claim (List (Block T))
     → Type 0
 IsBuilt f Missing claim = claim ≡ Missing

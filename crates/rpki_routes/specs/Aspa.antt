@@ -23,7 +23,8 @@ pub record IsProviderSet (limit : ProviderLimit) (providers : List ℕ) : Type 0
   pub alone : Contains providers 0 → length providers ≡ 1
   pub numbers : All IsAsn providers
 
--- The customer is not 0, and not among its providers.
+-- The customer is an AS number that is not 0 and not among its providers, and these are a set
+-- within the limit (`IsProviderSet`).
 pub record IsAttestation (limit : ProviderLimit) (a : Aspa) : Type 0 where
   pub not_zero : a.customer ≢ 0
   pub number : IsAsn a.customer

@@ -26,7 +26,8 @@ pub record Roa : Type 0 where
   pub v4 : List Address
   pub v6 : List Address
 
--- a prefix of the family: no more bits than an address has, and none after its length
+-- a prefix of the family: it is no longer than an address of the family has bits, and its address,
+-- held in 128 bits, has zeros after its length
 pub record IsPrefixOf (family : AddressFamily) (p : Network) : Type 0 where
   pub within : p.len ≤ max_bits family
   pub address : p.addr < 2 ^ 128

@@ -24,7 +24,7 @@ key_front k = header SEQUENCE (k + (header_octets + octets_after)) ++ header INT
 abbrev pub key_end : List ℕ
 key_end = INTEGER ∷ 0x03 ∷ 0x01 ∷ 0x00 ∷ 0x01 ∷ []
 
--- The key has these contents of its modulus, whose octets may have a zero in front.
+-- The key has these contents of its modulus: 256 to 513 octets, since a zero may stand in front.
 pub record HasContents (key contents : List ℕ) : Type 0 where
   pub whole : key ≡ key_with contents
   pub least : least_octets ≤ length contents

@@ -47,8 +47,8 @@ abbrev pub rsa_key_octets : ℕ → List ℕ
 rsa_key_octets n = key_with (integer_contents (digits most_octets n))
 
 -- What is taken for a modulus: an odd number of 2048 to 4096 bits. RFC 7935, section 3, asks for
--- 2048: that more may come is this project's own rule. That it is a product of two primes (RFC
--- 8017, section 3.1) can't be seen from the number, and is no part of this.
+-- 2048: that more may come is this project's own rule. That it is a product of two primes or more
+-- (RFC 8017, section 3.1) can't be seen from the number, and is no part of this.
 pub record IsModulus (n : ℕ) : Type 0 where
   -- it has 2048 bits or more
   pub least : 2 ^ (least_bits - 1) ≤ n

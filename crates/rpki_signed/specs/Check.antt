@@ -25,8 +25,8 @@ pub record BeginsWith {X : Type 0} (form : List ℕ → Whole X → Type 0) (oct
   pub front : IsOnlyFront form octets object rest
   pub holds : P object
 
--- What is answered of octets: of an object that they begin with what `Answers` says; where they
--- begin with none they don't decode, unless memory runs out.
+-- What is answered of octets: where they begin with an object, what `Answers` says of it; where
+-- they begin with none, they don't decode, unless memory runs out.
 abbrev pub OfFront : {X T : Type 0} → (List ℕ → Whole X → Type 0) → List ℕ
     → (Whole X → Result T ValidationError → Type 0) → Result T CheckError → Type 0
 OfFront form octets Answers (Ok value) = BeginsWith form octets (λ o. Answers o (Ok value))
@@ -43,8 +43,8 @@ MayAsk {X} kind form mode digest verdict issuer now Takes octets =
     → AllHold (before_revocation kind digest verdict o issuer now) → Takes (cert_in mode o)
 
 -- What is answered of octets: whether they begin with an object of the kind, and then by the first
--- of its checks, in one list: what its certificate claims, the object, what was said of the
--- certificate, and the numbers that the certificate has.
+-- of its checks that does not hold, in one list: what its certificate claims, the object, what was
+-- said of the certificate, and the numbers that the certificate has; unless memory runs out.
 abbrev pub Checks : {X : Type 0} → Kind X → (List ℕ → X → Type 0) → Mode → Digester → Verdict
     → Validated → Moment → (KeptCertificate → Result (Unit {0}) ValidationError → Type 0)
     → List ℕ → Result (Validated × X) CheckError → Type 0

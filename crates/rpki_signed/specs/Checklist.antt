@@ -42,7 +42,7 @@ pub record AreCanonical (l : Checklist) : Type 0 where
   pub v4 : IsCanonical (λ n. n) l.v4_resources
   pub v6 : IsCanonical (λ n. n) l.v6_resources
 
--- A checklist need not be published (2).
+-- A checklist is not published (2), so its certificate need not say where it is.
 abbrev pub checklist_kind : Kind Checklist
 checklist_kind = record {
   type = ct_checklist;

@@ -17,10 +17,11 @@ use Rattle.rpki_signed.specs.Good.{IsGood, IsNotGood}
 use Rattle.rpki_signed.specs.Kind.{Kind}
 use Rattle.rpki_signed.specs.Object.{Whole, ObjectForm, cert_in}
 
--- A yes is answered only where the octets begin with a member of the form, every check holds, and
--- the numbers that the kind asks for lie in the validated certificate's sets. Unless memory runs
--- out, it is answered exactly there, `Decode` exactly where they begin with none, and `Validation`
--- exactly where they begin with one that is not good, or of whose certificate its fault was said.
+-- A yes is answered only where the octets begin with a member of the form, a yes was said of its
+-- certificate, and it is good (`IsGood`); answered are its validated certificate and its content.
+-- Unless memory runs out, a yes is answered exactly there, `Decode` exactly where they begin with
+-- none, and `Validation` exactly where they begin with one that is not good, or of whose
+-- certificate its fault was said.
 abbrev pub IsExact : {X : Type 0} → Kind X → (List ℕ → X → Type 0) → Mode → Digester → Verdict
     → Validated → Moment → (KeptCertificate → Result (Unit {0}) ValidationError → Type 0)
     → List ℕ → Result (Validated × X) CheckError → Type 0

@@ -14,7 +14,8 @@ use Rattle.rpki_signed.specs.Process.{validation}
 
 -- An object is good under this issuer, at this moment, but for what is said of its certificate: it
 -- is valid, and the numbers that its kind asks for (the prefixes of a ROA, the customer of an ASPA,
--- the numbers of a checklist, of a manifest none) lie in the sets of the validated certificate.
+-- the numbers of a checklist, of a manifest none) lie in the sets of v, its certificate as it is
+-- validated under this issuer. That of an ASPA claims the customer and nothing else.
 pub record IsGood {X : Type 0} (kind : Kind X) (mode : Mode) (digest : Digester)
     (verdict : Verdict) (issuer : Validated) (now : Moment) (o : Whole X) (v : Validated)
     : Type 0 where

@@ -16,6 +16,6 @@ pub record Kind (X : Type 0) : Type 1 where
   pub claimed : X → Claims → List (Check ValidationError)
   -- what is checked of the numbers that the certificate has, after it was validated
   pub held : X → Sets → List (Check ValidationError)
-  -- both in words: the numbers that the kind asks for lie in the validated sets of a certificate
-  -- with these claims
+  -- what both mean: these claims are as the kind asks, and the numbers that it asks for lie in
+  -- these sets, the validated ones of a certificate with these claims
   pub covers : X → Claims → Sets → Type 0

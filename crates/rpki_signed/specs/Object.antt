@@ -18,7 +18,7 @@ abbrev pub ObjectForm : {X : Type 0} → List ℕ → (List ℕ → X → Type 0
 ObjectForm type form mode octets o =
     SignedFormOf type mode octets o.object × Begins form o.object.signed.content o.content
 
--- What is in the form in DER is in it in BER, and says the same (X.690, section 8.1.1.1).
+-- What is in the form in DER is in it in BER, and says the same (X.690, section 10).
 abbrev pub IsInBer : {X : Type 0} → List ℕ → (List ℕ → X → Type 0) → Type 0
 IsInBer {X} type form = (octets : List ℕ) (o : Whole X) → ObjectForm type form Der octets o
     → ObjectForm type form Ber octets o

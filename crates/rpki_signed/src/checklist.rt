@@ -158,8 +158,8 @@ impl Signed<ResourceSignedChecklist> {
         inspect_claims(self.content(), self.cert())
     }
 
-    /// Whether its certificate states the key of this issuer as that of its own (RFC 6487, section
-    /// 4.8.3). `strict` changes nothing.
+    /// Whether its certificate states the identifier of this issuer's key as that of its issuer's
+    /// key (RFC 6487, section 4.8.3). `strict` changes nothing.
     pub fn is_issuer(&self, issuer: &ResourceCert, _strict: bool) -> bool
         ensures { IsTrue result ↔ IsClaimedOf issuer.now.cert.certificate.tbs
             self.now.object.object.signed.cert.tbs }

@@ -149,9 +149,10 @@ impl<T: Content> Signed<T> {
 
     /// Validates it under its issuer, at this moment (RFC 6488, section 3): what its certificate
     /// claims, where the kind asks it first; the object and its certificate, as
-    /// `SignedObject::validate_at` does; then whether the caller says that the certificate was not
-    /// revoked; and then that the certificate has the numbers of which the content speaks. Answers
-    /// the validated certificate and the content. `strict` changes nothing.
+    /// `SignedObject::validate_at` does, or `SignedObject::validate_detached_at` for a kind that
+    /// need not be published; then whether the caller says that the certificate was not revoked;
+    /// and then that the certificate has the numbers of which the content speaks. Answers the
+    /// validated certificate and the content. `strict` changes nothing.
     ///
     /// `check_crl` is called once at most, with the certificate, where each check before it holds,
     /// and what it refuses by is refused. Else refuses by the fault of the first check that does

@@ -16,8 +16,8 @@ unfoldable pub object_validation : Digester → Verdict → SignedData → Valid
 object_validation digest verdict s issuer now =
     object_checks digest verdict s ++ ee_validation verdict s.cert issuer now
 
--- An object that need not be published is: the same, with the profile of its certificate (RFC 9323,
--- section 2).
+-- An object that need not be published is valid under this issuer: it is well signed, and its
+-- certificate is valid as that of an end entity that signed such an object (RFC 9323, section 2).
 unfoldable pub detached_validation : Digester → Verdict → SignedData → Validated → Moment
     → List (Check ValidationError)
 detached_validation digest verdict s issuer now =

@@ -13,7 +13,7 @@ use Rattle.rpki_tal.specs.Uri.{IsTalUri}
 abbrev pub IsUriLine : List ℕ → TalUri → Type 0
 IsUriLine octets uri = (text : List ℕ) × IsLine octets text × IsTalUri text uri
 
--- Comments come before the list, and it does not begin with one (2.2).
+-- Comments come before the list, which does not begin with # (2.2).
 abbrev pub HasComments : List ℕ → List ℕ → Type 0
 HasComments text list =
     (comments : List (List ℕ)) × Front (Items IsComment) text comments list

@@ -19,8 +19,8 @@ is_https (Rsync text) = false
 is_https (Https text) = true
 
 -- The text is this URI of a trust anchor: an rsync URI or an https URI (RFC 8630, section 2.2).
--- That the URI of a directory, which that section forbids, is not refused is this project's own
--- rule.
+-- That the URI of a directory, which RFC 8630, section 2.3, forbids, is not refused is this
+-- project's own rule.
 abbrev pub IsTalUri : List ℕ → TalUri → Type 0
 IsTalUri text (Rsync uri) = (uri ≡ text) × IsRsync text
 IsTalUri text (Https uri) = (uri ≡ text) × IsHttps text

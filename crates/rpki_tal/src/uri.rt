@@ -11,7 +11,7 @@ use std::fmt;
 use std::hash::{Hash, Hasher};
 
 /// A URI under which the certificate of a trust anchor is published (RFC 8630, section 2.2). That
-/// the URI of a directory, which that section forbids, is not refused is this project's own rule.
+/// the URI of a directory, which section 2.3 forbids, is not refused is this project's own rule.
 #[derive(Debug, Drop)]
 pub enum TalUri {
     /// An rsync URI (RFC 5781).

@@ -13,7 +13,8 @@ use Rattle.rpki_faults.specs.declared.verification.VerificationError.TheVariants
 use Rattle.rpki_faults.specs.declared.verification.VerificationError.TheVariants.{Expired}
 use Rattle.rpki_faults.specs.declared.verification.VerificationError.TheVariants.{Overclaimed}
 
--- Both ends belong to the validity (RFC 5280, section 4.1.2.5).
+-- The moment is not before the validity begins and not after it ends: both ends belong to it (RFC
+-- 5280, section 4.1.2.5).
 abbrev pub moment_checks : Period → Moment → List (Check VerificationError)
 moment_checks validity now =
     (NotYetValid unless (stamp validity.not_before ≤ stamp now))

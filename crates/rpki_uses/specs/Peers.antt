@@ -21,7 +21,8 @@ pub record IsPeerList (p : PeerList) : Type 0 where
   pub note : IsEach (All (λ c. c < 128)) p.note
   pub peers : All (λ n. n < 2 ^ 32) p.peers
 
--- SEQUENCE { local INTEGER, note IA5String OPTIONAL, peers SEQUENCE OF INTEGER }
+-- SEQUENCE { local INTEGER (0..4294967295), note IA5String OPTIONAL, peers SEQUENCE OF INTEGER
+-- (0..4294967295) }
 abbrev pub PeersForm : Mode → List ℕ → PeerList → Type 0
 PeersForm mode octets p = Sequence mode (
     (λ o. IntegerBelow (2 ^ 32) mode o p.local)

@@ -5,7 +5,8 @@ use Rattle.rpki_routes.specs.Roa.{Address}
 
 -- The prefix of the address covers the one of the route: it is not longer, and the route begins
 -- with its bits. The route is not longer than the maximum length, or than the prefix where none is
--- set (RFC 6811, section 2).
+-- set. RFC 6811, section 2, calls a route matched only where its origin AS is that of the ROA, too:
+-- of it nothing is asked here.
 pub record IsMatched (a : Address) (route : Network) : Type 0 where
   pub shorter : a.prefix.len ≤ route.len
   pub within : route.len ≤ unwrap_or a.max_length a.prefix.len

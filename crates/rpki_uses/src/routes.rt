@@ -7,7 +7,8 @@ ghost use Rattle.rpki_uses.specs.Routes.{IsMatched};
 use rpki_resources::{Asn, Prefix};
 use rpki_routes::{AsProviderAttestation, RoaIpAddress, RoaIpAddresses, RouteOriginAttestation};
 
-/// Whether an address of a ROA matches a route to this prefix (RFC 6811, section 2).
+/// Whether an address of a ROA matches a route to this prefix, but for the AS that originates it,
+/// of which nothing is asked here (RFC 6811, section 2).
 pub fn is_matched(address: RoaIpAddress, route: Prefix) -> bool
     ensures { IsTrue result ↔ IsMatched address route }
 {

@@ -15,7 +15,8 @@ pub record IsListed (lines : List (List ℕ)) (key message signature : List ℕ)
 abbrev pub has_line : List (List ℕ) → List ℕ → Bool
 has_line lines line = list_any (bytes_eq line) lines
 
--- whether the lines list the digests of key, message and signature: a test
+-- whether the list says yes to the signature of the message by the key with these bits: `IsListed`
+-- as a test
 abbrev pub is_listed : List (List ℕ) → List ℕ → List ℕ → List ℕ → Bool
 is_listed lines key message signature =
     nat_lt (length (key_contents key)) (2 ^ 32)

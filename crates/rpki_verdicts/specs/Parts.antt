@@ -24,14 +24,14 @@ pub record IsSpaced (line : List ℕ) : Type 0 where
   pub second : slice_index line (message_place + digest_length) ≡ space
   pub last : slice_index line (signature_place + digest_length) ≡ line_feed
 
--- these three stand between them
+-- the separators stand at their places, and these are the three parts before them
 pub record HasParts (line key message signature : List ℕ) : Type 0 where
   pub spaced : IsSpaced line
   pub first : take digest_length line ≡ key
   pub second : take digest_length (drop message_place line) ≡ message
   pub third : take digest_length (drop signature_place line) ≡ signature
 
--- lower hexadecimal digits stand between them
+-- the separators stand at their places, and the parts before them are lower hexadecimal digits
 pub record HasDigests (line : List ℕ) : Type 0 where
   pub spaced : IsSpaced line
   pub first : AreDigits (take digest_length line)

@@ -15,7 +15,8 @@ use Rattle.rpki_verify_command.specs.declared.words.Request.{Request}
 use Rattle.rpki_verify_command.specs.declared.words.When.{When}
 use Rattle.rpki_verify_command.specs.declared.words.When.TheVariants.{Now, At}
 
--- these words after the options, each of which stands at most once, and in this order
+-- these words after the options `--relaxed`, `--registered` and `--wide`, each of which stands at
+-- most once, and in this order
 abbrev pub with_options : Options → List (List ℕ) → List (List ℕ)
 with_options o words = word_if o.relaxed word_relaxed
     ++ (word_if o.registered word_registered ++ (word_if o.wide word_wide ++ words))
@@ -70,7 +71,8 @@ IsFit (Shared command) = IsTrue (is_shared command)
 IsFit (Check kind file moment anchor chain) = IsWhen moment
 IsFit (Verdicts file anchor chain) = Unit {0}
 
--- The words ask for this: they are its words, each file has a name, and there is such an action.
+-- The words ask for this: they are its words, each file has a name, and its action is fit, as
+-- `IsFit` says: so a moment that is named is one of the calendar.
 abbrev pub IsAsked : List (List ℕ) → Request → Type 0
 IsAsked words r =
     (words ≡ request_words r) × (are_named (files_in r.action) ≡ true) × IsFit r.action

@@ -22,7 +22,8 @@ abbrev pub Decodes : {T X : Type 0} → (List ℕ → X → Type 0) → (T → X
 Decodes form view octets (Ok t) = (rest : List ℕ) × IsOnlyFront form octets (view t) rest
 Decodes form view octets (Err e) = Refuses e (HasNoFront form octets)
 
--- What decodes all of these octets by the form.
+-- What decodes all of these octets by the form: what is answered is what they mean in it, and they
+-- mean nothing else in it; where they are refused, they are not in the form, unless memory ran out.
 abbrev pub DecodesAll : {T X : Type 0} → (List ℕ → X → Type 0) → (T → X) → List ℕ
     → Result T DecodeError → Type 0
 DecodesAll {T} {X} form view octets (Ok t) = form octets (view t)
@@ -46,8 +47,9 @@ DecodesNext form view old result new =
     × MatchOption old.failed (TakesFront (form old.mode) view old.rest result new)
     (λ e. RepeatsError e result)
 
--- What may be next is absent, where its tag is not next and the octets begin with nothing in the
--- form, or is all that the octets begin with in the form.
+-- What may be next is absent: its tag is not next, the octets begin with nothing in the form, and
+-- rest is all of them. Or its tag is next, and the octets begin with it in the form and with
+-- nothing else in the form, and rest follows it.
 abbrev pub IsNextOrAbsent : {X : Type 0} → ℕ → (List ℕ → X → Type 0) → List ℕ → Option X → List ℕ
     → Type 0
 IsNextOrAbsent tag form octets None rest = (is_next tag octets ≡ false) × HasNoFront form octets

@@ -49,8 +49,8 @@ abbrev pub StartsIn : TagSet → List ℕ → Type 0
 StartsIn first octets = (tag : ℕ) × (others : List ℕ) × (octets ≡ tag ∷ others)
     × (has first tag ≡ true)
 
--- The octets begin with a tag in first. Where there are tags that may not follow, there may be no
--- octets.
+-- The octets begin with a tag of the first set. Where the second set, of the tags that may not
+-- follow, is not empty, there may be no octets.
 abbrev pub Starts : TagSet → TagSet → List ℕ → Type 0
 Starts first (only []) octets = StartsIn first octets
 Starts first (only (tag ∷ tags)) octets = (octets ≡ []) ⊎ StartsIn first octets

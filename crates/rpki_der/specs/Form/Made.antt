@@ -56,7 +56,7 @@ BitStringHolding mode G octets x =
 
 -- ---- as functions
 
--- what p reads, where f understands it
+-- what f understands of what p reads, where it understands something
 abbrev pub understood : {X Y : Type 0} → (Mode → X → Option Y) → Parser X → Parser Y
 understood f p mode bytes = p mode bytes >>= λ u. (f mode u.0 >>= λ y. Some (y, u.1))
 

@@ -5,7 +5,8 @@ use Rattle.rpki_der.specs.declared.mode.Mode.TheVariants.{Der, Ber}
 use Rattle.rpki_der.specs.Grammar.{Value, Front, IsBytes, IsUnique}
 use Rattle.rpki_der.specs.Read.Parse.{Parser, optional, is_next}
 
--- p finds exactly the fronts, where what follows them meets ends
+-- What p finds of octets is a front of them in G, whatever follows it (sound). What is in G it
+-- finds at the front, where what follows meets ends (complete).
 pub record IsExact {X : Type 0} (ends : List ℕ → Type 0) (p : List ℕ → Option (X × List ℕ))
     (G : List ℕ → X → Type 0) : Type 0 where
   pub sound : (octets : List ℕ) (x : X) (rest : List ℕ) → IsBytes octets → p octets ≡ Some (x, rest)

@@ -139,7 +139,8 @@ digits_of (a ∷ b ∷ rest) =
     if nat_lt a 128 then (if a == 0 then (if nat_lt b 128 then None else Some (b ∷ rest)) else Some
     (a ∷ b ∷ rest)) else None
 
--- the number of the contents of an INTEGER, of at most this number of octets (X.690, section 8.3)
+-- The number that the shortest contents of an INTEGER say, not negative, and of at most this number
+-- of octets without the 0 that says that it is not negative (X.690, section 8.3).
 unfoldable pub unsigned_of : ℕ → List ℕ → Option ℕ
 unsigned_of most contents = do
   digits ← digits_of contents
@@ -164,7 +165,7 @@ u32_at = primitive INTEGER (unsigned_of 4)
 abbrev pub u160_at : Parser ℕ
 u160_at = primitive INTEGER (unsigned_of 20)
 
--- exactly this number
+-- the contents of an INTEGER that is exactly this number, from 0 to 255
 abbrev pub this : ℕ → List ℕ → Option (Unit {0})
 this n contents = unsigned_of 1 contents >>= λ m. if m == n then Some tt else None
 
@@ -223,7 +224,7 @@ ia5_of contents = if list_all (λ b. nat_lt b 128) contents then Some contents e
 abbrev pub ia5_at : Parser (List ℕ)
 ia5_at = primitive IA5_STRING ia5_of
 
--- whether a value with this tag begins here
+-- whether this tag is next: the first octet is it, whatever follows
 abbrev pub is_next : ℕ → List ℕ → Bool
 is_next tag [] = false
 is_next tag (t ∷ bytes) = t == tag
@@ -233,7 +234,7 @@ abbrev pub some_of : {X : Type 0} → Option (X × List ℕ) → Option (Option 
 some_of None = None
 some_of (Some x) = Some (Some x.0, x.1)
 
--- nothing, where no value with this tag begins
+-- what p reads where this tag is next, and else nothing, and then no octet is taken
 abbrev pub optional : {X : Type 0} → ℕ → Parser X → Parser (Option X)
 optional tag p mode bytes = if is_next tag bytes then some_of (p mode bytes) else Some (None, bytes)
 

@@ -79,7 +79,8 @@ Stays result new = IfErr result (λ e. new.failed ≡ Some e)
 abbrev pub OnlyMalformed : {T : Type 0} → State → Result T DecodeError → Type 0
 OnlyMalformed old result = IsNone old.failed → IfErr result (λ e. e ≡ Malformed)
 
--- One that takes memory refuses by Malformed or for want of it.
+-- A call that takes memory refuses by Malformed or for want of memory alone, unless the reader had
+-- failed before.
 abbrev pub OnlyMalformedOrMemory : {T : Type 0} → State → Result T DecodeError → Type 0
 OnlyMalformedOrMemory old result = IsNone old.failed
     → IfErr result (λ e. (e ≡ Malformed) ⊎ (e ≡ Memory))
@@ -95,7 +96,8 @@ abbrev pub or_error : {T : Type 0} → T → Option DecodeError → Result T Dec
 or_error t None = Ok t
 or_error t (Some e) = Err e
 
--- What the call that opened a value answers: what the closure answered, if it left nothing.
+-- What the call that opened a value answers: what the closure answered, if that is an error, or if
+-- its reader has not failed then and nothing is left; else the error of the reader, or Malformed.
 abbrev pub closed : {T : Type 0} → Result T DecodeError → State → Result T DecodeError
 closed (Err e) after = Err e
 closed (Ok t) after = or_error t (unfinished after.failed after.rest)

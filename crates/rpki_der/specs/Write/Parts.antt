@@ -39,7 +39,8 @@ pub optional_small : {T : Type 0} (f : T → List ℕ) (P : T → Type 0)
 optional_small f P h None k = tt
 optional_small f P h (Some x) k = h x k
 
--- where the whole has fewer than 2^32 octets, P holds of each part
+-- The law that P holds of each of the values, where their octets by f are together fewer than 2^32,
+-- and P holds of each value of which that is so (h).
 pub each_small : {T : Type 0} (f : T → List ℕ) (P : T → Type 0)
     → ((x : T) → length (f x) < 2 ^ 32 → P x) → (xs : List T) → length (flat_map f xs) < 2 ^ 32
     → All P xs

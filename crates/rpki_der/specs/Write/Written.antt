@@ -40,7 +40,8 @@ abbrev pub integer_contents : List ℕ → List ℕ
 integer_contents digits = not_negative (significant digits)
 
 -- How many bits of the last octet are not used: 7 at most, and none where there is no octet (X.690,
--- 8.6.2). That a greater number is taken for these is this project's own rule.
+-- 8.6.2). That a greater number is taken for 7, or where there is no octet for 0, is this project's
+-- own rule.
 abbrev pub unused_bits : List ℕ → ℕ → ℕ
 unused_bits [] unused = 0
 unused_bits (octet ∷ octets) unused = if nat_lt unused 8 then unused else 7
@@ -60,7 +61,7 @@ abbrev pub bit_string_contents : List ℕ → ℕ → List ℕ
 bit_string_contents octets unused =
     unused_bits octets unused ∷ zero_last octets (unused_bits octets unused)
 
--- an INTEGER of 32 bits
+-- an INTEGER from 0 to 2^32 - 1 in its shortest form
 unfoldable pub number_octets : ℕ → List ℕ
 number_octets n = value_octets INTEGER (integer_contents (to_be_bytes w32 n))
 

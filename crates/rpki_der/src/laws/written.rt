@@ -136,7 +136,9 @@ pub fn lists_are_written()
         (value_octets SEQUENCE (flat_map number_octets ns) ++ rest) ≡ Some (ns, rest) }
 {}
 
-/// A value that is skipped in DER is a value that is written, of contents that are skipped.
+/// A value that is written is skipped in DER where it is primitive, and where its contents are
+/// values that are skipped. What is written and is skipped in DER is gone past in both modes,
+/// whatever follows it.
 pub fn skipped_values_are_written()
     ensures primitive { (depth tag : ℕ) (c : List ℕ) → IsTag tag → is_constructed tag ≡ false
         → 1 ≤ depth → length c < 2 ^ 32 → Skipped Der depth (value_octets tag c) }

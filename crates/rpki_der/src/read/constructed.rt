@@ -316,8 +316,8 @@ impl<'a> Constructed<'a> {
     }
 
     /// Reads all of the source, by the rules of the mode, as the contents of a value. Refuses by
-    /// `Malformed` where `op` leaves a part of it, and else by the error of `op`, or by that which
-    /// its reader has answered.
+    /// the error of `op` or that which its reader has answered, and else by `Malformed` where `op`
+    /// leaves a part of it.
     pub fn decode_all<T: Drop, F: FnOnce(&mut Constructed<'_>) -> Result<T, DecodeError>>(
         source: Bytes,
         mode: Mode,
@@ -337,8 +337,9 @@ impl<'a> Constructed<'a> {
     }
 
     /// Opens the value in front, which has this tag (X.690, sections 8.1 and 8.14). `op` reads its
-    /// contents, all of them. Refuses by `Malformed` where another value stands there or `op`
-    /// leaves a part of the contents, and else by the error of `op`.
+    /// contents, all of them. Refuses by `Malformed` where no such value stands there, by the error
+    /// of `op` or that which its reader has answered, and else by `Malformed` where `op` leaves a
+    /// part of the contents.
     pub fn take_constructed_if<T: Drop, F: FnOnce(&mut Constructed<'_>) -> Result<T, DecodeError>>(
         &mut self,
         tag: Tag,
@@ -424,7 +425,7 @@ impl<'a> Constructed<'a> {
     }
 
     /// Keeps the octets of the source that `op` reads, as they stand there, and the mode. Refuses
-    /// by the error of `op`, or by `Memory`.
+    /// by the error of `op`, by that which the reader has answered, or by `Memory`.
     pub fn capture<F: FnOnce(&mut Constructed<'_>) -> Result<(), DecodeError>>(
         &mut self,
         op: F,

@@ -4,7 +4,8 @@ use Rattle.rpki_faults.specs.declared.family.Family.TheVariants.{As, V4, V6}
 use Rattle.rpki_faults.specs.declared.inspection.InspectionError.{InspectionError}
 use Rattle.rpki_faults.specs.declared.inspection.InspectionError.TheVariants as faults
 
--- Why a certificate does not fit the profile. But for the first the texts are this project's own.
+-- Why a certificate, or an object with its certificate, does not fit the profile. But for that of
+-- `SidMismatch` the texts are this project's own.
 abbrev pub inspection_text : InspectionError → List ℕ
 inspection_text faults.SidMismatch = codes "Subject Key Identifier mismatch in signed object"
 inspection_text faults.KeyIdentifier = codes "key identifier mismatch"

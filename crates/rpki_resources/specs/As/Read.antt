@@ -8,7 +8,7 @@ use Rattle.rpki_resources.specs.declared.block.Block.{Block}
 use Rattle.rpki_resources.specs.As.Form.{only}
 use Rattle.rpki_resources.specs.Joined.{joined}
 
--- the two ends of a range
+-- the two ends of a range, the lower one not above the upper one
 unfoldable pub as_ends_at : Parser (Block ℕ)
 as_ends_at mode bytes = do
   lower ← u32_at mode bytes

@@ -16,11 +16,11 @@ use Rattle.rpki_resources.specs.Ip.Read.{ip_blocks_at}
 abbrev pub claim_at : {X : Type 0} → Parser X → Parser (Claim X)
 claim_at p = choice_at NULL (made (λ _. Inherit) (primitive NULL null_of)) (made Explicit p)
 
--- of AS numbers
+-- a claim of AS numbers: NULL, or a set of them
 unfoldable pub as_claim_at : Parser (Claim (List (Block ℕ)))
 as_claim_at = claim_at as_blocks_at
 
--- of addresses of a family
+-- a claim of addresses of a family: NULL, or a set of them
 unfoldable pub ip_claim_at : AddressFamily → Parser (Claim (List (Block ℕ)))
 ip_claim_at family = claim_at (ip_blocks_at (max_bits family))
 

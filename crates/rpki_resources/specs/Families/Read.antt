@@ -57,6 +57,6 @@ gathered values (entry ∷ entries) =
 unfoldable pub values_at : {X : Type 0} → (AddressFamily → Parser X) → Parser (ByFamily X)
 values_at p = partly (gathered no_values) (all_at (entry_at p))
 
--- SEQUENCE OF them, each family at most once
+-- the values of a SEQUENCE OF entries (`entry_at`), where each family has one entry at most
 abbrev pub families_at : {X : Type 0} → (AddressFamily → Parser X) → Parser (ByFamily X)
 families_at p = sequence_at (values_at p)

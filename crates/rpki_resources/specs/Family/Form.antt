@@ -12,6 +12,6 @@ afi Ipv4 = 0 ∷ 1 ∷ []
 afi Ipv6 = 0 ∷ 2 ∷ []
 
 -- An OCTET STRING of it. RFC 3779 allows a third octet, the subsequent address family identifier;
--- that there is none is this project's own.
+-- that it is not used in certificates, RFC 6487, section 4.8.10, asks.
 abbrev pub FamilyForm : Mode → List ℕ → AddressFamily → Type 0
 FamilyForm mode octets family = OctetString mode MAX_DEPTH octets (afi family)

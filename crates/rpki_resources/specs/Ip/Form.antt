@@ -59,9 +59,10 @@ abbrev pub IpPrefixOrRange : ℕ → Mode → List ℕ → Block ℕ → Type 0
 IpPrefixOrRange most mode = Choice (IpRange most mode) (Made beginning (IpAddress most mode))
 
 -- addressesOrRanges: SEQUENCE OF IPAddressOrRange (2.2.3.6), as the set of their addresses. In RFC
--- 3779 they ascend, no two of them overlap or touch, and the addresses of a prefix are a prefix.
--- Here they may stand in any order, overlap, and be none, and the addresses of a prefix may be a
--- range: this project's own rule.
+-- 3779 they ascend, no two of them overlap or touch, the addresses of a prefix are a prefix, and
+-- the trailing zero bits of a lower end and one bits of an upper end are left out (2.1.2). Here
+-- they may stand in any order, overlap, and be none, the addresses of a prefix may be a range, and
+-- these bits of an end may be there: this project's own rule.
 abbrev pub IpForm : AddressFamily → Mode → List ℕ → List (Block ℕ) → Type 0
 IpForm family mode = Understood IsSetOf (SequenceOf mode (IpPrefixOrRange (max_bits family) mode))
 

@@ -9,11 +9,11 @@ use Rattle.rpki_resources.specs.Ip.Form.{bit_count, lowest, highest, beginning, 
 use Rattle.rpki_resources.specs.Joined.{joined}
 use Rattle.rpki_resources.specs.Prefix.{Network}
 
--- the bits of an end
+-- the bits of an end of a range, or of a prefix: a BIT STRING of at most `most` bits
 unfoldable pub ip_address_at : ℕ → Parser (List ℕ × ℕ)
 ip_address_at most = tested (λ bits. nat_le (bit_count bits) most) bits_at
 
--- the two ends of a range
+-- the two ends of a range, the lower one not above the upper one
 unfoldable pub ip_ends_at : ℕ → Parser (Block ℕ)
 ip_ends_at most mode bytes = do
   lower ← made lowest (ip_address_at most) mode bytes
@@ -29,8 +29,8 @@ ip_item_at most = choice_at SEQUENCE (sequence_at (ip_ends_at most))
 unfoldable pub ip_items_at : ℕ → Parser (List (Block ℕ))
 ip_items_at most = made joined (all_at (ip_item_at most))
 
--- a set of addresses of a family, each of at most `most` bits: a SEQUENCE OF ranges and prefixes
--- (RFC 3779, section 2.2.3.6)
+-- a set of addresses of a family, whose addresses have `most` bits: a SEQUENCE OF ranges and
+-- prefixes, where an end or a prefix has at most `most` bits (RFC 3779, section 2.2.3.6)
 abbrev pub ip_blocks_at : ℕ → Parser (List (Block ℕ))
 ip_blocks_at most = sequence_at (ip_items_at most)
 

@@ -19,16 +19,16 @@ first_bits addr len =
 abbrev pub end_octets : ℕ → ℕ → List ℕ
 end_octets addr len = value_octets BIT_STRING (first_bits addr len)
 
--- of a lower end the trailing zero bits are left out, of an upper end the trailing one bits (2.1.2)
+-- how many bits of a lower end are written: the trailing zero bits are left out (2.1.2)
 abbrev pub lower_len : ℕ → ℕ
 lower_len addr = 128 - trailing_zeros w128 addr
 
--- how many bits of an upper end are written
+-- how many bits of an upper end are written: the trailing one bits are left out (2.1.2)
 abbrev pub upper_len : ℕ → ℕ
 upper_len addr = 128 - trailing_ones w128 addr
 
--- the addresses of a prefix are a BIT STRING of its bits, and others a SEQUENCE of the lower end
--- and the upper end
+-- the identifier octet of a block: BIT STRING for a prefix of this length, and SEQUENCE for a block
+-- that is no prefix
 abbrev pub tag_by : Option ℕ → ℕ
 tag_by (Some len) = BIT_STRING
 tag_by None = SEQUENCE

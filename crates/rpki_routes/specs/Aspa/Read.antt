@@ -36,7 +36,7 @@ after_provider seen next =
 abbrev pub at_first : ProviderLimit → ℕ → InOrder
 at_first limit customer = record { limit = limit; customer = customer; count = 0; last = None }
 
--- as many numbers as may be, in order
+-- numbers in order, none of them the customer, and no more than the limit says
 unfoldable pub in_order_at : ProviderLimit → ℕ → Parser (List ℕ)
 in_order_at limit customer = tested (admits after_provider (at_first limit customer))
     (list_at u32_at)
@@ -49,7 +49,7 @@ has_one numbers = not (length numbers == 0)
 abbrev pub providers_at : ProviderLimit → ℕ → Parser (List ℕ)
 providers_at limit customer = tested has_one (in_order_at limit customer)
 
--- the version, the customer and the providers
+-- the version, the customer, which is not 0, and the providers
 unfoldable pub fields_at : ProviderLimit → Parser Aspa
 fields_at limit mode bytes = do
   version ← in_value (context 0) (primitive INTEGER (this 1)) mode bytes
