@@ -59,7 +59,8 @@ pub record KeptAttributes : Type 0 where
   pub attributes : SignedAttributes
   pub mode : Mode
 
--- The octets are those of what is said, in their mode, and are not too many.
+-- The octets are at most 65535, and are attributes that say what is kept, by the rules of the mode.
+-- Attributes of other types may stand among the three.
 pub record AreKept (k : KeptAttributes) : Type 0 where
   pub most : length k.attributes.contents ≤ most_octets
   pub form : AttributesForm Skip k.mode k.attributes.contents k.attributes

@@ -69,7 +69,8 @@ AreHttpsSegments (authority ∷ others) = 0 < length authority
 abbrev pub GoesOn : (List (List ℕ) → Type 0) → List ℕ → Type 0
 GoesOn P text = (rest : List ℕ) × (text ≡ codes "//" ++ rest) × P (segments rest)
 
--- A URI with this scheme, two slashes, and segments of which this holds (section 3).
+-- A URI with this scheme, two slashes, and segments of which this holds (section 3). Each octet of
+-- the text is one that a URI may have (`AreUriOctets`).
 abbrev pub IsUri : List ℕ → (List (List ℕ) → Type 0) → List ℕ → Type 0
 IsUri scheme P text =
     AreUriOctets text × ((rest : List ℕ) × Follows scheme text rest × GoesOn P rest)

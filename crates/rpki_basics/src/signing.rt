@@ -11,7 +11,8 @@ use std::error::Error;
 use std::fmt;
 
 /// What a call that builds and signs answers. The first three are faults of the signer, and the
-/// others are not; which of them come of a call, its contract says.
+/// others are not, but that `Memory` may be the signer's too; which of them come of a call, its
+/// contract says.
 #[derive(Debug, Drop)]
 pub enum SigningError<E> {
     /// The signer has no such key.

@@ -72,7 +72,7 @@ entity_checks t =
     ∷ (faults.Eku unless (t.extensions.key.has_purposes ≡ false))
     ∷ []
 
--- It says where the object is that its key signed (4.8.8.2).
+-- That of an end entity that signed a published object says where the object is (4.8.8.2).
 abbrev pub object_checks : Tbs → List (Check InspectionError)
 object_checks t =
     (faults.MissingSignedObject unless (t.extensions.locations.subject.signed_object ≢ None))

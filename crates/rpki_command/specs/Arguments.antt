@@ -32,12 +32,12 @@ IsWordAt (Some arguments) place (Err NoText) =
     (place < length arguments) × ((d : List ℕ) → ¬ IsUtf8 (slice_index_or arguments place d))
 IsWordAt (Some arguments) place (Err Memory) = Unit {0}
 
--- the words follow the program's name
+-- The words follow the program's name. Where the arguments are not told, they may be any.
 abbrev pub Follow : ToldArguments → List (List ℕ) → Type 0
 Follow None words = Unit {0}
 Follow (Some arguments) words = words ≡ drop 1 arguments
 
--- the words follow the program's name, and each is a text (UTF-8)
+-- The words follow the program's name (`Follow`), and each is a text (UTF-8).
 pub record AreTexts (told : ToldArguments) (words : List (List ℕ)) : Type 0 where
   pub follow : Follow told words
   pub texts : All IsUtf8 words
@@ -47,7 +47,7 @@ abbrev pub IsText : Result (Option (String Global)) WordsError → Type 0
 IsText (Ok (Some word)) = IsUtf8 (string_bytes word)
 IsText other = Unit {0}
 
--- one of the arguments after the program's name is no text
+-- One of the arguments after the program's name is no text, or the arguments are not told.
 abbrev pub HaveNoText : ToldArguments → Type 0
 HaveNoText None = Unit {0}
 HaveNoText (Some arguments) = ¬ All IsUtf8 (drop 1 arguments)

@@ -109,7 +109,8 @@ IsCheckedWith options kind digest verdict now object anchor chain s =
     (issuer : Result Validated IssuerError) × MakesIssuer verdict now anchor chain issuer
     × IsSaidUnder (λ v said. CheckedUnder options kind digest verdict v now object said) issuer s
 
--- What is said where the verdicts are those of a text, if it is a list of verdicts.
+-- What is said where the verdicts are those of a text: by `P`, if it is a list of verdicts, and
+-- else that it is none.
 abbrev pub IsByVerdicts : (Verdict → Said → Type 0) → List ℕ → Said → Type 0
 IsByVerdicts P text s =
     (((lines : List (List ℕ)) → AreVerdicts text lines → ⊥) × (s ≡ bad_verdicts))

@@ -89,6 +89,7 @@ abbrev pub IsAsked : List (List ℕ) → Order → Type 0
 IsAsked words o =
     (words ≡ order_words o) × (are_named (files_of o.command) ≡ true) × IsInTime o.command
 
--- they are the words of no order
+-- The words ask for no order, as `IsAsked` says: they are those of none, or only of one in which a
+-- file has no name or the moment is not one of the calendar.
 abbrev pub AskForNothing : List (List ℕ) → Type 0
 AskForNothing words = (o : Order) → IsAsked words o → ⊥

@@ -25,10 +25,11 @@ crl_extensions =
     ∷ crl_number
     ∷ []
 
--- What the extensions say. Both have to be there (RFC 6487, section 5). The number is an INTEGER
--- below 2^160, as a serial number: that its contents may have 21 octets, where 5.2.3 has 20 at
--- most, is this project's own rule. Those that are not known say nothing: that there may be some,
--- against RFC 6487, section 5, is this project's own rule.
+-- What the extensions say, which may stand together by `MayStand`. The identifier of the issuer's
+-- key and the number have to be there (RFC 6487, section 5). The number is an INTEGER below 2^160,
+-- as a serial number: that its contents may have 21 octets, where 5.2.3 has 20 at most, is this
+-- project's own rule. Extensions that are not known say nothing: that there may be some, against
+-- RFC 6487, section 5, is this project's own rule.
 pub record AreCrlExtensions (list : List Extension) (x : CrlExtensions) : Type 0 where
   pub stand : MayStand crl_extensions list
   pub authority_key : Stated list authority_key_identifier AuthorityKeyForm (Some x.authority_key)

@@ -134,12 +134,13 @@ Null mode octets = Within mode NULL (λ c. c ≡ []) octets
 abbrev pub ObjectIdentifier : Mode → List ℕ → List ℕ → Type 0
 ObjectIdentifier mode octets oid = Within mode OBJECT_IDENTIFIER (λ c. (c ≡ oid) × IsOid oid) octets
 
--- A BIT STRING (8.6), primitive, in DER by 10.2, in BER by this project's own rule: its contents
--- are the number of bits of the last octet that are not used, and its octets.
+-- The contents of a primitive BIT STRING (8.6.2): the number of bits of the last octet that are not
+-- used, which `IsBits` allows, and its octets.
 abbrev pub IsBitString : List ℕ → List ℕ × ℕ → Type 0
 IsBitString contents bits = (contents ≡ bits.1 ∷ bits.0) × IsBits bits.0 bits.1
 
--- a BIT STRING of these octets and this number of unused bits (8.6)
+-- A BIT STRING of these octets and this number of unused bits (8.6). It is primitive, in DER by
+-- 10.2, in BER by this project's own rule.
 abbrev pub BitString : Mode → List ℕ → List ℕ × ℕ → Type 0
 BitString mode octets bits = Within mode BIT_STRING (λ c. IsBitString c bits) octets
 

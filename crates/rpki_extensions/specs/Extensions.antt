@@ -71,14 +71,15 @@ authority_info_access = id_pkix 1 1
 abbrev pub subject_info_access : List ℕ
 subject_info_access = id_pkix 1 11
 
--- The extension of addresses that goes with a policy: id-pe-ipAddrBlocks (4.8.10), or
--- id-pe-ipAddrBlocks-v2 (RFC 8360, section 4.2.2.1).
+-- The extension of addresses that goes with a policy: id-pe-ipAddrBlocks (4.8.10) where a claim of
+-- too much is refused, and id-pe-ipAddrBlocks-v2 (RFC 8360, section 4.2.2.1) where it is trimmed.
 abbrev pub ip_resources : Overclaim → List ℕ
 ip_resources Refuse = id_pkix 1 7
 ip_resources Trim = id_pkix 1 28
 
--- The extension of AS numbers that goes with a policy: id-pe-autonomousSysIds (4.8.11), or
--- id-pe-autonomousSysIds-v2 (RFC 8360, section 4.2.2.3).
+-- The extension of AS numbers that goes with a policy: id-pe-autonomousSysIds (4.8.11) where a
+-- claim of too much is refused, and id-pe-autonomousSysIds-v2 (RFC 8360, section 4.2.2.3) where it
+-- is trimmed.
 abbrev pub as_resources : Overclaim → List ℕ
 as_resources Refuse = id_pkix 1 8
 as_resources Trim = id_pkix 1 29
@@ -157,7 +158,8 @@ pub record AreClaims (list : List Extension) (x : Claims) : Type 0 where
   pub no_other_addresses : All (λ e. ¬ (oid_of e ≡ ip_resources (other x.policy))) list
   pub no_other_as_numbers : All (λ e. ¬ (oid_of e ≡ as_resources (other x.policy))) list
 
--- What the extensions say. Those that are not known say nothing.
+-- What the extensions say, which may stand together by `MayStand`. Those that are not known say
+-- nothing.
 pub record AreExtensions (list : List Extension) (x : Extensions) : Type 0 where
   pub stand : MayStand certificate_extensions list
   pub key : AreKeyFacts list x.key

@@ -19,8 +19,8 @@ abbrev pub URI : ℕ
 URI = context_primitive uri_kind
 
 -- GeneralName: CHOICE { uniformResourceIdentifier [6], .. } (4.2.1.6). Two rules are this project's
--- own: octets from 80 on, which an IA5String has not, make a text that is no URI, and are not
--- refused; and what has another tag is skipped, whatever it is.
+-- own: octets from 80 hexadecimal on, which an IA5String has not, make a text that is no URI, and
+-- are not refused; and what has another tag is skipped, whatever it is.
 abbrev pub NameForm : Mode → List ℕ → Name → Type 0
 NameForm mode octets (Uri text) = ImplicitString uri_kind mode octets text
 NameForm mode octets Other = Skipped mode MAX_DEPTH octets × (is_next URI octets ≡ false)

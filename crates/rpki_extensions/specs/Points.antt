@@ -16,7 +16,8 @@ use Rattle.rpki_extensions.specs.Uri.{rsync_of}
 abbrev pub IsFirstRsync : List Name → List ℕ → Type 0
 IsFirstRsync names uri = First (IsNamed IsRsync) names (Some uri)
 
--- fullName [0] IMPLICIT GeneralNames, which is a SEQUENCE OF GeneralName (4.2.1.13)
+-- fullName [0] IMPLICIT GeneralNames, which is a SEQUENCE OF GeneralName (4.2.1.13), with an rsync
+-- URI, of which the first one is kept
 abbrev pub FullNameForm : Mode → List ℕ → List ℕ → Type 0
 FullNameForm mode = Understood IsFirstRsync (ImplicitOf 0 mode (NameForm mode))
 

@@ -11,13 +11,15 @@ use Rattle.rpki_faults.specs.declared.overclaim.Overclaim.TheVariants.{Refuse, T
 use Rattle.rpki_extensions.specs.Identifiers.{id_pkix}
 
 -- The policy that says what is done with a claim of too much: id-cp-ipAddr-asNumber (RFC 6484,
--- section 1.2), or id-cp-ipAddr-asNumber-v2 (RFC 8360, section 4.2.1).
+-- section 1.2) where it is refused, and id-cp-ipAddr-asNumber-v2 (RFC 8360, section 4.2.1) where it
+-- is trimmed.
 abbrev pub policy_oid : Overclaim → List ℕ
 policy_oid Refuse = id_pkix 14 2
 policy_oid Trim = id_pkix 14 3
 
--- PolicyInformation: SEQUENCE { policyIdentifier, policyQualifiers } (RFC 5280, section 4.2.1.4).
--- That any values may follow the identifier is this project's own rule.
+-- PolicyInformation: SEQUENCE { policyIdentifier, policyQualifiers } (RFC 5280, section 4.2.1.4),
+-- with one of the two identifiers of `policy_oid`. That any values may follow the identifier is
+-- this project's own rule.
 abbrev pub PolicyForm : Mode → List ℕ → Overclaim → Type 0
 PolicyForm mode octets overclaim = Sequence mode (
     (λ o. ObjectIdentifier mode o (policy_oid overclaim))

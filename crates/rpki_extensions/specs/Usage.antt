@@ -39,8 +39,8 @@ abbrev pub IsUsage : List ℕ × ℕ → KeyUsage → Type 0
 IsUsage bits Ca = SignsCertificates bits
 IsUsage bits Ee = ¬ SignsCertificates bits × IsBitSet digital_signature bits
 
--- KeyUsage: BIT STRING (4.2.1.3). That bits that are zero may end it in DER too, against X.690,
--- section 11.2.2, is this project's own rule.
+-- KeyUsage: BIT STRING (4.2.1.3), whose bits are the usage by `IsUsage`. That bits that are zero
+-- may end it in DER too, against X.690, section 11.2.2, is this project's own rule.
 abbrev pub KeyUsageForm : Mode → List ℕ → KeyUsage → Type 0
 KeyUsageForm mode = Understood IsUsage (BitString mode)
 

@@ -12,11 +12,11 @@ use crate::verification::VerificationError;
 use rpki_resources::{Blocks, BlocksError, Number, Resources};
 use std::alloc::Global;
 
-/// The numbers of a certificate in one family, where its issuer has these: the issuer's where the
-/// claim is inherited, none where it is missing, and else the claim, trimmed to what the issuer has
-/// where the certificate may be trimmed (RFC 6487, section 7.2; RFC 8360, section 4.2.4.4). Where
-/// it may not, and claims a number that the issuer has not, the answer is the given fault, and
-/// `ValidationError::Memory` where there is no memory for the set.
+/// The numbers of a certificate in one family, where its issuer has the numbers `issuer`: the
+/// issuer's where the claim is inherited, none where it is missing, and else the claim, trimmed to
+/// what the issuer has where the certificate may be trimmed (RFC 6487, section 7.2; RFC 8360,
+/// section 4.2.4.4). Where it may not, and claims a number that the issuer has not, the answer is
+/// the given fault, and `ValidationError::Memory` where there is no memory for the set.
 pub fn validated<T: Number>(
     alloc: Global,
     claim: &Resources<T>,

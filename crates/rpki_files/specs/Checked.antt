@@ -25,7 +25,7 @@ is_portable b = is_stem b || (b == 0x2E)
 abbrev pub is_portable_name : List ℕ → Bool
 is_portable_name name = list_all is_portable name
 
--- its name, if there is one, has no other characters (section 4)
+-- each character of the name, if there is one, is a letter, a digit, `-`, `_` or a dot (section 4)
 abbrev pub IsNamed : Checked → Type 0
 IsNamed f = IfSome f.file_name (λ name. is_portable_name name ≡ true)
 

@@ -35,9 +35,10 @@ pub record IsManifest (rule : ManifestRule) (m : Manifest) : Type 0 where
 
 -- Manifest ::= SEQUENCE { version [0] INTEGER DEFAULT 0, manifestNumber INTEGER (0..MAX),
 -- thisUpdate, nextUpdate, fileHashAlg OBJECT IDENTIFIER, fileList SEQUENCE OF FileAndHash }
--- (section 4.2). The algorithm is SHA-256 (RFC 7935, section 2). That the number is below 2^160,
--- that UTCTime is taken beside GeneralizedTime, and that the version may be written in DER too, is
--- this project's own rule. The files stand in DER whatever the mode is.
+-- (section 4.2), of which `IsManifest` holds under the rule. The algorithm is SHA-256 (RFC 7935,
+-- section 2). That the number is below 2^160, that UTCTime is taken beside GeneralizedTime, and
+-- that the version may be written in DER too, is this project's own rule. The files stand in DER
+-- whatever the mode is.
 abbrev pub ManifestForm : ManifestRule → Mode → List ℕ → Manifest → Type 0
 ManifestForm rule mode octets m = Sequence mode (
     Ignored (Optional (VersionForm mode))

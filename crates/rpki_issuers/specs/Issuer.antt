@@ -42,12 +42,14 @@ OfCert checks IsValid octets (Err (Decode e)) = Refuses e (HasNoFront (CertForm 
 OfCert checks IsValid octets (Err (Validation fault)) =
     BeginsWithCert octets (λ c. (fault ≡ Memory) ⊎ IsFirstFault (checks c) fault)
 
--- the octets of the certificate of a trust anchor, with the numbers that it claims
+-- What is answered of octets that may begin with the certificate of a trust anchor: where it is
+-- valid, it with the numbers that it claims, and else a fault (`OfCert`).
 abbrev pub IsAnchored : Verdict → Moment → List ℕ → Result Validated IssuerError → Type 0
 IsAnchored verdict now octets result =
     OfCert (λ c. ta_validation verdict c now) IsAnchorOf octets result
 
--- the octets of the certificate of a CA under this issuer, with its validated numbers
+-- What is answered of octets that may begin with the certificate of a CA: where it is valid under
+-- this issuer, it with its validated numbers, and else a fault (`OfCert`).
 abbrev pub IsIssued : Verdict → Moment → Validated → List ℕ → Result Validated IssuerError → Type 0
 IsIssued verdict now issuer octets result =
     OfCert (λ c. ca_validation verdict c issuer now) (λ k v. IsValidatedUnder k issuer v) octets
@@ -59,8 +61,9 @@ abbrev pub Then : (Validated → Type 0) → Result Validated IssuerError
 Then Next (Ok valid) result = Next valid
 Then Next (Err fault) result = result ≡ Err fault
 
--- What is answered of a chain under a certificate: each is that of a CA under the one before, and
--- the last one is the answer. The fault is that of the first that is none.
+-- What is answered of a chain under a certificate, which is the answer where the chain is empty:
+-- each is that of a CA under the one before, and the last one is the answer; or else the fault of
+-- the first that is not, unless memory ran out.
 abbrev pub Follows : Verdict → Moment → Validated → List (List ℕ)
     → Result Validated IssuerError → Type 0
 Follows verdict now first [] result = result ≡ Ok first

@@ -27,7 +27,8 @@ abbrev pub is_told : Turns → Bool
 is_told turns = turns.fails_in == 1
 
 -- What is seen of the stand-in's signer after a call, where next is the number of the next key that
--- signs once.
+-- signs once: the call that is told to fail is nearer by one, or none where it was this one or none
+-- was, and one call more has failed where this one was told to.
 abbrev pub after_call : Turns → ℕ → Turns
 after_call turns next = record {
   next = next;
@@ -35,8 +36,9 @@ after_call turns next = record {
   failures = if is_told turns then turns.failures + 1 else turns.failures;
 }
 
--- What is seen of it after a call that signs once: the number of the next key is one more, modulo
--- 2^64, also where memory ran out. Where the call was told to fail, no number is used.
+-- What is seen of the stand-in's signer after a call that signs once (`after_call`): the number of
+-- the next key is one more, modulo 2^64, also where memory ran out. Where the call was told to
+-- fail, no number is used.
 abbrev pub after_one_off : Turns → Turns
 after_one_off turns =
     after_call turns (if is_told turns then turns.next else (turns.next + 1) % 2 ^ 64)

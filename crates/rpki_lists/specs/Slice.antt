@@ -45,7 +45,8 @@ abbrev pub IsTakenBy : (T : Type 0) → {X : Type 0} → Parser X → (List ℕ 
 IsTakenBy T {X} p form = (view : T → X) (octets : List ℕ) (result : Option T) (rest : List ℕ)
     → IsBytes octets → FindsFront view p octets result rest → TakesForm form view octets result rest
 
--- Each call that answers a T, and finds what p finds where the tag is next, takes by the form.
+-- Each call that answers a T, and finds what p finds where the tag is next, and else that it is
+-- absent, answers as `TakesFormIfNext` says.
 abbrev pub IsTakenIfNextBy : (T : Type 0) → {X : Type 0} → ℕ → Parser X → (List ℕ → X → Type 0)
     → Type 0
 IsTakenIfNextBy T {X} tag p form =

@@ -30,8 +30,8 @@ Fits head (Ca ski key sets) =
 abbrev pub IsAnchor : Cert → Type 0
 IsAnchor c = IsTrue c.is_anchor × IsTrue (c.verifies c.key)
 
--- The path stands under the supply: its head is a trust anchor, or the sets of the CA cover what is
--- below, where they have to.
+-- The path stands under the supply: where this is a locator, its head is a trust anchor; where it
+-- is a CA, the sets of the CA cover what is below, where they have to.
 abbrev pub Takes : List Cert → Supply → Type 0
 Takes [] s = ⊥
 Takes (head ∷ p) (Tal key) = IsAnchor head

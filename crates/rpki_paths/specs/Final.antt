@@ -45,7 +45,8 @@ abbrev pub IsWhole : {C : Type 0} → List (Path C) → (Family → Numbers) →
 IsWhole paths attested f = (n : ℕ) → holds (λ k. k) (attested f) n ≡ some_has paths f n
 
 -- What is answered at the end, in this order: whether all paths are anchored, whether the AS
--- numbers are those of the paths, whether the addresses are.
+-- numbers are those of the paths, whether the addresses are. The first that fails is answered.
+-- Where memory is wanting, none of them need have failed.
 abbrev pub Decides : {C : Type 0} → List (Path C) → (Family → Numbers) →
     Result (Unit {0}) FinalFault → Type 0
 Decides paths attested (Ok done) =

@@ -97,7 +97,7 @@ WhatFitsIsAlike =
     AreAlike HasKey a.signers a.subject_keys
     × AreAlike IsVerifiedBy a.signers a.ees × AreAlike HasCrl a.cas a.crls
 
--- With distinct identifiers each CA has one CRL in every matching.
+-- With distinct identifiers each CA has the same CRL in every matching.
 abbrev pub CrlsAreUnique : Type 0
 CrlsAreUnique =
     (a : Carried) (ees ees' : List Cert) (crls crls' : List Crl) → HasDistinctIds a →
@@ -162,8 +162,8 @@ WalksAreAccepted {C} cert =
     IsMatching a ees crls → (w : AreWalked cert (authorities a crls) ees kept) →
     IsAccepted a w.paths
 
--- With distinct identifiers such walks are refused, but for memory, only where no paths are
--- accepted.
+-- With distinct identifiers walks from the certificates of a matching up its CAs are refused, but
+-- for memory, only where no paths are accepted.
 abbrev pub RefusedIsNotAccepted : Type 0
 RefusedIsNotAccepted =
     (a : Carried) (ees : List Cert) (crls : List Crl) (fault : WalksFault) → HasDistinctIds a →

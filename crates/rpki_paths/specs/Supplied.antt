@@ -19,8 +19,8 @@ abbrev pub CoversPath : {C : Type 0} → (C → Cert) → Path C → (Family →
 CoversPath cert path sets f =
     CoversKept (λ n. n) (cert path.head).overclaim (kept_at path.sets f) (Explicit (sets f))
 
--- What is kept of a path tells that the supply takes it: its head is a trust anchor, or the sets of
--- the CA cover what they have to.
+-- What is kept of a path tells that the supply takes it: where this is a locator, the head is a
+-- trust anchor; where it is a CA, its sets cover what they have to.
 abbrev pub TakesKept : {C : Type 0} → (C → Cert) → Path C → Supply → Type 0
 TakesKept cert path (Supply.Tal key) = IsAnchor (cert path.head)
 TakesKept cert path (Supply.Ca ski key sets) = InEach (CoversPath cert path sets)
@@ -29,7 +29,8 @@ TakesKept cert path (Supply.Ca ski key sets) = InEach (CoversPath cert path sets
 abbrev pub IsPassed : {C : Type 0} → (C → Cert) → Supply → Path C → Path C → Type 0
 IsPassed cert s old new = (IsTrue old.anchored ⊎ ¬ (Fits (cert old.head) s)) × (new ≡ old)
 
--- The path is anchored under the supply, which takes it, and whose sets are kept.
+-- The path, which was not anchored, is anchored under the supply, which is meant for its head and
+-- takes it: what the supply claims is kept above what was kept, and head and place stay.
 pub record IsTaken {C : Type 0} (cert : C → Cert) (s : Supply) (old new : Path C) : Type 0 where
   pub open_path : IsFalse old.anchored
   pub meant : Fits (cert old.head) s
@@ -99,7 +100,7 @@ abbrev pub supply_of : {T S : Type 0} → (T → List ℕ) → (S → List ℕ) 
 supply_of tal_key ski key sets (Tal tal) = Supply.Tal (tal_key tal.now)
 supply_of tal_key ski key sets (Ca ca) = Supply.Ca (ski ca.now) (key ca.now) (sets ca.now)
 
--- The faults that it gives of a head: those of the locator, and none where it is a CA.
+-- The faults that a supply that is handed in gives of a head: those of a locator, and none of a CA.
 abbrev pub refusal_of : {T S C F : Type 0} → (T → C → F → Type 0) → Supplied T S → C → F → Type 0
 refusal_of refuses (Tal tal) = refuses tal.now
 refusal_of refuses (Ca ca) = λ head fault. ⊥

@@ -26,7 +26,8 @@ good_line verdict q = cond (is_listable verdict q) (question_line q) []
 abbrev pub listing : Verdict → List Question → List ℕ
 listing verdict questions = flat_map (good_line verdict) questions
 
--- the lines of such a list, one for each of these questions
+-- the lines of `listing`, in its order: one for each of the questions to which it may say yes
+-- (`is_listable`), and none for the others
 abbrev pub good_lines : Verdict → List Question → List (List ℕ)
 good_lines verdict [] = []
 good_lines verdict (q ∷ questions) =

@@ -46,7 +46,7 @@ pub record IsListingOf (mode : Mode) (verdict : Verdict) (object anchor : List �
   pub whole : text ≡ listing verdict (check_questions first others signed.signed)
 
 -- What is answered: the text, or that not all files of certificates begin with one, or else that
--- the file of the object begins with none, unless memory runs out.
+-- the file of the object begins with no signed object, unless memory runs out.
 abbrev pub Lists : Mode → Verdict → List ℕ → List ℕ → List (List ℕ)
     → Result (String Global) ListingError → Type 0
 Lists mode verdict object anchor chain (Ok text) =

@@ -48,12 +48,12 @@ EndBelow f limit bs = All (λ b. f b.max < limit) bs
 abbrev pub SameSet : {T : Type 0} → (T → ℕ) → List (Block T) → List (Block T) → Type 0
 SameSet f xs ys = (n : ℕ) → holds f xs n ≡ holds f ys n
 
--- the numbers in both
+-- zs has just the numbers that are in both xs and ys
 abbrev pub IsIntersection : {T : Type 0} → (T → ℕ) → List (Block T) → List (Block T)
     → List (Block T) → Type 0
 IsIntersection f xs ys zs = (n : ℕ) → holds f zs n ≡ (holds f xs n && holds f ys n)
 
--- the numbers in one or both
+-- zs has just the numbers that are in xs or ys, or in both
 abbrev pub IsUnion : {T : Type 0} → (T → ℕ) → List (Block T) → List (Block T) → List (Block T)
     → Type 0
 IsUnion f xs ys zs = (n : ℕ) → holds f zs n ≡ (holds f xs n || holds f ys n)

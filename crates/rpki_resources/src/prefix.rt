@@ -60,7 +60,7 @@ impl Prefix {
     }
 
     /// The first address and the last one. They are addresses of each family whose addresses have
-    /// as many bits.
+    /// no fewer bits than the prefix (`addr_len`).
     pub fn range(self) -> (Addr, Addr)
         ensures first { result.0 ≡ self.addr }
         ensures last { result.1 ≡ last_of self.addr self.len }

@@ -285,9 +285,9 @@ impl<T: Number> ResourcesBuilder<T> {
         }
     }
 
-    /// The claim: of the blocks that were added it is the set of their numbers, and missing where
-    /// there is none. Where there is no memory for the set, the builder is dropped with what was
-    /// added.
+    /// The claim: missing or inherited where the builder's is, and else the set of the numbers of
+    /// the blocks that were added, or missing where these have none. Where there is no memory for
+    /// the set, the builder is dropped with what was added.
     pub fn finalize(self) -> Result<Resources<T>, AllocError>
         ensures { IfOk result (IsBuilt T.number self) }
     {

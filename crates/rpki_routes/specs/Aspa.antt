@@ -14,7 +14,7 @@ pub record Aspa : Type 0 where
   pub customer : ℕ
   pub providers : List ℕ
 
--- 1 to as many numbers as the limit says, each below the next, and 0 only alone. The profile's
+-- 1 to as many AS numbers as the limit says, each below the next, and 0 only alone. The profile's
 -- ASN.1 has SIZE (1..MAX) (section 3); the limits are this project's own.
 pub record IsProviderSet (limit : ProviderLimit) (providers : List ℕ) : Type 0 where
   pub some : 1 ≤ length providers
@@ -31,7 +31,7 @@ pub record IsAttestation (limit : ProviderLimit) (a : Aspa) : Type 0 where
   pub providers : IsProviderSet limit a.providers
   pub others : Contains a.providers a.customer → ⊥
 
--- the providers of a customer
+-- the providers of a customer: a set within the limit (`IsProviderSet`), without the customer
 pub record AreProviders (limit : ProviderLimit) (customer : ℕ) (providers : List ℕ) : Type 0 where
   pub set : IsProviderSet limit providers
   pub others : Contains providers customer → ⊥

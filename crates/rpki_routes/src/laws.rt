@@ -71,8 +71,8 @@ pub fn octets_after_a_roa_are_left()
 {}
 
 /// What a ROA says is written as a content that says it, where what stands in its SEQUENCE has
-/// fewer than 2^32 octets, and whatever follows, it stands at the front. What was read can be
-/// written so.
+/// fewer than 2^32 octets, and whatever follows, it stands at the front. What a content says is
+/// what a ROA may say (`IsRoa`).
 pub fn roas_are_written()
     ensures written { (r : Roa) → IsRoa r → length (roa_contents r) < 2 ^ 32
         → RoaForm (roa_octets r) r }

@@ -121,7 +121,8 @@ pub record IsSignatureOf (n : ℕ) (message signature : List ℕ) : Type 0 where
   pub power : (number 0 signature ^ public_exponent) % n
       ≡ number 0 (encoded_message (length signature) message)
 
--- the key with these bits says yes to this signature of the message
+-- the bits of the key are those of a modulus and of the exponent 65537 (`IsRsaKey`), and the
+-- signature is that of the message by the key with this modulus (`IsSignatureOf`)
 pub record IsRsaSignature (key message signature : List ℕ) : Type 0 where
   pub n : ℕ
   pub key_is : IsRsaKey key n

@@ -30,8 +30,8 @@ pub fn a_signature_is_signed()
     ensures { IsRsaSignature sample_key (codes "abc") sample_signature }
 {}
 
-/// A signature with a changed octet has another number. The digests of two messages of which it is
-/// a signature are the same, and of a message with the same digest it is one.
+/// A signature with a changed octet has another number. Two messages of which a signature is one by
+/// the same key have the same digest, and it is one of each message with this digest, by this key.
 pub fn changes_are_seen()
     ensures signature { (a b : List ℕ) → IsBytes a → IsBytes b → length a ≡ length b → a ≢ b
         → number 0 a ≢ number 0 b }

@@ -42,9 +42,11 @@ MayAsk {X} kind form mode digest verdict issuer now Takes octets =
     (o : Whole X) (rest : List ℕ) → Front (ObjectForm kind.type form mode) octets o rest
     → AllHold (before_revocation kind digest verdict o issuer now) → Takes (cert_in mode o)
 
--- What is answered of octets: whether they begin with an object of the kind, and then by the first
--- of its checks that does not hold, in one list: what its certificate claims, the object, what was
--- said of the certificate, and the numbers that the certificate has; unless memory runs out.
+-- What is answered of octets: `Decode` where they begin with no object of the kind, and else the
+-- fault of the first of its checks that does not hold, in one list: what its certificate claims,
+-- the object with its certificate, what was said of the certificate, and the numbers that the
+-- certificate has; where all hold, the validated certificate and the content. Unless memory runs
+-- out.
 abbrev pub Checks : {X : Type 0} → Kind X → (List ℕ → X → Type 0) → Mode → Digester → Verdict
     → Validated → Moment → (KeptCertificate → Result (Unit {0}) ValidationError → Type 0)
     → List ℕ → Result (Validated × X) CheckError → Type 0

@@ -23,8 +23,8 @@ ct_checklist = 0x2A ∷ 0x86 ∷ 0x48 ∷ 0x86 ∷ 0xF7 ∷ 0x0D ∷ 0x01 ∷ 0x
 abbrev pub sets_of : Checklist → Sets
 sets_of l = record { as_numbers = l.as_resources; v4 = l.v4_resources; v6 = l.v6_resources }
 
--- The certificate claims the numbers of the checklist, family by family (5): where it inherits, it
--- claims what its issuer has.
+-- The certificate claims the numbers of the checklist, family by family (5). Where it inherits a
+-- family, any numbers of it pass here: which of them it has is checked once it was validated.
 abbrev pub checklist_claimed : Checklist → Claims → List (Check InspectionError)
 checklist_claimed l x =
     (NotCovered As unless IsCoveredBy (λ n. n) x.as_numbers l.as_resources)

@@ -41,9 +41,9 @@ AsksFirst Says later result =
     × AnswersFirstFault (said_checks said ++ later) result
 
 -- What is answered where checks come before the question whether the certificate was revoked, and
--- after it. It is asked where those before it hold; `valid` is the certificate, which is such a one
--- where they hold, and `said` what was said of it then. A value means that all hold, and is `valid`
--- with the content; a fault is that of the first check that does not hold.
+-- after it. It is asked where those before it hold: then `IsValid` holds of `valid`, the validated
+-- certificate, and `said` is what was said. A value means that all hold, a yes being said, and is
+-- `valid` with the content; a fault is that of the first check that does not hold.
 pub record IsProcessed {X : Type 0} (before : List (Check ValidationError))
     (IsValid : Validated → Type 0) (Says : Result (Unit {0}) ValidationError → Type 0)
     (held : Sets → List (Check ValidationError)) (content : X)

@@ -32,7 +32,8 @@ abbrev pub uncovered : AddressFamily → Address → VerificationError
 uncovered family a =
     faults.UncoveredPrefix (record { prefix = max_len_prefix (of_family family a) })
 
--- Each prefix has to be among the addresses of the certificate, in order (5).
+-- Each prefix has to be in the set of the addresses that the certificate has of the family (5).
+-- They are looked at in their order; it need not be a certain one.
 abbrev pub prefix_checks : AddressFamily → List (Block ℕ) → List Address
     → List (Check VerificationError)
 prefix_checks family set [] = []

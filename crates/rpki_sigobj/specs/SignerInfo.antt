@@ -25,7 +25,8 @@ abbrev pub cms_version : ℕ
 cms_version = 3
 
 -- signedAttrs [0] (5.3), whose content type is that of the content (11.1; RFC 6488, section
--- 2.1.6.4.1). An attribute that RFC 6488, section 2.1.6.4, does not name is refused.
+-- 2.1.6.4.1). Each attribute but the content type, the message digest and the signing time is
+-- refused (RFC 6488, section 2.1.6.4, as RFC 9589 updates it).
 abbrev pub TypedAttrsForm : List ℕ → Mode → List ℕ → SignedAttributes → Type 0
 TypedAttrsForm type mode octets x = SignedAttrsForm Refuse mode octets x × (x.content_type ≡ type)
 

@@ -29,8 +29,9 @@ pub fn faults_are_no_locators()
     ensures { (text : List ℕ) (e : ReadError) → IsFault text e → IsNoTal text }
 {}
 
-/// A text has one fault at most, so that with the two laws above each refusal comes exactly where
-/// its fault is.
+/// A text has one fault at most, where all faults of its key, `BadKeyInfo`, count as one. So, with
+/// the two laws above, and unless `Io` or `Memory` comes, each refusal comes exactly where its
+/// fault is.
 pub fn faults_are_one()
     ensures { (text : List ℕ) (e other : ReadError) → IsFault text e → IsFault text other
         → IsSameFault e other }

@@ -23,7 +23,7 @@ pub fn is_matched(address: RoaIpAddress, route: Prefix) -> bool
         && covering.addr() == prefix.addr()
 }
 
-/// Whether one of these addresses does.
+/// Whether one of these addresses of a ROA matches a route to this prefix, as `is_matched` says.
 pub fn are_matched(addresses: &RoaIpAddresses, route: Prefix) -> bool
     ensures { IsTrue result ↔ Any (λ address. IsMatched address route) addresses.now }
 {

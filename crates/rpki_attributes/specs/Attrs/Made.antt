@@ -34,8 +34,8 @@ InOrder parts octets =
 abbrev pub attrs_octets : SignedAttributes → List ℕ
 attrs_octets x = value_octets (context 0) x.contents
 
--- The message that is signed: 31, which is the tag of a SET, the length in DER, and the octets as
--- they were read or made. It is the message of RFC 5652, section 5.4, where these are the DER of
--- the SET, in order. That they are not encoded anew is this project's own rule.
+-- The message that is signed: 31 hexadecimal, which is the tag of a SET, the length in DER, and the
+-- octets as they were read or made. It is the message of RFC 5652, section 5.4, where these are the
+-- DER of the SET, in order. That they are not encoded anew is this project's own rule.
 abbrev pub message_of : SignedAttributes → List ℕ
 message_of x = value_octets SET x.contents

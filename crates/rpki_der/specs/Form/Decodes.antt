@@ -30,8 +30,9 @@ DecodesAll {T} {X} form view octets (Ok t) = form octets (view t)
     × ((x : X) → form octets x → x ≡ view t)
 DecodesAll {T} {X} form view octets (Err e) = Refuses e ((x : X) → form octets x → ⊥)
 
--- What the reader of these octets answers and leaves. Of a reader that refuses, `Stays` says what
--- it answers from then on.
+-- What the reader of these octets answers and leaves: what they begin with in the form, and what
+-- follows it; where it refuses, they begin with nothing in the form, unless memory ran out. Of a
+-- reader that refuses, `Stays` says what it answers from then on.
 abbrev pub TakesFront : {T X : Type 0} → (List ℕ → X → Type 0) → (T → X) → List ℕ
     → Result T DecodeError → State → Type 0
 TakesFront form view octets (Ok t) new = IsOnlyFront form octets (view t) new.rest
@@ -57,7 +58,9 @@ IsNextOrAbsent tag form octets None rest = (is_next tag octets ≡ false) × Has
 IsNextOrAbsent tag form octets (Some x) rest = (is_next tag octets ≡ true)
     × IsOnlyFront form octets x rest
 
--- What the reader of these octets answers where a value with this tag may be next.
+-- What the reader of these octets answers and leaves where a value with this tag may be next: what
+-- `IsNextOrAbsent` says; where it refuses, the tag is next and the octets begin with nothing in the
+-- form, unless memory ran out. `Stays` says what it answers from then on.
 abbrev pub TakesIfNext : {T X : Type 0} → ℕ → (List ℕ → X → Type 0) → (T → Option X) → List ℕ
     → Result T DecodeError → State → Type 0
 TakesIfNext tag form view octets (Ok t) new = IsNextOrAbsent tag form octets (view t) new.rest
@@ -66,6 +69,8 @@ TakesIfNext tag form view octets (Err e) new =
     Refuses e ((is_next tag octets ≡ true) × HasNoFront form octets)
 
 -- What takes from a reader by the form where a value with this tag is next, and else takes nothing.
+-- It refuses only where the tag is next and the octets begin with nothing in the form, unless
+-- memory ran out. A reader that has failed answers its error again.
 abbrev pub DecodesIfNext : {T X : Type 0} → ℕ → (Mode → List ℕ → X → Type 0) → (T → Option X)
     → State → Result T DecodeError → State → Type 0
 DecodesIfNext tag form view old result new =

@@ -102,8 +102,8 @@ abbrev pub closed : {T : Type 0} → Result T DecodeError → State → Result T
 closed (Err e) after = Err e
 closed (Ok t) after = or_error t (unfinished after.failed after.rest)
 
--- What a call answers after its closure: what the closure answered, if the reader has not failed
--- then. Something may be left.
+-- What a call answers after its closure: what the closure answered, if that is an error, or if the
+-- reader has not failed then; else the error of the reader. Something may be left.
 abbrev pub not_failed : {T : Type 0} → Result T DecodeError → State → Result T DecodeError
 not_failed (Err e) after = Err e
 not_failed (Ok t) after = or_error t after.failed
@@ -121,13 +121,17 @@ Opened tag view old result new =
     × MatchOption old.failed (OpenedAt view (value_at tag old.mode old.rest) result new)
     (λ e. FailsAgain e result new)
 
--- what is left after a value whose contents were read so
+-- What a call answers and leaves, where this is the answer about the contents of a value and rest
+-- follows it: the same answer, and rest is left, or its error again, from then on too.
 abbrev pub Left : {T : Type 0} → Result T DecodeError → List ℕ → Result T DecodeError → State
     → Type 0
 Left (Ok t) rest result new = (result ≡ Ok t) × (new.rest ≡ rest) × (new.failed ≡ None)
 Left (Err e) rest result new = FailsAgain e result new
 
--- A value with this tag is opened, and step is a call of the closure on a reader of its contents.
+-- The value in front, which has this tag, is opened: step is a call of the closure on a reader of
+-- its contents, what `closed` makes of its answer is answered, and what follows the value is left.
+-- Where no such value stands there, the answer is Malformed. A reader that has failed answers its
+-- error again, and each error is answered from then on.
 abbrev pub Opens : {T : Type 0} → ℕ → (State → Result T DecodeError → State → Type 0) → State
     → Result T DecodeError → State → Type 0
 Opens {T} tag step old result new =
@@ -144,8 +148,9 @@ abbrev pub some_of_result : {T : Type 0} → Result T DecodeError → Result (Op
 some_of_result (Ok t) = Ok (Some t)
 some_of_result (Err e) = Err e
 
--- The value in front is opened where it has this tag. Where it has another one, or where there is
--- none, nothing is read.
+-- The value in front is opened, as `Opens` says, where it has this tag. Where it has another one,
+-- or where there is none, nothing is read, and the answer is None. A reader that has failed answers
+-- its error again, from then on too.
 abbrev pub OpensIfNext : {T : Type 0} → ℕ → (State → Result T DecodeError → State → Type 0) → State
     → Result (Option T) DecodeError → State → Type 0
 OpensIfNext {T} tag step old result new =
@@ -162,8 +167,10 @@ pub record ReadSoFar {X : Type 0} (p : Parser (Option X)) (front : List X)
   pub failed : now.failed ≡ begun.failed
   pub read : with_front front (many p begun.mode now.rest) ≡ many p begun.mode begun.rest
 
--- what a capture answers, where read is what the call answered and after what it left: what was
--- answered, and the octets that were taken
+-- What a capture answers, where read is what the call answered and after what it left: what was
+-- answered, and the octets that were taken. Where the call refused, its error is answered again;
+-- where it did not, the capture refuses for want of memory alone. Each error is answered from then
+-- on.
 abbrev pub CapturedWith : {T : Type 0} → Result T DecodeError → State → State
     → Result (T × Kept) DecodeError → State
     → Type 0
@@ -175,7 +182,9 @@ CapturedWith (Ok t) old after (Err e) new = (e ≡ Memory) × (new.failed ≡ So
 CapturedWith (Err d) old after (Err e) new = IsAgain d e × (new.failed ≡ Some e)
     × (new.mode ≡ after.mode)
 
--- what step answered, and the octets that it took
+-- What step answered and the octets that it took, or the error that `not_failed` makes of its
+-- answer, or Memory. A reader that has failed answers its error again, and each error is answered
+-- from then on.
 abbrev pub CapturesWith : {T : Type 0} → (State → Result T DecodeError → State → Type 0) → State
     → Result (T × Kept) DecodeError → State → Type 0
 CapturesWith {T} step old result new =

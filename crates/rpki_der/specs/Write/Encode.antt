@@ -10,7 +10,8 @@ use Rattle.rpki_der.specs.declared.encode.EncodeError.TheVariants.{NotDer, TooLo
 abbrev pub Fits : Type 0 → List ℕ → Type 0
 Fits short octets = short × (length octets < 2 ^ 64)
 
--- how many octets there are, or which of the two faults forbids to write them
+-- What `encoded_len` answers: how many octets there are, only where der and short are so; `NotDer`,
+-- only where der is not so; or `TooLong`, only where Fits is not so.
 abbrev pub IsLenOf : Type 0 → Type 0 → List ℕ → Result ℕ EncodeError → Type 0
 IsLenOf der short octets (Ok n) = (n ≡ length octets) × der × short
 IsLenOf der short octets (Err NotDer) = ¬ der
@@ -22,8 +23,10 @@ IsLenOf der short octets (Err Memory) = ⊥
 abbrev pub Sunk : Type 0
 Sunk = Option (List ℕ) × ℕ
 
--- A sink before a call and after it. All octets are written, or a beginning of them where a call of
--- the sink has failed, and none for the two faults.
+-- A sink before a call that writes and after it. Where the value may be written (der, and Fits),
+-- all octets are, and no call of the sink fails; or one call fails (`Io`), and a beginning of them
+-- is written. Nothing is written and no call fails where the answer is `NotDer`, only where der is
+-- not so, or `TooLong`, only where Fits is not so.
 abbrev pub IsWritten : Type 0 → Type 0 → List ℕ → Sunk → Sunk → Result (Unit {0}) EncodeError
     → Type 0
 IsWritten der short octets old new (Ok u) = Appends old.0 new.0 octets × (new.1 ≡ old.1) × der

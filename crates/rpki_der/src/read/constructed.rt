@@ -31,8 +31,8 @@ use std::marker::Model;
 /// answers.
 ///
 /// Once a call has answered an error, each further call answers it again, and so does the call
-/// whose closure was handed the reader. Where no memory for a copy of the error is to be had, it is
-/// want of memory from then on.
+/// whose closure was handed the reader, unless the closure answers an error itself: then it is that
+/// one. Where no memory for a copy of the error is to be had, it is want of memory from then on.
 #[derive(Drop)]
 pub struct Constructed<'a> {
     mode: Mode,

@@ -13,8 +13,8 @@ uncovered_text uncovered =
     codes "ROA prefix " ++ (max_len_text uncovered.prefix ++ codes " not covered by certificate")
 
 -- Why a certificate or an object is not good. The texts of a signature, of the claim of an issuer,
--- of moments, of claims of too much, of numbers that a customer or a checklist has not, of a path
--- that returns and of the caller are this project's own.
+-- of moments, of claims of too much, of a customer or numbers of a checklist that the certificate
+-- has not, of a path that returns and of the caller are this project's own.
 abbrev pub verification_text : VerificationError → List ℕ
 verification_text faults.DigestMismatch = codes "message digest mismatch in signed object"
 verification_text faults.SigningTime = codes "signing time is after not_after validity time"

@@ -42,8 +42,8 @@ pub fn refused_or_claimed<T: Number>()
         IsValidated T.number Refuse (Explicit named) issuer set → set ≡ named }
 {}
 
-/// Where a claim of too much is trimmed, each claim is allowed, and what is validated is the
-/// intersection with the set of the issuer.
+/// Where a claim of too much is trimmed, each claim is allowed, and what is validated of an
+/// explicit one is the intersection with the set of the issuer.
 pub fn trimmed_is_the_intersection<T: Number>()
     ensures allowed { (claim : Claim (List (Block T))) (issuer : List (Block T)) →
         IsAllowed T.number Trim claim issuer }
@@ -52,7 +52,7 @@ pub fn trimmed_is_the_intersection<T: Number>()
         IsIntersection T.number named issuer set }
 {}
 
-/// What is validated lies in the set of the issuer.
+/// What is validated of a claim that is allowed (`IsAllowed`) lies in the set of the issuer.
 pub fn validated_is_held<T: Number>()
     ensures { (overclaim : Overclaim) (claim : Claim (List (Block T)))
         (issuer set : List (Block T)) → IsAllowed T.number overclaim claim issuer →

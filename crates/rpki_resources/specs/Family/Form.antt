@@ -11,7 +11,8 @@ abbrev pub afi : AddressFamily → List ℕ
 afi Ipv4 = 0 ∷ 1 ∷ []
 afi Ipv6 = 0 ∷ 2 ∷ []
 
--- An OCTET STRING of it. RFC 3779 allows a third octet, the subsequent address family identifier;
--- that it is not used in certificates, RFC 6487, section 4.8.10, asks.
+-- An OCTET STRING of the identifier of the family (`afi`). RFC 3779 allows a third octet, the
+-- subsequent address family identifier; that it is not used in certificates, RFC 6487, section
+-- 4.8.10, asks.
 abbrev pub FamilyForm : Mode → List ℕ → AddressFamily → Type 0
 FamilyForm mode octets family = OctetString mode MAX_DEPTH octets (afi family)

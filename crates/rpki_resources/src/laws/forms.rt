@@ -116,7 +116,8 @@ pub fn as_sets_are_written()
         ≡ Some (set, rest) }
 {}
 
-/// Each one that was read can be written, and is read again.
+/// A set of AS numbers that was read has numbers below 2^32 alone. Where the contents that are
+/// written of it have fewer than 2^32 octets, it is read again in both modes, whatever follows it.
 pub fn as_sets_are_written_again()
     ensures below { (mode : Mode) (octets : List ℕ) (set : List (Block ℕ)) →
         AsForm mode octets set → All (λ b. b.max < 2 ^ 32) set }
@@ -139,7 +140,8 @@ pub fn ip_sets_are_written()
         ≡ Some (set, rest) }
 {}
 
-/// Each one that was read is of the family, can be written, and is read again.
+/// A set of addresses of a family that was read is of this family. Where the contents that are
+/// written of it have fewer than 2^32 octets, it is read again in both modes, whatever follows it.
 pub fn ip_sets_are_written_again()
     ensures within { (family : AddressFamily) (mode : Mode) (octets : List ℕ)
         (set : List (Block ℕ)) →

@@ -10,7 +10,8 @@ use Rattle.rpki_basics.specs.Limits.{most_providers}
 use Rattle.rpki_routes.specs.declared.aspa.providers.InOrder.{InOrder}
 use Rattle.rpki_routes.specs.Aspa.{Aspa}
 
--- whether a number may follow the last one: 0 is followed by none
+-- whether a number may follow the last one, if there is one: it is above it, and 0 is followed by
+-- none
 abbrev pub follows : Option ℕ → ℕ → Bool
 follows None next = true
 follows (Some last) next = nat_lt 0 last && nat_lt last next

@@ -39,7 +39,8 @@ lists_of values = (unwrap_or values.v4 [], unwrap_or values.v6 [])
 
 -- ipAddrBlocks: SEQUENCE OF ROAIPAddressFamily, where there is at least one, and each family stands
 -- at most once (4.3). RFC 6482, the earlier profile, says nothing of a family that stands twice.
--- Here there may be none, which is this project's own rule.
+-- Here there may be none, and they may stand in any order, where 4.3.3 has a canonical one:
+-- both are this project's own rules.
 abbrev pub BlocksForm : List ℕ → List Address × List Address → Type 0
 BlocksForm = Made lists_of (FamiliesForm AddressesForm Der)
 
