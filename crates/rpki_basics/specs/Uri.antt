@@ -12,9 +12,10 @@ use Rattle.rpki_basics.specs.declared.uri.Error.TheVariants.{InvalidCharacters, 
 use Rattle.rpki_basics.specs.declared.uri.Error.TheVariants.{Memory}
 
 -- An octet that a URI may have: a visible character of ASCII, but for " < > \ ^ ` { | } (section
--- 2), and for #, which begins a fragment: the syntax of rsync and https has none (RFC 5781, section
--- 2; RFC 9110, section 4.2.2). That % may stand without two hexadecimal digits (section 2.1), and [
--- and ] outside an address (section 3.2.2), is this project's own rule.
+-- 2), and for #, which begins a fragment. The schemes have none (RFC 5781, section 2; RFC 9110,
+-- section 4.2.2), but section 3 lets one follow in any scheme: that none may is this project's own
+-- rule. So is that % may stand without two hexadecimal digits (section 2.1), and [ and ] outside an
+-- address (section 3.2.2).
 abbrev pub is_uri_octet : ℕ → Bool
 is_uri_octet octet =
     nat_le 0x21 octet && nat_le octet 0x7E

@@ -39,8 +39,9 @@ issued_checks t =
     ∷ []
 
 -- That of a CA has the basic constraints (4.8.1) and the key usage (4.8.4) of a CA, no extended key
--- usage (4.8.5), and says where the CA publishes and where its manifest is (4.8.8.1). That it may
--- not say where an object is that its key signed is this project's own rule.
+-- usage (4.8.5), and says where the CA publishes and where its manifest is (4.8.8.1). It does not
+-- say where an object is that its key signed: that one which says so is refused is this project's
+-- own rule.
 abbrev pub authority_checks : Tbs → List (Check InspectionError)
 authority_checks t =
     (faults.BasicCa unless (t.extensions.key.basic_ca ≡ Some true))

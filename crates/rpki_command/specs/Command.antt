@@ -176,8 +176,8 @@ pub record IsSaidUnread (s : Said) (old new : Names) (run : Run) : Type 0 where
 
 -- What the start of a program does: it runs the words after the program's name. Where one of them
 -- is no text (UTF-8) it says the usage instead, and where memory runs out before they are run it
--- says that; either way it reads no file. Where the arguments are not told, the words may be any,
--- and the usage may be said as well.
+-- says that; either way it reads no file. Where the arguments are not told, the words may be any
+-- texts, and the usage may be said as well.
 abbrev pub IsStartOf : ToldArguments → Told → Names → Names → Run → Type 0
 IsStartOf arguments told old new run =
     ((words : List (List ℕ)) × AreTexts arguments words × IsRunWith told words old new run)

@@ -120,7 +120,7 @@ impl<'a, R> Model for Disk<'a, R> {
 }
 
 impl<'a, R> Disk<'a, R> {
-    /// The files that this runtime reaches. It was asked for none yet.
+    /// The files that this runtime reaches. This store was asked for none yet.
     pub fn new(runtime: &'a R) -> Disk<'a, R>
         ensures { result ≡ [] }
     {

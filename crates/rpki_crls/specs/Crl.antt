@@ -54,9 +54,9 @@ TbsForm mode octets t = Sequence mode (
     ∷ []) octets
 
 -- CertificateList: SEQUENCE { tbsCertList, signatureAlgorithm, signatureValue BIT STRING } (5.1).
--- What is signed are the octets of tbsCertList, as they stand there, and the octets of the list are
--- all of these. That of the two identifiers of the algorithm one may have a NULL and the other
--- none, where 5.1.1.2 has them the same, is this project's own rule.
+-- What is signed are the octets of tbsCertList, as they stand there; the octets of the list are all
+-- octets of the CertificateList. That of the two identifiers of the algorithm one may have a NULL
+-- and the other none, where 5.1.1.2 has them the same, is this project's own rule.
 abbrev pub CrlForm : Mode → List ℕ → RevocationList → Type 0
 CrlForm mode octets c = (c.octets ≡ octets) × Sequence mode (
     (λ o. WithOctets (TbsForm mode) o c.tbs c.signed)

@@ -94,7 +94,7 @@ pub record IsRunWith (told : Told) (clock : Option Moment) (words : List (List �
 -- What the start of a program does: it runs the words after the program's name. Where one of them
 -- is no text (UTF-8) it says that they are wrong instead, and where memory runs out before they are
 -- run it says that; either way it reads no file. Where the arguments are not told, the words may be
--- any, and it may be said as well that they are wrong.
+-- any texts, and it may be said as well that they are wrong.
 abbrev pub IsStartOf : ToldArguments → Told → Option Moment → Names → Names → Run → Type 0
 IsStartOf arguments told clock old new run =
     ((words : List (List ℕ)) × AreTexts arguments words
