@@ -3,6 +3,9 @@ pub mod EncodedParts
 pub mod KeyFacts
 pub mod KeyForms
 pub mod LimbFacts
+pub mod OctetLimbs
 pub mod Remainders
+pub mod Rows
 pub mod SampleSigned
+pub mod Squares
 pub mod Verdicts
