@@ -72,7 +72,7 @@ all-more a = sym (or-true a)
 
 -- ---- what is kept of anchored paths
 
-kept-is-meet : (kept : Option (Kept Numbers)) (sets : List Numbers) → StandsFor (λ n. n) kept sets
+pub kept-is-meet : (kept : Option (Kept Numbers)) (sets : List Numbers) → StandsFor (λ n. n) kept sets
     → (n : ℕ) → kept_has (λ k. k) kept n ≡ meet (λ k. k) sets n
 kept-is-meet None sets h n = ap (λ l. meet (λ k. k) l n) (sym h)
 kept-is-meet (Some kept) sets h n = kept-numbers kept sets h n

@@ -66,7 +66,7 @@ under-passed head p supplies s sets false u (inr other) = (
 )
 
 module _ {C : Type 0} (cert : C → Cert) where
-  takes-kept : (k : Path C) (p : List Cert) (s : Supply)
+  pub takes-kept : (k : Path C) (p : List Cert) (s : Supply)
       → ((f : Family) → StandsFor (λ n. n) (kept_at k.sets f)
       (explicit_sets (at_place k.place (cert k.head) ∷ p) f))
       → TakesKept cert k s ↔ Takes (at_place k.place (cert k.head) ∷ p) s

@@ -14,6 +14,7 @@ pub mod WalkingEach
 pub mod Finals
 pub mod Keeps
 pub mod Granting
+pub mod After
 pub mod Mapping
 pub mod Verdicts
 pub mod Accepting

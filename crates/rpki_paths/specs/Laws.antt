@@ -1,6 +1,6 @@
 -- The laws of paths that public functions carry.
 use Rattle.std.specs.Prelude.{◌≡◌, ℕ, ◌+◌, ◌*◌, ◌≤◌, List, ◌∷◌, Option, None, Some, IsTrue}
-use Rattle.std.specs.Prelude.{length, ◌↔◌, ◌⊎◌, [], ◌++◌, Ok, Err, Bool, map}
+use Rattle.std.specs.Prelude.{length, ◌↔◌, ◌⊎◌, [], ◌++◌, Result, Ok, Err, Bool, map}
 use Rattle.rpki_resources.specs.declared.block.Block.{Block}
 use Rattle.rpki_resources.specs.declared.resources.Claim.{Claim}
 use Rattle.rpki_resources.specs.declared.resources.Claim.TheVariants.{Inherit, Explicit}
@@ -21,6 +21,7 @@ use Rattle.rpki_paths.specs.declared.decision.FinalFault.TheVariants.{Memory as 
 use Rattle.rpki_paths.specs.declared.pairs.PairFault.{PairFault}
 use Rattle.rpki_paths.specs.declared.pairs.PairFault.TheVariants.{Memory as PairMemory}
 use Rattle.rpki_paths.specs.Kept.{AreRefused, AreKept, AreWalked}
+use Rattle.rpki_paths.specs.After.{AreKeptBySome, AreAfter, IsGrantedBySome}
 use Rattle.rpki_paths.specs.Supplied.{AnswersEach, AreSuppliedAll}
 use Rattle.rpki_paths.specs.Final.{all_anchored, IsWhole, Decides}
 use Rattle.rpki_paths.specs.Walk.{IsRefused, kept_at, InEach, placed}
@@ -327,3 +328,40 @@ VerdictsAreFew =
     (IsDistinct (authorities a crls) →
     walked ≤ signed + length ees * length (authorities a crls)) →
     walked ≤ none + (length a.signers + length a.crls + length a.signers * length a.cas)
+
+-- What is kept of paths after one supply more is handed in, whatever it answers, is kept after it
+-- too.
+abbrev pub EachKeepsSome : {X C F : Type 0} → (C → Cert) → (X → Supply) → (X → C → F → Type 0) →
+    Type 0
+EachKeepsSome {X} {C} {F} cert of refuses =
+    (x : X) (supplies : List Supply) (old new : List (Path C)) (paths : List (List Cert))
+    (answer : Result Bool (SupplyFault F)) → AnswersEach cert (refuses x) (of x) old new answer →
+    AreKeptBySome cert supplies old paths →
+    AreKeptBySome cert (supplies ++ of x ∷ []) new paths
+
+-- What is kept of paths after some supplies are handed in, whatever they answer, is kept after
+-- these too.
+abbrev pub AllKeepSome : {X C F : Type 0} → (C → Cert) → (X → Supply) → (X → C → F → Type 0) →
+    Type 0
+AllKeepSome {X} {C} cert of refuses =
+    (xs : List X) (supplies : List Supply) (old new : List (Path C)) (paths : List (List Cert)) →
+    AreAfter cert of refuses xs old new → AreKeptBySome cert supplies old paths →
+    AreKeptBySome cert (supplies ++ map of xs) new paths
+
+-- What is kept of paths under supplies, as where none of these declined one, is kept after them.
+abbrev pub KeptIsKeptBySome : {C : Type 0} → (C → Cert) → Type 0
+KeptIsKeptBySome {C} cert =
+    (supplies : List Supply) (kept : List (Path C)) (paths : List (List Cert)) →
+    AreKept cert supplies kept paths → AreKeptBySome cert supplies kept paths
+
+-- Where every certificate is valid, walks from the certificates of a matching find paths, and after
+-- any supplies, refused ones among them, the end says yes, the attestation is accepted, and earns
+-- its sets under supplies that are meant for its paths and take them.
+abbrev pub YesAfterRefusals : {X C F : Type 0} → (C → Cert) → (X → Supply) →
+    (X → C → F → Type 0) → Type 0
+YesAfterRefusals {X} {C} cert of refuses =
+    (a : Carried) (ees : List Cert) (crls : List Crl) (walked kept : List (Path C))
+    (xs : List X) (attested : Family → Numbers) → AreValid a →
+    IsMatching a ees crls → AreWalked cert (authorities a crls) ees walked →
+    AreAfter cert of refuses xs walked kept → Decides kept attested (Ok tt) →
+    IsGrantedBySome a (map of xs) attested

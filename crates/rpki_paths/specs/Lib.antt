@@ -10,6 +10,7 @@ pub mod Supplied
 pub mod Grant
 pub mod Kept
 pub mod Final
+pub mod After
 pub mod Accepting
 pub mod Granting
 pub mod Texts

@@ -16,6 +16,8 @@ ghost use Rattle.rpki_paths.specs.Laws.{UnmatchedIsNotAccepted};
 ghost use Rattle.rpki_paths.specs.Laws.{RefusalIsRight};
 ghost use Rattle.rpki_paths.specs.Laws.{KeptTellsTakes, FirstFitsArePairing};
 ghost use Rattle.rpki_paths.specs.Laws.{FirstFitsFindPairing, MatchingIsCheap, VerdictsAreFew};
+ghost use Rattle.rpki_paths.specs.Laws.{EachKeepsSome, AllKeepSome, KeptIsKeptBySome};
+ghost use Rattle.rpki_paths.specs.Laws.{YesAfterRefusals};
 ghost use Rattle.rpki_paths.specs.Pairing.{HasKey, IsVerifiedBy, HasCrl};
 ghost use Rattle.rpki_paths.specs.Supplied.{supply_of, refusal_of};
 ghost use Rattle.rpki_paths.specs.Pairing.{IsPair};
@@ -158,6 +160,28 @@ pub fn unsupplied_is_refused<C: Certificate, T: Locator<C>, S: SuppliedCa<C>>()
 pub fn undecided_is_refused<C: Certificate, T: Locator<C>, S: SuppliedCa<C>>()
     ensures { UndecidedIsRefused C.cert (supply_of T.key S.ski S.key S.sets)
         (refusal_of T.refuses) }
+{}
+
+/// What is kept of paths after some supplies is kept after one more, whatever it answers.
+pub fn each_keeps_some<C: Certificate, T: Locator<C>, S: SuppliedCa<C>>()
+    ensures { EachKeepsSome C.cert (supply_of T.key S.ski S.key S.sets) (refusal_of T.refuses) }
+{}
+
+/// What is kept of paths after some supplies is kept after several more, whatever they answer.
+pub fn all_keep_some<C: Certificate, T: Locator<C>, S: SuppliedCa<C>>()
+    ensures { AllKeepSome C.cert (supply_of T.key S.ski S.key S.sets) (refusal_of T.refuses) }
+{}
+
+/// What is kept of paths under supplies, none of which declines one, is kept after them.
+pub fn kept_is_kept_by_some<C: Certificate>()
+    ensures { KeptIsKeptBySome C.cert }
+{}
+
+/// After any supplies, refused ones among them, a yes of the end means that the attestation is
+/// accepted, and that its sets are earned under supplies that are meant for its paths and take
+/// them.
+pub fn yes_after_refusals<C: Certificate, T: Locator<C>, S: SuppliedCa<C>>()
+    ensures { YesAfterRefusals C.cert (supply_of T.key S.ski S.key S.sets) (refusal_of T.refuses) }
 {}
 
 /// What is kept of a path tells whether a supplied CA takes it.
