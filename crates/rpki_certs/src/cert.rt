@@ -171,8 +171,8 @@ impl Clone for Cert {
     ghost is_clone = { λ c copy. copy ≡ c };
 
     fn clone(&self) -> Result<Cert, AllocError> {
-        let contents = self.contents.clone()?;
         let captured = self.captured.clone()?;
+        let contents = self.contents.clone()?;
         Ok(Cert { contents, captured })
     }
 }

@@ -97,10 +97,14 @@ impl Clone for ResourceCert {
     ghost is_clone = { λ r copy. copy ≡ r };
 
     fn clone(&self) -> Result<ResourceCert, AllocError> {
-        Ok(ResourceCert {
-            cert: self.cert.clone()?,
-            sets: self.sets.clone()?,
-        })
+        let sets = self.sets.clone()?;
+        match self.cert.clone() {
+            Ok(cert) => Ok(ResourceCert { cert, sets }),
+            Err(error) => {
+                drop(sets);
+                Err(error)
+            }
+        }
     }
 }
 
@@ -257,8 +261,13 @@ impl Cert {
         ensures { AnswersFirstOr Memory
             (ta_validation (C.is_signed crypto.now) self.certificate now) (IsAnchorOf self) result }
     {
-        let sets = self.anchor_sets(alloc, strict, crypto, now)?;
-        Ok(ResourceCert { cert: self, sets })
+        match self.anchor_sets(alloc, strict, crypto, now) {
+            Ok(sets) => Ok(ResourceCert { cert: self, sets }),
+            Err(error) => {
+                drop(self);
+                Err(error)
+            }
+        }
     }
 
     /// Validates the certificate of a CA under its issuer: its form, the issuer that it states, the
@@ -282,8 +291,13 @@ impl Cert {
             (ca_validation (C.is_signed crypto.now) self.certificate issuer.now now)
             (IsValidatedUnder self issuer.now) result }
     {
-        let sets = self.ca_sets(alloc, issuer, crypto, now)?;
-        Ok(ResourceCert { cert: self, sets })
+        match self.ca_sets(alloc, issuer, crypto, now) {
+            Ok(sets) => Ok(ResourceCert { cert: self, sets }),
+            Err(error) => {
+                drop(self);
+                Err(error)
+            }
+        }
     }
 
     /// Validates the certificate of an end entity that signed a published object, as
@@ -301,8 +315,13 @@ impl Cert {
             (ee_validation (C.is_signed crypto.now) self.certificate issuer.now now)
             (IsValidatedUnder self issuer.now) result }
     {
-        let sets = self.ee_sets(alloc, issuer, crypto, now)?;
-        Ok(ResourceCert { cert: self, sets })
+        match self.ee_sets(alloc, issuer, crypto, now) {
+            Ok(sets) => Ok(ResourceCert { cert: self, sets }),
+            Err(error) => {
+                drop(self);
+                Err(error)
+            }
+        }
     }
 
     /// Validates the certificate of an end entity that signed an object which need not be
@@ -321,7 +340,12 @@ impl Cert {
             (detached_ee_validation (C.is_signed crypto.now) self.certificate issuer.now now)
             (IsValidatedUnder self issuer.now) result }
     {
-        let sets = self.detached_ee_sets(alloc, issuer, crypto, now)?;
-        Ok(ResourceCert { cert: self, sets })
+        match self.detached_ee_sets(alloc, issuer, crypto, now) {
+            Ok(sets) => Ok(ResourceCert { cert: self, sets }),
+            Err(error) => {
+                drop(self);
+                Err(error)
+            }
+        }
     }
 }

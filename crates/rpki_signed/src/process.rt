@@ -63,7 +63,10 @@ fn validate_before_revocation<T: Content, C: Crypto>(
         under.now.issuer.now under.now.moment) (IsCertUnder object under.now.issuer.now) result }
 {
     match content.verify_claims(object.cert()) {
-        Err(e) => Err(e),
+        Err(e) => {
+            drop(object);
+            Err(e)
+        }
         Ok(()) => validate_object(object, T::is_published(), under),
     }
 }

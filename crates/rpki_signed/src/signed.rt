@@ -142,7 +142,8 @@ impl<T: Content> Signed<T> {
     pub fn into_content(self) -> T
         ensures { result ≡ self.content }
     {
-        let Signed { object: _, content } = self;
+        let (object, content) = self.into_parts();
+        drop(object);
         content
     }
 

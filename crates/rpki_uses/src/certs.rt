@@ -72,6 +72,15 @@ pub fn authority_of<C: Crypto>(
         × (made.cert ≡ cert) × AreHeld issuer.sets made.sets) }
 {
     valid_anchors();
-    let anchor = anchor.validate_ta_at(alloc, true, crypto, now)?;
-    authority_under(alloc, cert, &anchor, crypto, now)
+    match anchor.validate_ta_at(alloc, true, crypto, now) {
+        Err(error) => {
+            drop(cert);
+            Err(error)
+        }
+        Ok(anchor) => {
+            let made = authority_under(alloc, cert, &anchor, crypto, now);
+            drop(anchor);
+            made
+        }
+    }
 }

@@ -49,7 +49,8 @@ impl Model for Tbs {
 /// What stands in a certificate (RFC 5280, section 4.1.1).
 #[derive(Debug, Drop)]
 pub struct Contents {
-    pub tbs: Tbs,
+    // (on the heap, so that it is not moved at each step on the way up)
+    pub tbs: Box<Tbs>,
     pub signed: Bytes,
     pub signature: RpkiSignature,
 }
@@ -60,8 +61,8 @@ impl Model for Contents {
     ghost Value = { KeptContents };
 
     ghost view = { λ c. record {
-      contents = record { tbs = c.tbs.tbs; signed = c.signed; signature = c.signature };
-      names = c.tbs.names;
+      contents = record { tbs = c.tbs.value.tbs; signed = c.signed; signature = c.signature };
+      names = c.tbs.value.names;
     } };
 }
 
@@ -84,10 +85,14 @@ impl Clone for Contents {
     ghost is_clone = { λ c copy. copy ≡ c };
 
     fn clone(&self) -> Result<Contents, AllocError> {
+        // The largest last: what is alive at a `?` is let go there.
+        let signed = self.signed.clone()?;
+        let signature = self.signature.clone()?;
+        let tbs = self.tbs.clone()?;
         Ok(Contents {
-            tbs: self.tbs.clone()?,
-            signed: self.signed.clone()?,
-            signature: self.signature.clone()?,
+            tbs,
+            signed,
+            signature,
         })
     }
 }
@@ -151,19 +156,28 @@ fn take_tbs_fields(cons: &mut Constructed<'_>, alloc: Global) -> Result<Tbs, Dec
     })
 }
 
-// Reads what is signed.
-fn take_tbs(cons: &mut Constructed<'_>, alloc: Global) -> Result<Tbs, DecodeError>
-    ensures reads { Reads (λ t. t.tbs) tbs_at cons.old result cons.new }
-    ensures names { IfOk result (λ t. t.names ≡ both_in cons.old.mode) }
+// Reads the fields that are signed, and puts them on the heap.
+fn take_boxed(cons: &mut Constructed<'_>, alloc: Global) -> Result<Box<Tbs>, DecodeError>
+    ensures reads { Reads (λ t. t.value.tbs) tbs_fields_at cons.old result cons.new }
+    ensures names { IfOk result (λ t. t.value.names ≡ both_in cons.old.mode) }
 {
-    cons.take_sequence(|cons| take_tbs_fields(cons, alloc))
+    let tbs = take_tbs_fields(cons, alloc)?;
+    Ok(Box::new(alloc, tbs)?)
+}
+
+// Reads what is signed.
+fn take_tbs(cons: &mut Constructed<'_>, alloc: Global) -> Result<Box<Tbs>, DecodeError>
+    ensures reads { Reads (λ t. t.value.tbs) tbs_at cons.old result cons.new }
+    ensures names { IfOk result (λ t. t.value.names ≡ both_in cons.old.mode) }
+{
+    cons.take_sequence(|cons| take_boxed(cons, alloc))
 }
 
 // Reads what is signed, and keeps its octets.
-fn keep_tbs(cons: &mut Constructed<'_>, alloc: Global) -> Result<(Tbs, Captured), DecodeError>
-    ensures reads { Reads (λ k. (k.0.tbs, k.1.octets)) (with_octets tbs_at)
+fn keep_tbs(cons: &mut Constructed<'_>, alloc: Global) -> Result<(Box<Tbs>, Captured), DecodeError>
+    ensures reads { Reads (λ k. (k.0.value.tbs, k.1.octets)) (with_octets tbs_at)
         cons.old result cons.new }
-    ensures names { IfOk result (λ k. k.0.names ≡ both_in cons.old.mode) }
+    ensures names { IfOk result (λ k. k.0.value.names ≡ both_in cons.old.mode) }
 {
     cons.capture_with(|cons| take_tbs(cons, alloc))
 }
@@ -175,8 +189,20 @@ fn take_contents(cons: &mut Constructed<'_>, alloc: Global) -> Result<Contents, 
     ensures names { IfOk result (λ c. c.names ≡ both_in cons.old.mode) }
 {
     let (tbs, signed) = keep_tbs(cons, alloc)?;
-    let algorithm = RpkiSignatureAlgorithm::take_cert_from(cons)?;
-    let signature = cons.take_octets_in_bits()?;
+    let algorithm = match RpkiSignatureAlgorithm::take_cert_from(cons) {
+        Ok(algorithm) => algorithm,
+        Err(error) => {
+            drop(tbs);
+            return Err(error);
+        }
+    };
+    let signature = match cons.take_octets_in_bits() {
+        Ok(signature) => signature,
+        Err(error) => {
+            drop(tbs);
+            return Err(error);
+        }
+    };
     Ok(Contents {
         tbs,
         signed: signed.into_bytes(),

@@ -3,10 +3,10 @@ use Rattle.rpki_certs.specs.Validate.{Validated, AreHeld, IsAnchorOf, IsGoodAnch
 use Rattle.rpki_uses.proofs.Answered.{of-both}
 use Rattle.rpki_uses.proofs.certs.authority_of.Goals as goal
 
-pub returns : goal.returns
-returns g c =
+pub returns-in-Ok : goal.returns-in-Ok
+returns-in-Ok g c =
     let verdict = g.C.Crypto.is_signed c.args.crypto.now in
-    let a = c.in_ok-anchor.anchor in
+    let a = c.in-Ok.anchor in
     let now = c.args.now in
     let valid = c.valid_anchors.ensures verdict c.args.anchor.certificate now in
     of-both (λ _. IsGoodUnder verdict c.args.cert.certificate a now)
@@ -15,13 +15,13 @@ returns g c =
     × IsGoodAnchor verdict c.args.anchor.certificate now
     × IsGoodUnder verdict c.args.cert.certificate issuer now × (v.cert ≡ c.args.cert)
     × AreHeld issuer.sets v.sets)
-    c.authority_under.result
+    c.authority_under-made.result
     (λ v good held. (
       a,
-      c.in_ok-anchor.ensures.1,
-      (valid.0 c.in_ok-anchor.ensures.0).1,
+      c.in-Ok.ensures.1,
+      (valid.0 c.in-Ok.ensures.0).1,
       good,
       held.0,
       held.1,
     ))
-    c.authority_under.ensures.good c.authority_under.ensures.held
+    c.authority_under-made.ensures.good c.authority_under-made.ensures.held
