@@ -7,13 +7,13 @@ ghost use Rattle.rpki_basics.specs.Uri.{IsUriOf, IsJoined, AreRsyncSegments, Are
 ghost use Rattle.rpki_basics.specs.Uri.{IsRsync, IsHttps, AreUriOctets, join_text, error_text};
 
 mod segments;
-mod tests_of;
+mod syntax;
 
 use bytes::Bytes;
 use std::alloc::{AllocError, Global};
 use std::fmt;
 use std::marker::Model;
-use tests_of::{after_scheme, are_uri_octets, goes_on_as_https, goes_on_as_rsync};
+use syntax::{after_scheme, are_uri_octets, goes_on_as_https, goes_on_as_rsync};
 
 /// Why a text is no URI of the kind that was asked for: the first cause in this order.
 #[derive(Debug, Drop)]

@@ -1,7 +1,7 @@
 use Rattle.std.proofs.Common.{◌≡◌, length}
 use Rattle.rpki_basics.specs.Segments.{segments}
 use Rattle.rpki_basics.specs.Uri.Tests.{is_path}
-use Rattle.rpki_basics.proofs.uri.tests_of.is_path.Given as goal
+use Rattle.rpki_basics.proofs.uri.syntax.is_path.Given as goal
 
 abbrev pub invariant-segments : goal.invariant-segments
 invariant-segments l = is_path (segments l.rest) ≡ is_path (segments l.fn.text)

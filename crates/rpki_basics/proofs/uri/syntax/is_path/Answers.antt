@@ -1,7 +1,7 @@
 use Rattle.std.proofs.Common.{sym, ap, ◌∙◌}
 use Rattle.rpki_basics.specs.Uri.Tests.{is_path}
 use Rattle.rpki_basics.proofs.Uris.Tests.{path-empty}
-use Rattle.rpki_basics.proofs.uri.tests_of.is_path.Goals as goal
+use Rattle.rpki_basics.proofs.uri.syntax.is_path.Goals as goal
 
 pub returns-then-is_empty : goal.returns-then-is_empty
 returns-then-is_empty c =
