@@ -1,5 +1,5 @@
 #!/usr/bin/env python3
-"""Makes the rows of crates/rpki_rsa_tests: keys, messages and signatures.
+"""Makes the rows of crates/rpki_values_tests/src/rsa: keys, messages and signatures.
 
     tools/rsa_vectors.py FOLDER      writes FOLDER/keys.rt, right.rt, numbers.rt, kinds.rt,
                                      encodings.rt, moduli.rt and others.rt
@@ -378,12 +378,12 @@ def write(path, doc, tables):
 
 def use_line(names):
     if len(names) == 1:
-        return f"use crate::keys::{names[0]};\n"
-    line = f"use crate::keys::{{{', '.join(names)}}};\n"
+        return f"use super::keys::{names[0]};\n"
+    line = f"use super::keys::{{{', '.join(names)}}};\n"
     if len(line) <= 101:
         return line
     lines = textwrap.wrap(", ".join(names) + ",", 96)
-    return "use crate::keys::{\n" + "".join(f"    {line}\n" for line in lines) + "};\n"
+    return "use super::keys::{\n" + "".join(f"    {line}\n" for line in lines) + "};\n"
 
 
 if __name__ == "__main__":

@@ -9,8 +9,8 @@ import textwrap
 TREE = pathlib.Path(__file__).resolve().parent.parent.parent / "examples"
 HEAD = '''//! The objects of examples/, each with what the program says of it.
 
-use crate::cuts::is_cut;
-use crate::runs::{Said, is_answered};
+use super::cuts::is_cut;
+use super::runs::{Said, is_answered};
 use std::test::Fail;
 '''
 FILES = {

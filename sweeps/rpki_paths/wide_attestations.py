@@ -8,7 +8,7 @@ import sys
 TOP = pathlib.Path(__file__).resolve().parent.parent.parent
 HEAD = '''//! Rows of attestations, with what Python says of the definitions.
 
-use crate::rows::compare;
+use super::rows::compare;
 use std::test::Fail;
 '''
 

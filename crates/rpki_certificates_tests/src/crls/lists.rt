@@ -1,0 +1,231 @@
+//! Rows of revocation lists.
+
+use super::parts::{
+    BOTH, CRITICAL_BOTH, EMPTY, ENTRIES, LARGE, LATE, NAME, NEGATIVE, NEXT, NO_DAY, NO_KEY,
+    NO_NUMBER, NO_SECONDS, NUMBER_IN_BER, NUMBER_TWICE, OTHER_ORDER, RSA, RSA_ALONE, SHA_256,
+    SIGNATURE, THIS, TIMELESS, TWICE, UNKNOWN, UNUSED, USAGE, V2, V3, WRONG_ENTRY, WRONG_NUMBER,
+};
+use bytes::Bytes;
+use rpki_basics::Serial;
+use rpki_crls::Crl;
+use rpki_der::build::tlv;
+use rpki_der::{Constructed, DecodeError, Mode};
+use std::alloc::{AllocError, Global};
+
+/// What is signed, what stands after it, and what is said or why it is refused: the two times, the
+/// number, the identifier of the key, and which numbers from 0 to 3 are revoked.
+type Row = (
+    &'static [&'static [u8]],
+    &'static [&'static [u8]],
+    &'static str,
+);
+
+/// The algorithm and the signature.
+const SIGNED: &[&[u8]] = &[RSA, SIGNATURE];
+
+/// Revocation lists.
+pub static ROWS: [Row; 34] = [
+    (
+        &[V2, RSA, NAME, THIS, NEXT, ENTRIES, BOTH],
+        SIGNED,
+        "2024-01-01T00:00:00Z 2024-01-08T00:00:00Z c 4142434445464748494A4B4C4D4E4F5051525354 13",
+    ),
+    (
+        &[V2, RSA, NAME, THIS, NEXT, BOTH],
+        SIGNED,
+        "2024-01-01T00:00:00Z 2024-01-08T00:00:00Z c 4142434445464748494A4B4C4D4E4F5051525354 ",
+    ),
+    (
+        &[V2, RSA, NAME, THIS, NEXT, EMPTY, BOTH],
+        SIGNED,
+        "2024-01-01T00:00:00Z 2024-01-08T00:00:00Z c 4142434445464748494A4B4C4D4E4F5051525354 ",
+    ),
+    (
+        &[V2, RSA_ALONE, NAME, LATE, NEXT, TWICE, OTHER_ORDER],
+        SIGNED,
+        "2050-01-01T00:00:00Z 2024-01-08T00:00:00Z c 4142434445464748494A4B4C4D4E4F5051525354 13",
+    ),
+    (
+        &[V2, RSA, EMPTY, THIS, THIS, LARGE, CRITICAL_BOTH],
+        &[RSA_ALONE, SIGNATURE],
+        "2024-01-01T00:00:00Z 2024-01-01T00:00:00Z c 4142434445464748494A4B4C4D4E4F5051525354 ",
+    ),
+    (&[V3, RSA, NAME, THIS, NEXT, BOTH], SIGNED, "malformed"),
+    (&[RSA, NAME, THIS, NEXT, BOTH], SIGNED, "malformed"),
+    (
+        &[V2, SHA_256, NAME, THIS, NEXT, BOTH],
+        SIGNED,
+        "unknown algorithm",
+    ),
+    (
+        &[V2, RSA, NAME, THIS, NEXT, BOTH],
+        &[SHA_256, SIGNATURE],
+        "unknown algorithm",
+    ),
+    (&[V2, RSA, THIS, NEXT, BOTH], SIGNED, "malformed"),
+    (&[V2, RSA, NAME, THIS, BOTH], SIGNED, "malformed"),
+    (
+        &[V2, RSA, NAME, THIS, NO_SECONDS, BOTH],
+        SIGNED,
+        "time not in its form",
+    ),
+    (
+        &[V2, RSA, NAME, THIS, NO_DAY, BOTH],
+        SIGNED,
+        "no such date or time of day",
+    ),
+    (&[V2, RSA, NAME, THIS, NEXT], SIGNED, "malformed"),
+    (&[V2, RSA, NAME, THIS, NEXT, ENTRIES], SIGNED, "malformed"),
+    (
+        &[V2, RSA, NAME, THIS, NEXT, BOTH, ENTRIES],
+        SIGNED,
+        "malformed",
+    ),
+    (
+        &[V2, RSA, NAME, THIS, NEXT, ENTRIES, EMPTY, BOTH],
+        SIGNED,
+        "malformed",
+    ),
+    (
+        &[V2, RSA, NAME, THIS, NEXT, BOTH, BOTH],
+        SIGNED,
+        "malformed",
+    ),
+    (
+        &[V2, RSA, NAME, THIS, NEXT, WRONG_ENTRY, BOTH],
+        SIGNED,
+        "malformed",
+    ),
+    (
+        &[V2, RSA, NAME, THIS, NEXT, NEGATIVE, BOTH],
+        SIGNED,
+        "malformed",
+    ),
+    (
+        &[V2, RSA, NAME, THIS, NEXT, TIMELESS, BOTH],
+        SIGNED,
+        "malformed",
+    ),
+    (
+        &[V2, RSA, NAME, THIS, NEXT, UNKNOWN],
+        SIGNED,
+        "unknown critical extension",
+    ),
+    (
+        &[V2, RSA, NAME, THIS, NEXT, USAGE],
+        SIGNED,
+        "unknown critical extension",
+    ),
+    (
+        &[V2, RSA, NAME, THIS, NEXT, NUMBER_TWICE],
+        SIGNED,
+        "extension more than once",
+    ),
+    (
+        &[V2, RSA, NAME, THIS, NEXT, NO_NUMBER],
+        SIGNED,
+        "no CRL number",
+    ),
+    (
+        &[V2, RSA, NAME, THIS, NEXT, NO_KEY],
+        SIGNED,
+        "no authority key identifier",
+    ),
+    (
+        &[V2, RSA, NAME, THIS, NEXT, WRONG_NUMBER],
+        SIGNED,
+        "malformed",
+    ),
+    (
+        &[V2, RSA, NAME, THIS, NEXT, NUMBER_IN_BER],
+        SIGNED,
+        "malformed",
+    ),
+    (
+        &[V2, RSA, NAME, THIS, NEXT, BOTH],
+        &[RSA, UNUSED],
+        "malformed",
+    ),
+    (&[V2, RSA, NAME, THIS, NEXT, BOTH], &[RSA], "malformed"),
+    (
+        &[V2, RSA, NAME, THIS, NEXT, BOTH],
+        &[SIGNATURE],
+        "malformed",
+    ),
+    (
+        &[V2, RSA, NAME, THIS, NEXT, BOTH],
+        &[RSA, SIGNATURE, SIGNATURE],
+        "malformed",
+    ),
+    (&[], SIGNED, "malformed"),
+    (&[], &[], "malformed"),
+];
+
+/// Octets one after another, under the header of a SEQUENCE.
+pub fn sequence(alloc: Global, parts: &[&[u8]]) -> Result<Vec<u8>, AllocError> {
+    let mut contents = Vec::new(alloc);
+    for part in parts {
+        contents.extend_from_slice(part)?;
+    }
+    match tlv(alloc, 0x30, &contents) {
+        Ok(octets) => Ok(octets),
+        Err(_) => Err(AllocError),
+    }
+}
+
+/// The octets of a revocation list.
+pub fn list(alloc: Global, signed: &[&[u8]], after: &[&[u8]]) -> Result<Bytes, AllocError> {
+    let mut contents = sequence(alloc, signed)?;
+    for part in after {
+        contents.extend_from_slice(part)?;
+    }
+    Ok(Bytes::from_vec(sequence(alloc, &[&contents])?)?)
+}
+
+/// Which numbers from 0 to 3 are revoked.
+fn revoked_text(alloc: Global, crl: &Crl) -> Result<String, AllocError> {
+    let mut text = String::new(alloc);
+    for number in 0..4u64 {
+        if crl.contains(Serial::from(number)) {
+            text.push_str(&format!(in alloc; "{number}")?)?;
+        }
+    }
+    Ok(text)
+}
+
+/// What a revocation list says.
+fn text_of(alloc: Global, crl: &Crl) -> Result<String, AllocError> {
+    let this = crl.this_update();
+    let next = crl.next_update();
+    let number = crl.crl_number();
+    let key = crl.authority_key_identifier();
+    let revoked = revoked_text(alloc, crl)?;
+    format!(in alloc; "{this} {next} {number} {key} {revoked}")
+}
+
+/// The text of an answer, or why there is none.
+pub fn shown(alloc: Global, answer: Result<Crl, DecodeError>) -> Result<String, AllocError> {
+    match answer {
+        Ok(crl) => text_of(alloc, &crl),
+        Err(DecodeError::Memory) => Err(AllocError),
+        Err(error) => format!(in alloc; "{error}"),
+    }
+}
+
+/// A revocation list that is read in this mode.
+pub fn read(alloc: Global, source: Bytes, mode: Mode) -> Result<Crl, DecodeError> {
+    Constructed::decode(source, mode, |cons| Crl::take_from(alloc, cons))
+}
+
+#[test]
+fn rows(rt: HostRuntime) -> Result<(), AllocError> {
+    let alloc = rt.alloc();
+    for (signed, after, text) in &ROWS {
+        let source = list(alloc, signed, after)?;
+        let found = shown(alloc, Crl::decode(alloc, source.clone()?))?;
+        assert_eq!(rt; found.as_str(), *text);
+        let relaxed = shown(alloc, read(alloc, source, Mode::Ber))?;
+        assert_eq!(rt; relaxed.as_str(), *text);
+    }
+    Ok(())
+}

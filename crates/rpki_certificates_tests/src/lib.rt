@@ -1,0 +1,16 @@
+//! Tests of certificates, lists and objects: of `rpki_extensions`, `rpki_crls`, `rpki_certs`,
+//! `rpki_sigobj`, `rpki_signed` and `rpki_paths`, each in the module of its name.
+#![tactic(auto)]
+
+#[cfg(test)]
+mod certs;
+#[cfg(test)]
+mod crls;
+#[cfg(test)]
+mod extensions;
+#[cfg(test)]
+mod paths;
+#[cfg(test)]
+mod signed;
+#[cfg(test)]
+mod sigobj;

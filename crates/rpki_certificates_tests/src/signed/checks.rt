@@ -1,0 +1,51 @@
+//! Objects to which the answer is a yes.
+
+use super::answers::{Call, Caller, Want, roa};
+use super::given::{Fail, Kind, NETWORK, issuer, made, now};
+use rpki_fixtures::{Change, Numbers, object_octets};
+use rpki_signed::Rsc;
+use std::alloc::Global;
+use std::cell::Cell;
+
+/// Whether the answer to a good ROA is a yes, of which the caller is asked once.
+fn is_good(alloc: Global) -> Result<bool, Fail> {
+    let now = now()?;
+    let octets = object_octets(alloc, &made(Kind::Roa, &[]))?;
+    let caller = Caller {
+        is_refusing: false,
+        asked: Cell::new(0),
+    };
+    let issuer = issuer(alloc, &[])?;
+    let call = Call {
+        alloc,
+        strict: true,
+        issuer: &issuer,
+        now,
+        caller: &caller,
+    };
+    let is_answered = roa(&call, octets, Want::Yes((&[], &[NETWORK], &[])));
+    drop(issuer);
+    Ok(is_answered? && caller.asked.get() == 1)
+}
+
+#[test]
+fn good_roas(rt: HostRuntime) -> Result<(), Fail> {
+    assert!(rt; is_good(rt.alloc())?);
+    Ok(())
+}
+
+/// Whether the inspection of a checklist whose signer inherits finds no fault.
+fn is_inspected(alloc: Global) -> Result<bool, Fail> {
+    let object = made(Kind::Rsc, &[Change::As(Numbers::Inherit)]);
+    let octets = object_octets(alloc, &object)?;
+    let checklist = Rsc::decode(alloc, octets, true)?;
+    let is_inspected = checklist.inspect_resources().is_ok();
+    drop(checklist);
+    Ok(is_inspected)
+}
+
+#[test]
+fn inherited_claims_are_inspected(rt: HostRuntime) -> Result<(), Fail> {
+    assert!(rt; is_inspected(rt.alloc())?);
+    Ok(())
+}

@@ -1,0 +1,11 @@
+//! Tests of `rpki_command` and `rpki_verdicts`, each a table of rows that one small function walks.
+//!
+//! The expected values follow from the profile by hand. A test hands on that memory ran out and
+//! asserts everything else, so `tools/growth` can refuse each of its allocations in turn. Other
+//! words, contents and files, streams that fail at each of their calls, lines that are refused,
+//! long lists, and objects that are checked are in the sweeps.
+
+mod given;
+mod octets;
+mod runs;
+mod verdicts;

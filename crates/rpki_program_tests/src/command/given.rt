@@ -1,0 +1,70 @@
+//! A store that a run is given.
+
+ghost use Rattle.std.specs.Prelude.{◌≡◌, MatchOption, bytes_eq, None, Some};
+ghost use Rattle.std.specs.Map.{lookup};
+ghost use Rattle.rpki_program_tests.specs.Command.Given.{by_name};
+
+use rpki_command::{Store, StoreError, Trace};
+use std::alloc::Global;
+
+/// A store with these files by name, and one that memory is not enough for, `large`.
+#[derive(Drop)]
+pub struct Files<'a> {
+    files: &'a [(&'a str, &'a [u8])],
+    reads: Trace,
+    calls: usize,
+}
+
+impl<'a> Files<'a> {
+    /// A store with these files.
+    pub fn new(files: &'a [(&'a str, &'a [u8])]) -> Files<'a> {
+        Files {
+            files,
+            reads: Trace::empty(),
+            calls: 0,
+        }
+    }
+
+    /// How often it was read.
+    pub fn calls(&self) -> usize {
+        self.calls
+    }
+}
+
+impl Store for Files<'_> {
+    ghost told = { λ s name. Some (lookup (bytes_eq name) (by_name s.files.now)) };
+
+    ghost reads = { λ s. s.reads.names };
+
+    fn read(&mut self, alloc: Global, name: &str) -> Result<Vec<u8>, StoreError> {
+        self.reads = self.reads.and(name);
+        self.calls = self.calls.saturating_add(1);
+        if name == "large" {
+            return Err(StoreError::Memory);
+        }
+        match find(self.files, name) {
+            None => Err(StoreError::Unreadable),
+            Some(octets) => match Vec::from_slice(alloc, octets) {
+                Ok(copy) => Ok(copy),
+                Err(_) => Err(StoreError::Memory),
+            },
+        }
+    }
+}
+
+/// The octets of the first file with this name, if there is one.
+fn find<'a>(files: &'a [(&'a str, &'a [u8])], name: &str) -> Option<&'a [u8]>
+    ensures { MatchOption result (lookup (bytes_eq name.now) (by_name files.now) ≡ None)
+        (λ o. lookup (bytes_eq name.now) (by_name files.now) ≡ Some o.now) }
+{
+    match files {
+        [] => None,
+        [(there, octets), rest @ ..] => {
+            if name == *there {
+                Some(octets)
+            } else {
+                find(rest, name)
+            }
+        }
+    }
+}

@@ -1,0 +1,189 @@
+//! Runs of the program.
+
+use super::given::Files;
+use super::octets::{
+    ANCHOR, AUTHORITY, CONTENT, CONTENT_AND_MORE, CONTENT_CUT, CONTENT_IN_BER, CUSTOMER_AS0,
+    LARGEST_CUSTOMER, LARGEST_PROVIDER, ORIGIN, VERDICTS, WITHOUT_VERSION,
+};
+use rpki_command::command;
+use rpki_der::Counted;
+use std::alloc::AllocError;
+use std::process::Abort;
+use std::test::Fail;
+
+/// What is said, on standard output or on standard error, and the exit status.
+#[derive(Clone, Copy)]
+pub struct Said<'a> {
+    pub status: u8,
+    pub out: &'a str,
+    pub err: &'a str,
+}
+
+/// The words that ask for the content in the file.
+pub const ASK: [&str; 3] = ["content", "aspa", "file"];
+
+const ASK_RELAXED: [&str; 4] = ["--relaxed", "content", "aspa", "file"];
+
+const ASK_REGISTERED: [&str; 4] = ["--registered", "content", "aspa", "file"];
+
+const ASK_WIDE: [&str; 4] = ["--wide", "content", "aspa", "file"];
+
+/// What is said of the first content.
+pub const SHOWN: Said = Said {
+    status: 0,
+    out: "aspa\ncustomer AS15562\n\
+        provider AS2914\nprovider AS8283\nprovider AS51088\nprovider AS206238\n",
+    err: "",
+};
+
+const LARGEST_CUSTOMER_SHOWN: Said = Said {
+    status: 0,
+    out: "aspa\ncustomer AS4294967295\nprovider AS1\n",
+    err: "",
+};
+
+const LARGEST_PROVIDER_SHOWN: Said = Said {
+    status: 0,
+    out: "aspa\ncustomer AS1\nprovider AS4294967295\n",
+    err: "",
+};
+
+/// What is said of other octets.
+pub const MALFORMED: Said = Said {
+    status: 1,
+    out: "malformed\n",
+    err: "",
+};
+
+/// What is said of a file that is not there.
+pub const CANNOT_READ: Said = Said {
+    status: 2,
+    out: "",
+    err: "cannot read other\n",
+};
+
+/// What is said where memory runs out.
+pub const OUT_OF_MEMORY: Said = Said {
+    status: 3,
+    out: "",
+    err: "out of memory\n",
+};
+
+/// The octets that a stream takes before it asks for memory, which are more than most runs say.
+pub const ROOM: usize = 4096;
+
+/// Words, the octets of the file, what is said, and how often the store is read.
+pub type Row<'a> = (&'a [&'a str], &'a [u8], Said<'a>, usize);
+
+/// That the words of each row are answered so.
+pub fn are_answered(rt: &(impl Abort + AllocGlobal), rows: &[Row<'_>]) -> Result<(), AllocError> {
+    for (words, octets, said, reads) in rows {
+        is_answered(rt, words, &[("file", octets)], said, *reads)?;
+    }
+    Ok(())
+}
+
+/// That the words are answered so, where the files are these. Where memory runs out before the read
+/// that it is wanted of, that is handed on.
+pub fn is_answered(
+    rt: &(impl Abort + AllocGlobal),
+    words: &[&str],
+    files: &[(&str, &[u8])],
+    said: &Said<'_>,
+    reads: usize,
+) -> Result<(), AllocError> {
+    let mut store = Files::new(files);
+    let mut out = Counted::new(Vec::with_capacity(rt.alloc(), ROOM)?);
+    let mut err = Counted::new(Vec::with_capacity(rt.alloc(), ROOM)?);
+    let status = command(rt.alloc(), words, &mut store, &mut out, &mut err);
+    is_said(rt, said, status, &out.inner, &err.inner)?;
+    if status == OUT_OF_MEMORY.status && store.calls() < reads {
+        return Err(AllocError);
+    }
+    assert_eq!(rt; store.calls(), reads);
+    Ok(())
+}
+
+#[test]
+fn words_are_answered(rt: HostRuntime) -> Result<(), Fail> {
+    let rows: [Row; 13] = [
+        (&ASK, &CONTENT, SHOWN, 1),
+        (&ASK_RELAXED, &CONTENT, SHOWN, 1),
+        (&ASK_REGISTERED, &CONTENT, SHOWN, 1),
+        (&ASK_WIDE, &CONTENT, SHOWN, 1),
+        (&ASK_RELAXED, &CONTENT_IN_BER, MALFORMED, 1),
+        (&ASK, &CONTENT_AND_MORE, SHOWN, 1),
+        (&ASK, &CONTENT_CUT, MALFORMED, 1),
+        (&ASK, &WITHOUT_VERSION, MALFORMED, 1),
+        (&ASK, &CUSTOMER_AS0, MALFORMED, 1),
+        (&ASK, &LARGEST_CUSTOMER, LARGEST_CUSTOMER_SHOWN, 1),
+        (&ASK, &LARGEST_PROVIDER, LARGEST_PROVIDER_SHOWN, 1),
+        (&["content", "aspa", "other"], &CONTENT, CANNOT_READ, 1),
+        (&["content", "aspa", "large"], &CONTENT, OUT_OF_MEMORY, 1),
+    ];
+    are_answered(&rt, &rows)?;
+    Ok(())
+}
+
+/// What is said of the ROA of examples/, its signer's certificate as `openssl` prints it.
+pub const ORIGIN_SHOWN: Said = Said {
+    status: 0,
+    out: "roa\nas AS64496\norigin 192.0.2.0/24-26\norigin 2001:db8::/32-48\n\
+        signing 2026-11-01T00:00:00Z\nee 1 D499B0BF9D1519CFF7E9C67B077CDAECD7CBCA67\n",
+    err: "",
+};
+
+/// What is said where it is good.
+pub const ORIGIN_YES: Said = Said {
+    status: 0,
+    out: "yes\nroa\nas AS64496\norigin 192.0.2.0/24-26\norigin 2001:db8::/32-48\n",
+    err: "",
+};
+
+/// The words that ask for the ROA, and whether it is good.
+pub const SHOW: [&str; 3] = ["show", "roa", "origin.roa"];
+
+pub const CHECK: [&str; 7] = [
+    "check",
+    "roa",
+    "origin.roa",
+    "20270101000000Z",
+    "origin.roa.verdicts",
+    "anchor.cer",
+    "authority.cer",
+];
+
+/// Files of examples/, by name.
+pub fn example_files() -> [(&'static str, &'static [u8]); 4] {
+    [
+        ("anchor.cer", &ANCHOR),
+        ("authority.cer", &AUTHORITY),
+        ("origin.roa", &ORIGIN),
+        ("origin.roa.verdicts", VERDICTS.as_bytes()),
+    ]
+}
+
+#[test]
+fn a_good_roa_is_shown_and_checked(rt: HostRuntime) -> Result<(), Fail> {
+    let files = example_files();
+    is_answered(&rt, &SHOW, &files, &ORIGIN_SHOWN, 1)?;
+    is_answered(&rt, &CHECK, &files, &ORIGIN_YES, 4)?;
+    Ok(())
+}
+
+/// That this was said, and nothing else. Where the run says instead that memory ran out, and
+/// nothing else, that is handed on.
+pub fn is_said(
+    rt: &impl Abort,
+    said: &Said<'_>,
+    status: u8,
+    out: &[u8],
+    err: &[u8],
+) -> Result<(), AllocError> {
+    let has_memory = status != OUT_OF_MEMORY.status || said.status == status;
+    let wanted = if has_memory { said } else { &OUT_OF_MEMORY };
+    assert_eq!(rt; out, wanted.out.as_bytes());
+    assert_eq!(rt; err, wanted.err.as_bytes());
+    assert_eq!(rt; status, wanted.status);
+    if has_memory { Ok(()) } else { Err(AllocError) }
+}
