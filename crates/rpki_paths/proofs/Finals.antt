@@ -73,10 +73,11 @@ all-more a = sym (or-true a)
 
 -- ---- the resources of anchored paths
 
-pub family-is-meet : (kept : Option (FamilyResources Numbers)) (sets : List Numbers)
-    → StandsFor (λ n. n) kept sets → (n : ℕ) → family_has (λ k. k) kept n ≡ meet (λ k. k) sets n
+pub family-is-meet : (resources : Option (FamilyResources Numbers)) (sets : List Numbers)
+    → StandsFor (λ n. n) resources sets → (n : ℕ)
+    → family_has (λ k. k) resources n ≡ meet (λ k. k) sets n
 family-is-meet None sets h n = ap (λ l. meet (λ k. k) l n) (sym h)
-family-is-meet (Some kept) sets h n = family-numbers kept sets h n
+family-is-meet (Some resources) sets h n = family-numbers resources sets h n
 
 none-anchors : (p : List Cert) (supplies : List Supply) (s : Supply) → NoneFits p supplies
     → ¬ (IsAnchored p supplies s)

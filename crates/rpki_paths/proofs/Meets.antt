@@ -1,4 +1,4 @@
--- The set that is kept of a path is the meet of its explicit sets.
+-- The numbers that are kept of a path are the meet of its explicit sets.
 use Rattle.std.proofs.Common.{◌≡◌, ℕ, Bool, true, false, ◌&&◌, List, [], ◌∷◌, Option, None, Some}
 use Rattle.std.proofs.Common.{IsTrue, refl, sym, ap, ◌∙◌, subst, inl, inr}
 use Rattle.std.proofs.Math.Bool.{and_comm, and-true}
@@ -85,25 +85,25 @@ issuer-keeps f mode old new claim sets stands cov (inr step) =
 
 -- the resources tell whether the claim covers what is below
 pub covers_nearest : {T : Type 0} (f : T → ℕ) (mode : Overclaim)
-    (kept : Option (FamilyResources (List (Block T)))) (sets : List (List (Block T)))
+    (resources : Option (FamilyResources (List (Block T)))) (sets : List (List (Block T)))
     (claim : Claim (List (Block T))) →
-    StandsFor f kept sets → IsCovered f mode sets claim → CoversNearest f mode kept claim
+    StandsFor f resources sets → IsCovered f mode sets claim → CoversNearest f mode resources claim
 covers_nearest f Refuse None sets claim stands cov = tt
 covers_nearest f Refuse (Some k) [] claim stands cov = absurd stands
 covers_nearest f Refuse (Some k) (s ∷ sets) claim stands cov =
     subst (λ l. IsCoveredBy f claim l) (sym stands.0) cov
-covers_nearest f Trim kept sets claim stands cov = tt
+covers_nearest f Trim resources sets claim stands cov = tt
 
 pub from-covers_nearest : {T : Type 0} (f : T → ℕ) (mode : Overclaim)
-    (kept : Option (FamilyResources (List (Block T)))) (sets : List (List (Block T)))
+    (resources : Option (FamilyResources (List (Block T)))) (sets : List (List (Block T)))
     (claim : Claim (List (Block T))) →
-    StandsFor f kept sets → CoversNearest f mode kept claim → IsCovered f mode sets claim
+    StandsFor f resources sets → CoversNearest f mode resources claim → IsCovered f mode sets claim
 from-covers_nearest f Refuse None sets claim stands cov =
     subst (λ l. IsCovered f Refuse l claim) (sym stands) tt
 from-covers_nearest f Refuse (Some k) [] claim stands cov = absurd stands
 from-covers_nearest f Refuse (Some k) (s ∷ sets) claim stands cov =
     subst (λ l. IsCoveredBy f claim l) stands.0 cov
-from-covers_nearest f Trim kept sets claim stands cov = tt
+from-covers_nearest f Trim resources sets claim stands cov = tt
 
 covered-inherit : (mode : Overclaim) (sets : List Numbers) → IsCovered (λ n. n) mode sets Inherit
 covered-inherit Refuse [] = tt
@@ -123,11 +123,11 @@ anchored-stands head p (Ca ski key sets) f old new stands takes step =
     (explicit_sets (head ∷ p) f) stands (takes f) step
 
 -- the resources have the numbers that all sets have
-pub family-numbers : (kept : FamilyResources Numbers) (sets : List Numbers)
-    → StandsFor (λ n. n) (Some kept) sets → (n : ℕ)
-    → holds (λ k. k) kept.met n ≡ meet (λ k. k) sets n
-family-numbers kept [] stands n = absurd stands
-family-numbers kept (t ∷ r) stands n = stands.1 n
+pub family-numbers : (resources : FamilyResources Numbers) (sets : List Numbers)
+    → StandsFor (λ n. n) (Some resources) sets → (n : ℕ)
+    → holds (λ k. k) resources.met n ≡ meet (λ k. k) sets n
+family-numbers resources [] stands n = absurd stands
+family-numbers resources (t ∷ r) stands n = stands.1 n
 
 pub anchored-set : AnchoredIsPathSet
 anchored-set head p s f old new stands takes step =

@@ -352,13 +352,14 @@ pub record IsWalking (cas : List Cert) (ee head : Cert) (sets : PathResources) (
   pub chain : IsChain cas ee (head ∷ below)
   pub first : AreFirst cas (head ∷ below)
   pub covered : IsLinkCovered (head ∷ below)
-  pub kept : (f : Family)
+  pub stands : (f : Family)
       → StandsFor (λ n. n) (resources_in sets f) (explicit_sets (head ∷ below) f)
   pub visits : AreVisited cas visited turn (head ∷ below)
   pub count : length below ≡ steps
 
-none-stands : (kept : Option (FamilyResources Numbers)) → kept ≡ None → StandsFor (λ n. n) kept []
-none-stands kept e = subst (λ k. StandsFor (λ n. n) k []) (sym e) refl
+none-stands : (resources : Option (FamilyResources Numbers)) → resources ≡ None
+    → StandsFor (λ n. n) resources []
+none-stands resources e = subst (λ k. StandsFor (λ n. n) k []) (sym e) refl
 
 nothing-below : (mode : Overclaim) (claim : Claim Numbers) → IsCovered (λ n. n) mode [] claim
 nothing-below Refuse claim = tt
@@ -376,7 +377,7 @@ walking-none cas ee none sets visited turn apart empty claimed len fresh = recor
   chain = refl;
   first = tt;
   covered = tt;
-  kept = λ f. issuer-keeps (λ n. n) ee.overclaim (resources_in none f) (resources_in sets f)
+  stands = λ f. issuer-keeps (λ n. n) ee.overclaim (resources_in none f) (resources_in sets f)
       (ee.claim f) []
       (none-stands (resources_in none f) (in-each (λ g. resources_in none g ≡ None) empty f))
       (nothing-below ee.overclaim (ee.claim f))
@@ -399,7 +400,7 @@ module _ (cas : List Cert) (ee head : Cert) (sets : PathResources) (visited : Li
     first = w.first;
     covered =
         w.covered;
-    kept = w.kept;
+    stands = w.stands;
     visits = w.visits;
   }
 
@@ -450,11 +451,11 @@ module _ (cas : List Cert) (ee head : Cert) (sets : PathResources) (visited : Li
 
     from-nearest : (f : Family) → IsNearestIn f → IsCoveredIn f
     from-nearest f h = from-covers_nearest (λ n. n) head.overclaim (resources_in sets f)
-        (explicit_sets (head ∷ w.below) f) (d.claim f) (w.kept f) h
+        (explicit_sets (head ∷ w.below) f) (d.claim f) (w.stands f) h
 
     to-nearest : (f : Family) → IsCoveredIn f → IsNearestIn f
     to-nearest f h = covers_nearest (λ n. n) head.overclaim (resources_in sets f)
-        (explicit_sets (head ∷ w.below) f) (d.claim f) (w.kept f) h
+        (explicit_sets (head ∷ w.below) f) (d.claim f) (w.stands f) h
 
     pub is-uncovered : (family : Family) → slice_index visited i ≢ turn
         → IsFalse (d.revokes head.serial) → FailsFirst IsNearestIn family
@@ -496,9 +497,9 @@ module _ (cas : List Cert) (ee head : Cert) (sets : PathResources) (visited : Li
           chain = (issued, off_next, w.chain);
           first = (next, w.first);
           covered = (here', w.covered);
-          kept = λ f. issuer-keeps (λ n. n) head.overclaim (resources_in sets f)
+          stands = λ f. issuer-keeps (λ n. n) head.overclaim (resources_in sets f)
               (resources_in new f)
-              (d.claim f) (explicit_sets (head ∷ w.below) f) (w.kept f) (here' f)
+              (d.claim f) (explicit_sets (head ∷ w.below) f) (w.stands f) (here' f)
               (in-each (λ g. IsWithClaim (λ n. n) head.overclaim (resources_in sets g) (d.claim g)
               (resources_in new g)) claimed f);
           visits = record {

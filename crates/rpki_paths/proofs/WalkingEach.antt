@@ -110,7 +110,7 @@ module _ {C : Type 0} (cert : C → Cert) (cas : List Cert) where
           below = walked.below;
           whole = refl;
           under = subst (λ (b : Bool). IsUnder p [] path.sets b) (sym open_path)
-              ((λ s i. absurd i), walked.kept);
+              ((λ s i. absurd i), walked.stands);
         } in
         record {
           paths = w.paths ++ p ∷ [];

@@ -35,22 +35,24 @@ IsCovered f Trim sets claim = Unit {0}
 abbrev pub StandsFor : {T : Type 0} → (T → ℕ) → Option (FamilyResources (List (Block T))) →
     List (List (Block T)) → Type 0
 StandsFor f None sets = sets ≡ []
-StandsFor f (Some kept) [] = ⊥
-StandsFor f (Some kept) (set ∷ sets) =
-    (kept.nearest_explicit ≡ set) × ((n : ℕ) → holds f kept.met n ≡ meet f (set ∷ sets) n)
+StandsFor f (Some resources) [] = ⊥
+StandsFor f (Some resources) (set ∷ sets) =
+    (resources.nearest_explicit ≡ set)
+    × ((n : ℕ) → holds f resources.met n ≡ meet f (set ∷ sets) n)
 
 -- The nearest explicit set of these resources, alone, or none.
 abbrev pub nearest_of : {T : Type 0} → Option (FamilyResources (List (Block T))) →
     List (List (Block T))
 nearest_of None = []
-nearest_of (Some kept) = kept.nearest_explicit ∷ []
+nearest_of (Some resources) = resources.nearest_explicit ∷ []
 
 -- The claim covers the nearest explicit set, where it has to.
 abbrev pub CoversNearest : {T : Type 0} → (T → ℕ) → Overclaim →
     Option (FamilyResources (List (Block T))) → Claim (List (Block T)) → Type 0
-CoversNearest f mode kept claim = IsCovered f mode (nearest_of kept) claim
+CoversNearest f mode resources claim = IsCovered f mode (nearest_of resources) claim
 
--- How a set that is kept changes under one more explicit set: Trim cuts it, and Refuse leaves it.
+-- How the numbers that all sets have change under one more explicit set: Trim cuts them to it, and
+-- Refuse leaves them.
 abbrev pub IsCut : {T : Type 0} → (T → ℕ) → Overclaim → List (Block T) → List (Block T) →
     List (Block T) → Type 0
 IsCut f Trim met set cut = IsIntersection f met set cut

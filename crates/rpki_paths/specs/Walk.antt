@@ -112,6 +112,6 @@ pub record IsWalked (cas : List Cert) (ee head : Cert) (sets : PathResources) (v
   pub path : IsPath cas ee (head ∷ below)
   pub first : AreFirst cas (head ∷ below)
   pub covered : IsLinkCovered (head ∷ below)
-  pub kept : (f : Family) →
+  pub stands : (f : Family) →
       StandsFor (λ n. n) (resources_in sets f) (explicit_sets (head ∷ below) f)
   pub visits : AreVisited cas visited turn (head ∷ below)
