@@ -1,4 +1,4 @@
--- Any supplies, refused ones among them, go from what is kept of paths to what is kept of them then.
+-- Any supplies, refused ones among them, go from what is kept of paths to what is kept then.
 use Rattle.std.proofs.Common.{◌≡◌, ℕ, zero, suc, Bool, true, false, ◌||◌, List, [], ◌∷◌, ◌++◌}
 use Rattle.std.proofs.Common.{length, map, Ok, Err, IsTrue, refl, sym, ap, ◌∙◌, subst}
 use Rattle.std.proofs.Common.{Some, inl, inr, ◌⊎◌, arith, ◌≤◌, ◌<◌}
@@ -6,14 +6,14 @@ use Rattle.std.specs.Prelude.{slice_get}
 use Rattle.std.proofs.lemmas.Bool.{and_parts}
 use Rattle.std.proofs.lemmas.List.{append_assoc, append-nil}
 use Rattle.std.proofs.lemmas.Option.{slice_get_within, same_Some}
-use Rattle.rpki_paths.specs.declared.family.Family.{Family}
-use Rattle.rpki_paths.specs.declared.sets.KeptSets.{KeptSets}
+use Rattle.rpki_faults.specs.declared.family.Family.{Family}
+use Rattle.rpki_paths.specs.declared.path_resources.PathResources.{PathResources}
 use Rattle.rpki_paths.specs.declared.walker.Path.{Path}
 use Rattle.rpki_paths.specs.Cert.{Cert, IsIn, at_place}
-use Rattle.rpki_paths.specs.Sets.{IsClimbed, with_claim}
+use Rattle.rpki_paths.specs.Sets.{IsWithClaim, with_claim}
 use Rattle.rpki_paths.specs.Path.{explicit_sets}
 use Rattle.rpki_paths.specs.Anchor.{Supply, Takes, IsAnchored, supplied_claim, path_set}
-use Rattle.rpki_paths.specs.Walk.{kept_at}
+use Rattle.rpki_paths.specs.Walk.{resources_in}
 use Rattle.rpki_paths.specs.Kept.{IsUnder}
 use Rattle.rpki_paths.specs.After.{FitsPath, IsAnchoredBySome, IsUnderSome, IsKeptBySome}
 use Rattle.rpki_paths.specs.After.{AreKeptBySome, AreAnchoredBySome}
@@ -24,7 +24,7 @@ use Rattle.rpki_paths.specs.Laws.{EachKeepsSome, AllKeepSome, KeptIsKeptBySome, 
 use Rattle.rpki_paths.proofs.Meets.{anchored-stands}
 use Rattle.rpki_paths.proofs.Keeps.{takes-kept}
 use Rattle.rpki_paths.proofs.Walking.{in-each}
-use Rattle.rpki_paths.proofs.Finals.{kept-is-meet}
+use Rattle.rpki_paths.proofs.Finals.{family-is-meet}
 use Rattle.rpki_paths.proofs.Granting.{walks_are_accepted}
 
 -- ---- from the first that is meant to some that is meant and takes
@@ -50,12 +50,12 @@ anchored-is-some (head ∷ p) (t ∷ supplies) s (inl h) = (
 anchored-is-some (head ∷ p) (t ∷ supplies) s (inr h) =
     let w = anchored-is-some (head ∷ p) supplies s h.1 in (inr w.0, w.1, w.2)
 
-under-is-some : (p : List Cert) (supplies : List Supply) (sets : KeptSets) (b : Bool)
+under-is-some : (p : List Cert) (supplies : List Supply) (sets : PathResources) (b : Bool)
     → IsUnder p supplies sets b → IsUnderSome p supplies sets b
 under-is-some p supplies sets true u = (u.0, anchored-is-some p supplies u.0 u.1, u.2)
 under-is-some p supplies sets false u = u.1
 
-under-more : (p : List Cert) (supplies more : List Supply) (sets : KeptSets) (b : Bool)
+under-more : (p : List Cert) (supplies more : List Supply) (sets : PathResources) (b : Bool)
     → IsUnderSome p supplies sets b → IsUnderSome p (supplies ++ more) sets b
 under-more p supplies more sets true u =
     (u.0, (in-front supplies more u.0 u.1.0, u.1.1, u.1.2), u.2)
@@ -99,9 +99,10 @@ module _ {C : Type 0} (cert : C → Cert) where
         let new : IsUnderSome (head ∷ h.below) (supplies ++ s ∷ []) q.sets true = (
           s,
           (in-last supplies s, t.meant, takes),
-          λ f. anchored-stands head h.below s f (kept_at k.sets f) (kept_at q.sets f) (u f) takes
-              (in-each (λ g. IsClimbed (λ n. n) (cert k.head).overclaim (kept_at k.sets g)
-              (supplied_claim s g) (kept_at q.sets g)) t.raised f),
+          λ f. anchored-stands head h.below s f (resources_in k.sets f) (resources_in q.sets f)
+              (u f) takes (in-each (λ g. IsWithClaim (λ n. n) (cert k.head).overclaim
+              (resources_in k.sets g)
+              (supplied_claim s g) (resources_in q.sets g)) t.resources f),
         ) in
         record {
           below = h.below;
@@ -147,7 +148,8 @@ module _ {C : Type 0} (cert : C → Cert) where
         u.0 ∷ rest.0,
         (u.1, rest.1),
         λ f n. ap (λ b. b || some_has kept f n)
-            (kept-is-meet (kept_at k.sets f) (with_claim (supplied_claim u.0 f) (explicit_sets p f))
+            (family-is-meet (resources_in k.sets f)
+            (with_claim (supplied_claim u.0 f) (explicit_sets p f))
             (u.2 f) n)
             ∙ ap (λ b. path_set p u.0 f n || b) (rest.2 f n),
       )

@@ -9,20 +9,20 @@ use Rattle.std.proofs.lemmas.List.Folds.{list_any-append, list_any_more}
 use Rattle.rpki_resources.specs.declared.block.Block.{Block}
 use Rattle.rpki_resources.specs.Blocks.{holds, within}
 use Rattle.rpki_resources.proofs.Sets.Between.{between-high}
-use Rattle.rpki_paths.specs.declared.family.Family.{Family}
-use Rattle.rpki_paths.specs.declared.kept.Kept.{Kept}
-use Rattle.rpki_paths.specs.declared.sets.KeptSets.{KeptSets}
+use Rattle.rpki_faults.specs.declared.family.Family.{Family}
+use Rattle.rpki_paths.specs.declared.family_resources.FamilyResources.{FamilyResources}
+use Rattle.rpki_paths.specs.declared.path_resources.PathResources.{PathResources}
 use Rattle.rpki_paths.specs.declared.walker.Path.{Path}
 use Rattle.rpki_paths.specs.Cert.{Cert, Numbers}
 use Rattle.rpki_paths.specs.Sets.{meet, with_claim, StandsFor}
 use Rattle.rpki_paths.specs.Path.{explicit_sets}
 use Rattle.rpki_paths.specs.Anchor.{Supply, IsAnchored, path_set, supplied_claim}
-use Rattle.rpki_paths.specs.Walk.{kept_at}
+use Rattle.rpki_paths.specs.Walk.{resources_in}
 use Rattle.rpki_paths.specs.Grant.{AreAnchored, union_of}
 use Rattle.rpki_paths.specs.Kept.{NoneFits, IsUnder, AreKept}
-use Rattle.rpki_paths.specs.Final.{kept_has, some_has, all_anchored, IsWhole}
+use Rattle.rpki_paths.specs.Final.{family_has, some_has, all_anchored, IsWhole}
 use Rattle.rpki_paths.specs.Laws.{FinalIsDecided}
-use Rattle.rpki_paths.proofs.Meets.{kept-numbers}
+use Rattle.rpki_paths.proofs.Meets.{family-numbers}
 use Rattle.rpki_paths.proofs.Grants.{same-anchor}
 use Rattle.rpki_paths.proofs.Walking.{in-each, to-each}
 use Rattle.rpki_paths.proofs.Supplies.{both}
@@ -59,23 +59,25 @@ holds-more f unknown xs ys all n e =
 pub has-more : {C : Type 0} (paths : List (Path C)) (i : ℕ) (p : Path C) (f : Family) (n : ℕ)
     (old new : Bool) → i < length paths → p ≡ get_or paths i p
     → old ≡ some_has (take i paths) f n
-    → new ≡ (old || kept_has (λ k. k) (kept_at p.sets f) n)
+    → new ≡ (old || family_has (λ k. k) (resources_in p.sets f) n)
     → new ≡ some_has (take (i + 1) paths) f n
 has-more {C} paths i p f n old new lt at_i before more =
-    more ∙ ap (λ b. b || kept_has (λ k. k) (kept_at p.sets f) n) before
+    more ∙ ap (λ b. b || family_has (λ k. k) (resources_in p.sets f) n) before
     ∙ ap (λ (q : Path C). some_has (take i paths) f n
-    || kept_has (λ k. k) (kept_at q.sets f) n) at_i
-    ∙ sym (list_any_more (λ (q : Path C). kept_has (λ k. k) (kept_at q.sets f) n) paths i p lt)
+    || family_has (λ k. k) (resources_in q.sets f) n) at_i
+    ∙ sym (list_any_more (λ (q : Path C). family_has (λ k. k) (resources_in q.sets f) n)
+    paths i p lt)
 
 pub all-more : (a : Bool) → true ≡ a || true
 all-more a = sym (or-true a)
 
--- ---- what is kept of anchored paths
+-- ---- the resources of anchored paths
 
-pub kept-is-meet : (kept : Option (Kept Numbers)) (sets : List Numbers) → StandsFor (λ n. n) kept sets
-    → (n : ℕ) → kept_has (λ k. k) kept n ≡ meet (λ k. k) sets n
-kept-is-meet None sets h n = ap (λ l. meet (λ k. k) l n) (sym h)
-kept-is-meet (Some kept) sets h n = kept-numbers kept sets h n
+pub family-is-meet : (resources : Option (FamilyResources Numbers)) (sets : List Numbers)
+    → StandsFor (λ n. n) resources sets → (n : ℕ)
+    → family_has (λ k. k) resources n ≡ meet (λ k. k) sets n
+family-is-meet None sets h n = ap (λ l. meet (λ k. k) l n) (sym h)
+family-is-meet (Some resources) sets h n = family-numbers resources sets h n
 
 none-anchors : (p : List Cert) (supplies : List Supply) (s : Supply) → NoneFits p supplies
     → ¬ (IsAnchored p supplies s)
@@ -85,8 +87,8 @@ none-anchors (head ∷ p) (t ∷ supplies) s none (inl h) = none t (inl refl) h.
 none-anchors (head ∷ p) (t ∷ supplies) s none (inr h) =
     none-anchors (head ∷ p) supplies s (λ u i. none u (inr i)) h.1
 
-anchored-true : (p : List Cert) (supplies : List Supply) (sets : KeptSets) (b : Bool) (s : Supply)
-    → IsUnder p supplies sets b → IsAnchored p supplies s → b ≡ true
+anchored-true : (p : List Cert) (supplies : List Supply) (sets : PathResources) (b : Bool)
+    (s : Supply) → IsUnder p supplies sets b → IsAnchored p supplies s → b ≡ true
 anchored-true p supplies sets true s u h = refl
 anchored-true p supplies sets false s u h = absurd (none-anchors p supplies s u.0 h)
 
@@ -118,7 +120,8 @@ module _ {C : Type 0} (cert : C → Cert) (supplies : List Supply) where
         u.0 ∷ rest.0,
         (u.1, rest.1),
         λ f n. ap (λ b. b || some_has kept f n)
-            (kept-is-meet (kept_at k.sets f) (with_claim (supplied_claim u.0 f) (explicit_sets p f))
+            (family-is-meet (resources_in k.sets f)
+            (with_claim (supplied_claim u.0 f) (explicit_sets p f))
             (u.2 f) n)
             ∙ ap (λ b. path_set p u.0 f n || b) (rest.2 f n),
       )

@@ -1,6 +1,6 @@
 -- What walks, supplies and the end say of an attestation.
 use Rattle.std.proofs.Common.{◌≡◌, List, [], map, Ok, Err, refl, sym, subst}
-use Rattle.rpki_paths.specs.declared.family.Family.{Family}
+use Rattle.rpki_faults.specs.declared.family.Family.{Family}
 use Rattle.rpki_paths.specs.declared.decision.FinalFault.{FinalFault}
 use Rattle.rpki_paths.specs.declared.decision.FinalFault.TheVariants.{NotAnchored, AsNumbers}
 use Rattle.rpki_paths.specs.declared.decision.FinalFault.TheVariants.{Addresses, Memory}

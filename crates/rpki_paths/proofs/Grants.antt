@@ -3,7 +3,7 @@ use Rattle.std.proofs.Common.{◌≡◌, ℕ, suc, Bool, true, false, List, [], 
 use Rattle.std.proofs.Common.{sym, ap}
 use Rattle.std.proofs.Common.{◌∙◌, subst, inl, inr}
 use Rattle.std.proofs.lemmas.Bool.{or_cases, or_left, or_right, false≢true}
-use Rattle.rpki_paths.specs.declared.family.Family.{Family}
+use Rattle.rpki_faults.specs.declared.family.Family.{Family}
 use Rattle.rpki_paths.specs.Cert.{Cert, Numbers, IsIn, NoTwice, at_place}
 use Rattle.rpki_paths.specs.Path.{IsPath, IsLinkCovered, IsDistinct}
 use Rattle.rpki_paths.specs.Anchor.{Supply, IsAnchored, path_set}

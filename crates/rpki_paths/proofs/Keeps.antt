@@ -6,23 +6,23 @@ use Rattle.std.specs.Prelude.{slice_get, ◌↔◌}
 use Rattle.std.proofs.lemmas.Bool.{true≢false}
 use Rattle.std.proofs.lemmas.List.{append_assoc, append-nil}
 use Rattle.std.proofs.lemmas.Option.{slice_get_within}
-use Rattle.rpki_paths.specs.declared.family.Family.{Family}
-use Rattle.rpki_paths.specs.declared.sets.KeptSets.{KeptSets}
+use Rattle.rpki_faults.specs.declared.family.Family.{Family}
+use Rattle.rpki_paths.specs.declared.path_resources.PathResources.{PathResources}
 use Rattle.rpki_paths.specs.declared.supply.SupplyFault.{SupplyFault}
 use Rattle.rpki_paths.specs.declared.supply.SupplyFault.TheVariants.{NoAnchor, NotCovered, Memory}
 use Rattle.rpki_paths.specs.declared.walker.Path.{Path}
 use Rattle.rpki_paths.specs.Cert.{Cert, at_place}
-use Rattle.rpki_paths.specs.Sets.{StandsFor, IsClimbed}
+use Rattle.rpki_paths.specs.Sets.{StandsFor, IsWithClaim}
 use Rattle.rpki_paths.specs.Path.{explicit_sets}
 use Rattle.rpki_paths.specs.Anchor.{Supply, Tal, Ca, Fits, Takes, IsAnchored, HasUnanchored}
 use Rattle.rpki_paths.specs.Anchor.{supplied_claim}
-use Rattle.rpki_paths.specs.Walk.{kept_at}
+use Rattle.rpki_paths.specs.Walk.{resources_in}
 use Rattle.rpki_paths.specs.Kept.{NoneFits, IsUnder, IsKept, AreKept}
 use Rattle.rpki_paths.specs.Supplied.{TakesKept, IsSupplied, IsDeclined, Declines, CoversPath}
 use Rattle.rpki_paths.specs.Supplied.{AnswersEach, AreSuppliedAll}
 use Rattle.rpki_paths.specs.Laws.{EachIsKept, DeclinedIsUnanchored, AllAreKept, RefusedIsUnanchored}
 use Rattle.rpki_paths.proofs.Meets.{anchored-stands}
-use Rattle.rpki_paths.proofs.Walking.{kept_tells_takes, in-each, fails-one}
+use Rattle.rpki_paths.proofs.Walking.{resources_tell_takes, in-each, fails-one}
 use Rattle.rpki_paths.proofs.WalkingEach.{in-more}
 
 -- ---- one supply more
@@ -52,7 +52,7 @@ never-anchored head p (u ∷ supplies) s more t none fits declined (inr h) =
     never-anchored head p supplies s more t (λ v i. none v (inr i)) fits declined h.1
 
 under-passed : (head : Cert) (p : List Cert) (supplies : List Supply) (s : Supply)
-    (sets : KeptSets) (b : Bool) → IsUnder (head ∷ p) supplies sets b
+    (sets : PathResources) (b : Bool) → IsUnder (head ∷ p) supplies sets b
     → IsTrue b ⊎ ¬ (Fits head s) → IsUnder (head ∷ p) (supplies ++ s ∷ []) sets b
 under-passed head p supplies s sets true u why =
     (u.0, anchored-front (head ∷ p) supplies (s ∷ []) u.0 u.1, u.2)
@@ -67,12 +67,12 @@ under-passed head p supplies s sets false u (inr other) = (
 
 module _ {C : Type 0} (cert : C → Cert) where
   pub takes-kept : (k : Path C) (p : List Cert) (s : Supply)
-      → ((f : Family) → StandsFor (λ n. n) (kept_at k.sets f)
+      → ((f : Family) → StandsFor (λ n. n) (resources_in k.sets f)
       (explicit_sets (at_place k.place (cert k.head) ∷ p) f))
       → TakesKept cert k s ↔ Takes (at_place k.place (cert k.head) ∷ p) s
   takes-kept k p (Tal key) stands = (λ h. h, λ h. h)
   takes-kept k p (Ca ski key sets) stands =
-      kept_tells_takes (at_place k.place (cert k.head)) p k.sets ski key sets stands
+      resources_tell_takes (at_place k.place (cert k.head)) p k.sets ski key sets stands
 
   not-taken : {F : Type 0} (refuses : C → F → Type 0) (k : Path C) (s : Supply)
       (fault : SupplyFault F) → Declines cert refuses k s fault → ¬ (fault ≡ Memory)
@@ -111,9 +111,10 @@ module _ {C : Type 0} (cert : C → Cert) where
         let new : IsUnder (head ∷ h.below) (supplies ++ s ∷ []) q.sets true = (
           s,
           anchored-last head h.below supplies s u.0 t.meant takes,
-          λ f. anchored-stands head h.below s f (kept_at k.sets f) (kept_at q.sets f) (u.1 f) takes
-              (in-each (λ g. IsClimbed (λ n. n) (cert k.head).overclaim (kept_at k.sets g)
-              (supplied_claim s g) (kept_at q.sets g)) t.raised f),
+          λ f. anchored-stands head h.below s f (resources_in k.sets f) (resources_in q.sets f)
+              (u.1 f) takes (in-each (λ g. IsWithClaim (λ n. n) (cert k.head).overclaim
+              (resources_in k.sets g)
+              (supplied_claim s g) (resources_in q.sets g)) t.resources f),
         ) in
         record {
           below = h.below;

@@ -1,4 +1,4 @@
--- The set that is kept of a path is the meet of its explicit sets.
+-- The numbers that are kept of a path are the meet of its explicit sets.
 use Rattle.std.proofs.Common.{◌≡◌, ℕ, Bool, true, false, ◌&&◌, List, [], ◌∷◌, Option, None, Some}
 use Rattle.std.proofs.Common.{IsTrue, refl, sym, ap, ◌∙◌, subst, inl, inr}
 use Rattle.std.proofs.Math.Bool.{and_comm, and-true}
@@ -8,16 +8,16 @@ use Rattle.rpki_resources.specs.declared.resources.Claim.{Claim}
 use Rattle.rpki_resources.specs.declared.resources.Claim.TheVariants.{Missing, Inherit, Explicit}
 use Rattle.rpki_resources.specs.Blocks.{holds}
 use Rattle.rpki_resources.specs.Claim.{HasBlocks, IsCoveredBy}
-use Rattle.rpki_paths.specs.declared.family.Family.{Family}
-use Rattle.rpki_paths.specs.declared.kept.Kept.{Kept}
-use Rattle.rpki_paths.specs.declared.overclaim.Overclaim.{Overclaim}
-use Rattle.rpki_paths.specs.declared.overclaim.Overclaim.TheVariants.{Refuse, Trim}
+use Rattle.rpki_faults.specs.declared.family.Family.{Family}
+use Rattle.rpki_faults.specs.declared.overclaim.Overclaim.{Overclaim}
+use Rattle.rpki_faults.specs.declared.overclaim.Overclaim.TheVariants.{Refuse, Trim}
+use Rattle.rpki_paths.specs.declared.family_resources.FamilyResources.{FamilyResources}
 use Rattle.rpki_paths.specs.Cert.{Cert, Numbers, IsIn}
-use Rattle.rpki_paths.specs.Sets.{with_claim, meet, IsCovered, StandsFor, IsRaised, IsClimbed}
-use Rattle.rpki_paths.specs.Sets.{CoversKept}
+use Rattle.rpki_paths.specs.Sets.{with_claim, meet, IsCovered, StandsFor, IsWithSet, IsWithClaim}
+use Rattle.rpki_paths.specs.Sets.{CoversNearest}
 use Rattle.rpki_paths.specs.Path.{explicit_sets}
 use Rattle.rpki_paths.specs.Anchor.{Supply, Tal, Ca, Takes, supplied_claim}
-use Rattle.rpki_paths.specs.Laws.{ClimbKeepsMeet, AnchoredIsPathSet, AnchoredIsKnown}
+use Rattle.rpki_paths.specs.Laws.{IssuerKeepsMeet, AnchoredIsPathSet, AnchoredIsKnown}
 use Rattle.rpki_paths.specs.Laws.{PathSetIsWithinEach}
 
 -- what lies in a set is not cut by it
@@ -27,40 +27,41 @@ absorbed false true h = sym (h refl)
 absorbed false false h = refl
 
 -- the set covers the nearest one, where it has to
-abbrev CoversNearest : {T : Type 0} → (T → ℕ) → Overclaim → List (List (Block T)) → List (Block T)
+abbrev HoldsNearest : {T : Type 0} → (T → ℕ) → Overclaim → List (List (Block T)) → List (Block T)
     → Type 0
-CoversNearest f Refuse [] set = Unit {0}
-CoversNearest f Refuse (t ∷ r) set = (n : ℕ) → IsTrue (holds f t n) → IsTrue (holds f set n)
-CoversNearest f Trim sets set = Unit {0}
+HoldsNearest f Refuse [] set = Unit {0}
+HoldsNearest f Refuse (t ∷ r) set = (n : ℕ) → IsTrue (holds f t n) → IsTrue (holds f set n)
+HoldsNearest f Trim sets set = Unit {0}
 
-covers-nearest : {T : Type 0} (f : T → ℕ) (mode : Overclaim) (sets : List (List (Block T)))
+holds-nearest : {T : Type 0} (f : T → ℕ) (mode : Overclaim) (sets : List (List (Block T)))
     (claim : Claim (List (Block T))) (set : List (Block T)) → HasBlocks claim set
-    → IsCovered f mode sets claim → CoversNearest f mode sets set
-covers-nearest f Refuse [] claim set named cov = tt
-covers-nearest f Refuse (t ∷ r) Missing set named cov =
+    → IsCovered f mode sets claim → HoldsNearest f mode sets set
+holds-nearest f Refuse [] claim set named cov = tt
+holds-nearest f Refuse (t ∷ r) Missing set named cov =
     λ n h. absurd (true≢false (sym h ∙ ap (λ l. holds f l n) cov))
-covers-nearest f Refuse (t ∷ r) Inherit set named cov = absurd named
-covers-nearest f Refuse (t ∷ r) (Explicit s) set named cov = λ n h. ap (λ l. holds f l n) named
+holds-nearest f Refuse (t ∷ r) Inherit set named cov = absurd named
+holds-nearest f Refuse (t ∷ r) (Explicit s) set named cov = λ n h. ap (λ l. holds f l n) named
     ∙ cov n h
-covers-nearest f Trim sets claim set named cov = tt
+holds-nearest f Trim sets claim set named cov = tt
 
-raised : {T : Type 0} (f : T → ℕ) (mode : Overclaim) (old new : Option (Kept (List (Block T))))
+with-set : {T : Type 0} (f : T → ℕ) (mode : Overclaim)
+    (old new : Option (FamilyResources (List (Block T))))
     (set : List (Block T)) (sets : List (List (Block T))) →
-    StandsFor f old sets → CoversNearest f mode sets set → IsRaised f mode old set new
+    StandsFor f old sets → HoldsNearest f mode sets set → IsWithSet f mode old set new
     → StandsFor f new (set ∷ sets)
-raised f mode old None set sets stands cov step = absurd step
-raised f mode None (Some new) set sets stands cov step = (
+with-set f mode old None set sets stands cov step = absurd step
+with-set f mode None (Some new) set sets stands cov step = (
   step.1,
   λ n. ap (λ m. holds f m n) step.0 ∙ sym (and-true (holds f set n))
       ∙ ap (λ l. holds f set n && meet f l n) (sym stands),
 )
-raised f mode (Some old) (Some new) set [] stands cov step = absurd stands
-raised f Trim (Some old) (Some new) set (t ∷ r) stands cov step = (
+with-set f mode (Some old) (Some new) set [] stands cov step = absurd stands
+with-set f Trim (Some old) (Some new) set (t ∷ r) stands cov step = (
   step.1,
   λ n. step.0 n ∙ and_comm (holds f old.met n) (holds f set n)
       ∙ ap (λ b. holds f set n && b) (stands.1 n),
 )
-raised f Refuse (Some old) (Some new) set (t ∷ r) stands cov step = (
+with-set f Refuse (Some old) (Some new) set (t ∷ r) stands cov step = (
   step.1,
   λ n. ap (λ m. holds f m n) step.0 ∙ stands.1 n
       ∙ absorbed (holds f set n) (meet f (t ∷ r) n)
@@ -73,36 +74,36 @@ with-named Missing set sets h = ap (λ l. l ∷ sets) h
 with-named Inherit set sets h = absurd h
 with-named (Explicit s) set sets h = ap (λ l. l ∷ sets) h
 
-pub climb-keeps : {T : Type 0} (f : T → ℕ) → ClimbKeepsMeet f
-climb-keeps f mode old new claim sets stands cov (inl step) =
+pub issuer-keeps : {T : Type 0} (f : T → ℕ) → IssuerKeepsMeet f
+issuer-keeps f mode old new claim sets stands cov (inl step) =
     subst (λ o. StandsFor f o (with_claim claim sets)) (sym step.1)
     (subst (λ c. StandsFor f old (with_claim c sets)) (sym step.0) stands)
-climb-keeps f mode old new claim sets stands cov (inr step) =
+issuer-keeps f mode old new claim sets stands cov (inr step) =
     subst (λ l. StandsFor f new l) (with-named claim step.0 sets step.1)
-    (raised f mode old new step.0 sets stands
-    (covers-nearest f mode sets claim step.0 step.1 cov) step.2)
+    (with-set f mode old new step.0 sets stands
+    (holds-nearest f mode sets claim step.0 step.1 cov) step.2)
 
--- what is kept tells whether the claim covers what is below
-pub covers_kept : {T : Type 0} (f : T → ℕ) (mode : Overclaim)
-    (kept : Option (Kept (List (Block T)))) (sets : List (List (Block T)))
+-- the resources tell whether the claim covers what is below
+pub covers_nearest : {T : Type 0} (f : T → ℕ) (mode : Overclaim)
+    (resources : Option (FamilyResources (List (Block T)))) (sets : List (List (Block T)))
     (claim : Claim (List (Block T))) →
-    StandsFor f kept sets → IsCovered f mode sets claim → CoversKept f mode kept claim
-covers_kept f Refuse None sets claim stands cov = tt
-covers_kept f Refuse (Some k) [] claim stands cov = absurd stands
-covers_kept f Refuse (Some k) (s ∷ sets) claim stands cov =
+    StandsFor f resources sets → IsCovered f mode sets claim → CoversNearest f mode resources claim
+covers_nearest f Refuse None sets claim stands cov = tt
+covers_nearest f Refuse (Some k) [] claim stands cov = absurd stands
+covers_nearest f Refuse (Some k) (s ∷ sets) claim stands cov =
     subst (λ l. IsCoveredBy f claim l) (sym stands.0) cov
-covers_kept f Trim kept sets claim stands cov = tt
+covers_nearest f Trim resources sets claim stands cov = tt
 
-pub from-covers_kept : {T : Type 0} (f : T → ℕ) (mode : Overclaim)
-    (kept : Option (Kept (List (Block T)))) (sets : List (List (Block T)))
+pub from-covers_nearest : {T : Type 0} (f : T → ℕ) (mode : Overclaim)
+    (resources : Option (FamilyResources (List (Block T)))) (sets : List (List (Block T)))
     (claim : Claim (List (Block T))) →
-    StandsFor f kept sets → CoversKept f mode kept claim → IsCovered f mode sets claim
-from-covers_kept f Refuse None sets claim stands cov =
+    StandsFor f resources sets → CoversNearest f mode resources claim → IsCovered f mode sets claim
+from-covers_nearest f Refuse None sets claim stands cov =
     subst (λ l. IsCovered f Refuse l claim) (sym stands) tt
-from-covers_kept f Refuse (Some k) [] claim stands cov = absurd stands
-from-covers_kept f Refuse (Some k) (s ∷ sets) claim stands cov =
+from-covers_nearest f Refuse (Some k) [] claim stands cov = absurd stands
+from-covers_nearest f Refuse (Some k) (s ∷ sets) claim stands cov =
     subst (λ l. IsCoveredBy f claim l) stands.0 cov
-from-covers_kept f Trim kept sets claim stands cov = tt
+from-covers_nearest f Trim resources sets claim stands cov = tt
 
 covered-inherit : (mode : Overclaim) (sets : List Numbers) → IsCovered (λ n. n) mode sets Inherit
 covered-inherit Refuse [] = tt
@@ -110,25 +111,27 @@ covered-inherit Refuse (s ∷ sets) = tt
 covered-inherit Trim sets = tt
 
 pub anchored-stands : (head : Cert) (p : List Cert) (s : Supply) (f : Family)
-    (old new : Option (Kept Numbers)) → StandsFor (λ n. n) old (explicit_sets (head ∷ p) f) →
-    Takes (head ∷ p) s → IsClimbed (λ n. n) head.overclaim old (supplied_claim s f) new →
+    (old new : Option (FamilyResources Numbers))
+    → StandsFor (λ n. n) old (explicit_sets (head ∷ p) f) → Takes (head ∷ p) s
+    → IsWithClaim (λ n. n) head.overclaim old (supplied_claim s f) new →
     StandsFor (λ n. n) new (with_claim (supplied_claim s f) (explicit_sets (head ∷ p) f))
 anchored-stands head p (Tal key) f old new stands takes step =
-    climb-keeps (λ n. n) head.overclaim old new Inherit (explicit_sets (head ∷ p) f) stands
+    issuer-keeps (λ n. n) head.overclaim old new Inherit (explicit_sets (head ∷ p) f) stands
     (covered-inherit head.overclaim (explicit_sets (head ∷ p) f)) step
 anchored-stands head p (Ca ski key sets) f old new stands takes step =
-    climb-keeps (λ n. n) head.overclaim old new (Explicit (sets f))
+    issuer-keeps (λ n. n) head.overclaim old new (Explicit (sets f))
     (explicit_sets (head ∷ p) f) stands (takes f) step
 
--- what is kept has the numbers that all sets have
-pub kept-numbers : (kept : Kept Numbers) (sets : List Numbers) → StandsFor (λ n. n) (Some kept) sets
-    → (n : ℕ) → holds (λ k. k) kept.met n ≡ meet (λ k. k) sets n
-kept-numbers kept [] stands n = absurd stands
-kept-numbers kept (t ∷ r) stands n = stands.1 n
+-- the resources have the numbers that all sets have
+pub family-numbers : (resources : FamilyResources Numbers) (sets : List Numbers)
+    → StandsFor (λ n. n) (Some resources) sets → (n : ℕ)
+    → holds (λ k. k) resources.met n ≡ meet (λ k. k) sets n
+family-numbers resources [] stands n = absurd stands
+family-numbers resources (t ∷ r) stands n = stands.1 n
 
 pub anchored-set : AnchoredIsPathSet
 anchored-set head p s f old new stands takes step =
-    kept-numbers new (with_claim (supplied_claim s f) (explicit_sets (head ∷ p) f))
+    family-numbers new (with_claim (supplied_claim s f) (explicit_sets (head ∷ p) f))
     (anchored-stands head p s f old (Some new) stands takes step)
 
 none-inherits : (claim : Claim Numbers) (sets : List Numbers) → with_claim claim sets ≡ []

@@ -52,13 +52,13 @@ pub left-all : {A : Type 0} (ys : List A) → left_of (replicate (length ys) fal
 left-all [] = refl
 left-all (y ∷ ys) = ap (λ l. y ∷ l) (left-all ys)
 
-pub left-in : {A : Type 0} (marks : List Bool) (ys : List A) (y : A) → IsIn y (left_of marks ys)
+pub left-in : {A : Type 0} (flags : List Bool) (ys : List A) (y : A) → IsIn y (left_of flags ys)
     → IsIn y ys
 left-in [] ys y i = absurd i
-left-in (t ∷ marks) [] y i = absurd i
-left-in (true ∷ marks) (z ∷ ys) y i = inr (left-in marks ys y i)
-left-in (false ∷ marks) (z ∷ ys) y (inl e) = inl e
-left-in (false ∷ marks) (z ∷ ys) y (inr i) = inr (left-in marks ys y i)
+left-in (t ∷ flags) [] y i = absurd i
+left-in (true ∷ flags) (z ∷ ys) y i = inr (left-in flags ys y i)
+left-in (false ∷ flags) (z ∷ ys) y (inl e) = inl e
+left-in (false ∷ flags) (z ∷ ys) y (inr i) = inr (left-in flags ys y i)
 
 pub at-more : {A : Type 0} (ys : List A) (places : List ℕ) (items : List A) (place : ℕ) (p : A)
     → AreAt ys places items → slice_get ys place ≡ Some p
@@ -68,25 +68,25 @@ at-more ys [] (q ∷ items) place p h e = absurd h
 at-more ys (k ∷ places) [] place p h e = absurd h
 at-more ys (k ∷ places) (q ∷ items) place p h e = (h.0, at-more ys places items place p h.1 e)
 
--- ---- marks of places
+-- ---- whether places are taken
 
-set-keeps : (marks : List Bool) (i k : ℕ) → slice_get marks k ≡ Some true
-    → slice_get (set marks i true) k ≡ Some true
+set-keeps : (flags : List Bool) (i k : ℕ) → slice_get flags k ≡ Some true
+    → slice_get (set flags i true) k ≡ Some true
 set-keeps [] i k e = absurd cc
-set-keeps (m ∷ marks) zero zero e = refl
-set-keeps (m ∷ marks) zero (suc k) e = e
-set-keeps (m ∷ marks) (suc i) zero e = e
-set-keeps (m ∷ marks) (suc i) (suc k) e = set-keeps marks i k e
+set-keeps (m ∷ flags) zero zero e = refl
+set-keeps (m ∷ flags) zero (suc k) e = e
+set-keeps (m ∷ flags) (suc i) zero e = e
+set-keeps (m ∷ flags) (suc i) (suc k) e = set-keeps flags i k e
 
-set-here : (marks : List Bool) (i : ℕ) → slice_get marks i ≡ Some false
-    → slice_get (set marks i true) i ≡ Some true
+set-here : (flags : List Bool) (i : ℕ) → slice_get flags i ≡ Some false
+    → slice_get (set flags i true) i ≡ Some true
 set-here [] i e = absurd cc
-set-here (m ∷ marks) zero e = refl
-set-here (m ∷ marks) (suc i) e = set-here marks i e
+set-here (m ∷ flags) zero e = refl
+set-here (m ∷ flags) (suc i) e = set-here flags i e
 
--- these places are marked
+-- these places are taken
 abbrev pub AreTaken : List Bool → List ℕ → Type 0
-AreTaken marks places = (k : ℕ) → IsIn k places → slice_get marks k ≡ Some true
+AreTaken flags places = (k : ℕ) → IsIn k places → slice_get flags k ≡ Some true
 
 in-more : {A : Type 0} (xs : List A) (x k : A) → IsIn k (xs ++ x ∷ []) → IsIn k xs ⊎ (k ≡ x)
 in-more [] x k (inl e) = inr e
@@ -102,9 +102,9 @@ no-twice-more (y ∷ xs) x h n = (
   no-twice-more xs x h.1 (λ i. n (inr i)),
 )
 
-not-marked : (marks : List Bool) (place : ℕ) → slice_get marks place ≡ Some false
-    → ¬ (slice_get marks place ≡ Some true)
-not-marked marks place e f = absurd cc
+not-taken : (flags : List Bool) (place : ℕ) → slice_get flags place ≡ Some false
+    → ¬ (slice_get flags place ≡ Some true)
+not-taken flags place e f = absurd cc
 
 module _ {A B : Type 0} (R : A → B → Type 0) where
   -- one more takes the first that fits
@@ -181,21 +181,21 @@ module _ {A B : Type 0} (R : A → B → Type 0) where
       unpairable done x more ps ys left h alike none pairable
 
   -- the middle of a pairing: what is taken so far, and what is left
-  pub record IsPairingOff (xs : List A) (ys : List B) (marks : List Bool) (places : List ℕ)
+  pub record IsPairingOff (xs : List A) (ys : List B) (flags : List Bool) (places : List ℕ)
       (i : ℕ) : Type 0 where
     pub partners : List B
     pub at_places : AreAt ys places partners
     pub distinct : NoTwice places
-    pub taken : AreTaken marks places
-    pub pairs : PairsOff R (take i xs) partners ys (left_of marks ys)
+    pub taken : AreTaken flags places
+    pub pairs : PairsOff R (take i xs) partners ys (left_of flags ys)
 
-  pub pairing-none : (xs : List A) (ys : List B) (marks : List Bool) (places : List ℕ)
-      → marks ≡ replicate (length ys) false → places ≡ [] → IsPairingOff xs ys marks places 0
-  pairing-none xs ys marks places e f = record {
+  pub pairing-none : (xs : List A) (ys : List B) (flags : List Bool) (places : List ℕ)
+      → flags ≡ replicate (length ys) false → places ≡ [] → IsPairingOff xs ys flags places 0
+  pairing-none xs ys flags places e f = record {
     partners = [];
     at_places = subst (λ l. AreAt ys l []) (sym f) tt;
     distinct = subst (λ l. NoTwice l) (sym f) tt;
-    taken = subst (λ l. AreTaken marks l) (sym f) (λ k j. absurd j);
+    taken = subst (λ l. AreTaken flags l) (sym f) (λ k j. absurd j);
     pairs = sym (ap (λ m. left_of m ys) e ∙ left-all ys);
   }
 
@@ -208,7 +208,7 @@ module _ {A B : Type 0} (R : A → B → Type 0) where
     at_places = subst (λ l. AreAt ys l (w.partners ++ t.0 ∷ [])) (sym f)
         (at-more ys places w.partners place t.0 w.at_places t.1);
     distinct = subst (λ l. NoTwice l) (sym f)
-        (no-twice-more places place w.distinct (λ j. not-marked old place t.2 (w.taken place j)));
+        (no-twice-more places place w.distinct (λ j. not-taken old place t.2 (w.taken place j)));
     taken = subst (λ l. AreTaken new l) (sym f)
         (λ k j. subst (λ m. slice_get m k ≡ Some true) (sym t.3)
         (elim (in-more places place k j) [
@@ -220,34 +220,34 @@ module _ {A B : Type 0} (R : A → B → Type 0) where
         (pairs-more (take i xs) w.partners ys (left_of old ys) (left_of new ys) x t.0 w.pairs t.4);
   }
 
-  pub pairing-stops : (xs : List A) (ys : List B) (marks : List Bool) (places : List ℕ) (i : ℕ)
-      (x : A) (more : List A) → IsPairingOff xs ys marks places i → i < length xs
-      → take i xs ++ x ∷ more ≡ xs → FitsNone (R x) (left_of marks ys) → FindsNone R xs ys i
-  pairing-stops xs ys marks places i x more w lt e none = record {
+  pub pairing-stops : (xs : List A) (ys : List B) (flags : List Bool) (places : List ℕ) (i : ℕ)
+      (x : A) (more : List A) → IsPairingOff xs ys flags places i → i < length xs
+      → take i xs ++ x ∷ more ≡ xs → FitsNone (R x) (left_of flags ys) → FindsNone R xs ys i
+  pairing-stops xs ys flags places i x more w lt e none = record {
     done = take i xs;
     x = x;
     more = more;
     partners = w.partners;
-    left = left_of marks ys;
+    left = left_of flags ys;
     parts = sym e;
     at_place = length-take-le i xs (omega (arith, lt));
     pairs = w.pairs;
     none = none;
   }
 
-  pub pairing-leaves : (xs : List A) (ys : List B) (marks : List Bool) (places : List ℕ) (i : ℕ)
-      → IsPairingOff xs ys marks places i → take i xs ≡ xs → length xs < length ys
+  pub pairing-leaves : (xs : List A) (ys : List B) (flags : List Bool) (places : List ℕ) (i : ℕ)
+      → IsPairingOff xs ys flags places i → take i xs ≡ xs → length xs < length ys
       → LeavesSome R xs ys
-  pairing-leaves xs ys marks places i w e lt =
-      let pairs : PairsOff R xs w.partners ys (left_of marks ys) =
-      subst (λ l. PairsOff R l w.partners ys (left_of marks ys)) e w.pairs in
+  pairing-leaves xs ys flags places i w e lt =
+      let pairs : PairsOff R xs w.partners ys (left_of flags ys) =
+      subst (λ l. PairsOff R l w.partners ys (left_of flags ys)) e w.pairs in
       record {
         partners = w.partners;
-        left = left_of marks ys;
+        left = left_of flags ys;
         pairs = pairs;
         some = λ empty.
-            (let n : length (left_of marks ys) ≡ 0 = ap (λ (l : List B). length l) empty in
-            absurd (omega (arith, lt, n, pairs-length xs w.partners ys (left_of marks ys) pairs)));
+            (let n : length (left_of flags ys) ≡ 0 = ap (λ (l : List B). length l) empty in
+            absurd (omega (arith, lt, n, pairs-length xs w.partners ys (left_of flags ys) pairs)));
       }
 
   -- what is left over has no partner
@@ -273,14 +273,14 @@ module _ {A B : Type 0} (R : A → B → Type 0) where
   none-remains [] e = refl
   none-remains (y ∷ ys) e = absurd (omega (arith, e))
 
-  pub pairing-done : (xs : List A) (ys : List B) (marks : List Bool) (places : List ℕ) (i : ℕ)
-      → IsPairingOff xs ys marks places i → take i xs ≡ xs → length ys ≤ length xs
+  pub pairing-done : (xs : List A) (ys : List B) (flags : List Bool) (places : List ℕ) (i : ℕ)
+      → IsPairingOff xs ys flags places i → take i xs ≡ xs → length ys ≤ length xs
       → ArePaired R xs ys places
-  pairing-done xs ys marks places i w e le =
-      let pairs : PairsOff R xs w.partners ys (left_of marks ys) =
-      subst (λ l. PairsOff R l w.partners ys (left_of marks ys)) e w.pairs in
-      let empty : left_of marks ys ≡ [] = none-remains (left_of marks ys)
-      (omega (arith, le, pairs-length xs w.partners ys (left_of marks ys) pairs)) in
+  pairing-done xs ys flags places i w e le =
+      let pairs : PairsOff R xs w.partners ys (left_of flags ys) =
+      subst (λ l. PairsOff R l w.partners ys (left_of flags ys)) e w.pairs in
+      let empty : left_of flags ys ≡ [] = none-remains (left_of flags ys)
+      (omega (arith, le, pairs-length xs w.partners ys (left_of flags ys) pairs)) in
       let all : PairsOff R xs w.partners ys [] =
       subst (λ l. PairsOff R xs w.partners ys l) empty pairs in
       record {

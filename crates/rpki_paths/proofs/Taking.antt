@@ -12,51 +12,51 @@ use Rattle.rpki_paths.proofs.Indexing.{IsScan, scan-from-named}
 
 -- ---- what is left
 
-left-has : {A : Type 0} (marks : List Bool) (ys : List A) (j : ℕ) (y : A) → slice_get ys j ≡ Some y
-    → slice_get marks j ≡ Some false → IsIn y (left_of marks ys)
+left-has : {A : Type 0} (flags : List Bool) (ys : List A) (j : ℕ) (y : A) → slice_get ys j ≡ Some y
+    → slice_get flags j ≡ Some false → IsIn y (left_of flags ys)
 left-has [] ys j y e f = absurd cc
-left-has (t ∷ marks) [] j y e f = absurd cc
-left-has (true ∷ marks) (z ∷ ys) zero y e f = absurd cc
-left-has (false ∷ marks) (z ∷ ys) zero y e f = inl (sym (same_Some z y e))
-left-has (true ∷ marks) (z ∷ ys) (suc j) y e f = left-has marks ys j y e f
-left-has (false ∷ marks) (z ∷ ys) (suc j) y e f = inr (left-has marks ys j y e f)
+left-has (t ∷ flags) [] j y e f = absurd cc
+left-has (true ∷ flags) (z ∷ ys) zero y e f = absurd cc
+left-has (false ∷ flags) (z ∷ ys) zero y e f = inl (sym (same_Some z y e))
+left-has (true ∷ flags) (z ∷ ys) (suc j) y e f = left-has flags ys j y e f
+left-has (false ∷ flags) (z ∷ ys) (suc j) y e f = inr (left-has flags ys j y e f)
 
--- what holds of each item that is not marked holds of none of the others
-none-left : {A : Type 0} (P : A → Type 0) (marks : List Bool) (ys : List A)
-    → ((j : ℕ) (y : A) → slice_get ys j ≡ Some y → slice_get marks j ≡ Some false → ¬ (P y))
-    → FitsNone P (left_of marks ys)
+-- what holds of no item that is not taken holds of none that is left
+none-left : {A : Type 0} (P : A → Type 0) (flags : List Bool) (ys : List A)
+    → ((j : ℕ) (y : A) → slice_get ys j ≡ Some y → slice_get flags j ≡ Some false → ¬ (P y))
+    → FitsNone P (left_of flags ys)
 none-left P [] ys h y i = absurd i
-none-left P (t ∷ marks) [] h y i = absurd i
-none-left P (true ∷ marks) (z ∷ ys) h y i =
-    none-left P marks ys (λ j w e f. h (suc j) w e f) y i
-none-left P (false ∷ marks) (z ∷ ys) h y (inl e) =
+none-left P (t ∷ flags) [] h y i = absurd i
+none-left P (true ∷ flags) (z ∷ ys) h y i =
+    none-left P flags ys (λ j w e f. h (suc j) w e f) y i
+none-left P (false ∷ flags) (z ∷ ys) h y (inl e) =
     subst (λ w. ¬ (P w)) (sym e) (h 0 z refl refl)
-none-left P (false ∷ marks) (z ∷ ys) h y (inr i) =
-    none-left P marks ys (λ j w e f. h (suc j) w e f) y i
+none-left P (false ∷ flags) (z ∷ ys) h y (inr i) =
+    none-left P flags ys (λ j w e f. h (suc j) w e f) y i
 
-first-left : {A : Type 0} (P : A → Type 0) (marks : List Bool) (ys : List A) (i : ℕ) (y : A)
-    → slice_get ys i ≡ Some y → slice_get marks i ≡ Some false → P y
-    → ((j : ℕ) (z : A) → j < i → slice_get ys j ≡ Some z → slice_get marks j ≡ Some false → ¬ (P z))
-    → IsFirst P y (left_of (set marks i true) ys) (left_of marks ys)
+first-left : {A : Type 0} (P : A → Type 0) (flags : List Bool) (ys : List A) (i : ℕ) (y : A)
+    → slice_get ys i ≡ Some y → slice_get flags i ≡ Some false → P y
+    → ((j : ℕ) (z : A) → j < i → slice_get ys j ≡ Some z → slice_get flags j ≡ Some false → ¬ (P z))
+    → IsFirst P y (left_of (set flags i true) ys) (left_of flags ys)
 first-left P [] ys i y e f p h = absurd cc
-first-left P (t ∷ marks) [] i y e f p h = absurd cc
-first-left P (true ∷ marks) (z ∷ ys) zero y e f p h = absurd cc
-first-left P (false ∷ marks) (z ∷ ys) zero y e f p h =
+first-left P (t ∷ flags) [] i y e f p h = absurd cc
+first-left P (true ∷ flags) (z ∷ ys) zero y e f p h = absurd cc
+first-left P (false ∷ flags) (z ∷ ys) zero y e f p h =
     let same : y ≡ z = sym (same_Some z y e) in
-    subst (λ w. IsFirst P y (left_of marks ys) (w ∷ left_of marks ys)) same (first p)
-first-left P (true ∷ marks) (z ∷ ys) (suc i) y e f p h =
-    first-left P marks ys i y e f p (λ j w lt. h (suc j) w (omega (arith, lt)))
-first-left P (false ∷ marks) (z ∷ ys) (suc i) y e f p h =
+    subst (λ w. IsFirst P y (left_of flags ys) (w ∷ left_of flags ys)) same (first p)
+first-left P (true ∷ flags) (z ∷ ys) (suc i) y e f p h =
+    first-left P flags ys i y e f p (λ j w lt. h (suc j) w (omega (arith, lt)))
+first-left P (false ∷ flags) (z ∷ ys) (suc i) y e f p h =
     later (h 0 z (omega arith) refl refl)
-    (first-left P marks ys i y e f p (λ j w lt. h (suc j) w (omega (arith, lt))))
+    (first-left P flags ys i y e f p (λ j w lt. h (suc j) w (omega (arith, lt))))
 
 -- ---- the search
 
 module _ {Y : Type 0} (held : Y → List ℕ) (id : List ℕ) (verdict : Y → Bool) (ys : List Y)
-    (marks : List Bool) where
+    (flags : List Bool) where
   -- whatever is left and has the identifier has the verdict
   abbrev pub AllOk : Type 0
-  AllOk = (y : Y) → IsIn y (left_of marks ys) → id ≡ held y → IsTrue (verdict y)
+  AllOk = (y : Y) → IsIn y (left_of flags ys) → id ≡ held y → IsTrue (verdict y)
 
   abbrev pub IsFit : Y → Type 0
   IsFit y = (id ≡ held y) × IsTrue (verdict y)
@@ -66,7 +66,7 @@ module _ {Y : Type 0} (held : Y → List ℕ) (id : List ℕ) (verdict : Y → B
     pub from : ℕ
     pub rest : IsScan (map held ys) id from (length (map held ys)) left
     pub passed : (j : ℕ) (y : Y) → j < from → slice_get ys j ≡ Some y
-        → slice_get marks j ≡ Some false → id ≡ held y → IsFalse (verdict y)
+        → slice_get flags j ≡ Some false → id ≡ held y → IsFalse (verdict y)
     pub cost : AllOk → after ≡ before
 
   pub taking-none : (left : List ℕ) (before : ℕ) → IsNamed (map held ys) id left
@@ -96,7 +96,7 @@ module _ {Y : Type 0} (held : Y → List ℕ) (id : List ℕ) (verdict : Y → B
 
   -- those before the first that is left
   earlier : (i : ℕ) (rest : List ℕ) (before after : ℕ) → IsTaking (i ∷ rest) before after
-      → (j : ℕ) (y : Y) → j < i → slice_get ys j ≡ Some y → slice_get marks j ≡ Some false
+      → (j : ℕ) (y : Y) → j < i → slice_get ys j ≡ Some y → slice_get flags j ≡ Some false
       → id ≡ held y → IsFalse (verdict y)
   earlier i rest before after w j y lt e f n = elim (cases_lt j w.from) [
     | inl l ↦ w.passed j y l e f n
@@ -104,42 +104,42 @@ module _ {Y : Type 0} (held : Y → List ℕ) (id : List ℕ) (verdict : Y → B
   ]
 
   pub taking-more : (i : ℕ) (y : Y) (b : Bool) (rest : List ℕ) (before after next : ℕ)
-      → IsTaking (i ∷ rest) before after → slice_get ys i ≡ Some y → slice_get marks i ≡ Some b
+      → IsTaking (i ∷ rest) before after → slice_get ys i ≡ Some y → slice_get flags i ≡ Some b
       → (IsFalse b → IsFalse (verdict y)) → (IsTrue b → next ≡ after) → IsTaking rest before next
-  taking-more i y b rest before after next w at_i mark refused taken = record {
+  taking-more i y b rest before after next w at_i flag refused taken = record {
     from = i + 1;
     rest = w.rest.4;
     passed = λ j z lt e f n. elim (cases_eq j i) [
       | inl s ↦ (let same : z ≡ y = same_Some z y (sym e ∙ ap (slice_get ys) s ∙ at_i) in
           ap verdict same
-          ∙ refused (same_Some b false (sym mark ∙ ap (slice_get marks) (sym s) ∙ f)))
+          ∙ refused (same_Some b false (sym flag ∙ ap (slice_get flags) (sym s) ∙ f)))
       | inr differ ↦ earlier i rest before after w j z (omega (arith, lt, differ)) e f n
     ];
-    cost = λ ok. go b mark refused taken ok;
+    cost = λ ok. go b flag refused taken ok;
   }
     where
-      go : (c : Bool) → slice_get marks i ≡ Some c → (IsFalse c → IsFalse (verdict y))
+      go : (c : Bool) → slice_get flags i ≡ Some c → (IsFalse c → IsFalse (verdict y))
           → (IsTrue c → next ≡ after) → AllOk → next ≡ before
       go true m r t ok = t refl ∙ w.cost ok
       go false m r t ok =
-          absurd (true≢false (sym (ok y (left-has marks ys i y at_i m)
+          absurd (true≢false (sym (ok y (left-has flags ys i y at_i m)
           (named-at i y rest before after w at_i)) ∙ r refl))
 
   pub taking-found : (i : ℕ) (y : Y) (rest : List ℕ) (before after : ℕ)
-      → IsTaking (i ∷ rest) before after → slice_get ys i ≡ Some y → slice_get marks i ≡ Some false
-      → IsTrue (verdict y) → IsTakenAt IsFit ys marks (set marks i true) i
-  taking-found i y rest before after w at_i mark verified = (
+      → IsTaking (i ∷ rest) before after → slice_get ys i ≡ Some y → slice_get flags i ≡ Some false
+      → IsTrue (verdict y) → IsTakenAt IsFit ys flags (set flags i true) i
+  taking-found i y rest before after w at_i flag verified = (
     y,
     at_i,
-    mark,
+    flag,
     refl,
-    first-left IsFit marks ys i y at_i mark (named-at i y rest before after w at_i, verified)
+    first-left IsFit flags ys i y at_i flag (named-at i y rest before after w at_i, verified)
         (λ j z lt e f p. true≢false (sym p.1 ∙ earlier i rest before after w j z lt e f p.0)),
   )
 
   pub taking-done : (before after : ℕ) → IsTaking [] before after
-      → FitsNone IsFit (left_of marks ys)
-  taking-done before after w = none-left IsFit marks ys (λ j y e f p.
+      → FitsNone IsFit (left_of flags ys)
+  taking-done before after w = none-left IsFit flags ys (λ j y e f p.
       elim (cases_lt j w.from) [
         | inl l ↦ true≢false (sym p.1 ∙ w.passed j y l e f p.0)
         | inr l ↦ (let at_j = held-at j y e ∙ ap Some (sym p.0) in

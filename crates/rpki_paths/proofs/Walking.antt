@@ -11,29 +11,29 @@ use Rattle.std.proofs.Common.{map}
 use Rattle.std.proofs.lemmas.Bool.{true≢false, cases_eq, cases_lt}
 use Rattle.rpki_resources.specs.declared.resources.Claim.{Claim}
 use Rattle.rpki_resources.specs.declared.resources.Claim.TheVariants.{Explicit}
-use Rattle.rpki_paths.specs.declared.family.Family.{Family}
-use Rattle.rpki_paths.specs.declared.family.Family.TheVariants.{As, V4, V6}
-use Rattle.rpki_paths.specs.declared.kept.Kept.{Kept}
-use Rattle.rpki_paths.specs.declared.sets.KeptSets.{KeptSets}
-use Rattle.rpki_paths.specs.declared.overclaim.Overclaim.{Overclaim}
-use Rattle.rpki_paths.specs.declared.overclaim.Overclaim.TheVariants.{Refuse, Trim}
+use Rattle.rpki_faults.specs.declared.family.Family.{Family}
+use Rattle.rpki_faults.specs.declared.family.Family.TheVariants.{As, V4, V6}
+use Rattle.rpki_faults.specs.declared.overclaim.Overclaim.{Overclaim}
+use Rattle.rpki_faults.specs.declared.overclaim.Overclaim.TheVariants.{Refuse, Trim}
+use Rattle.rpki_paths.specs.declared.family_resources.FamilyResources.{FamilyResources}
+use Rattle.rpki_paths.specs.declared.path_resources.PathResources.{PathResources}
 use Rattle.rpki_paths.specs.declared.walker.PathFault.TheVariants.{NoValidIssuer, Returns, Revoked}
 use Rattle.rpki_paths.specs.declared.walker.PathFault.TheVariants.{NotCovered, Memory}
 use Rattle.rpki_paths.specs.Cert.{Cert, Numbers, IsIn, IsSelfSigned}
-use Rattle.rpki_paths.specs.Sets.{StandsFor, IsCovered, CoversKept, IsClimbed}
+use Rattle.rpki_paths.specs.Sets.{StandsFor, IsCovered, CoversNearest, IsWithClaim}
 use Rattle.rpki_paths.specs.Path.{IsIssuedBy, IsOff, IsChain, HasNoIssuer, IsPath, IsDistinct}
 use Rattle.rpki_paths.specs.Path.{IsLinkCovered, explicit_sets}
-use Rattle.rpki_paths.specs.Walk.{FoundSays, kept_at, InEach, FailsFirst, IsNext, IsUnverified}
+use Rattle.rpki_paths.specs.Walk.{FoundSays, resources_in, InEach, FailsFirst, IsNext, IsUnverified}
 use Rattle.rpki_paths.specs.Cert.{at_place}
 use Rattle.rpki_paths.specs.Walk.{IsReached, AreFirst, placed}
-use Rattle.rpki_paths.specs.Walk.{IsRefused, AreMarked, KeepsMarks, IsWalked}
-use Rattle.rpki_paths.specs.declared.places.Places.{Places}
+use Rattle.rpki_paths.specs.Walk.{IsRefused, AreVisited, KeepsVisited, IsWalked}
+use Rattle.rpki_paths.specs.declared.key_id_index.KeyIdIndex.{KeyIdIndex}
 use Rattle.rpki_paths.specs.declared.walker.Found.TheVariants.{Issuer}
 use Rattle.rpki_paths.specs.Index.{IsIndex, IsNamed, IsNamedBy, places_of}
-use Rattle.rpki_paths.specs.Laws.{RefusedHasNoPath, KeptTellsTakes}
+use Rattle.rpki_paths.specs.Laws.{RefusedHasNoPath, ResourcesTellTakes}
 use Rattle.rpki_paths.proofs.Indexing.{IsScan, scan-from-named}
 use Rattle.rpki_paths.proofs.Chains.{same-issuer, path-above, short, in-map}
-use Rattle.rpki_paths.proofs.Meets.{climb-keeps, covers_kept, from-covers_kept}
+use Rattle.rpki_paths.proofs.Meets.{issuer-keeps, covers_nearest, from-covers_nearest}
 
 -- ---- places
 
@@ -345,58 +345,63 @@ searching-done cas aki verifies (i ∷ named) before after w h some = (
 
 -- ---- the walk
 
--- in the middle: what is under the head, and what the marks and what is kept say of it
-pub record IsWalking (cas : List Cert) (ee head : Cert) (sets : KeptSets) (marks : List ℕ)
+-- in the middle: what is under the head, and what its resources and visited CAs say of it
+pub record IsWalking (cas : List Cert) (ee head : Cert) (sets : PathResources) (visited : List ℕ)
     (turn steps : ℕ) : Type 0 where
   pub below : List Cert
   pub chain : IsChain cas ee (head ∷ below)
   pub first : AreFirst cas (head ∷ below)
   pub covered : IsLinkCovered (head ∷ below)
-  pub kept : (f : Family) → StandsFor (λ n. n) (kept_at sets f) (explicit_sets (head ∷ below) f)
-  pub marked : AreMarked cas marks turn (head ∷ below)
+  pub stands : (f : Family)
+      → StandsFor (λ n. n) (resources_in sets f) (explicit_sets (head ∷ below) f)
+  pub visits : AreVisited cas visited turn (head ∷ below)
   pub count : length below ≡ steps
 
-none-stands : (kept : Option (Kept Numbers)) → kept ≡ None → StandsFor (λ n. n) kept []
-none-stands kept e = subst (λ k. StandsFor (λ n. n) k []) (sym e) refl
+none-stands : (resources : Option (FamilyResources Numbers)) → resources ≡ None
+    → StandsFor (λ n. n) resources []
+none-stands resources e = subst (λ k. StandsFor (λ n. n) k []) (sym e) refl
 
 nothing-below : (mode : Overclaim) (claim : Claim Numbers) → IsCovered (λ n. n) mode [] claim
 nothing-below Refuse claim = tt
 nothing-below Trim claim = tt
 
 -- the start of the walk
-pub walking-none : (cas : List Cert) (ee : Cert) (none sets : KeptSets) (marks : List ℕ) (turn : ℕ)
-    → AreApart ee cas → InEach (λ f. kept_at none f ≡ None) →
-    InEach (λ f. IsClimbed (λ n. n) ee.overclaim (kept_at none f) (ee.claim f) (kept_at sets f))
-    → length marks ≡ length cas → ((k : ℕ) → k < length marks → slice_index marks k ≢ turn) →
-    IsWalking cas ee ee sets marks turn 0
-walking-none cas ee none sets marks turn apart empty climbed len fresh = record {
+pub walking-none : (cas : List Cert) (ee : Cert) (none sets : PathResources) (visited : List ℕ)
+    (turn : ℕ) → AreApart ee cas → InEach (λ f. resources_in none f ≡ None) →
+    InEach (λ f. IsWithClaim (λ n. n) ee.overclaim (resources_in none f) (ee.claim f)
+    (resources_in sets f))
+    → length visited ≡ length cas → ((k : ℕ) → k < length visited → slice_index visited k ≢ turn) →
+    IsWalking cas ee ee sets visited turn 0
+walking-none cas ee none sets visited turn apart empty claimed len fresh = record {
   below = [];
   chain = refl;
   first = tt;
   covered = tt;
-  kept = λ f. climb-keeps (λ n. n) ee.overclaim (kept_at none f) (kept_at sets f) (ee.claim f) []
-      (none-stands (kept_at none f) (in-each (λ g. kept_at none g ≡ None) empty f))
+  stands = λ f. issuer-keeps (λ n. n) ee.overclaim (resources_in none f) (resources_in sets f)
+      (ee.claim f) []
+      (none-stands (resources_in none f) (in-each (λ g. resources_in none g ≡ None) empty f))
       (nothing-below ee.overclaim (ee.claim f))
-      (in-each (λ g. IsClimbed (λ n. n) ee.overclaim (kept_at none g) (ee.claim g) (kept_at sets g))
-      climbed f);
-  marked = record {
+      (in-each (λ g. IsWithClaim (λ n. n) ee.overclaim (resources_in none g) (ee.claim g)
+      (resources_in sets g))
+      claimed f);
+  visits = record {
     on = λ i d g e off. fresh i (omega (arith, get-lt cas i d g, len)) e;
     off = λ i d g e. (apart.0 i d g, tt);
   };
   count = refl;
 }
 
-module _ (cas : List Cert) (ee head : Cert) (sets : KeptSets) (marks : List ℕ) (turn steps : ℕ)
-    (w : IsWalking cas ee head sets marks turn steps) where
-  pub arrives : HasNoIssuer cas head → IsWalked cas ee head sets marks turn
+module _ (cas : List Cert) (ee head : Cert) (sets : PathResources) (visited : List ℕ)
+    (turn steps : ℕ) (w : IsWalking cas ee head sets visited turn steps) where
+  pub arrives : HasNoIssuer cas head → IsWalked cas ee head sets visited turn
   arrives top = record {
     below = w.below;
     path = record { chain = w.chain; top = top };
     first = w.first;
     covered =
         w.covered;
-    kept = w.kept;
-    marked = w.marked;
+    stands = w.stands;
+    visits = w.visits;
   }
 
   reached : ¬ (IsSelfSigned head) → IsReached cas ee head w.below
@@ -417,17 +422,17 @@ module _ (cas : List Cert) (ee head : Cert) (sets : KeptSets) (marks : List ℕ)
 
   module _ (d : Cert) (i : ℕ) (at_i : slice_get cas i ≡ Some d)
       (open_head : ¬ (IsSelfSigned head)) (next : IsNext cas head.aki head.verifies d) where
-    pub returns-to-mark : slice_index marks i ≡ turn → IsRefused Returns cas ee
-    returns-to-mark e = (
+    pub returns-to-visited : slice_index visited i ≡ turn → IsRefused Returns cas ee
+    returns-to-visited e = (
       head,
       d,
       w.below,
       reached open_head,
       next,
-      w.marked.on i d at_i e,
+      w.visits.on i d at_i e,
     )
 
-    pub is-revoked : slice_index marks i ≢ turn → IsTrue (d.revokes head.serial)
+    pub is-revoked : slice_index visited i ≢ turn → IsTrue (d.revokes head.serial)
         → IsRefused Revoked cas ee
     is-revoked e r = (
       head,
@@ -435,25 +440,25 @@ module _ (cas : List Cert) (ee head : Cert) (sets : KeptSets) (marks : List ℕ)
       w.below,
       reached open_head,
       next,
-      (w.marked.off i d at_i e, r),
+      (w.visits.off i d at_i e, r),
     )
 
     abbrev IsCoveredIn : Family → Type 0
     IsCoveredIn f = IsCovered (λ n. n) head.overclaim (explicit_sets (head ∷ w.below) f) (d.claim f)
 
-    abbrev pub IsKeptIn : Family → Type 0
-    IsKeptIn f = CoversKept (λ n. n) head.overclaim (kept_at sets f) (d.claim f)
+    abbrev pub IsNearestIn : Family → Type 0
+    IsNearestIn f = CoversNearest (λ n. n) head.overclaim (resources_in sets f) (d.claim f)
 
-    from-kept : (f : Family) → IsKeptIn f → IsCoveredIn f
-    from-kept f h = from-covers_kept (λ n. n) head.overclaim (kept_at sets f)
-        (explicit_sets (head ∷ w.below) f) (d.claim f) (w.kept f) h
+    from-nearest : (f : Family) → IsNearestIn f → IsCoveredIn f
+    from-nearest f h = from-covers_nearest (λ n. n) head.overclaim (resources_in sets f)
+        (explicit_sets (head ∷ w.below) f) (d.claim f) (w.stands f) h
 
-    to-kept : (f : Family) → IsCoveredIn f → IsKeptIn f
-    to-kept f h = covers_kept (λ n. n) head.overclaim (kept_at sets f)
-        (explicit_sets (head ∷ w.below) f) (d.claim f) (w.kept f) h
+    to-nearest : (f : Family) → IsCoveredIn f → IsNearestIn f
+    to-nearest f h = covers_nearest (λ n. n) head.overclaim (resources_in sets f)
+        (explicit_sets (head ∷ w.below) f) (d.claim f) (w.stands f) h
 
-    pub is-uncovered : (family : Family) → slice_index marks i ≢ turn
-        → IsFalse (d.revokes head.serial) → FailsFirst IsKeptIn family
+    pub is-uncovered : (family : Family) → slice_index visited i ≢ turn
+        → IsFalse (d.revokes head.serial) → FailsFirst IsNearestIn family
         → IsRefused (NotCovered family) cas ee
     is-uncovered family e r h = (
       head,
@@ -462,18 +467,19 @@ module _ (cas : List Cert) (ee head : Cert) (sets : KeptSets) (marks : List ℕ)
       reached open_head,
       next,
       (
-        w.marked.off i d at_i e,
+        w.visits.off i d at_i e,
         r,
-        fails-first IsKeptIn IsCoveredIn from-kept to-kept family h,
+        fails-first IsNearestIn IsCoveredIn from-nearest to-nearest family h,
       ),
     )
 
-    pub walks-on : (new : KeptSets) → AreApart ee cas → i < length marks
-        → slice_index marks i ≢ turn → IsFalse (d.revokes head.serial) → InEach IsKeptIn →
-        InEach (λ f. IsClimbed (λ n. n) head.overclaim (kept_at sets f) (d.claim f) (kept_at new f))
-        → IsWalking cas ee d new (set marks i turn) turn (steps + 1)
-    walks-on new apart lt ne fresh cov climbed =
-        let off_next : IsOff d (head ∷ w.below) = w.marked.off i d at_i ne in
+    pub walks-on : (new : PathResources) → AreApart ee cas → i < length visited
+        → slice_index visited i ≢ turn → IsFalse (d.revokes head.serial) → InEach IsNearestIn →
+        InEach (λ f. IsWithClaim (λ n. n) head.overclaim (resources_in sets f) (d.claim f)
+        (resources_in new f))
+        → IsWalking cas ee d new (set visited i turn) turn (steps + 1)
+    walks-on new apart lt ne fresh cov claimed =
+        let off_next : IsOff d (head ∷ w.below) = w.visits.off i d at_i ne in
         let issued : IsIssuedBy cas head d =
         record {
           not_self_signed = open_head;
@@ -484,58 +490,64 @@ module _ (cas : List Cert) (ee head : Cert) (sets : KeptSets) (marks : List ℕ)
               next.verified;
           not_revoked = fresh;
         } in
-        let here' : (f : Family) → IsCoveredIn f = λ f. from-kept f (in-each IsKeptIn cov f) in
+        let here' : (f : Family) → IsCoveredIn f =
+        λ f. from-nearest f (in-each IsNearestIn cov f) in
         record {
           below = head ∷ w.below;
           chain = (issued, off_next, w.chain);
           first = (next, w.first);
           covered = (here', w.covered);
-          kept = λ f. climb-keeps (λ n. n) head.overclaim (kept_at sets f) (kept_at new f)
-              (d.claim f) (explicit_sets (head ∷ w.below) f) (w.kept f) (here' f)
-              (in-each (λ g. IsClimbed (λ n. n) head.overclaim (kept_at sets g) (d.claim g)
-              (kept_at new g)) climbed f);
-          marked = record {
+          stands = λ f. issuer-keeps (λ n. n) head.overclaim (resources_in sets f)
+              (resources_in new f)
+              (d.claim f) (explicit_sets (head ∷ w.below) f) (w.stands f) (here' f)
+              (in-each (λ g. IsWithClaim (λ n. n) head.overclaim (resources_in sets g) (d.claim g)
+              (resources_in new g)) claimed f);
+          visits = record {
             on = λ j x g e off. elim (cases_eq j i) [
               | inl s ↦ off.0 (ap (λ (z : Cert). z.place)
                   (same_Some x d (sym g ∙ ap (slice_get cas) s ∙ at_i)))
-              | inr differ ↦ w.marked.on j x g
-                  (sym (get_or-set_other marks i j turn 0 differ) ∙ e) off.1
+              | inr differ ↦ w.visits.on j x g
+                  (sym (get_or-set_other visited i j turn 0 differ) ∙ e) off.1
             ];
             off = λ j x g f.
                 (let differ : j ≢ i =
-                λ s. f (ap (λ n. get_or (set marks i turn) n 0) s
-                ∙ get_or-set_same marks i turn 0 lt) in (
+                λ s. f (ap (λ n. get_or (set visited i turn) n 0) s
+                ∙ get_or-set_same visited i turn 0 lt) in (
                   λ s. differ (apart.1 j i x d g at_i s),
-                  w.marked.off j x g (λ e. f
-                      (get_or-set_other marks i j turn 0 differ ∙ e)),
+                  w.visits.off j x g (λ e. f
+                      (get_or-set_other visited i j turn 0 differ ∙ e)),
                 ));
           };
           count = (let t : suc (length w.below) ≡ steps + 1 = omega (arith, w.count) in t);
         }
 
-pub keeps-none : (turn : ℕ) (marks : List ℕ) → KeepsMarks turn marks marks
-keeps-none turn marks i ne = refl
+pub keeps-none : (turn : ℕ) (visited : List ℕ) → KeepsVisited turn visited visited
+keeps-none turn visited i ne = refl
 
-pub keeps-more : (turn i : ℕ) (old marks : List ℕ) → i < length marks → KeepsMarks turn old marks
-    → KeepsMarks turn old (set marks i turn)
-keeps-more turn i old marks lt h k ne =
+pub keeps-more : (turn i : ℕ) (old visited : List ℕ) → i < length visited
+    → KeepsVisited turn old visited → KeepsVisited turn old (set visited i turn)
+keeps-more turn i old visited lt h k ne =
     let differ : k ≢ i = λ s. ne
-    (ap (λ n. get_or (set marks i turn) n 0) s ∙ get_or-set_same marks i turn 0 lt) in
-    let same = get_or-set_other marks i k turn 0 differ in
+    (ap (λ n. get_or (set visited i turn) n 0) s ∙ get_or-set_same visited i turn 0 lt) in
+    let same = get_or-set_other visited i k turn 0 differ in
     same ∙ h k (λ e. ne (same ∙ e))
 
-pub kept_tells_takes : KeptTellsTakes
-kept_tells_takes head p kept ski key sets stands = (
-  λ h f. from-covers_kept (λ n. n) head.overclaim (kept_at kept f) (explicit_sets (head ∷ p) f)
+pub resources_tell_takes : ResourcesTellTakes
+resources_tell_takes head p resources ski key sets stands = (
+  λ h f. from-covers_nearest (λ n. n) head.overclaim (resources_in resources f)
+      (explicit_sets (head ∷ p) f)
       (Explicit (sets f)) (stands f)
-      (in-each (λ g. CoversKept (λ n. n) head.overclaim (kept_at kept g) (Explicit (sets g))) h f),
-  λ h. to-each (λ g. CoversKept (λ n. n) head.overclaim (kept_at kept g) (Explicit (sets g)))
-      (λ f. covers_kept (λ n. n) head.overclaim (kept_at kept f) (explicit_sets (head ∷ p) f)
+      (in-each (λ g. CoversNearest (λ n. n) head.overclaim (resources_in resources g)
+      (Explicit (sets g))) h f),
+  λ h. to-each (λ g. CoversNearest (λ n. n) head.overclaim (resources_in resources g)
+      (Explicit (sets g)))
+      (λ f. covers_nearest (λ n. n) head.overclaim (resources_in resources f)
+      (explicit_sets (head ∷ p) f)
       (Explicit (sets f)) (stands f) (h f)),
 )
 
 -- what an index has of an identifier
-pub index-named : (ids : List (List ℕ)) (index : Places) (id aki : Option (List ℕ))
+pub index-named : (ids : List (List ℕ)) (index : KeyIdIndex) (id aki : Option (List ℕ))
     (named : List ℕ) → IsIndex ids index → named ≡ places_of index id → id ≡ aki
     → IsNamedBy ids aki named
 index-named ids index id None named h e f = e ∙ ap (places_of index) f

@@ -15,7 +15,7 @@ use Rattle.rpki_paths.specs.declared.walks.WalksFault.TheVariants.{NoPath, Unuse
 use Rattle.rpki_paths.specs.Cert.{Cert, IsIn, at_place}
 use Rattle.rpki_paths.specs.Path.{IsOff, IsPath, IsLinkCovered, IsDistinct}
 use Rattle.rpki_paths.specs.Anchor.{Supply}
-use Rattle.rpki_paths.specs.Walk.{AreFirst, IsRefused, IsWalked, KeepsMarks}
+use Rattle.rpki_paths.specs.Walk.{AreFirst, IsRefused, IsWalked, KeepsVisited}
 use Rattle.rpki_paths.specs.Grant.{ArePaths, IsUsed}
 use Rattle.rpki_paths.specs.Kept.{IsUnder, IsKept, AreKept, AreWalked, AreRefused, walks_fault}
 use Rattle.rpki_paths.specs.Kept.{AreFirstOnEach}
@@ -66,24 +66,24 @@ module _ {C : Type 0} (cert : C → Cert) (cas : List Cert) where
 
   -- ---- in the middle
 
-  -- The certificates so far have paths. A CA that stands on one of them is marked by a number that
-  -- is not 0, and no mark is above the number of the last walk.
-  pub record IsWalkingEach (ees : List C) (kept : List (Path C)) (marks : List ℕ) (turn : ℕ) :
+  -- The certificates so far have paths. A CA that stands on one of them is visited by a number that
+  -- is not 0, and no number is above that of the last walk.
+  pub record IsWalkingEach (ees : List C) (kept : List (Path C)) (visited : List ℕ) (turn : ℕ) :
       Type 0 where
     pub paths : List (List Cert)
     pub stand : ArePaths cas (map cert ees) paths
     pub first : AreFirstOnEach cas paths
     pub are_kept : AreKept cert [] kept paths
-    pub on : (k : ℕ) (d : Cert) → slice_get cas k ≡ Some d → slice_index marks k ≢ 0
+    pub on : (k : ℕ) (d : Cert) → slice_get cas k ≡ Some d → slice_index visited k ≢ 0
         → IsUsed d paths
-    pub off : (k : ℕ) (d : Cert) → slice_get cas k ≡ Some d → slice_index marks k ≡ 0
+    pub off : (k : ℕ) (d : Cert) → slice_get cas k ≡ Some d → slice_index visited k ≡ 0
         → (p : List Cert) → IsIn p paths → IsOff d p
-    pub small : (k : ℕ) → slice_index marks k ≤ turn
+    pub small : (k : ℕ) → slice_index visited k ≤ turn
 
-  pub each-none : (ees : List C) (kept : List (Path C)) (marks : List ℕ) (n : ℕ) → ees ≡ []
-      → kept ≡ [] → marks ≡ replicate n 0 → IsWalkingEach ees kept marks 0
-  each-none ees kept marks n none empty e =
-      let zero_at : (k : ℕ) → slice_index marks k ≡ 0 =
+  pub each-none : (ees : List C) (kept : List (Path C)) (visited : List ℕ) (n : ℕ) → ees ≡ []
+      → kept ≡ [] → visited ≡ replicate n 0 → IsWalkingEach ees kept visited 0
+  each-none ees kept visited n none empty e =
+      let zero_at : (k : ℕ) → slice_index visited k ≡ 0 =
       λ k. ap (λ m. slice_index m k) e ∙ zeros n k in
       record {
         paths = [];
@@ -95,13 +95,13 @@ module _ {C : Type 0} (cert : C → Cert) (cas : List Cert) where
         small = λ k. omega (arith, zero_at k);
       }
 
-  module _ (ees : List C) (kept : List (Path C)) (marks : List ℕ) (turn : ℕ)
-      (w : IsWalkingEach ees kept marks turn) where
+  module _ (ees : List C) (kept : List (Path C)) (visited : List ℕ) (turn : ℕ)
+      (w : IsWalkingEach ees kept visited turn) where
     -- the walk from one more
     pub each-more : (all : List C) (e : C) (path : Path C) (longer : List (Path C))
         (new : List ℕ) → all ≡ ees ++ e ∷ [] → longer ≡ kept ++ path ∷ []
         → IsWalked cas (at_place 0 (cert e)) (at_place path.place (cert path.head)) path.sets new
-        (turn + 1) → IsFalse path.anchored → KeepsMarks (turn + 1) marks new
+        (turn + 1) → IsFalse path.anchored → KeepsVisited (turn + 1) visited new
         → IsWalkingEach all longer new (turn + 1)
     each-more all e path longer new more put walked open_path keeps =
         let p = at_place path.place (cert path.head) ∷ walked.below in
@@ -110,7 +110,7 @@ module _ {C : Type 0} (cert : C → Cert) (cas : List Cert) where
           below = walked.below;
           whole = refl;
           under = subst (λ (b : Bool). IsUnder p [] path.sets b) (sym open_path)
-              ((λ s i. absurd i), walked.kept);
+              ((λ s i. absurd i), walked.stands);
         } in
         record {
           paths = w.paths ++ p ∷ [];
@@ -123,7 +123,7 @@ module _ {C : Type 0} (cert : C → Cert) (cas : List Cert) where
           are_kept = subst (λ l. AreKept cert [] l (w.paths ++ p ∷ [])) (sym put)
               (kept-more [] kept path w.paths p w.are_kept here);
           on = λ k d at_k ne. elim (cases_eq (slice_index new k) (turn + 1)) [
-            | inl same ↦ (p, in-last p w.paths [], walked.marked.on k d at_k same)
+            | inl same ↦ (p, in-last p w.paths [], walked.visits.on k d at_k same)
             | inr differ ↦
                 (let t = w.on k d at_k (λ z. ne (keeps k differ ∙ z)) in
                 (t.0, in-front t.0 w.paths (p ∷ []) t.1, t.2))
@@ -134,7 +134,7 @@ module _ {C : Type 0} (cert : C → Cert) (cas : List Cert) where
               elim (in-more q p w.paths i) [
                 | inl j ↦ w.off k d at_k (sym (keeps k differ) ∙ z) q j
                 | inr same ↦ subst (λ l. IsOff d l) (sym same)
-                    (walked.marked.off k d at_k differ)
+                    (walked.visits.off k d at_k differ)
               ]);
           small = λ k. elim (cases_eq (slice_index new k) (turn + 1)) [
             | inl same ↦ omega (arith, same)
@@ -142,7 +142,7 @@ module _ {C : Type 0} (cert : C → Cert) (cas : List Cert) where
           ];
         }
 
-    pub each-fresh : (k : ℕ) → ¬ (slice_index marks k ≡ turn + 1)
+    pub each-fresh : (k : ℕ) → ¬ (slice_index visited k ≡ turn + 1)
     each-fresh k e = omega (arith, w.small k, e)
 
     -- one that has no path
@@ -171,7 +171,7 @@ module _ {C : Type 0} (cert : C → Cert) (cas : List Cert) where
 
     -- a CA that stands on none
     pub each-unused : (all : List C) (place : ℕ) → ees ≡ all → place < length cas
-        → slice_index marks place ≡ 0 → ((k : ℕ) → k < place → slice_index marks k ≢ 0)
+        → slice_index visited place ≡ 0 → ((k : ℕ) → k < place → slice_index visited k ≢ 0)
         → AreRefused (Unused place) cas (map cert all)
     each-unused all place e lt z before =
         let t = some-at cas place lt in
@@ -191,8 +191,8 @@ module _ {C : Type 0} (cert : C → Cert) (cas : List Cert) where
         some-at (x ∷ xs) zero l = (x, refl)
         some-at (x ∷ xs) (suc k) l = some-at xs k (omega (arith, l))
 
-    pub each-done : (all : List C) → ees ≡ all → length marks ≡ length cas
-        → ((k : ℕ) → k < length marks → slice_index marks k ≢ 0)
+    pub each-done : (all : List C) → ees ≡ all → length visited ≡ length cas
+        → ((k : ℕ) → k < length visited → slice_index visited k ≢ 0)
         → AreWalked cert cas (map cert all) kept
     each-done all e len none = record {
       paths = w.paths;

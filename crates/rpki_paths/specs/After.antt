@@ -3,15 +3,15 @@
 -- may take a later one.
 use Rattle.std.specs.Prelude.{◌≡◌, ℕ, Bool, true, false, List, [], ◌∷◌, Result}
 use Rattle.rpki_resources.specs.Blocks.{holds}
-use Rattle.rpki_paths.specs.declared.family.Family.{Family}
-use Rattle.rpki_paths.specs.declared.sets.KeptSets.{KeptSets}
+use Rattle.rpki_faults.specs.declared.family.Family.{Family}
+use Rattle.rpki_paths.specs.declared.path_resources.PathResources.{PathResources}
 use Rattle.rpki_paths.specs.declared.supply.SupplyFault.{SupplyFault}
 use Rattle.rpki_paths.specs.declared.walker.Path.{Path}
 use Rattle.rpki_paths.specs.Cert.{Cert, Numbers, IsIn, at_place}
 use Rattle.rpki_paths.specs.Sets.{StandsFor, with_claim}
 use Rattle.rpki_paths.specs.Path.{explicit_sets}
 use Rattle.rpki_paths.specs.Anchor.{Supply, Fits, Takes, supplied_claim}
-use Rattle.rpki_paths.specs.Walk.{kept_at}
+use Rattle.rpki_paths.specs.Walk.{resources_in}
 use Rattle.rpki_paths.specs.Grant.{IsAccepted, union_of}
 use Rattle.rpki_paths.specs.Pairing.{Carried}
 use Rattle.rpki_paths.specs.Supplied.{AnswersEach}
@@ -29,12 +29,12 @@ IsAnchoredBySome p supplies s = IsIn s supplies × FitsPath p s × Takes p s
 -- What is kept of the path `p` after some supplies, by whether it is anchored. If not, its explicit
 -- sets are kept; if it is, one of the supplies is meant for it and took it, and the sets of the
 -- supply are kept with these.
-abbrev pub IsUnderSome : List Cert → List Supply → KeptSets → Bool → Type 0
+abbrev pub IsUnderSome : List Cert → List Supply → PathResources → Bool → Type 0
 IsUnderSome p supplies sets false =
-    (f : Family) → StandsFor (λ n. n) (kept_at sets f) (explicit_sets p f)
+    (f : Family) → StandsFor (λ n. n) (resources_in sets f) (explicit_sets p f)
 IsUnderSome p supplies sets true =
     (s : Supply) × IsAnchoredBySome p supplies s
-    × ((f : Family) → StandsFor (λ n. n) (kept_at sets f)
+    × ((f : Family) → StandsFor (λ n. n) (resources_in sets f)
     (with_claim (supplied_claim s f) (explicit_sets p f)))
 
 -- This is kept of the path `p` after some supplies.

@@ -2,7 +2,7 @@
 use Rattle.std.specs.Prelude.{◌≡◌, ℕ, Bool, List, [], ◌∷◌, Some, IsTrue, ◌⊎◌}
 use Rattle.rpki_resources.specs.declared.resources.Claim.{Claim}
 use Rattle.rpki_resources.specs.declared.resources.Claim.TheVariants.{Inherit, Explicit}
-use Rattle.rpki_paths.specs.declared.family.Family.{Family}
+use Rattle.rpki_faults.specs.declared.family.Family.{Family}
 use Rattle.rpki_paths.specs.Cert.{Cert, Numbers, IsSelfSigned, IsIn}
 use Rattle.rpki_paths.specs.Sets.{with_claim, meet, IsCovered}
 use Rattle.rpki_paths.specs.Path.{explicit_sets}

@@ -2,8 +2,8 @@
 use Rattle.std.specs.Prelude.{◌≡◌, ℕ, Bool, List, [], ◌∷◌, Option, None, Some, ◌⊎◌}
 use Rattle.rpki_resources.specs.declared.block.Block.{Block}
 use Rattle.rpki_resources.specs.declared.resources.Claim.{Claim}
-use Rattle.rpki_paths.specs.declared.family.Family.{Family}
-use Rattle.rpki_paths.specs.declared.overclaim.Overclaim.{Overclaim}
+use Rattle.rpki_faults.specs.declared.family.Family.{Family}
+use Rattle.rpki_faults.specs.declared.overclaim.Overclaim.{Overclaim}
 
 -- A set of AS numbers or of addresses, as its blocks.
 abbrev pub Numbers : Type 0

@@ -4,27 +4,28 @@ use Rattle.std.specs.Prelude.{Ok, Err, IsTrue, ◌||◌, not}
 use Rattle.std.specs.List.{list_all, list_any}
 use Rattle.rpki_resources.specs.declared.block.Block.{Block}
 use Rattle.rpki_resources.specs.Blocks.{holds}
-use Rattle.rpki_paths.specs.declared.family.Family.{Family}
-use Rattle.rpki_paths.specs.declared.family.Family.TheVariants.{As, V4, V6}
+use Rattle.rpki_faults.specs.declared.family.Family.{Family}
+use Rattle.rpki_faults.specs.declared.family.Family.TheVariants.{As, V4, V6}
 use Rattle.rpki_paths.specs.declared.decision.Attested.{Attested}
 use Rattle.rpki_paths.specs.declared.decision.FinalFault.{FinalFault}
 use Rattle.rpki_paths.specs.declared.decision.FinalFault.TheVariants.{NotAnchored, AsNumbers}
 use Rattle.rpki_paths.specs.declared.decision.FinalFault.TheVariants.{Addresses, Memory}
 use Rattle.rpki_paths.specs.declared.decision.Union.{Union}
-use Rattle.rpki_paths.specs.declared.kept.Kept.{Kept}
+use Rattle.rpki_paths.specs.declared.family_resources.FamilyResources.{FamilyResources}
 use Rattle.rpki_paths.specs.declared.walker.Path.{Path}
 use Rattle.rpki_paths.specs.Cert.{Numbers}
-use Rattle.rpki_paths.specs.Walk.{kept_at, InEach}
+use Rattle.rpki_paths.specs.Walk.{resources_in, InEach}
 
--- Whether the number is one of what is kept in a family: every number is, where all certificates
--- inherit.
-abbrev pub kept_has : {T : Type 0} → (T → ℕ) → Option (Kept (List (Block T))) → ℕ → Bool
-kept_has f None n = true
-kept_has f (Some kept) n = holds f kept.met n
+-- Whether the number is one of the resources of a path in a family: every number is, where all
+-- certificates inherit.
+abbrev pub family_has : {T : Type 0} → (T → ℕ) → Option (FamilyResources (List (Block T))) → ℕ →
+    Bool
+family_has f None n = true
+family_has f (Some resources) n = holds f resources.met n
 
 -- Whether it is one of what is kept of some of the paths.
 abbrev pub some_has : {C : Type 0} → List (Path C) → Family → ℕ → Bool
-some_has paths f n = list_any (λ p. kept_has (λ k. k) (kept_at p.sets f) n) paths
+some_has paths f n = list_any (λ p. family_has (λ k. k) (resources_in p.sets f) n) paths
 
 -- Whether it is one of the numbers that are gathered: every number is, where not all are known.
 abbrev pub union_has : {T : Type 0} → (T → ℕ) → Union T → ℕ → Bool

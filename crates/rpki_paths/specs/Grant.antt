@@ -1,7 +1,7 @@
 -- When an attestation is accepted, and when it is granted (draft-michaelson-rpki-rta).
 use Rattle.std.specs.Prelude.{◌≡◌, ℕ, suc, Bool, false, List, [], ◌∷◌, IsTrue, ◌||◌}
 use Rattle.rpki_resources.specs.Blocks.{holds}
-use Rattle.rpki_paths.specs.declared.family.Family.{Family}
+use Rattle.rpki_faults.specs.declared.family.Family.{Family}
 use Rattle.rpki_paths.specs.Cert.{Cert, Numbers, IsIn, at_place}
 use Rattle.rpki_paths.specs.Path.{IsPath, IsLinkCovered, IsOff}
 use Rattle.rpki_paths.specs.Anchor.{Supply, IsAnchored, path_set}

@@ -1,6 +1,6 @@
 -- Why the whole check of an attestation fails, and when it does so for want of memory alone.
 use Rattle.std.specs.Prelude.{◌≡◌, List, Ok, Err}
-use Rattle.rpki_paths.specs.declared.family.Family.{Family}
+use Rattle.rpki_faults.specs.declared.family.Family.{Family}
 use Rattle.rpki_paths.specs.declared.walker.Path.{Path}
 use Rattle.rpki_paths.specs.declared.attestation.GrantFault.{GrantFault}
 use Rattle.rpki_paths.specs.declared.attestation.GrantFault.TheVariants.{NotAccepted, NotSupplied}

@@ -5,7 +5,7 @@ use Rattle.std.specs.declared.alloc.Global.{Global}
 use Rattle.std.specs.BTreeMap.{get, is_at, BTreeMap}
 use Rattle.std.specs.Ordering.{nat_cmp}
 use Rattle.std.specs.Cmp.Lexicographic.{slice_cmp}
-use Rattle.rpki_paths.specs.declared.places.Places.{Places}
+use Rattle.rpki_paths.specs.declared.key_id_index.KeyIdIndex.{KeyIdIndex}
 use Rattle.rpki_paths.specs.Cert.{IsIn}
 
 -- The places that stand at a key, or none.
@@ -25,7 +25,7 @@ IsPut id places old new =
     ≡ cond (is_at (slice_cmp nat_cmp id) q) places (get (slice_cmp nat_cmp) old q)
 
 -- The places that an index has of an identifier, and none where there is no identifier.
-abbrev pub places_of : Places → Option (List ℕ) → List ℕ
+abbrev pub places_of : KeyIdIndex → Option (List ℕ) → List ℕ
 places_of index None = []
 places_of index (Some id) = listed index.map id
 
@@ -40,5 +40,5 @@ IsNamedBy ids None places = places ≡ []
 IsNamedBy ids (Some id) places = IsNamed ids id places
 
 -- The index has the places of each of these identifiers.
-abbrev pub IsIndex : List (List ℕ) → Places → Type 0
+abbrev pub IsIndex : List (List ℕ) → KeyIdIndex → Type 0
 IsIndex ids index = (id : List ℕ) → IsNamed ids id (listed index.map id)

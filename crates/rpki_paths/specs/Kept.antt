@@ -1,8 +1,8 @@
 -- What is kept of paths under supplies, and what walks from several certificates answer.
 use Rattle.std.specs.Prelude.{◌≡◌, ◌<◌, ℕ, Bool, true, false, List, [], ◌∷◌, ◌++◌, Some}
 use Rattle.std.specs.Prelude.{slice_get}
-use Rattle.rpki_paths.specs.declared.family.Family.{Family}
-use Rattle.rpki_paths.specs.declared.sets.KeptSets.{KeptSets}
+use Rattle.rpki_faults.specs.declared.family.Family.{Family}
+use Rattle.rpki_paths.specs.declared.path_resources.PathResources.{PathResources}
 use Rattle.rpki_paths.specs.declared.walker.Path.{Path}
 use Rattle.rpki_paths.specs.declared.walker.PathFault.{PathFault}
 use Rattle.rpki_paths.specs.declared.walker.PathFault.TheVariants.{NoValidIssuer, Returns, Revoked}
@@ -14,7 +14,7 @@ use Rattle.rpki_paths.specs.Cert.{Cert, IsIn, at_place}
 use Rattle.rpki_paths.specs.Sets.{StandsFor, with_claim}
 use Rattle.rpki_paths.specs.Path.{explicit_sets}
 use Rattle.rpki_paths.specs.Anchor.{Supply, Fits, IsAnchored, supplied_claim}
-use Rattle.rpki_paths.specs.Walk.{kept_at, AreFirst, IsRefused}
+use Rattle.rpki_paths.specs.Walk.{resources_in, AreFirst, IsRefused}
 use Rattle.rpki_paths.specs.Grant.{ArePaths, AreUsed, IsUsed}
 
 -- None of the supplies is meant for the head of the path.
@@ -25,13 +25,13 @@ NoneFits (head ∷ p) supplies = (s : Supply) → IsIn s supplies → ¬ (Fits h
 -- What is kept of the path `p` under some supplies, by whether it is anchored. If not, none of them
 -- is meant for its head, and its explicit sets are kept; if it is, the first that is meant took it,
 -- and the sets of the supply are kept with these.
-abbrev pub IsUnder : List Cert → List Supply → KeptSets → Bool → Type 0
+abbrev pub IsUnder : List Cert → List Supply → PathResources → Bool → Type 0
 IsUnder p supplies sets false =
     NoneFits p supplies
-    × ((f : Family) → StandsFor (λ n. n) (kept_at sets f) (explicit_sets p f))
+    × ((f : Family) → StandsFor (λ n. n) (resources_in sets f) (explicit_sets p f))
 IsUnder p supplies sets true =
     (s : Supply) × IsAnchored p supplies s
-    × ((f : Family) → StandsFor (λ n. n) (kept_at sets f)
+    × ((f : Family) → StandsFor (λ n. n) (resources_in sets f)
     (with_claim (supplied_claim s f) (explicit_sets p f)))
 
 -- This is kept of the path `p` under some supplies.

@@ -5,10 +5,10 @@ use Rattle.rpki_resources.specs.declared.block.Block.{Block}
 use Rattle.rpki_resources.specs.declared.resources.Claim.{Claim}
 use Rattle.rpki_resources.specs.declared.resources.Claim.TheVariants.{Inherit, Explicit}
 use Rattle.rpki_resources.specs.Blocks.{holds}
-use Rattle.rpki_paths.specs.declared.family.Family.{Family}
-use Rattle.rpki_paths.specs.declared.kept.Kept.{Kept}
-use Rattle.rpki_paths.specs.declared.overclaim.Overclaim.{Overclaim}
-use Rattle.rpki_paths.specs.declared.sets.KeptSets.{KeptSets}
+use Rattle.rpki_faults.specs.declared.family.Family.{Family}
+use Rattle.rpki_faults.specs.declared.overclaim.Overclaim.{Overclaim}
+use Rattle.rpki_paths.specs.declared.family_resources.FamilyResources.{FamilyResources}
+use Rattle.rpki_paths.specs.declared.path_resources.PathResources.{PathResources}
 use Rattle.rpki_paths.specs.declared.walker.PathFault.{PathFault}
 use Rattle.rpki_paths.specs.declared.walker.PathFault.TheVariants.{Memory}
 use Rattle.rpki_paths.specs.declared.walks.WalksFault.{WalksFault}
@@ -24,9 +24,9 @@ use Rattle.rpki_paths.specs.Kept.{AreRefused, AreKept, AreWalked}
 use Rattle.rpki_paths.specs.After.{AreKeptBySome, AreAfter, IsGrantedBySome}
 use Rattle.rpki_paths.specs.Supplied.{AnswersEach, AreSuppliedAll}
 use Rattle.rpki_paths.specs.Final.{all_anchored, IsWhole, Decides}
-use Rattle.rpki_paths.specs.Walk.{IsRefused, kept_at, InEach, placed}
+use Rattle.rpki_paths.specs.Walk.{IsRefused, resources_in, InEach, placed}
 use Rattle.rpki_paths.specs.Cert.{Cert, Numbers, IsIn}
-use Rattle.rpki_paths.specs.Sets.{with_claim, IsCovered, CoversKept, StandsFor, IsClimbed}
+use Rattle.rpki_paths.specs.Sets.{with_claim, IsCovered, CoversNearest, StandsFor, IsWithClaim}
 use Rattle.rpki_paths.specs.Path.{IsChain, IsPath, IsDistinct, IsLinkCovered, explicit_sets}
 use Rattle.rpki_paths.specs.Anchor.{Supply, Ca, Takes, IsAnchored, HasUnanchored}
 use Rattle.rpki_paths.specs.Anchor.{supplied_claim, path_set}
@@ -40,21 +40,22 @@ use Rattle.rpki_paths.specs.Grant.{IsGranted}
 use Rattle.rpki_paths.specs.declared.acceptance.AcceptFault.{AcceptFault}
 use Rattle.rpki_paths.specs.Accepting.{WhyNot, WantsMemory}
 
--- If what is kept stands for the sets of a path, it does so after one more issuer, whose claim
+-- If the resources of a path stand for its sets, they do so after one more issuer, whose claim
 -- covers what it has to.
-abbrev pub ClimbKeepsMeet : {T : Type 0} → (T → ℕ) → Type 0
-ClimbKeepsMeet {T} f =
-    (mode : Overclaim) (old new : Option (Kept (List (Block T)))) (claim : Claim (List (Block T)))
-    (sets : List (List (Block T))) → StandsFor f old sets → IsCovered f mode sets claim →
-    IsClimbed f mode old claim new → StandsFor f new (with_claim claim sets)
+abbrev pub IssuerKeepsMeet : {T : Type 0} → (T → ℕ) → Type 0
+IssuerKeepsMeet {T} f =
+    (mode : Overclaim) (old new : Option (FamilyResources (List (Block T))))
+    (claim : Claim (List (Block T))) (sets : List (List (Block T))) →
+    StandsFor f old sets → IsCovered f mode sets claim →
+    IsWithClaim f mode old claim new → StandsFor f new (with_claim claim sets)
 
--- What is kept of a covered path, with the sets of the supply that takes it, stands for its set.
+-- The resources of a covered path, with the sets of the supply that takes it, stand for its set.
 abbrev pub AnchoredIsPathSet : Type 0
 AnchoredIsPathSet =
-    (head : Cert) (p : List Cert) (s : Supply) (f : Family) (old : Option (Kept Numbers))
-    (new : Kept Numbers) → StandsFor (λ n. n) old (explicit_sets (head ∷ p) f) →
+    (head : Cert) (p : List Cert) (s : Supply) (f : Family) (old : Option (FamilyResources Numbers))
+    (new : FamilyResources Numbers) → StandsFor (λ n. n) old (explicit_sets (head ∷ p) f) →
     Takes (head ∷ p) s →
-    IsClimbed (λ n. n) head.overclaim old (supplied_claim s f) (Some new) →
+    IsWithClaim (λ n. n) head.overclaim old (supplied_claim s f) (Some new) →
     (n : ℕ) → holds (λ k. k) new.met n ≡ path_set (head ∷ p) s f n
 
 -- A path that a supply takes has an explicit set in each family, where a head that is a trust
@@ -239,12 +240,14 @@ UndecidedIsRefused {X} {C} cert of refuses =
     ¬ (fault ≡ UnionMemory) → AreSuppliedAll cert of refuses xs walked kept (Ok tt) →
     Decides kept attested (Err fault) → ¬ (IsGranted a (map of xs) attested)
 
--- What is kept of a path tells whether a CA takes it.
-abbrev pub KeptTellsTakes : Type 0
-KeptTellsTakes =
-    (head : Cert) (p : List Cert) (kept : KeptSets) (ski key : List ℕ) (sets : Family → Numbers) →
-    ((f : Family) → StandsFor (λ n. n) (kept_at kept f) (explicit_sets (head ∷ p) f)) →
-    InEach (λ f. CoversKept (λ n. n) head.overclaim (kept_at kept f) (Explicit (sets f)))
+-- The resources of a path tell whether a CA takes it.
+abbrev pub ResourcesTellTakes : Type 0
+ResourcesTellTakes =
+    (head : Cert) (p : List Cert) (resources : PathResources) (ski key : List ℕ)
+    (sets : Family → Numbers) →
+    ((f : Family) → StandsFor (λ n. n) (resources_in resources f) (explicit_sets (head ∷ p) f)) →
+    InEach (λ f.
+    CoversNearest (λ n. n) head.overclaim (resources_in resources f) (Explicit (sets f)))
     ↔ Takes (head ∷ p) (Ca ski key sets)
 
 -- What pairs off to the end, each taking the first that fits, is a pairing.

@@ -1,6 +1,6 @@
 -- Certification paths among carried certificates (RFC 6487, section 7.2; RFC 8360, section 4.2).
 use Rattle.std.specs.Prelude.{◌≡◌, ◌≢◌, List, [], ◌∷◌, Some, map, IsTrue, IsFalse}
-use Rattle.rpki_paths.specs.declared.family.Family.{Family}
+use Rattle.rpki_faults.specs.declared.family.Family.{Family}
 use Rattle.rpki_paths.specs.Cert.{Cert, Numbers, IsSelfSigned, IsIn, NoTwice}
 use Rattle.rpki_paths.specs.Sets.{with_claim, IsCovered}
 

@@ -3,21 +3,21 @@ use Rattle.std.specs.Prelude.{◌≡◌, ℕ, ◌<◌, ◌≤◌, Bool, List, []
 use Rattle.std.specs.Prelude.{IsTrue, IsFalse}
 use Rattle.std.specs.Prelude.{◌⊎◌, ◌↔◌, Some, slice_get}
 use Rattle.rpki_resources.specs.declared.resources.Claim.TheVariants.{Explicit}
-use Rattle.rpki_paths.specs.declared.family.Family.{Family}
+use Rattle.rpki_faults.specs.declared.family.Family.{Family}
 use Rattle.rpki_paths.specs.declared.walker.Path.{Path}
 use Rattle.rpki_paths.specs.declared.supply.Supplied.{Supplied}
 use Rattle.rpki_paths.specs.declared.supply.Supplied.TheVariants.{Tal, Ca}
 use Rattle.rpki_paths.specs.declared.supply.SupplyFault.{SupplyFault}
 use Rattle.rpki_paths.specs.declared.supply.SupplyFault.TheVariants.{NoAnchor, NotCovered, Memory}
 use Rattle.rpki_paths.specs.Cert.{Cert, Numbers}
-use Rattle.rpki_paths.specs.Sets.{CoversKept, IsClimbed}
+use Rattle.rpki_paths.specs.Sets.{CoversNearest, IsWithClaim}
 use Rattle.rpki_paths.specs.Anchor.{Supply, Fits, IsAnchor, supplied_claim}
-use Rattle.rpki_paths.specs.Walk.{kept_at, InEach, FailsFirst}
+use Rattle.rpki_paths.specs.Walk.{resources_in, InEach, FailsFirst}
 
 -- The sets of a CA cover what is kept of a path in the family, where they have to.
 abbrev pub CoversPath : {C : Type 0} → (C → Cert) → Path C → (Family → Numbers) → Family → Type 0
 CoversPath cert path sets f =
-    CoversKept (λ n. n) (cert path.head).overclaim (kept_at path.sets f) (Explicit (sets f))
+    CoversNearest (λ n. n) (cert path.head).overclaim (resources_in path.sets f) (Explicit (sets f))
 
 -- What is kept of a path tells that the supply takes it: where this is a locator, the head is a
 -- trust anchor; where it is a CA, its sets cover what they have to.
@@ -35,8 +35,8 @@ pub record IsTaken {C : Type 0} (cert : C → Cert) (s : Supply) (old new : Path
   pub open_path : IsFalse old.anchored
   pub meant : Fits (cert old.head) s
   pub takes : TakesKept cert old s
-  pub raised : InEach (λ f. IsClimbed (λ n. n) (cert old.head).overclaim
-      (kept_at old.sets f) (supplied_claim s f) (kept_at new.sets f))
+  pub resources : InEach (λ f. IsWithClaim (λ n. n) (cert old.head).overclaim
+      (resources_in old.sets f) (supplied_claim s f) (resources_in new.sets f))
   pub head : new.head ≡ old.head
   pub place : new.place ≡ old.place
   pub anchored : IsTrue new.anchored

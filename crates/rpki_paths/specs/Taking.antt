@@ -6,12 +6,12 @@ use Rattle.rpki_paths.specs.declared.pairs.PairFault.TheVariants.{Unpaired, Left
 use Rattle.rpki_paths.specs.Cert.{IsIn, NoTwice}
 use Rattle.rpki_paths.specs.Pairing.{IsPairing}
 
--- The items that are not marked as taken.
+-- The items that are not taken, where a flag of each says whether it is.
 abbrev pub left_of : {A : Type 0} → List Bool → List A → List A
 left_of [] ys = []
-left_of (taken ∷ marks) [] = []
-left_of (true ∷ marks) (y ∷ ys) = left_of marks ys
-left_of (false ∷ marks) (y ∷ ys) = y ∷ left_of marks ys
+left_of (taken ∷ flags) [] = []
+left_of (true ∷ flags) (y ∷ ys) = left_of flags ys
+left_of (false ∷ flags) (y ∷ ys) = y ∷ left_of flags ys
 
 -- `y` is the first of a list that fits, and `rest` is the list without it.
 pub data IsFirst {A : Type 0} (P : A → Type 0) : A → List A → List A → Type 0 where
@@ -23,7 +23,7 @@ pub data IsFirst {A : Type 0} (P : A → Type 0) : A → List A → List A → T
 abbrev pub FitsNone : {A : Type 0} → (A → Type 0) → List A → Type 0
 FitsNone {A} P ys = (y : A) → IsIn y ys → ¬ (P y)
 
--- The item at this place is the first that fits of those that were left, and its mark alone
+-- The item at this place is the first that fits of those that were left, and its flag alone
 -- changes.
 abbrev pub IsTakenAt : {A : Type 0} → (A → Type 0) → List A → List Bool → List Bool → ℕ → Type 0
 IsTakenAt {A} P ys old new place =

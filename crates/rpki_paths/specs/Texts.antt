@@ -1,7 +1,7 @@
 -- The texts of faults.
 use Rattle.std.specs.Prelude.{ℕ, List, ◌++◌, Option, Some, codes, decimal}
-use Rattle.rpki_paths.specs.declared.family.Family.{Family}
-use Rattle.rpki_paths.specs.declared.family.Family.TheVariants.{As, V4, V6}
+use Rattle.rpki_faults.specs.declared.verification.VerificationError.{VerificationError}
+use Rattle.rpki_faults.specs.Text.Verification.{verification_text}
 use Rattle.rpki_paths.specs.declared.pairs.PairFault.{PairFault}
 use Rattle.rpki_paths.specs.declared.walker.PathFault.{PathFault}
 use Rattle.rpki_paths.specs.declared.walks.WalksFault.{WalksFault}
@@ -9,12 +9,6 @@ use Rattle.rpki_paths.specs.declared.acceptance.AcceptFault.{AcceptFault}
 use Rattle.rpki_paths.specs.declared.supply.SupplyFault.{SupplyFault}
 use Rattle.rpki_paths.specs.declared.decision.FinalFault.{FinalFault}
 use Rattle.rpki_paths.specs.declared.attestation.GrantFault.{GrantFault}
-
--- the text of a family of which more is claimed than the issuer has
-abbrev pub overclaimed_text : Family → List ℕ
-overclaimed_text As = codes "overclaimed AS resources"
-overclaimed_text V4 = codes "overclaimed IPv4 resources"
-overclaimed_text V6 = codes "overclaimed IPv6 resources"
 
 -- The text that says why items cannot be paired.
 abbrev pub pair_text : PairFault → List ℕ
@@ -27,7 +21,7 @@ abbrev pub path_text : PathFault → List ℕ
 path_text PathFault.NoValidIssuer = codes "no valid issuer"
 path_text PathFault.Returns = codes "path returns to its issuer"
 path_text PathFault.Revoked = codes "certificate revoked"
-path_text (PathFault.NotCovered family) = overclaimed_text family
+path_text (PathFault.NotCovered family) = verification_text (VerificationError.Overclaimed family)
 path_text PathFault.Memory = codes "out of memory"
 
 -- The text that says why not all end-entity certificates have paths on which all CAs stand.
@@ -49,7 +43,8 @@ accept_text AcceptFault.Memory = codes "out of memory"
 -- The text that says why a supply ends a call, where own are the texts of a locator's own faults.
 abbrev pub supply_text : {F : Type 0} → (F → Option (List ℕ)) → SupplyFault F → Option (List ℕ)
 supply_text own (SupplyFault.NoAnchor fault) = own fault
-supply_text own (SupplyFault.NotCovered family) = Some (overclaimed_text family)
+supply_text own (SupplyFault.NotCovered family) =
+    Some (verification_text (VerificationError.Overclaimed family))
 supply_text own SupplyFault.Memory = Some (codes "out of memory")
 
 -- The text that says why attested sets are not granted.

@@ -2,10 +2,10 @@
 use Rattle.std.specs.Prelude.{◌≡◌, ◌≢◌, ℕ, ◌<◌, List, [], ◌∷◌, Option, Some, IsTrue}
 use Rattle.std.specs.Prelude.{IsFalse}
 use Rattle.std.specs.Prelude.{slice_get, slice_index, suc, Bool}
-use Rattle.rpki_paths.specs.declared.family.Family.{Family}
-use Rattle.rpki_paths.specs.declared.family.Family.TheVariants.{As, V4, V6}
-use Rattle.rpki_paths.specs.declared.kept.Kept.{Kept}
-use Rattle.rpki_paths.specs.declared.sets.KeptSets.{KeptSets}
+use Rattle.rpki_faults.specs.declared.family.Family.{Family}
+use Rattle.rpki_faults.specs.declared.family.Family.TheVariants.{As, V4, V6}
+use Rattle.rpki_paths.specs.declared.family_resources.FamilyResources.{FamilyResources}
+use Rattle.rpki_paths.specs.declared.path_resources.PathResources.{PathResources}
 use Rattle.rpki_paths.specs.declared.walker.Found.{Found}
 use Rattle.rpki_paths.specs.declared.walker.Found.TheVariants.{NoIssuer, Invalid, Issuer}
 use Rattle.rpki_paths.specs.declared.walker.PathFault.{PathFault}
@@ -15,11 +15,11 @@ use Rattle.rpki_paths.specs.Cert.{Cert, Numbers, IsIn, IsSelfSigned, at_place}
 use Rattle.rpki_paths.specs.Sets.{StandsFor, IsCovered}
 use Rattle.rpki_paths.specs.Path.{IsChain, IsOff, IsPath, IsLinkCovered, explicit_sets}
 
--- What is kept of the explicit sets of a path in one family, of what sets keeps in all three.
-abbrev pub kept_at : KeptSets → Family → Option (Kept Numbers)
-kept_at sets As = sets.asn
-kept_at sets V4 = sets.v4
-kept_at sets V6 = sets.v6
+-- The resources of a path in one family, of those that sets has in all three.
+abbrev pub resources_in : PathResources → Family → Option (FamilyResources Numbers)
+resources_in sets As = sets.asn
+resources_in sets V4 = sets.v4
+resources_in sets V6 = sets.v6
 
 -- P holds in each family.
 abbrev pub InEach : (Family → Type 0) → Type 0
@@ -93,23 +93,25 @@ IsRefused (NotCovered family) cas ee =
     cas ee
 IsRefused Memory cas ee = Unit {0}
 
--- The marks of this number are those of the CAs that stand on the path.
-pub record AreMarked (cas : List Cert) (marks : List ℕ) (turn : ℕ) (p : List Cert) : Type 0 where
-  pub on : (i : ℕ) (d : Cert) → slice_get cas i ≡ Some d → slice_index marks i ≡ turn
+-- The CAs whose number in visited is turn are those that stand on the path.
+pub record AreVisited (cas : List Cert) (visited : List ℕ) (turn : ℕ) (p : List Cert) : Type 0 where
+  pub on : (i : ℕ) (d : Cert) → slice_get cas i ≡ Some d → slice_index visited i ≡ turn
       → ¬ (IsOff d p)
-  pub off : (i : ℕ) (d : Cert) → slice_get cas i ≡ Some d → slice_index marks i ≢ turn → IsOff d p
+  pub off : (i : ℕ) (d : Cert) → slice_get cas i ≡ Some d → slice_index visited i ≢ turn → IsOff d p
 
--- Marks of another number are as they were.
-abbrev pub KeepsMarks : ℕ → List ℕ → List ℕ → Type 0
-KeepsMarks turn old new = (i : ℕ) → slice_index new i ≢ turn → slice_index new i ≡ slice_index old i
+-- Numbers other than turn are as they were.
+abbrev pub KeepsVisited : ℕ → List ℕ → List ℕ → Type 0
+KeepsVisited turn old new =
+    (i : ℕ) → slice_index new i ≢ turn → slice_index new i ≡ slice_index old i
 
 -- A covered path of `ee` with this head, each issuer on it the first that verifies what is below;
--- what is kept stands for it, and its CAs are marked.
-pub record IsWalked (cas : List Cert) (ee head : Cert) (sets : KeptSets) (marks : List ℕ)
+-- the resources stand for it, and its CAs are visited.
+pub record IsWalked (cas : List Cert) (ee head : Cert) (sets : PathResources) (visited : List ℕ)
     (turn : ℕ) : Type 0 where
   pub below : List Cert
   pub path : IsPath cas ee (head ∷ below)
   pub first : AreFirst cas (head ∷ below)
   pub covered : IsLinkCovered (head ∷ below)
-  pub kept : (f : Family) → StandsFor (λ n. n) (kept_at sets f) (explicit_sets (head ∷ below) f)
-  pub marked : AreMarked cas marks turn (head ∷ below)
+  pub stands : (f : Family) →
+      StandsFor (λ n. n) (resources_in sets f) (explicit_sets (head ∷ below) f)
+  pub visits : AreVisited cas visited turn (head ∷ below)

@@ -12,10 +12,10 @@ ghost use Rattle.rpki_paths.specs.Pairing.{Crl, Signer, HasDistinctIds, HasKey, 
 ghost use Rattle.rpki_paths.specs.Taking.{AreAt, AllVerifyEach, AreAllPaired, PairsOff};
 ghost use Rattle.rpki_paths.specs.Texts.{accept_text};
 
-use crate::asked::Asked;
 use crate::certificate::{Certificate, KeyId, Signed};
 use crate::decision::Attested;
 use crate::pairs::{Accepts, PairFault, Seeks, pair_off};
+use crate::verdict_count::VerdictCount;
 use crate::walker::Path;
 use crate::walks::{WalksFault, walk_each};
 use std::alloc::{AllocError, Global};
@@ -149,7 +149,7 @@ impl Seeks<KeyId> for KeyId {
 }
 
 impl<L: Ledger> Accepts<KeyId, L> for KeyId {
-    fn accepts(&self, _other: &KeyId, _asked: &mut Asked<L>) -> bool {
+    fn accepts(&self, _other: &KeyId, _asked: &mut VerdictCount<L>) -> bool {
         true
     }
 }
@@ -212,7 +212,7 @@ fn with_crls<C: CarriedCert<R>, R>(
 fn list_cas<S: CarriedSigner<C>, C: CarriedCert<R> + Accepts<R, L>, R: Copy, L: Ledger>(
     alloc: Global,
     a: &Attestation<S, C, R>,
-    asked: &mut Asked<L>,
+    asked: &mut VerdictCount<L>,
 ) -> Result<Vec<C>, AcceptFault>
     ensures listed { IfOk result (λ cas.
         AreListed C.cert (carried_of S.signer C.cert C.crl a.now) cas.items) }
@@ -235,7 +235,7 @@ fn list_cas<S: CarriedSigner<C>, C: CarriedCert<R> + Accepts<R, L>, R: Copy, L: 
 fn take_keys<S: CarriedSigner<C>, C: CarriedCert<R>, R, L: Ledger>(
     alloc: Global,
     a: &Attestation<S, C, R>,
-    asked: &mut Asked<L>,
+    asked: &mut VerdictCount<L>,
 ) -> Result<(), AcceptFault>
     ensures paired { OnOk result
         (AreAllPaired HasKey (map S.signer a.now.signers.now) a.now.subject_keys.now) }
@@ -254,7 +254,7 @@ fn take_keys<S: CarriedSigner<C>, C: CarriedCert<R>, R, L: Ledger>(
 fn take_ees<S: CarriedSigner<C> + Accepts<C, L>, C: CarriedCert<R>, R, L: Ledger>(
     alloc: Global,
     a: &Attestation<S, C, R>,
-    asked: &mut Asked<L>,
+    asked: &mut VerdictCount<L>,
 ) -> Result<Vec<C>, AcceptFault>
     ensures paired { IfOk result (λ ees. PairsOff IsVerifiedBy
         (map S.signer a.now.signers.now) (map C.cert ees.items) (map C.cert a.now.ees.now) []) }
@@ -280,7 +280,7 @@ fn take_ees<S: CarriedSigner<C> + Accepts<C, L>, C: CarriedCert<R>, R, L: Ledger
 pub fn accept<S, C, R: Copy, L: Ledger>(
     alloc: Global,
     a: &Attestation<S, C, R>,
-    asked: &mut Asked<L>,
+    asked: &mut VerdictCount<L>,
 ) -> Result<Vec<Path<C>>, AcceptFault>
 where
     S: CarriedSigner<C> + Accepts<C, L>,

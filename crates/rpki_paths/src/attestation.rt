@@ -10,11 +10,11 @@ ghost use Rattle.rpki_paths.specs.Supplied.{supply_of, refusal_of};
 ghost use Rattle.rpki_paths.specs.Texts.{grant_text};
 
 use crate::acceptance::{AcceptFault, Attestation, CarriedCert, CarriedSigner, accept};
-use crate::asked::Asked;
 use crate::certificate::{Locator, Signed, SuppliedCa};
 use crate::decision::{FinalFault, finalize};
 use crate::pairs::Accepts;
 use crate::supply::{Supplied, SupplyFault, supply_all};
+use crate::verdict_count::VerdictCount;
 use crate::walker::Path;
 use std::alloc::Global;
 use std::error::Error;
@@ -90,7 +90,7 @@ pub fn grant<S, C, R: Copy, T, U, L: Ledger>(
     alloc: Global,
     a: &Attestation<S, C, R>,
     supplies: &[Supplied<T, U>],
-    asked: &mut Asked<L>,
+    asked: &mut VerdictCount<L>,
 ) -> Result<(), GrantFault<T::Fault>>
 where
     S: CarriedSigner<C> + Accepts<C, L>,

@@ -1,12 +1,12 @@
 //! What a walk asks of a carried certificate.
 
 ghost use Rattle.std.specs.Prelude.{◌≡◌, ◌↔◌, ℕ, ◌+◌, List, IsTrue, IfOk, IfErr};
-ghost use Rattle.rpki_paths.specs.declared.family.Family.{Family};
+ghost use Rattle.rpki_faults.specs.declared.family.Family.{Family};
 ghost use Rattle.rpki_paths.specs.Anchor.{Supply, Fits, IsAnchor};
 ghost use Rattle.rpki_paths.specs.Cert.{Cert, Numbers, IsSelfSigned};
 
-use crate::asked::Asked;
-use crate::overclaim::Overclaim;
+use crate::verdict_count::VerdictCount;
+use rpki_faults::Overclaim;
 use rpki_resources::{AsBlocks, AsResources, IpBlocks, IpResources};
 use std::sync::ledger::Ledger;
 
@@ -56,7 +56,7 @@ pub trait Certificate: Copy {
 /// who knows no more of `L` has no count but the one that is handed in.
 pub trait Signed<L: Ledger>: Certificate {
     /// Whether the key of another verifies its signature: one verdict, which is counted.
-    fn is_signed_by(&self, issuer: &Self, asked: &mut Asked<L>) -> bool
+    fn is_signed_by(&self, issuer: &Self, asked: &mut VerdictCount<L>) -> bool
         ensures says { result ≡ (Self.cert self.now).verifies (Self.cert issuer.now).key }
         ensures counts { asked.new ≡ asked.old + 1 };
 }

@@ -2,13 +2,13 @@
 
 ghost use Rattle.std.specs.Prelude.{◌≡◌, ◌↔◌, ℕ, false, IsTrue, IfOk, OnOk, ◌||◌, Some};
 ghost use Rattle.rpki_resources.specs.Blocks.{holds};
+ghost use Rattle.rpki_faults.specs.declared.family.Family.{Family};
 ghost use Rattle.rpki_paths.specs.declared.decision.FinalFault.{FinalFault};
-ghost use Rattle.rpki_paths.specs.declared.family.Family.{Family};
-ghost use Rattle.rpki_paths.specs.Final.{Decides, all_anchored, attested_sets, kept_has, some_has};
-ghost use Rattle.rpki_paths.specs.Final.{union_has};
+ghost use Rattle.rpki_paths.specs.Final.{Decides, all_anchored, attested_sets, family_has};
+ghost use Rattle.rpki_paths.specs.Final.{some_has, union_has};
 ghost use Rattle.rpki_paths.specs.Texts.{final_text};
 
-use crate::kept::Kept;
+use crate::family_resources::FamilyResources;
 use crate::walker::Path;
 use rpki_resources::{Addr, AsBlocks, Asn, Blocks, BlocksBuilder, IpBlocks, Number};
 use std::alloc::{AllocError, Global};
@@ -79,12 +79,12 @@ impl<T: Number> Union<T> {
     }
 
     // Adds the numbers of a path.
-    fn add(&mut self, kept: &Option<Kept<Blocks<T>>>) -> Result<(), AllocError>
+    fn add(&mut self, resources: &Option<FamilyResources<Blocks<T>>>) -> Result<(), AllocError>
         ensures { OnOk result ((n : ℕ) → union_has T.number self.new n
-            ≡ (union_has T.number self.old n || kept_has T.number kept.now n)) }
+            ≡ (union_has T.number self.old n || family_has T.number resources.now n)) }
     {
-        match kept {
-            Some(kept) => self.numbers.push_set(&kept.met),
+        match resources {
+            Some(resources) => self.numbers.push_set(&resources.met),
             None => {
                 self.is_known = false;
                 Ok(())

@@ -1,6 +1,6 @@
 //! What the definitions say: laws, as functions that do nothing.
 
-ghost use Rattle.rpki_paths.specs.Laws.{ClimbKeepsMeet, AnchoredIsPathSet, AnchoredIsKnown};
+ghost use Rattle.rpki_paths.specs.Laws.{IssuerKeepsMeet, AnchoredIsPathSet, AnchoredIsKnown};
 ghost use Rattle.rpki_paths.specs.Laws.{PathSetIsWithinEach, PathsAreUnique, PathsAreShort};
 ghost use Rattle.rpki_paths.specs.Laws.{AnyChoicePairs, WhatFitsIsAlike, CrlsAreUnique};
 ghost use Rattle.rpki_paths.specs.Laws.{PathsAreThose, AcceptanceIsDecided, GrantIsDecided};
@@ -14,7 +14,7 @@ ghost use Rattle.rpki_paths.specs.Laws.{RefusedHasNoPaths};
 ghost use Rattle.rpki_paths.specs.Laws.{PairsAlongMap, PlacedAreAuthorities};
 ghost use Rattle.rpki_paths.specs.Laws.{UnmatchedIsNotAccepted};
 ghost use Rattle.rpki_paths.specs.Laws.{RefusalIsRight};
-ghost use Rattle.rpki_paths.specs.Laws.{KeptTellsTakes, FirstFitsArePairing};
+ghost use Rattle.rpki_paths.specs.Laws.{ResourcesTellTakes, FirstFitsArePairing};
 ghost use Rattle.rpki_paths.specs.Laws.{FirstFitsFindPairing, MatchingIsCheap, VerdictsAreFew};
 ghost use Rattle.rpki_paths.specs.Laws.{EachKeepsSome, AllKeepSome, KeptIsKeptBySome};
 ghost use Rattle.rpki_paths.specs.Laws.{YesAfterRefusals};
@@ -27,12 +27,12 @@ use crate::certificate::{Certificate, Locator, SuppliedCa};
 use crate::pairs::Seeks;
 use rpki_resources::Number;
 
-/// One issuer more on a covered path keeps what is kept right.
-pub fn climb_keeps_meet<T: Number>()
-    ensures { ClimbKeepsMeet T.number }
+/// With one issuer more on a covered path its resources stand for its sets as before.
+pub fn issuer_keeps_meet<T: Number>()
+    ensures { IssuerKeepsMeet T.number }
 {}
 
-/// What is kept of an anchored path stands for its set.
+/// The resources of an anchored path stand for its set.
 pub fn anchored_is_path_set()
     ensures { AnchoredIsPathSet }
 {}
@@ -184,9 +184,9 @@ pub fn yes_after_refusals<C: Certificate, T: Locator<C>, S: SuppliedCa<C>>()
     ensures { YesAfterRefusals C.cert (supply_of T.key S.ski S.key S.sets) (refusal_of T.refuses) }
 {}
 
-/// What is kept of a path tells whether a supplied CA takes it.
-pub fn kept_tells_takes()
-    ensures { KeptTellsTakes }
+/// The resources of a path tell whether a supplied CA takes it.
+pub fn resources_tell_takes()
+    ensures { ResourcesTellTakes }
 {}
 
 /// What pairs off, each taking the first that fits, is a pairing.

@@ -3,32 +3,30 @@
 #![tactic(auto)]
 
 mod acceptance;
-mod asked;
 mod attestation;
 mod certificate;
 mod decision;
-mod family;
-mod kept;
+mod family_resources;
+mod key_id_index;
 pub mod laws;
-mod overclaim;
 mod pairs;
-mod places;
-mod sets;
+mod path_resources;
 mod supply;
+mod verdict_count;
 mod walker;
 mod walks;
 
 pub use acceptance::{AcceptFault, Attestation, CarriedCert, CarriedSigner, accept};
-pub use asked::Asked;
 pub use attestation::{GrantFault, grant};
 pub use certificate::{Certificate, KeyId, Locator, Signed, SuppliedCa};
 pub use decision::{Attested, FinalFault, finalize};
-pub use family::Family;
-pub use kept::{Kept, climbed, covers_kept, raised, set_covers_kept};
-pub use overclaim::Overclaim;
+pub use family_resources::{
+    FamilyResources, covers_nearest, set_covers_nearest, with_issuer, with_supplied_ca,
+};
+pub use key_id_index::KeyIdIndex;
 pub use pairs::{Accepts, PairFault, Seeks, pair_off, take_first};
-pub use places::Places;
-pub use sets::KeptSets;
+pub use path_resources::PathResources;
 pub use supply::{Supplied, SupplyFault, supply_all, supply_each};
+pub use verdict_count::VerdictCount;
 pub use walker::{Path, PathFault, walk};
 pub use walks::{WalksFault, walk_each};

@@ -9,9 +9,9 @@ ghost use Rattle.rpki_paths.specs.Pairing.{IsPair};
 ghost use Rattle.rpki_paths.specs.Taking.{AllVerify, AllVerifyEach, ArePaired, AreUnpaired};
 ghost use Rattle.rpki_paths.specs.Texts.{pair_text};
 
-use crate::asked::Asked;
 use crate::certificate::KeyId;
-use crate::places::Places;
+use crate::key_id_index::KeyIdIndex;
+use crate::verdict_count::VerdictCount;
 use std::alloc::{AllocError, Global};
 use std::error::Error;
 use std::fmt;
@@ -47,7 +47,7 @@ pub trait Seeks<Y> {
 /// other.
 pub trait Accepts<Y, L: Ledger>: Seeks<Y> {
     /// The verdict on the two.
-    fn accepts(&self, other: &Y, asked: &mut Asked<L>) -> bool
+    fn accepts(&self, other: &Y, asked: &mut VerdictCount<L>) -> bool
         ensures says { result ≡ Self.verdict self.now other.now }
         ensures counts { asked.new ≡ asked.old + Self.price };
 }
@@ -90,7 +90,7 @@ fn accepts_left<X: Accepts<Y, L>, Y, L: Ledger>(
     taker: &X,
     other: &Y,
     is_taken: bool,
-    asked: &mut Asked<L>,
+    asked: &mut VerdictCount<L>,
 ) -> bool
     ensures yes { IsTrue result → IsTrue (X.verdict taker.now other.now) }
     ensures left { IsTrue result → IsFalse is_taken }
@@ -105,13 +105,13 @@ fn accepts_left<X: Accepts<Y, L>, Y, L: Ledger>(
 }
 
 /// Takes the first of some others that fits and is left, and answers its place. The index has the
-/// others' identifiers, and a mark stands for each of them: whether it is taken.
+/// others' identifiers, and `taken` says of each of them whether it is taken.
 pub fn take_first<X: Accepts<Y, L>, Y, L: Ledger>(
     taker: &X,
     others: &[Y],
-    index: &Places,
+    index: &KeyIdIndex,
     taken: &mut [bool],
-    asked: &mut Asked<L>,
+    asked: &mut VerdictCount<L>,
 ) -> Option<usize>
     requires index { IsIndex (map X.held others.now) index.now }
     requires as_many { length taken.old ≡ length others.now }
@@ -163,7 +163,7 @@ pub fn pair_off<X: Accepts<Y, L>, Y, L: Ledger>(
     alloc: Global,
     takers: &[X],
     others: &[Y],
-    asked: &mut Asked<L>,
+    asked: &mut VerdictCount<L>,
 ) -> Result<Vec<usize>, PairFault>
     ensures paired { IfOk result (λ places.
         ArePaired (IsPair X.sought X.held X.verdict) takers.now others.now places.items) }
@@ -174,7 +174,7 @@ pub fn pair_off<X: Accepts<Y, L>, Y, L: Ledger>(
         asked.new ≤ asked.old + X.price * length takers.now) }
 {
     let ids = identifiers::<X, Y>(alloc, others)?;
-    let index = Places::of(alloc, &ids)?;
+    let index = KeyIdIndex::of(alloc, &ids)?;
     let mut taken = vec![in alloc; false; others.len()]?;
     let mut places = Vec::new(alloc);
     for i in 0..takers.len() {

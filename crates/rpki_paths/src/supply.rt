@@ -9,8 +9,8 @@ ghost use Rattle.rpki_paths.specs.Supplied.{refusal_of};
 ghost use Rattle.rpki_paths.specs.Texts.{supply_text};
 
 use crate::certificate::{Certificate, Locator, SuppliedCa};
-use crate::family::Family;
 use crate::walker::Path;
+use rpki_faults::{Family, VerificationError};
 use std::alloc::AllocError;
 use std::error::Error;
 use std::fmt;
@@ -40,7 +40,7 @@ impl<F: fmt::Display> fmt::Display for SupplyFault<F> {
     fn fmt<W: fmt::Write>(&self, f: &mut fmt::Formatter<W>) -> fmt::Result {
         match self {
             SupplyFault::NoAnchor(fault) => fault.fmt(f),
-            SupplyFault::NotCovered(family) => f.write_str(family.overclaimed()),
+            SupplyFault::NotCovered(family) => VerificationError::Overclaimed(*family).fmt(f),
             SupplyFault::Memory => f.write_str("out of memory"),
         }
     }
@@ -96,7 +96,7 @@ impl<C: Certificate> Path<C> {
         if let Some(family) = self.sets.exceeding(overclaim, ca) {
             return Err(SupplyFault::NotCovered(family));
         }
-        self.sets = self.sets.raised(overclaim, ca)?;
+        self.sets = self.sets.with_supplied_ca(overclaim, ca)?;
         self.anchored = true;
         Ok(true)
     }

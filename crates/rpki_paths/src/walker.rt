@@ -9,32 +9,32 @@ ghost use Rattle.rpki_paths.specs.Index.{IsIndex, IsNamedBy};
 ghost use Rattle.rpki_paths.specs.Path.{IsDistinct};
 ghost use Rattle.rpki_paths.specs.Walk.{FoundSays, IsRefused, IsWalked};
 ghost use Rattle.rpki_paths.specs.Cert.{at_place};
-ghost use Rattle.rpki_paths.specs.Walk.{KeepsMarks, placed};
+ghost use Rattle.rpki_paths.specs.Walk.{KeepsVisited, placed};
 ghost use Rattle.rpki_paths.specs.Texts.{path_text};
 
-use crate::asked::Asked;
 use crate::certificate::Signed;
-use crate::family::Family;
-use crate::places::Places;
-use crate::sets::KeptSets;
+use crate::key_id_index::KeyIdIndex;
+use crate::path_resources::PathResources;
+use crate::verdict_count::VerdictCount;
+use rpki_faults::{Family, VerificationError};
 use std::alloc::{AllocError, Global};
 use std::error::Error;
 use std::fmt;
 use std::sync::ledger::Ledger;
 
 /// The head of a path, its place (0 for the end-entity certificate, else one more than the CA's
-/// index), what is kept of the explicit sets, and whether the path is anchored.
+/// index), the resources of the path, and whether it is anchored.
 #[derive(Drop)]
 pub struct Path<C> {
     pub head: C,
     pub place: usize,
-    pub sets: KeptSets,
+    pub sets: PathResources,
     pub anchored: bool,
 }
 
 impl<C: Drop> Path<C> {
     // A path up to this head, which is not anchored.
-    fn up_to(head: C, place: usize, sets: KeptSets) -> Path<C>
+    fn up_to(head: C, place: usize, sets: PathResources) -> Path<C>
         ensures head { result.head ≡ head }
         ensures place { result.place ≡ place }
         ensures sets { result.sets ≡ sets }
@@ -80,7 +80,7 @@ impl fmt::Display for PathFault {
             PathFault::NoValidIssuer => f.write_str("no valid issuer"),
             PathFault::Returns => f.write_str("path returns to its issuer"),
             PathFault::Revoked => f.write_str("certificate revoked"),
-            PathFault::NotCovered(family) => f.write_str(family.overclaimed()),
+            PathFault::NotCovered(family) => VerificationError::Overclaimed(*family).fmt(f),
             PathFault::Memory => f.write_str("out of memory"),
         }
     }
@@ -104,7 +104,7 @@ fn find_issuer<C: Signed<L>, L: Ledger>(
     cert: &C,
     cas: &[C],
     named: &[usize],
-    asked: &mut Asked<L>,
+    asked: &mut VerdictCount<L>,
 ) -> Found
     requires { IsNamedBy (map (λ c. (C.cert c).ski) cas.now) (C.cert cert.now).aki named.now }
     ensures says { FoundSays (placed C.cert 1 cas.now) (C.cert cert.now).aki
@@ -131,36 +131,36 @@ fn find_issuer<C: Signed<L>, L: Ledger>(
 
 /// Walks from an end-entity certificate up to the top: to a head that is self-signed, or that names
 /// no carried CA. Each issuer is the first of those named whose key verifies what is below. The
-/// index has the CAs' subject key identifiers. A mark stands for each CA: the number of the walk
-/// that last took it. An error is the first cause, of the certificate where the walk stops, in the
-/// order of `PathFault`, or want of memory.
+/// index has the CAs' subject key identifiers. For each CA `visited` has the number of the walk
+/// that last took it; `turn` is that of this one. An error is the first cause, of the certificate
+/// where the walk stops, in the order of `PathFault`, or want of memory.
 pub fn walk<C: Signed<L>, L: Ledger>(
     alloc: Global,
     ee: &C,
     cas: &[C],
-    index: &Places,
-    marks: &mut [u64],
+    index: &KeyIdIndex,
+    visited: &mut [u64],
     turn: u64,
-    asked: &mut Asked<L>,
+    asked: &mut VerdictCount<L>,
 ) -> Result<Path<C>, PathFault>
     requires index { IsIndex (map (λ c. (C.cert c).ski) cas.now) index.now }
-    requires as_many { length marks.old ≡ length cas.now }
-    requires fresh { (k : ℕ) → k < length marks.old → slice_index marks.old k ≢ turn }
+    requires as_many { length visited.old ≡ length cas.now }
+    requires fresh { (k : ℕ) → k < length visited.old → slice_index visited.old k ≢ turn }
     ensures path { IfOk result (λ path. IsWalked (placed C.cert 1 cas.now)
         (at_place 0 (C.cert ee.now)) (at_place path.place (C.cert path.head))
-        path.sets marks.new turn) }
+        path.sets visited.new turn) }
     ensures not_anchored { IfOk result (λ path. IsFalse path.anchored) }
     ensures refused { IfErr result (λ fault.
         IsRefused fault (placed C.cert 1 cas.now) (at_place 0 (C.cert ee.now))) }
-    ensures as_many { length marks.new ≡ length marks.old }
-    ensures others { KeepsMarks turn marks.old marks.new }
+    ensures as_many { length visited.new ≡ length visited.old }
+    ensures others { KeepsVisited turn visited.old visited.new }
     ensures cost { OnOk result (IsDistinct (placed C.cert 1 cas.now) →
         asked.new ≤ asked.old + length cas.now) }
 {
     let mut head = *ee;
     let mut place: usize = 0;
-    let mut sets = KeptSets::none().climbed(alloc, ee.overclaim(), ee)?;
-    for step in 0..marks.len() + 1 {
+    let mut sets = PathResources::none().with_issuer(alloc, ee.overclaim(), ee)?;
+    for step in 0..visited.len() + 1 {
         if head.is_self_signed() {
             return Ok(Path::up_to(head, place, sets));
         }
@@ -173,7 +173,7 @@ pub fn walk<C: Signed<L>, L: Ledger>(
             }
             Found::Issuer(i) => {
                 let ca = &cas[i];
-                if marks[i] == turn {
+                if visited[i] == turn {
                     return Err(PathFault::Returns);
                 }
                 if ca.revokes(&head) {
@@ -184,8 +184,8 @@ pub fn walk<C: Signed<L>, L: Ledger>(
                         return Err(PathFault::NotCovered(family));
                     }
                     None => {
-                        sets = sets.climbed(alloc, head.overclaim(), ca)?;
-                        marks[i] = turn;
+                        sets = sets.with_issuer(alloc, head.overclaim(), ca)?;
+                        visited[i] = turn;
                         head = *ca;
                         place = i + 1;
                     }

@@ -9,10 +9,10 @@ ghost use Rattle.rpki_paths.specs.Path.{IsDistinct};
 ghost use Rattle.rpki_paths.specs.Walk.{placed};
 ghost use Rattle.rpki_paths.specs.Texts.{walks_text};
 
-use crate::asked::Asked;
 use crate::certificate::{Certificate, KeyId, Signed};
+use crate::key_id_index::KeyIdIndex;
 use crate::pairs::append;
-use crate::places::Places;
+use crate::verdict_count::VerdictCount;
 use crate::walker::{Path, PathFault, walk};
 use std::alloc::{AllocError, Global};
 use std::error::Error;
@@ -79,17 +79,17 @@ fn subjects<C: Certificate>(alloc: Global, certs: &[C]) -> Result<Vec<KeyId>, Al
     Ok(ids)
 }
 
-// The place of the first mark that is 0, or how many marks there are.
-fn unmarked(marks: &[u64]) -> usize
-    ensures before { (k : ℕ) → k < result → slice_index marks.now k ≢ 0 }
-    ensures found { result < length marks.now → slice_index marks.now result ≡ 0 }
+// The place of the first CA that no walk has visited, whose number is 0, or how many CAs there are.
+fn first_unvisited(visited: &[u64]) -> usize
+    ensures before { (k : ℕ) → k < result → slice_index visited.now k ≢ 0 }
+    ensures found { result < length visited.now → slice_index visited.now result ≡ 0 }
 {
-    for (i, mark) in marks.iter().enumerate() {
-        if *mark == 0 {
+    for (i, turn) in visited.iter().enumerate() {
+        if *turn == 0 {
             return i;
         }
     }
-    marks.len()
+    visited.len()
 }
 
 /// Walks from each of some end-entity certificates up the CAs, in order. The first walk that is
@@ -101,7 +101,7 @@ pub fn walk_each<C: Signed<L>, L: Ledger>(
     alloc: Global,
     ees: &[C],
     cas: &[C],
-    asked: &mut Asked<L>,
+    asked: &mut VerdictCount<L>,
 ) -> Result<Vec<Path<C>>, WalksFault>
     ensures paths { IfOk result (λ paths.
         AreWalked C.cert (placed C.cert 1 cas.now) (map C.cert ees.now) paths.items) }
@@ -111,17 +111,17 @@ pub fn walk_each<C: Signed<L>, L: Ledger>(
         asked.new ≤ asked.old + length ees.now * length cas.now) }
 {
     let ids = subjects(alloc, cas)?;
-    let index = Places::of(alloc, &ids)?;
-    let mut marks = vec![in alloc; 0u64; cas.len()]?;
+    let index = KeyIdIndex::of(alloc, &ids)?;
+    let mut visited = vec![in alloc; 0u64; cas.len()]?;
     let mut paths = Vec::new(alloc);
     for i in 0..ees.len() {
         let turn = i as u64 + 1;
-        match walk(alloc, &ees[i], cas, &index, &mut marks, turn, asked) {
+        match walk(alloc, &ees[i], cas, &index, &mut visited, turn, asked) {
             Ok(path) => append(&mut paths, path)?,
             Err(fault) => return Err(WalksFault::from_path(fault)),
         }
     }
-    let place = unmarked(marks.as_slice());
+    let place = first_unvisited(visited.as_slice());
     if place < cas.len() {
         return Err(WalksFault::Unused(place));
     }

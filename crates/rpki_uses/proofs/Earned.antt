@@ -1,6 +1,6 @@
 -- What walks earn under supplies.
 use Rattle.std.specs.Prelude.{List, [], map, Ok}
-use Rattle.rpki_paths.specs.declared.family.Family.{Family}
+use Rattle.rpki_faults.specs.declared.family.Family.{Family}
 use Rattle.rpki_paths.specs.declared.walker.Path.{Path}
 use Rattle.rpki_paths.specs.Anchor.{Supply}
 use Rattle.rpki_paths.specs.Cert.{Cert, Numbers}

@@ -17,9 +17,9 @@ ghost use Rattle.rpki_paths.specs.Walk.{placed};
 
 use rpki_paths::laws::{all_are_kept, final_is_decided};
 use rpki_paths::{
-    AcceptFault, Accepts, Asked, Attestation, Attested, CarriedCert, CarriedSigner, Certificate,
+    AcceptFault, Accepts, Attestation, Attested, CarriedCert, CarriedSigner, Certificate,
     FinalFault, GrantFault, Locator, PairFault, Path, Signed, Supplied, SuppliedCa, SupplyFault,
-    WalksFault, finalize, grant, supply_all, walk_each,
+    VerdictCount, WalksFault, finalize, grant, supply_all, walk_each,
 };
 use std::alloc::{AllocError, Global};
 use std::sync::ledger::Ledger;
@@ -101,7 +101,7 @@ pub fn is_granted<S, C, R: Copy, T, U, L: Ledger>(
     alloc: Global,
     a: &Attestation<S, C, R>,
     supplies: &[Supplied<T, U>],
-    asked: &mut Asked<L>,
+    asked: &mut VerdictCount<L>,
 ) -> Result<bool, AllocError>
 where
     S: CarriedSigner<C> + Accepts<C, L>,
@@ -167,7 +167,7 @@ pub fn are_earned<C: Signed<L>, T, U, L: Ledger>(
     cas: &[C],
     supplies: &[Supplied<T, U>],
     attested: &Attested,
-    asked: &mut Asked<L>,
+    asked: &mut VerdictCount<L>,
 ) -> Result<bool, AllocError>
 where
     T: Locator<C>,

@@ -5,7 +5,7 @@ ghost use Rattle.rpki_paths.specs.Pairing.{AreAlike, IsPairable};
 ghost use Rattle.rpki_paths.specs.Pairing.{IsPair};
 
 use rpki_paths::laws::unpaired_is_unpairable;
-use rpki_paths::{Accepts, Asked, PairFault, pair_off};
+use rpki_paths::{Accepts, PairFault, VerdictCount, pair_off};
 use std::alloc::{AllocError, Global};
 use std::sync::ledger::Ledger;
 
@@ -16,7 +16,7 @@ pub fn are_paired<X: Accepts<Y, L>, Y, L: Ledger>(
     alloc: Global,
     takers: &[X],
     others: &[Y],
-    asked: &mut Asked<L>,
+    asked: &mut VerdictCount<L>,
 ) -> Result<bool, AllocError>
     ensures yes { IfOk result (λ yes. IsTrue yes →
         IsPairable (IsPair X.sought X.held X.verdict) takers.now others.now) }

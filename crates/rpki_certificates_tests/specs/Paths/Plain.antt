@@ -1,8 +1,8 @@
 -- The claims of a certificate, and why one is no trust anchor.
 use Rattle.std.specs.Prelude.{◌≡◌, Bool, IsTrue, IsFalse}
 use Rattle.rpki_resources.specs.declared.resources.Claim.{Claim}
-use Rattle.rpki_paths.specs.declared.family.Family.{Family}
-use Rattle.rpki_paths.specs.declared.family.Family.TheVariants.{As, V4, V6}
+use Rattle.rpki_faults.specs.declared.family.Family.{Family}
+use Rattle.rpki_faults.specs.declared.family.Family.TheVariants.{As, V4, V6}
 use Rattle.rpki_paths.specs.Cert.{Numbers}
 
 -- The claim of each family.

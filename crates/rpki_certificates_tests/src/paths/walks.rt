@@ -3,9 +3,10 @@
 ghost use Rattle.std.specs.Prelude.{◌≡◌, ◌<◌};
 
 use super::plain::{Above, NoAnchor, Plain, Root, Seen, as_set, id, ip_set};
+use rpki_faults::{Family, Overclaim};
 use rpki_paths::{
-    Asked, Attested, Certificate, Family, FinalFault, KeptSets, KeyId, Overclaim, Path, PathFault,
-    Supplied, SupplyFault, WalksFault, finalize, supply_all, supply_each, walk_each,
+    Attested, Certificate, FinalFault, KeyId, Path, PathFault, PathResources, Supplied,
+    SupplyFault, VerdictCount, WalksFault, finalize, supply_all, supply_each, walk_each,
 };
 use rpki_resources::{AsResources, IpResources};
 use std::alloc::{AllocError, Global};
@@ -222,7 +223,7 @@ fn answer_of<L: Ledger>(
     let cas = plains(alloc, family, cas)?;
     let ees = seen(alloc, &ees)?;
     let cas = seen(alloc, &cas)?;
-    let mut asked = Asked::<L>::new(blank);
+    let mut asked = VerdictCount::<L>::new(blank);
     match walk_each(alloc, &ees, &cas, &mut asked) {
         Ok(mut paths) => decided(alloc, family, &mut paths, given, attested),
         Err(WalksFault::Memory) => Err(AllocError),
@@ -586,7 +587,7 @@ fn walks_and_supplies(rt: HostRuntime) -> Result<(), AllocError> {
 
 /// The path of a certificate alone.
 fn alone<'a>(alloc: Global, head: Seen<'a>) -> Result<Path<Seen<'a>>, AllocError> {
-    let sets = KeptSets::none().climbed(alloc, head.overclaim(), &head)?;
+    let sets = PathResources::none().with_issuer(alloc, head.overclaim(), &head)?;
     Ok(Path {
         head,
         place: 0,

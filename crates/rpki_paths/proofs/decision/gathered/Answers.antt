@@ -1,5 +1,5 @@
 -- The numbers of one path more are gathered.
-use Rattle.rpki_paths.specs.declared.family.Family.TheVariants.{As, V4, V6}
+use Rattle.rpki_faults.specs.declared.family.Family.TheVariants.{As, V4, V6}
 use Rattle.rpki_paths.proofs.Finals.{has-more}
 use Rattle.rpki_paths.proofs.decision.gathered.Goals as goal
 

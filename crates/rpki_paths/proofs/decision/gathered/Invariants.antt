@@ -1,6 +1,6 @@
 -- The numbers of the paths so far are gathered.
 use Rattle.std.proofs.Common.{◌≡◌, ℕ, take}
-use Rattle.rpki_paths.specs.declared.family.Family.TheVariants.{As, V4, V6}
+use Rattle.rpki_faults.specs.declared.family.Family.TheVariants.{As, V4, V6}
 use Rattle.rpki_paths.specs.Final.{some_has, union_has}
 use Rattle.rpki_paths.proofs.decision.gathered.Given as goal
 

@@ -43,14 +43,14 @@ returns-then-accepts_left-clause-first g c =
     c.in-Some.ensures.cases.0 in
     let lt : i < length others =
     omega (arith, taking-within _ _ _ _ _ i _ _ _ w, length-map others held) in
-    let lt_marks : i < length c.loop-first.taken =
+    let lt_taken : i < length c.loop-first.taken =
     omega (arith, lt, c.requires.as_many, ap length c.loop-first.invariant.0) in
     let at_i = slice_get_read others (length others) i _ refl lt c.index-others-place.is in
-    let mark = slice_get-get_or c.loop-first.taken i false lt_marks
+    let flag = slice_get-get_or c.loop-first.taken i false lt_taken
     ∙ ap Some (c.accepts_left.ensures.left c.if-accepts_left.true) in
     subst (λ old. IsTakenAt (IsFit held id verdict others c.loop-first.taken) others old
     (set c.loop-first.taken i true) i) c.loop-first.invariant.0
-    (taking-found held id verdict others c.loop-first.taken i _ _ _ _ w at_i mark
+    (taking-found held id verdict others c.loop-first.taken i _ _ _ _ w at_i flag
     (c.accepts_left.ensures.yes c.if-accepts_left.true))
 
 pub loop-first-preserved : goal.loop-first-preserved
@@ -64,12 +64,12 @@ loop-first-preserved g c =
     c.in-Some.ensures.cases.0 in
     let lt : i < length others =
     omega (arith, taking-within _ _ _ _ _ i _ _ _ w, length-map others held) in
-    let lt_marks : i < length c.loop-first.taken =
+    let lt_taken : i < length c.loop-first.taken =
     omega (arith, lt, c.requires.as_many, ap length c.loop-first.invariant.0) in
     let at_i = slice_get_read others (length others) i _ refl lt c.index-others-place.is in
-    let mark = slice_get-get_or c.loop-first.taken i false lt_marks in (
+    let flag = slice_get-get_or c.loop-first.taken i false lt_taken in (
       c.loop-first.invariant.0,
-      taking-more held id verdict others c.loop-first.taken i _ _ _ _ _ _ w at_i mark
+      taking-more held id verdict others c.loop-first.taken i _ _ _ _ _ _ w at_i flag
           (c.accepts_left.ensures.refused c.if-accepts_left.false)
           c.accepts_left.ensures.taken,
     )

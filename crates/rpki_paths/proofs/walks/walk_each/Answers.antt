@@ -6,7 +6,7 @@ use Rattle.std.specs.Prelude.{slice_index}
 use Rattle.std.proofs.lemmas.Option.{slice_get_read}
 use Rattle.std.proofs.lemmas.List.{take_more, take_all, length-replicate}
 use Rattle.rpki_paths.specs.Index.{IsIndex}
-use Rattle.rpki_paths.specs.Walk.{placed, KeepsMarks}
+use Rattle.rpki_paths.specs.Walk.{placed, KeepsVisited}
 use Rattle.rpki_paths.specs.Kept.{AreRefused}
 use Rattle.rpki_paths.proofs.PairingOff.{written-back, split-at}
 use Rattle.rpki_paths.proofs.Walking.{length-placed}
@@ -16,7 +16,7 @@ use Rattle.rpki_paths.proofs.walks.walk_each.Goals as goal
 
 pub loop-i-init : goal.loop-i-init
 loop-i-init g c =
-    let none = c.in_ok-marks.ensures.items_if_clones_equal (λ y e. e) in (
+    let none = c.in_ok-visited.ensures.items_if_clones_equal (λ y e. e) in (
       ap length none ∙ length-replicate (length c.args.cas.now) _,
       each-none g.C.Certificate.cert (placed g.C.Certificate.cert 1 c.args.cas.now) _ _ _
           (length c.args.cas.now) refl c.new-paths.ensures.items none,
@@ -33,7 +33,7 @@ walk-requires-clause-fresh g c =
     subst (λ m. (k : ℕ) → k < length m → ¬ (slice_index m k ≡ c.loop-i.i + 1))
     (sym c.deref_mut.ensures.value)
     (λ k lt. each-fresh g.C.Certificate.cert (placed g.C.Certificate.cert 1 c.args.cas.now)
-    (take c.loop-i.i c.args.ees.now) c.loop-i.paths.items c.loop-i.marks.items c.loop-i.i
+    (take c.loop-i.i c.args.ees.now) c.loop-i.paths.items c.loop-i.visited.items c.loop-i.i
     c.loop-i.invariant.1 k)
 
 pub returns-in-Err-clause-refused : goal.returns-in-Err-clause-refused
@@ -45,7 +45,7 @@ returns-in-Err-clause-refused g c =
     let at_i = slice_get_read ees (length ees) i _ refl c.loop-i-test.true c.index-ees-i.is in
     let parts = split-at ees i c.index-ees-i.result at_i in
     subst (λ f. AreRefused f cas (map cert ees)) (sym c.from_path.ensures)
-    (each-refused cert cas (take i ees) c.loop-i.paths.items c.loop-i.marks.items i
+    (each-refused cert cas (take i ees) c.loop-i.paths.items c.loop-i.visited.items i
     c.loop-i.invariant.1 ees c.index-ees-i.result parts.0 parts.1 c.in-Err.fault
     c.in-Err.ensures.refused)
 
@@ -56,15 +56,15 @@ loop-i-preserved g c =
     let ees = c.args.ees.now in
     let i = c.loop-i.i in
     let e = c.index-ees-i.result in
-    let old = c.loop-i.marks.items in
-    let new = c.walk.new.marks in
+    let old = c.loop-i.visited.items in
+    let new = c.walk.new.visited in
     let as_many : length new ≡ length old =
     c.in-Ok.ensures.as_many ∙ ap length c.deref_mut.ensures.value in
-    let back = written-back c.loop-i.marks.len new old as_many
-    (omega (arith, as_many, c.loop-i.marks.ok.0)) in
+    let back = written-back c.loop-i.visited.len new old as_many
+    (omega (arith, as_many, c.loop-i.visited.ok.0)) in
     let one_more = take_more ees i e c.loop-i-test.true
     ∙ ap (λ z. take i ees ++ z ∷ []) (sym c.index-ees-i.is) in
-    let keeps = subst (λ m. KeepsMarks (i + 1) m new) c.deref_mut.ensures.value
+    let keeps = subst (λ m. KeepsVisited (i + 1) m new) c.deref_mut.ensures.value
     c.in-Ok.ensures.others in (
       ap length back ∙ as_many ∙ c.loop-i.invariant.0,
       subst (λ m. IsWalkingEach cert cas (take (i + 1) ees) c.append.new.items.items m (i + 1))
@@ -84,27 +84,27 @@ returns-then-place-cas-clause-refused g c =
     let cert = g.C.Certificate.cert in
     let cas = placed cert 1 c.args.cas.now in
     let i = c.loop-i.i in
-    let place = c.unmarked-place.result in
-    let value : c.as_slice.result.now ≡ c.loop-i.marks.items = c.as_slice.ensures.value in
-    each-unused cert cas (take i c.args.ees.now) c.loop-i.paths.items c.loop-i.marks.items i
+    let place = c.first_unvisited-place.result in
+    let value : c.as_slice.result.now ≡ c.loop-i.visited.items = c.as_slice.ensures.value in
+    each-unused cert cas (take i c.args.ees.now) c.loop-i.paths.items c.loop-i.visited.items i
     c.loop-i.invariant.1 c.args.ees.now place
     (take_all i c.args.ees.now (omega (arith, c.loop-i-test.false)))
     (omega (arith, c.if-place-cas.true, length-placed cert 1 c.args.cas.now))
     (sym (ap (λ m. slice_index m place) value)
-    ∙ c.unmarked-place.ensures.found
+    ∙ c.first_unvisited-place.ensures.found
     (omega (arith, c.if-place-cas.true, ap length value, c.loop-i.invariant.0)))
-    (λ k lt e. c.unmarked-place.ensures.before k lt (ap (λ m. slice_index m k) value ∙ e))
+    (λ k lt e. c.first_unvisited-place.ensures.before k lt (ap (λ m. slice_index m k) value ∙ e))
 
 pub returns-clause-paths : goal.returns-clause-paths
 returns-clause-paths g c =
     let cert = g.C.Certificate.cert in
     let cas = placed cert 1 c.args.cas.now in
     let i = c.loop-i.i in
-    let value : c.as_slice.result.now ≡ c.loop-i.marks.items = c.as_slice.ensures.value in
-    each-done cert cas (take i c.args.ees.now) c.loop-i.paths.items c.loop-i.marks.items i
+    let value : c.as_slice.result.now ≡ c.loop-i.visited.items = c.as_slice.ensures.value in
+    each-done cert cas (take i c.args.ees.now) c.loop-i.paths.items c.loop-i.visited.items i
     c.loop-i.invariant.1 c.args.ees.now
     (take_all i c.args.ees.now (omega (arith, c.loop-i-test.false)))
     (c.loop-i.invariant.0 ∙ sym (length-placed cert 1 c.args.cas.now))
-    (λ k lt e. c.unmarked-place.ensures.before k
+    (λ k lt e. c.first_unvisited-place.ensures.before k
     (omega (arith, lt, c.loop-i.invariant.0, c.if-place-cas.false))
     (ap (λ m. slice_index m k) value ∙ e))

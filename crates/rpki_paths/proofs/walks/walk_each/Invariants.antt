@@ -7,8 +7,8 @@ use Rattle.rpki_paths.proofs.walks.walk_each.Given as goal
 
 abbrev pub invariant-loop-i : goal.invariant-loop-i
 invariant-loop-i g l =
-    (length l.marks.items ≡ length l.cas)
+    (length l.visited.items ≡ length l.cas)
     × IsWalkingEach g.C.Certificate.cert (placed g.C.Certificate.cert 1 l.cas) (take l.i l.ees)
-    l.paths.items l.marks.items l.i
+    l.paths.items l.visited.items l.i
     × (IsDistinct (placed g.C.Certificate.cert 1 l.cas) →
     l.asked ≤ l.fn.asked + l.i * length l.cas)

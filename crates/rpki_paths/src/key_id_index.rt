@@ -1,4 +1,4 @@
-//! What is found by its key identifier.
+//! Where carried items stand, by their key identifiers.
 
 ghost use Rattle.std.specs.Prelude.{◌≡◌, None, IfOk};
 ghost use Rattle.rpki_paths.specs.Index.{IsIndex, IsPut, listed, places_of};
@@ -9,7 +9,7 @@ use std::collections::BTreeMap;
 
 /// The places of carried items by their key identifiers, those of one identifier in carried order.
 #[derive(Drop)]
-pub struct Places {
+pub struct KeyIdIndex {
     pub map: BTreeMap<KeyId, Vec<usize>>,
 }
 
@@ -24,9 +24,9 @@ fn removed(alloc: Global, map: &mut BTreeMap<KeyId, Vec<usize>>, id: &KeyId) -> 
     }
 }
 
-impl Places {
-    /// The places of these identifiers. An error is want of memory.
-    pub fn of(alloc: Global, ids: &[KeyId]) -> Result<Places, AllocError>
+impl KeyIdIndex {
+    /// The index of these identifiers. An error is want of memory.
+    pub fn of(alloc: Global, ids: &[KeyId]) -> Result<KeyIdIndex, AllocError>
         ensures { IfOk result (IsIndex ids.now) }
     {
         let mut map: BTreeMap<KeyId, Vec<usize>> = BTreeMap::new(alloc);
@@ -36,7 +36,7 @@ impl Places {
             places.push(i)?;
             map.insert(id, places)?;
         }
-        Ok(Places { map })
+        Ok(KeyIdIndex { map })
     }
 
     /// The places of this identifier, and none where there is no identifier.

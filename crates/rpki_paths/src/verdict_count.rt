@@ -9,12 +9,12 @@ use std::sync::ledger::{Blank, Book, Ledger, Share};
 /// Each verdict that pairings and walks ask raises it by one; those that a locator or a supplied CA
 /// asks do not.
 #[derive(Drop)]
-pub struct Asked<L: Ledger> {
+pub struct VerdictCount<L: Ledger> {
     book: Book<L>,
     share: Share<L>,
 }
 
-impl<L: Ledger> Model for Asked<L> {
+impl<L: Ledger> Model for VerdictCount<L> {
     ghost Value = { ℕ };
 
     ghost view = { λ s. s.book.total };
@@ -22,7 +22,7 @@ impl<L: Ledger> Model for Asked<L> {
     ghost invariant = { λ s. 0 < s.share.parts };
 }
 
-impl<L: Ledger> Asked<L> {
+impl<L: Ledger> VerdictCount<L> {
     /// Nothing asked yet. The blank is one that no other count was made of.
     pub fn new(blank: Blank) -> Self
         requires name { blank.name ≡ L.name }
@@ -31,7 +31,7 @@ impl<L: Ledger> Asked<L> {
         ensures { result ≡ 0 }
     {
         let (book, share) = blank.open();
-        Asked { book, share }
+        VerdictCount { book, share }
     }
 
     /// One verdict more.

@@ -2,7 +2,7 @@
 use Rattle.std.proofs.Common.{ℕ, List}
 use Rattle.rpki_paths.specs.Index.{listed}
 use Rattle.rpki_paths.proofs.Indexing.{IsScan}
-use Rattle.rpki_paths.proofs.places.Places.of.Given as goal
+use Rattle.rpki_paths.proofs.key_id_index.KeyIdIndex.of.Given as goal
 
 abbrev pub invariant-loop-i : goal.invariant-loop-i
 invariant-loop-i l = (id : List ℕ) → IsScan l.ids id 0 l.i (listed l.map id)

@@ -3,7 +3,7 @@ use Rattle.std.proofs.Common.{◌≡◌, [], ◌∷◌, ◌++◌, length, ap, �
 use Rattle.std.proofs.lemmas.Option.{slice_get-get_or}
 use Rattle.rpki_paths.specs.Index.{listed}
 use Rattle.rpki_paths.proofs.Indexing.{IsScan, indexed-more, named-from-scan}
-use Rattle.rpki_paths.proofs.places.Places.of.Goals as goal
+use Rattle.rpki_paths.proofs.key_id_index.KeyIdIndex.of.Goals as goal
 
 pub loop-i-preserved : goal.loop-i-preserved
 loop-i-preserved c =
