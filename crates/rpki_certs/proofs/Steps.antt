@@ -1,22 +1,19 @@
 -- What several calls of a reader have read, one after the other.
-use Rattle.std.proofs.Common.{◌≡◌, ℕ, List, Option, Some, None, Ok, Err, refl, ◌∙◌}
+use Rattle.std.proofs.Common.{◌≡◌, ℕ, List, Option, Some, None, Ok, refl, ◌∙◌}
 use Rattle.rpki_der.specs.declared.mode.Mode.{Mode}
-use Rattle.rpki_der.specs.declared.error.DecodeError.{DecodeError}
-use Rattle.rpki_der.specs.Form.Made.{with_octets}
 use Rattle.rpki_der.specs.Form.Parts.{context_at}
 use Rattle.rpki_der.specs.Read.State.{State}
-use Rattle.rpki_der.specs.Read.Parse.{Parser, ◌>>=◌, primitive, this, u160_at, octets_in_bits_at}
+use Rattle.rpki_der.specs.Read.Parse.{Parser, ◌>>=◌, primitive, this, u160_at}
 use Rattle.rpki_der.specs.Read.Reads.{Reads}
 use Rattle.rpki_der.specs.Tags.{INTEGER}
-use Rattle.rpki_der.proofs.Reading.Calls.{reads-ok, reads-err, fails-as}
+use Rattle.rpki_der.proofs.Reading.Calls.{reads-ok}
 use Rattle.rpki_keys.specs.Algorithm.{cert_algorithm_at}
 use Rattle.rpki_keys.specs.Key.{key_at}
 use Rattle.rpki_keys.specs.Name.{name_at}
 use Rattle.rpki_basics.specs.Moment.{Period}
 use Rattle.rpki_extensions.specs.declared.extensions.Extensions.{Extensions}
 use Rattle.rpki_extensions.specs.Extensions.{extensions_at}
-use Rattle.rpki_certs.specs.Cert.{Tbs, v3, validity_at, tbs_at, tbs_fields_at}
-use Rattle.rpki_certs.specs.Cert.{contents_at}
+use Rattle.rpki_certs.specs.Cert.{Tbs, v3, validity_at, tbs_fields_at}
 
 -- Calls have read from old to mid, and none has refused.
 pub record HasRead (old mid : State) : Type 0 where
@@ -39,18 +36,6 @@ module _ {T X : Type 0} (view : T → X) (p : Parser X) where
     record { before = begun.before; after = r.after; mode = r.mode ∙ begun.mode },
     rw (← begun.mode) r.found,
   )
-
-  -- a call that refuses
-  pub fails : {Y U : Type 0} (shown : U → Y) (whole : Parser Y) (old mid : State)
-      (e : DecodeError) (new : State) → HasRead old mid
-      → (p old.mode mid.rest ≡ None → whole old.mode old.rest ≡ None)
-      → Reads {T = T} view p mid (Err e) new → Reads {T = U} shown whole old (Err e) new
-  fails {Y} {U} shown whole old mid e new begun none h =
-      let found = reads-err view p mid e new h begun.after in
-      let left = fails-as e (p mid.mode mid.rest) (whole old.mode old.rest)
-      (λ (n : p mid.mode mid.rest ≡ None).
-      none (let there : p old.mode mid.rest ≡ None = rw (← begun.mode) n in there)) found in
-      (h.0 ∙ begun.mode, rw begun.before left)
 
 -- all was read
 pub ends : {T Y : Type 0} (view : T → Y) (whole : Parser Y) (old : State) (t : T) (new : State)
@@ -81,16 +66,3 @@ pub tbs-found : (mode : Mode) (b r1 r2 r3 r4 r5 r6 r7 : List ℕ) (u v : Unit {0
 unfolding tbs_fields_at
 tbs-found mode b r1 r2 r3 r4 r5 r6 r7 u v serial issuer validity subject key found
     e1 e2 e3 e4 e5 e6 e7 e8 = rw e1 (rw e2 (rw e3 (rw e4 (rw e5 (rw e6 (rw e7 (rw e8 refl)))))))
-
--- what is found of a certificate, by what is found last
-pub contents-none : (mode : Mode) (b r1 : List ℕ) (tbs : Tbs × List ℕ)
-    → with_octets tbs_at mode b ≡ Some (tbs, r1) → cert_algorithm_at mode r1 ≡ None
-    → contents_at mode b ≡ None
-unfolding contents_at
-contents-none mode b r1 tbs e1 e2 = rw e1 (rw e2 refl)
-
-pub contents-none-last : (mode : Mode) (b r1 r2 : List ℕ) (tbs : Tbs × List ℕ) (u : Unit {0})
-    → with_octets tbs_at mode b ≡ Some (tbs, r1) → cert_algorithm_at mode r1 ≡ Some (u, r2)
-    → octets_in_bits_at mode r2 ≡ None → contents_at mode b ≡ None
-unfolding contents_at
-contents-none-last mode b r1 r2 tbs u e1 e2 e3 = rw e1 (rw e2 (rw e3 refl))

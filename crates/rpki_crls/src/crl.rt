@@ -169,9 +169,8 @@ impl Clone for Crl {
     ghost is_clone = { λ c copy. copy ≡ c };
 
     fn clone(&self) -> Result<Crl, AllocError> {
-        Ok(Crl {
-            contents: self.contents.clone()?,
-            captured: self.captured.clone()?,
-        })
+        let captured = self.captured.clone()?;
+        let contents = self.contents.clone()?;
+        Ok(Crl { contents, captured })
     }
 }

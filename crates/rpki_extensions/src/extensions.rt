@@ -31,11 +31,19 @@ impl Clone for Extensions {
     ghost is_clone = { λ x copy. copy ≡ x };
 
     fn clone(&self) -> Result<Extensions, AllocError> {
-        Ok(Extensions {
-            key: self.key.clone()?,
-            locations: self.locations.clone()?,
-            claims: self.claims.clone()?,
-        })
+        let key = self.key.clone()?;
+        let locations = self.locations.clone()?;
+        match self.claims.clone() {
+            Ok(claims) => Ok(Extensions {
+                key,
+                locations,
+                claims,
+            }),
+            Err(error) => {
+                drop(locations);
+                Err(error)
+            }
+        }
     }
 }
 
@@ -56,12 +64,17 @@ fn said_by(alloc: Global, list: &[Extension]) -> Result<Extensions, DecodeError>
 {
     let key = key_facts_of(alloc, list)?;
     let locations = locations_of(alloc, list)?;
-    let claims = claims_of(alloc, list)?;
-    Ok(Extensions {
-        key,
-        locations,
-        claims,
-    })
+    match claims_of(alloc, list) {
+        Ok(claims) => Ok(Extensions {
+            key,
+            locations,
+            claims,
+        }),
+        Err(error) => {
+            drop(locations);
+            Err(error)
+        }
+    }
 }
 
 // Reads as many extensions as there are, and what they say.

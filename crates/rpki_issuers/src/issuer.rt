@@ -76,7 +76,10 @@ fn follow<C: Crypto>(
                 drop(issuer);
                 return Err(error);
             }
-            Ok(next) => issuer = next,
+            Ok(next) => {
+                drop(issuer);
+                issuer = next;
+            }
         }
     }
     Ok(issuer)

@@ -90,8 +90,20 @@ fn take_fields(
     let sid = take_sid(cons)?;
     DigestAlgorithm::take_from(cons)?;
     let attributes = take_attributes(cons, alloc, content_type)?;
-    let algorithm = RpkiSignatureAlgorithm::take_cms_from(cons)?;
-    let value = cons.take_octets(alloc)?;
+    let algorithm = match RpkiSignatureAlgorithm::take_cms_from(cons) {
+        Ok(algorithm) => algorithm,
+        Err(error) => {
+            drop(attributes);
+            return Err(error);
+        }
+    };
+    let value = match cons.take_octets(alloc) {
+        Ok(value) => value,
+        Err(error) => {
+            drop(attributes);
+            return Err(error);
+        }
+    };
     Ok(SignerInfo {
         sid,
         attributes,
@@ -114,10 +126,12 @@ impl Clone for SignerInfo {
     ghost is_clone = { λ s copy. copy ≡ s };
 
     fn clone(&self) -> Result<SignerInfo, AllocError> {
+        let signature = self.signature.clone()?;
+        let attributes = self.attributes.clone()?;
         Ok(SignerInfo {
             sid: self.sid,
-            attributes: self.attributes.clone()?,
-            signature: self.signature.clone()?,
+            attributes,
+            signature,
         })
     }
 }

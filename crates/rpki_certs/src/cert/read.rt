@@ -144,16 +144,30 @@ fn take_tbs_fields(cons: &mut Constructed<'_>, alloc: Global) -> Result<Tbs, Dec
     let issuer = Name::take_from(cons)?;
     let validity = take_validity(cons)?;
     let subject = Name::take_from(cons)?;
-    let key = PublicKey::take_from(cons)?;
-    let extensions = take_extensions(cons, alloc)?;
-    Ok(Tbs {
-        serial_number,
-        issuer,
-        validity,
-        subject,
-        key,
-        extensions,
-    })
+    let key = match PublicKey::take_from(cons) {
+        Ok(key) => key,
+        Err(error) => {
+            drop(issuer);
+            drop(subject);
+            return Err(error);
+        }
+    };
+    match take_extensions(cons, alloc) {
+        Ok(extensions) => Ok(Tbs {
+            serial_number,
+            issuer,
+            validity,
+            subject,
+            key,
+            extensions,
+        }),
+        Err(error) => {
+            drop(issuer);
+            drop(subject);
+            drop(key);
+            Err(error)
+        }
+    }
 }
 
 // Reads the fields that are signed, and puts them on the heap.

@@ -85,10 +85,14 @@ impl Clone for Contents {
     ghost is_clone = { λ c copy. copy ≡ c };
 
     fn clone(&self) -> Result<Contents, AllocError> {
+        // The largest last: what is alive at a `?` is let go there.
+        let signed = self.signed.clone()?;
+        let signature = self.signature.clone()?;
+        let tbs = self.tbs.clone()?;
         Ok(Contents {
-            tbs: self.tbs.clone()?,
-            signed: self.signed.clone()?,
-            signature: self.signature.clone()?,
+            tbs,
+            signed,
+            signature,
         })
     }
 }
@@ -167,8 +171,20 @@ fn take_contents(alloc: Global, cons: &mut Constructed<'_>) -> Result<Contents, 
     ensures name { IfOk result (λ c. c.name_mode ≡ cons.old.mode) }
 {
     let (tbs, signed) = keep_tbs(alloc, cons)?;
-    let algorithm = RpkiSignatureAlgorithm::take_cert_from(cons)?;
-    let signature = cons.take_octets_in_bits()?;
+    let algorithm = match RpkiSignatureAlgorithm::take_cert_from(cons) {
+        Ok(algorithm) => algorithm,
+        Err(error) => {
+            drop(tbs);
+            return Err(error);
+        }
+    };
+    let signature = match cons.take_octets_in_bits() {
+        Ok(signature) => signature,
+        Err(error) => {
+            drop(tbs);
+            return Err(error);
+        }
+    };
     Ok(Contents {
         tbs,
         signed: signed.into_bytes(),
