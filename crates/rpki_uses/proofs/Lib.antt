@@ -1,7 +1,10 @@
 mod Answered
 mod Asked
 mod ByList
+mod Common
+mod Cut
 mod Earned
+mod Lengths
 mod PeersExact
 mod PeersWritten
 mod Search

@@ -1,6 +1,10 @@
 pub mod Checks
+pub mod Families
+pub mod Inspected
 pub mod Issuers
+pub mod Locators
 pub mod Peers
 pub mod Questions
 pub mod Received
 pub mod Routes
+pub mod Sets

@@ -27,8 +27,13 @@ pub fn take_signed(
         (λ signature. Some ((attrs.0, signature.0), signature.1)))) cons.old result cons.new }
 {
     let attrs = SignedAttrs::take_from(alloc, cons)?;
-    let signature = cons.take_octets(alloc)?;
-    Ok((attrs, signature))
+    match cons.take_octets(alloc) {
+        Ok(signature) => Ok((attrs, signature)),
+        Err(error) => {
+            drop(attrs);
+            Err(error)
+        }
+    }
 }
 
 /// The message that is signed, where the attributes are those of a content with this digest, and
@@ -62,7 +67,9 @@ pub fn attributes_for(
 {
     let digest = MessageDigest::from_digest(alloc, digest)?;
     let attrs = SignedAttrs::new(alloc, content_type, &digest, now)?;
-    match attrs.encode_ref().to_bytes(alloc) {
+    let octets = attrs.encode_ref().to_bytes(alloc);
+    drop(attrs);
+    match octets {
         Ok(octets) => Ok(octets),
         Err(_) => Err(AttrsFault::Memory),
     }

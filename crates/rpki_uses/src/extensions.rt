@@ -37,8 +37,8 @@ pub fn manifest_in(alloc: Global, octets: Bytes) -> Result<Option<Rsync>, Decode
         × (uri ≡ x.locations.subject.rpki_manifest))
         (λ error. Refuses error (HasNoFront (ExtensionsForm Der) octets)) }
 {
-    let said = extensions_in(alloc, octets)?;
-    let locations = said.locations;
-    let subject = locations.subject;
-    Ok(subject.rpki_manifest)
+    let mut said = extensions_in(alloc, octets)?;
+    let uri = said.locations.subject.rpki_manifest.take();
+    drop(said);
+    Ok(uri)
 }

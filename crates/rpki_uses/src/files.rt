@@ -58,9 +58,12 @@ pub fn files_due(
 {
     let manifest = ManifestContent::decode(alloc, octets, rule)?;
     if manifest.is_stale(now) {
+        drop(manifest);
         return Ok(None);
     }
-    Ok(Some(manifest.len()))
+    let count = manifest.len();
+    drop(manifest);
+    Ok(Some(count))
 }
 
 /// Whether a checklist has a file with this hash, under whatever name.

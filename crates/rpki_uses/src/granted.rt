@@ -180,7 +180,11 @@ where
         (attested_sets attested.now)) }
 {
     match walk_each(alloc, ees, cas, asked) {
-        Ok(mut paths) => earn(alloc, paths.as_mut_slice(), supplies, attested),
+        Ok(mut paths) => {
+            let are_earned = earn(alloc, paths.as_mut_slice(), supplies, attested);
+            drop(paths);
+            are_earned
+        }
         Err(WalksFault::Memory) => Err(AllocError),
         Err(_) => Ok(false),
     }

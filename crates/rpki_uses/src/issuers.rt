@@ -60,7 +60,9 @@ pub fn key_of_issuer<C: Crypto>(
         MakesIssuer (C.is_signed crypto.now) now anchor.now (octets_of chain.now) (Err error)) }
 {
     let issuer = issuer_at(alloc, anchor, chain, crypto, now)?;
-    Ok(issuer.cert().subject_key_identifier())
+    let identifier = issuer.cert().subject_key_identifier();
+    drop(issuer);
+    Ok(identifier)
 }
 
 /// What the ROA at the front of octets in DER says, and its certificate with its numbers, where it
@@ -80,10 +82,17 @@ pub fn roa_under_chain<C: Crypto>(
         (C.is_signed crypto.now) issuer now (SaysOf list.now.list) octets answer) result }
 {
     match issuer_at(alloc, anchor, chain, crypto, now) {
-        Err(error) => Err(ChainError::Issuer(error)),
-        Ok(issuer) => match roa_under(alloc, octets, &issuer, list, crypto, now) {
-            Err(error) => Err(ChainError::Object(error)),
-            Ok(answer) => Ok(answer),
-        },
+        Err(error) => {
+            drop(octets);
+            Err(ChainError::Issuer(error))
+        }
+        Ok(issuer) => {
+            let answer = roa_under(alloc, octets, &issuer, list, crypto, now);
+            drop(issuer);
+            match answer {
+                Err(error) => Err(ChainError::Object(error)),
+                Ok(answer) => Ok(answer),
+            }
+        }
     }
 }

@@ -1,12 +1,16 @@
 //! Trust anchor locators, as a program that fetches certificates uses them.
 
-ghost use Rattle.std.specs.Prelude.{◌≡◌, List, IfOk, Ok, bytes_eq};
+ghost use Rattle.std.specs.Prelude.{◌≡◌, ℕ, List, IfOk, Ok, Some, bytes_eq};
 ghost use Rattle.rpki_tal.specs.declared.uri.TalUri.{TalUri};
 ghost use Rattle.rpki_tal.specs.Uri.{https_first};
+ghost use Rattle.rpki_tal.specs.Faults.{EndsInLine};
+ghost use Rattle.rpki_tal.specs.Form.{HasComments};
 ghost use Rattle.rpki_tal.specs.Read.{ReadsTal};
+ghost use Rattle.rpki_uses.specs.Locators.{IsCutOff};
 
 use rpki_basics::PublicKey;
 use rpki_der::Source;
+use rpki_tal::laws::{faults_are_no_locators, faults_are_one};
 use rpki_tal::{ReadError, Tal};
 use std::alloc::Global;
 
@@ -21,8 +25,25 @@ pub fn read_https_first<S: Source>(
         × (tal.uris ≡ https_first uris)) }
 {
     let mut tal = Tal::read_named(alloc, name, source)?;
-    tal.prefer_https()?;
-    Ok(tal)
+    match tal.prefer_https() {
+        Ok(()) => Ok(tal),
+        Err(error) => {
+            drop(tal);
+            Err(ReadError::from(error))
+        }
+    }
+}
+
+/// Reads the locator that a source gives. A text that ends within its list of URIs, in a line that
+/// lacks its line feed, is refused as one that ends too early, even where that line is a key.
+pub fn read_whole<S: Source>(alloc: Global, name: String, source: &mut S) -> Result<Tal, ReadError>
+    ensures read { ReadsTal (S.left source.old) (S.left source.new) result }
+    ensures cut { (text list : List ℕ) → S.left source.old ≡ Some text → HasComments text list
+        → EndsInLine list → IsCutOff result }
+{
+    faults_are_no_locators();
+    faults_are_one();
+    Tal::read_named(alloc, name, source)
 }
 
 /// Whether a key is the one that the certificate of the trust anchor has to have.

@@ -48,5 +48,7 @@ pub fn number_in(alloc: Global, octets: Bytes) -> Result<Serial, DecodeError>
         (λ error. Refuses error (HasNoFront (CrlForm Der) octets)) }
 {
     let list = Crl::decode(alloc, octets)?;
-    Ok(list.crl_number())
+    let number = list.crl_number();
+    drop(list);
+    Ok(number)
 }

@@ -1,11 +1,29 @@
 //! Origins and providers of routes, as routers are told them.
 
-ghost use Rattle.std.specs.Prelude.{◌≡◌, ◌↔◌, IsTrue, Contains};
+ghost use Rattle.std.specs.Prelude.{◌≡◌, ◌↔◌, IsTrue, IfOk, Contains};
 ghost use Rattle.std.specs.List.{Any};
-ghost use Rattle.rpki_uses.specs.Routes.{IsMatched};
+ghost use Rattle.rpki_der.specs.Form.Decodes.{Decodes};
+ghost use Rattle.rpki_routes.specs.Roa.Form.{RoaForm};
+ghost use Rattle.rpki_uses.specs.Routes.{AreWithin, IsMatched};
 
+use bytes::Bytes;
+use rpki_der::DecodeError;
+use rpki_der::laws::slices_hold_octets;
 use rpki_resources::{Asn, Prefix};
+use rpki_routes::laws::roas_are_written;
 use rpki_routes::{AsProviderAttestation, RoaIpAddress, RoaIpAddresses, RouteOriginAttestation};
+use std::alloc::Global;
+
+/// The content of a ROA at the front of octets in DER. No maximum length in it is above that of an
+/// address of its family (RFC 9582, section 4.3).
+pub fn roa_in(alloc: Global, octets: Bytes) -> Result<RouteOriginAttestation, DecodeError>
+    ensures exact { Decodes RoaForm (λ r. r) octets result }
+    ensures within { IfOk result (λ roa. AreWithin 32 roa.v4 × AreWithin 128 roa.v6) }
+{
+    roas_are_written();
+    slices_hold_octets(octets.as_slice());
+    RouteOriginAttestation::decode(alloc, octets)
+}
 
 /// Whether an address of a ROA matches a route to this prefix, but for the AS that originates it,
 /// of which nothing is asked here (RFC 6811, section 2).

@@ -1,7 +1,8 @@
 //! Sets of numbers, as holders of them use them.
 
-ghost use Rattle.std.specs.Prelude.{◌↔◌, IsTrue, IfOk};
+ghost use Rattle.std.specs.Prelude.{◌↔◌, IsTrue, IfOk, OnOk};
 ghost use Rattle.rpki_resources.specs.Blocks.{Covers, IsIntersection};
+ghost use Rattle.rpki_uses.specs.Sets.{HaveCommon};
 
 use rpki_resources::{AsBlocks, IpBlocks};
 use std::alloc::AllocError;
@@ -11,6 +12,16 @@ pub fn shared(first: &IpBlocks, second: &IpBlocks) -> Result<IpBlocks, AllocErro
     ensures { IfOk result (IsIntersection (λ n. n) first.now second.now) }
 {
     first.intersection(second)
+}
+
+/// Cuts a set down to the addresses that another one has too, and says whether any are left: the
+/// two have an address in common.
+pub fn cut_down(set: &mut IpBlocks, other: &IpBlocks) -> Result<bool, AllocError>
+    ensures cut { OnOk result (IsIntersection (λ n. n) set.old other.now set.new) }
+    ensures left { IfOk result (λ yes. IsTrue yes ↔ HaveCommon set.old other.now) }
+{
+    set.intersection_assign(other)?;
+    Ok(!set.is_empty())
 }
 
 /// Whether the first set has all numbers that the other two have.

@@ -4,17 +4,19 @@ ghost use Rattle.std.specs.Prelude.{◌≡◌, ◌&&◌, ℕ, List, MatchResult,
 ghost use Rattle.sha1.specs.Sha1.{sha1};
 ghost use Rattle.rpki_der.specs.declared.mode.Mode.TheVariants.{Der};
 ghost use Rattle.rpki_der.specs.declared.encode.EncodeError.TheVariants.{Memory};
+ghost use Rattle.rpki_der.specs.declared.error.DecodeError.{DecodeError};
 ghost use Rattle.rpki_der.specs.Grammar.{Front, HasNoFront};
 ghost use Rattle.rpki_der.specs.Read.Parse.{◌>>=◌ as ◌and_then◌};
-ghost use Rattle.rpki_der.specs.Read.Reads.{Reads, Refuses};
+ghost use Rattle.rpki_der.specs.Read.Reads.{Found, Reads, Refuses};
 ghost use Rattle.rpki_keys.specs.Key.{KeyForm};
 ghost use Rattle.rpki_keys.specs.Name.{key_name_octets};
 ghost use Rattle.rpki_basics.specs.Moment.{stamp};
 ghost use Rattle.rpki_basics.specs.Time.Read.{time_at};
 
 use bytes::Bytes;
+use rpki_basics::laws::times_are_written;
 use rpki_basics::{Crypto, Digest, KeyIdentifier, PublicKey, RpkiSignature, Time, Validity};
-use rpki_der::{Constructed, DecodeError, Encode, EncodeError};
+use rpki_der::{Constructed, DecodeError, Encode, EncodeError, Mode};
 use std::alloc::Global;
 use std::marker::Model;
 
@@ -27,6 +29,30 @@ pub fn take_times(cons: &mut Constructed<'_>) -> Result<(Time, Time), DecodeErro
     let first = Time::take_from(cons)?;
     let second = Time::take_from(cons)?;
     Ok((first, second))
+}
+
+/// The UTCTime `500101000000Z`, the earliest that there is: from 50 on, the two digits of the year
+/// stand for one of the twentieth century (RFC 5280, section 4.1.2.5.1). Only memory may be
+/// wanting.
+pub fn earliest_utc_time() -> Result<Time, DecodeError>
+    ensures { MatchResult result (λ time. time ≡ record {
+      year = 1950;
+      month = 1;
+      day = 1;
+      hour = 0;
+      minute = 0;
+      second = 0;
+    }) (λ error. error ≡ DecodeError.Memory) }
+{
+    times_are_written();
+    read_time(Bytes::from_static(b"\x17\x0D500101000000Z"))
+}
+
+// Reads the time at the front.
+fn read_time(octets: Bytes) -> Result<Time, DecodeError>
+    ensures { Found (λ t. t) (time_at Der octets) result }
+{
+    Constructed::decode(octets, Mode::Der, |cons| Time::take_from(cons))
 }
 
 /// Whether a moment lies between the ends of a validity, or is one of them.

@@ -12,4 +12,5 @@ returns-in-Ok g c =
     let walked : AreWalked cert cas ees c.as_mut_slice.result.now =
     subst (λ l. AreWalked cert cas ees l) (sym c.as_mut_slice.ensures.value)
     c.in-Ok.ensures.paths in
-    IfOk-weaker c.earn.result _ _ (λ answer earns yes. earns yes cas ees walked) c.earn.ensures
+    IfOk-weaker c.earn-are_earned.result _ _ (λ answer earns yes. earns yes cas ees walked)
+    c.earn-are_earned.ensures

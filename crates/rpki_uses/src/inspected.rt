@@ -1,9 +1,9 @@
 //! A certificate of a few facts, whose checks are made in a given order.
 
 ghost use Rattle.rpki_faults.specs.Checks.{AnswersFirstFault};
-ghost use Rattle.rpki_faults_tests.specs.Inspected.{anchor_checks, anchor_validation};
-ghost use Rattle.rpki_faults_tests.specs.Inspected.{authority_checks, signature_checks};
-ghost use Rattle.rpki_faults_tests.specs.Inspected.{validity_checks};
+ghost use Rattle.rpki_uses.specs.Inspected.{anchor_checks, anchor_validation};
+ghost use Rattle.rpki_uses.specs.Inspected.{authority_checks, signature_checks};
+ghost use Rattle.rpki_uses.specs.Inspected.{validity_checks};
 
 use rpki_faults::{InspectionError, KeyUsage, ValidationError, VerificationError};
 

@@ -6,8 +6,8 @@ use Rattle.rpki_faults.specs.declared.family.Family.TheVariants.{As, V4, V6}
 use Rattle.rpki_faults.specs.declared.validation.ValidationError.{ValidationError}
 use Rattle.rpki_faults.specs.declared.validation.ValidationError.TheVariants.{Verification}
 use Rattle.rpki_faults.specs.declared.verification.VerificationError.TheVariants.{Overclaimed}
-use Rattle.rpki_faults_tests.specs.declared.families.Claims.{Claims}
-use Rattle.rpki_faults_tests.specs.declared.families.Sets.{Sets}
+use Rattle.rpki_uses.specs.declared.families.Claims.{Claims}
+use Rattle.rpki_uses.specs.declared.families.Sets.{Sets}
 
 -- The issuer has what is claimed of each family, where it has to.
 abbrev pub covering_checks : Claims → Sets → List (Check ValidationError)

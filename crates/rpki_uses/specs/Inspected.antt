@@ -10,7 +10,7 @@ use Rattle.rpki_faults.specs.declared.validation.ValidationError.TheVariants.{In
 use Rattle.rpki_faults.specs.declared.validation.ValidationError.TheVariants.{Verification}
 use Rattle.rpki_faults.specs.declared.verification.VerificationError.{VerificationError}
 use Rattle.rpki_faults.specs.declared.verification.VerificationError.TheVariants as verifications
-use Rattle.rpki_faults_tests.specs.declared.inspected.Facts.{Facts}
+use Rattle.rpki_uses.specs.declared.inspected.Facts.{Facts}
 
 -- The certificate of a CA fits the profile, as far as those of trust anchors do as well (RFC 6487,
 -- section 4.8).

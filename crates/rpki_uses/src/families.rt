@@ -3,8 +3,8 @@
 ghost use Rattle.std.specs.Prelude.{◌++◌};
 ghost use Rattle.rpki_faults.specs.Checks.{AnswersFirstOr};
 ghost use Rattle.rpki_faults.specs.declared.validation.ValidationError.TheVariants.{Memory};
-ghost use Rattle.rpki_faults_tests.specs.Families.{covering_checks, AreValidated};
-ghost use Rattle.rpki_faults_tests.specs.Inspected.{anchor_validation};
+ghost use Rattle.rpki_uses.specs.Families.{covering_checks, AreValidated};
+ghost use Rattle.rpki_uses.specs.Inspected.{anchor_validation};
 
 use crate::inspected::Facts;
 use rpki_faults::{Family, Overclaim, ValidationError, VerificationError, validated};

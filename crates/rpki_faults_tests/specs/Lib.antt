@@ -1,2 +1,0 @@
-pub mod Inspected
-pub mod Families
