@@ -4,6 +4,7 @@ ghost use Rattle.std.specs.Prelude.{◌≡◌};
 ghost use Rattle.rpki_sigobj.specs.Object.{cert_of};
 
 use crate::object::SignedObject;
+use crate::object::read::SignedData;
 use rpki_attributes::SignedAttrs;
 use rpki_basics::{KeyIdentifier, RpkiSignature};
 use rpki_certs::Cert;
@@ -36,7 +37,15 @@ impl SignedObject {
     pub(crate) fn into_cert(self) -> Cert
         ensures { result ≡ cert_of self }
     {
-        let contents = self.contents;
-        contents.cert
+        let SignedData {
+            content_type,
+            content,
+            cert,
+            signer,
+        } = self.contents;
+        drop(content_type);
+        drop(content);
+        drop(signer);
+        cert
     }
 }
