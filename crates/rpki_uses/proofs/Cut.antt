@@ -1,5 +1,5 @@
 -- What is answered of a locator that was cut off.
-use Rattle.std.proofs.Common.{◌≡◌, ◌∙◌, ◌++◌, ℕ, List, [], Option, None, Some, Result, Ok, Err}
+use Rattle.std.proofs.Common.{◌≡◌, ◌∙◌, ◌++◌, ℕ, List, Option, None, Some, Result, Ok, Err}
 use Rattle.std.proofs.Common.{refl, sym, subst, inl, inr}
 use Rattle.std.proofs.lemmas.List.{append-nil}
 use Rattle.rpki_tal.specs.declared.error.ReadError.{ReadError}

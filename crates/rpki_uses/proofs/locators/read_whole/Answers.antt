@@ -1,4 +1,4 @@
-use Rattle.std.proofs.Common.{ℕ, List, Option, Some, subst}
+use Rattle.std.proofs.Common.{ℕ, List, Option, subst}
 use Rattle.rpki_tal.specs.Read.{ReadsTal}
 use Rattle.rpki_uses.proofs.Cut.{cut-off}
 use Rattle.rpki_uses.proofs.locators.read_whole.Goals as goal
