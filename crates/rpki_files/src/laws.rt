@@ -5,6 +5,7 @@ ghost use Rattle.rpki_basics.specs.declared.limits.ManifestRule.{ManifestRule};
 ghost use Rattle.rpki_basics.specs.declared.limits.ManifestRule.TheVariants.{Any, Registered};
 ghost use Rattle.rpki_der.specs.declared.mode.Mode.{Mode};
 ghost use Rattle.rpki_der.specs.Read.Exact.{IsReading};
+ghost use Rattle.rpki_lists.specs.After.{LeavesOctetsAfter};
 ghost use Rattle.rpki_files.specs.Name.{IsFileName, is_file_name};
 ghost use Rattle.rpki_files.specs.File.{FileForm, file_at};
 ghost use Rattle.rpki_files.specs.Checked.{CheckedForm, checked_at, is_portable_name};
@@ -38,6 +39,19 @@ pub fn checklists()
     ensures file { IsReading checked_at CheckedForm }
     ensures checklist { IsReading checklist_at ChecklistForm }
     ensures ia5 { (name : List ℕ) → is_portable_name name ≡ true → All (λ b. b < 128) name }
+{}
+
+/// Octets after a manifest change nothing: they are left. Nor do octets after one whole value make
+/// it a manifest that it is not.
+pub fn octets_after_a_manifest_are_left()
+    ensures { (rule : ManifestRule) (mode : Mode)
+        → LeavesOctetsAfter mode (ManifestForm rule mode) }
+{}
+
+/// Octets after a checklist change nothing: they are left. Nor do octets after one whole value make
+/// it a checklist that it is not.
+pub fn octets_after_a_checklist_are_left()
+    ensures { (mode : Mode) → LeavesOctetsAfter mode (ChecklistForm mode) }
 {}
 
 /// What is a manifest where types have to be registered and no name may come twice, is the same

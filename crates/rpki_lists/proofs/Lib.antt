@@ -1,3 +1,4 @@
+pub mod After
 pub mod Lists
 pub mod Counting
 pub mod Exact

@@ -1,3 +1,4 @@
+pub mod After
 pub mod Slice
 pub mod Entries
 pub mod Rules

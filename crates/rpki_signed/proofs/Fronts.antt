@@ -9,8 +9,8 @@ use Rattle.rpki_der.specs.Read.Reads.{Refuses}
 use Rattle.rpki_sigobj.specs.Object.{SignedObject, KeptObject, SignedFormOf}
 use Rattle.rpki_signed.specs.Object.{Whole, ObjectForm, IsKeptWhole}
 
-same-whole : {X : Type 0} (y : Whole X) (s : SignedObject) (x : X) → y.object ≡ s → y.content ≡ x
-    → y ≡ record { object = s; content = x }
+pub same-whole : {X : Type 0} (y : Whole X) (s : SignedObject) (x : X) → y.object ≡ s
+    → y.content ≡ x → y ≡ record { object = s; content = x }
 same-whole y s x e f = rw (← e, ← f) refl
 
 module _ {X : Type 0} (type : List ℕ) (form : List ℕ → X → Type 0) (mode : Mode)

@@ -1,3 +1,4 @@
+pub mod After
 pub mod Asking
 pub mod Chains
 pub mod Checked
@@ -7,3 +8,4 @@ pub mod Goodness
 pub mod InBer
 pub mod Meanings
 pub mod Prefixes
+pub mod Wider

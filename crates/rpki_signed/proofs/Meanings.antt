@@ -46,8 +46,8 @@ not-inherited Missing a e h = absurd cc
 not-inherited Inherit a e h = h
 not-inherited (Explicit blocks) a e h = absurd cc
 
-same-numbers : (policy : Overclaim) (claim : Claim (List (Block ℕ))) (issuer a b : List (Block ℕ))
-    → IsValidated (λ (n : ℕ). n) policy claim issuer a
+pub same-numbers : (policy : Overclaim) (claim : Claim (List (Block ℕ)))
+    (issuer a b : List (Block ℕ)) → IsValidated (λ (n : ℕ). n) policy claim issuer a
     → IsValidated (λ (n : ℕ). n) policy claim issuer b → Covers (λ (n : ℕ). n) b a
 same-numbers policy claim issuer a b (inl h) (inl k) n i =
     subst (λ (s : List (Block ℕ)). Holds (λ (n : ℕ). n) s n) (h.1 ∙ sym k.1) i

@@ -9,3 +9,4 @@ pub mod Object
 pub mod Process
 pub mod Roa
 pub mod Text
+pub mod Wider

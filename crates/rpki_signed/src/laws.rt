@@ -1,24 +1,33 @@
 //! What the forms and the checks of objects mean: laws, as functions that do nothing.
 
-ghost use Rattle.std.specs.Prelude.{◌↔◌};
+ghost use Rattle.std.specs.Prelude.{◌↔◌, ℕ, List};
+ghost use Rattle.std.specs.Fn.{FnOnceReturnsAt};
 ghost use Rattle.rpki_faults.specs.Checks.{AllHold};
 ghost use Rattle.rpki_extensions.specs.declared.claims.Claims.{Claims};
 ghost use Rattle.rpki_certs.specs.Validate.{Sets, AreValidated, AreHeld};
+ghost use Rattle.rpki_basics.specs.declared.limits.ManifestRule.TheVariants.{Any, Registered};
+ghost use Rattle.rpki_basics.specs.declared.limits.ProviderLimit.TheVariants.{Narrow, Wide};
+ghost use Rattle.rpki_der.specs.declared.mode.Mode.{Mode};
 ghost use Rattle.rpki_der.specs.declared.mode.Mode.TheVariants.{Der};
+ghost use Rattle.rpki_lists.specs.After.{LeavesOctetsAfter};
 ghost use Rattle.rpki_files.specs.Checklist.{Checklist, ChecklistForm};
-ghost use Rattle.rpki_files.specs.Manifest.{ManifestForm};
+ghost use Rattle.rpki_files.specs.Manifest.{Manifest, ManifestForm};
 ghost use Rattle.rpki_routes.specs.Aspa.{Aspa};
 ghost use Rattle.rpki_routes.specs.Aspa.Form.{AspaForm};
 ghost use Rattle.rpki_routes.specs.Roa.{Roa, IsRoa};
 ghost use Rattle.rpki_routes.specs.Roa.Form.{RoaForm};
-ghost use Rattle.rpki_signed.specs.Aspa.{ct_aspa, aspa_claimed, aspa_held, AspaCovered};
+ghost use Rattle.rpki_signed.specs.Aspa.{ct_aspa, aspa_kind, aspa_claimed, aspa_held};
+ghost use Rattle.rpki_signed.specs.Aspa.{AspaCovered};
 ghost use Rattle.rpki_signed.specs.Checklist.{checklist_claimed, checklist_held, sets_of};
 ghost use Rattle.rpki_signed.specs.Checklist.{ct_checklist, AreCanonical};
-ghost use Rattle.rpki_signed.specs.Manifest.{ct_manifest};
-ghost use Rattle.rpki_signed.specs.Object.{IsInBer};
+ghost use Rattle.rpki_signed.specs.Manifest.{ct_manifest, manifest_kind};
+ghost use Rattle.rpki_signed.specs.Object.{Whole, ObjectForm, IsInBer};
 ghost use Rattle.rpki_signed.specs.Roa.{route_origin_authz, roa_held, RoaCovered};
+ghost use Rattle.rpki_signed.specs.Wider.{KeepsYes};
 
 use rpki_basics::{ManifestRule, ProviderLimit};
+use rpki_certs::Cert;
+use rpki_faults::ValidationError;
 
 /// An object that is read strictly, in DER, is read in BER too, and says the same, whatever its
 /// kind, the rule for names and the limit of providers.
@@ -27,6 +36,42 @@ pub fn strict_objects_are_in_ber()
     ensures roas { IsInBer route_origin_authz RoaForm }
     ensures aspas { (limit : ProviderLimit) → IsInBer ct_aspa (AspaForm limit) }
     ensures checklists { IsInBer ct_checklist (ChecklistForm Der) }
+{}
+
+/// Octets after an object change nothing: they are left, whatever its kind, the rule for names and
+/// the limit of providers. Nor do octets after one whole value make it an object that it is not.
+pub fn octets_after_an_object_are_left()
+    ensures manifests { (rule : ManifestRule) (mode : Mode)
+        → LeavesOctetsAfter mode (ObjectForm ct_manifest (ManifestForm rule Der) mode) }
+    ensures roas { (mode : Mode)
+        → LeavesOctetsAfter mode (ObjectForm route_origin_authz RoaForm mode) }
+    ensures aspas { (limit : ProviderLimit) (mode : Mode)
+        → LeavesOctetsAfter mode (ObjectForm ct_aspa (AspaForm limit) mode) }
+    ensures checklists { (mode : Mode)
+        → LeavesOctetsAfter mode (ObjectForm ct_checklist (ChecklistForm Der) mode) }
+{}
+
+/// What is a manifest where types have to be registered and no name may come twice, is the same
+/// manifest where neither is asked for (RFC 9286, section 4.2.2); what is an ASPA of the narrow
+/// limit, which is no standard's, is the same ASPA of the wide one.
+pub fn narrow_objects_are_wide()
+    ensures manifests { (mode : Mode) (octets : List ℕ) (o : Whole Manifest)
+        → ObjectForm ct_manifest (ManifestForm Registered Der) mode octets o
+        → ObjectForm ct_manifest (ManifestForm Any Der) mode octets o }
+    ensures aspas { (mode : Mode) (octets : List ℕ) (o : Whole Aspa)
+        → ObjectForm ct_aspa (AspaForm Narrow) mode octets o
+        → ObjectForm ct_aspa (AspaForm Wide) mode octets o }
+{}
+
+/// Where `check::manifest` says yes by the rule that asks for registered types and no name twice,
+/// that yes is right by the rule that asks for neither too (RFC 9286, section 4.2.2), with the same
+/// certificate and content; and a check by that rule says it, unless memory runs out or `check_crl`
+/// now answers a fault. So it is with `check::aspa`, by the narrow limit and by the wide one.
+pub fn narrow_checks_are_wide<F: FnOnce(&Cert) -> Result<(), ValidationError>>(check_crl: &F)
+    ensures manifests { KeepsYes manifest_kind (ManifestForm Registered Der)
+        (ManifestForm Any Der) (FnOnceReturnsAt F.FnOnce check_crl.now) }
+    ensures aspas { KeepsYes aspa_kind (AspaForm Narrow) (AspaForm Wide)
+        (FnOnceReturnsAt F.FnOnce check_crl.now) }
 {}
 
 /// A certificate passes the checks with a ROA exactly where it has the addresses of each prefix

@@ -20,6 +20,11 @@ pub record SignerInfo : Type 0 where
   pub attributes : SignedAttributes
   pub signature : List ℕ
 
+-- what a signer says, and the mode that its attributes were read in
+pub record KeptSigner : Type 0 where
+  pub signer : SignerInfo
+  pub mode : Mode
+
 -- the version of what is signed and of what its signer says (RFC 6488, sections 2.1.1 and 2.1.6.1)
 abbrev pub cms_version : ℕ
 cms_version = 3

@@ -1,8 +1,10 @@
 //! What the definitions of signed objects say: laws, as functions that do nothing.
 
+ghost use Rattle.rpki_der.specs.declared.mode.Mode.{Mode};
 ghost use Rattle.rpki_der.specs.Read.Exact.{IsReading};
 ghost use Rattle.std.specs.Prelude.{◌↔◌};
 ghost use Rattle.rpki_basics.specs.Moment.{Moment};
+ghost use Rattle.rpki_lists.specs.After.{LeavesOctetsAfter};
 ghost use Rattle.rpki_faults.specs.Checks.{AllHold, IsFirstFault};
 ghost use Rattle.rpki_faults.specs.declared.validation.ValidationError.{ValidationError};
 ghost use Rattle.rpki_certs.specs.Inspect.{ee_checks, detached_ee_checks};
@@ -16,6 +18,12 @@ ghost use Rattle.rpki_sigobj.specs.Verify.{Digester, IsWellSigned};
 /// 6488, section 2).
 pub fn signed_objects()
     ensures { IsReading object_at SignedForm }
+{}
+
+/// Octets after a signed object change nothing: they are left. Nor do octets after one whole value
+/// make it a signed object that it is not.
+pub fn octets_after_a_signed_object_are_left()
+    ensures { (mode : Mode) → LeavesOctetsAfter mode (SignedForm mode) }
 {}
 
 /// What a yes of `validate_at` and of `validate_detached_at` means (RFC 6488, section 3): the key

@@ -1,6 +1,6 @@
 //! What the signer of a signed object says.
 
-ghost use Rattle.std.specs.Prelude.{◌≡◌};
+ghost use Rattle.std.specs.Prelude.{◌≡◌, IfOk};
 ghost use Rattle.rpki_der.specs.Read.Reads.{Reads};
 ghost use Rattle.rpki_extensions.specs.KeyIdentifiers.{key_id_at};
 ghost use Rattle.rpki_sigobj.specs.SignerInfo.{version_at, typed_attrs_at, signer_fields_at};
@@ -22,14 +22,17 @@ pub struct SignerInfo {
 }
 
 impl Model for SignerInfo {
-    ghost use Rattle.rpki_sigobj.specs.SignerInfo.{SignerInfo as Said};
+    ghost use Rattle.rpki_sigobj.specs.SignerInfo.{KeptSigner};
 
-    ghost Value = { Said };
+    ghost Value = { KeptSigner };
 
     ghost view = { λ s. record {
-      sid = s.sid;
-      attributes = s.attributes.attributes;
-      signature = s.signature;
+      signer = record {
+        sid = s.sid;
+        attributes = s.attributes.attributes;
+        signature = s.signature;
+      };
+      mode = s.attributes.mode;
     } };
 }
 
@@ -65,8 +68,9 @@ fn take_attributes(
     alloc: Global,
     content_type: &Oid,
 ) -> Result<SignedAttrs, DecodeError>
-    ensures { Reads (λ a. a.attributes) (typed_attrs_at content_type.now)
+    ensures reads { Reads (λ a. a.attributes) (typed_attrs_at content_type.now)
         cons.old result cons.new }
+    ensures mode { IfOk result (λ a. a.mode ≡ cons.old.mode) }
 {
     let attributes = SignedAttrs::take_from(alloc, cons)?;
     if attributes.content_type().as_slice() == content_type.as_slice() {
@@ -84,7 +88,9 @@ fn take_fields(
     alloc: Global,
     content_type: &Oid,
 ) -> Result<SignerInfo, DecodeError>
-    ensures { Reads (λ s. s) (signer_fields_at content_type.now) cons.old result cons.new }
+    ensures reads { Reads (λ s. s.signer) (signer_fields_at content_type.now)
+        cons.old result cons.new }
+    ensures mode { IfOk result (λ s. s.mode ≡ cons.old.mode) }
 {
     skip_version(cons)?;
     let sid = take_sid(cons)?;
@@ -117,7 +123,9 @@ pub fn take_signer_info(
     alloc: Global,
     content_type: &Oid,
 ) -> Result<SignerInfo, DecodeError>
-    ensures { Reads (λ s. s) (signer_info_at content_type.now) cons.old result cons.new }
+    ensures reads { Reads (λ s. s.signer) (signer_info_at content_type.now)
+        cons.old result cons.new }
+    ensures mode { IfOk result (λ s. s.mode ≡ cons.old.mode) }
 {
     cons.take_sequence(|cons| take_fields(cons, alloc, content_type))
 }

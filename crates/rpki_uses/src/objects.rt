@@ -1,11 +1,13 @@
 //! Signed objects, as those who have a kind of content of their own use them.
 
-ghost use Rattle.std.specs.Prelude.{◌≡◌, ℕ, List, Err, IfOk, MatchResult};
+ghost use Rattle.std.specs.Prelude.{◌≡◌, ◌≢◌, ℕ, List, Err, IfOk, MatchResult};
 ghost use Rattle.rpki_der.specs.declared.encode.EncodeError.TheVariants.{NotDer, Memory};
 ghost use Rattle.rpki_der.specs.declared.mode.Mode.TheVariants.{Der, Ber};
 ghost use Rattle.rpki_der.specs.Grammar.{Front, HasNoFront};
 ghost use Rattle.rpki_der.specs.Read.Parse.{u32_at};
 ghost use Rattle.rpki_der.specs.Read.Reads.{Found, Refuses};
+ghost use Rattle.rpki_attributes.specs.declared.attribute.OtherTypes.TheVariants.{Skip};
+ghost use Rattle.rpki_attributes.specs.Attrs.{SignedAttrsForm};
 ghost use Rattle.rpki_certs.specs.Inspect.{ee_checks};
 ghost use Rattle.rpki_certs.specs.Validate.{AreHeld, IsGoodUnder};
 ghost use Rattle.rpki_faults.specs.Checks.{AllHold};
@@ -17,7 +19,7 @@ use bytes::Bytes;
 use rpki_basics::{Crypto, Time};
 use rpki_certs::ResourceCert;
 use rpki_certs::laws::numbers_are_held;
-use rpki_der::{DecodeError, EncodeError, Oid};
+use rpki_der::{DecodeError, Encode, EncodeError, Oid};
 use rpki_faults::ValidationError;
 use rpki_sigobj::SignedObject;
 use rpki_sigobj::laws::valid_objects;
@@ -73,4 +75,14 @@ pub fn copy_of(object: &SignedObject) -> Result<Bytes, EncodeError>
     ensures ber { object.now.mode ≡ Ber → result ≡ Err NotDer }
 {
     object.to_captured()
+}
+
+/// The octets of the attributes that the signer of an object signed, under [0]. Those of an object
+/// that was read in DER are never refused as if they had been read in BER.
+pub fn signed_in(alloc: Global, object: &SignedObject) -> Result<Vec<u8>, EncodeError>
+    ensures octets { IfOk result (λ octets. SignedAttrsForm Skip Der octets.items
+        object.now.object.signed.signer.attributes) }
+    ensures der { object.now.mode ≡ Der → result ≢ Err NotDer }
+{
+    object.attributes().encode_ref().to_bytes(alloc)
 }

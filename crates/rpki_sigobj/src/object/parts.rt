@@ -17,10 +17,11 @@ impl SignedObject {
         self.contents.signer.sid
     }
 
-    /// The attributes that the signer signed (RFC 5652, section 5.3). They were read in the mode of
-    /// the object, which no clause tells.
+    /// The attributes that the signer signed (RFC 5652, section 5.3), read in the mode of the
+    /// object: those of an object that was read in DER can be written.
     pub fn attributes(&self) -> &SignedAttrs
-        ensures { result.now.attributes ≡ self.now.object.signed.signer.attributes }
+        ensures attributes { result.now.attributes ≡ self.now.object.signed.signer.attributes }
+        ensures mode { result.now.mode ≡ self.now.mode }
     {
         &self.contents.signer.attributes
     }

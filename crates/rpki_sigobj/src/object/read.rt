@@ -30,6 +30,7 @@ pub struct SignedData {
 }
 
 impl Model for SignedData {
+    ghost use Rattle.std.specs.Prelude.{◌≡◌};
     ghost use Rattle.rpki_sigobj.specs.Object.{KeptData};
 
     ghost Value = { KeptData };
@@ -39,10 +40,12 @@ impl Model for SignedData {
         content_type = d.content_type;
         content = d.content;
         cert = d.cert.certificate;
-        signer = d.signer;
+        signer = d.signer.signer;
       };
       cert_mode = d.cert.mode;
     } };
+
+    ghost invariant = { λ d. d.signer.mode ≡ d.cert.mode };
 }
 
 // The identifier of signed data (RFC 5652, section 5.1).
@@ -104,8 +107,9 @@ fn take_signer(
     alloc: Global,
     content_type: &Oid,
 ) -> Result<SignerInfo, DecodeError>
-    ensures { Reads (λ s. s) (set_at (signer_info_at content_type.now))
+    ensures reads { Reads (λ s. s.signer) (set_at (signer_info_at content_type.now))
         cons.old result cons.new }
+    ensures mode { IfOk result (λ s. s.mode ≡ cons.old.mode) }
 {
     cons.take_set(|cons| take_signer_info(cons, alloc, content_type))
 }

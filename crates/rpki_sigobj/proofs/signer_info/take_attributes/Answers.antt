@@ -9,8 +9,8 @@ use Rattle.rpki_attributes.specs.Attrs.{KeptAttributes, SignedAttributes}
 use Rattle.rpki_attributes.specs.Attrs.Read.{attrs_at}
 use Rattle.rpki_sigobj.proofs.signer_info.take_attributes.Goals as goal
 
-pub returns-else-eq : goal.returns-else-eq
-returns-else-eq c =
+pub returns-else-eq-clause-reads : goal.returns-else-eq-clause-reads
+returns-else-eq-clause-reads c =
     let type = c.args.content_type.now in
     let test : SignedAttributes → Bool = λ x. bytes_eq x.content_type type in
     let view : KeptAttributes → SignedAttributes = λ k. k.attributes in
