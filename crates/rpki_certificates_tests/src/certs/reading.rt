@@ -30,11 +30,19 @@ fn taken(alloc: Global, source: Bytes, mode: Mode) -> Result<Cert, DecodeError> 
     Constructed::decode(source, mode, |cons| Cert::take_from(alloc, cons))
 }
 
+/// Whether a good certificate of this kind is read with the keys and names that it was made with.
+fn is_read(alloc: Global, of: Call) -> Result<bool, Fail> {
+    let cert = read(alloc, of, &[])?;
+    let is_right = has_keys(&cert, good(of));
+    drop(cert);
+    Ok(is_right)
+}
+
 #[test]
 fn keys(rt: HostRuntime) -> Result<(), Fail> {
     let alloc = rt.alloc();
     for of in [Call::Ta, Call::Ca, Call::Ee] {
-        assert!(rt; has_keys(&read(alloc, of, &[])?, good(of)));
+        assert!(rt; is_read(alloc, of)?);
     }
     Ok(())
 }
@@ -58,14 +66,21 @@ fn is_not_der(cert: &Cert) -> bool {
 
 /// A copy of what is read from these octets.
 fn copied(alloc: Global, octets: Bytes) -> Result<Cert, DecodeError> {
-    Ok(Cert::decode(alloc, octets)?.clone()?)
+    let cert = Cert::decode(alloc, octets)?;
+    let copy = cert.clone();
+    drop(cert);
+    Ok(copy?)
 }
 
 /// Whether a copy of what these octets hold is written as they stand.
 fn is_kept(alloc: Global, octets: Bytes) -> Result<bool, AllocError> {
     let source = octets.clone()?;
     match copied(alloc, source) {
-        Ok(cert) => is_written(alloc, &cert, octets.as_slice()),
+        Ok(cert) => {
+            let is_written = is_written(alloc, &cert, octets.as_slice());
+            drop(cert);
+            is_written
+        }
         Err(DecodeError::Memory) => Err(AllocError),
         Err(_) => Ok(false),
     }
@@ -74,7 +89,11 @@ fn is_kept(alloc: Global, octets: Bytes) -> Result<bool, AllocError> {
 /// Whether what these octets hold in BER is not written.
 fn is_refused(alloc: Global, octets: Bytes) -> Result<bool, AllocError> {
     match taken(alloc, octets, Mode::Ber) {
-        Ok(cert) => Ok(is_not_der(&cert)),
+        Ok(cert) => {
+            let is_not_der = is_not_der(&cert);
+            drop(cert);
+            Ok(is_not_der)
+        }
         Err(DecodeError::Memory) => Err(AllocError),
         Err(_) => Ok(false),
     }

@@ -137,7 +137,11 @@ pub fn content_text(alloc: Global, content: &AsProviderAttestation) -> Result<St
 /// What these octets say, or why they are refused.
 pub fn text_of(alloc: Global, octets: &[u8], limit: ProviderLimit) -> Result<String, AllocError> {
     match read(alloc, octets, limit)? {
-        Ok(content) => content_text(alloc, &content),
+        Ok(content) => {
+            let text = content_text(alloc, &content);
+            drop(content);
+            text
+        }
         Err(error) => format!(in alloc; "{error}"),
     }
 }

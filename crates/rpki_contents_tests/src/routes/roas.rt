@@ -191,7 +191,11 @@ pub fn content_text(alloc: Global, content: &RouteOriginAttestation) -> Result<S
 /// What these octets say, or why they are refused.
 pub fn text_of(alloc: Global, octets: &[u8]) -> Result<String, AllocError> {
     match read(alloc, octets)? {
-        Ok(content) => content_text(alloc, &content),
+        Ok(content) => {
+            let text = content_text(alloc, &content);
+            drop(content);
+            text
+        }
         Err(error) => format!(in alloc; "{error}"),
     }
 }
