@@ -7,7 +7,7 @@ use Rattle.rpki_basics.specs.Moment.{Moment}
 use Rattle.rpki_faults.specs.Checks.{◌unless◌, AnswersFirstFault}
 use Rattle.rpki_faults.specs.declared.validation.ValidationError.{ValidationError}
 use Rattle.rpki_faults.specs.declared.validation.ValidationError.TheVariants.{Memory, Verification}
-use Rattle.rpki_faults.specs.declared.verification.VerificationError.TheVariants.{Revoked}
+use Rattle.rpki_faults.specs.declared.verification.VerificationError.TheVariants.{Caller}
 use Rattle.rpki_crls.specs.Crl.{RevocationList}
 use Rattle.rpki_certs.specs.Cert.{Certificate, KeptCertificate}
 use Rattle.rpki_certs.specs.Validate.{Validated}
@@ -24,11 +24,11 @@ use Rattle.rpki_signed.specs.Object.{Whole, ObjectForm}
 abbrev pub IsUnrevoked : RevocationList → Certificate → Type 0
 IsUnrevoked list c = ¬ Contains list.tbs.revoked c.tbs.serial_number
 
--- What the list says of a certificate: a yes exactly where it does not revoke it, and else the
--- fault for it.
+-- What the list says of a certificate: a yes exactly where it does not revoke it, and else that
+-- the caller refuses it.
 abbrev pub SaysOf : RevocationList → KeptCertificate → Result (Unit {0}) ValidationError → Type 0
 SaysOf list k said =
-    AnswersFirstFault ((Verification Revoked unless IsUnrevoked list k.certificate) ∷ []) said
+    AnswersFirstFault ((Verification Caller unless IsUnrevoked list k.certificate) ∷ []) said
 
 -- What is said of certificates is what the list says.
 abbrev pub SaysAs : (KeptCertificate → Result (Unit {0}) ValidationError → Type 0)

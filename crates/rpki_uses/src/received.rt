@@ -26,12 +26,13 @@ use rpki_routes::RouteOriginAttestation;
 use rpki_signed::check::{self, CheckError};
 use std::alloc::Global;
 
-/// Verifies that a list does not revoke a certificate.
+/// Verifies that a list does not revoke the certificate of an end entity. Where it does, that is the
+/// caller's own refusal: `Revoked` is said of the certificate of a CA.
 pub fn verify_unrevoked(list: &Crl, cert: &Cert) -> Result<(), ValidationError>
     ensures { SaysOf list.now.list cert.now result }
 {
     if list.contains(cert.serial_number()) {
-        return Err(ValidationError::Verification(VerificationError::Revoked));
+        return Err(ValidationError::Verification(VerificationError::Caller));
     }
     Ok(())
 }
