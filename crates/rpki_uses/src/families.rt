@@ -47,7 +47,8 @@ pub fn validated_sets(
     Ok(Sets { asns, v4, v6 })
 }
 
-/// Validates a certificate under an issuer with these sets: all else first, and then its claims.
+/// Validates the claims of a certificate under an issuer with these sets, after all else. The checks
+/// of a trust anchor stand in for those that come first.
 pub fn validate(
     alloc: Global,
     facts: &Facts,

@@ -31,9 +31,8 @@ pub fn take_times(cons: &mut Constructed<'_>) -> Result<(Time, Time), DecodeErro
     Ok((first, second))
 }
 
-/// The UTCTime `500101000000Z`, the earliest that there is: from 50 on, the two digits of the year
-/// stand for one of the twentieth century (RFC 5280, section 4.1.2.5.1). Only memory may be
-/// wanting.
+/// The UTCTime `500101000000Z`: from 50 on, the two digits of the year stand for one of the
+/// twentieth century (RFC 5280, section 4.1.2.5.1). Only memory may be wanting.
 pub fn earliest_utc_time() -> Result<Time, DecodeError>
     ensures { MatchResult result (λ time. time ≡ record {
       year = 1950;
