@@ -67,7 +67,7 @@ fn is_not_der(cert: &Cert) -> bool {
 /// A copy of what is read from these octets.
 fn copied(alloc: Global, octets: Bytes) -> Result<Cert, DecodeError> {
     let cert = Cert::decode(alloc, octets)?;
-    let copy = cert.clone();
+    let copy: Result<Cert, AllocError> = cert.clone();
     drop(cert);
     Ok(copy?)
 }
