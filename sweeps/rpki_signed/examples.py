@@ -113,7 +113,7 @@ ROWS = (
     ("Roa", "OVERCLAIMING", 2027, "overclaimed IPv4 resources"),
     ("Roa", "EXPIRED", 2027, "certificate has expired"),
     ("Roa", "BROKEN", 2027, "signature is not valid"),
-    ("Aspa", "ORIGIN", 2027, "wrong content type"),
+    ("Aspa", "ORIGIN", 2027, "eContentType is not the one that is asked for"),
     ("Roa", "EXPIRED", 2026, "yes"),
 )
 

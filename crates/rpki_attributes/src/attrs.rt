@@ -95,8 +95,8 @@ impl SignedAttrs {
     /// project's own rule.
     ///
     /// Refuses by `Malformed`, by `InvalidSignedAttr` for an attribute of another type, by
-    /// `AttributeTwice`, `NoContentType`, `NoMessageDigest`, `NoSigningTime`, by
-    /// `AttributesTooLong` for more than 65535 octets, and by what `Time::take_from` refuses.
+    /// `ATTRIBUTE_TWICE`, `NO_CONTENT_TYPE`, `NO_MESSAGE_DIGEST`, `NO_SIGNING_TIME`, by
+    /// `ATTRIBUTES_TOO_LONG` for more than 65535 octets, and by what `Time::take_from` refuses.
     /// `Memory` may come too.
     pub fn take_from(alloc: Global, cons: &mut Constructed<'_>) -> Result<SignedAttrs, DecodeError>
         ensures reads { Reads (λ a. a.attributes) (attrs_at Refuse) cons.old result cons.new }

@@ -6,6 +6,7 @@ mod attribute;
 mod attrs;
 mod digest;
 mod fault;
+pub mod faults;
 pub mod laws;
 mod list;
 

@@ -9,7 +9,8 @@ ghost use Rattle.rpki_attributes.specs.Attribute.{type_of};
 ghost use Rattle.rpki_attributes.specs.Attribute.Read.{attribute_at};
 
 use crate::attribute::{Attribute, OtherTypes, take_opt_attribute};
-use rpki_der::{Constructed, ContentFault, DecodeError, Reason};
+use crate::faults;
+use rpki_der::{Constructed, DecodeError};
 use std::alloc::Global;
 
 /// Reads as many attributes as there are.
@@ -40,12 +41,12 @@ fn has(list: &[Attribute], oid: &[u8]) -> bool
     false
 }
 
-/// The attribute of this type. Refuses by `AttributeTwice` where there is a second one, and by
+/// The attribute of this type. Refuses by `ATTRIBUTE_TWICE` where there is a second one, and by
 /// `missing` where there is none.
 pub fn only_one<'l>(
     list: &'l [Attribute],
     oid: &[u8],
-    missing: Reason,
+    missing: &'static str,
 ) -> Result<&'l Attribute, DecodeError>
     ensures { Tells (λ a. a.now) (only_one type_of oid.now list.now) result }
 {
@@ -53,12 +54,12 @@ pub fn only_one<'l>(
     while let Some((first, others)) = rest.split_first() {
         if first.oid() == oid {
             return if has(others, oid) {
-                Err(DecodeError::Content(ContentFault::Text(Reason::AttributeTwice)))
+                Err(DecodeError::refusal(faults::ATTRIBUTE_TWICE))
             } else {
                 Ok(first)
             };
         }
         rest = others;
     }
-    Err(DecodeError::Content(ContentFault::Text(missing)))
+    Err(DecodeError::refusal(missing))
 }

@@ -5,6 +5,7 @@
 
 mod build;
 mod clock;
+pub mod faults;
 pub mod laws;
 mod limits;
 mod serial;

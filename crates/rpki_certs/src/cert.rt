@@ -118,7 +118,7 @@ impl Cert {
     /// 5280, section 4.1; RFC 6487, section 4). The values of extensions are read in DER, whatever
     /// the mode of the reader is.
     ///
-    /// Refuses by `UnknownAlgorithm`, by what times and extensions are refused by, by `Malformed`
+    /// Refuses by `UNKNOWN_ALGORITHM`, by what times and extensions are refused by, by `Malformed`
     /// for all else, or by `Memory`.
     pub fn take_from(alloc: Global, cons: &mut Constructed<'_>) -> Result<Cert, DecodeError>
         ensures reads { Reads (λ c. c.certificate) cert_at cons.old result cons.new }

@@ -115,7 +115,7 @@ impl Crl {
     /// 5280, section 5.1; RFC 6487, section 5). The values of extensions are read in DER, whatever
     /// the mode of the reader is. The two times are not compared.
     ///
-    /// Refuses by `UnknownAlgorithm`, by what times and extensions are refused by, by `Malformed`
+    /// Refuses by `UNKNOWN_ALGORITHM`, by what times and extensions are refused by, by `Malformed`
     /// for all else, or by `Memory`.
     pub fn take_from(alloc: Global, cons: &mut Constructed<'_>) -> Result<Crl, DecodeError>
         ensures reads { Reads (λ c. c.list) crl_at cons.old result cons.new }

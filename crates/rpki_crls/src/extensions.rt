@@ -12,9 +12,10 @@ ghost use Rattle.rpki_extensions.specs.KeyIdentifiers.{authority_key_at};
 ghost use Rattle.rpki_crls.specs.Extensions.{crl_number, crl_extensions, CrlExtensionsForm};
 ghost use Rattle.rpki_crls.specs.Extensions.{crl_extensions_of, crl_extensions_at};
 
+use crate::faults;
 use bytes::Bytes;
 use rpki_basics::{KeyIdentifier, Serial};
-use rpki_der::{Constructed, DecodeError, Mode, Reason};
+use rpki_der::{Constructed, DecodeError, Mode};
 use rpki_extensions::{
     Extension, Profile, refused, take_authority_key_identifier, take_standing, with_oid,
 };
@@ -58,7 +59,7 @@ fn authority_key(list: &[Extension]) -> Result<KeyIdentifier, DecodeError>
         (must (stated authority_key_identifier authority_key_at list.now)) result }
 {
     match with_oid(list, &AUTHORITY_KEY_IDENTIFIER) {
-        None => Err(refused(Reason::NoAuthorityKeyIdentifier)),
+        None => Err(refused(faults::NO_AUTHORITY_KEY_IDENTIFIER)),
         Some(extension) => authority_key_in(extension.value.clone()?),
     }
 }
@@ -75,7 +76,7 @@ fn number(list: &[Extension]) -> Result<Serial, DecodeError>
     ensures { Tells (λ number. number) (must (stated crl_number u160_at list.now)) result }
 {
     match with_oid(list, &CRL_NUMBER) {
-        None => Err(refused(Reason::NoCrlNumber)),
+        None => Err(refused(faults::NO_CRL_NUMBER)),
         Some(extension) => number_in(extension.value.clone()?),
     }
 }
@@ -117,8 +118,9 @@ impl CrlExtensions {
     /// extension that is known has either flag, and one that is not known says nothing where it is
     /// not critical: own rules of this project.
     ///
-    /// Refuses by `ExtensionTwice`, by `UnknownCriticalExtension`, by `NoAuthorityKeyIdentifier`
-    /// and `NoCrlNumber` for what has to be there, by `Malformed`, or by `Memory`.
+    /// Refuses by `EXTENSION_TWICE`, by `UNKNOWN_CRITICAL_EXTENSION`, by
+    /// `NO_AUTHORITY_KEY_IDENTIFIER` and `NO_CRL_NUMBER` for what has to be there, by `Malformed`,
+    /// or by `Memory`.
     pub fn take_from(
         alloc: Global,
         cons: &mut Constructed<'_>,

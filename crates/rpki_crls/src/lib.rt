@@ -4,6 +4,7 @@
 mod crl;
 mod entry;
 mod extensions;
+pub mod faults;
 pub mod laws;
 
 pub use crl::{Crl, CrlEncoder};

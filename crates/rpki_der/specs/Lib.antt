@@ -9,3 +9,4 @@ pub mod Read
 pub mod Write
 pub mod Text
 pub mod Form
+pub mod StaticText

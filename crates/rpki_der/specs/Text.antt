@@ -1,4 +1,3 @@
 pub mod Hex
 pub mod Arcs
-pub mod Reason
 pub mod Error

@@ -6,7 +6,7 @@ ghost use Rattle.rpki_der.specs.Text.Error.{fault_text, error_text};
 ghost use Rattle.rpki_der.specs.declared.error.DecodeError.TheVariants.{Memory};
 
 use crate::oid::Oid;
-use crate::reason::Reason;
+use crate::static_text::StaticText;
 use std::alloc::{AllocError, AllocFailed, Global};
 use std::error::Error;
 use std::fmt;
@@ -31,8 +31,8 @@ pub enum ContentFault {
     /// (RFC 6488, section 2.1.6.4, as RFC 9589 updates it: a binary signing time, which that
     /// section names too, is no longer allowed).
     InvalidSignedAttr(InvalidSignedAttr),
-    /// A rule of the format that is broken. `Reason` has a text for each.
-    Text(Reason),
+    /// A rule of the format that is broken, in words. The crate of the format has a text for each.
+    Text(StaticText),
 }
 
 /// The type of a signed attribute that is not allowed.
@@ -68,6 +68,13 @@ impl InvalidSignedAttr {
 }
 
 impl DecodeError {
+    /// The refusal of a content by a rule of its format that this text states.
+    pub fn refusal(text: &'static str) -> DecodeError
+        ensures { result ≡ DecodeError.Content (ContentFault.Text text.now) }
+    {
+        DecodeError::Content(ContentFault::Text(StaticText::of(text)))
+    }
+
     /// A copy, unless no memory for it is to be had. Only that of a signed attribute's type takes
     /// memory.
     pub(crate) fn copy(&self) -> Result<DecodeError, AllocError>
@@ -92,7 +99,7 @@ impl ContentFault {
                 let oid = attr.oid.clone()?;
                 Ok(ContentFault::InvalidSignedAttr(InvalidSignedAttr { oid }))
             }
-            ContentFault::Text(reason) => Ok(ContentFault::Text(*reason)),
+            ContentFault::Text(text) => Ok(ContentFault::Text(text.again())),
         }
     }
 }
@@ -131,7 +138,7 @@ impl fmt::Display for ContentFault {
     fn fmt<W: fmt::Write>(&self, f: &mut fmt::Formatter<W>) -> fmt::Result {
         match self {
             ContentFault::InvalidSignedAttr(attr) => attr.fmt(f),
-            ContentFault::Text(reason) => reason.fmt(f),
+            ContentFault::Text(text) => f.write_str(text.as_str()),
         }
     }
 }

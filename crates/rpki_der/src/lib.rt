@@ -13,7 +13,7 @@ pub mod laws;
 mod mode;
 mod oid;
 mod read;
-mod reason;
+mod static_text;
 mod stream;
 mod tag;
 
@@ -27,6 +27,6 @@ pub use hex::LowerHex;
 pub use mode::Mode;
 pub use oid::Oid;
 pub use read::{Constructed, ListItem};
-pub use reason::Reason;
+pub use static_text::StaticText;
 pub use stream::{Counted, Sink, SinkFailed, Source, SourceError, SourceFailed};
 pub use tag::Tag;

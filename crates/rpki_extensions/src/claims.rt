@@ -16,10 +16,11 @@ ghost use Rattle.rpki_extensions.specs.Policies.{policies_at};
 
 use crate::addresses::IpClaims;
 use crate::extension::{Extension, has_oid, refused, with_oid};
+use crate::faults;
 use crate::identifiers::{CERTIFICATE_POLICIES, as_resources, ip_resources, other};
 use crate::policies::take_certificate_policies;
 use bytes::Bytes;
-use rpki_der::{Constructed, DecodeError, Mode, Reason};
+use rpki_der::{Constructed, DecodeError, Mode};
 use rpki_faults::Overclaim;
 use rpki_resources::{AsResources, Resources};
 use std::alloc::{AllocError, Global};
@@ -60,7 +61,7 @@ fn policy(list: &[Extension]) -> Result<Overclaim, DecodeError>
         (must (stated certificate_policies policies_at list.now)) result }
 {
     match with_oid(list, &CERTIFICATE_POLICIES) {
-        None => Err(refused(Reason::NoPolicy)),
+        None => Err(refused(faults::NO_POLICY)),
         Some(extension) => policy_in(extension.value.clone()?),
     }
 }
@@ -140,7 +141,7 @@ pub fn claims_of(alloc: Global, list: &[Extension]) -> Result<Claims, DecodeErro
 {
     let policy = policy(list)?;
     if has_other(policy, list) {
-        return Err(refused(Reason::ResourcesOfOtherPolicy));
+        return Err(refused(faults::RESOURCES_OF_OTHER_POLICY));
     }
     claims_under(alloc, policy, list)
 }

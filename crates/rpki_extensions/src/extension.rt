@@ -7,8 +7,9 @@ ghost use Rattle.rpki_der.specs.Read.Reads.{Reads, Stays};
 ghost use Rattle.rpki_extensions.specs.Extension.{extension_fields_at, oid_of, may_stand};
 ghost use Rattle.rpki_extensions.specs.Extension.{standing_at};
 
+use crate::faults;
 use bytes::Bytes;
-use rpki_der::{Constructed, ContentFault, DecodeError, ListItem, Oid, Reason};
+use rpki_der::{Constructed, ContentFault, DecodeError, ListItem, Oid};
 use std::alloc::{AllocError, Global};
 use std::collections::BTreeSet;
 
@@ -35,11 +36,11 @@ impl Clone for Extension {
     }
 }
 
-/// What is refused for this reason.
-pub fn refused(reason: Reason) -> DecodeError
-    ensures { result ≡ DecodeError.Content (ContentFault.Text reason) }
+/// What is refused by a rule that this text states.
+pub fn refused(text: &'static str) -> DecodeError
+    ensures { result ≡ DecodeError.Content (ContentFault.Text text.now) }
 {
-    DecodeError::Content(ContentFault::Text(reason))
+    DecodeError::refusal(text)
 }
 
 // Reads what stands in the SEQUENCE.
@@ -112,9 +113,9 @@ fn may_stand<P: Profile>(list: &[Extension]) -> bool
 }
 
 /// Takes as many extensions as there are, in any order (RFC 5280, section 4.2). Refuses by
-/// `ExtensionTwice` where an identifier stands twice, after one look-up in an ordered set for each;
-/// by `UnknownCriticalExtension` for a critical one that is not known; by `Malformed`, or by
-/// `Memory`.
+/// `EXTENSION_TWICE` where an identifier stands twice, after one look-up in an ordered set for
+/// each; by `UNKNOWN_CRITICAL_EXTENSION` for a critical one that is not known; by `Malformed`, or
+/// by `Memory`.
 #[tactic(auto, unfolding(rpki_der::specs::Read::Parse::tested))]
 pub fn take_standing<P: Profile>(
     alloc: Global,
@@ -126,11 +127,11 @@ pub fn take_standing<P: Profile>(
     let list: Vec<Extension> = cons.take_items(alloc)?;
     match are_distinct(alloc, &list) {
         Ok(true) => {}
-        Ok(false) => return Err(cons.refuse_for(Reason::ExtensionTwice)),
+        Ok(false) => return Err(cons.refuse_for(faults::EXTENSION_TWICE)),
         Err(_) => return Err(cons.fail(DecodeError::Memory)),
     }
     if !may_stand::<P>(&list) {
-        return Err(cons.refuse_for(Reason::UnknownCriticalExtension));
+        return Err(cons.refuse_for(faults::UNKNOWN_CRITICAL_EXTENSION));
     }
     Ok(list)
 }

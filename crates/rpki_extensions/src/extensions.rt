@@ -101,9 +101,10 @@ impl Extensions {
     /// left, an extension that is known has either flag, and one that is not known says nothing
     /// where it is not critical, which RFC 6487, section 8, does not permit.
     ///
-    /// Refuses by `ExtensionTwice`, by `UnknownCriticalExtension`, by `NoSubjectKeyIdentifier`,
-    /// `NoKeyUsage` and `NoPolicy` for what has to be there, by `ResourcesOfOtherPolicy`, by what
-    /// the values are refused by, by `Malformed`, or by `Memory`.
+    /// Refuses by `EXTENSION_TWICE`, by `UNKNOWN_CRITICAL_EXTENSION`, by
+    /// `NO_SUBJECT_KEY_IDENTIFIER`, `NO_KEY_USAGE` and `NO_POLICY` for what has to be there, by
+    /// `RESOURCES_OF_OTHER_POLICY`, by what the values are refused by, by `Malformed`, or by
+    /// `Memory`.
     pub fn take_from(alloc: Global, cons: &mut Constructed<'_>) -> Result<Extensions, DecodeError>
         ensures reads { Reads (λ x. x) extensions_at cons.old result cons.new }
         ensures decodes { DecodesNext ExtensionsForm (λ x. x) cons.old result cons.new }

@@ -8,6 +8,7 @@ mod basic;
 mod claims;
 mod extension;
 mod extensions;
+pub mod faults;
 mod identifiers;
 mod key_identifiers;
 mod keys;

@@ -7,9 +7,10 @@ ghost use Rattle.rpki_extensions.specs.Points.{PointsForm, first_rsync_at, point
 ghost use Rattle.rpki_extensions.specs.Points.{one_point_at, points_at};
 
 use crate::extension::refused;
+use crate::faults;
 use crate::name::{first_uri, take_names};
 use rpki_basics::Rsync;
-use rpki_der::{Constructed, DecodeError, Reason, Tag};
+use rpki_der::{Constructed, DecodeError, Tag};
 use std::alloc::Global;
 
 // Reads names, and keeps the first rsync URI.
@@ -19,7 +20,7 @@ fn take_first(alloc: Global, cons: &mut Constructed<'_>) -> Result<Rsync, Decode
     let names = take_names(alloc, cons)?;
     match first_uri::<Rsync>(&names)? {
         Some(uri) => Ok(uri),
-        None => Err(refused(Reason::NoRsyncUri)),
+        None => Err(refused(faults::NO_RSYNC_URI)),
     }
 }
 
@@ -56,7 +57,7 @@ fn take_points(alloc: Global, cons: &mut Constructed<'_>) -> Result<Rsync, Decod
 
 /// Reads where the revocation list is published: the first rsync URI among the names of the one
 /// distribution point (RFC 5280, section 4.2.1.13; RFC 6487, section 4.8.6). Names of other kinds
-/// are gone past. That the first one counts is this project's own rule. Refuses by `NoRsyncUri`
+/// are gone past. That the first one counts is this project's own rule. Refuses by `NO_RSYNC_URI`
 /// where there is none, by `Malformed`, or by `Memory`.
 pub fn take_crl_distribution_points(
     alloc: Global,

@@ -8,7 +8,8 @@ ghost use Rattle.rpki_der.specs.Read.Reads.{Reads, Stays};
 ghost use Rattle.rpki_extensions.specs.Policies.{PoliciesForm, overclaim_of, policy_fields_at};
 ghost use Rattle.rpki_extensions.specs.Policies.{one_policy_at, policies_at};
 
-use rpki_der::{Constructed, DecodeError, Reason};
+use crate::faults;
+use rpki_der::{Constructed, DecodeError};
 use rpki_faults::Overclaim;
 
 // id-cp-ipAddr-asNumber (RFC 6484, section 1.2).
@@ -38,7 +39,7 @@ fn take_policy(cons: &mut Constructed<'_>) -> Result<Overclaim, DecodeError>
     let oid = cons.take_oid()?;
     match overclaim_of(oid.as_slice()) {
         Some(overclaim) => Ok(overclaim),
-        None => Err(cons.refuse_for(Reason::UnknownPolicy)),
+        None => Err(cons.refuse_for(faults::UNKNOWN_POLICY)),
     }
 }
 
@@ -70,7 +71,7 @@ fn take_policies(cons: &mut Constructed<'_>) -> Result<Overclaim, DecodeError>
 
 /// Reads certificate policies, of which there is one: it says what is done where the certificate
 /// claims more than its issuer has (RFC 5280, section 4.2.1.4; RFC 6487, section 4.8.9; RFC 8360,
-/// section 4.2.1). Values after the identifier are gone past. Refuses by `UnknownPolicy` for
+/// section 4.2.1). Values after the identifier are gone past. Refuses by `UNKNOWN_POLICY` for
 /// another policy, by `Malformed`, or by `Memory`.
 pub fn take_certificate_policies(cons: &mut Constructed<'_>) -> Result<Overclaim, DecodeError>
     ensures reads { Reads (λ o. o) policies_at cons.old result cons.new }

@@ -8,7 +8,8 @@ ghost use Rattle.rpki_der.specs.Read.Reads.{Reads, Stays};
 ghost use Rattle.rpki_der.specs.Tags.{OBJECT_IDENTIFIER};
 ghost use Rattle.rpki_extensions.specs.Purposes.{PurposesForm, purposes_at};
 
-use rpki_der::{Constructed, DecodeError, ListItem, Oid, Reason, Tag};
+use crate::faults;
+use rpki_der::{Constructed, DecodeError, ListItem, Oid, Tag};
 use std::alloc::{AllocError, Global};
 use std::marker::Model;
 
@@ -81,13 +82,13 @@ fn take_some(alloc: Global, cons: &mut Constructed<'_>) -> Result<Vec<Purpose>, 
 {
     let purposes = take_list(alloc, cons)?;
     if purposes.is_empty() {
-        return Err(cons.refuse_for(Reason::NoPurposes));
+        return Err(cons.refuse_for(faults::NO_PURPOSES));
     }
     Ok(purposes)
 }
 
 /// Reads the purposes of a key, an extended key usage (RFC 5280, section 4.2.1.12). Refuses by
-/// `NoPurposes` where there is none, by `Malformed`, or by `Memory`.
+/// `NO_PURPOSES` where there is none, by `Malformed`, or by `Memory`.
 pub fn take_purposes(alloc: Global, cons: &mut Constructed<'_>) -> Result<Vec<Purpose>, DecodeError>
     ensures reads { Reads (λ purposes. purposes.items) purposes_at cons.old result cons.new }
     ensures decodes { DecodesNext PurposesForm (λ purposes. purposes.items)

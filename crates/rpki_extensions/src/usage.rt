@@ -5,7 +5,8 @@ ghost use Rattle.rpki_der.specs.Form.Decodes.{DecodesNext};
 ghost use Rattle.rpki_der.specs.Read.Reads.{Reads, Stays};
 ghost use Rattle.rpki_extensions.specs.Usage.{KeyUsageForm, is_bit_set, usage_of, key_usage_at};
 
-use rpki_der::{BitString, Constructed, DecodeError, Reason};
+use crate::faults;
+use rpki_der::{BitString, Constructed, DecodeError};
 use rpki_faults::KeyUsage;
 
 // digitalSignature (RFC 5280, section 4.2.1.3).
@@ -48,14 +49,14 @@ fn take_usage(cons: &mut Constructed<'_>) -> Result<KeyUsage, DecodeError>
     let bits = cons.take_bits()?;
     match usage_of(&bits) {
         Some(usage) => Ok(usage),
-        None => Err(cons.refuse_for(Reason::WrongKeyUsage)),
+        None => Err(cons.refuse_for(faults::WRONG_KEY_USAGE)),
     }
 }
 
 /// Reads the usage of a key: of a CA where the bits keyCertSign and cRLSign are set, and else of an
 /// end entity where digitalSignature is set (RFC 5280, section 4.2.1.3; RFC 6487, section 4.8.4).
 /// That further bits may be set, and that bits that are zero may end them in DER too, are this
-/// project's own rules. Refuses by `WrongKeyUsage` where the bits are those of neither, by
+/// project's own rules. Refuses by `WRONG_KEY_USAGE` where the bits are those of neither, by
 /// `Malformed`, or by `Memory`.
 pub fn take_key_usage(cons: &mut Constructed<'_>) -> Result<KeyUsage, DecodeError>
     ensures reads { Reads (λ usage. usage) key_usage_at cons.old result cons.new }

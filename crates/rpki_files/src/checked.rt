@@ -11,9 +11,9 @@ ghost use Rattle.rpki_files.specs.File.{Takes};
 ghost use Rattle.rpki_files.specs.Checked.{is_portable, is_portable_name, portable_if_at};
 ghost use Rattle.rpki_files.specs.Checked.{checked_at};
 
+use crate::faults;
 use crate::name::is_stem;
 use bytes::Bytes;
-use rpki_der::Reason;
 use rpki_der::encode::{Raw, Value, ia5, octet_string, sequence};
 use rpki_lists::{EntryIter, Kind, Refused, SliceEntry, SliceReader, Written};
 use std::alloc::AllocError;
@@ -105,7 +105,7 @@ fn take_name<'a>(reader: &mut SliceReader<'a>) -> Result<Option<&'a [u8]>, Refus
             if is_portable_name(name) {
                 Ok(Some(name))
             } else {
-                Err(Refused::For(Reason::BadChecklistName))
+                Err(Refused::For(faults::BAD_CHECKLIST_NAME))
             }
         }
     }

@@ -7,12 +7,13 @@ ghost use Rattle.rpki_files.specs.File.{Takes, name_of, name_at, hash_at, file_a
 ghost use Rattle.rpki_files.specs.File.{is_unrepeated};
 ghost use Rattle.rpki_files.specs.Name.{IsFileName};
 
+use crate::faults;
 use crate::file::{FileAndHash, FileEncoder};
 use crate::name::{is_allowed, is_file_name};
 use bytes::Bytes;
 use rpki_basics::ManifestRule;
 use rpki_der::encode::{bit_string, ia5, sequence};
-use rpki_der::{Constructed, DecodeError, Reason, Tag};
+use rpki_der::{Constructed, DecodeError, Tag};
 use rpki_lists::{
     EntryIter, EntryList, Kind, Refused, Rule, SliceEntry, SliceReader, Written, take_list,
 };
@@ -34,7 +35,7 @@ fn take_name<'a>(reader: &mut SliceReader<'a>) -> Result<&'a [u8], Refused>
     if is_file_name(name) {
         Ok(name)
     } else {
-        Err(Refused::For(Reason::BadManifestName))
+        Err(Refused::For(faults::BAD_MANIFEST_NAME))
     }
 }
 
@@ -159,7 +160,7 @@ impl Rule for NamesBy {
                 if is_allowed(self.rule, file.file) {
                     Ok(())
                 } else {
-                    Err(Refused::For(Reason::FileTypeNotRegistered))
+                    Err(Refused::For(faults::FILE_TYPE_NOT_REGISTERED))
                 }
             }
             Err(refused) => Err(refused),
@@ -205,8 +206,8 @@ fn is_unrepeated(
 }
 
 /// Reads the list of files (RFC 9286, section 4.2). A name of another form is refused by
-/// `BadManifestName`, a type that is not registered and a name that comes twice, where the rule
-/// asks for that, by `FileTypeNotRegistered` and `FileNameTwice`, all else by `Malformed`;
+/// `BAD_MANIFEST_NAME`, a type that is not registered and a name that comes twice, where the rule
+/// asks for that, by `FILE_TYPE_NOT_REGISTERED` and `FILE_NAME_TWICE`, all else by `Malformed`;
 /// `Memory` may come too.
 #[tactic(auto, unfolding(rpki_der::specs::Read::Parse::tested))]
 pub fn take_files(
@@ -220,7 +221,7 @@ pub fn take_files(
     let files = take_list(cons, NamesBy { rule })?;
     match is_unrepeated(alloc, rule, &files) {
         Ok(true) => Ok(files),
-        Ok(false) => Err(cons.refuse_for(Reason::FileNameTwice)),
+        Ok(false) => Err(cons.refuse_for(faults::FILE_NAME_TWICE)),
         Err(_) => Err(cons.fail(DecodeError::Memory)),
     }
 }

@@ -3,6 +3,7 @@
 
 mod checked;
 mod checklist;
+pub mod faults;
 mod file;
 mod files;
 mod hash;

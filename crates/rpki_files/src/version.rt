@@ -5,7 +5,8 @@ ghost use Rattle.rpki_der.specs.Read.Reads.{Reads};
 ghost use Rattle.rpki_der.specs.Form.Made.{partly};
 ghost use Rattle.rpki_files.specs.Version.{zero_alone};
 
-use rpki_der::{Constructed, DecodeError, Reason};
+use crate::faults;
+use rpki_der::{Constructed, DecodeError};
 
 /// Reads the number of the version, which is 0.
 pub fn take_version(cons: &mut Constructed<'_>) -> Result<(), DecodeError>
@@ -14,6 +15,6 @@ pub fn take_version(cons: &mut Constructed<'_>) -> Result<(), DecodeError>
     if cons.take_u8()? == 0 {
         Ok(())
     } else {
-        Err(cons.refuse_for(Reason::WrongVersion))
+        Err(cons.refuse_for(faults::WRONG_VERSION))
     }
 }

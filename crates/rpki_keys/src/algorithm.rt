@@ -14,8 +14,9 @@ ghost use Rattle.rpki_keys.specs.Algorithm.{cert_algorithm_octets};
 ghost use Rattle.rpki_keys.specs.declared.algorithm.DigestAlgorithm.TheVariants.{Sha256};
 ghost use Rattle.rpki_keys.specs.declared.algorithm.RpkiSignatureAlgorithm.TheVariants.{RsaSha256};
 
+use crate::faults;
 use rpki_der::encode::Raw;
-use rpki_der::{Constructed, DecodeError, Oid, Reason};
+use rpki_der::{Constructed, DecodeError, Oid};
 
 // SHA-256 (RFC 5754, section 2.2).
 const SHA_256: [u8; 9] = [0x60, 0x86, 0x48, 0x01, 0x65, 0x03, 0x04, 0x02, 0x01];
@@ -53,7 +54,7 @@ pub fn skip_algorithm(cons: &mut Constructed<'_>, oid: &[u8]) -> Result<(), Deco
     if read.as_slice() == oid {
         Ok(())
     } else {
-        Err(cons.refuse_for(Reason::UnknownAlgorithm))
+        Err(cons.refuse_for(faults::UNKNOWN_ALGORITHM))
     }
 }
 
@@ -67,7 +68,7 @@ fn skip_either(cons: &mut Constructed<'_>, first: &[u8], second: &[u8]) -> Resul
     if read.as_slice() == first || read.as_slice() == second {
         Ok(())
     } else {
-        Err(cons.refuse_for(Reason::UnknownAlgorithm))
+        Err(cons.refuse_for(faults::UNKNOWN_ALGORITHM))
     }
 }
 
@@ -117,7 +118,7 @@ impl DigestAlgorithm {
     }
 
     /// Reads the algorithm of digests: SEQUENCE { SHA-256, NULL? } (RFC 5754, section 2), in DER
-    /// and in BER alike. Another algorithm is refused by `UnknownAlgorithm`, all else by
+    /// and in BER alike. Another algorithm is refused by `UNKNOWN_ALGORITHM`, all else by
     /// `Malformed`; `Memory` may come too.
     pub fn take_from(cons: &mut Constructed<'_>) -> Result<DigestAlgorithm, DecodeError>
         ensures reads { Reads (λ _. tt) digest_algorithm_at cons.old result cons.new }
@@ -150,7 +151,7 @@ pub enum RpkiSignatureAlgorithm {
 impl RpkiSignatureAlgorithm {
     /// Reads the algorithm of a signature of signed objects: SEQUENCE { rsaEncryption or
     /// sha256WithRSAEncryption, NULL? } (RFC 7935, section 2), in DER and in BER alike. Another
-    /// algorithm is refused by `UnknownAlgorithm`, all else by `Malformed`; `Memory` may come too.
+    /// algorithm is refused by `UNKNOWN_ALGORITHM`, all else by `Malformed`; `Memory` may come too.
     pub fn take_cms_from(cons: &mut Constructed<'_>) -> Result<RpkiSignatureAlgorithm, DecodeError>
         ensures reads { Reads (λ _. tt) cms_algorithm_at cons.old result cons.new }
         ensures decodes { DecodesNext CmsAlgorithmForm (λ _. tt) cons.old result cons.new }
@@ -162,7 +163,7 @@ impl RpkiSignatureAlgorithm {
 
     /// Reads the algorithm of a signature of certificates and revocation lists: SEQUENCE {
     /// sha256WithRSAEncryption, NULL? } (RFC 7935, section 2), in DER and in BER alike. Another
-    /// algorithm is refused by `UnknownAlgorithm`, all else by `Malformed`; `Memory` may come too.
+    /// algorithm is refused by `UNKNOWN_ALGORITHM`, all else by `Malformed`; `Memory` may come too.
     pub fn take_cert_from(cons: &mut Constructed<'_>) -> Result<RpkiSignatureAlgorithm, DecodeError>
         ensures reads { Reads (λ _. tt) cert_algorithm_at cons.old result cons.new }
         ensures decodes { DecodesNext CertAlgorithmForm (λ _. tt) cons.old result cons.new }

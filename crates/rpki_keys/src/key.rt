@@ -110,7 +110,7 @@ fn take_key(cons: &mut Constructed<'_>) -> Result<PublicKey, DecodeError>
 impl PublicKey {
     /// Reads a key: a SubjectPublicKeyInfo of an RSA key whose bits are whole octets (RFC 5280,
     /// section 4.1.2.7), in DER and in BER alike. A key of another algorithm is refused by
-    /// `UnknownAlgorithm`, all else by `Malformed`; `Memory` may come too.
+    /// `UNKNOWN_ALGORITHM`, all else by `Malformed`; `Memory` may come too.
     pub fn take_from(cons: &mut Constructed<'_>) -> Result<PublicKey, DecodeError>
         ensures reads { Reads (λ k. k) key_at cons.old result cons.new }
         ensures decodes { DecodesNext KeyForm (λ k. k) cons.old result cons.new }

@@ -5,6 +5,7 @@
 mod algorithm;
 mod crypto;
 mod digest;
+pub mod faults;
 mod hex;
 mod identifier;
 mod key;

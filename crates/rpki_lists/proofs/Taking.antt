@@ -7,8 +7,7 @@ use Rattle.rpki_der.specs.declared.mode.Mode.{Mode}
 use Rattle.rpki_der.specs.declared.mode.Mode.TheVariants.{Der}
 use Rattle.rpki_der.specs.declared.error.DecodeError.{DecodeError}
 use Rattle.rpki_der.specs.declared.error.DecodeError.TheVariants.{Malformed, Content}
-use Rattle.rpki_der.specs.declared.error.ContentFault.TheVariants.{Text}
-use Rattle.rpki_der.specs.declared.reason.Reason.{Reason}
+use Rattle.rpki_der.specs.declared.error.ContentFault.{ContentFault}
 use Rattle.rpki_der.specs.Read.State.{State, failing}
 use Rattle.rpki_der.specs.Read.Parse.{Parser, ◌>>=◌, primitive, value_at, all_of, tested}
 use Rattle.rpki_der.specs.Read.Reads.{Reads, IsAgain}
@@ -96,12 +95,12 @@ module _ {X : Type 0} (p : Parser X) (test : List X → Bool) (old : State) wher
 
   pub take-refused : {T : Type 0} (E : Type 0) (view : T → List X) (c : List ℕ) (e : E)
       (mid : State)
-      (reason : Reason) (d : DecodeError)
+      (fault : ContentFault) (d : DecodeError)
       → Reads (λ (d : List ℕ). d) (primitive SEQUENCE Some) old (Ok c) mid
       → CountsBy {E = E} test (all_of p Der c) (Err e)
-      → (mid.failed ≡ None → d ≡ Content (Text reason))
+      → (mid.failed ≡ None → d ≡ Content fault)
       → Reads {T = T} view (tested test (list_at p)) old (Err d) (failing mid d)
-  take-refused E view c e mid reason d h k again =
+  take-refused E view c e mid fault d h k again =
       let r = reads-ok (λ (d : List ℕ). d) (primitive SEQUENCE Some) old c mid h in
       let none = none-taken E c e mid h k in
       (r.mode, rw (r.before, again r.after) none)

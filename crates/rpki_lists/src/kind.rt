@@ -7,7 +7,6 @@ ghost use Rattle.rpki_lists.specs.Entries.{PassesFront, Shrinks};
 ghost use Rattle.rpki_lists.specs.Text.{refused_text};
 
 use crate::slice::SliceReader;
-use rpki_der::Reason;
 use std::error::Error;
 use std::fmt::{self, Debug};
 
@@ -16,8 +15,8 @@ use std::fmt::{self, Debug};
 pub enum Refused {
     /// The octets don't begin with an entry.
     Malformed,
-    /// A rule of the format is broken.
-    For(Reason),
+    /// A rule of the format is broken, which this text states.
+    For(&'static str),
 }
 
 impl fmt::Display for Refused {
@@ -26,7 +25,7 @@ impl fmt::Display for Refused {
     fn fmt<W: fmt::Write>(&self, f: &mut fmt::Formatter<W>) -> fmt::Result {
         match self {
             Refused::Malformed => f.write_str("malformed"),
-            Refused::For(reason) => fmt::Display::fmt(reason, f),
+            Refused::For(text) => f.write_str(*text),
         }
     }
 }

@@ -70,7 +70,7 @@ impl<K: Kind> EntryList<K> {
         }
     }
 
-    /// Reads a SEQUENCE of entries. Refuses by the reason that an entry is refused for, by
+    /// Reads a SEQUENCE of entries. Refuses by the text that an entry is refused for, by
     /// `Malformed`, or by `Memory`.
     pub fn take_from(cons: &mut Constructed<'_>) -> Result<EntryList<K>, DecodeError>
         ensures reads { Reads (λ l. l) (list_at K.entry_at) cons.old result cons.new }

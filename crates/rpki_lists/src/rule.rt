@@ -67,7 +67,7 @@ pub(crate) fn count_by<R: Rule + Drop>(octets: &[u8], rule: R) -> Result<usize, 
     Ok(count)
 }
 
-/// Reads a SEQUENCE of entries that the rule admits. What breaks the rule is refused by the reason
+/// Reads a SEQUENCE of entries that the rule admits. What breaks the rule is refused by the text
 /// that the rule gives, all else by `Malformed`; `Memory` may come too.
 pub fn take_list<R: Rule + Drop>(
     cons: &mut Constructed<'_>,
@@ -81,6 +81,6 @@ pub fn take_list<R: Rule + Drop>(
     match count_by(octets.as_slice(), rule) {
         Ok(count) => Ok(EntryList::counted(octets, count)),
         Err(Refused::Malformed) => Err(cons.fail(DecodeError::Malformed)),
-        Err(Refused::For(reason)) => Err(cons.refuse_for(reason)),
+        Err(Refused::For(text)) => Err(cons.refuse_for(text)),
     }
 }

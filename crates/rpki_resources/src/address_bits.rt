@@ -12,11 +12,10 @@ ghost use Rattle.rpki_resources.specs.Ip.Written.{octet_count, first_bits, end_o
 ghost use Rattle.rpki_resources.specs.Ip.Written.{upper_len};
 
 use crate::addr::Addr;
+use crate::faults;
 use crate::prefix::host_mask;
 use rpki_der::encode::bit_string;
-use rpki_der::{
-    BitString, Constructed, DecodeError, Encode, EncodeError, Reason, Sink, SinkFailed,
-};
+use rpki_der::{BitString, Constructed, DecodeError, Encode, EncodeError, Sink, SinkFailed};
 
 // The number with these digits to base 256.
 fn value_of(octets: &[u8]) -> u128
@@ -72,7 +71,7 @@ pub fn take_address(cons: &mut Constructed<'_>, most: u8) -> Result<BitString, D
     if bit_count(bits.octets.as_slice(), bits.unused) <= u128::from(most) {
         Ok(bits)
     } else {
-        Err(cons.refuse_for(Reason::AddressTooLong))
+        Err(cons.refuse_for(faults::ADDRESS_TOO_LONG))
     }
 }
 

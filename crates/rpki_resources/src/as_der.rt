@@ -17,9 +17,10 @@ ghost use Rattle.rpki_resources.specs.As.Read.{as_ends_at, as_item_at, as_items_
 use crate::asn::{AsBlock, AsBlocks, Asn};
 use crate::block::Block;
 use crate::blocks::Blocks;
+use crate::faults;
 use crate::list::{Listed, take_list};
 use rpki_der::encode::{each, integer, sequence};
-use rpki_der::{Constructed, DecodeError, Encode, EncodeError, Reason, Sink, SinkFailed};
+use rpki_der::{Constructed, DecodeError, Encode, EncodeError, Sink, SinkFailed};
 use std::alloc::Global;
 use std::marker::Model;
 
@@ -38,7 +39,7 @@ fn take_ends(cons: &mut Constructed<'_>) -> Result<Block<Asn>, DecodeError>
             max: Asn::from_u32(max),
         })
     } else {
-        Err(cons.refuse_for(Reason::LowerEndAboveUpperEnd))
+        Err(cons.refuse_for(faults::LOWER_END_ABOVE_UPPER_END))
     }
 }
 
@@ -85,9 +86,9 @@ fn take_set(cons: &mut Constructed<'_>, alloc: Global) -> Result<AsBlocks, Decod
 }
 
 impl Blocks<Asn> {
-    /// Reads a set: a SEQUENCE OF of numbers and ranges, in any order, which may overlap, and
-    /// of which there may be none (RFC 3779, sections 3.2.3.4 to 3.2.3.10). A lower end above its
-    /// upper end is refused by `Reason::LowerEndAboveUpperEnd`, and all else that is no such set is
+    /// Reads a set: a SEQUENCE OF of numbers and ranges, in any order, which may overlap, and of
+    /// which there may be none (RFC 3779, sections 3.2.3.4 to 3.2.3.10). A lower end above its
+    /// upper end is refused by `LOWER_END_ABOVE_UPPER_END`, and all else that is no such set is
     /// `Malformed`. Where there is no memory for the blocks, the answer is `Memory`.
     pub fn take_from(alloc: Global, cons: &mut Constructed<'_>) -> Result<AsBlocks, DecodeError>
         ensures reads { Reads (λ set. set) as_blocks_at cons.old result cons.new }

@@ -13,10 +13,11 @@ ghost use Rattle.rpki_resources.specs.Families.Read.{with_value, ip_set_at};
 ghost use Rattle.rpki_resources.specs.Ip.Form.{IpForm};
 
 use crate::family::AddressFamily;
+use crate::faults;
 use crate::ip::IpBlocks;
 use crate::list::{Listed, take_list};
 use crate::resources::IpResources;
-use rpki_der::{Constructed, ContentFault, DecodeError, Reason};
+use rpki_der::{Constructed, DecodeError};
 use std::alloc::Global;
 
 /// What stands for IPv4 and for IPv6, where there is something.
@@ -171,13 +172,13 @@ fn take_values<T: OfFamily>(
     let entries = take_list(cons, alloc, ())?;
     match gather(entries) {
         Some(values) => Ok(values),
-        None => Err(DecodeError::Content(ContentFault::Text(Reason::FamilyTwice))),
+        None => Err(DecodeError::refusal(faults::FAMILY_TWICE)),
     }
 }
 
 /// Reads a SEQUENCE OF SEQUENCE of a family and a value of it (RFC 3779, sections 2.2.3.1 and
 /// 2.2.3.2). The families may stand in either order, and each of them at most once: a second one is
-/// refused by `Reason::FamilyTwice`. Where there is no memory, the answer is `Memory`.
+/// refused by `FAMILY_TWICE`. Where there is no memory, the answer is `Memory`.
 pub fn take_families<T: OfFamily>(
     alloc: Global,
     cons: &mut Constructed<'_>,

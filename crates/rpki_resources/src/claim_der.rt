@@ -9,9 +9,10 @@ ghost use Rattle.rpki_resources.specs.Claim.Read.{as_identifiers_at, no_domains_
 use crate::addr::Addr;
 use crate::asn::{AsBlocks, Asn};
 use crate::family::AddressFamily;
+use crate::faults;
 use crate::ip::IpBlocks;
 use crate::resources::{AsResources, IpResources, Resources};
-use rpki_der::{Constructed, DecodeError, Reason, Tag};
+use rpki_der::{Constructed, DecodeError, Tag};
 use std::alloc::Global;
 
 // Reads NULL, or a set of AS numbers.
@@ -49,7 +50,7 @@ fn refuse_domains(cons: &mut Constructed<'_>) -> Result<(), DecodeError>
     ensures stays { Stays result cons.new }
 {
     match cons.take_opt_constructed_if(Tag::CTX_1, |cons| cons.skip_all())? {
-        Some(()) => Err(cons.refuse_for(Reason::RoutingDomains)),
+        Some(()) => Err(cons.refuse_for(faults::ROUTING_DOMAINS)),
         None => Ok(()),
     }
 }
@@ -88,8 +89,8 @@ impl Resources<Asn> {
 
     /// Reads the value of the extension of AS numbers: a SEQUENCE of NULL or a set of AS numbers
     /// under [0] (RFC 3779, section 3.2.3.1). Routing domain identifiers, [1], are refused by
-    /// `Reason::RoutingDomains` (RFC 6487, section 4.8.11), and a value without [0] by `Malformed`.
-    /// Where there is no memory for the numbers, the answer is `Memory`.
+    /// `ROUTING_DOMAINS` (RFC 6487, section 4.8.11), and a value without [0] by `Malformed`. Where
+    /// there is no memory for the numbers, the answer is `Memory`.
     pub fn take_identifiers_from(
         alloc: Global,
         cons: &mut Constructed<'_>,

@@ -12,8 +12,9 @@ ghost use Rattle.rpki_resources.specs.Family.{max_bits};
 ghost use Rattle.rpki_resources.specs.Family.Form.{afi, FamilyForm};
 ghost use Rattle.rpki_resources.specs.Family.Read.{family_of, family_at};
 
+use crate::faults;
 use rpki_der::encode::octet_string;
-use rpki_der::{Constructed, DecodeError, Encode, EncodeError, Reason, Sink, SinkFailed};
+use rpki_der::{Constructed, DecodeError, Encode, EncodeError, Sink, SinkFailed};
 use std::alloc::Global;
 use std::marker::Model;
 
@@ -56,14 +57,14 @@ fn take_family(cons: &mut Constructed<'_>, alloc: Global) -> Result<AddressFamil
     let octets = cons.take_octets(alloc)?;
     match family_of(octets.as_slice()) {
         Some(family) => Ok(family),
-        None => Err(cons.refuse_for(Reason::UnknownFamily)),
+        None => Err(cons.refuse_for(faults::UNKNOWN_FAMILY)),
     }
 }
 
 impl AddressFamily {
     /// Reads a family: an OCTET STRING of the two octets 00 01 for IPv4, or 00 02 for IPv6 (RFC
-    /// 3779, section 2.2.3.3). Another one is refused by `Reason::UnknownFamily`, and what is no
-    /// such string is `Malformed`. `Memory` may come too, since in BER the string may be in pieces.
+    /// 3779, section 2.2.3.3). Another one is refused by `UNKNOWN_FAMILY`, and what is no such
+    /// string is `Malformed`. `Memory` may come too, since in BER the string may be in pieces.
     pub fn take_from(
         alloc: Global,
         cons: &mut Constructed<'_>,

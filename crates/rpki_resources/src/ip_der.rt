@@ -24,11 +24,12 @@ use crate::address_bits::{highest_of, lower_end, lowest_of, prefix_bits, take_ad
 use crate::block::Block;
 use crate::blocks::Blocks;
 use crate::family::AddressFamily;
+use crate::faults;
 use crate::ip::IpBlocks;
 use crate::list::{Listed, take_list};
 use crate::prefix::len_of;
 use rpki_der::encode::{each, sequence};
-use rpki_der::{Constructed, DecodeError, Encode, EncodeError, Reason, Sink, SinkFailed};
+use rpki_der::{Constructed, DecodeError, Encode, EncodeError, Sink, SinkFailed};
 use std::alloc::Global;
 use std::marker::Model;
 
@@ -50,7 +51,7 @@ fn take_ends(cons: &mut Constructed<'_>, most: u8) -> Result<Block<Addr>, Decode
             max: Addr::from_bits(max),
         })
     } else {
-        Err(cons.refuse_for(Reason::LowerEndAboveUpperEnd))
+        Err(cons.refuse_for(faults::LOWER_END_ABOVE_UPPER_END))
     }
 }
 
@@ -120,10 +121,10 @@ fn take_set(
 
 impl Blocks<Addr> {
     /// Reads a set of addresses of the family: a SEQUENCE OF of prefixes and ranges, in any order,
-    /// which may overlap, and of which there may be none (RFC 3779, sections 2.2.3.6 to 2.2.3.9).
-    /// A lower end above its upper end is refused by `Reason::LowerEndAboveUpperEnd`, more bits
-    /// than an address of the family has by `Reason::AddressTooLong`, and all else that is no such
-    /// set is `Malformed`. Where there is no memory for the blocks, the answer is `Memory`.
+    /// which may overlap, and of which there may be none (RFC 3779, sections 2.2.3.6 to 2.2.3.9). A
+    /// lower end above its upper end is refused by `LOWER_END_ABOVE_UPPER_END`, more bits than an
+    /// address of the family has by `ADDRESS_TOO_LONG`, and all else that is no such set is
+    /// `Malformed`. Where there is no memory for the blocks, the answer is `Memory`.
     pub fn take_from(
         alloc: Global,
         cons: &mut Constructed<'_>,

@@ -15,6 +15,7 @@ mod blocks;
 mod by_family;
 mod claim_der;
 mod family;
+pub mod faults;
 mod ip;
 mod ip_der;
 pub mod laws;

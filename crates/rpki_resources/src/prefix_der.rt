@@ -14,8 +14,9 @@ ghost use Rattle.rpki_der.specs.Write.Parts.{contents_small};
 use crate::addr::Addr;
 use crate::address_bits::{bit_count, lowest_of, prefix_bits};
 use crate::family::AddressFamily;
+use crate::faults;
 use crate::prefix::Prefix;
-use rpki_der::{Constructed, DecodeError, Encode, EncodeError, Reason, Sink, SinkFailed};
+use rpki_der::{Constructed, DecodeError, Encode, EncodeError, Sink, SinkFailed};
 
 // Reads a prefix of the family.
 #[tactic(auto, unfolding(crate::specs::Ip::Read::ip_address_at, rpki_der::specs::Read::Parse::tested))]
@@ -26,7 +27,7 @@ fn take_prefix(cons: &mut Constructed<'_>, family: AddressFamily) -> Result<Pref
     let bits = cons.take_bits()?;
     match Prefix::from_bits(bits.octets.as_slice(), bits.unused, family) {
         Some(prefix) => Ok(prefix),
-        None => Err(cons.refuse_for(Reason::AddressTooLong)),
+        None => Err(cons.refuse_for(faults::ADDRESS_TOO_LONG)),
     }
 }
 
@@ -50,9 +51,8 @@ impl Prefix {
 
     /// Reads a prefix of the family: a BIT STRING of its bits (RFC 3779, section 2.2.3.8; RFC 9582,
     /// section 4.3). The bits of the last octet that are not used may be any, and are cleared. More
-    /// bits than an address of the family has are refused by `Reason::AddressTooLong`, and what is
-    /// no such string is `Malformed`. Where there is no memory for the bits, the answer is
-    /// `Memory`.
+    /// bits than an address of the family has are refused by `ADDRESS_TOO_LONG`, and what is no
+    /// such string is `Malformed`. Where there is no memory for the bits, the answer is `Memory`.
     pub fn take_from(
         cons: &mut Constructed<'_>,
         family: AddressFamily,

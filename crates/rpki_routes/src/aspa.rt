@@ -17,13 +17,14 @@ ghost use Rattle.rpki_routes.specs.Aspa.Form.{AspaForm};
 ghost use Rattle.rpki_routes.specs.Aspa.Read.{fields_at};
 ghost use Rattle.rpki_routes.specs.Aspa.Written.{aspa_octets};
 
+use crate::faults;
 use bytes::Bytes;
 pub use encoder::AsProviderAttestationEncoder;
 use providers::take_providers;
 pub use providers::{ProviderAsIter, ProviderAsSet};
 use rpki_basics::ProviderLimit;
 use rpki_der::laws::slices_hold_octets;
-use rpki_der::{Constructed, DecodeError, Mode, Reason, Tag};
+use rpki_der::{Constructed, DecodeError, Mode, Tag};
 use rpki_resources::{AsBlock, AsBlocksBuilder, AsResources, Asn};
 use std::alloc::{AllocError, Global};
 use std::marker::Model;
@@ -132,7 +133,7 @@ fn take_fields(
     cons.take_constructed_if(Tag::CTX_0, |cons| cons.skip_u8_if(1))?;
     let customer = cons.take_u32()?;
     if customer == 0 {
-        return Err(cons.refuse_for(Reason::CustomerAs0));
+        return Err(cons.refuse_for(faults::CUSTOMER_AS0));
     }
     let providers = take_providers(cons, customer, limit)?;
     Ok(AsProviderAttestation {

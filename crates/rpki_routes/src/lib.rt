@@ -3,6 +3,7 @@
 #![tactic(auto)]
 
 mod aspa;
+pub mod faults;
 pub mod laws;
 mod roa;
 

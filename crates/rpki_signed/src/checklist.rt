@@ -138,8 +138,8 @@ impl Signed<ResourceSignedChecklist> {
     /// strictly, and else by those of BER; its content is in DER (RFC 9323, sections 3 and 4).
     /// Octets after it are left, and so are those after what the content says.
     ///
-    /// Refuses by `WrongContentType` where the object has another type, by what signed objects and
-    /// contents of checklists are refused by, or by `Memory`.
+    /// Refuses by `OTHER_CONTENT_TYPE` where the object has another type, by what signed objects
+    /// and contents of checklists are refused by, or by `Memory`.
     pub fn decode(alloc: Global, source: Bytes, strict: bool) -> Result<Rsc, DecodeError>
         ensures decodes { Decodes (ObjectForm ct_checklist (ChecklistForm Der) (mode_of strict))
             whole_of source result }

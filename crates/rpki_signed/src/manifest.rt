@@ -78,8 +78,8 @@ impl Signed<ManifestContent> {
     /// names of files that the rule takes. Octets after it are left, and so are those after what
     /// the content says.
     ///
-    /// Refuses by `WrongContentType` where the object has another type, by what signed objects and
-    /// contents of manifests are refused by, or by `Memory`.
+    /// Refuses by `OTHER_CONTENT_TYPE` where the object has another type, by what signed objects
+    /// and contents of manifests are refused by, or by `Memory`.
     pub fn decode(
         alloc: Global,
         source: Bytes,

@@ -152,8 +152,8 @@ impl Signed<RouteOriginAttestation> {
     /// else by those of BER; its content is in DER (RFC 9582, sections 3 and 4). Octets after it
     /// are left, and so are those after what the content says.
     ///
-    /// Refuses by `WrongContentType` where the object has another type, by what signed objects and
-    /// contents of ROAs are refused by, or by `Memory`.
+    /// Refuses by `OTHER_CONTENT_TYPE` where the object has another type, by what signed objects
+    /// and contents of ROAs are refused by, or by `Memory`.
     pub fn decode(alloc: Global, source: Bytes, strict: bool) -> Result<Roa, DecodeError>
         ensures decodes { Decodes (ObjectForm route_origin_authz RoaForm (mode_of strict)) whole_of
             source result }

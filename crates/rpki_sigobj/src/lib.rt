@@ -1,6 +1,7 @@
 //! Signed objects (RFC 5652; RFC 6488): reading, what they say, and validation.
 #![tactic(auto)]
 
+pub mod faults;
 pub mod laws;
 mod object;
 mod process;

@@ -13,11 +13,12 @@ ghost use Rattle.rpki_der.specs.Read.Reads.{Reads, Stays, Found};
 ghost use Rattle.rpki_sigobj.specs.Object.{SignedForm, SignedFormOf, IsKept, object_of, object_at};
 ghost use Rattle.rpki_sigobj.specs.Object.{mode_of};
 
+use crate::faults;
 use bytes::Bytes;
 pub use encoder::SignedObjectEncoder;
 use read::SignedData;
 use rpki_der::laws::slices_hold_octets;
-use rpki_der::{Captured, Constructed, ContentFault, DecodeError, EncodeError, Mode, Oid, Reason};
+use rpki_der::{Captured, Constructed, DecodeError, EncodeError, Mode, Oid};
 use std::alloc::{AllocError, Global};
 use std::marker::Model;
 
@@ -102,7 +103,7 @@ impl SignedObject {
     }
 
     /// Reads the signed object at the front of the source, as `decode` does, if its content has
-    /// this type. Refuses by `WrongContentType` where it has another one.
+    /// this type. Refuses by `OTHER_CONTENT_TYPE` where it has another one.
     pub fn decode_if_type(
         alloc: Global,
         source: Bytes,
@@ -120,7 +121,7 @@ impl SignedObject {
                     Ok(object)
                 } else {
                     drop(object);
-                    Err(DecodeError::Content(ContentFault::Text(Reason::WrongContentType)))
+                    Err(DecodeError::refusal(faults::OTHER_CONTENT_TYPE))
                 }
             }
         }
@@ -130,9 +131,9 @@ impl SignedObject {
     /// 5652, sections 3 and 5; RFC 6488, section 2). In BER the certificate is read in BER too, but
     /// for the values of its extensions, which are DER.
     ///
-    /// Refuses by `UnknownAlgorithm`, by `WrongContentType` where the signed attributes say another
-    /// type than that of the content, by what signed attributes and certificates are refused by, by
-    /// `Malformed` for all else, or by `Memory`.
+    /// Refuses by `UNKNOWN_ALGORITHM`, by `WRONG_CONTENT_TYPE` where the signed attributes say
+    /// another type than that of the content, by what signed attributes and certificates are
+    /// refused by, by `Malformed` for all else, or by `Memory`.
     pub fn take_from(alloc: Global, cons: &mut Constructed<'_>) -> Result<SignedObject, DecodeError>
         ensures reads { Reads (λ o. o.object) object_at cons.old result cons.new }
         ensures decodes { DecodesNext SignedForm (λ o. o.object) cons.old result cons.new }

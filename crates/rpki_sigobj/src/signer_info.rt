@@ -6,9 +6,10 @@ ghost use Rattle.rpki_extensions.specs.KeyIdentifiers.{key_id_at};
 ghost use Rattle.rpki_sigobj.specs.SignerInfo.{version_at, typed_attrs_at, signer_fields_at};
 ghost use Rattle.rpki_sigobj.specs.SignerInfo.{signer_info_at};
 
+use crate::faults;
 use rpki_attributes::SignedAttrs;
 use rpki_basics::{DigestAlgorithm, KeyIdentifier, RpkiSignature, RpkiSignatureAlgorithm};
-use rpki_der::{Constructed, DecodeError, Oid, Reason, Tag};
+use rpki_der::{Constructed, DecodeError, Oid, Tag};
 use std::alloc::{AllocError, Global};
 use std::marker::Model;
 
@@ -77,7 +78,7 @@ fn take_attributes(
         Ok(attributes)
     } else {
         drop(attributes);
-        Err(cons.refuse_for(Reason::WrongContentType))
+        Err(cons.refuse_for(faults::WRONG_CONTENT_TYPE))
     }
 }
 

@@ -12,17 +12,18 @@ ghost use Rattle.rpki_attributes.specs.Attrs.Read.{contents_at, attrs_at};
 use crate::attribute::{Attribute, CONTENT_TYPE, MESSAGE_DIGEST, OtherTypes, SIGNING_TIME};
 use crate::attrs::{Fields, MOST};
 use crate::digest::MessageDigest;
+use crate::faults;
 use crate::list::{only_one, take_list};
 use bytes::Bytes;
 use rpki_basics::Time;
-use rpki_der::{Captured, Constructed, ContentFault, DecodeError, Mode, Oid, Reason, Tag};
+use rpki_der::{Captured, Constructed, DecodeError, Mode, Oid, Tag};
 use std::alloc::Global;
 
 // The type of the content (RFC 5652, section 11.1).
 fn content_type(list: &[Attribute], mode: Mode) -> Result<Oid, DecodeError>
     ensures { Tells (λ oid. oid) (said_by id_content_type oid_at mode list.now) result }
 {
-    let attribute = only_one(list, &CONTENT_TYPE, Reason::NoContentType)?;
+    let attribute = only_one(list, &CONTENT_TYPE, faults::NO_CONTENT_TYPE)?;
     let values = attribute.values().clone()?;
     Constructed::decode_all(values, mode, |cons| cons.take_oid())
 }
@@ -36,7 +37,7 @@ fn message_digest(
     ensures { Tells (λ d. d)
         (said_by id_message_digest (octets_at MAX_DEPTH) mode list.now) result }
 {
-    let attribute = only_one(list, &MESSAGE_DIGEST, Reason::NoMessageDigest)?;
+    let attribute = only_one(list, &MESSAGE_DIGEST, faults::NO_MESSAGE_DIGEST)?;
     let values = attribute.values().clone()?;
     let octets = Constructed::decode_all(values, mode, |cons| cons.take_octets(alloc))?;
     Ok(MessageDigest::from(octets))
@@ -46,7 +47,7 @@ fn message_digest(
 fn signing_time(list: &[Attribute], mode: Mode) -> Result<Time, DecodeError>
     ensures { Tells (λ t. t) (said_by id_signing_time time_at mode list.now) result }
 {
-    let attribute = only_one(list, &SIGNING_TIME, Reason::NoSigningTime)?;
+    let attribute = only_one(list, &SIGNING_TIME, faults::NO_SIGNING_TIME)?;
     let values = attribute.values().clone()?;
     Constructed::decode_all(values, mode, |cons| Time::take_from(cons))
 }
@@ -85,7 +86,7 @@ fn says_of(
     if contents.len() <= MOST {
         fields_of(contents, mode, list, alloc)
     } else {
-        Err(DecodeError::Content(ContentFault::Text(Reason::AttributesTooLong)))
+        Err(DecodeError::refusal(faults::ATTRIBUTES_TOO_LONG))
     }
 }
 

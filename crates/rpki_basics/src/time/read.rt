@@ -9,8 +9,9 @@ ghost use Rattle.rpki_basics.specs.Time.Form.{TimeForm};
 ghost use Rattle.rpki_basics.specs.Time.Read.{pair_at, is_zulu, after_year_of, utc_of};
 ghost use Rattle.rpki_basics.specs.Time.Read.{generalized_of, time_at, IsTimeOf};
 
+use crate::faults;
 use crate::time::Time;
-use rpki_der::{Constructed, DecodeError, Reason, Tag};
+use rpki_der::{Constructed, DecodeError, Tag};
 
 // Two decimal digits at the front, and what follows them.
 #[tactic(auto, unfolding(crate::specs::Time::Read::pair_at))]
@@ -77,14 +78,14 @@ fn generalized_time(text: &[u8]) -> Option<Time>
 
 // Why these contents, which name no moment, are refused: they are not this number of digits and Z,
 // or they are, and there is no such date or time of day.
-fn fault_of(text: &[u8], digits: usize) -> Reason {
+fn fault_of(text: &[u8], digits: usize) -> &'static str {
     let is_time = text.len() > digits
         && text[..digits].iter().all(|c| c.is_ascii_digit())
         && is_zulu(&text[digits..]);
     if is_time {
-        Reason::NoSuchTime
+        faults::NO_SUCH_TIME
     } else {
-        Reason::BadTime
+        faults::BAD_TIME
     }
 }
 
@@ -118,8 +119,8 @@ fn take_time(cons: &mut Constructed<'_>) -> Result<Time, DecodeError>
 
 impl Time {
     /// Reads a time: a UTCTime or a GeneralizedTime of a real moment (RFC 5280, section 4.1.2.5),
-    /// in DER and in BER alike. A text of another form is refused by `BadTime`, a date or a time of
-    /// day that there is not by `NoSuchTime`, all else by `Malformed`; `Memory` may come too.
+    /// in DER and in BER alike. A text of another form is refused by `BAD_TIME`, a date or a time
+    /// of day that there is not by `NO_SUCH_TIME`, all else by `Malformed`; `Memory` may come too.
     pub fn take_from(cons: &mut Constructed<'_>) -> Result<Time, DecodeError>
         ensures reads { Reads (λ t. t) time_at cons.old result cons.new }
         ensures decodes { DecodesNext TimeForm (λ t. t) cons.old result cons.new }

@@ -55,24 +55,24 @@ pub static ROWS: [Row; 34] = [
     (
         &[V2, SHA_256, NAME, THIS, NEXT, BOTH],
         SIGNED,
-        "unknown algorithm",
+        "algorithm is none that the profile names",
     ),
     (
         &[V2, RSA, NAME, THIS, NEXT, BOTH],
         &[SHA_256, SIGNATURE],
-        "unknown algorithm",
+        "algorithm is none that the profile names",
     ),
     (&[V2, RSA, THIS, NEXT, BOTH], SIGNED, "malformed"),
     (&[V2, RSA, NAME, THIS, BOTH], SIGNED, "malformed"),
     (
         &[V2, RSA, NAME, THIS, NO_SECONDS, BOTH],
         SIGNED,
-        "time not in its form",
+        "time is not in the form of DER",
     ),
     (
         &[V2, RSA, NAME, THIS, NO_DAY, BOTH],
         SIGNED,
-        "no such date or time of day",
+        "there is no such date or time of day",
     ),
     (&[V2, RSA, NAME, THIS, NEXT], SIGNED, "malformed"),
     (&[V2, RSA, NAME, THIS, NEXT, ENTRIES], SIGNED, "malformed"),
@@ -109,27 +109,27 @@ pub static ROWS: [Row; 34] = [
     (
         &[V2, RSA, NAME, THIS, NEXT, UNKNOWN],
         SIGNED,
-        "unknown critical extension",
+        "unknown extension is critical",
     ),
     (
         &[V2, RSA, NAME, THIS, NEXT, USAGE],
         SIGNED,
-        "unknown critical extension",
+        "unknown extension is critical",
     ),
     (
         &[V2, RSA, NAME, THIS, NEXT, NUMBER_TWICE],
         SIGNED,
-        "extension more than once",
+        "extension stands more than once",
     ),
     (
         &[V2, RSA, NAME, THIS, NEXT, NO_NUMBER],
         SIGNED,
-        "no CRL number",
+        "cRLNumber is missing",
     ),
     (
         &[V2, RSA, NAME, THIS, NEXT, NO_KEY],
         SIGNED,
-        "no authority key identifier",
+        "authorityKeyIdentifier is missing",
     ),
     (
         &[V2, RSA, NAME, THIS, NEXT, WRONG_NUMBER],

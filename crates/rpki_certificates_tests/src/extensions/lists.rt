@@ -52,36 +52,36 @@ pub static ROWS: [(&[&[u8]], &str); 30] = [
         "4142434445464748494A4B4C4D4E4F5051525354 none none Ca false none none none none \
             none none Trim inherit missing inherit",
     ),
-    (&[USAGE, REFUSE], "no subject key identifier"),
-    (&[SUBJECT_KEY, REFUSE], "no key usage"),
-    (&[SUBJECT_KEY, USAGE], "no certificate policy"),
+    (&[USAGE, REFUSE], "subjectKeyIdentifier is missing"),
+    (&[SUBJECT_KEY, REFUSE], "keyUsage is missing"),
+    (&[SUBJECT_KEY, USAGE], "certificatePolicies is missing"),
     (
         &[SUBJECT_KEY, USAGE, REFUSE, SUBJECT_KEY],
-        "extension more than once",
+        "extension stands more than once",
     ),
     (
         &[UNKNOWN, SUBJECT_KEY, USAGE, REFUSE, UNKNOWN],
-        "extension more than once",
+        "extension stands more than once",
     ),
     (
         &[SUBJECT_KEY, CRITICAL, USAGE, REFUSE],
-        "unknown critical extension",
+        "unknown extension is critical",
     ),
     (
         &[SUBJECT_KEY, USAGE, REFUSE, IP_V2],
-        "resources in the form of another policy",
+        "resources stand in the extensions of the other policy",
     ),
     (
         &[SUBJECT_KEY, USAGE, REFUSE, AS_V2],
-        "resources in the form of another policy",
+        "resources stand in the extensions of the other policy",
     ),
     (
         &[SUBJECT_KEY, USAGE, TRIM, IP],
-        "resources in the form of another policy",
+        "resources stand in the extensions of the other policy",
     ),
     (
         &[SUBJECT_KEY, USAGE, TRIM, AS],
-        "resources in the form of another policy",
+        "resources stand in the extensions of the other policy",
     ),
     (&[WRONG_KEY, USAGE, REFUSE], "malformed"),
     (&[BARE, USAGE, REFUSE], "malformed"),
@@ -117,28 +117,31 @@ pub static ROWS: [(&[&[u8]], &str); 30] = [
     (&[SUBJECT_KEY, WRONG_BASIC, USAGE, REFUSE], "malformed"),
     (
         &[SUBJECT_KEY, WRONG_USAGE, REFUSE],
-        "key usage of neither a CA nor an end entity",
+        "keyUsage is neither that of a CA nor that of an end entity",
     ),
     (
         &[SUBJECT_KEY, USAGE, NO_PURPOSES, REFUSE],
-        "extended key usage without purposes",
+        "extKeyUsage names no purpose",
     ),
-    (&[SUBJECT_KEY, USAGE, NO_URI, REFUSE], "no rsync URI"),
+    (
+        &[SUBJECT_KEY, USAGE, NO_URI, REFUSE],
+        "distributionPoint has no rsync URI",
+    ),
     (&[SUBJECT_KEY, USAGE, WRONG_ISSUER, REFUSE], "malformed"),
     (&[SUBJECT_KEY, USAGE, WRONG_SUBJECT, REFUSE], "malformed"),
     (
         &[SUBJECT_KEY, USAGE, OTHER_POLICY],
-        "unknown certificate policy",
+        "policyIdentifier is neither that of RFC 6487 nor that of RFC 8360",
     ),
     (
         &[SUBJECT_KEY, USAGE, REFUSE, OTHER_FAMILY],
-        "unknown address family",
+        "addressFamily is neither IPv4 nor IPv6",
     ),
     (
         &[SUBJECT_KEY, USAGE, REFUSE, DOMAINS],
-        "routing domain identifiers",
+        "routing domain identifiers (rdi) are present",
     ),
-    (&[], "no subject key identifier"),
+    (&[], "subjectKeyIdentifier is missing"),
 ];
 
 /// Extensions whose value stands in pieces, and what is answered in DER and in BER.

@@ -47,16 +47,16 @@ static ROWS: [(ObjectOf, &str, &str); 6] = [
             signed_type: Some(MANIFEST_TYPE),
             ..GOOD
         },
-        "wrong content type",
-        "wrong content type",
+        "content-type attribute is not the eContentType",
+        "content-type attribute is not the eContentType",
     ),
     (
         ObjectOf {
             instead: Some((Field::Type, Instead::These(MANIFEST_TYPE))),
             ..GOOD
         },
-        "wrong content type",
-        "wrong content type",
+        "content-type attribute is not the eContentType",
+        "content-type attribute is not the eContentType",
     ),
     (
         ObjectOf {

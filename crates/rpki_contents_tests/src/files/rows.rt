@@ -39,7 +39,7 @@ pub static ROWS: [(ManifestRule, &[u8], &str); 41] = [
         b"0X\x02\x01\x0C\x18\x0F20240101000000Z\x18\x0F20240108000000Z\x06\x09`\x86H\x01e\
           \x03\x04\x02\x010&0\x11\x16\x08file.cer\x03\x05\x00hash0\x11\x16\x08file.cer\x03\
           \x05\x00hash",
-        "file name more than once",
+        "file name stands more than once in fileList",
     ),
     (
         ManifestRule::Registered,
@@ -53,7 +53,7 @@ pub static ROWS: [(ManifestRule, &[u8], &str); 41] = [
         b"0b\x02\x01\x0C\x18\x0F20240101000000Z\x18\x0F20240108000000Z\x06\x09`\x86H\x01e\
           \x03\x04\x02\x01000\x0E\x16\x05a.cer\x03\x05\x00hash0\x0E\x16\x05b.cer\x03\x05\
           \x00hash0\x0E\x16\x05a.cer\x03\x05\x00hash",
-        "file name more than once",
+        "file name stands more than once in fileList",
     ),
     (
         ManifestRule::Any,
@@ -71,7 +71,7 @@ pub static ROWS: [(ManifestRule, &[u8], &str); 41] = [
         ManifestRule::Any,
         b"07\xA0\x03\x02\x01\x01\x02\x01\x0C\x18\x0F20240101000000Z\x18\x0F20240108000000Z\
           \x06\x09`\x86H\x01e\x03\x04\x02\x010\x00",
-        "wrong version",
+        "version is not 0",
     ),
     (
         ManifestRule::Any,
@@ -89,7 +89,7 @@ pub static ROWS: [(ManifestRule, &[u8], &str); 41] = [
         ManifestRule::Any,
         b"02\x02\x01\x0C\x18\x0F20240108000001Z\x18\x0F20240108000000Z\x06\x09`\x86H\x01e\
           \x03\x04\x02\x010\x00",
-        "this update after next update",
+        "thisUpdate is after nextUpdate",
     ),
     (
         ManifestRule::Any,
@@ -101,7 +101,7 @@ pub static ROWS: [(ManifestRule, &[u8], &str); 41] = [
         ManifestRule::Any,
         b"02\x02\x01\x0C\x18\x0F20240230000000Z\x18\x0F20240108000000Z\x06\x09`\x86H\x01e\
           \x03\x04\x02\x010\x00",
-        "no such date or time of day",
+        "there is no such date or time of day",
     ),
     (
         ManifestRule::Any,
@@ -125,7 +125,7 @@ pub static ROWS: [(ManifestRule, &[u8], &str); 41] = [
         ManifestRule::Any,
         b"02\x02\x01\x0C\x18\x0F20240101000000Z\x18\x0F20240108000000Z\x06\x09`\x86H\x01e\
           \x03\x04\x02\x020\x00",
-        "unknown algorithm",
+        "fileHashAlg is not SHA-256",
     ),
     (
         ManifestRule::Any,
@@ -179,14 +179,14 @@ pub static ROWS: [(ManifestRule, &[u8], &str); 41] = [
         ManifestRule::Registered,
         b"0B\x02\x01\x0C\x18\x0F20240101000000Z\x18\x0F20240108000000Z\x06\x09`\x86H\x01e\
           \x03\x04\x02\x010\x100\x0E\x16\x05a.abc\x03\x05\x00hash",
-        "file type not registered",
+        "file name in fileList has an extension that is not registered",
     ),
     (
         ManifestRule::Registered,
         b"0R\x02\x01\x0C\x18\x0F20240101000000Z\x18\x0F20240108000000Z\x06\x09`\x86H\x01e\
           \x03\x04\x02\x010\x200\x0E\x16\x05a.cer\x03\x05\x00hash0\x0E\x16\x05b.mfx\x03\
           \x05\x00hash",
-        "file type not registered",
+        "file name in fileList has an extension that is not registered",
     ),
     (
         ManifestRule::Registered,
@@ -208,26 +208,26 @@ pub static ROWS: [(ManifestRule, &[u8], &str); 41] = [
         ManifestRule::Any,
         b"0A\x02\x01\x0C\x18\x0F20240101000000Z\x18\x0F20240108000000Z\x06\x09`\x86H\x01e\
           \x03\x04\x02\x010\x0F0\x0D\x16\x04a.ce\x03\x05\x00hash",
-        "bad file name in a manifest",
+        "file name in fileList is not in its form",
     ),
     (
         ManifestRule::Any,
         b"0Q\x02\x01\x0C\x18\x0F20240101000000Z\x18\x0F20240108000000Z\x06\x09`\x86H\x01e\
           \x03\x04\x02\x010\x1F0\x0E\x16\x05a.cer\x03\x05\x00hash0\x0D\x16\x04.cer\x03\x05\
           \x00hash",
-        "bad file name in a manifest",
+        "file name in fileList is not in its form",
     ),
     (
         ManifestRule::Any,
         b"0D\x02\x01\x0C\x18\x0F20240101000000Z\x18\x0F20240108000000Z\x06\x09`\x86H\x01e\
           \x03\x04\x02\x010\x120\x10\x16\x07a/b.cer\x03\x05\x00hash",
-        "bad file name in a manifest",
+        "file name in fileList is not in its form",
     ),
     (
         ManifestRule::Any,
         b"0@\x02\x01\x0C\x18\x0F20240101000000Z\x18\x0F20240108000000Z\x06\x09`\x86H\x01e\
           \x03\x04\x02\x010\x0E0\x0C\x16\x06a\x80.cer\x03\x02\x00h",
-        "bad file name in a manifest",
+        "file name in fileList is not in its form",
     ),
     (
         ManifestRule::Any,

@@ -1,19 +1,19 @@
 //! Calls by themselves: the text of a refusal, a list that is made of octets, and copies.
 
-use super::numbers::{Numbers, in_order};
+use super::numbers::{NOT_ASCENDING, Numbers, in_order};
 use bytes::Bytes;
-use rpki_der::{Constructed, DecodeError, Mode, Reason};
+use rpki_der::{Constructed, DecodeError, Mode};
 use rpki_lists::{EntryList, Refused, SliceReader};
 use std::alloc::{AllocError, Global};
 
 /// Why an entry is refused, and the text that says so.
 static REFUSED: [(Refused, &str); 3] = [
     (Refused::Malformed, "malformed"),
+    (Refused::For("name is too long"), "name is too long"),
     (
-        Refused::For(Reason::FileNameTwice),
-        "file name more than once",
+        Refused::For(NOT_ASCENDING),
+        "numbers are not in ascending order",
     ),
-    (Refused::For(Reason::NoProviders), "no providers"),
 ];
 
 fn are_said(alloc: Global) -> Result<bool, AllocError> {

@@ -8,7 +8,7 @@ ghost use Rattle.rpki_lists.specs.Entries.{list_at};
 ghost use Rattle.rpki_lists.specs.Rules.{admits};
 
 use rpki_der::encode::{Unsigned, integer};
-use rpki_der::{Constructed, DecodeError, Reason};
+use rpki_der::{Constructed, DecodeError};
 use rpki_lists::{
     EntryIter, EntryList, Kind, Refused, Rule, SliceEntry, SliceReader, Written, take_list,
 };
@@ -87,6 +87,9 @@ impl<'a> Written for NumberEntry<'a> {
     }
 }
 
+/// What is wrong with numbers that don't ascend.
+pub const NOT_ASCENDING: &str = "numbers are not in ascending order";
+
 /// Each number is above the one before it. Its value is the last one, if there is one.
 #[derive(Drop)]
 pub struct Ascending {
@@ -113,7 +116,7 @@ impl Rule for Ascending {
             return Err(Refused::Malformed);
         };
         if self.last.is_some_and(|last| last >= next) {
-            return Err(Refused::For(Reason::ProvidersNotAscending));
+            return Err(Refused::For(NOT_ASCENDING));
         }
         self.last = Some(next);
         Ok(())

@@ -16,15 +16,15 @@ static ROWS: [(&[u8], &str); 21] = [
     (b"\x30\x03\x02\x01\x05\xFF\xFF", "1 5"),
     (
         b"\x30\x06\x02\x01\x05\x02\x01\x05",
-        "providers not in ascending order",
+        "numbers are not in ascending order",
     ),
     (
         b"\x30\x06\x02\x01\x06\x02\x01\x05",
-        "providers not in ascending order",
+        "numbers are not in ascending order",
     ),
     (
         b"\x30\x09\x02\x01\x01\x02\x01\x07\x02\x01\x05",
-        "providers not in ascending order",
+        "numbers are not in ascending order",
     ),
     (b"", "malformed"),
     (b"\x31\x03\x02\x01\x05", "malformed"),

@@ -61,35 +61,35 @@ pub static ROWS: [(&[u8], &str, &[u8]); 17] = [
     // AS0 before another, and after one.
     (
         b"\x30\x11\xA0\x03\x02\x01\x01\x02\x02\x3C\xCA\x30\x06\x02\x01\x00\x02\x01\x01",
-        "AS0 beside other providers",
+        "AS0 stands beside other provider AS numbers",
         b"",
     ),
     (
         b"\x30\x11\xA0\x03\x02\x01\x01\x02\x02\x3C\xCA\x30\x06\x02\x01\x01\x02\x01\x00",
-        "providers not in ascending order",
+        "provider AS numbers are not in ascending order",
         b"",
     ),
     // Swapped, and twice.
     (
         b"\x30\x11\xA0\x03\x02\x01\x01\x02\x02\x3C\xCA\x30\x06\x02\x01\x02\x02\x01\x01",
-        "providers not in ascending order",
+        "provider AS numbers are not in ascending order",
         b"",
     ),
     (
         b"\x30\x11\xA0\x03\x02\x01\x01\x02\x02\x3C\xCA\x30\x06\x02\x01\x02\x02\x01\x02",
-        "providers not in ascending order",
+        "provider AS numbers are not in ascending order",
         b"",
     ),
     // The customer among its providers.
     (
         b"\x30\x10\xA0\x03\x02\x01\x01\x02\x01\x05\x30\x06\x02\x01\x02\x02\x01\x05",
-        "customer among its providers",
+        "customer is one of its provider AS numbers",
         b"",
     ),
     // No provider.
     (
         b"\x30\x0B\xA0\x03\x02\x01\x01\x02\x02\x3C\xCA\x30\x00",
-        "no providers",
+        "there is no provider AS number",
         b"",
     ),
     // A provider of five octets, a negative one, and a list of indefinite length.

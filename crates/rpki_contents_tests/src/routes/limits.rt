@@ -47,7 +47,7 @@ fn is_limited(
         }
         Err(error) => {
             let text = format!(in alloc; "{error}")?;
-            Ok(wanted.is_none() && text.as_str() == "too many providers")
+            Ok(wanted.is_none() && text.as_str() == "too many provider AS numbers")
         }
     }
 }

@@ -92,19 +92,19 @@ pub static ROWS: [(&[u8], &str, &[u8]); 25] = [
     (
         b"\x30\x1A\x02\x03\x00\xFB\xF0\x30\x13\x30\x11\x04\x02\x00\x01\x30\x0B\x30\x09\x03\x04\x00\
             \xC0\x00\x02\x02\x01\x17",
-        "max length out of range",
+        "maxLength is below the length of the prefix or above that of an address",
         b"",
     ),
     (
         b"\x30\x1A\x02\x03\x00\xFB\xF0\x30\x13\x30\x11\x04\x02\x00\x01\x30\x0B\x30\x09\x03\x04\x00\
             \xC0\x00\x02\x02\x01\x21",
-        "max length out of range",
+        "maxLength is below the length of the prefix or above that of an address",
         b"",
     ),
     (
         b"\x30\x18\x02\x03\x00\xFB\xF0\x30\x11\x30\x0F\x04\x02\x00\x02\x30\x09\x30\x07\x03\x01\x00\
             \x02\x02\x00\x81",
-        "max length out of range",
+        "maxLength is below the length of the prefix or above that of an address",
         b"",
     ),
     (
@@ -117,7 +117,7 @@ pub static ROWS: [(&[u8], &str, &[u8]); 25] = [
     (
         b"\x30\x19\x02\x03\x00\xFB\xF0\x30\x12\x30\x10\x04\x02\x00\x01\x30\x0A\x30\x08\x03\x06\x07\
             \xC0\x00\x02\x00\x00",
-        "prefix too long",
+        "prefix is longer than an address of its family",
         b"",
     ),
     (
@@ -130,12 +130,12 @@ pub static ROWS: [(&[u8], &str, &[u8]); 25] = [
     (
         b"\x30\x17\x02\x03\x00\xFB\xF0\x30\x10\x30\x06\x04\x02\x00\x01\x30\x00\x30\x06\x04\x02\x00\
             \x01\x30\x00",
-        "address family more than once",
+        "addressFamily is named more than once",
         b"",
     ),
     (
         b"\x30\x0F\x02\x03\x00\xFB\xF0\x30\x08\x30\x06\x04\x02\x00\x03\x30\x00",
-        "unknown address family",
+        "addressFamily is neither IPv4 nor IPv6",
         b"",
     ),
     // An AS number of five octets.

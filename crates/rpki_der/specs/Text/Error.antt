@@ -7,12 +7,11 @@ use Rattle.rpki_der.specs.declared.error.ContentFault.TheVariants.{InvalidSigned
 use Rattle.rpki_der.specs.declared.encode.EncodeError.{EncodeError}
 use Rattle.rpki_der.specs.declared.stream.source.SourceError.{SourceError}
 use Rattle.rpki_der.specs.Oid.{oid_text}
-use Rattle.rpki_der.specs.Text.Reason.{reason_text}
 
 -- The text that says what is wrong with a content.
 abbrev pub fault_text : ContentFault → List ℕ
 fault_text (InvalidSignedAttr attr) = codes "invalid extension " ++ oid_text attr
-fault_text (Text reason) = reason_text reason
+fault_text (Text text) = text
 
 -- The text that says why octets could not be read.
 abbrev pub error_text : DecodeError → List ℕ

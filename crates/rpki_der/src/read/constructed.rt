@@ -14,12 +14,11 @@ ghost use Rattle.rpki_der.specs.Read.Reads.{Opens, OpensIfNext, Opened, FailsAga
 ghost use Rattle.rpki_der.specs.Read.Reads.{unfinished, closed, not_failed};
 
 use crate::captured::Captured;
-use crate::error::{ContentFault, DecodeError};
+use crate::error::DecodeError;
 use crate::laws::slices_hold_octets;
 use crate::mode::Mode;
 use crate::read::header::place_of;
 use crate::read::window::Window;
-use crate::reason::Reason;
 use crate::tag::Tag;
 use bytes::Bytes;
 use std::marker::Model;
@@ -84,13 +83,13 @@ impl<'a> Constructed<'a> {
         }
     }
 
-    /// Refuses what was read for this reason, by a rule of the caller's own, as `fail` does.
-    pub fn refuse_for(&mut self, reason: Reason) -> DecodeError
-        ensures again { IsAgain (unwrap_or self.old.failed (Content (Text reason))) result }
-        ensures reason { self.old.failed ≡ None → result ≡ Content (Text reason) }
+    /// Refuses what was read, by a rule of the caller's own that this text states, as `fail` does.
+    pub fn refuse_for(&mut self, text: &'static str) -> DecodeError
+        ensures again { IsAgain (unwrap_or self.old.failed (Content (Text text.now))) result }
+        ensures text { self.old.failed ≡ None → result ≡ Content (Text text.now) }
         ensures stays { self.new ≡ failing self.old result }
     {
-        self.fail(DecodeError::Content(ContentFault::Text(reason)))
+        self.fail(DecodeError::refusal(text))
     }
 
     /// Finds that the octets are not of the form.

@@ -13,10 +13,11 @@ ghost use Rattle.rpki_files.specs.Checklist.{checklist_at};
 
 use crate::checked::CheckedFiles;
 use crate::checklist::ResourceSignedChecklist;
+use crate::faults;
 use crate::version::take_version;
 use bytes::Bytes;
 use rpki_basics::DigestAlgorithm;
-use rpki_der::{Constructed, DecodeError, Mode, Reason, Tag};
+use rpki_der::{Constructed, DecodeError, Mode, Tag};
 use rpki_lists::EntryList;
 use rpki_resources::{AsBlocks, Blocks, ByFamily, IpBlocks, Number};
 use std::alloc::Global;
@@ -123,7 +124,7 @@ fn take_sets(cons: &mut Constructed<'_>, alloc: Global) -> Result<Sets, DecodeEr
     if names_some(&named) {
         Ok(sets_of(alloc, named))
     } else {
-        Err(cons.refuse_for(Reason::NoResources))
+        Err(cons.refuse_for(faults::NO_RESOURCES))
     }
 }
 

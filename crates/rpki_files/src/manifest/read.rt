@@ -9,12 +9,13 @@ ghost use Rattle.rpki_der.specs.Read.Reads.{Found, Reads, Stays};
 ghost use Rattle.rpki_der.specs.Form.Made.{partly};
 ghost use Rattle.rpki_files.specs.Manifest.{head_at, fields_at, manifest_at};
 
+use crate::faults;
 use crate::files::take_files;
 use crate::manifest::ManifestContent;
 use crate::version::take_version;
 use bytes::Bytes;
 use rpki_basics::{ManifestRule, Serial, Time};
-use rpki_der::{Constructed, DecodeError, Mode, Reason, Tag};
+use rpki_der::{Constructed, DecodeError, Mode, Tag};
 use std::alloc::Global;
 
 /// The contents of the OBJECT IDENTIFIER of SHA-256 (RFC 5754, section 2.2).
@@ -28,7 +29,7 @@ fn take_algorithm(cons: &mut Constructed<'_>) -> Result<(), DecodeError>
     if oid.as_slice() == &SHA_256[..] {
         Ok(())
     } else {
-        Err(cons.refuse_for(Reason::UnknownAlgorithm))
+        Err(cons.refuse_for(faults::UNKNOWN_HASH_ALGORITHM))
     }
 }
 
@@ -53,7 +54,7 @@ fn take_head(cons: &mut Constructed<'_>) -> Result<(Serial, Time, Time), DecodeE
     if are_in_order(this_update, next_update) {
         Ok((number, this_update, next_update))
     } else {
-        Err(cons.refuse_for(Reason::UpdatesNotInOrder))
+        Err(cons.refuse_for(faults::UPDATES_NOT_IN_ORDER))
     }
 }
 

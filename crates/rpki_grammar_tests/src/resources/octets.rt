@@ -3,9 +3,9 @@
 use super::sets::{Numbers, as_set, ip_set};
 use bytes::Bytes;
 use rpki_der::encode::sequence;
-use rpki_der::{Constructed, ContentFault, DecodeError, Encode, EncodeError, Mode, Reason};
+use rpki_der::{Constructed, ContentFault, DecodeError, Encode, EncodeError, Mode};
 use rpki_resources::AddressFamily::{Ipv4, Ipv6};
-use rpki_resources::{AddressFamily, AsBlocks, IpBlocks};
+use rpki_resources::{AddressFamily, AsBlocks, IpBlocks, faults};
 use std::alloc::{AllocError, Global};
 
 /// The first address and the last one of each block.
@@ -51,15 +51,15 @@ pub fn read_ip(
     read(decode_ip(alloc, mode, family, octets)?)
 }
 
-/// Whether the answer is a refusal for this reason, or by `Malformed` where there is none. Want of
+/// Whether the answer is a refusal by this text, or by `Malformed` where there is none. Want of
 /// memory is handed on.
 fn is_refused<T: Drop>(
     answer: Result<T, DecodeError>,
-    want: Option<Reason>,
+    want: Option<&str>,
 ) -> Result<bool, AllocError> {
     match (answer, want) {
         (Err(DecodeError::Memory), _) => Err(AllocError),
-        (Err(DecodeError::Content(ContentFault::Text(reason))), Some(want)) => Ok(reason == want),
+        (Err(DecodeError::Content(ContentFault::Text(text))), Some(want)) => Ok(text.as_str() == want),
         (Err(DecodeError::Malformed), None) => Ok(true),
         (Err(_), _) | (Ok(_), _) => Ok(false),
     }
@@ -105,13 +105,13 @@ pub static NUMBERS: [(Numbers, &[u8]); 5] = [
     ),
 ];
 
-/// What is no set of AS numbers, and the reason that is named, or `None` for `Malformed`: the lower
+/// What is no set of AS numbers, and the text that is answered, or `None` for `Malformed`: the lower
 /// end above the upper end, three numbers in a range, one number in it, a number below 0, one above
 /// the largest, a SET, a set that is cut off, and a BOOLEAN among the numbers.
-static WRONG: [(&[u8], Option<Reason>); 8] = [
+static WRONG: [(&[u8], Option<&str>); 8] = [
     (
         &[0x30, 8, 0x30, 6, 2, 1, 5, 2, 1, 4],
-        Some(Reason::LowerEndAboveUpperEnd),
+        Some(faults::LOWER_END_ABOVE_UPPER_END),
     ),
     (&[0x30, 11, 0x30, 9, 2, 1, 1, 2, 1, 2, 2, 1, 3], None),
     (&[0x30, 5, 0x30, 3, 2, 1, 1], None),
@@ -226,43 +226,43 @@ pub static ADDRESSES: [(AddressFamily, Addresses, &[u8]); 10] = [
     ),
 ];
 
-/// What is no set of addresses, and the reason that is named, or `None` for `Malformed`: the lower
+/// What is no set of addresses, and the text that is answered, or `None` for `Malformed`: the lower
 /// end above the upper end, 33 bits of IPv4 in a prefix and in each end, 129 bits, three ends, one
 /// end, eight bits that are not used, an INTEGER among the prefixes, and a SET.
-static WRONG_ADDRESSES: [(AddressFamily, &[u8], Option<Reason>); 11] = [
+static WRONG_ADDRESSES: [(AddressFamily, &[u8], Option<&str>); 11] = [
     (
         Ipv4,
         &[0x30, 10, 0x30, 8, 3, 2, 0, 11, 3, 2, 0, 10],
-        Some(Reason::LowerEndAboveUpperEnd),
+        Some(faults::LOWER_END_ABOVE_UPPER_END),
     ),
     (
         Ipv4,
         &[0x30, 8, 3, 6, 7, 10, 0, 0, 0, 0x80],
-        Some(Reason::AddressTooLong),
+        Some(faults::ADDRESS_TOO_LONG),
     ),
     (
         Ipv4,
         &[0x30, 14, 0x30, 12, 3, 6, 7, 10, 0, 0, 0, 0, 3, 2, 0, 10],
-        Some(Reason::AddressTooLong),
+        Some(faults::ADDRESS_TOO_LONG),
     ),
     (
         Ipv4,
         &[0x30, 14, 0x30, 12, 3, 2, 0, 10, 3, 6, 7, 10, 0, 0, 0, 0x80],
-        Some(Reason::AddressTooLong),
+        Some(faults::ADDRESS_TOO_LONG),
     ),
     (
         Ipv4,
         &[
             0x30, 0x14, 3, 0x12, 7, 0, 0, 0, 0, 0, 0, 0, 0, 0, 0, 0, 0, 0, 0, 0, 0, 0,
         ],
-        Some(Reason::AddressTooLong),
+        Some(faults::ADDRESS_TOO_LONG),
     ),
     (
         Ipv6,
         &[
             0x30, 0x14, 3, 0x12, 7, 0, 0, 0, 0, 0, 0, 0, 0, 0, 0, 0, 0, 0, 0, 0, 0, 0,
         ],
-        Some(Reason::AddressTooLong),
+        Some(faults::ADDRESS_TOO_LONG),
     ),
     (
         Ipv4,

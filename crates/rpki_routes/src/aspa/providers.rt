@@ -6,8 +6,9 @@ ghost use Rattle.rpki_basics.specs.declared.limits.ProviderLimit.TheVariants.{Wi
 ghost use Rattle.rpki_routes.specs.Aspa.{IsProviderSet, AreProviders};
 ghost use Rattle.rpki_routes.specs.Aspa.Read.{in_order_at, providers_at, follows, may_come};
 
+use crate::faults;
 use rpki_basics::ProviderLimit;
-use rpki_der::{Constructed, DecodeError, Reason};
+use rpki_der::{Constructed, DecodeError};
 use rpki_lists::{EntryIter, EntryList, Kind, Refused, Rule, SliceEntry, SliceReader, take_list};
 use rpki_resources::{Asn, SmallAsnSet};
 use std::alloc::{AllocError, Global};
@@ -148,30 +149,28 @@ struct InOrder {
 
 impl InOrder {
     // Why a number can't follow the last one, if it can't.
-    fn refusal_after(&self, next: u32) -> Option<Reason>
+    fn refusal_after(&self, next: u32) -> Option<&'static str>
         ensures { IsSome result ↔ (follows self.now.last next ≡ false) }
     {
         let last = self.last?;
         if next <= last {
-            Some(Reason::ProvidersNotAscending)
+            Some(faults::PROVIDERS_NOT_ASCENDING)
         } else if last == 0 {
-            Some(Reason::As0BesideOthers)
+            Some(faults::AS0_BESIDE_OTHERS)
         } else {
             None
         }
     }
 
     // Why a number can't be the next provider, if it can't.
-    fn refusal_of(&self, next: u32) -> Option<Reason>
+    fn refusal_of(&self, next: u32) -> Option<&'static str>
         ensures { IsSome result ↔ (may_come self.now next ≡ false) }
     {
         let most = self.limit.most();
         if self.count >= most {
-            Some(Reason::TooManyProviders {
-                most: most as usize,
-            })
+            Some(faults::TOO_MANY_PROVIDERS)
         } else if next == self.customer {
-            Some(Reason::CustomerAmongProviders)
+            Some(faults::CUSTOMER_AMONG_PROVIDERS)
         } else {
             self.refusal_after(next)
         }
@@ -229,7 +228,7 @@ fn take_some(
 {
     let numbers = take_in_order(cons, customer, limit)?;
     if numbers.is_empty() {
-        Err(cons.refuse_for(Reason::NoProviders))
+        Err(cons.refuse_for(faults::NO_PROVIDERS))
     } else {
         Ok(numbers)
     }

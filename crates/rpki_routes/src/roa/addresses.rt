@@ -4,10 +4,11 @@ ghost use Rattle.std.specs.Prelude.{◌≡◌, ◌↔◌, [], length, IsTrue, Is
 ghost use Rattle.rpki_lists.specs.Slice.{FindsFront};
 ghost use Rattle.rpki_routes.specs.Roa.Read.{address_at, address_fields_at, is_of};
 
+use crate::faults;
 use crate::roa::address::RoaIpAddress;
 use crate::roa::bits::take_prefix;
 use bytes::Bytes;
-use rpki_der::{Constructed, DecodeError, Reason};
+use rpki_der::{Constructed, DecodeError};
 use rpki_lists::{EntryIter, EntryList, Kind, Refused, Rule, SliceEntry, SliceReader, take_list};
 use rpki_resources::{AddressFamily, OfFamily};
 use std::alloc::{AllocError, Global};
@@ -34,19 +35,19 @@ fn take_address(reader: &mut SliceReader<'_>) -> Option<RoaIpAddress>
 
 // Why an address is none of the family, if it is none.
 #[tactic(auto, unfolding(crate::specs::Roa::Read::is_of))]
-fn refusal_of(family: AddressFamily, address: RoaIpAddress) -> Option<Reason>
+fn refusal_of(family: AddressFamily, address: RoaIpAddress) -> Option<&'static str>
     ensures { IsSome result ↔ (is_of family address ≡ false) }
 {
     let len = address.prefix().addr_len();
     let most = family.max_len();
     if len > most {
-        return Some(Reason::PrefixTooLong);
+        return Some(faults::PREFIX_TOO_LONG);
     }
     match address.max_length() {
         None => None,
         Some(max) => {
             if max < len || max > most {
-                Some(Reason::MaxLengthOutOfRange)
+                Some(faults::MAX_LENGTH_OUT_OF_RANGE)
             } else {
                 None
             }

@@ -47,11 +47,11 @@ const NO_SET: &[u8] = b"\x30\x11\x06\x09\x2A\x86\x48\x86\xF7\x0D\x01\x09\x03\
 const NO_DAY: &[u8] = b"\x30\x1C\x06\x09\x2A\x86\x48\x86\xF7\x0D\x01\x09\x05\
     \x31\x0F\x17\x0D230229000000Z";
 
-const TWICE: &str = "signed attribute more than once";
+const TWICE: &str = "signed attribute stands more than once";
 
 const TYPE_IS_OTHER: &str = "invalid extension 1.2.3";
 
-const NO_SUCH_TIME: &str = "no such date or time of day";
+const NO_SUCH_TIME: &str = "there is no such date or time of day";
 
 /// Attributes, and why `take_from` refuses them and why `take_from_signed_message` does, if it
 /// does.
@@ -65,14 +65,34 @@ static ROWS: [(&[&[u8]], &str, &str); 24] = [
     (&[TYPE, TIME, DIGEST, TYPE], TWICE, TWICE),
     (&[TYPE, TIME, TIME, DIGEST], TWICE, TWICE),
     (&[DIGEST, DIGEST, TYPE, TIME], TWICE, TWICE),
-    (&[], "no content type", "no content type"),
-    (&[TIME, DIGEST], "no content type", "no content type"),
-    (&[TYPE, TIME], "no message digest", "no message digest"),
-    (&[TYPE, DIGEST], "no signing time", "no signing time"),
+    (
+        &[],
+        "content-type attribute is missing",
+        "content-type attribute is missing",
+    ),
+    (
+        &[TIME, DIGEST],
+        "content-type attribute is missing",
+        "content-type attribute is missing",
+    ),
+    (
+        &[TYPE, TIME],
+        "message-digest attribute is missing",
+        "message-digest attribute is missing",
+    ),
+    (
+        &[TYPE, DIGEST],
+        "signing-time attribute is missing",
+        "signing-time attribute is missing",
+    ),
     (&[TYPE, OTHER, TIME, DIGEST], TYPE_IS_OTHER, ""),
     (&[BARE, TYPE, TIME, DIGEST, OTHER], TYPE_IS_OTHER, ""),
     (&[TYPE, TIME, NO_SETS, DIGEST, NO_SETS], TYPE_IS_OTHER, ""),
-    (&[OTHER, TYPE, TIME], TYPE_IS_OTHER, "no message digest"),
+    (
+        &[OTHER, TYPE, TIME],
+        TYPE_IS_OTHER,
+        "message-digest attribute is missing",
+    ),
     (&[CUT, TYPE, TIME, DIGEST], TYPE_IS_OTHER, "malformed"),
     (&[NO_VALUE, TIME, DIGEST], "malformed", "malformed"),
     (&[TWO_VALUES, TIME, DIGEST], "malformed", "malformed"),

@@ -7,7 +7,7 @@ use std::alloc::{AllocError, Global};
 
 const READ: &str = "read";
 
-const UNKNOWN: &str = "unknown algorithm";
+const UNKNOWN: &str = "algorithm is none that the profile names";
 
 const MALFORMED: &str = "malformed";
 

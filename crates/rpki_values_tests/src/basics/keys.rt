@@ -25,8 +25,8 @@ pub static KEYS: [(&[u8], &str, &str); 7] = [
     ),
     (
         b"\x30\x15\x30\x0D\x06\x09\x2A\x86\x48\x86\xF7\x0D\x01\x01\x0B\x05\x00\x03\x04\x00abc",
-        "unknown algorithm",
-        "unknown algorithm",
+        "algorithm is none that the profile names",
+        "algorithm is none that the profile names",
     ),
     (
         b"\x30\x15\x30\x0D\x06\x09\x2A\x86\x48\x86\xF7\x0D\x01\x01\x01\x05\x00\x03\x04\x00ab",

@@ -1,4 +1,5 @@
 use Rattle.std.proofs.lemmas.Result.{err_from_is_err_and}
+use Rattle.rpki_der.specs.declared.error.ContentFault.TheVariants.{Text}
 use Rattle.rpki_lists.specs.Rules.{admits}
 use Rattle.rpki_lists.specs.declared.kind.Refused.{Refused}
 use Rattle.rpki_lists.proofs.Taking.{take-err, take-ok, take-malformed, take-refused}
@@ -29,6 +30,7 @@ pub returns-clause-reads : goal.returns-clause-reads
 returns-clause-reads g c =
     rw c.refuse_for.ensures.stays (take-refused g.R.Kind.Kind.entry_at
     (admits g.R.Rule.after c.args.rule) c.args.cons.now Refused (λ l. l) c.in_ok-octets.octets
-    c.in-Err-For.field-0 c.take_primitive_if.new.self c.in-Err-For.reason c.refuse_for.result
+    c.in-Err-For.field-0 c.take_primitive_if.new.self (Text c.in-Err-For.text.now)
+    c.refuse_for.result
     c.in_ok-octets.ensures.reads (rw c.as_slice.ensures at c.in-Err-For.ensures)
-    c.refuse_for.ensures.reason)
+    c.refuse_for.ensures.text)

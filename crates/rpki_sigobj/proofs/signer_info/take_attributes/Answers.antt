@@ -1,7 +1,6 @@
 use Rattle.std.proofs.Common.{◌≡◌, Bool, false, sym}
 use Rattle.std.specs.Prelude.{bytes_eq}
 use Rattle.rpki_der.specs.declared.error.ContentFault.TheVariants.{Text}
-use Rattle.rpki_der.specs.declared.reason.Reason.TheVariants.{WrongContentType}
 use Rattle.rpki_der.proofs.Reading.Calls.{reads-ok}
 use Rattle.rpki_der.proofs.Reading.Tested.{tested-refused}
 use Rattle.rpki_attributes.specs.declared.attribute.OtherTypes.TheVariants.{Refuse}
@@ -20,7 +19,7 @@ returns-else-eq-clause-reads c =
     let other : false ≡ bytes_eq a.attributes.attributes.content_type type =
     rw (c.as_slice.ensures.octets, c.as_slice-2.ensures.octets, c.content_type.ensures)
     at c.if-eq.ensures in
-    let e = c.refuse_for.ensures.reason r.after in
+    let e = c.refuse_for.ensures.text r.after in
     rw (e, c.refuse_for.ensures.stays)
     (tested-refused view (attrs_at Refuse) test c.args.cons.now a.attributes c.take_from.new.cons
-    view (Text WrongContentType) a.ensures.reads (sym other))
+    view (Text _) a.ensures.reads (sym other))

@@ -1,0 +1,8 @@
+//! What is wrong with times, in words.
+
+/// The octets of a UTCTime or a GeneralizedTime are not in the form of DER (X.690, sections 11.7
+/// and 11.8).
+pub const BAD_TIME: &str = "time is not in the form of DER";
+
+/// A time has a date that is in no calendar, or no such time of day (RFC 5280, section 4.1.2.5).
+pub const NO_SUCH_TIME: &str = "there is no such date or time of day";
