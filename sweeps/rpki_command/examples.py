@@ -10,7 +10,7 @@ TREE = pathlib.Path(__file__).resolve().parent.parent.parent / "examples"
 HEAD = '''//! The objects of examples/, each with what the program says of it.
 
 use super::cuts::is_cut;
-use super::runs::{Said, is_answered};
+use super::runs::{Output, is_answered};
 use std::test::Fail;
 '''
 FILES = {
@@ -119,7 +119,7 @@ def print_test(name, row, call):
     out, err = (text(said), '""') if status < 2 else ('""', text(said))
     print(f"#[test]\nfn {name}(rt: HostRuntime) -> Result<(), Fail> {{")
     print(f"    let words = [{', '.join(text(it) for it in words)}];")
-    print(f"    let said = Said {{ status: {status}, out: {out}, err: {err} }};")
+    print(f"    let said = Output {{ status: {status}, out: {out}, err: {err} }};")
     print(f"    {call};\n    Ok(())\n}}\n")
 
 

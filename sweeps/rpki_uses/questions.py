@@ -9,15 +9,15 @@ import textwrap
 
 SWEEPS = pathlib.Path(__file__).resolve().parent.parent
 TREE = SWEEPS.parent / "examples"
-FILES = runpy.run_path(str(SWEEPS / "rpki_questions" / "examples.py"))["FILES"]
+FILES = runpy.run_path(str(SWEEPS / "rpki_verdicts" / "examples.py"))["FILES"]
 OCTETS = {name: (TREE / path).read_bytes() for name, path in FILES.items()}
 HEAD = '''//! Signatures of examples/, looked up among the good ones that a check asks about.
 
 use bytes::Bytes;
 use rpki_basics::{PublicKey, RpkiSignature, RpkiSignatureAlgorithm};
-use rpki_questions::ListingError;
 use rpki_rsa::Rsa;
 use rpki_uses::questions::is_listed_good;
+use rpki_verdicts::ListingError;
 use std::alloc::{AllocError, Global};
 
 /// What is answered, in a word.

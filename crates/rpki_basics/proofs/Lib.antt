@@ -1,5 +1,8 @@
+pub mod Algorithms
 pub mod BigEndian
+pub mod Keys
+pub mod Names
 pub mod OctetSets
-pub mod Uris
 pub mod Serials
 pub mod Times
+pub mod Uris

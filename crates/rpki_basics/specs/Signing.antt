@@ -1,7 +1,7 @@
 -- Why something is not built and signed.
 use Rattle.std.specs.Prelude.{ℕ, List, Option, Some, codes}
-use Rattle.rpki_keys.specs.declared.signer.SignerFault.{SignerFault}
-use Rattle.rpki_keys.specs.declared.signer.SignerFault.TheVariants as fault
+use Rattle.rpki_basics.specs.declared.signer.SignerFault.{SignerFault}
+use Rattle.rpki_basics.specs.declared.signer.SignerFault.TheVariants as fault
 use Rattle.rpki_basics.specs.Build.{fault_text}
 use Rattle.rpki_basics.specs.declared.signing.SigningError.{SigningError}
 use Rattle.rpki_basics.specs.declared.signing.SigningError.TheVariants as error

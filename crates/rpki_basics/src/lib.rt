@@ -1,28 +1,41 @@
-//! Simple values of signed objects, and what is handed in: times, serial numbers, names, URIs,
-//! keys, cryptography, a clock and a signer. Keys and what is asked of cryptography are those of
-//! `rpki_keys`, under the names of this crate.
+//! Simple values of signed objects, and what is handed in: times, serial numbers and URIs; keys,
+//! their identifiers, digests, names and signatures; cryptography, a signer and a clock.
 #![tactic(auto)]
 
+mod algorithm;
 mod build;
 mod clock;
+mod crypto;
+mod digest;
 pub mod faults;
+mod hex;
+mod identifier;
+mod key;
 pub mod laws;
 mod limits;
+mod name;
 mod serial;
+mod signature;
+mod signer;
 mod signing;
+pub mod standin;
 mod time;
 pub mod uri;
 mod validity;
 
+pub use algorithm::{AlgorithmEncoder, DigestAlgorithm, RpkiSignatureAlgorithm};
 pub use build::{BuildError, BuildFault};
 pub use clock::{Clock, FixedClock};
+pub use crypto::Crypto;
+pub use digest::Digest;
+pub use hex::UpperHex;
+pub use identifier::KeyIdentifier;
+pub use key::{KeyEncoder, PublicKey};
 pub use limits::{ManifestRule, ProviderLimit};
-pub use rpki_keys::{
-    AlgorithmEncoder, Crypto, Digest, DigestAlgorithm, KeyEncoder, KeyIdentifier, Name,
-    NameEncoder, PublicKey, RpkiSignature, RpkiSignatureAlgorithm, Signer, SignerFault, UpperHex,
-    standin,
-};
+pub use name::{Name, NameEncoder};
 pub use serial::{Serial, SerialEncoder};
+pub use signature::RpkiSignature;
+pub use signer::{Signer, SignerFault};
 pub use signing::SigningError;
 pub use time::{Time, TimeEncoder};
 pub use uri::{Https, Rsync};

@@ -5,7 +5,7 @@ ghost use Rattle.rpki_basics.specs.Signing.{signing_error};
 ghost use Rattle.rpki_basics.specs.declared.signing.SigningError.TheVariants.{Memory};
 
 use crate::build::BuildFault;
-use rpki_keys::SignerFault;
+use crate::signer::SignerFault;
 use std::alloc::{AllocError, AllocFailed};
 use std::error::Error;
 use std::fmt;

@@ -7,9 +7,9 @@ use Rattle.rpki_der.specs.Read.Parse.{Parser, ◌>>=◌, primitive, this, u160_a
 use Rattle.rpki_der.specs.Read.Reads.{Reads}
 use Rattle.rpki_der.specs.Tags.{INTEGER}
 use Rattle.rpki_der.proofs.Reading.Calls.{reads-ok}
-use Rattle.rpki_keys.specs.Algorithm.{cert_algorithm_at}
-use Rattle.rpki_keys.specs.Key.{key_at}
-use Rattle.rpki_keys.specs.Name.{name_at}
+use Rattle.rpki_basics.specs.Algorithm.{cert_algorithm_at}
+use Rattle.rpki_basics.specs.Key.{key_at}
+use Rattle.rpki_basics.specs.Name.{name_at}
 use Rattle.rpki_basics.specs.Moment.{Period}
 use Rattle.rpki_extensions.specs.declared.extensions.Extensions.{Extensions}
 use Rattle.rpki_extensions.specs.Extensions.{extensions_at}

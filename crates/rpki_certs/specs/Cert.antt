@@ -6,9 +6,9 @@ use Rattle.rpki_der.specs.Form.Made.{WithOctets, made, with_octets}
 use Rattle.rpki_der.specs.Form.Parts.{Sequence, Explicit, sequence_at, context_at}
 use Rattle.rpki_der.specs.Read.Parse.{Parser, ◌>>=◌, primitive, this, u160_at, octets_in_bits_at}
 use Rattle.rpki_der.specs.Tags.{INTEGER}
-use Rattle.rpki_keys.specs.Algorithm.{CertAlgorithmForm, cert_algorithm_at}
-use Rattle.rpki_keys.specs.Key.{KeyForm, key_at}
-use Rattle.rpki_keys.specs.Name.{NameForm, name_at}
+use Rattle.rpki_basics.specs.Algorithm.{CertAlgorithmForm, cert_algorithm_at}
+use Rattle.rpki_basics.specs.Key.{KeyForm, key_at}
+use Rattle.rpki_basics.specs.Name.{NameForm, name_at}
 use Rattle.rpki_basics.specs.Moment.{Period}
 use Rattle.rpki_basics.specs.Serial.{SerialForm}
 use Rattle.rpki_basics.specs.Time.Form.{TimeForm}

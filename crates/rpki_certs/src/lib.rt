@@ -1,15 +1,17 @@
-//! Certificates of resources (RFC 5280; RFC 6487; RFC 8360): reading, inspection and validation.
-//! The faults, the usage of a key and what is done with a claim of too much are those of
-//! `rpki_faults`, under the names of this crate.
+//! Certificates of resources (RFC 5280; RFC 6487; RFC 8360): reading, inspection and validation,
+//! and the issuer that a chain of them makes. The faults, the usage of a key and what is done with
+//! a claim of too much are those of `rpki_faults`, under the names of this crate.
 #![tactic(auto)]
 
 mod cert;
 mod inspect;
+mod issuer;
 pub mod laws;
 mod validate;
 mod verify;
 
 pub use cert::{Cert, CertEncoder};
+pub use issuer::{IssuerError, issuer_at};
 pub use rpki_faults::{
     Family, InspectionError, KeyUsage, Overclaim, UncoveredPrefix, ValidationError,
     VerificationError,

@@ -3,8 +3,8 @@ use Rattle.std.proofs.Common.{◌≡◌, ◌+◌, ◌≤◌, ℕ, List, ◌++◌
 use Rattle.std.proofs.Common.{ap, ◌∙◌, arith, length}
 use Rattle.std.proofs.lemmas.List.{append-nil, length-map, take_all}
 use Rattle.std.specs.Borrow.{Bor}
-use Rattle.rpki_issuers.specs.Issuer.{octets_of}
-use Rattle.rpki_command.specs.Answer.{Said, cannot_read, out_of_memory}
+use Rattle.rpki_certs.specs.Issuer.{octets_of}
+use Rattle.rpki_command.specs.Answer.{Output, cannot_read, out_of_memory}
 use Rattle.rpki_command.specs.Command.{AreReadAtMost, IsOfFiles}
 use Rattle.rpki_command.specs.Store.{Told, Names, AreAllRead, IsFirstUnreadable, AreSomeRead}
 use Rattle.rpki_command.specs.Words.{texts}
@@ -12,7 +12,7 @@ use Rattle.rpki_command.specs.declared.store.Unread.TheVariants as reads
 
 -- the same names
 pub of-same : (told : Told) (seen names : List (Bor (List ℕ))) (all : List (List ℕ))
-    (P : List (List ℕ) → Said → Type 0) (old new : Names) (s : Said)
+    (P : List (List ℕ) → Output → Type 0) (old new : Names) (s : Output)
     → IsOfFiles told (texts seen) P old new s → texts names ≡ all → seen ≡ names
     → IsOfFiles told all P old new s
 of-same told seen names all P old new s h e d =
@@ -25,21 +25,21 @@ read-same seen names all old new h e d =
     subst (λ (ns : List (List ℕ)). AreReadAtMost ns old new) (ap texts d ∙ e) h
 
 -- the first file that can't be read
-pub of-unreadable : (told : Told) (names : List (List ℕ)) (P : List (List ℕ) → Said → Type 0)
-    (old new : Names) (name : Bor (List ℕ)) (s : Said)
+pub of-unreadable : (told : Told) (names : List (List ℕ)) (P : List (List ℕ) → Output → Type 0)
+    (old new : Names) (name : Bor (List ℕ)) (s : Output)
     → IsFirstUnreadable told names old new name.now → s ≡ cannot_read name.now
     → IsOfFiles told names P old new s
 of-unreadable told names P old new name s u e = inr (Err (reads.Unreadable name), u, e)
 
 -- some are read, until memory runs out
-pub of-some-read : (told : Told) (names : List (List ℕ)) (P : List (List ℕ) → Said → Type 0)
-    (old new : Names) (s : Said) → AreSomeRead told names old new → s ≡ out_of_memory
+pub of-some-read : (told : Told) (names : List (List ℕ)) (P : List (List ℕ) → Output → Type 0)
+    (old new : Names) (s : Output) → AreSomeRead told names old new → s ≡ out_of_memory
     → IsOfFiles told names P old new s
 of-some-read told names P old new s a e = inr (Err reads.Memory, a, e)
 
 -- all are read
-pub of-all-read : (told : Told) (names : List (List ℕ)) (P : List (List ℕ) → Said → Type 0)
-    (old new : Names) (files : Vec (Vec ℕ Global) Global) (seen : List (Vec ℕ Global)) (s : Said)
+pub of-all-read : (told : Told) (names : List (List ℕ)) (P : List (List ℕ) → Output → Type 0)
+    (old new : Names) (files : Vec (Vec ℕ Global) Global) (seen : List (Vec ℕ Global)) (s : Output)
     → AreAllRead told names old new files.items → P (octets_of seen) s → seen ≡ files.items
     → IsOfFiles told names P old new s
 of-all-read told names P old new files seen s a h e = inr (

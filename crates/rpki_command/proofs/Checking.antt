@@ -12,17 +12,17 @@ use Rattle.rpki_faults.specs.declared.validation.ValidationError.TheVariants.{Me
 use Rattle.rpki_certs.specs.Cert.{KeptCertificate}
 use Rattle.rpki_certs.specs.Validate.{Sets, Validated}
 use Rattle.rpki_certs.specs.Verify.{Verdict}
-use Rattle.rpki_issuers.specs.Issuer.{octets_of}
+use Rattle.rpki_certs.specs.Issuer.{octets_of}
 use Rattle.rpki_signed.specs.Check.{Checks}
 use Rattle.rpki_signed.specs.Exact.{IsExact}
-use Rattle.rpki_signed.specs.Good.{IsNotGood}
-use Rattle.rpki_signed.specs.Kind.{Kind}
-use Rattle.rpki_signed.specs.Object.{Whole, cert_in}
-use Rattle.rpki_signed.specs.Process.{AnswersAsked}
 use Rattle.rpki_signed.specs.declared.check.CheckError.{CheckError}
 use Rattle.rpki_signed.specs.declared.check.CheckError.TheVariants.{Decode, Validation}
 use Rattle.rpki_sigobj.specs.Verify.{Digester}
-use Rattle.rpki_command.specs.Answer.{Said}
+use Rattle.rpki_sigobj.specs.Signed.Good.{IsNotGood}
+use Rattle.rpki_sigobj.specs.Signed.Kind.{Kind}
+use Rattle.rpki_sigobj.specs.Signed.Process.{AnswersAsked}
+use Rattle.rpki_sigobj.specs.Signed.{Whole, cert_in}
+use Rattle.rpki_command.specs.Answer.{Output}
 use Rattle.rpki_verdicts.specs.Listed.{is_listed}
 use Rattle.rpki_verdicts.specs.Verdicts.{AreVerdicts}
 use Rattle.rpki_command.specs.Check.{IsCheckedWith, CheckOf}
@@ -109,7 +109,7 @@ three (x ∷ y ∷ z ∷ rest) a b c l e f g =
 pub checked-files : (options : Options) (kind : words.Kind) (now : Moment)
     (files : List (Vec ℕ Global)) (o v a : Vec ℕ Global) (object verdicts anchor : List ℕ)
     → object ≡ o.items → verdicts ≡ v.items → anchor ≡ a.items
-    → (lines : List (List ℕ)) (s : Said) → 3 ≤ length files → o ≡ get_or files 0 o
+    → (lines : List (List ℕ)) (s : Output) → 3 ≤ length files → o ≡ get_or files 0 o
     → v ≡ get_or files 1 v → a ≡ get_or files 2 a → AreVerdicts verdicts lines
     → IsCheckedWith options kind sha256 (is_listed lines) now object anchor
     (octets_of (take (length files - 3) (drop 3 files))) s

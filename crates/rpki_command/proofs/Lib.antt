@@ -10,3 +10,4 @@ pub mod Right
 pub mod Running
 pub mod Saying
 pub mod Shown
+pub mod Verified

@@ -8,7 +8,7 @@ use Rattle.rpki_tal.specs.declared.error.ReadError.TheVariants as error
 use Rattle.rpki_tal.specs.Form.{IsNoTal, IsOnlyTal}
 use Rattle.rpki_tal.specs.Read.{HasGiven, GivesNoTal, ReadsTal, failed_calls}
 use Rattle.rpki_tal.specs.Tal.{Locator}
-use Rattle.rpki_command.specs.Answer.{Said, malformed}
+use Rattle.rpki_command.specs.Answer.{Output, malformed}
 use Rattle.rpki_command.specs.Contents.{IsLinesOf, IsShown}
 use Rattle.rpki_command.specs.Refusal.{tal_refusal}
 use Rattle.rpki_command.specs.Texts.Tal.{TalLines, tal_text}
@@ -20,7 +20,7 @@ all-given octets text None h = absurd h.given
 all-given octets text (Some rest) h =
     sym (h.given ∙ (ap (λ (r : List ℕ). text ++ r) h.ended ∙ append-nil text))
 
-module _ (octets : List ℕ) (new : Option (List ℕ)) (s : Said) where
+module _ (octets : List ℕ) (new : Option (List ℕ)) (s : Output) where
   no-tal : (e : ReadError) → s ≡ malformed → GivesNoTal (Some octets) new e
       → IsShown TalLines octets s
   no-tal e is none =

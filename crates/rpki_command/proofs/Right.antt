@@ -14,19 +14,19 @@ use Rattle.rpki_faults.specs.declared.validation.ValidationError.TheVariants as 
 use Rattle.rpki_certs.specs.Cert.{KeptCertificate}
 use Rattle.rpki_certs.specs.Validate.{Validated}
 use Rattle.rpki_certs.specs.Verify.{Verdict}
-use Rattle.rpki_issuers.specs.Issuer.{MakesIssuer}
-use Rattle.rpki_issuers.specs.declared.issuer.IssuerError.{IssuerError}
-use Rattle.rpki_issuers.specs.declared.issuer.IssuerError.TheVariants as issuing
+use Rattle.rpki_certs.specs.Issuer.{MakesIssuer}
+use Rattle.rpki_certs.specs.declared.issuer.IssuerError.{IssuerError}
+use Rattle.rpki_certs.specs.declared.issuer.IssuerError.TheVariants as issuing
 use Rattle.rpki_signed.specs.Exact.{IsExact}
-use Rattle.rpki_signed.specs.Good.{IsGood, IsNotGood}
-use Rattle.rpki_signed.specs.Kind as signed
-use Rattle.rpki_signed.specs.Object.{Whole, ObjectForm, cert_in}
 use Rattle.rpki_signed.specs.declared.check.CheckError.{CheckError}
 use Rattle.rpki_signed.specs.declared.check.CheckError.TheVariants.{Decode, Validation}
 use Rattle.rpki_sigobj.specs.Verify.{Digester}
+use Rattle.rpki_sigobj.specs.Signed.Good.{IsGood, IsNotGood}
+use Rattle.rpki_sigobj.specs.Signed.Kind as signed
+use Rattle.rpki_sigobj.specs.Signed.{Whole, ObjectForm, cert_in}
 use Rattle.rpki_verdicts.specs.Listed.{is_listed}
 use Rattle.rpki_verdicts.specs.Verdicts.{AreVerdicts}
-use Rattle.rpki_command.specs.Answer.{Run, Said, Printed, Complained, IsSaid, IsWhole}
+use Rattle.rpki_command.specs.Answer.{Run, Output, Printed, Complained, IsSaid, IsWhole}
 use Rattle.rpki_command.specs.Answer.{out_of_memory, bad_verdicts, shown}
 use Rattle.rpki_command.specs.Check.{yes_line, passes, issuer_refusal, validation_refusal}
 use Rattle.rpki_command.specs.Check.{IsCheckSaid, IsCheckedAs, CheckedUnder, IsSaidUnder, CheckOf}
@@ -43,7 +43,7 @@ use Rattle.rpki_command.specs.declared.words.Kind.{Kind}
 use Rattle.rpki_command.specs.declared.words.Options.{Options}
 
 -- the status that goes with what is said
-abbrev pub status_of : Said → ℕ
+abbrev pub status_of : Output → ℕ
 status_of (Printed text status) = status
 status_of (Complained text status) = status
 
@@ -57,7 +57,7 @@ three : ◌≡◌ {A = ℕ} 3 0 → ⊥
 three e = omega (arith, e)
 
 -- a run that says this ends with its status, or with 2
-pub status-said : (s : Said) (run : Run) (n : ℕ) → IsSaid s run → run.status ≡ n → (n ≡ 2 → ⊥)
+pub status-said : (s : Output) (run : Run) (n : ℕ) → IsSaid s run → run.status ≡ n → (n ≡ 2 → ⊥)
     → status_of s ≡ n
 status-said (Printed text status) run n h e failed = elim h.out [
   | inl w ↦ sym w.status_is ∙ e
@@ -69,7 +69,7 @@ status-said (Complained text status) run n h e failed = elim h.err [
 ]
 
 -- what has this status is not said with another one
-pub other-status : (s is : Said) (n : ℕ) → status_of s ≡ n → s ≡ is → (status_of is ≡ n → ⊥) → ⊥
+pub other-status : (s is : Output) (n : ℕ) → status_of s ≡ n → s ≡ is → (status_of is ≡ n → ⊥) → ⊥
 other-status s is n e same other = other (ap status_of (sym same) ∙ e)
 
 -- lines that are shown with status 0 are printed whole
@@ -105,12 +105,12 @@ no-pass cert fault e = absurd cc
 
 module _ {X : Type 0} (kind : signed.Kind X) (form : List ℕ → X → Type 0) (text : X → List ℕ)
     (mode : Mode) (digest : Digester) (verdict : Verdict) (issuer : Validated) (now : Moment)
-    (octets : List ℕ) (s : Said) where
+    (octets : List ℕ) (s : Output) where
   module _ (run : Run) (h : IsSaid s run) (z : run.status ≡ 0) (zero : status_of s ≡ 0) where
     said-lines : (x : X) → IsLinesOf (yes_line ++ text x) s
         → IsSaid (shown (yes_line ++ text x)) run
     said-lines x (inl e) = absurd (other-status s out_of_memory 0 zero e three)
-    said-lines x (inr e) = subst (λ (y : Said). IsSaid y run) e h
+    said-lines x (inr e) = subst (λ (y : Output). IsSaid y run) e h
 
     yes-result : (result : Result (Validated × X) CheckError)
         → IsExact kind form mode digest verdict issuer now passes octets result
@@ -190,7 +190,7 @@ pub of-kind : (options : Options) (kind : Kind)
     → OfKind options kind P → OfKind options kind Q
 of-kind options kind P Q more h = search rules
 
-module _ (s : Said) (options : Options) (kind : Kind) (verdict : Verdict) (issuer : Validated)
+module _ (s : Output) (options : Options) (kind : Kind) (verdict : Verdict) (issuer : Validated)
     (now : Moment) (octets : List ℕ)
     (c : CheckedUnder options kind sha256 verdict issuer now octets s) where
   pub yes-under : (run : Run) → IsSaid s run → run.status ≡ 0 → status_of s ≡ 0
@@ -217,7 +217,7 @@ module _ (s : Said) (options : Options) (kind : Kind) (verdict : Verdict) (issue
 
 -- ---- by its files
 
-module _ (s : Said) (options : Options) (kind : Kind) (now : Moment) (files : FilesOfCheck) where
+module _ (s : Output) (options : Options) (kind : Kind) (now : Moment) (files : FilesOfCheck) where
   module _ (run : Run) (h : IsSaid s run) (z : run.status ≡ 0) (zero : status_of s ≡ 0) where
     yes-made : (lines : List (List ℕ)) → AreVerdicts files.verdicts lines
         → (issuer : Result Validated IssuerError)

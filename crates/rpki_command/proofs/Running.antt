@@ -6,7 +6,7 @@ use Rattle.std.proofs.Math.Seq.{get_or-append_seam}
 use Rattle.std.proofs.lemmas.Bool.{cases_order}
 use Rattle.std.proofs.lemmas.List.{append_assoc, get_or_append_left, length-append, take_at}
 use Rattle.std.specs.Prelude.{◌⊎◌}
-use Rattle.rpki_command.specs.Answer.{Run, Said, IsSaid, usage, cannot_read, out_of_memory}
+use Rattle.rpki_command.specs.Answer.{Run, Output, IsSaid, usage, cannot_read, out_of_memory}
 use Rattle.rpki_command.specs.Answer.{malformed, shown}
 use Rattle.rpki_command.specs.Command.{IsOfRead, IsOfFile, Task, ShowLines, CheckFiles, NotThere}
 use Rattle.rpki_command.specs.Command.{order_task, IsOfReads, IsOfFiles, AreTold, ChecksFiles}
@@ -17,7 +17,7 @@ use Rattle.rpki_command.specs.Contents.{HasNoLines, IsSaidOf, IsShown}
 use Rattle.rpki_command.specs.Store.{Told, Names, IsRead, AreRead, AreReadTo, AreAllRead}
 use Rattle.rpki_command.specs.Store.{IsFirstUnreadable}
 use Rattle.rpki_command.specs.Words.{IsAsked, AskForNothing}
-use Rattle.rpki_issuers.specs.Issuer.{octets_of}
+use Rattle.rpki_certs.specs.Issuer.{octets_of}
 use Rattle.rpki_command.specs.declared.store.Unread.{Unread}
 use Rattle.rpki_command.specs.declared.store.Unread.TheVariants as reads
 use Rattle.rpki_command.specs.declared.store.StoreError.{StoreError}
@@ -25,13 +25,13 @@ use Rattle.rpki_command.specs.declared.store.StoreError.TheVariants.{Unreadable,
 use Rattle.rpki_command.specs.declared.words.Order.{Order}
 use Rattle.rpki_command.proofs.Orders.{asked-once}
 
-pub said-as : (s is : Said) (run : Run) → s ≡ is → IsSaid s run → IsSaid is run
-said-as s is run e h = subst (λ (x : Said). IsSaid x run) e h
+pub said-as : (s is : Output) (run : Run) → s ≡ is → IsSaid s run → IsSaid is run
+said-as s is run e h = subst (λ (x : Output). IsSaid x run) e h
 
 -- ---- a file that is shown
 
-module _ (lines_of : List ℕ → List ℕ → Type 0) (s : Said) (run : Run) (h : IsSaid s run) where
-  unreadable-said : (file : List ℕ) (P : List ℕ → Said → Type 0)
+module _ (lines_of : List ℕ → List ℕ → Type 0) (s : Output) (run : Run) (h : IsSaid s run) where
+  unreadable-said : (file : List ℕ) (P : List ℕ → Output → Type 0)
       (read : Result (Vec ℕ Global) StoreError)
       → IsRead (Some None) read → IsOfRead file P read s → OrOutOfMemory (cannot_read file) run
   unreadable-said file P (Ok octets) r o = absurd r
@@ -52,7 +52,7 @@ module _ (lines_of : List ℕ → List ℕ → Type 0) (s : Said) (run : Run) (h
       inr (subst (λ (l : List ℕ). IsSaid (shown l) run) (sym ((f.1).only lines is))
       (said-as s (shown f.0) run f.2 h))
 
-  of-octets : (file octets : List ℕ) (is : Said) (read : Result (Vec ℕ Global) StoreError)
+  of-octets : (file octets : List ℕ) (is : Output) (read : Result (Vec ℕ Global) StoreError)
       → IsRead (Some (Some octets)) read → IsOfRead file (IsShown lines_of) read s
       → (IsShown lines_of octets s → OrOutOfMemory is run) → OrOutOfMemory is run
   of-octets file octets is (Ok v) r o k = k (subst (λ (b : List ℕ). IsShown lines_of b s) r o)
@@ -162,13 +162,13 @@ first-is told before after octets file old new name u t e =
           (subst (λ (n : List ℕ). told n ≡ Some None) (sym (at-file before after file [])) e))
     ]
 
-module _ (told : Told) (P : List (List ℕ) → Said → Type 0) (old new : Names) (s : Said) (run : Run)
-    (h : IsSaid s run) where
+module _ (told : Told) (P : List (List ℕ) → Output → Type 0) (old new : Names) (s : Output)
+    (run : Run) (h : IsSaid s run) where
   of-reads : (names octets : List (List ℕ)) → AreTold told names octets
       → (read : Result (Vec (Vec ℕ Global) Global) Unread) → AreRead told names old new read
       → IsOfReads P read s
       → IsSaid out_of_memory run
-      ⊎ ((new ≡ old ++ names) × (x : Said) × P octets x × IsSaid x run)
+      ⊎ ((new ≡ old ++ names) × (x : Output) × P octets x × IsSaid x run)
   of-reads names octets t (Ok files) a o = inr (
     a.reads,
     s,
@@ -200,7 +200,7 @@ module _ (told : Told) (P : List (List ℕ) → Said → Type 0) (old new : Name
   all-told : (names octets : List (List ℕ)) → AreTold told names octets
       → IsOfFiles told names P old new s
       → IsSaid out_of_memory run
-      ⊎ ((new ≡ old ++ names) × (x : Said) × P octets x × IsSaid x run)
+      ⊎ ((new ≡ old ++ names) × (x : Output) × P octets x × IsSaid x run)
   all-told names octets t (inl m) = inl (said-as s out_of_memory run m.0 h)
   all-told names octets t (inr r) = of-reads names octets t r.0 r.1 r.2
 
@@ -222,7 +222,7 @@ module _ (told : Told) (P : List (List ℕ) → Said → Type 0) (old new : Name
 
 -- ---- the whole
 
-module _ (told : Told) (old new : Names) (s : Said) (run : Run) (h : IsSaid s run) where
+module _ (told : Told) (old new : Names) (s : Output) (run : Run) (h : IsSaid s run) where
   pub task-done : (task : Task) → IsTaskAnswer told task old new s
       → IsTaskDone told task old new run
   task-done (ShowLines file lines_of) a = shows lines_of s run h told file a

@@ -5,8 +5,8 @@ use Rattle.rpki_der.specs.declared.error.DecodeError.TheVariants.{Malformed, Con
 use Rattle.rpki_der.specs.Grammar.{HasNoFront}
 use Rattle.rpki_der.specs.Form.Decodes.{IsOnlyFront}
 use Rattle.rpki_der.specs.Read.Reads.{Refuses}
-use Rattle.rpki_signed.specs.Object.{ObjectForm}
-use Rattle.rpki_command.specs.Answer.{Said}
+use Rattle.rpki_sigobj.specs.Signed.{ObjectForm}
+use Rattle.rpki_command.specs.Answer.{Output}
 use Rattle.rpki_command.specs.Contents.{HasLines, LinesOf, IsLinesOf, IsShown}
 use Rattle.rpki_command.specs.Kinds.{OfKind}
 use Rattle.rpki_command.specs.Objects.{ObjectLinesOf}
@@ -18,7 +18,7 @@ use Rattle.rpki_command.specs.declared.words.Kind.TheVariants.{Aspa}
 use Rattle.rpki_command.specs.declared.words.Options.{Options}
 
 module _ {X : Type 0} (form : List ℕ → X → Type 0) (text : X → List ℕ) (octets : List ℕ)
-    (s : Said) where
+    (s : Output) where
   pub shown-refusal : (e : DecodeError) → s ≡ refusal e → Refuses e (HasNoFront form octets)
       → IsShown (HasLines form text) octets s
   shown-refusal Memory is none = record { said = inl is }
@@ -42,13 +42,13 @@ module _ {X : Type 0} (form : List ℕ → X → Type 0) (text : X → List ℕ)
   }
 
 -- What is shown for each kind is shown of this one: in each case by the same words.
-pub of_kind : (options : Options) (kind : Kind) (octets : List ℕ) (s : Said)
+pub of_kind : (options : Options) (kind : Kind) (octets : List ℕ) (s : Output)
     → OfKind options kind (λ X asked form text. IsShown (HasLines form text) octets s)
     → IsShown (LinesOf options kind) octets s
 of_kind options Aspa octets s h = h
 of_kind options other octets s h = h
 
-pub object_of_kind : (options : Options) (kind : Kind) (octets : List ℕ) (s : Said)
+pub object_of_kind : (options : Options) (kind : Kind) (octets : List ℕ) (s : Output)
     → OfKind options kind (λ X asked form text. IsShown (HasLines (ObjectForm asked.type form
     (read_mode options)) (object_text text)) octets s)
     → IsShown (ObjectLinesOf options kind) octets s

@@ -55,23 +55,23 @@ pub record Complains (octets : List ℕ) (wanted : ℕ) (run : Run) : Type 0 whe
   pub err : Writes octets wanted run.err_before run.err_after run.status
   pub out : run.out_after ≡ run.out_before
 
--- what is said: a text, and the status that goes with it
-pub data Said : Type 0 where
+-- what a program puts out: a text, and the status that goes with it
+pub data Output : Type 0 where
   -- on standard output
-  Printed : (text : List ℕ) (status : ℕ) → Said
+  Printed : (text : List ℕ) (status : ℕ) → Output
   -- on standard error
-  Complained : (text : List ℕ) (status : ℕ) → Said
+  Complained : (text : List ℕ) (status : ℕ) → Output
 
 -- the words are those of no order, or of one that is not built
-abbrev pub usage : Said
+abbrev pub usage : Output
 usage = Complained (codes "usage\n") 2
 
 -- a file can't be read
-abbrev pub cannot_read : List ℕ → Said
+abbrev pub cannot_read : List ℕ → Output
 cannot_read file = Complained (codes "cannot read " ++ (file ++ codes "\n")) 2
 
 -- a file is no list of verdicts
-abbrev pub bad_verdicts : Said
+abbrev pub bad_verdicts : Output
 bad_verdicts = Complained (codes "bad verdicts\n") 2
 
 -- that no memory was to be had, as a text
@@ -79,7 +79,7 @@ abbrev pub memory_text : List ℕ
 memory_text = codes "out of memory"
 
 -- no memory was to be had
-abbrev pub out_of_memory : Said
+abbrev pub out_of_memory : Output
 out_of_memory = Complained (memory_text ++ codes "\n") 3
 
 -- that a file is not, or does not begin with, what was asked for, as a text
@@ -87,27 +87,27 @@ abbrev pub malformed_text : List ℕ
 malformed_text = codes "malformed"
 
 -- a file is not, or does not begin with, what was asked for
-abbrev pub malformed : Said
+abbrev pub malformed : Output
 malformed = Printed (malformed_text ++ codes "\n") 1
 
 -- an object is refused, for this cause
-abbrev pub refused : List ℕ → Said
+abbrev pub refused : List ℕ → Output
 refused cause = Printed (codes "refused: " ++ (cause ++ codes "\n")) 1
 
 -- certificates make no issuer, for this cause
-abbrev pub issuer_refused : List ℕ → Said
+abbrev pub issuer_refused : List ℕ → Output
 issuer_refused cause = Printed (codes "issuer refused: " ++ (cause ++ codes "\n")) 1
 
 -- certificates make no issuer, since one of them is not read
-abbrev pub issuer_malformed : Said
+abbrev pub issuer_malformed : Output
 issuer_malformed = issuer_refused malformed_text
 
 -- these lines are shown
-abbrev pub shown : List ℕ → Said
+abbrev pub shown : List ℕ → Output
 shown lines = Printed lines 0
 
 -- what an answer says
-abbrev pub said : Answer → Said
+abbrev pub said : Answer → Output
 said Usage = usage
 said (CannotRead file) = cannot_read file.now
 said BadVerdicts = bad_verdicts
@@ -119,6 +119,6 @@ said (IssuerRefused cause) = issuer_refused (string_bytes cause)
 said (Shown lines) = shown (string_bytes lines)
 
 -- the run says it
-abbrev pub IsSaid : Said → Run → Type 0
+abbrev pub IsSaid : Output → Run → Type 0
 IsSaid (Printed text status) run = Prints text status run
 IsSaid (Complained text status) run = Complains text status run

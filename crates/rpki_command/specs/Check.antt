@@ -11,18 +11,18 @@ use Rattle.rpki_faults.specs.declared.validation.ValidationError.TheVariants as 
 use Rattle.rpki_certs.specs.Cert.{KeptCertificate}
 use Rattle.rpki_certs.specs.Validate.{Validated}
 use Rattle.rpki_certs.specs.Verify.{Verdict}
-use Rattle.rpki_issuers.specs.Issuer.{MakesIssuer}
-use Rattle.rpki_issuers.specs.declared.issuer.IssuerError.{IssuerError}
-use Rattle.rpki_issuers.specs.declared.issuer.IssuerError.TheVariants as issuing
+use Rattle.rpki_certs.specs.Issuer.{MakesIssuer}
+use Rattle.rpki_certs.specs.declared.issuer.IssuerError.{IssuerError}
+use Rattle.rpki_certs.specs.declared.issuer.IssuerError.TheVariants as issuing
 use Rattle.rpki_signed.specs.Check.{Checks}
 use Rattle.rpki_signed.specs.Exact.{IsExact}
-use Rattle.rpki_signed.specs.Kind as signed
 use Rattle.rpki_signed.specs.declared.check.CheckError.{CheckError}
 use Rattle.rpki_signed.specs.declared.check.CheckError.TheVariants.{Decode, Validation}
 use Rattle.rpki_sigobj.specs.Verify.{Digester}
+use Rattle.rpki_sigobj.specs.Signed.Kind as signed
 use Rattle.rpki_verdicts.specs.Listed.{is_listed}
 use Rattle.rpki_verdicts.specs.Verdicts.{AreVerdicts}
-use Rattle.rpki_command.specs.Answer.{Said, out_of_memory, bad_verdicts, refused, issuer_refused}
+use Rattle.rpki_command.specs.Answer.{Output, out_of_memory, bad_verdicts, refused, issuer_refused}
 use Rattle.rpki_command.specs.Answer.{issuer_malformed}
 use Rattle.rpki_command.specs.Contents.{IsLinesOf}
 use Rattle.rpki_command.specs.Kinds.{OfKind}
@@ -36,17 +36,17 @@ abbrev pub passes : KeptCertificate → Result (Unit {0}) ValidationError → Ty
 passes cert said = said ≡ Ok tt
 
 -- why an object is refused, as it is said
-abbrev pub validation_refusal : ValidationError → Said
+abbrev pub validation_refusal : ValidationError → Output
 validation_refusal (validation.Inspection fault) = refused (inspection_text fault)
 validation_refusal (validation.Verification fault) = refused (verification_text fault)
 validation_refusal validation.Memory = out_of_memory
 
 -- what is said where an object is refused, unless memory runs out
-abbrev pub IsRefused : ValidationError → Said → Type 0
+abbrev pub IsRefused : ValidationError → Output → Type 0
 IsRefused fault s = (s ≡ out_of_memory) ⊎ (s ≡ validation_refusal fault)
 
 -- why certificates make no issuer, as it is said
-abbrev pub issuer_refusal : IssuerError → Said
+abbrev pub issuer_refusal : IssuerError → Output
 issuer_refusal (issuing.Decode decoding.Memory) = out_of_memory
 issuer_refusal (issuing.Decode decoding.Malformed) = issuer_malformed
 issuer_refusal (issuing.Decode (decoding.Content fault)) = issuer_malformed
@@ -57,7 +57,7 @@ issuer_refusal (issuing.Validation (validation.Verification fault)) =
 issuer_refusal (issuing.Validation validation.Memory) = out_of_memory
 
 -- what is said where certificates make no issuer, unless memory runs out
-abbrev pub IsIssuerRefused : IssuerError → Said → Type 0
+abbrev pub IsIssuerRefused : IssuerError → Output → Type 0
 IsIssuerRefused fault s = (s ≡ out_of_memory) ⊎ (s ≡ issuer_refusal fault)
 
 -- the line that says that an object is good
@@ -65,7 +65,7 @@ abbrev pub yes_line : List ℕ
 yes_line = codes "yes\n"
 
 -- What is said of what a check answers: yes and the lines of the content, or why not.
-abbrev pub IsCheckSaid : {X : Type 0} → (X → List ℕ) → Result (Validated × X) CheckError → Said
+abbrev pub IsCheckSaid : {X : Type 0} → (X → List ℕ) → Result (Validated × X) CheckError → Output
     → Type 0
 IsCheckSaid text (Ok a) s = IsLinesOf (yes_line ++ text a.1) s
 IsCheckSaid text (Err (Decode fault)) s = s ≡ refusal fault
@@ -76,7 +76,7 @@ IsCheckSaid text (Err (Validation fault)) s = IsRefused fault s
 -- the fault of its first check that fails.
 pub record IsChecked {X : Type 0} (kind : signed.Kind X) (form : List ℕ → X → Type 0)
     (text : X → List ℕ) (mode : Mode) (digest : Digester) (verdict : Verdict) (issuer : Validated)
-    (now : Moment) (octets : List ℕ) (s : Said) : Type 0 where
+    (now : Moment) (octets : List ℕ) (s : Output) : Type 0 where
   pub result : Result (Validated × X) CheckError
   pub first : Checks kind form mode digest verdict issuer now passes octets result
   pub exact : IsExact kind form mode digest verdict issuer now passes octets result
@@ -84,41 +84,42 @@ pub record IsChecked {X : Type 0} (kind : signed.Kind X) (form : List ℕ → X 
 
 -- what is said of the check of such objects, unless memory runs out
 abbrev pub IsCheckedAs : {X : Type 0} → signed.Kind X → (List ℕ → X → Type 0) → (X → List ℕ)
-    → Mode → Digester → Verdict → Validated → Moment → List ℕ → Said → Type 0
+    → Mode → Digester → Verdict → Validated → Moment → List ℕ → Output → Type 0
 IsCheckedAs kind form text mode digest verdict issuer now octets s =
     (s ≡ out_of_memory) ⊎ IsChecked kind form text mode digest verdict issuer now octets s
 
 -- What is said of octets that may begin with an object of a kind, under an issuer, with these
 -- options.
-abbrev pub CheckedUnder : Options → Kind → Digester → Verdict → Validated → Moment → List ℕ → Said
+abbrev pub CheckedUnder : Options → Kind → Digester → Verdict → Validated → Moment → List ℕ → Output
     → Type 0
 CheckedUnder options kind digest verdict issuer now octets s =
     OfKind options kind (λ X asked form text.
     IsCheckedAs asked form text (read_mode options) digest verdict issuer now octets s)
 
 -- what is said of an object where certificates make this
-abbrev pub IsSaidUnder : (Validated → Said → Type 0) → Result Validated IssuerError → Said → Type 0
+abbrev pub IsSaidUnder : (Validated → Output → Type 0) → Result Validated IssuerError → Output
+    → Type 0
 IsSaidUnder P (Ok issuer) s = P issuer s
 IsSaidUnder P (Err fault) s = IsIssuerRefused fault s
 
 -- What is said of an object, by the octets of a trust anchor and of a chain under it: first of the
 -- issuer that they make, and then of the object.
 abbrev pub IsCheckedWith : Options → Kind → Digester → Verdict → Moment → List ℕ → List ℕ
-    → List (List ℕ) → Said → Type 0
+    → List (List ℕ) → Output → Type 0
 IsCheckedWith options kind digest verdict now object anchor chain s =
     (issuer : Result Validated IssuerError) × MakesIssuer verdict now anchor chain issuer
     × IsSaidUnder (λ v said. CheckedUnder options kind digest verdict v now object said) issuer s
 
 -- What is said where the verdicts are those of a text: by `P`, if it is a list of verdicts, and
 -- else that it is none.
-abbrev pub IsByVerdicts : (Verdict → Said → Type 0) → List ℕ → Said → Type 0
+abbrev pub IsByVerdicts : (Verdict → Output → Type 0) → List ℕ → Output → Type 0
 IsByVerdicts P text s =
     (((lines : List (List ℕ)) → AreVerdicts text lines → ⊥) × (s ≡ bad_verdicts))
     ⊎ ((lines : List (List ℕ)) × AreVerdicts text lines × P (is_listed lines) s)
 
 -- What is said of files: of the object, the verdicts, the certificate of a trust anchor, and those
 -- of CAs, each under the one before. Digests are SHA-256 (RFC 7935, section 2).
-abbrev pub CheckOf : Options → Kind → Moment → List (List ℕ) → Said → Type 0
+abbrev pub CheckOf : Options → Kind → Moment → List (List ℕ) → Output → Type 0
 CheckOf options kind now (object ∷ verdicts ∷ anchor ∷ chain) s =
     IsByVerdicts
     (λ verdict said. IsCheckedWith options kind sha256 verdict now object anchor chain said)

@@ -3,8 +3,8 @@
 use Rattle.std.specs.Prelude.{◌≡◌, ℕ, ◌⊎◌, List, [], ◌∷◌, ◌++◌, take, map, None, Some}
 use Rattle.std.specs.Prelude.{Result, Ok, Err, Vec}
 use Rattle.std.specs.declared.alloc.Global.{Global}
-use Rattle.rpki_issuers.specs.Issuer.{octets_of}
-use Rattle.rpki_command.specs.Answer.{Run, Said, IsSaid, usage, cannot_read, out_of_memory}
+use Rattle.rpki_certs.specs.Issuer.{octets_of}
+use Rattle.rpki_command.specs.Answer.{Run, Output, IsSaid, usage, cannot_read, out_of_memory}
 use Rattle.rpki_command.specs.Answer.{malformed, shown}
 use Rattle.rpki_command.specs.Arguments.{ToldArguments, AreTexts, HaveNoText}
 use Rattle.rpki_command.specs.Check.{CheckOf}
@@ -23,18 +23,18 @@ use Rattle.rpki_command.specs.declared.words.Options.{Options}
 use Rattle.rpki_command.specs.declared.words.Order.{Order}
 
 -- what is said where a read of a file fails
-abbrev pub unread : List ℕ → StoreError → Said
+abbrev pub unread : List ℕ → StoreError → Output
 unread name Unreadable = cannot_read name
 unread name Memory = out_of_memory
 
 -- what is said where a read of a file answers this
-abbrev pub IsOfRead : List ℕ → (List ℕ → Said → Type 0) → Result (Vec ℕ Global) StoreError → Said
-    → Type 0
+abbrev pub IsOfRead : List ℕ → (List ℕ → Output → Type 0) → Result (Vec ℕ Global) StoreError
+    → Output → Type 0
 IsOfRead name P (Ok octets) s = P octets.items s
 IsOfRead name P (Err error) s = s ≡ unread name error
 
 -- what is said of a file in a store that tells this, where `P` says what is said of its octets
-abbrev pub IsOfFile : Told → List ℕ → (List ℕ → Said → Type 0) → Said → Type 0
+abbrev pub IsOfFile : Told → List ℕ → (List ℕ → Output → Type 0) → Output → Type 0
 IsOfFile told name P s = (read : Result (Vec ℕ Global) StoreError) × IsRead (told name) read
     × IsOfRead name P read s
 
@@ -43,7 +43,7 @@ pub data Task : Type 1 where
   -- to show the lines of what stands in a file
   ShowLines : (file : List ℕ) (lines_of : List ℕ → List ℕ → Type 0) → Task
   -- to read these files, in this order, and to say what is said of their octets
-  CheckFiles : (files : List (List ℕ)) (answers : List (List ℕ) → Said → Type 0) → Task
+  CheckFiles : (files : List (List ℕ)) (answers : List (List ℕ) → Output → Type 0) → Task
   -- nothing: the command is not built
   NotThere : Task
 
@@ -62,8 +62,8 @@ abbrev pub order_task : Order → Task
 order_task o = command_task o.options o.command
 
 -- what is said where reads of files answer this
-abbrev pub IsOfReads : (List (List ℕ) → Said → Type 0) → Result (Vec (Vec ℕ Global) Global) Unread
-    → Said → Type 0
+abbrev pub IsOfReads : (List (List ℕ) → Output → Type 0) → Result (Vec (Vec ℕ Global) Global) Unread
+    → Output → Type 0
 IsOfReads P (Ok files) s = P (octets_of files.items) s
 IsOfReads P (Err (reads.Unreadable name)) s = s ≡ cannot_read name.now
 IsOfReads P (Err reads.Memory) s = s ≡ out_of_memory
@@ -72,7 +72,7 @@ IsOfReads P (Err reads.Memory) s = s ≡ out_of_memory
 -- order, each once. Where all are read, it is what `P` says of their octets. Where one can't be
 -- read, it is that, and none is read after it. Where memory runs out, it is that: none is read, or
 -- those up to some place, and none after one that is told to be unreadable.
-abbrev pub IsOfFiles : Told → Names → (List (List ℕ) → Said → Type 0) → Names → Names → Said
+abbrev pub IsOfFiles : Told → Names → (List (List ℕ) → Output → Type 0) → Names → Names → Output
     → Type 0
 IsOfFiles told files P old new s =
     ((s ≡ out_of_memory) × (new ≡ old))
@@ -81,7 +81,7 @@ IsOfFiles told files P old new s =
 
 -- What is said for a task; for `CheckFiles`, together with which of the files are read for that.
 -- What the other tasks read, `HasRead` says.
-abbrev pub IsTaskAnswer : Told → Task → Names → Names → Said → Type 0
+abbrev pub IsTaskAnswer : Told → Task → Names → Names → Output → Type 0
 IsTaskAnswer told (ShowLines file lines_of) old new s = IsOfFile told file (IsShown lines_of) s
 IsTaskAnswer told (CheckFiles files P) old new s = IsOfFiles told files P old new s
 IsTaskAnswer told NotThere old new s = s ≡ usage
@@ -101,13 +101,13 @@ HasRead NotThere old new = new ≡ old
 
 -- What is said for the order that the words ask for, or the usage where they ask for none; for
 -- `CheckFiles`, together with which of the files are read for that.
-abbrev pub IsAnswer : Told → List (List ℕ) → Names → Names → Said → Type 0
+abbrev pub IsAnswer : Told → List (List ℕ) → Names → Names → Output → Type 0
 IsAnswer told words old new s =
     ((o : Order) × IsAsked words o × IsTaskAnswer told (order_task o) old new s)
     ⊎ (AskForNothing words × (s ≡ usage))
 
 -- this is said, unless memory runs out
-abbrev pub OrOutOfMemory : Said → Run → Type 0
+abbrev pub OrOutOfMemory : Output → Run → Type 0
 OrOutOfMemory s run = IsSaid out_of_memory run ⊎ IsSaid s run
 
 -- The run shows what stands in a file, where the store tells the file.
@@ -127,13 +127,13 @@ abbrev pub AreTold : Told → List (List ℕ) → List (List ℕ) → Type 0
 AreTold told files octets = map told files ≡ map (λ o. Some (Some o)) octets
 
 -- The run checks files, where the store tells them, unless memory runs out.
-pub record ChecksFiles (told : Told) (files : Names) (P : List (List ℕ) → Said → Type 0)
+pub record ChecksFiles (told : Told) (files : Names) (P : List (List ℕ) → Output → Type 0)
     (old new : Names) (run : Run) : Type 0 where
   -- files that can be read: they are read in their order, each once, and no other, and what is to
   -- be said of them is said
   pub checked : (octets : List (List ℕ)) → AreTold told files octets
       → IsSaid out_of_memory run
-      ⊎ ((new ≡ old ++ files) × (s : Said) × P octets s × IsSaid s run)
+      ⊎ ((new ≡ old ++ files) × (s : Output) × P octets s × IsSaid s run)
   -- a file that can't be read, after any number that can: these are read in their order, each
   -- once, then it, and no other, and it is said that it can't be read
   pub unreadable : (before after octets : List (List ℕ)) (file : List ℕ)
@@ -155,7 +155,7 @@ pub record IsRunOf (told : Told) (words : List (List ℕ)) (old new : Names) (ru
   -- words that ask for this
   pub done : (o : Order) → IsAsked words o → IsTaskDone told (order_task o) old new run
   -- whatever the store tells, one answer is said
-  pub answered : (s : Said) × IsAnswer told words old new s × IsSaid s run
+  pub answered : (s : Output) × IsAnswer told words old new s × IsSaid s run
 
 -- Which files a run reads: none for words that ask for nothing, and for others those that their
 -- task reads.
@@ -170,7 +170,7 @@ pub record IsRunWith (told : Told) (words : List (List ℕ)) (old new : Names) (
   pub reads : HaveRead words old new
 
 -- this is said, and no file is read
-pub record IsSaidUnread (s : Said) (old new : Names) (run : Run) : Type 0 where
+pub record IsSaidUnread (s : Output) (old new : Names) (run : Run) : Type 0 where
   pub said : IsSaid s run
   pub reads : new ≡ old
 

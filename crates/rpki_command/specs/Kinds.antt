@@ -3,13 +3,13 @@ use Rattle.std.specs.Prelude.{ℕ, List}
 use Rattle.rpki_der.specs.declared.mode.Mode.TheVariants.{Der}
 use Rattle.rpki_files.specs.Checklist.{ChecklistForm}
 use Rattle.rpki_files.specs.Manifest.{ManifestForm}
+use Rattle.rpki_files.specs.Checklist.Checks.{checklist_kind}
+use Rattle.rpki_files.specs.Manifest.Checks.{manifest_kind}
 use Rattle.rpki_routes.specs.Aspa.Form.{AspaForm}
 use Rattle.rpki_routes.specs.Roa.Form.{RoaForm}
-use Rattle.rpki_signed.specs.Aspa.{aspa_kind}
-use Rattle.rpki_signed.specs.Checklist.{checklist_kind}
-use Rattle.rpki_signed.specs.Kind as signed
-use Rattle.rpki_signed.specs.Manifest.{manifest_kind}
-use Rattle.rpki_signed.specs.Roa.{roa_kind}
+use Rattle.rpki_routes.specs.Aspa.Checks.{aspa_kind}
+use Rattle.rpki_routes.specs.Roa.Checks.{roa_kind}
+use Rattle.rpki_sigobj.specs.Signed.Kind as signed
 use Rattle.rpki_command.specs.Options.{provider_limit, manifest_rule}
 use Rattle.rpki_command.specs.Texts.Aspa.{aspa_text}
 use Rattle.rpki_command.specs.Texts.Manifest.{manifest_text}

@@ -11,5 +11,6 @@ pub mod Options
 pub mod Refusal
 pub mod Store
 pub mod Texts
+pub mod Verify
 pub mod Words
 pub mod Yes

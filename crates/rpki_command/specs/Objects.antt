@@ -1,6 +1,6 @@
 -- What is shown of a signed object, by its kind.
 use Rattle.std.specs.Prelude.{ℕ, List}
-use Rattle.rpki_signed.specs.Object.{ObjectForm}
+use Rattle.rpki_sigobj.specs.Signed.{ObjectForm}
 use Rattle.rpki_command.specs.Contents.{HasLines}
 use Rattle.rpki_command.specs.Kinds.{OfKind}
 use Rattle.rpki_command.specs.Options.{read_mode}

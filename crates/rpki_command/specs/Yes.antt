@@ -7,13 +7,13 @@ use Rattle.rpki_der.specs.declared.mode.Mode.{Mode}
 use Rattle.rpki_basics.specs.Moment.{Moment}
 use Rattle.rpki_certs.specs.Validate.{Validated}
 use Rattle.rpki_certs.specs.Verify.{Verdict}
-use Rattle.rpki_issuers.specs.Issuer.{MakesIssuer}
-use Rattle.rpki_issuers.specs.declared.issuer.IssuerError.{IssuerError}
+use Rattle.rpki_certs.specs.Issuer.{MakesIssuer}
+use Rattle.rpki_certs.specs.declared.issuer.IssuerError.{IssuerError}
 use Rattle.rpki_signed.specs.Check.{BeginsWith}
-use Rattle.rpki_signed.specs.Good.{IsGood}
-use Rattle.rpki_signed.specs.Kind as signed
-use Rattle.rpki_signed.specs.Object.{Whole, ObjectForm}
 use Rattle.rpki_sigobj.specs.Verify.{Digester}
+use Rattle.rpki_sigobj.specs.Signed.Good.{IsGood}
+use Rattle.rpki_sigobj.specs.Signed.Kind as signed
+use Rattle.rpki_sigobj.specs.Signed.{Whole, ObjectForm}
 use Rattle.rpki_verdicts.specs.Listed.{is_listed}
 use Rattle.rpki_verdicts.specs.Verdicts.{AreVerdicts}
 use Rattle.rpki_command.specs.Answer.{Run, IsWhole, out_of_memory}

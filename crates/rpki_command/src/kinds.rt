@@ -1,8 +1,8 @@
 //! The table of the kinds, and what each kind brings.
 
 ghost use Rattle.std.specs.Prelude.{◌≡◌, ℕ, List};
-ghost use Rattle.rpki_signed.specs.Kind as signed;
-ghost use Rattle.rpki_command.specs.Answer.{Said, said};
+ghost use Rattle.rpki_sigobj.specs.Signed.Kind as signed;
+ghost use Rattle.rpki_command.specs.Answer.{Output, said};
 ghost use Rattle.rpki_command.specs.Grows.{Grows};
 ghost use Rattle.rpki_command.specs.Kinds.{OfKind};
 ghost use Rattle.rpki_command.specs.Options.{provider_limit, manifest_rule};
@@ -21,7 +21,7 @@ use crate::words::{Kind, Options};
 use rpki_basics::{ManifestRule, ProviderLimit};
 use rpki_files::{ManifestContent, ResourceSignedChecklist};
 use rpki_routes::{AsProviderAttestation, RouteOriginAttestation};
-use rpki_signed::Content;
+use rpki_sigobj::Content;
 use std::alloc::{AllocError, Global};
 
 /// A content that has lines.
@@ -46,7 +46,7 @@ pub trait Action: Drop {
     // What is said, with these options, by the row of a kind: what is asked of its objects, the
     // form of its contents, and their lines.
     ghost says: { Options → (X : Type 0) → signed.Kind X → (List ℕ → X → Type 0) → (X → List ℕ)
-        → Self → Said → Type 0 };
+        → Self → Output → Type 0 };
 
     /// Answers for the kind with such contents.
     fn answer<'a, C: Lines>(self, alloc: Global, options: Options) -> Answer<'a>

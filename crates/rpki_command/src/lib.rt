@@ -1,5 +1,5 @@
-//! The commands that programs of the signed objects of the RPKI have in common: what each says, on
-//! which stream, and with which exit status.
+//! The commands of the programs of the signed objects of the RPKI: what each says, on which stream,
+//! and with which exit status. Those of the program that computes signatures stand in `verify`.
 #![tactic(auto)]
 
 pub mod answer;
@@ -12,14 +12,15 @@ pub mod laws;
 mod locator;
 mod objects;
 mod program;
+mod read_log;
 mod store;
 mod texts;
-mod trace;
+pub mod verify;
 pub mod words;
 
 pub use arguments::{Arguments, ProcessArguments, WordsError, words_of};
 pub use check::check_with;
 pub use entry::{run, start, texts_of};
 pub use program::{answer_order, command};
-pub use store::{Disk, Store, StoreError, Unread, read_all};
-pub use trace::Trace;
+pub use read_log::ReadLog;
+pub use store::{Store, StoreError, SystemFiles, Unread, read_all};

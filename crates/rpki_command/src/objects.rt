@@ -1,6 +1,6 @@
 //! What the program shows of signed objects.
 
-ghost use Rattle.rpki_signed.specs.Object.{ObjectForm, whole_of};
+ghost use Rattle.rpki_sigobj.specs.Signed.{ObjectForm, whole_of};
 ghost use Rattle.rpki_command.specs.Answer.{said};
 ghost use Rattle.rpki_command.specs.Contents.{HasLines, IsShown, IsLinesOf};
 ghost use Rattle.rpki_command.specs.Objects.{ObjectLinesOf};
@@ -13,7 +13,7 @@ use crate::kinds::{Action, Lines, answer_for};
 use crate::texts::object::push_object;
 use crate::words::{Kind, Options};
 use bytes::Bytes;
-use rpki_signed::Signed;
+use rpki_sigobj::Signed;
 use std::alloc::Global;
 
 /// Answers with the lines of the signed object of this kind at the front of the octets, if there is
@@ -48,7 +48,7 @@ fn show<'a, C: Lines>(alloc: Global, options: Options, source: Bytes) -> Answer<
     ensures { IsShown (HasLines (ObjectForm C.kind.type (C.form (C.rule_of options))
         (read_mode options)) (object_text C.lines)) source (said result) }
 {
-    match Signed::<C>::read(alloc, source, !options.relaxed, C::rule(options)) {
+    match Signed::<C>::decode(alloc, source, !options.relaxed, C::rule(options)) {
         Err(error) => refusal(error),
         Ok(object) => {
             let answer = show_lines(alloc, &object);

@@ -5,7 +5,7 @@ ghost use Rattle.rpki_command.specs.Store.{IsRead, AreRead, store_error_text, un
 ghost use Rattle.rpki_command.specs.Words.{texts};
 
 use crate::answer::OUT_OF_MEMORY;
-use crate::trace::Trace;
+use crate::read_log::ReadLog;
 use std::alloc::Global;
 use std::error::Error;
 use std::marker::Model;
@@ -105,12 +105,12 @@ pub fn read_all<'a, S: Store>(
 
 /// The files of the system.
 #[derive(Drop)]
-pub struct Disk<'a, R> {
+pub struct SystemFiles<'a, R> {
     runtime: &'a R,
-    reads: Trace,
+    reads: ReadLog,
 }
 
-impl<'a, R> Model for Disk<'a, R> {
+impl<'a, R> Model for SystemFiles<'a, R> {
     ghost use Rattle.std.specs.Prelude.{ℕ, List};
 
     // The names of the files that were asked for, in the order of asking.
@@ -119,19 +119,19 @@ impl<'a, R> Model for Disk<'a, R> {
     ghost view = { λ d. d.reads.names };
 }
 
-impl<'a, R> Disk<'a, R> {
+impl<'a, R> SystemFiles<'a, R> {
     /// The files that this runtime reaches. This store was asked for none yet.
-    pub fn new(runtime: &'a R) -> Disk<'a, R>
+    pub fn new(runtime: &'a R) -> SystemFiles<'a, R>
         ensures { result ≡ [] }
     {
-        Disk {
+        SystemFiles {
             runtime,
-            reads: Trace::empty(),
+            reads: ReadLog::empty(),
         }
     }
 }
 
-impl<R: Files + AllocGlobal> Store for Disk<'_, R> {
+impl<R: Files + AllocGlobal> Store for SystemFiles<'_, R> {
     // Of the files of the system nothing is told.
     ghost told = { λ _ _. None };
 

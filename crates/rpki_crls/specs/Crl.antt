@@ -6,8 +6,8 @@ use Rattle.rpki_der.specs.Form.Made.{WithOctets, made, with_octets}
 use Rattle.rpki_der.specs.Form.Parts.{Sequence, Explicit, sequence_at, context_at}
 use Rattle.rpki_der.specs.Read.Parse.{Parser, ◌>>=◌, primitive, this, octets_in_bits_at}
 use Rattle.rpki_der.specs.Tags.{INTEGER}
-use Rattle.rpki_keys.specs.Algorithm.{CertAlgorithmForm, cert_algorithm_at}
-use Rattle.rpki_keys.specs.Name.{NameForm, name_at}
+use Rattle.rpki_basics.specs.Algorithm.{CertAlgorithmForm, cert_algorithm_at}
+use Rattle.rpki_basics.specs.Name.{NameForm, name_at}
 use Rattle.rpki_basics.specs.Moment.{Moment}
 use Rattle.rpki_basics.specs.Time.Form.{TimeForm}
 use Rattle.rpki_basics.specs.Time.Read.{time_at}

@@ -1,4 +1,5 @@
 -- The content of a signed checklist. The sections are those of RFC 9323.
+pub mod Checks
 use Rattle.std.specs.Prelude.{◌≡◌, ◌||◌, ◌&&◌, ◌++◌, not, ℕ, List, [], ◌∷◌, Bool, true, false}
 use Rattle.std.specs.Prelude.{Option, Some, None, unwrap_or, if◌then◌else◌}
 use Rattle.std.specs.List.{flat_map}
@@ -23,8 +24,8 @@ use Rattle.rpki_resources.specs.Families.Form.{FamiliesForm}
 use Rattle.rpki_resources.specs.Families.Read.{families_at, ip_set_at, no_values}
 use Rattle.rpki_resources.specs.Ip.Form.{IpForm}
 use Rattle.rpki_resources.specs.Ip.Written.{ip_octets}
-use Rattle.rpki_keys.specs.Algorithm.{DigestAlgorithmForm, digest_algorithm_at}
-use Rattle.rpki_keys.specs.Algorithm.{digest_algorithm_octets}
+use Rattle.rpki_basics.specs.Algorithm.{DigestAlgorithmForm, digest_algorithm_at}
+use Rattle.rpki_basics.specs.Algorithm.{digest_algorithm_octets}
 use Rattle.rpki_lists.specs.Entries.{list_at}
 use Rattle.rpki_files.specs.declared.checklist.read.Named.{Named}
 use Rattle.rpki_files.specs.Version.{VersionForm, version_at}

@@ -1,4 +1,5 @@
 -- The content of a manifest. The sections are those of RFC 9286.
+pub mod Checks
 use Rattle.std.specs.Prelude.{ℕ, ◌≤◌, List, [], ◌∷◌, ◌++◌, Option, Some, None}
 use Rattle.std.specs.Prelude.{nat_le, if◌then◌else◌}
 use Rattle.std.specs.List.{flat_map}
@@ -7,7 +8,7 @@ use Rattle.rpki_basics.specs.Moment.{Moment, stamp}
 use Rattle.rpki_basics.specs.Time.Form.{TimeForm, generalized_octets}
 use Rattle.rpki_basics.specs.Time.Read.{time_at}
 use Rattle.rpki_basics.specs.Serial.{SerialForm, serial_octets}
-use Rattle.rpki_keys.specs.Algorithm.{sha_256, named}
+use Rattle.rpki_basics.specs.Algorithm.{sha_256, named}
 use Rattle.rpki_der.specs.Tags.{SEQUENCE, OBJECT_IDENTIFIER, context}
 use Rattle.rpki_der.specs.declared.mode.Mode.{Mode}
 use Rattle.rpki_der.specs.declared.mode.Mode.TheVariants.{Der}

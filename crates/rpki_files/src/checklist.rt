@@ -1,10 +1,12 @@
 //! Contents of signed checklists (RFC 9323, section 4).
 
+mod checks;
 mod encoder;
+mod object;
 mod read;
 
 ghost use Rattle.std.specs.Prelude.{◌≡◌, ◌<◌, ◌^◌, ◌++◌, ℕ, List, All, Some, length};
-ghost use Rattle.rpki_keys.specs.declared.algorithm.DigestAlgorithm.TheVariants.{Sha256};
+ghost use Rattle.rpki_basics.specs.declared.algorithm.DigestAlgorithm.TheVariants.{Sha256};
 ghost use Rattle.rpki_der.specs.declared.mode.Mode.TheVariants.{Der};
 ghost use Rattle.rpki_der.specs.Read.Reads.{Reads, Stays};
 ghost use Rattle.rpki_der.specs.Form.Decodes.{Decodes, DecodesNext};
@@ -17,6 +19,7 @@ ghost use Rattle.rpki_files.specs.Checked.{IsNamed};
 use crate::checked::{CheckListIter, CheckedFiles};
 use bytes::Bytes;
 pub use encoder::ChecklistEncoder;
+pub use object::Rsc;
 use read::{read_front, take_checklist};
 use rpki_basics::DigestAlgorithm;
 use rpki_der::laws::slices_hold_octets;

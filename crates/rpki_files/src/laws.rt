@@ -1,6 +1,6 @@
 //! What the definitions of files, manifests and checklists say: laws, as functions that do nothing.
 
-ghost use Rattle.std.specs.Prelude.{◌≡◌, ◌<◌, ℕ, List, All, Decides, true};
+ghost use Rattle.std.specs.Prelude.{◌↔◌, ◌≡◌, ◌<◌, ℕ, List, All, Decides, true};
 ghost use Rattle.rpki_basics.specs.declared.limits.ManifestRule.{ManifestRule};
 ghost use Rattle.rpki_basics.specs.declared.limits.ManifestRule.TheVariants.{Any, Registered};
 ghost use Rattle.rpki_der.specs.declared.mode.Mode.{Mode};
@@ -10,8 +10,13 @@ ghost use Rattle.rpki_files.specs.Name.{IsFileName, is_file_name};
 ghost use Rattle.rpki_files.specs.File.{FileForm, file_at};
 ghost use Rattle.rpki_files.specs.Checked.{CheckedForm, checked_at, is_portable_name};
 ghost use Rattle.rpki_basics.specs.Uri.{IsRsync, join_text};
-ghost use Rattle.rpki_files.specs.Checklist.{ChecklistForm, checklist_at};
+ghost use Rattle.rpki_files.specs.Checklist.{Checklist, ChecklistForm, checklist_at};
 ghost use Rattle.rpki_files.specs.Manifest.{Manifest, ManifestForm, manifest_at};
+ghost use Rattle.rpki_faults.specs.Checks.{AllHold};
+ghost use Rattle.rpki_extensions.specs.declared.claims.Claims.{Claims};
+ghost use Rattle.rpki_certs.specs.Validate.{AreHeld, AreValidated, Sets};
+ghost use Rattle.rpki_files.specs.Checklist.Checks.{checklist_held, checklist_claimed};
+ghost use Rattle.rpki_files.specs.Checklist.Checks.{AreCanonical, checklist_sets};
 
 /// What the name of a file is, and that it is an IA5String (RFC 9286, section 4.2.2).
 pub fn file_names()
@@ -59,4 +64,13 @@ pub fn octets_after_a_checklist_are_left()
 pub fn registered_is_any()
     ensures { (mode : Mode) (octets : List ℕ) (m : Manifest)
         → ManifestForm Registered mode octets m → ManifestForm Any mode octets m }
+{}
+
+/// A certificate passes the checks with a checklist exactly where it has the numbers of the
+/// checklist: that it claims them follows from its validated sets (RFC 9323, section 5).
+pub fn covered_checklists()
+    ensures { (l : Checklist) (x : Claims) (issuer sets : Sets) → AreCanonical l
+        → AreValidated x issuer sets
+        → (AllHold (checklist_claimed l x) × AllHold (checklist_held l sets))
+        ↔ AreHeld sets (checklist_sets l) }
 {}

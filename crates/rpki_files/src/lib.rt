@@ -1,4 +1,5 @@
-//! Contents that list files: manifests (RFC 9286) and signed checklists (RFC 9323).
+//! What lists files: manifests (RFC 9286) and signed checklists (RFC 9323), their contents, and what
+//! is checked of the objects that carry these.
 #![tactic(auto)]
 
 mod checked;
@@ -14,9 +15,11 @@ mod uris;
 mod version;
 
 pub use checked::{CheckListIter, CheckedEntry, CheckedFiles, FileNameAndHash};
-pub use checklist::{ChecklistEncoder, ResourceSignedChecklist};
+pub use checklist::{ChecklistEncoder, ResourceSignedChecklist, Rsc};
 pub use file::{FileAndHash, FileEncoder};
 pub use files::{FileEntry, FileListIter, Files};
 pub use hash::{ManifestHash, ManifestHashMismatch};
-pub use manifest::{ManifestContent, ManifestEncoder};
+pub use manifest::{
+    Manifest, ManifestContent, ManifestEncoder, validate_manifest, validate_manifest_at,
+};
 pub use uris::ManifestUriIter;

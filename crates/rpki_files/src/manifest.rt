@@ -1,13 +1,14 @@
 //! Contents of manifests (RFC 9286, section 4).
 
 mod encoder;
+mod object;
 mod read;
 
 ghost use Rattle.std.specs.Prelude.{◌≡◌, ◌↔◌, ◌<◌, ◌≤◌, ◌^◌, ◌++◌, ℕ, List, All, Some, length};
 ghost use Rattle.std.specs.Prelude.{IsTrue, nat_lt};
 ghost use Rattle.rpki_basics.specs.Moment.{stamp};
 ghost use Rattle.rpki_basics.specs.declared.limits.ManifestRule.{ManifestRule};
-ghost use Rattle.rpki_keys.specs.declared.algorithm.DigestAlgorithm.TheVariants.{Sha256};
+ghost use Rattle.rpki_basics.specs.declared.algorithm.DigestAlgorithm.TheVariants.{Sha256};
 ghost use Rattle.rpki_der.specs.declared.mode.Mode.TheVariants.{Der};
 ghost use Rattle.rpki_der.specs.Read.Reads.{Reads, Stays};
 ghost use Rattle.rpki_der.specs.Form.Decodes.{Decodes, DecodesNext};
@@ -21,6 +22,7 @@ use crate::files::{FileListIter, Files, files_of};
 use crate::uris::ManifestUriIter;
 use bytes::Bytes;
 pub use encoder::ManifestEncoder;
+pub use object::{Manifest, validate_manifest, validate_manifest_at};
 use read::{read_front, take_manifest};
 use rpki_basics::{DigestAlgorithm, ManifestRule, Rsync, Serial, Time};
 use rpki_der::laws::slices_hold_octets;

@@ -2,7 +2,7 @@
 //! values, and signed by the stand-in.
 //!
 //! Key n has the eight octets of n as its bits, the highest one first, as for
-//! `rpki_keys::standin::StandInSigner`.
+//! `rpki_basics::standin::StandInSigner`.
 #![tactic(auto)]
 
 mod ber;

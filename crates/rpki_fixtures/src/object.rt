@@ -4,8 +4,8 @@ use crate::ber::{cert_in_ber, in_pieces, indefinite};
 use crate::cert::{CertOf, EE, cert_octets};
 use crate::octets::{joined, key_identifier, signature_of, value};
 use bytes::Bytes;
-use rpki_keys::Crypto;
-use rpki_keys::standin::StandIn;
+use rpki_basics::Crypto;
+use rpki_basics::standin::StandIn;
 use std::alloc::{AllocError, Global};
 
 /// A value of the structure.

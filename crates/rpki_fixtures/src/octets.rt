@@ -7,10 +7,10 @@ ghost use Rattle.rpki_der.specs.Write.Written.{value_octets};
 ghost use Rattle.sha1.specs.Sha1.{sha1};
 ghost use Rattle.sha2.specs.Sha256.{sha256};
 
+use rpki_basics::standin::StandIn;
+use rpki_basics::{Crypto, Digest, KeyIdentifier};
 use rpki_der::EncodeError;
 use rpki_der::build::tlv;
-use rpki_keys::standin::StandIn;
-use rpki_keys::{Crypto, Digest, KeyIdentifier};
 use std::alloc::{AllocError, Global};
 
 /// The parts, one after the other.

@@ -1,7 +1,7 @@
 //! Shows and checks signed objects of the RPKI.
 #![tactic(auto)]
 
-use rpki_command::{Disk, ProcessArguments, start};
+use rpki_command::{ProcessArguments, SystemFiles, start};
 use rpki_der::Counted;
 use std::process::ExitCode;
 
@@ -9,7 +9,7 @@ fn main(rt: HostRuntime) -> ExitCode {
     start(
         rt.alloc(),
         &ProcessArguments::new(&rt),
-        &mut Disk::new(&rt),
+        &mut SystemFiles::new(&rt),
         &mut Counted::new(rt.stdout()),
         &mut Counted::new(rt.stderr()),
     )

@@ -1,4 +1,5 @@
 pub mod Claims
 pub mod Exact
+pub mod Meaning
 pub mod Providers
 pub mod Written

@@ -1,4 +1,7 @@
+pub mod Chains
 pub mod Exact
 pub mod Facts
+pub mod Meaning
+pub mod Prefixes
 pub mod Small
 pub mod Written

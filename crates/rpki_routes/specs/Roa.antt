@@ -1,4 +1,5 @@
 -- The content of a Route Origin Authorization (ROA). The sections are those of RFC 9582.
+pub mod Checks
 pub mod Form
 pub mod Read
 pub mod Written

@@ -1,7 +1,9 @@
 //! Contents of Autonomous System Provider Authorizations (ASPAs;
 //! draft-ietf-sidrops-aspa-profile-15, section 3).
 
+mod checks;
 mod encoder;
+mod object;
 mod providers;
 
 ghost use Rattle.std.specs.Prelude.{◌≡◌, ◌<◌, ◌^◌, ◌∷◌, [], ℕ, List, length, IfOk};
@@ -20,6 +22,7 @@ ghost use Rattle.rpki_routes.specs.Aspa.Written.{aspa_octets};
 use crate::faults;
 use bytes::Bytes;
 pub use encoder::AsProviderAttestationEncoder;
+pub use object::Aspa;
 use providers::take_providers;
 pub use providers::{ProviderAsIter, ProviderAsSet};
 use rpki_basics::ProviderLimit;

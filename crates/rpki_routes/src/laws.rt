@@ -1,6 +1,6 @@
 //! What the definitions say, as functions that do nothing.
 
-ghost use Rattle.std.specs.Prelude.{◌≡◌, ◌++◌, ◌≤◌, ◌<◌, ◌^◌, ℕ, List, length};
+ghost use Rattle.std.specs.Prelude.{◌↔◌, ◌≡◌, ◌++◌, ◌≤◌, ◌<◌, ◌^◌, ℕ, List, length};
 ghost use Rattle.rpki_der.specs.declared.mode.Mode.TheVariants.{Der};
 ghost use Rattle.rpki_der.specs.Grammar.{Front, IsBytes, IsUnique, Value, HasNoFront};
 ghost use Rattle.rpki_basics.specs.declared.limits.ProviderLimit.{ProviderLimit};
@@ -12,6 +12,11 @@ ghost use Rattle.rpki_routes.specs.Aspa.Written.{aspa_octets};
 ghost use Rattle.rpki_routes.specs.Roa.{Roa, IsRoa};
 ghost use Rattle.rpki_routes.specs.Roa.Form.{RoaForm};
 ghost use Rattle.rpki_routes.specs.Roa.Written.{roa_contents, roa_octets};
+ghost use Rattle.rpki_faults.specs.Checks.{AllHold};
+ghost use Rattle.rpki_extensions.specs.declared.claims.Claims.{Claims};
+ghost use Rattle.rpki_certs.specs.Validate.{Sets};
+ghost use Rattle.rpki_routes.specs.Aspa.Checks.{AspaCovered, aspa_held, aspa_claimed};
+ghost use Rattle.rpki_routes.specs.Roa.Checks.{RoaCovered, roa_held};
 
 /// At most one beginning of given octets is an ASPA content, and it says one thing.
 pub fn attestations_are_unique()
@@ -79,4 +84,17 @@ pub fn roas_are_written()
     ensures read { (r : Roa) (rest : List ℕ) → IsRoa r → length (roa_contents r) < 2 ^ 32
         → Front RoaForm (roa_octets r ++ rest) r rest }
     ensures found { (octets : List ℕ) (r : Roa) → IsBytes octets → RoaForm octets r → IsRoa r }
+{}
+
+/// A certificate passes the checks with a ROA exactly where it has the addresses of each prefix
+/// (RFC 9582, section 5).
+pub fn covered_roas()
+    ensures { (r : Roa) (sets : Sets) → IsRoa r → AllHold (roa_held r sets) ↔ RoaCovered r sets }
+{}
+
+/// A certificate passes the checks with an ASPA exactly where it claims the customer and nothing
+/// else, and has it (draft-ietf-sidrops-aspa-profile-15, section 4).
+pub fn covered_aspas()
+    ensures { (a : Aspa) (x : Claims) (sets : Sets) →
+        (AllHold (aspa_claimed a x) × AllHold (aspa_held a sets)) ↔ AspaCovered a x sets }
 {}

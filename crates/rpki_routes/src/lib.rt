@@ -1,5 +1,6 @@
-//! Contents of Route Origin Authorizations (ROAs, RFC 9582) and of Autonomous System Provider
-//! Authorizations (ASPAs, draft-ietf-sidrops-aspa-profile-15).
+//! Route Origin Authorizations (ROAs, RFC 9582) and Autonomous System Provider Authorizations
+//! (ASPAs, draft-ietf-sidrops-aspa-profile-15): their contents, and what is checked of the
+//! objects that carry these.
 #![tactic(auto)]
 
 mod aspa;
@@ -8,9 +9,9 @@ pub mod laws;
 mod roa;
 
 pub use aspa::{
-    AsProviderAttestation, AsProviderAttestationEncoder, ProviderAsIter, ProviderAsSet,
+    AsProviderAttestation, AsProviderAttestationEncoder, Aspa, ProviderAsIter, ProviderAsSet,
 };
 pub use roa::{
-    FriendlyRoaIpAddress, RoaAddrIter, RoaIpAddress, RoaIpAddressIter, RoaIpAddresses,
+    FriendlyRoaIpAddress, Roa, RoaAddrIter, RoaIpAddress, RoaIpAddressIter, RoaIpAddresses,
     RoaOriginIter, RouteOrigin, RouteOriginAttestation, RouteOriginAttestationEncoder,
 };

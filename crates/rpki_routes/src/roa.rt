@@ -3,8 +3,10 @@
 mod address;
 mod addresses;
 mod bits;
+mod checks;
 mod encoder;
 mod iter;
+mod object;
 
 ghost use Rattle.std.specs.Prelude.{◌≡◌, ◌<◌, ◌^◌, [], length, map, unwrap_or};
 ghost use Rattle.rpki_der.specs.Read.Reads.{Reads, Found};
@@ -21,6 +23,7 @@ pub use addresses::{RoaIpAddressIter, RoaIpAddresses};
 use bytes::Bytes;
 pub use encoder::RouteOriginAttestationEncoder;
 pub use iter::{RoaAddrIter, RoaOriginIter};
+pub use object::Roa;
 use rpki_der::laws::slices_hold_octets;
 use rpki_der::{Constructed, DecodeError, Mode, Tag};
 use rpki_resources::{Asn, ByFamily, take_families};

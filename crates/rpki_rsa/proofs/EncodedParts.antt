@@ -9,7 +9,7 @@ use Rattle.sha2.proofs.Facts256.{length-sha256}
 use Rattle.rpki_der.specs.Numbers.{number}
 use Rattle.rpki_der.specs.Tags.{SEQUENCE, OCTET_STRING}
 use Rattle.rpki_der.specs.Write.Written.{length_octets, value_octets}
-use Rattle.rpki_keys.specs.Algorithm.{sha_256, algorithm_and_null}
+use Rattle.rpki_basics.specs.Algorithm.{sha_256, algorithm_and_null}
 use Rattle.rpki_rsa.specs.Limbs.{value}
 use Rattle.rpki_rsa.specs.Signature.{digest_info, encoded_message}
 use Rattle.rpki_rsa.proofs.LimbFacts.{number-append, value_below-zero}

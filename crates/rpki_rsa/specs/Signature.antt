@@ -9,7 +9,7 @@ use Rattle.rpki_der.specs.Form.Parts.{Sequence}
 use Rattle.rpki_der.specs.Numbers.{number}
 use Rattle.rpki_der.specs.Tags.{SEQUENCE, INTEGER, OCTET_STRING}
 use Rattle.rpki_der.specs.Write.Written.{value_octets, integer_contents, number_octets}
-use Rattle.rpki_keys.specs.Algorithm.{sha_256, algorithm_and_null}
+use Rattle.rpki_basics.specs.Algorithm.{sha_256, algorithm_and_null}
 use Rattle.rpki_basics.specs.Serial.{digits}
 
 -- ---- the key

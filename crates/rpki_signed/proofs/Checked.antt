@@ -11,15 +11,15 @@ use Rattle.rpki_certs.specs.Verify.{Verdict}
 use Rattle.rpki_sigobj.specs.Object.{cert_of}
 use Rattle.rpki_sigobj.specs.Validate.{IsCertUnder}
 use Rattle.rpki_sigobj.specs.Verify.{Digester}
+use Rattle.rpki_sigobj.proofs.Wholes.Goodness.{good, not-good}
+use Rattle.rpki_sigobj.specs.Signed.Good.{IsGood, IsNotGood, Means}
+use Rattle.rpki_sigobj.specs.Signed.Kind.{Kind}
+use Rattle.rpki_sigobj.specs.Signed.Process.{before_revocation, AnswersAsked}
+use Rattle.rpki_sigobj.specs.Signed.{Whole, KeptWhole, ObjectForm, whole_of, cert_in}
 use Rattle.rpki_signed.specs.declared.check.CheckError.{CheckError}
 use Rattle.rpki_signed.specs.declared.check.CheckError.TheVariants.{Decode, Validation}
 use Rattle.rpki_signed.specs.Check.{BeginsWith, Checks, ChecksContent}
 use Rattle.rpki_signed.specs.Exact.{IsExact}
-use Rattle.rpki_signed.specs.Good.{IsGood, IsNotGood, Means}
-use Rattle.rpki_signed.specs.Kind.{Kind}
-use Rattle.rpki_signed.specs.Object.{Whole, KeptWhole, ObjectForm, whole_of, cert_in}
-use Rattle.rpki_signed.specs.Process.{before_revocation, AnswersAsked}
-use Rattle.rpki_signed.proofs.Goodness.{good, not-good}
 
 module _ {X : Type 0} (kind : Kind X) (form : List ℕ → X → Type 0) (digest : Digester)
     (verdict : Verdict) (issuer : Validated) (now : Moment)

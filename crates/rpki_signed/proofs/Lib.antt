@@ -1,11 +1,2 @@
-pub mod After
-pub mod Asking
-pub mod Chains
 pub mod Checked
-pub mod Covered
-pub mod Fronts
-pub mod Goodness
-pub mod InBer
-pub mod Meanings
-pub mod Prefixes
 pub mod Wider

@@ -21,24 +21,24 @@ use Rattle.rpki_certs.specs.Verify.{Verdict}
 use Rattle.rpki_sigobj.specs.Object.{SignedObject}
 use Rattle.rpki_sigobj.specs.Verify.{Digester}
 use Rattle.rpki_sigobj.proofs.Objects.Exact.{object-part}
+use Rattle.rpki_sigobj.proofs.Wholes.Fronts.{same-whole}
+use Rattle.rpki_sigobj.proofs.Wholes.Numbers.{same-numbers}
+use Rattle.rpki_sigobj.specs.Signed.Good.{IsGood, IsNotGood}
+use Rattle.rpki_sigobj.specs.Signed.Kind.{Kind}
+use Rattle.rpki_sigobj.specs.Signed.{Whole, ObjectForm, cert_in}
 use Rattle.rpki_files.specs.Manifest.{Manifest, ManifestForm}
 use Rattle.rpki_files.proofs.Manifests.Exact.{manifest-reading}
+use Rattle.rpki_files.specs.Manifest.Checks.{manifest_kind}
 use Rattle.rpki_routes.specs.Aspa.{Aspa}
 use Rattle.rpki_routes.specs.Aspa.Form.{AspaForm}
 use Rattle.rpki_routes.proofs.Attestations.Exact.{aspa-part}
 use Rattle.rpki_routes.proofs.Attestations.Written.{attestation-wide}
-use Rattle.rpki_signed.specs.Aspa.{aspa_kind}
-use Rattle.rpki_signed.specs.Manifest.{manifest_kind}
+use Rattle.rpki_routes.specs.Aspa.Checks.{aspa_kind}
 use Rattle.rpki_signed.specs.declared.check.CheckError.{CheckError}
 use Rattle.rpki_signed.specs.declared.check.CheckError.TheVariants.{Decode, Validation}
 use Rattle.rpki_signed.specs.Check.{BeginsWith}
 use Rattle.rpki_signed.specs.Exact.{IsExact}
-use Rattle.rpki_signed.specs.Good.{IsGood, IsNotGood}
-use Rattle.rpki_signed.specs.Kind.{Kind}
-use Rattle.rpki_signed.specs.Object.{Whole, ObjectForm, cert_in}
 use Rattle.rpki_signed.specs.Wider.{KeepsYes, RepeatsYes}
-use Rattle.rpki_signed.proofs.Fronts.{same-whole}
-use Rattle.rpki_signed.proofs.Meanings.{same-numbers}
 
 -- ---- certificates that were validated under the same issuer
 

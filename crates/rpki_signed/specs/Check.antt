@@ -11,11 +11,11 @@ use Rattle.rpki_certs.specs.Cert.{KeptCertificate}
 use Rattle.rpki_certs.specs.Validate.{Validated, IsValidatedUnder}
 use Rattle.rpki_certs.specs.Verify.{Verdict}
 use Rattle.rpki_sigobj.specs.Verify.{Digester}
+use Rattle.rpki_sigobj.specs.Signed.Kind.{Kind}
+use Rattle.rpki_sigobj.specs.Signed.Process.{before_revocation, AnswersAsked}
+use Rattle.rpki_sigobj.specs.Signed.{Whole, ObjectForm, cert_in}
 use Rattle.rpki_signed.specs.declared.check.CheckError.{CheckError}
 use Rattle.rpki_signed.specs.declared.check.CheckError.TheVariants.{Decode, Validation}
-use Rattle.rpki_signed.specs.Kind.{Kind}
-use Rattle.rpki_signed.specs.Object.{Whole, ObjectForm, cert_in}
-use Rattle.rpki_signed.specs.Process.{before_revocation, AnswersAsked}
 
 -- The octets begin with an object in the form, and with nothing else in it, and P holds of it.
 pub record BeginsWith {X : Type 0} (form : List ℕ → Whole X → Type 0) (octets : List ℕ)

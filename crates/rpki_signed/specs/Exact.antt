@@ -10,12 +10,12 @@ use Rattle.rpki_certs.specs.Cert.{KeptCertificate}
 use Rattle.rpki_certs.specs.Validate.{Validated}
 use Rattle.rpki_certs.specs.Verify.{Verdict}
 use Rattle.rpki_sigobj.specs.Verify.{Digester}
+use Rattle.rpki_sigobj.specs.Signed.Good.{IsGood, IsNotGood}
+use Rattle.rpki_sigobj.specs.Signed.Kind.{Kind}
+use Rattle.rpki_sigobj.specs.Signed.{Whole, ObjectForm, cert_in}
 use Rattle.rpki_signed.specs.declared.check.CheckError.{CheckError}
 use Rattle.rpki_signed.specs.declared.check.CheckError.TheVariants.{Decode, Validation}
 use Rattle.rpki_signed.specs.Check.{BeginsWith}
-use Rattle.rpki_signed.specs.Good.{IsGood, IsNotGood}
-use Rattle.rpki_signed.specs.Kind.{Kind}
-use Rattle.rpki_signed.specs.Object.{Whole, ObjectForm, cert_in}
 
 -- A yes is answered only where the octets begin with a member of the form, a yes was said of its
 -- certificate, and it is good (`IsGood`); answered are its validated certificate and its content.

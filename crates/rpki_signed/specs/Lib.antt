@@ -1,12 +1,4 @@
-pub mod Aspa
 pub mod Check
-pub mod Checklist
 pub mod Exact
-pub mod Good
-pub mod Kind
-pub mod Manifest
-pub mod Object
-pub mod Process
-pub mod Roa
 pub mod Text
 pub mod Wider

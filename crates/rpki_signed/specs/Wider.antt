@@ -9,11 +9,11 @@ use Rattle.rpki_certs.specs.Cert.{KeptCertificate}
 use Rattle.rpki_certs.specs.Validate.{Validated, AreHeld}
 use Rattle.rpki_certs.specs.Verify.{Verdict}
 use Rattle.rpki_sigobj.specs.Verify.{Digester}
+use Rattle.rpki_sigobj.specs.Signed.Kind.{Kind}
 use Rattle.rpki_signed.specs.declared.check.CheckError.{CheckError}
 use Rattle.rpki_signed.specs.declared.check.CheckError.TheVariants.{Decode, Validation}
 use Rattle.rpki_signed.specs.Check.{Checks}
 use Rattle.rpki_signed.specs.Exact.{IsExact}
-use Rattle.rpki_signed.specs.Kind.{Kind}
 
 -- The answer repeats the yes a: the same certificate, with the same numbers, and the same content.
 -- Or memory ran out, or the caller, asked again of the certificate, answered this fault.

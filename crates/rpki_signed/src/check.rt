@@ -6,19 +6,16 @@ ghost use Rattle.rpki_sigobj.specs.Object.{mode_of};
 ghost use Rattle.rpki_der.specs.declared.mode.Mode.TheVariants.{Der};
 ghost use Rattle.rpki_files.specs.Checklist.{ChecklistForm};
 ghost use Rattle.rpki_files.specs.Manifest.{ManifestForm};
+ghost use Rattle.rpki_files.specs.Checklist.Checks.{checklist_kind};
+ghost use Rattle.rpki_files.specs.Manifest.Checks.{manifest_kind};
 ghost use Rattle.rpki_routes.specs.Aspa.Form.{AspaForm};
 ghost use Rattle.rpki_routes.specs.Roa.Form.{RoaForm};
-ghost use Rattle.rpki_signed.specs.Aspa.{aspa_kind};
+ghost use Rattle.rpki_routes.specs.Aspa.Checks.{aspa_kind};
+ghost use Rattle.rpki_routes.specs.Roa.Checks.{roa_kind};
 ghost use Rattle.rpki_signed.specs.Check.{MayAsk, Checks, ChecksContent};
-ghost use Rattle.rpki_signed.specs.Checklist.{checklist_kind};
 ghost use Rattle.rpki_signed.specs.Exact.{IsExact};
-ghost use Rattle.rpki_signed.specs.Manifest.{manifest_kind};
-ghost use Rattle.rpki_signed.specs.Roa.{roa_kind};
 ghost use Rattle.rpki_signed.specs.Text.{check_text};
 
-use crate::content::Content;
-use crate::process::Under;
-use crate::signed::Signed;
 use bytes::Bytes;
 use rpki_basics::{Crypto, ManifestRule, ProviderLimit, Time};
 use rpki_certs::{Cert, ResourceCert};
@@ -26,6 +23,7 @@ use rpki_der::DecodeError;
 use rpki_faults::ValidationError;
 use rpki_files::{ManifestContent, ResourceSignedChecklist};
 use rpki_routes::{AsProviderAttestation, RouteOriginAttestation};
+use rpki_sigobj::{Content, Signed};
 use std::alloc::Global;
 use std::error::Error;
 use std::fmt;
@@ -54,21 +52,24 @@ impl Error for CheckError {}
 
 // Checks the object at the front of the octets, whose content is read by this rule.
 fn check_front<T: Content, C: Crypto, F: FnOnce(&Cert) -> Result<(), ValidationError>>(
+    alloc: Global,
     bytes: Bytes,
-    rule: T::Rule,
-    under: &Under<'_, C>,
+    strict: bool,
+    issuer: &ResourceCert,
+    crypto: &C,
+    now: Time,
     check_crl: F,
+    rule: T::Rule,
 ) -> Result<(ResourceCert, T), CheckError>
-    requires { MayAsk T.kind (T.form rule) (mode_of under.now.strict)
-        (C.digest_of under.now.crypto.now) (C.is_signed under.now.crypto.now)
-        under.now.issuer.now under.now.moment (FnOnceTakesAt F.FnOnce check_crl) bytes }
-    ensures { ChecksContent T.is_content T.kind (T.form rule) (mode_of under.now.strict)
-        (C.digest_of under.now.crypto.now) (C.is_signed under.now.crypto.now)
-        under.now.issuer.now under.now.moment (FnOnceReturnsAt F.FnOnce check_crl) bytes result }
+    requires { MayAsk T.kind (T.form rule) (mode_of strict) (C.digest_of crypto.now)
+        (C.is_signed crypto.now) issuer.now now (FnOnceTakesAt F.FnOnce check_crl) bytes }
+    ensures { ChecksContent T.is_content T.kind (T.form rule) (mode_of strict)
+        (C.digest_of crypto.now) (C.is_signed crypto.now) issuer.now now
+        (FnOnceReturnsAt F.FnOnce check_crl) bytes result }
 {
-    match Signed::<T>::read(under.alloc, bytes, under.strict, rule) {
+    match Signed::<T>::decode(alloc, bytes, strict, rule) {
         Err(e) => Err(CheckError::Decode(e)),
-        Ok(object) => match object.process_under(under, check_crl) {
+        Ok(object) => match object.process_at(alloc, issuer, strict, crypto, now, check_crl) {
             Err(e) => Err(CheckError::Validation(e)),
             Ok(checked) => Ok(checked),
         },
@@ -95,15 +96,8 @@ pub fn object<T: Content, C: Crypto, F: FnOnce(&Cert) -> Result<(), ValidationEr
     ensures exact { IsExact T.kind (T.form rule) (mode_of strict) (C.digest_of crypto.now)
         (C.is_signed crypto.now) issuer.now now (FnOnceReturnsAt F.FnOnce check_crl) bytes result }
 {
-    let under = Under {
-        alloc,
-        issuer,
-        strict,
-        crypto,
-        moment: now,
-    };
     T::meaning();
-    check_front(bytes, rule, &under, check_crl)
+    check_front(alloc, bytes, strict, issuer, crypto, now, check_crl, rule)
 }
 
 /// Whether the octets begin with a good manifest (RFC 9286) with the names that the rule takes, as

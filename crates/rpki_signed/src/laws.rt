@@ -1,28 +1,22 @@
 //! What the forms and the checks of objects mean: laws, as functions that do nothing.
 
-ghost use Rattle.std.specs.Prelude.{◌↔◌, ℕ, List};
+ghost use Rattle.std.specs.Prelude.{ℕ, List};
 ghost use Rattle.std.specs.Fn.{FnOnceReturnsAt};
-ghost use Rattle.rpki_faults.specs.Checks.{AllHold};
-ghost use Rattle.rpki_extensions.specs.declared.claims.Claims.{Claims};
-ghost use Rattle.rpki_certs.specs.Validate.{Sets, AreValidated, AreHeld};
 ghost use Rattle.rpki_basics.specs.declared.limits.ManifestRule.TheVariants.{Any, Registered};
 ghost use Rattle.rpki_basics.specs.declared.limits.ProviderLimit.TheVariants.{Narrow, Wide};
 ghost use Rattle.rpki_der.specs.declared.mode.Mode.{Mode};
 ghost use Rattle.rpki_der.specs.declared.mode.Mode.TheVariants.{Der};
 ghost use Rattle.rpki_lists.specs.After.{LeavesOctetsAfter};
-ghost use Rattle.rpki_files.specs.Checklist.{Checklist, ChecklistForm};
+ghost use Rattle.rpki_files.specs.Checklist.{ChecklistForm};
 ghost use Rattle.rpki_files.specs.Manifest.{Manifest, ManifestForm};
 ghost use Rattle.rpki_routes.specs.Aspa.{Aspa};
 ghost use Rattle.rpki_routes.specs.Aspa.Form.{AspaForm};
-ghost use Rattle.rpki_routes.specs.Roa.{Roa, IsRoa};
 ghost use Rattle.rpki_routes.specs.Roa.Form.{RoaForm};
-ghost use Rattle.rpki_signed.specs.Aspa.{ct_aspa, aspa_kind, aspa_claimed, aspa_held};
-ghost use Rattle.rpki_signed.specs.Aspa.{AspaCovered};
-ghost use Rattle.rpki_signed.specs.Checklist.{checklist_claimed, checklist_held, sets_of};
-ghost use Rattle.rpki_signed.specs.Checklist.{ct_checklist, AreCanonical};
-ghost use Rattle.rpki_signed.specs.Manifest.{ct_manifest, manifest_kind};
-ghost use Rattle.rpki_signed.specs.Object.{Whole, ObjectForm, IsInBer};
-ghost use Rattle.rpki_signed.specs.Roa.{route_origin_authz, roa_held, RoaCovered};
+ghost use Rattle.rpki_routes.specs.Aspa.Checks.{ct_aspa, aspa_kind};
+ghost use Rattle.rpki_files.specs.Checklist.Checks.{ct_checklist};
+ghost use Rattle.rpki_files.specs.Manifest.Checks.{ct_manifest, manifest_kind};
+ghost use Rattle.rpki_sigobj.specs.Signed.{Whole, ObjectForm, IsInBer};
+ghost use Rattle.rpki_routes.specs.Roa.Checks.{route_origin_authz};
 ghost use Rattle.rpki_signed.specs.Wider.{KeepsYes};
 
 use rpki_basics::{ManifestRule, ProviderLimit};
@@ -72,26 +66,4 @@ pub fn narrow_checks_are_wide<F: FnOnce(&Cert) -> Result<(), ValidationError>>(c
         (ManifestForm Any Der) (FnOnceReturnsAt F.FnOnce check_crl.now) }
     ensures aspas { KeepsYes aspa_kind (AspaForm Narrow) (AspaForm Wide)
         (FnOnceReturnsAt F.FnOnce check_crl.now) }
-{}
-
-/// A certificate passes the checks with a ROA exactly where it has the addresses of each prefix
-/// (RFC 9582, section 5).
-pub fn covered_roas()
-    ensures { (r : Roa) (sets : Sets) → IsRoa r → AllHold (roa_held r sets) ↔ RoaCovered r sets }
-{}
-
-/// A certificate passes the checks with an ASPA exactly where it claims the customer and nothing
-/// else, and has it (draft-ietf-sidrops-aspa-profile-15, section 4).
-pub fn covered_aspas()
-    ensures { (a : Aspa) (x : Claims) (sets : Sets) →
-        (AllHold (aspa_claimed a x) × AllHold (aspa_held a sets)) ↔ AspaCovered a x sets }
-{}
-
-/// A certificate passes the checks with a checklist exactly where it has the numbers of the
-/// checklist: that it claims them follows from its validated sets (RFC 9323, section 5).
-pub fn covered_checklists()
-    ensures { (l : Checklist) (x : Claims) (issuer sets : Sets) → AreCanonical l
-        → AreValidated x issuer sets
-        → (AllHold (checklist_claimed l x) × AllHold (checklist_held l sets))
-        ↔ AreHeld sets (sets_of l) }
 {}

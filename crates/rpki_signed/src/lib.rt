@@ -1,21 +1,10 @@
-//! Manifests (RFC 9286), ROAs (RFC 9582), ASPAs and signed checklists (RFC 9323) as signed objects,
-//! and whether octets are good ones: from octets to a yes.
+//! Whether octets are a good manifest (RFC 9286), ROA (RFC 9582), ASPA or signed checklist (RFC
+//! 9323): from octets to a yes.
 #![tactic(auto)]
 
-mod aspa;
 pub mod check;
-mod checklist;
-mod content;
 pub mod laws;
-mod manifest;
-mod process;
-mod roa;
-mod signed;
 
-pub use aspa::Aspa;
-pub use checklist::Rsc;
-pub use content::Content;
-pub use manifest::Manifest;
-pub use roa::Roa;
-pub use rpki_sigobj::SignedObjectEncoder;
-pub use signed::Signed;
+pub use rpki_files::{Manifest, Rsc, validate_manifest, validate_manifest_at};
+pub use rpki_routes::{Aspa, Roa};
+pub use rpki_sigobj::{Content, Signed, SignedObjectEncoder};

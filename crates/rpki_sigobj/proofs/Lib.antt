@@ -1,3 +1,4 @@
 pub mod Asked
 pub mod Objects
 pub mod Valid
+pub mod Wholes

@@ -8,7 +8,7 @@ use Rattle.rpki_der.specs.Form.Parts.{Sequence, Explicit, sequence_at, set_at, c
 use Rattle.rpki_der.specs.Numbers.{MAX_DEPTH}
 use Rattle.rpki_der.specs.Read.Parse.{Parser, ◌>>=◌, primitive, these, oid_at, octets_at}
 use Rattle.rpki_der.specs.Tags.{OBJECT_IDENTIFIER, SET, context}
-use Rattle.rpki_keys.specs.Algorithm.{DigestAlgorithmForm, digest_algorithm_at}
+use Rattle.rpki_basics.specs.Algorithm.{DigestAlgorithmForm, digest_algorithm_at}
 use Rattle.rpki_certs.specs.Cert.{Certificate, KeptCertificate, CertForm, cert_at}
 use Rattle.rpki_sigobj.specs.SignerInfo.{SignerInfo, SignerInfoForm, cms_version, version_at}
 use Rattle.rpki_sigobj.specs.SignerInfo.{signer_info_at}

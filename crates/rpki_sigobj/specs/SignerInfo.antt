@@ -7,8 +7,8 @@ use Rattle.rpki_der.specs.Form.Parts.{Sequence, sequence_at}
 use Rattle.rpki_der.specs.Numbers.{MAX_DEPTH}
 use Rattle.rpki_der.specs.Read.Parse.{Parser, ◌>>=◌, primitive, this, octets_at, tested}
 use Rattle.rpki_der.specs.Tags.{INTEGER}
-use Rattle.rpki_keys.specs.Algorithm.{DigestAlgorithmForm, CmsAlgorithmForm}
-use Rattle.rpki_keys.specs.Algorithm.{digest_algorithm_at, cms_algorithm_at}
+use Rattle.rpki_basics.specs.Algorithm.{DigestAlgorithmForm, CmsAlgorithmForm}
+use Rattle.rpki_basics.specs.Algorithm.{digest_algorithm_at, cms_algorithm_at}
 use Rattle.rpki_attributes.specs.declared.attribute.OtherTypes.TheVariants.{Refuse}
 use Rattle.rpki_attributes.specs.Attrs.{SignedAttributes, SignedAttrsForm}
 use Rattle.rpki_attributes.specs.Attrs.Read.{attrs_at}

@@ -1,12 +1,15 @@
-//! Signed objects (RFC 5652; RFC 6488): reading, what they say, and validation.
+//! Signed objects (RFC 5652; RFC 6488): reading, what they say, and validation; and with their
+//! contents, over any kind of these.
 #![tactic(auto)]
 
 pub mod faults;
 pub mod laws;
 mod object;
 mod process;
+mod signed;
 mod signer_info;
 mod validate;
 mod verify;
 
 pub use object::{SignedObject, SignedObjectEncoder};
+pub use signed::{Content, Signed, oid_of};

@@ -7,8 +7,8 @@ use Rattle.rpki_der.specs.Grammar.{Front}
 use Rattle.rpki_der.specs.Form.Decodes.{Decodes}
 use Rattle.rpki_der.specs.Read.Reads.{OkOrMemory}
 use Rattle.rpki_der.proofs.Form.Words.{part-unique}
-use Rattle.rpki_keys.specs.Key.{KeyForm}
-use Rattle.rpki_keys.proofs.Keys.Parts.{key-part}
+use Rattle.rpki_basics.specs.Key.{KeyForm}
+use Rattle.rpki_basics.proofs.Keys.Parts.{key-part}
 
 pub decodes_key : (octets : List ℕ) (result : Result (List ℕ) DecodeError)
     → IfOk result (λ k. (rest : List ℕ) × Front (KeyForm Der) octets k rest)

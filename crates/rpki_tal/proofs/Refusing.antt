@@ -8,7 +8,7 @@ use Rattle.rpki_der.specs.declared.error.DecodeError.TheVariants.{Malformed, Con
 use Rattle.rpki_der.specs.declared.error.DecodeError.TheVariants.{Memory as OutOfMemory}
 use Rattle.rpki_der.specs.Grammar.{Items, Front}
 use Rattle.rpki_der.specs.Form.Decodes.{Decodes}
-use Rattle.rpki_keys.specs.Key.{KeyForm}
+use Rattle.rpki_basics.specs.Key.{KeyForm}
 use Rattle.rpki_basics.specs.declared.uri.Error.{Error}
 use Rattle.rpki_basics.specs.declared.uri.Error.TheVariants.{InvalidCharacters, BadScheme}
 use Rattle.rpki_basics.specs.declared.uri.Error.TheVariants.{BadUri as NoUri, Memory as NoMemory}

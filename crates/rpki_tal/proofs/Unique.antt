@@ -10,8 +10,8 @@ use Rattle.rpki_der.specs.declared.error.DecodeError.TheVariants.{Malformed, Con
 use Rattle.rpki_der.specs.declared.error.DecodeError.TheVariants.{Memory as OutOfMemory}
 use Rattle.rpki_der.specs.Grammar.{Items, Front, HasNoFront}
 use Rattle.rpki_der.proofs.Form.Words.{part-unique}
-use Rattle.rpki_keys.specs.Key.{KeyForm}
-use Rattle.rpki_keys.proofs.Keys.Parts.{key-part}
+use Rattle.rpki_basics.specs.Key.{KeyForm}
+use Rattle.rpki_basics.proofs.Keys.Parts.{key-part}
 use Rattle.rpki_tal.specs.declared.error.ReadError.{ReadError}
 use Rattle.rpki_tal.specs.declared.error.ReadError.TheVariants.{Io, UnexpectedEof, BadUri}
 use Rattle.rpki_tal.specs.declared.error.ReadError.TheVariants.{BadKeyInfoEncoding, BadKeyInfo}

@@ -8,7 +8,7 @@ use Rattle.rpki_der.specs.Grammar.{Items, Front, HasNoFront}
 use Rattle.rpki_basics.specs.declared.uri.Error.{Error}
 use Rattle.rpki_basics.specs.declared.uri.Error.TheVariants.{InvalidCharacters, BadScheme}
 use Rattle.rpki_basics.specs.declared.uri.Error.TheVariants.{BadUri as NoUri, Memory as NoMemory}
-use Rattle.rpki_keys.specs.Key.{KeyForm}
+use Rattle.rpki_basics.specs.Key.{KeyForm}
 use Rattle.rpki_tal.specs.declared.error.ReadError.{ReadError}
 use Rattle.rpki_tal.specs.declared.error.ReadError.TheVariants.{UnexpectedEof, BadUri}
 use Rattle.rpki_tal.specs.declared.error.ReadError.TheVariants.{BadKeyInfoEncoding, BadKeyInfo}

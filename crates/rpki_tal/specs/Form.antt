@@ -4,7 +4,7 @@ use Rattle.base64.specs.Engines.{standard}
 use Rattle.base64.specs.GeneralPurpose.{encode_of, IsBytes}
 use Rattle.rpki_der.specs.declared.mode.Mode.TheVariants.{Der}
 use Rattle.rpki_der.specs.Grammar.{Items, Front}
-use Rattle.rpki_keys.specs.Key.{KeyForm}
+use Rattle.rpki_basics.specs.Key.{KeyForm}
 use Rattle.rpki_tal.specs.declared.uri.TalUri.{TalUri}
 use Rattle.rpki_tal.specs.Lines.{NUMBER_SIGN, IsLine, IsComment, without_blanks}
 use Rattle.rpki_tal.specs.Uri.{IsTalUri}

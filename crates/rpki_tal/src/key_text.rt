@@ -3,7 +3,7 @@
 ghost use Rattle.std.specs.Prelude.{IfOk, IfErr};
 ghost use Rattle.rpki_der.specs.declared.mode.Mode.TheVariants.{Der};
 ghost use Rattle.rpki_der.specs.Form.Decodes.{Decodes};
-ghost use Rattle.rpki_keys.specs.Key.{KeyForm};
+ghost use Rattle.rpki_basics.specs.Key.{KeyForm};
 ghost use Rattle.rpki_tal.specs.Form.{IsBase64, HasKey};
 ghost use Rattle.rpki_tal.specs.Faults.{IsEncodingFault, IsKeyFault, Refuses};
 

@@ -5,9 +5,9 @@ use Rattle.rpki_certs.specs.Verify.{Verdict}
 use Rattle.rpki_verdicts.specs.Listed.{is_listed}
 use Rattle.rpki_verdicts.specs.Verdicts.{AreVerdicts}
 use Rattle.rpki_verdicts.proofs.Cut.{only-lines}
-use Rattle.rpki_verdicts.proofs.Listing.{listed-decided}
-use Rattle.rpki_questions.specs.Listing.{is_listable, good_lines, listing, IsAmongGood}
-use Rattle.rpki_questions.specs.Questions.{Question}
+use Rattle.rpki_verdicts.proofs.Listed.{listed-decided}
+use Rattle.rpki_verdicts.specs.Listing.{is_listable, good_lines, listing, IsAmongGood}
+use Rattle.rpki_verdicts.specs.Questions.{Question}
 use Rattle.rpki_uses.specs.Questions.{IsListedGood}
 
 module _ (verdict : Verdict) (questions : List Question) where

@@ -10,15 +10,15 @@ use Rattle.rpki_certs.specs.Cert.{KeptCertificate}
 use Rattle.rpki_certs.specs.Validate.{Validated, IsValidatedUnder}
 use Rattle.rpki_certs.specs.Verify.{Verdict}
 use Rattle.rpki_sigobj.specs.Verify.{Digester}
+use Rattle.rpki_sigobj.specs.Signed.{cert_in}
+use Rattle.rpki_sigobj.specs.Signed.Good.{IsNotGood}
+use Rattle.rpki_sigobj.specs.Signed.Kind.{Kind}
 use Rattle.rpki_routes.specs.Roa.{Roa}
 use Rattle.rpki_routes.specs.Roa.Form.{RoaForm}
+use Rattle.rpki_routes.specs.Roa.Checks.{RoaCovered, roa_kind}
 use Rattle.rpki_signed.specs.declared.check.CheckError.{CheckError}
 use Rattle.rpki_signed.specs.declared.check.CheckError.TheVariants.{Decode, Validation}
 use Rattle.rpki_signed.specs.Exact.{IsExact}
-use Rattle.rpki_signed.specs.Good.{IsNotGood}
-use Rattle.rpki_signed.specs.Kind.{Kind}
-use Rattle.rpki_signed.specs.Object.{cert_in}
-use Rattle.rpki_signed.specs.Roa.{RoaCovered, roa_kind}
 use Rattle.rpki_uses.specs.Received.{IsUnrevoked, SaysOf, SaysAs, IsGoodByList, LooksInto}
 
 module _ {X : Type 0} (kind : Kind X) (form : List ℕ → X → Type 0) (digest : Digester)

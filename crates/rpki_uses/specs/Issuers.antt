@@ -1,8 +1,8 @@
 -- Octets under the issuer that a chain of certificates makes.
 use Rattle.std.specs.Prelude.{ℕ, List, Result, Ok, Err}
 use Rattle.rpki_certs.specs.Validate.{Validated}
-use Rattle.rpki_issuers.specs.declared.issuer.IssuerError.{IssuerError}
-use Rattle.rpki_issuers.specs.Text.{issuer_text}
+use Rattle.rpki_certs.specs.declared.issuer.IssuerError.{IssuerError}
+use Rattle.rpki_certs.specs.Issuer.{issuer_text}
 use Rattle.rpki_signed.specs.declared.check.CheckError.{CheckError}
 use Rattle.rpki_signed.specs.Text.{check_text}
 use Rattle.rpki_uses.specs.declared.issuers.ChainError.{ChainError}

@@ -1,13 +1,13 @@
 -- Lists of the good signatures that a check of an object asks about, as they are used.
 use Rattle.std.specs.Prelude.{◌≡◌, ℕ, ◌<◌, ◌^◌, List, ◌∷◌, length}
 use Rattle.rpki_der.specs.declared.mode.Mode.{Mode}
-use Rattle.rpki_keys.specs.Key.{key_contents}
+use Rattle.rpki_basics.specs.Key.{key_contents}
 use Rattle.rpki_certs.specs.Cert.{Certificate}
 use Rattle.rpki_certs.specs.Verify.{Verdict}
 use Rattle.rpki_sigobj.specs.Object.{SignedObject, SignedForm}
-use Rattle.rpki_questions.specs.Listing.{IsAmongGood}
-use Rattle.rpki_questions.specs.Lists.{BeginWith, AreCerts}
-use Rattle.rpki_questions.specs.Questions.{Question, check_questions}
+use Rattle.rpki_verdicts.specs.Listing.{IsAmongGood}
+use Rattle.rpki_verdicts.specs.Lists.{BeginWith, AreCerts}
+use Rattle.rpki_verdicts.specs.Questions.{Question, check_questions}
 
 -- A check asks these: the files begin with a signed object, in this mode, with the certificate of a
 -- trust anchor, and with those of CAs.

@@ -13,12 +13,12 @@ use Rattle.rpki_certs.specs.Cert.{Certificate, KeptCertificate}
 use Rattle.rpki_certs.specs.Validate.{Validated}
 use Rattle.rpki_certs.specs.Verify.{Verdict}
 use Rattle.rpki_sigobj.specs.Verify.{Digester}
+use Rattle.rpki_sigobj.specs.Signed.Good.{IsGood}
+use Rattle.rpki_sigobj.specs.Signed.Kind.{Kind}
+use Rattle.rpki_sigobj.specs.Signed.{Whole, ObjectForm}
 use Rattle.rpki_signed.specs.declared.check.CheckError.{CheckError}
 use Rattle.rpki_signed.specs.declared.check.CheckError.TheVariants.{Decode, Validation}
 use Rattle.rpki_signed.specs.Check.{BeginsWith}
-use Rattle.rpki_signed.specs.Good.{IsGood}
-use Rattle.rpki_signed.specs.Kind.{Kind}
-use Rattle.rpki_signed.specs.Object.{Whole, ObjectForm}
 
 -- The list has no entry with the serial number of the certificate (RFC 5280, section 5.1.2.6).
 abbrev pub IsUnrevoked : RevocationList → Certificate → Type 0

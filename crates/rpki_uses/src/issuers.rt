@@ -3,19 +3,18 @@
 ghost use Rattle.std.specs.Prelude.{◌≡◌, Ok, Err, Some, MatchResult};
 ghost use Rattle.rpki_der.specs.declared.mode.Mode.TheVariants.{Der};
 ghost use Rattle.rpki_certs.specs.Validate.{Validated};
-ghost use Rattle.rpki_issuers.specs.Issuer.{octets_of, MakesIssuer};
+ghost use Rattle.rpki_certs.specs.Issuer.{octets_of, MakesIssuer};
 ghost use Rattle.rpki_routes.specs.Roa.Form.{RoaForm};
+ghost use Rattle.rpki_routes.specs.Roa.Checks.{roa_kind};
 ghost use Rattle.rpki_signed.specs.Exact.{IsExact};
-ghost use Rattle.rpki_signed.specs.Roa.{roa_kind};
 ghost use Rattle.rpki_uses.specs.Issuers.{chain_text, UnderIssuer};
 ghost use Rattle.rpki_uses.specs.Received.{SaysOf};
 
 use crate::received::roa_under;
 use bytes::Bytes;
 use rpki_basics::{Crypto, KeyIdentifier, Time};
-use rpki_certs::ResourceCert;
+use rpki_certs::{IssuerError, ResourceCert, issuer_at};
 use rpki_crls::Crl;
-use rpki_issuers::{IssuerError, issuer_at};
 use rpki_routes::RouteOriginAttestation;
 use rpki_signed::check::CheckError;
 use std::alloc::Global;

@@ -1,7 +1,7 @@
 //! Verdicts on signatures that are looked up in a file.
 
 ghost use Rattle.std.specs.Prelude.{◌↔◌, ℕ, List, IsTrue, IfOk, MatchOption};
-ghost use Rattle.rpki_keys.specs.Key.{key_octets};
+ghost use Rattle.rpki_basics.specs.Key.{key_octets};
 ghost use Rattle.rpki_verdicts.specs.Verdicts.{AreVerdicts, IsYes};
 
 use rpki_basics::{PublicKey, RpkiSignature};

@@ -2,15 +2,14 @@
 
 ghost use Rattle.std.specs.Prelude.{◌↔◌, Err, List, IsTrue, MatchResult};
 ghost use Rattle.rpki_der.specs.declared.mode.Mode.TheVariants.{Der};
-ghost use Rattle.rpki_issuers.specs.Issuer.{octets_of};
-ghost use Rattle.rpki_questions.specs.Lists.{Lists};
-ghost use Rattle.rpki_questions.specs.Questions.{Question};
+ghost use Rattle.rpki_certs.specs.Issuer.{octets_of};
+ghost use Rattle.rpki_verdicts.specs.Lists.{Lists};
+ghost use Rattle.rpki_verdicts.specs.Questions.{Question};
 ghost use Rattle.rpki_uses.specs.Questions.{AreAskedOf, IsListedGood};
 
 use rpki_basics::{Crypto, PublicKey, RpkiSignature};
-use rpki_questions::laws::lists_are_verdicts;
-use rpki_questions::{ListingError, listing};
-use rpki_verdicts::Verdicts;
+use rpki_verdicts::laws::lists_are_verdicts;
+use rpki_verdicts::{ListingError, Verdicts, listing};
 use std::alloc::Global;
 
 /// Whether this signature of the message by the key is listed among the good ones of those that a

@@ -8,11 +8,11 @@ ghost use Rattle.rpki_crls.specs.Crl.{RevocationList};
 ghost use Rattle.rpki_certs.specs.Cert.{KeptCertificate};
 ghost use Rattle.rpki_files.specs.Checklist.{ChecklistForm};
 ghost use Rattle.rpki_files.specs.Manifest.{ManifestForm};
+ghost use Rattle.rpki_files.specs.Checklist.Checks.{checklist_kind};
+ghost use Rattle.rpki_files.specs.Manifest.Checks.{manifest_kind};
 ghost use Rattle.rpki_routes.specs.Roa.Form.{RoaForm};
-ghost use Rattle.rpki_signed.specs.Checklist.{checklist_kind};
-ghost use Rattle.rpki_signed.specs.Manifest.{manifest_kind};
+ghost use Rattle.rpki_routes.specs.Roa.Checks.{RoaCovered, roa_kind};
 ghost use Rattle.rpki_signed.specs.Exact.{IsExact};
-ghost use Rattle.rpki_signed.specs.Roa.{RoaCovered, roa_kind};
 ghost use Rattle.rpki_uses.specs.Received.{IsUnrevoked, SaysOf, SaysAs, LooksInto};
 
 use crate::files::{attests, names_octets};

@@ -8,8 +8,8 @@ ghost use Rattle.rpki_der.specs.declared.error.DecodeError.{DecodeError};
 ghost use Rattle.rpki_der.specs.Grammar.{Front, HasNoFront};
 ghost use Rattle.rpki_der.specs.Read.Parse.{◌>>=◌ as ◌and_then◌};
 ghost use Rattle.rpki_der.specs.Read.Reads.{Found, Reads, Refuses};
-ghost use Rattle.rpki_keys.specs.Key.{KeyForm};
-ghost use Rattle.rpki_keys.specs.Name.{key_name_octets};
+ghost use Rattle.rpki_basics.specs.Key.{KeyForm};
+ghost use Rattle.rpki_basics.specs.Name.{key_name_octets};
 ghost use Rattle.rpki_basics.specs.Moment.{stamp};
 ghost use Rattle.rpki_basics.specs.Time.Read.{time_at};
 

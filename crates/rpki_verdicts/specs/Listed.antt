@@ -1,7 +1,7 @@
 -- Verdicts of a list on keys, by their bits.
 use Rattle.std.specs.Prelude.{ℕ, ◌<◌, ◌^◌, List, length, Bool, ◌&&◌, nat_lt, bytes_eq}
 use Rattle.std.specs.List.{list_any}
-use Rattle.rpki_keys.specs.Key.{key_contents, key_octets}
+use Rattle.rpki_basics.specs.Key.{key_contents, key_octets}
 use Rattle.rpki_verdicts.specs.Verdicts.{digest_text, line_of, IsYes}
 
 -- The list says yes to the signature of the message by the key with these bits: the key can be

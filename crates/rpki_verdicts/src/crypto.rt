@@ -7,14 +7,14 @@ ghost use Rattle.sha2.specs.Sha256.{sha256};
 ghost use Rattle.rpki_der.specs.Tags.{BIT_STRING};
 ghost use Rattle.rpki_der.specs.Write.Encode.{IsLenOf};
 ghost use Rattle.rpki_der.specs.Write.Written.{length_octets, value_octets, bit_string_contents};
-ghost use Rattle.rpki_keys.specs.Key.{key_contents, key_octets};
+ghost use Rattle.rpki_basics.specs.Key.{key_contents, key_octets};
 ghost use Rattle.rpki_verdicts.specs.Verdicts.{digest_text};
 ghost use Rattle.rpki_verdicts.specs.Listed.{IsListed, is_listed};
 
 use crate::verdicts::{DIGITS, Verdicts, digest_text, lists, text_of};
+use rpki_basics::{Crypto, Digest, PublicKey, RpkiSignature};
 use rpki_der::encode::bit_string;
 use rpki_der::{Encode, EncodeError};
-use rpki_keys::{Crypto, Digest, PublicKey, RpkiSignature};
 use sha2::{Digest as _, Sha256};
 
 /// What stands before the bits of a key in its SubjectPublicKeyInfo: rsaEncryption with a NULL (RFC

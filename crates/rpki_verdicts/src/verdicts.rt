@@ -62,7 +62,7 @@ impl<'a> Verdicts<'a> {
     }
 
     /// Whether the list says yes to this signature of the message by the key. The octets of the key
-    /// are those of its SubjectPublicKeyInfo, as `PublicKey::to_info_bytes` of `rpki_keys` writes
+    /// are those of its SubjectPublicKeyInfo, as `PublicKey::to_info_bytes` of `rpki_basics` writes
     /// them, handed in as two pieces: those before its bits, and its bits.
     pub fn verify(&self, key_head: &[u8], key_rest: &[u8], message: &[u8], signature: &[u8]) -> bool
         ensures { IsTrue result ↔ IsYes self.now

@@ -1,9 +1,9 @@
 //! Checks signed objects of the RPKI by their signatures.
 #![tactic(auto)]
 
-use rpki_command::{Disk, ProcessArguments};
+use rpki_command::verify::{now, start};
+use rpki_command::{ProcessArguments, SystemFiles};
 use rpki_der::Counted;
-use rpki_verify_command::{now, start};
 use std::process::ExitCode;
 
 fn main(rt: HostRuntime) -> ExitCode {
@@ -11,7 +11,7 @@ fn main(rt: HostRuntime) -> ExitCode {
         rt.alloc(),
         &ProcessArguments::new(&rt),
         now(&rt),
-        &mut Disk::new(&rt),
+        &mut SystemFiles::new(&rt),
         &mut Counted::new(rt.stdout()),
         &mut Counted::new(rt.stderr()),
     )

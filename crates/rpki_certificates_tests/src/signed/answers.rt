@@ -3,10 +3,10 @@
 use super::given::{Kind, content_of};
 use bytes::Bytes;
 use rpki_basics::Time;
+use rpki_basics::standin::StandIn;
 use rpki_certs::ResourceCert;
 use rpki_der::{DecodeError, Encode, EncodeError};
 use rpki_faults::{ValidationError, VerificationError};
-use rpki_keys::standin::StandIn;
 use rpki_resources::{Blocks, Number};
 use rpki_signed::check;
 use rpki_signed::check::CheckError;

@@ -2,13 +2,14 @@
 
 use super::given::{ASPA, CHECKLIST, Fail, Kind, MANIFEST, NETWORK, ROA, issuer, made, now};
 use bytes::Bytes;
+use rpki_basics::standin::StandIn;
 use rpki_basics::{FixedClock, ManifestRule, ProviderLimit};
 use rpki_certs::{Cert, ResourceCert};
 use rpki_der::{Encode, EncodeError};
 use rpki_faults::ValidationError;
 use rpki_fixtures::{ObjectOf, object_octets};
-use rpki_keys::standin::StandIn;
 use rpki_signed::{Aspa, Content, Manifest, Roa, Rsc, Signed};
+use rpki_signed::{validate_manifest, validate_manifest_at};
 use std::alloc::{AllocError, Global};
 
 /// What is handed to each call.
@@ -112,7 +113,7 @@ fn manifest(under: &Under<'_>, octets: &Bytes) -> Result<bool, Fail> {
 /// Whether a ROA of these octets is handed out, and processed to its content.
 fn roa(under: &Under<'_>, octets: &Bytes) -> Result<bool, Fail> {
     let Under { alloc, strict, .. } = *under;
-    let object = copied(Roa::decode(alloc, octets.clone()?, strict)?)?;
+    let object = copied(Roa::decode(alloc, octets.clone()?, strict, ())?)?;
     let are_captured = are_captured(object.to_captured(), octets.as_slice(), strict);
     let (cert, content) = processed(under, object)?;
     let has_network = has_network(&cert);
@@ -139,7 +140,7 @@ fn aspa(under: &Under<'_>, octets: &Bytes) -> Result<bool, Fail> {
 /// Whether a checklist of these octets is handed out, and processed to its content.
 fn rsc(under: &Under<'_>, octets: &Bytes) -> Result<bool, Fail> {
     let Under { alloc, strict, .. } = *under;
-    let object = copied(Rsc::decode(alloc, octets.clone()?, strict)?)?;
+    let object = copied(Rsc::decode(alloc, octets.clone()?, strict, ())?)?;
     let are_captured = are_captured(object.to_captured(), octets.as_slice(), strict);
     let (cert, content) = processed(under, object)?;
     let has_numbers = has_numbers(&cert, 64496, 64496);
@@ -160,9 +161,9 @@ fn validated(under: &Under<'_>, octets: &Bytes) -> Result<bool, Fail> {
     } = *under;
     let object = Manifest::decode(alloc, octets.clone()?, strict, ManifestRule::Any)?;
     let answer = if strict {
-        object.validate_at(alloc, issuer, strict, &StandIn, clock.0)
+        validate_manifest_at(object, alloc, issuer, strict, &StandIn, clock.0)
     } else {
-        object.validate(alloc, issuer, strict, &StandIn, &clock)
+        validate_manifest(object, alloc, issuer, strict, &StandIn, &clock)
     };
     let (cert, content) = answer?;
     let has_numbers = has_numbers(&cert, 0, 70000);

@@ -38,8 +38,8 @@ fn good_roas(rt: HostRuntime) -> Result<(), Fail> {
 fn is_inspected(alloc: Global) -> Result<bool, Fail> {
     let object = made(Kind::Rsc, &[Change::As(Numbers::Inherit)]);
     let octets = object_octets(alloc, &object)?;
-    let checklist = Rsc::decode(alloc, octets, true)?;
-    let is_inspected = checklist.inspect_resources().is_ok();
+    let checklist = Rsc::decode(alloc, octets, true, ())?;
+    let is_inspected = checklist.inspect_resources(checklist.cert()).is_ok();
     drop(checklist);
     Ok(is_inspected)
 }

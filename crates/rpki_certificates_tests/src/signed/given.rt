@@ -1,6 +1,7 @@
 //! Objects of each kind that tests are given, and their issuers.
 
 use rpki_basics::Time;
+use rpki_basics::standin::StandIn;
 use rpki_certs::{Cert, ResourceCert};
 use rpki_der::DecodeError;
 use rpki_faults::ValidationError;
@@ -8,7 +9,6 @@ use rpki_fixtures::{
     ASPA_TYPE, CHECKLIST_TYPE, CertOf, Change, EE, GOOD, MANIFEST_TYPE, Numbers, ObjectOf,
     ROA_TYPE, TA, cert_octets, changed,
 };
-use rpki_keys::standin::StandIn;
 use std::alloc::{AllocError, Global};
 
 /// Why a test ends early: only want of memory is none of its answers.

@@ -9,10 +9,10 @@ use Rattle.rpki_der.specs.Form.Parts.{Sequence, sequence_at}
 use Rattle.rpki_der.proofs.Form.Fields.{field, fixed, done, within}
 use Rattle.rpki_der.proofs.Form.Kinds.{this-part, u160-part, whole-part}
 use Rattle.rpki_der.proofs.Form.Words.{part-as, make, keep, in-tag}
-use Rattle.rpki_keys.specs.Algorithm.{CertAlgorithmForm}
-use Rattle.rpki_keys.proofs.Algorithms.Parts.{cert-part as algorithm-part}
-use Rattle.rpki_keys.proofs.Keys.Parts.{key-part}
-use Rattle.rpki_keys.proofs.Names.Exact.{name-part}
+use Rattle.rpki_basics.specs.Algorithm.{CertAlgorithmForm}
+use Rattle.rpki_basics.proofs.Algorithms.Parts.{cert-part as algorithm-part}
+use Rattle.rpki_basics.proofs.Keys.Parts.{key-part}
+use Rattle.rpki_basics.proofs.Names.Exact.{name-part}
 use Rattle.rpki_basics.proofs.Times.Read.{time-part}
 use Rattle.rpki_extensions.proofs.CertExtensions.Exact.{extensions-part}
 use Rattle.rpki_certs.specs.Cert.{Contents, ValidityForm, TbsForm, CertForm}

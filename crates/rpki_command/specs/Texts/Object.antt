@@ -4,8 +4,8 @@ use Rattle.rpki_basics.specs.Moment.{Moment}
 use Rattle.rpki_basics.specs.Serial.{serial_text}
 use Rattle.rpki_basics.specs.Time.Form.{iso_text}
 use Rattle.rpki_certs.specs.Cert.{Certificate}
-use Rattle.rpki_keys.specs.Hex.{upper_hex}
-use Rattle.rpki_signed.specs.Object.{Whole}
+use Rattle.rpki_basics.specs.Hex.{upper_hex}
+use Rattle.rpki_sigobj.specs.Signed.{Whole}
 
 -- the line of the moment at which it was signed, by what the signer says
 unfoldable pub signing_line : Moment → List ℕ

@@ -1,13 +1,13 @@
 //! The lines of a signed object.
 
-ghost use Rattle.rpki_signed.specs.Object.{whole_of};
+ghost use Rattle.rpki_sigobj.specs.Signed.{whole_of};
 ghost use Rattle.rpki_command.specs.Grows.{Grows};
 ghost use Rattle.rpki_command.specs.Texts.Object.{object_text, signing_line, signer_line};
 
 use crate::kinds::Lines;
 use rpki_basics::Time;
 use rpki_certs::Cert;
-use rpki_signed::Signed;
+use rpki_sigobj::Signed;
 use std::alloc::AllocError;
 use std::fmt::Write;
 

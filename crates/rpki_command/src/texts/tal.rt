@@ -5,7 +5,7 @@ ghost use Rattle.rpki_command.specs.Grows.{Grows};
 ghost use Rattle.rpki_command.specs.Texts.Tal.{tal_text, uri_line, key_line};
 
 use crate::texts::lines::push_each;
-use rpki_keys::PublicKey;
+use rpki_basics::PublicKey;
 use rpki_tal::Tal;
 use std::alloc::AllocError;
 use std::fmt::Write;

@@ -9,9 +9,9 @@ use Rattle.rpki_der.specs.Form.Parts.{Sequence, sequence_at}
 use Rattle.rpki_der.proofs.Form.Fields.{field, fixed, skipped, done, within}
 use Rattle.rpki_der.proofs.Form.Kinds.{this-part, u160-part, whole-part, rest-part}
 use Rattle.rpki_der.proofs.Form.Words.{part-as, make, keep, in-tag, option, default, list-of}
-use Rattle.rpki_keys.specs.Algorithm.{CertAlgorithmForm}
-use Rattle.rpki_keys.proofs.Algorithms.Parts.{cert-part as algorithm-part}
-use Rattle.rpki_keys.proofs.Names.Exact.{name-part}
+use Rattle.rpki_basics.specs.Algorithm.{CertAlgorithmForm}
+use Rattle.rpki_basics.proofs.Algorithms.Parts.{cert-part as algorithm-part}
+use Rattle.rpki_basics.proofs.Names.Exact.{name-part}
 use Rattle.rpki_basics.proofs.Times.Read.{time-part}
 use Rattle.rpki_crls.specs.Crl.{Contents, TbsForm, CrlForm, tbs_fields_at, tbs_at, contents_at}
 use Rattle.rpki_crls.specs.Crl.{list_of, crl_at}

@@ -12,8 +12,8 @@ use Rattle.rpki_der.specs.Form.Parts.{Explicit, Parts, sequence_at}
 use Rattle.rpki_der.proofs.Form.Fields.{field, fixed, skipped, done, within}
 use Rattle.rpki_der.proofs.Form.Kinds.{ia5-part, octets-part}
 use Rattle.rpki_der.proofs.Form.Words.{in-tag, pass, make, option, default}
-use Rattle.rpki_keys.specs.Algorithm.{digest_algorithm_at}
-use Rattle.rpki_keys.proofs.Algorithms.Parts.{digest-part}
+use Rattle.rpki_basics.specs.Algorithm.{digest_algorithm_at}
+use Rattle.rpki_basics.proofs.Algorithms.Parts.{digest-part}
 use Rattle.rpki_lists.specs.Entries.{list_at}
 use Rattle.rpki_lists.proofs.Exact.{list-part, part-spelt}
 use Rattle.rpki_resources.specs.Families.Form.{FamiliesForm}

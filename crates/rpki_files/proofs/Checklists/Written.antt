@@ -19,7 +19,7 @@ use Rattle.rpki_der.proofs.Reading.Scan.{tag-sound}
 use Rattle.rpki_der.proofs.Writing.Leaves.{within-written, items-written}
 use Rattle.rpki_der.proofs.Writing.Values.{octets-written}
 use Rattle.rpki_der.proofs.Reading.Lengths.{some_is}
-use Rattle.rpki_keys.specs.Algorithm.{DigestAlgorithmForm, digest_algorithm_octets}
+use Rattle.rpki_basics.specs.Algorithm.{DigestAlgorithmForm, digest_algorithm_octets}
 use Rattle.rpki_resources.specs.declared.by_family.ByFamily.{ByFamily}
 use Rattle.rpki_resources.specs.declared.by_family.Entry.{Entry}
 use Rattle.rpki_resources.specs.declared.family.AddressFamily.{AddressFamily}

@@ -9,7 +9,7 @@ use Rattle.rpki_basics.specs.declared.limits.ManifestRule.TheVariants.{Any, Regi
 use Rattle.rpki_basics.specs.Moment.{Moment, stamp}
 use Rattle.rpki_basics.specs.Time.Read.{time_at}
 use Rattle.rpki_basics.proofs.Times.Read.{time-part}
-use Rattle.rpki_keys.specs.Algorithm.{sha_256, named}
+use Rattle.rpki_basics.specs.Algorithm.{sha_256, named}
 use Rattle.rpki_der.specs.Tags.{SEQUENCE, IA5_STRING, BIT_STRING, OBJECT_IDENTIFIER}
 use Rattle.rpki_der.specs.Tags.{context}
 use Rattle.rpki_der.specs.declared.mode.Mode.{Mode}
@@ -40,7 +40,7 @@ use Rattle.rpki_files.specs.Manifest.{Head, ordered, head_at, rest_at, fields_at
 use Rattle.rpki_files.specs.Manifest.{manifest_at}
 use Rattle.rpki_files.proofs.Names.Decided.{name-decides}
 use Rattle.rpki_files.proofs.Versions.Exact.{version-part}
-use Rattle.rpki_keys.proofs.Algorithms.Parts.{named-is, named-self}
+use Rattle.rpki_basics.proofs.Algorithms.Parts.{named-is, named-self}
 
 -- ---- a file
 

@@ -6,7 +6,7 @@ use Rattle.rpki_basics.specs.declared.limits.ManifestRule.{ManifestRule}
 use Rattle.rpki_basics.specs.Moment.{stamp}
 use Rattle.rpki_basics.specs.Time.Form.{TimeForm, generalized_octets}
 use Rattle.rpki_basics.specs.Serial.{SerialForm, serial_octets}
-use Rattle.rpki_keys.specs.Algorithm.{sha_256}
+use Rattle.rpki_basics.specs.Algorithm.{sha_256}
 use Rattle.rpki_der.specs.Tags.{SEQUENCE, OBJECT_IDENTIFIER, IA5_STRING, BIT_STRING}
 use Rattle.rpki_der.specs.declared.mode.Mode.TheVariants.{Der}
 use Rattle.rpki_der.specs.Oid.{IsOid}

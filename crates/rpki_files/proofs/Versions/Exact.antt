@@ -7,7 +7,7 @@ use Rattle.rpki_der.specs.Grammar.{Integer}
 use Rattle.rpki_der.specs.Form.Law.{nothing, is, IsPart}
 use Rattle.rpki_der.proofs.Form.Kinds.{u8-part}
 use Rattle.rpki_der.proofs.Form.Words.{in-tag, part-as, make-some}
-use Rattle.rpki_keys.proofs.Algorithms.Parts.{found-true}
+use Rattle.rpki_basics.proofs.Algorithms.Parts.{found-true}
 use Rattle.rpki_files.specs.Version.{VersionForm, zero_alone, version_at}
 
 zero-is : (n : ℕ) → zero_alone n ≡ Some tt → n ≡ 0

@@ -2,7 +2,7 @@
 
 ghost use Rattle.std.specs.Prelude.{◌≡◌, ◌<◌, ◌^◌, length};
 ghost use Rattle.std.specs.List.{flat_map};
-ghost use Rattle.rpki_keys.specs.Algorithm.{digest_algorithm_octets};
+ghost use Rattle.rpki_basics.specs.Algorithm.{digest_algorithm_octets};
 ghost use Rattle.rpki_der.specs.Tags.{SEQUENCE, context};
 ghost use Rattle.rpki_der.specs.Write.Parts.{contents_small, optional_octets};
 ghost use Rattle.rpki_der.specs.Write.Written.{value_octets};

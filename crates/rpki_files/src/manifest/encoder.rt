@@ -2,7 +2,7 @@
 
 ghost use Rattle.std.specs.Prelude.{◌≡◌, ◌<◌, ◌^◌, length};
 ghost use Rattle.rpki_basics.specs.Time.Form.{generalized_octets};
-ghost use Rattle.rpki_keys.specs.Algorithm.{sha_256};
+ghost use Rattle.rpki_basics.specs.Algorithm.{sha_256};
 ghost use Rattle.rpki_der.specs.Tags.{SEQUENCE, OBJECT_IDENTIFIER};
 ghost use Rattle.rpki_der.specs.Write.Parts.{contents_small};
 ghost use Rattle.rpki_der.specs.Write.Written.{value_octets};

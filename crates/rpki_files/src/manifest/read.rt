@@ -2,7 +2,7 @@
 
 ghost use Rattle.std.specs.Prelude.{◌≡◌, ◌↔◌, ◌≤◌, IfOk, IsTrue, nat_le};
 ghost use Rattle.rpki_basics.specs.Moment.{stamp};
-ghost use Rattle.rpki_keys.specs.Algorithm.{named, sha_256};
+ghost use Rattle.rpki_basics.specs.Algorithm.{named, sha_256};
 ghost use Rattle.rpki_der.specs.declared.mode.Mode.TheVariants.{Der};
 ghost use Rattle.rpki_der.specs.Read.Parse.{oid_at};
 ghost use Rattle.rpki_der.specs.Read.Reads.{Found, Reads, Stays};

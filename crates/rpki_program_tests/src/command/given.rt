@@ -4,14 +4,14 @@ ghost use Rattle.std.specs.Prelude.{◌≡◌, MatchOption, bytes_eq, None, Some
 ghost use Rattle.std.specs.Map.{lookup};
 ghost use Rattle.rpki_program_tests.specs.Command.Given.{by_name};
 
-use rpki_command::{Store, StoreError, Trace};
+use rpki_command::{ReadLog, Store, StoreError};
 use std::alloc::Global;
 
 /// A store with these files by name, and one that memory is not enough for, `large`.
 #[derive(Drop)]
 pub struct Files<'a> {
     files: &'a [(&'a str, &'a [u8])],
-    reads: Trace,
+    reads: ReadLog,
     calls: usize,
 }
 
@@ -20,7 +20,7 @@ impl<'a> Files<'a> {
     pub fn new(files: &'a [(&'a str, &'a [u8])]) -> Files<'a> {
         Files {
             files,
-            reads: Trace::empty(),
+            reads: ReadLog::empty(),
             calls: 0,
         }
     }

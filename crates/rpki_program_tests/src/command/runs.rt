@@ -13,7 +13,7 @@ use std::test::Fail;
 
 /// What is said, on standard output or on standard error, and the exit status.
 #[derive(Clone, Copy)]
-pub struct Said<'a> {
+pub struct Output<'a> {
     pub status: u8,
     pub out: &'a str,
     pub err: &'a str,
@@ -29,41 +29,41 @@ const ASK_REGISTERED: [&str; 4] = ["--registered", "content", "aspa", "file"];
 const ASK_WIDE: [&str; 4] = ["--wide", "content", "aspa", "file"];
 
 /// What is said of the first content.
-pub const SHOWN: Said = Said {
+pub const SHOWN: Output = Output {
     status: 0,
     out: "aspa\ncustomer AS15562\n\
         provider AS2914\nprovider AS8283\nprovider AS51088\nprovider AS206238\n",
     err: "",
 };
 
-const LARGEST_CUSTOMER_SHOWN: Said = Said {
+const LARGEST_CUSTOMER_SHOWN: Output = Output {
     status: 0,
     out: "aspa\ncustomer AS4294967295\nprovider AS1\n",
     err: "",
 };
 
-const LARGEST_PROVIDER_SHOWN: Said = Said {
+const LARGEST_PROVIDER_SHOWN: Output = Output {
     status: 0,
     out: "aspa\ncustomer AS1\nprovider AS4294967295\n",
     err: "",
 };
 
 /// What is said of other octets.
-pub const MALFORMED: Said = Said {
+pub const MALFORMED: Output = Output {
     status: 1,
     out: "malformed\n",
     err: "",
 };
 
 /// What is said of a file that is not there.
-pub const CANNOT_READ: Said = Said {
+pub const CANNOT_READ: Output = Output {
     status: 2,
     out: "",
     err: "cannot read other\n",
 };
 
 /// What is said where memory runs out.
-pub const OUT_OF_MEMORY: Said = Said {
+pub const OUT_OF_MEMORY: Output = Output {
     status: 3,
     out: "",
     err: "out of memory\n",
@@ -73,7 +73,7 @@ pub const OUT_OF_MEMORY: Said = Said {
 pub const ROOM: usize = 4096;
 
 /// Words, the octets of the file, what is said, and how often the store is read.
-pub type Row<'a> = (&'a [&'a str], &'a [u8], Said<'a>, usize);
+pub type Row<'a> = (&'a [&'a str], &'a [u8], Output<'a>, usize);
 
 /// That the words of each row are answered so.
 pub fn are_answered(rt: &(impl Abort + AllocGlobal), rows: &[Row<'_>]) -> Result<(), AllocError> {
@@ -89,7 +89,7 @@ pub fn is_answered(
     rt: &(impl Abort + AllocGlobal),
     words: &[&str],
     files: &[(&str, &[u8])],
-    said: &Said<'_>,
+    said: &Output<'_>,
     reads: usize,
 ) -> Result<(), AllocError> {
     let mut store = Files::new(files);
@@ -126,7 +126,7 @@ fn words_are_answered(rt: HostRuntime) -> Result<(), Fail> {
 }
 
 /// What is said of the ROA of examples/, its signer's certificate as `openssl` prints it.
-pub const ORIGIN_SHOWN: Said = Said {
+pub const ORIGIN_SHOWN: Output = Output {
     status: 0,
     out: "roa\nas AS64496\norigin 192.0.2.0/24-26\norigin 2001:db8::/32-48\n\
         signing 2026-11-01T00:00:00Z\nee 1 D499B0BF9D1519CFF7E9C67B077CDAECD7CBCA67\n",
@@ -134,7 +134,7 @@ pub const ORIGIN_SHOWN: Said = Said {
 };
 
 /// What is said where it is good.
-pub const ORIGIN_YES: Said = Said {
+pub const ORIGIN_YES: Output = Output {
     status: 0,
     out: "yes\nroa\nas AS64496\norigin 192.0.2.0/24-26\norigin 2001:db8::/32-48\n",
     err: "",
@@ -175,7 +175,7 @@ fn a_good_roa_is_shown_and_checked(rt: HostRuntime) -> Result<(), Fail> {
 /// nothing else, that is handed on.
 pub fn is_said(
     rt: &impl Abort,
-    said: &Said<'_>,
+    said: &Output<'_>,
     status: u8,
     out: &[u8],
     err: &[u8],

@@ -11,7 +11,7 @@ use Rattle.rpki_der.specs.Tags.{SEQUENCE, SET, context}
 use Rattle.rpki_der.proofs.Form.Fields.{field, field-on, fixed, done, within}
 use Rattle.rpki_der.proofs.Form.Kinds.{this-part, these-part, oid-part, octets-part}
 use Rattle.rpki_der.proofs.Form.Words.{part-as, pass, make, keep, in-tag}
-use Rattle.rpki_keys.proofs.Algorithms.Parts.{digest-part, cms-part}
+use Rattle.rpki_basics.proofs.Algorithms.Parts.{digest-part, cms-part}
 use Rattle.rpki_attributes.specs.declared.attribute.OtherTypes.TheVariants.{Refuse}
 use Rattle.rpki_attributes.specs.Attrs.{SignedAttributes}
 use Rattle.rpki_attributes.proofs.Lists.Exact.{attrs-part}

@@ -6,7 +6,7 @@ ghost use Rattle.rpki_der.specs.Form.Parts.{set_at, context_at};
 ghost use Rattle.rpki_der.specs.Numbers.{MAX_DEPTH};
 ghost use Rattle.rpki_der.specs.Read.Parse.{octets_at};
 ghost use Rattle.rpki_der.specs.Read.Reads.{Reads, Stays};
-ghost use Rattle.rpki_keys.specs.Algorithm.{digest_algorithm_at};
+ghost use Rattle.rpki_basics.specs.Algorithm.{digest_algorithm_at};
 ghost use Rattle.rpki_certs.specs.Cert.{cert_at};
 ghost use Rattle.rpki_sigobj.specs.SignerInfo.{signer_info_at};
 ghost use Rattle.rpki_sigobj.specs.Object.{content_fields_at, content_at, after_content_at};

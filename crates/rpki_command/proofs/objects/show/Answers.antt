@@ -1,6 +1,6 @@
 -- One beginning of the source at most is such an object.
 use Rattle.std.proofs.Common.{subst}
-use Rattle.rpki_signed.specs.Object.{ObjectForm, whole_of}
+use Rattle.rpki_sigobj.specs.Signed.{ObjectForm, whole_of}
 use Rattle.rpki_command.specs.Answer.{said}
 use Rattle.rpki_command.specs.Contents.{HasLines, IsShown}
 use Rattle.rpki_command.specs.Options.{read_mode}

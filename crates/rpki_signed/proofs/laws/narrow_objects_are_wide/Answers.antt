@@ -2,9 +2,9 @@ use Rattle.rpki_basics.specs.declared.limits.ManifestRule.TheVariants.{Any, Regi
 use Rattle.rpki_basics.specs.declared.limits.ProviderLimit.TheVariants.{Narrow, Wide}
 use Rattle.rpki_der.specs.declared.mode.Mode.TheVariants.{Der}
 use Rattle.rpki_files.specs.Manifest.{ManifestForm}
+use Rattle.rpki_files.specs.Manifest.Checks.{ct_manifest}
 use Rattle.rpki_routes.specs.Aspa.Form.{AspaForm}
-use Rattle.rpki_signed.specs.Aspa.{ct_aspa}
-use Rattle.rpki_signed.specs.Manifest.{ct_manifest}
+use Rattle.rpki_routes.specs.Aspa.Checks.{ct_aspa}
 use Rattle.rpki_signed.proofs.Wider.{widened, manifest-wider, aspa-wider}
 use Rattle.rpki_signed.proofs.laws.narrow_objects_are_wide.Goals as goal
 

@@ -1,4 +1,4 @@
-use Rattle.rpki_signed.proofs.After.{object-leaves}
+use Rattle.rpki_sigobj.proofs.Wholes.After.{object-leaves}
 use Rattle.rpki_signed.proofs.laws.octets_after_an_object_are_left.Goals as goal
 
 pub returns-clause-manifests : goal.returns-clause-manifests

@@ -1,4 +1,4 @@
-use Rattle.rpki_signed.proofs.InBer.{in-ber}
+use Rattle.rpki_sigobj.proofs.Wholes.InBer.{in-ber}
 use Rattle.rpki_signed.proofs.laws.strict_objects_are_in_ber.Goals as goal
 
 pub returns-clause-manifests : goal.returns-clause-manifests

@@ -1,6 +1,6 @@
 use Rattle.std.proofs.Common.{refl, ◌∙◌}
-use Rattle.rpki_questions.specs.Listing.{good_lines}
-use Rattle.rpki_questions.specs.Questions.{check_questions}
+use Rattle.rpki_verdicts.specs.Listing.{good_lines}
+use Rattle.rpki_verdicts.specs.Questions.{check_questions}
 use Rattle.rpki_uses.proofs.Asked.{good-lines, good-read, good-answered}
 use Rattle.rpki_uses.proofs.questions.is_listed_good.Goals as goal
 

@@ -4,8 +4,8 @@ use Rattle.rpki_der.specs.declared.mode.Mode.TheVariants.{Der}
 use Rattle.rpki_faults.specs.declared.validation.ValidationError.{ValidationError}
 use Rattle.rpki_certs.specs.Cert.{KeptCertificate}
 use Rattle.rpki_files.specs.Checklist.{ChecklistForm}
-use Rattle.rpki_signed.specs.Checklist.{checklist_kind}
-use Rattle.rpki_signed.specs.Object.{cert_in}
+use Rattle.rpki_files.specs.Checklist.Checks.{checklist_kind}
+use Rattle.rpki_sigobj.specs.Signed.{cert_in}
 use Rattle.rpki_uses.proofs.ByList.{by-list}
 use Rattle.rpki_uses.proofs.received.checklist_asking.Goals as goal
 

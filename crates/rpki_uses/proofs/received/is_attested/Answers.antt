@@ -3,7 +3,7 @@ use Rattle.std.specs.List.{Any}
 use Rattle.rpki_der.specs.declared.mode.Mode.TheVariants.{Der}
 use Rattle.rpki_files.specs.Checked.{Checked}
 use Rattle.rpki_files.specs.Checklist.{Checklist, ChecklistForm}
-use Rattle.rpki_signed.specs.Checklist.{checklist_kind}
+use Rattle.rpki_files.specs.Checklist.Checks.{checklist_kind}
 use Rattle.rpki_uses.proofs.ByList.{looked, refused}
 use Rattle.rpki_uses.proofs.received.is_attested.Goals as goal
 

@@ -2,7 +2,7 @@ use Rattle.std.proofs.Common.{◌↔◌, IsTrue, Bool, Contains}
 use Rattle.rpki_der.specs.declared.mode.Mode.TheVariants.{Der}
 use Rattle.rpki_basics.specs.declared.limits.ManifestRule.TheVariants.{Registered}
 use Rattle.rpki_files.specs.Manifest.{Manifest, ManifestForm}
-use Rattle.rpki_signed.specs.Manifest.{manifest_kind}
+use Rattle.rpki_files.specs.Manifest.Checks.{manifest_kind}
 use Rattle.rpki_uses.proofs.ByList.{looked, refused}
 use Rattle.rpki_uses.proofs.received.is_in_manifest.Goals as goal
 

@@ -5,8 +5,8 @@ use Rattle.rpki_faults.specs.declared.validation.ValidationError.{ValidationErro
 use Rattle.rpki_certs.specs.Cert.{KeptCertificate}
 use Rattle.rpki_basics.specs.declared.limits.ManifestRule.TheVariants.{Registered}
 use Rattle.rpki_files.specs.Manifest.{ManifestForm}
-use Rattle.rpki_signed.specs.Manifest.{manifest_kind}
-use Rattle.rpki_signed.specs.Object.{cert_in}
+use Rattle.rpki_files.specs.Manifest.Checks.{manifest_kind}
+use Rattle.rpki_sigobj.specs.Signed.{cert_in}
 use Rattle.rpki_uses.proofs.ByList.{by-list}
 use Rattle.rpki_uses.proofs.received.manifest_asking.Goals as goal
 

@@ -4,8 +4,8 @@ use Rattle.rpki_der.specs.declared.mode.Mode.TheVariants.{Der}
 use Rattle.rpki_faults.specs.declared.validation.ValidationError.{ValidationError}
 use Rattle.rpki_certs.specs.Cert.{KeptCertificate}
 use Rattle.rpki_routes.specs.Roa.Form.{RoaForm}
-use Rattle.rpki_signed.specs.Roa.{roa_kind}
-use Rattle.rpki_signed.specs.Object.{cert_in}
+use Rattle.rpki_routes.specs.Roa.Checks.{roa_kind}
+use Rattle.rpki_sigobj.specs.Signed.{cert_in}
 use Rattle.rpki_uses.proofs.ByList.{by-list}
 use Rattle.rpki_uses.proofs.received.roa_asking.Goals as goal
 

@@ -1,6 +1,6 @@
 use Rattle.std.proofs.Common.{subst, arith, List, ℕ, refl}
 use Rattle.sha2.specs.Hashers.{Holds256}
-use Rattle.rpki_verdicts.proofs.Listing.{few-bits, pieces}
+use Rattle.rpki_verdicts.proofs.Listed.{few-bits, pieces}
 use Rattle.rpki_verdicts.proofs.crypto.hash_key.Goals as goal
 
 pub overflow_cast-bits : goal.overflow_cast-bits

@@ -1,5 +1,5 @@
 use Rattle.std.proofs.Common.{arith}
-use Rattle.rpki_verdicts.proofs.Listing.{bits-fit, key-len}
+use Rattle.rpki_verdicts.proofs.Listed.{bits-fit, key-len}
 use Rattle.rpki_verdicts.proofs.crypto.key_len.Goals as goal
 
 pub overflow_add-len : goal.overflow_add-len

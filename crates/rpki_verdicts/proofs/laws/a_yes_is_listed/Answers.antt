@@ -1,4 +1,4 @@
-use Rattle.rpki_verdicts.proofs.Listing.{listed-decided}
+use Rattle.rpki_verdicts.proofs.Listed.{listed-decided}
 use Rattle.rpki_verdicts.proofs.laws.a_yes_is_listed.Goals as goal
 
 pub returns : goal.returns

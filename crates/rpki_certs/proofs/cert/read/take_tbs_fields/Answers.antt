@@ -3,10 +3,10 @@ use Rattle.rpki_der.specs.Captured.{Kept}
 use Rattle.rpki_der.specs.Form.Parts.{context_at}
 use Rattle.rpki_der.specs.Read.Parse.{primitive, this, u160_at}
 use Rattle.rpki_der.specs.Tags.{INTEGER}
-use Rattle.rpki_keys.specs.declared.algorithm.RpkiSignatureAlgorithm.{RpkiSignatureAlgorithm}
-use Rattle.rpki_keys.specs.Algorithm.{cert_algorithm_at}
-use Rattle.rpki_keys.specs.Key.{key_at}
-use Rattle.rpki_keys.specs.Name.{name_at}
+use Rattle.rpki_basics.specs.declared.algorithm.RpkiSignatureAlgorithm.{RpkiSignatureAlgorithm}
+use Rattle.rpki_basics.specs.Algorithm.{cert_algorithm_at}
+use Rattle.rpki_basics.specs.Key.{key_at}
+use Rattle.rpki_basics.specs.Name.{name_at}
 use Rattle.rpki_basics.specs.Moment.{Period}
 use Rattle.rpki_extensions.specs.declared.extensions.Extensions.{Extensions}
 use Rattle.rpki_extensions.specs.Extensions.{extensions_at}

@@ -6,7 +6,7 @@ use Rattle.rpki_files.specs.Checklist.{checklist_octets}
 use Rattle.rpki_files.proofs.Checklists.Exact.{checklist-part}
 use Rattle.rpki_files.proofs.Checklists.Named.{checked-named}
 use Rattle.rpki_files.proofs.Checklists.Written.{checklist-written}
-use Rattle.rpki_keys.proofs.Algorithms.Written.{digest-written}
+use Rattle.rpki_basics.proofs.Algorithms.Written.{digest-written}
 use Rattle.rpki_files.proofs.checklist.ResourceSignedChecklist.encode_ref.Goals as goal
 
 pub returns-clause-written : goal.returns-clause-written

@@ -1,7 +1,7 @@
 use Rattle.std.proofs.Common.{ap, ◌∙◌}
 use Rattle.std.proofs.lemmas.Bool.Decides.{same_from_decides}
 use Rattle.rpki_verdicts.specs.Listed.{is_listed}
-use Rattle.rpki_verdicts.proofs.Listing.{listed-decided}
+use Rattle.rpki_verdicts.proofs.Listed.{listed-decided}
 use Rattle.rpki_verdicts.proofs.crypto.VerdictsCrypto.verify.Goals as goal
 
 pub returns : goal.returns

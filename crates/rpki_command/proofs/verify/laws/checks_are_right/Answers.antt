@@ -1,0 +1,8 @@
+use Rattle.rpki_command.proofs.Verified.Right.{right-yes, right-no}
+use Rattle.rpki_command.proofs.verify.laws.checks_are_right.Goals as goal
+
+pub returns-clause-yes : goal.returns-clause-yes
+returns-clause-yes c = right-yes
+
+pub returns-clause-no : goal.returns-clause-no
+returns-clause-no c = right-no

@@ -1,0 +1,8 @@
+use Rattle.rpki_command.proofs.Verified.Listed.{right-list, right-no-list}
+use Rattle.rpki_command.proofs.verify.laws.lists_are_right.Goals as goal
+
+pub returns-clause-yes : goal.returns-clause-yes
+returns-clause-yes c = right-list
+
+pub returns-clause-no : goal.returns-clause-no
+returns-clause-no c = right-no-list

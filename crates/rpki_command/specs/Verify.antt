@@ -1,0 +1,8 @@
+-- The program that computes signatures.
+pub mod Check
+pub mod Clock
+pub mod Command
+pub mod Reply
+pub mod Sufficing
+pub mod Words
+pub mod Yes

@@ -1,0 +1,66 @@
+-- What is said of a signed object and a chain of certificates whose signatures are verified.
+use Rattle.std.specs.Prelude.{◌≡◌, ◌⊎◌, ℕ, List, ◌∷◌, Result, Ok, Err, String, string_bytes}
+use Rattle.std.specs.declared.alloc.Global.{Global}
+use Rattle.sha2.specs.Sha256.{sha256}
+use Rattle.rpki_der.specs.Grammar.{HasNoFront}
+use Rattle.rpki_der.specs.declared.error.DecodeError.{DecodeError}
+use Rattle.rpki_der.specs.declared.error.DecodeError.TheVariants as decoding
+use Rattle.rpki_der.specs.declared.mode.Mode.{Mode}
+use Rattle.rpki_basics.specs.Moment.{Moment}
+use Rattle.rpki_certs.specs.Cert.{Certificate}
+use Rattle.rpki_rsa.specs.Signature.{is_rsa_signature}
+use Rattle.rpki_sigobj.specs.Object.{SignedForm}
+use Rattle.rpki_verdicts.specs.Lists.{AreCerts, AreNotAllCerts, IsListingOf}
+use Rattle.rpki_verdicts.specs.declared.list.ListingError.{ListingError}
+use Rattle.rpki_verdicts.specs.declared.list.ListingError.TheVariants as listing
+use Rattle.rpki_command.specs.Answer.{Output, out_of_memory, malformed, issuer_malformed, shown}
+use Rattle.rpki_command.specs.Check.{IsCheckedWith}
+use Rattle.rpki_command.specs.Options.{read_mode}
+use Rattle.rpki_command.specs.declared.words.Kind.{Kind}
+use Rattle.rpki_command.specs.declared.words.Options.{Options}
+use Rattle.rpki_command.specs.declared.verify.check.Work.{Work}
+use Rattle.rpki_command.specs.declared.verify.check.Work.TheVariants.{Check, Verdicts}
+
+-- What is said of files: of the object, the certificate of a trust anchor, and those of CAs, each
+-- under the one before. Digests are SHA-256, and signatures RSASSA-PKCS1-v1_5 with SHA-256 (RFC
+-- 7935, section 2; RFC 8017, section 8.2.2).
+abbrev pub VerifiedOf : Options → Kind → Moment → List (List ℕ) → Output → Type 0
+VerifiedOf options kind now (object ∷ anchor ∷ chain) s =
+    IsCheckedWith options kind sha256 is_rsa_signature now object anchor chain s
+VerifiedOf options kind now files s = ⊥
+
+-- What is said where the good ones of the signatures that a check asks about are listed: first that
+-- a certificate is none, then that the object is none, and else the list, unless memory runs out.
+abbrev pub IsListAnswer : Mode → List ℕ → List ℕ → List (List ℕ) → Output → Type 0
+IsListAnswer mode object anchor chain s =
+    (s ≡ out_of_memory)
+    ⊎ ((AreNotAllCerts (anchor ∷ chain) × (s ≡ issuer_malformed))
+    ⊎ (((certs : List Certificate) × AreCerts (anchor ∷ chain) certs
+    × HasNoFront (SignedForm mode) object × (s ≡ malformed))
+    ⊎ ((text : List ℕ) × IsListingOf mode is_rsa_signature object anchor chain text
+    × (s ≡ shown text))))
+
+-- What is said where they are listed, of the files of the object, of a trust anchor and of CAs.
+abbrev pub ListedOf : Options → List (List ℕ) → Output → Type 0
+ListedOf options (object ∷ anchor ∷ chain) s =
+    IsListAnswer (read_mode options) object anchor chain s
+ListedOf options files s = ⊥
+
+-- what is said where a work is done with files
+abbrev pub WorkOf : Options → Work → List (List ℕ) → Output → Type 0
+WorkOf options (Check kind now) = VerifiedOf options kind now
+WorkOf options Verdicts = ListedOf options
+
+-- ---- step by step
+
+-- what is said where octets are not read: that memory ran out, or else this
+abbrev pub undecoded : Output → DecodeError → Output
+undecoded s decoding.Memory = out_of_memory
+undecoded s decoding.Malformed = s
+undecoded s (decoding.Content fault) = s
+
+-- what is said where a list is made, or none
+abbrev pub IsListingSaid : Result (String Global) ListingError → Output → Type 0
+IsListingSaid (Ok text) s = s ≡ shown (string_bytes text)
+IsListingSaid (Err (listing.Certificate fault)) s = s ≡ undecoded issuer_malformed fault
+IsListingSaid (Err (listing.Object fault)) s = s ≡ undecoded malformed fault

@@ -1,0 +1,128 @@
+-- The command line of the program with signatures: what each request is written as.
+use Rattle.std.specs.Prelude.{◌≡◌, ℕ, List, [], ◌∷◌, ◌++◌, Bool, true, false, codes, Option, Some}
+use Rattle.std.specs.Prelude.{IsTrue}
+use Rattle.rpki_basics.specs.Moment.{Moment, IsMoment}
+use Rattle.rpki_command.specs.Words.{kind_word, word_if, word_relaxed, word_registered, word_wide}
+use Rattle.rpki_command.specs.Words.{moment_word, command_words, files_of, are_named}
+use Rattle.rpki_command.specs.declared.words.Command.{Command}
+use Rattle.rpki_command.specs.declared.words.Command.TheVariants as commands
+use Rattle.rpki_command.specs.declared.words.Kind.{Kind}
+use Rattle.rpki_command.specs.declared.words.Options.{Options}
+use Rattle.rpki_command.specs.declared.verify.words.Action.{Action}
+use Rattle.rpki_command.specs.declared.verify.words.Action.TheVariants.{Help, Shared, Check}
+use Rattle.rpki_command.specs.declared.verify.words.Action.TheVariants.{Verdicts}
+use Rattle.rpki_command.specs.declared.verify.words.Request.{Request}
+use Rattle.rpki_command.specs.declared.verify.words.When.{When}
+use Rattle.rpki_command.specs.declared.verify.words.When.TheVariants.{Now, At}
+
+-- these words after the options `--relaxed`, `--registered` and `--wide`, each of which stands at
+-- most once, and in this order
+abbrev pub with_options : Options → List (List ℕ) → List (List ℕ)
+with_options o words = word_if o.relaxed word_relaxed
+    ++ (word_if o.registered word_registered ++ (word_if o.wide word_wide ++ words))
+
+-- the word of the moment of a check
+abbrev pub when_word : When → List ℕ
+when_word Now = codes "now"
+when_word (At moment) = moment_word moment
+
+-- a moment that is named is one of the calendar (RFC 5280, section 4.1.2.5)
+abbrev pub IsWhen : When → Type 0
+IsWhen Now = Unit {0}
+IsWhen (At moment) = IsMoment moment
+
+-- the moment of a check, where the clock tells this
+abbrev pub moment_at : Option Moment → When → Option Moment
+moment_at now Now = now
+moment_at now (At moment) = Some moment
+
+-- whether both programs have this command: it shows what a file holds
+abbrev pub is_shared : Command → Bool
+is_shared (commands.Content kind file) = true
+is_shared (commands.Show kind file) = true
+is_shared (commands.ShowTal file) = true
+is_shared other = false
+
+-- The words of an action. What shows the lines of a file has the words that it has in
+-- the other program.
+abbrev pub action_words : Action → List (List ℕ)
+action_words Help = codes "--help" ∷ []
+action_words (Shared command) = command_words command
+action_words (Check kind file moment anchor chain) =
+    codes "check" ∷ kind_word kind ∷ file ∷ when_word moment ∷ anchor ∷ chain
+action_words (Verdicts file anchor chain) = codes "verdicts" ∷ file ∷ anchor ∷ chain
+
+-- the words, without the program's name, that a request is written as
+abbrev pub request_words : Request → List (List ℕ)
+request_words r = with_options r.options (action_words r.action)
+
+-- the files that are named by a word, in the order of the words
+abbrev pub files_in : Action → List (List ℕ)
+files_in Help = []
+files_in (Shared command) = files_of command
+files_in (Check kind file moment anchor chain) = file ∷ anchor ∷ chain
+files_in (Verdicts file anchor chain) = file ∷ anchor ∷ chain
+
+-- An action is fit: its command, if it has one, shows a file, and its moment, if it has one, is one
+-- of the calendar.
+abbrev pub IsFit : Action → Type 0
+IsFit Help = Unit {0}
+IsFit (Shared command) = IsTrue (is_shared command)
+IsFit (Check kind file moment anchor chain) = IsWhen moment
+IsFit (Verdicts file anchor chain) = Unit {0}
+
+-- The words ask for this: they are its words, each file has a name, and its action is fit, as
+-- `IsFit` says: so a moment that is named is one of the calendar.
+abbrev pub IsAsked : List (List ℕ) → Request → Type 0
+IsAsked words r =
+    (words ≡ request_words r) × (are_named (files_in r.action) ≡ true) × IsFit r.action
+
+-- they ask for nothing that there is
+abbrev pub AskForNothing : List (List ℕ) → Type 0
+AskForNothing words = (r : Request) → IsAsked words r → ⊥
+
+-- ---- actions by their first word
+
+-- words after the word `check` ask for no check of a signed object
+abbrev pub AskForNoCheck : List (List ℕ) → Type 0
+AskForNoCheck words = (kind : Kind) (file : List ℕ) (moment : When) (anchor : List ℕ)
+    (chain : List (List ℕ))
+    → words ≡ kind_word kind ∷ file ∷ when_word moment ∷ anchor ∷ chain → IsWhen moment → ⊥
+
+-- words after the word `verdicts` ask for no list of good signatures
+abbrev pub AskForNoList : List (List ℕ) → Type 0
+AskForNoList words = (file anchor : List ℕ) (chain : List (List ℕ))
+    → words ≡ file ∷ anchor ∷ chain → ⊥
+
+-- they do not ask to show what a file holds
+abbrev pub AskForNothingShared : List (List ℕ) → Type 0
+AskForNothingShared words = (command : Command) → words ≡ command_words command
+    → IsTrue (is_shared command) → ⊥
+
+-- they ask to show what a file holds, and this is the action
+abbrev pub IsSharedBy : List (List ℕ) → Action → Type 0
+IsSharedBy words (Shared command) =
+    (words ≡ command_words command) × IsTrue (is_shared command)
+IsSharedBy words other = ⊥
+
+-- ---- options
+
+-- A word is taken from the front of words where it stands there, and these are left.
+pub record IsTaken (word : List ℕ) (words : List (List ℕ)) (taken : Bool) (left : List (List ℕ))
+    : Type 0 where
+  pub whole : words ≡ word_if taken word ++ left
+  pub stood : taken ≡ false → (rest : List (List ℕ)) → words ≡ word ∷ rest → ⊥
+
+-- words that begin with no option
+pub record IsPlain (words : List (List ℕ)) : Type 0 where
+  pub relaxed : (rest : List (List ℕ)) → words ≡ word_relaxed ∷ rest → ⊥
+  pub registered : (rest : List (List ℕ)) → words ≡ word_registered ∷ rest → ⊥
+  pub wide : (rest : List (List ℕ)) → words ≡ word_wide ∷ rest → ⊥
+
+-- The words are options and a rest; and where they are options and words that begin with none,
+-- these are they.
+pub record IsOptioned (words : List (List ℕ)) (options : Options) (rest : List (List ℕ))
+    : Type 0 where
+  pub whole : words ≡ with_options options rest
+  pub only : (o : Options) (plain : List (List ℕ)) → IsPlain plain
+      → words ≡ with_options o plain → (o ≡ options) × (plain ≡ rest)

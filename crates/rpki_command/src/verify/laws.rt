@@ -1,0 +1,160 @@
+//! What the definitions of the program with signatures say, as functions that do nothing.
+
+ghost use Rattle.std.specs.Prelude.{◌≡◌, ◌<◌, ◌^◌, ◌↔◌, ℕ, List, ◌∷◌, length, true, Option, Some};
+ghost use Rattle.std.specs.Prelude.{Result, Ok, Contains};
+ghost use Rattle.rpki_der.specs.declared.mode.Mode.{Mode};
+ghost use Rattle.rpki_basics.specs.Key.{key_contents};
+ghost use Rattle.rpki_basics.specs.Moment.{Moment};
+ghost use Rattle.rpki_certs.specs.Cert.{Certificate};
+ghost use Rattle.rpki_certs.specs.Validate.{Validated};
+ghost use Rattle.rpki_certs.specs.Verify.{Verdict};
+ghost use Rattle.rpki_sigobj.specs.Object.{SignedData};
+ghost use Rattle.rpki_sigobj.specs.Verify.{Digester};
+ghost use Rattle.rpki_sigobj.specs.Signed.Good.{IsGood};
+ghost use Rattle.rpki_sigobj.specs.Signed.{Whole};
+ghost use Rattle.rpki_certs.specs.Issuer.{MakesIssuer};
+ghost use Rattle.rpki_certs.specs.declared.issuer.IssuerError.{IssuerError};
+ghost use Rattle.rpki_rsa.specs.Signature.{is_rsa_signature};
+ghost use Rattle.rpki_verdicts.specs.Lists.{AreCerts, IsListingOf};
+ghost use Rattle.rpki_verdicts.specs.Listing.{is_listable};
+ghost use Rattle.rpki_verdicts.specs.Questions.{Question, says, check_questions};
+ghost use Rattle.rpki_command.specs.Answer.{Run};
+ghost use Rattle.rpki_command.specs.Command.{AreTold};
+ghost use Rattle.rpki_command.specs.Kinds.{OfKind};
+ghost use Rattle.rpki_command.specs.Options.{read_mode};
+ghost use Rattle.rpki_command.specs.Store.{Told};
+ghost use Rattle.rpki_command.specs.Yes as by_list;
+ghost use Rattle.rpki_command.specs.declared.words.Kind.{Kind};
+ghost use Rattle.rpki_command.specs.declared.words.Options.{Options};
+ghost use Rattle.rpki_command.specs.Verify.Command.{IsRunOf};
+ghost use Rattle.rpki_command.specs.Verify.Sufficing.{SaysYesToo, SayTheSame, HaveTheirOwnLines};
+ghost use Rattle.rpki_command.specs.Verify.Sufficing.{with_list};
+ghost use Rattle.rpki_command.specs.Verify.Words.{IsAsked, moment_at};
+ghost use Rattle.rpki_command.specs.Verify.Yes.{FilesOfCheck, in_order, check_request};
+ghost use Rattle.rpki_command.specs.Verify.Yes.{IsRightYes, IsRightNo};
+ghost use Rattle.rpki_command.specs.Verify.Yes.{list_request, IsRightList, IsRightNoList};
+ghost use Rattle.rpki_command.specs.declared.verify.words.Request.{Request};
+ghost use Rattle.rpki_command.specs.declared.verify.words.When.{When};
+
+/// No words ask for two things.
+pub fn words_ask_for_one_thing()
+    ensures { (words : List (List ℕ)) (a b : Request) → IsAsked words a → IsAsked words b
+        → a ≡ b }
+{}
+
+/// Where a store tells the files of a check, a run of it that ends with status 0 says yes, and that
+/// rightly: FILE begins with a good object under the issuer that the certificates make, at this
+/// moment. Where a run ends with status 1, they make none, or FILE begins with no good object under
+/// it; what it prints then, `IsRunOf` says. The store of the system's files tells nothing: the
+/// program is the same for every store, and these are the laws of those that tell.
+pub fn checks_are_right()
+    ensures yes { (told : Told) (clock : Option Moment) (words : List (List ℕ))
+        (before after : List (List ℕ)) (run : Run) (options : Options) (kind : Kind) (moment : When)
+        (now : Moment) (names files : FilesOfCheck)
+        → IsRunOf told clock words before after run
+        → IsAsked words (check_request options kind moment names)
+        → moment_at clock moment ≡ Some now → AreTold told (in_order names) (in_order files)
+        → run.status ≡ 0 → IsRightYes options kind now files run }
+    ensures no { (told : Told) (clock : Option Moment) (words : List (List ℕ))
+        (before after : List (List ℕ)) (run : Run) (options : Options) (kind : Kind) (moment : When)
+        (now : Moment) (names files : FilesOfCheck)
+        → IsRunOf told clock words before after run
+        → IsAsked words (check_request options kind moment names)
+        → moment_at clock moment ≡ Some now → AreTold told (in_order names) (in_order files)
+        → run.status ≡ 1 → IsRightNo options kind now files }
+{}
+
+/// Where a store tells the files of a list, a run that ends with status 0 prints the list of the
+/// good ones of the signatures that a check of FILE asks about. Where a run ends with status 1, not
+/// all files of certificates begin with one, or FILE begins with no signed object.
+pub fn lists_are_right()
+    ensures yes { (told : Told) (clock : Option Moment) (words : List (List ℕ))
+        (before after : List (List ℕ)) (run : Run) (options : Options) (names files : FilesOfCheck)
+        → IsRunOf told clock words before after run
+        → IsAsked words (list_request options names)
+        → AreTold told (in_order names) (in_order files)
+        → run.status ≡ 0 → IsRightList options files run }
+    ensures no { (told : Told) (clock : Option Moment) (words : List (List ℕ))
+        (before after : List (List ℕ)) (run : Run) (options : Options) (names files : FilesOfCheck)
+        → IsRunOf told clock words before after run
+        → IsAsked words (list_request options names)
+        → AreTold told (in_order names) (in_order files)
+        → run.status ≡ 1 → IsRightNoList options files }
+{}
+
+/// The key of a signature that `is_rsa_signature` calls good can be written: so its question may
+/// have a yes in a list of verdicts, and by `lists_are_verdicts` of `rpki_verdicts` it has its
+/// line there.
+pub fn good_signatures_have_lines()
+    ensures short { (key message signature : List ℕ) → is_rsa_signature key message signature ≡ true
+        → length (key_contents key) < 2 ^ 32 }
+    ensures good { (q : Question) → is_rsa_signature q.key q.message q.signature ≡ true
+        → is_listable is_rsa_signature q ≡ true }
+{}
+
+/// Where a second verdict says yes to each question of a check to which a first one does, the
+/// certificates make the same issuer by it, and an object that is good under it stays good.
+pub fn a_yes_carries_over()
+    ensures issuer { (a b : Verdict) (now : Moment) (anchor : List ℕ) (chain : List (List ℕ))
+        (first : Certificate) (others : List Certificate) (s : SignedData)
+        → AreCerts (anchor ∷ chain) (first ∷ others)
+        → SaysYesToo a b (check_questions first others s) → (issuer : Validated)
+        → MakesIssuer a now anchor chain (Ok issuer)
+        → MakesIssuer b now anchor chain (Ok issuer) }
+    ensures object { (a b : Verdict) (now : Moment) (anchor : List ℕ) (chain : List (List ℕ))
+        (first : Certificate) (others : List Certificate) (s : SignedData)
+        → AreCerts (anchor ∷ chain) (first ∷ others)
+        → SaysYesToo a b (check_questions first others s) → (issuer : Validated)
+        → MakesIssuer a now anchor chain (Ok issuer) → (options : Options) (kind : Kind)
+        → OfKind options kind (λ X asked form text. (mode : Mode) (digest : Digester) (o : Whole X)
+        (v : Validated) → o.object.signed ≡ s → IsGood asked mode digest a issuer now o v
+        → IsGood asked mode digest b issuer now o v) }
+{}
+
+/// A check needs a yes to each of its questions: where it finds an object good, the verdict says
+/// yes to all of them.
+pub fn each_question_needs_a_yes()
+    ensures { (verdict : Verdict) (now : Moment) (anchor : List ℕ) (chain : List (List ℕ))
+        (first : Certificate) (others : List Certificate) (s : SignedData)
+        → AreCerts (anchor ∷ chain) (first ∷ others) → (issuer : Validated)
+        → MakesIssuer verdict now anchor chain (Ok issuer) → (options : Options) (kind : Kind)
+        → OfKind options kind (λ X asked form text. (mode : Mode) (digest : Digester) (o : Whole X)
+        (v : Validated) → o.object.signed ≡ s → IsGood asked mode digest verdict issuer now o v
+        → (q : Question) → Contains (check_questions first others s) q → says verdict q ≡ true) }
+{}
+
+/// What is said to its questions decides whether a check says yes: where two verdicts say the same
+/// to each of them, the certificates make the same by both, an issuer or a fault, and the object is
+/// good under the issuer by both or by neither. For which cause an object is refused is not said.
+pub fn questions_decide()
+    ensures issuer { (a b : Verdict) (now : Moment) (anchor : List ℕ) (chain : List (List ℕ))
+        (first : Certificate) (others : List Certificate) (s : SignedData)
+        → AreCerts (anchor ∷ chain) (first ∷ others)
+        → SayTheSame a b (check_questions first others s) → (result : Result Validated IssuerError)
+        → MakesIssuer a now anchor chain result ↔ MakesIssuer b now anchor chain result }
+    ensures object { (a b : Verdict) (now : Moment) (anchor : List ℕ) (chain : List (List ℕ))
+        (first : Certificate) (others : List Certificate) (s : SignedData)
+        → AreCerts (anchor ∷ chain) (first ∷ others)
+        → SayTheSame a b (check_questions first others s) → (issuer : Validated)
+        → MakesIssuer a now anchor chain (Ok issuer) → (options : Options) (kind : Kind)
+        → OfKind options kind (λ X asked form text. (mode : Mode) (digest : Digester) (o : Whole X)
+        (v : Validated) → o.object.signed ≡ s → IsGood asked mode digest a issuer now o v
+        ↔ IsGood asked mode digest b issuer now o v) }
+{}
+
+/// The list of good signatures that `verdicts` prints suffices for a check by `rpki_objects` with
+/// the same options, of each kind and at each moment: where a yes by the signatures is right, it is
+/// right by the list too. So is a no, where different questions of the check have different lines,
+/// which are made of digests.
+pub fn lists_suffice()
+    ensures yes { (options : Options) (kind : Kind) (now : Moment) (files : FilesOfCheck)
+        (text : List ℕ) → IsListingOf (read_mode options) is_rsa_signature files.object files.anchor
+        files.chain text → (run : Run) → IsRightYes options kind now files run
+        → by_list.IsRightYes options kind now (with_list files text) run }
+    ensures no { (options : Options) (kind : Kind) (now : Moment) (files : FilesOfCheck)
+        (text : List ℕ) (list : IsListingOf (read_mode options) is_rsa_signature files.object
+        files.anchor files.chain text)
+        → HaveTheirOwnLines (check_questions list.first list.others list.signed.signed)
+        → IsRightNo options kind now files
+        → by_list.IsRightNo options kind now (with_list files text) }
+{}

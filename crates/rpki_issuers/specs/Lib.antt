@@ -1,2 +1,0 @@
-pub mod Issuer
-pub mod Text

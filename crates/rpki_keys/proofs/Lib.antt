@@ -1,3 +1,0 @@
-pub mod Algorithms
-pub mod Keys
-pub mod Names

@@ -1,5 +1,0 @@
-use Rattle.rpki_keys.proofs.Names.Exact.{name-read}
-use Rattle.rpki_keys.proofs.laws.names_are_read_again.Goals as goal
-
-pub returns : goal.returns
-returns c = name-read

@@ -1,7 +1,0 @@
-use Rattle.rpki_keys.proofs.Names.Exact.{name-of}
-use Rattle.rpki_keys.proofs.name.take_name.Goals as goal
-
-pub of-requires : goal.of-requires
-of-requires c =
-    name-of c.args.cons.now c.capture_name.result c.in-Ok.captured c.capture_name.new.cons
-    c.holds_octets.ensures c.capture_name.ensures.reads c.capture_name.ensures.mode c.in-Ok.is

@@ -1,4 +1,0 @@
-pub mod Grows
-pub mod Listing
-pub mod Lists
-pub mod Questions

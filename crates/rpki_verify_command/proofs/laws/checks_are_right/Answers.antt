@@ -1,8 +1,0 @@
-use Rattle.rpki_verify_command.proofs.Right.{right-yes, right-no}
-use Rattle.rpki_verify_command.proofs.laws.checks_are_right.Goals as goal
-
-pub returns-clause-yes : goal.returns-clause-yes
-returns-clause-yes c = right-yes
-
-pub returns-clause-no : goal.returns-clause-no
-returns-clause-no c = right-no

@@ -1,8 +1,0 @@
-use Rattle.rpki_verify_command.proofs.Listed.{right-list, right-no-list}
-use Rattle.rpki_verify_command.proofs.laws.lists_are_right.Goals as goal
-
-pub returns-clause-yes : goal.returns-clause-yes
-returns-clause-yes c = right-list
-
-pub returns-clause-no : goal.returns-clause-no
-returns-clause-no c = right-no-list

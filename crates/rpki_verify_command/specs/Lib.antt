@@ -1,7 +1,0 @@
-pub mod Check
-pub mod Clock
-pub mod Command
-pub mod Reply
-pub mod Sufficing
-pub mod Words
-pub mod Yes

@@ -1,0 +1,151 @@
+#!/usr/bin/env python3
+"""Writes a module of tests that list the good signatures of the objects of examples/.
+
+The lists are the files NAME.verdicts there, for which `openssl` was asked."""
+import pathlib
+import textwrap
+
+TREE = pathlib.Path(__file__).resolve().parent.parent.parent / "examples"
+HEAD = '''//! The objects of examples/, each with the list of its good signatures.
+
+use rpki_der::DecodeError;
+use rpki_rsa::Rsa;
+use rpki_verdicts::{ListingError, listing};
+use std::alloc::{AllocError, Global};
+use std::process::Abort;
+use std::test::Fail;
+
+/// What is answered, in a word.
+#[derive(Clone, Copy)]
+enum Said {
+    Listed(&'static [u8]),
+    Certificate,
+    Object,
+}
+
+/// An object, how strictly it is read, the certificates, and what is answered.
+type Row<'a> = (&'a [u8], bool, &'a [u8], &'a [&'a [u8]], Said);
+
+/// Whether this is the text of the error.
+fn is_told(alloc: Global, error: &ListingError, text: &str) -> Result<bool, AllocError> {
+    Ok(format!(in alloc; "{error}")?.as_str() == text)
+}
+
+/// That this is answered, and a fault is told.
+fn is_answered(rt: &(impl Abort + AllocGlobal), row: &Row<'_>) -> Result<(), AllocError> {
+    let (object, strict, anchor, chain, said) = row;
+    let mut certs = Vec::new(rt.alloc());
+    for cert in *chain {
+        certs.push(Vec::from_slice(rt.alloc(), cert)?)?;
+    }
+    let found = listing(rt.alloc(), object, *strict, anchor, &certs, &Rsa);
+    let fault = match (found, said) {
+        (Ok(text), Said::Listed(lines)) => {
+            assert!(rt; text.as_bytes() == *lines);
+            return Ok(());
+        }
+        (Err(ListingError::Certificate(e)), Said::Certificate) => ListingError::Certificate(e),
+        (Err(ListingError::Object(e)), Said::Object) => ListingError::Object(e),
+        _ => {
+            assert!(rt; false);
+            return Ok(());
+        }
+    };
+    assert!(rt; is_told(rt.alloc(), &fault, "malformed")?);
+    Ok(())
+}
+
+#[test]
+fn faults_are_printed(rt: HostRuntime) -> Result<(), Fail> {
+    let rows = [
+        (ListingError::Certificate(DecodeError::Malformed), "malformed"),
+        (ListingError::Certificate(DecodeError::Memory), "out of memory"),
+        (ListingError::Object(DecodeError::Malformed), "malformed"),
+        (ListingError::Object(DecodeError::Memory), "out of memory"),
+    ];
+    for (fault, text) in &rows {
+        assert!(rt; is_told(rt.alloc(), fault, text)?);
+    }
+    Ok(())
+}
+'''
+FILES = {
+    "anchor": "rpki.example.net/anchor.cer",
+    "authority": "rpki.example.net/anchor/authority.cer",
+    "manifest": "rpki.example.net/authority/authority.mft",
+    "roa": "rpki.example.net/authority/origin.roa",
+    "aspa": "rpki.example.net/authority/providers.asa",
+    "rsc": "letter.sig",
+    "overclaiming": "rpki.example.net/authority/overclaiming.roa",
+    "expired": "rpki.example.net/authority/expired.roa",
+    "broken": "rpki.example.net/authority/broken.roa",
+}
+LISTS = {
+    "manifest": "authority.mft.verdicts",
+    "roa": "origin.roa.verdicts",
+    "aspa": "providers.asa.verdicts",
+    "rsc": "letter.sig.verdicts",
+    "overclaiming": "overclaiming.roa.verdicts",
+    "expired": "expired.roa.verdicts",
+    "broken": "broken.roa.verdicts",
+}
+
+
+def lines_of(name):
+    """The lines of an object: of the trust anchor, the CA, the signer and the object."""
+    return (TREE / LISTS[name]).read_bytes().splitlines(keepends=True)
+
+
+def without(lines, *places):
+    return b"".join(line for at, line in enumerate(lines) if at not in places)
+
+
+# An object, whether it is read strictly, the certificates, and the lines or the fault.
+ROWS = [
+    *((name, strict, ("anchor", "authority"), without(lines_of(name)))
+      for name in LISTS if name != "broken" for strict in (True, False)),
+    # One bit of the object's signature is another one.
+    ("broken", True, ("anchor", "authority"), without(lines_of("broken"), 3)),
+    # The trust anchor did not sign the certificate of the signer.
+    ("roa", True, ("anchor",), without(lines_of("roa"), 1, 2)),
+    # The CA did not sign its own certificate, nor that of the trust anchor.
+    ("roa", True, ("authority",), without(lines_of("roa"), 0, 1)),
+    ("roa", True, ("authority", "anchor"), without(lines_of("roa"), 0, 1, 2)),
+    # A certificate twice: the CA did not sign its own.
+    ("roa", True, ("anchor", "authority", "authority"), without(lines_of("roa"))),
+    ("roa", True, ("anchor", "anchor", "authority"),
+     lines_of("roa")[0] + without(lines_of("roa"))),
+    ("roa", True, ("roa", "authority"), "Certificate"),
+    ("roa", True, ("anchor", "roa"), "Certificate"),
+    ("anchor", True, ("anchor", "roa"), "Certificate"),
+    ("anchor", True, ("anchor", "authority"), "Object"),
+    ("authority", False, ("anchor",), "Object"),
+]
+
+
+def table(name, octets):
+    print(f"static {name}: [u8; {len(octets)}] = [")
+    print(textwrap.fill(", ".join(f"0x{it:02X}" for it in octets), 100))
+    print("];\n")
+
+
+def main():
+    print(HEAD)
+    for name, path in FILES.items():
+        table(name.upper(), (TREE / path).read_bytes())
+    for number, (name, strict, chain, said) in enumerate(ROWS):
+        anchor, *others = (f"&{it.upper()}" for it in chain)
+        if isinstance(said, bytes):
+            table(f"LINES_{number}", said)
+            answer = f"Said::Listed(&LINES_{number})"
+        else:
+            answer = f"Said::{said}"
+        print(f"#[test]\nfn row_{number}(rt: HostRuntime) -> Result<(), Fail> {{")
+        print(f"    let chain: [&[u8]; {len(others)}] = [{', '.join(others)}];")
+        print(f"    let row = (&{name.upper()}[..], {str(strict).lower()}, {anchor}[..],"
+              f" &chain[..], {answer});")
+        print("    is_answered(&rt, &row)?;\n    Ok(())\n}\n")
+
+
+if __name__ == "__main__":
+    main()
