@@ -18,7 +18,7 @@ use rpki_rsa::Rsa;
 use rpki_signed::check::CheckError;
 use rpki_sigobj::SignedObject;
 use rpki_uses::issuers::{key_of_issuer, roa_under_chain};
-use rpki_uses::objects::{content_in, copy_of, number_of, signer_under};
+use rpki_uses::objects::{content_in, copy_of, number_of, signed_in, signer_under};
 use rpki_uses::received::{is_attested, is_in_manifest, roa_under};
 use std::alloc::{AllocError, Global};
 
@@ -191,6 +191,19 @@ fn copied(alloc: Global, strict: bool) -> Result<String, Fail> {
     })
 }
 
+/// Whether what the signer of the ROA signed, which is read so, is written as it stands there, or why
+/// it is not written.
+fn signed(alloc: Global, strict: bool) -> Result<String, Fail> {
+    let object = SignedObject::decode(alloc, Bytes::from_static(&ORIGIN), strict)?;
+    Ok(match signed_in(alloc, &object) {
+        Ok(octets) => {
+            let is_same = octets.as_slice() == &SIGNED[..];
+            format!(in alloc; "{is_same}")?
+        }
+        Err(error) => format!(in alloc; "{error}")?,
+    })
+}
+
 /// The addresses of the signer of an object, or why it has none.
 fn signer(alloc: Global, octets: &'static [u8]) -> Result<String, Fail> {
     let now = time(2027)?;
@@ -250,6 +263,8 @@ ROWS = (
     ("number", "&ORIGIN", "malformed"),
     ("copied", "true", "true"),
     ("copied", "false", "not in DER"),
+    ("signed", "true", "true"),
+    ("signed", "false", "not in DER"),
     ("signer", "&ORIGIN", "192.0.2.0/24"),
     ("signer", "&BROKEN", "signature is not valid"),
     ("signer", "&OVERCLAIMING", "overclaimed IPv4 resources"),
@@ -286,10 +301,20 @@ def revoking(octets, numbers):
     return value(0x30, value(0x30, b"".join(fields)) + b"".join(whole for whole, _ in others))
 
 
+def data_of(octets):
+    """The fields of a signed object."""
+    return list(parts(list(parts(list(parts(next(parts(octets))[1]))[1][1]))[0][1]))
+
+
 def content_of(octets):
     """The octets of the content of a signed object."""
-    data = list(parts(list(parts(list(parts(next(parts(octets))[1]))[1][1]))[0][1]))
-    return next(parts(list(parts(data[2][1]))[1][1]))[1]
+    return next(parts(list(parts(data_of(octets)[2][1]))[1][1]))[1]
+
+
+def attributes_of(octets):
+    """The octets of the signed attributes of a signed object, with their header."""
+    signer = next(parts(data_of(octets)[-1][1]))[1]
+    return list(parts(signer))[3][0]
 
 
 def main():
@@ -297,6 +322,7 @@ def main():
     made = {name: (TREE / path).read_bytes() for name, path in FILES.items()}
     content = content_of(made["ORIGIN"])
     made["CONTENT"] = content
+    made["SIGNED"] = attributes_of(made["ORIGIN"])
     made["NUMBERED"] = made["ORIGIN"].replace(content, b"\x02\x01\x05" + content[3:])
     made["THESE"] = revoking(made["NONE"], (1, 5, 6, 7))
     made["OTHERS"] = revoking(made["NONE"], (2, 3))

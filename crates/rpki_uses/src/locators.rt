@@ -1,11 +1,11 @@
 //! Trust anchor locators, as a program that fetches certificates uses them.
 
-ghost use Rattle.std.specs.Prelude.{◌≡◌, ℕ, List, IfOk, Ok, Some, bytes_eq};
+ghost use Rattle.std.specs.Prelude.{◌≡◌, ◌+◌, ℕ, List, IfOk, Ok, Some, bytes_eq};
 ghost use Rattle.rpki_tal.specs.declared.uri.TalUri.{TalUri};
 ghost use Rattle.rpki_tal.specs.Uri.{https_first};
 ghost use Rattle.rpki_tal.specs.Faults.{EndsInLine};
 ghost use Rattle.rpki_tal.specs.Form.{HasComments};
-ghost use Rattle.rpki_tal.specs.Read.{ReadsTal};
+ghost use Rattle.rpki_tal.specs.Read.{ReadsTal, failed_calls};
 ghost use Rattle.rpki_uses.specs.Locators.{IsCutOff};
 
 use rpki_basics::PublicKey;
@@ -35,11 +35,13 @@ pub fn read_https_first<S: Source>(
 }
 
 /// Reads the locator that a source gives. A text that ends within its list of URIs, in a line that
-/// lacks its line feed, is refused as one that ends too early, even where that line is a key.
+/// lacks its line feed, is refused as one that ends too early, even where that line is a key. `Io`
+/// comes exactly where a call of the source has failed.
 pub fn read_whole<S: Source>(alloc: Global, name: String, source: &mut S) -> Result<Tal, ReadError>
     ensures read { ReadsTal (S.left source.old) (S.left source.new) result }
     ensures cut { (text list : List ℕ) → S.left source.old ≡ Some text → HasComments text list
         → EndsInLine list → IsCutOff result }
+    ensures io { S.failures source.new ≡ S.failures source.old + failed_calls result }
 {
     faults_are_no_locators();
     faults_are_one();

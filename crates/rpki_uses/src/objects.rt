@@ -1,6 +1,6 @@
 //! Signed objects, as those who have a kind of content of their own use them.
 
-ghost use Rattle.std.specs.Prelude.{◌≡◌, ◌≢◌, ℕ, List, Err, IfOk, MatchResult};
+ghost use Rattle.std.specs.Prelude.{◌≡◌, ℕ, List, Err, IfOk, IsErr, MatchResult};
 ghost use Rattle.rpki_der.specs.declared.encode.EncodeError.TheVariants.{NotDer, Memory};
 ghost use Rattle.rpki_der.specs.declared.mode.Mode.TheVariants.{Der, Ber};
 ghost use Rattle.rpki_der.specs.Grammar.{Front, HasNoFront};
@@ -77,12 +77,13 @@ pub fn copy_of(object: &SignedObject) -> Result<Bytes, EncodeError>
     object.to_captured()
 }
 
-/// The octets of the attributes that the signer of an object signed, under [0]. Those of an object
-/// that was read in DER are never refused as if they had been read in BER.
+/// The octets of the attributes that the signer of an object signed, under [0]. Of an object that
+/// was read in DER only memory may be wanting; of one that was read in BER there are none.
 pub fn signed_in(alloc: Global, object: &SignedObject) -> Result<Vec<u8>, EncodeError>
-    ensures octets { IfOk result (λ octets. SignedAttrsForm Skip Der octets.items
-        object.now.object.signed.signer.attributes) }
-    ensures der { object.now.mode ≡ Der → result ≢ Err NotDer }
+    ensures der { object.now.mode ≡ Der → MatchResult result
+        (λ octets. SignedAttrsForm Skip Der octets.items
+        object.now.object.signed.signer.attributes) (λ e. e ≡ Memory) }
+    ensures ber { object.now.mode ≡ Ber → IsErr result }
 {
     object.attributes().encode_ref().to_bytes(alloc)
 }

@@ -1,6 +1,6 @@
 //! Sets of numbers, as holders of them use them.
 
-ghost use Rattle.std.specs.Prelude.{◌↔◌, IsTrue, IfOk, OnOk};
+ghost use Rattle.std.specs.Prelude.{◌≡◌, ◌↔◌, IsTrue, IfOk, OnOk, OnErr};
 ghost use Rattle.rpki_resources.specs.Blocks.{Covers, IsIntersection};
 ghost use Rattle.rpki_uses.specs.Sets.{HaveCommon};
 
@@ -15,10 +15,11 @@ pub fn shared(first: &IpBlocks, second: &IpBlocks) -> Result<IpBlocks, AllocErro
 }
 
 /// Cuts a set down to the addresses that another one has too, and says whether any are left: the
-/// two have an address in common.
+/// two have an address in common. Where there is no memory for it, the set stays as it was.
 pub fn cut_down(set: &mut IpBlocks, other: &IpBlocks) -> Result<bool, AllocError>
     ensures cut { OnOk result (IsIntersection (λ n. n) set.old other.now set.new) }
     ensures left { IfOk result (λ yes. IsTrue yes ↔ HaveCommon set.old other.now) }
+    ensures err { OnErr result (set.new ≡ set.old) }
 {
     set.intersection_assign(other)?;
     Ok(!set.is_empty())
