@@ -32,7 +32,7 @@ pub use hex::UpperHex;
 pub use identifier::KeyIdentifier;
 pub use key::{KeyEncoder, PublicKey};
 pub use limits::{ManifestRule, ProviderLimit};
-pub use name::{Name, NameEncoder};
+pub use name::Name;
 pub use serial::{Serial, SerialEncoder};
 pub use signature::RpkiSignature;
 pub use signer::{Signer, SignerFault};

@@ -24,7 +24,8 @@ impl Model for Captured {
 }
 
 impl Captured {
-    pub(crate) fn new(octets: Bytes, mode: Mode) -> Captured
+    /// These octets, as if they had been read in this mode.
+    pub fn new(octets: Bytes, mode: Mode) -> Captured
         ensures { result ≡ record { octets = octets; mode = mode } }
     {
         Captured { octets, mode }
