@@ -28,7 +28,6 @@ pub use build::{BuildError, BuildFault};
 pub use clock::{Clock, FixedClock};
 pub use crypto::Crypto;
 pub use digest::Digest;
-pub use hex::UpperHex;
 pub use identifier::KeyIdentifier;
 pub use key::{KeyEncoder, PublicKey};
 pub use limits::{ManifestRule, ProviderLimit};
