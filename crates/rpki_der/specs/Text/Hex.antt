@@ -5,7 +5,7 @@ use Rattle.rpki_der.specs.declared.hex.Case.{Case}
 use Rattle.rpki_der.specs.declared.hex.Case.TheVariants.{Lower, Upper}
 
 -- what a number from 10 on is added to: 10 is a, or A
-letters : Case → ℕ
+abbrev pub letters : Case → ℕ
 letters Lower = 0x57
 letters Upper = 0x37
 
