@@ -6,7 +6,7 @@ ghost use Rattle.rpki_basics.specs.declared.limits.ManifestRule.TheVariants.{Any
 ghost use Rattle.rpki_basics.specs.declared.limits.ProviderLimit.TheVariants.{Narrow, Wide};
 ghost use Rattle.rpki_der.specs.declared.mode.Mode.{Mode};
 ghost use Rattle.rpki_der.specs.declared.mode.Mode.TheVariants.{Der};
-ghost use Rattle.rpki_lists.specs.After.{LeavesOctetsAfter};
+ghost use Rattle.rpki_der.specs.Form.After.{LeavesOctetsAfter};
 ghost use Rattle.rpki_files.specs.Checklist.{ChecklistForm};
 ghost use Rattle.rpki_files.specs.Manifest.{Manifest, ManifestForm};
 ghost use Rattle.rpki_routes.specs.Aspa.{Aspa};

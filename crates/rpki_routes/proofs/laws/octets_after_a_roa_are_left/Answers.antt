@@ -1,7 +1,7 @@
 use Rattle.rpki_der.specs.Tags.{SEQUENCE}
 use Rattle.rpki_der.specs.declared.mode.Mode.TheVariants.{Der}
-use Rattle.rpki_lists.specs.After.{LeavesOctetsAfter}
-use Rattle.rpki_lists.proofs.After.{leaves-after}
+use Rattle.rpki_der.specs.Form.After.{LeavesOctetsAfter}
+use Rattle.rpki_der.proofs.Reading.After.{leaves-after}
 use Rattle.rpki_routes.specs.Roa.Form.{RoaForm}
 use Rattle.rpki_routes.proofs.laws.octets_after_a_roa_are_left.Goals as goal
 

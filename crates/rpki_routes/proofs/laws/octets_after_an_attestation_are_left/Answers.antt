@@ -1,8 +1,8 @@
 use Rattle.rpki_der.specs.Tags.{SEQUENCE}
 use Rattle.rpki_der.specs.declared.mode.Mode.TheVariants.{Der}
 use Rattle.rpki_basics.specs.declared.limits.ProviderLimit.{ProviderLimit}
-use Rattle.rpki_lists.specs.After.{LeavesOctetsAfter}
-use Rattle.rpki_lists.proofs.After.{leaves-after}
+use Rattle.rpki_der.specs.Form.After.{LeavesOctetsAfter}
+use Rattle.rpki_der.proofs.Reading.After.{leaves-after}
 use Rattle.rpki_routes.specs.Aspa.Form.{AspaForm}
 use Rattle.rpki_routes.proofs.laws.octets_after_an_attestation_are_left.Goals as goal
 

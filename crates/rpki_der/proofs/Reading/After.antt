@@ -6,7 +6,7 @@ use Rattle.rpki_der.specs.Grammar.{Front, HasNoFront, Value}
 use Rattle.rpki_der.specs.Read.Parse.{any_at}
 use Rattle.rpki_der.proofs.Reading.Exact.{exact-any}
 use Rattle.rpki_der.proofs.Reading.Unique.{unique}
-use Rattle.rpki_lists.specs.After.{LeavesOctetsAfter}
+use Rattle.rpki_der.specs.Form.After.{LeavesOctetsAfter}
 
 module _ {X : Type 0} (mode : Mode) (form : List ℕ → X → Type 0)
     (one : (o : List ℕ) (x : X) → form o x → (tag : ℕ) × (c : List ℕ) × Value mode o tag c)
