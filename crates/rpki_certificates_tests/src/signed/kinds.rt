@@ -1,5 +1,4 @@
-//! What the four checks answer, beside what is wanted. Want of memory is handed on, so
-//! `tools/growth` refuses each of their allocations too.
+//! What the four checks answer, beside what is wanted.
 
 use super::answers::{Call, Want, is_refusal, is_written, is_yes, roa, said};
 use super::given::{Kind, content_of};
