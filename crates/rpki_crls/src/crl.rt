@@ -13,8 +13,8 @@ ghost use Rattle.rpki_crls.specs.Crl.{CrlForm, crl_at, list_of, IsKept};
 
 use bytes::Bytes;
 use read::Contents;
-use rpki_der::laws::slices_hold_octets;
 use rpki_der::encode::CapturedEncoder;
+use rpki_der::laws::slices_hold_octets;
 use rpki_der::{Captured, Constructed, DecodeError, Mode};
 use std::alloc::{AllocError, Global};
 use std::marker::Model;

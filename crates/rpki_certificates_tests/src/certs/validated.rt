@@ -37,8 +37,9 @@ fn validated(alloc: Global) -> Result<(Option<(u32, u32)>, Option<(u32, u32)>), 
     let now = now()?;
     let authority = authority(alloc, now)?;
     let of_authority = numbers(&authority);
-    let detached = read(alloc, Call::DetachedEe, &[])
-        .map(|cert| cert.validate_detached_ee_at(alloc, &authority, true, &StandIn, now));
+    let detached = read(alloc, Call::DetachedEe, &[]).map(|cert| cert.validate_detached_ee_at(
+        alloc, &authority, true, &StandIn, now,
+    ));
     drop(authority);
     let detached = detached??;
     let of_detached = numbers(&detached);

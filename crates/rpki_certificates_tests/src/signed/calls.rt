@@ -8,8 +8,9 @@ use rpki_certs::{Cert, ResourceCert};
 use rpki_der::{Encode, EncodeError};
 use rpki_faults::ValidationError;
 use rpki_fixtures::{ObjectOf, object_octets};
-use rpki_signed::{Aspa, Content, Manifest, Roa, Rsc, Signed};
-use rpki_signed::{validate_manifest, validate_manifest_at};
+use rpki_signed::{
+    Aspa, Content, Manifest, Roa, Rsc, Signed, validate_manifest, validate_manifest_at,
+};
 use std::alloc::{AllocError, Global};
 
 /// What is handed to each call.
