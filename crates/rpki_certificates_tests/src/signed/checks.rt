@@ -39,7 +39,7 @@ static GOOD: [(Kind, Three); 4] = [
 ];
 
 #[test]
-fn good_objects(rt: HostRuntime) -> Result<(), Fail> {
+fn each_kind_to_its_yes(rt: HostRuntime) -> Result<(), Fail> {
     for (kind, numbers) in &GOOD {
         assert!(rt; is_good(rt.alloc(), *kind, *numbers)?);
     }

@@ -30,7 +30,9 @@ fn is_written(alloc: Global) -> Result<bool, AllocError> {
     let Some(attrs) = made(alloc)? else {
         return Ok(false);
     };
-    match attrs.encode_ref().to_bytes(alloc) {
+    let written = attrs.encode_ref().to_bytes(alloc);
+    drop(attrs);
+    match written {
         Ok(octets) => Ok(octets.as_slice() == want.as_slice()),
         Err(EncodeError::Memory) => Err(AllocError),
         Err(_) => Ok(false),
