@@ -11,9 +11,10 @@ ghost use Rattle.rpki_attributes.specs.Attrs.Made.{message_of};
 ghost use Rattle.rpki_attributes.specs.Attrs.Read.{attrs_at};
 
 use bytes::Bytes;
-use rpki_attributes::{AttrsFault, MessageDigest, SignedAttrs};
-use rpki_basics::{Digest, Time};
-use rpki_der::{Constructed, DecodeError, Encode, Oid};
+use rpki::crypto::Digest;
+use rpki::der::{Constructed, DecodeError, Encode, Oid};
+use rpki::sigobj::{AttrsFault, MessageDigest, SignedAttrs};
+use rpki::x509::Time;
 use std::alloc::{AllocError, Global};
 
 /// Reads signed attributes and the octets of the signature that follows them.

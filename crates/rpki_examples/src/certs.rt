@@ -6,10 +6,11 @@ ghost use Rattle.rpki_certs.specs.Inspect.{ca_checks};
 ghost use Rattle.rpki_certs.specs.Validate.{Validated, AreHeld, IsGoodAnchor, IsGoodUnder};
 ghost use Rattle.rpki_certs.specs.Validate.{IsAnchorOf, issuing_checks};
 
-use rpki_basics::{Crypto, Time};
-use rpki_certs::laws::{numbers_are_held, valid_anchors, valid_certificates};
-use rpki_certs::{Cert, ResourceCert};
-use rpki_faults::{ValidationError, VerificationError};
+use rpki::cert::laws::{numbers_are_held, valid_anchors, valid_certificates};
+use rpki::cert::{Cert, ResourceCert};
+use rpki::crypto::Crypto;
+use rpki::faults::{ValidationError, VerificationError};
+use rpki::x509::Time;
 use std::alloc::Global;
 
 /// Whether a certificate passes as one of a CA that another CA issued.

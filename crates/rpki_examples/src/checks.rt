@@ -8,11 +8,11 @@ ghost use Rattle.rpki_faults.specs.declared.validation.ValidationError.TheVarian
 ghost use Rattle.rpki_faults.specs.declared.validation.ValidationError.TheVariants.{Verification};
 ghost use Rattle.rpki_examples.specs.Checks.{as_checks, moment_checks};
 
-use rpki_basics::{Time, Validity};
-use rpki_extensions::Claims;
-use rpki_faults::laws::sets::validated_is_held;
-use rpki_faults::{Family, ValidationError, VerificationError, validated};
-use rpki_resources::{AsBlocks, Asn};
+use rpki::extensions::Claims;
+use rpki::faults::laws::sets::validated_is_held;
+use rpki::faults::{Family, ValidationError, VerificationError, validated};
+use rpki::resources::{AsBlocks, Asn};
+use rpki::x509::{Time, Validity};
 use std::alloc::Global;
 
 /// Whether a moment lies within a validity, or why it does not.

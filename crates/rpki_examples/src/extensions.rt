@@ -9,10 +9,10 @@ ghost use Rattle.rpki_extensions.specs.declared.extensions.Extensions.{Extension
 ghost use Rattle.rpki_extensions.specs.Extensions.{ExtensionsForm, extensions_at};
 
 use bytes::Bytes;
-use rpki_basics::Rsync;
-use rpki_der::laws::slices_hold_octets;
-use rpki_der::{Constructed, DecodeError, Mode};
-use rpki_extensions::Extensions;
+use rpki::der::laws::slices_hold_octets;
+use rpki::der::{Constructed, DecodeError, Mode};
+use rpki::extensions::Extensions;
+use rpki::uri::Rsync;
 use std::alloc::Global;
 
 /// Reads the extensions at the front of octets in DER.

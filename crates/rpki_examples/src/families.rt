@@ -7,8 +7,8 @@ ghost use Rattle.rpki_examples.specs.Families.{covering_checks, AreValidated};
 ghost use Rattle.rpki_examples.specs.Inspected.{anchor_validation};
 
 use crate::inspected::Facts;
-use rpki_faults::{Family, Overclaim, ValidationError, VerificationError, validated};
-use rpki_resources::{AsBlocks, AsResources, IpBlocks, IpResources};
+use rpki::faults::{Family, Overclaim, ValidationError, VerificationError, validated};
+use rpki::resources::{AsBlocks, AsResources, IpBlocks, IpResources};
 use std::alloc::Global;
 
 /// What a certificate claims.
@@ -47,8 +47,8 @@ pub fn validated_sets(
     Ok(Sets { asns, v4, v6 })
 }
 
-/// Validates the claims of a certificate under an issuer with these sets, after all else. The checks
-/// of a trust anchor stand in for those that come first.
+/// Validates the claims of a certificate under an issuer with these sets, after all else. The
+/// checks of a trust anchor stand in for those that come first.
 pub fn validate(
     alloc: Global,
     facts: &Facts,

@@ -10,9 +10,11 @@ ghost use Rattle.rpki_basics.specs.Moment.{stamp};
 ghost use Rattle.rpki_files.specs.Manifest.{Manifest, ManifestForm};
 
 use bytes::Bytes;
-use rpki_basics::{Crypto, ManifestRule, Time};
-use rpki_der::DecodeError;
-use rpki_files::{ManifestContent, ResourceSignedChecklist};
+use rpki::crypto::Crypto;
+use rpki::der::DecodeError;
+use rpki::manifest::{ManifestContent, ManifestRule};
+use rpki::rsc::ResourceSignedChecklist;
+use rpki::x509::Time;
 use std::alloc::Global;
 
 /// Whether a manifest names a file with this name and this hash.

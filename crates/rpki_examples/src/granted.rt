@@ -15,8 +15,8 @@ ghost use Rattle.rpki_paths.specs.Pairing.{HasDistinctIds};
 ghost use Rattle.rpki_paths.specs.Supplied.{supply_of};
 ghost use Rattle.rpki_paths.specs.Walk.{placed};
 
-use rpki_paths::laws::{all_are_kept, final_is_decided};
-use rpki_paths::{
+use rpki::paths::laws::{all_are_kept, final_is_decided};
+use rpki::paths::{
     AcceptFault, Accepts, Attestation, Attested, CarriedCert, CarriedSigner, Certificate,
     FinalFault, GrantFault, Locator, PairFault, Path, Signed, Supplied, SuppliedCa, SupplyFault,
     VerdictCount, WalksFault, finalize, grant, supply_all, walk_each,

@@ -12,11 +12,12 @@ ghost use Rattle.rpki_examples.specs.Received.{SaysOf};
 
 use crate::received::roa_under;
 use bytes::Bytes;
-use rpki_basics::{Crypto, KeyIdentifier, Time};
-use rpki_certs::{IssuerError, ResourceCert, issuer_at};
-use rpki_crls::Crl;
-use rpki_routes::RouteOriginAttestation;
-use rpki_signed::check::CheckError;
+use rpki::cert::{IssuerError, ResourceCert, issuer_at};
+use rpki::check::CheckError;
+use rpki::crl::Crl;
+use rpki::crypto::{Crypto, KeyIdentifier};
+use rpki::roa::RouteOriginAttestation;
+use rpki::x509::Time;
 use std::alloc::Global;
 use std::error::Error;
 use std::fmt;

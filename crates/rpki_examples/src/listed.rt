@@ -4,9 +4,9 @@ ghost use Rattle.std.specs.Prelude.{◌↔◌, ℕ, List, IsTrue, IfOk, MatchOpt
 ghost use Rattle.rpki_basics.specs.Key.{key_octets};
 ghost use Rattle.rpki_verdicts.specs.Verdicts.{AreVerdicts, IsYes};
 
-use rpki_basics::{PublicKey, RpkiSignature};
-use rpki_der::EncodeError;
-use rpki_verdicts::Verdicts;
+use rpki::crypto::{PublicKey, RpkiSignature};
+use rpki::der::EncodeError;
+use rpki::verdicts::Verdicts;
 use std::alloc::Global;
 
 /// What the octets of a file say of this signature of the message by the key, or `None` where they

@@ -8,10 +8,10 @@ ghost use Rattle.rpki_tal.specs.Form.{HasComments};
 ghost use Rattle.rpki_tal.specs.Read.{ReadsTal, failed_calls};
 ghost use Rattle.rpki_examples.specs.Locators.{IsCutOff};
 
-use rpki_basics::PublicKey;
-use rpki_der::Source;
-use rpki_tal::laws::{faults_are_no_locators, faults_are_one};
-use rpki_tal::{ReadError, Tal};
+use rpki::crypto::PublicKey;
+use rpki::der::Source;
+use rpki::tal::laws::{faults_are_no_locators, faults_are_one};
+use rpki::tal::{ReadError, Tal};
 use std::alloc::Global;
 
 /// Reads the locator that a source gives, and puts its https URIs first.

@@ -10,9 +10,9 @@ ghost use Rattle.rpki_der.specs.Read.Reads.{Found};
 ghost use Rattle.rpki_lists.specs.Entries.{list_at};
 
 use bytes::Bytes;
-use rpki_der::laws::slices_hold_octets;
-use rpki_der::{Constructed, DecodeError, Mode};
-use rpki_lists::{EntryIter, EntryList, Kind, Refused, SliceEntry, SliceReader};
+use rpki::der::laws::slices_hold_octets;
+use rpki::der::{Constructed, DecodeError, Mode};
+use rpki::lists::{EntryIter, EntryList, Kind, Refused, SliceEntry, SliceReader};
 use std::alloc::{AllocError, Global};
 use std::marker::PhantomData;
 

@@ -16,13 +16,14 @@ ghost use Rattle.rpki_sigobj.specs.Object.{cert_of};
 ghost use Rattle.rpki_sigobj.specs.Verify.{IsWellSigned};
 
 use bytes::Bytes;
-use rpki_basics::{Crypto, Time};
-use rpki_certs::ResourceCert;
-use rpki_certs::laws::numbers_are_held;
-use rpki_der::{DecodeError, Encode, EncodeError, Oid};
-use rpki_faults::ValidationError;
-use rpki_sigobj::SignedObject;
-use rpki_sigobj::laws::valid_objects;
+use rpki::cert::ResourceCert;
+use rpki::cert::laws::numbers_are_held;
+use rpki::crypto::Crypto;
+use rpki::der::{DecodeError, Encode, EncodeError, Oid};
+use rpki::faults::ValidationError;
+use rpki::sigobj::SignedObject;
+use rpki::sigobj::laws::valid_objects;
+use rpki::x509::Time;
 use std::alloc::Global;
 
 /// The content of the signed object of this type at the front of octets in DER.

@@ -4,8 +4,8 @@ ghost use Rattle.std.specs.Prelude.{IsFalse, IsTrue, IfOk};
 ghost use Rattle.rpki_paths.specs.Pairing.{AreAlike, IsPairable};
 ghost use Rattle.rpki_paths.specs.Pairing.{IsPair};
 
-use rpki_paths::laws::unpaired_is_unpairable;
-use rpki_paths::{Accepts, PairFault, VerdictCount, pair_off};
+use rpki::paths::laws::unpaired_is_unpairable;
+use rpki::paths::{Accepts, PairFault, VerdictCount, pair_off};
 use std::alloc::{AllocError, Global};
 use std::sync::ledger::Ledger;
 

@@ -20,10 +20,10 @@ ghost use Rattle.rpki_der.specs.Write.Written.{number_octets, value_octets};
 ghost use Rattle.rpki_examples.specs.Peers.{PeersForm, fields_at, peers_contents, peers_octets};
 
 use bytes::Bytes;
-use rpki_der::encode::{each, ia5, sequence};
-use rpki_der::laws::slices_hold_octets;
-use rpki_der::{Constructed, DecodeError, Encode, EncodeError, ListItem, Mode, Sink, SinkFailed};
-use rpki_resources::Asn;
+use rpki::der::encode::{each, ia5, sequence};
+use rpki::der::laws::slices_hold_octets;
+use rpki::der::{Constructed, DecodeError, Encode, EncodeError, ListItem, Mode, Sink, SinkFailed};
+use rpki::resources::Asn;
 use std::alloc::Global;
 use std::marker::Model;
 

@@ -7,9 +7,9 @@ ghost use Rattle.rpki_verdicts.specs.Lists.{Lists};
 ghost use Rattle.rpki_verdicts.specs.Questions.{Question};
 ghost use Rattle.rpki_examples.specs.Questions.{AreAskedOf, IsListedGood};
 
-use rpki_basics::{Crypto, PublicKey, RpkiSignature};
-use rpki_verdicts::laws::lists_are_verdicts;
-use rpki_verdicts::{ListingError, Verdicts, listing};
+use rpki::crypto::{Crypto, PublicKey, RpkiSignature};
+use rpki::verdicts::laws::lists_are_verdicts;
+use rpki::verdicts::{ListingError, Verdicts, listing};
 use std::alloc::Global;
 
 /// Whether this signature of the message by the key is listed among the good ones of those that a

@@ -17,17 +17,19 @@ ghost use Rattle.rpki_examples.specs.Received.{IsUnrevoked, SaysOf, SaysAs, Look
 
 use crate::files::{attests, names_octets};
 use bytes::Bytes;
-use rpki_basics::{Crypto, ManifestRule, Time};
-use rpki_certs::{Cert, ResourceCert};
-use rpki_crls::Crl;
-use rpki_faults::{ValidationError, VerificationError};
-use rpki_files::{ManifestContent, ResourceSignedChecklist};
-use rpki_routes::RouteOriginAttestation;
-use rpki_signed::check::{self, CheckError};
+use rpki::cert::{Cert, ResourceCert};
+use rpki::check::{self, CheckError};
+use rpki::crl::Crl;
+use rpki::crypto::Crypto;
+use rpki::faults::{ValidationError, VerificationError};
+use rpki::manifest::{ManifestContent, ManifestRule};
+use rpki::roa::RouteOriginAttestation;
+use rpki::rsc::ResourceSignedChecklist;
+use rpki::x509::Time;
 use std::alloc::Global;
 
-/// Verifies that a list does not revoke the certificate of an end entity. Where it does, that is the
-/// caller's own refusal: `Revoked` is said of the certificate of a CA.
+/// Verifies that a list does not revoke the certificate of an end entity. Where it does, that is
+/// the caller's own refusal: `Revoked` is said of the certificate of a CA.
 pub fn verify_unrevoked(list: &Crl, cert: &Cert) -> Result<(), ValidationError>
     ensures { SaysOf list.now.list cert.now result }
 {

@@ -10,10 +10,11 @@ ghost use Rattle.rpki_faults.specs.Checks.{AnswersFirst, ◌unless◌};
 ghost use Rattle.rpki_crls.specs.Crl.{RevocationList, CrlForm};
 
 use bytes::Bytes;
-use rpki_basics::{Crypto, PublicKey, Serial, Time};
-use rpki_crls::Crl;
-use rpki_der::DecodeError;
-use rpki_faults::VerificationError;
+use rpki::crl::Crl;
+use rpki::crypto::{Crypto, PublicKey};
+use rpki::der::DecodeError;
+use rpki::faults::VerificationError;
+use rpki::x509::{Serial, Time};
 use std::alloc::Global;
 
 /// Whether a list revokes the certificate with this serial number, where this key signed the list.

@@ -7,11 +7,12 @@ ghost use Rattle.rpki_routes.specs.Roa.Form.{RoaForm};
 ghost use Rattle.rpki_examples.specs.Routes.{AreWithin, IsMatched};
 
 use bytes::Bytes;
-use rpki_der::DecodeError;
-use rpki_der::laws::slices_hold_octets;
-use rpki_resources::{Asn, Prefix};
-use rpki_routes::laws::roas_are_written;
-use rpki_routes::{AsProviderAttestation, RoaIpAddress, RoaIpAddresses, RouteOriginAttestation};
+use rpki::aspa::AsProviderAttestation;
+use rpki::der::DecodeError;
+use rpki::der::laws::slices_hold_octets;
+use rpki::resources::{Asn, Prefix};
+use rpki::roa::laws::roas_are_written;
+use rpki::roa::{RoaIpAddress, RoaIpAddresses, RouteOriginAttestation};
 use std::alloc::Global;
 
 /// The content of a ROA at the front of octets in DER. No maximum length in it is above that of an

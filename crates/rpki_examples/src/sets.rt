@@ -4,7 +4,7 @@ ghost use Rattle.std.specs.Prelude.{◌≡◌, ◌↔◌, IsTrue, IfOk, OnOk, On
 ghost use Rattle.rpki_resources.specs.Blocks.{Covers, IsIntersection};
 ghost use Rattle.rpki_examples.specs.Sets.{HaveCommon};
 
-use rpki_resources::{AsBlocks, IpBlocks};
+use rpki::resources::{AsBlocks, IpBlocks};
 use std::alloc::AllocError;
 
 /// The addresses that both sets have. The sets stay as they are.

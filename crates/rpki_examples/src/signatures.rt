@@ -5,10 +5,10 @@ ghost use Rattle.rpki_attributes.specs.Attrs.Made.{message_of};
 ghost use Rattle.rpki_rsa.specs.Signature.{IsRsaSignature};
 
 use crate::attributes::message_for;
-use rpki_attributes::SignedAttrs;
-use rpki_basics::{Crypto, Digest, PublicKey, RpkiSignature};
-use rpki_rsa::Rsa;
-use rpki_rsa::laws::verdicts;
+use rpki::crypto::{Crypto, Digest, PublicKey, RpkiSignature};
+use rpki::rsa::Rsa;
+use rpki::rsa::laws::verdicts;
+use rpki::sigobj::SignedAttrs;
 use std::alloc::{AllocError, Global};
 
 /// Whether the key has signed the message, by RSASSA-PKCS1-v1_5 with SHA-256.

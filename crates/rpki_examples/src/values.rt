@@ -14,9 +14,10 @@ ghost use Rattle.rpki_basics.specs.Moment.{stamp};
 ghost use Rattle.rpki_basics.specs.Time.Read.{time_at};
 
 use bytes::Bytes;
-use rpki_basics::laws::times_are_written;
-use rpki_basics::{Crypto, Digest, KeyIdentifier, PublicKey, RpkiSignature, Time, Validity};
-use rpki_der::{Constructed, DecodeError, Encode, EncodeError, Mode};
+use rpki::crypto::{Crypto, Digest, KeyIdentifier, PublicKey, RpkiSignature};
+use rpki::der::{Constructed, DecodeError, Encode, EncodeError, Mode};
+use rpki::x509::laws::times_are_written;
+use rpki::x509::{Time, Validity};
 use std::alloc::Global;
 use std::marker::Model;
 
