@@ -15,8 +15,8 @@ HEAD = '''//! Signatures of examples/, looked up among the good ones that a chec
 
 use bytes::Bytes;
 use rpki_basics::{PublicKey, RpkiSignature, RpkiSignatureAlgorithm};
-use rpki_rsa::Rsa;
 use rpki_examples::questions::is_listed_good;
+use rpki_rsa::Rsa;
 use rpki_verdicts::ListingError;
 use std::alloc::{AllocError, Global};
 

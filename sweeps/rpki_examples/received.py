@@ -12,14 +12,14 @@ use rpki_basics::Time;
 use rpki_certs::{Cert, ResourceCert};
 use rpki_crls::Crl;
 use rpki_der::{DecodeError, Oid};
+use rpki_examples::issuers::{key_of_issuer, roa_under_chain};
+use rpki_examples::objects::{content_in, copy_of, number_of, signed_in, signer_under};
+use rpki_examples::received::{is_attested, is_in_manifest, roa_under};
 use rpki_faults::ValidationError;
 use rpki_resources::AddressFamily;
 use rpki_rsa::Rsa;
 use rpki_signed::check::CheckError;
 use rpki_sigobj::SignedObject;
-use rpki_examples::issuers::{key_of_issuer, roa_under_chain};
-use rpki_examples::objects::{content_in, copy_of, number_of, signed_in, signer_under};
-use rpki_examples::received::{is_attested, is_in_manifest, roa_under};
 use std::alloc::{AllocError, Global};
 
 /// Why a test ends early.

@@ -18,8 +18,8 @@ ghost use Rattle.rpki_paths.specs.Walk.{placed};
 use rpki::paths::laws::{all_are_kept, final_is_decided};
 use rpki::paths::{
     AcceptFault, Accepts, Attestation, Attested, CarriedCert, CarriedSigner, Certificate,
-    FinalFault, GrantFault, Locator, PairFault, Path, Signed, Supplied, SuppliedCa, SupplyFault,
-    VerdictCount, WalksFault, finalize, grant, supply_all, walk_each,
+    FinalFault, GrantFault, Locator, PairFault, Path, SignedCertificate, Supplied, SuppliedCa,
+    SupplyFault, VerdictCount, WalksFault, finalize, grant, supply_all, walk_each,
 };
 use std::alloc::{AllocError, Global};
 use std::sync::ledger::Ledger;
@@ -105,7 +105,7 @@ pub fn is_granted<S, C, R: Copy, T, U, L: Ledger>(
 ) -> Result<bool, AllocError>
 where
     S: CarriedSigner<C> + Accepts<C, L>,
-    C: CarriedCert<R> + Accepts<R, L> + Signed<L>,
+    C: CarriedCert<R> + Accepts<R, L> + SignedCertificate<L>,
     T: Locator<C>,
     T::Fault: Copy,
     U: SuppliedCa<C>,
@@ -161,7 +161,7 @@ where
 
 /// Whether end-entity certificates have paths up some CAs, each on one of these, that earn just the
 /// attested numbers under some supplies: a yes means that they do.
-pub fn are_earned<C: Signed<L>, T, U, L: Ledger>(
+pub fn are_earned<C: SignedCertificate<L>, T, U, L: Ledger>(
     alloc: Global,
     ees: &[C],
     cas: &[C],

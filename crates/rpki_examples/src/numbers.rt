@@ -12,7 +12,7 @@ ghost use Rattle.rpki_lists.specs.Entries.{list_at};
 use bytes::Bytes;
 use rpki::der::laws::slices_hold_octets;
 use rpki::der::{Constructed, DecodeError, Mode};
-use rpki::lists::{EntryIter, EntryList, Kind, Refused, SliceEntry, SliceReader};
+use rpki::lists::{EntryIter, EntryKind, EntryList, Refused, SliceEntry, SliceReader};
 use std::alloc::{AllocError, Global};
 use std::marker::PhantomData;
 
@@ -20,7 +20,7 @@ use std::marker::PhantomData;
 #[derive(Drop, Debug)]
 pub struct Numbers;
 
-impl Kind for Numbers {
+impl EntryKind for Numbers {
     ghost use Rattle.rpki_der.specs.Tags.{INTEGER};
     ghost use Rattle.rpki_der.specs.declared.mode.Mode.TheVariants.{Der};
     ghost use Rattle.rpki_der.specs.Read.Parse.{u32_at, unsigned_of};
