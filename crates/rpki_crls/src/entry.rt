@@ -56,7 +56,7 @@ fn skip_extensions(cons: &mut Constructed<'_>) -> Result<Option<()>, DecodeError
 }
 
 // Reads what stands in an entry.
-#[tactic(auto, unfolding(crate::specs::CrlEntry::entry_fields_at))]
+#[tactic(auto, unfolding(crate::specs::Entry::entry_fields_at))]
 fn take_fields(cons: &mut Constructed<'_>) -> Result<CrlEntry, DecodeError>
     ensures { Reads (λ e. e) entry_fields_at cons.old result cons.new }
 {
