@@ -3,8 +3,7 @@
 pub use rpki_basics::ManifestRule;
 pub use rpki_files::{
     FileAndHash, FileEncoder, FileEntry, FileListIter, Files, Manifest, ManifestContent,
-    ManifestEncoder, ManifestHash, ManifestHashMismatch, ManifestUriIter, validate_manifest,
-    validate_manifest_at,
+    ManifestEncoder, ManifestHash, ManifestHashMismatch, ManifestUriIter, ValidateManifest,
 };
 
 /// What is wrong with a manifest.

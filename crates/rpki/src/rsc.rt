@@ -1,7 +1,7 @@
 //! Signed checklists.
 
 pub use rpki_files::{
-    CheckListIter, CheckedEntry, CheckedFiles, ChecklistEncoder, FileNameAndHash,
+    CheckListIter, CheckedEntry, CheckedFiles, ChecklistEncoder, FileNameAndHash, InspectResources,
     ResourceSignedChecklist, Rsc,
 };
 

@@ -98,7 +98,7 @@ fn digit(case: Case, n: u8) -> char
     }
 }
 
-/// The upper digit of a number below 16.
+/// The hexadecimal digit, in upper case, of a number below 16.
 pub fn upper_digit(n: u8) -> u8
     requires { n < 16 }
     ensures { result ≡ digit Upper n }

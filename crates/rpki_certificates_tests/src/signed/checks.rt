@@ -4,7 +4,7 @@ use super::answers::{Call, Caller, Three, Want};
 use super::given::{Fail, Kind, NETWORK, issuer, made, now};
 use super::kinds::answered;
 use rpki_fixtures::{Change, Numbers, object_octets};
-use rpki_signed::Rsc;
+use rpki_signed::{InspectResources, Rsc};
 use std::alloc::Global;
 use std::cell::Cell;
 
@@ -51,7 +51,7 @@ fn is_inspected(alloc: Global) -> Result<bool, Fail> {
     let object = made(Kind::Rsc, &[Change::As(Numbers::Inherit)]);
     let octets = object_octets(alloc, &object)?;
     let checklist = Rsc::decode(alloc, octets, true, ())?;
-    let is_inspected = checklist.inspect_resources(checklist.cert()).is_ok();
+    let is_inspected = checklist.inspect_resources().is_ok();
     drop(checklist);
     Ok(is_inspected)
 }
