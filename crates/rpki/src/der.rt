@@ -5,3 +5,4 @@ pub use rpki_der::{
     EncodeError, InvalidSignedAttr, ListItem, LowerHex, Mode, Oid, Sink, SinkFailed, Source,
     SourceError, SourceFailed, StaticText, Tag, UpperHex, build, encode, laws, slices, upper_digit,
 };
+pub use rpki_lists::{BitSlice, SliceReader};

@@ -1,5 +1,6 @@
 //! The signed objects of the RPKI as one library: what the crates below give out, under the names
-//! of the modules that the Rust crate `rpki` has for it, and some of this project's own.
+//! of the modules of the Rust crate `rpki`, without its module `repository`, and of some of this
+//! project's own.
 #![tactic(auto)]
 
 pub mod aspa;
@@ -8,8 +9,8 @@ pub mod check;
 pub mod crl;
 pub mod crypto;
 pub mod der;
+pub mod error;
 pub mod extensions;
-pub mod faults;
 pub mod lists;
 pub mod manifest;
 pub mod paths;

@@ -9,7 +9,7 @@ ghost use Rattle.rpki_certs.specs.Validate.{IsAnchorOf, issuing_checks};
 use rpki::cert::laws::{numbers_are_held, valid_anchors, valid_certificates};
 use rpki::cert::{Cert, ResourceCert};
 use rpki::crypto::Crypto;
-use rpki::faults::{ValidationError, VerificationError};
+use rpki::error::{ValidationError, VerificationError};
 use rpki::x509::Time;
 use std::alloc::Global;
 

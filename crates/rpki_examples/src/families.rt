@@ -7,7 +7,7 @@ ghost use Rattle.rpki_examples.specs.Families.{covering_checks, AreValidated};
 ghost use Rattle.rpki_examples.specs.Inspected.{anchor_validation};
 
 use crate::inspected::Facts;
-use rpki::faults::{Family, Overclaim, ValidationError, VerificationError, validated};
+use rpki::error::{Family, Overclaim, ValidationError, VerificationError, validated};
 use rpki::resources::{AsBlocks, AsResources, IpBlocks, IpResources};
 use std::alloc::Global;
 

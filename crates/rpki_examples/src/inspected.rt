@@ -5,7 +5,7 @@ ghost use Rattle.rpki_examples.specs.Inspected.{anchor_checks, anchor_validation
 ghost use Rattle.rpki_examples.specs.Inspected.{authority_checks, signature_checks};
 ghost use Rattle.rpki_examples.specs.Inspected.{validity_checks};
 
-use rpki::faults::{InspectionError, KeyUsage, ValidationError, VerificationError};
+use rpki::error::{InspectionError, KeyUsage, ValidationError, VerificationError};
 
 /// What is looked at of a certificate. Identifiers and URIs are numbers, moments are seconds.
 #[derive(Clone, Copy, Debug)]

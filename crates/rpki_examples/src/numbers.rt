@@ -11,8 +11,8 @@ ghost use Rattle.rpki_lists.specs.Entries.{list_at};
 
 use bytes::Bytes;
 use rpki::der::laws::slices_hold_octets;
-use rpki::der::{Constructed, DecodeError, Mode};
-use rpki::lists::{EntryIter, EntryKind, EntryList, Refused, SliceEntry, SliceReader};
+use rpki::der::{Constructed, DecodeError, Mode, SliceReader};
+use rpki::lists::{EntryIter, EntryKind, EntryList, Refused, SliceEntry};
 use std::alloc::{AllocError, Global};
 use std::marker::PhantomData;
 

@@ -20,7 +20,7 @@ use rpki::cert::ResourceCert;
 use rpki::cert::laws::numbers_are_held;
 use rpki::crypto::Crypto;
 use rpki::der::{DecodeError, Encode, EncodeError, Oid};
-use rpki::faults::ValidationError;
+use rpki::error::ValidationError;
 use rpki::sigobj::SignedObject;
 use rpki::sigobj::laws::valid_objects;
 use rpki::x509::Time;

@@ -21,7 +21,7 @@ use rpki::cert::{Cert, ResourceCert};
 use rpki::check::{self, CheckError};
 use rpki::crl::Crl;
 use rpki::crypto::Crypto;
-use rpki::faults::{ValidationError, VerificationError};
+use rpki::error::{ValidationError, VerificationError};
 use rpki::manifest::{ManifestContent, ManifestRule};
 use rpki::roa::RouteOriginAttestation;
 use rpki::rsc::ResourceSignedChecklist;

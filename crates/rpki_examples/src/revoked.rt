@@ -13,7 +13,7 @@ use bytes::Bytes;
 use rpki::crl::Crl;
 use rpki::crypto::{Crypto, PublicKey};
 use rpki::der::DecodeError;
-use rpki::faults::VerificationError;
+use rpki::error::VerificationError;
 use rpki::x509::{Serial, Time};
 use std::alloc::Global;
 
