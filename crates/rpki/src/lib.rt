@@ -1,5 +1,5 @@
-//! The signed objects of the RPKI as one library: what the crates below give out, under the names
-//! of the modules that the Rust crate `rpki` has for it, and some of this project's own.
+//! The libraries of this repository under one name. The modules are those of the Rust crate `rpki`,
+//! as far as they are ported, and some of this project's own.
 #![tactic(auto)]
 
 pub mod aspa;
