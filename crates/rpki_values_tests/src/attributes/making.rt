@@ -27,11 +27,14 @@ fn made(alloc: Global) -> Result<Option<SignedAttrs>, AllocError> {
 /// Whether it is written as its three attributes, in the order of their octets.
 fn is_written(alloc: Global) -> Result<bool, AllocError> {
     let want = joined(alloc, &[b"\xA0\x6B", TYPE, TIME, DIGEST])?;
-    let Some(attrs) = made(alloc)? else {
-        return Ok(false);
+    let written = match made(alloc)? {
+        None => return Ok(false),
+        Some(attrs) => {
+            let written = attrs.encode_ref().to_bytes(alloc);
+            drop(attrs);
+            written
+        }
     };
-    let written = attrs.encode_ref().to_bytes(alloc);
-    drop(attrs);
     match written {
         Ok(octets) => Ok(octets.as_slice() == want.as_slice()),
         Err(EncodeError::Memory) => Err(AllocError),
