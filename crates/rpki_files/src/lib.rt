@@ -1,5 +1,5 @@
-//! What lists files: manifests (RFC 9286) and signed checklists (RFC 9323), their contents, and what
-//! is checked of the objects that carry these.
+//! What lists files: manifests (RFC 9286) and signed checklists (RFC 9323), their contents, and
+//! what is checked of the objects that carry these.
 #![tactic(auto)]
 
 mod checked;
