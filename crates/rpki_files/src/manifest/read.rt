@@ -54,7 +54,7 @@ fn take_head(cons: &mut Constructed<'_>) -> Result<(Serial, Time, Time), DecodeE
     if are_in_order(this_update, next_update) {
         Ok((number, this_update, next_update))
     } else {
-        Err(cons.refuse_for(faults::UPDATES_NOT_IN_ORDER))
+        Err(DecodeError::refusal(faults::UPDATES_NOT_IN_ORDER))
     }
 }
 
