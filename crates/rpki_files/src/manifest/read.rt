@@ -41,12 +41,6 @@ fn are_in_order(this_update: Time, next_update: Time) -> bool
     this_update <= next_update
 }
 
-// The refusal of updates that are not in order. (No clause says which text it has, and the proof of
-// what calls it is easier where it is not seen.)
-fn not_in_order() -> DecodeError {
-    DecodeError::refusal(faults::UPDATES_NOT_IN_ORDER)
-}
-
 // Reads the version, the number and both updates.
 #[tactic(auto, unfolding(crate::specs::Manifest::head_at))]
 fn take_head(cons: &mut Constructed<'_>) -> Result<(Serial, Time, Time), DecodeError>
@@ -60,7 +54,7 @@ fn take_head(cons: &mut Constructed<'_>) -> Result<(Serial, Time, Time), DecodeE
     if are_in_order(this_update, next_update) {
         Ok((number, this_update, next_update))
     } else {
-        Err(not_in_order())
+        Err(cons.refuse_for(faults::UPDATES_NOT_IN_ORDER))
     }
 }
 
