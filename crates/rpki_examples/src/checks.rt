@@ -8,9 +8,9 @@ ghost use Rattle.rpki_faults.specs.declared.validation.ValidationError.TheVarian
 ghost use Rattle.rpki_faults.specs.declared.validation.ValidationError.TheVariants.{Verification};
 ghost use Rattle.rpki_examples.specs.Checks.{as_checks, moment_checks};
 
-use rpki::extensions::Claims;
 use rpki::error::laws::sets::validated_is_held;
 use rpki::error::{Family, ValidationError, VerificationError, validated};
+use rpki::extensions::Claims;
 use rpki::resources::{AsBlocks, Asn};
 use rpki::x509::{Time, Validity};
 use std::alloc::Global;
