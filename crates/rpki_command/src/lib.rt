@@ -20,7 +20,7 @@ pub mod words;
 
 pub use arguments::{Arguments, ProcessArguments, WordsError, words_of};
 pub use check::check_with;
-pub use entry::{run, start, texts_of};
-pub use program::{answer_order, command};
+pub use entry::{Program, command, run, start, texts_of};
+pub use program::{Objects, answer_order};
 pub use read_log::ReadLog;
 pub use store::{Store, StoreError, SystemFiles, Unread, read_all};

@@ -1,54 +1,56 @@
-//! The program as a function.
+//! The program with verdicts as a function.
 
 ghost use Rattle.std.specs.Prelude.{◌≡◌, ◌≤◌, ◌∷◌, ◌++◌, [], length, IfOk};
-ghost use Rattle.rpki_command.specs.Answer.{run_of, said};
+ghost use Rattle.rpki_command.specs.Answer.{said};
 ghost use Rattle.rpki_command.specs.Check.{CheckOf};
-ghost use Rattle.rpki_command.specs.Command.{order_task, HasRead, IsTaskAnswer};
+ghost use Rattle.rpki_command.specs.Command.{objects_program, order_task, HasRead, IsTaskAnswer};
 ghost use Rattle.rpki_command.specs.Command.{AreReadAtMost, IsOfFiles};
-ghost use Rattle.rpki_command.specs.Command.{unread, IsOfFile, IsAnswer, IsRunOf, HaveRead};
+ghost use Rattle.rpki_command.specs.Command.{unread, IsOfFile, IsAnswer, HaveRead};
 ghost use Rattle.rpki_command.specs.Contents.{LinesOf, IsShown};
 ghost use Rattle.rpki_command.specs.Objects.{ObjectLinesOf};
 ghost use Rattle.rpki_command.specs.Texts.Tal.{TalLines};
 ghost use Rattle.rpki_command.specs.Words.{texts};
 
-use crate::answer::{Answer, say};
+use crate::answer::Answer;
 use crate::check::check_files;
 use crate::contents::show_kind;
+use crate::entry::Program;
 use crate::locator::show_tal;
 use crate::objects::show_object;
 use crate::store::{Store, StoreError, Unread, read_all};
 use crate::words::{Command, Kind, Options, Order, parse};
 use rpki_basics::Time;
-use rpki_der::Sink;
 use std::alloc::{AllocError, Global};
 use std::marker::Model;
 
-/// The program: does what the words ask for, which follow its name, with the files of the store.
-/// Gives the exit status: 0 where lines were shown, after a `yes` where an object was checked, 1
-/// for `malformed`, `refused: CAUSE` and `issuer refused: CAUSE`, all on standard output; 2 for
-/// `usage`, `cannot read FILE` and `bad verdicts`, 3 for `out of memory`, on standard error; and 2
-/// where a write failed, after which nothing more is written.
-pub fn command<S: Store, O: Sink, E: Sink>(
-    alloc: Global,
-    words: &[&str],
-    store: &mut S,
-    out: &mut O,
-    err: &mut E,
-) -> u8
-    ensures run { IsRunOf (S.told store.old) (texts words.now)
-        (S.reads store.old) (S.reads store.new)
-        (run_of O.taken O.failures out.old out.new E.taken E.failures err.old err.new result) }
-    ensures reads { HaveRead (texts words.now) (S.reads store.old) (S.reads store.new) }
-    ensures same { S.told store.new ≡ S.told store.old }
-{
-    say(&answer(alloc, words, store), out, err)
+/// The program with verdicts, `rpki_objects`: it shows contents, objects and locators, and checks
+/// objects by a list of verdicts.
+#[derive(Clone, Copy, Debug)]
+pub struct Objects;
+
+impl Program for Objects {
+    ghost program = { λ _. objects_program };
+
+    fn answer<'a, S: Store>(
+        &self,
+        alloc: Global,
+        words: &'a [&'a str],
+        store: &mut S,
+    ) -> Answer<'a> {
+        answer(alloc, words, store)
+    }
+
+    fn wrong<'a>(&self) -> Answer<'a> {
+        Answer::Usage
+    }
 }
 
 /// What the program answers to its words.
 fn answer<'a, S: Store>(alloc: Global, words: &'a [&'a str], store: &mut S) -> Answer<'a>
-    ensures said { IsAnswer (S.told store.old) (texts words.now)
+    ensures said { IsAnswer objects_program (S.told store.old) (texts words.now)
         (S.reads store.old) (S.reads store.new) (said result) }
-    ensures reads { HaveRead (texts words.now) (S.reads store.old) (S.reads store.new) }
+    ensures reads { HaveRead objects_program (texts words.now)
+        (S.reads store.old) (S.reads store.new) }
     ensures same { S.told store.new ≡ S.told store.old }
 {
     match parse(words) {
@@ -59,10 +61,15 @@ fn answer<'a, S: Store>(alloc: Global, words: &'a [&'a str], store: &mut S) -> A
 
 /// What the program answers to an order. A command that there is not yet is answered with the
 /// usage.
-pub fn answer_order<'a, S: Store>(alloc: Global, order: &Order<'a>, store: &mut S) -> Answer<'a>
-    ensures said { IsTaskAnswer (S.told store.old) (order_task order.now)
+pub fn answer_order<'a, S: Store>(
+    alloc: Global,
+    order: &Order<Command<'a>>,
+    store: &mut S,
+) -> Answer<'a>
+    ensures said { IsTaskAnswer (S.told store.old) (order_task objects_program order.now)
         (S.reads store.old) (S.reads store.new) (said result) }
-    ensures reads { HasRead (order_task order.now) (S.reads store.old) (S.reads store.new) }
+    ensures reads { HasRead (order_task objects_program order.now)
+        (S.reads store.old) (S.reads store.new) }
     ensures same { S.told store.new ≡ S.told store.old }
 {
     match &order.command {
