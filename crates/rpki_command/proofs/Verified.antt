@@ -1,4 +1,3 @@
-pub mod Asking
 pub mod Clocks
 pub mod Listed
 pub mod Optioned

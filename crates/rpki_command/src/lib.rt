@@ -7,6 +7,7 @@ mod arguments;
 mod check;
 mod contents;
 mod entry;
+mod files;
 mod kinds;
 pub mod laws;
 mod locator;

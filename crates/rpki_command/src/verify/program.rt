@@ -1,23 +1,23 @@
 //! The program with signatures as a function.
 
-ghost use Rattle.std.specs.Prelude.{◌≡◌, ◌≤◌, length, IfOk};
+ghost use Rattle.std.specs.Prelude.{◌≡◌, ◌≤◌, ◌++◌, length};
 ghost use Rattle.rpki_command.specs.Answer.{said};
 ghost use Rattle.rpki_command.specs.Command.{order_task, HasRead, IsTaskAnswer};
-ghost use Rattle.rpki_command.specs.Command.{AreReadAtMost, IsOfFiles, IsAnswer, HaveRead};
+ghost use Rattle.rpki_command.specs.Command.{IsAnswer, HaveRead};
 ghost use Rattle.rpki_command.specs.Words.{texts};
-ghost use Rattle.rpki_command.specs.Verify.Check.{VerifiedOf, WorkOf};
+ghost use Rattle.rpki_command.specs.Verify.Check.{VerifiedOf};
 ghost use Rattle.rpki_command.specs.Verify.Command.{verify_program, check_task};
 
 use crate::answer::Answer;
 use crate::entry::Program;
+use crate::files::answer_files;
 use crate::program::answer_order;
-use crate::store::{Store, Unread, read_all};
-use crate::verify::check::{Work, work_files};
+use crate::store::Store;
+use crate::verify::check::{CheckBySignatures, ListSignatures};
 use crate::verify::words::{VerifyCommand, parse};
 use crate::words::{Kind, Options, Order};
 use rpki_basics::Time;
-use std::alloc::{AllocError, Global};
-use std::marker::Model;
+use std::alloc::Global;
 
 /// The program with signatures, `rpki_verify`: it shows what the program with verdicts shows, and
 /// checks objects by their signatures.
@@ -87,117 +87,49 @@ fn answer_verify<'a, S: Store>(
             anchor,
             chain,
         } => {
-            let names = Names {
-                object: file.0,
-                anchor: anchor.0,
-                chain: chain.0,
-            };
-            check_when(alloc, options, kind, moment.moment(now), &names, store)
+            let moment = moment.moment(now);
+            let first = [file.0, anchor.0];
+            check_when(alloc, options, kind, moment, &first, chain.0, store)
         }
         VerifyCommand::Verdicts {
             file,
             anchor,
             chain,
         } => {
-            let names = Names {
-                object: file.0,
-                anchor: anchor.0,
-                chain: chain.0,
-            };
-            work_at(alloc, options, Work::Verdicts, &names, store)
+            let list = ListSignatures { options };
+            let first = [file.0, anchor.0];
+            answer_files(alloc, list, &first, chain.0, store)
         }
     }
 }
 
-/// The files of an object and of certificates, by their names. Contracts see them as a list, in the
-/// order of the words.
-#[derive(Drop)]
-struct Names<'a> {
-    object: &'a str,
-    anchor: &'a str,
-    chain: &'a [&'a str],
-}
-
-impl<'a> Model for Names<'a> {
-    ghost use Rattle.std.specs.Prelude.{ℕ, List, ◌∷◌, map};
-
-    ghost Value = { List (List ℕ) };
-
-    ghost view = { λ n. n.object.now ∷ n.anchor.now ∷ map (λ t. t.now) n.chain.now };
-}
-
-/// What the program answers to a check at a moment, if there is one.
+/// What the program answers to a check of these files at a moment, if there is one.
 fn check_when<'a, S: Store>(
     alloc: Global,
     options: Options,
     kind: Kind,
     moment: Option<Time>,
-    names: &Names<'a>,
+    first: &[&'a str],
+    chain: &[&'a str],
     store: &mut S,
 ) -> Answer<'a>
+    requires { 2 ≤ length first.now }
     ensures said { IsTaskAnswer (S.told store.old)
-        (check_task names.now (VerifiedOf options kind) moment)
+        (check_task (texts (first.now ++ chain.now)) (VerifiedOf options kind) moment)
         (S.reads store.old) (S.reads store.new) (said result) }
-    ensures reads { HasRead (check_task names.now (VerifiedOf options kind) moment)
+    ensures reads { HasRead (check_task (texts (first.now ++ chain.now)) (VerifiedOf options kind) moment)
         (S.reads store.old) (S.reads store.new) }
     ensures same { S.told store.new ≡ S.told store.old }
 {
     match moment {
         None => Answer::NoMoment,
-        Some(now) => work_at(alloc, options, Work::Check(kind, now), names, store),
-    }
-}
-
-/// Answers what this work comes to with the files of these names.
-#[tactic(auto, using(crate::proofs::Asking::by_names))]
-fn work_at<'a, S: Store>(
-    alloc: Global,
-    options: Options,
-    work: Work,
-    names: &Names<'a>,
-    store: &mut S,
-) -> Answer<'a>
-    ensures said { IsOfFiles (S.told store.old) names.now (WorkOf options work)
-        (S.reads store.old) (S.reads store.new) (said result) }
-    ensures reads { AreReadAtMost names.now (S.reads store.old) (S.reads store.new) }
-    ensures same { S.told store.new ≡ S.told store.old }
-{
-    match names_of(alloc, names) {
-        Err(_) => Answer::OutOfMemory,
-        Ok(names) => work_named(alloc, options, work, &names, store),
-    }
-}
-
-/// The names of the files, in the order of the words.
-fn names_of<'a>(alloc: Global, names: &Names<'a>) -> Result<Vec<&'a str>, AllocError>
-    ensures same { IfOk result (λ all. texts all.items ≡ names.now) }
-    ensures many { IfOk result (λ all. 2 ≤ length all.items) }
-{
-    let mut all = Vec::new(alloc);
-    all.push(names.object)?;
-    all.push(names.anchor)?;
-    all.extend_from_slice(names.chain)?;
-    Ok(all)
-}
-
-/// Answers what this work comes to with these files, of which there are two or more.
-#[tactic(auto, using(crate::proofs::Asking::by_reads, crate::proofs::Verified::Asking::two_files))]
-fn work_named<'a, S: Store>(
-    alloc: Global,
-    options: Options,
-    work: Work,
-    names: &[&'a str],
-    store: &mut S,
-) -> Answer<'a>
-    requires { 2 ≤ length names.now }
-    ensures said { IsOfFiles (S.told store.old) (texts names.now) (WorkOf options work)
-        (S.reads store.old) (S.reads store.new) (said result) }
-    ensures reads { AreReadAtMost (texts names.now) (S.reads store.old) (S.reads store.new) }
-    ensures same { S.told store.new ≡ S.told store.old }
-{
-    match read_all(alloc, names, store) {
-        Err(Unread::Unreadable(name)) => Answer::CannotRead(name),
-        Err(Unread::Memory) => Answer::OutOfMemory,
-        Ok(files) => work_files(alloc, options, work, &files),
+        Some(moment) => {
+            let check = CheckBySignatures {
+                options,
+                kind,
+                moment,
+            };
+            answer_files(alloc, check, first, chain, store)
+        }
     }
 }
