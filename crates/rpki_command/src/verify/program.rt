@@ -9,9 +9,9 @@ ghost use Rattle.rpki_command.specs.Verify.Check.{VerifiedOf};
 ghost use Rattle.rpki_command.specs.Verify.Command.{verify_program, check_task};
 
 use crate::answer::Answer;
-use crate::entry::Program;
 use crate::files::answer_files;
 use crate::program::answer_order;
+use crate::runs::Program;
 use crate::store::Store;
 use crate::verify::check::{CheckBySignatures, ListSignatures};
 use crate::verify::words::{VerifyCommand, parse};

@@ -1,7 +1,7 @@
 -- A start runs its words, unless there are none to be had.
 use Rattle.std.proofs.Common.{refl, inl, inr}
 use Rattle.rpki_command.proofs.Running.{of-words, said-as}
-use Rattle.rpki_command.proofs.entry.run.Goals as goal
+use Rattle.rpki_command.proofs.runs.run.Goals as goal
 
 pub returns-in-Err-Memory-clause-started : goal.returns-in-Err-Memory-clause-started
 returns-in-Err-Memory-clause-started g c = inr (inr (record { said = c.say.ensures; reads = refl }))

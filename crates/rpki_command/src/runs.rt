@@ -1,4 +1,5 @@
-//! The start of a program: from its arguments to the status that its process ends with.
+//! What a program is, and how it is run: from its arguments to the status that its process ends
+//! with.
 
 ghost use Rattle.std.specs.Prelude.{◌≡◌, ◌⊎◌, IfOk, map, string_bytes};
 ghost use Rattle.std.specs.Process.{exit_status};
