@@ -1,7 +1,7 @@
 -- What is said of files, by steps.
 use Rattle.std.proofs.Common.{◌≡◌, ◌+◌, ◌≤◌, ℕ, List, ◌++◌, Ok, Err, Vec, Global, inr, subst, sym}
 use Rattle.std.proofs.Common.{ap, ◌∙◌, arith, length}
-use Rattle.std.proofs.lemmas.List.{append-nil, length-map, take_all}
+use Rattle.std.proofs.lemmas.List.{append-nil, length-append, length-map, take_all}
 use Rattle.std.specs.Borrow.{Bor}
 use Rattle.rpki_certs.specs.Issuer.{octets_of}
 use Rattle.rpki_command.specs.Answer.{Output, cannot_read, out_of_memory}
@@ -11,18 +11,24 @@ use Rattle.rpki_command.specs.Words.{texts}
 use Rattle.rpki_command.specs.declared.store.Unread.TheVariants as reads
 
 -- the same names
-pub of-same : (told : Told) (seen names : List (Bor (List ℕ))) (all : List (List ℕ))
+pub of-same : (told : Told) (seen names all : List (Bor (List ℕ)))
     (P : List (List ℕ) → Output → Type 0) (old new : Names) (s : Output)
-    → IsOfFiles told (texts seen) P old new s → texts names ≡ all → seen ≡ names
-    → IsOfFiles told all P old new s
+    → IsOfFiles told (texts seen) P old new s → names ≡ all → seen ≡ names
+    → IsOfFiles told (texts all) P old new s
 of-same told seen names all P old new s h e d =
-    subst (λ (ns : List (List ℕ)). IsOfFiles told ns P old new s) (ap texts d ∙ e) h
+    subst (λ (ns : List (Bor (List ℕ))). IsOfFiles told (texts ns) P old new s) (d ∙ e) h
 
-pub read-same : (seen names : List (Bor (List ℕ))) (all : List (List ℕ)) (old new : Names)
-    → AreReadAtMost (texts seen) old new → texts names ≡ all → seen ≡ names
-    → AreReadAtMost all old new
+pub read-same : (seen names all : List (Bor (List ℕ))) (old new : Names)
+    → AreReadAtMost (texts seen) old new → names ≡ all → seen ≡ names
+    → AreReadAtMost (texts all) old new
 read-same seen names all old new h e d =
-    subst (λ (ns : List (List ℕ)). AreReadAtMost ns old new) (ap texts d ∙ e) h
+    subst (λ (ns : List (Bor (List ℕ))). AreReadAtMost (texts ns) old new) (d ∙ e) h
+
+-- as many names as there are first ones, and more
+pub more-names : (n : ℕ) (seen names first chain : List (Bor (List ℕ))) → n ≤ length first
+    → names ≡ first ++ chain → seen ≡ names → n ≤ length seen
+more-names n seen names first chain l e d =
+    omega (arith, l, ap length d, ap length e, length-append first chain)
 
 -- the first file that can't be read
 pub of-unreadable : (told : Told) (names : List (List ℕ)) (P : List (List ℕ) → Output → Type 0)
@@ -72,18 +78,18 @@ pub some-at-most : (told : Told) (names : Names) (old new : Names)
 some-at-most told names old new a = record { many = a.place + 1; reads = a.reads }
 
 -- as many files as names
-pub three-files : (names : List (Bor (List ℕ))) (files seen : List (Vec ℕ Global))
-    → length files ≡ length (texts names) → seen ≡ files → 3 ≤ length names → 3 ≤ length seen
-three-files names files seen e d l =
+pub as-many-files : (n : ℕ) (names : List (Bor (List ℕ))) (files seen : List (Vec ℕ Global))
+    → length files ≡ length (texts names) → seen ≡ files → n ≤ length names → n ≤ length seen
+as-many-files n names files seen e d l =
     omega (arith, e, l, ap length d, length-map names (λ (x : Bor (List ℕ)). x.now))
 
-pub ruleset by_names = (of-same, read-same, none-at-most)
+pub ruleset by_names = (of-same, read-same, none-at-most, more-names)
 
 pub ruleset by_reads = (
   of-unreadable,
   of-some-read,
   of-all-read,
-  three-files,
+  as-many-files,
   all-at-most,
   first-at-most,
   some-at-most,

@@ -1,13 +1,15 @@
 -- No words ask for two things.
 use Rattle.std.proofs.Common.{rules, ◌≡◌, ◌++◌, ℕ, List, ◌∷◌, Bool, true, false, sym, refl}
-use Rattle.std.proofs.Common.{Option, Some}
+use Rattle.std.proofs.Common.{Option, Some, ap, ◌∙◌}
 use Rattle.rpki_basics.specs.Moment.{Moment, IsMoment}
 use Rattle.rpki_basics.specs.Time.Form.{generalized_text}
 use Rattle.rpki_basics.specs.Time.Read.{generalized_of}
 use Rattle.rpki_basics.proofs.Times.Exact.{exact-generalized}
+use Rattle.rpki_command.specs.Command.{objects_language}
+use Rattle.rpki_command.specs.Language.{IsAsked, AskForNothing}
 use Rattle.rpki_command.specs.Words.{word_if, word_relaxed, word_registered, word_wide}
-use Rattle.rpki_command.specs.Words.{moment_word, command_words, order_words, files_of, are_named}
-use Rattle.rpki_command.specs.Words.{IsInTime, IsAsked, AskForNothing}
+use Rattle.rpki_command.specs.Words.{with_options, moment_word, command_words, files_of, are_named}
+use Rattle.rpki_command.specs.Words.{IsInTime}
 use Rattle.rpki_command.specs.declared.words.Command.{Command}
 use Rattle.rpki_command.specs.declared.words.Command.TheVariants.{Content, ContentRta, Show}
 use Rattle.rpki_command.specs.declared.words.Command.TheVariants.{ShowRta, ShowTal, Check, Rta}
@@ -90,27 +92,35 @@ relaxed-once false true r s v w a b i j e = absurd (not-relaxed _ r v a (sym e))
 relaxed-once false false r s v w a b i j e = let p = registered-once r s v w a b i j e in
     (refl, p.0, p.1, p.2)
 
-abbrev made : Bool → Bool → Bool → Command → Order
+abbrev made : Bool → Bool → Bool → Command → Order Command
 made x r v a = record { options = record { relaxed = x; registered = r; wide = v }; command = a }
 
 made-same : (x y r s v w : Bool) (a b : Command) → x ≡ y → r ≡ s → v ≡ w → a ≡ b
     → made x r v a ≡ made y s w b
 made-same x y r s v w a b h i j k = cc
 
--- no words ask for two things
-pub orders-once : (a b : Order) → IsInTime a.command → IsInTime b.command
-    → order_words a ≡ order_words b → a ≡ b
+pub orders-once : (a b : Order Command) → IsInTime a.command → IsInTime b.command
+    → with_options a.options (command_words a.command)
+    ≡ with_options b.options (command_words b.command) → a ≡ b
 orders-once a b i j e =
     let h = relaxed-once a.options.relaxed b.options.relaxed a.options.registered
     b.options.registered a.options.wide b.options.wide a.command b.command i j e in
     made-same a.options.relaxed b.options.relaxed a.options.registered b.options.registered
     a.options.wide b.options.wide a.command b.command h.0 h.1 h.2 h.3
 
-pub asked-once : (words : List (List ℕ)) (a b : Order) → IsAsked words a → IsAsked words b → a ≡ b
-asked-once words a b h k = let p = h.0 in let q = k.0 in orders-once a b h.2 k.2 cc
+-- no words ask for two things
+pub asked-once : (words : List (List ℕ)) (a b : Order Command) → IsAsked objects_language words a
+    → IsAsked objects_language words b → a ≡ b
+asked-once words a b h k = orders-once a b h.2 k.2 (sym h.0 ∙ k.0)
+
+not-named : (b : Bool) → b ≡ true → b ≡ false → ⊥
+not-named b t f = cc
 
 -- words of a thing whose files have no names ask for nothing
-pub asked-unnamed : (words : List (List ℕ)) (o : Order) → words ≡ order_words o
-    → IsInTime o.command → are_named (files_of o.command) ≡ false → AskForNothing words
-asked-unnamed words o e i n = λ p asked. let f = asked.0 in let g = asked.1 in
-    let same = orders-once o p i asked.2 cc in cc
+pub asked-unnamed : (words : List (List ℕ)) (o : Order Command)
+    → words ≡ with_options o.options (command_words o.command) → IsInTime o.command
+    → are_named (files_of o.command) ≡ false → AskForNothing objects_language words
+asked-unnamed words o e i n = λ p asked.
+    let same = orders-once p o asked.2 i (sym asked.0 ∙ e) in
+    not-named (are_named (files_of p.command)) asked.1
+    (ap (λ (q : Order Command). are_named (files_of q.command)) same ∙ n)

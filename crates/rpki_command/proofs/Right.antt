@@ -25,20 +25,20 @@ use Rattle.rpki_sigobj.specs.Signed.Good.{IsGood, IsNotGood}
 use Rattle.rpki_sigobj.specs.Signed.Kind as signed
 use Rattle.rpki_sigobj.specs.Signed.{Whole, ObjectForm, cert_in}
 use Rattle.rpki_verdicts.specs.Listed.{is_listed}
-use Rattle.rpki_verdicts.specs.Verdicts.{AreVerdicts}
 use Rattle.rpki_command.specs.Answer.{Run, Output, Printed, Complained, IsSaid, IsWhole}
 use Rattle.rpki_command.specs.Answer.{out_of_memory, bad_verdicts, shown}
 use Rattle.rpki_command.specs.Check.{yes_line, passes, issuer_refusal, validation_refusal}
 use Rattle.rpki_command.specs.Check.{IsCheckSaid, IsCheckedAs, CheckedUnder, IsSaidUnder, CheckOf}
-use Rattle.rpki_command.specs.Command.{AreTold, ChecksFiles, IsRunOf}
+use Rattle.rpki_command.specs.Command.{AreTold, ChecksFiles, IsRunOf, objects_language}
+use Rattle.rpki_command.specs.Command.{objects_program}
 use Rattle.rpki_command.specs.Contents.{IsLinesOf}
 use Rattle.rpki_command.specs.Kinds.{OfKind}
+use Rattle.rpki_command.specs.Language.{IsAsked}
 use Rattle.rpki_command.specs.Options.{read_mode}
 use Rattle.rpki_command.specs.Refusal.{refusal}
 use Rattle.rpki_command.specs.Store.{Told, Names}
-use Rattle.rpki_command.specs.Words.{IsAsked}
-use Rattle.rpki_command.specs.Yes.{FilesOfCheck, in_order, check_order, PrintsYes, IsRightYes}
-use Rattle.rpki_command.specs.Yes.{BeginsWithNoGood, IsRightNo}
+use Rattle.rpki_command.specs.Yes.{FilesOfCheck, in_order_with, check_order, PrintsYes}
+use Rattle.rpki_command.specs.Yes.{IsRightYes, BeginsWithNoGood, IsRightNo, HoldsByList}
 use Rattle.rpki_command.specs.declared.words.Kind.{Kind}
 use Rattle.rpki_command.specs.declared.words.Options.{Options}
 
@@ -217,88 +217,102 @@ module _ (s : Output) (options : Options) (kind : Kind) (verdict : Verdict) (iss
 
 -- ---- by its files
 
-module _ (s : Output) (options : Options) (kind : Kind) (now : Moment) (files : FilesOfCheck) where
-  module _ (run : Run) (h : IsSaid s run) (z : run.status ≡ 0) (zero : status_of s ≡ 0) where
-    yes-made : (lines : List (List ℕ)) → AreVerdicts files.verdicts lines
-        → (issuer : Result Validated IssuerError)
-        → MakesIssuer (is_listed lines) now files.anchor files.chain issuer
-        → IsSaidUnder (λ v said.
-        CheckedUnder options kind sha256 (is_listed lines) v now files.object said) issuer s
-        → IsRightYes options kind now files run
-    yes-made lines are (Ok issuer) made is = record {
-      lines = lines;
-      listed = are;
-      issuer = issuer;
-      made = made;
-      yes = yes-under s options kind (is_listed lines) issuer now files.object is run h z zero;
-    }
-    yes-made lines are (Err fault) made (inl e) =
-        absurd (other-status s out_of_memory 0 zero e three)
-    yes-made lines are (Err fault) made (inr e) =
-        absurd (other-status s (issuer_refusal fault) 0 zero e (issuer-is-none fault))
+module _ (s : Output) (options : Options) (kind : Kind) (verdict : Verdict) (now : Moment)
+    (files : FilesOfCheck) where
+  pub yes-made : (run : Run) → IsSaid s run → run.status ≡ 0 → status_of s ≡ 0
+      → (issuer : Result Validated IssuerError)
+      → MakesIssuer verdict now files.anchor files.chain issuer
+      → IsSaidUnder (λ v said.
+      CheckedUnder options kind sha256 verdict v now files.object said) issuer s
+      → IsRightYes options kind verdict now files run
+  yes-made run h z zero (Ok issuer) made is = record {
+    issuer = issuer;
+    made = made;
+    yes = yes-under s options kind verdict issuer now files.object is run h z zero;
+  }
+  yes-made run h z zero (Err fault) made (inl e) =
+      absurd (other-status s out_of_memory 0 zero e three)
+  yes-made run h z zero (Err fault) made (inr e) =
+      absurd (other-status s (issuer_refusal fault) 0 zero e (issuer-is-none fault))
 
-    yes-of : CheckOf options kind now (in_order files) s → IsRightYes options kind now files run
-    yes-of (inl n) = absurd (other-status s bad_verdicts 0 zero n.1 two)
-    yes-of (inr c) = yes-made c.0 c.1 c.2.0 c.2.1 c.2.2
+  pub no-made : status_of s ≡ 1 → (issuer : Result Validated IssuerError)
+      → MakesIssuer verdict now files.anchor files.chain issuer
+      → IsSaidUnder (λ v said.
+      CheckedUnder options kind sha256 verdict v now files.object said) issuer s
+      → IsRightNo options kind verdict now files
+  no-made first (Ok issuer) made is = inr (record {
+    issuer = issuer;
+    made = made;
+    no = no-under s options kind verdict issuer now files.object is first;
+  })
+  no-made first (Err fault) made (inl e) =
+      absurd (other-status s out_of_memory 1 first e (λ (n : 3 ≡ 1). omega (arith, n)))
+  no-made first (Err fault) made (inr e) = inl (record {
+    fault = fault;
+    made = made;
+    has_memory = λ m. other-status s out_of_memory 1 first (e ∙ m)
+        (λ (n : 3 ≡ 1). omega (arith, n));
+  })
 
-  module _ (first : status_of s ≡ 1) where
-    no-made : (lines : List (List ℕ)) → AreVerdicts files.verdicts lines
-        → (issuer : Result Validated IssuerError)
-        → MakesIssuer (is_listed lines) now files.anchor files.chain issuer
-        → IsSaidUnder (λ v said.
-        CheckedUnder options kind sha256 (is_listed lines) v now files.object said) issuer s
-        → IsRightNo options kind now files
-    no-made lines are (Ok issuer) made is = record {
-      lines = lines;
-      listed = are;
-      no = inr (record {
-        issuer = issuer;
-        made = made;
-        no = no-under s options kind (is_listed lines) issuer now files.object is first;
-      });
-    }
-    no-made lines are (Err fault) made (inl e) =
-        absurd (other-status s out_of_memory 1 first e (λ (n : 3 ≡ 1). omega (arith, n)))
-    no-made lines are (Err fault) made (inr e) = record {
-      lines = lines;
-      listed = are;
-      no = inl (record {
-        fault = fault;
-        made = made;
-        has_memory = λ m. other-status s out_of_memory 1 first (e ∙ m)
-            (λ (n : 3 ≡ 1). omega (arith, n));
-      });
-    }
+module _ (s : Output) (options : Options) (kind : Kind) (now : Moment) (files : FilesOfCheck)
+    (text : List ℕ) where
+  yes-of : (run : Run) → IsSaid s run → run.status ≡ 0 → status_of s ≡ 0
+      → CheckOf options kind now (in_order_with text files) s
+      → HoldsByList (λ verdict. IsRightYes options kind verdict now files run) text
+  yes-of run h z zero (inl n) = absurd (other-status s bad_verdicts 0 zero n.1 two)
+  yes-of run h z zero (inr c) = record {
+    lines = c.0;
+    listed = c.1;
+    holds = yes-made s options kind (is_listed c.0) now files run h z zero c.2.0 c.2.1 c.2.2;
+  }
 
-    no-of : CheckOf options kind now (in_order files) s → IsRightNo options kind now files
-    no-of (inl n) =
-        absurd (other-status s bad_verdicts 1 first n.1 (λ (m : 2 ≡ 1). omega (arith, m)))
-    no-of (inr c) = no-made c.0 c.1 c.2.0 c.2.1 c.2.2
+  no-of : status_of s ≡ 1 → CheckOf options kind now (in_order_with text files) s
+      → HoldsByList (λ verdict. IsRightNo options kind verdict now files) text
+  no-of first (inl n) =
+      absurd (other-status s bad_verdicts 1 first n.1 (λ (m : 2 ≡ 1). omega (arith, m)))
+  no-of first (inr c) = record {
+    lines = c.0;
+    listed = c.1;
+    holds = no-made s options kind (is_listed c.0) now files first c.2.0 c.2.1 c.2.2;
+  }
 
 -- ---- by the run
 
+module _ (told : Told) (names octets : Names) (P : List (List ℕ) → Output → Type 0)
+    (old new : Names) (run : Run) (done : ChecksFiles told names P old new run)
+    (tells : AreTold told names octets) where
+  -- what is said by a run that ends with this status, which is not that of a failure
+  pub said-with : (n : ℕ) → run.status ≡ n → (n ≡ 2 → ⊥) → (3 ≡ n → ⊥)
+      → (s : Output) × P octets s × IsSaid s run × (status_of s ≡ n)
+  said-with n z failed memory = elim (done.checked octets tells) [
+    | inl m ↦ absurd (memory (status-said out_of_memory run n m z failed))
+    | inr c ↦ (c.1, c.2, c.3, status-said c.1 run n c.3 z failed)
+  ]
+
+  pub said-yes : run.status ≡ 0 → (s : Output) × P octets s × IsSaid s run × (status_of s ≡ 0)
+  said-yes z = said-with 0 z (λ (n : 0 ≡ 2). omega (arith, n)) three
+
+  pub said-no : run.status ≡ 1 → (s : Output) × P octets s × IsSaid s run × (status_of s ≡ 1)
+  said-no z = said-with 1 z (λ (n : 1 ≡ 2). omega (arith, n)) (λ (n : 3 ≡ 1). omega (arith, n))
+
 module _ (told : Told) (words : List (List ℕ)) (old new : Names) (run : Run) (options : Options)
-    (kind : Kind) (now : Moment) (names files : FilesOfCheck) (is : IsRunOf told words old new run)
-    (asked : IsAsked words (check_order options kind now names))
-    (tells : AreTold told (in_order names) (in_order files)) where
-  done : ChecksFiles told (in_order names) (CheckOf options kind now) old new run
-  done = is.done (check_order options kind now names) asked
+    (kind : Kind) (now : Moment) (names files : FilesOfCheck) (list text : List ℕ)
+    (is : IsRunOf objects_program told words old new run)
+    (asked : IsAsked objects_language words (check_order options kind now list names))
+    (tells : AreTold told (in_order_with list names) (in_order_with text files)) where
+  done : ChecksFiles told (in_order_with list names) (CheckOf options kind now) old new run
+  done = is.done (check_order options kind now list names) asked
 
-  pub right-yes : run.status ≡ 0 → IsRightYes options kind now files run
-  right-yes z = elim (done.checked (in_order files) tells) [
-    | inl m ↦
-        absurd (three (status-said out_of_memory run 0 m z (λ (n : 0 ≡ 2). omega (arith, n))))
-    | inr c ↦
-        let zero = status-said c.1 run 0 c.3 z (λ (n : 0 ≡ 2). omega (arith, n)) in
-        yes-of c.1 options kind now files run c.3 z zero c.2
-  ]
+  pub right-yes : run.status ≡ 0
+      → HoldsByList (λ verdict. IsRightYes options kind verdict now files run) text
+  right-yes z =
+      let c = said-yes told (in_order_with list names) (in_order_with text files)
+      (CheckOf options kind now) old new run done tells z in
+      yes-of c.0 options kind now files text run c.2 z c.3 c.1
 
-  pub right-no : run.status ≡ 1 → IsRightNo options kind now files
-  right-no z = elim (done.checked (in_order files) tells) [
-    | inl m ↦
-        let n : 3 ≡ 1 = status-said out_of_memory run 1 m z (λ (k : 1 ≡ 2). omega (arith, k)) in
-        absurd (omega (arith, n))
-    | inr c ↦
-        let first = status-said c.1 run 1 c.3 z (λ (n : 1 ≡ 2). omega (arith, n)) in
-        no-of c.1 options kind now files first c.2
-  ]
+  pub right-no : run.status ≡ 1
+      → HoldsByList (λ verdict. IsRightNo options kind verdict now files) text
+  right-no z =
+      let c = said-no told (in_order_with list names) (in_order_with text files)
+      (CheckOf options kind now) old new run done tells z in
+      no-of c.0 options kind now files text c.3 c.1

@@ -6,24 +6,24 @@ use Rattle.std.proofs.Math.Seq.{get_or-append_seam}
 use Rattle.std.proofs.lemmas.Bool.{cases_order}
 use Rattle.std.proofs.lemmas.List.{append_assoc, get_or_append_left, length-append, take_at}
 use Rattle.std.specs.Prelude.{◌⊎◌}
-use Rattle.rpki_command.specs.Answer.{Run, Output, IsSaid, usage, cannot_read, out_of_memory}
+use Rattle.rpki_command.specs.Answer.{Run, Output, IsSaid, cannot_read, out_of_memory}
 use Rattle.rpki_command.specs.Answer.{malformed, shown}
-use Rattle.rpki_command.specs.Command.{IsOfRead, IsOfFile, Task, ShowLines, CheckFiles, NotThere}
-use Rattle.rpki_command.specs.Command.{order_task, IsOfReads, IsOfFiles, AreTold, ChecksFiles}
-use Rattle.rpki_command.specs.Command.{IsTaskAnswer, IsAnswer, OrOutOfMemory, Shows, IsTaskDone}
-use Rattle.rpki_command.specs.Command.{IsRunOf, IsRunWith, IsSaidUnread, IsStartOf}
+use Rattle.rpki_command.specs.Command.{IsOfRead, IsOfFile, Task, Say, ShowLines, CheckFiles}
+use Rattle.rpki_command.specs.Command.{Program, order_task, IsOfReads, IsOfFiles, AreTold}
+use Rattle.rpki_command.specs.Command.{ChecksFiles, IsTaskAnswer, IsAnswer, OrOutOfMemory, Shows}
+use Rattle.rpki_command.specs.Command.{IsTaskDone, HasRead, IsRunOf, HaveRead, IsRunWith}
+use Rattle.rpki_command.specs.Command.{IsSaidUnread, IsStartOf}
 use Rattle.rpki_command.specs.Arguments.{ToldArguments, AreTexts}
 use Rattle.rpki_command.specs.Contents.{HasNoLines, IsSaidOf, IsShown}
 use Rattle.rpki_command.specs.Store.{Told, Names, IsRead, AreRead, AreReadTo, AreAllRead}
 use Rattle.rpki_command.specs.Store.{IsFirstUnreadable}
-use Rattle.rpki_command.specs.Words.{IsAsked, AskForNothing}
+use Rattle.rpki_command.specs.Language.{Language, IsAsked, AskForNothing}
 use Rattle.rpki_certs.specs.Issuer.{octets_of}
 use Rattle.rpki_command.specs.declared.store.Unread.{Unread}
 use Rattle.rpki_command.specs.declared.store.Unread.TheVariants as reads
 use Rattle.rpki_command.specs.declared.store.StoreError.{StoreError}
 use Rattle.rpki_command.specs.declared.store.StoreError.TheVariants.{Unreadable, Memory}
 use Rattle.rpki_command.specs.declared.words.Order.{Order}
-use Rattle.rpki_command.proofs.Orders.{asked-once}
 
 pub said-as : (s is : Output) (run : Run) → s ≡ is → IsSaid s run → IsSaid is run
 said-as s is run e h = subst (λ (x : Output). IsSaid x run) e h
@@ -225,36 +225,53 @@ module _ (told : Told) (P : List (List ℕ) → Output → Type 0) (old new : Na
 module _ (told : Told) (old new : Names) (s : Output) (run : Run) (h : IsSaid s run) where
   pub task-done : (task : Task) → IsTaskAnswer told task old new s
       → IsTaskDone told task old new run
+  task-done (Say x) a = said-as s x run a h
   task-done (ShowLines file lines_of) a = shows lines_of s run h told file a
   task-done (CheckFiles files P) a = checks told P old new s run h files a
-  task-done NotThere a = said-as s usage run a h
 
-  order-done : (words : List (List ℕ)) (o : Order) → IsAsked words o
-      → IsAnswer told words old new s → IsTaskDone told (order_task o) old new run
-  order-done words o asked (inl a) =
-      task-done (order_task o)
-      (subst (λ (p : Order). IsTaskAnswer told (order_task p) old new s)
-      (asked-once words a.0 o a.1 asked) a.2)
-  order-done words o asked (inr a) = absurd (a.0 o asked)
+-- no words ask a program for two things
+abbrev pub IsAskedOnce : Language → Type 0
+IsAskedOnce l = (words : List (List ℕ)) (a b : Order l.Command) → IsAsked l words a
+    → IsAsked l words b → a ≡ b
 
-  usage-said : (words : List (List ℕ)) → AskForNothing words → IsAnswer told words old new s
-      → IsSaid usage run
-  usage-said words nothing (inl a) = absurd (nothing a.0 a.1)
-  usage-said words nothing (inr a) = said-as s usage run a.1 h
+module _ (p : Program) (once : IsAskedOnce p.language) (told : Told) (old new : Names)
+    (words : List (List ℕ)) where
+  module _ (s : Output) (is : IsAnswer p told words old new s) (run : Run) (h : IsSaid s run) where
+    order-done : (o : Order p.language.Command) → IsAsked p.language words o
+        → IsAnswer p told words old new s → IsTaskDone told (order_task p o) old new run
+    order-done o asked (inl a) =
+        task-done told old new s run h (order_task p o)
+        (subst (λ (q : Order p.language.Command). IsTaskAnswer told (order_task p q) old new s)
+        (once words a.0 o a.1 asked) a.2)
+    order-done o asked (inr a) = absurd (a.0 o asked)
 
-  pub run-said : (words : List (List ℕ)) → IsAnswer told words old new s
-      → IsRunOf told words old new run
-  run-said words is = record {
-    usage = λ nothing. usage-said words nothing is;
-    done = λ o asked. order-done words o asked is;
-    answered = (s, is, h);
+    wrong-said : AskForNothing p.language words → IsAnswer p told words old new s
+        → IsSaid p.wrong run
+    wrong-said nothing (inl a) = absurd (nothing a.0 a.1)
+    wrong-said nothing (inr a) = said-as s p.wrong run a.1 h
+
+    pub run-said : IsRunOf p told words old new run
+    run-said = record {
+      wrong = λ nothing. wrong-said nothing is;
+      done = λ o asked. order-done o asked is;
+      answered = (s, is, h);
+    }
+
+  -- the reads of an order that is asked are those of what the words ask for
+  pub read-once : (o : Order p.language.Command) → IsAsked p.language words o
+      → HasRead (order_task p o) old new → HaveRead p words old new
+  read-once o asked has = record {
+    wrong = λ nothing. absurd (nothing o asked);
+    done = λ other also. subst
+        (λ (q : Order p.language.Command). HasRead (order_task p q) old new)
+        (once words o other asked also) has;
   }
 
 -- the words follow, and are run unless memory runs out
-pub of-words : (arguments : ToldArguments) (told : Told) (words : List (List ℕ)) (old new : Names)
-    (run : Run)
+pub of-words : (p : Program) (arguments : ToldArguments) (told : Told) (words : List (List ℕ))
+    (old new : Names) (run : Run)
     → AreTexts arguments words
-    → IsSaidUnread out_of_memory old new run ⊎ IsRunWith told words old new run
-    → IsStartOf arguments told old new run
-of-words arguments told words old new run f (inl h) = inr (inr h)
-of-words arguments told words old new run f (inr h) = inl (words, f, h)
+    → IsSaidUnread out_of_memory old new run ⊎ IsRunWith p told words old new run
+    → IsStartOf p arguments told old new run
+of-words p arguments told words old new run f (inl h) = inr (inr h)
+of-words p arguments told words old new run f (inr h) = inl (words, f, h)

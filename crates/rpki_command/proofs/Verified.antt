@@ -1,9 +1,7 @@
-pub mod Asking
 pub mod Clocks
 pub mod Listed
 pub mod Optioned
-pub mod Requests
+pub mod Orders
 pub mod Right
-pub mod Running
 pub mod Sufficing
 pub mod Verifying

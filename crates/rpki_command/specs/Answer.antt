@@ -4,7 +4,8 @@ use Rattle.std.specs.Io.KnownBytes.{Appends}
 use Rattle.rpki_der.specs.Write.Sink.{AppendsFront}
 use Rattle.rpki_der.specs.Write.Encode.{Sunk}
 use Rattle.rpki_command.specs.declared.answer.Answer.{Answer}
-use Rattle.rpki_command.specs.declared.answer.Answer.TheVariants.{Usage, CannotRead, BadVerdicts}
+use Rattle.rpki_command.specs.declared.answer.Answer.TheVariants.{Usage, Help, WrongWords}
+use Rattle.rpki_command.specs.declared.answer.Answer.TheVariants.{NoMoment, CannotRead, BadVerdicts}
 use Rattle.rpki_command.specs.declared.answer.Answer.TheVariants.{OutOfMemory, Malformed, Refused}
 use Rattle.rpki_command.specs.declared.answer.Answer.TheVariants.{IssuerMalformed, IssuerRefused}
 use Rattle.rpki_command.specs.declared.answer.Answer.TheVariants.{Shown}
@@ -66,6 +67,30 @@ pub data Output : Type 0 where
 abbrev pub usage : Output
 usage = Complained (codes "usage\n") 2
 
+-- how the program with signatures is called
+abbrev pub usage_text : List ℕ
+usage_text = codes "usage: rpki_verify [OPTION ..] check KIND FILE MOMENT TA [CA ..]\n"
+    ++ (codes "       rpki_verify [OPTION ..] verdicts FILE TA [CA ..]\n"
+    ++ (codes "       rpki_verify [OPTION ..] show KIND FILE\n"
+    ++ (codes "       rpki_verify [OPTION ..] content KIND FILE\n"
+    ++ (codes "       rpki_verify show tal FILE\n"
+    ++ (codes "       rpki_verify --help\n"
+    ++ (codes "OPTION, in this order: --relaxed --registered --wide\n"
+    ++ (codes "KIND: aspa, manifest, roa or rsc\n"
+    ++ codes "MOMENT: now, or YYYYMMDDHHMMSSZ\n")))))))
+
+-- that program says how it is called
+abbrev pub help : Output
+help = Printed usage_text 0
+
+-- the words are those of no order of that program: what is expected
+abbrev pub wrong_words : Output
+wrong_words = Complained (codes "wrong words, expected:\n" ++ usage_text) 2
+
+-- the clock tells no moment
+abbrev pub no_moment : Output
+no_moment = Complained (codes "cannot tell the time\n") 2
+
 -- a file can't be read
 abbrev pub cannot_read : List ℕ → Output
 cannot_read file = Complained (codes "cannot read " ++ (file ++ codes "\n")) 2
@@ -109,6 +134,9 @@ shown lines = Printed lines 0
 -- what an answer says
 abbrev pub said : Answer → Output
 said Usage = usage
+said Help = help
+said WrongWords = wrong_words
+said NoMoment = no_moment
 said (CannotRead file) = cannot_read file.now
 said BadVerdicts = bad_verdicts
 said OutOfMemory = out_of_memory

@@ -1,5 +1,5 @@
--- What the program answers to its words, and what a run of it does. What `old` and `new` are is
--- said with `Names` (specs/Store.antt).
+-- What a program answers to its words, and what a run of it does. What `old` and `new` are is said
+-- with `Names` (specs/Store.antt).
 use Rattle.std.specs.Prelude.{◌≡◌, ℕ, ◌⊎◌, List, [], ◌∷◌, ◌++◌, take, map, None, Some}
 use Rattle.std.specs.Prelude.{Result, Ok, Err, Vec}
 use Rattle.std.specs.declared.alloc.Global.{Global}
@@ -9,10 +9,11 @@ use Rattle.rpki_command.specs.Answer.{malformed, shown}
 use Rattle.rpki_command.specs.Arguments.{ToldArguments, AreTexts, HaveNoText}
 use Rattle.rpki_command.specs.Check.{CheckOf}
 use Rattle.rpki_command.specs.Contents.{LinesOf, HasNoLines, IsShown}
+use Rattle.rpki_command.specs.Language.{Language, IsAsked, AskForNothing}
 use Rattle.rpki_command.specs.Objects.{ObjectLinesOf}
 use Rattle.rpki_command.specs.Texts.Tal.{TalLines}
 use Rattle.rpki_command.specs.Store.{Told, Names, IsRead, AreRead}
-use Rattle.rpki_command.specs.Words.{IsAsked, AskForNothing}
+use Rattle.rpki_command.specs.Words.{command_words, files_of, IsInTime}
 use Rattle.rpki_command.specs.declared.store.StoreError.{StoreError}
 use Rattle.rpki_command.specs.declared.store.StoreError.TheVariants.{Unreadable, Memory}
 use Rattle.rpki_command.specs.declared.store.Unread.{Unread}
@@ -40,26 +41,47 @@ IsOfFile told name P s = (read : Result (Vec ℕ Global) StoreError) × IsRead (
 
 -- What an order comes to.
 pub data Task : Type 1 where
+  -- to say this, and to read no file
+  Say : (s : Output) → Task
   -- to show the lines of what stands in a file
   ShowLines : (file : List ℕ) (lines_of : List ℕ → List ℕ → Type 0) → Task
   -- to read these files, in this order, and to say what is said of their octets
   CheckFiles : (files : List (List ℕ)) (answers : List (List ℕ) → Output → Type 0) → Task
-  -- nothing: the command is not built
-  NotThere : Task
 
--- What each command comes to with these options: the table of the commands. A locator is a text, of
--- which no option speaks.
+-- What each command of the program with verdicts comes to with these options: the table of its
+-- commands. A locator is a text, of which no option speaks. Where a command is not built, the usage
+-- is said.
 abbrev pub command_task : Options → Command → Task
 command_task options (Content kind file) = ShowLines file (LinesOf options kind)
 command_task options (Show kind file) = ShowLines file (ObjectLinesOf options kind)
 command_task options (ShowTal file) = ShowLines file TalLines
 command_task options (Check kind file moment verdicts anchor chain) =
     CheckFiles (file ∷ verdicts ∷ anchor ∷ chain) (CheckOf options kind moment)
-command_task options other = NotThere
+command_task options other = Say usage
+
+-- A program: how its orders are written, what a command comes to with options, and what is said to
+-- words that ask for nothing.
+pub record Program : Type 1 where
+  pub language : Language
+  pub task : Options → language.Command → Task
+  pub wrong : Output
 
 -- what an order comes to
-abbrev pub order_task : Order → Task
-order_task o = command_task o.options o.command
+abbrev pub order_task : (p : Program) → Order p.language.Command → Task
+order_task p o = p.task o.options o.command
+
+-- how the orders of the program with verdicts are written
+abbrev pub objects_language : Language
+objects_language = record {
+  Command = Command;
+  words = command_words;
+  files = files_of;
+  IsFit = IsInTime;
+}
+
+-- the program with verdicts
+abbrev pub objects_program : Program
+objects_program = record { language = objects_language; task = command_task; wrong = usage }
 
 -- what is said where reads of files answer this
 abbrev pub IsOfReads : (List (List ℕ) → Output → Type 0) → Result (Vec (Vec ℕ Global) Global) Unread
@@ -82,9 +104,9 @@ IsOfFiles told files P old new s =
 -- What is said for a task; for `CheckFiles`, together with which of the files are read for that.
 -- What the other tasks read, `HasRead` says.
 abbrev pub IsTaskAnswer : Told → Task → Names → Names → Output → Type 0
+IsTaskAnswer told (Say x) old new s = s ≡ x
 IsTaskAnswer told (ShowLines file lines_of) old new s = IsOfFile told file (IsShown lines_of) s
 IsTaskAnswer told (CheckFiles files P) old new s = IsOfFiles told files P old new s
-IsTaskAnswer told NotThere old new s = s ≡ usage
 
 -- None, some or all of these files are read: those up to some place, in their order, each once, and
 -- no other.
@@ -95,16 +117,17 @@ pub record AreReadAtMost (files old new : Names) : Type 0 where
 -- Which files a task reads. For `CheckFiles`, `IsTaskAnswer` says more: which of them are read for
 -- what is said.
 abbrev pub HasRead : Task → Names → Names → Type 0
+HasRead (Say x) old new = new ≡ old
 HasRead (ShowLines file lines_of) old new = new ≡ old ++ file ∷ []
 HasRead (CheckFiles files P) old new = AreReadAtMost files old new
-HasRead NotThere old new = new ≡ old
 
--- What is said for the order that the words ask for, or the usage where they ask for none; for
--- `CheckFiles`, together with which of the files are read for that.
-abbrev pub IsAnswer : Told → List (List ℕ) → Names → Names → Output → Type 0
-IsAnswer told words old new s =
-    ((o : Order) × IsAsked words o × IsTaskAnswer told (order_task o) old new s)
-    ⊎ (AskForNothing words × (s ≡ usage))
+-- What is said for the order that the words ask for, or that they are wrong where they ask for
+-- none; for `CheckFiles`, together with which of the files are read for that.
+abbrev pub IsAnswer : Program → Told → List (List ℕ) → Names → Names → Output → Type 0
+IsAnswer p told words old new s =
+    ((o : Order p.language.Command) × IsAsked p.language words o
+    × IsTaskAnswer told (order_task p o) old new s)
+    ⊎ (AskForNothing p.language words × (s ≡ p.wrong))
 
 -- this is said, unless memory runs out
 abbrev pub OrOutOfMemory : Output → Run → Type 0
@@ -143,31 +166,33 @@ pub record ChecksFiles (told : Told) (files : Names) (P : List (List ℕ) → Ou
 
 -- the run does a task
 abbrev pub IsTaskDone : Told → Task → Names → Names → Run → Type 0
+IsTaskDone told (Say x) old new run = IsSaid x run
 IsTaskDone told (ShowLines file lines_of) old new run = Shows told file lines_of run
 IsTaskDone told (CheckFiles files P) old new run = ChecksFiles told files P old new run
-IsTaskDone told NotThere old new run = IsSaid usage run
 
--- What a run of the program does, where the store tells this of each file by its name.
-pub record IsRunOf (told : Told) (words : List (List ℕ)) (old new : Names) (run : Run)
-    : Type 0 where
+-- What a run of a program does, where the store tells this of each file by its name.
+pub record IsRunOf (p : Program) (told : Told) (words : List (List ℕ)) (old new : Names)
+    (run : Run) : Type 0 where
   -- words that ask for nothing
-  pub usage : AskForNothing words → IsSaid usage run
+  pub wrong : AskForNothing p.language words → IsSaid p.wrong run
   -- words that ask for this
-  pub done : (o : Order) → IsAsked words o → IsTaskDone told (order_task o) old new run
+  pub done : (o : Order p.language.Command) → IsAsked p.language words o
+      → IsTaskDone told (order_task p o) old new run
   -- whatever the store tells, one answer is said
-  pub answered : (s : Output) × IsAnswer told words old new s × IsSaid s run
+  pub answered : (s : Output) × IsAnswer p told words old new s × IsSaid s run
 
 -- Which files a run reads: none for words that ask for nothing, and for others those that their
 -- task reads.
-pub record HaveRead (words : List (List ℕ)) (old new : Names) : Type 0 where
-  pub usage : AskForNothing words → new ≡ old
-  pub done : (o : Order) → IsAsked words o → HasRead (order_task o) old new
+pub record HaveRead (p : Program) (words : List (List ℕ)) (old new : Names) : Type 0 where
+  pub wrong : AskForNothing p.language words → new ≡ old
+  pub done : (o : Order p.language.Command) → IsAsked p.language words o
+      → HasRead (order_task p o) old new
 
 -- the words are run, with the reads that they ask for
-pub record IsRunWith (told : Told) (words : List (List ℕ)) (old new : Names) (run : Run)
-    : Type 0 where
-  pub done : IsRunOf told words old new run
-  pub reads : HaveRead words old new
+pub record IsRunWith (p : Program) (told : Told) (words : List (List ℕ)) (old new : Names)
+    (run : Run) : Type 0 where
+  pub done : IsRunOf p told words old new run
+  pub reads : HaveRead p words old new
 
 -- this is said, and no file is read
 pub record IsSaidUnread (s : Output) (old new : Names) (run : Run) : Type 0 where
@@ -175,11 +200,11 @@ pub record IsSaidUnread (s : Output) (old new : Names) (run : Run) : Type 0 wher
   pub reads : new ≡ old
 
 -- What the start of a program does: it runs the words after the program's name. Where one of them
--- is no text (UTF-8) it says the usage instead, and where memory runs out before they are run it
--- says that; either way it reads no file. Where the arguments are not told, the words may be any
--- texts, and the usage may be said as well.
-abbrev pub IsStartOf : ToldArguments → Told → Names → Names → Run → Type 0
-IsStartOf arguments told old new run =
-    ((words : List (List ℕ)) × AreTexts arguments words × IsRunWith told words old new run)
-    ⊎ ((HaveNoText arguments × IsSaidUnread usage old new run)
+-- is no text (UTF-8) it says that they are wrong instead, and where memory runs out before they are
+-- run it says that; either way it reads no file. Where the arguments are not told, the words may be
+-- any texts, and it may be said as well that they are wrong.
+abbrev pub IsStartOf : Program → ToldArguments → Told → Names → Names → Run → Type 0
+IsStartOf p arguments told old new run =
+    ((words : List (List ℕ)) × AreTexts arguments words × IsRunWith p told words old new run)
+    ⊎ ((HaveNoText arguments × IsSaidUnread p.wrong old new run)
     ⊎ IsSaidUnread out_of_memory old new run)

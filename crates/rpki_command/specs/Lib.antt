@@ -6,6 +6,7 @@ pub mod Contents
 pub mod Grows
 pub mod Ia5
 pub mod Kinds
+pub mod Language
 pub mod Objects
 pub mod Options
 pub mod Refusal

@@ -2,7 +2,6 @@
 pub mod Check
 pub mod Clock
 pub mod Command
-pub mod Reply
 pub mod Sufficing
 pub mod Words
 pub mod Yes

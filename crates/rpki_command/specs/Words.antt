@@ -1,5 +1,5 @@
--- The command line: what each order is written as.
-use Rattle.std.specs.Prelude.{◌≡◌, ℕ, List, [], ◌∷◌, ◌++◌, Bool, true, false, not, ◌&&◌, ◌==◌}
+-- The command line: what options and commands are written as.
+use Rattle.std.specs.Prelude.{ℕ, List, [], ◌∷◌, ◌++◌, Bool, true, false, not, ◌&&◌, ◌==◌}
 use Rattle.std.specs.Prelude.{length, map, codes}
 use Rattle.std.specs.Borrow.{Bor}
 use Rattle.rpki_basics.specs.Moment.{Moment, IsMoment}
@@ -9,7 +9,7 @@ use Rattle.rpki_command.specs.declared.words.Kind.TheVariants.{Aspa, Manifest, R
 use Rattle.rpki_command.specs.declared.words.Command.{Command}
 use Rattle.rpki_command.specs.declared.words.Command.TheVariants.{Content, ContentRta, Show}
 use Rattle.rpki_command.specs.declared.words.Command.TheVariants.{ShowRta, ShowTal, Check, Rta}
-use Rattle.rpki_command.specs.declared.words.Order.{Order}
+use Rattle.rpki_command.specs.declared.words.Options.{Options}
 
 -- the words as lists of octets
 abbrev pub texts : List (Bor (List ℕ)) → List (List ℕ)
@@ -39,6 +39,12 @@ word_registered = codes "--registered"
 abbrev pub word_wide : List ℕ
 word_wide = codes "--wide"
 
+-- these words after the options `--relaxed`, `--registered` and `--wide`, each of which stands at
+-- most once, and in this order
+abbrev pub with_options : Options → List (List ℕ) → List (List ℕ)
+with_options o words = word_if o.relaxed word_relaxed
+    ++ (word_if o.registered word_registered ++ (word_if o.wide word_wide ++ words))
+
 -- the word of a moment, YYYYMMDDHHMMSSZ (RFC 5280, section 4.1.2.5.2)
 unfoldable pub moment_word : Moment → List ℕ
 moment_word m = generalized_text m
@@ -54,12 +60,6 @@ command_words (Check kind file moment verdicts anchor chain) =
     codes "check" ∷ kind_word kind ∷ file ∷ moment_word moment ∷ verdicts ∷ anchor ∷ chain
 command_words (Rta file moment verdicts anchor anchors) =
     codes "rta" ∷ file ∷ moment_word moment ∷ verdicts ∷ anchor ∷ anchors
-
--- the words, without the program's name, that an order is written as
-abbrev pub order_words : Order → List (List ℕ)
-order_words o = word_if o.options.relaxed word_relaxed
-    ++ (word_if o.options.registered word_registered
-    ++ (word_if o.options.wide word_wide ++ command_words o.command))
 
 -- The files that are named by a word, in the order of the words; of an attestation, which is not
 -- built, without those of its anchors.
@@ -82,14 +82,3 @@ abbrev pub IsInTime : Command → Type 0
 IsInTime (Check kind file moment verdicts anchor chain) = IsMoment moment
 IsInTime (Rta file moment verdicts anchor anchors) = IsMoment moment
 IsInTime other = Unit {0}
-
--- The words ask for this: they are its words, each file has a name, and the moment is one of the
--- calendar.
-abbrev pub IsAsked : List (List ℕ) → Order → Type 0
-IsAsked words o =
-    (words ≡ order_words o) × (are_named (files_of o.command) ≡ true) × IsInTime o.command
-
--- The words ask for no order, as `IsAsked` says: they are those of none, or only of one in which a
--- file has no name or the moment is not one of the calendar.
-abbrev pub AskForNothing : List (List ℕ) → Type 0
-AskForNothing words = (o : Order) → IsAsked words o → ⊥

@@ -20,28 +20,32 @@ use Rattle.rpki_command.specs.Answer.{Run, IsWhole, out_of_memory}
 use Rattle.rpki_command.specs.Check.{yes_line, issuer_refusal}
 use Rattle.rpki_command.specs.Kinds.{OfKind}
 use Rattle.rpki_command.specs.Options.{read_mode}
+use Rattle.rpki_command.specs.declared.words.Command.{Command}
 use Rattle.rpki_command.specs.declared.words.Command.TheVariants as commands
 use Rattle.rpki_command.specs.declared.words.Kind.{Kind}
 use Rattle.rpki_command.specs.declared.words.Options.{Options}
 use Rattle.rpki_command.specs.declared.words.Order.{Order}
 
--- The files of a check: the name of each, or its octets.
+-- The files of an object and of certificates: the name of each, or its octets.
 pub record FilesOfCheck : Type 0 where
   pub object : List ℕ
-  pub verdicts : List ℕ
   pub anchor : List ℕ
   pub chain : List (List ℕ)
 
 -- the same in the order of the words
 abbrev pub in_order : FilesOfCheck → List (List ℕ)
-in_order files = files.object ∷ files.verdicts ∷ files.anchor ∷ files.chain
+in_order files = files.object ∷ files.anchor ∷ files.chain
+
+-- the same with the file of verdicts, in the order of the words
+abbrev pub in_order_with : List ℕ → FilesOfCheck → List (List ℕ)
+in_order_with verdicts files = files.object ∷ verdicts ∷ files.anchor ∷ files.chain
 
 -- the order to check the object in the file of this name at this moment, by the verdicts and under
 -- the certificates in those of the others
-abbrev pub check_order : Options → Kind → Moment → FilesOfCheck → Order
-check_order options kind now names = record {
+abbrev pub check_order : Options → Kind → Moment → List ℕ → FilesOfCheck → Order Command
+check_order options kind now verdicts names = record {
   options = options;
-  command = commands.Check kind names.object now names.verdicts names.anchor names.chain;
+  command = commands.Check kind names.object now verdicts names.anchor names.chain;
 }
 
 -- The octets begin with a good object under this issuer, and the run prints yes and the lines of
@@ -57,16 +61,15 @@ pub record PrintsYes {X : Type 0} (kind : signed.Kind X) (form : List ℕ → X 
   pub printed : IsWhole (yes_line ++ text object.content) 0 run.out_before run.out_after run.status
   pub silent : run.err_after ≡ run.err_before
 
--- A yes is right: the verdicts are a list, by which the certificates make an issuer, and under it
--- the object is good at this moment.
-pub record IsRightYes (options : Options) (kind : Kind) (now : Moment) (files : FilesOfCheck)
-    (run : Run) : Type 0 where
-  pub lines : List (List ℕ)
-  pub listed : AreVerdicts files.verdicts lines
+-- A yes is right by a verdict: the certificates make an issuer, under which the object is good at
+-- this moment, and the run prints yes and its lines, and nothing else. Digests are SHA-256 (RFC
+-- 7935, section 2).
+pub record IsRightYes (options : Options) (kind : Kind) (verdict : Verdict) (now : Moment)
+    (files : FilesOfCheck) (run : Run) : Type 0 where
   pub issuer : Validated
-  pub made : MakesIssuer (is_listed lines) now files.anchor files.chain (Ok issuer)
+  pub made : MakesIssuer verdict now files.anchor files.chain (Ok issuer)
   pub yes : OfKind options kind (λ X asked form text. PrintsYes asked form text (read_mode options)
-      sha256 (is_listed lines) issuer now files.object run)
+      sha256 verdict issuer now files.object run)
 
 -- The octets begin with no object of the kind, or with one that is not good under this issuer.
 abbrev pub BeginsWithNoGood : {X : Type 0} → signed.Kind X → (List ℕ → X → Type 0) → Mode
@@ -91,11 +94,15 @@ pub record IsRefusedUnder (options : Options) (kind : Kind) (verdict : Verdict) 
   pub no : OfKind options kind (λ X asked form text. BeginsWithNoGood asked form
       (read_mode options) sha256 verdict issuer now files.object)
 
--- A no is right: the verdicts are a list, by which the certificates make no issuer, or one under
--- which the octets begin with no good object at this moment.
-pub record IsRightNo (options : Options) (kind : Kind) (now : Moment) (files : FilesOfCheck)
-    : Type 0 where
+-- A no is right by a verdict: the certificates make no issuer, or one under which the octets begin
+-- with no good object at this moment.
+abbrev pub IsRightNo : Options → Kind → Verdict → Moment → FilesOfCheck → Type 0
+IsRightNo options kind verdict now files =
+    MakeNoIssuer verdict now files.anchor files.chain
+    ⊎ IsRefusedUnder options kind verdict now files
+
+-- The text is a list of verdicts, and by them this holds.
+pub record HoldsByList (P : Verdict → Type 0) (text : List ℕ) : Type 0 where
   pub lines : List (List ℕ)
-  pub listed : AreVerdicts files.verdicts lines
-  pub no : MakeNoIssuer (is_listed lines) now files.anchor files.chain
-      ⊎ IsRefusedUnder options kind (is_listed lines) now files
+  pub listed : AreVerdicts text lines
+  pub holds : P (is_listed lines)

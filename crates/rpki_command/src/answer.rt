@@ -1,4 +1,4 @@
-//! What the program answers, and how it says it.
+//! What the programs answer, and how they say it.
 
 ghost use Rattle.std.specs.Prelude.{◌≡◌, ◌+◌, ◌++◌, OnOk, OnErr, codes};
 ghost use Rattle.std.specs.Io.KnownBytes.{Appends};
@@ -13,26 +13,47 @@ pub const OUT_OF_MEMORY: &str = "out of memory";
 /// That a file is not, or does not begin with, what was asked for.
 const MALFORMED: &[u8] = b"malformed";
 
+/// How the program with signatures is called, but for the end of the last line.
+const USAGE: &[u8] = b"usage: rpki_verify [OPTION ..] check KIND FILE MOMENT TA [CA ..]
+       rpki_verify [OPTION ..] verdicts FILE TA [CA ..]
+       rpki_verify [OPTION ..] show KIND FILE
+       rpki_verify [OPTION ..] content KIND FILE
+       rpki_verify show tal FILE
+       rpki_verify --help
+OPTION, in this order: --relaxed --registered --wide
+KIND: aspa, manifest, roa or rsc
+MOMENT: now, or YYYYMMDDHHMMSSZ";
+
+/// What stands in front of it after wrong words.
+const WRONG: &[u8] = b"wrong words, expected:\n";
+
 /// What stands before the cause for which certificates make no issuer.
 const ISSUER_REFUSED: &[u8] = b"issuer refused: ";
 
-/// The exit status where lines are shown.
+/// The exit status where lines are shown, or how a program is called.
 const SHOWN: u8 = 0;
 
 /// The exit status where nothing of what was asked for is to be shown.
 const REFUSED: u8 = 1;
 
-/// The exit status of wrong words, of a file that can't be used, and of a write that failed.
+/// The exit status of wrong words, of a file that can't be used, of a clock that tells no moment,
+/// and of a write that failed.
 const FAILED: u8 = 2;
 
 /// The exit status where memory ran out.
 const NO_MEMORY: u8 = 3;
 
-/// What the program answers.
+/// What a program answers.
 #[derive(Drop)]
 pub enum Answer<'a> {
     /// The words are those of no order, or of one that is not built.
     Usage,
+    /// How the program with signatures is called.
+    Help,
+    /// The words are those of no order of that program.
+    WrongWords,
+    /// The clock tells no moment.
+    NoMoment,
     /// This file can't be read.
     CannotRead(&'a str),
     /// A file is no list of verdicts.
@@ -59,6 +80,9 @@ pub fn say<O: Sink, E: Sink>(answer: &Answer<'_>, out: &mut O, err: &mut E) -> u
 {
     match answer {
         Answer::Usage => write(b"usage\n", FAILED, err),
+        Answer::Help => write_line(b"", USAGE, SHOWN, out),
+        Answer::WrongWords => write_line(WRONG, USAGE, FAILED, err),
+        Answer::NoMoment => write(b"cannot tell the time\n", FAILED, err),
         Answer::CannotRead(file) => write_line(b"cannot read ", file.as_bytes(), FAILED, err),
         Answer::BadVerdicts => write(b"bad verdicts\n", FAILED, err),
         Answer::OutOfMemory => write_line(OUT_OF_MEMORY.as_bytes(), b"", NO_MEMORY, err),

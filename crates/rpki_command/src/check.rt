@@ -17,6 +17,7 @@ ghost use Rattle.rpki_command.specs.Options.{read_mode};
 
 use crate::answer::Answer;
 use crate::contents::refusal;
+use crate::files::Work;
 use crate::kinds::{Action, Lines, answer_for};
 use crate::words::{Kind, Options};
 use bytes::Bytes;
@@ -37,10 +38,29 @@ fn pass(_cert: &Cert) -> Result<(), ValidationError>
     Ok(())
 }
 
-/// Answers whether the first of these files begins with a good object of the kind at this moment.
-/// The second is the list of verdicts, the third the certificate of a trust anchor, and the others
-/// are those of CAs, each under the one before.
-pub fn check_files<'a>(
+/// To check whether the first file begins with a good object of the kind at this moment. The second
+/// is the list of verdicts, the third the certificate of a trust anchor, and the others are those of
+/// CAs, each under the one before.
+#[derive(Drop)]
+pub struct CheckByList {
+    pub options: Options,
+    pub kind: Kind,
+    pub moment: Time,
+}
+
+impl Work for CheckByList {
+    ghost least = { 3 };
+
+    ghost says = { λ c. CheckOf c.options c.kind c.moment };
+
+    fn answer<'a>(self, alloc: Global, files: &[Vec<u8>]) -> Answer<'a> {
+        check_files(alloc, self.options, self.kind, self.moment, files)
+    }
+}
+
+/// Answers whether the first of these files begins with a good object of the kind at this moment,
+/// by the verdicts of the second, under the certificates of the others.
+fn check_files<'a>(
     alloc: Global,
     options: Options,
     kind: Kind,

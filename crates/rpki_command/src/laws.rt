@@ -5,19 +5,21 @@ ghost use Rattle.rpki_basics.specs.Moment.{Moment};
 ghost use Rattle.rpki_files.specs.Checked.{is_portable_name};
 ghost use Rattle.rpki_files.specs.Name.{IsFileName};
 ghost use Rattle.rpki_command.specs.Answer.{Run};
-ghost use Rattle.rpki_command.specs.Command.{AreTold, IsRunOf};
+ghost use Rattle.rpki_command.specs.Command.{AreTold, IsRunOf, objects_language, objects_program};
 ghost use Rattle.rpki_command.specs.Ia5.{ia5_text};
+ghost use Rattle.rpki_command.specs.Language.{IsAsked};
 ghost use Rattle.rpki_command.specs.Store.{Told};
-ghost use Rattle.rpki_command.specs.Words.{IsAsked};
-ghost use Rattle.rpki_command.specs.Yes.{FilesOfCheck, in_order, check_order};
-ghost use Rattle.rpki_command.specs.Yes.{IsRightYes, IsRightNo};
+ghost use Rattle.rpki_command.specs.Yes.{FilesOfCheck, in_order_with, check_order};
+ghost use Rattle.rpki_command.specs.Yes.{IsRightYes, IsRightNo, HoldsByList};
+ghost use Rattle.rpki_command.specs.declared.words.Command.{Command};
 ghost use Rattle.rpki_command.specs.declared.words.Kind.{Kind};
 ghost use Rattle.rpki_command.specs.declared.words.Options.{Options};
 ghost use Rattle.rpki_command.specs.declared.words.Order.{Order};
 
 /// No words ask for two things.
 pub fn words_ask_for_one_thing()
-    ensures { (words : List (List ℕ)) (a b : Order) → IsAsked words a → IsAsked words b → a ≡ b }
+    ensures { (words : List (List ℕ)) (a b : Order Command) → IsAsked objects_language words a
+        → IsAsked objects_language words b → a ≡ b }
 {}
 
 /// The names of files, of a manifest and of a checklist, are printed as they are.
@@ -36,14 +38,14 @@ pub fn names_are_printed()
 pub fn checks_are_right()
     ensures yes { (told : Told) (words : List (List ℕ)) (before after : List (List ℕ)) (run : Run)
         (options : Options) (kind : Kind) (now : Moment) (names files : FilesOfCheck)
-        → IsRunOf told words before after run
-        → IsAsked words (check_order options kind now names)
-        → AreTold told (in_order names) (in_order files)
-        → run.status ≡ 0 → IsRightYes options kind now files run }
+        (list text : List ℕ) → IsRunOf objects_program told words before after run
+        → IsAsked objects_language words (check_order options kind now list names)
+        → AreTold told (in_order_with list names) (in_order_with text files) → run.status ≡ 0
+        → HoldsByList (λ verdict. IsRightYes options kind verdict now files run) text }
     ensures no { (told : Told) (words : List (List ℕ)) (before after : List (List ℕ)) (run : Run)
         (options : Options) (kind : Kind) (now : Moment) (names files : FilesOfCheck)
-        → IsRunOf told words before after run
-        → IsAsked words (check_order options kind now names)
-        → AreTold told (in_order names) (in_order files)
-        → run.status ≡ 1 → IsRightNo options kind now files }
+        (list text : List ℕ) → IsRunOf objects_program told words before after run
+        → IsAsked objects_language words (check_order options kind now list names)
+        → AreTold told (in_order_with list names) (in_order_with text files) → run.status ≡ 1
+        → HoldsByList (λ verdict. IsRightNo options kind verdict now files) text }
 {}

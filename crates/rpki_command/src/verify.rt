@@ -3,12 +3,9 @@
 
 mod check;
 mod clock;
-mod entry;
 pub mod laws;
 mod program;
-mod reply;
 mod words;
 
 pub use clock::{moment_of, now};
-pub use entry::{run, start};
-pub use program::command;
+pub use program::Verify;

@@ -3,9 +3,11 @@
 ghost use Rattle.std.specs.Prelude.{◌≡◌, ◌++◌, Bool, MatchOption};
 ghost use Rattle.rpki_basics.specs.Moment.{Moment, IsMoment};
 ghost use Rattle.rpki_command.specs.Options.{provider_limit, manifest_rule};
-ghost use Rattle.rpki_command.specs.Words.{IsAsked, AskForNothing, texts, kind_word, word_if};
-ghost use Rattle.rpki_command.specs.Words.{word_registered, word_wide, command_words, order_words};
-ghost use Rattle.rpki_command.specs.Words.{files_of, are_named, moment_word, IsInTime};
+ghost use Rattle.rpki_command.specs.Command.{objects_language};
+ghost use Rattle.rpki_command.specs.Language.{IsAsked, AskForNothing};
+ghost use Rattle.rpki_command.specs.Words.{texts, kind_word, word_if, word_registered, word_wide};
+ghost use Rattle.rpki_command.specs.Words.{with_options, command_words, files_of, are_named};
+ghost use Rattle.rpki_command.specs.Words.{moment_word, IsInTime};
 ghost use Rattle.rpki_command.specs.declared.words.Kind.{Kind};
 ghost use Rattle.rpki_command.specs.declared.words.Command.{Command};
 ghost use Rattle.rpki_command.specs.declared.words.Order.{Order};
@@ -130,16 +132,17 @@ impl Options {
     }
 }
 
-/// What the program is asked.
+/// What a program is asked: a command of its own, and options.
 #[derive(Drop)]
-pub struct Order<'a> {
+pub struct Order<C> {
     pub options: Options,
-    pub command: Command<'a>,
+    pub command: C,
 }
 
 /// What the words ask for, if they ask for anything.
-pub fn parse<'a>(words: &'a [&'a str]) -> Option<Order<'a>>
-    ensures { MatchOption result (AskForNothing (texts words.now)) (IsAsked (texts words.now)) }
+pub fn parse<'a>(words: &'a [&'a str]) -> Option<Order<Command<'a>>>
+    ensures { MatchOption result (AskForNothing objects_language (texts words.now))
+        (IsAsked objects_language (texts words.now)) }
 {
     let order = parse_relaxed(words)?;
     if each_named(&order.command) {
@@ -188,10 +191,12 @@ pub fn all_named(files: &[&str]) -> bool
 }
 
 /// The order of words that may begin with the first option.
-fn parse_relaxed<'a>(words: &'a [&'a str]) -> Option<Order<'a>>
+fn parse_relaxed<'a>(words: &'a [&'a str]) -> Option<Order<Command<'a>>>
     ensures { MatchOption result
-        ((o : Order) → texts words.now ≡ order_words o → IsInTime o.command → ⊥)
-        (λ o. (texts words.now ≡ order_words o) × IsInTime o.command) }
+        ((o : Order Command) → texts words.now ≡ with_options o.options (command_words o.command)
+        → IsInTime o.command → ⊥)
+        (λ o. (texts words.now ≡ with_options o.options (command_words o.command))
+        × IsInTime o.command) }
 {
     match words {
         ["--relaxed", rest @ ..] => parse_registered(true, rest),
@@ -200,7 +205,7 @@ fn parse_relaxed<'a>(words: &'a [&'a str]) -> Option<Order<'a>>
 }
 
 /// The order of words that may begin with the second option.
-fn parse_registered<'a>(relaxed: bool, words: &'a [&'a str]) -> Option<Order<'a>>
+fn parse_registered<'a>(relaxed: bool, words: &'a [&'a str]) -> Option<Order<Command<'a>>>
     ensures { MatchOption result
         ((registered wide : Bool) (c : Command)
         → texts words.now ≡ word_if registered word_registered
@@ -217,7 +222,11 @@ fn parse_registered<'a>(relaxed: bool, words: &'a [&'a str]) -> Option<Order<'a>
 }
 
 /// The order of words that may begin with the third option.
-fn parse_wide<'a>(relaxed: bool, registered: bool, words: &'a [&'a str]) -> Option<Order<'a>>
+fn parse_wide<'a>(
+    relaxed: bool,
+    registered: bool,
+    words: &'a [&'a str],
+) -> Option<Order<Command<'a>>>
     ensures { MatchOption result
         ((wide : Bool) (c : Command) → texts words.now ≡ word_if wide word_wide ++ command_words c
         → IsInTime c → ⊥)

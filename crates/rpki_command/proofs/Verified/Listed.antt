@@ -11,16 +11,18 @@ use Rattle.rpki_verdicts.specs.declared.list.ListingError.TheVariants as listing
 use Rattle.rpki_command.specs.Answer.{Run, Output, IsSaid, out_of_memory, malformed}
 use Rattle.rpki_command.specs.Answer.{issuer_malformed}
 use Rattle.rpki_command.specs.Answer.{shown}
-use Rattle.rpki_command.specs.Command.{AreTold, ChecksFiles}
+use Rattle.rpki_command.specs.Command.{AreTold, ChecksFiles, IsRunOf}
+use Rattle.rpki_command.specs.Language.{IsAsked}
 use Rattle.rpki_command.specs.Options.{read_mode}
 use Rattle.rpki_command.specs.Store.{Told, Names}
+use Rattle.rpki_command.specs.Yes.{FilesOfCheck, in_order}
 use Rattle.rpki_command.specs.declared.words.Options.{Options}
-use Rattle.rpki_command.proofs.Right.{status_of, status-said, other-status, whole-lines}
+use Rattle.rpki_command.proofs.Right.{status_of, other-status, whole-lines, said-yes, said-no}
 use Rattle.rpki_command.proofs.Running.{said-as}
 use Rattle.rpki_command.specs.Verify.Check.{IsListAnswer, IsListingSaid, ListedOf}
-use Rattle.rpki_command.specs.Verify.Command.{IsRunOf}
-use Rattle.rpki_command.specs.Verify.Words.{IsAsked}
-use Rattle.rpki_command.specs.Verify.Yes.{FilesOfCheck, in_order, list_request}
+use Rattle.rpki_command.specs.Verify.Command.{verify_program}
+use Rattle.rpki_command.specs.Verify.Words.{verify_language}
+use Rattle.rpki_command.specs.Verify.Yes.{list_order}
 use Rattle.rpki_command.specs.Verify.Yes.{IsRightList, IsRightNoList}
 
 -- what is said of a list that is made, or of none
@@ -72,28 +74,20 @@ module _ (s : Output) (options : Options) (files : FilesOfCheck) where
 
 module _ (told : Told) (clock : Option Moment) (words : List (List ℕ)) (old new : Names) (run : Run)
     (options : Options) (names files : FilesOfCheck)
-    (is : IsRunOf told clock words old new run)
-    (asked : IsAsked words (list_request options names))
+    (is : IsRunOf (verify_program clock) told words old new run)
+    (asked : IsAsked verify_language words (list_order options names))
     (tells : AreTold told (in_order names) (in_order files)) where
   done : ChecksFiles told (in_order names) (ListedOf options) old new run
-  done = is.done (list_request options names) asked
+  done = is.done (list_order options names) asked
 
   pub right-list : run.status ≡ 0 → IsRightList options files run
-  right-list z = elim (done.checked (in_order files) tells) [
-    | inl m ↦
-        let n : 3 ≡ 0 = status-said out_of_memory run 0 m z (λ (k : 0 ≡ 2). omega (arith, k)) in
-        absurd (omega (arith, n))
-    | inr c ↦
-        let zero = status-said c.1 run 0 c.3 z (λ (n : 0 ≡ 2). omega (arith, n)) in
-        list-of c.1 options files run c.3 z zero c.2
-  ]
+  right-list z =
+      let c = said-yes told (in_order names) (in_order files) (ListedOf options) old new run done
+      tells z in
+      list-of c.0 options files run c.2 z c.3 c.1
 
   pub right-no-list : run.status ≡ 1 → IsRightNoList options files
-  right-no-list z = elim (done.checked (in_order files) tells) [
-    | inl m ↦
-        let n : 3 ≡ 1 = status-said out_of_memory run 1 m z (λ (k : 1 ≡ 2). omega (arith, k)) in
-        absurd (omega (arith, n))
-    | inr c ↦
-        let one = status-said c.1 run 1 c.3 z (λ (n : 1 ≡ 2). omega (arith, n)) in
-        no-list-of c.1 options files one c.2
-  ]
+  right-no-list z =
+      let c = said-no told (in_order names) (in_order files) (ListedOf options) old new run done
+      tells z in
+      no-list-of c.0 options files c.3 c.1

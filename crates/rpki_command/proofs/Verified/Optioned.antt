@@ -1,8 +1,9 @@
 -- Words after options.
 use Rattle.std.proofs.Common.{rules, ◌≡◌, ◌++◌, ℕ, List, ◌∷◌, Bool, true, false, sym, refl, ◌∙◌}
 use Rattle.rpki_command.specs.Words.{word_if, word_relaxed, word_registered, word_wide}
+use Rattle.rpki_command.specs.Words.{with_options}
 use Rattle.rpki_command.specs.declared.words.Options.{Options}
-use Rattle.rpki_command.specs.Verify.Words.{with_options, IsTaken, IsPlain, IsOptioned}
+use Rattle.rpki_command.specs.Verify.Words.{IsTaken, IsPlain, IsOptioned}
 
 -- a word stands in front of words, or not
 taken-once : (word : List ℕ) (words : List (List ℕ)) (b x : Bool) (left tail : List (List ℕ))

@@ -51,14 +51,12 @@ use Rattle.rpki_verdicts.proofs.Good.{all-lines, each-good, only-good}
 use Rattle.rpki_command.specs.Answer.{Run}
 use Rattle.rpki_command.specs.Kinds.{OfKind}
 use Rattle.rpki_command.specs.Options.{read_mode}
-use Rattle.rpki_command.specs.Yes.{PrintsYes, BeginsWithNoGood, MakeNoIssuer}
-use Rattle.rpki_command.specs.Yes as by_list
+use Rattle.rpki_command.specs.Yes.{FilesOfCheck, PrintsYes, BeginsWithNoGood, HoldsByList}
+use Rattle.rpki_command.specs.Yes.{IsRightYes, IsRightNo}
 use Rattle.rpki_command.specs.declared.words.Kind.{Kind}
 use Rattle.rpki_command.specs.declared.words.Options.{Options}
 use Rattle.rpki_command.proofs.Right.{of-kind}
 use Rattle.rpki_command.specs.Verify.Sufficing.{SaysYesToo, SayTheSame, HaveTheirOwnLines}
-use Rattle.rpki_command.specs.Verify.Sufficing.{with_list}
-use Rattle.rpki_command.specs.Verify.Yes.{FilesOfCheck, IsRightYes, IsRightNo}
 
 -- ---- keys of good signatures
 
@@ -641,7 +639,7 @@ module _ (options : Options) (kind : Kind) (now : Moment) (files : FilesOfCheck)
       ap (λ (x : SignedObject). x.signed)
       (list.front.1.only o.object rest (f.0, f.1, f.2.0.0)).0
 
-  module _ (run : Run) (h : IsRightYes options kind now files run) where
+  module _ (run : Run) (h : IsRightYes options kind is_rsa_signature now files run) where
     yes-by-list : {X : Type 0} (asked : signed.Kind X) (form : List ℕ → X → Type 0)
         (lines_of : X → List ℕ)
         → PrintsYes asked form lines_of (read_mode options) sha256 is_rsa_signature h.issuer now
@@ -661,10 +659,8 @@ module _ (options : Options) (kind : Kind) (now : Moment) (files : FilesOfCheck)
       silent = p.silent;
     }
 
-    pub right-yes-by-list : by_list.IsRightYes options kind now (with_list files text) run
-    right-yes-by-list = record {
-      lines = lines;
-      listed = listed;
+    yes-listed : IsRightYes options kind (is_listed lines) now files run
+    yes-listed = record {
       issuer = h.issuer;
       made = issuer-too now files.anchor files.chain list.first list.others list.signed.signed
           list.certs is_rsa_signature (is_listed lines) too h.issuer h.made;
@@ -675,6 +671,10 @@ module _ (options : Options) (kind : Kind) (now : Moment) (files : FilesOfCheck)
           (is_listed lines) h.issuer now files.object run)
           (λ X asked form lines_of p. yes-by-list asked form lines_of p) h.yes;
     }
+
+    pub right-yes-by-list
+        : HoldsByList (λ verdict. IsRightYes options kind verdict now files run) text
+    right-yes-by-list = record { lines = lines; listed = listed; holds = yes-listed }
 
   module _ (own : HaveTheirOwnLines questions) where
     issuer-by-list : (result : Result Validated IssuerError)
@@ -701,9 +701,8 @@ module _ (options : Options) (kind : Kind) (now : Moment) (files : FilesOfCheck)
             issuer made b.object v (the-object asked form b.object b.rest b.front)).1 good);
       })
 
-    no-either : IsRightNo options kind now files
-        → MakeNoIssuer (is_listed lines) now files.anchor files.chain
-        ⊎ by_list.IsRefusedUnder options kind (is_listed lines) now (with_list files text)
+    no-either : IsRightNo options kind is_rsa_signature now files
+        → IsRightNo options kind (is_listed lines) now files
     no-either (inl n) = inl (record {
       fault = n.fault;
       made = issuer-by-list (Err n.fault) n.made;
@@ -720,6 +719,6 @@ module _ (options : Options) (kind : Kind) (now : Moment) (files : FilesOfCheck)
           (λ X asked form lines_of p. no-by-list n.issuer n.made asked form p) n.no;
     })
 
-    pub right-no-by-list : IsRightNo options kind now files
-        → by_list.IsRightNo options kind now (with_list files text)
-    right-no-by-list h = record { lines = lines; listed = listed; no = no-either h }
+    pub right-no-by-list : IsRightNo options kind is_rsa_signature now files
+        → HoldsByList (λ verdict. IsRightNo options kind verdict now files) text
+    right-no-by-list h = record { lines = lines; listed = listed; holds = no-either h }

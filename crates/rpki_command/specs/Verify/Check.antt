@@ -3,23 +3,21 @@ use Rattle.std.specs.Prelude.{◌≡◌, ◌⊎◌, ℕ, List, ◌∷◌, Result
 use Rattle.std.specs.declared.alloc.Global.{Global}
 use Rattle.sha2.specs.Sha256.{sha256}
 use Rattle.rpki_der.specs.Grammar.{HasNoFront}
-use Rattle.rpki_der.specs.declared.error.DecodeError.{DecodeError}
-use Rattle.rpki_der.specs.declared.error.DecodeError.TheVariants as decoding
 use Rattle.rpki_der.specs.declared.mode.Mode.{Mode}
 use Rattle.rpki_basics.specs.Moment.{Moment}
 use Rattle.rpki_certs.specs.Cert.{Certificate}
+use Rattle.rpki_certs.specs.declared.issuer.IssuerError.TheVariants as issuing
 use Rattle.rpki_rsa.specs.Signature.{is_rsa_signature}
 use Rattle.rpki_sigobj.specs.Object.{SignedForm}
 use Rattle.rpki_verdicts.specs.Lists.{AreCerts, AreNotAllCerts, IsListingOf}
 use Rattle.rpki_verdicts.specs.declared.list.ListingError.{ListingError}
 use Rattle.rpki_verdicts.specs.declared.list.ListingError.TheVariants as listing
 use Rattle.rpki_command.specs.Answer.{Output, out_of_memory, malformed, issuer_malformed, shown}
-use Rattle.rpki_command.specs.Check.{IsCheckedWith}
+use Rattle.rpki_command.specs.Check.{IsCheckedWith, issuer_refusal}
 use Rattle.rpki_command.specs.Options.{read_mode}
+use Rattle.rpki_command.specs.Refusal.{refusal}
 use Rattle.rpki_command.specs.declared.words.Kind.{Kind}
 use Rattle.rpki_command.specs.declared.words.Options.{Options}
-use Rattle.rpki_command.specs.declared.verify.check.Work.{Work}
-use Rattle.rpki_command.specs.declared.verify.check.Work.TheVariants.{Check, Verdicts}
 
 -- What is said of files: of the object, the certificate of a trust anchor, and those of CAs, each
 -- under the one before. Digests are SHA-256, and signatures RSASSA-PKCS1-v1_5 with SHA-256 (RFC
@@ -46,21 +44,10 @@ ListedOf options (object ∷ anchor ∷ chain) s =
     IsListAnswer (read_mode options) object anchor chain s
 ListedOf options files s = ⊥
 
--- what is said where a work is done with files
-abbrev pub WorkOf : Options → Work → List (List ℕ) → Output → Type 0
-WorkOf options (Check kind now) = VerifiedOf options kind now
-WorkOf options Verdicts = ListedOf options
-
 -- ---- step by step
-
--- what is said where octets are not read: that memory ran out, or else this
-abbrev pub undecoded : Output → DecodeError → Output
-undecoded s decoding.Memory = out_of_memory
-undecoded s decoding.Malformed = s
-undecoded s (decoding.Content fault) = s
 
 -- what is said where a list is made, or none
 abbrev pub IsListingSaid : Result (String Global) ListingError → Output → Type 0
 IsListingSaid (Ok text) s = s ≡ shown (string_bytes text)
-IsListingSaid (Err (listing.Certificate fault)) s = s ≡ undecoded issuer_malformed fault
-IsListingSaid (Err (listing.Object fault)) s = s ≡ undecoded malformed fault
+IsListingSaid (Err (listing.Certificate fault)) s = s ≡ issuer_refusal (issuing.Decode fault)
+IsListingSaid (Err (listing.Object fault)) s = s ≡ refusal fault

@@ -1,10 +1,8 @@
 -- When a list of verdicts suffices for a check.
-use Rattle.std.specs.Prelude.{◌≡◌, ℕ, List, true, Contains}
+use Rattle.std.specs.Prelude.{◌≡◌, List, true, Contains}
 use Rattle.rpki_certs.specs.Verify.{Verdict}
-use Rattle.rpki_command.specs.Yes as by_list
 use Rattle.rpki_verdicts.specs.Listing.{question_line}
 use Rattle.rpki_verdicts.specs.Questions.{Question, says}
-use Rattle.rpki_command.specs.Verify.Yes.{FilesOfCheck}
 
 -- The second verdict says yes to each of these questions to which the first says yes.
 abbrev pub SaysYesToo : Verdict → Verdict → List Question → Type 0
@@ -19,12 +17,3 @@ SayTheSame a b questions = (q : Question) → Contains questions q → says a q 
 abbrev pub HaveTheirOwnLines : List Question → Type 0
 HaveTheirOwnLines questions = (p q : Question) → Contains questions p → Contains questions q
     → question_line p ≡ question_line q → p ≡ q
-
--- the files of the same check, where this is the list of verdicts
-abbrev pub with_list : FilesOfCheck → List ℕ → by_list.FilesOfCheck
-with_list files text = record {
-  object = files.object;
-  verdicts = text;
-  anchor = files.anchor;
-  chain = files.chain;
-}

@@ -1,25 +1,19 @@
--- The command line of the program with signatures: what each request is written as.
+-- The command line of the program with signatures: what each command is written as.
 use Rattle.std.specs.Prelude.{◌≡◌, ℕ, List, [], ◌∷◌, ◌++◌, Bool, true, false, codes, Option, Some}
 use Rattle.std.specs.Prelude.{IsTrue}
 use Rattle.rpki_basics.specs.Moment.{Moment, IsMoment}
+use Rattle.rpki_command.specs.Language.{Language}
 use Rattle.rpki_command.specs.Words.{kind_word, word_if, word_relaxed, word_registered, word_wide}
-use Rattle.rpki_command.specs.Words.{moment_word, command_words, files_of, are_named}
+use Rattle.rpki_command.specs.Words.{with_options, moment_word, command_words, files_of}
 use Rattle.rpki_command.specs.declared.words.Command.{Command}
 use Rattle.rpki_command.specs.declared.words.Command.TheVariants as commands
 use Rattle.rpki_command.specs.declared.words.Kind.{Kind}
 use Rattle.rpki_command.specs.declared.words.Options.{Options}
-use Rattle.rpki_command.specs.declared.verify.words.Action.{Action}
-use Rattle.rpki_command.specs.declared.verify.words.Action.TheVariants.{Help, Shared, Check}
-use Rattle.rpki_command.specs.declared.verify.words.Action.TheVariants.{Verdicts}
-use Rattle.rpki_command.specs.declared.verify.words.Request.{Request}
+use Rattle.rpki_command.specs.declared.verify.words.VerifyCommand.{VerifyCommand}
+use Rattle.rpki_command.specs.declared.verify.words.VerifyCommand.TheVariants.{Help, Shared, Check}
+use Rattle.rpki_command.specs.declared.verify.words.VerifyCommand.TheVariants.{Verdicts}
 use Rattle.rpki_command.specs.declared.verify.words.When.{When}
 use Rattle.rpki_command.specs.declared.verify.words.When.TheVariants.{Now, At}
-
--- these words after the options `--relaxed`, `--registered` and `--wide`, each of which stands at
--- most once, and in this order
-abbrev pub with_options : Options → List (List ℕ) → List (List ℕ)
-with_options o words = word_if o.relaxed word_relaxed
-    ++ (word_if o.registered word_registered ++ (word_if o.wide word_wide ++ words))
 
 -- the word of the moment of a check
 abbrev pub when_word : When → List ℕ
@@ -43,45 +37,40 @@ is_shared (commands.Show kind file) = true
 is_shared (commands.ShowTal file) = true
 is_shared other = false
 
--- The words of an action. What shows the lines of a file has the words that it has in
--- the other program.
-abbrev pub action_words : Action → List (List ℕ)
-action_words Help = codes "--help" ∷ []
-action_words (Shared command) = command_words command
-action_words (Check kind file moment anchor chain) =
+-- The words of a command. What shows the lines of a file has the words that it has in the other
+-- program.
+abbrev pub verify_words : VerifyCommand → List (List ℕ)
+verify_words Help = codes "--help" ∷ []
+verify_words (Shared command) = command_words command
+verify_words (Check kind file moment anchor chain) =
     codes "check" ∷ kind_word kind ∷ file ∷ when_word moment ∷ anchor ∷ chain
-action_words (Verdicts file anchor chain) = codes "verdicts" ∷ file ∷ anchor ∷ chain
-
--- the words, without the program's name, that a request is written as
-abbrev pub request_words : Request → List (List ℕ)
-request_words r = with_options r.options (action_words r.action)
+verify_words (Verdicts file anchor chain) = codes "verdicts" ∷ file ∷ anchor ∷ chain
 
 -- the files that are named by a word, in the order of the words
-abbrev pub files_in : Action → List (List ℕ)
+abbrev pub files_in : VerifyCommand → List (List ℕ)
 files_in Help = []
 files_in (Shared command) = files_of command
 files_in (Check kind file moment anchor chain) = file ∷ anchor ∷ chain
 files_in (Verdicts file anchor chain) = file ∷ anchor ∷ chain
 
--- An action is fit: its command, if it has one, shows a file, and its moment, if it has one, is one
--- of the calendar.
-abbrev pub IsFit : Action → Type 0
+-- A command is fit: the one of the other program, if it has one, shows a file, and its moment, if it
+-- has one, is one of the calendar.
+abbrev pub IsFit : VerifyCommand → Type 0
 IsFit Help = Unit {0}
 IsFit (Shared command) = IsTrue (is_shared command)
 IsFit (Check kind file moment anchor chain) = IsWhen moment
 IsFit (Verdicts file anchor chain) = Unit {0}
 
--- The words ask for this: they are its words, each file has a name, and its action is fit, as
--- `IsFit` says: so a moment that is named is one of the calendar.
-abbrev pub IsAsked : List (List ℕ) → Request → Type 0
-IsAsked words r =
-    (words ≡ request_words r) × (are_named (files_in r.action) ≡ true) × IsFit r.action
+-- how the orders of the program with signatures are written
+abbrev pub verify_language : Language
+verify_language = record {
+  Command = VerifyCommand;
+  words = verify_words;
+  files = files_in;
+  IsFit = IsFit;
+}
 
--- they ask for nothing that there is
-abbrev pub AskForNothing : List (List ℕ) → Type 0
-AskForNothing words = (r : Request) → IsAsked words r → ⊥
-
--- ---- actions by their first word
+-- ---- commands by their first word
 
 -- words after the word `check` ask for no check of a signed object
 abbrev pub AskForNoCheck : List (List ℕ) → Type 0
@@ -99,8 +88,8 @@ abbrev pub AskForNothingShared : List (List ℕ) → Type 0
 AskForNothingShared words = (command : Command) → words ≡ command_words command
     → IsTrue (is_shared command) → ⊥
 
--- they ask to show what a file holds, and this is the action
-abbrev pub IsSharedBy : List (List ℕ) → Action → Type 0
+-- they ask to show what a file holds, and this is the command
+abbrev pub IsSharedBy : List (List ℕ) → VerifyCommand → Type 0
 IsSharedBy words (Shared command) =
     (words ≡ command_words command) × IsTrue (is_shared command)
 IsSharedBy words other = ⊥

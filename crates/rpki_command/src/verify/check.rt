@@ -2,12 +2,15 @@
 
 ghost use Rattle.std.specs.Prelude.{◌≡◌, ◌≤◌, length};
 ghost use Rattle.rpki_certs.specs.Issuer.{octets_of};
-ghost use Rattle.rpki_command.specs.Answer.{said, malformed, issuer_malformed};
-ghost use Rattle.rpki_command.specs.Verify.Check.{VerifiedOf, ListedOf, WorkOf};
-ghost use Rattle.rpki_command.specs.Verify.Check.{IsListingSaid, undecoded};
+ghost use Rattle.rpki_certs.specs.declared.issuer.IssuerError.TheVariants as issuing;
+ghost use Rattle.rpki_command.specs.Answer.{said};
+ghost use Rattle.rpki_command.specs.Check.{issuer_refusal};
+ghost use Rattle.rpki_command.specs.Verify.Check.{VerifiedOf, ListedOf, IsListingSaid};
 
 use crate::answer::Answer;
 use crate::check::check_with;
+use crate::contents::refusal;
+use crate::files::Work;
 use crate::words::{Kind, Options};
 use rpki_basics::Time;
 use rpki_der::DecodeError;
@@ -15,24 +18,39 @@ use rpki_rsa::Rsa;
 use rpki_verdicts::{ListingError, listing};
 use std::alloc::Global;
 
-/// What is to be answered of the files of an object and of certificates.
-#[derive(Clone, Copy, Debug)]
-pub enum Work {
-    /// Whether the first file begins with a good object of this kind at this moment.
-    Check(Kind, Time),
-    /// Which of the signatures that a check asks about are good.
-    Verdicts,
+/// To check whether the first file begins with a good object of this kind at this moment, by its
+/// signature and those of certificates. The second file is the certificate of a trust anchor, and
+/// the others are those of CAs, each under the one before.
+#[derive(Drop)]
+pub struct CheckBySignatures {
+    pub options: Options,
+    pub kind: Kind,
+    pub moment: Time,
 }
 
-/// Answers what this work comes to with these files. The first is the object, the second the
-/// certificate of a trust anchor, and the others are those of CAs, each under the one before.
-pub fn work_files<'a>(alloc: Global, options: Options, work: Work, files: &[Vec<u8>]) -> Answer<'a>
-    requires { 2 ≤ length files.now }
-    ensures { WorkOf options work (octets_of files.now) (said result) }
-{
-    match work {
-        Work::Check(kind, now) => check_files(alloc, options, kind, now, files),
-        Work::Verdicts => list_files(alloc, options, files),
+impl Work for CheckBySignatures {
+    ghost least = { 2 };
+
+    ghost says = { λ c. VerifiedOf c.options c.kind c.moment };
+
+    fn answer<'a>(self, alloc: Global, files: &[Vec<u8>]) -> Answer<'a> {
+        check_files(alloc, self.options, self.kind, self.moment, files)
+    }
+}
+
+/// To list the good ones of the signatures that a check of the same files asks about.
+#[derive(Drop)]
+pub struct ListSignatures {
+    pub options: Options,
+}
+
+impl Work for ListSignatures {
+    ghost least = { 2 };
+
+    ghost says = { λ l. ListedOf l.options };
+
+    fn answer<'a>(self, alloc: Global, files: &[Vec<u8>]) -> Answer<'a> {
+        list_files(alloc, self.options, files)
     }
 }
 
@@ -78,26 +96,16 @@ fn answer_listed<'a>(listed: Result<String, ListingError>) -> Answer<'a>
     match listed {
         Ok(text) => Answer::Shown(text),
         Err(ListingError::Certificate(error)) => no_certificate(error),
-        Err(ListingError::Object(error)) => no_object(error),
+        Err(ListingError::Object(error)) => refusal(error),
     }
 }
 
 /// The answer where a file of certificates does not begin with one.
 fn no_certificate<'a>(error: DecodeError) -> Answer<'a>
-    ensures { said result ≡ undecoded issuer_malformed error }
+    ensures { said result ≡ issuer_refusal (issuing.Decode error) }
 {
     match error {
         DecodeError::Memory => Answer::OutOfMemory,
         DecodeError::Malformed | DecodeError::Content(_) => Answer::IssuerMalformed,
-    }
-}
-
-/// The answer where the file of the object does not begin with one.
-fn no_object<'a>(error: DecodeError) -> Answer<'a>
-    ensures { said result ≡ undecoded malformed error }
-{
-    match error {
-        DecodeError::Memory => Answer::OutOfMemory,
-        DecodeError::Malformed | DecodeError::Content(_) => Answer::Malformed,
     }
 }

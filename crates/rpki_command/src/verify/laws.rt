@@ -19,49 +19,50 @@ ghost use Rattle.rpki_verdicts.specs.Lists.{AreCerts, IsListingOf};
 ghost use Rattle.rpki_verdicts.specs.Listing.{is_listable};
 ghost use Rattle.rpki_verdicts.specs.Questions.{Question, says, check_questions};
 ghost use Rattle.rpki_command.specs.Answer.{Run};
-ghost use Rattle.rpki_command.specs.Command.{AreTold};
+ghost use Rattle.rpki_command.specs.Command.{AreTold, IsRunOf};
 ghost use Rattle.rpki_command.specs.Kinds.{OfKind};
 ghost use Rattle.rpki_command.specs.Options.{read_mode};
+ghost use Rattle.rpki_command.specs.Language.{IsAsked};
 ghost use Rattle.rpki_command.specs.Store.{Told};
-ghost use Rattle.rpki_command.specs.Yes as by_list;
+ghost use Rattle.rpki_command.specs.Yes.{FilesOfCheck, in_order};
+ghost use Rattle.rpki_command.specs.Yes.{IsRightYes, IsRightNo, HoldsByList};
 ghost use Rattle.rpki_command.specs.declared.words.Kind.{Kind};
 ghost use Rattle.rpki_command.specs.declared.words.Options.{Options};
-ghost use Rattle.rpki_command.specs.Verify.Command.{IsRunOf};
+ghost use Rattle.rpki_command.specs.declared.words.Order.{Order};
+ghost use Rattle.rpki_command.specs.Verify.Command.{verify_program};
 ghost use Rattle.rpki_command.specs.Verify.Sufficing.{SaysYesToo, SayTheSame, HaveTheirOwnLines};
-ghost use Rattle.rpki_command.specs.Verify.Sufficing.{with_list};
-ghost use Rattle.rpki_command.specs.Verify.Words.{IsAsked, moment_at};
-ghost use Rattle.rpki_command.specs.Verify.Yes.{FilesOfCheck, in_order, check_request};
-ghost use Rattle.rpki_command.specs.Verify.Yes.{IsRightYes, IsRightNo};
-ghost use Rattle.rpki_command.specs.Verify.Yes.{list_request, IsRightList, IsRightNoList};
-ghost use Rattle.rpki_command.specs.declared.verify.words.Request.{Request};
+ghost use Rattle.rpki_command.specs.Verify.Words.{verify_language, moment_at};
+ghost use Rattle.rpki_command.specs.Verify.Yes.{verify_order, list_order};
+ghost use Rattle.rpki_command.specs.Verify.Yes.{IsRightList, IsRightNoList};
+ghost use Rattle.rpki_command.specs.declared.verify.words.VerifyCommand.{VerifyCommand};
 ghost use Rattle.rpki_command.specs.declared.verify.words.When.{When};
 
 /// No words ask for two things.
 pub fn words_ask_for_one_thing()
-    ensures { (words : List (List ℕ)) (a b : Request) → IsAsked words a → IsAsked words b
-        → a ≡ b }
+    ensures { (words : List (List ℕ)) (a b : Order VerifyCommand) → IsAsked verify_language words a
+        → IsAsked verify_language words b → a ≡ b }
 {}
 
 /// Where a store tells the files of a check, a run of it that ends with status 0 says yes, and that
 /// rightly: FILE begins with a good object under the issuer that the certificates make, at this
-/// moment. Where a run ends with status 1, they make none, or FILE begins with no good object under
+/// moment, by signatures as RFC 8017, section 8.2.2, has them. Where a run ends with status 1, they make none, or FILE begins with no good object under
 /// it; what it prints then, `IsRunOf` says. The store of the system's files tells nothing: the
 /// program is the same for every store, and these are the laws of those that tell.
 pub fn checks_are_right()
     ensures yes { (told : Told) (clock : Option Moment) (words : List (List ℕ))
         (before after : List (List ℕ)) (run : Run) (options : Options) (kind : Kind) (moment : When)
         (now : Moment) (names files : FilesOfCheck)
-        → IsRunOf told clock words before after run
-        → IsAsked words (check_request options kind moment names)
+        → IsRunOf (verify_program clock) told words before after run
+        → IsAsked verify_language words (verify_order options kind moment names)
         → moment_at clock moment ≡ Some now → AreTold told (in_order names) (in_order files)
-        → run.status ≡ 0 → IsRightYes options kind now files run }
+        → run.status ≡ 0 → IsRightYes options kind is_rsa_signature now files run }
     ensures no { (told : Told) (clock : Option Moment) (words : List (List ℕ))
         (before after : List (List ℕ)) (run : Run) (options : Options) (kind : Kind) (moment : When)
         (now : Moment) (names files : FilesOfCheck)
-        → IsRunOf told clock words before after run
-        → IsAsked words (check_request options kind moment names)
+        → IsRunOf (verify_program clock) told words before after run
+        → IsAsked verify_language words (verify_order options kind moment names)
         → moment_at clock moment ≡ Some now → AreTold told (in_order names) (in_order files)
-        → run.status ≡ 1 → IsRightNo options kind now files }
+        → run.status ≡ 1 → IsRightNo options kind is_rsa_signature now files }
 {}
 
 /// Where a store tells the files of a list, a run that ends with status 0 prints the list of the
@@ -70,14 +71,14 @@ pub fn checks_are_right()
 pub fn lists_are_right()
     ensures yes { (told : Told) (clock : Option Moment) (words : List (List ℕ))
         (before after : List (List ℕ)) (run : Run) (options : Options) (names files : FilesOfCheck)
-        → IsRunOf told clock words before after run
-        → IsAsked words (list_request options names)
+        → IsRunOf (verify_program clock) told words before after run
+        → IsAsked verify_language words (list_order options names)
         → AreTold told (in_order names) (in_order files)
         → run.status ≡ 0 → IsRightList options files run }
     ensures no { (told : Told) (clock : Option Moment) (words : List (List ℕ))
         (before after : List (List ℕ)) (run : Run) (options : Options) (names files : FilesOfCheck)
-        → IsRunOf told clock words before after run
-        → IsAsked words (list_request options names)
+        → IsRunOf (verify_program clock) told words before after run
+        → IsAsked verify_language words (list_order options names)
         → AreTold told (in_order names) (in_order files)
         → run.status ≡ 1 → IsRightNoList options files }
 {}
@@ -149,12 +150,12 @@ pub fn questions_decide()
 pub fn lists_suffice()
     ensures yes { (options : Options) (kind : Kind) (now : Moment) (files : FilesOfCheck)
         (text : List ℕ) → IsListingOf (read_mode options) is_rsa_signature files.object files.anchor
-        files.chain text → (run : Run) → IsRightYes options kind now files run
-        → by_list.IsRightYes options kind now (with_list files text) run }
+        files.chain text → (run : Run) → IsRightYes options kind is_rsa_signature now files run
+        → HoldsByList (λ verdict. IsRightYes options kind verdict now files run) text }
     ensures no { (options : Options) (kind : Kind) (now : Moment) (files : FilesOfCheck)
         (text : List ℕ) (list : IsListingOf (read_mode options) is_rsa_signature files.object
         files.anchor files.chain text)
         → HaveTheirOwnLines (check_questions list.first list.others list.signed.signed)
-        → IsRightNo options kind now files
-        → by_list.IsRightNo options kind now (with_list files text) }
+        → IsRightNo options kind is_rsa_signature now files
+        → HoldsByList (λ verdict. IsRightNo options kind verdict now files) text }
 {}

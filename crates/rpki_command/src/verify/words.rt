@@ -1,18 +1,20 @@
 //! What the program with signatures is asked.
 
 ghost use Rattle.std.specs.Prelude.{◌≡◌, ◌∷◌, MatchOption, codes};
+ghost use Rattle.rpki_command.specs.Language.{IsAsked, AskForNothing};
 ghost use Rattle.rpki_command.specs.Words.{texts, are_named};
 ghost use Rattle.rpki_command.specs.Words.{word_relaxed, word_registered, word_wide};
-ghost use Rattle.rpki_command.specs.Verify.Words.{moment_at, when_word, IsWhen, action_words};
-ghost use Rattle.rpki_command.specs.Verify.Words.{files_in, is_shared, IsFit, IsAsked};
-ghost use Rattle.rpki_command.specs.Verify.Words.{AskForNothing, AskForNoCheck, AskForNoList};
+ghost use Rattle.rpki_command.specs.Verify.Words.{moment_at, when_word, IsWhen, verify_words};
+ghost use Rattle.rpki_command.specs.Verify.Words.{files_in, is_shared, IsFit, verify_language};
+ghost use Rattle.rpki_command.specs.Verify.Words.{AskForNoCheck, AskForNoList};
 ghost use Rattle.rpki_command.specs.Verify.Words.{AskForNothingShared, IsSharedBy, IsTaken};
 ghost use Rattle.rpki_command.specs.Verify.Words.{IsOptioned};
-ghost use Rattle.rpki_command.specs.declared.verify.words.Action.{Action};
+ghost use Rattle.rpki_command.specs.declared.verify.words.VerifyCommand.{VerifyCommand};
 ghost use Rattle.rpki_command.specs.declared.verify.words.When.{When};
 
 use crate::words::{
-    Command, Kind, Options, Word, Words, all_named, each_named, kind_of, moment_of, parse_command,
+    Command, Kind, Options, Order, Word, Words, all_named, each_named, kind_of, moment_of,
+    parse_command,
 };
 use rpki_basics::Time;
 
@@ -39,7 +41,7 @@ impl When {
 
 /// What is to be done.
 #[derive(Drop)]
-pub enum Action<'a> {
+pub enum VerifyCommand<'a> {
     /// To say how the program is called.
     Help,
     /// To show what a file holds.
@@ -62,41 +64,35 @@ pub enum Action<'a> {
     },
 }
 
-/// What the program is asked.
-#[derive(Drop)]
-pub struct Request<'a> {
-    pub options: Options,
-    pub action: Action<'a>,
-}
-
 /// What the words ask for, if they ask for anything.
-#[tactic(auto, using(crate::proofs::Verified::Requests::by_actions))]
-pub fn parse<'a>(words: &'a [&'a str]) -> Option<Request<'a>>
-    ensures { MatchOption result (AskForNothing (texts words.now)) (IsAsked (texts words.now)) }
+#[tactic(auto, using(crate::proofs::Verified::Orders::by_commands))]
+pub fn parse<'a>(words: &'a [&'a str]) -> Option<Order<VerifyCommand<'a>>>
+    ensures { MatchOption result (AskForNothing verify_language (texts words.now))
+        (IsAsked verify_language (texts words.now)) }
 {
     let (options, rest) = take_options(words);
-    let action = parse_action(rest)?;
-    if is_each_named(&action) {
-        Some(Request { options, action })
+    let command = parse_verify(rest)?;
+    if is_each_named(&command) {
+        Some(Order { options, command })
     } else {
         None
     }
 }
 
 /// Whether each file has a name.
-fn is_each_named(action: &Action<'_>) -> bool
-    ensures { result ≡ are_named (files_in action.now) }
+fn is_each_named(command: &VerifyCommand<'_>) -> bool
+    ensures { result ≡ are_named (files_in command.now) }
 {
-    match action {
-        Action::Help => true,
-        Action::Shared(command) => each_named(command),
-        Action::Check {
+    match command {
+        VerifyCommand::Help => true,
+        VerifyCommand::Shared(command) => each_named(command),
+        VerifyCommand::Check {
             file,
             anchor,
             chain,
             ..
         } => are_files_named(file, anchor, chain),
-        Action::Verdicts {
+        VerifyCommand::Verdicts {
             file,
             anchor,
             chain,
@@ -157,27 +153,28 @@ fn take_wide<'a>(words: &'a [&'a str]) -> (bool, &'a [&'a str])
     }
 }
 
-/// The action of words without options.
-#[tactic(auto, using(crate::proofs::Verified::Requests::by_first_word))]
-fn parse_action<'a>(words: &'a [&'a str]) -> Option<Action<'a>>
-    ensures { MatchOption result ((a : Action) → texts words.now ≡ action_words a → IsFit a → ⊥)
-        (λ a. (texts words.now ≡ action_words a) × IsFit a) }
+/// The command of words without options.
+#[tactic(auto, using(crate::proofs::Verified::Orders::by_first_word))]
+fn parse_verify<'a>(words: &'a [&'a str]) -> Option<VerifyCommand<'a>>
+    ensures { MatchOption result
+        ((c : VerifyCommand) → texts words.now ≡ verify_words c → IsFit c → ⊥)
+        (λ c. (texts words.now ≡ verify_words c) × IsFit c) }
 {
     match words {
         ["check", rest @ ..] => parse_check(rest),
         ["verdicts", rest @ ..] => parse_verdicts(rest),
-        ["--help"] => Some(Action::Help),
+        ["--help"] => Some(VerifyCommand::Help),
         _ => parse_shared(words),
     }
 }
 
 /// The check of a signed object that these words ask for, after the first.
-fn parse_check<'a>(words: &'a [&'a str]) -> Option<Action<'a>>
+fn parse_check<'a>(words: &'a [&'a str]) -> Option<VerifyCommand<'a>>
     ensures { MatchOption result (AskForNoCheck (texts words.now))
-        (λ a. (codes "check" ∷ texts words.now ≡ action_words a) × IsFit a) }
+        (λ c. (codes "check" ∷ texts words.now ≡ verify_words c) × IsFit c) }
 {
     match words {
-        [kind, file, moment, anchor, chain @ ..] => Some(Action::Check {
+        [kind, file, moment, anchor, chain @ ..] => Some(VerifyCommand::Check {
             kind: kind_of(kind)?,
             moment: when_of(moment)?,
             file: Word(file),
@@ -189,12 +186,12 @@ fn parse_check<'a>(words: &'a [&'a str]) -> Option<Action<'a>>
 }
 
 /// The list of good signatures that these words ask for, after the first.
-fn parse_verdicts<'a>(words: &'a [&'a str]) -> Option<Action<'a>>
+fn parse_verdicts<'a>(words: &'a [&'a str]) -> Option<VerifyCommand<'a>>
     ensures { MatchOption result (AskForNoList (texts words.now))
-        (λ a. (codes "verdicts" ∷ texts words.now ≡ action_words a) × IsFit a) }
+        (λ c. (codes "verdicts" ∷ texts words.now ≡ verify_words c) × IsFit c) }
 {
     match words {
-        [file, anchor, chain @ ..] => Some(Action::Verdicts {
+        [file, anchor, chain @ ..] => Some(VerifyCommand::Verdicts {
             file: Word(file),
             anchor: Word(anchor),
             chain: Words(chain),
@@ -203,15 +200,15 @@ fn parse_verdicts<'a>(words: &'a [&'a str]) -> Option<Action<'a>>
     }
 }
 
-/// The action of words that ask to show what a file holds.
-#[tactic(auto, using(crate::proofs::Verified::Requests::by_shared))]
-fn parse_shared<'a>(words: &'a [&'a str]) -> Option<Action<'a>>
+/// The command of words that ask to show what a file holds.
+#[tactic(auto, using(crate::proofs::Verified::Orders::by_shared))]
+fn parse_shared<'a>(words: &'a [&'a str]) -> Option<VerifyCommand<'a>>
     ensures { MatchOption result (AskForNothingShared (texts words.now))
         (IsSharedBy (texts words.now)) }
 {
     let command = parse_command(words)?;
     if is_shared(&command) {
-        Some(Action::Shared(command))
+        Some(VerifyCommand::Shared(command))
     } else {
         None
     }

@@ -5,7 +5,7 @@ use super::octets::{
     ANCHOR, AUTHORITY, CONTENT, CONTENT_AND_MORE, CONTENT_CUT, CONTENT_IN_BER, CUSTOMER_AS0,
     LARGEST_CUSTOMER, LARGEST_PROVIDER, ORIGIN, VERDICTS, WITHOUT_VERSION,
 };
-use rpki_command::command;
+use rpki_command::{Objects, command};
 use rpki_der::Counted;
 use std::alloc::AllocError;
 use std::process::Abort;
@@ -95,7 +95,7 @@ pub fn is_answered(
     let mut store = Files::new(files);
     let mut out = Counted::new(Vec::with_capacity(rt.alloc(), ROOM)?);
     let mut err = Counted::new(Vec::with_capacity(rt.alloc(), ROOM)?);
-    let status = command(rt.alloc(), words, &mut store, &mut out, &mut err);
+    let status = command(rt.alloc(), &Objects, words, &mut store, &mut out, &mut err);
     is_said(rt, said, status, &out.inner, &err.inner)?;
     if status == OUT_OF_MEMORY.status && store.calls() < reads {
         return Err(AllocError);

@@ -1,17 +1,16 @@
 -- A start runs its words, unless there are none to be had.
 use Rattle.std.proofs.Common.{refl, inl, inr}
-use Rattle.rpki_command.proofs.Verified.Running.{of-words}
-use Rattle.rpki_command.proofs.verify.entry.run.Goals as goal
+use Rattle.rpki_command.proofs.Running.{of-words, said-as}
+use Rattle.rpki_command.proofs.runs.run.Goals as goal
 
 pub returns-in-Err-Memory-clause-started : goal.returns-in-Err-Memory-clause-started
-returns-in-Err-Memory-clause-started g c =
-    inr (inr (record { said = c.tell.ensures; reads = refl }))
+returns-in-Err-Memory-clause-started g c = inr (inr (record { said = c.say.ensures; reads = refl }))
 
 pub returns-in-Err-NoText-clause-started : goal.returns-in-Err-NoText-clause-started
 returns-in-Err-NoText-clause-started g c =
     inr (inl (
       rw c.in-Err-NoText.field-0-is at c.in-Err-NoText.ensures,
-      record { said = c.tell-in-Err-NoText.ensures; reads = refl },
+      record { said = said-as _ _ _ c.wrong.ensures c.say-in-Err-NoText.ensures; reads = refl },
     ))
 
 pub returns-in-Ok-clause-started : goal.returns-in-Ok-clause-started

@@ -5,21 +5,23 @@ use Rattle.std.specs.Prelude.{MatchOption}
 use Rattle.rpki_basics.specs.Moment.{Moment, IsMoment}
 use Rattle.rpki_basics.specs.Time.Read.{generalized_of, pair_at}
 use Rattle.rpki_basics.proofs.Times.Exact.{exact-generalized}
+use Rattle.rpki_command.specs.Language.{IsAsked, AskForNothing}
 use Rattle.rpki_command.specs.Words.{kind_word, moment_word, command_words, are_named, IsInTime}
 use Rattle.rpki_command.specs.Words.{word_relaxed, word_registered, word_wide}
 use Rattle.rpki_command.specs.declared.words.Command.{Command}
 use Rattle.rpki_command.specs.declared.words.Command.TheVariants as commands
 use Rattle.rpki_command.specs.declared.words.Kind.{Kind}
 use Rattle.rpki_command.specs.declared.words.Options.{Options}
-use Rattle.rpki_command.proofs.Orders.{commands-once, moments-once}
-use Rattle.rpki_command.specs.Verify.Words.{when_word, IsWhen, is_shared, action_words, files_in}
-use Rattle.rpki_command.specs.Verify.Words.{IsFit, IsAsked, AskForNothing, IsPlain}
+use Rattle.rpki_command.specs.declared.words.Order.{Order}
+use Rattle.rpki_command.proofs.Orders as shown
+use Rattle.rpki_command.proofs.Orders.{moments-once}
+use Rattle.rpki_command.specs.Verify.Words.{when_word, IsWhen, is_shared, verify_words, files_in}
+use Rattle.rpki_command.specs.Verify.Words.{IsFit, verify_language, IsPlain}
 use Rattle.rpki_command.specs.Verify.Words.{AskForNoCheck, AskForNoList, AskForNothingShared}
 use Rattle.rpki_command.specs.Verify.Words.{IsSharedBy, IsOptioned}
-use Rattle.rpki_command.specs.declared.verify.words.Action.{Action}
-use Rattle.rpki_command.specs.declared.verify.words.Action.TheVariants.{Help, Shared, Check}
-use Rattle.rpki_command.specs.declared.verify.words.Action.TheVariants.{Verdicts}
-use Rattle.rpki_command.specs.declared.verify.words.Request.{Request}
+use Rattle.rpki_command.specs.declared.verify.words.VerifyCommand.{VerifyCommand}
+use Rattle.rpki_command.specs.declared.verify.words.VerifyCommand.TheVariants.{Help, Shared, Check}
+use Rattle.rpki_command.specs.declared.verify.words.VerifyCommand.TheVariants.{Verdicts}
 use Rattle.rpki_command.specs.declared.verify.words.When.{When}
 use Rattle.rpki_command.specs.declared.verify.words.When.TheVariants.{Now, At}
 use Rattle.rpki_command.proofs.Verified.Optioned.{options-once}
@@ -85,31 +87,31 @@ lists-same : (f g a b : List ℕ) (c d : List (List ℕ)) → f ≡ g → a ≡ 
     → Verdicts f a c ≡ Verdicts g b d
 lists-same f g a b c d p q r = cc
 
-pub actions-once : (a b : Action) → IsFit a → IsFit b → action_words a ≡ action_words b → a ≡ b
-actions-once Help Help i j e = refl
-actions-once Help (Shared c) i j e = absurd (not-help c _ (sym e))
-actions-once Help (Check k f m a c) i j e = absurd (help-first _ (sym e))
-actions-once Help (Verdicts f a c) i j e = absurd (help-not-list _ (sym e))
-actions-once (Shared c) Help i j e = absurd (not-help c _ e)
-actions-once (Shared c) (Shared d) i j e =
+pub commands-once : (a b : VerifyCommand) → IsFit a → IsFit b → verify_words a ≡ verify_words b → a ≡ b
+commands-once Help Help i j e = refl
+commands-once Help (Shared c) i j e = absurd (not-help c _ (sym e))
+commands-once Help (Check k f m a c) i j e = absurd (help-first _ (sym e))
+commands-once Help (Verdicts f a c) i j e = absurd (help-not-list _ (sym e))
+commands-once (Shared c) Help i j e = absurd (not-help c _ e)
+commands-once (Shared c) (Shared d) i j e =
     ap (λ (x : Command). Shared x)
-    (commands-once c d (shared-in-time c i) (shared-in-time d j) e)
-actions-once (Shared c) (Check k f m a d) i j e = absurd (not-check c _ i e)
-actions-once (Shared c) (Verdicts f a d) i j e = absurd (not-list c _ e)
-actions-once (Check k f m a c) Help i j e = absurd (help-first _ e)
-actions-once (Check k f m a c) (Shared d) i j e = absurd (not-check d _ j (sym e))
-actions-once (Check k f m a c) (Check l g n b d) i j e =
+    (shown.commands-once c d (shared-in-time c i) (shared-in-time d j) e)
+commands-once (Shared c) (Check k f m a d) i j e = absurd (not-check c _ i e)
+commands-once (Shared c) (Verdicts f a d) i j e = absurd (not-list c _ e)
+commands-once (Check k f m a c) Help i j e = absurd (help-first _ e)
+commands-once (Check k f m a c) (Shared d) i j e = absurd (not-check d _ j (sym e))
+commands-once (Check k f m a c) (Check l g n b d) i j e =
     let p : kind_word k ≡ kind_word l = cc in
     let q : when_word m ≡ when_word n = cc in
     let r : f ≡ g = cc in
     let s : a ≡ b = cc in
     let t : c ≡ d = cc in
     checks-same k l f g m n a b c d (kind-once k l p) r (when-once m n i j q) s t
-actions-once (Check k f m a c) (Verdicts g b d) i j e = absurd (check-not-list _ _ (sym e))
-actions-once (Verdicts f a c) Help i j e = absurd (help-not-list _ e)
-actions-once (Verdicts f a c) (Shared d) i j e = absurd (not-list d _ (sym e))
-actions-once (Verdicts f a c) (Check k g m b d) i j e = absurd (check-not-list _ _ e)
-actions-once (Verdicts f a c) (Verdicts g b d) i j e =
+commands-once (Check k f m a c) (Verdicts g b d) i j e = absurd (check-not-list _ _ (sym e))
+commands-once (Verdicts f a c) Help i j e = absurd (help-not-list _ e)
+commands-once (Verdicts f a c) (Shared d) i j e = absurd (not-list d _ (sym e))
+commands-once (Verdicts f a c) (Check k g m b d) i j e = absurd (check-not-list _ _ e)
+commands-once (Verdicts f a c) (Verdicts g b d) i j e =
     let p : f ≡ g = cc in
     let q : a ≡ b = cc in
     let r : c ≡ d = cc in
@@ -154,61 +156,63 @@ list-registered words rest e = search rules
 list-wide : (words rest : List (List ℕ)) → codes "verdicts" ∷ words ≡ word_wide ∷ rest → ⊥
 list-wide words rest e = search rules
 
--- the words of an action begin with no option
-pub actions-plain : (a : Action) → IsPlain (action_words a)
-actions-plain Help = record {
+-- the words of a command begin with no option
+pub commands-plain : (a : VerifyCommand) → IsPlain (verify_words a)
+commands-plain Help = record {
   relaxed = help-relaxed;
   registered = help-registered;
   wide = help-wide;
 }
-actions-plain (Shared c) = record {
+commands-plain (Shared c) = record {
   relaxed = relaxed-not c;
   registered = registered-not c;
   wide = wide-not c;
 }
-actions-plain (Check k f m a c) = record {
+commands-plain (Check k f m a c) = record {
   relaxed = check-relaxed _;
   registered = check-registered _;
   wide = check-wide _;
 }
-actions-plain (Verdicts f a c) = record {
+commands-plain (Verdicts f a c) = record {
   relaxed = list-relaxed _;
   registered = list-registered _;
   wide = list-wide _;
 }
 
-abbrev made : Options → Action → Request
-made o a = record { options = o; action = a }
+abbrev made : Options → VerifyCommand → Order VerifyCommand
+made o a = record { options = o; command = a }
 
-made-same : (o p : Options) (a b : Action) → o ≡ p → a ≡ b → made o a ≡ made p b
+made-same : (o p : Options) (a b : VerifyCommand) → o ≡ p → a ≡ b → made o a ≡ made p b
 made-same o p a b d e = cc
 
 -- no words ask for two things
-pub asked-once : (words : List (List ℕ)) (a b : Request) → IsAsked words a → IsAsked words b
-    → a ≡ b
+pub asked-once : (words : List (List ℕ)) (a b : Order VerifyCommand)
+    → IsAsked verify_language words a → IsAsked verify_language words b → a ≡ b
 asked-once words a b h k =
-    let same = options-once a.options b.options (action_words a.action) (action_words b.action)
-    (actions-plain a.action) (actions-plain b.action) (sym h.0 ∙ k.0) in
-    made-same a.options b.options a.action b.action same.0
-    (actions-once a.action b.action h.2 k.2 same.1)
+    let same = options-once a.options b.options (verify_words a.command) (verify_words b.command)
+    (commands-plain a.command) (commands-plain b.command) (sym h.0 ∙ k.0) in
+    made-same a.options b.options a.command b.command same.0
+    (commands-once a.command b.command h.2 k.2 same.1)
 
--- where the words after the options ask for no action, all of them ask for nothing
+-- where the words after the options ask for no command, all of them ask for nothing
 pub none_asked : (words rest : List (List ℕ)) (o : Options) → IsOptioned words o rest
-    → ((a : Action) → rest ≡ action_words a → IsFit a → ⊥) → AskForNothing words
+    → ((c : VerifyCommand) → rest ≡ verify_words c → IsFit c → ⊥)
+    → AskForNothing verify_language words
 none_asked words rest o cut none r asked =
-    let p = cut.only r.options (action_words r.action) (actions-plain r.action) asked.0 in
-    none r.action (sym p.1) asked.2
+    let p = cut.only r.options (verify_words r.command) (commands-plain r.command) asked.0 in
+    none r.command (sym p.1) asked.2
 
--- where an action has files without a name, its words ask for nothing
-pub unnamed_asked : (words rest : List (List ℕ)) (o : Options) (a : Action) → IsOptioned words o rest
-    → rest ≡ action_words a → IsFit a → are_named (files_in a) ≡ false → AskForNothing words
-unnamed_asked words rest o a cut e i n r asked =
-    let p = cut.only r.options (action_words r.action) (actions-plain r.action) asked.0 in
-    let same = actions-once r.action a asked.2 i (p.1 ∙ e) in
-    let named = asked.1 in
-    absurd cc
+-- where a command has files without a name, its words ask for nothing
+pub unnamed_asked : (words rest : List (List ℕ)) (o : Options) (c : VerifyCommand)
+    → IsOptioned words o rest → rest ≡ verify_words c → IsFit c
+    → are_named (files_in c) ≡ false → AskForNothing verify_language words
+unnamed_asked words rest o c cut e i n r asked =
+    let p = cut.only r.options (verify_words r.command) (commands-plain r.command) asked.0 in
+    let same = commands-once r.command c asked.2 i (p.1 ∙ e) in
+    not-both (are_named (files_in r.command)) asked.1
+    (ap (λ (d : VerifyCommand). are_named (files_in d)) same ∙ n)
 
-pub ruleset by_actions = (none_asked, unnamed_asked)
+pub ruleset by_commands = (none_asked, unnamed_asked)
 
 -- ---- by the first word
 
@@ -220,38 +224,38 @@ shared_none words n = λ c e s. n c e (shared-in-time c s)
 pub shared_other : (words : List (List ℕ)) (d : Command) → words ≡ command_words d → IsInTime d
     → is_shared d ≡ false → AskForNothingShared words
 shared_other words d e i f = λ c g s.
-    let same = commands-once c d (shared-in-time c s) i (sym g ∙ e) in
+    let same = shown.commands-once c d (shared-in-time c s) i (sym g ∙ e) in
     absurd (not-both (is_shared d) (sym (ap is_shared same) ∙ s) f)
 
 pub ruleset by_shared = (shared_none, shared_other)
 
 pub check_none : (words rest : List (List ℕ)) → words ≡ codes "check" ∷ rest → AskForNoCheck rest
-    → (a : Action) → words ≡ action_words a → IsFit a → ⊥
+    → (a : VerifyCommand) → words ≡ verify_words a → IsFit a → ⊥
 check_none words rest w n Help e i = help-first rest (sym w ∙ e)
 check_none words rest w n (Shared c) e i = not-check c rest i (sym e ∙ w)
 check_none words rest w n (Check k f m a c) e i = n k f m a c (rest-same (sym w ∙ e)) i
 check_none words rest w n (Verdicts f a c) e i = check-not-list _ rest (sym e ∙ w)
 
 pub list_none : (words rest : List (List ℕ)) → words ≡ codes "verdicts" ∷ rest
-    → AskForNoList rest → (a : Action) → words ≡ action_words a → IsFit a → ⊥
+    → AskForNoList rest → (a : VerifyCommand) → words ≡ verify_words a → IsFit a → ⊥
 list_none words rest w n Help e i = help-not-list rest (sym w ∙ e)
 list_none words rest w n (Shared c) e i = not-list c rest (sym e ∙ w)
 list_none words rest w n (Check k f m a c) e i = check-not-list rest _ (sym w ∙ e)
 list_none words rest w n (Verdicts f a c) e i = n f a c (rest-same (sym w ∙ e))
 
-pub check_of : (words rest : List (List ℕ)) (r : Option Action) → words ≡ codes "check" ∷ rest
+pub check_of : (words rest : List (List ℕ)) (r : Option VerifyCommand) → words ≡ codes "check" ∷ rest
     → MatchOption r (AskForNoCheck rest)
-    (λ a. (codes "check" ∷ rest ≡ action_words a) × IsFit a)
-    → MatchOption r ((a : Action) → words ≡ action_words a → IsFit a → ⊥)
-    (λ a. (words ≡ action_words a) × IsFit a)
+    (λ a. (codes "check" ∷ rest ≡ verify_words a) × IsFit a)
+    → MatchOption r ((a : VerifyCommand) → words ≡ verify_words a → IsFit a → ⊥)
+    (λ a. (words ≡ verify_words a) × IsFit a)
 check_of words rest None w n = check_none words rest w n
 check_of words rest (Some a) w h = (w ∙ h.0, h.1)
 
-pub list_of : (words rest : List (List ℕ)) (r : Option Action) → words ≡ codes "verdicts" ∷ rest
+pub list_of : (words rest : List (List ℕ)) (r : Option VerifyCommand) → words ≡ codes "verdicts" ∷ rest
     → MatchOption r (AskForNoList rest)
-    (λ a. (codes "verdicts" ∷ rest ≡ action_words a) × IsFit a)
-    → MatchOption r ((a : Action) → words ≡ action_words a → IsFit a → ⊥)
-    (λ a. (words ≡ action_words a) × IsFit a)
+    (λ a. (codes "verdicts" ∷ rest ≡ verify_words a) × IsFit a)
+    → MatchOption r ((a : VerifyCommand) → words ≡ verify_words a → IsFit a → ⊥)
+    (λ a. (words ≡ verify_words a) × IsFit a)
 list_of words rest None w n = list_none words rest w n
 list_of words rest (Some a) w h = (w ∙ h.0, h.1)
 
@@ -259,14 +263,14 @@ list_of words rest (Some a) w h = (w ∙ h.0, h.1)
 pub other_none : (words : List (List ℕ)) → (words ≡ codes "--help" ∷ [] → ⊥)
     → ((rest : List (List ℕ)) → words ≡ codes "check" ∷ rest → ⊥)
     → ((rest : List (List ℕ)) → words ≡ codes "verdicts" ∷ rest → ⊥)
-    → AskForNothingShared words → (a : Action) → words ≡ action_words a → IsFit a → ⊥
+    → AskForNothingShared words → (a : VerifyCommand) → words ≡ verify_words a → IsFit a → ⊥
 other_none words h k v n Help e i = h e
 other_none words h k v n (Shared c) e i = n c e i
 other_none words h k v n (Check d f m a c) e i = k _ e
 other_none words h k v n (Verdicts f a c) e i = v _ e
 
-pub shared_is : (words : List (List ℕ)) (a : Action) → IsSharedBy words a
-    → (words ≡ action_words a) × IsFit a
+pub shared_is : (words : List (List ℕ)) (a : VerifyCommand) → IsSharedBy words a
+    → (words ≡ verify_words a) × IsFit a
 shared_is words Help s = absurd s
 shared_is words (Shared c) s = s
 shared_is words (Check d f m a c) s = absurd s

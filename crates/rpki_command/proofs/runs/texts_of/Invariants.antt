@@ -1,6 +1,6 @@
 -- The texts so far.
 use Rattle.std.proofs.Common.{◌≡◌, map, string_bytes, take}
-use Rattle.rpki_command.proofs.entry.texts_of.Given as goal
+use Rattle.rpki_command.proofs.runs.texts_of.Given as goal
 
 -- the texts of the words so far
 abbrev pub invariant-loop-word : goal.invariant-loop-word

@@ -1,5 +1,0 @@
-use Rattle.rpki_command.proofs.Running.{run-said}
-use Rattle.rpki_command.proofs.program.command.Goals as goal
-
-pub returns-clause-run : goal.returns-clause-run
-returns-clause-run g c = run-said _ _ _ _ _ c.say.ensures _ c.answer.ensures.said

@@ -1,0 +1,10 @@
+-- Who says it has run the words.
+use Rattle.rpki_command.specs.Verify.Command.{verify_program}
+use Rattle.rpki_command.proofs.Running.{run-said}
+use Rattle.rpki_command.proofs.Verified.Orders.{asked-once}
+use Rattle.rpki_command.proofs.verify.program.VerifyProgram.answer.Goals as goal
+
+pub returns-clause-run : goal.returns-clause-run
+returns-clause-run g c = λ run h.
+    run-said (verify_program c.args.self.now.clock) asked-once _ _ _ _ _ c.answer.ensures.said
+    run h

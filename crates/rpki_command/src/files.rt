@@ -1,0 +1,83 @@
+//! What a program answers of several files.
+
+ghost use Rattle.std.specs.Prelude.{◌≡◌, ◌≤◌, ◌++◌, ℕ, List, length, IfOk};
+ghost use Rattle.rpki_certs.specs.Issuer.{octets_of};
+ghost use Rattle.rpki_command.specs.Answer.{Output, said};
+ghost use Rattle.rpki_command.specs.Command.{AreReadAtMost, IsOfFiles};
+ghost use Rattle.rpki_command.specs.Words.{texts};
+
+use crate::answer::Answer;
+use crate::store::{Store, Unread, read_all};
+use std::alloc::{AllocError, Global};
+
+/// What is answered of the octets of files.
+pub trait Work: Drop {
+    // How many files it takes, at the least.
+    ghost least: { ℕ };
+
+    // What is said of their octets.
+    ghost says: { Self → List (List ℕ) → Output → Type 0 };
+
+    /// Answers of these files.
+    fn answer<'a>(self, alloc: Global, files: &[Vec<u8>]) -> Answer<'a>
+        requires { least ≤ length files.now }
+        ensures { says self (octets_of files.now) (said result) };
+}
+
+/// Answers by the work of the files with these names, first some, and then those of a chain: they
+/// are read in this order.
+#[tactic(auto, using(crate::proofs::Asking::by_names))]
+pub fn answer_files<'a, W: Work, S: Store>(
+    alloc: Global,
+    work: W,
+    first: &[&'a str],
+    chain: &[&'a str],
+    store: &mut S,
+) -> Answer<'a>
+    requires { W.least ≤ length first.now }
+    ensures said { IsOfFiles (S.told store.old) (texts (first.now ++ chain.now)) (W.says work)
+        (S.reads store.old) (S.reads store.new) (said result) }
+    ensures reads { AreReadAtMost (texts (first.now ++ chain.now))
+        (S.reads store.old) (S.reads store.new) }
+    ensures same { S.told store.new ≡ S.told store.old }
+{
+    match names_of(alloc, first, chain) {
+        Err(_) => Answer::OutOfMemory,
+        Ok(names) => answer_named(alloc, work, &names, store),
+    }
+}
+
+/// The names of the files, in their order.
+fn names_of<'a>(
+    alloc: Global,
+    first: &[&'a str],
+    chain: &[&'a str],
+) -> Result<Vec<&'a str>, AllocError>
+    ensures { IfOk result (λ names. names.items ≡ first.now ++ chain.now) }
+{
+    let mut names = Vec::new(alloc);
+    names.extend_from_slice(first)?;
+    names.extend_from_slice(chain)?;
+    Ok(names)
+}
+
+/// Answers by the work of the files with these names.
+#[tactic(auto, using(crate::proofs::Asking::by_reads))]
+fn answer_named<'a, W: Work, S: Store>(
+    alloc: Global,
+    work: W,
+    names: &[&'a str],
+    store: &mut S,
+) -> Answer<'a>
+    requires { W.least ≤ length names.now }
+    ensures said { IsOfFiles (S.told store.old) (texts names.now) (W.says work)
+        (S.reads store.old) (S.reads store.new) (said result) }
+    ensures reads { AreReadAtMost (texts names.now) (S.reads store.old) (S.reads store.new) }
+    ensures same { S.told store.new ≡ S.told store.old }
+{
+    match read_all(alloc, names, store) {
+        Err(Unread::Unreadable(name)) => Answer::CannotRead(name),
+        Err(Unread::Memory) => Answer::OutOfMemory,
+        Ok(files) => work.answer(alloc, &files),
+    }
+}
