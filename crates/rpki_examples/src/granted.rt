@@ -1,25 +1,28 @@
 //! Attestations and paths, as those who decide what is granted use them.
 
-ghost use Rattle.std.specs.Prelude.{◌≡◌, ◌↔◌, IsFalse, IsTrue, IfOk, List, map};
+ghost use Rattle.std.specs.Prelude.{◌≡◌, ◌↔◌, false, IsFalse, IsTrue, IfOk, OnOk, List, map};
+ghost use Rattle.std.specs.Prelude.{MatchResult};
 ghost use Rattle.rpki_paths.specs.declared.decision.FinalFault.{FinalFault};
 ghost use Rattle.rpki_paths.specs.declared.pairs.PairFault.{PairFault};
 ghost use Rattle.rpki_paths.specs.declared.supply.SupplyFault.{SupplyFault};
 ghost use Rattle.rpki_paths.specs.declared.walks.WalksFault.{WalksFault};
-ghost use Rattle.rpki_paths.specs.Accepting.{WantsMemory, carried_of};
+ghost use Rattle.rpki_paths.specs.Accepting.{AreAccepted, WantsMemory, carried_of};
+ghost use Rattle.rpki_paths.specs.After.{AreAfter, IsGrantedBySome};
 ghost use Rattle.rpki_paths.specs.Cert.{Cert};
 ghost use Rattle.rpki_paths.specs.Final.{attested_sets};
 ghost use Rattle.rpki_paths.specs.Grant.{ArePaths, AreUsed, IsEarned, IsGranted};
 ghost use Rattle.rpki_paths.specs.Granting.{LacksMemory};
 ghost use Rattle.rpki_paths.specs.Kept.{AreWalked};
 ghost use Rattle.rpki_paths.specs.Pairing.{HasDistinctIds};
-ghost use Rattle.rpki_paths.specs.Supplied.{supply_of};
+ghost use Rattle.rpki_paths.specs.Supplied.{refusal_of, supply_of};
 ghost use Rattle.rpki_paths.specs.Walk.{placed};
 
-use rpki::paths::laws::{all_are_kept, final_is_decided};
+use rpki::paths::laws::{all_are_kept, final_is_decided, yes_after_refusals};
 use rpki::paths::{
     AcceptFault, Accepts, Attestation, Attested, CarriedCert, CarriedSigner, Certificate,
     FinalFault, GrantFault, Locator, PairFault, Path, SignedCertificate, Supplied, SuppliedCa,
-    SupplyFault, VerdictCount, WalksFault, finalize, grant, supply_all, walk_each,
+    SupplyFault, VerdictCount, WalksFault, accept, finalize, grant, supply_all, supply_each,
+    walk_each,
 };
 use std::alloc::{AllocError, Global};
 use std::sync::ledger::Ledger;
@@ -187,5 +190,98 @@ where
         }
         Err(WalksFault::Memory) => Err(AllocError),
         Err(_) => Ok(false),
+    }
+}
+
+// Whether a supply lacked memory.
+fn lacked_memory<F>(answer: &Result<bool, SupplyFault<F>>) -> bool
+    ensures { MatchResult answer.now (λ _. result ≡ false)
+        (λ fault. IsTrue result ↔ (fault ≡ SupplyFault.Memory)) }
+{
+    match answer {
+        Ok(_) => false,
+        Err(fault) => of_supply(fault),
+    }
+}
+
+// Hands in several supplies in order, each to all paths, whatever the one before it answered.
+fn supply_after<C: Certificate, T, U>(
+    paths: &mut [Path<C>],
+    supplies: &[Supplied<T, U>],
+) -> Result<(), AllocError>
+where
+    T: Locator<C>,
+    T::Fault: Copy,
+    U: SuppliedCa<C>,
+    ensures { OnOk result (AreAfter C.cert (supply_of T.key U.ski U.key U.sets)
+        (refusal_of T.refuses) supplies.now paths.old paths.new) }
+{
+    for i in 0..supplies.len() {
+        let answer = supply_each(paths, &supplies[i]);
+        if lacked_memory(&answer) {
+            return Err(AllocError);
+        }
+    }
+    Ok(())
+}
+
+// Whether an attestation with these paths is granted after some supplies.
+fn decide_after<S, C, R, T, U>(
+    alloc: Global,
+    a: &Attestation<S, C, R>,
+    paths: &mut [Path<C>],
+    supplies: &[Supplied<T, U>],
+) -> Result<bool, AllocError>
+where
+    S: CarriedSigner<C>,
+    C: CarriedCert<R>,
+    T: Locator<C>,
+    T::Fault: Copy,
+    U: SuppliedCa<C>,
+    ensures { IfOk result (λ yes. IsTrue yes →
+        AreAccepted C.cert (carried_of S.signer C.cert C.crl a.now) paths.old →
+        IsGrantedBySome (carried_of S.signer C.cert C.crl a.now)
+        (map (supply_of T.key U.ski U.key U.sets) supplies.now) (attested_sets a.now.sets)) }
+{
+    yes_after_refusals::<C, T, U>();
+    supply_after(paths, supplies)?;
+    match finalize(alloc, paths, &a.sets) {
+        Ok(()) => Ok(true),
+        Err(FinalFault::Memory) => Err(AllocError),
+        Err(_) => Ok(false),
+    }
+}
+
+/// Whether an attestation is granted by some of these supplies: where one declines a path, the
+/// later ones are handed in all the same. A yes means that each path is anchored by one that is
+/// meant for it and takes it, and that need not be the first that is meant.
+pub fn is_granted_by_some<S, C, R: Copy, T, U, L: Ledger>(
+    alloc: Global,
+    a: &Attestation<S, C, R>,
+    supplies: &[Supplied<T, U>],
+    asked: &mut VerdictCount<L>,
+) -> Result<bool, AllocError>
+where
+    S: CarriedSigner<C> + Accepts<C, L>,
+    C: CarriedCert<R> + Accepts<R, L> + SignedCertificate<L>,
+    T: Locator<C>,
+    T::Fault: Copy,
+    U: SuppliedCa<C>,
+    ensures { IfOk result (λ yes. IsTrue yes →
+        IsGrantedBySome (carried_of S.signer C.cert C.crl a.now)
+        (map (supply_of T.key U.ski U.key U.sets) supplies.now) (attested_sets a.now.sets)) }
+{
+    match accept(alloc, a, asked) {
+        Ok(mut paths) => {
+            let is_granted = decide_after(alloc, a, paths.as_mut_slice(), supplies);
+            drop(paths);
+            is_granted
+        }
+        Err(fault) => {
+            if of_acceptance(fault) {
+                return Err(AllocError);
+            }
+            Ok(false)
+        }
     }
 }
