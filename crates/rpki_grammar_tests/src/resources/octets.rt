@@ -59,18 +59,32 @@ fn is_text(text: &StaticText, want: Option<&str>) -> bool {
     }
 }
 
-/// Whether the answer is a refusal by this text, or by `Malformed` where there is none. Want of
-/// memory is handed on.
+/// Whether this error is a refusal by this text, or `Malformed` where there is none. Want of memory
+/// is handed on.
+fn is_error(error: &DecodeError, want: Option<&str>) -> Result<bool, AllocError> {
+    match error {
+        DecodeError::Memory => Err(AllocError),
+        DecodeError::Malformed => Ok(want.is_none()),
+        DecodeError::Content(ContentFault::Text(text)) => Ok(is_text(text, want)),
+        DecodeError::Content(_) => Ok(false),
+    }
+}
+
+/// Whether the answer is such a refusal.
 fn is_refused<T: Drop>(
     answer: Result<T, DecodeError>,
     want: Option<&str>,
 ) -> Result<bool, AllocError> {
     match answer {
-        Ok(_) => Ok(false),
-        Err(DecodeError::Memory) => Err(AllocError),
-        Err(DecodeError::Malformed) => Ok(want.is_none()),
-        Err(DecodeError::Content(ContentFault::Text(text))) => Ok(is_text(&text, want)),
-        Err(DecodeError::Content(_)) => Ok(false),
+        Ok(found) => {
+            drop(found);
+            Ok(false)
+        }
+        Err(error) => {
+            let is_error = is_error(&error, want);
+            drop(error);
+            is_error
+        }
     }
 }
 
