@@ -1,5 +1,5 @@
 -- The command line: what options and commands are written as.
-use Rattle.std.specs.Prelude.{◌≡◌, ℕ, List, [], ◌∷◌, ◌++◌, Bool, true, false, not, ◌&&◌, ◌==◌}
+use Rattle.std.specs.Prelude.{ℕ, List, [], ◌∷◌, ◌++◌, Bool, true, false, not, ◌&&◌, ◌==◌}
 use Rattle.std.specs.Prelude.{length, map, codes}
 use Rattle.std.specs.Borrow.{Bor}
 use Rattle.rpki_basics.specs.Moment.{Moment, IsMoment}

@@ -1,5 +1,5 @@
 -- When a list of verdicts suffices for a check.
-use Rattle.std.specs.Prelude.{◌≡◌, ℕ, List, true, Contains}
+use Rattle.std.specs.Prelude.{◌≡◌, List, true, Contains}
 use Rattle.rpki_certs.specs.Verify.{Verdict}
 use Rattle.rpki_verdicts.specs.Listing.{question_line}
 use Rattle.rpki_verdicts.specs.Questions.{Question, says}
