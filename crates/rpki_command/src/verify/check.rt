@@ -2,7 +2,7 @@
 
 ghost use Rattle.std.specs.Prelude.{◌≡◌, ◌≤◌, length};
 ghost use Rattle.rpki_certs.specs.Issuer.{octets_of};
-ghost use Rattle.rpki_certs.specs.declared.issuer.IssuerError;
+ghost use Rattle.rpki_certs.specs.declared.issuer.IssuerError.TheVariants as issuing;
 ghost use Rattle.rpki_command.specs.Answer.{said};
 ghost use Rattle.rpki_command.specs.Check.{issuer_refusal};
 ghost use Rattle.rpki_command.specs.Verify.Check.{VerifiedOf, ListedOf, IsListingSaid};
@@ -105,7 +105,7 @@ fn answer_listed<'a>(alloc: Global, listed: Result<String, ListingError>) -> Ans
 
 /// The answer where a file of certificates does not begin with one.
 fn no_certificate<'a>(error: DecodeError) -> Answer<'a>
-    ensures { said result ≡ issuer_refusal (IssuerError.Decode error) }
+    ensures { said result ≡ issuer_refusal (issuing.Decode error) }
 {
     match error {
         DecodeError::Memory => Answer::OutOfMemory,
