@@ -1,7 +1,6 @@
 pub mod Algorithm
 pub mod Build
 pub mod Digits
-pub mod Hex
 pub mod Key
 pub mod Limits
 pub mod Moment

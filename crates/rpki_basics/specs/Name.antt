@@ -7,7 +7,7 @@ use Rattle.rpki_der.specs.Read.Parse.{Parser, skip_all_at, captured}
 use Rattle.rpki_der.specs.Write.Written.{value_octets}
 use Rattle.rpki_der.specs.Tags.{SEQUENCE, SET, OBJECT_IDENTIFIER, PRINTABLE_STRING}
 use Rattle.rpki_der.specs.Form.Parts.{Sequence, Set, sequence_at}
-use Rattle.rpki_basics.specs.Hex.{upper_hex}
+use Rattle.rpki_der.specs.Text.Hex.{upper_hex}
 
 -- A Name: a SEQUENCE of values that are skipped (RFC 5280, section 4.1.2.4). That it may have any
 -- contents is this project's own rule.

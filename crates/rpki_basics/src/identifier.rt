@@ -7,9 +7,9 @@ ghost use Rattle.std.specs.Cmp.{partial_equiv_from_equiv};
 ghost use Rattle.std.specs.Cmp.Lexicographic.{pointwise, slice_cmp, nat_list_eq_equiv};
 ghost use Rattle.std.specs.Cmp.Lexicographic.{nat_list_cmp_total, texts_ties, texts_po};
 ghost use Rattle.sha1.specs.Sha1.{sha1};
-ghost use Rattle.rpki_basics.specs.Hex.{upper_hex};
+ghost use Rattle.rpki_der.specs.Text.Hex.{upper_hex};
 
-use crate::hex::UpperHex;
+use rpki_der::UpperHex;
 use sha1::Sha1;
 use std::cmp::Ordering;
 use std::fmt;
@@ -101,7 +101,7 @@ impl Ord for KeyIdentifier {
 
 /// The octets in upper hexadecimal digits.
 impl fmt::Display for KeyIdentifier {
-    ghost use Rattle.rpki_basics.specs.Hex.{upper_hex};
+    ghost use Rattle.rpki_der.specs.Text.Hex.{upper_hex};
 
     ghost output = { λ k. Some (upper_hex k) };
 

@@ -14,7 +14,8 @@ use crate::hex::push_hex;
 use crate::identifier::KeyIdentifier;
 use crate::key::PublicKey;
 use bytes::Bytes;
-use rpki_der::{Captured, Constructed, DecodeError, Encode, EncodeError, Mode, Sink, SinkFailed};
+use rpki_der::encode::CapturedEncoder;
+use rpki_der::{Captured, Constructed, DecodeError, Mode};
 use std::alloc::{AllocError, Global};
 use std::marker::Model;
 
@@ -22,8 +23,7 @@ use std::marker::Model;
 /// that they were read in.
 #[derive(Debug, Drop)]
 pub struct Name {
-    octets: Bytes,
-    mode: Mode,
+    captured: Captured,
 }
 
 impl Model for Name {
@@ -32,9 +32,9 @@ impl Model for Name {
 
     ghost Value = { Kept };
 
-    ghost view = { λ n. record { octets = n.octets; mode = n.mode } };
+    ghost view = { λ n. n.captured };
 
-    ghost invariant = { λ n. IsName n.mode n.octets };
+    ghost invariant = { λ n. IsName n.captured.mode n.captured.octets };
 }
 
 impl Name {
@@ -43,14 +43,14 @@ impl Name {
         ensures octets { result.now ≡ self.now.octets }
         ensures form { IsName self.now.mode self.now.octets }
     {
-        self.octets.as_slice()
+        self.captured.as_slice()
     }
 
     /// The mode that they were read in.
     pub fn mode(&self) -> Mode
         ensures { result ≡ self.now.mode }
     {
-        self.mode
+        self.captured.mode()
     }
 
     // The name with these octets.
@@ -58,11 +58,7 @@ impl Name {
         requires { IsName captured.mode captured.octets }
         ensures { result ≡ captured }
     {
-        let mode = captured.mode();
-        Name {
-            octets: captured.into_bytes(),
-            mode,
-        }
+        Name { captured }
     }
 }
 
@@ -70,11 +66,8 @@ impl Clone for Name {
     ghost is_clone = { λ n copy. copy ≡ n };
 
     fn clone(&self) -> Result<Name, AllocError> {
-        let octets = self.octets.clone()?;
-        Ok(Name {
-            octets,
-            mode: self.mode,
-        })
+        let captured = self.captured.clone()?;
+        Ok(Name { captured })
     }
 }
 
@@ -125,43 +118,14 @@ impl Name {
     }
 }
 
-/// What writes a name: its octets, which are DER where they were read so.
-#[derive(Drop)]
-pub struct NameEncoder<'a>(pub &'a Name);
-
-impl Encode for NameEncoder<'_> {
-    ghost use Rattle.rpki_der.specs.declared.mode.Mode.TheVariants.{Der};
-
-    ghost octets = { λ e. e.0.now.octets };
-
-    ghost is_der = { λ e. e.0.now.mode ≡ Der };
-
-    ghost is_short = { λ _. Unit {0} };
-
-    ghost small = { λ _ _. tt };
-
-    fn encoded_len(&self) -> Result<u64, EncodeError> {
-        match self.0.mode() {
-            Mode::Der => Ok(self.0.as_slice().len() as u64),
-            Mode::Ber => Err(EncodeError::NotDer),
-        }
-    }
-
-    fn put<W: Sink>(&self, _len: u64, out: &mut W) -> Result<(), SinkFailed> {
-        out.take_all(self.0.as_slice())
-    }
-}
-
 impl Name {
     /// What writes the octets of the name as they are, where they are DER, and answers `NotDer`
     /// where they were read in BER.
-    pub fn encode_ref(&self) -> NameEncoder<'_>
-        ensures name { result.0.now ≡ self.now }
+    pub fn encode_ref(&self) -> CapturedEncoder<'_>
+        ensures captured { result.0.now ≡ self.now }
         ensures written { IsName self.now.mode self.now.octets }
     {
-        // What a value's type promises is known to the proof only where one of its fields is read.
-        let _ = &self.mode;
-        NameEncoder(self)
+        self.captured.encode_ref()
     }
 }
 
@@ -191,9 +155,6 @@ impl PublicKey {
         ensures mode { IfOk result (λ n. n.mode ≡ Der) }
     {
         let octets = key_name(alloc, self.key_identifier())?;
-        Ok(Name {
-            octets,
-            mode: Mode::Der,
-        })
+        Ok(Name::of(Captured::new(octets, Mode::Der)))
     }
 }

@@ -6,3 +6,4 @@
 
 mod given;
 mod reading;
+mod validated;

@@ -8,3 +8,4 @@ mod answers;
 mod calls;
 mod checks;
 mod given;
+mod kinds;

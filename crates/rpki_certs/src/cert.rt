@@ -1,6 +1,5 @@
 //! Certificates.
 
-mod encoder;
 mod fields;
 mod read;
 
@@ -13,10 +12,10 @@ ghost use Rattle.rpki_der.specs.Tags.{SEQUENCE};
 ghost use Rattle.rpki_certs.specs.Cert.{CertForm, cert_at, certificate_of, IsKept, both_in};
 
 use bytes::Bytes;
-pub use encoder::CertEncoder;
 pub use fields::are_same;
 use read::Contents;
 use rpki_der::laws::slices_hold_octets;
+use rpki_der::encode::CapturedEncoder;
 use rpki_der::{Captured, Constructed, DecodeError, Mode};
 use std::alloc::{AllocError, Global};
 use std::marker::Model;
@@ -157,13 +156,12 @@ impl Cert {
 
     /// What writes the octets of the certificate as they were read, where they are DER, and answers
     /// `NotDer` where they were read in BER.
-    pub fn encode_ref(&self) -> CertEncoder<'_>
-        ensures cert { result.0.now ≡ self.now }
+    pub fn encode_ref(&self) -> CapturedEncoder<'_>
+        ensures octets { result.0.now.octets ≡ self.now.certificate.octets }
+        ensures mode { result.0.now.mode ≡ self.now.mode }
         ensures written { CertForm self.now.mode self.now.certificate.octets self.now.certificate }
     {
-        // What a value's type promises is known to the proof only where one of its fields is read.
-        let _ = &self.captured;
-        CertEncoder(self)
+        self.captured.encode_ref()
     }
 }
 

@@ -10,7 +10,7 @@ pub mod laws;
 mod validate;
 mod verify;
 
-pub use cert::{Cert, CertEncoder};
+pub use cert::Cert;
 pub use issuer::{IssuerError, issuer_at};
 pub use rpki_faults::{
     Family, InspectionError, KeyUsage, Overclaim, UncoveredPrefix, ValidationError,

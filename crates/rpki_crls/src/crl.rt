@@ -1,6 +1,5 @@
 //! Revocation lists.
 
-mod encoder;
 mod fields;
 mod read;
 
@@ -13,8 +12,8 @@ ghost use Rattle.rpki_der.specs.Tags.{SEQUENCE};
 ghost use Rattle.rpki_crls.specs.Crl.{CrlForm, crl_at, list_of, IsKept};
 
 use bytes::Bytes;
-pub use encoder::CrlEncoder;
 use read::Contents;
+use rpki_der::encode::CapturedEncoder;
 use rpki_der::laws::slices_hold_octets;
 use rpki_der::{Captured, Constructed, DecodeError, Mode};
 use std::alloc::{AllocError, Global};
@@ -155,13 +154,12 @@ impl Crl {
 
     /// What writes the octets of the revocation list as they were read, where they are DER, and
     /// answers `NotDer` where they were read in BER.
-    pub fn encode_ref(&self) -> CrlEncoder<'_>
-        ensures crl { result.0.now ≡ self.now }
+    pub fn encode_ref(&self) -> CapturedEncoder<'_>
+        ensures octets { result.0.now.octets ≡ self.now.list.octets }
+        ensures mode { result.0.now.mode ≡ self.now.mode }
         ensures written { CrlForm self.now.mode self.now.list.octets self.now.list }
     {
-        // What a value's type promises is known to the proof only where one of its fields is read.
-        let _ = &self.captured;
-        CrlEncoder(self)
+        self.captured.encode_ref()
     }
 }
 

@@ -16,9 +16,9 @@ use std::marker::Model;
 
 /// A certificate that is revoked (RFC 5280, section 5.1.2.6), of which its serial number is kept.
 #[derive(Clone, Copy, Debug)]
-pub struct Entry(Serial);
+pub struct CrlEntry(Serial);
 
-impl Model for Entry {
+impl Model for CrlEntry {
     ghost use Rattle.std.specs.Prelude.{ℕ};
 
     ghost Value = { ℕ };
@@ -28,21 +28,21 @@ impl Model for Entry {
     ghost inverse = { λ n. record { 0 = n } };
 }
 
-impl Entry {
+impl CrlEntry {
     /// The entry with this serial number.
-    pub fn new(serial: Serial) -> Entry
+    pub fn new(serial: Serial) -> CrlEntry
         ensures { result ≡ serial }
     {
-        Entry(serial)
+        CrlEntry(serial)
     }
 }
 
-impl PartialEq for Entry {
+impl PartialEq for CrlEntry {
     ghost eq = { λ a b. a == b };
 
     ghost laws = { Prim.search (comparing, rules) };
 
-    fn eq(&self, other: &Entry) -> bool {
+    fn eq(&self, other: &CrlEntry) -> bool {
         self.0 == other.0
     }
 }
@@ -57,16 +57,16 @@ fn skip_extensions(cons: &mut Constructed<'_>) -> Result<Option<()>, DecodeError
 
 // Reads what stands in an entry.
 #[tactic(auto, unfolding(crate::specs::Entry::entry_fields_at))]
-fn take_fields(cons: &mut Constructed<'_>) -> Result<Entry, DecodeError>
+fn take_fields(cons: &mut Constructed<'_>) -> Result<CrlEntry, DecodeError>
     ensures { Reads (λ e. e) entry_fields_at cons.old result cons.new }
 {
     let serial = Serial::take_from(cons)?;
     Time::take_from(cons)?;
     skip_extensions(cons)?;
-    Ok(Entry(serial))
+    Ok(CrlEntry(serial))
 }
 
-impl ListItem for Entry {
+impl ListItem for CrlEntry {
     ghost use Rattle.rpki_der.specs.Tags.{SEQUENCE};
     ghost use Rattle.rpki_crls.specs.Entry.{entry_fields_at, entry_at};
 
@@ -77,7 +77,7 @@ impl ListItem for Entry {
     fn take_opt_from(
         _alloc: Global,
         cons: &mut Constructed<'_>,
-    ) -> Result<Option<Entry>, DecodeError> {
+    ) -> Result<Option<CrlEntry>, DecodeError> {
         cons.take_opt_sequence(take_fields)
     }
 }

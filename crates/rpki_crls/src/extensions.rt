@@ -16,9 +16,7 @@ use crate::faults;
 use bytes::Bytes;
 use rpki_basics::{KeyIdentifier, Serial};
 use rpki_der::{Constructed, DecodeError, Mode};
-use rpki_extensions::{
-    Extension, Profile, refused, take_authority_key_identifier, take_standing, with_oid,
-};
+use rpki_extensions::{Extension, Profile, take_authority_key_identifier, take_standing, with_oid};
 use std::alloc::Global;
 
 // id-ce-authorityKeyIdentifier (RFC 5280, section 5.2.1).
@@ -59,7 +57,7 @@ fn authority_key(list: &[Extension]) -> Result<KeyIdentifier, DecodeError>
         (must (stated authority_key_identifier authority_key_at list.now)) result }
 {
     match with_oid(list, &AUTHORITY_KEY_IDENTIFIER) {
-        None => Err(refused(faults::NO_AUTHORITY_KEY_IDENTIFIER)),
+        None => Err(DecodeError::refusal(faults::NO_AUTHORITY_KEY_IDENTIFIER)),
         Some(extension) => authority_key_in(extension.value.clone()?),
     }
 }
@@ -76,7 +74,7 @@ fn number(list: &[Extension]) -> Result<Serial, DecodeError>
     ensures { Tells (λ number. number) (must (stated crl_number u160_at list.now)) result }
 {
     match with_oid(list, &CRL_NUMBER) {
-        None => Err(refused(faults::NO_CRL_NUMBER)),
+        None => Err(DecodeError::refusal(faults::NO_CRL_NUMBER)),
         Some(extension) => number_in(extension.value.clone()?),
     }
 }

@@ -7,5 +7,5 @@ mod extensions;
 pub mod faults;
 pub mod laws;
 
-pub use crl::{Crl, CrlEncoder};
+pub use crl::Crl;
 pub use extensions::CrlExtensions;

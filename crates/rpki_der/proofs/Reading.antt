@@ -13,6 +13,7 @@ pub mod Lists
 pub mod Decoders
 pub mod Places
 pub mod Unique
+pub mod After
 pub mod Skips
 pub mod Strings
 pub mod Captures

@@ -2,4 +2,5 @@ pub mod Parts
 pub mod Law
 pub mod Made
 pub mod Decodes
+pub mod After
 pub mod Keyed

@@ -3,7 +3,8 @@ use Rattle.std.specs.Prelude.{◌≡◌, length, IsUtf8}
 use Rattle.rpki_der.specs.declared.static_text.StaticText.TheInside.{Inside}
 pub mod Owned
 
--- A text is what is seen at its place, for good.
+-- What a text holds: the place at which its octets are seen, how many these are, and that they are
+-- UTF-8 (RFC 3629).
 pub record IsStaticText (t : Inside) : Type 0 where
   pub based : t.seen.ptr ≡ t.base
   pub whole : t.len ≡ length t.seen.items

@@ -8,7 +8,7 @@ use bytes::Bytes;
 use std::alloc::AllocError;
 use std::marker::Model;
 
-/// Octets of a source, and the mode that they were read in.
+/// Octets that are kept with a mode: that in which they were read, or as if they had been.
 #[derive(Drop, Debug)]
 pub struct Captured {
     octets: Bytes,
@@ -24,7 +24,8 @@ impl Model for Captured {
 }
 
 impl Captured {
-    pub(crate) fn new(octets: Bytes, mode: Mode) -> Captured
+    /// These octets, as if they had been read in this mode.
+    pub fn new(octets: Bytes, mode: Mode) -> Captured
         ensures { result ≡ record { octets = octets; mode = mode } }
     {
         Captured { octets, mode }

@@ -1,8 +1,8 @@
 //! Texts that last for good.
 //!
 //! A value of this type is a `&'static str` whose type names no lifetime. A function that calls a
-//! closure is proved only where no lifetime but those of its own stands in what the closure takes
-//! and answers, and errors stand in both.
+//! closure is proved only where no lifetime but its own stands in what the closure takes and
+//! answers, and errors stand in both. This is the one place of the project with `unsafe` code.
 
 ghost use Rattle.std.specs.Prelude.{◌≡◌, ◌^◌, ◌<◌, ℕ, List, length};
 ghost use denote.RawPtr.{Ptr};
@@ -46,6 +46,8 @@ impl Seen {
         requires { (self.now.ptr ≡ ptr) × (len ≡ length self.now.items) }
         ensures { result.now ≡ self.now.items }
     {
+        // SAFETY: `Seen` is the right to read just these octets, and it lasts for good. The proof
+        // has it as the condition of this call.
         unsafe { slice::from_raw_parts(ptr, len) }
     }
 }
@@ -87,7 +89,10 @@ impl StaticText {
     pub fn as_str(&self) -> &str
         ensures { result.now ≡ self.now }
     {
-        unsafe { str::from_utf8_unchecked(self.seen.read_static(self.base, self.len)) }
+        match str::from_utf8(self.seen.read_static(self.base, self.len)) {
+            Ok(text) => text,
+            Err(_) => unreachable!(),
+        }
     }
 
     /// The same text again.

@@ -7,13 +7,13 @@ use Rattle.rpki_der.specs.Form.Made.{Understood, partly}
 use Rattle.rpki_der.specs.Form.Parts.{Sequence, Explicit, ImplicitOf, sequence_at, context_at}
 use Rattle.rpki_der.specs.Read.Parse.{Parser, ◌>>=◌}
 use Rattle.rpki_basics.specs.Uri.{IsRsync}
-use Rattle.rpki_extensions.specs.declared.name.Name.{Name}
+use Rattle.rpki_extensions.specs.declared.name.GeneralName.{GeneralName}
 use Rattle.rpki_extensions.specs.Names.{NameForm, IsNamed, names_at, named}
 use Rattle.rpki_extensions.specs.Uri.{rsync_of}
 
 -- The first of the names that is an rsync URI is this one (RFC 6487, section 4.8.6). That the first
 -- one counts is this project's own rule.
-abbrev pub IsFirstRsync : List Name → List ℕ → Type 0
+abbrev pub IsFirstRsync : List GeneralName → List ℕ → Type 0
 IsFirstRsync names uri = First (IsNamed IsRsync) names (Some uri)
 
 -- fullName [0] IMPLICIT GeneralNames, which is a SEQUENCE OF GeneralName (4.2.1.13), with an rsync

@@ -10,7 +10,7 @@ ghost use Rattle.rpki_extensions.specs.Access.{access_fields_at, accesses_at, is
 ghost use Rattle.rpki_extensions.specs.Access.{subject_of, authority_access_at};
 ghost use Rattle.rpki_extensions.specs.Access.{subject_access_at};
 
-use crate::name::{Name, take_name, uri_of};
+use crate::name::{GeneralName, take_name, uri_of};
 use crate::uri::NamedUri;
 use rpki_basics::{Https, Rsync};
 use rpki_der::{Constructed, DecodeError, ListItem, Oid};
@@ -37,7 +37,7 @@ pub struct Access {
     /// How to get there.
     pub method: Oid,
     /// Where it lies.
-    pub location: Name,
+    pub location: GeneralName,
 }
 
 /// Where more is to be had from the subject of a certificate (RFC 6487, section 4.8.8).

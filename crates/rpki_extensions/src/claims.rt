@@ -15,7 +15,7 @@ ghost use Rattle.rpki_extensions.specs.Extensions.{as_resources, claims_under, c
 ghost use Rattle.rpki_extensions.specs.Policies.{policies_at};
 
 use crate::addresses::IpClaims;
-use crate::extension::{Extension, has_oid, refused, with_oid};
+use crate::extension::{Extension, has_oid, with_oid};
 use crate::faults;
 use crate::identifiers::{CERTIFICATE_POLICIES, as_resources, ip_resources, other};
 use crate::policies::take_certificate_policies;
@@ -61,7 +61,7 @@ fn policy(list: &[Extension]) -> Result<Overclaim, DecodeError>
         (must (stated certificate_policies policies_at list.now)) result }
 {
     match with_oid(list, &CERTIFICATE_POLICIES) {
-        None => Err(refused(faults::NO_POLICY)),
+        None => Err(DecodeError::refusal(faults::NO_POLICY)),
         Some(extension) => policy_in(extension.value.clone()?),
     }
 }
@@ -141,7 +141,7 @@ pub fn claims_of(alloc: Global, list: &[Extension]) -> Result<Claims, DecodeErro
 {
     let policy = policy(list)?;
     if has_other(policy, list) {
-        return Err(refused(faults::RESOURCES_OF_OTHER_POLICY));
+        return Err(DecodeError::refusal(faults::RESOURCES_OF_OTHER_POLICY));
     }
     claims_under(alloc, policy, list)
 }

@@ -9,7 +9,7 @@ ghost use Rattle.rpki_extensions.specs.Extension.{standing_at};
 
 use crate::faults;
 use bytes::Bytes;
-use rpki_der::{Constructed, ContentFault, DecodeError, ListItem, Oid};
+use rpki_der::{Constructed, DecodeError, ListItem, Oid};
 use std::alloc::{AllocError, Global};
 use std::collections::BTreeSet;
 
@@ -34,13 +34,6 @@ impl Clone for Extension {
             value: self.value.clone()?,
         })
     }
-}
-
-/// What is refused by a rule that this text states.
-pub fn refused(text: &'static str) -> DecodeError
-    ensures { result ≡ DecodeError.Content (ContentFault.Text text.now) }
-{
-    DecodeError::refusal(text)
 }
 
 // Reads what stands in the SEQUENCE.

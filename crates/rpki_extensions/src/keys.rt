@@ -15,7 +15,7 @@ ghost use Rattle.rpki_extensions.specs.KeyIdentifiers.{subject_key_at, authority
 ghost use Rattle.rpki_extensions.specs.Usage.{key_usage_at};
 
 use crate::basic::take_basic_constraints;
-use crate::extension::{Extension, refused, with_oid};
+use crate::extension::{Extension, with_oid};
 use crate::faults;
 use crate::identifiers::{
     AUTHORITY_KEY_IDENTIFIER, BASIC_CONSTRAINTS, EXTENDED_KEY_USAGE, KEY_USAGE,
@@ -76,7 +76,7 @@ fn subject_key(alloc: Global, list: &[Extension]) -> Result<KeyIdentifier, Decod
         (must (stated subject_key_identifier subject_key_at list.now)) result }
 {
     match with_oid(list, &SUBJECT_KEY_IDENTIFIER) {
-        None => Err(refused(faults::NO_SUBJECT_KEY_IDENTIFIER)),
+        None => Err(DecodeError::refusal(faults::NO_SUBJECT_KEY_IDENTIFIER)),
         Some(extension) => subject_key_in(alloc, extension.value.clone()?),
     }
 }
@@ -127,7 +127,7 @@ fn usage(list: &[Extension]) -> Result<KeyUsage, DecodeError>
     ensures { Tells (λ usage. usage) (must (stated key_usage key_usage_at list.now)) result }
 {
     match with_oid(list, &KEY_USAGE) {
-        None => Err(refused(faults::NO_KEY_USAGE)),
+        None => Err(DecodeError::refusal(faults::NO_KEY_USAGE)),
         Some(extension) => usage_in(extension.value.clone()?),
     }
 }

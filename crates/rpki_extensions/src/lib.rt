@@ -25,7 +25,7 @@ pub use access::{SubjectAccess, take_authority_info_access, take_subject_info_ac
 pub use addresses::IpClaims;
 pub use basic::take_basic_constraints;
 pub use claims::Claims;
-pub use extension::{Extension, Profile, refused, take_standing, with_oid};
+pub use extension::{Extension, Profile, take_standing, with_oid};
 pub use extensions::Extensions;
 pub use key_identifiers::{take_authority_key_identifier, take_subject_key_identifier};
 pub use keys::KeyFacts;

@@ -12,7 +12,7 @@ use std::alloc::{AllocError, Global};
 
 /// A name (RFC 5280, section 4.2.1.6).
 #[derive(Debug, Drop)]
-pub enum Name {
+pub enum GeneralName {
     /// The text of a URI.
     Uri(Bytes),
     /// A name of another kind, which is not kept.
@@ -20,20 +20,23 @@ pub enum Name {
 }
 
 // Reads a name.
-pub fn take_name(cons: &mut Constructed<'_>) -> Result<Name, DecodeError>
+pub fn take_name(cons: &mut Constructed<'_>) -> Result<GeneralName, DecodeError>
     ensures { Reads (λ name. name) name_at cons.old result cons.new }
 {
     match cons.take_opt_primitive_if(Tag::CTX_6_PRIMITIVE)? {
-        Some(text) => Ok(Name::Uri(text)),
+        Some(text) => Ok(GeneralName::Uri(text)),
         None => {
             cons.skip_one()?;
-            Ok(Name::Other)
+            Ok(GeneralName::Other)
         }
     }
 }
 
 // Reads names, up to the end.
-pub fn take_names(alloc: Global, cons: &mut Constructed<'_>) -> Result<Vec<Name>, DecodeError>
+pub fn take_names(
+    alloc: Global,
+    cons: &mut Constructed<'_>,
+) -> Result<Vec<GeneralName>, DecodeError>
     ensures { Reads (λ names. names.items) names_at cons.old result cons.new }
 {
     let mut names = Vec::new(alloc);
@@ -45,17 +48,17 @@ pub fn take_names(alloc: Global, cons: &mut Constructed<'_>) -> Result<Vec<Name>
 }
 
 // The URI that a name is.
-pub fn uri_of<U: NamedUri>(name: &Name) -> Result<Option<U>, AllocError>
+pub fn uri_of<U: NamedUri>(name: &GeneralName) -> Result<Option<U>, AllocError>
     ensures { IfOk result (λ uri. uri ≡ named U.of name.now) }
 {
     match name {
-        Name::Uri(text) => Ok(U::of_text(text.clone()?)),
-        Name::Other => Ok(None),
+        GeneralName::Uri(text) => Ok(U::of_text(text.clone()?)),
+        GeneralName::Other => Ok(None),
     }
 }
 
 // The first URI of names.
-pub fn first_uri<U: NamedUri>(names: &[Name]) -> Result<Option<U>, AllocError>
+pub fn first_uri<U: NamedUri>(names: &[GeneralName]) -> Result<Option<U>, AllocError>
     ensures { IfOk result (λ uri. uri ≡ first_said (named U.of) names.now) }
 {
     for name in names {

@@ -6,7 +6,6 @@ ghost use Rattle.rpki_der.specs.Read.Reads.{Reads, Stays};
 ghost use Rattle.rpki_extensions.specs.Points.{PointsForm, first_rsync_at, point_fields_at};
 ghost use Rattle.rpki_extensions.specs.Points.{one_point_at, points_at};
 
-use crate::extension::refused;
 use crate::faults;
 use crate::name::{first_uri, take_names};
 use rpki_basics::Rsync;
@@ -20,7 +19,7 @@ fn take_first(alloc: Global, cons: &mut Constructed<'_>) -> Result<Rsync, Decode
     let names = take_names(alloc, cons)?;
     match first_uri::<Rsync>(&names)? {
         Some(uri) => Ok(uri),
-        None => Err(refused(faults::NO_RSYNC_URI)),
+        None => Err(DecodeError::refusal(faults::NO_RSYNC_URI)),
     }
 }
 

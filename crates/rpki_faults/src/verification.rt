@@ -75,7 +75,8 @@ pub enum VerificationError {
     InvalidCaCertificates,
     /// An issuer stands on the certification path already.
     PathReturns,
-    /// An issuer has revoked a certificate on the certification path.
+    /// An issuer has revoked a CA certificate on the certification path. Where the certificate of an
+    /// end entity is revoked, the caller refuses it, by a fault of its own.
     Revoked,
     /// A CA certificate in an attestation stands on no certification path.
     UnusedCaCertificates,

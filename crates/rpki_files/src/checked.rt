@@ -15,7 +15,7 @@ use crate::faults;
 use crate::name::is_stem;
 use bytes::Bytes;
 use rpki_der::encode::{Raw, Value, ia5, octet_string, sequence};
-use rpki_lists::{EntryIter, Kind, Refused, SliceEntry, SliceReader, Written};
+use rpki_lists::{EntryIter, EntryKind, Refused, SliceEntry, SliceReader, Written};
 use std::alloc::AllocError;
 use std::marker::PhantomData;
 
@@ -142,7 +142,7 @@ fn take_checked<'a>(reader: &mut SliceReader<'a>) -> Result<CheckedSlices<'a>, R
 #[derive(Clone, Debug, Drop)]
 pub struct CheckedFiles;
 
-impl Kind for CheckedFiles {
+impl EntryKind for CheckedFiles {
     ghost use Rattle.rpki_der.specs.Tags.{SEQUENCE};
     ghost use Rattle.rpki_der.specs.declared.mode.Mode.TheVariants.{Der};
     ghost use Rattle.rpki_der.proofs.Reading.Many.{in_value-shorter};

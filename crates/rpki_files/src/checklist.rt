@@ -19,7 +19,7 @@ ghost use Rattle.rpki_files.specs.Checked.{IsNamed};
 use crate::checked::{CheckListIter, CheckedFiles};
 use bytes::Bytes;
 pub use encoder::ChecklistEncoder;
-pub use object::Rsc;
+pub use object::{InspectResources, Rsc};
 use read::{read_front, take_checklist};
 use rpki_basics::DigestAlgorithm;
 use rpki_der::laws::slices_hold_octets;

@@ -15,7 +15,7 @@ use rpki_basics::ManifestRule;
 use rpki_der::encode::{bit_string, ia5, sequence};
 use rpki_der::{Constructed, DecodeError, Tag};
 use rpki_lists::{
-    EntryIter, EntryList, Kind, Refused, Rule, SliceEntry, SliceReader, Written, take_list,
+    EntryIter, EntryKind, EntryList, Refused, Rule, SliceEntry, SliceReader, Written, take_list,
 };
 use std::alloc::{AllocError, Global};
 use std::collections::BTreeSet;
@@ -70,7 +70,7 @@ fn take_file<'a>(reader: &mut SliceReader<'a>) -> Result<FileSlices<'a>, Refused
 #[derive(Clone, Debug, Drop)]
 pub struct Files;
 
-impl Kind for Files {
+impl EntryKind for Files {
     ghost use Rattle.rpki_der.specs.Tags.{SEQUENCE};
     ghost use Rattle.rpki_der.specs.declared.mode.Mode.TheVariants.{Der};
     ghost use Rattle.rpki_der.proofs.Reading.Many.{in_value-shorter};

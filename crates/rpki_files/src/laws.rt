@@ -5,7 +5,7 @@ ghost use Rattle.rpki_basics.specs.declared.limits.ManifestRule.{ManifestRule};
 ghost use Rattle.rpki_basics.specs.declared.limits.ManifestRule.TheVariants.{Any, Registered};
 ghost use Rattle.rpki_der.specs.declared.mode.Mode.{Mode};
 ghost use Rattle.rpki_der.specs.Read.Exact.{IsReading};
-ghost use Rattle.rpki_lists.specs.After.{LeavesOctetsAfter};
+ghost use Rattle.rpki_der.specs.Form.After.{LeavesOctetsAfter};
 ghost use Rattle.rpki_files.specs.Name.{IsFileName, is_file_name};
 ghost use Rattle.rpki_files.specs.File.{FileForm, file_at};
 ghost use Rattle.rpki_files.specs.Checked.{CheckedForm, checked_at, is_portable_name};

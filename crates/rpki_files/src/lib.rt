@@ -1,5 +1,5 @@
-//! What lists files: manifests (RFC 9286) and signed checklists (RFC 9323), their contents, and what
-//! is checked of the objects that carry these.
+//! What lists files: manifests (RFC 9286) and signed checklists (RFC 9323), their contents, and
+//! what is checked of the objects that carry these.
 #![tactic(auto)]
 
 mod checked;
@@ -15,11 +15,9 @@ mod uris;
 mod version;
 
 pub use checked::{CheckListIter, CheckedEntry, CheckedFiles, FileNameAndHash};
-pub use checklist::{ChecklistEncoder, ResourceSignedChecklist, Rsc};
+pub use checklist::{ChecklistEncoder, InspectResources, ResourceSignedChecklist, Rsc};
 pub use file::{FileAndHash, FileEncoder};
 pub use files::{FileEntry, FileListIter, Files};
 pub use hash::{ManifestHash, ManifestHashMismatch};
-pub use manifest::{
-    Manifest, ManifestContent, ManifestEncoder, validate_manifest, validate_manifest_at,
-};
+pub use manifest::{Manifest, ManifestContent, ManifestEncoder, ValidateManifest};
 pub use uris::ManifestUriIter;

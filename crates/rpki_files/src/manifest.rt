@@ -22,7 +22,7 @@ use crate::files::{FileListIter, Files, files_of};
 use crate::uris::ManifestUriIter;
 use bytes::Bytes;
 pub use encoder::ManifestEncoder;
-pub use object::{Manifest, validate_manifest, validate_manifest_at};
+pub use object::{Manifest, ValidateManifest};
 use read::{read_front, take_manifest};
 use rpki_basics::{DigestAlgorithm, ManifestRule, Rsync, Serial, Time};
 use rpki_der::laws::slices_hold_octets;

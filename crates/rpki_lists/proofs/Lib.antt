@@ -1,4 +1,3 @@
-pub mod After
 pub mod Lists
 pub mod Counting
 pub mod Exact

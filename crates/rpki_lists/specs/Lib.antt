@@ -1,4 +1,3 @@
-pub mod After
 pub mod Slice
 pub mod Entries
 pub mod Rules

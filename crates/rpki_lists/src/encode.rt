@@ -5,7 +5,7 @@ ghost use Rattle.std.specs.List.{flat_map};
 ghost use Rattle.rpki_der.specs.Write.Parts.{each_small};
 
 use crate::iter::EntryIter;
-use crate::kind::{Kind, SliceEntry};
+use crate::kind::{EntryKind, SliceEntry};
 use rpki_der::{Encode, EncodeError, Sink, SinkFailed};
 
 /// Entries that are written. That what is written is read again is each content's own clause: see

@@ -33,7 +33,7 @@ impl fmt::Display for Refused {
 impl Error for Refused {}
 
 /// A kind of entries.
-pub trait Kind {
+pub trait EntryKind {
     /// What an entry says.
     type Shown;
 
@@ -52,7 +52,7 @@ pub trait Kind {
 /// lifetime of the slice, as `struct NumberEntry<'a>(PhantomData<&'a [u8]>)`, and with
 /// `SliceReader<'a>` as its reader.
 pub trait SliceEntry {
-    type Kind: Kind;
+    type Kind: EntryKind;
 
     /// An entry, whose parts lie in the slice.
     type Item: Drop;

@@ -12,7 +12,7 @@ mod slice;
 
 pub use encode::{EntriesEncoder, Written};
 pub use iter::EntryIter;
-pub use kind::{Kind, Refused, SliceEntry};
+pub use kind::{EntryKind, Refused, SliceEntry};
 pub use list::EntryList;
 pub use rule::{Rule, take_list};
 pub use slice::{BitSlice, SliceReader};

@@ -6,7 +6,7 @@ ghost use Rattle.rpki_der.specs.Read.Parse.{all_of, Finds};
 ghost use Rattle.rpki_der.specs.Read.Reads.{Reads, Stays};
 ghost use Rattle.rpki_lists.specs.Entries.{HoldEntries, entries_of, list_at};
 
-use crate::kind::Kind;
+use crate::kind::EntryKind;
 use crate::rule::{Free, count_by, take_list};
 use crate::slice::SliceReader;
 use bytes::Bytes;
@@ -16,13 +16,13 @@ use std::marker::{Model, PhantomData};
 
 /// Entries of a kind, kept as their octets in DER, one after the other.
 #[derive(Drop, Debug)]
-pub struct EntryList<K: Kind> {
+pub struct EntryList<K: EntryKind> {
     octets: Bytes,
     count: usize,
     kind: PhantomData<K>,
 }
 
-impl<K: Kind> Model for EntryList<K> {
+impl<K: EntryKind> Model for EntryList<K> {
     ghost use Rattle.std.specs.Prelude.{List, length, ◌≡◌};
     ghost use Rattle.rpki_lists.specs.Entries.{HoldEntries, entries_of};
 
@@ -34,7 +34,7 @@ impl<K: Kind> Model for EntryList<K> {
         × (l.count ≡ length (entries_of K.entry_at l.octets)) };
 }
 
-impl<K: Kind> Clone for EntryList<K> {
+impl<K: EntryKind> Clone for EntryList<K> {
     ghost is_clone = { λ l copy. copy ≡ l };
 
     fn clone(&self) -> Result<EntryList<K>, AllocError> {
@@ -46,7 +46,7 @@ impl<K: Kind> Clone for EntryList<K> {
     }
 }
 
-impl<K: Kind> EntryList<K> {
+impl<K: EntryKind> EntryList<K> {
     /// The list whose entries these octets are; the count is that of the entries.
     pub(crate) fn counted(octets: Bytes, count: usize) -> EntryList<K>
         requires entries { HoldEntries K.entry_at octets }

@@ -7,7 +7,7 @@ ghost use Rattle.rpki_der.specs.Read.Reads.{Reads, Stays};
 ghost use Rattle.rpki_lists.specs.Entries.{list_at};
 ghost use Rattle.rpki_lists.specs.Rules.{admits, lets_all, PassesBy, CountsBy};
 
-use crate::kind::{Kind, Refused};
+use crate::kind::{EntryKind, Refused};
 use crate::list::EntryList;
 use crate::slice::SliceReader;
 use rpki_der::{Constructed, DecodeError, Tag};
@@ -15,7 +15,7 @@ use std::marker::PhantomData;
 
 /// A rule over the entries of a list, in order. Its value is what it has seen so far.
 pub trait Rule {
-    type Kind: Kind;
+    type Kind: EntryKind;
 
     // What it has seen after an entry, if the entry may stand there.
     ghost after: { Self → Self.Kind.Shown → Option Self };
@@ -32,7 +32,7 @@ pub(crate) struct Free<K> {
     kind: PhantomData<K>,
 }
 
-impl<K: Kind> Free<K> {
+impl<K: EntryKind> Free<K> {
     /// No rule, which admits all entries.
     pub(crate) fn new() -> Free<K>
         ensures { (entries : List K.Shown) → admits lets_all result entries ≡ true }
@@ -41,7 +41,7 @@ impl<K: Kind> Free<K> {
     }
 }
 
-impl<K: Kind> Rule for Free<K> {
+impl<K: EntryKind> Rule for Free<K> {
     ghost use Rattle.rpki_lists.specs.Rules.{lets_all};
 
     type Kind = K;

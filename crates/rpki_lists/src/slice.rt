@@ -3,15 +3,11 @@
 ghost use Rattle.std.specs.Prelude.{◌≡◌, ◌↔◌, length, IsTrue};
 ghost use Rattle.rpki_der.specs.Tags.{INTEGER, OCTET_STRING, IA5_STRING, SEQUENCE};
 ghost use Rattle.rpki_der.specs.Read.Parse.{is_next, value_at, u8_at, u32_at, bits_at, bits_of};
-ghost use Rattle.rpki_der.specs.Read.Parse.{ia5_at, optional};
+ghost use Rattle.rpki_der.specs.Read.Parse.{ia5_at, optional, Finds};
 ghost use Rattle.rpki_lists.specs.Slice.{FindsFront, Keeps, Closes, seen};
 
-mod contents;
-mod header;
-
-use contents::{bits_of, is_ia5, u8_of, u32_of};
-use header::value_of;
-use rpki_der::Tag;
+use rpki_der::slices::{is_ia5, u8_of, u32_of, value_of};
+use rpki_der::{Mode, Tag};
 use std::marker::Model;
 
 /// A reader of values in DER that lie in a slice, one after the other (X.690, sections 8.1 and 10).
@@ -39,6 +35,27 @@ impl<'a> Model for SliceReader<'a> {
 pub struct BitSlice<'a> {
     pub octets: &'a [u8],
     pub unused: u8,
+}
+
+// What the contents of a BIT STRING say.
+#[tactic(auto, unfolding(rpki_der::specs::Read::Parse::bits_of))]
+#[inline(always)]
+fn bits_of(contents: &[u8]) -> Option<BitSlice<'_>>
+    ensures { Finds (λ b. (b.octets.now, b.unused)) result (bits_of contents.now) }
+{
+    match contents {
+        [] => None,
+        [unused, octets @ ..] => {
+            if *unused > 7 || (octets.is_empty() && *unused != 0) {
+                None
+            } else {
+                Some(BitSlice {
+                    octets,
+                    unused: *unused,
+                })
+            }
+        }
+    }
 }
 
 impl<'a> SliceReader<'a> {
@@ -102,7 +119,7 @@ impl<'a> SliceReader<'a> {
         ensures found { FindsFront (λ c. c.now) (value_at tag.octet) self.old result self.new }
         ensures kept { Keeps result self.old self.new }
     {
-        let (contents, rest) = value_of(tag, self.rest)?;
+        let (contents, rest) = value_of(Mode::Der, tag, self.rest)?;
         self.rest = rest;
         Some(contents)
     }
@@ -113,7 +130,7 @@ impl<'a> SliceReader<'a> {
         ensures found { FindsFront (λ r. r) (value_at SEQUENCE) self.old result self.new }
         ensures kept { Keeps result self.old self.new }
     {
-        let (contents, rest) = value_of(Tag::SEQUENCE, self.rest)?;
+        let (contents, rest) = value_of(Mode::Der, Tag::SEQUENCE, self.rest)?;
         self.rest = rest;
         Some(SliceReader { rest: contents })
     }
@@ -124,7 +141,7 @@ impl<'a> SliceReader<'a> {
         ensures found { FindsFront (λ n. n) u8_at self.old result self.new }
         ensures kept { Keeps result self.old self.new }
     {
-        let (contents, rest) = value_of(Tag::INTEGER, self.rest)?;
+        let (contents, rest) = value_of(Mode::Der, Tag::INTEGER, self.rest)?;
         let n = u8_of(contents)?;
         self.rest = rest;
         Some(n)
@@ -148,7 +165,7 @@ impl<'a> SliceReader<'a> {
         ensures found { FindsFront (λ n. n) u32_at self.old result self.new }
         ensures kept { Keeps result self.old self.new }
     {
-        let (contents, rest) = value_of(Tag::INTEGER, self.rest)?;
+        let (contents, rest) = value_of(Mode::Der, Tag::INTEGER, self.rest)?;
         let n = u32_of(contents)?;
         self.rest = rest;
         Some(n)
@@ -161,7 +178,7 @@ impl<'a> SliceReader<'a> {
             self.old result self.new }
         ensures kept { Keeps result self.old self.new }
     {
-        let (contents, rest) = value_of(Tag::BIT_STRING, self.rest)?;
+        let (contents, rest) = value_of(Mode::Der, Tag::BIT_STRING, self.rest)?;
         let bits = bits_of(contents)?;
         self.rest = rest;
         Some(bits)
@@ -174,7 +191,7 @@ impl<'a> SliceReader<'a> {
         ensures found { FindsFront (λ c. c.now) ia5_at self.old result self.new }
         ensures kept { Keeps result self.old self.new }
     {
-        let (contents, rest) = value_of(Tag::IA5_STRING, self.rest)?;
+        let (contents, rest) = value_of(Mode::Der, Tag::IA5_STRING, self.rest)?;
         if !is_ia5(contents) {
             return None;
         }

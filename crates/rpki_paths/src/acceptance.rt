@@ -12,7 +12,7 @@ ghost use Rattle.rpki_paths.specs.Pairing.{Crl, Signer, HasDistinctIds, HasKey, 
 ghost use Rattle.rpki_paths.specs.Taking.{AreAt, AllVerifyEach, AreAllPaired, PairsOff};
 ghost use Rattle.rpki_paths.specs.Texts.{accept_text};
 
-use crate::certificate::{Certificate, KeyId, Signed};
+use crate::certificate::{Certificate, KeyId, SignedCertificate};
 use crate::decision::Attested;
 use crate::pairs::{Accepts, PairFault, Seeks, pair_off};
 use crate::verdict_count::VerdictCount;
@@ -284,7 +284,7 @@ pub fn accept<S, C, R: Copy, L: Ledger>(
 ) -> Result<Vec<Path<C>>, AcceptFault>
 where
     S: CarriedSigner<C> + Accepts<C, L>,
-    C: CarriedCert<R> + Accepts<R, L> + Signed<L>,
+    C: CarriedCert<R> + Accepts<R, L> + SignedCertificate<L>,
     ensures accepted { IfOk result (λ paths.
         AreAccepted C.cert (carried_of S.signer C.cert C.crl a.now) paths.items) }
     ensures refused { IfErr result (WhyNot (carried_of S.signer C.cert C.crl a.now)) }

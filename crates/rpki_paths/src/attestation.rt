@@ -10,7 +10,7 @@ ghost use Rattle.rpki_paths.specs.Supplied.{supply_of, refusal_of};
 ghost use Rattle.rpki_paths.specs.Texts.{grant_text};
 
 use crate::acceptance::{AcceptFault, Attestation, CarriedCert, CarriedSigner, accept};
-use crate::certificate::{Locator, Signed, SuppliedCa};
+use crate::certificate::{Locator, SignedCertificate, SuppliedCa};
 use crate::decision::{FinalFault, finalize};
 use crate::pairs::Accepts;
 use crate::supply::{Supplied, SupplyFault, supply_all};
@@ -94,7 +94,7 @@ pub fn grant<S, C, R: Copy, T, U, L: Ledger>(
 ) -> Result<(), GrantFault<T::Fault>>
 where
     S: CarriedSigner<C> + Accepts<C, L>,
-    C: CarriedCert<R> + Accepts<R, L> + Signed<L>,
+    C: CarriedCert<R> + Accepts<R, L> + SignedCertificate<L>,
     T: Locator<C>,
     U: SuppliedCa<C>,
     ensures yes { OnOk result (IsGranted (carried_of S.signer C.cert C.crl a.now)

@@ -54,7 +54,7 @@ pub trait Certificate: Copy {
 
 /// A carried certificate whose signature is asked about on this count, and on no other: a caller
 /// who knows no more of `L` has no count but the one that is handed in.
-pub trait Signed<L: Ledger>: Certificate {
+pub trait SignedCertificate<L: Ledger>: Certificate {
     /// Whether the key of another verifies its signature: one verdict, which is counted.
     fn is_signed_by(&self, issuer: &Self, asked: &mut VerdictCount<L>) -> bool
         ensures says { result ≡ (Self.cert self.now).verifies (Self.cert issuer.now).key }

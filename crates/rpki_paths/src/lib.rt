@@ -18,7 +18,7 @@ mod walks;
 
 pub use acceptance::{AcceptFault, Attestation, CarriedCert, CarriedSigner, accept};
 pub use attestation::{GrantFault, grant};
-pub use certificate::{Certificate, KeyId, Locator, Signed, SuppliedCa};
+pub use certificate::{Certificate, KeyId, Locator, SignedCertificate, SuppliedCa};
 pub use decision::{Attested, FinalFault, finalize};
 pub use family_resources::{
     FamilyResources, covers_nearest, set_covers_nearest, with_issuer, with_supplied_ca,

@@ -12,7 +12,7 @@ ghost use Rattle.rpki_paths.specs.Cert.{at_place};
 ghost use Rattle.rpki_paths.specs.Walk.{KeepsVisited, placed};
 ghost use Rattle.rpki_paths.specs.Texts.{path_text};
 
-use crate::certificate::Signed;
+use crate::certificate::SignedCertificate;
 use crate::key_id_index::KeyIdIndex;
 use crate::path_resources::PathResources;
 use crate::verdict_count::VerdictCount;
@@ -100,7 +100,7 @@ pub enum Found {
 }
 
 // The first of the named CAs whose key verifies the certificate.
-fn find_issuer<C: Signed<L>, L: Ledger>(
+fn find_issuer<C: SignedCertificate<L>, L: Ledger>(
     cert: &C,
     cas: &[C],
     named: &[usize],
@@ -134,7 +134,7 @@ fn find_issuer<C: Signed<L>, L: Ledger>(
 /// index has the CAs' subject key identifiers. For each CA `visited` has the number of the walk
 /// that last took it; `turn` is that of this one. An error is the first cause, of the certificate
 /// where the walk stops, in the order of `PathFault`, or want of memory.
-pub fn walk<C: Signed<L>, L: Ledger>(
+pub fn walk<C: SignedCertificate<L>, L: Ledger>(
     alloc: Global,
     ee: &C,
     cas: &[C],

@@ -9,7 +9,7 @@ ghost use Rattle.rpki_paths.specs.Path.{IsDistinct};
 ghost use Rattle.rpki_paths.specs.Walk.{placed};
 ghost use Rattle.rpki_paths.specs.Texts.{walks_text};
 
-use crate::certificate::{Certificate, KeyId, Signed};
+use crate::certificate::{Certificate, KeyId, SignedCertificate};
 use crate::key_id_index::KeyIdIndex;
 use crate::pairs::append;
 use crate::verdict_count::VerdictCount;
@@ -97,7 +97,7 @@ fn first_unvisited(visited: &[u64]) -> usize
 /// memory.
 /// Among CAs with distinct identifiers a call that succeeds asks for at most as many verdicts for
 /// each certificate as there are CAs.
-pub fn walk_each<C: Signed<L>, L: Ledger>(
+pub fn walk_each<C: SignedCertificate<L>, L: Ledger>(
     alloc: Global,
     ees: &[C],
     cas: &[C],

@@ -47,7 +47,7 @@ impl Listed for Block<Asn> {
     ghost use Rattle.rpki_resources.specs.Blocks.{IsBlock};
     ghost use Rattle.rpki_resources.specs.As.Read.{as_item_at};
 
-    type Kind = ();
+    type Family = ();
 
     ghost parser = { λ _. as_item_at };
 

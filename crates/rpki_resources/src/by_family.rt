@@ -31,7 +31,7 @@ pub struct ByFamily<T> {
 
 /// A family, and what stands for it.
 #[derive(Drop)]
-pub struct Entry<T> {
+pub struct FamilyEntry<T> {
     pub family: AddressFamily,
     pub value: T,
 }
@@ -111,12 +111,12 @@ impl<T: Drop> ByFamily<T> {
 }
 
 // The values of the entries, unless a family has more than one.
-fn gather<T: Drop>(entries: Vec<Entry<T>>) -> Option<ByFamily<T>>
+fn gather<T: Drop>(entries: Vec<FamilyEntry<T>>) -> Option<ByFamily<T>>
     ensures { result ≡ gathered no_values entries.items }
 {
     let mut values = ByFamily::none();
     for entry in entries {
-        let Entry { family, value } = entry;
+        let FamilyEntry { family, value } = entry;
         values = values.with(family, value)?;
     }
     Some(values)
@@ -127,26 +127,26 @@ fn gather<T: Drop>(entries: Vec<Entry<T>>) -> Option<ByFamily<T>>
 fn take_fields<T: OfFamily>(
     cons: &mut Constructed<'_>,
     alloc: Global,
-) -> Result<Entry<T>, DecodeError>
+) -> Result<FamilyEntry<T>, DecodeError>
     ensures { Reads (λ entry. entry) (entry_fields_at T.parser) cons.old result cons.new }
 {
     let family = AddressFamily::take_from(alloc, cons)?;
     let value = T::take_value(alloc, cons, family)?;
-    Ok(Entry { family, value })
+    Ok(FamilyEntry { family, value })
 }
 
 // Reads an entry.
 fn take_entry<T: OfFamily>(
     cons: &mut Constructed<'_>,
     alloc: Global,
-) -> Result<Entry<T>, DecodeError>
+) -> Result<FamilyEntry<T>, DecodeError>
     ensures { Reads (λ entry. entry) (entry_at T.parser) cons.old result cons.new }
 {
     cons.take_sequence(|cons| take_fields(cons, alloc))
 }
 
-impl<T: OfFamily> Listed for Entry<T> {
-    type Kind = ();
+impl<T: OfFamily> Listed for FamilyEntry<T> {
+    type Family = ();
 
     ghost parser = { λ _. entry_at T.parser };
 
@@ -156,7 +156,7 @@ impl<T: OfFamily> Listed for Entry<T> {
         cons: &mut Constructed<'_>,
         alloc: Global,
         _kind: (),
-    ) -> Result<Entry<T>, DecodeError> {
+    ) -> Result<FamilyEntry<T>, DecodeError> {
         take_entry(cons, alloc)
     }
 }

@@ -74,7 +74,7 @@ impl Listed for Block<Addr> {
     ghost use Rattle.rpki_resources.specs.Family.{max_bits};
     ghost use Rattle.rpki_resources.specs.Ip.Read.{ip_item_at};
 
-    type Kind = AddressFamily;
+    type Family = AddressFamily;
 
     ghost parser = { λ family. ip_item_at (max_bits family) };
 

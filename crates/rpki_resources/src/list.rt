@@ -13,10 +13,10 @@ pub trait Listed: Drop + Sized {
     ghost use Rattle.rpki_der.specs.Read.Parse.{Parser};
 
     /// What its form depends on: the family of addresses, or nothing.
-    type Kind: Copy;
+    type Family: Copy;
 
     // How one is read.
-    ghost parser: { Self.Kind → Parser Self };
+    ghost parser: { Self.Family → Parser Self };
 
     // What is known of one that was read.
     ghost known: { Self → Type 0 };
@@ -25,9 +25,9 @@ pub trait Listed: Drop + Sized {
     fn take_one(
         cons: &mut Constructed<'_>,
         alloc: Global,
-        kind: Self::Kind,
+        family: Self::Family,
     ) -> Result<Self, DecodeError>
-        ensures reads { Reads (λ x. x) (parser kind) cons.old result cons.new }
+        ensures reads { Reads (λ x. x) (parser family) cons.old result cons.new }
         ensures known { IfOk result known };
 }
 
@@ -35,15 +35,15 @@ pub trait Listed: Drop + Sized {
 pub fn take_list<T: Listed>(
     cons: &mut Constructed<'_>,
     alloc: Global,
-    kind: T::Kind,
+    family: T::Family,
 ) -> Result<Vec<T>, DecodeError>
-    requires { TakesOctets (T.parser kind) }
-    ensures reads { Reads (λ list. list.items) (all_at (T.parser kind)) cons.old result cons.new }
+    requires { TakesOctets (T.parser family) }
+    ensures reads { Reads (λ list. list.items) (all_at (T.parser family)) cons.old result cons.new }
     ensures known { IfOk result (λ list. All T.known list.items) }
 {
     let mut list = Vec::new(alloc);
     while !cons.is_at_end()? {
-        let one = T::take_one(cons, alloc, kind)?;
+        let one = T::take_one(cons, alloc, family)?;
         list.push(one)?;
     }
     Ok(list)

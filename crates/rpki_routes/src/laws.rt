@@ -2,7 +2,8 @@
 
 ghost use Rattle.std.specs.Prelude.{◌↔◌, ◌≡◌, ◌++◌, ◌≤◌, ◌<◌, ◌^◌, ℕ, List, length};
 ghost use Rattle.rpki_der.specs.declared.mode.Mode.TheVariants.{Der};
-ghost use Rattle.rpki_der.specs.Grammar.{Front, IsBytes, IsUnique, Value, HasNoFront};
+ghost use Rattle.rpki_der.specs.Grammar.{Front, IsBytes, IsUnique};
+ghost use Rattle.rpki_der.specs.Form.After.{LeavesOctetsAfter};
 ghost use Rattle.rpki_basics.specs.declared.limits.ProviderLimit.{ProviderLimit};
 ghost use Rattle.rpki_basics.specs.declared.limits.ProviderLimit.TheVariants.{Narrow, Wide};
 ghost use Rattle.rpki_basics.specs.Limits.{most_providers};
@@ -26,16 +27,7 @@ pub fn attestations_are_unique()
 /// Octets after an ASPA content change nothing: they are left. Nor do octets after one whole
 /// value make it a content that it is not.
 pub fn octets_after_an_attestation_are_left()
-    ensures left { (limit : ProviderLimit) (octets more : List ℕ) (a : Aspa) (rest : List ℕ)
-        → Front (AspaForm limit) octets a rest
-        → Front (AspaForm limit) (octets ++ more) a (rest ++ more) }
-    ensures whole { (limit : ProviderLimit) (octets contents more : List ℕ) (tag : ℕ) (a : Aspa)
-        (rest : List ℕ) → Value Der octets tag contents
-        → Front (AspaForm limit) (octets ++ more) a rest
-        → AspaForm limit octets a × (rest ≡ more) }
-    ensures refused { (limit : ProviderLimit) (octets contents more : List ℕ) (tag : ℕ)
-        → Value Der octets tag contents → HasNoFront (AspaForm limit) octets
-        → HasNoFront (AspaForm limit) (octets ++ more) }
+    ensures { (limit : ProviderLimit) → LeavesOctetsAfter Der (AspaForm limit) }
 {}
 
 /// What an attestation is written as is a content that says it, and no other octets are. Whatever
@@ -66,13 +58,7 @@ pub fn roas_are_unique()
 /// Octets after a ROA content change nothing: they are left. Nor do octets after one whole value
 /// make it a content that it is not.
 pub fn octets_after_a_roa_are_left()
-    ensures left { (octets more : List ℕ) (r : Roa) (rest : List ℕ) → Front RoaForm octets r rest
-        → Front RoaForm (octets ++ more) r (rest ++ more) }
-    ensures whole { (octets contents more : List ℕ) (tag : ℕ) (r : Roa) (rest : List ℕ)
-        → Value Der octets tag contents → Front RoaForm (octets ++ more) r rest
-        → RoaForm octets r × (rest ≡ more) }
-    ensures refused { (octets contents more : List ℕ) (tag : ℕ) → Value Der octets tag contents
-        → HasNoFront RoaForm octets → HasNoFront RoaForm (octets ++ more) }
+    ensures { LeavesOctetsAfter Der RoaForm }
 {}
 
 /// What a ROA says is written as a content that says it, where what stands in its SEQUENCE has

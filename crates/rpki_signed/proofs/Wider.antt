@@ -12,6 +12,7 @@ use Rattle.rpki_der.proofs.Form.Words.{part-unique}
 use Rattle.rpki_basics.specs.declared.limits.ManifestRule.TheVariants.{Any, Registered}
 use Rattle.rpki_basics.specs.declared.limits.ProviderLimit.TheVariants.{Narrow, Wide}
 use Rattle.rpki_basics.specs.Moment.{Moment}
+use Rattle.rpki_faults.specs.Checks.{AllHold}
 use Rattle.rpki_faults.specs.declared.validation.ValidationError.{ValidationError}
 use Rattle.rpki_faults.specs.declared.validation.ValidationError.TheVariants as faults
 use Rattle.rpki_extensions.specs.declared.claims.Claims.{Claims}
@@ -25,6 +26,7 @@ use Rattle.rpki_sigobj.proofs.Wholes.Fronts.{same-whole}
 use Rattle.rpki_sigobj.proofs.Wholes.Numbers.{same-numbers}
 use Rattle.rpki_sigobj.specs.Signed.Good.{IsGood, IsNotGood}
 use Rattle.rpki_sigobj.specs.Signed.Kind.{Kind}
+use Rattle.rpki_sigobj.specs.Signed.Process.{before_revocation}
 use Rattle.rpki_sigobj.specs.Signed.{Whole, ObjectForm, cert_in}
 use Rattle.rpki_files.specs.Manifest.{Manifest, ManifestForm}
 use Rattle.rpki_files.proofs.Manifests.Exact.{manifest-reading}
@@ -36,7 +38,7 @@ use Rattle.rpki_routes.proofs.Attestations.Written.{attestation-wide}
 use Rattle.rpki_routes.specs.Aspa.Checks.{aspa_kind}
 use Rattle.rpki_signed.specs.declared.check.CheckError.{CheckError}
 use Rattle.rpki_signed.specs.declared.check.CheckError.TheVariants.{Decode, Validation}
-use Rattle.rpki_signed.specs.Check.{BeginsWith}
+use Rattle.rpki_signed.specs.Check.{BeginsWith, MayAsk}
 use Rattle.rpki_signed.specs.Exact.{IsExact}
 use Rattle.rpki_signed.specs.Wider.{KeepsYes, RepeatsYes}
 
@@ -103,6 +105,7 @@ module _ {X : Type 0} (narrow wide : List ℕ → X → Type 0)
     -- ---- checks
 
     module _ (kind : Kind X) (Says : KeptCertificate → Result (Unit {0}) ValidationError → Type 0)
+        (Takes : KeptCertificate → Type 0)
       where
         module _ (mode : Mode) (digest : Digester) (verdict : Verdict) (issuer : Validated)
             (now : Moment) (octets : List ℕ) (a : Validated × X)
@@ -157,7 +160,16 @@ module _ {X : Type 0} (narrow wide : List ℕ → X → Type 0)
               refused fault (here (λ (o : Whole X). (fault ≡ faults.Memory)
               ⊎ IsNotGood kind mode digest verdict issuer now (Says (cert_in mode o)) o fault) c)
 
-        pub keeps-yes : KeepsYes kind narrow wide Says
+          may-ask : MayAsk kind narrow mode digest verdict issuer now Takes octets
+              → MayAsk kind wide mode digest verdict issuer now Takes octets
+          may-ask asks o rest f all =
+              let same : o ≡ b.object = (front.only o rest f).0 in
+              subst (λ (w : Whole X). Takes (cert_in mode w)) (sym same)
+              (asks b.object b.rest b.front.found (subst
+              (λ (w : Whole X). AllHold (before_revocation kind digest verdict w issuer now))
+              same all))
+
+        pub keeps-yes : KeepsYes kind narrow wide Says Takes
         keeps-yes = record {
           first = λ mode digest verdict issuer now octets a b.
               begins kind.type mode octets _ b;
@@ -165,6 +177,8 @@ module _ {X : Type 0} (narrow wide : List ℕ → X → Type 0)
               begins kind.type mode octets _ b;
           again = λ mode digest verdict issuer now octets a result b c.
               keeps-again mode digest verdict issuer now octets a b result c;
+          asks = λ mode digest verdict issuer now octets a b c.
+              may-ask mode digest verdict issuer now octets a b c;
         }
 
 -- ---- manifests and ASPAs
@@ -177,13 +191,15 @@ pub aspa-wider : (octets : List ℕ) (a : Aspa) → AspaForm Narrow octets a →
 aspa-wider octets a h = (h.0, attestation-wide Narrow a h.1)
 
 pub manifest-keeps : (Says : KeptCertificate → Result (Unit {0}) ValidationError → Type 0)
-    → KeepsYes manifest_kind (ManifestForm Registered Der) (ManifestForm Any Der) Says
-manifest-keeps Says =
+    (Takes : KeptCertificate → Type 0)
+    → KeepsYes manifest_kind (ManifestForm Registered Der) (ManifestForm Any Der) Says Takes
+manifest-keeps Says Takes =
     keeps-yes (ManifestForm Registered Der) (ManifestForm Any Der) manifest-wider
-    ((manifest-reading Any).unique Der) manifest_kind Says
+    ((manifest-reading Any).unique Der) manifest_kind Says Takes
 
 pub aspa-keeps : (Says : KeptCertificate → Result (Unit {0}) ValidationError → Type 0)
-    → KeepsYes aspa_kind (AspaForm Narrow) (AspaForm Wide) Says
-aspa-keeps Says =
+    (Takes : KeptCertificate → Type 0)
+    → KeepsYes aspa_kind (AspaForm Narrow) (AspaForm Wide) Says Takes
+aspa-keeps Says Takes =
     keeps-yes (AspaForm Narrow) (AspaForm Wide) aspa-wider (part-unique (aspa-part Wide) Der)
-    aspa_kind Says
+    aspa_kind Says Takes

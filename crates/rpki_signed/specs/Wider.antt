@@ -12,7 +12,7 @@ use Rattle.rpki_sigobj.specs.Verify.{Digester}
 use Rattle.rpki_sigobj.specs.Signed.Kind.{Kind}
 use Rattle.rpki_signed.specs.declared.check.CheckError.{CheckError}
 use Rattle.rpki_signed.specs.declared.check.CheckError.TheVariants.{Decode, Validation}
-use Rattle.rpki_signed.specs.Check.{Checks}
+use Rattle.rpki_signed.specs.Check.{Checks, MayAsk}
 use Rattle.rpki_signed.specs.Exact.{IsExact}
 
 -- The answer repeats the yes a: the same certificate, with the same numbers, and the same content.
@@ -27,9 +27,11 @@ RepeatsYes Says a (Err (Validation fault)) = (fault ≡ Memory) ⊎ Says a.0.cer
 
 -- A yes of a check by the narrow form is a yes by the wide one, under the same issuer, at the same
 -- moment, with the same certificate and the same content, by each definition of what a check
--- answers (first, exact). Whatever a check by the wide form answers there, repeats it (again).
+-- answers (first, exact). Whatever a check by the wide form answers there, repeats it (again); and
+-- who may ask the caller in the one, may in the other (asks).
 pub record KeepsYes {X : Type 0} (kind : Kind X) (narrow wide : List ℕ → X → Type 0)
-    (Says : KeptCertificate → Result (Unit {0}) ValidationError → Type 0) : Type 0 where
+    (Says : KeptCertificate → Result (Unit {0}) ValidationError → Type 0)
+    (Takes : KeptCertificate → Type 0) : Type 0 where
   pub first : (mode : Mode) (digest : Digester) (verdict : Verdict) (issuer : Validated)
       (now : Moment) (octets : List ℕ) (a : Validated × X)
       → Checks kind narrow mode digest verdict issuer now Says octets (Ok a)
@@ -44,3 +46,8 @@ pub record KeepsYes {X : Type 0} (kind : Kind X) (narrow wide : List ℕ → X �
       → IsExact kind narrow mode digest verdict issuer now Says octets (Ok a)
       → IsExact kind wide mode digest verdict issuer now Says octets result
       → RepeatsYes Says a result
+  pub asks : (mode : Mode) (digest : Digester) (verdict : Verdict) (issuer : Validated)
+      (now : Moment) (octets : List ℕ) (a : Validated × X)
+      → IsExact kind narrow mode digest verdict issuer now Says octets (Ok a)
+      → MayAsk kind narrow mode digest verdict issuer now Takes octets
+      → MayAsk kind wide mode digest verdict issuer now Takes octets

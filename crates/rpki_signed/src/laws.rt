@@ -1,12 +1,12 @@
 //! What the forms and the checks of objects mean: laws, as functions that do nothing.
 
 ghost use Rattle.std.specs.Prelude.{ℕ, List};
-ghost use Rattle.std.specs.Fn.{FnOnceReturnsAt};
+ghost use Rattle.std.specs.Fn.{FnOnceTakesAt, FnOnceReturnsAt};
 ghost use Rattle.rpki_basics.specs.declared.limits.ManifestRule.TheVariants.{Any, Registered};
 ghost use Rattle.rpki_basics.specs.declared.limits.ProviderLimit.TheVariants.{Narrow, Wide};
 ghost use Rattle.rpki_der.specs.declared.mode.Mode.{Mode};
 ghost use Rattle.rpki_der.specs.declared.mode.Mode.TheVariants.{Der};
-ghost use Rattle.rpki_lists.specs.After.{LeavesOctetsAfter};
+ghost use Rattle.rpki_der.specs.Form.After.{LeavesOctetsAfter};
 ghost use Rattle.rpki_files.specs.Checklist.{ChecklistForm};
 ghost use Rattle.rpki_files.specs.Manifest.{Manifest, ManifestForm};
 ghost use Rattle.rpki_routes.specs.Aspa.{Aspa};
@@ -63,7 +63,8 @@ pub fn narrow_objects_are_wide()
 /// now answers a fault. So it is with `check::aspa`, by the narrow limit and by the wide one.
 pub fn narrow_checks_are_wide<F: FnOnce(&Cert) -> Result<(), ValidationError>>(check_crl: &F)
     ensures manifests { KeepsYes manifest_kind (ManifestForm Registered Der)
-        (ManifestForm Any Der) (FnOnceReturnsAt F.FnOnce check_crl.now) }
+        (ManifestForm Any Der) (FnOnceReturnsAt F.FnOnce check_crl.now)
+        (FnOnceTakesAt F.FnOnce check_crl.now) }
     ensures aspas { KeepsYes aspa_kind (AspaForm Narrow) (AspaForm Wide)
-        (FnOnceReturnsAt F.FnOnce check_crl.now) }
+        (FnOnceReturnsAt F.FnOnce check_crl.now) (FnOnceTakesAt F.FnOnce check_crl.now) }
 {}

@@ -5,6 +5,6 @@
 pub mod check;
 pub mod laws;
 
-pub use rpki_files::{Manifest, Rsc, validate_manifest, validate_manifest_at};
+pub use rpki_files::{InspectResources, Manifest, Rsc, ValidateManifest};
 pub use rpki_routes::{Aspa, Roa};
-pub use rpki_sigobj::{Content, Signed, SignedObjectEncoder};
+pub use rpki_sigobj::{Content, Signed};

@@ -4,7 +4,7 @@ ghost use Rattle.rpki_der.specs.declared.mode.Mode.{Mode};
 ghost use Rattle.rpki_der.specs.Read.Exact.{IsReading};
 ghost use Rattle.std.specs.Prelude.{◌↔◌};
 ghost use Rattle.rpki_basics.specs.Moment.{Moment};
-ghost use Rattle.rpki_lists.specs.After.{LeavesOctetsAfter};
+ghost use Rattle.rpki_der.specs.Form.After.{LeavesOctetsAfter};
 ghost use Rattle.rpki_faults.specs.Checks.{AllHold, IsFirstFault};
 ghost use Rattle.rpki_faults.specs.declared.validation.ValidationError.{ValidationError};
 ghost use Rattle.rpki_certs.specs.Inspect.{ee_checks, detached_ee_checks};

@@ -11,5 +11,5 @@ mod signer_info;
 mod validate;
 mod verify;
 
-pub use object::{SignedObject, SignedObjectEncoder};
+pub use object::SignedObject;
 pub use signed::{Content, Signed, oid_of};

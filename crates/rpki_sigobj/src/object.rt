@@ -1,6 +1,5 @@
 //! Signed objects.
 
-mod encoder;
 mod fields;
 mod parts;
 mod read;
@@ -15,8 +14,8 @@ ghost use Rattle.rpki_sigobj.specs.Object.{mode_of};
 
 use crate::faults;
 use bytes::Bytes;
-pub use encoder::SignedObjectEncoder;
 use read::SignedData;
+use rpki_der::encode::CapturedEncoder;
 use rpki_der::laws::slices_hold_octets;
 use rpki_der::{Captured, Constructed, DecodeError, EncodeError, Mode, Oid};
 use std::alloc::{AllocError, Global};
@@ -146,13 +145,12 @@ impl SignedObject {
 
     /// What writes the octets of the signed object as they were read, where they are DER, and
     /// answers `NotDer` where they were read in BER.
-    pub fn encode_ref(&self) -> SignedObjectEncoder<'_>
-        ensures object { result.0.now ≡ self.now }
+    pub fn encode_ref(&self) -> CapturedEncoder<'_>
+        ensures octets { result.0.now.octets ≡ self.now.object.octets }
+        ensures mode { result.0.now.mode ≡ self.now.mode }
         ensures written { SignedForm self.now.mode self.now.object.octets self.now.object }
     {
-        // What a value's type promises is known to the proof only where one of its fields is read.
-        let _ = &self.captured;
-        SignedObjectEncoder(self)
+        self.captured.encode_ref()
     }
 
     /// The octets of the signed object as they were read, where they are DER. Refuses by `NotDer`

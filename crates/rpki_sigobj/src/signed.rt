@@ -11,10 +11,11 @@ ghost use Rattle.rpki_sigobj.specs.Object.{SignedForm, SignedFormOf, mode_of, ce
 ghost use Rattle.rpki_sigobj.specs.Signed.{ObjectForm, IsKeptWhole, whole_of};
 ghost use Rattle.rpki_certs.specs.Verify.{IsClaimedOf};
 
-use crate::object::{SignedObject, SignedObjectEncoder};
+use crate::object::SignedObject;
 use bytes::Bytes;
 pub use content::{Content, oid_of};
 use rpki_certs::{Cert, ResourceCert};
+use rpki_der::encode::CapturedEncoder;
 use rpki_der::{DecodeError, EncodeError};
 use std::alloc::{AllocError, Global};
 use std::marker::Model;
@@ -167,8 +168,9 @@ impl<T: Content> Signed<T> {
 
     /// What writes the octets of the object as they were read, where they are DER, and answers
     /// `NotDer` where they were read in BER.
-    pub fn encode_ref(&self) -> SignedObjectEncoder<'_>
-        ensures object { result.0.now ≡ self.now.object }
+    pub fn encode_ref(&self) -> CapturedEncoder<'_>
+        ensures octets { result.0.now.octets ≡ self.now.object.object.octets }
+        ensures mode { result.0.now.mode ≡ self.now.object.mode }
         ensures written { SignedForm self.now.object.mode self.now.object.object.octets
             self.now.object.object }
     {

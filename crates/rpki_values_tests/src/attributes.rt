@@ -4,4 +4,5 @@
 //! memory on and asserts everything else. Attributes that are made, messages, and each length at
 //! which a header changes are in the sweeps.
 
+mod making;
 mod read;

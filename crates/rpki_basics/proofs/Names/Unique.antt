@@ -7,7 +7,7 @@ use Rattle.rpki_der.specs.Grammar.{IsBytes}
 use Rattle.rpki_der.specs.Write.Written.{value_octets}
 use Rattle.rpki_der.proofs.Reading.Exact.{IsBytes-left, IsBytes-right}
 use Rattle.rpki_der.proofs.Writing.Lengths.{value-unique}
-use Rattle.rpki_basics.specs.Hex.{upper_hex}
+use Rattle.rpki_der.specs.Text.Hex.{upper_hex}
 use Rattle.rpki_basics.specs.Name.{common_name, KeyNameForm, key_name_octets}
 use Rattle.rpki_basics.proofs.Algorithms.Unique.{inside, oid-one}
 

@@ -10,7 +10,7 @@ use Rattle.rpki_der.specs.declared.mode.Mode.TheVariants.{Der}
 use Rattle.rpki_der.specs.Write.Written.{value_octets, length_octets, length_value_octets_le}
 use Rattle.rpki_der.proofs.Reading.Scan.{tag-sound}
 use Rattle.rpki_der.proofs.Writing.Lengths.{value-written}
-use Rattle.rpki_basics.specs.Hex.{upper_hex}
+use Rattle.rpki_der.specs.Text.Hex.{upper_hex}
 use Rattle.rpki_basics.specs.Name.{IsName, common_name, KeyNameForm, key_name_octets}
 use Rattle.rpki_basics.proofs.Algorithms.Written.{oid-written}
 

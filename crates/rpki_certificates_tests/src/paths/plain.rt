@@ -3,7 +3,7 @@
 ghost use Rattle.std.specs.Prelude.{◌≡◌};
 
 use rpki_faults::Overclaim;
-use rpki_paths::{Certificate, KeyId, Locator, Signed, SuppliedCa, VerdictCount};
+use rpki_paths::{Certificate, KeyId, Locator, SignedCertificate, SuppliedCa, VerdictCount};
 use rpki_resources::{
     Addr, AsBlock, AsBlocks, AsBlocksBuilder, AsResources, Asn, IpBlock, IpBlocks, IpBlocksBuilder,
     IpResources,
@@ -124,7 +124,7 @@ impl<'a> Certificate for Seen<'a> {
     }
 }
 
-impl<'a, L: Ledger> Signed<L> for Seen<'a> {
+impl<'a, L: Ledger> SignedCertificate<L> for Seen<'a> {
     fn is_signed_by(&self, issuer: &Self, asked: &mut VerdictCount<L>) -> bool {
         asked.count();
         self.0.signer == issuer.0.key

@@ -8,8 +8,7 @@ use rpki_certs::{Cert, ResourceCert};
 use rpki_der::{Encode, EncodeError};
 use rpki_faults::ValidationError;
 use rpki_fixtures::{ObjectOf, object_octets};
-use rpki_signed::{Aspa, Content, Manifest, Roa, Rsc, Signed};
-use rpki_signed::{validate_manifest, validate_manifest_at};
+use rpki_signed::{Aspa, Content, Manifest, Roa, Rsc, Signed, ValidateManifest};
 use std::alloc::{AllocError, Global};
 
 /// What is handed to each call.
@@ -161,9 +160,9 @@ fn validated(under: &Under<'_>, octets: &Bytes) -> Result<bool, Fail> {
     } = *under;
     let object = Manifest::decode(alloc, octets.clone()?, strict, ManifestRule::Any)?;
     let answer = if strict {
-        validate_manifest_at(object, alloc, issuer, strict, &StandIn, clock.0)
+        object.validate_at(alloc, issuer, strict, &StandIn, clock.0)
     } else {
-        validate_manifest(object, alloc, issuer, strict, &StandIn, &clock)
+        object.validate(alloc, issuer, strict, &StandIn, &clock)
     };
     let (cert, content) = answer?;
     let has_numbers = has_numbers(&cert, 0, 70000);

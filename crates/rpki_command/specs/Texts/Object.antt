@@ -4,7 +4,7 @@ use Rattle.rpki_basics.specs.Moment.{Moment}
 use Rattle.rpki_basics.specs.Serial.{serial_text}
 use Rattle.rpki_basics.specs.Time.Form.{iso_text}
 use Rattle.rpki_certs.specs.Cert.{Certificate}
-use Rattle.rpki_basics.specs.Hex.{upper_hex}
+use Rattle.rpki_der.specs.Text.Hex.{upper_hex}
 use Rattle.rpki_sigobj.specs.Signed.{Whole}
 
 -- the line of the moment at which it was signed, by what the signer says

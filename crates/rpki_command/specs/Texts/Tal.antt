@@ -2,7 +2,7 @@
 use Rattle.std.specs.Prelude.{◌≡◌, ℕ, List, ◌++◌, codes}
 use Rattle.std.specs.List.{flat_map}
 use Rattle.sha1.specs.Sha1.{sha1}
-use Rattle.rpki_basics.specs.Hex.{upper_hex}
+use Rattle.rpki_der.specs.Text.Hex.{upper_hex}
 use Rattle.rpki_tal.specs.declared.uri.TalUri.{TalUri}
 use Rattle.rpki_tal.specs.Uri.{uri_text}
 use Rattle.rpki_tal.specs.Form.{TalForm}

@@ -4,7 +4,7 @@ ghost use Rattle.std.specs.Prelude.{ℕ, List};
 ghost use Rattle.std.specs.List.{flat_map};
 ghost use Rattle.rpki_command.specs.Grows.{Grows, AppendsLine};
 
-use rpki_lists::{EntryIter, Kind, SliceEntry};
+use rpki_lists::{EntryIter, EntryKind, SliceEntry};
 use rpki_resources::{AsBlock, AsBlocksIter, IpBlock, IpBlocksIter};
 use rpki_routes::{FriendlyRoaIpAddress, RoaAddrIter};
 use std::alloc::AllocError;
@@ -53,7 +53,7 @@ where
 }
 
 impl<E: SliceEntry> Listed for EntryIter<E> {
-    type Shown = <E::Kind as Kind>::Shown;
+    type Shown = <E::Kind as EntryKind>::Shown;
 
     ghost shown = { E.shown };
 

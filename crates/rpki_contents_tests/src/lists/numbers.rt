@@ -10,7 +10,7 @@ ghost use Rattle.rpki_lists.specs.Rules.{admits};
 use rpki_der::encode::{Unsigned, integer};
 use rpki_der::{Constructed, DecodeError};
 use rpki_lists::{
-    EntryIter, EntryList, Kind, Refused, Rule, SliceEntry, SliceReader, Written, take_list,
+    EntryIter, EntryKind, EntryList, Refused, Rule, SliceEntry, SliceReader, Written, take_list,
 };
 use std::marker::{Model, PhantomData};
 
@@ -18,7 +18,7 @@ use std::marker::{Model, PhantomData};
 #[derive(Drop, Debug)]
 pub struct Numbers;
 
-impl Kind for Numbers {
+impl EntryKind for Numbers {
     ghost use Rattle.rpki_der.specs.Tags.{INTEGER};
     ghost use Rattle.rpki_der.specs.declared.mode.Mode.TheVariants.{Der};
     ghost use Rattle.rpki_der.specs.Read.Parse.{u32_at, unsigned_of};

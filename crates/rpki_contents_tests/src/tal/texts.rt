@@ -116,7 +116,7 @@ A9993E364706816ABA3E25717850C26C9CD0D89D",
     ),
     (
         b"\nMBUwDQYJKoZIhvcNAQELBQADBABhYmM=",
-        "bad key info: unknown algorithm",
+        "bad key info: algorithm is none that the profile names",
     ),
     (
         b"\nMBUwDQYJKoZIhvcNAQEBBQADBAFhYmM=",

@@ -5,7 +5,7 @@ ghost use Rattle.rpki_faults.specs.Checks.{AnswersFirstFault};
 ghost use Rattle.rpki_crls.specs.Crl.{signature_checks};
 
 use crate::crl::Crl;
-use crate::entry::Entry;
+use crate::entry::CrlEntry;
 use rpki_basics::{Crypto, KeyIdentifier, Name, PublicKey, Serial, Time};
 use rpki_faults::VerificationError;
 
@@ -51,7 +51,7 @@ impl Crl {
     pub fn contains(&self, serial: Serial) -> bool
         ensures { IsTrue result ↔ Contains self.now.list.tbs.revoked serial }
     {
-        self.contents.tbs.revoked.contains(&Entry::new(serial))
+        self.contents.tbs.revoked.contains(&CrlEntry::new(serial))
     }
 
     /// Whether this key signed it (RFC 5280, section 6.3.3). What was signed are the octets as they

@@ -10,7 +10,7 @@ ghost use Rattle.rpki_crls.specs.Crl.{tbs_fields_at, tbs_at, contents_at};
 ghost use Rattle.rpki_crls.specs.Entry.{entry_at, revoked_at};
 ghost use Rattle.rpki_crls.specs.Extensions.{crl_extensions_at};
 
-use crate::entry::Entry;
+use crate::entry::CrlEntry;
 use crate::extensions::CrlExtensions;
 use bytes::Bytes;
 use rpki_basics::{Name, RpkiSignature, RpkiSignatureAlgorithm, Time};
@@ -27,7 +27,7 @@ pub struct Tbs {
     pub issuer: Name,
     pub this_update: Time,
     pub next_update: Time,
-    pub revoked: Vec<Entry>,
+    pub revoked: Vec<CrlEntry>,
     pub extensions: CrlExtensions,
 }
 
@@ -101,7 +101,7 @@ impl Clone for Contents {
 fn take_opt_entries(
     alloc: Global,
     cons: &mut Constructed<'_>,
-) -> Result<Option<Vec<Entry>>, DecodeError>
+) -> Result<Option<Vec<CrlEntry>>, DecodeError>
     ensures { Reads (option_map (λ list. list.items))
         (optional SEQUENCE (sequence_of_at SEQUENCE entry_at)) cons.old result cons.new }
 {
@@ -109,7 +109,7 @@ fn take_opt_entries(
 }
 
 // Reads the entries, of which there are none where the list of them is missing.
-fn take_revoked(alloc: Global, cons: &mut Constructed<'_>) -> Result<Vec<Entry>, DecodeError>
+fn take_revoked(alloc: Global, cons: &mut Constructed<'_>) -> Result<Vec<CrlEntry>, DecodeError>
     ensures { Reads (λ list. list.items) revoked_at cons.old result cons.new }
 {
     match take_opt_entries(alloc, cons)? {

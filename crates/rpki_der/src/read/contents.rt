@@ -19,7 +19,8 @@ pub fn boolean_of(mode: Mode, contents: &[u8]) -> Option<bool>
     }
 }
 
-/// Whether octets are characters of an IA5String.
+/// Whether octets are characters of an IA5String (X.690, section 8.23).
+#[inline(always)]
 pub fn is_ia5(contents: &[u8]) -> bool
     ensures { result ≡ list_all (λ b. nat_lt b 128) contents.now }
 {

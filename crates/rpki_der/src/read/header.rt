@@ -186,10 +186,11 @@ fn body_of(mode: Mode, tag: u8, bytes: &[u8]) -> Option<(&[u8], &[u8])>
     }
 }
 
-// The contents of the value in front, which has this tag, and what follows the value.
+/// The contents of the value in front, which has this tag, and what follows the value (X.690,
+/// section 8.1).
 #[tactic(auto, unfolding(crate::specs::Read::Parse::value_at))]
 #[inline(always)]
-fn value_of(mode: Mode, tag: Tag, bytes: &[u8]) -> Option<(&[u8], &[u8])>
+pub fn value_of(mode: Mode, tag: Tag, bytes: &[u8]) -> Option<(&[u8], &[u8])>
     ensures { Finds (λ r. (r.0.now, r.1.now)) result (value_at tag.octet mode bytes.now) }
 {
     match bytes {

@@ -35,7 +35,7 @@ fn digits_of(contents: &[u8]) -> Option<&[u8]>
     }
 }
 
-/// A number of at most 32 bits, from its shortest contents.
+/// A number of at most 32 bits, from its shortest contents (X.690, section 8.3).
 #[tactic(auto, unfolding(crate::specs::Read::Parse::unsigned_of))]
 #[inline(always)]
 pub fn u32_of(contents: &[u8]) -> Option<u32>
@@ -44,7 +44,8 @@ pub fn u32_of(contents: &[u8]) -> Option<u32>
     number_in(digits_of(contents)?)
 }
 
-/// A number whose shortest contents are one octet, or two of which the first is 0.
+/// A number of at most 8 bits, from its shortest contents: one octet, or two of which the first is
+/// 0 (X.690, section 8.3).
 #[tactic(auto, unfolding(crate::specs::Read::Parse::unsigned_of, crate::specs::Read::Parse::digits_of, crate::specs::Read::Parse::number_of))]
 #[inline(always)]
 pub fn u8_of(contents: &[u8]) -> Option<u8>

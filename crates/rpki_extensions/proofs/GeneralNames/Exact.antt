@@ -16,8 +16,8 @@ use Rattle.rpki_der.proofs.Form.Words.{part-as, make, optional-there}
 use Rattle.rpki_der.proofs.Reading.Lengths.{some_is}
 use Rattle.rpki_der.proofs.Reading.Many.{primitive-shorter}
 use Rattle.rpki_der.proofs.Reading.Skips.{Takes, skip-takes}
-use Rattle.rpki_extensions.specs.declared.name.Name.{Name}
-use Rattle.rpki_extensions.specs.declared.name.Name.TheVariants.{Uri, Other}
+use Rattle.rpki_extensions.specs.declared.name.GeneralName.{GeneralName}
+use Rattle.rpki_extensions.specs.declared.name.GeneralName.TheVariants.{Uri, Other}
 use Rattle.rpki_extensions.specs.Names.{URI, NameForm, IsNamed, name_at, named}
 
 -- ---- one kind by its tag, and else any other
@@ -114,13 +114,13 @@ pub name-part : IsPart every nothing name_at NameForm
 name-part = part-as
     (either-part URI (make Uri (contents-part URI)) (make (λ _. Other) (any-part 32))) to from
   where
-    to : (mode : Mode) (o : List ℕ) (x : Name)
+    to : (mode : Mode) (o : List ℕ) (x : GeneralName)
         → Either URI (make Uri (contents-part URI)) (make (λ _. Other) (any-part 32)) mode o x
         → NameForm mode o x
     to mode o x (inl h) = subst (NameForm mode o) (sym h.2) h.1
     to mode o x (inr h) = subst (NameForm mode o) (sym h.0.2) (h.0.1, h.1)
 
-    from : (mode : Mode) (o : List ℕ) (x : Name) → NameForm mode o x
+    from : (mode : Mode) (o : List ℕ) (x : GeneralName) → NameForm mode o x
         → Either URI (make Uri (contents-part URI)) (make (λ _. Other) (any-part 32)) mode o x
     from mode o (Uri text) h = inl (text, h, refl)
     from mode o Other h = inr ((tt, h.0, refl), h.1)
@@ -145,13 +145,13 @@ module _ {P : List ℕ → Type 0} {test : List ℕ → Bool}
       let same : text ≡ uri = some_is text uri e in (same, subst P same (d.0 refl))
   kept-sound false text uri d e = absurd cc
 
-  pub named-sound : (name : Name) (uri : List ℕ) → named by_test name ≡ Some uri
+  pub named-sound : (name : GeneralName) (uri : List ℕ) → named by_test name ≡ Some uri
       → IsNamed P name uri
   named-sound (Uri text) uri e =
       let k = kept-sound (test text) text uri (decides text) e in (ap Uri k.0, k.1)
   named-sound Other uri e = absurd cc
 
-  pub named-complete : (name : Name) (uri : List ℕ) → IsNamed P name uri
+  pub named-complete : (name : GeneralName) (uri : List ℕ) → IsNamed P name uri
       → named by_test name ≡ Some uri
   named-complete name uri h = rw h.0 (rw ((decides uri).1 h.1) refl)
 

@@ -13,7 +13,7 @@ use Rattle.rpki_der.specs.Form.Parts.{Explicit}
 use Rattle.rpki_der.proofs.Form.Words.{items-all, items-bytes}
 use Rattle.rpki_der.proofs.Reading.Exact.{IsBytes-left, IsBytes-right, IsBytes-contents}
 use Rattle.rpki_resources.specs.declared.by_family.ByFamily.{ByFamily}
-use Rattle.rpki_resources.specs.declared.by_family.Entry.{Entry}
+use Rattle.rpki_resources.specs.declared.by_family.FamilyEntry.{FamilyEntry}
 use Rattle.rpki_resources.specs.declared.family.AddressFamily.{AddressFamily}
 use Rattle.rpki_resources.specs.declared.family.AddressFamily.TheVariants.{Ipv4}
 use Rattle.rpki_resources.specs.Family.{IsWithin}
@@ -26,10 +26,10 @@ use Rattle.rpki_files.specs.Checklist.{Set, NamedForm, or_nothing, sets_of}
 use Rattle.rpki_resources.proofs.Families.Gathered.{same-family}
 
 -- the addresses of an entry are those of its family
-abbrev OfItsFamily : Entry Set → Type 0
+abbrev OfItsFamily : FamilyEntry Set → Type 0
 OfItsFamily e = All (IsWithin e.family) e.value
 
-entry-facts : (mode : Mode) (o : List ℕ) (e : Entry Set)
+entry-facts : (mode : Mode) (o : List ℕ) (e : FamilyEntry Set)
     → IsBytes o × EntryForm IpForm mode o e → OfItsFamily e
 entry-facts mode o e (bytes, h) =
     let contents : IsBytes h.0 =
@@ -41,7 +41,7 @@ entry-facts mode o e (bytes, h) =
     subst IsBytes list.2 (IsBytes-right parts.0 parts.1 both) in
     set-within e.family mode list.0 e.value (IsBytes-left list.0 list.1 rest) list.3
 
-stands : (entries : List (Entry Set)) → All OfItsFamily entries
+stands : (entries : List (FamilyEntry Set)) → All OfItsFamily entries
     → (family : AddressFamily) (found : Option Set)
     → Keyed afi_of IsValueOf entries (afi family) found → All (IsWithin family) (or_nothing found)
 stands entries all family None k = All-nil (IsWithin family)

@@ -21,7 +21,7 @@ use Rattle.rpki_der.proofs.Writing.Values.{octets-written}
 use Rattle.rpki_der.proofs.Reading.Lengths.{some_is}
 use Rattle.rpki_basics.specs.Algorithm.{DigestAlgorithmForm, digest_algorithm_octets}
 use Rattle.rpki_resources.specs.declared.by_family.ByFamily.{ByFamily}
-use Rattle.rpki_resources.specs.declared.by_family.Entry.{Entry}
+use Rattle.rpki_resources.specs.declared.by_family.FamilyEntry.{FamilyEntry}
 use Rattle.rpki_resources.specs.declared.family.AddressFamily.{AddressFamily}
 use Rattle.rpki_resources.specs.declared.family.AddressFamily.TheVariants.{Ipv4, Ipv6}
 use Rattle.rpki_resources.specs.As.Form.{AsForm}
@@ -80,7 +80,7 @@ numbers-written set written short =
 
 -- ---- a family
 
-abbrev entry : AddressFamily → Set → Entry Set
+abbrev entry : AddressFamily → Set → FamilyEntry Set
 entry family set = record { family = family; value = set }
 
 entry-written : (family : AddressFamily) (set : Set) → IpWritten family set
@@ -102,7 +102,7 @@ entry-written family set written short =
     )
 
 -- the entry of a family, if it has addresses
-abbrev entries-of : AddressFamily → Set → List (Entry Set)
+abbrev entries-of : AddressFamily → Set → List (FamilyEntry Set)
 entries-of family [] = []
 entries-of family (b ∷ set) = entry family (b ∷ set) ∷ []
 
@@ -144,7 +144,7 @@ families-written l v4 v6 short =
     let inner = contents_small SEQUENCE (families_octets l) short in
     let each = length_parts (family_octets Ipv4 l.v4_resources) (family_octets Ipv6 l.v6_resources)
     inner in
-    let entries : List (Entry Set) =
+    let entries : List (FamilyEntry Set) =
     entries-of Ipv4 l.v4_resources ++ entries-of Ipv6 l.v6_resources in (
       entries,
       within-written SEQUENCE (λ c. Items (EntryForm IpForm Der) c entries) (families_octets l)

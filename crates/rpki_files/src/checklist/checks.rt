@@ -17,37 +17,34 @@ pub fn canonical_sets(list: &ResourceSignedChecklist)
     let _ = list.v6_resources().as_slice();
 }
 
-impl ResourceSignedChecklist {
-    /// Inspects whether a certificate claims the numbers of the checklist (RFC 9323, section 5): AS
-    /// numbers first, then IPv4, then IPv6. A family that is inherited is claimed whole; whether
-    /// the certificate has the numbers is known once it was validated.
-    pub fn inspect_resources(&self, cert: &Cert) -> Result<(), InspectionError>
-        ensures { AnswersFirstFault
-            (checklist_claimed self.now cert.now.certificate.tbs.extensions.claims) result }
+/// Inspects whether a certificate claims the numbers of a checklist: AS numbers first, then IPv4,
+/// then IPv6.
+pub fn inspect_claims(list: &ResourceSignedChecklist, cert: &Cert) -> Result<(), InspectionError>
+    ensures { AnswersFirstFault
+        (checklist_claimed list.now cert.now.certificate.tbs.extensions.claims) result }
+{
+    if list
+        .as_resources()
+        .verify_covered(cert.as_resources())
+        .is_err()
     {
-        if self
-            .as_resources()
-            .verify_covered(cert.as_resources())
-            .is_err()
-        {
-            return Err(InspectionError::NotCovered(Family::As));
-        }
-        if self
-            .v4_resources()
-            .verify_covered(cert.v4_resources())
-            .is_err()
-        {
-            return Err(InspectionError::NotCovered(Family::V4));
-        }
-        if self
-            .v6_resources()
-            .verify_covered(cert.v6_resources())
-            .is_err()
-        {
-            return Err(InspectionError::NotCovered(Family::V6));
-        }
-        Ok(())
+        return Err(InspectionError::NotCovered(Family::As));
     }
+    if list
+        .v4_resources()
+        .verify_covered(cert.v4_resources())
+        .is_err()
+    {
+        return Err(InspectionError::NotCovered(Family::V4));
+    }
+    if list
+        .v6_resources()
+        .verify_covered(cert.v6_resources())
+        .is_err()
+    {
+        return Err(InspectionError::NotCovered(Family::V6));
+    }
+    Ok(())
 }
 
 /// Verifies that a validated certificate has the numbers of a checklist.

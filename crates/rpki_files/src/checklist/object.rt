@@ -1,11 +1,17 @@
 //! Signed checklists as signed objects (RFC 9323).
 
+ghost use Rattle.rpki_faults.specs.Checks.{AnswersFirstFault};
+ghost use Rattle.rpki_files.specs.Checklist.{Checklist};
+ghost use Rattle.rpki_files.specs.Checklist.Checks.{checklist_claimed};
+ghost use Rattle.rpki_sigobj.specs.Object.{cert_of};
+ghost use Rattle.rpki_sigobj.specs.Signed.{KeptWhole};
+
 use crate::checklist::ResourceSignedChecklist;
-use crate::checklist::checks::{canonical_sets, verify_numbers};
+use crate::checklist::checks::{canonical_sets, inspect_claims, verify_numbers};
 use bytes::Bytes;
 use rpki_certs::{Cert, ResourceCert};
 use rpki_der::{DecodeError, Oid};
-use rpki_faults::ValidationError;
+use rpki_faults::{InspectionError, ValidationError};
 use rpki_sigobj::{Content, Signed, oid_of};
 use std::alloc::Global;
 
@@ -56,7 +62,7 @@ impl Content for ResourceSignedChecklist {
     }
 
     fn verify_claims(&self, cert: &Cert) -> Result<(), ValidationError> {
-        self.inspect_resources(cert)?;
+        inspect_claims(self, cert)?;
         Ok(())
     }
 
@@ -66,4 +72,26 @@ impl Content for ResourceSignedChecklist {
     }
 
     fn meaning() {}
+}
+
+/// What a checklist is asked beside what each object is (a trait, since `Signed` is a type of
+/// another crate).
+pub trait InspectResources {
+    // The checklist, with its signed object.
+    ghost seen: { Self → KeptWhole Checklist };
+
+    /// Inspects whether its certificate claims the numbers of the checklist (RFC 9323, section 5):
+    /// AS numbers first, then IPv4, then IPv6. A family that is inherited is claimed whole; whether
+    /// the certificate has the numbers is known once it was validated.
+    fn inspect_resources(&self) -> Result<(), InspectionError>
+        ensures { AnswersFirstFault (checklist_claimed (seen self.now).content
+            (cert_of (seen self.now).object).certificate.tbs.extensions.claims) result };
+}
+
+impl InspectResources for Rsc {
+    ghost seen = { λ checklist. checklist };
+
+    fn inspect_resources(&self) -> Result<(), InspectionError> {
+        inspect_claims(self.content(), self.cert())
+    }
 }

@@ -3,6 +3,8 @@
 ghost use Rattle.std.specs.Prelude.{◌≡◌};
 ghost use Rattle.rpki_faults.specs.Checks.{AnswersFirstOr};
 ghost use Rattle.rpki_faults.specs.declared.validation.ValidationError.TheVariants.{Memory};
+ghost use Rattle.rpki_files.specs.Manifest.{Manifest as Said};
+ghost use Rattle.rpki_sigobj.specs.Signed.{KeptWhole};
 ghost use Rattle.rpki_sigobj.specs.Validate.{object_validation, IsCertUnder};
 
 use crate::manifest::ManifestContent;
@@ -65,39 +67,68 @@ impl Content for ManifestContent {
     fn meaning() {}
 }
 
-/// Validates a manifest under its issuer, at this moment (RFC 6488, section 3; RFC 9286, section
-/// 4.4), as `SignedObject::validate_at` does. Answers the validated certificate and the content.
-/// Whether the certificate was revoked is left to the caller.
-pub fn validate_manifest_at<C: Crypto>(
-    manifest: Manifest,
-    alloc: Global,
-    issuer: &ResourceCert,
-    strict: bool,
-    crypto: &C,
-    now: Time,
-) -> Result<(ResourceCert, ManifestContent), ValidationError>
-    ensures { AnswersFirstOr Memory (object_validation (C.digest_of crypto.now)
-        (C.is_signed crypto.now) manifest.object.object.signed issuer.now now)
-        (λ a. IsCertUnder manifest.object issuer.now a.0 × (a.1 ≡ manifest.content)) result }
-{
-    let (object, content) = manifest.into_parts();
-    let cert = object.validate_at(alloc, issuer, strict, crypto, now)?;
-    Ok((cert, content))
+/// What a manifest is asked beside what each object is (a trait, since `Signed` is a type of
+/// another crate).
+pub trait ValidateManifest: Sized {
+    // The manifest, with its signed object.
+    ghost seen: { Self → KeptWhole Said };
+
+    /// Validates it under its issuer, at this moment (RFC 6488, section 3; RFC 9286, section 4.4),
+    /// as `SignedObject::validate_at` does. Answers the validated certificate and the content.
+    /// Whether the certificate was revoked is left to the caller.
+    fn validate_at<C: Crypto>(
+        self,
+        alloc: Global,
+        issuer: &ResourceCert,
+        strict: bool,
+        crypto: &C,
+        now: Time,
+    ) -> Result<(ResourceCert, ManifestContent), ValidationError>
+        ensures { AnswersFirstOr Memory (object_validation (C.digest_of crypto.now)
+            (C.is_signed crypto.now) (seen self).object.object.signed issuer.now now)
+            (λ a. IsCertUnder (seen self).object issuer.now a.0 × (a.1 ≡ (seen self).content))
+            result };
+
+    /// Validates it under its issuer, at the moment that the clock tells, as `validate_at` does.
+    fn validate<C: Crypto, K: Clock>(
+        self,
+        alloc: Global,
+        issuer: &ResourceCert,
+        strict: bool,
+        crypto: &C,
+        clock: &K,
+    ) -> Result<(ResourceCert, ManifestContent), ValidationError>
+        ensures { AnswersFirstOr Memory (object_validation (C.digest_of crypto.now)
+            (C.is_signed crypto.now) (seen self).object.object.signed issuer.now
+            (K.moment clock.now))
+            (λ a. IsCertUnder (seen self).object issuer.now a.0 × (a.1 ≡ (seen self).content))
+            result };
 }
 
-/// Validates a manifest under its issuer, at the moment that the clock tells, as
-/// `validate_manifest_at` does.
-pub fn validate_manifest<C: Crypto, K: Clock>(
-    manifest: Manifest,
-    alloc: Global,
-    issuer: &ResourceCert,
-    strict: bool,
-    crypto: &C,
-    clock: &K,
-) -> Result<(ResourceCert, ManifestContent), ValidationError>
-    ensures { AnswersFirstOr Memory (object_validation (C.digest_of crypto.now)
-        (C.is_signed crypto.now) manifest.object.object.signed issuer.now (K.moment clock.now))
-        (λ a. IsCertUnder manifest.object issuer.now a.0 × (a.1 ≡ manifest.content)) result }
-{
-    validate_manifest_at(manifest, alloc, issuer, strict, crypto, clock.now())
+impl ValidateManifest for Manifest {
+    ghost seen = { λ manifest. manifest };
+
+    fn validate_at<C: Crypto>(
+        self,
+        alloc: Global,
+        issuer: &ResourceCert,
+        strict: bool,
+        crypto: &C,
+        now: Time,
+    ) -> Result<(ResourceCert, ManifestContent), ValidationError> {
+        let (object, content) = self.into_parts();
+        let cert = object.validate_at(alloc, issuer, strict, crypto, now)?;
+        Ok((cert, content))
+    }
+
+    fn validate<C: Crypto, K: Clock>(
+        self,
+        alloc: Global,
+        issuer: &ResourceCert,
+        strict: bool,
+        crypto: &C,
+        clock: &K,
+    ) -> Result<(ResourceCert, ManifestContent), ValidationError> {
+        self.validate_at(alloc, issuer, strict, crypto, clock.now())
+    }
 }

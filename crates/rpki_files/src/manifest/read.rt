@@ -4,10 +4,12 @@ ghost use Rattle.std.specs.Prelude.{◌≡◌, ◌↔◌, ◌≤◌, IfOk, IsTru
 ghost use Rattle.rpki_basics.specs.Moment.{stamp};
 ghost use Rattle.rpki_basics.specs.Algorithm.{named, sha_256};
 ghost use Rattle.rpki_der.specs.declared.mode.Mode.TheVariants.{Der};
-ghost use Rattle.rpki_der.specs.Read.Parse.{oid_at};
+ghost use Rattle.rpki_der.specs.Read.Parse.{oid_at, optional};
 ghost use Rattle.rpki_der.specs.Read.Reads.{Found, Reads, Stays};
 ghost use Rattle.rpki_der.specs.Form.Made.{partly};
+ghost use Rattle.rpki_der.specs.Tags.{context};
 ghost use Rattle.rpki_files.specs.Manifest.{head_at, fields_at, manifest_at};
+ghost use Rattle.rpki_files.specs.Version.{version_at};
 
 use crate::faults;
 use crate::files::take_files;
@@ -41,13 +43,20 @@ fn are_in_order(this_update: Time, next_update: Time) -> bool
     this_update <= next_update
 }
 
+// Reads the version, if it is there.
+fn take_opt_version(cons: &mut Constructed<'_>) -> Result<Option<()>, DecodeError>
+    ensures { Reads (λ u. u) (optional (context 0) version_at) cons.old result cons.new }
+{
+    cons.take_opt_constructed_if(Tag::CTX_0, take_version)
+}
+
 // Reads the version, the number and both updates.
 #[tactic(auto, unfolding(crate::specs::Manifest::head_at))]
 fn take_head(cons: &mut Constructed<'_>) -> Result<(Serial, Time, Time), DecodeError>
     ensures reads { Reads (λ head. head) head_at cons.old result cons.new }
     ensures order { IfOk result (λ head. stamp head.1 ≤ stamp head.2) }
 {
-    cons.take_opt_constructed_if(Tag::CTX_0, take_version)?;
+    take_opt_version(cons)?;
     let number = Serial::take_from(cons)?;
     let this_update = Time::take_from(cons)?;
     let next_update = Time::take_from(cons)?;

@@ -3,7 +3,7 @@
 use super::sets::{Numbers, as_set, ip_set};
 use bytes::Bytes;
 use rpki_der::encode::sequence;
-use rpki_der::{Constructed, ContentFault, DecodeError, Encode, EncodeError, Mode};
+use rpki_der::{Constructed, ContentFault, DecodeError, Encode, EncodeError, Mode, StaticText};
 use rpki_resources::AddressFamily::{Ipv4, Ipv6};
 use rpki_resources::{AddressFamily, AsBlocks, IpBlocks, faults};
 use std::alloc::{AllocError, Global};
@@ -51,17 +51,26 @@ pub fn read_ip(
     read(decode_ip(alloc, mode, family, octets)?)
 }
 
+/// Whether this is the text that is wanted.
+fn is_text(text: &StaticText, want: Option<&str>) -> bool {
+    match want {
+        Some(want) => text.as_str() == want,
+        None => false,
+    }
+}
+
 /// Whether the answer is a refusal by this text, or by `Malformed` where there is none. Want of
 /// memory is handed on.
 fn is_refused<T: Drop>(
     answer: Result<T, DecodeError>,
     want: Option<&str>,
 ) -> Result<bool, AllocError> {
-    match (answer, want) {
-        (Err(DecodeError::Memory), _) => Err(AllocError),
-        (Err(DecodeError::Content(ContentFault::Text(text))), Some(want)) => Ok(text.as_str() == want),
-        (Err(DecodeError::Malformed), None) => Ok(true),
-        (Err(_), _) | (Ok(_), _) => Ok(false),
+    match answer {
+        Ok(_) => Ok(false),
+        Err(DecodeError::Memory) => Err(AllocError),
+        Err(DecodeError::Malformed) => Ok(want.is_none()),
+        Err(DecodeError::Content(ContentFault::Text(text))) => Ok(is_text(&text, want)),
+        Err(DecodeError::Content(_)) => Ok(false),
     }
 }
 

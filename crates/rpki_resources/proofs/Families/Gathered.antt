@@ -7,7 +7,7 @@ use Rattle.std.proofs.lemmas.List.Kept.{AllPairs-cons}
 use Rattle.rpki_der.proofs.Reading.Lengths.{some_is}
 use Rattle.rpki_der.specs.Form.Keyed.{AreDistinct, Keyed}
 use Rattle.rpki_resources.specs.declared.by_family.ByFamily.{ByFamily}
-use Rattle.rpki_resources.specs.declared.by_family.Entry.{Entry}
+use Rattle.rpki_resources.specs.declared.by_family.FamilyEntry.{FamilyEntry}
 use Rattle.rpki_resources.specs.declared.family.AddressFamily.{AddressFamily}
 use Rattle.rpki_resources.specs.declared.family.AddressFamily.TheVariants.{Ipv4, Ipv6}
 use Rattle.rpki_resources.specs.Family.Form.{afi}
@@ -32,34 +32,34 @@ six-four e = absurd cc
 
 module _ {X : Type 0} where
   -- an entry of this family and value
-  abbrev entry : AddressFamily → X → Entry X
+  abbrev entry : AddressFamily → X → FamilyEntry X
   entry family x = record { family = family; value = x }
 
   -- an entry of another family
-  abbrev Other : AddressFamily → Entry X → Type 0
+  abbrev Other : AddressFamily → FamilyEntry X → Type 0
   Other family e = afi_of e ≢ afi family
 
   -- the entry of the family says x
-  abbrev Says : AddressFamily → X → Entry X → Type 0
+  abbrev Says : AddressFamily → X → FamilyEntry X → Type 0
   Says family x e = (afi_of e ≡ afi family) × IsValueOf e x
 
   -- what stands for a family, where there was something, or not, before these entries
-  abbrev Stands : AddressFamily → Option X → List (Entry X) → Option X → Type 0
+  abbrev Stands : AddressFamily → Option X → List (FamilyEntry X) → Option X → Type 0
   Stands family None entries found = Keyed afi_of IsValueOf entries (afi family) found
   Stands family (Some y) entries found = (found ≡ Some y) × All (Other family) entries
 
-  abbrev Adds : Option X → Option X → List (Entry X) → ByFamily X → Type 0
+  abbrev Adds : Option X → Option X → List (FamilyEntry X) → ByFamily X → Type 0
   Adds v4 v6 entries values = AreDistinct afi_of entries × Stands Ipv4 v4 entries values.v4
       × Stands Ipv6 v6 entries values.v6
 
   -- one of the family comes first
-  stands-one : (family : AddressFamily) (x : X) (entries : List (Entry X)) (found : Option X)
+  stands-one : (family : AddressFamily) (x : X) (entries : List (FamilyEntry X)) (found : Option X)
       → Stands family (Some x) entries found → Stands family None (entry family x ∷ entries) found
   stands-one family x entries found h =
       subst (λ (o : Option X). Stands family None (entry family x ∷ entries) o) (sym h.0)
       (any-here (Says family x) (entry family x) entries (refl, refl))
 
-  one-stands : (family : AddressFamily) (x : X) (entries : List (Entry X)) (found : Option X)
+  one-stands : (family : AddressFamily) (x : X) (entries : List (FamilyEntry X)) (found : Option X)
       → All (Other family) entries → Stands family None (entry family x ∷ entries) found
       → Stands family (Some x) entries found
   one-stands family x entries None others h =
@@ -72,8 +72,8 @@ module _ {X : Type 0} where
       ]
 
   -- one of another family comes first
-  stands-later : (family : AddressFamily) (e : Entry X) (before : Option X)
-      (entries : List (Entry X)) (found : Option X) → Other family e
+  stands-later : (family : AddressFamily) (e : FamilyEntry X) (before : Option X)
+      (entries : List (FamilyEntry X)) (found : Option X) → Other family e
       → Stands family before entries found
       → Stands family before (e ∷ entries) found
   stands-later family e (Some y) entries found other h =
@@ -81,8 +81,8 @@ module _ {X : Type 0} where
   stands-later family e None entries None other h = All-cons (Other family) e entries other h
   stands-later family e None entries (Some y) other h = any-there (Says family y) e entries h
 
-  later-stands : (family : AddressFamily) (e : Entry X) (before : Option X)
-      (entries : List (Entry X)) (found : Option X) → Other family e
+  later-stands : (family : AddressFamily) (e : FamilyEntry X) (before : Option X)
+      (entries : List (FamilyEntry X)) (found : Option X) → Other family e
       → Stands family before (e ∷ entries) found
       → Stands family before entries found
   later-stands family e (Some y) entries found other h =
@@ -105,18 +105,18 @@ module _ {X : Type 0} where
   end-at family None None h = refl
   end-at family None (Some y) h = absurd (none-nil (Says family y) h)
 
-  none-pairs : AreDistinct {I = Entry X} afi_of []
+  none-pairs : AreDistinct {I = FamilyEntry X} afi_of []
   none-pairs = λ i j d lt le. absurd (omega (arith, le))
 
   -- one more entry, of a family that the others are not
-  distinct-more : (family : AddressFamily) (x : X) (entries : List (Entry X))
+  distinct-more : (family : AddressFamily) (x : X) (entries : List (FamilyEntry X))
       → AreDistinct afi_of entries
       → All (Other family) entries → AreDistinct afi_of (entry family x ∷ entries)
   distinct-more family x entries d others =
       AllPairs-cons (λ a b. afi_of a ≢ afi_of b) (entry family x) entries
       (λ k e lt same. others k e lt (sym same)) d
 
-  less-distinct : (family : AddressFamily) (x : X) (entries : List (Entry X))
+  less-distinct : (family : AddressFamily) (x : X) (entries : List (FamilyEntry X))
       → AreDistinct afi_of (entry family x ∷ entries)
       → AreDistinct afi_of entries × All (Other family) entries
   less-distinct family x entries d = (
@@ -125,7 +125,7 @@ module _ {X : Type 0} where
         (sym same),
   )
 
-  sound-more : (family : AddressFamily) (x : X) (entries : List (Entry X))
+  sound-more : (family : AddressFamily) (x : X) (entries : List (FamilyEntry X))
       → ((v4 v6 : Option X) (values : ByFamily X)
       → gathered (record { v4 = v4; v6 = v6 }) entries ≡ Some values → Adds v4 v6 entries values)
       → (v4 v6 : Option X) (values : ByFamily X)
@@ -147,7 +147,7 @@ module _ {X : Type 0} where
       )
   sound-more Ipv6 x entries ih v4 (Some y) values e = absurd cc
 
-  gathered-sound : (entries : List (Entry X)) (v4 v6 : Option X) (values : ByFamily X)
+  gathered-sound : (entries : List (FamilyEntry X)) (v4 v6 : Option X) (values : ByFamily X)
       → gathered (record { v4 = v4; v6 = v6 }) entries ≡ Some values → Adds v4 v6 entries values
   unfolding gathered
   gathered-sound [] v4 v6 values e =
@@ -159,7 +159,7 @@ module _ {X : Type 0} where
   gathered-sound (e ∷ entries) v4 v6 values h =
       sound-more e.family e.value entries (λ a b c k. gathered-sound entries a b c k) v4 v6 values h
 
-  complete-more : (family : AddressFamily) (x : X) (entries : List (Entry X))
+  complete-more : (family : AddressFamily) (x : X) (entries : List (FamilyEntry X))
       → ((v4 v6 : Option X) (values : ByFamily X) → Adds v4 v6 entries values
       → gathered (record { v4 = v4; v6 = v6 }) entries ≡ Some values)
       → (v4 v6 : Option X) (values : ByFamily X) → Adds v4 v6 (entry family x ∷ entries) values
@@ -184,7 +184,7 @@ module _ {X : Type 0} where
   complete-more Ipv6 x entries ih v4 (Some y) values h =
       absurd (All-head (Other Ipv6) (entry Ipv6 x) entries h.2.1 refl)
 
-  gathered-complete : (entries : List (Entry X)) (v4 v6 : Option X) (values : ByFamily X)
+  gathered-complete : (entries : List (FamilyEntry X)) (v4 v6 : Option X) (values : ByFamily X)
       → Adds v4 v6 entries values → gathered (record { v4 = v4; v6 = v6 }) entries ≡ Some values
   unfolding gathered
   gathered-complete [] v4 v6 values h =
@@ -197,32 +197,32 @@ module _ {X : Type 0} where
 
   -- one more entry
   pub gathered-more : (values more : ByFamily X) (family : AddressFamily) (x : X)
-      (entries : List (Entry X)) → with_value family x values ≡ Some more
+      (entries : List (FamilyEntry X)) → with_value family x values ≡ Some more
       → gathered values (entry family x ∷ entries) ≡ gathered more entries
   unfolding gathered
   gathered-more values more family x entries e = rw e refl
 
   -- one that is a second of its family
   pub gathered-none : (values : ByFamily X) (family : AddressFamily) (x : X)
-      (entries : List (Entry X)) → with_value family x values ≡ None
+      (entries : List (FamilyEntry X)) → with_value family x values ≡ None
       → gathered values (entry family x ∷ entries) ≡ None
   unfolding gathered
   gathered-none values family x entries e = rw e refl
 
-  pub gathered-end : (values : ByFamily X) (entries : List (Entry X))
+  pub gathered-end : (values : ByFamily X) (entries : List (FamilyEntry X))
       → length entries ≡ 0 → gathered values entries ≡ Some values
   unfolding gathered
   gathered-end values [] e = refl
   gathered-end values (x ∷ entries) e = absurd (omega (arith, e))
 
   -- the values of all entries
-  pub entries-sound : (entries : List (Entry X)) (values : ByFamily X)
+  pub entries-sound : (entries : List (FamilyEntry X)) (values : ByFamily X)
       → gathered (record { v4 = None; v6 = None }) entries ≡ Some values
       → AreEntries entries values
   entries-sound entries values e = let h = gathered-sound entries None None values e in
       record { distinct = h.0; v4 = h.1; v6 = h.2 }
 
-  pub entries-complete : (entries : List (Entry X)) (values : ByFamily X)
+  pub entries-complete : (entries : List (FamilyEntry X)) (values : ByFamily X)
       → AreEntries entries values
       → gathered (record { v4 = None; v6 = None }) entries ≡ Some values
   entries-complete entries values h =

@@ -4,7 +4,7 @@ use Rattle.rpki_der.specs.Read.Parse.{Parser, ◌>>=◌, all_at}
 use Rattle.rpki_der.specs.Form.Parts.{sequence_at}
 use Rattle.rpki_der.specs.Form.Made.{partly}
 use Rattle.rpki_resources.specs.declared.by_family.ByFamily.{ByFamily}
-use Rattle.rpki_resources.specs.declared.by_family.Entry.{Entry}
+use Rattle.rpki_resources.specs.declared.by_family.FamilyEntry.{FamilyEntry}
 use Rattle.rpki_resources.specs.declared.family.AddressFamily.{AddressFamily}
 use Rattle.rpki_resources.specs.declared.family.AddressFamily.TheVariants.{Ipv4, Ipv6}
 use Rattle.rpki_resources.specs.declared.block.Block.{Block}
@@ -18,14 +18,14 @@ ip_set_at family = ip_blocks_at (max_bits family)
 
 -- a family, and then what stands for it
 unfoldable pub entry_fields_at : {X : Type 0} → (AddressFamily → Parser X)
-    → Parser (Entry X)
+    → Parser (FamilyEntry X)
 entry_fields_at p mode bytes = do
   family ← family_at mode bytes
   value ← p family.0 mode family.1
   Some (record { family = family.0; value = value.0 }, value.1)
 
 -- a SEQUENCE of a family and what stands for it
-abbrev pub entry_at : {X : Type 0} → (AddressFamily → Parser X) → Parser (Entry X)
+abbrev pub entry_at : {X : Type 0} → (AddressFamily → Parser X) → Parser (FamilyEntry X)
 entry_at p = sequence_at (entry_fields_at p)
 
 -- no value for either family
@@ -48,7 +48,7 @@ with_value Ipv4 x values = with_v4 x values.v4 values.v6
 with_value Ipv6 x values = with_v6 x values.v4 values.v6
 
 -- the values of the entries beside those that are there
-unfoldable pub gathered : {X : Type 0} → ByFamily X → List (Entry X) → Option (ByFamily X)
+unfoldable pub gathered : {X : Type 0} → ByFamily X → List (FamilyEntry X) → Option (ByFamily X)
 gathered values [] = Some values
 gathered values (entry ∷ entries) =
     with_value entry.family entry.value values >>= λ more. gathered more entries

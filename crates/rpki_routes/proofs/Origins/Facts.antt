@@ -14,7 +14,7 @@ use Rattle.rpki_der.specs.Form.Keyed.{Keyed}
 use Rattle.rpki_der.proofs.Form.Words.{items-all, items-bytes}
 use Rattle.rpki_der.proofs.Reading.Exact.{IsBytes-left, IsBytes-right, IsBytes-contents}
 use Rattle.rpki_resources.specs.declared.by_family.ByFamily.{ByFamily}
-use Rattle.rpki_resources.specs.declared.by_family.Entry.{Entry}
+use Rattle.rpki_resources.specs.declared.by_family.FamilyEntry.{FamilyEntry}
 use Rattle.rpki_resources.specs.declared.family.AddressFamily.{AddressFamily}
 use Rattle.rpki_resources.specs.declared.family.AddressFamily.TheVariants.{Ipv4, Ipv6}
 use Rattle.rpki_resources.specs.Family.Form.{afi}
@@ -71,10 +71,10 @@ addresses-facts family mode o xs bytes h =
 -- ---- families
 
 -- the addresses of an entry are of its family
-abbrev OfItsFamily : Entry (List Address) → Type 0
+abbrev OfItsFamily : FamilyEntry (List Address) → Type 0
 OfItsFamily e = All (IsAddress e.family) e.value
 
-entry-facts : (mode : Mode) (o : List ℕ) (e : Entry (List Address))
+entry-facts : (mode : Mode) (o : List ℕ) (e : FamilyEntry (List Address))
     → IsBytes o × EntryForm AddressesForm mode o e → OfItsFamily e
 entry-facts mode o e (bytes, h) =
     let contents : IsBytes h.0 =
@@ -86,7 +86,7 @@ entry-facts mode o e (bytes, h) =
     subst IsBytes list.2 (IsBytes-right parts.0 parts.1 both) in
     addresses-facts e.family mode list.0 e.value (IsBytes-left list.0 list.1 rest) list.3
 
-stands : (entries : List (Entry (List Address))) → All OfItsFamily entries
+stands : (entries : List (FamilyEntry (List Address))) → All OfItsFamily entries
     → (family : AddressFamily) (found : Option (List Address))
     → Keyed afi_of IsValueOf entries (afi family) found
     → All (IsAddress family) (unwrap_or found [])

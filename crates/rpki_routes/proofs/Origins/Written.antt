@@ -15,7 +15,7 @@ use Rattle.rpki_der.proofs.Writing.Leaves.{within-written, items-written}
 use Rattle.rpki_der.proofs.Writing.Numbers.{length-number_octets}
 use Rattle.rpki_der.proofs.Writing.Values.{number-in, number-written}
 use Rattle.rpki_resources.specs.declared.by_family.ByFamily.{ByFamily}
-use Rattle.rpki_resources.specs.declared.by_family.Entry.{Entry}
+use Rattle.rpki_resources.specs.declared.by_family.FamilyEntry.{FamilyEntry}
 use Rattle.rpki_resources.specs.declared.family.AddressFamily.{AddressFamily}
 use Rattle.rpki_resources.specs.declared.family.AddressFamily.TheVariants.{Ipv4, Ipv6}
 use Rattle.rpki_resources.specs.As.Form.{AsId}
@@ -100,7 +100,7 @@ list-written family xs all short =
 
 -- ---- a family
 
-abbrev entry : AddressFamily → List Address → Entry (List Address)
+abbrev entry : AddressFamily → List Address → FamilyEntry (List Address)
 entry family xs = record { family = family; value = xs }
 
 entry-written : (family : AddressFamily) (xs : List Address) → All (IsAddress family) xs
@@ -123,7 +123,7 @@ entry-written family xs all short =
     )
 
 -- the entry of a family, if it has addresses
-abbrev entries-of : AddressFamily → List Address → List (Entry (List Address))
+abbrev entries-of : AddressFamily → List Address → List (FamilyEntry (List Address))
 entries-of family [] = []
 entries-of family (a ∷ xs) = entry family (a ∷ xs) ∷ []
 
@@ -166,7 +166,8 @@ blocks-written : (r : Roa) → IsRoa r → length (value_octets SEQUENCE (famili
 blocks-written r h short =
     let inner = contents_small SEQUENCE (families_octets r) short in
     let each = length_parts (family_octets Ipv4 r.v4) (family_octets Ipv6 r.v6) inner in
-    let entries : List (Entry (List Address)) = entries-of Ipv4 r.v4 ++ entries-of Ipv6 r.v6 in (
+    let entries : List (FamilyEntry (List Address)) =
+    entries-of Ipv4 r.v4 ++ entries-of Ipv6 r.v6 in (
       values-of r.v4 r.v6,
       (
         entries,

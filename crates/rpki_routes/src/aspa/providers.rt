@@ -9,7 +9,9 @@ ghost use Rattle.rpki_routes.specs.Aspa.Read.{in_order_at, providers_at, follows
 use crate::faults;
 use rpki_basics::ProviderLimit;
 use rpki_der::{Constructed, DecodeError};
-use rpki_lists::{EntryIter, EntryList, Kind, Refused, Rule, SliceEntry, SliceReader, take_list};
+use rpki_lists::{
+    EntryIter, EntryKind, EntryList, Refused, Rule, SliceEntry, SliceReader, take_list,
+};
 use rpki_resources::{Asn, SmallAsnSet};
 use std::alloc::{AllocError, Global};
 use std::marker::{Model, PhantomData};
@@ -18,7 +20,7 @@ use std::marker::{Model, PhantomData};
 #[derive(Debug, Drop)]
 pub struct Providers;
 
-impl Kind for Providers {
+impl EntryKind for Providers {
     ghost use Rattle.rpki_der.specs.declared.mode.Mode.TheVariants.{Der};
     ghost use Rattle.rpki_der.specs.Tags.{INTEGER};
     ghost use Rattle.rpki_der.specs.Read.Parse.{u32_at, unsigned_of};

@@ -9,7 +9,9 @@ use crate::roa::address::RoaIpAddress;
 use crate::roa::bits::take_prefix;
 use bytes::Bytes;
 use rpki_der::{Constructed, DecodeError};
-use rpki_lists::{EntryIter, EntryList, Kind, Refused, Rule, SliceEntry, SliceReader, take_list};
+use rpki_lists::{
+    EntryIter, EntryKind, EntryList, Refused, Rule, SliceEntry, SliceReader, take_list,
+};
 use rpki_resources::{AddressFamily, OfFamily};
 use std::alloc::{AllocError, Global};
 use std::marker::{Model, PhantomData};
@@ -59,7 +61,7 @@ fn refusal_of(family: AddressFamily, address: RoaIpAddress) -> Option<&'static s
 #[derive(Debug, Drop)]
 pub struct Addresses;
 
-impl Kind for Addresses {
+impl EntryKind for Addresses {
     ghost use Rattle.rpki_der.specs.declared.mode.Mode.TheVariants.{Der};
     ghost use Rattle.rpki_der.specs.Tags.{SEQUENCE};
     ghost use Rattle.rpki_der.proofs.Reading.Many.{in_value-shorter};

@@ -2,8 +2,8 @@
 use Rattle.std.proofs.Common.{ℕ, List}
 use Rattle.rpki_der.specs.Tags.{SEQUENCE}
 use Rattle.rpki_der.specs.declared.mode.Mode.{Mode}
-use Rattle.rpki_lists.specs.After.{LeavesOctetsAfter}
-use Rattle.rpki_lists.proofs.After.{leaves-after}
+use Rattle.rpki_der.specs.Form.After.{LeavesOctetsAfter}
+use Rattle.rpki_der.proofs.Reading.After.{leaves-after}
 use Rattle.rpki_sigobj.specs.Signed.{ObjectForm}
 
 pub object-leaves : {X : Type 0} (type : List ℕ) (form : List ℕ → X → Type 0) (mode : Mode)

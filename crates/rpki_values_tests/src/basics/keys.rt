@@ -1,8 +1,8 @@
 //! Keys and their identifiers.
 
 use bytes::Bytes;
-use rpki_basics::{KeyIdentifier, PublicKey, UpperHex};
-use rpki_der::{Constructed, DecodeError, Mode};
+use rpki_basics::{KeyIdentifier, PublicKey};
+use rpki_der::{Constructed, DecodeError, Mode, UpperHex};
 use std::alloc::{AllocError, Global};
 
 /// The key whose bits are `abc`, as it is written.

@@ -1,6 +1,6 @@
 use Rattle.std.proofs.Common.{ap, sym, subst, ◌++◌, ◌∙◌}
 use Rattle.rpki_der.specs.declared.mode.Mode.TheVariants.{Der}
-use Rattle.rpki_basics.specs.Hex.{upper_hex}
+use Rattle.rpki_der.specs.Text.Hex.{upper_hex}
 use Rattle.rpki_basics.specs.Name.{IsName}
 use Rattle.rpki_basics.proofs.Names.Written.{head, key-name-is, key-name-skipped}
 use Rattle.rpki_basics.proofs.name.key_name.Goals as goal

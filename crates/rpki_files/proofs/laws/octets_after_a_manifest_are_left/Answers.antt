@@ -1,5 +1,5 @@
 use Rattle.rpki_der.specs.Tags.{SEQUENCE}
-use Rattle.rpki_lists.proofs.After.{leaves-after}
+use Rattle.rpki_der.proofs.Reading.After.{leaves-after}
 use Rattle.rpki_files.specs.Manifest.{ManifestForm}
 use Rattle.rpki_files.proofs.laws.octets_after_a_manifest_are_left.Goals as goal
 

@@ -8,7 +8,7 @@ use Rattle.rpki_resources.proofs.list.take_list.Goals as goal
 pub returns-in_err-is_at_end-clause-reads : goal.returns-in_err-is_at_end-clause-reads
 returns-in_err-is_at_end-clause-reads g c =
     let p = err_from_is_err_and c.from_residual.result c.from_residual.ensures.1 in
-    rw (p.1, p.2) (up_to-failed (g.T.Listed.parser c.args.kind)
+    rw (p.1, p.2) (up_to-failed (g.T.Listed.parser c.args.family)
     (λ (v : Vec _ Global). v.items) _ _ _ _ c.is_at_end.new.self
     c.loop-list.invariant.read c.in_err-is_at_end.ensures.reads)
 
@@ -16,7 +16,7 @@ pub returns-in_err-one-clause-reads : goal.returns-in_err-one-clause-reads
 returns-in_err-one-clause-reads g c =
     let p = err_from_is_err_and c.from_residual-in_err-one.result
     c.from_residual-in_err-one.ensures.1 in
-    rw (p.1, p.2) (up_to-err (g.T.Listed.parser c.args.kind)
+    rw (p.1, p.2) (up_to-err (g.T.Listed.parser c.args.family)
     (λ mode. record { at = c.requires mode }) (λ b. b)
     (λ (v : Vec _ Global). v.items)
     c.loop-list.list.items c.args.cons.now c.loop-list.cons _ c.is_at_end.new.self _
@@ -26,7 +26,7 @@ returns-in_err-one-clause-reads g c =
 
 pub loop-list-smaller : goal.loop-list-smaller
 loop-list-smaller g c =
-    up_to-smaller (g.T.Listed.parser c.args.kind)
+    up_to-smaller (g.T.Listed.parser c.args.family)
     (λ mode. record { at = c.requires mode })
     (λ b. b) c.loop-list.cons _ c.is_at_end.new.self _ c.take_one.new.cons
     c.in_ok-is_at_end.ensures.reads c.in_ok-one.ensures.reads
@@ -34,7 +34,7 @@ loop-list-smaller g c =
 pub loop-list-preserved : goal.loop-list-preserved
 loop-list-preserved g c = record {
   read = rw c.in_ok-push.ensures.items
-      (up_to-more (g.T.Listed.parser c.args.kind)
+      (up_to-more (g.T.Listed.parser c.args.family)
       (λ mode. record { at = c.requires mode })
       (λ b. b) c.loop-list.list.items c.args.cons.now
       c.loop-list.cons _ c.is_at_end.new.self _ c.take_one.new.cons c.loop-list.invariant.read
@@ -46,7 +46,7 @@ loop-list-preserved g c = record {
 
 pub returns-clause-reads : goal.returns-clause-reads
 returns-clause-reads g c =
-    up_to-end (g.T.Listed.parser c.args.kind)
+    up_to-end (g.T.Listed.parser c.args.family)
     (λ mode. record { at = c.requires mode })
     (λ (v : Vec _ Global). v.items) c.args.cons.now c.loop-list.cons
     c.loop-list.list _ c.is_at_end.new.self c.loop-list.invariant.read

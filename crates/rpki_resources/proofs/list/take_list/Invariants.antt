@@ -5,7 +5,7 @@ use Rattle.rpki_resources.proofs.list.take_list.Given as goal
 abbrev pub invariant-loop-list : goal.invariant-loop-list
 invariant-loop-list g l =
     record {
-      read : ReadUpTo (g.T.Listed.parser l.fn.kind) l.list.items l.fn.cons l.cons;
+      read : ReadUpTo (g.T.Listed.parser l.fn.family) l.list.items l.fn.cons l.cons;
       known : All g.T.Listed.known l.list.items;
     }
 

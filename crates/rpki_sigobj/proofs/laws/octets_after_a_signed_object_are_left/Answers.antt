@@ -1,5 +1,5 @@
 use Rattle.rpki_der.specs.Tags.{SEQUENCE}
-use Rattle.rpki_lists.proofs.After.{leaves-after}
+use Rattle.rpki_der.proofs.Reading.After.{leaves-after}
 use Rattle.rpki_sigobj.specs.Object.{SignedForm}
 use Rattle.rpki_sigobj.proofs.laws.octets_after_a_signed_object_are_left.Goals as goal
 

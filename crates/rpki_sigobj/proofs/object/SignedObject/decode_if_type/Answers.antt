@@ -33,7 +33,7 @@ returns-else-eq-clause-decodes c =
     let other : false ≡ bytes_eq object.signed.content_type type =
     rw (c.as_slice.ensures.octets, c.as_slice-in-Ok.ensures.octets, c.content_type.ensures)
     at c.if-eq.ensures in
-    other-refused (SignedForm (mode_of c.args.strict))
+    rw c.refusal.ensures (other-refused (SignedForm (mode_of c.args.strict))
     (λ (s : SignedObject). s.signed.content_type ≡ type) c.args.source object found.0
     (λ is. absurd (let never : false ≡ true =
-    other ∙ (bytes_eq-Decides object.signed.content_type type).1 is in cc)) found.1
+    other ∙ (bytes_eq-Decides object.signed.content_type type).1 is in cc)) found.1)

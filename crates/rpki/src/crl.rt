@@ -1,0 +1,3 @@
+//! Revocation lists.
+
+pub use rpki_crls::{Crl, CrlExtensions, faults, laws};

@@ -1,0 +1,7 @@
+//! Why certificates and signed objects are refused, checks in order, and validated sets.
+
+pub use rpki_basics::{BuildError, BuildFault};
+pub use rpki_faults::{
+    Family, InspectionError, KeyUsage, Overclaim, UncoveredPrefix, ValidationError,
+    VerificationError, laws, validated,
+};

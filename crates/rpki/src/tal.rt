@@ -1,0 +1,3 @@
+//! Trust anchor locators.
+
+pub use rpki_tal::{ReadError, Tal, TalInfo, TalUri, laws};

@@ -1,0 +1,191 @@
+//! Attestations and paths, as those who decide what is granted use them.
+
+ghost use Rattle.std.specs.Prelude.{◌≡◌, ◌↔◌, IsFalse, IsTrue, IfOk, List, map};
+ghost use Rattle.rpki_paths.specs.declared.decision.FinalFault.{FinalFault};
+ghost use Rattle.rpki_paths.specs.declared.pairs.PairFault.{PairFault};
+ghost use Rattle.rpki_paths.specs.declared.supply.SupplyFault.{SupplyFault};
+ghost use Rattle.rpki_paths.specs.declared.walks.WalksFault.{WalksFault};
+ghost use Rattle.rpki_paths.specs.Accepting.{WantsMemory, carried_of};
+ghost use Rattle.rpki_paths.specs.Cert.{Cert};
+ghost use Rattle.rpki_paths.specs.Final.{attested_sets};
+ghost use Rattle.rpki_paths.specs.Grant.{ArePaths, AreUsed, IsEarned, IsGranted};
+ghost use Rattle.rpki_paths.specs.Granting.{LacksMemory};
+ghost use Rattle.rpki_paths.specs.Kept.{AreWalked};
+ghost use Rattle.rpki_paths.specs.Pairing.{HasDistinctIds};
+ghost use Rattle.rpki_paths.specs.Supplied.{supply_of};
+ghost use Rattle.rpki_paths.specs.Walk.{placed};
+
+use rpki::paths::laws::{all_are_kept, final_is_decided};
+use rpki::paths::{
+    AcceptFault, Accepts, Attestation, Attested, CarriedCert, CarriedSigner, Certificate,
+    FinalFault, GrantFault, Locator, PairFault, Path, SignedCertificate, Supplied, SuppliedCa,
+    SupplyFault, VerdictCount, WalksFault, finalize, grant, supply_all, walk_each,
+};
+use std::alloc::{AllocError, Global};
+use std::sync::ledger::Ledger;
+
+// Whether items were not paired off for want of memory.
+fn of_pairing(fault: PairFault) -> bool
+    ensures { IsTrue result ↔ (fault ≡ PairFault.Memory) }
+{
+    match fault {
+        PairFault::Unpaired(_) => false,
+        PairFault::LeftOver => false,
+        PairFault::Memory => true,
+    }
+}
+
+// Whether there are no walks for want of memory.
+fn of_walks(fault: WalksFault) -> bool
+    ensures { IsTrue result ↔ (fault ≡ WalksFault.Memory) }
+{
+    match fault {
+        WalksFault::NoPath(_) => false,
+        WalksFault::Unused(_) => false,
+        WalksFault::Memory => true,
+    }
+}
+
+// Whether an attestation was not accepted for want of memory.
+fn of_acceptance(fault: AcceptFault) -> bool
+    ensures { IsTrue result ↔ WantsMemory fault }
+{
+    match fault {
+        AcceptFault::NotValid => false,
+        AcceptFault::Crls(fault) => of_pairing(fault),
+        AcceptFault::Keys(fault) => of_pairing(fault),
+        AcceptFault::Digest => false,
+        AcceptFault::Signers(fault) => of_pairing(fault),
+        AcceptFault::Walks(fault) => of_walks(fault),
+        AcceptFault::Memory => true,
+    }
+}
+
+// Whether a supply ended the call for want of memory.
+fn of_supply<F>(fault: &SupplyFault<F>) -> bool
+    ensures { IsTrue result ↔ (fault.now ≡ SupplyFault.Memory) }
+{
+    match fault {
+        SupplyFault::NoAnchor(_) => false,
+        SupplyFault::NotCovered(_) => false,
+        SupplyFault::Memory => true,
+    }
+}
+
+// Whether the end said no for want of memory.
+fn of_end(fault: FinalFault) -> bool
+    ensures { IsTrue result ↔ (fault ≡ FinalFault.Memory) }
+{
+    match fault {
+        FinalFault::NotAnchored => false,
+        FinalFault::AsNumbers => false,
+        FinalFault::Addresses => false,
+        FinalFault::Memory => true,
+    }
+}
+
+/// Whether an attestation was not granted for want of memory alone.
+pub fn lacks_memory<F>(fault: &GrantFault<F>) -> bool
+    ensures { IsTrue result ↔ LacksMemory fault.now }
+{
+    match fault {
+        GrantFault::NotAccepted(fault) => of_acceptance(*fault),
+        GrantFault::NotSupplied(fault) => of_supply(fault),
+        GrantFault::NotGranted(fault) => of_end(*fault),
+    }
+}
+
+/// Whether an attestation is granted under some supplies. A yes is right always, and a no where
+/// identifiers are distinct.
+pub fn is_granted<S, C, R: Copy, T, U, L: Ledger>(
+    alloc: Global,
+    a: &Attestation<S, C, R>,
+    supplies: &[Supplied<T, U>],
+    asked: &mut VerdictCount<L>,
+) -> Result<bool, AllocError>
+where
+    S: CarriedSigner<C> + Accepts<C, L>,
+    C: CarriedCert<R> + Accepts<R, L> + SignedCertificate<L>,
+    T: Locator<C>,
+    T::Fault: Copy,
+    U: SuppliedCa<C>,
+    ensures yes { IfOk result (λ yes. IsTrue yes →
+        IsGranted (carried_of S.signer C.cert C.crl a.now)
+        (map (supply_of T.key U.ski U.key U.sets) supplies.now) (attested_sets a.now.sets)) }
+    ensures no { IfOk result (λ yes. IsFalse yes →
+        HasDistinctIds (carried_of S.signer C.cert C.crl a.now) →
+        ¬ (IsGranted (carried_of S.signer C.cert C.crl a.now)
+        (map (supply_of T.key U.ski U.key U.sets) supplies.now) (attested_sets a.now.sets))) }
+{
+    match grant(alloc, a, supplies, asked) {
+        Ok(()) => Ok(true),
+        Err(fault) => {
+            if lacks_memory(&fault) {
+                return Err(AllocError);
+            }
+            Ok(false)
+        }
+    }
+}
+
+// Whether paths that were walked earn the attested numbers under some supplies.
+fn earn<C: Certificate, T, U>(
+    alloc: Global,
+    paths: &mut [Path<C>],
+    supplies: &[Supplied<T, U>],
+    attested: &Attested,
+) -> Result<bool, AllocError>
+where
+    T: Locator<C>,
+    T::Fault: Copy,
+    U: SuppliedCa<C>,
+    ensures { IfOk result (λ yes. IsTrue yes → (cas ees : List Cert)
+        → AreWalked C.cert cas ees paths.old → (walked : List (List Cert))
+        × ArePaths cas ees walked × AreUsed cas walked
+        × IsEarned walked (map (supply_of T.key U.ski U.key U.sets) supplies.now)
+        (attested_sets attested.now)) }
+{
+    all_are_kept::<C, T, U>();
+    final_is_decided::<C>();
+    match supply_all(paths, supplies) {
+        Ok(()) => {}
+        Err(SupplyFault::Memory) => return Err(AllocError),
+        Err(_) => return Ok(false),
+    }
+    match finalize(alloc, paths, attested) {
+        Ok(()) => Ok(true),
+        Err(FinalFault::Memory) => Err(AllocError),
+        Err(_) => Ok(false),
+    }
+}
+
+/// Whether end-entity certificates have paths up some CAs, each on one of these, that earn just the
+/// attested numbers under some supplies: a yes means that they do.
+pub fn are_earned<C: SignedCertificate<L>, T, U, L: Ledger>(
+    alloc: Global,
+    ees: &[C],
+    cas: &[C],
+    supplies: &[Supplied<T, U>],
+    attested: &Attested,
+    asked: &mut VerdictCount<L>,
+) -> Result<bool, AllocError>
+where
+    T: Locator<C>,
+    T::Fault: Copy,
+    U: SuppliedCa<C>,
+    ensures { IfOk result (λ yes. IsTrue yes → (paths : List (List Cert))
+        × ArePaths (placed C.cert 1 cas.now) (map C.cert ees.now) paths
+        × AreUsed (placed C.cert 1 cas.now) paths
+        × IsEarned paths (map (supply_of T.key U.ski U.key U.sets) supplies.now)
+        (attested_sets attested.now)) }
+{
+    match walk_each(alloc, ees, cas, asked) {
+        Ok(mut paths) => {
+            let are_earned = earn(alloc, paths.as_mut_slice(), supplies, attested);
+            drop(paths);
+            are_earned
+        }
+        Err(WalksFault::Memory) => Err(AllocError),
+        Err(_) => Ok(false),
+    }
+}

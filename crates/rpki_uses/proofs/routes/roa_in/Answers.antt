@@ -1,8 +1,0 @@
-use Rattle.rpki_uses.proofs.Lengths.{roa-within}
-use Rattle.rpki_uses.proofs.routes.roa_in.Goals as goal
-
-pub returns-clause-within : goal.returns-clause-within
-returns-clause-within c =
-    roa-within c.args.octets c.decode.result
-    (rw c.as_slice.ensures at c.slices_hold_octets.ensures.octets)
-    c.roas_are_written.ensures.found c.decode.ensures
