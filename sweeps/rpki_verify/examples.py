@@ -22,6 +22,7 @@ use rpki_basics::Time;
 use std::test::Fail;
 '''
 MALFORMED = "malformed\n"
+OTHER_TYPE = "malformed: eContentType is not the one that is asked for\n"
 ISSUER_MALFORMED = "issuer refused: malformed\n"
 CHAIN = "anchor", "authority"
 LARGE, NONE = (3, "out of memory\n"), (2, "cannot read none\n")
@@ -74,7 +75,7 @@ ROWS = [
     (check("roa", "expired", moment="20260501000000Z"), None, 0, "yes\n" + ROA, 3),
     (check("roa", "broken"), None, 1, "refused: signature is not valid\n", 3),
     (check("roa", "roa", chain=["anchor"]), None, 1, "refused: not issued by this CA\n", 2),
-    (check("aspa", "roa"), None, 1, MALFORMED, 3),
+    (check("aspa", "roa"), None, 1, OTHER_TYPE, 3),
     (check("roa", "anchor"), None, 1, MALFORMED, 3),
     (check("roa", "roa", "roa"), None, 1, ISSUER_MALFORMED, 4),
     (check("roa", "anchor", chain=["roa"]), None, 1, ISSUER_MALFORMED, 2),
@@ -84,7 +85,7 @@ ROWS = [
      1),
     (["--relaxed", "show", "rsc", "rsc"], None, 0,
      RSC + SIGNED + "7 1B95E79E269CA2092ABA65FB1D2FB3F9557D1C1A\n", 1),
-    (["show", "aspa", "roa"], None, 1, MALFORMED, 1),
+    (["show", "aspa", "roa"], None, 1, OTHER_TYPE, 1),
     (["show", "tal", "roa"], None, 1, MALFORMED, 1),
     (["content", "roa", "roa"], None, 1, MALFORMED, 1),
     (["content", "roa", "none"], None, *NONE, 1),

@@ -26,6 +26,7 @@ use Rattle.rpki_command.specs.Answer.{Output}
 use Rattle.rpki_verdicts.specs.Listed.{is_listed}
 use Rattle.rpki_verdicts.specs.Verdicts.{AreVerdicts}
 use Rattle.rpki_command.specs.Check.{IsCheckedWith, CheckOf}
+use Rattle.rpki_command.specs.declared.contents.Causes.TheVariants.{Omitted}
 use Rattle.rpki_command.specs.declared.words.Kind as words
 use Rattle.rpki_command.specs.declared.words.Options.{Options}
 
@@ -111,15 +112,15 @@ pub checked-files : (options : Options) (kind : words.Kind) (now : Moment)
     → object ≡ o.items → verdicts ≡ v.items → anchor ≡ a.items
     → (lines : List (List ℕ)) (s : Output) → 3 ≤ length files → o ≡ get_or files 0 o
     → v ≡ get_or files 1 v → a ≡ get_or files 2 a → AreVerdicts verdicts lines
-    → IsCheckedWith options kind sha256 (is_listed lines) now object anchor
+    → IsCheckedWith Omitted options kind sha256 (is_listed lines) now object anchor
     (octets_of (take (length files - 3) (drop 3 files))) s
     → CheckOf options kind now (octets_of files) s
 checked-files options kind now files o v a object verdicts anchor d e f lines s l i j k w h =
-    let rest = subst (λ (tail : List (Vec ℕ Global)). IsCheckedWith options kind sha256
+    let rest = subst (λ (tail : List (Vec ℕ Global)). IsCheckedWith Omitted options kind sha256
     (is_listed lines) now object anchor (octets_of tail) s) (take_rest files 3) h in
-    let anchored = subst (λ (end : List ℕ). IsCheckedWith options kind sha256 (is_listed lines) now
+    let anchored = subst (λ (end : List ℕ). IsCheckedWith Omitted options kind sha256 (is_listed lines) now
     object end (octets_of (drop 3 files)) s) f rest in
-    let checked = subst (λ (front : List ℕ). IsCheckedWith options kind sha256 (is_listed lines) now
+    let checked = subst (λ (front : List ℕ). IsCheckedWith Omitted options kind sha256 (is_listed lines) now
     front a.items (octets_of (drop 3 files)) s) d anchored in
     subst (λ (fs : List (Vec ℕ Global)). CheckOf options kind now (octets_of fs) s)
     (sym (three files o v a l i j k))

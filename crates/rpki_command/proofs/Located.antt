@@ -12,6 +12,7 @@ use Rattle.rpki_command.specs.Answer.{Output, malformed}
 use Rattle.rpki_command.specs.Contents.{IsLinesOf, IsShown}
 use Rattle.rpki_command.specs.Refusal.{tal_refusal}
 use Rattle.rpki_command.specs.Texts.Tal.{TalLines, tal_text}
+use Rattle.rpki_command.specs.declared.contents.Causes.TheVariants.{Omitted}
 
 -- all that was given are the octets
 all-given : (octets text : List ℕ) (new : Option (List ℕ)) → HasGiven (Some octets) new text
@@ -22,14 +23,14 @@ all-given octets text (Some rest) h =
 
 module _ (octets : List ℕ) (new : Option (List ℕ)) (s : Output) where
   no-tal : (e : ReadError) → s ≡ malformed → GivesNoTal (Some octets) new e
-      → IsShown TalLines octets s
+      → IsShown Omitted TalLines octets s
   no-tal e is none =
       let no : IsNoTal octets =
       subst IsNoTal (all-given octets none.0 new none.1) none.3 in
       record { said = inr (inl (is, λ lines h. no h.0 h.1 h.2)) }
 
   pub shown-no-tal : (e : ReadError) → s ≡ tal_refusal e → 0 ≡ 0 + failed_calls (Err e)
-      → ReadsTal (Some octets) new (Err e) → IsShown TalLines octets s
+      → ReadsTal (Some octets) new (Err e) → IsShown Omitted TalLines octets s
   shown-no-tal error.Memory is kept h = record { said = inl is }
   shown-no-tal error.Io is kept h = absurd (omega (arith, kept))
   shown-no-tal error.UnexpectedEof is kept h = no-tal error.UnexpectedEof is h
@@ -38,7 +39,7 @@ module _ (octets : List ℕ) (new : Option (List ℕ)) (s : Output) where
   shown-no-tal (error.BadKeyInfo cause) is kept h = no-tal (error.BadKeyInfo cause) is h
 
   pub shown-tal : (tal : Locator) → ReadsTal (Some octets) new (Ok tal)
-      → IsLinesOf (tal_text tal.uris tal.key) s → IsShown TalLines octets s
+      → IsLinesOf (tal_text tal.uris tal.key) s → IsShown Omitted TalLines octets s
   shown-tal tal h (inl e) = record { said = inl e }
   shown-tal tal h (inr e) =
       let only : IsOnlyTal octets tal.uris tal.key =

@@ -5,6 +5,7 @@ use Rattle.std.specs.Prelude.{◌⊎◌}
 use Rattle.sha2.specs.Sha256.{sha256}
 use Rattle.rpki_der.specs.Grammar.{HasNoFront}
 use Rattle.rpki_der.specs.Read.Reads.{Refuses}
+use Rattle.rpki_der.specs.Text.Error.{fault_text}
 use Rattle.rpki_der.specs.declared.error.DecodeError.{DecodeError}
 use Rattle.rpki_der.specs.declared.error.DecodeError.TheVariants as decoding
 use Rattle.rpki_der.specs.declared.mode.Mode.{Mode}
@@ -26,7 +27,7 @@ use Rattle.rpki_sigobj.specs.Signed.Kind as signed
 use Rattle.rpki_sigobj.specs.Signed.{Whole, ObjectForm, cert_in}
 use Rattle.rpki_verdicts.specs.Listed.{is_listed}
 use Rattle.rpki_command.specs.Answer.{Run, Output, Printed, Complained, IsSaid, IsWhole}
-use Rattle.rpki_command.specs.Answer.{out_of_memory, bad_verdicts, shown}
+use Rattle.rpki_command.specs.Answer.{out_of_memory, bad_verdicts, malformed, malformed_by, shown}
 use Rattle.rpki_command.specs.Check.{yes_line, passes, issuer_refusal, validation_refusal}
 use Rattle.rpki_command.specs.Check.{IsCheckSaid, IsCheckedAs, CheckedUnder, IsSaidUnder, CheckOf}
 use Rattle.rpki_command.specs.Command.{AreTold, ChecksFiles, IsRunOf, objects_language}
@@ -35,12 +36,15 @@ use Rattle.rpki_command.specs.Contents.{IsLinesOf}
 use Rattle.rpki_command.specs.Kinds.{OfKind}
 use Rattle.rpki_command.specs.Language.{IsAsked}
 use Rattle.rpki_command.specs.Options.{read_mode}
-use Rattle.rpki_command.specs.Refusal.{refusal}
+use Rattle.rpki_command.specs.Refusal.{IsRefusal}
 use Rattle.rpki_command.specs.Store.{Told, Names}
 use Rattle.rpki_command.specs.Yes.{FilesOfCheck, in_order_with, check_order, PrintsYes}
 use Rattle.rpki_command.specs.Yes.{IsRightYes, BeginsWithNoGood, IsRightNo, HoldsByList}
+use Rattle.rpki_command.specs.declared.contents.Causes.{Causes}
+use Rattle.rpki_command.specs.declared.contents.Causes.TheVariants.{Omitted, Included}
 use Rattle.rpki_command.specs.declared.words.Kind.{Kind}
 use Rattle.rpki_command.specs.declared.words.Options.{Options}
+use Rattle.rpki_command.proofs.Shown.{refusal-said}
 
 -- the status that goes with what is said
 abbrev pub status_of : Output → ℕ
@@ -80,10 +84,18 @@ whole-lines lines run h z = elim h.out [
   | inr c ↦ absurd (omega (arith, c.status_is, z))
 ]
 
-refusal-is-none : (fault : DecodeError) → status_of (refusal fault) ≡ 0 → ⊥
-refusal-is-none decoding.Memory = three
-refusal-is-none decoding.Malformed = one
-refusal-is-none (decoding.Content fault) = one
+-- a refusal is no yes
+refusal-is-none : (causes : Causes) (fault : DecodeError) (s : Output) → IsRefusal causes fault s
+    → status_of s ≡ 0 → ⊥
+refusal-is-none Omitted decoding.Memory s e z = other-status s out_of_memory 0 z e three
+refusal-is-none Included decoding.Memory s e z = other-status s out_of_memory 0 z e three
+refusal-is-none Omitted decoding.Malformed s e z = other-status s malformed 0 z e one
+refusal-is-none Included decoding.Malformed s e z = other-status s malformed 0 z e one
+refusal-is-none Omitted (decoding.Content fault) s e z = other-status s malformed 0 z e one
+refusal-is-none Included (decoding.Content fault) s (inl e) z =
+    other-status s out_of_memory 0 z e three
+refusal-is-none Included (decoding.Content fault) s (inr e) z =
+    other-status s (malformed_by (fault_text fault)) 0 z e one
 
 fault-is-none : (fault : ValidationError) → status_of (validation_refusal fault) ≡ 0 → ⊥
 fault-is-none (validation.Inspection fault) = one
@@ -103,7 +115,7 @@ no-pass cert fault e = absurd cc
 
 -- ---- one object
 
-module _ {X : Type 0} (kind : signed.Kind X) (form : List ℕ → X → Type 0) (text : X → List ℕ)
+module _ {X : Type 0} (causes : Causes) (kind : signed.Kind X) (form : List ℕ → X → Type 0) (text : X → List ℕ)
     (mode : Mode) (digest : Digester) (verdict : Verdict) (issuer : Validated) (now : Moment)
     (octets : List ℕ) (s : Output) where
   module _ (run : Run) (h : IsSaid s run) (z : run.status ≡ 0) (zero : status_of s ≡ 0) where
@@ -114,7 +126,7 @@ module _ {X : Type 0} (kind : signed.Kind X) (form : List ℕ → X → Type 0) 
 
     yes-result : (result : Result (Validated × X) CheckError)
         → IsExact kind form mode digest verdict issuer now passes octets result
-        → IsCheckSaid text result s
+        → IsCheckSaid causes text result s
         → PrintsYes kind form text mode digest verdict issuer now octets run
     yes-result (Ok a) b is =
         let holds = b.holds in
@@ -129,14 +141,13 @@ module _ {X : Type 0} (kind : signed.Kind X) (form : List ℕ → X → Type 0) 
           printed = whole-lines (yes_line ++ text b.object.content) run lines z;
           silent = lines.err;
         }
-    yes-result (Err (Decode fault)) b is =
-        absurd (other-status s (refusal fault) 0 zero is (refusal-is-none fault))
+    yes-result (Err (Decode fault)) b is = absurd (refusal-is-none causes fault s is zero)
     yes-result (Err (Validation fault)) b (inl e) =
         absurd (other-status s out_of_memory 0 zero e three)
     yes-result (Err (Validation fault)) b (inr e) =
         absurd (other-status s (validation_refusal fault) 0 zero e (fault-is-none fault))
 
-    yes-as : IsCheckedAs kind form text mode digest verdict issuer now octets s
+    yes-as : IsCheckedAs causes kind form text mode digest verdict issuer now octets s
         → PrintsYes kind form text mode digest verdict issuer now octets run
     yes-as (inl e) = absurd (other-status s out_of_memory 0 zero e three)
     yes-as (inr c) = yes-result c.result c.exact c.said
@@ -145,12 +156,14 @@ module _ {X : Type 0} (kind : signed.Kind X) (form : List ℕ → X → Type 0) 
     no-memory : s ≡ out_of_memory → ⊥
     no-memory e = other-status s out_of_memory 1 first e (λ (n : 3 ≡ 1). omega (arith, n))
 
-    no-front : (fault : DecodeError) → s ≡ refusal fault
+    no-front : (fault : DecodeError) → IsRefusal causes fault s
         → Refuses fault (HasNoFront (ObjectForm kind.type form mode) octets)
         → HasNoFront (ObjectForm kind.type form mode) octets
-    no-front decoding.Memory e none = absurd (no-memory e)
-    no-front decoding.Malformed e none = none
-    no-front (decoding.Content fault) e none = none
+    no-front fault e none = elim
+        (refusal-said causes fault s (HasNoFront (ObjectForm kind.type form mode) octets) e none) [
+          | inl m ↦ absurd (no-memory m)
+          | inr p ↦ p.1
+        ]
 
     not-good : (o : Whole X) (fault : ValidationError) → s ≡ validation_refusal fault
         → (fault ≡ validation.Memory)
@@ -161,7 +174,7 @@ module _ {X : Type 0} (kind : signed.Kind X) (form : List ℕ → X → Type 0) 
 
     no-result : (result : Result (Validated × X) CheckError)
         → IsExact kind form mode digest verdict issuer now passes octets result
-        → IsCheckSaid text result s
+        → IsCheckSaid causes text result s
         → BeginsWithNoGood kind form mode digest verdict issuer now octets
     no-result (Ok a) b (inl e) = absurd (no-memory e)
     no-result (Ok a) b (inr e) = absurd
@@ -175,7 +188,7 @@ module _ {X : Type 0} (kind : signed.Kind X) (form : List ℕ → X → Type 0) 
       holds = not-good b.object fault e b.holds;
     })
 
-    no-as : IsCheckedAs kind form text mode digest verdict issuer now octets s
+    no-as : IsCheckedAs causes kind form text mode digest verdict issuer now octets s
         → BeginsWithNoGood kind form mode digest verdict issuer now octets
     no-as (inl e) = absurd (no-memory e)
     no-as (inr c) = no-result c.result c.exact c.said
@@ -190,45 +203,45 @@ pub of-kind : (options : Options) (kind : Kind)
     → OfKind options kind P → OfKind options kind Q
 of-kind options kind P Q more h = search rules
 
-module _ (s : Output) (options : Options) (kind : Kind) (verdict : Verdict) (issuer : Validated)
-    (now : Moment) (octets : List ℕ)
-    (c : CheckedUnder options kind sha256 verdict issuer now octets s) where
+module _ (s : Output) (causes : Causes) (options : Options) (kind : Kind) (verdict : Verdict)
+    (issuer : Validated) (now : Moment) (octets : List ℕ)
+    (c : CheckedUnder causes options kind sha256 verdict issuer now octets s) where
   pub yes-under : (run : Run) → IsSaid s run → run.status ≡ 0 → status_of s ≡ 0
       → OfKind options kind (λ X asked form text. PrintsYes asked form text (read_mode options)
       sha256 verdict issuer now octets run)
   yes-under run h z zero = of-kind options kind
-      (λ X asked form text. IsCheckedAs asked form text (read_mode options) sha256 verdict issuer
+      (λ X asked form text. IsCheckedAs causes asked form text (read_mode options) sha256 verdict issuer
       now octets s)
       (λ X asked form text. PrintsYes asked form text (read_mode options) sha256 verdict issuer now
       octets run)
-      (λ X asked form text is. yes-as asked form text (read_mode options) sha256 verdict issuer now
+      (λ X asked form text is. yes-as causes asked form text (read_mode options) sha256 verdict issuer now
       octets s run h z zero is) c
 
   pub no-under : status_of s ≡ 1
       → OfKind options kind (λ X asked form text. BeginsWithNoGood asked form (read_mode options)
       sha256 verdict issuer now octets)
   no-under first = of-kind options kind
-      (λ X asked form text. IsCheckedAs asked form text (read_mode options) sha256 verdict issuer
+      (λ X asked form text. IsCheckedAs causes asked form text (read_mode options) sha256 verdict issuer
       now octets s)
       (λ X asked form text. BeginsWithNoGood asked form (read_mode options) sha256 verdict issuer
       now octets)
-      (λ X asked form text is. no-as asked form text (read_mode options) sha256 verdict issuer now
+      (λ X asked form text is. no-as causes asked form text (read_mode options) sha256 verdict issuer now
       octets s first is) c
 
 -- ---- by its files
 
-module _ (s : Output) (options : Options) (kind : Kind) (verdict : Verdict) (now : Moment)
-    (files : FilesOfCheck) where
+module _ (s : Output) (causes : Causes) (options : Options) (kind : Kind) (verdict : Verdict)
+    (now : Moment) (files : FilesOfCheck) where
   pub yes-made : (run : Run) → IsSaid s run → run.status ≡ 0 → status_of s ≡ 0
       → (issuer : Result Validated IssuerError)
       → MakesIssuer verdict now files.anchor files.chain issuer
       → IsSaidUnder (λ v said.
-      CheckedUnder options kind sha256 verdict v now files.object said) issuer s
+      CheckedUnder causes options kind sha256 verdict v now files.object said) issuer s
       → IsRightYes options kind verdict now files run
   yes-made run h z zero (Ok issuer) made is = record {
     issuer = issuer;
     made = made;
-    yes = yes-under s options kind verdict issuer now files.object is run h z zero;
+    yes = yes-under s causes options kind verdict issuer now files.object is run h z zero;
   }
   yes-made run h z zero (Err fault) made (inl e) =
       absurd (other-status s out_of_memory 0 zero e three)
@@ -238,12 +251,12 @@ module _ (s : Output) (options : Options) (kind : Kind) (verdict : Verdict) (now
   pub no-made : status_of s ≡ 1 → (issuer : Result Validated IssuerError)
       → MakesIssuer verdict now files.anchor files.chain issuer
       → IsSaidUnder (λ v said.
-      CheckedUnder options kind sha256 verdict v now files.object said) issuer s
+      CheckedUnder causes options kind sha256 verdict v now files.object said) issuer s
       → IsRightNo options kind verdict now files
   no-made first (Ok issuer) made is = inr (record {
     issuer = issuer;
     made = made;
-    no = no-under s options kind verdict issuer now files.object is first;
+    no = no-under s causes options kind verdict issuer now files.object is first;
   })
   no-made first (Err fault) made (inl e) =
       absurd (other-status s out_of_memory 1 first e (λ (n : 3 ≡ 1). omega (arith, n)))
@@ -263,7 +276,7 @@ module _ (s : Output) (options : Options) (kind : Kind) (now : Moment) (files : 
   yes-of run h z zero (inr c) = record {
     lines = c.0;
     listed = c.1;
-    holds = yes-made s options kind (is_listed c.0) now files run h z zero c.2.0 c.2.1 c.2.2;
+    holds = yes-made s Omitted options kind (is_listed c.0) now files run h z zero c.2.0 c.2.1 c.2.2;
   }
 
   no-of : status_of s ≡ 1 → CheckOf options kind now (in_order_with text files) s
@@ -273,7 +286,7 @@ module _ (s : Output) (options : Options) (kind : Kind) (now : Moment) (files : 
   no-of first (inr c) = record {
     lines = c.0;
     listed = c.1;
-    holds = no-made s options kind (is_listed c.0) now files first c.2.0 c.2.1 c.2.2;
+    holds = no-made s Omitted options kind (is_listed c.0) now files first c.2.0 c.2.1 c.2.2;
   }
 
 -- ---- by the run

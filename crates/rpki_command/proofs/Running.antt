@@ -7,7 +7,7 @@ use Rattle.std.proofs.lemmas.Bool.{cases_order}
 use Rattle.std.proofs.lemmas.List.{append_assoc, get_or_append_left, length-append, take_at}
 use Rattle.std.specs.Prelude.{◌⊎◌}
 use Rattle.rpki_command.specs.Answer.{Run, Output, IsSaid, cannot_read, out_of_memory}
-use Rattle.rpki_command.specs.Answer.{malformed, shown}
+use Rattle.rpki_command.specs.Answer.{shown}
 use Rattle.rpki_command.specs.Command.{IsOfRead, IsOfFile, Task, Say, ShowLines, CheckFiles}
 use Rattle.rpki_command.specs.Command.{Program, order_task, IsOfReads, IsOfFiles, AreTold}
 use Rattle.rpki_command.specs.Command.{ChecksFiles, IsTaskAnswer, IsAnswer, OrOutOfMemory, Shows}
@@ -15,10 +15,12 @@ use Rattle.rpki_command.specs.Command.{IsTaskDone, HasRead, IsRunOf, HaveRead, I
 use Rattle.rpki_command.specs.Command.{IsSaidUnread, IsStartOf}
 use Rattle.rpki_command.specs.Arguments.{ToldArguments, AreTexts}
 use Rattle.rpki_command.specs.Contents.{HasNoLines, IsSaidOf, IsShown}
+use Rattle.rpki_command.specs.Refusal.{IsMalformed}
 use Rattle.rpki_command.specs.Store.{Told, Names, IsRead, AreRead, AreReadTo, AreAllRead}
 use Rattle.rpki_command.specs.Store.{IsFirstUnreadable}
 use Rattle.rpki_command.specs.Language.{Language, IsAsked, AskForNothing}
 use Rattle.rpki_certs.specs.Issuer.{octets_of}
+use Rattle.rpki_command.specs.declared.contents.Causes.{Causes}
 use Rattle.rpki_command.specs.declared.store.Unread.{Unread}
 use Rattle.rpki_command.specs.declared.store.Unread.TheVariants as reads
 use Rattle.rpki_command.specs.declared.store.StoreError.{StoreError}
@@ -30,7 +32,8 @@ said-as s is run e h = subst (λ (x : Output). IsSaid x run) e h
 
 -- ---- a file that is shown
 
-module _ (lines_of : List ℕ → List ℕ → Type 0) (s : Output) (run : Run) (h : IsSaid s run) where
+module _ (causes : Causes) (lines_of : List ℕ → List ℕ → Type 0) (s : Output) (run : Run)
+    (h : IsSaid s run) where
   unreadable-said : (file : List ℕ) (P : List ℕ → Output → Type 0)
       (read : Result (Vec ℕ Global) StoreError)
       → IsRead (Some None) read → IsOfRead file P read s → OrOutOfMemory (cannot_read file) run
@@ -38,13 +41,14 @@ module _ (lines_of : List ℕ → List ℕ → Type 0) (s : Output) (run : Run) 
   unreadable-said file P (Err Memory) r o = inl (said-as s out_of_memory run o h)
   unreadable-said file P (Err Unreadable) r o = inr (said-as s (cannot_read file) run o h)
 
-  malformed-said : (octets : List ℕ) → HasNoLines lines_of octets → IsSaidOf lines_of octets s
-      → OrOutOfMemory malformed run
+  malformed-said : (octets : List ℕ) → HasNoLines lines_of octets
+      → IsSaidOf causes lines_of octets s
+      → IsSaid out_of_memory run ⊎ ((x : Output) × IsMalformed causes x × IsSaid x run)
   malformed-said octets none (inl e) = inl (said-as s out_of_memory run e h)
-  malformed-said octets none (inr (inl m)) = inr (said-as s malformed run m.0 h)
+  malformed-said octets none (inr (inl m)) = inr (s, m.0, h)
   malformed-said octets none (inr (inr f)) = absurd (none f.0 (f.1).these)
 
-  shown-said : (octets lines : List ℕ) → lines_of octets lines → IsSaidOf lines_of octets s
+  shown-said : (octets lines : List ℕ) → lines_of octets lines → IsSaidOf causes lines_of octets s
       → OrOutOfMemory (shown lines) run
   shown-said octets lines is (inl e) = inl (said-as s out_of_memory run e h)
   shown-said octets lines is (inr (inl m)) = absurd (m.1 lines is)
@@ -52,23 +56,27 @@ module _ (lines_of : List ℕ → List ℕ → Type 0) (s : Output) (run : Run) 
       inr (subst (λ (l : List ℕ). IsSaid (shown l) run) (sym ((f.1).only lines is))
       (said-as s (shown f.0) run f.2 h))
 
-  of-octets : (file octets : List ℕ) (is : Output) (read : Result (Vec ℕ Global) StoreError)
-      → IsRead (Some (Some octets)) read → IsOfRead file (IsShown lines_of) read s
-      → (IsShown lines_of octets s → OrOutOfMemory is run) → OrOutOfMemory is run
-  of-octets file octets is (Ok v) r o k = k (subst (λ (b : List ℕ). IsShown lines_of b s) r o)
-  of-octets file octets is (Err Memory) r o k = inl (said-as s out_of_memory run o h)
-  of-octets file octets is (Err Unreadable) r o k = absurd r
+  of-octets : (file octets : List ℕ) (Q : Type 0) (read : Result (Vec ℕ Global) StoreError)
+      → IsRead (Some (Some octets)) read → IsOfRead file (IsShown causes lines_of) read s
+      → (IsShown causes lines_of octets s → IsSaid out_of_memory run ⊎ Q)
+      → IsSaid out_of_memory run ⊎ Q
+  of-octets file octets Q (Ok v) r o k =
+      k (subst (λ (b : List ℕ). IsShown causes lines_of b s) r o)
+  of-octets file octets Q (Err Memory) r o k = inl (said-as s out_of_memory run o h)
+  of-octets file octets Q (Err Unreadable) r o k = absurd r
 
-  shows : (told : Told) (file : List ℕ) → IsOfFile told file (IsShown lines_of) s
-      → Shows told file lines_of run
+  shows : (told : Told) (file : List ℕ) → IsOfFile told file (IsShown causes lines_of) s
+      → Shows causes told file lines_of run
   shows told file a =
       let tells : (t : Option (Option (List ℕ))) → told file ≡ t → IsRead t a.0 =
       λ t e. subst (λ (t : Option (Option (List ℕ))). IsRead t a.0) e a.1 in
       record {
-        unreadable = λ e. unreadable-said file (IsShown lines_of) a.0 (tells (Some None) e) a.2;
-        malformed = λ octets e none. of-octets file octets malformed a.0
+        unreadable = λ e. unreadable-said file (IsShown causes lines_of) a.0 (tells (Some None) e)
+            a.2;
+        malformed = λ octets e none. of-octets file octets
+            ((x : Output) × IsMalformed causes x × IsSaid x run) a.0
             (tells (Some (Some octets)) e) a.2 (λ h. malformed-said octets none h.said);
-        shown = λ octets lines e is. of-octets file octets (shown lines) a.0
+        shown = λ octets lines e is. of-octets file octets (IsSaid (shown lines) run) a.0
             (tells (Some (Some octets)) e) a.2 (λ h. shown-said octets lines is h.said);
       }
 
@@ -226,7 +234,7 @@ module _ (told : Told) (old new : Names) (s : Output) (run : Run) (h : IsSaid s 
   pub task-done : (task : Task) → IsTaskAnswer told task old new s
       → IsTaskDone told task old new run
   task-done (Say x) a = said-as s x run a h
-  task-done (ShowLines file lines_of) a = shows lines_of s run h told file a
+  task-done (ShowLines causes file lines_of) a = shows causes lines_of s run h told file a
   task-done (CheckFiles files P) a = checks told P old new s run h files a
 
 -- no words ask a program for two things

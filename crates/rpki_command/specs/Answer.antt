@@ -6,7 +6,8 @@ use Rattle.rpki_der.specs.Write.Encode.{Sunk}
 use Rattle.rpki_command.specs.declared.answer.Answer.{Answer}
 use Rattle.rpki_command.specs.declared.answer.Answer.TheVariants.{Usage, Help, WrongWords}
 use Rattle.rpki_command.specs.declared.answer.Answer.TheVariants.{NoMoment, CannotRead, BadVerdicts}
-use Rattle.rpki_command.specs.declared.answer.Answer.TheVariants.{OutOfMemory, Malformed, Refused}
+use Rattle.rpki_command.specs.declared.answer.Answer.TheVariants.{OutOfMemory, Malformed}
+use Rattle.rpki_command.specs.declared.answer.Answer.TheVariants.{MalformedBy, Refused}
 use Rattle.rpki_command.specs.declared.answer.Answer.TheVariants.{IssuerMalformed, IssuerRefused}
 use Rattle.rpki_command.specs.declared.answer.Answer.TheVariants.{Shown}
 
@@ -115,6 +116,10 @@ malformed_text = codes "malformed"
 abbrev pub malformed : Output
 malformed = Printed (malformed_text ++ codes "\n") 1
 
+-- the same, for this cause
+abbrev pub malformed_by : List ℕ → Output
+malformed_by cause = Printed (codes "malformed: " ++ (cause ++ codes "\n")) 1
+
 -- an object is refused, for this cause
 abbrev pub refused : List ℕ → Output
 refused cause = Printed (codes "refused: " ++ (cause ++ codes "\n")) 1
@@ -141,6 +146,7 @@ said (CannotRead file) = cannot_read file.now
 said BadVerdicts = bad_verdicts
 said OutOfMemory = out_of_memory
 said Malformed = malformed
+said (MalformedBy cause) = malformed_by (string_bytes cause)
 said (Refused cause) = refused (string_bytes cause)
 said IssuerMalformed = issuer_malformed
 said (IssuerRefused cause) = issuer_refused (string_bytes cause)

@@ -27,7 +27,9 @@ use Rattle.rpki_command.specs.Answer.{issuer_malformed}
 use Rattle.rpki_command.specs.Contents.{IsLinesOf}
 use Rattle.rpki_command.specs.Kinds.{OfKind}
 use Rattle.rpki_command.specs.Options.{read_mode}
-use Rattle.rpki_command.specs.Refusal.{refusal}
+use Rattle.rpki_command.specs.Refusal.{IsRefusal}
+use Rattle.rpki_command.specs.declared.contents.Causes.{Causes}
+use Rattle.rpki_command.specs.declared.contents.Causes.TheVariants.{Omitted}
 use Rattle.rpki_command.specs.declared.words.Kind.{Kind}
 use Rattle.rpki_command.specs.declared.words.Options.{Options}
 
@@ -65,36 +67,36 @@ abbrev pub yes_line : List ℕ
 yes_line = codes "yes\n"
 
 -- What is said of what a check answers: yes and the lines of the content, or why not.
-abbrev pub IsCheckSaid : {X : Type 0} → (X → List ℕ) → Result (Validated × X) CheckError → Output
-    → Type 0
-IsCheckSaid text (Ok a) s = IsLinesOf (yes_line ++ text a.1) s
-IsCheckSaid text (Err (Decode fault)) s = s ≡ refusal fault
-IsCheckSaid text (Err (Validation fault)) s = IsRefused fault s
+abbrev pub IsCheckSaid : {X : Type 0} → Causes → (X → List ℕ) → Result (Validated × X) CheckError
+    → Output → Type 0
+IsCheckSaid causes text (Ok a) s = IsLinesOf (yes_line ++ text a.1) s
+IsCheckSaid causes text (Err (Decode fault)) s = IsRefusal causes fault s
+IsCheckSaid causes text (Err (Validation fault)) s = IsRefused fault s
 
 -- What the check of such objects answers, and what is said of it: unless memory runs out, a yes
 -- exactly where the octets begin with a good one, and where they begin with one that is not good,
 -- the fault of its first check that fails.
-pub record IsChecked {X : Type 0} (kind : signed.Kind X) (form : List ℕ → X → Type 0)
+pub record IsChecked {X : Type 0} (causes : Causes) (kind : signed.Kind X) (form : List ℕ → X → Type 0)
     (text : X → List ℕ) (mode : Mode) (digest : Digester) (verdict : Verdict) (issuer : Validated)
     (now : Moment) (octets : List ℕ) (s : Output) : Type 0 where
   pub result : Result (Validated × X) CheckError
   pub first : Checks kind form mode digest verdict issuer now passes octets result
   pub exact : IsExact kind form mode digest verdict issuer now passes octets result
-  pub said : IsCheckSaid text result s
+  pub said : IsCheckSaid causes text result s
 
 -- what is said of the check of such objects, unless memory runs out
-abbrev pub IsCheckedAs : {X : Type 0} → signed.Kind X → (List ℕ → X → Type 0) → (X → List ℕ)
+abbrev pub IsCheckedAs : {X : Type 0} → Causes → signed.Kind X → (List ℕ → X → Type 0) → (X → List ℕ)
     → Mode → Digester → Verdict → Validated → Moment → List ℕ → Output → Type 0
-IsCheckedAs kind form text mode digest verdict issuer now octets s =
-    (s ≡ out_of_memory) ⊎ IsChecked kind form text mode digest verdict issuer now octets s
+IsCheckedAs causes kind form text mode digest verdict issuer now octets s =
+    (s ≡ out_of_memory) ⊎ IsChecked causes kind form text mode digest verdict issuer now octets s
 
 -- What is said of octets that may begin with an object of a kind, under an issuer, with these
 -- options.
-abbrev pub CheckedUnder : Options → Kind → Digester → Verdict → Validated → Moment → List ℕ → Output
+abbrev pub CheckedUnder : Causes → Options → Kind → Digester → Verdict → Validated → Moment → List ℕ → Output
     → Type 0
-CheckedUnder options kind digest verdict issuer now octets s =
+CheckedUnder causes options kind digest verdict issuer now octets s =
     OfKind options kind (λ X asked form text.
-    IsCheckedAs asked form text (read_mode options) digest verdict issuer now octets s)
+    IsCheckedAs causes asked form text (read_mode options) digest verdict issuer now octets s)
 
 -- what is said of an object where certificates make this
 abbrev pub IsSaidUnder : (Validated → Output → Type 0) → Result Validated IssuerError → Output
@@ -104,11 +106,11 @@ IsSaidUnder P (Err fault) s = IsIssuerRefused fault s
 
 -- What is said of an object, by the octets of a trust anchor and of a chain under it: first of the
 -- issuer that they make, and then of the object.
-abbrev pub IsCheckedWith : Options → Kind → Digester → Verdict → Moment → List ℕ → List ℕ
+abbrev pub IsCheckedWith : Causes → Options → Kind → Digester → Verdict → Moment → List ℕ → List ℕ
     → List (List ℕ) → Output → Type 0
-IsCheckedWith options kind digest verdict now object anchor chain s =
+IsCheckedWith causes options kind digest verdict now object anchor chain s =
     (issuer : Result Validated IssuerError) × MakesIssuer verdict now anchor chain issuer
-    × IsSaidUnder (λ v said. CheckedUnder options kind digest verdict v now object said) issuer s
+    × IsSaidUnder (λ v said. CheckedUnder causes options kind digest verdict v now object said) issuer s
 
 -- What is said where the verdicts are those of a text: by `P`, if it is a list of verdicts, and
 -- else that it is none.
@@ -122,6 +124,6 @@ IsByVerdicts P text s =
 abbrev pub CheckOf : Options → Kind → Moment → List (List ℕ) → Output → Type 0
 CheckOf options kind now (object ∷ verdicts ∷ anchor ∷ chain) s =
     IsByVerdicts
-    (λ verdict said. IsCheckedWith options kind sha256 verdict now object anchor chain said)
+    (λ verdict said. IsCheckedWith Omitted options kind sha256 verdict now object anchor chain said)
     verdicts s
 CheckOf options kind now files s = ⊥

@@ -5,15 +5,18 @@ use Rattle.std.specs.Prelude.{Result, Ok, Err, Vec}
 use Rattle.std.specs.declared.alloc.Global.{Global}
 use Rattle.rpki_certs.specs.Issuer.{octets_of}
 use Rattle.rpki_command.specs.Answer.{Run, Output, IsSaid, usage, cannot_read, out_of_memory}
-use Rattle.rpki_command.specs.Answer.{malformed, shown}
+use Rattle.rpki_command.specs.Answer.{shown}
 use Rattle.rpki_command.specs.Arguments.{ToldArguments, AreTexts, HaveNoText}
 use Rattle.rpki_command.specs.Check.{CheckOf}
 use Rattle.rpki_command.specs.Contents.{LinesOf, HasNoLines, IsShown}
 use Rattle.rpki_command.specs.Language.{Language, IsAsked, AskForNothing}
 use Rattle.rpki_command.specs.Objects.{ObjectLinesOf}
+use Rattle.rpki_command.specs.Refusal.{IsMalformed}
 use Rattle.rpki_command.specs.Texts.Tal.{TalLines}
 use Rattle.rpki_command.specs.Store.{Told, Names, IsRead, AreRead}
 use Rattle.rpki_command.specs.Words.{command_words, files_of, IsInTime}
+use Rattle.rpki_command.specs.declared.contents.Causes.{Causes}
+use Rattle.rpki_command.specs.declared.contents.Causes.TheVariants.{Omitted}
 use Rattle.rpki_command.specs.declared.store.StoreError.{StoreError}
 use Rattle.rpki_command.specs.declared.store.StoreError.TheVariants.{Unreadable, Memory}
 use Rattle.rpki_command.specs.declared.store.Unread.{Unread}
@@ -44,20 +47,20 @@ pub data Task : Type 1 where
   -- to say this, and to read no file
   Say : (s : Output) → Task
   -- to show the lines of what stands in a file
-  ShowLines : (file : List ℕ) (lines_of : List ℕ → List ℕ → Type 0) → Task
+  ShowLines : (causes : Causes) (file : List ℕ) (lines_of : List ℕ → List ℕ → Type 0) → Task
   -- to read these files, in this order, and to say what is said of their octets
   CheckFiles : (files : List (List ℕ)) (answers : List (List ℕ) → Output → Type 0) → Task
 
--- What each command of the program with verdicts comes to with these options: the table of its
--- commands. A locator is a text, of which no option speaks. Where a command is not built, the usage
+-- What each command of the program with verdicts comes to with these options, where the causes of
+-- refusals are told, or not: the table of its commands. A locator is a text, of which no option speaks. Where a command is not built, the usage
 -- is said.
-abbrev pub command_task : Options → Command → Task
-command_task options (Content kind file) = ShowLines file (LinesOf options kind)
-command_task options (Show kind file) = ShowLines file (ObjectLinesOf options kind)
-command_task options (ShowTal file) = ShowLines file TalLines
-command_task options (Check kind file moment verdicts anchor chain) =
+abbrev pub command_task : Causes → Options → Command → Task
+command_task causes options (Content kind file) = ShowLines causes file (LinesOf options kind)
+command_task causes options (Show kind file) = ShowLines causes file (ObjectLinesOf options kind)
+command_task causes options (ShowTal file) = ShowLines Omitted file TalLines
+command_task causes options (Check kind file moment verdicts anchor chain) =
     CheckFiles (file ∷ verdicts ∷ anchor ∷ chain) (CheckOf options kind moment)
-command_task options other = Say usage
+command_task causes options other = Say usage
 
 -- A program: how its orders are written, what a command comes to with options, and what is said to
 -- words that ask for nothing.
@@ -81,7 +84,11 @@ objects_language = record {
 
 -- the program with verdicts
 abbrev pub objects_program : Program
-objects_program = record { language = objects_language; task = command_task; wrong = usage }
+objects_program = record {
+  language = objects_language;
+  task = command_task Omitted;
+  wrong = usage;
+}
 
 -- what is said where reads of files answer this
 abbrev pub IsOfReads : (List (List ℕ) → Output → Type 0) → Result (Vec (Vec ℕ Global) Global) Unread
@@ -105,7 +112,8 @@ IsOfFiles told files P old new s =
 -- What the other tasks read, `HasRead` says.
 abbrev pub IsTaskAnswer : Told → Task → Names → Names → Output → Type 0
 IsTaskAnswer told (Say x) old new s = s ≡ x
-IsTaskAnswer told (ShowLines file lines_of) old new s = IsOfFile told file (IsShown lines_of) s
+IsTaskAnswer told (ShowLines causes file lines_of) old new s =
+    IsOfFile told file (IsShown causes lines_of) s
 IsTaskAnswer told (CheckFiles files P) old new s = IsOfFiles told files P old new s
 
 -- None, some or all of these files are read: those up to some place, in their order, each once, and
@@ -118,7 +126,7 @@ pub record AreReadAtMost (files old new : Names) : Type 0 where
 -- what is said.
 abbrev pub HasRead : Task → Names → Names → Type 0
 HasRead (Say x) old new = new ≡ old
-HasRead (ShowLines file lines_of) old new = new ≡ old ++ file ∷ []
+HasRead (ShowLines causes file lines_of) old new = new ≡ old ++ file ∷ []
 HasRead (CheckFiles files P) old new = AreReadAtMost files old new
 
 -- What is said for the order that the words ask for, or that they are wrong where they ask for
@@ -134,13 +142,13 @@ abbrev pub OrOutOfMemory : Output → Run → Type 0
 OrOutOfMemory s run = IsSaid out_of_memory run ⊎ IsSaid s run
 
 -- The run shows what stands in a file, where the store tells the file.
-pub record Shows (told : Told) (file : List ℕ) (lines_of : List ℕ → List ℕ → Type 0)
-    (run : Run) : Type 0 where
+pub record Shows (causes : Causes) (told : Told) (file : List ℕ)
+    (lines_of : List ℕ → List ℕ → Type 0) (run : Run) : Type 0 where
   -- a file that can't be read
   pub unreadable : told file ≡ Some None → OrOutOfMemory (cannot_read file) run
   -- octets that have no lines
   pub malformed : (octets : List ℕ) → told file ≡ Some (Some octets) → HasNoLines lines_of octets
-      → OrOutOfMemory malformed run
+      → IsSaid out_of_memory run ⊎ ((s : Output) × IsMalformed causes s × IsSaid s run)
   -- octets that have lines
   pub shown : (octets lines : List ℕ) → told file ≡ Some (Some octets) → lines_of octets lines
       → OrOutOfMemory (shown lines) run
@@ -167,7 +175,7 @@ pub record ChecksFiles (told : Told) (files : Names) (P : List (List ℕ) → Ou
 -- the run does a task
 abbrev pub IsTaskDone : Told → Task → Names → Names → Run → Type 0
 IsTaskDone told (Say x) old new run = IsSaid x run
-IsTaskDone told (ShowLines file lines_of) old new run = Shows told file lines_of run
+IsTaskDone told (ShowLines causes file lines_of) old new run = Shows causes told file lines_of run
 IsTaskDone told (CheckFiles files P) old new run = ChecksFiles told files P old new run
 
 -- What a run of a program does, where the store tells this of each file by its name.

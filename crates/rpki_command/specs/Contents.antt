@@ -1,8 +1,10 @@
 -- What is said of the octets of a file, by the kind of content that is asked for.
 use Rattle.std.specs.Prelude.{◌≡◌, ℕ, ◌⊎◌, List}
 use Rattle.rpki_der.specs.Grammar.{Front}
-use Rattle.rpki_command.specs.Answer.{Output, out_of_memory, malformed, shown}
+use Rattle.rpki_command.specs.Answer.{Output, out_of_memory, shown}
 use Rattle.rpki_command.specs.Kinds.{OfKind}
+use Rattle.rpki_command.specs.Refusal.{IsMalformed}
+use Rattle.rpki_command.specs.declared.contents.Causes.{Causes}
 use Rattle.rpki_command.specs.declared.words.Kind.{Kind}
 use Rattle.rpki_command.specs.declared.words.Options.{Options}
 
@@ -29,12 +31,12 @@ abbrev pub IsLinesOf : List ℕ → Output → Type 0
 IsLinesOf lines s = (s ≡ out_of_memory) ⊎ (s ≡ shown lines)
 
 -- what may be said of octets: that memory ran out, that they have no lines, or their lines
-abbrev pub IsSaidOf : (List ℕ → List ℕ → Type 0) → List ℕ → Output → Type 0
-IsSaidOf lines_of octets s =
-    (s ≡ out_of_memory) ⊎ (((s ≡ malformed) × HasNoLines lines_of octets)
+abbrev pub IsSaidOf : Causes → (List ℕ → List ℕ → Type 0) → List ℕ → Output → Type 0
+IsSaidOf causes lines_of octets s =
+    (s ≡ out_of_memory) ⊎ ((IsMalformed causes s × HasNoLines lines_of octets)
     ⊎ ((lines : List ℕ) × HasOnlyLines lines_of octets lines × (s ≡ shown lines)))
 
 -- the lines of the octets are shown, where there are any and memory suffices
-pub record IsShown (lines_of : List ℕ → List ℕ → Type 0) (octets : List ℕ) (s : Output)
-    : Type 0 where
-  pub said : IsSaidOf lines_of octets s
+pub record IsShown (causes : Causes) (lines_of : List ℕ → List ℕ → Type 0) (octets : List ℕ)
+    (s : Output) : Type 0 where
+  pub said : IsSaidOf causes lines_of octets s

@@ -1,17 +1,36 @@
 -- The answer where a content, an object or a locator is not read.
+use Rattle.std.specs.Prelude.{◌≡◌, ◌⊎◌}
+use Rattle.rpki_der.specs.Text.Error.{fault_text}
+use Rattle.rpki_der.specs.declared.error.ContentFault.{ContentFault}
 use Rattle.rpki_der.specs.declared.error.DecodeError.{DecodeError}
 use Rattle.rpki_der.specs.declared.error.DecodeError.TheVariants as error
 use Rattle.rpki_tal.specs.declared.error.ReadError.{ReadError}
 use Rattle.rpki_tal.specs.declared.error.ReadError.TheVariants as tal
-use Rattle.rpki_command.specs.Answer.{Output, out_of_memory, malformed}
+use Rattle.rpki_command.specs.Answer.{Output, out_of_memory, malformed, malformed_by}
+use Rattle.rpki_command.specs.declared.contents.Causes.{Causes}
+use Rattle.rpki_command.specs.declared.contents.Causes.TheVariants.{Omitted, Included}
 
--- that memory ran out is said as such, and every other fault is malformed
-abbrev pub refusal : DecodeError → Output
-refusal error.Memory = out_of_memory
-refusal error.Malformed = malformed
-refusal (error.Content fault) = malformed
+-- What may be said of octets that are not, or do not begin with, what was asked for: that they are
+-- malformed, alone, or where causes are said, for the cause that a refusal has as its text.
+abbrev pub IsMalformed : Causes → Output → Type 0
+IsMalformed Omitted s = s ≡ malformed
+IsMalformed Included s =
+    (s ≡ malformed) ⊎ ((fault : ContentFault) × (s ≡ malformed_by (fault_text fault)))
 
--- The same of a locator: that memory ran out is said as such, and every other fault is malformed.
+-- What is said of octets that break a rule in this way. A cause that is said is put together in
+-- memory, which may run out.
+abbrev pub IsFaultSaid : Causes → ContentFault → Output → Type 0
+IsFaultSaid Omitted fault s = s ≡ malformed
+IsFaultSaid Included fault s = (s ≡ out_of_memory) ⊎ (s ≡ malformed_by (fault_text fault))
+
+-- what is said of octets that are refused so
+abbrev pub IsRefusal : Causes → DecodeError → Output → Type 0
+IsRefusal causes error.Memory s = s ≡ out_of_memory
+IsRefusal causes error.Malformed s = s ≡ malformed
+IsRefusal causes (error.Content fault) s = IsFaultSaid causes fault s
+
+-- What is said of a locator that is refused so: that memory ran out is said as such, and every other
+-- fault is malformed.
 abbrev pub tal_refusal : ReadError → Output
 tal_refusal tal.Memory = out_of_memory
 tal_refusal tal.Io = malformed

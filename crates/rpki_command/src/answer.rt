@@ -62,6 +62,8 @@ pub enum Answer<'a> {
     OutOfMemory,
     /// The file is not, or does not begin with, what was asked for.
     Malformed,
+    /// The same, for this cause.
+    MalformedBy(String),
     /// The object is refused, for this cause.
     Refused(String),
     /// The certificates make no issuer: one of them is not read.
@@ -87,6 +89,7 @@ pub fn say<O: Sink, E: Sink>(answer: &Answer<'_>, out: &mut O, err: &mut E) -> u
         Answer::BadVerdicts => write(b"bad verdicts\n", FAILED, err),
         Answer::OutOfMemory => write_line(OUT_OF_MEMORY.as_bytes(), b"", NO_MEMORY, err),
         Answer::Malformed => write_line(MALFORMED, b"", REFUSED, out),
+        Answer::MalformedBy(cause) => { write_line(b"malformed: ", cause.as_bytes(), REFUSED, out) }
         Answer::Refused(cause) => write_line(b"refused: ", cause.as_bytes(), REFUSED, out),
         Answer::IssuerMalformed => write_line(ISSUER_REFUSED, MALFORMED, REFUSED, out),
         Answer::IssuerRefused(cause) => {

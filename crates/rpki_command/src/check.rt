@@ -16,7 +16,7 @@ ghost use Rattle.rpki_command.specs.Grows.{Grows};
 ghost use Rattle.rpki_command.specs.Options.{read_mode};
 
 use crate::answer::Answer;
-use crate::contents::refusal;
+use crate::contents::{Causes, refusal};
 use crate::files::Work;
 use crate::kinds::{Action, Lines, answer_for};
 use crate::words::{Kind, Options};
@@ -74,7 +74,10 @@ fn check_files<'a>(
         [object, verdicts, anchor, chain @ ..] => match Verdicts::read(verdicts) {
             None => Answer::BadVerdicts,
             Some(verdicts) => {
-                check_with(alloc, options, kind, object, anchor, chain, &verdicts, now)
+                let causes = Causes::Omitted;
+                check_with(
+                    alloc, causes, options, kind, object, anchor, chain, &verdicts, now,
+                )
             }
         },
         _ => unreachable!(),
@@ -85,6 +88,7 @@ fn check_files<'a>(
 /// certificates make, at this moment.
 pub fn check_with<'a, K: Crypto>(
     alloc: Global,
+    causes: Causes,
     options: Options,
     kind: Kind,
     object: &[u8],
@@ -93,13 +97,14 @@ pub fn check_with<'a, K: Crypto>(
     crypto: &K,
     now: Time,
 ) -> Answer<'a>
-    ensures { IsCheckedWith options kind (K.digest_of crypto.now) (K.is_signed crypto.now) now
+    ensures { IsCheckedWith causes options kind (K.digest_of crypto.now) (K.is_signed crypto.now) now
         object.now anchor.now (octets_of chain.now) (said result) }
 {
     match issuer_at(alloc, anchor, chain, crypto, now) {
         Err(error) => refused_issuer(alloc, error),
         Ok(issuer) => {
             let action = CheckObject {
+                causes,
                 octets: object,
                 issuer: &issuer,
                 crypto,
@@ -115,6 +120,7 @@ pub fn check_with<'a, K: Crypto>(
 /// To check the object at the front of the octets under this issuer, at this moment.
 #[derive(Drop)]
 struct CheckObject<'s, K: Crypto> {
+    causes: Causes,
     octets: &'s [u8],
     issuer: &'s ResourceCert,
     crypto: &'s K,
@@ -123,7 +129,7 @@ struct CheckObject<'s, K: Crypto> {
 
 impl<'s, K: Crypto> Action for CheckObject<'s, K> {
     ghost says = { λ options X asked form text action s.
-        IsCheckedAs asked form text (read_mode options) (K.digest_of action.crypto.now)
+        IsCheckedAs action.causes asked form text (read_mode options) (K.digest_of action.crypto.now)
         (K.is_signed action.crypto.now) action.issuer.now action.moment action.octets.now s };
 
     fn answer<'a, C: Lines>(self, alloc: Global, options: Options) -> Answer<'a> {
@@ -139,7 +145,7 @@ impl<'s, K: Crypto> Action for CheckObject<'s, K> {
                     self.moment,
                     pass,
                 );
-                answer_checked(alloc, checked)
+                answer_checked(alloc, self.causes, checked)
             }
         }
     }
@@ -172,12 +178,13 @@ fn check_passed<C: Lines, K: Crypto, F: FnOnce(&Cert) -> Result<(), ValidationEr
 /// What is said of what a check answers.
 fn answer_checked<'a, C: Lines>(
     alloc: Global,
+    causes: Causes,
     checked: Result<(ResourceCert, C), CheckError>,
 ) -> Answer<'a>
-    ensures { IsCheckSaid C.lines checked (said result) }
+    ensures { IsCheckSaid causes C.lines checked (said result) }
 {
     match checked {
-        Err(CheckError::Decode(error)) => refusal(error),
+        Err(CheckError::Decode(error)) => refusal(alloc, causes, error),
         Err(CheckError::Validation(error)) => refused(alloc, error),
         Ok((cert, content)) => {
             drop(cert);

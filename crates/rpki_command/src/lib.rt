@@ -21,6 +21,7 @@ pub mod words;
 
 pub use arguments::{Arguments, ProcessArguments, WordsError, words_of};
 pub use check::check_with;
+pub use contents::Causes;
 pub use program::{Objects, answer_order};
 pub use read_log::ReadLog;
 pub use runs::{Program, command, run, start, texts_of};

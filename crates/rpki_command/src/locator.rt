@@ -5,6 +5,7 @@ ghost use Rattle.rpki_command.specs.Answer.{said};
 ghost use Rattle.rpki_command.specs.Contents.{IsShown, IsLinesOf};
 ghost use Rattle.rpki_command.specs.Refusal.{tal_refusal};
 ghost use Rattle.rpki_command.specs.Texts.Tal.{TalLines, tal_text};
+ghost use Rattle.rpki_command.specs.declared.contents.Causes.TheVariants.{Omitted};
 
 use crate::answer::Answer;
 use crate::texts::tal::push_tal;
@@ -48,7 +49,7 @@ impl Source for Octets<'_> {
 /// Answers with the lines of the locator that the octets are, if they are one. Its name, which no
 /// line shows, is empty.
 pub fn show_tal<'a>(alloc: Global, octets: &[u8]) -> Answer<'a>
-    ensures { IsShown TalLines octets.now (said result) }
+    ensures { IsShown Omitted TalLines octets.now (said result) }
 {
     let mut source = Octets { rest: octets };
     match Tal::read_named(alloc, String::new(alloc), &mut source) {

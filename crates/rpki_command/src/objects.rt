@@ -8,7 +8,7 @@ ghost use Rattle.rpki_command.specs.Options.{read_mode};
 ghost use Rattle.rpki_command.specs.Texts.Object.{object_text};
 
 use crate::answer::Answer;
-use crate::contents::refusal;
+use crate::contents::{Causes, refusal};
 use crate::kinds::{Action, Lines, answer_for};
 use crate::texts::object::push_object;
 use crate::words::{Kind, Options};
@@ -18,38 +18,46 @@ use std::alloc::Global;
 
 /// Answers with the lines of the signed object of this kind at the front of the octets, if there is
 /// one.
-pub fn show_object<'a>(alloc: Global, options: Options, kind: Kind, octets: Vec<u8>) -> Answer<'a>
-    ensures { IsShown (ObjectLinesOf options kind) octets.items (said result) }
+pub fn show_object<'a>(
+    alloc: Global,
+    causes: Causes,
+    options: Options,
+    kind: Kind,
+    octets: Vec<u8>,
+) -> Answer<'a>
+    ensures { IsShown causes (ObjectLinesOf options kind) octets.items (said result) }
 {
-    answer_for(alloc, options, kind, ShowObject { octets })
+    answer_for(alloc, options, kind, ShowObject { causes, octets })
 }
 
 /// To show the object at the front of the octets.
 #[derive(Drop)]
 struct ShowObject {
+    causes: Causes,
     octets: Vec<u8>,
 }
 
 impl Action for ShowObject {
     ghost says = { λ options X asked form text action s.
-        IsShown (HasLines (ObjectForm asked.type form (read_mode options)) (object_text text))
+        IsShown action.causes
+        (HasLines (ObjectForm asked.type form (read_mode options)) (object_text text))
         action.octets.items s };
 
     fn answer<'a, C: Lines>(self, alloc: Global, options: Options) -> Answer<'a> {
         match Bytes::from_vec(self.octets) {
-            Ok(source) => show::<C>(alloc, options, source),
+            Ok(source) => show::<C>(alloc, self.causes, options, source),
             Err(_) => Answer::OutOfMemory,
         }
     }
 }
 
 /// Answers with the lines of the object at the front of the source, if there is one.
-fn show<'a, C: Lines>(alloc: Global, options: Options, source: Bytes) -> Answer<'a>
-    ensures { IsShown (HasLines (ObjectForm C.kind.type (C.form (C.rule_of options))
+fn show<'a, C: Lines>(alloc: Global, causes: Causes, options: Options, source: Bytes) -> Answer<'a>
+    ensures { IsShown causes (HasLines (ObjectForm C.kind.type (C.form (C.rule_of options))
         (read_mode options)) (object_text C.lines)) source (said result) }
 {
     match Signed::<C>::decode(alloc, source, !options.relaxed, C::rule(options)) {
-        Err(error) => refusal(error),
+        Err(error) => refusal(alloc, causes, error),
         Ok(object) => {
             let answer = show_lines(alloc, &object);
             drop(object);

@@ -2,16 +2,18 @@
 
 ghost use Rattle.std.specs.Prelude.{◌≡◌, ◌∷◌, ◌++◌, []};
 ghost use Rattle.rpki_command.specs.Answer.{said};
-ghost use Rattle.rpki_command.specs.Command.{objects_program, order_task, HasRead, IsTaskAnswer};
+ghost use Rattle.rpki_command.specs.Command.{objects_program, command_task, HasRead};
+ghost use Rattle.rpki_command.specs.Command.{IsTaskAnswer};
 ghost use Rattle.rpki_command.specs.Command.{unread, IsOfFile, IsAnswer, HaveRead};
 ghost use Rattle.rpki_command.specs.Contents.{LinesOf, IsShown};
 ghost use Rattle.rpki_command.specs.Objects.{ObjectLinesOf};
 ghost use Rattle.rpki_command.specs.Texts.Tal.{TalLines};
 ghost use Rattle.rpki_command.specs.Words.{texts};
+ghost use Rattle.rpki_command.specs.declared.contents.Causes.TheVariants.{Omitted};
 
 use crate::answer::Answer;
 use crate::check::CheckByList;
-use crate::contents::show_kind;
+use crate::contents::{Causes, show_kind};
 use crate::files::answer_files;
 use crate::locator::show_tal;
 use crate::objects::show_object;
@@ -52,27 +54,30 @@ fn answer<'a, S: Store>(alloc: Global, words: &'a [&'a str], store: &mut S) -> A
 {
     match parse(words) {
         None => Answer::Usage,
-        Some(order) => answer_order(alloc, &order, store),
+        Some(order) => answer_order(alloc, Causes::Omitted, &order, store),
     }
 }
 
-/// What the program answers to an order. A command that there is not yet is answered with the
-/// usage.
+/// What the program answers to an order, where the causes of refusals of what is shown are said, or
+/// not. A command that there is not yet is answered with the usage.
 pub fn answer_order<'a, S: Store>(
     alloc: Global,
+    causes: Causes,
     order: &Order<Command<'a>>,
     store: &mut S,
 ) -> Answer<'a>
-    ensures said { IsTaskAnswer (S.told store.old) (order_task objects_program order.now)
+    ensures said { IsTaskAnswer (S.told store.old)
+        (command_task causes order.now.options order.now.command)
         (S.reads store.old) (S.reads store.new) (said result) }
-    ensures reads { HasRead (order_task objects_program order.now)
+    ensures reads { HasRead (command_task causes order.now.options order.now.command)
         (S.reads store.old) (S.reads store.new) }
     ensures same { S.told store.new ≡ S.told store.old }
 {
+    let options = order.options;
     match &order.command {
-        Command::Content { kind, file } => show_file(alloc, order.options, *kind, file.0, store),
+        Command::Content { kind, file } => show_file(alloc, causes, options, *kind, file.0, store),
         Command::ContentRta { .. } => Answer::Usage,
-        Command::Show { kind, file } => { show_signed(alloc, order.options, *kind, file.0, store) }
+        Command::Show { kind, file } => show_signed(alloc, causes, options, *kind, file.0, store),
         Command::ShowRta { .. } => Answer::Usage,
         Command::ShowTal { file } => show_locator(alloc, file.0, store),
         Command::Check {
@@ -84,7 +89,7 @@ pub fn answer_order<'a, S: Store>(
             chain,
         } => {
             let check = CheckByList {
-                options: order.options,
+                options,
                 kind: *kind,
                 moment: *moment,
             };
@@ -98,18 +103,19 @@ pub fn answer_order<'a, S: Store>(
 /// Answers with the lines of the content of this kind in a file, if there is one.
 fn show_file<'a, S: Store>(
     alloc: Global,
+    causes: Causes,
     options: Options,
     kind: Kind,
     file: &'a str,
     store: &mut S,
 ) -> Answer<'a>
-    ensures said { IsOfFile (S.told store.old) file.now (IsShown (LinesOf options kind))
+    ensures said { IsOfFile (S.told store.old) file.now (IsShown causes (LinesOf options kind))
         (said result) }
     ensures reads { S.reads store.new ≡ S.reads store.old ++ file.now ∷ [] }
     ensures same { S.told store.new ≡ S.told store.old }
 {
     match store.read(alloc, file) {
-        Ok(octets) => show_kind(alloc, options, kind, octets),
+        Ok(octets) => show_kind(alloc, causes, options, kind, octets),
         Err(error) => unread(error, file),
     }
 }
@@ -117,25 +123,26 @@ fn show_file<'a, S: Store>(
 /// Answers with the lines of the signed object of this kind in a file, if there is one.
 fn show_signed<'a, S: Store>(
     alloc: Global,
+    causes: Causes,
     options: Options,
     kind: Kind,
     object: &'a str,
     store: &mut S,
 ) -> Answer<'a>
-    ensures said { IsOfFile (S.told store.old) object.now (IsShown (ObjectLinesOf options kind))
+    ensures said { IsOfFile (S.told store.old) object.now (IsShown causes (ObjectLinesOf options kind))
         (said result) }
     ensures reads { S.reads store.new ≡ S.reads store.old ++ object.now ∷ [] }
     ensures same { S.told store.new ≡ S.told store.old }
 {
     match store.read(alloc, object) {
-        Ok(octets) => show_object(alloc, options, kind, octets),
+        Ok(octets) => show_object(alloc, causes, options, kind, octets),
         Err(error) => unread(error, object),
     }
 }
 
 /// Answers with the lines of the trust anchor locator that the file of this name is, if it is one.
 fn show_locator<'a, S: Store>(alloc: Global, name: &'a str, store: &mut S) -> Answer<'a>
-    ensures said { IsOfFile (S.told store.old) name.now (IsShown TalLines) (said result) }
+    ensures said { IsOfFile (S.told store.old) name.now (IsShown Omitted TalLines) (said result) }
     ensures reads { S.reads store.new ≡ S.reads store.old ++ name.now ∷ [] }
     ensures same { S.told store.new ≡ S.told store.old }
 {

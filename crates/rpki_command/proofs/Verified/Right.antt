@@ -7,6 +7,7 @@ use Rattle.rpki_command.specs.Command.{AreTold, ChecksFiles, IsRunOf, IsTaskDone
 use Rattle.rpki_command.specs.Language.{IsAsked}
 use Rattle.rpki_command.specs.Store.{Told, Names}
 use Rattle.rpki_command.specs.Yes.{FilesOfCheck, in_order, IsRightYes, IsRightNo}
+use Rattle.rpki_command.specs.declared.contents.Causes.TheVariants.{Included}
 use Rattle.rpki_command.specs.declared.words.Kind.{Kind}
 use Rattle.rpki_command.specs.declared.words.Options.{Options}
 use Rattle.rpki_command.proofs.Right.{yes-made, no-made, said-yes, said-no}
@@ -31,10 +32,10 @@ module _ (told : Told) (clock : Option Moment) (words : List (List ℕ)) (old ne
   right-yes z =
       let c = said-yes told (in_order names) (in_order files) (VerifiedOf options kind now) old new
       run done tells z in
-      yes-made c.0 options kind is_rsa_signature now files run c.2 z c.3 c.1.0 c.1.1 c.1.2
+      yes-made c.0 Included options kind is_rsa_signature now files run c.2 z c.3 c.1.0 c.1.1 c.1.2
 
   pub right-no : run.status ≡ 1 → IsRightNo options kind is_rsa_signature now files
   right-no z =
       let c = said-no told (in_order names) (in_order files) (VerifiedOf options kind now) old new
       run done tells z in
-      no-made c.0 options kind is_rsa_signature now files c.3 c.1.0 c.1.1 c.1.2
+      no-made c.0 Included options kind is_rsa_signature now files c.3 c.1.0 c.1.1 c.1.2

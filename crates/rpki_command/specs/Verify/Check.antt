@@ -15,7 +15,8 @@ use Rattle.rpki_verdicts.specs.declared.list.ListingError.TheVariants as listing
 use Rattle.rpki_command.specs.Answer.{Output, out_of_memory, malformed, issuer_malformed, shown}
 use Rattle.rpki_command.specs.Check.{IsCheckedWith, issuer_refusal}
 use Rattle.rpki_command.specs.Options.{read_mode}
-use Rattle.rpki_command.specs.Refusal.{refusal}
+use Rattle.rpki_command.specs.Refusal.{IsRefusal}
+use Rattle.rpki_command.specs.declared.contents.Causes.TheVariants.{Omitted, Included}
 use Rattle.rpki_command.specs.declared.words.Kind.{Kind}
 use Rattle.rpki_command.specs.declared.words.Options.{Options}
 
@@ -24,7 +25,7 @@ use Rattle.rpki_command.specs.declared.words.Options.{Options}
 -- 7935, section 2; RFC 8017, section 8.2.2).
 abbrev pub VerifiedOf : Options → Kind → Moment → List (List ℕ) → Output → Type 0
 VerifiedOf options kind now (object ∷ anchor ∷ chain) s =
-    IsCheckedWith options kind sha256 is_rsa_signature now object anchor chain s
+    IsCheckedWith Included options kind sha256 is_rsa_signature now object anchor chain s
 VerifiedOf options kind now files s = ⊥
 
 -- What is said where the good ones of the signatures that a check asks about are listed: first that
@@ -50,4 +51,4 @@ ListedOf options files s = ⊥
 abbrev pub IsListingSaid : Result (String Global) ListingError → Output → Type 0
 IsListingSaid (Ok text) s = s ≡ shown (string_bytes text)
 IsListingSaid (Err (listing.Certificate fault)) s = s ≡ issuer_refusal (issuing.Decode fault)
-IsListingSaid (Err (listing.Object fault)) s = s ≡ refusal fault
+IsListingSaid (Err (listing.Object fault)) s = IsRefusal Omitted fault s

@@ -3,6 +3,7 @@ use Rattle.std.specs.Prelude.{ℕ, List, ◌∷◌, Option, None, Some}
 use Rattle.rpki_basics.specs.Moment.{Moment}
 use Rattle.rpki_command.specs.Answer.{Output, help, wrong_words, no_moment}
 use Rattle.rpki_command.specs.Command.{Task, Say, CheckFiles, Program, command_task}
+use Rattle.rpki_command.specs.declared.contents.Causes.TheVariants.{Included}
 use Rattle.rpki_command.specs.declared.words.Options.{Options}
 use Rattle.rpki_command.specs.Verify.Check.{VerifiedOf, ListedOf}
 use Rattle.rpki_command.specs.Verify.Words.{moment_at, verify_language}
@@ -20,7 +21,7 @@ check_task files P (Some now) = CheckFiles files (P now)
 -- commands.
 abbrev pub verify_task : Option Moment → Options → VerifyCommand → Task
 verify_task clock options Help = Say help
-verify_task clock options (Shared command) = command_task options command
+verify_task clock options (Shared command) = command_task Included options command
 verify_task clock options (Check kind file moment anchor chain) =
     check_task (file ∷ anchor ∷ chain) (VerifiedOf options kind) (moment_at clock moment)
 verify_task clock options (Verdicts file anchor chain) =

@@ -9,7 +9,7 @@ ghost use Rattle.rpki_command.specs.Verify.Check.{VerifiedOf, ListedOf, IsListin
 
 use crate::answer::Answer;
 use crate::check::check_with;
-use crate::contents::refusal;
+use crate::contents::{Causes, refusal};
 use crate::files::Work;
 use crate::words::{Kind, Options};
 use rpki_basics::Time;
@@ -68,7 +68,10 @@ fn check_files<'a>(
 {
     match files {
         [object, anchor, chain @ ..] => {
-            check_with(alloc, options, kind, object, anchor, chain, &Rsa, now)
+            let causes = Causes::Included;
+            check_with(
+                alloc, causes, options, kind, object, anchor, chain, &Rsa, now,
+            )
         }
         _ => unreachable!(),
     }
@@ -83,20 +86,20 @@ fn list_files<'a>(alloc: Global, options: Options, files: &[Vec<u8>]) -> Answer<
     match files {
         [object, anchor, chain @ ..] => {
             let strict = !options.relaxed;
-            answer_listed(listing(alloc, object, strict, anchor, chain, &Rsa))
+            answer_listed(alloc, listing(alloc, object, strict, anchor, chain, &Rsa))
         }
         _ => unreachable!(),
     }
 }
 
 /// The answer where this list is made, or none.
-fn answer_listed<'a>(listed: Result<String, ListingError>) -> Answer<'a>
+fn answer_listed<'a>(alloc: Global, listed: Result<String, ListingError>) -> Answer<'a>
     ensures { IsListingSaid listed (said result) }
 {
     match listed {
         Ok(text) => Answer::Shown(text),
         Err(ListingError::Certificate(error)) => no_certificate(error),
-        Err(ListingError::Object(error)) => refusal(error),
+        Err(ListingError::Object(error)) => refusal(alloc, Causes::Omitted, error),
     }
 }
 

@@ -9,6 +9,7 @@ ghost use Rattle.rpki_command.specs.Verify.Check.{VerifiedOf};
 ghost use Rattle.rpki_command.specs.Verify.Command.{verify_program, check_task};
 
 use crate::answer::Answer;
+use crate::contents::Causes;
 use crate::files::answer_files;
 use crate::program::answer_order;
 use crate::runs::Program;
@@ -79,7 +80,9 @@ fn answer_verify<'a, S: Store>(
     let options = order.options;
     match order.command {
         VerifyCommand::Help => Answer::Help,
-        VerifyCommand::Shared(command) => answer_order(alloc, &Order { options, command }, store),
+        VerifyCommand::Shared(command) => {
+            answer_order(alloc, Causes::Included, &Order { options, command }, store)
+        }
         VerifyCommand::Check {
             kind,
             file,

@@ -5,7 +5,8 @@ use super::octets::{
     ANCHOR, AUTHORITY, CONTENT, CONTENT_AND_MORE, CONTENT_CUT, CONTENT_IN_BER, CUSTOMER_AS0,
     LARGEST_CUSTOMER, LARGEST_PROVIDER, ORIGIN, VERDICTS, WITHOUT_VERSION,
 };
-use rpki_command::{Objects, command};
+use rpki_command::verify::Verify;
+use rpki_command::{Objects, Program, command};
 use rpki_der::Counted;
 use std::alloc::AllocError;
 use std::process::Abort;
@@ -92,10 +93,22 @@ pub fn is_answered(
     said: &Output<'_>,
     reads: usize,
 ) -> Result<(), AllocError> {
+    is_answered_by(rt, &Objects, words, files, said, reads)
+}
+
+/// The same of a program.
+fn is_answered_by<P: Program>(
+    rt: &(impl Abort + AllocGlobal),
+    program: &P,
+    words: &[&str],
+    files: &[(&str, &[u8])],
+    said: &Output<'_>,
+    reads: usize,
+) -> Result<(), AllocError> {
     let mut store = Files::new(files);
     let mut out = Counted::new(Vec::with_capacity(rt.alloc(), ROOM)?);
     let mut err = Counted::new(Vec::with_capacity(rt.alloc(), ROOM)?);
-    let status = command(rt.alloc(), &Objects, words, &mut store, &mut out, &mut err);
+    let status = command(rt.alloc(), program, words, &mut store, &mut out, &mut err);
     is_said(rt, said, status, &out.inner, &err.inner)?;
     if status == OUT_OF_MEMORY.status && store.calls() < reads {
         return Err(AllocError);
@@ -122,6 +135,28 @@ fn words_are_answered(rt: HostRuntime) -> Result<(), Fail> {
         (&["content", "aspa", "large"], &CONTENT, OUT_OF_MEMORY, 1),
     ];
     are_answered(&rt, &rows)?;
+    Ok(())
+}
+
+/// What the program with signatures says of the content whose customer is AS0.
+const CUSTOMER_AS0_TOLD: Output = Output {
+    status: 1,
+    out: "malformed: customer is AS0\n",
+    err: "",
+};
+
+#[test]
+fn causes_are_told(rt: HostRuntime) -> Result<(), Fail> {
+    let program = Verify { clock: None };
+    let rows: [Row; 4] = [
+        (&ASK, &CONTENT, SHOWN, 1),
+        (&ASK, &CUSTOMER_AS0, CUSTOMER_AS0_TOLD, 1),
+        (&ASK, &CONTENT_CUT, MALFORMED, 1),
+        (&["show", "aspa", "file"], &CONTENT, MALFORMED, 1),
+    ];
+    for (words, octets, said, reads) in &rows {
+        is_answered_by(&rt, &program, words, &[("file", octets)], said, *reads)?;
+    }
     Ok(())
 }
 

@@ -42,3 +42,11 @@ returns-in-IssuerRefused g c =
       out = rw c.as_bytes-in-IssuerRefused.ensures.value at c.write_line-in-IssuerRefused.ensures;
       err = refl;
     })
+
+pub returns-in-MalformedBy : goal.returns-in-MalformedBy
+returns-in-MalformedBy g c =
+    rw c.in-MalformedBy.is
+    (record {
+      out = rw c.as_bytes-in-MalformedBy.ensures.value at c.write_line-in-MalformedBy.ensures;
+      err = refl;
+    })
