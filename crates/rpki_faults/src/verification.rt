@@ -75,8 +75,8 @@ pub enum VerificationError {
     InvalidCaCertificates,
     /// An issuer stands on the certification path already.
     PathReturns,
-    /// An issuer has revoked a CA certificate on the certification path. Where the certificate of an
-    /// end entity is revoked, the caller refuses it, by a fault of its own.
+    /// An issuer on a certification path of an attestation has revoked the certificate below it.
+    /// Where that of a published object's signer is revoked, the caller refuses it, by `Caller`.
     Revoked,
     /// A CA certificate in an attestation stands on no certification path.
     UnusedCaCertificates,
