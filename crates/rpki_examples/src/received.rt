@@ -29,7 +29,7 @@ use rpki::x509::Time;
 use std::alloc::Global;
 
 /// Verifies that a list does not revoke the certificate of an end entity. Where it does, that is
-/// the caller's own refusal: `Revoked` is said of the certificate of a CA.
+/// the caller's own refusal: `Revoked` is said of the paths of attestations.
 pub fn verify_unrevoked(list: &Crl, cert: &Cert) -> Result<(), ValidationError>
     ensures { SaysOf list.now.list cert.now result }
 {
