@@ -1,4 +1,4 @@
-use Rattle.std.proofs.Common.{◌≡◌, ◌∙◌, ◌≤◌, ◌<◌, ◌^◌, List, ℕ, length, Result, Ok, Err}
+use Rattle.std.proofs.Common.{◌≡◌, ◌∙◌, ◌+◌, ◌≤◌, ◌<◌, ◌^◌, List, ℕ, length, Result, Ok, Err}
 use Rattle.std.proofs.Common.{refl, subst, sym, ap, arith}
 use Rattle.std.specs.Prelude.{Vec, IsErr, MatchResult}
 use Rattle.std.specs.declared.alloc.Global.{Global}
@@ -46,7 +46,7 @@ refused : (k : KeptAttributes) → k.mode ≡ Ber → (r : Result (Vec ℕ Globa
 refused k ber (Ok octets) h =
     let der : Ber ≡ Der = sym ber ∙ h.1 in
     cc
-refused k ber (Err e) h = tt
+refused k ber (Err e) h = refl
 
 pub returns-clause-der : goal.returns-clause-der
 returns-clause-der c = λ der.
