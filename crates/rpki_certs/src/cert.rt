@@ -14,8 +14,8 @@ ghost use Rattle.rpki_certs.specs.Cert.{CertForm, cert_at, certificate_of, IsKep
 use bytes::Bytes;
 pub use fields::are_same;
 use read::Contents;
-use rpki_der::laws::slices_hold_octets;
 use rpki_der::encode::CapturedEncoder;
+use rpki_der::laws::slices_hold_octets;
 use rpki_der::{Captured, Constructed, DecodeError, Mode};
 use std::alloc::{AllocError, Global};
 use std::marker::Model;
