@@ -19,7 +19,7 @@ use Rattle.rpki_signed.specs.declared.check.CheckError.{CheckError}
 use Rattle.rpki_signed.specs.declared.check.CheckError.TheVariants.{Decode, Validation}
 use Rattle.rpki_sigobj.specs.Verify.{Digester}
 use Rattle.rpki_sigobj.specs.Signed.Good.{IsNotGood}
-use Rattle.rpki_sigobj.specs.Signed.Kind.{Kind}
+use Rattle.rpki_sigobj.specs.Signed.Kind.{ObjectKind}
 use Rattle.rpki_sigobj.specs.Signed.Process.{AnswersAsked}
 use Rattle.rpki_sigobj.specs.Signed.{Whole, cert_in}
 use Rattle.rpki_command.specs.Answer.{Output}
@@ -45,7 +45,8 @@ asked-more before IsValid Says More held content result more (inr a) = inr (reco
   first = a.first;
 })
 
-module _ {X : Type 0} (kind : Kind X) (form : List ℕ → X → Type 0) (mode : Mode) (digest : Digester)
+module _ {X : Type 0} (kind : ObjectKind X) (form : List ℕ → X → Type 0) (mode : Mode)
+    (digest : Digester)
     (verdict : Verdict) (issuer : Validated) (now : Moment)
     (Says More : KeptCertificate → Result (Unit {0}) ValidationError → Type 0)
     (more : (k : KeptCertificate) (said : Result (Unit {0}) ValidationError)
@@ -118,9 +119,11 @@ pub checked-files : (options : Options) (kind : words.Kind) (now : Moment)
 checked-files options kind now files o v a object verdicts anchor d e f lines s l i j k w h =
     let rest = subst (λ (tail : List (Vec ℕ Global)). IsCheckedWith Omitted options kind sha256
     (is_listed lines) now object anchor (octets_of tail) s) (take_rest files 3) h in
-    let anchored = subst (λ (end : List ℕ). IsCheckedWith Omitted options kind sha256 (is_listed lines) now
+    let anchored =
+    subst (λ (end : List ℕ). IsCheckedWith Omitted options kind sha256 (is_listed lines) now
     object end (octets_of (drop 3 files)) s) f rest in
-    let checked = subst (λ (front : List ℕ). IsCheckedWith Omitted options kind sha256 (is_listed lines) now
+    let checked =
+    subst (λ (front : List ℕ). IsCheckedWith Omitted options kind sha256 (is_listed lines) now
     front a.items (octets_of (drop 3 files)) s) d anchored in
     subst (λ (fs : List (Vec ℕ Global)). CheckOf options kind now (octets_of fs) s)
     (sym (three files o v a l i j k))

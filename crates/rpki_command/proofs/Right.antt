@@ -115,7 +115,8 @@ no-pass cert fault e = absurd cc
 
 -- ---- one object
 
-module _ {X : Type 0} (causes : Causes) (kind : signed.Kind X) (form : List ℕ → X → Type 0) (text : X → List ℕ)
+module _ {X : Type 0} (causes : Causes) (kind : signed.ObjectKind X) (form : List ℕ → X → Type 0)
+    (text : X → List ℕ)
     (mode : Mode) (digest : Digester) (verdict : Verdict) (issuer : Validated) (now : Moment)
     (octets : List ℕ) (s : Output) where
   module _ (run : Run) (h : IsSaid s run) (z : run.status ≡ 0) (zero : status_of s ≡ 0) where
@@ -197,8 +198,8 @@ module _ {X : Type 0} (causes : Causes) (kind : signed.Kind X) (form : List ℕ 
 
 -- what follows for each kind follows for this one
 pub of-kind : (options : Options) (kind : Kind)
-    (P Q : (X : Type 0) → signed.Kind X → (List ℕ → X → Type 0) → (X → List ℕ) → Type 0)
-    → ((X : Type 0) (asked : signed.Kind X) (form : List ℕ → X → Type 0) (text : X → List ℕ)
+    (P Q : (X : Type 0) → signed.ObjectKind X → (List ℕ → X → Type 0) → (X → List ℕ) → Type 0)
+    → ((X : Type 0) (asked : signed.ObjectKind X) (form : List ℕ → X → Type 0) (text : X → List ℕ)
     → P X asked form text → Q X asked form text)
     → OfKind options kind P → OfKind options kind Q
 of-kind options kind P Q more h = search rules
@@ -210,22 +211,26 @@ module _ (s : Output) (causes : Causes) (options : Options) (kind : Kind) (verdi
       → OfKind options kind (λ X asked form text. PrintsYes asked form text (read_mode options)
       sha256 verdict issuer now octets run)
   yes-under run h z zero = of-kind options kind
-      (λ X asked form text. IsCheckedAs causes asked form text (read_mode options) sha256 verdict issuer
+      (λ X asked form text. IsCheckedAs causes asked form text (read_mode options) sha256 verdict
+      issuer
       now octets s)
       (λ X asked form text. PrintsYes asked form text (read_mode options) sha256 verdict issuer now
       octets run)
-      (λ X asked form text is. yes-as causes asked form text (read_mode options) sha256 verdict issuer now
+      (λ X asked form text is. yes-as causes asked form text (read_mode options) sha256 verdict
+      issuer now
       octets s run h z zero is) c
 
   pub no-under : status_of s ≡ 1
       → OfKind options kind (λ X asked form text. BeginsWithNoGood asked form (read_mode options)
       sha256 verdict issuer now octets)
   no-under first = of-kind options kind
-      (λ X asked form text. IsCheckedAs causes asked form text (read_mode options) sha256 verdict issuer
+      (λ X asked form text. IsCheckedAs causes asked form text (read_mode options) sha256 verdict
+      issuer
       now octets s)
       (λ X asked form text. BeginsWithNoGood asked form (read_mode options) sha256 verdict issuer
       now octets)
-      (λ X asked form text is. no-as causes asked form text (read_mode options) sha256 verdict issuer now
+      (λ X asked form text is. no-as causes asked form text (read_mode options) sha256 verdict
+      issuer now
       octets s first is) c
 
 -- ---- by its files
@@ -276,7 +281,8 @@ module _ (s : Output) (options : Options) (kind : Kind) (now : Moment) (files : 
   yes-of run h z zero (inr c) = record {
     lines = c.0;
     listed = c.1;
-    holds = yes-made s Omitted options kind (is_listed c.0) now files run h z zero c.2.0 c.2.1 c.2.2;
+    holds = yes-made s Omitted options kind (is_listed c.0) now files run h z zero c.2.0 c.2.1
+        c.2.2;
   }
 
   no-of : status_of s ≡ 1 → CheckOf options kind now (in_order_with text files) s

@@ -76,24 +76,25 @@ IsCheckSaid causes text (Err (Validation fault)) s = IsRefused fault s
 -- What the check of such objects answers, and what is said of it: unless memory runs out, a yes
 -- exactly where the octets begin with a good one, and where they begin with one that is not good,
 -- the fault of its first check that fails.
-pub record IsChecked {X : Type 0} (causes : Causes) (kind : signed.Kind X) (form : List ℕ → X → Type 0)
-    (text : X → List ℕ) (mode : Mode) (digest : Digester) (verdict : Verdict) (issuer : Validated)
-    (now : Moment) (octets : List ℕ) (s : Output) : Type 0 where
+pub record IsChecked {X : Type 0} (causes : Causes) (kind : signed.ObjectKind X)
+    (form : List ℕ → X → Type 0) (text : X → List ℕ) (mode : Mode) (digest : Digester)
+    (verdict : Verdict) (issuer : Validated) (now : Moment) (octets : List ℕ)
+    (s : Output) : Type 0 where
   pub result : Result (Validated × X) CheckError
   pub first : Checks kind form mode digest verdict issuer now passes octets result
   pub exact : IsExact kind form mode digest verdict issuer now passes octets result
   pub said : IsCheckSaid causes text result s
 
 -- what is said of the check of such objects, unless memory runs out
-abbrev pub IsCheckedAs : {X : Type 0} → Causes → signed.Kind X → (List ℕ → X → Type 0) → (X → List ℕ)
-    → Mode → Digester → Verdict → Validated → Moment → List ℕ → Output → Type 0
+abbrev pub IsCheckedAs : {X : Type 0} → Causes → signed.ObjectKind X → (List ℕ → X → Type 0)
+    → (X → List ℕ) → Mode → Digester → Verdict → Validated → Moment → List ℕ → Output → Type 0
 IsCheckedAs causes kind form text mode digest verdict issuer now octets s =
     (s ≡ out_of_memory) ⊎ IsChecked causes kind form text mode digest verdict issuer now octets s
 
 -- What is said of octets that may begin with an object of a kind, under an issuer, with these
 -- options.
-abbrev pub CheckedUnder : Causes → Options → Kind → Digester → Verdict → Validated → Moment → List ℕ → Output
-    → Type 0
+abbrev pub CheckedUnder : Causes → Options → Kind → Digester → Verdict → Validated → Moment → List ℕ
+    → Output → Type 0
 CheckedUnder causes options kind digest verdict issuer now octets s =
     OfKind options kind (λ X asked form text.
     IsCheckedAs causes asked form text (read_mode options) digest verdict issuer now octets s)
@@ -110,7 +111,8 @@ abbrev pub IsCheckedWith : Causes → Options → Kind → Digester → Verdict 
     → List (List ℕ) → Output → Type 0
 IsCheckedWith causes options kind digest verdict now object anchor chain s =
     (issuer : Result Validated IssuerError) × MakesIssuer verdict now anchor chain issuer
-    × IsSaidUnder (λ v said. CheckedUnder causes options kind digest verdict v now object said) issuer s
+    × IsSaidUnder (λ v said. CheckedUnder causes options kind digest verdict v now object said)
+    issuer s
 
 -- What is said where the verdicts are those of a text: by `P`, if it is a list of verdicts, and
 -- else that it is none.

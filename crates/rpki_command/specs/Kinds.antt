@@ -23,7 +23,7 @@ use Rattle.rpki_command.specs.declared.words.Options.{Options}
 -- contents, and the lines of these. A row for each kind. A content is in DER (RFC 6488, section 2),
 -- with `--relaxed` too.
 abbrev pub OfKind : {R : Type 1} → Options → Kind
-    → ((X : Type 0) → signed.Kind X → (List ℕ → X → Type 0) → (X → List ℕ) → R) → R
+    → ((X : Type 0) → signed.ObjectKind X → (List ℕ → X → Type 0) → (X → List ℕ) → R) → R
 OfKind options Aspa P = P _ aspa_kind (AspaForm (provider_limit options)) aspa_text
 OfKind options Manifest P =
     P _ manifest_kind (ManifestForm (manifest_rule options) Der) manifest_text

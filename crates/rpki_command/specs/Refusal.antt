@@ -29,8 +29,8 @@ IsRefusal causes error.Memory s = s ≡ out_of_memory
 IsRefusal causes error.Malformed s = s ≡ malformed
 IsRefusal causes (error.Content fault) s = IsFaultSaid causes fault s
 
--- What is said of a locator that is refused so: that memory ran out is said as such, and every other
--- fault is malformed.
+-- What is said of a locator that is refused so: that memory ran out is said as such, and every
+-- other fault is malformed.
 abbrev pub tal_refusal : ReadError → Output
 tal_refusal tal.Memory = out_of_memory
 tal_refusal tal.Io = malformed

@@ -50,7 +50,7 @@ check_order options kind now verdicts names = record {
 
 -- The octets begin with a good object under this issuer, and the run prints yes and the lines of
 -- its content, whole, and nothing else.
-pub record PrintsYes {X : Type 0} (kind : signed.Kind X) (form : List ℕ → X → Type 0)
+pub record PrintsYes {X : Type 0} (kind : signed.ObjectKind X) (form : List ℕ → X → Type 0)
     (text : X → List ℕ) (mode : Mode) (digest : Digester) (verdict : Verdict) (issuer : Validated)
     (now : Moment) (octets : List ℕ) (run : Run) : Type 0 where
   pub object : Whole X
@@ -72,7 +72,7 @@ pub record IsRightYes (options : Options) (kind : Kind) (verdict : Verdict) (now
       sha256 verdict issuer now files.object run)
 
 -- The octets begin with no object of the kind, or with one that is not good under this issuer.
-abbrev pub BeginsWithNoGood : {X : Type 0} → signed.Kind X → (List ℕ → X → Type 0) → Mode
+abbrev pub BeginsWithNoGood : {X : Type 0} → signed.ObjectKind X → (List ℕ → X → Type 0) → Mode
     → Digester → Verdict → Validated → Moment → List ℕ → Type 0
 BeginsWithNoGood {X} kind form mode digest verdict issuer now octets =
     HasNoFront (ObjectForm kind.type form mode) octets

@@ -38,9 +38,9 @@ fn pass(_cert: &Cert) -> Result<(), ValidationError>
     Ok(())
 }
 
-/// To check whether the first file begins with a good object of the kind at this moment. The second
-/// is the list of verdicts, the third the certificate of a trust anchor, and the others are those of
-/// CAs, each under the one before.
+/// To check whether the first file begins with a good object of the kind at this moment. The
+/// second is the list of verdicts, the third the certificate of a trust anchor, and the others are
+/// those of CAs, each under the one before.
 #[derive(Drop)]
 pub struct CheckByList {
     pub options: Options,
@@ -97,8 +97,8 @@ pub fn check_with<'a, K: Crypto>(
     crypto: &K,
     now: Time,
 ) -> Answer<'a>
-    ensures { IsCheckedWith causes options kind (K.digest_of crypto.now) (K.is_signed crypto.now) now
-        object.now anchor.now (octets_of chain.now) (said result) }
+    ensures { IsCheckedWith causes options kind (K.digest_of crypto.now) (K.is_signed crypto.now)
+        now object.now anchor.now (octets_of chain.now) (said result) }
 {
     match issuer_at(alloc, anchor, chain, crypto, now) {
         Err(error) => refused_issuer(alloc, error),
@@ -129,8 +129,9 @@ struct CheckObject<'s, K: Crypto> {
 
 impl<'s, K: Crypto> Action for CheckObject<'s, K> {
     ghost says = { λ options X asked form text action s.
-        IsCheckedAs action.causes asked form text (read_mode options) (K.digest_of action.crypto.now)
-        (K.is_signed action.crypto.now) action.issuer.now action.moment action.octets.now s };
+        IsCheckedAs action.causes asked form text (read_mode options)
+        (K.digest_of action.crypto.now) (K.is_signed action.crypto.now) action.issuer.now
+        action.moment action.octets.now s };
 
     fn answer<'a, C: Lines>(self, alloc: Global, options: Options) -> Answer<'a> {
         match Bytes::copy_from_slice(alloc, self.octets) {

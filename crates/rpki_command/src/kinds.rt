@@ -45,8 +45,8 @@ pub trait Lines: Content {
 pub trait Action: Drop {
     // What is said, with these options, by the row of a kind: what is asked of its objects, the
     // form of its contents, and their lines.
-    ghost says: { Options → (X : Type 0) → signed.Kind X → (List ℕ → X → Type 0) → (X → List ℕ)
-        → Self → Output → Type 0 };
+    ghost says: { Options → (X : Type 0) → signed.ObjectKind X → (List ℕ → X → Type 0)
+        → (X → List ℕ) → Self → Output → Type 0 };
 
     /// Answers for the kind with such contents.
     fn answer<'a, C: Lines>(self, alloc: Global, options: Options) -> Answer<'a>

@@ -129,8 +129,8 @@ fn show_signed<'a, S: Store>(
     object: &'a str,
     store: &mut S,
 ) -> Answer<'a>
-    ensures said { IsOfFile (S.told store.old) object.now (IsShown causes (ObjectLinesOf options kind))
-        (said result) }
+    ensures said { IsOfFile (S.told store.old) object.now
+        (IsShown causes (ObjectLinesOf options kind)) (said result) }
     ensures reads { S.reads store.new ≡ S.reads store.old ++ object.now ∷ [] }
     ensures same { S.told store.new ≡ S.told store.old }
 {

@@ -19,8 +19,8 @@ EntryExtensionsForm mode octets _ = Within mode SEQUENCE (ListOf (Skipped mode M
 
 -- SEQUENCE { userCertificate, revocationDate Time, crlEntryExtensions OPTIONAL } (5.1), of which
 -- the serial number counts.
-abbrev pub EntryForm : Mode → List ℕ → ℕ → Type 0
-EntryForm mode octets serial = Sequence mode (
+abbrev pub CrlEntryForm : Mode → List ℕ → ℕ → Type 0
+CrlEntryForm mode octets serial = Sequence mode (
     (λ o. SerialForm mode o serial)
     ∷ Ignored (TimeForm mode)
     ∷ Ignored (Optional (EntryExtensionsForm mode))
@@ -30,22 +30,22 @@ EntryForm mode octets serial = Sequence mode (
 -- That it may have no entry, against 5.1.2.6, and that a serial number may stand twice, are this
 -- project's own rules.
 abbrev pub RevokedForm : Mode → List ℕ → List ℕ → Type 0
-RevokedForm mode = Default [] (SequenceOf mode (EntryForm mode))
+RevokedForm mode = Default [] (SequenceOf mode (CrlEntryForm mode))
 
 -- ---- as functions
 
 -- what stands in an entry
-unfoldable pub entry_fields_at : Parser ℕ
-entry_fields_at mode bytes = do
+unfoldable pub crl_entry_fields_at : Parser ℕ
+crl_entry_fields_at mode bytes = do
   serial ← u160_at mode bytes
   time ← time_at mode serial.1
   extensions ← optional SEQUENCE (sequence_at skip_all_at) mode time.1
   Some (serial.0, extensions.1)
 
 -- an entry
-abbrev pub entry_at : Parser ℕ
-entry_at = sequence_at entry_fields_at
+abbrev pub crl_entry_at : Parser ℕ
+crl_entry_at = sequence_at crl_entry_fields_at
 
 -- the serial numbers of the entries
 abbrev pub revoked_at : Parser (List ℕ)
-revoked_at = default_at [] SEQUENCE (sequence_of_at SEQUENCE entry_at)
+revoked_at = default_at [] SEQUENCE (sequence_of_at SEQUENCE crl_entry_at)

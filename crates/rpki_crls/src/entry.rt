@@ -7,7 +7,7 @@ ghost use Rattle.rpki_der.specs.Read.Parse.{optional, skip_all_at};
 ghost use Rattle.rpki_der.specs.Read.Reads.{Reads};
 ghost use Rattle.rpki_der.specs.Form.Parts.{sequence_at};
 ghost use Rattle.rpki_der.specs.Tags.{SEQUENCE};
-ghost use Rattle.rpki_crls.specs.Entry.{entry_fields_at};
+ghost use Rattle.rpki_crls.specs.Entry.{crl_entry_fields_at};
 
 use rpki_basics::{Serial, Time};
 use rpki_der::{Constructed, DecodeError, ListItem};
@@ -56,9 +56,9 @@ fn skip_extensions(cons: &mut Constructed<'_>) -> Result<Option<()>, DecodeError
 }
 
 // Reads what stands in an entry.
-#[tactic(auto, unfolding(crate::specs::Entry::entry_fields_at))]
+#[tactic(auto, unfolding(crate::specs::Entry::crl_entry_fields_at))]
 fn take_fields(cons: &mut Constructed<'_>) -> Result<CrlEntry, DecodeError>
-    ensures { Reads (λ e. e) entry_fields_at cons.old result cons.new }
+    ensures { Reads (λ e. e) crl_entry_fields_at cons.old result cons.new }
 {
     let serial = Serial::take_from(cons)?;
     Time::take_from(cons)?;
@@ -68,11 +68,11 @@ fn take_fields(cons: &mut Constructed<'_>) -> Result<CrlEntry, DecodeError>
 
 impl ListItem for CrlEntry {
     ghost use Rattle.rpki_der.specs.Tags.{SEQUENCE};
-    ghost use Rattle.rpki_crls.specs.Entry.{entry_fields_at, entry_at};
+    ghost use Rattle.rpki_crls.specs.Entry.{crl_entry_fields_at, crl_entry_at};
 
     ghost tag = { SEQUENCE };
 
-    ghost at = { entry_at };
+    ghost at = { crl_entry_at };
 
     fn take_opt_from(
         _alloc: Global,

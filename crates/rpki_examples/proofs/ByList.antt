@@ -12,7 +12,7 @@ use Rattle.rpki_certs.specs.Verify.{Verdict}
 use Rattle.rpki_sigobj.specs.Verify.{Digester}
 use Rattle.rpki_sigobj.specs.Signed.{cert_in}
 use Rattle.rpki_sigobj.specs.Signed.Good.{IsNotGood}
-use Rattle.rpki_sigobj.specs.Signed.Kind.{Kind}
+use Rattle.rpki_sigobj.specs.Signed.Kind.{ObjectKind}
 use Rattle.rpki_routes.specs.Roa.{Roa}
 use Rattle.rpki_routes.specs.Roa.Form.{RoaForm}
 use Rattle.rpki_routes.specs.Roa.Checks.{RoaCovered, roa_kind}
@@ -21,7 +21,7 @@ use Rattle.rpki_signed.specs.declared.check.CheckError.TheVariants.{Decode, Vali
 use Rattle.rpki_signed.specs.Exact.{IsExact}
 use Rattle.rpki_examples.specs.Received.{IsUnrevoked, SaysOf, SaysAs, IsGoodByList, LooksInto}
 
-module _ {X : Type 0} (kind : Kind X) (form : List ℕ → X → Type 0) (digest : Digester)
+module _ {X : Type 0} (kind : ObjectKind X) (form : List ℕ → X → Type 0) (digest : Digester)
     (verdict : Verdict) (issuer : Validated) (now : Moment) (octets : List ℕ)
     (list : RevocationList) where
   -- what is answered by what is said is answered by the list

@@ -14,7 +14,7 @@ use Rattle.rpki_certs.specs.Validate.{Validated}
 use Rattle.rpki_certs.specs.Verify.{Verdict}
 use Rattle.rpki_sigobj.specs.Verify.{Digester}
 use Rattle.rpki_sigobj.specs.Signed.Good.{IsGood}
-use Rattle.rpki_sigobj.specs.Signed.Kind.{Kind}
+use Rattle.rpki_sigobj.specs.Signed.Kind.{ObjectKind}
 use Rattle.rpki_sigobj.specs.Signed.{Whole, ObjectForm}
 use Rattle.rpki_signed.specs.declared.check.CheckError.{CheckError}
 use Rattle.rpki_signed.specs.declared.check.CheckError.TheVariants.{Decode, Validation}
@@ -38,7 +38,7 @@ SaysAs Says list = (k : KeptCertificate) (said : Result (Unit {0}) ValidationErr
 
 -- An object in DER is good under the issuer at the moment, and the list does not revoke its
 -- certificate.
-abbrev pub IsGoodByList : {X : Type 0} → Kind X → Digester → Verdict → Validated → Moment
+abbrev pub IsGoodByList : {X : Type 0} → ObjectKind X → Digester → Verdict → Validated → Moment
     → RevocationList → Whole X → Type 0
 IsGoodByList kind digest verdict issuer now list o = (v : Validated)
     × IsGood kind Der digest verdict issuer now o v × IsUnrevoked list o.object.signed.cert
@@ -46,7 +46,7 @@ IsGoodByList kind digest verdict issuer now list o = (v : Validated)
 -- What is answered by a look at the content of the object that octets begin with, in DER: P, where
 -- the object is good and not revoked. Unless memory runs out, `Decode` means that they begin with
 -- no object of this kind, and `Validation` that they begin with one that is not good or is revoked.
-abbrev pub LooksInto : {X T : Type 0} → Kind X → (List ℕ → X → Type 0) → Digester → Verdict
+abbrev pub LooksInto : {X T : Type 0} → ObjectKind X → (List ℕ → X → Type 0) → Digester → Verdict
     → Validated → Moment → RevocationList → (T → X → Type 0) → List ℕ → Result T CheckError
     → Type 0
 LooksInto {X} kind form digest verdict issuer now list P octets (Ok t) =

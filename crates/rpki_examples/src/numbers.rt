@@ -45,7 +45,7 @@ impl EntryKind for Numbers {
 pub struct NumberEntry<'a>(PhantomData<&'a [u8]>);
 
 impl<'a> SliceEntry for NumberEntry<'a> {
-    type Kind = Numbers;
+    type EntryKind = Numbers;
 
     type Item = u32;
 

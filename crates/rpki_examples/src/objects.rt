@@ -11,7 +11,7 @@ ghost use Rattle.rpki_attributes.specs.Attrs.{SignedAttrsForm};
 ghost use Rattle.rpki_certs.specs.Inspect.{ee_checks};
 ghost use Rattle.rpki_certs.specs.Validate.{AreHeld, IsGoodUnder};
 ghost use Rattle.rpki_faults.specs.Checks.{AllHold};
-ghost use Rattle.rpki_sigobj.specs.Object.{SignedObject as Signed, SignedFormOf};
+ghost use Rattle.rpki_sigobj.specs.Object.{SignedObject as Said, SignedFormOf};
 ghost use Rattle.rpki_sigobj.specs.Object.{cert_of};
 ghost use Rattle.rpki_sigobj.specs.Verify.{IsWellSigned};
 
@@ -29,7 +29,7 @@ use std::alloc::Global;
 /// The content of the signed object of this type at the front of octets in DER.
 pub fn content_in(alloc: Global, octets: Bytes, content_type: &Oid) -> Result<Bytes, DecodeError>
     ensures { MatchResult result
-        (λ content. (o : Signed) × (rest : List ℕ)
+        (λ content. (o : Said) × (rest : List ℕ)
         × Front (SignedFormOf content_type.now Der) octets o rest
         × (content ≡ o.signed.content))
         (λ error. Refuses error (HasNoFront (SignedFormOf content_type.now Der) octets)) }

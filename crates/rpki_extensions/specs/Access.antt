@@ -12,7 +12,7 @@ use Rattle.rpki_basics.specs.Uri.{IsRsync, IsHttps}
 use Rattle.rpki_extensions.specs.declared.access.Access.{Access}
 use Rattle.rpki_extensions.specs.declared.access.SubjectAccess.{SubjectAccess}
 use Rattle.rpki_extensions.specs.Identifiers.{id_pkix}
-use Rattle.rpki_extensions.specs.Names.{NameForm, IsNamed, name_at, named}
+use Rattle.rpki_extensions.specs.Names.{GeneralNameForm, IsNamed, general_name_at, named}
 use Rattle.rpki_extensions.specs.Uri.{rsync_of, https_of}
 
 -- id-ad, and an arc (4.2.2.1)
@@ -44,7 +44,7 @@ rpki_notify = id_ad 13
 abbrev pub AccessForm : Mode → List ℕ → Access → Type 0
 AccessForm mode octets access = Sequence mode (
     (λ o. ObjectIdentifier mode o access.method)
-    ∷ (λ o. NameForm mode o access.location)
+    ∷ (λ o. GeneralNameForm mode o access.location)
     ∷ []) octets
 
 -- The description has this method, and its location is this URI, of whose text P holds.
@@ -81,7 +81,7 @@ SubjectAccessForm mode = Understood AreSubjectAccess (SequenceOf mode (AccessFor
 unfoldable pub access_fields_at : Parser Access
 access_fields_at mode bytes = do
   method ← oid_at mode bytes
-  location ← name_at mode method.1
+  location ← general_name_at mode method.1
   Some (record { method = method.0; location = location.0 }, location.1)
 
 -- an access description

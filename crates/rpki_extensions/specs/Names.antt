@@ -21,9 +21,9 @@ URI = context_primitive uri_kind
 -- GeneralName: CHOICE { uniformResourceIdentifier [6], .. } (4.2.1.6). Two rules are this project's
 -- own: octets from 80 hexadecimal on, which an IA5String has not, make a text that is no URI, and
 -- are not refused; and what has another tag is skipped, whatever it is.
-abbrev pub NameForm : Mode → List ℕ → GeneralName → Type 0
-NameForm mode octets (Uri text) = ImplicitString uri_kind mode octets text
-NameForm mode octets Other = Skipped mode MAX_DEPTH octets × (is_next URI octets ≡ false)
+abbrev pub GeneralNameForm : Mode → List ℕ → GeneralName → Type 0
+GeneralNameForm mode octets (Uri text) = ImplicitString uri_kind mode octets text
+GeneralNameForm mode octets Other = Skipped mode MAX_DEPTH octets × (is_next URI octets ≡ false)
 
 -- The name is this URI, and P holds of its text.
 abbrev pub IsNamed : (List ℕ → Type 0) → GeneralName → List ℕ → Type 0
@@ -32,13 +32,13 @@ IsNamed P name uri = (name ≡ Uri uri) × P uri
 -- ---- as functions
 
 -- a name
-abbrev pub name_at : Parser GeneralName
-name_at =
+abbrev pub general_name_at : Parser GeneralName
+general_name_at =
     choice_at URI (made Uri (implicit_string_at uri_kind)) (made (λ _. Other) (skip_at MAX_DEPTH))
 
 -- names, up to the end
-abbrev pub names_at : Parser (List GeneralName)
-names_at = all_at name_at
+abbrev pub general_names_at : Parser (List GeneralName)
+general_names_at = all_at general_name_at
 
 -- the URI that a name is, by what makes one of a text
 abbrev pub named : {X : Type 0} → (List ℕ → Option X) → GeneralName → Option X

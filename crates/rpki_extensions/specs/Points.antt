@@ -8,7 +8,7 @@ use Rattle.rpki_der.specs.Form.Parts.{Sequence, Explicit, ImplicitOf, sequence_a
 use Rattle.rpki_der.specs.Read.Parse.{Parser, ◌>>=◌}
 use Rattle.rpki_basics.specs.Uri.{IsRsync}
 use Rattle.rpki_extensions.specs.declared.name.GeneralName.{GeneralName}
-use Rattle.rpki_extensions.specs.Names.{NameForm, IsNamed, names_at, named}
+use Rattle.rpki_extensions.specs.Names.{GeneralNameForm, IsNamed, general_names_at, named}
 use Rattle.rpki_extensions.specs.Uri.{rsync_of}
 
 -- The first of the names that is an rsync URI is this one (RFC 6487, section 4.8.6). That the first
@@ -19,7 +19,7 @@ IsFirstRsync names uri = First (IsNamed IsRsync) names (Some uri)
 -- fullName [0] IMPLICIT GeneralNames, which is a SEQUENCE OF GeneralName (4.2.1.13), with an rsync
 -- URI, of which the first one is kept
 abbrev pub FullNameForm : Mode → List ℕ → List ℕ → Type 0
-FullNameForm mode = Understood IsFirstRsync (ImplicitOf 0 mode (NameForm mode))
+FullNameForm mode = Understood IsFirstRsync (ImplicitOf 0 mode (GeneralNameForm mode))
 
 -- DistributionPoint: SEQUENCE { distributionPoint [0] DistributionPointName }, where the name is a
 -- CHOICE, so that [0] is explicit (4.2.1.13). Neither reasons nor the issuer of the list are
@@ -40,7 +40,7 @@ PointsForm mode octets uri = Sequence mode (
 
 -- the first rsync URI of the names
 abbrev pub first_rsync_at : Parser (List ℕ)
-first_rsync_at = partly (first_said (named rsync_of)) names_at
+first_rsync_at = partly (first_said (named rsync_of)) general_names_at
 
 -- what stands in the point
 unfoldable pub point_fields_at : Parser (List ℕ)

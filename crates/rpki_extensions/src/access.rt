@@ -10,7 +10,7 @@ ghost use Rattle.rpki_extensions.specs.Access.{access_fields_at, accesses_at, is
 ghost use Rattle.rpki_extensions.specs.Access.{subject_of, authority_access_at};
 ghost use Rattle.rpki_extensions.specs.Access.{subject_access_at};
 
-use crate::name::{GeneralName, take_name, uri_of};
+use crate::name::{GeneralName, take_general_name, uri_of};
 use crate::uri::NamedUri;
 use rpki_basics::{Https, Rsync};
 use rpki_der::{Constructed, DecodeError, ListItem, Oid};
@@ -72,7 +72,7 @@ fn take_fields(cons: &mut Constructed<'_>) -> Result<Access, DecodeError>
     ensures { Reads (λ access. access) access_fields_at cons.old result cons.new }
 {
     let method = cons.take_oid()?;
-    let location = take_name(cons)?;
+    let location = take_general_name(cons)?;
     Ok(Access { method, location })
 }
 

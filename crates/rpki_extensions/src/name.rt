@@ -3,7 +3,7 @@
 ghost use Rattle.std.specs.Prelude.{◌≡◌, IfOk};
 ghost use Rattle.rpki_der.specs.Form.Keyed.{first_said};
 ghost use Rattle.rpki_der.specs.Read.Reads.{Reads};
-ghost use Rattle.rpki_extensions.specs.Names.{name_at, names_at, named};
+ghost use Rattle.rpki_extensions.specs.Names.{general_name_at, general_names_at, named};
 
 use crate::uri::NamedUri;
 use bytes::Bytes;
@@ -20,8 +20,8 @@ pub enum GeneralName {
 }
 
 // Reads a name.
-pub fn take_name(cons: &mut Constructed<'_>) -> Result<GeneralName, DecodeError>
-    ensures { Reads (λ name. name) name_at cons.old result cons.new }
+pub fn take_general_name(cons: &mut Constructed<'_>) -> Result<GeneralName, DecodeError>
+    ensures { Reads (λ name. name) general_name_at cons.old result cons.new }
 {
     match cons.take_opt_primitive_if(Tag::CTX_6_PRIMITIVE)? {
         Some(text) => Ok(GeneralName::Uri(text)),
@@ -33,15 +33,15 @@ pub fn take_name(cons: &mut Constructed<'_>) -> Result<GeneralName, DecodeError>
 }
 
 // Reads names, up to the end.
-pub fn take_names(
+pub fn take_general_names(
     alloc: Global,
     cons: &mut Constructed<'_>,
 ) -> Result<Vec<GeneralName>, DecodeError>
-    ensures { Reads (λ names. names.items) names_at cons.old result cons.new }
+    ensures { Reads (λ names. names.items) general_names_at cons.old result cons.new }
 {
     let mut names = Vec::new(alloc);
     while !cons.is_at_end()? {
-        let name = take_name(cons)?;
+        let name = take_general_name(cons)?;
         names.push(name)?;
     }
     Ok(names)

@@ -7,7 +7,7 @@ ghost use Rattle.rpki_extensions.specs.Points.{PointsForm, first_rsync_at, point
 ghost use Rattle.rpki_extensions.specs.Points.{one_point_at, points_at};
 
 use crate::faults;
-use crate::name::{first_uri, take_names};
+use crate::name::{first_uri, take_general_names};
 use rpki_basics::Rsync;
 use rpki_der::{Constructed, DecodeError, Tag};
 use std::alloc::Global;
@@ -16,7 +16,7 @@ use std::alloc::Global;
 fn take_first(alloc: Global, cons: &mut Constructed<'_>) -> Result<Rsync, DecodeError>
     ensures { Reads (λ uri. uri) first_rsync_at cons.old result cons.new }
 {
-    let names = take_names(alloc, cons)?;
+    let names = take_general_names(alloc, cons)?;
     match first_uri::<Rsync>(&names)? {
         Some(uri) => Ok(uri),
         None => Err(DecodeError::refusal(faults::NO_RSYNC_URI)),

@@ -29,8 +29,8 @@ abbrev pub name_of : File → List ℕ
 name_of f = f.file
 
 -- an IA5String that is a name by IsFileName (section 4.2.2), whose type need not be registered
-abbrev pub NameForm : Mode → List ℕ → List ℕ → Type 0
-NameForm mode octets name = Ia5String mode octets name × IsFileName name
+abbrev pub FileNameForm : Mode → List ℕ → List ℕ → Type 0
+FileNameForm mode octets name = Ia5String mode octets name × IsFileName name
 
 -- The octets of a BIT STRING, whatever bits of the last one are not used. That it has any length is
 -- this project's own rule.
@@ -40,7 +40,7 @@ HashForm mode = Made (λ bits. bits.0) (BitString mode)
 -- FileAndHash ::= SEQUENCE { file IA5String, hash BIT STRING } (section 4.2)
 abbrev pub FileForm : Mode → List ℕ → File → Type 0
 FileForm mode octets f = Sequence mode (
-    (λ o. NameForm mode o f.file)
+    (λ o. FileNameForm mode o f.file)
     ∷ (λ o. HashForm mode o f.hash)
     ∷ []) octets
 
@@ -53,8 +53,8 @@ MeetsRule Registered files =
 -- ---- as functions
 
 -- the name of a file
-abbrev pub name_at : Parser (List ℕ)
-name_at = tested is_file_name ia5_at
+abbrev pub file_name_at : Parser (List ℕ)
+file_name_at = tested is_file_name ia5_at
 
 -- the hash of a file
 abbrev pub hash_at : Parser (List ℕ)
@@ -63,7 +63,7 @@ hash_at = made (λ bits. bits.0) bits_at
 -- the name and the hash, one after the other
 unfoldable pub file_fields_at : Parser File
 file_fields_at mode bytes = do
-  name ← name_at mode bytes
+  name ← file_name_at mode bytes
   hash ← hash_at mode name.1
   Some (record { file = name.0; hash = hash.0 }, hash.1)
 

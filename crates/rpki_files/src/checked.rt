@@ -95,7 +95,7 @@ fn is_portable_name(octets: &[u8]) -> bool
 
 // Reads the name in front, if there is one.
 #[tactic(auto, unfolding(rpki_der::specs::Read::Parse::tested))]
-fn take_name<'a>(reader: &mut SliceReader<'a>) -> Result<Option<&'a [u8]>, Refused>
+fn take_file_name<'a>(reader: &mut SliceReader<'a>) -> Result<Option<&'a [u8]>, Refused>
     ensures { Takes (seen (λ n. n.now)) portable_if_at reader.old result reader.new }
 {
     match reader.take_opt_ia5() {
@@ -130,7 +130,7 @@ fn take_checked<'a>(reader: &mut SliceReader<'a>) -> Result<CheckedSlices<'a>, R
     let Some(mut fields) = reader.take_sequence() else {
         return Err(Refused::Malformed);
     };
-    let file_name = take_name(&mut fields)?;
+    let file_name = take_file_name(&mut fields)?;
     let hash = take_hash(&mut fields)?;
     match fields.close(FileNameAndHash { file_name, hash }) {
         Some(file) => Ok(file),
@@ -169,7 +169,7 @@ pub struct CheckedEntry<'a>(PhantomData<&'a [u8]>);
 impl<'a> SliceEntry for CheckedEntry<'a> {
     ghost use Rattle.rpki_lists.specs.Slice.{seen};
 
-    type Kind = CheckedFiles;
+    type EntryKind = CheckedFiles;
 
     type Item = FileNameAndHash<&'a [u8], &'a [u8]>;
 

@@ -3,7 +3,7 @@
 ghost use Rattle.std.specs.Prelude.{◌≡◌, All, IfOk};
 ghost use Rattle.rpki_der.specs.Read.Reads.{Reads, Stays};
 ghost use Rattle.rpki_der.specs.Form.Keyed.{are_distinct};
-ghost use Rattle.rpki_files.specs.File.{Takes, name_of, name_at, hash_at, file_at, files_at};
+ghost use Rattle.rpki_files.specs.File.{Takes, name_of, file_name_at, hash_at, file_at, files_at};
 ghost use Rattle.rpki_files.specs.File.{is_unrepeated};
 ghost use Rattle.rpki_files.specs.Name.{IsFileName};
 
@@ -26,8 +26,8 @@ pub type FileSlices<'a> = FileAndHash<&'a [u8], &'a [u8]>;
 
 // Reads the name in front. That it is an IA5String has no test of its own: each name is one.
 #[tactic(auto, using(crate::proofs::Names::Ia5::name_found, crate::proofs::Names::Ia5::name_other, crate::proofs::Names::Ia5::name_none))]
-fn take_name<'a>(reader: &mut SliceReader<'a>) -> Result<&'a [u8], Refused>
-    ensures { Takes (λ n. n.now) name_at reader.old result reader.new }
+fn take_file_name<'a>(reader: &mut SliceReader<'a>) -> Result<&'a [u8], Refused>
+    ensures { Takes (λ n. n.now) file_name_at reader.old result reader.new }
 {
     let Some(name) = reader.take_contents(Tag::IA5_STRING) else {
         return Err(Refused::Malformed);
@@ -58,7 +58,7 @@ fn take_file<'a>(reader: &mut SliceReader<'a>) -> Result<FileSlices<'a>, Refused
     let Some(mut fields) = reader.take_sequence() else {
         return Err(Refused::Malformed);
     };
-    let file = take_name(&mut fields)?;
+    let file = take_file_name(&mut fields)?;
     let hash = take_hash(&mut fields)?;
     match fields.close(FileAndHash { file, hash }) {
         Some(file) => Ok(file),
@@ -95,7 +95,7 @@ impl EntryKind for Files {
 pub struct FileEntry<'a>(PhantomData<&'a [u8]>);
 
 impl<'a> SliceEntry for FileEntry<'a> {
-    type Kind = Files;
+    type EntryKind = Files;
 
     type Item = FileAndHash<&'a [u8], &'a [u8]>;
 
@@ -150,7 +150,7 @@ pub struct NamesBy {
 impl Rule for NamesBy {
     ghost use Rattle.rpki_files.specs.File.{names_by};
 
-    type Kind = Files;
+    type EntryKind = Files;
 
     ghost after = { names_by };
 

@@ -15,10 +15,10 @@ pub trait Written: SliceEntry {
     type Encoder: Encode + Drop;
 
     // The octets that an entry is written as.
-    ghost octets: { Self.Kind.Shown → List ℕ };
+    ghost octets: { Self.EntryKind.Shown → List ℕ };
 
     // Each contents in it has fewer than 2^32 octets.
-    ghost is_short: { Self.Kind.Shown → Type 0 };
+    ghost is_short: { Self.EntryKind.Shown → Type 0 };
 
     /// The entry, to be written.
     fn encoder(item: Self::Item) -> Self::Encoder
@@ -27,7 +27,7 @@ pub trait Written: SliceEntry {
         ensures short { Self.Encoder.is_short result ↔ is_short (Self.shown item) };
 
     // What has few octets has no long contents.
-    ghost small: { (x : Self.Kind.Shown) → length (octets x) < 2 ^ 32 → is_short x };
+    ghost small: { (x : Self.EntryKind.Shown) → length (octets x) < 2 ^ 32 → is_short x };
 }
 
 /// Entries, written one after another, each anew. They are read once for their length and once to

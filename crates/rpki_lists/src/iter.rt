@@ -18,18 +18,18 @@ impl<E: SliceEntry> Model for EntryIter<E> {
     ghost use Rattle.std.specs.Prelude.{List};
     ghost use Rattle.rpki_lists.specs.Entries.{HoldEntries, entries_of};
 
-    ghost Value = { List E.Kind.Shown };
+    ghost Value = { List E.EntryKind.Shown };
 
-    ghost view = { λ i. entries_of E.Kind.entry_at (E.slice i.reader) };
+    ghost view = { λ i. entries_of E.EntryKind.entry_at (E.slice i.reader) };
 
-    ghost invariant = { λ i. HoldEntries E.Kind.entry_at (E.slice i.reader) };
+    ghost invariant = { λ i. HoldEntries E.EntryKind.entry_at (E.slice i.reader) };
 }
 
 impl<E: SliceEntry> EntryIter<E> {
     /// The entries of this reader.
     pub fn of(reader: E::Reader) -> EntryIter<E>
-        requires { HoldEntries E.Kind.entry_at (E.slice reader) }
-        ensures { result ≡ entries_of E.Kind.entry_at (E.slice reader) }
+        requires { HoldEntries E.EntryKind.entry_at (E.slice reader) }
+        ensures { result ≡ entries_of E.EntryKind.entry_at (E.slice reader) }
     {
         EntryIter { reader }
     }

@@ -52,7 +52,7 @@ pub trait EntryKind {
 /// lifetime of the slice, as `struct NumberEntry<'a>(PhantomData<&'a [u8]>)`, and with
 /// `SliceReader<'a>` as its reader.
 pub trait SliceEntry {
-    type Kind: EntryKind;
+    type EntryKind: EntryKind;
 
     /// An entry, whose parts lie in the slice.
     type Item: Drop;
@@ -64,7 +64,7 @@ pub trait SliceEntry {
     ghost slice: { Self.Reader → List ℕ };
 
     // What the entry says.
-    ghost shown: { Self.Item → Self.Kind.Shown };
+    ghost shown: { Self.Item → Self.EntryKind.Shown };
 
     /// Whether the reader is at its end.
     fn is_end(reader: &Self::Reader) -> bool
@@ -72,7 +72,7 @@ pub trait SliceEntry {
 
     /// Reads the entry in front, if there is one.
     fn read(reader: &mut Self::Reader) -> Option<Self::Item>
-        ensures { FindsFront shown Self.Kind.entry_at
+        ensures { FindsFront shown Self.EntryKind.entry_at
             (slice reader.old) result (slice reader.new) };
 
     /// The same reader again.

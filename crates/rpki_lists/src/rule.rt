@@ -15,14 +15,14 @@ use std::marker::PhantomData;
 
 /// A rule over the entries of a list, in order. Its value is what it has seen so far.
 pub trait Rule {
-    type Kind: EntryKind;
+    type EntryKind: EntryKind;
 
     // What it has seen after an entry, if the entry may stand there.
-    ghost after: { Self → Self.Kind.Shown → Option Self };
+    ghost after: { Self → Self.EntryKind.Shown → Option Self };
 
     /// Goes past the entry in front, if there is one that may stand there.
     fn pass(&mut self, reader: &mut SliceReader<'_>) -> Result<(), Refused>
-        ensures { PassesBy Self.Kind.entry_at after
+        ensures { PassesBy Self.EntryKind.entry_at after
             self.old reader.old result self.new reader.new };
 }
 
@@ -44,7 +44,7 @@ impl<K: EntryKind> Free<K> {
 impl<K: EntryKind> Rule for Free<K> {
     ghost use Rattle.rpki_lists.specs.Rules.{lets_all};
 
-    type Kind = K;
+    type EntryKind = K;
 
     ghost after = { lets_all };
 
@@ -55,7 +55,7 @@ impl<K: EntryKind> Rule for Free<K> {
 
 /// How many entries the octets are, if they are entries that the rule admits.
 pub(crate) fn count_by<R: Rule + Drop>(octets: &[u8], rule: R) -> Result<usize, Refused>
-    ensures { CountsBy (admits R.after rule) (all_of R.Kind.entry_at Der octets.now) result }
+    ensures { CountsBy (admits R.after rule) (all_of R.EntryKind.entry_at Der octets.now) result }
 {
     let mut rule = rule;
     let mut reader = SliceReader::new(octets);
@@ -72,8 +72,8 @@ pub(crate) fn count_by<R: Rule + Drop>(octets: &[u8], rule: R) -> Result<usize, 
 pub fn take_list<R: Rule + Drop>(
     cons: &mut Constructed<'_>,
     rule: R,
-) -> Result<EntryList<R::Kind>, DecodeError>
-    ensures reads { Reads (λ l. l) (tested (admits R.after rule) (list_at R.Kind.entry_at))
+) -> Result<EntryList<R::EntryKind>, DecodeError>
+    ensures reads { Reads (λ l. l) (tested (admits R.after rule) (list_at R.EntryKind.entry_at))
         cons.old result cons.new }
     ensures stays { Stays result cons.new }
 {

@@ -7,7 +7,11 @@ ghost use Rattle.rpki_der.specs.Form.Decodes.{DecodesNext};
 ghost use Rattle.rpki_resources.specs.Claim.Form.{IpClaimForm};
 ghost use Rattle.rpki_resources.specs.Claim.Read.{ip_claim_at};
 ghost use Rattle.rpki_resources.specs.Families.Form.{FamiliesForm};
-ghost use Rattle.rpki_resources.specs.Families.Read.{entry_fields_at, entry_at, values_at};
+ghost use Rattle.rpki_resources.specs.Families.Read.{
+  family_entry_fields_at,
+  family_entry_at,
+  values_at,
+};
 ghost use Rattle.rpki_resources.specs.Families.Read.{families_at, gathered, no_values};
 ghost use Rattle.rpki_resources.specs.Families.Read.{with_value, ip_set_at};
 ghost use Rattle.rpki_resources.specs.Ip.Form.{IpForm};
@@ -123,12 +127,12 @@ fn gather<T: Drop>(entries: Vec<FamilyEntry<T>>) -> Option<ByFamily<T>>
 }
 
 // Reads a family and what stands beside it.
-#[tactic(auto, unfolding(crate::specs::Families::Read::entry_fields_at))]
+#[tactic(auto, unfolding(crate::specs::Families::Read::family_entry_fields_at))]
 fn take_fields<T: OfFamily>(
     cons: &mut Constructed<'_>,
     alloc: Global,
 ) -> Result<FamilyEntry<T>, DecodeError>
-    ensures { Reads (λ entry. entry) (entry_fields_at T.parser) cons.old result cons.new }
+    ensures { Reads (λ entry. entry) (family_entry_fields_at T.parser) cons.old result cons.new }
 {
     let family = AddressFamily::take_from(alloc, cons)?;
     let value = T::take_value(alloc, cons, family)?;
@@ -140,7 +144,7 @@ fn take_entry<T: OfFamily>(
     cons: &mut Constructed<'_>,
     alloc: Global,
 ) -> Result<FamilyEntry<T>, DecodeError>
-    ensures { Reads (λ entry. entry) (entry_at T.parser) cons.old result cons.new }
+    ensures { Reads (λ entry. entry) (family_entry_at T.parser) cons.old result cons.new }
 {
     cons.take_sequence(|cons| take_fields(cons, alloc))
 }
@@ -148,7 +152,7 @@ fn take_entry<T: OfFamily>(
 impl<T: OfFamily> Listed for FamilyEntry<T> {
     type Family = ();
 
-    ghost parser = { λ _. entry_at T.parser };
+    ghost parser = { λ _. family_entry_at T.parser };
 
     ghost known = { λ _. Unit {0} };
 

@@ -13,7 +13,7 @@ use Rattle.rpki_sigobj.specs.Validate.{IsCertUnder}
 use Rattle.rpki_sigobj.specs.Verify.{Digester}
 use Rattle.rpki_sigobj.proofs.Wholes.Goodness.{good, not-good}
 use Rattle.rpki_sigobj.specs.Signed.Good.{IsGood, IsNotGood, Means}
-use Rattle.rpki_sigobj.specs.Signed.Kind.{Kind}
+use Rattle.rpki_sigobj.specs.Signed.Kind.{ObjectKind}
 use Rattle.rpki_sigobj.specs.Signed.Process.{before_revocation, AnswersAsked}
 use Rattle.rpki_sigobj.specs.Signed.{Whole, KeptWhole, ObjectForm, whole_of, cert_in}
 use Rattle.rpki_signed.specs.declared.check.CheckError.{CheckError}
@@ -21,7 +21,7 @@ use Rattle.rpki_signed.specs.declared.check.CheckError.TheVariants.{Decode, Vali
 use Rattle.rpki_signed.specs.Check.{BeginsWith, Checks, ChecksContent}
 use Rattle.rpki_signed.specs.Exact.{IsExact}
 
-module _ {X : Type 0} (kind : Kind X) (form : List ℕ → X → Type 0) (digest : Digester)
+module _ {X : Type 0} (kind : ObjectKind X) (form : List ℕ → X → Type 0) (digest : Digester)
     (verdict : Verdict) (issuer : Validated) (now : Moment)
     (Says : KeptCertificate → Result (Unit {0}) ValidationError → Type 0) where
   -- what is answered of the object, with its certificate in this mode

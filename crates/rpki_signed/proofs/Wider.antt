@@ -25,7 +25,7 @@ use Rattle.rpki_sigobj.proofs.Objects.Exact.{object-part}
 use Rattle.rpki_sigobj.proofs.Wholes.Fronts.{same-whole}
 use Rattle.rpki_sigobj.proofs.Wholes.Numbers.{same-numbers}
 use Rattle.rpki_sigobj.specs.Signed.Good.{IsGood, IsNotGood}
-use Rattle.rpki_sigobj.specs.Signed.Kind.{Kind}
+use Rattle.rpki_sigobj.specs.Signed.Kind.{ObjectKind}
 use Rattle.rpki_sigobj.specs.Signed.Process.{before_revocation}
 use Rattle.rpki_sigobj.specs.Signed.{Whole, ObjectForm, cert_in}
 use Rattle.rpki_files.specs.Manifest.{Manifest, ManifestForm}
@@ -104,7 +104,8 @@ module _ {X : Type 0} (narrow wide : List ℕ → X → Type 0)
 
     -- ---- checks
 
-    module _ (kind : Kind X) (Says : KeptCertificate → Result (Unit {0}) ValidationError → Type 0)
+    module _ (kind : ObjectKind X) (Says : KeptCertificate → Result (Unit {0}) ValidationError
+        → Type 0)
         (Takes : KeptCertificate → Type 0)
       where
         module _ (mode : Mode) (digest : Digester) (verdict : Verdict) (issuer : Validated)

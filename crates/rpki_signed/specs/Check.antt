@@ -11,7 +11,7 @@ use Rattle.rpki_certs.specs.Cert.{KeptCertificate}
 use Rattle.rpki_certs.specs.Validate.{Validated, IsValidatedUnder}
 use Rattle.rpki_certs.specs.Verify.{Verdict}
 use Rattle.rpki_sigobj.specs.Verify.{Digester}
-use Rattle.rpki_sigobj.specs.Signed.Kind.{Kind}
+use Rattle.rpki_sigobj.specs.Signed.Kind.{ObjectKind}
 use Rattle.rpki_sigobj.specs.Signed.Process.{before_revocation, AnswersAsked}
 use Rattle.rpki_sigobj.specs.Signed.{Whole, ObjectForm, cert_in}
 use Rattle.rpki_signed.specs.declared.check.CheckError.{CheckError}
@@ -36,7 +36,7 @@ OfFront form octets Answers (Err (Validation fault)) =
 
 -- The question whether the certificate was revoked may be asked, where the octets begin with an
 -- object of which all checks before it hold.
-abbrev pub MayAsk : {X : Type 0} → Kind X → (List ℕ → X → Type 0) → Mode → Digester → Verdict
+abbrev pub MayAsk : {X : Type 0} → ObjectKind X → (List ℕ → X → Type 0) → Mode → Digester → Verdict
     → Validated → Moment → (KeptCertificate → Type 0) → List ℕ → Type 0
 MayAsk {X} kind form mode digest verdict issuer now Takes octets =
     (o : Whole X) (rest : List ℕ) → Front (ObjectForm kind.type form mode) octets o rest
@@ -47,7 +47,7 @@ MayAsk {X} kind form mode digest verdict issuer now Takes octets =
 -- the object with its certificate, what was said of the certificate, and the numbers that the
 -- certificate has; where all hold, the validated certificate and the content. Unless memory runs
 -- out.
-abbrev pub Checks : {X : Type 0} → Kind X → (List ℕ → X → Type 0) → Mode → Digester → Verdict
+abbrev pub Checks : {X : Type 0} → ObjectKind X → (List ℕ → X → Type 0) → Mode → Digester → Verdict
     → Validated → Moment → (KeptCertificate → Result (Unit {0}) ValidationError → Type 0)
     → List ℕ → Result (Validated × X) CheckError → Type 0
 Checks kind form mode digest verdict issuer now Says octets result =
@@ -57,7 +57,7 @@ Checks kind form mode digest verdict issuer now Says octets result =
     o.content r) result
 
 -- The same; and `IsContent` holds of the content.
-abbrev pub ChecksContent : {X : Type 0} → (X → Type 0) → Kind X → (List ℕ → X → Type 0) → Mode
+abbrev pub ChecksContent : {X : Type 0} → (X → Type 0) → ObjectKind X → (List ℕ → X → Type 0) → Mode
     → Digester → Verdict → Validated → Moment
     → (KeptCertificate → Result (Unit {0}) ValidationError → Type 0)
     → List ℕ → Result (Validated × X) CheckError → Type 0

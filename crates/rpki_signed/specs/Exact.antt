@@ -11,7 +11,7 @@ use Rattle.rpki_certs.specs.Validate.{Validated}
 use Rattle.rpki_certs.specs.Verify.{Verdict}
 use Rattle.rpki_sigobj.specs.Verify.{Digester}
 use Rattle.rpki_sigobj.specs.Signed.Good.{IsGood, IsNotGood}
-use Rattle.rpki_sigobj.specs.Signed.Kind.{Kind}
+use Rattle.rpki_sigobj.specs.Signed.Kind.{ObjectKind}
 use Rattle.rpki_sigobj.specs.Signed.{Whole, ObjectForm, cert_in}
 use Rattle.rpki_signed.specs.declared.check.CheckError.{CheckError}
 use Rattle.rpki_signed.specs.declared.check.CheckError.TheVariants.{Decode, Validation}
@@ -22,7 +22,7 @@ use Rattle.rpki_signed.specs.Check.{BeginsWith}
 -- Unless memory runs out, a yes is answered exactly there, `Decode` exactly where they begin with
 -- none, and `Validation` exactly where they begin with one that is not good, or of whose
 -- certificate its fault was said.
-abbrev pub IsExact : {X : Type 0} → Kind X → (List ℕ → X → Type 0) → Mode → Digester → Verdict
+abbrev pub IsExact : {X : Type 0} → ObjectKind X → (List ℕ → X → Type 0) → Mode → Digester → Verdict
     → Validated → Moment → (KeptCertificate → Result (Unit {0}) ValidationError → Type 0)
     → List ℕ → Result (Validated × X) CheckError → Type 0
 IsExact {X} kind form mode digest verdict issuer now Says octets (Ok a) =

@@ -9,7 +9,7 @@ use Rattle.rpki_certs.specs.Cert.{KeptCertificate}
 use Rattle.rpki_certs.specs.Validate.{Validated, AreHeld}
 use Rattle.rpki_certs.specs.Verify.{Verdict}
 use Rattle.rpki_sigobj.specs.Verify.{Digester}
-use Rattle.rpki_sigobj.specs.Signed.Kind.{Kind}
+use Rattle.rpki_sigobj.specs.Signed.Kind.{ObjectKind}
 use Rattle.rpki_signed.specs.declared.check.CheckError.{CheckError}
 use Rattle.rpki_signed.specs.declared.check.CheckError.TheVariants.{Decode, Validation}
 use Rattle.rpki_signed.specs.Check.{Checks, MayAsk}
@@ -29,7 +29,7 @@ RepeatsYes Says a (Err (Validation fault)) = (fault ≡ Memory) ⊎ Says a.0.cer
 -- moment, with the same certificate and the same content, by each definition of what a check
 -- answers (first, exact). Whatever a check by the wide form answers there, repeats it (again); and
 -- who may ask the caller in the one, may in the other (asks).
-pub record KeepsYes {X : Type 0} (kind : Kind X) (narrow wide : List ℕ → X → Type 0)
+pub record KeepsYes {X : Type 0} (kind : ObjectKind X) (narrow wide : List ℕ → X → Type 0)
     (Says : KeptCertificate → Result (Unit {0}) ValidationError → Type 0)
     (Takes : KeptCertificate → Type 0) : Type 0 where
   pub first : (mode : Mode) (digest : Digester) (verdict : Verdict) (issuer : Validated)

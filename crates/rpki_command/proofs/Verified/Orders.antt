@@ -87,7 +87,8 @@ lists-same : (f g a b : List ℕ) (c d : List (List ℕ)) → f ≡ g → a ≡ 
     → Verdicts f a c ≡ Verdicts g b d
 lists-same f g a b c d p q r = cc
 
-pub commands-once : (a b : VerifyCommand) → IsFit a → IsFit b → verify_words a ≡ verify_words b → a ≡ b
+pub commands-once : (a b : VerifyCommand) → IsFit a → IsFit b → verify_words a ≡ verify_words b → a
+    ≡ b
 commands-once Help Help i j e = refl
 commands-once Help (Shared c) i j e = absurd (not-help c _ (sym e))
 commands-once Help (Check k f m a c) i j e = absurd (help-first _ (sym e))
@@ -243,7 +244,8 @@ list_none words rest w n (Shared c) e i = not-list c rest (sym e ∙ w)
 list_none words rest w n (Check k f m a c) e i = check-not-list rest _ (sym w ∙ e)
 list_none words rest w n (Verdicts f a c) e i = n f a c (rest-same (sym w ∙ e))
 
-pub check_of : (words rest : List (List ℕ)) (r : Option VerifyCommand) → words ≡ codes "check" ∷ rest
+pub check_of : (words rest : List (List ℕ)) (r : Option VerifyCommand) → words ≡ codes "check"
+    ∷ rest
     → MatchOption r (AskForNoCheck rest)
     (λ a. (codes "check" ∷ rest ≡ verify_words a) × IsFit a)
     → MatchOption r ((a : VerifyCommand) → words ≡ verify_words a → IsFit a → ⊥)
@@ -251,7 +253,8 @@ pub check_of : (words rest : List (List ℕ)) (r : Option VerifyCommand) → wor
 check_of words rest None w n = check_none words rest w n
 check_of words rest (Some a) w h = (w ∙ h.0, h.1)
 
-pub list_of : (words rest : List (List ℕ)) (r : Option VerifyCommand) → words ≡ codes "verdicts" ∷ rest
+pub list_of : (words rest : List (List ℕ)) (r : Option VerifyCommand) → words ≡ codes "verdicts"
+    ∷ rest
     → MatchOption r (AskForNoList rest)
     (λ a. (codes "verdicts" ∷ rest ≡ verify_words a) × IsFit a)
     → MatchOption r ((a : VerifyCommand) → words ≡ verify_words a → IsFit a → ⊥)

@@ -366,7 +366,7 @@ valid-says true digest verdict s issuer now h =
 valid-says false digest verdict s issuer now h =
     let v = (detached-valid digest verdict s issuer now).0 h in (v.2.signed, v.0.signed)
 
-module _ {X : Type 0} (kind : signed.Kind X) (mode : Mode) (digest : Digester)
+module _ {X : Type 0} (kind : signed.ObjectKind X) (mode : Mode) (digest : Digester)
     (issuer : Validated) (now : Moment) (o : Whole X) (v : Validated) where
   good-as : (a b : Verdict)
       → says a (cert_question (key_of issuer) o.object.signed.cert)
@@ -426,7 +426,8 @@ module _ (now : Moment) (anchor : List ℕ) (chain : List (List ℕ)) (first : C
         (says-on [] (each-none (λ q. says a q ≡ true)))
 
     -- where an object is good, each question has a yes
-    good-says : {X : Type 0} (kind : signed.Kind X) (mode : Mode) (digest : Digester) (o : Whole X)
+    good-says : {X : Type 0} (kind : signed.ObjectKind X) (mode : Mode) (digest : Digester)
+        (o : Whole X)
         (v : Validated) → o.object.signed ≡ s → IsGood kind mode digest a issuer now o v
         → Each (λ q. says a q ≡ true) Asked
     good-says kind mode digest o v same h =
@@ -479,7 +480,7 @@ module _ (now : Moment) (anchor : List ℕ) (chain : List (List ℕ)) (first : C
           yes ∙ sym (of-issuer (λ p. says a p ≡ true → says b p ≡ true) too q k yes))
           (Ok issuer) made
 
-      good-too : {X : Type 0} (kind : signed.Kind X) (mode : Mode) (digest : Digester)
+      good-too : {X : Type 0} (kind : signed.ObjectKind X) (mode : Mode) (digest : Digester)
           (o : Whole X) (v : Validated) → o.object.signed ≡ s
           → IsGood kind mode digest a issuer now o v → IsGood kind mode digest b issuer now o v
       good-too kind mode digest o v same h =
@@ -498,7 +499,7 @@ module _ (now : Moment) (anchor : List ℕ) (chain : List (List ℕ)) (first : C
           → MakesIssuer a now anchor chain result → MakesIssuer b now anchor chain result
       issuer-same = makes-as a b (of-issuer (λ q. says a q ≡ says b q) same)
 
-      good-same : {X : Type 0} (kind : signed.Kind X) (mode : Mode) (digest : Digester)
+      good-same : {X : Type 0} (kind : signed.ObjectKind X) (mode : Mode) (digest : Digester)
           (issuer : Validated) → MakesIssuer a now anchor chain (Ok issuer)
           → (o : Whole X) (v : Validated) → o.object.signed ≡ s
           → IsGood kind mode digest a issuer now o v → IsGood kind mode digest b issuer now o v
@@ -525,7 +526,7 @@ module _ (a b : Verdict) (now : Moment) (anchor : List ℕ) (chain : List (List 
         (turned a b (check_questions first others s) same) result,
   )
 
-  good-both : {X : Type 0} (kind : signed.Kind X) (mode : Mode) (digest : Digester)
+  good-both : {X : Type 0} (kind : signed.ObjectKind X) (mode : Mode) (digest : Digester)
       (issuer : Validated) → MakesIssuer a now anchor chain (Ok issuer)
       → (o : Whole X) (v : Validated) → o.object.signed ≡ s
       → IsGood kind mode digest a issuer now o v ↔ IsGood kind mode digest b issuer now o v
@@ -540,8 +541,8 @@ module _ (a b : Verdict) (now : Moment) (anchor : List ℕ) (chain : List (List 
 
 -- what holds for each kind holds for this one
 each-kind : (options : Options) (kind : Kind)
-    (P : (X : Type 0) → signed.Kind X → (List ℕ → X → Type 0) → (X → List ℕ) → Type 0)
-    → ((X : Type 0) (asked : signed.Kind X) (form : List ℕ → X → Type 0) (text : X → List ℕ)
+    (P : (X : Type 0) → signed.ObjectKind X → (List ℕ → X → Type 0) → (X → List ℕ) → Type 0)
+    → ((X : Type 0) (asked : signed.ObjectKind X) (form : List ℕ → X → Type 0) (text : X → List ℕ)
     → P X asked form text) → OfKind options kind P
 each-kind options kind P all = search rules
 
@@ -630,7 +631,7 @@ module _ (options : Options) (kind : Kind) (now : Moment) (files : FilesOfCheck)
       (nat_lt (length (key_contents q.key)) (2 ^ 32)) good).0)
 
   -- an object at the front is the one of the questions
-  the-object : {X : Type 0} (asked : signed.Kind X) (form : List ℕ → X → Type 0) (o : Whole X)
+  the-object : {X : Type 0} (asked : signed.ObjectKind X) (form : List ℕ → X → Type 0) (o : Whole X)
       (rest : List ℕ)
       → IsOnlyFront (ObjectForm asked.type form (read_mode options)) files.object o rest
       → o.object.signed ≡ list.signed.signed
@@ -640,7 +641,7 @@ module _ (options : Options) (kind : Kind) (now : Moment) (files : FilesOfCheck)
       (list.front.1.only o.object rest (f.0, f.1, f.2.0.0)).0
 
   module _ (run : Run) (h : IsRightYes options kind is_rsa_signature now files run) where
-    yes-by-list : {X : Type 0} (asked : signed.Kind X) (form : List ℕ → X → Type 0)
+    yes-by-list : {X : Type 0} (asked : signed.ObjectKind X) (form : List ℕ → X → Type 0)
         (lines_of : X → List ℕ)
         → PrintsYes asked form lines_of (read_mode options) sha256 is_rsa_signature h.issuer now
         files.object run
@@ -685,7 +686,7 @@ module _ (options : Options) (kind : Kind) (now : Moment) (files : FilesOfCheck)
 
     module _ (issuer : Validated)
         (made : MakesIssuer is_rsa_signature now files.anchor files.chain (Ok issuer)) where
-      no-by-list : {X : Type 0} (asked : signed.Kind X) (form : List ℕ → X → Type 0)
+      no-by-list : {X : Type 0} (asked : signed.ObjectKind X) (form : List ℕ → X → Type 0)
           → BeginsWithNoGood asked form (read_mode options) sha256 is_rsa_signature issuer now
           files.object
           → BeginsWithNoGood asked form (read_mode options) sha256 (is_listed lines) issuer now

@@ -53,8 +53,8 @@ files_in (Shared command) = files_of command
 files_in (Check kind file moment anchor chain) = file ∷ anchor ∷ chain
 files_in (Verdicts file anchor chain) = file ∷ anchor ∷ chain
 
--- A command is fit: the one of the other program, if it has one, shows a file, and its moment, if it
--- has one, is one of the calendar.
+-- A command is fit: the one of the other program, if it has one, shows a file, and its moment, if
+-- it has one, is one of the calendar.
 abbrev pub IsFit : VerifyCommand → Type 0
 IsFit Help = Unit {0}
 IsFit (Shared command) = IsTrue (is_shared command)

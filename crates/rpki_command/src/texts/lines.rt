@@ -53,7 +53,7 @@ where
 }
 
 impl<E: SliceEntry> Listed for EntryIter<E> {
-    type Shown = <E::Kind as EntryKind>::Shown;
+    type Shown = <E::EntryKind as EntryKind>::Shown;
 
     ghost shown = { E.shown };
 

@@ -45,9 +45,10 @@ pub fn words_ask_for_one_thing()
 
 /// Where a store tells the files of a check, a run of it that ends with status 0 says yes, and that
 /// rightly: FILE begins with a good object under the issuer that the certificates make, at this
-/// moment, by signatures as RFC 8017, section 8.2.2, has them. Where a run ends with status 1, they make none, or FILE begins with no good object under
-/// it; what it prints then, `IsRunOf` says. The store of the system's files tells nothing: the
-/// program is the same for every store, and these are the laws of those that tell.
+/// moment, by signatures as RFC 8017, section 8.2.2, has them. Where a run ends with status 1, they
+/// make none, or FILE begins with no good object under it; what it prints then, `IsRunOf` says. The
+/// store of the system's files tells nothing: the program is the same for every store, and these
+/// are the laws of those that tell.
 pub fn checks_are_right()
     ensures yes { (told : Told) (clock : Option Moment) (words : List (List ℕ))
         (before after : List (List ℕ)) (run : Run) (options : Options) (kind : Kind) (moment : When)

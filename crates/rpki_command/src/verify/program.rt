@@ -120,7 +120,8 @@ fn check_when<'a, S: Store>(
     ensures said { IsTaskAnswer (S.told store.old)
         (check_task (texts (first.now ++ chain.now)) (VerifiedOf options kind) moment)
         (S.reads store.old) (S.reads store.new) (said result) }
-    ensures reads { HasRead (check_task (texts (first.now ++ chain.now)) (VerifiedOf options kind) moment)
+    ensures reads { HasRead (check_task (texts (first.now ++ chain.now)) (VerifiedOf options kind)
+        moment)
         (S.reads store.old) (S.reads store.new) }
     ensures same { S.told store.new ≡ S.told store.old }
 {

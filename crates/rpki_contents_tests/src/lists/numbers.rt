@@ -43,7 +43,7 @@ impl EntryKind for Numbers {
 pub struct NumberEntry<'a>(PhantomData<&'a [u8]>);
 
 impl<'a> SliceEntry for NumberEntry<'a> {
-    type Kind = Numbers;
+    type EntryKind = Numbers;
 
     type Item = u32;
 
@@ -107,7 +107,7 @@ impl Model for Ascending {
 impl Rule for Ascending {
     ghost use Rattle.rpki_contents_tests.specs.Lists.Ascending.{above_last};
 
-    type Kind = Numbers;
+    type EntryKind = Numbers;
 
     ghost after = { above_last };
 

@@ -15,11 +15,17 @@ use Rattle.rpki_basics.proofs.Names.Exact.{name-part}
 use Rattle.rpki_basics.proofs.Times.Read.{time-part}
 use Rattle.rpki_crls.specs.Crl.{Contents, TbsForm, CrlForm, tbs_fields_at, tbs_at, contents_at}
 use Rattle.rpki_crls.specs.Crl.{list_of, crl_at}
-use Rattle.rpki_crls.specs.Entry.{EntryForm, RevokedForm, entry_fields_at, entry_at, revoked_at}
+use Rattle.rpki_crls.specs.Entry.{
+  CrlEntryForm,
+  RevokedForm,
+  crl_entry_fields_at,
+  crl_entry_at,
+  revoked_at,
+}
 use Rattle.rpki_crls.proofs.ListExtensions.Exact.{crl-extensions-part}
 
-entry-part : IsPart (is SEQUENCE) nothing entry_at EntryForm
-unfolding entry_fields_at
+entry-part : IsPart (is SEQUENCE) nothing crl_entry_at CrlEntryForm
+unfolding crl_entry_fields_at
 entry-part = within SEQUENCE (
     field (λ serial. serial) u160-part (λ serial.
     skipped time-part (

@@ -7,7 +7,7 @@ ghost use Rattle.rpki_der.specs.Read.Parse.{optional};
 ghost use Rattle.rpki_der.specs.Read.Reads.{Reads, Stays};
 ghost use Rattle.rpki_der.specs.Tags.{SEQUENCE};
 ghost use Rattle.rpki_crls.specs.Crl.{tbs_fields_at, tbs_at, contents_at};
-ghost use Rattle.rpki_crls.specs.Entry.{entry_at, revoked_at};
+ghost use Rattle.rpki_crls.specs.Entry.{crl_entry_at, revoked_at};
 ghost use Rattle.rpki_crls.specs.Extensions.{crl_extensions_at};
 
 use crate::entry::CrlEntry;
@@ -103,7 +103,7 @@ fn take_opt_entries(
     cons: &mut Constructed<'_>,
 ) -> Result<Option<Vec<CrlEntry>>, DecodeError>
     ensures { Reads (option_map (λ list. list.items))
-        (optional SEQUENCE (sequence_of_at SEQUENCE entry_at)) cons.old result cons.new }
+        (optional SEQUENCE (sequence_of_at SEQUENCE crl_entry_at)) cons.old result cons.new }
 {
     cons.take_opt_sequence(|cons| cons.take_items(alloc))
 }

@@ -13,7 +13,7 @@ refuses-again : (P : Type 0) (e d : DecodeError) → IsAgain e d → Refuses e P
 refuses-again P Malformed d h r = rw h r
 refuses-again P (Content (InvalidSignedAttr attr)) d (inl h) r = rw h r
 refuses-again P (Content (InvalidSignedAttr attr)) d (inr h) r = rw h tt
-refuses-again P (Content (Text reason)) d h r = rw h r
+refuses-again P (Content (Text text)) d h r = rw h r
 refuses-again P Memory d h r = rw h tt
 
 -- what is answered again twice is answered again
@@ -21,7 +21,7 @@ again-again : (e d c : DecodeError) → IsAgain e d → IsAgain d c → IsAgain 
 again-again Malformed d c h k = subst (λ x. IsAgain x c) h k
 again-again (Content (InvalidSignedAttr attr)) d c (inl h) k = subst (λ x. IsAgain x c) h k
 again-again (Content (InvalidSignedAttr attr)) d c (inr h) k = inr (subst (λ x. IsAgain x c) h k)
-again-again (Content (Text reason)) d c h k = subst (λ x. IsAgain x c) h k
+again-again (Content (Text text)) d c h k = subst (λ x. IsAgain x c) h k
 again-again Memory d c h k = subst (λ x. IsAgain x c) h k
 
 either-again : (P : Type 0) (f : Option DecodeError) (e d : DecodeError) → IsAgain e d

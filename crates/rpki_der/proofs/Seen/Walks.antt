@@ -18,23 +18,24 @@ none = vstruct vnil
 abbrev pub two : Val → Val → Val
 two u v = vstruct (vcons u (vcons v vnil))
 
-module _ {M : Type 1} {𝓤 : Ura M} {𝓛 : Logic 𝓤} {K : Type 0} {Γ : List (Item 𝓤)} {G : Goal 𝓤 𝓛.H} where
-  pub none_made : K → Step K 𝓛 (‵ ((plainly []).own_val tt (none ∷ [])) ∷ Γ) G Γ G
-  none_made t = step (λ s.
-      nothing t $ feq_i t (List Val) (none ∷ []) (none ∷ []) refl $ fjoin t $
-      fpack t (Valss []) (within (record { name = []; args = []; types = []; fields = [] }) tt
-      (none ∷ [])) tt $ s)
+module _ {M : Type 1} {𝓤 : Ura M} {𝓛 : Logic 𝓤} {K : Type 0} {Γ : List (Item 𝓤)} {G : Goal 𝓤 𝓛.H}
+  where
+    pub none_made : K → Step K 𝓛 (‵ ((plainly []).own_val tt (none ∷ [])) ∷ Γ) G Γ G
+    none_made t = step (λ s.
+        nothing t $ feq_i t (List Val) (none ∷ []) (none ∷ []) refl $ fjoin t $
+        fpack t (Valss []) (within (record { name = []; args = []; types = []; fields = [] }) tt
+        (none ∷ [])) tt $ s)
 
-  pub two_made : K → (R S : RattleType) (x : R.Denot) (y : S.Denot) (u v : Val)
-      → Step K 𝓛 (‵ ((plainly (R ∷ S ∷ [])).own_val (x, (y, tt)) (two u v ∷ [])) ∷ Γ) G (‵
-      (R.own_val x (u ∷ [])) ∷ ‵ (S.own_val y (v ∷ [])) ∷ Γ) G
-  two_made t R S x y u v = step (λ s.
-      nothing t $ move t (2 ∷ 0 ∷ []) $ fjoin t $ move t (1 ∷ 0 ∷ []) $ fjoin t $
-      feq_i t (List Val) (two u v ∷ []) (two u v ∷ []) refl $ fjoin t $
-      fpack t (Valss (R ∷ S ∷ [])) (within (record {
-        name = [];
-        args = [];
-        types = [];
-        fields = R
-            ∷ S ∷ [];
-      }) (x, (y, tt)) (two u v ∷ [])) (u ∷ [], (v ∷ [], tt)) $ s)
+    pub two_made : K → (R S : RattleType) (x : R.Denot) (y : S.Denot) (u v : Val)
+        → Step K 𝓛 (‵ ((plainly (R ∷ S ∷ [])).own_val (x, (y, tt)) (two u v ∷ [])) ∷ Γ) G (‵
+        (R.own_val x (u ∷ [])) ∷ ‵ (S.own_val y (v ∷ [])) ∷ Γ) G
+    two_made t R S x y u v = step (λ s.
+        nothing t $ move t (2 ∷ 0 ∷ []) $ fjoin t $ move t (1 ∷ 0 ∷ []) $ fjoin t $
+        feq_i t (List Val) (two u v ∷ []) (two u v ∷ []) refl $ fjoin t $
+        fpack t (Valss (R ∷ S ∷ [])) (within (record {
+          name = [];
+          args = [];
+          types = [];
+          fields = R
+              ∷ S ∷ [];
+        }) (x, (y, tt)) (two u v ∷ [])) (u ∷ [], (v ∷ [], tt)) $ s)

@@ -24,7 +24,7 @@ Answers view found (Err e) new = Refuses e (found ≡ None)
 abbrev pub HoldsAttributeType : DecodeError → Type 0
 HoldsAttributeType Malformed = ⊥
 HoldsAttributeType (Content (InvalidSignedAttr attr)) = Unit {0}
-HoldsAttributeType (Content (Text reason)) = ⊥
+HoldsAttributeType (Content (Text text)) = ⊥
 HoldsAttributeType Memory = ⊥
 
 -- an error that is answered again: the same one, or Memory where a copy of the type of a signed
@@ -32,7 +32,7 @@ HoldsAttributeType Memory = ⊥
 abbrev pub IsAgain : DecodeError → DecodeError → Type 0
 IsAgain Malformed d = d ≡ Malformed
 IsAgain (Content (InvalidSignedAttr attr)) d = (d ≡ Content (InvalidSignedAttr attr)) ⊎ (d ≡ Memory)
-IsAgain (Content (Text reason)) d = d ≡ Content (Text reason)
+IsAgain (Content (Text text)) d = d ≡ Content (Text text)
 IsAgain Memory d = d ≡ Memory
 
 -- the call answers this error again, and the reader from then on

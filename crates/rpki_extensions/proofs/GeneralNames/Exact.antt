@@ -18,7 +18,7 @@ use Rattle.rpki_der.proofs.Reading.Many.{primitive-shorter}
 use Rattle.rpki_der.proofs.Reading.Skips.{Takes, skip-takes}
 use Rattle.rpki_extensions.specs.declared.name.GeneralName.{GeneralName}
 use Rattle.rpki_extensions.specs.declared.name.GeneralName.TheVariants.{Uri, Other}
-use Rattle.rpki_extensions.specs.Names.{URI, NameForm, IsNamed, name_at, named}
+use Rattle.rpki_extensions.specs.Names.{URI, GeneralNameForm, IsNamed, general_name_at, named}
 
 -- ---- one kind by its tag, and else any other
 
@@ -110,22 +110,22 @@ module _ {X : Type 0} {p q : Parser X} {G H : Mode → List ℕ → X → Type 0
 
 -- ---- names
 
-pub name-part : IsPart every nothing name_at NameForm
+pub name-part : IsPart every nothing general_name_at GeneralNameForm
 name-part = part-as
     (either-part URI (make Uri (contents-part URI)) (make (λ _. Other) (any-part 32))) to from
   where
     to : (mode : Mode) (o : List ℕ) (x : GeneralName)
         → Either URI (make Uri (contents-part URI)) (make (λ _. Other) (any-part 32)) mode o x
-        → NameForm mode o x
-    to mode o x (inl h) = subst (NameForm mode o) (sym h.2) h.1
-    to mode o x (inr h) = subst (NameForm mode o) (sym h.0.2) (h.0.1, h.1)
+        → GeneralNameForm mode o x
+    to mode o x (inl h) = subst (GeneralNameForm mode o) (sym h.2) h.1
+    to mode o x (inr h) = subst (GeneralNameForm mode o) (sym h.0.2) (h.0.1, h.1)
 
-    from : (mode : Mode) (o : List ℕ) (x : GeneralName) → NameForm mode o x
+    from : (mode : Mode) (o : List ℕ) (x : GeneralName) → GeneralNameForm mode o x
         → Either URI (make Uri (contents-part URI)) (make (λ _. Other) (any-part 32)) mode o x
     from mode o (Uri text) h = inl (text, h, refl)
     from mode o Other h = inr ((tt, h.0, refl), h.1)
 
-pub name-takes : (mode : Mode) → Takes (name_at mode)
+pub name-takes : (mode : Mode) → Takes (general_name_at mode)
 name-takes mode =
     either-takes URI (make Uri (contents-part URI)) (make (λ _. Other) (any-part 32)) mode
     (takes-made Uri (implicit_string_at 6) mode

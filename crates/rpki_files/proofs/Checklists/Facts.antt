@@ -18,7 +18,7 @@ use Rattle.rpki_resources.specs.declared.family.AddressFamily.{AddressFamily}
 use Rattle.rpki_resources.specs.declared.family.AddressFamily.TheVariants.{Ipv4}
 use Rattle.rpki_resources.specs.Family.{IsWithin}
 use Rattle.rpki_resources.specs.Family.Form.{afi}
-use Rattle.rpki_resources.specs.Families.Form.{EntryForm, FamiliesForm, afi_of, IsValueOf}
+use Rattle.rpki_resources.specs.Families.Form.{FamilyEntryForm, FamiliesForm, afi_of, IsValueOf}
 use Rattle.rpki_resources.specs.Families.Read.{no_values}
 use Rattle.rpki_resources.specs.Ip.Form.{IpForm}
 use Rattle.rpki_resources.proofs.Addresses.Within.{set-within}
@@ -30,7 +30,7 @@ abbrev OfItsFamily : FamilyEntry Set → Type 0
 OfItsFamily e = All (IsWithin e.family) e.value
 
 entry-facts : (mode : Mode) (o : List ℕ) (e : FamilyEntry Set)
-    → IsBytes o × EntryForm IpForm mode o e → OfItsFamily e
+    → IsBytes o × FamilyEntryForm IpForm mode o e → OfItsFamily e
 entry-facts mode o e (bytes, h) =
     let contents : IsBytes h.0 =
     IsBytes-contents mode o o [] SEQUENCE h.0 (sym (append-nil o)) h.1 bytes in
@@ -57,9 +57,9 @@ families-facts mode o values bytes h =
     let list = h.1 in
     let contents : IsBytes list.0 =
     IsBytes-contents mode o o [] SEQUENCE list.0 (sym (append-nil o)) list.1 bytes in
-    let each = items-all (λ p e. IsBytes p × EntryForm IpForm mode p e) OfItsFamily
+    let each = items-all (λ p e. IsBytes p × FamilyEntryForm IpForm mode p e) OfItsFamily
     (entry-facts mode) list.0 h.0
-    (items-bytes (EntryForm IpForm mode) list.0 h.0 contents list.2) in
+    (items-bytes (FamilyEntryForm IpForm mode) list.0 h.0 contents list.2) in
     stands h.0 each Ipv4 values.v4 h.2.v4
 
 -- the addresses that may be named

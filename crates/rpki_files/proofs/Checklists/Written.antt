@@ -27,7 +27,7 @@ use Rattle.rpki_resources.specs.declared.family.AddressFamily.TheVariants.{Ipv4,
 use Rattle.rpki_resources.specs.As.Form.{AsForm}
 use Rattle.rpki_resources.specs.As.Written.{as_octets}
 use Rattle.rpki_resources.specs.Family.Form.{afi, FamilyForm}
-use Rattle.rpki_resources.specs.Families.Form.{EntryForm, FamiliesForm}
+use Rattle.rpki_resources.specs.Families.Form.{FamilyEntryForm, FamiliesForm}
 use Rattle.rpki_resources.specs.Families.Read.{gathered, no_values}
 use Rattle.rpki_resources.specs.Ip.Form.{IpForm}
 use Rattle.rpki_resources.specs.Ip.Written.{ip_octets}
@@ -85,7 +85,8 @@ entry family set = record { family = family; value = set }
 
 entry-written : (family : AddressFamily) (set : Set) → IpWritten family set
     → length (value_octets SEQUENCE (family_contents family set)) < 2 ^ 32
-    → EntryForm IpForm Der (value_octets SEQUENCE (family_contents family set)) (entry family set)
+    → FamilyEntryForm IpForm Der (value_octets SEQUENCE (family_contents family set))
+    (entry family set)
 entry-written family set written short =
     let name = value_octets OCTET_STRING (afi family) in
     let list = value_octets SEQUENCE (flat_map ip_octets set) in
@@ -108,7 +109,7 @@ entries-of family (b ∷ set) = entry family (b ∷ set) ∷ []
 
 family-items : (family : AddressFamily) (set : Set) → IpWritten family set
     → length (family_octets family set) < 2 ^ 32
-    → Items (EntryForm IpForm Der) (family_octets family set) (entries-of family set)
+    → Items (FamilyEntryForm IpForm Der) (family_octets family set) (entries-of family set)
 family-items family [] written short = refl
 family-items family (b ∷ set) written short = (
   family_octets family (b ∷ set),
@@ -147,9 +148,10 @@ families-written l v4 v6 short =
     let entries : List (FamilyEntry Set) =
     entries-of Ipv4 l.v4_resources ++ entries-of Ipv6 l.v6_resources in (
       entries,
-      within-written SEQUENCE (λ c. Items (EntryForm IpForm Der) c entries) (families_octets l)
+      within-written SEQUENCE (λ c. Items (FamilyEntryForm IpForm Der) c entries)
+          (families_octets l)
           (tag-sound SEQUENCE refl) inner
-          (items-join (EntryForm IpForm Der) (family_octets Ipv4 l.v4_resources)
+          (items-join (FamilyEntryForm IpForm Der) (family_octets Ipv4 l.v4_resources)
           (family_octets Ipv6 l.v6_resources) (entries-of Ipv4 l.v4_resources)
           (entries-of Ipv6 l.v6_resources) (family-items Ipv4 l.v4_resources v4 each.0)
           (family-items Ipv6 l.v6_resources v6 each.1)),

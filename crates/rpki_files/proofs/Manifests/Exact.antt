@@ -31,7 +31,15 @@ use Rattle.rpki_der.proofs.Reading.Unique.{reading, IsOneValue}
 use Rattle.rpki_lists.specs.Rules.{admits}
 use Rattle.rpki_lists.proofs.Exact.{list-part, part-spelt}
 use Rattle.rpki_files.specs.Name.{is_file_name, is_registered}
-use Rattle.rpki_files.specs.File.{File, NameForm, HashForm, FileForm, MeetsRule, name_of, name_at}
+use Rattle.rpki_files.specs.File.{
+  File,
+  FileNameForm,
+  HashForm,
+  FileForm,
+  MeetsRule,
+  name_of,
+  file_name_at,
+}
 use Rattle.rpki_files.specs.File.{hash_at, file_fields_at, file_at, is_allowed, names_by}
 use Rattle.rpki_files.specs.File.{is_unrepeated, files_at}
 use Rattle.rpki_files.specs.Version.{version_at}
@@ -44,7 +52,7 @@ use Rattle.rpki_basics.proofs.Algorithms.Parts.{named-is, named-self}
 
 -- ---- a file
 
-name-part : IsPart (is IA5_STRING) nothing name_at NameForm
+name-part : IsPart (is IA5_STRING) nothing file_name_at FileNameForm
 name-part = pass is_file_name ia5-part name-decides
 
 hash-part : IsPart (is BIT_STRING) nothing hash_at HashForm

@@ -9,7 +9,7 @@ use Rattle.rpki_der.specs.Form.Parts.{sequence_at}
 use Rattle.rpki_der.proofs.Reading.Lengths.{bind_some, some_is}
 use Rattle.rpki_lists.specs.Entries.{entries_of, HoldEntries}
 use Rattle.rpki_files.specs.Name.{IsFileName, is_file_name}
-use Rattle.rpki_files.specs.File.{File, name_of, name_at, hash_at, file_fields_at, file_at}
+use Rattle.rpki_files.specs.File.{File, name_of, file_name_at, hash_at, file_fields_at, file_at}
 use Rattle.rpki_files.proofs.Names.Decided.{name-decides}
 use Rattle.rpki_der.proofs.Reading.Contents.{guarded}
 
@@ -51,7 +51,7 @@ fields-good : (b : List ℕ) (f : File) (r : List ℕ) → file_fields_at Der b 
     → IsFileName (name_of f)
 unfolding file_fields_at
 fields-good b f r e =
-    let u = bind_some (name_at Der b) _ (f, r) e in
+    let u = bind_some (file_name_at Der b) _ (f, r) e in
     let v = bind_some (hash_at Der u.0.1) _ (f, r) u.2 in
     let q : (let t : File × List ℕ = (record { file = u.0.0; hash = v.0.0 }, v.0.1) in t) ≡ (f, r) =
     some_is _ _ v.2 in

@@ -18,7 +18,14 @@ use Rattle.rpki_der.proofs.Reading.Scan.{tag-sound}
 use Rattle.rpki_der.proofs.Writing.Leaves.{within-written, items-written}
 use Rattle.rpki_der.proofs.Writing.Strings.{bits-whole}
 use Rattle.rpki_files.specs.Name.{IsFileName}
-use Rattle.rpki_files.specs.File.{File, FileForm, HashForm, NameForm, file_octets, file_contents}
+use Rattle.rpki_files.specs.File.{
+  File,
+  FileForm,
+  HashForm,
+  FileNameForm,
+  file_octets,
+  file_contents,
+}
 use Rattle.rpki_files.specs.File.{MeetsRule, is_short_file, file-small}
 use Rattle.rpki_files.specs.Manifest.{Manifest, ManifestForm, files_octets, manifest_contents}
 use Rattle.rpki_files.specs.Manifest.{manifest_octets}
@@ -34,7 +41,7 @@ hash-written hash short = (
 )
 
 name-written : (name : List ℕ) → length name < 2 ^ 32 → IsFileName name
-    → NameForm Der (value_octets IA5_STRING name) name
+    → FileNameForm Der (value_octets IA5_STRING name) name
 name-written name short valid = (
   within-written 22 (λ c. (c ≡ name) × All (λ b. b < 128) name) name (tag-sound 22 refl) short
       (refl, name-below name valid),

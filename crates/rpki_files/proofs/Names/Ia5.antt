@@ -7,20 +7,20 @@ use Rattle.rpki_der.specs.Tags.{IA5_STRING}
 use Rattle.rpki_der.specs.declared.mode.Mode.TheVariants.{Der}
 use Rattle.rpki_der.specs.Read.Parse.{◌>>=◌, value_at, ia5_of, tested}
 use Rattle.rpki_files.specs.Name.{is_file_name}
-use Rattle.rpki_files.specs.File.{name_at}
+use Rattle.rpki_files.specs.File.{file_name_at}
 use Rattle.rpki_files.proofs.Names.Decided.{name-below, name-decides}
 use Rattle.rpki_der.proofs.Writing.Values.{all-below}
 
 -- the contents are a name
 pub name_found : (b name r : List ℕ) → value_at IA5_STRING Der b ≡ Some (name, r)
-    → is_file_name name ≡ true → name_at Der b ≡ Some (name, r)
+    → is_file_name name ≡ true → file_name_at Der b ≡ Some (name, r)
 unfolding tested ia5_of
 name_found b name r e h =
     rw (e, all-below name (name-below name ((name-decides name).0 h)), h) refl
 
 -- they are none, whether or not they are an IA5String
 pub name_other : (b name r : List ℕ) → value_at IA5_STRING Der b ≡ Some (name, r)
-    → is_file_name name ≡ false → name_at Der b ≡ None
+    → is_file_name name ≡ false → file_name_at Der b ≡ None
 unfolding tested ia5_of
 name_other b name r e h = rw e (at (list_all (λ b. nat_lt b 128) name))
   where
@@ -31,6 +31,6 @@ name_other b name r e h = rw e (at (list_all (λ b. nat_lt b 128) name))
     at false = refl
 
 -- there is no value with the tag
-pub name_none : (b : List ℕ) → value_at IA5_STRING Der b ≡ None → name_at Der b ≡ None
+pub name_none : (b : List ℕ) → value_at IA5_STRING Der b ≡ None → file_name_at Der b ≡ None
 unfolding tested
 name_none b e = rw e refl

@@ -13,7 +13,7 @@ use Rattle.rpki_faults.specs.declared.verification.VerificationError.TheVariants
 use Rattle.rpki_extensions.specs.declared.claims.Claims.{Claims}
 use Rattle.rpki_certs.specs.Validate.{Sets, AreHeld}
 use Rattle.rpki_files.specs.Checklist.{Checklist}
-use Rattle.rpki_sigobj.specs.Signed.Kind.{Kind}
+use Rattle.rpki_sigobj.specs.Signed.Kind.{ObjectKind}
 
 -- id-ct-signedChecklist, 1.2.840.113549.1.9.16.1.48 (3)
 abbrev pub ct_checklist : List ℕ
@@ -43,7 +43,7 @@ pub record AreCanonical (l : Checklist) : Type 0 where
   pub v6 : IsCanonical (λ n. n) l.v6_resources
 
 -- A checklist is not published (2), so its certificate need not say where it is.
-abbrev pub checklist_kind : Kind Checklist
+abbrev pub checklist_kind : ObjectKind Checklist
 checklist_kind = record {
   type = ct_checklist;
   is_published = false;

@@ -128,9 +128,9 @@ pub static NUMBERS: [(Numbers, &[u8]); 5] = [
     ),
 ];
 
-/// What is no set of AS numbers, and the text that is answered, or `None` for `Malformed`: the lower
-/// end above the upper end, three numbers in a range, one number in it, a number below 0, one above
-/// the largest, a SET, a set that is cut off, and a BOOLEAN among the numbers.
+/// What is no set of AS numbers, and the text that is answered, or `None` for `Malformed`: the
+/// lower end above the upper end, three numbers in a range, one number in it, a number below 0, one
+/// above the largest, a SET, a set that is cut off, and a BOOLEAN among the numbers.
 static WRONG: [(&[u8], Option<&str>); 8] = [
     (
         &[0x30, 8, 0x30, 6, 2, 1, 5, 2, 1, 4],

@@ -8,8 +8,13 @@ use Rattle.rpki_der.proofs.Form.Fields.{field, field-on, done, within}
 use Rattle.rpki_der.proofs.Form.Words.{part-as, in-tag, make-some, all-items}
 use Rattle.rpki_der.proofs.Reading.UpToEnd.{takes-in}
 use Rattle.rpki_resources.specs.declared.family.AddressFamily.{AddressFamily}
-use Rattle.rpki_resources.specs.Families.Form.{FormOf, EntryForm, FamiliesForm}
-use Rattle.rpki_resources.specs.Families.Read.{entry_fields_at, entry_at, families_at, gathered}
+use Rattle.rpki_resources.specs.Families.Form.{FormOf, FamilyEntryForm, FamiliesForm}
+use Rattle.rpki_resources.specs.Families.Read.{
+  family_entry_fields_at,
+  family_entry_at,
+  families_at,
+  gathered,
+}
 use Rattle.rpki_resources.specs.Families.Read.{values_at, no_values}
 use Rattle.rpki_resources.specs.Lists.{TakesOctets}
 use Rattle.rpki_resources.proofs.Families.Exact.{family-part}
@@ -17,15 +22,15 @@ use Rattle.rpki_resources.proofs.Families.Gathered.{entries-sound, entries-compl
 use Rattle.rpki_der.proofs.Reading.Unique.{part-reading}
 
 -- an entry takes an octet at least
-pub entry-takes : {X : Type 0} (p : AddressFamily → Parser X) → TakesOctets (entry_at p)
+pub entry-takes : {X : Type 0} (p : AddressFamily → Parser X) → TakesOctets (family_entry_at p)
 entry-takes p = λ mode octets x rest e.
-    (takes-in SEQUENCE (entry_fields_at p) mode).at octets x rest e
+    (takes-in SEQUENCE (family_entry_fields_at p) mode).at octets x rest e
 
 module _ {X : Type 0} {first : TagSet} {p : AddressFamily → Parser X} {G : FormOf X}
     (value : (family : AddressFamily) → IsPart first nothing (p family) (G family)) where
   -- an entry
-  pub entry-part : IsPart (is SEQUENCE) nothing (entry_at p) (EntryForm G)
-  unfolding entry_fields_at
+  pub entry-part : IsPart (is SEQUENCE) nothing (family_entry_at p) (FamilyEntryForm G)
+  unfolding family_entry_fields_at
   entry-part = within SEQUENCE (
       field (λ e. e.family) family-part (λ family.
       field-on G (λ e. e.family) (λ e. e.value) (value family) (λ e k. k.1) (λ x.

@@ -15,8 +15,8 @@ abbrev pub FormOf : Type 0 → Type 1
 FormOf X = AddressFamily → Mode → List ℕ → X → Type 0
 
 -- IPAddressFamily: SEQUENCE { addressFamily, value } (2.2.3.2)
-abbrev pub EntryForm : {X : Type 0} → FormOf X → Mode → List ℕ → FamilyEntry X → Type 0
-EntryForm G mode octets entry = Sequence mode (
+abbrev pub FamilyEntryForm : {X : Type 0} → FormOf X → Mode → List ℕ → FamilyEntry X → Type 0
+FamilyEntryForm G mode octets entry = Sequence mode (
     (λ o. FamilyForm mode o entry.family)
     ∷ (λ o. G entry.family mode o entry.value)
     ∷ []) octets
@@ -40,4 +40,4 @@ pub record AreEntries {X : Type 0} (entries : List (FamilyEntry X))
 -- order of their identifiers. Here they may stand in any order, and be none, which is this
 -- project's own.
 abbrev pub FamiliesForm : {X : Type 0} → FormOf X → Mode → List ℕ → ByFamily X → Type 0
-FamiliesForm G mode = Understood AreEntries (SequenceOf mode (EntryForm G mode))
+FamiliesForm G mode = Understood AreEntries (SequenceOf mode (FamilyEntryForm G mode))

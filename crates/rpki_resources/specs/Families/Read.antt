@@ -17,16 +17,16 @@ abbrev pub ip_set_at : AddressFamily → Parser (List (Block ℕ))
 ip_set_at family = ip_blocks_at (max_bits family)
 
 -- a family, and then what stands for it
-unfoldable pub entry_fields_at : {X : Type 0} → (AddressFamily → Parser X)
+unfoldable pub family_entry_fields_at : {X : Type 0} → (AddressFamily → Parser X)
     → Parser (FamilyEntry X)
-entry_fields_at p mode bytes = do
+family_entry_fields_at p mode bytes = do
   family ← family_at mode bytes
   value ← p family.0 mode family.1
   Some (record { family = family.0; value = value.0 }, value.1)
 
 -- a SEQUENCE of a family and what stands for it
-abbrev pub entry_at : {X : Type 0} → (AddressFamily → Parser X) → Parser (FamilyEntry X)
-entry_at p = sequence_at (entry_fields_at p)
+abbrev pub family_entry_at : {X : Type 0} → (AddressFamily → Parser X) → Parser (FamilyEntry X)
+family_entry_at p = sequence_at (family_entry_fields_at p)
 
 -- no value for either family
 abbrev pub no_values : {X : Type 0} → ByFamily X
@@ -55,8 +55,8 @@ gathered values (entry ∷ entries) =
 
 -- the values of all entries
 unfoldable pub values_at : {X : Type 0} → (AddressFamily → Parser X) → Parser (ByFamily X)
-values_at p = partly (gathered no_values) (all_at (entry_at p))
+values_at p = partly (gathered no_values) (all_at (family_entry_at p))
 
--- the values of a SEQUENCE OF entries (`entry_at`), where each family has one entry at most
+-- the values of a SEQUENCE OF entries (`family_entry_at`), where each family has one entry at most
 abbrev pub families_at : {X : Type 0} → (AddressFamily → Parser X) → Parser (ByFamily X)
 families_at p = sequence_at (values_at p)

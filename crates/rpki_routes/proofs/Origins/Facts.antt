@@ -18,7 +18,7 @@ use Rattle.rpki_resources.specs.declared.by_family.FamilyEntry.{FamilyEntry}
 use Rattle.rpki_resources.specs.declared.family.AddressFamily.{AddressFamily}
 use Rattle.rpki_resources.specs.declared.family.AddressFamily.TheVariants.{Ipv4, Ipv6}
 use Rattle.rpki_resources.specs.Family.Form.{afi}
-use Rattle.rpki_resources.specs.Families.Form.{EntryForm, FamiliesForm, afi_of, IsValueOf}
+use Rattle.rpki_resources.specs.Families.Form.{FamilyEntryForm, FamiliesForm, afi_of, IsValueOf}
 use Rattle.rpki_resources.specs.Ip.Form.{bit_count, bit_value, PrefixForm}
 use Rattle.rpki_resources.specs.Prefix.{Network}
 use Rattle.rpki_resources.proofs.Addresses.Bits.{room-below}
@@ -75,7 +75,7 @@ abbrev OfItsFamily : FamilyEntry (List Address) → Type 0
 OfItsFamily e = All (IsAddress e.family) e.value
 
 entry-facts : (mode : Mode) (o : List ℕ) (e : FamilyEntry (List Address))
-    → IsBytes o × EntryForm AddressesForm mode o e → OfItsFamily e
+    → IsBytes o × FamilyEntryForm AddressesForm mode o e → OfItsFamily e
 entry-facts mode o e (bytes, h) =
     let contents : IsBytes h.0 =
     IsBytes-contents mode o o [] SEQUENCE h.0 (sym (append-nil o)) h.1 bytes in
@@ -104,9 +104,9 @@ families-facts mode o values bytes h =
     let list = h.1 in
     let contents : IsBytes list.0 =
     IsBytes-contents mode o o [] SEQUENCE list.0 (sym (append-nil o)) list.1 bytes in
-    let each = items-all (λ p e. IsBytes p × EntryForm AddressesForm mode p e) OfItsFamily
+    let each = items-all (λ p e. IsBytes p × FamilyEntryForm AddressesForm mode p e) OfItsFamily
     (entry-facts mode) list.0 h.0
-    (items-bytes (EntryForm AddressesForm mode) list.0 h.0 contents list.2) in
+    (items-bytes (FamilyEntryForm AddressesForm mode) list.0 h.0 contents list.2) in
     (stands h.0 each Ipv4 values.v4 h.2.v4, stands h.0 each Ipv6 values.v6 h.2.v6)
 
 -- ---- the content

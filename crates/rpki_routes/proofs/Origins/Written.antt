@@ -20,7 +20,7 @@ use Rattle.rpki_resources.specs.declared.family.AddressFamily.{AddressFamily}
 use Rattle.rpki_resources.specs.declared.family.AddressFamily.TheVariants.{Ipv4, Ipv6}
 use Rattle.rpki_resources.specs.As.Form.{AsId}
 use Rattle.rpki_resources.specs.Family.Form.{afi, FamilyForm}
-use Rattle.rpki_resources.specs.Families.Form.{EntryForm}
+use Rattle.rpki_resources.specs.Families.Form.{FamilyEntryForm}
 use Rattle.rpki_resources.specs.Families.Read.{gathered, no_values}
 use Rattle.rpki_resources.specs.Ip.Form.{PrefixForm}
 use Rattle.rpki_resources.specs.Ip.Written.{end_octets}
@@ -105,7 +105,7 @@ entry family xs = record { family = family; value = xs }
 
 entry-written : (family : AddressFamily) (xs : List Address) → All (IsAddress family) xs
     → length (value_octets SEQUENCE (family_contents family xs)) < 2 ^ 32
-    → EntryForm AddressesForm Der (value_octets SEQUENCE (family_contents family xs))
+    → FamilyEntryForm AddressesForm Der (value_octets SEQUENCE (family_contents family xs))
     (entry family xs)
 entry-written family xs all short =
     let name = value_octets OCTET_STRING (afi family) in
@@ -129,7 +129,7 @@ entries-of family (a ∷ xs) = entry family (a ∷ xs) ∷ []
 
 family-items : (family : AddressFamily) (xs : List Address) → All (IsAddress family) xs
     → length (family_octets family xs) < 2 ^ 32
-    → Items (EntryForm AddressesForm Der) (family_octets family xs) (entries-of family xs)
+    → Items (FamilyEntryForm AddressesForm Der) (family_octets family xs) (entries-of family xs)
 family-items family [] all short = refl
 family-items family (a ∷ xs) all short = (
   family_octets family (a ∷ xs),
@@ -171,9 +171,9 @@ blocks-written r h short =
       values-of r.v4 r.v6,
       (
         entries,
-        within-written SEQUENCE (λ c. Items (EntryForm AddressesForm Der) c entries)
+        within-written SEQUENCE (λ c. Items (FamilyEntryForm AddressesForm Der) c entries)
             (families_octets r) (tag-sound SEQUENCE refl) inner
-            (items-join (EntryForm AddressesForm Der) (family_octets Ipv4 r.v4)
+            (items-join (FamilyEntryForm AddressesForm Der) (family_octets Ipv4 r.v4)
             (family_octets Ipv6 r.v6) (entries-of Ipv4 r.v4) (entries-of Ipv6 r.v6)
             (family-items Ipv4 r.v4 h.v4 each.0) (family-items Ipv6 r.v6 h.v6 each.1)),
         entries-sound entries (values-of r.v4 r.v6) (values-gathered r.v4 r.v6),

@@ -14,7 +14,7 @@ use Rattle.rpki_faults.specs.declared.verification.VerificationError.TheVariants
 use Rattle.rpki_extensions.specs.declared.claims.Claims.{Claims}
 use Rattle.rpki_certs.specs.Validate.{Sets}
 use Rattle.rpki_routes.specs.Aspa.{Aspa}
-use Rattle.rpki_sigobj.specs.Signed.Kind.{Kind}
+use Rattle.rpki_sigobj.specs.Signed.Kind.{ObjectKind}
 
 -- id-ct-ASPA, 1.2.840.113549.1.9.16.1.49 (2)
 abbrev pub ct_aspa : List ℕ
@@ -64,7 +64,7 @@ pub record AspaCovered (a : Aspa) (x : Claims) (sets : Sets) : Type 0 where
   pub held : Covers (λ n. n) sets.as_numbers (only a.customer ∷ [])
 
 -- An ASPA is published.
-abbrev pub aspa_kind : Kind Aspa
+abbrev pub aspa_kind : ObjectKind Aspa
 aspa_kind = record {
   type = ct_aspa;
   is_published = true;

@@ -12,7 +12,7 @@ use Rattle.rpki_faults.specs.declared.verification.VerificationError.{Verificati
 use Rattle.rpki_faults.specs.declared.verification.VerificationError.TheVariants as faults
 use Rattle.rpki_certs.specs.Validate.{Sets}
 use Rattle.rpki_routes.specs.Roa.{Address, Roa, of_family, max_len_prefix}
-use Rattle.rpki_sigobj.specs.Signed.Kind.{Kind}
+use Rattle.rpki_sigobj.specs.Signed.Kind.{ObjectKind}
 
 -- id-ct-routeOriginAuthz, 1.2.840.113549.1.9.16.1.24 (3)
 abbrev pub route_origin_authz : List ℕ
@@ -65,7 +65,7 @@ pub record RoaCovered (r : Roa) (sets : Sets) : Type 0 where
 -- A ROA is published, and its prefixes are looked at once its certificate was validated (5). That
 -- the certificate may inherit addresses and may name AS numbers, against section 5, is this
 -- project's own rule.
-abbrev pub roa_kind : Kind Roa
+abbrev pub roa_kind : ObjectKind Roa
 roa_kind = record {
   type = route_origin_authz;
   is_published = true;

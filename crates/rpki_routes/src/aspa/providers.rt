@@ -47,7 +47,7 @@ pub struct ProvidersIn<'a> {
 }
 
 impl<'a> SliceEntry for ProvidersIn<'a> {
-    type Kind = Providers;
+    type EntryKind = Providers;
 
     type Item = Asn;
 
@@ -182,7 +182,7 @@ impl InOrder {
 impl Rule for InOrder {
     ghost use Rattle.rpki_routes.specs.Aspa.Read.{after_provider};
 
-    type Kind = Providers;
+    type EntryKind = Providers;
 
     ghost after = { after_provider };
 
@@ -190,8 +190,8 @@ impl Rule for InOrder {
         let Some(next) = reader.take_u32() else {
             return Err(Refused::Malformed);
         };
-        if let Some(reason) = self.refusal_of(next) {
-            return Err(Refused::For(reason));
+        if let Some(text) = self.refusal_of(next) {
+            return Err(Refused::For(text));
         }
         self.count += 1;
         self.last = Some(next);

@@ -88,7 +88,7 @@ pub struct AddressesIn<'a> {
 }
 
 impl<'a> SliceEntry for AddressesIn<'a> {
-    type Kind = Addresses;
+    type EntryKind = Addresses;
 
     type Item = RoaIpAddress;
 
@@ -174,7 +174,7 @@ struct OneFamily {
 impl Rule for OneFamily {
     ghost use Rattle.rpki_routes.specs.Roa.Read.{after_address};
 
-    type Kind = Addresses;
+    type EntryKind = Addresses;
 
     ghost after = { after_address };
 
@@ -183,7 +183,7 @@ impl Rule for OneFamily {
             return Err(Refused::Malformed);
         };
         match refusal_of(self.family, address) {
-            Some(reason) => Err(Refused::For(reason)),
+            Some(text) => Err(Refused::For(text)),
             None => Ok(()),
         }
     }

@@ -10,7 +10,7 @@ use Rattle.rpki_certs.specs.Validate.{Validated, AreValidated, IsValidatedUnder}
 use Rattle.rpki_certs.specs.Verify.{Verdict}
 use Rattle.rpki_sigobj.specs.Verify.{Digester}
 use Rattle.rpki_sigobj.specs.Signed.Good.{IsGood, IsNotGood, Means}
-use Rattle.rpki_sigobj.specs.Signed.Kind.{Kind}
+use Rattle.rpki_sigobj.specs.Signed.Kind.{ObjectKind}
 use Rattle.rpki_sigobj.specs.Signed.Process.{IsProcessed}
 use Rattle.rpki_sigobj.specs.Signed.Process.{validation, before_revocation, said_checks}
 use Rattle.rpki_sigobj.specs.Signed.{Whole, cert_in}
@@ -21,7 +21,7 @@ are-validated : {X : Type 0} (mode : Mode) (o : Whole X) (issuer v : Validated)
 unfolding IsValidatedUnder
 are-validated mode o issuer v h = h.1
 
-module _ {X : Type 0} (kind : Kind X) (mode : Mode) (digest : Digester) (verdict : Verdict)
+module _ {X : Type 0} (kind : ObjectKind X) (mode : Mode) (digest : Digester) (verdict : Verdict)
     (issuer : Validated) (now : Moment) (o : Whole X) (means : Means kind o.content)
     (Says : Result (Unit {0}) ValidationError → Type 0) where
   abbrev claims : Claims

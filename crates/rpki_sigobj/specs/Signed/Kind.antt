@@ -6,7 +6,7 @@ use Rattle.rpki_extensions.specs.declared.claims.Claims.{Claims}
 use Rattle.rpki_certs.specs.Validate.{Sets}
 
 -- A kind of signed objects, by what its contents say.
-pub record Kind (X : Type 0) : Type 1 where
+pub record ObjectKind (X : Type 0) : Type 1 where
   -- the type of its contents, an OBJECT IDENTIFIER (RFC 5652, section 5.2)
   pub type : List ℕ
   -- whether the certificate of the signer has to say where the object is (RFC 6487, section

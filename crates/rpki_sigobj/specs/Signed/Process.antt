@@ -9,7 +9,7 @@ use Rattle.rpki_certs.specs.Verify.{Verdict}
 use Rattle.rpki_sigobj.specs.Object.{SignedData}
 use Rattle.rpki_sigobj.specs.Validate.{object_validation, detached_validation}
 use Rattle.rpki_sigobj.specs.Verify.{Digester}
-use Rattle.rpki_sigobj.specs.Signed.Kind.{Kind}
+use Rattle.rpki_sigobj.specs.Signed.Kind.{ObjectKind}
 use Rattle.rpki_sigobj.specs.Signed.{Whole}
 
 -- A signed object is valid under this issuer, as one that is published (RFC 6488, section 3), or as
@@ -21,8 +21,8 @@ validation false digest verdict s issuer now = detached_validation digest verdic
 
 -- What is checked before it is asked whether the certificate was revoked: what it claims, and then
 -- the object.
-abbrev pub before_revocation : {X : Type 0} → Kind X → Digester → Verdict → Whole X → Validated
-    → Moment → List (Check ValidationError)
+abbrev pub before_revocation : {X : Type 0} → ObjectKind X → Digester → Verdict → Whole X
+    → Validated → Moment → List (Check ValidationError)
 before_revocation kind digest verdict o issuer now =
     kind.claimed o.content o.object.signed.cert.tbs.extensions.claims
     ++ validation kind.is_published digest verdict o.object.signed issuer now

@@ -5,7 +5,7 @@ ghost use Rattle.rpki_der.specs.Form.Decodes.{Decodes};
 ghost use Rattle.rpki_der.specs.Oid.{IsOid};
 ghost use Rattle.rpki_faults.specs.Checks.{AnswersFirstFault};
 ghost use Rattle.rpki_sigobj.specs.Signed.Good.{Means};
-ghost use Rattle.rpki_sigobj.specs.Signed.Kind.{Kind};
+ghost use Rattle.rpki_sigobj.specs.Signed.Kind.{ObjectKind};
 
 use bytes::Bytes;
 use rpki_certs::{Cert, ResourceCert};
@@ -20,7 +20,7 @@ pub trait Content: Clone + Debug + Drop {
     type Rule: Copy;
 
     // What is asked of objects with such a content.
-    ghost kind: { Kind Self };
+    ghost kind: { ObjectKind Self };
 
     // What the octets of a content are, by the caller's choice.
     ghost form: { Self.Rule → List ℕ → Self → Type 0 };

@@ -10,7 +10,8 @@ use Rattle.rpki_command.proofs.objects.show.Goals as goal
 
 pub returns-in-Err : goal.returns-in-Err
 returns-in-Err g c =
-    subst (λ rule. IsShown c.args.causes (HasLines (ObjectForm g.C.Content.kind.type (g.C.Content.form rule)
+    subst (λ rule. IsShown c.args.causes (HasLines
+    (ObjectForm g.C.Content.kind.type (g.C.Content.form rule)
     (read_mode c.args.options)) (object_text g.C.Lines.lines)) c.args.source
     (said c.refusal.result)) c.rule.ensures
     (shown-refusal _ _ _ _ _ c.in-Err.error c.refusal.ensures c.in-Err.ensures.decodes)
@@ -18,7 +19,8 @@ returns-in-Err g c =
 pub returns-in-Ok : goal.returns-in-Ok
 returns-in-Ok g c =
     let decoded = c.in-Ok.ensures.decodes in
-    subst (λ rule. IsShown c.args.causes (HasLines (ObjectForm g.C.Content.kind.type (g.C.Content.form rule)
+    subst (λ rule. IsShown c.args.causes (HasLines
+    (ObjectForm g.C.Content.kind.type (g.C.Content.form rule)
     (read_mode c.args.options)) (object_text g.C.Lines.lines)) c.args.source
     (said c.show_lines-answer.result)) c.rule.ensures
     (shown-lines _ _ _ _ _ (whole_of c.in-Ok.object) decoded.0 decoded.1

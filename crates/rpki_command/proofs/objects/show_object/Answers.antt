@@ -4,5 +4,6 @@ use Rattle.rpki_command.proofs.objects.show_object.Goals as goal
 
 pub returns : goal.returns
 returns c =
-    object_of_kind c.args.causes c.args.options c.args.kind c.args.octets.items (said c.answer_for.result)
+    object_of_kind c.args.causes c.args.options c.args.kind c.args.octets.items
+    (said c.answer_for.result)
     c.answer_for.ensures

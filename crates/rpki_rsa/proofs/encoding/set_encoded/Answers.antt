@@ -10,7 +10,8 @@ pub push_octets-requires : goal.push_octets-requires
 push_octets-requires c =
     let k = c.args.k in
     let len : length c.digest-digest.result ≡ 32 = search rules in
-    let long : length c.pad.new.octets ≡ k - 1 - 19 - length c.digest-digest.result = search rules in
+    let long : length c.pad.new.octets ≡ k - 1 - 19 - length c.digest-digest.result =
+    search rules in
     let j : length c.pad.new.octets ≡ k - 52 = omega (arith, len, long) in
     let fill = padded-number k _ _ (c.set_octets.ensures ∙ ap (number 0) c.pad.ensures) j in
     room _ (k - 52) 1 _ (padded-below k _ fill (omega arith)) (omega arith)
@@ -19,7 +20,8 @@ pub push_octets-requires-2 : goal.push_octets-requires-2
 push_octets-requires-2 c =
     let k = c.args.k in
     let len : length c.digest-digest.result ≡ 32 = search rules in
-    let long : length c.pad.new.octets ≡ k - 1 - 19 - length c.digest-digest.result = search rules in
+    let long : length c.pad.new.octets ≡ k - 1 - 19 - length c.digest-digest.result =
+    search rules in
     let j : length c.pad.new.octets ≡ k - 52 = omega (arith, len, long) in
     let fill = padded-number k _ _ (c.set_octets.ensures ∙ ap (number 0) c.pad.ensures) j in
     let f = padded-below k _ fill (omega arith) in
@@ -30,7 +32,8 @@ pub push_octets-requires-3 : goal.push_octets-requires-3
 push_octets-requires-3 c =
     let k = c.args.k in
     let len : length c.digest-digest.result ≡ 32 = search rules in
-    let long : length c.pad.new.octets ≡ k - 1 - 19 - length c.digest-digest.result = search rules in
+    let long : length c.pad.new.octets ≡ k - 1 - 19 - length c.digest-digest.result =
+    search rules in
     let j : length c.pad.new.octets ≡ k - 52 = omega (arith, len, long) in
     let fill = padded-number k _ _ (c.set_octets.ensures ∙ ap (number 0) c.pad.ensures) j in
     let f = padded-below k _ fill (omega arith) in
@@ -42,7 +45,8 @@ pub returns : goal.returns
 returns c =
     let k = c.args.k in
     let len : length c.digest-digest.result ≡ 32 = search rules in
-    let long : length c.pad.new.octets ≡ k - 1 - 19 - length c.digest-digest.result = search rules in
+    let long : length c.pad.new.octets ≡ k - 1 - 19 - length c.digest-digest.result =
+    search rules in
     let j : length c.pad.new.octets ≡ k - 52 = omega (arith, len, long) in
     let fill = padded-number k _ _ (c.set_octets.ensures ∙ ap (number 0) c.pad.ensures) j in
     encoded-number k c.args.message.now (number 0 (0 ∷ 1 ∷ [])) _ _ _ _ refl fill

@@ -45,65 +45,66 @@ ended = F.ended
 abbrev stayed : Stays ended.signature.params ended.kept
 stayed = (stay_dropped (SliceRefOf [] tt (plain (λ _. u8)) (λ _. tt)) yes, tt)
 
-module _ {M : Type 1} {𝓤 : Ura M} (𝓛 : Logic 𝓤) (at_mem : Memory → SProp 𝓤) (run : Routine → Fun 𝓤) where
-  open 𝓛 use {H}
+module _ {M : Type 1} {𝓤 : Ura M} (𝓛 : Logic 𝓤) (at_mem : Memory → SProp 𝓤) (run : Routine → Fun 𝓤)
+  where
+    open 𝓛 use {H}
 
-  abbrev held : Clauses 𝓤 ended
-  held = F.clauses 𝓛 at_mem run
+    abbrev held : Clauses 𝓤 ended
+    held = F.clauses 𝓛 at_mem run
 
-  module _ (C : Calls 𝓤 H) (Λ : Loops 𝓤 H) (z : (walk_of 𝓛 ended stayed held).Ghost) where
-    abbrev Post : Val → SProp 𝓤
-    Post = (walk_of 𝓛 ended stayed held).post z
+    module _ (C : Calls 𝓤 H) (Λ : Loops 𝓤 H) (z : (walk_of 𝓛 ended stayed held).Ghost) where
+      abbrev Post : Val → SProp 𝓤
+      Post = (walk_of 𝓛 ended stayed held).post z
 
-    abbrev toks : SProp 𝓤
-    toks = alive 𝓛 ended.signature z.0.0 z.0.1
+      abbrev toks : SProp 𝓤
+      toks = alive 𝓛 ended.signature z.0.0 z.0.1
 
-    walks : ent 𝓤 ((walk_of 𝓛 ended stayed held).pre z) (WpFn 𝓤 H C Λ function ((walk_of 𝓛 ended
-        stayed held).args z) Post)
-    walks =
-        let a = z.0.3 in
-        let vss = z.0.4 in
-        let xs = a.0.now in
-        let b = a.0.ref_ptr.0 in
-        let o = a.0.ref_ptr.1 in
-        qed 𝓛 ((raw toks ⊛ ‵ (owns (types_at ended.signature.params z.0.0) a vss)) ∷ raw ((held
-        z.0.0 a).requires z.1) ∷ []) ∵
-        keep ! (0 ∷ []) $ split ! $ move ! (1 ∷ []) $ fsplit ! $ fsplit ! $ fsplit ! $
-        feq_l ! (λ is. fsplit ! $ flt_l ! (λ count. flt_l ! (λ size. unhide ! $ move ! (1 ∷ []) $
-        drop ! $
-        let seen : (Seen.the_row).Denot = record {
-          ptr = block_ptr b o;
-          items = xs;
-          placed =
-              (refl, omega arith);
-        } in
-        regoal ! (λ (us : List Val). prop (WpFn 𝓤 H C Λ function (us ++ []) Post)) is refl $
-        enter ! C Λ function (slice_val (b, o) (length xs) ∷ []) Post $
-        alloc_all ! (λ l. pass_all ! refl ((tt, (tt, (record { fits = count }, tt))), tt) $
-        sets ! (addr ! (from ! (fld ! refl (hop ! (look_in_at ! 1 (sub ! 0 refl (whole !))) (stop
-        !))))) refl (tt, tt) $
-        sets ! (agg ! (no_more !)) refl (tt, tt) $
-        sets ! (agg ! (and_then ! (get ! refl) (and_then ! (get ! refl) (no_more !)))) refl (
+      walks : ent 𝓤 ((walk_of 𝓛 ended stayed held).pre z) (WpFn 𝓤 H C Λ function ((walk_of 𝓛 ended
+          stayed held).args z) Post)
+      walks =
+          let a = z.0.3 in
+          let vss = z.0.4 in
+          let xs = a.0.now in
+          let b = a.0.ref_ptr.0 in
+          let o = a.0.ref_ptr.1 in
+          qed 𝓛 ((raw toks ⊛ ‵ (owns (types_at ended.signature.params z.0.0) a vss)) ∷ raw ((held
+          z.0.0 a).requires z.1) ∷ []) ∵
+          keep ! (0 ∷ []) $ split ! $ move ! (1 ∷ []) $ fsplit ! $ fsplit ! $ fsplit ! $
+          feq_l ! (λ is. fsplit ! $ flt_l ! (λ count. flt_l ! (λ size. unhide ! $ move ! (1 ∷ []) $
+          drop ! $
+          let seen : (Seen.the_row).Denot = record {
+            ptr = block_ptr b o;
+            items = xs;
+            placed =
+                (refl, omega arith);
+          } in
+          regoal ! (λ (us : List Val). prop (WpFn 𝓤 H C Λ function (us ++ []) Post)) is refl $
+          enter ! C Λ function (slice_val (b, o) (length xs) ∷ []) Post $
+          alloc_all ! (λ l. pass_all ! refl ((tt, (tt, (record { fits = count }, tt))), tt) $
+          sets ! (addr ! (from ! (fld ! refl (hop ! (look_in_at ! 1 (sub ! 0 refl (whole !))) (stop
+          !))))) refl (tt, tt) $
+          sets ! (agg ! (no_more !)) refl (tt, tt) $
+          sets ! (agg ! (and_then ! (get ! refl) (and_then ! (get ! refl) (no_more !)))) refl (
+            tt,
+            (tt, (tt, tt)),
+          ) $
+          none_made ! $ fjoin ! $
+          feq_i ! (List Val) (vptr b o ∷ []) (vptr b o ∷ []) refl $
+          two_made ! RawPtr Seen.the_row (block_ptr b o) seen (vptr b o) none $
+          returns ! (look_at ! 0 refl) $ free_all ! refl $
+          suffices ! _ (ends_at 𝓛 ended stayed held z (two (vptr b o) none) (block_ptr b o, seen)
+          (tt, tt) (tt, tt)) $ says ! (refl, refl) $
+          nothing ! $ nothing ! $ fjoin ! $ move ! (2 ∷ 0 ∷ 1 ∷ []) $ done !))))
+
+    meets : (𝓣 : Tables 𝓤 H) → Meets 𝓛 ended.signature (WpFn 𝓤 H 𝓣.C 𝓣.Λ function) (closing 𝓛 ended
+        held)
+    meets 𝓣 =
+        walk_Meets 𝓛 ended stayed (
+          Goes-dropped 𝓛 0 (SliceRefOf [] tt (plain (λ _. u8)) (λ _. tt))
+              yes (λ κs x f. refl),
           tt,
-          (tt, (tt, tt)),
-        ) $
-        none_made ! $ fjoin ! $
-        feq_i ! (List Val) (vptr b o ∷ []) (vptr b o ∷ []) refl $
-        two_made ! RawPtr Seen.the_row (block_ptr b o) seen (vptr b o) none $
-        returns ! (look_at ! 0 refl) $ free_all ! refl $
-        suffices ! _ (ends_at 𝓛 ended stayed held z (two (vptr b o) none) (block_ptr b o, seen)
-        (tt, tt) (tt, tt)) $ says ! (refl, refl) $
-        nothing ! $ nothing ! $ fjoin ! $ move ! (2 ∷ 0 ∷ 1 ∷ []) $ done !))))
-
-  meets : (𝓣 : Tables 𝓤 H) → Meets 𝓛 ended.signature (WpFn 𝓤 H 𝓣.C 𝓣.Λ function) (closing 𝓛 ended
-      held)
-  meets 𝓣 =
-      walk_Meets 𝓛 ended stayed (
-        Goes-dropped 𝓛 0 (SliceRefOf [] tt (plain (λ _. u8)) (λ _. tt))
-            yes (λ κs x f. refl),
-        tt,
-      ) held
-      (WpFn 𝓤 H 𝓣.C 𝓣.Λ function) (WpFn-mono 𝓤 H 𝓛.laws 𝓣 function) (walks 𝓣.C 𝓣.Λ)
+        ) held
+        (WpFn 𝓤 H 𝓣.C 𝓣.Λ function) (WpFn-mono 𝓤 H 𝓛.laws 𝓣 function) (walks 𝓣.C 𝓣.Λ)
 
 pub forever_spec : {M : Type 1} → stated.statement M
 unfolding tables_of

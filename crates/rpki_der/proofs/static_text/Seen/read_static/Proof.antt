@@ -52,95 +52,96 @@ stayed = (
   (stay_dropped (plain (λ _. RawPtr)) yes, (stay_dropped (plain (λ _. usize)) yes, tt)),
 )
 
-module _ {M : Type 1} {𝓤 : Ura M} (𝓛 : Logic 𝓤) (at_mem : Memory → SProp 𝓤) (run : Routine → Fun 𝓤) where
-  open 𝓛 use {H}
+module _ {M : Type 1} {𝓤 : Ura M} (𝓛 : Logic 𝓤) (at_mem : Memory → SProp 𝓤) (run : Routine → Fun 𝓤)
+  where
+    open 𝓛 use {H}
 
-  abbrev held : Clauses 𝓤 ended
-  held = F.clauses 𝓛 at_mem run
+    abbrev held : Clauses 𝓤 ended
+    held = F.clauses 𝓛 at_mem run
 
-  module _ (C : Calls 𝓤 H) (Λ : Loops 𝓤 H) (z : (walk_of 𝓛 ended stayed held).Ghost) where
-    abbrev Post : Val → SProp 𝓤
-    Post = (walk_of 𝓛 ended stayed held).post z
+    module _ (C : Calls 𝓤 H) (Λ : Loops 𝓤 H) (z : (walk_of 𝓛 ended stayed held).Ghost) where
+      abbrev Post : Val → SProp 𝓤
+      Post = (walk_of 𝓛 ended stayed held).post z
 
-    abbrev toks : SProp 𝓤
-    toks = alive 𝓛 ended.signature z.0.0 z.0.1
+      abbrev toks : SProp 𝓤
+      toks = alive 𝓛 ended.signature z.0.0 z.0.1
 
-    walks : ent 𝓤 ((walk_of 𝓛 ended stayed held).pre z) (WpFn 𝓤 H C Λ function ((walk_of 𝓛 ended
-        stayed held).args z) Post)
-    walks =
-        let a = z.0.3 in
-        let vss = z.0.4 in
-        let s = a.0.now in
-        let p = a.1.0 in
-        let n = a.1.1.0 in
-        let κ : Lft = z.0.0.0 in
-        let b = block_of s.ptr in
-        let o = count_of s.ptr in
-        let ys = s.items in
-        let Asked = (s.ptr ≡ p) × (n ≡ length s.items) in
-        qed 𝓛 ((raw toks ⊛ ‵ (owns (types_at ended.signature.params z.0.0) a vss)) ∷ raw (fact 𝓤
-        Asked) ∷ []) ∵
-        move ! (1 ∷ []) $ heard ! Asked (λ asked. split ! $ move ! (1 ∷ []) $
-        let at : p ≡ block_ptr b o = sym asked.0 ∙ s.placed.0 in
-        let long : length ys ≡ n = sym asked.1 in
-        fsplit ! $ fsplit ! $ feq_l ! (λ is₀. unhide ! $ fsplit ! $ drop ! $ move ! (1 ∷ []) $
-        fsplit ! $ feq_l ! (λ is₁. fsplit ! $ fsplit ! $ feq_l ! (λ is₂. flt_l ! (λ fits. drop ! $
-        use1 𝓛 (‵ (elements_shared u8 s.items b (count_of s.ptr) κ)) (shortens 𝓛 (elements_shared
-        u8 s.items b (count_of s.ptr)) (elements_shr_laws u8 (uint_row_laws w8) s.items b
-        (count_of s.ptr)) [] κ (⊑_static κ)) $
-        regoal ! (λ (us : List Val). prop (WpFn 𝓤 H C Λ function (us ++ (vss.1.0 ++ (vss.1.1.0 ++
-        []))) Post)) is₀ refl $
-        regoal ! (λ (us : List Val). prop (WpFn 𝓤 H C Λ function ((vptr a.0.ref_ptr.0
-        a.0.ref_ptr.1 ∷ []) ++ (us ++ (vss.1.1.0 ++ []))) Post)) (is₁ ∙ ap (λ r. ptr_val r ∷ [])
-        at) refl $
-        regoal ! (λ (us : List Val). prop (WpFn 𝓤 H C Λ function ((vptr a.0.ref_ptr.0
-        a.0.ref_ptr.1 ∷ []) ++ ((vptr b o ∷ []) ++ (us ++ []))) Post)) is₂ refl $
-        enter ! C Λ function (vptr a.0.ref_ptr.0 a.0.ref_ptr.1 ∷ vptr b o ∷ vint w64 n ∷ []) Post
-        $ alloc_all ! (λ l. pass_all ! refl (
-          (tt, tt),
-          (
+      walks : ent 𝓤 ((walk_of 𝓛 ended stayed held).pre z) (WpFn 𝓤 H C Λ function ((walk_of 𝓛 ended
+          stayed held).args z) Post)
+      walks =
+          let a = z.0.3 in
+          let vss = z.0.4 in
+          let s = a.0.now in
+          let p = a.1.0 in
+          let n = a.1.1.0 in
+          let κ : Lft = z.0.0.0 in
+          let b = block_of s.ptr in
+          let o = count_of s.ptr in
+          let ys = s.items in
+          let Asked = (s.ptr ≡ p) × (n ≡ length s.items) in
+          qed 𝓛 ((raw toks ⊛ ‵ (owns (types_at ended.signature.params z.0.0) a vss)) ∷ raw (fact 𝓤
+          Asked) ∷ []) ∵
+          move ! (1 ∷ []) $ heard ! Asked (λ asked. split ! $ move ! (1 ∷ []) $
+          let at : p ≡ block_ptr b o = sym asked.0 ∙ s.placed.0 in
+          let long : length ys ≡ n = sym asked.1 in
+          fsplit ! $ fsplit ! $ feq_l ! (λ is₀. unhide ! $ fsplit ! $ drop ! $ move ! (1 ∷ []) $
+          fsplit ! $ feq_l ! (λ is₁. fsplit ! $ fsplit ! $ feq_l ! (λ is₂. flt_l ! (λ fits. drop ! $
+          use1 𝓛 (‵ (elements_shared u8 s.items b (count_of s.ptr) κ)) (shortens 𝓛 (elements_shared
+          u8 s.items b (count_of s.ptr)) (elements_shr_laws u8 (uint_row_laws w8) s.items b
+          (count_of s.ptr)) [] κ (⊑_static κ)) $
+          regoal ! (λ (us : List Val). prop (WpFn 𝓤 H C Λ function (us ++ (vss.1.0 ++ (vss.1.1.0 ++
+          []))) Post)) is₀ refl $
+          regoal ! (λ (us : List Val). prop (WpFn 𝓤 H C Λ function ((vptr a.0.ref_ptr.0
+          a.0.ref_ptr.1 ∷ []) ++ (us ++ (vss.1.1.0 ++ []))) Post)) (is₁ ∙ ap (λ r. ptr_val r ∷ [])
+          at) refl $
+          regoal ! (λ (us : List Val). prop (WpFn 𝓤 H C Λ function ((vptr a.0.ref_ptr.0
+          a.0.ref_ptr.1 ∷ []) ++ ((vptr b o ∷ []) ++ (us ++ []))) Post)) is₂ refl $
+          enter ! C Λ function (vptr a.0.ref_ptr.0 a.0.ref_ptr.1 ∷ vptr b o ∷ vint w64 n ∷ []) Post
+          $ alloc_all ! (λ l. pass_all ! refl (
             (tt, tt),
             (
-              (tt, record { fits = fits }),
-              tt,
+              (tt, tt),
+              (
+                (tt, record { fits = fits }),
+                tt,
+              ),
             ),
-          ),
-        ) $
-        first ! $ blocks ! $
-        sets_last ! (agg ! (and_then ! (get ! refl) (and_then ! (get ! refl) (no_more !)))) refl
-        (tt, (tt, (record { fits = fits }, tt))) $
-        exec ! C Λ (env function.locals l) (seq (assign (place 0 []) (rv_opd (copy (place 4
-        [])))) return) (at_ret (env function.locals l) Post) $
-        sets ! (of_opd ! (get ! refl)) refl (tt, (tt, (record { fits = fits }, tt))) $
-        hide ! $
-        flt_i ! (length ys * 1) (2 ^ 63) (omega (arith, s.placed.1)) $
-        flt_i ! (length ys) (2 ^ 64) (omega arith) $ fjoin ! $
-        feq_i ! (List Val) (slice_val (b, o) n ∷ []) (slice_val (b, o) (length ys) ∷ []) (ap (λ
-        k. slice_val (b, o) k ∷ []) (sym long)) $ fjoin ! $ fjoin ! $
-        returns ! (look_at ! 0 refl) $ free_all ! refl $
-        suffices ! _ (ends_at 𝓛 ended stayed held z (slice_val (b, o) n) (record {
-          ref_ptr = (
-            b,
-            o,
-          );
-          now = ys;
-        }) (tt, (tt, (tt, tt))) (tt, (tt, (tt, tt)))) $ says ! refl $
-        nothing ! $ nothing ! $ fjoin ! $ nothing ! $ fjoin ! $ nothing ! $ fjoin ! $
-        move ! (2 ∷ 0 ∷ 1 ∷ []) $ done !))))))
+          ) $
+          first ! $ blocks ! $
+          sets_last ! (agg ! (and_then ! (get ! refl) (and_then ! (get ! refl) (no_more !)))) refl
+          (tt, (tt, (record { fits = fits }, tt))) $
+          exec ! C Λ (env function.locals l) (seq (assign (place 0 []) (rv_opd (copy (place 4
+          [])))) return) (at_ret (env function.locals l) Post) $
+          sets ! (of_opd ! (get ! refl)) refl (tt, (tt, (record { fits = fits }, tt))) $
+          hide ! $
+          flt_i ! (length ys * 1) (2 ^ 63) (omega (arith, s.placed.1)) $
+          flt_i ! (length ys) (2 ^ 64) (omega arith) $ fjoin ! $
+          feq_i ! (List Val) (slice_val (b, o) n ∷ []) (slice_val (b, o) (length ys) ∷ []) (ap (λ
+          k. slice_val (b, o) k ∷ []) (sym long)) $ fjoin ! $ fjoin ! $
+          returns ! (look_at ! 0 refl) $ free_all ! refl $
+          suffices ! _ (ends_at 𝓛 ended stayed held z (slice_val (b, o) n) (record {
+            ref_ptr = (
+              b,
+              o,
+            );
+            now = ys;
+          }) (tt, (tt, (tt, tt))) (tt, (tt, (tt, tt)))) $ says ! refl $
+          nothing ! $ nothing ! $ fjoin ! $ nothing ! $ fjoin ! $ nothing ! $ fjoin ! $
+          move ! (2 ∷ 0 ∷ 1 ∷ []) $ done !))))))
 
-  meets : (𝓣 : Tables 𝓤 H) → Meets 𝓛 ended.signature (WpFn 𝓤 H 𝓣.C 𝓣.Λ function) (closing 𝓛 ended
-      held)
-  meets 𝓣 =
-      walk_Meets 𝓛 ended stayed (
-        Goes-dropped 𝓛 1 (RefOf (0 ∷ []) tt (plain (λ _. Seen.the_row))
-            (λ _. tt)) yes (λ κs x f. refl),
-        (
-          Goes-dropped 𝓛 1 (plain (λ _. RawPtr)) yes (λ κs x f.
-              refl),
-          (Goes-dropped 𝓛 1 (plain (λ _. usize)) yes (λ κs x f. refl), tt),
-        ),
-      ) held
-      (WpFn 𝓤 H 𝓣.C 𝓣.Λ function) (WpFn-mono 𝓤 H 𝓛.laws 𝓣 function) (walks 𝓣.C 𝓣.Λ)
+    meets : (𝓣 : Tables 𝓤 H) → Meets 𝓛 ended.signature (WpFn 𝓤 H 𝓣.C 𝓣.Λ function) (closing 𝓛 ended
+        held)
+    meets 𝓣 =
+        walk_Meets 𝓛 ended stayed (
+          Goes-dropped 𝓛 1 (RefOf (0 ∷ []) tt (plain (λ _. Seen.the_row))
+              (λ _. tt)) yes (λ κs x f. refl),
+          (
+            Goes-dropped 𝓛 1 (plain (λ _. RawPtr)) yes (λ κs x f.
+                refl),
+            (Goes-dropped 𝓛 1 (plain (λ _. usize)) yes (λ κs x f. refl), tt),
+          ),
+        ) held
+        (WpFn 𝓤 H 𝓣.C 𝓣.Λ function) (WpFn-mono 𝓤 H 𝓛.laws 𝓣 function) (walks 𝓣.C 𝓣.Λ)
 
 pub read_static_spec : {M : Type 1} → stated.statement M
 unfolding tables_of
