@@ -360,18 +360,34 @@ def formula(text):
     return text.replace("|", "\\|")
 
 
+def held(specs, row):
+    """What has to hold, with a link to its definition, and the definition that lists the check."""
+    if row.fault is None:
+        return row.listed.link()
+    shown = f"`{formula(row.holds)}`"
+    if made := specs.find(row.listed.file, (words(row.holds) or [""])[0]):
+        shown = f"[{shown}](../crates/{made.file.crate}/specs/{made.file.module}.antt)"
+    return f"{shown}, listed by {row.listed.link()}"
+
+
+def told(specs, row, rows):
+    """When the check fails. Where the same fault is listed again, its list says of what it is."""
+    if row.fault is None:
+        return ASKED
+    where = phrase(specs.docs[row.fault[1]])
+    if sum(other.fault == row.fault for other in rows) > 1 and row.alone and not row.each:
+        comment = phrase(row.listed.comment)
+        where += ": " + comment[0].lower() + comment[1:]
+    return where + "; each is looked at, in their order" * row.each
+
+
 def table_of(specs, rows):
     """The table of checks."""
     lines = ["| | printed | when | standard | has to hold |", "|---|---|---|---|---|"]
     for number, row in enumerate(rows, 1):
-        if row.fault is None:
-            text, where = CALLER, ASKED
-            holds = row.listed.link()
-        else:
-            text, where = f"`{specs.text(row.fault)}`", phrase(specs.docs[row.fault[1]])
-            holds = f"`{formula(row.holds)}`, {row.listed.link()}"
-        where += "; each is looked at, in their order" if row.each else ""
-        lines.append(f"| {number} | {text} | {where} | {specs.standard(row)} | {holds} |")
+        text = f"`{specs.text(row.fault)}`" if row.fault else CALLER
+        cells = [str(number), text, told(specs, row, rows), specs.standard(row), held(specs, row)]
+        lines.append("| " + " | ".join(cells) + " |")
     return lines
 
 
