@@ -52,8 +52,9 @@ pub data Task : Type 1 where
   CheckFiles : (files : List (List ℕ)) (answers : List (List ℕ) → Output → Type 0) → Task
 
 -- What each command of the program with verdicts comes to with these options, where the causes of
--- refusals are told, or not: the table of its commands. A locator is a text, of which no option
--- speaks. Where a command is not built, the usage is said.
+-- refusals of what is shown are told, or not: the table of its commands. A check and a locator
+-- tell none, and a locator is a text, of which no option speaks. Where a command is not built, the
+-- usage is said.
 abbrev pub command_task : Causes → Options → Command → Task
 command_task causes options (Content kind file) = ShowLines causes file (LinesOf options kind)
 command_task causes options (Show kind file) = ShowLines causes file (ObjectLinesOf options kind)

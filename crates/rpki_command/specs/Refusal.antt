@@ -11,7 +11,7 @@ use Rattle.rpki_command.specs.declared.contents.Causes.{Causes}
 use Rattle.rpki_command.specs.declared.contents.Causes.TheVariants.{Omitted, Included}
 
 -- What may be said of octets that are not, or do not begin with, what was asked for: that they are
--- malformed, alone, or where causes are said, for the cause that a refusal has as its text.
+-- malformed, alone, or where causes are said, for some cause.
 abbrev pub IsMalformed : Causes → Output → Type 0
 IsMalformed Omitted s = s ≡ malformed
 IsMalformed Included s =

@@ -17,7 +17,8 @@ pub const NO_PROVIDERS: &str = "there is no provider AS number";
 /// An ASPA names more providers than the limit in use, which is this project's own rule.
 pub const TOO_MANY_PROVIDERS: &str = "too many provider AS numbers";
 
-/// The providers of an ASPA don't stand in ascending order (draft-ietf-sidrops-aspa-profile-15, section 3).
+/// The providers of an ASPA don't stand in ascending order (draft-ietf-sidrops-aspa-profile-15,
+/// section 3).
 pub const PROVIDERS_NOT_ASCENDING: &str = "provider AS numbers are not in ascending order";
 
 /// The customer of an ASPA is one of its providers (draft-ietf-sidrops-aspa-profile-15, section 3).

@@ -28,7 +28,7 @@ RepeatsYes Says a (Err (Validation fault)) = (fault ≡ Memory) ⊎ Says a.0.cer
 -- A yes of a check by the narrow form is a yes by the wide one, under the same issuer, at the same
 -- moment, with the same certificate and the same content, by each definition of what a check
 -- answers (first, exact). Whatever a check by the wide form answers there, repeats it (again); and
--- who may ask the caller in the one, may in the other (asks).
+-- there, who may ask the caller by the narrow form, may ask by the wide one (asks).
 pub record KeepsYes {X : Type 0} (kind : ObjectKind X) (narrow wide : List ℕ → X → Type 0)
     (Says : KeptCertificate → Result (Unit {0}) ValidationError → Type 0)
     (Takes : KeptCertificate → Type 0) : Type 0 where

@@ -31,7 +31,7 @@ use std::fmt;
 /// Why octets are not a good object.
 #[derive(Debug, Drop)]
 pub enum CheckError {
-    /// They don't begin with an object of the kind.
+    /// They don't begin with an object of the kind, or memory ran out.
     Decode(DecodeError),
     /// They begin with one, and a check of it fails.
     Validation(ValidationError),

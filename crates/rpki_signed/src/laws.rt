@@ -46,7 +46,7 @@ pub fn octets_after_an_object_are_left()
 {}
 
 /// What is a manifest where types have to be registered and no name may come twice, is the same
-/// manifest where neither is asked for (RFC 9286, section 4.2.2); what is an ASPA of the narrow
+/// manifest where neither is asked for (RFC 9286, sections 4.2.1 and 4.2.2); what is an ASPA of the narrow
 /// limit, which is no standard's, is the same ASPA of the wide one.
 pub fn narrow_objects_are_wide()
     ensures manifests { (mode : Mode) (octets : List ℕ) (o : Whole Manifest)
@@ -58,9 +58,10 @@ pub fn narrow_objects_are_wide()
 {}
 
 /// Where `check::manifest` says yes by the rule that asks for registered types and no name twice,
-/// that yes is right by the rule that asks for neither too (RFC 9286, section 4.2.2), with the same
-/// certificate and content; and a check by that rule says it, unless memory runs out or `check_crl`
-/// now answers a fault. So it is with `check::aspa`, by the narrow limit and by the wide one.
+/// that yes is right by the rule that asks for neither too (RFC 9286, sections 4.2.1 and 4.2.2),
+/// with the same certificate and content; and a check by that rule says it, unless memory runs out
+/// or `check_crl` now answers a fault. So it is with `check::aspa`, by the narrow limit and by the
+/// wide one.
 pub fn narrow_checks_are_wide<F: FnOnce(&Cert) -> Result<(), ValidationError>>(check_crl: &F)
     ensures manifests { KeepsYes manifest_kind (ManifestForm Registered Der)
         (ManifestForm Any Der) (FnOnceReturnsAt F.FnOnce check_crl.now)

@@ -24,7 +24,8 @@ abbrev pub checklist_sets : Checklist → Sets
 checklist_sets l = record { as_numbers = l.as_resources; v4 = l.v4_resources; v6 = l.v6_resources }
 
 -- The certificate claims the numbers of the checklist, family by family (5). Where it inherits a
--- family, any numbers of it pass here: which of them it has is checked once it was validated.
+-- family, any numbers of it pass here: which of them it has is checked once it was validated. That
+-- it may inherit, against section 5, is this project's own rule.
 abbrev pub checklist_claimed : Checklist → Claims → List (Check InspectionError)
 checklist_claimed l x =
     (NotCovered As unless IsCoveredBy (λ n. n) x.as_numbers l.as_resources)

@@ -8,7 +8,8 @@ abbrev pub ct_manifest : List ℕ
 ct_manifest = 0x2A ∷ 0x86 ∷ 0x48 ∷ 0x86 ∷ 0xF7 ∷ 0x0D ∷ 0x01 ∷ 0x09 ∷ 0x10 ∷ 0x01 ∷ 0x1A ∷ []
 
 -- A manifest is published, and claims no numbers. That section 5.1 asks its certificate to inherit
--- them is left to those who sign, by this project's own rule.
+-- them is left to those who sign, and that it is current (6.3) to those who rely on it, by this
+-- project's own rule.
 abbrev pub manifest_kind : ObjectKind Manifest
 manifest_kind = record {
   type = ct_manifest;
