@@ -1,0 +1,15 @@
+//! Certificates of resources that are made and signed (RFC 5280; RFC 6487).
+#![tactic(auto)]
+
+mod access;
+mod claims;
+mod extension;
+mod extensions;
+mod identifiers;
+pub mod laws;
+pub mod resources;
+pub mod signing;
+mod tbs;
+mod writable;
+
+pub use tbs::TbsCert;
