@@ -57,7 +57,8 @@ impl<F, H> FileNameAndHash<F, H> {
 }
 
 impl<F: Clone, H: Clone> FileNameAndHash<F, H> {
-    /// The same entry again, where what its parts are cloned to is the same as they.
+    /// The same entry again, where what its parts are cloned to is the same as they. Refuses where
+    /// there is no memory for a copy of a part.
     pub fn clone(&self) -> Result<FileNameAndHash<F, H>, AllocError>
         requires name { IfSome self.now.file_name
             (λ name. (copy : F) → F.is_clone name copy → copy ≡ name) }

@@ -83,7 +83,9 @@ impl ResourceSignedChecklist {
         read_front(alloc, source)
     }
 
-    /// Reads a content in the mode of the reader; its files stand in DER.
+    /// Reads a content in the mode of the reader (RFC 9323, section 4); its files stand in DER.
+    /// Refuses what is no such content by `Malformed`, or by a rule of its format that it breaks
+    /// (`faults`), and by `Memory`.
     pub fn take_from(
         alloc: Global,
         cons: &mut Constructed<'_>,

@@ -51,7 +51,8 @@ impl<F, H> FileAndHash<F, H> {
 }
 
 impl<F: Clone, H: Clone> FileAndHash<F, H> {
-    /// The same entry again, where what its parts are cloned to is the same as they.
+    /// The same entry again, where what its parts are cloned to is the same as they. Refuses where
+    /// there is no memory for a copy of a part.
     pub fn clone(&self) -> Result<FileAndHash<F, H>, AllocError>
         requires file { (copy : F) → F.is_clone self.now.file copy → copy ≡ self.now.file }
         requires hash { (copy : H) → H.is_clone self.now.hash copy → copy ≡ self.now.hash }
@@ -83,7 +84,8 @@ impl<F: AsOctets, H: AsOctets> FileAndHash<F, H> {
 
 impl FileAndHash<Bytes, Bytes> {
     /// Whether octets are the name of a file in a manifest: one or more letters, digits, `-` and
-    /// `_`, a dot and three letters (RFC 9286, section 4.2.2).
+    /// `_`, a dot and three letters (RFC 9286, section 4.2.2). Refuses any others by a text that says
+    /// so.
     pub fn validate_file_name(name: &[u8]) -> Result<(), &'static str>
         ensures { MatchResult result (λ _. IsFileName name.now) (λ _. IsFileName name.now → ⊥) }
     {

@@ -87,7 +87,9 @@ impl ManifestContent {
         read_front(alloc, source, rule)
     }
 
-    /// Reads a content in the mode of the reader; its files stand in DER.
+    /// Reads a content in the mode of the reader (RFC 9286, section 4.2); its files stand in DER.
+    /// Refuses what is no such content by `Malformed`, or by a rule of its format that it breaks
+    /// (`faults`), and by `Memory`.
     pub fn take_from(
         alloc: Global,
         cons: &mut Constructed<'_>,

@@ -17,8 +17,8 @@ pub fn canonical_sets(list: &ResourceSignedChecklist)
     let _ = list.v6_resources().as_slice();
 }
 
-/// Inspects whether a certificate claims the numbers of a checklist: AS numbers first, then IPv4,
-/// then IPv6.
+/// Inspects whether a certificate claims the numbers of a checklist (RFC 9323, section 5): AS
+/// numbers first, then IPv4, then IPv6. Refuses by `NotCovered` of the first family that it does not.
 pub fn inspect_claims(list: &ResourceSignedChecklist, cert: &Cert) -> Result<(), InspectionError>
     ensures { AnswersFirstFault
         (checklist_claimed list.now cert.now.certificate.tbs.extensions.claims) result }
@@ -47,7 +47,8 @@ pub fn inspect_claims(list: &ResourceSignedChecklist, cert: &Cert) -> Result<(),
     Ok(())
 }
 
-/// Verifies that a validated certificate has the numbers of a checklist.
+/// Verifies that a validated certificate has the numbers of a checklist (RFC 9323, section 5).
+/// Refuses by `ChecklistNotHeld` where it does not.
 pub fn verify_numbers(
     list: &ResourceSignedChecklist,
     cert: &ResourceCert,
