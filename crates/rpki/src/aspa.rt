@@ -2,7 +2,8 @@
 
 pub use rpki_basics::ProviderLimit;
 pub use rpki_routes::{
-    AsProviderAttestation, AsProviderAttestationEncoder, Aspa, ProviderAsIter, ProviderAsSet,
+    AddProviderError, AsProviderAttestation, AsProviderAttestationEncoder, Aspa, AspaBuilder,
+    DuplicateProviderAs, ProviderAsIter, ProviderAsSet,
 };
 
 /// What is wrong with an ASPA.
@@ -17,6 +18,6 @@ pub mod faults {
 pub mod laws {
     pub use rpki_routes::laws::{
         attestations_are_unique, attestations_are_written, covered_aspas, limits_are_nested,
-        octets_after_an_attestation_are_left,
+        octets_after_an_attestation_are_left, refused_attestations,
     };
 }

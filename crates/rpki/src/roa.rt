@@ -1,8 +1,9 @@
 //! Route Origin Authorizations.
 
 pub use rpki_routes::{
-    FriendlyRoaIpAddress, Roa, RoaAddrIter, RoaIpAddress, RoaIpAddressIter, RoaIpAddresses,
-    RoaOriginIter, RouteOrigin, RouteOriginAttestation, RouteOriginAttestationEncoder,
+    FriendlyRoaIpAddress, Roa, RoaAddrIter, RoaBuilder, RoaIpAddress, RoaIpAddressIter,
+    RoaIpAddresses, RoaIpAddressesBuilder, RoaIpAddressesEncoder, RoaOriginIter, RouteOrigin,
+    RouteOriginAttestation, RouteOriginAttestationEncoder,
 };
 
 /// What is wrong with a ROA.
@@ -13,6 +14,7 @@ pub mod faults {
 /// What the definitions of ROAs say.
 pub mod laws {
     pub use rpki_routes::laws::{
-        covered_roas, octets_after_a_roa_are_left, roas_are_unique, roas_are_written,
+        claims_of_addresses, covered_roas, octets_after_a_roa_are_left, refused_roas,
+        roas_are_unique, roas_are_written,
     };
 }

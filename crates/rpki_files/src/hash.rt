@@ -40,8 +40,8 @@ impl ManifestHash {
         ManifestHash { hash, algorithm }
     }
 
-    /// Whether it is the hash of these octets (RFC 9286, section 4.2.1). Refuses where their digest is
-    /// another one. It takes no memory.
+    /// Whether it is the hash of these octets (RFC 9286, section 4.2.1). Refuses where their digest
+    /// is another one. It takes no memory.
     pub fn verify<C: Crypto>(&self, crypto: &C, octets: &[u8]) -> Result<(), ManifestHashMismatch>
         ensures { MatchResult result (λ _. C.digest_of crypto.now octets.now ≡ self.now)
             (λ _. C.digest_of crypto.now octets.now ≡ self.now → ⊥) }

@@ -1,3 +1,4 @@
+pub mod Built
 pub mod Claims
 pub mod Exact
 pub mod Meaning

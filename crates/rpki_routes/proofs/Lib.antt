@@ -1,3 +1,5 @@
+pub mod Ascending
 pub mod Attestations
 pub mod Fronts
+pub mod Listed
 pub mod Origins

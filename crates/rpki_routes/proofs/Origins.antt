@@ -1,3 +1,4 @@
+pub mod Built
 pub mod Chains
 pub mod Exact
 pub mod Facts

@@ -1,5 +1,6 @@
 -- The content of an Autonomous System Provider Authorization (ASPA;
 -- draft-ietf-sidrops-aspa-profile-15, section 3).
+pub mod Built
 pub mod Checks
 pub mod Form
 pub mod Read

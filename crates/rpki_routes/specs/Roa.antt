@@ -1,6 +1,8 @@
 -- The content of a Route Origin Authorization (ROA). The sections are those of RFC 9582.
+pub mod Built
 pub mod Checks
 pub mod Form
+pub mod Lent
 pub mod Read
 pub mod Written
 use Rattle.std.specs.Prelude.{◌≡◌, ℕ, ◌-◌, ◌%◌, ◌^◌, ◌<◌, ◌≤◌, List, ◌++◌, All, Option, IfSome, map}

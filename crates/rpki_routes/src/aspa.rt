@@ -1,6 +1,7 @@
 //! Contents of Autonomous System Provider Authorizations (ASPAs;
 //! draft-ietf-sidrops-aspa-profile-15, section 3).
 
+mod builder;
 mod checks;
 mod encoder;
 mod object;
@@ -20,6 +21,7 @@ ghost use Rattle.rpki_routes.specs.Aspa.Read.{fields_at};
 ghost use Rattle.rpki_routes.specs.Aspa.Written.{aspa_octets};
 
 use crate::faults;
+pub use builder::{AddProviderError, AspaBuilder, DuplicateProviderAs};
 use bytes::Bytes;
 pub use encoder::AsProviderAttestationEncoder;
 pub use object::Aspa;

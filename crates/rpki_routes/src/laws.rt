@@ -1,23 +1,31 @@
 //! What the definitions say, as functions that do nothing.
 
-ghost use Rattle.std.specs.Prelude.{◌↔◌, ◌≡◌, ◌++◌, ◌≤◌, ◌<◌, ◌^◌, ℕ, List, length};
+ghost use Rattle.std.specs.Prelude.{◌↔◌, ◌≡◌, ◌++◌, ◌≤◌, ◌<◌, ◌^◌, ℕ, List, All, length};
 ghost use Rattle.rpki_der.specs.declared.mode.Mode.TheVariants.{Der};
 ghost use Rattle.rpki_der.specs.Grammar.{Front, IsBytes, IsUnique};
 ghost use Rattle.rpki_der.specs.Form.After.{LeavesOctetsAfter};
+ghost use Rattle.rpki_basics.specs.declared.build.BuildFault.{BuildFault};
 ghost use Rattle.rpki_basics.specs.declared.limits.ProviderLimit.{ProviderLimit};
 ghost use Rattle.rpki_basics.specs.declared.limits.ProviderLimit.TheVariants.{Narrow, Wide};
 ghost use Rattle.rpki_basics.specs.Limits.{most_providers};
 ghost use Rattle.rpki_routes.specs.Aspa.{Aspa, IsAttestation};
+ghost use Rattle.rpki_routes.specs.Aspa.Built.{aspa_checks};
 ghost use Rattle.rpki_routes.specs.Aspa.Form.{AspaForm};
 ghost use Rattle.rpki_routes.specs.Aspa.Written.{aspa_octets};
-ghost use Rattle.rpki_routes.specs.Roa.{Roa, IsRoa};
+ghost use Rattle.rpki_resources.specs.declared.block.Block.{Block};
+ghost use Rattle.rpki_resources.specs.declared.family.AddressFamily.{AddressFamily};
+ghost use Rattle.rpki_resources.specs.declared.resources.Claim.{Claim};
+ghost use Rattle.rpki_resources.specs.Claim.{HasBlocks};
+ghost use Rattle.rpki_resources.specs.Family.{IsWithin};
+ghost use Rattle.rpki_routes.specs.Roa.{Address, Roa, IsAddress, IsRoa};
+ghost use Rattle.rpki_routes.specs.Roa.Built.{IsClaimOf, roa_checks};
 ghost use Rattle.rpki_routes.specs.Roa.Form.{RoaForm};
 ghost use Rattle.rpki_routes.specs.Roa.Written.{roa_contents, roa_octets};
-ghost use Rattle.rpki_faults.specs.Checks.{AllHold};
+ghost use Rattle.rpki_faults.specs.Checks.{AllHold, IsFirstFault};
 ghost use Rattle.rpki_extensions.specs.declared.claims.Claims.{Claims};
 ghost use Rattle.rpki_certs.specs.Validate.{Sets};
 ghost use Rattle.rpki_routes.specs.Aspa.Checks.{AspaCovered, aspa_held, aspa_claimed};
-ghost use Rattle.rpki_routes.specs.Roa.Checks.{RoaCovered, roa_held};
+ghost use Rattle.rpki_routes.specs.Roa.Checks.{HasPrefix, RoaCovered, roa_held};
 
 /// At most one beginning of given octets is an ASPA content, and it says one thing.
 pub fn attestations_are_unique()
@@ -50,6 +58,13 @@ pub fn limits_are_nested()
         → length a.providers ≤ most_providers Narrow → AspaForm Narrow octets a }
 {}
 
+/// What a builder of an ASPA refuses by a fault no content says, so that none is decoded as it.
+pub fn refused_attestations()
+    ensures { (limit : ProviderLimit) (a : Aspa) (fault : BuildFault)
+        → IsFirstFault (aspa_checks limit a) fault
+        → (octets : List ℕ) → AspaForm limit octets a → ⊥ }
+{}
+
 /// At most one beginning of given octets is a ROA content, and it says one thing.
 pub fn roas_are_unique()
     ensures { IsUnique RoaForm }
@@ -70,6 +85,23 @@ pub fn roas_are_written()
     ensures read { (r : Roa) (rest : List ℕ) → IsRoa r → length (roa_contents r) < 2 ^ 32
         → Front RoaForm (roa_octets r ++ rest) r rest }
     ensures found { (octets : List ℕ) (r : Roa) → IsBytes octets → RoaForm octets r → IsRoa r }
+{}
+
+/// What a builder of a ROA refuses by a fault no content says, so that none is decoded as it.
+pub fn refused_roas()
+    ensures { (r : Roa) (fault : BuildFault) → IsFirstFault (roa_checks r) fault
+        → (octets : List ℕ) → IsBytes octets → RoaForm octets r → ⊥ }
+{}
+
+/// What is claimed for addresses of a ROA has each of their prefixes; where they are addresses of a
+/// family, its blocks are too.
+pub fn claims_of_addresses()
+    ensures covered { (list : List Address) (claim : Claim (List (Block ℕ)))
+        (set : List (Block ℕ)) → IsClaimOf list claim → HasBlocks claim set
+        → All (HasPrefix set) list }
+    ensures within { (family : AddressFamily) (list : List Address)
+        (claim : Claim (List (Block ℕ))) (set : List (Block ℕ)) → All (IsAddress family) list
+        → IsClaimOf list claim → HasBlocks claim set → All (IsWithin family) set }
 {}
 
 /// A certificate passes the checks with a ROA exactly where it has the addresses of each prefix

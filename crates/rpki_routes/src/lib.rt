@@ -4,14 +4,17 @@
 #![tactic(auto)]
 
 mod aspa;
+mod entries;
 pub mod faults;
 pub mod laws;
 mod roa;
 
 pub use aspa::{
-    AsProviderAttestation, AsProviderAttestationEncoder, Aspa, ProviderAsIter, ProviderAsSet,
+    AddProviderError, AsProviderAttestation, AsProviderAttestationEncoder, Aspa, AspaBuilder,
+    DuplicateProviderAs, ProviderAsIter, ProviderAsSet,
 };
 pub use roa::{
-    FriendlyRoaIpAddress, Roa, RoaAddrIter, RoaIpAddress, RoaIpAddressIter, RoaIpAddresses,
-    RoaOriginIter, RouteOrigin, RouteOriginAttestation, RouteOriginAttestationEncoder,
+    FriendlyRoaIpAddress, Roa, RoaAddrIter, RoaBuilder, RoaIpAddress, RoaIpAddressIter,
+    RoaIpAddresses, RoaIpAddressesBuilder, RoaIpAddressesEncoder, RoaOriginIter, RouteOrigin,
+    RouteOriginAttestation, RouteOriginAttestationEncoder,
 };

@@ -3,6 +3,7 @@
 mod address;
 mod addresses;
 mod bits;
+mod builder;
 mod checks;
 mod encoder;
 mod iter;
@@ -20,6 +21,7 @@ ghost use Rattle.rpki_routes.specs.Roa.Written.{roa_contents, roa_octets};
 
 pub use address::{FriendlyRoaIpAddress, RoaIpAddress, RouteOrigin};
 pub use addresses::{RoaIpAddressIter, RoaIpAddresses};
+pub use builder::{RoaBuilder, RoaIpAddressesBuilder, RoaIpAddressesEncoder};
 use bytes::Bytes;
 pub use encoder::RouteOriginAttestationEncoder;
 pub use iter::{RoaAddrIter, RoaOriginIter};

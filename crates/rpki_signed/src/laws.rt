@@ -46,8 +46,8 @@ pub fn octets_after_an_object_are_left()
 {}
 
 /// What is a manifest where types have to be registered and no name may come twice, is the same
-/// manifest where neither is asked for (RFC 9286, sections 4.2.1 and 4.2.2); what is an ASPA of the narrow
-/// limit, which is no standard's, is the same ASPA of the wide one.
+/// manifest where neither is asked for (RFC 9286, sections 4.2.1 and 4.2.2); what is an ASPA of the
+/// narrow limit, which is no standard's, is the same ASPA of the wide one.
 pub fn narrow_objects_are_wide()
     ensures manifests { (mode : Mode) (octets : List ℕ) (o : Whole Manifest)
         → ObjectForm ct_manifest (ManifestForm Registered Der) mode octets o

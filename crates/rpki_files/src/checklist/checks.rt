@@ -18,7 +18,8 @@ pub fn canonical_sets(list: &ResourceSignedChecklist)
 }
 
 /// Inspects whether a certificate claims the numbers of a checklist (RFC 9323, section 5): AS
-/// numbers first, then IPv4, then IPv6. Refuses by `NotCovered` of the first family that it does not.
+/// numbers first, then IPv4, then IPv6. Refuses by `NotCovered` of the first family that it does
+/// not.
 pub fn inspect_claims(list: &ResourceSignedChecklist, cert: &Cert) -> Result<(), InspectionError>
     ensures { AnswersFirstFault
         (checklist_claimed list.now cert.now.certificate.tbs.extensions.claims) result }

@@ -32,7 +32,7 @@ pub most-wide : (limit : ProviderLimit) → most_providers limit ≤ 16380
 most-wide Narrow = omega arith
 most-wide Wide = omega arith
 
-length-providers_octets : (ps : List ℕ) → length (providers_octets ps) ≤ 11 * length ps
+pub length-providers_octets : (ps : List ℕ) → length (providers_octets ps) ≤ 11 * length ps
 length-providers_octets [] = omega arith
 length-providers_octets (p ∷ ps) =
     omega (

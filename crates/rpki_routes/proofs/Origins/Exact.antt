@@ -122,7 +122,7 @@ of-family family o a h f =
       f.longest,
     )
 
-of-either : (family : AddressFamily) (o : List ℕ) (a : Address) → AddressForm family o a
+pub of-either : (family : AddressFamily) (o : List ℕ) (a : Address) → AddressForm family o a
     → Plain Der o a × Fits family a
 of-either family o a h =
     let parts = h.0.2 in

@@ -52,7 +52,7 @@ max-short : (max : Option ℕ) → length (optional_octets number_octets max) �
 max-short None = omega arith
 max-short (Some m) = length-number_octets m
 
-address-short : (family : AddressFamily) (a : Address) → IsAddress family a
+pub address-short : (family : AddressFamily) (a : Address) → IsAddress family a
     → length (address_contents a) < 2 ^ 32
 address-short family a h =
     let few = end-short a.prefix.addr a.prefix.len
@@ -65,7 +65,7 @@ address-short family a h =
           (optional_octets number_octets a.max_length),
     )
 
-address-written : (family : AddressFamily) (a : Address) → IsAddress family a
+pub address-written : (family : AddressFamily) (a : Address) → IsAddress family a
     → AddressForm family (address_octets a) a
 address-written family a h =
     let prefix = end_octets a.prefix.addr a.prefix.len in
@@ -89,7 +89,7 @@ address-written family a h =
       h.longest,
     )
 
-list-written : (family : AddressFamily) (xs : List Address) → All (IsAddress family) xs
+pub list-written : (family : AddressFamily) (xs : List Address) → All (IsAddress family) xs
     → length (list_octets xs) < 2 ^ 32
     → AddressesForm family Der (value_octets SEQUENCE (list_octets xs)) xs
 list-written family xs all short =

@@ -1,13 +1,15 @@
 //! The providers of a customer.
 
-ghost use Rattle.std.specs.Prelude.{◌≡◌, ◌↔◌, length, IsTrue, IfOk, IsSome, false};
+ghost use Rattle.std.specs.Prelude.{◌≡◌, ◌↔◌, length, IsTrue, IfErr, IfOk, IsSome, false};
 ghost use Rattle.rpki_der.specs.Read.Reads.{Reads};
 ghost use Rattle.rpki_basics.specs.declared.limits.ProviderLimit.TheVariants.{Wide};
 ghost use Rattle.rpki_routes.specs.Aspa.{IsProviderSet, AreProviders};
 ghost use Rattle.rpki_routes.specs.Aspa.Read.{in_order_at, providers_at, follows, may_come};
 
+use crate::entries::{list_of, octets_of};
 use crate::faults;
-use rpki_basics::ProviderLimit;
+use rpki_basics::{BuildError, ProviderLimit};
+use rpki_der::encode::each;
 use rpki_der::{Constructed, DecodeError};
 use rpki_lists::{
     EntryIter, EntryKind, EntryList, Refused, Rule, SliceEntry, SliceReader, take_list,
@@ -104,6 +106,17 @@ impl Clone for ProviderAsSet {
 }
 
 impl ProviderAsSet {
+    // The set of these providers, whose octets are written. Refuses by `Memory` alone.
+    pub(crate) fn of(alloc: Global, providers: &[Asn]) -> Result<ProviderAsSet, BuildError>
+        requires { IsProviderSet Wide providers.now }
+        ensures set { IfOk result (λ set. set ≡ providers.now) }
+        ensures refused { IfErr result (λ e. e ≡ BuildError.Memory) }
+    {
+        let octets = octets_of(alloc, &each(providers))?;
+        let numbers = list_of(octets)?;
+        Ok(ProviderAsSet { numbers })
+    }
+
     /// How many providers there are.
     pub fn len(&self) -> usize
         ensures count { result ≡ length self.now }

@@ -1,9 +1,11 @@
 //! Lists of addresses of a ROA (RFC 9582, section 4.3).
 
-ghost use Rattle.std.specs.Prelude.{◌≡◌, ◌↔◌, [], length, IsTrue, IsSome, false};
+ghost use Rattle.std.specs.Prelude.{◌≡◌, ◌↔◌, [], length, IfOk, IsTrue, IsSome, false};
+ghost use Rattle.rpki_lists.specs.Entries.{HoldEntries, entries_of};
 ghost use Rattle.rpki_lists.specs.Slice.{FindsFront};
 ghost use Rattle.rpki_routes.specs.Roa.Read.{address_at, address_fields_at, is_of};
 
+use crate::entries::list_of;
 use crate::faults;
 use crate::roa::address::RoaIpAddress;
 use crate::roa::bits::take_prefix;
@@ -148,6 +150,15 @@ impl RoaIpAddresses {
             Some(list) => RoaIpAddresses { list },
             None => unreachable!(),
         }
+    }
+
+    // The list of the addresses of a family that are written as these octets.
+    pub(crate) fn of(octets: Vec<u8>) -> Result<RoaIpAddresses, AllocError>
+        requires { HoldEntries address_at octets.items }
+        ensures { IfOk result (λ list. list ≡ entries_of address_at octets.items) }
+    {
+        let list = list_of(octets)?;
+        Ok(RoaIpAddresses { list })
     }
 
     /// Whether there is no address.
