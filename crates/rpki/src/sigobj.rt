@@ -3,6 +3,7 @@
 pub use rpki_attributes::{
     AttrsFault, MessageDigest, MessageDigestEncoder, SignedAttrs, SignedAttrsEncoder,
 };
+pub use rpki_signing::SignedObjectBuilder;
 pub use rpki_sigobj::{Content, Signed, SignedObject, oid_of};
 
 /// What is wrong with a signed object or with its signed attributes.
@@ -19,6 +20,7 @@ pub mod laws {
         attributes_are_made, attributes_are_written, attributes_without_others, messages,
         signed_attributes,
     };
+    pub use rpki_signing::laws::{built_objects_are_valid, objects_are_written};
     pub use rpki_sigobj::laws::{
         octets_after_a_signed_object_are_left, refused_objects, signed_objects, valid_objects,
     };

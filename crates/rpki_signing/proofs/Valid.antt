@@ -1,0 +1,83 @@
+-- A built object passes its own validation.
+use Rattle.std.proofs.Common.{◌≡◌, ◌≢◌, ◌≤◌, ℕ, List, Option, None, Some, true, refl, sym, ap, subst, ◌∙◌}
+use Rattle.sha1.specs.Sha1.{sha1}
+use Rattle.rpki_basics.specs.Moment.{Moment, stamp}
+use Rattle.rpki_faults.specs.Checks.{AllHold}
+use Rattle.rpki_certs.specs.Cert.{Tbs}
+use Rattle.rpki_certs.specs.Inspect.{ee_checks}
+use Rattle.rpki_certs.specs.Verify.{Verdict, IsInTime}
+use Rattle.rpki_certs.specs.Validate.{Validated, AreAllowed, IsGoodUnder}
+use Rattle.rpki_sigobj.specs.Object.{SignedData}
+use Rattle.rpki_sigobj.specs.Verify.{Digester, IsWellSigned}
+use Rattle.rpki_sigobj.specs.Validate.{object_validation}
+use Rattle.rpki_sigobj.proofs.Valid.{published-valid}
+use Rattle.rpki_issued.specs.Tbs.{tbs_of}
+use Rattle.rpki_signing.specs.Built.{Settings, unsigned_of, IsBuilt, IsFit}
+
+some-differs : {X : Type 0} (x : X) (o : Option X) → o ≡ Some x → o ≢ None
+some-differs {X = X} x o e n = let both : (let y : Option X = Some x in y) ≡ None = sym e ∙ n in cc
+
+module _ (digest : Digester) (verdict : Verdict)
+    (b : Settings) (key type content : List ℕ) (s : SignedData) (issuer : Validated) (now : Moment)
+    (built : IsBuilt b key type content (digest content) s)
+    (fit : IsFit verdict b key s issuer now) where
+  abbrev Said : Tbs
+  Said = tbs_of (unsigned_of b key s.cert.tbs.key)
+
+  well : IsWellSigned digest verdict s
+  well = record {
+    names_its_key =
+        built.sid ∙ sym (ap (λ (t : Tbs). t.extensions.key.subject_key) built.cert);
+    has_its_digest = built.attributes.message_digest ∙ ap digest (sym built.content_octets);
+    in_time =
+        subst
+        (λ (t : Tbs). stamp s.signer.attributes.signing_time ≤ stamp t.validity.not_after)
+        (sym built.cert)
+        (subst (λ (m : Moment). stamp m ≤ stamp b.validity.not_after)
+        (sym built.attributes.signing_time) fit.signing_time);
+    signed = fit.signed;
+  }
+
+  -- the checks of the profile hold of what was said
+  said-fits : AllHold (ee_checks Said)
+  said-fits = (
+    refl,
+    (
+      fit.named,
+      (
+        some-differs (sha1 key) _ refl,
+        (
+          some-differs b.crl_uri _ refl,
+          (
+            some-differs b.ca_issuer _ refl,
+            (
+              refl,
+              (refl, (refl, (some-differs b.signed_object _ refl, ((refl, refl), tt)))),
+            ),
+          ),
+        ),
+      ),
+    ),
+  )
+
+  profile : AllHold (ee_checks s.cert.tbs)
+  profile =
+      subst (λ (t : Tbs). AllHold (ee_checks t)) (sym built.cert) said-fits
+
+  good : IsGoodUnder verdict s.cert issuer now
+  good = record {
+    claimed =
+        ap (λ (t : Tbs). t.extensions.key.authority_key) built.cert
+        ∙ ap (λ (id : List ℕ). Some id) (sym fit.issuer_identifier);
+    in_time =
+        subst (λ (t : Tbs). IsInTime t.validity now) (sym built.cert) fit.in_time;
+    signed =
+        subst (λ (k : List ℕ). verdict k s.cert.signed s.cert.signature ≡ true)
+        (sym fit.issuer_key) fit.cert_signed;
+    allowed =
+        subst (λ (t : Tbs). AreAllowed t.extensions.claims issuer.sets) (sym built.cert)
+        fit.allowed;
+  }
+
+  pub built-valid : AllHold (object_validation digest verdict s issuer now)
+  built-valid = (published-valid digest verdict s issuer now).1 (well, profile, good)

@@ -1,0 +1,58 @@
+use Rattle.std.proofs.Common.{◌≡◌, List, ℕ, sym, subst, ◌∙◌}
+use Rattle.std.specs.Prelude.{IfErr}
+use Rattle.std.proofs.lemmas.Result.{IfErr-weaker}
+use Rattle.rpki_basics.specs.Moment.{Moment}
+use Rattle.rpki_attributes.specs.Attrs.Made.{attributes_of}
+use Rattle.rpki_signing.specs.Built.{AreMade, AreNotSigned, IsNotBuilt}
+use Rattle.rpki_signing.proofs.Answered.{unsigned-unbuilt, unbuilt-as}
+use Rattle.rpki_signing.proofs.builder.SignedObjectBuilder.finalize.Goals as goal
+
+pub issued-object-requires-clause-made : goal.issued-object-requires-clause-made
+issued-object-requires-clause-made g c =
+    let type : List ℕ = c.args.content_type.now in
+    let content : List ℕ = c.args.content.now in
+    let x = c.in-Ok-signed_once.once.attributes.attributes in
+    subst (λ (digest : List ℕ). AreMade type digest c.args.self.signing_time x)
+    (sym (c.in-Ok-signed_once.ensures.digests content))
+    (subst (λ (time : Moment). AreMade type
+    (g.S.Crypto.digest_of c.get_key_info.new.self content) time x) c.signing_time.ensures
+    c.in-Ok-signed_once.ensures.made)
+
+pub returns-in-Err-signed_once-clause-refused : goal.returns-in-Err-signed_once-clause-refused
+returns-in-Err-signed_once-clause-refused g c =
+    let type : List ℕ = c.args.content_type.now in
+    let content : List ℕ = c.args.content.now in
+    let digest : List ℕ = g.S.Crypto.digest_of c.args.signer.now content in
+    let issuer : List ℕ = g.S.Signer.key_of c.args.signer.now c.args.issuer_key.now in
+    let e = c.in-Err-signed_once.fault in
+    unsigned-unbuilt (g.S.Signer.may_sign c.args.signer.now issuer) c.args.self issuer type content
+    digest e
+    (subst (λ (time : Moment). AreNotSigned (attributes_of type digest time) e)
+    c.signing_time.ensures
+    (subst (λ (d : List ℕ). AreNotSigned (attributes_of type d c.signing_time.result) e)
+    (c.in-Ok.ensures.digests content) c.in-Err-signed_once.ensures.refused))
+
+pub returns-in-Ok-signed_once-clause-refused : goal.returns-in-Ok-signed_once-clause-refused
+returns-in-Ok-signed_once-clause-refused g c =
+    let type : List ℕ = c.args.content_type.now in
+    let content : List ℕ = c.args.content.now in
+    let digest : List ℕ = g.S.Crypto.digest_of c.args.signer.now content in
+    let key = c.args.issuer_key.now in
+    let issuer : List ℕ = g.S.Signer.key_of c.args.signer.now key in
+    let later : List ℕ = g.S.Signer.key_of c.signed_once.new.signer key in
+    let same : later ≡ issuer =
+    c.in-Ok-signed_once.ensures.keys key ∙ c.in-Ok.ensures.keys key in
+    let r = c.issued-object.result in
+    let may : List ℕ → List ℕ → Type 0 = g.S.Signer.may_sign c.signed_once.new.signer later in
+    let may' : List ℕ → List ℕ → Type 0 = g.S.Signer.may_sign c.args.signer.now issuer in
+    IfErr-weaker r (IsNotBuilt may c.args.self issuer type content digest)
+    (IsNotBuilt may' c.args.self issuer type content digest)
+    (λ e h. unbuilt-as may c.args.self issuer type content digest may'
+    (λ m s k. subst (λ (i : List ℕ). g.S.Signer.may_sign c.args.signer.now i m s) same
+    ((c.in-Ok.ensures.signs later m s).0 ((c.in-Ok-signed_once.ensures.signs later m s).0 k)))
+    e h)
+    (subst (λ (i : List ℕ). IfErr r (IsNotBuilt may c.args.self i type content digest))
+    c.in-Ok.ensures.key
+    (subst (λ (d : List ℕ). IfErr r (IsNotBuilt may c.args.self c.in-Ok.issuer type content d))
+    (c.in-Ok-signed_once.ensures.digests content ∙ c.in-Ok.ensures.digests content)
+    c.issued-object.ensures.refused))

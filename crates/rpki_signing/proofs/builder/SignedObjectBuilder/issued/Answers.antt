@@ -1,0 +1,34 @@
+use Rattle.std.proofs.Common.{List, ℕ}
+use Rattle.std.proofs.lemmas.Result.{IfErr-weaker}
+use Rattle.rpki_sigobj.specs.Object.{SignedData}
+use Rattle.rpki_signing.specs.Built.{IsNotBuilt}
+use Rattle.rpki_signing.specs.Written.{IsNotWritten}
+use Rattle.rpki_signing.proofs.Answered.{built-of, unwritten-unbuilt}
+use Rattle.rpki_signing.proofs.builder.SignedObjectBuilder.issued.Goals as goal
+
+pub returns-in-Ok-clause-refused : goal.returns-in-Ok-clause-refused
+returns-in-Ok-clause-refused g c =
+    let type : List ℕ = c.args.typed.now.content_type.now in
+    let content : List ℕ = c.args.typed.now.content.now in
+    let digest : List ℕ = g.S.Crypto.digest_of c.args.signer.now content in
+    let issuer : List ℕ = g.S.Signer.key_of c.args.signer.now c.args.issuer_key.now in
+    let said : SignedData = record {
+      content_type = type;
+      content = content;
+      cert = c.in-Ok.cert.certificate;
+      signer = record {
+        sid = c.key_identifier-sid.result;
+        attributes = c.args.once.attributes.attributes;
+        signature = c.args.once.signature;
+      };
+    } in
+    IfErr-weaker c.object_of-object.result (IsNotWritten said)
+    (IsNotBuilt (g.S.Signer.may_sign c.args.signer.now issuer) c.args.self c.args.issuer.now type
+    content digest)
+    (λ e h. unwritten-unbuilt (g.S.Signer.may_sign c.args.signer.now issuer) c.args.self
+    c.args.issuer.now type content digest said e
+    (built-of c.args.self c.args.issuer.now type content digest c.args.once.key
+    c.key_identifier-sid.result c.args.once.attributes.attributes c.args.once.signature
+    c.in-Ok.cert.certificate c.key_identifier-sid.ensures c.in-Ok.ensures.made
+    c.requires.made) h)
+    c.object_of-object.ensures.refused
