@@ -1,5 +1,5 @@
 //! Tests of certificates, lists and objects: of `rpki_extensions`, `rpki_crls`, `rpki_certs`,
-//! `rpki_sigobj`, `rpki_signed` and `rpki_paths`, each in the module of its name.
+//! `rpki_issued`, `rpki_sigobj`, `rpki_signed` and `rpki_paths`, each in the module of its name.
 #![tactic(auto)]
 
 #[cfg(test)]
@@ -8,6 +8,8 @@ mod certs;
 mod crls;
 #[cfg(test)]
 mod extensions;
+#[cfg(test)]
+mod issued;
 #[cfg(test)]
 mod paths;
 #[cfg(test)]
