@@ -5,6 +5,8 @@
 //! sweeps.
 
 mod aspas;
+mod built;
+mod built_roas;
 mod calls;
 mod limits;
 mod roas;

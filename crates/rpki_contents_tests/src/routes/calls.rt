@@ -184,7 +184,7 @@ static ADDRESSES: [(AddressFamily, u128, u8, Option<u8>, u128, &[u8]); 3] = [
 ];
 
 /// The address of this family with these bits.
-fn ip_of(family: AddressFamily, bits: u128) -> IpAddr {
+pub fn ip_of(family: AddressFamily, bits: u128) -> IpAddr {
     let addr = Addr::from_bits(bits);
     match family {
         AddressFamily::Ipv4 => IpAddr::V4(addr.to_v4()),

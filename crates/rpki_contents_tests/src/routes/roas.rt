@@ -15,7 +15,7 @@ pub const WITH_MAX: &[u8] =
     \x09\x03\x04\x00\xC0\x00\x02\x02\x01\x1A";
 
 /// AS64496 without a family.
-const NONE: &[u8] = b"\x30\x07\x02\x03\x00\xFB\xF0\x30\x00";
+pub const NONE: &[u8] = b"\x30\x07\x02\x03\x00\xFB\xF0\x30\x00";
 
 /// AS64496, 192.0.2.0/24 and 2001:db8::/32.
 pub const BOTH: &[u8] = b"\x30\x28\x02\x03\x00\xFB\xF0\x30\x21\x30\x0E\x04\x02\x00\x01\x30\x08\x30\
@@ -201,7 +201,7 @@ pub fn text_of(alloc: Global, octets: &[u8]) -> Result<String, AllocError> {
 }
 
 /// Whether a content is written as these octets.
-fn is_written(
+pub fn is_written(
     alloc: Global,
     content: &RouteOriginAttestation,
     wanted: &[u8],

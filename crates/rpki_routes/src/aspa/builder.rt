@@ -119,7 +119,7 @@ impl AspaBuilder {
             → Contains self.old.providers provider }
         ensures unchanged { OnErr result (self.new ≡ self.old) }
     {
-        match self.place_of(provider) {
+        match self.place_for(provider) {
             None => Err(AddProviderError::Duplicate),
             Some(place) => match self.providers.insert(place, provider) {
                 Ok(()) => Ok(()),
@@ -149,7 +149,7 @@ impl AspaBuilder {
     }
 
     // Where a number is to be put among the providers, if it is none of them.
-    fn place_of(&self, number: Asn) -> Option<usize>
+    fn place_for(&self, number: Asn) -> Option<usize>
         ensures place { IfSome result (IsPlace number self.now.providers) }
         ensures none { result ≡ None → Contains self.now.providers number }
     {

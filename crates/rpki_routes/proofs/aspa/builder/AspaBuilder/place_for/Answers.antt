@@ -1,5 +1,5 @@
 use Rattle.rpki_routes.proofs.Ascending.{placed}
-use Rattle.rpki_routes.proofs.aspa.builder.AspaBuilder.place_of.Goals as goal
+use Rattle.rpki_routes.proofs.aspa.builder.AspaBuilder.place_for.Goals as goal
 
 pub returns-in-Err-clause-place : goal.returns-in-Err-clause-place
 returns-in-Err-clause-place c =
