@@ -9,3 +9,4 @@ mod calls;
 mod checks;
 mod given;
 mod kinds;
+mod walks;

@@ -1,6 +1,6 @@
 //! What the forms and the checks of objects mean: laws, as functions that do nothing.
 
-ghost use Rattle.std.specs.Prelude.{ℕ, List};
+ghost use Rattle.std.specs.Prelude.{◌↔◌, ℕ, List, IsTrue};
 ghost use Rattle.std.specs.Fn.{FnOnceTakesAt, FnOnceReturnsAt};
 ghost use Rattle.rpki_basics.specs.declared.limits.ManifestRule.TheVariants.{Any, Registered};
 ghost use Rattle.rpki_basics.specs.declared.limits.ProviderLimit.TheVariants.{Narrow, Wide};
@@ -8,6 +8,7 @@ ghost use Rattle.rpki_der.specs.declared.mode.Mode.{Mode};
 ghost use Rattle.rpki_der.specs.declared.mode.Mode.TheVariants.{Der};
 ghost use Rattle.rpki_der.specs.Form.After.{LeavesOctetsAfter};
 ghost use Rattle.rpki_files.specs.Checklist.{ChecklistForm};
+ghost use Rattle.rpki_files.specs.File.{File};
 ghost use Rattle.rpki_files.specs.Manifest.{Manifest, ManifestForm};
 ghost use Rattle.rpki_routes.specs.Aspa.{Aspa};
 ghost use Rattle.rpki_routes.specs.Aspa.Form.{AspaForm};
@@ -16,11 +17,15 @@ ghost use Rattle.rpki_routes.specs.Aspa.Checks.{ct_aspa, aspa_kind};
 ghost use Rattle.rpki_files.specs.Checklist.Checks.{ct_checklist};
 ghost use Rattle.rpki_files.specs.Manifest.Checks.{ct_manifest, manifest_kind};
 ghost use Rattle.rpki_sigobj.specs.Signed.{Whole, ObjectForm, IsInBer};
+ghost use Rattle.rpki_sigobj.specs.Verify.{Digester};
 ghost use Rattle.rpki_routes.specs.Roa.Checks.{route_origin_authz};
+ghost use Rattle.rpki_signed.specs.Walk.{AtHand, IsHeld, GivesAll, is_held};
 ghost use Rattle.rpki_signed.specs.Wider.{KeepsYes};
 
-use rpki_basics::{ManifestRule, ProviderLimit};
+use crate::walk::Walk;
+use rpki_basics::{Crypto, ManifestRule, ProviderLimit};
 use rpki_certs::Cert;
+use rpki_der::AsOctets;
 use rpki_faults::ValidationError;
 
 /// An object that is read strictly, in DER, is read in BER too, and says the same, whatever its
@@ -68,4 +73,14 @@ pub fn narrow_checks_are_wide<F: FnOnce(&Cert) -> Result<(), ValidationError>>(c
         (FnOnceTakesAt F.FnOnce check_crl.now) }
     ensures aspas { KeepsYes aspa_kind (AspaForm Narrow) (AspaForm Wide)
         (FnOnceReturnsAt F.FnOnce check_crl.now) (FnOnceTakesAt F.FnOnce check_crl.now) }
+{}
+
+/// An entry of a manifest is in a walk exactly if it is held: the first file at hand with its name
+/// has its hash (RFC 9286, section 6.5). The calls of a walk, up to the one that answers nothing,
+/// give all such entries that are left to it, in order, and no others.
+pub fn walks_are_whole<'a, N: AsOctets, O: AsOctets, C: Crypto>(walk: &Walk<'a, N, O, C>)
+    ensures held { (digest : Digester) (files : List AtHand) (f : File)
+        → IsTrue (is_held digest files f) ↔ IsHeld digest files f }
+    ensures whole { GivesAll ⟦<Walk<'a, N, O, C> as Iterator>⟧.next_gives
+        (λ f. record { file = f.file.now; hash = f.hash.now }) walk.now walk.now }
 {}

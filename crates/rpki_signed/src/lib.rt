@@ -4,7 +4,9 @@
 
 pub mod check;
 pub mod laws;
+mod walk;
 
 pub use rpki_files::{InspectResources, Manifest, Rsc, ValidateManifest};
 pub use rpki_routes::{Aspa, Roa};
 pub use rpki_sigobj::{Content, Signed};
+pub use walk::Walk;
