@@ -13,13 +13,14 @@ use Rattle.rpki_attributes.specs.declared.fault.AttrsFault.TheVariants as unmade
 use Rattle.rpki_attributes.specs.Attrs.{SignedAttributes, most_octets}
 use Rattle.rpki_attributes.specs.Attrs.Made.{attributes_of, message_of}
 use Rattle.rpki_certs.specs.Cert.{Tbs, Certificate}
-use Rattle.rpki_sigobj.specs.Object.{SignedData, KeptObject}
+use Rattle.rpki_sigobj.specs.Object.{SignedData, SignedObject, KeptObject}
 use Rattle.rpki_issued.specs.Signing.{CountsError}
 use Rattle.rpki_issued.specs.Tbs.{tbs_of, IsNotSigned}
 use Rattle.rpki_issued.specs.Written.{made_certificate, tbs_octets}
-use Rattle.rpki_signing.specs.Written.{IsNotWritten}
+use Rattle.rpki_signing.specs.Written.{IsNotWritten, made_object}
 use Rattle.rpki_signing.specs.Built.{Settings, issuer_of, unsigned_of, AreMade, IsBuilt}
 use Rattle.rpki_signing.specs.Built.{AreNotSigned, IsNotBuilt, attrs_error}
+use Rattle.rpki_signing.specs.Built.{AreSignatures, HasSigned}
 
 -- ---- attributes
 
@@ -48,7 +49,9 @@ built-of b issuer type content digest key sid x signature c id made attributes =
     let k : c.tbs.key ≡ key = ap (λ (t : Tbs). t.key) t in record {
       content_type = refl;
       content_octets = refl;
-      cert = t ∙ ap (λ (y : List ℕ). tbs_of (unsigned_of b issuer y)) (sym k);
+      cert =
+          subst (λ (y : List ℕ). c ≡ made_certificate (tbs_of (unsigned_of b issuer y)) c.signature)
+          (sym k) made;
       sid = id ∙ ap sha1 (sym k);
       attributes = attributes;
     }
@@ -64,6 +67,32 @@ pub signed-of : (may : List ℕ → List ℕ → Type 0) (t : Tbs) (c : Certific
 signed-of may t c made h =
     subst (λ (m : List ℕ). may m c.signature) (sym (ap (λ (k : Certificate). k.signed) made)) h
 
+-- the signer may answer both signatures of what is made of the certificate of a key
+pub signatures-of : (may : List ℕ → List ℕ → List ℕ → Type 0) (b : Settings)
+    (issuer named type content key sid : List ℕ) (x : SignedAttributes) (signature : List ℕ)
+    (c : Certificate) → c ≡ made_certificate (tbs_of (unsigned_of b issuer key)) c.signature
+    → issuer ≡ named → may key (message_of x) signature
+    → may named (tbs_octets (tbs_of (unsigned_of b issuer key))) c.signature
+    → AreSignatures may issuer (record {
+      content_type = type;
+      content = content;
+      cert = c;
+      signer = record { sid = sid; attributes = x; signature = signature };
+    })
+signatures-of may b issuer named type content key sid x signature c made same once signed = (
+  subst (λ (k : List ℕ). may k (message_of x) signature) (sym (key-of b issuer key c made))
+      once,
+  subst (λ (i : List ℕ). may i c.signed c.signature) (sym same)
+      (signed-of (may named) (tbs_of (unsigned_of b issuer key)) c made signed),
+)
+
+-- what is written of an object is what is written of what it says
+pub written-as : {E : Type 0} (r : Result KeptObject E) (s : SignedData)
+    → IfOk r (λ o. o.object ≡ made_object s)
+    → IfOk r (λ o. o.object ≡ made_object o.object.signed)
+written-as (Ok o) s h = h ∙ ap made_object (sym (ap (λ (x : SignedObject). x.signed) h))
+written-as (Err e) s h = tt
+
 -- ---- refusals
 
 -- the name of the issuer is in DER where one that was set is
@@ -72,7 +101,7 @@ issuer-der : (o : Option Kept) (key : List ℕ) → IfSome o (λ name. name.mode
 issuer-der None key h = refl
 issuer-der (Some name) key h = h
 
-module _ (may : List ℕ → List ℕ → Type 0) (b : Settings)
+module _ (may : List ℕ → List ℕ → List ℕ → Type 0) (b : Settings)
     (issuer type content digest : List ℕ) where
   -- where attributes are not signed, the object is not built
   pub unsigned-unbuilt : {E : Type 0} (e : SigningError E)
@@ -89,42 +118,46 @@ module _ (may : List ℕ → List ℕ → Type 0) (b : Settings)
 
   -- nor where the certificate is not signed
   pub uncertified-unbuilt : {E : Type 0} (key : List ℕ) (e : SigningError E)
-      → IsNotSigned may (unsigned_of b issuer key) e
+      → HasSigned may type digest b.signing_time key
+      → IsNotSigned (may issuer) (unsigned_of b issuer key) e
       → IsNotBuilt may b issuer type content digest e
-  uncertified-unbuilt key error.KeyNotFound h = tt
-  uncertified-unbuilt key error.IncompatibleKey h = tt
-  uncertified-unbuilt key (error.Signer e) h = tt
-  uncertified-unbuilt key error.AttrsTooLong h = absurd h
-  uncertified-unbuilt key error.TooLong h = inl (key, h)
-  uncertified-unbuilt key (error.Content fault) h = absurd h
-  uncertified-unbuilt key error.NotDer h = λ n. h (issuer-der b.issuer issuer n.0, n.1)
-  uncertified-unbuilt key error.Memory h = tt
+  uncertified-unbuilt key error.KeyNotFound once h = tt
+  uncertified-unbuilt key error.IncompatibleKey once h = tt
+  uncertified-unbuilt key (error.Signer e) once h = tt
+  uncertified-unbuilt key error.AttrsTooLong once h = absurd h
+  uncertified-unbuilt key error.TooLong once h = inl (key, once, h)
+  uncertified-unbuilt key (error.Content fault) once h = absurd h
+  uncertified-unbuilt key error.NotDer once h = λ n. h (issuer-der b.issuer issuer n.0, n.1)
+  uncertified-unbuilt key error.Memory once h = tt
 
   -- nor where it is not written
   pub unwritten-unbuilt : {E : Type 0} (s : SignedData) (e : SigningError E)
-      → IsBuilt b issuer type content digest s → IsNotWritten s e
+      → IsBuilt b issuer type content digest s → AreSignatures may issuer s → IsNotWritten s e
       → IsNotBuilt may b issuer type content digest e
-  unwritten-unbuilt s error.KeyNotFound built h = absurd h
-  unwritten-unbuilt s error.IncompatibleKey built h = absurd h
-  unwritten-unbuilt s (error.Signer e) built h = absurd h
-  unwritten-unbuilt s error.AttrsTooLong built h = absurd h
-  unwritten-unbuilt s error.TooLong built h = inr (s, built, h)
-  unwritten-unbuilt s (error.Content fault) built h = absurd h
-  unwritten-unbuilt s error.NotDer built h = absurd h
-  unwritten-unbuilt s error.Memory built h = tt
+  unwritten-unbuilt s error.KeyNotFound built signed h = absurd h
+  unwritten-unbuilt s error.IncompatibleKey built signed h = absurd h
+  unwritten-unbuilt s (error.Signer e) built signed h = absurd h
+  unwritten-unbuilt s error.AttrsTooLong built signed h = absurd h
+  unwritten-unbuilt s error.TooLong built signed h = inr (s, built, signed, h)
+  unwritten-unbuilt s (error.Content fault) built signed h = absurd h
+  unwritten-unbuilt s error.NotDer built signed h = absurd h
+  unwritten-unbuilt s error.Memory built signed h = tt
 
   -- nor by another signer that may answer as much
-  pub unbuilt-as : (may' : List ℕ → List ℕ → Type 0)
-      → ((m s : List ℕ) → may m s → may' m s) → {E : Type 0} (e : SigningError E)
+  pub unbuilt-as : (may' : List ℕ → List ℕ → List ℕ → Type 0)
+      → ((k m s : List ℕ) → may k m s → may' k m s) → {E : Type 0} (e : SigningError E)
       → IsNotBuilt may b issuer type content digest e
       → IsNotBuilt may' b issuer type content digest e
   unbuilt-as may' to error.KeyNotFound h = tt
   unbuilt-as may' to error.IncompatibleKey h = tt
   unbuilt-as may' to (error.Signer e) h = tt
   unbuilt-as may' to error.AttrsTooLong h = h
-  unbuilt-as may' to error.TooLong (inl (key, inl h)) = inl (key, inl h)
-  unbuilt-as may' to error.TooLong (inl (key, inr (s, m, h))) = inl (key, inr (s, to _ s m, h))
-  unbuilt-as may' to error.TooLong (inr h) = inr h
+  unbuilt-as may' to error.TooLong (inl (key, (x, y, made, by), inl h)) =
+      inl (key, (x, y, made, to key (message_of x) y by), inl h)
+  unbuilt-as may' to error.TooLong (inl (key, (x, y, made, by), inr (s, m, h))) =
+      inl (key, (x, y, made, to key (message_of x) y by), inr (s, to issuer _ s m, h))
+  unbuilt-as may' to error.TooLong (inr (s, built, (by, m), h)) =
+      inr (s, built, (to _ _ _ by, to issuer _ _ m), h)
   unbuilt-as may' to (error.Content fault) h = h
   unbuilt-as may' to error.NotDer h = h
   unbuilt-as may' to error.Memory h = tt

@@ -1,9 +1,10 @@
 -- A built object passes its own validation.
-use Rattle.std.proofs.Common.{◌≡◌, ◌≢◌, ◌≤◌, ℕ, List, Option, None, Some, true, refl, sym, ap, subst, ◌∙◌}
+use Rattle.std.proofs.Common.{◌≡◌, ◌≢◌, ◌≤◌, ℕ, List, Option, None, Some, true, refl, sym, ap,
+    subst, ◌∙◌}
 use Rattle.sha1.specs.Sha1.{sha1}
 use Rattle.rpki_basics.specs.Moment.{Moment, stamp}
 use Rattle.rpki_faults.specs.Checks.{AllHold}
-use Rattle.rpki_certs.specs.Cert.{Tbs}
+use Rattle.rpki_certs.specs.Cert.{Tbs, Certificate}
 use Rattle.rpki_certs.specs.Inspect.{ee_checks}
 use Rattle.rpki_certs.specs.Verify.{Verdict, IsInTime}
 use Rattle.rpki_certs.specs.Validate.{Validated, AreAllowed, IsGoodUnder}
@@ -24,15 +25,18 @@ module _ (digest : Digester) (verdict : Verdict)
   abbrev Said : Tbs
   Said = tbs_of (unsigned_of b key s.cert.tbs.key)
 
+  said-tbs : s.cert.tbs ≡ Said
+  said-tbs = ap (λ (c : Certificate). c.tbs) built.cert
+
   well : IsWellSigned digest verdict s
   well = record {
     names_its_key =
-        built.sid ∙ sym (ap (λ (t : Tbs). t.extensions.key.subject_key) built.cert);
+        built.sid ∙ sym (ap (λ (t : Tbs). t.extensions.key.subject_key) said-tbs);
     has_its_digest = built.attributes.message_digest ∙ ap digest (sym built.content_octets);
     in_time =
         subst
         (λ (t : Tbs). stamp s.signer.attributes.signing_time ≤ stamp t.validity.not_after)
-        (sym built.cert)
+        (sym said-tbs)
         (subst (λ (m : Moment). stamp m ≤ stamp b.validity.not_after)
         (sym built.attributes.signing_time) fit.signing_time);
     signed = fit.signed;
@@ -62,20 +66,20 @@ module _ (digest : Digester) (verdict : Verdict)
 
   profile : AllHold (ee_checks s.cert.tbs)
   profile =
-      subst (λ (t : Tbs). AllHold (ee_checks t)) (sym built.cert) said-fits
+      subst (λ (t : Tbs). AllHold (ee_checks t)) (sym said-tbs) said-fits
 
   good : IsGoodUnder verdict s.cert issuer now
   good = record {
     claimed =
-        ap (λ (t : Tbs). t.extensions.key.authority_key) built.cert
+        ap (λ (t : Tbs). t.extensions.key.authority_key) said-tbs
         ∙ ap (λ (id : List ℕ). Some id) (sym fit.issuer_identifier);
     in_time =
-        subst (λ (t : Tbs). IsInTime t.validity now) (sym built.cert) fit.in_time;
+        subst (λ (t : Tbs). IsInTime t.validity now) (sym said-tbs) fit.in_time;
     signed =
         subst (λ (k : List ℕ). verdict k s.cert.signed s.cert.signature ≡ true)
         (sym fit.issuer_key) fit.cert_signed;
     allowed =
-        subst (λ (t : Tbs). AreAllowed t.extensions.claims issuer.sets) (sym built.cert)
+        subst (λ (t : Tbs). AreAllowed t.extensions.claims issuer.sets) (sym said-tbs)
         fit.allowed;
   }
 

@@ -225,6 +225,11 @@ module _ (s : SignedData) (o : List ℕ) (can : IsDataToWrite s) (e : o ≡ obje
   pub some-object : (x : SignedObject) × SignedForm Der o x
   some-object = (made_object s, made)
 
+  -- the only object that they are is the one that is made
+  pub only-object : (k : SignedObject) → ((x : SignedObject) → SignedForm Der o x → k ≡ x)
+      → k ≡ made_object s
+  only-object k only = only (made_object s) made
+
   -- the only object that they are says what is signed
   pub only-signed : (k : SignedObject) → ((x : SignedObject) → SignedForm Der o x → k ≡ x)
       → k.signed ≡ s

@@ -25,6 +25,7 @@ use Rattle.rpki_certs.specs.Validate.{Validated, AreAllowed}
 use Rattle.rpki_certs.specs.Verify.{Verdict, IsInTime}
 use Rattle.rpki_sigobj.specs.Object.{SignedData}
 use Rattle.rpki_issued.specs.Tbs.{Unsigned, tbs_of, IsNotSigned}
+use Rattle.rpki_issued.specs.Written.{made_certificate}
 use Rattle.rpki_signing.specs.Written.{object_contents}
 
 -- What a builder is told: what the certificate of the signer says, and when the object is signed.
@@ -99,15 +100,16 @@ pub record AreMade (type digest : List ℕ) (time : Moment) (x : SignedAttribute
   pub order : InOrder (attributes_of type digest time) x.contents
   pub form : SignedAttrsForm others.Refuse Der (attrs_octets x) x
 
--- What is signed has this type and this content; the certificate says what the builder was told, of
--- the key that signed, under this key of the issuer; the signer is named by the identifier of that
--- key, and its attributes have this digest and the builder's signing time. That both signatures are
--- such as the signer may answer is said beside it.
+-- What is signed has this type and this content; the certificate is the one that is made of what
+-- the builder was told, for the key that signed, under this key of the issuer; the signer is named
+-- by the identifier of that key, and its attributes have this digest and the builder's signing time.
+-- That both signatures are such as the signer may answer is said beside it.
 pub record IsBuilt (b : Settings) (issuer type content digest : List ℕ) (s : SignedData)
     : Type 0 where
   pub content_type : s.content_type ≡ type
   pub content_octets : s.content ≡ content
-  pub cert : s.cert.tbs ≡ tbs_of (unsigned_of b issuer s.cert.tbs.key)
+  pub cert : s.cert
+      ≡ made_certificate (tbs_of (unsigned_of b issuer s.cert.tbs.key)) s.cert.signature
   pub sid : s.signer.sid ≡ sha1 s.cert.tbs.key
   pub attributes : AreMade type digest b.signing_time s.signer.attributes
 
@@ -148,19 +150,35 @@ AreNotSigned parts (error.Content fault) = ⊥
 AreNotSigned parts error.NotDer = ⊥
 AreNotSigned parts error.Memory = Unit {0}
 
--- Some contents has 2^32 octets or more: of the certificate of a key, without a signature or with
--- one that may be answered, or of an object that was built.
-abbrev pub IsTooLong : (List ℕ → List ℕ → Type 0) → Settings → List ℕ → List ℕ → List ℕ → List ℕ
+-- by this key the signer may answer a signature of attributes of this type, digest and time
+abbrev pub HasSigned : (List ℕ → List ℕ → List ℕ → Type 0) → List ℕ → List ℕ → Moment → List ℕ
     → Type 0
+HasSigned may type digest time key =
+    (x : SignedAttributes) × (signature : List ℕ) × AreMade type digest time x
+    × may key (message_of x) signature
+
+-- the signer may answer both signatures: that of the attributes by the key in the certificate, and
+-- that of the certificate by the issuer's key
+abbrev pub AreSignatures : (List ℕ → List ℕ → List ℕ → Type 0) → List ℕ → SignedData → Type 0
+AreSignatures may issuer s =
+    may s.cert.tbs.key (message_of s.signer.attributes) s.signer.signature
+    × may issuer s.cert.signed s.cert.signature
+
+-- Some contents has 2^32 octets or more: of the certificate of a key that has signed, without a
+-- signature or with one that the signer may answer, or of an object that was built, with both
+-- signatures such as the signer may answer.
+abbrev pub IsTooLong : (List ℕ → List ℕ → List ℕ → Type 0) → Settings → List ℕ → List ℕ → List ℕ
+    → List ℕ → Type 0
 IsTooLong may b issuer type content digest =
-    ((key : List ℕ) × IsNotSigned {E = Unit {0}} may (unsigned_of b issuer key) error.TooLong)
-    ⊎ ((s : SignedData) × IsBuilt b issuer type content digest s
+    ((key : List ℕ) × HasSigned may type digest b.signing_time key
+    × IsNotSigned {E = Unit {0}} (may issuer) (unsigned_of b issuer key) error.TooLong)
+    ⊎ ((s : SignedData) × IsBuilt b issuer type content digest s × AreSignatures may issuer s
     × ¬ (length (object_contents s) < 2 ^ 32))
 
 -- Why an object is not built: a fault of the signer, attributes of more than 65535 octets, a name
 -- in BER, or contents of 2^32 octets or more; or memory ran out.
-abbrev pub IsNotBuilt : {E : Type 0} → (List ℕ → List ℕ → Type 0) → Settings → List ℕ → List ℕ
-    → List ℕ → List ℕ → SigningError E → Type 0
+abbrev pub IsNotBuilt : {E : Type 0} → (List ℕ → List ℕ → List ℕ → Type 0) → Settings → List ℕ
+    → List ℕ → List ℕ → List ℕ → SigningError E → Type 0
 IsNotBuilt may b issuer type content digest error.KeyNotFound = Unit {0}
 IsNotBuilt may b issuer type content digest error.IncompatibleKey = Unit {0}
 IsNotBuilt may b issuer type content digest (error.Signer e) = Unit {0}

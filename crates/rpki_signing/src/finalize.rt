@@ -9,6 +9,7 @@ ghost use Rattle.rpki_issued.specs.Signing.{CountsError};
 ghost use Rattle.rpki_issued.specs.Written.{ClaimsIpv4};
 ghost use Rattle.rpki_signing.specs.Built.{AreMade, AreNotSigned, IsBuilt, IsNotBuilt};
 ghost use Rattle.rpki_signing.specs.Built.{attrs_error, claims_of};
+ghost use Rattle.rpki_signing.specs.Written.{made_object};
 
 use crate::builder::SignedObjectBuilder;
 use crate::object::{Parts, object_of};
@@ -139,10 +140,14 @@ impl SignedObjectBuilder {
             (S.digest_of signer.old typed.now.content.now) self.signing_time
             once.attributes.attributes }
         requires der { once.attributes.mode ≡ Der }
+        requires issuer { issuer.now ≡ S.key_of signer.old issuer_key.now }
+        requires signed { S.may_sign signer.old once.key
+            (message_of once.attributes.attributes) once.signature }
         ensures built { IfOk result (λ o. IsBuilt self issuer.now
             typed.now.content_type.now typed.now.content.now
             (S.digest_of signer.old typed.now.content.now) o.object.signed) }
         ensures der { IfOk result (λ o. o.mode ≡ Der) }
+        ensures written { IfOk result (λ o. o.object ≡ made_object o.object.signed) }
         ensures key { IfOk result (λ o. o.object.signed.cert.tbs.key ≡ once.key) }
         ensures attributes { IfOk result
             (λ o. o.object.signed.signer.attributes ≡ once.attributes.attributes) }
@@ -151,8 +156,7 @@ impl SignedObjectBuilder {
         ensures cert_signed { IfOk result (λ o. S.may_sign signer.old
             (S.key_of signer.old issuer_key.now) o.object.signed.cert.signed
             o.object.signed.cert.signature) }
-        ensures refused { IfErr result (IsNotBuilt
-            (S.may_sign signer.old (S.key_of signer.old issuer_key.now)) self issuer.now
+        ensures refused { IfErr result (IsNotBuilt (S.may_sign signer.old) self issuer.now
             typed.now.content_type.now typed.now.content.now
             (S.digest_of signer.old typed.now.content.now)) }
         ensures cause { CountsError (S.failures signer.old) (S.failures signer.new) result }
@@ -213,13 +217,13 @@ impl SignedObjectBuilder {
         ensures built { IfOk result (λ o. IsBuilt self (S.key_of signer.old issuer_key.now)
             content_type.now content.now (S.digest_of signer.old content.now) o.object.signed) }
         ensures der { IfOk result (λ o. o.mode ≡ Der) }
+        ensures written { IfOk result (λ o. o.object ≡ made_object o.object.signed) }
         ensures signed { IfOk result (λ o. S.may_sign signer.old o.object.signed.cert.tbs.key
             (message_of o.object.signed.signer.attributes) o.object.signed.signer.signature) }
         ensures cert_signed { IfOk result (λ o. S.may_sign signer.old
             (S.key_of signer.old issuer_key.now) o.object.signed.cert.signed
             o.object.signed.cert.signature) }
-        ensures refused { IfErr result (IsNotBuilt
-            (S.may_sign signer.old (S.key_of signer.old issuer_key.now)) self
+        ensures refused { IfErr result (IsNotBuilt (S.may_sign signer.old) self
             (S.key_of signer.old issuer_key.now) content_type.now content.now
             (S.digest_of signer.old content.now)) }
         ensures cause { CountsError (S.failures signer.old) (S.failures signer.new) result }

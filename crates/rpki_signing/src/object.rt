@@ -11,7 +11,7 @@ ghost use Rattle.rpki_attributes.specs.Attrs.Made.{attrs_octets};
 ghost use Rattle.rpki_certs.specs.Cert.{CertForm};
 ghost use Rattle.rpki_sigobj.specs.Object.{SignedObject as AnObject, SignedForm, id_signed_data};
 ghost use Rattle.rpki_signing.specs.Written.{IsDataToWrite, IsNotWritten};
-ghost use Rattle.rpki_signing.specs.Written.{object_contents, object_octets};
+ghost use Rattle.rpki_signing.specs.Written.{made_object, object_contents, object_octets};
 
 use crate::data::{Content, Data, DataTail, SignerInfo};
 use bytes::Bytes;
@@ -177,6 +177,7 @@ pub fn object_of<E>(alloc: Global, p: &Parts<'_>) -> Result<SignedObject, Signin
     requires form { SignedAttrsForm Refuse Der (attrs_octets p.now.signer.attributes)
         p.now.signer.attributes }
     ensures signed { IfOk result (λ o. o.object.signed ≡ p.now) }
+    ensures written { IfOk result (λ o. o.object ≡ made_object p.now) }
     ensures mode { IfOk result (λ o. o.mode ≡ Der) }
     ensures refused { IfErr result (IsNotWritten p.now) }
 {

@@ -8,7 +8,8 @@ use Rattle.rpki_signing.proofs.object.can_be_written.Goals as goal
 
 pub returns : goal.returns
 returns c = record {
-  content_type = subst (λ (s : SignedData). IsOid s.content_type) c.p.view_is c.as_slice.ensures.valid;
+  content_type =
+      subst (λ (s : SignedData). IsOid s.content_type) c.p.view_is c.as_slice.ensures.valid;
   cert =
       subst (λ (s : SignedData). CertForm Der s.cert.octets s.cert) c.p.view_is
       (subst (λ (m : Mode). CertForm m c.p.inside.cert.now.certificate.octets

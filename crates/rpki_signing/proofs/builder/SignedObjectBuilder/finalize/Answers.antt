@@ -1,4 +1,4 @@
-use Rattle.std.proofs.Common.{◌≡◌, List, ℕ, sym, subst, ◌∙◌}
+use Rattle.std.proofs.Common.{List, ℕ, sym, subst, ◌∙◌}
 use Rattle.std.specs.Prelude.{IfErr}
 use Rattle.std.proofs.lemmas.Result.{IfErr-weaker}
 use Rattle.rpki_basics.specs.Moment.{Moment}
@@ -25,8 +25,8 @@ returns-in-Err-signed_once-clause-refused g c =
     let digest : List ℕ = g.S.Crypto.digest_of c.args.signer.now content in
     let issuer : List ℕ = g.S.Signer.key_of c.args.signer.now c.args.issuer_key.now in
     let e = c.in-Err-signed_once.fault in
-    unsigned-unbuilt (g.S.Signer.may_sign c.args.signer.now issuer) c.args.self issuer type content
-    digest e
+    unsigned-unbuilt (g.S.Signer.may_sign c.args.signer.now) c.args.self issuer type content digest
+    e
     (subst (λ (time : Moment). AreNotSigned (attributes_of type digest time) e)
     c.signing_time.ensures
     (subst (λ (d : List ℕ). AreNotSigned (attributes_of type d c.signing_time.result) e)
@@ -39,20 +39,26 @@ returns-in-Ok-signed_once-clause-refused g c =
     let digest : List ℕ = g.S.Crypto.digest_of c.args.signer.now content in
     let key = c.args.issuer_key.now in
     let issuer : List ℕ = g.S.Signer.key_of c.args.signer.now key in
-    let later : List ℕ = g.S.Signer.key_of c.signed_once.new.signer key in
-    let same : later ≡ issuer =
-    c.in-Ok-signed_once.ensures.keys key ∙ c.in-Ok.ensures.keys key in
     let r = c.issued-object.result in
-    let may : List ℕ → List ℕ → Type 0 = g.S.Signer.may_sign c.signed_once.new.signer later in
-    let may' : List ℕ → List ℕ → Type 0 = g.S.Signer.may_sign c.args.signer.now issuer in
+    let may : List ℕ → List ℕ → List ℕ → Type 0 = g.S.Signer.may_sign c.signed_once.new.signer in
+    let may' : List ℕ → List ℕ → List ℕ → Type 0 = g.S.Signer.may_sign c.args.signer.now in
     IfErr-weaker r (IsNotBuilt may c.args.self issuer type content digest)
     (IsNotBuilt may' c.args.self issuer type content digest)
     (λ e h. unbuilt-as may c.args.self issuer type content digest may'
-    (λ m s k. subst (λ (i : List ℕ). g.S.Signer.may_sign c.args.signer.now i m s) same
-    ((c.in-Ok.ensures.signs later m s).0 ((c.in-Ok-signed_once.ensures.signs later m s).0 k)))
+    (λ k m s b. (c.in-Ok.ensures.signs k m s).0 ((c.in-Ok-signed_once.ensures.signs k m s).0 b))
     e h)
     (subst (λ (i : List ℕ). IfErr r (IsNotBuilt may c.args.self i type content digest))
     c.in-Ok.ensures.key
     (subst (λ (d : List ℕ). IfErr r (IsNotBuilt may c.args.self c.in-Ok.issuer type content d))
     (c.in-Ok-signed_once.ensures.digests content ∙ c.in-Ok.ensures.digests content)
     c.issued-object.ensures.refused))
+
+pub issued-object-requires-clause-issuer : goal.issued-object-requires-clause-issuer
+issued-object-requires-clause-issuer g c =
+    let key = c.args.issuer_key.now in
+    c.in-Ok.ensures.key
+    ∙ sym (c.in-Ok-signed_once.ensures.keys key ∙ c.in-Ok.ensures.keys key)
+
+pub issued-object-requires-clause-signed : goal.issued-object-requires-clause-signed
+issued-object-requires-clause-signed g c =
+    (c.in-Ok-signed_once.ensures.signs _ _ _).1 c.in-Ok-signed_once.ensures.signed
