@@ -1,5 +1,6 @@
 //! Tests of certificates, lists and objects: of `rpki_extensions`, `rpki_crls`, `rpki_certs`,
-//! `rpki_issued`, `rpki_sigobj`, `rpki_signed` and `rpki_paths`, each in the module of its name.
+//! `rpki_issued`, `rpki_sigobj`, `rpki_signing`, `rpki_signed` and `rpki_paths`, each in the module of
+//! its name.
 #![tactic(auto)]
 
 #[cfg(test)]
@@ -14,5 +15,7 @@ mod issued;
 mod paths;
 #[cfg(test)]
 mod signed;
+#[cfg(test)]
+mod signing;
 #[cfg(test)]
 mod sigobj;

@@ -72,7 +72,8 @@ with_v6 u claim =
 
 -- ---- what is signed
 
--- the octets of the subject: a name, or that of the key (RFC 6487, section 4.5)
+-- the octets of the subject: a name, or that of the key, which is this project's own rule (RFC
+-- 6487, section 4.5)
 abbrev pub subject_octets : Option Kept → List ℕ → List ℕ
 subject_octets None key = key_name_octets (sha1 key)
 subject_octets (Some name) key = name.octets
@@ -99,7 +100,7 @@ abbrev pub NamesInDer : Unsigned → Type 0
 NamesInDer u = (u.issuer.mode ≡ Der) × IfSome u.subject (λ name. name.mode ≡ Der)
 
 -- Why a certificate is not signed: a fault of the signer, a name in BER, or contents of 2^32 octets
--- or more, with a signature that may be answered; or memory ran out.
+-- or more, without a signature or with one that the signer may answer; or memory ran out.
 abbrev pub IsNotSigned : {E : Type 0} → (List ℕ → List ℕ → Type 0) → Unsigned → SigningError E
     → Type 0
 IsNotSigned may u error.KeyNotFound = Unit {0}

@@ -10,8 +10,8 @@ use rpki_resources::{
 };
 use std::alloc::{AllocError, Global};
 
-/// The claim of the AS numbers in the blocks that `op` adds to none: missing, where it adds none.
-/// `op` is one that may be called on every builder. Refuses where it does, and for want of memory.
+/// The claim of the AS numbers in the blocks that `op` adds to an empty builder: missing, where it
+/// adds none. `op` must accept any builder. Refuses where it does, and where memory runs out.
 pub fn build_as_resources<F: FnOnce(&mut AsBlocksBuilder) -> Result<(), AllocError>>(
     alloc: Global,
     op: F,
@@ -24,8 +24,8 @@ pub fn build_as_resources<F: FnOnce(&mut AsBlocksBuilder) -> Result<(), AllocErr
     builder.finalize()
 }
 
-/// The claim of the addresses in the blocks that `op` adds to none: missing, where it adds none.
-/// `op` is one that may be called on every builder. Refuses where it does, and for want of memory.
+/// The claim of the addresses in the blocks that `op` adds to an empty builder: missing, where it
+/// adds none. `op` must accept any builder. Refuses where it does, and where memory runs out.
 pub fn build_ip_resources<F: FnOnce(&mut IpBlocksBuilder) -> Result<(), AllocError>>(
     alloc: Global,
     op: F,

@@ -89,8 +89,8 @@ fn no_claims(policy: Overclaim) -> Claims
 }
 
 impl TbsCert {
-    /// A certificate of this key, under the name of its issuer. Where no subject is given, this is
-    /// the name of the key (RFC 6487, section 4.5). The identifier of the subject's key is that of
+    /// A certificate of this key, under the name of its issuer. Without a subject, the
+    /// subject is the key's name (RFC 6487, section 4.5). The identifier of the subject's key is that of
     /// the key (RFC 6487, section 4.8.2). There are no basic constraints, no identifier of the
     /// issuer's key and no URIs, and nothing is claimed.
     pub fn new(
@@ -248,8 +248,8 @@ impl TbsCert {
         self.extensions.claims.addresses.v6 = Resources::inherit();
     }
 
-    /// Sets the claim of AS numbers: that of the blocks which `op` adds to none, and missing
-    /// where it adds none (RFC 6487, section 4.8.11). `op` is one that may be called on every
+    /// Sets the claim of AS numbers: that of the blocks that `op` adds, and missing
+    /// where it adds none (RFC 6487, section 4.8.11). `op` must accept any
     /// builder. Where it refuses, or there is no memory, the certificate stays as it was.
     pub fn build_as_resource_blocks<F: FnOnce(&mut AsBlocksBuilder) -> Result<(), AllocError>>(
         &mut self,
@@ -267,8 +267,8 @@ impl TbsCert {
         Ok(())
     }
 
-    /// Sets the claim of IPv4 addresses: that of the blocks which `op` adds to none, and missing
-    /// where it adds none (RFC 6487, section 4.8.10). `op` is one that may be called on every
+    /// Sets the claim of IPv4 addresses: that of the blocks that `op` adds, and missing
+    /// where it adds none (RFC 6487, section 4.8.10). `op` must accept any
     /// builder. Where it refuses, or there is no memory, the certificate stays as it was.
     pub fn build_v4_resource_blocks<F: FnOnce(&mut IpBlocksBuilder) -> Result<(), AllocError>>(
         &mut self,
@@ -286,8 +286,8 @@ impl TbsCert {
         Ok(())
     }
 
-    /// Sets the claim of IPv6 addresses: that of the blocks which `op` adds to none, and missing
-    /// where it adds none (RFC 6487, section 4.8.10). `op` is one that may be called on every
+    /// Sets the claim of IPv6 addresses: that of the blocks that `op` adds, and missing
+    /// where it adds none (RFC 6487, section 4.8.10). `op` must accept any
     /// builder. Where it refuses, or there is no memory, the certificate stays as it was.
     pub fn build_v6_resource_blocks<F: FnOnce(&mut IpBlocksBuilder) -> Result<(), AllocError>>(
         &mut self,

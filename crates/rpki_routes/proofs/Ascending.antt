@@ -132,7 +132,8 @@ twins xs i lt same =
     let there : i < length rest = omega (arith, length-remove xs i here, lt) in
     let first : n ≡ get_or xs i n = sym (get_or_default xs i n 0 here) in
     let second : n ≡ get_or rest i n =
-    same ∙ sym (get_or_default xs (i + 1) n 0 lt) ∙ sym (get_or-remove_above xs i n i (omega arith) here) in
+    same ∙ sym (get_or_default xs (i + 1) n 0 lt)
+    ∙ sym (get_or-remove_above xs i n i (omega arith) here) in
     let others : List ℕ = remove rest i in (
       n,
       others,

@@ -58,7 +58,7 @@ pub fn limits_are_nested()
         → length a.providers ≤ most_providers Narrow → AspaForm Narrow octets a }
 {}
 
-/// What a builder of an ASPA refuses by a fault no content says, so that none is decoded as it.
+/// If a builder of an ASPA refuses values by a fault, no encoded content says these values.
 pub fn refused_attestations()
     ensures { (limit : ProviderLimit) (a : Aspa) (fault : BuildFault)
         → IsFirstFault (aspa_checks limit a) fault
@@ -87,7 +87,7 @@ pub fn roas_are_written()
     ensures found { (octets : List ℕ) (r : Roa) → IsBytes octets → RoaForm octets r → IsRoa r }
 {}
 
-/// What a builder of a ROA refuses by a fault no content says, so that none is decoded as it.
+/// If a builder of a ROA refuses values by a fault, no encoded content says these values.
 pub fn refused_roas()
     ensures { (r : Roa) (fault : BuildFault) → IsFirstFault (roa_checks r) fault
         → (octets : List ℕ) → IsBytes octets → RoaForm octets r → ⊥ }

@@ -1,6 +1,20 @@
 -- A built object passes its own validation.
-use Rattle.std.proofs.Common.{◌≡◌, ◌≢◌, ◌≤◌, ℕ, List, Option, None, Some, true, refl, sym, ap,
-    subst, ◌∙◌}
+use Rattle.std.proofs.Common.{
+  ◌≡◌,
+  ◌≢◌,
+  ◌≤◌,
+  ℕ,
+  List,
+  Option,
+  None,
+  Some,
+  true,
+  refl,
+  sym,
+  ap,
+  subst,
+  ◌∙◌,
+}
 use Rattle.sha1.specs.Sha1.{sha1}
 use Rattle.rpki_basics.specs.Moment.{Moment, stamp}
 use Rattle.rpki_faults.specs.Checks.{AllHold}

@@ -43,7 +43,8 @@ pub record Settings : Type 0 where
   pub v6 : Claim (List (Block ℕ))
   pub signing_time : Moment
 
--- the name of the issuer: one that was set, or that of its key (RFC 6487, section 4.4)
+-- the name of the issuer: one that was set, or that of its key, which is this project's own rule
+-- (RFC 6487, section 4.4)
 abbrev pub issuer_of : Option Kept → List ℕ → Kept
 issuer_of None key = record { octets = key_name_octets (sha1 key); mode = Der }
 issuer_of (Some name) key = name

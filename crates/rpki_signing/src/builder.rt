@@ -302,8 +302,8 @@ impl SignedObjectBuilder {
         self.v6 = Resources::inherit();
     }
 
-    /// Sets the claim of AS numbers: that of the blocks which `op` adds to none, and missing
-    /// where it adds none. `op` is one that may be called on every builder. Where it refuses, or
+    /// Sets the claim of AS numbers: that of the blocks that `op` adds, and missing
+    /// where it adds none. `op` must accept any builder. Where it refuses, or
     /// there is no memory, the builder stays as it was.
     pub fn build_as_resource_blocks<F: FnOnce(&mut AsBlocksBuilder) -> Result<(), AllocError>>(
         &mut self,
@@ -321,8 +321,8 @@ impl SignedObjectBuilder {
         Ok(())
     }
 
-    /// Sets the claim of IPv4 addresses: that of the blocks which `op` adds to none, and missing
-    /// where it adds none. `op` is one that may be called on every builder. Where it refuses, or
+    /// Sets the claim of IPv4 addresses: that of the blocks that `op` adds, and missing
+    /// where it adds none. `op` must accept any builder. Where it refuses, or
     /// there is no memory, the builder stays as it was.
     pub fn build_v4_resource_blocks<F: FnOnce(&mut IpBlocksBuilder) -> Result<(), AllocError>>(
         &mut self,
@@ -340,8 +340,8 @@ impl SignedObjectBuilder {
         Ok(())
     }
 
-    /// Sets the claim of IPv6 addresses: that of the blocks which `op` adds to none, and missing
-    /// where it adds none. `op` is one that may be called on every builder. Where it refuses, or
+    /// Sets the claim of IPv6 addresses: that of the blocks that `op` adds, and missing
+    /// where it adds none. `op` must accept any builder. Where it refuses, or
     /// there is no memory, the builder stays as it was.
     pub fn build_v6_resource_blocks<F: FnOnce(&mut IpBlocksBuilder) -> Result<(), AllocError>>(
         &mut self,

@@ -147,8 +147,11 @@ lists-short r short =
     let v6 = list-in-family Ipv6 r.v6 in
     let both = length-append (family_octets Ipv4 r.v4) (family_octets Ipv6 r.v6) in
     let families = contents-within SEQUENCE (families_octets r) in
-    let fields = length-append (number_octets r.as_id) (value_octets SEQUENCE (families_octets r)) in
-    (omega (arith, short, v4, both, families, fields), omega (arith, short, v6, both, families, fields))
+    let fields =
+    length-append (number_octets r.as_id) (value_octets SEQUENCE (families_octets r)) in (
+      omega (arith, short, v4, both, families, fields),
+      omega (arith, short, v6, both, families, fields),
+    )
 
 -- where each value is short, and the octets of all are few, they can be counted
 pub each-short : (family : AddressFamily) (list : List Address) → All (IsAddress family) list

@@ -40,7 +40,7 @@ impl Error for DuplicateProviderAs {}
 pub enum AddProviderError {
     /// It is a provider already.
     Duplicate,
-    /// No memory was to be had.
+    /// Out of memory.
     Memory,
 }
 
@@ -80,7 +80,7 @@ impl Model for AspaBuilder {
 
 impl AspaBuilder {
     /// A builder for this customer with these providers, which may come in any order. Refuses where
-    /// one of them stands twice. It takes no memory.
+    /// one of them stands twice. It does not allocate.
     pub fn new(customer: Asn, providers: Vec<Asn>) -> Result<AspaBuilder, DuplicateProviderAs>
         ensures customer { IfOk result (λ b. b.customer ≡ customer) }
         ensures providers { IfOk result (λ b. IsPermutation providers.items b.providers) }

@@ -85,7 +85,7 @@ impl RoaBuilder {
         &self.v4
     }
 
-    /// The addresses of IPv4, to be changed.
+    /// Mutable access to the addresses of IPv4.
     pub fn v4_mut(&mut self) -> &mut RoaIpAddressesBuilder
         ensures* writes_back { sem 𝓛 (LendsV4 self.entry result) }
         ensures value { result.now ≡ self.old.v4 }
@@ -100,7 +100,7 @@ impl RoaBuilder {
         &self.v6
     }
 
-    /// The addresses of IPv6, to be changed.
+    /// Mutable access to the addresses of IPv6.
     pub fn v6_mut(&mut self) -> &mut RoaIpAddressesBuilder
         ensures* writes_back { sem 𝓛 (LendsV6 self.entry result) }
         ensures value { result.now ≡ self.old.v6 }
@@ -206,7 +206,7 @@ impl RoaBuilder {
     /// at first, and those of each family in their order: one whose prefix is longer than an
     /// address of the family is refused by `PrefixTooLong`, and one whose maximum length is below
     /// that of the prefix or above that of an address by `BadMaxLength`. Refuses by `TooLong` where
-    /// the content has 2^32 octets or more, and by `Memory`.
+    /// its SEQUENCE would have contents of 2^32 octets or more, and by `Memory`.
     pub fn to_attestation(&self) -> Result<RouteOriginAttestation, BuildError>
         ensures built { IfOk result (λ roa. roa ≡ self.now) }
         ensures roa { OnOk result (IsRoa self.now) }

@@ -1,0 +1,7 @@
+//! Tests of `rpki_signing`: objects that are built, under an issuer that was built too, and a signer
+//! whose calls fail. Keys and signatures are those of the stand-in.
+//!
+//! A test hands want of memory on and asserts everything else.
+
+mod given;
+mod objects;
