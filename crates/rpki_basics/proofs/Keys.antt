@@ -1,3 +1,4 @@
 -- Keys.
+pub mod Identifiers
 pub mod Parts
 pub mod Written

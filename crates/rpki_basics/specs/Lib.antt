@@ -1,6 +1,7 @@
 pub mod Algorithm
 pub mod Build
 pub mod Digits
+pub mod Identifier
 pub mod Key
 pub mod Limits
 pub mod Moment

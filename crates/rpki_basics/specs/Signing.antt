@@ -1,5 +1,5 @@
 -- Why something is not built and signed.
-use Rattle.std.specs.Prelude.{ℕ, List, Option, Some, codes}
+use Rattle.std.specs.Prelude.{◌≡◌, ◌<◌, ℕ, List, Option, Some, Result, Ok, Err, codes}
 use Rattle.rpki_basics.specs.declared.signer.SignerFault.{SignerFault}
 use Rattle.rpki_basics.specs.declared.signer.SignerFault.TheVariants as fault
 use Rattle.rpki_basics.specs.Build.{fault_text}
@@ -23,3 +23,15 @@ signing_text own error.TooLong = Some (codes "too long")
 signing_text own (error.Content fault) = Some (fault_text fault)
 signing_text own error.NotDer = Some (codes "not DER")
 signing_text own error.Memory = Some (codes "out of memory")
+
+-- Each fault of the signer's own raises the count of its failed calls, and nothing else does.
+abbrev pub CountsError : {T E : Type 0} → ℕ → ℕ → Result T (SigningError E) → Type 0
+CountsError old new (Ok t) = new ≡ old
+CountsError old new (Err error.KeyNotFound) = old < new
+CountsError old new (Err error.IncompatibleKey) = old < new
+CountsError old new (Err (error.Signer e)) = old < new
+CountsError old new (Err error.AttrsTooLong) = new ≡ old
+CountsError old new (Err error.TooLong) = new ≡ old
+CountsError old new (Err (error.Content fault)) = new ≡ old
+CountsError old new (Err error.NotDer) = new ≡ old
+CountsError old new (Err error.Memory) = new ≡ old

@@ -1,8 +1,9 @@
 -- The validation of certificates: what is checked, in which order, and which numbers they have.
 use Rattle.std.specs.Prelude.{◌≡◌, ℕ, List, [], ◌∷◌, ◌++◌}
+use Rattle.sha1.specs.Sha1.{sha1}
 use Rattle.rpki_basics.specs.Moment.{Moment}
 use Rattle.rpki_resources.specs.declared.block.Block.{Block}
-use Rattle.rpki_resources.specs.Blocks.{Covers}
+use Rattle.rpki_resources.specs.Blocks.{Covers, IsCanonical}
 use Rattle.rpki_resources.specs.Claim.{HasBlocks}
 use Rattle.rpki_faults.specs.Checks.{Check, ◌unless◌, ◌as_faults_of◌}
 use Rattle.rpki_faults.specs.Validated.{IsAllowed, IsValidated}
@@ -28,6 +29,19 @@ pub record Sets : Type 0 where
 pub record Validated : Type 0 where
   pub cert : KeptCertificate
   pub sets : Sets
+
+-- Each set has the one list of blocks that it can have (RFC 3779, sections 2.2.3.6 and 3.2.3.4).
+pub record AreCanonical (sets : Sets) : Type 0 where
+  pub as_numbers : IsCanonical (λ (n : ℕ). n) sets.as_numbers
+  pub v4 : IsCanonical (λ (n : ℕ). n) sets.v4
+  pub v6 : IsCanonical (λ (n : ℕ). n) sets.v6
+
+-- What holds of each certificate that was validated, whoever issued it: it states the identifier of
+-- its own key (RFC 6487, section 4.8.2), and its sets are canonical.
+pub record IsResourceCert (v : Validated) : Type 0 where
+  pub identifier : v.cert.certificate.tbs.extensions.key.subject_key
+      ≡ sha1 v.cert.certificate.tbs.key
+  pub sets : AreCanonical v.sets
 
 -- The claim of AS numbers has to be allowed under the issuer's set: where a claim of too much is
 -- refused, the issuer has all that is claimed (RFC 6487, section 7.2).

@@ -9,7 +9,7 @@ ghost use Rattle.rpki_certs.specs.Inspect.{Inherits};
 ghost use Rattle.rpki_certs.specs.Validate.{AreClaimed, AreValidated, covering_checks};
 ghost use Rattle.rpki_certs.specs.Validate.{issuing_checks, issued_validation, ta_validation};
 ghost use Rattle.rpki_certs.specs.Validate.{ca_validation, ee_validation, detached_ee_validation};
-ghost use Rattle.rpki_certs.specs.Validate.{IsAnchorOf, IsValidatedUnder};
+ghost use Rattle.rpki_certs.specs.Validate.{IsAnchorOf, IsResourceCert, IsValidatedUnder};
 
 use crate::cert::Cert;
 use rpki_basics::{Crypto, Time};
@@ -28,11 +28,17 @@ struct Sets {
 }
 
 impl Model for Sets {
-    ghost use Rattle.rpki_certs.specs.Validate.{Sets as ThreeSets};
+    ghost use Rattle.rpki_certs.specs.Validate.{AreCanonical, Sets as ThreeSets};
 
     ghost Value = { ThreeSets };
 
     ghost view = { λ s. record { as_numbers = s.as_numbers; v4 = s.v4; v6 = s.v6 } };
+
+    ghost invariant = { λ s. AreCanonical (record {
+      as_numbers = s.as_numbers;
+      v4 = s.v4;
+      v6 = s.v6;
+    }) };
 }
 
 impl Clone for Sets {
@@ -56,14 +62,22 @@ pub struct ResourceCert {
 }
 
 impl Model for ResourceCert {
-    ghost use Rattle.rpki_certs.specs.Validate.{Validated};
+    ghost use Rattle.rpki_certs.specs.Validate.{IsResourceCert, Validated};
 
     ghost Value = { Validated };
 
     ghost view = { λ r. record { cert = r.cert; sets = r.sets } };
+
+    ghost invariant = { λ r. IsResourceCert (record { cert = r.cert; sets = r.sets }) };
 }
 
 impl ResourceCert {
+    /// What holds of each certificate that was validated: it states the identifier of its own key
+    /// (RFC 6487, section 4.8.2), and its sets are canonical. A law, as a call that does nothing.
+    pub fn is_resource_cert(&self)
+        ensures { IsResourceCert self.now }
+    {}
+
     /// The certificate.
     pub fn cert(&self) -> &Cert
         ensures { result.now ≡ self.now.cert }

@@ -16,14 +16,12 @@ use crate::faults;
 use bytes::Bytes;
 use rpki_basics::{KeyIdentifier, Serial};
 use rpki_der::{Constructed, DecodeError, Mode};
+use rpki_extensions::identifiers::AUTHORITY_KEY_IDENTIFIER;
 use rpki_extensions::{Extension, Profile, take_authority_key_identifier, take_standing, with_oid};
 use std::alloc::Global;
 
-// id-ce-authorityKeyIdentifier (RFC 5280, section 5.2.1).
-const AUTHORITY_KEY_IDENTIFIER: [u8; 3] = [0x55, 0x1D, 35];
-
-// id-ce-cRLNumber (RFC 5280, section 5.2.3).
-const CRL_NUMBER: [u8; 3] = [0x55, 0x1D, 20];
+/// id-ce-cRLNumber (RFC 5280, section 5.2.3).
+pub const CRL_NUMBER: [u8; 3] = [0x55, 0x1D, 20];
 
 /// What the extensions of a revocation list say (RFC 6487, section 5).
 #[derive(Clone, Copy, Debug)]

@@ -8,4 +8,4 @@ pub mod faults;
 pub mod laws;
 
 pub use crl::Crl;
-pub use extensions::CrlExtensions;
+pub use extensions::{CRL_NUMBER, CrlExtensions};

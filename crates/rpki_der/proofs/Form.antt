@@ -7,3 +7,4 @@ pub mod Nested
 pub mod Keyed
 pub mod Malformed
 pub mod Taking
+pub mod ReadBack

@@ -10,26 +10,14 @@ ghost use Rattle.rpki_extensions.specs.Access.{access_fields_at, accesses_at, is
 ghost use Rattle.rpki_extensions.specs.Access.{subject_of, authority_access_at};
 ghost use Rattle.rpki_extensions.specs.Access.{subject_access_at};
 
+use crate::identifiers::{
+    CA_ISSUERS, CA_REPOSITORY, RPKI_MANIFEST, RPKI_NOTIFY, SIGNED_OBJECT,
+};
 use crate::name::{GeneralName, take_general_name, uri_of};
 use crate::uri::NamedUri;
 use rpki_basics::{Https, Rsync};
 use rpki_der::{Constructed, DecodeError, ListItem, Oid};
 use std::alloc::{AllocError, Global};
-
-// id-ad-caIssuers (RFC 5280, section 4.2.2.1).
-const CA_ISSUERS: [u8; 8] = [0x2B, 0x06, 0x01, 0x05, 0x05, 0x07, 0x30, 0x02];
-
-// id-ad-caRepository (RFC 5280, section 4.2.2.2).
-const CA_REPOSITORY: [u8; 8] = [0x2B, 0x06, 0x01, 0x05, 0x05, 0x07, 0x30, 0x05];
-
-// id-ad-rpkiManifest (RFC 6487, section 4.8.8.1).
-const RPKI_MANIFEST: [u8; 8] = [0x2B, 0x06, 0x01, 0x05, 0x05, 0x07, 0x30, 0x0A];
-
-// id-ad-signedObject (RFC 6487, section 4.8.8.2).
-const SIGNED_OBJECT: [u8; 8] = [0x2B, 0x06, 0x01, 0x05, 0x05, 0x07, 0x30, 0x0B];
-
-// id-ad-rpkiNotify (RFC 8182, section 3.2).
-const RPKI_NOTIFY: [u8; 8] = [0x2B, 0x06, 0x01, 0x05, 0x05, 0x07, 0x30, 0x0D];
 
 /// An access description (RFC 5280, section 4.2.2.1).
 #[derive(Debug, Drop)]

@@ -17,7 +17,7 @@ ghost use Rattle.rpki_extensions.specs.Policies.{policies_at};
 use crate::addresses::IpClaims;
 use crate::extension::{Extension, has_oid, with_oid};
 use crate::faults;
-use crate::identifiers::{CERTIFICATE_POLICIES, as_resources, ip_resources, other};
+use crate::identifiers::{CERTIFICATE_POLICIES, as_oid, ip_oid, other};
 use crate::policies::take_certificate_policies;
 use bytes::Bytes;
 use rpki_der::{Constructed, DecodeError, Mode};
@@ -78,7 +78,7 @@ fn addresses(alloc: Global, list: &[Extension], policy: Overclaim) -> Result<IpC
     ensures { Tells (λ claims. claims)
         (stated_or no_addresses (ip_resources policy) ip_claims_at list.now) result }
 {
-    match with_oid(list, &ip_resources(policy)) {
+    match with_oid(list, ip_oid(policy)) {
         None => Ok(IpClaims {
             v4: Resources::missing(),
             v6: Resources::missing(),
@@ -107,7 +107,7 @@ fn as_numbers(
     ensures { Tells (λ claim. claim)
         (stated_or Missing (as_resources policy) as_identifiers_at list.now) result }
 {
-    match with_oid(list, &as_resources(policy)) {
+    match with_oid(list, as_oid(policy)) {
         None => Ok(Resources::missing()),
         Some(extension) => as_numbers_in(alloc, extension.value.clone()?),
     }
@@ -131,7 +131,7 @@ fn claims_under(alloc: Global, policy: Overclaim, list: &[Extension]) -> Result<
 fn has_other(policy: Overclaim, list: &[Extension]) -> bool
     ensures { result ≡ has_other policy list.now }
 {
-    has_oid(list, &ip_resources(other(policy))) || has_oid(list, &as_resources(other(policy)))
+    has_oid(list, ip_oid(other(policy))) || has_oid(list, as_oid(other(policy)))
 }
 
 // What the extensions claim.

@@ -1,37 +1,38 @@
-//! The identifiers of extensions.
+//! The identifiers of extensions, policies and access methods.
 
 ghost use Rattle.std.specs.Prelude.{◌≡◌};
 ghost use Rattle.rpki_extensions.specs.Extension.{is_among};
 ghost use Rattle.rpki_extensions.specs.Extensions.{certificate_extensions, ip_resources};
 ghost use Rattle.rpki_extensions.specs.Extensions.{as_resources, other};
+ghost use Rattle.rpki_extensions.specs.Policies.{policy_oid};
 
 use rpki_faults::Overclaim;
 
-// id-ce-subjectKeyIdentifier (RFC 6487, section 4.8.2).
+/// id-ce-subjectKeyIdentifier (RFC 6487, section 4.8.2).
 pub const SUBJECT_KEY_IDENTIFIER: [u8; 3] = [0x55, 0x1D, 14];
 
-// id-ce-keyUsage (RFC 6487, section 4.8.4).
+/// id-ce-keyUsage (RFC 6487, section 4.8.4).
 pub const KEY_USAGE: [u8; 3] = [0x55, 0x1D, 15];
 
-// id-ce-basicConstraints (RFC 6487, section 4.8.1).
+/// id-ce-basicConstraints (RFC 6487, section 4.8.1).
 pub const BASIC_CONSTRAINTS: [u8; 3] = [0x55, 0x1D, 19];
 
-// id-ce-cRLDistributionPoints (RFC 6487, section 4.8.6).
+/// id-ce-cRLDistributionPoints (RFC 6487, section 4.8.6).
 pub const CRL_DISTRIBUTION_POINTS: [u8; 3] = [0x55, 0x1D, 31];
 
-// id-ce-certificatePolicies (RFC 6487, section 4.8.9).
+/// id-ce-certificatePolicies (RFC 6487, section 4.8.9).
 pub const CERTIFICATE_POLICIES: [u8; 3] = [0x55, 0x1D, 32];
 
-// id-ce-authorityKeyIdentifier (RFC 6487, section 4.8.3).
+/// id-ce-authorityKeyIdentifier (RFC 6487, section 4.8.3).
 pub const AUTHORITY_KEY_IDENTIFIER: [u8; 3] = [0x55, 0x1D, 35];
 
-// id-ce-extKeyUsage (RFC 6487, section 4.8.5).
+/// id-ce-extKeyUsage (RFC 6487, section 4.8.5).
 pub const EXTENDED_KEY_USAGE: [u8; 3] = [0x55, 0x1D, 37];
 
-// id-pe-authorityInfoAccess (RFC 6487, section 4.8.7).
+/// id-pe-authorityInfoAccess (RFC 6487, section 4.8.7).
 pub const AUTHORITY_INFO_ACCESS: [u8; 8] = [0x2B, 0x06, 0x01, 0x05, 0x05, 0x07, 0x01, 1];
 
-// id-pe-subjectInfoAccess (RFC 6487, section 4.8.8).
+/// id-pe-subjectInfoAccess (RFC 6487, section 4.8.8).
 pub const SUBJECT_INFO_ACCESS: [u8; 8] = [0x2B, 0x06, 0x01, 0x05, 0x05, 0x07, 0x01, 11];
 
 // id-pe-ipAddrBlocks (RFC 6487, section 4.8.10).
@@ -46,28 +47,59 @@ const IP_RESOURCES_V2: [u8; 8] = [0x2B, 0x06, 0x01, 0x05, 0x05, 0x07, 0x01, 28];
 // id-pe-autonomousSysIds-v2 (RFC 8360, section 4.2.2.3).
 const AS_RESOURCES_V2: [u8; 8] = [0x2B, 0x06, 0x01, 0x05, 0x05, 0x07, 0x01, 29];
 
-// The extension of addresses that goes with a policy.
-pub fn ip_resources(policy: Overclaim) -> [u8; 8]
-    ensures { result ≡ ip_resources policy }
+// id-cp-ipAddr-asNumber (RFC 6484, section 1.2).
+const IP_ADDR_AS_NUMBER: [u8; 8] = [0x2B, 0x06, 0x01, 0x05, 0x05, 0x07, 0x0E, 2];
+
+// id-cp-ipAddr-asNumber-v2 (RFC 8360, section 4.2.1).
+const IP_ADDR_AS_NUMBER_V2: [u8; 8] = [0x2B, 0x06, 0x01, 0x05, 0x05, 0x07, 0x0E, 3];
+
+/// id-ad-caIssuers (RFC 5280, section 4.2.2.1).
+pub const CA_ISSUERS: [u8; 8] = [0x2B, 0x06, 0x01, 0x05, 0x05, 0x07, 0x30, 0x02];
+
+/// id-ad-caRepository (RFC 5280, section 4.2.2.2).
+pub const CA_REPOSITORY: [u8; 8] = [0x2B, 0x06, 0x01, 0x05, 0x05, 0x07, 0x30, 0x05];
+
+/// id-ad-rpkiManifest (RFC 6487, section 4.8.8.1).
+pub const RPKI_MANIFEST: [u8; 8] = [0x2B, 0x06, 0x01, 0x05, 0x05, 0x07, 0x30, 0x0A];
+
+/// id-ad-signedObject (RFC 6487, section 4.8.8.2).
+pub const SIGNED_OBJECT: [u8; 8] = [0x2B, 0x06, 0x01, 0x05, 0x05, 0x07, 0x30, 0x0B];
+
+/// id-ad-rpkiNotify (RFC 8182, section 3.2).
+pub const RPKI_NOTIFY: [u8; 8] = [0x2B, 0x06, 0x01, 0x05, 0x05, 0x07, 0x30, 0x0D];
+
+/// The identifier of the extension of addresses that goes with a policy.
+pub fn ip_oid(policy: Overclaim) -> &'static [u8]
+    ensures { result.now ≡ ip_resources policy }
 {
     match policy {
-        Overclaim::Refuse => IP_RESOURCES,
-        Overclaim::Trim => IP_RESOURCES_V2,
+        Overclaim::Refuse => &IP_RESOURCES,
+        Overclaim::Trim => &IP_RESOURCES_V2,
     }
 }
 
-// The extension of AS numbers that goes with a policy.
-pub fn as_resources(policy: Overclaim) -> [u8; 8]
-    ensures { result ≡ as_resources policy }
+/// The identifier of the extension of AS numbers that goes with a policy.
+pub fn as_oid(policy: Overclaim) -> &'static [u8]
+    ensures { result.now ≡ as_resources policy }
 {
     match policy {
-        Overclaim::Refuse => AS_RESOURCES,
-        Overclaim::Trim => AS_RESOURCES_V2,
+        Overclaim::Refuse => &AS_RESOURCES,
+        Overclaim::Trim => &AS_RESOURCES_V2,
+    }
+}
+
+/// The identifier of the policy itself.
+pub fn policy_oid(policy: Overclaim) -> &'static [u8]
+    ensures { result.now ≡ policy_oid policy }
+{
+    match policy {
+        Overclaim::Refuse => &IP_ADDR_AS_NUMBER,
+        Overclaim::Trim => &IP_ADDR_AS_NUMBER_V2,
     }
 }
 
 // The other policy.
-pub fn other(policy: Overclaim) -> Overclaim
+pub(crate) fn other(policy: Overclaim) -> Overclaim
     ensures { result ≡ other policy }
 {
     match policy {
@@ -77,7 +109,7 @@ pub fn other(policy: Overclaim) -> Overclaim
 }
 
 // Whether an extension is known in a resource certificate.
-pub fn is_known(oid: &[u8]) -> bool
+pub(crate) fn is_known(oid: &[u8]) -> bool
     ensures { result ≡ is_among certificate_extensions oid.now }
 {
     oid == SUBJECT_KEY_IDENTIFIER.as_slice()

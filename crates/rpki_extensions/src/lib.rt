@@ -9,7 +9,7 @@ mod claims;
 mod extension;
 mod extensions;
 pub mod faults;
-mod identifiers;
+pub mod identifiers;
 mod key_identifiers;
 mod keys;
 pub mod laws;

@@ -9,22 +9,17 @@ ghost use Rattle.rpki_extensions.specs.Policies.{PoliciesForm, overclaim_of, pol
 ghost use Rattle.rpki_extensions.specs.Policies.{one_policy_at, policies_at};
 
 use crate::faults;
+use crate::identifiers::policy_oid;
 use rpki_der::{Constructed, DecodeError};
 use rpki_faults::Overclaim;
-
-// id-cp-ipAddr-asNumber (RFC 6484, section 1.2).
-const REFUSE: [u8; 8] = [0x2B, 0x06, 0x01, 0x05, 0x05, 0x07, 0x0E, 0x02];
-
-// id-cp-ipAddr-asNumber-v2 (RFC 8360, section 4.2.1).
-const TRIM: [u8; 8] = [0x2B, 0x06, 0x01, 0x05, 0x05, 0x07, 0x0E, 0x03];
 
 // What the policy with this identifier says.
 fn overclaim_of(oid: &[u8]) -> Option<Overclaim>
     ensures { result ≡ overclaim_of oid.now }
 {
-    if oid == REFUSE.as_slice() {
+    if oid == policy_oid(Overclaim::Refuse) {
         Some(Overclaim::Refuse)
-    } else if oid == TRIM.as_slice() {
+    } else if oid == policy_oid(Overclaim::Trim) {
         Some(Overclaim::Trim)
     } else {
         None

@@ -9,7 +9,8 @@ use Rattle.rpki_basics.specs.declared.signer.SignerFault.{SignerFault}
 use Rattle.rpki_basics.specs.declared.signer.SignerFault.TheVariants as fault
 use Rattle.rpki_basics.specs.Signer.{CountsFault}
 use Rattle.rpki_basics.specs.Signing.{signing_error}
-use Rattle.rpki_issued.specs.Signing.{signed_contents, IsNotJoined, CountsError, encode_fault}
+use Rattle.rpki_basics.specs.Signing.{CountsError}
+use Rattle.rpki_issued.specs.Signing.{signed_contents, IsNotJoined, encode_fault}
 
 -- ---- refusals
 

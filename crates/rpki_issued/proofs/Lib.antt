@@ -1,4 +1,3 @@
-pub mod ReadBack
 pub mod Parts
 pub mod Values
 pub mod CertExtensions

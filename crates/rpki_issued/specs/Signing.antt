@@ -1,5 +1,5 @@
--- What is signed, with its signature, and what signing it answers.
-use Rattle.std.specs.Prelude.{◌≡◌, ℕ, ◌<◌, ◌^◌, List, ◌++◌, length, Result, Ok, Err}
+-- What is signed, with its signature, and why it is not signed.
+use Rattle.std.specs.Prelude.{◌≡◌, ℕ, ◌<◌, ◌^◌, List, ◌++◌, length}
 use Rattle.rpki_der.specs.declared.encode.EncodeError.{EncodeError}
 use Rattle.rpki_der.specs.declared.encode.EncodeError.TheVariants as unwritten
 use Rattle.rpki_der.specs.Tags.{BIT_STRING, SEQUENCE}
@@ -33,18 +33,6 @@ IsNotJoined may signed error.TooLong =
 IsNotJoined may signed (error.Content fault) = ⊥
 IsNotJoined may signed error.NotDer = ⊥
 IsNotJoined may signed error.Memory = Unit {0}
-
--- Each fault of the signer's own raises the count of its failed calls, and nothing else does.
-abbrev pub CountsError : {T E : Type 0} → ℕ → ℕ → Result T (SigningError E) → Type 0
-CountsError old new (Ok t) = new ≡ old
-CountsError old new (Err error.KeyNotFound) = old < new
-CountsError old new (Err error.IncompatibleKey) = old < new
-CountsError old new (Err (error.Signer e)) = old < new
-CountsError old new (Err error.AttrsTooLong) = new ≡ old
-CountsError old new (Err error.TooLong) = new ≡ old
-CountsError old new (Err (error.Content fault)) = new ≡ old
-CountsError old new (Err error.NotDer) = new ≡ old
-CountsError old new (Err error.Memory) = new ≡ old
 
 -- the error for what is not written
 abbrev pub encode_fault : {E : Type 0} → EncodeError → SigningError E

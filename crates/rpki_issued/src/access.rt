@@ -11,10 +11,10 @@ ghost use Rattle.rpki_issued.specs.Values.{access_contents, access_octets};
 ghost use Rattle.rpki_issued.specs.Values.{subject_access_contents, subject_access_octets};
 ghost use Rattle.rpki_issued.specs.Extensions.{said_access};
 
-use crate::identifiers::{CA_REPOSITORY, RPKI_MANIFEST, RPKI_NOTIFY, SIGNED_OBJECT};
 use rpki_basics::{Https, Rsync};
 use rpki_der::encode::{Raw, Value, primitive, sequence};
 use rpki_der::{Encode, EncodeError, Sink, SinkFailed, Tag};
+use rpki_extensions::identifiers::{CA_REPOSITORY, RPKI_MANIFEST, RPKI_NOTIFY, SIGNED_OBJECT};
 use rpki_extensions::SubjectAccess;
 
 /// A method and a URI.

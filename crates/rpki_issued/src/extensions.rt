@@ -21,14 +21,14 @@ ghost use Rattle.rpki_issued.specs.Extensions.{extensions_contents, extensions_o
 use crate::access::{AccessTo, SubjectAccessEncoder, access_to, says_something};
 use crate::claims::{AsClaimEncoder, IpClaimsEncoder, names_something};
 use crate::extension::{ExtensionEncoder, Flag};
-use crate::identifiers::{
+use rpki_basics::{KeyIdentifier, Rsync};
+use rpki_der::encode::{Bits, Raw, Value, bit_string, octet_string, primitive, sequence, tagged};
+use rpki_der::{Encode, EncodeError, Sink, SinkFailed, Tag};
+use rpki_extensions::identifiers::{
     AUTHORITY_INFO_ACCESS, AUTHORITY_KEY_IDENTIFIER, BASIC_CONSTRAINTS, CA_ISSUERS,
     CERTIFICATE_POLICIES, CRL_DISTRIBUTION_POINTS, KEY_USAGE, SUBJECT_INFO_ACCESS,
     SUBJECT_KEY_IDENTIFIER, as_oid, ip_oid, policy_oid,
 };
-use rpki_basics::{KeyIdentifier, Rsync};
-use rpki_der::encode::{Bits, Raw, Value, bit_string, octet_string, primitive, sequence, tagged};
-use rpki_der::{Encode, EncodeError, Sink, SinkFailed, Tag};
 use rpki_extensions::{Extensions, IpClaims, SubjectAccess};
 use rpki_faults::{KeyUsage, Overclaim};
 use rpki_resources::AsResources;

@@ -5,7 +5,6 @@ mod access;
 mod claims;
 mod extension;
 mod extensions;
-mod identifiers;
 pub mod laws;
 pub mod resources;
 pub mod signing;

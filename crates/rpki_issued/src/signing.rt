@@ -6,7 +6,8 @@ ghost use Rattle.rpki_der.specs.Tags.{SEQUENCE};
 ghost use Rattle.rpki_der.specs.Write.Encode.{IsBytesOf};
 ghost use Rattle.rpki_der.specs.Write.Written.{value_octets};
 ghost use Rattle.rpki_issued.specs.Signing.{signed_contents, IsJoined, IsNotJoined};
-ghost use Rattle.rpki_issued.specs.Signing.{CountsError, encode_fault};
+ghost use Rattle.rpki_basics.specs.Signing.{CountsError};
+ghost use Rattle.rpki_issued.specs.Signing.{encode_fault};
 
 use rpki_basics::{RpkiSignature, RpkiSignatureAlgorithm, Signer, SigningError};
 use rpki_der::encode::{Raw, bit_string, sequence};

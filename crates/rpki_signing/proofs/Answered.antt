@@ -14,7 +14,7 @@ use Rattle.rpki_attributes.specs.Attrs.{SignedAttributes, most_octets}
 use Rattle.rpki_attributes.specs.Attrs.Made.{attributes_of, message_of}
 use Rattle.rpki_certs.specs.Cert.{Tbs, Certificate}
 use Rattle.rpki_sigobj.specs.Object.{SignedData, SignedObject, KeptObject}
-use Rattle.rpki_issued.specs.Signing.{CountsError}
+use Rattle.rpki_basics.specs.Signing.{CountsError}
 use Rattle.rpki_issued.specs.Tbs.{tbs_of, IsNotSigned}
 use Rattle.rpki_issued.specs.Written.{made_certificate, tbs_octets}
 use Rattle.rpki_signing.specs.Written.{IsNotWritten, made_object}

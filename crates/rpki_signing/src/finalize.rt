@@ -5,7 +5,7 @@ ghost use Rattle.std.specs.List.{concat};
 ghost use Rattle.rpki_der.specs.declared.mode.Mode.TheVariants.{Der};
 ghost use Rattle.rpki_attributes.specs.Attrs.{most_octets};
 ghost use Rattle.rpki_attributes.specs.Attrs.Made.{attributes_of, message_of};
-ghost use Rattle.rpki_issued.specs.Signing.{CountsError};
+ghost use Rattle.rpki_basics.specs.Signing.{CountsError};
 ghost use Rattle.rpki_issued.specs.Written.{ClaimsIpv4};
 ghost use Rattle.rpki_signing.specs.Built.{AreMade, AreNotSigned, IsBuilt, IsNotBuilt};
 ghost use Rattle.rpki_signing.specs.Built.{attrs_error, claims_of};

@@ -8,7 +8,7 @@ ghost use Rattle.rpki_der.specs.Tags.{SEQUENCE};
 ghost use Rattle.rpki_der.specs.Write.Encode.{IsBytesOf};
 ghost use Rattle.rpki_der.specs.Write.Written.{value_octets};
 ghost use Rattle.rpki_certs.specs.Cert.{Certificate, CertForm};
-ghost use Rattle.rpki_issued.specs.Signing.{CountsError};
+ghost use Rattle.rpki_basics.specs.Signing.{CountsError};
 ghost use Rattle.rpki_issued.specs.Written.{ClaimsIpv4, IsTbsToWrite};
 ghost use Rattle.rpki_issued.specs.Written.{tbs_contents, tbs_octets, made_certificate};
 ghost use Rattle.rpki_issued.specs.Tbs.{subject_octets, tbs_of, fields_octets, NamesInDer};

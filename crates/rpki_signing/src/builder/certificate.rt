@@ -2,7 +2,7 @@
 
 ghost use Rattle.std.specs.Prelude.{◌≡◌, ◌↔◌, ℕ, List, IfOk, IfErr};
 ghost use Rattle.rpki_der.specs.declared.mode.Mode.TheVariants.{Der};
-ghost use Rattle.rpki_issued.specs.Signing.{CountsError};
+ghost use Rattle.rpki_basics.specs.Signing.{CountsError};
 ghost use Rattle.rpki_issued.specs.Tbs.{IsNotSigned, tbs_of};
 ghost use Rattle.rpki_issued.specs.Written.{ClaimsIpv4, made_certificate, tbs_octets};
 ghost use Rattle.rpki_signing.specs.Built.{claims_of, issuer_of, unsigned_of};

@@ -1,7 +1,7 @@
 use Rattle.std.proofs.Common.{List, ℕ, sym, subst}
 use Rattle.rpki_der.specs.declared.mode.Mode.TheVariants.{Der}
 use Rattle.rpki_certs.specs.Cert.{CertForm}
-use Rattle.rpki_issued.proofs.ReadBack.{only-front, refuses-memory}
+use Rattle.rpki_der.proofs.Form.ReadBack.{only-front, refuses-memory}
 use Rattle.rpki_issued.proofs.tbs.issue.read_back.Goals as goal
 
 pub returns-in-Ok-clause-certificate : goal.returns-in-Ok-clause-certificate
