@@ -97,7 +97,8 @@ fn take_fields(
     }
 }
 
-/// Reads an attribute, if one is next.
+/// Reads an attribute, if one is next. Refuses by `InvalidSignedAttr` one of another type, where
+/// `others` has these refused, by `Malformed`, or by `Memory`.
 pub fn take_opt_attribute(
     cons: &mut Constructed<'_>,
     alloc: Global,

@@ -96,7 +96,7 @@ impl SignedAttrs {
     ///
     /// Refuses by `Malformed`, by `InvalidSignedAttr` for an attribute of another type, by
     /// `ATTRIBUTE_TWICE`, `NO_CONTENT_TYPE`, `NO_MESSAGE_DIGEST`, `NO_SIGNING_TIME`, by
-    /// `ATTRIBUTES_TOO_LONG` for more than 65535 octets, and by what `Time::take_from` refuses.
+    /// `ATTRIBUTES_TOO_LONG` for more than 65535 octets, and by what `Time::take_from` refuses by.
     /// `Memory` may come too.
     pub fn take_from(alloc: Global, cons: &mut Constructed<'_>) -> Result<SignedAttrs, DecodeError>
         ensures reads { Reads (λ a. a.attributes) (attrs_at Refuse) cons.old result cons.new }
@@ -111,7 +111,8 @@ impl SignedAttrs {
     /// Reads signed attributes as `take_from` does, and skips those of other types. It is for the
     /// messages of RFC 6492 and RFC 8181. That any values may follow another type, or none, and
     /// that the signing time has to be there, is this project's own rule: RFC 5652 has a SET in
-    /// section 5.3, and leaves the signing time open in section 11.3.
+    /// section 5.3, and leaves the signing time open in section 11.3. Refuses as `take_from` does,
+    /// but never by `InvalidSignedAttr`.
     pub fn take_from_signed_message(
         alloc: Global,
         cons: &mut Constructed<'_>,

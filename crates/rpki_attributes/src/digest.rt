@@ -27,7 +27,7 @@ impl Model for MessageDigest {
 }
 
 impl MessageDigest {
-    /// The octets of a SHA-256 digest.
+    /// The octets of a SHA-256 digest. Refuses where memory runs out.
     pub fn from_digest(alloc: Global, digest: &Digest) -> Result<MessageDigest, AllocError>
         ensures { IfOk result (λ d. d ≡ digest.now) }
     {

@@ -13,7 +13,7 @@ use crate::faults;
 use rpki_der::{Constructed, DecodeError};
 use std::alloc::Global;
 
-/// Reads as many attributes as there are.
+/// Reads as many attributes as there are. Refuses as `take_opt_attribute` does, or by `Memory`.
 pub fn take_list(
     cons: &mut Constructed<'_>,
     alloc: Global,

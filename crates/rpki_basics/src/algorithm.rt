@@ -48,7 +48,7 @@ fn take_algorithm(cons: &mut Constructed<'_>) -> Result<Oid, DecodeError>
     cons.take_sequence(take_fields)
 }
 
-// Reads the algorithm with this identifier.
+// Reads the algorithm with this identifier. Refuses another one by `UNKNOWN_ALGORITHM`.
 pub fn skip_algorithm(cons: &mut Constructed<'_>, oid: &[u8]) -> Result<(), DecodeError>
     ensures reads { Reads (λ u. u) (partly (named oid.now) algorithm_at) cons.old result cons.new }
     ensures stays { Stays result cons.new }
@@ -61,7 +61,7 @@ pub fn skip_algorithm(cons: &mut Constructed<'_>, oid: &[u8]) -> Result<(), Deco
     }
 }
 
-// Reads an algorithm with one of these identifiers.
+// Reads an algorithm with one of these identifiers. Refuses another one by `UNKNOWN_ALGORITHM`.
 fn skip_either(cons: &mut Constructed<'_>, first: &[u8], second: &[u8]) -> Result<(), DecodeError>
     ensures reads { Reads (λ u. u) (partly (either_named first.now second.now) algorithm_at)
         cons.old result cons.new }

@@ -120,8 +120,8 @@ impl PublicKey {
         take_key(cons)
     }
 
-    /// Reads the key at the front of octets in DER (RFC 5280, section 4.1.2.7), as `take_from`
-    /// does.
+    /// Reads the key at the front of octets in DER (RFC 5280, section 4.1.2.7). Octets after it are
+    /// left. Reads and refuses as `take_from` does.
     pub fn decode(source: Bytes) -> Result<PublicKey, DecodeError>
         ensures { Decodes (KeyForm Der) (λ k. k) source result }
     {

@@ -69,7 +69,8 @@ pub trait Signer: Crypto {
     // How many calls have failed.
     ghost failures: { Self → ℕ };
 
-    /// The public key that the name stands for.
+    /// The public key that the name stands for. Refuses by a `SignerFault`; when, and by which, is
+    /// the signer's own choice.
     fn get_key_info(&mut self, key: &Self::KeyId) -> Result<PublicKey, SignerFault<Self::Error>>
         ensures key { IfOk result (λ k. k ≡ key_of self.old key.now) }
         ensures keys { (k : Self.KeyId) → key_of self.new k ≡ key_of self.old k }
@@ -79,7 +80,8 @@ pub trait Signer: Crypto {
             Self.is_signed self.new k m s ≡ Self.is_signed self.old k m s }
         ensures cause { CountsFault (failures self.old) (failures self.new) result };
 
-    /// A signature of the message by the key that the name stands for.
+    /// A signature of the message by the key that the name stands for. Refuses as `get_key_info`
+    /// does.
     fn sign(
         &mut self,
         key: &Self::KeyId,
@@ -96,7 +98,8 @@ pub trait Signer: Crypto {
         ensures cause { CountsFault (failures self.old) (failures self.new) result };
 
     /// A signature of the message by a key that is made for it, and this key. That the key is new
-    /// and signs nothing else is asked of a signer, and no clause says it.
+    /// and signs nothing else is asked of a signer, and no clause says it. Refuses as
+    /// `get_key_info` does.
     fn sign_one_off(
         &mut self,
         algorithm: RpkiSignatureAlgorithm,

@@ -78,8 +78,8 @@ impl Model for Https {
 }
 
 impl Rsync {
-    /// The URI of this text, or the first thing that is wrong with it: `InvalidCharacters`,
-    /// `BadScheme` or `BadUri`.
+    /// The URI of this text. Refuses by the first thing that is wrong with it, in this order:
+    /// `InvalidCharacters`, `BadScheme`, `BadUri`.
     pub fn from_bytes(text: Bytes) -> Result<Rsync, Error>
         ensures { IsUriOf (codes "rsync") AreRsyncSegments text result }
     {
@@ -101,8 +101,8 @@ impl Rsync {
 }
 
 impl Https {
-    /// The URI of this text, or the first thing that is wrong with it: `InvalidCharacters`,
-    /// `BadScheme` or `BadUri`.
+    /// The URI of this text. Refuses by the first thing that is wrong with it, in this order:
+    /// `InvalidCharacters`, `BadScheme`, `BadUri`.
     pub fn from_bytes(text: Bytes) -> Result<Https, Error>
         ensures { IsUriOf (codes "https") AreHttpsSegments text result }
     {
@@ -140,7 +140,8 @@ impl Rsync {
     }
 
     /// The URI with this name after it, and a slash between them where the URI does not end in one.
-    /// Where that is no rsync URI, what is wrong with it; `Memory` may come too.
+    /// Refuses by `InvalidCharacters`, or else by `BadUri`, where that is no rsync URI, or by
+    /// `Memory`.
     pub fn join(&self, alloc: Global, name: &[u8]) -> Result<Rsync, Error>
         ensures { IsJoined self.now name.now result }
     {

@@ -129,7 +129,8 @@ impl Cert {
         take_cert(cons, alloc)
     }
 
-    /// Reads a certificate, if a SEQUENCE is next, as `take_from` does. It takes an octet at least.
+    /// Reads a certificate, if a SEQUENCE is next, and answers `None` if not. Reads and refuses as
+    /// `take_from` does. A certificate that is read takes an octet at least.
     pub fn take_opt_from(
         alloc: Global,
         cons: &mut Constructed<'_>,

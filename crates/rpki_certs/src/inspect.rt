@@ -141,6 +141,10 @@ impl Cert {
 
     /// Whether it fits the profile of the certificate of a trust anchor (RFC 6487, section 4; RFC
     /// 8630, section 2.3). Each family may be named and empty, against RFC 8630.
+    ///
+    /// Refuses by the fault of the first check that does not hold, in this order: `KeyIdentifier`,
+    /// `NoResources`, `BasicCa`, `KeyUsage`, `Eku`, `MissingRepository`, `MissingManifest`,
+    /// `SignedObject`, `TaAki`, `TaCrlUri`, `TaCaIssuer`, `TaInherit`.
     pub fn inspect_ta(&self) -> Result<(), InspectionError>
         ensures { AnswersFirstFault (ta_checks self.now.certificate.tbs) result }
     {
@@ -151,6 +155,10 @@ impl Cert {
 
     /// Whether it fits the profile of the certificate of a CA that another CA issued (RFC 6487,
     /// section 4).
+    ///
+    /// Refuses by the fault of the first check that does not hold, in this order: `KeyIdentifier`,
+    /// `NoResources`, `MissingAki`, `MissingCrlUri`, `MissingCaIssuer`, `BasicCa`, `KeyUsage`,
+    /// `Eku`, `MissingRepository`, `MissingManifest`, `SignedObject`.
     pub fn inspect_ca(&self) -> Result<(), InspectionError>
         ensures { AnswersFirstFault (ca_checks self.now.certificate.tbs) result }
     {
@@ -161,6 +169,10 @@ impl Cert {
 
     /// Whether it fits the profile of the certificate of an end entity that signed a published
     /// object (RFC 6487, section 4).
+    ///
+    /// Refuses by the fault of the first check that does not hold, in this order: `KeyIdentifier`,
+    /// `NoResources`, `MissingAki`, `MissingCrlUri`, `MissingCaIssuer`, `BasicCa`, `KeyUsage`,
+    /// `Eku`, `MissingSignedObject`, `CaAccess`.
     pub fn inspect_ee(&self) -> Result<(), InspectionError>
         ensures { AnswersFirstFault (ee_checks self.now.certificate.tbs) result }
     {
@@ -174,6 +186,10 @@ impl Cert {
     /// Whether it fits the profile of the certificate of an end entity that signed an object which
     /// need not be published, as a checklist (RFC 6487, section 4; RFC 9323, section 2). It may say
     /// where a signed object or a notification file is, against RFC 9323.
+    ///
+    /// Refuses by the fault of the first check that does not hold, in this order: `KeyIdentifier`,
+    /// `NoResources`, `MissingAki`, `MissingCrlUri`, `MissingCaIssuer`, `BasicCa`, `KeyUsage`,
+    /// `Eku`, `CaAccess`.
     pub fn inspect_detached_ee(&self) -> Result<(), InspectionError>
         ensures { AnswersFirstFault (detached_ee_checks self.now.certificate.tbs) result }
     {

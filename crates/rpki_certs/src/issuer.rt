@@ -43,8 +43,9 @@ impl Error for IssuerError {}
 /// `Cert::validate_ta_at` validates it, and each of the chain is that of a CA under the one before,
 /// as `Cert::validate_ca_at` does (RFC 6487, section 7.2). The last one is the issuer.
 ///
-/// Each is read, in DER, and validated before the next one; octets after it are left. The first
-/// that is not read, or not valid, is answered by its fault. Memory may run out at any of them.
+/// Each is read, in DER, and validated before the next one; octets after it are left. Refuses by
+/// the fault of the first that is not read, by `Decode`, or not valid, by `Validation`. Memory may
+/// run out at any of them.
 pub fn issuer_at<C: Crypto>(
     alloc: Global,
     anchor: &[u8],

@@ -315,7 +315,8 @@ impl Cert {
     }
 
     /// Validates the certificate of an end entity that signed a published object, as
-    /// `validate_ca_at` does that of a CA, with the faults of `inspect_ee` in front.
+    /// `validate_ca_at` does that of a CA. Refuses as it does, with the faults of `inspect_ee` in
+    /// place of those of `inspect_ca`.
     #[tactic(auto, unfolding(crate::specs::Validate::IsValidatedUnder))]
     pub fn validate_ee_at<C: Crypto>(
         self,
@@ -339,8 +340,9 @@ impl Cert {
     }
 
     /// Validates the certificate of an end entity that signed an object which need not be
-    /// published, as a checklist (RFC 9323, section 2), as `validate_ca_at` does that of a CA, with
-    /// the faults of `inspect_detached_ee` in front.
+    /// published, as a checklist (RFC 9323, section 2), as `validate_ca_at` does that of a CA.
+    /// Refuses as it does, with the faults of `inspect_detached_ee` in place of those of
+    /// `inspect_ca`.
     #[tactic(auto, unfolding(crate::specs::Validate::IsValidatedUnder))]
     pub fn validate_detached_ee_at<C: Crypto>(
         self,

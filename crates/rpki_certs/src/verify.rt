@@ -10,7 +10,8 @@ use rpki_faults::VerificationError;
 
 impl Cert {
     /// Whether it says that this issuer issued it: the identifier of its issuer's key is that of
-    /// this issuer (RFC 6487, section 4.8.3). Names are not compared.
+    /// this issuer (RFC 6487, section 4.8.3). Names are not compared. Refuses by `IssuerClaim`
+    /// where it is another one, or where there is none.
     pub fn verify_issuer_claim(&self, issuer: &Cert) -> Result<(), VerificationError>
         ensures { AnswersFirstFault
             (claim_checks issuer.now.certificate.tbs self.now.certificate.tbs) result }
@@ -28,7 +29,7 @@ impl Cert {
     }
 
     /// Whether this moment lies in the time in which it is valid. Both ends belong to it (RFC 5280,
-    /// section 4.1.2.5).
+    /// section 4.1.2.5). Refuses an earlier moment by `NotYetValid`, and a later one by `Expired`.
     pub fn verify_validity(&self, now: Time) -> Result<(), VerificationError>
         ensures { AnswersFirstFault (validity_checks self.now.certificate.tbs.validity now) result }
     {
@@ -43,7 +44,7 @@ impl Cert {
     }
 
     /// Whether the key of this issuer signed it (RFC 5280, section 6.1.3). What was signed are the
-    /// octets as they were read.
+    /// octets as they were read. Refuses by `BadSignature` where it did not.
     pub fn verify_signature<C: Crypto>(
         &self,
         issuer: &Cert,
@@ -61,7 +62,8 @@ impl Cert {
     }
 
     /// Verifies the certificate of a trust anchor, which its own key signed (RFC 8630, section 3):
-    /// the moment, then the signature. `strict` changes nothing.
+    /// the moment, then the signature. `strict` changes nothing. Refuses by the fault of the first
+    /// check that does not hold, in this order: `NotYetValid`, `Expired`, `BadSignature`.
     pub fn verify_ta_ref_at<C: Crypto>(
         &self,
         _strict: bool,

@@ -20,6 +20,7 @@ pub trait Arguments {
     ghost told: { Self → Option (List (List ℕ)) };
 
     /// The octets of the argument at this place, if there is one. The program's name is at place 0.
+    /// Refuses where memory runs out.
     fn argument(&self, alloc: Global, place: usize) -> Result<Option<Vec<u8>>, AllocError>
         ensures { IfOk result (IsArgument (told self.now) place) };
 }
@@ -46,7 +47,8 @@ impl fmt::Display for WordsError {
 
 impl Error for WordsError {}
 
-/// Gives the words after the program's name, which need not be a text.
+/// Gives the words after the program's name, which need not be a text. Refuses by `NoText` at the
+/// first of them that is none, or by `Memory`.
 #[tactic(auto, using(crate::proofs::Following::word_by_word))]
 pub fn words_of<A: Arguments>(alloc: Global, arguments: &A) -> Result<Vec<String>, WordsError>
     ensures { AreWords (A.told arguments.now) result }

@@ -123,7 +123,7 @@ pub fn command<P: Program, S: Store, O: Sink, E: Sink>(
     say(&program.answer(alloc, words, store), out, err)
 }
 
-/// Gives the texts of the words, in their order.
+/// Gives the texts of the words, in their order. Refuses where memory runs out.
 pub fn texts_of(alloc: Global, words: &[String]) -> Result<Vec<&str>, AllocError>
     ensures { IfOk result (λ texts. map (λ t. t.now) texts.items ≡ map string_bytes words.now) }
 {

@@ -46,7 +46,8 @@ pub trait Store {
     // it was asked for.
     ghost reads: { Self → List (List ℕ) };
 
-    /// The octets of the file with this name, or that it can't be read, or that memory ran out.
+    /// The octets of the file with this name. Refuses by `Unreadable` where it can't be read, or by
+    /// `Memory`.
     fn read(&mut self, alloc: Global, name: &str) -> Result<Vec<u8>, StoreError>
         ensures answer { IsRead (told self.old name.now) result }
         ensures same { told self.new ≡ told self.old }
@@ -76,9 +77,9 @@ impl fmt::Display for Unread<'_> {
 impl Error for Unread<'_> {}
 
 /// The octets of the files with these names, which are read in their order, once each. The first
-/// that can't be read is answered by its name, and none is read after it. Where memory runs out,
-/// the answer is `Memory`: the files up to one of them were read, this one too, and none after one
-/// that the store tells to be unreadable.
+/// that can't be read is answered by its name, by `Unreadable`, and none is read after it. Where
+/// memory runs out, the answer is `Memory`: the files up to one of them were read, this one too,
+/// and none after one that the store tells to be unreadable.
 pub fn read_all<'a, S: Store>(
     alloc: Global,
     names: &[&'a str],

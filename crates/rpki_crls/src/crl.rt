@@ -126,8 +126,8 @@ impl Crl {
         take_crl(alloc, cons)
     }
 
-    /// Reads a revocation list, if a SEQUENCE is next, as `take_from` does. It takes an octet at
-    /// least.
+    /// Reads a revocation list, if a SEQUENCE is next, and answers `None` if not. Reads and refuses
+    /// as `take_from` does. A list that is read takes an octet at least.
     pub fn take_opt_from(
         alloc: Global,
         cons: &mut Constructed<'_>,

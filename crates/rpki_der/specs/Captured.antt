@@ -2,7 +2,8 @@
 use Rattle.std.specs.Prelude.{ℕ, List}
 use Rattle.rpki_der.specs.declared.mode.Mode.{Mode}
 
--- octets of a source, and the mode that they were read in
+-- octets that are kept, and the mode that they are kept with: that in which they were read, or any
+-- other that a caller named
 pub record Kept : Type 0 where
   pub octets : List ℕ
   pub mode : Mode

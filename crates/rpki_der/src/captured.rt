@@ -38,7 +38,7 @@ impl Captured {
         self.octets.as_slice()
     }
 
-    /// The mode that they were read in.
+    /// The mode that they are kept with: that in which they were read, or the one that `new` took.
     pub fn mode(&self) -> Mode
         ensures { result ≡ self.now.mode }
     {

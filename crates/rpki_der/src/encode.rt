@@ -76,7 +76,8 @@ pub trait Encode {
     fn encoded_len(&self) -> Result<u64, EncodeError>
         ensures { IsLenOf (is_der self.now) (is_short self.now) (octets self.now) result };
 
-    /// Writes the octets, of which there are `len`, as `encoded_len` has found.
+    /// Writes the octets, of which there are `len`, as `encoded_len` has found. Refuses by
+    /// `SinkFailed` where a call of the sink fails.
     fn put<W: Sink>(&self, len: u64, out: &mut W) -> Result<(), SinkFailed>
         requires der { is_der self.now }
         requires short { is_short self.now }

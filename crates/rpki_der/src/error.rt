@@ -17,8 +17,9 @@ use std::marker::Model;
 pub enum DecodeError {
     /// They are not of the form.
     Malformed,
-    /// Their ASN.1 is right, and a rule of the format beyond it is broken. Such octets are as
-    /// little in the form as malformed ones; which of the two is answered is not promised.
+    /// They break a rule of the format beyond its ASN.1. A rule is met before the rest is read, so
+    /// the rest need not be ASN.1 of the form. Such octets are as little in the form as malformed
+    /// ones; which of the two is answered is not promised.
     Content(ContentFault),
     /// No memory was to be had.
     Memory,

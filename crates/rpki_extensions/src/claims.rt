@@ -134,7 +134,8 @@ fn has_other(policy: Overclaim, list: &[Extension]) -> bool
     has_oid(list, ip_oid(other(policy))) || has_oid(list, as_oid(other(policy)))
 }
 
-// What the extensions claim.
+// What the extensions claim. Refuses by `NO_POLICY`, by `RESOURCES_OF_OTHER_POLICY`, by what the
+// values are refused by, or by `Memory`.
 #[tactic(auto, unfolding(crate::specs::Extensions::claims_of_list))]
 pub fn claims_of(alloc: Global, list: &[Extension]) -> Result<Claims, DecodeError>
     ensures { Tells (λ claims. claims) (claims_of_list list.now) result }

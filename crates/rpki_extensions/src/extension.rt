@@ -68,6 +68,7 @@ impl ListItem for Extension {
 }
 
 // Whether no two extensions have the same identifier, after one look-up in an ordered set for each.
+// Refuses where memory runs out.
 pub fn are_distinct(alloc: Global, list: &[Extension]) -> Result<bool, AllocError>
     ensures { IfOk result (λ b. b ≡ are_distinct oid_of list.now) }
 {

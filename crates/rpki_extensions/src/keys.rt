@@ -158,7 +158,8 @@ fn has_purposes(alloc: Global, list: &[Extension]) -> Result<bool, DecodeError>
     }
 }
 
-// What the extensions say of the key.
+// What the extensions say of the key. Refuses by `NO_SUBJECT_KEY_IDENTIFIER`, by `NO_KEY_USAGE`, by
+// what the values are refused by, or by `Memory`.
 #[tactic(auto, unfolding(crate::specs::Extensions::key_facts_of))]
 pub fn key_facts_of(alloc: Global, list: &[Extension]) -> Result<KeyFacts, DecodeError>
     ensures { Tells (λ facts. facts) (key_facts_of list.now) result }

@@ -113,7 +113,8 @@ fn subject(alloc: Global, list: &[Extension]) -> Result<SubjectAccess, DecodeErr
     }
 }
 
-// Where the extensions say that something lies.
+// Where the extensions say that something lies. Refuses by what the values are refused by, or by
+// `Memory`.
 #[tactic(auto, unfolding(crate::specs::Extensions::locations_of))]
 pub fn locations_of(alloc: Global, list: &[Extension]) -> Result<Locations, DecodeError>
     ensures { Tells (λ x. x) (locations_of list.now) result }

@@ -19,7 +19,7 @@ pub enum GeneralName {
     Other,
 }
 
-// Reads a name.
+// Reads a name. Refuses by `Malformed` where no value stands there, or by `Memory`.
 pub fn take_general_name(cons: &mut Constructed<'_>) -> Result<GeneralName, DecodeError>
     ensures { Reads (λ name. name) general_name_at cons.old result cons.new }
 {
@@ -32,7 +32,7 @@ pub fn take_general_name(cons: &mut Constructed<'_>) -> Result<GeneralName, Deco
     }
 }
 
-// Reads names, up to the end.
+// Reads names, up to the end. Refuses as `take_general_name` does.
 pub fn take_general_names(
     alloc: Global,
     cons: &mut Constructed<'_>,
@@ -47,7 +47,7 @@ pub fn take_general_names(
     Ok(names)
 }
 
-// The URI that a name is.
+// The URI that a name is, or `None`. Refuses where memory runs out.
 pub fn uri_of<U: NamedUri>(name: &GeneralName) -> Result<Option<U>, AllocError>
     ensures { IfOk result (λ uri. uri ≡ named U.of name.now) }
 {
@@ -57,7 +57,7 @@ pub fn uri_of<U: NamedUri>(name: &GeneralName) -> Result<Option<U>, AllocError>
     }
 }
 
-// The first URI of names.
+// The first URI of names, or `None`. Refuses where memory runs out.
 pub fn first_uri<U: NamedUri>(names: &[GeneralName]) -> Result<Option<U>, AllocError>
     ensures { IfOk result (λ uri. uri ≡ first_said (named U.of) names.now) }
 {

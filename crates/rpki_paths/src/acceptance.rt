@@ -274,9 +274,12 @@ fn take_ees<S: CarriedSigner<C> + Accepts<C, L>, C: CarriedCert<R>, R, L: Ledger
 /// Accepts an attestation. In this order: every certificate is valid, CAs and CRLs pair off, and
 /// signers and subject keys; the signers have the digest of the content; signers and end-entity
 /// certificates pair off; and the walks from the certificates of the signers find paths on which
-/// all CAs stand. Whatever is paired takes the first that fits and is left. An error is the first
-/// of these that does not hold, or want of memory. Of s signers, l CRLs and a CAs, with distinct
-/// identifiers, at most s + l + s * a verdicts are asked where it succeeds.
+/// all CAs stand. Whatever is paired takes the first that fits and is left. Of s signers, l CRLs
+/// and a CAs, with distinct identifiers, at most s + l + s * a verdicts are asked where it
+/// succeeds.
+///
+/// Refuses by the first of these that does not hold, by `NotValid`, `Crls`, `Keys`, `Digest`,
+/// `Signers` or `Walks`, or where memory runs out.
 pub fn accept<S, C, R: Copy, L: Ledger>(
     alloc: Global,
     a: &Attestation<S, C, R>,

@@ -83,9 +83,11 @@ where
 }
 
 /// Whether an attestation is granted under some supplies, handed in one after the other. A yes is
-/// right always, and an error but for memory where identifiers are distinct. An error is the first
-/// thing that fails: what `accept` asks, then the supplies, then the end. Of s signers, l CRLs and
-/// a CAs, with distinct identifiers, a yes asks for at most s + l + s * a verdicts.
+/// right always, and an error but for memory where identifiers are distinct. Of s signers, l CRLs
+/// and a CAs, with distinct identifiers, a yes asks for at most s + l + s * a verdicts.
+///
+/// Refuses by the first thing that fails: what `accept` asks, by `NotAccepted`; then the supplies,
+/// by `NotSupplied`; then what `finalize` asks, by `NotGranted`. Memory may run out in each.
 pub fn grant<S, C, R: Copy, T, U, L: Ledger>(
     alloc: Global,
     a: &Attestation<S, C, R>,

@@ -143,7 +143,8 @@ fn gathered<C>(alloc: Global, paths: &[Path<C>]) -> Result<Unions, AllocError>
 }
 
 /// Tells whether each path is anchored, and each attested set has just the numbers that are kept of
-/// some path. An error is the first that does not hold, or want of memory.
+/// some path. Refuses by the first that does not hold, in this order: `NotAnchored`, `AsNumbers`,
+/// `Addresses`; or by `Memory`.
 pub fn finalize<C>(alloc: Global, paths: &[Path<C>], attested: &Attested) -> Result<(), FinalFault>
     ensures { Decides paths.now (attested_sets attested.now) result }
 {

@@ -156,9 +156,10 @@ pub(crate) fn append<T: Drop>(items: &mut Vec<T>, item: T) -> Result<(), AllocEr
 }
 
 /// Pairs each of some items with one of the others: in order, each takes the first that fits and is
-/// left. Answers the places of the partners, none of them twice. An error is the first item that
-/// finds none, others that are left over, or want of memory. Where others are left over there is no
-/// pairing at all; nor where an item finds none, if those that one item fits are alike.
+/// left. Answers the places of the partners, none of them twice. Refuses by `Unpaired` at the first
+/// item that finds none, by `LeftOver` where others are left over, or by `Memory`. Where others are
+/// left over there is no pairing at all; nor where an item finds none, if those that one item fits
+/// are alike.
 pub fn pair_off<X: Accepts<Y, L>, Y, L: Ledger>(
     alloc: Global,
     takers: &[X],

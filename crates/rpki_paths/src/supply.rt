@@ -59,8 +59,9 @@ pub enum Supplied<'a, T, S> {
 
 impl<C: Certificate> Path<C> {
     /// Anchors the path at its head, where a locator is meant for it, and answers whether the path
-    /// is anchored. A path that is anchored, and one of another head, stays as it is. An error is
-    /// why the head is no trust anchor; it leaves the path as it was. No memory is taken.
+    /// is anchored. A path that is anchored, and one of another head, stays as it is. Refuses by
+    /// `NoAnchor` where the head is no trust anchor, with the cause; the path is then as it was. No
+    /// memory is taken.
     pub fn supply_tal<T: Locator<C>>(&mut self, tal: &T) -> Result<bool, SupplyFault<T::Fault>>
         ensures { Answers C.cert (T.refuses tal.now) (Supply.Tal (T.key tal.now))
             self.old self.new result }
@@ -79,9 +80,9 @@ impl<C: Certificate> Path<C> {
     }
 
     /// Anchors the path under a CA that is meant for its head, and answers whether the path is
-    /// anchored. A path that is anchored, and one of another head, stays as it is. An error is the
-    /// first family whose nearest explicit set the CA does not have (RFC 6487, section 7.2), or
-    /// want of memory; it leaves the path as it was.
+    /// anchored. A path that is anchored, and one of another head, stays as it is. Refuses by
+    /// `NotCovered` of the first family whose nearest explicit set the CA does not have (RFC 6487,
+    /// section 7.2), or by `Memory`; the path is then as it was.
     pub fn supply_ca<S: SuppliedCa<C>, F>(&mut self, ca: &S) -> Result<bool, SupplyFault<F>>
         ensures { Answers C.cert (λ head fault. ⊥)
             (Supply.Ca (S.ski ca.now) (S.key ca.now) (S.sets ca.now)) self.old self.new result }
@@ -101,7 +102,8 @@ impl<C: Certificate> Path<C> {
         Ok(true)
     }
 
-    /// Anchors the path under a locator or a CA, as `supply_tal` and `supply_ca` do.
+    /// Anchors the path under a locator or a CA. Answers and refuses as `supply_tal` and
+    /// `supply_ca` do.
     pub fn supply<T: Locator<C>, S: SuppliedCa<C>>(
         &mut self,
         supplied: &Supplied<T, S>,
@@ -117,8 +119,8 @@ impl<C: Certificate> Path<C> {
 }
 
 /// Anchors each path under a locator or a CA, in order, and answers whether all paths are anchored
-/// then. The first path that it is meant for and does not take ends the call: earlier paths keep
-/// their anchor, and that path and later ones stay as they were.
+/// then. Refuses as `Path::supply` does, at the first path that it is meant for and does not take:
+/// earlier paths keep their anchor, and that path and later ones stay as they were.
 pub fn supply_each<C: Certificate, T: Locator<C>, S: SuppliedCa<C>>(
     paths: &mut [Path<C>],
     supplied: &Supplied<T, S>,

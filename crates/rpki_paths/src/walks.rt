@@ -92,11 +92,12 @@ fn first_unvisited(visited: &[u64]) -> usize
     visited.len()
 }
 
-/// Walks from each of some end-entity certificates up the CAs, in order. The first walk that is
-/// refused ends the call with its cause; then a CA that stands on no path is an error, or want of
-/// memory.
-/// Among CAs with distinct identifiers a call that succeeds asks for at most as many verdicts for
-/// each certificate as there are CAs.
+/// Walks from each of some end-entity certificates up the CAs, in order. Among CAs with distinct
+/// identifiers a call that succeeds asks for at most as many verdicts for each certificate as there
+/// are CAs.
+///
+/// Refuses by `NoPath`, with its cause, at the first walk that is refused, else by `Unused` where a
+/// CA stands on no path, or by `Memory`.
 pub fn walk_each<C: SignedCertificate<L>, L: Ledger>(
     alloc: Global,
     ees: &[C],

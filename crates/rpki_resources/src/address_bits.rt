@@ -59,7 +59,7 @@ pub fn highest_of(octets: &[u8], unused: u8) -> u128
     lowest_of(octets, unused) + host_mask(bit_count(octets, unused) as u8)
 }
 
-/// Reads the bits of an end.
+/// Reads the bits of an end. Refuses by `ADDRESS_TOO_LONG` where there are more than `most`.
 #[tactic(auto, unfolding(crate::specs::Ip::Read::ip_address_at, rpki_der::specs::Read::Parse::tested))]
 pub fn take_address(cons: &mut Constructed<'_>, most: u8) -> Result<BitString, DecodeError>
     ensures reads { Reads (λ bits. (bits.octets, bits.unused)) (ip_address_at most)

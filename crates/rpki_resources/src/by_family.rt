@@ -48,7 +48,8 @@ pub trait OfFamily: Drop + Sized {
     // How it is read.
     ghost parser: { AddressFamily → Parser Self };
 
-    /// Reads one that stands beside the family.
+    /// Reads one that stands beside the family. Refuses by `Malformed`, by a rule of its form, or
+    /// by `Memory`.
     fn take_value(
         alloc: Global,
         cons: &mut Constructed<'_>,
@@ -181,8 +182,10 @@ fn take_values<T: OfFamily>(
 }
 
 /// Reads a SEQUENCE OF SEQUENCE of a family and a value of it (RFC 3779, sections 2.2.3.1 and
-/// 2.2.3.2). The families may stand in either order, and each of them at most once: a second one is
-/// refused by `FAMILY_TWICE`. Where there is no memory, the answer is `Memory`.
+/// 2.2.3.2). The families may stand in either order, and each of them at most once.
+///
+/// Refuses by `FAMILY_TWICE` where one stands again, by what `AddressFamily::take_from` and
+/// `OfFamily::take_value` refuse by, by `Malformed` for all else, or by `Memory`.
 pub fn take_families<T: OfFamily>(
     alloc: Global,
     cons: &mut Constructed<'_>,
@@ -195,7 +198,8 @@ pub fn take_families<T: OfFamily>(
 
 impl ByFamily<IpBlocks> {
     /// Reads a set of addresses for each family that is named, as `take_families` does (RFC 9323,
-    /// section 4.2.2). There may be none.
+    /// section 4.2.2). There may be none. Refuses by `FAMILY_TWICE`, by `UNKNOWN_FAMILY`, by what
+    /// `IpBlocks::take_from` refuses by, by `Malformed` for all else, or by `Memory`.
     pub fn take_from(
         alloc: Global,
         cons: &mut Constructed<'_>,
@@ -212,7 +216,9 @@ impl ByFamily<IpBlocks> {
 
 impl ByFamily<IpResources> {
     /// Reads a claim for each family that is named, as `take_families` does (RFC 3779, section
-    /// 2.2.3; RFC 6487, section 4.8.10). There may be none.
+    /// 2.2.3; RFC 6487, section 4.8.10). There may be none. Refuses by `FAMILY_TWICE`, by
+    /// `UNKNOWN_FAMILY`, by what `IpResources::take_from` refuses by, by `Malformed` for all else,
+    /// or by `Memory`.
     pub fn take_from(
         alloc: Global,
         cons: &mut Constructed<'_>,

@@ -21,7 +21,7 @@ pub trait Listed: Drop + Sized {
     // What is known of one that was read.
     ghost known: { Self → Type 0 };
 
-    /// Reads one.
+    /// Reads one. Refuses by `Malformed`, by a rule of its form, or by `Memory`.
     fn take_one(
         cons: &mut Constructed<'_>,
         alloc: Global,
@@ -31,7 +31,7 @@ pub trait Listed: Drop + Sized {
         ensures known { IfOk result known };
 }
 
-/// Reads them to the end. Where there is no memory for them, the answer is `Memory`.
+/// Reads them to the end. Refuses as `take_one` does, or by `Memory`.
 pub fn take_list<T: Listed>(
     cons: &mut Constructed<'_>,
     alloc: Global,

@@ -209,7 +209,8 @@ impl<T: Number> Clone for Resources<T> {
 
 impl<T: Number> Blocks<T> {
     /// Whether the resources have each of these numbers (RFC 3779, sections 2.3 and 3.3). What is
-    /// inherited has all of them, and a family that is missing has none.
+    /// inherited has all of them, and a family that is missing has none. Refuses by `Overclaimed`
+    /// where they lack a number.
     pub fn verify_covered(&self, resources: &Resources<T>) -> Result<(), Overclaimed>
         ensures { IsOk result ↔ IsCoveredBy T.number resources.now self.now }
     {

@@ -94,7 +94,8 @@ impl AsProviderAttestation {
         &self.providers
     }
 
-    /// The claim that a certificate has to have for it: the customer, and no other number.
+    /// The claim that a certificate has to have for it: the customer, and no other number. Refuses
+    /// where memory runs out.
     pub fn as_resources(&self, alloc: Global) -> Result<AsResources, AllocError>
         ensures { IfOk result (λ claim. claim ≡ Claim.Explicit
             (record { min = self.now.customer; max = self.now.customer } ∷ [])) }

@@ -27,7 +27,8 @@ pub fn octets_of<T: Encode>(alloc: Global, value: &T) -> Result<Vec<u8>, BuildEr
     }
 }
 
-/// The list whose entries these octets are, one after the other in DER.
+/// The list whose entries these octets are, one after the other in DER. Refuses where memory runs
+/// out.
 pub fn list_of<K: EntryKind>(octets: Vec<u8>) -> Result<EntryList<K>, AllocError>
     requires { HoldEntries K.entry_at octets.items }
     ensures { IfOk result (λ list. list ≡ entries_of K.entry_at octets.items) }

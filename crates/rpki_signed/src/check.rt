@@ -77,8 +77,8 @@ fn check_front<T: Content, C: Crypto, F: FnOnce(&Cert) -> Result<(), ValidationE
 }
 
 /// Whether the octets begin with a good object whose content is of this type and is read by this
-/// rule. What is checked of such objects is said by their kind (`Content`); what is answered, and
-/// where `check_crl` is called, is as `roa` says of a ROA.
+/// rule. What is checked of such objects is said by their kind (`Content`). Answers, refuses and
+/// calls `check_crl` as `roa` does for a ROA.
 pub fn object<T: Content, C: Crypto, F: FnOnce(&Cert) -> Result<(), ValidationError>>(
     alloc: Global,
     bytes: Bytes,
@@ -100,8 +100,8 @@ pub fn object<T: Content, C: Crypto, F: FnOnce(&Cert) -> Result<(), ValidationEr
     check_front(alloc, bytes, strict, issuer, crypto, now, check_crl, rule)
 }
 
-/// Whether the octets begin with a good manifest (RFC 9286) with the names that the rule takes, as
-/// `roa` says of a ROA. A manifest claims no numbers.
+/// Whether the octets begin with a good manifest (RFC 9286) with the names that the rule takes. A
+/// manifest claims no numbers. Answers and refuses as `roa` does for a ROA.
 pub fn manifest<C: Crypto, F: FnOnce(&Cert) -> Result<(), ValidationError>>(
     alloc: Global,
     bytes: Bytes,
@@ -154,8 +154,8 @@ pub fn roa<C: Crypto, F: FnOnce(&Cert) -> Result<(), ValidationError>>(
 }
 
 /// Whether the octets begin with a good ASPA (draft-ietf-sidrops-aspa-profile-15) with at most as
-/// many providers as the limit says, as `roa` says of a ROA: its certificate claims the customer
-/// and nothing else, and has it once it was validated.
+/// many providers as the limit says: its certificate claims the customer and nothing else, and has
+/// it once it was validated. Answers and refuses as `roa` does for a ROA.
 pub fn aspa<C: Crypto, F: FnOnce(&Cert) -> Result<(), ValidationError>>(
     alloc: Global,
     bytes: Bytes,
@@ -176,9 +176,9 @@ pub fn aspa<C: Crypto, F: FnOnce(&Cert) -> Result<(), ValidationError>>(
     object(alloc, bytes, strict, issuer, crypto, now, check_crl, limit)
 }
 
-/// Whether the octets begin with a good signed checklist (RFC 9323), as `roa` says of a ROA: its
-/// certificate, which need not say where the checklist is published, claims the numbers of the
-/// checklist and has them once it was validated.
+/// Whether the octets begin with a good signed checklist (RFC 9323): its certificate, which need
+/// not say where the checklist is published, claims the numbers of the checklist and has them once
+/// it was validated. Answers and refuses as `roa` does for a ROA.
 pub fn rsc<C: Crypto, F: FnOnce(&Cert) -> Result<(), ValidationError>>(
     alloc: Global,
     bytes: Bytes,

@@ -102,7 +102,8 @@ impl SignedObject {
     }
 
     /// Reads the signed object at the front of the source, as `decode` does, if its content has
-    /// this type. Refuses by `OTHER_CONTENT_TYPE` where it has another one.
+    /// this type. Refuses by `OTHER_CONTENT_TYPE` where it has another one, and else as `decode`
+    /// does.
     pub fn decode_if_type(
         alloc: Global,
         source: Bytes,

@@ -30,8 +30,8 @@ impl SignedObject {
     /// Validates it as `validate` does, and then asks whether its certificate was revoked. Answers
     /// the validated certificate and the content.
     ///
-    /// `check_crl` is called once at most, where each check holds, with the certificate, and what
-    /// it refuses by is refused.
+    /// Refuses as `validate` does. `check_crl` is called once at most, where each check holds, with
+    /// the certificate, and what it refuses by is refused.
     pub fn process<C: Crypto, K: Clock, F: FnOnce(&Cert) -> Result<(), ValidationError>>(
         self,
         alloc: Global,

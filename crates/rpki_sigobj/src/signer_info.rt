@@ -43,7 +43,7 @@ const VERSION: u8 = 3;
 // How many octets the identifier of a key has: those of a SHA-1 digest (RFC 6487, section 4.8.2).
 const ID_LENGTH: usize = 20;
 
-/// Reads the version, which is 3.
+/// Reads the version, which is 3. Refuses by `Malformed` where it is not.
 pub fn skip_version(cons: &mut Constructed<'_>) -> Result<(), DecodeError>
     ensures { Reads (λ u. u) version_at cons.old result cons.new }
 {
@@ -118,7 +118,9 @@ fn take_fields(
     })
 }
 
-/// Reads what the signer says of a content of this type.
+/// Reads what the signer says of a content of this type. Refuses by `UNKNOWN_ALGORITHM`, by
+/// `WRONG_CONTENT_TYPE`, by what signed attributes are refused by, by `Malformed` for all else, or
+/// by `Memory`.
 pub fn take_signer_info(
     cons: &mut Constructed<'_>,
     alloc: Global,

@@ -42,7 +42,8 @@ impl SignedObject {
         }
     }
 
-    /// Validates it under its issuer, at the moment that the clock tells, as `validate_at` does.
+    /// Validates it under its issuer, at the moment that the clock tells. Validates and refuses as
+    /// `validate_at` does.
     pub fn validate<C: Crypto, K: Clock>(
         self,
         alloc: Global,
@@ -59,8 +60,8 @@ impl SignedObject {
     }
 
     /// Validates an object that need not be published, as a checklist (RFC 9323, section 2), under
-    /// its issuer, at this moment, as `validate_at` does, with the faults of
-    /// `Cert::validate_detached_ee_at` at the end.
+    /// its issuer, at this moment, as `validate_at` does. Refuses as it does, with the faults of
+    /// `Cert::validate_detached_ee_at` in place of those of `Cert::validate_ee_at`.
     pub fn validate_detached_at<C: Crypto>(
         self,
         alloc: Global,
@@ -84,8 +85,8 @@ impl SignedObject {
         }
     }
 
-    /// Validates an object that need not be published at the moment that the clock tells, as
-    /// `validate_detached_at` does.
+    /// Validates an object that need not be published, under its issuer, at the moment that the
+    /// clock tells. Validates and refuses as `validate_detached_at` does.
     pub fn validate_detached<C: Crypto, K: Clock>(
         self,
         alloc: Global,

@@ -17,7 +17,7 @@ use rpki_der::DecodeError;
 use std::alloc::Global;
 
 /// Reads the key whose canonical base64 the text is, broken up by blanks. Octets after the key are
-/// left.
+/// left. Refuses by `BadKeyInfoEncoding`, by `BadKeyInfo`, or by `Memory`.
 pub fn read_key(alloc: Global, text: &[u8]) -> Result<PublicKey, ReadError>
     ensures ok { IfOk result (λ key. HasKey text.now key) }
     ensures err { IfErr result (λ e. Refuses e (IsKeyFault text.now e)) }

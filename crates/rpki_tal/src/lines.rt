@@ -47,7 +47,7 @@ fn without_cr(line: &[u8]) -> &[u8]
     }
 }
 
-/// The octets without those that may break base64 up.
+/// The octets without those that may break base64 up. Refuses where memory runs out.
 pub fn without_blanks(alloc: Global, text: &[u8]) -> Result<Vec<u8>, AllocError>
     ensures { IfOk result (λ symbols. symbols.items ≡ without_blanks text.now) }
 {

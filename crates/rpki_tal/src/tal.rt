@@ -37,9 +37,10 @@ impl Model for Tal {
 
 impl Tal {
     /// Reads the locator that is all the text of a source, to its end (RFC 8630, section 2.2), and
-    /// gives it this name. `Io` comes exactly where a call of the source has failed; the other
-    /// refusals say what is wrong with the text, and `Memory` may come too. A source that does not
-    /// tell its octets may have given any text.
+    /// gives it this name. A source that does not tell its octets may have given any text.
+    ///
+    /// Refuses by `Io` exactly where a call of the source has failed; by `UnexpectedEof`, `BadUri`,
+    /// `BadKeyInfoEncoding` or `BadKeyInfo` for what is wrong with the text; or by `Memory`.
     pub fn read_named<S: Source>(
         alloc: Global,
         name: String,

@@ -11,7 +11,8 @@ use crate::uri::TalUri;
 use rpki_basics::PublicKey;
 use std::alloc::Global;
 
-/// Reads the URIs and the key of a whole text (RFC 8630, section 2.2).
+/// Reads the URIs and the key of a whole text (RFC 8630, section 2.2). Refuses by `UnexpectedEof`
+/// or `BadUri`, by what comes first, else by `BadKeyInfoEncoding` or `BadKeyInfo`, or by `Memory`.
 pub fn read_text(alloc: Global, text: &[u8]) -> Result<(Vec<TalUri>, PublicKey), ReadError>
     ensures ok { IfOk result (λ tal. IsOnlyTal text.now tal.0.items tal.1) }
     ensures err { IfErr result (λ e. Refuses e (IsFault text.now e × IsNoTal text.now)) }

@@ -21,7 +21,7 @@ pub enum TalUri {
 }
 
 impl TalUri {
-    /// The URI with this text, as `from_bytes` says.
+    /// The URI with this text. Refuses as `from_bytes` does.
     pub fn from_string(text: String) -> Result<TalUri, uri::Error>
         ensures { IsTalUriOf (string_bytes text) result }
     {
@@ -31,7 +31,7 @@ impl TalUri {
         }
     }
 
-    /// The URI with this text, which is copied, as `from_bytes` says.
+    /// The URI with this text, which is copied. Refuses as `from_bytes` does.
     pub fn from_slice(alloc: Global, text: &[u8]) -> Result<TalUri, uri::Error>
         ensures { IsTalUriOf text.now result }
     {
@@ -40,7 +40,8 @@ impl TalUri {
     }
 
     /// The URI with this text: an rsync URI, or else an https URI (RFC 8630, section 2.2). What is
-    /// neither is refused with what is wrong with it as an https URI; `Memory` may come too.
+    /// neither is refused by what is wrong with it as an https URI, as `Https::from_bytes` does;
+    /// `Memory` may come too.
     pub fn from_bytes(text: Bytes) -> Result<TalUri, uri::Error>
         ensures { IsTalUriOf text result }
     {

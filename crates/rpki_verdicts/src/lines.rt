@@ -16,7 +16,7 @@ use sha2::{Digest, Sha256};
 use std::alloc::{AllocError, Global};
 use std::fmt::Write;
 
-/// Appends the line of the certificate, if this key signed it.
+/// Appends the line of the certificate, if this key signed it. Refuses where memory runs out.
 pub fn push_cert<C: Crypto>(
     alloc: Global,
     text: &mut String,
@@ -31,7 +31,7 @@ pub fn push_cert<C: Crypto>(
 }
 
 /// Appends the line of the certificate in an object, if this key signed it, and that of the object,
-/// if the key of that certificate did.
+/// if the key of that certificate did. Refuses where memory runs out.
 pub fn push_signed<C: Crypto>(
     alloc: Global,
     text: &mut String,

@@ -50,7 +50,8 @@ impl Error for ListingError {}
 /// signature that is not good has no line, nor has one whose key would take 2^32 octets or more.
 ///
 /// Certificates are read in DER, before the object, which is read in DER where it is read strictly,
-/// and else in BER. Nothing is validated. Memory may run out at any of them.
+/// and else in BER. Refuses by `Certificate` where one of the certificates is not read, and else by
+/// `Object` where the object is not. Nothing is validated. Memory may run out at any of them.
 pub fn listing<C: Crypto>(
     alloc: Global,
     object: &[u8],

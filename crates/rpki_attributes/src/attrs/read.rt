@@ -114,7 +114,8 @@ fn take_contents(
     says_of(captured.into_bytes(), mode, &list, alloc)
 }
 
-/// Reads signed attributes, with the header that they stand under.
+/// Reads signed attributes, with the header that they stand under. Refuses as
+/// `SignedAttrs::take_from` does, and by `InvalidSignedAttr` only where `others` says so.
 pub fn take_fields(
     cons: &mut Constructed<'_>,
     alloc: Global,

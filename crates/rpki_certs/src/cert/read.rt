@@ -232,7 +232,7 @@ fn take_whole(cons: &mut Constructed<'_>, alloc: Global) -> Result<Contents, Dec
     cons.take_sequence(|cons| take_contents(cons, alloc))
 }
 
-/// Reads a certificate, and keeps its octets.
+/// Reads a certificate, and keeps its octets. Refuses as `Cert::take_from` does.
 pub fn take_kept(
     cons: &mut Constructed<'_>,
     alloc: Global,
@@ -261,7 +261,7 @@ fn take_opt_whole(
 }
 
 /// Reads a certificate, if a SEQUENCE is next, and keeps its octets, of which there are none where
-/// there is no certificate.
+/// there is no certificate. Refuses as `Cert::take_from` does.
 pub fn take_opt_kept(
     cons: &mut Constructed<'_>,
     alloc: Global,

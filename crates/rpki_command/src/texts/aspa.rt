@@ -10,7 +10,7 @@ use rpki_routes::{AsProviderAttestation, ProviderAsSet};
 use std::alloc::AllocError;
 use std::fmt::Write;
 
-/// Appends the lines of an ASPA content.
+/// Appends the lines of an ASPA content. Refuses where memory runs out.
 pub fn push_aspa(text: &mut String, content: &AsProviderAttestation) -> Result<(), AllocError>
     ensures { Grows result text.old text.new (aspa_text content.now) }
 {

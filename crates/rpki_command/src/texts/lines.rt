@@ -36,7 +36,8 @@ pub trait Listed: Iterator {
 }
 
 /// Appends a line for each item, in order, as `push` appends that of one. Where each call of `push`
-/// appends the line of its item, all lines are appended, whatever the line of an item is.
+/// appends the line of its item, all lines are appended, whatever the line of an item is. Refuses
+/// where a call of `push` does.
 pub fn push_each<I, F>(text: &mut String, items: I, push: F) -> Result<(), AllocError>
 where
     I: Listed,

@@ -13,7 +13,7 @@ use rpki_files::ManifestContent;
 use std::alloc::AllocError;
 use std::fmt::Write;
 
-/// Appends the lines of the content of a manifest.
+/// Appends the lines of the content of a manifest. Refuses where memory runs out.
 pub fn push_manifest(text: &mut String, content: &ManifestContent) -> Result<(), AllocError>
     ensures { Grows result text.old text.new (manifest_text content.now) }
 {

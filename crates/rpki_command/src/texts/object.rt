@@ -11,7 +11,7 @@ use rpki_sigobj::Signed;
 use std::alloc::AllocError;
 use std::fmt::Write;
 
-/// Appends the lines of a signed object.
+/// Appends the lines of a signed object. Refuses where memory runs out.
 pub fn push_object<C: Lines>(text: &mut String, object: &Signed<C>) -> Result<(), AllocError>
     ensures { Grows result text.old text.new (object_text C.lines (whole_of object.now)) }
 {

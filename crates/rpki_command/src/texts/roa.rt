@@ -11,7 +11,7 @@ use rpki_routes::RouteOriginAttestation;
 use std::alloc::AllocError;
 use std::fmt::Write;
 
-/// Appends the lines of a ROA content.
+/// Appends the lines of a ROA content. Refuses where memory runs out.
 pub fn push_roa(text: &mut String, content: &RouteOriginAttestation) -> Result<(), AllocError>
     ensures { Grows result text.old text.new (roa_text content.now) }
 {

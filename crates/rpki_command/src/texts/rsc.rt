@@ -14,7 +14,7 @@ use rpki_resources::{AddressFamily, AsBlocks, IpBlocks};
 use std::alloc::AllocError;
 use std::fmt::Write;
 
-/// Appends the lines of the content of a checklist.
+/// Appends the lines of the content of a checklist. Refuses where memory runs out.
 pub fn push_rsc(text: &mut String, content: &ResourceSignedChecklist) -> Result<(), AllocError>
     ensures { Grows result text.old text.new (rsc_text content.now) }
 {

@@ -10,7 +10,7 @@ use rpki_tal::Tal;
 use std::alloc::AllocError;
 use std::fmt::Write;
 
-/// Appends the lines of a locator.
+/// Appends the lines of a locator. Refuses where memory runs out.
 pub fn push_tal(text: &mut String, tal: &Tal) -> Result<(), AllocError>
     ensures { Grows result text.old text.new (tal_text tal.now.uris tal.now.key) }
 {

@@ -55,7 +55,7 @@ impl Crl {
     }
 
     /// Whether this key signed it (RFC 5280, section 6.3.3). What was signed are the octets as they
-    /// were read.
+    /// were read. Refuses by `BadSignature` where it did not.
     pub fn verify_signature<C: Crypto>(
         &self,
         key: &PublicKey,

@@ -200,7 +200,7 @@ fn take_whole(alloc: Global, cons: &mut Constructed<'_>) -> Result<Contents, Dec
     cons.take_sequence(|cons| take_contents(alloc, cons))
 }
 
-/// Reads a revocation list, and keeps its octets.
+/// Reads a revocation list, and keeps its octets. Refuses as `Crl::take_from` does.
 pub fn take_kept(
     alloc: Global,
     cons: &mut Constructed<'_>,
@@ -229,7 +229,7 @@ fn take_opt_whole(
 }
 
 /// Reads a revocation list, if a SEQUENCE is next, and keeps its octets, of which there are none
-/// where there is no list.
+/// where there is no list. Refuses as `Crl::take_from` does.
 pub fn take_opt_kept(
     alloc: Global,
     cons: &mut Constructed<'_>,

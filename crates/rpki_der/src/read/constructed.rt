@@ -360,8 +360,8 @@ impl<'a> Constructed<'a> {
         }
     }
 
-    /// Opens the value in front if it has this tag (X.690, sections 8.1 and 8.14), as
-    /// `take_constructed_if` does.
+    /// Opens the value in front if it has this tag (X.690, sections 8.1 and 8.14), and answers
+    /// `None` if not. Reads and refuses as `take_constructed_if` does.
     pub fn take_opt_constructed_if<
         T: Drop,
         F: FnOnce(&mut Constructed<'_>) -> Result<T, DecodeError>,
@@ -383,7 +383,8 @@ impl<'a> Constructed<'a> {
         }
     }
 
-    /// Opens the SEQUENCE in front (X.690, sections 8.9 and 8.10), as `take_constructed_if` does.
+    /// Opens the SEQUENCE in front (X.690, sections 8.9 and 8.10). Reads and refuses as
+    /// `take_constructed_if` does.
     pub fn take_sequence<T: Drop, F: FnOnce(&mut Constructed<'_>) -> Result<T, DecodeError>>(
         &mut self,
         op: F,
@@ -395,8 +396,8 @@ impl<'a> Constructed<'a> {
         self.take_constructed_if(Tag::SEQUENCE, op)
     }
 
-    /// Opens the SET in front (X.690, sections 8.11 and 8.12), as `take_constructed_if` does. `op`
-    /// reads its members in the order in which they stand.
+    /// Opens the SET in front (X.690, sections 8.11 and 8.12). `op` reads its members in the order
+    /// in which they stand. Reads and refuses as `take_constructed_if` does.
     pub fn take_set<T: Drop, F: FnOnce(&mut Constructed<'_>) -> Result<T, DecodeError>>(
         &mut self,
         op: F,
@@ -408,8 +409,8 @@ impl<'a> Constructed<'a> {
         self.take_constructed_if(Tag::SET, op)
     }
 
-    /// Opens the value in front if it is a SEQUENCE (X.690, sections 8.9 and 8.10), as
-    /// `take_constructed_if` does.
+    /// Opens the value in front if it is a SEQUENCE (X.690, sections 8.9 and 8.10), and answers
+    /// `None` if not. Reads and refuses as `take_constructed_if` does.
     pub fn take_opt_sequence<T: Drop, F: FnOnce(&mut Constructed<'_>) -> Result<T, DecodeError>>(
         &mut self,
         op: F,
@@ -439,7 +440,8 @@ impl<'a> Constructed<'a> {
         }
     }
 
-    /// Keeps the octets of the source that `op` reads, as `capture` does, beside what `op` answers.
+    /// Keeps the octets of the source that `op` reads beside what `op` answers. Keeps and refuses
+    /// as `capture` does.
     pub fn capture_with<T: Drop, F: FnOnce(&mut Constructed<'_>) -> Result<T, DecodeError>>(
         &mut self,
         op: F,

@@ -12,7 +12,8 @@ use crate::tag::Tag;
 use std::alloc::AllocError;
 
 /// Puts the octets of the OCTET STRING in front, which nests at most to this depth, after those of
-/// `out`. What follows it.
+/// `out`. What follows it, or `None` where no such string stands there. Refuses where memory runs
+/// out.
 pub fn append_octets<'s>(
     depth: u32,
     mode: Mode,
@@ -50,7 +51,8 @@ pub fn append_octets<'s>(
     }
 }
 
-/// Puts the octets of the OCTET STRING in front after those of `out`. Where it ends.
+/// Puts the octets of the OCTET STRING in front after those of `out`. Where it ends, or `None`
+/// where none stands there. Refuses where memory runs out.
 pub fn string_place(
     mode: Mode,
     bytes: &[u8],

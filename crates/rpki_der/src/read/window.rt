@@ -71,7 +71,7 @@ impl<'a> Window<'a> {
         self.part(0, self.len().saturating_sub(left))
     }
 
-    /// The octets, which share the source's memory.
+    /// The octets, which share the source's memory. Refuses where memory runs out.
     pub fn to_bytes(&self) -> Result<Bytes, AllocError>
         ensures { IfOk result (λ b. b ≡ self.now) }
     {

@@ -82,7 +82,8 @@ pub trait InspectResources {
 
     /// Inspects whether its certificate claims the numbers of the checklist (RFC 9323, section 5):
     /// AS numbers first, then IPv4, then IPv6. A family that is inherited is claimed whole; whether
-    /// the certificate has the numbers is known once it was validated.
+    /// the certificate has the numbers is known once it was validated. Refuses by `NotCovered` of
+    /// the first family that it does not claim.
     fn inspect_resources(&self) -> Result<(), InspectionError>
         ensures { AnswersFirstFault (checklist_claimed (seen self.now).content
             (cert_of (seen self.now).object).certificate.tbs.extensions.claims) result };

@@ -165,7 +165,7 @@ fn take_fields(
     })
 }
 
-/// Reads a content.
+/// Reads a content. Refuses as `ResourceSignedChecklist::take_from` does.
 pub fn take_checklist(
     alloc: Global,
     cons: &mut Constructed<'_>,
@@ -176,7 +176,7 @@ pub fn take_checklist(
     cons.take_sequence(|cons| take_fields(alloc, cons))
 }
 
-/// Reads the content at the front.
+/// Reads the content at the front. Refuses as `ResourceSignedChecklist::decode` does.
 pub fn read_front(alloc: Global, source: Bytes) -> Result<ResourceSignedChecklist, DecodeError>
     ensures { Found (λ l. l) (checklist_at Der source) result }
 {

@@ -73,9 +73,9 @@ pub trait ValidateManifest: Sized {
     // The manifest, with its signed object.
     ghost seen: { Self → KeptWhole Said };
 
-    /// Validates it under its issuer, at this moment (RFC 6488, section 3; RFC 9286, section 4.4),
-    /// as `SignedObject::validate_at` does. Answers the validated certificate and the content.
-    /// Whether the certificate was revoked is left to the caller.
+    /// Validates it under its issuer, at this moment (RFC 6488, section 3; RFC 9286, section 4.4).
+    /// Validates and refuses as `SignedObject::validate_at` does. Answers the validated certificate
+    /// and the content. Whether the certificate was revoked is left to the caller.
     fn validate_at<C: Crypto>(
         self,
         alloc: Global,
@@ -89,7 +89,8 @@ pub trait ValidateManifest: Sized {
             (λ a. IsCertUnder (seen self).object issuer.now a.0 × (a.1 ≡ (seen self).content))
             result };
 
-    /// Validates it under its issuer, at the moment that the clock tells, as `validate_at` does.
+    /// Validates it under its issuer, at the moment that the clock tells. Validates and refuses as
+    /// `validate_at` does.
     fn validate<C: Crypto, K: Clock>(
         self,
         alloc: Global,

@@ -87,7 +87,7 @@ fn take_fields(
     })
 }
 
-/// Reads a content.
+/// Reads a content. Refuses as `ManifestContent::take_from` does.
 pub fn take_manifest(
     alloc: Global,
     cons: &mut Constructed<'_>,
@@ -99,7 +99,7 @@ pub fn take_manifest(
     cons.take_sequence(|cons| take_fields(alloc, cons, rule))
 }
 
-/// Reads the content at the front.
+/// Reads the content at the front. Refuses as `ManifestContent::decode` does.
 pub fn read_front(
     alloc: Global,
     source: Bytes,

@@ -51,7 +51,9 @@ fn verify_addresses(cert: &Cert) -> Result<(), VerificationError>
     Ok(())
 }
 
-/// Verifies what a certificate claims.
+/// Verifies what a certificate claims. Refuses by the fault of the first check that does not hold,
+/// in this order: `NoAsResources`, `InheritedAsResources`, `EmptyAsResources`, `SeveralAsBlocks`,
+/// `AsRange`, `OtherCustomer`, `IpResources`.
 pub fn verify_claimed(aspa: &AsProviderAttestation, cert: &Cert) -> Result<(), VerificationError>
     ensures { AnswersFirstFault
         (aspa_claimed aspa.now cert.now.certificate.tbs.extensions.claims) result }
@@ -60,7 +62,7 @@ pub fn verify_claimed(aspa: &AsProviderAttestation, cert: &Cert) -> Result<(), V
     verify_addresses(cert)
 }
 
-/// Verifies that a validated certificate has the customer.
+/// Verifies that a validated certificate has the customer. Refuses by `CustomerNotHeld`.
 pub fn verify_customer(
     aspa: &AsProviderAttestation,
     cert: &ResourceCert,

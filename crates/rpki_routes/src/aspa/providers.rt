@@ -141,7 +141,7 @@ impl ProviderAsSet {
         EntryIter::of(self.numbers.reader())
     }
 
-    /// The providers as a set of their own.
+    /// The providers as a set of their own. Refuses where memory runs out.
     pub fn to_set(&self, alloc: Global) -> Result<SmallAsnSet, AllocError>
         ensures { IfOk result (λ set. set ≡ self.now) }
     {
@@ -249,7 +249,9 @@ fn take_some(
     }
 }
 
-/// Reads the providers of a customer, a SEQUENCE.
+/// Reads the providers of a customer, a SEQUENCE. Refuses by `TOO_MANY_PROVIDERS`,
+/// `CUSTOMER_AMONG_PROVIDERS`, `PROVIDERS_NOT_ASCENDING`, `AS0_BESIDE_OTHERS` or `NO_PROVIDERS`, by
+/// `Malformed` for all else, or by `Memory`.
 pub fn take_providers(
     cons: &mut Constructed<'_>,
     customer: u32,

@@ -72,7 +72,9 @@ fn verify_family(
     verify_prefixes(family, set, addresses)
 }
 
-/// Verifies the prefixes of a ROA.
+/// Verifies the prefixes of a ROA, those of IPv4 first. Refuses by `NoPrefixCovered` where a family
+/// has prefixes and the certificate no address of it, and else by `UncoveredPrefix` of the first
+/// prefix in it that the certificate has not.
 pub fn verify_roa(
     roa: &RouteOriginAttestation,
     cert: &ResourceCert,

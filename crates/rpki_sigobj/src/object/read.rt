@@ -189,7 +189,7 @@ fn take_info(cons: &mut Constructed<'_>, alloc: Global) -> Result<SignedData, De
     cons.take_sequence(|cons| take_info_fields(cons, alloc))
 }
 
-/// Reads a signed object, and keeps its octets.
+/// Reads a signed object, and keeps its octets. Refuses as `SignedObject::take_from` does.
 pub fn take_kept(
     cons: &mut Constructed<'_>,
     alloc: Global,

@@ -36,17 +36,20 @@ pub trait Content: Clone + Debug + Drop {
     fn is_published() -> bool
         ensures { result ≡ kind.is_published };
 
-    /// Reads the content at the front of the source, by the rules of DER.
+    /// Reads the content at the front of the source, by the rules of DER. Refuses by `Malformed` or
+    /// by a `Content` fault of the kind where there is none, or by `Memory`.
     fn read(alloc: Global, source: Bytes, rule: Self::Rule) -> Result<Self, DecodeError>
         ensures decodes { Decodes (form rule) (λ x. x) source result }
         ensures content { IfOk result is_content };
 
-    /// Looks at what the certificate of the signer claims, before it is validated.
+    /// Looks at what the certificate of the signer claims, before it is validated. Refuses by the
+    /// fault of the first check of the kind that does not hold.
     fn verify_claims(&self, cert: &Cert) -> Result<(), ValidationError>
         ensures { AnswersFirstFault (kind.claimed self.now
             cert.now.certificate.tbs.extensions.claims) result };
 
-    /// Looks at the numbers that the certificate has, after it was validated.
+    /// Looks at the numbers that the certificate has, after it was validated. Refuses by the fault
+    /// of the first check of the kind that does not hold.
     fn verify_held(&self, cert: &ResourceCert) -> Result<(), ValidationError>
         ensures { AnswersFirstFault (kind.held self.now cert.now.sets) result };
 

@@ -188,7 +188,8 @@ impl<T: Content> Signed<T> {
         self.process_under(&under, check_crl)
     }
 
-    /// Validates it under its issuer, at the moment that the clock tells, as `process_at` does.
+    /// Validates it under its issuer, at the moment that the clock tells. Validates and refuses as
+    /// `process_at` does.
     pub fn process<C: Crypto, K: Clock, F: FnOnce(&Cert) -> Result<(), ValidationError>>(
         self,
         alloc: Global,

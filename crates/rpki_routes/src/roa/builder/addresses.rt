@@ -131,7 +131,7 @@ impl RoaIpAddressesBuilder {
     }
 
     /// What a certificate has to claim for them: the set of the addresses of their prefixes,
-    /// missing where there is none.
+    /// missing where there is none. Refuses where memory runs out.
     pub fn to_resources(&self) -> Result<IpResources, AllocError>
         ensures { IfOk result (IsClaimOf self.now) }
     {
