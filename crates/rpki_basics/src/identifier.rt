@@ -15,8 +15,9 @@ ghost use Rattle.rpki_der.specs.Write.Parts.{contents_small};
 ghost use Rattle.rpki_basics.specs.Identifier.{key_identifier_at, key_identifier_octets};
 
 use rpki_der::encode::octet_string;
-use rpki_der::{Constructed, DecodeError, Encode, EncodeError, ListItem, Sink, SinkFailed};
-use rpki_der::{Tag, UpperHex};
+use rpki_der::{
+    Constructed, DecodeError, Encode, EncodeError, ListItem, Sink, SinkFailed, Tag, UpperHex,
+};
 use sha1::Sha1;
 use std::alloc::Global;
 use std::cmp::Ordering;

@@ -10,9 +10,7 @@ ghost use Rattle.rpki_extensions.specs.Access.{access_fields_at, accesses_at, is
 ghost use Rattle.rpki_extensions.specs.Access.{subject_of, authority_access_at};
 ghost use Rattle.rpki_extensions.specs.Access.{subject_access_at};
 
-use crate::identifiers::{
-    CA_ISSUERS, CA_REPOSITORY, RPKI_MANIFEST, RPKI_NOTIFY, SIGNED_OBJECT,
-};
+use crate::identifiers::{CA_ISSUERS, CA_REPOSITORY, RPKI_MANIFEST, RPKI_NOTIFY, SIGNED_OBJECT};
 use crate::name::{GeneralName, take_general_name, uri_of};
 use crate::uri::NamedUri;
 use rpki_basics::{Https, Rsync};

@@ -14,8 +14,8 @@ ghost use Rattle.rpki_issued.specs.Extensions.{said_access};
 use rpki_basics::{Https, Rsync};
 use rpki_der::encode::{Raw, Value, primitive, sequence};
 use rpki_der::{Encode, EncodeError, Sink, SinkFailed, Tag};
-use rpki_extensions::identifiers::{CA_REPOSITORY, RPKI_MANIFEST, RPKI_NOTIFY, SIGNED_OBJECT};
 use rpki_extensions::SubjectAccess;
+use rpki_extensions::identifiers::{CA_REPOSITORY, RPKI_MANIFEST, RPKI_NOTIFY, SIGNED_OBJECT};
 
 /// A method and a URI.
 pub type AccessTo<'a> = Value<(Value<Raw<'a>>, Value<Raw<'a>>)>;
