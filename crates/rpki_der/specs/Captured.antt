@@ -1,4 +1,4 @@
--- Octets that were read and are kept as they are.
+-- Octets that are kept as they are.
 use Rattle.std.specs.Prelude.{ℕ, List}
 use Rattle.rpki_der.specs.declared.mode.Mode.{Mode}
 

@@ -1,4 +1,4 @@
-//! Octets that were read and are kept as they are.
+//! Octets that are kept as they are.
 
 ghost use Rattle.std.specs.Prelude.{◌≡◌};
 ghost use Rattle.rpki_der.specs.Captured.{Kept};
@@ -8,7 +8,7 @@ use bytes::Bytes;
 use std::alloc::AllocError;
 use std::marker::Model;
 
-/// Octets that are kept with a mode: that in which they were read, or as if they had been.
+/// Octets that are kept with a mode: that in which they were read, or the one that `new` took.
 #[derive(Drop, Debug)]
 pub struct Captured {
     octets: Bytes,
@@ -24,21 +24,21 @@ impl Model for Captured {
 }
 
 impl Captured {
-    /// These octets, as if they had been read in this mode.
+    /// These octets, as if they had been read in this mode. Neither is tested.
     pub fn new(octets: Bytes, mode: Mode) -> Captured
         ensures { result ≡ record { octets = octets; mode = mode } }
     {
         Captured { octets, mode }
     }
 
-    /// The octets, as they stood in the source.
+    /// The octets, as they stood in the source or were handed to `new`.
     pub fn as_slice(&self) -> &[u8]
         ensures { result.now ≡ self.now.octets }
     {
         self.octets.as_slice()
     }
 
-    /// The mode that they are kept with: that in which they were read, or the one that `new` took.
+    /// The mode that they are kept with.
     pub fn mode(&self) -> Mode
         ensures { result ≡ self.now.mode }
     {

@@ -40,7 +40,7 @@ pub trait EntryKind {
     // What reads an entry.
     ghost entry_at: { Parser Self.Shown };
 
-    /// Goes past the entry in front, if there is one.
+    /// Goes past the entry in front. Refuses by `Malformed` or `For` where there is none.
     fn skip(reader: &mut SliceReader<'_>) -> Result<(), Refused>
         ensures { PassesFront entry_at reader.old result reader.new };
 

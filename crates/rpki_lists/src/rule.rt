@@ -20,7 +20,8 @@ pub trait Rule {
     // What it has seen after an entry, if the entry may stand there.
     ghost after: { Self → Self.EntryKind.Shown → Option Self };
 
-    /// Goes past the entry in front, if there is one that may stand there.
+    /// Goes past the entry in front. Refuses by `Malformed` or `For` where there is none, or none
+    /// that may stand there.
     fn pass(&mut self, reader: &mut SliceReader<'_>) -> Result<(), Refused>
         ensures { PassesBy Self.EntryKind.entry_at after
             self.old reader.old result self.new reader.new };

@@ -31,15 +31,16 @@ pub trait Sink {
     // How many calls have failed.
     ghost failures: { Self → ℕ };
 
-    /// Takes octets from the front of a slice: at least one, where there is one. A call that fails
-    /// takes none.
+    /// Takes octets from the front of a slice: at least one, where there is one. A call that fails,
+    /// by `SinkFailed`, takes none.
     fn take(&mut self, octets: &[u8]) -> Result<usize, SinkFailed>
         ensures count { IfOk result (IsTakenCount octets.now) }
         ensures taken { WriteAppends (taken self.old) (taken self.new) result octets.now }
         ensures ok { OnOk result (failures self.new ≡ failures self.old) }
         ensures err { OnErr result (failures self.new ≡ failures self.old + 1) };
 
-    /// Takes all octets of a slice. Where a call fails, it has taken those before.
+    /// Takes all octets of a slice. Refuses by `SinkFailed` where a call of `take` fails; it has
+    /// taken those before.
     #[inline(always)]
     final fn take_all(&mut self, octets: &[u8]) -> Result<(), SinkFailed>
     where

@@ -58,7 +58,7 @@ pub trait Source {
     ghost failures: { Self → ℕ };
 
     /// Gives octets into the front of a slice, and answers how many. Where it gives none into a
-    /// slice that is not empty, it has ended. A call that fails gives none.
+    /// slice that is not empty, it has ended. A call that fails, by `SourceFailed`, gives none.
     fn read(&mut self, buf: &mut [u8]) -> Result<usize, SourceFailed>
         ensures count { IfOk result (λ n. n ≤ length buf.new) }
         ensures given { ReadConsumes (left self.old) (left self.new) result buf.new }
