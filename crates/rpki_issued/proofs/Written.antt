@@ -129,7 +129,7 @@ tbs-written t h short =
       ),
     )
 
-signature-written : (s : List ℕ) → Short (value_octets BIT_STRING (bit_string_contents s 0))
+pub signature-written : (s : List ℕ) → Short (value_octets BIT_STRING (bit_string_contents s 0))
     → OctetsInBits Der (value_octets BIT_STRING (bit_string_contents s 0)) s
 signature-written s short =
     let few : Short (bit_string_contents s 0) =

@@ -3,7 +3,7 @@
 
 mod access;
 mod claims;
-mod extension;
+pub mod extension;
 mod extensions;
 pub mod laws;
 pub mod resources;

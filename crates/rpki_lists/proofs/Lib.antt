@@ -5,3 +5,4 @@ pub mod OctetsInDer
 pub mod Taking
 pub mod Writing
 pub mod Fronts
+pub mod Listed

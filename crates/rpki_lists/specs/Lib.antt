@@ -1,3 +1,4 @@
+pub mod Built
 pub mod Slice
 pub mod Entries
 pub mod Rules

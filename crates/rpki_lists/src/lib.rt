@@ -7,6 +7,7 @@ mod iter;
 mod kind;
 pub mod laws;
 mod list;
+mod made;
 mod rule;
 mod slice;
 
@@ -14,5 +15,6 @@ pub use encode::{EntriesEncoder, Written};
 pub use iter::EntryIter;
 pub use kind::{EntryKind, Refused, SliceEntry};
 pub use list::EntryList;
+pub use made::{list_of, octets_of};
 pub use rule::{Rule, take_list};
 pub use slice::{BitSlice, SliceReader};

@@ -1,5 +1,4 @@
 pub mod Ascending
 pub mod Attestations
 pub mod Fronts
-pub mod Listed
 pub mod Origins

@@ -4,7 +4,6 @@
 #![tactic(auto)]
 
 mod aspa;
-mod entries;
 pub mod faults;
 pub mod laws;
 mod roa;

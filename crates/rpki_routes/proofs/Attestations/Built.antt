@@ -16,7 +16,7 @@ use Rattle.rpki_routes.specs.Aspa.Built.{aspa_checks}
 use Rattle.rpki_routes.specs.Aspa.Form.{AspaForm}
 use Rattle.rpki_routes.specs.Aspa.Written.{providers_octets}
 use Rattle.rpki_routes.proofs.Attestations.Written.{most-wide, length-providers_octets}
-use Rattle.rpki_routes.proofs.Listed.{entries-read}
+use Rattle.rpki_lists.proofs.Listed.{entries-read}
 
 -- what passes the checks is an attestation
 pub attested : (limit : ProviderLimit) (a : Aspa) → IsStrictlyIncreasing a.providers

@@ -12,7 +12,7 @@ use Rattle.rpki_der.specs.declared.encode.EncodeError.{EncodeError}
 use Rattle.rpki_der.specs.declared.encode.EncodeError.TheVariants.{NotDer, TooLong, Io, Memory}
 use Rattle.rpki_der.specs.Write.Encode.{Fits, IsLenOf}
 use Rattle.rpki_lists.specs.Entries.{HoldEntries, entries_of}
-use Rattle.rpki_routes.specs.Built.{IsNotBuilt}
+use Rattle.rpki_lists.specs.Built.{IsNotBuilt}
 use Rattle.rpki_der.specs.declared.mode.Mode.TheVariants.{Der}
 use Rattle.rpki_der.specs.Tags.{OCTET_STRING, SEQUENCE}
 use Rattle.rpki_der.specs.Grammar.{IsBytes}
@@ -42,7 +42,7 @@ use Rattle.rpki_routes.specs.Roa.Read.{address_at}
 use Rattle.rpki_routes.specs.Roa.Written.{address_contents, address_octets, families_octets}
 use Rattle.rpki_routes.specs.Roa.Written.{family_contents, family_octets, list_octets, roa_contents}
 use Rattle.rpki_routes.specs.Roa.Written.{roa_octets}
-use Rattle.rpki_routes.proofs.Listed.{entries-held, entries-read, not-built}
+use Rattle.rpki_lists.proofs.Listed.{entries-held, entries-read, not-built}
 use Rattle.rpki_routes.proofs.Origins.Chains.{later-first}
 use Rattle.rpki_routes.proofs.Origins.Exact.{of-either, plain-part}
 use Rattle.rpki_routes.proofs.Origins.Facts.{roa-facts}

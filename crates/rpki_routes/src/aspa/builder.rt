@@ -10,7 +10,7 @@ ghost use Rattle.rpki_routes.specs.Aspa.{IsAttestation};
 ghost use Rattle.rpki_routes.specs.Aspa.Built.{HasTwice, IsAdded, IsPlace, aspa_checks};
 ghost use Rattle.rpki_routes.specs.Aspa.Form.{AspaForm};
 ghost use Rattle.rpki_routes.specs.Aspa.Written.{aspa_octets};
-ghost use Rattle.rpki_routes.specs.Built.{IsNotBuilt};
+ghost use Rattle.rpki_lists.specs.Built.{IsNotBuilt};
 
 use crate::aspa::AsProviderAttestation;
 use crate::aspa::providers::ProviderAsSet;

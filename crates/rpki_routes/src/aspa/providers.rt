@@ -6,13 +6,13 @@ ghost use Rattle.rpki_basics.specs.declared.limits.ProviderLimit.TheVariants.{Wi
 ghost use Rattle.rpki_routes.specs.Aspa.{IsProviderSet, AreProviders};
 ghost use Rattle.rpki_routes.specs.Aspa.Read.{in_order_at, providers_at, follows, may_come};
 
-use crate::entries::{list_of, octets_of};
 use crate::faults;
 use rpki_basics::{BuildError, ProviderLimit};
 use rpki_der::encode::each;
 use rpki_der::{Constructed, DecodeError};
 use rpki_lists::{
-    EntryIter, EntryKind, EntryList, Refused, Rule, SliceEntry, SliceReader, take_list,
+    EntryIter, EntryKind, EntryList, Refused, Rule, SliceEntry, SliceReader, list_of, octets_of,
+    take_list,
 };
 use rpki_resources::{Asn, SmallAsnSet};
 use std::alloc::{AllocError, Global};

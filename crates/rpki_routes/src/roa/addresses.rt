@@ -5,14 +5,13 @@ ghost use Rattle.rpki_lists.specs.Entries.{HoldEntries, entries_of};
 ghost use Rattle.rpki_lists.specs.Slice.{FindsFront};
 ghost use Rattle.rpki_routes.specs.Roa.Read.{address_at, address_fields_at, is_of};
 
-use crate::entries::list_of;
 use crate::faults;
 use crate::roa::address::RoaIpAddress;
 use crate::roa::bits::take_prefix;
 use bytes::Bytes;
 use rpki_der::{Constructed, DecodeError};
 use rpki_lists::{
-    EntryIter, EntryKind, EntryList, Refused, Rule, SliceEntry, SliceReader, take_list,
+    EntryIter, EntryKind, EntryList, Refused, Rule, SliceEntry, SliceReader, list_of, take_list,
 };
 use rpki_resources::{AddressFamily, OfFamily};
 use std::alloc::{AllocError, Global};

@@ -7,7 +7,7 @@ ghost use Rattle.std.specs.Prelude.{IfErr, IfOk, OnErr, OnOk};
 ghost use Rattle.std.specs.Borrow.{sem};
 ghost use Rattle.std.specs.declared.net.ip_addr.IpAddr.{IpAddr};
 ghost use Rattle.rpki_faults.specs.Checks.{AnswersFirstFault};
-ghost use Rattle.rpki_routes.specs.Built.{IsNotBuilt};
+ghost use Rattle.rpki_lists.specs.Built.{IsNotBuilt};
 ghost use Rattle.rpki_routes.specs.Roa.{IsRoa};
 ghost use Rattle.rpki_routes.specs.Roa.Built.{address_of, roa_checks, with_address};
 ghost use Rattle.rpki_routes.specs.Roa.Form.{RoaForm};

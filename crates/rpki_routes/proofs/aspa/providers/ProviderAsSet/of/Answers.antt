@@ -7,7 +7,7 @@ use Rattle.rpki_resources.specs.As.{IsAsn}
 use Rattle.rpki_routes.specs.Aspa.{IsProviderSet}
 use Rattle.rpki_routes.specs.Aspa.Written.{providers_octets}
 use Rattle.rpki_routes.proofs.Attestations.Built.{few-octets, providers-read}
-use Rattle.rpki_routes.proofs.Listed.{entries-held, only-memory}
+use Rattle.rpki_lists.proofs.Listed.{entries-held, only-memory}
 use Rattle.rpki_routes.proofs.aspa.providers.ProviderAsSet.of.Goals as goal
 
 -- octets that are written of these providers, handed on as others, hold the providers

@@ -3,12 +3,13 @@
 ghost use Rattle.std.specs.Prelude.{◌≡◌, [], IfOk, IfErr, OnOk};
 ghost use Rattle.rpki_der.specs.Write.Encode.{Fits};
 ghost use Rattle.rpki_lists.specs.Entries.{HoldEntries, entries_of};
-ghost use Rattle.rpki_routes.specs.Built.{IsNotBuilt};
+ghost use Rattle.rpki_lists.specs.Built.{IsNotBuilt};
 
+use crate::kind::EntryKind;
+use crate::list::EntryList;
 use bytes::Bytes;
 use rpki_basics::BuildError;
 use rpki_der::{Encode, EncodeError};
-use rpki_lists::{EntryKind, EntryList};
 use std::alloc::{AllocError, Global};
 
 /// What a value is written as. Refuses by `TooLong` or by `Memory`.

@@ -1,4 +1,4 @@
-use Rattle.rpki_routes.proofs.Listed.{found-held, held-found}
+use Rattle.rpki_lists.proofs.Listed.{found-held, held-found}
 use Rattle.rpki_routes.proofs.entries.list_of.Goals as goal
 
 pub unreachable-requires : goal.unreachable-requires

@@ -15,7 +15,7 @@ use Rattle.rpki_der.proofs.Reading.Lengths.{some_is}
 use Rattle.rpki_der.proofs.Writing.Leaves.{items-written}
 use Rattle.rpki_faults.specs.Checks.{Check, AllHold}
 use Rattle.rpki_lists.specs.Entries.{HoldEntries, entries_of, or_empty}
-use Rattle.rpki_routes.specs.Built.{IsNotBuilt}
+use Rattle.rpki_lists.specs.Built.{IsNotBuilt}
 
 module _ {X : Type 0} where
   all-read : (o : Option (List X)) (xs : List X)
