@@ -115,15 +115,13 @@ pub record IsBuilt (b : Settings) (issuer type content digest : List ℕ) (s : S
   pub attributes : AreMade type digest b.signing_time s.signer.attributes
 
 -- What a built object needs to be valid under an issuer at a moment: cryptography says yes to the
--- two signatures, the issuer has the issuer's key and its identifier, the moment lies in the
--- validity, the signing time is not after its end, a family is named, and the issuer has what is
--- claimed.
+-- two signatures, the issuer has the issuer's key, the moment lies in the validity, the signing time
+-- is not after its end, a family is named, and the issuer has what is claimed.
 pub record IsFit (verdict : Verdict) (b : Settings) (key : List ℕ) (s : SignedData)
     (issuer : Validated) (now : Moment) : Type 0 where
   pub cert_signed : verdict key s.cert.signed s.cert.signature ≡ true
   pub signed : verdict s.cert.tbs.key (message_of s.signer.attributes) s.signer.signature ≡ true
   pub issuer_key : issuer.cert.certificate.tbs.key ≡ key
-  pub issuer_identifier : issuer.cert.certificate.tbs.extensions.key.subject_key ≡ sha1 key
   pub in_time : IsInTime b.validity now
   pub signing_time : stamp b.signing_time ≤ stamp b.validity.not_after
   pub named : ¬ NamesNothing (claims_of b)

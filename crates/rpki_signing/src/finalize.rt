@@ -1,6 +1,6 @@
 //! Signing objects that are built (RFC 6488, section 2).
 
-ghost use Rattle.std.specs.Prelude.{◌≡◌, ◌↔◌, ◌<◌, ℕ, List, length, IfOk, IfErr, IsErrOf};
+ghost use Rattle.std.specs.Prelude.{◌≡◌, ◌↔◌, ◌<◌, ℕ, List, length, IfOk, IfErr, IsErrOf, OnOk};
 ghost use Rattle.std.specs.List.{concat};
 ghost use Rattle.rpki_der.specs.declared.mode.Mode.TheVariants.{Der};
 ghost use Rattle.rpki_attributes.specs.Attrs.{most_octets};
@@ -8,7 +8,7 @@ ghost use Rattle.rpki_attributes.specs.Attrs.Made.{attributes_of, message_of};
 ghost use Rattle.rpki_basics.specs.Signing.{CountsError};
 ghost use Rattle.rpki_issued.specs.Written.{ClaimsIpv4};
 ghost use Rattle.rpki_signing.specs.Built.{AreMade, AreNotSigned, IsBuilt, IsNotBuilt};
-ghost use Rattle.rpki_signing.specs.Built.{attrs_error, claims_of};
+ghost use Rattle.rpki_signing.specs.Built.{NamesInDer, attrs_error, claims_of};
 ghost use Rattle.rpki_signing.specs.Written.{made_object};
 
 use crate::builder::SignedObjectBuilder;
@@ -156,6 +156,7 @@ impl SignedObjectBuilder {
         ensures cert_signed { IfOk result (λ o. S.may_sign signer.old
             (S.key_of signer.old issuer_key.now) o.object.signed.cert.signed
             o.object.signed.cert.signature) }
+        ensures names { OnOk result (NamesInDer self) }
         ensures refused { IfErr result (IsNotBuilt (S.may_sign signer.old) self issuer.now
             typed.now.content_type.now typed.now.content.now
             (S.digest_of signer.old typed.now.content.now)) }
@@ -223,6 +224,7 @@ impl SignedObjectBuilder {
         ensures cert_signed { IfOk result (λ o. S.may_sign signer.old
             (S.key_of signer.old issuer_key.now) o.object.signed.cert.signed
             o.object.signed.cert.signature) }
+        ensures names { OnOk result (NamesInDer self) }
         ensures refused { IfErr result (IsNotBuilt (S.may_sign signer.old) self
             (S.key_of signer.old issuer_key.now) content_type.now content.now
             (S.digest_of signer.old content.now)) }

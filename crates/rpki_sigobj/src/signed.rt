@@ -116,6 +116,15 @@ impl<T: Content> Signed<T> {
         }
     }
 
+    /// The object with this content, which is what its octets begin with.
+    pub fn from_parts(object: SignedObject, content: T) -> Signed<T>
+        requires { IsKeptWhole T.kind.type T.form (record { object = object; content = content }) }
+        ensures object { result.object ≡ object }
+        ensures content { result.content ≡ content }
+    {
+        Signed { object, content }
+    }
+
     /// The object and the content.
     pub fn into_parts(self) -> (SignedObject, T)
         ensures object { result.0 ≡ self.object }

@@ -138,6 +138,7 @@ impl TbsCert {
         ensures der { IfOk result (λ c. c.mode ≡ Der) }
         ensures signed { IfOk result (λ c. S.may_sign signer.old (S.key_of signer.old key.now)
             (tbs_octets (tbs_of self)) c.certificate.signature) }
+        ensures names { OnOk result (NamesInDer self) }
         ensures refused { IfErr result
             (IsNotSigned (S.may_sign signer.old (S.key_of signer.old key.now)) self) }
         ensures cause { CountsError (S.failures signer.old) (S.failures signer.new) result }

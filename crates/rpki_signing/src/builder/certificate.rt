@@ -1,11 +1,11 @@
 //! The certificate of the signer of an object that is built (RFC 6487, section 4).
 
-ghost use Rattle.std.specs.Prelude.{◌≡◌, ◌↔◌, ℕ, List, IfOk, IfErr};
+ghost use Rattle.std.specs.Prelude.{◌≡◌, ◌↔◌, ℕ, List, IfOk, IfErr, OnOk};
 ghost use Rattle.rpki_der.specs.declared.mode.Mode.TheVariants.{Der};
 ghost use Rattle.rpki_basics.specs.Signing.{CountsError};
 ghost use Rattle.rpki_issued.specs.Tbs.{IsNotSigned, tbs_of};
 ghost use Rattle.rpki_issued.specs.Written.{ClaimsIpv4, made_certificate, tbs_octets};
-ghost use Rattle.rpki_signing.specs.Built.{claims_of, issuer_of, unsigned_of};
+ghost use Rattle.rpki_signing.specs.Built.{NamesInDer, claims_of, issuer_of, unsigned_of};
 
 use crate::builder::SignedObjectBuilder;
 use rpki_basics::{Name, PublicKey, Signer, SigningError};
@@ -67,6 +67,7 @@ impl SignedObjectBuilder {
         ensures signed { IfOk result (λ c. S.may_sign signer.old
             (S.key_of signer.old issuer_key.now)
             (tbs_octets (tbs_of (unsigned_of self issuer.now key))) c.certificate.signature) }
+        ensures names { OnOk result (NamesInDer self) }
         ensures refused { IfErr result (IsNotSigned (S.may_sign signer.old
             (S.key_of signer.old issuer_key.now)) (unsigned_of self issuer.now key)) }
         ensures cause { CountsError (S.failures signer.old) (S.failures signer.new) result }
