@@ -15,7 +15,7 @@ use bytes::Bytes;
 use read::Contents;
 use rpki_der::encode::CapturedEncoder;
 use rpki_der::laws::slices_hold_octets;
-use rpki_der::{Captured, Constructed, DecodeError, Mode};
+use rpki_der::{Captured, Constructed, DecodeError, Encode, EncodeError, Mode, Sink, SinkFailed};
 use std::alloc::{AllocError, Global};
 use std::marker::Model;
 
@@ -160,6 +160,27 @@ impl Crl {
         ensures written { CrlForm self.now.mode self.now.list.octets self.now.list }
     {
         self.captured.encode_ref()
+    }
+}
+
+/// The list is written as it was read, as `encode_ref` says.
+impl Encode for Crl {
+    ghost use Rattle.rpki_der.specs.declared.mode.Mode.TheVariants.{Der};
+
+    ghost octets = { λ c. c.list.octets };
+
+    ghost is_der = { λ c. c.mode ≡ Der };
+
+    ghost is_short = { λ _. Unit {0} };
+
+    ghost small = { λ _ _. tt };
+
+    fn encoded_len(&self) -> Result<u64, EncodeError> {
+        self.encode_ref().encoded_len()
+    }
+
+    fn put<W: Sink>(&self, len: u64, out: &mut W) -> Result<(), SinkFailed> {
+        self.encode_ref().put(len, out)
     }
 }
 
