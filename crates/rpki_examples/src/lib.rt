@@ -23,4 +23,5 @@ pub mod revoked;
 pub mod routes;
 pub mod sets;
 pub mod signatures;
+pub mod signers;
 pub mod values;

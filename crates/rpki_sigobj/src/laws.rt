@@ -2,7 +2,11 @@
 
 ghost use Rattle.rpki_der.specs.declared.mode.Mode.{Mode};
 ghost use Rattle.rpki_der.specs.Read.Exact.{IsReading};
-ghost use Rattle.std.specs.Prelude.{◌↔◌};
+ghost use Rattle.std.specs.Prelude.{◌≡◌, ◌↔◌, ◌++◌, ℕ, List, Result, MatchResult};
+ghost use Rattle.rpki_der.specs.declared.error.DecodeError.{DecodeError};
+ghost use Rattle.rpki_der.specs.declared.error.DecodeError.TheVariants.{Memory};
+ghost use Rattle.rpki_der.specs.declared.mode.Mode.TheVariants.{Der};
+ghost use Rattle.rpki_der.specs.Form.Decodes.{Decodes};
 ghost use Rattle.rpki_basics.specs.Moment.{Moment};
 ghost use Rattle.rpki_der.specs.Form.After.{LeavesOctetsAfter};
 ghost use Rattle.rpki_faults.specs.Checks.{AllHold, IsFirstFault};
@@ -10,9 +14,13 @@ ghost use Rattle.rpki_faults.specs.declared.validation.ValidationError.{Validati
 ghost use Rattle.rpki_certs.specs.Inspect.{ee_checks, detached_ee_checks};
 ghost use Rattle.rpki_certs.specs.Verify.{Verdict};
 ghost use Rattle.rpki_certs.specs.Validate.{Validated, IsGoodUnder};
-ghost use Rattle.rpki_sigobj.specs.Object.{SignedData, SignedForm, object_at};
+ghost use Rattle.rpki_sigobj.specs.Object.{KeptObject, SignedData, SignedForm, SignedObject};
+ghost use Rattle.rpki_sigobj.specs.Object.{object_at};
+ghost use Rattle.rpki_sigobj.specs.Signed.{KeptWhole, ObjectForm, Whole, whole_of};
 ghost use Rattle.rpki_sigobj.specs.Validate.{object_validation, detached_validation};
 ghost use Rattle.rpki_sigobj.specs.Verify.{Digester, IsWellSigned};
+
+use crate::signed::Content;
 
 /// Reading a signed object is exact and unique, and DER is a part of BER (RFC 5652, section 3; RFC
 /// 6488, section 2).
@@ -57,4 +65,20 @@ pub fn refused_objects()
         IsFirstFault (detached_validation digest verdict s issuer now) fault
         → ¬ (IsWellSigned digest verdict s × AllHold (detached_ee_checks s.cert.tbs)
         × IsGoodUnder verdict s.cert issuer now) }
+{}
+
+/// What is written of an object that was read strictly, or made, is read strictly as this object,
+/// whatever octets follow it, unless memory runs out.
+pub fn written_objects_are_read()
+    ensures { (o : SignedObject) (rest : List ℕ) (r : Result KeptObject DecodeError)
+        → SignedForm Der o.octets o → Decodes (SignedForm Der) (λ k. k.object) (o.octets ++ rest) r
+        → MatchResult r (λ k. k.object ≡ o) (λ e. e ≡ Memory) }
+{}
+
+/// And so it is with its content, by each rule that the content was read by.
+pub fn written_contents_are_read<T: Content>()
+    ensures { (rule : T.Rule) (o : Whole T) (rest : List ℕ) (r : Result (KeptWhole T) DecodeError)
+        → ObjectForm T.kind.type (T.form rule) Der o.object.octets o
+        → Decodes (ObjectForm T.kind.type (T.form rule) Der) whole_of (o.object.octets ++ rest) r
+        → MatchResult r (λ k. whole_of k ≡ o) (λ e. e ≡ Memory) }
 {}

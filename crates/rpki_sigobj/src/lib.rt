@@ -2,6 +2,7 @@
 //! contents, over any kind of these.
 #![tactic(auto)]
 
+pub mod cms;
 pub mod faults;
 pub mod laws;
 mod object;
@@ -13,3 +14,4 @@ mod verify;
 
 pub use object::SignedObject;
 pub use signed::{Content, Signed, oid_of};
+pub use signer_info::SignerInfo;

@@ -2,7 +2,7 @@
 
 mod fields;
 mod parts;
-mod read;
+pub(crate) mod read;
 
 ghost use Rattle.std.specs.Prelude.{◌≡◌, IfOk, IfErr, Err};
 ghost use Rattle.rpki_der.specs.declared.mode.Mode.TheVariants.{Der, Ber};

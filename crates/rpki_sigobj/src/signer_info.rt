@@ -1,7 +1,9 @@
 //! What the signer of a signed object says.
 
-ghost use Rattle.std.specs.Prelude.{◌≡◌, IfOk};
-ghost use Rattle.rpki_der.specs.Read.Reads.{Reads};
+ghost use Rattle.std.specs.Prelude.{◌≡◌, ◌<◌, IfOk, IfSome, length, option_map};
+ghost use Rattle.rpki_der.specs.Read.Parse.{optional};
+ghost use Rattle.rpki_der.specs.Read.Reads.{Reads, Stays};
+ghost use Rattle.rpki_der.specs.Tags.{SEQUENCE};
 ghost use Rattle.rpki_extensions.specs.KeyIdentifiers.{key_id_at};
 ghost use Rattle.rpki_sigobj.specs.SignerInfo.{version_at, typed_attrs_at, signer_fields_at};
 ghost use Rattle.rpki_sigobj.specs.SignerInfo.{signer_info_at};
@@ -17,9 +19,9 @@ use std::marker::Model;
 /// signed, and its signature.
 #[derive(Debug, Drop)]
 pub struct SignerInfo {
-    pub sid: KeyIdentifier,
-    pub attributes: SignedAttrs,
-    pub signature: RpkiSignature,
+    pub(crate) sid: KeyIdentifier,
+    pub(crate) attributes: SignedAttrs,
+    pub(crate) signature: RpkiSignature,
 }
 
 impl Model for SignerInfo {
@@ -131,6 +133,65 @@ pub fn take_signer_info(
     ensures mode { IfOk result (λ s. s.mode ≡ cons.old.mode) }
 {
     cons.take_sequence(|cons| take_fields(cons, alloc, content_type))
+}
+
+impl SignerInfo {
+    /// What the signer with this identifier says by these attributes and this signature over them.
+    pub fn new(sid: KeyIdentifier, attributes: SignedAttrs, signature: RpkiSignature) -> SignerInfo
+        ensures sid { result.signer.sid ≡ sid }
+        ensures attributes { result.signer.attributes ≡ attributes.attributes }
+        ensures signature { result.signer.signature ≡ signature }
+        ensures mode { result.mode ≡ attributes.mode }
+    {
+        SignerInfo {
+            sid,
+            attributes,
+            signature,
+        }
+    }
+
+    /// Reads what a signer says of a content of this type, if a SEQUENCE is next (RFC 5652, section
+    /// 5.3). It takes an octet at least.
+    ///
+    /// Refuses by `UNKNOWN_ALGORITHM`, by `WRONG_CONTENT_TYPE` where the signed attributes say
+    /// another type, by what signed attributes are refused by, by `Malformed` for all else, or by
+    /// `Memory`.
+    pub fn take_opt_from(
+        alloc: Global,
+        cons: &mut Constructed<'_>,
+        content_type: &Oid,
+    ) -> Result<Option<SignerInfo>, DecodeError>
+        ensures reads { Reads (option_map (λ s. s.signer))
+            (optional SEQUENCE (signer_info_at content_type.now)) cons.old result cons.new }
+        ensures mode { IfOk result (λ s. IfSome s (λ s. s.mode ≡ cons.old.mode)) }
+        ensures stays { Stays result cons.new }
+        ensures shorter { IfOk result
+            (λ s. IfSome s (λ _. length cons.new.rest < length cons.old.rest)) }
+    {
+        cons.take_opt_sequence(|cons| take_fields(cons, alloc, content_type))
+    }
+
+    /// The identifier of its key (RFC 5652, section 5.3).
+    pub fn sid(&self) -> &KeyIdentifier
+        ensures { result.now ≡ self.now.signer.sid }
+    {
+        &self.sid
+    }
+
+    /// The attributes that it signed (RFC 5652, section 5.3), in the mode that they were read in.
+    pub fn attributes(&self) -> &SignedAttrs
+        ensures attributes { result.now.attributes ≡ self.now.signer.attributes }
+        ensures mode { result.now.mode ≡ self.now.mode }
+    {
+        &self.attributes
+    }
+
+    /// Its signature over the message of its attributes (RFC 5652, sections 5.3 and 5.4).
+    pub fn signature(&self) -> &RpkiSignature
+        ensures { result.now ≡ self.now.signer.signature }
+    {
+        &self.signature
+    }
 }
 
 impl Clone for SignerInfo {

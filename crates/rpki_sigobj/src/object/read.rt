@@ -48,11 +48,11 @@ impl Model for SignedData {
     ghost invariant = { λ d. d.signer.mode ≡ d.cert.mode };
 }
 
-// The identifier of signed data (RFC 5652, section 5.1).
-const ID_SIGNED_DATA: [u8; 9] = [0x2A, 0x86, 0x48, 0x86, 0xF7, 0x0D, 0x01, 0x07, 0x02];
+/// The contents of the identifier of signed data (RFC 5652, section 5.1).
+pub const ID_SIGNED_DATA: [u8; 9] = [0x2A, 0x86, 0x48, 0x86, 0xF7, 0x0D, 0x01, 0x07, 0x02];
 
-// Reads the algorithm of the digest, the only one that is named.
-fn skip_digests(cons: &mut Constructed<'_>) -> Result<(), DecodeError>
+/// Reads the algorithms of digests, a SET with one algorithm alone, SHA-256.
+pub fn skip_digests(cons: &mut Constructed<'_>) -> Result<(), DecodeError>
     ensures { Reads (λ u. u) (set_at digest_algorithm_at) cons.old result cons.new }
 {
     cons.take_set(skip_digest)
@@ -66,8 +66,8 @@ fn skip_digest(cons: &mut Constructed<'_>) -> Result<(), DecodeError>
     Ok(())
 }
 
-// Reads the octets of the content.
-fn take_octets(cons: &mut Constructed<'_>, alloc: Global) -> Result<Bytes, DecodeError>
+/// Reads the octets of the content, an OCTET STRING under [0] (RFC 5652, section 5.2).
+pub fn take_octets(cons: &mut Constructed<'_>, alloc: Global) -> Result<Bytes, DecodeError>
     ensures { Reads (λ s. s) (context_at 0 (octets_at MAX_DEPTH)) cons.old result cons.new }
 {
     cons.take_constructed_if(Tag::CTX_0, |cons| cons.take_octets(alloc))
