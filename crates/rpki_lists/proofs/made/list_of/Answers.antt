@@ -1,5 +1,5 @@
 use Rattle.rpki_lists.proofs.Listed.{found-held, held-found}
-use Rattle.rpki_routes.proofs.entries.list_of.Goals as goal
+use Rattle.rpki_lists.proofs.made.list_of.Goals as goal
 
 pub unreachable-requires : goal.unreachable-requires
 unreachable-requires g c =
