@@ -1,5 +1,6 @@
 -- What it means that all checks of a validation hold.
-use Rattle.std.proofs.Common.{List}
+use Rattle.std.proofs.Common.{List, ◌≡◌}
+use Rattle.sha1.specs.Sha1.{sha1}
 use Rattle.std.specs.Prelude.{◌↔◌}
 use Rattle.rpki_basics.specs.Moment.{Moment}
 use Rattle.rpki_faults.specs.Checks.{Check, AllHold, ◌as_faults_of◌}
@@ -12,6 +13,7 @@ use Rattle.rpki_certs.specs.Inspect.{ta_checks}
 use Rattle.rpki_certs.specs.Verify.{Verdict, ta_ref_checks}
 use Rattle.rpki_certs.specs.Validate.{Validated, issued_validation, ta_validation}
 use Rattle.rpki_certs.specs.Validate.{IsGoodAnchor, IsGoodUnder}
+use Rattle.rpki_certs.specs.Validate.{ca_validation, ee_validation, detached_ee_validation}
 use Rattle.std.specs.Prelude.{◌++◌}
 
 pub anchor-valid : (verdict : Verdict) (c : Certificate) (now : Moment)
@@ -67,3 +69,29 @@ issued-valid inspected verdict c issuer now = (
         ),
       ),
 )
+
+-- ---- what was validated states the identifier of its own key
+
+pub anchor_states : (verdict : Verdict) (c : Certificate) (now : Moment)
+    → AllHold (ta_validation verdict c now)
+    → c.tbs.extensions.key.subject_key ≡ sha1 c.tbs.key
+unfolding ta_validation
+anchor_states verdict c now h = h.0
+
+pub ca_states : (verdict : Verdict) (c : Certificate) (issuer : Validated) (now : Moment)
+    → AllHold (ca_validation verdict c issuer now)
+    → c.tbs.extensions.key.subject_key ≡ sha1 c.tbs.key
+unfolding ca_validation
+ca_states verdict c issuer now h = h.0
+
+pub ee_states : (verdict : Verdict) (c : Certificate) (issuer : Validated) (now : Moment)
+    → AllHold (ee_validation verdict c issuer now)
+    → c.tbs.extensions.key.subject_key ≡ sha1 c.tbs.key
+unfolding ee_validation
+ee_states verdict c issuer now h = h.0
+
+pub detached_states : (verdict : Verdict) (c : Certificate) (issuer : Validated) (now : Moment)
+    → AllHold (detached_ee_validation verdict c issuer now)
+    → c.tbs.extensions.key.subject_key ≡ sha1 c.tbs.key
+unfolding detached_ee_validation
+detached_states verdict c issuer now h = h.0

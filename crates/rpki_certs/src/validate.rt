@@ -1,6 +1,7 @@
 //! The validation of certificates.
 
 ghost use Rattle.std.specs.Prelude.{◌≡◌, []};
+ghost use Rattle.sha1.specs.Sha1.{sha1};
 ghost use Rattle.rpki_resources.specs.declared.resources.Claim.TheVariants.{Inherit};
 ghost use Rattle.rpki_resources.specs.Claim.{HasBlocks};
 ghost use Rattle.rpki_faults.specs.Checks.{AnswersFirstFault, AnswersFirstOr};
@@ -72,11 +73,24 @@ impl Model for ResourceCert {
 }
 
 impl ResourceCert {
+    // The certificate, which states the identifier of its own key, with its sets.
+    fn of(cert: Cert, sets: Sets) -> ResourceCert
+        requires { cert.certificate.tbs.extensions.key.subject_key ≡ sha1 cert.certificate.tbs.key }
+        ensures cert { result.cert ≡ cert }
+        ensures sets { result.sets ≡ sets }
+    {
+        // The proof needs that the sets are canonical.
+        let _ = &sets.as_numbers;
+        ResourceCert { cert, sets }
+    }
+
     /// What holds of each certificate that was validated: it states the identifier of its own key
     /// (RFC 6487, section 4.8.2), and its sets are canonical. A law, as a call that does nothing.
     pub fn is_resource_cert(&self)
         ensures { IsResourceCert self.now }
-    {}
+    {
+        let _ = &self.cert;
+    }
 
     /// The certificate.
     pub fn cert(&self) -> &Cert
@@ -264,7 +278,7 @@ impl Cert {
     ///
     /// Refuses by the fault of the first check that does not hold, in this order: those of
     /// `inspect_ta`, `NotYetValid`, `Expired`, `BadSignature`; or by `Memory`.
-    #[tactic(auto, unfolding(crate::specs::Validate::IsAnchorOf))]
+    #[tactic(auto, using(crate::proofs::Valid::anchor_states), unfolding(crate::specs::Validate::IsAnchorOf))]
     pub fn validate_ta_at<C: Crypto>(
         self,
         alloc: Global,
@@ -276,7 +290,7 @@ impl Cert {
             (ta_validation (C.is_signed crypto.now) self.certificate now) (IsAnchorOf self) result }
     {
         match self.anchor_sets(alloc, strict, crypto, now) {
-            Ok(sets) => Ok(ResourceCert { cert: self, sets }),
+            Ok(sets) => Ok(ResourceCert::of(self, sets)),
             Err(error) => {
                 drop(self);
                 Err(error)
@@ -292,7 +306,7 @@ impl Cert {
     /// Refuses by the fault of the first check that does not hold, in this order: those of
     /// `inspect_ca`, `IssuerClaim`, `NotYetValid`, `Expired`, `BadSignature`, and `Overclaimed` for
     /// AS numbers, IPv4 and IPv6; or by `Memory`.
-    #[tactic(auto, unfolding(crate::specs::Validate::IsValidatedUnder))]
+    #[tactic(auto, using(crate::proofs::Valid::ca_states), unfolding(crate::specs::Validate::IsValidatedUnder))]
     pub fn validate_ca_at<C: Crypto>(
         self,
         alloc: Global,
@@ -306,7 +320,7 @@ impl Cert {
             (IsValidatedUnder self issuer.now) result }
     {
         match self.ca_sets(alloc, issuer, crypto, now) {
-            Ok(sets) => Ok(ResourceCert { cert: self, sets }),
+            Ok(sets) => Ok(ResourceCert::of(self, sets)),
             Err(error) => {
                 drop(self);
                 Err(error)
@@ -317,7 +331,7 @@ impl Cert {
     /// Validates the certificate of an end entity that signed a published object, as
     /// `validate_ca_at` does that of a CA. Refuses as it does, with the faults of `inspect_ee` in
     /// place of those of `inspect_ca`.
-    #[tactic(auto, unfolding(crate::specs::Validate::IsValidatedUnder))]
+    #[tactic(auto, using(crate::proofs::Valid::ee_states), unfolding(crate::specs::Validate::IsValidatedUnder))]
     pub fn validate_ee_at<C: Crypto>(
         self,
         alloc: Global,
@@ -331,7 +345,7 @@ impl Cert {
             (IsValidatedUnder self issuer.now) result }
     {
         match self.ee_sets(alloc, issuer, crypto, now) {
-            Ok(sets) => Ok(ResourceCert { cert: self, sets }),
+            Ok(sets) => Ok(ResourceCert::of(self, sets)),
             Err(error) => {
                 drop(self);
                 Err(error)
@@ -343,7 +357,7 @@ impl Cert {
     /// published, as a checklist (RFC 9323, section 2), as `validate_ca_at` does that of a CA.
     /// Refuses as it does, with the faults of `inspect_detached_ee` in place of those of
     /// `inspect_ca`.
-    #[tactic(auto, unfolding(crate::specs::Validate::IsValidatedUnder))]
+    #[tactic(auto, using(crate::proofs::Valid::detached_states), unfolding(crate::specs::Validate::IsValidatedUnder))]
     pub fn validate_detached_ee_at<C: Crypto>(
         self,
         alloc: Global,
@@ -357,7 +371,7 @@ impl Cert {
             (IsValidatedUnder self issuer.now) result }
     {
         match self.detached_ee_sets(alloc, issuer, crypto, now) {
-            Ok(sets) => Ok(ResourceCert { cert: self, sets }),
+            Ok(sets) => Ok(ResourceCert::of(self, sets)),
             Err(error) => {
                 drop(self);
                 Err(error)
