@@ -24,7 +24,8 @@ of an item a blank:
     attested                 three sets
     the answer
 
-A claim is M (missing), I (inherited) or a set: E (empty) or ranges, as 1.3+5.9.
+The certificates are carried in turn: the first of an end entity, the first of a CA, the second of an
+end entity, and so on. A claim is M (missing), I (inherited) or a set: E (empty) or ranges, as 1.3+5.9.
 """
 import argparse
 import collections
@@ -213,17 +214,33 @@ def why_not_taken(path, supply):
     return "signature" if path[0].is_anchor else "inspection"
 
 
+def in_carried_order(a):
+    """The certificates, those of end entities and of CAs in turn, each with its place among the CAs."""
+    for ee, ca in itertools.zip_longest(a.ees, enumerate(a.cas)):
+        yield from () if ee is None else ((ee, None),)
+        yield from () if ca is None else ((ca[1], ca[0]),)
+
+
 def failing(a):
-    """What is not valid or not paired, in the order in which it is asked, where identifiers are distinct."""
-    if not all(cert.is_valid for cert in a.ees + a.cas):
-        yield "invalid"
-    for name, related, xs, ys in (("crls", has_crl, a.cas, a.crls), ("keys", has_key, a.signers, a.keys)):
-        if why := why_unpaired(related, xs, ys):
-            yield f"{name} {why}"
-    if not all(signer.has_digest for signer in a.signers):
-        yield "digest"
-    if why := why_unpaired(is_verified_by, a.signers, a.ees):
-        yield f"signers {why}"
+    """What fails, in the order in which it is asked, where identifiers are distinct: certificate by
+    certificate, signer by signer, then what is left over."""
+    crl, key, ee = (why_unpaired(*of) for of in (
+        (has_crl, a.cas, a.crls), (has_key, a.signers, a.keys), (is_verified_by, a.signers, a.ees)))
+    for cert, place in in_carried_order(a):
+        if not cert.is_valid:
+            yield "invalid"
+        if place is not None and crl == str(place):
+            yield "nocrl"
+    for place, signer in enumerate(a.signers):
+        if key == str(place):
+            yield "nokey"
+        if not signer.has_digest:
+            yield "digest"
+        if ee == str(place):
+            yield "nocert"
+    for name, why in (("keys", key), ("crls", crl), ("certs", ee)):
+        if why == "left":
+            yield f"{name}left"
 
 
 def why_unwalked(a, paths):
@@ -254,7 +271,7 @@ def why_unearned(a, paths):
 
 def failures(a):
     """The checks that fail, in the order in which they are asked, where identifiers are distinct."""
-    found = [why.split()[0] for why in failing(a)]
+    found = list(dict.fromkeys(failing(a)))
     if not set(found) - {"invalid"} and why_unwalked(a, []):
         found.append("walks")
     return found

@@ -17,4 +17,6 @@ pub mod Granting
 pub mod After
 pub mod Mapping
 pub mod Verdicts
+pub mod Sorts
+pub mod Signs
 pub mod Accepting

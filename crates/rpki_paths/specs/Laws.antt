@@ -1,6 +1,6 @@
 -- The laws of paths that public functions carry.
 use Rattle.std.specs.Prelude.{◌≡◌, ℕ, ◌+◌, ◌*◌, ◌≤◌, List, ◌∷◌, Option, None, Some, IsTrue}
-use Rattle.std.specs.Prelude.{length, ◌↔◌, ◌⊎◌, [], ◌++◌, Result, Ok, Err, Bool, map}
+use Rattle.std.specs.Prelude.{length, ◌↔◌, ◌⊎◌, [], ◌++◌, Result, Ok, Err, Bool, map, All}
 use Rattle.rpki_resources.specs.declared.block.Block.{Block}
 use Rattle.rpki_resources.specs.declared.resources.Claim.{Claim}
 use Rattle.rpki_resources.specs.declared.resources.Claim.TheVariants.{Inherit, Explicit}
@@ -39,6 +39,7 @@ use Rattle.rpki_paths.specs.Grant.{ArePaths, with_crls, HaveCrls}
 use Rattle.rpki_paths.specs.Grant.{IsGranted}
 use Rattle.rpki_paths.specs.declared.acceptance.AcceptFault.{AcceptFault}
 use Rattle.rpki_paths.specs.Accepting.{WhyNot, WantsMemory}
+use Rattle.rpki_paths.specs.Sorting.{cas_of}
 
 -- If the resources of a path stand for its sets, they do so after one more issuer, whose claim
 -- covers what it has to.
@@ -302,12 +303,14 @@ UnmatchedIsNotAccepted =
     ⊎ AreUnpaired IsVerifiedBy a.signers a.ees fault ⊎ AreUnpaired HasCrl a.cas a.crls fault) →
     ¬ (IsAccepted a paths)
 
--- With distinct identifiers an attestation is refused, but for memory, only where no paths are
--- accepted.
-abbrev pub RefusalIsRight : Type 0
-RefusalIsRight =
-    (a : Carried) (fault : AcceptFault) (paths : List (List Cert)) → HasDistinctIds a →
-    ¬ (WantsMemory fault) → WhyNot a fault → ¬ (IsAccepted a paths)
+-- With distinct identifiers an attestation is refused, but for memory, only where a certificate is
+-- not good or no paths are accepted.
+abbrev pub RefusalIsRight : {X F : Type 0} → (X → Type 0) → (X → F → Type 0) → (X → Cert) →
+    (X → Bool) → Type 0
+RefusalIsRight {X} {F} good because seen of_ca =
+    (certs : List X) (a : Carried) (fault : AcceptFault F) (paths : List (List Cert)) →
+    a.cas ≡ map seen (cas_of of_ca certs) → HasDistinctIds a → ¬ (WantsMemory fault) →
+    WhyNot good because seen of_ca certs a fault → All good certs → ¬ (IsAccepted a paths)
 
 -- With distinct identifiers and a matching, whatever has the identifier that is sought also has the
 -- verdict, so that each signer and each CA asks for one.

@@ -11,6 +11,8 @@ pub mod Grant
 pub mod Kept
 pub mod Final
 pub mod After
+pub mod Sorting
+pub mod Signing
 pub mod Accepting
 pub mod Granting
 pub mod Texts

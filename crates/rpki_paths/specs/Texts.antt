@@ -30,15 +30,19 @@ walks_text (WalksFault.NoPath fault) = path_text fault
 walks_text (WalksFault.Unused place) = codes "unused CA certificate " ++ decimal place
 walks_text WalksFault.Memory = codes "out of memory"
 
--- The text that says why an attestation is not accepted.
-abbrev pub accept_text : AcceptFault → List ℕ
-accept_text AcceptFault.NotValid = codes "invalid certificate"
-accept_text (AcceptFault.Crls fault) = codes "revocation lists: " ++ pair_text fault
-accept_text (AcceptFault.Keys fault) = codes "subject keys: " ++ pair_text fault
-accept_text AcceptFault.Digest = codes "wrong digest of the content"
-accept_text (AcceptFault.Signers fault) = codes "signers: " ++ pair_text fault
-accept_text (AcceptFault.Walks fault) = walks_text fault
-accept_text AcceptFault.Memory = codes "out of memory"
+-- The text that says why an attestation is not accepted, where own are the texts of the faults of
+-- certificates.
+abbrev pub accept_text : {F : Type 0} → (F → Option (List ℕ)) → AcceptFault F → Option (List ℕ)
+accept_text own (AcceptFault.NotGood fault) = own fault
+accept_text own AcceptFault.NoCrl = Some (codes "no revocation list for a CA")
+accept_text own AcceptFault.NoKey = Some (codes "no subject key for a signer")
+accept_text own AcceptFault.Digest = Some (codes "wrong digest of the content")
+accept_text own AcceptFault.NoCert = Some (codes "no certificate for a signer")
+accept_text own AcceptFault.KeysLeft = Some (codes "unused subject keys")
+accept_text own AcceptFault.CrlsLeft = Some (codes "unused revocation lists")
+accept_text own AcceptFault.CertsLeft = Some (codes "unused end-entity certificates")
+accept_text own (AcceptFault.Walks fault) = Some (walks_text fault)
+accept_text own AcceptFault.Memory = Some (codes "out of memory")
 
 -- The text that says why a supply ends a call, where own are the texts of a locator's own faults.
 abbrev pub supply_text : {F : Type 0} → (F → Option (List ℕ)) → SupplyFault F → Option (List ℕ)
@@ -54,9 +58,10 @@ final_text FinalFault.AsNumbers = codes "AS numbers not those of the paths"
 final_text FinalFault.Addresses = codes "addresses not those of the paths"
 final_text FinalFault.Memory = codes "out of memory"
 
--- The text that says why an attestation is not granted, where own are the texts of a locator's own
--- faults.
-abbrev pub grant_text : {F : Type 0} → (F → Option (List ℕ)) → GrantFault F → Option (List ℕ)
-grant_text own (GrantFault.NotAccepted fault) = Some (accept_text fault)
-grant_text own (GrantFault.NotSupplied fault) = supply_text own fault
-grant_text own (GrantFault.NotGranted fault) = Some (final_text fault)
+-- The text that says why an attestation is not granted, where own are the texts of the faults of
+-- certificates and of a locator's own faults.
+abbrev pub grant_text : {A F : Type 0} → (A → Option (List ℕ)) → (F → Option (List ℕ)) →
+    GrantFault A F → Option (List ℕ)
+grant_text own others (GrantFault.NotAccepted fault) = accept_text own fault
+grant_text own others (GrantFault.NotSupplied fault) = supply_text others fault
+grant_text own others (GrantFault.NotGranted fault) = Some (final_text fault)

@@ -1,15 +1,16 @@
 //! The whole check of an attestation: accepted, anchored, and of just the numbers that it names.
 
-ghost use Rattle.std.specs.Prelude.{◌≤◌, ◌+◌, ◌*◌, length, map, IfErr, OnOk};
-ghost use Rattle.rpki_paths.specs.Accepting.{carried_of, AreAccepted};
+ghost use Rattle.std.specs.Prelude.{◌≤◌, ◌+◌, All, map, IfErr, OnOk};
+ghost use Rattle.rpki_paths.specs.Accepting.{AreAccepted, WhyNot, carried_of, most_verdicts};
 ghost use Rattle.rpki_paths.specs.Final.{attested_sets};
 ghost use Rattle.rpki_paths.specs.Grant.{IsGranted};
-ghost use Rattle.rpki_paths.specs.Granting.{LacksMemory, WhyNotGranted};
+ghost use Rattle.rpki_paths.specs.Granting.{IsPassed, LacksMemory, WhyNotGranted};
 ghost use Rattle.rpki_paths.specs.Pairing.{HasDistinctIds};
 ghost use Rattle.rpki_paths.specs.Supplied.{supply_of, refusal_of};
 ghost use Rattle.rpki_paths.specs.Texts.{grant_text};
 
-use crate::acceptance::{AcceptFault, Attestation, CarriedCert, CarriedSigner, accept};
+use crate::acceptance::{AcceptFault, accept};
+use crate::carried::{Attestation, Candidate, CarriedCert, CarriedSigner};
 use crate::certificate::{Locator, SignedCertificate, SuppliedCa};
 use crate::decision::{FinalFault, finalize};
 use crate::pairs::Accepts;
@@ -23,17 +24,17 @@ use std::sync::ledger::Ledger;
 
 /// Why an attestation is not granted.
 #[derive(Clone, Copy, Debug, PartialEq, Eq)]
-pub enum GrantFault<F> {
+pub enum GrantFault<A, F> {
     /// It is not accepted.
-    NotAccepted(AcceptFault),
+    NotAccepted(AcceptFault<A>),
     /// A supply does not take a path.
     NotSupplied(SupplyFault<F>),
     /// A path is not anchored, or the sets are not those of the paths.
     NotGranted(FinalFault),
 }
 
-impl<F: fmt::Display> fmt::Display for GrantFault<F> {
-    ghost output = { λ fault. grant_text F.Display.output fault };
+impl<A: fmt::Display, F: fmt::Display> fmt::Display for GrantFault<A, F> {
+    ghost output = { λ fault. grant_text A.Display.output F.Display.output fault };
 
     fn fmt<W: fmt::Write>(&self, f: &mut fmt::Formatter<W>) -> fmt::Result {
         match self {
@@ -44,33 +45,39 @@ impl<F: fmt::Display> fmt::Display for GrantFault<F> {
     }
 }
 
-impl<F: Error> Error for GrantFault<F> {}
+impl<A: Error, F: Error> Error for GrantFault<A, F> {}
 
 // Whether an attestation with these paths is granted under some supplies.
-fn decide<S, C, R, T, U>(
+fn decide<X, S, C, R, T, U>(
     alloc: Global,
-    a: &Attestation<S, C, R>,
+    a: &Attestation<X, S, R>,
     paths: &mut [Path<C>],
     supplies: &[Supplied<T, U>],
-) -> Result<(), GrantFault<T::Fault>>
+) -> Result<(), GrantFault<X::Fault, T::Fault>>
 where
+    X: Candidate<C>,
     S: CarriedSigner<C>,
     C: CarriedCert<R>,
     T: Locator<C>,
     U: SuppliedCa<C>,
     ensures yes { OnOk result (
-        AreAccepted C.cert (carried_of S.signer C.cert C.crl a.now) paths.old →
-        IsGranted (carried_of S.signer C.cert C.crl a.now)
+        AreAccepted C.cert (carried_of X.seen X.of_ca S.signer C.crl a.now) paths.old →
+        IsGranted (carried_of X.seen X.of_ca S.signer C.crl a.now)
         (map (supply_of T.key U.ski U.key U.sets) supplies.now) (attested_sets a.now.sets)) }
     ensures no { IfErr result (λ fault. ¬ (LacksMemory fault) →
-        AreAccepted C.cert (carried_of S.signer C.cert C.crl a.now) paths.old →
-        HasDistinctIds (carried_of S.signer C.cert C.crl a.now) →
-        ¬ (IsGranted (carried_of S.signer C.cert C.crl a.now)
+        AreAccepted C.cert (carried_of X.seen X.of_ca S.signer C.crl a.now) paths.old →
+        HasDistinctIds (carried_of X.seen X.of_ca S.signer C.crl a.now) →
+        ¬ (IsGranted (carried_of X.seen X.of_ca S.signer C.crl a.now)
         (map (supply_of T.key U.ski U.key U.sets) supplies.now) (attested_sets a.now.sets))) }
     ensures fault { IfErr result (λ fault.
-        AreAccepted C.cert (carried_of S.signer C.cert C.crl a.now) paths.old →
-        WhyNotGranted C.cert (supply_of T.key U.ski U.key U.sets) (refusal_of T.refuses)
-        (carried_of S.signer C.cert C.crl a.now) supplies.now (attested_sets a.now.sets) fault) }
+        IsPassed X.is_good a.now.certs.now C.cert
+        (carried_of X.seen X.of_ca S.signer C.crl a.now) paths.old →
+        WhyNotGranted (WhyNot X.is_good X.because X.seen X.of_ca a.now.certs.now
+        (carried_of X.seen X.of_ca S.signer C.crl a.now))
+        (IsPassed X.is_good a.now.certs.now C.cert
+        (carried_of X.seen X.of_ca S.signer C.crl a.now))
+        C.cert (supply_of T.key U.ski U.key U.sets) (refusal_of T.refuses) supplies.now
+        (attested_sets a.now.sets) fault) }
 {
     match supply_all(paths, supplies) {
         Err(fault) => return Err(GrantFault::NotSupplied(fault)),
@@ -83,34 +90,38 @@ where
 }
 
 /// Whether an attestation is granted under some supplies, handed in one after the other. A yes is
-/// right always, and an error but for memory where identifiers are distinct. Of s signers, l CRLs
-/// and a CAs, with distinct identifiers, a yes asks for at most s + l + s * a verdicts.
-///
-/// Refuses by the first thing that fails: what `accept` asks, by `NotAccepted`; then the supplies,
-/// by `NotSupplied`; then what `finalize` asks, by `NotGranted`. Memory may run out in each.
-pub fn grant<S, C, R: Copy, T, U, L: Ledger>(
+/// right always, and an error but for memory where identifiers are distinct. An error is the first
+/// thing that fails: what `accept` asks, then the supplies, then the end. Of s signers, l CRLs and
+/// a CAs, with distinct identifiers, a yes asks for at most s + l + s * a verdicts.
+pub fn grant<X, S, C, R, T, U, L: Ledger>(
     alloc: Global,
-    a: &Attestation<S, C, R>,
+    a: &Attestation<X, S, R>,
     supplies: &[Supplied<T, U>],
     asked: &mut VerdictCount<L>,
-) -> Result<(), GrantFault<T::Fault>>
+) -> Result<(), GrantFault<X::Fault, T::Fault>>
 where
+    X: Candidate<C>,
     S: CarriedSigner<C> + Accepts<C, L>,
     C: CarriedCert<R> + Accepts<R, L> + SignedCertificate<L>,
     T: Locator<C>,
     U: SuppliedCa<C>,
-    ensures yes { OnOk result (IsGranted (carried_of S.signer C.cert C.crl a.now)
+    ensures good { OnOk result (All X.is_good a.now.certs.now) }
+    ensures yes { OnOk result (IsGranted (carried_of X.seen X.of_ca S.signer C.crl a.now)
         (map (supply_of T.key U.ski U.key U.sets) supplies.now) (attested_sets a.now.sets)) }
     ensures no { IfErr result (λ fault. ¬ (LacksMemory fault) →
-        HasDistinctIds (carried_of S.signer C.cert C.crl a.now) →
-        ¬ (IsGranted (carried_of S.signer C.cert C.crl a.now)
+        HasDistinctIds (carried_of X.seen X.of_ca S.signer C.crl a.now) →
+        All X.is_good a.now.certs.now →
+        ¬ (IsGranted (carried_of X.seen X.of_ca S.signer C.crl a.now)
         (map (supply_of T.key U.ski U.key U.sets) supplies.now) (attested_sets a.now.sets))) }
-    ensures fault { IfErr result (WhyNotGranted C.cert (supply_of T.key U.ski U.key U.sets)
-        (refusal_of T.refuses) (carried_of S.signer C.cert C.crl a.now) supplies.now
+    ensures fault { IfErr result (WhyNotGranted (WhyNot X.is_good X.because X.seen X.of_ca
+        a.now.certs.now (carried_of X.seen X.of_ca S.signer C.crl a.now))
+        (IsPassed X.is_good a.now.certs.now C.cert
+        (carried_of X.seen X.of_ca S.signer C.crl a.now))
+        C.cert (supply_of T.key U.ski U.key U.sets) (refusal_of T.refuses) supplies.now
         (attested_sets a.now.sets)) }
-    ensures cost { OnOk result (HasDistinctIds (carried_of S.signer C.cert C.crl a.now) →
-        asked.new ≤ asked.old + (length a.now.signers.now + length a.now.crls.now
-        + length a.now.signers.now * length a.now.cas.now)) }
+    ensures cost { OnOk result (
+        HasDistinctIds (carried_of X.seen X.of_ca S.signer C.crl a.now) → asked.new ≤
+        asked.old + most_verdicts (carried_of X.seen X.of_ca S.signer C.crl a.now)) }
 {
     match accept(alloc, a, asked) {
         Err(fault) => Err(GrantFault::NotAccepted(fault)),

@@ -22,7 +22,7 @@ ghost use Rattle.rpki_paths.specs.Pairing.{HasKey, IsVerifiedBy, HasCrl};
 ghost use Rattle.rpki_paths.specs.Supplied.{supply_of, refusal_of};
 ghost use Rattle.rpki_paths.specs.Pairing.{IsPair};
 
-use crate::acceptance::{CarriedCert, CarriedSigner};
+use crate::carried::{Candidate, CarriedCert, CarriedSigner};
 use crate::certificate::{Certificate, Locator, SuppliedCa};
 use crate::pairs::Seeks;
 use rpki_resources::Number;
@@ -243,10 +243,10 @@ pub fn unmatched_is_not_accepted()
     ensures { UnmatchedIsNotAccepted }
 {}
 
-/// With distinct identifiers an attestation is refused, but for memory, only where no paths are
-/// accepted.
-pub fn refusal_is_right()
-    ensures { RefusalIsRight }
+/// With distinct identifiers an attestation is refused, but for memory, only where a certificate is
+/// not good or no paths are accepted.
+pub fn refusal_is_right<X: Candidate<C>, C: Certificate>()
+    ensures { RefusalIsRight X.is_good X.because X.seen X.of_ca }
 {}
 
 /// With distinct identifiers a matching asks for one verdict of each signer and of each CA.

@@ -4,6 +4,7 @@
 
 mod acceptance;
 mod attestation;
+mod carried;
 mod certificate;
 mod decision;
 mod family_resources;
@@ -11,13 +12,16 @@ mod key_id_index;
 pub mod laws;
 mod pairs;
 mod path_resources;
+mod signing;
+mod sorting;
 mod supply;
 mod verdict_count;
 mod walker;
 mod walks;
 
-pub use acceptance::{AcceptFault, Attestation, CarriedCert, CarriedSigner, accept};
+pub use acceptance::{AcceptFault, accept};
 pub use attestation::{GrantFault, grant};
+pub use carried::{Attestation, Candidate, CarriedCert, CarriedSigner};
 pub use certificate::{Certificate, KeyId, Locator, SignedCertificate, SuppliedCa};
 pub use decision::{Attested, FinalFault, finalize};
 pub use family_resources::{

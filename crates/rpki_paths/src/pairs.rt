@@ -137,7 +137,10 @@ pub fn take_first<X: Accepts<Y, L>, Y, L: Ledger>(
 }
 
 // The identifiers of the others.
-fn identifiers<X: Seeks<Y>, Y>(alloc: Global, others: &[Y]) -> Result<Vec<KeyId>, AllocError>
+pub(crate) fn identifiers<X: Seeks<Y>, Y>(
+    alloc: Global,
+    others: &[Y],
+) -> Result<Vec<KeyId>, AllocError>
     ensures { IfOk result (λ ids. ids.items ≡ map X.held others.now) }
 {
     let mut ids = Vec::new(alloc);

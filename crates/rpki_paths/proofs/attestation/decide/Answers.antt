@@ -11,7 +11,8 @@ returns-in-Err-clause-no g c = λ other acc dist. (
     let of =
     supply_of g.T.Locator.key g.U.SuppliedCa.ski g.U.SuppliedCa.key g.U.SuppliedCa.sets in
     let refuses = refusal_of g.T.Locator.refuses in
-    let a = carried_of g.S.CarriedSigner.signer cert g.C.CarriedCert.crl c.args.a.now in
+    let a = carried_of g.X.Candidate.seen g.X.Candidate.of_ca g.S.CarriedSigner.signer
+    g.C.CarriedCert.crl c.args.a.now in
     let supplies = c.args.supplies.now in
     let sets = attested_sets c.args.a.now.sets in
     unsupplied_is_refused cert of refuses a acc.ees acc.crls c.args.paths.now
@@ -24,7 +25,8 @@ returns-in-Ok-finalize-clause-yes g c = λ acc. (
     let of =
     supply_of g.T.Locator.key g.U.SuppliedCa.ski g.U.SuppliedCa.key g.U.SuppliedCa.sets in
     let refuses = refusal_of g.T.Locator.refuses in
-    let a = carried_of g.S.CarriedSigner.signer cert g.C.CarriedCert.crl c.args.a.now in
+    let a = carried_of g.X.Candidate.seen g.X.Candidate.of_ca g.S.CarriedSigner.signer
+    g.C.CarriedCert.crl c.args.a.now in
     let supplies = c.args.supplies.now in
     let sets = attested_sets c.args.a.now.sets in
     yes_is_granted cert of refuses a acc.ees acc.crls c.args.paths.now c.supply_all.new.paths
@@ -36,7 +38,8 @@ returns-in-Err-finalize-clause-no g c = λ other acc dist. (
     let of =
     supply_of g.T.Locator.key g.U.SuppliedCa.ski g.U.SuppliedCa.key g.U.SuppliedCa.sets in
     let refuses = refusal_of g.T.Locator.refuses in
-    let a = carried_of g.S.CarriedSigner.signer cert g.C.CarriedCert.crl c.args.a.now in
+    let a = carried_of g.X.Candidate.seen g.X.Candidate.of_ca g.S.CarriedSigner.signer
+    g.C.CarriedCert.crl c.args.a.now in
     let supplies = c.args.supplies.now in
     let sets = attested_sets c.args.a.now.sets in
     undecided_is_refused cert of refuses a acc.ees acc.crls c.args.paths.now
