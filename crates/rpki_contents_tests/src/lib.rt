@@ -1,5 +1,5 @@
-//! Tests of contents: of `rpki_lists`, `rpki_files`, `rpki_routes` and `rpki_tal`, each in the
-//! module of its name.
+//! Tests of contents: of `rpki_lists`, `rpki_files`, `rpki_routes`, `rpki_tagged` and `rpki_tal`,
+//! each in the module of its name.
 #![tactic(auto)]
 
 #[cfg(test)]
@@ -8,5 +8,7 @@ mod files;
 mod lists;
 #[cfg(test)]
 mod routes;
+#[cfg(test)]
+mod tagged;
 #[cfg(test)]
 mod tal;

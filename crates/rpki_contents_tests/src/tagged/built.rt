@@ -1,0 +1,177 @@
+//! Contents that are built.
+
+ghost use Rattle.std.specs.Prelude.{◌≡◌, ◌≤◌, [], All, IfOk};
+ghost use Rattle.rpki_resources.specs.declared.family.AddressFamily.TheVariants.{Ipv4};
+ghost use Rattle.rpki_resources.specs.As.{as_range};
+ghost use Rattle.rpki_resources.specs.Blocks.{IsBlock};
+ghost use Rattle.rpki_resources.specs.Family.{IsWithin};
+ghost use Rattle.rpki_resources.specs.Ip.{ip_range};
+
+use super::rows::is_written;
+use bytes::Bytes;
+use rpki_attributes::MessageDigest;
+use rpki_basics::{BuildError, BuildFault, DigestAlgorithm, KeyIdentifier};
+use rpki_resources::{Addr, AsBlock, Asn, IpBlock, Prefix};
+use rpki_tagged::AttestationBuilder;
+use std::alloc::{AllocError, Global};
+
+/// The octets 1 to 20, and E1 to F4.
+static KEYS: [[u8; 20]; 2] = [
+    [
+        1, 2, 3, 4, 5, 6, 7, 8, 9, 10, 11, 12, 13, 14, 15, 16, 17, 18, 19, 20,
+    ],
+    [
+        0xE1, 0xE2, 0xE3, 0xE4, 0xE5, 0xE6, 0xE7, 0xE8, 0xE9, 0xEA, 0xEB, 0xEC, 0xED, 0xEE, 0xEF,
+        0xF0, 0xF1, 0xF2, 0xF3, 0xF4,
+    ],
+];
+
+/// Both keys, AS64496, AS64498 to AS64511, 192.0.2.0/24 and 2001:db8::/32, and the digest `hash`.
+static ALL: &[u8] =
+    b"0y1,\x04\x14\x01\x02\x03\x04\x05\x06\x07\x08\x09\x0A\x0B\x0C\x0D\x0E\x0F\x10\x11\x12\x13\
+      \x14\x04\x14\xE1\xE2\xE3\xE4\xE5\xE6\xE7\xE8\xE9\xEA\xEB\xEC\xED\xEE\xEF\xF0\xF1\xF2\xF3\
+      \xF406\xA0\x130\x11\x02\x03\x00\xFB\xF00\x0A\x02\x03\x00\xFB\xF2\x02\x03\x00\xFB\xFF\xA1\
+      \x1F0\x1D0\x0C\x04\x02\x00\x010\x06\x03\x04\x00\xC0\x00\x020\x0D\x04\x02\x00\x020\x07\x03\
+      \x05\x00 \x01\x0D\xB80\x0B\x06\x09`\x86H\x01e\x03\x04\x02\x01\x04\x04hash";
+
+/// No key, and of these numbers those of one kind alone.
+static NUMBERS: &[u8] =
+    b"0 1\x000\x09\xA0\x070\x05\x02\x03\x00\xFB\xF00\x0B\x06\x09`\x86H\x01e\x03\x04\x02\x01\x04\
+      \x04hash";
+
+static V4: &[u8] =
+    b"0)1\x000\x12\xA1\x100\x0E0\x0C\x04\x02\x00\x010\x06\x03\x04\x00\xC0\x00\x020\x0B\x06\x09`\
+      \x86H\x01e\x03\x04\x02\x01\x04\x04hash";
+
+static V6: &[u8] =
+    b"0*1\x000\x13\xA1\x110\x0F0\x0D\x04\x02\x00\x020\x07\x03\x05\x00 \x01\x0D\xB80\x0B\x06\x09`\
+      \x86H\x01e\x03\x04\x02\x01\x04\x04hash";
+
+/// A builder with the digest `hash`.
+fn empty(alloc: Global) -> AttestationBuilder
+    ensures { result.v4_resources ≡ [] }
+{
+    let digest = MessageDigest::from(Bytes::from_static(b"hash"));
+    AttestationBuilder::new(alloc, DigestAlgorithm::sha256(), digest)
+}
+
+fn key(at: usize) -> KeyIdentifier {
+    KeyIdentifier::from_octets(KEYS[at % 2])
+}
+
+/// 192.0.2.0/24.
+fn v4_block() -> IpBlock
+    ensures block { IsBlock (λ n. n) (ip_range result) }
+    ensures within { IsWithin Ipv4 (ip_range result) }
+{
+    let prefix = Prefix::new(Addr::from_bits(0xC000_0200 << 96), 24);
+    let _ = prefix.range();
+    IpBlock::Prefix(prefix)
+}
+
+/// 2001:db8::/32.
+fn v6_block() -> IpBlock
+    ensures { IsBlock (λ n. n) (ip_range result) }
+{
+    IpBlock::Prefix(Prefix::new(Addr::from_bits(0x2001_0DB8 << 96), 32))
+}
+
+/// The block of these AS numbers.
+fn numbers(first: u32, last: u32) -> AsBlock
+    requires { first ≤ last }
+    ensures { IsBlock (λ n. n) (as_range result) }
+{
+    AsBlock::Range(Asn::from_u32(first), Asn::from_u32(last))
+}
+
+/// A builder to which all was pushed, AS numbers in blocks that overlap.
+fn by_pushes(alloc: Global) -> Result<AttestationBuilder, AllocError>
+    ensures { IfOk result (λ b. All (IsWithin Ipv4) b.v4_resources) }
+{
+    let mut builder = empty(alloc);
+    builder.push_v6(v6_block())?;
+    builder.push_as(numbers(64500, 64511))?;
+    builder.push_v4(v4_block())?;
+    builder.push_key(key(0))?;
+    builder.push_as(numbers(64498, 64505))?;
+    builder.push_as(AsBlock::Id(Asn::from_u32(64496)))?;
+    builder.push_key(key(1))?;
+    Ok(builder)
+}
+
+/// The same by what the builder lends.
+fn by_lent(alloc: Global) -> Result<AttestationBuilder, AllocError>
+    ensures { IfOk result (λ b. All (IsWithin Ipv4) b.v4_resources) }
+{
+    let mut builder = empty(alloc);
+    builder.keys_mut().push(key(0))?;
+    builder.keys_mut().push(key(1))?;
+    builder.as_resources_mut().push(numbers(64496, 64496))?;
+    builder.as_resources_mut().push(numbers(64498, 64511))?;
+    builder.v4_resources_mut().push(v4_block())?;
+    builder.v6_resources_mut().push(v6_block())?;
+    Ok(builder)
+}
+
+/// Whether the builder shows both keys, and as many blocks of each kind as were pushed.
+fn shows(builder: &AttestationBuilder) -> Result<bool, AllocError> {
+    let asns = builder.as_resources().clone()?.finalize()?;
+    let v4 = builder.v4_resources().clone()?.finalize()?;
+    let v6 = builder.v6_resources().clone()?.finalize()?;
+    Ok(
+        builder.keys() == &[key(0), key(1)][..]
+            && asns.iter().count() == 2
+            && v4.iter().next() == Some(v4_block())
+            && v6.iter().next() == Some(v6_block()),
+    )
+}
+
+/// Whether the content is written as these octets; where there are none, whether it is refused
+/// since it names nothing.
+fn is_built(alloc: Global, builder: AttestationBuilder, wanted: &[u8]) -> Result<bool, AllocError>
+    requires { All (IsWithin Ipv4) builder.v4_resources }
+{
+    match builder.into_attestation() {
+        Ok(content) => {
+            let is = is_written(alloc, &content, wanted);
+            drop(content);
+            is
+        }
+        Err(BuildError::Memory) => Err(AllocError),
+        Err(BuildError::Fault(BuildFault::NoResources)) => Ok(wanted.is_empty()),
+        Err(_) => Ok(false),
+    }
+}
+
+#[test]
+fn all_is_built(rt: HostRuntime) -> Result<(), AllocError> {
+    let alloc = rt.alloc();
+    let builder = by_pushes(alloc)?;
+    assert!(rt; shows(&builder)?);
+    assert!(rt; is_built(alloc, builder, ALL)?);
+    assert!(rt; is_built(alloc, by_lent(alloc)?, ALL)?);
+    Ok(())
+}
+
+/// Whether numbers of one kind alone are enough.
+fn one_is_enough(alloc: Global) -> Result<bool, AllocError> {
+    let mut one = empty(alloc);
+    one.push_as(AsBlock::Id(Asn::from_u32(64496)))?;
+    let asns = is_built(alloc, one, NUMBERS)?;
+    let mut one = empty(alloc);
+    one.push_v4(v4_block())?;
+    let v4 = is_built(alloc, one, V4)?;
+    let mut one = empty(alloc);
+    one.push_v6(v6_block())?;
+    Ok(asns && v4 && is_built(alloc, one, V6)?)
+}
+
+#[test]
+fn something_is_named(rt: HostRuntime) -> Result<(), AllocError> {
+    let alloc = rt.alloc();
+    let mut none = empty(alloc);
+    none.push_key(key(0))?;
+    assert!(rt; is_built(alloc, none, b"")?);
+    assert!(rt; one_is_enough(alloc)?);
+    Ok(())
+}

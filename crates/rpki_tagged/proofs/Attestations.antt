@@ -1,0 +1,5 @@
+-- Attestations.
+pub mod Built
+pub mod Exact
+pub mod Facts
+pub mod Written

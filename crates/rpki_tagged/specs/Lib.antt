@@ -1,0 +1,4 @@
+pub mod Attestation
+pub mod Built
+pub mod Lent
+pub mod Named

@@ -1,0 +1,10 @@
+//! Contents of multi-signed attestations (draft-michaelson-rpki-rta): which numbers are attested,
+//! by which keys, and of which document.
+#![tactic(auto)]
+
+mod attestation;
+pub mod faults;
+pub mod laws;
+mod named;
+
+pub use attestation::{AttestationBuilder, AttestationEncoder, ResourceTaggedAttestation};
