@@ -1,0 +1,8 @@
+//! Tests of `rpki_multi`: whole objects, whose octets another program made, and rows of objects
+//! that are put together from their fields.
+//!
+//! A test hands want of memory on and asserts everything else.
+
+mod octets;
+mod reading;
+mod writing;

@@ -1,0 +1,202 @@
+//! Rows of multi-signed objects that are read, and what they say.
+
+use super::octets::{AUTHORITY, EMPTY, ENTITY, FIRST, LIST, OTHER_TYPE, SECOND, WHOLE};
+use bytes::Bytes;
+use rpki_der::{Constructed, DecodeError, Mode};
+use rpki_fixtures::{Fail, value};
+use rpki_multi::{MultiSignedObject, SignerInfo};
+use std::alloc::{AllocError, Global};
+
+/// The version, the algorithm, and the content with its type.
+const VERSION: &[u8] = b"\x02\x01\x03";
+
+const DIGEST: &[u8] = b"\x31\x0D\x30\x0B\x06\x09\x60\x86\x48\x01\x65\x03\x04\x02\x01";
+
+const CONTENT: &[u8] =
+    b"\x30\x14\x06\x0B\x2A\x86\x48\x86\xF7\x0D\x01\x09\x10\x01\x24\xA0\x05\x04\x03\x02\x01\x05";
+
+/// The same with one field that is other: the type of ROAs, and no content.
+const ROA: &[u8] =
+    b"\x30\x14\x06\x0B\x2A\x86\x48\x86\xF7\x0D\x01\x09\x10\x01\x18\xA0\x05\x04\x03\x02\x01\x05";
+
+const NO_CONTENT: &[u8] = b"\x30\x0D\x06\x0B\x2A\x86\x48\x86\xF7\x0D\x01\x09\x10\x01\x24";
+
+/// The content in two pieces, which is BER.
+const PIECES: &[u8] = b"\x30\x17\x06\x0B\x2A\x86\x48\x86\xF7\x0D\x01\x09\x10\x01\x24\xA0\x08\x24\x06\
+    \x04\x01\x02\x04\x01\x01";
+
+/// A value with this identifier that holds the parts.
+type Held = (u8, &'static [&'static [u8]]);
+
+/// No certificate, and the two of them.
+const NO_CERTS: Held = (0xA0, &[]);
+
+const CERTS: Held = (0xA0, &[ENTITY, AUTHORITY]);
+
+/// No list, and one.
+const NO_LISTS: Held = (0xA1, &[]);
+
+const LISTS: Held = (0xA1, &[LIST]);
+
+/// No signer, and two of them.
+const NO_SIGNERS: Held = (0x31, &[]);
+
+const SIGNERS: Held = (0x31, &[SECOND, FIRST]);
+
+/// The fields before the lists, the lists, and what is said or why it is refused: where the object
+/// is read strictly, and where not.
+type Row = (
+    &'static [&'static [u8]],
+    &'static [Held],
+    &'static str,
+    &'static str,
+);
+
+const SAID: &str = "3 certs 3 2 crls 07AAE1B618F604C684EE3189FA1723BEF8656FE4 signers \
+    216A788021417AD345B1B1EE10753127C457AFC0 2024-06-02T12:00:00Z \
+    461D6580E38CCB6DC72699B6C945E53831DCDF03 2024-06-01T00:00:00Z";
+
+const ALONE: &str = "3 certs crls signers";
+
+const UNKNOWN: &str = "algorithm is none that the profile names";
+
+const OTHER: &str = "content-type attribute is not the eContentType";
+
+static ROWS: [Row; 20] = [
+    (&[VERSION, DIGEST, CONTENT], &[CERTS, LISTS, SIGNERS], SAID, SAID),
+    (&[VERSION, DIGEST, CONTENT], &[NO_CERTS, NO_SIGNERS], ALONE, ALONE),
+    (&[VERSION, DIGEST, CONTENT], &[NO_CERTS, NO_LISTS, NO_SIGNERS], ALONE, ALONE),
+    (&[VERSION, DIGEST, PIECES], &[NO_CERTS, NO_SIGNERS], "malformed", "2 certs crls signers"),
+    (&[b"\x02\x01\x01", DIGEST, CONTENT], &[NO_CERTS, NO_SIGNERS], "malformed", "malformed"),
+    (&[VERSION, b"\x31\x00", CONTENT], &[NO_CERTS, NO_SIGNERS], "malformed", "malformed"),
+    (&[VERSION, b"\x31\x05\x30\x03\x06\x01\x2A", CONTENT], &[NO_CERTS, NO_SIGNERS], UNKNOWN, UNKNOWN),
+    (&[VERSION, DIGEST, ROA], &[NO_CERTS, NO_SIGNERS], "malformed", "malformed"),
+    (&[VERSION, DIGEST, NO_CONTENT], &[NO_CERTS, NO_SIGNERS], "malformed", "malformed"),
+    (&[VERSION, DIGEST, CONTENT], &[NO_SIGNERS], "malformed", "malformed"),
+    (&[VERSION, DIGEST, CONTENT], &[NO_CERTS], "malformed", "malformed"),
+    (&[VERSION, DIGEST, CONTENT], &[LISTS, CERTS, SIGNERS], "malformed", "malformed"),
+    (&[VERSION, DIGEST, CONTENT], &[(0xA0, &[LIST]), NO_SIGNERS], "malformed", "malformed"),
+    (&[VERSION, DIGEST, CONTENT], &[NO_CERTS, (0xA1, &[ENTITY]), NO_SIGNERS], "malformed", "malformed"),
+    (&[VERSION, DIGEST, CONTENT], &[NO_CERTS, (0x30, &[FIRST])], "malformed", "malformed"),
+    (&[VERSION, DIGEST, CONTENT], &[NO_CERTS, (0x31, &[FIRST, b"\x05\x00"])], "malformed", "malformed"),
+    (&[VERSION, DIGEST, CONTENT], &[NO_CERTS, (0x31, &[FIRST, OTHER_TYPE])], OTHER, OTHER),
+    (&[VERSION, DIGEST, CONTENT], &[NO_CERTS, NO_SIGNERS, NO_SIGNERS], "malformed", "malformed"),
+    (&[VERSION, DIGEST, CONTENT], &[NO_CERTS, (0x31, &[ENTITY])], "malformed", "malformed"),
+    (&[DIGEST, CONTENT], &[NO_CERTS, NO_SIGNERS], "malformed", "malformed"),
+];
+
+/// The object of these fields.
+fn object(alloc: Global, fields: &[&[u8]], lists: &[Held]) -> Result<Bytes, AllocError> {
+    let mut contents = fields.concat(alloc)?;
+    for (identifier, parts) in lists {
+        let list = value(alloc, *identifier, parts)?;
+        contents.extend_from_slice(&list)?;
+    }
+    let signed = value(alloc, 0x30, &[&contents])?;
+    let tagged = value(alloc, 0xA0, &[&signed])?;
+    let kind: &[u8] = b"\x06\x09\x2A\x86\x48\x86\xF7\x0D\x01\x07\x02";
+    Ok(Bytes::from_vec(value(alloc, 0x30, &[kind, &tagged])?)?)
+}
+
+/// Appends the identifiers and the times of signers.
+fn push_signers(text: &mut String, signers: &[SignerInfo]) -> Result<(), AllocError> {
+    for signer in signers {
+        let sid = signer.sid();
+        let time = signer.signing_time();
+        write!(text, " {sid} {time}")?;
+    }
+    Ok(())
+}
+
+/// What an object says.
+fn text(alloc: Global, object: &MultiSignedObject) -> Result<String, AllocError> {
+    let len = object.content().len();
+    let mut text = format!(in alloc; "{len} certs")?;
+    for cert in object.certificates() {
+        let serial = cert.serial_number();
+        write!(text, " {serial}")?;
+    }
+    text.push_str(" crls")?;
+    for list in object.crls() {
+        let key = list.authority_key_identifier();
+        write!(text, " {key}")?;
+    }
+    text.push_str(" signers")?;
+    push_signers(&mut text, object.signer_infos())?;
+    Ok(text)
+}
+
+/// What is answered.
+pub fn shown(
+    alloc: Global,
+    answer: Result<MultiSignedObject, DecodeError>,
+) -> Result<String, AllocError> {
+    match answer {
+        Ok(object) => {
+            let text = text(alloc, &object);
+            drop(object);
+            text
+        }
+        Err(DecodeError::Memory) => Err(AllocError),
+        Err(error) => format!(in alloc; "{error}"),
+    }
+}
+
+/// The object that is read in this mode.
+pub fn read(alloc: Global, octets: Bytes, mode: Mode) -> Result<MultiSignedObject, DecodeError> {
+    Constructed::decode(octets, mode, |cons| MultiSignedObject::take_from(alloc, cons))
+}
+
+/// Whether the object of a row says this, where it is read strictly and where not.
+fn is_so(alloc: Global, row: &Row) -> Result<bool, AllocError> {
+    let octets = object(alloc, row.0, row.1)?;
+    let strict = shown(alloc, MultiSignedObject::decode(alloc, octets.clone()?))?;
+    let relaxed = shown(alloc, read(alloc, octets, Mode::Ber))?;
+    Ok(strict.as_str() == row.2 && relaxed.as_str() == row.3)
+}
+
+#[test]
+fn rows(rt: HostRuntime) -> Result<(), AllocError> {
+    let alloc = rt.alloc();
+    for row in &ROWS {
+        assert!(rt; is_so(alloc, row)?);
+    }
+    Ok(())
+}
+
+/// The number of the content, of which there is one.
+fn number(alloc: Global) -> Result<u8, Fail> {
+    let octets = object(alloc, &[VERSION, DIGEST, CONTENT], &[NO_CERTS, NO_SIGNERS])?;
+    let object = MultiSignedObject::decode(alloc, octets)?;
+    let number = object.decode_content(|cons| cons.take_u8());
+    drop(object);
+    Ok(number?)
+}
+
+#[test]
+fn contents(rt: HostRuntime) -> Result<(), Fail> {
+    assert!(rt; number(rt.alloc())? == 5);
+    Ok(())
+}
+
+/// The two objects that were made as a whole.
+static WHOLES: [(&[u8], &str); 2] = [
+    (EMPTY, "57 certs crls signers"),
+    (
+        WHOLE,
+        "57 certs 3 2 crls 07AAE1B618F604C684EE3189FA1723BEF8656FE4 signers \
+            216A788021417AD345B1B1EE10753127C457AFC0 2024-06-02T12:00:00Z \
+            461D6580E38CCB6DC72699B6C945E53831DCDF03 2024-06-01T00:00:00Z",
+    ),
+];
+
+#[test]
+fn wholes(rt: HostRuntime) -> Result<(), AllocError> {
+    let alloc = rt.alloc();
+    for (octets, text) in &WHOLES {
+        let object = MultiSignedObject::decode(alloc, Bytes::from_static(octets));
+        let found = shown(alloc, object)?;
+        assert_eq!(rt; found.as_str(), *text);
+    }
+    Ok(())
+}

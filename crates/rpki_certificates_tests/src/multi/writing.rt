@@ -1,0 +1,73 @@
+//! Multi-signed objects that are written.
+
+use super::octets::{EMPTY, FIRST, WHOLE};
+use super::reading::read;
+use bytes::Bytes;
+use rpki_der::{Constructed, Encode, EncodeError, Mode};
+use rpki_fixtures::Fail;
+use rpki_multi::SignerInfo;
+use std::alloc::Global;
+
+/// The octets that were written, and `None` where a part was read in BER.
+fn octets_of(written: Result<Vec<u8>, EncodeError>) -> Result<Option<Vec<u8>>, Fail> {
+    match written {
+        Ok(octets) => Ok(Some(octets)),
+        Err(EncodeError::NotDer) => Ok(None),
+        Err(EncodeError::Memory) => Err(Fail::Memory),
+        Err(_) => Err(Fail::Refused),
+    }
+}
+
+/// What the object is written as, read in this mode, and copied.
+fn again(alloc: Global, octets: &'static [u8], mode: Mode) -> Result<Option<Vec<u8>>, Fail> {
+    let object = read(alloc, Bytes::from_static(octets), mode)?;
+    let copy: Result<_, _> = object.clone();
+    drop(object);
+    let copy = copy?;
+    let written = copy.encode_ref().to_bytes(alloc);
+    drop(copy);
+    octets_of(written)
+}
+
+/// Whether the object with these octets is written as these.
+fn is_written(alloc: Global, octets: &'static [u8]) -> Result<bool, Fail> {
+    let written = again(alloc, octets, Mode::Der)?;
+    Ok(written.is_some_and(|written| written.as_slice() == octets))
+}
+
+#[test]
+fn objects_are_written(rt: HostRuntime) -> Result<(), Fail> {
+    let alloc = rt.alloc();
+    assert!(rt; is_written(alloc, EMPTY)? && is_written(alloc, WHOLE)?);
+    Ok(())
+}
+
+#[test]
+fn objects_in_ber_are_not_written(rt: HostRuntime) -> Result<(), Fail> {
+    let alloc = rt.alloc();
+    let whole = again(alloc, WHOLE, Mode::Ber)?;
+    let empty = again(alloc, EMPTY, Mode::Ber)?;
+    assert!(rt; whole.is_none() && empty.is_some());
+    Ok(())
+}
+
+/// What the first signer says, read in this mode, and written, and `None` where it can't be.
+fn signer(alloc: Global, mode: Mode) -> Result<Option<Vec<u8>>, Fail> {
+    let source = Bytes::from_static(FIRST);
+    let read = Constructed::decode(source, mode, |cons| SignerInfo::take_opt_from(alloc, cons))?;
+    let Some(signer) = read else {
+        return Ok(None);
+    };
+    let written = signer.encode_ref().to_bytes(alloc);
+    drop(signer);
+    octets_of(written)
+}
+
+#[test]
+fn signers_are_written(rt: HostRuntime) -> Result<(), Fail> {
+    let alloc = rt.alloc();
+    let der = signer(alloc, Mode::Der)?;
+    let ber = signer(alloc, Mode::Ber)?;
+    assert!(rt; der.is_some_and(|octets| octets.as_slice() == FIRST) && ber.is_none());
+    Ok(())
+}

@@ -1,0 +1,2 @@
+pub mod Multis
+pub mod Signers

@@ -1,0 +1,3 @@
+pub mod Multi
+pub mod Signer
+pub mod Written

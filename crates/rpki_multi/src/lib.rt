@@ -1,0 +1,10 @@
+//! Multi-signed objects (draft-michaelson-rpki-rta; RFC 5652): a content, the certificates and
+//! revocation lists that are carried with it, and what several signers say of it.
+#![tactic(auto)]
+
+pub mod laws;
+mod multi;
+mod signer;
+
+pub use multi::{MultiSignedObject, MultiSignedObjectEncoder};
+pub use signer::SignerInfo;
