@@ -18,6 +18,7 @@ pub mod resources;
 pub mod roa;
 pub mod rsa;
 pub mod rsc;
+pub mod rta;
 pub mod sigobj;
 pub mod tal;
 pub mod uri;
