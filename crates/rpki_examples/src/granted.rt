@@ -1,9 +1,8 @@
 //! Attestations and paths, as those who decide what is granted use them.
 
 ghost use Rattle.std.specs.Prelude.{◌≡◌, ◌↔◌, false, IsFalse, IsTrue, IfOk, OnOk, List, map};
-ghost use Rattle.std.specs.Prelude.{MatchResult};
+ghost use Rattle.std.specs.Prelude.{All, MatchResult};
 ghost use Rattle.rpki_paths.specs.declared.decision.FinalFault.{FinalFault};
-ghost use Rattle.rpki_paths.specs.declared.pairs.PairFault.{PairFault};
 ghost use Rattle.rpki_paths.specs.declared.supply.SupplyFault.{SupplyFault};
 ghost use Rattle.rpki_paths.specs.declared.walks.WalksFault.{WalksFault};
 ghost use Rattle.rpki_paths.specs.Accepting.{AreAccepted, WantsMemory, carried_of};
@@ -19,24 +18,13 @@ ghost use Rattle.rpki_paths.specs.Walk.{placed};
 
 use rpki::paths::laws::{all_are_kept, final_is_decided, yes_after_refusals};
 use rpki::paths::{
-    AcceptFault, Accepts, Attestation, Attested, CarriedCert, CarriedSigner, Certificate,
-    FinalFault, GrantFault, Locator, PairFault, Path, SignedCertificate, Supplied, SuppliedCa,
+    AcceptFault, Accepts, Attestation, Attested, Candidate, CarriedCert, CarriedSigner,
+    Certificate, FinalFault, GrantFault, Locator, Path, SignedCertificate, Supplied, SuppliedCa,
     SupplyFault, VerdictCount, WalksFault, accept, finalize, grant, supply_all, supply_each,
     walk_each,
 };
 use std::alloc::{AllocError, Global};
 use std::sync::ledger::Ledger;
-
-// Whether items were not paired off for want of memory.
-fn of_pairing(fault: PairFault) -> bool
-    ensures { IsTrue result ↔ (fault ≡ PairFault.Memory) }
-{
-    match fault {
-        PairFault::Unpaired(_) => false,
-        PairFault::LeftOver => false,
-        PairFault::Memory => true,
-    }
-}
 
 // Whether there are no walks for want of memory.
 fn of_walks(fault: WalksFault) -> bool
@@ -50,16 +38,19 @@ fn of_walks(fault: WalksFault) -> bool
 }
 
 // Whether an attestation was not accepted for want of memory.
-fn of_acceptance(fault: AcceptFault) -> bool
-    ensures { IsTrue result ↔ WantsMemory fault }
+fn of_acceptance<F>(fault: &AcceptFault<F>) -> bool
+    ensures { IsTrue result ↔ WantsMemory fault.now }
 {
     match fault {
-        AcceptFault::NotValid => false,
-        AcceptFault::Crls(fault) => of_pairing(fault),
-        AcceptFault::Keys(fault) => of_pairing(fault),
+        AcceptFault::NotGood(_) => false,
+        AcceptFault::NoCrl => false,
+        AcceptFault::NoKey => false,
         AcceptFault::Digest => false,
-        AcceptFault::Signers(fault) => of_pairing(fault),
-        AcceptFault::Walks(fault) => of_walks(fault),
+        AcceptFault::NoCert => false,
+        AcceptFault::KeysLeft => false,
+        AcceptFault::CrlsLeft => false,
+        AcceptFault::CertsLeft => false,
+        AcceptFault::Walks(fault) => of_walks(*fault),
         AcceptFault::Memory => true,
     }
 }
@@ -88,11 +79,11 @@ fn of_end(fault: FinalFault) -> bool
 }
 
 /// Whether an attestation was not granted for want of memory alone.
-pub fn lacks_memory<F>(fault: &GrantFault<F>) -> bool
+pub fn lacks_memory<A, F>(fault: &GrantFault<A, F>) -> bool
     ensures { IsTrue result ↔ LacksMemory fault.now }
 {
     match fault {
-        GrantFault::NotAccepted(fault) => of_acceptance(*fault),
+        GrantFault::NotAccepted(fault) => of_acceptance(fault),
         GrantFault::NotSupplied(fault) => of_supply(fault),
         GrantFault::NotGranted(fault) => of_end(*fault),
     }
@@ -100,24 +91,28 @@ pub fn lacks_memory<F>(fault: &GrantFault<F>) -> bool
 
 /// Whether an attestation is granted under some supplies. A yes is right always, and a no where
 /// identifiers are distinct.
-pub fn is_granted<S, C, R: Copy, T, U, L: Ledger>(
+pub fn is_granted<X, S, C, R, T, U, L: Ledger>(
     alloc: Global,
-    a: &Attestation<S, C, R>,
+    a: &Attestation<X, S, R>,
     supplies: &[Supplied<T, U>],
     asked: &mut VerdictCount<L>,
 ) -> Result<bool, AllocError>
 where
+    X: Candidate<C>,
+    X::Fault: Copy,
     S: CarriedSigner<C> + Accepts<C, L>,
     C: CarriedCert<R> + Accepts<R, L> + SignedCertificate<L>,
     T: Locator<C>,
     T::Fault: Copy,
     U: SuppliedCa<C>,
+    ensures good { IfOk result (λ yes. IsTrue yes → All X.is_good a.now.certs.now) }
     ensures yes { IfOk result (λ yes. IsTrue yes →
-        IsGranted (carried_of S.signer C.cert C.crl a.now)
+        IsGranted (carried_of X.seen X.of_ca S.signer C.crl a.now)
         (map (supply_of T.key U.ski U.key U.sets) supplies.now) (attested_sets a.now.sets)) }
     ensures no { IfOk result (λ yes. IsFalse yes →
-        HasDistinctIds (carried_of S.signer C.cert C.crl a.now) →
-        ¬ (IsGranted (carried_of S.signer C.cert C.crl a.now)
+        HasDistinctIds (carried_of X.seen X.of_ca S.signer C.crl a.now) →
+        All X.is_good a.now.certs.now →
+        ¬ (IsGranted (carried_of X.seen X.of_ca S.signer C.crl a.now)
         (map (supply_of T.key U.ski U.key U.sets) supplies.now) (attested_sets a.now.sets))) }
 {
     match grant(alloc, a, supplies, asked) {
@@ -226,21 +221,22 @@ where
 }
 
 // Whether an attestation with these paths is granted after some supplies.
-fn decide_after<S, C, R, T, U>(
+fn decide_after<X, S, C, R, T, U>(
     alloc: Global,
-    a: &Attestation<S, C, R>,
+    a: &Attestation<X, S, R>,
     paths: &mut [Path<C>],
     supplies: &[Supplied<T, U>],
 ) -> Result<bool, AllocError>
 where
+    X: Candidate<C>,
     S: CarriedSigner<C>,
     C: CarriedCert<R>,
     T: Locator<C>,
     T::Fault: Copy,
     U: SuppliedCa<C>,
     ensures { IfOk result (λ yes. IsTrue yes →
-        AreAccepted C.cert (carried_of S.signer C.cert C.crl a.now) paths.old →
-        IsGrantedBySome (carried_of S.signer C.cert C.crl a.now)
+        AreAccepted C.cert (carried_of X.seen X.of_ca S.signer C.crl a.now) paths.old →
+        IsGrantedBySome (carried_of X.seen X.of_ca S.signer C.crl a.now)
         (map (supply_of T.key U.ski U.key U.sets) supplies.now) (attested_sets a.now.sets)) }
 {
     yes_after_refusals::<C, T, U>();
@@ -255,20 +251,23 @@ where
 /// Whether an attestation is granted by some of these supplies: where one declines a path, the
 /// later ones are handed in all the same. A yes means that each path is anchored by one that is
 /// meant for it and takes it, and that need not be the first that is meant.
-pub fn is_granted_by_some<S, C, R: Copy, T, U, L: Ledger>(
+pub fn is_granted_by_some<X, S, C, R, T, U, L: Ledger>(
     alloc: Global,
-    a: &Attestation<S, C, R>,
+    a: &Attestation<X, S, R>,
     supplies: &[Supplied<T, U>],
     asked: &mut VerdictCount<L>,
 ) -> Result<bool, AllocError>
 where
+    X: Candidate<C>,
+    X::Fault: Copy,
     S: CarriedSigner<C> + Accepts<C, L>,
     C: CarriedCert<R> + Accepts<R, L> + SignedCertificate<L>,
     T: Locator<C>,
     T::Fault: Copy,
     U: SuppliedCa<C>,
-    ensures { IfOk result (λ yes. IsTrue yes →
-        IsGrantedBySome (carried_of S.signer C.cert C.crl a.now)
+    ensures good { IfOk result (λ yes. IsTrue yes → All X.is_good a.now.certs.now) }
+    ensures granted { IfOk result (λ yes. IsTrue yes →
+        IsGrantedBySome (carried_of X.seen X.of_ca S.signer C.crl a.now)
         (map (supply_of T.key U.ski U.key U.sets) supplies.now) (attested_sets a.now.sets)) }
 {
     match accept(alloc, a, asked) {
@@ -278,7 +277,7 @@ where
             is_granted
         }
         Err(fault) => {
-            if of_acceptance(fault) {
+            if of_acceptance(&fault) {
                 return Err(AllocError);
             }
             Ok(false)

@@ -10,9 +10,8 @@ use Rattle.rpki_paths.specs.Cert.{Cert, IsIn, at_place}
 use Rattle.rpki_paths.specs.Pairing.{IsPicked, here, there, IsPairing, Crl}
 use Rattle.rpki_paths.specs.Pairing.{IsPair, HasKey, IsVerifiedBy, HasCrl}
 use Rattle.rpki_paths.specs.Taking.{IsFirst, first, later, FitsNone, PairsOff, AreAt, ArePaired}
-use Rattle.rpki_paths.specs.Taking.{AreUnpaired, AllVerifyEach}
+use Rattle.rpki_paths.specs.Taking.{AreUnpaired}
 use Rattle.rpki_paths.specs.Walk.{placed}
-use Rattle.rpki_paths.specs.Grant.{HaveCrls}
 use Rattle.rpki_paths.specs.Laws.{PairsAlongMap, PlacedAreAuthorities, UnmatchedIsNotAccepted}
 use Rattle.rpki_paths.proofs.PairingOff.{unpaired_is_unpairable}
 use Rattle.rpki_paths.proofs.Matches.{what_fits_is_alike}
@@ -49,27 +48,14 @@ map-at g ys (k ∷ places) [] h = absurd h
 map-at g ys (k ∷ places) (p ∷ items) h =
     (slice_get-map g ys k ∙ ap (option_map g) h.0, map-at g ys places items h.1)
 
--- what stands at some places is determined
-pub same-at : {A : Type 0} (ys : List A) (places : List ℕ) (items others : List A)
-    → AreAt ys places items → AreAt ys places others → items ≡ others
-same-at ys [] [] [] h k = refl
-same-at ys [] [] (q ∷ others) h k = absurd k
-same-at ys [] (p ∷ items) others h k = absurd h
-same-at ys (n ∷ places) [] others h k = absurd h
-same-at ys (n ∷ places) (p ∷ items) [] h k = absurd k
-same-at ys (n ∷ places) (p ∷ items) (q ∷ others) h k =
-    let one : p ≡ q = cc in
-    let more = same-at ys places items others h.1 k.1 in
-    ap (λ x. x ∷ items) one ∙ ap (λ l. q ∷ l) more
-
 module _ {X Y A B : Type 0} (f : X → A) (g : Y → B) (R : X → Y → Type 0) (S : A → B → Type 0)
     (same : (x : X) (y : Y) → R x y ↔ S (f x) (g y)) where
-  map-first : (x : X) {p : Y} {rest ys : List Y} → IsFirst (R x) p rest ys
+  pub map-first : (x : X) {p : Y} {rest ys : List Y} → IsFirst (R x) p rest ys
       → IsFirst (S (f x)) (g p) (map g rest) (map g ys)
   map-first x (first {y} h) = first ((same x y).0 h)
   map-first x (later {z} n h) = later (λ s. n ((same x z).1 s)) (map-first x h)
 
-  map-none : (x : X) (ys : List Y) → FitsNone (R x) ys → FitsNone (S (f x)) (map g ys)
+  pub map-none : (x : X) (ys : List Y) → FitsNone (R x) ys → FitsNone (S (f x)) (map g ys)
   map-none x ys none y i s =
       let t = of-image g ys y i in
       none t.0 t.1 ((same x t.0).1 (subst (λ z. S (f x) z) t.2 s))
@@ -153,17 +139,6 @@ module _ {C R : Type 0} (cert : C → Cert) (crl : R → Crl) where
       ∙ ap (λ m. at_place n (record (cert d) { revokes = (crl l).serials }) ∷ m)
       (placed_are_authorities (suc n) cas crls with h.1)
 
-  pub have-more : (cas : List C) (crls : List R) (with : List C) (d : C) (l : R) (e : C)
-      → HaveCrls cert crl cas crls with → cert e ≡ record (cert d) { revokes = (crl l).serials }
-      → HaveCrls cert crl (cas ++ d ∷ []) (crls ++ l ∷ []) (with ++ e ∷ [])
-  have-more [] [] [] d l e h s = (s, tt)
-  have-more [] [] (w ∷ with) d l e h s = absurd h
-  have-more [] (k ∷ crls) with d l e h s = absurd h
-  have-more (c ∷ cas) [] with d l e h s = absurd h
-  have-more (c ∷ cas) (k ∷ crls) [] d l e h s = absurd h
-  have-more (c ∷ cas) (k ∷ crls) (w ∷ with) d l e h s =
-      (h.0, have-more cas crls with d l e h.1 s)
-
 -- ---- where they are not paired off
 
 pub unmatched_is_not_accepted : UnmatchedIsNotAccepted
@@ -176,12 +151,3 @@ unmatched_is_not_accepted a fault paths dist other (inr (inl h)) acc =
 unmatched_is_not_accepted a fault paths dist other (inr (inr h)) acc =
     unpaired_is_unpairable HasCrl a.cas a.crls fault other h
     (what_fits_is_alike a dist).2 (acc.found.crls, acc.found.matching.crl_of)
-
--- whatever has the identifier has the verdict, of handles too
-pub cheap-along-map : {X Y A B : Type 0} (f : X → A) (g : Y → B) (s : X → List ℕ) (h : Y → List ℕ)
-    (v : X → Y → Bool) (t : A → List ℕ) (k : B → List ℕ) (w : A → B → Bool)
-    → ((x : X) → s x ≡ t (f x)) → ((y : Y) → h y ≡ k (g y))
-    → ((x : X) (y : Y) → v x y ≡ w (f x) (g y)) → (xs : List X) (ys : List Y)
-    → AllVerifyEach t k w (map f xs) (map g ys) → AllVerifyEach s h v xs ys
-cheap-along-map f g s h v t k w es eh ev xs ys all x i y j named =
-    ev x y ∙ all (f x) (in-image f xs x i) (g y) (in-image g ys y j) (sym (es x) ∙ named ∙ eh y)

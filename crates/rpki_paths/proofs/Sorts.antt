@@ -1,36 +1,19 @@
 -- Certificates that are sorted in carried order.
 use Rattle.std.proofs.Common.{◌≡◌, List, [], ◌∷◌, ◌++◌, Bool, true, false, cond, suc, length}
-use Rattle.std.proofs.Common.{map, All, refl, sym, ap, subst, ◌∙◌, arith, ◌↔◌, inl, inr, ℕ, ◌+◌}
+use Rattle.std.proofs.Common.{map, All, refl, sym, ap, subst, ◌∙◌, arith, inl, inr, ℕ, ◌+◌}
 use Rattle.std.proofs.Common.{IsTrue}
 use Rattle.std.specs.Prelude.{filter, not}
 use Rattle.std.proofs.lemmas.List.{map-append, append-nil, length-append, length-map}
 use Rattle.std.proofs.lemmas.List.Elements.{All-nil, All-push, All-head, All-tail}
 use Rattle.rpki_paths.specs.Cert.{Cert, IsIn}
 use Rattle.rpki_paths.specs.Pairing.{Crl, HasCrl}
-use Rattle.rpki_paths.specs.Taking.{PairsOff, IsFirst, first, later, FitsNone, AllVerify, left_of}
+use Rattle.rpki_paths.specs.Taking.{PairsOff, IsFirst, AllVerify, left_of}
 use Rattle.rpki_paths.proofs.Mapping.{of-image, in-image}
 use Rattle.rpki_paths.proofs.PairingOff.{pairs-more, left-in}
-use Rattle.rpki_paths.specs.Sorting.{with_lists, ees_of, cas_of, HavePassed, AreSorted, WhyNotOne}
+use Rattle.rpki_paths.specs.Sorting.{with_lists, ees_of, cas_of, AreSorted, WhyNotOne}
 use Rattle.rpki_paths.specs.Sorting.{WhyNotSorted}
 use Rattle.rpki_paths.specs.declared.sorting.SortFault.{SortFault}
 use Rattle.rpki_paths.specs.declared.sorting.SortFault.TheVariants.{NotGood, NoCrl, Memory}
-
--- ---- of what items stand for
-
-pub map-none : {X Y A B : Type 0} (f : X → A) (g : Y → B) (R : X → Y → Type 0) (S : A → B → Type 0)
-    → ((x : X) (y : Y) → R x y ↔ S (f x) (g y)) → (x : X) (ys : List Y) → FitsNone (R x) ys
-    → FitsNone (S (f x)) (map g ys)
-map-none f g R S same x ys none y i s =
-    let t = of-image g ys y i in
-    none t.0 t.1 ((same x t.0).1 (subst (λ z. S (f x) z) t.2 s))
-
-pub map-first : {X Y A B : Type 0} (f : X → A) (g : Y → B) (R : X → Y → Type 0)
-    (S : A → B → Type 0) → ((x : X) (y : Y) → R x y ↔ S (f x) (g y)) → (x : X)
-    {p : Y} {rest ys : List Y} → IsFirst (R x) p rest ys
-    → IsFirst (S (f x)) (g p) (map g rest) (map g ys)
-map-first f g R S same x (first {y} h) = first ((same x y).0 h)
-map-first f g R S same x (later {z} n h) =
-    later (λ s. n ((same x z).1 s)) (map-first f g R S same x h)
 
 -- whatever has the identifier has the verdict, of what is left of handles too
 pub cheap-one : {X Y A B : Type 0} (f : X → A) (g : Y → B) (s : X → List ℕ) (h : Y → List ℕ)

@@ -5,7 +5,7 @@ use Rattle.rpki_paths.specs.declared.signing.SignFault.{SignFault}
 use Rattle.rpki_paths.specs.declared.signing.SignFault.TheVariants.{NoKey, Digest, NoCert, Memory}
 use Rattle.rpki_paths.specs.Cert.{Cert, IsIn}
 use Rattle.rpki_paths.specs.Pairing.{Signer, HasKey, IsVerifiedBy}
-use Rattle.rpki_paths.specs.Taking.{PairsOff, IsFirst, FitsNone}
+use Rattle.rpki_paths.specs.Taking.{PairsOff, FitsNone}
 
 -- Each of these signers has the digest of the content; in carried order each took the first of the
 -- subject keys that is its own and was left, and the first of the end-entity certificates that it

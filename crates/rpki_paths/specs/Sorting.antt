@@ -1,5 +1,5 @@
 -- Certificates in carried order, and the CRLs that CAs take (draft-michaelson-rpki-rta).
-use Rattle.std.specs.Prelude.{◌≡◌, List, [], ◌∷◌, Bool, true, not, All, map, filter, ◌++◌, IsTrue}
+use Rattle.std.specs.Prelude.{◌≡◌, List, [], ◌∷◌, Bool, not, All, map, filter, ◌++◌, IsTrue}
 use Rattle.rpki_paths.specs.declared.sorting.SortFault.{SortFault}
 use Rattle.rpki_paths.specs.declared.sorting.SortFault.TheVariants.{NotGood, NoCrl, Memory}
 use Rattle.rpki_paths.specs.Cert.{Cert}

@@ -39,10 +39,6 @@ PairsOff R (x ∷ xs) [] ys left = ⊥
 PairsOff {A} {B} R (x ∷ xs) (p ∷ partners) ys left =
     (rest : List B) × IsFirst (R x) p rest ys × PairsOff R xs partners rest left
 
--- Each in turn takes the first that fits of those that are left, and none is left over.
-abbrev pub AreAllPaired : {A B : Type 0} → (A → B → Type 0) → List A → List B → Type 0
-AreAllPaired {A} {B} R xs ys = (partners : List B) × PairsOff R xs partners ys []
-
 -- The items at these places.
 abbrev pub AreAt : {A : Type 0} → List A → List ℕ → List A → Type 0
 AreAt ys [] [] = Unit {0}

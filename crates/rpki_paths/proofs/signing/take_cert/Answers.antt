@@ -4,8 +4,8 @@ use Rattle.std.proofs.lemmas.Option.{slice_get_read, slice_get_within, same_Some
 use Rattle.rpki_paths.specs.Cert.{Cert}
 use Rattle.rpki_paths.specs.Pairing.{Signer, IsPair, IsVerifiedBy}
 use Rattle.rpki_paths.specs.Taking.{IsFirst, left_of}
-use Rattle.rpki_paths.proofs.Mapping.{same-pair}
-use Rattle.rpki_paths.proofs.Sorts.{map-none, map-first, cheap-one}
+use Rattle.rpki_paths.proofs.Mapping.{map-first, map-none, same-pair}
+use Rattle.rpki_paths.proofs.Sorts.{cheap-one}
 use Rattle.rpki_paths.proofs.signing.take_cert.Goals as goal
 
 pub returns-in-None-clause-none : goal.returns-in-None-clause-none
