@@ -1,3 +1,4 @@
 pub mod Written
 pub mod Valid
 pub mod Answered
+pub mod Contents

@@ -2,9 +2,11 @@
 #![tactic(auto)]
 
 mod builder;
+mod content;
 mod data;
 mod finalize;
 pub mod laws;
 mod object;
 
 pub use builder::SignedObjectBuilder;
+pub use content::not_built;
