@@ -1,6 +1,6 @@
 //! Tests of certificates, lists and objects: of `rpki_extensions`, `rpki_crls`, `rpki_certs`,
-//! `rpki_issued`, `rpki_sigobj`, `rpki_signing`, `rpki_multi`, `rpki_signed` and `rpki_paths`, each in
-//! the module of its name.
+//! `rpki_issued`, `rpki_issued_crls`, `rpki_sigobj`, `rpki_signing`, `rpki_multi`, `rpki_signed` and
+//! `rpki_paths`, each in the module of its name.
 #![tactic(auto)]
 
 #[cfg(test)]
@@ -11,6 +11,8 @@ mod crls;
 mod extensions;
 #[cfg(test)]
 mod issued;
+#[cfg(test)]
+mod issued_crls;
 #[cfg(test)]
 mod multi;
 #[cfg(test)]

@@ -1,0 +1,7 @@
+//! Tests of `rpki_issued_crls`. Lists are made of values and signed by the stand-in's signer.
+//!
+//! A test hands want of memory on and asserts everything else. That what is made has the fields
+//! that were handed in, and is in its form, is proved.
+
+mod made;
+mod octets;

@@ -1,0 +1,4 @@
+pub mod Revoked
+pub mod ListExtensions
+pub mod Written
+pub mod Issued
