@@ -4,4 +4,5 @@
 //! A test hands want of memory on and asserts everything else.
 
 mod given;
+mod manifests;
 mod objects;

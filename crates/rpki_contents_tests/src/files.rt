@@ -3,6 +3,7 @@
 //! The octets follow from RFC 9286, section 4.2, RFC 9323, section 4, and X.690. A test hands want
 //! of memory on and asserts everything else. What is cut short, and long lists, are in the sweeps.
 
+mod built;
 mod calls;
 mod checklists;
 mod names;

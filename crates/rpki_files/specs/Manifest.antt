@@ -1,5 +1,8 @@
 -- The content of a manifest. The sections are those of RFC 9286.
+pub mod Built
 pub mod Checks
+pub mod Signed
+pub mod Taken
 use Rattle.std.specs.Prelude.{ℕ, ◌≤◌, List, [], ◌∷◌, ◌++◌, Option, Some, None}
 use Rattle.std.specs.Prelude.{nat_le, if◌then◌else◌}
 use Rattle.std.specs.List.{flat_map}

@@ -191,8 +191,8 @@ fn are_distinct(alloc: Global, files: FileListIter<'_>) -> Result<bool, AllocErr
     Ok(true)
 }
 
-// Whether no name stands twice, where the rule asks for it.
-fn is_unrepeated(
+/// Whether no name stands twice, where the rule asks for it.
+pub fn is_unrepeated(
     alloc: Global,
     rule: ManifestRule,
     files: &EntryList<Files>,

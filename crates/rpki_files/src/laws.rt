@@ -1,6 +1,13 @@
 //! What the definitions of files, manifests and checklists say: laws, as functions that do nothing.
 
 ghost use Rattle.std.specs.Prelude.{◌↔◌, ◌≡◌, ◌<◌, ℕ, List, All, Decides, true};
+ghost use Rattle.std.specs.Prelude.{MatchResult, Result};
+ghost use Rattle.rpki_basics.specs.Moment.{Moment};
+ghost use Rattle.rpki_basics.specs.declared.build.BuildFault.{BuildFault};
+ghost use Rattle.rpki_der.specs.declared.error.DecodeError.{DecodeError};
+ghost use Rattle.rpki_der.specs.declared.error.DecodeError.TheVariants.{Memory};
+ghost use Rattle.rpki_der.specs.declared.mode.Mode.TheVariants.{Der};
+ghost use Rattle.rpki_der.specs.Form.Decodes.{Decodes};
 ghost use Rattle.rpki_basics.specs.declared.limits.ManifestRule.{ManifestRule};
 ghost use Rattle.rpki_basics.specs.declared.limits.ManifestRule.TheVariants.{Any, Registered};
 ghost use Rattle.rpki_der.specs.declared.mode.Mode.{Mode};
@@ -12,11 +19,24 @@ ghost use Rattle.rpki_files.specs.Checked.{CheckedForm, checked_at, is_portable_
 ghost use Rattle.rpki_basics.specs.Uri.{IsRsync, join_text};
 ghost use Rattle.rpki_files.specs.Checklist.{Checklist, ChecklistForm, checklist_at};
 ghost use Rattle.rpki_files.specs.Manifest.{Manifest, ManifestForm, manifest_at};
-ghost use Rattle.rpki_faults.specs.Checks.{AllHold};
+ghost use Rattle.rpki_faults.specs.Checks.{AllHold, IsFirstFault};
 ghost use Rattle.rpki_extensions.specs.declared.claims.Claims.{Claims};
-ghost use Rattle.rpki_certs.specs.Validate.{AreHeld, AreValidated, Sets};
+ghost use Rattle.rpki_certs.specs.Inspect.{NamesNothing};
+ghost use Rattle.rpki_certs.specs.Validate.{AreAllowed, AreHeld, AreValidated, Sets};
+ghost use Rattle.rpki_certs.specs.Verify.{Verdict};
+ghost use Rattle.rpki_sigobj.specs.Object.{SignedData};
+ghost use Rattle.rpki_sigobj.specs.Signed.{KeptWhole, ObjectForm, Whole, whole_of};
+ghost use Rattle.rpki_sigobj.specs.Validate.{object_validation};
+ghost use Rattle.rpki_sigobj.specs.Verify.{Digester};
+ghost use Rattle.rpki_signing.specs.Built.{IsBuilt, IsFit, Settings, claims_of};
+ghost use Rattle.rpki_files.specs.Manifest.Built.{manifest_checks};
+ghost use Rattle.rpki_files.specs.Manifest.Signed.{inheriting};
+ghost use Rattle.rpki_files.specs.Manifest.Checks.{ct_manifest};
 ghost use Rattle.rpki_files.specs.Checklist.Checks.{checklist_held, checklist_claimed};
 ghost use Rattle.rpki_files.specs.Checklist.Checks.{AreCanonical, checklist_sets};
+
+use rpki_certs::ResourceCert;
+use rpki_signing::laws::built_objects_are_valid;
 
 /// What the name of a file is, and that it is an IA5String (RFC 9286, section 4.2.2).
 pub fn file_names()
@@ -73,4 +93,37 @@ pub fn covered_checklists()
         → AreValidated x issuer sets
         → (AllHold (checklist_claimed l x) × AllHold (checklist_held l sets))
         ↔ AreHeld sets (checklist_sets l) }
+{}
+
+/// If a builder of a manifest refuses values by a fault, no encoded content says these values.
+pub fn refused_manifests()
+    ensures { (rule : ManifestRule) (mode : Mode) (m : Manifest) (fault : BuildFault)
+        → IsFirstFault (manifest_checks rule m) fault
+        → (octets : List ℕ) → ManifestForm rule mode octets m → ⊥ }
+{}
+
+/// A manifest that is built passes its whole validation (RFC 6488, section 3; RFC 9286, section
+/// 4.4), where cryptography says yes to what the signer may answer, and what the builder was told
+/// fits the issuer and the moment. That a family is named and that the issuer has what is claimed
+/// is so of each manifest, since it inherits all.
+pub fn built_manifests_are_valid(issuer: &ResourceCert)
+    ensures valid { (digest : Digester) (verdict : Verdict) (b : Settings)
+        (key content : List ℕ) (s : SignedData) (now : Moment)
+        → IsBuilt (inheriting b) key ct_manifest content (digest content) s
+        → IsFit verdict (inheriting b) key s issuer.now now
+        → AllHold (object_validation digest verdict s issuer.now now) }
+    ensures named { (b : Settings) → ¬ NamesNothing (claims_of (inheriting b)) }
+    ensures allowed { (b : Settings) (sets : Sets) → AreAllowed (claims_of (inheriting b)) sets }
+{
+    built_objects_are_valid(issuer);
+}
+
+/// What is written of a manifest, in DER, and decoded strictly under a rule that its content meets,
+/// is the same object and the same content; it is refused only for want of memory.
+pub fn written_manifests_are_read()
+    ensures { (rule : ManifestRule) (octets : List ℕ) (o : Whole Manifest)
+        (result : Result (KeptWhole Manifest) DecodeError)
+        → ObjectForm ct_manifest (ManifestForm rule Der) Der octets o
+        → Decodes (ObjectForm ct_manifest (ManifestForm rule Der) Der) whole_of octets result
+        → MatchResult result (λ k. whole_of k ≡ o) (λ e. e ≡ Memory) }
 {}

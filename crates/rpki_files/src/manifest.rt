@@ -1,5 +1,6 @@
 //! Contents of manifests (RFC 9286, section 4).
 
+mod builder;
 mod encoder;
 mod object;
 mod read;

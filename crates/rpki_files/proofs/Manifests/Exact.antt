@@ -82,7 +82,7 @@ admits-all rule [] = refl
 admits-all rule (f ∷ fs) =
     goes-on-by rule f fs (is_allowed rule (name_of f)) refl (admits-all rule fs)
 
-any-all : (fs : List File) → list_all (λ f. is_allowed Any (name_of f)) fs ≡ true
+pub any-all : (fs : List File) → list_all (λ f. is_allowed Any (name_of f)) fs ≡ true
 any-all [] = refl
 any-all (f ∷ fs) = any-all fs
 
@@ -103,12 +103,12 @@ allowed-decides Registered fs = (
   λ h. admits-all Registered fs ∙ h,
 )
 
-unrepeated-decides : (rule : ManifestRule) (fs : List File)
+pub unrepeated-decides : (rule : ManifestRule) (fs : List File)
     → Decides (is_unrepeated rule fs) (Unrepeated rule fs)
 unrepeated-decides Any fs = (λ _. tt, λ _. refl)
 unrepeated-decides Registered fs = distinct-decides name_of fs
 
-meets : (rule : ManifestRule) (fs : List File) → Allowed rule fs → Unrepeated rule fs
+pub meets : (rule : ManifestRule) (fs : List File) → Allowed rule fs → Unrepeated rule fs
     → MeetsRule rule fs
 meets Any fs a u = tt
 meets Registered fs a u = (a, u)

@@ -48,7 +48,7 @@ name-written name short valid = (
   valid,
 )
 
-file-written : (f : File) → IsFileName f.file → is_short_file f → FileForm Der (file_octets f) f
+pub file-written : (f : File) → IsFileName f.file → is_short_file f → FileForm Der (file_octets f) f
 file-written f valid short =
     within-written 48 _ (file_contents f) (tag-sound 48 refl) short.1 (
       value_octets IA5_STRING f.file,

@@ -35,8 +35,8 @@ fn take_algorithm(cons: &mut Constructed<'_>) -> Result<(), DecodeError>
     }
 }
 
-// Whether the next update is not before this one.
-fn are_in_order(this_update: Time, next_update: Time) -> bool
+/// Whether the next update is not before this one.
+pub fn are_in_order(this_update: Time, next_update: Time) -> bool
     ensures test { result ≡ nat_le (stamp this_update) (stamp next_update) }
     ensures order { IsTrue result ↔ (stamp this_update ≤ stamp next_update) }
 {
