@@ -188,8 +188,8 @@ impl AttestationBuilder {
     /// the numbers that were added, whose blocks may overlap and may have been added in any order.
     /// The addresses of IPv4 have to be of this family: the lower end of a block ends in 96 zero
     /// bits and the upper end in 96 ones, as those of a prefix of at most 32 bits do. Refuses by
-    /// `NoResources` where all three sets are empty, which a decoder reads; by `TooLong` where the
-    /// SEQUENCE would have contents of 2^32 octets or more; and by `Memory`.
+    /// `NoResources` where all three sets are empty, though such a content can be read; by `TooLong`
+    /// where its SEQUENCE would have contents of 2^32 octets or more; and by `Memory`.
     pub fn into_attestation(self) -> Result<ResourceTaggedAttestation, BuildError>
         requires { All (IsWithin Ipv4) self.v4_resources }
         ensures built { IfOk result (IsBuiltOf self) }
