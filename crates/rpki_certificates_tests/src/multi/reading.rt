@@ -22,7 +22,8 @@ const ROA: &[u8] =
 const NO_CONTENT: &[u8] = b"\x30\x0D\x06\x0B\x2A\x86\x48\x86\xF7\x0D\x01\x09\x10\x01\x24";
 
 /// The content in two pieces, which is BER.
-const PIECES: &[u8] = b"\x30\x17\x06\x0B\x2A\x86\x48\x86\xF7\x0D\x01\x09\x10\x01\x24\xA0\x08\x24\x06\
+const PIECES: &[u8] =
+    b"\x30\x17\x06\x0B\x2A\x86\x48\x86\xF7\x0D\x01\x09\x10\x01\x24\xA0\x08\x24\x06\
     \x04\x01\x02\x04\x01\x01";
 
 /// A value with this identifier that holds the parts.
@@ -63,26 +64,126 @@ const UNKNOWN: &str = "algorithm is none that the profile names";
 const OTHER: &str = "content-type attribute is not the eContentType";
 
 static ROWS: [Row; 20] = [
-    (&[VERSION, DIGEST, CONTENT], &[CERTS, LISTS, SIGNERS], SAID, SAID),
-    (&[VERSION, DIGEST, CONTENT], &[NO_CERTS, NO_SIGNERS], ALONE, ALONE),
-    (&[VERSION, DIGEST, CONTENT], &[NO_CERTS, NO_LISTS, NO_SIGNERS], ALONE, ALONE),
-    (&[VERSION, DIGEST, PIECES], &[NO_CERTS, NO_SIGNERS], "malformed", "2 certs crls signers"),
-    (&[b"\x02\x01\x01", DIGEST, CONTENT], &[NO_CERTS, NO_SIGNERS], "malformed", "malformed"),
-    (&[VERSION, b"\x31\x00", CONTENT], &[NO_CERTS, NO_SIGNERS], "malformed", "malformed"),
-    (&[VERSION, b"\x31\x05\x30\x03\x06\x01\x2A", CONTENT], &[NO_CERTS, NO_SIGNERS], UNKNOWN, UNKNOWN),
-    (&[VERSION, DIGEST, ROA], &[NO_CERTS, NO_SIGNERS], "malformed", "malformed"),
-    (&[VERSION, DIGEST, NO_CONTENT], &[NO_CERTS, NO_SIGNERS], "malformed", "malformed"),
-    (&[VERSION, DIGEST, CONTENT], &[NO_SIGNERS], "malformed", "malformed"),
-    (&[VERSION, DIGEST, CONTENT], &[NO_CERTS], "malformed", "malformed"),
-    (&[VERSION, DIGEST, CONTENT], &[LISTS, CERTS, SIGNERS], "malformed", "malformed"),
-    (&[VERSION, DIGEST, CONTENT], &[(0xA0, &[LIST]), NO_SIGNERS], "malformed", "malformed"),
-    (&[VERSION, DIGEST, CONTENT], &[NO_CERTS, (0xA1, &[ENTITY]), NO_SIGNERS], "malformed", "malformed"),
-    (&[VERSION, DIGEST, CONTENT], &[NO_CERTS, (0x30, &[FIRST])], "malformed", "malformed"),
-    (&[VERSION, DIGEST, CONTENT], &[NO_CERTS, (0x31, &[FIRST, b"\x05\x00"])], "malformed", "malformed"),
-    (&[VERSION, DIGEST, CONTENT], &[NO_CERTS, (0x31, &[FIRST, OTHER_TYPE])], OTHER, OTHER),
-    (&[VERSION, DIGEST, CONTENT], &[NO_CERTS, NO_SIGNERS, NO_SIGNERS], "malformed", "malformed"),
-    (&[VERSION, DIGEST, CONTENT], &[NO_CERTS, (0x31, &[ENTITY])], "malformed", "malformed"),
-    (&[DIGEST, CONTENT], &[NO_CERTS, NO_SIGNERS], "malformed", "malformed"),
+    (
+        &[VERSION, DIGEST, CONTENT],
+        &[CERTS, LISTS, SIGNERS],
+        SAID,
+        SAID,
+    ),
+    (
+        &[VERSION, DIGEST, CONTENT],
+        &[NO_CERTS, NO_SIGNERS],
+        ALONE,
+        ALONE,
+    ),
+    (
+        &[VERSION, DIGEST, CONTENT],
+        &[NO_CERTS, NO_LISTS, NO_SIGNERS],
+        ALONE,
+        ALONE,
+    ),
+    (
+        &[VERSION, DIGEST, PIECES],
+        &[NO_CERTS, NO_SIGNERS],
+        "malformed",
+        "2 certs crls signers",
+    ),
+    (
+        &[b"\x02\x01\x01", DIGEST, CONTENT],
+        &[NO_CERTS, NO_SIGNERS],
+        "malformed",
+        "malformed",
+    ),
+    (
+        &[VERSION, b"\x31\x00", CONTENT],
+        &[NO_CERTS, NO_SIGNERS],
+        "malformed",
+        "malformed",
+    ),
+    (
+        &[VERSION, b"\x31\x05\x30\x03\x06\x01\x2A", CONTENT],
+        &[NO_CERTS, NO_SIGNERS],
+        UNKNOWN,
+        UNKNOWN,
+    ),
+    (
+        &[VERSION, DIGEST, ROA],
+        &[NO_CERTS, NO_SIGNERS],
+        "malformed",
+        "malformed",
+    ),
+    (
+        &[VERSION, DIGEST, NO_CONTENT],
+        &[NO_CERTS, NO_SIGNERS],
+        "malformed",
+        "malformed",
+    ),
+    (
+        &[VERSION, DIGEST, CONTENT],
+        &[NO_SIGNERS],
+        "malformed",
+        "malformed",
+    ),
+    (
+        &[VERSION, DIGEST, CONTENT],
+        &[NO_CERTS],
+        "malformed",
+        "malformed",
+    ),
+    (
+        &[VERSION, DIGEST, CONTENT],
+        &[LISTS, CERTS, SIGNERS],
+        "malformed",
+        "malformed",
+    ),
+    (
+        &[VERSION, DIGEST, CONTENT],
+        &[(0xA0, &[LIST]), NO_SIGNERS],
+        "malformed",
+        "malformed",
+    ),
+    (
+        &[VERSION, DIGEST, CONTENT],
+        &[NO_CERTS, (0xA1, &[ENTITY]), NO_SIGNERS],
+        "malformed",
+        "malformed",
+    ),
+    (
+        &[VERSION, DIGEST, CONTENT],
+        &[NO_CERTS, (0x30, &[FIRST])],
+        "malformed",
+        "malformed",
+    ),
+    (
+        &[VERSION, DIGEST, CONTENT],
+        &[NO_CERTS, (0x31, &[FIRST, b"\x05\x00"])],
+        "malformed",
+        "malformed",
+    ),
+    (
+        &[VERSION, DIGEST, CONTENT],
+        &[NO_CERTS, (0x31, &[FIRST, OTHER_TYPE])],
+        OTHER,
+        OTHER,
+    ),
+    (
+        &[VERSION, DIGEST, CONTENT],
+        &[NO_CERTS, NO_SIGNERS, NO_SIGNERS],
+        "malformed",
+        "malformed",
+    ),
+    (
+        &[VERSION, DIGEST, CONTENT],
+        &[NO_CERTS, (0x31, &[ENTITY])],
+        "malformed",
+        "malformed",
+    ),
+    (
+        &[DIGEST, CONTENT],
+        &[NO_CERTS, NO_SIGNERS],
+        "malformed",
+        "malformed",
+    ),
 ];
 
 /// The object of these fields.
@@ -127,7 +228,7 @@ fn text(alloc: Global, object: &MultiSignedObject) -> Result<String, AllocError>
 }
 
 /// What is answered.
-pub fn shown(
+fn shown(
     alloc: Global,
     answer: Result<MultiSignedObject, DecodeError>,
 ) -> Result<String, AllocError> {
@@ -144,7 +245,11 @@ pub fn shown(
 
 /// The object that is read in this mode.
 pub fn read(alloc: Global, octets: Bytes, mode: Mode) -> Result<MultiSignedObject, DecodeError> {
-    Constructed::decode(octets, mode, |cons| MultiSignedObject::take_from(alloc, cons))
+    Constructed::decode(
+        octets,
+        mode,
+        |cons| MultiSignedObject::take_from(alloc, cons),
+    )
 }
 
 /// Whether the object of a row says this, where it is read strictly and where not.
@@ -164,9 +269,14 @@ fn rows(rt: HostRuntime) -> Result<(), AllocError> {
     Ok(())
 }
 
+/// An object whose content is a number.
+pub fn number_alone(alloc: Global) -> Result<Bytes, AllocError> {
+    object(alloc, &[VERSION, DIGEST, CONTENT], &[NO_CERTS, NO_SIGNERS])
+}
+
 /// The number of the content, of which there is one.
 fn number(alloc: Global) -> Result<u8, Fail> {
-    let octets = object(alloc, &[VERSION, DIGEST, CONTENT], &[NO_CERTS, NO_SIGNERS])?;
+    let octets = number_alone(alloc)?;
     let object = MultiSignedObject::decode(alloc, octets)?;
     let number = object.decode_content(|cons| cons.take_u8());
     drop(object);
