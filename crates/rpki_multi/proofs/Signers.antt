@@ -1,6 +1,6 @@
 -- What the signers of attestations say.
-use Rattle.std.proofs.Common.{◌≡◌, ℕ, ◌<◌, ◌^◌, List, [], ◌∷◌, ◌++◌, length, Option, Some, Result, Ok, refl}
-use Rattle.std.proofs.Common.{sym, subst, inl, arith}
+use Rattle.std.proofs.Common.{◌≡◌, ℕ, ◌<◌, ◌^◌, List, [], ◌∷◌, ◌++◌, length, Option, Some, Result}
+use Rattle.std.proofs.Common.{Ok, refl, sym, subst, inl, arith}
 use Rattle.std.specs.Prelude.{option_map}
 use Rattle.std.proofs.lemmas.List.{append-nil}
 use Rattle.rpki_der.specs.declared.mode.Mode.{Mode}
@@ -9,7 +9,7 @@ use Rattle.rpki_der.specs.declared.error.DecodeError.{DecodeError}
 use Rattle.rpki_der.specs.Grammar.{IsBytes, Integer, OctetString}
 use Rattle.rpki_der.specs.Form.Parts.{Parts}
 use Rattle.rpki_der.specs.Numbers.{MAX_DEPTH}
-use Rattle.rpki_der.specs.Read.Parse.{Parser, optional}
+use Rattle.rpki_der.specs.Read.Parse.{optional}
 use Rattle.rpki_der.specs.Read.Reads.{Reads}
 use Rattle.rpki_der.specs.Read.State.{State}
 use Rattle.rpki_der.specs.Tags.{OCTET_STRING, SEQUENCE, context_primitive}

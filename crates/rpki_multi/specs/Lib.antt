@@ -1,3 +1,4 @@
+pub mod Attestation
 pub mod Multi
 pub mod Signer
 pub mod Written

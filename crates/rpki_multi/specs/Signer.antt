@@ -5,7 +5,8 @@ use Rattle.rpki_attributes.specs.Attrs.{AttributesForm, most_octets}
 use Rattle.rpki_extensions.specs.KeyIdentifiers.{id_length}
 use Rattle.rpki_sigobj.specs.SignerInfo.{KeptSigner}
 
--- id-ct-resourceTaggedAttestation, 1.2.840.113549.1.9.16.1.36 (draft-michaelson-rpki-rta, section 3)
+-- id-ct-resourceTaggedAttestation, 1.2.840.113549.1.9.16.1.36 (draft-michaelson-rpki-rta, section
+-- 3)
 abbrev pub id_rta : List ℕ
 id_rta = 0x2A ∷ 0x86 ∷ 0x48 ∷ 0x86 ∷ 0xF7 ∷ 0x0D ∷ 0x01 ∷ 0x09 ∷ 0x10 ∷ 0x01 ∷ 0x24 ∷ []
 

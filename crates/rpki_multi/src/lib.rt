@@ -1,10 +1,13 @@
 //! Multi-signed objects (draft-michaelson-rpki-rta; RFC 5652): a content, the certificates and
-//! revocation lists that are carried with it, and what several signers say of it.
+//! revocation lists that are carried with it, and what several signers say of it; and attestations,
+//! with what their contents say.
 #![tactic(auto)]
 
+mod attestation;
 pub mod laws;
 mod multi;
 mod signer;
 
+pub use attestation::Rta;
 pub use multi::{MultiSignedObject, MultiSignedObjectEncoder};
 pub use signer::SignerInfo;

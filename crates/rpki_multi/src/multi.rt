@@ -4,7 +4,8 @@ mod encoder;
 mod parts;
 mod read;
 
-ghost use Rattle.std.specs.Prelude.{◌≡◌, ◌⊎◌, ◌<◌, ◌^◌, ◌++◌, IfOk, Result, Err, List, ℕ, Some, length};
+ghost use Rattle.std.specs.Prelude.{◌≡◌, ◌⊎◌, ◌<◌, ◌^◌, ◌++◌, ℕ, List, length, IfOk};
+ghost use Rattle.std.specs.Prelude.{Result, Err, Some};
 ghost use Rattle.std.specs.Fn.{FnOnceReturnsAtMut};
 ghost use Rattle.rpki_der.specs.declared.error.DecodeError.{DecodeError};
 ghost use Rattle.rpki_der.specs.declared.error.DecodeError.TheVariants.{Memory};

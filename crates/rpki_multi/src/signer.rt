@@ -87,8 +87,8 @@ fn take_opt_signer(
 }
 
 impl SignerInfo {
-    /// Reads what a signer says, if a SEQUENCE is next (RFC 5652, section 5.3). It takes an octet at
-    /// least.
+    /// Reads what a signer says, if a SEQUENCE is next (RFC 5652, section 5.3). It takes an octet
+    /// at least.
     ///
     /// Refuses by `UNKNOWN_ALGORITHM`, by `WRONG_CONTENT_TYPE` of `rpki_sigobj` where the signed
     /// attributes say another type than that of attestations, by what signed attributes are refused

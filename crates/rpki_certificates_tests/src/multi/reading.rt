@@ -228,7 +228,7 @@ fn text(alloc: Global, object: &MultiSignedObject) -> Result<String, AllocError>
 }
 
 /// What is answered.
-pub fn shown(
+fn shown(
     alloc: Global,
     answer: Result<MultiSignedObject, DecodeError>,
 ) -> Result<String, AllocError> {
@@ -269,9 +269,14 @@ fn rows(rt: HostRuntime) -> Result<(), AllocError> {
     Ok(())
 }
 
+/// An object whose content is a number.
+pub fn number_alone(alloc: Global) -> Result<Bytes, AllocError> {
+    object(alloc, &[VERSION, DIGEST, CONTENT], &[NO_CERTS, NO_SIGNERS])
+}
+
 /// The number of the content, of which there is one.
 fn number(alloc: Global) -> Result<u8, Fail> {
-    let octets = object(alloc, &[VERSION, DIGEST, CONTENT], &[NO_CERTS, NO_SIGNERS])?;
+    let octets = number_alone(alloc)?;
     let object = MultiSignedObject::decode(alloc, octets)?;
     let number = object.decode_content(|cons| cons.take_u8());
     drop(object);

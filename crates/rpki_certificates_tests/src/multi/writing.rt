@@ -1,11 +1,11 @@
 //! Multi-signed objects that are written.
 
 use super::octets::{EMPTY, FIRST, WHOLE};
-use super::reading::read;
+use super::reading::{number_alone, read};
 use bytes::Bytes;
-use rpki_der::{Constructed, Encode, EncodeError, Mode};
+use rpki_der::{Constructed, DecodeError, Encode, EncodeError, Mode};
 use rpki_fixtures::Fail;
-use rpki_multi::SignerInfo;
+use rpki_multi::{Rta, SignerInfo};
 use std::alloc::Global;
 
 /// The octets that were written, and `None` where a part was read in BER.
@@ -69,5 +69,45 @@ fn signers_are_written(rt: HostRuntime) -> Result<(), Fail> {
     let der = signer(alloc, Mode::Der)?;
     let ber = signer(alloc, Mode::Ber)?;
     assert!(rt; der.is_some_and(|octets| octets.as_slice() == FIRST) && ber.is_none());
+    Ok(())
+}
+
+/// How many keys the attestation with these octets names, and what it is written as.
+fn attestation(alloc: Global, octets: &'static [u8]) -> Result<(usize, Bytes), Fail> {
+    let rta = Rta::decode(alloc, Bytes::from_static(octets))?;
+    let keys = rta.subject_keys().len();
+    let written = rta.to_captured(alloc);
+    drop(rta);
+    match written {
+        Ok(octets) => Ok((keys, octets)),
+        Err(EncodeError::Memory) => Err(Fail::Memory),
+        Err(_) => Err(Fail::Refused),
+    }
+}
+
+#[test]
+fn attestations_are_written(rt: HostRuntime) -> Result<(), Fail> {
+    let alloc = rt.alloc();
+    let (keys, octets) = attestation(alloc, EMPTY)?;
+    assert!(rt; keys == 0 && octets.as_slice() == EMPTY);
+    Ok(())
+}
+
+/// Whether an object without what its content says is refused, where it is read as an attestation.
+fn is_refused(alloc: Global, octets: Bytes) -> Result<bool, Fail> {
+    match Rta::decode(alloc, octets) {
+        Ok(rta) => {
+            drop(rta);
+            Ok(false)
+        }
+        Err(DecodeError::Memory) => Err(Fail::Memory),
+        Err(_) => Ok(true),
+    }
+}
+
+#[test]
+fn other_contents_are_no_attestations(rt: HostRuntime) -> Result<(), Fail> {
+    let alloc = rt.alloc();
+    assert!(rt; is_refused(alloc, number_alone(alloc)?)?);
     Ok(())
 }

@@ -1,6 +1,5 @@
 -- Multi-signed objects are read exactly: a line for each field.
-use Rattle.std.proofs.Common.{ℕ, List, [], ◌∷◌, refl, arith}
-use Rattle.rpki_der.specs.declared.mode.Mode.{Mode}
+use Rattle.std.proofs.Common.{ℕ, List, [], refl, arith}
 use Rattle.rpki_der.specs.Form.Law.{nothing, is, IsPart}
 use Rattle.rpki_der.specs.Numbers.{MAX_DEPTH}
 use Rattle.rpki_der.specs.Tags.{SEQUENCE, SET, context}

@@ -1,5 +1,5 @@
 -- What is written of a multi-signed object is in its form.
-use Rattle.std.proofs.Common.{◌≡◌, ℕ, suc, ◌<◌, ◌^◌, List, [], ◌∷◌, ◌++◌, length, map, All, None, Some}
+use Rattle.std.proofs.Common.{◌≡◌, ℕ, ◌<◌, ◌^◌, List, [], ◌∷◌, ◌++◌, length, map, All, None, Some}
 use Rattle.std.proofs.Common.{refl, sym, subst, arith}
 use Rattle.std.specs.List.{flat_map}
 use Rattle.std.proofs.lemmas.List.{append-nil}
@@ -9,7 +9,6 @@ use Rattle.rpki_der.specs.declared.mode.Mode.TheVariants.{Der, Ber}
 use Rattle.rpki_der.specs.Form.Parts.{Parts, Explicit, SetOf, ImplicitOf}
 use Rattle.rpki_der.specs.Grammar.{Items, Integer, ObjectIdentifier, OctetString}
 use Rattle.rpki_der.specs.Numbers.{MAX_DEPTH}
-use Rattle.rpki_der.specs.Oid.{IsOid}
 use Rattle.rpki_der.specs.Tags.{OBJECT_IDENTIFIER, OCTET_STRING, SEQUENCE, SET, context}
 use Rattle.rpki_der.specs.Write.Parts.{contents_small, length_parts}
 use Rattle.rpki_der.specs.Write.Written.{value_octets, number_octets}
@@ -19,10 +18,10 @@ use Rattle.rpki_der.proofs.Writing.Lengths.{value-written}
 use Rattle.rpki_der.proofs.Writing.Values.{number-written, octets-written}
 use Rattle.rpki_basics.specs.Algorithm.{DigestAlgorithmForm, digest_algorithm_octets}
 use Rattle.rpki_basics.proofs.Algorithms.Written.{digest-written}
-use Rattle.rpki_certs.specs.Cert.{Certificate, KeptCertificate, CertForm, IsKept as IsKeptCert}
-use Rattle.rpki_crls.specs.Crl.{RevocationList, KeptCrl, CrlForm, IsKept as IsKeptCrl}
+use Rattle.rpki_certs.specs.Cert.{KeptCertificate, CertForm, IsKept as IsKeptCert}
+use Rattle.rpki_crls.specs.Crl.{KeptCrl, CrlForm, IsKept as IsKeptCrl}
 use Rattle.rpki_sigobj.specs.Object.{id_signed_data, SetOfOne, ContentForm}
-use Rattle.rpki_sigobj.specs.SignerInfo.{SignerInfo, KeptSigner, SignerInfoForm, cms_version}
+use Rattle.rpki_sigobj.specs.SignerInfo.{KeptSigner, SignerInfoForm, cms_version}
 use Rattle.rpki_multi.specs.Signer.{id_rta, IsAttested}
 use Rattle.rpki_multi.specs.Multi.{KeptMulti, MultiForm, MultiDataForm, CrlsForm, AreIn, AreKept}
 use Rattle.rpki_multi.specs.Multi.{multi_of, multi_at}
@@ -90,7 +89,8 @@ content-is content few =
 
 -- ---- the lists
 
-certs-written : (certs : List KeptCertificate) → All IsKeptCert certs → All (λ c. c.mode ≡ Der) certs
+certs-written : (certs : List KeptCertificate) → All IsKeptCert certs
+    → All (λ c. c.mode ≡ Der) certs
     → length (certs_contents certs) < 2 ^ 32
     → ImplicitOf 0 Der (CertForm Der) (value_octets (context 0) (certs_contents certs))
     (map (λ c. c.certificate) certs)
@@ -219,7 +219,8 @@ module _ (k : KeptMulti) (kept : AreKept k) (der : AreIn Der k) where
   unfolding data_octets
   data-is few = data-written (contents_small SEQUENCE (data_contents k) few)
 
-  pub multi-written : length (multi_contents k) < 2 ^ 32 → MultiForm Der (multi_octets k) (multi_of k)
+  pub multi-written : length (multi_contents k) < 2 ^ 32
+      → MultiForm Der (multi_octets k) (multi_of k)
   multi-written short =
       let a : List ℕ = value_octets OBJECT_IDENTIFIER id_signed_data in
       let b : List ℕ = value_octets (context 0) (data_octets k) in

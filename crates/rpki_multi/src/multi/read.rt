@@ -40,8 +40,8 @@ fn take_content(cons: &mut Constructed<'_>, alloc: Global) -> Result<Bytes, Deco
 
 // Reads as many certificates as there are.
 fn take_cert_items(cons: &mut Constructed<'_>, alloc: Global) -> Result<Vec<Cert>, DecodeError>
-    ensures reads { Reads (λ certs. map (λ c. c.certificate) certs.items) (items_at SEQUENCE cert_at)
-        cons.old result cons.new }
+    ensures reads { Reads (λ certs. map (λ c. c.certificate) certs.items)
+        (items_at SEQUENCE cert_at) cons.old result cons.new }
     ensures mode { IfOk result (λ certs. All (λ c. c.mode ≡ cons.old.mode) certs.items) }
 {
     let mut certs = Vec::new(alloc);
@@ -112,7 +112,10 @@ fn take_signer_items(
 }
 
 // Reads the signers.
-fn take_signers(cons: &mut Constructed<'_>, alloc: Global) -> Result<Vec<SignerInfo>, DecodeError>
+fn take_signer_set(
+    cons: &mut Constructed<'_>,
+    alloc: Global,
+) -> Result<Vec<SignerInfo>, DecodeError>
     ensures reads { Reads (λ signers. map (λ s. s.signer) signers.items) signers_at
         cons.old result cons.new }
     ensures mode { IfOk result (λ signers. All (λ s. s.mode ≡ cons.old.mode) signers.items) }
@@ -131,7 +134,7 @@ fn take_data_fields(cons: &mut Constructed<'_>, alloc: Global) -> Result<Parts, 
     let content = take_content(cons, alloc)?;
     let certs = take_certs(cons, alloc)?;
     let crls = take_crls(cons, alloc)?;
-    let signers = take_signers(cons, alloc)?;
+    let signers = take_signer_set(cons, alloc)?;
     Ok(Parts {
         content,
         certs,
