@@ -17,7 +17,7 @@ use Rattle.rpki_basics.proofs.Times.Written.{time-written}
 use Rattle.rpki_crls.specs.Entry.{CrlEntryForm, RevokedForm}
 use Rattle.rpki_issued.proofs.Parts.{Short, short-value}
 use Rattle.rpki_issued_crls.specs.declared.entry.RevokedCert.{RevokedCert}
-use Rattle.rpki_issued_crls.specs.Lists.{IsRevokedToWrite, entry_contents, entry_octets}
+use Rattle.rpki_issued_crls.specs.Lists.{IsRevokedToWrite, entry_octets}
 use Rattle.rpki_issued_crls.specs.Lists.{revoked_octets, serial_of}
 
 -- one more entry that can be written

@@ -1,4 +1,3 @@
-use Rattle.std.proofs.Common.{List, ℕ}
 use Rattle.rpki_issued_crls.proofs.Issued.{made-under, signed-under, refused-under}
 use Rattle.rpki_issued_crls.proofs.builder.CrlBuilder.into_crl.Goals as goal
 
