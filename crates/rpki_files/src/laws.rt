@@ -1,13 +1,8 @@
 //! What the definitions of files, manifests and checklists say: laws, as functions that do nothing.
 
 ghost use Rattle.std.specs.Prelude.{◌↔◌, ◌≡◌, ◌<◌, ℕ, List, All, Decides, true};
-ghost use Rattle.std.specs.Prelude.{MatchResult, Result};
 ghost use Rattle.rpki_basics.specs.Moment.{Moment};
 ghost use Rattle.rpki_basics.specs.declared.build.BuildFault.{BuildFault};
-ghost use Rattle.rpki_der.specs.declared.error.DecodeError.{DecodeError};
-ghost use Rattle.rpki_der.specs.declared.error.DecodeError.TheVariants.{Memory};
-ghost use Rattle.rpki_der.specs.declared.mode.Mode.TheVariants.{Der};
-ghost use Rattle.rpki_der.specs.Form.Decodes.{Decodes};
 ghost use Rattle.rpki_basics.specs.declared.limits.ManifestRule.{ManifestRule};
 ghost use Rattle.rpki_basics.specs.declared.limits.ManifestRule.TheVariants.{Any, Registered};
 ghost use Rattle.rpki_der.specs.declared.mode.Mode.{Mode};
@@ -25,7 +20,6 @@ ghost use Rattle.rpki_certs.specs.Inspect.{NamesNothing};
 ghost use Rattle.rpki_certs.specs.Validate.{AreAllowed, AreHeld, AreValidated, Sets};
 ghost use Rattle.rpki_certs.specs.Verify.{Verdict};
 ghost use Rattle.rpki_sigobj.specs.Object.{SignedData};
-ghost use Rattle.rpki_sigobj.specs.Signed.{KeptWhole, ObjectForm, Whole, whole_of};
 ghost use Rattle.rpki_sigobj.specs.Validate.{object_validation};
 ghost use Rattle.rpki_sigobj.specs.Verify.{Digester};
 ghost use Rattle.rpki_signing.specs.Built.{IsBuilt, IsFit, Settings, claims_of};
@@ -117,13 +111,3 @@ pub fn built_manifests_are_valid(issuer: &ResourceCert)
 {
     built_objects_are_valid(issuer);
 }
-
-/// What is written of a manifest, in DER, and decoded strictly under a rule that its content meets,
-/// is the same object and the same content; it is refused only for want of memory.
-pub fn written_manifests_are_read()
-    ensures { (rule : ManifestRule) (octets : List ℕ) (o : Whole Manifest)
-        (result : Result (KeptWhole Manifest) DecodeError)
-        → ObjectForm ct_manifest (ManifestForm rule Der) Der octets o
-        → Decodes (ObjectForm ct_manifest (ManifestForm rule Der) Der) whole_of octets result
-        → MatchResult result (λ k. whole_of k ≡ o) (λ e. e ≡ Memory) }
-{}

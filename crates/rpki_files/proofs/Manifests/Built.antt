@@ -1,5 +1,5 @@
 -- Contents that are built, and what is refused of them.
-use Rattle.std.proofs.Common.{◌≡◌, ◌≤◌, ◌<◌, ◌^◌, ◌⊎◌, ℕ, List, [], All, length, Result, Ok, Err}
+use Rattle.std.proofs.Common.{◌≡◌, ◌≤◌, ◌<◌, ◌^◌, ℕ, List, length, Result, Ok, Err}
 use Rattle.std.proofs.Common.{arith, inl, inr, refl, sym, subst}
 use Rattle.std.specs.Prelude.{IfErr, IfOk, OnOk}
 use Rattle.rpki_basics.specs.Moment.{Moment, stamp}

@@ -1,22 +1,16 @@
 -- Manifests that are signed.
-use Rattle.std.proofs.Common.{◌≡◌, ◌++◌, ℕ, List, [], Result, Ok, Err, refl, sym, subst}
-use Rattle.std.specs.Prelude.{MatchResult}
+use Rattle.std.proofs.Common.{◌≡◌, ◌++◌, ℕ, List, [], sym, subst}
 use Rattle.std.proofs.lemmas.List.{append-nil}
 use Rattle.rpki_basics.specs.declared.limits.ManifestRule.{ManifestRule}
-use Rattle.rpki_der.specs.declared.error.DecodeError.{DecodeError}
-use Rattle.rpki_der.specs.declared.error.DecodeError.TheVariants as failed
 use Rattle.rpki_der.specs.declared.mode.Mode.{Mode}
 use Rattle.rpki_der.specs.declared.mode.Mode.TheVariants.{Der}
-use Rattle.rpki_der.specs.Form.Decodes.{Decodes}
-use Rattle.rpki_der.proofs.Form.ReadBack.{only-front, refuses-memory}
 use Rattle.rpki_resources.specs.declared.block.Block.{Block}
 use Rattle.rpki_resources.specs.declared.resources.Claim.{Claim}
 use Rattle.rpki_resources.specs.declared.resources.Claim.TheVariants.{Inherit, Missing}
 use Rattle.rpki_certs.specs.Inspect.{NamesNothing}
 use Rattle.rpki_certs.specs.Validate.{AreAllowed, Sets}
-use Rattle.rpki_issued.specs.Written.{ClaimsIpv4}
 use Rattle.rpki_sigobj.specs.Object.{KeptObject, SignedForm}
-use Rattle.rpki_sigobj.specs.Signed.{KeptWhole, ObjectForm, Whole, whole_of}
+use Rattle.rpki_sigobj.specs.Signed.{KeptWhole, ObjectForm, whole_of}
 use Rattle.rpki_signing.specs.Built.{Settings, claims_of}
 use Rattle.rpki_files.specs.Manifest.{Manifest, ManifestForm, manifest_octets}
 use Rattle.rpki_files.specs.Manifest.Signed.{inheriting}
@@ -60,18 +54,3 @@ inherits-all b sets = record {
   v4 = λ _ named h. absurd h;
   v6 = λ _ named h. absurd h;
 }
-
--- so the claim of IPv4 lies in its family
-pub inherits-ipv4 : (b told : Settings) → told ≡ inheriting b → ClaimsIpv4 (claims_of told)
-inherits-ipv4 b told same =
-    subst (λ (s : Settings). ClaimsIpv4 (claims_of s)) (sym same) tt
-
--- ---- read again
-
-module _ {X : Type 0} (G : List ℕ → Whole X → Type 0) (octets : List ℕ) (o : Whole X) where
-  -- what is in the form is read as it is, unless memory runs out
-  pub read-again : (result : Result (KeptWhole X) DecodeError) → G octets o
-      → Decodes G whole_of octets result
-      → MatchResult result (λ k. whole_of k ≡ o) (λ e. e ≡ failed.Memory)
-  read-again (Ok k) form d = only-front G octets (whole_of k) o d.0 d.1 form
-  read-again (Err e) form d = refuses-memory G octets o e d form

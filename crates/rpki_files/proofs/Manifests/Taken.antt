@@ -11,7 +11,6 @@ use Rattle.std.proofs.lemmas.List.Folds.{list_all-append}
 use Rattle.rpki_basics.specs.declared.build.BuildFault.TheVariants as fault
 use Rattle.rpki_basics.specs.declared.limits.ManifestRule.{ManifestRule}
 use Rattle.rpki_basics.specs.declared.limits.ManifestRule.TheVariants.{Any, Registered}
-use Rattle.rpki_der.specs.Form.Keyed.{AreDistinct}
 use Rattle.rpki_der.specs.Write.Encode.{Fits}
 use Rattle.rpki_der.specs.Write.Parts.{each_small}
 use Rattle.rpki_faults.specs.Checks.{IsFirstFault}
@@ -24,9 +23,9 @@ use Rattle.rpki_files.specs.File.{is_short_file, is_unrepeated, name_of}
 use Rattle.rpki_files.specs.Manifest.{files_octets}
 use Rattle.rpki_files.specs.Manifest.Built.{file_checks, meant}
 use Rattle.rpki_files.specs.Manifest.Taken.{AreTaken}
-use Rattle.rpki_files.specs.Name.{IsFileName, is_file_name, is_registered}
+use Rattle.rpki_files.specs.Name.{IsFileName, is_file_name}
 use Rattle.rpki_files.proofs.Names.Decided.{name-decides}
-use Rattle.rpki_files.proofs.Manifests.Exact.{any-all, file-part, meets, unrepeated-decides}
+use Rattle.rpki_files.proofs.Manifests.Exact.{any-all, file-part, unrepeated-decides}
 use Rattle.rpki_files.proofs.Manifests.Written.{file-written}
 
 differ : (a b : Bool) → a ≡ true → a ≡ b → b ≡ false → ⊥

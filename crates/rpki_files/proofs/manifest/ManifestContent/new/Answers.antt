@@ -1,8 +1,7 @@
-use Rattle.std.proofs.Common.{◌≡◌, ◌<◌, ◌≤◌, ◌^◌, List, length, true, false, sym, subst, ◌∙◌}
+use Rattle.std.proofs.Common.{◌≡◌, ◌<◌, ◌^◌, length, true, false, sym, subst, ◌∙◌}
 use Rattle.std.proofs.lemmas.Result.{err_from_is_err_and, on_ok_weaker}
-use Rattle.rpki_basics.specs.Moment.{stamp}
 use Rattle.rpki_der.specs.declared.mode.Mode.TheVariants.{Der}
-use Rattle.rpki_files.specs.File.{File, MeetsRule}
+use Rattle.rpki_files.specs.File.{MeetsRule}
 use Rattle.rpki_files.specs.Manifest.{Manifest, ManifestForm, manifest_contents, manifest_octets}
 use Rattle.rpki_files.specs.Manifest.Built.{Gives}
 use Rattle.rpki_files.proofs.Manifests.Built.{of-same, out-of-order, too-long, unlisted}
