@@ -2,11 +2,13 @@
 
 The prose and the ASN.1 stand in docs/GOOD-OBJECT.in. A line of its own there is replaced:
 
-    {{forms CRATE NAME=DIGEST ..}}   links to the definitions that say what the ASN.1 above says; a
-                                     DIGEST is that of a definition's text, and another one is
-                                     refused, so that who changes a form looks at the ASN.1 too
+    {{forms CRATE NAME=DIGEST ..}}   rows of the files whose definitions say what the ASN.1 above
+                                     says; a DIGEST is that of a definition's text, and another one
+                                     is refused, so that who changes a form looks at the ASN.1 too
     {{texts CRATE NAME ..}}          rows of the texts that stand in src/faults.rt of the crate
-    {{checks KIND}}                  the checks of a kind (an `ObjectKind`), in their order
+    {{checks common}}                the checks that the kinds share, in their order
+    {{checks KIND}}                  the checks of a kind (an `ObjectKind`), in their order; one row
+                                     stands for those that the kinds share
     {{checks CRATE:NAME}}            those of a definition that lists checks
 
 The order of the checks is what the definitions say: lists are followed from name to name. What is
@@ -37,6 +39,10 @@ DEFINITION = re.compile(
 PLAIN = re.compile(r"(sections? )?(\d[\d.]*(?:(?: and | to |, )\d[\d.]*)*(?:, point [\w.]+)?)")
 # What is printed, and when, where the caller refuses.
 CALLER = "what the caller says"
+# The section that has the checks which the kinds share.
+COMMON = "[the object and its certificate](#the-checks-of-the-object-and-its-certificate)"
+# Texts that a reader could take for a misprint.
+ODD = {"EE certificate is contains IP resources": "so worded in the original"}
 ASKED = "The caller, who is asked once, refuses the certificate; the programs ask nobody"
 
 
@@ -148,7 +154,10 @@ def put(text, values):
 
 
 class Row:
-    """A check: its fault, what has to hold, and the definition that lists it."""
+    """A check: its fault, what has to hold, the definition that lists it, and whether it is one of
+    the kind's own."""
+
+    own = False
 
     def __init__(self, fault, holds, listed, alone, each):
         self.fault, self.holds, self.listed = fault, holds, listed
@@ -224,7 +233,10 @@ class Specs:
             kind = self.kind
             taken, body = re.match(r"λ ([^.]*)\. (.*)$", kind.field(head[5:])).groups()
             values = dict(zip(taken.split(), given))
-            return self.rows(body, kind.file, values, kind, above, each)
+            found = self.rows(body, kind.file, values, kind, above, each)
+            for row in found:
+                row.own = True
+            return found
         made = self.find(file, head)
         if not made or not made.equations:
             raise Failure(f"{file.crate}/{file.module}: {head} is no list of checks")
@@ -381,24 +393,24 @@ def told(specs, row, rows):
     return where + "; each is looked at, in their order" * row.each
 
 
-def table_of(specs, rows):
-    """The table of checks."""
+def cells(specs, row, rows):
+    """What is shown of a check: what is printed, when, the standard, and what has to hold."""
+    printed = CALLER
+    if row.fault:
+        text = specs.text(row.fault)
+        printed = f"`{text}`" + (f" ({ODD[text]})" if text in ODD else "")
+    return [printed, told(specs, row, rows), specs.standard(row), held(specs, row)]
+
+
+def table_of(numbered):
+    """The table of checks, of pairs of their numbers and their cells."""
     lines = ["| | printed | when | standard | has to hold |", "|---|---|---|---|---|"]
-    for number, row in enumerate(rows, 1):
-        text = f"`{specs.text(row.fault)}`" if row.fault else CALLER
-        cells = [str(number), text, told(specs, row, rows), specs.standard(row), held(specs, row)]
-        lines.append("| " + " | ".join(cells) + " |")
-    return lines
+    return lines + ["| " + " | ".join([number, *shown]) + " |" for number, shown in numbered]
 
 
-def checks(specs, name):
-    """The table of the checks of a kind, or of a definition."""
-    kinds = specs.kinds()
-    if name not in kinds:
-        crate, name = name.split(":")
-        made = specs.named(crate, name)
-        return table_of(specs, specs.rows(made.equations[0][1], made.file, {}, made, (made,)))
-    specs.kind = kinds[name]
+def rows_of(specs, name):
+    """The checks of a kind, in their order."""
+    specs.kind = specs.kinds()[name]
     file = specs.files[ROOT]
     whole = " ".join(line.strip() for line in file.named["IsProcessed"].lines)
     order = re.search(r"first : AnswersFirst (\(.*?\)) \(λ", whole)
@@ -408,7 +420,86 @@ def checks(specs, name):
     if not order or not handed:
         raise Failure("IsProcessed or Checks does not say in which order checks are made")
     term = order[1].replace("held", bare(handed[2]))
-    return table_of(specs, specs.rows(term, file, {"before": handed[1]}, file.named["IsProcessed"]))
+    return specs.rows(term, file, {"before": handed[1]}, file.named["IsProcessed"])
+
+
+def parted(specs, name):
+    """The checks of a kind, as cells: those before the ones that the kinds share, these, and those
+    after them."""
+    rows = rows_of(specs, name)
+    shown = [cells(specs, row, rows) for row in rows]
+    shared = [at for at, row in enumerate(rows) if not row.own]
+    first, end = shared[0], shared[-1] + 1
+    if len(shared) != end - first:
+        raise Failure(f"{name} has checks of its own among those that the kinds share")
+    return shown[:first], shown[first:end], shown[end:]
+
+
+def common(specs):
+    """The checks that the kinds share, as cells; and for each kind, which of them it has."""
+    middles = {name: parted(specs, name)[1] for name in specs.kinds()}
+    longest = max(middles.values(), key=len)
+    has = {}
+    for name, middle in middles.items():
+        has[name] = [at for at, shown in enumerate(longest, 1) if shown in middle]
+        if [longest[at - 1] for at in has[name]] != middle:
+            raise Failure(f"{name} has other checks of the object than the other kinds")
+    return longest, has
+
+
+def common_table(specs):
+    """The table of the checks that the kinds share."""
+    longest, has = common(specs)
+    published = {k for k, made in specs.kinds().items() if made.field("is_published") == "true"}
+    numbered = []
+    for at, (printed, *others) in enumerate(longest, 1):
+        of = {name for name, them in has.items() if at in them}
+        if of != set(has):
+            if of != published:
+                raise Failure(f"{printed} is a check of some kinds, but not of the published ones")
+            printed += " (published objects only)"
+        numbered.append((str(at), [printed, *others]))
+    return table_of(numbered)
+
+
+def span(first, last):
+    return str(first) if first == last else f"{first} to {last}"
+
+
+def spans(numbers):
+    """Ascending numbers in words: `1 to 12 and 14 to 22`."""
+    found = []
+    for number in numbers:
+        if found and found[-1][1] == number - 1:
+            found[-1][1] = number
+        else:
+            found.append([number, number])
+    return " and ".join(span(*ends) for ends in found)
+
+
+def kind_table(specs, name):
+    """The table of the checks of a kind, where one row stands for those that the kinds share."""
+    before, middle, after = parted(specs, name)
+    first, last = len(before) + 1, len(before) + len(middle)
+    shared = f"checks {spans(common(specs)[1][name])} of {COMMON}"
+    if not before + after:
+        return [f"- {shared}, and no others."]
+    numbered = [(str(at), shown) for at, shown in enumerate(before, 1)]
+    numbered.append((span(first, last), [shared, "", "", ""]))
+    numbered += [(str(at), shown) for at, shown in enumerate(after, last + 1)]
+    return table_of(numbered)
+
+
+def checks(specs, name):
+    """The table of the checks of a kind, of those that the kinds share, or of a definition."""
+    if name == "common":
+        return common_table(specs)
+    if name in specs.kinds():
+        return kind_table(specs, name)
+    crate, name = name.split(":")
+    made = specs.named(crate, name)
+    rows = specs.rows(made.equations[0][1], made.file, {}, made, (made,))
+    return table_of([(str(at), cells(specs, row, rows)) for at, row in enumerate(rows, 1)])
 
 
 def texts(top, crate, names):
@@ -423,16 +514,15 @@ def texts(top, crate, names):
         doc, text = known[name]
         named = list(dict.fromkeys(re.findall(r"RFC \d+", doc)))
         named = named or ["this project's own"] * (OWN in doc)
-        where = phrase(doc.replace(", which is this project's own rule", ""))
         standard = sections(doc, None) or ", ".join(named)
-        rows.append(f"| `{text}` | {where} | {standard} |")
+        rows.append(f"| `{text}` | {standard} |")
     return rows, set(known)
 
 
 def linked(specs, given):
-    """The line of the definitions that say what the ASN.1 above says."""
+    """Rows of the files whose definitions say what the ASN.1 above says."""
     crate, *names = given
-    links = []
+    cited = {}
     for word in names:
         name, _, digest = word.partition("=")
         made = specs.named(crate, name)
@@ -443,9 +533,13 @@ def linked(specs, given):
             )
         # What a comment calls the profile, the page names.
         of = "of the profile" in made.comment
-        cited = "" if of else sections(made.comment, made.file.standard)
-        links.append(made.link() + (f" ({cited})" if cited else ""))
-    return "- Defined by " + ", ".join(links) + "."
+        found = "" if of else sections(made.comment, made.file.standard)
+        shown = f"`{name}` ({found})" if found else f"`{name}`"
+        cited.setdefault(made.file.module, []).append(shown)
+    return [
+        f"| [`{crate}`: `{module}`](../crates/{crate}/specs/{module}.antt) | {', '.join(them)} |"
+        for module, them in cited.items()
+    ]
 
 
 def page(top, crates):
@@ -460,7 +554,7 @@ def page(top, crates):
             continue
         what, given = match[1], match[2].split()
         if what == "forms":
-            lines.append(linked(specs, given))
+            lines += linked(specs, given)
         elif what == "texts":
             crate, *names = given
             lines += texts(top, crate, names)[0]
@@ -471,7 +565,8 @@ def page(top, crates):
         else:
             raise Failure(f"docs/GOOD-OBJECT.in: {what} is no word of it")
     missing = [f"{c}: {n}" for c in TEXTS for n in sorted(there[c] - said[c])]
-    missing += sorted(set(specs.kinds()) - kinds)
+    missing += sorted({"common", *specs.kinds()} - kinds)
+    missing += [text for text in ODD if f"| `{text}` (" not in "\n".join(lines)]
     if missing:
         raise Failure("docs/GOOD-OBJECT.in does not have " + ", ".join(missing))
     return "\n".join(lines)
