@@ -54,6 +54,11 @@ def check(kind, file, *others, moment="20270101000000Z", verdicts=None, chain=CH
     return ["check", kind, file, moment, verdicts or f"{file}.verdicts", *chain, *others]
 
 
+def walk(*pairs, file="manifest", moment="20270101000000Z", verdicts="manifest.verdicts",
+         chain=CHAIN):
+    return ["walk", file, moment, verdicts, *chain, "with", *pairs]
+
+
 ROWS = [
     (["show", "manifest", "manifest"], 0,
      MANIFEST + SIGNED + "6 C1888A395EE37A39F79146694636294EE42B4CED\n", 1),
@@ -95,6 +100,23 @@ CHECKS = [
     (check("roa", "roa", "none", verdicts="roa"), 2, "cannot read none\n", 5),
     (check("roa", "none", verdicts="large"), 2, "cannot read none\n", 1),
     (check("roa", "roa", "none", verdicts="large"), 3, "out of memory\n", 2),
+]
+# Files at hand, whose names the manifest has or not.
+CHECKS += [
+    (walk("providers.asa=aspa", "origin.roa=roa", "letter.sig=rsc", "expired.roa=roa"), 0,
+     "yes\nheld origin.roa\nheld providers.asa\n", 8),
+    (["--relaxed", "--registered", "--wide"] + walk("origin.roa=roa"), 0, "yes\nheld origin.roa\n",
+     5),
+    (walk("origin.roa=roa", verdicts="roa.verdicts"), 1, "refused: signature is not valid\n", 5),
+    (walk("origin.roa=roa", file="roa", verdicts="roa.verdicts"), 1, MALFORMED, 5),
+    (walk("origin.roa=roa", verdicts="roa"), 2, "bad verdicts\n", 5),
+    (walk("origin.roa=none", verdicts="roa"), 2, "cannot read none\n", 5),
+    (walk("origin.roa=large", "a=none"), 3, "out of memory\n", 5),
+    (walk("origin.roa=roa", moment="20250101000000Z"), 1,
+     "issuer refused: certificate is not yet valid\n", 5),
+    (walk("origin.roa=roa", moment="20270229000000Z"), 2, USAGE, 0),
+    (walk("origin.roa"), 2, USAGE, 0),
+    (walk()[:-1], 2, USAGE, 0),
 ]
 KINDS = "manifest", "roa", "aspa", "rsc"
 # Each file that can't be read, or that memory is not enough for, in turn.

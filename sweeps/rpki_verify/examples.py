@@ -27,6 +27,7 @@ ISSUER_MALFORMED = "issuer refused: malformed\n"
 CHAIN = "anchor", "authority"
 LARGE, NONE = (3, "out of memory\n"), (2, "cannot read none\n")
 HELP = """usage: rpki_verify [OPTION ..] check KIND FILE MOMENT TA [CA ..]
+       rpki_verify [OPTION ..] walk FILE MOMENT TA [CA ..] with NAME=PATH ..
        rpki_verify [OPTION ..] verdicts FILE TA [CA ..]
        rpki_verify [OPTION ..] show KIND FILE
        rpki_verify [OPTION ..] content KIND FILE
@@ -35,6 +36,7 @@ HELP = """usage: rpki_verify [OPTION ..] check KIND FILE MOMENT TA [CA ..]
 OPTION, in this order: --relaxed --registered --wide
 KIND: aspa, manifest, roa or rsc
 MOMENT: now, or YYYYMMDDHHMMSSZ
+CA of walk: any file but one named with
 """
 WRONG = 2, "wrong words, expected:\n" + HELP, 0
 NO_TIME = 2, "cannot tell the time\n", 0
@@ -49,6 +51,14 @@ def check(kind, file, *others, moment=GOOD, chain=CHAIN):
 
 def listed(file, *others, chain=CHAIN):
     return ["verdicts", file, *chain, *others]
+
+
+def walk(*pairs, file="manifest", moment=GOOD, chain=CHAIN):
+    return ["walk", file, moment, *chain, "with", *pairs]
+
+
+def held(*names):
+    return "yes\n" + "".join(f"held {name}\n" for name in names)
 
 
 def without(name, *places):
@@ -102,6 +112,25 @@ ROWS = [
     (listed("roa", "none", "large"), None, *NONE, 4),
     (listed("roa", "large", "none"), None, *LARGE, 4),
     (listed("none", "large"), None, *NONE, 1),
+    # Files that the manifest has, and others. Names are compared, and the first file of one counts.
+    (walk("providers.asa=aspa", "origin.roa=roa", "letter.sig=rsc", "expired.roa=roa",
+          "broken.roa=broken"), None, 0, held("broken.roa", "origin.roa", "providers.asa"), 8),
+    (walk("origin.roa=aspa", "origin.roa=roa"), None, 0, held(), 5),
+    (walk("origin.roa=roa", "origin.roa=aspa"), None, 0, held("origin.roa"), 5),
+    (walk("roa=roa", "=roa", "ORIGIN.ROA=roa"), None, 0, held(), 6),
+    (walk(moment="now"), GOOD, 0, held(), 3),
+    (["--relaxed", "--registered", "--wide"] + walk("origin.roa=roa"), None, 0, held("origin.roa"),
+     4),
+    (walk("origin.roa=roa", moment="now"), None, *NO_TIME),
+    (walk("origin.roa=roa", moment=EARLY), None, *NOT_YET, 4),
+    (walk("origin.roa=roa", moment="now"), LATE, *OVER, 4),
+    (walk("origin.roa=roa", chain=["anchor"]), None, 1, "refused: not issued by this CA\n", 3),
+    (walk("origin.roa=roa", file="roa"), None, 1, OTHER_TYPE, 4),
+    (walk("origin.roa=roa", file="anchor"), None, 1, MALFORMED, 4),
+    (walk("origin.roa=roa", chain=["anchor", "roa"]), None, 1, ISSUER_MALFORMED, 4),
+    (walk("origin.roa=none", chain=["anchor", "roa"]), None, *NONE, 4),
+    (walk("origin.roa=large", "a=none", file="anchor"), None, *LARGE, 4),
+    (walk("with=with", "with=roa"), None, 2, "cannot read with\n", 4),
     # A word after the command that looks like an option is the name of a file.
     (["verdicts", "--relaxed", "roa", "anchor"], None, 2, "cannot read --relaxed\n", 1),
 ]
@@ -116,6 +145,10 @@ OTHER_WORDS = [
     listed("roa", ""), listed("roa", chain=["", "authority"]), ["show", "rta", "roa"],
     ["content", "rta", "roa"], ["content", "tal", "roa"], ["show", "roa", ""],
     ["rta", "roa", GOOD, "roa", "tal=roa"],
+    ["walk"], ["walk", "manifest", GOOD, "with"], walk()[:-1], walk("roa"), walk("origin.roa="),
+    walk("="), walk("origin.roa=roa", "with"), walk("origin.roa=roa", moment="20270229000000Z"),
+    walk("origin.roa=roa", file=""), walk("origin.roa=roa", chain=["anchor", ""]),
+    ["walk", "manifest", GOOD, "anchor", "authority", "origin.roa=roa"],
     ["--wide", "--relaxed"] + check("roa", "roa"), ["--relaxed", "--relaxed"] + listed("roa"),
     ["--strict"] + check("roa", "roa"), ["check", "--wide"] + check("roa", "roa")[1:],
 ]

@@ -1,13 +1,13 @@
 -- What is said of files, by steps.
 use Rattle.std.proofs.Common.{◌≡◌, ◌+◌, ◌≤◌, ℕ, List, ◌++◌, Ok, Err, Vec, Global, inr, subst, sym}
 use Rattle.std.proofs.Common.{ap, ◌∙◌, arith, length}
-use Rattle.std.proofs.lemmas.List.{append-nil, length-append, length-map, take_all}
+use Rattle.std.proofs.lemmas.List.{append-nil, length-append, length-map, map-append, take_all}
 use Rattle.std.specs.Borrow.{Bor}
 use Rattle.rpki_certs.specs.Issuer.{octets_of}
 use Rattle.rpki_command.specs.Answer.{Output, cannot_read, out_of_memory}
 use Rattle.rpki_command.specs.Command.{AreReadAtMost, IsOfFiles}
 use Rattle.rpki_command.specs.Store.{Told, Names, AreAllRead, IsFirstUnreadable, AreSomeRead}
-use Rattle.rpki_command.specs.Words.{texts}
+use Rattle.rpki_command.specs.Words.{texts, chain_in, paths_in, others_in}
 use Rattle.rpki_command.specs.declared.store.Unread.TheVariants as reads
 
 -- the same names
@@ -24,11 +24,50 @@ pub read-same : (seen names all : List (Bor (List ℕ))) (old new : Names)
 read-same seen names all old new h e d =
     subst (λ (ns : List (Bor (List ℕ))). AreReadAtMost (texts ns) old new) (d ∙ e) h
 
--- as many names as there are first ones, and more
-pub more-names : (n : ℕ) (seen names first chain : List (Bor (List ℕ))) → n ≤ length first
-    → names ≡ first ++ chain → seen ≡ names → n ≤ length seen
-more-names n seen names first chain l e d =
-    omega (arith, l, ap length d, ap length e, length-append first chain)
+-- as many names as there are first ones and others
+pub more-names : (n : ℕ) (seen names first others : List (Bor (List ℕ)))
+    → n ≤ length first + length others → names ≡ first ++ others → seen ≡ names → n ≤ length seen
+more-names n seen names first others l e d =
+    omega (arith, l, ap length d, ap length e, length-append first others)
+
+-- ---- files that the words after a trust anchor name
+
+texts-append : (first others : List (Bor (List ℕ))) (tail : List (List ℕ))
+    → texts others ≡ others_in tail → texts (first ++ others) ≡ texts first ++ others_in tail
+texts-append first others tail e =
+    map-append (λ (x : Bor (List ℕ)). x.now) first others
+    ∙ ap (λ (ns : List (List ℕ)). texts first ++ ns) e
+
+-- the same names
+pub of-tail : (told : Told) (first others seen : List (Bor (List ℕ))) (tail : List (List ℕ))
+    (P : List (List ℕ) → Output → Type 0) (old new : Names) (s : Output)
+    → IsOfFiles told (texts (first ++ seen)) P old new s → texts others ≡ others_in tail
+    → seen ≡ others → IsOfFiles told (texts first ++ others_in tail) P old new s
+of-tail told first others seen tail P old new s h e d =
+    subst (λ (ns : List (List ℕ)). IsOfFiles told ns P old new s)
+    (texts-append first seen tail (ap texts d ∙ e)) h
+
+pub read-tail : (first others seen : List (Bor (List ℕ))) (tail : List (List ℕ))
+    (old new : Names) → AreReadAtMost (texts (first ++ seen)) old new
+    → texts others ≡ others_in tail → seen ≡ others
+    → AreReadAtMost (texts first ++ others_in tail) old new
+read-tail first others seen tail old new h e d =
+    subst (λ (ns : List (List ℕ)). AreReadAtMost ns old new)
+    (texts-append first seen tail (ap texts d ∙ e)) h
+
+-- as many names as there are first ones and certificates of CAs
+pub tail-names : (n : ℕ) (first others seen : List (Bor (List ℕ))) (tail : List (List ℕ))
+    → n ≤ length first + length (chain_in tail) → texts others ≡ others_in tail → seen ≡ others
+    → n ≤ length first + length seen
+tail-names n first others seen tail l e d =
+    omega (
+      arith,
+      l,
+      ap length d,
+      ap length e,
+      length-append (chain_in tail) (paths_in tail),
+      length-map others (λ (x : Bor (List ℕ)). x.now),
+    )
 
 -- the first file that can't be read
 pub of-unreadable : (told : Told) (names : List (List ℕ)) (P : List (List ℕ) → Output → Type 0)
@@ -84,6 +123,8 @@ as-many-files n names files seen e d l =
     omega (arith, e, l, ap length d, length-map names (λ (x : Bor (List ℕ)). x.now))
 
 pub ruleset by_names = (of-same, read-same, none-at-most, more-names)
+
+pub ruleset by_tail = (of-tail, read-tail, none-at-most, tail-names)
 
 pub ruleset by_reads = (
   of-unreadable,

@@ -107,24 +107,19 @@ three (x ∷ y ∷ z ∷ rest) a b c l e f g =
     let q : b ≡ y = f in
     let r : c ≡ z = g in rw (p, q, r)
 
--- what is said of the octets of files, by those of the first three
-pub checked-files : (options : Options) (kind : words.Kind) (now : Moment)
-    (files : List (Vec ℕ Global)) (o v a : Vec ℕ Global) (object verdicts anchor : List ℕ)
-    → object ≡ o.items → verdicts ≡ v.items → anchor ≡ a.items
-    → (lines : List (List ℕ)) (s : Output) → 3 ≤ length files → o ≡ get_or files 0 o
-    → v ≡ get_or files 1 v → a ≡ get_or files 2 a → AreVerdicts verdicts lines
-    → IsCheckedWith Omitted options kind sha256 (is_listed lines) now object anchor
-    (octets_of (take (length files - 3) (drop 3 files))) s
-    → CheckOf options kind now (octets_of files) s
-checked-files options kind now files o v a object verdicts anchor d e f lines s l i j k w h =
-    let rest = subst (λ (tail : List (Vec ℕ Global)). IsCheckedWith Omitted options kind sha256
-    (is_listed lines) now object anchor (octets_of tail) s) (take_rest files 3) h in
-    let anchored =
-    subst (λ (end : List ℕ). IsCheckedWith Omitted options kind sha256 (is_listed lines) now
-    object end (octets_of (drop 3 files)) s) f rest in
-    let checked =
-    subst (λ (front : List ℕ). IsCheckedWith Omitted options kind sha256 (is_listed lines) now
-    front a.items (octets_of (drop 3 files)) s) d anchored in
-    subst (λ (fs : List (Vec ℕ Global)). CheckOf options kind now (octets_of fs) s)
-    (sym (three files o v a l i j k))
-    (inr (lines, subst (λ (text : List ℕ). AreVerdicts text lines) e w, checked))
+-- what holds of the octets of the first three files and of the others holds of those of all
+pub of-three : (P : List (List ℕ) → Type 0) (files : List (Vec ℕ Global)) (o v a : Vec ℕ Global)
+    (object verdicts anchor : List ℕ) → object ≡ o.items → verdicts ≡ v.items → anchor ≡ a.items
+    → 3 ≤ length files → o ≡ get_or files 0 o → v ≡ get_or files 1 v → a ≡ get_or files 2 a
+    → P (object ∷ verdicts ∷ anchor ∷ octets_of (take (length files - 3) (drop 3 files)))
+    → P (octets_of files)
+of-three P files o v a object verdicts anchor d e f l i j k h =
+    let rest = subst (λ (tail : List (Vec ℕ Global)). P (object ∷ verdicts ∷ anchor
+    ∷ octets_of tail)) (take_rest files 3) h in
+    let anchored = subst (λ (x : List ℕ). P (object ∷ verdicts ∷ x ∷ octets_of (drop 3 files))) f
+    rest in
+    let listed = subst (λ (x : List ℕ). P (object ∷ x ∷ a.items ∷ octets_of (drop 3 files))) e
+    anchored in
+    let all = subst (λ (x : List ℕ). P (x ∷ v.items ∷ a.items ∷ octets_of (drop 3 files))) d listed
+    in
+    subst (λ (fs : List (Vec ℕ Global)). P (octets_of fs)) (sym (three files o v a l i j k)) all

@@ -10,4 +10,6 @@ pub mod Right
 pub mod Running
 pub mod Saying
 pub mod Shown
+pub mod Tail
 pub mod Verified
+pub mod Walked

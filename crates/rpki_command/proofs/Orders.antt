@@ -1,6 +1,7 @@
 -- No words ask for two things.
 use Rattle.std.proofs.Common.{rules, ◌≡◌, ◌++◌, ℕ, List, ◌∷◌, Bool, true, false, sym, refl}
-use Rattle.std.proofs.Common.{Option, Some, ap, ◌∙◌}
+use Rattle.std.proofs.Common.{Option, Some, None, ap, ◌∙◌, codes}
+use Rattle.std.specs.Prelude.{MatchOption}
 use Rattle.rpki_basics.specs.Moment.{Moment, IsMoment}
 use Rattle.rpki_basics.specs.Time.Form.{generalized_text}
 use Rattle.rpki_basics.specs.Time.Read.{generalized_of}
@@ -9,10 +10,10 @@ use Rattle.rpki_command.specs.Command.{objects_language}
 use Rattle.rpki_command.specs.Language.{IsAsked, AskForNothing}
 use Rattle.rpki_command.specs.Words.{word_if, word_relaxed, word_registered, word_wide}
 use Rattle.rpki_command.specs.Words.{with_options, moment_word, command_words, files_of, are_named}
-use Rattle.rpki_command.specs.Words.{IsInTime}
+use Rattle.rpki_command.specs.Words.{IsProper, AskForNoWalk, AskForNothingElse, is_walk}
 use Rattle.rpki_command.specs.declared.words.Command.{Command}
 use Rattle.rpki_command.specs.declared.words.Command.TheVariants.{Content, ContentRta, Show}
-use Rattle.rpki_command.specs.declared.words.Command.TheVariants.{ShowRta, ShowTal, Check, Rta}
+use Rattle.rpki_command.specs.declared.words.Command.TheVariants.{ShowRta, ShowTal, Check, Walk, Rta}
 use Rattle.rpki_command.specs.declared.words.Order.{Order}
 
 some-once : (o : Option Moment) (a b : Moment) → o ≡ Some a → o ≡ Some b → a ≡ b
@@ -28,16 +29,18 @@ moments-once a b i j e = some-once (generalized_of (generalized_text a)) a b
 -- the moment of a command, where it has one, is such a one
 abbrev HasTime : (Moment → Type 0) → Command → Type 0
 HasTime P (Check kind file moment verdicts anchor chain) = P moment
+HasTime P (Walk file moment verdicts anchor tail) = P moment
 HasTime P (Rta file moment verdicts anchor anchors) = P moment
 HasTime P other = Unit {0}
 
-in-time : (c : Command) → IsInTime c → HasTime IsMoment c
+in-time : (c : Command) → IsProper c → HasTime IsMoment c
 in-time (Content kind file) i = i
 in-time (ContentRta file) i = i
 in-time (Show kind file) i = i
 in-time (ShowRta file) i = i
 in-time (ShowTal file) i = i
 in-time (Check kind file moment verdicts anchor chain) i = i
+in-time (Walk file moment verdicts anchor tail) i = i.0
 in-time (Rta file moment verdicts anchor anchors) i = i
 
 commands-by : (P : Moment → Type 0)
@@ -45,7 +48,55 @@ commands-by : (P : Moment → Type 0)
     → (a b : Command) → HasTime P a → HasTime P b → command_words a ≡ command_words b → a ≡ b
 commands-by P once a b i j e = search (rules, once)
 
-pub commands-once : (a b : Command) → IsInTime a → IsInTime b → command_words a ≡ command_words b
+rest-same : {word : List ℕ} {a b : List (List ℕ)} → word ∷ a ≡ word ∷ b → a ≡ b
+rest-same e = cc
+
+walk-first : (c : Command) (rest : List (List ℕ)) → is_walk c ≡ false
+    → command_words c ≡ codes "walk" ∷ rest → ⊥
+walk-first c rest n e = search rules
+
+pub walk_none : (words rest : List (List ℕ)) → words ≡ codes "walk" ∷ rest → AskForNoWalk rest
+    → (c : Command) → words ≡ command_words c → IsProper c → ⊥
+walk_none words rest w n (Walk f m v a t) e i = n f m v a t (rest-same (sym w ∙ e)) i.0 i.1
+walk_none words rest w n (Content k f) e i = walk-first (Content k f) rest refl (sym e ∙ w)
+walk_none words rest w n (ContentRta f) e i = walk-first (ContentRta f) rest refl (sym e ∙ w)
+walk_none words rest w n (Show k f) e i = walk-first (Show k f) rest refl (sym e ∙ w)
+walk_none words rest w n (ShowRta f) e i = walk-first (ShowRta f) rest refl (sym e ∙ w)
+walk_none words rest w n (ShowTal f) e i = walk-first (ShowTal f) rest refl (sym e ∙ w)
+walk_none words rest w n (Check k f m v a c) e i =
+    walk-first (Check k f m v a c) rest refl (sym e ∙ w)
+walk_none words rest w n (Rta f m v a c) e i = walk-first (Rta f m v a c) rest refl (sym e ∙ w)
+
+pub walk_of : (words rest : List (List ℕ)) (r : Option Command) → words ≡ codes "walk" ∷ rest
+    → MatchOption r (AskForNoWalk rest)
+    (λ c. (codes "walk" ∷ rest ≡ command_words c) × IsProper c)
+    → MatchOption r ((c : Command) → words ≡ command_words c → IsProper c → ⊥)
+    (λ c. (words ≡ command_words c) × IsProper c)
+walk_of words rest None w n = walk_none words rest w n
+walk_of words rest (Some c) w h = (w ∙ h.0, h.1)
+
+other_none : (words : List (List ℕ)) → ((rest : List (List ℕ)) → words ≡ codes "walk" ∷ rest → ⊥)
+    → AskForNothingElse words → (c : Command) → words ≡ command_words c → IsProper c → ⊥
+other_none words w n (Walk f m v a t) e i = w _ e
+other_none words w n (Content k f) e i = n (Content k f) refl e i
+other_none words w n (ContentRta f) e i = n (ContentRta f) refl e i
+other_none words w n (Show k f) e i = n (Show k f) refl e i
+other_none words w n (ShowRta f) e i = n (ShowRta f) refl e i
+other_none words w n (ShowTal f) e i = n (ShowTal f) refl e i
+other_none words w n (Check k f m v a c) e i = n (Check k f m v a c) refl e i
+other_none words w n (Rta f m v a c) e i = n (Rta f m v a c) refl e i
+
+pub other_of : (words : List (List ℕ)) (r : Option Command)
+    → ((rest : List (List ℕ)) → words ≡ codes "walk" ∷ rest → ⊥)
+    → MatchOption r (AskForNothingElse words) (λ c. (words ≡ command_words c) × IsProper c)
+    → MatchOption r ((c : Command) → words ≡ command_words c → IsProper c → ⊥)
+    (λ c. (words ≡ command_words c) × IsProper c)
+other_of words None w n = other_none words w n
+other_of words (Some c) w h = h
+
+pub ruleset by_first_word = (walk_of, other_of)
+
+pub commands-once : (a b : Command) → IsProper a → IsProper b → command_words a ≡ command_words b
     → a ≡ b
 commands-once a b i j e =
     commands-by IsMoment moments-once a b (in-time a i) (in-time b j) e
@@ -62,7 +113,7 @@ not-relaxed : (rest : List (List ℕ)) (r w : Bool) (c : Command)
     → ⊥
 not-relaxed rest r w c e = search rules
 
-wide-once : (v w : Bool) (a b : Command) → IsInTime a → IsInTime b
+wide-once : (v w : Bool) (a b : Command) → IsProper a → IsProper b
     → word_if v word_wide ++ command_words a ≡ word_if w word_wide ++ command_words b
     → (v ≡ w) × (a ≡ b)
 wide-once true true a b i j e = (refl, commands-once a b i j cc)
@@ -70,7 +121,7 @@ wide-once true false a b i j e = absurd (not-wide _ b e)
 wide-once false true a b i j e = absurd (not-wide _ a (sym e))
 wide-once false false a b i j e = (refl, commands-once a b i j e)
 
-registered-once : (r s v w : Bool) (a b : Command) → IsInTime a → IsInTime b
+registered-once : (r s v w : Bool) (a b : Command) → IsProper a → IsProper b
     → word_if r word_registered
     ++ (word_if v word_wide ++ command_words a) ≡ word_if s word_registered
     ++ (word_if w word_wide ++ command_words b) → (r ≡ s) × (v ≡ w) × (a ≡ b)
@@ -79,7 +130,7 @@ registered-once true false v w a b i j e = absurd (not-registered _ w b e)
 registered-once false true v w a b i j e = absurd (not-registered _ v a (sym e))
 registered-once false false v w a b i j e = let p = wide-once v w a b i j e in (refl, p.0, p.1)
 
-relaxed-once : (x y r s v w : Bool) (a b : Command) → IsInTime a → IsInTime b
+relaxed-once : (x y r s v w : Bool) (a b : Command) → IsProper a → IsProper b
     → word_if x word_relaxed
     ++ (word_if r word_registered ++ (word_if v word_wide ++ command_words a))
     ≡ word_if y word_relaxed
@@ -99,7 +150,7 @@ made-same : (x y r s v w : Bool) (a b : Command) → x ≡ y → r ≡ s → v �
     → made x r v a ≡ made y s w b
 made-same x y r s v w a b h i j k = cc
 
-pub orders-once : (a b : Order Command) → IsInTime a.command → IsInTime b.command
+pub orders-once : (a b : Order Command) → IsProper a.command → IsProper b.command
     → with_options a.options (command_words a.command)
     ≡ with_options b.options (command_words b.command) → a ≡ b
 orders-once a b i j e =
@@ -118,7 +169,7 @@ not-named b t f = cc
 
 -- words of a thing whose files have no names ask for nothing
 pub asked-unnamed : (words : List (List ℕ)) (o : Order Command)
-    → words ≡ with_options o.options (command_words o.command) → IsInTime o.command
+    → words ≡ with_options o.options (command_words o.command) → IsProper o.command
     → are_named (files_of o.command) ≡ false → AskForNothing objects_language words
 asked-unnamed words o e i n = λ p asked.
     let same = orders-once p o asked.2 i (sym asked.0 ∙ e) in

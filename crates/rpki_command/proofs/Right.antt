@@ -54,10 +54,10 @@ status_of (Complained text status) = status
 one : ◌≡◌ {A = ℕ} 1 0 → ⊥
 one e = omega (arith, e)
 
-two : ◌≡◌ {A = ℕ} 2 0 → ⊥
+pub two : ◌≡◌ {A = ℕ} 2 0 → ⊥
 two e = omega (arith, e)
 
-three : ◌≡◌ {A = ℕ} 3 0 → ⊥
+pub three : ◌≡◌ {A = ℕ} 3 0 → ⊥
 three e = omega (arith, e)
 
 -- a run that says this ends with its status, or with 2
@@ -148,7 +148,7 @@ module _ {X : Type 0} (causes : Causes) (kind : signed.ObjectKind X) (form : Lis
     yes-result (Err (Validation fault)) b (inr e) =
         absurd (other-status s (validation_refusal fault) 0 zero e (fault-is-none fault))
 
-    yes-as : IsCheckedAs causes kind form text mode digest verdict issuer now octets s
+    pub yes-as : IsCheckedAs causes kind form text mode digest verdict issuer now octets s
         → PrintsYes kind form text mode digest verdict issuer now octets run
     yes-as (inl e) = absurd (other-status s out_of_memory 0 zero e three)
     yes-as (inr c) = yes-result c.result c.exact c.said
@@ -189,7 +189,7 @@ module _ {X : Type 0} (causes : Causes) (kind : signed.ObjectKind X) (form : Lis
       holds = not-good b.object fault e b.holds;
     })
 
-    no-as : IsCheckedAs causes kind form text mode digest verdict issuer now octets s
+    pub no-as : IsCheckedAs causes kind form text mode digest verdict issuer now octets s
         → BeginsWithNoGood kind form mode digest verdict issuer now octets
     no-as (inl e) = absurd (no-memory e)
     no-as (inr c) = no-result c.result c.exact c.said

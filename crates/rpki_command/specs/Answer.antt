@@ -71,6 +71,7 @@ usage = Complained (codes "usage\n") 2
 -- how the program with signatures is called
 abbrev pub usage_text : List ℕ
 usage_text = codes "usage: rpki_verify [OPTION ..] check KIND FILE MOMENT TA [CA ..]\n"
+    ++ (codes "       rpki_verify [OPTION ..] walk FILE MOMENT TA [CA ..] with NAME=PATH ..\n"
     ++ (codes "       rpki_verify [OPTION ..] verdicts FILE TA [CA ..]\n"
     ++ (codes "       rpki_verify [OPTION ..] show KIND FILE\n"
     ++ (codes "       rpki_verify [OPTION ..] content KIND FILE\n"
@@ -78,7 +79,8 @@ usage_text = codes "usage: rpki_verify [OPTION ..] check KIND FILE MOMENT TA [CA
     ++ (codes "       rpki_verify --help\n"
     ++ (codes "OPTION, in this order: --relaxed --registered --wide\n"
     ++ (codes "KIND: aspa, manifest, roa or rsc\n"
-    ++ codes "MOMENT: now, or YYYYMMDDHHMMSSZ\n")))))))
+    ++ (codes "MOMENT: now, or YYYYMMDDHHMMSSZ\n"
+    ++ codes "CA of walk: any file but one named with\n")))))))))
 
 -- that program says how it is called
 abbrev pub help : Output

@@ -14,7 +14,8 @@ use Rattle.rpki_command.specs.Objects.{ObjectLinesOf}
 use Rattle.rpki_command.specs.Refusal.{IsMalformed}
 use Rattle.rpki_command.specs.Texts.Tal.{TalLines}
 use Rattle.rpki_command.specs.Store.{Told, Names, IsRead, AreRead}
-use Rattle.rpki_command.specs.Words.{command_words, files_of, IsInTime}
+use Rattle.rpki_command.specs.Walk.{WalkOf}
+use Rattle.rpki_command.specs.Words.{command_words, files_of, others_in, IsProper}
 use Rattle.rpki_command.specs.declared.contents.Causes.{Causes}
 use Rattle.rpki_command.specs.declared.contents.Causes.TheVariants.{Omitted}
 use Rattle.rpki_command.specs.declared.store.StoreError.{StoreError}
@@ -23,6 +24,7 @@ use Rattle.rpki_command.specs.declared.store.Unread.{Unread}
 use Rattle.rpki_command.specs.declared.store.Unread.TheVariants as reads
 use Rattle.rpki_command.specs.declared.words.Command.{Command}
 use Rattle.rpki_command.specs.declared.words.Command.TheVariants.{Content, Show, ShowTal, Check}
+use Rattle.rpki_command.specs.declared.words.Command.TheVariants.{Walk}
 use Rattle.rpki_command.specs.declared.words.Options.{Options}
 use Rattle.rpki_command.specs.declared.words.Order.{Order}
 
@@ -52,8 +54,8 @@ pub data Task : Type 1 where
   CheckFiles : (files : List (List ℕ)) (answers : List (List ℕ) → Output → Type 0) → Task
 
 -- What each command of the program with verdicts comes to with these options, where the causes of
--- refusals of what is shown are told, or not: the table of its commands. A check and a locator
--- tell none, and a locator is a text, of which no option speaks. Where a command is not built, the
+-- refusals of what is shown are told, or not: the table of its commands. A check, a walk and a
+-- locator tell none, and a locator is a text, of which no option speaks. Where a command is not built, the
 -- usage is said.
 abbrev pub command_task : Causes → Options → Command → Task
 command_task causes options (Content kind file) = ShowLines causes file (LinesOf options kind)
@@ -61,6 +63,8 @@ command_task causes options (Show kind file) = ShowLines causes file (ObjectLine
 command_task causes options (ShowTal file) = ShowLines Omitted file TalLines
 command_task causes options (Check kind file moment verdicts anchor chain) =
     CheckFiles (file ∷ verdicts ∷ anchor ∷ chain) (CheckOf options kind moment)
+command_task causes options (Walk file moment verdicts anchor tail) =
+    CheckFiles (file ∷ verdicts ∷ anchor ∷ others_in tail) (WalkOf options moment tail)
 command_task causes options other = Say usage
 
 -- A program: how its orders are written, what a command comes to with options, and what is said to
@@ -80,7 +84,7 @@ objects_language = record {
   Command = Command;
   words = command_words;
   files = files_of;
-  IsFit = IsInTime;
+  IsFit = IsProper;
 }
 
 -- the program with verdicts

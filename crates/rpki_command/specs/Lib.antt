@@ -13,5 +13,6 @@ pub mod Refusal
 pub mod Store
 pub mod Texts
 pub mod Verify
+pub mod Walk
 pub mod Words
 pub mod Yes

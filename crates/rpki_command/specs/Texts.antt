@@ -5,3 +5,4 @@ pub mod Object
 pub mod Roa
 pub mod Rsc
 pub mod Tal
+pub mod Walk

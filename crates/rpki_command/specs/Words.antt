@@ -1,6 +1,8 @@
 -- The command line: what options and commands are written as.
-use Rattle.std.specs.Prelude.{ℕ, List, [], ◌∷◌, ◌++◌, Bool, true, false, not, ◌&&◌, ◌==◌}
-use Rattle.std.specs.Prelude.{length, map, codes}
+use Rattle.std.specs.Prelude.{◌≡◌, ℕ, List, [], ◌∷◌, ◌++◌, Bool, true, false, not, ◌&&◌, ◌==◌}
+use Rattle.std.specs.Prelude.{length, map, codes, Contains}
+use Rattle.std.specs.List.{before_first, after_first}
+use Rattle.std.specs.Str.{bytes_eq}
 use Rattle.std.specs.Borrow.{Bor}
 use Rattle.rpki_basics.specs.Moment.{Moment, IsMoment}
 use Rattle.rpki_basics.specs.Time.Form.{generalized_text}
@@ -8,7 +10,7 @@ use Rattle.rpki_command.specs.declared.words.Kind.{Kind}
 use Rattle.rpki_command.specs.declared.words.Kind.TheVariants.{Aspa, Manifest, Roa, Rsc}
 use Rattle.rpki_command.specs.declared.words.Command.{Command}
 use Rattle.rpki_command.specs.declared.words.Command.TheVariants.{Content, ContentRta, Show}
-use Rattle.rpki_command.specs.declared.words.Command.TheVariants.{ShowRta, ShowTal, Check, Rta}
+use Rattle.rpki_command.specs.declared.words.Command.TheVariants.{ShowRta, ShowTal, Check, Walk, Rta}
 use Rattle.rpki_command.specs.declared.words.Options.{Options}
 
 -- the words as lists of octets
@@ -58,8 +60,51 @@ command_words (ShowRta file) = codes "show" ∷ codes "rta" ∷ file ∷ []
 command_words (ShowTal file) = codes "show" ∷ codes "tal" ∷ file ∷ []
 command_words (Check kind file moment verdicts anchor chain) =
     codes "check" ∷ kind_word kind ∷ file ∷ moment_word moment ∷ verdicts ∷ anchor ∷ chain
+command_words (Walk file moment verdicts anchor tail) =
+    codes "walk" ∷ file ∷ moment_word moment ∷ verdicts ∷ anchor ∷ tail
 command_words (Rta file moment verdicts anchor anchors) =
     codes "rta" ∷ file ∷ moment_word moment ∷ verdicts ∷ anchor ∷ anchors
+
+-- the word that ends the certificates of a walk
+abbrev pub word_with : List ℕ
+word_with = codes "with"
+
+-- whether a word is that one
+abbrev pub is_with : List ℕ → Bool
+is_with word = bytes_eq word word_with
+
+-- whether an octet is `=`
+abbrev pub is_equals : ℕ → Bool
+is_equals octet = octet == 61
+
+-- Of the words after a trust anchor, those of CAs: what stands before the first `with`.
+abbrev pub chain_in : List (List ℕ) → List (List ℕ)
+chain_in tail = before_first is_with tail
+
+-- Of the words after a trust anchor, the pairs NAME=PATH: what stands after the first `with`.
+abbrev pub pairs_in : List (List ℕ) → List (List ℕ)
+pairs_in tail = after_first is_with tail
+
+-- the name of a pair: what stands before its first `=`
+abbrev pub name_in : List ℕ → List ℕ
+name_in pair = before_first is_equals pair
+
+-- The file of a pair: what stands after its first `=`. Of a word without one the file has no name,
+-- so it is no pair that may be asked for.
+abbrev pub path_in : List ℕ → List ℕ
+path_in pair = after_first is_equals pair
+
+-- the names of the pairs, which are those that a manifest may have
+abbrev pub names_in : List (List ℕ) → List (List ℕ)
+names_in tail = map name_in (pairs_in tail)
+
+-- the files of the pairs
+abbrev pub paths_in : List (List ℕ) → List (List ℕ)
+paths_in tail = map path_in (pairs_in tail)
+
+-- the files that the words after a trust anchor name: those of CAs, and those of the pairs
+abbrev pub others_in : List (List ℕ) → List (List ℕ)
+others_in tail = chain_in tail ++ paths_in tail
 
 -- The files that are named by a word, in the order of the words; of an attestation, which is not
 -- built, without those of its anchors.
@@ -70,6 +115,7 @@ files_of (Show kind file) = file ∷ []
 files_of (ShowRta file) = file ∷ []
 files_of (ShowTal file) = file ∷ []
 files_of (Check kind file moment verdicts anchor chain) = file ∷ verdicts ∷ anchor ∷ chain
+files_of (Walk file moment verdicts anchor tail) = file ∷ verdicts ∷ anchor ∷ others_in tail
 files_of (Rta file moment verdicts anchor anchors) = file ∷ verdicts ∷ []
 
 -- whether each of these files has a name
@@ -77,8 +123,26 @@ abbrev pub are_named : List (List ℕ) → Bool
 are_named [] = true
 are_named (file ∷ files) = not (length file == 0) && are_named files
 
--- the moment of a command, where it has one, is one of the calendar (RFC 5280, section 4.1.2.5)
-abbrev pub IsInTime : Command → Type 0
-IsInTime (Check kind file moment verdicts anchor chain) = IsMoment moment
-IsInTime (Rta file moment verdicts anchor anchors) = IsMoment moment
-IsInTime other = Unit {0}
+-- A command is proper: its moment, where it has one, is one of the calendar (RFC 5280, section
+-- 4.1.2.5), and the words of a walk have a `with` after the trust anchor.
+abbrev pub IsProper : Command → Type 0
+IsProper (Check kind file moment verdicts anchor chain) = IsMoment moment
+IsProper (Walk file moment verdicts anchor tail) = IsMoment moment × Contains tail word_with
+IsProper (Rta file moment verdicts anchor anchors) = IsMoment moment
+IsProper other = Unit {0}
+
+-- words after the word `walk` ask for no walk
+abbrev pub AskForNoWalk : List (List ℕ) → Type 0
+AskForNoWalk words = (file : List ℕ) (moment : Moment) (verdicts anchor : List ℕ)
+    (tail : List (List ℕ)) → words ≡ file ∷ moment_word moment ∷ verdicts ∷ anchor ∷ tail
+    → IsMoment moment → Contains tail word_with → ⊥
+
+-- whether a command is a walk
+abbrev pub is_walk : Command → Bool
+is_walk (Walk file moment verdicts anchor tail) = true
+is_walk other = false
+
+-- the words ask for nothing but, perhaps, a walk
+abbrev pub AskForNothingElse : List (List ℕ) → Type 0
+AskForNothingElse words = (c : Command) → is_walk c ≡ false → words ≡ command_words c
+    → IsProper c → ⊥

@@ -4,12 +4,16 @@ use Rattle.sha2.specs.Sha256.{sha256}
 use Rattle.rpki_der.specs.Form.Decodes.{IsOnlyFront}
 use Rattle.rpki_der.specs.Grammar.{HasNoFront}
 use Rattle.rpki_der.specs.declared.mode.Mode.{Mode}
+use Rattle.rpki_der.specs.declared.mode.Mode.TheVariants.{Der}
 use Rattle.rpki_basics.specs.Moment.{Moment}
 use Rattle.rpki_certs.specs.Validate.{Validated}
 use Rattle.rpki_certs.specs.Verify.{Verdict}
 use Rattle.rpki_certs.specs.Issuer.{MakesIssuer}
 use Rattle.rpki_certs.specs.declared.issuer.IssuerError.{IssuerError}
+use Rattle.rpki_files.specs.Manifest.{ManifestForm}
+use Rattle.rpki_files.specs.Manifest.Checks.{manifest_kind}
 use Rattle.rpki_signed.specs.Check.{BeginsWith}
+use Rattle.rpki_signed.specs.Walk.{AtHand}
 use Rattle.rpki_sigobj.specs.Verify.{Digester}
 use Rattle.rpki_sigobj.specs.Signed.Good.{IsGood}
 use Rattle.rpki_sigobj.specs.Signed.Kind as signed
@@ -19,7 +23,8 @@ use Rattle.rpki_verdicts.specs.Verdicts.{AreVerdicts}
 use Rattle.rpki_command.specs.Answer.{Run, IsWhole, out_of_memory}
 use Rattle.rpki_command.specs.Check.{yes_line, issuer_refusal}
 use Rattle.rpki_command.specs.Kinds.{OfKind}
-use Rattle.rpki_command.specs.Options.{read_mode}
+use Rattle.rpki_command.specs.Options.{manifest_rule, read_mode}
+use Rattle.rpki_command.specs.Texts.Walk.{held_text}
 use Rattle.rpki_command.specs.declared.words.Command.{Command}
 use Rattle.rpki_command.specs.declared.words.Command.TheVariants as commands
 use Rattle.rpki_command.specs.declared.words.Kind.{Kind}
@@ -48,6 +53,14 @@ check_order options kind now verdicts names = record {
   command = commands.Check kind names.object now verdicts names.anchor names.chain;
 }
 
+-- the order to check the manifest in the file of the first name in the same way, and to say which
+-- of its entries the files at hand hold; the last words are those after the trust anchor
+abbrev pub walk_order : Options → Moment → List ℕ → List ℕ → List ℕ → List (List ℕ) → Order Command
+walk_order options now object verdicts anchor tail = record {
+  options = options;
+  command = commands.Walk object now verdicts anchor tail;
+}
+
 -- The octets begin with a good object under this issuer, and the run prints yes and the lines of
 -- its content, whole, and nothing else.
 pub record PrintsYes {X : Type 0} (kind : signed.ObjectKind X) (form : List ℕ → X → Type 0)
@@ -70,6 +83,16 @@ pub record IsRightYes (options : Options) (kind : Kind) (verdict : Verdict) (now
   pub made : MakesIssuer verdict now files.anchor files.chain (Ok issuer)
   pub yes : OfKind options kind (λ X asked form text. PrintsYes asked form text (read_mode options)
       sha256 verdict issuer now files.object run)
+
+-- A yes of a walk is right by a verdict: the certificates make an issuer, under which the manifest
+-- is good at this moment, and the run prints yes and a line for each entry that the files at hand
+-- hold, and nothing else.
+pub record IsRightWalk (options : Options) (verdict : Verdict) (now : Moment) (files : FilesOfCheck)
+    (hand : List AtHand) (run : Run) : Type 0 where
+  pub issuer : Validated
+  pub made : MakesIssuer verdict now files.anchor files.chain (Ok issuer)
+  pub yes : PrintsYes manifest_kind (ManifestForm (manifest_rule options) Der)
+      (held_text sha256 hand) (read_mode options) sha256 verdict issuer now files.object run
 
 -- The octets begin with no object of the kind, or with one that is not good under this issuer.
 abbrev pub BeginsWithNoGood : {X : Type 0} → signed.ObjectKind X → (List ℕ → X → Type 0) → Mode

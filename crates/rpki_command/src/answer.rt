@@ -15,6 +15,7 @@ const MALFORMED: &[u8] = b"malformed";
 
 /// How the program with signatures is called, but for the end of the last line.
 const USAGE: &[u8] = b"usage: rpki_verify [OPTION ..] check KIND FILE MOMENT TA [CA ..]
+       rpki_verify [OPTION ..] walk FILE MOMENT TA [CA ..] with NAME=PATH ..
        rpki_verify [OPTION ..] verdicts FILE TA [CA ..]
        rpki_verify [OPTION ..] show KIND FILE
        rpki_verify [OPTION ..] content KIND FILE
@@ -22,7 +23,8 @@ const USAGE: &[u8] = b"usage: rpki_verify [OPTION ..] check KIND FILE MOMENT TA 
        rpki_verify --help
 OPTION, in this order: --relaxed --registered --wide
 KIND: aspa, manifest, roa or rsc
-MOMENT: now, or YYYYMMDDHHMMSSZ";
+MOMENT: now, or YYYYMMDDHHMMSSZ
+CA of walk: any file but one named with";
 
 /// What stands in front of it after wrong words.
 const WRONG: &[u8] = b"wrong words, expected:\n";

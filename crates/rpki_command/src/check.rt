@@ -32,7 +32,7 @@ use std::alloc::{AllocError, Global};
 use std::fmt::Write;
 
 /// What is said of a certificate where nobody asks whether it was revoked.
-fn pass(_cert: &Cert) -> Result<(), ValidationError>
+pub fn pass(_cert: &Cert) -> Result<(), ValidationError>
     ensures { result ≡ Ok tt }
 {
     Ok(())
@@ -49,7 +49,7 @@ pub struct CheckByList {
 }
 
 impl Work for CheckByList {
-    ghost least = { 3 };
+    ghost least = { λ _. 3 };
 
     ghost says = { λ c. CheckOf c.options c.kind c.moment };
 
@@ -154,7 +154,7 @@ impl<'s, K: Crypto> Action for CheckObject<'s, K> {
 
 /// Whether the octets begin with a good object, where it is known what is said of a certificate:
 /// that it was not revoked.
-fn check_passed<C: Lines, K: Crypto, F: FnOnce(&Cert) -> Result<(), ValidationError>>(
+pub fn check_passed<C: Lines, K: Crypto, F: FnOnce(&Cert) -> Result<(), ValidationError>>(
     alloc: Global,
     options: Options,
     octets: Bytes,
@@ -216,7 +216,7 @@ fn push_yes<C: Lines>(text: &mut String, content: &C) -> Result<(), AllocError>
 }
 
 /// The answer where an object is refused for this fault.
-fn refused<'a>(alloc: Global, error: ValidationError) -> Answer<'a>
+pub fn refused<'a>(alloc: Global, error: ValidationError) -> Answer<'a>
     ensures { IsRefused error (said result) }
 {
     match error {
@@ -231,7 +231,7 @@ fn refused<'a>(alloc: Global, error: ValidationError) -> Answer<'a>
 }
 
 /// The answer where certificates make no issuer for this fault.
-fn refused_issuer<'a>(alloc: Global, error: IssuerError) -> Answer<'a>
+pub fn refused_issuer<'a>(alloc: Global, error: IssuerError) -> Answer<'a>
     ensures { IsIssuerRefused error (said result) }
 {
     match error {

@@ -1,6 +1,7 @@
 //! What the definitions say, as functions that do nothing.
 
-ghost use Rattle.std.specs.Prelude.{◌≡◌, ℕ, List, true};
+ghost use Rattle.std.specs.Prelude.{◌≡◌, ◌∷◌, ℕ, List, true};
+ghost use Rattle.std.specs.List.{zip};
 ghost use Rattle.rpki_basics.specs.Moment.{Moment};
 ghost use Rattle.rpki_files.specs.Checked.{is_portable_name};
 ghost use Rattle.rpki_files.specs.Name.{IsFileName};
@@ -9,10 +10,13 @@ ghost use Rattle.rpki_command.specs.Command.{AreTold, IsRunOf, objects_language,
 ghost use Rattle.rpki_command.specs.Ia5.{ia5_text};
 ghost use Rattle.rpki_command.specs.Language.{IsAsked};
 ghost use Rattle.rpki_command.specs.Store.{Told};
-ghost use Rattle.rpki_command.specs.Yes.{FilesOfCheck, in_order_with, check_order};
+ghost use Rattle.rpki_command.specs.Words.{chain_in, names_in, paths_in};
+ghost use Rattle.rpki_command.specs.Yes.{FilesOfCheck, in_order_with, check_order, walk_order};
+ghost use Rattle.rpki_command.specs.Yes.{IsRightWalk};
 ghost use Rattle.rpki_command.specs.Yes.{IsRightYes, IsRightNo, HoldsByList};
 ghost use Rattle.rpki_command.specs.declared.words.Command.{Command};
 ghost use Rattle.rpki_command.specs.declared.words.Kind.{Kind};
+ghost use Rattle.rpki_command.specs.declared.words.Kind.TheVariants.{Manifest};
 ghost use Rattle.rpki_command.specs.declared.words.Options.{Options};
 ghost use Rattle.rpki_command.specs.declared.words.Order.{Order};
 
@@ -48,4 +52,29 @@ pub fn checks_are_right()
         → IsAsked objects_language words (check_order options kind now list names)
         → AreTold told (in_order_with list names) (in_order_with text files) → run.status ≡ 1
         → HoldsByList (λ verdict. IsRightNo options kind verdict now files) text }
+{}
+
+/// Where a store tells the files of a walk, a run of it that ends with status 0 says yes and which
+/// entries are held, and that rightly: FILE begins with a good manifest under the issuer that the
+/// certificates make by the verdicts, at this moment, and a line is printed for each of its entries
+/// that the files at hand hold, and for no other. Where a run ends with status 1, a check of the
+/// manifest is right to do so: they make no issuer, or FILE begins with no good manifest under it.
+pub fn walks_are_right()
+    ensures yes { (told : Told) (words : List (List ℕ)) (before after : List (List ℕ)) (run : Run)
+        (options : Options) (now : Moment) (object list anchor : List ℕ) (tail : List (List ℕ))
+        (files : FilesOfCheck) (text : List ℕ) (octets : List (List ℕ))
+        → IsRunOf objects_program told words before after run
+        → IsAsked objects_language words (walk_order options now object list anchor tail)
+        → AreTold told (object ∷ list ∷ anchor ∷ chain_in tail) (in_order_with text files)
+        → AreTold told (paths_in tail) octets → run.status ≡ 0
+        → HoldsByList (λ verdict. IsRightWalk options verdict now files
+        (zip (names_in tail) octets) run) text }
+    ensures no { (told : Told) (words : List (List ℕ)) (before after : List (List ℕ)) (run : Run)
+        (options : Options) (now : Moment) (object list anchor : List ℕ) (tail : List (List ℕ))
+        (files : FilesOfCheck) (text : List ℕ) (octets : List (List ℕ))
+        → IsRunOf objects_program told words before after run
+        → IsAsked objects_language words (walk_order options now object list anchor tail)
+        → AreTold told (object ∷ list ∷ anchor ∷ chain_in tail) (in_order_with text files)
+        → AreTold told (paths_in tail) octets → run.status ≡ 1
+        → HoldsByList (λ verdict. IsRightNo options Manifest verdict now files) text }
 {}

@@ -14,16 +14,17 @@ ghost use Rattle.rpki_command.specs.declared.contents.Causes.TheVariants.{Omitte
 use crate::answer::Answer;
 use crate::check::CheckByList;
 use crate::contents::{Causes, show_kind};
-use crate::files::answer_files;
+use crate::files::{answer_files, answer_tail};
 use crate::locator::show_tal;
 use crate::objects::show_object;
 use crate::runs::Program;
 use crate::store::{Store, StoreError};
+use crate::walk::WalkByList;
 use crate::words::{Command, Kind, Options, Order, parse};
 use std::alloc::Global;
 
-/// The program with verdicts, `rpki_objects`: it shows contents, objects and locators, and checks
-/// objects by a list of verdicts.
+/// The program with verdicts, `rpki_objects`: it shows contents, objects and locators, checks
+/// objects by a list of verdicts, and tells which files a manifest holds.
 #[derive(Clone, Copy, Debug)]
 pub struct Objects;
 
@@ -95,6 +96,21 @@ pub fn answer_order<'a, S: Store>(
             };
             let first = [file.0, verdicts.0, anchor.0];
             answer_files(alloc, check, &first, chain.0, store)
+        }
+        Command::Walk {
+            file,
+            moment,
+            verdicts,
+            anchor,
+            tail,
+        } => {
+            let walk = WalkByList {
+                options,
+                moment: *moment,
+                tail: tail.0,
+            };
+            let before = [file.0, verdicts.0, anchor.0];
+            answer_tail(alloc, walk, &before, tail.0, store)
         }
         Command::Rta { .. } => Answer::Usage,
     }

@@ -8,3 +8,4 @@ pub mod object;
 pub mod roa;
 pub mod rsc;
 pub mod tal;
+pub mod walk;

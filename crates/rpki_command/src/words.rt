@@ -1,17 +1,18 @@
 //! What the program is asked.
 
-ghost use Rattle.std.specs.Prelude.{◌≡◌, ◌++◌, Bool, MatchOption};
+ghost use Rattle.std.specs.Prelude.{◌≡◌, ◌∷◌, ◌++◌, Bool, MatchOption, codes};
 ghost use Rattle.rpki_basics.specs.Moment.{Moment, IsMoment};
 ghost use Rattle.rpki_command.specs.Options.{provider_limit, manifest_rule};
 ghost use Rattle.rpki_command.specs.Command.{objects_language};
 ghost use Rattle.rpki_command.specs.Language.{IsAsked, AskForNothing};
 ghost use Rattle.rpki_command.specs.Words.{texts, kind_word, word_if, word_registered, word_wide};
 ghost use Rattle.rpki_command.specs.Words.{with_options, command_words, files_of, are_named};
-ghost use Rattle.rpki_command.specs.Words.{moment_word, IsInTime};
+ghost use Rattle.rpki_command.specs.Words.{moment_word, IsProper, AskForNoWalk, AskForNothingElse};
 ghost use Rattle.rpki_command.specs.declared.words.Kind.{Kind};
 ghost use Rattle.rpki_command.specs.declared.words.Command.{Command};
 ghost use Rattle.rpki_command.specs.declared.words.Order.{Order};
 
+use crate::pairs::{are_others_named, has_with};
 use rpki_basics::{ManifestRule, ProviderLimit, Time};
 use std::marker::Model;
 
@@ -86,6 +87,15 @@ pub enum Command<'a> {
         verdicts: Word<'a>,
         anchor: Word<'a>,
         chain: Words<'a>,
+    },
+    /// To check a manifest in the same way, and to say which of its entries files at hand hold. The
+    /// words after the trust anchor are the certificates of CAs, `with`, and pairs NAME=PATH.
+    Walk {
+        file: Word<'a>,
+        moment: Time,
+        verdicts: Word<'a>,
+        anchor: Word<'a>,
+        tail: Words<'a>,
     },
     /// To check a Resource Tagged Attestation under these anchors.
     Rta {
@@ -174,6 +184,18 @@ pub fn each_named(command: &Command<'_>) -> bool
                 && !anchor.0.is_empty()
                 && all_named(chain.0)
         }
+        Command::Walk {
+            file,
+            verdicts,
+            anchor,
+            tail,
+            ..
+        } => {
+            !file.0.is_empty()
+                && !verdicts.0.is_empty()
+                && !anchor.0.is_empty()
+                && are_others_named(tail.0)
+        }
         Command::Rta { file, verdicts, .. } => !file.0.is_empty() && !verdicts.0.is_empty(),
     }
 }
@@ -194,9 +216,9 @@ pub fn all_named(files: &[&str]) -> bool
 fn parse_relaxed<'a>(words: &'a [&'a str]) -> Option<Order<Command<'a>>>
     ensures { MatchOption result
         ((o : Order Command) → texts words.now ≡ with_options o.options (command_words o.command)
-        → IsInTime o.command → ⊥)
+        → IsProper o.command → ⊥)
         (λ o. (texts words.now ≡ with_options o.options (command_words o.command))
-        × IsInTime o.command) }
+        × IsProper o.command) }
 {
     match words {
         ["--relaxed", rest @ ..] => parse_registered(true, rest),
@@ -209,11 +231,11 @@ fn parse_registered<'a>(relaxed: bool, words: &'a [&'a str]) -> Option<Order<Com
     ensures { MatchOption result
         ((registered wide : Bool) (c : Command)
         → texts words.now ≡ word_if registered word_registered
-        ++ (word_if wide word_wide ++ command_words c) → IsInTime c → ⊥)
+        ++ (word_if wide word_wide ++ command_words c) → IsProper c → ⊥)
         (λ o. (o.options.relaxed ≡ relaxed)
         × (texts words.now ≡ word_if o.options.registered word_registered
         ++ (word_if o.options.wide word_wide ++ command_words o.command))
-        × IsInTime o.command) }
+        × IsProper o.command) }
 {
     match words {
         ["--registered", rest @ ..] => parse_wide(relaxed, true, rest),
@@ -229,10 +251,10 @@ fn parse_wide<'a>(
 ) -> Option<Order<Command<'a>>>
     ensures { MatchOption result
         ((wide : Bool) (c : Command) → texts words.now ≡ word_if wide word_wide ++ command_words c
-        → IsInTime c → ⊥)
+        → IsProper c → ⊥)
         (λ o. (o.options.relaxed ≡ relaxed) × (o.options.registered ≡ registered)
         × (texts words.now ≡ word_if o.options.wide word_wide ++ command_words o.command)
-        × IsInTime o.command) }
+        × IsProper o.command) }
 {
     match words {
         ["--wide", rest @ ..] => Some(Order {
@@ -255,10 +277,22 @@ fn parse_wide<'a>(
 }
 
 /// The command of words without options.
+#[tactic(auto, using(crate::proofs::Orders::by_first_word))]
 pub fn parse_command<'a>(words: &'a [&'a str]) -> Option<Command<'a>>
     ensures { MatchOption result
-        ((c : Command) → texts words.now ≡ command_words c → IsInTime c → ⊥)
-        (λ c. (texts words.now ≡ command_words c) × IsInTime c) }
+        ((c : Command) → texts words.now ≡ command_words c → IsProper c → ⊥)
+        (λ c. (texts words.now ≡ command_words c) × IsProper c) }
+{
+    match words {
+        ["walk", rest @ ..] => parse_walk(rest),
+        _ => parse_other(words),
+    }
+}
+
+/// The command of words that don't ask for a walk.
+fn parse_other<'a>(words: &'a [&'a str]) -> Option<Command<'a>>
+    ensures { MatchOption result (AskForNothingElse (texts words.now))
+        (λ c. (texts words.now ≡ command_words c) × IsProper c) }
 {
     match words {
         ["content", "rta", file] => Some(Command::ContentRta { file: Word(file) }),
@@ -287,6 +321,30 @@ pub fn parse_command<'a>(words: &'a [&'a str]) -> Option<Command<'a>>
             anchor: Word(anchor),
             anchors: Words(anchors),
         }),
+        _ => None,
+    }
+}
+
+/// The walk that these words ask for, after the first.
+fn parse_walk<'a>(words: &'a [&'a str]) -> Option<Command<'a>>
+    ensures { MatchOption result (AskForNoWalk (texts words.now))
+        (λ c. (codes "walk" ∷ texts words.now ≡ command_words c) × IsProper c) }
+{
+    match words {
+        [file, moment, verdicts, anchor, tail @ ..] => {
+            let moment = moment_of(moment)?;
+            if has_with(tail) {
+                Some(Command::Walk {
+                    file: Word(file),
+                    moment,
+                    verdicts: Word(verdicts),
+                    anchor: Word(anchor),
+                    tail: Words(tail),
+                })
+            } else {
+                None
+            }
+        }
         _ => None,
     }
 }

@@ -9,3 +9,4 @@ mod given;
 mod octets;
 mod runs;
 mod verdicts;
+mod walks;

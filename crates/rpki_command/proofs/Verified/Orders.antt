@@ -6,7 +6,7 @@ use Rattle.rpki_basics.specs.Moment.{Moment, IsMoment}
 use Rattle.rpki_basics.specs.Time.Read.{generalized_of, pair_at}
 use Rattle.rpki_basics.proofs.Times.Exact.{exact-generalized}
 use Rattle.rpki_command.specs.Language.{IsAsked, AskForNothing}
-use Rattle.rpki_command.specs.Words.{kind_word, moment_word, command_words, are_named, IsInTime}
+use Rattle.rpki_command.specs.Words.{kind_word, moment_word, command_words, are_named, IsProper}
 use Rattle.rpki_command.specs.Words.{word_relaxed, word_registered, word_wide}
 use Rattle.rpki_command.specs.declared.words.Command.{Command}
 use Rattle.rpki_command.specs.declared.words.Command.TheVariants as commands
@@ -18,10 +18,11 @@ use Rattle.rpki_command.proofs.Orders.{moments-once}
 use Rattle.rpki_command.specs.Verify.Words.{when_word, IsWhen, is_shared, verify_words, files_in}
 use Rattle.rpki_command.specs.Verify.Words.{IsFit, verify_language, IsPlain}
 use Rattle.rpki_command.specs.Verify.Words.{AskForNoCheck, AskForNoList, AskForNothingShared}
+use Rattle.rpki_command.specs.Verify.Words.{AskForNoWalk, AskForNothingElse, is_walk}
 use Rattle.rpki_command.specs.Verify.Words.{IsSharedBy, IsOptioned}
 use Rattle.rpki_command.specs.declared.verify.words.VerifyCommand.{VerifyCommand}
 use Rattle.rpki_command.specs.declared.verify.words.VerifyCommand.TheVariants.{Help, Shared, Check}
-use Rattle.rpki_command.specs.declared.verify.words.VerifyCommand.TheVariants.{Verdicts}
+use Rattle.rpki_command.specs.declared.verify.words.VerifyCommand.TheVariants.{Verdicts, Walk}
 use Rattle.rpki_command.specs.declared.verify.words.When.{When}
 use Rattle.rpki_command.specs.declared.verify.words.When.TheVariants.{Now, At}
 use Rattle.rpki_command.proofs.Verified.Optioned.{options-once}
@@ -44,13 +45,14 @@ when-once (At m) (At n) i j e = ap (λ (x : Moment). At x) (moments-once m n i j
 kind-once : (a b : Kind) → kind_word a ≡ kind_word b → a ≡ b
 kind-once a b e = search rules
 
-shared-in-time : (c : Command) → IsTrue (is_shared c) → IsInTime c
+shared-in-time : (c : Command) → IsTrue (is_shared c) → IsProper c
 shared-in-time (commands.Content kind file) s = tt
 shared-in-time (commands.Show kind file) s = tt
 shared-in-time (commands.ShowTal file) s = tt
 shared-in-time (commands.ContentRta file) s = absurd cc
 shared-in-time (commands.ShowRta file) s = absurd cc
 shared-in-time (commands.Check kind file moment verdicts anchor chain) s = absurd cc
+shared-in-time (commands.Walk file moment verdicts anchor tail) s = absurd cc
 shared-in-time (commands.Rta file moment verdicts anchor anchors) s = absurd cc
 
 not-help : (c : Command) (rest : List (List ℕ)) → command_words c ≡ codes "--help" ∷ rest → ⊥
@@ -71,6 +73,15 @@ help-not-list rest e = search rules
 check-not-list : (rest tail : List (List ℕ)) → codes "verdicts" ∷ rest ≡ codes "check" ∷ tail → ⊥
 check-not-list rest tail e = search rules
 
+help-not-walk : (rest : List (List ℕ)) → codes "walk" ∷ rest ≡ codes "--help" ∷ [] → ⊥
+help-not-walk rest e = search rules
+
+check-not-walk : (rest tail : List (List ℕ)) → codes "walk" ∷ rest ≡ codes "check" ∷ tail → ⊥
+check-not-walk rest tail e = search rules
+
+list-not-walk : (rest tail : List (List ℕ)) → codes "walk" ∷ rest ≡ codes "verdicts" ∷ tail → ⊥
+list-not-walk rest tail e = search rules
+
 not-list : (c : Command) (rest : List (List ℕ)) → command_words c ≡ codes "verdicts" ∷ rest → ⊥
 not-list c rest e = search rules
 
@@ -78,6 +89,10 @@ not-list c rest e = search rules
 not-check : (c : Command) (rest : List (List ℕ)) → IsTrue (is_shared c)
     → command_words c ≡ codes "check" ∷ rest → ⊥
 not-check c rest s e = search rules
+
+not-walk : (c : Command) (rest : List (List ℕ)) → IsTrue (is_shared c)
+    → command_words c ≡ codes "walk" ∷ rest → ⊥
+not-walk c rest s e = search rules
 
 checks-same : (k l : Kind) (f g : List ℕ) (v w : When) (a b : List ℕ) (c d : List (List ℕ))
     → k ≡ l → f ≡ g → v ≡ w → a ≡ b → c ≡ d → Check k f v a c ≡ Check l g w b d
@@ -87,18 +102,24 @@ lists-same : (f g a b : List ℕ) (c d : List (List ℕ)) → f ≡ g → a ≡ 
     → Verdicts f a c ≡ Verdicts g b d
 lists-same f g a b c d p q r = cc
 
+walks-same : (f g : List ℕ) (v w : When) (a b : List ℕ) (c d : List (List ℕ)) → f ≡ g → v ≡ w
+    → a ≡ b → c ≡ d → Walk f v a c ≡ Walk g w b d
+walks-same f g v w a b c d p q r s = cc
+
 pub commands-once : (a b : VerifyCommand) → IsFit a → IsFit b → verify_words a ≡ verify_words b → a
     ≡ b
 commands-once Help Help i j e = refl
 commands-once Help (Shared c) i j e = absurd (not-help c _ (sym e))
 commands-once Help (Check k f m a c) i j e = absurd (help-first _ (sym e))
 commands-once Help (Verdicts f a c) i j e = absurd (help-not-list _ (sym e))
+commands-once Help (Walk f m a t) i j e = absurd (help-not-walk _ (sym e))
 commands-once (Shared c) Help i j e = absurd (not-help c _ e)
 commands-once (Shared c) (Shared d) i j e =
     ap (λ (x : Command). Shared x)
     (shown.commands-once c d (shared-in-time c i) (shared-in-time d j) e)
 commands-once (Shared c) (Check k f m a d) i j e = absurd (not-check c _ i e)
 commands-once (Shared c) (Verdicts f a d) i j e = absurd (not-list c _ e)
+commands-once (Shared c) (Walk f m a t) i j e = absurd (not-walk c _ i e)
 commands-once (Check k f m a c) Help i j e = absurd (help-first _ e)
 commands-once (Check k f m a c) (Shared d) i j e = absurd (not-check d _ j (sym e))
 commands-once (Check k f m a c) (Check l g n b d) i j e =
@@ -109,6 +130,7 @@ commands-once (Check k f m a c) (Check l g n b d) i j e =
     let t : c ≡ d = cc in
     checks-same k l f g m n a b c d (kind-once k l p) r (when-once m n i j q) s t
 commands-once (Check k f m a c) (Verdicts g b d) i j e = absurd (check-not-list _ _ (sym e))
+commands-once (Check k f m a c) (Walk g n b t) i j e = absurd (check-not-walk _ _ (sym e))
 commands-once (Verdicts f a c) Help i j e = absurd (help-not-list _ e)
 commands-once (Verdicts f a c) (Shared d) i j e = absurd (not-list d _ (sym e))
 commands-once (Verdicts f a c) (Check k g m b d) i j e = absurd (check-not-list _ _ e)
@@ -117,6 +139,17 @@ commands-once (Verdicts f a c) (Verdicts g b d) i j e =
     let q : a ≡ b = cc in
     let r : c ≡ d = cc in
     lists-same f g a b c d p q r
+commands-once (Verdicts f a c) (Walk g m b t) i j e = absurd (list-not-walk _ _ (sym e))
+commands-once (Walk f m a t) Help i j e = absurd (help-not-walk _ e)
+commands-once (Walk f m a t) (Shared d) i j e = absurd (not-walk d _ j (sym e))
+commands-once (Walk f m a t) (Check k g n b d) i j e = absurd (check-not-walk _ _ e)
+commands-once (Walk f m a t) (Verdicts g b d) i j e = absurd (list-not-walk _ _ e)
+commands-once (Walk f m a t) (Walk g n b u) i j e =
+    let p : f ≡ g = cc in
+    let q : when_word m ≡ when_word n = cc in
+    let r : a ≡ b = cc in
+    let s : t ≡ u = cc in
+    walks-same f g m n a b t u p (when-once m n i.0 j.0 q) r s
 
 relaxed-not : (c : Command) (rest : List (List ℕ)) → command_words c ≡ word_relaxed ∷ rest → ⊥
 relaxed-not c rest e = search rules
@@ -157,6 +190,15 @@ list-registered words rest e = search rules
 list-wide : (words rest : List (List ℕ)) → codes "verdicts" ∷ words ≡ word_wide ∷ rest → ⊥
 list-wide words rest e = search rules
 
+walk-relaxed : (words rest : List (List ℕ)) → codes "walk" ∷ words ≡ word_relaxed ∷ rest → ⊥
+walk-relaxed words rest e = search rules
+
+walk-registered : (words rest : List (List ℕ)) → codes "walk" ∷ words ≡ word_registered ∷ rest → ⊥
+walk-registered words rest e = search rules
+
+walk-wide : (words rest : List (List ℕ)) → codes "walk" ∷ words ≡ word_wide ∷ rest → ⊥
+walk-wide words rest e = search rules
+
 -- the words of a command begin with no option
 pub commands-plain : (a : VerifyCommand) → IsPlain (verify_words a)
 commands-plain Help = record {
@@ -178,6 +220,11 @@ commands-plain (Verdicts f a c) = record {
   relaxed = list-relaxed _;
   registered = list-registered _;
   wide = list-wide _;
+}
+commands-plain (Walk f m a t) = record {
+  relaxed = walk-relaxed _;
+  registered = walk-registered _;
+  wide = walk-wide _;
 }
 
 abbrev made : Options → VerifyCommand → Order VerifyCommand
@@ -218,11 +265,11 @@ pub ruleset by_commands = (none_asked, unnamed_asked)
 -- ---- by the first word
 
 pub shared_none : (words : List (List ℕ))
-    → ((c : Command) → words ≡ command_words c → IsInTime c → ⊥) → AskForNothingShared words
+    → ((c : Command) → words ≡ command_words c → IsProper c → ⊥) → AskForNothingShared words
 shared_none words n = λ c e s. n c e (shared-in-time c s)
 
 -- words of a command that shows nothing do not ask to show what a file holds
-pub shared_other : (words : List (List ℕ)) (d : Command) → words ≡ command_words d → IsInTime d
+pub shared_other : (words : List (List ℕ)) (d : Command) → words ≡ command_words d → IsProper d
     → is_shared d ≡ false → AskForNothingShared words
 shared_other words d e i f = λ c g s.
     let same = shown.commands-once c d (shared-in-time c s) i (sym g ∙ e) in
@@ -236,6 +283,7 @@ check_none words rest w n Help e i = help-first rest (sym w ∙ e)
 check_none words rest w n (Shared c) e i = not-check c rest i (sym e ∙ w)
 check_none words rest w n (Check k f m a c) e i = n k f m a c (rest-same (sym w ∙ e)) i
 check_none words rest w n (Verdicts f a c) e i = check-not-list _ rest (sym e ∙ w)
+check_none words rest w n (Walk f m a t) e i = check-not-walk _ rest (sym e ∙ w)
 
 pub list_none : (words rest : List (List ℕ)) → words ≡ codes "verdicts" ∷ rest
     → AskForNoList rest → (a : VerifyCommand) → words ≡ verify_words a → IsFit a → ⊥
@@ -243,34 +291,69 @@ list_none words rest w n Help e i = help-not-list rest (sym w ∙ e)
 list_none words rest w n (Shared c) e i = not-list c rest (sym e ∙ w)
 list_none words rest w n (Check k f m a c) e i = check-not-list rest _ (sym w ∙ e)
 list_none words rest w n (Verdicts f a c) e i = n f a c (rest-same (sym w ∙ e))
+list_none words rest w n (Walk f m a t) e i = list-not-walk _ rest (sym e ∙ w)
+
+pub walk_none : (words rest : List (List ℕ)) → words ≡ codes "walk" ∷ rest → AskForNoWalk rest
+    → (a : VerifyCommand) → words ≡ verify_words a → IsFit a → ⊥
+walk_none words rest w n Help e i = help-not-walk rest (sym w ∙ e)
+walk_none words rest w n (Shared c) e i = not-walk c rest i (sym e ∙ w)
+walk_none words rest w n (Check k f m a c) e i = check-not-walk rest _ (sym w ∙ e)
+walk_none words rest w n (Verdicts f a c) e i = list-not-walk rest _ (sym w ∙ e)
+walk_none words rest w n (Walk f m a t) e i = n f m a t (rest-same (sym w ∙ e)) i.0 i.1
 
 pub check_of : (words rest : List (List ℕ)) (r : Option VerifyCommand) → words ≡ codes "check"
     ∷ rest
     → MatchOption r (AskForNoCheck rest)
     (λ a. (codes "check" ∷ rest ≡ verify_words a) × IsFit a)
-    → MatchOption r ((a : VerifyCommand) → words ≡ verify_words a → IsFit a → ⊥)
-    (λ a. (words ≡ verify_words a) × IsFit a)
-check_of words rest None w n = check_none words rest w n
+    → MatchOption r (AskForNothingElse words) (λ a. (words ≡ verify_words a) × IsFit a)
+check_of words rest None w n = λ a f. check_none words rest w n a
 check_of words rest (Some a) w h = (w ∙ h.0, h.1)
 
 pub list_of : (words rest : List (List ℕ)) (r : Option VerifyCommand) → words ≡ codes "verdicts"
     ∷ rest
     → MatchOption r (AskForNoList rest)
     (λ a. (codes "verdicts" ∷ rest ≡ verify_words a) × IsFit a)
-    → MatchOption r ((a : VerifyCommand) → words ≡ verify_words a → IsFit a → ⊥)
-    (λ a. (words ≡ verify_words a) × IsFit a)
-list_of words rest None w n = list_none words rest w n
+    → MatchOption r (AskForNothingElse words) (λ a. (words ≡ verify_words a) × IsFit a)
+list_of words rest None w n = λ a f. list_none words rest w n a
 list_of words rest (Some a) w h = (w ∙ h.0, h.1)
 
 -- words that begin with no word of this program's own
 pub other_none : (words : List (List ℕ)) → (words ≡ codes "--help" ∷ [] → ⊥)
     → ((rest : List (List ℕ)) → words ≡ codes "check" ∷ rest → ⊥)
     → ((rest : List (List ℕ)) → words ≡ codes "verdicts" ∷ rest → ⊥)
-    → AskForNothingShared words → (a : VerifyCommand) → words ≡ verify_words a → IsFit a → ⊥
-other_none words h k v n Help e i = h e
-other_none words h k v n (Shared c) e i = n c e i
-other_none words h k v n (Check d f m a c) e i = k _ e
-other_none words h k v n (Verdicts f a c) e i = v _ e
+    → AskForNothingShared words → (a : VerifyCommand) → is_walk a ≡ false → words ≡ verify_words a
+    → IsFit a → ⊥
+other_none words h k v n Help f e i = h e
+other_none words h k v n (Shared c) f e i = n c e i
+other_none words h k v n (Check d g m a c) f e i = k _ e
+other_none words h k v n (Verdicts g a c) f e i = v _ e
+other_none words h k v n (Walk g m a t) f e i = absurd cc
+
+pub walk_of : (words rest : List (List ℕ)) (r : Option VerifyCommand) → words ≡ codes "walk" ∷ rest
+    → MatchOption r (AskForNoWalk rest)
+    (λ a. (codes "walk" ∷ rest ≡ verify_words a) × IsFit a)
+    → MatchOption r ((a : VerifyCommand) → words ≡ verify_words a → IsFit a → ⊥)
+    (λ a. (words ≡ verify_words a) × IsFit a)
+walk_of words rest None w n = walk_none words rest w n
+walk_of words rest (Some a) w h = (w ∙ h.0, h.1)
+
+unwalked : (words : List (List ℕ)) → ((rest : List (List ℕ)) → words ≡ codes "walk" ∷ rest → ⊥)
+    → AskForNothingElse words → (a : VerifyCommand) → words ≡ verify_words a → IsFit a → ⊥
+unwalked words w n Help e i = n Help refl e i
+unwalked words w n (Shared c) e i = n (Shared c) refl e i
+unwalked words w n (Check d f m a c) e i = n (Check d f m a c) refl e i
+unwalked words w n (Verdicts f a c) e i = n (Verdicts f a c) refl e i
+unwalked words w n (Walk f m a t) e i = w _ e
+
+pub other_of : (words : List (List ℕ)) (r : Option VerifyCommand)
+    → ((rest : List (List ℕ)) → words ≡ codes "walk" ∷ rest → ⊥)
+    → MatchOption r (AskForNothingElse words) (λ a. (words ≡ verify_words a) × IsFit a)
+    → MatchOption r ((a : VerifyCommand) → words ≡ verify_words a → IsFit a → ⊥)
+    (λ a. (words ≡ verify_words a) × IsFit a)
+other_of words None w n = unwalked words w n
+other_of words (Some a) w h = h
+
+pub ruleset by_walk = (walk_of, other_of)
 
 pub shared_is : (words : List (List ℕ)) (a : VerifyCommand) → IsSharedBy words a
     → (words ≡ verify_words a) × IsFit a
@@ -278,5 +361,6 @@ shared_is words Help s = absurd s
 shared_is words (Shared c) s = s
 shared_is words (Check d f m a c) s = absurd s
 shared_is words (Verdicts f a c) s = absurd s
+shared_is words (Walk f m a t) s = absurd s
 
 pub ruleset by_first_word = (check_of, list_of, other_none, shared_is)

@@ -14,6 +14,7 @@ use Rattle.rpki_verdicts.specs.declared.list.ListingError.{ListingError}
 use Rattle.rpki_verdicts.specs.declared.list.ListingError.TheVariants as listing
 use Rattle.rpki_command.specs.Answer.{Output, out_of_memory, malformed, issuer_malformed, shown}
 use Rattle.rpki_command.specs.Check.{IsCheckedWith, issuer_refusal}
+use Rattle.rpki_command.specs.Walk.{IsWalkedWith}
 use Rattle.rpki_command.specs.Options.{read_mode}
 use Rattle.rpki_command.specs.Refusal.{IsRefusal}
 use Rattle.rpki_command.specs.declared.contents.Causes.TheVariants.{Omitted, Included}
@@ -27,6 +28,14 @@ abbrev pub VerifiedOf : Options → Kind → Moment → List (List ℕ) → Outp
 VerifiedOf options kind now (object ∷ anchor ∷ chain) s =
     IsCheckedWith Included options kind sha256 is_rsa_signature now object anchor chain s
 VerifiedOf options kind now files s = ⊥
+
+-- What is said of files, in the same way, where the entries of a manifest are told that files at
+-- hand hold: of the manifest, the certificate of a trust anchor, and the others that these words
+-- name.
+abbrev pub VerifiedWalkOf : Options → List (List ℕ) → Moment → List (List ℕ) → Output → Type 0
+VerifiedWalkOf options tail now (object ∷ anchor ∷ others) s =
+    IsWalkedWith Included options sha256 is_rsa_signature now tail object anchor others s
+VerifiedWalkOf options tail now files s = ⊥
 
 -- What is said where the good ones of the signatures that a check asks about are listed: first that
 -- a certificate is none, then that the object is none, and else the list, unless memory runs out.

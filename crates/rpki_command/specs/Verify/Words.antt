@@ -1,17 +1,18 @@
 -- The command line of the program with signatures: what each command is written as.
 use Rattle.std.specs.Prelude.{◌≡◌, ℕ, List, [], ◌∷◌, ◌++◌, Bool, true, false, codes, Option, Some}
-use Rattle.std.specs.Prelude.{IsTrue}
+use Rattle.std.specs.Prelude.{IsTrue, Contains}
 use Rattle.rpki_basics.specs.Moment.{Moment, IsMoment}
 use Rattle.rpki_command.specs.Language.{Language}
 use Rattle.rpki_command.specs.Words.{kind_word, word_if, word_relaxed, word_registered, word_wide}
 use Rattle.rpki_command.specs.Words.{with_options, moment_word, command_words, files_of}
+use Rattle.rpki_command.specs.Words.{word_with, others_in}
 use Rattle.rpki_command.specs.declared.words.Command.{Command}
 use Rattle.rpki_command.specs.declared.words.Command.TheVariants as commands
 use Rattle.rpki_command.specs.declared.words.Kind.{Kind}
 use Rattle.rpki_command.specs.declared.words.Options.{Options}
 use Rattle.rpki_command.specs.declared.verify.words.VerifyCommand.{VerifyCommand}
 use Rattle.rpki_command.specs.declared.verify.words.VerifyCommand.TheVariants.{Help, Shared, Check}
-use Rattle.rpki_command.specs.declared.verify.words.VerifyCommand.TheVariants.{Verdicts}
+use Rattle.rpki_command.specs.declared.verify.words.VerifyCommand.TheVariants.{Verdicts, Walk}
 use Rattle.rpki_command.specs.declared.verify.words.When.{When}
 use Rattle.rpki_command.specs.declared.verify.words.When.TheVariants.{Now, At}
 
@@ -45,6 +46,8 @@ verify_words (Shared command) = command_words command
 verify_words (Check kind file moment anchor chain) =
     codes "check" ∷ kind_word kind ∷ file ∷ when_word moment ∷ anchor ∷ chain
 verify_words (Verdicts file anchor chain) = codes "verdicts" ∷ file ∷ anchor ∷ chain
+verify_words (Walk file moment anchor tail) =
+    codes "walk" ∷ file ∷ when_word moment ∷ anchor ∷ tail
 
 -- the files that are named by a word, in the order of the words
 abbrev pub files_in : VerifyCommand → List (List ℕ)
@@ -52,14 +55,16 @@ files_in Help = []
 files_in (Shared command) = files_of command
 files_in (Check kind file moment anchor chain) = file ∷ anchor ∷ chain
 files_in (Verdicts file anchor chain) = file ∷ anchor ∷ chain
+files_in (Walk file moment anchor tail) = file ∷ anchor ∷ others_in tail
 
--- A command is fit: the one of the other program, if it has one, shows a file, and its moment, if
--- it has one, is one of the calendar.
+-- A command is fit: the one of the other program, if it has one, shows a file, its moment, if it
+-- has one, is one of the calendar, and the words of a walk have a `with` after the trust anchor.
 abbrev pub IsFit : VerifyCommand → Type 0
 IsFit Help = Unit {0}
 IsFit (Shared command) = IsTrue (is_shared command)
 IsFit (Check kind file moment anchor chain) = IsWhen moment
 IsFit (Verdicts file anchor chain) = Unit {0}
+IsFit (Walk file moment anchor tail) = IsWhen moment × Contains tail word_with
 
 -- how the orders of the program with signatures are written
 abbrev pub verify_language : Language
@@ -82,6 +87,21 @@ AskForNoCheck words = (kind : Kind) (file : List ℕ) (moment : When) (anchor : 
 abbrev pub AskForNoList : List (List ℕ) → Type 0
 AskForNoList words = (file anchor : List ℕ) (chain : List (List ℕ))
     → words ≡ file ∷ anchor ∷ chain → ⊥
+
+-- words after the word `walk` ask for no walk
+abbrev pub AskForNoWalk : List (List ℕ) → Type 0
+AskForNoWalk words = (file : List ℕ) (moment : When) (anchor : List ℕ) (tail : List (List ℕ))
+    → words ≡ file ∷ when_word moment ∷ anchor ∷ tail → IsWhen moment → Contains tail word_with → ⊥
+
+-- whether a command is a walk
+abbrev pub is_walk : VerifyCommand → Bool
+is_walk (Walk file moment anchor tail) = true
+is_walk other = false
+
+-- the words ask for nothing but, perhaps, a walk
+abbrev pub AskForNothingElse : List (List ℕ) → Type 0
+AskForNothingElse words = (c : VerifyCommand) → is_walk c ≡ false → words ≡ verify_words c
+    → IsFit c → ⊥
 
 -- they do not ask to show what a file holds
 abbrev pub AskForNothingShared : List (List ℕ) → Type 0

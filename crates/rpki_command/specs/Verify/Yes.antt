@@ -11,7 +11,7 @@ use Rattle.rpki_command.specs.declared.words.Kind.{Kind}
 use Rattle.rpki_command.specs.declared.words.Options.{Options}
 use Rattle.rpki_command.specs.declared.words.Order.{Order}
 use Rattle.rpki_command.specs.declared.verify.words.VerifyCommand.{VerifyCommand}
-use Rattle.rpki_command.specs.declared.verify.words.VerifyCommand.TheVariants.{Check, Verdicts}
+use Rattle.rpki_command.specs.declared.verify.words.VerifyCommand.TheVariants.{Check, Verdicts, Walk}
 use Rattle.rpki_command.specs.declared.verify.words.When.{When}
 
 -- the order to check the object in the file of this name, under the certificates in those of the
@@ -28,6 +28,14 @@ abbrev pub list_order : Options → FilesOfCheck → Order VerifyCommand
 list_order options names = record {
   options = options;
   command = Verdicts names.object names.anchor names.chain;
+}
+
+-- the order to check the manifest in the file of the first name in the same way, and to say which
+-- of its entries the files at hand hold; the last words are those after the trust anchor
+abbrev pub verify_walk : Options → When → List ℕ → List ℕ → List (List ℕ) → Order VerifyCommand
+verify_walk options moment object anchor tail = record {
+  options = options;
+  command = Walk object moment anchor tail;
 }
 
 -- A list is right: the files begin with a signed object and with certificates, and the run prints

@@ -1,16 +1,19 @@
 //! What the program answers of a signed object and a chain of certificates.
 
-ghost use Rattle.std.specs.Prelude.{◌≡◌, ◌≤◌, length};
+ghost use Rattle.std.specs.Prelude.{◌≡◌, ◌≤◌, ◌+◌, length};
 ghost use Rattle.rpki_certs.specs.Issuer.{octets_of};
 ghost use Rattle.rpki_certs.specs.declared.issuer.IssuerError.TheVariants as issuing;
 ghost use Rattle.rpki_command.specs.Answer.{said};
 ghost use Rattle.rpki_command.specs.Check.{issuer_refusal};
 ghost use Rattle.rpki_command.specs.Verify.Check.{VerifiedOf, ListedOf, IsListingSaid};
+ghost use Rattle.rpki_command.specs.Verify.Check.{VerifiedWalkOf};
+ghost use Rattle.rpki_command.specs.Words.{texts, chain_in};
 
 use crate::answer::Answer;
 use crate::check::check_with;
 use crate::contents::{Causes, refusal};
 use crate::files::Work;
+use crate::walk::walk_with;
 use crate::words::{Kind, Options};
 use rpki_basics::Time;
 use rpki_der::DecodeError;
@@ -29,7 +32,7 @@ pub struct CheckBySignatures {
 }
 
 impl Work for CheckBySignatures {
-    ghost least = { 2 };
+    ghost least = { λ _. 2 };
 
     ghost says = { λ c. VerifiedOf c.options c.kind c.moment };
 
@@ -45,12 +48,32 @@ pub struct ListSignatures {
 }
 
 impl Work for ListSignatures {
-    ghost least = { 2 };
+    ghost least = { λ _. 2 };
 
     ghost says = { λ l. ListedOf l.options };
 
     fn answer<'a>(self, alloc: Global, files: &[Vec<u8>]) -> Answer<'a> {
         list_files(alloc, self.options, files)
+    }
+}
+
+/// To check whether the first file begins with a good manifest at this moment, and to tell which
+/// of its entries files at hand hold. The second is the certificate of a trust anchor, and the
+/// others are those that the words after it name.
+#[derive(Drop)]
+pub struct WalkBySignatures<'s> {
+    pub options: Options,
+    pub moment: Time,
+    pub tail: &'s [&'s str],
+}
+
+impl Work for WalkBySignatures<'_> {
+    ghost least = { λ w. 2 + length (chain_in (texts w.tail.now)) };
+
+    ghost says = { λ w. VerifiedWalkOf w.options (texts w.tail.now) w.moment };
+
+    fn answer<'a>(self, alloc: Global, files: &[Vec<u8>]) -> Answer<'a> {
+        walk_files(alloc, self.options, self.tail, self.moment, files)
     }
 }
 
@@ -71,6 +94,29 @@ fn check_files<'a>(
             let causes = Causes::Included;
             check_with(
                 alloc, causes, options, kind, object, anchor, chain, &Rsa, now,
+            )
+        }
+        _ => unreachable!(),
+    }
+}
+
+/// Answers whether the first of these files begins with a good manifest at this moment, and which
+/// of its entries files at hand hold. The others are those that the words name.
+fn walk_files<'a>(
+    alloc: Global,
+    options: Options,
+    tail: &[&str],
+    now: Time,
+    files: &[Vec<u8>],
+) -> Answer<'a>
+    requires { 2 + length (chain_in (texts tail.now)) ≤ length files.now }
+    ensures { VerifiedWalkOf options (texts tail.now) now (octets_of files.now) (said result) }
+{
+    match files {
+        [object, anchor, others @ ..] => {
+            let causes = Causes::Included;
+            walk_with(
+                alloc, causes, options, tail, object, anchor, others, &Rsa, now,
             )
         }
         _ => unreachable!(),

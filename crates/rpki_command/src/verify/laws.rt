@@ -2,6 +2,7 @@
 
 ghost use Rattle.std.specs.Prelude.{◌≡◌, ◌<◌, ◌^◌, ◌↔◌, ℕ, List, ◌∷◌, length, true, Option, Some};
 ghost use Rattle.std.specs.Prelude.{Result, Ok, Contains};
+ghost use Rattle.std.specs.List.{zip};
 ghost use Rattle.rpki_der.specs.declared.mode.Mode.{Mode};
 ghost use Rattle.rpki_basics.specs.Key.{key_contents};
 ghost use Rattle.rpki_basics.specs.Moment.{Moment};
@@ -24,15 +25,17 @@ ghost use Rattle.rpki_command.specs.Kinds.{OfKind};
 ghost use Rattle.rpki_command.specs.Options.{read_mode};
 ghost use Rattle.rpki_command.specs.Language.{IsAsked};
 ghost use Rattle.rpki_command.specs.Store.{Told};
+ghost use Rattle.rpki_command.specs.Words.{chain_in, names_in, paths_in};
 ghost use Rattle.rpki_command.specs.Yes.{FilesOfCheck, in_order};
-ghost use Rattle.rpki_command.specs.Yes.{IsRightYes, IsRightNo, HoldsByList};
+ghost use Rattle.rpki_command.specs.Yes.{IsRightYes, IsRightNo, IsRightWalk, HoldsByList};
 ghost use Rattle.rpki_command.specs.declared.words.Kind.{Kind};
+ghost use Rattle.rpki_command.specs.declared.words.Kind.TheVariants.{Manifest};
 ghost use Rattle.rpki_command.specs.declared.words.Options.{Options};
 ghost use Rattle.rpki_command.specs.declared.words.Order.{Order};
 ghost use Rattle.rpki_command.specs.Verify.Command.{verify_program};
 ghost use Rattle.rpki_command.specs.Verify.Sufficing.{SaysYesToo, SayTheSame, HaveTheirOwnLines};
 ghost use Rattle.rpki_command.specs.Verify.Words.{verify_language, moment_at};
-ghost use Rattle.rpki_command.specs.Verify.Yes.{verify_order, list_order};
+ghost use Rattle.rpki_command.specs.Verify.Yes.{verify_order, list_order, verify_walk};
 ghost use Rattle.rpki_command.specs.Verify.Yes.{IsRightList, IsRightNoList};
 ghost use Rattle.rpki_command.specs.declared.verify.words.VerifyCommand.{VerifyCommand};
 ghost use Rattle.rpki_command.specs.declared.verify.words.When.{When};
@@ -64,6 +67,32 @@ pub fn checks_are_right()
         → IsAsked verify_language words (verify_order options kind moment names)
         → moment_at clock moment ≡ Some now → AreTold told (in_order names) (in_order files)
         → run.status ≡ 1 → IsRightNo options kind is_rsa_signature now files }
+{}
+
+/// Where a store tells the files of a walk, a run of it that ends with status 0 says yes and which
+/// entries are held, and that rightly: FILE begins with a good manifest under the issuer that the
+/// certificates make, at this moment, by signatures as RFC 8017, section 8.2.2, has them, and a line
+/// is printed for each of its entries that the files at hand hold, and for no other. Where a run
+/// ends with status 1, they make no issuer, or FILE begins with no good manifest under it.
+pub fn walks_are_right()
+    ensures yes { (told : Told) (clock : Option Moment) (words : List (List ℕ))
+        (before after : List (List ℕ)) (run : Run) (options : Options) (moment : When)
+        (now : Moment) (object anchor : List ℕ) (tail : List (List ℕ)) (files : FilesOfCheck)
+        (octets : List (List ℕ)) → IsRunOf (verify_program clock) told words before after run
+        → IsAsked verify_language words (verify_walk options moment object anchor tail)
+        → moment_at clock moment ≡ Some now
+        → AreTold told (object ∷ anchor ∷ chain_in tail) (in_order files)
+        → AreTold told (paths_in tail) octets → run.status ≡ 0
+        → IsRightWalk options is_rsa_signature now files (zip (names_in tail) octets) run }
+    ensures no { (told : Told) (clock : Option Moment) (words : List (List ℕ))
+        (before after : List (List ℕ)) (run : Run) (options : Options) (moment : When)
+        (now : Moment) (object anchor : List ℕ) (tail : List (List ℕ)) (files : FilesOfCheck)
+        (octets : List (List ℕ)) → IsRunOf (verify_program clock) told words before after run
+        → IsAsked verify_language words (verify_walk options moment object anchor tail)
+        → moment_at clock moment ≡ Some now
+        → AreTold told (object ∷ anchor ∷ chain_in tail) (in_order files)
+        → AreTold told (paths_in tail) octets → run.status ≡ 1
+        → IsRightNo options Manifest is_rsa_signature now files }
 {}
 
 /// Where a store tells the files of a list, a run that ends with status 0 prints the list of the

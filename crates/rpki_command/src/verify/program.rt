@@ -1,27 +1,27 @@
 //! The program with signatures as a function.
 
-ghost use Rattle.std.specs.Prelude.{◌≡◌, ◌≤◌, ◌++◌, length};
+ghost use Rattle.std.specs.Prelude.{◌≡◌, ◌≤◌, ◌∷◌, ◌++◌, length};
 ghost use Rattle.rpki_command.specs.Answer.{said};
 ghost use Rattle.rpki_command.specs.Command.{order_task, HasRead, IsTaskAnswer};
 ghost use Rattle.rpki_command.specs.Command.{IsAnswer, HaveRead};
-ghost use Rattle.rpki_command.specs.Words.{texts};
-ghost use Rattle.rpki_command.specs.Verify.Check.{VerifiedOf};
+ghost use Rattle.rpki_command.specs.Words.{texts, others_in};
+ghost use Rattle.rpki_command.specs.Verify.Check.{VerifiedOf, VerifiedWalkOf};
 ghost use Rattle.rpki_command.specs.Verify.Command.{verify_program, check_task};
 
 use crate::answer::Answer;
 use crate::contents::Causes;
-use crate::files::answer_files;
+use crate::files::{answer_files, answer_tail};
 use crate::program::answer_order;
 use crate::runs::Program;
 use crate::store::Store;
-use crate::verify::check::{CheckBySignatures, ListSignatures};
+use crate::verify::check::{CheckBySignatures, ListSignatures, WalkBySignatures};
 use crate::verify::words::{VerifyCommand, parse};
 use crate::words::{Kind, Options, Order};
 use rpki_basics::Time;
 use std::alloc::Global;
 
-/// The program with signatures, `rpki_verify`: it shows what the program with verdicts shows, and
-/// checks objects by their signatures.
+/// The program with signatures, `rpki_verify`: it shows what the program with verdicts shows, checks
+/// objects by their signatures, and tells which files a manifest holds.
 #[derive(Clone, Copy, Debug)]
 pub struct Verify {
     /// The moment that the clock tells, if it tells one.
@@ -103,6 +103,15 @@ fn answer_verify<'a, S: Store>(
             let first = [file.0, anchor.0];
             answer_files(alloc, list, &first, chain.0, store)
         }
+        VerifyCommand::Walk {
+            file,
+            moment,
+            anchor,
+            tail,
+        } => {
+            let moment = moment.moment(now);
+            walk_when(alloc, options, moment, file.0, anchor.0, tail.0, store)
+        }
     }
 }
 
@@ -134,6 +143,38 @@ fn check_when<'a, S: Store>(
                 moment,
             };
             answer_files(alloc, check, first, chain, store)
+        }
+    }
+}
+
+/// What the program answers to a walk over these files at a moment, if there is one.
+fn walk_when<'a, S: Store>(
+    alloc: Global,
+    options: Options,
+    moment: Option<Time>,
+    file: &'a str,
+    anchor: &'a str,
+    tail: &'a [&'a str],
+    store: &mut S,
+) -> Answer<'a>
+    ensures said { IsTaskAnswer (S.told store.old)
+        (check_task (file.now ∷ anchor.now ∷ others_in (texts tail.now))
+        (VerifiedWalkOf options (texts tail.now)) moment)
+        (S.reads store.old) (S.reads store.new) (said result) }
+    ensures reads { HasRead (check_task (file.now ∷ anchor.now ∷ others_in (texts tail.now))
+        (VerifiedWalkOf options (texts tail.now)) moment)
+        (S.reads store.old) (S.reads store.new) }
+    ensures same { S.told store.new ≡ S.told store.old }
+{
+    match moment {
+        None => Answer::NoMoment,
+        Some(moment) => {
+            let walk = WalkBySignatures {
+                options,
+                moment,
+                tail,
+            };
+            answer_tail(alloc, walk, &[file, anchor], tail, store)
         }
     }
 }

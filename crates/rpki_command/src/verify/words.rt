@@ -6,12 +6,14 @@ ghost use Rattle.rpki_command.specs.Words.{texts, are_named};
 ghost use Rattle.rpki_command.specs.Words.{word_relaxed, word_registered, word_wide};
 ghost use Rattle.rpki_command.specs.Verify.Words.{moment_at, when_word, IsWhen, verify_words};
 ghost use Rattle.rpki_command.specs.Verify.Words.{files_in, is_shared, IsFit, verify_language};
-ghost use Rattle.rpki_command.specs.Verify.Words.{AskForNoCheck, AskForNoList};
+ghost use Rattle.rpki_command.specs.Verify.Words.{AskForNoCheck, AskForNoList, AskForNoWalk};
+ghost use Rattle.rpki_command.specs.Verify.Words.{AskForNothingElse};
 ghost use Rattle.rpki_command.specs.Verify.Words.{AskForNothingShared, IsSharedBy, IsTaken};
 ghost use Rattle.rpki_command.specs.Verify.Words.{IsOptioned};
 ghost use Rattle.rpki_command.specs.declared.verify.words.VerifyCommand.{VerifyCommand};
 ghost use Rattle.rpki_command.specs.declared.verify.words.When.{When};
 
+use crate::pairs::{are_others_named, has_with};
 use crate::words::{
     Command, Kind, Options, Order, Word, Words, all_named, each_named, kind_of, moment_of,
     parse_command,
@@ -62,6 +64,14 @@ pub enum VerifyCommand<'a> {
         anchor: Word<'a>,
         chain: Words<'a>,
     },
+    /// To check a manifest under such a chain, and to say which of its entries files at hand hold.
+    /// The words after the trust anchor are the certificates of CAs, `with`, and pairs NAME=PATH.
+    Walk {
+        file: Word<'a>,
+        moment: When,
+        anchor: Word<'a>,
+        tail: Words<'a>,
+    },
 }
 
 /// What the words ask for, if they ask for anything.
@@ -97,6 +107,12 @@ fn is_each_named(command: &VerifyCommand<'_>) -> bool
             anchor,
             chain,
         } => are_files_named(file, anchor, chain),
+        VerifyCommand::Walk {
+            file,
+            anchor,
+            tail,
+            ..
+        } => !file.0.is_empty() && !anchor.0.is_empty() && are_others_named(tail.0),
     }
 }
 
@@ -154,10 +170,22 @@ fn take_wide<'a>(words: &'a [&'a str]) -> (bool, &'a [&'a str])
 }
 
 /// The command of words without options.
-#[tactic(auto, using(crate::proofs::Verified::Orders::by_first_word))]
+#[tactic(auto, using(crate::proofs::Verified::Orders::by_walk))]
 fn parse_verify<'a>(words: &'a [&'a str]) -> Option<VerifyCommand<'a>>
     ensures { MatchOption result
         ((c : VerifyCommand) → texts words.now ≡ verify_words c → IsFit c → ⊥)
+        (λ c. (texts words.now ≡ verify_words c) × IsFit c) }
+{
+    match words {
+        ["walk", rest @ ..] => parse_walk(rest),
+        _ => parse_other(words),
+    }
+}
+
+/// The command of words that don't ask for a walk.
+#[tactic(auto, using(crate::proofs::Verified::Orders::by_first_word))]
+fn parse_other<'a>(words: &'a [&'a str]) -> Option<VerifyCommand<'a>>
+    ensures { MatchOption result (AskForNothingElse (texts words.now))
         (λ c. (texts words.now ≡ verify_words c) × IsFit c) }
 {
     match words {
@@ -196,6 +224,29 @@ fn parse_verdicts<'a>(words: &'a [&'a str]) -> Option<VerifyCommand<'a>>
             anchor: Word(anchor),
             chain: Words(chain),
         }),
+        _ => None,
+    }
+}
+
+/// The walk that these words ask for, after the first.
+fn parse_walk<'a>(words: &'a [&'a str]) -> Option<VerifyCommand<'a>>
+    ensures { MatchOption result (AskForNoWalk (texts words.now))
+        (λ c. (codes "walk" ∷ texts words.now ≡ verify_words c) × IsFit c) }
+{
+    match words {
+        [file, moment, anchor, tail @ ..] => {
+            let moment = when_of(moment)?;
+            if has_with(tail) {
+                Some(VerifyCommand::Walk {
+                    file: Word(file),
+                    moment,
+                    anchor: Word(anchor),
+                    tail: Words(tail),
+                })
+            } else {
+                None
+            }
+        }
         _ => None,
     }
 }

@@ -97,7 +97,7 @@ pub fn is_answered(
 }
 
 /// The same of a program.
-fn is_answered_by<P: Program>(
+pub fn is_answered_by<P: Program>(
     rt: &(impl Abort + AllocGlobal),
     program: &P,
     words: &[&str],

@@ -1,0 +1,18 @@
+use Rattle.std.proofs.Common.{◌≡◌, ℕ, List, inr}
+use Rattle.rpki_command.specs.Answer.{said}
+use Rattle.rpki_command.specs.Walk.{WalkOf}
+use Rattle.rpki_command.specs.Words.{texts}
+use Rattle.rpki_command.proofs.Checking.{of-three}
+use Rattle.rpki_command.proofs.walk.walk_files.Goals as goal
+
+pub returns-in-Some : goal.returns-in-Some
+returns-in-Some c =
+    let verdicts : c.deref.result.now ≡ c.verdicts-item.result.items = cc in
+    let object : c.deref-in-Some.result.now ≡ c.object-item.result.items = cc in
+    let anchor : c.deref-in-Some-2.result.now ≡ c.anchor-item.result.items = cc in
+    of-three (λ (fs : List (List ℕ)).
+    WalkOf c.args.options c.args.now (texts c.args.tail.now) fs (said c.walk_with.result))
+    c.args.files.now c.object-item.result c.verdicts-item.result c.anchor-item.result
+    c.deref-in-Some.result.now c.deref.result.now c.deref-in-Some-2.result.now object verdicts
+    anchor c.in-len3-up.len_at_least c.object-item.is c.verdicts-item.is c.anchor-item.is
+    (inr (c.in-Some.verdicts, c.in-Some.ensures, c.walk_with.ensures))
