@@ -33,9 +33,14 @@ fn manifest(
     alloc: Global,
     signer: &mut StandInSigner,
 ) -> Result<Result<Manifest, SigningError<Refused>>, Fail> {
-    let content = content(alloc)?;
     let builder = builder(alloc, year(2030)?)?;
-    Ok(content.into_manifest(alloc, builder, signer, &ISSUER))
+    match content(alloc) {
+        Err(why) => {
+            drop(builder);
+            Err(why)
+        }
+        Ok(content) => Ok(content.into_manifest(alloc, builder, signer, &ISSUER)),
+    }
 }
 
 /// The number of a manifest, how many files it names, and the serial number of its certificate.

@@ -223,25 +223,34 @@ fn is_written(alloc: Global, content: &ManifestContent, wanted: &[u8]) -> Result
     }
 }
 
-/// Whether a content, and that of its entries, are written as these octets.
-fn are_written(
+/// Whether the content of the entries of another one is written as these octets.
+fn is_written_again(
     alloc: Global,
     content: &ManifestContent,
     wanted: &[u8],
 ) -> Result<bool, BuildError> {
     let again = again(alloc, content)?;
-    let both = is_written(alloc, content, wanted)? && is_written(alloc, &again, wanted)?;
+    let is = is_written(alloc, &again, wanted);
     drop(again);
-    Ok(both)
+    is
+}
+
+/// Whether the content of a row, and that of its entries, are written as these octets.
+fn are_written(
+    alloc: Global,
+    content: &ManifestContent,
+    wanted: &[u8],
+) -> Result<bool, BuildError> {
+    Ok(is_written(alloc, content, wanted)? && is_written_again(alloc, content, wanted)?)
 }
 
 /// Whether this is what each row is written as.
 fn are_built(alloc: Global) -> Result<bool, BuildError> {
     for (rule, this, entries, wanted) in &BUILT {
         let content = content(alloc, *rule, *this, entries)?;
-        let is = are_written(alloc, &content, wanted)?;
+        let is = are_written(alloc, &content, wanted);
         drop(content);
-        if !is {
+        if !is? {
             return Ok(false);
         }
     }

@@ -28,10 +28,10 @@ impl ManifestContent {
     /// anything is looked at; their octets are written once.
     ///
     /// Refuses by the first of these: `UpdateOrder` where `this_update` is after `next_update`,
-    /// `BadName` where a name is not that of a file, and under `Registered` `BadExtension` where the
-    /// type of a file is not registered, and `RepeatedName` where a name stands twice. Refuses by
-    /// `TooLong` where an entry, or the content, would have contents of 2^32 octets or more, which
-    /// may hide a repeated name, and by `Memory`.
+    /// `BadName` where a name is not that of a file, and under `Registered` `BadExtension` where
+    /// the type of a file is not registered, and `RepeatedName` where a name stands twice. Refuses
+    /// by `TooLong` where an entry, or the content, would have contents of 2^32 octets or more,
+    /// which may hide a repeated name, and by `Memory`.
     pub fn new<
         F: AsOctets + Drop,
         H: AsOctets + Drop,

@@ -13,7 +13,8 @@ pub returns-in-Err-TooLong : goal.returns-in-Err-TooLong
 returns-in-Err-TooLong c =
     let named : c.if-self.self ≡ (c.args.self.now.named && is_file_name c.args.name.now) =
     elim c.if-self.branch [ then-self w ↦ search rules | else-self w ↦ search rules ] in
-    let allowed : c.if-self-2.self ≡ (c.args.self.now.allowed && is_allowed c.args.rule c.args.name.now) =
+    let allowed : c.if-self-2.self
+    ≡ (c.args.self.now.allowed && is_allowed c.args.rule c.args.name.now) =
     elim c.if-self-2.branch [ then-self-2 w ↦ search rules | else-self-2 w ↦ search rules ] in
     let f : File = record { file = c.args.name.now; hash = c.args.hash.now } in
     let new : Entries = record {
