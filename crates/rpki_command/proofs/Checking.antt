@@ -3,7 +3,6 @@ use Rattle.std.proofs.Common.{◌≡◌, ◌≤◌, ℕ, List, [], ◌∷◌, Re
 use Rattle.std.proofs.Common.{subst, sym, arith, length, get_or, take, drop, ◌-◌}
 use Rattle.std.proofs.lemmas.List.{take_rest}
 use Rattle.std.specs.Prelude.{◌⊎◌}
-use Rattle.sha2.specs.Sha256.{sha256}
 use Rattle.rpki_der.specs.declared.mode.Mode.{Mode}
 use Rattle.rpki_basics.specs.Moment.{Moment}
 use Rattle.rpki_faults.specs.Checks.{Check}
@@ -22,13 +21,6 @@ use Rattle.rpki_sigobj.specs.Signed.Good.{IsNotGood}
 use Rattle.rpki_sigobj.specs.Signed.Kind.{ObjectKind}
 use Rattle.rpki_sigobj.specs.Signed.Process.{AnswersAsked}
 use Rattle.rpki_sigobj.specs.Signed.{Whole, cert_in}
-use Rattle.rpki_command.specs.Answer.{Output}
-use Rattle.rpki_verdicts.specs.Listed.{is_listed}
-use Rattle.rpki_verdicts.specs.Verdicts.{AreVerdicts}
-use Rattle.rpki_command.specs.Check.{IsCheckedWith, CheckOf}
-use Rattle.rpki_command.specs.declared.contents.Causes.TheVariants.{Omitted}
-use Rattle.rpki_command.specs.declared.words.Kind as words
-use Rattle.rpki_command.specs.declared.words.Options.{Options}
 
 asked-more : {X : Type 0} (before : List (Check ValidationError)) (IsValid : Validated → Type 0)
     (Says More : Result (Unit {0}) ValidationError → Type 0)

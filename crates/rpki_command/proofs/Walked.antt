@@ -1,5 +1,5 @@
 -- What a yes and a no of a walk mean, from what is said.
-use Rattle.std.proofs.Common.{◌≡◌, ℕ, List, [], ◌∷◌, ◌++◌, ◌∙◌, Option, Some, Result, Ok, Err, inl, inr}
+use Rattle.std.proofs.Common.{◌≡◌, ℕ, List, ◌∷◌, ◌++◌, ◌∙◌, Option, Some, Result, Ok, Err, inl, inr}
 use Rattle.std.proofs.Common.{subst, sym, ap, arith, length, map}
 use Rattle.std.proofs.lemmas.List.{length-map, map-append, take_at, drop_at}
 use Rattle.std.specs.List.{zip}
