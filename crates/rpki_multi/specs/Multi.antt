@@ -52,8 +52,9 @@ MultiForm mode octets m = Sequence mode (
     ∷ (λ o. Explicit 0 mode (λ d. MultiDataForm mode d m) o)
     ∷ []) octets
 
--- what is signed, and the modes that its parts were read in
+-- what is signed, and the modes that it and its parts were read in; what was made is DER
 pub record KeptMulti : Type 0 where
+  pub mode : Mode
   pub content : List ℕ
   pub certs : List KeptCertificate
   pub crls : List KeptCrl
@@ -76,9 +77,13 @@ multi_of k = record {
 }
 
 -- all certificates, revocation lists and signers were read in this mode
-abbrev pub AreIn : Mode → KeptMulti → Type 0
-AreIn mode k = All (λ c. c.mode ≡ mode) k.certs
+abbrev pub CarriedIn : Mode → KeptMulti → Type 0
+CarriedIn mode k = All (λ c. c.mode ≡ mode) k.certs
     × (All (λ l. l.mode ≡ mode) k.crls × All (λ s. s.mode ≡ mode) k.signers)
+
+-- the object was read in this mode, and so were all of them
+abbrev pub AreIn : Mode → KeptMulti → Type 0
+AreIn mode k = (k.mode ≡ mode) × CarriedIn mode k
 
 -- ---- as functions
 

@@ -151,9 +151,16 @@ impl MultiSignedObject {
         self.parts.signers.as_slice()
     }
 
+    /// The mode that it was read in. What was made is DER.
+    pub fn mode(&self) -> Mode
+        ensures { result ≡ self.now.mode }
+    {
+        self.parts.mode
+    }
+
     /// The object, to be written in DER: each certificate and each revocation list as it was read,
-    /// and no SET of lists where there is none. Refuses by `NotDer` where a certificate, a
-    /// revocation list or a signer was read in BER.
+    /// and no SET of lists where there is none. Refuses by `NotDer` where it, or a certificate, a
+    /// revocation list or a signer, was read in BER.
     pub fn encode_ref(&self) -> MultiSignedObjectEncoder<'_>
         ensures value { result ≡ self.now }
         ensures written { AreIn Der self.now → length (multi_contents self.now) < 2 ^ 32

@@ -47,7 +47,7 @@ fn objects_in_ber_are_not_written(rt: HostRuntime) -> Result<(), Fail> {
     let alloc = rt.alloc();
     let whole = again(alloc, WHOLE, Mode::Ber)?;
     let empty = again(alloc, EMPTY, Mode::Ber)?;
-    assert!(rt; whole.is_none() && empty.is_some());
+    assert!(rt; whole.is_none() && empty.is_none());
     Ok(())
 }
 

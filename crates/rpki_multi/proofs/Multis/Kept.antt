@@ -76,12 +76,12 @@ module _ (mode : Mode) where
       let signers = crls.4 in
       record {
         certs = each-in-its-mode (λ (c : KeptCertificate). c.certificate) (λ c. c.mode) KeepsCert
-            mode k.certs same.0 (items-all (CertForm mode) (KeepsCert mode) cert-keeps
+            mode k.certs same.1.0 (items-all (CertForm mode) (KeepsCert mode) cert-keeps
             certs.3.0 (map (λ (c : KeptCertificate). c.certificate) k.certs) certs.3.2);
         crls = each-in-its-mode (λ (l : KeptCrl). l.list) (λ l. l.mode) KeepsCrl mode k.crls
-            same.1.0 (crls-keep crls.0 (map (λ (l : KeptCrl). l.list) k.crls) crls.3);
+            same.1.1.0 (crls-keep crls.0 (map (λ (l : KeptCrl). l.list) k.crls) crls.3);
         signers = each-in-its-mode (λ (s : KeptSigner). s.signer) (λ s. s.mode) IsAttestedIn mode
-            k.signers same.1.1 (items-all (SignerInfoForm id_rta mode) (IsAttestedIn mode)
+            k.signers same.1.1.1 (items-all (SignerInfoForm id_rta mode) (IsAttestedIn mode)
             (signer-attested mode) signers.3.0
             (map (λ (s : KeptSigner). s.signer) k.signers) signers.3.2);
       }

@@ -194,18 +194,18 @@ module _ (k : KeptMulti) (kept : AreKept k) (der : AreIn Der k) where
               c3,
               r4,
               refl,
-              certs-written k.certs kept.certs der.0
+              certs-written k.certs kept.certs der.1.0
                   (contents_small (context 0) (certs_contents k.certs) s3.0),
               (
                 c4,
                 c5,
                 refl,
-                crls-written k.crls kept.crls der.1.0 s4.0,
+                crls-written k.crls kept.crls der.1.1.0 s4.0,
                 (
                   c5,
                   [],
                   sym (append-nil c5),
-                  signers-written k.signers kept.signers der.1.1
+                  signers-written k.signers kept.signers der.1.1.1
                       (contents_small SET (signers_contents k.signers) s4.1),
                   refl,
                 ),

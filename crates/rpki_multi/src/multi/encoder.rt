@@ -7,7 +7,7 @@ ghost use Rattle.rpki_der.specs.Write.Parts.{contents_small};
 ghost use Rattle.rpki_basics.specs.Algorithm.{digest_algorithm_octets};
 ghost use Rattle.rpki_sigobj.specs.Object.{id_signed_data};
 ghost use Rattle.rpki_sigobj.specs.SignerInfo.{cms_version};
-ghost use Rattle.rpki_multi.specs.Multi.{AreIn};
+ghost use Rattle.rpki_multi.specs.Multi.{AreIn, CarriedIn};
 ghost use Rattle.rpki_multi.specs.Signer.{id_rta};
 ghost use Rattle.rpki_multi.specs.Written.{content_octets, IsShortContent, short_content};
 ghost use Rattle.rpki_multi.specs.Written.{crls_octets, AreShortCrls, short_crls};
@@ -24,12 +24,12 @@ use rpki_der::encode::{
     Elements, Raw, Unsigned, Value, each, integer_u8, octet_string, primitive, sequence, set,
     tagged,
 };
-use rpki_der::{Encode, EncodeError, Sink, SinkFailed, Tag};
+use rpki_der::{Encode, EncodeError, Mode, Sink, SinkFailed, Tag};
 use rpki_sigobj::cms::ID_SIGNED_DATA;
 use std::marker::Model;
 
-/// A multi-signed object, to be written in DER. Where a certificate, a revocation list or a signer
-/// was read in BER, `NotDer` is answered.
+/// A multi-signed object, to be written in DER. Where it, or a certificate, a revocation list or a
+/// signer, was read in BER, `NotDer` is answered.
 #[derive(Drop)]
 pub struct MultiSignedObjectEncoder<'a> {
     object: &'a MultiSignedObject,
@@ -75,7 +75,10 @@ impl<'a> Encode for MultiSignedObjectEncoder<'a> {
     ghost small = { λ m h. contents_small SEQUENCE (multi_contents m) h };
 
     fn encoded_len(&self) -> Result<u64, EncodeError> {
-        sequence(self.fields()).encoded_len()
+        match self.object.mode() {
+            Mode::Der => sequence(self.fields()).encoded_len(),
+            Mode::Ber => Err(EncodeError::NotDer),
+        }
     }
 
     fn put<W: Sink>(&self, len: u64, out: &mut W) -> Result<(), SinkFailed> {
@@ -115,7 +118,7 @@ impl<'a> DataField<'a> {
 impl Encode for DataField<'_> {
     ghost octets = { λ d. data_octets d.0.now };
 
-    ghost is_der = { λ d. AreIn Der d.0.now };
+    ghost is_der = { λ d. CarriedIn Der d.0.now };
 
     ghost is_short = { λ d. IsShortData d.0.now };
 
@@ -200,7 +203,7 @@ impl<'a> CarriedField<'a> {
 impl Encode for CarriedField<'_> {
     ghost octets = { λ c. carried_octets c.0.now };
 
-    ghost is_der = { λ c. AreIn Der c.0.now };
+    ghost is_der = { λ c. CarriedIn Der c.0.now };
 
     ghost is_short = { λ c. AreShortCarried c.0.now };
 

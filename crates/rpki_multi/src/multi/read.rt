@@ -129,6 +129,7 @@ fn take_data_fields(cons: &mut Constructed<'_>, alloc: Global) -> Result<Parts, 
     ensures reads { Reads multi_of data_fields_at cons.old result cons.new }
     ensures mode { IfOk result (AreIn cons.old.mode) }
 {
+    let mode = cons.mode();
     skip_version(cons)?;
     skip_digests(cons)?;
     let content = take_content(cons, alloc)?;
@@ -136,6 +137,7 @@ fn take_data_fields(cons: &mut Constructed<'_>, alloc: Global) -> Result<Parts, 
     let crls = take_crls(cons, alloc)?;
     let signers = take_signer_set(cons, alloc)?;
     Ok(Parts {
+        mode,
         content,
         certs,
         crls,
