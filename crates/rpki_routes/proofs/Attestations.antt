@@ -3,4 +3,5 @@ pub mod Claims
 pub mod Exact
 pub mod Meaning
 pub mod Providers
+pub mod Signed
 pub mod Written

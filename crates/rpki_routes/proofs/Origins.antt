@@ -4,5 +4,6 @@ pub mod Exact
 pub mod Facts
 pub mod Meaning
 pub mod Prefixes
+pub mod Signed
 pub mod Small
 pub mod Written

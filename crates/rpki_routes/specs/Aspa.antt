@@ -4,6 +4,7 @@ pub mod Built
 pub mod Checks
 pub mod Form
 pub mod Read
+pub mod Signed
 pub mod Written
 use Rattle.std.specs.Prelude.{◌≡◌, ◌≢◌, ℕ, ◌≤◌, List, length, All, Contains}
 use Rattle.std.specs.List.Sorted.{IsStrictlyIncreasing}

@@ -4,6 +4,7 @@ pub mod Checks
 pub mod Form
 pub mod Lent
 pub mod Read
+pub mod Signed
 pub mod Written
 use Rattle.std.specs.Prelude.{◌≡◌, ℕ, ◌-◌, ◌%◌, ◌^◌, ◌<◌, ◌≤◌, List, ◌++◌, All, Option, IfSome, map}
 use Rattle.std.specs.Prelude.{◌*◌, ◌/◌}

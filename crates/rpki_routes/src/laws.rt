@@ -1,6 +1,7 @@
 //! What the definitions say, as functions that do nothing.
 
 ghost use Rattle.std.specs.Prelude.{◌↔◌, ◌≡◌, ◌++◌, ◌≤◌, ◌<◌, ◌^◌, ℕ, List, All, length};
+ghost use Rattle.rpki_der.specs.declared.mode.Mode.{Mode};
 ghost use Rattle.rpki_der.specs.declared.mode.Mode.TheVariants.{Der};
 ghost use Rattle.rpki_der.specs.Grammar.{Front, IsBytes, IsUnique};
 ghost use Rattle.rpki_der.specs.Form.After.{LeavesOctetsAfter};
@@ -23,9 +24,23 @@ ghost use Rattle.rpki_routes.specs.Roa.Form.{RoaForm};
 ghost use Rattle.rpki_routes.specs.Roa.Written.{roa_contents, roa_octets};
 ghost use Rattle.rpki_faults.specs.Checks.{AllHold, IsFirstFault};
 ghost use Rattle.rpki_extensions.specs.declared.claims.Claims.{Claims};
-ghost use Rattle.rpki_certs.specs.Validate.{Sets};
-ghost use Rattle.rpki_routes.specs.Aspa.Checks.{AspaCovered, aspa_held, aspa_claimed};
-ghost use Rattle.rpki_routes.specs.Roa.Checks.{HasPrefix, RoaCovered, roa_held};
+ghost use Rattle.rpki_certs.specs.Inspect.{NamesNothing};
+ghost use Rattle.rpki_certs.specs.Validate.{IsValidatedUnder, Sets, Validated};
+ghost use Rattle.rpki_certs.specs.Verify.{Verdict};
+ghost use Rattle.rpki_basics.specs.Moment.{Moment};
+ghost use Rattle.rpki_faults.specs.declared.overclaim.Overclaim.TheVariants.{Refuse};
+ghost use Rattle.rpki_faults.specs.Validated.{IsAllowed};
+ghost use Rattle.rpki_sigobj.specs.Signed.{Whole, cert_in};
+ghost use Rattle.rpki_sigobj.specs.Signed.Good.{IsGood};
+ghost use Rattle.rpki_sigobj.specs.Verify.{Digester};
+ghost use Rattle.rpki_signing.specs.Built.{IsFit, Settings, claims_of};
+ghost use Rattle.rpki_signing.specs.Content.{Passes};
+ghost use Rattle.rpki_routes.specs.Aspa.Checks.{AspaCovered, aspa_held, aspa_claimed, aspa_kind};
+ghost use Rattle.rpki_routes.specs.Aspa.Signed.{IsBuiltAspa, claiming};
+ghost use Rattle.rpki_routes.specs.Roa.Checks.{HasPrefix, RoaCovered, roa_held, roa_kind};
+ghost use Rattle.rpki_routes.specs.Roa.Signed.{IsBuiltRoa};
+
+use rpki_certs::ResourceCert;
 
 /// At most one beginning of given octets is an ASPA content, and it says one thing.
 pub fn attestations_are_unique()
@@ -94,7 +109,7 @@ pub fn refused_roas()
 {}
 
 /// What is claimed for addresses of a ROA has each of their prefixes; where they are addresses of a
-/// family, its blocks are too.
+/// family, its blocks are too. It is allowed under a set that has each of their prefixes.
 pub fn claims_of_addresses()
     ensures covered { (list : List Address) (claim : Claim (List (Block ℕ)))
         (set : List (Block ℕ)) → IsClaimOf list claim → HasBlocks claim set
@@ -102,6 +117,9 @@ pub fn claims_of_addresses()
     ensures within { (family : AddressFamily) (list : List Address)
         (claim : Claim (List (Block ℕ))) (set : List (Block ℕ)) → All (IsAddress family) list
         → IsClaimOf list claim → HasBlocks claim set → All (IsWithin family) set }
+    ensures allowed { (list : List Address) (claim : Claim (List (Block ℕ)))
+        (set : List (Block ℕ)) → IsClaimOf list claim → All (HasPrefix set) list
+        → IsAllowed (λ n. n) Refuse claim set }
 {}
 
 /// A certificate passes the checks with a ROA exactly where it has the addresses of each prefix
@@ -116,3 +134,48 @@ pub fn covered_aspas()
     ensures { (a : Aspa) (x : Claims) (sets : Sets) →
         (AllHold (aspa_claimed a x) × AllHold (aspa_held a sets)) ↔ AspaCovered a x sets }
 {}
+
+/// A built ROA passes its whole validation under an issuer: the object is valid, and its certificate
+/// has the addresses of each prefix (RFC 9582, section 5). This needs that cryptography says yes to
+/// what the signer may answer, and that what the builder was told fits the issuer and the moment; a
+/// family is named, since the ROA has an address.
+pub fn built_roas_are_valid(issuer: &ResourceCert)
+    ensures passes { (digest : Digester) (verdict : Verdict) (mode : Mode) (handed : Settings)
+        (key : List ℕ) (o : Whole Roa) (now : Moment)
+        → (built : IsBuiltRoa o.content handed key (digest (roa_octets o.content)) o.object.signed)
+        → (¬ NamesNothing (claims_of built.told)
+        → IsFit verdict built.told key o.object.signed issuer.now now)
+        → Passes roa_kind mode digest verdict issuer.now now o }
+    ensures good { (digest : Digester) (verdict : Verdict) (mode : Mode) (handed : Settings)
+        (key : List ℕ) (o : Whole Roa) (now : Moment)
+        → (built : IsBuiltRoa o.content handed key (digest (roa_octets o.content)) o.object.signed)
+        → (¬ NamesNothing (claims_of built.told)
+        → IsFit verdict built.told key o.object.signed issuer.now now)
+        → (v : Validated) → IsValidatedUnder (cert_in mode o) issuer.now v
+        → IsGood roa_kind mode digest verdict issuer.now now o v }
+{
+    issuer.is_resource_cert();
+}
+
+/// A built ASPA passes its whole validation under an issuer: its certificate claims the customer and
+/// nothing else, the object is valid, and the certificate has the customer
+/// (draft-ietf-sidrops-aspa-profile-15, section 4). This needs that cryptography says yes to what
+/// the signer may answer, and that what the builder was told fits the issuer and the moment; a
+/// family is named, since the customer is claimed.
+pub fn built_aspas_are_valid(issuer: &ResourceCert)
+    ensures passes { (digest : Digester) (verdict : Verdict) (mode : Mode) (limit : ProviderLimit)
+        (handed : Settings) (key : List ℕ) (o : Whole Aspa) (now : Moment)
+        → IsBuiltAspa limit o.content handed key (digest (aspa_octets o.content)) o.object.signed
+        → (¬ NamesNothing (claims_of (claiming o.content handed))
+        → IsFit verdict (claiming o.content handed) key o.object.signed issuer.now now)
+        → Passes aspa_kind mode digest verdict issuer.now now o }
+    ensures good { (digest : Digester) (verdict : Verdict) (mode : Mode) (limit : ProviderLimit)
+        (handed : Settings) (key : List ℕ) (o : Whole Aspa) (now : Moment)
+        → IsBuiltAspa limit o.content handed key (digest (aspa_octets o.content)) o.object.signed
+        → (¬ NamesNothing (claims_of (claiming o.content handed))
+        → IsFit verdict (claiming o.content handed) key o.object.signed issuer.now now)
+        → (v : Validated) → IsValidatedUnder (cert_in mode o) issuer.now v
+        → IsGood aspa_kind mode digest verdict issuer.now now o v }
+{
+    issuer.is_resource_cert();
+}

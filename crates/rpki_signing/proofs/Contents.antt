@@ -39,9 +39,10 @@ module _ {R X : Type 0} (type : List ℕ) (form : R → List ℕ → X → Type 
       subst (λ (o : KeptObject). ObjectForm type (form rule) Der o.object.octets
       (record { object = o.object; content = w.content })) (sym same)
       (subst (λ (y : X). ObjectForm type (form rule) Der k.object.octets
-      (record { object = k.object; content = y })) (sym content)
-      ((subst (λ (m : Mode). SignedForm m k.object.octets k.object) der written, kind),
-      begins-whole (form rule) k.object.signed.content x h))
+      (record { object = k.object; content = y })) (sym content) (
+        (subst (λ (m : Mode). SignedForm m k.object.octets k.object) der written, kind),
+        begins-whole (form rule) k.object.signed.content x h,
+      ))
 
 -- why a content is not built is why it is not signed
 pub content-unsigned : (E : Type 0) (checks : List (Check BuildFault)) (long : Type 0)

@@ -51,7 +51,7 @@ one-number n Missing h = absurd (h.0 refl)
 one-number n Inherit h = absurd (h.1.0 refl)
 one-number n (Explicit blocks) h = rw (one-block n blocks h.1.1) refl
 
-claimed-number : (n : ℕ) → AllHold (number_checks n (Explicit (only n ∷ [])))
+pub claimed-number : (n : ℕ) → AllHold (number_checks n (Explicit (only n ∷ [])))
 claimed-number n = (
   λ e. absurd cc,
   (

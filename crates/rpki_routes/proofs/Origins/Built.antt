@@ -226,14 +226,15 @@ stands-for (b ∷ bs) set h = h
 
 module _ (list : List Address) (claim : Claim (List (Block ℕ))) (set : List (Block ℕ))
     (h : IsClaimOf list claim) (blocks : HasBlocks claim set) where
-  same : set ≡ h.set
-  same = stands-for h.set set
+  -- what is claimed is the set of its prefixes
+  pub claim-same : set ≡ h.set
+  claim-same = stands-for h.set set
       (subst (λ (c : Claim (List (Block ℕ))). HasBlocks c set) h.claimed blocks)
 
   -- what is claimed for prefixes has each of them
   pub claim-has : All (HasPrefix set) list
   claim-has = has-each list set (λ n i.
-      subst (λ (s : List (Block ℕ)). Holds (λ (m : ℕ). m) s n) (sym same)
+      subst (λ (s : List (Block ℕ)). Holds (λ (m : ℕ). m) s n) (sym claim-same)
       (h.addresses.same n ∙ i))
 
 -- a prefix of a family has addresses of it
@@ -273,6 +274,7 @@ pub claim-within : (family : AddressFamily) (list : List Address)
     (claim : Claim (List (Block ℕ))) (set : List (Block ℕ)) → All (IsAddress family) list
     → IsClaimOf list claim → HasBlocks claim set → All (IsWithin family) set
 claim-within family list claim set are h blocks =
-    subst (λ (s : List (Block ℕ)). All (IsWithin family) s) (sym (same list claim set h blocks))
+    subst (λ (s : List (Block ℕ)). All (IsWithin family) s)
+    (sym (claim-same list claim set h blocks))
     (built family (ranges_of list) h.set (ranges-within family list are) h.addresses.canonical
     h.addresses.same)

@@ -49,7 +49,7 @@ module _ (family : AddressFamily) (set : List (Block ℕ)) where
       (All-head (HasPrefix set) a list h, all-covered list (All-tail (HasPrefix set) a list h))
 
   -- where there is a prefix that the set has, it has a number
-  some-held : (list : List Address) → All (IsAddress family) list → All (HasPrefix set) list
+  pub some-held : (list : List Address) → All (IsAddress family) list → All (HasPrefix set) list
       → HasNone set → list ≡ []
   some-held [] are h none = refl
   some-held (a ∷ list) are h none = absurd (has-some family set a

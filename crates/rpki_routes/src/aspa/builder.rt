@@ -1,6 +1,8 @@
 //! Building contents of Autonomous System Provider Authorizations (ASPAs;
 //! draft-ietf-sidrops-aspa-profile-15, section 3).
 
+mod signing;
+
 ghost use Rattle.std.specs.Prelude.{◌≡◌, ◌↔◌, [], All, Contains, Err, IsTrue, None, Some, false};
 ghost use Rattle.std.specs.Prelude.{IfErr, IfOk, IfSome, OnErr, OnOk, codes};
 ghost use Rattle.std.specs.List.Sorted.{IsNonDecreasing, IsPermutation, IsStrictlyIncreasing};
@@ -36,7 +38,7 @@ impl fmt::Display for DuplicateProviderAs {
 impl Error for DuplicateProviderAs {}
 
 /// Why a provider is not added.
-#[derive(Debug, Drop)]
+#[derive(Clone, Copy, Debug, PartialEq, Eq)]
 pub enum AddProviderError {
     /// It is a provider already.
     Duplicate,

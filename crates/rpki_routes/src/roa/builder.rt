@@ -1,6 +1,7 @@
 //! Building contents of Route Origin Authorizations (ROAs; RFC 9582, section 4).
 
 mod addresses;
+mod signing;
 
 ghost use Rattle.std.specs.Prelude.{◌≡◌, ◌≤◌, ◌<◌, ◌^◌, ◌++◌, ◌∷◌, [], length};
 ghost use Rattle.std.specs.Prelude.{IfErr, IfOk, OnErr, OnOk};

@@ -1,7 +1,7 @@
 //! Building lists of addresses of a ROA (RFC 9582, section 4.3).
 
 ghost use Rattle.std.specs.Prelude.{◌≡◌, ◌≤◌, ◌<◌, ◌^◌, ◌++◌, ◌∷◌, [], ℕ, List, All, length};
-ghost use Rattle.std.specs.Prelude.{IfErr, IfOk, OnErr, OnOk};
+ghost use Rattle.std.specs.Prelude.{◌↔◌, IfErr, IfOk, IsTrue, OnErr, OnOk};
 ghost use Rattle.std.specs.Iterator.{Drains, IsFinite};
 ghost use Rattle.rpki_der.specs.declared.mode.Mode.TheVariants.{Der};
 ghost use Rattle.rpki_der.specs.Tags.{SEQUENCE};
@@ -149,6 +149,13 @@ impl RoaIpAddressesBuilder {
         RoaIpAddressesEncoder {
             addrs: self.addrs.as_slice(),
         }
+    }
+
+    /// Whether there is no address.
+    pub(crate) fn is_empty(&self) -> bool
+        ensures { IsTrue result ↔ (self.now ≡ []) }
+    {
+        self.addrs.is_empty()
     }
 
     /// Why they are no addresses of the family, if they are none.

@@ -1,0 +1,79 @@
+use Rattle.std.proofs.Common.{◌≡◌, ℕ, List, subst, sym}
+use Rattle.std.specs.Prelude.{IfOk}
+use Rattle.std.proofs.lemmas.Result.{IfErr-weaker, IfOk-weaker, on_ok_weaker}
+use Rattle.rpki_signing.specs.Built.{IsBuilt, IsNotBuilt}
+use Rattle.rpki_signing.proofs.Contents.{never-content}
+use Rattle.rpki_routes.specs.Aspa.{Aspa}
+use Rattle.rpki_routes.specs.Aspa.Checks.{ct_aspa}
+use Rattle.rpki_routes.specs.Aspa.Form.{AspaForm}
+use Rattle.rpki_routes.specs.Aspa.Signed.{IsBuiltAspa, IsNotBuiltAspa}
+use Rattle.rpki_routes.specs.Aspa.Written.{aspa_octets}
+use Rattle.rpki_routes.proofs.Attestations.Signed.{aspa-built, aspa-unmade, aspa-unsigned}
+use Rattle.rpki_routes.proofs.Attestations.Signed.{claiming-names}
+use Rattle.rpki_routes.proofs.aspa.builder.AspaBuilder.finalize.Goals as goal
+
+pub returns-in-Err-clause-refused : goal.returns-in-Err-clause-refused
+returns-in-Err-clause-refused g c =
+    aspa-unmade _ (g.S.Signer.may_sign c.args.signer.now) c.args.limit c.args.self c.args.builder
+    (g.S.Signer.key_of c.args.signer.now c.args.issuer_key.now)
+    (g.S.Crypto.digest_of c.args.signer.now (aspa_octets c.args.self)) c.in-Err.fault
+    c.not_built.result c.not_built.ensures c.in-Err.ensures.refused
+
+pub signed-requires-clause-said : goal.signed-requires-clause-said
+signed-requires-clause-said g c = (
+  c.args.limit,
+  subst (λ (a : Aspa). AspaForm c.args.limit (aspa_octets a) a) (sym c.in-Ok.ensures.built)
+      c.in-Ok.ensures.written,
+)
+
+pub returns-in-Ok-told-clause-content : goal.returns-in-Ok-told-clause-content
+returns-in-Ok-told-clause-content g c =
+    subst (λ (a : Aspa). IfOk c.signed.result (λ o. o.content ≡ a)) c.in-Ok.ensures.built
+    c.signed.ensures.content
+
+pub returns-in-Ok-told-clause-form : goal.returns-in-Ok-told-clause-form
+returns-in-Ok-told-clause-form g c =
+    c.signed.ensures.form c.args.limit
+    (subst (λ (a : Aspa). AspaForm c.args.limit (aspa_octets a) a) (sym c.in-Ok.ensures.built)
+    c.in-Ok.ensures.written)
+
+pub returns-in-Ok-told-clause-built : goal.returns-in-Ok-told-clause-built
+returns-in-Ok-told-clause-built g c =
+    let key : List ℕ = g.S.Signer.key_of c.args.signer.now c.args.issuer_key.now in
+    IfOk-weaker c.signed.result
+    (λ o. IsBuilt c.in-Ok-told.told key ct_aspa (aspa_octets c.in-Ok.content)
+    (g.S.Crypto.digest_of c.args.signer.now (aspa_octets c.in-Ok.content)) o.object.object.signed)
+    (λ o. IsBuiltAspa c.args.limit c.args.self c.args.builder key
+    (g.S.Crypto.digest_of c.args.signer.now (aspa_octets c.args.self)) o.object.object.signed)
+    (λ o h. aspa-built c.args.limit c.args.self c.in-Ok.content c.args.builder c.in-Ok-told.told
+    key (g.S.Crypto.digest_of c.args.signer.now) o.object.object.signed c.in-Ok.ensures.built
+    c.in-Ok.ensures.within c.in-Ok-told.ensures h)
+    c.signed.ensures.built
+
+pub returns-in-Ok-told-clause-names : goal.returns-in-Ok-told-clause-names
+returns-in-Ok-told-clause-names g c =
+    on_ok_weaker c.signed.result
+    (claiming-names c.in-Ok.content c.args.builder c.in-Ok-told.told c.in-Ok-told.ensures)
+    c.signed.ensures.names
+
+pub returns-in-Ok-told-clause-refused : goal.returns-in-Ok-told-clause-refused
+returns-in-Ok-told-clause-refused g c =
+    let key : List ℕ = g.S.Signer.key_of c.args.signer.now c.args.issuer_key.now in
+    IfErr-weaker c.signed.result
+    (IsNotBuilt (g.S.Signer.may_sign c.args.signer.now) c.in-Ok-told.told key ct_aspa
+    (aspa_octets c.in-Ok.content)
+    (g.S.Crypto.digest_of c.args.signer.now (aspa_octets c.in-Ok.content)))
+    (IsNotBuiltAspa (g.S.Signer.may_sign c.args.signer.now) c.args.limit c.args.self
+    c.args.builder key (g.S.Crypto.digest_of c.args.signer.now (aspa_octets c.args.self)))
+    (λ e h. aspa-unsigned _ (g.S.Signer.may_sign c.args.signer.now) c.args.limit c.args.self
+    c.in-Ok.content c.args.builder c.in-Ok-told.told key (g.S.Crypto.digest_of c.args.signer.now) e
+    c.in-Ok.ensures.built c.in-Ok.ensures.within c.in-Ok-told.ensures h)
+    c.signed.ensures.refused
+
+pub returns-in-Ok-told-clause-unasked : goal.returns-in-Ok-told-clause-unasked
+returns-in-Ok-told-clause-unasked g c = λ fault e. absurd
+    (never-content _ (g.S.Signer.may_sign c.args.signer.now) c.in-Ok-told.told
+    (g.S.Signer.key_of c.args.signer.now c.args.issuer_key.now) ct_aspa
+    (aspa_octets c.in-Ok.content)
+    (g.S.Crypto.digest_of c.args.signer.now (aspa_octets c.in-Ok.content)) c.signed.result fault
+    c.signed.ensures.refused e)
