@@ -20,9 +20,9 @@ pub record KeptWhole : Type 0 where
 abbrev pub whole_of : KeptWhole → Whole
 whole_of k = record { signed = multi_of k.signed; content = k.content }
 
--- A multi-signed object, whose content's octets begin with what the content says, which is in DER
--- (draft-michaelson-rpki-rta, section 4). That octets may follow it there is this project's own
--- rule.
+-- A multi-signed attestation as an object: a multi-signed object, whose content's octets begin with
+-- what the content says, which is in DER (draft-michaelson-rpki-rta, section 4). That octets may
+-- follow it there is this project's own rule.
 abbrev pub RtaForm : Mode → List ℕ → Whole → Type 0
 RtaForm mode octets r =
     MultiForm mode octets r.signed × Begins (AttestationForm Der) r.signed.content r.content

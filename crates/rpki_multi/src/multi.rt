@@ -160,7 +160,8 @@ impl MultiSignedObject {
 
     /// The object, to be written in DER: each certificate and each revocation list as it was read,
     /// and no SET of lists where there is none. Refuses by `NotDer` where it, or a certificate, a
-    /// revocation list or a signer, was read in BER.
+    /// revocation list or a signer, was read in BER, and by `TooLong` where some contents has 2^32
+    /// octets or more.
     pub fn encode_ref(&self) -> MultiSignedObjectEncoder<'_>
         ensures value { result ≡ self.now }
         ensures written { AreIn Der self.now → length (multi_contents self.now) < 2 ^ 32

@@ -154,7 +154,8 @@ impl SignerInfo {
     }
 
     /// What it says, to be written in DER: the attributes as they were read or made, the signature
-    /// under rsaEncryption with a NULL. Refuses by `NotDer` where it was read in BER.
+    /// under rsaEncryption with a NULL. Refuses by `NotDer` where it was read in BER,
+    /// and by `TooLong` where some contents has 2^32 octets or more.
     pub fn encode_ref(&self) -> SignerInfoEncoder<'_>
         ensures value { result ≡ self.now }
         ensures kept { IsAttested self.now }

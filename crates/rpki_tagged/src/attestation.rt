@@ -148,7 +148,8 @@ impl ResourceTaggedAttestation {
 
     /// The content, to be written in DER: without its version, the keys in their order, each set in
     /// its canonical form, and empty sets left out. Where all three are empty, the AS numbers are
-    /// written as an empty list, since something has to be named.
+    /// written as an empty list, since something has to be named. Refuses by `TooLong` where some
+    /// contents has 2^32 octets or more.
     pub fn encode_ref(&self) -> AttestationEncoder<'_>
         ensures value { result ≡ self.now }
         ensures written { length (attestation_contents self.now) < 2 ^ 32

@@ -40,8 +40,9 @@ impl RoaBuilder {
     /// The ROA of this content as a signed object (RFC 9582, section 3). The builder of the signed
     /// object claims the addresses of the prefixes, whatever it claimed of addresses before; its
     /// claim of AS numbers stays as it was handed in, and should be missing (section 5). Refuses by
-    /// the faults of `to_attestation`, and by `EmptyRoa` where there is no address, before the
-    /// signer is asked for anything; and then as `SignedObjectBuilder::finalize` does.
+    /// the faults of `to_attestation`, and by `EmptyRoa` where there is no address; a fault of the
+    /// content comes before the signer is asked for anything. Then refuses as
+    /// `SignedObjectBuilder::finalize` does.
     pub fn finalize<S: Signer>(
         self,
         alloc: Global,
