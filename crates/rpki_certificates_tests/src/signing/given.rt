@@ -53,7 +53,7 @@ fn key(signer: &mut StandInSigner, number: u64) -> Result<PublicKey, Fail> {
 
 /// The certificate of the issuer before it is signed: that of a trust anchor with AS numbers from 1
 /// to 10.
-fn unsigned(alloc: Global, signer: &mut StandInSigner) -> Result<TbsCert, Fail>
+pub fn unsigned(alloc: Global, signer: &mut StandInSigner) -> Result<TbsCert, Fail>
     ensures { IfOk result (λ t. t.extensions.claims.addresses.v4 ≡ Missing) }
 {
     let validity = Validity::new(year(2020)?, year(2040)?);

@@ -1,0 +1,201 @@
+//! ROAs and ASPAs that are built and signed. Their contents alone are tested in the crate of tests of
+//! contents.
+
+use super::given::{ISSUER, builder, signed, year};
+use super::numbers::{AS, issuer, v4, v6};
+use rpki_basics::standin::{Refused, StandIn, StandInSigner};
+use rpki_basics::{ProviderLimit, SigningError};
+use rpki_certs::Cert;
+use rpki_faults::ValidationError;
+use rpki_fixtures::Fail;
+use rpki_resources::Asn;
+use rpki_routes::{Aspa, AspaBuilder, Roa, RoaBuilder};
+use rpki_sigobj::{Content, Signed};
+use std::alloc::{AllocError, Global};
+
+/// AS64496, 192.0.2.0/24 and 2001:db8::/32.
+const BOTH: &[u8] = b"\x30\x28\x02\x03\x00\xFB\xF0\x30\x21\x30\x0E\x04\x02\x00\x01\x30\x08\x30\x06\
+    \x03\x04\x00\xC0\x00\x02\x30\x0F\x04\x02\x00\x02\x30\x09\x30\x07\x03\x05\x00\x20\x01\x0D\xB8";
+
+/// AS64496 with AS64497, AS64498 and AS64499.
+const THREE: &[u8] = b"\x30\x1B\xA0\x03\x02\x01\x01\x02\x03\x00\xFB\xF0\x30\x0F\x02\x03\x00\xFB\xF1\
+    \x02\x03\x00\xFB\xF2\x02\x03\x00\xFB\xF3";
+
+/// What the signer answers.
+type Answer<T> = Result<Signed<T>, SigningError<Refused>>;
+
+/// A builder of a ROA for 2001:db8::/32 and a prefix of 192.0.2.0 of this length.
+fn both(alloc: Global, len: u8) -> Result<RoaBuilder, AllocError>
+    requires { len ≤ 128 }
+{
+    let mut roa = RoaBuilder::new(alloc, Asn::from_u32(AS));
+    roa.push_v6_addr(v6(), 32, None)?;
+    roa.push_v4_addr(v4(), len, None)?;
+    Ok(roa)
+}
+
+/// What the signer answers for a ROA.
+fn roa(
+    alloc: Global,
+    signer: &mut StandInSigner,
+    content: RoaBuilder,
+) -> Result<Result<Roa, SigningError<Refused>>, Fail> {
+    let mut builder = builder(alloc, year(2030)?)?;
+    builder.set_v6_resources_inherit();
+    Ok(content.finalize(alloc, builder, signer, &ISSUER))
+}
+
+/// A builder of an ASPA with these providers.
+fn with_providers(alloc: Global, providers: &[u32]) -> Result<AspaBuilder, Fail> {
+    let mut aspa = AspaBuilder::empty(alloc, Asn::from_u32(AS));
+    for provider in providers {
+        if aspa.add_provider(Asn::from_u32(*provider)).is_err() {
+            return Err(Fail::Memory);
+        }
+    }
+    Ok(aspa)
+}
+
+/// What the signer answers for an ASPA.
+fn aspa(
+    alloc: Global,
+    signer: &mut StandInSigner,
+    content: AspaBuilder,
+) -> Result<Result<Aspa, SigningError<Refused>>, Fail> {
+    let mut builder = builder(alloc, year(2030)?)?;
+    builder.set_v6_resources_inherit();
+    Ok(content.finalize(alloc, builder, signer, &ISSUER, ProviderLimit::Narrow))
+}
+
+/// The caller knows of no certificate that was revoked.
+fn pass(_cert: &Cert) -> Result<(), ValidationError> {
+    Ok(())
+}
+
+/// Whether an object that was written is read again strictly, with these octets of its content, and
+/// is valid under its issuer in 2030.
+fn is_yes<T: Content>(
+    alloc: Global,
+    object: Signed<T>,
+    signer: &mut StandInSigner,
+    rule: T::Rule,
+    content: &[u8],
+) -> Result<bool, Fail> {
+    let octets = object.to_captured();
+    drop(object);
+    let Ok(octets) = octets else {
+        return Err(Fail::Memory);
+    };
+    let issuer = issuer(alloc, signer)?;
+    let again = match Signed::<T>::decode(alloc, octets, true, rule) {
+        Err(error) => {
+            drop(issuer);
+            return Err(Fail::from(error));
+        }
+        Ok(again) => again,
+    };
+    let is_content = again.signed().content().as_slice() == content;
+    let (cert, content) = again.process_at(alloc, &issuer, true, &StandIn, year(2030)?, pass)?;
+    drop(issuer);
+    drop(cert);
+    drop(content);
+    Ok(is_content)
+}
+
+/// Whether a ROA is signed, and valid.
+fn is_roa(alloc: Global) -> Result<bool, Fail> {
+    let mut signer = StandInSigner::new(alloc);
+    let content = both(alloc, 24)?;
+    let object = signed(roa(alloc, &mut signer, content)?)?;
+    let inherits = object.cert().as_resources().is_inherited();
+    Ok(is_yes(alloc, object, &mut signer, (), BOTH)? && inherits)
+}
+
+/// Whether an ASPA is signed, and valid.
+fn is_aspa(alloc: Global) -> Result<bool, Fail> {
+    let mut signer = StandInSigner::new(alloc);
+    let content = with_providers(alloc, &[64498, 64497, 64499])?;
+    let object = signed(aspa(alloc, &mut signer, content)?)?;
+    is_yes(alloc, object, &mut signer, ProviderLimit::Narrow, THREE)
+}
+
+#[test]
+fn built_routes_are_valid(rt: HostRuntime) -> Result<(), Fail> {
+    let alloc = rt.alloc();
+    assert!(rt; is_roa(alloc)? && is_aspa(alloc)?);
+    Ok(())
+}
+
+/// Why an object is refused, in words.
+fn why<T: Content>(alloc: Global, answer: Answer<T>) -> Result<String, Fail> {
+    match answer {
+        Ok(object) => {
+            drop(object);
+            Ok(String::new(alloc))
+        }
+        Err(SigningError::Memory) => Err(Fail::Memory),
+        Err(error) => Ok(format!(in alloc; "{error}")?),
+    }
+}
+
+/// Whether a ROA is refused for this reason by a signer whose call with this number fails: one of
+/// no address, where the length is 0, and else one with a prefix of this length.
+fn is_refused_roa(alloc: Global, len: u8, call: u64, reason: &str) -> Result<bool, Fail>
+    requires { len ≤ 128 }
+{
+    let mut signer = StandInSigner::failing_at(alloc, call);
+    let content = if len == 0 {
+        RoaBuilder::new(alloc, Asn::from_u32(AS))
+    } else {
+        both(alloc, len)?
+    };
+    let answer = roa(alloc, &mut signer, content)?;
+    Ok(why(alloc, answer)?.as_str() == reason)
+}
+
+/// Whether an ASPA is refused for this reason by a signer whose call with this number fails.
+fn is_refused_aspa(
+    alloc: Global,
+    providers: &[u32],
+    call: u64,
+    reason: &str,
+) -> Result<bool, Fail> {
+    let mut signer = StandInSigner::failing_at(alloc, call);
+    let content = with_providers(alloc, providers)?;
+    let answer = aspa(alloc, &mut signer, content)?;
+    Ok(why(alloc, answer)?.as_str() == reason)
+}
+
+/// The lengths of prefixes, the call that fails, and the fault: that of the content comes first.
+static ROAS: [(u8, u64, &str); 7] = [
+    (24, 0, ""),
+    (24, 1, "told to fail"),
+    (24, 2, "told to fail"),
+    (24, 3, "told to fail"),
+    (24, 4, ""),
+    (0, 1, "ROA without addresses"),
+    (33, 1, "prefix too long"),
+];
+
+/// The providers, the call that fails, and the fault: that of the content comes first.
+static ASPAS: [(&[u32], u64, &str); 7] = [
+    (&[1], 0, ""),
+    (&[1], 1, "told to fail"),
+    (&[1], 2, "told to fail"),
+    (&[1], 3, "told to fail"),
+    (&[], 1, "no provider"),
+    (&[1, 64496], 1, "customer is its own provider"),
+    (&[0, 1], 1, "AS0 beside another provider"),
+];
+
+#[test]
+fn faults_are_told(rt: HostRuntime) -> Result<(), Fail> {
+    let alloc = rt.alloc();
+    for (len, call, reason) in &ROAS {
+        assert!(rt; is_refused_roa(alloc, *len, *call, reason)?);
+    }
+    for (providers, call, reason) in &ASPAS {
+        assert!(rt; is_refused_aspa(alloc, providers, *call, reason)?);
+    }
+    Ok(())
+}
