@@ -5,7 +5,8 @@ use Rattle.rpki_multi.specs.Multi.{MultiForm}
 use Rattle.rpki_multi.proofs.laws.octets_after_multi_signed_objects_are_left.Goals as goal
 
 pub returns-clause-objects : goal.returns-clause-objects
-returns-clause-objects c = λ mode. leaves-after mode (MultiForm mode) (λ o s h. (SEQUENCE, h.0, h.1))
+returns-clause-objects c = λ mode.
+    leaves-after mode (MultiForm mode) (λ o s h. (SEQUENCE, h.0, h.1))
 
 pub returns-clause-attestations : goal.returns-clause-attestations
 returns-clause-attestations c = λ mode.
