@@ -24,13 +24,31 @@ const THREE: &[u8] = b"\x30\x1B\xA0\x03\x02\x01\x01\x02\x03\x00\xFB\xF0\x30\x0F\
 /// What the signer answers.
 type Answer<T> = Result<Signed<T>, SigningError<Refused>>;
 
-/// A builder of a ROA for 2001:db8::/32 and a prefix of 192.0.2.0 of this length.
-fn both(alloc: Global, len: u8) -> Result<RoaBuilder, AllocError>
-    requires { len ≤ 128 }
-{
+/// What a ROA has.
+#[derive(Clone, Copy)]
+enum Has {
+    /// No address.
+    Nothing,
+    /// 2001:db8::/32 and 192.0.2.0/24.
+    Both,
+    /// 2001:db8::/32 and 192.0.2.0/33.
+    TooLong,
+}
+
+/// A builder of a ROA that has this.
+fn with_addresses(alloc: Global, has: Has) -> Result<RoaBuilder, AllocError> {
     let mut roa = RoaBuilder::new(alloc, Asn::from_u32(AS));
-    roa.push_v6_addr(v6(), 32, None)?;
-    roa.push_v4_addr(v4(), len, None)?;
+    match has {
+        Has::Nothing => {}
+        Has::Both => {
+            roa.push_v6_addr(v6(), 32, None)?;
+            roa.push_v4_addr(v4(), 24, None)?;
+        }
+        Has::TooLong => {
+            roa.push_v6_addr(v6(), 32, None)?;
+            roa.push_v4_addr(v4(), 33, None)?;
+        }
+    }
     Ok(roa)
 }
 
@@ -105,7 +123,7 @@ fn is_yes<T: Content>(
 /// Whether a ROA is signed, and valid.
 fn is_roa(alloc: Global) -> Result<bool, Fail> {
     let mut signer = StandInSigner::new(alloc);
-    let content = both(alloc, 24)?;
+    let content = with_addresses(alloc, Has::Both)?;
     let object = signed(roa(alloc, &mut signer, content)?)?;
     let inherits = object.cert().as_resources().is_inherited();
     Ok(is_yes(alloc, object, &mut signer, (), BOTH)? && inherits)
@@ -138,17 +156,10 @@ fn why<T: Content>(alloc: Global, answer: Answer<T>) -> Result<String, Fail> {
     }
 }
 
-/// Whether a ROA is refused for this reason by a signer whose call with this number fails: one of
-/// no address, where the length is 0, and else one with a prefix of this length.
-fn is_refused_roa(alloc: Global, len: u8, call: u64, reason: &str) -> Result<bool, Fail>
-    requires { len ≤ 128 }
-{
+/// Whether a ROA is refused for this reason by a signer whose call with this number fails.
+fn is_refused_roa(alloc: Global, has: Has, call: u64, reason: &str) -> Result<bool, Fail> {
     let mut signer = StandInSigner::failing_at(alloc, call);
-    let content = if len == 0 {
-        RoaBuilder::new(alloc, Asn::from_u32(AS))
-    } else {
-        both(alloc, len)?
-    };
+    let content = with_addresses(alloc, has)?;
     let answer = roa(alloc, &mut signer, content)?;
     Ok(why(alloc, answer)?.as_str() == reason)
 }
@@ -166,15 +177,15 @@ fn is_refused_aspa(
     Ok(why(alloc, answer)?.as_str() == reason)
 }
 
-/// The lengths of prefixes, the call that fails, and the fault: that of the content comes first.
-static ROAS: [(u8, u64, &str); 7] = [
-    (24, 0, ""),
-    (24, 1, "told to fail"),
-    (24, 2, "told to fail"),
-    (24, 3, "told to fail"),
-    (24, 4, ""),
-    (0, 1, "ROA without addresses"),
-    (33, 1, "prefix too long"),
+/// What a ROA has, the call that fails, and the fault: that of the content comes first.
+static ROAS: [(Has, u64, &str); 7] = [
+    (Has::Both, 0, ""),
+    (Has::Both, 1, "told to fail"),
+    (Has::Both, 2, "told to fail"),
+    (Has::Both, 3, "told to fail"),
+    (Has::Both, 4, ""),
+    (Has::Nothing, 1, "ROA without addresses"),
+    (Has::TooLong, 1, "prefix too long"),
 ];
 
 /// The providers, the call that fails, and the fault: that of the content comes first.
@@ -191,8 +202,8 @@ static ASPAS: [(&[u32], u64, &str); 7] = [
 #[test]
 fn faults_are_told(rt: HostRuntime) -> Result<(), Fail> {
     let alloc = rt.alloc();
-    for (len, call, reason) in &ROAS {
-        assert!(rt; is_refused_roa(alloc, *len, *call, reason)?);
+    for (has, call, reason) in &ROAS {
+        assert!(rt; is_refused_roa(alloc, *has, *call, reason)?);
     }
     for (providers, call, reason) in &ASPAS {
         assert!(rt; is_refused_aspa(alloc, providers, *call, reason)?);
