@@ -8,8 +8,8 @@ use std::alloc::{AllocError, Global};
 /// The name and the hash of an entry.
 type Entry = (&'static [u8], &'static [u8]);
 
-/// How many entries there are, and these, before others that stand for none.
-type Entries = (usize, [Entry; 3]);
+/// The entries of a row.
+type Entries = &'static [Entry];
 
 /// A rule, the day and the second of January 2024 of thisUpdate, entries, and what the content is
 /// written as, whose number is 12 and whose nextUpdate is the beginning of 2024-01-08.
@@ -17,10 +17,7 @@ static BUILT: [(ManifestRule, (u8, u8), Entries, &[u8]); 8] = [
     (
         ManifestRule::Any,
         (1, 0),
-        (
-            2,
-            [(b"file.cer", b"hash"), (b"file.cer", b"hash"), (b"", b"")],
-        ),
+        &[(b"file.cer", b"hash"), (b"file.cer", b"hash")],
         b"0X\x02\x01\x0C\x18\x0F20240101000000Z\x18\x0F20240108000000Z\x06\x09`\x86H\x01e\
           \x03\x04\x02\x010&0\x11\x16\x08file.cer\x03\x05\x00hash0\x11\x16\x08file.cer\x03\
           \x05\x00hash",
@@ -28,49 +25,39 @@ static BUILT: [(ManifestRule, (u8, u8), Entries, &[u8]); 8] = [
     (
         ManifestRule::Any,
         (1, 0),
-        (1, [(b"file.cer", b"hash"), (b"", b""), (b"", b"")]),
+        &[(b"file.cer", b"hash")],
         b"0E\x02\x01\x0C\x18\x0F20240101000000Z\x18\x0F20240108000000Z\x06\x09`\x86H\x01e\
           \x03\x04\x02\x010\x130\x11\x16\x08file.cer\x03\x05\x00hash",
     ),
     (
         ManifestRule::Registered,
         (1, 0),
-        (1, [(b"file.cer", b"hash"), (b"", b""), (b"", b"")]),
+        &[(b"file.cer", b"hash")],
         b"0E\x02\x01\x0C\x18\x0F20240101000000Z\x18\x0F20240108000000Z\x06\x09`\x86H\x01e\
           \x03\x04\x02\x010\x130\x11\x16\x08file.cer\x03\x05\x00hash",
     ),
     (
         ManifestRule::Any,
         (1, 0),
-        (
-            1,
-            [
-                (b"unknownextension.abc", b"\x01\x02"),
-                (b"", b""),
-                (b"", b""),
-            ],
-        ),
+        &[(b"unknownextension.abc", b"\x01\x02")],
         b"0O\x02\x01\x0C\x18\x0F20240101000000Z\x18\x0F20240108000000Z\x06\x09`\x86H\x01e\
           \x03\x04\x02\x010\x1D0\x1B\x16\x14unknownextension.abc\x03\x03\x00\x01\x02",
     ),
     (
         ManifestRule::Registered,
         (1, 0),
-        (1, [(b"correct.ASA", b""), (b"", b""), (b"", b"")]),
+        &[(b"correct.ASA", b"")],
         b"0D\x02\x01\x0C\x18\x0F20240101000000Z\x18\x0F20240108000000Z\x06\x09`\x86H\x01e\
           \x03\x04\x02\x010\x120\x10\x16\x0Bcorrect.ASA\x03\x01\x00",
     ),
     (
         ManifestRule::Registered,
         (1, 0),
-        (
-            3,
-            [
-                (b"b.roa", b"\xFF"),
-                (b"a.cer", b"\x00"),
-                (b"A.cer", b"hash"),
-            ],
-        ),
+        &[
+            (b"b.roa", b"\xFF"),
+            (b"a.cer", b"\x00"),
+            (b"A.cer", b"hash"),
+        ],
         b"0\\\x02\x01\x0C\x18\x0F20240101000000Z\x18\x0F20240108000000Z\x06\x09`\x86H\x01e\
           \x03\x04\x02\x010*0\x0B\x16\x05b.roa\x03\x02\x00\xFF0\x0B\x16\x05a.cer\x03\x02\x00\
           \x000\x0E\x16\x05A.cer\x03\x05\x00hash",
@@ -78,14 +65,14 @@ static BUILT: [(ManifestRule, (u8, u8), Entries, &[u8]); 8] = [
     (
         ManifestRule::Registered,
         (1, 0),
-        (0, [(b"", b""), (b"", b""), (b"", b"")]),
+        &[],
         b"02\x02\x01\x0C\x18\x0F20240101000000Z\x18\x0F20240108000000Z\x06\x09`\x86H\x01e\
           \x03\x04\x02\x010\x00",
     ),
     (
         ManifestRule::Any,
         (8, 0),
-        (0, [(b"", b""), (b"", b""), (b"", b"")]),
+        &[],
         b"02\x02\x01\x0C\x18\x0F20240108000000Z\x18\x0F20240108000000Z\x06\x09`\x86H\x01e\
           \x03\x04\x02\x010\x00",
     ),
@@ -96,68 +83,59 @@ static REFUSED: [(ManifestRule, (u8, u8), Entries, &str); 9] = [
     (
         ManifestRule::Any,
         (8, 1),
-        (1, [(b"file.cer", b"hash"), (b"", b""), (b"", b"")]),
+        &[(b"file.cer", b"hash")],
         "thisUpdate is after nextUpdate",
     ),
     (
         ManifestRule::Registered,
         (8, 1),
-        (
-            3,
-            [
-                (b"multiple.dots.roa", b""),
-                (b"a.abc", b""),
-                (b"a.abc", b""),
-            ],
-        ),
+        &[
+            (b"multiple.dots.roa", b""),
+            (b"a.abc", b""),
+            (b"a.abc", b""),
+        ],
         "thisUpdate is after nextUpdate",
     ),
     (
         ManifestRule::Any,
         (8, 0),
-        (2, [(b"file.cer", b""), (b"bar", b""), (b"", b"")]),
+        &[(b"file.cer", b""), (b"bar", b"")],
         "bad file name",
     ),
     (
         ManifestRule::Any,
         (1, 0),
-        (2, [(b"", b"hash"), (b"file.cer", b""), (b"", b"")]),
+        &[(b"", b"hash"), (b"file.cer", b"")],
         "bad file name",
     ),
     (
         ManifestRule::Registered,
         (1, 0),
-        (3, [(b"a.abc", b""), (b"a.abc", b""), (b"bar.a00", b"")]),
+        &[(b"a.abc", b""), (b"a.abc", b""), (b"bar.a00", b"")],
         "bad file name",
     ),
     (
         ManifestRule::Registered,
         (1, 0),
-        (
-            1,
-            [(b"unknownextension.abc", b"hash"), (b"", b""), (b"", b"")],
-        ),
+        &[(b"unknownextension.abc", b"hash")],
         "file type not registered",
     ),
     (
         ManifestRule::Registered,
         (1, 0),
-        (3, [(b"a.cer", b""), (b"a.cer", b""), (b"a.abc", b"")]),
+        &[(b"a.cer", b""), (b"a.cer", b""), (b"a.abc", b"")],
         "file type not registered",
     ),
     (
         ManifestRule::Registered,
         (1, 0),
-        (
-            2,
-            [(b"file.cer", b"hash"), (b"file.cer", b"hash"), (b"", b"")],
-        ),
+        &[(b"file.cer", b"hash"), (b"file.cer", b"hash")],
         "repeated file name",
     ),
     (
         ManifestRule::Registered,
         (1, 0),
-        (3, [(b"a.cer", b"1"), (b"b.cer", b"2"), (b"a.cer", b"3")]),
+        &[(b"a.cer", b"1"), (b"b.cer", b"2"), (b"a.cer", b"3")],
         "repeated file name",
     ),
 ];
@@ -170,24 +148,13 @@ fn moment((day, second): (u8, u8)) -> Result<Time, BuildError> {
     }
 }
 
-/// The entries of a row.
-fn first(entries: &Entries) -> &[Entry] {
-    match entries.0 {
-        0 => &[],
-        1 => &entries.1[..1],
-        2 => &entries.1[..2],
-        _ => &entries.1[..],
-    }
-}
-
 /// The content of these entries.
 fn content(
     alloc: Global,
     rule: ManifestRule,
     this: (u8, u8),
-    entries: &Entries,
+    entries: Entries,
 ) -> Result<ManifestContent, BuildError> {
-    let entries = first(entries);
     ManifestContent::new(
         alloc,
         Serial::from(12),
@@ -247,7 +214,7 @@ fn are_written(
 /// Whether this is what each row is written as.
 fn are_built(alloc: Global) -> Result<bool, BuildError> {
     for (rule, this, entries, wanted) in &BUILT {
-        let content = content(alloc, *rule, *this, entries)?;
+        let content = content(alloc, *rule, *this, *entries)?;
         let is = are_written(alloc, &content, wanted);
         drop(content);
         if !is? {
@@ -268,7 +235,7 @@ fn is_refused(alloc: Global, answer: &BuildError, wanted: &str) -> Result<bool, 
 /// Whether each row is refused as it says.
 fn are_refused(alloc: Global) -> Result<bool, AllocError> {
     for (rule, this, entries, wanted) in &REFUSED {
-        let is = match content(alloc, *rule, *this, entries) {
+        let is = match content(alloc, *rule, *this, *entries) {
             Ok(content) => {
                 drop(content);
                 false
