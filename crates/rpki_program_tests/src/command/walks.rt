@@ -69,10 +69,10 @@ const fn unreadable(err: &'static str) -> Output<'static> {
 type Row<'a> = (&'a [&'a str], Output<'a>, usize);
 
 /// That these words, with those of each row after them, are answered so.
-fn are_walked(
+fn are_walked<'a>(
     rt: &(impl Abort + AllocGlobal),
-    before: &[&str],
-    rows: &[Row<'_>],
+    before: &[&'a str],
+    rows: &[Row<'a>],
 ) -> Result<(), AllocError> {
     for (tail, said, reads) in rows {
         let mut words = Vec::from_slice(rt.alloc(), before)?;
