@@ -1,8 +1,9 @@
 //! Manifests that are built and signed, under an issuer that was built too.
 
 use super::given::{ISSUER, builder, issuer, signed, year};
+use bytes::Bytes;
 use rpki_basics::standin::{Refused, StandIn, StandInSigner};
-use rpki_basics::{DigestAlgorithm, ManifestRule, Serial, SigningError};
+use rpki_basics::{DigestAlgorithm, ManifestRule, Serial, SigningError, Time};
 use rpki_files::{FileAndHash, Manifest, ManifestContent, ValidateManifest};
 use rpki_fixtures::Fail;
 use std::alloc::Global;
@@ -33,7 +34,8 @@ fn manifest(
     alloc: Global,
     signer: &mut StandInSigner,
 ) -> Result<Result<Manifest, SigningError<Refused>>, Fail> {
-    let builder = builder(alloc, year(2030)?)?;
+    let now = year(2030)?;
+    let builder = builder(alloc, now)?;
     match content(alloc) {
         Err(why) => {
             drop(builder);
@@ -54,24 +56,57 @@ fn text(alloc: Global, manifest: &Manifest) -> Result<String, Fail> {
     Ok(format!(in alloc; "{number} {len} {serial} {inherits}")?)
 }
 
-/// What a manifest says that was written and read again strictly, and whether it is valid under its
-/// issuer in this year.
-fn read_again(alloc: Global, at: u16) -> Result<(String, bool), Fail> {
+/// The octets of a manifest that is signed.
+fn octets(alloc: Global) -> Result<Bytes, Fail> {
     let mut signer = StandInSigner::new(alloc);
-    let issuer = issuer(alloc, &mut signer)?;
     let manifest = signed(manifest(alloc, &mut signer)?)?;
     let octets = manifest.to_captured();
     drop(manifest);
-    let Ok(octets) = octets else {
-        return Err(Fail::Memory);
-    };
+    match octets {
+        Ok(octets) => Ok(octets),
+        Err(_) => Err(Fail::Memory),
+    }
+}
+
+/// Whether a manifest is valid under its issuer at this moment.
+fn is_valid(alloc: Global, manifest: Manifest, now: Time) -> Result<bool, Fail> {
+    let mut signer = StandInSigner::new(alloc);
+    match issuer(alloc, &mut signer) {
+        Err(fail) => {
+            drop(manifest);
+            Err(fail)
+        }
+        Ok(issuer) => {
+            let answer = manifest.validate_at(alloc, &issuer, true, &StandIn, now);
+            drop(issuer);
+            match answer {
+                Ok((cert, content)) => {
+                    drop(cert);
+                    drop(content);
+                    Ok(true)
+                }
+                Err(_) => Ok(false),
+            }
+        }
+    }
+}
+
+/// What a manifest says that was written and read again strictly, and whether it is valid under its
+/// issuer in this year.
+fn read_again(alloc: Global, at: u16) -> Result<(String, bool), Fail> {
+    let now = year(at)?;
+    let octets = octets(alloc)?;
     let again = Manifest::decode(alloc, octets, true, ManifestRule::Registered)?;
-    let text = text(alloc, &again)?;
-    let is_valid = again
-        .validate_at(alloc, &issuer, true, &StandIn, year(at)?)
-        .is_ok();
-    drop(issuer);
-    Ok((text, is_valid))
+    match text(alloc, &again) {
+        Err(fail) => {
+            drop(again);
+            Err(fail)
+        }
+        Ok(text) => {
+            let is_valid = is_valid(alloc, again, now)?;
+            Ok((text, is_valid))
+        }
+    }
 }
 
 #[test]

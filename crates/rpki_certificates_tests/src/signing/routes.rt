@@ -10,6 +10,7 @@ use rpki_faults::ValidationError;
 use rpki_fixtures::Fail;
 use rpki_resources::Asn;
 use rpki_routes::{Aspa, AspaBuilder, Roa, RoaBuilder};
+use rpki_signing::SignedObjectBuilder;
 use rpki_sigobj::{Content, Signed};
 use std::alloc::{AllocError, Global};
 
@@ -52,15 +53,27 @@ fn with_addresses(alloc: Global, has: Has) -> Result<RoaBuilder, AllocError> {
     Ok(roa)
 }
 
+/// A builder of a signed object, which inherits IPv6 addresses.
+fn told(alloc: Global) -> Result<SignedObjectBuilder, Fail> {
+    let now = year(2030)?;
+    let mut builder = builder(alloc, now)?;
+    builder.set_v6_resources_inherit();
+    Ok(builder)
+}
+
 /// What the signer answers for a ROA.
 fn roa(
     alloc: Global,
     signer: &mut StandInSigner,
     content: RoaBuilder,
 ) -> Result<Result<Roa, SigningError<Refused>>, Fail> {
-    let mut builder = builder(alloc, year(2030)?)?;
-    builder.set_v6_resources_inherit();
-    Ok(content.finalize(alloc, builder, signer, &ISSUER))
+    match told(alloc) {
+        Ok(builder) => Ok(content.finalize(alloc, builder, signer, &ISSUER)),
+        Err(fail) => {
+            drop(content);
+            Err(fail)
+        }
+    }
 }
 
 /// A builder of an ASPA with these providers.
@@ -80,9 +93,13 @@ fn aspa(
     signer: &mut StandInSigner,
     content: AspaBuilder,
 ) -> Result<Result<Aspa, SigningError<Refused>>, Fail> {
-    let mut builder = builder(alloc, year(2030)?)?;
-    builder.set_v6_resources_inherit();
-    Ok(content.finalize(alloc, builder, signer, &ISSUER, ProviderLimit::Narrow))
+    match told(alloc) {
+        Ok(builder) => Ok(content.finalize(alloc, builder, signer, &ISSUER, ProviderLimit::Narrow)),
+        Err(fail) => {
+            drop(content);
+            Err(fail)
+        }
+    }
 }
 
 /// The caller knows of no certificate that was revoked.
@@ -101,6 +118,7 @@ fn is_yes<T: Content>(
 ) -> Result<bool, Fail> {
     let octets = object.to_captured();
     drop(object);
+    let now = year(2030)?;
     let Ok(octets) = octets else {
         return Err(Fail::Memory);
     };
@@ -113,11 +131,16 @@ fn is_yes<T: Content>(
         Ok(again) => again,
     };
     let is_content = again.signed().content().as_slice() == content;
-    let (cert, content) = again.process_at(alloc, &issuer, true, &StandIn, year(2030)?, pass)?;
+    let answer = again.process_at(alloc, &issuer, true, &StandIn, now, pass);
     drop(issuer);
-    drop(cert);
-    drop(content);
-    Ok(is_content)
+    match answer {
+        Ok((cert, content)) => {
+            drop(cert);
+            drop(content);
+            Ok(is_content)
+        }
+        Err(error) => Err(Fail::from(error)),
+    }
 }
 
 /// Whether a ROA is signed, and valid.
