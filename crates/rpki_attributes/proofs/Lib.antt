@@ -1,2 +1,3 @@
 pub mod Attributes
 pub mod Lists
+pub mod Signing

@@ -1,3 +1,4 @@
 pub mod Attribute
 pub mod Attrs
+pub mod Signing
 pub mod Text

@@ -1,9 +1,11 @@
 //! Why signed attributes are not made.
 
 ghost use Rattle.std.specs.Prelude.{◌≡◌, Some};
+ghost use Rattle.rpki_attributes.specs.Signing.{attrs_error};
 ghost use Rattle.rpki_attributes.specs.Text.{fault_text};
 ghost use Rattle.rpki_attributes.specs.declared.fault.AttrsFault.TheVariants.{Memory};
 
+use rpki_basics::SigningError;
 use std::alloc::{AllocError, AllocFailed};
 use std::error::Error;
 use std::fmt;
@@ -15,6 +17,18 @@ pub enum AttrsFault {
     AttrsTooLong,
     /// No memory was to be had.
     Memory,
+}
+
+impl AttrsFault {
+    /// The same as an error of what is signed.
+    pub fn signing_error<E>(self) -> SigningError<E>
+        ensures { result ≡ attrs_error self }
+    {
+        match self {
+            AttrsFault::AttrsTooLong => SigningError::AttrsTooLong,
+            AttrsFault::Memory => SigningError::Memory,
+        }
+    }
 }
 
 impl From<AllocError> for AttrsFault {

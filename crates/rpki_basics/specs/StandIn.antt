@@ -1,10 +1,14 @@
 -- The signatures of the stand-in.
 use Rattle.std.specs.Prelude.{◌≡◌, ℕ, ◌+◌, ◌-◌, ◌%◌, ◌^◌, List, ◌++◌, Bool, true, false, bytes_eq}
-use Rattle.std.specs.Prelude.{◌==◌, if◌then◌else◌, Result, Ok, Err}
+use Rattle.std.specs.Prelude.{◌==◌, if◌then◌else◌, length, Result, Ok, Err}
 use Rattle.rpki_basics.specs.declared.signer.SignerFault.{SignerFault}
 use Rattle.rpki_basics.specs.declared.signer.SignerFault.TheVariants.{KeyNotFound, IncompatibleKey}
 use Rattle.rpki_basics.specs.declared.signer.SignerFault.TheVariants.{Signer, Memory}
 use Rattle.sha2.specs.Sha256.{sha256}
+
+-- The bits of a key that a signer of the stand-in has: eight octets, which are its number.
+abbrev pub IsStandInKey : List ℕ → Type 0
+IsStandInKey key = length key ≡ 8
 
 -- The digest of the key's bits and the message, which is the only signature.
 abbrev pub IsStandInSignature : List ℕ → List ℕ → List ℕ → Type 0

@@ -50,8 +50,8 @@ impl<E: fmt::Display> fmt::Display for SignerFault<E> {
 
 impl<E: Error> Error for SignerFault<E> {}
 
-/// What holds private keys. The key of each name, and which signatures may be answered, no call
-/// changes; nor does a call change the digests and the verdicts. A call that answers a fault other
+/// What holds private keys. The key of each name, which signatures may be answered, and which keys
+/// are made to sign once, no call changes; nor does a call change the digests and the verdicts. A call that answers a fault other
 /// than `Memory` raises the count of failed calls, and no other call does.
 pub trait Signer: Crypto {
     /// What a key is named by.
@@ -66,6 +66,9 @@ pub trait Signer: Crypto {
     // What may be answered as a signature, by the key with these bits, of this message.
     ghost may_sign: { Self → List ℕ → List ℕ → List ℕ → Type 0 };
 
+    // Which keys, by their bits, are made to sign once: they have no name, and sign nothing else.
+    ghost is_one_off: { Self → List ℕ → Type 0 };
+
     // How many calls have failed.
     ghost failures: { Self → ℕ };
 
@@ -78,6 +81,7 @@ pub trait Signer: Crypto {
         ensures digests { (m : List ℕ) → Self.digest_of self.new m ≡ Self.digest_of self.old m }
         ensures verdicts { (k m s : List ℕ) →
             Self.is_signed self.new k m s ≡ Self.is_signed self.old k m s }
+        ensures once { (k : List ℕ) → is_one_off self.new k ↔ is_one_off self.old k }
         ensures cause { CountsFault (failures self.old) (failures self.new) result };
 
     /// A signature of the message by the key that the name stands for. Refuses as `get_key_info`
@@ -95,21 +99,23 @@ pub trait Signer: Crypto {
         ensures digests { (m : List ℕ) → Self.digest_of self.new m ≡ Self.digest_of self.old m }
         ensures verdicts { (k m s : List ℕ) →
             Self.is_signed self.new k m s ≡ Self.is_signed self.old k m s }
+        ensures once { (k : List ℕ) → is_one_off self.new k ↔ is_one_off self.old k }
         ensures cause { CountsFault (failures self.old) (failures self.new) result };
 
-    /// A signature of the message by a key that is made for it, and this key. That the key is new
-    /// and signs nothing else is asked of a signer, and no clause says it. Refuses as
-    /// `get_key_info` does.
+    /// A signature of the message by a key that is made for it, and this key: one that signs
+    /// nothing else (RFC 6487, section 3). Refuses as `get_key_info` does.
     fn sign_one_off(
         &mut self,
         algorithm: RpkiSignatureAlgorithm,
         message: &[u8],
     ) -> Result<(RpkiSignature, PublicKey), SignerFault<Self::Error>>
         ensures signed { IfOk result (λ p. may_sign self.old p.1 message.now p.0) }
+        ensures one_off { IfOk result (λ p. is_one_off self.old p.1) }
         ensures keys { (k : Self.KeyId) → key_of self.new k ≡ key_of self.old k }
         ensures signs { (k m s : List ℕ) → may_sign self.new k m s ↔ may_sign self.old k m s }
         ensures digests { (m : List ℕ) → Self.digest_of self.new m ≡ Self.digest_of self.old m }
         ensures verdicts { (k m s : List ℕ) →
             Self.is_signed self.new k m s ≡ Self.is_signed self.old k m s }
+        ensures once { (k : List ℕ) → is_one_off self.new k ↔ is_one_off self.old k }
         ensures cause { CountsFault (failures self.old) (failures self.new) result };
 }

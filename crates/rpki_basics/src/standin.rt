@@ -3,7 +3,8 @@
 ghost use Rattle.std.specs.Prelude.{◌≡◌, ◌++◌, ◌+◌, ◌^◌, IfOk};
 ghost use Rattle.std.specs.Int.{w64, to_be_bytes};
 ghost use Rattle.sha2.specs.Sha256.{sha256};
-ghost use Rattle.rpki_basics.specs.StandIn.{IsStandInSignature, is_stand_in_signature};
+ghost use Rattle.rpki_basics.specs.StandIn.{IsStandInKey, IsStandInSignature};
+ghost use Rattle.rpki_basics.specs.StandIn.{is_stand_in_signature};
 ghost use Rattle.rpki_basics.specs.Signer.{CountsFault};
 ghost use Rattle.rpki_basics.specs.StandIn.{is_told, after_call, after_one_off, FailsAsTold};
 
@@ -170,7 +171,10 @@ impl Signer for StandInSigner {
 
     ghost key_of = { λ _ number. to_be_bytes w64 number };
 
-    ghost may_sign = { λ _ key message signature. IsStandInSignature key message signature };
+    ghost may_sign = { λ _ key message signature.
+        IsStandInKey key × IsStandInSignature key message signature };
+
+    ghost is_one_off = { λ _ key. IsStandInKey key };
 
     ghost failures = { λ s. s.failures };
 
@@ -195,8 +199,8 @@ impl Signer for StandInSigner {
         algorithm: RpkiSignatureAlgorithm,
         message: &[u8],
     ) -> Result<RpkiSignature, SignerFault<Refused>>
-        ensures signed { IfOk result (λ s.
-            IsStandInSignature (to_be_bytes w64 key.now) message.now s) }
+        ensures signed { IfOk result (λ s. IsStandInKey (to_be_bytes w64 key.now)
+            × IsStandInSignature (to_be_bytes w64 key.now) message.now s) }
         ensures cause { CountsFault self.old.failures self.new.failures result }
         ensures told { FailsAsTold self.old result }
         ensures after { self.new ≡ after_call self.old self.old.next }
@@ -215,7 +219,9 @@ impl Signer for StandInSigner {
         algorithm: RpkiSignatureAlgorithm,
         message: &[u8],
     ) -> Result<(RpkiSignature, PublicKey), SignerFault<Refused>>
-        ensures signed { IfOk result (λ p. IsStandInSignature p.1 message.now p.0) }
+        ensures signed { IfOk result (λ p.
+            IsStandInKey p.1 × IsStandInSignature p.1 message.now p.0) }
+        ensures one_off { IfOk result (λ p. IsStandInKey p.1) }
         ensures key { IfOk result (λ p. p.1 ≡ to_be_bytes w64 self.old.next) }
         ensures cause { CountsFault self.old.failures self.new.failures result }
         ensures told { FailsAsTold self.old result }

@@ -58,6 +58,7 @@ pub fn sign_and_join<S: Signer>(
     ensures digests { (m : List ℕ) → S.digest_of signer.new m ≡ S.digest_of signer.old m }
     ensures verdicts { (k m s : List ℕ) →
         S.is_signed signer.new k m s ≡ S.is_signed signer.old k m s }
+    ensures once { (k : List ℕ) → S.is_one_off signer.new k ↔ S.is_one_off signer.old k }
 {
     let signature = signer.sign(key, RpkiSignatureAlgorithm::RsaSha256, octets)?;
     match joined(alloc, octets, &signature) {

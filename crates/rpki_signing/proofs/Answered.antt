@@ -8,28 +8,17 @@ use Rattle.rpki_der.specs.declared.mode.Mode.TheVariants.{Der}
 use Rattle.rpki_der.specs.Captured.{Kept}
 use Rattle.rpki_basics.specs.declared.signing.SigningError.{SigningError}
 use Rattle.rpki_basics.specs.declared.signing.SigningError.TheVariants as error
-use Rattle.rpki_attributes.specs.declared.fault.AttrsFault.{AttrsFault}
-use Rattle.rpki_attributes.specs.declared.fault.AttrsFault.TheVariants as unmade
-use Rattle.rpki_attributes.specs.Attrs.{SignedAttributes, most_octets}
-use Rattle.rpki_attributes.specs.Attrs.Made.{attributes_of, message_of}
+use Rattle.rpki_attributes.specs.Attrs.{SignedAttributes}
+use Rattle.rpki_attributes.specs.Attrs.Made.{AreMade, attributes_of, message_of}
+use Rattle.rpki_attributes.specs.Signing.{AreNotSigned}
 use Rattle.rpki_certs.specs.Cert.{Tbs, Certificate}
 use Rattle.rpki_sigobj.specs.Object.{SignedData, SignedObject, KeptObject}
 use Rattle.rpki_basics.specs.Signing.{CountsError}
 use Rattle.rpki_issued.specs.Tbs.{tbs_of, IsNotSigned}
 use Rattle.rpki_issued.specs.Written.{made_certificate, tbs_octets}
 use Rattle.rpki_signing.specs.Written.{IsNotWritten, made_object}
-use Rattle.rpki_signing.specs.Built.{Settings, issuer_of, unsigned_of, AreMade, IsBuilt}
-use Rattle.rpki_signing.specs.Built.{AreNotSigned, IsNotBuilt, attrs_error}
+use Rattle.rpki_signing.specs.Built.{Settings, issuer_of, unsigned_of, IsBuilt, IsNotBuilt}
 use Rattle.rpki_signing.specs.Built.{AreSignatures, HasSigned}
-
--- ---- attributes
-
--- why attributes are not made is why they are not signed
-pub not-made : (E : Type 0) (parts : List (List ℕ)) (f : AttrsFault)
-    → (f ≡ unmade.AttrsTooLong → most_octets < length (concat parts))
-    → AreNotSigned {E = E} parts (attrs_error {E = E} f)
-not-made E parts unmade.AttrsTooLong h = h refl
-not-made E parts unmade.Memory h = tt
 
 -- ---- what is signed
 
@@ -176,13 +165,7 @@ counts-of T U old new (error.Content fault) h = h
 counts-of T U old new error.NotDer h = h
 counts-of T U old new error.Memory h = h
 
--- attributes that are not made count no failure
-pub counts-unmade : (T E : Type 0) (old new : ℕ) (f : AttrsFault) → new ≡ old
-    → CountsError {T = T} {E = E} old new (Err (attrs_error f))
-counts-unmade T E old new unmade.AttrsTooLong h = h
-counts-unmade T E old new unmade.Memory h = h
-
--- nor does an object that is not written
+-- an object that is not written counts no failure
 pub counts-unwritten : (E : Type 0) (old new : ℕ) (s : SignedData)
     (r : Result KeptObject (SigningError E)) → new ≡ old → IfErr r (IsNotWritten s)
     → CountsError old new r

@@ -13,11 +13,8 @@ use Rattle.rpki_resources.specs.declared.block.Block.{Block}
 use Rattle.rpki_resources.specs.declared.resources.Claim.{Claim}
 use Rattle.rpki_faults.specs.declared.overclaim.Overclaim.TheVariants as overclaim
 use Rattle.rpki_faults.specs.declared.usage.KeyUsage.TheVariants.{Ee}
-use Rattle.rpki_attributes.specs.declared.attribute.OtherTypes.TheVariants as others
-use Rattle.rpki_attributes.specs.declared.fault.AttrsFault.{AttrsFault}
-use Rattle.rpki_attributes.specs.declared.fault.AttrsFault.TheVariants as unmade
-use Rattle.rpki_attributes.specs.Attrs.{SignedAttributes, SignedAttrsForm, most_octets}
-use Rattle.rpki_attributes.specs.Attrs.Made.{InOrder, attributes_of, attrs_octets, message_of}
+use Rattle.rpki_attributes.specs.Attrs.{SignedAttributes, most_octets}
+use Rattle.rpki_attributes.specs.Attrs.Made.{AreMade, attributes_of, message_of}
 use Rattle.rpki_extensions.specs.declared.claims.Claims.{Claims}
 use Rattle.rpki_extensions.specs.declared.extensions.Extensions.{Extensions}
 use Rattle.rpki_certs.specs.Inspect.{NamesNothing}
@@ -92,15 +89,6 @@ unsigned_of b issuer key = record {
   extensions = extensions_of b issuer key;
 }
 
--- Attributes that are made of this type, this digest and this time: their octets stand in ascending
--- order, and are in the form of signed attributes (RFC 6488, section 2.1.6.4).
-pub record AreMade (type digest : List ℕ) (time : Moment) (x : SignedAttributes) : Type 0 where
-  pub content_type : x.content_type ≡ type
-  pub message_digest : x.message_digest ≡ digest
-  pub signing_time : x.signing_time ≡ time
-  pub order : InOrder (attributes_of type digest time) x.contents
-  pub form : SignedAttrsForm others.Refuse Der (attrs_octets x) x
-
 -- What is signed has this type and this content; the certificate is the one that is made of what
 -- the builder was told, for the key that signed, under this key of the issuer; the signer is named
 -- by the identifier of that key, and its attributes have this digest and the builder's signing time.
@@ -131,23 +119,6 @@ pub record IsFit (verdict : Verdict) (b : Settings) (key : List ℕ) (s : Signed
 abbrev pub NamesInDer : Settings → Type 0
 NamesInDer b =
     IfSome b.issuer (λ name. name.mode ≡ Der) × IfSome b.subject (λ name. name.mode ≡ Der)
-
--- The error for attributes that are not made.
-abbrev pub attrs_error : {E : Type 0} → AttrsFault → SigningError E
-attrs_error unmade.AttrsTooLong = error.AttrsTooLong
-attrs_error unmade.Memory = error.Memory
-
--- Why these attributes are not made and signed: a fault of the signer, or that they have more than
--- 65535 octets; or memory ran out.
-abbrev pub AreNotSigned : {E : Type 0} → List (List ℕ) → SigningError E → Type 0
-AreNotSigned parts error.KeyNotFound = Unit {0}
-AreNotSigned parts error.IncompatibleKey = Unit {0}
-AreNotSigned parts (error.Signer e) = Unit {0}
-AreNotSigned parts error.AttrsTooLong = most_octets < length (concat parts)
-AreNotSigned parts error.TooLong = ⊥
-AreNotSigned parts (error.Content fault) = ⊥
-AreNotSigned parts error.NotDer = ⊥
-AreNotSigned parts error.Memory = Unit {0}
 
 -- by this key the signer may answer a signature of attributes of this type, digest and time
 abbrev pub HasSigned : (List ℕ → List ℕ → List ℕ → Type 0) → List ℕ → List ℕ → Moment → List ℕ

@@ -65,6 +65,8 @@ impl SignedObjectBuilder {
             o.object.object ≡ made_object o.object.object.signed) }
         ensures signatures { IfOk result (λ o. AreSignatures (S.may_sign signer.old)
             (S.key_of signer.old issuer_key.now) o.object.object.signed) }
+        ensures one_off { IfOk result
+            (λ o. S.is_one_off signer.old o.object.object.signed.cert.tbs.key) }
         ensures names { OnOk result (NamesInDer self) }
         ensures refused { IfErr result (IsNotBuilt (S.may_sign signer.old) self
             (S.key_of signer.old issuer_key.now) T.kind.type octets.now
@@ -76,6 +78,7 @@ impl SignedObjectBuilder {
         ensures digests { (m : List ℕ) → S.digest_of signer.new m ≡ S.digest_of signer.old m }
         ensures verdicts { (k m s : List ℕ) →
             S.is_signed signer.new k m s ≡ S.is_signed signer.old k m s }
+        ensures once { (k : List ℕ) → S.is_one_off signer.new k ↔ S.is_one_off signer.old k }
     {
         let kind = T::oid();
         match self.finalize(alloc, &kind, octets, signer, issuer_key) {

@@ -1,19 +1,17 @@
 //! Signing objects that are built (RFC 6488, section 2).
 
-ghost use Rattle.std.specs.Prelude.{◌≡◌, ◌↔◌, ◌<◌, ℕ, List, length, IfOk, IfErr, IsErrOf, OnOk};
-ghost use Rattle.std.specs.List.{concat};
+ghost use Rattle.std.specs.Prelude.{◌≡◌, ◌↔◌, ℕ, List, IfOk, IfErr, OnOk};
 ghost use Rattle.rpki_der.specs.declared.mode.Mode.TheVariants.{Der};
-ghost use Rattle.rpki_attributes.specs.Attrs.{most_octets};
-ghost use Rattle.rpki_attributes.specs.Attrs.Made.{attributes_of, message_of};
+ghost use Rattle.rpki_attributes.specs.Attrs.Made.{AreMade, attributes_of, message_of};
+ghost use Rattle.rpki_attributes.specs.Signing.{AreNotSigned};
 ghost use Rattle.rpki_basics.specs.Signing.{CountsError};
 ghost use Rattle.rpki_issued.specs.Written.{ClaimsIpv4};
-ghost use Rattle.rpki_signing.specs.Built.{AreMade, AreNotSigned, IsBuilt, IsNotBuilt};
-ghost use Rattle.rpki_signing.specs.Built.{NamesInDer, attrs_error, claims_of};
+ghost use Rattle.rpki_signing.specs.Built.{IsBuilt, IsNotBuilt, NamesInDer, claims_of};
 ghost use Rattle.rpki_signing.specs.Written.{made_object};
 
 use crate::builder::SignedObjectBuilder;
 use crate::object::{Parts, object_of};
-use rpki_attributes::{AttrsFault, MessageDigest, SignedAttrs};
+use rpki_attributes::SignedAttrs;
 use rpki_basics::{PublicKey, RpkiSignature, RpkiSignatureAlgorithm, Signer, SigningError, Time};
 use rpki_der::Oid;
 use rpki_sigobj::SignedObject;
@@ -34,37 +32,6 @@ struct SignedOnce {
     key: PublicKey,
 }
 
-// The error for attributes that are not made.
-fn not_made<E>(fault: AttrsFault) -> SigningError<E>
-    ensures { result ≡ attrs_error fault }
-{
-    match fault {
-        AttrsFault::AttrsTooLong => SigningError::AttrsTooLong,
-        AttrsFault::Memory => SigningError::Memory,
-    }
-}
-
-// The signed attributes of this content.
-fn attributes<S: Signer>(
-    alloc: Global,
-    typed: &Typed<'_>,
-    time: Time,
-    signer: &S,
-) -> Result<SignedAttrs, AttrsFault>
-    ensures made { IfOk result (λ a. AreMade typed.now.content_type.now
-        (S.digest_of signer.now typed.now.content.now) time a.attributes) }
-    ensures der { IfOk result (λ a. a.mode ≡ Der) }
-    ensures refused { IsErrOf result AttrsFault.AttrsTooLong → most_octets < length
-        (concat (attributes_of typed.now.content_type.now
-        (S.digest_of signer.now typed.now.content.now) time)) }
-{
-    let digest = MessageDigest::from_digest(alloc, &signer.digest(typed.content))?;
-    match SignedAttrs::new(alloc, typed.content_type, &digest, time) {
-        Ok(attributes) => Ok(attributes),
-        Err(fault) => Err(fault),
-    }
-}
-
 // The signature of these attributes by a key that is made for it, and this key.
 fn one_off<S: Signer>(
     alloc: Global,
@@ -73,6 +40,7 @@ fn one_off<S: Signer>(
 ) -> Result<(RpkiSignature, PublicKey), SigningError<S::Error>>
     ensures signed { IfOk result
         (λ p. S.may_sign signer.old p.1 (message_of attributes.now.attributes) p.0) }
+    ensures one_off { IfOk result (λ p. S.is_one_off signer.old p.1) }
     ensures refused { (parts : List (List ℕ)) → IfErr result (AreNotSigned parts) }
     ensures cause { CountsError (S.failures signer.old) (S.failures signer.new) result }
     ensures keys { (k : S.KeyId) → S.key_of signer.new k ≡ S.key_of signer.old k }
@@ -81,6 +49,7 @@ fn one_off<S: Signer>(
     ensures digests { (m : List ℕ) → S.digest_of signer.new m ≡ S.digest_of signer.old m }
     ensures verdicts { (k m s : List ℕ) →
         S.is_signed signer.new k m s ≡ S.is_signed signer.old k m s }
+    ensures once { (k : List ℕ) → S.is_one_off signer.new k ↔ S.is_one_off signer.old k }
 {
     let message = attributes.encode_verify(alloc)?;
     Ok(signer.sign_one_off(RpkiSignatureAlgorithm::RsaSha256, &message)?)
@@ -98,6 +67,7 @@ fn signed_once<S: Signer>(
     ensures der { IfOk result (λ o. o.attributes.mode ≡ Der) }
     ensures signed { IfOk result (λ o.
         S.may_sign signer.old o.key (message_of o.attributes.attributes) o.signature) }
+    ensures one_off { IfOk result (λ o. S.is_one_off signer.old o.key) }
     ensures refused { IfErr result (AreNotSigned (attributes_of typed.now.content_type.now
         (S.digest_of signer.old typed.now.content.now) time)) }
     ensures cause { CountsError (S.failures signer.old) (S.failures signer.new) result }
@@ -107,9 +77,10 @@ fn signed_once<S: Signer>(
     ensures digests { (m : List ℕ) → S.digest_of signer.new m ≡ S.digest_of signer.old m }
     ensures verdicts { (k m s : List ℕ) →
         S.is_signed signer.new k m s ≡ S.is_signed signer.old k m s }
+    ensures once { (k : List ℕ) → S.is_one_off signer.new k ↔ S.is_one_off signer.old k }
 {
-    match attributes(alloc, typed, time, signer) {
-        Err(fault) => Err(not_made(fault)),
+    match SignedAttrs::of_content(alloc, typed.content_type, typed.content, time, signer) {
+        Err(fault) => Err(fault.signing_error()),
         Ok(attributes) => match one_off(alloc, &attributes, signer) {
             Err(fault) => {
                 drop(attributes);
@@ -167,6 +138,7 @@ impl SignedObjectBuilder {
         ensures digests { (m : List ℕ) → S.digest_of signer.new m ≡ S.digest_of signer.old m }
         ensures verdicts { (k m s : List ℕ) →
             S.is_signed signer.new k m s ≡ S.is_signed signer.old k m s }
+        ensures once { (k : List ℕ) → S.is_one_off signer.new k ↔ S.is_one_off signer.old k }
     {
         let SignedOnce {
             attributes,
@@ -221,6 +193,8 @@ impl SignedObjectBuilder {
         ensures written { IfOk result (λ o. o.object ≡ made_object o.object.signed) }
         ensures signed { IfOk result (λ o. S.may_sign signer.old o.object.signed.cert.tbs.key
             (message_of o.object.signed.signer.attributes) o.object.signed.signer.signature) }
+        ensures one_off { IfOk result
+            (λ o. S.is_one_off signer.old o.object.signed.cert.tbs.key) }
         ensures cert_signed { IfOk result (λ o. S.may_sign signer.old
             (S.key_of signer.old issuer_key.now) o.object.signed.cert.signed
             o.object.signed.cert.signature) }
@@ -235,6 +209,7 @@ impl SignedObjectBuilder {
         ensures digests { (m : List ℕ) → S.digest_of signer.new m ≡ S.digest_of signer.old m }
         ensures verdicts { (k m s : List ℕ) →
             S.is_signed signer.new k m s ≡ S.is_signed signer.old k m s }
+        ensures once { (k : List ℕ) → S.is_one_off signer.new k ↔ S.is_one_off signer.old k }
     {
         let typed = Typed {
             content_type,

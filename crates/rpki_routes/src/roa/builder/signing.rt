@@ -73,6 +73,7 @@ impl RoaBuilder {
         ensures digests { (m : List ℕ) → S.digest_of signer.new m ≡ S.digest_of signer.old m }
         ensures verdicts { (k m s : List ℕ) →
             S.is_signed signer.new k m s ≡ S.is_signed signer.old k m s }
+        ensures once { (k : List ℕ) → S.is_one_off signer.new k ↔ S.is_one_off signer.old k }
     {
         match self.content_to_sign() {
             Err(fault) => {
@@ -193,6 +194,7 @@ fn signed<S: Signer>(
     ensures digests { (m : List ℕ) → S.digest_of signer.new m ≡ S.digest_of signer.old m }
     ensures verdicts { (k m s : List ℕ) →
         S.is_signed signer.new k m s ≡ S.is_signed signer.old k m s }
+    ensures once { (k : List ℕ) → S.is_one_off signer.new k ↔ S.is_one_off signer.old k }
 {
     match octets(alloc, &content) {
         Err(_) => {

@@ -2,8 +2,9 @@ use Rattle.std.proofs.Common.{List, ℕ, sym, subst, ◌∙◌}
 use Rattle.std.specs.Prelude.{IfErr}
 use Rattle.std.proofs.lemmas.Result.{IfErr-weaker}
 use Rattle.rpki_basics.specs.Moment.{Moment}
-use Rattle.rpki_attributes.specs.Attrs.Made.{attributes_of}
-use Rattle.rpki_signing.specs.Built.{AreMade, AreNotSigned, IsNotBuilt}
+use Rattle.rpki_attributes.specs.Attrs.Made.{AreMade, attributes_of}
+use Rattle.rpki_attributes.specs.Signing.{AreNotSigned}
+use Rattle.rpki_signing.specs.Built.{IsNotBuilt}
 use Rattle.rpki_signing.proofs.Answered.{unsigned-unbuilt, unbuilt-as}
 use Rattle.rpki_signing.proofs.builder.SignedObjectBuilder.finalize.Goals as goal
 
