@@ -14,10 +14,10 @@ use Rattle.rpki_sigobj.specs.Signed.Kind.{ObjectKind}
 use Rattle.rpki_sigobj.specs.Signed.{Whole, cert_in}
 use Rattle.rpki_multi.specs.Attestation.{KeptWhole, Whole as Attested}
 use Rattle.rpki_paths.specs.Anchor.{Supply}
-use Rattle.rpki_rta.specs.Granted.{IsDistinct, IsGrantedRta}
+use Rattle.rpki_rta.specs.Granted.{IsGrantedRta}
 use Rattle.rpki_signed.specs.declared.check.CheckError.{CheckError}
 use Rattle.rpki_signed.specs.declared.check.CheckError.TheVariants.{Decode, Validation}
-use Rattle.rpki_signed.specs.Attested.{GrantsRta, IsExactRta}
+use Rattle.rpki_signed.specs.Attested.{GrantsRta, IsDistinct, IsExactRta}
 use Rattle.rpki_signed.specs.Exact.{IsExact}
 use Rattle.rpki_signed.specs.Headline.{BeginsWithGood, BeginsWithGranted, IsHeadline}
 use Rattle.rpki_signed.specs.Headline.{IsMemory, IsRtaHeadline, SaysOne}
@@ -97,7 +97,7 @@ module _ (digest : Digester) (verdict : Verdict) (now : Moment) (supplies : List
 
   rta-no : (e : CheckError) → IsExactRta digest verdict now supplies octets (Err e)
       → ¬ (IsMemory e) → (g : BeginsWithGranted digest verdict now supplies octets)
-      → ¬ (IsDistinct verdict digest g.object)
+      → ¬ (IsDistinct digest verdict g.object)
   rta-no (Decode unread.Memory) h m g distinct = m refl
   rta-no (Decode unread.Malformed) h m g distinct = h g.object g.rest g.front.found
   rta-no (Decode (unread.Content fault)) h m g distinct = h g.object g.rest g.front.found
@@ -106,8 +106,8 @@ module _ (digest : Digester) (verdict : Verdict) (now : Moment) (supplies : List
       of (subst (λ (r : Attested). GrantsRta digest verdict now supplies r (Err fault)) same b.holds)
     where
       of : (fault ≡ faults.Memory)
-          ⊎ (IsDistinct verdict digest g.object
-          → ¬ (IsGrantedRta verdict digest now g.object supplies))
+          ⊎ (IsDistinct digest verdict g.object
+          → ¬ (IsGrantedRta digest verdict now g.object supplies))
           → ⊥
       of (inl e) = m e
       of (inr h) = h distinct g.granted

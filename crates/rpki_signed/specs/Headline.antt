@@ -16,10 +16,10 @@ use Rattle.rpki_sigobj.specs.Signed.Kind.{ObjectKind}
 use Rattle.rpki_sigobj.specs.Signed.{Whole, ObjectForm, cert_in}
 use Rattle.rpki_multi.specs.Attestation.{KeptWhole, RtaForm, Whole as Attested}
 use Rattle.rpki_paths.specs.Anchor.{Supply}
-use Rattle.rpki_rta.specs.Granted.{IsDistinct, IsGrantedRta}
+use Rattle.rpki_rta.specs.Granted.{IsGrantedRta}
 use Rattle.rpki_signed.specs.declared.check.CheckError.{CheckError}
 use Rattle.rpki_signed.specs.declared.check.CheckError.TheVariants.{Decode, Validation}
-use Rattle.rpki_signed.specs.Attested.{IsExactRta}
+use Rattle.rpki_signed.specs.Attested.{IsDistinct, IsExactRta}
 use Rattle.rpki_signed.specs.Exact.{IsExact}
 
 -- memory ran out
@@ -69,7 +69,7 @@ pub record BeginsWithGranted (digest : Digester) (verdict : Verdict) (now : Mome
   pub object : Attested
   pub rest : List ℕ
   pub front : IsOnlyFront (RtaForm Der) octets object rest
-  pub granted : IsGrantedRta verdict digest now object supplies
+  pub granted : IsGrantedRta digest verdict now object supplies
 
 -- A check of attestations says yes only where the octets begin with a granted one, and exactly
 -- there if the identifiers of the certificates that it carries are distinct.
@@ -80,4 +80,4 @@ pub record IsRtaHeadline : Type 0 where
   pub no : (digest : Digester) (verdict : Verdict) (now : Moment) (supplies : List Supply)
       (octets : List ℕ) (e : CheckError) → IsExactRta digest verdict now supplies octets (Err e)
       → ¬ (IsMemory e) → (granted : BeginsWithGranted digest verdict now supplies octets)
-      → ¬ (IsDistinct verdict digest granted.object)
+      → ¬ (IsDistinct digest verdict granted.object)

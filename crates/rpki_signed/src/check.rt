@@ -1,6 +1,6 @@
 //! Whether octets are a good object, under a validated issuer, at a moment.
 
-ghost use Rattle.std.specs.Prelude.{Some, map};
+ghost use Rattle.std.specs.Prelude.{IfErr, Some, map};
 ghost use Rattle.std.specs.Fn.{FnOnceTakesAt, FnOnceReturnsAt};
 ghost use Rattle.rpki_sigobj.specs.Object.{mode_of};
 ghost use Rattle.rpki_der.specs.declared.mode.Mode.TheVariants.{Der};
@@ -13,8 +13,8 @@ ghost use Rattle.rpki_routes.specs.Roa.Form.{RoaForm};
 ghost use Rattle.rpki_routes.specs.Aspa.Checks.{aspa_kind};
 ghost use Rattle.rpki_routes.specs.Roa.Checks.{roa_kind};
 ghost use Rattle.rpki_multi.specs.Attestation.{whole_of};
-ghost use Rattle.rpki_rta.specs.Handles.{supply_in};
-ghost use Rattle.rpki_signed.specs.Attested.{GrantsRta, IsExactRta};
+ghost use Rattle.rpki_rta.specs.Refused.{WhyNotGrantedRta, supply_in};
+ghost use Rattle.rpki_signed.specs.Attested.{GrantsRta, IsExactRta, IsFirstOfRta};
 ghost use Rattle.rpki_signed.specs.Check.{MayAsk, Checks, ChecksContent};
 ghost use Rattle.rpki_signed.specs.Exact.{IsExact};
 ghost use Rattle.rpki_signed.specs.Text.{check_text};
@@ -214,8 +214,10 @@ fn granted<C: Crypto>(
     now: Time,
     supplies: &[Supply<'_>],
 ) -> Result<(), ValidationError>
-    ensures { GrantsRta (C.digest_of crypto.now) (C.is_signed crypto.now) now
+    ensures granted { GrantsRta (C.digest_of crypto.now) (C.is_signed crypto.now) now
         (map supply_in supplies.now) (whole_of rta.now) result }
+    ensures first { IfErr result (WhyNotGrantedRta C.digest_of C.is_signed crypto.now now rta.now
+        supplies.now) }
 {
     match run(alloc, rta, strict, crypto, now, supplies) {
         Err(fault) => Err(fault),
@@ -242,6 +244,8 @@ pub fn rta<C: Crypto>(
     now: Time,
     supplies: &[Supply<'_>],
 ) -> Result<Rta, CheckError>
+    ensures first { IfErr result (IsFirstOfRta C.digest_of C.is_signed crypto.now now
+        supplies.now bytes) }
     ensures exact { IsExactRta (C.digest_of crypto.now) (C.is_signed crypto.now) now
         (map supply_in supplies.now) bytes result }
 {
