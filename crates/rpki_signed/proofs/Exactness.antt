@@ -22,6 +22,9 @@ use Rattle.rpki_signed.specs.Exact.{IsExact}
 use Rattle.rpki_signed.specs.Headline.{BeginsWithGood, BeginsWithGranted, IsHeadline}
 use Rattle.rpki_signed.specs.Headline.{IsMemory, IsRtaHeadline, SaysOne}
 
+yes-is-no : {T E : Type 0} (t : T) (e : E) → Ok t ≡ Err e → ⊥
+yes-is-no t e h = absurd cc
+
 -- ---- one signer
 
 module _ {X : Type 0} (kind : ObjectKind X) (form : List ℕ → X → Type 0) (mode : Mode)
@@ -37,16 +40,15 @@ module _ {X : Type 0} (kind : ObjectKind X) (form : List ℕ → X → Type 0) (
     rest = b.rest;
     front = b.front;
     certificate = a.0;
-    good = b.holds.1.0;
+    good = b.holds.1;
     said = b.holds.0;
   }
 
   -- the caller says one thing of a certificate
   one-answer : SaysOne Says → (c : KeptCertificate) (fault : ValidationError) → Says c (Ok tt)
       → Says c (Err fault) → ⊥
-  one-answer one c fault yes no =
-      let e : Ok {E = ValidationError} tt ≡ Err fault = one c (Ok tt) (Err fault) yes no in
-      absurd cc
+  one-answer one c fault agreed refused =
+      yes-is-no tt fault (one c (Ok tt) (Err fault) agreed refused)
 
   refused-here : SaysOne Says → (fault : ValidationError) → (g : Good)
       → IsNotGood kind mode digest verdict issuer now (Says (cert_in mode g.object)) g.object fault
@@ -103,14 +105,8 @@ module _ (digest : Digester) (verdict : Verdict) (now : Moment) (supplies : List
   rta-no (Decode (unread.Content fault)) h m g distinct = h g.object g.rest g.front.found
   rta-no (Validation fault) b m g distinct =
       let same : b.object ≡ g.object = (g.front.only b.object b.rest b.front.found).0 in
-      of (subst (λ (r : Attested). GrantsRta digest verdict now supplies r (Err fault)) same b.holds)
-    where
-      of : (fault ≡ faults.Memory)
-          ⊎ (IsDistinct digest verdict g.object
-          → ¬ (IsGrantedRta digest verdict now g.object supplies))
-          → ⊥
-      of (inl e) = m e
-      of (inr h) = h distinct g.granted
+      subst (λ (r : Attested). GrantsRta digest verdict now supplies r (Err fault)) same b.holds
+      m distinct g.granted
 
 pub rta-headline : IsRtaHeadline
 rta-headline = record {

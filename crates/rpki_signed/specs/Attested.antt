@@ -1,5 +1,5 @@
 -- What is answered of octets that may begin with a multi-signed attestation, in words.
-use Rattle.std.specs.Prelude.{◌≡◌, ◌⊎◌, ℕ, List, Result, Ok, Err}
+use Rattle.std.specs.Prelude.{◌≡◌, ℕ, List, Result, Ok, Err}
 use Rattle.rpki_der.specs.declared.mode.Mode.TheVariants.{Der}
 use Rattle.rpki_der.specs.Form.Decodes.{IsOnlyFront}
 use Rattle.rpki_der.specs.Grammar.{HasNoFront}
@@ -25,15 +25,15 @@ use Rattle.rpki_signed.specs.Check.{BeginsWith}
 abbrev pub IsDistinct : Digester → Verdict → Whole → Type 0
 IsDistinct digest verdict r = HasDistinctIds (carried_by digest verdict r)
 
--- What a validation of this attestation answers: a yes only where it is granted at this moment under
--- these supplies, and a fault other than want of memory, if the identifiers of its certificates are
--- distinct, only where it is not.
+-- What a validation of this attestation answers: a yes only where it is granted at this moment
+-- under these supplies, and a fault other than want of memory, if the identifiers of its
+-- certificates are distinct, only where it is not.
 abbrev pub GrantsRta : Digester → Verdict → Moment → List Supply → Whole
     → Result (Unit {0}) ValidationError → Type 0
 GrantsRta digest verdict now supplies r (Ok done) = IsGrantedRta digest verdict now r supplies
 GrantsRta digest verdict now supplies r (Err fault) =
-    (fault ≡ Memory)
-    ⊎ (IsDistinct digest verdict r → ¬ (IsGrantedRta digest verdict now r supplies))
+    ¬ (fault ≡ Memory) → IsDistinct digest verdict r
+    → ¬ (IsGrantedRta digest verdict now r supplies)
 
 -- A yes is answered only where the octets begin with an attestation, in DER, that is granted at
 -- this moment under these supplies; answered is this attestation. Unless memory runs out, `Decode`
