@@ -18,7 +18,7 @@ use std::sync::ledger::Ledger;
 
 /// A certificate that an attestation carries, which is valid at the moment, as that of its kind;
 /// the revocation list that is paired with it; and the cryptography that verdicts are asked of.
-pub struct Carried<'a, C> {
+pub(crate) struct Carried<'a, C> {
     pub(crate) cert: &'a Cert,
     crl: Option<&'a Crl>,
     pub(crate) crypto: &'a C,
@@ -133,7 +133,7 @@ impl<'a, C: Crypto, L: Ledger> SignedCertificate<L> for Carried<'a, C> {
 }
 
 /// A revocation list that an attestation carries, and the cryptography that verdicts are asked of.
-pub struct CarriedCrl<'a, C> {
+pub(crate) struct CarriedCrl<'a, C> {
     crl: &'a Crl,
     crypto: &'a C,
 }

@@ -10,7 +10,7 @@ use rpki_paths::Candidate;
 use std::alloc::AllocError;
 
 /// A carried certificate, the cryptography that verdicts are asked of, and the moment.
-pub struct Entry<'a, 'n, C> {
+pub(crate) struct Entry<'a, 'n, C> {
     cert: &'a Cert,
     crypto: &'a C,
     now: &'n Time,

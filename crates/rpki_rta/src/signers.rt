@@ -12,7 +12,7 @@ use std::sync::ledger::Ledger;
 
 /// A signer of an attestation, the message that it signed, and the digest of the content.
 #[derive(Drop)]
-pub struct Signer<'a, C> {
+pub(crate) struct Signer<'a, C> {
     info: &'a SignerInfo,
     message: Vec<u8>,
     digest: Digest,

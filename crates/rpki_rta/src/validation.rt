@@ -162,7 +162,9 @@ impl<'a, C: Crypto> Validation<'a, C> {
     /// of `Cert::inspect_ta` and `Cert::verify_ta_ref_at`: earlier paths keep their anchor, that
     /// path and later ones stay as they were. No memory is taken.
     pub fn supply_tal(&mut self, tal: &Tal) -> Result<bool, ValidationError>
-        ensures { AnswersSupply C.is_signed (supply_of_tal tal.now) self.old self.new result }
+        ensures answers { AnswersSupply C.is_signed (supply_of_tal tal.now) self.old self.new
+            result }
+        ensures memory { IfErr result (λ fault. ¬ (fault ≡ Memory)) }
     {
         let supplied: Supplied<Tal, ResourceCert> = Supplied::Tal(tal);
         match supply_each(self.paths.as_mut_slice(), &supplied) {
