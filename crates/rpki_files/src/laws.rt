@@ -101,8 +101,8 @@ pub fn refused_manifests()
 
 /// A manifest that is built passes its whole validation, and is good (RFC 6488, section 3; RFC
 /// 9286, section 4.4), where cryptography says yes to what the signer may answer, and what the
-/// builder was told fits the issuer and the moment. That a family is named and that the issuer has what is claimed
-/// is so of each manifest, since it inherits all.
+/// builder was told fits the issuer and the moment. That a family is named and that the issuer has
+/// what is claimed is so of each manifest, since it inherits all.
 pub fn built_manifests_are_valid(issuer: &ResourceCert)
     ensures valid { (digest : Digester) (verdict : Verdict) (b : Settings)
         (key content : List ℕ) (s : SignedData) (now : Moment)

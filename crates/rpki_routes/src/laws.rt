@@ -136,9 +136,9 @@ pub fn covered_aspas()
 {}
 
 /// A built ROA passes its whole validation under an issuer: the object is valid, and its
-/// certificate has the addresses of each prefix (RFC 9582, section 5). This needs that cryptography says yes to
-/// what the signer may answer, and that what the builder was told fits the issuer and the moment; a
-/// family is named, since the ROA has an address.
+/// certificate has the addresses of each prefix (RFC 9582, section 5). This needs that cryptography
+/// says yes to what the signer may answer, and that what the builder was told fits the issuer and
+/// the moment; a family is named, since the ROA has an address.
 pub fn built_roas_are_valid(issuer: &ResourceCert)
     ensures passes { (digest : Digester) (verdict : Verdict) (mode : Mode) (handed : Settings)
         (key : List ℕ) (o : Whole Roa) (now : Moment)
