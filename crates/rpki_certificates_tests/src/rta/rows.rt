@@ -14,7 +14,7 @@ use rpki_rta::{Supply, run};
 use std::alloc::Global;
 
 /// An attestation, what anchors its paths, and what is wanted.
-type Row = (&'static [u8], Above, Want);
+pub type Row = (&'static [u8], Above, Want);
 
 /// Sets that are cut, or have to be covered.
 static SETS: [Row; 3] = [
