@@ -21,7 +21,13 @@ use Rattle.rpki_multi.specs.Written.{multi_contents}
 -- revocation list, and no signer
 abbrev pub begun_of : Attestation → KeptWhole
 begun_of a = record {
-  signed = record { mode = Der; content = attestation_octets a; certs = []; crls = []; signers = [] };
+  signed = record {
+    mode = Der;
+    content = attestation_octets a;
+    certs = [];
+    crls = [];
+    signers = [];
+  };
   content = a;
 }
 
@@ -68,7 +74,7 @@ IsNotMade k TooLong = CarriedIn Der k.signed × ¬ (length (multi_contents k.sig
 IsNotMade k Io = ⊥
 IsNotMade k Memory = ⊥
 
--- What is read in DER is this attestation, or memory ran out.
+-- What is read, in DER as every attestation is, is this one; or memory ran out.
 abbrev pub IsReadAs : KeptWhole → Result KeptWhole DecodeError → Type 0
 IsReadAs k (Ok r) = AreIn Der r.signed → r ≡ k
 IsReadAs k (Err e) = e ≡ unread.Memory
