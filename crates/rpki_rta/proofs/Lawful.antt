@@ -6,20 +6,20 @@ use Rattle.rpki_certs.specs.Verify.{Verdict}
 use Rattle.rpki_sigobj.specs.Verify.{Digester}
 use Rattle.rpki_multi.specs.Attestation.{KeptWhole, whole_of}
 use Rattle.rpki_paths.specs.declared.supply.SupplyFault.{SupplyFault}
-use Rattle.rpki_paths.specs.After.{AreAfter, IsGrantedBySome}
+use Rattle.rpki_paths.specs.After.{AreAfter, IsGrantedBySome, KeepsNumbers}
 use Rattle.rpki_paths.specs.Grant.{IsGranted}
 use Rattle.rpki_paths.specs.Supplied.{AnswersEach, AreSuppliedAll}
 use Rattle.rpki_paths.specs.Anchor.{Supply}
 use Rattle.rpki_paths.specs.Final.{Decides}
-use Rattle.rpki_paths.proofs.After.{yes_after_refusals}
+use Rattle.rpki_paths.proofs.After.{end_after_refusals, yes_after_refusals}
 use Rattle.rpki_paths.proofs.Granting.{yes_is_granted as paths-granted, unsupplied_is_refused}
 use Rattle.rpki_paths.proofs.Granting.{undecided_is_refused}
 use Rattle.rpki_paths.proofs.Keeps.{all-stops}
 use Rattle.rpki_rta.specs.Begun.{Begun, Refuses, cert_of}
 use Rattle.rpki_rta.specs.Faults.{final_fault, supply_answer, supply_fault}
 use Rattle.rpki_rta.specs.Granted.{attested_by, carried_by}
-use Rattle.rpki_rta.specs.Laws.{AreAfterSupplies, AreTaken, NoIsRight, RefusedSupplyIsRight}
-use Rattle.rpki_rta.specs.Laws.{YesAfterSupplies, YesIsGranted}
+use Rattle.rpki_rta.specs.Laws.{AreAfterSupplies, AreTaken, EndAfterSupplies, NoIsRight}
+use Rattle.rpki_rta.specs.Laws.{RefusedSupplyIsRight, YesAfterSupplies, YesIsGranted}
 
 same-list : {A : Type 0} (xs : List A) → map (λ x. x) xs ≡ xs
 same-list [] = refl
@@ -57,6 +57,18 @@ module _ {C : Type 0} (says : C → Verdict) where
             begun.paths end.paths supplies (attested_by r.content) acc.valid acc.paired.matching
             acc.walked (paths-after supplies begun end after) decided);
       }
+
+  pub end_after_supplies : (digests : C → Digester) → EndAfterSupplies digests says
+  end_after_supplies digests crypto now r supplies begun end b after anchored =
+      let a = carried_by (digests crypto) (says crypto) (whole_of r) in
+      let acc = b.accepted in
+      let t = end_after_refusals (cert_of says) (λ s. s) (Refuses says) a acc.ees acc.crls
+      begun.paths end.paths supplies acc.valid acc.paired.matching acc.walked
+      (paths-after supplies begun end after) anchored in (
+        rta-after supplies begun end after ∙ b.of_rta,
+        record { valid = b.valid; paths = t.0; accepted = t.1 },
+        subst (λ l. KeepsNumbers end.paths t.0 l) (same-list supplies) t.2,
+      )
 
   -- ---- supplies of which none is refused
 

@@ -1,15 +1,17 @@
 -- The laws of validations that public functions carry.
-use Rattle.std.specs.Prelude.{◌≡◌, List, [], ◌∷◌, ◌++◌, Bool, Result, Ok, Err}
+use Rattle.std.specs.Prelude.{◌≡◌, List, [], ◌∷◌, ◌++◌, Bool, Result, Ok, Err, IsTrue}
 use Rattle.rpki_basics.specs.Moment.{Moment}
 use Rattle.rpki_faults.specs.declared.validation.ValidationError.{ValidationError}
 use Rattle.rpki_faults.specs.declared.validation.ValidationError.TheVariants.{Memory}
 use Rattle.rpki_certs.specs.Verify.{Verdict}
 use Rattle.rpki_sigobj.specs.Verify.{Digester}
 use Rattle.rpki_multi.specs.Attestation.{KeptWhole, whole_of}
+use Rattle.rpki_paths.specs.After.{KeepsNumbers}
 use Rattle.rpki_paths.specs.Anchor.{Supply}
+use Rattle.rpki_paths.specs.Final.{all_anchored}
 use Rattle.rpki_paths.specs.Pairing.{HasDistinctIds}
 use Rattle.rpki_rta.specs.Begun.{Begun, IsBegun, IsEnded, EndsWith, AnswersSupply}
-use Rattle.rpki_rta.specs.Granted.{IsGrantedRta, IsGrantedRtaBySome, carried_by}
+use Rattle.rpki_rta.specs.Granted.{IsAcceptedRta, IsGrantedRta, IsGrantedRtaBySome, carried_by}
 
 -- Supplies that are handed in one after the other, each to the paths as the one before it left
 -- them, whatever was answered.
@@ -29,6 +31,19 @@ YesAfterSupplies {C} digests says =
     IsBegun digests says crypto now r begun → AreAfterSupplies says supplies begun end →
     IsEnded end →
     IsGrantedRtaBySome (digests crypto) (says crypto) now (whole_of r) supplies
+
+-- Where the validation of an attestation has begun, and after any supplies, refused ones among
+-- them, all paths are anchored, the attestation is still this one, it is accepted with some paths,
+-- and what is kept tells their numbers (`KeepsNumbers`). So the end, which compares the attested
+-- sets with what is kept (`EndsWith`), says no but for memory exactly where a set is not the union
+-- of the sets of these paths, each anchored by a supply that is meant for it and takes it.
+abbrev pub EndAfterSupplies : {C : Type 0} → (C → Digester) → (C → Verdict) → Type 0
+EndAfterSupplies {C} digests says =
+    (crypto : C) (now : Moment) (r : KeptWhole) (supplies : List Supply) (begun end : Begun C) →
+    IsBegun digests says crypto now r begun → AreAfterSupplies says supplies begun end →
+    IsTrue (all_anchored end.paths) →
+    (end.rta ≡ r) × (a : IsAcceptedRta (digests crypto) (says crypto) now (whole_of r))
+    × KeepsNumbers end.paths a.paths supplies
 
 -- Supplies that are handed in one after the other, each to the paths as the one before it left
 -- them, none of which is refused.
