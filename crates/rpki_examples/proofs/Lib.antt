@@ -7,4 +7,5 @@ mod Earned
 mod Lengths
 mod PeersExact
 mod PeersWritten
+mod Published
 mod Search

@@ -1,3 +1,4 @@
+pub mod Authority
 pub mod Checks
 pub mod Families
 pub mod Inspected

@@ -2,6 +2,7 @@
 #![tactic(auto)]
 
 pub mod attributes;
+pub mod authority;
 pub mod certs;
 pub mod checks;
 pub mod extensions;

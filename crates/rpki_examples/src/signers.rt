@@ -31,11 +31,15 @@ pub trait HardwareModule {
     // What it may answer as a signature, by the key with these bits, of this message.
     ghost may_sign: { Self → List ℕ → List ℕ → List ℕ → Type 0 };
 
+    // Which keys, by their bits, it makes to sign once.
+    ghost is_one_off: { Self → List ℕ → Type 0 };
+
     /// The bits of the public key in a slot, an RSAPublicKey (RFC 8017, appendix A.1.1).
     fn key(&mut self, slot: u32) -> Result<Bytes, Self::Error>
         ensures key { IfOk result (λ bits. bits ≡ bits_in self.old slot) }
         ensures slots { (n : ℕ) → bits_in self.new n ≡ bits_in self.old n }
-        ensures signs { (k m s : List ℕ) → may_sign self.new k m s ↔ may_sign self.old k m s };
+        ensures signs { (k m s : List ℕ) → may_sign self.new k m s ↔ may_sign self.old k m s }
+        ensures once { (k : List ℕ) → is_one_off self.new k ↔ is_one_off self.old k };
 
     /// A signature of the message by the key in a slot, by RSASSA-PKCS1-v1_5 with SHA-256 (RFC
     /// 8017, section 8.2).
@@ -43,14 +47,17 @@ pub trait HardwareModule {
         ensures signed { IfOk result
             (λ s. may_sign self.old (bits_in self.old slot) message.now s) }
         ensures slots { (n : ℕ) → bits_in self.new n ≡ bits_in self.old n }
-        ensures signs { (k m s : List ℕ) → may_sign self.new k m s ↔ may_sign self.old k m s };
+        ensures signs { (k m s : List ℕ) → may_sign self.new k m s ↔ may_sign self.old k m s }
+        ensures once { (k : List ℕ) → is_one_off self.new k ↔ is_one_off self.old k };
 
     /// Makes a key, signs the message with it, and destroys its private half.
     fn sign_once(&mut self, message: &[u8]) -> Result<OneOff, Self::Error>
         ensures signed { IfOk result
             (λ o. may_sign self.old o.bits message.now o.signature) }
+        ensures one_off { IfOk result (λ o. is_one_off self.old o.bits) }
         ensures slots { (n : ℕ) → bits_in self.new n ≡ bits_in self.old n }
-        ensures signs { (k m s : List ℕ) → may_sign self.new k m s ↔ may_sign self.old k m s };
+        ensures signs { (k m s : List ℕ) → may_sign self.new k m s ↔ may_sign self.old k m s }
+        ensures once { (k : List ℕ) → is_one_off self.new k ↔ is_one_off self.old k };
 }
 
 /// A module as a signer. Keys are named by their slots; digests and verdicts are made here.
@@ -103,6 +110,8 @@ impl<M: HardwareModule> Signer for ModuleSigner<M> {
     ghost key_of = { λ s slot. M.bits_in s.0 slot };
 
     ghost may_sign = { λ s key message signature. M.may_sign s.0 key message signature };
+
+    ghost is_one_off = { λ s key. M.is_one_off s.0 key };
 
     ghost failures = { λ s. s.1 };
 
