@@ -34,7 +34,7 @@ HELP = """usage: rpki_verify [OPTION ..] check KIND FILE MOMENT TA [CA ..]
        rpki_verify show tal FILE
        rpki_verify --help
 OPTION, in this order: --relaxed --registered --wide
-KIND: aspa, manifest, roa or rsc
+KIND: aspa, manifest, roa or rsc; of show and content also rta
 MOMENT: now, or YYYYMMDDHHMMSSZ
 CA of walk: any file but one named with
 """
@@ -131,6 +131,10 @@ ROWS = [
     (walk("origin.roa=none", chain=["anchor", "roa"]), None, *NONE, 4),
     (walk("origin.roa=large", "a=none", file="anchor"), None, *LARGE, 4),
     (walk("with=with", "with=roa"), None, 2, "cannot read with\n", 4),
+    (["show", "rta", "roa"], None, 1, MALFORMED, 1),
+    (["--wide", "content", "rta", "roa"], None, 1, MALFORMED, 1),
+    (["content", "rta", "none"], None, *NONE, 1),
+    (["show", "rta", "large"], None, *LARGE, 1),
     # A word after the command that looks like an option is the name of a file.
     (["verdicts", "--relaxed", "roa", "anchor"], None, 2, "cannot read --relaxed\n", 1),
 ]
@@ -142,8 +146,8 @@ OTHER_WORDS = [
     check("roa", "roa", moment="20270229000000Z"), check("roa", "roa", moment="2027010100000Z"),
     check("roa", "roa", moment="20270101000000"), check("roa", ""), check("roa", "roa", ""),
     check("roa", "roa", chain=[""]), ["verdicts"], ["verdicts", "roa"], listed(""),
-    listed("roa", ""), listed("roa", chain=["", "authority"]), ["show", "rta", "roa"],
-    ["content", "rta", "roa"], ["content", "tal", "roa"], ["show", "roa", ""],
+    listed("roa", ""), listed("roa", chain=["", "authority"]), ["show", "rta"],
+    ["content", "rta", ""], ["content", "tal", "roa"], ["show", "roa", ""],
     ["rta", "roa", GOOD, "roa", "tal=roa"],
     ["walk"], ["walk", "manifest", GOOD, "with"], walk()[:-1], walk("roa"), walk("origin.roa="),
     walk("="), walk("origin.roa=roa", "with"), walk("origin.roa=roa", moment="20270229000000Z"),

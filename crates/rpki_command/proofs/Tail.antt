@@ -208,3 +208,10 @@ first-word [] d word l e = absurd (omega (arith, l))
 first-word (w ∷ words) d word l e =
     ap (λ (x : List ℕ). x ∷ texts words) e
     ∙ ap (λ (l : List (Bor (List ℕ))). word ∷ texts l) (sym (take_rest (w ∷ words) 1))
+
+-- the same, where what stands for no word is not this one
+pub first-there : (words : List (Bor (List ℕ))) (d : Bor (List ℕ)) (o : ℕ) (word : List ℕ)
+    → d.now ≡ [] → (get_or words 0 d).now ≡ o ∷ word
+    → texts words ≡ (o ∷ word) ∷ texts (take (length words - 1) (drop 1 words))
+first-there [] d o word n e = absurd cc
+first-there (w ∷ words) d o word n e = first-word (w ∷ words) d (o ∷ word) (omega arith) e

@@ -78,7 +78,7 @@ usage_text = codes "usage: rpki_verify [OPTION ..] check KIND FILE MOMENT TA [CA
     ++ (codes "       rpki_verify show tal FILE\n"
     ++ (codes "       rpki_verify --help\n"
     ++ (codes "OPTION, in this order: --relaxed --registered --wide\n"
-    ++ (codes "KIND: aspa, manifest, roa or rsc\n"
+    ++ (codes "KIND: aspa, manifest, roa or rsc; of show and content also rta\n"
     ++ (codes "MOMENT: now, or YYYYMMDDHHMMSSZ\n"
     ++ codes "CA of walk: any file but one named with\n")))))))))
 

@@ -7,6 +7,7 @@ use Rattle.rpki_certs.specs.Issuer.{octets_of}
 use Rattle.rpki_command.specs.Answer.{Run, Output, IsSaid, usage, cannot_read, out_of_memory}
 use Rattle.rpki_command.specs.Answer.{shown}
 use Rattle.rpki_command.specs.Arguments.{ToldArguments, AreTexts, HaveNoText}
+use Rattle.rpki_command.specs.Attestation.{AttestationLines, RtaLines}
 use Rattle.rpki_command.specs.Check.{CheckOf}
 use Rattle.rpki_command.specs.Contents.{LinesOf, HasNoLines, IsShown}
 use Rattle.rpki_command.specs.Language.{Language, IsAsked, AskForNothing}
@@ -23,8 +24,8 @@ use Rattle.rpki_command.specs.declared.store.StoreError.TheVariants.{Unreadable,
 use Rattle.rpki_command.specs.declared.store.Unread.{Unread}
 use Rattle.rpki_command.specs.declared.store.Unread.TheVariants as reads
 use Rattle.rpki_command.specs.declared.words.Command.{Command}
-use Rattle.rpki_command.specs.declared.words.Command.TheVariants.{Content, Show, ShowTal, Check}
-use Rattle.rpki_command.specs.declared.words.Command.TheVariants.{Walk}
+use Rattle.rpki_command.specs.declared.words.Command.TheVariants.{Content, ContentRta, Show}
+use Rattle.rpki_command.specs.declared.words.Command.TheVariants.{ShowRta, ShowTal, Check, Walk}
 use Rattle.rpki_command.specs.declared.words.Options.{Options}
 use Rattle.rpki_command.specs.declared.words.Order.{Order}
 
@@ -55,11 +56,13 @@ pub data Task : Type 1 where
 
 -- What each command of the program with verdicts comes to with these options, where the causes of
 -- refusals of what is shown are told, or not: the table of its commands. A check, a walk and a
--- locator tell none, and a locator is a text, of which no option speaks. Where a command is not built, the
--- usage is said.
+-- locator tell none. An attestation is in DER, and a locator is a text: no option speaks of them.
+-- Where a command is not built, the usage is said.
 abbrev pub command_task : Causes → Options → Command → Task
 command_task causes options (Content kind file) = ShowLines causes file (LinesOf options kind)
+command_task causes options (ContentRta file) = ShowLines causes file AttestationLines
 command_task causes options (Show kind file) = ShowLines causes file (ObjectLinesOf options kind)
+command_task causes options (ShowRta file) = ShowLines causes file RtaLines
 command_task causes options (ShowTal file) = ShowLines Omitted file TalLines
 command_task causes options (Check kind file moment verdicts anchor chain) =
     CheckFiles (file ∷ verdicts ∷ anchor ∷ chain) (CheckOf options kind moment)

@@ -1,5 +1,6 @@
 pub mod Answer
 pub mod Arguments
+pub mod Attestation
 pub mod Check
 pub mod Command
 pub mod Contents

@@ -22,7 +22,7 @@ const USAGE: &[u8] = b"usage: rpki_verify [OPTION ..] check KIND FILE MOMENT TA 
        rpki_verify show tal FILE
        rpki_verify --help
 OPTION, in this order: --relaxed --registered --wide
-KIND: aspa, manifest, roa or rsc
+KIND: aspa, manifest, roa or rsc; of show and content also rta
 MOMENT: now, or YYYYMMDDHHMMSSZ
 CA of walk: any file but one named with";
 

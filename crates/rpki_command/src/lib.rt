@@ -4,6 +4,7 @@
 
 pub mod answer;
 mod arguments;
+mod attestation;
 mod check;
 mod contents;
 mod files;

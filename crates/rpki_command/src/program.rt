@@ -2,6 +2,7 @@
 
 ghost use Rattle.std.specs.Prelude.{◌≡◌, ◌∷◌, ◌++◌, []};
 ghost use Rattle.rpki_command.specs.Answer.{said};
+ghost use Rattle.rpki_command.specs.Attestation.{AttestationLines, RtaLines};
 ghost use Rattle.rpki_command.specs.Command.{objects_program, command_task, HasRead};
 ghost use Rattle.rpki_command.specs.Command.{IsTaskAnswer};
 ghost use Rattle.rpki_command.specs.Command.{unread, IsOfFile, IsAnswer, HaveRead};
@@ -12,6 +13,7 @@ ghost use Rattle.rpki_command.specs.Words.{texts};
 ghost use Rattle.rpki_command.specs.declared.contents.Causes.TheVariants.{Omitted};
 
 use crate::answer::Answer;
+use crate::attestation::{show_attestation, show_rta};
 use crate::check::CheckByList;
 use crate::contents::{Causes, show_kind};
 use crate::files::{answer_files, answer_tail};
@@ -77,9 +79,9 @@ pub fn answer_order<'a, S: Store>(
     let options = order.options;
     match &order.command {
         Command::Content { kind, file } => show_file(alloc, causes, options, *kind, file.0, store),
-        Command::ContentRta { .. } => Answer::Usage,
+        Command::ContentRta { file } => show_attestation_file(alloc, causes, file.0, store),
         Command::Show { kind, file } => show_signed(alloc, causes, options, *kind, file.0, store),
-        Command::ShowRta { .. } => Answer::Usage,
+        Command::ShowRta { file } => show_rta_file(alloc, causes, file.0, store),
         Command::ShowTal { file } => show_locator(alloc, file.0, store),
         Command::Check {
             kind,
@@ -153,6 +155,41 @@ fn show_signed<'a, S: Store>(
     match store.read(alloc, object) {
         Ok(octets) => show_object(alloc, causes, options, kind, octets),
         Err(error) => unread(error, object),
+    }
+}
+
+/// Answers with the lines of the content of an attestation in a file, if there is one.
+fn show_attestation_file<'a, S: Store>(
+    alloc: Global,
+    causes: Causes,
+    content: &'a str,
+    store: &mut S,
+) -> Answer<'a>
+    ensures said { IsOfFile (S.told store.old) content.now (IsShown causes AttestationLines)
+        (said result) }
+    ensures reads { S.reads store.new ≡ S.reads store.old ++ content.now ∷ [] }
+    ensures same { S.told store.new ≡ S.told store.old }
+{
+    match store.read(alloc, content) {
+        Ok(octets) => show_attestation(alloc, causes, octets),
+        Err(error) => unread(error, content),
+    }
+}
+
+/// Answers with the lines of the attestation in a file, if there is one.
+fn show_rta_file<'a, S: Store>(
+    alloc: Global,
+    causes: Causes,
+    rta: &'a str,
+    store: &mut S,
+) -> Answer<'a>
+    ensures said { IsOfFile (S.told store.old) rta.now (IsShown causes RtaLines) (said result) }
+    ensures reads { S.reads store.new ≡ S.reads store.old ++ rta.now ∷ [] }
+    ensures same { S.told store.new ≡ S.told store.old }
+{
+    match store.read(alloc, rta) {
+        Ok(octets) => show_rta(alloc, causes, octets),
+        Err(error) => unread(error, rta),
     }
 }
 

@@ -49,8 +49,8 @@ shared-in-time : (c : Command) → IsTrue (is_shared c) → IsProper c
 shared-in-time (commands.Content kind file) s = tt
 shared-in-time (commands.Show kind file) s = tt
 shared-in-time (commands.ShowTal file) s = tt
-shared-in-time (commands.ContentRta file) s = absurd cc
-shared-in-time (commands.ShowRta file) s = absurd cc
+shared-in-time (commands.ContentRta file) s = tt
+shared-in-time (commands.ShowRta file) s = tt
 shared-in-time (commands.Check kind file moment verdicts anchor chain) s = absurd cc
 shared-in-time (commands.Walk file moment verdicts anchor tail) s = absurd cc
 shared-in-time (commands.Rta file moment verdicts anchor anchors) s = absurd cc

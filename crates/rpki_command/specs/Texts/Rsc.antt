@@ -1,40 +1,11 @@
 -- The lines of the content of a signed checklist.
-use Rattle.std.specs.Prelude.{ℕ, List, ◌++◌, Option, Some, None, codes, map}
+use Rattle.std.specs.Prelude.{ℕ, List, ◌++◌, Option, Some, None, codes}
 use Rattle.std.specs.List.{flat_map}
 use Rattle.rpki_der.specs.Text.Hex.{hex}
-use Rattle.rpki_resources.specs.As.{as_block, as_block_text}
-use Rattle.rpki_resources.specs.Ip.{ip_block}
-use Rattle.rpki_resources.specs.Text.{block_text}
-use Rattle.rpki_resources.specs.declared.asn.AsBlock.{AsBlock}
-use Rattle.rpki_resources.specs.declared.family.AddressFamily.TheVariants.{Ipv4, Ipv6}
-use Rattle.rpki_resources.specs.declared.ip.IpBlock.{IpBlock}
 use Rattle.rpki_files.specs.Checked.{Checked}
-use Rattle.rpki_files.specs.Checklist.{Checklist, Set}
+use Rattle.rpki_files.specs.Checklist.{Checklist}
 use Rattle.rpki_command.specs.Ia5.{ia5_text}
-
--- the line of a block of AS numbers
-abbrev pub as_line : AsBlock → List ℕ
-as_line b = codes "as " ++ (as_block_text b ++ codes "\n")
-
--- the line of a block of IPv4 addresses
-abbrev pub v4_line : IpBlock → List ℕ
-v4_line b = codes "v4 " ++ (block_text Ipv4 b ++ codes "\n")
-
--- the line of a block of IPv6 addresses
-abbrev pub v6_line : IpBlock → List ℕ
-v6_line b = codes "v6 " ++ (block_text Ipv6 b ++ codes "\n")
-
--- a line for each block of AS numbers
-abbrev pub as_lines : Set → List ℕ
-as_lines set = flat_map as_line (map as_block set)
-
--- a line for each block of IPv4 addresses
-abbrev pub v4_lines : Set → List ℕ
-v4_lines set = flat_map v4_line (map ip_block set)
-
--- a line for each block of IPv6 addresses
-abbrev pub v6_lines : Set → List ℕ
-v6_lines set = flat_map v6_line (map ip_block set)
+use Rattle.rpki_command.specs.Texts.Blocks.{as_lines, v4_lines, v6_lines}
 
 -- what stands before a hash: the name of its file, if it has one
 abbrev pub name_text : Option (List ℕ) → List ℕ

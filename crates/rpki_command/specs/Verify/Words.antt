@@ -34,7 +34,9 @@ moment_at now (At moment) = Some moment
 -- whether both programs have this command: it shows what a file holds
 abbrev pub is_shared : Command → Bool
 is_shared (commands.Content kind file) = true
+is_shared (commands.ContentRta file) = true
 is_shared (commands.Show kind file) = true
+is_shared (commands.ShowRta file) = true
 is_shared (commands.ShowTal file) = true
 is_shared other = false
 

@@ -3,14 +3,13 @@
 ghost use Rattle.std.specs.List.{flat_map};
 ghost use Rattle.rpki_lists.specs.Slice.{seen};
 ghost use Rattle.rpki_command.specs.Grows.{Grows};
-ghost use Rattle.rpki_command.specs.Texts.Rsc.{rsc_text, as_lines, v4_lines, v6_lines};
-ghost use Rattle.rpki_command.specs.Texts.Rsc.{name_text, checked_line};
+ghost use Rattle.rpki_command.specs.Texts.Rsc.{rsc_text, name_text, checked_line};
 
+use crate::texts::blocks::{push_numbers, push_v4, push_v6};
 use crate::texts::ia5::Ia5;
 use crate::texts::lines::push_each;
 use rpki_der::LowerHex;
 use rpki_files::ResourceSignedChecklist;
-use rpki_resources::{AddressFamily, AsBlocks, IpBlocks};
 use std::alloc::AllocError;
 use std::fmt::Write;
 
@@ -23,35 +22,6 @@ pub fn push_rsc(text: &mut String, content: &ResourceSignedChecklist) -> Result<
     push_v4(text, content.v4_resources())?;
     push_v6(text, content.v6_resources())?;
     push_files(text, content)
-}
-
-/// Appends a line for each block of AS numbers.
-fn push_numbers(text: &mut String, blocks: &AsBlocks) -> Result<(), AllocError>
-    ensures { Grows result text.old text.new (as_lines blocks.now) }
-{
-    push_each(text, blocks.iter(), |text, block| {
-        write!(text, "as {block}\n")
-    })
-}
-
-/// Appends a line for each block of IPv4 addresses.
-fn push_v4(text: &mut String, blocks: &IpBlocks) -> Result<(), AllocError>
-    ensures { Grows result text.old text.new (v4_lines blocks.now) }
-{
-    push_each(text, blocks.iter(), |text, block| {
-        let block = block.display(AddressFamily::Ipv4);
-        write!(text, "v4 {block}\n")
-    })
-}
-
-/// Appends a line for each block of IPv6 addresses.
-fn push_v6(text: &mut String, blocks: &IpBlocks) -> Result<(), AllocError>
-    ensures { Grows result text.old text.new (v6_lines blocks.now) }
-{
-    push_each(text, blocks.iter(), |text, block| {
-        let block = block.display(AddressFamily::Ipv6);
-        write!(text, "v6 {block}\n")
-    })
 }
 
 /// Appends a line for each file.

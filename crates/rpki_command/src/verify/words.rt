@@ -270,7 +270,8 @@ fn is_shared(command: &Command<'_>) -> bool
     ensures { result ≡ is_shared command.now }
 {
     match command {
-        Command::Content { .. } | Command::Show { .. } | Command::ShowTal { .. } => true,
+        Command::Content { .. } | Command::ContentRta { .. } => true,
+        Command::Show { .. } | Command::ShowRta { .. } | Command::ShowTal { .. } => true,
         _ => false,
     }
 }
