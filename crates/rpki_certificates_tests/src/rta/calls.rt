@@ -1,6 +1,6 @@
 //! Attestations that are validated step by step, or from their octets.
 
-use super::given::{TOO_MUCH, Want, attests, ca_of, is_refusal, is_wanted, locator_of, now};
+use super::given::{TOO_MUCH, Want, attests, ca_of, is_refusal, is_yes, locator_of, now};
 use super::octets::{
     ANCHOR, CA_1_2, CA_1_5, CA_1_9, CA_8_30, CHAIN, FORGED_ANCHOR, LOCATOR, OTHER_LOCATOR,
     TWO_HEADS,
@@ -71,6 +71,14 @@ fn is_refused(alloc: Global, answer: Supplied, want: Want) -> Result<bool, Fail>
     }
 }
 
+/// Whether a validation ends so.
+fn ends(alloc: Global, validation: Validation<'_, StandIn>, want: Want) -> Result<bool, Fail> {
+    match validation.finalize(alloc) {
+        Ok(content) => Ok(is_yes(content, want)),
+        Err(error) => is_refusal(alloc, error, want),
+    }
+}
+
 /// An attestation of two signers, a CA that has too little for the second one, another of its key
 /// that has enough for both, and what is wanted in the end.
 type Kept = (&'static [u8], &'static [u8], &'static [u8], Want);
@@ -108,8 +116,8 @@ fn are_kept(alloc: Global, rta: &Rta, kept: &Kept) -> Result<bool, Fail> {
     let now = now()?;
     let mut validation = Validation::new_at(alloc, rta, true, &StandIn, now)?;
     let is_so = supplies_two(alloc, &mut validation, less, enough);
-    let answer = validation.finalize(alloc);
-    Ok(is_so? && is_wanted(alloc, answer, want)?)
+    let is_end = ends(alloc, validation, want);
+    Ok(is_so? && is_end?)
 }
 
 fn is_kept(alloc: Global, kept: &Kept) -> Result<bool, Fail> {
@@ -153,9 +161,8 @@ fn locates(alloc: Global, rta: &Rta) -> Result<bool, Fail> {
     let mut validation = Validation::new(alloc, rta, true, &StandIn, &clock)?;
     let other = supplied(alloc, &mut validation, other)?;
     let right = supplied(alloc, &mut validation, right)?;
-    let answer = validation.finalize(alloc);
-    let is_so = is_wanted(alloc, answer, Want::Yes(&[(5, 5)]))?;
-    Ok(is_so && is_done(other, false)? && is_done(right, true)?)
+    let is_end = ends(alloc, validation, Want::Yes(&[(5, 5)]))?;
+    Ok(is_end && is_done(other, false)? && is_done(right, true)?)
 }
 
 /// Whether a locator refuses an anchor that another key signed, and anchors nothing.
@@ -164,9 +171,12 @@ fn refuses(alloc: Global, rta: &Rta) -> Result<bool, Fail> {
     let now = now()?;
     let mut validation = Validation::new_at(alloc, rta, true, &StandIn, now)?;
     let forged = supplied(alloc, &mut validation, text)?;
-    let answer = validation.finalize(alloc);
-    let is_open = is_wanted(alloc, answer, Want::Refused("RTA could not be validated"))?;
-    Ok(is_open && is_refused(alloc, forged, Want::Refused("signature is not valid"))?)
+    let is_end = ends(
+        alloc,
+        validation,
+        Want::Refused("RTA could not be validated"),
+    )?;
+    Ok(is_end && is_refused(alloc, forged, Want::Refused("signature is not valid"))?)
 }
 
 fn are_located(alloc: Global) -> Result<bool, Fail> {

@@ -85,15 +85,10 @@ pub fn is_refusal(alloc: Global, error: ValidationError, want: Want) -> Result<b
     }
 }
 
-/// Whether this answer is wanted.
-pub fn is_wanted(
-    alloc: Global,
-    answer: Result<&ResourceTaggedAttestation, ValidationError>,
-    want: Want,
-) -> Result<bool, Fail> {
-    match (answer, want) {
-        (Ok(content), Want::Yes(numbers)) => Ok(attests(content, numbers)),
-        (Ok(_), Want::Refused(_)) => Ok(false),
-        (Err(error), want) => is_refusal(alloc, error, want),
+/// Whether a yes with this content is wanted.
+pub fn is_yes(content: &ResourceTaggedAttestation, want: Want) -> bool {
+    match want {
+        Want::Yes(numbers) => attests(content, numbers),
+        Want::Refused(_) => false,
     }
 }

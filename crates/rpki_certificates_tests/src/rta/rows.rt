@@ -1,6 +1,6 @@
 //! Attestations that are validated in one call.
 
-use super::given::{Above, TOO_MUCH, Want, ca_of, is_wanted, locator_of, now};
+use super::given::{Above, TOO_MUCH, Want, ca_of, is_refusal, is_yes, locator_of, now};
 use super::octets::{
     ANCHOR, CA_1_5, CA_1_9, CA_8_30, CA_15_30, CHAIN, CYCLE, EMPTY, FORGED_ANCHOR, LIST_TWICE,
     LOCATOR, OTHER_LOCATOR, OVERCLAIMING, OVERCLAIMING_BELOW_TRIM, REFUSING, REVOKED, SIGNER_TWICE,
@@ -69,6 +69,14 @@ static ANCHORS: [Row; 6] = [
     (TWO_HEADS, Above::Ca(CA_1_9), Want::Yes(&[(1, 5), (7, 7)])),
 ];
 
+/// Whether this is answered under these supplies.
+fn is_so(alloc: Global, rta: &Rta, supplies: &[Supply<'_>], want: Want) -> Result<bool, Fail> {
+    match run(alloc, rta, true, &StandIn, now()?, supplies) {
+        Ok(content) => Ok(is_yes(content, want)),
+        Err(error) => is_refusal(alloc, error, want),
+    }
+}
+
 /// Whether this is answered under a CA.
 fn is_so_under_ca(
     alloc: Global,
@@ -76,10 +84,8 @@ fn is_so_under_ca(
     octets: &'static [u8],
     want: Want,
 ) -> Result<bool, Fail> {
-    let now = now()?;
     let ca = ca_of(alloc, octets)?;
-    let answer = run(alloc, rta, true, &StandIn, now, &[Supply::Ca(&ca)]);
-    let is_so = is_wanted(alloc, answer, want);
+    let is_so = is_so(alloc, rta, &[Supply::Ca(&ca)], want);
     drop(ca);
     is_so
 }
@@ -91,18 +97,16 @@ fn is_so_under_locator(
     text: &'static [u8],
     want: Want,
 ) -> Result<bool, Fail> {
-    let now = now()?;
     let tal = locator_of(alloc, text)?;
-    let answer = run(alloc, rta, true, &StandIn, now, &[Supply::Tal(&tal)]);
-    let is_so = is_wanted(alloc, answer, want);
+    let is_so = is_so(alloc, rta, &[Supply::Tal(&tal)], want);
     drop(tal);
     is_so
 }
 
 /// Whether this is answered under what anchors the paths.
-fn is_so(alloc: Global, rta: &Rta, above: Above, want: Want) -> Result<bool, Fail> {
+fn is_answered(alloc: Global, rta: &Rta, above: Above, want: Want) -> Result<bool, Fail> {
     match above {
-        Above::Nothing => is_wanted(alloc, run(alloc, rta, true, &StandIn, now()?, &[]), want),
+        Above::Nothing => is_so(alloc, rta, &[], want),
         Above::Ca(octets) => is_so_under_ca(alloc, rta, octets, want),
         Above::Locator(text) => is_so_under_locator(alloc, rta, text, want),
     }
@@ -112,7 +116,7 @@ fn is_so(alloc: Global, rta: &Rta, above: Above, want: Want) -> Result<bool, Fai
 pub fn is_right(alloc: Global, row: &Row) -> Result<bool, Fail> {
     let (octets, above, want) = *row;
     let rta = Rta::decode(alloc, Bytes::from_static(octets))?;
-    let is_so = is_so(alloc, &rta, above, want);
+    let is_so = is_answered(alloc, &rta, above, want);
     drop(rta);
     is_so
 }
