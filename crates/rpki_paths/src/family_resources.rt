@@ -1,6 +1,6 @@
 //! The resources of a path in one family.
 
-ghost use Rattle.std.specs.Prelude.{◌↔◌, IsTrue, IfOk};
+ghost use Rattle.std.specs.Prelude.{◌≡◌, ◌↔◌, IsTrue, IfOk};
 ghost use Rattle.rpki_resources.specs.declared.resources.Claim.{Claim};
 ghost use Rattle.rpki_paths.specs.Sets.{CoversNearest, IsCut, IsWithClaim, IsWithSet};
 
@@ -15,6 +15,17 @@ pub struct FamilyResources<B> {
     pub met: B,
     /// The one that is nearest to the head.
     pub nearest_explicit: B,
+}
+
+impl<T: Number> Clone for FamilyResources<Blocks<T>> {
+    ghost is_clone = { λ x y. y ≡ x };
+
+    fn clone(&self) -> Result<Self, AllocError> {
+        Ok(FamilyResources {
+            met: self.met.clone()?,
+            nearest_explicit: self.nearest_explicit.clone()?,
+        })
+    }
 }
 
 // What is left of a set under one more explicit set.

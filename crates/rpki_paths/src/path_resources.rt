@@ -22,6 +22,18 @@ pub struct PathResources {
     pub v6: Option<FamilyResources<IpBlocks>>,
 }
 
+impl Clone for PathResources {
+    ghost is_clone = { λ sets copy. copy ≡ sets };
+
+    fn clone(&self) -> Result<Self, AllocError> {
+        Ok(PathResources {
+            asn: self.asn.clone()?,
+            v4: self.v4.clone()?,
+            v6: self.v6.clone()?,
+        })
+    }
+}
+
 impl PathResources {
     /// The resources of no certificate.
     pub fn none() -> PathResources

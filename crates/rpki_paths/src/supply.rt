@@ -49,13 +49,23 @@ impl<F: fmt::Display> fmt::Display for SupplyFault<F> {
 impl<F: Error> Error for SupplyFault<F> {}
 
 /// What paths are anchored under.
-#[derive(Drop)]
+#[derive(Debug)]
 pub enum Supplied<'a, T, S> {
     /// A trust anchor locator.
     Tal(&'a T),
     /// A CA certificate that was validated elsewhere.
     Ca(&'a S),
 }
+
+impl<T, S> Clone for Supplied<'_, T, S> {
+    ghost is_clone = { λ s copy. copy ≡ s };
+
+    fn clone(&self) -> Result<Self, AllocError> {
+        Ok(*self)
+    }
+}
+
+impl<T, S> Copy for Supplied<'_, T, S> {}
 
 impl<C: Certificate> Path<C> {
     /// Anchors the path at its head, where a locator is meant for it, and answers whether the path

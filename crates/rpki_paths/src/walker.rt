@@ -24,12 +24,25 @@ use std::sync::ledger::Ledger;
 
 /// The head of a path, its place (0 for the end-entity certificate, else one more than the CA's
 /// index), the resources of the path, and whether it is anchored.
-#[derive(Drop)]
+#[derive(Debug, Drop)]
 pub struct Path<C> {
     pub head: C,
     pub place: usize,
     pub sets: PathResources,
     pub anchored: bool,
+}
+
+impl<C: Copy> Clone for Path<C> {
+    ghost is_clone = { λ path copy. copy ≡ path };
+
+    fn clone(&self) -> Result<Self, AllocError> {
+        Ok(Path {
+            head: self.head,
+            place: self.place,
+            sets: self.sets.clone()?,
+            anchored: self.anchored,
+        })
+    }
 }
 
 impl<C: Drop> Path<C> {

@@ -19,14 +19,14 @@ use Rattle.rpki_paths.specs.declared.walker.Path.{Path}
 use Rattle.rpki_paths.specs.Accepting.{AreAccepted, WantsMemory}
 use Rattle.rpki_paths.specs.Cert.{Cert}
 use Rattle.rpki_paths.specs.Granting.{IsPassed, WhyNotGranted}
-use Rattle.rpki_paths.specs.Pairing.{HasDistinctIds}
 use Rattle.rpki_paths.proofs.Accepting.{refusal_is_right}
 use Rattle.rpki_paths.proofs.Granting.{walks_are_accepted, unsupplied_is_refused}
 use Rattle.rpki_paths.proofs.Granting.{undecided_is_refused}
 use Rattle.rpki_rta.specs.Begun.{cert_of}
 use Rattle.rpki_rta.specs.Carried.{IsValid, carried_checks, is_of_ca, seen_alone}
 use Rattle.rpki_rta.specs.Faults.{accept_fault, grant_fault, supply_fault, final_fault}
-use Rattle.rpki_rta.specs.Granted.{IsAcceptedRta, IsGrantedRta, attested_by, carried_by}
+use Rattle.rpki_rta.specs.Granted.{DeniesRightly, IsAcceptedRta, IsDistinct, IsGrantedRta}
+use Rattle.rpki_rta.specs.Granted.{RefusesRightly, attested_by, carried_by}
 use Rattle.rpki_rta.specs.Refused.{RefusesIn, WhyNotAccepted, WhyRefused, WhyNotGrantedRta}
 use Rattle.rpki_rta.specs.Refused.{supply_in}
 
@@ -56,7 +56,7 @@ told-memory why.Memory m = refl
 -- a cause but want of memory is right
 cause-right : (digest : Digester) (verdict : Verdict) (now : Moment) (r : Whole)
     (cause : AcceptFault ValidationError) → WhyNotAccepted digest verdict now r cause
-    → ¬ (accept_fault cause ≡ Memory) → HasDistinctIds (carried_by digest verdict r)
+    → ¬ (accept_fault cause ≡ Memory) → IsDistinct digest verdict r
     → ¬ (IsAcceptedRta digest verdict now r)
 cause-right digest verdict now r cause h other dist acc =
     refusal_is_right (λ c. IsValid c.tbs now)
@@ -65,8 +65,8 @@ cause-right digest verdict now r cause h other dist acc =
     (λ m. other (told-memory cause m)) h acc.valid acc.accepted
 
 pub why-refused : (digest : Digester) (verdict : Verdict) (now : Moment) (r : Whole)
-    (fault : ValidationError) → WhyRefused digest verdict now r fault → ¬ (fault ≡ Memory)
-    → HasDistinctIds (carried_by digest verdict r) → ¬ (IsAcceptedRta digest verdict now r)
+    (fault : ValidationError) → WhyRefused digest verdict now r fault
+    → RefusesRightly digest verdict now r fault
 why-refused digest verdict now r fault h other dist acc =
     cause-right digest verdict now r h.0 h.1 (λ e. other (h.2 ∙ e)) dist acc
 
@@ -78,7 +78,7 @@ module _ {C : Type 0} (digests : C → Digester) (says : C → Verdict) (crypto 
       (carried_by (digests crypto) (says crypto) (whole_of r)))
       (cert_of says) supply_in (RefusesIn says) supplies (attested_by r.content) cause
       → ¬ (grant_fault cause ≡ Memory)
-      → HasDistinctIds (carried_by (digests crypto) (says crypto) (whole_of r))
+      → IsDistinct (digests crypto) (says crypto) (whole_of r)
       → ¬ (IsGrantedRta (digests crypto) (says crypto) now (whole_of r) (map supply_in supplies))
   not-granted (NotAccepted c) w other dist g =
       cause-right (digests crypto) (says crypto) now (whole_of r) c w other dist
@@ -97,7 +97,6 @@ module _ {C : Type 0} (digests : C → Digester) (says : C → Verdict) (crypto 
       (λ m. other (ap final_fault m)) w.3 w.4 g.granted
 
   pub why-not-granted : (fault : ValidationError)
-      → WhyNotGrantedRta digests says crypto now r supplies fault → ¬ (fault ≡ Memory)
-      → HasDistinctIds (carried_by (digests crypto) (says crypto) (whole_of r))
-      → ¬ (IsGrantedRta (digests crypto) (says crypto) now (whole_of r) (map supply_in supplies))
+      → WhyNotGrantedRta digests says crypto now r supplies fault
+      → DeniesRightly (digests crypto) (says crypto) now (map supply_in supplies) (whole_of r) fault
   why-not-granted fault h other dist g = not-granted h.0 h.1 (λ e. other (h.2 ∙ e)) dist g

@@ -80,8 +80,8 @@ listed_in None n = false
 listed_in (Some l) n = lists l n
 
 -- What paths see of a certificate that is valid, with the revocation list that is paired with it.
--- A valid one passes the inspection of a trust anchor where it is that of a CA and self-signed by
--- its form.
+-- That it is valid is taken as given here, and is said beside what rests on it (`IsValid`). A valid
+-- one passes the inspection of a trust anchor where it is that of a CA and self-signed by its form.
 abbrev pub seen_cert : Verdict → Certificate → Option RevocationList → Cert
 seen_cert verdict c list = record {
   place = 0;

@@ -9,9 +9,8 @@ use Rattle.rpki_multi.specs.Attestation.{KeptWhole, whole_of}
 use Rattle.rpki_paths.specs.After.{KeepsNumbers}
 use Rattle.rpki_paths.specs.Anchor.{Supply}
 use Rattle.rpki_paths.specs.Final.{all_anchored}
-use Rattle.rpki_paths.specs.Pairing.{HasDistinctIds}
 use Rattle.rpki_rta.specs.Begun.{Begun, IsBegun, IsEnded, EndsWith, AnswersSupply}
-use Rattle.rpki_rta.specs.Granted.{IsAcceptedRta, IsGrantedRta, IsGrantedRtaBySome, carried_by}
+use Rattle.rpki_rta.specs.Granted.{IsAcceptedRta, IsDistinct, IsGrantedRta, IsGrantedRtaBySome}
 
 -- Supplies that are handed in one after the other, each to the paths as the one before it left
 -- them, whatever was answered.
@@ -67,7 +66,7 @@ abbrev pub RefusedSupplyIsRight : {C : Type 0} → (C → Digester) → (C → V
 RefusedSupplyIsRight {C} digests says =
     (crypto : C) (now : Moment) (r : KeptWhole) (supplies : List Supply) (s : Supply)
     (more : List Supply) (begun old new : Begun C) (fault : ValidationError) →
-    HasDistinctIds (carried_by (digests crypto) (says crypto) (whole_of r)) →
+    IsDistinct (digests crypto) (says crypto) (whole_of r) →
     IsBegun digests says crypto now r begun → AreTaken says supplies begun old →
     AnswersSupply says s old new (Err fault) → ¬ (fault ≡ Memory) →
     ¬ (IsGrantedRta (digests crypto) (says crypto) now (whole_of r) (supplies ++ s ∷ more))
@@ -78,7 +77,7 @@ abbrev pub NoIsRight : {C : Type 0} → (C → Digester) → (C → Verdict) →
 NoIsRight {C} digests says =
     (crypto : C) (now : Moment) (r : KeptWhole) (supplies : List Supply) (begun end : Begun C)
     (fault : ValidationError) →
-    HasDistinctIds (carried_by (digests crypto) (says crypto) (whole_of r)) →
+    IsDistinct (digests crypto) (says crypto) (whole_of r) →
     IsBegun digests says crypto now r begun → AreTaken says supplies begun end →
     EndsWith end fault → ¬ (fault ≡ Memory) →
     ¬ (IsGrantedRta (digests crypto) (says crypto) now (whole_of r) supplies)

@@ -14,6 +14,7 @@ use rpki_paths::{
 };
 use rpki_resources::{AsResources, IpResources};
 use std::alloc::AllocError;
+use std::fmt;
 use std::sync::ledger::Ledger;
 
 /// A certificate that an attestation carries, which is valid at the moment, as that of its kind;
@@ -40,6 +41,16 @@ impl<C> Clone for Carried<'_, C> {
 }
 
 impl<C> Copy for Carried<'_, C> {}
+
+impl<C> fmt::Debug for Carried<'_, C> {
+    fn fmt<W: fmt::Write>(&self, f: &mut fmt::Formatter<W>) -> fmt::Result {
+        f.debug_struct("Carried")
+            .field("cert", &self.cert)
+            .field("crl", &self.crl)
+            .field("now", &self.now)
+            .finish_non_exhaustive()
+    }
+}
 
 // Inspects a carried certificate, as that of its kind.
 fn inspect(cert: &Cert) -> Result<(), InspectionError>

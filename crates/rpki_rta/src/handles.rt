@@ -3,10 +3,9 @@
 ghost use Rattle.std.specs.Prelude.{◌≡◌, ◌≤◌, ◌+◌, All, map, IfOk, IfErr, OnOk};
 ghost use Rattle.rpki_multi.specs.Attestation.{whole_of};
 ghost use Rattle.rpki_paths.specs.Accepting.{AreAccepted, most_verdicts};
-ghost use Rattle.rpki_paths.specs.Pairing.{HasDistinctIds};
 ghost use Rattle.rpki_rta.specs.Begun.{cert_of};
 ghost use Rattle.rpki_rta.specs.Carried.{IsValid, seen_crl, seen_signer};
-ghost use Rattle.rpki_rta.specs.Granted.{carried_by};
+ghost use Rattle.rpki_rta.specs.Granted.{IsDistinct, carried_by};
 ghost use Rattle.rpki_rta.specs.Handles.{entry_view, crl_of, signer_of};
 ghost use Rattle.rpki_rta.specs.Refused.{WhyRefused};
 
@@ -152,9 +151,8 @@ pub fn accepted<'a, C: Crypto, L: Ledger>(
         paths.items) }
     ensures why { IfErr result (WhyRefused (C.digest_of crypto.now) (C.is_signed crypto.now) now
         (whole_of rta.now)) }
-    ensures cost { OnOk result (HasDistinctIds
-        (carried_by (C.digest_of crypto.now) (C.is_signed crypto.now) (whole_of rta.now)) →
-        asked.new ≤ asked.old + most_verdicts
+    ensures cost { OnOk result (IsDistinct (C.digest_of crypto.now) (C.is_signed crypto.now)
+        (whole_of rta.now) → asked.new ≤ asked.old + most_verdicts
         (carried_by (C.digest_of crypto.now) (C.is_signed crypto.now) (whole_of rta.now))) }
 {
     let handles = handles_of(alloc, rta, crypto, &now)?;

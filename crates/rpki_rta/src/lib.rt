@@ -12,5 +12,6 @@ mod supply;
 mod validation;
 mod whole;
 
+pub use rpki_paths::VerdictCount;
 pub use validation::Validation;
 pub use whole::{Supply, run};

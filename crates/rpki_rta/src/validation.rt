@@ -4,10 +4,9 @@ ghost use Rattle.std.specs.Prelude.{◌≡◌, ◌≤◌, ◌<◌, ◌+◌, IfOk
 ghost use Rattle.rpki_faults.specs.declared.validation.ValidationError.TheVariants.{Memory};
 ghost use Rattle.rpki_multi.specs.Attestation.{whole_of};
 ghost use Rattle.rpki_paths.specs.Accepting.{most_verdicts};
-ghost use Rattle.rpki_paths.specs.Pairing.{HasDistinctIds};
 ghost use Rattle.rpki_rta.specs.Begun.{AnswersSupply, IsBegun, IsEnded, EndsWith};
 ghost use Rattle.rpki_rta.specs.Begun.{supply_of_ca, supply_of_tal};
-ghost use Rattle.rpki_rta.specs.Granted.{IsAcceptedRta, carried_by};
+ghost use Rattle.rpki_rta.specs.Granted.{IsAcceptedRta, IsDistinct, RefusesRightly, carried_by};
 ghost use Rattle.rpki_rta.specs.Refused.{WhyRefused};
 
 use crate::carried::Carried;
@@ -20,13 +19,14 @@ use rpki_multi::Rta;
 use rpki_paths::{Path, Supplied, VerdictCount, finalize, supply_each};
 use rpki_tagged::ResourceTaggedAttestation;
 use rpki_tal::Tal;
-use std::alloc::Global;
+use std::alloc::{AllocError, Global};
 use std::marker::{Brand, Model};
 use std::sync::ledger::{Blank, Ledger};
 
 /// An attestation that is being validated: what it carries is accepted, and its paths wait for what
 /// anchors them. Contracts see it as the attestation and what is kept of the paths.
 #[derive(Drop)]
+#[derive_where(Debug)]
 pub struct Validation<'a, C> {
     rta: &'a Rta,
     pub(crate) paths: Vec<Path<Carried<'a, C>>>,
@@ -38,6 +38,17 @@ impl<'a, C> Model for Validation<'a, C> {
     ghost Value = { Begun C };
 
     ghost view = { λ v. record { rta = v.rta.now; paths = v.paths.items } };
+}
+
+impl<'a, C> Clone for Validation<'a, C> {
+    ghost is_clone = { λ v copy. copy ≡ v };
+
+    fn clone(&self) -> Result<Self, AllocError> {
+        Ok(Validation {
+            rta: self.rta,
+            paths: self.paths.clone()?,
+        })
+    }
 }
 
 // Begins a validation, with a count of its own.
@@ -55,10 +66,8 @@ fn begin_counted<'a, C: Crypto, L: Ledger>(
     ensures begun { IfOk result (IsBegun C.digest_of C.is_signed crypto.now now rta.now) }
     ensures accepted { OnOk result (IsAcceptedRta (C.digest_of crypto.now)
         (C.is_signed crypto.now) now (whole_of rta.now)) }
-    ensures refused { IfErr result (λ fault. ¬ (fault ≡ Memory) → HasDistinctIds
-        (carried_by (C.digest_of crypto.now) (C.is_signed crypto.now) (whole_of rta.now)) →
-        ¬ (IsAcceptedRta (C.digest_of crypto.now) (C.is_signed crypto.now) now
-        (whole_of rta.now))) }
+    ensures refused { IfErr result (RefusesRightly (C.digest_of crypto.now)
+        (C.is_signed crypto.now) now (whole_of rta.now)) }
     ensures why { IfErr result (WhyRefused (C.digest_of crypto.now) (C.is_signed crypto.now)
         now (whole_of rta.now)) }
 {
@@ -95,15 +104,12 @@ impl<'a, C: Crypto> Validation<'a, C> {
         ensures begun { IfOk result (IsBegun C.digest_of C.is_signed crypto.now now rta.now) }
         ensures accepted { OnOk result (IsAcceptedRta (C.digest_of crypto.now)
             (C.is_signed crypto.now) now (whole_of rta.now)) }
-        ensures refused { IfErr result (λ fault. ¬ (fault ≡ Memory) → HasDistinctIds
-            (carried_by (C.digest_of crypto.now) (C.is_signed crypto.now) (whole_of rta.now)) →
-            ¬ (IsAcceptedRta (C.digest_of crypto.now) (C.is_signed crypto.now) now
-            (whole_of rta.now))) }
+        ensures refused { IfErr result (RefusesRightly (C.digest_of crypto.now)
+            (C.is_signed crypto.now) now (whole_of rta.now)) }
         ensures why { IfErr result (WhyRefused (C.digest_of crypto.now) (C.is_signed crypto.now)
             now (whole_of rta.now)) }
-        ensures cost { OnOk result (HasDistinctIds
-            (carried_by (C.digest_of crypto.now) (C.is_signed crypto.now) (whole_of rta.now)) →
-            asked.new ≤ asked.old + most_verdicts
+        ensures cost { OnOk result (IsDistinct (C.digest_of crypto.now) (C.is_signed crypto.now)
+            (whole_of rta.now) → asked.new ≤ asked.old + most_verdicts
             (carried_by (C.digest_of crypto.now) (C.is_signed crypto.now) (whole_of rta.now))) }
     {
         match accepted(alloc, rta, crypto, now, asked) {
@@ -123,10 +129,8 @@ impl<'a, C: Crypto> Validation<'a, C> {
         ensures begun { IfOk result (IsBegun C.digest_of C.is_signed crypto.now now rta.now) }
         ensures accepted { OnOk result (IsAcceptedRta (C.digest_of crypto.now)
             (C.is_signed crypto.now) now (whole_of rta.now)) }
-        ensures refused { IfErr result (λ fault. ¬ (fault ≡ Memory) → HasDistinctIds
-            (carried_by (C.digest_of crypto.now) (C.is_signed crypto.now) (whole_of rta.now)) →
-            ¬ (IsAcceptedRta (C.digest_of crypto.now) (C.is_signed crypto.now) now
-            (whole_of rta.now))) }
+        ensures refused { IfErr result (RefusesRightly (C.digest_of crypto.now)
+            (C.is_signed crypto.now) now (whole_of rta.now)) }
         ensures why { IfErr result (WhyRefused (C.digest_of crypto.now) (C.is_signed crypto.now)
             now (whole_of rta.now)) }
     {
@@ -146,10 +150,8 @@ impl<'a, C: Crypto> Validation<'a, C> {
             (K.moment clock.now) rta.now) }
         ensures accepted { OnOk result (IsAcceptedRta (C.digest_of crypto.now)
             (C.is_signed crypto.now) (K.moment clock.now) (whole_of rta.now)) }
-        ensures refused { IfErr result (λ fault. ¬ (fault ≡ Memory) → HasDistinctIds
-            (carried_by (C.digest_of crypto.now) (C.is_signed crypto.now) (whole_of rta.now)) →
-            ¬ (IsAcceptedRta (C.digest_of crypto.now) (C.is_signed crypto.now)
-            (K.moment clock.now) (whole_of rta.now))) }
+        ensures refused { IfErr result (RefusesRightly (C.digest_of crypto.now)
+            (C.is_signed crypto.now) (K.moment clock.now) (whole_of rta.now)) }
         ensures why { IfErr result (WhyRefused (C.digest_of crypto.now) (C.is_signed crypto.now)
             (K.moment clock.now) (whole_of rta.now)) }
     {

@@ -1,10 +1,8 @@
 //! The validation of a multi-signed attestation in one call.
 
 ghost use Rattle.std.specs.Prelude.{◌≡◌, IfOk, IfErr, OnOk, map};
-ghost use Rattle.rpki_faults.specs.declared.validation.ValidationError.TheVariants.{Memory};
 ghost use Rattle.rpki_multi.specs.Attestation.{whole_of};
-ghost use Rattle.rpki_paths.specs.Pairing.{HasDistinctIds};
-ghost use Rattle.rpki_rta.specs.Granted.{IsGrantedRta, carried_by};
+ghost use Rattle.rpki_rta.specs.Granted.{DeniesRightly, IsGrantedRta};
 ghost use Rattle.rpki_rta.specs.Refused.{SuppliesAll, WhyNotGrantedRta, supply_in};
 
 use crate::faults::of_supply;
@@ -52,10 +50,8 @@ pub fn run<'a, C: Crypto>(
     ensures content { IfOk result (λ a. a.now ≡ rta.now.content) }
     ensures yes { OnOk result (IsGrantedRta (C.digest_of crypto.now) (C.is_signed crypto.now) now
         (whole_of rta.now) (map supply_in supplies.now)) }
-    ensures no { IfErr result (λ fault. ¬ (fault ≡ Memory) → HasDistinctIds
-        (carried_by (C.digest_of crypto.now) (C.is_signed crypto.now) (whole_of rta.now)) →
-        ¬ (IsGrantedRta (C.digest_of crypto.now) (C.is_signed crypto.now) now (whole_of rta.now)
-        (map supply_in supplies.now))) }
+    ensures no { IfErr result (DeniesRightly (C.digest_of crypto.now) (C.is_signed crypto.now) now
+        (map supply_in supplies.now) (whole_of rta.now)) }
     ensures why { IfErr result (WhyNotGrantedRta C.digest_of C.is_signed crypto.now now rta.now
         supplies.now) }
 {
