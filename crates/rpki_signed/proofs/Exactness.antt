@@ -14,10 +14,10 @@ use Rattle.rpki_sigobj.specs.Signed.Kind.{ObjectKind}
 use Rattle.rpki_sigobj.specs.Signed.{Whole, cert_in}
 use Rattle.rpki_multi.specs.Attestation.{KeptWhole, Whole as Attested}
 use Rattle.rpki_paths.specs.Anchor.{Supply}
-use Rattle.rpki_rta.specs.Granted.{IsGrantedRta}
+use Rattle.rpki_rta.specs.Granted.{GrantsRta, IsDistinct}
 use Rattle.rpki_signed.specs.declared.check.CheckError.{CheckError}
 use Rattle.rpki_signed.specs.declared.check.CheckError.TheVariants.{Decode, Validation}
-use Rattle.rpki_signed.specs.Attested.{GrantsRta, IsDistinct, IsExactRta}
+use Rattle.rpki_signed.specs.Attested.{IsExactRta}
 use Rattle.rpki_signed.specs.Exact.{IsExact}
 use Rattle.rpki_signed.specs.Headline.{BeginsWithGood, BeginsWithGranted, IsHeadline}
 use Rattle.rpki_signed.specs.Headline.{IsMemory, IsRtaHeadline, SaysOne}

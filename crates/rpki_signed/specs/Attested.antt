@@ -5,8 +5,6 @@ use Rattle.rpki_der.specs.Form.Decodes.{IsOnlyFront}
 use Rattle.rpki_der.specs.Grammar.{HasNoFront}
 use Rattle.rpki_der.specs.Read.Reads.{Refuses}
 use Rattle.rpki_basics.specs.Moment.{Moment}
-use Rattle.rpki_faults.specs.declared.validation.ValidationError.{ValidationError}
-use Rattle.rpki_faults.specs.declared.validation.ValidationError.TheVariants.{Memory}
 use Rattle.rpki_certs.specs.Validate.{Validated}
 use Rattle.rpki_certs.specs.Verify.{Verdict}
 use Rattle.rpki_sigobj.specs.Verify.{Digester}
@@ -14,26 +12,11 @@ use Rattle.rpki_multi.specs.Attestation.{KeptWhole, RtaForm, Whole, whole_of}
 use Rattle.rpki_tal.specs.Tal.{Locator}
 use Rattle.rpki_paths.specs.declared.supply.Supplied.{Supplied}
 use Rattle.rpki_paths.specs.Anchor.{Supply}
-use Rattle.rpki_paths.specs.Pairing.{HasDistinctIds}
-use Rattle.rpki_rta.specs.Granted.{IsGrantedRta, carried_by}
+use Rattle.rpki_rta.specs.Granted.{GrantsRta, IsGrantedRta}
 use Rattle.rpki_rta.specs.Refused.{WhyNotGrantedRta}
 use Rattle.rpki_signed.specs.declared.check.CheckError.{CheckError}
 use Rattle.rpki_signed.specs.declared.check.CheckError.TheVariants.{Decode, Validation}
 use Rattle.rpki_signed.specs.Check.{BeginsWith}
-
--- No two carried CAs share a key identifier, and end entities that share one have one key.
-abbrev pub IsDistinct : Digester → Verdict → Whole → Type 0
-IsDistinct digest verdict r = HasDistinctIds (carried_by digest verdict r)
-
--- What a validation of this attestation answers: a yes only where it is granted at this moment
--- under these supplies, and a fault other than want of memory, if the identifiers of its
--- certificates are distinct, only where it is not.
-abbrev pub GrantsRta : Digester → Verdict → Moment → List Supply → Whole
-    → Result (Unit {0}) ValidationError → Type 0
-GrantsRta digest verdict now supplies r (Ok done) = IsGrantedRta digest verdict now r supplies
-GrantsRta digest verdict now supplies r (Err fault) =
-    ¬ (fault ≡ Memory) → IsDistinct digest verdict r
-    → ¬ (IsGrantedRta digest verdict now r supplies)
 
 -- A yes is answered only where the octets begin with an attestation, in DER, that is granted at
 -- this moment under these supplies; answered is this attestation. Unless memory runs out, `Decode`

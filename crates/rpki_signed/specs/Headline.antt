@@ -16,10 +16,10 @@ use Rattle.rpki_sigobj.specs.Signed.Kind.{ObjectKind}
 use Rattle.rpki_sigobj.specs.Signed.{Whole, ObjectForm, cert_in}
 use Rattle.rpki_multi.specs.Attestation.{KeptWhole, RtaForm, Whole as Attested}
 use Rattle.rpki_paths.specs.Anchor.{Supply}
-use Rattle.rpki_rta.specs.Granted.{IsGrantedRta}
+use Rattle.rpki_rta.specs.Granted.{IsDistinct, IsGrantedRta}
 use Rattle.rpki_signed.specs.declared.check.CheckError.{CheckError}
 use Rattle.rpki_signed.specs.declared.check.CheckError.TheVariants.{Decode, Validation}
-use Rattle.rpki_signed.specs.Attested.{IsDistinct, IsExactRta}
+use Rattle.rpki_signed.specs.Attested.{IsExactRta}
 use Rattle.rpki_signed.specs.Exact.{IsExact}
 
 -- memory ran out
