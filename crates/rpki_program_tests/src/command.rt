@@ -5,6 +5,8 @@
 //! words, contents and files, streams that fail at each of their calls, lines that are refused,
 //! long lists, and objects that are checked are in the sweeps.
 
+mod attestations;
+mod attested;
 mod given;
 mod octets;
 mod runs;
