@@ -24,7 +24,8 @@ returns-in-Err-published-clause-refused g c = λ takes timely covered.
     let handed : Settings = c.args.told in
     let o : Whole Aspa = whole_of c.in-Ok.object in
     let s = o.object.signed in
-    let built : IsBuiltAspa c.args.limit o.content handed key (by.digest (aspa_octets o.content)) s =
+    let built : IsBuiltAspa c.args.limit o.content handed key (by.digest (aspa_octets o.content))
+    s =
     subst (λ (a : Aspa). IsBuiltAspa c.args.limit a handed key (by.digest (aspa_octets a)) s)
     (sym c.in-Ok.ensures.content)
     (subst (λ (d : List ℕ). IsBuiltAspa c.args.limit c.args.content handed key d s)

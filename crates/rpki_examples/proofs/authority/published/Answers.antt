@@ -13,7 +13,8 @@ returns-in-Err-checked-clause-refused g c = λ passes unrevoked.
     let kind = g.T.Content.kind in
     let form = g.T.Content.form c.args.rule in
     let by = checking g.C.Crypto.digest_of g.C.Crypto.is_signed c.args.check.now in
-    only-memory kind form by (whole_of c.args.object) c.requires passes unrevoked (Err c.in-Err-checked.error)
+    only-memory kind form by (whole_of c.args.object) c.requires passes unrevoked
+    (Err c.in-Err-checked.error)
     (by-desk (λ d. Checks kind form Der (g.C.Crypto.digest_of d.crypto)
     (g.C.Crypto.is_signed d.crypto) d.issuer d.moment (SaysOf d.list)
     c.args.object.object.object.octets (Err c.in-Err-checked.error)) _ _ c.check.view_is
@@ -30,12 +31,15 @@ returns-in-Ok-checked-clause-good g c =
     let by = checking g.C.Crypto.digest_of g.C.Crypto.is_signed c.args.check.now in
     subst (λ (o : List ℕ). IsPublished kind form by c.args.object.content o)
     (sym c.in-Ok.ensures.0)
-    (yes-published kind form by (whole_of c.args.object) c.requires (Ok (c.in-Ok-checked.cert, c.in-Ok-checked.content))
+    (yes-published kind form by (whole_of c.args.object) c.requires
+    (Ok (c.in-Ok-checked.cert, c.in-Ok-checked.content))
     (by-desk (λ d. IsExact kind form Der (g.C.Crypto.digest_of d.crypto)
     (g.C.Crypto.is_signed d.crypto) d.issuer d.moment (SaysOf d.list)
-    c.args.object.object.object.octets (Ok (c.in-Ok-checked.cert, c.in-Ok-checked.content))) _ _ c.check.view_is
+    c.args.object.object.object.octets (Ok (c.in-Ok-checked.cert, c.in-Ok-checked.content)))
+    _ _ c.check.view_is
     (subst (λ (o : List ℕ). IsExact kind form Der
     (g.C.Crypto.digest_of c.check.inside.crypto.now)
     (g.C.Crypto.is_signed c.check.inside.crypto.now) c.check.inside.issuer.now
-    c.check.inside.moment (SaysOf c.check.inside.list.now.list) o (Ok (c.in-Ok-checked.cert, c.in-Ok-checked.content)))
+    c.check.inside.moment (SaysOf c.check.inside.list.now.list) o
+    (Ok (c.in-Ok-checked.cert, c.in-Ok-checked.content)))
     c.in-Ok.ensures.1 c.in-Ok-checked.ensures.exact)))
