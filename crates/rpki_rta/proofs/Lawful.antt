@@ -32,7 +32,8 @@ told-ok (Ok done) all e = cc
 told-ok (Err f) all e = absurd cc
 
 module _ {C : Type 0} (says : C → Verdict) where
-  paths-after : (supplies : List Supply) (old new : Begun C) → AreAfterSupplies says supplies old new
+  paths-after : (supplies : List Supply) (old new : Begun C)
+      → AreAfterSupplies says supplies old new
       → AreAfter (cert_of says) (λ s. s) (Refuses says) supplies old.paths new.paths
   paths-after [] old new h = ap (λ (v : Begun C). v.paths) h
   paths-after (s ∷ supplies) old new h =
