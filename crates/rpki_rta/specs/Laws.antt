@@ -77,4 +77,5 @@ NoIsRight {C} digests says =
     (crypto : C) (now : Moment) (r : KeptWhole) (supplies : List Supply) (begun end : Begun C)
     (fault : ValidationError) →
     IsBegun digests says crypto now r begun → AreTaken says supplies begun end →
-    EndsWith end fault → DeniesRightly (digests crypto) (says crypto) now supplies (whole_of r) fault
+    EndsWith end fault →
+    DeniesRightly (digests crypto) (says crypto) now supplies (whole_of r) fault
