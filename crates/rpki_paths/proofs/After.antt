@@ -20,7 +20,8 @@ use Rattle.rpki_paths.specs.After.{AreKeptBySome, AreAnchoredBySome}
 use Rattle.rpki_paths.specs.Supplied.{IsSupplied}
 use Rattle.rpki_paths.specs.Final.{some_has, all_anchored, IsWhole}
 use Rattle.rpki_paths.specs.Grant.{union_of}
-use Rattle.rpki_paths.specs.Laws.{EachKeepsSome, AllKeepSome, KeptIsKeptBySome, EndAfterRefusals, YesAfterRefusals}
+use Rattle.rpki_paths.specs.Laws.{EachKeepsSome, AllKeepSome, KeptIsKeptBySome}
+use Rattle.rpki_paths.specs.Laws.{EndAfterRefusals, YesAfterRefusals}
 use Rattle.rpki_paths.proofs.Meets.{anchored-stands}
 use Rattle.rpki_paths.proofs.Keeps.{takes-kept}
 use Rattle.rpki_paths.proofs.Walking.{in-each}

@@ -11,6 +11,7 @@ pub mod Walking
 pub mod Grants
 pub mod Supplies
 pub mod WalkingEach
+pub mod Heads
 pub mod Finals
 pub mod Keeps
 pub mod Granting

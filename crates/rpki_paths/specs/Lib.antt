@@ -4,6 +4,7 @@ pub mod Path
 pub mod Anchor
 pub mod Pairing
 pub mod Walk
+pub mod Heads
 pub mod Index
 pub mod Taking
 pub mod Supplied

@@ -3,6 +3,7 @@
 ghost use Rattle.std.specs.Prelude.{◌≡◌, ◌≤◌, ◌+◌, All, IfOk, IfErr, OnOk};
 ghost use Rattle.rpki_paths.specs.Accepting.{AreAccepted, WhyNot, carried_of, most_verdicts};
 ghost use Rattle.rpki_paths.specs.Accepting.{fault_of_certs, fault_of_signers};
+ghost use Rattle.rpki_paths.specs.Heads.{HeadsFrom};
 ghost use Rattle.rpki_paths.specs.Pairing.{HasDistinctIds};
 ghost use Rattle.rpki_paths.specs.Texts.{accept_text};
 
@@ -110,6 +111,7 @@ where
     ensures good { OnOk result (All X.is_good a.now.certs.now) }
     ensures accepted { IfOk result (λ paths. AreAccepted C.cert
         (carried_of X.seen X.of_ca S.signer C.crl a.now) paths.items) }
+    ensures heads { IfOk result (λ paths. HeadsFrom X.admits C.same a.now.certs.now paths.items) }
     ensures refused { IfErr result (WhyNot X.is_good X.because X.seen X.of_ca a.now.certs.now
         (carried_of X.seen X.of_ca S.signer C.crl a.now)) }
     ensures cost { OnOk result (

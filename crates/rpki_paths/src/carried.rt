@@ -27,6 +27,9 @@ pub trait Candidate<C: Certificate> {
     // Whether it is that of a CA.
     ghost of_ca: { Self → Bool };
 
+    // Whether a handle is one that it is admitted with.
+    ghost admits: { Self → C → Type 0 };
+
     // Paths see a good one as valid.
     ghost good_is_valid: { (x : Self) → Self.is_good x → IsTrue (Self.seen x).is_valid };
 
@@ -39,6 +42,7 @@ pub trait Candidate<C: Certificate> {
     fn admit(&self) -> Result<C, Self::Fault>
         ensures good { IfOk result (λ _. is_good self.now) }
         ensures seen { IfOk result (λ c. C.cert c ≡ seen self.now) }
+        ensures admitted { IfOk result (admits self.now) }
         ensures refused { IfErr result (λ _. ¬ (is_good self.now)) }
         ensures fault { IfErr result (λ fault. because self.now fault) };
 }
@@ -70,10 +74,16 @@ pub trait CarriedCert<R>: Certificate + Seeks<R> {
     // What pairings see of a CRL.
     ghost crl: { R → Crl };
 
+    // Whether two handles are of one certificate, whatever CRLs are paired with it.
+    ghost same: { Self → Self → Type 0 };
+
     /// The certificate with this CRL.
     fn with_crl(&self, list: &R) -> Self
-        ensures { Self.cert result ≡
+        ensures same { Self.same self.now result }
+        ensures cert { Self.cert result ≡
             record (Self.cert self.now) { revokes = (crl list.now).serials } };
+
+    ghost same_self: { (c : Self) → Self.same c c };
 
     // It seeks its key identifier, among those of the CRLs, and asks for one verdict.
     ghost seeks_ski: { (c : Self) → Self.sought c ≡ (Self.cert c).ski };

@@ -2,7 +2,8 @@
 
 ghost use Rattle.std.specs.Prelude.{◌≡◌, ◌≤◌, ◌+◌, ◌*◌, ◌++◌, ◌∷◌, [], List, ℕ, length, map};
 ghost use Rattle.std.specs.Prelude.{IfOk, IfErr, IfSome, IfNone, OnOk, IsTrue, IsFalse};
-ghost use Rattle.rpki_paths.specs.Cert.{Cert};
+ghost use Rattle.rpki_paths.specs.Cert.{Cert, IsIn};
+ghost use Rattle.rpki_paths.specs.Heads.{AreAmong};
 ghost use Rattle.rpki_paths.specs.Index.{IsIndex};
 ghost use Rattle.rpki_paths.specs.Pairing.{Signer, HasKey, IsVerifiedBy};
 ghost use Rattle.rpki_paths.specs.Signing.{AreSigned, WhyNotSigned, WhyNotSigner};
@@ -78,6 +79,7 @@ fn take_cert<S: CarriedSigner<C> + Accepts<C, L>, C: Certificate, L: Ledger>(
         (map C.cert (left_of taken.new ees.now)) (map C.cert (left_of taken.old ees.now))) }
     ensures none { IfNone result (FitsNone (IsVerifiedBy (S.signer signer.now))
         (map C.cert (left_of taken.old ees.now))) }
+    ensures among { IfSome result (λ e. IsIn e ees.now) }
     ensures as_many { length taken.new ≡ length taken.old }
     ensures cost { AllVerify (λ s. s.sid) (λ e. e.ski) (λ s e. s.verifies e.key)
         (S.signer signer.now) (map C.cert ees.now) → asked.new ≤ asked.old + 1 }
@@ -109,6 +111,7 @@ fn take_one<S: CarriedSigner<C> + Accepts<C, L>, C: Certificate, L: Ledger>(
         AreSigned (done ++ S.signer signer.now ∷ []) keys.now (map C.cert ees.now)
         (taken ++ C.cert e ∷ []) (left_of keys_taken.new keys.now)
         (map C.cert (left_of ees_taken.new ees.now))) }
+    ensures among { IfOk result (λ e. IsIn e ees.now) }
     ensures refused { IfErr result (WhyNotSigner (S.signer signer.now)
         (left_of keys_taken.old keys.now) (map C.cert (left_of ees_taken.old ees.now))) }
     ensures keys_many { length keys_taken.new ≡ length keys_taken.old }
@@ -147,6 +150,7 @@ where
     ensures signed { IfOk result (λ taken. (left_keys : List (List ℕ)) × (left_ees : List Cert)
         × AreSigned (map S.signer signers.now) keys.now (map C.cert ees.now)
         (map C.cert taken.items) left_keys left_ees) }
+    ensures among { IfOk result (λ taken. AreAmong taken.items ees.now) }
     ensures refused { IfErr result
         (WhyNotSigned (map S.signer signers.now) keys.now (map C.cert ees.now)) }
     ensures cost { OnOk result (AllVerifyEach (λ s. s.sid) (λ e. e.ski) (λ s e. s.verifies e.key)

@@ -2,6 +2,8 @@
 
 ghost use Rattle.std.specs.Prelude.{◌≡◌, ◌++◌, ◌∷◌, [], List, IfOk, IfErr, IfSome, IfNone};
 ghost use Rattle.std.specs.Prelude.{OnOk, ◌≤◌, ◌+◌, ◌*◌, true, length, map};
+ghost use Rattle.rpki_paths.specs.Cert.{IsIn};
+ghost use Rattle.rpki_paths.specs.Heads.{AreFrom};
 ghost use Rattle.rpki_paths.specs.Index.{IsIndex};
 ghost use Rattle.rpki_paths.specs.Pairing.{Crl, HasCrl};
 ghost use Rattle.rpki_paths.specs.Sorting.{AreSorted, WhyNotOne, WhyNotSorted, cas_of};
@@ -58,6 +60,7 @@ fn listed<C: CarriedCert<R> + Accepts<R, L>, R, L: Ledger>(
         (map C.crl (left_of taken.old crls.now))) }
     ensures none { IfNone result
         (FitsNone (HasCrl (C.cert cert.now)) (map C.crl (left_of taken.old crls.now))) }
+    ensures same { IfSome result (C.same cert.now) }
     ensures as_many { length taken.new ≡ length taken.old }
     ensures cost { AllVerify (λ d. d.ski) (λ l. l.aki) (λ d l. l.verifies d.key)
         (C.cert cert.now) (map C.crl crls.now) → asked.new ≤ asked.old + 1 }
@@ -88,6 +91,12 @@ where
         AreSorted X.is_good X.seen X.of_ca C.cert (done ++ candidate.now ∷ []) all
         sorted.new.ees.items sorted.new.cas.items (map C.crl (left_of taken.new crls.now))) }
     ensures as_many { length taken.new ≡ length taken.old }
+    ensures from_ees { OnOk result ((xs : List X) → IsIn candidate.now xs →
+        AreFrom X.admits C.same xs sorted.old.ees.items →
+        AreFrom X.admits C.same xs sorted.new.ees.items) }
+    ensures from_cas { OnOk result ((xs : List X) → IsIn candidate.now xs →
+        AreFrom X.admits C.same xs sorted.old.cas.items →
+        AreFrom X.admits C.same xs sorted.new.cas.items) }
     ensures refused { IfErr result (WhyNotOne X.is_good X.because X.seen X.of_ca candidate.now
         (map C.crl (left_of taken.old crls.now))) }
     ensures cost { OnOk result ((X.of_ca candidate.now ≡ true →
@@ -127,6 +136,8 @@ where
     ensures sorted { IfOk result (λ s. (left : List Crl)
         × AreSorted X.is_good X.seen X.of_ca C.cert certs.now (map C.crl crls.now)
         s.ees.items s.cas.items left) }
+    ensures from_ees { IfOk result (λ s. AreFrom X.admits C.same certs.now s.ees.items) }
+    ensures from_cas { IfOk result (λ s. AreFrom X.admits C.same certs.now s.cas.items) }
     ensures refused { IfErr result (WhyNotSorted X.is_good X.because X.seen X.of_ca certs.now
         (map C.crl crls.now)) }
     ensures cost { OnOk result (AllVerifyEach (λ d. d.ski) (λ l. l.aki) (λ d l. l.verifies d.key)

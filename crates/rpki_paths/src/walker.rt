@@ -1,14 +1,14 @@
 //! The walk from an end-entity certificate up the carried CAs.
 
 ghost use Rattle.std.specs.Prelude.{map, ◌≡◌, ◌≢◌, ℕ, ◌+◌, ◌<◌, ◌≤◌, length, IfOk, IfErr, OnOk};
-ghost use Rattle.std.specs.Prelude.{Some};
+ghost use Rattle.std.specs.Prelude.{Some, ◌∷◌};
 ghost use Rattle.std.specs.Prelude.{IsFalse, slice_index};
 ghost use Rattle.rpki_paths.specs.declared.walker.Found.{Found};
 ghost use Rattle.rpki_paths.specs.declared.walker.PathFault.{PathFault};
 ghost use Rattle.rpki_paths.specs.Index.{IsIndex, IsNamedBy};
 ghost use Rattle.rpki_paths.specs.Path.{IsDistinct};
 ghost use Rattle.rpki_paths.specs.Walk.{FoundSays, IsRefused, IsWalked};
-ghost use Rattle.rpki_paths.specs.Cert.{at_place};
+ghost use Rattle.rpki_paths.specs.Cert.{IsIn, at_place};
 ghost use Rattle.rpki_paths.specs.Walk.{KeepsVisited, placed};
 ghost use Rattle.rpki_paths.specs.Texts.{path_text};
 
@@ -163,6 +163,7 @@ pub fn walk<C: SignedCertificate<L>, L: Ledger>(
         (at_place 0 (C.cert ee.now)) (at_place path.place (C.cert path.head))
         path.sets visited.new turn) }
     ensures not_anchored { IfOk result (λ path. IsFalse path.anchored) }
+    ensures head { IfOk result (λ path. IsIn path.head (ee.now ∷ cas.now)) }
     ensures refused { IfErr result (λ fault.
         IsRefused fault (placed C.cert 1 cas.now) (at_place 0 (C.cert ee.now))) }
     ensures as_many { length visited.new ≡ length visited.old }

@@ -1,9 +1,10 @@
 //! Walks from several end-entity certificates up the same CAs.
 
 ghost use Rattle.std.specs.Prelude.{◌≡◌, ◌≢◌, ℕ, ◌+◌, ◌*◌, ◌<◌, ◌≤◌, map, length, slice_index};
-ghost use Rattle.std.specs.Prelude.{Some};
+ghost use Rattle.std.specs.Prelude.{Some, ◌++◌};
 ghost use Rattle.std.specs.Prelude.{IfOk, IfErr, OnOk};
 ghost use Rattle.rpki_paths.specs.declared.walks.WalksFault.{WalksFault};
+ghost use Rattle.rpki_paths.specs.Heads.{HeadsAmong};
 ghost use Rattle.rpki_paths.specs.Kept.{AreRefused, AreWalked, walks_fault};
 ghost use Rattle.rpki_paths.specs.Path.{IsDistinct};
 ghost use Rattle.rpki_paths.specs.Walk.{placed};
@@ -106,6 +107,7 @@ pub fn walk_each<C: SignedCertificate<L>, L: Ledger>(
 ) -> Result<Vec<Path<C>>, WalksFault>
     ensures paths { IfOk result (λ paths.
         AreWalked C.cert (placed C.cert 1 cas.now) (map C.cert ees.now) paths.items) }
+    ensures heads { IfOk result (λ paths. HeadsAmong (ees.now ++ cas.now) paths.items) }
     ensures refused { IfErr result (λ fault.
         AreRefused fault (placed C.cert 1 cas.now) (map C.cert ees.now)) }
     ensures cost { OnOk result (IsDistinct (placed C.cert 1 cas.now) →

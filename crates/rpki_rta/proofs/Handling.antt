@@ -1,7 +1,7 @@
 -- What handles say is what the attestation says.
 use Rattle.std.proofs.Common.{◌≡◌, List, [], ◌∷◌, Bool, map, All, refl, sym, ap, ◌∙◌, subst}
 use Rattle.std.specs.Prelude.{filter, not}
-use Rattle.std.proofs.lemmas.List.Elements.{All-nil, All-cons}
+use Rattle.std.proofs.lemmas.List.Elements.{All-nil, All-cons, All-weaker}
 use Rattle.std.proofs.lemmas.Simd.{map-map}
 use Rattle.rpki_basics.specs.Moment.{Moment}
 use Rattle.rpki_faults.specs.Checks.{IsFirstFault}
@@ -12,7 +12,12 @@ use Rattle.rpki_sigobj.specs.Verify.{Digester}
 use Rattle.rpki_multi.specs.Attestation.{KeptWhole, whole_of}
 use Rattle.rpki_paths.specs.declared.acceptance.AcceptFault.{AcceptFault}
 use Rattle.rpki_paths.specs.declared.carried.Attestation.{Attestation}
+use Rattle.rpki_paths.specs.declared.walker.Path.{Path}
+use Rattle.rpki_paths.specs.Cert.{IsIn}
+use Rattle.rpki_paths.specs.Heads.{HeadsFrom, IsFrom}
 use Rattle.rpki_paths.specs.Pairing.{Carried}
+use Rattle.rpki_paths.proofs.Heads.{all-in}
+use Rattle.rpki_paths.proofs.Mapping.{in-image}
 use Rattle.rpki_paths.specs.Sorting.{cas_of, ees_of}
 use Rattle.rpki_paths.specs.Accepting.{WhyNot, carried_of}
 use Rattle.rpki_rta.specs.Carried.{IsValid, carried_checks, is_of_ca, seen_alone, seen_crl}
@@ -20,6 +25,8 @@ use Rattle.rpki_rta.specs.Carried.{seen_signer}
 use Rattle.rpki_rta.specs.Granted.{carried_by}
 use Rattle.rpki_rta.specs.Handles.{entry_view, crl_of, signer_of}
 use Rattle.rpki_rta.specs.Refused.{WhyNotAccepted}
+use Rattle.rpki_rta.specs.Begun.{HaveHandles, IsHandle}
+use Rattle.rpki_rta.specs.declared.carried.Carried.{Carried as Head}
 use Rattle.rpki_rta.specs.declared.carried.CarriedCrl.{CarriedCrl}
 use Rattle.rpki_rta.specs.declared.entry.Entry.{Entry}
 use Rattle.rpki_rta.specs.declared.signers.Signer.{Signer as Handle}
@@ -79,6 +86,28 @@ module _ {C : Type 0} (says : C → Verdict) (crypto : C) (now : Moment) where
 
   module _ (r : KeptWhole) (es : List (Entry C))
       (e : map entry_view es ≡ map (λ c. (c.certificate, (crypto, now))) r.signed.certs) where
+    pub heads-here : (paths : List (Path (Head C)))
+        → HeadsFrom (λ x c. (c.cert.now ≡ x.cert.now) × (c.crypto.now ≡ x.crypto.now)
+        × (c.now ≡ x.now.now)) (λ c d. (d.cert.now ≡ c.cert.now) × (d.crypto.now ≡ c.crypto.now)
+        × (d.now ≡ c.now)) es paths
+        → HaveHandles crypto now (whole_of r) paths
+    heads-here paths =
+        All-weaker (λ (p : Path (Head C)). IsFrom (λ (x : Entry C) (c : Head C).
+        (c.cert.now ≡ x.cert.now) × (c.crypto.now ≡ x.crypto.now) × (c.now ≡ x.now.now))
+        (λ (c d : Head C). (d.cert.now ≡ c.cert.now) × (d.crypto.now ≡ c.crypto.now)
+        × (d.now ≡ c.now)) es p.head)
+        (λ (p : Path (Head C)). IsHandle crypto now (whole_of r) p.head)
+        (λ p h.
+        (let here = all-in IsHere es h.candidate (are-here es r.signed.certs e) h.is_in in
+        record {
+          carried = subst (λ (k : KeptCertificate). IsIn k.certificate (whole_of r).signed.certs)
+              (sym (h.is_same.0 ∙ h.admits_it.0))
+              (subst (λ l. IsIn (cert_in h.candidate) l) (certs-here es r.signed.certs e)
+              (in-image cert_in es h.candidate h.is_in));
+          of_crypto = h.is_same.1 ∙ h.admits_it.1 ∙ here.0;
+          of_now = h.is_same.2 ∙ h.admits_it.2 ∙ here.1;
+        })) paths
+
     pub good-here : All (λ x. IsValid x.cert.now.certificate.tbs x.now.now) es
         → All (λ c. IsValid c.tbs now) (whole_of r).signed.certs
     good-here all =

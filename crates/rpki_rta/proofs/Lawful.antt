@@ -32,7 +32,8 @@ told-ok (Ok done) all e = cc
 told-ok (Err f) all e = absurd cc
 
 module _ {C : Type 0} (says : C → Verdict) where
-  paths-after : (supplies : List Supply) (old new : Begun C) → AreAfterSupplies says supplies old new
+  paths-after : (supplies : List Supply) (old new : Begun C)
+      → AreAfterSupplies says supplies old new
       → AreAfter (cert_of says) (λ s. s) (Refuses says) supplies old.paths new.paths
   paths-after [] old new h = ap (λ (v : Begun C). v.paths) h
   paths-after (s ∷ supplies) old new h =
@@ -119,8 +120,8 @@ module _ {C : Type 0} (says : C → Verdict) where
   )
 
   pub refused_supply_is_right : (digests : C → Digester) → RefusedSupplyIsRight digests says
-  refused_supply_is_right digests crypto now r supplies s more begun old new fault dist b =
-      λ taken refused other g. (
+  refused_supply_is_right digests crypto now r supplies s more begun old new fault b =
+      λ taken refused other dist g. (
       let a = carried_by (digests crypto) (says crypto) (whole_of r) in
       let acc = b.accepted in
       let t =
@@ -132,7 +133,7 @@ module _ {C : Type 0} (says : C → Verdict) where
       g.granted))
 
   pub no_is_right : (digests : C → Digester) → NoIsRight digests says
-  no_is_right digests crypto now r supplies begun end fault dist b taken ended other g =
+  no_is_right digests crypto now r supplies begun end fault b taken ended other dist g =
       let a = carried_by (digests crypto) (says crypto) (whole_of r) in
       let acc = b.accepted in
       let decided : Decides end.paths (attested_by r.content) (Err ended.0) =

@@ -8,13 +8,13 @@ use Rattle.rpki_certs.specs.Validate.{Validated, ta_validation}
 use Rattle.rpki_certs.specs.Verify.{Verdict}
 use Rattle.rpki_sigobj.specs.Verify.{Digester}
 use Rattle.rpki_tal.specs.Tal.{Locator}
-use Rattle.rpki_multi.specs.Attestation.{KeptWhole, whole_of}
+use Rattle.rpki_multi.specs.Attestation.{KeptWhole, Whole, whole_of}
 use Rattle.rpki_paths.specs.declared.decision.FinalFault.{FinalFault}
 use Rattle.rpki_paths.specs.declared.supply.SupplyFault.{SupplyFault}
 use Rattle.rpki_paths.specs.declared.walker.Path.{Path}
 use Rattle.rpki_paths.specs.Accepting.{AreAccepted}
 use Rattle.rpki_paths.specs.Anchor.{Supply}
-use Rattle.rpki_paths.specs.Cert.{Cert}
+use Rattle.rpki_paths.specs.Cert.{Cert, IsIn}
 use Rattle.rpki_paths.specs.Final.{Decides}
 use Rattle.rpki_paths.specs.Supplied.{AnswersEach}
 use Rattle.rpki_rta.specs.Carried.{IsValid, seen_cert, set_of}
@@ -32,14 +32,28 @@ abbrev pub cert_of : {C : Type 0} → (C → Verdict) → Handle C → Cert
 cert_of says c =
     seen_cert (says c.crypto.now) c.cert.now.certificate (option_map (λ l. l.now.list) c.crl)
 
+-- The handle is that of a carried certificate, and has this cryptography and this moment.
+pub record IsHandle {C : Type 0} (crypto : C) (now : Moment) (r : Whole) (handle : Handle C)
+    : Type 0 where
+  pub carried : IsIn handle.cert.now.certificate r.signed.certs
+  pub of_crypto : handle.crypto.now ≡ crypto
+  pub of_now : handle.now ≡ now
+
+-- The head of each path is the handle of a carried certificate, with this cryptography and this
+-- moment.
+abbrev pub HaveHandles : {C : Type 0} → C → Moment → Whole → List (Path (Handle C)) → Type 0
+HaveHandles crypto now r paths = All (λ p. IsHandle crypto now r p.head) paths
+
 -- The validation of this attestation has begun: every carried certificate is valid at the moment as
--- that of its kind, and what is carried is accepted, with what is kept of its paths.
+-- that of its kind, and what is carried is accepted, with what is kept of its paths, whose heads
+-- are carried.
 pub record IsBegun {C : Type 0} (digests : C → Digester) (says : C → Verdict) (crypto : C)
     (now : Moment) (r : KeptWhole) (v : Begun C) : Type 0 where
   pub of_rta : v.rta ≡ r
   pub valid : All (λ c. IsValid c.tbs now) (whole_of r).signed.certs
   pub accepted : AreAccepted (cert_of says)
       (carried_by (digests crypto) (says crypto) (whole_of r)) v.paths
+  pub heads : HaveHandles crypto now (whole_of r) v.paths
 
 -- what is supplied by a locator
 abbrev pub supply_of_tal : Locator → Supply

@@ -2,7 +2,6 @@
 use Rattle.std.specs.Prelude.{◌≡◌, List, [], ◌∷◌, ◌++◌, Bool, Result, Ok, Err, IsTrue}
 use Rattle.rpki_basics.specs.Moment.{Moment}
 use Rattle.rpki_faults.specs.declared.validation.ValidationError.{ValidationError}
-use Rattle.rpki_faults.specs.declared.validation.ValidationError.TheVariants.{Memory}
 use Rattle.rpki_certs.specs.Verify.{Verdict}
 use Rattle.rpki_sigobj.specs.Verify.{Digester}
 use Rattle.rpki_multi.specs.Attestation.{KeptWhole, whole_of}
@@ -10,7 +9,8 @@ use Rattle.rpki_paths.specs.After.{KeepsNumbers}
 use Rattle.rpki_paths.specs.Anchor.{Supply}
 use Rattle.rpki_paths.specs.Final.{all_anchored}
 use Rattle.rpki_rta.specs.Begun.{Begun, IsBegun, IsEnded, EndsWith, AnswersSupply}
-use Rattle.rpki_rta.specs.Granted.{IsAcceptedRta, IsDistinct, IsGrantedRta, IsGrantedRtaBySome}
+use Rattle.rpki_rta.specs.Granted.{DeniesRightly, IsAcceptedRta, IsGrantedRta}
+use Rattle.rpki_rta.specs.Granted.{IsGrantedRtaBySome}
 
 -- Supplies that are handed in one after the other, each to the paths as the one before it left
 -- them, whatever was answered.
@@ -66,10 +66,9 @@ abbrev pub RefusedSupplyIsRight : {C : Type 0} → (C → Digester) → (C → V
 RefusedSupplyIsRight {C} digests says =
     (crypto : C) (now : Moment) (r : KeptWhole) (supplies : List Supply) (s : Supply)
     (more : List Supply) (begun old new : Begun C) (fault : ValidationError) →
-    IsDistinct (digests crypto) (says crypto) (whole_of r) →
     IsBegun digests says crypto now r begun → AreTaken says supplies begun old →
-    AnswersSupply says s old new (Err fault) → ¬ (fault ≡ Memory) →
-    ¬ (IsGrantedRta (digests crypto) (says crypto) now (whole_of r) (supplies ++ s ∷ more))
+    AnswersSupply says s old new (Err fault) →
+    DeniesRightly (digests crypto) (says crypto) now (supplies ++ s ∷ more) (whole_of r) fault
 
 -- With distinct identifiers, where none of the supplies is refused and the end says no, but for
 -- memory, the attestation is not granted.
@@ -77,7 +76,6 @@ abbrev pub NoIsRight : {C : Type 0} → (C → Digester) → (C → Verdict) →
 NoIsRight {C} digests says =
     (crypto : C) (now : Moment) (r : KeptWhole) (supplies : List Supply) (begun end : Begun C)
     (fault : ValidationError) →
-    IsDistinct (digests crypto) (says crypto) (whole_of r) →
     IsBegun digests says crypto now r begun → AreTaken says supplies begun end →
-    EndsWith end fault → ¬ (fault ≡ Memory) →
-    ¬ (IsGrantedRta (digests crypto) (says crypto) now (whole_of r) supplies)
+    EndsWith end fault →
+    DeniesRightly (digests crypto) (says crypto) now supplies (whole_of r) fault

@@ -75,6 +75,7 @@ impl<'a, C> Carried<'a, C> {
         ensures cert { IfOk result (λ c. c.cert.now ≡ cert.now) }
         ensures crypto { IfOk result (λ c. c.crypto.now ≡ crypto.now) }
         ensures crl { IfOk result (λ c. c.crl ≡ None) }
+        ensures now { IfOk result (λ c. c.now ≡ now) }
     {
         inspect(cert)?;
         cert.verify_validity(now)?;
@@ -204,10 +205,13 @@ impl<'a, C: Crypto, L: Ledger> Accepts<CarriedCrl<'a, C>, L> for Carried<'a, C> 
 }
 
 impl<'a, C: Crypto> CarriedCert<CarriedCrl<'a, C>> for Carried<'a, C> {
-    ghost use Rattle.std.specs.Prelude.{refl};
+    ghost use Rattle.std.specs.Prelude.{◌≡◌, refl};
     ghost use Rattle.rpki_rta.specs.Carried.{seen_crl};
 
     ghost crl = { λ l. seen_crl (C.is_signed l.crypto.now) l.crl.now.list };
+
+    ghost same = { λ c d. (d.cert.now ≡ c.cert.now) × (d.crypto.now ≡ c.crypto.now)
+        × (d.now ≡ c.now) };
 
     fn with_crl(&self, list: &CarriedCrl<'a, C>) -> Self {
         Carried {
@@ -217,6 +221,8 @@ impl<'a, C: Crypto> CarriedCert<CarriedCrl<'a, C>> for Carried<'a, C> {
             now: self.now,
         }
     }
+
+    ghost same_self = { λ c. (refl, refl, refl) };
 
     ghost seeks_ski = { λ c. refl };
 

@@ -38,7 +38,7 @@ impl<'a, 'n, C> Entry<'a, 'n, C> {
 }
 
 impl<'a, 'n, C: Crypto> Candidate<Carried<'a, C>> for Entry<'a, 'n, C> {
-    ghost use Rattle.std.specs.Prelude.{refl};
+    ghost use Rattle.std.specs.Prelude.{◌≡◌, refl};
     ghost use Rattle.rpki_faults.specs.Checks.{IsFirstFault};
     ghost use Rattle.rpki_rta.specs.Carried.{IsValid, carried_checks, is_of_ca, seen_alone};
 
@@ -52,6 +52,9 @@ impl<'a, 'n, C: Crypto> Candidate<Carried<'a, C>> for Entry<'a, 'n, C> {
     ghost seen = { λ x. seen_alone (C.is_signed x.crypto.now) x.cert.now.certificate };
 
     ghost of_ca = { λ x. is_of_ca x.cert.now.certificate.tbs };
+
+    ghost admits = { λ x c. (c.cert.now ≡ x.cert.now) × (c.crypto.now ≡ x.crypto.now)
+        × (c.now ≡ x.now.now) };
 
     ghost good_is_valid = { λ x good. refl };
 

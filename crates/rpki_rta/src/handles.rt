@@ -3,7 +3,7 @@
 ghost use Rattle.std.specs.Prelude.{◌≡◌, ◌≤◌, ◌+◌, All, map, IfOk, IfErr, OnOk};
 ghost use Rattle.rpki_multi.specs.Attestation.{whole_of};
 ghost use Rattle.rpki_paths.specs.Accepting.{AreAccepted, most_verdicts};
-ghost use Rattle.rpki_rta.specs.Begun.{cert_of};
+ghost use Rattle.rpki_rta.specs.Begun.{HaveHandles, cert_of};
 ghost use Rattle.rpki_rta.specs.Carried.{IsValid, seen_crl, seen_signer};
 ghost use Rattle.rpki_rta.specs.Granted.{IsDistinct, carried_by};
 ghost use Rattle.rpki_rta.specs.Handles.{entry_view, crl_of, signer_of};
@@ -148,6 +148,8 @@ pub fn accepted<'a, C: Crypto, L: Ledger>(
     ensures good { OnOk result (All (λ c. IsValid c.tbs now) (whole_of rta.now).signed.certs) }
     ensures accepted { IfOk result (λ paths. AreAccepted (cert_of C.is_signed)
         (carried_by (C.digest_of crypto.now) (C.is_signed crypto.now) (whole_of rta.now))
+        paths.items) }
+    ensures heads { IfOk result (λ paths. HaveHandles crypto.now now (whole_of rta.now)
         paths.items) }
     ensures why { IfErr result (WhyRefused (C.digest_of crypto.now) (C.is_signed crypto.now) now
         (whole_of rta.now)) }

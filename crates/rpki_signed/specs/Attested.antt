@@ -33,8 +33,8 @@ IsExactRta digest verdict now supplies octets (Err (Validation fault)) =
     BeginsWith (RtaForm Der) octets (λ (r : Whole).
     GrantsRta digest verdict now supplies r (Err fault))
 
--- Where octets are refused by `Validation`, they begin with an attestation, and the fault is that of
--- the first thing that fails of it: what it carries, then the supplies in order, then the end.
+-- Where octets are refused by `Validation`, they begin with an attestation, and the fault is that
+-- of the first thing that fails of it: what it carries, then the supplies in order, then the end.
 abbrev pub IsFirstOfRta : {C : Type 0} → (C → Digester) → (C → Verdict) → C → Moment
     → List (Supplied Locator Validated) → List ℕ → CheckError → Type 0
 IsFirstOfRta digests says crypto now supplies octets (Decode e) = Unit {0}

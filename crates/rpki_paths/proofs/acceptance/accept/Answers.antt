@@ -11,6 +11,7 @@ use Rattle.rpki_paths.specs.Walk.{placed}
 use Rattle.rpki_paths.proofs.Accepting.{all-taken, all-valid, few-asked, have-taken, placed-listed}
 use Rattle.rpki_paths.proofs.Accepting.{signed-cause, signed-stops, some-left, sorted-cause}
 use Rattle.rpki_paths.proofs.Accepting.{taken-matches, taken-whole, where-seen}
+use Rattle.rpki_paths.proofs.Heads.{heads-from}
 use Rattle.rpki_paths.proofs.Sorts.{cas-many, ees-many}
 use Rattle.rpki_paths.proofs.acceptance.accept.Goals as goal
 
@@ -217,6 +218,16 @@ returns-in-Ok-walk_each-clause-accepted g c =
           c.as_slice-seen_cas.ensures.value c.as_slice-seen_taken.ensures.value
           c.in-Ok-walk_each.ensures.paths;
     }
+
+pub returns-in-Ok-walk_each-clause-heads : goal.returns-in-Ok-walk_each-clause-heads
+returns-in-Ok-walk_each-clause-heads g c =
+    heads-from g.X.Candidate.admits g.C.CarriedCert.same c.args.a.now.certs.now
+    c.in-Ok.sorted.ees.items c.in-Ok.sorted.cas.items c.as_slice-seen_ees.result.now
+    c.as_slice-seen_cas.result.now c.in-Ok-take_signers.taken.items
+    c.as_slice-seen_taken.result.now c.in-Ok-walk_each.paths.items
+    c.as_slice-seen_ees.ensures.value c.as_slice-seen_cas.ensures.value
+    c.as_slice-seen_taken.ensures.value c.in-Ok.ensures.from_ees c.in-Ok.ensures.from_cas
+    c.in-Ok-take_signers.ensures.among c.in-Ok-walk_each.ensures.heads
 
 pub returns-in-Ok-walk_each-clause-cost : goal.returns-in-Ok-walk_each-clause-cost
 returns-in-Ok-walk_each-clause-cost g c = λ dist. (

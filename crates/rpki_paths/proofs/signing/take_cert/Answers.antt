@@ -6,6 +6,7 @@ use Rattle.rpki_paths.specs.Pairing.{Signer, IsPair, IsVerifiedBy}
 use Rattle.rpki_paths.specs.Taking.{IsFirst, left_of}
 use Rattle.rpki_paths.proofs.Mapping.{map-first, map-none, same-pair}
 use Rattle.rpki_paths.proofs.Sorts.{cheap-one}
+use Rattle.rpki_paths.proofs.Walking.{get-in}
 use Rattle.rpki_paths.proofs.signing.take_cert.Goals as goal
 
 pub returns-in-None-clause-none : goal.returns-in-None-clause-none
@@ -54,3 +55,11 @@ returns-in-Some-clause-cost g c = λ all.
     g.met.S.CarriedSigner.holds_ski g.met.S.CarriedSigner.verdict_is_own c.args.signer.now
     c.args.taken.now c.args.ees.now all) in
     omega (arith, one, g.met.S.CarriedSigner.one_verdict))
+
+pub returns-in-Some-clause-among : goal.returns-in-Some-clause-among
+returns-in-Some-clause-among g c =
+    let ees = c.args.ees.now in
+    let t = c.in-Some.ensures.first in
+    get-in ees c.in-Some.place c.index-ees-place.result
+    (slice_get_read ees (length ees) c.in-Some.place c.index-ees-place.result refl
+    (slice_get_within ees c.in-Some.place t.0 t.1) c.index-ees-place.is)

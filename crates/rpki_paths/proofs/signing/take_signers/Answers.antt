@@ -3,8 +3,10 @@ use Rattle.std.proofs.Common.{◌≡◌, ◌+◌, ◌++◌, ◌∷◌, [], lengt
 use Rattle.std.proofs.Common.{refl, sym, ap, ◌∙◌, subst, arith}
 use Rattle.std.proofs.lemmas.Option.{slice_get_read}
 use Rattle.std.proofs.lemmas.List.{take_more, length-replicate, map-append}
+use Rattle.rpki_paths.specs.Cert.{IsIn}
 use Rattle.rpki_paths.specs.Index.{IsIndex}
 use Rattle.rpki_paths.specs.Taking.{left_of}
+use Rattle.rpki_paths.proofs.Heads.{all-more, all-none}
 use Rattle.rpki_paths.proofs.Mapping.{in-image}
 use Rattle.rpki_paths.proofs.PairingOff.{written-back, split-at, left-all}
 use Rattle.rpki_paths.proofs.Walking.{get-in}
@@ -28,6 +30,7 @@ loop-i-init g c =
           (ap (map cert) (ap (λ m. left_of m ees) no_ees ∙ left-all ees))
           (ap (map cert) c.new-taken.ensures.items),
       λ each. omega arith,
+      all-none (λ e. IsIn e ees) c.new-taken.result.items c.new-taken.ensures.items,
     )
 
 pub take_one-requires-clause-ee_index : goal.take_one-requires-clause-ee_index
@@ -80,6 +83,8 @@ loop-i-preserved g c =
           c.index-signers-i.is) in
           let one = c.in-Ok.ensures.cost (each (signer x) (in-image signer signers x inside)) in
           omega (arith, c.loop-i.invariant.3 each, one)),
+      all-more (λ e. IsIn e ees) c.loop-i.taken.items c.append.new.items.items c.in-Ok.ee
+          c.in_ok-append-in-Ok.ensures c.loop-i.invariant.4 c.in-Ok.ensures.among,
     )
 
 pub returns-in-Err-clause-refused : goal.returns-in-Err-clause-refused

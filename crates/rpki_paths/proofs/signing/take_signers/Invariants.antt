@@ -1,6 +1,7 @@
 -- The signers so far have taken, and each cost one verdict.
 use Rattle.std.proofs.Common.{◌≡◌, ◌≤◌, ◌+◌, length, map, take}
 use Rattle.rpki_paths.specs.Cert.{Cert}
+use Rattle.rpki_paths.specs.Heads.{AreAmong}
 use Rattle.rpki_paths.specs.Pairing.{Signer}
 use Rattle.rpki_paths.specs.Taking.{left_of, AllVerifyEach}
 use Rattle.rpki_paths.specs.Signing.{AreSigned}
@@ -16,3 +17,4 @@ invariant-loop-i g l =
     × (AllVerifyEach (λ (s : Signer). s.sid) (λ (e : Cert). e.ski) (λ s e. s.verifies e.key)
     (map g.S.CarriedSigner.signer l.signers) (map g.C.Certificate.cert l.ees) →
     l.asked ≤ l.fn.asked + l.i)
+    × AreAmong l.taken.items l.ees

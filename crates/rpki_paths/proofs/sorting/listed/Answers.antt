@@ -36,7 +36,7 @@ returns-in-Some-clause-some g c =
       g.C.CarriedCert.crl t.0,
       subst (λ l. g.C.Certificate.cert c.with_crl.result
           ≡ record (g.C.Certificate.cert c.args.cert.now)
-          { revokes = (g.C.CarriedCert.crl l).serials }) is c.with_crl.ensures,
+          { revokes = (g.C.CarriedCert.crl l).serials }) is c.with_crl.ensures.cert,
       one,
     )
 

@@ -3,8 +3,10 @@ use Rattle.std.proofs.Common.{◌≡◌, ◌+◌, ◌++◌, ◌∷◌, [], lengt
 use Rattle.std.proofs.Common.{refl, sym, ap, ◌∙◌, subst, arith}
 use Rattle.std.proofs.lemmas.Option.{slice_get_read}
 use Rattle.std.proofs.lemmas.List.{take_more, take_all, length-replicate, length-map}
+use Rattle.rpki_paths.specs.Heads.{IsFrom}
 use Rattle.rpki_paths.specs.Index.{IsIndex}
 use Rattle.rpki_paths.specs.Taking.{left_of}
+use Rattle.rpki_paths.proofs.Heads.{all-none}
 use Rattle.rpki_paths.proofs.PairingOff.{written-back, split-at, left-all}
 use Rattle.rpki_paths.proofs.Walking.{get-in}
 use Rattle.rpki_paths.proofs.Mapping.{in-image}
@@ -24,6 +26,10 @@ loop-i-init g c =
           g.C.Certificate.cert (map crl crls) (map crl (left_of c.in_ok-taken.taken.items crls))
           _ _ c.new.ensures.items c.new-2.ensures.items (ap (map crl) all),
       λ each. omega arith,
+      all-none (λ h. IsFrom g.X.Candidate.admits g.C.CarriedCert.same c.args.certs.now h) _
+          c.new.ensures.items,
+      all-none (λ h. IsFrom g.X.Candidate.admits g.C.CarriedCert.same c.args.certs.now h) _
+          c.new-2.ensures.items,
     )
 
 pub sort_one-requires-clause-index : goal.sort_one-requires-clause-index
@@ -50,6 +56,8 @@ loop-i-preserved g c =
     g.X.Candidate.of_ca g.C.Certificate.cert (take i certs) (map crl crls)
     c.loop-i.sorted.ees.items c.loop-i.sorted.cas.items (map crl (left_of m crls)))
     (sym c.deref_mut.ensures.value) c.loop-i.invariant.1 in
+    let inside = get-in certs i x
+    (slice_get_read certs (length certs) i x refl c.loop-i-test.true c.index-certs-i.is) in
     let after = c.in-Ok.ensures.sorted (take i certs) (map crl crls) before in (
       ap length back ∙ as_many ∙ c.loop-i.invariant.0,
       subst (λ m. AreSorted g.X.Candidate.is_good g.X.Candidate.seen g.X.Candidate.of_ca
@@ -60,14 +68,14 @@ loop-i-preserved g c =
           c.sort_one.new.sorted.cas.items (map crl (left_of new crls))) (sym one_more) after),
       λ each.
           (let of_ca = g.X.Candidate.of_ca in
-          let inside = get-in certs i x
-          (slice_get_read certs (length certs) i x refl c.loop-i-test.true c.index-certs-i.is) in
           let one = c.in-Ok.ensures.cost (λ e. each (g.X.Candidate.seen x)
           (in-image g.X.Candidate.seen (cas_of of_ca certs) x
           (in-filter of_ca certs x inside e))) in
           let more = ap (λ l. length (cas_of of_ca l)) one_more
           ∙ many-more of_ca (take i certs) x in
           omega (arith, c.loop-i.invariant.2 each, one, more)),
+      c.in-Ok.ensures.from_ees certs inside c.loop-i.invariant.3,
+      c.in-Ok.ensures.from_cas certs inside c.loop-i.invariant.4,
     )
 
 pub returns-in-Err-clause-refused : goal.returns-in-Err-clause-refused

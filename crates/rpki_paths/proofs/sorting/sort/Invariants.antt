@@ -1,6 +1,7 @@
 -- The certificates so far are sorted, and each CA among them cost one verdict.
 use Rattle.std.proofs.Common.{◌≡◌, ◌≤◌, ◌+◌, length, map, take}
 use Rattle.rpki_paths.specs.Cert.{Cert}
+use Rattle.rpki_paths.specs.Heads.{AreFrom}
 use Rattle.rpki_paths.specs.Pairing.{Crl}
 use Rattle.rpki_paths.specs.Taking.{left_of, AllVerifyEach}
 use Rattle.rpki_paths.specs.Sorting.{AreSorted, cas_of}
@@ -16,3 +17,5 @@ invariant-loop-i g l =
     (map g.X.Candidate.seen (cas_of g.X.Candidate.of_ca l.certs))
     (map g.C.CarriedCert.crl l.crls) →
     l.asked ≤ l.fn.asked + length (cas_of g.X.Candidate.of_ca (take l.i l.certs)))
+    × AreFrom g.X.Candidate.admits g.C.CarriedCert.same l.certs l.sorted.ees.items
+    × AreFrom g.X.Candidate.admits g.C.CarriedCert.same l.certs l.sorted.cas.items

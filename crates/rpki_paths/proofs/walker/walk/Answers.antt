@@ -1,6 +1,7 @@
 -- One issuer more, and each reason to stop.
-use Rattle.std.proofs.Common.{refl, sym, ◌∙◌, subst, arith}
+use Rattle.std.proofs.Common.{refl, sym, ◌∙◌, subst, arith, inl, inr, length}
 use Rattle.std.proofs.Common.{length-set}
+use Rattle.std.proofs.lemmas.Option.{slice_get_read}
 use Rattle.std.proofs.lemmas.Bool.{true≢false}
 use Rattle.rpki_paths.specs.Sets.{CoversNearest, IsWithClaim}
 use Rattle.rpki_paths.specs.Cert.{at_place}
@@ -10,7 +11,7 @@ use Rattle.std.proofs.Common.{map}
 use Rattle.rpki_paths.proofs.Walking.{index-named, issuer-at, scan-of}
 use Rattle.rpki_paths.proofs.Walking.{get-placed, length-placed, returns-to-visited, is-revoked}
 use Rattle.rpki_paths.proofs.Walking.{is-uncovered}
-use Rattle.rpki_paths.proofs.Walking.{walks-on, few-steps, named-once}
+use Rattle.rpki_paths.proofs.Walking.{walks-on, few-steps, named-once, get-in}
 use Rattle.rpki_paths.proofs.walker.walk.Goals as goal
 
 pub loop-step-init : goal.loop-step-init
@@ -27,6 +28,7 @@ loop-step-init g c =
           (c.requires.as_many ∙ sym (length-placed cert 1 c.args.cas.now)) c.requires.fresh,
       keeps-none c.args.turn c.args.visited.now,
       λ dist. omega arith,
+      inl refl,
     )
 
 pub find_issuer-requires : goal.find_issuer-requires
@@ -99,6 +101,9 @@ loop-step-preserved g c =
         c.in-Issuer.ensures.cost,
         named-once _ _ _ _ _ dist named,
       ),
+      inr (get-in c.args.cas.now c.in-Issuer.i c.index-cas-i.result
+          (slice_get_read c.args.cas.now (length c.args.cas.now) c.in-Issuer.i c.index-cas-i.result
+          refl lt c.index-cas-i.is)),
     )
 
 pub returns-clause-refused : goal.returns-clause-refused

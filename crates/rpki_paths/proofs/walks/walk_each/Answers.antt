@@ -8,8 +8,9 @@ use Rattle.std.proofs.lemmas.List.{take_more, take_all, length-replicate}
 use Rattle.rpki_paths.specs.Index.{IsIndex}
 use Rattle.rpki_paths.specs.Walk.{placed, KeepsVisited}
 use Rattle.rpki_paths.specs.Kept.{AreRefused}
+use Rattle.rpki_paths.proofs.Heads.{more-heads, no-heads}
 use Rattle.rpki_paths.proofs.PairingOff.{written-back, split-at}
-use Rattle.rpki_paths.proofs.Walking.{length-placed}
+use Rattle.rpki_paths.proofs.Walking.{get-in, length-placed}
 use Rattle.rpki_paths.proofs.WalkingEach.{IsWalkingEach, each-none, each-more, each-fresh}
 use Rattle.rpki_paths.proofs.WalkingEach.{each-refused, each-unused, each-done}
 use Rattle.rpki_paths.proofs.walks.walk_each.Goals as goal
@@ -21,6 +22,7 @@ loop-i-init g c =
       each-none g.C.Certificate.cert (placed g.C.Certificate.cert 1 c.args.cas.now) _ _ _
           (length c.args.cas.now) refl c.new-paths.ensures.items none,
       λ dist. omega arith,
+      no-heads (c.args.ees.now ++ c.args.cas.now) _ c.new-paths.ensures.items,
     )
 
 pub walk-requires-clause-index : goal.walk-requires-clause-index
@@ -77,6 +79,10 @@ loop-i-preserved g c =
           let more : (i + 1) * n ≡ i * n + n =
           let s : i + 1 ≡ suc i = omega arith in ap (λ m. m * n) s ∙ suc-mul i n in
           omega (arith, c.loop-i.invariant.2 dist, c.in-Ok.ensures.cost dist, more)),
+      more-heads ees c.args.cas.now e c.loop-i.paths.items c.append.new.items.items c.in-Ok.path
+          c.in_ok-append-in-Ok.ensures
+          (get-in ees i e (slice_get_read ees (length ees) i e refl c.loop-i-test.true
+          c.index-ees-i.is)) c.in-Ok.ensures.head c.loop-i.invariant.3,
     )
 
 pub returns-then-place-cas-clause-refused : goal.returns-then-place-cas-clause-refused

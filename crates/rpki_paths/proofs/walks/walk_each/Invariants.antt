@@ -1,5 +1,6 @@
 -- The certificates so far have paths.
-use Rattle.std.proofs.Common.{◌≡◌, ◌≤◌, ◌+◌, ◌*◌, length, take}
+use Rattle.std.proofs.Common.{◌≡◌, ◌≤◌, ◌+◌, ◌*◌, ◌++◌, length, take}
+use Rattle.rpki_paths.specs.Heads.{HeadsAmong}
 use Rattle.rpki_paths.specs.Path.{IsDistinct}
 use Rattle.rpki_paths.specs.Walk.{placed}
 use Rattle.rpki_paths.proofs.WalkingEach.{IsWalkingEach}
@@ -12,3 +13,4 @@ invariant-loop-i g l =
     l.paths.items l.visited.items l.i
     × (IsDistinct (placed g.C.Certificate.cert 1 l.cas) →
     l.asked ≤ l.fn.asked + l.i * length l.cas)
+    × HeadsAmong (l.ees ++ l.cas) l.paths.items

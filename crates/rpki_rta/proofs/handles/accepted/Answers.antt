@@ -6,7 +6,7 @@ use Rattle.rpki_paths.specs.Accepting.{AreAccepted, most_verdicts}
 use Rattle.rpki_paths.specs.Pairing.{HasDistinctIds}
 use Rattle.rpki_rta.specs.Begun.{cert_of}
 use Rattle.rpki_rta.specs.Handles.{entry_view, crl_of, signer_of}
-use Rattle.rpki_rta.proofs.Handling.{carried-here, good-here, why-told}
+use Rattle.rpki_rta.proofs.Handling.{carried-here, good-here, heads-here, why-told}
 use Rattle.rpki_rta.proofs.handles.accepted.Goals as goal
 
 pub returns-in_err-handles-clause-why : goal.returns-in_err-handles-clause-why
@@ -38,6 +38,13 @@ returns-in-Ok-clause-accepted g c =
     (c.as_slice.ensures.value ∙ h.keys)
     (ap (map (signer_of says)) c.as_slice-2.ensures.value ∙ h.signers)
     (ap (map (crl_of says)) c.as_slice-4.ensures.value ∙ h.lists)) c.in-Ok.ensures.accepted
+
+pub returns-in-Ok-clause-heads : goal.returns-in-Ok-clause-heads
+returns-in-Ok-clause-heads g c =
+    heads-here g.C.Crypto.is_signed c.args.crypto.now c.args.now c.args.rta.now
+    c.as_slice-3.result.now
+    (ap (map entry_view) c.as_slice-3.ensures.value ∙ c.in_ok-handles.ensures.entries)
+    c.in-Ok.paths.items c.in-Ok.ensures.heads
 
 pub returns-in-Ok-clause-cost : goal.returns-in-Ok-clause-cost
 returns-in-Ok-clause-cost g c =
