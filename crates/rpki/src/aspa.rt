@@ -17,7 +17,7 @@ pub mod faults {
 /// What the definitions of ASPAs say.
 pub mod laws {
     pub use rpki_routes::laws::{
-        attestations_are_unique, attestations_are_written, covered_aspas, limits_are_nested,
-        octets_after_an_attestation_are_left, refused_attestations,
+        attestations_are_unique, attestations_are_written, built_aspas_are_valid, covered_aspas,
+        limits_are_nested, octets_after_an_attestation_are_left, refused_attestations,
     };
 }

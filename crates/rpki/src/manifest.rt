@@ -17,6 +17,7 @@ pub mod faults {
 /// What the definitions of manifests say.
 pub mod laws {
     pub use rpki_files::laws::{
-        file_names, joined_names, manifests, octets_after_a_manifest_are_left, registered_is_any,
+        built_manifests_are_valid, file_names, joined_names, manifests,
+        octets_after_a_manifest_are_left, refused_manifests, registered_is_any,
     };
 }

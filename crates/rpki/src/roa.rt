@@ -14,7 +14,7 @@ pub mod faults {
 /// What the definitions of ROAs say.
 pub mod laws {
     pub use rpki_routes::laws::{
-        claims_of_addresses, covered_roas, octets_after_a_roa_are_left, refused_roas,
-        roas_are_unique, roas_are_written,
+        built_roas_are_valid, claims_of_addresses, covered_roas, octets_after_a_roa_are_left,
+        refused_roas, roas_are_unique, roas_are_written,
     };
 }
