@@ -5,7 +5,9 @@
 
 What is published lies where its URI says, below the name of its host. NAME.verdicts tells which
 signatures are right on the way from the trust anchor to the object NAME, a line each: the SHA-256
-digests of the key's SubjectPublicKeyInfo, of what was signed, and of the signature.
+digests of the key's SubjectPublicKeyInfo, of what was signed, and of the signature. Those of an
+attestation are of the chain that is supplied, and then of the certificates, the revocation lists
+and the signers as they are carried.
 
 The primes of a key are drawn from its name, so each run makes the same octets. `openssl` tests each
 key and makes each signature (tools/rsa_vectors.py), and is asked for each verdict again. Needs
@@ -52,8 +54,8 @@ SIGNED_DATA = oid("1.2.840.113549.1.7.2")
 CONTENT_TYPE, MESSAGE_DIGEST, SIGNING_TIME = (
     oid(f"1.2.840.113549.1.9.{last}") for last in (3, 4, 5)
 )
-ROA, MANIFEST, CHECKLIST, ASPA = (
-    oid(f"1.2.840.113549.1.9.16.1.{last}") for last in (24, 26, 48, 49)
+ROA, MANIFEST, ATTESTATION, CHECKLIST, ASPA = (
+    oid(f"1.2.840.113549.1.9.16.1.{last}") for last in (24, 26, 36, 48, 49)
 )
 POLICY = oid("1.3.6.1.5.5.7.14.2")
 CA_ISSUERS, REPOSITORY, SIA_MANIFEST, SIA_OBJECT = (
@@ -196,16 +198,20 @@ class Authority:
         self.count += 1
         return self.count
 
-    def revoked(self):
-        """Its revocation list (RFC 5280, section 5.1), which is empty."""
+    def revoked(self, verdicts=None, serials=()):
+        """Its revocation list (RFC 5280, section 5.1) of these serial numbers."""
         key = sequence(value(0x80, self.signer.id))
         number = extension("2.5.29.20", False, integer(1))
-        listed = sequence(extension("2.5.29.35", False, key), number)
+        added = sequence(extension("2.5.29.35", False, key), number)
+        listed = sequence(*(sequence(integer(serial), time(SIGNED)) for serial in serials))
         message = sequence(
             integer(1), SHA256_WITH_RSA, self.signer.name, time(SIGNED), time(NEXT),
-            under(0, listed),
+            listed if serials else b"", under(0, added),
         )
-        return sequence(message, SHA256_WITH_RSA, bits(self.signer.sign(message)))
+        signature = self.signer.sign(message)
+        if verdicts:
+            verdicts.add(self.signer, message, signature)
+        return sequence(message, SHA256_WITH_RSA, bits(signature))
 
 
 def key_extensions(issuer, subject, is_ca):
@@ -255,6 +261,28 @@ def attributes(kind, content, signed):
     return b"".join(sorted(sequence(name, value(0x31, inside)) for name, inside in parts))
 
 
+def signer_info(signer, verdicts, kind, content, signed, is_broken=False):
+    """What a signer says of a content (RFC 5652, section 5.3)."""
+    said = attributes(kind, content, signed)
+    signature = signer.sign(value(0x31, said))
+    verdicts.add(signer, value(0x31, said), signature)
+    if is_broken:
+        signature = flipped(signature, 100, 1)
+    return sequence(
+        integer(3), value(0x80, signer.id), sequence(SHA256), under(0, said), RSA,
+        octet_string(signature),
+    )
+
+
+def signed_data(kind, content, certs, crls, infos):
+    """A content that is signed (RFC 5652, sections 3 and 5.1)."""
+    data = sequence(
+        integer(3), value(0x31, sequence(SHA256)), sequence(kind, under(0, octet_string(content))),
+        under(0, *certs), under(1, *crls) if crls else b"", value(0x31, b"".join(infos)),
+    )
+    return sequence(SIGNED_DATA, under(0, data))
+
+
 class Made:
     """A signed object (RFC 6488) under a CA, with the key of a certificate of its own."""
 
@@ -267,20 +295,44 @@ class Made:
         signer = Signer(name)
         uris = [(SIA_OBJECT, f"{issuer.folder}/{name}")] if is_published else []
         cert = certificate(issuer, signer, self.verdicts, False, claim, uris, last)
-        said = attributes(kind, content, signed)
-        signature = signer.sign(value(0x31, said))
-        self.verdicts.add(signer, value(0x31, said), signature)
-        if is_broken:
-            signature = flipped(signature, 100, 1)
-        info = sequence(
-            integer(3), value(0x80, signer.id), sequence(SHA256), under(0, said), RSA,
-            octet_string(signature),
-        )
-        data = sequence(
-            integer(3), value(0x31, sequence(SHA256)),
-            sequence(kind, under(0, octet_string(content))), under(0, cert), value(0x31, info),
-        )
-        self.octets = sequence(SIGNED_DATA, under(0, data))
+        info = signer_info(signer, self.verdicts, kind, content, signed, is_broken)
+        self.octets = signed_data(kind, content, [cert], [], [info])
+
+
+class Attested:
+    """An attestation (draft-michaelson-rpki-rta) under a chain that is supplied.
+
+    It carries CAs with their revocation lists, and its signers have a certificate under a CA each.
+    The values of a SET OF are in the order of DER (X.690, section 11.6)."""
+
+    def __init__(self, name, supplied, cas):
+        self.name, self.supplied = name, supplied
+        self.certs = [(ca.octets, ca.verdicts) for ca in cas]
+        self.crls, self.infos, self.signers = [], [], []
+
+    def add_signer(self, ca, claim):
+        signer, verdicts = Signer(f"{self.name} {ca.name}"), Verdicts()
+        self.signers.append(signer)
+        self.certs.append((certificate(ca, signer, verdicts, False, claim, []), verdicts))
+
+    def add_crl(self, ca, serials):
+        verdicts = Verdicts()
+        self.crls.append((ca.revoked(verdicts, serials), verdicts))
+
+    def sign(self, numbers, prefixes, document, is_broken=False):
+        """Each signer signs, the first of them with one bit changed where it is broken."""
+        content = attested([it.id for it in self.signers], numbers, prefixes, document)
+        for signer in self.signers:
+            verdicts = Verdicts()
+            broken = is_broken and signer is self.signers[0]
+            info = signer_info(signer, verdicts, ATTESTATION, content, SIGNED, broken)
+            self.infos.append((info, verdicts))
+        carried = [sorted(it, key=lambda made: made[0])
+                   for it in (self.certs, self.crls, self.infos)]
+        lists = ([octets for octets, _ in it] for it in carried)
+        self.octets = signed_data(ATTESTATION, content, *lists)
+        self.verdicts = Verdicts(self.supplied)
+        self.verdicts.lines += (verdicts.lines[-1] for it in carried for _, verdicts in it)
 
 
 def roa(number, prefixes):
@@ -306,6 +358,14 @@ def checklist(numbers, prefixes, files):
     return sequence(named, sequence(SHA256), sequence(*listed))
 
 
+def attested(keys, numbers, prefixes, document):
+    """The content of an attestation (draft-michaelson-rpki-rta, section 4)."""
+    named = sequence(under(0, as_items(numbers)), under(1, by_family(prefixes, prefix)))
+    keys = value(0x31, b"".join(sorted(map(octet_string, keys))))
+    digest = hashlib.sha256(document).digest()
+    return sequence(keys, named, sequence(SHA256), octet_string(digest))
+
+
 def manifest(files):
     """The content of a manifest (RFC 9286, section 4.2)."""
     listed = (sequence(ia5(name), bits(hashlib.sha256(octets).digest()))
@@ -315,6 +375,10 @@ def manifest(files):
 
 NET4, NET6 = "192.0.2.0/24", "2001:db8::/32"
 NUMBER = [(64496, 64496)]
+# What a second trust anchor has, a CA under it, and the holder of some numbers of the first one.
+SECOND = Claim(["203.0.113.0/24", "3fff::/20"], [(65536, 65551)])
+MEMBER = Claim(["203.0.113.0/24", "3fff::/24"], [(65536, 65543)])
+HOLDER = Claim(["198.51.100.0/25", "2001:db8:100::/40"], [(64500, 64503)])
 
 
 def objects(ca):
@@ -326,6 +390,32 @@ def objects(ca):
     yield Made("overclaiming.roa", ca, ROA, roa(64496, others), Claim(others, []))
     yield Made("expired.roa", ca, ROA, content, both, last=EXPIRED, signed="20260501000000Z")
     yield Made("broken.roa", ca, ROA, content, both, is_broken=True)
+
+
+def agreed(name, ca, cas, prefixes, revoked=(), is_broken=False):
+    """An attestation of the numbers of a member and of a holder, who is a customer of the CA."""
+    second, member, customer = cas
+    made = Attested(name, ca.verdicts, cas)
+    made.add_signer(member, Claim(INHERIT, INHERIT))
+    made.add_signer(customer, HOLDER)
+    made.add_crl(second, revoked)
+    made.add_crl(member, ())
+    made.add_crl(customer, ())
+    numbers = HOLDER.numbers + MEMBER.numbers
+    made.sign(numbers, prefixes, b"an agreement\n", is_broken)
+    return made
+
+
+def attestations(ca, second):
+    """One attestation that is good, and three that are refused."""
+    member = Authority("member", second, MEMBER, f"{second.folder}/member.cer")
+    serial = second.count
+    customer = Authority("customer", ca, Claim(INHERIT, INHERIT), f"{ca.folder}/customer.cer")
+    cas, prefixes = (second, member, customer), HOLDER.prefixes + MEMBER.prefixes
+    yield agreed("agreement.rta", ca, cas, prefixes)
+    yield agreed("broken.rta", ca, cas, prefixes, is_broken=True)
+    yield agreed("overclaiming.rta", ca, cas, [NET4, *prefixes])
+    yield agreed("revoked.rta", ca, cas, prefixes, revoked=[serial])
 
 
 def published(ca, files):
@@ -352,12 +442,15 @@ def tree():
     above, _ = published(anchor, {"authority.cer": ca.octets})
     signed = checklist(NUMBER, [NET4], [("letter.txt", b"a letter\n"), (None, b"no name\n")])
     apart = Made("letter.sig", ca, CHECKLIST, signed, Claim([NET4], NUMBER), is_published=False)
-    yield "anchor.tal", locator(anchor)
-    yield f"{HOST}/anchor.cer", anchor.octets
+    second = Authority("second", None, SECOND, f"{RSYNC}/second.cer")
+    agreements = list(attestations(ca, second))
+    for it in (anchor, second):
+        yield f"{it.name}.tal", locator(it)
+        yield f"{HOST}/{it.name}.cer", it.octets
     yield from ((f"{HOST}/anchor/{name}", octets) for name, octets in above.items())
     yield from ((f"{HOST}/authority/{name}", octets) for name, octets in files.items())
-    yield apart.name, apart.octets
-    for it in (*made, listed, apart):
+    yield from ((it.name, it.octets) for it in (apart, *agreements))
+    for it in (*made, listed, apart, *agreements):
         yield f"{it.name}.verdicts", "".join(it.verdicts.lines).encode("ascii")
 
 

@@ -10,6 +10,8 @@ The prose and the ASN.1 stand in docs/GOOD-OBJECT.in. A line of its own there is
     {{checks KIND}}                  the checks of a kind (an `ObjectKind`), in their order; one row
                                      stands for those that the kinds share
     {{checks CRATE:NAME}}            those of a definition that lists checks
+    {{faults FAULT=CRATE:NAME ..}}   rows of these faults of a verification, each with the definition
+                                     of what has to hold
 
 The order of the checks is what the definitions say: lists are followed from name to name. What is
 printed is the text that rpki_faults/specs/Text has for the fault, and what it means the docstring
@@ -21,7 +23,7 @@ import re
 
 # The crates whose texts may be printed of an object.
 TEXTS = ["rpki_basics", "rpki_resources", "rpki_attributes", "rpki_extensions", "rpki_sigobj"]
-TEXTS += ["rpki_files", "rpki_routes"]
+TEXTS += ["rpki_files", "rpki_routes", "rpki_tagged"]
 # How names are shortened in what has to hold.
 SHORT = [("o.object.signed", "signed"), ("o.content", "content"), ("valid.sets", "sets")]
 SHORT += [("signed.cert", "cert"), ("issuer.cert.certificate", "issuer.cert")]
@@ -542,6 +544,16 @@ def linked(specs, given):
     ]
 
 
+def faults(specs, given):
+    """Rows of faults of a verification, each with the definition of what has to hold."""
+    rows = []
+    for word in given:
+        (name, *of), (crate, made) = (part.split(mark) for part, mark in zip(word.split("="), ".:"))
+        text = specs.text(("VerificationError", name, of))
+        rows.append(f"| `{text}` | {phrase(specs.docs[name])} | {specs.named(crate, made).link()} |")
+    return rows
+
+
 def page(top, crates):
     """The text of the page."""
     specs = Specs(top, crates)
@@ -562,6 +574,8 @@ def page(top, crates):
         elif what == "checks":
             kinds.add(given[0])
             lines += checks(specs, given[0])
+        elif what == "faults":
+            lines += faults(specs, given)
         else:
             raise Failure(f"docs/GOOD-OBJECT.in: {what} is no word of it")
     missing = [f"{c}: {n}" for c in TEXTS for n in sorted(there[c] - said[c])]

@@ -1,6 +1,20 @@
 //! Multi-signed attestations.
 
-pub use rpki_multi::{MultiSignedObject, MultiSignedObjectEncoder, Rta, SignerInfo};
-pub use rpki_tagged::{
-    AttestationBuilder, AttestationEncoder, ResourceTaggedAttestation, faults, laws,
+pub use rpki_multi::{
+    IntoRtaBuilder, MultiSignedObject, MultiSignedObjectEncoder, Rta, RtaBuilder, SignerInfo,
 };
+pub use rpki_rta::{Supply, Validation, run};
+pub use rpki_tagged::{AttestationBuilder, AttestationEncoder, ResourceTaggedAttestation, faults};
+
+/// What the definitions of attestations say.
+pub mod laws {
+    pub use rpki_multi::laws::{
+        attestations_in_ber, multi_signed_objects, octets_after_multi_signed_objects_are_left,
+        written_attestations_are_read,
+    };
+    pub use rpki_rta::laws::{
+        end_after_supplies, no_is_right, refused_supply_is_right, yes_after_supplies,
+        yes_is_granted,
+    };
+    pub use rpki_tagged::laws::attestations;
+}

@@ -1,6 +1,6 @@
 //! Tests of certificates, lists and objects: of `rpki_extensions`, `rpki_crls`, `rpki_certs`,
-//! `rpki_issued`, `rpki_issued_crls`, `rpki_sigobj`, `rpki_signing`, `rpki_multi`, `rpki_signed` and
-//! `rpki_paths`, each in the module of its name.
+//! `rpki_issued`, `rpki_issued_crls`, `rpki_sigobj`, `rpki_signing`, `rpki_multi`, `rpki_signed`,
+//! `rpki_paths` and `rpki_rta`, each in the module of its name.
 #![tactic(auto)]
 
 #[cfg(test)]
@@ -17,6 +17,8 @@ mod issued_crls;
 mod multi;
 #[cfg(test)]
 mod paths;
+#[cfg(test)]
+mod rta;
 #[cfg(test)]
 mod signed;
 #[cfg(test)]

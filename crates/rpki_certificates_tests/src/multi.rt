@@ -3,6 +3,7 @@
 //!
 //! A test hands want of memory on and asserts everything else.
 
+mod building;
 mod octets;
 mod reading;
 mod writing;

@@ -17,15 +17,18 @@ ghost use Rattle.rpki_files.specs.Manifest.{Manifest, ManifestForm, manifest_at}
 ghost use Rattle.rpki_faults.specs.Checks.{AllHold, IsFirstFault};
 ghost use Rattle.rpki_extensions.specs.declared.claims.Claims.{Claims};
 ghost use Rattle.rpki_certs.specs.Inspect.{NamesNothing};
-ghost use Rattle.rpki_certs.specs.Validate.{AreAllowed, AreHeld, AreValidated, Sets};
+ghost use Rattle.rpki_certs.specs.Validate.{AreAllowed, AreHeld, AreValidated, IsValidatedUnder};
+ghost use Rattle.rpki_certs.specs.Validate.{Sets, Validated};
 ghost use Rattle.rpki_certs.specs.Verify.{Verdict};
 ghost use Rattle.rpki_sigobj.specs.Object.{SignedData};
+ghost use Rattle.rpki_sigobj.specs.Signed.{Whole, cert_in};
+ghost use Rattle.rpki_sigobj.specs.Signed.Good.{IsGood};
 ghost use Rattle.rpki_sigobj.specs.Validate.{object_validation};
 ghost use Rattle.rpki_sigobj.specs.Verify.{Digester};
 ghost use Rattle.rpki_signing.specs.Built.{IsBuilt, IsFit, Settings, claims_of};
 ghost use Rattle.rpki_files.specs.Manifest.Built.{manifest_checks};
 ghost use Rattle.rpki_files.specs.Manifest.Signed.{inheriting};
-ghost use Rattle.rpki_files.specs.Manifest.Checks.{ct_manifest};
+ghost use Rattle.rpki_files.specs.Manifest.Checks.{ct_manifest, manifest_kind};
 ghost use Rattle.rpki_files.specs.Checklist.Checks.{checklist_held, checklist_claimed};
 ghost use Rattle.rpki_files.specs.Checklist.Checks.{AreCanonical, checklist_sets};
 
@@ -96,16 +99,22 @@ pub fn refused_manifests()
         → (octets : List ℕ) → ManifestForm rule mode octets m → ⊥ }
 {}
 
-/// A manifest that is built passes its whole validation (RFC 6488, section 3; RFC 9286, section
-/// 4.4), where cryptography says yes to what the signer may answer, and what the builder was told
-/// fits the issuer and the moment. That a family is named and that the issuer has what is claimed
-/// is so of each manifest, since it inherits all.
+/// A manifest that is built passes its whole validation, and is good (RFC 6488, section 3; RFC
+/// 9286, section 4.4), where cryptography says yes to what the signer may answer, and what the
+/// builder was told fits the issuer and the moment. That a family is named and that the issuer has
+/// what is claimed is so of each manifest, since it inherits all.
 pub fn built_manifests_are_valid(issuer: &ResourceCert)
     ensures valid { (digest : Digester) (verdict : Verdict) (b : Settings)
         (key content : List ℕ) (s : SignedData) (now : Moment)
         → IsBuilt (inheriting b) key ct_manifest content (digest content) s
         → IsFit verdict (inheriting b) key s issuer.now now
         → AllHold (object_validation digest verdict s issuer.now now) }
+    ensures good { (digest : Digester) (verdict : Verdict) (mode : Mode) (b : Settings)
+        (key content : List ℕ) (o : Whole Manifest) (now : Moment)
+        → IsBuilt (inheriting b) key ct_manifest content (digest content) o.object.signed
+        → IsFit verdict (inheriting b) key o.object.signed issuer.now now
+        → (v : Validated) → IsValidatedUnder (cert_in mode o) issuer.now v
+        → IsGood manifest_kind mode digest verdict issuer.now now o v }
     ensures named { (b : Settings) → ¬ NamesNothing (claims_of (inheriting b)) }
     ensures allowed { (b : Settings) (sets : Sets) → AreAllowed (claims_of (inheriting b)) sets }
 {

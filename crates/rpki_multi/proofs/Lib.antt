@@ -1,2 +1,3 @@
+pub mod Builds
 pub mod Multis
 pub mod Signers

@@ -58,6 +58,24 @@ fn bytes_of(signed: &MultiSignedObject, alloc: Global) -> Result<Vec<u8>, Encode
 }
 
 impl Rta {
+    // The attestation of an object in DER, and of what its content begins with.
+    pub(crate) fn of(signed: MultiSignedObject, content: ResourceTaggedAttestation) -> Rta
+        requires { IsKeptRta (record { signed = signed; content = content }) }
+        ensures { result ≡ record { signed = signed; content = content } }
+    {
+        Rta { signed, content }
+    }
+
+    // The object, and what its content begins with.
+    pub(crate) fn into_parts(self) -> (MultiSignedObject, ResourceTaggedAttestation)
+        ensures signed { result.0 ≡ self.signed }
+        ensures content { result.1 ≡ self.content }
+        ensures kept { IsKeptRta self }
+    {
+        let Rta { signed, content } = self;
+        (signed, content)
+    }
+
     /// Reads the attestation at the front of the source, by the rules of DER. Octets after it are
     /// left, and so are those after what the content says. Refuses by what multi-signed objects and
     /// contents are refused by, or by `Memory`.

@@ -1,7 +1,7 @@
 //! Multi-signed objects.
 
 mod encoder;
-mod parts;
+pub(crate) mod parts;
 mod read;
 
 ghost use Rattle.std.specs.Prelude.{◌≡◌, ◌⊎◌, ◌<◌, ◌^◌, ◌++◌, ℕ, List, length, IfOk};
@@ -47,11 +47,18 @@ impl Model for MultiSignedObject {
 
 impl MultiSignedObject {
     // The object of these parts.
-    fn of(parts: Parts) -> MultiSignedObject
+    pub(crate) fn of(parts: Parts) -> MultiSignedObject
         requires { AreKept parts }
         ensures { result ≡ parts }
     {
         MultiSignedObject { parts }
+    }
+
+    // Its parts.
+    pub(crate) fn into_parts(self) -> Parts
+        ensures { result ≡ self }
+    {
+        self.parts
     }
 }
 

@@ -47,7 +47,7 @@ impl Model for SignerInfo {
 
 impl SignerInfo {
     // What a signer says, where it is what one of an attestation says.
-    fn of(said: TypedSignerInfo) -> SignerInfo
+    pub(crate) fn of(said: TypedSignerInfo) -> SignerInfo
         requires { IsAttested said }
         ensures { result ≡ said }
     {
@@ -56,7 +56,7 @@ impl SignerInfo {
 }
 
 // The type of the content of an attestation.
-fn content_type() -> Oid
+pub(crate) fn content_type() -> Oid
     ensures { result ≡ id_rta }
 {
     oid_of(&ID_RTA)

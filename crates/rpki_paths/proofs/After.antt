@@ -20,7 +20,7 @@ use Rattle.rpki_paths.specs.After.{AreKeptBySome, AreAnchoredBySome}
 use Rattle.rpki_paths.specs.Supplied.{IsSupplied}
 use Rattle.rpki_paths.specs.Final.{some_has, all_anchored, IsWhole}
 use Rattle.rpki_paths.specs.Grant.{union_of}
-use Rattle.rpki_paths.specs.Laws.{EachKeepsSome, AllKeepSome, KeptIsKeptBySome, YesAfterRefusals}
+use Rattle.rpki_paths.specs.Laws.{EachKeepsSome, AllKeepSome, KeptIsKeptBySome, EndAfterRefusals, YesAfterRefusals}
 use Rattle.rpki_paths.proofs.Meets.{anchored-stands}
 use Rattle.rpki_paths.proofs.Keeps.{takes-kept}
 use Rattle.rpki_paths.proofs.Walking.{in-each}
@@ -200,3 +200,20 @@ module _ {X C F : Type 0} (cert : C → Cert) (of : X → Supply) (refuses : X �
           equal = λ f n. in-each (IsWhole kept attested) d.1 f n ∙ t.2 f n;
         };
       }
+
+  pub end_after_refusals : EndAfterRefusals cert of refuses
+  end_after_refusals a ees crls walked kept xs valid m w after d =
+      let held = all_keep_some xs [] walked kept w.paths after
+      (kept_is_kept_by_some cert [] walked w.paths w.are_kept) in
+      let t = anchors-some cert (map of xs) kept w.paths held d in (
+        w.paths,
+        walks_are_accepted cert a ees crls walked valid m w,
+        record {
+          anchors = t.0;
+          anchored = t.1;
+          whole = λ attested f. (
+            (λ h n. h n ∙ t.2 f n),
+            (λ h n. h n ∙ sym (t.2 f n)),
+          );
+        },
+      )

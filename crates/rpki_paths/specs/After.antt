@@ -1,7 +1,7 @@
 -- What is kept of paths after any supplies, and when it decides. Refused supplies are among them: a
 -- supply that one path does not take is handed in to the paths before it all the same, and the path
 -- may take a later one.
-use Rattle.std.specs.Prelude.{◌≡◌, ℕ, Bool, true, false, List, [], ◌∷◌, Result}
+use Rattle.std.specs.Prelude.{◌≡◌, ◌↔◌, ℕ, Bool, true, false, List, [], ◌∷◌, Result}
 use Rattle.rpki_resources.specs.Blocks.{holds}
 use Rattle.rpki_faults.specs.declared.family.Family.{Family}
 use Rattle.rpki_paths.specs.declared.path_resources.PathResources.{PathResources}
@@ -12,6 +12,7 @@ use Rattle.rpki_paths.specs.Sets.{StandsFor, with_claim}
 use Rattle.rpki_paths.specs.Path.{explicit_sets}
 use Rattle.rpki_paths.specs.Anchor.{Supply, Fits, Takes, supplied_claim}
 use Rattle.rpki_paths.specs.Walk.{resources_in}
+use Rattle.rpki_paths.specs.Final.{IsWhole}
 use Rattle.rpki_paths.specs.Grant.{IsAccepted, union_of}
 use Rattle.rpki_paths.specs.Pairing.{Carried}
 use Rattle.rpki_paths.specs.Supplied.{AnswersEach}
@@ -84,3 +85,13 @@ pub record IsGrantedBySome (a : Carried) (supplies : List Supply) (attested : Fa
   pub paths : List (List Cert)
   pub accepted : IsAccepted a paths
   pub earned : IsEarnedBySome paths supplies attested
+
+-- What is kept of paths, all of which are anchored, tells their numbers: each path is anchored by
+-- one of the supplies, which is meant for it and takes it, and an attested set has just the numbers
+-- that are kept where it has just those that some path stands for.
+pub record KeepsNumbers {C : Type 0} (kept : List (Path C)) (paths : List (List Cert))
+    (supplies : List Supply) : Type 0 where
+  pub anchors : List Supply
+  pub anchored : AreAnchoredBySome paths supplies anchors
+  pub whole : (attested : Family → Numbers) (f : Family) → IsWhole kept attested f
+      ↔ ((n : ℕ) → holds (λ k. k) (attested f) n ≡ union_of paths anchors f n)

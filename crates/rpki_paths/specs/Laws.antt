@@ -21,7 +21,7 @@ use Rattle.rpki_paths.specs.declared.decision.FinalFault.TheVariants.{Memory as 
 use Rattle.rpki_paths.specs.declared.pairs.PairFault.{PairFault}
 use Rattle.rpki_paths.specs.declared.pairs.PairFault.TheVariants.{Memory as PairMemory}
 use Rattle.rpki_paths.specs.Kept.{AreRefused, AreKept, AreWalked}
-use Rattle.rpki_paths.specs.After.{AreKeptBySome, AreAfter, IsGrantedBySome}
+use Rattle.rpki_paths.specs.After.{AreKeptBySome, AreAfter, IsGrantedBySome, KeepsNumbers}
 use Rattle.rpki_paths.specs.Supplied.{AnswersEach, AreSuppliedAll}
 use Rattle.rpki_paths.specs.Final.{all_anchored, IsWhole, Decides}
 use Rattle.rpki_paths.specs.Walk.{IsRefused, resources_in, InEach, placed}
@@ -371,3 +371,15 @@ YesAfterRefusals {X} {C} cert of refuses =
     IsMatching a ees crls → AreWalked cert (authorities a crls) ees walked →
     AreAfter cert of refuses xs walked kept → Decides kept attested (Ok tt) →
     IsGrantedBySome a (map of xs) attested
+
+-- Where every certificate is valid, walks from the certificates of a matching find paths, and after
+-- any supplies, refused ones among them, all paths are anchored, what is kept of them tells their
+-- numbers: so the end says no to attested sets only where these are not the numbers of the paths.
+abbrev pub EndAfterRefusals : {X C F : Type 0} → (C → Cert) → (X → Supply) →
+    (X → C → F → Type 0) → Type 0
+EndAfterRefusals {X} {C} cert of refuses =
+    (a : Carried) (ees : List Cert) (crls : List Crl) (walked kept : List (Path C))
+    (xs : List X) → AreValid a → IsMatching a ees crls →
+    AreWalked cert (authorities a crls) ees walked → AreAfter cert of refuses xs walked kept →
+    IsTrue (all_anchored kept) →
+    (paths : List (List Cert)) × IsAccepted a paths × KeepsNumbers kept paths (map of xs)

@@ -17,7 +17,7 @@ ghost use Rattle.rpki_paths.specs.Laws.{RefusalIsRight};
 ghost use Rattle.rpki_paths.specs.Laws.{ResourcesTellTakes, FirstFitsArePairing};
 ghost use Rattle.rpki_paths.specs.Laws.{FirstFitsFindPairing, MatchingIsCheap, VerdictsAreFew};
 ghost use Rattle.rpki_paths.specs.Laws.{EachKeepsSome, AllKeepSome, KeptIsKeptBySome};
-ghost use Rattle.rpki_paths.specs.Laws.{YesAfterRefusals};
+ghost use Rattle.rpki_paths.specs.Laws.{EndAfterRefusals, YesAfterRefusals};
 ghost use Rattle.rpki_paths.specs.Pairing.{HasKey, IsVerifiedBy, HasCrl};
 ghost use Rattle.rpki_paths.specs.Supplied.{supply_of, refusal_of};
 ghost use Rattle.rpki_paths.specs.Pairing.{IsPair};
@@ -182,6 +182,13 @@ pub fn kept_is_kept_by_some<C: Certificate>()
 /// them.
 pub fn yes_after_refusals<C: Certificate, T: Locator<C>, S: SuppliedCa<C>>()
     ensures { YesAfterRefusals C.cert (supply_of T.key S.ski S.key S.sets) (refusal_of T.refuses) }
+{}
+
+/// After any supplies, refused ones among them, where all paths are anchored, the end says no only
+/// where the attested sets are not the numbers of the paths, each under a supply that is meant for
+/// it and takes it.
+pub fn end_after_refusals<C: Certificate, T: Locator<C>, S: SuppliedCa<C>>()
+    ensures { EndAfterRefusals C.cert (supply_of T.key S.ski S.key S.sets) (refusal_of T.refuses) }
 {}
 
 /// The resources of a path tell whether a supplied CA takes it.

@@ -135,10 +135,10 @@ pub fn covered_aspas()
         (AllHold (aspa_claimed a x) × AllHold (aspa_held a sets)) ↔ AspaCovered a x sets }
 {}
 
-/// A built ROA passes its whole validation under an issuer: the object is valid, and its certificate
-/// has the addresses of each prefix (RFC 9582, section 5). This needs that cryptography says yes to
-/// what the signer may answer, and that what the builder was told fits the issuer and the moment; a
-/// family is named, since the ROA has an address.
+/// A built ROA passes its whole validation under an issuer: the object is valid, and its
+/// certificate has the addresses of each prefix (RFC 9582, section 5). This needs that cryptography
+/// says yes to what the signer may answer, and that what the builder was told fits the issuer and
+/// the moment; a family is named, since the ROA has an address.
 pub fn built_roas_are_valid(issuer: &ResourceCert)
     ensures passes { (digest : Digester) (verdict : Verdict) (mode : Mode) (handed : Settings)
         (key : List ℕ) (o : Whole Roa) (now : Moment)
@@ -157,8 +157,8 @@ pub fn built_roas_are_valid(issuer: &ResourceCert)
     issuer.is_resource_cert();
 }
 
-/// A built ASPA passes its whole validation under an issuer: its certificate claims the customer and
-/// nothing else, the object is valid, and the certificate has the customer
+/// A built ASPA passes its whole validation under an issuer: its certificate claims the customer
+/// and nothing else, the object is valid, and the certificate has the customer
 /// (draft-ietf-sidrops-aspa-profile-15, section 4). This needs that cryptography says yes to what
 /// the signer may answer, and that what the builder was told fits the issuer and the moment; a
 /// family is named, since the customer is claimed.

@@ -1,3 +1,4 @@
 pub mod Checked
+pub mod Exactness
 pub mod Walks
 pub mod Wider

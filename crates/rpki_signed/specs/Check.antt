@@ -18,9 +18,9 @@ use Rattle.rpki_signed.specs.declared.check.CheckError.{CheckError}
 use Rattle.rpki_signed.specs.declared.check.CheckError.TheVariants.{Decode, Validation}
 
 -- The octets begin with an object in the form, and with nothing else in it, and P holds of it.
-pub record BeginsWith {X : Type 0} (form : List ℕ → Whole X → Type 0) (octets : List ℕ)
-    (P : Whole X → Type 0) : Type 0 where
-  pub object : Whole X
+pub record BeginsWith {O : Type 0} (form : List ℕ → O → Type 0) (octets : List ℕ)
+    (P : O → Type 0) : Type 0 where
+  pub object : O
   pub rest : List ℕ
   pub front : IsOnlyFront form octets object rest
   pub holds : P object

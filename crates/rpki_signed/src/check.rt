@@ -1,6 +1,6 @@
 //! Whether octets are a good object, under a validated issuer, at a moment.
 
-ghost use Rattle.std.specs.Prelude.{Some};
+ghost use Rattle.std.specs.Prelude.{IfErr, Some, map};
 ghost use Rattle.std.specs.Fn.{FnOnceTakesAt, FnOnceReturnsAt};
 ghost use Rattle.rpki_sigobj.specs.Object.{mode_of};
 ghost use Rattle.rpki_der.specs.declared.mode.Mode.TheVariants.{Der};
@@ -12,6 +12,9 @@ ghost use Rattle.rpki_routes.specs.Aspa.Form.{AspaForm};
 ghost use Rattle.rpki_routes.specs.Roa.Form.{RoaForm};
 ghost use Rattle.rpki_routes.specs.Aspa.Checks.{aspa_kind};
 ghost use Rattle.rpki_routes.specs.Roa.Checks.{roa_kind};
+ghost use Rattle.rpki_multi.specs.Attestation.{whole_of};
+ghost use Rattle.rpki_rta.specs.Refused.{WhyNotGrantedRta, supply_in};
+ghost use Rattle.rpki_signed.specs.Attested.{GrantsRta, IsExactRta, IsFirstOfRta};
 ghost use Rattle.rpki_signed.specs.Check.{MayAsk, Checks, ChecksContent};
 ghost use Rattle.rpki_signed.specs.Exact.{IsExact};
 ghost use Rattle.rpki_signed.specs.Text.{check_text};
@@ -22,7 +25,9 @@ use rpki_certs::{Cert, ResourceCert};
 use rpki_der::DecodeError;
 use rpki_faults::ValidationError;
 use rpki_files::{ManifestContent, ResourceSignedChecklist};
+use rpki_multi::Rta;
 use rpki_routes::{AsProviderAttestation, RouteOriginAttestation};
+use rpki_rta::{Supply, run};
 use rpki_sigobj::{Content, Signed};
 use std::alloc::Global;
 use std::error::Error;
@@ -198,4 +203,60 @@ pub fn rsc<C: Crypto, F: FnOnce(&Cert) -> Result<(), ValidationError>>(
         (FnOnceReturnsAt F.FnOnce check_crl) bytes result }
 {
     object(alloc, bytes, strict, issuer, crypto, now, check_crl, ())
+}
+
+// Validates an attestation under these supplies.
+fn granted<C: Crypto>(
+    alloc: Global,
+    rta: &Rta,
+    strict: bool,
+    crypto: &C,
+    now: Time,
+    supplies: &[Supply<'_>],
+) -> Result<(), ValidationError>
+    ensures granted { GrantsRta (C.digest_of crypto.now) (C.is_signed crypto.now) now
+        (map supply_in supplies.now) (whole_of rta.now) result }
+    ensures first { IfErr result (WhyNotGrantedRta C.digest_of C.is_signed crypto.now now rta.now
+        supplies.now) }
+{
+    match run(alloc, rta, strict, crypto, now, supplies) {
+        Err(fault) => Err(fault),
+        Ok(_) => Ok(()),
+    }
+}
+
+/// Whether the octets begin with a multi-signed attestation (draft-michaelson-rpki-rta), read in
+/// DER, that is granted at this moment under these supplies: trust anchor locators, and CAs that
+/// were validated elsewhere. The answer is the attestation. `strict` changes nothing.
+///
+/// A yes means that every certificate that is carried is valid, that signers, certificates and
+/// revocation lists pair off, that the certificate of each signer has a path of signed and
+/// unrevoked certificates up to one that a supply anchors, and that each attested set is the union,
+/// over the signers, of the numbers of their paths. If no two carried CAs have one key identifier,
+/// and certificates of end entities that share one have one key, a yes is answered exactly there,
+/// unless memory runs out. Refuses by `Decode` exactly where the octets begin with no attestation,
+/// and by `Validation` as `rpki_rta::run` does, or by want of memory.
+pub fn rta<C: Crypto>(
+    alloc: Global,
+    bytes: Bytes,
+    strict: bool,
+    crypto: &C,
+    now: Time,
+    supplies: &[Supply<'_>],
+) -> Result<Rta, CheckError>
+    ensures first { IfErr result (IsFirstOfRta C.digest_of C.is_signed crypto.now now
+        supplies.now bytes) }
+    ensures exact { IsExactRta (C.digest_of crypto.now) (C.is_signed crypto.now) now
+        (map supply_in supplies.now) bytes result }
+{
+    match Rta::decode(alloc, bytes) {
+        Err(e) => Err(CheckError::Decode(e)),
+        Ok(rta) => match granted(alloc, &rta, strict, crypto, now, supplies) {
+            Err(fault) => {
+                drop(rta);
+                Err(CheckError::Validation(fault))
+            }
+            Ok(()) => Ok(rta),
+        },
+    }
 }

@@ -14,11 +14,12 @@ ghost use Rattle.rpki_routes.specs.Aspa.{Aspa};
 ghost use Rattle.rpki_routes.specs.Aspa.Form.{AspaForm};
 ghost use Rattle.rpki_routes.specs.Roa.Form.{RoaForm};
 ghost use Rattle.rpki_routes.specs.Aspa.Checks.{ct_aspa, aspa_kind};
-ghost use Rattle.rpki_files.specs.Checklist.Checks.{ct_checklist};
+ghost use Rattle.rpki_files.specs.Checklist.Checks.{checklist_kind, ct_checklist};
 ghost use Rattle.rpki_files.specs.Manifest.Checks.{ct_manifest, manifest_kind};
 ghost use Rattle.rpki_sigobj.specs.Signed.{Whole, ObjectForm, IsInBer};
 ghost use Rattle.rpki_sigobj.specs.Verify.{Digester};
-ghost use Rattle.rpki_routes.specs.Roa.Checks.{route_origin_authz};
+ghost use Rattle.rpki_routes.specs.Roa.Checks.{roa_kind, route_origin_authz};
+ghost use Rattle.rpki_signed.specs.Headline.{IsHeadline, IsRtaHeadline};
 ghost use Rattle.rpki_signed.specs.Walk.{AtHand, IsHeld, GivesAll, is_held};
 ghost use Rattle.rpki_signed.specs.Wider.{KeepsYes};
 
@@ -83,4 +84,23 @@ pub fn walks_are_whole<'a, N: AsOctets, O: AsOctets, C: Crypto>(walk: &Walk<'a, 
         → IsTrue (is_held digest files f) ↔ IsHeld digest files f }
     ensures whole { GivesAll ⟦<Walk<'a, N, O, C> as Iterator>⟧.next_gives
         (λ f. record { file = f.file.now; hash = f.hash.now }) walk.now walk.now }
+{}
+
+/// From octets to the yes. A check of a manifest, a ROA, an ASPA or a checklist, which `exact` says
+/// of `check::manifest`, `roa`, `aspa` and `rsc`, says yes exactly where the octets begin with a
+/// member of the grammar, every stated check holds, and the numbers claimed lie in the sets of the
+/// validated certificate. A check of a multi-signed attestation, which `exact` says of `check::rta`,
+/// says yes only where the octets begin with one, every stated check holds, and each attested set
+/// equals the union, over its signers, of the intersections of all explicit sets along anchored,
+/// signed, valid, unrevoked paths without a cycle; and, if the identifiers of the certificates that
+/// it carries are distinct, exactly there. Unless memory runs out.
+pub fn yes_is_exact<F: FnOnce(&Cert) -> Result<(), ValidationError>>(check_crl: &F)
+    ensures manifests { (rule : ManifestRule) → IsHeadline manifest_kind (ManifestForm rule Der)
+        (FnOnceReturnsAt F.FnOnce check_crl.now) }
+    ensures roas { IsHeadline roa_kind RoaForm (FnOnceReturnsAt F.FnOnce check_crl.now) }
+    ensures aspas { (limit : ProviderLimit) → IsHeadline aspa_kind (AspaForm limit)
+        (FnOnceReturnsAt F.FnOnce check_crl.now) }
+    ensures checklists { IsHeadline checklist_kind (ChecklistForm Der)
+        (FnOnceReturnsAt F.FnOnce check_crl.now) }
+    ensures attestations { IsRtaHeadline }
 {}

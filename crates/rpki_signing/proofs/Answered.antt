@@ -90,12 +90,12 @@ issuer-der : (o : Option Kept) (key : List ℕ) → IfSome o (λ name. name.mode
 issuer-der None key h = refl
 issuer-der (Some name) key h = h
 
-module _ (may : List ℕ → List ℕ → List ℕ → Type 0) (b : Settings)
+module _ (may : List ℕ → List ℕ → List ℕ → Type 0) (once : List ℕ → Type 0) (b : Settings)
     (issuer type content digest : List ℕ) where
   -- where attributes are not signed, the object is not built
   pub unsigned-unbuilt : {E : Type 0} (e : SigningError E)
       → AreNotSigned (attributes_of type digest b.signing_time) e
-      → IsNotBuilt may b issuer type content digest e
+      → IsNotBuilt may once b issuer type content digest e
   unsigned-unbuilt error.KeyNotFound h = tt
   unsigned-unbuilt error.IncompatibleKey h = tt
   unsigned-unbuilt (error.Signer e) h = tt
@@ -107,49 +107,53 @@ module _ (may : List ℕ → List ℕ → List ℕ → Type 0) (b : Settings)
 
   -- nor where the certificate is not signed
   pub uncertified-unbuilt : {E : Type 0} (key : List ℕ) (e : SigningError E)
-      → HasSigned may type digest b.signing_time key
+      → HasSigned may once type digest b.signing_time key
       → IsNotSigned (may issuer) (unsigned_of b issuer key) e
-      → IsNotBuilt may b issuer type content digest e
-  uncertified-unbuilt key error.KeyNotFound once h = tt
-  uncertified-unbuilt key error.IncompatibleKey once h = tt
-  uncertified-unbuilt key (error.Signer e) once h = tt
-  uncertified-unbuilt key error.AttrsTooLong once h = absurd h
-  uncertified-unbuilt key error.TooLong once h = inl (key, once, h)
-  uncertified-unbuilt key (error.Content fault) once h = absurd h
-  uncertified-unbuilt key error.NotDer once h = λ n. h (issuer-der b.issuer issuer n.0, n.1)
-  uncertified-unbuilt key error.Memory once h = tt
+      → IsNotBuilt may once b issuer type content digest e
+  uncertified-unbuilt key error.KeyNotFound signed h = tt
+  uncertified-unbuilt key error.IncompatibleKey signed h = tt
+  uncertified-unbuilt key (error.Signer e) signed h = tt
+  uncertified-unbuilt key error.AttrsTooLong signed h = absurd h
+  uncertified-unbuilt key error.TooLong signed h = inl (key, signed, h)
+  uncertified-unbuilt key (error.Content fault) signed h = absurd h
+  uncertified-unbuilt key error.NotDer signed h = λ n. h (issuer-der b.issuer issuer n.0, n.1)
+  uncertified-unbuilt key error.Memory signed h = tt
 
   -- nor where it is not written
   pub unwritten-unbuilt : {E : Type 0} (s : SignedData) (e : SigningError E)
-      → IsBuilt b issuer type content digest s → AreSignatures may issuer s → IsNotWritten s e
-      → IsNotBuilt may b issuer type content digest e
-  unwritten-unbuilt s error.KeyNotFound built signed h = absurd h
-  unwritten-unbuilt s error.IncompatibleKey built signed h = absurd h
-  unwritten-unbuilt s (error.Signer e) built signed h = absurd h
-  unwritten-unbuilt s error.AttrsTooLong built signed h = absurd h
-  unwritten-unbuilt s error.TooLong built signed h = inr (s, built, signed, h)
-  unwritten-unbuilt s (error.Content fault) built signed h = absurd h
-  unwritten-unbuilt s error.NotDer built signed h = absurd h
-  unwritten-unbuilt s error.Memory built signed h = tt
+      → IsBuilt b issuer type content digest s → once s.cert.tbs.key → AreSignatures may issuer s
+      → IsNotWritten s e → IsNotBuilt may once b issuer type content digest e
+  unwritten-unbuilt s error.KeyNotFound built key signed h = absurd h
+  unwritten-unbuilt s error.IncompatibleKey built key signed h = absurd h
+  unwritten-unbuilt s (error.Signer e) built key signed h = absurd h
+  unwritten-unbuilt s error.AttrsTooLong built key signed h = absurd h
+  unwritten-unbuilt s error.TooLong built key signed h = inr (s, built, key, signed, h)
+  unwritten-unbuilt s (error.Content fault) built key signed h = absurd h
+  unwritten-unbuilt s error.NotDer built key signed h = absurd h
+  unwritten-unbuilt s error.Memory built key signed h = tt
 
-  -- nor by another signer that may answer as much
-  pub unbuilt-as : (may' : List ℕ → List ℕ → List ℕ → Type 0)
-      → ((k m s : List ℕ) → may k m s → may' k m s) → {E : Type 0} (e : SigningError E)
-      → IsNotBuilt may b issuer type content digest e
-      → IsNotBuilt may' b issuer type content digest e
-  unbuilt-as may' to error.KeyNotFound h = tt
-  unbuilt-as may' to error.IncompatibleKey h = tt
-  unbuilt-as may' to (error.Signer e) h = tt
-  unbuilt-as may' to error.AttrsTooLong h = h
-  unbuilt-as may' to error.TooLong (inl (key, (x, y, made, by), inl h)) =
-      inl (key, (x, y, made, to key (message_of x) y by), inl h)
-  unbuilt-as may' to error.TooLong (inl (key, (x, y, made, by), inr (s, m, h))) =
-      inl (key, (x, y, made, to key (message_of x) y by), inr (s, to issuer _ s m, h))
-  unbuilt-as may' to error.TooLong (inr (s, built, (by, m), h)) =
-      inr (s, built, (to _ _ _ by, to issuer _ _ m), h)
-  unbuilt-as may' to (error.Content fault) h = h
-  unbuilt-as may' to error.NotDer h = h
-  unbuilt-as may' to error.Memory h = tt
+  -- nor by another signer that may answer as much, and makes the same keys to sign once
+  pub unbuilt-as : (may' : List ℕ → List ℕ → List ℕ → Type 0) (once' : List ℕ → Type 0)
+      → ((k m s : List ℕ) → may k m s → may' k m s) → ((k : List ℕ) → once k → once' k)
+      → {E : Type 0} (e : SigningError E) → IsNotBuilt may once b issuer type content digest e
+      → IsNotBuilt may' once' b issuer type content digest e
+  unbuilt-as may' once' to same error.KeyNotFound h = tt
+  unbuilt-as may' once' to same error.IncompatibleKey h = tt
+  unbuilt-as may' once' to same (error.Signer e) h = tt
+  unbuilt-as may' once' to same error.AttrsTooLong h = h
+  unbuilt-as may' once' to same error.TooLong (inl (key, (x, y, made, is, by), inl h)) =
+      inl (key, (x, y, made, same key is, to key (message_of x) y by), inl h)
+  unbuilt-as may' once' to same error.TooLong (inl (key, (x, y, made, is, by), inr (s, m, h))) =
+      inl (
+        key,
+        (x, y, made, same key is, to key (message_of x) y by),
+        inr (s, to issuer _ s m, h),
+      )
+  unbuilt-as may' once' to same error.TooLong (inr (s, built, is, (by, m), h)) =
+      inr (s, built, same _ is, (to _ _ _ by, to issuer _ _ m), h)
+  unbuilt-as may' once' to same (error.Content fault) h = h
+  unbuilt-as may' once' to same error.NotDer h = h
+  unbuilt-as may' once' to same error.Memory h = tt
 
 -- ---- counts
 

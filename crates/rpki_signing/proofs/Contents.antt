@@ -52,13 +52,13 @@ content-unsigned E checks long Later (unbuilt.Fault fault) h = h
 content-unsigned E checks long Later unbuilt.TooLong h = (h.0, inl h.1)
 content-unsigned E checks long Later unbuilt.Memory h = tt
 
-module _ (E : Type 0) (may : List ℕ → List ℕ → List ℕ → Type 0) (b : Settings)
-    (issuer type content digest : List ℕ) where
+module _ (E : Type 0) (may : List ℕ → List ℕ → List ℕ → Type 0) (once : List ℕ → Type 0)
+    (b : Settings) (issuer type content digest : List ℕ) where
   -- where the checks of a content hold, why its object is not built is why it is not signed
   pub object-unsigned : (checks : List (Check BuildFault)) (long : Type 0)
       (Later : SigningError E → Type 0) (e : SigningError E) → AllHold checks
-      → (IsNotBuilt may b issuer type content digest e → Later e)
-      → IsNotBuilt may b issuer type content digest e → IsNotSigned checks long Later e
+      → (IsNotBuilt may once b issuer type content digest e → Later e)
+      → IsNotBuilt may once b issuer type content digest e → IsNotSigned checks long Later e
   object-unsigned checks long Later error.KeyNotFound held f h = (held, f h)
   object-unsigned checks long Later error.IncompatibleKey held f h = (held, f h)
   object-unsigned checks long Later (error.Signer e) held f h = (held, f h)
@@ -70,7 +70,8 @@ module _ (E : Type 0) (may : List ℕ → List ℕ → List ℕ → Type 0) (b :
 
   -- what building an object answers is no fault of its content
   pub never-content : {T : Type 0} (r : Result T (SigningError E)) (fault : BuildFault)
-      → IfErr r (IsNotBuilt may b issuer type content digest) → r ≡ Err (error.Content fault) → ⊥
+      → IfErr r (IsNotBuilt may once b issuer type content digest) → r ≡ Err (error.Content fault)
+      → ⊥
   never-content {T} r fault h e =
       subst (λ (s : Result T (SigningError E)).
-      IfErr s (IsNotBuilt may b issuer type content digest)) e h
+      IfErr s (IsNotBuilt may once b issuer type content digest)) e h

@@ -91,8 +91,9 @@ unsigned_of b issuer key = record {
 
 -- What is signed has this type and this content; the certificate is the one that is made of what
 -- the builder was told, for the key that signed, under this key of the issuer; the signer is named
--- by the identifier of that key, and its attributes have this digest and the builder's signing time.
--- That both signatures are such as the signer may answer is said beside it.
+-- by the identifier of that key, and its attributes have this digest and the builder's signing
+-- time. That both signatures are such as the signer may answer, and the key one that is made to
+-- sign once, is said beside it.
 pub record IsBuilt (b : Settings) (issuer type content digest : List ℕ) (s : SignedData)
     : Type 0 where
   pub content_type : s.content_type ≡ type
@@ -103,8 +104,8 @@ pub record IsBuilt (b : Settings) (issuer type content digest : List ℕ) (s : S
   pub attributes : AreMade type digest b.signing_time s.signer.attributes
 
 -- What a built object needs to be valid under an issuer at a moment: cryptography says yes to the
--- two signatures, the issuer has the issuer's key, the moment lies in the validity, the signing time
--- is not after its end, a family is named, and the issuer has what is claimed.
+-- two signatures, the issuer has the issuer's key, the moment lies in the validity, the signing
+-- time is not after its end, a family is named, and the issuer has what is claimed.
 pub record IsFit (verdict : Verdict) (b : Settings) (key : List ℕ) (s : SignedData)
     (issuer : Validated) (now : Moment) : Type 0 where
   pub cert_signed : verdict key s.cert.signed s.cert.signature ≡ true
@@ -120,11 +121,12 @@ abbrev pub NamesInDer : Settings → Type 0
 NamesInDer b =
     IfSome b.issuer (λ name. name.mode ≡ Der) × IfSome b.subject (λ name. name.mode ≡ Der)
 
--- by this key the signer may answer a signature of attributes of this type, digest and time
-abbrev pub HasSigned : (List ℕ → List ℕ → List ℕ → Type 0) → List ℕ → List ℕ → Moment → List ℕ
-    → Type 0
-HasSigned may type digest time key =
-    (x : SignedAttributes) × (signature : List ℕ) × AreMade type digest time x
+-- by this key, which is made to sign once, the signer may answer a signature of attributes of this
+-- type, digest and time
+abbrev pub HasSigned : (List ℕ → List ℕ → List ℕ → Type 0) → (List ℕ → Type 0) → List ℕ → List ℕ
+    → Moment → List ℕ → Type 0
+HasSigned may once type digest time key =
+    (x : SignedAttributes) × (signature : List ℕ) × AreMade type digest time x × once key
     × may key (message_of x) signature
 
 -- the signer may answer both signatures: that of the attributes by the key in the certificate, and
@@ -134,28 +136,28 @@ AreSignatures may issuer s =
     may s.cert.tbs.key (message_of s.signer.attributes) s.signer.signature
     × may issuer s.cert.signed s.cert.signature
 
--- Some contents has 2^32 octets or more: of the certificate of a key that has signed, without a
--- signature or with one that the signer may answer, or of an object that was built, with both
--- signatures such as the signer may answer.
-abbrev pub IsTooLong : (List ℕ → List ℕ → List ℕ → Type 0) → Settings → List ℕ → List ℕ → List ℕ
-    → List ℕ → Type 0
-IsTooLong may b issuer type content digest =
-    ((key : List ℕ) × HasSigned may type digest b.signing_time key
+-- Some contents has 2^32 octets or more: of the certificate of a key that has signed once, without
+-- a signature or with one that the signer may answer, or of an object that was built for such a
+-- key, with both signatures such as the signer may answer.
+abbrev pub IsTooLong : (List ℕ → List ℕ → List ℕ → Type 0) → (List ℕ → Type 0) → Settings
+    → List ℕ → List ℕ → List ℕ → List ℕ → Type 0
+IsTooLong may once b issuer type content digest =
+    ((key : List ℕ) × HasSigned may once type digest b.signing_time key
     × IsNotSigned {E = Unit {0}} (may issuer) (unsigned_of b issuer key) error.TooLong)
-    ⊎ ((s : SignedData) × IsBuilt b issuer type content digest s × AreSignatures may issuer s
-    × ¬ (length (object_contents s) < 2 ^ 32))
+    ⊎ ((s : SignedData) × IsBuilt b issuer type content digest s × once s.cert.tbs.key
+    × AreSignatures may issuer s × ¬ (length (object_contents s) < 2 ^ 32))
 
 -- Why an object is not built: a fault of the signer, attributes of more than 65535 octets, a name
 -- in BER, or contents of 2^32 octets or more; or memory ran out.
-abbrev pub IsNotBuilt : {E : Type 0} → (List ℕ → List ℕ → List ℕ → Type 0) → Settings → List ℕ
-    → List ℕ → List ℕ → List ℕ → SigningError E → Type 0
-IsNotBuilt may b issuer type content digest error.KeyNotFound = Unit {0}
-IsNotBuilt may b issuer type content digest error.IncompatibleKey = Unit {0}
-IsNotBuilt may b issuer type content digest (error.Signer e) = Unit {0}
-IsNotBuilt may b issuer type content digest error.AttrsTooLong =
+abbrev pub IsNotBuilt : {E : Type 0} → (List ℕ → List ℕ → List ℕ → Type 0) → (List ℕ → Type 0)
+    → Settings → List ℕ → List ℕ → List ℕ → List ℕ → SigningError E → Type 0
+IsNotBuilt may once b issuer type content digest error.KeyNotFound = Unit {0}
+IsNotBuilt may once b issuer type content digest error.IncompatibleKey = Unit {0}
+IsNotBuilt may once b issuer type content digest (error.Signer e) = Unit {0}
+IsNotBuilt may once b issuer type content digest error.AttrsTooLong =
     most_octets < length (concat (attributes_of type digest b.signing_time))
-IsNotBuilt may b issuer type content digest error.TooLong =
-    IsTooLong may b issuer type content digest
-IsNotBuilt may b issuer type content digest (error.Content fault) = ⊥
-IsNotBuilt may b issuer type content digest error.NotDer = ¬ NamesInDer b
-IsNotBuilt may b issuer type content digest error.Memory = Unit {0}
+IsNotBuilt may once b issuer type content digest error.TooLong =
+    IsTooLong may once b issuer type content digest
+IsNotBuilt may once b issuer type content digest (error.Content fault) = ⊥
+IsNotBuilt may once b issuer type content digest error.NotDer = ¬ NamesInDer b
+IsNotBuilt may once b issuer type content digest error.Memory = Unit {0}

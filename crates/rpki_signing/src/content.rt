@@ -68,9 +68,9 @@ impl SignedObjectBuilder {
         ensures one_off { IfOk result
             (λ o. S.is_one_off signer.old o.object.object.signed.cert.tbs.key) }
         ensures names { OnOk result (NamesInDer self) }
-        ensures refused { IfErr result (IsNotBuilt (S.may_sign signer.old) self
-            (S.key_of signer.old issuer_key.now) T.kind.type octets.now
-            (S.digest_of signer.old octets.now)) }
+        ensures refused { IfErr result (IsNotBuilt (S.may_sign signer.old)
+            (S.is_one_off signer.old) self (S.key_of signer.old issuer_key.now)
+            T.kind.type octets.now (S.digest_of signer.old octets.now)) }
         ensures cause { CountsError (S.failures signer.old) (S.failures signer.new) result }
         ensures keys { (k : S.KeyId) → S.key_of signer.new k ≡ S.key_of signer.old k }
         ensures signs { (k m s : List ℕ) →

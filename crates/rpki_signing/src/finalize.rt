@@ -114,6 +114,7 @@ impl SignedObjectBuilder {
         requires issuer { issuer.now ≡ S.key_of signer.old issuer_key.now }
         requires signed { S.may_sign signer.old once.key
             (message_of once.attributes.attributes) once.signature }
+        requires one_off { S.is_one_off signer.old once.key }
         ensures built { IfOk result (λ o. IsBuilt self issuer.now
             typed.now.content_type.now typed.now.content.now
             (S.digest_of signer.old typed.now.content.now) o.object.signed) }
@@ -128,9 +129,9 @@ impl SignedObjectBuilder {
             (S.key_of signer.old issuer_key.now) o.object.signed.cert.signed
             o.object.signed.cert.signature) }
         ensures names { OnOk result (NamesInDer self) }
-        ensures refused { IfErr result (IsNotBuilt (S.may_sign signer.old) self issuer.now
-            typed.now.content_type.now typed.now.content.now
-            (S.digest_of signer.old typed.now.content.now)) }
+        ensures refused { IfErr result (IsNotBuilt (S.may_sign signer.old)
+            (S.is_one_off signer.old) self issuer.now typed.now.content_type.now
+            typed.now.content.now (S.digest_of signer.old typed.now.content.now)) }
         ensures cause { CountsError (S.failures signer.old) (S.failures signer.new) result }
         ensures keys { (k : S.KeyId) → S.key_of signer.new k ≡ S.key_of signer.old k }
         ensures signs { (k m s : List ℕ) →
@@ -199,9 +200,9 @@ impl SignedObjectBuilder {
             (S.key_of signer.old issuer_key.now) o.object.signed.cert.signed
             o.object.signed.cert.signature) }
         ensures names { OnOk result (NamesInDer self) }
-        ensures refused { IfErr result (IsNotBuilt (S.may_sign signer.old) self
-            (S.key_of signer.old issuer_key.now) content_type.now content.now
-            (S.digest_of signer.old content.now)) }
+        ensures refused { IfErr result (IsNotBuilt (S.may_sign signer.old)
+            (S.is_one_off signer.old) self (S.key_of signer.old issuer_key.now)
+            content_type.now content.now (S.digest_of signer.old content.now)) }
         ensures cause { CountsError (S.failures signer.old) (S.failures signer.new) result }
         ensures keys { (k : S.KeyId) → S.key_of signer.new k ≡ S.key_of signer.old k }
         ensures signs { (k m s : List ℕ) →

@@ -1,5 +1,5 @@
 -- Contents that are built, and what is refused of them.
-use Rattle.std.proofs.Common.{◌≡◌, ◌≤◌, ◌<◌, ◌^◌, ℕ, List, length, Result, Ok, Err}
+use Rattle.std.proofs.Common.{◌≡◌, ◌≤◌, ◌<◌, ◌^◌, ◌++◌, ℕ, List, length, Result, Ok, Err}
 use Rattle.std.proofs.Common.{arith, inl, inr, refl, sym, subst}
 use Rattle.std.specs.Prelude.{IfErr, IfOk, OnOk}
 use Rattle.rpki_basics.specs.Moment.{Moment, stamp}
@@ -26,12 +26,13 @@ use Rattle.rpki_faults.proofs.Order.{first-fails}
 use Rattle.rpki_files.specs.File.{File, FileForm, MeetsRule, name_of}
 use Rattle.rpki_files.specs.Manifest.{Manifest, ManifestForm, files_octets, manifest_contents}
 use Rattle.rpki_files.specs.Manifest.{manifest_octets}
-use Rattle.rpki_files.specs.Manifest.Built.{IsContentOf, IsNotBuilt, manifest_checks, rule_checks}
+use Rattle.rpki_files.specs.Manifest.Built.{IsContentOf, IsNotBuilt, early_checks}
+use Rattle.rpki_files.specs.Manifest.Built.{manifest_checks, repeat_checks, type_checks}
 use Rattle.rpki_files.specs.Manifest.Taken.{AreNotListed}
 use Rattle.rpki_files.specs.Name.{IsFileName}
 
 rule-passes : (rule : ManifestRule) (files : List File) → MeetsRule rule files
-    → AllHold (rule_checks rule files)
+    → AllHold (type_checks rule files ++ repeat_checks rule files)
 rule-passes Any files h = tt
 rule-passes Registered files h = (h.0, (h.1, tt))
 
@@ -102,7 +103,7 @@ module _ (rule : ManifestRule) (number : ℕ) (this next : Moment) (AreGiven : L
   unlisted error.TooLong order h =
       let m : Manifest =
       record { number = number; this_update = this; next_update = next; files = files } in
-      (m, asked files refl, λ short. h (files-short m short))
+      (m, asked files refl, (order, h.0), λ short. h.1 (files-short m short))
   unlisted error.Memory order h = tt
 
   module _ (list : List File) (same : list ≡ files) where
@@ -110,13 +111,14 @@ module _ (rule : ManifestRule) (number : ℕ) (this next : Moment) (AreGiven : L
     Content = record { number = number; this_update = this; next_update = next; files = list }
 
     -- the content is too long
-    pub too-long : (result : Result Manifest BuildError) → IfErr result (λ e. e ≡ error.TooLong)
+    pub too-long : (result : Result Manifest BuildError) → AllHold (early_checks rule Content)
+        → IfErr result (λ e. e ≡ error.TooLong)
         → IfErr result (λ _. length (manifest_contents Content) < 2 ^ 32 → ⊥)
         → IfErr result (IsNotBuilt rule (IsContentOf number this next AreGiven))
-    too-long (Ok m) is long = tt
-    too-long (Err e) is long =
+    too-long (Ok m) held is long = tt
+    too-long (Err e) held is long =
         let why : IsNotBuilt rule (IsContentOf number this next AreGiven) error.TooLong =
-        (Content, asked list same, long) in
+        (Content, asked list same, held, long) in
         subst (IsNotBuilt rule (IsContentOf number this next AreGiven)) (sym is) why
 
 -- what holds of a content holds of what is answered, where that is this content

@@ -14,7 +14,7 @@ use Rattle.rpki_basics.specs.declared.limits.ManifestRule.{ManifestRule}
 use Rattle.rpki_basics.specs.declared.limits.ManifestRule.TheVariants.{Any, Registered}
 use Rattle.rpki_der.specs.Write.Encode.{Fits}
 use Rattle.rpki_der.specs.Write.Parts.{each_small}
-use Rattle.rpki_faults.specs.Checks.{IsFirstFault}
+use Rattle.rpki_faults.specs.Checks.{AllHold, IsFirstFault}
 use Rattle.rpki_lists.specs.Entries.{HoldEntries, entries_of}
 use Rattle.rpki_lists.proofs.Listed.{entries-held, entries-read}
 use Rattle.rpki_files.specs.declared.file.FileAndHash.{FileAndHash}
@@ -22,7 +22,7 @@ use Rattle.rpki_files.specs.declared.manifest.builder.entries.Entries.{Entries}
 use Rattle.rpki_files.specs.File.{File, MeetsRule, file-small, file_at, file_octets, is_allowed}
 use Rattle.rpki_files.specs.File.{is_short_file, is_unrepeated, name_of}
 use Rattle.rpki_files.specs.Manifest.{files_octets}
-use Rattle.rpki_files.specs.Manifest.Built.{file_checks, meant}
+use Rattle.rpki_files.specs.Manifest.Built.{file_checks, meant, name_checks}
 use Rattle.rpki_files.specs.Manifest.Taken.{AreTaken}
 use Rattle.rpki_files.specs.Name.{IsFileName, is_file_name}
 use Rattle.rpki_files.proofs.Names.Decided.{name-decides}
@@ -159,6 +159,13 @@ bad-extension Registered e files t on off = inl (
   all-named Registered e files t on,
   inr ((λ all. differ _ _ all (sym t.allowed) off), refl),
 )
+
+-- each name is that of a file, and allowed
+pub names-hold : (rule : ManifestRule) (e : Entries) (files : List File)
+    → AreTaken rule e files → e.named ≡ true → e.allowed ≡ true → AllHold (name_checks rule files)
+names-hold Any e files t on all = (all-named Any e files t on, tt)
+names-hold Registered e files t on all =
+    (all-named Registered e files t on, (sym t.allowed ∙ all, tt))
 
 -- a name stands twice
 pub repeated-name : (rule : ManifestRule) (e : Entries) (files : List File)

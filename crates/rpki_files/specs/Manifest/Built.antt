@@ -1,5 +1,6 @@
 -- Contents of manifests that are built. The sections are those of RFC 9286.
-use Rattle.std.specs.Prelude.{◌≡◌, ◌≤◌, ◌<◌, ◌^◌, ℕ, List, [], ◌∷◌, All, Option, length, map, true}
+use Rattle.std.specs.Prelude.{◌≡◌, ◌≤◌, ◌<◌, ◌^◌, ℕ, List, [], ◌∷◌, ◌++◌, All, Option}
+use Rattle.std.specs.Prelude.{length, map, true}
 use Rattle.std.specs.Iterator.{Drains}
 use Rattle.std.specs.List.{list_all}
 use Rattle.rpki_basics.specs.Moment.{Moment, stamp}
@@ -10,7 +11,7 @@ use Rattle.rpki_basics.specs.declared.build.BuildFault.TheVariants as fault
 use Rattle.rpki_basics.specs.declared.limits.ManifestRule.{ManifestRule}
 use Rattle.rpki_basics.specs.declared.limits.ManifestRule.TheVariants.{Any, Registered}
 use Rattle.rpki_der.specs.Form.Keyed.{AreDistinct}
-use Rattle.rpki_faults.specs.Checks.{Check, ◌unless◌, IsFirstFault}
+use Rattle.rpki_faults.specs.Checks.{Check, ◌unless◌, AllHold, IsFirstFault}
 use Rattle.rpki_files.specs.declared.file.FileAndHash.{FileAndHash}
 use Rattle.rpki_files.specs.File.{File, name_of}
 use Rattle.rpki_files.specs.Manifest.{Manifest, manifest_contents}
@@ -35,31 +36,43 @@ pub record IsContentOf (number : ℕ) (this next : Moment) (AreGiven : List File
   pub next_update : m.next_update ≡ next
   pub files : AreGiven m.files
 
--- what the rule asks of files, in the order in which it is looked at
-abbrev pub rule_checks : ManifestRule → List File → List (Check BuildFault)
-rule_checks Any files = []
-rule_checks Registered files =
-    (fault.BadExtension unless (list_all (λ f. is_registered (name_of f)) files ≡ true))
-    ∷ (fault.RepeatedName unless AreDistinct name_of files)
-    ∷ []
+-- what the rule asks of each name
+abbrev pub type_checks : ManifestRule → List File → List (Check BuildFault)
+type_checks Any files = []
+type_checks Registered files =
+    (fault.BadExtension unless (list_all (λ f. is_registered (name_of f)) files ≡ true)) ∷ []
 
--- what is asked of files, in the order in which it is looked at (4.2.2)
-abbrev pub file_checks : ManifestRule → List File → List (Check BuildFault)
-file_checks rule files =
+-- what the rule asks of all names together
+abbrev pub repeat_checks : ManifestRule → List File → List (Check BuildFault)
+repeat_checks Any files = []
+repeat_checks Registered files = (fault.RepeatedName unless AreDistinct name_of files) ∷ []
+
+-- what is asked of each name, in the order in which it is looked at (4.2.2)
+abbrev pub name_checks : ManifestRule → List File → List (Check BuildFault)
+name_checks rule files =
     (fault.BadName unless All (λ (f : File). IsFileName (name_of f)) files)
-    ∷ rule_checks rule files
+    ∷ type_checks rule files
 
--- what is asked of a content, in the order in which it is looked at (4.2.1)
-abbrev pub manifest_checks : ManifestRule → Manifest → List (Check BuildFault)
-manifest_checks rule m =
+-- what is asked of files, in the order in which it is looked at
+abbrev pub file_checks : ManifestRule → List File → List (Check BuildFault)
+file_checks rule files = name_checks rule files ++ repeat_checks rule files
+
+-- what is asked of a content before it is looked at whether it is too long (4.2.1)
+abbrev pub early_checks : ManifestRule → Manifest → List (Check BuildFault)
+early_checks rule m =
     (fault.UpdateOrder unless (stamp m.this_update ≤ stamp m.next_update))
-    ∷ file_checks rule m.files
+    ∷ name_checks rule m.files
 
--- Why a content is not built: the first check that does not hold of what was asked for, or contents
--- of 2^32 octets or more; or memory ran out.
+-- what is asked of a content, in the order in which it is looked at
+abbrev pub manifest_checks : ManifestRule → Manifest → List (Check BuildFault)
+manifest_checks rule m = early_checks rule m ++ repeat_checks rule m.files
+
+-- Why a content is not built: the first check that does not hold of what was asked for; or all but
+-- that of repeated names hold, and it has contents of 2^32 octets or more; or memory ran out.
 abbrev pub IsNotBuilt : ManifestRule → (Manifest → Type 0) → BuildError → Type 0
 IsNotBuilt rule IsAsked (error.Fault fault) =
     (m : Manifest) × IsAsked m × IsFirstFault (manifest_checks rule m) fault
 IsNotBuilt rule IsAsked error.TooLong =
-    (m : Manifest) × IsAsked m × ¬ (length (manifest_contents m) < 2 ^ 32)
+    (m : Manifest) × IsAsked m × AllHold (early_checks rule m)
+    × ¬ (length (manifest_contents m) < 2 ^ 32)
 IsNotBuilt rule IsAsked error.Memory = Unit {0}

@@ -14,9 +14,9 @@ inheriting b = record b { as_numbers = Inherit; v4 = Inherit; v6 = Inherit }
 
 -- Why a manifest of this content is not signed: contents of 2^32 octets or more, or why its object
 -- is not built.
-abbrev pub IsNotSigned : {E : Type 0} → (List ℕ → List ℕ → List ℕ → Type 0) → Settings → List ℕ
-    → Digester → Manifest → SigningError E → Type 0
-IsNotSigned may b issuer digest m e =
+abbrev pub IsNotSigned : {E : Type 0} → (List ℕ → List ℕ → List ℕ → Type 0) → (List ℕ → Type 0)
+    → Settings → List ℕ → Digester → Manifest → SigningError E → Type 0
+IsNotSigned may once b issuer digest m e =
     ((e ≡ signing.TooLong) × ¬ (length (manifest_contents m) < 2 ^ 32))
-    ⊎ IsNotBuilt may (inheriting b) issuer ct_manifest (manifest_octets m)
+    ⊎ IsNotBuilt may once (inheriting b) issuer ct_manifest (manifest_octets m)
     (digest (manifest_octets m)) e

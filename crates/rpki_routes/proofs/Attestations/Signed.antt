@@ -56,31 +56,31 @@ aspa-built limit a content handed told issuer digest s same is claims built = re
 }
 
 -- why the content of an ASPA is not built is why the ASPA is not signed
-pub aspa-unmade : (E : Type 0) (may : List ℕ → List ℕ → List ℕ → Type 0) (limit : ProviderLimit)
-    (a : Aspa) (handed : Settings) (issuer digest : List ℕ) (e : BuildError) (f : SigningError E)
-    → f ≡ signing_error {E = E} e → IsNotBuilt (aspa_checks limit a) ⊥ e
-    → IsNotBuiltAspa may limit a handed issuer digest f
-aspa-unmade E may limit a handed issuer digest e f is h =
-    subst (λ (x : SigningError E). IsNotBuiltAspa may limit a handed issuer digest x) (sym is)
+pub aspa-unmade : (E : Type 0) (may : List ℕ → List ℕ → List ℕ → Type 0)
+    (once : List ℕ → Type 0) (limit : ProviderLimit) (a : Aspa) (handed : Settings)
+    (issuer digest : List ℕ) (e : BuildError) (f : SigningError E) → f ≡ signing_error {E = E} e
+    → IsNotBuilt (aspa_checks limit a) ⊥ e → IsNotBuiltAspa may once limit a handed issuer digest f
+aspa-unmade E may once limit a handed issuer digest e f is h =
+    subst (λ (x : SigningError E). IsNotBuiltAspa may once limit a handed issuer digest x) (sym is)
     (content-unsigned E (aspa_checks limit a) ⊥
-    (IsUnsigned may (claiming a handed) issuer ct_aspa (aspa_octets a) digest) e h)
+    (IsUnsigned may once (claiming a handed) issuer ct_aspa (aspa_octets a) digest) e h)
 
 -- why the object of an ASPA is not built is why the ASPA is not signed
 pub aspa-unsigned : (E : Type 0) (may : List ℕ → List ℕ → List ℕ → Type 0)
-    (limit : ProviderLimit) (a content : Aspa) (handed told : Settings) (issuer : List ℕ)
-    (digest : Digester) (e : SigningError E) → content ≡ a → IsAttestation limit a
+    (once : List ℕ → Type 0) (limit : ProviderLimit) (a content : Aspa) (handed told : Settings)
+    (issuer : List ℕ) (digest : Digester) (e : SigningError E) → content ≡ a → IsAttestation limit a
     → told ≡ claiming content handed
-    → IsUnsigned may told issuer ct_aspa (aspa_octets content) (digest (aspa_octets content)) e
-    → IsNotBuiltAspa may limit a handed issuer (digest (aspa_octets a)) e
-aspa-unsigned E may limit a content handed told issuer digest e same is claims h =
+    → IsUnsigned may once told issuer ct_aspa (aspa_octets content) (digest (aspa_octets content)) e
+    → IsNotBuiltAspa may once limit a handed issuer (digest (aspa_octets a)) e
+aspa-unsigned E may once limit a content handed told issuer digest e same is claims h =
     let d : List ℕ = digest (aspa_octets a) in
-    object-unsigned E may (claiming a handed) issuer ct_aspa (aspa_octets a) d
+    object-unsigned E may once (claiming a handed) issuer ct_aspa (aspa_octets a) d
     (aspa_checks limit a) ⊥
-    (IsUnsigned may (claiming a handed) issuer ct_aspa (aspa_octets a) d) e (passes limit a is)
-    (λ (u : IsUnsigned may (claiming a handed) issuer ct_aspa (aspa_octets a) d e). u)
-    (subst (λ (x : Aspa). IsUnsigned may (claiming x handed) issuer ct_aspa (aspa_octets x)
+    (IsUnsigned may once (claiming a handed) issuer ct_aspa (aspa_octets a) d) e (passes limit a is)
+    (λ (u : IsUnsigned may once (claiming a handed) issuer ct_aspa (aspa_octets a) d e). u)
+    (subst (λ (x : Aspa). IsUnsigned may once (claiming x handed) issuer ct_aspa (aspa_octets x)
     (digest (aspa_octets x)) e) same
-    (subst (λ (b : Settings). IsUnsigned may b issuer ct_aspa (aspa_octets content)
+    (subst (λ (b : Settings). IsUnsigned may once b issuer ct_aspa (aspa_octets content)
     (digest (aspa_octets content)) e) claims h))
 
 -- what the builder was told, it says of its names as it was handed in

@@ -147,30 +147,32 @@ roa-built r content handed told issuer digest s same is has claims built = recor
 }
 
 -- why the content of a ROA is not built is why the ROA is not signed
-pub roa-unmade : (E : Type 0) (may : List ℕ → List ℕ → List ℕ → Type 0) (r : Roa)
-    (handed : Settings) (issuer digest : List ℕ) (e : BuildError) (f : SigningError E)
+pub roa-unmade : (E : Type 0) (may : List ℕ → List ℕ → List ℕ → Type 0) (once : List ℕ → Type 0)
+    (r : Roa) (handed : Settings) (issuer digest : List ℕ) (e : BuildError) (f : SigningError E)
     → f ≡ signing_error {E = E} e
     → IsNotBuilt (signed_checks r) (¬ (length (roa_contents r) < 2 ^ 32)) e
-    → IsNotBuiltRoa may r handed issuer digest f
-roa-unmade E may r handed issuer digest e f is h =
-    subst (λ (x : SigningError E). IsNotBuiltRoa may r handed issuer digest x) (sym is)
+    → IsNotBuiltRoa may once r handed issuer digest f
+roa-unmade E may once r handed issuer digest e f is h =
+    subst (λ (x : SigningError E). IsNotBuiltRoa may once r handed issuer digest x) (sym is)
     (content-unsigned E (signed_checks r) (¬ (length (roa_contents r) < 2 ^ 32))
-    (IsNotBuiltTold may r handed issuer digest) e h)
+    (IsNotBuiltTold may once r handed issuer digest) e h)
 
 -- why the object of a ROA is not built is why the ROA is not signed
-pub roa-unsigned : (E : Type 0) (may : List ℕ → List ℕ → List ℕ → Type 0) (r content : Roa)
-    (handed told : Settings) (issuer : List ℕ) (digest : Digester) (e : SigningError E)
-    → content ≡ r → IsRoa r → HasAddress r → ClaimsPrefixes r handed told
-    → IsUnsigned may told issuer route_origin_authz (roa_octets content)
+pub roa-unsigned : (E : Type 0) (may : List ℕ → List ℕ → List ℕ → Type 0)
+    (once : List ℕ → Type 0) (r content : Roa) (handed told : Settings) (issuer : List ℕ)
+    (digest : Digester) (e : SigningError E) → content ≡ r → IsRoa r → HasAddress r
+    → ClaimsPrefixes r handed told
+    → IsUnsigned may once told issuer route_origin_authz (roa_octets content)
     (digest (roa_octets content)) e
-    → IsNotBuiltRoa may r handed issuer (digest (roa_octets r)) e
-roa-unsigned E may r content handed told issuer digest e same is has claims h =
+    → IsNotBuiltRoa may once r handed issuer (digest (roa_octets r)) e
+roa-unsigned E may once r content handed told issuer digest e same is has claims h =
     let d : List ℕ = digest (roa_octets r) in
-    object-unsigned E may told issuer route_origin_authz (roa_octets r) d (signed_checks r)
-    (¬ (length (roa_contents r) < 2 ^ 32)) (IsNotBuiltTold may r handed issuer d) e
+    object-unsigned E may once told issuer route_origin_authz (roa_octets r) d (signed_checks r)
+    (¬ (length (roa_contents r) < 2 ^ 32)) (IsNotBuiltTold may once r handed issuer d) e
     (signed-passes r is has)
-    (λ (u : IsUnsigned may told issuer route_origin_authz (roa_octets r) d e). (told, claims, u))
-    (subst (λ (x : Roa). IsUnsigned may told issuer route_origin_authz (roa_octets x)
+    (λ (u : IsUnsigned may once told issuer route_origin_authz (roa_octets r) d e).
+    (told, claims, u))
+    (subst (λ (x : Roa). IsUnsigned may once told issuer route_origin_authz (roa_octets x)
     (digest (roa_octets x)) e) same h)
 
 module _ (digest : Digester) (verdict : Verdict) (mode : Mode) (handed : Settings)

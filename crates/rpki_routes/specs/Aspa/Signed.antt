@@ -30,8 +30,9 @@ pub record IsBuiltAspa (limit : ProviderLimit) (a : Aspa) (handed : Settings)
 
 -- Why an ASPA is not built and signed: what is asked of it does not hold, or its object is not
 -- built.
-abbrev pub IsNotBuiltAspa : {E : Type 0} → (List ℕ → List ℕ → List ℕ → Type 0) → ProviderLimit
-    → Aspa → Settings → List ℕ → List ℕ → SigningError E → Type 0
-IsNotBuiltAspa may limit a handed issuer digest =
+abbrev pub IsNotBuiltAspa : {E : Type 0} → (List ℕ → List ℕ → List ℕ → Type 0)
+    → (List ℕ → Type 0) → ProviderLimit → Aspa → Settings → List ℕ → List ℕ → SigningError E
+    → Type 0
+IsNotBuiltAspa may once limit a handed issuer digest =
     IsNotSigned (aspa_checks limit a) ⊥
-    (IsNotBuilt may (claiming a handed) issuer ct_aspa (aspa_octets a) digest)
+    (IsNotBuilt may once (claiming a handed) issuer ct_aspa (aspa_octets a) digest)

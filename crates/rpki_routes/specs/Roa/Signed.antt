@@ -38,16 +38,16 @@ pub record IsBuiltRoa (r : Roa) (handed : Settings) (issuer digest : List ℕ) (
   pub built : IsBuilt told issuer route_origin_authz (roa_octets r) digest s
 
 -- Why the object of a ROA is not built, once the builder was told what is claimed.
-abbrev pub IsNotBuiltTold : {E : Type 0} → (List ℕ → List ℕ → List ℕ → Type 0) → Roa → Settings
-    → List ℕ → List ℕ → SigningError E → Type 0
-IsNotBuiltTold may r handed issuer digest e =
+abbrev pub IsNotBuiltTold : {E : Type 0} → (List ℕ → List ℕ → List ℕ → Type 0)
+    → (List ℕ → Type 0) → Roa → Settings → List ℕ → List ℕ → SigningError E → Type 0
+IsNotBuiltTold may once r handed issuer digest e =
     (told : Settings) × ClaimsPrefixes r handed told
-    × IsNotBuilt may told issuer route_origin_authz (roa_octets r) digest e
+    × IsNotBuilt may once told issuer route_origin_authz (roa_octets r) digest e
 
 -- Why a ROA is not built and signed: what is asked of it does not hold; its SEQUENCE would have
 -- contents of 2^32 octets or more; or its object is not built.
-abbrev pub IsNotBuiltRoa : {E : Type 0} → (List ℕ → List ℕ → List ℕ → Type 0) → Roa → Settings
-    → List ℕ → List ℕ → SigningError E → Type 0
-IsNotBuiltRoa may r handed issuer digest =
+abbrev pub IsNotBuiltRoa : {E : Type 0} → (List ℕ → List ℕ → List ℕ → Type 0)
+    → (List ℕ → Type 0) → Roa → Settings → List ℕ → List ℕ → SigningError E → Type 0
+IsNotBuiltRoa may once r handed issuer digest =
     IsNotSigned (signed_checks r) (¬ (length (roa_contents r) < 2 ^ 32))
-    (IsNotBuiltTold may r handed issuer digest)
+    (IsNotBuiltTold may once r handed issuer digest)

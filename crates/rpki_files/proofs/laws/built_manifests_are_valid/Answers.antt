@@ -8,6 +8,14 @@ returns-clause-valid c = λ digest verdict b key content s now built fit.
     c.built_objects_are_valid.ensures.published digest verdict (inheriting b) key ct_manifest
     content s now built fit
 
+pub returns-clause-good : goal.returns-clause-good
+returns-clause-good c = λ digest verdict mode b key content o now built fit v certificate. record {
+  valid = c.built_objects_are_valid.ensures.published digest verdict (inheriting b) key ct_manifest
+      content o.object.signed now built fit;
+  certificate = certificate;
+  covered = tt;
+}
+
 pub returns-clause-named : goal.returns-clause-named
 returns-clause-named c = inherits-some
 

@@ -4,7 +4,8 @@ ghost use Rattle.std.specs.Prelude.{◌≡◌, ◌≤◌, ◌<◌, ◌^◌, ◌+
 ghost use Rattle.std.specs.Prelude.{IsTrue, false, length, true};
 ghost use Rattle.std.specs.Iterator.{IsFinite};
 ghost use Rattle.rpki_files.specs.File.{File, MeetsRule};
-ghost use Rattle.rpki_files.specs.Manifest.Built.{Gives};
+ghost use Rattle.rpki_faults.specs.Checks.{AllHold};
+ghost use Rattle.rpki_files.specs.Manifest.Built.{Gives, name_checks};
 ghost use Rattle.rpki_files.specs.Manifest.Taken.{AreNotListed, AreTaken};
 
 use crate::file::FileAndHash;
@@ -102,6 +103,8 @@ impl Entries {
         requires { (files : List File) × AreTaken rule self files }
         ensures listed { (files : List File) → AreTaken rule self files
             → IfOk result (λ list. list ≡ files) }
+        ensures checked { (files : List File) → AreTaken rule self files
+            → OnOk result (AllHold (name_checks rule files)) }
         ensures meets { (files : List File) → AreTaken rule self files
             → OnOk result (MeetsRule rule files) }
         ensures refused { (files : List File) → AreTaken rule self files

@@ -4,9 +4,8 @@ ghost use Rattle.std.specs.Prelude.{◌≡◌, ◌↔◌, ◌<◌, ◌^◌, ℕ,
 ghost use Rattle.rpki_basics.specs.Signing.{CountsError};
 ghost use Rattle.rpki_der.specs.Write.Encode.{IsBytesOf};
 ghost use Rattle.rpki_der.specs.declared.mode.Mode.TheVariants.{Der};
-ghost use Rattle.rpki_attributes.specs.Attrs.Made.{message_of};
 ghost use Rattle.rpki_sigobj.specs.Signed.{ObjectForm, whole_of};
-ghost use Rattle.rpki_signing.specs.Built.{IsBuilt, NamesInDer};
+ghost use Rattle.rpki_signing.specs.Built.{AreSignatures, IsBuilt, NamesInDer};
 ghost use Rattle.rpki_signing.specs.Written.{made_object};
 ghost use Rattle.rpki_files.specs.File.{MeetsRule};
 ghost use Rattle.rpki_files.specs.Manifest.{ManifestForm, manifest_contents, manifest_octets};
@@ -17,7 +16,6 @@ use crate::manifest::{Manifest, ManifestContent};
 use rpki_basics::{ManifestRule, Signer, SigningError};
 use rpki_der::{Encode, EncodeError};
 use rpki_signing::SignedObjectBuilder;
-use rpki_sigobj::{Content, Signed, SignedObject};
 use std::alloc::Global;
 
 // The builder, but that all numbers are inherited.
@@ -43,24 +41,6 @@ impl ManifestContent {
         self.encode_ref().to_bytes(alloc)
     }
 
-    // The manifest whose object has this content.
-    fn in_object(self, object: SignedObject) -> Manifest
-        requires der { object.mode ≡ Der }
-        requires kind { object.object.signed.content_type ≡ ct_manifest }
-        requires content { object.object.signed.content ≡ manifest_octets self }
-        requires form { (rule : ManifestRule) → MeetsRule rule self.files
-            → ManifestForm rule Der (manifest_octets self) self }
-        ensures object { result.object ≡ object }
-        ensures content { result.content ≡ self }
-        ensures read { (rule : ManifestRule) → MeetsRule rule self.files
-            → ObjectForm ct_manifest (ManifestForm rule Der) Der result.object.object.octets
-            (whole_of result) }
-    {
-        // The proof takes from this call that the octets are those of the object.
-        let _ = object.encode_ref();
-        Signed::from_parts(object, self)
-    }
-
     /// The manifest of this content: its octets as a signed object, whose certificate inherits all
     /// numbers (RFC 9286, section 5.1), whatever the builder claims. The signer is asked as
     /// `SignedObjectBuilder::finalize` says. Refuses as that call does, and by `TooLong` where the
@@ -73,25 +53,23 @@ impl ManifestContent {
         issuer_key: &S::KeyId,
     ) -> Result<Manifest, SigningError<S::Error>>
         ensures content { IfOk result (λ o. o.content ≡ self) }
+        ensures form { (rule : ManifestRule) → MeetsRule rule self.files → IfOk result (λ o.
+            ObjectForm ct_manifest (ManifestForm rule Der) Der o.object.object.octets
+            (whole_of o)) }
         ensures built { IfOk result (λ o. IsBuilt (inheriting builder)
             (S.key_of signer.old issuer_key.now) ct_manifest (manifest_octets self)
             (S.digest_of signer.old (manifest_octets self)) o.object.object.signed) }
         ensures der { IfOk result (λ o. o.object.mode ≡ Der) }
         ensures written { IfOk result
             (λ o. o.object.object ≡ made_object o.object.object.signed) }
-        ensures read { IfOk result (λ o. (rule : ManifestRule) → MeetsRule rule self.files
-            → ObjectForm ct_manifest (ManifestForm rule Der) Der o.object.object.octets
-            (whole_of o)) }
-        ensures signed { IfOk result (λ o. S.may_sign signer.old
-            o.object.object.signed.cert.tbs.key
-            (message_of o.object.object.signed.signer.attributes)
-            o.object.object.signed.signer.signature) }
-        ensures cert_signed { IfOk result (λ o. S.may_sign signer.old
-            (S.key_of signer.old issuer_key.now) o.object.object.signed.cert.signed
-            o.object.object.signed.cert.signature) }
+        ensures signatures { IfOk result (λ o. AreSignatures (S.may_sign signer.old)
+            (S.key_of signer.old issuer_key.now) o.object.object.signed) }
+        ensures one_off { IfOk result
+            (λ o. S.is_one_off signer.old o.object.object.signed.cert.tbs.key) }
         ensures names { OnOk result (NamesInDer builder) }
-        ensures refused { IfErr result (IsNotSigned (S.may_sign signer.old) builder
-            (S.key_of signer.old issuer_key.now) (S.digest_of signer.old) self) }
+        ensures refused { IfErr result (IsNotSigned (S.may_sign signer.old)
+            (S.is_one_off signer.old) builder (S.key_of signer.old issuer_key.now)
+            (S.digest_of signer.old) self) }
         ensures cause { CountsError (S.failures signer.old) (S.failures signer.new) result }
         ensures keys { (k : S.KeyId) → S.key_of signer.new k ≡ S.key_of signer.old k }
         ensures signs { (k m s : List ℕ) →
@@ -113,15 +91,8 @@ impl ManifestContent {
                 Err(SigningError::Memory)
             }
             Ok(octets) => {
-                let kind = ManifestContent::oid();
                 let builder = inheriting(builder);
-                match builder.finalize(alloc, &kind, &octets, signer, issuer_key) {
-                    Err(fault) => {
-                        drop(self);
-                        Err(fault)
-                    }
-                    Ok(object) => Ok(self.in_object(object)),
-                }
+                builder.finalize_content(alloc, self, &octets, signer, issuer_key)
             }
         }
     }

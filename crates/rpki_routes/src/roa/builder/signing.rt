@@ -61,9 +61,12 @@ impl RoaBuilder {
             o.object.object ≡ made_object o.object.object.signed) }
         ensures signatures { IfOk result (λ o. AreSignatures (S.may_sign signer.old)
             (S.key_of signer.old issuer_key.now) o.object.object.signed) }
+        ensures one_off { IfOk result
+            (λ o. S.is_one_off signer.old o.object.object.signed.cert.tbs.key) }
         ensures names { OnOk result (NamesInDer builder) }
-        ensures refused { IfErr result (IsNotBuiltRoa (S.may_sign signer.old) self builder
-            (S.key_of signer.old issuer_key.now) (S.digest_of signer.old (roa_octets self))) }
+        ensures refused { IfErr result (IsNotBuiltRoa (S.may_sign signer.old)
+            (S.is_one_off signer.old) self builder (S.key_of signer.old issuer_key.now)
+            (S.digest_of signer.old (roa_octets self))) }
         ensures unasked { (fault : BuildFault) → result ≡ Err (error.Content fault)
             → signer.new ≡ signer.old }
         ensures cause { CountsError (S.failures signer.old) (S.failures signer.new) result }
@@ -183,10 +186,12 @@ fn signed<S: Signer>(
     ensures written { IfOk result (λ o. o.object.object ≡ made_object o.object.object.signed) }
     ensures signatures { IfOk result (λ o. AreSignatures (S.may_sign signer.old)
         (S.key_of signer.old issuer_key.now) o.object.object.signed) }
+    ensures one_off { IfOk result
+        (λ o. S.is_one_off signer.old o.object.object.signed.cert.tbs.key) }
     ensures names { OnOk result (NamesInDer told) }
-    ensures refused { IfErr result (IsUnsigned (S.may_sign signer.old) told
-        (S.key_of signer.old issuer_key.now) route_origin_authz (roa_octets content)
-        (S.digest_of signer.old (roa_octets content))) }
+    ensures refused { IfErr result (IsUnsigned (S.may_sign signer.old)
+        (S.is_one_off signer.old) told (S.key_of signer.old issuer_key.now) route_origin_authz
+        (roa_octets content) (S.digest_of signer.old (roa_octets content))) }
     ensures cause { CountsError (S.failures signer.old) (S.failures signer.new) result }
     ensures keys { (k : S.KeyId) → S.key_of signer.new k ≡ S.key_of signer.old k }
     ensures signs { (k m s : List ℕ) →

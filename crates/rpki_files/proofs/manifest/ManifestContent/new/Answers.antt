@@ -1,9 +1,10 @@
-use Rattle.std.proofs.Common.{◌≡◌, ◌<◌, ◌^◌, length, true, false, sym, subst, ◌∙◌}
+use Rattle.std.proofs.Common.{◌≡◌, ◌<◌, ◌^◌, List, length, true, false, sym, subst, ◌∙◌}
 use Rattle.std.proofs.lemmas.Result.{err_from_is_err_and, on_ok_weaker}
 use Rattle.rpki_der.specs.declared.mode.Mode.TheVariants.{Der}
-use Rattle.rpki_files.specs.File.{MeetsRule}
+use Rattle.rpki_faults.specs.Checks.{AllHold}
+use Rattle.rpki_files.specs.File.{File, MeetsRule}
 use Rattle.rpki_files.specs.Manifest.{Manifest, ManifestForm, manifest_contents, manifest_octets}
-use Rattle.rpki_files.specs.Manifest.Built.{Gives}
+use Rattle.rpki_files.specs.Manifest.Built.{Gives, name_checks}
 use Rattle.rpki_files.proofs.Manifests.Built.{of-same, out-of-order, too-long, unlisted}
 use Rattle.rpki_files.proofs.manifest.ManifestContent.new.Goals as goal
 
@@ -44,7 +45,11 @@ returns-clause-written g c =
 pub returns-clause-refused : goal.returns-clause-refused
 returns-clause-refused g c =
     let e = c.in_ok-entries.ensures in
+    let same = c.in_ok-files.ensures.listed e.0 e.2 in
     too-long c.args.rule c.args.number c.args.this_update c.args.next_update
     (Gives g.I.Iterator.next_gives g.F.AsOctets.meaning g.H.AsOctets.meaning c.args.iter) e.0 e.1
-    c.in_ok-files.files (c.in_ok-files.ensures.listed e.0 e.2) c.short.result
-    c.short.ensures.too_long c.short.ensures.refused
+    c.in_ok-files.files same c.short.result (
+      c.are_in_order.ensures.order.0 c.if-not-are_in_order.false,
+      subst (λ (l : List File). AllHold (name_checks c.args.rule l)) (sym same)
+          (c.in_ok-files.ensures.checked e.0 e.2),
+    ) c.short.ensures.too_long c.short.ensures.refused

@@ -26,8 +26,8 @@ returns-in-Err-signed_once-clause-refused g c =
     let digest : List ℕ = g.S.Crypto.digest_of c.args.signer.now content in
     let issuer : List ℕ = g.S.Signer.key_of c.args.signer.now c.args.issuer_key.now in
     let e = c.in-Err-signed_once.fault in
-    unsigned-unbuilt (g.S.Signer.may_sign c.args.signer.now) c.args.self issuer type content digest
-    e
+    unsigned-unbuilt (g.S.Signer.may_sign c.args.signer.now)
+    (g.S.Signer.is_one_off c.args.signer.now) c.args.self issuer type content digest e
     (subst (λ (time : Moment). AreNotSigned (attributes_of type digest time) e)
     c.signing_time.ensures
     (subst (λ (d : List ℕ). AreNotSigned (attributes_of type d c.signing_time.result) e)
@@ -43,14 +43,17 @@ returns-in-Ok-signed_once-clause-refused g c =
     let r = c.issued-object.result in
     let may : List ℕ → List ℕ → List ℕ → Type 0 = g.S.Signer.may_sign c.signed_once.new.signer in
     let may' : List ℕ → List ℕ → List ℕ → Type 0 = g.S.Signer.may_sign c.args.signer.now in
-    IfErr-weaker r (IsNotBuilt may c.args.self issuer type content digest)
-    (IsNotBuilt may' c.args.self issuer type content digest)
-    (λ e h. unbuilt-as may c.args.self issuer type content digest may'
+    let once : List ℕ → Type 0 = g.S.Signer.is_one_off c.signed_once.new.signer in
+    let once' : List ℕ → Type 0 = g.S.Signer.is_one_off c.args.signer.now in
+    IfErr-weaker r (IsNotBuilt may once c.args.self issuer type content digest)
+    (IsNotBuilt may' once' c.args.self issuer type content digest)
+    (λ e h. unbuilt-as may once c.args.self issuer type content digest may' once'
     (λ k m s b. (c.in-Ok.ensures.signs k m s).0 ((c.in-Ok-signed_once.ensures.signs k m s).0 b))
-    e h)
-    (subst (λ (i : List ℕ). IfErr r (IsNotBuilt may c.args.self i type content digest))
+    (λ k b. (c.in-Ok.ensures.once k).0 ((c.in-Ok-signed_once.ensures.once k).0 b)) e h)
+    (subst (λ (i : List ℕ). IfErr r (IsNotBuilt may once c.args.self i type content digest))
     c.in-Ok.ensures.key
-    (subst (λ (d : List ℕ). IfErr r (IsNotBuilt may c.args.self c.in-Ok.issuer type content d))
+    (subst (λ (d : List ℕ).
+    IfErr r (IsNotBuilt may once c.args.self c.in-Ok.issuer type content d))
     (c.in-Ok-signed_once.ensures.digests content ∙ c.in-Ok.ensures.digests content)
     c.issued-object.ensures.refused))
 
@@ -63,3 +66,7 @@ issued-object-requires-clause-issuer g c =
 pub issued-object-requires-clause-signed : goal.issued-object-requires-clause-signed
 issued-object-requires-clause-signed g c =
     (c.in-Ok-signed_once.ensures.signs _ _ _).1 c.in-Ok-signed_once.ensures.signed
+
+pub issued-object-requires-clause-one_off : goal.issued-object-requires-clause-one_off
+issued-object-requires-clause-one_off g c =
+    (c.in-Ok-signed_once.ensures.once _).1 c.in-Ok-signed_once.ensures.one_off

@@ -14,7 +14,8 @@ use Rattle.rpki_routes.proofs.aspa.builder.AspaBuilder.finalize.Goals as goal
 
 pub returns-in-Err-clause-refused : goal.returns-in-Err-clause-refused
 returns-in-Err-clause-refused g c =
-    aspa-unmade _ (g.S.Signer.may_sign c.args.signer.now) c.args.limit c.args.self c.args.builder
+    aspa-unmade _ (g.S.Signer.may_sign c.args.signer.now)
+    (g.S.Signer.is_one_off c.args.signer.now) c.args.limit c.args.self c.args.builder
     (g.S.Signer.key_of c.args.signer.now c.args.issuer_key.now)
     (g.S.Crypto.digest_of c.args.signer.now (aspa_octets c.args.self)) c.in-Err.fault
     c.not_built.result c.not_built.ensures c.in-Err.ensures.refused
@@ -59,20 +60,23 @@ returns-in-Ok-told-clause-names g c =
 pub returns-in-Ok-told-clause-refused : goal.returns-in-Ok-told-clause-refused
 returns-in-Ok-told-clause-refused g c =
     let key : List ℕ = g.S.Signer.key_of c.args.signer.now c.args.issuer_key.now in
+    let may : List ℕ → List ℕ → List ℕ → Type 0 = g.S.Signer.may_sign c.args.signer.now in
+    let once : List ℕ → Type 0 = g.S.Signer.is_one_off c.args.signer.now in
     IfErr-weaker c.signed.result
-    (IsNotBuilt (g.S.Signer.may_sign c.args.signer.now) c.in-Ok-told.told key ct_aspa
+    (IsNotBuilt may once c.in-Ok-told.told key ct_aspa
     (aspa_octets c.in-Ok.content)
     (g.S.Crypto.digest_of c.args.signer.now (aspa_octets c.in-Ok.content)))
-    (IsNotBuiltAspa (g.S.Signer.may_sign c.args.signer.now) c.args.limit c.args.self
+    (IsNotBuiltAspa may once c.args.limit c.args.self
     c.args.builder key (g.S.Crypto.digest_of c.args.signer.now (aspa_octets c.args.self)))
-    (λ e h. aspa-unsigned _ (g.S.Signer.may_sign c.args.signer.now) c.args.limit c.args.self
+    (λ e h. aspa-unsigned _ may once c.args.limit c.args.self
     c.in-Ok.content c.args.builder c.in-Ok-told.told key (g.S.Crypto.digest_of c.args.signer.now) e
     c.in-Ok.ensures.built c.in-Ok.ensures.within c.in-Ok-told.ensures h)
     c.signed.ensures.refused
 
 pub returns-in-Ok-told-clause-unasked : goal.returns-in-Ok-told-clause-unasked
 returns-in-Ok-told-clause-unasked g c = λ fault e. absurd
-    (never-content _ (g.S.Signer.may_sign c.args.signer.now) c.in-Ok-told.told
+    (never-content _ (g.S.Signer.may_sign c.args.signer.now)
+    (g.S.Signer.is_one_off c.args.signer.now) c.in-Ok-told.told
     (g.S.Signer.key_of c.args.signer.now c.args.issuer_key.now) ct_aspa
     (aspa_octets c.in-Ok.content)
     (g.S.Crypto.digest_of c.args.signer.now (aspa_octets c.in-Ok.content)) c.signed.result fault

@@ -12,7 +12,8 @@ use Rattle.rpki_routes.proofs.roa.builder.RoaBuilder.finalize.Goals as goal
 
 pub returns-in-Err-clause-refused : goal.returns-in-Err-clause-refused
 returns-in-Err-clause-refused g c =
-    roa-unmade _ (g.S.Signer.may_sign c.args.signer.now) c.args.self c.args.builder
+    roa-unmade _ (g.S.Signer.may_sign c.args.signer.now)
+    (g.S.Signer.is_one_off c.args.signer.now) c.args.self c.args.builder
     (g.S.Signer.key_of c.args.signer.now c.args.issuer_key.now)
     (g.S.Crypto.digest_of c.args.signer.now (roa_octets c.args.self)) c.in-Err.fault
     c.not_built.result c.not_built.ensures c.in-Err.ensures.refused
@@ -44,20 +45,23 @@ returns-in-Ok-told-clause-names g c =
 pub returns-in-Ok-told-clause-refused : goal.returns-in-Ok-told-clause-refused
 returns-in-Ok-told-clause-refused g c =
     let key : List ℕ = g.S.Signer.key_of c.args.signer.now c.args.issuer_key.now in
+    let may : List ℕ → List ℕ → List ℕ → Type 0 = g.S.Signer.may_sign c.args.signer.now in
+    let once : List ℕ → Type 0 = g.S.Signer.is_one_off c.args.signer.now in
     IfErr-weaker c.signed.result
-    (IsNotBuilt (g.S.Signer.may_sign c.args.signer.now) c.in-Ok-told.told key route_origin_authz
+    (IsNotBuilt may once c.in-Ok-told.told key route_origin_authz
     (roa_octets c.in-Ok.content)
     (g.S.Crypto.digest_of c.args.signer.now (roa_octets c.in-Ok.content)))
-    (IsNotBuiltRoa (g.S.Signer.may_sign c.args.signer.now) c.args.self c.args.builder key
+    (IsNotBuiltRoa may once c.args.self c.args.builder key
     (g.S.Crypto.digest_of c.args.signer.now (roa_octets c.args.self)))
-    (λ e h. roa-unsigned _ (g.S.Signer.may_sign c.args.signer.now) c.args.self c.in-Ok.content
+    (λ e h. roa-unsigned _ may once c.args.self c.in-Ok.content
     c.args.builder c.in-Ok-told.told key (g.S.Crypto.digest_of c.args.signer.now) e
     c.in-Ok.ensures.built c.in-Ok.ensures.said c.in-Ok.ensures.some c.in-Ok-told.ensures.claims h)
     c.signed.ensures.refused
 
 pub returns-in-Ok-told-clause-unasked : goal.returns-in-Ok-told-clause-unasked
 returns-in-Ok-told-clause-unasked g c = λ fault e. absurd
-    (never-content _ (g.S.Signer.may_sign c.args.signer.now) c.in-Ok-told.told
+    (never-content _ (g.S.Signer.may_sign c.args.signer.now)
+    (g.S.Signer.is_one_off c.args.signer.now) c.in-Ok-told.told
     (g.S.Signer.key_of c.args.signer.now c.args.issuer_key.now) route_origin_authz
     (roa_octets c.in-Ok.content)
     (g.S.Crypto.digest_of c.args.signer.now (roa_octets c.in-Ok.content)) c.signed.result fault

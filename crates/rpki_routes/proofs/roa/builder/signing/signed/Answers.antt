@@ -28,7 +28,8 @@ returns-in-Ok-clause-built g c =
 pub returns-in-Ok-clause-refused : goal.returns-in-Ok-clause-refused
 returns-in-Ok-clause-refused g c =
     subst (λ (o : List ℕ). IfErr c.finalize_content.result
-    (IsUnsigned (g.S.Signer.may_sign c.args.signer.now) c.args.told
+    (IsUnsigned (g.S.Signer.may_sign c.args.signer.now)
+    (g.S.Signer.is_one_off c.args.signer.now) c.args.told
     (g.S.Signer.key_of c.args.signer.now c.args.issuer_key.now) route_origin_authz o
     (g.S.Crypto.digest_of c.args.signer.now o)))
     (c.deref.ensures.value ∙ c.in-Ok.ensures) c.finalize_content.ensures.refused

@@ -1,0 +1,10 @@
+pub mod Along
+pub mod Revoking
+pub mod Anchoring
+pub mod Entering
+pub mod Ending
+pub mod Handling
+pub mod Refusing
+pub mod Running
+pub mod Lawful
+pub mod Supplying

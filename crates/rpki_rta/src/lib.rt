@@ -1,0 +1,16 @@
+//! Multi-signed attestations (draft-michaelson-rpki-rta): their validation, over whole
+//! certification paths.
+#![tactic(auto)]
+
+mod carried;
+mod entry;
+mod faults;
+mod handles;
+pub mod laws;
+mod signers;
+mod supply;
+mod validation;
+mod whole;
+
+pub use validation::Validation;
+pub use whole::{Supply, run};
