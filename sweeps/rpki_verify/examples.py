@@ -29,6 +29,7 @@ LARGE, NONE = (3, "out of memory\n"), (2, "cannot read none\n")
 HELP = """usage: rpki_verify [OPTION ..] check KIND FILE MOMENT TA [CA ..]
        rpki_verify [OPTION ..] walk FILE MOMENT TA [CA ..] with NAME=PATH ..
        rpki_verify [OPTION ..] verdicts FILE TA [CA ..]
+       rpki_verify [OPTION ..] rta FILE MOMENT ANCHOR ..
        rpki_verify [OPTION ..] show KIND FILE
        rpki_verify [OPTION ..] content KIND FILE
        rpki_verify show tal FILE
@@ -37,6 +38,7 @@ OPTION, in this order: --relaxed --registered --wide
 KIND: aspa, manifest, roa or rsc; of show and content also rta
 MOMENT: now, or YYYYMMDDHHMMSSZ
 CA of walk: any file but one named with
+ANCHOR: tal=FILE or ca=TA[:CA ..]
 """
 WRONG = 2, "wrong words, expected:\n" + HELP, 0
 NO_TIME = 2, "cannot tell the time\n", 0

@@ -32,28 +32,28 @@ more-names n seen names first others l e d =
 
 -- ---- files that the words after a trust anchor name
 
-texts-append : (first others : List (Bor (List ℕ))) (tail : List (List ℕ))
-    → texts others ≡ others_in tail → texts (first ++ others) ≡ texts first ++ others_in tail
-texts-append first others tail e =
+texts-append : (first others : List (Bor (List ℕ))) (names : List (List ℕ))
+    → texts others ≡ names → texts (first ++ others) ≡ texts first ++ names
+texts-append first others names e =
     map-append (λ (x : Bor (List ℕ)). x.now) first others
     ∙ ap (λ (ns : List (List ℕ)). texts first ++ ns) e
 
 -- the same names
-pub of-tail : (told : Told) (first others seen : List (Bor (List ℕ))) (tail : List (List ℕ))
+pub of-tail : (told : Told) (first others seen : List (Bor (List ℕ))) (names : List (List ℕ))
     (P : List (List ℕ) → Output → Type 0) (old new : Names) (s : Output)
-    → IsOfFiles told (texts (first ++ seen)) P old new s → texts others ≡ others_in tail
-    → seen ≡ others → IsOfFiles told (texts first ++ others_in tail) P old new s
-of-tail told first others seen tail P old new s h e d =
+    → IsOfFiles told (texts (first ++ seen)) P old new s → texts others ≡ names
+    → seen ≡ others → IsOfFiles told (texts first ++ names) P old new s
+of-tail told first others seen names P old new s h e d =
     subst (λ (ns : List (List ℕ)). IsOfFiles told ns P old new s)
-    (texts-append first seen tail (ap texts d ∙ e)) h
+    (texts-append first seen names (ap texts d ∙ e)) h
 
-pub read-tail : (first others seen : List (Bor (List ℕ))) (tail : List (List ℕ))
+pub read-tail : (first others seen : List (Bor (List ℕ))) (names : List (List ℕ))
     (old new : Names) → AreReadAtMost (texts (first ++ seen)) old new
-    → texts others ≡ others_in tail → seen ≡ others
-    → AreReadAtMost (texts first ++ others_in tail) old new
-read-tail first others seen tail old new h e d =
+    → texts others ≡ names → seen ≡ others
+    → AreReadAtMost (texts first ++ names) old new
+read-tail first others seen names old new h e d =
     subst (λ (ns : List (List ℕ)). AreReadAtMost ns old new)
-    (texts-append first seen tail (ap texts d ∙ e)) h
+    (texts-append first seen names (ap texts d ∙ e)) h
 
 -- as many names as there are first ones and certificates of CAs
 pub tail-names : (n : ℕ) (first others seen : List (Bor (List ℕ))) (tail : List (List ℕ))
@@ -66,6 +66,19 @@ tail-names n first others seen tail l e d =
       ap length d,
       ap length e,
       length-append (chain_in tail) (paths_in tail),
+      length-map others (λ (x : Bor (List ℕ)). x.now),
+    )
+
+-- as many names as there are first ones and those of anchors
+pub anchor-names : (n : ℕ) (first others seen : List (Bor (List ℕ))) (names : List (List ℕ))
+    → n ≤ length first + length names → texts others ≡ names → seen ≡ others
+    → n ≤ length first + length seen
+anchor-names n first others seen names l e d =
+    omega (
+      arith,
+      l,
+      ap length d,
+      ap length e,
       length-map others (λ (x : Bor (List ℕ)). x.now),
     )
 
@@ -124,7 +137,7 @@ as-many-files n names files seen e d l =
 
 pub ruleset by_names = (of-same, read-same, none-at-most, more-names)
 
-pub ruleset by_tail = (of-tail, read-tail, none-at-most, tail-names)
+pub ruleset by_tail = (of-tail, read-tail, none-at-most, tail-names, anchor-names)
 
 pub ruleset by_reads = (
   of-unreadable,

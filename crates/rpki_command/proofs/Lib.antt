@@ -1,7 +1,10 @@
+pub mod Anchored
 pub mod Asking
 pub mod Checking
 pub mod Following
+pub mod Granted
 pub mod Located
+pub mod Making
 pub mod Named
 pub mod Orders
 pub mod Printed

@@ -10,7 +10,8 @@ use Rattle.rpki_command.specs.Command.{objects_language}
 use Rattle.rpki_command.specs.Language.{IsAsked, AskForNothing}
 use Rattle.rpki_command.specs.Words.{word_if, word_relaxed, word_registered, word_wide}
 use Rattle.rpki_command.specs.Words.{with_options, moment_word, command_words, files_of, are_named}
-use Rattle.rpki_command.specs.Words.{IsProper, AskForNoWalk, AskForNothingElse, is_walk}
+use Rattle.rpki_command.specs.Words.{IsProper, AskForNoWalk, AskForNoRta, AskForNothingElse}
+use Rattle.rpki_command.specs.Words.{has_tail}
 use Rattle.rpki_command.specs.declared.words.Command.{Command}
 use Rattle.rpki_command.specs.declared.words.Command.TheVariants.{Content, ContentRta, Show}
 use Rattle.rpki_command.specs.declared.words.Command.TheVariants.{ShowRta, ShowTal, Check, Walk, Rta}
@@ -30,7 +31,7 @@ moments-once a b i j e = some-once (generalized_of (generalized_text a)) a b
 abbrev HasTime : (Moment → Type 0) → Command → Type 0
 HasTime P (Check kind file moment verdicts anchor chain) = P moment
 HasTime P (Walk file moment verdicts anchor tail) = P moment
-HasTime P (Rta file moment verdicts anchor anchors) = P moment
+HasTime P (Rta file moment verdicts anchors) = P moment
 HasTime P other = Unit {0}
 
 in-time : (c : Command) → IsProper c → HasTime IsMoment c
@@ -41,7 +42,7 @@ in-time (ShowRta file) i = i
 in-time (ShowTal file) i = i
 in-time (Check kind file moment verdicts anchor chain) i = i
 in-time (Walk file moment verdicts anchor tail) i = i.0
-in-time (Rta file moment verdicts anchor anchors) i = i
+in-time (Rta file moment verdicts anchors) i = i.0
 
 commands-by : (P : Moment → Type 0)
     → ((a b : Moment) → P a → P b → moment_word a ≡ moment_word b → a ≡ b)
@@ -51,7 +52,10 @@ commands-by P once a b i j e = search (rules, once)
 rest-same : {word : List ℕ} {a b : List (List ℕ)} → word ∷ a ≡ word ∷ b → a ≡ b
 rest-same e = cc
 
-walk-first : (c : Command) (rest : List (List ℕ)) → is_walk c ≡ false
+rta-not-walk : (rest tail : List (List ℕ)) → codes "rta" ∷ rest ≡ codes "walk" ∷ tail → ⊥
+rta-not-walk rest tail e = search rules
+
+walk-first : (c : Command) (rest : List (List ℕ)) → has_tail c ≡ false
     → command_words c ≡ codes "walk" ∷ rest → ⊥
 walk-first c rest n e = search rules
 
@@ -65,7 +69,7 @@ walk_none words rest w n (ShowRta f) e i = walk-first (ShowRta f) rest refl (sym
 walk_none words rest w n (ShowTal f) e i = walk-first (ShowTal f) rest refl (sym e ∙ w)
 walk_none words rest w n (Check k f m v a c) e i =
     walk-first (Check k f m v a c) rest refl (sym e ∙ w)
-walk_none words rest w n (Rta f m v a c) e i = walk-first (Rta f m v a c) rest refl (sym e ∙ w)
+walk_none words rest w n (Rta f m v a) e i = rta-not-walk _ rest (sym e ∙ w)
 
 pub walk_of : (words rest : List (List ℕ)) (r : Option Command) → words ≡ codes "walk" ∷ rest
     → MatchOption r (AskForNoWalk rest)
@@ -75,26 +79,52 @@ pub walk_of : (words rest : List (List ℕ)) (r : Option Command) → words ≡ 
 walk_of words rest None w n = walk_none words rest w n
 walk_of words rest (Some c) w h = (w ∙ h.0, h.1)
 
-other_none : (words : List (List ℕ)) → ((rest : List (List ℕ)) → words ≡ codes "walk" ∷ rest → ⊥)
-    → AskForNothingElse words → (c : Command) → words ≡ command_words c → IsProper c → ⊥
-other_none words w n (Walk f m v a t) e i = w _ e
-other_none words w n (Content k f) e i = n (Content k f) refl e i
-other_none words w n (ContentRta f) e i = n (ContentRta f) refl e i
-other_none words w n (Show k f) e i = n (Show k f) refl e i
-other_none words w n (ShowRta f) e i = n (ShowRta f) refl e i
-other_none words w n (ShowTal f) e i = n (ShowTal f) refl e i
-other_none words w n (Check k f m v a c) e i = n (Check k f m v a c) refl e i
-other_none words w n (Rta f m v a c) e i = n (Rta f m v a c) refl e i
+rta-first : (c : Command) (rest : List (List ℕ)) → has_tail c ≡ false
+    → command_words c ≡ codes "rta" ∷ rest → ⊥
+rta-first c rest n e = search rules
 
-pub other_of : (words : List (List ℕ)) (r : Option Command)
-    → ((rest : List (List ℕ)) → words ≡ codes "walk" ∷ rest → ⊥)
-    → MatchOption r (AskForNothingElse words) (λ c. (words ≡ command_words c) × IsProper c)
+pub rta_none : (words rest : List (List ℕ)) → words ≡ codes "rta" ∷ rest → AskForNoRta rest
+    → (c : Command) → words ≡ command_words c → IsProper c → ⊥
+rta_none words rest w n (Rta f m v a) e i = n f m v a (rest-same (sym w ∙ e)) i.0 i.1
+rta_none words rest w n (Content k f) e i = rta-first (Content k f) rest refl (sym e ∙ w)
+rta_none words rest w n (ContentRta f) e i = rta-first (ContentRta f) rest refl (sym e ∙ w)
+rta_none words rest w n (Show k f) e i = rta-first (Show k f) rest refl (sym e ∙ w)
+rta_none words rest w n (ShowRta f) e i = rta-first (ShowRta f) rest refl (sym e ∙ w)
+rta_none words rest w n (ShowTal f) e i = rta-first (ShowTal f) rest refl (sym e ∙ w)
+rta_none words rest w n (Check k f m v a c) e i =
+    rta-first (Check k f m v a c) rest refl (sym e ∙ w)
+rta_none words rest w n (Walk f m v a t) e i = rta-not-walk rest _ (sym w ∙ e)
+
+pub rta_of : (words rest : List (List ℕ)) (r : Option Command) → words ≡ codes "rta" ∷ rest
+    → MatchOption r (AskForNoRta rest)
+    (λ c. (codes "rta" ∷ rest ≡ command_words c) × IsProper c)
     → MatchOption r ((c : Command) → words ≡ command_words c → IsProper c → ⊥)
     (λ c. (words ≡ command_words c) × IsProper c)
-other_of words None w n = other_none words w n
-other_of words (Some c) w h = h
+rta_of words rest None w n = rta_none words rest w n
+rta_of words rest (Some c) w h = (w ∙ h.0, h.1)
 
-pub ruleset by_first_word = (walk_of, other_of)
+other_none : (words : List (List ℕ)) → ((rest : List (List ℕ)) → words ≡ codes "walk" ∷ rest → ⊥)
+    → ((rest : List (List ℕ)) → words ≡ codes "rta" ∷ rest → ⊥)
+    → AskForNothingElse words → (c : Command) → words ≡ command_words c → IsProper c → ⊥
+other_none words w r n (Walk f m v a t) e i = w _ e
+other_none words w r n (Rta f m v a) e i = r _ e
+other_none words w r n (Content k f) e i = n (Content k f) refl e i
+other_none words w r n (ContentRta f) e i = n (ContentRta f) refl e i
+other_none words w r n (Show k f) e i = n (Show k f) refl e i
+other_none words w r n (ShowRta f) e i = n (ShowRta f) refl e i
+other_none words w r n (ShowTal f) e i = n (ShowTal f) refl e i
+other_none words w r n (Check k f m v a c) e i = n (Check k f m v a c) refl e i
+
+pub other_of : (words : List (List ℕ)) (o : Option Command)
+    → ((rest : List (List ℕ)) → words ≡ codes "walk" ∷ rest → ⊥)
+    → ((rest : List (List ℕ)) → words ≡ codes "rta" ∷ rest → ⊥)
+    → MatchOption o (AskForNothingElse words) (λ c. (words ≡ command_words c) × IsProper c)
+    → MatchOption o ((c : Command) → words ≡ command_words c → IsProper c → ⊥)
+    (λ c. (words ≡ command_words c) × IsProper c)
+other_of words None w r n = other_none words w r n
+other_of words (Some c) w r h = h
+
+pub ruleset by_first_word = (walk_of, rta_of, other_of)
 
 pub commands-once : (a b : Command) → IsProper a → IsProper b → command_words a ≡ command_words b
     → a ≡ b

@@ -51,7 +51,7 @@ abbrev pub status_of : Output → ℕ
 status_of (Printed text status) = status
 status_of (Complained text status) = status
 
-one : ◌≡◌ {A = ℕ} 1 0 → ⊥
+pub one : ◌≡◌ {A = ℕ} 1 0 → ⊥
 one e = omega (arith, e)
 
 pub two : ◌≡◌ {A = ℕ} 2 0 → ⊥
@@ -85,7 +85,7 @@ whole-lines lines run h z = elim h.out [
 ]
 
 -- a refusal is no yes
-refusal-is-none : (causes : Causes) (fault : DecodeError) (s : Output) → IsRefusal causes fault s
+pub refusal-is-none : (causes : Causes) (fault : DecodeError) (s : Output) → IsRefusal causes fault s
     → status_of s ≡ 0 → ⊥
 refusal-is-none Omitted decoding.Memory s e z = other-status s out_of_memory 0 z e three
 refusal-is-none Included decoding.Memory s e z = other-status s out_of_memory 0 z e three
@@ -97,7 +97,7 @@ refusal-is-none Included (decoding.Content fault) s (inl e) z =
 refusal-is-none Included (decoding.Content fault) s (inr e) z =
     other-status s (malformed_by (fault_text fault)) 0 z e one
 
-fault-is-none : (fault : ValidationError) → status_of (validation_refusal fault) ≡ 0 → ⊥
+pub fault-is-none : (fault : ValidationError) → status_of (validation_refusal fault) ≡ 0 → ⊥
 fault-is-none (validation.Inspection fault) = one
 fault-is-none (validation.Verification fault) = one
 fault-is-none validation.Memory = three

@@ -17,10 +17,7 @@ use Rattle.rpki_certs.specs.Issuer.{octets_of}
 use Rattle.rpki_signed.specs.Walk.{AtHand, at_hand}
 use Rattle.rpki_command.specs.Words.{texts, are_named, word_with, is_with, chain_in, pairs_in}
 use Rattle.rpki_command.specs.Words.{name_in, path_in, paths_in, others_in}
-
-and-assoc : (a b c : Bool) → (a && (b && c)) ≡ ((a && b) && c)
-and-assoc true b c = refl
-and-assoc false b c = refl
+use Rattle.rpki_command.proofs.Anchored.{named-append}
 
 pair-same : (a b : List ℕ) (c d : List ℕ) → a ≡ b → c ≡ d → ◌≡◌ {A = List ℕ × List ℕ} (a, c) (b, d)
 pair-same a b c d e f = rw (e, f)
@@ -113,13 +110,6 @@ without-with (w ∷ ws) none c =
     sym (at-word (w ∷ ws) c.0 w word_with l) ∙ c.2 in
     not-both (is_with (get_or (w ∷ ws) c.0 w).now) (subst (λ (x : List ℕ). is_with x ≡ true) (sym e) refl)
     (none c.0 w l)
-
--- what is named by two lists
-named-append : (a b : List (List ℕ)) → are_named (a ++ b) ≡ (are_named a && are_named b)
-named-append [] b = refl
-named-append (x ∷ a) b =
-    ap (λ (r : Bool). not (length x == 0) && r) (named-append a b)
-    ∙ and-assoc (not (length x == 0)) (are_named a) (are_named b)
 
 module _ (chain pairs : List (Bor (List ℕ))) (tail : List (List ℕ)) (a : Bool)
     (before : texts chain ≡ chain_in tail) (is : a ≡ are_named (texts chain)) where

@@ -13,10 +13,11 @@ use Rattle.rpki_command.specs.Contents.{LinesOf, HasNoLines, IsShown}
 use Rattle.rpki_command.specs.Language.{Language, IsAsked, AskForNothing}
 use Rattle.rpki_command.specs.Objects.{ObjectLinesOf}
 use Rattle.rpki_command.specs.Refusal.{IsMalformed}
+use Rattle.rpki_command.specs.Rta.{RtaOf}
 use Rattle.rpki_command.specs.Texts.Tal.{TalLines}
 use Rattle.rpki_command.specs.Store.{Told, Names, IsRead, AreRead}
 use Rattle.rpki_command.specs.Walk.{WalkOf}
-use Rattle.rpki_command.specs.Words.{command_words, files_of, others_in, IsProper}
+use Rattle.rpki_command.specs.Words.{command_words, files_of, others_in, files_of_anchors, IsProper}
 use Rattle.rpki_command.specs.declared.contents.Causes.{Causes}
 use Rattle.rpki_command.specs.declared.contents.Causes.TheVariants.{Omitted}
 use Rattle.rpki_command.specs.declared.store.StoreError.{StoreError}
@@ -25,7 +26,7 @@ use Rattle.rpki_command.specs.declared.store.Unread.{Unread}
 use Rattle.rpki_command.specs.declared.store.Unread.TheVariants as reads
 use Rattle.rpki_command.specs.declared.words.Command.{Command}
 use Rattle.rpki_command.specs.declared.words.Command.TheVariants.{Content, ContentRta, Show}
-use Rattle.rpki_command.specs.declared.words.Command.TheVariants.{ShowRta, ShowTal, Check, Walk}
+use Rattle.rpki_command.specs.declared.words.Command.TheVariants.{ShowRta, ShowTal, Check, Walk, Rta}
 use Rattle.rpki_command.specs.declared.words.Options.{Options}
 use Rattle.rpki_command.specs.declared.words.Order.{Order}
 
@@ -57,7 +58,6 @@ pub data Task : Type 1 where
 -- What each command of the program with verdicts comes to with these options, where the causes of
 -- refusals of what is shown are told, or not: the table of its commands. A check, a walk and a
 -- locator tell none. An attestation is in DER, and a locator is a text: no option speaks of them.
--- Where a command is not built, the usage is said.
 abbrev pub command_task : Causes → Options → Command → Task
 command_task causes options (Content kind file) = ShowLines causes file (LinesOf options kind)
 command_task causes options (ContentRta file) = ShowLines causes file AttestationLines
@@ -68,7 +68,8 @@ command_task causes options (Check kind file moment verdicts anchor chain) =
     CheckFiles (file ∷ verdicts ∷ anchor ∷ chain) (CheckOf options kind moment)
 command_task causes options (Walk file moment verdicts anchor tail) =
     CheckFiles (file ∷ verdicts ∷ anchor ∷ others_in tail) (WalkOf options moment tail)
-command_task causes options other = Say usage
+command_task causes options (Rta file moment verdicts anchors) =
+    CheckFiles (file ∷ verdicts ∷ files_of_anchors anchors) (RtaOf moment anchors)
 
 -- A program: how its orders are written, what a command comes to with options, and what is said to
 -- words that ask for nothing.

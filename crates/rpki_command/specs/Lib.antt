@@ -1,3 +1,4 @@
+pub mod Anchors
 pub mod Answer
 pub mod Arguments
 pub mod Attestation
@@ -8,9 +9,11 @@ pub mod Grows
 pub mod Ia5
 pub mod Kinds
 pub mod Language
+pub mod Locator
 pub mod Objects
 pub mod Options
 pub mod Refusal
+pub mod Rta
 pub mod Store
 pub mod Texts
 pub mod Verify

@@ -1,7 +1,7 @@
 -- The command line: what options and commands are written as.
-use Rattle.std.specs.Prelude.{◌≡◌, ℕ, List, [], ◌∷◌, ◌++◌, Bool, true, false, not, ◌&&◌, ◌==◌}
-use Rattle.std.specs.Prelude.{length, map, codes, Contains}
-use Rattle.std.specs.List.{before_first, after_first}
+use Rattle.std.specs.Prelude.{◌≡◌, ℕ, List, [], ◌∷◌, ◌++◌, Bool, true, false, not, ◌&&◌, ◌||◌, ◌==◌}
+use Rattle.std.specs.Prelude.{length, map, codes, Contains, IsTrue, if◌then◌else◌}
+use Rattle.std.specs.List.{before_first, after_first, slice_split, flat_map, list_all}
 use Rattle.std.specs.Str.{bytes_eq}
 use Rattle.std.specs.Borrow.{Bor}
 use Rattle.rpki_basics.specs.Moment.{Moment, IsMoment}
@@ -62,8 +62,8 @@ command_words (Check kind file moment verdicts anchor chain) =
     codes "check" ∷ kind_word kind ∷ file ∷ moment_word moment ∷ verdicts ∷ anchor ∷ chain
 command_words (Walk file moment verdicts anchor tail) =
     codes "walk" ∷ file ∷ moment_word moment ∷ verdicts ∷ anchor ∷ tail
-command_words (Rta file moment verdicts anchor anchors) =
-    codes "rta" ∷ file ∷ moment_word moment ∷ verdicts ∷ anchor ∷ anchors
+command_words (Rta file moment verdicts anchors) =
+    codes "rta" ∷ file ∷ moment_word moment ∷ verdicts ∷ anchors
 
 -- the word that ends the certificates of a walk
 abbrev pub word_with : List ℕ
@@ -106,8 +106,37 @@ paths_in tail = map path_in (pairs_in tail)
 abbrev pub others_in : List (List ℕ) → List (List ℕ)
 others_in tail = chain_in tail ++ paths_in tail
 
--- The files that are named by a word, in the order of the words; of an attestation, which is not
--- built, without those of its anchors.
+-- whether an octet is `:`
+abbrev pub is_colon : ℕ → Bool
+is_colon octet = octet == 58
+
+-- whether a word names a locator: `tal` stands before its first `=`
+abbrev pub is_locator : List ℕ → Bool
+is_locator word = bytes_eq (name_in word) (codes "tal")
+
+-- whether a word names a chain of certificates: `ca` stands there
+abbrev pub is_chain : List ℕ → Bool
+is_chain word = bytes_eq (name_in word) (codes "ca")
+
+-- whether a word is an anchor, tal=FILE or ca=FILE[:FILE ..]
+abbrev pub is_anchor : List ℕ → Bool
+is_anchor word = is_locator word || is_chain word
+
+-- whether there are words, and each is an anchor
+abbrev pub are_anchors : List (List ℕ) → Bool
+are_anchors words = not (length words == 0) && list_all is_anchor words
+
+-- The files of an anchor: what stands after its first `=`; of a chain its parts, with a `:` between
+-- them. Of a word without a `=` the file has no name.
+abbrev pub files_of_anchor : List ℕ → List (List ℕ)
+files_of_anchor word =
+    if is_locator word then path_in word ∷ [] else slice_split is_colon (path_in word)
+
+-- the files of anchors, in their order
+abbrev pub files_of_anchors : List (List ℕ) → List (List ℕ)
+files_of_anchors words = flat_map files_of_anchor words
+
+-- the files that are named by a word, in the order of the words
 abbrev pub files_of : Command → List (List ℕ)
 files_of (Content kind file) = file ∷ []
 files_of (ContentRta file) = file ∷ []
@@ -116,7 +145,7 @@ files_of (ShowRta file) = file ∷ []
 files_of (ShowTal file) = file ∷ []
 files_of (Check kind file moment verdicts anchor chain) = file ∷ verdicts ∷ anchor ∷ chain
 files_of (Walk file moment verdicts anchor tail) = file ∷ verdicts ∷ anchor ∷ others_in tail
-files_of (Rta file moment verdicts anchor anchors) = file ∷ verdicts ∷ []
+files_of (Rta file moment verdicts anchors) = file ∷ verdicts ∷ files_of_anchors anchors
 
 -- whether each of these files has a name
 abbrev pub are_named : List (List ℕ) → Bool
@@ -124,11 +153,12 @@ are_named [] = true
 are_named (file ∷ files) = not (length file == 0) && are_named files
 
 -- A command is proper: its moment, where it has one, is one of the calendar (RFC 5280, section
--- 4.1.2.5), and the words of a walk have a `with` after the trust anchor.
+-- 4.1.2.5), the words of a walk have a `with` after the trust anchor, and those of an attestation
+-- end with anchors.
 abbrev pub IsProper : Command → Type 0
 IsProper (Check kind file moment verdicts anchor chain) = IsMoment moment
 IsProper (Walk file moment verdicts anchor tail) = IsMoment moment × Contains tail word_with
-IsProper (Rta file moment verdicts anchor anchors) = IsMoment moment
+IsProper (Rta file moment verdicts anchors) = IsMoment moment × IsTrue (are_anchors anchors)
 IsProper other = Unit {0}
 
 -- words after the word `walk` ask for no walk
@@ -137,12 +167,19 @@ AskForNoWalk words = (file : List ℕ) (moment : Moment) (verdicts anchor : List
     (tail : List (List ℕ)) → words ≡ file ∷ moment_word moment ∷ verdicts ∷ anchor ∷ tail
     → IsMoment moment → Contains tail word_with → ⊥
 
--- whether a command is a walk
-abbrev pub is_walk : Command → Bool
-is_walk (Walk file moment verdicts anchor tail) = true
-is_walk other = false
+-- words after the word `rta` ask for no check of an attestation
+abbrev pub AskForNoRta : List (List ℕ) → Type 0
+AskForNoRta words = (file : List ℕ) (moment : Moment) (verdicts : List ℕ)
+    (anchors : List (List ℕ)) → words ≡ file ∷ moment_word moment ∷ verdicts ∷ anchors
+    → IsMoment moment → IsTrue (are_anchors anchors) → ⊥
 
--- the words ask for nothing but, perhaps, a walk
+-- whether a command is a walk, or checks an attestation
+abbrev pub has_tail : Command → Bool
+has_tail (Walk file moment verdicts anchor tail) = true
+has_tail (Rta file moment verdicts anchors) = true
+has_tail other = false
+
+-- the words ask for nothing but, perhaps, a walk or a check of an attestation
 abbrev pub AskForNothingElse : List (List ℕ) → Type 0
-AskForNothingElse words = (c : Command) → is_walk c ≡ false → words ≡ command_words c
+AskForNothingElse words = (c : Command) → has_tail c ≡ false → words ≡ command_words c
     → IsProper c → ⊥

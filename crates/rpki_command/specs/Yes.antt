@@ -1,5 +1,5 @@
 -- What it means that a check ends with a yes, or with a no.
-use Rattle.std.specs.Prelude.{◌≡◌, ◌⊎◌, ℕ, List, ◌∷◌, ◌++◌, Ok, Err}
+use Rattle.std.specs.Prelude.{◌≡◌, ◌⊎◌, ℕ, List, ◌∷◌, ◌++◌, map, Ok, Err}
 use Rattle.sha2.specs.Sha256.{sha256}
 use Rattle.rpki_der.specs.Form.Decodes.{IsOnlyFront}
 use Rattle.rpki_der.specs.Grammar.{HasNoFront}
@@ -12,6 +12,11 @@ use Rattle.rpki_certs.specs.Issuer.{MakesIssuer}
 use Rattle.rpki_certs.specs.declared.issuer.IssuerError.{IssuerError}
 use Rattle.rpki_files.specs.Manifest.{ManifestForm}
 use Rattle.rpki_files.specs.Manifest.Checks.{manifest_kind}
+use Rattle.rpki_multi.specs.Attestation.{RtaForm}
+use Rattle.rpki_multi.specs.Attestation as attested
+use Rattle.rpki_paths.specs.Anchor.{Supply}
+use Rattle.rpki_rta.specs.Granted.{IsGrantedRta}
+use Rattle.rpki_signed.specs.Attested.{IsDistinct}
 use Rattle.rpki_signed.specs.Check.{BeginsWith}
 use Rattle.rpki_signed.specs.Walk.{AtHand}
 use Rattle.rpki_sigobj.specs.Verify.{Digester}
@@ -20,11 +25,16 @@ use Rattle.rpki_sigobj.specs.Signed.Kind as signed
 use Rattle.rpki_sigobj.specs.Signed.{Whole, ObjectForm}
 use Rattle.rpki_verdicts.specs.Listed.{is_listed}
 use Rattle.rpki_verdicts.specs.Verdicts.{AreVerdicts}
+use Rattle.rpki_command.specs.Anchors.{Given, given_in, MakeEach, IsFirstUnmade}
 use Rattle.rpki_command.specs.Answer.{Run, IsWhole, out_of_memory}
 use Rattle.rpki_command.specs.Check.{yes_line, issuer_refusal}
 use Rattle.rpki_command.specs.Kinds.{OfKind}
 use Rattle.rpki_command.specs.Options.{manifest_rule, read_mode}
+use Rattle.rpki_command.specs.Rta.{supply_of, anchor_refusal}
+use Rattle.rpki_command.specs.Texts.Rta.{attestation_text}
 use Rattle.rpki_command.specs.Texts.Walk.{held_text}
+use Rattle.rpki_command.specs.declared.anchors.Anchor.{Anchor}
+use Rattle.rpki_command.specs.declared.anchors.AnchorError.{AnchorError}
 use Rattle.rpki_command.specs.declared.words.Command.{Command}
 use Rattle.rpki_command.specs.declared.words.Command.TheVariants as commands
 use Rattle.rpki_command.specs.declared.words.Kind.{Kind}
@@ -61,6 +71,14 @@ walk_order options now object verdicts anchor tail = record {
   command = commands.Walk object now verdicts anchor tail;
 }
 
+-- the order to check the attestation in the file of this name at this moment, by the verdicts and
+-- under these anchors
+abbrev pub rta_order : Options → Moment → List ℕ → List ℕ → List (List ℕ) → Order Command
+rta_order options now object verdicts anchors = record {
+  options = options;
+  command = commands.Rta object now verdicts anchors;
+}
+
 -- The octets begin with a good object under this issuer, and the run prints yes and the lines of
 -- its content, whole, and nothing else.
 pub record PrintsYes {X : Type 0} (kind : signed.ObjectKind X) (form : List ℕ → X → Type 0)
@@ -93,6 +111,49 @@ pub record IsRightWalk (options : Options) (verdict : Verdict) (now : Moment) (f
   pub made : MakesIssuer verdict now files.anchor files.chain (Ok issuer)
   pub yes : PrintsYes manifest_kind (ManifestForm (manifest_rule options) Der)
       (held_text sha256 hand) (read_mode options) sha256 verdict issuer now files.object run
+
+-- A yes to an attestation is right by a verdict: the files make anchors, under which the attestation
+-- is granted at this moment, and the run prints yes and its lines, and nothing else. Digests are
+-- SHA-256 (RFC 7935, section 2).
+pub record IsRightRta (verdict : Verdict) (now : Moment) (words : List (List ℕ))
+    (object : List ℕ) (files : List (List ℕ)) (run : Run) : Type 0 where
+  pub anchors : List Anchor
+  pub made : MakeEach verdict now (given_in words files) anchors
+  pub rta : attested.Whole
+  pub rest : List ℕ
+  pub front : IsOnlyFront (RtaForm Der) object rta rest
+  pub granted : IsGrantedRta sha256 verdict now rta (map supply_of anchors)
+  pub printed : IsWhole (yes_line ++ attestation_text rta.content) 0 run.out_before run.out_after
+      run.status
+  pub silent : run.err_after ≡ run.err_before
+
+-- One of the anchors is not made, and not for want of memory.
+pub record HasNoAnchor (verdict : Verdict) (now : Moment) (given : List Given) : Type 0 where
+  pub fault : AnchorError
+  pub first : IsFirstUnmade verdict now given fault
+  pub has_memory : anchor_refusal fault ≡ out_of_memory → ⊥
+
+-- The octets begin with no attestation, or with one that is not granted under these supplies, if
+-- the identifiers of what it carries are distinct.
+abbrev pub BeginsWithNoGranted : Verdict → Moment → List Supply → List ℕ → Type 0
+BeginsWithNoGranted verdict now supplied octets =
+    HasNoFront (RtaForm Der) octets
+    ⊎ BeginsWith (RtaForm Der) octets (λ (r : attested.Whole). IsDistinct sha256 verdict r
+    → ¬ (IsGrantedRta sha256 verdict now r supplied))
+
+-- The files make anchors, and under them the octets begin with no attestation that is granted.
+pub record IsRefusedAnchored (verdict : Verdict) (now : Moment) (given : List Given)
+    (object : List ℕ) : Type 0 where
+  pub anchors : List Anchor
+  pub made : MakeEach verdict now given anchors
+  pub no : BeginsWithNoGranted verdict now (map supply_of anchors) object
+
+-- A no to an attestation is right by a verdict: one of the anchors is not made, or under them the
+-- octets begin with no attestation that is granted at this moment, if identifiers are distinct.
+abbrev pub IsRightNoRta : Verdict → Moment → List (List ℕ) → List ℕ → List (List ℕ) → Type 0
+IsRightNoRta verdict now words object files =
+    HasNoAnchor verdict now (given_in words files)
+    ⊎ IsRefusedAnchored verdict now (given_in words files) object
 
 -- The octets begin with no object of the kind, or with one that is not good under this issuer.
 abbrev pub BeginsWithNoGood : {X : Type 0} → signed.ObjectKind X → (List ℕ → X → Type 0) → Mode

@@ -17,6 +17,7 @@ const MALFORMED: &[u8] = b"malformed";
 const USAGE: &[u8] = b"usage: rpki_verify [OPTION ..] check KIND FILE MOMENT TA [CA ..]
        rpki_verify [OPTION ..] walk FILE MOMENT TA [CA ..] with NAME=PATH ..
        rpki_verify [OPTION ..] verdicts FILE TA [CA ..]
+       rpki_verify [OPTION ..] rta FILE MOMENT ANCHOR ..
        rpki_verify [OPTION ..] show KIND FILE
        rpki_verify [OPTION ..] content KIND FILE
        rpki_verify show tal FILE
@@ -24,7 +25,8 @@ const USAGE: &[u8] = b"usage: rpki_verify [OPTION ..] check KIND FILE MOMENT TA 
 OPTION, in this order: --relaxed --registered --wide
 KIND: aspa, manifest, roa or rsc; of show and content also rta
 MOMENT: now, or YYYYMMDDHHMMSSZ
-CA of walk: any file but one named with";
+CA of walk: any file but one named with
+ANCHOR: tal=FILE or ca=TA[:CA ..]";
 
 /// What stands in front of it after wrong words.
 const WRONG: &[u8] = b"wrong words, expected:\n";

@@ -4,8 +4,9 @@ ghost use Rattle.std.specs.Prelude.{◌≡◌, ◌≤◌, ◌+◌, ◌++◌, ℕ
 ghost use Rattle.rpki_certs.specs.Issuer.{octets_of};
 ghost use Rattle.rpki_command.specs.Answer.{Output, said};
 ghost use Rattle.rpki_command.specs.Command.{AreReadAtMost, IsOfFiles};
-ghost use Rattle.rpki_command.specs.Words.{texts, chain_in, others_in};
+ghost use Rattle.rpki_command.specs.Words.{texts, chain_in, others_in, files_of_anchors};
 
+use crate::anchor_words::names_of_anchors;
 use crate::answer::Answer;
 use crate::pairs::others_of;
 use crate::store::{Store, Unread, read_all};
@@ -66,6 +67,29 @@ pub fn answer_tail<'a, W: Work, S: Store>(
     ensures same { S.told store.new ≡ S.told store.old }
 {
     match others_of(alloc, tail) {
+        Err(_) => Answer::OutOfMemory,
+        Ok(others) => answer_files(alloc, work, first, &others, store),
+    }
+}
+
+/// Answers by the work of the files with these names, first some, and then those that anchors name.
+#[tactic(auto, using(crate::proofs::Asking::by_tail))]
+pub fn answer_anchors<'a, W: Work, S: Store>(
+    alloc: Global,
+    work: W,
+    first: &[&'a str],
+    anchors: &[&'a str],
+    store: &mut S,
+) -> Answer<'a>
+    requires { W.least work ≤ length first.now + length (files_of_anchors (texts anchors.now)) }
+    ensures said { IsOfFiles (S.told store.old)
+        (texts first.now ++ files_of_anchors (texts anchors.now))
+        (W.says work) (S.reads store.old) (S.reads store.new) (said result) }
+    ensures reads { AreReadAtMost (texts first.now ++ files_of_anchors (texts anchors.now))
+        (S.reads store.old) (S.reads store.new) }
+    ensures same { S.told store.new ≡ S.told store.old }
+{
+    match names_of_anchors(alloc, anchors) {
         Err(_) => Answer::OutOfMemory,
         Ok(others) => answer_files(alloc, work, first, &others, store),
     }

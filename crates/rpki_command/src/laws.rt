@@ -10,9 +10,9 @@ ghost use Rattle.rpki_command.specs.Command.{AreTold, IsRunOf, objects_language,
 ghost use Rattle.rpki_command.specs.Ia5.{ia5_text};
 ghost use Rattle.rpki_command.specs.Language.{IsAsked};
 ghost use Rattle.rpki_command.specs.Store.{Told};
-ghost use Rattle.rpki_command.specs.Words.{chain_in, names_in, paths_in};
+ghost use Rattle.rpki_command.specs.Words.{chain_in, names_in, paths_in, files_of_anchors};
 ghost use Rattle.rpki_command.specs.Yes.{FilesOfCheck, in_order_with, check_order, walk_order};
-ghost use Rattle.rpki_command.specs.Yes.{IsRightWalk};
+ghost use Rattle.rpki_command.specs.Yes.{IsRightWalk, rta_order, IsRightRta, IsRightNoRta};
 ghost use Rattle.rpki_command.specs.Yes.{IsRightYes, IsRightNo, HoldsByList};
 ghost use Rattle.rpki_command.specs.declared.words.Command.{Command};
 ghost use Rattle.rpki_command.specs.declared.words.Kind.{Kind};
@@ -77,4 +77,28 @@ pub fn walks_are_right()
         → AreTold told (object ∷ list ∷ anchor ∷ chain_in tail) (in_order_with text files)
         → AreTold told (paths_in tail) octets → run.status ≡ 1
         → HoldsByList (λ verdict. IsRightNo options Manifest verdict now files) text }
+{}
+
+/// Where a store tells the files of a check of an attestation, a run of it that ends with status 0
+/// says yes, and that rightly: the files of the anchors make them by the verdicts, and FILE begins
+/// with an attestation that is granted under them at this moment. Where a run ends with status 1,
+/// one of the anchors is not made, or FILE begins with no attestation that is granted under them, if
+/// no two carried CAs have one key identifier, and end entities that share one have one key.
+pub fn attestations_are_right()
+    ensures yes { (told : Told) (words : List (List ℕ)) (before after : List (List ℕ)) (run : Run)
+        (options : Options) (now : Moment) (file list : List ℕ) (anchors : List (List ℕ))
+        (object text : List ℕ) (octets : List (List ℕ))
+        → IsRunOf objects_program told words before after run
+        → IsAsked objects_language words (rta_order options now file list anchors)
+        → AreTold told (file ∷ list ∷ files_of_anchors anchors) (object ∷ text ∷ octets)
+        → run.status ≡ 0
+        → HoldsByList (λ verdict. IsRightRta verdict now anchors object octets run) text }
+    ensures no { (told : Told) (words : List (List ℕ)) (before after : List (List ℕ)) (run : Run)
+        (options : Options) (now : Moment) (file list : List ℕ) (anchors : List (List ℕ))
+        (object text : List ℕ) (octets : List (List ℕ))
+        → IsRunOf objects_program told words before after run
+        → IsAsked objects_language words (rta_order options now file list anchors)
+        → AreTold told (file ∷ list ∷ files_of_anchors anchors) (object ∷ text ∷ octets)
+        → run.status ≡ 1
+        → HoldsByList (λ verdict. IsRightNoRta verdict now anchors object octets) text }
 {}

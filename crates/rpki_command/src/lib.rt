@@ -2,6 +2,8 @@
 //! and with which exit status. Those of the program that computes signatures stand in `verify`.
 #![tactic(auto)]
 
+mod anchor_words;
+mod anchors;
 pub mod answer;
 mod arguments;
 mod attestation;
@@ -16,6 +18,7 @@ mod objects;
 mod pairs;
 mod program;
 mod read_log;
+mod rta;
 mod runs;
 mod store;
 mod texts;

@@ -3,6 +3,7 @@
 ghost use Rattle.std.specs.Prelude.{◌≡◌};
 ghost use Rattle.rpki_command.specs.Answer.{said};
 ghost use Rattle.rpki_command.specs.Contents.{IsShown, IsLinesOf};
+ghost use Rattle.rpki_command.specs.Locator.{IsLocatorOf};
 ghost use Rattle.rpki_command.specs.Refusal.{tal_refusal};
 ghost use Rattle.rpki_command.specs.Texts.Tal.{TalLines, tal_text};
 ghost use Rattle.rpki_command.specs.declared.contents.Causes.TheVariants.{Omitted};
@@ -46,15 +47,25 @@ impl Source for Octets<'_> {
     }
 }
 
-/// Answers with the lines of the locator that the octets are, if they are one. Its name, which no
-/// line shows, is empty.
+/// The locator that the octets are, if they are one. Its name is empty.
+pub fn locator_of(alloc: Global, octets: &[u8]) -> Result<Tal, ReadError>
+    ensures { IsLocatorOf octets.now result }
+{
+    let mut source = Octets { rest: octets };
+    Tal::read_named(alloc, String::new(alloc), &mut source)
+}
+
+/// Answers with the lines of the locator that the octets are, if they are one.
 pub fn show_tal<'a>(alloc: Global, octets: &[u8]) -> Answer<'a>
     ensures { IsShown Omitted TalLines octets.now (said result) }
 {
-    let mut source = Octets { rest: octets };
-    match Tal::read_named(alloc, String::new(alloc), &mut source) {
+    match locator_of(alloc, octets) {
         Err(error) => refusal(error),
-        Ok(tal) => show_lines(alloc, &tal),
+        Ok(tal) => {
+            let answer = show_lines(alloc, &tal);
+            drop(tal);
+            answer
+        }
     }
 }
 

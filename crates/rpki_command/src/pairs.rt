@@ -55,7 +55,7 @@ pub fn name_of<'a>(pair: &'a str) -> &'a str
 }
 
 /// The path of a pair.
-fn path_of<'a>(pair: &'a str) -> &'a str
+pub fn path_of<'a>(pair: &'a str) -> &'a str
     ensures { result.now ≡ path_in pair.now }
 {
     cut_pair(pair).1

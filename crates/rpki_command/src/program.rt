@@ -16,9 +16,10 @@ use crate::answer::Answer;
 use crate::attestation::{show_attestation, show_rta};
 use crate::check::CheckByList;
 use crate::contents::{Causes, show_kind};
-use crate::files::{answer_files, answer_tail};
+use crate::files::{answer_anchors, answer_files, answer_tail};
 use crate::locator::show_tal;
 use crate::objects::show_object;
+use crate::rta::RtaByList;
 use crate::runs::Program;
 use crate::store::{Store, StoreError};
 use crate::walk::WalkByList;
@@ -62,7 +63,7 @@ fn answer<'a, S: Store>(alloc: Global, words: &'a [&'a str], store: &mut S) -> A
 }
 
 /// What the program answers to an order, where the causes of refusals of what is shown are said, or
-/// not. A command that there is not yet is answered with the usage.
+/// not.
 pub fn answer_order<'a, S: Store>(
     alloc: Global,
     causes: Causes,
@@ -114,7 +115,19 @@ pub fn answer_order<'a, S: Store>(
             let before = [file.0, verdicts.0, anchor.0];
             answer_tail(alloc, walk, &before, tail.0, store)
         }
-        Command::Rta { .. } => Answer::Usage,
+        Command::Rta {
+            file,
+            moment,
+            verdicts,
+            anchors,
+        } => {
+            let rta = RtaByList {
+                moment: *moment,
+                anchors: anchors.0,
+            };
+            let before = [file.0, verdicts.0];
+            answer_anchors(alloc, rta, &before, anchors.0, store)
+        }
     }
 }
 

@@ -7,11 +7,13 @@ ghost use Rattle.rpki_command.specs.Command.{objects_language};
 ghost use Rattle.rpki_command.specs.Language.{IsAsked, AskForNothing};
 ghost use Rattle.rpki_command.specs.Words.{texts, kind_word, word_if, word_registered, word_wide};
 ghost use Rattle.rpki_command.specs.Words.{with_options, command_words, files_of, are_named};
-ghost use Rattle.rpki_command.specs.Words.{moment_word, IsProper, AskForNoWalk, AskForNothingElse};
+ghost use Rattle.rpki_command.specs.Words.{moment_word, IsProper, AskForNoWalk, AskForNoRta};
+ghost use Rattle.rpki_command.specs.Words.{AskForNothingElse};
 ghost use Rattle.rpki_command.specs.declared.words.Kind.{Kind};
 ghost use Rattle.rpki_command.specs.declared.words.Command.{Command};
 ghost use Rattle.rpki_command.specs.declared.words.Order.{Order};
 
+use crate::anchor_words::{are_anchors, are_anchors_named};
 use crate::pairs::{are_others_named, has_with};
 use rpki_basics::{ManifestRule, ProviderLimit, Time};
 use std::marker::Model;
@@ -97,12 +99,13 @@ pub enum Command<'a> {
         anchor: Word<'a>,
         tail: Words<'a>,
     },
-    /// To check a Resource Tagged Attestation under these anchors.
+    /// To check a Resource Tagged Attestation under these anchors: locators, tal=FILE, and CAs,
+    /// ca=FILE[:FILE ..], each of which is the last certificate of a chain that begins with a trust
+    /// anchor.
     Rta {
         file: Word<'a>,
         moment: Time,
         verdicts: Word<'a>,
-        anchor: Word<'a>,
         anchors: Words<'a>,
     },
 }
@@ -196,7 +199,12 @@ pub fn each_named(command: &Command<'_>) -> bool
                 && !anchor.0.is_empty()
                 && are_others_named(tail.0)
         }
-        Command::Rta { file, verdicts, .. } => !file.0.is_empty() && !verdicts.0.is_empty(),
+        Command::Rta {
+            file,
+            verdicts,
+            anchors,
+            ..
+        } => !file.0.is_empty() && !verdicts.0.is_empty() && are_anchors_named(anchors.0),
     }
 }
 
@@ -285,11 +293,12 @@ pub fn parse_command<'a>(words: &'a [&'a str]) -> Option<Command<'a>>
 {
     match words {
         ["walk", rest @ ..] => parse_walk(rest),
+        ["rta", rest @ ..] => parse_rta(rest),
         _ => parse_other(words),
     }
 }
 
-/// The command of words that don't ask for a walk.
+/// The command of words that ask for no walk and no check of an attestation.
 fn parse_other<'a>(words: &'a [&'a str]) -> Option<Command<'a>>
     ensures { MatchOption result (AskForNothingElse (texts words.now))
         (λ c. (texts words.now ≡ command_words c) × IsProper c) }
@@ -314,13 +323,6 @@ fn parse_other<'a>(words: &'a [&'a str]) -> Option<Command<'a>>
             anchor: Word(anchor),
             chain: Words(chain),
         }),
-        ["rta", file, moment, verdicts, anchor, anchors @ ..] => Some(Command::Rta {
-            moment: moment_of(moment)?,
-            file: Word(file),
-            verdicts: Word(verdicts),
-            anchor: Word(anchor),
-            anchors: Words(anchors),
-        }),
         _ => None,
     }
 }
@@ -340,6 +342,29 @@ fn parse_walk<'a>(words: &'a [&'a str]) -> Option<Command<'a>>
                     verdicts: Word(verdicts),
                     anchor: Word(anchor),
                     tail: Words(tail),
+                })
+            } else {
+                None
+            }
+        }
+        _ => None,
+    }
+}
+
+/// The check of an attestation that these words ask for, after the first.
+fn parse_rta<'a>(words: &'a [&'a str]) -> Option<Command<'a>>
+    ensures { MatchOption result (AskForNoRta (texts words.now))
+        (λ c. (codes "rta" ∷ texts words.now ≡ command_words c) × IsProper c) }
+{
+    match words {
+        [file, moment, verdicts, anchors @ ..] => {
+            let moment = moment_of(moment)?;
+            if are_anchors(anchors) {
+                Some(Command::Rta {
+                    file: Word(file),
+                    moment,
+                    verdicts: Word(verdicts),
+                    anchors: Words(anchors),
                 })
             } else {
                 None

@@ -18,11 +18,11 @@ use Rattle.rpki_command.proofs.Orders.{moments-once}
 use Rattle.rpki_command.specs.Verify.Words.{when_word, IsWhen, is_shared, verify_words, files_in}
 use Rattle.rpki_command.specs.Verify.Words.{IsFit, verify_language, IsPlain}
 use Rattle.rpki_command.specs.Verify.Words.{AskForNoCheck, AskForNoList, AskForNothingShared}
-use Rattle.rpki_command.specs.Verify.Words.{AskForNoWalk, AskForNothingElse, is_walk}
+use Rattle.rpki_command.specs.Verify.Words.{AskForNoWalk, AskForNoRta, AskForNothingElse, has_tail}
 use Rattle.rpki_command.specs.Verify.Words.{IsSharedBy, IsOptioned}
 use Rattle.rpki_command.specs.declared.verify.words.VerifyCommand.{VerifyCommand}
 use Rattle.rpki_command.specs.declared.verify.words.VerifyCommand.TheVariants.{Help, Shared, Check}
-use Rattle.rpki_command.specs.declared.verify.words.VerifyCommand.TheVariants.{Verdicts, Walk}
+use Rattle.rpki_command.specs.declared.verify.words.VerifyCommand.TheVariants.{Verdicts, Walk, Rta}
 use Rattle.rpki_command.specs.declared.verify.words.When.{When}
 use Rattle.rpki_command.specs.declared.verify.words.When.TheVariants.{Now, At}
 use Rattle.rpki_command.proofs.Verified.Optioned.{options-once}
@@ -53,7 +53,7 @@ shared-in-time (commands.ContentRta file) s = tt
 shared-in-time (commands.ShowRta file) s = tt
 shared-in-time (commands.Check kind file moment verdicts anchor chain) s = absurd cc
 shared-in-time (commands.Walk file moment verdicts anchor tail) s = absurd cc
-shared-in-time (commands.Rta file moment verdicts anchor anchors) s = absurd cc
+shared-in-time (commands.Rta file moment verdicts anchors) s = absurd cc
 
 not-help : (c : Command) (rest : List (List ℕ)) → command_words c ≡ codes "--help" ∷ rest → ⊥
 not-help c rest e = search rules
@@ -82,6 +82,18 @@ check-not-walk rest tail e = search rules
 list-not-walk : (rest tail : List (List ℕ)) → codes "walk" ∷ rest ≡ codes "verdicts" ∷ tail → ⊥
 list-not-walk rest tail e = search rules
 
+help-not-rta : (rest : List (List ℕ)) → codes "rta" ∷ rest ≡ codes "--help" ∷ [] → ⊥
+help-not-rta rest e = search rules
+
+check-not-rta : (rest tail : List (List ℕ)) → codes "rta" ∷ rest ≡ codes "check" ∷ tail → ⊥
+check-not-rta rest tail e = search rules
+
+list-not-rta : (rest tail : List (List ℕ)) → codes "rta" ∷ rest ≡ codes "verdicts" ∷ tail → ⊥
+list-not-rta rest tail e = search rules
+
+walk-not-rta : (rest tail : List (List ℕ)) → codes "rta" ∷ rest ≡ codes "walk" ∷ tail → ⊥
+walk-not-rta rest tail e = search rules
+
 not-list : (c : Command) (rest : List (List ℕ)) → command_words c ≡ codes "verdicts" ∷ rest → ⊥
 not-list c rest e = search rules
 
@@ -93,6 +105,10 @@ not-check c rest s e = search rules
 not-walk : (c : Command) (rest : List (List ℕ)) → IsTrue (is_shared c)
     → command_words c ≡ codes "walk" ∷ rest → ⊥
 not-walk c rest s e = search rules
+
+not-rta : (c : Command) (rest : List (List ℕ)) → IsTrue (is_shared c)
+    → command_words c ≡ codes "rta" ∷ rest → ⊥
+not-rta c rest s e = search rules
 
 checks-same : (k l : Kind) (f g : List ℕ) (v w : When) (a b : List ℕ) (c d : List (List ℕ))
     → k ≡ l → f ≡ g → v ≡ w → a ≡ b → c ≡ d → Check k f v a c ≡ Check l g w b d
@@ -106,6 +122,10 @@ walks-same : (f g : List ℕ) (v w : When) (a b : List ℕ) (c d : List (List �
     → a ≡ b → c ≡ d → Walk f v a c ≡ Walk g w b d
 walks-same f g v w a b c d p q r s = cc
 
+rtas-same : (f g : List ℕ) (v w : When) (a b : List (List ℕ)) → f ≡ g → v ≡ w → a ≡ b
+    → Rta f v a ≡ Rta g w b
+rtas-same f g v w a b p q r = cc
+
 pub commands-once : (a b : VerifyCommand) → IsFit a → IsFit b → verify_words a ≡ verify_words b → a
     ≡ b
 commands-once Help Help i j e = refl
@@ -113,6 +133,7 @@ commands-once Help (Shared c) i j e = absurd (not-help c _ (sym e))
 commands-once Help (Check k f m a c) i j e = absurd (help-first _ (sym e))
 commands-once Help (Verdicts f a c) i j e = absurd (help-not-list _ (sym e))
 commands-once Help (Walk f m a t) i j e = absurd (help-not-walk _ (sym e))
+commands-once Help (Rta f m a) i j e = absurd (help-not-rta _ (sym e))
 commands-once (Shared c) Help i j e = absurd (not-help c _ e)
 commands-once (Shared c) (Shared d) i j e =
     ap (λ (x : Command). Shared x)
@@ -120,6 +141,7 @@ commands-once (Shared c) (Shared d) i j e =
 commands-once (Shared c) (Check k f m a d) i j e = absurd (not-check c _ i e)
 commands-once (Shared c) (Verdicts f a d) i j e = absurd (not-list c _ e)
 commands-once (Shared c) (Walk f m a t) i j e = absurd (not-walk c _ i e)
+commands-once (Shared c) (Rta f m a) i j e = absurd (not-rta c _ i e)
 commands-once (Check k f m a c) Help i j e = absurd (help-first _ e)
 commands-once (Check k f m a c) (Shared d) i j e = absurd (not-check d _ j (sym e))
 commands-once (Check k f m a c) (Check l g n b d) i j e =
@@ -131,6 +153,7 @@ commands-once (Check k f m a c) (Check l g n b d) i j e =
     checks-same k l f g m n a b c d (kind-once k l p) r (when-once m n i j q) s t
 commands-once (Check k f m a c) (Verdicts g b d) i j e = absurd (check-not-list _ _ (sym e))
 commands-once (Check k f m a c) (Walk g n b t) i j e = absurd (check-not-walk _ _ (sym e))
+commands-once (Check k f m a c) (Rta g n b) i j e = absurd (check-not-rta _ _ (sym e))
 commands-once (Verdicts f a c) Help i j e = absurd (help-not-list _ e)
 commands-once (Verdicts f a c) (Shared d) i j e = absurd (not-list d _ (sym e))
 commands-once (Verdicts f a c) (Check k g m b d) i j e = absurd (check-not-list _ _ e)
@@ -140,6 +163,7 @@ commands-once (Verdicts f a c) (Verdicts g b d) i j e =
     let r : c ≡ d = cc in
     lists-same f g a b c d p q r
 commands-once (Verdicts f a c) (Walk g m b t) i j e = absurd (list-not-walk _ _ (sym e))
+commands-once (Verdicts f a c) (Rta g m b) i j e = absurd (list-not-rta _ _ (sym e))
 commands-once (Walk f m a t) Help i j e = absurd (help-not-walk _ e)
 commands-once (Walk f m a t) (Shared d) i j e = absurd (not-walk d _ j (sym e))
 commands-once (Walk f m a t) (Check k g n b d) i j e = absurd (check-not-walk _ _ e)
@@ -150,6 +174,17 @@ commands-once (Walk f m a t) (Walk g n b u) i j e =
     let r : a ≡ b = cc in
     let s : t ≡ u = cc in
     walks-same f g m n a b t u p (when-once m n i.0 j.0 q) r s
+commands-once (Walk f m a t) (Rta g n b) i j e = absurd (walk-not-rta _ _ (sym e))
+commands-once (Rta f m a) Help i j e = absurd (help-not-rta _ e)
+commands-once (Rta f m a) (Shared d) i j e = absurd (not-rta d _ j (sym e))
+commands-once (Rta f m a) (Check k g n b d) i j e = absurd (check-not-rta _ _ e)
+commands-once (Rta f m a) (Verdicts g b d) i j e = absurd (list-not-rta _ _ e)
+commands-once (Rta f m a) (Walk g n b u) i j e = absurd (walk-not-rta _ _ e)
+commands-once (Rta f m a) (Rta g n b) i j e =
+    let p : f ≡ g = cc in
+    let q : when_word m ≡ when_word n = cc in
+    let r : a ≡ b = cc in
+    rtas-same f g m n a b p (when-once m n i.0 j.0 q) r
 
 relaxed-not : (c : Command) (rest : List (List ℕ)) → command_words c ≡ word_relaxed ∷ rest → ⊥
 relaxed-not c rest e = search rules
@@ -199,6 +234,15 @@ walk-registered words rest e = search rules
 walk-wide : (words rest : List (List ℕ)) → codes "walk" ∷ words ≡ word_wide ∷ rest → ⊥
 walk-wide words rest e = search rules
 
+rta-relaxed : (words rest : List (List ℕ)) → codes "rta" ∷ words ≡ word_relaxed ∷ rest → ⊥
+rta-relaxed words rest e = search rules
+
+rta-registered : (words rest : List (List ℕ)) → codes "rta" ∷ words ≡ word_registered ∷ rest → ⊥
+rta-registered words rest e = search rules
+
+rta-wide : (words rest : List (List ℕ)) → codes "rta" ∷ words ≡ word_wide ∷ rest → ⊥
+rta-wide words rest e = search rules
+
 -- the words of a command begin with no option
 pub commands-plain : (a : VerifyCommand) → IsPlain (verify_words a)
 commands-plain Help = record {
@@ -225,6 +269,11 @@ commands-plain (Walk f m a t) = record {
   relaxed = walk-relaxed _;
   registered = walk-registered _;
   wide = walk-wide _;
+}
+commands-plain (Rta f m a) = record {
+  relaxed = rta-relaxed _;
+  registered = rta-registered _;
+  wide = rta-wide _;
 }
 
 abbrev made : Options → VerifyCommand → Order VerifyCommand
@@ -284,6 +333,7 @@ check_none words rest w n (Shared c) e i = not-check c rest i (sym e ∙ w)
 check_none words rest w n (Check k f m a c) e i = n k f m a c (rest-same (sym w ∙ e)) i
 check_none words rest w n (Verdicts f a c) e i = check-not-list _ rest (sym e ∙ w)
 check_none words rest w n (Walk f m a t) e i = check-not-walk _ rest (sym e ∙ w)
+check_none words rest w n (Rta f m a) e i = check-not-rta _ rest (sym e ∙ w)
 
 pub list_none : (words rest : List (List ℕ)) → words ≡ codes "verdicts" ∷ rest
     → AskForNoList rest → (a : VerifyCommand) → words ≡ verify_words a → IsFit a → ⊥
@@ -292,6 +342,7 @@ list_none words rest w n (Shared c) e i = not-list c rest (sym e ∙ w)
 list_none words rest w n (Check k f m a c) e i = check-not-list rest _ (sym w ∙ e)
 list_none words rest w n (Verdicts f a c) e i = n f a c (rest-same (sym w ∙ e))
 list_none words rest w n (Walk f m a t) e i = list-not-walk _ rest (sym e ∙ w)
+list_none words rest w n (Rta f m a) e i = list-not-rta _ rest (sym e ∙ w)
 
 pub walk_none : (words rest : List (List ℕ)) → words ≡ codes "walk" ∷ rest → AskForNoWalk rest
     → (a : VerifyCommand) → words ≡ verify_words a → IsFit a → ⊥
@@ -300,6 +351,16 @@ walk_none words rest w n (Shared c) e i = not-walk c rest i (sym e ∙ w)
 walk_none words rest w n (Check k f m a c) e i = check-not-walk rest _ (sym w ∙ e)
 walk_none words rest w n (Verdicts f a c) e i = list-not-walk rest _ (sym w ∙ e)
 walk_none words rest w n (Walk f m a t) e i = n f m a t (rest-same (sym w ∙ e)) i.0 i.1
+walk_none words rest w n (Rta f m a) e i = walk-not-rta _ rest (sym e ∙ w)
+
+pub rta_none : (words rest : List (List ℕ)) → words ≡ codes "rta" ∷ rest → AskForNoRta rest
+    → (a : VerifyCommand) → words ≡ verify_words a → IsFit a → ⊥
+rta_none words rest w n Help e i = help-not-rta rest (sym w ∙ e)
+rta_none words rest w n (Shared c) e i = not-rta c rest i (sym e ∙ w)
+rta_none words rest w n (Check k f m a c) e i = check-not-rta rest _ (sym w ∙ e)
+rta_none words rest w n (Verdicts f a c) e i = list-not-rta rest _ (sym w ∙ e)
+rta_none words rest w n (Walk f m a t) e i = walk-not-rta rest _ (sym w ∙ e)
+rta_none words rest w n (Rta f m a) e i = n f m a (rest-same (sym w ∙ e)) i.0 i.1
 
 pub check_of : (words rest : List (List ℕ)) (r : Option VerifyCommand) → words ≡ codes "check"
     ∷ rest
@@ -321,13 +382,14 @@ list_of words rest (Some a) w h = (w ∙ h.0, h.1)
 pub other_none : (words : List (List ℕ)) → (words ≡ codes "--help" ∷ [] → ⊥)
     → ((rest : List (List ℕ)) → words ≡ codes "check" ∷ rest → ⊥)
     → ((rest : List (List ℕ)) → words ≡ codes "verdicts" ∷ rest → ⊥)
-    → AskForNothingShared words → (a : VerifyCommand) → is_walk a ≡ false → words ≡ verify_words a
+    → AskForNothingShared words → (a : VerifyCommand) → has_tail a ≡ false → words ≡ verify_words a
     → IsFit a → ⊥
 other_none words h k v n Help f e i = h e
 other_none words h k v n (Shared c) f e i = n c e i
 other_none words h k v n (Check d g m a c) f e i = k _ e
 other_none words h k v n (Verdicts g a c) f e i = v _ e
 other_none words h k v n (Walk g m a t) f e i = absurd cc
+other_none words h k v n (Rta g m a) f e i = absurd cc
 
 pub walk_of : (words rest : List (List ℕ)) (r : Option VerifyCommand) → words ≡ codes "walk" ∷ rest
     → MatchOption r (AskForNoWalk rest)
@@ -337,23 +399,34 @@ pub walk_of : (words rest : List (List ℕ)) (r : Option VerifyCommand) → word
 walk_of words rest None w n = walk_none words rest w n
 walk_of words rest (Some a) w h = (w ∙ h.0, h.1)
 
-unwalked : (words : List (List ℕ)) → ((rest : List (List ℕ)) → words ≡ codes "walk" ∷ rest → ⊥)
-    → AskForNothingElse words → (a : VerifyCommand) → words ≡ verify_words a → IsFit a → ⊥
-unwalked words w n Help e i = n Help refl e i
-unwalked words w n (Shared c) e i = n (Shared c) refl e i
-unwalked words w n (Check d f m a c) e i = n (Check d f m a c) refl e i
-unwalked words w n (Verdicts f a c) e i = n (Verdicts f a c) refl e i
-unwalked words w n (Walk f m a t) e i = w _ e
-
-pub other_of : (words : List (List ℕ)) (r : Option VerifyCommand)
-    → ((rest : List (List ℕ)) → words ≡ codes "walk" ∷ rest → ⊥)
-    → MatchOption r (AskForNothingElse words) (λ a. (words ≡ verify_words a) × IsFit a)
+pub rta_of : (words rest : List (List ℕ)) (r : Option VerifyCommand) → words ≡ codes "rta" ∷ rest
+    → MatchOption r (AskForNoRta rest)
+    (λ a. (codes "rta" ∷ rest ≡ verify_words a) × IsFit a)
     → MatchOption r ((a : VerifyCommand) → words ≡ verify_words a → IsFit a → ⊥)
     (λ a. (words ≡ verify_words a) × IsFit a)
-other_of words None w n = unwalked words w n
-other_of words (Some a) w h = h
+rta_of words rest None w n = rta_none words rest w n
+rta_of words rest (Some a) w h = (w ∙ h.0, h.1)
 
-pub ruleset by_walk = (walk_of, other_of)
+untailed : (words : List (List ℕ)) → ((rest : List (List ℕ)) → words ≡ codes "walk" ∷ rest → ⊥)
+    → ((rest : List (List ℕ)) → words ≡ codes "rta" ∷ rest → ⊥)
+    → AskForNothingElse words → (a : VerifyCommand) → words ≡ verify_words a → IsFit a → ⊥
+untailed words w r n Help e i = n Help refl e i
+untailed words w r n (Shared c) e i = n (Shared c) refl e i
+untailed words w r n (Check d f m a c) e i = n (Check d f m a c) refl e i
+untailed words w r n (Verdicts f a c) e i = n (Verdicts f a c) refl e i
+untailed words w r n (Walk f m a t) e i = w _ e
+untailed words w r n (Rta f m a) e i = r _ e
+
+pub other_of : (words : List (List ℕ)) (o : Option VerifyCommand)
+    → ((rest : List (List ℕ)) → words ≡ codes "walk" ∷ rest → ⊥)
+    → ((rest : List (List ℕ)) → words ≡ codes "rta" ∷ rest → ⊥)
+    → MatchOption o (AskForNothingElse words) (λ a. (words ≡ verify_words a) × IsFit a)
+    → MatchOption o ((a : VerifyCommand) → words ≡ verify_words a → IsFit a → ⊥)
+    (λ a. (words ≡ verify_words a) × IsFit a)
+other_of words None w r n = untailed words w r n
+other_of words (Some a) w r h = h
+
+pub ruleset by_tail = (walk_of, rta_of, other_of)
 
 pub shared_is : (words : List (List ℕ)) (a : VerifyCommand) → IsSharedBy words a
     → (words ≡ verify_words a) × IsFit a
@@ -362,5 +435,6 @@ shared_is words (Shared c) s = s
 shared_is words (Check d f m a c) s = absurd s
 shared_is words (Verdicts f a c) s = absurd s
 shared_is words (Walk f m a t) s = absurd s
+shared_is words (Rta f m a) s = absurd s
 
 pub ruleset by_first_word = (check_of, list_of, other_none, shared_is)

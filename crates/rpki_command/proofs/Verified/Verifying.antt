@@ -23,3 +23,17 @@ of-files P files o a object anchor d f l i k h =
     let both = subst (λ (front : List ℕ). P (front ∷ a.items ∷ octets_of (drop 2 files))) d
     anchored in
     subst (λ (fs : List (Vec ℕ Global)). P (octets_of fs)) (sym (two files o a l i k)) both
+
+one : {T : Type 0} (xs : List T) (a : T) → 1 ≤ length xs → a ≡ get_or xs 0 a → xs ≡ a ∷ drop 1 xs
+one [] a l e = absurd (omega arith)
+one (x ∷ rest) a l e = let p : a ≡ x = e in rw p
+
+-- the same of the first file and of the others
+pub of-first : (P : List (List ℕ) → Type 0) (files : List (Vec ℕ Global)) (o : Vec ℕ Global)
+    (object : List ℕ) → object ≡ o.items → 1 ≤ length files → o ≡ get_or files 0 o
+    → P (object ∷ octets_of (take (length files - 1) (drop 1 files))) → P (octets_of files)
+of-first P files o object d l i h =
+    let rest = subst (λ (tail : List (Vec ℕ Global)). P (object ∷ octets_of tail))
+    (take_rest files 1) h in
+    let whole = subst (λ (front : List ℕ). P (front ∷ octets_of (drop 1 files))) d rest in
+    subst (λ (fs : List (Vec ℕ Global)). P (octets_of fs)) (sym (one files o l i)) whole

@@ -17,6 +17,7 @@ use Rattle.rpki_command.specs.Check.{IsCheckedWith, issuer_refusal}
 use Rattle.rpki_command.specs.Walk.{IsWalkedWith}
 use Rattle.rpki_command.specs.Options.{read_mode}
 use Rattle.rpki_command.specs.Refusal.{IsRefusal}
+use Rattle.rpki_command.specs.Rta.{IsAttestedWith}
 use Rattle.rpki_command.specs.declared.contents.Causes.TheVariants.{Omitted, Included}
 use Rattle.rpki_command.specs.declared.words.Kind.{Kind}
 use Rattle.rpki_command.specs.declared.words.Options.{Options}
@@ -36,6 +37,12 @@ abbrev pub VerifiedWalkOf : Options → List (List ℕ) → Moment → List (Lis
 VerifiedWalkOf options tail now (object ∷ anchor ∷ others) s =
     IsWalkedWith Included options sha256 is_rsa_signature now tail object anchor others s
 VerifiedWalkOf options tail now files s = ⊥
+
+-- What is said of files: of the attestation, and those that these anchors name.
+abbrev pub VerifiedRtaOf : List (List ℕ) → Moment → List (List ℕ) → Output → Type 0
+VerifiedRtaOf words now (object ∷ files) s =
+    IsAttestedWith Included sha256 is_rsa_signature now words object files s
+VerifiedRtaOf words now files s = ⊥
 
 -- What is said where the good ones of the signatures that a check asks about are listed: first that
 -- a certificate is none, then that the object is none, and else the list, unless memory runs out.

@@ -5,14 +5,14 @@ use Rattle.rpki_basics.specs.Moment.{Moment, IsMoment}
 use Rattle.rpki_command.specs.Language.{Language}
 use Rattle.rpki_command.specs.Words.{kind_word, word_if, word_relaxed, word_registered, word_wide}
 use Rattle.rpki_command.specs.Words.{with_options, moment_word, command_words, files_of}
-use Rattle.rpki_command.specs.Words.{word_with, others_in}
+use Rattle.rpki_command.specs.Words.{word_with, others_in, are_anchors, files_of_anchors}
 use Rattle.rpki_command.specs.declared.words.Command.{Command}
 use Rattle.rpki_command.specs.declared.words.Command.TheVariants as commands
 use Rattle.rpki_command.specs.declared.words.Kind.{Kind}
 use Rattle.rpki_command.specs.declared.words.Options.{Options}
 use Rattle.rpki_command.specs.declared.verify.words.VerifyCommand.{VerifyCommand}
 use Rattle.rpki_command.specs.declared.verify.words.VerifyCommand.TheVariants.{Help, Shared, Check}
-use Rattle.rpki_command.specs.declared.verify.words.VerifyCommand.TheVariants.{Verdicts, Walk}
+use Rattle.rpki_command.specs.declared.verify.words.VerifyCommand.TheVariants.{Verdicts, Walk, Rta}
 use Rattle.rpki_command.specs.declared.verify.words.When.{When}
 use Rattle.rpki_command.specs.declared.verify.words.When.TheVariants.{Now, At}
 
@@ -50,6 +50,7 @@ verify_words (Check kind file moment anchor chain) =
 verify_words (Verdicts file anchor chain) = codes "verdicts" ∷ file ∷ anchor ∷ chain
 verify_words (Walk file moment anchor tail) =
     codes "walk" ∷ file ∷ when_word moment ∷ anchor ∷ tail
+verify_words (Rta file moment anchors) = codes "rta" ∷ file ∷ when_word moment ∷ anchors
 
 -- the files that are named by a word, in the order of the words
 abbrev pub files_in : VerifyCommand → List (List ℕ)
@@ -58,15 +59,18 @@ files_in (Shared command) = files_of command
 files_in (Check kind file moment anchor chain) = file ∷ anchor ∷ chain
 files_in (Verdicts file anchor chain) = file ∷ anchor ∷ chain
 files_in (Walk file moment anchor tail) = file ∷ anchor ∷ others_in tail
+files_in (Rta file moment anchors) = file ∷ files_of_anchors anchors
 
 -- A command is fit: the one of the other program, if it has one, shows a file, its moment, if it
--- has one, is one of the calendar, and the words of a walk have a `with` after the trust anchor.
+-- has one, is one of the calendar, the words of a walk have a `with` after the trust anchor, and
+-- those of an attestation end with anchors.
 abbrev pub IsFit : VerifyCommand → Type 0
 IsFit Help = Unit {0}
 IsFit (Shared command) = IsTrue (is_shared command)
 IsFit (Check kind file moment anchor chain) = IsWhen moment
 IsFit (Verdicts file anchor chain) = Unit {0}
 IsFit (Walk file moment anchor tail) = IsWhen moment × Contains tail word_with
+IsFit (Rta file moment anchors) = IsWhen moment × IsTrue (are_anchors anchors)
 
 -- how the orders of the program with signatures are written
 abbrev pub verify_language : Language
@@ -95,14 +99,20 @@ abbrev pub AskForNoWalk : List (List ℕ) → Type 0
 AskForNoWalk words = (file : List ℕ) (moment : When) (anchor : List ℕ) (tail : List (List ℕ))
     → words ≡ file ∷ when_word moment ∷ anchor ∷ tail → IsWhen moment → Contains tail word_with → ⊥
 
--- whether a command is a walk
-abbrev pub is_walk : VerifyCommand → Bool
-is_walk (Walk file moment anchor tail) = true
-is_walk other = false
+-- words after the word `rta` ask for no check of an attestation
+abbrev pub AskForNoRta : List (List ℕ) → Type 0
+AskForNoRta words = (file : List ℕ) (moment : When) (anchors : List (List ℕ))
+    → words ≡ file ∷ when_word moment ∷ anchors → IsWhen moment → IsTrue (are_anchors anchors) → ⊥
 
--- the words ask for nothing but, perhaps, a walk
+-- whether a command is a walk, or checks an attestation
+abbrev pub has_tail : VerifyCommand → Bool
+has_tail (Walk file moment anchor tail) = true
+has_tail (Rta file moment anchors) = true
+has_tail other = false
+
+-- the words ask for nothing but, perhaps, a walk or a check of an attestation
 abbrev pub AskForNothingElse : List (List ℕ) → Type 0
-AskForNothingElse words = (c : VerifyCommand) → is_walk c ≡ false → words ≡ verify_words c
+AskForNothingElse words = (c : VerifyCommand) → has_tail c ≡ false → words ≡ verify_words c
     → IsFit c → ⊥
 
 -- they do not ask to show what a file holds

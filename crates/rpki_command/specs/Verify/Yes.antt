@@ -11,7 +11,7 @@ use Rattle.rpki_command.specs.declared.words.Kind.{Kind}
 use Rattle.rpki_command.specs.declared.words.Options.{Options}
 use Rattle.rpki_command.specs.declared.words.Order.{Order}
 use Rattle.rpki_command.specs.declared.verify.words.VerifyCommand.{VerifyCommand}
-use Rattle.rpki_command.specs.declared.verify.words.VerifyCommand.TheVariants.{Check, Verdicts, Walk}
+use Rattle.rpki_command.specs.declared.verify.words.VerifyCommand.TheVariants.{Check, Verdicts, Walk, Rta}
 use Rattle.rpki_command.specs.declared.verify.words.When.{When}
 
 -- the order to check the object in the file of this name, under the certificates in those of the
@@ -36,6 +36,13 @@ abbrev pub verify_walk : Options → When → List ℕ → List ℕ → List (Li
 verify_walk options moment object anchor tail = record {
   options = options;
   command = Walk object moment anchor tail;
+}
+
+-- the order to check the attestation in the file of this name, under these anchors
+abbrev pub verify_rta : Options → When → List ℕ → List (List ℕ) → Order VerifyCommand
+verify_rta options moment object anchors = record {
+  options = options;
+  command = Rta object moment anchors;
 }
 
 -- A list is right: the files begin with a signed object and with certificates, and the run prints

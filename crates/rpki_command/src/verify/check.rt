@@ -6,13 +6,14 @@ ghost use Rattle.rpki_certs.specs.declared.issuer.IssuerError.TheVariants as iss
 ghost use Rattle.rpki_command.specs.Answer.{said};
 ghost use Rattle.rpki_command.specs.Check.{issuer_refusal};
 ghost use Rattle.rpki_command.specs.Verify.Check.{VerifiedOf, ListedOf, IsListingSaid};
-ghost use Rattle.rpki_command.specs.Verify.Check.{VerifiedWalkOf};
-ghost use Rattle.rpki_command.specs.Words.{texts, chain_in};
+ghost use Rattle.rpki_command.specs.Verify.Check.{VerifiedWalkOf, VerifiedRtaOf};
+ghost use Rattle.rpki_command.specs.Words.{texts, chain_in, files_of_anchors};
 
 use crate::answer::Answer;
 use crate::check::check_with;
 use crate::contents::{Causes, refusal};
 use crate::files::Work;
+use crate::rta::check_rta;
 use crate::walk::walk_with;
 use crate::words::{Kind, Options};
 use rpki_basics::Time;
@@ -77,6 +78,24 @@ impl Work for WalkBySignatures<'_> {
     }
 }
 
+/// To check whether the first file begins with an attestation that is granted at this moment. The
+/// others are those that the anchors name.
+#[derive(Drop)]
+pub struct RtaBySignatures<'s> {
+    pub moment: Time,
+    pub anchors: &'s [&'s str],
+}
+
+impl Work for RtaBySignatures<'_> {
+    ghost least = { λ r. 1 + length (files_of_anchors (texts r.anchors.now)) };
+
+    ghost says = { λ r. VerifiedRtaOf (texts r.anchors.now) r.moment };
+
+    fn answer<'a>(self, alloc: Global, files: &[Vec<u8>]) -> Answer<'a> {
+        rta_files(alloc, self.anchors, self.moment, files)
+    }
+}
+
 /// Answers whether the first of these files begins with a good object of the kind at this moment,
 /// under the certificates of the others.
 fn check_files<'a>(
@@ -118,6 +137,20 @@ fn walk_files<'a>(
             walk_with(
                 alloc, causes, options, tail, object, anchor, others, &Rsa, now,
             )
+        }
+        _ => unreachable!(),
+    }
+}
+
+/// Answers whether the first of these files begins with an attestation that is granted at this
+/// moment, under the anchors, whose files are the others.
+fn rta_files<'a>(alloc: Global, words: &[&str], now: Time, files: &[Vec<u8>]) -> Answer<'a>
+    requires { 1 + length (files_of_anchors (texts words.now)) ≤ length files.now }
+    ensures { VerifiedRtaOf (texts words.now) now (octets_of files.now) (said result) }
+{
+    match files {
+        [object, others @ ..] => {
+            check_rta(alloc, Causes::Included, object, words, others, &Rsa, now)
         }
         _ => unreachable!(),
     }

@@ -25,9 +25,10 @@ ghost use Rattle.rpki_command.specs.Kinds.{OfKind};
 ghost use Rattle.rpki_command.specs.Options.{read_mode};
 ghost use Rattle.rpki_command.specs.Language.{IsAsked};
 ghost use Rattle.rpki_command.specs.Store.{Told};
-ghost use Rattle.rpki_command.specs.Words.{chain_in, names_in, paths_in};
+ghost use Rattle.rpki_command.specs.Words.{chain_in, names_in, paths_in, files_of_anchors};
 ghost use Rattle.rpki_command.specs.Yes.{FilesOfCheck, in_order};
 ghost use Rattle.rpki_command.specs.Yes.{IsRightYes, IsRightNo, IsRightWalk, HoldsByList};
+ghost use Rattle.rpki_command.specs.Yes.{IsRightRta, IsRightNoRta};
 ghost use Rattle.rpki_command.specs.declared.words.Kind.{Kind};
 ghost use Rattle.rpki_command.specs.declared.words.Kind.TheVariants.{Manifest};
 ghost use Rattle.rpki_command.specs.declared.words.Options.{Options};
@@ -35,7 +36,7 @@ ghost use Rattle.rpki_command.specs.declared.words.Order.{Order};
 ghost use Rattle.rpki_command.specs.Verify.Command.{verify_program};
 ghost use Rattle.rpki_command.specs.Verify.Sufficing.{SaysYesToo, SayTheSame, HaveTheirOwnLines};
 ghost use Rattle.rpki_command.specs.Verify.Words.{verify_language, moment_at};
-ghost use Rattle.rpki_command.specs.Verify.Yes.{verify_order, list_order, verify_walk};
+ghost use Rattle.rpki_command.specs.Verify.Yes.{verify_order, list_order, verify_walk, verify_rta};
 ghost use Rattle.rpki_command.specs.Verify.Yes.{IsRightList, IsRightNoList};
 ghost use Rattle.rpki_command.specs.declared.verify.words.VerifyCommand.{VerifyCommand};
 ghost use Rattle.rpki_command.specs.declared.verify.words.When.{When};
@@ -93,6 +94,31 @@ pub fn walks_are_right()
         → AreTold told (object ∷ anchor ∷ chain_in tail) (in_order files)
         → AreTold told (paths_in tail) octets → run.status ≡ 1
         → IsRightNo options Manifest is_rsa_signature now files }
+{}
+
+/// Where a store tells the files of a check of an attestation, a run of it that ends with status 0
+/// says yes, and that rightly: the files of the anchors make them, and FILE begins with an
+/// attestation that is granted under them at this moment, by signatures as RFC 8017, section 8.2.2,
+/// has them. Where a run ends with status 1, one of the anchors is not made, or FILE begins with no
+/// attestation that is granted under them, if no two carried CAs have one key identifier, and end
+/// entities that share one have one key.
+pub fn attestations_are_right()
+    ensures yes { (told : Told) (clock : Option Moment) (words : List (List ℕ))
+        (before after : List (List ℕ)) (run : Run) (options : Options) (moment : When)
+        (now : Moment) (file : List ℕ) (anchors : List (List ℕ)) (object : List ℕ)
+        (octets : List (List ℕ)) → IsRunOf (verify_program clock) told words before after run
+        → IsAsked verify_language words (verify_rta options moment file anchors)
+        → moment_at clock moment ≡ Some now
+        → AreTold told (file ∷ files_of_anchors anchors) (object ∷ octets) → run.status ≡ 0
+        → IsRightRta is_rsa_signature now anchors object octets run }
+    ensures no { (told : Told) (clock : Option Moment) (words : List (List ℕ))
+        (before after : List (List ℕ)) (run : Run) (options : Options) (moment : When)
+        (now : Moment) (file : List ℕ) (anchors : List (List ℕ)) (object : List ℕ)
+        (octets : List (List ℕ)) → IsRunOf (verify_program clock) told words before after run
+        → IsAsked verify_language words (verify_rta options moment file anchors)
+        → moment_at clock moment ≡ Some now
+        → AreTold told (file ∷ files_of_anchors anchors) (object ∷ octets) → run.status ≡ 1
+        → IsRightNoRta is_rsa_signature now anchors object octets }
 {}
 
 /// Where a store tells the files of a list, a run that ends with status 0 prints the list of the

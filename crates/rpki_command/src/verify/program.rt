@@ -4,17 +4,17 @@ ghost use Rattle.std.specs.Prelude.{◌≡◌, ◌≤◌, ◌∷◌, ◌++◌, l
 ghost use Rattle.rpki_command.specs.Answer.{said};
 ghost use Rattle.rpki_command.specs.Command.{order_task, HasRead, IsTaskAnswer};
 ghost use Rattle.rpki_command.specs.Command.{IsAnswer, HaveRead};
-ghost use Rattle.rpki_command.specs.Words.{texts, others_in};
-ghost use Rattle.rpki_command.specs.Verify.Check.{VerifiedOf, VerifiedWalkOf};
+ghost use Rattle.rpki_command.specs.Words.{texts, others_in, files_of_anchors};
+ghost use Rattle.rpki_command.specs.Verify.Check.{VerifiedOf, VerifiedWalkOf, VerifiedRtaOf};
 ghost use Rattle.rpki_command.specs.Verify.Command.{verify_program, check_task};
 
 use crate::answer::Answer;
 use crate::contents::Causes;
-use crate::files::{answer_files, answer_tail};
+use crate::files::{answer_anchors, answer_files, answer_tail};
 use crate::program::answer_order;
 use crate::runs::Program;
 use crate::store::Store;
-use crate::verify::check::{CheckBySignatures, ListSignatures, WalkBySignatures};
+use crate::verify::check::{CheckBySignatures, ListSignatures, RtaBySignatures, WalkBySignatures};
 use crate::verify::words::{VerifyCommand, parse};
 use crate::words::{Kind, Options, Order};
 use rpki_basics::Time;
@@ -112,6 +112,11 @@ fn answer_verify<'a, S: Store>(
             let moment = moment.moment(now);
             walk_when(alloc, options, moment, file.0, anchor.0, tail.0, store)
         }
+        VerifyCommand::Rta {
+            file,
+            moment,
+            anchors,
+        } => rta_when(alloc, moment.moment(now), file.0, anchors.0, store),
     }
 }
 
@@ -175,6 +180,33 @@ fn walk_when<'a, S: Store>(
                 tail,
             };
             answer_tail(alloc, walk, &[file, anchor], tail, store)
+        }
+    }
+}
+
+/// What the program answers to a check of an attestation under these anchors at a moment, if there
+/// is one.
+fn rta_when<'a, S: Store>(
+    alloc: Global,
+    moment: Option<Time>,
+    file: &'a str,
+    anchors: &'a [&'a str],
+    store: &mut S,
+) -> Answer<'a>
+    ensures said { IsTaskAnswer (S.told store.old)
+        (check_task (file.now ∷ files_of_anchors (texts anchors.now))
+        (VerifiedRtaOf (texts anchors.now)) moment)
+        (S.reads store.old) (S.reads store.new) (said result) }
+    ensures reads { HasRead (check_task (file.now ∷ files_of_anchors (texts anchors.now))
+        (VerifiedRtaOf (texts anchors.now)) moment)
+        (S.reads store.old) (S.reads store.new) }
+    ensures same { S.told store.new ≡ S.told store.old }
+{
+    match moment {
+        None => Answer::NoMoment,
+        Some(moment) => {
+            let rta = RtaBySignatures { moment, anchors };
+            answer_anchors(alloc, rta, &[file], anchors, store)
         }
     }
 }

@@ -7,12 +7,13 @@ ghost use Rattle.rpki_command.specs.Words.{word_relaxed, word_registered, word_w
 ghost use Rattle.rpki_command.specs.Verify.Words.{moment_at, when_word, IsWhen, verify_words};
 ghost use Rattle.rpki_command.specs.Verify.Words.{files_in, is_shared, IsFit, verify_language};
 ghost use Rattle.rpki_command.specs.Verify.Words.{AskForNoCheck, AskForNoList, AskForNoWalk};
-ghost use Rattle.rpki_command.specs.Verify.Words.{AskForNothingElse};
+ghost use Rattle.rpki_command.specs.Verify.Words.{AskForNoRta, AskForNothingElse};
 ghost use Rattle.rpki_command.specs.Verify.Words.{AskForNothingShared, IsSharedBy, IsTaken};
 ghost use Rattle.rpki_command.specs.Verify.Words.{IsOptioned};
 ghost use Rattle.rpki_command.specs.declared.verify.words.VerifyCommand.{VerifyCommand};
 ghost use Rattle.rpki_command.specs.declared.verify.words.When.{When};
 
+use crate::anchor_words::{are_anchors, are_anchors_named};
 use crate::pairs::{are_others_named, has_with};
 use crate::words::{
     Command, Kind, Options, Order, Word, Words, all_named, each_named, kind_of, moment_of,
@@ -72,6 +73,14 @@ pub enum VerifyCommand<'a> {
         anchor: Word<'a>,
         tail: Words<'a>,
     },
+    /// To check a Resource Tagged Attestation under these anchors: locators, tal=FILE, and CAs,
+    /// ca=FILE[:FILE ..], each of which is the last certificate of a chain that begins with a trust
+    /// anchor.
+    Rta {
+        file: Word<'a>,
+        moment: When,
+        anchors: Words<'a>,
+    },
 }
 
 /// What the words ask for, if they ask for anything.
@@ -113,6 +122,9 @@ fn is_each_named(command: &VerifyCommand<'_>) -> bool
             tail,
             ..
         } => !file.0.is_empty() && !anchor.0.is_empty() && are_others_named(tail.0),
+        VerifyCommand::Rta { file, anchors, .. } => {
+            !file.0.is_empty() && are_anchors_named(anchors.0)
+        }
     }
 }
 
@@ -170,7 +182,7 @@ fn take_wide<'a>(words: &'a [&'a str]) -> (bool, &'a [&'a str])
 }
 
 /// The command of words without options.
-#[tactic(auto, using(crate::proofs::Verified::Orders::by_walk))]
+#[tactic(auto, using(crate::proofs::Verified::Orders::by_tail))]
 fn parse_verify<'a>(words: &'a [&'a str]) -> Option<VerifyCommand<'a>>
     ensures { MatchOption result
         ((c : VerifyCommand) → texts words.now ≡ verify_words c → IsFit c → ⊥)
@@ -178,11 +190,12 @@ fn parse_verify<'a>(words: &'a [&'a str]) -> Option<VerifyCommand<'a>>
 {
     match words {
         ["walk", rest @ ..] => parse_walk(rest),
+        ["rta", rest @ ..] => parse_rta(rest),
         _ => parse_other(words),
     }
 }
 
-/// The command of words that don't ask for a walk.
+/// The command of words that ask for no walk and no check of an attestation.
 #[tactic(auto, using(crate::proofs::Verified::Orders::by_first_word))]
 fn parse_other<'a>(words: &'a [&'a str]) -> Option<VerifyCommand<'a>>
     ensures { MatchOption result (AskForNothingElse (texts words.now))
@@ -242,6 +255,28 @@ fn parse_walk<'a>(words: &'a [&'a str]) -> Option<VerifyCommand<'a>>
                     moment,
                     anchor: Word(anchor),
                     tail: Words(tail),
+                })
+            } else {
+                None
+            }
+        }
+        _ => None,
+    }
+}
+
+/// The check of an attestation that these words ask for, after the first.
+fn parse_rta<'a>(words: &'a [&'a str]) -> Option<VerifyCommand<'a>>
+    ensures { MatchOption result (AskForNoRta (texts words.now))
+        (λ c. (codes "rta" ∷ texts words.now ≡ verify_words c) × IsFit c) }
+{
+    match words {
+        [file, moment, anchors @ ..] => {
+            let moment = when_of(moment)?;
+            if are_anchors(anchors) {
+                Some(VerifyCommand::Rta {
+                    file: Word(file),
+                    moment,
+                    anchors: Words(anchors),
                 })
             } else {
                 None

@@ -1,0 +1,16 @@
+use Rattle.std.proofs.Common.{◌≡◌, ℕ, List, inr}
+use Rattle.rpki_command.specs.Answer.{said}
+use Rattle.rpki_command.specs.Rta.{RtaOf}
+use Rattle.rpki_command.specs.Words.{texts}
+use Rattle.rpki_command.proofs.Verified.Verifying.{of-files}
+use Rattle.rpki_command.proofs.rta.check_files.Goals as goal
+
+pub returns-in-Some : goal.returns-in-Some
+returns-in-Some c =
+    let verdicts : c.deref.result.now ≡ c.verdicts-item.result.items = cc in
+    let object : c.deref-in-Some.result.now ≡ c.object-item.result.items = cc in
+    of-files (λ (fs : List (List ℕ)).
+    RtaOf c.args.now (texts c.args.words.now) fs (said c.check_rta.result))
+    c.args.files.now c.object-item.result c.verdicts-item.result c.deref-in-Some.result.now
+    c.deref.result.now object verdicts c.in-len2-up.len_at_least c.object-item.is
+    c.verdicts-item.is (inr (c.in-Some.verdicts, c.in-Some.ensures, c.check_rta.ensures))

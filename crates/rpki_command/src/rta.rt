@@ -1,0 +1,175 @@
+//! What the programs answer of attestations under anchors.
+
+ghost use Rattle.std.specs.Prelude.{◌≤◌, ◌+◌, ◌++◌, length, map};
+ghost use Rattle.rpki_certs.specs.Issuer.{octets_of};
+ghost use Rattle.rpki_rta.specs.Refused.{supply_in};
+ghost use Rattle.rpki_command.specs.Answer.{said};
+ghost use Rattle.rpki_command.specs.Check.{yes_line};
+ghost use Rattle.rpki_command.specs.Contents.{IsLinesOf};
+ghost use Rattle.rpki_command.specs.Grows.{Grows};
+ghost use Rattle.rpki_command.specs.Rta.{supply_of, IsRtaSaid, AttestedUnder, IsAnchorRefused};
+ghost use Rattle.rpki_command.specs.Rta.{IsAttestedWith, RtaOf};
+ghost use Rattle.rpki_command.specs.Texts.Rta.{attestation_text};
+ghost use Rattle.rpki_command.specs.Words.{texts, files_of_anchors};
+
+use crate::anchors::{Anchor, AnchorError, anchors_of, supplies_of};
+use crate::answer::Answer;
+use crate::check::{refused, refused_issuer};
+use crate::contents::{Causes, refusal};
+use crate::files::Work;
+use crate::texts::rta::push_attestation;
+use bytes::Bytes;
+use rpki_basics::{Crypto, Time};
+use rpki_multi::Rta;
+use rpki_rta::Supply;
+use rpki_signed::check;
+use rpki_signed::check::CheckError;
+use rpki_tagged::ResourceTaggedAttestation;
+use rpki_verdicts::Verdicts;
+use std::alloc::{AllocError, Global};
+use std::fmt::Write;
+
+/// To check whether the first file begins with an attestation that is granted at this moment. The
+/// second is the list of verdicts, and the others are those that the anchors name.
+#[derive(Drop)]
+pub struct RtaByList<'s> {
+    pub moment: Time,
+    pub anchors: &'s [&'s str],
+}
+
+impl Work for RtaByList<'_> {
+    ghost least = { λ r. 2 + length (files_of_anchors (texts r.anchors.now)) };
+
+    ghost says = { λ r. RtaOf r.moment (texts r.anchors.now) };
+
+    fn answer<'a>(self, alloc: Global, files: &[Vec<u8>]) -> Answer<'a> {
+        check_files(alloc, self.moment, self.anchors, files)
+    }
+}
+
+/// Answers whether the first of these files begins with an attestation that is granted at this
+/// moment, by the verdicts of the second, under the anchors, whose files are the others.
+fn check_files<'a>(alloc: Global, now: Time, words: &[&str], files: &[Vec<u8>]) -> Answer<'a>
+    requires { 2 + length (files_of_anchors (texts words.now)) ≤ length files.now }
+    ensures { RtaOf now (texts words.now) (octets_of files.now) (said result) }
+{
+    match files {
+        [object, verdicts, others @ ..] => match Verdicts::read(verdicts) {
+            None => Answer::BadVerdicts,
+            Some(verdicts) => {
+                let causes = Causes::Omitted;
+                check_rta(alloc, causes, object, words, others, &verdicts, now)
+            }
+        },
+        _ => unreachable!(),
+    }
+}
+
+/// Answers whether the octets begin with an attestation that is granted at this moment, under the
+/// anchors that the words name, by the octets of their files.
+pub fn check_rta<'a, K: Crypto>(
+    alloc: Global,
+    causes: Causes,
+    object: &[u8],
+    words: &[&str],
+    files: &[Vec<u8>],
+    crypto: &K,
+    now: Time,
+) -> Answer<'a>
+    requires { length (files_of_anchors (texts words.now)) ≤ length files.now }
+    ensures { IsAttestedWith causes (K.digest_of crypto.now) (K.is_signed crypto.now) now
+        (texts words.now) object.now (octets_of files.now) (said result) }
+{
+    match anchors_of(alloc, words, files, crypto, now) {
+        Err(error) => refused_anchor(alloc, error),
+        Ok(anchors) => {
+            let answer = check_anchored(alloc, causes, object, &anchors, crypto, now);
+            drop(anchors);
+            answer
+        }
+    }
+}
+
+/// Answers whether the octets begin with an attestation that is granted under these anchors.
+fn check_anchored<'a, K: Crypto>(
+    alloc: Global,
+    causes: Causes,
+    object: &[u8],
+    anchors: &[Anchor],
+    crypto: &K,
+    now: Time,
+) -> Answer<'a>
+    ensures { AttestedUnder causes (K.digest_of crypto.now) (K.is_signed crypto.now) now
+        (map supply_of anchors.now) object.now (said result) }
+{
+    match supplies_of(alloc, anchors) {
+        Err(_) => Answer::OutOfMemory,
+        Ok(supplies) => check_supplied(alloc, causes, object, &supplies, crypto, now),
+    }
+}
+
+/// Answers whether the octets begin with an attestation that is granted under these supplies.
+fn check_supplied<'a, K: Crypto>(
+    alloc: Global,
+    causes: Causes,
+    object: &[u8],
+    supplies: &[Supply<'_>],
+    crypto: &K,
+    now: Time,
+) -> Answer<'a>
+    ensures { AttestedUnder causes (K.digest_of crypto.now) (K.is_signed crypto.now) now
+        (map supply_in supplies.now) object.now (said result) }
+{
+    match Bytes::copy_from_slice(alloc, object) {
+        Err(_) => Answer::OutOfMemory,
+        Ok(source) => {
+            let checked = check::rta(alloc, source, true, crypto, now, supplies);
+            answer_checked(alloc, causes, checked)
+        }
+    }
+}
+
+/// What is said of what a check answers.
+fn answer_checked<'a>(alloc: Global, causes: Causes, checked: Result<Rta, CheckError>) -> Answer<'a>
+    ensures { IsRtaSaid causes checked (said result) }
+{
+    match checked {
+        Err(CheckError::Decode(error)) => refusal(alloc, causes, error),
+        Err(CheckError::Validation(error)) => refused(alloc, error),
+        Ok(rta) => {
+            let answer = say_yes(alloc, rta.content());
+            drop(rta);
+            answer
+        }
+    }
+}
+
+/// A yes, and the lines of a content.
+fn say_yes<'a>(alloc: Global, content: &ResourceTaggedAttestation) -> Answer<'a>
+    ensures { IsLinesOf (yes_line ++ attestation_text content.now) (said result) }
+{
+    let mut text = String::new(alloc);
+    match push_yes(&mut text, content) {
+        Ok(()) => Answer::Shown(text),
+        Err(_) => Answer::OutOfMemory,
+    }
+}
+
+/// Appends a yes, and the lines of a content.
+fn push_yes(text: &mut String, content: &ResourceTaggedAttestation) -> Result<(), AllocError>
+    ensures { Grows result text.old text.new (yes_line ++ attestation_text content.now) }
+{
+    write!(text, "yes\n")?;
+    push_attestation(text, content)
+}
+
+/// The answer where files make no anchor.
+fn refused_anchor<'a>(alloc: Global, error: AnchorError) -> Answer<'a>
+    ensures { IsAnchorRefused error (said result) }
+{
+    match error {
+        AnchorError::NoLocator => Answer::Malformed,
+        AnchorError::NoIssuer(error) => refused_issuer(alloc, error),
+        AnchorError::Memory => Answer::OutOfMemory,
+    }
+}
