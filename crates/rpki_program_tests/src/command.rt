@@ -8,7 +8,9 @@
 mod attestations;
 mod attested;
 mod given;
+mod granted;
 mod octets;
+mod rtas;
 mod runs;
 mod verdicts;
 mod walks;
