@@ -14,10 +14,10 @@ use Rattle.rpki_faults.specs.declared.validation.ValidationError.TheVariants as 
 use Rattle.rpki_multi.specs.Attestation.{KeptWhole, Whole, RtaForm, whole_of}
 use Rattle.rpki_paths.specs.Anchor.{Supply}
 use Rattle.rpki_rsa.specs.Signature.{is_rsa_signature}
-use Rattle.rpki_signed.specs.Attested.{IsExactRta, GrantsRta, IsDistinct}
+use Rattle.rpki_signed.specs.Attested.{IsExactRta}
 use Rattle.rpki_signed.specs.declared.check.CheckError.{CheckError}
 use Rattle.rpki_signed.specs.declared.check.CheckError.TheVariants.{Decode, Validation}
-use Rattle.rpki_rta.specs.Granted.{IsGrantedRta}
+use Rattle.rpki_rta.specs.Granted.{GrantsRta, IsDistinct, IsGrantedRta}
 use Rattle.rpki_verdicts.specs.Listed.{is_listed}
 use Rattle.rpki_command.specs.Anchors.{given_in, MakeEach, AreMade}
 use Rattle.rpki_command.specs.Answer.{Run, Output, IsSaid, out_of_memory, bad_verdicts, shown}

@@ -15,8 +15,7 @@ use Rattle.rpki_files.specs.Manifest.Checks.{manifest_kind}
 use Rattle.rpki_multi.specs.Attestation.{RtaForm}
 use Rattle.rpki_multi.specs.Attestation as attested
 use Rattle.rpki_paths.specs.Anchor.{Supply}
-use Rattle.rpki_rta.specs.Granted.{IsGrantedRta}
-use Rattle.rpki_signed.specs.Attested.{IsDistinct}
+use Rattle.rpki_rta.specs.Granted.{IsDistinct, IsGrantedRta}
 use Rattle.rpki_signed.specs.Check.{BeginsWith}
 use Rattle.rpki_signed.specs.Walk.{AtHand}
 use Rattle.rpki_sigobj.specs.Verify.{Digester}
