@@ -10,45 +10,49 @@ use std::fmt;
 /// Why a certificate, or an object with its certificate, does not fit the profile (RFC 6487).
 #[derive(Clone, Copy, Debug, PartialEq, Eq)]
 pub enum InspectionError {
-    /// The signer that an object names is not the key of its certificate (RFC 6488, section 3).
+    /// The signer identifier is not the subject key identifier of the certificate (RFC 6488,
+    /// section 3).
     SidMismatch,
-    /// The subject key identifier is not that of the key (RFC 6487, section 4.8.2).
+    /// The subject key identifier is not the SHA-1 digest of the key (RFC 6487, section 4.8.2).
     KeyIdentifier,
-    /// No family of numbers is named (RFC 6487, section 4.8.10).
+    /// None of the three families of numbers is named (RFC 6487, section 4.8.10).
     NoResources,
-    /// There is no authority key identifier (RFC 6487, section 4.8.3).
+    /// The authority key identifier is missing (RFC 6487, section 4.8.3).
     MissingAki,
-    /// It does not say where the revocation list of its issuer is (RFC 6487, section 4.8.6).
+    /// The certificate does not say where its issuer's revocation list is (RFC 6487, section
+    /// 4.8.6).
     MissingCrlUri,
-    /// It does not say where the certificate of its issuer is (RFC 6487, section 4.8.7).
+    /// The certificate does not say where its issuer's certificate is (RFC 6487, section 4.8.7).
     MissingCaIssuer,
-    /// The basic constraints are not those of its kind (RFC 6487, section 4.8.1).
+    /// The basic constraints are not those of the kind of certificate (RFC 6487, section 4.8.1).
     BasicCa,
-    /// The key usage is not that of its kind (RFC 6487, section 4.8.4).
+    /// The key usage is not that of the kind of certificate (RFC 6487, section 4.8.4).
     KeyUsage,
-    /// It has an extended key usage (RFC 6487, section 4.8.5).
+    /// The certificate has an extended key usage (RFC 6487, section 4.8.5).
     Eku,
-    /// A CA does not say where its repository is (RFC 6487, section 4.8.8.1).
+    /// The certificate of a CA does not say where its repository is (RFC 6487, section 4.8.8.1).
     MissingRepository,
-    /// A CA does not say where its manifest is (RFC 6487, section 4.8.8.1).
+    /// The certificate of a CA does not say where its manifest is (RFC 6487, section 4.8.8.1).
     MissingManifest,
-    /// A CA says where a signed object is (RFC 6487, section 4.8.8.1).
+    /// The certificate of a CA says where a signed object is (RFC 6487, section 4.8.8.1).
     SignedObject,
-    /// It does not say where its signed object is (RFC 6487, section 4.8.8.2).
-    MissingSignedObject,
-    /// The certificate of an object says where a repository or a manifest is (RFC 6487, section
+    /// The certificate of a signed object does not say where the object is (RFC 6487, section
     /// 4.8.8.2).
+    MissingSignedObject,
+    /// The certificate of a signed object says where a repository or a manifest is (RFC 6487,
+    /// section 4.8.8.2).
     CaAccess,
-    /// The authority key identifier of a trust anchor is not its own (RFC 6487, section 4.8.3).
+    /// The authority key identifier of a trust anchor is not its own subject key identifier (RFC
+    /// 6487, section 4.8.3).
     TaAki,
-    /// A trust anchor says where a revocation list of its issuer is (RFC 6487, section 4.8.6).
+    /// A trust anchor says where an issuer's revocation list is (RFC 6487, section 4.8.6).
     TaCrlUri,
-    /// A trust anchor says where the certificate of an issuer is (RFC 6487, section 4.8.7).
+    /// A trust anchor says where an issuer's certificate is (RFC 6487, section 4.8.7).
     TaCaIssuer,
     /// A trust anchor inherits numbers (RFC 8630, section 2.3).
     TaInherit,
-    /// The certificate does not claim the numbers of a checklist in this family (RFC 9323, section
-    /// 5).
+    /// The certificate of a checklist does not claim all its numbers of this family (RFC 9323,
+    /// section 5).
     NotCovered(Family),
 }
 

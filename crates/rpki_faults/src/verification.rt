@@ -13,23 +13,25 @@ use std::fmt;
 /// Why a certificate, or an object with its certificates, is not good under its issuer.
 #[derive(Clone, Copy, Debug, PartialEq, Eq)]
 pub enum VerificationError {
-    /// The digest that is signed is not that of the content (RFC 5652, section 5.6).
+    /// The message-digest attribute is not the digest of the content (RFC 5652, section 5.6).
     DigestMismatch,
-    /// The object was signed after its certificate had expired.
+    /// The signing time is after notAfter of the certificate.
     SigningTime,
-    /// The key did not sign this (RFC 5652, section 5.6; RFC 5280, section 6.1.3).
+    /// The signature does not verify under the key (RFC 5652, section 5.6; RFC 5280, section
+    /// 6.1.3).
     BadSignature,
-    /// The authority key identifier is not the key identifier of the issuer (RFC 6487, section
+    /// The authority key identifier is not the issuer's subject key identifier (RFC 6487, section
     /// 4.8.3).
     IssuerClaim,
     /// The moment is before notBefore (RFC 5280, section 4.1.2.5).
     NotYetValid,
     /// The moment is after notAfter (RFC 5280, section 4.1.2.5).
     Expired,
-    /// The issuer has not all numbers that are claimed in this family (RFC 6487, section 7.2).
+    /// The certificate claims numbers of this family that its issuer does not have (RFC 6487,
+    /// section 7.2).
     Overclaimed(Family),
-    /// The certificate of an ASPA claims no AS number (draft-ietf-sidrops-aspa-profile-15, section
-    /// 4).
+    /// The certificate of an ASPA does not name AS numbers (draft-ietf-sidrops-aspa-profile-15,
+    /// section 4).
     NoAsResources,
     /// The certificate of an ASPA inherits AS numbers.
     InheritedAsResources,
@@ -39,52 +41,55 @@ pub enum VerificationError {
     SeveralAsBlocks,
     /// The certificate of an ASPA claims a range of AS numbers.
     AsRange,
-    /// The certificate of an ASPA claims another AS number than that of the customer.
+    /// The certificate of an ASPA claims one AS number, and it is not the customer's.
     OtherCustomer,
     /// The certificate of an ASPA claims addresses.
     IpResources,
-    /// The customer of an ASPA is not among the numbers that its certificate has.
+    /// The certificate of an ASPA does not have the customer's AS number.
     CustomerNotHeld,
-    /// A ROA has prefixes of this family, and its certificate has no address of it (RFC 9582,
+    /// A ROA has prefixes of this family, and its certificate has no addresses of it (RFC 9582,
     /// section 5).
     NoPrefixCovered(AddressFamily),
-    /// A prefix of a ROA is not among the addresses that its certificate has (RFC 9582, section 5).
+    /// The certificate of a ROA does not have all addresses of a prefix (RFC 9582, section 5).
     UncoveredPrefix(UncoveredPrefix),
-    /// The numbers of a checklist are not all among those that its certificate has (RFC 9323,
+    /// The certificate of a checklist does not have all numbers that the checklist names (RFC 9323,
     /// section 5).
     ChecklistNotHeld,
-    /// A file has not the digest that the manifest lists (RFC 9286, section 6.5).
+    /// The digest of a file is not the one that the manifest lists (RFC 9286, section 6.5).
     ManifestHash,
-    /// No subject key of an attestation that is left is that of a signer; each signer takes one.
+    /// None of the subject keys that are left in an attestation is the signer's; each signer takes
+    /// one.
     UnknownKey,
-    /// The digest that a signer of an attestation signed is not that of the content.
+    /// The message-digest attribute of a signer of an attestation is not the digest of the content.
     SignerDigest,
-    /// No end-entity certificate in an attestation that is left verifies a signer; each signer
-    /// takes one.
+    /// None of the end-entity certificates that are left in an attestation has the signer's key
+    /// identifier and a key that verifies its signature; each signer takes one.
     MissingCertificate,
-    /// No revocation list in an attestation that is left is that of a CA certificate there; each of
-    /// these takes one.
+    /// None of the revocation lists that are left in an attestation was issued by a CA certificate
+    /// there; each CA certificate takes one.
     MissingCrl,
-    /// A subject key of an attestation is taken by no signer.
+    /// A subject key of an attestation is left over: no signer took it.
     UnusedSubjectKeys,
-    /// A revocation list in an attestation is taken by no CA certificate there.
+    /// A revocation list in an attestation is left over: no CA certificate took it.
     UnusedCrls,
-    /// An end-entity certificate in an attestation is taken by no signer.
+    /// An end-entity certificate in an attestation is left over: no signer took it.
     UnusedEeCertificates,
-    /// CA certificates in an attestation are named as an issuer, and the key of none verifies.
+    /// CA certificates in an attestation have the key identifier of an issuer, and the key of none
+    /// of them verifies the certificate that it should have issued.
     InvalidCaCertificates,
-    /// An issuer stands on the certification path already.
+    /// A certification path of an attestation returns to a CA certificate that is on it already.
     PathReturns,
     /// An issuer on a certification path of an attestation has revoked the certificate below it.
     /// Where that of a published object's signer is revoked, the caller refuses it, by `Caller`.
     Revoked,
-    /// A CA certificate in an attestation stands on no certification path.
+    /// A CA certificate in an attestation is on no certification path.
     UnusedCaCertificates,
-    /// A certification path of an attestation ends at no trust anchor.
+    /// A certification path of an attestation ends at none of the trust anchors and CAs that were
+    /// supplied.
     NotAnchored,
-    /// The AS numbers that are attested are not those of the certification paths.
+    /// The attested AS numbers are not exactly those of the certification paths.
     AsNotFullyCovered,
-    /// The addresses that are attested are not those of the certification paths.
+    /// The attested addresses are not exactly those of the certification paths.
     IpNotFullyCovered,
     /// The caller refused it.
     Caller,
