@@ -18,7 +18,7 @@ use Rattle.rpki_paths.specs.declared.supply.Supplied.{Supplied}
 use Rattle.rpki_paths.specs.declared.walker.Path.{Path}
 use Rattle.rpki_paths.specs.Accepting.{AreAccepted, WantsMemory}
 use Rattle.rpki_paths.specs.Cert.{Cert}
-use Rattle.rpki_paths.specs.Granting.{IsPassed, WhyNotGranted}
+use Rattle.rpki_paths.specs.Granting.{WhyNotGranted}
 use Rattle.rpki_paths.proofs.Accepting.{refusal_is_right}
 use Rattle.rpki_paths.proofs.Granting.{walks_are_accepted, unsupplied_is_refused}
 use Rattle.rpki_paths.proofs.Granting.{undecided_is_refused}
@@ -27,8 +27,8 @@ use Rattle.rpki_rta.specs.Carried.{IsValid, carried_checks, is_of_ca, seen_alone
 use Rattle.rpki_rta.specs.Faults.{accept_fault, grant_fault, supply_fault, final_fault}
 use Rattle.rpki_rta.specs.Granted.{DeniesRightly, IsAcceptedRta, IsDistinct, IsGrantedRta}
 use Rattle.rpki_rta.specs.Granted.{RefusesRightly, attested_by, carried_by}
-use Rattle.rpki_rta.specs.Refused.{RefusesIn, WhyNotAccepted, WhyRefused, WhyNotGrantedRta}
-use Rattle.rpki_rta.specs.Refused.{supply_in}
+use Rattle.rpki_rta.specs.Refused.{BeginsWith, RefusesIn, WhyNotAccepted, WhyRefused}
+use Rattle.rpki_rta.specs.Refused.{WhyNotGrantedRta, supply_in}
 
 pub is-accepted : {C : Type 0} (cert : C → Cert) (digest : Digester) (verdict : Verdict)
     (now : Moment) (r : Whole) (kept : List (Path C)) → All (λ c. IsValid c.tbs now) r.signed.certs
@@ -74,9 +74,7 @@ module _ {C : Type 0} (digests : C → Digester) (says : C → Verdict) (crypto 
     (r : KeptWhole) (supplies : List (Supplied Locator Validated)) where
   not-granted : (cause : GrantFault ValidationError ValidationError)
       → WhyNotGranted (WhyNotAccepted (digests crypto) (says crypto) now (whole_of r))
-      (IsPassed (λ c. IsValid c.tbs now) (whole_of r).signed.certs (cert_of says)
-      (carried_by (digests crypto) (says crypto) (whole_of r)))
-      (cert_of says) supply_in (RefusesIn says) supplies (attested_by r.content) cause
+      (BeginsWith digests says crypto now r) (cert_of says) supply_in (RefusesIn says) supplies (attested_by r.content) cause
       → ¬ (grant_fault cause ≡ Memory)
       → IsDistinct (digests crypto) (says crypto) (whole_of r)
       → ¬ (IsGrantedRta (digests crypto) (says crypto) now (whole_of r) (map supply_in supplies))
@@ -84,13 +82,13 @@ module _ {C : Type 0} (digests : C → Digester) (says : C → Verdict) (crypto 
       cause-right (digests crypto) (says crypto) now (whole_of r) c w other dist
       (record { valid = g.valid; paths = g.granted.paths; accepted = g.granted.accepted })
   not-granted (NotSupplied c) w other dist g =
-      let acc = w.2.1 in
+      let acc = w.2.accepted in
       unsupplied_is_refused (cert_of says) supply_in (RefusesIn says)
       (carried_by (digests crypto) (says crypto) (whole_of r)) acc.ees acc.crls w.0 w.1 supplies
       (attested_by r.content) c dist acc.paired.matching acc.walked
       (λ m. other (ap supply_fault m)) w.3 g.granted
   not-granted (NotGranted c) w other dist g =
-      let acc = w.2.1 in
+      let acc = w.2.accepted in
       undecided_is_refused (cert_of says) supply_in (RefusesIn says)
       (carried_by (digests crypto) (says crypto) (whole_of r)) acc.ees acc.crls w.0 w.1 supplies
       (attested_by r.content) c dist acc.paired.matching acc.walked

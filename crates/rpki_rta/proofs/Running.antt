@@ -1,5 +1,5 @@
 -- What a whole validation answers.
-use Rattle.std.proofs.Common.{◌≡◌, List, map, Result, Ok, Err, ◌∙◌, subst}
+use Rattle.std.proofs.Common.{◌≡◌, List, map, Result, Ok, Err, ◌∙◌, refl, subst}
 use Rattle.rpki_basics.specs.Moment.{Moment}
 use Rattle.rpki_faults.specs.declared.validation.ValidationError.{ValidationError}
 use Rattle.rpki_certs.specs.Validate.{Validated}
@@ -17,8 +17,8 @@ use Rattle.rpki_paths.proofs.Granting.{yes_is_granted}
 use Rattle.rpki_rta.specs.Begun.{Begun, EndsWith, IsBegun, IsEnded, cert_of}
 use Rattle.rpki_rta.specs.Faults.{supply_answer, supply_fault}
 use Rattle.rpki_rta.specs.Granted.{IsGrantedRta, attested_by, carried_by}
-use Rattle.rpki_rta.specs.Refused.{RefusesIn, SuppliesAll, WhyNotGrantedRta, WhyRefused}
-use Rattle.rpki_rta.specs.Refused.{supply_in}
+use Rattle.rpki_rta.specs.Refused.{BeginsWith, RefusesIn, SuppliesAll, WhyNotGrantedRta}
+use Rattle.rpki_rta.specs.Refused.{WhyRefused, supply_in}
 
 module _ {C : Type 0} (digests : C → Digester) (says : C → Verdict) (crypto : C) (now : Moment)
     (r : KeptWhole) (supplies : List (Supplied Locator Validated)) where
@@ -29,6 +29,10 @@ module _ {C : Type 0} (digests : C → Digester) (says : C → Verdict) (crypto 
   begins-not fault h = (NotAccepted h.0, h.1, h.2)
 
   module _ (begun after : Begun C) (b : IsBegun digests says crypto now r begun) where
+    -- the same, of the attestation itself
+    begins : BeginsWith digests says crypto now r begun.paths
+    begins = record { of_rta = refl; valid = b.valid; accepted = b.accepted; heads = b.heads }
+
     stops : (fault : ValidationError) (answer : Result (Unit {0}) (SupplyFault ValidationError))
         → Err fault ≡ supply_answer answer
         → AreSuppliedAll (cert_of says) supply_in (RefusesIn says) supplies begun.paths
@@ -36,7 +40,7 @@ module _ {C : Type 0} (digests : C → Digester) (says : C → Verdict) (crypto 
     stops fault (Ok done) e h = absurd cc
     stops fault (Err f) e h =
         let told : fault ≡ supply_fault f = cc in
-        (NotSupplied f, (begun.paths, after.paths, (b.valid, b.accepted), h), told)
+        (NotSupplied f, (begun.paths, after.paths, begins, h), told)
 
     -- a supply that is meant for a path and does not take it ends the validation
     pub supplies-not : (fault : ValidationError)
@@ -81,7 +85,7 @@ module _ {C : Type 0} (digests : C → Digester) (says : C → Verdict) (crypto 
         (
           begun.paths,
           after.paths,
-          (b.valid, b.accepted),
+          begins,
           supplied-so s.answer s.told s.all,
           decided (Err h.0) h.1,
         ),

@@ -14,12 +14,13 @@ use Rattle.rpki_paths.specs.declared.supply.Supplied.{Supplied}
 use Rattle.rpki_paths.specs.declared.supply.SupplyFault.{SupplyFault}
 use Rattle.rpki_paths.specs.Accepting.{WhyNot}
 use Rattle.rpki_paths.specs.Anchor.{Supply}
-use Rattle.rpki_paths.specs.Granting.{IsPassed, WhyNotGranted}
+use Rattle.rpki_paths.specs.Granting.{WhyNotGranted}
+use Rattle.rpki_paths.specs.declared.walker.Path.{Path}
 use Rattle.rpki_paths.specs.Supplied.{AreSuppliedAll, refusal_of, supply_of}
 use Rattle.rpki_rta.specs.Carried.{IsValid, carried_checks, is_of_ca, seen_alone, set_of}
 use Rattle.rpki_rta.specs.Granted.{attested_by, carried_by}
 use Rattle.rpki_rta.specs.Faults.{accept_fault, grant_fault, supply_answer}
-use Rattle.rpki_rta.specs.Begun.{Begun, RefusesHead, cert_of}
+use Rattle.rpki_rta.specs.Begun.{Begun, IsBegun, RefusesHead, cert_of}
 use Rattle.rpki_rta.specs.declared.carried.Carried.{Carried as Handle}
 
 -- Why what is carried is not accepted. Certificate by certificate, in carried order: it is not
@@ -63,15 +64,20 @@ pub record SuppliesAll {C : Type 0} (says : C → Verdict)
       answer
   pub told : result ≡ supply_answer answer
 
+-- The validation of this attestation begins with these paths.
+abbrev pub BeginsWith : {C : Type 0} → (C → Digester) → (C → Verdict) → C → Moment → KeptWhole →
+    List (Path (Handle C)) → Type 0
+BeginsWith digests says crypto now r paths =
+    IsBegun digests says crypto now r (record { rta = r; paths = paths })
+
 -- Why an attestation is not granted under some supplies, handed in one after the other: it is not
--- accepted; or it is, and a supply is meant for a path and does not take it, as those before it
--- left them; or none is such, and the end says no. The first thing that fails is told as its fault.
+-- accepted; or its validation begins, and a supply is meant for a path and does not take it, as
+-- those before it left them; or none is such, and the end says no. The first thing that fails is
+-- told as its fault.
 abbrev pub WhyNotGrantedRta : {C : Type 0} → (C → Digester) → (C → Verdict) → C → Moment →
     KeptWhole → List (Supplied Locator Validated) → ValidationError → Type 0
 WhyNotGrantedRta digests says crypto now r supplies fault =
     (cause : GrantFault ValidationError ValidationError)
     × WhyNotGranted (WhyNotAccepted (digests crypto) (says crypto) now (whole_of r))
-    (IsPassed (λ c. IsValid c.tbs now) (whole_of r).signed.certs (cert_of says)
-    (carried_by (digests crypto) (says crypto) (whole_of r)))
-    (cert_of says) supply_in (RefusesIn says) supplies (attested_by r.content) cause
+    (BeginsWith digests says crypto now r) (cert_of says) supply_in (RefusesIn says) supplies (attested_by r.content) cause
     × (fault ≡ grant_fault cause)
