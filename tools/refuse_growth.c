@@ -5,9 +5,11 @@
  *     cc -O2 -shared -fPIC -o refuse_growth.so tools/refuse_growth.c
  *     FAIL_COUNT=1 LD_PRELOAD=./refuse_growth.so PROGRAM ..
  *     FAIL_AT=3    LD_PRELOAD=./refuse_growth.so PROGRAM ..
+ *     FAIL_FROM=3  LD_PRELOAD=./refuse_growth.so PROGRAM ..
  *
  * The calls of malloc, calloc and realloc are counted together, from 1.
- * FAIL_AT=N: the N-th of them answers NULL, and no other.
+ * FAIL_AT=N: the N-th of them answers NULL, and no other. FAIL_FROM=N: the
+ * N-th and each later one.
  * FAIL_COUNT=1: at the end a line "growths N" goes to standard error.
  * tools/growth and tools/runs compile and use this file.
  */
@@ -22,16 +24,21 @@ extern void *__libc_calloc(size_t count, size_t size);
 extern void *__libc_realloc(void *block, size_t size);
 
 static long made;         /* how many calls there were */
-static long refused = -1; /* the call to refuse; -1: FAIL_AT was not read yet */
+static long refused = -1; /* the call to refuse; -1: the words were not read yet */
+static int to_the_end;    /* whether each later call is refused too */
 
-/* Counts a call, and tells whether it is the one to refuse. */
+/* Counts a call, and tells whether it is to be refused. */
 static int is_refused(void)
 {
+    long call;
+
     if (refused < 0) {
-        const char *at = getenv("FAIL_AT");
-        refused = at ? atol(at) : 0;
+        const char *at = getenv("FAIL_AT"), *from = getenv("FAIL_FROM");
+        to_the_end = from != NULL;
+        refused = from ? atol(from) : at ? atol(at) : 0;
     }
-    return __atomic_add_fetch(&made, 1, __ATOMIC_SEQ_CST) == refused;
+    call = __atomic_add_fetch(&made, 1, __ATOMIC_SEQ_CST);
+    return call == refused || (to_the_end && call > refused);
 }
 
 void *malloc(size_t size)

@@ -161,7 +161,7 @@ def main():
     for number, row in enumerate(ROWS + CHECKS):
         print_test(f"row_{number}", row, f"is_answered(&rt, &words, &files(), &said, {row[3]})?")
     for number, row in enumerate(CUTS):
-        print_test(f"cut_{number}", row, "is_cut(&rt, &words, &files(), &said)")
+        print_test(f"cut_{number}", row, "is_cut(&rt, &words, &files(), &said)?")
 
 
 if __name__ == "__main__":

@@ -3,6 +3,7 @@
 pub use rpki_der::{
     AsOctets, BitString, Captured, Constructed, ContentFault, Count, Counted, DecodeError, Encode,
     EncodeError, InvalidSignedAttr, ListItem, LowerHex, Mode, Oid, Sink, SinkFailed, Source,
-    SourceError, SourceFailed, StaticText, Tag, UpperHex, build, encode, laws, slices, upper_digit,
+    SourceError, SourceFailed, StaticText, Tag, UpperHex, build, drip, encode, laws, slices,
+    upper_digit,
 };
 pub use rpki_lists::{BitSlice, SliceReader};

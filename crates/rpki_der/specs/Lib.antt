@@ -7,6 +7,7 @@ pub mod Grammar
 pub mod Captured
 pub mod Read
 pub mod Write
+pub mod Drip
 pub mod Text
 pub mod Form
 pub mod StaticText

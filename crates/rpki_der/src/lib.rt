@@ -6,6 +6,7 @@ mod bit_string;
 pub mod build;
 mod captured;
 mod count;
+pub mod drip;
 pub mod encode;
 mod error;
 mod hex;
