@@ -1,6 +1,16 @@
 pub mod Asking
-pub mod Finding
+pub mod Looking
 pub mod Lacking
 pub mod Joining
 pub mod Revoking
 pub mod Checking
+pub mod Objects
+pub mod Certificates
+pub mod Unique
+pub mod Telling
+pub mod Whole
+pub mod Putting
+pub mod Refusing
+pub mod Anchoring
+pub mod Passing
+pub mod Held
