@@ -1,8 +1,7 @@
 -- The trust anchor of a locator is found, or there is none.
-use Rattle.std.proofs.Common.{◌≡◌, inl, inr, ℕ, List, [], ◌∷◌, ◌++◌, All, Option, Some, None, Ok, Err}
-use Rattle.std.proofs.Common.{Result, MatchResult, IfErr, Contains, append_assoc, refl, sym, subst}
+use Rattle.std.proofs.Common.{◌≡◌, inl, inr, ℕ, List, [], ◌∷◌, ◌++◌, Option, Some, None, Ok, Err}
+use Rattle.std.proofs.Common.{Result, MatchResult, IfErr, append_assoc, refl, sym, subst}
 use Rattle.std.proofs.Common.{ap, ◌∙◌}
-use Rattle.std.specs.Prelude.{◌↔◌}
 use Rattle.std.proofs.lemmas.List.Elements.{All-push, All-head, All-tail}
 use Rattle.rpki_der.specs.declared.mode.Mode.TheVariants.{Der}
 use Rattle.rpki_faults.specs.Checks.{AllHold}
@@ -14,7 +13,7 @@ use Rattle.rpki_certs.specs.declared.issuer.IssuerError.TheVariants.{Decode, Val
 use Rattle.rpki_tal.specs.Tal.{Locator}
 use Rattle.rpki_tal.specs.Uri.{uri_text, https_first}
 use Rattle.rpki_tal.specs.declared.uri.TalUri.{TalUri}
-use Rattle.rpki_tree.specs.Anchors.{AreMissing, FindsFirst, LacksAnchor, IsAnchorMemory}
+use Rattle.rpki_tree.specs.Anchors.{AreMissing, LacksAnchor, IsAnchorMemory}
 use Rattle.rpki_tree.specs.Memory.{IsIssuerMemory}
 use Rattle.rpki_tree.specs.Setting.{Setting}
 use Rattle.rpki_tree.specs.Tree.{IsFirstCached, IsAnchorOf}

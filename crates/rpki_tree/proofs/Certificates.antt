@@ -1,5 +1,5 @@
 -- Octets that may hold the certificate of a CA: it is one with its numbers, or there is none.
-use Rattle.std.proofs.Common.{◌≡◌, inl, inr, ℕ, List, Ok, Err, sym, subst, ap, ◌∙◌}
+use Rattle.std.proofs.Common.{◌≡◌, inl, inr, ℕ, List, Ok, Err, sym, subst, ◌∙◌}
 use Rattle.rpki_der.specs.declared.mode.Mode.TheVariants.{Der}
 use Rattle.rpki_crls.specs.Crl.{RevocationList}
 use Rattle.rpki_resources.specs.declared.block.Block.{Block}
@@ -12,7 +12,7 @@ use Rattle.rpki_faults.specs.Validated.{IsLeft, IsValidated}
 use Rattle.rpki_faults.specs.declared.overclaim.Overclaim.{Overclaim}
 use Rattle.rpki_faults.specs.declared.overclaim.Overclaim.TheVariants.{Refuse, Trim}
 use Rattle.rpki_certs.specs.Cert.{Certificate, KeptCertificate, CertForm}
-use Rattle.rpki_certs.specs.Issuer.{BeginsWithCert, in_der}
+use Rattle.rpki_certs.specs.Issuer.{in_der}
 use Rattle.rpki_certs.specs.Validate.{Validated, Sets, AreCanonical, AreValidated, IsValidatedUnder}
 use Rattle.rpki_certs.specs.Validate.{IsAnchorOf, IsResourceCert}
 use Rattle.rpki_certs.specs.declared.issuer.IssuerError.{IssuerError}

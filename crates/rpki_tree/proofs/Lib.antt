@@ -14,3 +14,4 @@ pub mod Refusing
 pub mod Anchoring
 pub mod Passing
 pub mod Held
+pub mod Endings

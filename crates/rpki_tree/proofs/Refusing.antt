@@ -1,5 +1,5 @@
 -- A CA that lacks its publication point has it refused.
-use Rattle.std.proofs.Common.{◌≡◌, inl, inr, ℕ, List, [], refl, subst}
+use Rattle.std.proofs.Common.{inl, inr, ℕ, List, [], refl, subst}
 use Rattle.rpki_certs.specs.Validate.{Validated}
 use Rattle.rpki_files.specs.Uris.{uris_of}
 use Rattle.rpki_tree.specs.Cause.{point_fault}

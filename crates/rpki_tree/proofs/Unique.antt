@@ -1,5 +1,5 @@
 -- A CA has one publication point, which is there or is refused by one fault.
-use Rattle.std.proofs.Common.{◌≡◌, inl, inr, ℕ, List, All, refl, sym, subst, ap, ◌∙◌}
+use Rattle.std.proofs.Common.{◌≡◌, inl, inr, ℕ, List, All, refl, sym, subst}
 use Rattle.rpki_crls.specs.Crl.{RevocationList}
 use Rattle.rpki_certs.specs.Cert.{Certificate}
 use Rattle.rpki_certs.specs.Validate.{Validated}

@@ -1,5 +1,5 @@
 -- What a CA tells is what it says, and its children.
-use Rattle.std.proofs.Common.{◌≡◌, ◌⊎◌, inl, inr, ℕ, List, [], ◌∷◌, ◌++◌, Contains, Option, Some}
+use Rattle.std.proofs.Common.{◌≡◌, ◌⊎◌, inl, inr, ℕ, List, [], ◌∷◌, Contains}
 use Rattle.std.proofs.Common.{refl, sym, subst}
 use Rattle.std.specs.Prelude.{◌↔◌}
 use Rattle.std.proofs.lemmas.List.Elements.{Contains-append_left, Contains-append_right}
@@ -14,7 +14,7 @@ use Rattle.rpki_tree.specs.Files.{IsFileOf, FileSays, FileHolds}
 use Rattle.rpki_tree.specs.Kind.{kind_of}
 use Rattle.rpki_tree.specs.Point.{Point, IsPoint, Has, PublishesIn}
 use Rattle.rpki_tree.specs.Setting.{Setting}
-use Rattle.rpki_tree.specs.Told.{FileTells, FilesTell, NoneTells, CaTellsAll, refusal}
+use Rattle.rpki_tree.specs.Told.{FilesTell, NoneTells, CaTellsAll, refusal}
 use Rattle.rpki_tree.specs.Tree.{PointSays, IsChild, Says, IsRefusedPoint}
 use Rattle.rpki_tree.specs.declared.found.Finding.{Finding}
 use Rattle.rpki_tree.specs.declared.found.Finding.TheVariants as findings

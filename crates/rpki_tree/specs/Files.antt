@@ -1,7 +1,6 @@
 -- The files that the publication point of a certification authority (CA) lists: what each says, which
 -- CA it holds, and why it is refused.
 use Rattle.std.specs.Prelude.{◌≡◌, ℕ, List, None, Contains, map}
-use Rattle.rpki_der.specs.declared.mode.Mode.TheVariants.{Der}
 use Rattle.rpki_crls.specs.Crl.{RevocationList}
 use Rattle.rpki_faults.specs.Checks.{AllHold}
 use Rattle.rpki_certs.specs.Issuer.{BeginsWithCert, in_der}

@@ -7,6 +7,7 @@ mod copy;
 mod files;
 mod found;
 mod kind;
+pub mod laws;
 mod list;
 mod locator;
 mod manifest;
