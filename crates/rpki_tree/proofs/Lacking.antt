@@ -40,14 +40,14 @@ use Rattle.rpki_tree.specs.Faults.{LacksRest, LacksPointAt, LacksPoint, IsManife
 use Rattle.rpki_tree.specs.Faults.{IsListMemory, IsMemory, IsMemoryError, IsCurrent}
 
 -- two octets of one URI are the same
-one-some : (o : Option (List ℕ)) (a b : List ℕ) → o ≡ Some a → o ≡ Some b → a ≡ b
+pub one-some : (o : Option (List ℕ)) (a b : List ℕ) → o ≡ Some a → o ≡ Some b → a ≡ b
 one-some o a b e f = ap (λ (p : Option (List ℕ)). unwrap_or p []) (sym e ∙ f)
 
-none-some : (o : Option (List ℕ)) (a : List ℕ) → o ≡ None → o ≡ Some a → ⊥
+pub none-some : (o : Option (List ℕ)) (a : List ℕ) → o ≡ None → o ≡ Some a → ⊥
 none-some o a e f = true≢false (ap (λ (p : Option (List ℕ)). is_some p) (sym f ∙ e))
 
 -- where octets are refused, they begin with nothing of the form, unless memory ran out
-refuses : {X : Type 0} (form : List ℕ → X → Type 0) (octets : List ℕ) (x : X) (rest : List ℕ)
+pub refuses : {X : Type 0} (form : List ℕ → X → Type 0) (octets : List ℕ) (x : X) (rest : List ℕ)
     (e : DecodeError) → Refuses e (HasNoFront form octets) → IsOnlyFront form octets x rest
     → e ≡ errors.Memory
 refuses form octets x rest errors.Memory h front = refl
@@ -193,7 +193,8 @@ module _ (s : Setting) (ca : Validated) where
     lacks-rest (points.Manifest fault) h = absurd h
     lacks-rest (points.File fault) h =
         lacks-file (uris_of folder p.manifest.files) at.files fault h
-    lacks-rest (points.List fault) h = lacks-list folder p.signer p.manifest p.list at.list fault h
+    lacks-rest (points.List fault) h =
+        lacks-list folder p.signer p.manifest p.list at.list fault (h.1)
 
     lacks-later : (fault : PointFault) (signer : Certificate) (manifest : Manifest)
         → IsManifestAt s ca uri signer manifest

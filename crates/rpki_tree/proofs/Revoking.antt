@@ -15,7 +15,7 @@ use Rattle.rpki_tree.specs.Point.{IsUnrevoked}
 use Rattle.rpki_tree.specs.Under.{SaysOf, IsValidCa, IsCaUnder}
 
 -- where a check fails, not all hold
-not-first : {F : Type 0} (checks : List (Check F)) (fault : F) → IsFirstFault checks fault
+pub not-first : {F : Type 0} (checks : List (Check F)) (fault : F) → IsFirstFault checks fault
     → AllHold checks → ⊥
 not-first [] fault h all = h
 not-first (check ∷ checks) fault (inl w) all = not-first checks fault (w.1) (all.1)

@@ -1,6 +1,6 @@
 -- Why a certification authority (CA) has no publication point in a copy. The sections are those of
 -- RFC 9286, where no other RFC is named.
-use Rattle.std.specs.Prelude.{◌≡◌, ◌⊎◌, ◌≤◌, ℕ, List, None, Some, Ok, Err, Result}
+use Rattle.std.specs.Prelude.{◌≡◌, ◌⊎◌, ◌≤◌, ℕ, List, None, Some, Ok, Err, Result, All}
 use Rattle.rpki_der.specs.declared.mode.Mode.TheVariants.{Der}
 use Rattle.rpki_basics.specs.Moment.{Moment, stamp}
 use Rattle.rpki_basics.specs.declared.limits.ManifestRule.TheVariants.{Any}
@@ -13,7 +13,7 @@ use Rattle.rpki_signed.specs.declared.check.CheckError.{CheckError}
 use Rattle.rpki_tree.specs.Setting.{Setting, IsWithin}
 use Rattle.rpki_tree.specs.Point.{IsManifestIn, IsListOf, IsUnrevoked, Lists, ReadsList}
 use Rattle.rpki_crls.specs.Crl.{RevocationList}
-use Rattle.rpki_tree.specs.Point.{FindsFiles, IsManifestAt, PublishesIn, NamesManifest}
+use Rattle.rpki_tree.specs.Point.{FindsFiles, IsManifestAt, IsPresent, PublishesIn, NamesManifest}
 use Rattle.rpki_files.specs.Uris.{uris_of}
 use Rattle.rpki_der.specs.declared.error.DecodeError.TheVariants as errors
 use Rattle.rpki_faults.specs.declared.validation.ValidationError.TheVariants as faults
@@ -78,14 +78,15 @@ LacksList s ca folder signer manifest fault =
     ⊎ ((uri : List ℕ) × (signer.tbs.extensions.locations.crl ≡ Some uri)
     × LacksListAt s ca folder signer manifest uri fault)
 
--- Why the point with this manifest has not each file, or no list.
+-- Why the point with this manifest has not each file, or has each and no list.
 abbrev pub LacksRest : Setting → Validated → List ℕ → Certificate → Manifest → PointFault → Type 0
 LacksRest s ca folder signer manifest points.Unnamed = ⊥
 LacksRest s ca folder signer manifest (points.Manifest fault) = ⊥
 LacksRest s ca folder signer manifest (points.File fault) =
     FindsFiles s.cached s.digest (uris_of folder manifest.files) (Err fault)
 LacksRest s ca folder signer manifest (points.List fault) =
-    LacksList s ca folder signer manifest fault
+    All (IsPresent s.cached s.digest) (uris_of folder manifest.files)
+    × LacksList s ca folder signer manifest fault
 
 -- Why there is no point in this folder, whose manifest has this URI.
 abbrev pub LacksPointAt : Setting → Validated → List ℕ → List ℕ → PointFault → Type 0

@@ -1,6 +1,13 @@
 pub mod Setting
 pub mod Passes
 pub mod Point
+pub mod Cause
 pub mod Faults
+pub mod Memory
 pub mod Under
+pub mod Kind
+pub mod Files
 pub mod Tree
+pub mod Told
+pub mod Anchors
+pub mod Pass

@@ -13,4 +13,5 @@ setting cached digest verdict p = record {
   now = p.moment;
   digest = digest p.crypto.now;
   verdict = verdict p.crypto.now;
+  providers = p.providers;
 }

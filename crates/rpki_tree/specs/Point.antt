@@ -8,9 +8,8 @@ use Rattle.rpki_basics.specs.declared.limits.ManifestRule.TheVariants.{Any}
 use Rattle.rpki_crls.specs.Crl.{RevocationList, CrlForm, IsSignedBy}
 use Rattle.rpki_certs.specs.Cert.{Certificate}
 use Rattle.rpki_certs.specs.Validate.{Validated}
-use Rattle.rpki_files.specs.File.{File}
 use Rattle.rpki_files.specs.Manifest.{Manifest, ManifestForm}
-use Rattle.rpki_files.specs.Uris.{UriAndHash, uri_of, uris_of}
+use Rattle.rpki_files.specs.Uris.{UriAndHash, uris_of}
 use Rattle.rpki_signed.specs.Check.{BeginsWith}
 use Rattle.rpki_sigobj.specs.Signed.Good.{IsGood}
 use Rattle.rpki_sigobj.specs.Signed.Kind.{ObjectKind}
@@ -125,14 +124,6 @@ pub record IsPointAt (s : Setting) (ca : Validated) (folder uri : List ℕ) (p :
 abbrev pub IsPoint : Setting → Validated → Point → Type 0
 IsPoint s ca p = (folder : List ℕ) × (uri : List ℕ) × PublishesIn ca folder × NamesManifest ca uri
     × IsPointAt s ca folder uri p
-
--- The file is one of those that the point of the CA lists, and the copy has these octets for it.
-pub record IsFileOf (s : Setting) (ca : Validated) (p : Point) (file : File) (octets : List ℕ)
-    : Type 0 where
-  pub folder : List ℕ
-  pub publishes : PublishesIn ca folder
-  pub listed : Contains p.manifest.files file
-  pub present : Has s.cached s.digest (uri_of folder file) octets
 
 -- ---- what is answered
 

@@ -40,6 +40,22 @@ impl Model for Point {
     } };
 }
 
+impl Point {
+    /// Its manifest.
+    pub fn manifest(&self) -> &ManifestContent
+        ensures { result.now ≡ self.now.manifest }
+    {
+        &self.manifest
+    }
+
+    /// Its revocation list.
+    pub fn list(&self) -> &Crl
+        ensures { result.now.list ≡ self.now.list }
+    {
+        &self.list
+    }
+}
+
 /// Why a CA has no publication point in a copy.
 #[derive(Debug, Drop)]
 pub enum PointFault {
@@ -136,8 +152,8 @@ fn point_at<S: LocalCopy, C: Crypto>(
     }
 }
 
-// The folder in which a CA publishes.
-fn folder_of(ca: &ResourceCert) -> Option<&Rsync>
+/// The folder in which a CA publishes.
+pub(crate) fn folder_of(ca: &ResourceCert) -> Option<&Rsync>
     ensures { MatchOption result
         (ca.now.cert.certificate.tbs.extensions.locations.subject.ca_repository ≡ None)
         (λ folder. PublishesIn ca.now folder.now) }
@@ -145,8 +161,8 @@ fn folder_of(ca: &ResourceCert) -> Option<&Rsync>
     ca.cert().ca_repository()
 }
 
-// The URI of the manifest of a CA.
-fn manifest_of(ca: &ResourceCert) -> Option<&Rsync>
+/// The URI of the manifest of a CA.
+pub(crate) fn manifest_of(ca: &ResourceCert) -> Option<&Rsync>
     ensures { MatchOption result
         (ca.now.cert.certificate.tbs.extensions.locations.subject.rpki_manifest ≡ None)
         (λ uri. NamesManifest ca.now uri.now) }

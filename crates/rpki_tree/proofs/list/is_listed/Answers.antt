@@ -1,7 +1,7 @@
 -- One file more has another URI, or one has it.
 use Rattle.std.proofs.Common.{refl, sym, ◌∙◌, true≢false}
 use Rattle.rpki_files.specs.Uris.{uris_of}
-use Rattle.rpki_tree.proofs.Finding.{all-left, is-here, is-later, is-nowhere, first-left}
+use Rattle.rpki_tree.proofs.Looking.{all-left, is-here, is-later, is-nowhere, first-left}
 use Rattle.rpki_tree.proofs.list.is_listed.Goals as goal
 
 pub loop-item-init : goal.loop-item-init
