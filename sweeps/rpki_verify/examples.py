@@ -13,23 +13,39 @@ SHOWN = runpy.run_path(str(SWEEPS / "rpki_command" / "examples.py"))
 ROA, ASPA, RSC, MANIFEST = (SHOWN[name] for name in ("ROA", "ASPA", "RSC", "MANIFEST"))
 SIGNED, text = SHOWN["SIGNED"], SHOWN["text"]
 FILES = {name: path for name, path in SHOWN["FILES"].items() if not name.endswith(".verdicts")}
+LISTED = runpy.run_path(str(SWEEPS / "rpki_verdicts" / "examples.py"))
+FILES |= {name: LISTED["FILES"][name] for name in LISTED["RTA_LISTS"]}
+FILES |= {"second": "second.tal"}
 LISTS = {name.removesuffix(".verdicts"): (TREE / path).read_text("ascii").splitlines(keepends=True)
          for name, path in SHOWN["FILES"].items() if name.endswith(".verdicts")}
 HEAD = '''//! The objects of examples/, each with what the program says of it.
 
-use crate::given::{Row, is_said};
+use crate::given::{Row, is_said, is_said_by_list};
 use rpki_basics::Time;
 use std::test::Fail;
 '''
+AGREEMENT = """rta
+key 1A35C53323D25266354DB3F712B6E2D00DBDCF9C
+key 22C1F88A54BF57519EC5DE1FBA3C46609A8E4E42
+as AS64500-AS64503
+as AS65536-AS65543
+v4 198.51.100.0/25
+v4 203.0.113.0/24
+v6 2001:db8:100::/40
+v6 3fff::/24
+digest 27b1475ecc05bc4bbfc386c70f7bd74b99e7926da240c1e439a00700fdb4a9f2
+"""
 MALFORMED = "malformed\n"
 OTHER_TYPE = "malformed: eContentType is not the one that is asked for\n"
 ISSUER_MALFORMED = "issuer refused: malformed\n"
 CHAIN = "anchor", "authority"
+ANCHORS = "tal=second", "ca=anchor:authority"
 LARGE, NONE = (3, "out of memory\n"), (2, "cannot read none\n")
 HELP = """usage: rpki_verify [OPTION ..] check KIND FILE MOMENT TA [CA ..]
        rpki_verify [OPTION ..] walk FILE MOMENT TA [CA ..] with NAME=PATH ..
        rpki_verify [OPTION ..] verdicts FILE TA [CA ..]
        rpki_verify [OPTION ..] rta FILE MOMENT ANCHOR ..
+       rpki_verify [OPTION ..] verdicts rta FILE ANCHOR ..
        rpki_verify [OPTION ..] show KIND FILE
        rpki_verify [OPTION ..] content KIND FILE
        rpki_verify show tal FILE
@@ -38,6 +54,7 @@ OPTION, in this order: --relaxed --registered --wide
 KIND: aspa, manifest, roa or rsc; of show and content also rta
 MOMENT: now, or YYYYMMDDHHMMSSZ
 CA of walk: any file but one named with
+FILE after verdicts: any file but one named rta
 ANCHOR: tal=FILE or ca=TA[:CA ..]
 """
 WRONG = 2, "wrong words, expected:\n" + HELP, 0
@@ -53,6 +70,20 @@ def check(kind, file, *others, moment=GOOD, chain=CHAIN):
 
 def listed(file, *others, chain=CHAIN):
     return ["verdicts", file, *chain, *others]
+
+
+def rta(file, *anchors, moment=GOOD):
+    return ["rta", file, moment, *(anchors or ANCHORS)]
+
+
+def rta_listed(file, *anchors):
+    return ["verdicts", "rta", file, *(anchors or ANCHORS)]
+
+
+def rta_lines(name, *places):
+    """The lines of an attestation, without those at these places."""
+    return "".join(line.decode() for at, line in enumerate(LISTED["lines_of"](name))
+                   if at not in places)
 
 
 def walk(*pairs, file="manifest", moment=GOOD, chain=CHAIN):
@@ -133,6 +164,35 @@ ROWS = [
     (walk("origin.roa=none", chain=["anchor", "roa"]), None, *NONE, 4),
     (walk("origin.roa=large", "a=none", file="anchor"), None, *LARGE, 4),
     (walk("with=with", "with=roa"), None, 2, "cannot read with\n", 4),
+    # Attestations, and the lists of their good signatures. The CA that is supplied signed one of the
+    # certificates that are carried, and a locator nothing.
+    (rta("agreement"), None, 0, "yes\n" + AGREEMENT, 4),
+    (rta("broken_rta"), None, 1, "refused: missing certificate\n", 4),
+    (rta("overclaiming_rta"), None, 1, "refused: IP resources not fully covered\n", 4),
+    (rta("revoked"), None, 1, "refused: CA certificate has been revoked\n", 4),
+    (rta("agreement", "tal=roa"), None, 1, MALFORMED, 2),
+    *((rta_listed(name), None, 0, rta_lines(name), 4) for name in LISTED["RTA_LISTS"]
+      if name != "broken_rta"),
+    (["--relaxed", "--registered", "--wide"] + rta_listed("agreement"), EARLY, 0,
+     rta_lines("agreement"), 4),
+    (rta_listed("agreement", *ANCHORS[::-1]), None, 0, rta_lines("agreement"), 4),
+    (rta_listed("agreement", ANCHORS[1]), None, 0, rta_lines("agreement"), 3),
+    (rta_listed("broken_rta"), None, 0, rta_lines("broken_rta", LISTED["CHANGED"]), 4),
+    (rta_listed("agreement", ANCHORS[0]), None, 0,
+     rta_lines("agreement", 0, 1, LISTED["CUSTOMER"]), 2),
+    (rta_listed("agreement", "tal=roa", "tal=roa"), None, 0,
+     rta_lines("agreement", 0, 1, LISTED["CUSTOMER"]), 3),
+    (rta_listed("agreement", "ca=anchor"), None, 0,
+     rta_lines("agreement", 1, LISTED["CUSTOMER"]), 2),
+    (rta_listed("roa"), None, 1, MALFORMED, 4),
+    (["--relaxed"] + rta_listed("anchor", "tal=second"), None, 1, MALFORMED, 2),
+    (rta_listed("agreement", "ca=anchor:roa"), None, 1, ISSUER_MALFORMED, 3),
+    (rta_listed("roa", *ANCHORS, "ca=second"), None, 1, ISSUER_MALFORMED, 5),
+    (rta_listed("none", "tal=large"), None, *NONE, 1),
+    (rta_listed("agreement", "tal=large", "ca=none"), None, *LARGE, 2),
+    (rta_listed("agreement", "ca=anchor:none"), None, *NONE, 3),
+    (rta_listed("rta", "tal=second"), None, 2, "cannot read rta\n", 1),
+    (listed("./rta"), None, 2, "cannot read ./rta\n", 1),
     (["show", "rta", "roa"], None, 1, MALFORMED, 1),
     (["--wide", "content", "rta", "roa"], None, 1, MALFORMED, 1),
     (["content", "rta", "none"], None, *NONE, 1),
@@ -149,6 +209,10 @@ OTHER_WORDS = [
     check("roa", "roa", moment="20270101000000"), check("roa", ""), check("roa", "roa", ""),
     check("roa", "roa", chain=[""]), ["verdicts"], ["verdicts", "roa"], listed(""),
     listed("roa", ""), listed("roa", chain=["", "authority"]), ["show", "rta"],
+    ["verdicts", "rta"], ["verdicts", "rta", "agreement"], listed("rta"), rta_listed(""),
+    rta_listed("agreement", "anchor"), rta_listed("agreement", "tal=second", "second"),
+    rta_listed("agreement", "tal="), rta_listed("agreement", "ca=anchor:"),
+    rta_listed("agreement", "TAL=second"), ["rta", "verdicts", "agreement", *ANCHORS],
     ["content", "rta", ""], ["content", "tal", "roa"], ["show", "roa", ""],
     ["rta", "roa", GOOD, "roa", "tal=roa"],
     ["walk"], ["walk", "manifest", GOOD, "with"], walk()[:-1], walk("roa"), walk("origin.roa="),
@@ -159,6 +223,11 @@ OTHER_WORDS = [
     ["--strict"] + check("roa", "roa"), ["check", "--wide"] + check("roa", "roa")[1:],
 ]
 ROWS += [(words, GOOD, *WRONG) for words in OTHER_WORDS]
+# Attestations, moments and anchors: what is said by signatures, and by the list of the good ones.
+BY_LISTS = [(name, moment, anchors) for name in LISTED["RTA_LISTS"] for moment, anchors in (
+    (GOOD, ANCHORS), (GOOD, ANCHORS[::-1]), (GOOD, ANCHORS[:1]), (GOOD, ANCHORS[1:]),
+    (GOOD, ("ca=anchor", *ANCHORS)), (GOOD, ("tal=second", "ca=authority:anchor")),
+    (EARLY, ANCHORS), (EARLY, ANCHORS[:1]))]
 KINDS = "manifest", "roa", "aspa", "rsc"
 # Each file that can't be read, or that memory is not enough for, in turn.
 for kind in KINDS:
@@ -196,6 +265,12 @@ def main():
         print(f"    let row = Row {{ words: &words, now: {moment(now)}, status: {status},")
         print(f"        out: {out}, err: {err}, reads: {reads} }};")
         print("    let files = files();\n    is_said(&rt, &files, &row);\n    Ok(())\n}\n")
+    for number, (name, when, anchors) in enumerate(BY_LISTS):
+        given = ", ".join(text(it) for it in anchors)
+        print(f"#[test]\nfn by_list_{number}(rt: HostRuntime) -> Result<(), Fail> {{")
+        print(f"    let (files, anchors) = (files(), [{given}]);")
+        print(f"    is_said_by_list(&rt, &files, {text(name)}, {text(when)}, &anchors)?;")
+        print("    Ok(())\n}\n")
 
 
 if __name__ == "__main__":

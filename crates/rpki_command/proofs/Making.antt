@@ -4,7 +4,7 @@ use Rattle.std.proofs.Common.{Bool, true, false, Ok, Err, refl, sym, ap, subst, 
 use Rattle.std.proofs.Common.{length, get_or, take, drop, map, append_assoc, suc}
 use Rattle.std.proofs.Math.Seq.{drop-cons}
 use Rattle.std.proofs.lemmas.List.{append-nil, take-map, drop-map, length-append, length-drop}
-use Rattle.std.proofs.lemmas.List.{drop_all, length-take-le}
+use Rattle.std.proofs.lemmas.List.{drop_all, length-take-le, map-append}
 use Rattle.std.proofs.lemmas.List.Splits.{length-slice_split}
 use Rattle.std.specs.List.{slice_split}
 use Rattle.std.specs.Prelude.{if◌then◌else◌}
@@ -12,7 +12,8 @@ use Rattle.rpki_basics.specs.Moment.{Moment}
 use Rattle.rpki_certs.specs.Issuer.{octets_of}
 use Rattle.rpki_certs.specs.Verify.{Verdict}
 use Rattle.rpki_command.specs.Anchors.{Given, given_in, Makes, MakesOf, MakeEach, IsFirstUnmade}
-use Rattle.rpki_command.specs.Anchors.{AreMade}
+use Rattle.rpki_command.specs.Anchors.{AreMade, chains_in}
+use Rattle.rpki_verdicts.specs.Attested.{octets_of_chains}
 use Rattle.rpki_command.specs.Words.{texts, is_locator, is_colon, path_in, files_of_anchor}
 use Rattle.rpki_command.specs.Words.{files_of_anchors}
 use Rattle.rpki_command.specs.declared.anchors.Anchor.{Anchor}
@@ -70,6 +71,89 @@ given-next word words files own others e f =
     ∙ ap (λ (os : List (List ℕ)). given_of word own ∷ given_in words os)
     (octets-drop n files ∙ ap octets_of (sym f))
 
+-- ---- the files that are left
+
+-- The words up to a place name these anchors, and of the others these files are left.
+pub record IsCutAt (words : List (Bor (List ℕ))) (all : List (Vec ℕ Global)) (place : ℕ)
+    (left : List (Vec ℕ Global)) (done : List Given) : Type 0 where
+  pub cut : given_in (texts words) (octets_of all)
+      ≡ done ++ given_in (texts (drop place words)) (octets_of left)
+  pub enough : length (files_of_anchors (texts (drop place words))) ≤ length left
+
+module _ (words : List (Bor (List ℕ))) (all : List (Vec ℕ Global)) where
+  pub none-cut : length (files_of_anchors (texts words)) ≤ length all → IsCutAt words all 0 all []
+  none-cut l = record { cut = refl; enough = l }
+
+  module _ (place : ℕ) (left own others : List (Vec ℕ Global)) (done : List Given)
+      (d : Bor (List ℕ)) (n : ℕ) (is : IsCutAt words all place left done)
+      (there : place < length words)
+      (count : n ≡ length (files_of_anchor (get_or words place d).now))
+      (front : own ≡ take n left) (back : others ≡ drop n left) where
+    abbrev word : List ℕ
+    word = (get_or words place d).now
+
+    e : own ≡ take (length (files_of_anchor word)) left
+    e = front ∙ ap (λ (m : ℕ). take m left) count
+
+    f : others ≡ drop (length (files_of_anchor word)) left
+    f = back ∙ ap (λ (m : ℕ). drop m left) count
+
+    pub split : given_in (texts words) (octets_of all)
+        ≡ done ++ (given_of word own
+        ∷ given_in (texts (drop (place + 1) words)) (octets_of others))
+    split = is.cut
+        ∙ ap (λ (ws : List (Bor (List ℕ))).
+        done ++ given_in (texts ws) (octets_of left)) (left-at words place d there)
+        ∙ ap (λ (g : List Given). done ++ g)
+        (given-next word (texts (drop (place + 1) words)) left own others e f)
+
+    long : length (files_of_anchor word)
+        + length (files_of_anchors (texts (drop (place + 1) words))) ≤ length left
+    long = omega (
+      arith,
+      is.enough,
+      ap (λ (ws : List (Bor (List ℕ))). length (files_of_anchors (texts ws)))
+          (left-at words place d there),
+      length-append (files_of_anchor word)
+          (files_of_anchors (texts (drop (place + 1) words))),
+    )
+
+    -- its files are there
+    pub own-long : length (files_of_anchor word) ≤ length left
+    own-long = omega (arith, long)
+
+    all-own : length own ≡ length (files_of_anchor word)
+    all-own = ap length e ∙ length-take-le (length (files_of_anchor word)) left own-long
+
+    pub own-some : 1 ≤ length own
+    own-some = omega (arith, all-own, files-some word)
+
+    pub own-one : (b : Bool) → b ≡ is_locator word → b ≡ true → length own ≡ 1
+    own-one b i t = all-own ∙ files-one word (sym i ∙ t)
+
+    pub cut-more : IsCutAt words all (place + 1) others (done ++ given_of word own ∷ [])
+    cut-more = record {
+      cut = split
+          ∙ sym (append_assoc done (given_of word own ∷ [])
+          (given_in (texts (drop (place + 1) words)) (octets_of others)));
+      enough = omega (
+        arith,
+        long,
+        ap length f,
+        length-drop (length (files_of_anchor word)) left,
+      );
+    }
+
+  pub all-cut : (place : ℕ) (left : List (Vec ℕ Global)) (done : List Given)
+      → IsCutAt words all place left done → (place < length words → ⊥)
+      → given_in (texts words) (octets_of all) ≡ done
+  all-cut place left done is l = is.cut
+      ∙ ap (λ (ws : List (Bor (List ℕ))). done ++ given_in (texts ws) (octets_of left))
+      (drop_all place words (omega (arith, l)))
+      ∙ append-nil done
+
+-- ---- the anchors that they make
+
 module _ (verdict : Verdict) (now : Moment) where
   each-more : (done : List Given) (g : Given) (anchors : List Anchor) (a : Anchor)
       → MakeEach verdict now done anchors → Makes verdict now g (Ok a)
@@ -84,86 +168,38 @@ module _ (verdict : Verdict) (now : Moment) where
       (left : List (Vec ℕ Global)) (anchors : List Anchor) : Type 0 where
     pub done : List Given
     pub each : MakeEach verdict now done anchors
-    pub cut : given_in (texts words) (octets_of all)
-        ≡ done ++ given_in (texts (drop place words)) (octets_of left)
-    pub enough : length (files_of_anchors (texts (drop place words))) ≤ length left
+    pub is_cut : IsCutAt words all place left done
 
   module _ (words : List (Bor (List ℕ))) (all : List (Vec ℕ Global)) where
     pub none-made : length (files_of_anchors (texts words)) ≤ length all
         → AreMadeTo words all 0 all []
-    none-made l = record { done = []; each = tt; cut = refl; enough = l }
+    none-made l = record { done = []; each = tt; is_cut = none-cut words all l }
 
     module _ (place : ℕ) (left own others : List (Vec ℕ Global)) (anchors : List Anchor)
         (d : Bor (List ℕ)) (n : ℕ) (is : AreMadeTo words all place left anchors)
         (there : place < length words)
         (count : n ≡ length (files_of_anchor (get_or words place d).now))
         (front : own ≡ take n left) (back : others ≡ drop n left) where
-      abbrev word : List ℕ
-      word = (get_or words place d).now
+      abbrev named : List ℕ
+      named = (get_or words place d).now
 
-      e : own ≡ take (length (files_of_anchor word)) left
-      e = front ∙ ap (λ (m : ℕ). take m left) count
-
-      f : others ≡ drop (length (files_of_anchor word)) left
-      f = back ∙ ap (λ (m : ℕ). drop m left) count
-
-      split : given_in (texts words) (octets_of all)
-          ≡ is.done ++ (given_of word own
-          ∷ given_in (texts (drop (place + 1) words)) (octets_of others))
-      split = is.cut
-          ∙ ap (λ (ws : List (Bor (List ℕ))).
-          is.done ++ given_in (texts ws) (octets_of left)) (left-at words place d there)
-          ∙ ap (λ (g : List Given). is.done ++ g)
-          (given-next word (texts (drop (place + 1) words)) left own others e f)
-
-      long : length (files_of_anchor word)
-          + length (files_of_anchors (texts (drop (place + 1) words))) ≤ length left
-      long = omega (
-        arith,
-        is.enough,
-        ap (λ (ws : List (Bor (List ℕ))). length (files_of_anchors (texts ws)))
-            (left-at words place d there),
-        length-append (files_of_anchor word)
-            (files_of_anchors (texts (drop (place + 1) words))),
-      )
-
-      -- its files are there
-      pub own-long : length (files_of_anchor word) ≤ length left
-      own-long = omega (arith, long)
-
-      all-own : length own ≡ length (files_of_anchor word)
-      all-own = ap length e ∙ length-take-le (length (files_of_anchor word)) left own-long
-
-      pub own-some : 1 ≤ length own
-      own-some = omega (arith, all-own, files-some word)
-
-      pub own-one : (b : Bool) → b ≡ is_locator word → b ≡ true → length own ≡ 1
-      own-one b i t = all-own ∙ files-one word (sym i ∙ t)
-
-      pub one-made : (a : Anchor) → MakesOf verdict now (is_locator word) (octets_of own) (Ok a)
+      pub one-made : (a : Anchor) → MakesOf verdict now (is_locator named) (octets_of own) (Ok a)
           → AreMadeTo words all (place + 1) others (anchors ++ a ∷ [])
       one-made a m = record {
-        done = is.done ++ given_of word own ∷ [];
-        each = each-more is.done (given_of word own) anchors a is.each m;
-        cut = split
-            ∙ sym (append_assoc is.done (given_of word own ∷ [])
-            (given_in (texts (drop (place + 1) words)) (octets_of others)));
-        enough = omega (
-          arith,
-          long,
-          ap length f,
-          length-drop (length (files_of_anchor word)) left,
-        );
+        done = is.done ++ given_of named own ∷ [];
+        each = each-more is.done (given_of named own) anchors a is.each m;
+        is_cut = cut-more words all place left own others is.done d n is.is_cut there count front
+            back;
       }
 
       pub one-unmade : (fault : AnchorError)
-          → MakesOf verdict now (is_locator word) (octets_of own) (Err fault)
+          → MakesOf verdict now (is_locator named) (octets_of own) (Err fault)
           → AreMade verdict now (given_in (texts words) (octets_of all)) (Err fault)
       one-unmade fault m = inr (record {
         before = is.done;
-        first = given_of word own;
+        first = given_of named own;
         after = given_in (texts (drop (place + 1) words)) (octets_of others);
-        cut = split;
+        cut = split words all place left own others is.done d n is.is_cut there count front back;
         made = anchors;
         each = is.each;
         unmade = m;
@@ -174,7 +210,81 @@ module _ (verdict : Verdict) (now : Moment) where
         → MakeEach verdict now (given_in (texts words) (octets_of all)) anchors
     all-made place left anchors is l =
         subst (λ (g : List Given). MakeEach verdict now g anchors)
-        (sym (is.cut
-        ∙ ap (λ (ws : List (Bor (List ℕ))). is.done ++ given_in (texts ws) (octets_of left))
-        (drop_all place words (omega (arith, l)))
-        ∙ append-nil is.done)) is.each
+        (sym (all-cut words all place left is.done is.is_cut l)) is.each
+
+-- ---- their chains
+
+chains-more : (done : List Given) (g : Given)
+    → chains_in (done ++ g ∷ []) ≡ chains_in done ++ chains_in (g ∷ [])
+chains-more [] g = refl
+chains-more (d ∷ done) g =
+    ap (λ (cs : List (List (List ℕ))). (if d.locates then [] else d.files ∷ []) ++ cs)
+    (chains-more done g)
+    ∙ sym (append_assoc (if d.locates then [] else d.files ∷ []) (chains_in done)
+    (chains_in (g ∷ [])))
+
+no-chain : (b : Bool) (files : List (List ℕ)) → b ≡ true
+    → (if b then [] else files ∷ []) ++ [] ≡ []
+no-chain true files e = refl
+no-chain false files e = absurd cc
+
+its-chain : (b : Bool) (files : List (List ℕ)) → b ≡ false
+    → (if b then [] else files ∷ []) ++ [] ≡ files ∷ []
+its-chain true files e = absurd cc
+its-chain false files e = refl
+
+-- These are the chains of the words up to a place, and of the others these files are left.
+pub record AreChainsTo (words : List (Bor (List ℕ))) (all : List (Vec ℕ Global)) (place : ℕ)
+    (left : List (Vec ℕ Global)) (chains : List (Bor (List (Vec ℕ Global)))) : Type 0 where
+  pub done : List Given
+  pub chained : octets_of_chains chains ≡ chains_in done
+  pub is_cut : IsCutAt words all place left done
+
+module _ (words : List (Bor (List ℕ))) (all : List (Vec ℕ Global)) where
+  pub none-chained : length (files_of_anchors (texts words)) ≤ length all
+      → AreChainsTo words all 0 all []
+  none-chained l = record { done = []; chained = refl; is_cut = none-cut words all l }
+
+  module _ (place : ℕ) (left own others : List (Vec ℕ Global))
+      (chains : List (Bor (List (Vec ℕ Global)))) (d : Bor (List ℕ)) (n : ℕ)
+      (is : AreChainsTo words all place left chains) (there : place < length words)
+      (count : n ≡ length (files_of_anchor (get_or words place d).now))
+      (front : own ≡ take n left) (back : others ≡ drop n left) where
+    abbrev said : List ℕ
+    said = (get_or words place d).now
+
+    more : IsCutAt words all (place + 1) others (is.done ++ given_of said own ∷ [])
+    more = cut-more words all place left own others is.done d n is.is_cut there count front back
+
+    one-more : (cs : List (List (List ℕ))) → chains_in (given_of said own ∷ []) ≡ cs
+        → octets_of_chains chains ++ cs ≡ chains_in (is.done ++ given_of said own ∷ [])
+    one-more cs e =
+        ap (λ (xs : List (List (List ℕ))). xs ++ cs) is.chained
+        ∙ sym (chains-more is.done (given_of said own)
+        ∙ ap (λ (xs : List (List (List ℕ))). chains_in is.done ++ xs) e)
+
+    -- a locator is passed over
+    pub one-located : is_locator said ≡ true → AreChainsTo words all (place + 1) others chains
+    one-located e = record {
+      done = is.done ++ given_of said own ∷ [];
+      chained = sym (append-nil (octets_of_chains chains))
+          ∙ one-more [] (no-chain (is_locator said) (octets_of own) e);
+      is_cut = more;
+    }
+
+    pub one-chained : (x : Bor (List (Vec ℕ Global))) → x.now ≡ own → is_locator said ≡ false
+        → AreChainsTo words all (place + 1) others (chains ++ x ∷ [])
+    one-chained x same e = record {
+      done = is.done ++ given_of said own ∷ [];
+      chained = map-append (λ (c : Bor (List (Vec ℕ Global))). octets_of c.now) chains (x ∷ [])
+          ∙ ap (λ (os : List (Vec ℕ Global)). octets_of_chains chains ++ octets_of os ∷ []) same
+          ∙ one-more (octets_of own ∷ []) (its-chain (is_locator said) (octets_of own) e);
+      is_cut = more;
+    }
+
+  pub all-chained : (place : ℕ) (left : List (Vec ℕ Global))
+      (chains : List (Bor (List (Vec ℕ Global)))) → AreChainsTo words all place left chains
+      → (place < length words → ⊥)
+      → octets_of_chains chains ≡ chains_in (given_in (texts words) (octets_of all))
+  all-chained place left chains is l =
+      is.chained ∙ ap chains_in (sym (all-cut words all place left is.done is.is_cut l))

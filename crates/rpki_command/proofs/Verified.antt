@@ -1,7 +1,10 @@
+pub mod Alike
 pub mod Clocks
 pub mod Listed
 pub mod Optioned
 pub mod Orders
 pub mod Right
+pub mod RtaListed
+pub mod RtaSufficing
 pub mod Sufficing
 pub mod Verifying

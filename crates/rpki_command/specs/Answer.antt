@@ -74,6 +74,7 @@ usage_text = codes "usage: rpki_verify [OPTION ..] check KIND FILE MOMENT TA [CA
     ++ (codes "       rpki_verify [OPTION ..] walk FILE MOMENT TA [CA ..] with NAME=PATH ..\n"
     ++ (codes "       rpki_verify [OPTION ..] verdicts FILE TA [CA ..]\n"
     ++ (codes "       rpki_verify [OPTION ..] rta FILE MOMENT ANCHOR ..\n"
+    ++ (codes "       rpki_verify [OPTION ..] verdicts rta FILE ANCHOR ..\n"
     ++ (codes "       rpki_verify [OPTION ..] show KIND FILE\n"
     ++ (codes "       rpki_verify [OPTION ..] content KIND FILE\n"
     ++ (codes "       rpki_verify show tal FILE\n"
@@ -82,7 +83,8 @@ usage_text = codes "usage: rpki_verify [OPTION ..] check KIND FILE MOMENT TA [CA
     ++ (codes "KIND: aspa, manifest, roa or rsc; of show and content also rta\n"
     ++ (codes "MOMENT: now, or YYYYMMDDHHMMSSZ\n"
     ++ (codes "CA of walk: any file but one named with\n"
-    ++ codes "ANCHOR: tal=FILE or ca=TA[:CA ..]\n")))))))))))
+    ++ (codes "FILE after verdicts: any file but one named rta\n"
+    ++ codes "ANCHOR: tal=FILE or ca=TA[:CA ..]\n")))))))))))))
 
 -- that program says how it is called
 abbrev pub help : Output

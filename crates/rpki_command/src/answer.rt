@@ -18,6 +18,7 @@ const USAGE: &[u8] = b"usage: rpki_verify [OPTION ..] check KIND FILE MOMENT TA 
        rpki_verify [OPTION ..] walk FILE MOMENT TA [CA ..] with NAME=PATH ..
        rpki_verify [OPTION ..] verdicts FILE TA [CA ..]
        rpki_verify [OPTION ..] rta FILE MOMENT ANCHOR ..
+       rpki_verify [OPTION ..] verdicts rta FILE ANCHOR ..
        rpki_verify [OPTION ..] show KIND FILE
        rpki_verify [OPTION ..] content KIND FILE
        rpki_verify show tal FILE
@@ -26,6 +27,7 @@ OPTION, in this order: --relaxed --registered --wide
 KIND: aspa, manifest, roa or rsc; of show and content also rta
 MOMENT: now, or YYYYMMDDHHMMSSZ
 CA of walk: any file but one named with
+FILE after verdicts: any file but one named rta
 ANCHOR: tal=FILE or ca=TA[:CA ..]";
 
 /// What stands in front of it after wrong words.

@@ -22,22 +22,23 @@ use Rattle.rpki_verdicts.specs.Lists.{BeginWith, AreCerts, AreNotAllCerts, IsLis
 use Rattle.rpki_verdicts.specs.Lists.{PushesCert, PushesChain}
 use Rattle.rpki_verdicts.specs.Lists.{PushesCerts, PushesObject, chain_lines}
 use Rattle.rpki_verdicts.specs.Questions.{cert_question, chain_questions, signer_question}
-use Rattle.rpki_verdicts.specs.Questions.{check_questions}
+use Rattle.rpki_verdicts.specs.Questions.{check_questions, last_of}
 
 -- What is left of the files makes the lines that are missing, and where it has no certificates, all
 -- of the files have none.
-pub record GoesOn (verdict : Verdict) (key : List ℕ) (files : List (List ℕ)) (old : List ℕ)
-    (last : List ℕ) (left : List (List ℕ)) (text : List ℕ) : Type 0 where
+pub record GoesOn (verdict : Verdict) (first : Certificate) (files : List (List ℕ)) (old : List ℕ)
+    (last : Certificate) (left : List (List ℕ)) (text : List ℕ) : Type 0 where
   pub grown : (end : List Certificate) → AreCerts left end
       → (certs : List Certificate) × AreCerts files certs
-      × ((tail : List Certificate) → old ++ chain_lines verdict key (certs ++ tail)
-      ≡ text ++ chain_lines verdict last (end ++ tail))
+      × ((tail : List Certificate) → old ++ chain_lines verdict first.tbs.key (certs ++ tail)
+      ≡ text ++ chain_lines verdict last.tbs.key (end ++ tail))
+      × (last_of first certs ≡ last_of last end)
   pub none : AreNotAllCerts left → AreNotAllCerts files
 
-pub begun : (verdict : Verdict) (key : List ℕ) (files : List (List ℕ)) (old : List ℕ)
-    → GoesOn verdict key files old key files old
-begun verdict key files old = record {
-  grown = λ end are. (end, are, λ tail. refl);
+pub begun : (verdict : Verdict) (first : Certificate) (files : List (List ℕ)) (old : List ℕ)
+    → GoesOn verdict first files old first files old
+begun verdict first files old = record {
+  grown = λ end are. (end, are, λ tail. refl, refl);
   none = λ absent. absent;
 }
 
@@ -51,12 +52,12 @@ none-after : (file : List ℕ) (left : List (List ℕ)) → AreNotAllCerts left
 none-after file left absent [] are = are
 none-after file left absent (cert ∷ certs) are = absent certs are.1
 
-module _ (verdict : Verdict) (key : List ℕ) (files : List (List ℕ)) (old last : List ℕ)
-    (file : List ℕ) (left : List (List ℕ)) (text : List ℕ)
-    (goes : GoesOn verdict key files old last (file ∷ left) text) where
+module _ (verdict : Verdict) (first : Certificate) (files : List (List ℕ)) (old : List ℕ)
+    (last : Certificate) (file : List ℕ) (left : List (List ℕ)) (text : List ℕ)
+    (goes : GoesOn verdict first files old last (file ∷ left) text) where
   pub one-pushed : (cert : KeptCertificate) (new : List ℕ)
-      → PushesCert verdict (λ c. last) file text (Ok cert) new
-      → GoesOn verdict key files old cert.certificate.tbs.key left new
+      → PushesCert verdict (λ c. last.tbs.key) file text (Ok cert) new
+      → GoesOn verdict first files old cert.certificate left new
   one-pushed cert new pushed = record {
     grown = λ end are.
         let h = goes.grown (cert.certificate ∷ end) (pushed.0, are) in (
@@ -65,6 +66,7 @@ module _ (verdict : Verdict) (key : List ℕ) (files : List (List ℕ)) (old las
           λ tail.
               let e = h.2 tail in let n = pushed.1 in
               e ∙ sym (rw n (append_assoc text _ _)),
+          h.3,
         );
     none = λ absent. goes.none (none-after file left absent);
   }
@@ -75,11 +77,11 @@ module _ (verdict : Verdict) (key : List ℕ) (files : List (List ℕ)) (old las
   one-refused Malformed absent = goes.none (no-certs file left absent)
   one-refused (Content fault) absent = goes.none (no-certs file left absent)
 
-pub all-pushed : (verdict : Verdict) (key : List ℕ) (files : List (List ℕ)) (old : List ℕ)
+pub all-pushed : (verdict : Verdict) (first : Certificate) (files : List (List ℕ)) (old : List ℕ)
     (last : KeptCertificate) (text : List ℕ)
-    → GoesOn verdict key files old last.certificate.tbs.key [] text
-    → PushesChain verdict key files old (Ok last) text
-all-pushed verdict key files old last text goes = goes.grown [] tt
+    → GoesOn verdict first files old last.certificate [] text
+    → PushesChain verdict first files old (Ok last) text
+all-pushed verdict first files old last text goes = goes.grown [] tt
 
 -- ---- by their places
 
@@ -97,16 +99,16 @@ none-left (x ∷ xs) zero n = absurd (n (omega arith))
 none-left (x ∷ xs) (suc i) n = none-left xs i (λ l. n (omega (arith, l)))
 
 -- the files that are left are this one and those that are left after it
-pub next-left : (verdict : Verdict) (key : List ℕ) (files : List (List ℕ)) (old last : List ℕ)
-    (text : List ℕ) (chain : List (Vec ℕ Global)) (i : ℕ) (d : Vec ℕ Global) → i < length chain
-    → GoesOn verdict key files old last (octets_of (drop i chain)) text
-    → GoesOn verdict key files old last
+pub next-left : (verdict : Verdict) (first : Certificate) (files : List (List ℕ)) (old : List ℕ)
+    (last : Certificate) (text : List ℕ) (chain : List (Vec ℕ Global)) (i : ℕ) (d : Vec ℕ Global)
+    → i < length chain → GoesOn verdict first files old last (octets_of (drop i chain)) text
+    → GoesOn verdict first files old last
     ((get_or chain i d).items ∷ octets_of (drop (i + 1) chain)) text
-next-left verdict key files old last text chain i d l goes =
+next-left verdict first files old last text chain i d l goes =
     let same : suc i ≡ i + 1 = omega arith in
-    subst (λ (j : ℕ). GoesOn verdict key files old last
+    subst (λ (j : ℕ). GoesOn verdict first files old last
     ((get_or chain i d).items ∷ octets_of (drop j chain)) text) same
-    (subst (λ (left : List (List ℕ)). GoesOn verdict key files old last left text)
+    (subst (λ (left : List (List ℕ)). GoesOn verdict first files old last left text)
     (left-cons chain i d l) goes)
 
 -- ---- one certificate
@@ -147,7 +149,7 @@ module _ (verdict : Verdict) (anchor : List ℕ) (chain : List (List ℕ)) (old 
     (first : KeptCertificate)
     (pushed : PushesCert verdict (λ c. c.tbs.key) anchor old (Ok first) text) where
   pub certs-pushed : (result : Result KeptCertificate DecodeError) (new : List ℕ)
-      → PushesChain verdict first.certificate.tbs.key chain text result new
+      → PushesChain verdict first.certificate chain text result new
       → PushesCerts verdict anchor chain old result new
   certs-pushed (Ok last) new h = (
     first.certificate,
@@ -158,6 +160,7 @@ module _ (verdict : Verdict) (anchor : List ℕ) (chain : List (List ℕ)) (old 
         first.certificate)) (chain_lines verdict first.certificate.tbs.key (h.0 ++ tail)))
         ∙ (ap (λ (t : List ℕ). t ++ chain_lines verdict first.certificate.tbs.key (h.0 ++ tail))
         (sym pushed.1) ∙ h.2 tail),
+    h.3,
   )
   certs-pushed (Err e) new absent = chain-refused e anchor chain absent
 

@@ -15,7 +15,7 @@ use Rattle.rpki_certs.specs.Verify.{Verdict}
 use Rattle.rpki_sigobj.specs.Object.{SignedObject, SignedForm}
 use Rattle.rpki_verdicts.specs.Listing.{good_line, listing}
 use Rattle.rpki_verdicts.specs.Questions.{cert_question, chain_questions, signer_question}
-use Rattle.rpki_verdicts.specs.Questions.{check_questions}
+use Rattle.rpki_verdicts.specs.Questions.{check_questions, last_of}
 use Rattle.rpki_verdicts.specs.declared.list.ListingError.{ListingError}
 use Rattle.rpki_verdicts.specs.declared.list.ListingError.TheVariants as fault
 
@@ -82,16 +82,17 @@ PushesCert verdict key_of file old (Err e) new = Refuses e (HasNoFront (CertForm
 abbrev pub chain_lines : Verdict → List ℕ → List Certificate → List ℕ
 chain_lines verdict key certs = listing verdict (chain_questions key certs)
 
--- A text grows by the lines of a chain after this key, and the last certificate is given. It is
+-- A text grows by the lines of a chain after this certificate, and the last one is given. It is
 -- said for whatever certificates follow (`tail`): their lines by the key of the last one are what
 -- is missing from the lines of all.
-abbrev pub PushesChain : Verdict → List ℕ → List (List ℕ) → List ℕ
+abbrev pub PushesChain : Verdict → Certificate → List (List ℕ) → List ℕ
     → Result KeptCertificate DecodeError → List ℕ → Type 0
-PushesChain verdict key chain old (Ok last) new =
+PushesChain verdict first chain old (Ok last) new =
     (certs : List Certificate) × AreCerts chain certs
-    × ((tail : List Certificate) → old ++ chain_lines verdict key (certs ++ tail)
+    × ((tail : List Certificate) → old ++ chain_lines verdict first.tbs.key (certs ++ tail)
     ≡ new ++ chain_lines verdict last.certificate.tbs.key tail)
-PushesChain verdict key chain old (Err e) new = Refuses e (AreNotAllCerts chain)
+    × (last_of first certs ≡ last.certificate)
+PushesChain verdict first chain old (Err e) new = Refuses e (AreNotAllCerts chain)
 
 -- The same, with the certificate of a trust anchor in front.
 abbrev pub PushesCerts : Verdict → List ℕ → List (List ℕ) → List ℕ
@@ -101,6 +102,7 @@ PushesCerts verdict anchor chain old (Ok last) new =
     × AreCerts (anchor ∷ chain) (first ∷ others)
     × ((tail : List Certificate) → old ++ chain_lines verdict first.tbs.key
     (first ∷ (others ++ tail)) ≡ new ++ chain_lines verdict last.certificate.tbs.key tail)
+    × (last_of first others ≡ last.certificate)
 PushesCerts verdict anchor chain old (Err e) new = Refuses e (AreNotAllCerts (anchor ∷ chain))
 
 -- A text grows by the lines of an object under the issuer with this key.

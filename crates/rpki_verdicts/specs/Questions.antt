@@ -26,6 +26,11 @@ abbrev pub chain_questions : List ℕ → List Certificate → List Question
 chain_questions key [] = []
 chain_questions key (c ∷ others) = cert_question key c ∷ chain_questions c.tbs.key others
 
+-- the last certificate of a chain that begins with this one
+abbrev pub last_of : Certificate → List Certificate → Certificate
+last_of first [] = first
+last_of first (c ∷ others) = last_of c others
+
 -- whether the key of its certificate signed the message of its signed attributes (RFC 5652, section
 -- 5.4)
 abbrev pub signer_question : SignedData → Question

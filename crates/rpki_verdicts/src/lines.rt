@@ -3,12 +3,14 @@
 ghost use Rattle.std.specs.Prelude.{◌≡◌, ◌≢◌, ◌++◌, IfOk, OnOk, string_bytes};
 ghost use Rattle.rpki_der.specs.declared.encode.EncodeError.TheVariants.{Memory};
 ghost use Rattle.rpki_verdicts.specs.Verdicts.{digest_text, line_of};
+ghost use Rattle.rpki_verdicts.specs.Attested.{certificates, has_id, named_question};
+ghost use Rattle.rpki_verdicts.specs.Attested.{named_questions};
 ghost use Rattle.rpki_verdicts.specs.Grows.{Grows};
-ghost use Rattle.rpki_verdicts.specs.Listing.{good_line};
+ghost use Rattle.rpki_verdicts.specs.Listing.{good_line, listing};
 ghost use Rattle.rpki_verdicts.specs.Questions.{cert_question, signer_question};
 
 use hex::encode;
-use rpki_basics::{Crypto, PublicKey, RpkiSignature};
+use rpki_basics::{Crypto, KeyIdentifier, PublicKey, RpkiSignature};
 use rpki_certs::Cert;
 use rpki_der::EncodeError;
 use rpki_sigobj::SignedObject;
@@ -45,6 +47,55 @@ pub fn push_signed<C: Crypto>(
 {
     push_cert(alloc, text, key, object.cert(), crypto)?;
     push_signer(alloc, text, object, crypto)
+}
+
+/// Appends a line for each of these certificates that has this identifier of its key, if the key
+/// signed the message so. Refuses where memory runs out.
+pub fn push_named<C: Crypto>(
+    alloc: Global,
+    text: &mut String,
+    certs: &[Cert],
+    id: KeyIdentifier,
+    message: &[u8],
+    signature: &RpkiSignature,
+    crypto: &C,
+) -> Result<(), AllocError>
+    ensures { Grows result text.old text.new (listing (C.is_signed crypto.now)
+        (named_questions (certificates certs.now) id message.now signature.now)) }
+{
+    for cert in certs {
+        push_if_named(alloc, text, cert, id, message, signature, crypto)?;
+    }
+    Ok(())
+}
+
+/// Appends the line of a signature of the message by the key of this certificate, if it has this
+/// identifier and the signature is good.
+fn push_if_named<C: Crypto>(
+    alloc: Global,
+    text: &mut String,
+    cert: &Cert,
+    id: KeyIdentifier,
+    message: &[u8],
+    signature: &RpkiSignature,
+    crypto: &C,
+) -> Result<(), AllocError>
+    ensures { Grows result text.old text.new (listing (C.is_signed crypto.now)
+        (named_question id message.now signature.now cert.now.certificate)) }
+{
+    if has_id(cert, id) {
+        let key = cert.subject_public_key_info();
+        push_good(alloc, text, key, message, signature, crypto)
+    } else {
+        Ok(())
+    }
+}
+
+/// Whether the key of a certificate has this identifier.
+fn has_id(cert: &Cert, id: KeyIdentifier) -> bool
+    ensures { result ≡ has_id id cert.now.certificate }
+{
+    cert.subject_key_identifier().as_slice() == id.as_slice()
 }
 
 /// Appends the line of an object, if the key of its certificate signed it.

@@ -79,7 +79,7 @@ pub fn listing<C: Crypto>(
 
 /// Appends the lines of the certificate of a trust anchor and of a chain under it, and gives the
 /// last one.
-fn push_certs<C: Crypto>(
+pub(crate) fn push_certs<C: Crypto>(
     alloc: Global,
     text: &mut String,
     anchor: &[u8],
@@ -123,7 +123,7 @@ fn push_chain<C: Crypto>(
     chain: &[Vec<u8>],
     crypto: &C,
 ) -> Result<Cert, DecodeError>
-    ensures { PushesChain (C.is_signed crypto.now) first.certificate.tbs.key (octets_of chain.now)
+    ensures { PushesChain (C.is_signed crypto.now) first.certificate (octets_of chain.now)
         (string_bytes text.old) result (string_bytes text.new) }
 {
     let mut issuer = first;

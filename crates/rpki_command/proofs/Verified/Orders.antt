@@ -1,6 +1,6 @@
 -- No words ask for two things.
 use Rattle.std.proofs.Common.{rules, ◌≡◌, ℕ, List, [], ◌∷◌, Bool, true, false, sym, refl, ◌∙◌}
-use Rattle.std.proofs.Common.{Option, Some, None, IsTrue, codes, ap}
+use Rattle.std.proofs.Common.{Option, Some, None, IsTrue, codes, ap, subst}
 use Rattle.std.specs.Prelude.{MatchOption}
 use Rattle.rpki_basics.specs.Moment.{Moment, IsMoment}
 use Rattle.rpki_basics.specs.Time.Read.{generalized_of, pair_at}
@@ -19,10 +19,11 @@ use Rattle.rpki_command.specs.Verify.Words.{when_word, IsWhen, is_shared, verify
 use Rattle.rpki_command.specs.Verify.Words.{IsFit, verify_language, IsPlain}
 use Rattle.rpki_command.specs.Verify.Words.{AskForNoCheck, AskForNoList, AskForNothingShared}
 use Rattle.rpki_command.specs.Verify.Words.{AskForNoWalk, AskForNoRta, AskForNothingElse, has_tail}
-use Rattle.rpki_command.specs.Verify.Words.{IsSharedBy, IsOptioned}
+use Rattle.rpki_command.specs.Verify.Words.{AskForNoRtaList, IsSharedBy, IsOptioned, word_rta}
 use Rattle.rpki_command.specs.declared.verify.words.VerifyCommand.{VerifyCommand}
 use Rattle.rpki_command.specs.declared.verify.words.VerifyCommand.TheVariants.{Help, Shared, Check}
 use Rattle.rpki_command.specs.declared.verify.words.VerifyCommand.TheVariants.{Verdicts, Walk, Rta}
+use Rattle.rpki_command.specs.declared.verify.words.VerifyCommand.TheVariants.{RtaVerdicts}
 use Rattle.rpki_command.specs.declared.verify.words.When.{When}
 use Rattle.rpki_command.specs.declared.verify.words.When.TheVariants.{Now, At}
 use Rattle.rpki_command.proofs.Verified.Optioned.{options-once}
@@ -63,6 +64,9 @@ not-both b t f = cc
 
 rest-same : {word : List ℕ} {a b : List (List ℕ)} → word ∷ a ≡ word ∷ b → a ≡ b
 rest-same e = cc
+
+first-same : {a b : List ℕ} {rest more : List (List ℕ)} → a ∷ rest ≡ b ∷ more → a ≡ b
+first-same e = cc
 
 help-first : (rest : List (List ℕ)) → codes "check" ∷ rest ≡ codes "--help" ∷ [] → ⊥
 help-first rest e = search rules
@@ -126,6 +130,10 @@ rtas-same : (f g : List ℕ) (v w : When) (a b : List (List ℕ)) → f ≡ g �
     → Rta f v a ≡ Rta g w b
 rtas-same f g v w a b p q r = cc
 
+rta-lists-same : (f g : List ℕ) (a b : List (List ℕ)) → f ≡ g → a ≡ b
+    → RtaVerdicts f a ≡ RtaVerdicts g b
+rta-lists-same f g a b p q = cc
+
 pub commands-once : (a b : VerifyCommand) → IsFit a → IsFit b → verify_words a ≡ verify_words b → a
     ≡ b
 commands-once Help Help i j e = refl
@@ -134,6 +142,7 @@ commands-once Help (Check k f m a c) i j e = absurd (help-first _ (sym e))
 commands-once Help (Verdicts f a c) i j e = absurd (help-not-list _ (sym e))
 commands-once Help (Walk f m a t) i j e = absurd (help-not-walk _ (sym e))
 commands-once Help (Rta f m a) i j e = absurd (help-not-rta _ (sym e))
+commands-once Help (RtaVerdicts f a) i j e = absurd (help-not-list _ (sym e))
 commands-once (Shared c) Help i j e = absurd (not-help c _ e)
 commands-once (Shared c) (Shared d) i j e =
     ap (λ (x : Command). Shared x)
@@ -142,6 +151,7 @@ commands-once (Shared c) (Check k f m a d) i j e = absurd (not-check c _ i e)
 commands-once (Shared c) (Verdicts f a d) i j e = absurd (not-list c _ e)
 commands-once (Shared c) (Walk f m a t) i j e = absurd (not-walk c _ i e)
 commands-once (Shared c) (Rta f m a) i j e = absurd (not-rta c _ i e)
+commands-once (Shared c) (RtaVerdicts f a) i j e = absurd (not-list c _ e)
 commands-once (Check k f m a c) Help i j e = absurd (help-first _ e)
 commands-once (Check k f m a c) (Shared d) i j e = absurd (not-check d _ j (sym e))
 commands-once (Check k f m a c) (Check l g n b d) i j e =
@@ -154,6 +164,7 @@ commands-once (Check k f m a c) (Check l g n b d) i j e =
 commands-once (Check k f m a c) (Verdicts g b d) i j e = absurd (check-not-list _ _ (sym e))
 commands-once (Check k f m a c) (Walk g n b t) i j e = absurd (check-not-walk _ _ (sym e))
 commands-once (Check k f m a c) (Rta g n b) i j e = absurd (check-not-rta _ _ (sym e))
+commands-once (Check k f m a c) (RtaVerdicts g b) i j e = absurd (check-not-list _ _ (sym e))
 commands-once (Verdicts f a c) Help i j e = absurd (help-not-list _ e)
 commands-once (Verdicts f a c) (Shared d) i j e = absurd (not-list d _ (sym e))
 commands-once (Verdicts f a c) (Check k g m b d) i j e = absurd (check-not-list _ _ e)
@@ -164,6 +175,9 @@ commands-once (Verdicts f a c) (Verdicts g b d) i j e =
     lists-same f g a b c d p q r
 commands-once (Verdicts f a c) (Walk g m b t) i j e = absurd (list-not-walk _ _ (sym e))
 commands-once (Verdicts f a c) (Rta g m b) i j e = absurd (list-not-rta _ _ (sym e))
+commands-once (Verdicts f a c) (RtaVerdicts g b) i j e =
+    let p : f ≡ word_rta = cc in
+    absurd (i p)
 commands-once (Walk f m a t) Help i j e = absurd (help-not-walk _ e)
 commands-once (Walk f m a t) (Shared d) i j e = absurd (not-walk d _ j (sym e))
 commands-once (Walk f m a t) (Check k g n b d) i j e = absurd (check-not-walk _ _ e)
@@ -175,6 +189,7 @@ commands-once (Walk f m a t) (Walk g n b u) i j e =
     let s : t ≡ u = cc in
     walks-same f g m n a b t u p (when-once m n i.0 j.0 q) r s
 commands-once (Walk f m a t) (Rta g n b) i j e = absurd (walk-not-rta _ _ (sym e))
+commands-once (Walk f m a t) (RtaVerdicts g b) i j e = absurd (list-not-walk _ _ e)
 commands-once (Rta f m a) Help i j e = absurd (help-not-rta _ e)
 commands-once (Rta f m a) (Shared d) i j e = absurd (not-rta d _ j (sym e))
 commands-once (Rta f m a) (Check k g n b d) i j e = absurd (check-not-rta _ _ e)
@@ -185,6 +200,19 @@ commands-once (Rta f m a) (Rta g n b) i j e =
     let q : when_word m ≡ when_word n = cc in
     let r : a ≡ b = cc in
     rtas-same f g m n a b p (when-once m n i.0 j.0 q) r
+commands-once (Rta f m a) (RtaVerdicts g b) i j e = absurd (list-not-rta _ _ e)
+commands-once (RtaVerdicts f a) Help i j e = absurd (help-not-list _ e)
+commands-once (RtaVerdicts f a) (Shared d) i j e = absurd (not-list d _ (sym e))
+commands-once (RtaVerdicts f a) (Check k g m b d) i j e = absurd (check-not-list _ _ e)
+commands-once (RtaVerdicts f a) (Verdicts g b d) i j e =
+    let p : g ≡ word_rta = cc in
+    absurd (j p)
+commands-once (RtaVerdicts f a) (Walk g m b t) i j e = absurd (list-not-walk _ _ (sym e))
+commands-once (RtaVerdicts f a) (Rta g m b) i j e = absurd (list-not-rta _ _ (sym e))
+commands-once (RtaVerdicts f a) (RtaVerdicts g b) i j e =
+    let p : f ≡ g = cc in
+    let q : a ≡ b = cc in
+    rta-lists-same f g a b p q
 
 relaxed-not : (c : Command) (rest : List (List ℕ)) → command_words c ≡ word_relaxed ∷ rest → ⊥
 relaxed-not c rest e = search rules
@@ -275,6 +303,11 @@ commands-plain (Rta f m a) = record {
   registered = rta-registered _;
   wide = rta-wide _;
 }
+commands-plain (RtaVerdicts f a) = record {
+  relaxed = list-relaxed _;
+  registered = list-registered _;
+  wide = list-wide _;
+}
 
 abbrev made : Options → VerifyCommand → Order VerifyCommand
 made o a = record { options = o; command = a }
@@ -334,15 +367,18 @@ check_none words rest w n (Check k f m a c) e i = n k f m a c (rest-same (sym w 
 check_none words rest w n (Verdicts f a c) e i = check-not-list _ rest (sym e ∙ w)
 check_none words rest w n (Walk f m a t) e i = check-not-walk _ rest (sym e ∙ w)
 check_none words rest w n (Rta f m a) e i = check-not-rta _ rest (sym e ∙ w)
+check_none words rest w n (RtaVerdicts f a) e i = check-not-list _ rest (sym e ∙ w)
 
 pub list_none : (words rest : List (List ℕ)) → words ≡ codes "verdicts" ∷ rest
     → AskForNoList rest → (a : VerifyCommand) → words ≡ verify_words a → IsFit a → ⊥
 list_none words rest w n Help e i = help-not-list rest (sym w ∙ e)
 list_none words rest w n (Shared c) e i = not-list c rest (sym e ∙ w)
 list_none words rest w n (Check k f m a c) e i = check-not-list rest _ (sym w ∙ e)
-list_none words rest w n (Verdicts f a c) e i = n f a c (rest-same (sym w ∙ e))
+list_none words rest w n (Verdicts f a c) e i = n.object f a c (rest-same (sym w ∙ e)) i
 list_none words rest w n (Walk f m a t) e i = list-not-walk _ rest (sym e ∙ w)
 list_none words rest w n (Rta f m a) e i = list-not-rta _ rest (sym e ∙ w)
+list_none words rest w n (RtaVerdicts f a) e i =
+    n.rta (f ∷ a) (rest-same (sym w ∙ e)) f a refl i
 
 pub walk_none : (words rest : List (List ℕ)) → words ≡ codes "walk" ∷ rest → AskForNoWalk rest
     → (a : VerifyCommand) → words ≡ verify_words a → IsFit a → ⊥
@@ -352,6 +388,7 @@ walk_none words rest w n (Check k f m a c) e i = check-not-walk rest _ (sym w �
 walk_none words rest w n (Verdicts f a c) e i = list-not-walk rest _ (sym w ∙ e)
 walk_none words rest w n (Walk f m a t) e i = n f m a t (rest-same (sym w ∙ e)) i.0 i.1
 walk_none words rest w n (Rta f m a) e i = walk-not-rta _ rest (sym e ∙ w)
+walk_none words rest w n (RtaVerdicts f a) e i = list-not-walk rest _ (sym w ∙ e)
 
 pub rta_none : (words rest : List (List ℕ)) → words ≡ codes "rta" ∷ rest → AskForNoRta rest
     → (a : VerifyCommand) → words ≡ verify_words a → IsFit a → ⊥
@@ -361,6 +398,7 @@ rta_none words rest w n (Check k f m a c) e i = check-not-rta rest _ (sym w ∙ 
 rta_none words rest w n (Verdicts f a c) e i = list-not-rta rest _ (sym w ∙ e)
 rta_none words rest w n (Walk f m a t) e i = walk-not-rta rest _ (sym w ∙ e)
 rta_none words rest w n (Rta f m a) e i = n f m a (rest-same (sym w ∙ e)) i.0 i.1
+rta_none words rest w n (RtaVerdicts f a) e i = list-not-rta rest _ (sym w ∙ e)
 
 pub check_of : (words rest : List (List ℕ)) (r : Option VerifyCommand) → words ≡ codes "check"
     ∷ rest
@@ -378,6 +416,27 @@ pub list_of : (words rest : List (List ℕ)) (r : Option VerifyCommand) → word
 list_of words rest None w n = λ a f. list_none words rest w n a
 list_of words rest (Some a) w h = (w ∙ h.0, h.1)
 
+-- the words after `verdicts`: with the word of attestations in front
+pub rta_list_of : (words rest : List (List ℕ)) (r : Option VerifyCommand) → words ≡ word_rta ∷ rest
+    → MatchOption r (AskForNoRtaList rest)
+    (λ a. (codes "verdicts" ∷ word_rta ∷ rest ≡ verify_words a) × IsFit a)
+    → MatchOption r (AskForNoList words)
+    (λ a. (codes "verdicts" ∷ words ≡ verify_words a) × IsFit a)
+rta_list_of words rest None w n = record {
+  object = λ f a c e i. i (first-same (sym e ∙ w));
+  rta = λ more e. subst (λ (t : List (List ℕ)). AskForNoRtaList t) (rest-same (sym w ∙ e)) n;
+}
+rta_list_of words rest (Some a) w h =
+    (ap (λ (t : List (List ℕ)). codes "verdicts" ∷ t) w ∙ h.0, h.1)
+
+-- with another one, which no list of an attestation has
+pub list_few : (words : List (List ℕ)) → ((rest : List (List ℕ)) → words ≡ word_rta ∷ rest → ⊥)
+    → ((f a : List ℕ) (c : List (List ℕ)) → words ≡ f ∷ a ∷ c → ⊥) → AskForNoList words
+list_few words r n = record {
+  object = λ f a c e i. n f a c e;
+  rta = λ rest e. absurd (r rest e);
+}
+
 -- words that begin with no word of this program's own
 pub other_none : (words : List (List ℕ)) → (words ≡ codes "--help" ∷ [] → ⊥)
     → ((rest : List (List ℕ)) → words ≡ codes "check" ∷ rest → ⊥)
@@ -390,6 +449,7 @@ other_none words h k v n (Check d g m a c) f e i = k _ e
 other_none words h k v n (Verdicts g a c) f e i = v _ e
 other_none words h k v n (Walk g m a t) f e i = absurd cc
 other_none words h k v n (Rta g m a) f e i = absurd cc
+other_none words h k v n (RtaVerdicts g a) f e i = v _ e
 
 pub walk_of : (words rest : List (List ℕ)) (r : Option VerifyCommand) → words ≡ codes "walk" ∷ rest
     → MatchOption r (AskForNoWalk rest)
@@ -416,6 +476,7 @@ untailed words w r n (Check d f m a c) e i = n (Check d f m a c) refl e i
 untailed words w r n (Verdicts f a c) e i = n (Verdicts f a c) refl e i
 untailed words w r n (Walk f m a t) e i = w _ e
 untailed words w r n (Rta f m a) e i = r _ e
+untailed words w r n (RtaVerdicts f a) e i = n (RtaVerdicts f a) refl e i
 
 pub other_of : (words : List (List ℕ)) (o : Option VerifyCommand)
     → ((rest : List (List ℕ)) → words ≡ codes "walk" ∷ rest → ⊥)
@@ -436,5 +497,8 @@ shared_is words (Check d f m a c) s = absurd s
 shared_is words (Verdicts f a c) s = absurd s
 shared_is words (Walk f m a t) s = absurd s
 shared_is words (Rta f m a) s = absurd s
+shared_is words (RtaVerdicts f a) s = absurd s
 
 pub ruleset by_first_word = (check_of, list_of, other_none, shared_is)
+
+pub ruleset by_second_word = (rta_list_of, list_few)

@@ -46,7 +46,7 @@ use Rattle.rpki_verdicts.proofs.Listed.{key-len}
 use Rattle.rpki_verdicts.specs.Lists.{BeginWith, AreCerts, IsListingOf}
 use Rattle.rpki_verdicts.specs.Listing.{is_listable, good_lines}
 use Rattle.rpki_verdicts.specs.Questions.{Question, says, cert_question, chain_questions}
-use Rattle.rpki_verdicts.specs.Questions.{signer_question, check_questions}
+use Rattle.rpki_verdicts.specs.Questions.{last_of, signer_question, check_questions}
 use Rattle.rpki_verdicts.proofs.Good.{all-lines, each-good, only-good}
 use Rattle.rpki_command.specs.Answer.{Run}
 use Rattle.rpki_command.specs.Kinds.{OfKind}
@@ -94,15 +94,15 @@ good-has-line q e =
 -- ---- each of some questions
 
 -- P holds of each of them
-abbrev Each : (Question → Type 0) → List Question → Type 0
+abbrev pub Each : (Question → Type 0) → List Question → Type 0
 Each P questions = (q : Question) → Contains questions q → P q
 
-each-head : (P : Question → Type 0) (q : Question) (others : List Question) → Each P (q ∷ others)
-    → P q
+pub each-head : (P : Question → Type 0) (q : Question) (others : List Question)
+    → Each P (q ∷ others) → P q
 each-head P q others h = h q (zero, omega arith, refl)
 
-each-tail : (P : Question → Type 0) (q : Question) (others : List Question) → Each P (q ∷ others)
-    → Each P others
+pub each-tail : (P : Question → Type 0) (q : Question) (others : List Question)
+    → Each P (q ∷ others) → Each P others
 each-tail P q others h p k = h p (suc k.0, omega (arith, k.1), k.2)
 
 each-at : (P : Question → Type 0) (q : Question) (others : List Question) → P q → Each P others
@@ -110,11 +110,11 @@ each-at : (P : Question → Type 0) (q : Question) (others : List Question) → 
 each-at P q others h each p zero l e = subst P e h
 each-at P q others h each p (suc k) l e = each p (k, omega (arith, l), e)
 
-each-cons : (P : Question → Type 0) (q : Question) (others : List Question) → P q → Each P others
-    → Each P (q ∷ others)
+pub each-cons : (P : Question → Type 0) (q : Question) (others : List Question) → P q
+    → Each P others → Each P (q ∷ others)
 each-cons P q others h each p k = each-at P q others h each p k.0 k.1 k.2
 
-each-none : (P : Question → Type 0) → Each P []
+pub each-none : (P : Question → Type 0) → Each P []
 each-none P p k = absurd (omega (arith, k.1))
 
 each-push : (P : Question → Type 0) (questions : List Question) (q : Question)
@@ -335,6 +335,52 @@ module _ (now : Moment) where
         (each-tail P (cert_question (key_of before) cert)
         (chain_questions cert.tbs.key (certs ++ tail)) each))
 
+    -- the last of them is the issuer
+    follows-end : (files : List (List ℕ)) (certs : List Certificate) (before : Validated)
+        → AreCerts files certs → Follows a now before files (Ok issuer)
+        → issuer.cert.certificate ≡ last_of before.cert.certificate certs
+    follows-end [] [] before are h =
+        let e : issuer ≡ before = cc in ap (λ (v : Validated). v.cert.certificate) e
+    follows-end [] (cert ∷ certs) before are h = absurd are
+    follows-end (file ∷ files) [] before are h = absurd are
+    follows-end (file ∷ files) (cert ∷ certs) before are h =
+        let w = went-on (λ v. Follows a now v files (Ok issuer)) h.0 issuer h.2 in
+        let i = subst (λ (r : Result Validated IssuerError). IsIssued a now before file r) w.1 h.1
+        in
+        follows-end files certs w.0 are.1 w.2
+        ∙ ap (λ (c : Certificate). last_of c certs)
+        (issued-cert file cert are.0 now before a w.0 i)
+
+-- ---- an issuer
+
+module _ (now : Moment) (anchor : List ℕ) (chain : List (List ℕ)) (first : Certificate)
+    (others : List Certificate) (certs : AreCerts (anchor ∷ chain) (first ∷ others)) where
+  pub makes-as : (a b : Verdict) → Each (λ q. says a q ≡ says b q)
+      (chain_questions first.tbs.key (first ∷ others)) → (result : Result Validated IssuerError)
+      → MakesIssuer a now anchor chain result → MakesIssuer b now anchor chain result
+  makes-as a b each result h =
+      let P : Question → Type 0 = λ q. says a q ≡ says b q in
+      let q = cert_question first.tbs.key first in
+      let rest = chain_questions first.tbs.key others in (
+        h.0,
+        anchored-as anchor first certs.0 now a b (each-head P q rest each) h.0 h.1,
+        then-as (λ v. Follows a now v chain result) (λ v. Follows b now v chain result) h.0 result
+            (λ v is more. follows-as now a b chain others v result certs.1
+            (of-key P v first others (anchored-cert anchor first certs.0 now a v
+            (subst (λ (r : Result Validated IssuerError). IsAnchored a now anchor r) is h.1))
+            (each-tail P q rest each)) more) h.2,
+      )
+
+  -- it is the last of the certificates
+  pub makes-end : (a : Verdict) (issuer : Validated) → MakesIssuer a now anchor chain (Ok issuer)
+      → issuer.cert.certificate ≡ last_of first others
+  makes-end a issuer made =
+      let w = went-on (λ v. Follows a now v chain (Ok issuer)) made.0 issuer made.2 in
+      let i = subst (λ (r : Result Validated IssuerError). IsAnchored a now anchor r) w.1 made.1
+      in
+      follows-end now a issuer chain others w.0 certs.1 w.2
+      ∙ ap (λ (c : Certificate). last_of c others) (anchored-cert anchor first certs.0 now a w.0 i)
+
 -- ---- an object
 
 -- whatever holds of the checks of an object
@@ -453,29 +499,13 @@ module _ (now : Moment) (anchor : List ℕ) (chain : List (List ℕ)) (first : C
         (each-tail P (cert_question first.tbs.key first)
         (chain_questions first.tbs.key (others ++ (s.cert ∷ []))) (of-certs P h))))
 
-  makes-as : (a b : Verdict) → Each (λ q. says a q ≡ says b q)
-      (chain_questions first.tbs.key (first ∷ others)) → (result : Result Validated IssuerError)
-      → MakesIssuer a now anchor chain result → MakesIssuer b now anchor chain result
-  makes-as a b each result h =
-      let P : Question → Type 0 = λ q. says a q ≡ says b q in
-      let q = cert_question first.tbs.key first in
-      let rest = chain_questions first.tbs.key others in (
-        h.0,
-        anchored-as anchor first certs.0 now a b (each-head P q rest each) h.0 h.1,
-        then-as (λ v. Follows a now v chain result) (λ v. Follows b now v chain result) h.0 result
-            (λ v is more. follows-as now a b chain others v result certs.1
-            (of-key P v first others (anchored-cert anchor first certs.0 now a v
-            (subst (λ (r : Result Validated IssuerError). IsAnchored a now anchor r) is h.1))
-            (each-tail P q rest each)) more) h.2,
-      )
-
   module _ (a b : Verdict) where
     -- where the second verdict says yes too, an issuer and a good object stay
     module _ (too : SaysYesToo a b Asked) (issuer : Validated)
         (made : MakesIssuer a now anchor chain (Ok issuer)) where
       issuer-too : MakesIssuer b now anchor chain (Ok issuer)
       issuer-too =
-          makes-as a b (λ q k.
+          makes-as now anchor chain first others certs a b (λ q k.
           let yes = makes-says a issuer made q k in
           yes ∙ sym (of-issuer (λ p. says a p ≡ true → says b p ≡ true) too q k yes))
           (Ok issuer) made
@@ -497,7 +527,8 @@ module _ (now : Moment) (anchor : List ℕ) (chain : List (List ℕ)) (first : C
     module _ (same : SayTheSame a b Asked) where
       issuer-same : (result : Result Validated IssuerError)
           → MakesIssuer a now anchor chain result → MakesIssuer b now anchor chain result
-      issuer-same = makes-as a b (of-issuer (λ q. says a q ≡ says b q) same)
+      issuer-same = makes-as now anchor chain first others certs a b
+          (of-issuer (λ q. says a q ≡ says b q) same)
 
       good-same : {X : Type 0} (kind : signed.ObjectKind X) (mode : Mode) (digest : Digester)
           (issuer : Validated) → MakesIssuer a now anchor chain (Ok issuer)
@@ -602,6 +633,25 @@ alike true y f g = sym (f refl)
 alike false true f g = g refl
 alike false false f g = refl
 
+module _ (questions : List Question) where
+  -- the list says yes to each question to which the keys do
+  pub says-too : SaysYesToo is_rsa_signature
+      (is_listed (good_lines is_rsa_signature questions)) questions
+  says-too q k e = each-good is_rsa_signature questions q k (good-has-line q e)
+
+  -- and to no other, where lines tell questions apart
+  pub says-same : HaveTheirOwnLines questions
+      → SayTheSame is_rsa_signature (is_listed (good_lines is_rsa_signature questions)) questions
+  says-same own q k =
+      alike (says is_rsa_signature q)
+      (says (is_listed (good_lines is_rsa_signature questions)) q) (says-too q k)
+      (λ e.
+      let one = only-good is_rsa_signature questions q.key q.message q.signature e in
+      let good = subst (λ (p : Question). is_listable is_rsa_signature p ≡ true)
+      (own one.question q one.asked k one.same) one.good in
+      (and_parts (is_rsa_signature q.key q.message q.signature)
+      (nat_lt (length (key_contents q.key)) (2 ^ 32)) good).0)
+
 module _ (options : Options) (kind : Kind) (now : Moment) (files : FilesOfCheck) (text : List ℕ)
     (list : IsListingOf (read_mode options) is_rsa_signature files.object files.anchor files.chain
     text) where
@@ -615,20 +665,11 @@ module _ (options : Options) (kind : Kind) (now : Moment) (files : FilesOfCheck)
   listed = subst (λ (t : List ℕ). AreVerdicts t lines) (sym list.whole)
       (all-lines is_rsa_signature questions)
 
-  -- the list says yes to each question to which the keys do
   too : SaysYesToo is_rsa_signature (is_listed lines) questions
-  too q k e = each-good is_rsa_signature questions q k (good-has-line q e)
+  too = says-too questions
 
-  -- and to no other, where lines tell questions apart
   same : HaveTheirOwnLines questions → SayTheSame is_rsa_signature (is_listed lines) questions
-  same own q k =
-      alike (says is_rsa_signature q) (says (is_listed lines) q) (too q k)
-      (λ e.
-      let one = only-good is_rsa_signature questions q.key q.message q.signature e in
-      let good = subst (λ (p : Question). is_listable is_rsa_signature p ≡ true)
-      (own one.question q one.asked k one.same) one.good in
-      (and_parts (is_rsa_signature q.key q.message q.signature)
-      (nat_lt (length (key_contents q.key)) (2 ^ 32)) good).0)
+  same = says-same questions
 
   -- an object at the front is the one of the questions
   the-object : {X : Type 0} (asked : signed.ObjectKind X) (form : List ℕ → X → Type 0) (o : Whole X)

@@ -4,14 +4,18 @@ use Rattle.std.specs.declared.alloc.Global.{Global}
 use Rattle.sha2.specs.Sha256.{sha256}
 use Rattle.rpki_der.specs.Grammar.{HasNoFront}
 use Rattle.rpki_der.specs.declared.mode.Mode.{Mode}
+use Rattle.rpki_der.specs.declared.mode.Mode.TheVariants.{Der}
 use Rattle.rpki_basics.specs.Moment.{Moment}
 use Rattle.rpki_certs.specs.Cert.{Certificate}
 use Rattle.rpki_certs.specs.declared.issuer.IssuerError.TheVariants as issuing
+use Rattle.rpki_multi.specs.Attestation.{RtaForm}
 use Rattle.rpki_rsa.specs.Signature.{is_rsa_signature}
 use Rattle.rpki_sigobj.specs.Object.{SignedForm}
+use Rattle.rpki_verdicts.specs.Attested.{AreChains, AreNotAllChains, IsRtaListingOf}
 use Rattle.rpki_verdicts.specs.Lists.{AreCerts, AreNotAllCerts, IsListingOf}
 use Rattle.rpki_verdicts.specs.declared.list.ListingError.{ListingError}
 use Rattle.rpki_verdicts.specs.declared.list.ListingError.TheVariants as listing
+use Rattle.rpki_command.specs.Anchors.{given_in, chains_in}
 use Rattle.rpki_command.specs.Answer.{Output, out_of_memory, malformed, issuer_malformed, shown}
 use Rattle.rpki_command.specs.Check.{IsCheckedWith, issuer_refusal}
 use Rattle.rpki_command.specs.Walk.{IsWalkedWith}
@@ -60,6 +64,21 @@ abbrev pub ListedOf : Options → List (List ℕ) → Output → Type 0
 ListedOf options (object ∷ anchor ∷ chain) s =
     IsListAnswer (read_mode options) object anchor chain s
 ListedOf options files s = ⊥
+
+-- The same of an attestation, where these are the files of the chains that its anchors name.
+abbrev pub IsRtaListAnswer : List ℕ → List (List (List ℕ)) → Output → Type 0
+IsRtaListAnswer object chains s =
+    (s ≡ out_of_memory)
+    ⊎ ((AreNotAllChains chains × (s ≡ issuer_malformed))
+    ⊎ (((certs : List (List Certificate)) × AreChains chains certs
+    × HasNoFront (RtaForm Der) object × (s ≡ malformed))
+    ⊎ ((text : List ℕ) × IsRtaListingOf is_rsa_signature object chains text × (s ≡ shown text))))
+
+-- What is said where they are listed, of the files of the attestation and of those that these
+-- anchors name. A locator asks about no signature, and what stands in its file is not looked at.
+abbrev pub RtaListedOf : List (List ℕ) → List (List ℕ) → Output → Type 0
+RtaListedOf words (object ∷ files) s = IsRtaListAnswer object (chains_in (given_in words files)) s
+RtaListedOf words files s = ⊥
 
 -- ---- step by step
 

@@ -7,10 +7,12 @@ use Rattle.rpki_command.specs.declared.contents.Causes.TheVariants.{Included}
 use Rattle.rpki_command.specs.declared.words.Options.{Options}
 use Rattle.rpki_command.specs.Words.{others_in, files_of_anchors}
 use Rattle.rpki_command.specs.Verify.Check.{VerifiedOf, ListedOf, VerifiedWalkOf, VerifiedRtaOf}
+use Rattle.rpki_command.specs.Verify.Check.{RtaListedOf}
 use Rattle.rpki_command.specs.Verify.Words.{moment_at, verify_language}
 use Rattle.rpki_command.specs.declared.verify.words.VerifyCommand.{VerifyCommand}
 use Rattle.rpki_command.specs.declared.verify.words.VerifyCommand.TheVariants.{Help, Shared, Check}
 use Rattle.rpki_command.specs.declared.verify.words.VerifyCommand.TheVariants.{Verdicts, Walk, Rta}
+use Rattle.rpki_command.specs.declared.verify.words.VerifyCommand.TheVariants.{RtaVerdicts}
 
 -- what a check of these files comes to at a moment; where there is none, to say that none is told
 abbrev pub check_task : List (List ℕ) → (Moment → List (List ℕ) → Output → Type 0) → Option Moment
@@ -32,6 +34,8 @@ verify_task clock options (Walk file moment anchor tail) =
     (moment_at clock moment)
 verify_task clock options (Rta file moment anchors) =
     check_task (file ∷ files_of_anchors anchors) (VerifiedRtaOf anchors) (moment_at clock moment)
+verify_task clock options (RtaVerdicts file anchors) =
+    CheckFiles (file ∷ files_of_anchors anchors) (RtaListedOf anchors)
 
 -- the program with signatures, where the clock tells this moment, or none
 abbrev pub verify_program : Option Moment → Program

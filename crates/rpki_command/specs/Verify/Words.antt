@@ -13,6 +13,7 @@ use Rattle.rpki_command.specs.declared.words.Options.{Options}
 use Rattle.rpki_command.specs.declared.verify.words.VerifyCommand.{VerifyCommand}
 use Rattle.rpki_command.specs.declared.verify.words.VerifyCommand.TheVariants.{Help, Shared, Check}
 use Rattle.rpki_command.specs.declared.verify.words.VerifyCommand.TheVariants.{Verdicts, Walk, Rta}
+use Rattle.rpki_command.specs.declared.verify.words.VerifyCommand.TheVariants.{RtaVerdicts}
 use Rattle.rpki_command.specs.declared.verify.words.When.{When}
 use Rattle.rpki_command.specs.declared.verify.words.When.TheVariants.{Now, At}
 
@@ -40,6 +41,10 @@ is_shared (commands.ShowRta file) = true
 is_shared (commands.ShowTal file) = true
 is_shared other = false
 
+-- the word of attestations
+abbrev pub word_rta : List ℕ
+word_rta = codes "rta"
+
 -- The words of a command. What shows the lines of a file has the words that it has in the other
 -- program.
 abbrev pub verify_words : VerifyCommand → List (List ℕ)
@@ -51,6 +56,7 @@ verify_words (Verdicts file anchor chain) = codes "verdicts" ∷ file ∷ anchor
 verify_words (Walk file moment anchor tail) =
     codes "walk" ∷ file ∷ when_word moment ∷ anchor ∷ tail
 verify_words (Rta file moment anchors) = codes "rta" ∷ file ∷ when_word moment ∷ anchors
+verify_words (RtaVerdicts file anchors) = codes "verdicts" ∷ word_rta ∷ file ∷ anchors
 
 -- the files that are named by a word, in the order of the words
 abbrev pub files_in : VerifyCommand → List (List ℕ)
@@ -60,17 +66,20 @@ files_in (Check kind file moment anchor chain) = file ∷ anchor ∷ chain
 files_in (Verdicts file anchor chain) = file ∷ anchor ∷ chain
 files_in (Walk file moment anchor tail) = file ∷ anchor ∷ others_in tail
 files_in (Rta file moment anchors) = file ∷ files_of_anchors anchors
+files_in (RtaVerdicts file anchors) = file ∷ files_of_anchors anchors
 
 -- A command is fit: the one of the other program, if it has one, shows a file, its moment, if it
--- has one, is one of the calendar, the words of a walk have a `with` after the trust anchor, and
--- those of an attestation end with anchors.
+-- has one, is one of the calendar, the words of a walk have a `with` after the trust anchor, those
+-- of an attestation end with anchors, and the file of an object whose signatures are listed has
+-- another name than the word of attestations.
 abbrev pub IsFit : VerifyCommand → Type 0
 IsFit Help = Unit {0}
 IsFit (Shared command) = IsTrue (is_shared command)
 IsFit (Check kind file moment anchor chain) = IsWhen moment
-IsFit (Verdicts file anchor chain) = Unit {0}
+IsFit (Verdicts file anchor chain) = ¬ (file ≡ word_rta)
 IsFit (Walk file moment anchor tail) = IsWhen moment × Contains tail word_with
 IsFit (Rta file moment anchors) = IsWhen moment × IsTrue (are_anchors anchors)
+IsFit (RtaVerdicts file anchors) = IsTrue (are_anchors anchors)
 
 -- how the orders of the program with signatures are written
 abbrev pub verify_language : Language
@@ -89,10 +98,20 @@ AskForNoCheck words = (kind : Kind) (file : List ℕ) (moment : When) (anchor : 
     (chain : List (List ℕ))
     → words ≡ kind_word kind ∷ file ∷ when_word moment ∷ anchor ∷ chain → IsWhen moment → ⊥
 
+-- words after the word `verdicts` ask for no list of the good signatures of an object
+abbrev pub AskForNoObjectList : List (List ℕ) → Type 0
+AskForNoObjectList words = (file anchor : List ℕ) (chain : List (List ℕ))
+    → words ≡ file ∷ anchor ∷ chain → ¬ (file ≡ word_rta) → ⊥
+
+-- words after the words `verdicts` and `rta` ask for no list of those of an attestation
+abbrev pub AskForNoRtaList : List (List ℕ) → Type 0
+AskForNoRtaList words = (file : List ℕ) (anchors : List (List ℕ)) → words ≡ file ∷ anchors
+    → IsTrue (are_anchors anchors) → ⊥
+
 -- words after the word `verdicts` ask for no list of good signatures
-abbrev pub AskForNoList : List (List ℕ) → Type 0
-AskForNoList words = (file anchor : List ℕ) (chain : List (List ℕ))
-    → words ≡ file ∷ anchor ∷ chain → ⊥
+pub record AskForNoList (words : List (List ℕ)) : Type 0 where
+  pub object : AskForNoObjectList words
+  pub rta : (rest : List (List ℕ)) → words ≡ word_rta ∷ rest → AskForNoRtaList rest
 
 -- words after the word `walk` ask for no walk
 abbrev pub AskForNoWalk : List (List ℕ) → Type 0

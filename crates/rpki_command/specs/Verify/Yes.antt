@@ -1,9 +1,13 @@
 -- The orders of the program with signatures, and what a list of good signatures means.
 use Rattle.std.specs.Prelude.{◌≡◌, ℕ, ◌⊎◌, List, ◌∷◌}
 use Rattle.rpki_der.specs.Grammar.{HasNoFront}
+use Rattle.rpki_der.specs.declared.mode.Mode.TheVariants.{Der}
+use Rattle.rpki_multi.specs.Attestation.{RtaForm}
 use Rattle.rpki_rsa.specs.Signature.{is_rsa_signature}
 use Rattle.rpki_sigobj.specs.Object.{SignedForm}
+use Rattle.rpki_verdicts.specs.Attested.{AreNotAllChains, IsRtaListingOf}
 use Rattle.rpki_verdicts.specs.Lists.{AreNotAllCerts, IsListingOf}
+use Rattle.rpki_command.specs.Anchors.{given_in, chains_in}
 use Rattle.rpki_command.specs.Answer.{Run, IsWhole}
 use Rattle.rpki_command.specs.Options.{read_mode}
 use Rattle.rpki_command.specs.Yes.{FilesOfCheck}
@@ -12,6 +16,7 @@ use Rattle.rpki_command.specs.declared.words.Options.{Options}
 use Rattle.rpki_command.specs.declared.words.Order.{Order}
 use Rattle.rpki_command.specs.declared.verify.words.VerifyCommand.{VerifyCommand}
 use Rattle.rpki_command.specs.declared.verify.words.VerifyCommand.TheVariants.{Check, Verdicts, Walk, Rta}
+use Rattle.rpki_command.specs.declared.verify.words.VerifyCommand.TheVariants.{RtaVerdicts}
 use Rattle.rpki_command.specs.declared.verify.words.When.{When}
 
 -- the order to check the object in the file of this name, under the certificates in those of the
@@ -45,6 +50,14 @@ verify_rta options moment object anchors = record {
   command = Rta object moment anchors;
 }
 
+-- the order to list the good ones of the signatures that a check of the attestation in the file of
+-- this name asks about, under these anchors
+abbrev pub rta_list_order : Options → List ℕ → List (List ℕ) → Order VerifyCommand
+rta_list_order options object anchors = record {
+  options = options;
+  command = RtaVerdicts object anchors;
+}
+
 -- A list is right: the files begin with a signed object and with certificates, and the run prints
 -- the list of the good ones of the signatures that a check of it asks about, whole, and nothing
 -- else.
@@ -61,3 +74,17 @@ abbrev pub IsRightNoList : Options → FilesOfCheck → Type 0
 IsRightNoList options files =
     AreNotAllCerts (files.anchor ∷ files.chain)
     ⊎ HasNoFront (SignedForm (read_mode options)) files.object
+
+-- The same of an attestation: the files begin with it and, those of the chains, with certificates.
+pub record IsRightRtaList (words : List (List ℕ)) (object : List ℕ) (files : List (List ℕ))
+    (run : Run) : Type 0 where
+  pub text : List ℕ
+  pub listing : IsRtaListingOf is_rsa_signature object (chains_in (given_in words files)) text
+  pub printed : IsWhole text 0 run.out_before run.out_after run.status
+  pub silent : run.err_after ≡ run.err_before
+
+-- That there is no list is right: one of the files of a chain begins with no certificate, or that
+-- of the attestation begins with none.
+abbrev pub IsRightNoRtaList : List (List ℕ) → List ℕ → List (List ℕ) → Type 0
+IsRightNoRtaList words object files =
+    AreNotAllChains (chains_in (given_in words files)) ⊎ HasNoFront (RtaForm Der) object

@@ -3,12 +3,15 @@
 ghost use Rattle.std.specs.Prelude.{◌≡◌, ◌≤◌, ◌+◌, length};
 ghost use Rattle.rpki_certs.specs.Issuer.{octets_of};
 ghost use Rattle.rpki_certs.specs.declared.issuer.IssuerError.TheVariants as issuing;
+ghost use Rattle.rpki_command.specs.Anchors.{given_in, chains_in};
 ghost use Rattle.rpki_command.specs.Answer.{said};
 ghost use Rattle.rpki_command.specs.Check.{issuer_refusal};
 ghost use Rattle.rpki_command.specs.Verify.Check.{VerifiedOf, ListedOf, IsListingSaid};
-ghost use Rattle.rpki_command.specs.Verify.Check.{VerifiedWalkOf, VerifiedRtaOf};
+ghost use Rattle.rpki_command.specs.Verify.Check.{VerifiedWalkOf, VerifiedRtaOf, RtaListedOf};
+ghost use Rattle.rpki_command.specs.Verify.Check.{IsRtaListAnswer};
 ghost use Rattle.rpki_command.specs.Words.{texts, chain_in, files_of_anchors};
 
+use crate::anchors::chains_of;
 use crate::answer::Answer;
 use crate::check::check_with;
 use crate::contents::{Causes, refusal};
@@ -19,7 +22,7 @@ use crate::words::{Kind, Options};
 use rpki_basics::Time;
 use rpki_der::DecodeError;
 use rpki_rsa::Rsa;
-use rpki_verdicts::{ListingError, listing};
+use rpki_verdicts::{ListingError, listing, rta_listing};
 use std::alloc::Global;
 
 /// To check whether the first file begins with a good object of this kind at this moment, by its
@@ -96,6 +99,23 @@ impl Work for RtaBySignatures<'_> {
     }
 }
 
+/// To list the good ones of the signatures that a check of the same attestation asks about. The
+/// first file is the attestation, and the others are those that the anchors name.
+#[derive(Drop)]
+pub struct ListRtaSignatures<'s> {
+    pub anchors: &'s [&'s str],
+}
+
+impl Work for ListRtaSignatures<'_> {
+    ghost least = { λ l. 1 + length (files_of_anchors (texts l.anchors.now)) };
+
+    ghost says = { λ l. RtaListedOf (texts l.anchors.now) };
+
+    fn answer<'a>(self, alloc: Global, files: &[Vec<u8>]) -> Answer<'a> {
+        list_rta_files(alloc, self.anchors, files)
+    }
+}
+
 /// Answers whether the first of these files begins with a good object of the kind at this moment,
 /// under the certificates of the others.
 fn check_files<'a>(
@@ -168,6 +188,31 @@ fn list_files<'a>(alloc: Global, options: Options, files: &[Vec<u8>]) -> Answer<
             answer_listed(alloc, listing(alloc, object, strict, anchor, chain, &Rsa))
         }
         _ => unreachable!(),
+    }
+}
+
+/// Answers with the list of the good ones of the signatures that a check of the attestation in the
+/// first of these files asks about, under the anchors, whose files are the others.
+fn list_rta_files<'a>(alloc: Global, words: &[&str], files: &[Vec<u8>]) -> Answer<'a>
+    requires { 1 + length (files_of_anchors (texts words.now)) ≤ length files.now }
+    ensures { RtaListedOf (texts words.now) (octets_of files.now) (said result) }
+{
+    match files {
+        [object, others @ ..] => list_rta(alloc, object, words, others),
+        _ => unreachable!(),
+    }
+}
+
+/// Answers with the list of the good ones of the signatures that a check of this attestation asks
+/// about, under the anchors that the words name, whose files are these.
+fn list_rta<'a>(alloc: Global, object: &[u8], words: &[&str], files: &[Vec<u8>]) -> Answer<'a>
+    requires { length (files_of_anchors (texts words.now)) ≤ length files.now }
+    ensures { IsRtaListAnswer object.now
+        (chains_in (given_in (texts words.now) (octets_of files.now))) (said result) }
+{
+    match chains_of(alloc, words, files) {
+        Err(_) => Answer::OutOfMemory,
+        Ok(chains) => answer_listed(alloc, rta_listing(alloc, object, &chains, &Rsa)),
     }
 }
 

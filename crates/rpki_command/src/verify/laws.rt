@@ -1,7 +1,7 @@
 //! What the definitions of the program with signatures say, as functions that do nothing.
 
 ghost use Rattle.std.specs.Prelude.{◌≡◌, ◌<◌, ◌^◌, ◌↔◌, ℕ, List, ◌∷◌, length, true, Option, Some};
-ghost use Rattle.std.specs.Prelude.{Result, Ok, Contains};
+ghost use Rattle.std.specs.Prelude.{Result, Ok, Contains, map};
 ghost use Rattle.std.specs.List.{zip};
 ghost use Rattle.rpki_der.specs.declared.mode.Mode.{Mode};
 ghost use Rattle.rpki_basics.specs.Key.{key_contents};
@@ -15,20 +15,28 @@ ghost use Rattle.rpki_sigobj.specs.Signed.Good.{IsGood};
 ghost use Rattle.rpki_sigobj.specs.Signed.{Whole};
 ghost use Rattle.rpki_certs.specs.Issuer.{MakesIssuer};
 ghost use Rattle.rpki_certs.specs.declared.issuer.IssuerError.{IssuerError};
+ghost use Rattle.rpki_multi.specs.Attestation as attested;
 ghost use Rattle.rpki_rsa.specs.Signature.{is_rsa_signature};
+ghost use Rattle.rpki_rta.specs.Granted.{IsGrantedRta};
+ghost use Rattle.rpki_verdicts.specs.Attested.{AreChains, IsRtaListingOf, rta_questions};
 ghost use Rattle.rpki_verdicts.specs.Lists.{AreCerts, IsListingOf};
 ghost use Rattle.rpki_verdicts.specs.Listing.{is_listable};
 ghost use Rattle.rpki_verdicts.specs.Questions.{Question, says, check_questions};
+ghost use Rattle.rpki_command.specs.Anchors.{Given, given_in, chains_in};
+ghost use Rattle.rpki_command.specs.Anchors.{IsFirstUnmade, MakeEach};
 ghost use Rattle.rpki_command.specs.Answer.{Run};
 ghost use Rattle.rpki_command.specs.Command.{AreTold, IsRunOf};
 ghost use Rattle.rpki_command.specs.Kinds.{OfKind};
 ghost use Rattle.rpki_command.specs.Options.{read_mode};
 ghost use Rattle.rpki_command.specs.Language.{IsAsked};
+ghost use Rattle.rpki_command.specs.Rta.{supply_of};
 ghost use Rattle.rpki_command.specs.Store.{Told};
 ghost use Rattle.rpki_command.specs.Words.{chain_in, names_in, paths_in, files_of_anchors};
 ghost use Rattle.rpki_command.specs.Yes.{FilesOfCheck, in_order};
 ghost use Rattle.rpki_command.specs.Yes.{IsRightYes, IsRightNo, IsRightWalk, HoldsByList};
 ghost use Rattle.rpki_command.specs.Yes.{IsRightRta, IsRightNoRta};
+ghost use Rattle.rpki_command.specs.declared.anchors.Anchor.{Anchor};
+ghost use Rattle.rpki_command.specs.declared.anchors.AnchorError.{AnchorError};
 ghost use Rattle.rpki_command.specs.declared.words.Kind.{Kind};
 ghost use Rattle.rpki_command.specs.declared.words.Kind.TheVariants.{Manifest};
 ghost use Rattle.rpki_command.specs.declared.words.Options.{Options};
@@ -37,7 +45,8 @@ ghost use Rattle.rpki_command.specs.Verify.Command.{verify_program};
 ghost use Rattle.rpki_command.specs.Verify.Sufficing.{SaysYesToo, SayTheSame, HaveTheirOwnLines};
 ghost use Rattle.rpki_command.specs.Verify.Words.{verify_language, moment_at};
 ghost use Rattle.rpki_command.specs.Verify.Yes.{verify_order, list_order, verify_walk, verify_rta};
-ghost use Rattle.rpki_command.specs.Verify.Yes.{IsRightList, IsRightNoList};
+ghost use Rattle.rpki_command.specs.Verify.Yes.{IsRightList, IsRightNoList, rta_list_order};
+ghost use Rattle.rpki_command.specs.Verify.Yes.{IsRightRtaList, IsRightNoRtaList};
 ghost use Rattle.rpki_command.specs.declared.verify.words.VerifyCommand.{VerifyCommand};
 ghost use Rattle.rpki_command.specs.declared.verify.words.When.{When};
 
@@ -139,6 +148,27 @@ pub fn lists_are_right()
         → run.status ≡ 1 → IsRightNoList options files }
 {}
 
+/// Where a store tells the files of a list for an attestation, a run that ends with status 0 prints
+/// the list of the good ones of the signatures that a check of FILE under the anchors asks about.
+/// Where a run ends with status 1, not all files of their chains begin with a certificate, or FILE
+/// begins with no attestation.
+pub fn attestation_lists_are_right()
+    ensures yes { (told : Told) (clock : Option Moment) (words : List (List ℕ))
+        (before after : List (List ℕ)) (run : Run) (options : Options) (file : List ℕ)
+        (anchors : List (List ℕ)) (object : List ℕ) (octets : List (List ℕ))
+        → IsRunOf (verify_program clock) told words before after run
+        → IsAsked verify_language words (rta_list_order options file anchors)
+        → AreTold told (file ∷ files_of_anchors anchors) (object ∷ octets)
+        → run.status ≡ 0 → IsRightRtaList anchors object octets run }
+    ensures no { (told : Told) (clock : Option Moment) (words : List (List ℕ))
+        (before after : List (List ℕ)) (run : Run) (options : Options) (file : List ℕ)
+        (anchors : List (List ℕ)) (object : List ℕ) (octets : List (List ℕ))
+        → IsRunOf (verify_program clock) told words before after run
+        → IsAsked verify_language words (rta_list_order options file anchors)
+        → AreTold told (file ∷ files_of_anchors anchors) (object ∷ octets)
+        → run.status ≡ 1 → IsRightNoRtaList anchors object octets }
+{}
+
 /// The key of a signature that `is_rsa_signature` calls good can be written: so its question may
 /// have a yes in a list of verdicts, and by `lists_are_verdicts` of `rpki_verdicts` it has its
 /// line there.
@@ -214,4 +244,47 @@ pub fn lists_suffice()
         → HaveTheirOwnLines (check_questions list.first list.others list.signed.signed)
         → IsRightNo options kind is_rsa_signature now files
         → HoldsByList (λ verdict. IsRightNo options kind verdict now files) text }
+{}
+
+/// What is said to its questions decides whether an attestation is granted: where two verdicts say
+/// the same to each of them, files make the same anchors by both, or the same one is the first that
+/// makes none, for the same fault; and under these anchors the attestation is granted by both or by
+/// neither.
+pub fn questions_decide_attestations()
+    ensures anchors { (a b : Verdict) (now : Moment) (given : List Given)
+        (chains : List (List Certificate)) (r : attested.Whole)
+        → AreChains (chains_in given) chains
+        → SayTheSame a b (rta_questions chains r.signed) → (anchors : List Anchor)
+        → MakeEach a now given anchors ↔ MakeEach b now given anchors }
+    ensures none { (a b : Verdict) (now : Moment) (given : List Given)
+        (chains : List (List Certificate)) (r : attested.Whole)
+        → AreChains (chains_in given) chains
+        → SayTheSame a b (rta_questions chains r.signed) → (fault : AnchorError)
+        → IsFirstUnmade a now given fault ↔ IsFirstUnmade b now given fault }
+    ensures granted { (a b : Verdict) (now : Moment) (given : List Given)
+        (chains : List (List Certificate)) (r : attested.Whole)
+        → AreChains (chains_in given) chains
+        → SayTheSame a b (rta_questions chains r.signed) → (anchors : List Anchor)
+        → MakeEach a now given anchors → (digest : Digester)
+        → IsGrantedRta digest a now r (map supply_of anchors)
+        ↔ IsGrantedRta digest b now r (map supply_of anchors) }
+{}
+
+/// The list of good signatures that `verdicts rta` prints suffices for a check of the attestation
+/// by `rpki_objects` under the same anchors, at each moment, where different questions of the check
+/// have different lines, which are made of digests: where a yes or a no by the signatures is right,
+/// it is right by the list too.
+pub fn attestation_lists_suffice()
+    ensures yes { (now : Moment) (words : List (List ℕ)) (object : List ℕ) (files : List (List ℕ))
+        (text : List ℕ)
+        (list : IsRtaListingOf is_rsa_signature object (chains_in (given_in words files)) text)
+        → HaveTheirOwnLines (rta_questions list.supplied list.rta.signed) → (run : Run)
+        → IsRightRta is_rsa_signature now words object files run
+        → HoldsByList (λ verdict. IsRightRta verdict now words object files run) text }
+    ensures no { (now : Moment) (words : List (List ℕ)) (object : List ℕ) (files : List (List ℕ))
+        (text : List ℕ)
+        (list : IsRtaListingOf is_rsa_signature object (chains_in (given_in words files)) text)
+        → HaveTheirOwnLines (rta_questions list.supplied list.rta.signed)
+        → IsRightNoRta is_rsa_signature now words object files
+        → HoldsByList (λ verdict. IsRightNoRta verdict now words object files) text }
 {}

@@ -14,7 +14,9 @@ use crate::files::{answer_anchors, answer_files, answer_tail};
 use crate::program::answer_order;
 use crate::runs::Program;
 use crate::store::Store;
-use crate::verify::check::{CheckBySignatures, ListSignatures, RtaBySignatures, WalkBySignatures};
+use crate::verify::check::{
+    CheckBySignatures, ListRtaSignatures, ListSignatures, RtaBySignatures, WalkBySignatures,
+};
 use crate::verify::words::{VerifyCommand, parse};
 use crate::words::{Kind, Options, Order};
 use rpki_basics::Time;
@@ -117,6 +119,11 @@ fn answer_verify<'a, S: Store>(
             moment,
             anchors,
         } => rta_when(alloc, moment.moment(now), file.0, anchors.0, store),
+        VerifyCommand::RtaVerdicts { file, anchors } => {
+            let anchors = anchors.0;
+            let list = ListRtaSignatures { anchors };
+            answer_anchors(alloc, list, &[file.0], anchors, store)
+        }
     }
 }
 

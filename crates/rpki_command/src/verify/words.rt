@@ -7,7 +7,8 @@ ghost use Rattle.rpki_command.specs.Words.{word_relaxed, word_registered, word_w
 ghost use Rattle.rpki_command.specs.Verify.Words.{moment_at, when_word, IsWhen, verify_words};
 ghost use Rattle.rpki_command.specs.Verify.Words.{files_in, is_shared, IsFit, verify_language};
 ghost use Rattle.rpki_command.specs.Verify.Words.{AskForNoCheck, AskForNoList, AskForNoWalk};
-ghost use Rattle.rpki_command.specs.Verify.Words.{AskForNoRta, AskForNothingElse};
+ghost use Rattle.rpki_command.specs.Verify.Words.{AskForNoRta, AskForNoRtaList, word_rta};
+ghost use Rattle.rpki_command.specs.Verify.Words.{AskForNothingElse};
 ghost use Rattle.rpki_command.specs.Verify.Words.{AskForNothingShared, IsSharedBy, IsTaken};
 ghost use Rattle.rpki_command.specs.Verify.Words.{IsOptioned};
 ghost use Rattle.rpki_command.specs.declared.verify.words.VerifyCommand.{VerifyCommand};
@@ -81,6 +82,12 @@ pub enum VerifyCommand<'a> {
         moment: When,
         anchors: Words<'a>,
     },
+    /// To list the good ones of the signatures that a check of an attestation asks about, under
+    /// such anchors.
+    RtaVerdicts {
+        file: Word<'a>,
+        anchors: Words<'a>,
+    },
 }
 
 /// What the words ask for, if they ask for anything.
@@ -122,7 +129,7 @@ fn is_each_named(command: &VerifyCommand<'_>) -> bool
             tail,
             ..
         } => !file.0.is_empty() && !anchor.0.is_empty() && are_others_named(tail.0),
-        VerifyCommand::Rta { file, anchors, .. } => {
+        VerifyCommand::Rta { file, anchors, .. } | VerifyCommand::RtaVerdicts { file, anchors } => {
             !file.0.is_empty() && are_anchors_named(anchors.0)
         }
     }
@@ -227,16 +234,38 @@ fn parse_check<'a>(words: &'a [&'a str]) -> Option<VerifyCommand<'a>>
 }
 
 /// The list of good signatures that these words ask for, after the first.
+#[tactic(auto, using(crate::proofs::Verified::Orders::by_second_word))]
 fn parse_verdicts<'a>(words: &'a [&'a str]) -> Option<VerifyCommand<'a>>
     ensures { MatchOption result (AskForNoList (texts words.now))
         (λ c. (codes "verdicts" ∷ texts words.now ≡ verify_words c) × IsFit c) }
 {
     match words {
+        ["rta", rest @ ..] => parse_rta_verdicts(rest),
         [file, anchor, chain @ ..] => Some(VerifyCommand::Verdicts {
             file: Word(file),
             anchor: Word(anchor),
             chain: Words(chain),
         }),
+        _ => None,
+    }
+}
+
+/// The list of the good signatures of an attestation that these words ask for, after the first two.
+fn parse_rta_verdicts<'a>(words: &'a [&'a str]) -> Option<VerifyCommand<'a>>
+    ensures { MatchOption result (AskForNoRtaList (texts words.now))
+        (λ c. (codes "verdicts" ∷ word_rta ∷ texts words.now ≡ verify_words c) × IsFit c) }
+{
+    match words {
+        [file, anchors @ ..] => {
+            if are_anchors(anchors) {
+                Some(VerifyCommand::RtaVerdicts {
+                    file: Word(file),
+                    anchors: Words(anchors),
+                })
+            } else {
+                None
+            }
+        }
         _ => None,
     }
 }

@@ -6,7 +6,7 @@ ghost use Rattle.rpki_crls.specs.Crl.{signature_checks};
 
 use crate::crl::Crl;
 use crate::entry::CrlEntry;
-use rpki_basics::{Crypto, KeyIdentifier, Name, PublicKey, Serial, Time};
+use rpki_basics::{Crypto, KeyIdentifier, Name, PublicKey, RpkiSignature, Serial, Time};
 use rpki_faults::VerificationError;
 
 impl Crl {
@@ -52,6 +52,21 @@ impl Crl {
         ensures { IsTrue result ↔ Contains self.now.list.tbs.revoked serial }
     {
         self.contents.tbs.revoked.contains(&CrlEntry::new(serial))
+    }
+
+    /// The octets that its issuer signed, as they were read: those of the TBSCertList with its
+    /// header (RFC 5280, section 5.1.1.1).
+    pub fn signed(&self) -> &[u8]
+        ensures { result.now ≡ self.now.list.signed }
+    {
+        self.contents.signed.as_slice()
+    }
+
+    /// The signature of its issuer over these octets (RFC 5280, section 5.1.1.3).
+    pub fn signature(&self) -> &RpkiSignature
+        ensures { result.now ≡ self.now.list.signature }
+    {
+        &self.contents.signature
     }
 
     /// Whether this key signed it (RFC 5280, section 6.3.3). What was signed are the octets as they

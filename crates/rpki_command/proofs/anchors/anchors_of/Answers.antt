@@ -6,10 +6,10 @@ use Rattle.rpki_command.proofs.anchors.anchors_of.Goals as goal
 
 pub anchor_of-requires-clause-some : goal.anchor_of-requires-clause-some
 anchor_of-requires-clause-some g c =
-    own-some (g.K.Crypto.is_signed c.args.crypto.now) c.args.now
-    c.args.words.now c.args.files.now c.loop-word.word-index _ _ c.split_at.result.1.now
-    c.loop-word.anchors.items _ c.count_of.result c.loop-word.invariant c.loop-word-test.true
-    c.count_of.ensures c.split_at.ensures.front c.split_at.ensures.back
+    own-some c.args.words.now c.args.files.now c.loop-word.word-index _ _
+    c.split_at.result.1.now c.loop-word.invariant.done _ c.count_of.result
+    c.loop-word.invariant.is_cut c.loop-word-test.true c.count_of.ensures
+    c.split_at.ensures.front c.split_at.ensures.back
 
 pub returns-in-Err : goal.returns-in-Err
 returns-in-Err g c =

@@ -6,6 +6,6 @@ use Rattle.rpki_verdicts.proofs.list.push_chain.Given as goal
 
 -- what is left makes the lines that are missing
 abbrev pub invariant-loop-octets : goal.invariant-loop-octets
-invariant-loop-octets g l = GoesOn (g.C.Crypto.is_signed l.crypto) l.fn.first.certificate.tbs.key
-    (octets_of l.chain) (string_bytes l.fn.text) l.issuer.certificate.tbs.key
+invariant-loop-octets g l = GoesOn (g.C.Crypto.is_signed l.crypto) l.fn.first.certificate
+    (octets_of l.chain) (string_bytes l.fn.text) l.issuer.certificate
     (octets_of (drop l.octets-index l.chain)) (string_bytes l.text)
