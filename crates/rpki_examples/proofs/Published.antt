@@ -12,7 +12,7 @@ use Rattle.rpki_resources.specs.Blocks.{Covers, Holds}
 use Rattle.rpki_resources.specs.declared.block.Block.{Block}
 use Rattle.rpki_resources.specs.declared.resources.Claim.{Claim}
 use Rattle.rpki_resources.specs.declared.resources.Claim.TheVariants.{Missing}
-use Rattle.rpki_faults.specs.Checks.{AllHold}
+use Rattle.rpki_faults.specs.Checks.{AllHold, IsFirstFault}
 use Rattle.rpki_faults.specs.Validated.{IsAllowed}
 use Rattle.rpki_faults.specs.declared.overclaim.Overclaim.TheVariants.{Refuse}
 use Rattle.rpki_faults.specs.declared.validation.ValidationError.{ValidationError}
@@ -20,10 +20,14 @@ use Rattle.rpki_faults.specs.declared.validation.ValidationError.TheVariants.{Me
 use Rattle.rpki_faults.proofs.Order.{first-fails, hold-join}
 use Rattle.rpki_crls.specs.Crl.{IsSignedBy, KeptCrl, RevocationList}
 use Rattle.rpki_certs.specs.Cert.{Certificate, KeptCertificate}
-use Rattle.rpki_certs.specs.Inspect.{NamesNothing}
-use Rattle.rpki_certs.specs.Validate.{AreAllowed, IsValidatedUnder, Sets, Validated}
+use Rattle.rpki_certs.specs.Inspect.{NamesNothing, ta_checks}
+use Rattle.rpki_certs.specs.Validate.{AreAllowed, IsGoodAnchor, IsValidatedUnder, Sets, Validated}
+use Rattle.rpki_certs.specs.Validate.{ta_validation}
 use Rattle.rpki_certs.specs.Verify.{Verdict, IsInTime}
-use Rattle.rpki_issued_crls.specs.Lists.{UnsignedList, made_list, name_of, tbs_octets}
+use Rattle.rpki_issued.specs.Tbs.{Unsigned, tbs_of}
+use Rattle.rpki_issued.specs.Written.{made_certificate, tbs_octets}
+use Rattle.rpki_issued_crls.specs.Lists.{UnsignedList, made_list, name_of}
+use Rattle.rpki_issued_crls.specs.Lists.{tbs_octets as list_octets}
 use Rattle.rpki_sigobj.specs.Object.{SignedData}
 use Rattle.rpki_sigobj.specs.Verify.{Digester}
 use Rattle.rpki_sigobj.specs.Signed.Good.{IsGood}
@@ -42,9 +46,9 @@ use Rattle.rpki_signed.specs.declared.check.CheckError.{CheckError}
 use Rattle.rpki_signed.specs.declared.check.CheckError.TheVariants.{Decode, Validation}
 use Rattle.rpki_signed.specs.Check.{BeginsWith, Checks}
 use Rattle.rpki_signed.specs.Exact.{IsExact}
-use Rattle.rpki_examples.specs.Authority.{Checking, Desk, IsPublished, IsTimely, IsWantOfMemory}
-use Rattle.rpki_examples.specs.Authority.{Takes}
-use Rattle.rpki_examples.specs.Received.{IsGoodByList, IsUnrevoked, SaysAs, SaysOf}
+use Rattle.rpki_examples.specs.Authority.{Checking, Desk, IsFaultOf, IsFaulty, IsFitAnchor}
+use Rattle.rpki_examples.specs.Authority.{IsNoAnchor, IsPublished, IsTimely, IsWantOfMemory, Takes}
+use Rattle.rpki_examples.specs.Received.{IsUnrevoked, SaysAs, SaysOf}
 
 -- what is answered by what is said is answered by the list
 pub first-by-list : {X : Type 0} (kind : ObjectKind X) (form : List ℕ → X → Type 0)
@@ -101,7 +105,8 @@ module _ {X : Type 0} (kind : ObjectKind X) (form : List ℕ → X → Type 0) (
   -- an object of which a yes is answered is published
   pub yes-published : (r : Result (Validated × X) CheckError)
       → IsExact kind form Der by.digest by.verdict by.issuer by.moment (SaysOf by.list)
-      o.object.octets r → IfOk r (λ _. IsPublished kind form by o.content o.object.octets)
+      o.object.octets r → IfOk r (λ _.
+      IsPublished kind form by o.content (λ s. s ≡ o.object.signed) o.object.octets)
   yes-published (Ok a) h =
       let p = same (λ (x : Whole X). SaysOf by.list (cert_in Der x) (Ok tt)
       × IsGood kind Der by.digest by.verdict by.issuer by.moment x a.0 × (a.1 ≡ x.content)) h in
@@ -110,6 +115,7 @@ module _ {X : Type 0} (kind : ObjectKind X) (form : List ℕ → X → Type 0) (
         written = written;
         content = refl;
         good = (a.0, p.1, p.0.0);
+        issued = refl;
       }
   yes-published (Err e) h = tt
 
@@ -119,6 +125,17 @@ module _ {X : Type 0} (kind : ObjectKind X) (form : List ℕ → X → Type 0) (
   said-yes (Ok done) h u = tt
   said-yes (Err fault) (inl h) u = absurd h.1
   said-yes (Err fault) (inr h) u = absurd (h.0 u)
+
+  -- what a check answers of the octets is answered of the object
+  pub faulty : (r : Result (Validated × X) CheckError)
+      → Checks kind form Der by.digest by.verdict by.issuer by.moment (SaysOf by.list)
+      o.object.octets r → IfErr r (IsFaulty kind by o.content (λ s. s ≡ o.object.signed))
+  faulty (Ok a) h = tt
+  faulty (Err (Decode decode.Memory)) h = refl
+  faulty (Err (Decode decode.Malformed)) h = absurd (h o [] front)
+  faulty (Err (Decode (decode.Content fault))) h = absurd (h o [] front)
+  faulty (Err (Validation fault)) h =
+      (o, refl, refl, same (λ (x : Whole X). IsFaultOf kind by x fault) h)
 
   -- an object that passes its validation is refused for want of memory alone
   pub only-memory : Passes kind Der by.digest by.verdict by.issuer by.moment o
@@ -150,6 +167,26 @@ module _ {X : Type 0} (kind : ObjectKind X) (form : List ℕ → X → Type 0) (
             hold-join (said_checks p.said) (kind.held o.content p.valid.sets)
                 (said-yes p.said asked.1 u, passes.held p.valid asked.0),
           )))
+
+module _ {X : Type 0} (kind : ObjectKind X) (by : Checking) (content told : X) (signed : SignedData)
+    (Issued : SignedData → Type 0) (says : content ≡ told) (issued : Issued signed) where
+  -- what is published says what was told, and was issued as it was told
+  pub published-as : (form : List ℕ → X → Type 0) (octets : List ℕ)
+      → IsPublished kind form by content (λ s. s ≡ signed) octets
+      → IsPublished kind form by told Issued octets
+  published-as form octets p = record {
+    object = p.object;
+    written = p.written;
+    content = p.content ∙ says;
+    good = p.good;
+    issued = subst Issued (sym p.issued) issued;
+  }
+
+  -- so was what does not pass its check
+  pub faulty-as : (e : CheckError) → IsFaulty kind by content (λ s. s ≡ signed) e
+      → IsFaulty kind by told Issued e
+  faulty-as (Decode e) h = h
+  faulty-as (Validation fault) h = (h.0, h.1 ∙ says, subst Issued (sym h.2) issued, h.3)
 
 module _ (may : List ℕ → List ℕ → List ℕ → Type 0) (made : Digester) (by : Checking)
     (handed told : Settings) (key type content digest : List ℕ) (s : SignedData)
@@ -223,6 +260,48 @@ aspa-allowed a handed sets covered = record {
   v6 = missing-allowed sets.v6;
 }
 
+-- ---- trust anchors
+
+module _ (may : List ℕ → List ℕ → List ℕ → Type 0) (verdict : Verdict) (told : Unsigned)
+    (key : List ℕ) (now : Moment) (c : Certificate)
+    (made : c ≡ made_certificate (tbs_of told) c.signature)
+    (signed : may key (tbs_octets (tbs_of told)) c.signature) where
+  -- a fault of its validation is one of a certificate that is made so
+  pub no-anchor : (fault : ValidationError)
+      → (fault ≡ Memory) ⊎ IsFirstFault (ta_validation verdict c now) fault
+      → IsNoAnchor (may key) verdict told now (Validation fault)
+  no-anchor fault (inl e) = inl e
+  no-anchor fault (inr h) =
+      inr (
+        c.signature,
+        signed,
+        subst (λ (k : Certificate). IsFirstFault (ta_validation verdict k now) fault) made h,
+      )
+
+  -- where it fits, it is good
+  fit-good : IsFitAnchor may verdict told key now → IsGoodAnchor verdict c now
+  fit-good fit =
+      subst (λ (k : Certificate). IsGoodAnchor verdict k now) (sym made) (record {
+        in_time = fit.in_time;
+        signed =
+            subst (λ (k : List ℕ). verdict k (tbs_octets (tbs_of told)) c.signature ≡ true)
+            (sym fit.own_key)
+            (fit.signatures key (tbs_octets (tbs_of told)) c.signature signed);
+      })
+
+  -- and its validation refuses it for want of memory alone
+  pub fit-anchor : (AllHold (ta_checks c.tbs) × IsGoodAnchor verdict c now
+      → AllHold (ta_validation verdict c now)) → IsFitAnchor may verdict told key now
+      → (fault : ValidationError)
+      → (fault ≡ Memory) ⊎ IsFirstFault (ta_validation verdict c now) fault → fault ≡ Memory
+  fit-anchor holds fit fault (inl e) = e
+  fit-anchor holds fit fault (inr h) =
+      absurd (first-fails (ta_validation verdict c now) fault h
+      (holds (
+        subst (λ (k : Certificate). AllHold (ta_checks k.tbs)) (sym made) fit.profile,
+        fit-good fit,
+      )))
+
 -- ---- lists
 
 -- a list that was made is signed, where verdicts say yes to what the signer may answer
@@ -230,10 +309,10 @@ pub list-signed : {E : Type 0} (may : List ℕ → List ℕ → List ℕ → Typ
     (key : List ℕ) (told : UnsignedList)
     → ((k m s : List ℕ) → may k m s → verdict k m s ≡ true) → (r : Result KeptCrl E)
     → IfOk r (λ c. c.list ≡ made_list told (name_of key) c.list.signature)
-    → IfOk r (λ c. may key (tbs_octets told (name_of key)) c.list.signature)
+    → IfOk r (λ c. may key (list_octets told (name_of key)) c.list.signature)
     → IfOk r (λ c. IsSignedBy verdict key c.list)
 list-signed may verdict key told takes (Ok c) made signed =
     subst (λ (m : List ℕ). verdict key m c.list.signature ≡ true)
     (sym (ap (λ (l : RevocationList). l.signed) made))
-    (takes key (tbs_octets told (name_of key)) c.list.signature signed)
+    (takes key (list_octets told (name_of key)) c.list.signature signed)
 list-signed may verdict key told takes (Err e) made signed = tt

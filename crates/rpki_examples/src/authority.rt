@@ -1,21 +1,24 @@
-//! A certification authority: it makes its certificate, its revocation list and its objects, and
-//! checks each as those who rely on it do, before it is published.
+//! A certification authority: it makes its certificate, its revocation list and its objects. The
+//! certificate and the objects are checked as by those who rely on them, before they are published.
 
-ghost use Rattle.std.specs.Prelude.{◌≡◌, ◌∷◌, [], IfErr, IfOk, List, ℕ, true};
+ghost use Rattle.std.specs.Prelude.{◌≡◌, ◌↔◌, ◌∷◌, [], Err, IfErr, IfOk, List, ℕ, true};
 ghost use Rattle.std.specs.Fn.{FnOnceTakesAt, FnOnceReturnsAt};
+ghost use Rattle.rpki_der.specs.declared.error.DecodeError.{DecodeError};
 ghost use Rattle.rpki_der.specs.declared.mode.Mode.TheVariants.{Der};
+ghost use Rattle.rpki_basics.specs.Signing.{CountsError};
 ghost use Rattle.rpki_basics.specs.StandIn.{IsStandInKey, IsStandInSignature};
 ghost use Rattle.rpki_basics.specs.StandIn.{is_stand_in_signature};
+ghost use Rattle.rpki_basics.specs.declared.build.BuildFault.{BuildFault};
+ghost use Rattle.rpki_basics.specs.declared.signing.SigningError.TheVariants as error;
 ghost use Rattle.rpki_resources.specs.Blocks.{Covers};
 ghost use Rattle.rpki_resources.specs.As.Form.{only};
 ghost use Rattle.rpki_resources.specs.declared.resources.Claim.TheVariants.{Missing};
 ghost use Rattle.rpki_crls.specs.Crl.{IsSignedBy, RevocationList};
 ghost use Rattle.rpki_certs.specs.Cert.{KeptCertificate};
-ghost use Rattle.rpki_certs.specs.Validate.{IsAnchorOf, IsGoodAnchor};
 ghost use Rattle.rpki_certs.specs.Verify.{Verdict};
-ghost use Rattle.rpki_issued.specs.Tbs.{tbs_of};
-ghost use Rattle.rpki_issued.specs.Written.{ClaimsIpv4, made_certificate};
-ghost use Rattle.rpki_issued_crls.specs.Lists.{made_list, name_of};
+ghost use Rattle.rpki_issued.specs.Tbs.{IsNotSigned};
+ghost use Rattle.rpki_issued.specs.Written.{ClaimsIpv4};
+ghost use Rattle.rpki_issued_crls.specs.Lists.{IsNotIssued, made_list, name_of};
 ghost use Rattle.rpki_sigobj.specs.Signed.{ObjectForm, whole_of};
 ghost use Rattle.rpki_signing.specs.Content.{Passes};
 ghost use Rattle.rpki_files.specs.File.{MeetsRule};
@@ -32,9 +35,14 @@ ghost use Rattle.rpki_routes.specs.Roa.Signed.{IsNotBuiltRoa};
 ghost use Rattle.rpki_routes.specs.Roa.Written.{roa_octets};
 ghost use Rattle.rpki_signed.specs.Check.{Checks};
 ghost use Rattle.rpki_signed.specs.Exact.{IsExact};
-ghost use Rattle.rpki_examples.specs.Authority.{IsPublished, IsTimely, IsUnsigned};
-ghost use Rattle.rpki_examples.specs.Authority.{IsWantOfMemory, Takes, checking};
+ghost use Rattle.rpki_signed.specs.declared.check.CheckError.TheVariants.{Decode};
+ghost use Rattle.rpki_examples.specs.Authority.{CountsIssue, IsFaulty, IsFitAnchor, IsIssuedAspa};
+ghost use Rattle.rpki_examples.specs.Authority.{IsIssuedManifest, IsIssuedRoa, IsMadeAnchor};
+ghost use Rattle.rpki_examples.specs.Authority.{IsNoAnchor, IsNotPublished};
+ghost use Rattle.rpki_examples.specs.Authority.{IsPublished, IsTimely, IsWantOfMemory, Takes};
+ghost use Rattle.rpki_examples.specs.Authority.{checking};
 ghost use Rattle.rpki_examples.specs.Received.{IsUnrevoked, SaysAs, SaysOf};
+ghost use Rattle.rpki_examples.specs.declared.authority.IssueError.TheVariants.{Signing};
 
 use crate::received::verify_unrevoked;
 use bytes::Bytes;
@@ -173,7 +181,7 @@ fn copies<T: Content>(object: &Signed<T>) -> Result<(Bytes, Bytes), EncodeError>
 
 // That memory ran out, as what a check answers.
 fn memory() -> CheckError
-    ensures { IsWantOfMemory result }
+    ensures { result ≡ Decode DecodeError.Memory }
 {
     CheckError::Decode(DecodeError::Memory)
 }
@@ -189,8 +197,11 @@ fn published<T: Content, C: Crypto>(
         (whole_of object) }
     ensures good { IfOk result
         (IsPublished T.kind (T.form rule) (checking C.digest_of C.is_signed check.now)
-        object.content) }
-    ensures refused { Passes T.kind Der (C.digest_of check.now.crypto)
+        object.content (λ s. s ≡ object.object.object.signed)) }
+    ensures refused { IfErr result
+        (IsFaulty T.kind (checking C.digest_of C.is_signed check.now) object.content
+        (λ s. s ≡ object.object.object.signed)) }
+    ensures passes { Passes T.kind Der (C.digest_of check.now.crypto)
         (C.is_signed check.now.crypto) check.now.issuer check.now.moment (whole_of object)
         → IsUnrevoked check.now.list object.object.object.signed.cert
         → IfErr result IsWantOfMemory }
@@ -222,7 +233,9 @@ fn published<T: Content, C: Crypto>(
 }
 
 /// The certificate of a trust anchor, signed by its own key and validated at this moment (RFC 6487,
-/// section 7; RFC 8630, section 3). Refuses as `TbsCert::into_cert` and `Cert::validate_ta_at` do.
+/// section 7; RFC 8630, section 3). Refuses as `TbsCert::into_cert` and `Cert::validate_ta_at` do;
+/// no validation refuses it, unless memory runs out, where the builder was told what a trust anchor
+/// has to be.
 pub fn anchor<S: Signer, C: Crypto>(
     alloc: Global,
     told: TbsCert,
@@ -232,9 +245,26 @@ pub fn anchor<S: Signer, C: Crypto>(
     now: Time,
 ) -> Result<ResourceCert, IssueError<S::Error>>
     requires { ClaimsIpv4 told.extensions.claims }
-    ensures made { IfOk result (λ anchor. (cert : KeptCertificate) × IsAnchorOf cert anchor
-        × (cert.certificate ≡ made_certificate (tbs_of told) cert.certificate.signature)
-        × IsGoodAnchor (C.is_signed crypto.now) cert.certificate now) }
+    ensures made { IfOk result
+        (IsMadeAnchor (S.may_sign signer.old (S.key_of signer.old key.now))
+        (C.is_signed crypto.now) told now) }
+    ensures refused { IfErr result (IsNotPublished
+        (IsNotSigned (S.may_sign signer.old (S.key_of signer.old key.now)) told)
+        (IsNoAnchor (S.may_sign signer.old (S.key_of signer.old key.now))
+        (C.is_signed crypto.now) told now)) }
+    ensures passes { IsFitAnchor (S.may_sign signer.old) (C.is_signed crypto.now) told
+        (S.key_of signer.old key.now) now
+        → IfErr result (IsNotPublished
+        (IsNotSigned (S.may_sign signer.old (S.key_of signer.old key.now)) told)
+        IsWantOfMemory) }
+    ensures cause { CountsIssue (S.failures signer.old) (S.failures signer.new) result }
+    ensures keys { (k : S.KeyId) → S.key_of signer.new k ≡ S.key_of signer.old k }
+    ensures signs { (k m s : List ℕ) →
+        S.may_sign signer.new k m s ↔ S.may_sign signer.old k m s }
+    ensures digests { (m : List ℕ) → S.digest_of signer.new m ≡ S.digest_of signer.old m }
+    ensures verdicts { (k m s : List ℕ) →
+        S.is_signed signer.new k m s ≡ S.is_signed signer.old k m s }
+    ensures once { (k : List ℕ) → S.is_one_off signer.new k ↔ S.is_one_off signer.old k }
 {
     valid_anchors();
     match told.into_cert(alloc, signer, key) {
@@ -259,6 +289,17 @@ pub fn list<S: Signer>(
     ensures signed { (verdict : Verdict) → ((k m s : List ℕ) → S.may_sign signer.old k m s
         → verdict k m s ≡ true)
         → IfOk result (λ list. IsSignedBy verdict (S.key_of signer.old key.now) list.list) }
+    ensures refused { IfErr result (IsNotIssued
+        (S.may_sign signer.old (S.key_of signer.old key.now)) told
+        (name_of (S.key_of signer.old key.now))) }
+    ensures cause { CountsError (S.failures signer.old) (S.failures signer.new) result }
+    ensures keys { (k : S.KeyId) → S.key_of signer.new k ≡ S.key_of signer.old k }
+    ensures signs { (k m s : List ℕ) →
+        S.may_sign signer.new k m s ↔ S.may_sign signer.old k m s }
+    ensures digests { (m : List ℕ) → S.digest_of signer.new m ≡ S.digest_of signer.old m }
+    ensures verdicts { (k m s : List ℕ) →
+        S.is_signed signer.new k m s ≡ S.is_signed signer.old k m s }
+    ensures once { (k : List ℕ) → S.is_one_off signer.new k ↔ S.is_one_off signer.old k }
 {
     told.into_crl(alloc, signer, key)
 }
@@ -276,15 +317,34 @@ pub fn roa<S: Signer, C: Crypto>(
     check: &Checker<'_, C>,
 ) -> Result<Bytes, IssueError<S::Error>>
     ensures good { IfOk result (IsPublished roa_kind RoaForm
-        (checking C.digest_of C.is_signed check.now) content) }
-    ensures refused { Takes (S.may_sign signer.old) (S.digest_of signer.old)
+        (checking C.digest_of C.is_signed check.now) content
+        (IsIssuedRoa (S.may_sign signer.old) (S.is_one_off signer.old)
+        (S.key_of signer.old key.now) (S.digest_of signer.old) content told)) }
+    ensures refused { IfErr result (IsNotPublished
+        (IsNotBuiltRoa (S.may_sign signer.old) (S.is_one_off signer.old) content told
+        (S.key_of signer.old key.now) (S.digest_of signer.old (roa_octets content)))
+        (IsFaulty roa_kind (checking C.digest_of C.is_signed check.now) content
+        (IsIssuedRoa (S.may_sign signer.old) (S.is_one_off signer.old)
+        (S.key_of signer.old key.now) (S.digest_of signer.old) content told))) }
+    ensures passes { Takes (S.may_sign signer.old) (S.digest_of signer.old)
         (checking C.digest_of C.is_signed check.now)
         → IsTimely told (S.key_of signer.old key.now)
         (checking C.digest_of C.is_signed check.now)
         → RoaCovered content check.now.issuer.sets → told.as_numbers ≡ Missing
-        → IfErr result (IsUnsigned (IsNotBuiltRoa (S.may_sign signer.old)
-        (S.is_one_off signer.old) content told (S.key_of signer.old key.now)
-        (S.digest_of signer.old (roa_octets content)))) }
+        → IfErr result (IsNotPublished
+        (IsNotBuiltRoa (S.may_sign signer.old) (S.is_one_off signer.old) content told
+        (S.key_of signer.old key.now) (S.digest_of signer.old (roa_octets content)))
+        IsWantOfMemory) }
+    ensures unasked { (fault : BuildFault) → result ≡ Err (Signing (error.Content fault))
+        → signer.new ≡ signer.old }
+    ensures cause { CountsIssue (S.failures signer.old) (S.failures signer.new) result }
+    ensures keys { (k : S.KeyId) → S.key_of signer.new k ≡ S.key_of signer.old k }
+    ensures signs { (k m s : List ℕ) →
+        S.may_sign signer.new k m s ↔ S.may_sign signer.old k m s }
+    ensures digests { (m : List ℕ) → S.digest_of signer.new m ≡ S.digest_of signer.old m }
+    ensures verdicts { (k m s : List ℕ) →
+        S.is_signed signer.new k m s ≡ S.is_signed signer.old k m s }
+    ensures once { (k : List ℕ) → S.is_one_off signer.new k ↔ S.is_one_off signer.old k }
 {
     built_roas_are_valid(check.issuer);
     claims_of_addresses();
@@ -309,15 +369,34 @@ pub fn aspa<S: Signer, C: Crypto>(
     limit: ProviderLimit,
 ) -> Result<Bytes, IssueError<S::Error>>
     ensures good { IfOk result (IsPublished aspa_kind (AspaForm limit)
-        (checking C.digest_of C.is_signed check.now) content) }
-    ensures refused { Takes (S.may_sign signer.old) (S.digest_of signer.old)
+        (checking C.digest_of C.is_signed check.now) content
+        (IsIssuedAspa (S.may_sign signer.old) (S.is_one_off signer.old)
+        (S.key_of signer.old key.now) (S.digest_of signer.old) limit content told)) }
+    ensures refused { IfErr result (IsNotPublished
+        (IsNotBuiltAspa (S.may_sign signer.old) (S.is_one_off signer.old) limit content told
+        (S.key_of signer.old key.now) (S.digest_of signer.old (aspa_octets content)))
+        (IsFaulty aspa_kind (checking C.digest_of C.is_signed check.now) content
+        (IsIssuedAspa (S.may_sign signer.old) (S.is_one_off signer.old)
+        (S.key_of signer.old key.now) (S.digest_of signer.old) limit content told))) }
+    ensures passes { Takes (S.may_sign signer.old) (S.digest_of signer.old)
         (checking C.digest_of C.is_signed check.now)
         → IsTimely told (S.key_of signer.old key.now)
         (checking C.digest_of C.is_signed check.now)
         → Covers (λ n. n) check.now.issuer.sets.as_numbers (only content.customer ∷ [])
-        → IfErr result (IsUnsigned (IsNotBuiltAspa (S.may_sign signer.old)
-        (S.is_one_off signer.old) limit content told (S.key_of signer.old key.now)
-        (S.digest_of signer.old (aspa_octets content)))) }
+        → IfErr result (IsNotPublished
+        (IsNotBuiltAspa (S.may_sign signer.old) (S.is_one_off signer.old) limit content told
+        (S.key_of signer.old key.now) (S.digest_of signer.old (aspa_octets content)))
+        IsWantOfMemory) }
+    ensures unasked { (fault : BuildFault) → result ≡ Err (Signing (error.Content fault))
+        → signer.new ≡ signer.old }
+    ensures cause { CountsIssue (S.failures signer.old) (S.failures signer.new) result }
+    ensures keys { (k : S.KeyId) → S.key_of signer.new k ≡ S.key_of signer.old k }
+    ensures signs { (k m s : List ℕ) →
+        S.may_sign signer.new k m s ↔ S.may_sign signer.old k m s }
+    ensures digests { (m : List ℕ) → S.digest_of signer.new m ≡ S.digest_of signer.old m }
+    ensures verdicts { (k m s : List ℕ) →
+        S.is_signed signer.new k m s ≡ S.is_signed signer.old k m s }
+    ensures once { (k : List ℕ) → S.is_one_off signer.new k ↔ S.is_one_off signer.old k }
 {
     built_aspas_are_valid(check.issuer);
     match content.finalize(alloc, told, signer, key, limit) {
@@ -342,15 +421,32 @@ pub fn manifest<S: Signer, C: Crypto>(
 ) -> Result<Bytes, IssueError<S::Error>>
     requires { MeetsRule ManifestRule.Registered content.files }
     ensures good { IfOk result (IsPublished manifest_kind
-        (ManifestForm ManifestRule.Registered Der) (checking C.digest_of C.is_signed check.now)
-        content) }
-    ensures refused { Takes (S.may_sign signer.old) (S.digest_of signer.old)
+        (ManifestForm ManifestRule.Registered Der)
+        (checking C.digest_of C.is_signed check.now) content
+        (IsIssuedManifest (S.may_sign signer.old) (S.is_one_off signer.old)
+        (S.key_of signer.old key.now) (S.digest_of signer.old) content told)) }
+    ensures refused { IfErr result (IsNotPublished
+        (IsUnsignedManifest (S.may_sign signer.old) (S.is_one_off signer.old) told
+        (S.key_of signer.old key.now) (S.digest_of signer.old) content)
+        (IsFaulty manifest_kind (checking C.digest_of C.is_signed check.now) content
+        (IsIssuedManifest (S.may_sign signer.old) (S.is_one_off signer.old)
+        (S.key_of signer.old key.now) (S.digest_of signer.old) content told))) }
+    ensures passes { Takes (S.may_sign signer.old) (S.digest_of signer.old)
         (checking C.digest_of C.is_signed check.now)
         → IsTimely told (S.key_of signer.old key.now)
         (checking C.digest_of C.is_signed check.now)
-        → IfErr result (IsUnsigned (IsUnsignedManifest (S.may_sign signer.old)
-        (S.is_one_off signer.old) told (S.key_of signer.old key.now)
-        (S.digest_of signer.old) content)) }
+        → IfErr result (IsNotPublished
+        (IsUnsignedManifest (S.may_sign signer.old) (S.is_one_off signer.old) told
+        (S.key_of signer.old key.now) (S.digest_of signer.old) content)
+        IsWantOfMemory) }
+    ensures cause { CountsIssue (S.failures signer.old) (S.failures signer.new) result }
+    ensures keys { (k : S.KeyId) → S.key_of signer.new k ≡ S.key_of signer.old k }
+    ensures signs { (k m s : List ℕ) →
+        S.may_sign signer.new k m s ↔ S.may_sign signer.old k m s }
+    ensures digests { (m : List ℕ) → S.digest_of signer.new m ≡ S.digest_of signer.old m }
+    ensures verdicts { (k m s : List ℕ) →
+        S.is_signed signer.new k m s ≡ S.is_signed signer.old k m s }
+    ensures once { (k : List ℕ) → S.is_one_off signer.new k ↔ S.is_one_off signer.old k }
 {
     built_manifests_are_valid(check.issuer);
     match content.into_manifest(alloc, told, signer, key) {
