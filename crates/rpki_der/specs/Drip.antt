@@ -2,8 +2,8 @@
 use Rattle.std.specs.Prelude.{◌≡◌, ℕ, ◌+◌, ◌-◌, ◌^◌, min, List, length, Bool, true, false, ◌==◌}
 use Rattle.std.specs.Prelude.{if◌then◌else◌, Result, Ok, Err, ◌⊎◌, ◌<◌, ◌≤◌}
 
--- What is seen of the calls of such a stream: how many there were, up to 2^64 - 1, the number of the
--- one that is told to fail, counted from 1, or 0 where none is, and how many have failed.
+-- What is seen of the calls of such a stream: how many there were, up to 2^64 - 1, the number of
+-- the one that is told to fail, counted from 1, or 0 where none is, and how many have failed.
 pub record Calls : Type 0 where
   pub made : ℕ
   pub fails_at : ℕ
@@ -36,7 +36,8 @@ GivesOne source room (Ok n) =
     (is_told source.calls ≡ false) × (n ≡ min 1 (min room (length source.left)))
 GivesOne source room (Err e) = is_told source.calls ≡ true
 
--- What is seen of a sink: the octets that it has taken, how many more it has room for, and its calls.
+-- What is seen of a sink: the octets that it has taken, how many more it has room for, and its
+-- calls.
 pub record Takes : Type 0 where
   pub taken : List ℕ
   pub room : ℕ
