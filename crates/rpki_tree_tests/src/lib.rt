@@ -1,5 +1,8 @@
-//! Tests of what a relying party passes over: of `rpki_walk`, in the module of its name.
+//! Tests of what a relying party passes over: of `rpki_walk` and `rpki_tree`, in the modules of
+//! their names.
 #![tactic(auto)]
 
+#[cfg(test)]
+mod tree;
 #[cfg(test)]
 mod walk;

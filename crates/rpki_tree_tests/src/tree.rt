@@ -1,0 +1,4 @@
+//! Tests of `rpki_tree`, over copies in memory.
+
+mod copy;
+mod locators;
