@@ -27,7 +27,7 @@ static KEYS: [[u8; 20]; 2] = [
 ];
 
 /// Both keys, AS64496, AS64498 to AS64511, 192.0.2.0/24 and 2001:db8::/32, and the digest `hash`.
-static ALL: &[u8] =
+pub static ALL: &[u8] =
     b"0y1,\x04\x14\x01\x02\x03\x04\x05\x06\x07\x08\x09\x0A\x0B\x0C\x0D\x0E\x0F\x10\x11\x12\x13\
       \x14\x04\x14\xE1\xE2\xE3\xE4\xE5\xE6\xE7\xE8\xE9\xEA\xEB\xEC\xED\xEE\xEF\xF0\xF1\xF2\xF3\
       \xF406\xA0\x130\x11\x02\x03\x00\xFB\xF00\x0A\x02\x03\x00\xFB\xF2\x02\x03\x00\xFB\xFF\xA1\
@@ -48,19 +48,19 @@ static V6: &[u8] =
       \x86H\x01e\x03\x04\x02\x01\x04\x04hash";
 
 /// A builder with the digest `hash`.
-fn empty(alloc: Global) -> AttestationBuilder
+pub fn empty(alloc: Global) -> AttestationBuilder
     ensures { result.v4_resources ≡ [] }
 {
     let digest = MessageDigest::from(Bytes::from_static(b"hash"));
     AttestationBuilder::new(alloc, DigestAlgorithm::sha256(), digest)
 }
 
-fn key(at: usize) -> KeyIdentifier {
+pub fn key(at: usize) -> KeyIdentifier {
     KeyIdentifier::from_octets(KEYS[at % 2])
 }
 
 /// 192.0.2.0/24.
-fn v4_block() -> IpBlock
+pub fn v4_block() -> IpBlock
     ensures block { IsBlock (λ n. n) (ip_range result) }
     ensures within { IsWithin Ipv4 (ip_range result) }
 {
@@ -70,14 +70,14 @@ fn v4_block() -> IpBlock
 }
 
 /// 2001:db8::/32.
-fn v6_block() -> IpBlock
+pub fn v6_block() -> IpBlock
     ensures { IsBlock (λ n. n) (ip_range result) }
 {
     IpBlock::Prefix(Prefix::new(Addr::from_bits(0x2001_0DB8 << 96), 32))
 }
 
 /// The block of these AS numbers.
-fn numbers(first: u32, last: u32) -> AsBlock
+pub fn numbers(first: u32, last: u32) -> AsBlock
     requires { first ≤ last }
     ensures { IsBlock (λ n. n) (as_range result) }
 {
@@ -128,7 +128,11 @@ fn shows(builder: &AttestationBuilder) -> Result<bool, AllocError> {
 
 /// Whether the content is written as these octets; where there are none, whether it is refused
 /// since it names nothing.
-fn is_built(alloc: Global, builder: AttestationBuilder, wanted: &[u8]) -> Result<bool, AllocError>
+pub fn is_built(
+    alloc: Global,
+    builder: AttestationBuilder,
+    wanted: &[u8],
+) -> Result<bool, AllocError>
     requires { All (IsWithin Ipv4) builder.v4_resources }
 {
     match builder.into_attestation() {
