@@ -7,8 +7,8 @@ TREE = pathlib.Path(__file__).resolve().parent.parent.parent / "examples"
 HEAD = '''//! The attestations of examples/, read and written again.
 
 use bytes::Bytes;
-use rpki_fixtures::Fail;
 use rpki_multi::Rta;
+use rpki_testing::Fail;
 use std::alloc::Global;
 
 /// That an attestation carries so many certificates, revocation lists and signers, and that it is

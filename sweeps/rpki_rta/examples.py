@@ -11,11 +11,11 @@ use bytes::Bytes;
 use rpki_basics::Time;
 use rpki_certs::{Cert, ResourceCert};
 use rpki_der::Counted;
-use rpki_fixtures::Fail;
 use rpki_rsa::Rsa;
 use rpki_rta::Supply;
 use rpki_signed::check;
 use rpki_tal::Tal;
+use rpki_testing::Fail;
 use std::alloc::{AllocError, Global};
 
 /// The CA of the tree, validated at this moment.

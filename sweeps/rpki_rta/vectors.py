@@ -628,7 +628,7 @@ def rows():
 HEAD = """//! Attestations in octets, each with what is answered of it.
 
 use super::compared::{answer, verdicts};
-use rpki_fixtures::Fail;
+use rpki_testing::Fail;
 """
 
 

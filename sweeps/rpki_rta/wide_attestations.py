@@ -13,7 +13,7 @@ COUNT, SEED, AT_ONCE = 500, 21, 50
 HEAD = '''//! Random attestations in octets, with what another program says of the definitions.
 
 use super::compared::compare;
-use rpki_fixtures::Fail;
+use rpki_testing::Fail;
 '''
 
 

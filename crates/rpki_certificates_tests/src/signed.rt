@@ -1,12 +1,6 @@
-//! Tests of `rpki_signed`. Objects and certificates are put together from values and signed by the
-//! stand-in (`rpki_fixtures`).
+//! Tests of `rpki_signed`: which entries of a manifest are held. Its checks are tested with the
+//! objects that are built, in the tests of `rpki_signing`; each fault of theirs is in the sweeps.
 //!
-//! A test hands want of memory on and asserts everything else. Rows of objects of each kind, and
-//! each fault of the four checks, are in the sweeps.
+//! A test hands want of memory on and asserts everything else.
 
-mod answers;
-mod calls;
-mod checks;
-mod given;
-mod kinds;
 mod walks;

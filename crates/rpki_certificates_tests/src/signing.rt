@@ -4,6 +4,7 @@
 //!
 //! A test hands want of memory on and asserts everything else.
 
+mod checks;
 mod given;
 mod manifests;
 mod numbers;

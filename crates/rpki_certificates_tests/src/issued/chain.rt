@@ -11,10 +11,10 @@ use rpki_basics::standin::StandIn;
 use rpki_certs::{Cert, ResourceCert};
 use rpki_der::DecodeError;
 use rpki_faults::KeyUsage;
-use rpki_fixtures::Fail;
 use rpki_issued::TbsCert;
 use rpki_issued::resources::{build_as_resources, build_ip_resources};
 use rpki_resources::{Addr, AsBlock, AsBlocksBuilder, Asn, IpBlock, IpBlocksBuilder, Resources};
+use rpki_testing::Fail;
 use std::alloc::{AllocError, Global};
 
 /// AS1 to AS10.

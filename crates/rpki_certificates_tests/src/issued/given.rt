@@ -10,8 +10,8 @@ use rpki_basics::{Https, Name, PublicKey, Rsync, Serial, SigningError, Time, Val
 use rpki_certs::Cert;
 use rpki_der::{Constructed, DecodeError, Encode, EncodeError, Mode};
 use rpki_faults::{KeyUsage, Overclaim};
-use rpki_fixtures::Fail;
 use rpki_issued::TbsCert;
+use rpki_testing::Fail;
 use std::alloc::{AllocError, Global};
 
 /// The first moment of this year.

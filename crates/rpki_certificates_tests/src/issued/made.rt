@@ -9,12 +9,12 @@ use rpki_basics::standin::StandInSigner;
 use rpki_basics::{Serial, SigningError, Time, Validity};
 use rpki_der::Mode;
 use rpki_faults::{KeyUsage, Overclaim};
-use rpki_fixtures::Fail;
 use rpki_issued::TbsCert;
 use rpki_issued::signing::sign_and_join;
 use rpki_resources::{
     Addr, AsBlock, AsBlocksBuilder, Asn, IpBlock, IpBlocksBuilder, Prefix, Resources,
 };
+use rpki_testing::Fail;
 use std::alloc::{AllocError, Global};
 
 /// The names of the issuer and of the subject.
@@ -31,7 +31,7 @@ fn nothing_is_said(rt: HostRuntime) -> Result<(), Fail> {
 }
 
 /// A CA's, under these names, that says nothing else.
-fn named(alloc: Global) -> Result<TbsCert, Fail>
+pub fn named(alloc: Global) -> Result<TbsCert, Fail>
     ensures { IfOk result (λ t. t.extensions.claims.addresses.v4 ≡ Missing) }
 {
     let Some(end) = Time::utc(2049, 12, 31, 23, 59, 59) else {
@@ -54,7 +54,7 @@ fn named(alloc: Global) -> Result<TbsCert, Fail>
 }
 
 /// Sets each URI.
-fn set_places(alloc: Global, t: &mut TbsCert) -> Result<(), Fail> {
+pub fn set_places(alloc: Global, t: &mut TbsCert) -> Result<(), Fail> {
     t.set_crl_uri(Some(rsync(alloc, b"rsync://a.example.com/r/a.crl")?));
     t.set_ca_issuer(Some(rsync(alloc, b"rsync://a.example.com/r/a.cer")?));
     t.set_ca_repository(Some(rsync(alloc, b"rsync://a.example.com/r/s/")?));
@@ -65,14 +65,14 @@ fn set_places(alloc: Global, t: &mut TbsCert) -> Result<(), Fail> {
 }
 
 /// AS64496, and AS1 to AS3 in two blocks that touch.
-fn push_numbers(blocks: &mut AsBlocksBuilder) -> Result<(), AllocError> {
+pub fn push_numbers(blocks: &mut AsBlocksBuilder) -> Result<(), AllocError> {
     blocks.push(AsBlock::Id(Asn::from_u32(64496)))?;
     blocks.push(AsBlock::Range(Asn::from_u32(2), Asn::from_u32(3)))?;
     blocks.push(AsBlock::Id(Asn::from_u32(1)))
 }
 
 /// fd00::/8 and 2001:db8::/32.
-fn push_addresses(blocks: &mut IpBlocksBuilder) -> Result<(), AllocError> {
+pub fn push_addresses(blocks: &mut IpBlocksBuilder) -> Result<(), AllocError> {
     let first = Addr::from_bits(0xFD << 120);
     blocks.push(IpBlock::Prefix(Prefix::new(first, 8)))?;
     let first = Addr::from_bits(0x2001_0DB8 << 96);

@@ -9,9 +9,9 @@ use rpki_basics::{Serial, SigningError, Validity};
 use rpki_certs::Cert;
 use rpki_der::Mode;
 use rpki_faults::{KeyUsage, Overclaim};
-use rpki_fixtures::Fail;
 use rpki_issued::TbsCert;
 use rpki_resources::{Addr, AsBlock, AsBlocksBuilder, Asn, IpBlock, IpBlocksBuilder};
+use rpki_testing::Fail;
 use std::alloc::{AllocError, Global};
 
 /// What signing answers.
@@ -113,7 +113,7 @@ fn all_refuse(alloc: Global, t: &mut TbsCert) -> Result<(), Fail>
 }
 
 /// A certificate that inherits.
-fn inheriting(alloc: Global) -> Result<TbsCert, Fail>
+pub fn inheriting(alloc: Global) -> Result<TbsCert, Fail>
     ensures { IfOk result (λ t. t.extensions.claims.addresses.v4 ≡ Inherit) }
 {
     let mut t = plain(alloc, 1, 2, KeyUsage::Ee)?;

@@ -6,12 +6,12 @@ use rpki_basics::standin::{Refused, StandIn, StandInSigner};
 use rpki_basics::{PublicKey, Serial, SigningError, Time};
 use rpki_crls::Crl;
 use rpki_der::{Encode, EncodeError};
-use rpki_fixtures::Fail;
 use rpki_issued_crls::CrlBuilder;
+use rpki_testing::Fail;
 use std::alloc::{AllocError, Global};
 
 /// A moment.
-fn moment(time: Option<Time>) -> Result<Time, Fail> {
+pub fn moment(time: Option<Time>) -> Result<Time, Fail> {
     match time {
         Some(time) => Ok(time),
         None => Err(Fail::Refused),
@@ -19,18 +19,18 @@ fn moment(time: Option<Time>) -> Result<Time, Fail> {
 }
 
 /// The first moment of this year.
-fn start_of(year: u16) -> Result<Time, Fail> {
+pub fn start_of(year: u16) -> Result<Time, Fail> {
     moment(Time::utc(year, 1, 1, 0, 0, 0))
 }
 
 /// The key with this number.
-fn key(alloc: Global, number: u64) -> Result<PublicKey, AllocError> {
+pub fn key(alloc: Global, number: u64) -> Result<PublicKey, AllocError> {
     let bits = Bytes::copy_from_slice(alloc, &number.to_be_bytes())?;
     Ok(PublicKey::from_bits(bits))
 }
 
 /// A list without entries, with the number zero, whose next update is in 2050.
-fn empty(alloc: Global) -> Result<CrlBuilder, Fail> {
+pub fn empty(alloc: Global) -> Result<CrlBuilder, Fail> {
     let id = key(alloc, 1)?.key_identifier();
     let (this, next) = (start_of(2024)?, start_of(2050)?);
     Ok(CrlBuilder::new(alloc, id, this, next, Serial::from(0)))
@@ -65,7 +65,7 @@ fn signed_failing_at(alloc: Global, call: u64) -> Result<Result<Crl, SigningErro
 }
 
 /// The list, signed by key 1.
-fn signed(alloc: Global, list: CrlBuilder) -> Result<Crl, Fail> {
+pub fn signed(alloc: Global, list: CrlBuilder) -> Result<Crl, Fail> {
     let mut signer = StandInSigner::new(alloc);
     match list.into_crl(alloc, &mut signer, &1) {
         Ok(list) => Ok(list),
@@ -75,7 +75,7 @@ fn signed(alloc: Global, list: CrlBuilder) -> Result<Crl, Fail> {
 }
 
 /// Whether these are the octets of a list.
-fn is_written(alloc: Global, list: &Crl, octets: &[u8]) -> Result<bool, Fail> {
+pub fn is_written(alloc: Global, list: &Crl, octets: &[u8]) -> Result<bool, Fail> {
     match list.encode_ref().to_bytes(alloc) {
         Ok(written) => Ok(written.as_slice() == octets),
         Err(EncodeError::Memory) => Err(Fail::Memory),

@@ -6,14 +6,14 @@ use super::octets::{AUTHORITY, BUILT, EMPTY, ENTITY, FIRST, LIST, SECOND, WHOLE}
 use bytes::Bytes;
 use rpki_attributes::MessageDigest;
 use rpki_basics::standin::{Refused, StandInSigner};
-use rpki_basics::{BuildError, BuildFault, DigestAlgorithm, SigningError, Time};
+use rpki_basics::{BuildError, BuildFault, DigestAlgorithm, KeyIdentifier, SigningError, Time};
 use rpki_certs::Cert;
 use rpki_crls::Crl;
 use rpki_der::{Constructed, EncodeError, Mode};
-use rpki_fixtures::{Fail, key_identifier};
 use rpki_multi::{IntoRtaBuilder, Rta, RtaBuilder, SignerInfo};
 use rpki_resources::{AsBlock, Asn};
 use rpki_tagged::{AttestationBuilder, ResourceTaggedAttestation};
+use rpki_testing::Fail;
 use std::alloc::{AllocError, Global};
 
 /// The octets that what is built is written as, and `None` where a part was read in BER.
@@ -34,13 +34,13 @@ fn finished(alloc: Global, builder: RtaBuilder) -> Result<Option<Bytes>, Fail> {
 }
 
 /// Whether what is built is written as these octets.
-fn is_written(alloc: Global, builder: RtaBuilder, wanted: &[u8]) -> Result<bool, Fail> {
+pub fn is_written(alloc: Global, builder: RtaBuilder, wanted: &[u8]) -> Result<bool, Fail> {
     let octets = finished(alloc, builder)?;
     Ok(octets.is_some_and(|octets| octets.as_slice() == wanted))
 }
 
 /// The first moment of June 2024, and noon of the next day.
-fn moments() -> Result<(Time, Time), Fail> {
+pub fn moments() -> Result<(Time, Time), Fail> {
     let first = Time::utc(2024, 6, 1, 0, 0, 0);
     let second = Time::utc(2024, 6, 2, 12, 0, 0);
     match (first, second) {
@@ -50,7 +50,7 @@ fn moments() -> Result<(Time, Time), Fail> {
 }
 
 /// A builder with what the attestation with these octets has.
-fn of_octets(alloc: Global, octets: &'static [u8]) -> Result<RtaBuilder, Fail> {
+pub fn of_octets(alloc: Global, octets: &'static [u8]) -> Result<RtaBuilder, Fail> {
     let rta = Rta::decode(alloc, Bytes::from_static(octets))?;
     Ok(RtaBuilder::from_rta(rta))
 }
@@ -80,7 +80,7 @@ fn carry(alloc: Global, builder: &mut RtaBuilder) -> Result<(), Fail> {
 }
 
 /// How many certificates, lists, signers and keys there are.
-fn counts(builder: &RtaBuilder) -> (usize, usize, usize, usize) {
+pub fn counts(builder: &RtaBuilder) -> (usize, usize, usize, usize) {
     (
         builder.certificates().len(),
         builder.crls().len(),
@@ -136,7 +136,7 @@ fn content(alloc: Global) -> Result<AttestationBuilder, Fail>
           \xFD\xDC\x06\xB0\x27\xFA\x99\xE2\x40\x08",
     ));
     let mut builder = AttestationBuilder::new(alloc, DigestAlgorithm::sha256(), digest);
-    builder.push_key(key_identifier(3))?;
+    builder.push_key(KeyIdentifier::of(&3u64.to_be_bytes()))?;
     Ok(builder)
 }
 

@@ -3,8 +3,8 @@
 use super::octets::{AUTHORITY, EMPTY, ENTITY, FIRST, LIST, OTHER_TYPE, SECOND, WHOLE};
 use bytes::Bytes;
 use rpki_der::{Constructed, DecodeError, Mode};
-use rpki_fixtures::{Fail, value};
 use rpki_multi::{MultiSignedObject, SignerInfo};
+use rpki_testing::{Fail, value};
 use std::alloc::{AllocError, Global};
 
 /// The version, the algorithm, and the content with its type.

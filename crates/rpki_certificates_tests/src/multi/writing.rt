@@ -4,8 +4,8 @@ use super::octets::{EMPTY, FIRST, WHOLE};
 use super::reading::{number_alone, read};
 use bytes::Bytes;
 use rpki_der::{Constructed, DecodeError, Encode, EncodeError, Mode};
-use rpki_fixtures::Fail;
 use rpki_multi::{Rta, SignerInfo};
+use rpki_testing::Fail;
 use std::alloc::Global;
 
 /// The octets that were written, and `None` where a part was read in BER.

@@ -10,11 +10,11 @@ use rpki_basics::FixedClock;
 use rpki_basics::standin::StandIn;
 use rpki_der::DecodeError;
 use rpki_faults::ValidationError;
-use rpki_fixtures::Fail;
 use rpki_multi::Rta;
 use rpki_rta::{Supply, Validation};
 use rpki_signed::check;
 use rpki_signed::check::CheckError;
+use rpki_testing::Fail;
 use std::alloc::Global;
 
 /// What a check of octets answers: whether the content attests these AS numbers.

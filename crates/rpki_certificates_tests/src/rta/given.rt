@@ -6,10 +6,10 @@ use rpki_basics::standin::StandIn;
 use rpki_certs::{Cert, ResourceCert};
 use rpki_der::Counted;
 use rpki_faults::ValidationError;
-use rpki_fixtures::Fail;
 use rpki_resources::AsBlocks;
 use rpki_tagged::ResourceTaggedAttestation;
 use rpki_tal::{ReadError, Tal};
+use rpki_testing::Fail;
 use std::alloc::Global;
 
 /// What anchors paths: the certificate of a CA, which is validated as that of a trust anchor, or

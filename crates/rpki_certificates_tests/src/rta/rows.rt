@@ -8,9 +8,9 @@ use super::octets::{
 };
 use bytes::Bytes;
 use rpki_basics::standin::StandIn;
-use rpki_fixtures::Fail;
 use rpki_multi::Rta;
 use rpki_rta::{Supply, run};
+use rpki_testing::Fail;
 use std::alloc::Global;
 
 /// An attestation, what anchors its paths, and what is wanted.

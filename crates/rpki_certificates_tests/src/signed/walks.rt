@@ -1,12 +1,11 @@
 //! Which entries of a manifest are held by files at hand.
 
-use super::given::Fail;
 use bytes::Bytes;
 use rpki_basics::ManifestRule;
 use rpki_basics::standin::StandIn;
 use rpki_files::ManifestContent;
-use rpki_fixtures::value;
 use rpki_signed::Walk;
+use rpki_testing::{Fail, value};
 use std::alloc::{AllocError, Global};
 
 /// The SHA-256 digests of `foobar` and of `barfoo` (FIPS 180-4).

@@ -8,10 +8,10 @@ use rpki_basics::standin::{Refused, StandIn, StandInSigner};
 use rpki_basics::{PublicKey, Rsync, Serial, Signer, SignerFault, SigningError, Time, Validity};
 use rpki_certs::{Cert, ResourceCert};
 use rpki_faults::{KeyUsage, Overclaim};
-use rpki_fixtures::Fail;
 use rpki_issued::TbsCert;
 use rpki_resources::{AsBlock, Asn};
 use rpki_signing::SignedObjectBuilder;
+use rpki_testing::Fail;
 use std::alloc::Global;
 
 /// The key of the issuer.

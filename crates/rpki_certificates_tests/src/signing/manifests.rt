@@ -1,11 +1,13 @@
 //! Manifests that are built and signed, under an issuer that was built too.
 
+use super::checks::is_yes;
 use super::given::{ISSUER, builder, issuer, signed, year};
 use bytes::Bytes;
 use rpki_basics::standin::{Refused, StandIn, StandInSigner};
-use rpki_basics::{DigestAlgorithm, ManifestRule, Serial, SigningError, Time};
+use rpki_basics::{BuildError, DigestAlgorithm, ManifestRule, Serial, SigningError, Time};
+use rpki_faults::ValidationError;
 use rpki_files::{FileAndHash, Manifest, ManifestContent, ValidateManifest};
-use rpki_fixtures::Fail;
+use rpki_testing::Fail;
 use std::alloc::Global;
 
 /// The entries of each manifest.
@@ -25,6 +27,7 @@ fn content(alloc: Global) -> Result<ManifestContent, Fail> {
         ManifestRule::Registered,
     ) {
         Ok(content) => Ok(content),
+        Err(BuildError::Memory) => Err(Fail::Memory),
         Err(_) => Err(Fail::Refused),
     }
 }
@@ -85,6 +88,7 @@ fn is_valid(alloc: Global, manifest: Manifest, now: Time) -> Result<bool, Fail> 
                     drop(content);
                     Ok(true)
                 }
+                Err(ValidationError::Memory) => Err(Fail::Memory),
                 Err(_) => Ok(false),
             }
         }
@@ -109,8 +113,16 @@ fn read_again(alloc: Global, at: u16) -> Result<(String, bool), Fail> {
     }
 }
 
+/// Whether the check of manifests says yes to one that is signed.
+fn is_checked(alloc: Global) -> Result<bool, Fail> {
+    let mut signer = StandInSigner::new(alloc);
+    let octets = octets(alloc)?;
+    is_yes::<ManifestContent>(alloc, octets, &mut signer, ManifestRule::Registered)
+}
+
 #[test]
 fn signed_manifests_are_valid(rt: HostRuntime) -> Result<(), Fail> {
+    assert!(rt; is_checked(rt.alloc())?);
     let (text, is_valid) = read_again(rt.alloc(), 2030)?;
     assert!(rt; text.as_str() == "c 2 2 true" && is_valid);
     let (text, is_valid) = read_again(rt.alloc(), 2032)?;

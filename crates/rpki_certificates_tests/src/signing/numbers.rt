@@ -9,10 +9,10 @@ use super::given::{ISSUER, signed, unsigned, year};
 use rpki_basics::BuildError;
 use rpki_basics::standin::{StandIn, StandInSigner};
 use rpki_certs::{Cert, ResourceCert};
-use rpki_fixtures::Fail;
 use rpki_issued::TbsCert;
 use rpki_resources::{AddressFamily, AsBlock, AsBlocksBuilder, AsResources, Asn, IpResources};
 use rpki_routes::RoaIpAddressesBuilder;
+use rpki_testing::Fail;
 use std::alloc::{AllocError, Global};
 use std::net::{IpAddr, Ipv4Addr, Ipv6Addr};
 

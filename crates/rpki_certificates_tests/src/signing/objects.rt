@@ -5,19 +5,20 @@ use bytes::Bytes;
 use rpki_basics::SigningError;
 use rpki_basics::standin::{Refused, StandIn, StandInSigner};
 use rpki_der::Oid;
-use rpki_fixtures::Fail;
+use rpki_faults::ValidationError;
 use rpki_sigobj::SignedObject;
+use rpki_testing::Fail;
 use std::alloc::{AllocError, Global};
 
 /// The content of each object.
 const CONTENT: &[u8] = b"\x02\x01\x05";
 
 /// The contents of id-ct-routeOriginAuthz (RFC 9582, section 3).
-const KIND: &[u8] = b"\x2A\x86\x48\x86\xF7\x0D\x01\x09\x10\x01\x18";
+pub const KIND: &[u8] = b"\x2A\x86\x48\x86\xF7\x0D\x01\x09\x10\x01\x18";
 
-/// The type of each object.
-fn kind(alloc: Global) -> Result<Oid, Fail> {
-    match Oid::from_bytes(Bytes::copy_from_slice(alloc, KIND)?) {
+/// The object identifier with these contents.
+pub fn kind(alloc: Global, contents: &[u8]) -> Result<Oid, Fail> {
+    match Oid::from_bytes(Bytes::copy_from_slice(alloc, contents)?) {
         Some(kind) => Ok(kind),
         None => Err(Fail::Refused),
     }
@@ -29,7 +30,7 @@ fn object(
     signer: &mut StandInSigner,
     at: u16,
 ) -> Result<Result<SignedObject, SigningError<Refused>>, Fail> {
-    let kind = kind(alloc)?;
+    let kind = kind(alloc, KIND)?;
     let builder = builder(alloc, year(at)?)?;
     Ok(builder.finalize(alloc, &kind, CONTENT, signer, &ISSUER))
 }
@@ -41,7 +42,14 @@ fn is_valid(alloc: Global, at: u16) -> Result<bool, Fail> {
     let object = signed(object(alloc, &mut signer, at)?)?;
     let answer = object.validate_at(alloc, &issuer, true, &StandIn, year(2030)?);
     drop(issuer);
-    Ok(answer.is_ok())
+    match answer {
+        Ok(cert) => {
+            drop(cert);
+            Ok(true)
+        }
+        Err(ValidationError::Memory) => Err(Fail::Memory),
+        Err(_) => Ok(false),
+    }
 }
 
 #[test]

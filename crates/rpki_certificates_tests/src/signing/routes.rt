@@ -1,17 +1,19 @@
 //! ROAs and ASPAs that are built and signed. Their contents alone are tested in the crate of tests of
 //! contents.
 
+use super::checks::is_yes;
 use super::given::{ISSUER, builder, signed, year};
-use super::numbers::{AS, issuer, v4, v6};
-use rpki_basics::standin::{Refused, StandIn, StandInSigner};
+use super::numbers::{AS, v4, v6};
+use bytes::Bytes;
+use rpki_basics::standin::{Refused, StandInSigner};
 use rpki_basics::{ProviderLimit, SigningError};
-use rpki_certs::Cert;
-use rpki_faults::ValidationError;
-use rpki_fixtures::Fail;
 use rpki_resources::Asn;
-use rpki_routes::{Aspa, AspaBuilder, Roa, RoaBuilder};
+use rpki_routes::{
+    AsProviderAttestation, Aspa, AspaBuilder, Roa, RoaBuilder, RouteOriginAttestation,
+};
 use rpki_signing::SignedObjectBuilder;
 use rpki_sigobj::{Content, Signed};
+use rpki_testing::Fail;
 use std::alloc::{AllocError, Global};
 
 /// AS64496, 192.0.2.0/24 and 2001:db8::/32.
@@ -102,62 +104,35 @@ fn aspa(
     }
 }
 
-/// The caller knows of no certificate that was revoked.
-fn pass(_cert: &Cert) -> Result<(), ValidationError> {
-    Ok(())
-}
-
-/// Whether an object that was written is read again strictly, with these octets of its content, and
-/// is valid under its issuer in 2030.
-fn is_yes<T: Content>(
-    alloc: Global,
-    object: Signed<T>,
-    signer: &mut StandInSigner,
-    rule: T::Rule,
-    content: &[u8],
-) -> Result<bool, Fail> {
+/// The octets of an object, and whether these are those of its content.
+fn written<T: Content>(object: Signed<T>, content: &[u8]) -> Result<(Bytes, bool), Fail> {
+    let is_content = object.signed().content().as_slice() == content;
     let octets = object.to_captured();
     drop(object);
-    let now = year(2030)?;
-    let Ok(octets) = octets else {
-        return Err(Fail::Memory);
-    };
-    let issuer = issuer(alloc, signer)?;
-    let again = match Signed::<T>::decode(alloc, octets, true, rule) {
-        Err(error) => {
-            drop(issuer);
-            return Err(Fail::from(error));
-        }
-        Ok(again) => again,
-    };
-    let is_content = again.signed().content().as_slice() == content;
-    let answer = again.process_at(alloc, &issuer, true, &StandIn, now, pass);
-    drop(issuer);
-    match answer {
-        Ok((cert, content)) => {
-            drop(cert);
-            drop(content);
-            Ok(is_content)
-        }
-        Err(error) => Err(Fail::from(error)),
+    match octets {
+        Ok(octets) => Ok((octets, is_content)),
+        Err(_) => Err(Fail::Memory),
     }
 }
 
-/// Whether a ROA is signed, and valid.
+/// Whether a ROA is signed, and its check says yes.
 fn is_roa(alloc: Global) -> Result<bool, Fail> {
     let mut signer = StandInSigner::new(alloc);
     let content = with_addresses(alloc, Has::Both)?;
     let object = signed(roa(alloc, &mut signer, content)?)?;
     let inherits = object.cert().as_resources().is_inherited();
-    Ok(is_yes(alloc, object, &mut signer, (), BOTH)? && inherits)
+    let (octets, is_content) = written(object, BOTH)?;
+    Ok(is_yes::<RouteOriginAttestation>(alloc, octets, &mut signer, ())? && is_content && inherits)
 }
 
-/// Whether an ASPA is signed, and valid.
+/// Whether an ASPA is signed, and its check says yes.
 fn is_aspa(alloc: Global) -> Result<bool, Fail> {
     let mut signer = StandInSigner::new(alloc);
     let content = with_providers(alloc, &[64498, 64497, 64499])?;
     let object = signed(aspa(alloc, &mut signer, content)?)?;
-    is_yes(alloc, object, &mut signer, ProviderLimit::Narrow, THREE)
+    let (octets, is_content) = written(object, THREE)?;
+    let limit = ProviderLimit::Narrow;
+    Ok(is_yes::<AsProviderAttestation>(alloc, octets, &mut signer, limit)? && is_content)
 }
 
 #[test]

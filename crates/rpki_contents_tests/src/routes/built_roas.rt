@@ -232,7 +232,7 @@ fn is_claimed(claim: &IpResources, prefix: Option<Prefix>) -> bool {
 }
 
 /// Whether the list is written as these octets.
-fn is_listed(
+pub fn is_listed(
     alloc: Global,
     list: &RoaIpAddressesBuilder,
     wanted: &[u8],

@@ -1,7 +1,7 @@
 //! Why a test ends early.
 
 ghost use Rattle.std.specs.Prelude.{◌≡◌, ◌↔◌};
-ghost use Rattle.rpki_fixtures.specs.declared.fail.Fail.{Fail};
+ghost use Rattle.rpki_testing.specs.declared.fail.Fail.{Fail};
 ghost use Rattle.rpki_der.specs.declared.error.DecodeError.{DecodeError};
 ghost use Rattle.rpki_faults.specs.declared.validation.ValidationError.{ValidationError};
 
