@@ -4,8 +4,8 @@ use super::copy::Files;
 use rpki_basics::standin::StandIn;
 use rpki_basics::{ProviderLimit, Time};
 use rpki_der::Counted;
-use rpki_fixtures::Fail;
 use rpki_tal::{ReadError, Tal};
+use rpki_testing::Fail;
 use rpki_tree::{AnchorFault, Pass, PassFault, findings};
 use std::alloc::{AllocError, Global};
 
