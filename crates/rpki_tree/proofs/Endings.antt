@@ -1,6 +1,6 @@
 -- The kind of a file is that of its URI.
-use Rattle.std.proofs.Common.{◌≡◌, ℕ, ◌-◌, ◌≤◌, Bool, true, false, List, ◌∷◌, ◌++◌, length, take, drop}
-use Rattle.std.proofs.Common.{arith, append_assoc, sym, ap, ◌∙◌}
+use Rattle.std.proofs.Common.{◌≡◌, ℕ, ◌-◌, ◌≤◌, Bool, true, false, List, ◌∷◌, ◌++◌, length}
+use Rattle.std.proofs.Common.{take, drop, arith, append_assoc, sym, ap, ◌∙◌}
 use Rattle.std.specs.Prelude.{codes, nat_eq, if◌then◌else◌}
 use Rattle.std.specs.List.{ends_with}
 use Rattle.std.proofs.lemmas.List.{drop_at, length-append, length-take, take-append-drop}

@@ -1,5 +1,5 @@
--- The files that the publication point of a certification authority (CA) lists: what each says, which
--- CA it holds, and why it is refused.
+-- The files that the publication point of a certification authority (CA) lists: what each says,
+-- which CA it holds, and why it is refused.
 use Rattle.std.specs.Prelude.{◌≡◌, ℕ, List, None, Contains, map}
 use Rattle.rpki_crls.specs.Crl.{RevocationList}
 use Rattle.rpki_faults.specs.Checks.{AllHold}
@@ -26,8 +26,8 @@ use Rattle.rpki_tree.specs.declared.payload.Payload.{Payload}
 use Rattle.rpki_tree.specs.declared.payload.Payload.TheVariants as payloads
 use Rattle.rpki_tree.specs.declared.payload.Providers.{Providers}
 
--- The file is one of those that the point of the CA lists, and the copy has these octets for it (RFC
--- 9286, sections 6.4 and 6.5).
+-- The file is one of those that the point of the CA lists, and the copy has these octets for it
+-- (RFC 9286, sections 6.4 and 6.5).
 pub record IsFileOf (s : Setting) (ca : Validated) (p : Point) (file : UriAndHash)
     (octets : List ℕ) : Type 0 where
   pub folder : List ℕ
@@ -84,8 +84,8 @@ Attests s ca list file octets (payloads.Aspa given) =
     (kind_of file.0 ≡ kinds.Aspa)
     × ((aspa : Aspa) × HasAspa s ca list octets aspa × (given ≡ providers_of aspa))
 
--- The file is refused by this fault: its name ends with `.roa`, `.asa` or `.cer`, and it begins with
--- no such object or certificate. The certificate of a router is passed over.
+-- The file is refused by this fault: its name ends with `.roa`, `.asa` or `.cer`, and it begins
+-- with no such object or certificate. The certificate of a router is passed over.
 abbrev pub IsRefused : Setting → Validated → RevocationList → UriAndHash → List ℕ → Fault → Type 0
 IsRefused s ca list file octets faults.NoManifest = ⊥
 IsRefused s ca list file octets faults.NoFile = ⊥

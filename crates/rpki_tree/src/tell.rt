@@ -45,8 +45,8 @@ fn tell_roa<S: LocalCopy, C: Crypto>(
     file: ReadFile,
     said: &mut Vec<Finding>,
 ) -> Result<(), AllocError>
-    ensures { IfOk result (λ _. Appends (SaysOrRefuses
-        (HasRoa (setting S.cached C.digest_of C.is_signed pass.now) ca.now list.now.list file.octets)
+    ensures { IfOk result (λ _. Appends (SaysOrRefuses (HasRoa
+        (setting S.cached C.digest_of C.is_signed pass.now) ca.now list.now.list file.octets)
         roa_found file.uri Fault.NoRoa) said.old.items said.new.items) }
 {
     let ReadFile { uri, octets } = file;
@@ -70,8 +70,8 @@ fn tell_aspa<S: LocalCopy, C: Crypto>(
     file: ReadFile,
     said: &mut Vec<Finding>,
 ) -> Result<(), AllocError>
-    ensures { IfOk result (λ _. Appends (SaysOrRefuses
-        (HasAspa (setting S.cached C.digest_of C.is_signed pass.now) ca.now list.now.list file.octets)
+    ensures { IfOk result (λ _. Appends (SaysOrRefuses (HasAspa
+        (setting S.cached C.digest_of C.is_signed pass.now) ca.now list.now.list file.octets)
         aspa_found file.uri Fault.NoAspa) said.old.items said.new.items) }
 {
     let ReadFile { uri, octets } = file;

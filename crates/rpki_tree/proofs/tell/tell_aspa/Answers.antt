@@ -14,8 +14,8 @@ returns-in-Err g c =
     c.args.pass.now in
     put-refused (HasAspa s c.args.ca.now c.args.list.now.list c.args.file.octets) aspa_found
     c.args.file.uri faults.NoAspa c.args.said.now.items c.put_refusal.new.said.items
-    (has-none s aspa_kind (AspaForm s.providers) c.args.ca.now c.args.list.now.list c.args.file.octets
-    c.in-Err.error c.in-Err.ensures) c.put_refusal.result c.put_refusal.ensures.memory
+    (has-none s aspa_kind (AspaForm s.providers) c.args.ca.now c.args.list.now.list
+    c.args.file.octets c.in-Err.error c.in-Err.ensures) c.put_refusal.result c.put_refusal.ensures.memory
     c.put_refusal.ensures.refused
 
 pub returns-in-Ok : goal.returns-in-Ok
@@ -24,6 +24,6 @@ returns-in-Ok g c =
     c.args.pass.now in
     put-found (HasAspa s c.args.ca.now c.args.list.now.list c.args.file.octets) aspa_found
     c.args.file.uri faults.NoAspa c.args.said.now.items c.put_aspa-put.new.said.items
-    c.in-Ok.good.1 (has-content s aspa_kind (AspaForm s.providers) c.args.ca.now c.args.list.now.list
-    c.args.file.octets c.in-Ok.good c.in-Ok.ensures) c.put_aspa-put.result
+    c.in-Ok.good.1 (has-content s aspa_kind (AspaForm s.providers) c.args.ca.now
+    c.args.list.now.list c.args.file.octets c.in-Ok.good c.in-Ok.ensures) c.put_aspa-put.result
     c.put_aspa-put.ensures

@@ -12,7 +12,8 @@ returns-in-Ok-None g c =
     let s = setting g.S.LocalCopy.cached g.C.Crypto.digest_of g.C.Crypto.is_signed
     c.args.pass.now in
     absurd (subst (λ (o : Option (List ℕ)). MatchOption o
-    (¬ IsPresent s.cached s.digest c.args.listed) (λ octets. Has s.cached s.digest c.args.listed octets))
+    (¬ IsPresent s.cached s.digest c.args.listed)
+    (λ octets. Has s.cached s.digest c.args.listed octets))
     c.in-Ok-None.field-0-is c.in-Ok-None.ensures c.requires)
 
 pub returns-in-Ok-Some : goal.returns-in-Ok-Some
