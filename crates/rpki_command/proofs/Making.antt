@@ -1,7 +1,7 @@
 -- Anchors that files make, one after the other.
 use Rattle.std.proofs.Common.{◌≡◌, ◌<◌, ◌≤◌, ◌+◌, ◌∙◌, ℕ, List, [], ◌∷◌, ◌++◌, Bor, Vec, Global}
-use Rattle.std.proofs.Common.{Bool, true, false, Ok, Err, refl, sym, ap, subst, inl, inr, arith}
-use Rattle.std.proofs.Common.{length, get_or, take, drop, map, append_assoc, suc}
+use Rattle.std.proofs.Common.{Bool, true, false, Ok, Err, refl, sym, ap, subst, inr, arith}
+use Rattle.std.proofs.Common.{length, get_or, take, drop, append_assoc, suc}
 use Rattle.std.proofs.Math.Seq.{drop-cons}
 use Rattle.std.proofs.lemmas.List.{append-nil, take-map, drop-map, length-append, length-drop}
 use Rattle.std.proofs.lemmas.List.{drop_all, length-take-le, map-append}
@@ -11,7 +11,7 @@ use Rattle.std.specs.Prelude.{if◌then◌else◌}
 use Rattle.rpki_basics.specs.Moment.{Moment}
 use Rattle.rpki_certs.specs.Issuer.{octets_of}
 use Rattle.rpki_certs.specs.Verify.{Verdict}
-use Rattle.rpki_command.specs.Anchors.{Given, given_in, Makes, MakesOf, MakeEach, IsFirstUnmade}
+use Rattle.rpki_command.specs.Anchors.{Given, given_in, Makes, MakesOf, MakeEach}
 use Rattle.rpki_command.specs.Anchors.{AreMade, chains_in}
 use Rattle.rpki_verdicts.specs.Attested.{octets_of_chains}
 use Rattle.rpki_command.specs.Words.{texts, is_locator, is_colon, path_in, files_of_anchor}

@@ -1,5 +1,5 @@
--- Which signatures a check of an attestation asks about, and what is answered where the octets of
--- files make the list of the good ones (draft-michaelson-rpki-rta, section 5).
+-- Which signatures a check of an attestation may ask about, and what is answered where the octets
+-- of files make the list of the good ones (draft-michaelson-rpki-rta, section 5).
 use Rattle.std.specs.Prelude.{◌≡◌, ℕ, List, [], ◌∷◌, ◌++◌, Bool, Option, None, Some, map, cond}
 use Rattle.std.specs.Prelude.{Result, Ok, Err, String, Vec, string_bytes}
 use Rattle.std.specs.Str.{bytes_eq}
@@ -79,9 +79,10 @@ abbrev pub supplied_by : List Certificate → List Certificate
 supplied_by [] = []
 supplied_by (first ∷ others) = last_of first others ∷ []
 
--- The signatures on which a check of an attestation rests, where these are the certificates of the
--- chains that are supplied, in the order of the lines of a list: those of each chain, and then
--- those of the certificates, of the revocation lists and of the signers that are carried.
+-- The signatures that a check of an attestation may ask about, at any moment, where these are the
+-- certificates of the chains that are supplied, in the order of the lines of a list: those of each
+-- chain, and then those of the certificates, of the revocation lists and of the signers that are
+-- carried. A check that ends early, or for which one of several keys is enough, asks about fewer.
 abbrev pub rta_questions : List (List Certificate) → MultiSigned → List Question
 rta_questions chains m =
     flat_map supplied_questions chains ++ object_questions (flat_map supplied_by chains) m
@@ -103,7 +104,7 @@ AreChains (files ∷ chains) (certs ∷ more) = AreCerts files certs × AreChain
 abbrev pub AreNotAllChains : List (List (List ℕ)) → Type 0
 AreNotAllChains chains = (certs : List (List Certificate)) → AreChains chains certs → ⊥
 
--- The text lists the good ones of the signatures that a check of an attestation asks about: the
+-- The text lists the good ones of the signatures that a check of an attestation may ask about: the
 -- files begin with one, in DER, and with the certificates of the chains that are supplied.
 pub record IsRtaListingOf (verdict : Verdict) (object : List ℕ) (chains : List (List (List ℕ)))
     (text : List ℕ) : Type 0 where

@@ -1,4 +1,4 @@
-//! The list of the good signatures that a check of an attestation asks about.
+//! The list of the good signatures that a check of an attestation may ask about.
 
 ghost use Rattle.std.specs.Prelude.{◌++◌, map, string_bytes};
 ghost use Rattle.std.specs.List.{flat_map};
@@ -25,7 +25,7 @@ use std::alloc::{AllocError, Global};
 
 /// The list of verdicts that a check of an attestation needs (draft-michaelson-rpki-rta, section
 /// 5), as `listing` makes it for a check of an object: a line for each of the signatures that it
-/// asks about which is good, and whose key can be written. These are, in this order, those of the
+/// may ask about which is good, and whose key can be written. They are, in this order, those of the
 /// certificates of each chain that is supplied, the first by its own key and each other one by the
 /// key of the one before; those of the certificates that are carried, each by its own key where it
 /// states no identifier of its issuer's key, and else by the key of each carried one that has this

@@ -1,5 +1,5 @@
 -- What is granted where the verdicts that are asked say this is granted where others say the same.
-use Rattle.std.proofs.Common.{◌≡◌, ℕ, suc, Bool, List, [], ◌∷◌, Option, Some, IsTrue, refl, sym, ap}
+use Rattle.std.proofs.Common.{◌≡◌, ℕ, suc, Bool, List, [], ◌∷◌, Some, IsTrue, refl, sym, ap}
 use Rattle.std.proofs.Common.{subst, ◌∙◌, inl, inr, map}
 use Rattle.std.specs.Prelude.{IsFalse, ◌||◌}
 use Rattle.rpki_resources.specs.declared.resources.Claim.{Claim}
@@ -7,11 +7,11 @@ use Rattle.rpki_faults.specs.declared.family.Family.{Family}
 use Rattle.rpki_faults.specs.declared.overclaim.Overclaim.{Overclaim}
 use Rattle.rpki_paths.specs.Anchor.{Supply, Fits, Takes, IsAnchored, path_set, supplied_claim}
 use Rattle.rpki_paths.specs.Cert.{Cert, Numbers, IsIn, IsSelfSigned, NoTwice, at_place}
-use Rattle.rpki_paths.specs.Grant.{ArePaths, AreUsed, AreValid, AreAnchored, IsAccepted, IsEarned}
-use Rattle.rpki_paths.specs.Grant.{IsGranted, IsUsed, authorities, union_of, with_crls}
+use Rattle.rpki_paths.specs.Grant.{ArePaths, AreUsed, AreValid, AreAnchored, IsAccepted}
+use Rattle.rpki_paths.specs.Grant.{IsGranted, authorities, union_of, with_crls}
 use Rattle.rpki_paths.specs.Pairing.{Carried, Crl, Signer, IsPicked, here, there, IsPairing}
 use Rattle.rpki_paths.specs.Pairing.{HasKey, IsVerifiedBy, HasCrl, HasDistinctIds}
-use Rattle.rpki_paths.specs.Path.{IsChain, IsDistinct, IsIssuedBy, IsOff, EndsAtTop, IsLinkCovered}
+use Rattle.rpki_paths.specs.Path.{IsChain, IsIssuedBy, IsOff, EndsAtTop, IsLinkCovered}
 use Rattle.rpki_paths.specs.Path.{explicit_sets}
 use Rattle.rpki_paths.specs.Sets.{IsCovered, meet, with_claim}
 

@@ -1,8 +1,8 @@
 -- A check of an attestation asks no more of a verdict than its questions, and a list of good
 -- signatures suffices.
 use Rattle.std.proofs.Common.{◌≡◌, ℕ, Bool, true, false, cond, List, [], ◌∷◌, ◌++◌, Option, None}
-use Rattle.std.proofs.Common.{Some, Result, Ok, Err, inl, inr, refl, sym, ap, subst, map}
-use Rattle.std.specs.Prelude.{◌⊎◌, ◌↔◌, filter, if◌then◌else◌, not}
+use Rattle.std.proofs.Common.{Some, Result, Ok, Err, inl, inr, refl, sym, subst, map, ◌∙◌}
+use Rattle.std.specs.Prelude.{◌↔◌, filter, if◌then◌else◌, not}
 use Rattle.std.specs.List.{flat_map}
 use Rattle.std.proofs.lemmas.List.{append-nil}
 use Rattle.std.proofs.lemmas.Slice.Eq.{bytes_eq-Decides}
@@ -31,10 +31,11 @@ use Rattle.rpki_verdicts.specs.Attested.{info_questions, issuer_questions, list_
 use Rattle.rpki_verdicts.specs.Attested.{named_question, named_questions, object_questions}
 use Rattle.rpki_verdicts.specs.Attested.{rta_questions, supplied_by, supplied_questions}
 use Rattle.rpki_verdicts.specs.Listed.{is_listed}
-use Rattle.rpki_verdicts.specs.Lists.{AreCerts}
+use Rattle.rpki_verdicts.specs.Lists.{AreCerts, BeginWith}
 use Rattle.rpki_verdicts.specs.Listing.{good_lines}
 use Rattle.rpki_verdicts.specs.Questions.{Question, last_of, says}
 use Rattle.rpki_verdicts.specs.Verdicts.{AreVerdicts}
+use Rattle.rpki_verdicts.proofs.Cut.{only-lines}
 use Rattle.rpki_verdicts.proofs.Good.{all-lines}
 use Rattle.rpki_command.specs.Anchors.{Given, given_in, chains_in, IsFirstUnmade, MakeEach, MakesOf}
 use Rattle.rpki_command.specs.Answer.{Run}
@@ -457,7 +458,84 @@ module _ (a b : Verdict) (now : Moment) (given : List Given) (chains : List (Lis
     granted-too b a now given chains r are back digest anchors ((same-anchors anchors).0 made),
   )
 
+-- ---- what is right
+
+module _ (a b : Verdict) (now : Moment) (words : List (List ℕ)) (object : List ℕ)
+    (files : List (List ℕ)) (chains : List (List Certificate)) (r : Whole)
+    (are : AreChains (chains_in (given_in words files)) chains)
+    (begins : BeginWith (RtaForm Der) object r)
+    (same : SayTheSame a b (rta_questions chains r.signed)) where
+  abbrev given : List Given
+  given = given_in words files
+
+  anchors-as : (anchors : List Anchor) → MakeEach a now given anchors
+      → MakeEach b now given anchors
+  anchors-as anchors = (same-anchors a b now given chains r are same anchors).0
+
+  -- an attestation at the front is the one of the questions
+  the-rta : (x : Whole) (rest : List ℕ) → IsOnlyFront (RtaForm Der) object x rest → x ≡ r
+  the-rta x rest front = (begins.1.only x rest front.found).0
+
+  granted-both : (x : Whole) → x ≡ r → (anchors : List Anchor) → MakeEach a now given anchors
+      → IsGrantedRta sha256 a now x (map supply_of anchors)
+      ↔ IsGrantedRta sha256 b now x (map supply_of anchors)
+  granted-both x e anchors made =
+      subst (λ (y : Whole). IsGrantedRta sha256 a now y (map supply_of anchors)
+      ↔ IsGrantedRta sha256 b now y (map supply_of anchors)) (sym e)
+      (same-granted a b now given chains r are same anchors made sha256)
+
+  distinct-back : (x : Whole) → x ≡ r → IsDistinct sha256 b x → IsDistinct sha256 a x
+  distinct-back x e h =
+      subst (λ (y : Whole). IsDistinct sha256 a y) (sym e)
+      (distinct-too b a now given chains r are
+      (turned a b (rta_questions chains r.signed) same) sha256
+      (subst (λ (y : Whole). IsDistinct sha256 b y) e h))
+
+  right-as : (run : Run) → IsRightRta a now words object files run
+      → IsRightRta b now words object files run
+  right-as run h = record {
+    anchors = h.anchors;
+    made = anchors-as h.anchors h.made;
+    rta = h.rta;
+    rest = h.rest;
+    front = h.front;
+    granted = (granted-both h.rta (the-rta h.rta h.rest h.front) h.anchors h.made).0 h.granted;
+    printed = h.printed;
+    silent = h.silent;
+  }
+
+  no-granted-as : (anchors : List Anchor) → MakeEach a now given anchors
+      → BeginsWithNoGranted a now (map supply_of anchors) object
+      → BeginsWithNoGranted b now (map supply_of anchors) object
+  no-granted-as anchors made (inl none) = inl none
+  no-granted-as anchors made (inr some) =
+      let e = the-rta some.object some.rest some.front in
+      inr (record {
+        object = some.object;
+        rest = some.rest;
+        front = some.front;
+        holds = λ distinct granted. some.holds (distinct-back some.object e distinct)
+            ((granted-both some.object e anchors made).1 granted);
+      })
+
+  no-as : IsRightNoRta a now words object files → IsRightNoRta b now words object files
+  no-as (inl n) = inl (record {
+    fault = n.fault;
+    first = (same-unmade a b now given chains r are same n.fault).0 n.first;
+    has_memory = n.has_memory;
+  })
+  no-as (inr n) = inr (record {
+    anchors = n.anchors;
+    made = anchors-as n.anchors n.made;
+    no = no-granted-as n.anchors n.made n.no;
+  })
+
 -- ---- the list of the good ones
+
+-- a text is a list of verdicts in one way
+one-list : (text : List ℕ) (lines others : List (List ℕ)) → AreVerdicts text lines
+    → AreVerdicts text others → lines ≡ others
+one-list text lines others h k = sym (only-lines text lines h).1 ∙ (only-lines text others k).1
 
 module _ (now : Moment) (words : List (List ℕ)) (object : List ℕ) (files : List (List ℕ))
     (text : List ℕ)
@@ -469,9 +547,6 @@ module _ (now : Moment) (words : List (List ℕ)) (object : List ℕ) (files : L
   abbrev lines : List (List ℕ)
   lines = good_lines is_rsa_signature questions
 
-  abbrev given : List Given
-  given = given_in words files
-
   listed : AreVerdicts text lines
   listed = subst (λ (t : List ℕ). AreVerdicts t lines) (sym list.whole)
       (all-lines is_rsa_signature questions)
@@ -479,78 +554,38 @@ module _ (now : Moment) (words : List (List ℕ)) (object : List ℕ) (files : L
   alike-said : SayTheSame is_rsa_signature (is_listed lines) questions
   alike-said = says-same questions own
 
-  anchors-listed : (anchors : List Anchor) → MakeEach is_rsa_signature now given anchors
-      → MakeEach (is_listed lines) now given anchors
-  anchors-listed anchors = (same-anchors is_rsa_signature (is_listed lines) now given list.supplied
-      list.rta list.certs alike-said anchors).0
+  alike-back : SayTheSame (is_listed lines) is_rsa_signature questions
+  alike-back = turned is_rsa_signature (is_listed lines) questions alike-said
 
-  -- an attestation at the front is the one of the questions
-  the-rta : (r : Whole) (rest : List ℕ) → IsOnlyFront (RtaForm Der) object r rest → r ≡ list.rta
-  the-rta r rest front = (list.front.1.only r rest front.found).0
-
-  granted-listed : (r : Whole) → r ≡ list.rta → (anchors : List Anchor)
-      → MakeEach is_rsa_signature now given anchors
-      → IsGrantedRta sha256 is_rsa_signature now r (map supply_of anchors)
-      ↔ IsGrantedRta sha256 (is_listed lines) now r (map supply_of anchors)
-  granted-listed r e anchors made =
-      subst (λ (x : Whole). IsGrantedRta sha256 is_rsa_signature now x (map supply_of anchors)
-      ↔ IsGrantedRta sha256 (is_listed lines) now x (map supply_of anchors)) (sym e)
-      (same-granted is_rsa_signature (is_listed lines) now given list.supplied list.rta list.certs
-      alike-said anchors made sha256)
-
-  distinct-listed : (r : Whole) → r ≡ list.rta → IsDistinct sha256 (is_listed lines) r
-      → IsDistinct sha256 is_rsa_signature r
-  distinct-listed r e h =
-      subst (λ (x : Whole). IsDistinct sha256 is_rsa_signature x) (sym e)
-      (distinct-too (is_listed lines) is_rsa_signature now given list.supplied list.rta list.certs
-      (turned is_rsa_signature (is_listed lines) questions alike-said) sha256
-      (subst (λ (x : Whole). IsDistinct sha256 (is_listed lines) x) e h))
+  -- what holds by the list holds by its lines
+  by-lines : (P : Verdict → Type 0) → HoldsByList P text → P (is_listed lines)
+  by-lines P h = subst (λ (ls : List (List ℕ)). P (is_listed ls))
+      (one-list text h.lines lines h.listed listed) h.holds
 
   pub right-rta-by-list : (run : Run) → IsRightRta is_rsa_signature now words object files run
-      → HoldsByList (λ verdict. IsRightRta verdict now words object files run) text
-  right-rta-by-list run h = record {
-    lines = lines;
-    listed = listed;
-    holds = record {
-      anchors = h.anchors;
-      made = anchors-listed h.anchors h.made;
-      rta = h.rta;
-      rest = h.rest;
-      front = h.front;
-      granted = (granted-listed h.rta (the-rta h.rta h.rest h.front) h.anchors h.made).0 h.granted;
-      printed = h.printed;
-      silent = h.silent;
-    };
-  }
-
-  no-granted-listed : (anchors : List Anchor) → MakeEach is_rsa_signature now given anchors
-      → BeginsWithNoGranted is_rsa_signature now (map supply_of anchors) object
-      → BeginsWithNoGranted (is_listed lines) now (map supply_of anchors) object
-  no-granted-listed anchors made (inl none) = inl none
-  no-granted-listed anchors made (inr begins) =
-      let e = the-rta begins.object begins.rest begins.front in
-      inr (record {
-        object = begins.object;
-        rest = begins.rest;
-        front = begins.front;
-        holds = λ distinct granted. begins.holds (distinct-listed begins.object e distinct)
-            ((granted-listed begins.object e anchors made).1 granted);
-      })
-
-  no-listed : IsRightNoRta is_rsa_signature now words object files
-      → IsRightNoRta (is_listed lines) now words object files
-  no-listed (inl n) = inl (record {
-    fault = n.fault;
-    first = (same-unmade is_rsa_signature (is_listed lines) now given list.supplied list.rta
-        list.certs alike-said n.fault).0 n.first;
-    has_memory = n.has_memory;
-  })
-  no-listed (inr n) = inr (record {
-    anchors = n.anchors;
-    made = anchors-listed n.anchors n.made;
-    no = no-granted-listed n.anchors n.made n.no;
-  })
+      ↔ HoldsByList (λ verdict. IsRightRta verdict now words object files run) text
+  right-rta-by-list run = (
+    λ h. record {
+      lines = lines;
+      listed = listed;
+      holds = right-as is_rsa_signature (is_listed lines) now words object files list.supplied
+          list.rta list.certs list.front alike-said run h;
+    },
+    λ h. right-as (is_listed lines) is_rsa_signature now words object files list.supplied
+        list.rta list.certs list.front alike-back run
+        (by-lines (λ verdict. IsRightRta verdict now words object files run) h),
+  )
 
   pub right-no-rta-by-list : IsRightNoRta is_rsa_signature now words object files
-      → HoldsByList (λ verdict. IsRightNoRta verdict now words object files) text
-  right-no-rta-by-list h = record { lines = lines; listed = listed; holds = no-listed h }
+      ↔ HoldsByList (λ verdict. IsRightNoRta verdict now words object files) text
+  right-no-rta-by-list = (
+    λ h. record {
+      lines = lines;
+      listed = listed;
+      holds = no-as is_rsa_signature (is_listed lines) now words object files list.supplied
+          list.rta list.certs list.front alike-said h;
+    },
+    λ h. no-as (is_listed lines) is_rsa_signature now words object files list.supplied
+        list.rta list.certs list.front alike-back
+        (by-lines (λ verdict. IsRightNoRta verdict now words object files) h),
+  )

@@ -65,7 +65,8 @@ ListedOf options (object ∷ anchor ∷ chain) s =
     IsListAnswer (read_mode options) object anchor chain s
 ListedOf options files s = ⊥
 
--- The same of an attestation, where these are the files of the chains that its anchors name.
+-- What is said where those are listed that a check of an attestation may ask about, in the same
+-- order, where these are the files of the chains that its anchors name.
 abbrev pub IsRtaListAnswer : List ℕ → List (List (List ℕ)) → Output → Type 0
 IsRtaListAnswer object chains s =
     (s ≡ out_of_memory)

@@ -51,7 +51,7 @@ verify_rta options moment object anchors = record {
 }
 
 -- the order to list the good ones of the signatures that a check of the attestation in the file of
--- this name asks about, under these anchors
+-- this name may ask about, under these anchors
 abbrev pub rta_list_order : Options → List ℕ → List (List ℕ) → Order VerifyCommand
 rta_list_order options object anchors = record {
   options = options;
@@ -75,7 +75,9 @@ IsRightNoList options files =
     AreNotAllCerts (files.anchor ∷ files.chain)
     ⊎ HasNoFront (SignedForm (read_mode options)) files.object
 
--- The same of an attestation: the files begin with it and, those of the chains, with certificates.
+-- A list of an attestation is right: the files begin with it and, those of the chains, with
+-- certificates, and the run prints the list of the good ones of the signatures that a check of it
+-- may ask about, whole, and nothing else.
 pub record IsRightRtaList (words : List (List ℕ)) (object : List ℕ) (files : List (List ℕ))
     (run : Run) : Type 0 where
   pub text : List ℕ
@@ -83,8 +85,9 @@ pub record IsRightRtaList (words : List (List ℕ)) (object : List ℕ) (files :
   pub printed : IsWhole text 0 run.out_before run.out_after run.status
   pub silent : run.err_after ≡ run.err_before
 
--- That there is no list is right: one of the files of a chain begins with no certificate, or that
--- of the attestation begins with none.
+-- That there is no list of an attestation is right: one of the files of a chain begins with no
+-- certificate, or that of the attestation begins with none. The certificates come first
+-- (`IsRtaListAnswer`).
 abbrev pub IsRightNoRtaList : List (List ℕ) → List ℕ → List (List ℕ) → Type 0
 IsRightNoRtaList words object files =
     AreNotAllChains (chains_in (given_in words files)) ⊎ HasNoFront (RtaForm Der) object

@@ -99,8 +99,8 @@ impl Work for RtaBySignatures<'_> {
     }
 }
 
-/// To list the good ones of the signatures that a check of the same attestation asks about. The
-/// first file is the attestation, and the others are those that the anchors name.
+/// To list the good ones of the signatures that a check of an attestation may ask about. The first
+/// file is the attestation, and the others are those that the anchors name.
 #[derive(Drop)]
 pub struct ListRtaSignatures<'s> {
     pub anchors: &'s [&'s str],
@@ -192,7 +192,7 @@ fn list_files<'a>(alloc: Global, options: Options, files: &[Vec<u8>]) -> Answer<
 }
 
 /// Answers with the list of the good ones of the signatures that a check of the attestation in the
-/// first of these files asks about, under the anchors, whose files are the others.
+/// first of these files may ask about, under the anchors, whose files are the others.
 fn list_rta_files<'a>(alloc: Global, words: &[&str], files: &[Vec<u8>]) -> Answer<'a>
     requires { 1 + length (files_of_anchors (texts words.now)) ≤ length files.now }
     ensures { RtaListedOf (texts words.now) (octets_of files.now) (said result) }
@@ -203,8 +203,8 @@ fn list_rta_files<'a>(alloc: Global, words: &[&str], files: &[Vec<u8>]) -> Answe
     }
 }
 
-/// Answers with the list of the good ones of the signatures that a check of this attestation asks
-/// about, under the anchors that the words name, whose files are these.
+/// Answers with the list of the good ones of the signatures that a check of this attestation may
+/// ask about, under the anchors that the words name, whose files are these.
 fn list_rta<'a>(alloc: Global, object: &[u8], words: &[&str], files: &[Vec<u8>]) -> Answer<'a>
     requires { length (files_of_anchors (texts words.now)) ≤ length files.now }
     ensures { IsRtaListAnswer object.now

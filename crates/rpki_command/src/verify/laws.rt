@@ -149,7 +149,7 @@ pub fn lists_are_right()
 {}
 
 /// Where a store tells the files of a list for an attestation, a run that ends with status 0 prints
-/// the list of the good ones of the signatures that a check of FILE under the anchors asks about.
+/// the list of the good ones of the signatures that a check of FILE under the anchors may ask about.
 /// Where a run ends with status 1, not all files of their chains begin with a certificate, or FILE
 /// begins with no attestation.
 pub fn attestation_lists_are_right()
@@ -249,7 +249,7 @@ pub fn lists_suffice()
 /// What is said to its questions decides whether an attestation is granted: where two verdicts say
 /// the same to each of them, files make the same anchors by both, or the same one is the first that
 /// makes none, for the same fault; and under these anchors the attestation is granted by both or by
-/// neither.
+/// neither. For which cause an attestation is refused is not said.
 pub fn questions_decide_attestations()
     ensures anchors { (a b : Verdict) (now : Moment) (given : List Given)
         (chains : List (List Certificate)) (r : attested.Whole)
@@ -272,19 +272,21 @@ pub fn questions_decide_attestations()
 
 /// The list of good signatures that `verdicts rta` prints suffices for a check of the attestation
 /// by `rpki_objects` under the same anchors, at each moment, where different questions of the check
-/// have different lines, which are made of digests: where a yes or a no by the signatures is right,
-/// it is right by the list too.
+/// have different lines, which are made of digests: a yes by the list is right exactly where it is
+/// by the signatures, and so is a no. Without that, a yes too many could harm even a yes: an anchor
+/// before the one that takes a path could be meant for it too. For which cause an attestation is
+/// refused is not said.
 pub fn attestation_lists_suffice()
     ensures yes { (now : Moment) (words : List (List ℕ)) (object : List ℕ) (files : List (List ℕ))
         (text : List ℕ)
         (list : IsRtaListingOf is_rsa_signature object (chains_in (given_in words files)) text)
         → HaveTheirOwnLines (rta_questions list.supplied list.rta.signed) → (run : Run)
         → IsRightRta is_rsa_signature now words object files run
-        → HoldsByList (λ verdict. IsRightRta verdict now words object files run) text }
+        ↔ HoldsByList (λ verdict. IsRightRta verdict now words object files run) text }
     ensures no { (now : Moment) (words : List (List ℕ)) (object : List ℕ) (files : List (List ℕ))
         (text : List ℕ)
         (list : IsRtaListingOf is_rsa_signature object (chains_in (given_in words files)) text)
         → HaveTheirOwnLines (rta_questions list.supplied list.rta.signed)
         → IsRightNoRta is_rsa_signature now words object files
-        → HoldsByList (λ verdict. IsRightNoRta verdict now words object files) text }
+        ↔ HoldsByList (λ verdict. IsRightNoRta verdict now words object files) text }
 {}

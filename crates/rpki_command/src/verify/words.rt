@@ -82,7 +82,7 @@ pub enum VerifyCommand<'a> {
         moment: When,
         anchors: Words<'a>,
     },
-    /// To list the good ones of the signatures that a check of an attestation asks about, under
+    /// To list the good ones of the signatures that a check of an attestation may ask about, under
     /// such anchors.
     RtaVerdicts {
         file: Word<'a>,
