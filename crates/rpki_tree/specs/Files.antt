@@ -60,7 +60,7 @@ HasCa s ca list octets v =
     × IsUnrevoked list c × IsValidatedUnder (in_der c) ca v × AreCanonical v.sets)
 
 -- They begin with a certificate that is no CA's: it has no basic constraints (RFC 6487, section
--- 4.8.1). That of a router is one (RFC 8209, section 3.1.3.1).
+-- 4.8.1), as that of an end entity.
 abbrev pub HasEntity : List ℕ → Type 0
 HasEntity octets = BeginsWithCert octets (λ c. c.tbs.extensions.key.basic_ca ≡ None)
 
@@ -85,7 +85,7 @@ Attests s ca list file octets (payloads.Aspa given) =
     × ((aspa : Aspa) × HasAspa s ca list octets aspa × (given ≡ providers_of aspa))
 
 -- The file is refused by this fault: its name ends with `.roa`, `.asa` or `.cer`, and it begins
--- with no such object or certificate. The certificate of a router is passed over.
+-- with no such object or certificate. The certificate of an end entity is passed over.
 abbrev pub IsRefused : Setting → Validated → RevocationList → UriAndHash → List ℕ → Fault → Type 0
 IsRefused s ca list file octets faults.NoManifest = ⊥
 IsRefused s ca list file octets faults.NoFile = ⊥

@@ -44,8 +44,8 @@ abbrev pub SaysOrRefuses : {X : Type 0} → (X → Type 0) → (X → List Findi
 SaysOrRefuses {X} P found uri fault said =
     ((x : X) × P x × (said ≡ found x)) ⊎ (((x : X) → ¬ P x) × (said ≡ refusal uri fault ∷ []))
 
--- what is said of a file that holds no certificate of a CA: nothing where it is that of a router,
--- say, and else that it is refused
+-- what is said of a file that holds no certificate of a CA: nothing where it is an end entity's,
+-- and else that it is refused
 abbrev pub EntityTells : List ℕ → List ℕ → List Finding → Type 0
 EntityTells uri octets said =
     (HasEntity octets × (said ≡ []))

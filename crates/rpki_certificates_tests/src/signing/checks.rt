@@ -6,11 +6,11 @@ use super::numbers::issuer;
 use super::objects::kind;
 use bytes::Bytes;
 use rpki_basics::standin::{StandIn, StandInSigner};
-use rpki_certs::Cert;
+use rpki_basics::{ManifestRule, ProviderLimit};
+use rpki_certs::{Cert, ResourceCert};
 use rpki_faults::ValidationError;
-use rpki_files::ResourceSignedChecklist;
 use rpki_signed::check::{self, CheckError};
-use rpki_sigobj::{Content, SignedObject};
+use rpki_sigobj::SignedObject;
 use rpki_testing::Fail;
 use std::alloc::Global;
 
@@ -27,17 +27,8 @@ fn pass(_cert: &Cert) -> Result<(), ValidationError> {
     Ok(())
 }
 
-/// Whether the check of its kind says yes to these octets of an object, under the issuer, in 2030.
-pub fn is_yes<T: Content>(
-    alloc: Global,
-    octets: Bytes,
-    signer: &mut StandInSigner,
-    rule: T::Rule,
-) -> Result<bool, Fail> {
-    let now = year(2030)?;
-    let issuer = issuer(alloc, signer)?;
-    let answer = check::object::<T, _, _>(alloc, octets, true, &issuer, &StandIn, now, pass, rule);
-    drop(issuer);
+/// Whether a check says yes.
+fn is_yes<T: Drop>(answer: Result<(ResourceCert, T), CheckError>) -> Result<bool, Fail> {
     match answer {
         Ok((cert, content)) => {
             drop(cert);
@@ -47,6 +38,56 @@ pub fn is_yes<T: Content>(
         Err(CheckError::Decode(error)) => Err(Fail::from(error)),
         Err(CheckError::Validation(error)) => Err(Fail::from(error)),
     }
+}
+
+/// Whether `check::roa` says yes to these octets, under the issuer, in 2030.
+pub fn is_good_roa(alloc: Global, octets: Bytes, signer: &mut StandInSigner) -> Result<bool, Fail> {
+    let now = year(2030)?;
+    let issuer = issuer(alloc, signer)?;
+    let answer = check::roa(alloc, octets, true, &issuer, &StandIn, now, pass);
+    drop(issuer);
+    is_yes(answer)
+}
+
+/// Whether `check::aspa` does.
+pub fn is_good_aspa(
+    alloc: Global,
+    octets: Bytes,
+    signer: &mut StandInSigner,
+    limit: ProviderLimit,
+) -> Result<bool, Fail> {
+    let now = year(2030)?;
+    let issuer = issuer(alloc, signer)?;
+    let answer = check::aspa(alloc, octets, true, &issuer, &StandIn, now, pass, limit);
+    drop(issuer);
+    is_yes(answer)
+}
+
+/// Whether `check::manifest` does.
+pub fn is_good_manifest(
+    alloc: Global,
+    octets: Bytes,
+    signer: &mut StandInSigner,
+    rule: ManifestRule,
+) -> Result<bool, Fail> {
+    let now = year(2030)?;
+    let issuer = issuer(alloc, signer)?;
+    let answer = check::manifest(alloc, octets, true, &issuer, &StandIn, now, pass, rule);
+    drop(issuer);
+    is_yes(answer)
+}
+
+// Whether `check::rsc` does.
+fn is_good_checklist(
+    alloc: Global,
+    octets: Bytes,
+    signer: &mut StandInSigner,
+) -> Result<bool, Fail> {
+    let now = year(2030)?;
+    let issuer = issuer(alloc, signer)?;
+    let answer = check::rsc(alloc, octets, true, &issuer, &StandIn, now, pass);
+    drop(issuer);
+    is_yes(answer)
 }
 
 /// The octets of a checklist that is signed.
@@ -67,6 +108,6 @@ fn checklists_are_good(rt: HostRuntime) -> Result<(), Fail> {
     let alloc = rt.alloc();
     let mut signer = StandInSigner::new(alloc);
     let octets = checklist(alloc, &mut signer)?;
-    assert!(rt; is_yes::<ResourceSignedChecklist>(alloc, octets, &mut signer, ())?);
+    assert!(rt; is_good_checklist(alloc, octets, &mut signer)?);
     Ok(())
 }

@@ -1,6 +1,6 @@
 //! Manifests that are built and signed, under an issuer that was built too.
 
-use super::checks::is_yes;
+use super::checks::is_good_manifest;
 use super::given::{ISSUER, builder, issuer, signed, year};
 use bytes::Bytes;
 use rpki_basics::standin::{Refused, StandIn, StandInSigner};
@@ -117,7 +117,7 @@ fn read_again(alloc: Global, at: u16) -> Result<(String, bool), Fail> {
 fn is_checked(alloc: Global) -> Result<bool, Fail> {
     let mut signer = StandInSigner::new(alloc);
     let octets = octets(alloc)?;
-    is_yes::<ManifestContent>(alloc, octets, &mut signer, ManifestRule::Registered)
+    is_good_manifest(alloc, octets, &mut signer, ManifestRule::Registered)
 }
 
 #[test]

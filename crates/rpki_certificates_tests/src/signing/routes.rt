@@ -1,16 +1,14 @@
 //! ROAs and ASPAs that are built and signed. Their contents alone are tested in the crate of tests of
 //! contents.
 
-use super::checks::is_yes;
+use super::checks::{is_good_aspa, is_good_roa};
 use super::given::{ISSUER, builder, signed, year};
 use super::numbers::{AS, v4, v6};
 use bytes::Bytes;
 use rpki_basics::standin::{Refused, StandInSigner};
 use rpki_basics::{ProviderLimit, SigningError};
 use rpki_resources::Asn;
-use rpki_routes::{
-    AsProviderAttestation, Aspa, AspaBuilder, Roa, RoaBuilder, RouteOriginAttestation,
-};
+use rpki_routes::{Aspa, AspaBuilder, Roa, RoaBuilder};
 use rpki_signing::SignedObjectBuilder;
 use rpki_sigobj::{Content, Signed};
 use rpki_testing::Fail;
@@ -122,7 +120,7 @@ fn is_roa(alloc: Global) -> Result<bool, Fail> {
     let object = signed(roa(alloc, &mut signer, content)?)?;
     let inherits = object.cert().as_resources().is_inherited();
     let (octets, is_content) = written(object, BOTH)?;
-    Ok(is_yes::<RouteOriginAttestation>(alloc, octets, &mut signer, ())? && is_content && inherits)
+    Ok(is_good_roa(alloc, octets, &mut signer)? && is_content && inherits)
 }
 
 /// Whether an ASPA is signed, and its check says yes.
@@ -132,7 +130,7 @@ fn is_aspa(alloc: Global) -> Result<bool, Fail> {
     let object = signed(aspa(alloc, &mut signer, content)?)?;
     let (octets, is_content) = written(object, THREE)?;
     let limit = ProviderLimit::Narrow;
-    Ok(is_yes::<AsProviderAttestation>(alloc, octets, &mut signer, limit)? && is_content)
+    Ok(is_good_aspa(alloc, octets, &mut signer, limit)? && is_content)
 }
 
 #[test]
