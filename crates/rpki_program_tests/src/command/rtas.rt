@@ -182,3 +182,47 @@ fn attestations_without_signers_are_granted(rt: HostRuntime) -> Result<(), Fail>
     is_answered_by(&rt, &program, &words, &files(), &MISSING_CRL, 2)?;
     Ok(())
 }
+
+/// A list without a line: no signature of these files is one by RSA.
+const NONE_LISTED: Output = Output {
+    status: 0,
+    out: "",
+    err: "",
+};
+
+#[test]
+fn good_signatures_of_attestations_are_listed(rt: HostRuntime) -> Result<(), Fail> {
+    let rows: [Row; 8] = [
+        (
+            &["rta", "granted.rta", "tal=tal", "ca=anchor.cer:ca.cer"],
+            NONE_LISTED,
+            4,
+        ),
+        (&["rta", "empty.rta", "tal=anchor.cer"], NONE_LISTED, 2),
+        (&["rta", "anchor.cer", "tal=tal"], MALFORMED, 2),
+        (&["rta", "empty.rta", "tal=tal", "ca=tal"], NO_ISSUER, 3),
+        (
+            &["rta", "empty.rta", "ca=anchor.cer:none"],
+            unreadable("cannot read none\n"),
+            3,
+        ),
+        (
+            &["rta", "rta", "tal=tal"],
+            unreadable("cannot read rta\n"),
+            1,
+        ),
+        (
+            &["./rta", "anchor.cer"],
+            unreadable("cannot read ./rta\n"),
+            1,
+        ),
+        (&["anchor.cer", "anchor.cer"], MALFORMED, 2),
+    ];
+    let program = Verify { clock: None };
+    for (given, said, reads) in &rows {
+        let mut words = Vec::from_slice(rt.alloc(), &["verdicts"])?;
+        words.extend_from_slice(given)?;
+        is_answered_by(&rt, &program, &words, &files(), said, *reads)?;
+    }
+    Ok(())
+}

@@ -1,5 +1,3 @@
-use Rattle.rpki_basics.specs.declared.limits.ManifestRule.{ManifestRule}
-use Rattle.rpki_basics.specs.declared.limits.ProviderLimit.{ProviderLimit}
 use Rattle.rpki_der.specs.declared.mode.Mode.TheVariants.{Der}
 use Rattle.rpki_files.specs.Checklist.{ChecklistForm}
 use Rattle.rpki_files.specs.Checklist.Checks.{checklist_kind}
