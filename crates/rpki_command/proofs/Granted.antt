@@ -1,7 +1,6 @@
 -- What a yes and a no to an attestation mean, from what is said.
 use Rattle.std.proofs.Common.{◌≡◌, ℕ, List, ◌∷◌, ◌++◌, ◌∙◌, Option, Some, Result, Ok, Err, Vec, Global}
-use Rattle.std.proofs.Common.{inl, inr, subst, sym, ap, arith, map}
-use Rattle.std.specs.Prelude.{◌⊎◌}
+use Rattle.std.proofs.Common.{inl, inr, subst, ap, arith, map}
 use Rattle.sha2.specs.Sha256.{sha256}
 use Rattle.rpki_der.specs.Grammar.{HasNoFront}
 use Rattle.rpki_der.specs.Read.Reads.{Refuses}
@@ -10,7 +9,6 @@ use Rattle.rpki_der.specs.declared.mode.Mode.TheVariants.{Der}
 use Rattle.rpki_basics.specs.Moment.{Moment}
 use Rattle.rpki_certs.specs.Verify.{Verdict}
 use Rattle.rpki_faults.specs.declared.validation.ValidationError.{ValidationError}
-use Rattle.rpki_faults.specs.declared.validation.ValidationError.TheVariants as validation
 use Rattle.rpki_multi.specs.Attestation.{KeptWhole, Whole, RtaForm, whole_of}
 use Rattle.rpki_paths.specs.Anchor.{Supply}
 use Rattle.rpki_rsa.specs.Signature.{is_rsa_signature}

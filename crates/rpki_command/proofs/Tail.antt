@@ -1,6 +1,6 @@
 -- The words after a trust anchor.
-use Rattle.std.proofs.Common.{◌≡◌, ◌<◌, ◌≤◌, ◌+◌, ◌-◌, ◌==◌, ◌&&◌, ◌++◌, ◌∙◌, ℕ, List, [], ◌∷◌}
-use Rattle.std.proofs.Common.{Bor, Bool, true, false, not, arith, refl, sym, ap, subst, length, get_or}
+use Rattle.std.proofs.Common.{◌≡◌, ◌<◌, ◌≤◌, ◌+◌, ◌-◌, ◌&&◌, ◌++◌, ◌∙◌, ℕ, List, [], ◌∷◌}
+use Rattle.std.proofs.Common.{Bor, Bool, true, false, arith, refl, sym, ap, subst, length, get_or}
 use Rattle.std.proofs.Common.{take, drop, map, Contains, Vec, Global, inl, inr, append_assoc}
 use Rattle.std.proofs.Common.{Result, Ok, Err, String, string_bytes}
 use Rattle.std.proofs.Math.ListN.{get_or-map}
