@@ -1,4 +1,4 @@
--- The answer where a content, an object or a locator is not read.
+-- What is said of octets that are not read.
 use Rattle.std.specs.Prelude.{◌≡◌, ◌⊎◌}
 use Rattle.rpki_der.specs.Text.Error.{fault_text}
 use Rattle.rpki_der.specs.declared.error.ContentFault.{ContentFault}

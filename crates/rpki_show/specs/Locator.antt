@@ -1,4 +1,4 @@
--- What is read of a file that may be a trust anchor locator.
+-- What is read of a file that may be a trust anchor locator, and what is said where it is none.
 use Rattle.std.specs.Prelude.{ℕ, List, Result, Ok, Err}
 use Rattle.rpki_tal.specs.Form.{IsNoTal, IsOnlyTal}
 use Rattle.rpki_tal.specs.Tal.{Locator}
