@@ -1,5 +1,5 @@
 -- Texts that grow twice.
-use Rattle.std.proofs.Common.{◌≡◌, ◌+◌, ◌++◌, ◌∙◌, ℕ, List, ap, Global, append_assoc, Result, Ok}
+use Rattle.std.proofs.Common.{◌≡◌, ◌++◌, ◌∙◌, ℕ, List, ap, Global, append_assoc, Result, Ok}
 use Rattle.std.proofs.Common.{Err, String, string_bytes}
 use Rattle.std.specs.declared.alloc.AllocError.{AllocError}
 use Rattle.rpki_show.specs.Grows.{Grows}
