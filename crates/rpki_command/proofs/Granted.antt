@@ -17,34 +17,35 @@ use Rattle.rpki_signed.specs.declared.check.CheckError.{CheckError}
 use Rattle.rpki_signed.specs.declared.check.CheckError.TheVariants.{Decode, Validation}
 use Rattle.rpki_rta.specs.Granted.{GrantsRta, IsDistinct, IsGrantedRta}
 use Rattle.rpki_verdicts.specs.Listed.{is_listed}
+use Rattle.rpki_cli.specs.Answer.{Run, Output, IsSaid, out_of_memory, bad_verdicts, shown}
+use Rattle.rpki_cli.specs.Command.{AreTold, ChecksFiles, IsRunOf, IsTaskDone, objects_language}
+use Rattle.rpki_cli.specs.Shown.{IsLinesOf}
+use Rattle.rpki_cli.specs.Language.{IsAsked}
+use Rattle.rpki_cli.specs.Refusal.{IsRefusal}
+use Rattle.rpki_cli.specs.Store.{Told, Names}
+use Rattle.rpki_cli.specs.Words.{files_of_anchors}
+use Rattle.rpki_cli.specs.declared.causes.Causes.{Causes}
+use Rattle.rpki_cli.specs.declared.causes.Causes.TheVariants.{Omitted, Included}
+use Rattle.rpki_cli.specs.declared.verify.words.When.{When}
+use Rattle.rpki_cli.specs.declared.words.Options.{Options}
+use Rattle.rpki_cli.specs.Verify.Words.{verify_language, moment_at}
+use Rattle.rpki_show.specs.Texts.Rta.{attestation_text}
+use Rattle.rpki_show.proofs.Shown.{refusal-said}
 use Rattle.rpki_command.specs.Anchors.{given_in, MakeEach, AreMade}
-use Rattle.rpki_command.specs.Answer.{Run, Output, IsSaid, out_of_memory, bad_verdicts, shown}
 use Rattle.rpki_command.specs.Check.{yes_line, validation_refusal}
-use Rattle.rpki_command.specs.Command.{AreTold, ChecksFiles, IsRunOf, IsTaskDone, objects_language}
 use Rattle.rpki_command.specs.Command.{objects_program}
-use Rattle.rpki_command.specs.Contents.{IsLinesOf}
-use Rattle.rpki_command.specs.Language.{IsAsked}
-use Rattle.rpki_command.specs.Refusal.{IsRefusal}
 use Rattle.rpki_command.specs.Rta.{supply_of, IsRtaSaid, AttestedUnder, anchor_refusal, IsSaidWith}
 use Rattle.rpki_command.specs.Rta.{RtaOf}
-use Rattle.rpki_command.specs.Store.{Told, Names}
-use Rattle.rpki_command.specs.Texts.Rta.{attestation_text}
-use Rattle.rpki_command.specs.Words.{files_of_anchors}
 use Rattle.rpki_command.specs.Yes.{rta_order, IsRightRta, BeginsWithNoGranted, IsRightNoRta}
 use Rattle.rpki_command.specs.Yes.{HoldsByList}
 use Rattle.rpki_command.specs.declared.anchors.Anchor.{Anchor}
 use Rattle.rpki_command.specs.declared.anchors.AnchorError.{AnchorError}
 use Rattle.rpki_command.specs.declared.anchors.AnchorError.TheVariants as anchors
-use Rattle.rpki_command.specs.declared.contents.Causes.{Causes}
-use Rattle.rpki_command.specs.declared.contents.Causes.TheVariants.{Omitted, Included}
-use Rattle.rpki_command.specs.declared.verify.words.When.{When}
-use Rattle.rpki_command.specs.declared.words.Options.{Options}
 use Rattle.rpki_command.proofs.Right.{status_of, other-status, whole-lines, refusal-is-none}
-use Rattle.rpki_command.proofs.Right.{fault-is-none, issuer-is-none, said-yes, said-no, one, two, three}
-use Rattle.rpki_command.proofs.Shown.{refusal-said}
+use Rattle.rpki_command.proofs.Right.{fault-is-none, issuer-is-none, said-yes, said-no, one, two}
+use Rattle.rpki_command.proofs.Right.{three}
 use Rattle.rpki_command.specs.Verify.Check.{VerifiedRtaOf}
 use Rattle.rpki_command.specs.Verify.Command.{check_task, verify_program}
-use Rattle.rpki_command.specs.Verify.Words.{verify_language, moment_at}
 use Rattle.rpki_command.specs.Verify.Yes.{verify_rta}
 
 anchor-is-none : (fault : AnchorError) → status_of (anchor_refusal fault) ≡ 0 → ⊥

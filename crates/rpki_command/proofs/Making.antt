@@ -11,11 +11,11 @@ use Rattle.std.specs.Prelude.{if◌then◌else◌}
 use Rattle.rpki_basics.specs.Moment.{Moment}
 use Rattle.rpki_certs.specs.Issuer.{octets_of}
 use Rattle.rpki_certs.specs.Verify.{Verdict}
-use Rattle.rpki_command.specs.Anchors.{Given, given_in, Makes, MakesOf, MakeEach}
-use Rattle.rpki_command.specs.Anchors.{AreMade, chains_in}
+use Rattle.rpki_command.specs.Anchors.{Given, given_in, Makes, MakesOf, MakeEach, AreMade}
+use Rattle.rpki_command.specs.Anchors.{chains_in}
 use Rattle.rpki_verdicts.specs.Attested.{octets_of_chains}
-use Rattle.rpki_command.specs.Words.{texts, is_locator, is_colon, path_in, files_of_anchor}
-use Rattle.rpki_command.specs.Words.{files_of_anchors}
+use Rattle.rpki_cli.specs.Words.{texts, is_locator, is_colon, path_in, files_of_anchor}
+use Rattle.rpki_cli.specs.Words.{files_of_anchors}
 use Rattle.rpki_command.specs.declared.anchors.Anchor.{Anchor}
 use Rattle.rpki_command.specs.declared.anchors.AnchorError.{AnchorError}
 

@@ -26,25 +26,25 @@ use Rattle.rpki_sigobj.specs.Signed.Good.{IsGood, IsNotGood}
 use Rattle.rpki_sigobj.specs.Signed.Kind as signed
 use Rattle.rpki_sigobj.specs.Signed.{Whole, ObjectForm, cert_in}
 use Rattle.rpki_verdicts.specs.Listed.{is_listed}
-use Rattle.rpki_command.specs.Answer.{Run, Output, Printed, Complained, IsSaid, IsWhole}
-use Rattle.rpki_command.specs.Answer.{out_of_memory, bad_verdicts, malformed, malformed_by, shown}
+use Rattle.rpki_cli.specs.Answer.{Run, Output, Printed, Complained, IsSaid, IsWhole, out_of_memory}
+use Rattle.rpki_cli.specs.Answer.{bad_verdicts, malformed, malformed_by, shown}
+use Rattle.rpki_cli.specs.Command.{AreTold, ChecksFiles, IsRunOf, objects_language}
+use Rattle.rpki_cli.specs.Shown.{IsLinesOf}
+use Rattle.rpki_cli.specs.Language.{IsAsked}
+use Rattle.rpki_cli.specs.Refusal.{IsRefusal}
+use Rattle.rpki_cli.specs.Store.{Told, Names}
+use Rattle.rpki_cli.specs.declared.causes.Causes.{Causes}
+use Rattle.rpki_cli.specs.declared.causes.Causes.TheVariants.{Omitted, Included}
+use Rattle.rpki_cli.specs.declared.words.Kind.{Kind}
+use Rattle.rpki_cli.specs.declared.words.Options.{Options}
+use Rattle.rpki_show.specs.Kinds.{OfKind}
+use Rattle.rpki_show.specs.Options.{read_mode}
+use Rattle.rpki_show.proofs.Shown.{refusal-said}
 use Rattle.rpki_command.specs.Check.{yes_line, passes, issuer_refusal, validation_refusal}
 use Rattle.rpki_command.specs.Check.{IsCheckSaid, IsCheckedAs, CheckedUnder, IsSaidUnder, CheckOf}
-use Rattle.rpki_command.specs.Command.{AreTold, ChecksFiles, IsRunOf, objects_language}
 use Rattle.rpki_command.specs.Command.{objects_program}
-use Rattle.rpki_command.specs.Contents.{IsLinesOf}
-use Rattle.rpki_command.specs.Kinds.{OfKind}
-use Rattle.rpki_command.specs.Language.{IsAsked}
-use Rattle.rpki_command.specs.Options.{read_mode}
-use Rattle.rpki_command.specs.Refusal.{IsRefusal}
-use Rattle.rpki_command.specs.Store.{Told, Names}
-use Rattle.rpki_command.specs.Yes.{FilesOfCheck, in_order_with, check_order, PrintsYes}
-use Rattle.rpki_command.specs.Yes.{IsRightYes, BeginsWithNoGood, IsRightNo, HoldsByList}
-use Rattle.rpki_command.specs.declared.contents.Causes.{Causes}
-use Rattle.rpki_command.specs.declared.contents.Causes.TheVariants.{Omitted, Included}
-use Rattle.rpki_command.specs.declared.words.Kind.{Kind}
-use Rattle.rpki_command.specs.declared.words.Options.{Options}
-use Rattle.rpki_command.proofs.Shown.{refusal-said}
+use Rattle.rpki_command.specs.Yes.{FilesOfCheck, in_order_with, check_order, PrintsYes, IsRightYes}
+use Rattle.rpki_command.specs.Yes.{BeginsWithNoGood, IsRightNo, HoldsByList}
 
 -- the status that goes with what is said
 abbrev pub status_of : Output → ℕ

@@ -1,8 +1,5 @@
 pub mod Alike
-pub mod Clocks
 pub mod Listed
-pub mod Optioned
-pub mod Orders
 pub mod Right
 pub mod RtaListed
 pub mod RtaSufficing

@@ -15,29 +15,30 @@ use Rattle.rpki_files.specs.Manifest.Checks.{manifest_kind}
 use Rattle.rpki_rsa.specs.Signature.{is_rsa_signature}
 use Rattle.rpki_signed.specs.Walk.{AtHand}
 use Rattle.rpki_verdicts.specs.Listed.{is_listed}
-use Rattle.rpki_command.specs.Answer.{Run, Output, IsSaid, out_of_memory, bad_verdicts}
+use Rattle.rpki_cli.specs.Answer.{Run, Output, IsSaid, out_of_memory, bad_verdicts}
+use Rattle.rpki_cli.specs.Command.{AreTold, ChecksFiles, IsRunOf, IsTaskDone, objects_language}
+use Rattle.rpki_cli.specs.Language.{IsAsked}
+use Rattle.rpki_cli.specs.Options.{manifest_rule}
+use Rattle.rpki_cli.specs.Store.{Told, Names}
+use Rattle.rpki_cli.specs.Words.{chain_in, names_in, paths_in, others_in}
+use Rattle.rpki_cli.specs.declared.causes.Causes.{Causes}
+use Rattle.rpki_cli.specs.declared.causes.Causes.TheVariants.{Omitted, Included}
+use Rattle.rpki_cli.specs.declared.words.Kind.TheVariants.{Manifest}
+use Rattle.rpki_cli.specs.declared.words.Options.{Options}
+use Rattle.rpki_cli.specs.Verify.Words.{verify_language, moment_at}
+use Rattle.rpki_cli.specs.declared.verify.words.When.{When}
+use Rattle.rpki_show.specs.Options.{read_mode}
 use Rattle.rpki_command.specs.Check.{IsSaidUnder, issuer_refusal}
-use Rattle.rpki_command.specs.Command.{AreTold, ChecksFiles, IsRunOf, IsTaskDone, objects_language}
 use Rattle.rpki_command.specs.Command.{objects_program}
-use Rattle.rpki_command.specs.Language.{IsAsked}
-use Rattle.rpki_command.specs.Options.{manifest_rule, read_mode}
-use Rattle.rpki_command.specs.Store.{Told, Names}
-use Rattle.rpki_command.specs.Texts.Walk.{held_text}
+use Rattle.rpki_command.specs.Held.{held_text}
 use Rattle.rpki_command.specs.Walk.{certs_in, hand_in, WalkedUnder, IsWalkedWith, WalkOf}
-use Rattle.rpki_command.specs.Words.{chain_in, names_in, paths_in, others_in}
 use Rattle.rpki_command.specs.Yes.{FilesOfCheck, in_order, in_order_with, walk_order, IsRightWalk}
 use Rattle.rpki_command.specs.Yes.{IsRightNo, HoldsByList}
-use Rattle.rpki_command.specs.declared.contents.Causes.{Causes}
-use Rattle.rpki_command.specs.declared.contents.Causes.TheVariants.{Omitted, Included}
-use Rattle.rpki_command.specs.declared.words.Kind.TheVariants.{Manifest}
-use Rattle.rpki_command.specs.declared.words.Options.{Options}
-use Rattle.rpki_command.proofs.Right.{status_of, other-status, issuer-is-none, yes-as, no-as, no-made}
-use Rattle.rpki_command.proofs.Right.{said-yes, said-no, two, three}
+use Rattle.rpki_command.proofs.Right.{status_of, other-status, issuer-is-none, yes-as, no-as}
+use Rattle.rpki_command.proofs.Right.{no-made, said-yes, said-no, two, three}
 use Rattle.rpki_command.specs.Verify.Check.{VerifiedWalkOf}
 use Rattle.rpki_command.specs.Verify.Command.{check_task, verify_program}
-use Rattle.rpki_command.specs.Verify.Words.{verify_language, moment_at}
 use Rattle.rpki_command.specs.Verify.Yes.{verify_walk}
-use Rattle.rpki_command.specs.declared.verify.words.When.{When}
 
 module _ (s : Output) (causes : Causes) (options : Options) (verdict : Verdict) (now : Moment)
     (files : FilesOfCheck) (hand : List AtHand) where

@@ -8,7 +8,7 @@ use Rattle.rpki_certs.specs.Verify.{Verdict}
 use Rattle.rpki_tal.specs.Form.{IsNoTal, IsOnlyTal}
 use Rattle.rpki_tal.specs.declared.error.ReadError.{ReadError}
 use Rattle.rpki_tal.specs.declared.error.ReadError.TheVariants as tal
-use Rattle.rpki_command.specs.Words.{is_locator, files_of_anchor}
+use Rattle.rpki_cli.specs.Words.{is_locator, files_of_anchor}
 use Rattle.rpki_command.specs.declared.anchors.Anchor.{Anchor}
 use Rattle.rpki_command.specs.declared.anchors.Anchor.TheVariants.{Tal, Ca}
 use Rattle.rpki_command.specs.declared.anchors.AnchorError.{AnchorError}

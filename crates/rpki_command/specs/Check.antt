@@ -22,16 +22,16 @@ use Rattle.rpki_sigobj.specs.Verify.{Digester}
 use Rattle.rpki_sigobj.specs.Signed.Kind as signed
 use Rattle.rpki_verdicts.specs.Listed.{is_listed}
 use Rattle.rpki_verdicts.specs.Verdicts.{AreVerdicts}
-use Rattle.rpki_command.specs.Answer.{Output, out_of_memory, bad_verdicts, refused, issuer_refused}
-use Rattle.rpki_command.specs.Answer.{issuer_malformed}
-use Rattle.rpki_command.specs.Contents.{IsLinesOf}
-use Rattle.rpki_command.specs.Kinds.{OfKind}
-use Rattle.rpki_command.specs.Options.{read_mode}
-use Rattle.rpki_command.specs.Refusal.{IsRefusal}
-use Rattle.rpki_command.specs.declared.contents.Causes.{Causes}
-use Rattle.rpki_command.specs.declared.contents.Causes.TheVariants.{Omitted}
-use Rattle.rpki_command.specs.declared.words.Kind.{Kind}
-use Rattle.rpki_command.specs.declared.words.Options.{Options}
+use Rattle.rpki_cli.specs.Answer.{Output, out_of_memory, bad_verdicts, refused, issuer_refused}
+use Rattle.rpki_cli.specs.Answer.{issuer_malformed}
+use Rattle.rpki_cli.specs.Shown.{IsLinesOf}
+use Rattle.rpki_cli.specs.Refusal.{IsRefusal}
+use Rattle.rpki_cli.specs.declared.causes.Causes.{Causes}
+use Rattle.rpki_cli.specs.declared.causes.Causes.TheVariants.{Omitted}
+use Rattle.rpki_cli.specs.declared.words.Kind.{Kind}
+use Rattle.rpki_cli.specs.declared.words.Options.{Options}
+use Rattle.rpki_show.specs.Kinds.{OfKind}
+use Rattle.rpki_show.specs.Options.{read_mode}
 
 -- what is said of a certificate where nobody asks whether it was revoked: a yes
 abbrev pub passes : KeptCertificate → Result (Unit {0}) ValidationError → Type 0

@@ -1,59 +1,21 @@
--- What a program answers to its words, and what a run of it does. What `old` and `new` are is said
--- with `Names` (specs/Store.antt).
-use Rattle.std.specs.Prelude.{◌≡◌, ℕ, ◌⊎◌, List, [], ◌∷◌, ◌++◌, take, map, None, Some}
-use Rattle.std.specs.Prelude.{Result, Ok, Err, Vec}
-use Rattle.std.specs.declared.alloc.Global.{Global}
-use Rattle.rpki_certs.specs.Issuer.{octets_of}
-use Rattle.rpki_command.specs.Answer.{Run, Output, IsSaid, usage, cannot_read, out_of_memory}
-use Rattle.rpki_command.specs.Answer.{shown}
-use Rattle.rpki_command.specs.Arguments.{ToldArguments, AreTexts, HaveNoText}
-use Rattle.rpki_command.specs.Attestation.{AttestationLines, RtaLines}
+-- The program with verdicts: what each of its commands comes to.
+use Rattle.std.specs.Prelude.{◌∷◌}
+use Rattle.rpki_cli.specs.Answer.{usage}
+use Rattle.rpki_cli.specs.Command.{Task, ShowLines, CheckFiles, Program, objects_language}
+use Rattle.rpki_cli.specs.Words.{others_in, files_of_anchors}
+use Rattle.rpki_cli.specs.declared.causes.Causes.{Causes}
+use Rattle.rpki_cli.specs.declared.causes.Causes.TheVariants.{Omitted}
+use Rattle.rpki_cli.specs.declared.words.Command.{Command}
+use Rattle.rpki_cli.specs.declared.words.Command.TheVariants.{Content, ContentRta, Show, ShowRta}
+use Rattle.rpki_cli.specs.declared.words.Command.TheVariants.{ShowTal, Check, Walk, Rta}
+use Rattle.rpki_cli.specs.declared.words.Options.{Options}
+use Rattle.rpki_show.specs.Attestation.{AttestationLines, RtaLines}
+use Rattle.rpki_show.specs.Contents.{LinesOf}
+use Rattle.rpki_show.specs.Objects.{ObjectLinesOf}
+use Rattle.rpki_show.specs.Texts.Tal.{TalLines}
 use Rattle.rpki_command.specs.Check.{CheckOf}
-use Rattle.rpki_command.specs.Contents.{LinesOf, HasNoLines, IsShown}
-use Rattle.rpki_command.specs.Language.{Language, IsAsked, AskForNothing}
-use Rattle.rpki_command.specs.Objects.{ObjectLinesOf}
-use Rattle.rpki_command.specs.Refusal.{IsMalformed}
 use Rattle.rpki_command.specs.Rta.{RtaOf}
-use Rattle.rpki_command.specs.Texts.Tal.{TalLines}
-use Rattle.rpki_command.specs.Store.{Told, Names, IsRead, AreRead}
 use Rattle.rpki_command.specs.Walk.{WalkOf}
-use Rattle.rpki_command.specs.Words.{command_words, files_of, others_in, files_of_anchors, IsProper}
-use Rattle.rpki_command.specs.declared.contents.Causes.{Causes}
-use Rattle.rpki_command.specs.declared.contents.Causes.TheVariants.{Omitted}
-use Rattle.rpki_command.specs.declared.store.StoreError.{StoreError}
-use Rattle.rpki_command.specs.declared.store.StoreError.TheVariants.{Unreadable, Memory}
-use Rattle.rpki_command.specs.declared.store.Unread.{Unread}
-use Rattle.rpki_command.specs.declared.store.Unread.TheVariants as reads
-use Rattle.rpki_command.specs.declared.words.Command.{Command}
-use Rattle.rpki_command.specs.declared.words.Command.TheVariants.{Content, ContentRta, Show}
-use Rattle.rpki_command.specs.declared.words.Command.TheVariants.{ShowRta, ShowTal, Check, Walk, Rta}
-use Rattle.rpki_command.specs.declared.words.Options.{Options}
-use Rattle.rpki_command.specs.declared.words.Order.{Order}
-
--- what is said where a read of a file fails
-abbrev pub unread : List ℕ → StoreError → Output
-unread name Unreadable = cannot_read name
-unread name Memory = out_of_memory
-
--- what is said where a read of a file answers this
-abbrev pub IsOfRead : List ℕ → (List ℕ → Output → Type 0) → Result (Vec ℕ Global) StoreError
-    → Output → Type 0
-IsOfRead name P (Ok octets) s = P octets.items s
-IsOfRead name P (Err error) s = s ≡ unread name error
-
--- what is said of a file in a store that tells this, where `P` says what is said of its octets
-abbrev pub IsOfFile : Told → List ℕ → (List ℕ → Output → Type 0) → Output → Type 0
-IsOfFile told name P s = (read : Result (Vec ℕ Global) StoreError) × IsRead (told name) read
-    × IsOfRead name P read s
-
--- What an order comes to.
-pub data Task : Type 1 where
-  -- to say this, and to read no file
-  Say : (s : Output) → Task
-  -- to show the lines of what stands in a file
-  ShowLines : (causes : Causes) (file : List ℕ) (lines_of : List ℕ → List ℕ → Type 0) → Task
-  -- to read these files, in this order, and to say what is said of their octets
-  CheckFiles : (files : List (List ℕ)) (answers : List (List ℕ) → Output → Type 0) → Task
 
 -- What each command of the program with verdicts comes to with these options, where the causes of
 -- refusals of what is shown are told, or not: the table of its commands. A check, a walk and a
@@ -71,26 +33,6 @@ command_task causes options (Walk file moment verdicts anchor tail) =
 command_task causes options (Rta file moment verdicts anchors) =
     CheckFiles (file ∷ verdicts ∷ files_of_anchors anchors) (RtaOf moment anchors)
 
--- A program: how its orders are written, what a command comes to with options, and what is said to
--- words that ask for nothing.
-pub record Program : Type 1 where
-  pub language : Language
-  pub task : Options → language.Command → Task
-  pub wrong : Output
-
--- what an order comes to
-abbrev pub order_task : (p : Program) → Order p.language.Command → Task
-order_task p o = p.task o.options o.command
-
--- how the orders of the program with verdicts are written
-abbrev pub objects_language : Language
-objects_language = record {
-  Command = Command;
-  words = command_words;
-  files = files_of;
-  IsFit = IsProper;
-}
-
 -- the program with verdicts
 abbrev pub objects_program : Program
 objects_program = record {
@@ -98,130 +40,3 @@ objects_program = record {
   task = command_task Omitted;
   wrong = usage;
 }
-
--- what is said where reads of files answer this
-abbrev pub IsOfReads : (List (List ℕ) → Output → Type 0) → Result (Vec (Vec ℕ Global) Global) Unread
-    → Output → Type 0
-IsOfReads P (Ok files) s = P (octets_of files.items) s
-IsOfReads P (Err (reads.Unreadable name)) s = s ≡ cannot_read name.now
-IsOfReads P (Err reads.Memory) s = s ≡ out_of_memory
-
--- What is said of files in a store that tells this, and which of them are read for it, in their
--- order, each once. Where all are read, it is what `P` says of their octets. Where one can't be
--- read, it is that, and none is read after it. Where memory runs out, it is that: none is read, or
--- those up to some place, and none after one that is told to be unreadable.
-abbrev pub IsOfFiles : Told → Names → (List (List ℕ) → Output → Type 0) → Names → Names → Output
-    → Type 0
-IsOfFiles told files P old new s =
-    ((s ≡ out_of_memory) × (new ≡ old))
-    ⊎ ((read : Result (Vec (Vec ℕ Global) Global) Unread)
-    × AreRead told files old new read × IsOfReads P read s)
-
--- What is said for a task; for `CheckFiles`, together with which of the files are read for that.
--- What the other tasks read, `HasRead` says.
-abbrev pub IsTaskAnswer : Told → Task → Names → Names → Output → Type 0
-IsTaskAnswer told (Say x) old new s = s ≡ x
-IsTaskAnswer told (ShowLines causes file lines_of) old new s =
-    IsOfFile told file (IsShown causes lines_of) s
-IsTaskAnswer told (CheckFiles files P) old new s = IsOfFiles told files P old new s
-
--- None, some or all of these files are read: those up to some place, in their order, each once, and
--- no other.
-pub record AreReadAtMost (files old new : Names) : Type 0 where
-  pub many : ℕ
-  pub reads : new ≡ old ++ take many files
-
--- Which files a task reads. For `CheckFiles`, `IsTaskAnswer` says more: which of them are read for
--- what is said.
-abbrev pub HasRead : Task → Names → Names → Type 0
-HasRead (Say x) old new = new ≡ old
-HasRead (ShowLines causes file lines_of) old new = new ≡ old ++ file ∷ []
-HasRead (CheckFiles files P) old new = AreReadAtMost files old new
-
--- What is said for the order that the words ask for, or that they are wrong where they ask for
--- none; for `CheckFiles`, together with which of the files are read for that.
-abbrev pub IsAnswer : Program → Told → List (List ℕ) → Names → Names → Output → Type 0
-IsAnswer p told words old new s =
-    ((o : Order p.language.Command) × IsAsked p.language words o
-    × IsTaskAnswer told (order_task p o) old new s)
-    ⊎ (AskForNothing p.language words × (s ≡ p.wrong))
-
--- this is said, unless memory runs out
-abbrev pub OrOutOfMemory : Output → Run → Type 0
-OrOutOfMemory s run = IsSaid out_of_memory run ⊎ IsSaid s run
-
--- The run shows what stands in a file, where the store tells the file.
-pub record Shows (causes : Causes) (told : Told) (file : List ℕ)
-    (lines_of : List ℕ → List ℕ → Type 0) (run : Run) : Type 0 where
-  -- a file that can't be read
-  pub unreadable : told file ≡ Some None → OrOutOfMemory (cannot_read file) run
-  -- octets that have no lines
-  pub malformed : (octets : List ℕ) → told file ≡ Some (Some octets) → HasNoLines lines_of octets
-      → IsSaid out_of_memory run ⊎ ((s : Output) × IsMalformed causes s × IsSaid s run)
-  -- octets that have lines
-  pub shown : (octets lines : List ℕ) → told file ≡ Some (Some octets) → lines_of octets lines
-      → OrOutOfMemory (shown lines) run
-
--- the store tells these octets of these files
-abbrev pub AreTold : Told → List (List ℕ) → List (List ℕ) → Type 0
-AreTold told files octets = map told files ≡ map (λ o. Some (Some o)) octets
-
--- The run checks files, where the store tells them, unless memory runs out.
-pub record ChecksFiles (told : Told) (files : Names) (P : List (List ℕ) → Output → Type 0)
-    (old new : Names) (run : Run) : Type 0 where
-  -- files that can be read: they are read in their order, each once, and no other, and what is to
-  -- be said of them is said
-  pub checked : (octets : List (List ℕ)) → AreTold told files octets
-      → IsSaid out_of_memory run
-      ⊎ ((new ≡ old ++ files) × (s : Output) × P octets s × IsSaid s run)
-  -- a file that can't be read, after any number that can: these are read in their order, each
-  -- once, then it, and no other, and it is said that it can't be read
-  pub unreadable : (before after octets : List (List ℕ)) (file : List ℕ)
-      → files ≡ before ++ file ∷ after → AreTold told before octets → told file ≡ Some None
-      → IsSaid out_of_memory run
-      ⊎ ((new ≡ old ++ (before ++ file ∷ [])) × IsSaid (cannot_read file) run)
-
--- the run does a task
-abbrev pub IsTaskDone : Told → Task → Names → Names → Run → Type 0
-IsTaskDone told (Say x) old new run = IsSaid x run
-IsTaskDone told (ShowLines causes file lines_of) old new run = Shows causes told file lines_of run
-IsTaskDone told (CheckFiles files P) old new run = ChecksFiles told files P old new run
-
--- What a run of a program does, where the store tells this of each file by its name.
-pub record IsRunOf (p : Program) (told : Told) (words : List (List ℕ)) (old new : Names)
-    (run : Run) : Type 0 where
-  -- words that ask for nothing
-  pub wrong : AskForNothing p.language words → IsSaid p.wrong run
-  -- words that ask for this
-  pub done : (o : Order p.language.Command) → IsAsked p.language words o
-      → IsTaskDone told (order_task p o) old new run
-  -- whatever the store tells, one answer is said
-  pub answered : (s : Output) × IsAnswer p told words old new s × IsSaid s run
-
--- Which files a run reads: none for words that ask for nothing, and for others those that their
--- task reads.
-pub record HaveRead (p : Program) (words : List (List ℕ)) (old new : Names) : Type 0 where
-  pub wrong : AskForNothing p.language words → new ≡ old
-  pub done : (o : Order p.language.Command) → IsAsked p.language words o
-      → HasRead (order_task p o) old new
-
--- the words are run, with the reads that they ask for
-pub record IsRunWith (p : Program) (told : Told) (words : List (List ℕ)) (old new : Names)
-    (run : Run) : Type 0 where
-  pub done : IsRunOf p told words old new run
-  pub reads : HaveRead p words old new
-
--- this is said, and no file is read
-pub record IsSaidUnread (s : Output) (old new : Names) (run : Run) : Type 0 where
-  pub said : IsSaid s run
-  pub reads : new ≡ old
-
--- What the start of a program does: it runs the words after the program's name. Where one of them
--- is no text (UTF-8) it says that they are wrong instead, and where memory runs out before they are
--- run it says that; either way it reads no file. Where the arguments are not told, the words may be
--- any texts, and it may be said as well that they are wrong.
-abbrev pub IsStartOf : Program → ToldArguments → Told → Names → Names → Run → Type 0
-IsStartOf p arguments told old new run =
-    ((words : List (List ℕ)) × AreTexts arguments words × IsRunWith p told words old new run)
-    ⊎ ((HaveNoText arguments × IsSaidUnread p.wrong old new run)
-    ⊎ IsSaidUnread out_of_memory old new run)

@@ -12,18 +12,18 @@ use Rattle.rpki_signed.specs.Attested.{IsExactRta}
 use Rattle.rpki_signed.specs.declared.check.CheckError.{CheckError}
 use Rattle.rpki_signed.specs.declared.check.CheckError.TheVariants.{Decode, Validation}
 use Rattle.rpki_sigobj.specs.Verify.{Digester}
+use Rattle.rpki_cli.specs.Answer.{Output, out_of_memory, malformed}
+use Rattle.rpki_cli.specs.Shown.{IsLinesOf}
+use Rattle.rpki_cli.specs.Refusal.{IsRefusal}
+use Rattle.rpki_cli.specs.declared.causes.Causes.{Causes}
+use Rattle.rpki_cli.specs.declared.causes.Causes.TheVariants.{Omitted}
+use Rattle.rpki_show.specs.Texts.Rta.{attestation_text}
 use Rattle.rpki_command.specs.Anchors.{given_in, AreMade}
-use Rattle.rpki_command.specs.Answer.{Output, out_of_memory, malformed}
 use Rattle.rpki_command.specs.Check.{yes_line, issuer_refusal, IsRefused, IsByVerdicts}
-use Rattle.rpki_command.specs.Contents.{IsLinesOf}
-use Rattle.rpki_command.specs.Refusal.{IsRefusal}
-use Rattle.rpki_command.specs.Texts.Rta.{attestation_text}
 use Rattle.rpki_command.specs.declared.anchors.Anchor.{Anchor}
 use Rattle.rpki_command.specs.declared.anchors.Anchor.TheVariants.{Tal, Ca}
 use Rattle.rpki_command.specs.declared.anchors.AnchorError.{AnchorError}
 use Rattle.rpki_command.specs.declared.anchors.AnchorError.TheVariants.{NoLocator, NoIssuer, Memory}
-use Rattle.rpki_command.specs.declared.contents.Causes.{Causes}
-use Rattle.rpki_command.specs.declared.contents.Causes.TheVariants.{Omitted}
 
 -- what an anchor supplies: a locator its key; a CA its key identifier, its key and its numbers
 abbrev pub supply_of : Anchor → Supply

@@ -12,14 +12,15 @@ use Rattle.rpki_files.specs.Manifest.{ManifestForm}
 use Rattle.rpki_files.specs.Manifest.Checks.{manifest_kind}
 use Rattle.rpki_signed.specs.Walk.{AtHand}
 use Rattle.rpki_sigobj.specs.Verify.{Digester}
-use Rattle.rpki_command.specs.Answer.{Output}
+use Rattle.rpki_cli.specs.Answer.{Output}
+use Rattle.rpki_cli.specs.Options.{manifest_rule}
+use Rattle.rpki_cli.specs.Words.{chain_in, names_in}
+use Rattle.rpki_cli.specs.declared.causes.Causes.{Causes}
+use Rattle.rpki_cli.specs.declared.causes.Causes.TheVariants.{Omitted}
+use Rattle.rpki_cli.specs.declared.words.Options.{Options}
+use Rattle.rpki_show.specs.Options.{read_mode}
 use Rattle.rpki_command.specs.Check.{IsCheckedAs, IsSaidUnder, IsByVerdicts}
-use Rattle.rpki_command.specs.Options.{manifest_rule, read_mode}
-use Rattle.rpki_command.specs.Texts.Walk.{held_text}
-use Rattle.rpki_command.specs.Words.{chain_in, names_in}
-use Rattle.rpki_command.specs.declared.contents.Causes.{Causes}
-use Rattle.rpki_command.specs.declared.contents.Causes.TheVariants.{Omitted}
-use Rattle.rpki_command.specs.declared.words.Options.{Options}
+use Rattle.rpki_command.specs.Held.{held_text}
 
 -- Of the files after that of a trust anchor, which these words name, those of CAs.
 abbrev pub certs_in : {T : Type 0} → List (List ℕ) → List T → List T

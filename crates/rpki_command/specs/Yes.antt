@@ -24,21 +24,22 @@ use Rattle.rpki_sigobj.specs.Signed.Kind as signed
 use Rattle.rpki_sigobj.specs.Signed.{Whole, ObjectForm}
 use Rattle.rpki_verdicts.specs.Listed.{is_listed}
 use Rattle.rpki_verdicts.specs.Verdicts.{AreVerdicts}
+use Rattle.rpki_cli.specs.Answer.{Run, IsWhole, out_of_memory}
+use Rattle.rpki_cli.specs.Options.{manifest_rule}
+use Rattle.rpki_cli.specs.declared.words.Command.{Command}
+use Rattle.rpki_cli.specs.declared.words.Command.TheVariants as commands
+use Rattle.rpki_cli.specs.declared.words.Kind.{Kind}
+use Rattle.rpki_cli.specs.declared.words.Options.{Options}
+use Rattle.rpki_cli.specs.declared.words.Order.{Order}
+use Rattle.rpki_show.specs.Kinds.{OfKind}
+use Rattle.rpki_show.specs.Options.{read_mode}
+use Rattle.rpki_show.specs.Texts.Rta.{attestation_text}
 use Rattle.rpki_command.specs.Anchors.{Given, given_in, MakeEach, IsFirstUnmade}
-use Rattle.rpki_command.specs.Answer.{Run, IsWhole, out_of_memory}
 use Rattle.rpki_command.specs.Check.{yes_line, issuer_refusal}
-use Rattle.rpki_command.specs.Kinds.{OfKind}
-use Rattle.rpki_command.specs.Options.{manifest_rule, read_mode}
 use Rattle.rpki_command.specs.Rta.{supply_of, anchor_refusal}
-use Rattle.rpki_command.specs.Texts.Rta.{attestation_text}
-use Rattle.rpki_command.specs.Texts.Walk.{held_text}
+use Rattle.rpki_command.specs.Held.{held_text}
 use Rattle.rpki_command.specs.declared.anchors.Anchor.{Anchor}
 use Rattle.rpki_command.specs.declared.anchors.AnchorError.{AnchorError}
-use Rattle.rpki_command.specs.declared.words.Command.{Command}
-use Rattle.rpki_command.specs.declared.words.Command.TheVariants as commands
-use Rattle.rpki_command.specs.declared.words.Kind.{Kind}
-use Rattle.rpki_command.specs.declared.words.Options.{Options}
-use Rattle.rpki_command.specs.declared.words.Order.{Order}
 
 -- The files of an object and of certificates: the name of each, or its octets.
 pub record FilesOfCheck : Type 0 where

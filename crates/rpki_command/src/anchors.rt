@@ -4,17 +4,17 @@ ghost use Rattle.std.specs.Prelude.{◌≡◌, ◌≤◌, IfOk, length, map, tru
 ghost use Rattle.rpki_certs.specs.Issuer.{octets_of};
 ghost use Rattle.rpki_rta.specs.Refused.{supply_in};
 ghost use Rattle.rpki_verdicts.specs.Attested.{octets_of_chains};
+ghost use Rattle.rpki_cli.specs.Words.{texts, files_of_anchors};
 ghost use Rattle.rpki_command.specs.Anchors.{given_in, AreMade, IsLocated, IsChained, MakesOf};
 ghost use Rattle.rpki_command.specs.Anchors.{locator_fault, chains_in};
 ghost use Rattle.rpki_command.specs.Rta.{supply_of};
-ghost use Rattle.rpki_command.specs.Words.{texts, files_of_anchors};
 
-use crate::anchor_words::{count_of, is_locator};
-use crate::locator::locator_of;
 use rpki_basics::{Crypto, Time};
 use rpki_certs::{IssuerError, ResourceCert, issuer_at};
+use rpki_cli::anchor_words::{count_of, is_locator};
 use rpki_paths::Supplied;
 use rpki_rta::Supply;
+use rpki_show::locator_of;
 use rpki_tal::{ReadError, Tal};
 use std::alloc::{AllocError, Global};
 

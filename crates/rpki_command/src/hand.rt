@@ -3,10 +3,10 @@
 ghost use Rattle.std.specs.Prelude.{◌≡◌, ◌≤◌, length, map, IfOk};
 ghost use Rattle.rpki_certs.specs.Issuer.{octets_of};
 ghost use Rattle.rpki_signed.specs.Walk.{at_hand};
+ghost use Rattle.rpki_cli.specs.Words.{texts, chain_in};
 ghost use Rattle.rpki_command.specs.Walk.{certs_in, hand_in};
-ghost use Rattle.rpki_command.specs.Words.{texts, chain_in};
 
-use crate::pairs::{cut_at_with, name_of};
+use rpki_cli::pairs::{cut_at_with, name_of};
 use std::alloc::{AllocError, Global};
 use std::marker::Model;
 
@@ -21,7 +21,7 @@ impl<'s> Model for Hand<'s> {
     ghost use Rattle.std.specs.Prelude.{ℕ, List, map};
     ghost use Rattle.std.specs.List.{zip};
     ghost use Rattle.rpki_certs.specs.Issuer.{octets_of};
-    ghost use Rattle.rpki_command.specs.Words.{name_in, texts};
+    ghost use Rattle.rpki_cli.specs.Words.{name_in, texts};
 
     // Each name with its octets.
     ghost Value = { List (List ℕ × List ℕ) };

@@ -1,36 +1,20 @@
 //! What the definitions say, as functions that do nothing.
 
-ghost use Rattle.std.specs.Prelude.{◌≡◌, ◌∷◌, ℕ, List, true};
+ghost use Rattle.std.specs.Prelude.{◌≡◌, ◌∷◌, ℕ, List};
 ghost use Rattle.std.specs.List.{zip};
 ghost use Rattle.rpki_basics.specs.Moment.{Moment};
-ghost use Rattle.rpki_files.specs.Checked.{is_portable_name};
-ghost use Rattle.rpki_files.specs.Name.{IsFileName};
-ghost use Rattle.rpki_command.specs.Answer.{Run};
-ghost use Rattle.rpki_command.specs.Command.{AreTold, IsRunOf, objects_language, objects_program};
-ghost use Rattle.rpki_command.specs.Ia5.{ia5_text};
-ghost use Rattle.rpki_command.specs.Language.{IsAsked};
-ghost use Rattle.rpki_command.specs.Store.{Told};
-ghost use Rattle.rpki_command.specs.Words.{chain_in, names_in, paths_in, files_of_anchors};
+ghost use Rattle.rpki_cli.specs.Answer.{Run};
+ghost use Rattle.rpki_cli.specs.Command.{AreTold, IsRunOf, objects_language};
+ghost use Rattle.rpki_cli.specs.Language.{IsAsked};
+ghost use Rattle.rpki_cli.specs.Store.{Told};
+ghost use Rattle.rpki_cli.specs.Words.{chain_in, names_in, paths_in, files_of_anchors};
+ghost use Rattle.rpki_cli.specs.declared.words.Kind.{Kind};
+ghost use Rattle.rpki_cli.specs.declared.words.Kind.TheVariants.{Manifest};
+ghost use Rattle.rpki_cli.specs.declared.words.Options.{Options};
+ghost use Rattle.rpki_command.specs.Command.{objects_program};
 ghost use Rattle.rpki_command.specs.Yes.{FilesOfCheck, in_order_with, check_order, walk_order};
 ghost use Rattle.rpki_command.specs.Yes.{IsRightWalk, rta_order, IsRightRta, IsRightNoRta};
 ghost use Rattle.rpki_command.specs.Yes.{IsRightYes, IsRightNo, HoldsByList};
-ghost use Rattle.rpki_command.specs.declared.words.Command.{Command};
-ghost use Rattle.rpki_command.specs.declared.words.Kind.{Kind};
-ghost use Rattle.rpki_command.specs.declared.words.Kind.TheVariants.{Manifest};
-ghost use Rattle.rpki_command.specs.declared.words.Options.{Options};
-ghost use Rattle.rpki_command.specs.declared.words.Order.{Order};
-
-/// No words ask for two things.
-pub fn words_ask_for_one_thing()
-    ensures { (words : List (List ℕ)) (a b : Order Command) → IsAsked objects_language words a
-        → IsAsked objects_language words b → a ≡ b }
-{}
-
-/// The names of files, of a manifest and of a checklist, are printed as they are.
-pub fn names_are_printed()
-    ensures manifest { (name : List ℕ) → IsFileName name → ia5_text name ≡ name }
-    ensures checklist { (name : List ℕ) → is_portable_name name ≡ true → ia5_text name ≡ name }
-{}
 
 /// Where a store tells the files of a check, a run of it that ends with status 0 says yes, and that
 /// rightly: FILE begins with a good object under the issuer that the certificates make by the

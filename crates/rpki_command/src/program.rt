@@ -1,29 +1,25 @@
 //! The program with verdicts as a function.
 
 ghost use Rattle.std.specs.Prelude.{◌≡◌, ◌∷◌, ◌++◌, []};
-ghost use Rattle.rpki_command.specs.Answer.{said};
-ghost use Rattle.rpki_command.specs.Attestation.{AttestationLines, RtaLines};
-ghost use Rattle.rpki_command.specs.Command.{objects_program, command_task, HasRead};
-ghost use Rattle.rpki_command.specs.Command.{IsTaskAnswer};
-ghost use Rattle.rpki_command.specs.Command.{unread, IsOfFile, IsAnswer, HaveRead};
-ghost use Rattle.rpki_command.specs.Contents.{LinesOf, IsShown};
-ghost use Rattle.rpki_command.specs.Objects.{ObjectLinesOf};
-ghost use Rattle.rpki_command.specs.Texts.Tal.{TalLines};
-ghost use Rattle.rpki_command.specs.Words.{texts};
-ghost use Rattle.rpki_command.specs.declared.contents.Causes.TheVariants.{Omitted};
+ghost use Rattle.rpki_cli.specs.Answer.{said};
+ghost use Rattle.rpki_cli.specs.Command.{HasRead, IsTaskAnswer, unread, IsOfFile, IsAnswer};
+ghost use Rattle.rpki_cli.specs.Command.{HaveRead};
+ghost use Rattle.rpki_cli.specs.Shown.{IsShown};
+ghost use Rattle.rpki_cli.specs.Words.{texts};
+ghost use Rattle.rpki_cli.specs.declared.causes.Causes.TheVariants.{Omitted};
+ghost use Rattle.rpki_show.specs.Attestation.{AttestationLines, RtaLines};
+ghost use Rattle.rpki_show.specs.Contents.{LinesOf};
+ghost use Rattle.rpki_show.specs.Objects.{ObjectLinesOf};
+ghost use Rattle.rpki_show.specs.Texts.Tal.{TalLines};
+ghost use Rattle.rpki_command.specs.Command.{objects_program, command_task};
 
-use crate::answer::Answer;
-use crate::attestation::{show_attestation, show_rta};
 use crate::check::CheckByList;
-use crate::contents::{Causes, show_kind};
-use crate::files::{answer_anchors, answer_files, answer_tail};
-use crate::locator::show_tal;
-use crate::objects::show_object;
 use crate::rta::RtaByList;
-use crate::runs::Program;
-use crate::store::{Store, StoreError};
 use crate::walk::WalkByList;
-use crate::words::{Command, Kind, Options, Order, parse};
+use rpki_cli::answer::Answer;
+use rpki_cli::words::{Command, Kind, Options, Order, parse};
+use rpki_cli::{Causes, Program, Store, StoreError, answer_anchors, answer_files, answer_tail};
+use rpki_show::{show_attestation, show_kind, show_object, show_rta, show_tal};
 use std::alloc::Global;
 
 /// The program with verdicts, `rpki_objects`: it shows contents, objects and locators, checks

@@ -2,10 +2,7 @@
 //! says, on which stream, and with which exit status.
 
 mod check;
-mod clock;
 pub mod laws;
 mod program;
-mod words;
 
-pub use clock::{moment_of, now};
 pub use program::Verify;

@@ -2,24 +2,23 @@
 
 ghost use Rattle.std.specs.Prelude.{◌≤◌, ◌+◌, ◌++◌, length};
 ghost use Rattle.rpki_certs.specs.Issuer.{octets_of};
-ghost use Rattle.rpki_command.specs.Answer.{said};
+ghost use Rattle.rpki_cli.specs.Answer.{said};
+ghost use Rattle.rpki_cli.specs.Shown.{IsLinesOf};
+ghost use Rattle.rpki_cli.specs.Words.{texts, chain_in};
+ghost use Rattle.rpki_show.specs.Grows.{Grows};
 ghost use Rattle.rpki_command.specs.Check.{yes_line, IsCheckSaid};
-ghost use Rattle.rpki_command.specs.Contents.{IsLinesOf};
-ghost use Rattle.rpki_command.specs.Grows.{Grows};
-ghost use Rattle.rpki_command.specs.Texts.Walk.{held_text};
+ghost use Rattle.rpki_command.specs.Held.{held_text};
 ghost use Rattle.rpki_command.specs.Walk.{WalkedUnder, IsWalkedWith, WalkOf};
-ghost use Rattle.rpki_command.specs.Words.{texts, chain_in};
 
-use crate::answer::Answer;
 use crate::check::{check_passed, pass, refused, refused_issuer};
-use crate::contents::{Causes, refusal};
-use crate::files::Work;
 use crate::hand::{Hand, cut_others};
-use crate::texts::walk::push_held;
-use crate::words::Options;
+use crate::held::push_held;
 use bytes::Bytes;
 use rpki_basics::{Crypto, Time};
 use rpki_certs::{ResourceCert, issuer_at};
+use rpki_cli::answer::Answer;
+use rpki_cli::words::Options;
+use rpki_cli::{Causes, Work, refusal};
 use rpki_files::ManifestContent;
 use rpki_signed::check::CheckError;
 use rpki_verdicts::Verdicts;

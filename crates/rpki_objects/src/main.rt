@@ -1,7 +1,8 @@
 //! Shows and checks signed objects of the RPKI.
 #![tactic(auto)]
 
-use rpki_command::{Objects, ProcessArguments, SystemFiles, start};
+use rpki_cli::{ProcessArguments, SystemFiles, start};
+use rpki_command::Objects;
 use rpki_der::Counted;
 use std::process::ExitCode;
 

@@ -1,4 +1,5 @@
-//! Tests of `rpki_command` and `rpki_verdicts`, each a table of rows that one small function walks.
+//! Tests of `rpki_cli`, `rpki_show`, `rpki_command` and `rpki_verdicts`, each a table of rows that
+//! one small function walks.
 //!
 //! The expected values follow from the profile by hand. A test hands on that memory ran out and
 //! asserts everything else, so `tools/growth` can refuse each of its allocations in turn. Other

@@ -1,4 +1,4 @@
-//! Tests of the program: of `rpki_command`, in the module of its name.
+//! Tests of the programs: of `rpki_cli`, `rpki_show` and `rpki_command`, in the module `command`.
 #![tactic(auto)]
 
 #[cfg(test)]

@@ -1,8 +1,9 @@
 //! Checks signed objects of the RPKI by their signatures.
 #![tactic(auto)]
 
-use rpki_command::verify::{Verify, now};
-use rpki_command::{ProcessArguments, SystemFiles, start};
+use rpki_cli::verify::now;
+use rpki_cli::{ProcessArguments, SystemFiles, start};
+use rpki_command::verify::Verify;
 use rpki_der::Counted;
 use std::process::ExitCode;
 

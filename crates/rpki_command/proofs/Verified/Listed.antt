@@ -8,22 +8,20 @@ use Rattle.rpki_rsa.specs.Signature.{is_rsa_signature}
 use Rattle.rpki_verdicts.specs.Lists.{Lists}
 use Rattle.rpki_verdicts.specs.declared.list.ListingError.{ListingError}
 use Rattle.rpki_verdicts.specs.declared.list.ListingError.TheVariants as listing
-use Rattle.rpki_command.specs.Answer.{Run, Output, IsSaid, out_of_memory, malformed}
-use Rattle.rpki_command.specs.Answer.{issuer_malformed}
-use Rattle.rpki_command.specs.Answer.{shown}
-use Rattle.rpki_command.specs.Command.{AreTold, ChecksFiles, IsRunOf}
-use Rattle.rpki_command.specs.Language.{IsAsked}
-use Rattle.rpki_command.specs.Options.{read_mode}
-use Rattle.rpki_command.specs.Store.{Told, Names}
+use Rattle.rpki_cli.specs.Answer.{Run, Output, IsSaid, out_of_memory, malformed, issuer_malformed}
+use Rattle.rpki_cli.specs.Answer.{shown}
+use Rattle.rpki_cli.specs.Command.{AreTold, ChecksFiles, IsRunOf}
+use Rattle.rpki_cli.specs.Language.{IsAsked}
+use Rattle.rpki_cli.specs.Store.{Told, Names}
+use Rattle.rpki_cli.specs.declared.words.Options.{Options}
+use Rattle.rpki_cli.proofs.Running.{said-as}
+use Rattle.rpki_cli.specs.Verify.Words.{verify_language}
+use Rattle.rpki_show.specs.Options.{read_mode}
 use Rattle.rpki_command.specs.Yes.{FilesOfCheck, in_order}
-use Rattle.rpki_command.specs.declared.words.Options.{Options}
 use Rattle.rpki_command.proofs.Right.{status_of, other-status, whole-lines, said-yes, said-no}
-use Rattle.rpki_command.proofs.Running.{said-as}
 use Rattle.rpki_command.specs.Verify.Check.{IsListAnswer, IsListingSaid, ListedOf}
 use Rattle.rpki_command.specs.Verify.Command.{verify_program}
-use Rattle.rpki_command.specs.Verify.Words.{verify_language}
-use Rattle.rpki_command.specs.Verify.Yes.{list_order}
-use Rattle.rpki_command.specs.Verify.Yes.{IsRightList, IsRightNoList}
+use Rattle.rpki_command.specs.Verify.Yes.{list_order, IsRightList, IsRightNoList}
 
 -- what is said of a list that is made, or of none
 pub listed-said : (mode : Mode) (object anchor : List ℕ) (chain : List (List ℕ))

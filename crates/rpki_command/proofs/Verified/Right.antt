@@ -2,20 +2,20 @@
 use Rattle.std.proofs.Common.{◌≡◌, ℕ, List, Option, Some, subst}
 use Rattle.rpki_basics.specs.Moment.{Moment}
 use Rattle.rpki_rsa.specs.Signature.{is_rsa_signature}
-use Rattle.rpki_command.specs.Answer.{Run}
-use Rattle.rpki_command.specs.Command.{AreTold, ChecksFiles, IsRunOf, IsTaskDone}
-use Rattle.rpki_command.specs.Language.{IsAsked}
-use Rattle.rpki_command.specs.Store.{Told, Names}
+use Rattle.rpki_cli.specs.Answer.{Run}
+use Rattle.rpki_cli.specs.Command.{AreTold, ChecksFiles, IsRunOf, IsTaskDone}
+use Rattle.rpki_cli.specs.Language.{IsAsked}
+use Rattle.rpki_cli.specs.Store.{Told, Names}
+use Rattle.rpki_cli.specs.declared.causes.Causes.TheVariants.{Included}
+use Rattle.rpki_cli.specs.declared.words.Kind.{Kind}
+use Rattle.rpki_cli.specs.declared.words.Options.{Options}
+use Rattle.rpki_cli.specs.Verify.Words.{verify_language, moment_at}
+use Rattle.rpki_cli.specs.declared.verify.words.When.{When}
 use Rattle.rpki_command.specs.Yes.{FilesOfCheck, in_order, IsRightYes, IsRightNo}
-use Rattle.rpki_command.specs.declared.contents.Causes.TheVariants.{Included}
-use Rattle.rpki_command.specs.declared.words.Kind.{Kind}
-use Rattle.rpki_command.specs.declared.words.Options.{Options}
 use Rattle.rpki_command.proofs.Right.{yes-made, no-made, said-yes, said-no}
 use Rattle.rpki_command.specs.Verify.Check.{VerifiedOf}
 use Rattle.rpki_command.specs.Verify.Command.{check_task, verify_program}
-use Rattle.rpki_command.specs.Verify.Words.{verify_language, moment_at}
 use Rattle.rpki_command.specs.Verify.Yes.{verify_order}
-use Rattle.rpki_command.specs.declared.verify.words.When.{When}
 
 module _ (told : Told) (clock : Option Moment) (words : List (List ℕ)) (old new : Names) (run : Run)
     (options : Options) (kind : Kind) (moment : When) (now : Moment) (names files : FilesOfCheck)

@@ -37,8 +37,8 @@ use Rattle.rpki_verdicts.specs.Questions.{Question, last_of, says}
 use Rattle.rpki_verdicts.specs.Verdicts.{AreVerdicts}
 use Rattle.rpki_verdicts.proofs.Cut.{only-lines}
 use Rattle.rpki_verdicts.proofs.Good.{all-lines}
+use Rattle.rpki_cli.specs.Answer.{Run}
 use Rattle.rpki_command.specs.Anchors.{Given, given_in, chains_in, IsFirstUnmade, MakeEach, MakesOf}
-use Rattle.rpki_command.specs.Answer.{Run}
 use Rattle.rpki_command.specs.Rta.{supply_of}
 use Rattle.rpki_command.specs.Verify.Sufficing.{SayTheSame, HaveTheirOwnLines}
 use Rattle.rpki_command.specs.Yes.{BeginsWithNoGranted, HoldsByList, IsRightNoRta, IsRightRta}

@@ -48,13 +48,13 @@ use Rattle.rpki_verdicts.specs.Listing.{is_listable, good_lines}
 use Rattle.rpki_verdicts.specs.Questions.{Question, says, cert_question, chain_questions}
 use Rattle.rpki_verdicts.specs.Questions.{last_of, signer_question, check_questions}
 use Rattle.rpki_verdicts.proofs.Good.{all-lines, each-good, only-good}
-use Rattle.rpki_command.specs.Answer.{Run}
-use Rattle.rpki_command.specs.Kinds.{OfKind}
-use Rattle.rpki_command.specs.Options.{read_mode}
+use Rattle.rpki_cli.specs.Answer.{Run}
+use Rattle.rpki_cli.specs.declared.words.Kind.{Kind}
+use Rattle.rpki_cli.specs.declared.words.Options.{Options}
+use Rattle.rpki_show.specs.Kinds.{OfKind}
+use Rattle.rpki_show.specs.Options.{read_mode}
 use Rattle.rpki_command.specs.Yes.{FilesOfCheck, PrintsYes, BeginsWithNoGood, HoldsByList}
 use Rattle.rpki_command.specs.Yes.{IsRightYes, IsRightNo}
-use Rattle.rpki_command.specs.declared.words.Kind.{Kind}
-use Rattle.rpki_command.specs.declared.words.Options.{Options}
 use Rattle.rpki_command.proofs.Right.{of-kind}
 use Rattle.rpki_command.specs.Verify.Sufficing.{SaysYesToo, SayTheSame, HaveTheirOwnLines}
 

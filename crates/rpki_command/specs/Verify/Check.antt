@@ -15,16 +15,16 @@ use Rattle.rpki_verdicts.specs.Attested.{AreChains, AreNotAllChains, IsRtaListin
 use Rattle.rpki_verdicts.specs.Lists.{AreCerts, AreNotAllCerts, IsListingOf}
 use Rattle.rpki_verdicts.specs.declared.list.ListingError.{ListingError}
 use Rattle.rpki_verdicts.specs.declared.list.ListingError.TheVariants as listing
+use Rattle.rpki_cli.specs.Answer.{Output, out_of_memory, malformed, issuer_malformed, shown}
+use Rattle.rpki_cli.specs.Refusal.{IsRefusal}
+use Rattle.rpki_cli.specs.declared.causes.Causes.TheVariants.{Omitted, Included}
+use Rattle.rpki_cli.specs.declared.words.Kind.{Kind}
+use Rattle.rpki_cli.specs.declared.words.Options.{Options}
+use Rattle.rpki_show.specs.Options.{read_mode}
 use Rattle.rpki_command.specs.Anchors.{given_in, chains_in}
-use Rattle.rpki_command.specs.Answer.{Output, out_of_memory, malformed, issuer_malformed, shown}
 use Rattle.rpki_command.specs.Check.{IsCheckedWith, issuer_refusal}
 use Rattle.rpki_command.specs.Walk.{IsWalkedWith}
-use Rattle.rpki_command.specs.Options.{read_mode}
-use Rattle.rpki_command.specs.Refusal.{IsRefusal}
 use Rattle.rpki_command.specs.Rta.{IsAttestedWith}
-use Rattle.rpki_command.specs.declared.contents.Causes.TheVariants.{Omitted, Included}
-use Rattle.rpki_command.specs.declared.words.Kind.{Kind}
-use Rattle.rpki_command.specs.declared.words.Options.{Options}
 
 -- What is said of files: of the object, the certificate of a trust anchor, and those of CAs, each
 -- under the one before. Digests are SHA-256, and signatures RSASSA-PKCS1-v1_5 with SHA-256 (RFC

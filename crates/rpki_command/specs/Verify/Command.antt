@@ -1,18 +1,19 @@
 -- The program with signatures: what each of its commands comes to.
 use Rattle.std.specs.Prelude.{ℕ, List, ◌∷◌, Option, None, Some}
 use Rattle.rpki_basics.specs.Moment.{Moment}
-use Rattle.rpki_command.specs.Answer.{Output, help, wrong_words, no_moment}
-use Rattle.rpki_command.specs.Command.{Task, Say, CheckFiles, Program, command_task}
-use Rattle.rpki_command.specs.declared.contents.Causes.TheVariants.{Included}
-use Rattle.rpki_command.specs.declared.words.Options.{Options}
-use Rattle.rpki_command.specs.Words.{others_in, files_of_anchors}
+use Rattle.rpki_cli.specs.Answer.{Output, help, wrong_words, no_moment}
+use Rattle.rpki_cli.specs.Command.{Task, Say, CheckFiles, Program}
+use Rattle.rpki_cli.specs.declared.causes.Causes.TheVariants.{Included}
+use Rattle.rpki_cli.specs.declared.words.Options.{Options}
+use Rattle.rpki_cli.specs.Words.{others_in, files_of_anchors}
+use Rattle.rpki_cli.specs.Verify.Words.{moment_at, verify_language}
+use Rattle.rpki_cli.specs.declared.verify.words.VerifyCommand.{VerifyCommand}
+use Rattle.rpki_cli.specs.declared.verify.words.VerifyCommand.TheVariants.{Help, Shared, Check}
+use Rattle.rpki_cli.specs.declared.verify.words.VerifyCommand.TheVariants.{Verdicts, Walk, Rta}
+use Rattle.rpki_cli.specs.declared.verify.words.VerifyCommand.TheVariants.{RtaVerdicts}
+use Rattle.rpki_command.specs.Command.{command_task}
 use Rattle.rpki_command.specs.Verify.Check.{VerifiedOf, ListedOf, VerifiedWalkOf, VerifiedRtaOf}
 use Rattle.rpki_command.specs.Verify.Check.{RtaListedOf}
-use Rattle.rpki_command.specs.Verify.Words.{moment_at, verify_language}
-use Rattle.rpki_command.specs.declared.verify.words.VerifyCommand.{VerifyCommand}
-use Rattle.rpki_command.specs.declared.verify.words.VerifyCommand.TheVariants.{Help, Shared, Check}
-use Rattle.rpki_command.specs.declared.verify.words.VerifyCommand.TheVariants.{Verdicts, Walk, Rta}
-use Rattle.rpki_command.specs.declared.verify.words.VerifyCommand.TheVariants.{RtaVerdicts}
 
 -- what a check of these files comes to at a moment; where there is none, to say that none is told
 abbrev pub check_task : List (List ℕ) → (Moment → List (List ℕ) → Output → Type 0) → Option Moment

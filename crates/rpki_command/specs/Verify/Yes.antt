@@ -7,17 +7,17 @@ use Rattle.rpki_rsa.specs.Signature.{is_rsa_signature}
 use Rattle.rpki_sigobj.specs.Object.{SignedForm}
 use Rattle.rpki_verdicts.specs.Attested.{AreNotAllChains, IsRtaListingOf}
 use Rattle.rpki_verdicts.specs.Lists.{AreNotAllCerts, IsListingOf}
+use Rattle.rpki_cli.specs.Answer.{Run, IsWhole}
+use Rattle.rpki_cli.specs.declared.words.Kind.{Kind}
+use Rattle.rpki_cli.specs.declared.words.Options.{Options}
+use Rattle.rpki_cli.specs.declared.words.Order.{Order}
+use Rattle.rpki_cli.specs.declared.verify.words.VerifyCommand.{VerifyCommand}
+use Rattle.rpki_cli.specs.declared.verify.words.VerifyCommand.TheVariants.{Check, Verdicts, Walk}
+use Rattle.rpki_cli.specs.declared.verify.words.VerifyCommand.TheVariants.{Rta, RtaVerdicts}
+use Rattle.rpki_cli.specs.declared.verify.words.When.{When}
+use Rattle.rpki_show.specs.Options.{read_mode}
 use Rattle.rpki_command.specs.Anchors.{given_in, chains_in}
-use Rattle.rpki_command.specs.Answer.{Run, IsWhole}
-use Rattle.rpki_command.specs.Options.{read_mode}
 use Rattle.rpki_command.specs.Yes.{FilesOfCheck}
-use Rattle.rpki_command.specs.declared.words.Kind.{Kind}
-use Rattle.rpki_command.specs.declared.words.Options.{Options}
-use Rattle.rpki_command.specs.declared.words.Order.{Order}
-use Rattle.rpki_command.specs.declared.verify.words.VerifyCommand.{VerifyCommand}
-use Rattle.rpki_command.specs.declared.verify.words.VerifyCommand.TheVariants.{Check, Verdicts, Walk, Rta}
-use Rattle.rpki_command.specs.declared.verify.words.VerifyCommand.TheVariants.{RtaVerdicts}
-use Rattle.rpki_command.specs.declared.verify.words.When.{When}
 
 -- the order to check the object in the file of this name, under the certificates in those of the
 -- others

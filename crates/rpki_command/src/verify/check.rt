@@ -3,23 +3,22 @@
 ghost use Rattle.std.specs.Prelude.{◌≡◌, ◌≤◌, ◌+◌, length};
 ghost use Rattle.rpki_certs.specs.Issuer.{octets_of};
 ghost use Rattle.rpki_certs.specs.declared.issuer.IssuerError.TheVariants as issuing;
+ghost use Rattle.rpki_cli.specs.Answer.{said};
+ghost use Rattle.rpki_cli.specs.Words.{texts, chain_in, files_of_anchors};
 ghost use Rattle.rpki_command.specs.Anchors.{given_in, chains_in};
-ghost use Rattle.rpki_command.specs.Answer.{said};
 ghost use Rattle.rpki_command.specs.Check.{issuer_refusal};
 ghost use Rattle.rpki_command.specs.Verify.Check.{VerifiedOf, ListedOf, IsListingSaid};
 ghost use Rattle.rpki_command.specs.Verify.Check.{VerifiedWalkOf, VerifiedRtaOf, RtaListedOf};
 ghost use Rattle.rpki_command.specs.Verify.Check.{IsRtaListAnswer};
-ghost use Rattle.rpki_command.specs.Words.{texts, chain_in, files_of_anchors};
 
 use crate::anchors::chains_of;
-use crate::answer::Answer;
 use crate::check::check_with;
-use crate::contents::{Causes, refusal};
-use crate::files::Work;
 use crate::rta::check_rta;
 use crate::walk::walk_with;
-use crate::words::{Kind, Options};
 use rpki_basics::Time;
+use rpki_cli::answer::Answer;
+use rpki_cli::words::{Kind, Options};
+use rpki_cli::{Causes, Work, refusal};
 use rpki_der::DecodeError;
 use rpki_rsa::Rsa;
 use rpki_verdicts::{ListingError, listing, rta_listing};

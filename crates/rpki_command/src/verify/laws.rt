@@ -22,39 +22,29 @@ ghost use Rattle.rpki_verdicts.specs.Attested.{AreChains, IsRtaListingOf, rta_qu
 ghost use Rattle.rpki_verdicts.specs.Lists.{AreCerts, IsListingOf};
 ghost use Rattle.rpki_verdicts.specs.Listing.{is_listable};
 ghost use Rattle.rpki_verdicts.specs.Questions.{Question, says, check_questions};
-ghost use Rattle.rpki_command.specs.Anchors.{Given, given_in, chains_in};
-ghost use Rattle.rpki_command.specs.Anchors.{IsFirstUnmade, MakeEach};
-ghost use Rattle.rpki_command.specs.Answer.{Run};
-ghost use Rattle.rpki_command.specs.Command.{AreTold, IsRunOf};
-ghost use Rattle.rpki_command.specs.Kinds.{OfKind};
-ghost use Rattle.rpki_command.specs.Options.{read_mode};
-ghost use Rattle.rpki_command.specs.Language.{IsAsked};
+ghost use Rattle.rpki_cli.specs.Answer.{Run};
+ghost use Rattle.rpki_cli.specs.Command.{AreTold, IsRunOf};
+ghost use Rattle.rpki_cli.specs.Language.{IsAsked};
+ghost use Rattle.rpki_cli.specs.Store.{Told};
+ghost use Rattle.rpki_cli.specs.Words.{chain_in, names_in, paths_in, files_of_anchors};
+ghost use Rattle.rpki_cli.specs.declared.words.Kind.{Kind};
+ghost use Rattle.rpki_cli.specs.declared.words.Kind.TheVariants.{Manifest};
+ghost use Rattle.rpki_cli.specs.declared.words.Options.{Options};
+ghost use Rattle.rpki_cli.specs.Verify.Words.{verify_language, moment_at};
+ghost use Rattle.rpki_cli.specs.declared.verify.words.When.{When};
+ghost use Rattle.rpki_show.specs.Kinds.{OfKind};
+ghost use Rattle.rpki_show.specs.Options.{read_mode};
+ghost use Rattle.rpki_command.specs.Anchors.{Given, given_in, chains_in, IsFirstUnmade, MakeEach};
 ghost use Rattle.rpki_command.specs.Rta.{supply_of};
-ghost use Rattle.rpki_command.specs.Store.{Told};
-ghost use Rattle.rpki_command.specs.Words.{chain_in, names_in, paths_in, files_of_anchors};
-ghost use Rattle.rpki_command.specs.Yes.{FilesOfCheck, in_order};
-ghost use Rattle.rpki_command.specs.Yes.{IsRightYes, IsRightNo, IsRightWalk, HoldsByList};
-ghost use Rattle.rpki_command.specs.Yes.{IsRightRta, IsRightNoRta};
+ghost use Rattle.rpki_command.specs.Yes.{FilesOfCheck, in_order, IsRightYes, IsRightNo};
+ghost use Rattle.rpki_command.specs.Yes.{IsRightWalk, HoldsByList, IsRightRta, IsRightNoRta};
 ghost use Rattle.rpki_command.specs.declared.anchors.Anchor.{Anchor};
 ghost use Rattle.rpki_command.specs.declared.anchors.AnchorError.{AnchorError};
-ghost use Rattle.rpki_command.specs.declared.words.Kind.{Kind};
-ghost use Rattle.rpki_command.specs.declared.words.Kind.TheVariants.{Manifest};
-ghost use Rattle.rpki_command.specs.declared.words.Options.{Options};
-ghost use Rattle.rpki_command.specs.declared.words.Order.{Order};
 ghost use Rattle.rpki_command.specs.Verify.Command.{verify_program};
 ghost use Rattle.rpki_command.specs.Verify.Sufficing.{SaysYesToo, SayTheSame, HaveTheirOwnLines};
-ghost use Rattle.rpki_command.specs.Verify.Words.{verify_language, moment_at};
 ghost use Rattle.rpki_command.specs.Verify.Yes.{verify_order, list_order, verify_walk, verify_rta};
 ghost use Rattle.rpki_command.specs.Verify.Yes.{IsRightList, IsRightNoList, rta_list_order};
 ghost use Rattle.rpki_command.specs.Verify.Yes.{IsRightRtaList, IsRightNoRtaList};
-ghost use Rattle.rpki_command.specs.declared.verify.words.VerifyCommand.{VerifyCommand};
-ghost use Rattle.rpki_command.specs.declared.verify.words.When.{When};
-
-/// No words ask for two things.
-pub fn words_ask_for_one_thing()
-    ensures { (words : List (List ℕ)) (a b : Order VerifyCommand) → IsAsked verify_language words a
-        → IsAsked verify_language words b → a ≡ b }
-{}
 
 /// Where a store tells the files of a check, a run of it that ends with status 0 says yes, and that
 /// rightly: FILE begins with a good object under the issuer that the certificates make, at this

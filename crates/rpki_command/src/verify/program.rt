@@ -1,25 +1,21 @@
 //! The program with signatures as a function.
 
 ghost use Rattle.std.specs.Prelude.{◌≡◌, ◌≤◌, ◌∷◌, ◌++◌, length};
-ghost use Rattle.rpki_command.specs.Answer.{said};
-ghost use Rattle.rpki_command.specs.Command.{order_task, HasRead, IsTaskAnswer};
-ghost use Rattle.rpki_command.specs.Command.{IsAnswer, HaveRead};
-ghost use Rattle.rpki_command.specs.Words.{texts, others_in, files_of_anchors};
+ghost use Rattle.rpki_cli.specs.Answer.{said};
+ghost use Rattle.rpki_cli.specs.Command.{order_task, HasRead, IsTaskAnswer, IsAnswer, HaveRead};
+ghost use Rattle.rpki_cli.specs.Words.{texts, others_in, files_of_anchors};
 ghost use Rattle.rpki_command.specs.Verify.Check.{VerifiedOf, VerifiedWalkOf, VerifiedRtaOf};
 ghost use Rattle.rpki_command.specs.Verify.Command.{verify_program, check_task};
 
-use crate::answer::Answer;
-use crate::contents::Causes;
-use crate::files::{answer_anchors, answer_files, answer_tail};
 use crate::program::answer_order;
-use crate::runs::Program;
-use crate::store::Store;
 use crate::verify::check::{
     CheckBySignatures, ListRtaSignatures, ListSignatures, RtaBySignatures, WalkBySignatures,
 };
-use crate::verify::words::{VerifyCommand, parse};
-use crate::words::{Kind, Options, Order};
 use rpki_basics::Time;
+use rpki_cli::answer::Answer;
+use rpki_cli::verify::words::{VerifyCommand, parse};
+use rpki_cli::words::{Kind, Options, Order};
+use rpki_cli::{Causes, Program, Store, answer_anchors, answer_files, answer_tail};
 use std::alloc::Global;
 
 /// The program with signatures, `rpki_verify`: it shows what the program with verdicts shows, checks

@@ -4,7 +4,7 @@ ghost use Rattle.std.specs.Prelude.{◌≡◌, MatchOption, bytes_eq, None, Some
 ghost use Rattle.std.specs.Map.{lookup};
 ghost use Rattle.rpki_program_tests.specs.Command.Given.{by_name};
 
-use rpki_command::{ReadLog, Store, StoreError};
+use rpki_cli::{ReadLog, Store, StoreError};
 use std::alloc::Global;
 
 /// A store with these files by name, and one that memory is not enough for, `large`.

@@ -5,8 +5,9 @@ use super::octets::{
     ANCHOR, AUTHORITY, CONTENT, CONTENT_AND_MORE, CONTENT_CUT, CONTENT_IN_BER, CUSTOMER_AS0,
     LARGEST_CUSTOMER, LARGEST_PROVIDER, ORIGIN, VERDICTS, WITHOUT_VERSION,
 };
+use rpki_cli::{Program, command};
+use rpki_command::Objects;
 use rpki_command::verify::Verify;
-use rpki_command::{Objects, Program, command};
 use rpki_der::Counted;
 use std::alloc::AllocError;
 use std::process::Abort;

@@ -1,5 +1,5 @@
 use Rattle.std.proofs.Common.{◌≡◌, ℕ, List, inr}
-use Rattle.rpki_command.specs.Answer.{said}
+use Rattle.rpki_cli.specs.Answer.{said}
 use Rattle.rpki_command.specs.Check.{CheckOf}
 use Rattle.rpki_command.proofs.Checking.{of-three}
 use Rattle.rpki_command.proofs.check.check_files.Goals as goal

@@ -5,8 +5,8 @@ use Rattle.rpki_certs.specs.Cert.{KeptCertificate}
 use Rattle.rpki_signed.specs.Check.{Checks}
 use Rattle.rpki_signed.specs.Exact.{IsExact}
 use Rattle.rpki_sigobj.specs.Signed.{cert_in}
+use Rattle.rpki_show.specs.Options.{read_mode}
 use Rattle.rpki_command.specs.Check.{passes}
-use Rattle.rpki_command.specs.Options.{read_mode}
 use Rattle.rpki_command.proofs.Checking.{first-more, exact-more}
 use Rattle.rpki_command.proofs.check.check_passed.Goals as goal
 

@@ -1,6 +1,6 @@
+use Rattle.rpki_cli.proofs.Orders.{asked-once}
+use Rattle.rpki_cli.proofs.Running.{read-once}
 use Rattle.rpki_command.specs.Command.{objects_program}
-use Rattle.rpki_command.proofs.Orders.{asked-once}
-use Rattle.rpki_command.proofs.Running.{read-once}
 use Rattle.rpki_command.proofs.program.answer.Goals as goal
 
 pub returns-in-Some-clause-reads : goal.returns-in-Some-clause-reads

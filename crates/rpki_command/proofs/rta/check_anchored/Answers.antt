@@ -1,7 +1,7 @@
 use Rattle.std.proofs.Common.{List, map, ap, ◌∙◌, subst}
 use Rattle.rpki_paths.specs.Anchor.{Supply}
 use Rattle.rpki_rta.specs.Refused.{supply_in}
-use Rattle.rpki_command.specs.Answer.{said}
+use Rattle.rpki_cli.specs.Answer.{said}
 use Rattle.rpki_command.specs.Rta.{AttestedUnder}
 use Rattle.rpki_command.proofs.rta.check_anchored.Goals as goal
 

@@ -1,7 +1,7 @@
 use Rattle.std.proofs.Common.{◌≡◌, ℕ, List, inr}
-use Rattle.rpki_command.specs.Answer.{said}
+use Rattle.rpki_cli.specs.Answer.{said}
+use Rattle.rpki_cli.specs.Words.{texts}
 use Rattle.rpki_command.specs.Rta.{RtaOf}
-use Rattle.rpki_command.specs.Words.{texts}
 use Rattle.rpki_command.proofs.Verified.Verifying.{of-files}
 use Rattle.rpki_command.proofs.rta.check_files.Goals as goal
 

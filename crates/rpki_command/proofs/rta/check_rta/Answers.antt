@@ -1,5 +1,5 @@
 use Rattle.std.proofs.Common.{List, map, Ok, Err, subst}
-use Rattle.rpki_command.specs.Answer.{said}
+use Rattle.rpki_cli.specs.Answer.{said}
 use Rattle.rpki_command.specs.Rta.{supply_of, AttestedUnder}
 use Rattle.rpki_command.specs.declared.anchors.Anchor.{Anchor}
 use Rattle.rpki_command.proofs.rta.check_rta.Goals as goal

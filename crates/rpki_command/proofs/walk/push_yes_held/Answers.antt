@@ -1,7 +1,8 @@
 use Rattle.std.proofs.Common.{List, map, ap, ◌∙◌, codes}
 use Rattle.rpki_signed.specs.Walk.{AtHand}
-use Rattle.rpki_command.specs.Texts.Walk.{held_text}
-use Rattle.rpki_command.proofs.Tail.{hand-of, grown}
+use Rattle.rpki_show.proofs.Grown.{grown}
+use Rattle.rpki_command.specs.Held.{held_text}
+use Rattle.rpki_command.proofs.Holding.{hand-of}
 use Rattle.rpki_command.proofs.walk.push_yes_held.Goals as goal
 
 pub returns : goal.returns

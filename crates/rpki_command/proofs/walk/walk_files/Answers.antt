@@ -1,7 +1,7 @@
 use Rattle.std.proofs.Common.{◌≡◌, ℕ, List, inr}
-use Rattle.rpki_command.specs.Answer.{said}
+use Rattle.rpki_cli.specs.Answer.{said}
+use Rattle.rpki_cli.specs.Words.{texts}
 use Rattle.rpki_command.specs.Walk.{WalkOf}
-use Rattle.rpki_command.specs.Words.{texts}
 use Rattle.rpki_command.proofs.Checking.{of-three}
 use Rattle.rpki_command.proofs.walk.walk_files.Goals as goal
 

@@ -1,7 +1,7 @@
 use Rattle.std.proofs.Common.{ℕ, List, Ok, Err, subst}
 use Rattle.rpki_certs.specs.Issuer.{MakesIssuer}
 use Rattle.rpki_signed.specs.Walk.{AtHand}
-use Rattle.rpki_command.specs.Answer.{said}
+use Rattle.rpki_cli.specs.Answer.{said}
 use Rattle.rpki_command.specs.Walk.{WalkedUnder}
 use Rattle.rpki_command.proofs.walk.walk_with.Goals as goal
 

@@ -1,6 +1,6 @@
 use Rattle.std.proofs.Common.{◌∙◌, refl, Some, None}
 use Rattle.std.proofs.lemmas.Slice.Zip.{Zip-more, either_empty_from_Zip}
-use Rattle.rpki_command.proofs.Tail.{hand-more, hand-all}
+use Rattle.rpki_command.proofs.Holding.{hand-more, hand-all}
 use Rattle.rpki_command.proofs.hand.Hand.files.Goals as goal
 
 pub loop-pair-preserved : goal.loop-pair-preserved

@@ -1,7 +1,7 @@
 use Rattle.std.proofs.Common.{◌≡◌}
 use Rattle.std.specs.Iterator.Adapters.{zip_first, zip_second}
 use Rattle.std.specs.Slice.Iter.{iter_rest}
-use Rattle.rpki_command.proofs.Tail.{with-left}
+use Rattle.rpki_command.proofs.Holding.{with-left}
 use Rattle.rpki_command.proofs.hand.Hand.files.Given as goal
 
 -- the files so far, and those that are left

@@ -1,7 +1,7 @@
 -- Who says it has run the words.
+use Rattle.rpki_cli.proofs.Orders.{asked-once}
+use Rattle.rpki_cli.proofs.Running.{run-said}
 use Rattle.rpki_command.specs.Command.{objects_program}
-use Rattle.rpki_command.proofs.Orders.{asked-once}
-use Rattle.rpki_command.proofs.Running.{run-said}
 use Rattle.rpki_command.proofs.program.ObjectsProgram.answer.Goals as goal
 
 pub returns-clause-run : goal.returns-clause-run

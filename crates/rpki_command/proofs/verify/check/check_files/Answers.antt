@@ -1,5 +1,5 @@
 use Rattle.std.proofs.Common.{◌≡◌, ℕ, List}
-use Rattle.rpki_command.specs.Answer.{said}
+use Rattle.rpki_cli.specs.Answer.{said}
 use Rattle.rpki_command.specs.Verify.Check.{VerifiedOf}
 use Rattle.rpki_command.proofs.Verified.Verifying.{of-files}
 use Rattle.rpki_command.proofs.verify.check.check_files.Goals as goal

@@ -1,6 +1,6 @@
 use Rattle.std.proofs.Common.{ℕ, List, ap, subst, ◌∙◌}
 use Rattle.rpki_verdicts.specs.Attested.{octets_of_chains}
-use Rattle.rpki_command.specs.Answer.{said}
+use Rattle.rpki_cli.specs.Answer.{said}
 use Rattle.rpki_command.specs.Verify.Check.{IsRtaListAnswer}
 use Rattle.rpki_command.proofs.Verified.RtaListed.{rta-listed-said}
 use Rattle.rpki_command.proofs.verify.check.list_rta.Goals as goal

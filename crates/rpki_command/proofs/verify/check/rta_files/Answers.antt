@@ -1,6 +1,6 @@
 use Rattle.std.proofs.Common.{◌≡◌, ℕ, List}
-use Rattle.rpki_command.specs.Answer.{said}
-use Rattle.rpki_command.specs.Words.{texts}
+use Rattle.rpki_cli.specs.Answer.{said}
+use Rattle.rpki_cli.specs.Words.{texts}
 use Rattle.rpki_command.specs.Verify.Check.{VerifiedRtaOf}
 use Rattle.rpki_command.proofs.Verified.Verifying.{of-first}
 use Rattle.rpki_command.proofs.verify.check.rta_files.Goals as goal

@@ -1,6 +1,6 @@
+use Rattle.rpki_cli.proofs.Running.{read-once}
+use Rattle.rpki_cli.proofs.Verified.Orders.{asked-once}
 use Rattle.rpki_command.specs.Verify.Command.{verify_program}
-use Rattle.rpki_command.proofs.Running.{read-once}
-use Rattle.rpki_command.proofs.Verified.Orders.{asked-once}
 use Rattle.rpki_command.proofs.verify.program.answer.Goals as goal
 
 pub returns-in-Some-clause-reads : goal.returns-in-Some-clause-reads

@@ -1,7 +1,7 @@
 -- Who says it has run the words.
+use Rattle.rpki_cli.proofs.Running.{run-said}
+use Rattle.rpki_cli.proofs.Verified.Orders.{asked-once}
 use Rattle.rpki_command.specs.Verify.Command.{verify_program}
-use Rattle.rpki_command.proofs.Running.{run-said}
-use Rattle.rpki_command.proofs.Verified.Orders.{asked-once}
 use Rattle.rpki_command.proofs.verify.program.VerifyProgram.answer.Goals as goal
 
 pub returns-clause-run : goal.returns-clause-run

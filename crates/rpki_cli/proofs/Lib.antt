@@ -1,0 +1,10 @@
+pub mod Anchored
+pub mod Asking
+pub mod Following
+pub mod Named
+pub mod Orders
+pub mod Reading
+pub mod Running
+pub mod Saying
+pub mod Tail
+pub mod Verified

@@ -1,0 +1,168 @@
+-- The command line of the program with signatures: what each command is written as.
+use Rattle.std.specs.Prelude.{◌≡◌, ℕ, List, [], ◌∷◌, ◌++◌, Bool, true, false, codes, Option, Some}
+use Rattle.std.specs.Prelude.{IsTrue, Contains}
+use Rattle.rpki_basics.specs.Moment.{Moment, IsMoment}
+use Rattle.rpki_cli.specs.Language.{Language}
+use Rattle.rpki_cli.specs.Words.{kind_word, word_if, word_relaxed, word_registered, word_wide}
+use Rattle.rpki_cli.specs.Words.{with_options, moment_word, command_words, files_of, word_with}
+use Rattle.rpki_cli.specs.Words.{others_in, are_anchors, files_of_anchors}
+use Rattle.rpki_cli.specs.declared.words.Command.{Command}
+use Rattle.rpki_cli.specs.declared.words.Command.TheVariants as commands
+use Rattle.rpki_cli.specs.declared.words.Kind.{Kind}
+use Rattle.rpki_cli.specs.declared.words.Options.{Options}
+use Rattle.rpki_cli.specs.declared.verify.words.VerifyCommand.{VerifyCommand}
+use Rattle.rpki_cli.specs.declared.verify.words.VerifyCommand.TheVariants.{Help, Shared, Check}
+use Rattle.rpki_cli.specs.declared.verify.words.VerifyCommand.TheVariants.{Verdicts, Walk, Rta}
+use Rattle.rpki_cli.specs.declared.verify.words.VerifyCommand.TheVariants.{RtaVerdicts}
+use Rattle.rpki_cli.specs.declared.verify.words.When.{When}
+use Rattle.rpki_cli.specs.declared.verify.words.When.TheVariants.{Now, At}
+
+-- the word of the moment of a check
+abbrev pub when_word : When → List ℕ
+when_word Now = codes "now"
+when_word (At moment) = moment_word moment
+
+-- a moment that is named is one of the calendar (RFC 5280, section 4.1.2.5)
+abbrev pub IsWhen : When → Type 0
+IsWhen Now = Unit {0}
+IsWhen (At moment) = IsMoment moment
+
+-- the moment of a check, where the clock tells this
+abbrev pub moment_at : Option Moment → When → Option Moment
+moment_at now Now = now
+moment_at now (At moment) = Some moment
+
+-- whether both programs have this command: it shows what a file holds
+abbrev pub is_shared : Command → Bool
+is_shared (commands.Content kind file) = true
+is_shared (commands.ContentRta file) = true
+is_shared (commands.Show kind file) = true
+is_shared (commands.ShowRta file) = true
+is_shared (commands.ShowTal file) = true
+is_shared other = false
+
+-- the word of attestations
+abbrev pub word_rta : List ℕ
+word_rta = codes "rta"
+
+-- The words of a command. What shows the lines of a file has the words that it has in the other
+-- program.
+abbrev pub verify_words : VerifyCommand → List (List ℕ)
+verify_words Help = codes "--help" ∷ []
+verify_words (Shared command) = command_words command
+verify_words (Check kind file moment anchor chain) =
+    codes "check" ∷ kind_word kind ∷ file ∷ when_word moment ∷ anchor ∷ chain
+verify_words (Verdicts file anchor chain) = codes "verdicts" ∷ file ∷ anchor ∷ chain
+verify_words (Walk file moment anchor tail) =
+    codes "walk" ∷ file ∷ when_word moment ∷ anchor ∷ tail
+verify_words (Rta file moment anchors) = codes "rta" ∷ file ∷ when_word moment ∷ anchors
+verify_words (RtaVerdicts file anchors) = codes "verdicts" ∷ word_rta ∷ file ∷ anchors
+
+-- the files that are named by a word, in the order of the words
+abbrev pub files_in : VerifyCommand → List (List ℕ)
+files_in Help = []
+files_in (Shared command) = files_of command
+files_in (Check kind file moment anchor chain) = file ∷ anchor ∷ chain
+files_in (Verdicts file anchor chain) = file ∷ anchor ∷ chain
+files_in (Walk file moment anchor tail) = file ∷ anchor ∷ others_in tail
+files_in (Rta file moment anchors) = file ∷ files_of_anchors anchors
+files_in (RtaVerdicts file anchors) = file ∷ files_of_anchors anchors
+
+-- A command is fit: the one of the other program, if it has one, shows a file, its moment, if it
+-- has one, is one of the calendar, the words of a walk have a `with` after the trust anchor, those
+-- of an attestation end with anchors, and the file of an object whose signatures are listed has
+-- another name than the word of attestations.
+abbrev pub IsFit : VerifyCommand → Type 0
+IsFit Help = Unit {0}
+IsFit (Shared command) = IsTrue (is_shared command)
+IsFit (Check kind file moment anchor chain) = IsWhen moment
+IsFit (Verdicts file anchor chain) = ¬ (file ≡ word_rta)
+IsFit (Walk file moment anchor tail) = IsWhen moment × Contains tail word_with
+IsFit (Rta file moment anchors) = IsWhen moment × IsTrue (are_anchors anchors)
+IsFit (RtaVerdicts file anchors) = IsTrue (are_anchors anchors)
+
+-- how the orders of the program with signatures are written
+abbrev pub verify_language : Language
+verify_language = record {
+  Command = VerifyCommand;
+  words = verify_words;
+  files = files_in;
+  IsFit = IsFit;
+}
+
+-- ---- commands by their first word
+
+-- words after the word `check` ask for no check of a signed object
+abbrev pub AskForNoCheck : List (List ℕ) → Type 0
+AskForNoCheck words = (kind : Kind) (file : List ℕ) (moment : When) (anchor : List ℕ)
+    (chain : List (List ℕ))
+    → words ≡ kind_word kind ∷ file ∷ when_word moment ∷ anchor ∷ chain → IsWhen moment → ⊥
+
+-- words after the word `verdicts` ask for no list of the good signatures of an object
+abbrev pub AskForNoObjectList : List (List ℕ) → Type 0
+AskForNoObjectList words = (file anchor : List ℕ) (chain : List (List ℕ))
+    → words ≡ file ∷ anchor ∷ chain → ¬ (file ≡ word_rta) → ⊥
+
+-- words after the words `verdicts` and `rta` ask for no list of those of an attestation
+abbrev pub AskForNoRtaList : List (List ℕ) → Type 0
+AskForNoRtaList words = (file : List ℕ) (anchors : List (List ℕ)) → words ≡ file ∷ anchors
+    → IsTrue (are_anchors anchors) → ⊥
+
+-- words after the word `verdicts` ask for no list of good signatures
+pub record AskForNoList (words : List (List ℕ)) : Type 0 where
+  pub object : AskForNoObjectList words
+  pub rta : (rest : List (List ℕ)) → words ≡ word_rta ∷ rest → AskForNoRtaList rest
+
+-- words after the word `walk` ask for no walk
+abbrev pub AskForNoWalk : List (List ℕ) → Type 0
+AskForNoWalk words = (file : List ℕ) (moment : When) (anchor : List ℕ) (tail : List (List ℕ))
+    → words ≡ file ∷ when_word moment ∷ anchor ∷ tail → IsWhen moment → Contains tail word_with → ⊥
+
+-- words after the word `rta` ask for no check of an attestation
+abbrev pub AskForNoRta : List (List ℕ) → Type 0
+AskForNoRta words = (file : List ℕ) (moment : When) (anchors : List (List ℕ))
+    → words ≡ file ∷ when_word moment ∷ anchors → IsWhen moment → IsTrue (are_anchors anchors) → ⊥
+
+-- whether a command is a walk, or checks an attestation
+abbrev pub has_tail : VerifyCommand → Bool
+has_tail (Walk file moment anchor tail) = true
+has_tail (Rta file moment anchors) = true
+has_tail other = false
+
+-- the words ask for nothing but, perhaps, a walk or a check of an attestation
+abbrev pub AskForNothingElse : List (List ℕ) → Type 0
+AskForNothingElse words = (c : VerifyCommand) → has_tail c ≡ false → words ≡ verify_words c
+    → IsFit c → ⊥
+
+-- they do not ask to show what a file holds
+abbrev pub AskForNothingShared : List (List ℕ) → Type 0
+AskForNothingShared words = (command : Command) → words ≡ command_words command
+    → IsTrue (is_shared command) → ⊥
+
+-- they ask to show what a file holds, and this is the command
+abbrev pub IsSharedBy : List (List ℕ) → VerifyCommand → Type 0
+IsSharedBy words (Shared command) =
+    (words ≡ command_words command) × IsTrue (is_shared command)
+IsSharedBy words other = ⊥
+
+-- ---- options
+
+-- A word is taken from the front of words where it stands there, and these are left.
+pub record IsTaken (word : List ℕ) (words : List (List ℕ)) (taken : Bool) (left : List (List ℕ))
+    : Type 0 where
+  pub whole : words ≡ word_if taken word ++ left
+  pub stood : taken ≡ false → (rest : List (List ℕ)) → words ≡ word ∷ rest → ⊥
+
+-- words that begin with no option
+pub record IsPlain (words : List (List ℕ)) : Type 0 where
+  pub relaxed : (rest : List (List ℕ)) → words ≡ word_relaxed ∷ rest → ⊥
+  pub registered : (rest : List (List ℕ)) → words ≡ word_registered ∷ rest → ⊥
+  pub wide : (rest : List (List ℕ)) → words ≡ word_wide ∷ rest → ⊥
+
+-- The words are options and a rest; and where they are options and words that begin with none,
+-- these are they.
+pub record IsOptioned (words : List (List ℕ)) (options : Options) (rest : List (List ℕ))
+    : Type 0 where
+  pub whole : words ≡ with_options options rest
+  pub only : (o : Options) (plain : List (List ℕ)) → IsPlain plain
+      → words ≡ with_options o plain → (o ≡ options) × (plain ≡ rest)

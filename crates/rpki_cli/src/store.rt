@@ -1,0 +1,151 @@
+//! Where the program's files come from.
+
+ghost use Rattle.std.specs.Prelude.{◌≡◌, ◌∷◌, ◌++◌, ℕ, List, [], Option, None, Some};
+ghost use Rattle.rpki_cli.specs.Store.{IsRead, AreRead, store_error_text, unread_text};
+ghost use Rattle.rpki_cli.specs.Words.{texts};
+
+use crate::answer::OUT_OF_MEMORY;
+use crate::read_log::ReadLog;
+use std::alloc::Global;
+use std::error::Error;
+use std::marker::Model;
+use std::rt::Files;
+use std::{fmt, fs, io};
+
+/// That a file can't be read.
+const UNREADABLE: &str = "unreadable file";
+
+/// Why a read of a file failed.
+#[derive(Clone, Copy, Debug, PartialEq, Eq)]
+pub enum StoreError {
+    /// It can't be read.
+    Unreadable,
+    /// No memory was to be had.
+    Memory,
+}
+
+impl fmt::Display for StoreError {
+    ghost output = { λ error. Some (store_error_text error) };
+
+    fn fmt<W: fmt::Write>(&self, f: &mut fmt::Formatter<W>) -> fmt::Result {
+        match self {
+            StoreError::Unreadable => f.write_str(UNREADABLE),
+            StoreError::Memory => f.write_str(OUT_OF_MEMORY),
+        }
+    }
+}
+
+impl Error for StoreError {}
+
+/// Files by name.
+pub trait Store {
+    // What it tells of the file of a name: nothing, or that it can't be read, or its octets.
+    ghost told: { Self → List ℕ → Option (Option (List ℕ)) };
+
+    // The names of the files that it was ever asked for, in the order of asking, each as often as
+    // it was asked for.
+    ghost reads: { Self → List (List ℕ) };
+
+    /// The octets of the file with this name. Refuses by `Unreadable` where it can't be read, or by
+    /// `Memory`.
+    fn read(&mut self, alloc: Global, name: &str) -> Result<Vec<u8>, StoreError>
+        ensures answer { IsRead (told self.old name.now) result }
+        ensures same { told self.new ≡ told self.old }
+        ensures noted { reads self.new ≡ reads self.old ++ name.now ∷ [] };
+}
+
+/// Why a read of several files failed.
+#[derive(Debug, Drop)]
+pub enum Unread<'a> {
+    /// This one can't be read.
+    Unreadable(&'a str),
+    /// No memory was to be had.
+    Memory,
+}
+
+impl fmt::Display for Unread<'_> {
+    ghost output = { λ unread. Some (unread_text unread) };
+
+    fn fmt<W: fmt::Write>(&self, f: &mut fmt::Formatter<W>) -> fmt::Result {
+        match self {
+            Unread::Unreadable(name) => write!(f, "{UNREADABLE} {name}"),
+            Unread::Memory => f.write_str(OUT_OF_MEMORY),
+        }
+    }
+}
+
+impl Error for Unread<'_> {}
+
+/// The octets of the files with these names, which are read in their order, once each. The first
+/// that can't be read is answered by its name, by `Unreadable`, and none is read after it. Where
+/// memory runs out, the answer is `Memory`: the files up to one of them were read, this one too,
+/// and none after one that the store tells to be unreadable.
+pub fn read_all<'a, S: Store>(
+    alloc: Global,
+    names: &[&'a str],
+    store: &mut S,
+) -> Result<Vec<Vec<u8>>, Unread<'a>>
+    ensures answer { AreRead (S.told store.old) (texts names.now)
+        (S.reads store.old) (S.reads store.new) result }
+    ensures same { S.told store.new ≡ S.told store.old }
+{
+    let mut files = Vec::new(alloc);
+    for name in names {
+        match store.read(alloc, name) {
+            Ok(octets) => {
+                if files.push(octets).is_err() {
+                    return Err(Unread::Memory);
+                }
+            }
+            Err(StoreError::Unreadable) => return Err(Unread::Unreadable(name)),
+            Err(StoreError::Memory) => return Err(Unread::Memory),
+        }
+    }
+    Ok(files)
+}
+
+/// The files of the system.
+#[derive(Drop)]
+pub struct SystemFiles<'a, R> {
+    runtime: &'a R,
+    reads: ReadLog,
+}
+
+impl<'a, R> Model for SystemFiles<'a, R> {
+    ghost use Rattle.std.specs.Prelude.{ℕ, List};
+
+    // The names of the files that were asked for, in the order of asking.
+    ghost Value = { List (List ℕ) };
+
+    ghost view = { λ d. d.reads.names };
+}
+
+impl<'a, R> SystemFiles<'a, R> {
+    /// The files that this runtime reaches. This store was asked for none yet.
+    pub fn new(runtime: &'a R) -> SystemFiles<'a, R>
+        ensures { result ≡ [] }
+    {
+        SystemFiles {
+            runtime,
+            reads: ReadLog::empty(),
+        }
+    }
+}
+
+impl<R: Files + AllocGlobal> Store for SystemFiles<'_, R> {
+    // Of the files of the system nothing is told.
+    ghost told = { λ _ _. None };
+
+    ghost reads = { λ d. d };
+
+    fn read(&mut self, _alloc: Global, name: &str) -> Result<Vec<u8>, StoreError> {
+        self.reads = self.reads.and(name);
+        match fs::read(self.runtime, name) {
+            Ok(octets) => Ok(octets),
+            Err(e) => Err(match e.kind() {
+                io::ErrorKind::OutOfMemory => StoreError::Memory,
+                _ => StoreError::Unreadable,
+            }),
+        }
+    }
+}

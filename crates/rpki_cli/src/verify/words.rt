@@ -1,0 +1,352 @@
+//! What the program with signatures is asked.
+
+ghost use Rattle.std.specs.Prelude.{◌≡◌, ◌∷◌, MatchOption, codes};
+ghost use Rattle.rpki_cli.specs.Language.{IsAsked, AskForNothing};
+ghost use Rattle.rpki_cli.specs.Words.{texts, are_named, word_relaxed, word_registered, word_wide};
+ghost use Rattle.rpki_cli.specs.Verify.Words.{moment_at, when_word, IsWhen, verify_words, files_in};
+ghost use Rattle.rpki_cli.specs.Verify.Words.{is_shared, IsFit, verify_language, AskForNoCheck};
+ghost use Rattle.rpki_cli.specs.Verify.Words.{AskForNoList, AskForNoWalk, AskForNoRta};
+ghost use Rattle.rpki_cli.specs.Verify.Words.{AskForNoRtaList, word_rta, AskForNothingElse};
+ghost use Rattle.rpki_cli.specs.Verify.Words.{AskForNothingShared, IsSharedBy, IsTaken, IsOptioned};
+ghost use Rattle.rpki_cli.specs.declared.verify.words.VerifyCommand.{VerifyCommand};
+ghost use Rattle.rpki_cli.specs.declared.verify.words.When.{When};
+
+use crate::anchor_words::{are_anchors, are_anchors_named};
+use crate::pairs::{are_others_named, has_with};
+use crate::words::{
+    Command, Kind, Options, Order, Word, Words, all_named, each_named, kind_of, moment_of,
+    parse_command,
+};
+use rpki_basics::Time;
+
+/// The moment of a check.
+#[derive(Clone, Copy, Debug)]
+pub enum When {
+    /// The one that the clock tells.
+    Now,
+    /// This one.
+    At(Time),
+}
+
+impl When {
+    /// The moment, where the clock tells this.
+    pub fn moment(self, now: Option<Time>) -> Option<Time>
+        ensures { result ≡ moment_at now self }
+    {
+        match self {
+            When::Now => now,
+            When::At(moment) => Some(moment),
+        }
+    }
+}
+
+/// What is to be done.
+#[derive(Drop)]
+pub enum VerifyCommand<'a> {
+    /// To say how the program is called.
+    Help,
+    /// To show what a file holds.
+    Shared(Command<'a>),
+    /// To check a signed object under an issuer, which is the last certificate of a chain that
+    /// begins with a trust anchor.
+    Check {
+        kind: Kind,
+        file: Word<'a>,
+        moment: When,
+        anchor: Word<'a>,
+        chain: Words<'a>,
+    },
+    /// To list the good ones of the signatures that a check of a signed object asks about, under
+    /// such a chain.
+    Verdicts {
+        file: Word<'a>,
+        anchor: Word<'a>,
+        chain: Words<'a>,
+    },
+    /// To check a manifest under such a chain, and to say which of its entries files at hand hold.
+    /// The words after the trust anchor are the certificates of CAs, `with`, and pairs NAME=PATH.
+    Walk {
+        file: Word<'a>,
+        moment: When,
+        anchor: Word<'a>,
+        tail: Words<'a>,
+    },
+    /// To check a Resource Tagged Attestation under these anchors: locators, tal=FILE, and CAs,
+    /// ca=FILE[:FILE ..], each of which is the last certificate of a chain that begins with a trust
+    /// anchor.
+    Rta {
+        file: Word<'a>,
+        moment: When,
+        anchors: Words<'a>,
+    },
+    /// To list the good ones of the signatures that a check of an attestation may ask about, under
+    /// such anchors.
+    RtaVerdicts {
+        file: Word<'a>,
+        anchors: Words<'a>,
+    },
+}
+
+/// What the words ask for, if they ask for anything.
+#[tactic(auto, using(crate::proofs::Verified::Orders::by_commands))]
+pub fn parse<'a>(words: &'a [&'a str]) -> Option<Order<VerifyCommand<'a>>>
+    ensures { MatchOption result (AskForNothing verify_language (texts words.now))
+        (IsAsked verify_language (texts words.now)) }
+{
+    let (options, rest) = take_options(words);
+    let command = parse_verify(rest)?;
+    if is_each_named(&command) {
+        Some(Order { options, command })
+    } else {
+        None
+    }
+}
+
+/// Whether each file has a name.
+fn is_each_named(command: &VerifyCommand<'_>) -> bool
+    ensures { result ≡ are_named (files_in command.now) }
+{
+    match command {
+        VerifyCommand::Help => true,
+        VerifyCommand::Shared(command) => each_named(command),
+        VerifyCommand::Check {
+            file,
+            anchor,
+            chain,
+            ..
+        } => are_files_named(file, anchor, chain),
+        VerifyCommand::Verdicts {
+            file,
+            anchor,
+            chain,
+        } => are_files_named(file, anchor, chain),
+        VerifyCommand::Walk {
+            file,
+            anchor,
+            tail,
+            ..
+        } => !file.0.is_empty() && !anchor.0.is_empty() && are_others_named(tail.0),
+        VerifyCommand::Rta { file, anchors, .. } | VerifyCommand::RtaVerdicts { file, anchors } => {
+            !file.0.is_empty() && are_anchors_named(anchors.0)
+        }
+    }
+}
+
+/// Whether each of these files has a name.
+fn are_files_named(file: &Word<'_>, anchor: &Word<'_>, chain: &Words<'_>) -> bool
+    ensures { result ≡ are_named (file.now ∷ anchor.now ∷ chain.now) }
+{
+    !file.0.is_empty() && !anchor.0.is_empty() && all_named(chain.0)
+}
+
+/// The options that words begin with, and the words after them.
+#[tactic(auto, using(crate::proofs::Verified::Optioned::cut_by_words))]
+fn take_options<'a>(words: &'a [&'a str]) -> (Options, &'a [&'a str])
+    ensures { IsOptioned (texts words.now) result.0 (texts result.1.now) }
+{
+    let (relaxed, rest) = take_relaxed(words);
+    let (registered, rest) = take_registered(rest);
+    let (wide, rest) = take_wide(rest);
+    let options = Options {
+        relaxed,
+        registered,
+        wide,
+    };
+    (options, rest)
+}
+
+/// Whether words begin with the first option, and the words after it.
+fn take_relaxed<'a>(words: &'a [&'a str]) -> (bool, &'a [&'a str])
+    ensures { IsTaken word_relaxed (texts words.now) result.0 (texts result.1.now) }
+{
+    match words {
+        ["--relaxed", rest @ ..] => (true, rest),
+        _ => (false, words),
+    }
+}
+
+/// Whether words begin with the second option, and the words after it.
+fn take_registered<'a>(words: &'a [&'a str]) -> (bool, &'a [&'a str])
+    ensures { IsTaken word_registered (texts words.now) result.0 (texts result.1.now) }
+{
+    match words {
+        ["--registered", rest @ ..] => (true, rest),
+        _ => (false, words),
+    }
+}
+
+/// Whether words begin with the third option, and the words after it.
+fn take_wide<'a>(words: &'a [&'a str]) -> (bool, &'a [&'a str])
+    ensures { IsTaken word_wide (texts words.now) result.0 (texts result.1.now) }
+{
+    match words {
+        ["--wide", rest @ ..] => (true, rest),
+        _ => (false, words),
+    }
+}
+
+/// The command of words without options.
+#[tactic(auto, using(crate::proofs::Verified::Orders::by_tail))]
+fn parse_verify<'a>(words: &'a [&'a str]) -> Option<VerifyCommand<'a>>
+    ensures { MatchOption result
+        ((c : VerifyCommand) → texts words.now ≡ verify_words c → IsFit c → ⊥)
+        (λ c. (texts words.now ≡ verify_words c) × IsFit c) }
+{
+    match words {
+        ["walk", rest @ ..] => parse_walk(rest),
+        ["rta", rest @ ..] => parse_rta(rest),
+        _ => parse_other(words),
+    }
+}
+
+/// The command of words that ask for no walk and no check of an attestation.
+#[tactic(auto, using(crate::proofs::Verified::Orders::by_first_word))]
+fn parse_other<'a>(words: &'a [&'a str]) -> Option<VerifyCommand<'a>>
+    ensures { MatchOption result (AskForNothingElse (texts words.now))
+        (λ c. (texts words.now ≡ verify_words c) × IsFit c) }
+{
+    match words {
+        ["check", rest @ ..] => parse_check(rest),
+        ["verdicts", rest @ ..] => parse_verdicts(rest),
+        ["--help"] => Some(VerifyCommand::Help),
+        _ => parse_shared(words),
+    }
+}
+
+/// The check of a signed object that these words ask for, after the first.
+fn parse_check<'a>(words: &'a [&'a str]) -> Option<VerifyCommand<'a>>
+    ensures { MatchOption result (AskForNoCheck (texts words.now))
+        (λ c. (codes "check" ∷ texts words.now ≡ verify_words c) × IsFit c) }
+{
+    match words {
+        [kind, file, moment, anchor, chain @ ..] => Some(VerifyCommand::Check {
+            kind: kind_of(kind)?,
+            moment: when_of(moment)?,
+            file: Word(file),
+            anchor: Word(anchor),
+            chain: Words(chain),
+        }),
+        _ => None,
+    }
+}
+
+/// The list of good signatures that these words ask for, after the first.
+#[tactic(auto, using(crate::proofs::Verified::Orders::by_second_word))]
+fn parse_verdicts<'a>(words: &'a [&'a str]) -> Option<VerifyCommand<'a>>
+    ensures { MatchOption result (AskForNoList (texts words.now))
+        (λ c. (codes "verdicts" ∷ texts words.now ≡ verify_words c) × IsFit c) }
+{
+    match words {
+        ["rta", rest @ ..] => parse_rta_verdicts(rest),
+        [file, anchor, chain @ ..] => Some(VerifyCommand::Verdicts {
+            file: Word(file),
+            anchor: Word(anchor),
+            chain: Words(chain),
+        }),
+        _ => None,
+    }
+}
+
+/// The list of the good signatures of an attestation that these words ask for, after the first two.
+fn parse_rta_verdicts<'a>(words: &'a [&'a str]) -> Option<VerifyCommand<'a>>
+    ensures { MatchOption result (AskForNoRtaList (texts words.now))
+        (λ c. (codes "verdicts" ∷ word_rta ∷ texts words.now ≡ verify_words c) × IsFit c) }
+{
+    match words {
+        [file, anchors @ ..] => {
+            if are_anchors(anchors) {
+                Some(VerifyCommand::RtaVerdicts {
+                    file: Word(file),
+                    anchors: Words(anchors),
+                })
+            } else {
+                None
+            }
+        }
+        _ => None,
+    }
+}
+
+/// The walk that these words ask for, after the first.
+fn parse_walk<'a>(words: &'a [&'a str]) -> Option<VerifyCommand<'a>>
+    ensures { MatchOption result (AskForNoWalk (texts words.now))
+        (λ c. (codes "walk" ∷ texts words.now ≡ verify_words c) × IsFit c) }
+{
+    match words {
+        [file, moment, anchor, tail @ ..] => {
+            let moment = when_of(moment)?;
+            if has_with(tail) {
+                Some(VerifyCommand::Walk {
+                    file: Word(file),
+                    moment,
+                    anchor: Word(anchor),
+                    tail: Words(tail),
+                })
+            } else {
+                None
+            }
+        }
+        _ => None,
+    }
+}
+
+/// The check of an attestation that these words ask for, after the first.
+fn parse_rta<'a>(words: &'a [&'a str]) -> Option<VerifyCommand<'a>>
+    ensures { MatchOption result (AskForNoRta (texts words.now))
+        (λ c. (codes "rta" ∷ texts words.now ≡ verify_words c) × IsFit c) }
+{
+    match words {
+        [file, moment, anchors @ ..] => {
+            let moment = when_of(moment)?;
+            if are_anchors(anchors) {
+                Some(VerifyCommand::Rta {
+                    file: Word(file),
+                    moment,
+                    anchors: Words(anchors),
+                })
+            } else {
+                None
+            }
+        }
+        _ => None,
+    }
+}
+
+/// The command of words that ask to show what a file holds.
+#[tactic(auto, using(crate::proofs::Verified::Orders::by_shared))]
+fn parse_shared<'a>(words: &'a [&'a str]) -> Option<VerifyCommand<'a>>
+    ensures { MatchOption result (AskForNothingShared (texts words.now))
+        (IsSharedBy (texts words.now)) }
+{
+    let command = parse_command(words)?;
+    if is_shared(&command) {
+        Some(VerifyCommand::Shared(command))
+    } else {
+        None
+    }
+}
+
+/// Whether a command shows what a file holds.
+fn is_shared(command: &Command<'_>) -> bool
+    ensures { result ≡ is_shared command.now }
+{
+    match command {
+        Command::Content { .. } | Command::ContentRta { .. } => true,
+        Command::Show { .. } | Command::ShowRta { .. } | Command::ShowTal { .. } => true,
+        _ => false,
+    }
+}
+
+/// The moment that a word names, if it names one.
+fn when_of(word: &str) -> Option<When>
+    ensures { MatchOption result ((w : When) → word.now ≡ when_word w → IsWhen w → ⊥)
+        (λ w. (word.now ≡ when_word w) × IsWhen w) }
+{
+    match word {
+        "now" => Some(When::Now),
+        _ => match moment_of(word) {
+            None => None,
+            Some(moment) => Some(When::At(moment)),
+        },
+    }
+}

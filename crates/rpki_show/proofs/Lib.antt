@@ -1,0 +1,4 @@
+pub mod Grown
+pub mod Located
+pub mod Printed
+pub mod Shown

@@ -1,0 +1,9 @@
+pub mod Attestation
+pub mod Contents
+pub mod Grows
+pub mod Ia5
+pub mod Kinds
+pub mod Locator
+pub mod Objects
+pub mod Options
+pub mod Texts

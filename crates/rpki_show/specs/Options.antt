@@ -1,0 +1,9 @@
+-- What the options ask of objects.
+use Rattle.std.specs.Prelude.{not}
+use Rattle.rpki_der.specs.declared.mode.Mode.{Mode}
+use Rattle.rpki_sigobj.specs.Object.{mode_of}
+use Rattle.rpki_cli.specs.declared.words.Options.{Options}
+
+-- The mode that an object is read in: DER, or BER with `--relaxed`.
+abbrev pub read_mode : Options → Mode
+read_mode o = mode_of (not o.relaxed)

@@ -1,0 +1,124 @@
+//! The table of the kinds, and what each kind brings.
+
+ghost use Rattle.std.specs.Prelude.{◌≡◌, ℕ, List};
+ghost use Rattle.rpki_sigobj.specs.Signed.Kind as signed;
+ghost use Rattle.rpki_cli.specs.Answer.{Output, said};
+ghost use Rattle.rpki_cli.specs.Options.{provider_limit, manifest_rule};
+ghost use Rattle.rpki_cli.specs.declared.words.Options.{Options};
+ghost use Rattle.rpki_show.specs.Grows.{Grows};
+ghost use Rattle.rpki_show.specs.Kinds.{OfKind};
+ghost use Rattle.rpki_show.specs.Texts.Aspa.{aspa_text};
+ghost use Rattle.rpki_show.specs.Texts.Manifest.{manifest_text};
+ghost use Rattle.rpki_show.specs.Texts.Roa.{roa_text};
+ghost use Rattle.rpki_show.specs.Texts.Rsc.{rsc_text};
+
+use crate::texts::aspa::push_aspa;
+use crate::texts::manifest::push_manifest;
+use crate::texts::roa::push_roa;
+use crate::texts::rsc::push_rsc;
+use rpki_basics::{ManifestRule, ProviderLimit};
+use rpki_cli::answer::Answer;
+use rpki_cli::words::{Kind, Options};
+use rpki_files::{ManifestContent, ResourceSignedChecklist};
+use rpki_routes::{AsProviderAttestation, RouteOriginAttestation};
+use rpki_sigobj::Content;
+use std::alloc::{AllocError, Global};
+
+/// A content that has lines.
+pub trait Lines: Content {
+    // How it is read with these options.
+    ghost rule_of: { Options → Self.Rule };
+
+    // Its lines.
+    ghost lines: { Self → List ℕ };
+
+    /// How it is read with these options.
+    fn rule(options: Options) -> Self::Rule
+        ensures { result ≡ rule_of options };
+
+    /// Appends its lines. Where memory runs out, nothing is promised of the text.
+    fn push(&self, text: &mut String) -> Result<(), AllocError>
+        ensures { Grows result text.old text.new (lines self.now) };
+}
+
+/// What is answered in the same way for each kind.
+pub trait Action: Drop {
+    // What is said, with these options, by the row of a kind: what is asked of its objects, the
+    // form of its contents, and their lines.
+    ghost says: { Options → (X : Type 0) → signed.ObjectKind X → (List ℕ → X → Type 0)
+        → (X → List ℕ) → Self → Output → Type 0 };
+
+    /// Answers for the kind with such contents.
+    fn answer<'a, C: Lines>(self, alloc: Global, options: Options) -> Answer<'a>
+        ensures { says options C C.kind (C.form (C.rule_of options)) C.lines self (said result) };
+}
+
+/// Answers by the action for a kind: a row for each kind.
+pub fn answer_for<'a, A: Action>(
+    alloc: Global,
+    options: Options,
+    kind: Kind,
+    action: A,
+) -> Answer<'a>
+    ensures { OfKind options kind (λ X asked form text.
+        A.says options X asked form text action (said result)) }
+{
+    match kind {
+        Kind::Aspa => action.answer::<AsProviderAttestation>(alloc, options),
+        Kind::Manifest => action.answer::<ManifestContent>(alloc, options),
+        Kind::Roa => action.answer::<RouteOriginAttestation>(alloc, options),
+        Kind::Rsc => action.answer::<ResourceSignedChecklist>(alloc, options),
+    }
+}
+
+impl Lines for AsProviderAttestation {
+    ghost rule_of = { provider_limit };
+
+    ghost lines = { aspa_text };
+
+    fn rule(options: Options) -> ProviderLimit {
+        options.provider_limit()
+    }
+
+    fn push(&self, text: &mut String) -> Result<(), AllocError> {
+        push_aspa(text, self)
+    }
+}
+
+impl Lines for ManifestContent {
+    ghost rule_of = { manifest_rule };
+
+    ghost lines = { manifest_text };
+
+    fn rule(options: Options) -> ManifestRule {
+        options.manifest_rule()
+    }
+
+    fn push(&self, text: &mut String) -> Result<(), AllocError> {
+        push_manifest(text, self)
+    }
+}
+
+impl Lines for RouteOriginAttestation {
+    ghost rule_of = { λ _. tt };
+
+    ghost lines = { roa_text };
+
+    fn rule(_options: Options) {}
+
+    fn push(&self, text: &mut String) -> Result<(), AllocError> {
+        push_roa(text, self)
+    }
+}
+
+impl Lines for ResourceSignedChecklist {
+    ghost rule_of = { λ _. tt };
+
+    ghost lines = { rsc_text };
+
+    fn rule(_options: Options) {}
+
+    fn push(&self, text: &mut String) -> Result<(), AllocError> {
+        push_rsc(text, self)
+    }
+}

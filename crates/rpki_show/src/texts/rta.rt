@@ -1,0 +1,69 @@
+//! The lines of an attestation.
+
+ghost use Rattle.std.specs.List.{flat_map};
+ghost use Rattle.rpki_multi.specs.Attestation.{whole_of};
+ghost use Rattle.rpki_multi.specs.Multi.{multi_of};
+ghost use Rattle.rpki_show.specs.Grows.{Grows};
+ghost use Rattle.rpki_show.specs.Texts.Rta.{attestation_text, subject_line, digest_line};
+ghost use Rattle.rpki_show.specs.Texts.Rta.{carried_text, rta_text};
+
+use crate::texts::blocks::{push_numbers, push_v4, push_v6};
+use crate::texts::lines::push_each;
+use rpki_basics::KeyIdentifier;
+use rpki_der::LowerHex;
+use rpki_multi::{MultiSignedObject, Rta};
+use rpki_tagged::ResourceTaggedAttestation;
+use std::alloc::AllocError;
+use std::fmt::Write;
+
+/// Appends the lines of the content of an attestation. Refuses where memory runs out.
+pub fn push_attestation(
+    text: &mut String,
+    content: &ResourceTaggedAttestation,
+) -> Result<(), AllocError>
+    ensures { Grows result text.old text.new (attestation_text content.now) }
+{
+    write!(text, "rta\n")?;
+    push_keys(text, content.subject_keys())?;
+    push_numbers(text, content.as_resources())?;
+    push_v4(text, content.v4_resources())?;
+    push_v6(text, content.v6_resources())?;
+    push_digest(text, content.message_digest().as_slice())
+}
+
+/// Appends a line for each key that is to sign.
+fn push_keys(text: &mut String, keys: &[KeyIdentifier]) -> Result<(), AllocError>
+    ensures { Grows result text.old text.new (flat_map subject_line keys.now) }
+{
+    push_each(text, keys.iter(), |text, key| write!(text, "key {key}\n"))
+}
+
+/// Appends the line of the digest of the document.
+fn push_digest(text: &mut String, digest: &[u8]) -> Result<(), AllocError>
+    ensures { Grows result text.old text.new (digest_line digest.now) }
+{
+    let digest = LowerHex(digest);
+    write!(text, "digest {digest}\n")
+}
+
+/// Appends the lines of an attestation. Refuses where memory runs out.
+pub fn push_rta(text: &mut String, rta: &Rta) -> Result<(), AllocError>
+    ensures { Grows result text.old text.new (rta_text (whole_of rta.now)) }
+{
+    push_attestation(text, rta.content())?;
+    push_carried(text, rta.signed())
+}
+
+/// Appends the lines that say how many certificates and revocation lists are carried, and how many
+/// have signed.
+fn push_carried(text: &mut String, object: &MultiSignedObject) -> Result<(), AllocError>
+    ensures { Grows result text.old text.new (carried_text (multi_of object.now)) }
+{
+    let certificates = object.certificates().len();
+    let crls = object.crls().len();
+    let signers = object.signer_infos().len();
+    write!(
+        text,
+        "certificates {certificates}\ncrls {crls}\nsigners {signers}\n"
+    )
+}
