@@ -7,5 +7,6 @@ mod Earned
 mod Lengths
 mod PeersExact
 mod PeersWritten
+mod Publications
 mod Published
 mod Search
