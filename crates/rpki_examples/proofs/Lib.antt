@@ -1,6 +1,7 @@
 mod Answered
 mod Asked
 mod ByList
+mod ClaimAlone
 mod Common
 mod Cut
 mod Earned

@@ -1,5 +1,5 @@
 -- What an authority of the stand-in publishes.
-use Rattle.std.proofs.Common.{◌≡◌, ◌⊎◌, ℕ, List, inl, inr, refl, ap, sym, ◌∙◌, subst, ◌↔◌, true, Bool}
+use Rattle.std.proofs.Common.{◌≡◌, ℕ, List, inl, inr, refl, ap, sym, ◌∙◌, subst, ◌↔◌, true, Bool}
 use Rattle.std.proofs.Common.{Result, Ok, Err}
 use Rattle.std.specs.Prelude.{Any, Contains, IfErr}
 use Rattle.sha2.specs.Sha256.{sha256}

@@ -206,7 +206,11 @@ fn objects_of(
                     drop(aspa);
                     Err(error)
                 }
-                Ok(manifest) => Ok(Published { roa, aspa, manifest }),
+                Ok(manifest) => Ok(Published {
+                    roa,
+                    aspa,
+                    manifest,
+                }),
             },
         },
     }
