@@ -1,10 +1,11 @@
 #!/usr/bin/env python3
 """Writes a module of tests of attestations in octets, each with all that the program says of it.
 
-The rows, and what is to be answered, are those of sweeps/rpki_rta/vectors.py. The program is given
-the list of verdicts that is made of the attestation and of what is supplied. It wants an anchor:
-where a row supplies nothing, a locator is given that fits no path. The lines of numbers are made
-by `ipaddress` of Python.
+The rows, and what is to be answered, are those of sweeps/rpki_rta/vectors.py, but for the longest
+path, which is shorter here: each verdict is looked up in the list. The program is given the list of
+verdicts that is made of the attestation and of what is supplied. It wants an anchor: where a row
+supplies nothing, a locator is given that fits no path. The lines of addresses are made by
+`ipaddress` of Python.
 """
 import ipaddress
 import pathlib
@@ -13,6 +14,7 @@ import runpy
 HERE = pathlib.Path(__file__).resolve().parent
 VECTORS = runpy.run_path(str(HERE.parent / "rpki_rta" / "vectors.py"))
 NO_KEY = 9999
+LONGEST = 100
 MOMENT = "20240601000000Z"
 HEAD = """//! Attestations in octets, each with what the program says of it, by the list of verdicts that is
 //! made of it.
@@ -168,7 +170,7 @@ def main():
     print(HEAD)
     print(f"/// Names of files.\nstatic NAMES: [&str; {len(names)}] = "
           f"[{', '.join(map(literal, names))}];\n")
-    for row in VECTORS["rows"]():
+    for row in VECTORS["rows"](LONGEST):
         write(row, names)
 
 
