@@ -5,7 +5,7 @@ use Rattle.std.proofs.lemmas.Bool.{cases_eq}
 use Rattle.std.proofs.lemmas.Fmt.{decimal_is_IsNumeral, decimal_digit, first_decimal}
 use Rattle.std.proofs.lemmas.List.Elements.{All-head, All-tail}
 use Rattle.rpki_payloads.specs.Separated.{separated}
-use Rattle.rpki_payloads.specs.Grammar.Json.{Says, nothing, unescaped, IsString, Value, member, Members, IsMark, IsNumber, IsMember, IsValue, AreItems, AreFurtherItems, AreMembers, AreFurtherMembers, items_of}
+use Rattle.rpki_payloads.specs.Grammar.Json.{Says, nothing, unescaped, IsString, Json, member, Members, IsMark, IsNumber, IsMember, IsValue, AreItems, AreFurtherItems, AreMembers, AreFurtherMembers, items_of}
 use Rattle.rpki_payloads.proofs.Plain.{IsPlain, ArePlain}
 
 -- ---- strings and numbers
@@ -41,7 +41,7 @@ is-number n h =
 
 -- ---- arrays
 
-module _ {X : Type 0} (comma : List ℕ) (is : IsMark (codes ",") comma) (value : X → Value)
+module _ {X : Type 0} (comma : List ℕ) (is : IsMark (codes ",") comma) (value : X → Json)
     (text : X → List ℕ) (P : X → Type 0) (each : (x : X) → P x → IsValue (value x) (text x)) where
   further-items : (xs : List X) → All P xs
       → AreFurtherItems (items_of value xs) (flat_map (λ y. comma ++ text y) xs)
@@ -78,7 +78,7 @@ module _ {X : Type 0} (comma : List ℕ) (is : IsMark (codes ",") comma) (value 
 abbrev pub written : List ℕ → List ℕ → List ℕ
 written name text = (codes "\"" ++ (name ++ codes "\"")) ++ (codes ": " ++ text)
 
-is-member : (name text : List ℕ) (value : Value) → ArePlain name → IsValue value text
+is-member : (name text : List ℕ) (value : Json) → ArePlain name → IsValue value text
     → IsMember name (IsValue value) (written name text)
 is-member name text value plain h = record {
   first = codes "\"" ++ (name ++ codes "\"");
@@ -101,7 +101,7 @@ is-member name text value plain h = record {
 }
 
 -- the first member, and a further one after a comma
-pub members : (name text rest : List ℕ) (value : Value) (more : Members) → ArePlain name
+pub members : (name text rest : List ℕ) (value : Json) (more : Members) → ArePlain name
     → IsValue value text → AreFurtherMembers more rest
     → AreMembers (member name value more) (written name text ++ rest)
 members name text rest value more plain h k = record {
@@ -112,7 +112,7 @@ members name text rest value more plain h k = record {
   goes_on = k;
 }
 
-pub further-members : (comma name text rest : List ℕ) (value : Value) (more : Members)
+pub further-members : (comma name text rest : List ℕ) (value : Json) (more : Members)
     → IsMark (codes ",") comma → ArePlain name → IsValue value text → AreFurtherMembers more rest
     → AreFurtherMembers (member name value more) (comma ++ (written name text ++ rest))
 further-members comma name text rest value more is plain h k = record {

@@ -4,7 +4,7 @@ use Rattle.rpki_resources.specs.As.{asn_text}
 use Rattle.rpki_resources.specs.Text.{prefix_text}
 use Rattle.rpki_payloads.specs.Found.{Found, all_named}
 use Rattle.rpki_payloads.specs.Grammar.Csv.{Row}
-use Rattle.rpki_payloads.specs.Grammar.Json.{Value, string, number, array, object, no_members, member, items_of}
+use Rattle.rpki_payloads.specs.Grammar.Json.{Json, string, number, array, object, no_members, member, items_of}
 use Rattle.rpki_payloads.specs.Picked.{Origin, Customer, origins_among, customers_among}
 use Rattle.rpki_payloads.specs.Texts.Origin.{max_length}
 
@@ -28,7 +28,7 @@ abbrev pub csv_rows : List Found → List Row
 csv_rows found = header_row ∷ map origin_row (origins_among (all_named found))
 
 -- the object of an origin
-abbrev pub roa_value : Origin → Value
+abbrev pub roa_value : Origin → Json
 roa_value o = object (
     member (codes "asn") (string (asn_text o.origin.asn)) (
     member (codes "prefix") (string (prefix_text o.origin.prefix.family o.origin.prefix.prefix)) (
@@ -36,18 +36,18 @@ roa_value o = object (
     member (codes "ta") (string o.name) no_members))))
 
 -- a provider, as an item of a list
-abbrev pub provider_value : ℕ → Value
+abbrev pub provider_value : ℕ → Json
 provider_value n = string (asn_text n)
 
 -- the object of a customer with its providers
-abbrev pub aspa_value : Customer → Value
+abbrev pub aspa_value : Customer → Json
 aspa_value c = object (
     member (codes "customer") (string (asn_text c.providers.customer)) (
     member (codes "providers") (array (items_of provider_value c.providers.providers)) (
     member (codes "ta") (string c.name) no_members)))
 
 -- the whole object
-abbrev pub json_value : List Found → Value
+abbrev pub json_value : List Found → Json
 json_value found = object (
     member (codes "roas") (array (items_of roa_value (origins_among (all_named found)))) (
     member (codes "aspas") (array (items_of aspa_value (customers_among (all_named found))))

@@ -36,11 +36,12 @@ pub record IsFurther (said : List ℕ) (rest : List ℕ → Type 0) (octets : Li
   pub says : IsField field said
   pub goes_on : rest later
 
+-- what follows a field of a record, whose further fields say these
 abbrev pub AreFurther : List (List ℕ) → List ℕ → Type 0
 AreFurther [] octets = octets ≡ codes "\n"
 AreFurther (said ∷ more) octets = IsFurther said (AreFurther more) octets
 
--- a record: a field that says the first of these, and one for each of the others
+-- a record (rule 1): a field that says the first of these, and one for each of the others
 pub record IsRecord (first : List ℕ) (others : List (List ℕ)) (octets : List ℕ) : Type 0 where
   pub field : List ℕ
   pub later : List ℕ
@@ -53,7 +54,7 @@ pub record Row : Type 0 where
   pub first : List ℕ
   pub others : List (List ℕ)
 
--- one record after the other
+-- a record, and then the others
 pub record IsTable (row : Row) (rest : List ℕ → Type 0) (octets : List ℕ) : Type 0 where
   pub record_octets : List ℕ
   pub later : List ℕ
@@ -61,6 +62,7 @@ pub record IsTable (row : Row) (rest : List ℕ → Type 0) (octets : List ℕ) 
   pub is : IsRecord row.first row.others record_octets
   pub goes_on : rest later
 
+-- The octets are records, one after the other, whose fields say these rows (RFC 4180, section 2).
 abbrev pub AreRecords : List Row → List ℕ → Type 0
 AreRecords [] octets = octets ≡ []
 AreRecords (row ∷ rows) octets = IsTable row (AreRecords rows) octets

@@ -73,19 +73,19 @@ pub record IsString (octets said : List ℕ) : Type 0 where
 -- a value: a string, by what it says, a number that is not negative and has no fraction, an array
 -- of values, or an object, by its names and their values
 mutual
-  pub data Value : Type 0 where
-    string : List ℕ → Value
-    number : ℕ → Value
-    array : Items → Value
-    object : Members → Value
+  pub data Json : Type 0 where
+    string : List ℕ → Json
+    number : ℕ → Json
+    array : Items → Json
+    object : Members → Json
 
   pub data Items : Type 0 where
     no_items : Items
-    item : Value → Items → Items
+    item : Json → Items → Items
 
   pub data Members : Type 0 where
     no_members : Members
-    member : List ℕ → Value → Members → Members
+    member : List ℕ → Json → Members → Members
 
 -- white space (section 2): spaces, tabs and ends of lines
 abbrev pub is_space : ℕ → Bool
@@ -134,7 +134,7 @@ IsMember name value octets =
 -- The octets are this value: a string (section 7), a number (section 6), an array (section 5) or an
 -- object (section 4).
 abbrev mutual
-  pub IsValue : Value → List ℕ → Type 0
+  pub IsValue : Json → List ℕ → Type 0
   IsValue (string said) octets = IsString octets said
   IsValue (number n) octets = IsNumber octets n
   IsValue (array items) octets = IsBetween (codes "[") (codes "]") (AreItems items) octets
@@ -163,7 +163,7 @@ abbrev mutual
       (IsJoined (IsMember name (IsValue value)) (AreFurtherMembers more)) octets
 
 -- a value with white space around it (section 2)
-pub record IsText (octets : List ℕ) (value : Value) : Type 0 where
+pub record IsText (octets : List ℕ) (value : Json) : Type 0 where
   pub before : List ℕ
   pub inside : List ℕ
   pub after : List ℕ
@@ -173,6 +173,6 @@ pub record IsText (octets : List ℕ) (value : Value) : Type 0 where
   pub is : IsValue value inside
 
 -- the values of these, as the items of an array
-abbrev pub items_of : {X : Type 0} → (X → Value) → List X → Items
+abbrev pub items_of : {X : Type 0} → (X → Json) → List X → Items
 items_of value [] = no_items
 items_of value (x ∷ xs) = item (value x) (items_of value xs)
