@@ -171,11 +171,11 @@ class Row:
     keys are theirs where none are given."""
 
     def __init__(self, name, what, answer, *, asn=(), v4=(), v6=(), signers=(), keys=None,
-                 certs=(), crls=(), supplies=(), at_most=None):
+                 certs=(), crls=(), supplies=(), asked=None):
         self.name, self.what, self.answer, self.supplies = name, what, answer, list(supplies)
         self.signers = [it if isinstance(it, Signer) else Signer(it, it) for it in signers]
         self.keys = [it.sid for it in self.signers] if keys is None else list(keys)
-        self.certs, self.crls, self.at_most = list(certs), list(crls), at_most
+        self.certs, self.crls, self.asked = list(certs), list(crls), asked
         self.sets = asn, v4, v6
 
     def octets(self):
@@ -422,13 +422,15 @@ def met():
               asn=r(5), signers=[10], certs=[ee(10, TOP, r(5))], supplies=[chain])
 
 
-def long():
+def long(count):
     """A path of many CAs."""
-    keys = range(2, 1002)
-    cas = [ca(key, key + 1 if key < 1001 else TOP, INHERIT, trims=True) for key in keys]
-    yield Row("path_1000", "1000 CAs, all Trim and inheriting, EE AS 5..20, supplied 1..9", YES,
+    keys = range(2, count + 2)
+    cas = [ca(key, key + 1 if key < count + 1 else TOP, INHERIT, trims=True) for key in keys]
+    before = 2 * count + 1
+    yield Row(f"path_{count}",
+              f"{count} CAs, all Trim and inheriting, EE AS 5..20, supplied 1..9", YES,
               asn=r(5, 9), signers=[5000], certs=[ee(5000, 2, r(5, 20), trims=True), *cas],
-              crls=map(crl, keys), supplies=[Supplied(r(1, 9))], at_most=2001)
+              crls=map(crl, keys), supplies=[Supplied(r(1, 9))], asked=(before, before + 1))
 
 
 def faults():
@@ -613,13 +615,19 @@ def orders():
               supplies=[Supplied(r(1, 9))])
 
 
-def rows():
+# How the names begin of rows whose answer is the same where each list is reversed.
+REVERSED = ("trimmed", "chain_of_two", "two_", "three", "tal_and_ca", "cycle", "crl_of_other_key",
+            "key_twice", "serial_of_other_list")
+
+
+def rows(count=1000):
+    """All rows; the longest path has so many CAs."""
     every = [*trimmed(), *several(), *anchored(), *lists(), *alike(), *met(), *faults(),
              *every_family()]
-    every += [cycle(2), cycle(3), cycle(50), *inspections(), *orders(), *long()]
+    every += [cycle(2), cycle(3), cycle(50), *inspections(), *orders(), *long(count)]
     yield from every
     for row in every:
-        if row.name.startswith(("trimmed", "chain_of_two", "two_", "three", "tal_and_ca")):
+        if row.name.startswith(REVERSED):
             yield row.reversed()
 
 
@@ -627,19 +635,22 @@ def rows():
 
 HEAD = """//! Attestations in octets, each with what is answered of it.
 
-use super::compared::{answer, verdicts};
+use super::compared::{answer, asks_as_few, verdicts};
 use rpki_testing::Fail;
 """
 
 
 def write(row):
     """A row, and its test."""
+    few = ""
+    if row.answer == YES and row.asked is None:
+        few = f"    assert!(rt; asks_as_few(rt.alloc(), {row.name.upper()})?);\n"
     print(f"""/// {row.what[0].upper()}{row.what[1:]}.
 #[test]
 fn {row.name}(rt: HostRuntime) -> Result<(), Fail> {{
     let said = answer(rt.alloc(), {row.name.upper()})?;
     assert_eq!(rt; said.as_str(), "{row.answer}");
-    Ok(())
+{few}    Ok(())
 }}
 
 const {row.name.upper()}: &str = "{row.octets().hex()}|{','.join(map(str, row.supplies))}";
@@ -647,10 +658,10 @@ const {row.name.upper()}: &str = "{row.octets().hex()}|{','.join(map(str, row.su
 
 
 def write_count(row):
-    """How many verdicts may be asked before the supplies."""
+    """How many verdicts are asked before the supplies, and in all."""
     print(f"""#[test]
 fn {row.name}_verdicts(rt: HostRuntime) -> Result<(), Fail> {{
-    assert!(rt; verdicts(rt.alloc(), {row.name.upper()})? <= {row.at_most});
+    assert_eq!(rt; verdicts(rt.alloc(), {row.name.upper()})?, {row.asked});
     Ok(())
 }}
 """)
@@ -660,7 +671,7 @@ def main():
     print(HEAD)
     for row in rows():
         write(row)
-        if row.at_most is not None:
+        if row.asked is not None:
             write_count(row)
 
 

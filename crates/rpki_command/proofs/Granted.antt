@@ -12,6 +12,7 @@ use Rattle.rpki_faults.specs.declared.validation.ValidationError.{ValidationErro
 use Rattle.rpki_multi.specs.Attestation.{KeptWhole, Whole, RtaForm, whole_of}
 use Rattle.rpki_paths.specs.Anchor.{Supply}
 use Rattle.rpki_rsa.specs.Signature.{is_rsa_signature}
+use Rattle.rpki_rsa.specs.declared.rsa.Rsa.{Rsa}
 use Rattle.rpki_signed.specs.Attested.{IsExactRta}
 use Rattle.rpki_signed.specs.declared.check.CheckError.{CheckError}
 use Rattle.rpki_signed.specs.declared.check.CheckError.TheVariants.{Decode, Validation}
@@ -53,8 +54,16 @@ anchor-is-none anchors.NoLocator = one
 anchor-is-none (anchors.NoIssuer fault) = issuer-is-none fault
 anchor-is-none anchors.Memory = three
 
-module _ (causes : Causes) (verdict : Verdict) (now : Moment) (words : List (List ℕ))
-    (object : List ℕ) (files : List (List ℕ)) (s : Output) where
+module _ {C : Type 0} (causes : Causes) (says : C → Verdict) (crypto : C) (now : Moment)
+    (words : List (List ℕ)) (object : List ℕ) (files : List (List ℕ)) (s : Output) where
+  abbrev verdict : Verdict
+  verdict = says crypto
+
+  -- what is said under these supplies
+  abbrev Under : List Supply → Output → Type 0
+  Under supplied said =
+      AttestedUnder causes (λ (_ : C). sha256) says crypto now supplied object said
+
   module _ (run : Run) (h : IsSaid s run) (z : run.status ≡ 0) (zero : status_of s ≡ 0)
       (made : List Anchor) (each : MakeEach verdict now (given_in words files) made) where
     said-lines : (r : Whole) → IsLinesOf (yes_line ++ attestation_text r.content) s
@@ -86,17 +95,14 @@ module _ (causes : Causes) (verdict : Verdict) (now : Moment) (words : List (Lis
     yes-result (Err (Validation fault)) b (inr e) =
         absurd (other-status s (validation_refusal fault) 0 zero e (fault-is-none fault))
 
-    yes-under : AttestedUnder causes sha256 verdict now (map supply_of made) object s
-        → IsRightRta verdict now words object files run
+    yes-under : Under (map supply_of made) s → IsRightRta verdict now words object files run
     yes-under (inl e) = absurd (other-status s out_of_memory 0 zero e three)
     yes-under (inr c) = yes-result c.result c.exact c.said
 
   pub yes-made : (run : Run) → IsSaid s run → run.status ≡ 0 → status_of s ≡ 0
       → (made : Result (Vec Anchor Global) AnchorError)
       → AreMade verdict now (given_in words files) made
-      → IsSaidWith (λ supplied said. AttestedUnder causes sha256 verdict now supplied object said)
-      made s
-      → IsRightRta verdict now words object files run
+      → IsSaidWith Under made s → IsRightRta verdict now words object files run
   yes-made run h z zero (Ok made) each is = yes-under run h z zero made.items each is
   yes-made run h z zero (Err fault) each (inl e) =
       absurd (other-status s out_of_memory 0 zero e three)
@@ -136,17 +142,14 @@ module _ (causes : Causes) (verdict : Verdict) (now : Moment) (words : List (Lis
       holds = not-granted b.object supplied fault e b.holds;
     })
 
-    no-under : (supplied : List Supply)
-        → AttestedUnder causes sha256 verdict now supplied object s
+    no-under : (supplied : List Supply) → Under supplied s
         → BeginsWithNoGranted verdict now supplied object
     no-under supplied (inl e) = absurd (no-memory e)
     no-under supplied (inr c) = no-result supplied c.result c.exact c.said
 
     pub no-made : (made : Result (Vec Anchor Global) AnchorError)
         → AreMade verdict now (given_in words files) made
-        → IsSaidWith
-        (λ supplied said. AttestedUnder causes sha256 verdict now supplied object said) made s
-        → IsRightNoRta verdict now words object files
+        → IsSaidWith Under made s → IsRightNoRta verdict now words object files
     no-made (Ok made) each is = inr (record {
       anchors = made.items;
       made = each;
@@ -178,7 +181,7 @@ module _ (told : Told) (words : List (List ℕ)) (old new : Names) (run : Run) (
   yes-of s h z zero (inr c) = record {
     lines = c.0;
     listed = c.1;
-    holds = yes-made Omitted (is_listed c.0) now named object octets s run h z zero c.2.0 c.2.1
+    holds = yes-made Omitted is_listed c.0 now named object octets s run h z zero c.2.0 c.2.1
         c.2.2;
   }
 
@@ -189,7 +192,7 @@ module _ (told : Told) (words : List (List ℕ)) (old new : Names) (run : Run) (
   no-of s first (inr c) = record {
     lines = c.0;
     listed = c.1;
-    holds = no-made Omitted (is_listed c.0) now named object octets s first c.2.0 c.2.1 c.2.2;
+    holds = no-made Omitted is_listed c.0 now named object octets s first c.2.0 c.2.1 c.2.2;
   }
 
   pub right-rta : run.status ≡ 0
@@ -224,10 +227,12 @@ module _ (told : Told) (clock : Option Moment) (words : List (List ℕ)) (old ne
   verified-rta z =
       let c = said-yes told (file ∷ files_of_anchors named) (object ∷ octets)
       (VerifiedRtaOf named now) old new run verified tells z in
-      yes-made Included is_rsa_signature now named object octets c.0 run c.2 z c.3 c.1.0 c.1.1 c.1.2
+      yes-made Included (λ (_ : Rsa). is_rsa_signature) (record {}) now named object octets c.0 run
+      c.2 z c.3 c.1.0 c.1.1 c.1.2
 
   pub verified-no-rta : run.status ≡ 1 → IsRightNoRta is_rsa_signature now named object octets
   verified-no-rta z =
       let c = said-no told (file ∷ files_of_anchors named) (object ∷ octets)
       (VerifiedRtaOf named now) old new run verified tells z in
-      no-made Included is_rsa_signature now named object octets c.0 c.3 c.1.0 c.1.1 c.1.2
+      no-made Included (λ (_ : Rsa). is_rsa_signature) (record {}) now named object octets c.0 c.3
+      c.1.0 c.1.1 c.1.2

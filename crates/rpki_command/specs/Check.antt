@@ -114,12 +114,16 @@ IsCheckedWith causes options kind digest verdict now object anchor chain s =
     × IsSaidUnder (λ v said. CheckedUnder causes options kind digest verdict v now object said)
     issuer s
 
--- What is said where the verdicts are those of a text: by `P`, if it is a list of verdicts, and
--- else that it is none.
-abbrev pub IsByVerdicts : (Verdict → Output → Type 0) → List ℕ → Output → Type 0
-IsByVerdicts P text s =
+-- What is said where a text is to be a list of verdicts: by `P` of its lines, if it is one, and else
+-- that it is none.
+abbrev pub IsByLines : (List (List ℕ) → Output → Type 0) → List ℕ → Output → Type 0
+IsByLines P text s =
     (((lines : List (List ℕ)) → AreVerdicts text lines → ⊥) × (s ≡ bad_verdicts))
-    ⊎ ((lines : List (List ℕ)) × AreVerdicts text lines × P (is_listed lines) s)
+    ⊎ ((lines : List (List ℕ)) × AreVerdicts text lines × P lines s)
+
+-- What is said in the same way, by `P` of the verdicts that the lines give.
+abbrev pub IsByVerdicts : (Verdict → Output → Type 0) → List ℕ → Output → Type 0
+IsByVerdicts P text s = IsByLines (λ lines said. P (is_listed lines) said) text s
 
 -- What is said of files: of the object, the verdicts, the certificate of a trust anchor, and those
 -- of CAs, each under the one before. Digests are SHA-256 (RFC 7935, section 2).

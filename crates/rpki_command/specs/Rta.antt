@@ -1,17 +1,22 @@
 -- What is said of an attestation under anchors, by the octets of the files
 -- (draft-michaelson-rpki-rta).
-use Rattle.std.specs.Prelude.{◌≡◌, ◌⊎◌, ℕ, List, ◌∷◌, ◌++◌, map, Result, Ok, Err, Vec}
+use Rattle.std.specs.Prelude.{◌≡◌, ◌⊎◌, ℕ, List, ◌∷◌, ◌++◌, map, Result, Ok, Err, IfErr, Vec}
 use Rattle.std.specs.declared.alloc.Global.{Global}
 use Rattle.sha2.specs.Sha256.{sha256}
 use Rattle.rpki_basics.specs.Moment.{Moment}
+use Rattle.rpki_certs.specs.Validate.{Validated}
 use Rattle.rpki_certs.specs.Verify.{Verdict}
 use Rattle.rpki_multi.specs.Attestation.{KeptWhole}
 use Rattle.rpki_paths.specs.Anchor.{Supply}
+use Rattle.rpki_paths.specs.declared.supply.Supplied.{Supplied}
 use Rattle.rpki_rta.specs.Carried.{set_of}
-use Rattle.rpki_signed.specs.Attested.{IsExactRta}
+use Rattle.rpki_rta.specs.Refused.{supply_in}
+use Rattle.rpki_signed.specs.Attested.{IsExactRta, IsFirstOfRta}
 use Rattle.rpki_signed.specs.declared.check.CheckError.{CheckError}
 use Rattle.rpki_signed.specs.declared.check.CheckError.TheVariants.{Decode, Validation}
 use Rattle.rpki_sigobj.specs.Verify.{Digester}
+use Rattle.rpki_tal.specs.Tal.{Locator}
+use Rattle.rpki_verdicts.specs.Listed.{is_listed}
 use Rattle.rpki_cli.specs.Answer.{Output, out_of_memory, malformed}
 use Rattle.rpki_cli.specs.Shown.{IsLinesOf}
 use Rattle.rpki_cli.specs.Refusal.{IsRefusal}
@@ -19,7 +24,7 @@ use Rattle.rpki_cli.specs.declared.causes.Causes.{Causes}
 use Rattle.rpki_cli.specs.declared.causes.Causes.TheVariants.{Omitted}
 use Rattle.rpki_show.specs.Texts.Rta.{attestation_text}
 use Rattle.rpki_command.specs.Anchors.{given_in, AreMade}
-use Rattle.rpki_command.specs.Check.{yes_line, issuer_refusal, IsRefused, IsByVerdicts}
+use Rattle.rpki_command.specs.Check.{yes_line, issuer_refusal, IsRefused, IsByLines}
 use Rattle.rpki_command.specs.declared.anchors.Anchor.{Anchor}
 use Rattle.rpki_command.specs.declared.anchors.Anchor.TheVariants.{Tal, Ca}
 use Rattle.rpki_command.specs.declared.anchors.AnchorError.{AnchorError}
@@ -37,21 +42,26 @@ IsRtaSaid causes (Ok r) s = IsLinesOf (yes_line ++ attestation_text r.content) s
 IsRtaSaid causes (Err (Decode fault)) s = IsRefusal causes fault s
 IsRtaSaid causes (Err (Validation fault)) s = IsRefused fault s
 
--- What the check of an attestation answers, and what is said of it: unless memory runs out, a yes
--- only where the octets begin with one that is granted under these supplies, and a refusal only
--- where they begin with none, or with one that is not, if the identifiers of what it carries are
--- distinct.
-pub record IsRtaChecked (causes : Causes) (digest : Digester) (verdict : Verdict) (now : Moment)
-    (supplied : List Supply) (octets : List ℕ) (s : Output) : Type 0 where
+-- What the check of an attestation answers by this cryptography, and what is said of it: unless
+-- memory runs out, a yes only where the octets begin with one that is granted under these supplies,
+-- and a refusal only where they begin with none, or with one that is not, if the identifiers of
+-- what it carries are distinct. Where they begin with one, a refusal names the fault of the first
+-- thing that fails. `given` has the locators and CAs that supply these.
+pub record IsRtaChecked {C : Type 0} (causes : Causes) (digests : C → Digester)
+    (says : C → Verdict) (crypto : C) (now : Moment) (supplied : List Supply) (octets : List ℕ)
+    (s : Output) : Type 0 where
   pub result : Result KeptWhole CheckError
-  pub exact : IsExactRta digest verdict now supplied octets result
+  pub given : List (Supplied Locator Validated)
+  pub same : map supply_in given ≡ supplied
+  pub first : IfErr result (IsFirstOfRta digests says crypto now given octets)
+  pub exact : IsExactRta (digests crypto) (says crypto) now supplied octets result
   pub said : IsRtaSaid causes result s
 
 -- what is said of octets that may begin with an attestation, unless memory runs out
-abbrev pub AttestedUnder : Causes → Digester → Verdict → Moment → List Supply → List ℕ → Output
-    → Type 0
-AttestedUnder causes digest verdict now supplied octets s =
-    (s ≡ out_of_memory) ⊎ IsRtaChecked causes digest verdict now supplied octets s
+abbrev pub AttestedUnder : {C : Type 0} → Causes → (C → Digester) → (C → Verdict) → C → Moment
+    → List Supply → List ℕ → Output → Type 0
+AttestedUnder causes digests says crypto now supplied octets s =
+    (s ≡ out_of_memory) ⊎ IsRtaChecked causes digests says crypto now supplied octets s
 
 -- why files make no anchor, as it is said
 abbrev pub anchor_refusal : AnchorError → Output
@@ -71,19 +81,20 @@ IsSaidWith P (Err fault) s = IsAnchorRefused fault s
 
 -- What is said of an attestation, by its octets and those of the files that these anchors name:
 -- first of the anchors, and then of the attestation.
-abbrev pub IsAttestedWith : Causes → Digester → Verdict → Moment → List (List ℕ) → List ℕ
-    → List (List ℕ) → Output → Type 0
-IsAttestedWith causes digest verdict now words object files s =
+abbrev pub IsAttestedWith : {C : Type 0} → Causes → (C → Digester) → (C → Verdict) → C → Moment
+    → List (List ℕ) → List ℕ → List (List ℕ) → Output → Type 0
+IsAttestedWith causes digests says crypto now words object files s =
     (anchors : Result (Vec Anchor Global) AnchorError)
-    × AreMade verdict now (given_in words files) anchors
-    × IsSaidWith (λ supplied said. AttestedUnder causes digest verdict now supplied object said)
-    anchors s
+    × AreMade (says crypto) now (given_in words files) anchors
+    × IsSaidWith
+    (λ supplied said. AttestedUnder causes digests says crypto now supplied object said) anchors s
 
--- What is said of files: of the attestation, the verdicts, and those that these anchors name.
--- Digests are SHA-256 (RFC 7935, section 2).
+-- What is said of files: of the attestation, the verdicts, and those that these anchors name. The
+-- cryptography is the list of verdicts, seen as its lines. Digests are SHA-256 (RFC 7935, section
+-- 2).
 abbrev pub RtaOf : Moment → List (List ℕ) → List (List ℕ) → Output → Type 0
 RtaOf now words (object ∷ verdicts ∷ files) s =
-    IsByVerdicts
-    (λ verdict said. IsAttestedWith Omitted sha256 verdict now words object files said)
+    IsByLines
+    (λ lines said. IsAttestedWith Omitted (λ _. sha256) is_listed lines now words object files said)
     verdicts s
 RtaOf now words files s = ⊥

@@ -76,7 +76,7 @@ pub fn check_rta<'a, K: Crypto>(
     now: Time,
 ) -> Answer<'a>
     requires { length (files_of_anchors (texts words.now)) ≤ length files.now }
-    ensures { IsAttestedWith causes (K.digest_of crypto.now) (K.is_signed crypto.now) now
+    ensures { IsAttestedWith causes K.digest_of K.is_signed crypto.now now
         (texts words.now) object.now (octets_of files.now) (said result) }
 {
     match anchors_of(alloc, words, files, crypto, now) {
@@ -98,7 +98,7 @@ fn check_anchored<'a, K: Crypto>(
     crypto: &K,
     now: Time,
 ) -> Answer<'a>
-    ensures { AttestedUnder causes (K.digest_of crypto.now) (K.is_signed crypto.now) now
+    ensures { AttestedUnder causes K.digest_of K.is_signed crypto.now now
         (map supply_of anchors.now) object.now (said result) }
 {
     match supplies_of(alloc, anchors) {
@@ -116,7 +116,7 @@ fn check_supplied<'a, K: Crypto>(
     crypto: &K,
     now: Time,
 ) -> Answer<'a>
-    ensures { AttestedUnder causes (K.digest_of crypto.now) (K.is_signed crypto.now) now
+    ensures { AttestedUnder causes K.digest_of K.is_signed crypto.now now
         (map supply_in supplies.now) object.now (said result) }
 {
     match Bytes::copy_from_slice(alloc, object) {

@@ -1,11 +1,13 @@
 mod Answered
 mod Asked
 mod ByList
+mod ClaimAlone
 mod Common
 mod Cut
 mod Earned
 mod Lengths
 mod PeersExact
 mod PeersWritten
+mod Publications
 mod Published
 mod Search

@@ -235,19 +235,19 @@ missing-allowed set = λ refuses named h n i.
     absurd (let none : Holds (λ (m : ℕ). m) [] n =
     subst (λ (l : List (Block ℕ)). Holds (λ (m : ℕ). m) l n) h i in cc)
 
--- what a ROA claims is allowed under an issuer that has each prefix
+-- what a ROA claims is allowed under an issuer that has each prefix, and that allows the claim of AS
+-- numbers that was handed in
 pub roa-allowed : (r : Roa) (handed told : Settings) (sets : Sets) → ClaimsPrefixes r handed told
-    → RoaCovered r sets → handed.as_numbers ≡ Missing → AreAllowed (claims_of told) sets
-roa-allowed r handed told sets claims covered missing =
-    let none : told.as_numbers ≡ Missing =
-    ap (λ (b : Settings). b.as_numbers) claims.others ∙ missing in record {
-      as_numbers =
-          subst (λ (claim : Claim (List (Block ℕ))).
-          IsAllowed (λ (n : ℕ). n) Refuse claim sets.as_numbers) (sym none)
-          (missing-allowed sets.as_numbers);
-      v4 = claim-allowed r.v4 told.v4 sets.v4 claims.v4 covered.v4;
-      v6 = claim-allowed r.v6 told.v6 sets.v6 claims.v6 covered.v6;
-    }
+    → RoaCovered r sets → IsAllowed (λ (n : ℕ). n) Refuse handed.as_numbers sets.as_numbers
+    → AreAllowed (claims_of told) sets
+roa-allowed r handed told sets claims covered allowed = record {
+  as_numbers =
+      subst (λ (claim : Claim (List (Block ℕ))).
+      IsAllowed (λ (n : ℕ). n) Refuse claim sets.as_numbers)
+      (sym (ap (λ (b : Settings). b.as_numbers) claims.others)) allowed;
+  v4 = claim-allowed r.v4 told.v4 sets.v4 claims.v4 covered.v4;
+  v6 = claim-allowed r.v6 told.v6 sets.v6 claims.v6 covered.v6;
+}
 
 -- what an ASPA claims is allowed under an issuer that has the customer
 pub aspa-allowed : (a : Aspa) (handed : Settings) (sets : Sets)

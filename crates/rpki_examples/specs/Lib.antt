@@ -1,10 +1,12 @@
 pub mod Authority
 pub mod Checks
+pub mod Claimed
 pub mod Families
 pub mod Inspected
 pub mod Issuers
 pub mod Locators
 pub mod Peers
+pub mod Publication
 pub mod Questions
 pub mod Received
 pub mod Routes

@@ -12,7 +12,8 @@ ghost use Rattle.rpki_basics.specs.declared.build.BuildFault.{BuildFault};
 ghost use Rattle.rpki_basics.specs.declared.signing.SigningError.TheVariants as error;
 ghost use Rattle.rpki_resources.specs.Blocks.{Covers};
 ghost use Rattle.rpki_resources.specs.As.Form.{only};
-ghost use Rattle.rpki_resources.specs.declared.resources.Claim.TheVariants.{Missing};
+ghost use Rattle.rpki_faults.specs.Validated.{IsAllowed};
+ghost use Rattle.rpki_faults.specs.declared.overclaim.Overclaim.TheVariants.{Refuse};
 ghost use Rattle.rpki_crls.specs.Crl.{IsSignedBy, RevocationList};
 ghost use Rattle.rpki_certs.specs.Cert.{KeptCertificate};
 ghost use Rattle.rpki_certs.specs.Verify.{Verdict};
@@ -306,8 +307,8 @@ pub fn list<S: Signer>(
 
 /// The octets of a ROA, made and checked: what is published says the content, is good under the
 /// issuer and is not revoked. Refuses as `RoaBuilder::finalize` does, or by what the check answers.
-/// No check refuses it, unless memory runs out, where the issuer has each prefix, and the builder
-/// fits the issuer and names no AS numbers.
+/// No check refuses it, unless memory runs out, where the builder fits the issuer, and the issuer has
+/// each prefix and the AS numbers that the builder was told to claim.
 pub fn roa<S: Signer, C: Crypto>(
     alloc: Global,
     content: RoaBuilder,
@@ -330,7 +331,8 @@ pub fn roa<S: Signer, C: Crypto>(
         (checking C.digest_of C.is_signed check.now)
         → IsTimely told (S.key_of signer.old key.now)
         (checking C.digest_of C.is_signed check.now)
-        → RoaCovered content check.now.issuer.sets → told.as_numbers ≡ Missing
+        → RoaCovered content check.now.issuer.sets
+        → IsAllowed (λ n. n) Refuse told.as_numbers check.now.issuer.sets.as_numbers
         → IfErr result (IsNotPublished
         (IsNotBuiltRoa (S.may_sign signer.old) (S.is_one_off signer.old) content told
         (S.key_of signer.old key.now) (S.digest_of signer.old (roa_octets content)))

@@ -5,6 +5,7 @@ ghost use Rattle.rpki_faults.specs.Checks.{AnswersFirst, AnswersFirstFault};
 ghost use Rattle.rpki_rta.specs.Carried.{IsValid, carried_checks, is_of_ca, is_self_signed};
 ghost use Rattle.rpki_rta.specs.Carried.{kind_checks};
 
+use crate::verdict::verdict;
 use rpki_basics::{Crypto, Time};
 use rpki_certs::Cert;
 use rpki_crls::Crl;
@@ -136,11 +137,9 @@ impl<'a, C: Crypto> Certificate for Carried<'a, C> {
 
 impl<'a, C: Crypto, L: Ledger> SignedCertificate<L> for Carried<'a, C> {
     fn is_signed_by(&self, issuer: &Self, asked: &mut VerdictCount<L>) -> bool {
-        asked.count();
-        match self.cert.verify_signature(issuer.cert, self.crypto) {
-            Ok(()) => true,
-            Err(_) => false,
-        }
+        let key = issuer.cert.subject_public_key_info();
+        let cert = self.cert;
+        verdict(self.crypto, key, cert.signed(), cert.signature(), asked)
     }
 }
 
@@ -195,12 +194,9 @@ impl<'a, C: Crypto> Seeks<CarriedCrl<'a, C>> for Carried<'a, C> {
 
 impl<'a, C: Crypto, L: Ledger> Accepts<CarriedCrl<'a, C>, L> for Carried<'a, C> {
     fn accepts(&self, other: &CarriedCrl<'a, C>, asked: &mut VerdictCount<L>) -> bool {
-        asked.count();
         let key = self.cert.subject_public_key_info();
-        match other.crl.verify_signature(key, other.crypto) {
-            Ok(()) => true,
-            Err(_) => false,
-        }
+        let list = other.crl;
+        verdict(other.crypto, key, list.signed(), list.signature(), asked)
     }
 }
 

@@ -10,6 +10,7 @@ pub mod laws;
 mod signers;
 mod supply;
 mod validation;
+mod verdict;
 mod whole;
 
 pub use rpki_paths::VerdictCount;

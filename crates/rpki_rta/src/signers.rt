@@ -4,6 +4,7 @@ ghost use Rattle.std.specs.Prelude.{◌≡◌, IfOk};
 ghost use Rattle.rpki_attributes.specs.Attrs.Made.{message_of};
 
 use crate::carried::Carried;
+use crate::verdict::verdict;
 use rpki_basics::{Crypto, Digest};
 use rpki_multi::SignerInfo;
 use rpki_paths::{Accepts, CarriedSigner, KeyId, Seeks, VerdictCount};
@@ -65,10 +66,9 @@ impl<'a, C: Crypto> Seeks<Carried<'a, C>> for Signer<'a, C> {
 
 impl<'a, C: Crypto, L: Ledger> Accepts<Carried<'a, C>, L> for Signer<'a, C> {
     fn accepts(&self, other: &Carried<'a, C>, asked: &mut VerdictCount<L>) -> bool {
-        asked.count();
         let key = other.cert.subject_public_key_info();
-        self.crypto
-            .verify(key, self.message.as_slice(), self.info.signature())
+        let message = self.message.as_slice();
+        verdict(self.crypto, key, message, self.info.signature(), asked)
     }
 }
 

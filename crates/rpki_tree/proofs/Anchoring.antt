@@ -10,6 +10,7 @@ use Rattle.rpki_certs.specs.Issuer.{BeginsWithCert, IsAnchored, in_der}
 use Rattle.rpki_certs.specs.Validate.{Validated, ta_validation, IsAnchorOf as HasClaimed}
 use Rattle.rpki_certs.specs.declared.issuer.IssuerError.{IssuerError}
 use Rattle.rpki_certs.specs.declared.issuer.IssuerError.TheVariants.{Decode, Validation}
+use Rattle.rpki_faults.proofs.Order.{first-fails}
 use Rattle.rpki_tal.specs.Tal.{Locator}
 use Rattle.rpki_tal.specs.Uri.{uri_text, https_first}
 use Rattle.rpki_tal.specs.declared.uri.TalUri.{TalUri}
@@ -21,7 +22,6 @@ use Rattle.rpki_tree.specs.declared.anchor.AnchorFault.{AnchorFault}
 use Rattle.rpki_tree.specs.declared.anchor.AnchorFault.TheVariants as anchors
 use Rattle.rpki_tree.proofs.Certificates.{one-claimed}
 use Rattle.rpki_tree.proofs.Lacking.{one-some, none-some, refuses}
-use Rattle.rpki_tree.proofs.Revoking.{not-first}
 
 -- ---- the first that is cached
 
@@ -146,7 +146,7 @@ module _ (s : Setting) (tal : Locator) where
     not-refused (Decode e) h = refuses (CertForm Der) (a.0) a.2.cert a.2.rest e h a.2.front
     not-refused (Validation fault) h = elim h.holds [
       | inl memory ↦ memory
-      | inr bad ↦ absurd (not-first (ta_validation s.verdict h.cert s.now) fault bad
+      | inr bad ↦ absurd (first-fails (ta_validation s.verdict h.cert s.now) fault bad
           (subst (λ (c : Certificate). AllHold (ta_validation s.verdict c s.now))
           (h.front.only a.2.cert a.2.rest a.2.front.found).0 (a.2.holds.0)))
     ]

@@ -1,5 +1,5 @@
 -- Octets that may hold the certificate of a CA: it is one with its numbers, or there is none.
-use Rattle.std.proofs.Common.{◌≡◌, inl, inr, ℕ, List, Ok, Err, sym, subst, ◌∙◌}
+use Rattle.std.proofs.Common.{◌≡◌, inl, inr, ℕ, List, [], ◌∷◌, Ok, Err, sym, subst, ◌∙◌}
 use Rattle.rpki_der.specs.declared.mode.Mode.TheVariants.{Der}
 use Rattle.rpki_crls.specs.Crl.{RevocationList}
 use Rattle.rpki_resources.specs.declared.block.Block.{Block}
@@ -8,20 +8,25 @@ use Rattle.rpki_resources.specs.declared.resources.Claim.TheVariants.{Missing, I
 use Rattle.rpki_resources.specs.Blocks.{IsCanonical}
 use Rattle.rpki_resources.specs.Claim.{HasBlocks}
 use Rattle.rpki_resources.proofs.Sets.Same.{same_blocks}
+use Rattle.rpki_faults.specs.Checks.{◌unless◌, AllHold}
+use Rattle.rpki_faults.specs.declared.validation.ValidationError.TheVariants.{Verification}
+use Rattle.rpki_faults.specs.declared.verification.VerificationError.TheVariants.{Caller}
+use Rattle.rpki_faults.proofs.Order.{first-fails, hold-join, hold-split}
 use Rattle.rpki_faults.specs.Validated.{IsLeft, IsValidated}
 use Rattle.rpki_faults.specs.declared.overclaim.Overclaim.{Overclaim}
 use Rattle.rpki_faults.specs.declared.overclaim.Overclaim.TheVariants.{Refuse, Trim}
 use Rattle.rpki_certs.specs.Cert.{Certificate, KeptCertificate, CertForm}
 use Rattle.rpki_certs.specs.Issuer.{in_der}
 use Rattle.rpki_certs.specs.Validate.{Validated, Sets, AreCanonical, AreValidated, IsValidatedUnder}
-use Rattle.rpki_certs.specs.Validate.{IsAnchorOf, IsResourceCert}
+use Rattle.rpki_certs.specs.Validate.{IsAnchorOf, IsResourceCert, ca_validation}
 use Rattle.rpki_certs.specs.declared.issuer.IssuerError.{IssuerError}
 use Rattle.rpki_certs.specs.declared.issuer.IssuerError.TheVariants.{Decode, Validation}
 use Rattle.rpki_extensions.specs.declared.claims.Claims.{Claims}
 use Rattle.rpki_tree.specs.Files.{HasCa}
 use Rattle.rpki_tree.specs.Memory.{IsIssuerMemory}
 use Rattle.rpki_tree.specs.Setting.{Setting}
-use Rattle.rpki_tree.specs.Under.{IsCaUnder, IsValidCa}
+use Rattle.rpki_tree.specs.Point.{IsUnrevoked}
+use Rattle.rpki_tree.specs.Under.{IsCaUnder, ca_checks}
 use Rattle.rpki_tree.proofs.Lacking.{refuses}
 
 -- ---- validated sets
@@ -104,20 +109,26 @@ module _ (s : Setting) (ca : Validated) (list : RevocationList) (octets : List �
 
   pub has-ca : (v : Validated) → IsCaUnder s.verdict s.now ca list octets (Ok v)
       → IsResourceCert v → HasCa s ca list octets v
-  has-ca v h r = record {
-    cert = h.cert;
-    rest = h.rest;
-    front = h.front;
-    holds = (h.holds.0, h.holds.1, h.holds.2, r.sets);
-  }
+  has-ca v h r =
+      let both = hold-split (ca_validation s.verdict h.cert ca s.now)
+      ((Verification Caller unless IsUnrevoked list h.cert) ∷ []) (h.holds.0) in
+      record {
+        cert = h.cert;
+        rest = h.rest;
+        front = h.front;
+        holds = (both.0, both.1.0, h.holds.1, r.sets);
+      }
 
   pub has-no-ca : (error : IssuerError) → IsCaUnder s.verdict s.now ca list octets (Err error)
       → ¬ IsIssuerMemory error → (v : Validated) → ¬ HasCa s ca list octets v
   has-no-ca (Decode e) h m v w = m (refuses (CertForm Der) octets w.cert w.rest e h w.front)
   has-no-ca (Validation fault) h m v w = elim h.holds [
     | inl memory ↦ m memory
-    | inr bad ↦
-        bad v (subst (λ (c : Certificate). IsValidCa s.verdict s.now ca list c v)
+    | inr first ↦
+        first-fails (ca_checks s.verdict s.now ca list h.cert) fault first
+        (subst (λ (c : Certificate). AllHold (ca_checks s.verdict s.now ca list c))
         (h.front.only w.cert w.rest w.front.found).0
-        (w.holds.0, w.holds.1, w.holds.2))
+        (hold-join (ca_validation s.verdict w.cert ca s.now)
+        ((Verification Caller unless IsUnrevoked list w.cert) ∷ [])
+        (w.holds.0, (w.holds.1, tt))))
   ]

@@ -15,3 +15,8 @@ pub mod Anchoring
 pub mod Passing
 pub mod Held
 pub mod Endings
+pub mod Keeping
+pub mod Gathering
+pub mod Local
+pub mod Walks
+pub mod From

@@ -11,3 +11,5 @@ pub mod Tree
 pub mod Told
 pub mod Anchors
 pub mod Pass
+pub mod Snapshot
+pub mod Visited

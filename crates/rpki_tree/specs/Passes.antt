@@ -15,3 +15,14 @@ setting cached digest verdict p = record {
   verdict = verdict p.crypto.now;
   providers = p.providers;
 }
+
+-- what it knows over a copy that has these octets for each URI
+abbrev pub judged : {S C : Type 0} → (C → Digester) → (C → Verdict) → Pass S C
+    → (List ℕ → Option (List ℕ)) → Setting
+judged digest verdict p cached = record {
+  cached = cached;
+  now = p.moment;
+  digest = digest p.crypto.now;
+  verdict = verdict p.crypto.now;
+  providers = p.providers;
+}

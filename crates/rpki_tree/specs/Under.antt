@@ -1,20 +1,16 @@
 -- Certificates and objects that a certification authority (CA) issued and did not revoke.
-use Rattle.std.specs.Prelude.{◌≡◌, ◌⊎◌, ℕ, List, [], ◌∷◌, Result, Ok, Err}
-use Rattle.rpki_der.specs.declared.mode.Mode.TheVariants.{Der}
-use Rattle.rpki_der.specs.Grammar.{HasNoFront}
-use Rattle.rpki_der.specs.Read.Reads.{Refuses}
+use Rattle.std.specs.Prelude.{ℕ, List, [], ◌∷◌, ◌++◌, Result}
 use Rattle.rpki_basics.specs.Moment.{Moment}
-use Rattle.rpki_faults.specs.Checks.{◌unless◌, AnswersFirstFault, AllHold}
+use Rattle.rpki_faults.specs.Checks.{◌unless◌, AnswersFirstFault, Check}
 use Rattle.rpki_faults.specs.declared.validation.ValidationError.{ValidationError}
-use Rattle.rpki_faults.specs.declared.validation.ValidationError.TheVariants.{Memory, Verification}
+use Rattle.rpki_faults.specs.declared.validation.ValidationError.TheVariants.{Verification}
 use Rattle.rpki_faults.specs.declared.verification.VerificationError.TheVariants.{Caller}
 use Rattle.rpki_crls.specs.Crl.{RevocationList}
-use Rattle.rpki_certs.specs.Cert.{Certificate, KeptCertificate, CertForm}
-use Rattle.rpki_certs.specs.Issuer.{BeginsWithCert, in_der}
+use Rattle.rpki_certs.specs.Cert.{Certificate, KeptCertificate}
+use Rattle.rpki_certs.specs.Issuer.{OfCert}
 use Rattle.rpki_certs.specs.Validate.{Validated, ca_validation, IsValidatedUnder}
 use Rattle.rpki_certs.specs.Verify.{Verdict}
 use Rattle.rpki_certs.specs.declared.issuer.IssuerError.{IssuerError}
-use Rattle.rpki_certs.specs.declared.issuer.IssuerError.TheVariants.{Decode, Validation}
 use Rattle.rpki_tree.specs.Point.{IsUnrevoked}
 
 -- What the list says of a certificate: a yes exactly where it does not revoke it, and else that
@@ -29,22 +25,17 @@ abbrev pub SaysAs : (KeptCertificate → Result (Unit {0}) ValidationError → T
 SaysAs Says list = (k : KeptCertificate) (said : Result (Unit {0}) ValidationError) → Says k said
     → SaysOf list k said
 
--- The certificate is that of a CA, valid under this issuer, which its list does not revoke, with
--- its validated numbers (RFC 6487, section 7.2).
-abbrev pub IsValidCa : Verdict → Moment → Validated → RevocationList → Certificate → Validated
-    → Type 0
-IsValidCa verdict now issuer list c v =
-    AllHold (ca_validation verdict c issuer now) × IsUnrevoked list c
-    × IsValidatedUnder (in_der c) issuer v
+-- What is checked of a certificate under an issuer with this list, in this order: that it is a CA's
+-- and valid (RFC 6487, section 7.2), and that the list does not revoke it.
+abbrev pub ca_checks : Verdict → Moment → Validated → RevocationList → Certificate
+    → List (Check ValidationError)
+ca_checks verdict now issuer list c =
+    ca_validation verdict c issuer now ++ (Verification Caller unless IsUnrevoked list c) ∷ []
 
--- What is answered of octets that may begin with such a certificate: it, with its numbers, or that
--- they begin with none, unless memory ran out.
+-- What is answered of octets that may begin with such a certificate: where each check holds, it with
+-- its validated numbers, and else the fault of the first that does not (`OfCert`).
 abbrev pub IsCaUnder : Verdict → Moment → Validated → RevocationList → List ℕ
     → Result Validated IssuerError → Type 0
-IsCaUnder verdict now issuer list octets (Ok v) =
-    BeginsWithCert octets (λ c. IsValidCa verdict now issuer list c v)
-IsCaUnder verdict now issuer list octets (Err (Decode e)) =
-    Refuses e (HasNoFront (CertForm Der) octets)
-IsCaUnder verdict now issuer list octets (Err (Validation fault)) =
-    BeginsWithCert octets (λ c. (fault ≡ Memory)
-    ⊎ ((v : Validated) → ¬ IsValidCa verdict now issuer list c v))
+IsCaUnder verdict now issuer list octets result =
+    OfCert (λ c. ca_checks verdict now issuer list c) (λ k v. IsValidatedUnder k issuer v) octets
+    result

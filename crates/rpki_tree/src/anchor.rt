@@ -9,6 +9,7 @@ ghost use Rattle.rpki_tree.specs.Passes.{setting};
 ghost use Rattle.rpki_tree.specs.Tree.{IsAnchorOf};
 
 use crate::copy::LocalCopy;
+use crate::memory::is_issuer_memory;
 use crate::pass::Pass;
 use bytes::Bytes;
 use rpki_basics::{Crypto, Time};
@@ -29,6 +30,18 @@ pub enum AnchorFault {
     Memory,
 }
 
+/// Whether a fault says no more than that memory ran out.
+pub(crate) fn is_anchor_memory(fault: &AnchorFault) -> bool
+    ensures { IsTrue result ↔ IsAnchorMemory fault.now }
+{
+    match fault {
+        AnchorFault::Missing => false,
+        AnchorFault::Refused(error) => is_issuer_memory(error),
+        AnchorFault::OtherKey => false,
+        AnchorFault::Memory => true,
+    }
+}
+
 // The octets that the copy has for a URI.
 fn octets_for<S: LocalCopy>(
     alloc: Global,
@@ -37,10 +50,7 @@ fn octets_for<S: LocalCopy>(
 ) -> Result<Option<Bytes>, AllocError>
     ensures { IfOk result (λ found. found ≡ S.cached copy.now (uri_text uri.now)) }
 {
-    match copy.read(alloc, uri.as_str().as_bytes())? {
-        None => Ok(None),
-        Some(octets) => Ok(Some(Bytes::copy_from_slice(alloc, &octets)?)),
-    }
+    copy.read(alloc, uri.as_str().as_bytes())
 }
 
 // The octets of the first URI of a locator that the copy has.

@@ -1,14 +1,17 @@
 //! A pass under a trust anchor's locator.
 
-ghost use Rattle.std.specs.Prelude.{◌≡◌, ◌↔◌, Contains, IfErr, IfOk, Err};
-ghost use Rattle.rpki_tree.specs.Passes.{setting};
-ghost use Rattle.rpki_tree.specs.Pass.{IsPassOf, WhyNoPass};
+ghost use Rattle.std.specs.Prelude.{◌≡◌, ◌↔◌, Contains, IfErr, IfOk, IfSome, Err};
+ghost use Rattle.rpki_tree.specs.Anchors.{IsAnchorMemory};
+ghost use Rattle.rpki_tree.specs.Passes.{judged};
+ghost use Rattle.rpki_tree.specs.Pass.{IsAnchorFault, IsPassFrom, IsPassOf, WhyNoPass};
+ghost use Rattle.rpki_tree.specs.Pass.{WhyNoPassFrom};
 ghost use Rattle.rpki_tree.specs.Tree.{IsFinding};
 
-use crate::anchor::{AnchorFault, anchor_of};
-use crate::copy::LocalCopy;
+use crate::anchor::{AnchorFault, is_anchor_memory};
+use crate::copy::Repository;
 use crate::found::Finding;
 use crate::pass::Pass;
+use crate::visit::anchor_from;
 use rpki_basics::Crypto;
 use rpki_tal::Tal;
 use rpki_walk::{WalkError, walk};
@@ -17,7 +20,7 @@ use std::alloc::Global;
 /// Why a pass under a locator has no answer.
 #[derive(Debug, Drop)]
 pub enum PassFault {
-    /// The copy has no trust anchor of the locator.
+    /// There is no trust anchor of the locator.
     Anchor(AnchorFault),
     /// More CAs are reached than may be visited.
     Limit,
@@ -25,26 +28,45 @@ pub enum PassFault {
     Memory,
 }
 
+// What a fault of the trust anchor is of the pass: want of memory is that of the pass.
+fn of_anchor(fault: AnchorFault) -> PassFault
+    ensures { IsAnchorFault fault result }
+{
+    if is_anchor_memory(&fault) {
+        drop(fault);
+        return PassFault::Memory;
+    }
+    PassFault::Anchor(fault)
+}
+
 /// What is found under a locator: the payloads that CAs say to which a chain of valid and unrevoked
 /// certificates leads from its trust anchor, and what is refused in their publication points. A
 /// chain has 32 certificates at most, and no key twice. The order is that of a walk, depth first;
 /// the files of a CA are in the order of its manifest. At most `limit` places are visited, a CA
-/// that several chains reach as often as they do.
-pub fn findings<S: LocalCopy, C: Crypto>(
+/// that several chains reach as often as they do; at each visit each file is read once.
+///
+/// Where the repository tells what it has, just that is found which follows from it. Where it tells
+/// nothing, as a folder does, what is found of each CA follows from some files.
+pub fn findings<R: Repository, C: Crypto>(
     alloc: Global,
-    pass: &Pass<'_, S, C>,
+    pass: &Pass<'_, R, C>,
     tal: &Tal,
     limit: usize,
 ) -> Result<Vec<Finding>, PassFault>
-    ensures findings { IfOk result (λ found. (x : Finding) → Contains found.items x
-        ↔ IsFinding (setting S.cached C.digest_of C.is_signed pass.now) tal.now x) }
-    ensures order { IfOk result (λ found.
-        IsPassOf (setting S.cached C.digest_of C.is_signed pass.now) tal.now limit found.items) }
-    ensures refused { IfErr result (λ fault.
-        WhyNoPass (setting S.cached C.digest_of C.is_signed pass.now) tal.now limit fault) }
+    ensures findings { IfOk result (λ found. IfSome (R.told pass.now.copy.now)
+        (λ cached. (x : Finding) → Contains found.items x
+        ↔ IsFinding (judged C.digest_of C.is_signed pass.now cached) tal.now x)) }
+    ensures order { IfOk result (λ found. IfSome (R.told pass.now.copy.now) (λ cached. IsPassOf
+        (judged C.digest_of C.is_signed pass.now cached) tal.now limit found.items)) }
+    ensures read { IfOk result (λ found. IsPassFrom (R.told pass.now.copy.now)
+        (judged C.digest_of C.is_signed pass.now) tal.now limit found.items) }
+    ensures refused { IfErr result (λ fault. IfSome (R.told pass.now.copy.now) (λ cached. WhyNoPass
+        (judged C.digest_of C.is_signed pass.now cached) tal.now limit fault)) }
+    ensures refused_read { IfErr result (λ fault. WhyNoPassFrom (R.told pass.now.copy.now)
+        (judged C.digest_of C.is_signed pass.now) tal.now limit fault) }
 {
-    match anchor_of(alloc, pass, tal) {
-        Err(fault) => Err(PassFault::Anchor(fault)),
+    match anchor_from(alloc, pass, tal) {
+        Err(fault) => Err(of_anchor(fault)),
         Ok(anchor) => match walk(alloc, pass, anchor, limit) {
             Err(WalkError::Limit) => Err(PassFault::Limit),
             Err(WalkError::Memory) => Err(PassFault::Memory),

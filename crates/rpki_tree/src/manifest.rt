@@ -38,10 +38,7 @@ pub(crate) fn octets_at<S: LocalCopy>(
 ) -> Result<Option<Bytes>, AllocError>
     ensures { IfOk result (λ found. found ≡ S.cached copy.now uri.now) }
 {
-    match copy.read(alloc, uri.as_slice())? {
-        None => Ok(None),
-        Some(octets) => Ok(Some(Bytes::copy_from_slice(alloc, &octets)?)),
-    }
+    copy.read(alloc, uri.as_slice())
 }
 
 // What a manifest lacks to be current.

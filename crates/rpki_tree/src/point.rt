@@ -6,6 +6,7 @@ ghost use Rattle.rpki_der.specs.declared.mode.Mode.TheVariants.{Der};
 ghost use Rattle.rpki_certs.specs.Cert.{KeptCertificate};
 ghost use Rattle.rpki_files.specs.Manifest.{ManifestForm};
 ghost use Rattle.rpki_files.specs.Uris.{uris_of};
+ghost use Rattle.rpki_signed.specs.Check.{Checks};
 ghost use Rattle.rpki_signed.specs.Exact.{IsExact};
 ghost use Rattle.rpki_files.specs.Manifest.Checks.{manifest_kind};
 ghost use Rattle.rpki_tree.specs.Point.{ReadsList, ChecksList, FindsFile, FindsFiles};
@@ -113,7 +114,11 @@ fn manifest_asking<C: Crypto, F: FnOnce(&Cert) -> Result<(), ValidationError>>(
     ask: F,
 ) -> Result<(ResourceCert, ManifestContent), CheckError>
     requires { (k : KeptCertificate) → FnOnceTakesAt F.FnOnce ask k }
-    ensures { ((k : KeptCertificate) (said : Result (Unit {0}) ValidationError)
+    ensures first { ((k : KeptCertificate) (said : Result (Unit {0}) ValidationError)
+        → FnOnceReturnsAt F.FnOnce ask k said → said ≡ Ok tt)
+        → Checks manifest_kind (ManifestForm ManifestRule.Any Der) Der (C.digest_of crypto.now)
+        (C.is_signed crypto.now) ca.now now (λ k said. said ≡ Ok tt) octets result }
+    ensures exact { ((k : KeptCertificate) (said : Result (Unit {0}) ValidationError)
         → FnOnceReturnsAt F.FnOnce ask k said → said ≡ Ok tt)
         → IsExact manifest_kind (ManifestForm ManifestRule.Any Der) Der (C.digest_of crypto.now)
         (C.is_signed crypto.now) ca.now now (λ k said. said ≡ Ok tt) octets result }
@@ -122,7 +127,7 @@ fn manifest_asking<C: Crypto, F: FnOnce(&Cert) -> Result<(), ValidationError>>(
 }
 
 /// The manifest of a CA at the front of octets in DER, where it is good at the moment. Whether its
-/// certificate was revoked is not looked at.
+/// certificate was revoked is not looked at. A refusal is that of the first check that fails.
 pub fn manifest_in<C: Crypto>(
     alloc: Global,
     octets: Bytes,
@@ -130,7 +135,10 @@ pub fn manifest_in<C: Crypto>(
     crypto: &C,
     now: Time,
 ) -> Result<(ResourceCert, ManifestContent), CheckError>
-    ensures { IsExact manifest_kind (ManifestForm ManifestRule.Any Der) Der
+    ensures first { Checks manifest_kind (ManifestForm ManifestRule.Any Der) Der
+        (C.digest_of crypto.now) (C.is_signed crypto.now) ca.now now (λ k said. said ≡ Ok tt)
+        octets result }
+    ensures exact { IsExact manifest_kind (ManifestForm ManifestRule.Any Der) Der
         (C.digest_of crypto.now) (C.is_signed crypto.now) ca.now now (λ k said. said ≡ Ok tt)
         octets result }
 {
@@ -150,7 +158,7 @@ fn find_file<S: LocalCopy, C: Crypto>(
     match copy.read(alloc, uri.as_slice()) {
         Err(_) => Err(FileFault::Memory),
         Ok(None) => Err(FileFault::Missing),
-        Ok(Some(octets)) => match hash.verify(crypto, &octets) {
+        Ok(Some(octets)) => match hash.verify(crypto, octets.as_slice()) {
             Err(_) => Err(FileFault::OtherHash),
             Ok(()) => Ok(()),
         },
@@ -158,7 +166,7 @@ fn find_file<S: LocalCopy, C: Crypto>(
 }
 
 /// Whether the copy has each file that a manifest lists, below this folder and with its hash. The
-/// first that it has not is the fault.
+/// search ends with the first that it has not, and the fault is that of one that it has not.
 pub fn find_files<S: LocalCopy, C: Crypto>(
     alloc: Global,
     copy: &S,

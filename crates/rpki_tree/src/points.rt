@@ -2,31 +2,37 @@
 
 ghost use Rattle.std.specs.Prelude.{◌≡◌};
 
-use crate::copy::LocalCopy;
-use crate::files::read_ca;
+use crate::copy::Repository;
 use crate::found::Finding;
 use crate::pass::Pass;
+use crate::visit::visit_ca;
 use rpki_basics::Crypto;
 use rpki_certs::ResourceCert;
 use rpki_walk::{KeyId, Points};
 use std::alloc::{AllocError, Global};
 
-impl<'a, S: LocalCopy, C: Crypto> Points for Pass<'a, S, C> {
-    ghost use Rattle.rpki_tree.specs.Passes.{setting};
-    ghost use Rattle.rpki_tree.specs.Told.{CaTellsAll};
+impl<'a, R: Repository, C: Crypto> Points for Pass<'a, R, C> {
+    ghost use Rattle.std.specs.Prelude.{IsSome};
+    ghost use Rattle.rpki_tree.specs.Passes.{judged};
     ghost use Rattle.rpki_tree.specs.Tree.{IsChild, Says, key_of as key_id};
+    ghost use Rattle.rpki_tree.specs.Visited.{TellsFrom, told_copy};
 
     type Ca = ResourceCert;
 
     type Said = Finding;
 
+    ghost told = { λ pass. IsSome (R.told pass.copy.now) };
+
     ghost key_of = { λ pass ca. key_id ca };
 
-    ghost says = { λ pass. Says (setting S.cached C.digest_of C.is_signed pass) };
+    ghost says = { λ pass. Says (judged C.digest_of C.is_signed pass
+        (told_copy (R.told pass.copy.now))) };
 
-    ghost child = { λ pass. IsChild (setting S.cached C.digest_of C.is_signed pass) };
+    ghost child = { λ pass. IsChild (judged C.digest_of C.is_signed pass
+        (told_copy (R.told pass.copy.now))) };
 
-    ghost tells = { λ pass. CaTellsAll (setting S.cached C.digest_of C.is_signed pass) };
+    ghost tells = { λ pass. TellsFrom (R.told pass.copy.now)
+        (judged C.digest_of C.is_signed pass) };
 
     fn key(&self, ca: &ResourceCert) -> KeyId {
         ca.cert().subject_key_identifier().octets()
@@ -38,6 +44,6 @@ impl<'a, S: LocalCopy, C: Crypto> Points for Pass<'a, S, C> {
         ca: &ResourceCert,
         said: &mut Vec<Finding>,
     ) -> Result<Vec<ResourceCert>, AllocError> {
-        read_ca(alloc, self, ca, said)
+        visit_ca(alloc, self, ca, said)
     }
 }

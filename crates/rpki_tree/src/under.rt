@@ -10,6 +10,7 @@ ghost use Rattle.rpki_routes.specs.Aspa.Form.{AspaForm};
 ghost use Rattle.rpki_routes.specs.Aspa.Checks.{aspa_kind};
 ghost use Rattle.rpki_routes.specs.Roa.Form.{RoaForm};
 ghost use Rattle.rpki_routes.specs.Roa.Checks.{roa_kind};
+ghost use Rattle.rpki_signed.specs.Check.{Checks};
 ghost use Rattle.rpki_signed.specs.Exact.{IsExact};
 ghost use Rattle.rpki_tree.specs.Under.{SaysOf, SaysAs, IsCaUnder};
 
@@ -43,7 +44,10 @@ fn roa_asking<C: Crypto, F: FnOnce(&Cert) -> Result<(), ValidationError>>(
     ask: F,
 ) -> Result<(ResourceCert, RouteOriginAttestation), CheckError>
     requires { (k : KeptCertificate) → FnOnceTakesAt F.FnOnce ask k }
-    ensures { (list : RevocationList) → SaysAs (FnOnceReturnsAt F.FnOnce ask) list
+    ensures first { (list : RevocationList) → SaysAs (FnOnceReturnsAt F.FnOnce ask) list
+        → Checks roa_kind RoaForm Der (C.digest_of crypto.now) (C.is_signed crypto.now)
+        issuer.now now (SaysOf list) octets result }
+    ensures exact { (list : RevocationList) → SaysAs (FnOnceReturnsAt F.FnOnce ask) list
         → IsExact roa_kind RoaForm Der (C.digest_of crypto.now) (C.is_signed crypto.now)
         issuer.now now (SaysOf list) octets result }
 {
@@ -61,7 +65,10 @@ fn aspa_asking<C: Crypto, F: FnOnce(&Cert) -> Result<(), ValidationError>>(
     limit: ProviderLimit,
 ) -> Result<(ResourceCert, AsProviderAttestation), CheckError>
     requires { (k : KeptCertificate) → FnOnceTakesAt F.FnOnce ask k }
-    ensures { (list : RevocationList) → SaysAs (FnOnceReturnsAt F.FnOnce ask) list
+    ensures first { (list : RevocationList) → SaysAs (FnOnceReturnsAt F.FnOnce ask) list
+        → Checks aspa_kind (AspaForm limit) Der (C.digest_of crypto.now) (C.is_signed crypto.now)
+        issuer.now now (SaysOf list) octets result }
+    ensures exact { (list : RevocationList) → SaysAs (FnOnceReturnsAt F.FnOnce ask) list
         → IsExact aspa_kind (AspaForm limit) Der (C.digest_of crypto.now) (C.is_signed crypto.now)
         issuer.now now (SaysOf list) octets result }
 {
@@ -69,7 +76,8 @@ fn aspa_asking<C: Crypto, F: FnOnce(&Cert) -> Result<(), ValidationError>>(
 }
 
 /// What the ROA at the front of octets in DER says, and its certificate with its numbers, where it
-/// is good under an issuer and the list does not revoke it (RFC 9582, section 5).
+/// is good under an issuer and the list does not revoke it (RFC 9582, section 5). A refusal is that
+/// of the first check that fails.
 pub fn roa_under<C: Crypto>(
     alloc: Global,
     octets: Bytes,
@@ -78,7 +86,9 @@ pub fn roa_under<C: Crypto>(
     crypto: &C,
     now: Time,
 ) -> Result<(ResourceCert, RouteOriginAttestation), CheckError>
-    ensures { IsExact roa_kind RoaForm Der (C.digest_of crypto.now) (C.is_signed crypto.now)
+    ensures first { Checks roa_kind RoaForm Der (C.digest_of crypto.now) (C.is_signed crypto.now)
+        issuer.now now (SaysOf list.now.list) octets result }
+    ensures exact { IsExact roa_kind RoaForm Der (C.digest_of crypto.now) (C.is_signed crypto.now)
         issuer.now now (SaysOf list.now.list) octets result }
 {
     roa_asking(
@@ -92,7 +102,8 @@ pub fn roa_under<C: Crypto>(
 }
 
 /// What the ASPA at the front of octets in DER says, and its certificate with its numbers, where it
-/// is good under an issuer and the list does not revoke it.
+/// is good under an issuer and the list does not revoke it. A refusal is that of the first check
+/// that fails.
 pub fn aspa_under<C: Crypto>(
     alloc: Global,
     octets: Bytes,
@@ -102,7 +113,9 @@ pub fn aspa_under<C: Crypto>(
     now: Time,
     limit: ProviderLimit,
 ) -> Result<(ResourceCert, AsProviderAttestation), CheckError>
-    ensures { IsExact aspa_kind (AspaForm limit) Der (C.digest_of crypto.now)
+    ensures first { Checks aspa_kind (AspaForm limit) Der (C.digest_of crypto.now)
+        (C.is_signed crypto.now) issuer.now now (SaysOf list.now.list) octets result }
+    ensures exact { IsExact aspa_kind (AspaForm limit) Der (C.digest_of crypto.now)
         (C.is_signed crypto.now) issuer.now now (SaysOf list.now.list) octets result }
 {
     aspa_asking(
@@ -136,7 +149,8 @@ fn ca_in<C: Crypto>(
 }
 
 /// The certificate of a CA at the front of octets in DER, with its numbers, where it is valid under
-/// an issuer (RFC 6487, section 7.2) and the list does not revoke it.
+/// an issuer (RFC 6487, section 7.2) and the list does not revoke it. A refusal is that of the first
+/// check that fails, and whether the list revokes it is the last one.
 pub fn ca_under<C: Crypto>(
     alloc: Global,
     octets: Bytes,

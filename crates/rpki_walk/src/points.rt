@@ -16,6 +16,10 @@ pub trait Points {
     /// One of the things that a CA says.
     type Said: Drop;
 
+    // It tells what its CAs say, and which are their children: where it does not, as where the
+    // points are files of a folder, only `tells` speaks of what was read.
+    ghost told: { Self → Type 0 };
+
     // The key of a CA.
     ghost key_of: { Self → Self.Ca → List ℕ };
 
@@ -41,9 +45,9 @@ pub trait Points {
         ca: &Self::Ca,
         said: &mut Vec<Self::Said>,
     ) -> Result<Vec<Self::Ca>, AllocError>
-        ensures children { IfOk result (λ children. (d : Self.Ca) →
+        ensures children { IfOk result (λ children. told self.now → (d : Self.Ca) →
             Contains children.items d ↔ child self.now ca.now d) }
-        ensures said { IfOk result (λ _. (x : Self.Said) →
+        ensures said { IfOk result (λ _. told self.now → (x : Self.Said) →
             Contains said.new.items x ↔ (Contains said.old.items x ⊎ says self.now ca.now x)) }
         ensures order { IfOk result (λ children.
             IsTold (tells self.now) ca.now said.old.items said.new.items children.items) };

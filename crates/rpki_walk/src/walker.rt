@@ -98,7 +98,7 @@ fn visit<P: Points>(
     waiting: &mut Vec<Waiting<P::Ca>>,
     said: &mut Vec<P::Said>,
 ) -> Result<(), AllocError>
-    ensures payloads { IfOk result (λ _. (x : P.Said) →
+    ensures payloads { IfOk result (λ _. P.told points.now → (x : P.Said) →
         (Contains said.new.items x
         ⊎ IsSaidFromOne (P.says points.now) (P.child points.now) (P.key_of points.now)
         waiting.new.items x)
@@ -120,14 +120,16 @@ fn visit<P: Points>(
 /// What the CA of a trust anchor says, and those below it, each as often as a chain leads there:
 /// a chain has 32 certificates at most, and no key twice. The CAs are visited depth first, a CA
 /// before its children, and these in their order. Where there are more places than `limit`, which
-/// counts chains and not CAs, nothing is answered of what they say.
+/// counts chains and not CAs, nothing is answered of what they say. Where the points don't tell what
+/// their CAs say, the order still holds of what was read.
 pub fn walk<P: Points>(
     alloc: Global,
     points: &P,
     anchor: P::Ca,
     limit: usize,
 ) -> Result<Vec<P::Said>, WalkError>
-    ensures payloads { IfOk result (λ said. (x : P.Said) → Contains said.items x ↔
+    ensures payloads { IfOk result (λ said. P.told points.now → (x : P.Said) →
+        Contains said.items x ↔
         IsPayload (P.says points.now) (P.child points.now) (P.key_of points.now) anchor x) }
     ensures order { IfOk result (λ said.
         IsWalkOf (P.tells points.now) (P.key_of points.now) anchor limit said.items) }

@@ -185,11 +185,12 @@ static ROAS: [(Has, u64, &str); 7] = [
 ];
 
 /// The providers, the call that fails, and the fault: that of the content comes first.
-static ASPAS: [(&[u32], u64, &str); 7] = [
+static ASPAS: [(&[u32], u64, &str); 8] = [
     (&[1], 0, ""),
     (&[1], 1, "told to fail"),
     (&[1], 2, "told to fail"),
     (&[1], 3, "told to fail"),
+    (&[1], 4, ""),
     (&[], 1, "no provider"),
     (&[1, 64496], 1, "customer is its own provider"),
     (&[0, 1], 1, "AS0 beside another provider"),

@@ -10,6 +10,7 @@ use Rattle.rpki_certs.specs.Cert.{Certificate}
 use Rattle.rpki_certs.specs.declared.issuer.IssuerError.TheVariants as issuing
 use Rattle.rpki_multi.specs.Attestation.{RtaForm}
 use Rattle.rpki_rsa.specs.Signature.{is_rsa_signature}
+use Rattle.rpki_rsa.specs.declared.rsa.Rsa.{Rsa}
 use Rattle.rpki_sigobj.specs.Object.{SignedForm}
 use Rattle.rpki_verdicts.specs.Attested.{AreChains, AreNotAllChains, IsRtaListingOf}
 use Rattle.rpki_verdicts.specs.Lists.{AreCerts, AreNotAllCerts, IsListingOf}
@@ -42,10 +43,12 @@ VerifiedWalkOf options tail now (object ∷ anchor ∷ others) s =
     IsWalkedWith Included options sha256 is_rsa_signature now tail object anchor others s
 VerifiedWalkOf options tail now files s = ⊥
 
--- What is said of files: of the attestation, and those that these anchors name.
+-- What is said of files: of the attestation, and those that these anchors name. The cryptography is
+-- `Rsa`, which has one value.
 abbrev pub VerifiedRtaOf : List (List ℕ) → Moment → List (List ℕ) → Output → Type 0
 VerifiedRtaOf words now (object ∷ files) s =
-    IsAttestedWith Included sha256 is_rsa_signature now words object files s
+    IsAttestedWith Included (λ (_ : Rsa). sha256) (λ (_ : Rsa). is_rsa_signature) (record {}) now
+    words object files s
 VerifiedRtaOf words now files s = ⊥
 
 -- What is said where the good ones of the signatures that a check asks about are listed: first that

@@ -1,12 +1,12 @@
 //! Locators whose trust anchor a copy lacks.
 
-use super::copy::Files;
+use super::copy::{Files, Silent};
 use rpki_basics::standin::StandIn;
 use rpki_basics::{ProviderLimit, Time};
 use rpki_der::Counted;
 use rpki_tal::{ReadError, Tal};
 use rpki_testing::Fail;
-use rpki_tree::{AnchorFault, Pass, PassFault, findings};
+use rpki_tree::{AnchorFault, Pass, PassFault, Repository, findings};
 use std::alloc::{AllocError, Global};
 
 /// A locator with an rsync URI, an https URI and a key.
@@ -40,12 +40,11 @@ fn moment() -> Result<Time, Fail> {
     }
 }
 
-// What is answered for the locator where the copy has these octets for a URI.
-fn answer(alloc: Global, uri: &[u8], octets: &[u8]) -> Result<&'static str, Fail> {
+// What is answered for the locator over a repository.
+fn answer<R: Repository>(alloc: Global, copy: &R) -> Result<&'static str, Fail> {
     let tal = locator(alloc)?;
-    let copy = copy_with(alloc, uri, octets)?;
     let pass = Pass {
-        copy: &copy,
+        copy,
         crypto: &StandIn,
         moment: moment()?,
         providers: ProviderLimit::Narrow,
@@ -64,12 +63,24 @@ fn answer(alloc: Global, uri: &[u8], octets: &[u8]) -> Result<&'static str, Fail
     }
 }
 
+// What is answered where the copy has these octets for a URI, which is the same whether it tells or
+// not.
+fn answer_with(alloc: Global, uri: &[u8], octets: &[u8]) -> Result<&'static str, Fail> {
+    let files = copy_with(alloc, uri, octets)?;
+    let told = answer(alloc, &files)?;
+    let silent = Silent { files: &files };
+    if answer(alloc, &silent)? != told {
+        return Err(Fail::Refused);
+    }
+    Ok(told)
+}
+
 // A copy that has none of the URIs, and one that has bad octets for one of them.
 #[test]
 fn anchors_are_missing_or_refused(rt: HostRuntime) -> Result<(), Fail> {
     let alloc = rt.alloc();
-    assert!(rt; answer(alloc, b"rsync://host/module/b.cer", b"none")? == "missing");
-    assert!(rt; answer(alloc, b"rsync://host/module/a.cer", b"none")? == "refused");
-    assert!(rt; answer(alloc, b"https://host/a.cer", b"")? == "refused");
+    assert!(rt; answer_with(alloc, b"rsync://host/module/b.cer", b"none")? == "missing");
+    assert!(rt; answer_with(alloc, b"rsync://host/module/a.cer", b"none")? == "refused");
+    assert!(rt; answer_with(alloc, b"https://host/a.cer", b"")? == "refused");
     Ok(())
 }

@@ -44,6 +44,8 @@ impl<'a> Points for Pairs<'a> {
 
     type Said = u8;
 
+    ghost told = { λ t. Unit {0} };
+
     ghost key_of = { λ t ca. id_of ca };
 
     ghost says = { λ t ca x. Contains (seconds_of ca t.said.now) x };

@@ -12,7 +12,7 @@ returns-in-Ok g c = (
   Ok c.in-Ok.anchors,
   c.in-Ok.ensures,
   subst (λ (anchors : List Anchor). AttestedUnder c.args.causes
-      (g.K.Crypto.digest_of c.args.crypto.now) (g.K.Crypto.is_signed c.args.crypto.now) c.args.now
+      g.K.Crypto.digest_of g.K.Crypto.is_signed c.args.crypto.now c.args.now
       (map supply_of anchors) c.args.object.now (said c.check_anchored-answer.result))
       c.deref.ensures.value c.check_anchored-answer.ensures,
 )

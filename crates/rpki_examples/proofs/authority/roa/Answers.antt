@@ -16,7 +16,7 @@ use Rattle.rpki_examples.proofs.Published.{signed-unrevoked}
 use Rattle.rpki_examples.proofs.authority.roa.Goals as goal
 
 pub returns-in-Err-published-clause-passes : goal.returns-in-Err-published-clause-passes
-returns-in-Err-published-clause-passes g c = λ takes timely covered missing.
+returns-in-Err-published-clause-passes g c = λ takes timely covered allowed.
     let by = checking g.C.Crypto.digest_of g.C.Crypto.is_signed c.args.check.now in
     let may = g.S.Signer.may_sign c.args.signer.now in
     let made = g.S.Crypto.digest_of c.args.signer.now in
@@ -41,7 +41,7 @@ returns-in-Err-published-clause-passes g c = λ takes timely covered missing.
     (ap (λ (b : Settings). b.signing_time) built.claims.others) c.in-Ok.ensures.signatures named
     (roa-allowed o.content handed told by.issuer.sets built.claims
     (subst (λ (r : Roa). RoaCovered r by.issuer.sets) (sym c.in-Ok.ensures.content) covered)
-    missing)))))
+    allowed)))))
     (signed-unrevoked may made by handed told key route_origin_authz (roa_octets o.content) d s
     timely (ap (λ (b : Settings). b.serial_number) built.claims.others) built.built)
 

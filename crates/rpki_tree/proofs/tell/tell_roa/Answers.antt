@@ -15,7 +15,7 @@ returns-in-Err g c =
     put-refused (HasRoa s c.args.ca.now c.args.list.now.list c.args.file.octets) roa_found
     c.args.file.uri faults.NoRoa c.args.said.now.items c.put_refusal.new.said.items
     (has-none s roa_kind RoaForm c.args.ca.now c.args.list.now.list c.args.file.octets
-    c.in-Err.error c.in-Err.ensures) c.put_refusal.result c.put_refusal.ensures.memory
+    c.in-Err.error c.in-Err.ensures.exact) c.put_refusal.result c.put_refusal.ensures.memory
     c.put_refusal.ensures.refused
 
 pub returns-in-Ok : goal.returns-in-Ok
@@ -25,5 +25,5 @@ returns-in-Ok g c =
     put-found (HasRoa s c.args.ca.now c.args.list.now.list c.args.file.octets) roa_found
     c.args.file.uri faults.NoRoa c.args.said.now.items c.put_roa-put.new.said.items
     c.in-Ok.good.1 (has-content s roa_kind RoaForm c.args.ca.now c.args.list.now.list
-    c.args.file.octets c.in-Ok.good c.in-Ok.ensures) c.put_roa-put.result
+    c.args.file.octets c.in-Ok.good c.in-Ok.ensures.exact) c.put_roa-put.result
     c.put_roa-put.ensures

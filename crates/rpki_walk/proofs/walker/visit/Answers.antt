@@ -8,7 +8,7 @@ use Rattle.rpki_walk.proofs.Visiting.{visited}
 use Rattle.rpki_walk.proofs.walker.visit.Goals as goal
 
 pub returns-clause-payloads : goal.returns-clause-payloads
-returns-clause-payloads g c = λ x.
+returns-clause-payloads g c = λ t x.
     let says = g.P.Points.says c.args.points.now in
     let child = g.P.Points.child c.args.points.now in
     let key = g.P.Points.key_of c.args.points.now in
@@ -22,8 +22,8 @@ returns-clause-payloads g c = λ x.
     c.next.view_is
     (visited says child key inside c.in_ok-children.children.items
     c.deref.result.now c.args.said.now.items c.read.new.said.items c.args.waiting.now.items
-    c.put_children.new.waiting.items c.in_ok-children.ensures.children
-    c.in_ok-children.ensures.said
+    c.put_children.new.waiting.items (c.in_ok-children.ensures.children t)
+    (c.in_ok-children.ensures.said t)
     (c.deref.ensures.value ∙ (c.in_ok-push.ensures.items
     ∙ ap (λ (k : List ℕ). c.next.inside.keys.items ++ k ∷ []) c.key.ensures))
     (put-waits key c.deref.result.now c.in_ok-children.children.items c.args.waiting.now.items

@@ -8,7 +8,7 @@ use Rattle.rpki_walk.proofs.walker.walk.Goals as goal
 pub loop-next-init : goal.loop-next-init
 loop-next-init g c = record {
   within = omega arith;
-  payloads = λ x.
+  payloads = λ t x.
       none-said (g.P.Points.says c.args.points.now) (g.P.Points.child c.args.points.now)
       (g.P.Points.key_of c.args.points.now) c.args.anchor c.new-said.result.items
       c.in_ok-waiting.waiting.items x c.new-said.ensures.items c.in_ok-waiting.ensures;
@@ -27,12 +27,12 @@ returns-then-visited-limit-clause-limit g c = λ e.
 pub loop-next-preserved : goal.loop-next-preserved
 loop-next-preserved g c = record {
   within = omega (arith, c.loop-next.invariant.within, c.if-visited-limit.false);
-  payloads = λ x.
+  payloads = λ t x.
       one-more (g.P.Points.says c.args.points.now) (g.P.Points.child c.args.points.now)
       (g.P.Points.key_of c.args.points.now) c.args.anchor c.in-Some.next c.loop-next.said.items
       c.visit.new.said.items c.loop-next.waiting.items c.pop.new.self.items
-      c.visit.new.waiting.items x c.in-Some.ensures.items (c.loop-next.invariant.payloads x)
-      (c.in_ok-visit.ensures.payloads x);
+      c.visit.new.waiting.items x c.in-Some.ensures.items (c.loop-next.invariant.payloads t x)
+      (c.in_ok-visit.ensures.payloads t x);
   trace = trace.one-more (g.P.Points.tells c.args.points.now)
       (g.P.Points.key_of c.args.points.now) c.args.anchor c.loop-next.visited
       c.loop-next.said.items c.loop-next.waiting.items c.pop.new.self.items c.in-Some.next
@@ -41,13 +41,13 @@ loop-next-preserved g c = record {
 }
 
 pub returns-clause-payloads : goal.returns-clause-payloads
-returns-clause-payloads g c = λ x.
+returns-clause-payloads g c = λ t x.
     all-said (g.P.Points.says c.args.points.now) (g.P.Points.child c.args.points.now)
     (g.P.Points.key_of c.args.points.now) c.args.anchor c.loop-next.said.items
     c.loop-next.waiting.items x
     (let none = c.in_default.ensures.cases.0 in
     nil_from_length c.loop-next.waiting.items (omega (arith, none, c.loop-next.waiting.ok.0)))
-    (c.loop-next.invariant.payloads x)
+    (c.loop-next.invariant.payloads t x)
 
 pub returns-clause-order : goal.returns-clause-order
 returns-clause-order g c =

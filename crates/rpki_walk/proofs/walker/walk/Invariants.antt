@@ -8,7 +8,7 @@ use Rattle.rpki_walk.proofs.walker.walk.Given as goal
 abbrev pub invariant-loop-next : goal.invariant-loop-next
 invariant-loop-next g l = record {
   within : l.visited ≤ l.limit;
-  payloads : (x : g.row.P-Said.Denot)
+  payloads : g.P.Points.told l.points → (x : g.row.P-Said.Denot)
       → (Contains l.said.items x
       ⊎ IsSaidFromOne (g.P.Points.says l.points) (g.P.Points.child l.points)
       (g.P.Points.key_of l.points) l.waiting.items x)

@@ -1,6 +1,6 @@
 use Rattle.std.proofs.Common.{◌≡◌, drop}
 use Rattle.rpki_tree_tests.specs.Tree.{octets_for}
-use Rattle.rpki_tree_tests.proofs.tree.copy.FilesLocalCopy.read.Given as goal
+use Rattle.rpki_tree_tests.proofs.tree.copy.FilesRepository.read.Given as goal
 
 -- none before has the URI
 abbrev pub invariant-loop-file : goal.invariant-loop-file

@@ -1,0 +1,8 @@
+pub mod Characters
+pub mod Fields
+pub mod Growing
+pub mod Objects
+pub mod Plain
+pub mod Strings
+pub mod Tables
+pub mod Values

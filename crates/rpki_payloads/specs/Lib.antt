@@ -1,0 +1,7 @@
+pub mod Found
+pub mod Grammar
+pub mod Grows
+pub mod Picked
+pub mod Said
+pub mod Separated
+pub mod Texts

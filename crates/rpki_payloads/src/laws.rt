@@ -1,0 +1,40 @@
+//! Laws of the texts: that they are in their grammars, and what they say.
+
+ghost use Rattle.std.specs.Prelude.{◌≡◌, ℕ, List};
+ghost use Rattle.rpki_payloads.specs.Found.{Found};
+ghost use Rattle.rpki_payloads.specs.Grammar.Json.{IsString, IsText};
+ghost use Rattle.rpki_payloads.specs.Grammar.Csv.{IsField, AreRecords};
+ghost use Rattle.rpki_payloads.specs.Said.{csv_rows, json_value, HaveLengths};
+ghost use Rattle.rpki_payloads.specs.Texts.Csv.{csv_text};
+ghost use Rattle.rpki_payloads.specs.Texts.Escaped.{json_string, csv_field};
+ghost use Rattle.rpki_payloads.specs.Texts.Json.{json_text};
+
+/// What is written as a string of JSON is one, and says the text and nothing else. What a string of
+/// JSON says is unique.
+pub fn strings_say_their_texts()
+    ensures says { (text : List ℕ) → IsString (json_string text) text }
+    ensures only { (text said : List ℕ) → IsString (json_string text) said → said ≡ text }
+    ensures unique { (octets said other : List ℕ) → IsString octets said → IsString octets other
+        → said ≡ other }
+{}
+
+/// What is written as a field of CSV is one, and says the text and nothing else. What a field says
+/// is unique.
+pub fn fields_say_their_texts()
+    ensures says { (text : List ℕ) → IsField (csv_field text) text }
+    ensures only { (text said : List ℕ) → IsField (csv_field text) said → said ≡ text }
+    ensures unique { (octets said other : List ℕ) → IsField octets said → IsField octets other
+        → said ≡ other }
+{}
+
+/// What is written as CSV is a header and a record for each origin, whose fields say its numbers
+/// and the name of its locator.
+pub fn tables_say_their_origins()
+    ensures { (found : List Found) → AreRecords (csv_rows found) (csv_text found) }
+{}
+
+/// What is written as JSON is a text of JSON, and says the payloads.
+pub fn objects_say_their_payloads()
+    ensures { (found : List Found) → HaveLengths found
+        → IsText (json_text found) (json_value found) }
+{}
