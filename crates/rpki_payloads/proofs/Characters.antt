@@ -21,12 +21,15 @@ same : (f : ℕ → List ℕ) (os : List ℕ)
     → ((k : ℕ) → k < length os → f (get_or os k 0) ≡ get_or os k 0 ∷ []) → flat_map f os ≡ os
 same f [] h = refl
 same f (o ∷ os) h =
-    ap₂ (λ (a b : List ℕ). a ++ b) (h 0 (omega arith)) (same f os (λ k below. h (suc k) (omega arith)))
+    ap₂ (λ (a b : List ℕ). a ++ b) (h 0 (omega arith))
+    (same f os (λ k below. h (suc k) (omega arith)))
 
 -- the octets of a character beyond ASCII are not of ASCII
 high : (c k : ℕ) → 128 ≤ c → k < length (encode_utf8 c) → 128 ≤ get_or (encode_utf8 c) k 0
 high c k big below = elim (cases_lt (get_or (encode_utf8 c) k 0) 128) [
-  | inl low ↦ absurd (omega (arith, inside_one c [] (encode_utf8 c) k (sym (append-nil _)) below low))
+  | inl low ↦
+      let is = inside_one c [] (encode_utf8 c) k (sym (append-nil _)) below low in
+      absurd (omega (arith, is))
   | inr h ↦ h
 ]
 

@@ -25,7 +25,13 @@ comma-space =
 
 comma-line : IsMark (codes ",") (codes ",\n  ")
 comma-line =
-    record { before = []; after = codes "\n  "; parts = refl; space_before = refl; space_after = refl }
+    record {
+      before = [];
+      after = codes "\n  ";
+      parts = refl;
+      space_before = refl;
+      space_after = refl;
+    }
 
 object-opens : IsMark (codes "{") (codes "\n    { ")
 object-opens = record {
@@ -41,10 +47,12 @@ object-closes =
     record { before = codes " "; after = []; parts = refl; space_before = refl; space_after = refl }
 
 array-opens : IsMark (codes "[") (codes "[")
-array-opens = record { before = []; after = []; parts = refl; space_before = refl; space_after = refl }
+array-opens =
+    record { before = []; after = []; parts = refl; space_before = refl; space_after = refl }
 
 array-closes : IsMark (codes "]") (codes "]")
-array-closes = record { before = []; after = []; parts = refl; space_before = refl; space_after = refl }
+array-closes =
+    record { before = []; after = []; parts = refl; space_before = refl; space_after = refl }
 
 array-closes-line : IsMark (codes "]") (codes "\n  ]")
 array-closes-line = record {
@@ -150,7 +158,8 @@ roa-is o h =
     let lengths = member (codes "maxLength") (number length) ta in
     record {
       first = codes "\n    { ";
-      inside = written (codes "asn") (quoted asn) ++ prefix-octets asn prefix (decimal length) o.name;
+      inside = written (codes "asn") (quoted asn)
+          ++ prefix-octets asn prefix (decimal length) o.name;
       last = codes " }";
       parts = roa-parts asn prefix (decimal length) o.name;
       opens = object-opens;

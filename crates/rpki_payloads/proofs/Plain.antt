@@ -1,5 +1,5 @@
--- The octets of numbers and of prefixes are digits, letters, dots, slashes and colons, so they stand
--- for themselves in a string of JSON and in a field of CSV.
+-- The octets of numbers and of prefixes are digits, letters, dots, slashes and colons, so they
+-- stand for themselves in a string of JSON and in a field of CSV.
 use Rattle.std.proofs.Common.{◌≡◌, ◌≢◌, ℕ, zero, suc, ◌+◌, ◌^◌, ◌≤◌, nat_lt, nat_le, ◌&&◌, not, ◌/◌, ◌%◌, ◌==◌, Bool, true, false, List, [], ◌∷◌, ◌++◌, All, take, drop, codes, decimal, arith, if◌then◌else◌}
 use Rattle.std.specs.Char.{digit_char}
 use Rattle.std.specs.Fmt.{digits, digits_onto}
@@ -141,10 +141,12 @@ plain-addr Ipv6 addr = plain-ipv6 (groups_of addr)
 
 pub plain-asn : (n : ℕ) → ArePlain (asn_text n)
 plain-asn n =
-    All-cons IsPlain 0x41 (0x53 ∷ decimal n) (record { low = omega arith; backslash = λ e. omega arith })
+    All-cons IsPlain 0x41 (0x53 ∷ decimal n)
+    (record { low = omega arith; backslash = λ e. omega arith })
     (All-cons IsPlain 0x53 (decimal n) (record { low = omega arith; backslash = λ e. omega arith })
     (plain-decimal n))
 
 pub plain-prefix : (family : AddressFamily) (p : Network) → ArePlain (prefix_text family p)
 plain-prefix family p =
-    both _ _ (plain-addr family p.addr) (both (codes "/") (decimal p.len) slash (plain-decimal p.len))
+    both _ _ (plain-addr family p.addr)
+    (both (codes "/") (decimal p.len) slash (plain-decimal p.len))

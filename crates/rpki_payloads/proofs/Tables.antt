@@ -17,7 +17,12 @@ use Rattle.rpki_payloads.proofs.Plain.{IsPlain, ArePlain, plain-decimal, plain-a
 text-data : (o : ℕ) → IsPlain o → IsTextData o
 text-data o h =
     let low = h.low in
-    record { comma = λ e. omega arith; quote = λ e. omega arith; cr = λ e. omega arith; lf = λ e. omega arith }
+    record {
+      comma = λ e. omega arith;
+      quote = λ e. omega arith;
+      cr = λ e. omega arith;
+      lf = λ e. omega arith;
+    }
 
 plain-field : (text : List ℕ) → ArePlain text → IsField text text
 plain-field text h = inr (refl, All-weaker IsPlain IsTextData text-data text h)

@@ -1,5 +1,5 @@
--- Fields of CSV (RFC 4180, section 2), and what they say. Its grammar has octets of ASCII alone, and
--- no control characters; here an octet may be any other too, as in UTF-8.
+-- Fields and records of CSV (RFC 4180, section 2), and what they say. Its grammar has octets of
+-- ASCII alone, and no control characters; here an octet may be any other too, as in UTF-8.
 use Rattle.std.specs.Prelude.{◌≡◌, ◌≢◌, ◌⊎◌, ℕ, List, [], ◌∷◌, ◌++◌, All, codes}
 
 -- an octet of a field that is not quoted: no comma, no quotation mark, no CR and no LF (TEXTDATA)

@@ -6,6 +6,7 @@ use Rattle.rpki_payloads.proofs.Growing.{grown}
 use Rattle.rpki_payloads.proofs.csv.push_csv.Goals as goal
 
 pub returns : goal.returns
-returns c = grown c.push_rows.result c.args.text.now c.write.new.self c.push_rows.new.text csv_header
+returns c =
+    grown c.push_rows.result c.args.text.now c.write.new.self c.push_rows.new.text csv_header
     (flat_map csv_row (origins_among (all_named c.args.found.now)))
     c.in_ok-write.ensures.bytes c.push_rows.ensures
