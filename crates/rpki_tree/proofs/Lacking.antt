@@ -1,8 +1,8 @@
 -- A CA that lacks something of its publication point has none.
-use Rattle.std.proofs.Common.{◌≡◌, ◌≤◌, inl, inr, ℕ, List, [], All, Option, Some}
+use Rattle.std.proofs.Common.{◌≡◌, ◌≤◌, inl, inr, ℕ, List, [], ◌∷◌, All, Contains, Option, Some}
 use Rattle.std.proofs.Common.{None, Result, Ok, Err, is_some, is_ok, unwrap_or, true≢false, refl}
 use Rattle.std.proofs.Common.{sym, subst, ap, ◌∙◌, MatchResult, IfErr}
-use Rattle.std.proofs.lemmas.List.Elements.{All-contains}
+use Rattle.std.proofs.lemmas.List.Elements.{All-contains, Contains-append_right}
 use Rattle.rpki_der.specs.declared.mode.Mode.TheVariants.{Der}
 use Rattle.rpki_der.specs.Form.Decodes.{IsOnlyFront}
 use Rattle.rpki_der.specs.Grammar.{HasNoFront}
@@ -21,6 +21,7 @@ use Rattle.rpki_files.specs.Manifest.Checks.{manifest_kind}
 use Rattle.rpki_files.specs.Uris.{UriAndHash, uris_of}
 use Rattle.rpki_signed.specs.declared.check.CheckError.{CheckError}
 use Rattle.rpki_signed.specs.declared.check.CheckError.TheVariants as checks
+use Rattle.rpki_walk.proofs.Lists.{contains-first}
 use Rattle.rpki_tree.specs.declared.list.NoList.{NoList}
 use Rattle.rpki_tree.specs.declared.list.NoList.TheVariants as lists
 use Rattle.rpki_tree.specs.declared.manifest.ManifestFault.{ManifestFault}
@@ -34,7 +35,7 @@ use Rattle.rpki_tree.specs.declared.read.PointFault.TheVariants as points
 use Rattle.rpki_tree.specs.Setting.{Setting}
 use Rattle.rpki_tree.specs.Point.{Point, IsPoint, IsPointAt, IsListOf, IsListAt, IsListAtUri}
 use Rattle.rpki_tree.specs.Point.{IsManifestAt, IsManifestIn, IsPresent, FindsFiles, ReadsList}
-use Rattle.rpki_tree.specs.Point.{IsUnrevoked}
+use Rattle.rpki_tree.specs.Point.{FollowsPresent, IsUnrevoked}
 use Rattle.rpki_tree.specs.Faults.{LacksManifest, HasOutdated, IsRefused, LacksList, LacksListAt}
 use Rattle.rpki_tree.specs.Faults.{LacksRest, LacksPointAt, LacksPoint, IsManifestMemory}
 use Rattle.rpki_tree.specs.Faults.{IsListMemory, IsMemory, IsMemoryError, IsCurrent}
@@ -116,15 +117,22 @@ module _ (s : Setting) (ca : Validated) where
 
   -- ---- the files
 
+  is-listed : (all : List UriAndHash) (file : UriAndHash)
+      → FollowsPresent s.cached s.digest all file → Contains all file
+  is-listed all file h = subst (λ (l : List UriAndHash). Contains l file) (sym h.order)
+      (Contains-append_right h.before (file ∷ h.after) file (contains-first file h.after))
+
   pub lacks-file : (all : List UriAndHash) → All (IsPresent s.cached s.digest) all
       → (fault : FileFault) → FindsFiles s.cached s.digest all (Err fault) → fault ≡ files.Memory
-  lacks-file all present files.Missing h =
-      let p = All-contains (IsPresent s.cached s.digest) all (h.0) present (h.1) in
-      absurd (none-some (s.cached (h.0.0)) (p.0) (h.2) (p.1.0))
-  lacks-file all present files.OtherHash h =
-      let p = All-contains (IsPresent s.cached s.digest) all (h.0) present (h.1) in
-      absurd (h.2.2 (subst (λ (o : List ℕ). s.digest o ≡ h.0.1)
-      (one-some (s.cached (h.0.0)) (p.0) (h.2.0) (p.1.0) (h.2.1)) (p.1.1)))
+  lacks-file all present (files.Missing uri) h =
+      let p = All-contains (IsPresent s.cached s.digest) all (h.0) present
+      (is-listed all (h.0) (h.1)) in
+      absurd (none-some (s.cached (h.0.0)) (p.0) (h.2.1) (p.1.0))
+  lacks-file all present (files.OtherHash uri) h =
+      let p = All-contains (IsPresent s.cached s.digest) all (h.0) present
+      (is-listed all (h.0) (h.1)) in
+      absurd (h.2.1.2 (subst (λ (o : List ℕ). s.digest o ≡ h.0.1)
+      (one-some (s.cached (h.0.0)) (p.0) (h.2.1.0) (p.1.0) (h.2.1.1)) (p.1.1)))
   lacks-file all present files.Memory h = refl
 
   -- ---- the revocation list

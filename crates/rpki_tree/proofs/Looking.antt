@@ -1,33 +1,37 @@
 -- The files of a manifest are found one by one.
-use Rattle.std.proofs.Common.{◌≡◌, ◌∷◌, [], ℕ, List, All, Contains, Option, Result, Ok, Err}
-use Rattle.std.proofs.Common.{subst, sym, ap, ◌∙◌, arith, refl, map}
+use Rattle.std.proofs.Common.{◌≡◌, ◌∷◌, ◌++◌, [], ℕ, List, All, Contains, Option, Result, Ok, Err}
+use Rattle.std.proofs.Common.{subst, sym, ap, ◌∙◌, append_assoc, arith, map}
 use Rattle.std.proofs.lemmas.Map.Made.{Contains-tail}
 use Rattle.std.specs.Prelude.{IfOk}
-use Rattle.std.proofs.lemmas.List.Elements.{All-cons, Contains-append_right}
+use Rattle.std.proofs.lemmas.List.{append-nil}
+use Rattle.std.proofs.lemmas.List.Elements.{All-nil, All-push, Contains-append_right}
 use Rattle.rpki_files.specs.Uris.{UriAndHash}
 use Rattle.rpki_sigobj.specs.Verify.{Digester}
-use Rattle.rpki_tree.specs.Point.{FindsFile, FindsFiles}
+use Rattle.rpki_tree.specs.Point.{FindsFile, FindsFiles, FollowsPresent, IsPresent}
 use Rattle.rpki_tree.specs.declared.point.FileFault.{FileFault}
 use Rattle.rpki_tree.specs.declared.point.FileFault.TheVariants.{Missing, OtherHash, Memory}
 
--- Where P holds of those that are left, it holds of all; and those that are left are among all.
-abbrev pub AreLeft : {X : Type 0} → (X → Type 0) → List X → List X → Type 0
-AreLeft {X} P all left = (All P left → All P all) × ((x : X) → Contains left x → Contains all x)
+-- Those that are left come after others, of which P holds.
+pub record AreLeft {X : Type 0} (P : X → Type 0) (all left : List X) : Type 0 where
+  pub before : List X
+  pub splits : all ≡ before ++ left
+  pub holds : All P before
 
-module _ {X : Type 0} (P : X → Type 0) (all left rest : List X) (x : X) (e : left ≡ x ∷ rest)
-    (h : AreLeft P all left) where
-  pub is-among : Contains all x
-  is-among = h.1 x (subst (λ (l : List X). Contains l x) (sym e) (0, omega arith, refl))
+pub none-less : {X : Type 0} (P : X → Type 0) (all left : List X) → left ≡ all → AreLeft P all left
+none-less P all left e = record { before = []; splits = sym e; holds = All-nil P }
 
-  pub one-less : P x → AreLeft P all rest
-  one-less p = (
-    λ a. h.0 (subst (λ (l : List X). All P l) (sym e) (All-cons P x rest p a)),
-    λ y c. h.1 y (subst (λ (l : List X). Contains l y) (sym e)
-        (Contains-append_right (x ∷ []) rest y c)),
-  )
+module _ {X : Type 0} (P : X → Type 0) (all left : List X) (h : AreLeft P all left) where
+  pub one-less : (rest : List X) (x : X) → left ≡ x ∷ rest → P x → AreLeft P all rest
+  one-less rest x e p = record {
+    before = h.before ++ x ∷ [];
+    splits = h.splits ∙ (ap (λ (l : List X). h.before ++ l) e
+        ∙ sym (append_assoc h.before (x ∷ []) rest));
+    holds = All-push P h.before x h.holds p;
+  }
 
-pub none-less : {X : Type 0} (P : X → Type 0) (all : List X) → AreLeft P all all
-none-less P all = (λ a. a, λ x c. c)
+  pub none-left : left ≡ [] → All P all
+  none-left e = subst (λ (l : List X). All P l)
+      (sym (h.splits ∙ (ap (λ (l : List X). h.before ++ l) e ∙ append-nil h.before))) h.holds
 
 -- the file that the next call answers
 pub first-left : {X E : Type 0} (item : Result X E) (y : X) (left rest : List X)
@@ -36,13 +40,26 @@ first-left {X} {E} item y left rest s e =
     s.1 ∙ ap (λ (z : X). z ∷ rest)
     (sym (subst (λ (i : Result X E). IfOk i (λ z. z ≡ s.0)) e s.2))
 
--- what is answered of one is answered of all
-pub told : (cached : List ℕ → Option (List ℕ)) (digest : Digester) (all : List UriAndHash)
-    (x : UriAndHash) (fault : FileFault) → Contains all x → FindsFile cached digest x (Err fault)
+-- what is answered of the first that is not present is answered of all
+pub told : (cached : List ℕ → Option (List ℕ)) (digest : Digester) (all left rest : List UriAndHash)
+    (x : UriAndHash) → AreLeft (IsPresent cached digest) all left → left ≡ x ∷ rest
+    → (fault : FileFault) → FindsFile cached digest x (Err fault)
     → FindsFiles cached digest all (Err fault)
-told cached digest all x Missing c h = (x, c, h)
-told cached digest all x OtherHash c h = (x, c, h)
-told cached digest all x Memory c h = tt
+told cached digest all left rest x h e = of
+  where
+    first : FollowsPresent cached digest all x
+    first = record {
+      before = h.before;
+      after = rest;
+      order = h.splits ∙ ap (λ (l : List UriAndHash). h.before ++ l) e;
+      present = h.holds;
+    }
+
+    of : (fault : FileFault) → FindsFile cached digest x (Err fault)
+        → FindsFiles cached digest all (Err fault)
+    of (Missing uri) g = (x, first, g)
+    of (OtherHash uri) g = (x, first, g)
+    of Memory g = tt
 
 -- ---- a URI among those of files
 

@@ -1,6 +1,6 @@
 -- The publication point of a certification authority (CA). The sections are those of RFC 9286,
 -- where no other RFC is named.
-use Rattle.std.specs.Prelude.{◌≡◌, ◌≤◌, ℕ, List, Option, None, Some, All, Contains, map}
+use Rattle.std.specs.Prelude.{◌≡◌, ◌≤◌, ℕ, List, ◌∷◌, ◌++◌, Option, None, Some, All, Contains, map}
 use Rattle.std.specs.Prelude.{Result, Ok, Err}
 use Rattle.rpki_der.specs.declared.mode.Mode.TheVariants.{Der}
 use Rattle.rpki_der.specs.Form.Decodes.{IsOnlyFront}
@@ -166,18 +166,31 @@ ReadsList verdict now ca octets (Err Stale) = BeginsWithList octets (λ list.
 abbrev pub FindsFile : (List ℕ → Option (List ℕ)) → Digester → UriAndHash
     → Result (Unit {0}) FileFault → Type 0
 FindsFile cached digest file (Ok done) = IsPresent cached digest file
-FindsFile cached digest file (Err files.Missing) = cached file.0 ≡ None
-FindsFile cached digest file (Err files.OtherHash) =
-    (octets : List ℕ) × (cached file.0 ≡ Some octets) × ¬ (digest octets ≡ file.1)
+FindsFile cached digest file (Err (files.Missing uri)) =
+    (file.0 ≡ uri) × (cached file.0 ≡ None)
+FindsFile cached digest file (Err (files.OtherHash uri)) =
+    (file.0 ≡ uri) × ((octets : List ℕ) × (cached file.0 ≡ Some octets)
+    × ¬ (digest octets ≡ file.1))
 FindsFile cached digest file (Err files.Memory) = Unit {0}
 
--- What is answered of files: a yes, where each is present, and else what is answered of one.
+-- The file is listed, and each that is listed before it is present.
+pub record FollowsPresent (cached : List ℕ → Option (List ℕ)) (digest : Digester)
+    (listed : List UriAndHash) (file : UriAndHash) : Type 0 where
+  pub before : List UriAndHash
+  pub after : List UriAndHash
+  pub order : listed ≡ before ++ file ∷ after
+  pub present : All (IsPresent cached digest) before
+
+-- What is answered of files: a yes, where each is present, and else what is answered of the first
+-- that is not.
 abbrev pub FindsFiles : (List ℕ → Option (List ℕ)) → Digester → List UriAndHash
     → Result (Unit {0}) FileFault → Type 0
 FindsFiles cached digest listed (Ok done) = All (IsPresent cached digest) listed
 FindsFiles cached digest listed (Err files.Memory) = Unit {0}
-FindsFiles cached digest listed (Err files.Missing) =
-    (file : UriAndHash) × Contains listed file × (cached file.0 ≡ None)
-FindsFiles cached digest listed (Err files.OtherHash) =
-    (file : UriAndHash) × Contains listed file
-    × ((octets : List ℕ) × (cached file.0 ≡ Some octets) × ¬ (digest octets ≡ file.1))
+FindsFiles cached digest listed (Err (files.Missing uri)) =
+    (file : UriAndHash) × FollowsPresent cached digest listed file
+    × ((file.0 ≡ uri) × (cached file.0 ≡ None))
+FindsFiles cached digest listed (Err (files.OtherHash uri)) =
+    (file : UriAndHash) × FollowsPresent cached digest listed file
+    × ((file.0 ≡ uri) × ((octets : List ℕ) × (cached file.0 ≡ Some octets)
+    × ¬ (digest octets ≡ file.1)))

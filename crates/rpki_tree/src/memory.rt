@@ -77,8 +77,8 @@ fn is_file_memory(fault: &FileFault) -> bool
     ensures { IsTrue result ↔ (fault.now ≡ FileFault.Memory) }
 {
     match fault {
-        FileFault::Missing => false,
-        FileFault::OtherHash => false,
+        FileFault::Missing(_) => false,
+        FileFault::OtherHash(_) => false,
         FileFault::Memory => true,
     }
 }

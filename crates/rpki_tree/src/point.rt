@@ -38,12 +38,12 @@ pub enum ListFault {
 }
 
 /// Why a file that a manifest lists is not there.
-#[derive(Clone, Copy, Debug)]
+#[derive(Debug, Drop)]
 pub enum FileFault {
     /// The copy has none for this URI.
-    Missing,
+    Missing(Rsync),
     /// What it has for this URI has another hash.
-    OtherHash,
+    OtherHash(Rsync),
     /// No memory was to be had.
     Memory,
 }
@@ -150,23 +150,23 @@ fn find_file<S: LocalCopy, C: Crypto>(
     alloc: Global,
     copy: &S,
     crypto: &C,
-    uri: &Rsync,
+    uri: Rsync,
     hash: &ManifestHash,
 ) -> Result<(), FileFault>
-    ensures { FindsFile (S.cached copy.now) (C.digest_of crypto.now) (uri.now, hash.now) result }
+    ensures { FindsFile (S.cached copy.now) (C.digest_of crypto.now) (uri, hash.now) result }
 {
     match copy.read(alloc, uri.as_slice()) {
         Err(_) => Err(FileFault::Memory),
-        Ok(None) => Err(FileFault::Missing),
+        Ok(None) => Err(FileFault::Missing(uri)),
         Ok(Some(octets)) => match hash.verify(crypto, octets.as_slice()) {
-            Err(_) => Err(FileFault::OtherHash),
+            Err(_) => Err(FileFault::OtherHash(uri)),
             Ok(()) => Ok(()),
         },
     }
 }
 
 /// Whether the copy has each file that a manifest lists, below this folder and with its hash. The
-/// search ends with the first that it has not, and the fault is that of one that it has not.
+/// fault names the first, in the order of the manifest, that it has not.
 pub fn find_files<S: LocalCopy, C: Crypto>(
     alloc: Global,
     copy: &S,
@@ -181,7 +181,7 @@ pub fn find_files<S: LocalCopy, C: Crypto>(
     while let Some(item) = files.next() {
         match item {
             Err(_) => return Err(FileFault::Memory),
-            Ok((uri, hash)) => match find_file(alloc, copy, crypto, &uri, &hash) {
+            Ok((uri, hash)) => match find_file(alloc, copy, crypto, uri, &hash) {
                 Err(fault) => return Err(fault),
                 Ok(()) => {}
             },

@@ -17,8 +17,6 @@ use crate::found::{Finding, put_aspa, put_refusal, put_roa};
 use crate::kind::{FileKind, kind_of};
 use crate::manifest::octets_at;
 use crate::pass::Pass;
-use crate::point::FileFault;
-use crate::read::PointFault;
 use crate::refusal::Cause;
 use crate::under::{aspa_under, ca_under, roa_under};
 use bytes::Bytes;
@@ -245,8 +243,7 @@ fn octets_with<S: LocalCopy, C: Crypto>(
 }
 
 /// Tells of a listed file, which the copy has: what it says is put at the end of `said`, and the CA
-/// that it holds at the end of `children`. A file that has changed since it was looked for is
-/// refused; where the copy tells what it has, there is none.
+/// that it holds at the end of `children`.
 pub fn tell_file<S: LocalCopy, C: Crypto>(
     alloc: Global,
     pass: &Pass<'_, S, C>,
@@ -268,11 +265,7 @@ pub fn tell_file<S: LocalCopy, C: Crypto>(
             drop(hash);
             Err(error)
         }
-        Ok(None) => {
-            drop(hash);
-            let fault = PointFault::File(FileFault::OtherHash);
-            put_refusal(uri, Cause::Point(fault), said)
-        }
+        Ok(None) => unreachable!(),
         Ok(Some(octets)) => {
             drop(hash);
             tell_read(

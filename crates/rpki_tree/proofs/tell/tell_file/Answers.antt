@@ -7,15 +7,6 @@ use Rattle.rpki_tree.specs.Told.{FileTells, KindTells}
 use Rattle.rpki_tree.proofs.Putting.{put-as}
 use Rattle.rpki_tree.proofs.tell.tell_file.Goals as goal
 
-pub returns-in-Ok-None : goal.returns-in-Ok-None
-returns-in-Ok-None g c =
-    let s = setting g.S.LocalCopy.cached g.C.Crypto.digest_of g.C.Crypto.is_signed
-    c.args.pass.now in
-    absurd (subst (λ (o : Option (List ℕ)). MatchOption o
-    (¬ IsPresent s.cached s.digest c.args.listed)
-    (λ octets. Has s.cached s.digest c.args.listed octets))
-    c.in-Ok-None.field-0-is c.in-Ok-None.ensures c.requires)
-
 pub returns-in-Ok-Some : goal.returns-in-Ok-Some
 returns-in-Ok-Some g c =
     let s = setting g.S.LocalCopy.cached g.C.Crypto.digest_of g.C.Crypto.is_signed
