@@ -69,7 +69,7 @@ def attributes():
 def constant(name, octets):
     text = "".join(f"\\x{octet:02X}" for octet in octets)
     lines = [text[at:at + 88] for at in range(0, len(text), 88)]
-    return f"const {name}: &[u8] = b\"" + "\\\n    ".join(lines) + "\";\n"
+    return f"const {name}: &[u8] =\n    b\"" + "\\\n    ".join(lines) + "\";\n"
 
 
 def main():

@@ -235,8 +235,8 @@ missing-allowed set = λ refuses named h n i.
     absurd (let none : Holds (λ (m : ℕ). m) [] n =
     subst (λ (l : List (Block ℕ)). Holds (λ (m : ℕ). m) l n) h i in cc)
 
--- what a ROA claims is allowed under an issuer that has each prefix, and that allows the claim of AS
--- numbers that was handed in
+-- what a ROA claims is allowed under an issuer that has each prefix, and that allows the claim of
+-- AS numbers that was handed in
 pub roa-allowed : (r : Roa) (handed told : Settings) (sets : Sets) → ClaimsPrefixes r handed told
     → RoaCovered r sets → IsAllowed (λ (n : ℕ). n) Refuse handed.as_numbers sets.as_numbers
     → AreAllowed (claims_of told) sets

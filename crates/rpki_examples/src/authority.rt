@@ -307,8 +307,8 @@ pub fn list<S: Signer>(
 
 /// The octets of a ROA, made and checked: what is published says the content, is good under the
 /// issuer and is not revoked. Refuses as `RoaBuilder::finalize` does, or by what the check answers.
-/// No check refuses it, unless memory runs out, where the builder fits the issuer, and the issuer has
-/// each prefix and the AS numbers that the builder was told to claim.
+/// No check refuses it, unless memory runs out, where the builder fits the issuer, and the issuer
+/// has each prefix and the AS numbers that the builder was told to claim.
 pub fn roa<S: Signer, C: Crypto>(
     alloc: Global,
     content: RoaBuilder,

@@ -220,9 +220,9 @@ fn objects_of(
 /// and a manifest, all by the stand-in's signer: the first two and the certificates of the objects
 /// by the key with this number. Each object is checked under the trust anchor, by its list and at
 /// this moment, before it is published: what is published says the content that was told, is good,
-/// and the list does not revoke it. Nothing is published where something is not signed, for a reason
-/// that its builder states; where what was told does not fit, as a prefix that the anchor does not
-/// claim, or a serial number that the list names; or where memory runs out.
+/// and the list does not revoke it. Nothing is published where something is not signed, for a
+/// reason that its builder states; where what was told does not fit, as a prefix that the anchor
+/// does not claim, or a serial number that the list names; or where memory runs out.
 pub fn publish(
     alloc: Global,
     told: Plan,
