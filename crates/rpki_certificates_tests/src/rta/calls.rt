@@ -72,7 +72,7 @@ fn is_refused(alloc: Global, answer: Supplied, want: Want) -> Result<bool, Fail>
 }
 
 /// Whether a validation ends so.
-fn ends(alloc: Global, validation: Validation<'_, StandIn>, want: Want) -> Result<bool, Fail> {
+pub fn ends(alloc: Global, validation: Validation<'_, StandIn>, want: Want) -> Result<bool, Fail> {
     match validation.finalize(alloc) {
         Ok(content) => Ok(is_yes(content, want)),
         Err(error) => is_refusal(alloc, error, want),
