@@ -154,14 +154,17 @@ fn supplied(
     Ok(answer)
 }
 
-/// Whether a locator of another key anchors nothing, and then the right one all.
+/// Whether a locator of another key anchors nothing, and then the right one all: a copy ends with a
+/// yes.
 fn locates(alloc: Global, rta: &Rta) -> Result<bool, Fail> {
     let (_, other, right) = LOCATED;
     let clock = FixedClock(now()?);
     let mut validation = Validation::new(alloc, rta, true, &StandIn, &clock)?;
     let other = supplied(alloc, &mut validation, other)?;
     let right = supplied(alloc, &mut validation, right)?;
-    let is_end = ends(alloc, validation, Want::Yes(&[(5, 5)]))?;
+    let copy: Result<_, _> = validation.clone();
+    drop(validation);
+    let is_end = ends(alloc, copy?, Want::Yes(&[(5, 5)]))?;
     Ok(is_end && is_done(other, false)? && is_done(right, true)?)
 }
 
