@@ -72,7 +72,7 @@ fn is_refused(alloc: Global, answer: Supplied, want: Want) -> Result<bool, Fail>
 }
 
 /// Whether a validation ends so.
-fn ends(alloc: Global, validation: Validation<'_, StandIn>, want: Want) -> Result<bool, Fail> {
+pub fn ends(alloc: Global, validation: Validation<'_, StandIn>, want: Want) -> Result<bool, Fail> {
     match validation.finalize(alloc) {
         Ok(content) => Ok(is_yes(content, want)),
         Err(error) => is_refusal(alloc, error, want),
@@ -154,14 +154,17 @@ fn supplied(
     Ok(answer)
 }
 
-/// Whether a locator of another key anchors nothing, and then the right one all.
+/// Whether a locator of another key anchors nothing, and then the right one all: a copy ends with a
+/// yes.
 fn locates(alloc: Global, rta: &Rta) -> Result<bool, Fail> {
     let (_, other, right) = LOCATED;
     let clock = FixedClock(now()?);
     let mut validation = Validation::new(alloc, rta, true, &StandIn, &clock)?;
     let other = supplied(alloc, &mut validation, other)?;
     let right = supplied(alloc, &mut validation, right)?;
-    let is_end = ends(alloc, validation, Want::Yes(&[(5, 5)]))?;
+    let copy: Result<_, _> = validation.clone();
+    drop(validation);
+    let is_end = ends(alloc, copy?, Want::Yes(&[(5, 5)]))?;
     Ok(is_end && is_done(other, false)? && is_done(right, true)?)
 }
 
