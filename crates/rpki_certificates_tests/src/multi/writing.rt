@@ -72,12 +72,15 @@ fn signers_are_written(rt: HostRuntime) -> Result<(), Fail> {
     Ok(())
 }
 
-/// How many keys the attestation with these octets names, and what it is written as.
+/// How many keys a copy of the attestation with these octets names, and what it is written as.
 fn attestation(alloc: Global, octets: &'static [u8]) -> Result<(usize, Bytes), Fail> {
     let rta = Rta::decode(alloc, Bytes::from_static(octets))?;
-    let keys = rta.subject_keys().len();
-    let written = rta.to_captured(alloc);
+    let copy: Result<_, _> = rta.clone();
     drop(rta);
+    let copy = copy?;
+    let keys = copy.subject_keys().len();
+    let written = copy.to_captured(alloc);
+    drop(copy);
     match written {
         Ok(octets) => Ok((keys, octets)),
         Err(EncodeError::Memory) => Err(Fail::Memory),
