@@ -1,5 +1,6 @@
--- Origins as comma-separated values (RFC 4180), in the columns of Routinator and rpki-client. A
--- record ends in LF alone, as theirs do, where RFC 4180 has CR and LF.
+-- Origins as comma-separated values (RFC 4180), in the columns of Routinator, which are those of
+-- rpki-client without its last, `Expires`. A record ends in LF alone, as theirs do, where RFC 4180
+-- has CR and LF.
 use Rattle.std.specs.Prelude.{ℕ, List, ◌++◌, codes, decimal}
 use Rattle.std.specs.List.{flat_map}
 use Rattle.rpki_resources.specs.As.{asn_text}
