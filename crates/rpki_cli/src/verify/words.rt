@@ -150,9 +150,8 @@ fn is_each_named(command: &VerifyCommand<'_>) -> bool
         VerifyCommand::Rta { file, anchors, .. } | VerifyCommand::RtaVerdicts { file, anchors } => {
             !file.0.is_empty() && are_anchors_named(anchors.0)
         }
-        VerifyCommand::Payloads {
-            copy, locators, ..
-        } => !copy.0.is_empty() && all_named(locators.0),
+        VerifyCommand::Payloads { copy, locators, .. } => !copy.0.is_empty()
+            && all_named(locators.0),
     }
 }
 
