@@ -53,7 +53,7 @@ pub fn payloads_when<'a, P: RelyingParty, S: Store>(
 }
 
 /// What a relying party answers to a request, once the files of its locators are read.
-#[tactic(auto, using(rpki_cli::proofs::Asking::by_reads))]
+#[tactic(auto, using(crate::proofs::Verified::Payloads::by_reads))]
 fn answer_request<'a, P: RelyingParty, S: Store>(
     alloc: Global,
     party: &P,
