@@ -48,6 +48,7 @@ HELP = """usage: rpki_verify [OPTION ..] check KIND FILE MOMENT TA [CA ..]
        rpki_verify [OPTION ..] verdicts rta FILE ANCHOR ..
        rpki_verify [OPTION ..] show KIND FILE
        rpki_verify [OPTION ..] content KIND FILE
+       rpki_verify [OPTION ..] payloads [--csv | --json] COPY MOMENT TAL [TAL ..]
        rpki_verify show tal FILE
        rpki_verify --help
 OPTION, in this order: --relaxed --registered --wide
@@ -55,6 +56,7 @@ KIND: aspa, manifest, roa or rsc; of show and content also rta
 MOMENT: now, or YYYYMMDDHHMMSSZ
 CA of walk: any file but one named with
 FILE after verdicts: any file but one named rta
+COPY of payloads: any folder but one named --csv or --json
 ANCHOR: tal=FILE or ca=TA[:CA ..]
 """
 WRONG = 2, "wrong words, expected:\n" + HELP, 0
