@@ -2,8 +2,10 @@
 //! reported of locators.
 #![tactic(auto)]
 
+mod copy;
 mod folders;
 mod names;
 
+pub use copy::FolderCopy;
 pub use folders::{Folders, SystemFolders};
 pub use names::{is_below, locator_name};
