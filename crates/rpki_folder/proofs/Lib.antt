@@ -1,2 +1,3 @@
 mod Endings
+mod Locating
 mod Slashes

@@ -9,6 +9,7 @@ use crate::folders::Folders;
 use crate::names::{anchor_name, is_below, path_of};
 use bytes::Bytes;
 use rpki_tal::Tal;
+use rpki_tree::Repository;
 use std::alloc::{AllocError, Global};
 
 /// A folder as a copy of the repositories, for a pass under a locator.
@@ -66,7 +67,7 @@ impl<'a, F: Folders> FolderCopy<'a, F> {
         }
     }
 
-    /// What it has for a URI.
+    // What it has for a URI.
     fn read_uri(&self, alloc: Global, uri: &[u8]) -> Result<Option<Bytes>, AllocError>
         ensures { IfOk result (λ found.
             IfSome (told_in (F.told self.now.folders.now) self.now.folder.now self.now.name.now
@@ -77,5 +78,13 @@ impl<'a, F: Folders> FolderCopy<'a, F> {
         } else {
             self.read_below(alloc, path_of(uri))
         }
+    }
+}
+
+impl<F: Folders> Repository for FolderCopy<'_, F> {
+    ghost told = { λ c. told_in (F.told c.folders.now) c.folder.now c.name.now c.locator.now };
+
+    fn read(&self, alloc: Global, uri: &[u8]) -> Result<Option<Bytes>, AllocError> {
+        self.read_uri(alloc, uri)
     }
 }

@@ -4,8 +4,13 @@
 
 mod copy;
 mod folders;
+mod locators;
 mod names;
+mod party;
+mod passed;
+mod report;
 
 pub use copy::FolderCopy;
 pub use folders::{Folders, SystemFolders};
 pub use names::{is_below, locator_name};
+pub use party::FolderParty;

@@ -1,11 +1,12 @@
 //! Trust anchors.
 
-ghost use Rattle.std.specs.Prelude.{◌≡◌, ◌↔◌, IfErr, IfOk, IsTrue, MatchResult};
+ghost use Rattle.std.specs.Prelude.{◌≡◌, ◌↔◌, IfErr, IfOk, IsTrue, MatchResult, Some};
 ghost use Rattle.rpki_certs.specs.Issuer.{IsAnchored};
 ghost use Rattle.rpki_certs.specs.Validate.{Validated};
 ghost use Rattle.rpki_tal.specs.Uri.{https_first, uri_text};
 ghost use Rattle.rpki_tree.specs.Anchors.{FindsFirst, LacksAnchor, IsAnchorMemory};
 ghost use Rattle.rpki_tree.specs.Passes.{setting};
+ghost use Rattle.rpki_tree.specs.Texts.{anchor_fault_text};
 ghost use Rattle.rpki_tree.specs.Tree.{IsAnchorOf};
 
 use crate::copy::LocalCopy;
@@ -16,6 +17,8 @@ use rpki_basics::{Crypto, Time};
 use rpki_certs::{Cert, IssuerError, ResourceCert};
 use rpki_tal::{Tal, TalUri};
 use std::alloc::{AllocError, Global};
+use std::error::Error;
+use std::fmt;
 
 /// Why a locator has no trust anchor in a copy.
 #[derive(Debug, Drop)]
@@ -29,6 +32,21 @@ pub enum AnchorFault {
     /// No memory was to be had.
     Memory,
 }
+
+impl fmt::Display for AnchorFault {
+    ghost output = { λ fault. Some (anchor_fault_text fault) };
+
+    fn fmt<W: fmt::Write>(&self, f: &mut fmt::Formatter<W>) -> fmt::Result {
+        match self {
+            AnchorFault::Missing => f.write_str("not in the copy"),
+            AnchorFault::Refused(error) => write!(f, "its certificate is refused: {error}"),
+            AnchorFault::OtherKey => f.write_str("its certificate has another key"),
+            AnchorFault::Memory => f.write_str("out of memory"),
+        }
+    }
+}
+
+impl Error for AnchorFault {}
 
 /// Whether a fault says no more than that memory ran out.
 pub(crate) fn is_anchor_memory(fault: &AnchorFault) -> bool
