@@ -57,8 +57,8 @@ pub record Complains (octets : List ℕ) (wanted : ℕ) (run : Run) : Type 0 whe
   pub err : Writes octets wanted run.err_before run.err_after run.status
   pub out : run.out_after ≡ run.out_before
 
--- One text is written whole on standard output, with this status, and then the other one on standard
--- error.
+-- One text is written whole on standard output, with this status, and then the other one on
+-- standard error.
 pub record ReportsBoth (found refused : List ℕ) (wanted : ℕ) (run : Run) : Type 0 where
   pub out : IsWhole found wanted run.out_before run.out_after wanted
   pub err : Writes refused wanted run.err_before run.err_after run.status
