@@ -57,21 +57,22 @@ pub record Complains (octets : List ℕ) (wanted : ℕ) (run : Run) : Type 0 whe
   pub err : Writes octets wanted run.err_before run.err_after run.status
   pub out : run.out_after ≡ run.out_before
 
--- One text is written whole on standard output, with this status, and then the other one on standard
--- error.
-pub record ReportsBoth (out err : List ℕ) (wanted : ℕ) (run : Run) : Type 0 where
-  pub out : IsWhole out wanted run.out_before run.out_after wanted
-  pub err : Writes err wanted run.err_before run.err_after run.status
+-- One text is written whole on standard output, with this status, and then the other one on
+-- standard error.
+pub record ReportsBoth (found refused : List ℕ) (wanted : ℕ) (run : Run) : Type 0 where
+  pub out : IsWhole found wanted run.out_before run.out_after wanted
+  pub err : Writes refused wanted run.err_before run.err_after run.status
 
 -- A call of standard output has failed, and standard error is left alone.
-pub record ReportsNoMore (out : List ℕ) (run : Run) : Type 0 where
-  pub out : IsCut out run.out_before run.out_after run.status
+pub record ReportsNoMore (found : List ℕ) (run : Run) : Type 0 where
+  pub out : IsCut found run.out_before run.out_after run.status
   pub err : run.err_after ≡ run.err_before
 
 -- one text is written on standard output, and then, where all of it is written, the other one on
 -- standard error
 abbrev pub Reports : List ℕ → List ℕ → ℕ → Run → Type 0
-Reports out err wanted run = ReportsBoth out err wanted run ⊎ ReportsNoMore out run
+Reports found refused wanted run =
+    ReportsBoth found refused wanted run ⊎ ReportsNoMore found run
 
 -- what a program puts out: a text or two, and the status that goes with it
 pub data Output : Type 0 where

@@ -190,7 +190,8 @@ module _ (told : Told) (words : List (List ℕ)) (old new : Names) (run : Run) (
 
 -- ---- by signatures
 
-module _ (told : Told) (clock : Option Moment) (party : PartySays) (words : List (List ℕ)) (old new : Names) (run : Run)
+module _ (told : Told) (clock : Option Moment) (party : PartySays) (words : List (List ℕ))
+    (old new : Names) (run : Run)
     (options : Options) (moment : When) (now : Moment) (object anchor : List ℕ)
     (tail : List (List ℕ)) (files : FilesOfCheck) (octets : List (List ℕ))
     (is : IsRunOf (verify_program clock party) told words old new run)

@@ -1,6 +1,6 @@
 -- The words of formats of payloads.
-use Rattle.std.proofs.Common.{rules, ◌≡◌, ◌++◌, ◌∙◌, ℕ, List, ◌∷◌, IsTrue, Option, None, Some, codes}
-use Rattle.std.proofs.Common.{refl, sym, ap, subst}
+use Rattle.std.proofs.Common.{rules, ◌≡◌, ◌++◌, ◌∙◌, ℕ, List, ◌∷◌, Bool, true, false, IsTrue}
+use Rattle.std.proofs.Common.{Option, None, Some, codes, refl, sym, ap, subst}
 use Rattle.std.specs.Prelude.{MatchOption}
 use Rattle.rpki_cli.specs.Verify.Words.{word_csv, word_json, format_words, is_copy, BeginsPlain}
 use Rattle.rpki_cli.specs.Verify.Words.{IsFormatted, AskForNoPayloads, AskForNoPayloadsIn}
@@ -58,11 +58,18 @@ lines_cut words c j = record {
 
 pub ruleset cut_by_format = (csv_cut, json_cut, lines_cut)
 
+not-both : (b : Bool) → b ≡ true → b ≡ false → ⊥
+not-both b t f = cc
+
 not-csv : (copy : List ℕ) → IsTrue (is_copy copy) → copy ≡ word_csv → ⊥
-not-csv copy i e = absurd (subst (λ (w : List ℕ). IsTrue (is_copy w)) e i)
+not-csv copy i e =
+    let f : is_copy word_csv ≡ false = refl in
+    not-both (is_copy copy) i (ap is_copy e ∙ f)
 
 not-json : (copy : List ℕ) → IsTrue (is_copy copy) → copy ≡ word_json → ⊥
-not-json copy i e = absurd (subst (λ (w : List ℕ). IsTrue (is_copy w)) e i)
+not-json copy i e =
+    let f : is_copy word_json ≡ false = refl in
+    not-both (is_copy copy) i (ap is_copy e ∙ f)
 
 first-same : {a b : List ℕ} {rest more : List (List ℕ)} → a ∷ rest ≡ b ∷ more → a ≡ b
 first-same e = cc

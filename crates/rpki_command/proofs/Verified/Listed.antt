@@ -70,7 +70,8 @@ module _ (s : Output) (options : Options) (files : FilesOfCheck) where
   no-list-of one (inr (inr (inr t))) =
       absurd (other-status s (shown t.0) 1 one t.2 (λ (n : 0 ≡ 1). omega (arith, n)))
 
-module _ (told : Told) (clock : Option Moment) (party : PartySays) (words : List (List ℕ)) (old new : Names) (run : Run)
+module _ (told : Told) (clock : Option Moment) (party : PartySays) (words : List (List ℕ))
+    (old new : Names) (run : Run)
     (options : Options) (names files : FilesOfCheck)
     (is : IsRunOf (verify_program clock party) told words old new run)
     (asked : IsAsked verify_language words (list_order options names))

@@ -17,7 +17,8 @@ use Rattle.rpki_command.specs.Verify.Check.{VerifiedOf}
 use Rattle.rpki_command.specs.Verify.Command.{check_task, verify_program, PartySays}
 use Rattle.rpki_command.specs.Verify.Yes.{verify_order}
 
-module _ (told : Told) (clock : Option Moment) (party : PartySays) (words : List (List ℕ)) (old new : Names) (run : Run)
+module _ (told : Told) (clock : Option Moment) (party : PartySays) (words : List (List ℕ))
+    (old new : Names) (run : Run)
     (options : Options) (kind : Kind) (moment : When) (now : Moment) (names files : FilesOfCheck)
     (is : IsRunOf (verify_program clock party) told words old new run)
     (asked : IsAsked verify_language words (verify_order options kind moment names))

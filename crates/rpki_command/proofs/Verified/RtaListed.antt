@@ -67,7 +67,8 @@ module _ (s : Output) (words : List (List ℕ)) (object : List ℕ) (octets : Li
   no-list-of one (inr (inr (inr t))) =
       absurd (other-status s (shown t.0) 1 one t.2 (λ (n : 0 ≡ 1). omega (arith, n)))
 
-module _ (told : Told) (clock : Option Moment) (party : PartySays) (words : List (List ℕ)) (old new : Names) (run : Run)
+module _ (told : Told) (clock : Option Moment) (party : PartySays) (words : List (List ℕ))
+    (old new : Names) (run : Run)
     (options : Options) (file : List ℕ) (anchors : List (List ℕ)) (object : List ℕ)
     (octets : List (List ℕ))
     (is : IsRunOf (verify_program clock party) told words old new run)

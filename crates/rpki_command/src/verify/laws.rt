@@ -80,7 +80,8 @@ pub fn walks_are_right<P: RelyingParty>()
     ensures yes { (told : Told) (clock : Option Moment) (party : P) (words : List (List ℕ))
         (before after : List (List ℕ)) (run : Run) (options : Options) (moment : When)
         (now : Moment) (object anchor : List ℕ) (tail : List (List ℕ)) (files : FilesOfCheck)
-        (octets : List (List ℕ)) → IsRunOf (verify_program clock (P.says party)) told words before after run
+        (octets : List (List ℕ))
+        → IsRunOf (verify_program clock (P.says party)) told words before after run
         → IsAsked verify_language words (verify_walk options moment object anchor tail)
         → moment_at clock moment ≡ Some now
         → AreTold told (object ∷ anchor ∷ chain_in tail) (in_order files)
@@ -89,7 +90,8 @@ pub fn walks_are_right<P: RelyingParty>()
     ensures no { (told : Told) (clock : Option Moment) (party : P) (words : List (List ℕ))
         (before after : List (List ℕ)) (run : Run) (options : Options) (moment : When)
         (now : Moment) (object anchor : List ℕ) (tail : List (List ℕ)) (files : FilesOfCheck)
-        (octets : List (List ℕ)) → IsRunOf (verify_program clock (P.says party)) told words before after run
+        (octets : List (List ℕ))
+        → IsRunOf (verify_program clock (P.says party)) told words before after run
         → IsAsked verify_language words (verify_walk options moment object anchor tail)
         → moment_at clock moment ≡ Some now
         → AreTold told (object ∷ anchor ∷ chain_in tail) (in_order files)
@@ -107,7 +109,8 @@ pub fn attestations_are_right<P: RelyingParty>()
     ensures yes { (told : Told) (clock : Option Moment) (party : P) (words : List (List ℕ))
         (before after : List (List ℕ)) (run : Run) (options : Options) (moment : When)
         (now : Moment) (file : List ℕ) (anchors : List (List ℕ)) (object : List ℕ)
-        (octets : List (List ℕ)) → IsRunOf (verify_program clock (P.says party)) told words before after run
+        (octets : List (List ℕ))
+        → IsRunOf (verify_program clock (P.says party)) told words before after run
         → IsAsked verify_language words (verify_rta options moment file anchors)
         → moment_at clock moment ≡ Some now
         → AreTold told (file ∷ files_of_anchors anchors) (object ∷ octets) → run.status ≡ 0
@@ -115,7 +118,8 @@ pub fn attestations_are_right<P: RelyingParty>()
     ensures no { (told : Told) (clock : Option Moment) (party : P) (words : List (List ℕ))
         (before after : List (List ℕ)) (run : Run) (options : Options) (moment : When)
         (now : Moment) (file : List ℕ) (anchors : List (List ℕ)) (object : List ℕ)
-        (octets : List (List ℕ)) → IsRunOf (verify_program clock (P.says party)) told words before after run
+        (octets : List (List ℕ))
+        → IsRunOf (verify_program clock (P.says party)) told words before after run
         → IsAsked verify_language words (verify_rta options moment file anchors)
         → moment_at clock moment ≡ Some now
         → AreTold told (file ∷ files_of_anchors anchors) (object ∷ octets) → run.status ≡ 1

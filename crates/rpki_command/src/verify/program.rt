@@ -57,8 +57,8 @@ fn answer<'a, P: RelyingParty, S: Store>(
     party: &P,
     store: &mut S,
 ) -> Answer<'a>
-    ensures said { IsAnswer (verify_program now (P.says party.now)) (S.told store.old) (texts words.now)
-        (S.reads store.old) (S.reads store.new) (said result) }
+    ensures said { IsAnswer (verify_program now (P.says party.now)) (S.told store.old)
+        (texts words.now) (S.reads store.old) (S.reads store.new) (said result) }
     ensures reads { HaveRead (verify_program now (P.says party.now)) (texts words.now)
         (S.reads store.old) (S.reads store.new) }
     ensures same { S.told store.new ≡ S.told store.old }
@@ -77,7 +77,8 @@ fn answer_verify<'a, P: RelyingParty, S: Store>(
     party: &P,
     store: &mut S,
 ) -> Answer<'a>
-    ensures said { IsTaskAnswer (S.told store.old) (order_task (verify_program now (P.says party.now)) order.entry)
+    ensures said { IsTaskAnswer (S.told store.old)
+        (order_task (verify_program now (P.says party.now)) order.entry)
         (S.reads store.old) (S.reads store.new) (said result) }
     ensures reads { HasRead (order_task (verify_program now (P.says party.now)) order.entry)
         (S.reads store.old) (S.reads store.new) }
