@@ -1,3 +1,4 @@
 mod Endings
 mod Locating
+mod Passing
 mod Slashes

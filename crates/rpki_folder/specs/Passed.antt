@@ -30,10 +30,9 @@ outcome_of (Err fault) = Err fault
 
 -- Over a copy that tells what it has, just this is found under a locator which follows from it, in
 -- the order of a walk.
-pub record IsFoundIn (s : Setting) (tal : Locator) (limit : ℕ) (found : List Finding)
-    : Type 0 where
-  pub findings : (x : Finding) → Contains found x ↔ IsFinding s tal x
-  pub order : IsPassOf s tal limit found
+abbrev pub IsFoundIn : Setting → Locator → ℕ → List Finding → Type 0
+IsFoundIn s tal limit found =
+    ((x : Finding) → Contains found x ↔ IsFinding s tal x) × IsPassOf s tal limit found
 
 -- What a pass under a locator comes to, other than want of memory: what follows from what the copy
 -- tells, where it tells, and else from some files.

@@ -58,7 +58,7 @@ fn folder_with(alloc: Global, files: &[(&str, &str)]) -> Result<Files, AllocErro
 }
 
 // Whether a folder has these octets for a URI, or `none`, under the locator with this name.
-fn is_held(
+fn has_octets(
     alloc: Global,
     folders: &Files,
     name: &str,
@@ -87,7 +87,7 @@ fn files_are_below_the_folder(rt: HostRuntime) -> Result<(), Fail> {
     let alloc = rt.alloc();
     let folders = folder_with(alloc, &FILES)?;
     for (name, uri, octets) in &HELD {
-        assert!(rt; is_held(alloc, &folders, name, uri, octets)?);
+        assert!(rt; has_octets(alloc, &folders, name, uri, octets)?);
     }
     Ok(())
 }
