@@ -1,5 +1,5 @@
 -- What passes under locators come to.
-use Rattle.std.proofs.Common.{◌≡◌, ◌<◌, ◌+◌, ◌∙◌, ◌↔◌, ℕ, List, [], ◌∷◌, ◌++◌, refl, sym, subst}
+use Rattle.std.proofs.Common.{◌≡◌, ◌<◌, ◌+◌, ◌↔◌, ℕ, List, [], ◌∷◌, ◌++◌, sym, subst}
 use Rattle.std.proofs.Common.{Option, None, Some, Ok, Err, get_or, length, take, inl, inr}
 use Rattle.std.proofs.lemmas.List.{take_more}
 use Rattle.std.proofs.lemmas.Slice.Zip.{all_zipped_more}
@@ -15,7 +15,6 @@ use Rattle.rpki_tree.specs.declared.found.Finding.{Finding}
 use Rattle.rpki_tree.specs.declared.locator.PassFault.{PassFault}
 use Rattle.rpki_tree.specs.declared.locator.PassFault.TheVariants.{Memory}
 use Rattle.rpki_folder.specs.Locators.{File, IsLocated}
-use Rattle.rpki_folder.specs.Names.{locator_name}
 use Rattle.rpki_folder.specs.Party.{Party}
 use Rattle.rpki_folder.specs.Passed.{Outcome, Passed, IsOutcome, IsUnder, IsPassed}
 use Rattle.rpki_folder.specs.Report.{IsReport, IsReportUnder}
@@ -58,11 +57,12 @@ module _ (told : Option (List ℕ → Option (List ℕ)))
       → IfSome told (λ cached. WhyNoPass (over cached) tal limit fault)
       → WhyNoPassFrom told over tal limit fault → IsOutcome told over tal limit outcome
   is-refused fault said outcome same e m why read =
-      subst (λ (o : Outcome). IsOutcome told over tal limit o) (sym e)
-      (m,
-      subst (λ (f : PassFault). IfSome told (λ cached. WhyNoPass (over cached) tal limit f)) same
-      why,
-      subst (λ (f : PassFault). WhyNoPassFrom told over tal limit f) same read)
+      subst (λ (o : Outcome). IsOutcome told over tal limit o) (sym e) (
+        m,
+        subst (λ (f : PassFault). IfSome told (λ cached. WhyNoPass (over cached) tal limit f)) same
+            why,
+        subst (λ (f : PassFault). WhyNoPassFrom told over tal limit f) same read,
+      )
 
 module _ (party : Party) (request : PayloadsRequest) where
   abbrev under : Located → Passed → Type 0
@@ -77,10 +77,14 @@ module _ (party : Party) (request : PayloadsRequest) where
   of-files [] (l ∷ located) passed h u = absurd h
   of-files (f ∷ files) [] passed h u = absurd h
   of-files (f ∷ files) (l ∷ located) [] h u = absurd u
-  of-files (f ∷ files) (l ∷ located) (p ∷ passed) h u =
-      ((l.locator, h.0.1,
-      subst (λ (name : List ℕ). IsUnder party request name l.locator p) h.0.0 u.0),
-      of-files files located passed h.1 u.1)
+  of-files (f ∷ files) (l ∷ located) (p ∷ passed) h u = (
+    (
+      l.locator,
+      h.0.1,
+      subst (λ (name : List ℕ). IsUnder party request name l.locator p) h.0.0 u.0,
+    ),
+    of-files files located passed h.1 u.1,
+  )
 
   -- what is reported under locators that were read, of their files
   pub is-report : (octets : List (List ℕ)) (located : List Located) (s : Output)

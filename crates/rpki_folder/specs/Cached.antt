@@ -1,5 +1,5 @@
 -- What a folder has of a copy of the repositories.
-use Rattle.std.specs.Prelude.{ℕ, List, Bool, Option, None, Some, bytes_eq, if◌then◌else◌}
+use Rattle.std.specs.Prelude.{ℕ, List, Bool, Option, None, bytes_eq, if◌then◌else◌}
 use Rattle.std.specs.List.{list_any}
 use Rattle.std.specs.Option.{option_or, option_map}
 use Rattle.rpki_tal.specs.Tal.{Locator}

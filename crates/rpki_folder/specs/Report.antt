@@ -1,6 +1,6 @@
 -- What is reported of locators.
-use Rattle.std.specs.Prelude.{◌≡◌, ◌⊎◌, ℕ, List, [], ◌++◌, Bool, codes, Option, Some, None}
-use Rattle.std.specs.Prelude.{Result, Ok, Err, is_ok, if◌then◌else◌}
+use Rattle.std.specs.Prelude.{◌≡◌, ◌⊎◌, ℕ, List, [], ◌++◌, codes, Option, Some, None}
+use Rattle.std.specs.Prelude.{Ok, Err, is_ok, if◌then◌else◌}
 use Rattle.std.specs.List.{AllZip, filter_map, flat_map, list_all, zip}
 use Rattle.rpki_cli.specs.Answer.{Output, Reported, bad_locator, out_of_memory}
 use Rattle.rpki_cli.specs.declared.verify.relying_party.PayloadsRequest.{PayloadsRequest}

@@ -28,11 +28,7 @@ pub(crate) enum NotLocated<'a> {
 }
 
 // The locator in a file, which this word names.
-fn locate<'a>(
-    alloc: Global,
-    word: &'a str,
-    octets: &[u8],
-) -> Result<Located<'a>, NotLocated<'a>>
+fn locate<'a>(alloc: Global, word: &'a str, octets: &[u8]) -> Result<Located<'a>, NotLocated<'a>>
     ensures { MatchResult result (IsLocated (word.now, octets.now))
         (IsNotLocated (word.now, octets.now)) }
 {
