@@ -1,4 +1,5 @@
-"""Makes CAs and what they publish, with keys of 2048 bits, for tools/payloads_trees and bench/payloads.
+"""Makes CAs and what they publish, with keys of 2048 bits: for tools/payloads_trees and
+bench/payloads.
 
 The values in DER are those of examples/make.py. Signatures are made here, in place of a process of
 `openssl` for each, and nothing asks whether they are right: a relying party does. The certificates
@@ -30,6 +31,12 @@ EVERYTHING = make.Claim(["0.0.0.0/0", "::/0"], [(0, 2**32 - 1)])
 INHERITED = make.Claim(make.INHERIT, make.INHERIT)
 
 
+def named(identifier):
+    """The name of a subject: the identifier of its key."""
+    said = make.oid("2.5.4.3") + make.value(0x13, identifier.hex().upper().encode("ascii"))
+    return make.sequence(make.value(0x31, make.sequence(said)))
+
+
 class Quiet:
     """Takes each signature, and asks nobody whether it is right."""
 
@@ -38,8 +45,15 @@ class Quiet:
 
 
 class Signer(make.Signer):
-    """A key that signs without a process."""
+    """A key, drawn from a name or given, that signs without a process."""
 
+    def __init__(self, name, key=None):
+        self.key = key or make.Key(f"examples {name}", 2048)
+        self.info = make.sequence(make.RSA, make.bits(self.key.der))
+        self.id = hashlib.sha1(self.key.der).digest()
+        self.name = named(self.id)
+
+    @functools.lru_cache(4096)
     def sign(self, message):
         key = self.key
         power = int.from_bytes(key.encoded(message), "big")
@@ -63,8 +77,7 @@ class Router:
         kind = make.sequence(make.oid("1.2.840.10045.2.1"), make.oid("1.2.840.10045.3.1.7"))
         self.info = make.sequence(kind, make.bits(point))
         self.id = hashlib.sha1(point).digest()
-        name = make.oid("2.5.4.3") + make.value(0x13, self.id.hex().upper().encode("ascii"))
-        self.name = make.sequence(make.value(0x31, make.sequence(name)))
+        self.name = named(self.id)
 
 
 def certificate(issuer, subject, claim, uris, *, is_ca=False, serial=None, trims=False, more=b"",
@@ -116,7 +129,7 @@ class Ca:
 
     def __init__(self, name, claim, issuer=None, *, key=None, folder=None, manifest=None):
         self.name, self.claim, self.issuer = name, claim, issuer
-        self.signer = signer(key or name)
+        self.signer = key or signer(name)
         self.folder = folder or f"rsync://{HOST}/m/{name}/"
         self.manifest = manifest or f"{self.folder}{name}.mft"
         self.crl = f"{self.folder}{name}.crl"
@@ -154,10 +167,11 @@ class Ca:
         info = make.signer_info(key, Quiet(), kind, content, SIGNED)
         return make.signed_data(kind, content, [cert], [], [info])
 
-    def add_roa(self, name, number, prefixes, **more):
-        nets = [text.split("-")[0] for text in prefixes]
+    def add_roa(self, name, number, prefixes, claim=None, **more):
+        """A ROA (RFC 9582), whose certificate claims what it names, or something else."""
+        claim = claim or make.Claim([text.split("-")[0] for text in prefixes], [])
         content = make.roa(number, prefixes)
-        return self.add(name, self.object(name, make.ROA, content, make.Claim(nets, []), **more))
+        return self.add(name, self.object(name, make.ROA, content, claim, **more))
 
     def add_aspa(self, name, customer, providers, **more):
         claim = make.Claim([], [(customer, customer)])
