@@ -3,11 +3,12 @@
 
     examples/make.py [FOLDER]       writes the tree into FOLDER, else beside this script
 
-What is published lies where its URI says, below the name of its host. NAME.verdicts tells which
-signatures are right on the way from the trust anchor to the object NAME, a line each: the SHA-256
-digests of the key's SubjectPublicKeyInfo, of what was signed, and of the signature. Those of an
-attestation are of the chain that is supplied, and then of the certificates, the revocation lists
-and the signers as they are carried.
+What is published lies where its URI says, below the name of its host; the certificate of the first
+trust anchor also where rpki-client keeps it. NAME.verdicts tells which signatures are right on the
+way from the trust anchor to the object NAME, a line each: the SHA-256 digests of the key's
+SubjectPublicKeyInfo, of what was signed, and of the signature. Those of an attestation are of the
+chain that is supplied, and then of the certificates, the revocation lists and the signers as they are
+carried.
 
 The primes of a key are drawn from its name, so each run makes the same octets. `openssl` tests each
 key and makes each signature (tools/rsa_vectors.py), and is asked for each verdict again. Needs
@@ -447,6 +448,7 @@ def tree():
     for it in (anchor, second):
         yield f"{it.name}.tal", locator(it)
         yield f"{HOST}/{it.name}.cer", it.octets
+    yield f"ta/{anchor.name}/{anchor.name}.cer", anchor.octets
     yield from ((f"{HOST}/anchor/{name}", octets) for name, octets in above.items())
     yield from ((f"{HOST}/authority/{name}", octets) for name, octets in files.items())
     yield from ((it.name, it.octets) for it in (apart, *agreements))
