@@ -1,11 +1,7 @@
 //! What the definitions of what is made say: laws, as functions that do nothing.
 
-ghost use Rattle.std.specs.Prelude.{◌≡◌, ◌<◌, ◌^◌, ◌++◌, ℕ, List, All, length};
-ghost use Rattle.std.specs.Prelude.{Result, MatchResult};
-ghost use Rattle.rpki_der.specs.declared.error.DecodeError.{DecodeError};
-ghost use Rattle.rpki_der.specs.declared.error.DecodeError.TheVariants.{Memory};
+ghost use Rattle.std.specs.Prelude.{◌<◌, ◌^◌, ℕ, List, All, length};
 ghost use Rattle.rpki_der.specs.declared.mode.Mode.TheVariants.{Der};
-ghost use Rattle.rpki_der.specs.Form.Decodes.{Decodes};
 ghost use Rattle.rpki_resources.specs.declared.block.Block.{Block};
 ghost use Rattle.rpki_resources.specs.declared.family.AddressFamily.{AddressFamily};
 ghost use Rattle.rpki_resources.specs.declared.resources.Claim.{Claim};
@@ -14,7 +10,7 @@ ghost use Rattle.rpki_resources.specs.Claim.{IsBuilt};
 ghost use Rattle.rpki_resources.specs.Family.{IsWithin};
 ghost use Rattle.rpki_extensions.specs.declared.extensions.Extensions.{Extensions};
 ghost use Rattle.rpki_extensions.specs.Extensions.{ExtensionsForm};
-ghost use Rattle.rpki_certs.specs.Cert.{Certificate, CertForm, KeptCertificate, Tbs};
+ghost use Rattle.rpki_certs.specs.Cert.{Tbs, CertForm};
 ghost use Rattle.rpki_issued.specs.Extensions.{extensions_octets};
 ghost use Rattle.rpki_issued.specs.Written.{AreToWrite, IsTbsToWrite, OfNumbers, cert_contents};
 ghost use Rattle.rpki_issued.specs.Written.{cert_octets, made_certificate};
@@ -31,15 +27,6 @@ pub fn extensions_are_written()
 pub fn certificates_are_written()
     ensures { (t : Tbs) (s : List ℕ) → IsTbsToWrite t → length (cert_contents t s) < 2 ^ 32
         → CertForm Der (cert_octets t s) (made_certificate t s) }
-{}
-
-/// What is written of a certificate that was read strictly, or made, is read strictly as this
-/// certificate, whatever octets follow it, unless memory runs out.
-pub fn written_certificates_are_read()
-    ensures { (c : Certificate) (rest : List ℕ) (r : Result KeptCertificate DecodeError)
-        → CertForm Der c.octets c
-        → Decodes (CertForm Der) (λ k. k.certificate) (c.octets ++ rest) r
-        → MatchResult r (λ k. k.certificate ≡ c) (λ e. e ≡ Memory) }
 {}
 
 /// The claim of the addresses in blocks of a family is one of this family: where the blocks that

@@ -1,12 +1,12 @@
 //! What the definitions of revocation lists that are made say: laws, as functions that do nothing.
 
-ghost use Rattle.std.specs.Prelude.{◌≡◌, ◌↔◌, ◌<◌, ◌^◌, ◌++◌, ℕ, List, Any, Contains, length};
+ghost use Rattle.std.specs.Prelude.{◌≡◌, ◌↔◌, ◌<◌, ◌^◌, ℕ, List, Any, Contains, length};
 ghost use Rattle.std.specs.Prelude.{Result, MatchResult};
 ghost use Rattle.rpki_der.specs.declared.error.DecodeError.{DecodeError};
 ghost use Rattle.rpki_der.specs.declared.mode.Mode.TheVariants.{Der};
 ghost use Rattle.rpki_der.specs.Form.Decodes.{Decodes};
 ghost use Rattle.rpki_basics.specs.Name.{IsName};
-ghost use Rattle.rpki_crls.specs.Crl.{CrlForm, KeptCrl, RevocationList};
+ghost use Rattle.rpki_crls.specs.Crl.{CrlForm, KeptCrl};
 ghost use Rattle.rpki_issued_crls.specs.Lists.{UnsignedList, IsToWrite, serial_of};
 ghost use Rattle.rpki_issued_crls.specs.Lists.{crl_contents, crl_octets, made_list};
 
@@ -18,17 +18,12 @@ pub fn lists_are_written()
         → CrlForm Der (crl_octets u issuer s) (made_list u issuer s) }
 {}
 
-/// What is written of a revocation list that was made, or read strictly, is read strictly as this
-/// list, unless memory runs out. What follows one that was read changes nothing.
+/// What is written of a revocation list is read again as this list, unless memory runs out.
 pub fn written_lists_are_read()
-    ensures made { (u : UnsignedList) (issuer s : List ℕ) (r : Result KeptCrl DecodeError) →
+    ensures { (u : UnsignedList) (issuer s : List ℕ) (r : Result KeptCrl DecodeError) →
         IsToWrite u → IsName Der issuer → length (crl_contents u issuer s) < 2 ^ 32
         → Decodes (CrlForm Der) (λ k. k.list) (crl_octets u issuer s) r
         → MatchResult r (λ k. k.list ≡ made_list u issuer s) (λ e. e ≡ DecodeError.Memory) }
-    ensures read { (list : RevocationList) (rest : List ℕ) (r : Result KeptCrl DecodeError)
-        → CrlForm Der list.octets list
-        → Decodes (CrlForm Der) (λ k. k.list) (list.octets ++ rest) r
-        → MatchResult r (λ k. k.list ≡ list) (λ e. e ≡ DecodeError.Memory) }
 {}
 
 /// A list that is made revokes the certificates whose serial numbers were pushed, and no others
