@@ -2,12 +2,16 @@
 use Rattle.std.proofs.Common.{◌≡◌, inl, inr, ℕ, List, [], ◌∷◌, ◌++◌, Option, Some, None, Ok, Err}
 use Rattle.std.proofs.Common.{Result, MatchResult, IfErr, append_assoc, refl, sym, subst}
 use Rattle.std.proofs.Common.{ap, ◌∙◌}
-use Rattle.std.proofs.Common.{All, Contains, get_or, drop}
+use Rattle.std.proofs.Common.{All, Contains, get_or, drop, Bool, false, IsTrue, true≢false}
+use Rattle.std.specs.Prelude.{◌↔◌}
+use Rattle.std.proofs.lemmas.List.{append-nil}
+use Rattle.rpki_der.specs.Form.Decodes.{IsOnlyFront}
+use Rattle.rpki_der.specs.Grammar.{HasNoFront, Front}
 use Rattle.std.proofs.lemmas.List.Elements.{All-push, All-head, All-tail, All-contains}
 use Rattle.std.proofs.lemmas.List.Elements.{Contains-append_right}
 use Rattle.rpki_der.specs.declared.mode.Mode.TheVariants.{Der}
 use Rattle.rpki_faults.specs.Checks.{AllHold}
-use Rattle.rpki_certs.specs.Cert.{Certificate, CertForm}
+use Rattle.rpki_certs.specs.Cert.{Certificate, KeptCertificate, CertForm}
 use Rattle.rpki_certs.specs.Issuer.{BeginsWithCert, IsAnchored, in_der}
 use Rattle.rpki_certs.specs.Validate.{Validated, ta_validation, IsAnchorOf as HasClaimed}
 use Rattle.rpki_certs.specs.declared.issuer.IssuerError.{IssuerError}
@@ -33,6 +37,12 @@ pub record IsSought (P : TalUri → Type 0) (all left : List TalUri) : Type 0 wh
   pub before : List TalUri
   pub splits : all ≡ before ++ left
   pub each : All P before
+
+-- where none are left, each is such
+pub sought-all : (P : TalUri → Type 0) (all left : List TalUri) → left ≡ [] → IsSought P all left
+    → All P all
+sought-all P all left e h = subst (λ (l : List TalUri). All P l)
+    (sym (h.splits ∙ (ap (λ (l : List TalUri). h.before ++ l) e ∙ append-nil h.before))) h.each
 
 module _ (P : TalUri → Type 0) (all left rest : List TalUri) (u : TalUri) (e : left ≡ u ∷ rest)
     (h : IsSought P all left) where
@@ -74,7 +84,7 @@ module _ (cached : List ℕ → Option (List ℕ)) (key : List ℕ) (uris : List
       → a ≡ b
   one-first a b h g =
       let same = first-same (HasKeyAt cached key) h.before g.before h.after g.after h.uri g.uri
-          (sym h.order ∙ g.order) h.others (a, h.cached, h.holds) g.others (b, g.cached, g.holds) in
+      (sym h.order ∙ g.order) h.others (a, h.cached, h.holds) g.others (b, g.cached, g.holds) in
       one-some (cached (uri_text h.uri)) a b h.cached
       (subst (λ (u : TalUri). cached (uri_text u) ≡ Some b) (sym same) g.cached)
 
@@ -90,6 +100,41 @@ module _ (cached : List ℕ → Option (List ℕ)) (key : List ℕ) (uris : List
     not-other : All (λ u. ¬ HasKeyAt cached key u) uris → ⊥
     not-other n = All-contains (λ (u : TalUri). ¬ HasKeyAt cached key u) uris h.uri n among
         (octets, h.cached, h.holds)
+
+module _ (cached : List ℕ → Option (List ℕ)) where
+  -- what is found in the order of a locator with its URIs in another order is found in this order
+  pub in-order : (tal copy new : Locator) (r : Result (List ℕ) AnchorFault) → copy ≡ tal
+      → new ≡ record copy { uris = https_first copy.uris }
+      → MatchResult r (IsFirstWithKey cached new.key new.uris) (LacksKey cached new.key new.uris)
+      → MatchResult r (IsFirstWithKey cached tal.key (https_first tal.uris))
+      (LacksKey cached tal.key (https_first tal.uris))
+  in-order tal copy new r e o h = subst
+      (λ (l : Locator). MatchResult r (IsFirstWithKey cached l.key l.uris)
+      (LacksKey cached l.key l.uris))
+      (o ∙ ap (λ (l : Locator). record l { uris = https_first l.uris }) e) h
+
+-- what is not so is not said to be so
+pub not-so : {A : Type 0} → ¬ A → IsTrue false ↔ A
+not-so n = (λ t. absurd (true≢false (sym t)), λ a. absurd (n a))
+
+module _ (octets copy key : List ℕ) (same : copy ≡ octets) where
+  -- octets that begin with no certificate begin with none that has a key
+  pub no-cert : HasNoFront (CertForm Der) copy
+      → IsTrue false ↔ BeginsWithCert octets (λ c. c.tbs.key ≡ key)
+  no-cert none = not-so (λ h. none h.cert h.rest (subst
+      (λ (o : List ℕ). Front (CertForm Der) o h.cert h.rest) (sym same) h.front.found))
+
+  -- and those that begin with one begin with one that has a key exactly if it has it
+  pub has-cert : (cert : KeptCertificate) (is : Bool)
+      → ((rest : List ℕ) × IsOnlyFront (CertForm Der) copy cert.certificate rest)
+      → (IsTrue is ↔ (cert.certificate.tbs.key ≡ key))
+      → IsTrue is ↔ BeginsWithCert octets (λ c. c.tbs.key ≡ key)
+  has-cert cert is f e = subst
+      (λ (o : List ℕ). IsTrue is ↔ BeginsWithCert o (λ c. c.tbs.key ≡ key)) same (
+        λ t. record { cert = cert.certificate; rest = f.0; front = f.1; holds = e.0 t },
+        λ h. e.1 (subst (λ (c : Certificate). c.tbs.key ≡ key)
+            (f.1.only h.cert h.rest h.front.found).0 h.holds),
+      )
 
 -- ---- the anchor
 
