@@ -275,7 +275,7 @@ def anchor_is(octets_of, text):
 
 def other_key(t):
     t.tals["one.tal"] = locator([t.top.uri], t.b.signer)
-    t.fails("its certificate has another key")
+    t.fails("no certificate with its key")
 
 
 def one_of_two(t):

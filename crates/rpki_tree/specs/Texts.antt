@@ -11,7 +11,7 @@ abbrev pub anchor_fault_text : AnchorFault → List ℕ
 anchor_fault_text anchors.Missing = codes "not in the copy"
 anchor_fault_text (anchors.Refused error) =
     codes "its certificate is refused: " ++ issuer_text error
-anchor_fault_text anchors.OtherKey = codes "its certificate has another key"
+anchor_fault_text anchors.OtherKey = codes "no certificate with its key"
 anchor_fault_text anchors.Memory = codes "out of memory"
 
 -- why a pass has no answer

@@ -55,11 +55,11 @@ fn answer<R: Repository>(alloc: Global, copy: &R) -> Result<&'static str, Fail> 
             Ok("found")
         }
         Err(PassFault::Anchor(AnchorFault::Missing)) => Ok("missing"),
-        Err(PassFault::Anchor(AnchorFault::Refused(error))) => {
-            drop(error);
-            Ok("refused")
+        Err(PassFault::Anchor(AnchorFault::OtherKey)) => Ok("other key"),
+        Err(fault) => {
+            drop(fault);
+            Err(Fail::Memory)
         }
-        Err(_) => Err(Fail::Memory),
     }
 }
 
@@ -75,12 +75,12 @@ fn answer_with(alloc: Global, uri: &[u8], octets: &[u8]) -> Result<&'static str,
     Ok(told)
 }
 
-// A copy that has none of the URIs, and one that has bad octets for one of them.
+// A copy that has none of the URIs, and one that has no certificate for one of them.
 #[test]
-fn anchors_are_missing_or_refused(rt: HostRuntime) -> Result<(), Fail> {
+fn anchors_are_missing_or_have_another_key(rt: HostRuntime) -> Result<(), Fail> {
     let alloc = rt.alloc();
     assert!(rt; answer_with(alloc, b"rsync://host/module/b.cer", b"none")? == "missing");
-    assert!(rt; answer_with(alloc, b"rsync://host/module/a.cer", b"none")? == "refused");
-    assert!(rt; answer_with(alloc, b"https://host/a.cer", b"")? == "refused");
+    assert!(rt; answer_with(alloc, b"rsync://host/module/a.cer", b"none")? == "other key");
+    assert!(rt; answer_with(alloc, b"https://host/a.cer", b"")? == "other key");
     Ok(())
 }
