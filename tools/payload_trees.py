@@ -12,7 +12,7 @@ from publication import (
     EVERYTHING, FUTURE, HOST, NEXT, PAST, SIGNED, Ca, Router, certificate, locator, make, signer)
 
 NO_MANIFEST, NO_FILE, NO_LIST, NO_ROA, NO_ASPA, NO_CA = (
-    "no good manifest", "a listed file is missing or differs", "no good revocation list",
+    "no good manifest", "a listed file is missing or differs", "no good revocation list, or it revokes the manifest",
     "no good ROA", "no good ASPA", "no good CA certificate")
 ZEROS = bytes(int(os.environ.get("MB_OF_ZEROS", 100)) << 20)
 

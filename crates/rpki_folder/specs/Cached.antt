@@ -16,7 +16,8 @@ abbrev pub is_among : List TalUri → List ℕ → Bool
 is_among uris text = list_any (λ u. bytes_eq (uri_text u) text) uris
 
 -- What a folder has for a URI, under the locator with this name: the file at the host and the path
--- of the URI. For a URI of the locator, the file of its trust anchor goes before that one.
+-- of the URI. For a URI of the locator, the file of its trust anchor goes before that one, whatever
+-- it holds.
 abbrev pub cached_in : (List ℕ → Option (List ℕ)) → List ℕ → Locator → List ℕ → Option (List ℕ)
 cached_in all name tal uri =
     if is_among tal.uris uri

@@ -25,7 +25,7 @@ is_below name = list_all is_plain (segments name)
 abbrev pub after_slash : List ℕ → List ℕ
 after_slash octets = after_first is_slash octets
 
--- what stands after the two slashes of a URI, its host and its path (3): of
+-- what stands after the two slashes of a URI, its authority, its path and its query (3): of
 -- `rsync://HOST/MODULE/PATH` it is `HOST/MODULE/PATH`
 abbrev pub path_of : List ℕ → List ℕ
 path_of uri = after_slash (after_slash uri)

@@ -32,7 +32,7 @@ fn after_slash(octets: &[u8]) -> &[u8]
     }
 }
 
-/// What stands after the two slashes of a URI: its host and its path.
+/// What stands after the two slashes of a URI: its authority, its path and its query.
 pub(crate) fn path_of(uri: &[u8]) -> &[u8]
     ensures { result.now ≡ path_of uri.now }
 {

@@ -1,6 +1,6 @@
 //! Who finds the payloads under the locators of trust anchors.
 
-ghost use Rattle.std.specs.Prelude.{ℕ, List};
+ghost use Rattle.std.specs.Prelude.{◌≡◌, ℕ, List, length};
 ghost use Rattle.rpki_certs.specs.Issuer.{octets_of};
 ghost use Rattle.rpki_cli.specs.Answer.{Output, said};
 ghost use Rattle.rpki_cli.specs.declared.verify.relying_party.PayloadsRequest.{PayloadsRequest};
@@ -39,5 +39,6 @@ pub trait RelyingParty {
         request: &PayloadsRequest<'a>,
         files: &[Vec<u8>],
     ) -> Answer<'a>
+        requires { length files.now ≡ length request.now.locators }
         ensures { says self.now request.now (octets_of files.now) (said result) };
 }
