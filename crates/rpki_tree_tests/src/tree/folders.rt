@@ -108,6 +108,9 @@ fn answer<'a>(
     files: &[&[u8]],
 ) -> Result<Answer<'a>, Fail> {
     let octets = octets_of(alloc, files)?;
+    if octets.len() != locators.len() {
+        return Err(Fail::Refused);
+    }
     let Some(moment) = Time::utc(2030, 1, 1, 0, 0, 0) else {
         return Err(Fail::Refused);
     };
