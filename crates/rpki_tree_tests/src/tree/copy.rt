@@ -34,12 +34,7 @@ impl Folders for Files {
 
     ghost told = { λ t. Some (λ _ name. octets_for t.files.items name) };
 
-    fn read(
-        &self,
-        alloc: Global,
-        _folder: &str,
-        name: &[u8],
-    ) -> Result<Option<Bytes>, AllocError> {
+    fn read(&self, alloc: Global, _folder: &str, name: &[u8]) -> Result<Option<Bytes>, AllocError> {
         Repository::read(self, alloc, name)
     }
 }

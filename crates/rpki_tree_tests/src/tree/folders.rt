@@ -102,11 +102,7 @@ fn octets_of(alloc: Global, files: &[&[u8]]) -> Result<Vec<Vec<u8>>, AllocError>
 }
 
 // What is answered of locators in these files over an empty folder.
-fn answer<'a>(
-    alloc: Global,
-    locators: &'a [&'a str],
-    files: &[&[u8]],
-) -> Result<Answer<'a>, Fail> {
+fn answer<'a>(alloc: Global, locators: &'a [&'a str], files: &[&[u8]]) -> Result<Answer<'a>, Fail> {
     let octets = octets_of(alloc, files)?;
     let Some(moment) = Time::utc(2030, 1, 1, 0, 0, 0) else {
         return Err(Fail::Refused);
@@ -137,14 +133,12 @@ fn locators_are_refused(rt: HostRuntime) -> Result<(), Fail> {
         _ => return Err(Fail::Refused),
     }
     match answer(alloc, &names, &[LOCATOR, LOCATOR, LOCATOR])? {
-        Answer::Reported {
-            out,
-            err,
-            status,
-        } => {
+        Answer::Reported { out, err, status } => {
             assert_eq!(rt; out.as_str(), "");
-            assert_eq!(rt; err.as_str(),
-                "refused a: not in the copy\nrefused b: not in the copy\nrefused c: not in the copy\n");
+            assert_eq!(rt;
+                err.as_str(),
+                "refused a: not in the copy\nrefused b: not in the copy\nrefused c: not in the copy\n"
+            );
             assert_eq!(rt; status, 1);
         }
         _ => return Err(Fail::Refused),
