@@ -5,8 +5,8 @@ use rpki_folder::Folders;
 use rpki_tree::Repository;
 use std::alloc::{AllocError, Global};
 
-/// Files in memory, each with its URI, or with its name in each folder. Of two with one URI, or with
-/// one name, the first counts.
+/// Files in memory, each with its URI, or with its name in each folder. Of two with one URI, or
+/// with one name, the first counts.
 #[derive(Drop)]
 pub struct Files {
     pub files: Vec<(Vec<u8>, Vec<u8>)>,
