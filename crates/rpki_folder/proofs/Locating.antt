@@ -1,6 +1,6 @@
 -- Files that are read one after the other.
-use Rattle.std.proofs.Common.{◌≡◌, ◌∙◌, ℕ, List, [], ◌∷◌, ◌++◌, Bor, Vec, Global, refl, sym, ap, subst}
-use Rattle.std.proofs.Common.{inl, inr, append_assoc, All, Err}
+use Rattle.std.proofs.Common.{◌≡◌, ◌∙◌, ℕ, List, [], ◌∷◌, ◌++◌, Bor, Vec, Global, refl, sym, ap}
+use Rattle.std.proofs.Common.{inl, inr, append_assoc, subst, All, Err}
 use Rattle.std.proofs.lemmas.List.{append-nil}
 use Rattle.std.proofs.lemmas.List.Elements.{All-nil, All-cons}
 use Rattle.std.proofs.lemmas.Slice.Zip.{all_zipped_more}

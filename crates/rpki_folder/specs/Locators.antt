@@ -44,8 +44,8 @@ IsFaultOf errors.Memory word fault = fault ≡ Memory
 IsFaultOf error word Memory = ⊥
 IsFaultOf error word (Bad same) = same.now ≡ word
 
--- what is read of files: the locators, in their order, or the first that is none, unless memory runs
--- out
+-- what is read of files: the locators, in their order, or the first that is none, unless memory
+-- runs out
 abbrev pub AreLocated : List File → Result (Vec Located Global) NotLocated → Type 0
 AreLocated files (Ok located) = AllZip IsLocated files located.items
 AreLocated files (Err (Bad word)) = IsFirstBad files word.now

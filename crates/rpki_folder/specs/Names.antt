@@ -1,6 +1,6 @@
 -- Names of files below a folder. The section is that of RFC 3986.
-use Rattle.std.specs.Prelude.{ℕ, ◌-◌, List, ◌++◌, Bool, ◌==◌, ◌&&◌, not, codes, length, take}
-use Rattle.std.specs.Prelude.{bytes_eq, if◌then◌else◌}
+use Rattle.std.specs.Prelude.{◌≡◌, ℕ, ◌-◌, List, [], ◌++◌, Bool, ◌==◌, ◌&&◌, not, codes, length}
+use Rattle.std.specs.Prelude.{take, bytes_eq, All, if◌then◌else◌}
 use Rattle.std.specs.List.{list_all, slice_split, after_first, after_last, ends_with}
 
 abbrev pub is_slash : ℕ → Bool
@@ -20,6 +20,14 @@ is_plain segment = not (length segment == 0)
 -- plain.
 abbrev pub is_below : List ℕ → Bool
 is_below name = list_all is_plain (segments name)
+
+-- the same in words: a segment is a name of its own
+abbrev pub IsPlain : List ℕ → Type 0
+IsPlain segment = (¬ (segment ≡ [])) × (¬ (segment ≡ codes ".")) × (¬ (segment ≡ codes ".."))
+
+-- a name leads to a file below a folder
+abbrev pub IsBelow : List ℕ → Type 0
+IsBelow name = All IsPlain (segments name)
 
 -- what stands after the first slash, or nothing where there is none
 abbrev pub after_slash : List ℕ → List ℕ

@@ -4,6 +4,7 @@
 
 mod copy;
 mod folders;
+pub mod laws;
 mod locators;
 mod names;
 mod party;

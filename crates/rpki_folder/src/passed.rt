@@ -65,7 +65,8 @@ impl<'a> Passed<'a> {
         }
     }
 
-    /// Appends the line of what is refused, where there is no answer. Refuses where memory runs out.
+    /// Appends the line of what is refused, where there is no answer. Refuses where memory runs
+    /// out.
     pub(crate) fn push_line(&self, text: &mut String) -> Result<(), AllocError>
         ensures { Grows result text.old text.new (outcome_line self.now.name self.now.outcome) }
     {

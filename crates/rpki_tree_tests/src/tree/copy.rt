@@ -5,8 +5,8 @@ use rpki_folder::Folders;
 use rpki_tree::Repository;
 use std::alloc::{AllocError, Global};
 
-/// Files in memory, each with its URI, or with its name in each folder. Of two with one URI, or with
-/// one name, the first counts.
+/// Files in memory, each with its URI, or with its name in each folder. Of two with one URI, or
+/// with one name, the first counts.
 #[derive(Drop)]
 pub struct Files {
     pub files: Vec<(Vec<u8>, Vec<u8>)>,
@@ -34,12 +34,7 @@ impl Folders for Files {
 
     ghost told = { λ t. Some (λ _ name. octets_for t.files.items name) };
 
-    fn read(
-        &self,
-        alloc: Global,
-        _folder: &str,
-        name: &[u8],
-    ) -> Result<Option<Bytes>, AllocError> {
+    fn read(&self, alloc: Global, _folder: &str, name: &[u8]) -> Result<Option<Bytes>, AllocError> {
         Repository::read(self, alloc, name)
     }
 }

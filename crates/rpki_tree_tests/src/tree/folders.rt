@@ -1,22 +1,18 @@
 //! Folders as copies of the repositories, and what is reported of locators.
 
 use super::copy::Files;
+use super::locators::{LOCATOR, locator, moment};
 use rpki_basics::standin::StandIn;
 use rpki_basics::{ProviderLimit, Time};
 use rpki_cli::answer::Answer;
 use rpki_cli::verify::words::Format;
 use rpki_cli::verify::{PayloadsRequest, RelyingParty};
 use rpki_cli::words::{Word, Words};
-use rpki_der::Counted;
 use rpki_folder::{FolderCopy, FolderParty};
 use rpki_tal::Tal;
 use rpki_testing::Fail;
 use rpki_tree::Repository;
 use std::alloc::{AllocError, Global};
-
-/// A locator with an rsync URI, an https URI and a key.
-const LOCATOR: &[u8] =
-    b"rsync://host/module/a.cer\nhttps://host/a.cer\n\nMBUwDQYJKoZIhvcNAQEBBQADBABhYmM=\n";
 
 /// The names of files, and what they hold.
 static FILES: [(&str, &str); 7] = [
@@ -57,28 +53,35 @@ fn folder_with(alloc: Global, files: &[(&str, &str)]) -> Result<Files, AllocErro
     Ok(Files { files: held })
 }
 
-// Whether a folder has these octets for a URI, or `none`, under the locator with this name.
-fn has_octets(
+// Whether a copy has these octets for a URI, or `none`.
+fn has_octets<R: Repository>(
     alloc: Global,
-    folders: &Files,
-    name: &str,
+    copy: &R,
     uri: &str,
     octets: &str,
-) -> Result<bool, Fail> {
-    let locator = match Tal::read_named(alloc, String::new(alloc), &mut Counted::new(LOCATOR)) {
-        Ok(locator) => locator,
-        Err(_) => return Err(Fail::Memory),
-    };
-    let copy = FolderCopy {
-        folders,
-        folder: "copy",
-        name,
-        locator: &locator,
-    };
+) -> Result<bool, AllocError> {
     match copy.read(alloc, uri.as_bytes())? {
         None => Ok(octets == "none"),
         Some(found) => Ok(found.as_slice() == octets.as_bytes()),
     }
+}
+
+// Whether a folder has these octets for a URI, or `none`, under the locator with this name.
+fn folder_has(
+    alloc: Global,
+    folders: &Files,
+    locator: &Tal,
+    name: &str,
+    uri: &str,
+    octets: &str,
+) -> Result<bool, AllocError> {
+    let copy = FolderCopy {
+        folders,
+        folder: "copy",
+        name,
+        locator,
+    };
+    has_octets(alloc, &copy, uri, octets)
 }
 
 // The file of a trust anchor goes first, and no name that leads out of the folder has anything.
@@ -86,8 +89,9 @@ fn has_octets(
 fn files_are_below_the_folder(rt: HostRuntime) -> Result<(), Fail> {
     let alloc = rt.alloc();
     let folders = folder_with(alloc, &FILES)?;
+    let locator = locator(alloc)?;
     for (name, uri, octets) in &HELD {
-        assert!(rt; has_octets(alloc, &folders, name, uri, octets)?);
+        assert!(rt; folder_has(alloc, &folders, &locator, name, uri, octets)?);
     }
     Ok(())
 }
@@ -105,12 +109,9 @@ fn octets_of(alloc: Global, files: &[&[u8]]) -> Result<Vec<Vec<u8>>, AllocError>
 fn answer<'a>(
     alloc: Global,
     locators: &'a [&'a str],
-    files: &[&[u8]],
-) -> Result<Answer<'a>, Fail> {
-    let octets = octets_of(alloc, files)?;
-    let Some(moment) = Time::utc(2030, 1, 1, 0, 0, 0) else {
-        return Err(Fail::Refused);
-    };
+    files: &[Vec<u8>],
+    moment: Time,
+) -> Result<Answer<'a>, AllocError> {
     let request = PayloadsRequest {
         format: Format::Lines,
         copy: Word("copy"),
@@ -124,30 +125,40 @@ fn answer<'a>(
         crypto: &StandIn,
         limit: 10,
     };
-    Ok(party.answer(alloc, &request, &octets))
+    Ok(party.answer(alloc, &request, files))
 }
+
+// Whether an answer says that the file with this name is no locator.
+fn is_bad(answer: Answer<'_>, name: &str) -> bool {
+    match answer {
+        Answer::BadLocator(bad) => bad == name,
+        _ => false,
+    }
+}
+
+// Whether an answer says nothing on standard output, and this on standard error, with status 1.
+fn is_refused(answer: Answer<'_>, text: &str) -> bool {
+    match answer {
+        Answer::Reported { out, err, status } => {
+            out.is_empty() && err.as_str() == text && status == 1
+        }
+        _ => false,
+    }
+}
+
+// What is said where no locator has its trust anchor.
+const REFUSED: &str =
+    "refused a: not in the copy\nrefused b: not in the copy\nrefused c: not in the copy\n";
 
 // The first file that is no locator is named; else each that has no trust anchor is refused.
 #[test]
 fn locators_are_refused(rt: HostRuntime) -> Result<(), Fail> {
     let alloc = rt.alloc();
     let names = ["a.tal", "tals/b.tal", "c"];
-    match answer(alloc, &names, &[LOCATOR, b"none", b""])? {
-        Answer::BadLocator(name) => assert_eq!(rt; name, "tals/b.tal"),
-        _ => return Err(Fail::Refused),
-    }
-    match answer(alloc, &names, &[LOCATOR, LOCATOR, LOCATOR])? {
-        Answer::Reported {
-            out,
-            err,
-            status,
-        } => {
-            assert_eq!(rt; out.as_str(), "");
-            assert_eq!(rt; err.as_str(),
-                "refused a: not in the copy\nrefused b: not in the copy\nrefused c: not in the copy\n");
-            assert_eq!(rt; status, 1);
-        }
-        _ => return Err(Fail::Refused),
-    }
+    let moment = moment()?;
+    let bad = octets_of(alloc, &[LOCATOR, b"none", b""])?;
+    assert!(rt; is_bad(answer(alloc, &names, &bad, moment)?, "tals/b.tal"));
+    let good = octets_of(alloc, &[LOCATOR, LOCATOR, LOCATOR])?;
+    assert!(rt; is_refused(answer(alloc, &names, &good, moment)?, REFUSED));
     Ok(())
 }

@@ -10,11 +10,11 @@ use rpki_tree::{AnchorFault, Pass, PassFault, Repository, findings};
 use std::alloc::{AllocError, Global};
 
 /// A locator with an rsync URI, an https URI and a key.
-const LOCATOR: &[u8] =
+pub const LOCATOR: &[u8] =
     b"rsync://host/module/a.cer\nhttps://host/a.cer\n\nMBUwDQYJKoZIhvcNAQEBBQADBABhYmM=\n";
 
-// The locator.
-fn locator(alloc: Global) -> Result<Tal, Fail> {
+/// The locator.
+pub fn locator(alloc: Global) -> Result<Tal, Fail> {
     match Tal::read_named(alloc, String::new(alloc), &mut Counted::new(LOCATOR)) {
         Ok(tal) => Ok(tal),
         Err(ReadError::Memory) => Err(Fail::Memory),
@@ -32,8 +32,8 @@ fn copy_with(alloc: Global, uri: &[u8], octets: &[u8]) -> Result<Files, AllocErr
     Ok(Files { files })
 }
 
-// The first moment of 2030.
-fn moment() -> Result<Time, Fail> {
+/// The first moment of 2030.
+pub fn moment() -> Result<Time, Fail> {
     match Time::utc(2030, 1, 1, 0, 0, 0) {
         Some(time) => Ok(time),
         None => Err(Fail::Refused),
