@@ -14,6 +14,7 @@ from publication import (
 NO_MANIFEST, NO_FILE, NO_LIST, NO_ROA, NO_ASPA, NO_CA = (
     "no good manifest", "a listed file is missing or differs", "no good revocation list, or it revokes the manifest",
     "no good ROA", "no good ASPA", "no good CA certificate")
+NO_KEY = "no certificate with its key"
 ZEROS = bytes(int(os.environ.get("MB_OF_ZEROS", 100)) << 20)
 
 
@@ -269,13 +270,13 @@ SHAPES = [
 def anchor_is(octets_of, text):
     def change(t):
         t.put(t.top.uri, octets_of(t))
-        t.fails(f"its certificate is refused: {text}")
+        t.fails(NO_KEY if text is None else f"its certificate is refused: {text}")
     return change
 
 
 def other_key(t):
     t.tals["one.tal"] = locator([t.top.uri], t.b.signer)
-    t.fails("no certificate with its key")
+    t.fails(NO_KEY)
 
 
 def one_of_two(t):
@@ -302,11 +303,19 @@ def kept_at_ta(t):
     t.files["ta/one/top.cer"] = t.top.certificate() + b"more"
     t.put(t.top.uri, b"no anchor")
     t.tals["two.tal"] = t.tals["one.tal"]
-    t.fails("its certificate is refused: malformed", "two")
+    t.fails(NO_KEY, "two")
+
+
+def next_uri(t):
+    """What is under the first two URIs of a locator has another key, or is no certificate."""
+    uris = [f"rsync://{HOST}/ta/{name}.cer" for name in ("other", "bad")]
+    t.tals["one.tal"] = locator([*uris, t.top.uri], t.top.signer)
+    t.put(uris[0], Ca("other", EVERYTHING).certificate())
+    t.put(uris[1], b"no anchor")
 
 
 def https_first(t):
-    """The first URI of a locator that is there decides, HTTPS first."""
+    """The first URI of a locator with a certificate that has its key decides, HTTPS first."""
     t.tals["one.tal"] = locator([f"rsync://{HOST}/ta/bad.cer", f"https://{HOST}/none.cer",
                                  f"https://{HOST}/ta/top.cer"], t.top.signer)
     t.put(f"rsync://{HOST}/ta/bad.cer", b"no anchor")
@@ -344,14 +353,15 @@ LOCATORS = [
     ("an anchor with another key", other_key),
     ("an expired anchor", anchor_is(lambda t: t.top.certificate(last=PAST),
                                     "certificate has expired")),
-    ("an anchor that is a ROA", anchor_is(lambda t: t.b.files["o.roa"], "malformed")),
-    ("an anchor of 0 octets", anchor_is(lambda t: b"", "malformed")),
-    ("an anchor of zeros", anchor_is(lambda t: ZEROS, "malformed")),
+    ("an anchor that is a ROA", anchor_is(lambda t: t.b.files["o.roa"], None)),
+    ("an anchor of 0 octets", anchor_is(lambda t: b"", None)),
+    ("an anchor of zeros", anchor_is(lambda t: ZEROS, None)),
     ("two locators, one without an anchor", one_of_two),
     ("two locators", two_anchors),
     ("two locators of one anchor", one_twice),
     ("an anchor at ta/NAME/FILE", kept_at_ta),
     ("a locator with three URIs", https_first),
+    ("a locator whose first URIs have other keys", next_uri),
     located("https://a/../x", "x"), located("https://../x", "../x"), located("https://a/..", "x"),
     located("https://a//x", "a/x"), located("https://a/", "x"), located("rsync://../x/y", "../x/y"),
     located("https://a/../x", "ta/one/x", True),
