@@ -13,7 +13,7 @@ TOP = pathlib.Path(__file__).resolve().parent.parent.parent
 COUNT, PART = 300, 50
 HEAD = '''//! Changed objects of examples/, and what follows of their answers.
 
-use crate::given::{Said, said};
+use crate::given::{Nobody, Said, said};
 use rpki_command::Objects;
 use rpki_command::verify::Verify;
 use std::alloc::{AllocError, Global};
@@ -81,7 +81,8 @@ impl Asked<'_> {
     fn by_signatures(&self, others: &[&str]) -> Result<Said, AllocError> {
         let files = [("file", self.octets), ("anchor", ANCHOR), ("ca", AUTHORITY)];
         let words = self.words(others)?;
-        Ok(said(self.alloc, &Verify { clock: None }, &words, &files))
+        let program = Verify { clock: None, relying_party: Nobody };
+        Ok(said(self.alloc, &program, &words, &files))
     }
 
     fn by_list(&self, others: &[&str], list: &[u8]) -> Result<Said, AllocError> {

@@ -48,6 +48,7 @@ HELP = """usage: rpki_verify [OPTION ..] check KIND FILE MOMENT TA [CA ..]
        rpki_verify [OPTION ..] verdicts rta FILE ANCHOR ..
        rpki_verify [OPTION ..] show KIND FILE
        rpki_verify [OPTION ..] content KIND FILE
+       rpki_verify [OPTION ..] payloads [--csv | --json] COPY MOMENT TAL [TAL ..]
        rpki_verify show tal FILE
        rpki_verify --help
 OPTION, in this order: --relaxed --registered --wide
@@ -55,6 +56,7 @@ KIND: aspa, manifest, roa or rsc; of show and content also rta
 MOMENT: now, or YYYYMMDDHHMMSSZ
 CA of walk: any file but one named with
 FILE after verdicts: any file but one named rta
+COPY of payloads: any folder but one named --csv or --json
 ANCHOR: tal=FILE or ca=TA[:CA ..]
 """
 WRONG = 2, "wrong words, expected:\n" + HELP, 0
@@ -197,6 +199,13 @@ ROWS = [
     (["--wide", "content", "rta", "roa"], None, 1, MALFORMED, 1),
     (["content", "rta", "none"], None, *NONE, 1),
     (["show", "rta", "large"], None, *LARGE, 1),
+    # Payloads, of which the relying party here says that each file is malformed.
+    (["payloads", "copy", GOOD, "second"], None, 1, MALFORMED, 1),
+    (["--wide", "payloads", "--csv", "copy", "now", "second", "roa"], GOOD, 1, MALFORMED, 2),
+    (["payloads", "--json", "./--csv", GOOD, "--csv"], None, 2, "cannot read --csv\n", 1),
+    (["payloads", "copy", "now", "second"], None, *NO_TIME),
+    (["payloads", "copy", GOOD, "second", "none", "roa"], None, *NONE, 2),
+    (["payloads", "copy", GOOD, "large", "none"], None, *LARGE, 1),
     # A word after the command that looks like an option is the name of a file.
     (["verdicts", "--relaxed", "roa", "anchor"], None, 2, "cannot read --relaxed\n", 1),
 ]
@@ -215,6 +224,12 @@ OTHER_WORDS = [
     rta_listed("agreement", "TAL=second"), ["rta", "verdicts", "agreement", *ANCHORS],
     ["content", "rta", ""], ["content", "tal", "roa"], ["show", "roa", ""],
     ["rta", "roa", GOOD, "roa", "tal=roa"],
+    ["payloads"], ["payloads", "copy"], ["payloads", "copy", GOOD],
+    ["payloads", "--csv", "copy", GOOD], ["payloads", "--csv", "--json", GOOD, "tal"],
+    ["payloads", "--json", "--csv", GOOD, "tal"], ["payloads", "--yaml", "copy", GOOD, "tal"],
+    ["payloads", "copy", "20270229000000Z", "tal"], ["payloads", "", GOOD, "tal"],
+    ["payloads", "copy", GOOD, ""], ["payloads", "copy", GOOD, "tal", ""],
+    ["payloads", GOOD, "copy", "tal"], ["payloads", "copy", "--csv", GOOD, "tal"],
     ["walk"], ["walk", "manifest", GOOD, "with"], walk()[:-1], walk("roa"), walk("origin.roa="),
     walk("="), walk("origin.roa=roa", "with"), walk("origin.roa=roa", moment="20270229000000Z"),
     walk("origin.roa=roa", file=""), walk("origin.roa=roa", chain=["anchor", ""]),

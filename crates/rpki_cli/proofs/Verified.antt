@@ -1,3 +1,4 @@
 pub mod Clocks
+pub mod Formats
 pub mod Optioned
 pub mod Orders

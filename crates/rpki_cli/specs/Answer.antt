@@ -6,6 +6,8 @@ use Rattle.rpki_der.specs.Write.Encode.{Sunk}
 use Rattle.rpki_cli.specs.declared.answer.Answer.{Answer}
 use Rattle.rpki_cli.specs.declared.answer.Answer.TheVariants.{Usage, Help, WrongWords, NoMoment}
 use Rattle.rpki_cli.specs.declared.answer.Answer.TheVariants.{CannotRead, BadVerdicts, OutOfMemory}
+use Rattle.rpki_cli.specs.declared.answer.Answer.TheVariants.{BadLocator}
+use Rattle.rpki_cli.specs.declared.answer.Answer.TheVariants as answers
 use Rattle.rpki_cli.specs.declared.answer.Answer.TheVariants.{Malformed, MalformedBy, Refused}
 use Rattle.rpki_cli.specs.declared.answer.Answer.TheVariants.{IssuerMalformed, IssuerRefused, Shown}
 
@@ -55,12 +57,31 @@ pub record Complains (octets : List ℕ) (wanted : ℕ) (run : Run) : Type 0 whe
   pub err : Writes octets wanted run.err_before run.err_after run.status
   pub out : run.out_after ≡ run.out_before
 
--- what a program puts out: a text, and the status that goes with it
+-- One text is written whole on standard output, with this status, and then the other one on
+-- standard error.
+pub record ReportsBoth (found refused : List ℕ) (wanted : ℕ) (run : Run) : Type 0 where
+  pub out : IsWhole found wanted run.out_before run.out_after wanted
+  pub err : Writes refused wanted run.err_before run.err_after run.status
+
+-- A call of standard output has failed, and standard error is left alone.
+pub record ReportsNoMore (found : List ℕ) (run : Run) : Type 0 where
+  pub out : IsCut found run.out_before run.out_after run.status
+  pub err : run.err_after ≡ run.err_before
+
+-- one text is written on standard output, and then, where all of it is written, the other one on
+-- standard error
+abbrev pub Reports : List ℕ → List ℕ → ℕ → Run → Type 0
+Reports found refused wanted run =
+    ReportsBoth found refused wanted run ⊎ ReportsNoMore found run
+
+-- what a program puts out: a text or two, and the status that goes with it
 pub data Output : Type 0 where
   -- on standard output
   Printed : (text : List ℕ) (status : ℕ) → Output
   -- on standard error
   Complained : (text : List ℕ) (status : ℕ) → Output
+  -- on standard output, and then on standard error
+  Reported : (out err : List ℕ) (status : ℕ) → Output
 
 -- the words are those of no order, or of one that is not built
 abbrev pub usage : Output
@@ -75,6 +96,7 @@ usage_text = codes "usage: rpki_verify [OPTION ..] check KIND FILE MOMENT TA [CA
     ++ (codes "       rpki_verify [OPTION ..] verdicts rta FILE ANCHOR ..\n"
     ++ (codes "       rpki_verify [OPTION ..] show KIND FILE\n"
     ++ (codes "       rpki_verify [OPTION ..] content KIND FILE\n"
+    ++ (codes "       rpki_verify [OPTION ..] payloads [--csv | --json] COPY MOMENT TAL [TAL ..]\n"
     ++ (codes "       rpki_verify show tal FILE\n"
     ++ (codes "       rpki_verify --help\n"
     ++ (codes "OPTION, in this order: --relaxed --registered --wide\n"
@@ -82,7 +104,8 @@ usage_text = codes "usage: rpki_verify [OPTION ..] check KIND FILE MOMENT TA [CA
     ++ (codes "MOMENT: now, or YYYYMMDDHHMMSSZ\n"
     ++ (codes "CA of walk: any file but one named with\n"
     ++ (codes "FILE after verdicts: any file but one named rta\n"
-    ++ codes "ANCHOR: tal=FILE or ca=TA[:CA ..]\n")))))))))))))
+    ++ (codes "COPY of payloads: any folder but one named --csv or --json\n"
+    ++ codes "ANCHOR: tal=FILE or ca=TA[:CA ..]\n")))))))))))))))
 
 -- that program says how it is called
 abbrev pub help : Output
@@ -103,6 +126,10 @@ cannot_read file = Complained (codes "cannot read " ++ (file ++ codes "\n")) 2
 -- a file is no list of verdicts
 abbrev pub bad_verdicts : Output
 bad_verdicts = Complained (codes "bad verdicts\n") 2
+
+-- a file is no trust anchor locator
+abbrev pub bad_locator : List ℕ → Output
+bad_locator file = Complained (codes "bad locator " ++ (file ++ codes "\n")) 2
 
 -- that no memory was to be had, as a text
 abbrev pub memory_text : List ℕ
@@ -148,6 +175,7 @@ said WrongWords = wrong_words
 said NoMoment = no_moment
 said (CannotRead file) = cannot_read file.now
 said BadVerdicts = bad_verdicts
+said (BadLocator file) = bad_locator file.now
 said OutOfMemory = out_of_memory
 said Malformed = malformed
 said (MalformedBy cause) = malformed_by (string_bytes cause)
@@ -155,8 +183,10 @@ said (Refused cause) = refused (string_bytes cause)
 said IssuerMalformed = issuer_malformed
 said (IssuerRefused cause) = issuer_refused (string_bytes cause)
 said (Shown lines) = shown (string_bytes lines)
+said (answers.Reported out err status) = Reported (string_bytes out) (string_bytes err) status
 
 -- the run says it
 abbrev pub IsSaid : Output → Run → Type 0
 IsSaid (Printed text status) run = Prints text status run
 IsSaid (Complained text status) run = Complains text status run
+IsSaid (Reported out err status) run = Reports out err status run

@@ -164,8 +164,8 @@ pub record IsRunOf (p : Program) (told : Told) (words : List (List ℕ)) (old ne
   -- whatever the store tells, one answer is said
   pub answered : (s : Output) × IsAnswer p told words old new s × IsSaid s run
 
--- Which files a run reads: none for words that ask for nothing, and for others those that their
--- task reads.
+-- Which files a run asks the store for: none for words that ask for nothing, and for others those
+-- that their task reads. What a relying party reads in its folders is not among them.
 pub record HaveRead (p : Program) (words : List (List ℕ)) (old new : Names) : Type 0 where
   pub wrong : AskForNothing p.language words → new ≡ old
   pub done : (o : Order p.language.Command) → IsAsked p.language words o

@@ -3,7 +3,7 @@
 ghost use Rattle.std.specs.Prelude.{◌≡◌, ◌+◌, ◌++◌, OnOk, OnErr, codes};
 ghost use Rattle.std.specs.Io.KnownBytes.{Appends};
 ghost use Rattle.rpki_der.specs.Write.Sink.{AppendsFront};
-ghost use Rattle.rpki_cli.specs.Answer.{Writes, IsSaid, run_of, said};
+ghost use Rattle.rpki_cli.specs.Answer.{Writes, IsSaid, Reports, run_of, said};
 
 use rpki_der::{Sink, SinkFailed};
 
@@ -21,6 +21,7 @@ const USAGE: &[u8] = b"usage: rpki_verify [OPTION ..] check KIND FILE MOMENT TA 
        rpki_verify [OPTION ..] verdicts rta FILE ANCHOR ..
        rpki_verify [OPTION ..] show KIND FILE
        rpki_verify [OPTION ..] content KIND FILE
+       rpki_verify [OPTION ..] payloads [--csv | --json] COPY MOMENT TAL [TAL ..]
        rpki_verify show tal FILE
        rpki_verify --help
 OPTION, in this order: --relaxed --registered --wide
@@ -28,6 +29,7 @@ KIND: aspa, manifest, roa or rsc; of show and content also rta
 MOMENT: now, or YYYYMMDDHHMMSSZ
 CA of walk: any file but one named with
 FILE after verdicts: any file but one named rta
+COPY of payloads: any folder but one named --csv or --json
 ANCHOR: tal=FILE or ca=TA[:CA ..]";
 
 /// What stands in front of it after wrong words.
@@ -64,6 +66,8 @@ pub enum Answer<'a> {
     CannotRead(&'a str),
     /// A file is no list of verdicts.
     BadVerdicts,
+    /// The file of this name is no trust anchor locator.
+    BadLocator(&'a str),
     /// No memory was to be had.
     OutOfMemory,
     /// The file is not, or does not begin with, what was asked for.
@@ -78,6 +82,12 @@ pub enum Answer<'a> {
     IssuerRefused(String),
     /// These lines.
     Shown(String),
+    /// What was found, and what was refused.
+    Reported {
+        out: String,
+        err: String,
+        status: u8,
+    },
 }
 
 /// Says the answer on one of the two sinks, and gives the exit status, which is 2 where the sink
@@ -93,6 +103,7 @@ pub fn say<O: Sink, E: Sink>(answer: &Answer<'_>, out: &mut O, err: &mut E) -> u
         Answer::NoMoment => write(b"cannot tell the time\n", FAILED, err),
         Answer::CannotRead(file) => write_line(b"cannot read ", file.as_bytes(), FAILED, err),
         Answer::BadVerdicts => write(b"bad verdicts\n", FAILED, err),
+        Answer::BadLocator(file) => write_line(b"bad locator ", file.as_bytes(), FAILED, err),
         Answer::OutOfMemory => write_line(OUT_OF_MEMORY.as_bytes(), b"", NO_MEMORY, err),
         Answer::Malformed => write_line(MALFORMED, b"", REFUSED, out),
         Answer::MalformedBy(cause) => { write_line(b"malformed: ", cause.as_bytes(), REFUSED, out) }
@@ -102,6 +113,29 @@ pub fn say<O: Sink, E: Sink>(answer: &Answer<'_>, out: &mut O, err: &mut E) -> u
             write_line(ISSUER_REFUSED, cause.as_bytes(), REFUSED, out)
         }
         Answer::Shown(text) => write(text.as_bytes(), SHOWN, out),
+        Answer::Reported {
+            out: found,
+            err: refused,
+            status,
+        } => report(found.as_bytes(), refused.as_bytes(), *status, out, err),
+    }
+}
+
+/// Writes what was found on standard output, and then what was refused on standard error, and gives
+/// the status, or 2 where a sink fails, after which nothing more is written.
+fn report<O: Sink, E: Sink>(
+    found: &[u8],
+    refused: &[u8],
+    status: u8,
+    out: &mut O,
+    err: &mut E,
+) -> u8
+    ensures { Reports found.now refused.now status
+        (run_of O.taken O.failures out.old out.new E.taken E.failures err.old err.new result) }
+{
+    match out.take_all(found) {
+        Ok(()) => write(refused, status, err),
+        Err(SinkFailed) => FAILED,
     }
 }
 

@@ -46,7 +46,7 @@ use Rattle.rpki_command.proofs.Right.{status_of, other-status, whole-lines, refu
 use Rattle.rpki_command.proofs.Right.{fault-is-none, issuer-is-none, said-yes, said-no, one, two}
 use Rattle.rpki_command.proofs.Right.{three}
 use Rattle.rpki_command.specs.Verify.Check.{VerifiedRtaOf}
-use Rattle.rpki_command.specs.Verify.Command.{check_task, verify_program}
+use Rattle.rpki_command.specs.Verify.Command.{check_task, verify_program, PartySays}
 use Rattle.rpki_command.specs.Verify.Yes.{verify_rta}
 
 anchor-is-none : (fault : AnchorError) → status_of (anchor_refusal fault) ≡ 0 → ⊥
@@ -211,10 +211,11 @@ module _ (told : Told) (words : List (List ℕ)) (old new : Names) (run : Run) (
 
 -- ---- by signatures
 
-module _ (told : Told) (clock : Option Moment) (words : List (List ℕ)) (old new : Names) (run : Run)
+module _ (told : Told) (clock : Option Moment) (party : PartySays) (words : List (List ℕ))
+    (old new : Names) (run : Run)
     (options : Options) (moment : When) (now : Moment) (file : List ℕ) (named : List (List ℕ))
     (object : List ℕ) (octets : List (List ℕ))
-    (is : IsRunOf (verify_program clock) told words old new run)
+    (is : IsRunOf (verify_program clock party) told words old new run)
     (asked : IsAsked verify_language words (verify_rta options moment file named))
     (moment-is : moment_at clock moment ≡ Some now)
     (tells : AreTold told (file ∷ files_of_anchors named) (object ∷ octets)) where

@@ -26,7 +26,8 @@ use Rattle.rpki_sigobj.specs.Signed.Good.{IsGood, IsNotGood}
 use Rattle.rpki_sigobj.specs.Signed.Kind as signed
 use Rattle.rpki_sigobj.specs.Signed.{Whole, ObjectForm, cert_in}
 use Rattle.rpki_verdicts.specs.Listed.{is_listed}
-use Rattle.rpki_cli.specs.Answer.{Run, Output, Printed, Complained, IsSaid, IsWhole, out_of_memory}
+use Rattle.rpki_cli.specs.Answer.{Run, Output, Printed, Complained, Reported, IsSaid, IsWhole}
+use Rattle.rpki_cli.specs.Answer.{out_of_memory}
 use Rattle.rpki_cli.specs.Answer.{bad_verdicts, malformed, malformed_by, shown}
 use Rattle.rpki_cli.specs.Command.{AreTold, ChecksFiles, IsRunOf, objects_language}
 use Rattle.rpki_cli.specs.Shown.{IsLinesOf}
@@ -50,6 +51,7 @@ use Rattle.rpki_command.specs.Yes.{BeginsWithNoGood, IsRightNo, HoldsByList}
 abbrev pub status_of : Output → ℕ
 status_of (Printed text status) = status
 status_of (Complained text status) = status
+status_of (Reported out err status) = status
 
 pub one : ◌≡◌ {A = ℕ} 1 0 → ⊥
 one e = omega (arith, e)
@@ -71,6 +73,12 @@ status-said (Complained text status) run n h e failed = elim h.err [
   | inl w ↦ sym w.status_is ∙ e
   | inr c ↦ absurd (failed (sym e ∙ c.status_is))
 ]
+status-said (Reported out err status) run n (inl both) e failed = elim both.err [
+  | inl w ↦ sym w.status_is ∙ e
+  | inr c ↦ absurd (failed (sym e ∙ c.status_is))
+]
+status-said (Reported out err status) run n (inr cut) e failed =
+    absurd (failed (sym e ∙ cut.out.status_is))
 
 -- what has this status is not said with another one
 pub other-status : (s is : Output) (n : ℕ) → status_of s ≡ n → s ≡ is → (status_of is ≡ n → ⊥) → ⊥

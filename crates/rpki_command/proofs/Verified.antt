@@ -1,5 +1,6 @@
 pub mod Alike
 pub mod Listed
+pub mod Payloads
 pub mod Right
 pub mod RtaListed
 pub mod RtaSufficing

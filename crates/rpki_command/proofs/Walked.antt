@@ -37,7 +37,7 @@ use Rattle.rpki_command.specs.Yes.{IsRightNo, HoldsByList}
 use Rattle.rpki_command.proofs.Right.{status_of, other-status, issuer-is-none, yes-as, no-as}
 use Rattle.rpki_command.proofs.Right.{no-made, said-yes, said-no, two, three}
 use Rattle.rpki_command.specs.Verify.Check.{VerifiedWalkOf}
-use Rattle.rpki_command.specs.Verify.Command.{check_task, verify_program}
+use Rattle.rpki_command.specs.Verify.Command.{check_task, verify_program, PartySays}
 use Rattle.rpki_command.specs.Verify.Yes.{verify_walk}
 
 module _ (s : Output) (causes : Causes) (options : Options) (verdict : Verdict) (now : Moment)
@@ -190,10 +190,11 @@ module _ (told : Told) (words : List (List ℕ)) (old new : Names) (run : Run) (
 
 -- ---- by signatures
 
-module _ (told : Told) (clock : Option Moment) (words : List (List ℕ)) (old new : Names) (run : Run)
+module _ (told : Told) (clock : Option Moment) (party : PartySays) (words : List (List ℕ))
+    (old new : Names) (run : Run)
     (options : Options) (moment : When) (now : Moment) (object anchor : List ℕ)
     (tail : List (List ℕ)) (files : FilesOfCheck) (octets : List (List ℕ))
-    (is : IsRunOf (verify_program clock) told words old new run)
+    (is : IsRunOf (verify_program clock party) told words old new run)
     (asked : IsAsked verify_language words (verify_walk options moment object anchor tail))
     (moment-is : moment_at clock moment ≡ Some now)
     (tells : AreTold told (object ∷ anchor ∷ chain_in tail) (in_order files))

@@ -3,6 +3,7 @@
 
 mod check;
 pub mod laws;
+mod payloads;
 mod program;
 
 pub use program::Verify;

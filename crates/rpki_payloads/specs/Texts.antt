@@ -6,8 +6,8 @@ pub mod Lines
 pub mod Origin
 pub mod Refusals
 use Rattle.std.specs.Prelude.{ℕ, List}
-use Rattle.rpki_payloads.specs.declared.format.Format.{Format}
-use Rattle.rpki_payloads.specs.declared.format.Format.TheVariants as formats
+use Rattle.rpki_cli.specs.declared.verify.words.Format.{Format}
+use Rattle.rpki_cli.specs.declared.verify.words.Format.TheVariants as formats
 use Rattle.rpki_payloads.specs.Found.{Found}
 use Rattle.rpki_payloads.specs.Texts.Csv.{csv_text}
 use Rattle.rpki_payloads.specs.Texts.Json.{json_text}

@@ -7,18 +7,8 @@ use crate::csv::push_csv;
 use crate::found::AnchorFindings;
 use crate::json::push_json;
 use crate::lines::push_lines;
+use rpki_cli::verify::words::Format;
 use std::alloc::AllocError;
-
-/// A format of payloads.
-#[derive(Clone, Copy, Debug, PartialEq, Eq)]
-pub enum Format {
-    /// Plain lines.
-    Lines,
-    /// Comma-separated values, of origins alone.
-    Csv,
-    /// A JSON object.
-    Json,
-}
 
 /// Appends the payloads in this format. Refuses where memory runs out.
 pub fn push_payloads(

@@ -15,9 +15,10 @@ mod refusals;
 
 pub use csv::push_csv;
 pub use escaped::{CsvField, JsonString};
-pub use format::{Format, push_payloads};
+pub use format::push_payloads;
 pub use found::{AnchorFindings, NamedFinding, NamedFindings, all_findings};
 pub use json::push_json;
 pub use lines::push_lines;
 pub use picked::{Customers, NamedOrigin, NamedProviders, Origins, all_customers, all_origins};
 pub use refusals::{FaultText, push_refusals};
+pub use rpki_cli::verify::words::Format;

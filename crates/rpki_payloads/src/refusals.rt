@@ -23,7 +23,7 @@ impl fmt::Display for FaultText {
         f.write_str(match self.0 {
             Fault::NoManifest => "no good manifest",
             Fault::NoFile => "a listed file is missing or differs",
-            Fault::NoList => "no good revocation list",
+            Fault::NoList => "no good revocation list, or it revokes the manifest",
             Fault::NoRoa => "no good ROA",
             Fault::NoAspa => "no good ASPA",
             Fault::NoCa => "no good CA certificate",

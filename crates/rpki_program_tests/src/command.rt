@@ -11,6 +11,7 @@ mod attested;
 mod given;
 mod granted;
 mod octets;
+mod payloads;
 mod rtas;
 mod runs;
 mod verdicts;

@@ -21,7 +21,7 @@ use Rattle.rpki_tree.specs.Passes.{judged}
 use Rattle.rpki_tree.specs.Setting.{Setting}
 use Rattle.rpki_tree.specs.Snapshot.{AgreesAt, AgreesOn}
 use Rattle.rpki_tree.specs.Told.{CaTellsAll}
-use Rattle.rpki_tree.specs.Tree.{IsAnchorOf, IsChild, IsFinding, IsFirstCached, Says, key_of}
+use Rattle.rpki_tree.specs.Tree.{HasKeyAt, IsAnchorOf, IsChild, IsFinding, IsFirstWithKey, Says, key_of}
 use Rattle.rpki_tree.specs.Visited.{TellsFrom, told_copy}
 use Rattle.rpki_tree.specs.declared.anchor.AnchorFault.{AnchorFault}
 use Rattle.rpki_tree.specs.declared.anchor.AnchorFault.TheVariants as anchors
@@ -51,18 +51,33 @@ module _ (a b : List ℕ → Option (List ℕ)) (uris : List TalUri) (same : Agr
       sym (at-uri u (among u k))
       ∙ All-contains (λ (v : TalUri). b (uri_text v) ≡ None) us u all k)
 
-  first-as : (octets : List ℕ) → IsFirstCached b (https_first uris) octets
-      → IsFirstCached a (https_first uris) octets
-  first-as octets h = record {
+  missing-back : (us : List TalUri)
+      → ((u : TalUri) → Contains us u → Contains (https_first uris) u)
+      → All (λ u. a (uri_text u) ≡ None) us → All (λ u. b (uri_text u) ≡ None) us
+  missing-back us among all = all-of (λ (u : TalUri). b (uri_text u) ≡ None) us (λ u k.
+      at-uri u (among u k)
+      ∙ All-contains (λ (v : TalUri). a (uri_text v) ≡ None) us u all k)
+
+  others-as : (key : List ℕ) (us : List TalUri)
+      → ((u : TalUri) → Contains us u → Contains (https_first uris) u)
+      → All (λ u. ¬ HasKeyAt b key u) us → All (λ u. ¬ HasKeyAt a key u) us
+  others-as key us among all = all-of (λ (u : TalUri). ¬ HasKeyAt a key u) us (λ u k h.
+      All-contains (λ (v : TalUri). ¬ HasKeyAt b key v) us u all k
+      (h.0, at-uri u (among u k) ∙ h.1, h.2))
+
+  first-as : (key octets : List ℕ) → IsFirstWithKey b key (https_first uris) octets
+      → IsFirstWithKey a key (https_first uris) octets
+  first-as key octets h = record {
     before = h.before;
     uri = h.uri;
     after = h.after;
     order = h.order;
-    missing = missing-as h.before (λ u k. subst (λ (l : List TalUri). Contains l u) (sym h.order)
-        (Contains-append_left h.before (h.uri ∷ h.after) u k)) h.missing;
+    others = others-as key h.before (λ u k. subst (λ (l : List TalUri). Contains l u) (sym h.order)
+        (Contains-append_left h.before (h.uri ∷ h.after) u k)) h.others;
     cached = sym (at-uri h.uri (subst (λ (l : List TalUri). Contains l h.uri) (sym h.order)
         (Contains-append_right h.before (h.uri ∷ h.after) h.uri (contains-first h.uri h.after))))
         ∙ h.cached;
+    holds = h.holds;
   }
 
 module _ {S C : Type 0} (digest : C → Digester) (verdict : C → Verdict) (pass : Pass S C)
@@ -108,7 +123,7 @@ module _ {S C : Type 0} (digest : C → Digester) (verdict : C → Verdict) (pas
         → IsAnchorFrom (Some cached) over tal v → IsAnchorOf (over cached) tal v
     anchor-as cached v h = (
       h.anchor.0,
-      first-as cached h.read tal.uris h.agrees (h.anchor.0) (h.anchor.1),
+      first-as cached h.read tal.uris h.agrees tal.key (h.anchor.0) (h.anchor.1),
       h.anchor.2,
     )
 
@@ -118,13 +133,14 @@ module _ {S C : Type 0} (digest : C → Digester) (verdict : C → Verdict) (pas
         missing-as cached h.read tal.uris h.agrees (https_first tal.uris) (λ u k. k) h.lacks
     lacks-as cached (anchors.Refused error) h = (
       h.lacks.0,
-      first-as cached h.read tal.uris h.agrees (h.lacks.0) (h.lacks.1),
+      first-as cached h.read tal.uris h.agrees tal.key (h.lacks.0) (h.lacks.1),
       h.lacks.2,
     )
     lacks-as cached anchors.OtherKey h = (
-      h.lacks.0,
-      first-as cached h.read tal.uris h.agrees (h.lacks.0) (h.lacks.1),
-      h.lacks.2,
+      λ m. h.lacks.0 (missing-back cached h.read tal.uris h.agrees (https_first tal.uris)
+          (λ u k. k) m),
+      others-as cached h.read tal.uris h.agrees tal.key (https_first tal.uris) (λ u k. k)
+          (h.lacks.1),
     )
     lacks-as cached anchors.Memory h = tt
 

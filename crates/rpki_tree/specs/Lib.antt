@@ -13,3 +13,4 @@ pub mod Anchors
 pub mod Pass
 pub mod Snapshot
 pub mod Visited
+pub mod Texts

@@ -23,23 +23,32 @@ use Rattle.rpki_walk.specs.Walk as walk
 
 -- ---- trust anchors
 
--- The octets are those of the first of these URIs that is cached.
-pub record IsFirstCached (cached_for : List ℕ → Option (List ℕ)) (uris : List TalUri)
-    (octets : List ℕ) : Type 0 where
+-- What is cached for the URI begins with a certificate that has this key.
+abbrev pub HasKeyAt : (List ℕ → Option (List ℕ)) → List ℕ → TalUri → Type 0
+HasKeyAt cached key uri =
+    (octets : List ℕ) × (cached (uri_text uri) ≡ Some octets)
+    × BeginsWithCert octets (λ c. c.tbs.key ≡ key)
+
+-- The octets are those that are cached for the first of these URIs under which a certificate with
+-- this key is.
+pub record IsFirstWithKey (cached_for : List ℕ → Option (List ℕ)) (key : List ℕ)
+    (uris : List TalUri) (octets : List ℕ) : Type 0 where
   pub before : List TalUri
   pub uri : TalUri
   pub after : List TalUri
   pub order : uris ≡ before ++ uri ∷ after
-  pub missing : All (λ u. cached_for (uri_text u) ≡ None) before
+  pub others : All (λ u. ¬ HasKeyAt cached_for key u) before
   pub cached : cached_for (uri_text uri) ≡ Some octets
+  pub holds : BeginsWithCert octets (λ c. c.tbs.key ≡ key)
 
--- The certificate is that of the trust anchor of the locator: the first of the URIs that is cached,
--- HTTPS first, has it, it is good, and it has the locator's key (RFC 8630, section 3).
+-- The certificate is that of the trust anchor of the locator: it is under the first of the URIs,
+-- HTTPS first, under which a certificate with the locator's key is, and it is good (RFC 8630,
+-- section 3).
 abbrev pub IsAnchorOf : Setting → Locator → Validated → Type 0
 IsAnchorOf s tal v =
-    (octets : List ℕ) × IsFirstCached s.cached (https_first tal.uris) octets
+    (octets : List ℕ) × IsFirstWithKey s.cached tal.key (https_first tal.uris) octets
     × BeginsWithCert octets (λ c. AllHold (ta_validation s.verdict c s.now)
-    × (c.tbs.key ≡ tal.key) × HasClaimed (in_der c) v)
+    × HasClaimed (in_der c) v)
 
 -- ---- one CA
 

@@ -1,12 +1,14 @@
 //! Trust anchors.
 
-ghost use Rattle.std.specs.Prelude.{◌≡◌, ◌↔◌, IfErr, IfOk, IsTrue, MatchResult};
-ghost use Rattle.rpki_certs.specs.Issuer.{IsAnchored};
+ghost use Rattle.std.specs.Prelude.{◌≡◌, ◌↔◌, IfErr, IfOk, IsTrue, MatchOption, MatchResult, Some};
+ghost use Rattle.rpki_certs.specs.Issuer.{BeginsWithCert, IsAnchored};
 ghost use Rattle.rpki_certs.specs.Validate.{Validated};
 ghost use Rattle.rpki_tal.specs.Uri.{https_first, uri_text};
-ghost use Rattle.rpki_tree.specs.Anchors.{FindsFirst, LacksAnchor, IsAnchorMemory};
+ghost use Rattle.rpki_tree.specs.Anchors.{AreMissing, FindsFirst, IsAnchorMemory, LacksAnchor};
+ghost use Rattle.rpki_tree.specs.Anchors.{LacksKey};
 ghost use Rattle.rpki_tree.specs.Passes.{setting};
-ghost use Rattle.rpki_tree.specs.Tree.{IsAnchorOf};
+ghost use Rattle.rpki_tree.specs.Texts.{anchor_fault_text};
+ghost use Rattle.rpki_tree.specs.Tree.{HasKeyAt, IsAnchorOf, IsFirstWithKey};
 
 use crate::copy::LocalCopy;
 use crate::memory::is_issuer_memory;
@@ -14,21 +16,39 @@ use crate::pass::Pass;
 use bytes::Bytes;
 use rpki_basics::{Crypto, Time};
 use rpki_certs::{Cert, IssuerError, ResourceCert};
+use rpki_der::DecodeError;
 use rpki_tal::{Tal, TalUri};
 use std::alloc::{AllocError, Global};
+use std::error::Error;
+use std::fmt;
 
 /// Why a locator has no trust anchor in a copy.
 #[derive(Debug, Drop)]
 pub enum AnchorFault {
     /// The copy has none of its URIs.
     Missing,
-    /// What the copy has for the first that it has is no good certificate of a trust anchor.
+    /// The first certificate with the locator's key is no good one of a trust anchor.
     Refused(IssuerError),
-    /// The certificate has another key than the locator.
+    /// The copy has something for its URIs, but no certificate with its key.
     OtherKey,
     /// No memory was to be had.
     Memory,
 }
+
+impl fmt::Display for AnchorFault {
+    ghost output = { λ fault. Some (anchor_fault_text fault) };
+
+    fn fmt<W: fmt::Write>(&self, f: &mut fmt::Formatter<W>) -> fmt::Result {
+        match self {
+            AnchorFault::Missing => f.write_str("not in the copy"),
+            AnchorFault::Refused(error) => write!(f, "its certificate is refused: {error}"),
+            AnchorFault::OtherKey => f.write_str("no certificate with its key"),
+            AnchorFault::Memory => f.write_str("out of memory"),
+        }
+    }
+}
+
+impl Error for AnchorFault {}
 
 /// Whether a fault says no more than that memory ran out.
 pub(crate) fn is_anchor_memory(fault: &AnchorFault) -> bool
@@ -53,16 +73,72 @@ fn octets_for<S: LocalCopy>(
     copy.read(alloc, uri.as_str().as_bytes())
 }
 
-// The octets of the first URI of a locator that the copy has.
-fn first_cached<S: LocalCopy>(
+// Whether a certificate has the key of a locator.
+fn has_key(cert: &Cert, tal: &Tal) -> bool
+    ensures { IsTrue result ↔ (cert.now.certificate.tbs.key ≡ tal.now.key) }
+{
+    cert.subject_public_key_info().bits() == tal.key_info().bits()
+}
+
+// Whether octets begin with a certificate, in DER, that has the key of a locator.
+fn begins_with_key(alloc: Global, octets: &Bytes, tal: &Tal) -> Result<bool, AllocError>
+    ensures { IfOk result (λ is. IsTrue is
+        ↔ BeginsWithCert octets.now (λ c. c.tbs.key ≡ tal.now.key)) }
+{
+    match Cert::decode(alloc, octets.clone()?) {
+        Err(DecodeError::Memory) => Err(AllocError),
+        Err(DecodeError::Malformed) => Ok(false),
+        Err(DecodeError::Content(fault)) => {
+            drop(fault);
+            Ok(false)
+        }
+        Ok(cert) => {
+            let has_key = has_key(&cert, tal);
+            drop(cert);
+            Ok(has_key)
+        }
+    }
+}
+
+// The octets that the copy has for a URI, where they begin with a certificate that has the key of a
+// locator.
+fn octets_with_key<S: LocalCopy>(
+    alloc: Global,
+    copy: &S,
+    tal: &Tal,
+    uri: &TalUri,
+) -> Result<Option<Bytes>, AllocError>
+    ensures { IfOk result (λ found. MatchOption found
+        (¬ HasKeyAt (S.cached copy.now) tal.now.key uri.now)
+        (λ octets. (S.cached copy.now (uri_text uri.now) ≡ Some octets)
+        × BeginsWithCert octets (λ c. c.tbs.key ≡ tal.now.key))) }
+{
+    let Some(octets) = octets_for(alloc, copy, uri)? else {
+        return Ok(None);
+    };
+    match begins_with_key(alloc, &octets, tal) {
+        Ok(true) => Ok(Some(octets)),
+        Ok(false) => {
+            drop(octets);
+            Ok(None)
+        }
+        Err(error) => {
+            drop(octets);
+            Err(error)
+        }
+    }
+}
+
+// The octets of the first URI of a locator under which the copy has a certificate with its key.
+fn first_with_key<S: LocalCopy>(
     alloc: Global,
     copy: &S,
     tal: &Tal,
 ) -> Result<Option<Bytes>, AllocError>
-    ensures { IfOk result (FindsFirst (S.cached copy.now) tal.now.uris) }
+    ensures { IfOk result (FindsFirst (S.cached copy.now) tal.now.key tal.now.uris) }
 {
     for uri in tal.uris() {
-        match octets_for(alloc, copy, uri) {
+        match octets_with_key(alloc, copy, tal, uri) {
             Err(error) => return Err(error),
             Ok(Some(octets)) => return Ok(Some(octets)),
             Ok(None) => {}
@@ -71,22 +147,58 @@ fn first_cached<S: LocalCopy>(
     Ok(None)
 }
 
-// The octets of the first URI of a locator, HTTPS first, that the copy has.
-fn anchor_octets<S: LocalCopy>(
-    alloc: Global,
-    copy: &S,
-    tal: &Tal,
-) -> Result<Option<Bytes>, AllocError>
-    ensures { IfOk result (FindsFirst (S.cached copy.now) (https_first tal.now.uris)) }
+// Whether the copy has nothing for the URIs of a locator.
+fn is_missing<S: LocalCopy>(alloc: Global, copy: &S, tal: &Tal) -> Result<bool, AllocError>
+    ensures { IfOk result (λ is. IsTrue is ↔ AreMissing (S.cached copy.now) tal.now.uris) }
 {
-    let mut ordered = tal.clone()?;
+    for uri in tal.uris() {
+        match octets_for(alloc, copy, uri) {
+            Err(error) => return Err(error),
+            Ok(Some(octets)) => {
+                drop(octets);
+                return Ok(false);
+            }
+            Ok(None) => {}
+        }
+    }
+    Ok(true)
+}
+
+// The octets of the first URI of a locator under which the copy has a certificate with its key, or
+// why there are none.
+fn octets_in_order<S: LocalCopy>(alloc: Global, copy: &S, tal: &Tal) -> Result<Bytes, AnchorFault>
+    ensures { MatchResult result
+        (IsFirstWithKey (S.cached copy.now) tal.now.key tal.now.uris)
+        (LacksKey (S.cached copy.now) tal.now.key tal.now.uris) }
+{
+    match first_with_key(alloc, copy, tal) {
+        Err(_) => Err(AnchorFault::Memory),
+        Ok(Some(octets)) => Ok(octets),
+        Ok(None) => match is_missing(alloc, copy, tal) {
+            Err(_) => Err(AnchorFault::Memory),
+            Ok(true) => Err(AnchorFault::Missing),
+            Ok(false) => Err(AnchorFault::OtherKey),
+        },
+    }
+}
+
+// The octets of the first URI of a locator, HTTPS first, under which the copy has a certificate with
+// its key, or why there are none.
+fn anchor_octets<S: LocalCopy>(alloc: Global, copy: &S, tal: &Tal) -> Result<Bytes, AnchorFault>
+    ensures { MatchResult result
+        (IsFirstWithKey (S.cached copy.now) tal.now.key (https_first tal.now.uris))
+        (LacksKey (S.cached copy.now) tal.now.key (https_first tal.now.uris)) }
+{
+    let Ok(mut ordered) = tal.clone() else {
+        return Err(AnchorFault::Memory);
+    };
     match ordered.prefer_https() {
-        Err(error) => {
+        Err(_) => {
             drop(ordered);
-            Err(error)
+            Err(AnchorFault::Memory)
         }
         Ok(()) => {
-            let found = first_cached(alloc, copy, &ordered);
+            let found = octets_in_order(alloc, copy, &ordered);
             drop(ordered);
             found
         }
@@ -112,28 +224,6 @@ fn anchor_in<C: Crypto>(
     }
 }
 
-// Whether a certificate has the key of a locator.
-fn has_key(anchor: &ResourceCert, tal: &Tal) -> bool
-    ensures { IsTrue result ↔ (anchor.now.cert.certificate.tbs.key ≡ tal.now.key) }
-{
-    anchor.cert().subject_public_key_info().bits() == tal.key_info().bits()
-}
-
-// The certificate, where it has the key of a locator.
-fn of_locator(anchor: ResourceCert, tal: &Tal) -> Result<ResourceCert, AnchorFault>
-    ensures { MatchResult result
-        (λ kept. (kept ≡ anchor) × (anchor.cert.certificate.tbs.key ≡ tal.now.key))
-        (λ fault. (fault ≡ AnchorFault.OtherKey)
-        × (¬ (anchor.cert.certificate.tbs.key ≡ tal.now.key))) }
-{
-    if has_key(&anchor, tal) {
-        Ok(anchor)
-    } else {
-        drop(anchor);
-        Err(AnchorFault::OtherKey)
-    }
-}
-
 // The trust anchor of a locator, or why the copy has none.
 fn find_anchor<S: LocalCopy, C: Crypto>(
     alloc: Global,
@@ -145,18 +235,17 @@ fn find_anchor<S: LocalCopy, C: Crypto>(
         (λ fault. LacksAnchor (setting S.cached C.digest_of C.is_signed pass.now) tal.now fault) }
 {
     match anchor_octets(alloc, pass.copy, tal) {
-        Err(_) => Err(AnchorFault::Memory),
-        Ok(None) => Err(AnchorFault::Missing),
-        Ok(Some(octets)) => match anchor_in(alloc, octets, pass.crypto, pass.moment) {
+        Err(fault) => Err(fault),
+        Ok(octets) => match anchor_in(alloc, octets, pass.crypto, pass.moment) {
             Err(error) => Err(AnchorFault::Refused(error)),
-            Ok(anchor) => of_locator(anchor, tal),
+            Ok(anchor) => Ok(anchor),
         },
     }
 }
 
-/// The trust anchor of a locator: of its URIs, HTTPS first, the first that the copy has is that of
-/// a good certificate with the locator's key (RFC 8630, section 3). Where the copy has one, a fault
-/// says that memory ran out.
+/// The trust anchor of a locator: of its URIs, HTTPS first, the first under which the copy has a
+/// certificate with the locator's key decides, and this certificate is good (RFC 8630, section 3).
+/// Where the copy has a trust anchor, a fault says that memory ran out.
 pub fn anchor_of<S: LocalCopy, C: Crypto>(
     alloc: Global,
     pass: &Pass<'_, S, C>,

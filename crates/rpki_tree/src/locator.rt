@@ -1,10 +1,11 @@
 //! A pass under a trust anchor's locator.
 
-ghost use Rattle.std.specs.Prelude.{◌≡◌, ◌↔◌, Contains, IfErr, IfOk, IfSome, Err};
+ghost use Rattle.std.specs.Prelude.{◌≡◌, ◌↔◌, Contains, IfErr, IfOk, IfSome, Err, Some};
 ghost use Rattle.rpki_tree.specs.Anchors.{IsAnchorMemory};
 ghost use Rattle.rpki_tree.specs.Passes.{judged};
 ghost use Rattle.rpki_tree.specs.Pass.{IsAnchorFault, IsPassFrom, IsPassOf, WhyNoPass};
 ghost use Rattle.rpki_tree.specs.Pass.{WhyNoPassFrom};
+ghost use Rattle.rpki_tree.specs.Texts.{pass_fault_text};
 ghost use Rattle.rpki_tree.specs.Tree.{IsFinding};
 
 use crate::anchor::{AnchorFault, is_anchor_memory};
@@ -16,6 +17,8 @@ use rpki_basics::Crypto;
 use rpki_tal::Tal;
 use rpki_walk::{WalkError, walk};
 use std::alloc::Global;
+use std::error::Error;
+use std::fmt;
 
 /// Why a pass under a locator has no answer.
 #[derive(Debug, Drop)]
@@ -27,6 +30,20 @@ pub enum PassFault {
     /// No memory was to be had.
     Memory,
 }
+
+impl fmt::Display for PassFault {
+    ghost output = { λ fault. Some (pass_fault_text fault) };
+
+    fn fmt<W: fmt::Write>(&self, f: &mut fmt::Formatter<W>) -> fmt::Result {
+        match self {
+            PassFault::Anchor(fault) => fault.fmt(f),
+            PassFault::Limit => f.write_str("more CAs than may be visited"),
+            PassFault::Memory => f.write_str("out of memory"),
+        }
+    }
+}
+
+impl Error for PassFault {}
 
 // What a fault of the trust anchor is of the pass: want of memory is that of the pass.
 fn of_anchor(fault: AnchorFault) -> PassFault

@@ -1,4 +1,5 @@
-//! Tests of `rpki_tree`, over copies in memory.
+//! Tests of `rpki_tree` and `rpki_folder`, over copies and folders in memory.
 
 mod copy;
+mod folders;
 mod locators;

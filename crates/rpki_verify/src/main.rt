@@ -1,16 +1,23 @@
-//! Checks signed objects of the RPKI by their signatures.
+//! Checks signed objects of the RPKI by their signatures, and lists the payloads of a copy of its
+//! repositories.
 #![tactic(auto)]
 
 use rpki_cli::verify::now;
 use rpki_cli::{ProcessArguments, SystemFiles, start};
 use rpki_command::verify::Verify;
 use rpki_der::Counted;
+use rpki_folder::{FolderParty, SystemFolders};
 use std::process::ExitCode;
 
 fn main(rt: HostRuntime) -> ExitCode {
+    let folders = SystemFolders::new(&rt);
+    let program = Verify {
+        clock: now(&rt),
+        relying_party: FolderParty::new(&folders),
+    };
     start(
         rt.alloc(),
-        &Verify { clock: now(&rt) },
+        &program,
         &ProcessArguments::new(&rt),
         &mut SystemFiles::new(&rt),
         &mut Counted::new(rt.stdout()),

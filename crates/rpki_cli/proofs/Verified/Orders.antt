@@ -19,13 +19,15 @@ use Rattle.rpki_cli.specs.Verify.Words.{when_word, IsWhen, is_shared, verify_wor
 use Rattle.rpki_cli.specs.Verify.Words.{verify_language, IsPlain, AskForNoCheck, AskForNoList}
 use Rattle.rpki_cli.specs.Verify.Words.{AskForNothingShared, AskForNoWalk, AskForNoRta}
 use Rattle.rpki_cli.specs.Verify.Words.{AskForNothingElse, has_tail, AskForNoRtaList, IsSharedBy}
-use Rattle.rpki_cli.specs.Verify.Words.{IsOptioned, word_rta}
+use Rattle.rpki_cli.specs.Verify.Words.{IsOptioned, word_rta, AskForNoPayloads}
+use Rattle.rpki_cli.specs.declared.verify.words.Format.{Format}
 use Rattle.rpki_cli.specs.declared.verify.words.VerifyCommand.{VerifyCommand}
 use Rattle.rpki_cli.specs.declared.verify.words.VerifyCommand.TheVariants.{Help, Shared, Check}
 use Rattle.rpki_cli.specs.declared.verify.words.VerifyCommand.TheVariants.{Verdicts, Walk, Rta}
-use Rattle.rpki_cli.specs.declared.verify.words.VerifyCommand.TheVariants.{RtaVerdicts}
+use Rattle.rpki_cli.specs.declared.verify.words.VerifyCommand.TheVariants.{RtaVerdicts, Payloads}
 use Rattle.rpki_cli.specs.declared.verify.words.When.{When}
 use Rattle.rpki_cli.specs.declared.verify.words.When.TheVariants.{Now, At}
+use Rattle.rpki_cli.proofs.Verified.Formats.{copy-plain, formats-once}
 use Rattle.rpki_cli.proofs.Verified.Optioned.{options-once}
 
 none-is-some : (o : Option Moment) (m : Moment) → o ≡ None → o ≡ Some m → ⊥
@@ -98,6 +100,28 @@ list-not-rta rest tail e = search rules
 walk-not-rta : (rest tail : List (List ℕ)) → codes "rta" ∷ rest ≡ codes "walk" ∷ tail → ⊥
 walk-not-rta rest tail e = search rules
 
+help-not-payloads : (rest : List (List ℕ)) → codes "payloads" ∷ rest ≡ codes "--help" ∷ [] → ⊥
+help-not-payloads rest e = search rules
+
+check-not-payloads : (rest tail : List (List ℕ)) → codes "payloads" ∷ rest ≡ codes "check" ∷ tail
+    → ⊥
+check-not-payloads rest tail e = search rules
+
+list-not-payloads : (rest tail : List (List ℕ))
+    → codes "payloads" ∷ rest ≡ codes "verdicts" ∷ tail → ⊥
+list-not-payloads rest tail e = search rules
+
+walk-not-payloads : (rest tail : List (List ℕ)) → codes "payloads" ∷ rest ≡ codes "walk" ∷ tail
+    → ⊥
+walk-not-payloads rest tail e = search rules
+
+rta-not-payloads : (rest tail : List (List ℕ)) → codes "payloads" ∷ rest ≡ codes "rta" ∷ tail → ⊥
+rta-not-payloads rest tail e = search rules
+
+not-payloads : (c : Command) (rest : List (List ℕ)) → command_words c ≡ codes "payloads" ∷ rest
+    → ⊥
+not-payloads c rest e = search rules
+
 not-list : (c : Command) (rest : List (List ℕ)) → command_words c ≡ codes "verdicts" ∷ rest → ⊥
 not-list c rest e = search rules
 
@@ -134,6 +158,10 @@ rta-lists-same : (f g : List ℕ) (a b : List (List ℕ)) → f ≡ g → a ≡ 
     → RtaVerdicts f a ≡ RtaVerdicts g b
 rta-lists-same f g a b p q = cc
 
+payloads-same : (f g : Format) (c d : List ℕ) (v w : When) (a b : List (List ℕ)) → f ≡ g → c ≡ d
+    → v ≡ w → a ≡ b → Payloads f c v a ≡ Payloads g d w b
+payloads-same f g c d v w a b p q r s = cc
+
 pub commands-once : (a b : VerifyCommand) → IsFit a → IsFit b → verify_words a ≡ verify_words b → a
     ≡ b
 commands-once Help Help i j e = refl
@@ -143,6 +171,7 @@ commands-once Help (Verdicts f a c) i j e = absurd (help-not-list _ (sym e))
 commands-once Help (Walk f m a t) i j e = absurd (help-not-walk _ (sym e))
 commands-once Help (Rta f m a) i j e = absurd (help-not-rta _ (sym e))
 commands-once Help (RtaVerdicts f a) i j e = absurd (help-not-list _ (sym e))
+commands-once Help (Payloads f c m l) i j e = absurd (help-not-payloads _ (sym e))
 commands-once (Shared c) Help i j e = absurd (not-help c _ e)
 commands-once (Shared c) (Shared d) i j e =
     ap (λ (x : Command). Shared x)
@@ -152,6 +181,7 @@ commands-once (Shared c) (Verdicts f a d) i j e = absurd (not-list c _ e)
 commands-once (Shared c) (Walk f m a t) i j e = absurd (not-walk c _ i e)
 commands-once (Shared c) (Rta f m a) i j e = absurd (not-rta c _ i e)
 commands-once (Shared c) (RtaVerdicts f a) i j e = absurd (not-list c _ e)
+commands-once (Shared c) (Payloads f d m l) i j e = absurd (not-payloads c _ e)
 commands-once (Check k f m a c) Help i j e = absurd (help-first _ e)
 commands-once (Check k f m a c) (Shared d) i j e = absurd (not-check d _ j (sym e))
 commands-once (Check k f m a c) (Check l g n b d) i j e =
@@ -165,6 +195,7 @@ commands-once (Check k f m a c) (Verdicts g b d) i j e = absurd (check-not-list 
 commands-once (Check k f m a c) (Walk g n b t) i j e = absurd (check-not-walk _ _ (sym e))
 commands-once (Check k f m a c) (Rta g n b) i j e = absurd (check-not-rta _ _ (sym e))
 commands-once (Check k f m a c) (RtaVerdicts g b) i j e = absurd (check-not-list _ _ (sym e))
+commands-once (Check k f m a c) (Payloads g d n l) i j e = absurd (check-not-payloads _ _ (sym e))
 commands-once (Verdicts f a c) Help i j e = absurd (help-not-list _ e)
 commands-once (Verdicts f a c) (Shared d) i j e = absurd (not-list d _ (sym e))
 commands-once (Verdicts f a c) (Check k g m b d) i j e = absurd (check-not-list _ _ e)
@@ -178,6 +209,7 @@ commands-once (Verdicts f a c) (Rta g m b) i j e = absurd (list-not-rta _ _ (sym
 commands-once (Verdicts f a c) (RtaVerdicts g b) i j e =
     let p : f ≡ word_rta = cc in
     absurd (i p)
+commands-once (Verdicts f a c) (Payloads g d m l) i j e = absurd (list-not-payloads _ _ (sym e))
 commands-once (Walk f m a t) Help i j e = absurd (help-not-walk _ e)
 commands-once (Walk f m a t) (Shared d) i j e = absurd (not-walk d _ j (sym e))
 commands-once (Walk f m a t) (Check k g n b d) i j e = absurd (check-not-walk _ _ e)
@@ -190,6 +222,7 @@ commands-once (Walk f m a t) (Walk g n b u) i j e =
     walks-same f g m n a b t u p (when-once m n i.0 j.0 q) r s
 commands-once (Walk f m a t) (Rta g n b) i j e = absurd (walk-not-rta _ _ (sym e))
 commands-once (Walk f m a t) (RtaVerdicts g b) i j e = absurd (list-not-walk _ _ e)
+commands-once (Walk f m a t) (Payloads g d n l) i j e = absurd (walk-not-payloads _ _ (sym e))
 commands-once (Rta f m a) Help i j e = absurd (help-not-rta _ e)
 commands-once (Rta f m a) (Shared d) i j e = absurd (not-rta d _ j (sym e))
 commands-once (Rta f m a) (Check k g n b d) i j e = absurd (check-not-rta _ _ e)
@@ -201,6 +234,7 @@ commands-once (Rta f m a) (Rta g n b) i j e =
     let r : a ≡ b = cc in
     rtas-same f g m n a b p (when-once m n i.0 j.0 q) r
 commands-once (Rta f m a) (RtaVerdicts g b) i j e = absurd (list-not-rta _ _ e)
+commands-once (Rta f m a) (Payloads g d n l) i j e = absurd (rta-not-payloads _ _ (sym e))
 commands-once (RtaVerdicts f a) Help i j e = absurd (help-not-list _ e)
 commands-once (RtaVerdicts f a) (Shared d) i j e = absurd (not-list d _ (sym e))
 commands-once (RtaVerdicts f a) (Check k g m b d) i j e = absurd (check-not-list _ _ e)
@@ -213,6 +247,22 @@ commands-once (RtaVerdicts f a) (RtaVerdicts g b) i j e =
     let p : f ≡ g = cc in
     let q : a ≡ b = cc in
     rta-lists-same f g a b p q
+commands-once (RtaVerdicts f a) (Payloads g d m l) i j e = absurd (list-not-payloads _ _ (sym e))
+commands-once (Payloads f c m l) Help i j e = absurd (help-not-payloads _ e)
+commands-once (Payloads f c m l) (Shared d) i j e = absurd (not-payloads d _ (sym e))
+commands-once (Payloads f c m l) (Check k g n b d) i j e = absurd (check-not-payloads _ _ e)
+commands-once (Payloads f c m l) (Verdicts g b d) i j e = absurd (list-not-payloads _ _ e)
+commands-once (Payloads f c m l) (Walk g n b t) i j e = absurd (walk-not-payloads _ _ e)
+commands-once (Payloads f c m l) (Rta g n b) i j e = absurd (rta-not-payloads _ _ e)
+commands-once (Payloads f c m l) (RtaVerdicts g b) i j e = absurd (list-not-payloads _ _ e)
+commands-once (Payloads f c m l) (Payloads g d n k) i j e =
+    let h = formats-once f g (c ∷ when_word m ∷ l) (d ∷ when_word n ∷ k) (copy-plain c _ i.0)
+    (copy-plain d _ j.0) (rest-same e) in
+    let cut = h.1 in
+    let p : c ≡ d = cc in
+    let q : when_word m ≡ when_word n = cc in
+    let r : l ≡ k = cc in
+    payloads-same f g c d m n l k h.0 p (when-once m n i.1 j.1 q) r
 
 relaxed-not : (c : Command) (rest : List (List ℕ)) → command_words c ≡ word_relaxed ∷ rest → ⊥
 relaxed-not c rest e = search rules
@@ -271,6 +321,17 @@ rta-registered words rest e = search rules
 rta-wide : (words rest : List (List ℕ)) → codes "rta" ∷ words ≡ word_wide ∷ rest → ⊥
 rta-wide words rest e = search rules
 
+payloads-relaxed : (words rest : List (List ℕ)) → codes "payloads" ∷ words ≡ word_relaxed ∷ rest
+    → ⊥
+payloads-relaxed words rest e = search rules
+
+payloads-registered : (words rest : List (List ℕ))
+    → codes "payloads" ∷ words ≡ word_registered ∷ rest → ⊥
+payloads-registered words rest e = search rules
+
+payloads-wide : (words rest : List (List ℕ)) → codes "payloads" ∷ words ≡ word_wide ∷ rest → ⊥
+payloads-wide words rest e = search rules
+
 -- the words of a command begin with no option
 pub commands-plain : (a : VerifyCommand) → IsPlain (verify_words a)
 commands-plain Help = record {
@@ -307,6 +368,11 @@ commands-plain (RtaVerdicts f a) = record {
   relaxed = list-relaxed _;
   registered = list-registered _;
   wide = list-wide _;
+}
+commands-plain (Payloads f c m l) = record {
+  relaxed = payloads-relaxed _;
+  registered = payloads-registered _;
+  wide = payloads-wide _;
 }
 
 abbrev made : Options → VerifyCommand → Order VerifyCommand
@@ -368,6 +434,7 @@ check_none words rest w n (Verdicts f a c) e i = check-not-list _ rest (sym e �
 check_none words rest w n (Walk f m a t) e i = check-not-walk _ rest (sym e ∙ w)
 check_none words rest w n (Rta f m a) e i = check-not-rta _ rest (sym e ∙ w)
 check_none words rest w n (RtaVerdicts f a) e i = check-not-list _ rest (sym e ∙ w)
+check_none words rest w n (Payloads f c m l) e i = check-not-payloads _ rest (sym e ∙ w)
 
 pub list_none : (words rest : List (List ℕ)) → words ≡ codes "verdicts" ∷ rest
     → AskForNoList rest → (a : VerifyCommand) → words ≡ verify_words a → IsFit a → ⊥
@@ -379,6 +446,7 @@ list_none words rest w n (Walk f m a t) e i = list-not-walk _ rest (sym e ∙ w)
 list_none words rest w n (Rta f m a) e i = list-not-rta _ rest (sym e ∙ w)
 list_none words rest w n (RtaVerdicts f a) e i =
     n.rta (f ∷ a) (rest-same (sym w ∙ e)) f a refl i
+list_none words rest w n (Payloads f c m l) e i = list-not-payloads _ rest (sym e ∙ w)
 
 pub walk_none : (words rest : List (List ℕ)) → words ≡ codes "walk" ∷ rest → AskForNoWalk rest
     → (a : VerifyCommand) → words ≡ verify_words a → IsFit a → ⊥
@@ -389,6 +457,7 @@ walk_none words rest w n (Verdicts f a c) e i = list-not-walk rest _ (sym w ∙ 
 walk_none words rest w n (Walk f m a t) e i = n f m a t (rest-same (sym w ∙ e)) i.0 i.1
 walk_none words rest w n (Rta f m a) e i = walk-not-rta _ rest (sym e ∙ w)
 walk_none words rest w n (RtaVerdicts f a) e i = list-not-walk rest _ (sym w ∙ e)
+walk_none words rest w n (Payloads f c m l) e i = walk-not-payloads _ rest (sym e ∙ w)
 
 pub rta_none : (words rest : List (List ℕ)) → words ≡ codes "rta" ∷ rest → AskForNoRta rest
     → (a : VerifyCommand) → words ≡ verify_words a → IsFit a → ⊥
@@ -399,6 +468,19 @@ rta_none words rest w n (Verdicts f a c) e i = list-not-rta rest _ (sym w ∙ e)
 rta_none words rest w n (Walk f m a t) e i = walk-not-rta rest _ (sym w ∙ e)
 rta_none words rest w n (Rta f m a) e i = n f m a (rest-same (sym w ∙ e)) i.0 i.1
 rta_none words rest w n (RtaVerdicts f a) e i = list-not-rta rest _ (sym w ∙ e)
+rta_none words rest w n (Payloads f c m l) e i = rta-not-payloads _ rest (sym e ∙ w)
+
+pub payloads_none : (words rest : List (List ℕ)) → words ≡ codes "payloads" ∷ rest
+    → AskForNoPayloads rest → (a : VerifyCommand) → words ≡ verify_words a → IsFit a → ⊥
+payloads_none words rest w n Help e i = help-not-payloads rest (sym w ∙ e)
+payloads_none words rest w n (Shared c) e i = not-payloads c rest (sym e ∙ w)
+payloads_none words rest w n (Check k f m a c) e i = check-not-payloads rest _ (sym w ∙ e)
+payloads_none words rest w n (Verdicts f a c) e i = list-not-payloads rest _ (sym w ∙ e)
+payloads_none words rest w n (Walk f m a t) e i = walk-not-payloads rest _ (sym w ∙ e)
+payloads_none words rest w n (Rta f m a) e i = rta-not-payloads rest _ (sym w ∙ e)
+payloads_none words rest w n (RtaVerdicts f a) e i = list-not-payloads rest _ (sym w ∙ e)
+payloads_none words rest w n (Payloads f c m l) e i =
+    n f _ (rest-same (sym w ∙ e)) c m l refl i.0 i.1 i.2
 
 pub check_of : (words rest : List (List ℕ)) (r : Option VerifyCommand) → words ≡ codes "check"
     ∷ rest
@@ -450,6 +532,7 @@ other_none words h k v n (Verdicts g a c) f e i = v _ e
 other_none words h k v n (Walk g m a t) f e i = absurd cc
 other_none words h k v n (Rta g m a) f e i = absurd cc
 other_none words h k v n (RtaVerdicts g a) f e i = v _ e
+other_none words h k v n (Payloads g c m l) f e i = absurd cc
 
 pub walk_of : (words rest : List (List ℕ)) (r : Option VerifyCommand) → words ≡ codes "walk" ∷ rest
     → MatchOption r (AskForNoWalk rest)
@@ -467,27 +550,39 @@ pub rta_of : (words rest : List (List ℕ)) (r : Option VerifyCommand) → words
 rta_of words rest None w n = rta_none words rest w n
 rta_of words rest (Some a) w h = (w ∙ h.0, h.1)
 
+pub payloads_of : (words rest : List (List ℕ)) (r : Option VerifyCommand)
+    → words ≡ codes "payloads" ∷ rest
+    → MatchOption r (AskForNoPayloads rest)
+    (λ a. (codes "payloads" ∷ rest ≡ verify_words a) × IsFit a)
+    → MatchOption r ((a : VerifyCommand) → words ≡ verify_words a → IsFit a → ⊥)
+    (λ a. (words ≡ verify_words a) × IsFit a)
+payloads_of words rest None w n = payloads_none words rest w n
+payloads_of words rest (Some a) w h = (w ∙ h.0, h.1)
+
 untailed : (words : List (List ℕ)) → ((rest : List (List ℕ)) → words ≡ codes "walk" ∷ rest → ⊥)
     → ((rest : List (List ℕ)) → words ≡ codes "rta" ∷ rest → ⊥)
+    → ((rest : List (List ℕ)) → words ≡ codes "payloads" ∷ rest → ⊥)
     → AskForNothingElse words → (a : VerifyCommand) → words ≡ verify_words a → IsFit a → ⊥
-untailed words w r n Help e i = n Help refl e i
-untailed words w r n (Shared c) e i = n (Shared c) refl e i
-untailed words w r n (Check d f m a c) e i = n (Check d f m a c) refl e i
-untailed words w r n (Verdicts f a c) e i = n (Verdicts f a c) refl e i
-untailed words w r n (Walk f m a t) e i = w _ e
-untailed words w r n (Rta f m a) e i = r _ e
-untailed words w r n (RtaVerdicts f a) e i = n (RtaVerdicts f a) refl e i
+untailed words w r p n Help e i = n Help refl e i
+untailed words w r p n (Shared c) e i = n (Shared c) refl e i
+untailed words w r p n (Check d f m a c) e i = n (Check d f m a c) refl e i
+untailed words w r p n (Verdicts f a c) e i = n (Verdicts f a c) refl e i
+untailed words w r p n (Walk f m a t) e i = w _ e
+untailed words w r p n (Rta f m a) e i = r _ e
+untailed words w r p n (RtaVerdicts f a) e i = n (RtaVerdicts f a) refl e i
+untailed words w r p n (Payloads f c m l) e i = p _ e
 
 pub other_of : (words : List (List ℕ)) (o : Option VerifyCommand)
     → ((rest : List (List ℕ)) → words ≡ codes "walk" ∷ rest → ⊥)
     → ((rest : List (List ℕ)) → words ≡ codes "rta" ∷ rest → ⊥)
+    → ((rest : List (List ℕ)) → words ≡ codes "payloads" ∷ rest → ⊥)
     → MatchOption o (AskForNothingElse words) (λ a. (words ≡ verify_words a) × IsFit a)
     → MatchOption o ((a : VerifyCommand) → words ≡ verify_words a → IsFit a → ⊥)
     (λ a. (words ≡ verify_words a) × IsFit a)
-other_of words None w r n = untailed words w r n
-other_of words (Some a) w r h = h
+other_of words None w r p n = untailed words w r p n
+other_of words (Some a) w r p h = h
 
-pub ruleset by_tail = (walk_of, rta_of, other_of)
+pub ruleset by_tail = (walk_of, rta_of, payloads_of, other_of)
 
 pub shared_is : (words : List (List ℕ)) (a : VerifyCommand) → IsSharedBy words a
     → (words ≡ verify_words a) × IsFit a
@@ -498,6 +593,7 @@ shared_is words (Verdicts f a c) s = absurd s
 shared_is words (Walk f m a t) s = absurd s
 shared_is words (Rta f m a) s = absurd s
 shared_is words (RtaVerdicts f a) s = absurd s
+shared_is words (Payloads f c m l) s = absurd s
 
 pub ruleset by_first_word = (check_of, list_of, other_none, shared_is)
 

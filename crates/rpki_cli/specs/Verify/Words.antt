@@ -1,6 +1,7 @@
 -- The command line of the program with signatures: what each command is written as.
 use Rattle.std.specs.Prelude.{◌≡◌, ℕ, List, [], ◌∷◌, ◌++◌, Bool, true, false, codes, Option, Some}
-use Rattle.std.specs.Prelude.{IsTrue, Contains}
+use Rattle.std.specs.Prelude.{IsTrue, Contains, length, ◌<◌, not, ◌&&◌}
+use Rattle.std.specs.Str.{bytes_eq}
 use Rattle.rpki_basics.specs.Moment.{Moment, IsMoment}
 use Rattle.rpki_cli.specs.Language.{Language}
 use Rattle.rpki_cli.specs.Words.{kind_word, word_if, word_relaxed, word_registered, word_wide}
@@ -10,10 +11,12 @@ use Rattle.rpki_cli.specs.declared.words.Command.{Command}
 use Rattle.rpki_cli.specs.declared.words.Command.TheVariants as commands
 use Rattle.rpki_cli.specs.declared.words.Kind.{Kind}
 use Rattle.rpki_cli.specs.declared.words.Options.{Options}
+use Rattle.rpki_cli.specs.declared.verify.words.Format.{Format}
+use Rattle.rpki_cli.specs.declared.verify.words.Format.TheVariants.{Lines, Csv, Json}
 use Rattle.rpki_cli.specs.declared.verify.words.VerifyCommand.{VerifyCommand}
 use Rattle.rpki_cli.specs.declared.verify.words.VerifyCommand.TheVariants.{Help, Shared, Check}
 use Rattle.rpki_cli.specs.declared.verify.words.VerifyCommand.TheVariants.{Verdicts, Walk, Rta}
-use Rattle.rpki_cli.specs.declared.verify.words.VerifyCommand.TheVariants.{RtaVerdicts}
+use Rattle.rpki_cli.specs.declared.verify.words.VerifyCommand.TheVariants.{RtaVerdicts, Payloads}
 use Rattle.rpki_cli.specs.declared.verify.words.When.{When}
 use Rattle.rpki_cli.specs.declared.verify.words.When.TheVariants.{Now, At}
 
@@ -45,6 +48,19 @@ is_shared other = false
 abbrev pub word_rta : List ℕ
 word_rta = codes "rta"
 
+-- the words of formats of payloads: the first has none
+abbrev pub word_csv : List ℕ
+word_csv = codes "--csv"
+
+abbrev pub word_json : List ℕ
+word_json = codes "--json"
+
+-- the words of a format
+abbrev pub format_words : Format → List (List ℕ)
+format_words Lines = []
+format_words Csv = word_csv ∷ []
+format_words Json = word_json ∷ []
+
 -- The words of a command. What shows the lines of a file has the words that it has in the other
 -- program.
 abbrev pub verify_words : VerifyCommand → List (List ℕ)
@@ -57,8 +73,10 @@ verify_words (Walk file moment anchor tail) =
     codes "walk" ∷ file ∷ when_word moment ∷ anchor ∷ tail
 verify_words (Rta file moment anchors) = codes "rta" ∷ file ∷ when_word moment ∷ anchors
 verify_words (RtaVerdicts file anchors) = codes "verdicts" ∷ word_rta ∷ file ∷ anchors
+verify_words (Payloads format copy moment locators) =
+    codes "payloads" ∷ (format_words format ++ (copy ∷ when_word moment ∷ locators))
 
--- the files that are named by a word, in the order of the words
+-- the files and folders that are named by a word, in the order of the words
 abbrev pub files_in : VerifyCommand → List (List ℕ)
 files_in Help = []
 files_in (Shared command) = files_of command
@@ -67,11 +85,17 @@ files_in (Verdicts file anchor chain) = file ∷ anchor ∷ chain
 files_in (Walk file moment anchor tail) = file ∷ anchor ∷ others_in tail
 files_in (Rta file moment anchors) = file ∷ files_of_anchors anchors
 files_in (RtaVerdicts file anchors) = file ∷ files_of_anchors anchors
+files_in (Payloads format copy moment locators) = copy ∷ locators
+
+-- whether a word may name a copy of the repositories: it is none of the words of formats
+abbrev pub is_copy : List ℕ → Bool
+is_copy word = not (bytes_eq word word_csv) && not (bytes_eq word word_json)
 
 -- A command is fit: the one of the other program, if it has one, shows a file, its moment, if it
 -- has one, is one of the calendar, the words of a walk have a `with` after the trust anchor, those
--- of an attestation end with anchors, and the file of an object whose signatures are listed has
--- another name than the word of attestations.
+-- of an attestation end with anchors, the file of an object whose signatures are listed has another
+-- name than the word of attestations, and payloads are listed of a copy that is no word of a
+-- format, under one locator or more.
 abbrev pub IsFit : VerifyCommand → Type 0
 IsFit Help = Unit {0}
 IsFit (Shared command) = IsTrue (is_shared command)
@@ -80,6 +104,8 @@ IsFit (Verdicts file anchor chain) = ¬ (file ≡ word_rta)
 IsFit (Walk file moment anchor tail) = IsWhen moment × Contains tail word_with
 IsFit (Rta file moment anchors) = IsWhen moment × IsTrue (are_anchors anchors)
 IsFit (RtaVerdicts file anchors) = IsTrue (are_anchors anchors)
+IsFit (Payloads format copy moment locators) =
+    IsTrue (is_copy copy) × IsWhen moment × (0 < length locators)
 
 -- how the orders of the program with signatures are written
 abbrev pub verify_language : Language
@@ -123,13 +149,25 @@ abbrev pub AskForNoRta : List (List ℕ) → Type 0
 AskForNoRta words = (file : List ℕ) (moment : When) (anchors : List (List ℕ))
     → words ≡ file ∷ when_word moment ∷ anchors → IsWhen moment → IsTrue (are_anchors anchors) → ⊥
 
--- whether a command is a walk, or checks an attestation
+-- words after the word `payloads` and those of a format ask for no list of payloads
+abbrev pub AskForNoPayloadsIn : List (List ℕ) → Type 0
+AskForNoPayloadsIn words = (copy : List ℕ) (moment : When) (locators : List (List ℕ))
+    → words ≡ copy ∷ when_word moment ∷ locators → IsTrue (is_copy copy) → IsWhen moment
+    → (0 < length locators) → ⊥
+
+-- words after the word `payloads` ask for no list of payloads, in any format
+abbrev pub AskForNoPayloads : List (List ℕ) → Type 0
+AskForNoPayloads words = (format : Format) (rest : List (List ℕ))
+    → words ≡ format_words format ++ rest → AskForNoPayloadsIn rest
+
+-- whether a command is a walk, checks an attestation or lists payloads
 abbrev pub has_tail : VerifyCommand → Bool
 has_tail (Walk file moment anchor tail) = true
 has_tail (Rta file moment anchors) = true
+has_tail (Payloads format copy moment locators) = true
 has_tail other = false
 
--- the words ask for nothing but, perhaps, a walk or a check of an attestation
+-- the words ask for nothing but, perhaps, a walk, a check of an attestation or a list of payloads
 abbrev pub AskForNothingElse : List (List ℕ) → Type 0
 AskForNothingElse words = (c : VerifyCommand) → has_tail c ≡ false → words ≡ verify_words c
     → IsFit c → ⊥
@@ -144,6 +182,21 @@ abbrev pub IsSharedBy : List (List ℕ) → VerifyCommand → Type 0
 IsSharedBy words (Shared command) =
     (words ≡ command_words command) × IsTrue (is_shared command)
 IsSharedBy words other = ⊥
+
+-- ---- formats
+
+-- words that begin with no word of a format
+pub record BeginsPlain (words : List (List ℕ)) : Type 0 where
+  pub csv : (rest : List (List ℕ)) → words ≡ word_csv ∷ rest → ⊥
+  pub json : (rest : List (List ℕ)) → words ≡ word_json ∷ rest → ⊥
+
+-- The words are those of a format and a rest; and where they are those of one and words that begin
+-- with no word of a format, these are they.
+pub record IsFormatted (words : List (List ℕ)) (format : Format) (rest : List (List ℕ))
+    : Type 0 where
+  pub whole : words ≡ format_words format ++ rest
+  pub only : (f : Format) (plain : List (List ℕ)) → BeginsPlain plain
+      → words ≡ format_words f ++ plain → (f ≡ format) × (plain ≡ rest)
 
 -- ---- options
 

@@ -1,12 +1,14 @@
 //! What the program with signatures is asked.
 
-ghost use Rattle.std.specs.Prelude.{◌≡◌, ◌∷◌, MatchOption, codes};
+ghost use Rattle.std.specs.Prelude.{◌≡◌, ◌∷◌, ◌++◌, MatchOption, codes};
 ghost use Rattle.rpki_cli.specs.Language.{IsAsked, AskForNothing};
 ghost use Rattle.rpki_cli.specs.Words.{texts, are_named, word_relaxed, word_registered, word_wide};
 ghost use Rattle.rpki_cli.specs.Verify.Words.{moment_at, when_word, IsWhen, verify_words, files_in};
 ghost use Rattle.rpki_cli.specs.Verify.Words.{is_shared, IsFit, verify_language, AskForNoCheck};
 ghost use Rattle.rpki_cli.specs.Verify.Words.{AskForNoList, AskForNoWalk, AskForNoRta};
 ghost use Rattle.rpki_cli.specs.Verify.Words.{AskForNoRtaList, word_rta, AskForNothingElse};
+ghost use Rattle.rpki_cli.specs.Verify.Words.{AskForNoPayloads, AskForNoPayloadsIn, IsFormatted};
+ghost use Rattle.rpki_cli.specs.Verify.Words.{format_words, is_copy};
 ghost use Rattle.rpki_cli.specs.Verify.Words.{AskForNothingShared, IsSharedBy, IsTaken, IsOptioned};
 ghost use Rattle.rpki_cli.specs.declared.verify.words.VerifyCommand.{VerifyCommand};
 ghost use Rattle.rpki_cli.specs.declared.verify.words.When.{When};
@@ -38,6 +40,17 @@ impl When {
             When::At(moment) => Some(moment),
         }
     }
+}
+
+/// A format of payloads.
+#[derive(Clone, Copy, Debug, PartialEq, Eq)]
+pub enum Format {
+    /// Plain lines.
+    Lines,
+    /// Comma-separated values, of origins alone.
+    Csv,
+    /// A JSON object.
+    Json,
 }
 
 /// What is to be done.
@@ -85,6 +98,14 @@ pub enum VerifyCommand<'a> {
         file: Word<'a>,
         anchors: Words<'a>,
     },
+    /// To list the payloads under the locators of trust anchors, as a copy of the repositories has
+    /// them.
+    Payloads {
+        format: Format,
+        copy: Word<'a>,
+        moment: When,
+        locators: Words<'a>,
+    },
 }
 
 /// What the words ask for, if they ask for anything.
@@ -129,6 +150,8 @@ fn is_each_named(command: &VerifyCommand<'_>) -> bool
         VerifyCommand::Rta { file, anchors, .. } | VerifyCommand::RtaVerdicts { file, anchors } => {
             !file.0.is_empty() && are_anchors_named(anchors.0)
         }
+        VerifyCommand::Payloads { copy, locators, .. } => !copy.0.is_empty()
+            && all_named(locators.0),
     }
 }
 
@@ -195,11 +218,12 @@ fn parse_verify<'a>(words: &'a [&'a str]) -> Option<VerifyCommand<'a>>
     match words {
         ["walk", rest @ ..] => parse_walk(rest),
         ["rta", rest @ ..] => parse_rta(rest),
+        ["payloads", rest @ ..] => parse_payloads(rest),
         _ => parse_other(words),
     }
 }
 
-/// The command of words that ask for no walk and no check of an attestation.
+/// The command of words that ask for no walk, no check of an attestation and no list of payloads.
 #[tactic(auto, using(crate::proofs::Verified::Orders::by_first_word))]
 fn parse_other<'a>(words: &'a [&'a str]) -> Option<VerifyCommand<'a>>
     ensures { MatchOption result (AskForNothingElse (texts words.now))
@@ -310,6 +334,59 @@ fn parse_rta<'a>(words: &'a [&'a str]) -> Option<VerifyCommand<'a>>
         }
         _ => None,
     }
+}
+
+/// The list of payloads that these words ask for, after the first.
+#[tactic(auto, using(crate::proofs::Verified::Formats::by_format))]
+fn parse_payloads<'a>(words: &'a [&'a str]) -> Option<VerifyCommand<'a>>
+    ensures { MatchOption result (AskForNoPayloads (texts words.now))
+        (λ c. (codes "payloads" ∷ texts words.now ≡ verify_words c) × IsFit c) }
+{
+    let (format, rest) = take_format(words);
+    parse_payloads_in(format, rest)
+}
+
+/// The format that words begin with, and the words after its own.
+#[tactic(auto, using(crate::proofs::Verified::Formats::cut_by_format))]
+fn take_format<'a>(words: &'a [&'a str]) -> (Format, &'a [&'a str])
+    ensures { IsFormatted (texts words.now) result.0 (texts result.1.now) }
+{
+    match words {
+        ["--csv", rest @ ..] => (Format::Csv, rest),
+        ["--json", rest @ ..] => (Format::Json, rest),
+        _ => (Format::Lines, words),
+    }
+}
+
+/// The list of payloads in this format that these words ask for, after those of the format.
+fn parse_payloads_in<'a>(format: Format, words: &'a [&'a str]) -> Option<VerifyCommand<'a>>
+    ensures { MatchOption result (AskForNoPayloadsIn (texts words.now))
+        (λ c. (codes "payloads" ∷ (format_words format ++ texts words.now) ≡ verify_words c)
+        × IsFit c) }
+{
+    match words {
+        [copy, moment, locators @ ..] => {
+            let moment = when_of(moment)?;
+            if is_copy(copy) && !locators.is_empty() {
+                Some(VerifyCommand::Payloads {
+                    format,
+                    copy: Word(copy),
+                    moment,
+                    locators: Words(locators),
+                })
+            } else {
+                None
+            }
+        }
+        _ => None,
+    }
+}
+
+/// Whether a word may name a copy of the repositories.
+fn is_copy(word: &str) -> bool
+    ensures { result ≡ is_copy word.now }
+{
+    word != "--csv" && word != "--json"
 }
 
 /// The command of words that ask to show what a file holds.

@@ -20,7 +20,7 @@ use Rattle.rpki_show.specs.Options.{read_mode}
 use Rattle.rpki_command.specs.Yes.{FilesOfCheck, in_order}
 use Rattle.rpki_command.proofs.Right.{status_of, other-status, whole-lines, said-yes, said-no}
 use Rattle.rpki_command.specs.Verify.Check.{IsListAnswer, IsListingSaid, ListedOf}
-use Rattle.rpki_command.specs.Verify.Command.{verify_program}
+use Rattle.rpki_command.specs.Verify.Command.{verify_program, PartySays}
 use Rattle.rpki_command.specs.Verify.Yes.{list_order, IsRightList, IsRightNoList}
 
 -- what is said of a list that is made, or of none
@@ -70,9 +70,10 @@ module _ (s : Output) (options : Options) (files : FilesOfCheck) where
   no-list-of one (inr (inr (inr t))) =
       absurd (other-status s (shown t.0) 1 one t.2 (λ (n : 0 ≡ 1). omega (arith, n)))
 
-module _ (told : Told) (clock : Option Moment) (words : List (List ℕ)) (old new : Names) (run : Run)
+module _ (told : Told) (clock : Option Moment) (party : PartySays) (words : List (List ℕ))
+    (old new : Names) (run : Run)
     (options : Options) (names files : FilesOfCheck)
-    (is : IsRunOf (verify_program clock) told words old new run)
+    (is : IsRunOf (verify_program clock party) told words old new run)
     (asked : IsAsked verify_language words (list_order options names))
     (tells : AreTold told (in_order names) (in_order files)) where
   done : ChecksFiles told (in_order names) (ListedOf options) old new run

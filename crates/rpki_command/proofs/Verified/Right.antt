@@ -14,12 +14,13 @@ use Rattle.rpki_cli.specs.declared.verify.words.When.{When}
 use Rattle.rpki_command.specs.Yes.{FilesOfCheck, in_order, IsRightYes, IsRightNo}
 use Rattle.rpki_command.proofs.Right.{yes-made, no-made, said-yes, said-no}
 use Rattle.rpki_command.specs.Verify.Check.{VerifiedOf}
-use Rattle.rpki_command.specs.Verify.Command.{check_task, verify_program}
+use Rattle.rpki_command.specs.Verify.Command.{check_task, verify_program, PartySays}
 use Rattle.rpki_command.specs.Verify.Yes.{verify_order}
 
-module _ (told : Told) (clock : Option Moment) (words : List (List ℕ)) (old new : Names) (run : Run)
+module _ (told : Told) (clock : Option Moment) (party : PartySays) (words : List (List ℕ))
+    (old new : Names) (run : Run)
     (options : Options) (kind : Kind) (moment : When) (now : Moment) (names files : FilesOfCheck)
-    (is : IsRunOf (verify_program clock) told words old new run)
+    (is : IsRunOf (verify_program clock party) told words old new run)
     (asked : IsAsked verify_language words (verify_order options kind moment names))
     (moment-is : moment_at clock moment ≡ Some now)
     (tells : AreTold told (in_order names) (in_order files)) where

@@ -19,7 +19,7 @@ use Rattle.rpki_cli.specs.Verify.Words.{verify_language}
 use Rattle.rpki_command.specs.Anchors.{given_in, chains_in}
 use Rattle.rpki_command.proofs.Right.{status_of, other-status, whole-lines, said-yes, said-no}
 use Rattle.rpki_command.specs.Verify.Check.{IsRtaListAnswer, IsListingSaid, RtaListedOf}
-use Rattle.rpki_command.specs.Verify.Command.{verify_program}
+use Rattle.rpki_command.specs.Verify.Command.{verify_program, PartySays}
 use Rattle.rpki_command.specs.Verify.Yes.{rta_list_order, IsRightRtaList, IsRightNoRtaList}
 
 -- what is said of a list that is made, or of none
@@ -67,10 +67,11 @@ module _ (s : Output) (words : List (List ℕ)) (object : List ℕ) (octets : Li
   no-list-of one (inr (inr (inr t))) =
       absurd (other-status s (shown t.0) 1 one t.2 (λ (n : 0 ≡ 1). omega (arith, n)))
 
-module _ (told : Told) (clock : Option Moment) (words : List (List ℕ)) (old new : Names) (run : Run)
+module _ (told : Told) (clock : Option Moment) (party : PartySays) (words : List (List ℕ))
+    (old new : Names) (run : Run)
     (options : Options) (file : List ℕ) (anchors : List (List ℕ)) (object : List ℕ)
     (octets : List (List ℕ))
-    (is : IsRunOf (verify_program clock) told words old new run)
+    (is : IsRunOf (verify_program clock party) told words old new run)
     (asked : IsAsked verify_language words (rta_list_order options file anchors))
     (tells : AreTold told (file ∷ files_of_anchors anchors) (object ∷ octets)) where
   done : ChecksFiles told (file ∷ files_of_anchors anchors) (RtaListedOf anchors) old new run

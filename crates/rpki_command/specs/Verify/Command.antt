@@ -1,16 +1,20 @@
 -- The program with signatures: what each of its commands comes to.
 use Rattle.std.specs.Prelude.{ℕ, List, ◌∷◌, Option, None, Some}
 use Rattle.rpki_basics.specs.Moment.{Moment}
+use Rattle.rpki_basics.specs.declared.limits.ProviderLimit.{ProviderLimit}
 use Rattle.rpki_cli.specs.Answer.{Output, help, wrong_words, no_moment}
 use Rattle.rpki_cli.specs.Command.{Task, Say, CheckFiles, Program}
 use Rattle.rpki_cli.specs.declared.causes.Causes.TheVariants.{Included}
 use Rattle.rpki_cli.specs.declared.words.Options.{Options}
+use Rattle.rpki_cli.specs.Options.{provider_limit}
 use Rattle.rpki_cli.specs.Words.{others_in, files_of_anchors}
 use Rattle.rpki_cli.specs.Verify.Words.{moment_at, verify_language}
+use Rattle.rpki_cli.specs.declared.verify.relying_party.PayloadsRequest.{PayloadsRequest}
+use Rattle.rpki_cli.specs.declared.verify.words.Format.{Format}
 use Rattle.rpki_cli.specs.declared.verify.words.VerifyCommand.{VerifyCommand}
 use Rattle.rpki_cli.specs.declared.verify.words.VerifyCommand.TheVariants.{Help, Shared, Check}
 use Rattle.rpki_cli.specs.declared.verify.words.VerifyCommand.TheVariants.{Verdicts, Walk, Rta}
-use Rattle.rpki_cli.specs.declared.verify.words.VerifyCommand.TheVariants.{RtaVerdicts}
+use Rattle.rpki_cli.specs.declared.verify.words.VerifyCommand.TheVariants.{RtaVerdicts, Payloads}
 use Rattle.rpki_command.specs.Command.{command_task}
 use Rattle.rpki_command.specs.Verify.Check.{VerifiedOf, ListedOf, VerifiedWalkOf, VerifiedRtaOf}
 use Rattle.rpki_command.specs.Verify.Check.{RtaListedOf}
@@ -21,27 +25,47 @@ abbrev pub check_task : List (List ℕ) → (Moment → List (List ℕ) → Outp
 check_task files P None = Say no_moment
 check_task files P (Some now) = CheckFiles files (P now)
 
--- What each command comes to with these options, where the clock tells this: the table of the
--- commands.
-abbrev pub verify_task : Option Moment → Options → VerifyCommand → Task
-verify_task clock options Help = Say help
-verify_task clock options (Shared command) = command_task Included options command
-verify_task clock options (Check kind file moment anchor chain) =
+-- what a relying party says to a request, of the octets of the files of its locators
+abbrev pub PartySays : Type 1
+PartySays = PayloadsRequest → List (List ℕ) → Output → Type 0
+
+-- what a relying party is asked of these locators, at a moment
+abbrev pub request_at : ProviderLimit → Format → List ℕ → List (List ℕ) → Moment
+    → PayloadsRequest
+request_at providers format copy locators now = record {
+  format = format;
+  copy = copy;
+  moment = now;
+  providers = providers;
+  locators = locators;
+}
+
+-- What each command comes to with these options, where the clock tells this and the relying party
+-- says this: the table of the commands.
+abbrev pub verify_task : Option Moment → PartySays → Options → VerifyCommand → Task
+verify_task clock says options Help = Say help
+verify_task clock says options (Shared command) = command_task Included options command
+verify_task clock says options (Check kind file moment anchor chain) =
     check_task (file ∷ anchor ∷ chain) (VerifiedOf options kind) (moment_at clock moment)
-verify_task clock options (Verdicts file anchor chain) =
+verify_task clock says options (Verdicts file anchor chain) =
     CheckFiles (file ∷ anchor ∷ chain) (ListedOf options)
-verify_task clock options (Walk file moment anchor tail) =
+verify_task clock says options (Walk file moment anchor tail) =
     check_task (file ∷ anchor ∷ others_in tail) (VerifiedWalkOf options tail)
     (moment_at clock moment)
-verify_task clock options (Rta file moment anchors) =
+verify_task clock says options (Rta file moment anchors) =
     check_task (file ∷ files_of_anchors anchors) (VerifiedRtaOf anchors) (moment_at clock moment)
-verify_task clock options (RtaVerdicts file anchors) =
+verify_task clock says options (RtaVerdicts file anchors) =
     CheckFiles (file ∷ files_of_anchors anchors) (RtaListedOf anchors)
+verify_task clock says options (Payloads format copy moment locators) =
+    check_task locators
+    (λ now. says (request_at (provider_limit options) format copy locators now))
+    (moment_at clock moment)
 
--- the program with signatures, where the clock tells this moment, or none
-abbrev pub verify_program : Option Moment → Program
-verify_program clock = record {
+-- the program with signatures, where the clock tells this moment, or none, and the relying party
+-- says this
+abbrev pub verify_program : Option Moment → PartySays → Program
+verify_program clock says = record {
   language = verify_language;
-  task = verify_task clock;
+  task = verify_task clock says;
   wrong = wrong_words;
 }

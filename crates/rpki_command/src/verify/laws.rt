@@ -46,24 +46,26 @@ ghost use Rattle.rpki_command.specs.Verify.Yes.{verify_order, list_order, verify
 ghost use Rattle.rpki_command.specs.Verify.Yes.{IsRightList, IsRightNoList, rta_list_order};
 ghost use Rattle.rpki_command.specs.Verify.Yes.{IsRightRtaList, IsRightNoRtaList};
 
+use rpki_cli::verify::RelyingParty;
+
 /// Where a store tells the files of a check, a run of it that ends with status 0 says yes, and that
 /// rightly: FILE begins with a good object under the issuer that the certificates make, at this
 /// moment, by signatures as RFC 8017, section 8.2.2, has them. Where a run ends with status 1, they
 /// make none, or FILE begins with no good object under it; what it prints then, `IsRunOf` says. The
 /// store of the system's files tells nothing: the program is the same for every store, and these
 /// are the laws of those that tell.
-pub fn checks_are_right()
-    ensures yes { (told : Told) (clock : Option Moment) (words : List (List ℕ))
+pub fn checks_are_right<P: RelyingParty>()
+    ensures yes { (told : Told) (clock : Option Moment) (party : P) (words : List (List ℕ))
         (before after : List (List ℕ)) (run : Run) (options : Options) (kind : Kind) (moment : When)
         (now : Moment) (names files : FilesOfCheck)
-        → IsRunOf (verify_program clock) told words before after run
+        → IsRunOf (verify_program clock (P.says party)) told words before after run
         → IsAsked verify_language words (verify_order options kind moment names)
         → moment_at clock moment ≡ Some now → AreTold told (in_order names) (in_order files)
         → run.status ≡ 0 → IsRightYes options kind is_rsa_signature now files run }
-    ensures no { (told : Told) (clock : Option Moment) (words : List (List ℕ))
+    ensures no { (told : Told) (clock : Option Moment) (party : P) (words : List (List ℕ))
         (before after : List (List ℕ)) (run : Run) (options : Options) (kind : Kind) (moment : When)
         (now : Moment) (names files : FilesOfCheck)
-        → IsRunOf (verify_program clock) told words before after run
+        → IsRunOf (verify_program clock (P.says party)) told words before after run
         → IsAsked verify_language words (verify_order options kind moment names)
         → moment_at clock moment ≡ Some now → AreTold told (in_order names) (in_order files)
         → run.status ≡ 1 → IsRightNo options kind is_rsa_signature now files }
@@ -74,20 +76,22 @@ pub fn checks_are_right()
 /// certificates make, at this moment, by signatures as RFC 8017, section 8.2.2, has them, and a line
 /// is printed for each of its entries that the files at hand hold, and for no other. Where a run
 /// ends with status 1, they make no issuer, or FILE begins with no good manifest under it.
-pub fn walks_are_right()
-    ensures yes { (told : Told) (clock : Option Moment) (words : List (List ℕ))
+pub fn walks_are_right<P: RelyingParty>()
+    ensures yes { (told : Told) (clock : Option Moment) (party : P) (words : List (List ℕ))
         (before after : List (List ℕ)) (run : Run) (options : Options) (moment : When)
         (now : Moment) (object anchor : List ℕ) (tail : List (List ℕ)) (files : FilesOfCheck)
-        (octets : List (List ℕ)) → IsRunOf (verify_program clock) told words before after run
+        (octets : List (List ℕ))
+        → IsRunOf (verify_program clock (P.says party)) told words before after run
         → IsAsked verify_language words (verify_walk options moment object anchor tail)
         → moment_at clock moment ≡ Some now
         → AreTold told (object ∷ anchor ∷ chain_in tail) (in_order files)
         → AreTold told (paths_in tail) octets → run.status ≡ 0
         → IsRightWalk options is_rsa_signature now files (zip (names_in tail) octets) run }
-    ensures no { (told : Told) (clock : Option Moment) (words : List (List ℕ))
+    ensures no { (told : Told) (clock : Option Moment) (party : P) (words : List (List ℕ))
         (before after : List (List ℕ)) (run : Run) (options : Options) (moment : When)
         (now : Moment) (object anchor : List ℕ) (tail : List (List ℕ)) (files : FilesOfCheck)
-        (octets : List (List ℕ)) → IsRunOf (verify_program clock) told words before after run
+        (octets : List (List ℕ))
+        → IsRunOf (verify_program clock (P.says party)) told words before after run
         → IsAsked verify_language words (verify_walk options moment object anchor tail)
         → moment_at clock moment ≡ Some now
         → AreTold told (object ∷ anchor ∷ chain_in tail) (in_order files)
@@ -101,19 +105,21 @@ pub fn walks_are_right()
 /// has them. Where a run ends with status 1, one of the anchors is not made, or FILE begins with no
 /// attestation that is granted under them, if no two carried CAs have one key identifier, and end
 /// entities that share one have one key.
-pub fn attestations_are_right()
-    ensures yes { (told : Told) (clock : Option Moment) (words : List (List ℕ))
+pub fn attestations_are_right<P: RelyingParty>()
+    ensures yes { (told : Told) (clock : Option Moment) (party : P) (words : List (List ℕ))
         (before after : List (List ℕ)) (run : Run) (options : Options) (moment : When)
         (now : Moment) (file : List ℕ) (anchors : List (List ℕ)) (object : List ℕ)
-        (octets : List (List ℕ)) → IsRunOf (verify_program clock) told words before after run
+        (octets : List (List ℕ))
+        → IsRunOf (verify_program clock (P.says party)) told words before after run
         → IsAsked verify_language words (verify_rta options moment file anchors)
         → moment_at clock moment ≡ Some now
         → AreTold told (file ∷ files_of_anchors anchors) (object ∷ octets) → run.status ≡ 0
         → IsRightRta is_rsa_signature now anchors object octets run }
-    ensures no { (told : Told) (clock : Option Moment) (words : List (List ℕ))
+    ensures no { (told : Told) (clock : Option Moment) (party : P) (words : List (List ℕ))
         (before after : List (List ℕ)) (run : Run) (options : Options) (moment : When)
         (now : Moment) (file : List ℕ) (anchors : List (List ℕ)) (object : List ℕ)
-        (octets : List (List ℕ)) → IsRunOf (verify_program clock) told words before after run
+        (octets : List (List ℕ))
+        → IsRunOf (verify_program clock (P.says party)) told words before after run
         → IsAsked verify_language words (verify_rta options moment file anchors)
         → moment_at clock moment ≡ Some now
         → AreTold told (file ∷ files_of_anchors anchors) (object ∷ octets) → run.status ≡ 1
@@ -123,16 +129,16 @@ pub fn attestations_are_right()
 /// Where a store tells the files of a list, a run that ends with status 0 prints the list of the
 /// good ones of the signatures that a check of FILE asks about. Where a run ends with status 1, not
 /// all files of certificates begin with one, or FILE begins with no signed object.
-pub fn lists_are_right()
-    ensures yes { (told : Told) (clock : Option Moment) (words : List (List ℕ))
+pub fn lists_are_right<P: RelyingParty>()
+    ensures yes { (told : Told) (clock : Option Moment) (party : P) (words : List (List ℕ))
         (before after : List (List ℕ)) (run : Run) (options : Options) (names files : FilesOfCheck)
-        → IsRunOf (verify_program clock) told words before after run
+        → IsRunOf (verify_program clock (P.says party)) told words before after run
         → IsAsked verify_language words (list_order options names)
         → AreTold told (in_order names) (in_order files)
         → run.status ≡ 0 → IsRightList options files run }
-    ensures no { (told : Told) (clock : Option Moment) (words : List (List ℕ))
+    ensures no { (told : Told) (clock : Option Moment) (party : P) (words : List (List ℕ))
         (before after : List (List ℕ)) (run : Run) (options : Options) (names files : FilesOfCheck)
-        → IsRunOf (verify_program clock) told words before after run
+        → IsRunOf (verify_program clock (P.says party)) told words before after run
         → IsAsked verify_language words (list_order options names)
         → AreTold told (in_order names) (in_order files)
         → run.status ≡ 1 → IsRightNoList options files }
@@ -142,18 +148,18 @@ pub fn lists_are_right()
 /// the list of the good ones of the signatures that a check of FILE under the anchors may ask about.
 /// Where a run ends with status 1, not all files of their chains begin with a certificate, or FILE
 /// begins with no attestation.
-pub fn attestation_lists_are_right()
-    ensures yes { (told : Told) (clock : Option Moment) (words : List (List ℕ))
+pub fn attestation_lists_are_right<P: RelyingParty>()
+    ensures yes { (told : Told) (clock : Option Moment) (party : P) (words : List (List ℕ))
         (before after : List (List ℕ)) (run : Run) (options : Options) (file : List ℕ)
         (anchors : List (List ℕ)) (object : List ℕ) (octets : List (List ℕ))
-        → IsRunOf (verify_program clock) told words before after run
+        → IsRunOf (verify_program clock (P.says party)) told words before after run
         → IsAsked verify_language words (rta_list_order options file anchors)
         → AreTold told (file ∷ files_of_anchors anchors) (object ∷ octets)
         → run.status ≡ 0 → IsRightRtaList anchors object octets run }
-    ensures no { (told : Told) (clock : Option Moment) (words : List (List ℕ))
+    ensures no { (told : Told) (clock : Option Moment) (party : P) (words : List (List ℕ))
         (before after : List (List ℕ)) (run : Run) (options : Options) (file : List ℕ)
         (anchors : List (List ℕ)) (object : List ℕ) (octets : List (List ℕ))
-        → IsRunOf (verify_program clock) told words before after run
+        → IsRunOf (verify_program clock (P.says party)) told words before after run
         → IsAsked verify_language words (rta_list_order options file anchors)
         → AreTold told (file ∷ files_of_anchors anchors) (object ∷ octets)
         → run.status ≡ 1 → IsRightNoRtaList anchors object octets }

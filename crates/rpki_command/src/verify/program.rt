@@ -11,23 +11,28 @@ use crate::program::answer_order;
 use crate::verify::check::{
     CheckBySignatures, ListRtaSignatures, ListSignatures, RtaBySignatures, WalkBySignatures,
 };
+use crate::verify::payloads::payloads_when;
 use rpki_basics::Time;
 use rpki_cli::answer::Answer;
+use rpki_cli::verify::RelyingParty;
 use rpki_cli::verify::words::{VerifyCommand, parse};
 use rpki_cli::words::{Kind, Options, Order};
 use rpki_cli::{Causes, Program, Store, answer_anchors, answer_files, answer_tail};
 use std::alloc::Global;
 
 /// The program with signatures, `rpki_verify`: it shows what the program with verdicts shows, checks
-/// objects by their signatures, and tells which files a manifest holds.
-#[derive(Clone, Copy, Debug)]
-pub struct Verify {
+/// objects by their signatures, tells which files a manifest holds, and lists the payloads that a
+/// relying party finds.
+#[derive(Drop)]
+pub struct Verify<P> {
     /// The moment that the clock tells, if it tells one.
     pub clock: Option<Time>,
+    /// Who finds the payloads.
+    pub relying_party: P,
 }
 
-impl Program for Verify {
-    ghost program = { λ v. verify_program v.clock };
+impl<P: RelyingParty> Program for Verify<P> {
+    ghost program = { λ v. verify_program v.clock (P.says v.relying_party) };
 
     fn answer<'a, S: Store>(
         &self,
@@ -35,7 +40,7 @@ impl Program for Verify {
         words: &'a [&'a str],
         store: &mut S,
     ) -> Answer<'a> {
-        answer(alloc, words, self.clock, store)
+        answer(alloc, words, self.clock, &self.relying_party, store)
     }
 
     fn wrong<'a>(&self) -> Answer<'a> {
@@ -43,35 +48,39 @@ impl Program for Verify {
     }
 }
 
-/// What the program answers to its words, where the clock tells this moment, or none.
-fn answer<'a, S: Store>(
+/// What the program answers to its words, where the clock tells this moment, or none, and this
+/// relying party finds payloads.
+fn answer<'a, P: RelyingParty, S: Store>(
     alloc: Global,
     words: &'a [&'a str],
     now: Option<Time>,
+    party: &P,
     store: &mut S,
 ) -> Answer<'a>
-    ensures said { IsAnswer (verify_program now) (S.told store.old) (texts words.now)
-        (S.reads store.old) (S.reads store.new) (said result) }
-    ensures reads { HaveRead (verify_program now) (texts words.now)
+    ensures said { IsAnswer (verify_program now (P.says party.now)) (S.told store.old)
+        (texts words.now) (S.reads store.old) (S.reads store.new) (said result) }
+    ensures reads { HaveRead (verify_program now (P.says party.now)) (texts words.now)
         (S.reads store.old) (S.reads store.new) }
     ensures same { S.told store.new ≡ S.told store.old }
 {
     match parse(words) {
         None => Answer::WrongWords,
-        Some(order) => answer_verify(alloc, order, now, store),
+        Some(order) => answer_verify(alloc, order, now, party, store),
     }
 }
 
 /// What the program answers to an order.
-fn answer_verify<'a, S: Store>(
+fn answer_verify<'a, P: RelyingParty, S: Store>(
     alloc: Global,
     order: Order<VerifyCommand<'a>>,
     now: Option<Time>,
+    party: &P,
     store: &mut S,
 ) -> Answer<'a>
-    ensures said { IsTaskAnswer (S.told store.old) (order_task (verify_program now) order.entry)
+    ensures said { IsTaskAnswer (S.told store.old)
+        (order_task (verify_program now (P.says party.now)) order.entry)
         (S.reads store.old) (S.reads store.new) (said result) }
-    ensures reads { HasRead (order_task (verify_program now) order.entry)
+    ensures reads { HasRead (order_task (verify_program now (P.says party.now)) order.entry)
         (S.reads store.old) (S.reads store.new) }
     ensures same { S.told store.new ≡ S.told store.old }
 {
@@ -119,6 +128,18 @@ fn answer_verify<'a, S: Store>(
             let anchors = anchors.0;
             let list = ListRtaSignatures { anchors };
             answer_anchors(alloc, list, &[file.0], anchors, store)
+        }
+        VerifyCommand::Payloads {
+            format,
+            copy,
+            moment,
+            locators,
+        } => {
+            let moment = moment.moment(now);
+            let limit = options.provider_limit();
+            payloads_when(
+                alloc, party, limit, format, copy.0, moment, locators.0, store,
+            )
         }
     }
 }

@@ -7,7 +7,7 @@ use rpki_tagged::ResourceTaggedAttestation;
 use std::alloc::{AllocError, Global};
 
 /// Octets, and in DER what they say, or why they are refused.
-static ROWS: [(&[u8], &str); 37] = [
+pub static ROWS: [(&[u8], &str); 37] = [
     (
         b"071\x000\x04\xA0\x020\x000\x0B\x06\x09`\x86H\x01e\x03\x04\x02\x01\x04 \x00\x00\x00\x00\
           \x00\x00\x00\x00\x00\x00\x00\x00\x00\x00\x00\x00\x00\x00\x00\x00\x00\x00\x00\x00\x00\
@@ -238,7 +238,7 @@ static ROWS: [(&[u8], &str); 37] = [
 ];
 
 /// The same in BER.
-static RELAXED: [(&[u8], &str); 4] = [
+pub static RELAXED: [(&[u8], &str); 4] = [
     (
         b"0\x801\x80\x04\x14\x01\x02\x03\x04\x05\x06\x07\x08\x09\x0A\x0B\x0C\x0D\x0E\x0F\x10\x11\
           \x12\x13\x14\x00\x000\x80\xA0\x800\x80\x02\x03\x00\xFB\xF0\x00\x00\x00\x00\x00\x000\
@@ -396,7 +396,7 @@ fn read(
 }
 
 /// What octets say, or why they are refused.
-fn answer(alloc: Global, octets: &[u8], mode: Mode) -> Result<String, AllocError> {
+pub fn answer(alloc: Global, octets: &[u8], mode: Mode) -> Result<String, AllocError> {
     match read(alloc, octets, mode) {
         Ok(content) => {
             let text = content_text(alloc, &content);

@@ -13,7 +13,7 @@ use Rattle.rpki_payloads.specs.Found.{Found, all_named}
 abbrev pub fault_text : Fault → List ℕ
 fault_text NoManifest = codes "no good manifest"
 fault_text NoFile = codes "a listed file is missing or differs"
-fault_text NoList = codes "no good revocation list"
+fault_text NoList = codes "no good revocation list, or it revokes the manifest"
 fault_text NoRoa = codes "no good ROA"
 fault_text NoAspa = codes "no good ASPA"
 fault_text NoCa = codes "no good CA certificate"

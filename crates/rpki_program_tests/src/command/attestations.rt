@@ -1,6 +1,7 @@
 //! Attestations that are shown.
 
 use super::attested::{ALL, ALL_IN_BER, EMPTY, NOTHING, NOTHING_AND_MORE, UNNAMED, WHOLE};
+use super::payloads::Echo;
 use super::runs::{MALFORMED, Output, Row, are_answered, is_answered_by};
 use rpki_command::verify::Verify;
 use std::test::Fail;
@@ -72,7 +73,10 @@ const UNNAMED_TOLD: Output = Output {
 
 #[test]
 fn both_programs_show_attestations(rt: HostRuntime) -> Result<(), Fail> {
-    let program = Verify { clock: None };
+    let program = Verify {
+        clock: None,
+        relying_party: Echo,
+    };
     let rows: [Row; 3] = [
         (&CONTENT, ALL, ALL_SHOWN, 1),
         (&CONTENT, UNNAMED, UNNAMED_TOLD, 1),

@@ -2,6 +2,7 @@
 
 use super::attested::EMPTY;
 use super::granted::{ANCHOR, AUTHORITY, GRANTED, GRANTED_VERDICTS, OTHER_TAL, TAL};
+use super::payloads::Echo;
 use super::runs::{Output, is_answered, is_answered_by};
 use rpki_command::verify::Verify;
 use std::alloc::AllocError;
@@ -175,7 +176,10 @@ fn other_anchors_are_usage(rt: HostRuntime) -> Result<(), Fail> {
 fn attestations_without_signers_are_granted(rt: HostRuntime) -> Result<(), Fail> {
     let words = ["rta", "empty.rta", "20270101000000Z", "verdicts", "tal=tal"];
     is_answered(&rt, &words, &files(), &EMPTY_YES, 3)?;
-    let program = Verify { clock: None };
+    let program = Verify {
+        clock: None,
+        relying_party: Echo,
+    };
     let words = ["rta", "empty.rta", "20270101000000Z", "tal=tal"];
     is_answered_by(&rt, &program, &words, &files(), &EMPTY_YES, 2)?;
     let words = ["rta", "granted.rta", "20270101000000Z", "tal=tal"];
@@ -218,7 +222,10 @@ fn good_signatures_of_attestations_are_listed(rt: HostRuntime) -> Result<(), Fai
         ),
         (&["anchor.cer", "anchor.cer"], MALFORMED, 2),
     ];
-    let program = Verify { clock: None };
+    let program = Verify {
+        clock: None,
+        relying_party: Echo,
+    };
     for (given, said, reads) in &rows {
         let mut words = Vec::from_slice(rt.alloc(), &["verdicts"])?;
         words.extend_from_slice(given)?;

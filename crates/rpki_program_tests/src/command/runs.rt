@@ -5,6 +5,7 @@ use super::octets::{
     ANCHOR, AUTHORITY, CONTENT, CONTENT_AND_MORE, CONTENT_CUT, CONTENT_IN_BER, CUSTOMER_AS0,
     LARGEST_CUSTOMER, LARGEST_PROVIDER, ORIGIN, VERDICTS, WITHOUT_VERSION,
 };
+use super::payloads::Echo;
 use rpki_cli::{Program, command};
 use rpki_command::Objects;
 use rpki_command::verify::Verify;
@@ -148,7 +149,10 @@ const CUSTOMER_AS0_TOLD: Output = Output {
 
 #[test]
 fn causes_are_told(rt: HostRuntime) -> Result<(), Fail> {
-    let program = Verify { clock: None };
+    let program = Verify {
+        clock: None,
+        relying_party: Echo,
+    };
     let rows: [Row; 4] = [
         (&ASK, &CONTENT, SHOWN, 1),
         (&ASK, &CUSTOMER_AS0, CUSTOMER_AS0_TOLD, 1),

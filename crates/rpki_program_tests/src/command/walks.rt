@@ -1,6 +1,7 @@
 //! Walks over the files of a manifest.
 
 use super::octets::{ANCHOR, AUTHORITY, HELD, HELD_VERDICTS, ORIGIN};
+use super::payloads::Echo;
 use super::runs::{Output, is_answered, is_answered_by};
 use rpki_command::verify::Verify;
 use std::alloc::AllocError;
@@ -198,7 +199,10 @@ const NOT_SIGNED: Output = Output {
 
 #[test]
 fn signatures_are_verified(rt: HostRuntime) -> Result<(), Fail> {
-    let program = Verify { clock: None };
+    let program = Verify {
+        clock: None,
+        relying_party: Echo,
+    };
     let words = [
         "walk",
         "held.mft",

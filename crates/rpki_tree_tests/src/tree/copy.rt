@@ -1,10 +1,12 @@
-//! Copies in memory, one that tells what it has and one that does not.
+//! Copies and folders in memory: those that tell what they have, and a copy that does not.
 
 use bytes::Bytes;
+use rpki_folder::Folders;
 use rpki_tree::Repository;
 use std::alloc::{AllocError, Global};
 
-/// Files in memory, each with its URI. Of two with one URI the first counts.
+/// Files in memory, each with its URI, or with its name in each folder. Of two with one URI, or
+/// with one name, the first counts.
 #[derive(Drop)]
 pub struct Files {
     pub files: Vec<(Vec<u8>, Vec<u8>)>,
@@ -26,7 +28,18 @@ impl Repository for Files {
     }
 }
 
-/// The same, of which contracts know nothing, as of a folder.
+impl Folders for Files {
+    ghost use Rattle.std.specs.Prelude.{Some};
+    ghost use Rattle.rpki_tree_tests.specs.Tree.{octets_for};
+
+    ghost told = { λ t. Some (λ _ name. octets_for t.files.items name) };
+
+    fn read(&self, alloc: Global, _folder: &str, name: &[u8]) -> Result<Option<Bytes>, AllocError> {
+        Repository::read(self, alloc, name)
+    }
+}
+
+/// Files in memory as a copy of which contracts know nothing, as of a folder.
 #[derive(Drop)]
 pub struct Silent<'a> {
     pub files: &'a Files,
@@ -38,6 +51,6 @@ impl<'a> Repository for Silent<'a> {
     ghost told = { λ t. None };
 
     fn read(&self, alloc: Global, uri: &[u8]) -> Result<Option<Bytes>, AllocError> {
-        self.files.read(alloc, uri)
+        Repository::read(self.files, alloc, uri)
     }
 }

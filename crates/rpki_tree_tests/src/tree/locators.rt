@@ -10,11 +10,11 @@ use rpki_tree::{AnchorFault, Pass, PassFault, Repository, findings};
 use std::alloc::{AllocError, Global};
 
 /// A locator with an rsync URI, an https URI and a key.
-const LOCATOR: &[u8] =
+pub const LOCATOR: &[u8] =
     b"rsync://host/module/a.cer\nhttps://host/a.cer\n\nMBUwDQYJKoZIhvcNAQEBBQADBABhYmM=\n";
 
-// The locator.
-fn locator(alloc: Global) -> Result<Tal, Fail> {
+/// The locator.
+pub fn locator(alloc: Global) -> Result<Tal, Fail> {
     match Tal::read_named(alloc, String::new(alloc), &mut Counted::new(LOCATOR)) {
         Ok(tal) => Ok(tal),
         Err(ReadError::Memory) => Err(Fail::Memory),
@@ -32,8 +32,8 @@ fn copy_with(alloc: Global, uri: &[u8], octets: &[u8]) -> Result<Files, AllocErr
     Ok(Files { files })
 }
 
-// The first moment of 2030.
-fn moment() -> Result<Time, Fail> {
+/// The first moment of 2030.
+pub fn moment() -> Result<Time, Fail> {
     match Time::utc(2030, 1, 1, 0, 0, 0) {
         Some(time) => Ok(time),
         None => Err(Fail::Refused),
@@ -55,11 +55,11 @@ fn answer<R: Repository>(alloc: Global, copy: &R) -> Result<&'static str, Fail> 
             Ok("found")
         }
         Err(PassFault::Anchor(AnchorFault::Missing)) => Ok("missing"),
-        Err(PassFault::Anchor(AnchorFault::Refused(error))) => {
-            drop(error);
-            Ok("refused")
+        Err(PassFault::Anchor(AnchorFault::OtherKey)) => Ok("other key"),
+        Err(fault) => {
+            drop(fault);
+            Err(Fail::Memory)
         }
-        Err(_) => Err(Fail::Memory),
     }
 }
 
@@ -75,12 +75,12 @@ fn answer_with(alloc: Global, uri: &[u8], octets: &[u8]) -> Result<&'static str,
     Ok(told)
 }
 
-// A copy that has none of the URIs, and one that has bad octets for one of them.
+// A copy that has none of the URIs, and one that has no certificate for one of them.
 #[test]
-fn anchors_are_missing_or_refused(rt: HostRuntime) -> Result<(), Fail> {
+fn anchors_are_missing_or_have_another_key(rt: HostRuntime) -> Result<(), Fail> {
     let alloc = rt.alloc();
     assert!(rt; answer_with(alloc, b"rsync://host/module/b.cer", b"none")? == "missing");
-    assert!(rt; answer_with(alloc, b"rsync://host/module/a.cer", b"none")? == "refused");
-    assert!(rt; answer_with(alloc, b"https://host/a.cer", b"")? == "refused");
+    assert!(rt; answer_with(alloc, b"rsync://host/module/a.cer", b"none")? == "other key");
+    assert!(rt; answer_with(alloc, b"https://host/a.cer", b"")? == "other key");
     Ok(())
 }

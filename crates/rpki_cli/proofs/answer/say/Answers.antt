@@ -10,6 +10,14 @@ pub returns-in-BadVerdicts : goal.returns-in-BadVerdicts
 returns-in-BadVerdicts g c =
     rw c.in-BadVerdicts.is (record { err = c.write-in-BadVerdicts.ensures; out = refl })
 
+pub returns-in-BadLocator : goal.returns-in-BadLocator
+returns-in-BadLocator g c =
+    rw c.in-BadLocator.is
+    (record {
+      err = rw c.as_bytes-in-BadLocator.ensures.value at c.write_line-in-BadLocator.ensures;
+      out = refl;
+    })
+
 pub returns-in-OutOfMemory : goal.returns-in-OutOfMemory
 returns-in-OutOfMemory g c =
     rw c.in-OutOfMemory.is

@@ -6,5 +6,6 @@ use Rattle.rpki_command.proofs.verify.program.VerifyProgram.answer.Goals as goal
 
 pub returns-clause-run : goal.returns-clause-run
 returns-clause-run g c = λ run h.
-    run-said (verify_program c.args.self.now.clock) asked-once _ _ _ _ _ c.answer.ensures.said
-    run h
+    run-said (verify_program c.args.self.now.clock
+    (g.P.RelyingParty.says c.args.self.now.relying_party)) asked-once _ _ _ _ _
+    c.answer.ensures.said run h

@@ -1,0 +1,5 @@
+mod Endings
+mod Locating
+mod Passing
+mod Plain
+mod Slashes

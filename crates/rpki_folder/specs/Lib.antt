@@ -1,0 +1,6 @@
+pub mod Cached
+pub mod Locators
+pub mod Names
+pub mod Party
+pub mod Passed
+pub mod Report

@@ -1,0 +1,52 @@
+-- Trust anchor locators in files.
+use Rattle.std.specs.Prelude.{◌≡◌, ℕ, List, ◌∷◌, ◌++◌, All, Result, Ok, Err, Vec}
+use Rattle.std.specs.List.{AllZip}
+use Rattle.std.specs.declared.alloc.Global.{Global}
+use Rattle.rpki_tal.specs.Form.{IsNoTal, IsOnlyTal}
+use Rattle.rpki_tal.specs.Tal.{Locator}
+use Rattle.rpki_tal.specs.declared.error.ReadError.{ReadError}
+use Rattle.rpki_tal.specs.declared.error.ReadError.TheVariants as errors
+use Rattle.rpki_folder.specs.Names.{locator_name}
+use Rattle.rpki_folder.specs.declared.locators.Located.{Located}
+use Rattle.rpki_folder.specs.declared.locators.NotLocated.{NotLocated}
+use Rattle.rpki_folder.specs.declared.locators.NotLocated.TheVariants.{Bad, Memory}
+
+-- a file: the word that names it, and its octets
+abbrev pub File : Type 0
+File = List ℕ × List ℕ
+
+-- the file is the text of this locator and of no other (RFC 8630, section 2.2)
+abbrev pub IsLocator : File → Locator → Type 0
+IsLocator file tal = IsOnlyTal file.1 tal.uris tal.key
+
+-- The first of the files that is no locator is the one of this word.
+pub record IsFirstBad (files : List File) (word : List ℕ) : Type 0 where
+  pub before : List File
+  pub octets : List ℕ
+  pub after : List File
+  pub cut : files ≡ before ++ (word, octets) ∷ after
+  pub locators : All (λ f. (tal : Locator) × IsLocator f tal) before
+  pub bad : IsNoTal octets
+
+-- what is read of a file that is a locator
+abbrev pub IsLocated : File → Located → Type 0
+IsLocated file l = (l.name.now ≡ locator_name file.0) × IsLocator file l.locator
+
+-- why a file is no locator
+abbrev pub IsNotLocated : File → NotLocated → Type 0
+IsNotLocated file (Bad word) = (word.now ≡ file.0) × IsNoTal file.1
+IsNotLocated file Memory = Unit {0}
+
+-- the fault of a file that this word names, where it is refused so as a locator: want of memory is
+-- that, and every other fault says that it is none
+abbrev pub IsFaultOf : ReadError → List ℕ → NotLocated → Type 0
+IsFaultOf errors.Memory word fault = fault ≡ Memory
+IsFaultOf error word Memory = ⊥
+IsFaultOf error word (Bad same) = same.now ≡ word
+
+-- what is read of files: the locators, in their order, or the first that is none, unless memory
+-- runs out
+abbrev pub AreLocated : List File → Result (Vec Located Global) NotLocated → Type 0
+AreLocated files (Ok located) = AllZip IsLocated files located.items
+AreLocated files (Err (Bad word)) = IsFirstBad files word.now
+AreLocated files (Err Memory) = Unit {0}

@@ -1,0 +1,70 @@
+-- What is reported of locators.
+use Rattle.std.specs.Prelude.{◌≡◌, ◌⊎◌, ℕ, List, [], ◌++◌, codes, Option, Some, None}
+use Rattle.std.specs.Prelude.{Ok, Err, is_ok, if◌then◌else◌}
+use Rattle.std.specs.List.{AllZip, filter_map, flat_map, list_all, zip}
+use Rattle.rpki_cli.specs.Answer.{Output, Reported, bad_locator, out_of_memory}
+use Rattle.rpki_cli.specs.declared.verify.relying_party.PayloadsRequest.{PayloadsRequest}
+use Rattle.rpki_cli.specs.declared.verify.words.Format.{Format}
+use Rattle.rpki_payloads.specs.Found.{Found}
+use Rattle.rpki_payloads.specs.Texts.{payloads_text}
+use Rattle.rpki_payloads.specs.Texts.Refusals.{refusals_text}
+use Rattle.rpki_tree.specs.Texts.{pass_fault_text}
+use Rattle.rpki_folder.specs.Locators.{File, IsFirstBad}
+use Rattle.rpki_folder.specs.Party.{Party}
+use Rattle.rpki_folder.specs.Passed.{Outcome, Passed, IsPassed, IsUnder}
+use Rattle.rpki_folder.specs.declared.locators.Located.{Located}
+
+-- what was found under the locator with this name, if there is an answer
+abbrev pub found_under : List ℕ → Outcome → Option Found
+found_under name (Ok found) = Some (record { name = name; findings = found })
+found_under name (Err fault) = None
+
+-- what was found under the locators that have an answer, in their order
+abbrev pub found_in : List Passed → List Found
+found_in passed = filter_map (λ p. found_under p.name p.outcome) passed
+
+-- refused anchor: not in the copy
+abbrev pub outcome_line : List ℕ → Outcome → List ℕ
+outcome_line name (Ok found) = []
+outcome_line name (Err fault) =
+    codes "refused " ++ (name ++ (codes ": " ++ (pass_fault_text fault ++ codes "\n")))
+
+-- a line for each locator that has no answer, in their order
+abbrev pub faults_text : List Passed → List ℕ
+faults_text passed = flat_map (λ p. outcome_line p.name p.outcome) passed
+
+-- what is refused: locators, and what is below the others
+abbrev pub refused_text : List Passed → List ℕ
+refused_text passed = faults_text passed ++ refusals_text (found_in passed)
+
+-- the exit status: 0 where each locator has an answer
+abbrev pub status_of : List Passed → ℕ
+status_of passed = if list_all (λ p. is_ok p.outcome) passed then 0 else 1
+
+-- what is said: payloads on standard output, and what is refused on standard error
+abbrev pub report : Format → List Passed → Output
+report format passed =
+    Reported (payloads_text format (found_in passed)) (refused_text passed) (status_of passed)
+
+-- this is reported of what the passes under these locators came to, one by one
+pub record IsReportOf (party : Party) (request : PayloadsRequest) (files : List File) (s : Output)
+    : Type 0 where
+  pub passed : List Passed
+  pub each : AllZip (IsPassed party request) files passed
+  pub says : s ≡ report request.format passed
+
+-- what is reported under locators that were read, unless memory runs out
+abbrev pub IsReportUnder : Party → PayloadsRequest → List Located → Output → Type 0
+IsReportUnder party request located s =
+    (s ≡ out_of_memory)
+    ⊎ ((passed : List Passed)
+    × AllZip (λ (l : Located). IsUnder party request l.name.now l.locator) located passed
+    × (s ≡ report request.format passed))
+
+-- What is said to a request, whose locators have these octets in their files: that the first of
+-- them is bad which is none; or what the passes under them came to, unless memory runs out.
+abbrev pub IsReport : Party → PayloadsRequest → List (List ℕ) → Output → Type 0
+IsReport party request octets s =
+    (s ≡ out_of_memory)
+    ⊎ (((word : List ℕ) × IsFirstBad (zip request.locators octets) word × (s ≡ bad_locator word))
+    ⊎ IsReportOf party request (zip request.locators octets) s)

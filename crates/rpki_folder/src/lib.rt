@@ -1,0 +1,17 @@
+//! A relying party's pass over a folder of files: where a folder has the file of a URI, and what is
+//! reported of locators.
+#![tactic(auto)]
+
+mod copy;
+mod folders;
+pub mod laws;
+mod locators;
+mod names;
+mod party;
+mod passed;
+mod report;
+
+pub use copy::FolderCopy;
+pub use folders::{Folders, SystemFolders};
+pub use names::{is_below, locator_name};
+pub use party::FolderParty;

@@ -1,0 +1,78 @@
+//! Trust anchor locators in files.
+
+ghost use Rattle.std.specs.Prelude.{◌≡◌, MatchResult};
+ghost use Rattle.std.specs.List.{zip};
+ghost use Rattle.rpki_certs.specs.Issuer.{octets_of};
+ghost use Rattle.rpki_cli.specs.Words.{texts};
+ghost use Rattle.rpki_folder.specs.Locators.{AreLocated, IsLocated, IsNotLocated, IsFaultOf};
+
+use crate::names::locator_name;
+use rpki_show::locator_of;
+use rpki_tal::{ReadError, Tal};
+use std::alloc::Global;
+
+/// A locator, and its name.
+#[derive(Drop)]
+pub(crate) struct Located<'a> {
+    pub name: &'a str,
+    pub locator: Tal,
+}
+
+/// Why files are not all locators.
+#[derive(Drop)]
+pub(crate) enum NotLocated<'a> {
+    /// This one is none.
+    Bad(&'a str),
+    /// No memory was to be had.
+    Memory,
+}
+
+// The locator in a file, which this word names.
+fn locate<'a>(alloc: Global, word: &'a str, octets: &[u8]) -> Result<Located<'a>, NotLocated<'a>>
+    ensures { MatchResult result (IsLocated (word.now, octets.now))
+        (IsNotLocated (word.now, octets.now)) }
+{
+    match locator_of(alloc, octets) {
+        Ok(locator) => Ok(Located {
+            name: locator_name(word),
+            locator,
+        }),
+        Err(error) => Err(fault_of(error, word)),
+    }
+}
+
+// Why the file that this word names is no locator.
+fn fault_of<'a>(error: ReadError, word: &'a str) -> NotLocated<'a>
+    ensures { IsFaultOf error word.now result }
+{
+    match error {
+        ReadError::Memory => NotLocated::Memory,
+        ReadError::Io
+        | ReadError::UnexpectedEof
+        | ReadError::BadUri(_)
+        | ReadError::BadKeyInfoEncoding
+        | ReadError::BadKeyInfo(_) => NotLocated::Bad(word),
+    }
+}
+
+/// The locators in these files, which these words name. Refuses by the first that is none.
+pub(crate) fn locators_in<'a>(
+    alloc: Global,
+    words: &[&'a str],
+    files: &[Vec<u8>],
+) -> Result<Vec<Located<'a>>, NotLocated<'a>>
+    ensures { AreLocated (zip (texts words.now) (octets_of files.now)) result }
+{
+    let mut located = Vec::new(alloc);
+    for (word, octets) in words.iter().zip(files.iter()) {
+        match locate(alloc, word, octets) {
+            Err(fault) => return Err(fault),
+            Ok(one) => {
+                if located.push(one).is_err() {
+                    return Err(NotLocated::Memory);
+                }
+            }
+        }
+    }
+    Ok(located)
+}
