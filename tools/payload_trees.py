@@ -12,9 +12,12 @@ from publication import (
     EVERYTHING, FUTURE, HOST, NEXT, PAST, SIGNED, Ca, Router, certificate, locator, make, signer)
 
 NO_MANIFEST, NO_FILE, NO_LIST, NO_ROA, NO_ASPA, NO_CA = (
-    "no good manifest", "a listed file is missing or differs", "no good revocation list, or it revokes the manifest",
-    "no good ROA", "no good ASPA", "no good CA certificate")
-NO_KEY = "no certificate with its key"
+    "no good manifest", "a listed file is missing or differs",
+    "no good revocation list, or it revokes the manifest", "no good ROA", "no good ASPA",
+    "no good CA certificate")
+MISSING, OTHER_KEY, EXPIRED = (
+    "not in the copy", "no certificate with its key",
+    "its certificate is refused: certificate has expired")
 ZEROS = bytes(int(os.environ.get("MB_OF_ZEROS", 100)) << 20)
 
 
@@ -249,7 +252,7 @@ SHAPES = [
     ("COPY/", lambda t: vars(t).update(copy="copy/")),
     ("./none/../COPY", lambda t: vars(t).update(copy="./none/../copy")),
     ("COPY from the root on", lambda t: vars(t).update(copy=None)),
-    ("no COPY", lambda t: vars(t.fails("not in the copy")).update(copy="none/copy")),
+    ("no COPY", lambda t: vars(t.fails(MISSING)).update(copy="none/copy")),
     ("an overclaiming child under RFC 8360", trimmed),
     ("what says nothing", silent),
     ("two CAs that issued each other", ring),
@@ -270,18 +273,13 @@ SHAPES = [
 def anchor_is(octets_of, text):
     def change(t):
         t.put(t.top.uri, octets_of(t))
-        t.fails(NO_KEY if text is None else f"its certificate is refused: {text}")
+        t.fails(text)
     return change
-
-
-def other_key(t):
-    t.tals["one.tal"] = locator([t.top.uri], t.b.signer)
-    t.fails(NO_KEY)
 
 
 def one_of_two(t):
     t.tals["gone.tal"] = locator([f"rsync://{HOST}/ta/gone.cer"], t.b.signer)
-    t.fails("not in the copy", "gone")
+    t.fails(MISSING, "gone")
 
 
 def two_anchors(t):
@@ -303,22 +301,33 @@ def kept_at_ta(t):
     t.files["ta/one/top.cer"] = t.top.certificate() + b"more"
     t.put(t.top.uri, b"no anchor")
     t.tals["two.tal"] = t.tals["one.tal"]
-    t.fails(NO_KEY, "two")
+    t.fails(OTHER_KEY, "two")
 
 
-def next_uri(t):
-    """What is under the first two URIs of a locator has another key, or is no certificate."""
-    uris = [f"rsync://{HOST}/ta/{name}.cer" for name in ("other", "bad")]
-    t.tals["one.tal"] = locator([*uris, t.top.uri], t.top.signer)
-    t.put(uris[0], Ca("other", EVERYTHING).certificate())
-    t.put(uris[1], b"no anchor")
+def several(*octets_of, text=None):
+    """A locator with several URIs, one of them of HTTPS. HTTPS first, and else in their order, the
+    first that has a certificate with the locator's key decides."""
+    def change(t):
+        uris = [f"rsync://{HOST}/ta/1.cer", f"rsync://{HOST}/ta/2.cer", f"https://{HOST}/ta/0.cer"]
+        t.tals["one.tal"] = locator(uris, t.top.signer)
+        for uri, octets in zip([uris[2], *uris], [it and it(t) for it in octets_of]):
+            if octets is not None:
+                t.put(uri, octets)
+        if text:
+            t.fails(text)
+    return change
 
 
-def https_first(t):
-    """The first URI of a locator with a certificate that has its key decides, HTTPS first."""
-    t.tals["one.tal"] = locator([f"rsync://{HOST}/ta/bad.cer", f"https://{HOST}/none.cer",
-                                 f"https://{HOST}/ta/top.cer"], t.top.signer)
-    t.put(f"rsync://{HOST}/ta/bad.cer", b"no anchor")
+def good(t):
+    return t.top.certificate()
+
+
+def expired(t):
+    return t.top.certificate(last=PAST)
+
+
+def other(t):
+    return Ca("other", EVERYTHING).certificate()
 
 
 def located(uri, path, is_found=False):
@@ -327,7 +336,7 @@ def located(uri, path, is_found=False):
         t.tals["one.tal"] = locator([uri], t.top.signer)
         t.files[path] = t.top.certificate()
         if not is_found:
-            t.fails("not in the copy")
+            t.fails(MISSING)
     return f"a locator of {uri}, and an anchor at {path}", change
 
 
@@ -350,18 +359,21 @@ def stops(word, error, octets=None):
 
 
 LOCATORS = [
-    ("an anchor with another key", other_key),
-    ("an expired anchor", anchor_is(lambda t: t.top.certificate(last=PAST),
-                                    "certificate has expired")),
-    ("an anchor that is a ROA", anchor_is(lambda t: t.b.files["o.roa"], None)),
-    ("an anchor of 0 octets", anchor_is(lambda t: b"", None)),
-    ("an anchor of zeros", anchor_is(lambda t: ZEROS, None)),
+    ("an anchor with another key", anchor_is(other, OTHER_KEY)),
+    ("an expired anchor", anchor_is(expired, EXPIRED)),
+    ("an anchor that is a ROA", anchor_is(lambda t: t.b.files["o.roa"], OTHER_KEY)),
+    ("an anchor of 0 octets", anchor_is(lambda t: b"", OTHER_KEY)),
+    ("an anchor of zeros", anchor_is(lambda t: ZEROS, OTHER_KEY)),
+    ("anchors: none, none, good", several(None, None, good)),
+    ("anchors: another key, good, expired", several(other, good, expired)),
+    ("anchors: zeros, another key, good", several(lambda t: ZEROS, other, good)),
+    ("anchors: expired, good, good", several(expired, good, good, text=EXPIRED)),
+    ("anchors: good, expired, expired", several(good, expired, expired)),
+    ("anchors: other keys", several(other, other, other, text=OTHER_KEY)),
     ("two locators, one without an anchor", one_of_two),
     ("two locators", two_anchors),
     ("two locators of one anchor", one_twice),
     ("an anchor at ta/NAME/FILE", kept_at_ta),
-    ("a locator with three URIs", https_first),
-    ("a locator whose first URIs have other keys", next_uri),
     located("https://a/../x", "x"), located("https://../x", "../x"), located("https://a/..", "x"),
     located("https://a//x", "a/x"), located("https://a/", "x"), located("rsync://../x/y", "../x/y"),
     located("https://a/../x", "ta/one/x", True),
