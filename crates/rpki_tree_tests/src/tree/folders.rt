@@ -128,7 +128,10 @@ fn answer<'a>(
         crypto: &StandIn,
         limit: 10,
     };
-    Ok(party.answer(alloc, &request, files))
+    match party.answer(alloc, &request, files) {
+        Answer::OutOfMemory => Err(AllocError),
+        answer => Ok(answer),
+    }
 }
 
 // Whether an answer says that the file with this name is no locator.
