@@ -125,9 +125,10 @@ _rpki_complete() {
     elif [[ ! $has_files ]]; then
         compopt +o default
     elif [[ $found ]]; then
-        local IFS=$'\n'
         compopt -o filenames
-        COMPREPLY+=($(compgen -f -- "$current"))
+        while IFS= read -r head; do
+            COMPREPLY+=("$head")
+        done < <(compgen -f -- "$current")
     fi
 }
 
