@@ -3,7 +3,7 @@
 
 ghost use Rattle.std.specs.Prelude.{◌≡◌, ℕ, List};
 ghost use Rattle.rpki_cli.specs.Language.{IsAsked};
-ghost use Rattle.rpki_cli.specs.Verify.CheckSettings.{IsCheckOf, IsRefusal};
+ghost use Rattle.rpki_cli.specs.Verify.CheckSettings.{IsCheckOf, IsRefusal, settings_error_text};
 ghost use Rattle.rpki_cli.specs.Verify.Kinds.{IsNameOf};
 ghost use Rattle.rpki_cli.specs.Verify.Moments.{NamesWhen};
 ghost use Rattle.rpki_cli.specs.Verify.Settings.{Arranged, IsRefusedFor, arranged_words};
@@ -66,4 +66,11 @@ pub fn checks_are_not_refused()
     ensures { (settings : List Setting) (files : List (List ℕ)) (c : CheckSettings)
         (e : SettingsError) → IsCheckOf settings files c → IsRefusal settings files e
         → e ≡ errors.Memory }
+{}
+
+/// Settings are refused for one cause, which has one text, unless memory runs out.
+pub fn settings_are_refused_for_one_cause()
+    ensures { (settings : List Setting) (files : List (List ℕ)) (a b : SettingsError)
+        → IsRefusal settings files a → IsRefusal settings files b → ¬ (a ≡ errors.Memory)
+        → ¬ (b ≡ errors.Memory) → settings_error_text a ≡ settings_error_text b }
 {}
