@@ -460,3 +460,6 @@ LARGE = [
     (f"a manifest of {COUNT} files", of_files),
     (f"a list of {COUNT} serial numbers", of_serials),
 ]
+# How many times the files of the copy a run may need, where that is more than in tools/runs: each
+# prefix of a ROA is a payload, and a line.
+TIMES = {of_prefixes: 24}

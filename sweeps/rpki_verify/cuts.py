@@ -79,23 +79,11 @@ impl RelyingParty for Teller {
     }
 }
 '''
-REPORTED = '''/// Reports on neither stream, on one, and on both.
-#[test]
-fn reports_are_cut(rt: HostRuntime) -> Result<(), Fail> {
-    let words = ["payloads", "--csv", "copy", "20270101000000Z", "second"];
-    for status in 0..2u8 {
-        for out in ["", "a", "found\\nmore\\n"] {
-            for err in ["", "b", "refused\\n"] {
-                let relying_party = Teller { out, err, status };
-                let program = Verify { clock: None, relying_party };
-                let said = (status, out.as_bytes(), err.as_bytes());
-                is_cut(&rt, &program, &words, &files(), said)?;
-            }
-        }
-    }
-    Ok(())
-}
-'''
+# The status, and what a relying party reports on both streams.
+REPORTED = [(status, out, err) for status in (0, 1) for out in ("", "a", "found\nmore\n")
+            for err in ("", "b", "refused\n")]
+# A pass takes long: of its answers each of so many calls fails, and of the same reports each.
+EACH = 29
 # What stands in the copy, and what is reported of it.
 PARTS = "rpki.example.net", "ta"
 ORIGINS = "origin AS64496 192.0.2.0/24-26\norigin AS64496 2001:db8::/32-48\n"
@@ -183,13 +171,13 @@ def quoted(of):
     return text(of.replace("\\", "\\\\").replace('"', '\\"'))
 
 
-def print_test(name, program, words, status, out, err):
+def print_test(name, program, words, status, out, err, each=1):
     listed = ", ".join(text(it) for it in words)
     print(f"#[test]\nfn {name}(rt: HostRuntime) -> Result<(), Fail> {{")
     print(f"    let words: [&str; {len(words)}] = [{listed}];")
     print(f"    let said: (u8, &[u8], &[u8]) = ({status}, b{quoted(out)}, b{quoted(err)});")
     print(f"    let program = {program};")
-    print("    is_cut(&rt, &program, &words, &given(&files()), said)?;\n    Ok(())\n}\n")
+    print(f"    is_cut(&rt, &program, &words, &given(&files()), said, {each})?;\n    Ok(())\n}}\n")
 
 
 def print_octets(name, octets):
@@ -237,8 +225,13 @@ def main():
         print_test(f"cut_{number}", program, words, status, out, err)
     for number, (words, status, out, err) in enumerate(PAYLOADS):
         program = "Verify { clock: None, relying_party: FolderParty::new(&Examples) }"
-        print_test(f"payloads_{number}", program, words, status, out, err)
-    print(REPORTED)
+        print_test(f"payloads_{number}", program, words, status, out, err, EACH)
+    reported = [(status, out, err) for _, status, out, err in PAYLOADS if status < 2] + REPORTED
+    words = payloads("--csv", ["second"])
+    for number, (status, out, err) in enumerate(reported):
+        teller = f"Teller {{ out: {quoted(out)}, err: {quoted(err)}, status: {status} }}"
+        program = f"Verify {{ clock: None, relying_party: {teller} }}"
+        print_test(f"reported_{number}", program, words, status, out, err)
 
 
 if __name__ == "__main__":
