@@ -82,8 +82,10 @@ impl RelyingParty for Teller {
 # The status, and what a relying party reports on both streams.
 REPORTED = [(status, out, err) for status in (0, 1) for out in ("", "a", "found\nmore\n")
             for err in ("", "b", "refused\n")]
-# A pass takes long: of its answers each of so many calls fails, and of the same reports each.
-EACH = 29
+# A pass takes long, and so does what verifies signatures and says much: of its answers each of so
+# many calls fails. Of the same reports each one does.
+EACH, LONG = 29, 100
+SIGNED = ("check",), ("walk",), ("rta",), ("verdicts",)
 # What stands in the copy, and what is reported of it.
 PARTS = "rpki.example.net", "ta"
 ORIGINS = "origin AS64496 192.0.2.0/24-26\norigin AS64496 2001:db8::/32-48\n"
@@ -222,7 +224,9 @@ def main():
     for number, (words, now, status, said) in enumerate(rows()):
         program = f"Verify {{ clock: {moment(now)}, relying_party: Nobody }}"
         out, err = (said, "") if status < 2 else ("", said)
-        print_test(f"cut_{number}", program, words, status, out, err)
+        is_long = status < 2 and len(said) > LONG and command_of(words)[:1] in SIGNED
+        each = EACH if is_long else 1
+        print_test(f"cut_{number}", program, words, status, out, err, each)
     for number, (words, status, out, err) in enumerate(PAYLOADS):
         program = "Verify { clock: None, relying_party: FolderParty::new(&Examples) }"
         print_test(f"payloads_{number}", program, words, status, out, err, EACH)
