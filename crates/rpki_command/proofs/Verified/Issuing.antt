@@ -1,6 +1,6 @@
 -- Certificates of a chain, one after the other, where their files have names.
 use Rattle.std.proofs.Common.{◌≡◌, ◌∙◌, ℕ, List, [], ◌∷◌, ◌++◌, Result, Ok, Err, Option, Some, None}
-use Rattle.std.proofs.Common.{Bor, Vec, Global, refl, sym, ap, subst, inl, inr, map, append_assoc}
+use Rattle.std.proofs.Common.{Bor, Vec, Global, refl, sym, ap, subst, inr, append_assoc}
 use Rattle.std.proofs.lemmas.List.{map-append}
 use Rattle.std.proofs.lemmas.List.Elements.{All-nil}
 use Rattle.std.specs.List.{zip}
@@ -12,10 +12,10 @@ use Rattle.rpki_certs.specs.Verify.{Verdict}
 use Rattle.rpki_certs.specs.declared.issuer.IssuerError.{IssuerError}
 use Rattle.rpki_command.proofs.Verified.Zipped.{AreDoneTo, next-cut, next-done}
 use Rattle.rpki_command.specs.Verify.Issuers.{CertFiles, GivenLocator, octets_in, Make, under}
-use Rattle.rpki_command.specs.Verify.Issuers.{IsUnrevokedIn, AreUnrevoked, IsIssuerOf, IsFirstIn}
+use Rattle.rpki_command.specs.Verify.Issuers.{IsUnrevokedIn, IsIssuerOf, IsFirstIn}
 use Rattle.rpki_command.specs.Verify.Issuers.{IsFaultAt, IsIssuerMade, IsNextMade, IsNextFault}
 use Rattle.rpki_command.specs.Verify.Issuers.{HasKeyOf, IsKeyed, IsLastRevoked}
-use Rattle.rpki_command.specs.Verify.Revoked.{File, GivenList, Revokes, IsUnrevoked}
+use Rattle.rpki_command.specs.Verify.Revoked.{File, GivenList, Revokes}
 use Rattle.rpki_command.specs.declared.verify.issuers.IssuerFault.{IssuerFault}
 use Rattle.rpki_command.specs.declared.verify.issuers.IssuerFault.TheVariants.{Error, OtherKey}
 use Rattle.rpki_command.specs.declared.verify.issuers.IssuerFault.TheVariants.{Revoked}

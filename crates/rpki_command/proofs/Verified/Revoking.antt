@@ -1,6 +1,6 @@
 -- Which list revokes a certificate first.
 use Rattle.std.proofs.Common.{◌≡◌, ◌<◌, ◌+◌, ◌∙◌, ℕ, suc, List, [], ◌∷◌, ◌++◌, All, Err, Vec, Global}
-use Rattle.std.proofs.Common.{Bool, true, false, refl, sym, ap, subst, arith, length, get_or, take, drop}
+use Rattle.std.proofs.Common.{Bool, true, false, sym, ap, subst, arith, length, get_or, take, drop}
 use Rattle.std.proofs.Math.Seq.{drop-cons}
 use Rattle.std.proofs.lemmas.List.{take-append-drop}
 use Rattle.std.proofs.lemmas.List.Elements.{All-nil, All-cons}
@@ -10,10 +10,9 @@ use Rattle.rpki_certs.specs.Cert.{Certificate}
 use Rattle.rpki_certs.specs.Issuer.{octets_of}
 use Rattle.rpki_certs.specs.Verify.{Verdict}
 use Rattle.rpki_crls.specs.Crl.{RevocationList}
-use Rattle.rpki_cli.specs.Words.{texts}
 use Rattle.rpki_command.proofs.Verified.Zipped.{AreMadeTo, next-cut}
 use Rattle.rpki_command.specs.Verify.Revoked.{File, GivenList, Revokes, IsUnrevoked, IsRevokedBy}
-use Rattle.rpki_command.specs.Verify.Revoked.{IsList, IsGivenList, AreLists, IsOneList, IsFirstNoList}
+use Rattle.rpki_command.specs.Verify.Revoked.{IsList, IsGivenList, AreLists, IsOneList}
 use Rattle.rpki_command.specs.declared.verify.revoked.NotLists.{NotLists}
 use Rattle.rpki_command.specs.declared.verify.revoked.NotLists.TheVariants.{Bad, Memory}
 
