@@ -65,12 +65,21 @@ class Results:
     def factor(self, work, count, what, by="plain"):
         return divided(self.value(work, "library", count, what), self.value(work, by, count, what))
 
+    def openssl(self, bits):
+        """Nanoseconds of a power."""
+        found = self.found["openssl"][str(bits)]
+        return found and found * 1e3
+
     def run(self, subject, blocks, prefixes, what):
         return self.runs.get((subject, blocks, prefixes), {}).get(what)
 
     def factor_of_run(self, blocks, prefixes, what):
         return divided(self.run("rpki_verify", blocks, prefixes, what),
                        self.run("rpki-client", blocks, prefixes, what))
+
+
+def twice(number):
+    return number and 2 * number
 
 
 def divided(one, other):
@@ -125,13 +134,13 @@ def compared(it):
             yield (what, "`rpki-client -f`", times,
                    it.factor_of_run(blocks, prefixes, "instructions"), OF_CLIENT)
     for bits in it.counts("verdict"):
-        ours, theirs = it.value("verdict", "library", bits), it.found["openssl"][str(bits)] * 1e3
+        ours, theirs = it.value("verdict", "library", bits), it.openssl(bits)
         yield (f"a verdict on a signature of {bits} bits", "`openssl`", divided(ours, theirs), None,
                OF_OPENSSL)
     ours, two = it.value("check-roa", "library", 1), it.value("verdict", "library", 2048)
     what = "checking a ROA of two prefixes, its CA at hand"
     yield (what, "its two verdicts", divided(ours, 2 * two), of_verdicts(it), OF_VERDICTS)
-    theirs = 2e3 * it.found["openssl"]["2048"]
+    theirs = twice(it.openssl(2048))
     yield what, "the same two by `openssl`", divided(ours, theirs), None, None
     for work, (what, entries) in READ.items():
         yield (f"{what}, {TYPICAL:,} {entries}", "plain Rust",
@@ -216,11 +225,11 @@ def single(it):
 def signatures(it):
     rows = []
     for bits in it.counts("verdict"):
-        ours, theirs = it.value("verdict", "library", bits), it.found["openssl"][str(bits)] * 1e3
+        ours, theirs = it.value("verdict", "library", bits), it.openssl(bits)
         rows.append([f"a verdict, {bits} bits", time(ours), time(theirs),
                      factor(divided(ours, theirs)),
                      said(it.value("verdict", "library", bits, "instructions"), ",.0f")])
-    ours, theirs = it.value("check-roa", "library", 1), 2e3 * it.found["openssl"]["2048"]
+    ours, theirs = it.value("check-roa", "library", 1), twice(it.openssl(2048))
     rows.append(["a check of a ROA of two prefixes with two verdicts, 2048 bits", time(ours),
                  f"{time(theirs)} (the verdicts)", factor(divided(ours, theirs)),
                  said(it.value("check-roa", "library", 1, "instructions"), ",.0f")])
@@ -243,7 +252,7 @@ def sets(it):
 def four(it):
     """The four rows of README."""
     run = [it.run(subject, 2, MOST, "processor") for subject in ("rpki_verify", "rpki-client")]
-    verdict = it.value("verdict", "library", 2048), it.found["openssl"]["2048"] * 1e3
+    verdict = it.value("verdict", "library", 2048), it.openssl(2048)
     read = [it.value("roa", by, TYPICAL) for by in ("library", "plain")]
     valid = [it.value("validate", by, 1) for by in ("library", "plain")]
     client = f"`rpki-client -f` {it.found['machine']['client']}"
