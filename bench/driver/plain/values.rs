@@ -1,5 +1,7 @@
 //! The same work in plain Rust, written by hand: a time and a key in DER.
 
+use crate::calls::sha1;
+
 /// The contents of the value at the front, which has this tag, and what follows it.
 fn value(tag: u8, octets: &[u8]) -> Option<(&[u8], &[u8])> {
     let (&first, rest) = octets.split_first()?;
@@ -71,14 +73,15 @@ pub fn time(octets: &[u8]) -> Option<u64> {
 const RSA_ENCRYPTION: [u8; 9] = [0x2A, 0x86, 0x48, 0x86, 0xF7, 0x0D, 0x01, 0x01, 0x01];
 
 /// The bits of a key, and the SHA-1 of them.
-pub struct Key {
-    pub bits: Vec<u8>,
+#[allow(dead_code)]
+pub struct Key<'a> {
+    pub bits: &'a [u8],
     pub identifier: [u8; 20],
 }
 
 /// The key at the front.
 #[inline(never)]
-pub fn key(octets: &[u8]) -> Option<Key> {
+pub fn key(octets: &[u8]) -> Option<Key<'_>> {
     let (fields, _) = value(0x30, octets)?;
     let (algorithm, rest) = value(0x30, fields)?;
     let (oid, null) = value(0x06, algorithm)?;
@@ -87,46 +90,5 @@ pub fn key(octets: &[u8]) -> Option<Key> {
         && (null.is_empty() || null == [0x05, 0x00])
         && rest.is_empty()
         && bits.first() == Some(&0);
-    is_key.then(|| Key { bits: bits[1..].to_vec(), identifier: sha1(&bits[1..]) })
-}
-
-/// SHA-1 (FIPS 180-4).
-fn sha1(octets: &[u8]) -> [u8; 20] {
-    let mut state = [0x6745_2301u32, 0xEFCD_AB89, 0x98BA_DCFE, 0x1032_5476, 0xC3D2_E1F0];
-    let mut chunks = octets.chunks_exact(64);
-    chunks.by_ref().for_each(|chunk| block(&mut state, chunk));
-    let mut last = [0; 128];
-    let rest = chunks.remainder();
-    last[..rest.len()].copy_from_slice(rest);
-    last[rest.len()] = 0x80;
-    let len = if rest.len() < 56 { 64 } else { 128 };
-    last[len - 8..len].copy_from_slice(&(octets.len() as u64 * 8).to_be_bytes());
-    last[..len].chunks_exact(64).for_each(|chunk| block(&mut state, chunk));
-    let mut digest = [0; 20];
-    digest.chunks_exact_mut(4).zip(state).for_each(|(out, word)| out.copy_from_slice(&word.to_be_bytes()));
-    digest
-}
-
-fn block(state: &mut [u32; 5], chunk: &[u8]) {
-    let mut words = [0u32; 80];
-    for (word, four) in words.iter_mut().zip(chunk.chunks_exact(4)) {
-        *word = u32::from_be_bytes([four[0], four[1], four[2], four[3]]);
-    }
-    for i in 16..80 {
-        words[i] = (words[i - 3] ^ words[i - 8] ^ words[i - 14] ^ words[i - 16]).rotate_left(1);
-    }
-    let [mut a, mut b, mut c, mut d, mut e] = *state;
-    for (i, word) in words.into_iter().enumerate() {
-        let (f, k) = match i {
-            0..20 => ((b & c) | (!b & d), 0x5A82_7999),
-            20..40 => (b ^ c ^ d, 0x6ED9_EBA1),
-            40..60 => ((b & c) | (b & d) | (c & d), 0x8F1B_BCDC),
-            _ => (b ^ c ^ d, 0xCA62_C1D6u32),
-        };
-        let next = a.rotate_left(5).wrapping_add(f).wrapping_add(e).wrapping_add(k).wrapping_add(word);
-        (a, b, c, d, e) = (next, a, b.rotate_left(30), c, d);
-    }
-    for (sum, word) in state.iter_mut().zip([a, b, c, d, e]) {
-        *sum = sum.wrapping_add(word);
-    }
+    is_key.then(|| Key { bits: &bits[1..], identifier: sha1(&bits[1..]) })
 }

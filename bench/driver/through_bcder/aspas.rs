@@ -36,7 +36,7 @@ fn customer<S: Source>(cons: &mut Constructed<S>) -> Result<u32, S::Err> {
 
 /// Reads a content, and calls `each` at each provider.
 #[inline]
-fn read(octets: &[u8], each: impl FnMut(u32)) -> Result<(), Error> {
+fn read(octets: Bytes, each: impl FnMut(u32)) -> Result<(), Error> {
     Mode::Der.decode(octets, |cons| {
         cons.take_sequence(|cons| {
             let customer = customer(cons)?;
@@ -46,8 +46,8 @@ fn read(octets: &[u8], each: impl FnMut(u32)) -> Result<(), Error> {
 }
 
 /// Reads a content, of which the octets of the providers are kept.
-fn kept(octets: &'static [u8]) -> Result<(u32, Captured), Error> {
-    Mode::Der.decode(Bytes::from_static(octets), |cons| {
+fn kept(octets: Bytes) -> Result<(u32, Captured), Error> {
+    Mode::Der.decode(octets, |cons| {
         cons.take_sequence(|cons| {
             let customer = customer(cons)?;
             let list = cons.take_sequence(|cons| cons.capture(|cons| providers(cons, customer, |_| {})))?;
@@ -57,7 +57,7 @@ fn kept(octets: &'static [u8]) -> Result<(u32, Captured), Error> {
 }
 
 /// The sum of the providers, which are read a second time from the octets that were kept.
-fn sum_of_kept(octets: &'static [u8]) -> Result<u64, Error> {
+pub fn sum_of_kept(octets: Bytes) -> Result<u64, Error> {
     let (_, list) = black_box(kept(octets)?);
     list.decode(|cons| {
         let mut sum = 0;
@@ -68,23 +68,9 @@ fn sum_of_kept(octets: &'static [u8]) -> Result<u64, Error> {
     })
 }
 
-pub fn twice(octets: &'static [u8], rounds: u32) -> u64 {
-    (0..rounds).map(|_| sum_of_kept(black_box(octets)).expect("a content")).sum()
-}
-
-pub fn decode(octets: &[u8], rounds: u32) -> u64 {
-    let one = |octets: &[u8]| {
-        let mut providers: Vec<u32> = Vec::new();
-        read(octets, |provider| providers.push(provider)).map(|()| providers)
-    };
-    (0..rounds).map(|_| black_box(one(black_box(octets))).is_ok() as u64).sum()
-}
-
-pub fn walk(octets: &[u8], rounds: u32) -> u64 {
-    let one = |octets: &[u8]| {
-        let mut sum = 0;
-        read(octets, |provider| sum += u64::from(provider)).expect("a content");
-        sum
-    };
-    (0..rounds).map(|_| one(black_box(octets))).sum()
+/// The sum of the providers, none of which is kept.
+pub fn sum_of(octets: Bytes) -> Result<u64, Error> {
+    let mut sum = 0;
+    read(octets, |provider| sum += u64::from(provider))?;
+    Ok(sum)
 }

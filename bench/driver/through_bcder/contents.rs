@@ -1,8 +1,8 @@
 //! The same work through the crate bcder, with the tests that the formats ask: a content keeps the octets of its
 //! entries, which are tested when it is read, and which are gone over a second time.
 
-use crate::der::generalized_time;
-use crate::plain::{Address, Blocks, SHA_256, ends, is_file_name, is_portable, is_registered, joined};
+use crate::plain::der::generalized_time;
+use crate::plain::contents::{Address, Blocks, SHA_256, ends, is_file_name, is_portable, is_registered, joined};
 use bcder::decode::{Constructed, Error, Source};
 use bcder::{BitString, Captured, Ia5String, Mode, OctetString, Oid, Tag, Unsigned};
 use bytes::Bytes;
@@ -34,8 +34,8 @@ fn take_opt_file<S: Source>(cons: &mut Constructed<S>) -> Result<Option<(Bytes, 
     })
 }
 
-fn manifest(octets: &'static [u8]) -> Result<(Unsigned, u64, u64, Captured), Error> {
-    Mode::Der.decode(Bytes::from_static(octets), |cons| {
+fn manifest(octets: Bytes) -> Result<(Unsigned, u64, u64, Captured), Error> {
+    Mode::Der.decode(octets, |cons| {
         cons.take_sequence(|cons| {
             skip_version(cons)?;
             let number = Unsigned::take_from(cons)?;
@@ -52,7 +52,7 @@ fn manifest(octets: &'static [u8]) -> Result<(Unsigned, u64, u64, Captured), Err
     })
 }
 
-fn sum_of_manifest(octets: &'static [u8]) -> Result<u64, Error> {
+pub fn sum_of_manifest(octets: Bytes) -> Result<u64, Error> {
     let (_, _, _, files) = black_box(manifest(octets)?);
     sum_of_files(files)
 }
@@ -68,12 +68,8 @@ fn sum_of_files(files: Captured) -> Result<u64, Error> {
     })
 }
 
-pub fn walk_manifest(octets: &'static [u8], rounds: u32) -> u64 {
-    (0..rounds).map(|_| sum_of_manifest(black_box(octets)).expect("a manifest")).sum()
-}
-
 /// The same where each name has to have a registered type, and none may come twice.
-fn sum_of_registered(octets: &'static [u8]) -> Result<u64, Error> {
+pub fn sum_of_registered(octets: Bytes) -> Result<u64, Error> {
     let (_, _, _, files) = black_box(manifest(octets)?);
     let mut seen = BTreeSet::new();
     files.clone().decode(|cons| {
@@ -84,10 +80,6 @@ fn sum_of_registered(octets: &'static [u8]) -> Result<u64, Error> {
     })?;
     drop(seen);
     sum_of_files(files)
-}
-
-pub fn walk_registered(octets: &'static [u8], rounds: u32) -> u64 {
-    (0..rounds).map(|_| sum_of_registered(black_box(octets)).expect("a manifest")).sum()
 }
 
 /// A number, or a range of them.
@@ -177,8 +169,8 @@ fn take_opt_listed<S: Source>(cons: &mut Constructed<S>) -> Result<Option<(Optio
     })
 }
 
-fn checklist(octets: &'static [u8]) -> Result<([Option<Blocks>; 3], Captured), Error> {
-    Mode::Der.decode(Bytes::from_static(octets), |cons| {
+fn checklist(octets: Bytes) -> Result<([Option<Blocks>; 3], Captured), Error> {
+    Mode::Der.decode(octets, |cons| {
         cons.take_sequence(|cons| {
             skip_version(cons)?;
             let sets = take_resources(cons)?;
@@ -198,7 +190,7 @@ fn checklist(octets: &'static [u8]) -> Result<([Option<Blocks>; 3], Captured), E
 }
 
 /// The sum of the lengths of the names, or of 1 where there is none, and of the octets in front of the hashes.
-fn sum_of_rsc(octets: &'static [u8]) -> Result<u64, Error> {
+pub fn sum_of_checklist(octets: Bytes) -> Result<u64, Error> {
     let (_, files) = black_box(checklist(octets)?);
     files.decode(|cons| {
         let mut sum = 0;
@@ -207,10 +199,6 @@ fn sum_of_rsc(octets: &'static [u8]) -> Result<u64, Error> {
         }
         Ok(sum)
     })
-}
-
-pub fn walk_rsc(octets: &'static [u8], rounds: u32) -> u64 {
-    (0..rounds).map(|_| sum_of_rsc(black_box(octets)).expect("a checklist")).sum()
 }
 
 fn take_opt_address<S: Source>(cons: &mut Constructed<S>) -> Result<Option<Address>, S::Err> {
@@ -234,8 +222,8 @@ fn take_addresses<S: Source>(cons: &mut Constructed<S>, most: u8) -> Result<Capt
     })
 }
 
-fn roa(octets: &'static [u8]) -> Result<(u32, [Option<Captured>; 2]), Error> {
-    Mode::Der.decode(Bytes::from_static(octets), |cons| {
+fn roa(octets: Bytes) -> Result<(u32, [Option<Captured>; 2]), Error> {
+    Mode::Der.decode(octets, |cons| {
         cons.take_sequence(|cons| {
             skip_version(cons)?;
             let as_id = cons.take_u32()?;
@@ -257,7 +245,7 @@ fn roa(octets: &'static [u8]) -> Result<(u32, [Option<Captured>; 2]), Error> {
 }
 
 /// The sum of the upper halves of the bits of the addresses and of their maximum lengths.
-fn sum_of_roa(octets: &'static [u8]) -> Result<u64, Error> {
+pub fn sum_of_roa(octets: Bytes) -> Result<u64, Error> {
     let (_, families) = black_box(roa(octets)?);
     let mut sum = 0u64;
     for addresses in families.into_iter().flatten() {
@@ -269,8 +257,4 @@ fn sum_of_roa(octets: &'static [u8]) -> Result<u64, Error> {
         })?;
     }
     Ok(sum)
-}
-
-pub fn walk_roa(octets: &'static [u8], rounds: u32) -> u64 {
-    (0..rounds).fold(0, |sum: u64, _| sum.wrapping_add(sum_of_roa(black_box(octets)).expect("an attestation")))
 }

@@ -2,7 +2,7 @@
 //! content keeps the octets of its entries, all of which are tested when it is read, and an entry is read from them when
 //! it is asked for.
 
-use crate::der::Reader;
+use super::der::Reader;
 use std::collections::BTreeSet;
 
 /// SHA-256.

@@ -1,5 +1,8 @@
 //! The same work in plain Rust, written by hand: blocks are pairs of a first and a last number.
 
+/// The first and the last number of each block.
+pub type Set<T> = Vec<(T, T)>;
+
 /// A number of a set, and the one after it, if there is one.
 pub trait Number: Copy + Ord {
     fn after(self) -> Option<Self>;
