@@ -21,8 +21,8 @@ loop-uri-preserved-in-Ok-None g c =
     (iter_rest c.next.new.self) c.in-Some.uri.now c.in-Some.ensures.steps
     (sym c.in-Ok-None.ensures ∙ c.in-Ok-None.field-0-is)
 
-pub loop-uri-preserved-in-Ok-false : goal.loop-uri-preserved-in-Ok-false
-loop-uri-preserved-in-Ok-false g c =
+pub loop-uri-preserved : goal.loop-uri-preserved
+loop-uri-preserved g c =
     more-others (g.S.LocalCopy.cached c.args.copy.now) c.args.tal.now.key c.args.tal.now.uris
     (iter_rest c.loop-uri.uri-iterator) c.loop-uri.are_missing c.loop-uri.invariant
     (iter_rest c.next.new.self) c.in-Some.uri.now c.in-Some.ensures.steps c.in-Ok-Some.octets
