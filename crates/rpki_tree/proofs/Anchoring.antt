@@ -1,6 +1,6 @@
 -- The trust anchor of a locator is found, or there is none.
 use Rattle.std.proofs.Common.{◌≡◌, inl, inr, ℕ, List, [], ◌∷◌, ◌++◌, Option, Some, None, Ok, Err}
-use Rattle.std.proofs.Common.{Result, MatchResult, IfErr, append_assoc, refl, sym, subst}
+use Rattle.std.proofs.Common.{Result, MatchResult, IfErr, append_assoc, sym, subst}
 use Rattle.std.proofs.Common.{ap, ◌∙◌}
 use Rattle.std.proofs.Common.{All, Contains, get_or, drop, Bool, true, false, IsTrue, true≢false}
 use Rattle.std.specs.Prelude.{◌↔◌}
