@@ -14,11 +14,12 @@ use Rattle.rpki_tree.specs.Tree.{IsFinding}
 use Rattle.rpki_tree.specs.declared.found.Finding.{Finding}
 use Rattle.rpki_tree.specs.declared.locator.PassFault.{PassFault}
 use Rattle.rpki_tree.specs.declared.locator.PassFault.TheVariants.{Memory}
-use Rattle.rpki_folder.specs.Locators.{File, IsLocated}
+use Rattle.rpki_folder.specs.Locators.{File, IsNamedLocator}
 use Rattle.rpki_folder.specs.Party.{Party}
-use Rattle.rpki_folder.specs.Passed.{Outcome, Passed, IsOutcome, IsUnder, IsPassed}
+use Rattle.rpki_folder.specs.Outcomes.{AnchorOutcome, Outcome, IsOutcome, IsOutcomeOf}
+use Rattle.rpki_folder.specs.Outcomes.{IsOutcomeUnder}
 use Rattle.rpki_folder.specs.Report.{IsReport, IsReportUnder}
-use Rattle.rpki_folder.specs.declared.locators.Located.{Located}
+use Rattle.rpki_folder.specs.declared.locators.NamedLocator.{NamedLocator}
 
 -- one pass more
 pub pass-more : {A B : Type 0} (R : A → B → Type 0) (xs : List A) (place : ℕ) (d : A)
@@ -65,34 +66,34 @@ module _ (told : Option (List ℕ → Option (List ℕ)))
       )
 
 module _ (party : Party) (request : PayloadsRequest) where
-  abbrev under : Located → Passed → Type 0
-  under l passed = IsUnder party request l.name.now l.locator passed
+  abbrev under : NamedLocator → AnchorOutcome → Type 0
+  under l a = IsOutcomeUnder party request l.name.now l.locator a
 
   -- what the passes come to, of the files of the locators
-  of-files : (files : List File) (located : List Located) (passed : List Passed)
-      → AllZip IsLocated files located → AllZip under located passed
-      → AllZip (IsPassed party request) files passed
+  of-files : (files : List File) (locators : List NamedLocator) (outcomes : List AnchorOutcome)
+      → AllZip IsNamedLocator files locators → AllZip under locators outcomes
+      → AllZip (IsOutcomeOf party request) files outcomes
   of-files [] [] [] h u = tt
-  of-files [] [] (p ∷ passed) h u = absurd u
-  of-files [] (l ∷ located) passed h u = absurd h
-  of-files (f ∷ files) [] passed h u = absurd h
-  of-files (f ∷ files) (l ∷ located) [] h u = absurd u
-  of-files (f ∷ files) (l ∷ located) (p ∷ passed) h u = (
+  of-files [] [] (p ∷ outcomes) h u = absurd u
+  of-files [] (l ∷ locators) outcomes h u = absurd h
+  of-files (f ∷ files) [] outcomes h u = absurd h
+  of-files (f ∷ files) (l ∷ locators) [] h u = absurd u
+  of-files (f ∷ files) (l ∷ locators) (p ∷ outcomes) h u = (
     (
       l.locator,
       h.0.1,
-      subst (λ (name : List ℕ). IsUnder party request name l.locator p) h.0.0 u.0,
+      subst (λ (name : List ℕ). IsOutcomeUnder party request name l.locator p) h.0.0 u.0,
     ),
-    of-files files located passed h.1 u.1,
+    of-files files locators outcomes h.1 u.1,
   )
 
   -- what is reported under locators that were read, of their files
-  pub is-report : (octets : List (List ℕ)) (located : List Located) (s : Output)
-      → AllZip IsLocated (zip request.locators octets) located
-      → IsReportUnder party request located s → IsReport party request octets s
-  is-report octets located s h (inl memory) = inl memory
-  is-report octets located s h (inr u) = inr (inr (record {
-    passed = u.0;
-    each = of-files (zip request.locators octets) located u.0 h u.1;
+  pub is-report : (octets : List (List ℕ)) (locators : List NamedLocator) (s : Output)
+      → AllZip IsNamedLocator (zip request.locators octets) locators
+      → IsReportUnder party request locators s → IsReport party request octets s
+  is-report octets locators s h (inl memory) = inl memory
+  is-report octets locators s h (inr u) = inr (inr (record {
+    outcomes = u.0;
+    each = of-files (zip request.locators octets) locators u.0 h u.1;
     says = u.2;
   }))

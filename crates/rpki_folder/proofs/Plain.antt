@@ -24,7 +24,8 @@ no-length (o ∷ s) e = absurd cc
 empty : (s : List ℕ) → (length s == 0) ≡ true → s ≡ []
 empty [] e = refl
 empty (o ∷ s) e =
-    let none : length (o ∷ s) ≡ 0 = (Decides-eqb (length (o ∷ s)) 0).0 e in absurd (omega (arith, none))
+    let none : length (o ∷ s) ≡ 0 = (Decides-eqb (length (o ∷ s)) 0).0 e in
+    absurd (omega (arith, none))
 
 plain : (s : List ℕ) → is_plain s ≡ true → IsPlain s
 plain s h =

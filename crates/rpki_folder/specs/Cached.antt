@@ -8,8 +8,8 @@ use Rattle.rpki_tal.specs.declared.uri.TalUri.{TalUri}
 use Rattle.rpki_folder.specs.Names.{is_below, path_of, anchor_name}
 
 -- what a folder has under a name, where the name leads to a file below it
-abbrev pub below : (List ℕ → Option (List ℕ)) → List ℕ → Option (List ℕ)
-below all name = if is_below name then all name else None
+abbrev pub octets_below : (List ℕ → Option (List ℕ)) → List ℕ → Option (List ℕ)
+octets_below all name = if is_below name then all name else None
 
 -- whether this is the text of one of these URIs
 abbrev pub is_among : List TalUri → List ℕ → Bool
@@ -21,8 +21,8 @@ is_among uris text = list_any (λ u. bytes_eq (uri_text u) text) uris
 abbrev pub cached_in : (List ℕ → Option (List ℕ)) → List ℕ → Locator → List ℕ → Option (List ℕ)
 cached_in all name tal uri =
     if is_among tal.uris uri
-    then option_or (below all (anchor_name name uri)) (below all (path_of uri))
-    else below all (path_of uri)
+    then option_or (octets_below all (anchor_name name uri)) (octets_below all (path_of uri))
+    else octets_below all (path_of uri)
 
 -- what folders tell of this one as a copy of the repositories, where they tell
 abbrev pub told_in : Option (List ℕ → List ℕ → Option (List ℕ)) → List ℕ → List ℕ → Locator

@@ -2,5 +2,5 @@ pub mod Cached
 pub mod Locators
 pub mod Names
 pub mod Party
-pub mod Passed
+pub mod Outcomes
 pub mod Report

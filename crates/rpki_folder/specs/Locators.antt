@@ -7,9 +7,9 @@ use Rattle.rpki_tal.specs.Tal.{Locator}
 use Rattle.rpki_tal.specs.declared.error.ReadError.{ReadError}
 use Rattle.rpki_tal.specs.declared.error.ReadError.TheVariants as errors
 use Rattle.rpki_folder.specs.Names.{locator_name}
-use Rattle.rpki_folder.specs.declared.locators.Located.{Located}
-use Rattle.rpki_folder.specs.declared.locators.NotLocated.{NotLocated}
-use Rattle.rpki_folder.specs.declared.locators.NotLocated.TheVariants.{Bad, Memory}
+use Rattle.rpki_folder.specs.declared.locators.NamedLocator.{NamedLocator}
+use Rattle.rpki_folder.specs.declared.locators.LocatorFault.{LocatorFault}
+use Rattle.rpki_folder.specs.declared.locators.LocatorFault.TheVariants.{Bad, Memory}
 
 -- a file: the word that names it, and its octets
 abbrev pub File : Type 0
@@ -29,24 +29,24 @@ pub record IsFirstBad (files : List File) (word : List ℕ) : Type 0 where
   pub bad : IsNoTal octets
 
 -- what is read of a file that is a locator
-abbrev pub IsLocated : File → Located → Type 0
-IsLocated file l = (l.name.now ≡ locator_name file.0) × IsLocator file l.locator
+abbrev pub IsNamedLocator : File → NamedLocator → Type 0
+IsNamedLocator file l = (l.name.now ≡ locator_name file.0) × IsLocator file l.locator
 
 -- why a file is no locator
-abbrev pub IsNotLocated : File → NotLocated → Type 0
-IsNotLocated file (Bad word) = (word.now ≡ file.0) × IsNoTal file.1
-IsNotLocated file Memory = Unit {0}
+abbrev pub IsNoLocator : File → LocatorFault → Type 0
+IsNoLocator file (Bad word) = (word.now ≡ file.0) × IsNoTal file.1
+IsNoLocator file Memory = Unit {0}
 
 -- the fault of a file that this word names, where it is refused so as a locator: want of memory is
 -- that, and every other fault says that it is none
-abbrev pub IsFaultOf : ReadError → List ℕ → NotLocated → Type 0
+abbrev pub IsFaultOf : ReadError → List ℕ → LocatorFault → Type 0
 IsFaultOf errors.Memory word fault = fault ≡ Memory
 IsFaultOf error word Memory = ⊥
 IsFaultOf error word (Bad same) = same.now ≡ word
 
 -- what is read of files: the locators, in their order, or the first that is none, unless memory
 -- runs out
-abbrev pub AreLocated : List File → Result (Vec Located Global) NotLocated → Type 0
-AreLocated files (Ok located) = AllZip IsLocated files located.items
-AreLocated files (Err (Bad word)) = IsFirstBad files word.now
-AreLocated files (Err Memory) = Unit {0}
+abbrev pub AreLocators : List File → Result (Vec NamedLocator Global) LocatorFault → Type 0
+AreLocators files (Ok locators) = AllZip IsNamedLocator files locators.items
+AreLocators files (Err (Bad word)) = IsFirstBad files word.now
+AreLocators files (Err Memory) = Unit {0}

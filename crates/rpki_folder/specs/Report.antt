@@ -11,8 +11,8 @@ use Rattle.rpki_payloads.specs.Texts.Refusals.{refusals_text}
 use Rattle.rpki_tree.specs.Texts.{pass_fault_text}
 use Rattle.rpki_folder.specs.Locators.{File, IsFirstBad}
 use Rattle.rpki_folder.specs.Party.{Party}
-use Rattle.rpki_folder.specs.Passed.{Outcome, Passed, IsPassed, IsUnder}
-use Rattle.rpki_folder.specs.declared.locators.Located.{Located}
+use Rattle.rpki_folder.specs.Outcomes.{Outcome, AnchorOutcome, IsOutcomeOf, IsOutcomeUnder}
+use Rattle.rpki_folder.specs.declared.locators.NamedLocator.{NamedLocator}
 
 -- what was found under the locator with this name, if there is an answer
 abbrev pub found_under : List ℕ → Outcome → Option Found
@@ -20,8 +20,8 @@ found_under name (Ok found) = Some (record { name = name; findings = found })
 found_under name (Err fault) = None
 
 -- what was found under the locators that have an answer, in their order
-abbrev pub found_in : List Passed → List Found
-found_in passed = filter_map (λ p. found_under p.name p.outcome) passed
+abbrev pub found_in : List AnchorOutcome → List Found
+found_in outcomes = filter_map (λ p. found_under p.name p.outcome) outcomes
 
 -- refused anchor: not in the copy
 abbrev pub outcome_line : List ℕ → Outcome → List ℕ
@@ -30,36 +30,37 @@ outcome_line name (Err fault) =
     codes "refused " ++ (name ++ (codes ": " ++ (pass_fault_text fault ++ codes "\n")))
 
 -- a line for each locator that has no answer, in their order
-abbrev pub faults_text : List Passed → List ℕ
-faults_text passed = flat_map (λ p. outcome_line p.name p.outcome) passed
+abbrev pub faults_text : List AnchorOutcome → List ℕ
+faults_text outcomes = flat_map (λ p. outcome_line p.name p.outcome) outcomes
 
 -- what is refused: locators, and what is below the others
-abbrev pub refused_text : List Passed → List ℕ
-refused_text passed = faults_text passed ++ refusals_text (found_in passed)
+abbrev pub refused_text : List AnchorOutcome → List ℕ
+refused_text outcomes = faults_text outcomes ++ refusals_text (found_in outcomes)
 
 -- the exit status: 0 where each locator has an answer
-abbrev pub status_of : List Passed → ℕ
-status_of passed = if list_all (λ p. is_ok p.outcome) passed then 0 else 1
+abbrev pub status_of : List AnchorOutcome → ℕ
+status_of outcomes = if list_all (λ p. is_ok p.outcome) outcomes then 0 else 1
 
 -- what is said: payloads on standard output, and what is refused on standard error
-abbrev pub report : Format → List Passed → Output
-report format passed =
-    Reported (payloads_text format (found_in passed)) (refused_text passed) (status_of passed)
+abbrev pub report_of : Format → List AnchorOutcome → Output
+report_of format outcomes =
+    Reported (payloads_text format (found_in outcomes)) (refused_text outcomes) (status_of outcomes)
 
 -- this is reported of what the passes under these locators came to, one by one
 pub record IsReportOf (party : Party) (request : PayloadsRequest) (files : List File) (s : Output)
     : Type 0 where
-  pub passed : List Passed
-  pub each : AllZip (IsPassed party request) files passed
-  pub says : s ≡ report request.format passed
+  pub outcomes : List AnchorOutcome
+  pub each : AllZip (IsOutcomeOf party request) files outcomes
+  pub says : s ≡ report_of request.format outcomes
 
 -- what is reported under locators that were read, unless memory runs out
-abbrev pub IsReportUnder : Party → PayloadsRequest → List Located → Output → Type 0
-IsReportUnder party request located s =
+abbrev pub IsReportUnder : Party → PayloadsRequest → List NamedLocator → Output → Type 0
+IsReportUnder party request locators s =
     (s ≡ out_of_memory)
-    ⊎ ((passed : List Passed)
-    × AllZip (λ (l : Located). IsUnder party request l.name.now l.locator) located passed
-    × (s ≡ report request.format passed))
+    ⊎ ((outcomes : List AnchorOutcome)
+    × AllZip (λ (l : NamedLocator). IsOutcomeUnder party request l.name.now l.locator) locators
+    outcomes
+    × (s ≡ report_of request.format outcomes))
 
 -- What is said to a request, whose locators have these octets in their files: that the first of
 -- them is bad which is none; or what the passes under them came to, unless memory runs out.

@@ -2,7 +2,7 @@
 
 ghost use Rattle.std.specs.Prelude.{◌≡◌, IfOk, IfSome};
 ghost use Rattle.std.specs.Option.{option_or};
-ghost use Rattle.rpki_folder.specs.Cached.{below, is_among, told_in};
+ghost use Rattle.rpki_folder.specs.Cached.{octets_below, is_among, told_in};
 ghost use Rattle.rpki_folder.specs.Names.{anchor_name, path_of};
 
 use crate::folders::Folders;
@@ -36,7 +36,7 @@ impl<'a, F: Folders> FolderCopy<'a, F> {
     // What the folder has under a name, where that leads to a file below it.
     fn read_below(&self, alloc: Global, name: &[u8]) -> Result<Option<Bytes>, AllocError>
         ensures { IfOk result (λ found. IfSome (F.told self.now.folders.now)
-            (λ all. found ≡ below (all self.now.folder.now) name.now)) }
+            (λ all. found ≡ octets_below (all self.now.folder.now) name.now)) }
     {
         if is_below(name) {
             self.folders.read(alloc, self.folder, name)
@@ -49,7 +49,7 @@ impl<'a, F: Folders> FolderCopy<'a, F> {
     fn read_anchor(&self, alloc: Global, uri: &[u8]) -> Result<Option<Bytes>, AllocError>
         ensures { IfOk result (λ found. IfSome (F.told self.now.folders.now)
             (λ all. found
-            ≡ below (all self.now.folder.now) (anchor_name self.now.name.now uri.now))) }
+            ≡ octets_below (all self.now.folder.now) (anchor_name self.now.name.now uri.now))) }
     {
         let name = anchor_name(alloc, self.name, uri)?;
         self.read_below(alloc, &name)
@@ -58,8 +58,9 @@ impl<'a, F: Folders> FolderCopy<'a, F> {
     // What it has for a URI of the locator.
     fn read_named(&self, alloc: Global, uri: &[u8]) -> Result<Option<Bytes>, AllocError>
         ensures { IfOk result (λ found. IfSome (F.told self.now.folders.now) (λ all. found
-            ≡ option_or (below (all self.now.folder.now) (anchor_name self.now.name.now uri.now))
-            (below (all self.now.folder.now) (path_of uri.now)))) }
+            ≡ option_or
+            (octets_below (all self.now.folder.now) (anchor_name self.now.name.now uri.now))
+            (octets_below (all self.now.folder.now) (path_of uri.now)))) }
     {
         match self.read_anchor(alloc, uri)? {
             Some(octets) => Ok(Some(octets)),

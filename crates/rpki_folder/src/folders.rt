@@ -36,9 +36,9 @@ impl<'a, R> SystemFolders<'a, R> {
     }
 }
 
-// Where a folder has the file with this name.
-fn place_of(alloc: Global, folder: &str, name: &str) -> Result<String, AllocError>
-    ensures { IfOk result (λ place. string_bytes place
+// The path of the file with this name below a folder.
+fn file_path(alloc: Global, folder: &str, name: &str) -> Result<String, AllocError>
+    ensures { IfOk result (λ path. string_bytes path
         ≡ folder.now ++ (codes "/" ++ name.now)) }
 {
     format!(in alloc; "{folder}/{name}")
@@ -52,8 +52,8 @@ impl<R: Files + AllocGlobal> Folders for SystemFolders<'_, R> {
         let Ok(name) = str::from_utf8(name) else {
             return Ok(None);
         };
-        let place = place_of(alloc, folder, name)?;
-        match fs::read(self.runtime, place.as_str()) {
+        let path = file_path(alloc, folder, name)?;
+        match fs::read(self.runtime, path.as_str()) {
             Ok(octets) => Ok(Some(Bytes::from_vec(octets)?)),
             Err(error) => match error.kind() {
                 io::ErrorKind::OutOfMemory => Err(AllocError),

@@ -7,8 +7,8 @@ mod folders;
 pub mod laws;
 mod locators;
 mod names;
+mod outcome;
 mod party;
-mod passed;
 mod report;
 
 pub use copy::FolderCopy;

@@ -1,10 +1,10 @@
 //! Trust anchor locators in files.
 
-ghost use Rattle.std.specs.Prelude.{◌≡◌, MatchResult};
+ghost use Rattle.std.specs.Prelude.{MatchResult};
 ghost use Rattle.std.specs.List.{zip};
 ghost use Rattle.rpki_certs.specs.Issuer.{octets_of};
 ghost use Rattle.rpki_cli.specs.Words.{texts};
-ghost use Rattle.rpki_folder.specs.Locators.{AreLocated, IsLocated, IsNotLocated, IsFaultOf};
+ghost use Rattle.rpki_folder.specs.Locators.{AreLocators, IsNamedLocator, IsNoLocator, IsFaultOf};
 
 use crate::names::locator_name;
 use rpki_show::locator_of;
@@ -13,14 +13,14 @@ use std::alloc::Global;
 
 /// A locator, and its name.
 #[derive(Drop)]
-pub(crate) struct Located<'a> {
+pub(crate) struct NamedLocator<'a> {
     pub name: &'a str,
     pub locator: Tal,
 }
 
 /// Why files are not all locators.
 #[derive(Drop)]
-pub(crate) enum NotLocated<'a> {
+pub(crate) enum LocatorFault<'a> {
     /// This one is none.
     Bad(&'a str),
     /// No memory was to be had.
@@ -28,12 +28,16 @@ pub(crate) enum NotLocated<'a> {
 }
 
 // The locator in a file, which this word names.
-fn locate<'a>(alloc: Global, word: &'a str, octets: &[u8]) -> Result<Located<'a>, NotLocated<'a>>
-    ensures { MatchResult result (IsLocated (word.now, octets.now))
-        (IsNotLocated (word.now, octets.now)) }
+fn locate<'a>(
+    alloc: Global,
+    word: &'a str,
+    octets: &[u8],
+) -> Result<NamedLocator<'a>, LocatorFault<'a>>
+    ensures { MatchResult result (IsNamedLocator (word.now, octets.now))
+        (IsNoLocator (word.now, octets.now)) }
 {
     match locator_of(alloc, octets) {
-        Ok(locator) => Ok(Located {
+        Ok(locator) => Ok(NamedLocator {
             name: locator_name(word),
             locator,
         }),
@@ -42,16 +46,16 @@ fn locate<'a>(alloc: Global, word: &'a str, octets: &[u8]) -> Result<Located<'a>
 }
 
 // Why the file that this word names is no locator.
-fn fault_of<'a>(error: ReadError, word: &'a str) -> NotLocated<'a>
+fn fault_of<'a>(error: ReadError, word: &'a str) -> LocatorFault<'a>
     ensures { IsFaultOf error word.now result }
 {
     match error {
-        ReadError::Memory => NotLocated::Memory,
+        ReadError::Memory => LocatorFault::Memory,
         ReadError::Io
         | ReadError::UnexpectedEof
         | ReadError::BadUri(_)
         | ReadError::BadKeyInfoEncoding
-        | ReadError::BadKeyInfo(_) => NotLocated::Bad(word),
+        | ReadError::BadKeyInfo(_) => LocatorFault::Bad(word),
     }
 }
 
@@ -60,19 +64,19 @@ pub(crate) fn locators_in<'a>(
     alloc: Global,
     words: &[&'a str],
     files: &[Vec<u8>],
-) -> Result<Vec<Located<'a>>, NotLocated<'a>>
-    ensures { AreLocated (zip (texts words.now) (octets_of files.now)) result }
+) -> Result<Vec<NamedLocator<'a>>, LocatorFault<'a>>
+    ensures { AreLocators (zip (texts words.now) (octets_of files.now)) result }
 {
-    let mut located = Vec::new(alloc);
+    let mut locators = Vec::new(alloc);
     for (word, octets) in words.iter().zip(files.iter()) {
         match locate(alloc, word, octets) {
             Err(fault) => return Err(fault),
             Ok(one) => {
-                if located.push(one).is_err() {
-                    return Err(NotLocated::Memory);
+                if locators.push(one).is_err() {
+                    return Err(LocatorFault::Memory);
                 }
             }
         }
     }
-    Ok(located)
+    Ok(locators)
 }

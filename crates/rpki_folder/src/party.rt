@@ -1,17 +1,17 @@
 //! A relying party with a folder.
 
-ghost use Rattle.std.specs.Prelude.{◌≡◌, ◌⊎◌, IfOk, OnOk, ⊤};
+ghost use Rattle.std.specs.Prelude.{◌≡◌, IfOk};
 ghost use Rattle.std.specs.List.{AllZip};
-ghost use Rattle.rpki_cli.specs.Answer.{out_of_memory, said};
-ghost use Rattle.rpki_folder.specs.Party.{Party, party_of};
-ghost use Rattle.rpki_folder.specs.Passed.{IsUnder};
+ghost use Rattle.rpki_cli.specs.Answer.{said};
+ghost use Rattle.rpki_folder.specs.Party.{party_of};
+ghost use Rattle.rpki_folder.specs.Outcomes.{IsOutcomeUnder};
 ghost use Rattle.rpki_folder.specs.Report.{IsReport, IsReportUnder};
 
 use crate::copy::FolderCopy;
 use crate::folders::Folders;
-use crate::locators::{Located, NotLocated, locators_in};
-use crate::passed::Passed;
-use crate::report::report;
+use crate::locators::{LocatorFault, NamedLocator, locators_in};
+use crate::outcome::AnchorOutcome;
+use crate::report::report_outcomes;
 use rpki_basics::Crypto;
 use rpki_cli::answer::Answer;
 use rpki_cli::verify::{PayloadsRequest, RelyingParty};
@@ -20,7 +20,7 @@ use rpki_tree::{Pass, PassFault, findings};
 use std::alloc::{AllocError, Global};
 
 /// How many places are visited under a locator.
-const PLACES: usize = 1_000_000;
+const MOST_PLACES: usize = 1_000_000;
 
 /// A relying party that finds payloads in a folder.
 #[derive(Drop)]
@@ -42,7 +42,7 @@ impl<'a, F> FolderParty<'a, F, Rsa> {
         FolderParty {
             folders,
             crypto: &Rsa,
-            limit: PLACES,
+            limit: MOST_PLACES,
         }
     }
 }
@@ -57,11 +57,11 @@ impl<F: Folders, C: Crypto> RelyingParty for FolderParty<'_, F, C> {
         files: &[Vec<u8>],
     ) -> Answer<'a> {
         match locators_in(alloc, request.locators.0, files) {
-            Err(NotLocated::Bad(word)) => Answer::BadLocator(word),
-            Err(NotLocated::Memory) => Answer::OutOfMemory,
-            Ok(located) => {
-                let answer = report_under(alloc, self, request, &located);
-                drop(located);
+            Err(LocatorFault::Bad(word)) => Answer::BadLocator(word),
+            Err(LocatorFault::Memory) => Answer::OutOfMemory,
+            Ok(locators) => {
+                let answer = report_under(alloc, self, request, &locators);
+                drop(locators);
                 answer
             }
         }
@@ -73,16 +73,16 @@ fn report_under<'a, F: Folders, C: Crypto>(
     alloc: Global,
     party: &FolderParty<'_, F, C>,
     request: &PayloadsRequest<'_>,
-    located: &[Located<'_>],
+    locators: &[NamedLocator<'_>],
 ) -> Answer<'a>
     ensures { IsReportUnder (party_of F.told C.digest_of C.is_signed party.now) request.now
-        located.now (said result) }
+        locators.now (said result) }
 {
-    match pass_all(alloc, party, request, located) {
+    match pass_all(alloc, party, request, locators) {
         Err(_) => Answer::OutOfMemory,
-        Ok(passed) => {
-            let answer = report(alloc, request.format, &passed);
-            drop(passed);
+        Ok(outcomes) => {
+            let answer = report_outcomes(alloc, request.format, &outcomes);
+            drop(outcomes);
             answer
         }
     }
@@ -93,17 +93,17 @@ fn pass_all<'p, F: Folders, C: Crypto>(
     alloc: Global,
     party: &FolderParty<'_, F, C>,
     request: &PayloadsRequest<'_>,
-    located: &'p [Located<'_>],
-) -> Result<Vec<Passed<'p>>, AllocError>
-    ensures { IfOk result (λ passed. AllZip
-        (λ l. IsUnder (party_of F.told C.digest_of C.is_signed party.now) request.now l.name.now
-        l.locator) located.now passed.items) }
+    locators: &'p [NamedLocator<'_>],
+) -> Result<Vec<AnchorOutcome<'p>>, AllocError>
+    ensures { IfOk result (λ outcomes. AllZip
+        (λ l. IsOutcomeUnder (party_of F.told C.digest_of C.is_signed party.now) request.now
+        l.name.now l.locator) locators.now outcomes.items) }
 {
-    let mut passed = Vec::new(alloc);
-    for one in located {
-        passed.push(pass_under(alloc, party, request, one)?)?;
+    let mut outcomes = Vec::new(alloc);
+    for one in locators {
+        outcomes.push(pass_under(alloc, party, request, one)?)?;
     }
-    Ok(passed)
+    Ok(outcomes)
 }
 
 // What the pass under this locator comes to.
@@ -111,16 +111,16 @@ fn pass_under<'p, F: Folders, C: Crypto>(
     alloc: Global,
     party: &FolderParty<'_, F, C>,
     request: &PayloadsRequest<'_>,
-    located: &'p Located<'_>,
-) -> Result<Passed<'p>, AllocError>
-    ensures { IfOk result (IsUnder (party_of F.told C.digest_of C.is_signed party.now) request.now
-        located.now.name.now located.now.locator) }
+    named: &'p NamedLocator<'_>,
+) -> Result<AnchorOutcome<'p>, AllocError>
+    ensures { IfOk result (IsOutcomeUnder (party_of F.told C.digest_of C.is_signed party.now)
+        request.now named.now.name.now named.now.locator) }
 {
     let copy = FolderCopy {
         folders: party.folders,
         folder: request.copy.0,
-        name: located.name,
-        locator: &located.locator,
+        name: named.name,
+        locator: &named.locator,
     };
     let pass = Pass {
         copy: &copy,
@@ -128,12 +128,12 @@ fn pass_under<'p, F: Folders, C: Crypto>(
         moment: request.moment,
         providers: request.providers,
     };
-    match findings(alloc, &pass, &located.locator, party.limit) {
-        Ok(found) => Ok(Passed::found(located.name, found)),
+    match findings(alloc, &pass, &named.locator, party.limit) {
+        Ok(found) => Ok(AnchorOutcome::found(named.name, found)),
         Err(PassFault::Memory) => Err(AllocError),
-        Err(PassFault::Limit) => Ok(Passed::refused(located.name, PassFault::Limit)),
+        Err(PassFault::Limit) => Ok(AnchorOutcome::refused(named.name, PassFault::Limit)),
         Err(PassFault::Anchor(fault)) => {
-            Ok(Passed::refused(located.name, PassFault::Anchor(fault)))
+            Ok(AnchorOutcome::refused(named.name, PassFault::Anchor(fault)))
         }
     }
 }

@@ -3,13 +3,12 @@
 ghost use Rattle.std.specs.Prelude.{◌≡◌, ◌⊎◌, ◌++◌, IfOk};
 ghost use Rattle.std.specs.String.{string_bytes};
 ghost use Rattle.rpki_cli.specs.Answer.{out_of_memory, said};
-ghost use Rattle.rpki_payloads.specs.Found.{Found};
-ghost use Rattle.rpki_payloads.specs.Grows.{Grows};
 ghost use Rattle.rpki_payloads.specs.Texts.{payloads_text};
 ghost use Rattle.rpki_payloads.specs.Texts.Refusals.{refusals_text};
-ghost use Rattle.rpki_folder.specs.Report.{report, found_in, faults_text, refused_text, status_of};
+ghost use Rattle.rpki_folder.specs.Report.{report_of, found_in, faults_text, refused_text};
+ghost use Rattle.rpki_folder.specs.Report.{status_of};
 
-use crate::passed::Passed;
+use crate::outcome::AnchorOutcome;
 use rpki_cli::answer::Answer;
 use rpki_cli::verify::words::Format;
 use rpki_payloads::{AnchorFindings, push_payloads, push_refusals};
@@ -22,24 +21,28 @@ const ANSWERED: u8 = 0;
 const REFUSED: u8 = 1;
 
 /// Reports what passes came to, in their order: payloads in this format, and what is refused.
-pub(crate) fn report<'a>(alloc: Global, format: Format, passed: &[Passed<'_>]) -> Answer<'a>
-    ensures { (said result ≡ out_of_memory) ⊎ (said result ≡ report format passed.now) }
+pub(crate) fn report_outcomes<'a>(
+    alloc: Global,
+    format: Format,
+    outcomes: &[AnchorOutcome<'_>],
+) -> Answer<'a>
+    ensures { (said result ≡ out_of_memory) ⊎ (said result ≡ report_of format outcomes.now) }
 {
-    match texts_of(alloc, format, passed) {
+    match texts_of(alloc, format, outcomes) {
         Err(_) => Answer::OutOfMemory,
         Ok((out, err)) => Answer::Reported {
             out,
             err,
-            status: status_of(passed),
+            status: status_of(outcomes),
         },
     }
 }
 
 // The exit status.
-fn status_of(passed: &[Passed<'_>]) -> u8
-    ensures { result ≡ status_of passed.now }
+fn status_of(outcomes: &[AnchorOutcome<'_>]) -> u8
+    ensures { result ≡ status_of outcomes.now }
 {
-    if passed.iter().all(|one| one.is_ok()) {
+    if outcomes.iter().all(|one| one.is_ok()) {
         ANSWERED
     } else {
         REFUSED
@@ -50,26 +53,26 @@ fn status_of(passed: &[Passed<'_>]) -> u8
 fn texts_of(
     alloc: Global,
     format: Format,
-    passed: &[Passed<'_>],
+    outcomes: &[AnchorOutcome<'_>],
 ) -> Result<(String, String), AllocError>
     ensures out { IfOk result (λ texts.
-        string_bytes texts.0 ≡ payloads_text format (found_in passed.now)) }
-    ensures err { IfOk result (λ texts. string_bytes texts.1 ≡ refused_text passed.now) }
+        string_bytes texts.0 ≡ payloads_text format (found_in outcomes.now)) }
+    ensures err { IfOk result (λ texts. string_bytes texts.1 ≡ refused_text outcomes.now) }
 {
-    let found = found_in(alloc, passed)?;
+    let found = found_in(alloc, outcomes)?;
     let payloads = payloads_of(alloc, format, &found)?;
-    let refused = refused_of(alloc, passed, &found)?;
+    let refused = refused_of(alloc, outcomes, &found)?;
     Ok((payloads, refused))
 }
 
 // What was found under the locators that have an answer.
 fn found_in<'p>(
     alloc: Global,
-    passed: &'p [Passed<'_>],
+    outcomes: &'p [AnchorOutcome<'_>],
 ) -> Result<Vec<AnchorFindings<'p>>, AllocError>
-    ensures { IfOk result (λ found. found.items ≡ found_in passed.now) }
+    ensures { IfOk result (λ found. found.items ≡ found_in outcomes.now) }
 {
-    passed
+    outcomes
         .iter()
         .filter_map(|one| one.findings())
         .collect(alloc)
@@ -91,23 +94,23 @@ fn payloads_of(
 // What is refused, as text: locators, and what is below the others.
 fn refused_of(
     alloc: Global,
-    passed: &[Passed<'_>],
+    outcomes: &[AnchorOutcome<'_>],
     found: &[AnchorFindings<'_>],
 ) -> Result<String, AllocError>
     ensures { IfOk result (λ text.
-        string_bytes text ≡ faults_text passed.now ++ refusals_text found.now) }
+        string_bytes text ≡ faults_text outcomes.now ++ refusals_text found.now) }
 {
-    let mut text = faults_of(alloc, passed)?;
+    let mut text = faults_of(alloc, outcomes)?;
     push_refusals(&mut text, found)?;
     Ok(text)
 }
 
 // A line for each locator that has no answer.
-fn faults_of(alloc: Global, passed: &[Passed<'_>]) -> Result<String, AllocError>
-    ensures { IfOk result (λ text. string_bytes text ≡ faults_text passed.now) }
+fn faults_of(alloc: Global, outcomes: &[AnchorOutcome<'_>]) -> Result<String, AllocError>
+    ensures { IfOk result (λ text. string_bytes text ≡ faults_text outcomes.now) }
 {
     let mut text = String::new(alloc);
-    for one in passed {
+    for one in outcomes {
         one.push_line(&mut text)?;
     }
     Ok(text)

@@ -1,11 +1,13 @@
 -- What is written as a field of CSV says the text, and nothing else.
-use Rattle.std.proofs.Common.{◌≡◌, ℕ, ◌||◌, Bool, true, false, List, [], ◌∷◌, ◌++◌, All, codes, inl, inr, refl, sym, ap, ◌∙◌, subst, arith, if◌then◌else◌}
+use Rattle.std.proofs.Common.{◌≡◌, ℕ, ◌||◌, Bool, true, false, List, [], ◌∷◌, ◌++◌, All, codes}
+use Rattle.std.proofs.Common.{inl, inr, refl, sym, ap, ◌∙◌, subst, arith, if◌then◌else◌}
 use Rattle.std.specs.List.{flat_map, list_any}
 use Rattle.std.proofs.lemmas.Bool.{cases_eq}
 use Rattle.std.proofs.lemmas.Bool.Decides.{nat_tests}
 use Rattle.std.proofs.lemmas.List.{append_cancel_left, append_cancel_right}
 use Rattle.std.proofs.lemmas.List.Elements.{All-nil, All-cons, All-head}
-use Rattle.rpki_payloads.specs.Grammar.Csv.{IsTextData, Says, nothing, once, twice, IsQuoted, IsField}
+use Rattle.rpki_payloads.specs.Grammar.Csv.{IsTextData, Says, nothing, once, twice, IsQuoted}
+use Rattle.rpki_payloads.specs.Grammar.Csv.{IsField}
 use Rattle.rpki_payloads.specs.Texts.Escaped.{calls_for_quotes, csv_octet, csv_quoted, csv_field}
 use Rattle.rpki_payloads.proofs.Characters.{csv_plain}
 

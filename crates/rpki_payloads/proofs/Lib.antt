@@ -1,6 +1,5 @@
 pub mod Characters
 pub mod Fields
-pub mod Growing
 pub mod Objects
 pub mod Plain
 pub mod Strings

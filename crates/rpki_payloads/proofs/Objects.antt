@@ -1,18 +1,24 @@
 -- The text is JSON, and says the payloads.
-use Rattle.std.proofs.Common.{◌≡◌, ℕ, ◌<◌, ◌^◌, List, [], ◌++◌, All, codes, decimal, refl, sym, ap, ◌∙◌, arith, append_assoc, append-nil}
+use Rattle.std.proofs.Common.{◌≡◌, ℕ, ◌<◌, ◌^◌, List, [], ◌++◌, All, codes, decimal, refl, sym, ap}
+use Rattle.std.proofs.Common.{◌∙◌, arith, append_assoc, append-nil}
 use Rattle.rpki_resources.specs.As.{asn_text}
 use Rattle.rpki_resources.specs.Text.{prefix_text}
 use Rattle.rpki_payloads.specs.Found.{Found, all_named}
-use Rattle.rpki_payloads.specs.Grammar.Json.{string, number, array, object, Items, member, no_members, IsMark, IsValue, AreItems, AreFurtherMembers, IsText, items_of}
+use Rattle.rpki_payloads.specs.Grammar.Json.{string, number, array, object, Items, member}
+use Rattle.rpki_payloads.specs.Grammar.Json.{no_members, IsMark, IsValue, AreItems}
+use Rattle.rpki_payloads.specs.Grammar.Json.{AreFurtherMembers, IsText, items_of}
 use Rattle.rpki_payloads.specs.Picked.{Origin, Customer, origins_among, customers_among}
 use Rattle.rpki_payloads.specs.Said.{roa_value, provider_value, aspa_value, json_value, HaveLengths}
 use Rattle.rpki_payloads.specs.Separated.{separated}
 use Rattle.rpki_payloads.specs.Texts.Escaped.{json_string}
-use Rattle.rpki_payloads.specs.Texts.Json.{json_ta, json_origin, json_roa, json_customer, json_provider, json_aspa, json_roas, json_aspas, json_text}
+use Rattle.rpki_payloads.specs.Texts.Json.{json_ta, json_origin, json_roa, json_customer}
+use Rattle.rpki_payloads.specs.Texts.Json.{json_provider, json_aspa, json_roas, json_aspas}
+use Rattle.rpki_payloads.specs.Texts.Json.{json_text}
 use Rattle.rpki_payloads.specs.Texts.Origin.{max_length}
 use Rattle.rpki_payloads.proofs.Plain.{plain-by, plain-asn, plain-prefix}
 use Rattle.rpki_payloads.proofs.Strings.{is-string}
-use Rattle.rpki_payloads.proofs.Values.{plain-string, is-number, are-items, written, members, further-members}
+use Rattle.rpki_payloads.proofs.Values.{plain-string, is-number, are-items, written, members}
+use Rattle.rpki_payloads.proofs.Values.{further-members}
 
 -- ---- marks
 

@@ -1,6 +1,8 @@
 -- The octets of numbers and of prefixes are digits, letters, dots, slashes and colons, so they
 -- stand for themselves in a string of JSON and in a field of CSV.
-use Rattle.std.proofs.Common.{◌≡◌, ◌≢◌, ℕ, zero, suc, ◌+◌, ◌^◌, ◌≤◌, nat_lt, nat_le, ◌&&◌, not, ◌/◌, ◌%◌, ◌==◌, Bool, true, false, List, [], ◌∷◌, ◌++◌, All, take, drop, codes, decimal, arith, if◌then◌else◌}
+use Rattle.std.proofs.Common.{◌≡◌, ◌≢◌, ℕ, zero, suc, ◌+◌, ◌^◌, ◌≤◌, nat_lt, nat_le, ◌&&◌, not}
+use Rattle.std.proofs.Common.{◌/◌, ◌%◌, ◌==◌, Bool, true, false, List, [], ◌∷◌, ◌++◌, All, take}
+use Rattle.std.proofs.Common.{drop, codes, decimal, arith, if◌then◌else◌}
 use Rattle.std.specs.Char.{digit_char}
 use Rattle.std.specs.Fmt.{digits, digits_onto}
 use Rattle.std.specs.Int.{w32, to_be_bytes}

@@ -1,5 +1,7 @@
 -- What is written as a string of JSON says the text, and nothing else.
-use Rattle.std.proofs.Common.{◌≡◌, ℕ, zero, suc, ◌<◌, ◌≤◌, ◌/◌, ◌%◌, ◌==◌, ◌&&◌, Bool, true, false, Option, Some, None, List, [], ◌∷◌, ◌++◌, codes, encode_utf8, inl, inr, refl, sym, ap, ◌∙◌, subst, arith}
+use Rattle.std.proofs.Common.{◌≡◌, ℕ, zero, suc, ◌<◌, ◌≤◌, ◌/◌, ◌%◌, ◌==◌, ◌&&◌, Bool, true, false}
+use Rattle.std.proofs.Common.{Option, Some, None, List, [], ◌∷◌, ◌++◌, codes, encode_utf8, inl}
+use Rattle.std.proofs.Common.{inr, refl, sym, ap, ◌∙◌, subst, arith}
 use Rattle.std.specs.List.{flat_map}
 use Rattle.std.proofs.lemmas.Bool.{cases_lt, cases_eq, and_parts, eqb-true}
 use Rattle.std.proofs.lemmas.Bool.Decides.{nat_tests}
@@ -7,7 +9,8 @@ use Rattle.std.proofs.lemmas.List.{append_cancel_left, append_cancel_right}
 use Rattle.std.proofs.lemmas.Str.{encode_ascii}
 use Rattle.rpki_der.specs.Text.Hex.{digit, hex}
 use Rattle.rpki_der.specs.declared.hex.Case.TheVariants.{Lower}
-use Rattle.rpki_payloads.specs.Grammar.Json.{short_escape, code_unit, IsHigh, IsSurrogate, Says, nothing, unescaped, short, numbered, halves, IsString}
+use Rattle.rpki_payloads.specs.Grammar.Json.{short_escape, code_unit, IsHigh, IsSurrogate, Says}
+use Rattle.rpki_payloads.specs.Grammar.Json.{nothing, unescaped, short, numbered, halves, IsString}
 use Rattle.rpki_payloads.specs.Texts.Escaped.{json_octet, json_string}
 use Rattle.rpki_payloads.proofs.Characters.{json_plain}
 

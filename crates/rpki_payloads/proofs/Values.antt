@@ -1,11 +1,15 @@
 -- What is written part by part is a value of JSON.
-use Rattle.std.proofs.Common.{◌≡◌, ℕ, ◌<◌, ◌^◌, List, [], ◌∷◌, ◌++◌, All, length, get_or, codes, decimal, inl, inr, refl, ap, arith, append_assoc}
+use Rattle.std.proofs.Common.{◌≡◌, ℕ, ◌<◌, ◌^◌, List, [], ◌∷◌, ◌++◌, All, length, get_or, codes}
+use Rattle.std.proofs.Common.{decimal, inl, inr, refl, ap, arith, append_assoc}
 use Rattle.std.specs.List.{flat_map}
 use Rattle.std.proofs.lemmas.Bool.{cases_eq}
 use Rattle.std.proofs.lemmas.Fmt.{decimal_is_IsNumeral, decimal_digit, first_decimal}
 use Rattle.std.proofs.lemmas.List.Elements.{All-head, All-tail}
 use Rattle.rpki_payloads.specs.Separated.{separated}
-use Rattle.rpki_payloads.specs.Grammar.Json.{Says, nothing, unescaped, IsString, Json, member, Members, IsMark, IsNumber, IsMember, IsValue, AreItems, AreFurtherItems, AreMembers, AreFurtherMembers, items_of}
+use Rattle.rpki_payloads.specs.Grammar.Json.{Says, nothing, unescaped, IsString, Json, member}
+use Rattle.rpki_payloads.specs.Grammar.Json.{Members, IsMark, IsNumber, IsMember, IsValue}
+use Rattle.rpki_payloads.specs.Grammar.Json.{AreItems, AreFurtherItems, AreMembers}
+use Rattle.rpki_payloads.specs.Grammar.Json.{AreFurtherMembers, items_of}
 use Rattle.rpki_payloads.proofs.Plain.{IsPlain, ArePlain}
 
 -- ---- strings and numbers

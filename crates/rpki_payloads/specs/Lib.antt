@@ -1,6 +1,5 @@
 pub mod Found
 pub mod Grammar
-pub mod Grows
 pub mod Picked
 pub mod Said
 pub mod Separated

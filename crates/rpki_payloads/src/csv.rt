@@ -3,16 +3,16 @@
 ghost use Rattle.std.specs.Prelude.{◌≡◌};
 ghost use Rattle.std.specs.List.{flat_map};
 ghost use Rattle.rpki_payloads.specs.Found.{all_named};
-ghost use Rattle.rpki_payloads.specs.Grows.{Grows};
 ghost use Rattle.rpki_payloads.specs.Picked.{origins_among};
 ghost use Rattle.rpki_payloads.specs.Texts.Csv.{csv_text, csv_row};
 ghost use Rattle.rpki_payloads.specs.Texts.Origin.{max_length};
+ghost use Rattle.rpki_show.specs.Grows.{Grows};
 
-use crate::each::push_each;
 use crate::escaped::CsvField;
 use crate::found::AnchorFindings;
 use crate::picked::{NamedOrigin, all_origins};
 use rpki_resources::MaxLenPrefix;
+use rpki_show::texts::lines::push_each;
 use std::alloc::AllocError;
 use std::fmt::Write;
 

@@ -1,58 +1,16 @@
-//! Texts of each of several items.
+//! Items whose texts are appended one after the other.
 
 ghost use Rattle.std.specs.Prelude.{ℕ, List};
-ghost use Rattle.std.specs.List.{flat_map};
-ghost use Rattle.rpki_payloads.specs.Grows.{Grows, Appends};
 ghost use Rattle.rpki_payloads.specs.Separated.{separated};
+ghost use Rattle.rpki_show.specs.Grows.{AppendsLine, Grows};
 
 use crate::found::{NamedFinding, NamedFindings};
 use crate::picked::{Customers, NamedOrigin, NamedProviders, Origins};
+use rpki_show::texts::lines::Listed;
 use std::alloc::AllocError;
-use std::slice::Iter;
 
-/// An iterator that contracts see as the list of what it has left.
-pub trait Listed: Iterator {
-    ghost use Rattle.std.specs.Prelude.{List, Option};
-    ghost use Rattle.std.specs.Iterator.{YieldsFirstBy, IsFinite};
-
-    /// What an item says.
-    type Shown;
-
-    // What this item says.
-    ghost shown: { Self.Item → Self.Shown };
-
-    // What the items that are left say, in order.
-    ghost rest: { Self → List Self.Shown };
-
-    // An item may be asked for at any time.
-    ghost can: { (s : Self) → Self.can_next s };
-
-    // The first of those that are left comes, if there is one.
-    ghost gives: { (s : Self) (r : Option Self.Item) (t : Self) → Self.next_gives s r t
-        → YieldsFirstBy shown rest s r t };
-
-    // There is an end.
-    ghost ends: { (s : Self) → IsFinite (Self.remaining s) };
-}
-
-/// Appends what `push` appends for each item, in order. Refuses where a call of `push` does.
-pub fn push_each<I, F>(text: &mut String, items: I, push: F) -> Result<(), AllocError>
-where
-    I: Listed,
-    I::Item: Drop,
-    F: Fn(&mut String, I::Item) -> Result<(), AllocError>,
-    requires { F.IsAlwaysCallable push }
-    ensures { (written : I.Shown → List ℕ) → Appends (F.post push) I.shown written
-        → Grows result text.old text.new (flat_map written (I.rest items)) }
-{
-    for item in items {
-        push(text, item)?;
-    }
-    Ok(())
-}
-
-/// Does the same, with the separator between each two. Refuses where memory runs out, or a call of
-/// `push` does.
+/// Appends what `push` appends for each item, in order, with the separator between each two.
+/// Refuses where memory runs out, or a call of `push` does.
 pub fn push_separated<I, F>(
     text: &mut String,
     mut items: I,
@@ -64,7 +22,7 @@ where
     I::Item: Drop,
     F: Fn(&mut String, I::Item) -> Result<(), AllocError>,
     requires { F.IsAlwaysCallable push }
-    ensures { (written : I.Shown → List ℕ) → Appends (F.post push) I.shown written
+    ensures { (written : I.Shown → List ℕ) → AppendsLine (F.post push) I.shown written
         → Grows result text.old text.new (separated separator.now written (I.rest items)) }
 {
     let Some(first) = items.next() else {
@@ -116,24 +74,6 @@ impl<'a, 'b> Listed for Customers<'a, 'b> {
     ghost can = { λ s. tt };
 
     ghost gives = { λ s r t h. h };
-
-    ghost ends = { λ s. tt };
-}
-
-impl<'a, T> Listed for Iter<'a, T> {
-    ghost use Rattle.std.specs.Slice.Iter.{iter_rest};
-    ghost use Rattle.std.proofs.Common.{rules};
-    ghost use Rattle.std.proofs.lemmas.List.{nil_from_length};
-
-    type Shown = T;
-
-    ghost shown = { λ x. x.now };
-
-    ghost rest = { iter_rest };
-
-    ghost can = { λ s. tt };
-
-    ghost gives = { Prim.search (rules, nil_from_length) };
 
     ghost ends = { λ s. tt };
 }

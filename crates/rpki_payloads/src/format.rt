@@ -1,7 +1,7 @@
 //! The formats of payloads.
 
-ghost use Rattle.rpki_payloads.specs.Grows.{Grows};
 ghost use Rattle.rpki_payloads.specs.Texts.{payloads_text};
+ghost use Rattle.rpki_show.specs.Grows.{Grows};
 
 use crate::csv::push_csv;
 use crate::found::AnchorFindings;

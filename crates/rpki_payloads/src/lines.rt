@@ -1,14 +1,14 @@
 //! The plain lines of payloads.
 
 ghost use Rattle.std.specs.List.{flat_map};
-ghost use Rattle.rpki_payloads.specs.Grows.{Grows};
 ghost use Rattle.rpki_payloads.specs.Texts.Lines.{lines_text, finding_line, origin_line};
 ghost use Rattle.rpki_payloads.specs.Texts.Lines.{aspa_line, provider_text};
+ghost use Rattle.rpki_show.specs.Grows.{Grows};
 
-use crate::each::push_each;
 use crate::found::{AnchorFindings, all_findings};
 use rpki_resources::Asn;
 use rpki_routes::RouteOrigin;
+use rpki_show::texts::lines::push_each;
 use rpki_tree::{Finding, Payload, Providers};
 use std::alloc::AllocError;
 use std::fmt::Write;

@@ -1,12 +1,12 @@
 //! The lines of what is refused.
 
 ghost use Rattle.std.specs.Prelude.{Some};
-ghost use Rattle.rpki_payloads.specs.Grows.{Grows};
 ghost use Rattle.rpki_payloads.specs.Texts.Refusals.{refusals_text, refusal_line, refused_line};
 ghost use Rattle.rpki_payloads.specs.Texts.Refusals.{fault_text};
+ghost use Rattle.rpki_show.specs.Grows.{Grows};
 
-use crate::each::push_each;
 use crate::found::{AnchorFindings, all_findings};
+use rpki_show::texts::lines::push_each;
 use rpki_tree::{Fault, Finding, Refusal};
 use std::alloc::AllocError;
 use std::fmt;

@@ -1,13 +1,13 @@
 -- The trust anchor of a locator is found, or there is none.
 use Rattle.std.proofs.Common.{◌≡◌, inl, inr, ℕ, List, [], ◌∷◌, ◌++◌, Option, Some, None, Ok, Err}
-use Rattle.std.proofs.Common.{Result, MatchResult, IfErr, append_assoc, refl, sym, subst}
+use Rattle.std.proofs.Common.{Result, MatchResult, IfErr, append_assoc, sym, subst}
 use Rattle.std.proofs.Common.{ap, ◌∙◌}
-use Rattle.std.proofs.Common.{All, Contains, get_or, drop, Bool, false, IsTrue, true≢false}
+use Rattle.std.proofs.Common.{All, Contains, get_or, drop, Bool, true, false, IsTrue, true≢false}
 use Rattle.std.specs.Prelude.{◌↔◌}
 use Rattle.std.proofs.lemmas.List.{append-nil}
 use Rattle.rpki_der.specs.Form.Decodes.{IsOnlyFront}
 use Rattle.rpki_der.specs.Grammar.{HasNoFront, Front}
-use Rattle.std.proofs.lemmas.List.Elements.{All-push, All-head, All-tail, All-contains}
+use Rattle.std.proofs.lemmas.List.Elements.{All-nil, All-push, All-head, All-tail, All-contains}
 use Rattle.std.proofs.lemmas.List.Elements.{Contains-append_right}
 use Rattle.rpki_der.specs.declared.mode.Mode.TheVariants.{Der}
 use Rattle.rpki_faults.specs.Checks.{AllHold}
@@ -66,6 +66,72 @@ module _ (P : TalUri → Type 0) (all left rest : List TalUri) (u : TalUri) (e :
       → cached (uri_text u) ≡ Some octets → ¬ AreMissing cached all
   sought-there cached octets some m = none-some (cached (uri_text u)) octets
       (All-contains (λ (v : TalUri). cached (uri_text v) ≡ None) all u m sought-among) some
+
+-- What was looked at so far has no certificate with this key, and it is missing, or is not.
+pub record IsSearched (cached : List ℕ → Option (List ℕ)) (key : List ℕ)
+    (all left : List TalUri) (are_missing : Bool) : Type 0 where
+  pub others : IsSought (λ u. ¬ HasKeyAt cached key u) all left
+  pub missing : are_missing ≡ true → IsSought (λ u. cached (uri_text u) ≡ None) all left
+  pub there : are_missing ≡ false → ¬ AreMissing cached all
+
+module _ (cached : List ℕ → Option (List ℕ)) (key : List ℕ) (all left : List TalUri) where
+  none-sought : (P : TalUri → Type 0) → left ≡ all → IsSought P all left
+  none-sought P e = record { before = []; splits = sym e; each = All-nil P }
+
+  pub none-searched : left ≡ all → IsSearched cached key all left true
+  none-searched e = record {
+    others = none-sought (λ u. ¬ HasKeyAt cached key u) e;
+    missing = λ t. none-sought (λ u. cached (uri_text u) ≡ None) e;
+    there = λ f. absurd (true≢false f);
+  }
+
+  module _ (are_missing : Bool) (h : IsSearched cached key all left are_missing) where
+    -- none are left
+    pub all-searched : left ≡ []
+        → (are_missing ≡ true → AreMissing cached all)
+        × (are_missing ≡ false → LacksKey cached key all anchors.OtherKey)
+    all-searched e = (
+      λ t. sought-all (λ u. cached (uri_text u) ≡ None) all left e (h.missing t),
+      λ f. (h.there f, sought-all (λ u. ¬ HasKeyAt cached key u) all left e h.others),
+    )
+
+    module _ (rest : List TalUri) (u : TalUri) (e : left ≡ u ∷ rest) where
+      -- one more is missing
+      pub more-missing : cached (uri_text u) ≡ None
+          → IsSearched cached key all rest are_missing
+      more-missing none = record {
+        others = sought-next (λ v. ¬ HasKeyAt cached key v) all left rest u e h.others
+            (λ w. none-some (cached (uri_text u)) (w.0) none (w.1));
+        missing = λ t. sought-next (λ v. cached (uri_text v) ≡ None) all left rest u e
+            (h.missing t) none;
+        there = h.there;
+      }
+
+      module _ (octets : List ℕ) (some : cached (uri_text u) ≡ Some octets) where
+        -- one more is there, and has no certificate with the key
+        pub more-others : ¬ BeginsWithCert octets (λ c. c.tbs.key ≡ key)
+            → IsSearched cached key all rest false
+        more-others other = record {
+          others = sought-next (λ v. ¬ HasKeyAt cached key v) all left rest u e h.others
+              (λ w. other (subst (λ (o : List ℕ). BeginsWithCert o (λ c. c.tbs.key ≡ key))
+              (one-some (cached (uri_text u)) (w.0) octets (w.1) some) (w.2)));
+          missing = λ t. absurd (true≢false (sym t));
+          there = λ f. sought-there (λ v. ¬ HasKeyAt cached key v) all left rest u e h.others
+              cached octets some;
+        }
+
+        -- one more is there, and has one
+        pub first-found : BeginsWithCert octets (λ c. c.tbs.key ≡ key)
+            → IsFirstWithKey cached key all octets
+        first-found holds = record {
+          before = h.others.before;
+          uri = u;
+          after = rest;
+          order = split-next (λ v. ¬ HasKeyAt cached key v) all left rest u e h.others;
+          others = h.others.each;
+          cached = some;
+          holds = holds;
+        }
 
 -- two that are the first of which this holds are the same
 first-same : (P : TalUri → Type 0) (b c a d : List TalUri) (u v : TalUri) → b ++ u ∷ a ≡ c ++ v ∷ d

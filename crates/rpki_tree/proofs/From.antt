@@ -21,7 +21,8 @@ use Rattle.rpki_tree.specs.Passes.{judged}
 use Rattle.rpki_tree.specs.Setting.{Setting}
 use Rattle.rpki_tree.specs.Snapshot.{AgreesAt, AgreesOn}
 use Rattle.rpki_tree.specs.Told.{CaTellsAll}
-use Rattle.rpki_tree.specs.Tree.{HasKeyAt, IsAnchorOf, IsChild, IsFinding, IsFirstWithKey, Says, key_of}
+use Rattle.rpki_tree.specs.Tree.{HasKeyAt, IsAnchorOf, IsChild, IsFinding, IsFirstWithKey, Says}
+use Rattle.rpki_tree.specs.Tree.{key_of}
 use Rattle.rpki_tree.specs.Visited.{TellsFrom, told_copy}
 use Rattle.rpki_tree.specs.declared.anchor.AnchorFault.{AnchorFault}
 use Rattle.rpki_tree.specs.declared.anchor.AnchorFault.TheVariants as anchors

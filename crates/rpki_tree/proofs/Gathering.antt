@@ -1,6 +1,7 @@
 -- Files are read one by one from a repository.
 use Rattle.std.proofs.Common.{◌≡◌, ◌⊎◌, inl, inr, ℕ, List, [], ◌∷◌, Contains, Option, None, Some}
 use Rattle.std.proofs.Common.{IfSome, IfOk, Result, Ok, Err, refl, sym, ap, ◌∙◌, subst, Vec}
+use Rattle.std.proofs.Common.{unwrap_or}
 use Rattle.std.proofs.lemmas.List.Elements.{Contains-append_cases}
 use Rattle.std.specs.declared.alloc.Global.{Global}
 use Rattle.std.specs.BTreeMap.{BTreeMap}
@@ -20,24 +21,23 @@ use Rattle.rpki_tal.specs.Uri.{uri_text}
 use Rattle.rpki_tal.specs.declared.uri.TalUri.{TalUri}
 use Rattle.rpki_walk.proofs.Lists.{all-of, mapped-from, nothing}
 use Rattle.rpki_tree.specs.Point.{Lists, NamesManifest, PublishesIn}
-use Rattle.rpki_tree.specs.Snapshot.{cached_in, AgreesAt, AgreesOn, IsPart, IsTextOf, ListsAt}
-use Rattle.rpki_tree.specs.Snapshot.{ListsIn}
-use Rattle.rpki_tree.specs.Snapshot.{Needs, PutsRead}
+use Rattle.rpki_tree.specs.Snapshot.{kept_in, octets_in, AgreesAt, AgreesOn, IsPart, IsTextOf}
+use Rattle.rpki_tree.specs.Snapshot.{ListsAt, ListsIn, Needs, PutsRead}
 use Rattle.rpki_tree.proofs.Keeping.{if-told, at-told}
 use Rattle.rpki_tree.proofs.Lacking.{none-some, one-some}
 use Rattle.rpki_tree.proofs.Telling.{only-one}
 
 -- What was read so far: of each one that is left no longer, what the copy has for its URI.
 pub record IsReading {X : Type 0} (cached : List ℕ → Option (List ℕ)) (f : X → List ℕ)
-    (all left : List X) (old now : List ℕ → Option (List ℕ)) : Type 0 where
+    (all left : List X) (old now : List ℕ → Option (Option (List ℕ))) : Type 0 where
   pub part : IsPart cached old → IsPart cached now
-  pub others : (uri : List ℕ) → old uri ≡ cached uri → now uri ≡ cached uri
+  pub others : (uri : List ℕ) → old uri ≡ Some (cached uri) → now uri ≡ Some (cached uri)
   pub here : IsPart cached old → (x : X) → Contains all x
-      → Contains left x ⊎ (now (f x) ≡ cached (f x))
+      → Contains left x ⊎ (now (f x) ≡ Some (cached (f x)))
 
 module _ {X : Type 0} (told : Option (List ℕ → Option (List ℕ))) (f : X → List ℕ)
     (all : List X) where
-  pub begun : (left : List X) (files : List ℕ → Option (List ℕ)) → left ≡ all
+  pub begun : (left : List X) (files : List ℕ → Option (Option (List ℕ))) → left ≡ all
       → IfSome told (λ cached. IsReading cached f all left files files)
   begun left files e = if-told (λ cached. IsReading cached f all left files files) told
       (λ cached t. record {
@@ -46,9 +46,10 @@ module _ {X : Type 0} (told : Option (List ℕ → Option (List ℕ))) (f : X �
         here = λ h x k. inl (subst (λ (l : List X). Contains l x) (sym e) k);
       })
 
-  module _ (old now : List ℕ → Option (List ℕ)) (left : List X)
+  module _ (old now : List ℕ → Option (Option (List ℕ))) (left : List X)
       (h : IfSome told (λ cached. IsReading cached f all left old now)) where
-    pub one-more : (new : List ℕ → Option (List ℕ)) (x : X) (rest : List X) → left ≡ x ∷ rest
+    pub one-more : (new : List ℕ → Option (Option (List ℕ))) (x : X) (rest : List X)
+        → left ≡ x ∷ rest
         → IfSome told (λ cached. PutsRead cached (λ other. other ≡ f x) now new)
         → IfSome told (λ cached. IsReading cached f all rest old new)
     one-more new x rest e p = if-told (λ cached. IsReading cached f all rest old new) told
@@ -83,7 +84,7 @@ module _ {X : Type 0} (told : Option (List ℕ → Option (List ℕ))) (f : X �
               elim (g.here a (w.0) (w.1)) [
                 | inl stays ↦
                     absurd (nothing (w.0) (subst (λ (l : List X). Contains l (w.0)) e stays))
-                | inr done ↦ subst (λ (u : List ℕ). now u ≡ cached u) (w.2) done
+                | inr done ↦ subst (λ (u : List ℕ). now u ≡ Some (cached u)) (w.2) done
               ];
         })
 
@@ -97,7 +98,7 @@ of-listed folder manifest uri l =
 
 -- nothing is read where nothing is asked for
 none-read : (told : Option (List ℕ → Option (List ℕ)))
-    (Q : (List ℕ → Option (List ℕ)) → List ℕ → Type 0) (files : List ℕ → Option (List ℕ))
+    (Q : (List ℕ → Option (List ℕ)) → List ℕ → Type 0) (files : List ℕ → Option (Option (List ℕ)))
     → ((cached : List ℕ → Option (List ℕ)) (uri : List ℕ) → ¬ Q cached uri)
     → IfSome told (λ cached. PutsRead cached (Q cached) files files)
 none-read told Q files none = if-told (λ cached. PutsRead cached (Q cached) files files) told
@@ -109,7 +110,7 @@ none-read told Q files none = if-told (λ cached. PutsRead cached (Q cached) fil
 
 -- what else is asked for of the same
 read-as : {T E : Type 0} (told : Option (List ℕ → Option (List ℕ)))
-    (old new : List ℕ → Option (List ℕ)) (P Q : List ℕ → Type 0)
+    (old new : List ℕ → Option (Option (List ℕ))) (P Q : List ℕ → Type 0)
     → ((uri : List ℕ) → Q uri → P uri) → (r : Result T E)
     → IfOk r (λ _. IfSome told (λ cached. PutsRead cached P old new))
     → IfOk r (λ _. IfSome told (λ cached. PutsRead cached Q old new))
@@ -128,14 +129,14 @@ module _ (told : Option (List ℕ → Option (List ℕ))) (folder octets : List 
   form = ObjectForm manifest_kind.type (ManifestForm Any Der) Der
 
   -- the octets begin with no manifest
-  pub none-below : (files : List ℕ → Option (List ℕ)) → HasNoFront form octets
+  pub none-below : (files : List ℕ → Option (Option (List ℕ))) → HasNoFront form octets
       → IfSome told (λ cached. PutsRead cached (ListsIn folder octets) files files)
   none-below files none = none-read told (λ cached. ListsIn folder octets) files
       (λ cached uri w. none w.object w.rest w.front.found)
 
   -- they begin with this one
-  pub below-read : {T E : Type 0} (old new : List ℕ → Option (List ℕ)) (o : Whole Manifest)
-      (rest : List ℕ) → IsOnlyFront form octets o rest → (manifest : Manifest)
+  pub below-read : {T E : Type 0} (old new : List ℕ → Option (Option (List ℕ)))
+      (o : Whole Manifest) (rest : List ℕ) → IsOnlyFront form octets o rest → (manifest : Manifest)
       → manifest ≡ o.content → (r : Result T E)
       → IfOk r (λ _. IfSome told (λ cached. PutsRead cached (Lists folder manifest) old new))
       → IfOk r (λ _. IfSome told (λ cached. PutsRead cached (ListsIn folder octets) old new))
@@ -146,26 +147,26 @@ module _ (told : Option (List ℕ → Option (List ℕ))) (folder octets : List 
       (front.only w.object w.rest w.front.found).0 w.holds))
 
 module _ (told : Option (List ℕ → Option (List ℕ))) (ca : Validated) (at : List ℕ)
-    (files : List ℕ → Option (List ℕ)) where
+    (files : List ℕ → Option (List ℕ)) (kept : List ℕ → Option (Option (List ℕ))) where
   -- the CA names no folder
   pub no-folder : ca.cert.certificate.tbs.extensions.locations.subject.ca_repository ≡ None
-      → IfSome told (λ cached. PutsRead cached (ListsAt ca files at) files files)
-  no-folder e = none-read told (λ cached. ListsAt ca files at) files (λ cached uri w.
+      → IfSome told (λ cached. PutsRead cached (ListsAt ca files at) kept kept)
+  no-folder e = none-read told (λ cached. ListsAt ca files at) kept (λ cached uri w.
       none-some ca.cert.certificate.tbs.extensions.locations.subject.ca_repository (w.0) e (w.2))
 
   -- nothing was read for its manifest
   pub no-octets : files at ≡ None
-      → IfSome told (λ cached. PutsRead cached (ListsAt ca files at) files files)
-  no-octets e = none-read told (λ cached. ListsAt ca files at) files
+      → IfSome told (λ cached. PutsRead cached (ListsAt ca files at) kept kept)
+  no-octets e = none-read told (λ cached. ListsAt ca files at) kept
       (λ cached uri w. none-some (files at) (w.1) e (w.3))
 
   -- these octets were
   pub files-read : {T E : Type 0} (folder octets : List ℕ) → PublishesIn ca folder
-      → files at ≡ Some octets → (new : List ℕ → Option (List ℕ)) (r : Result T E)
-      → IfOk r (λ _. IfSome told (λ cached. PutsRead cached (ListsIn folder octets) files new))
-      → IfOk r (λ _. IfSome told (λ cached. PutsRead cached (ListsAt ca files at) files new))
+      → files at ≡ Some octets → (new : List ℕ → Option (Option (List ℕ))) (r : Result T E)
+      → IfOk r (λ _. IfSome told (λ cached. PutsRead cached (ListsIn folder octets) kept new))
+      → IfOk r (λ _. IfSome told (λ cached. PutsRead cached (ListsAt ca files at) kept new))
   files-read folder octets publishes e new =
-      read-as told files new (ListsIn folder octets) (ListsAt ca files at) (λ uri w.
+      read-as told kept new (ListsIn folder octets) (ListsAt ca files at) (λ uri w.
       subst (λ (f : List ℕ). ListsIn f octets uri)
       (one-some ca.cert.certificate.tbs.extensions.locations.subject.ca_repository (w.0) folder
       (w.2) publishes)
@@ -174,7 +175,7 @@ module _ (told : Option (List ℕ → Option (List ℕ))) (ca : Validated) (at :
 
 module _ (told : Option (List ℕ → Option (List ℕ))) (ca : Validated) where
   -- the CA names no manifest
-  pub no-manifest : (files : List ℕ → Option (List ℕ))
+  pub no-manifest : (files : List ℕ → Option (Option (List ℕ)))
       → ca.cert.certificate.tbs.extensions.locations.subject.rpki_manifest ≡ None
       → IfSome told (λ cached. PutsRead cached (Needs ca cached) files files)
   no-manifest files e = none-read told (Needs ca) files (λ cached uri n. elim n [
@@ -185,59 +186,71 @@ module _ (told : Option (List ℕ → Option (List ℕ))) (ca : Validated) where
   ])
 
   -- the manifest, and the files that it lists
-  module _ (at : List ℕ) (names : NamesManifest ca at) (old mid new : List ℕ → Option (List ℕ))
-    where
-      same : (uri : List ℕ) → NamesManifest ca uri → uri ≡ at
-      same uri n =
-          one-some ca.cert.certificate.tbs.extensions.locations.subject.rpki_manifest uri at n names
+  module _ (at : List ℕ) (names : NamesManifest ca at)
+      (old mid new : List ℕ → Option (Option (List ℕ))) where
+    -- the octets that were read by then
+    abbrev octets : List ℕ → Option (List ℕ)
+    octets = λ uri. unwrap_or (mid uri) None
 
-      both-read : (cached : List ℕ → Option (List ℕ))
-          → PutsRead cached (λ other. other ≡ at) old mid
-          → PutsRead cached (ListsAt ca mid at) mid new → PutsRead cached (Needs ca cached) old new
-      both-read cached g q = record {
-        part = λ a. q.part (g.part a);
-        others = λ uri s. q.others uri (g.others uri s);
-        here = λ a uri n. elim n [
-          | inl name ↦ q.others uri (g.here a uri (same uri name))
-          | inr w ↦ q.here (g.part a) uri (
-            w.2.0,
-            w.2.1,
-            w.2.2,
-            g.here a at refl ∙ ap cached (sym (same (w.0) (w.1))) ∙ w.2.3,
-            w.2.4,
-          )
-        ];
-      }
+    same : (uri : List ℕ) → NamesManifest ca uri → uri ≡ at
+    same uri n =
+        one-some ca.cert.certificate.tbs.extensions.locations.subject.rpki_manifest uri at n names
 
-      pub point-read : {T E : Type 0} (r : Result T E)
-          → IfSome told (λ cached. PutsRead cached (λ other. other ≡ at) old mid)
-          → IfOk r (λ _. IfSome told (λ cached. PutsRead cached (ListsAt ca mid at) mid new))
-          → IfOk r (λ _. IfSome told (λ cached. PutsRead cached (Needs ca cached) old new))
-      point-read (Ok done) h p = if-told (λ cached. PutsRead cached (Needs ca cached) old new) told
-          (λ cached t. both-read cached
-          (at-told (λ c. PutsRead c (λ other. other ≡ at) old mid) told h cached t)
-          (at-told (λ c. PutsRead c (ListsAt ca mid at) mid new) told p cached t))
-      point-read (Err error) h p = tt
+    both-read : (cached : List ℕ → Option (List ℕ))
+        → PutsRead cached (λ other. other ≡ at) old mid
+        → PutsRead cached (ListsAt ca octets at) mid new → PutsRead cached (Needs ca cached) old new
+    both-read cached g q = record {
+      part = λ a. q.part (g.part a);
+      others = λ uri s. q.others uri (g.others uri s);
+      here = λ a uri n. elim n [
+        | inl name ↦ q.others uri (g.here a uri (same uri name))
+        | inr w ↦ q.here (g.part a) uri (
+          w.2.0,
+          w.2.1,
+          w.2.2,
+          ap (λ (o : Option (Option (List ℕ))). unwrap_or o None) (g.here a at refl)
+              ∙ ap cached (sym (same (w.0) (w.1))) ∙ w.2.3,
+          w.2.4,
+        )
+      ];
+    }
+
+    pub point-read : {T E : Type 0} (r : Result T E)
+        → IfSome told (λ cached. PutsRead cached (λ other. other ≡ at) old mid)
+        → IfOk r (λ _. IfSome told (λ cached. PutsRead cached (ListsAt ca octets at) mid new))
+        → IfOk r (λ _. IfSome told (λ cached. PutsRead cached (Needs ca cached) old new))
+    point-read (Ok done) h p = if-told (λ cached. PutsRead cached (Needs ca cached) old new) told
+        (λ cached t. both-read cached
+        (at-told (λ c. PutsRead c (λ other. other ≡ at) old mid) told h cached t)
+        (at-told (λ c. PutsRead c (ListsAt ca octets at) mid new) told p cached t))
+    point-read (Err error) h p = tt
 
 -- ---- an empty map at first
 
-module _ (told : Option (List ℕ → Option (List ℕ))) (old new : BTreeMap (Vec ℕ Global) (List ℕ))
-    (empty : old.entries ≡ []) where
-  none-there : (cached : List ℕ → Option (List ℕ)) → IsPart cached (cached_in old)
-  none-there cached uri = inl (ap (λ (es : List (Vec ℕ Global × List ℕ)).
+module _ (told : Option (List ℕ → Option (List ℕ)))
+    (old new : BTreeMap (Vec ℕ Global) (Option (List ℕ))) (empty : old.entries ≡ []) where
+  none-there : (cached : List ℕ → Option (List ℕ)) → IsPart cached (kept_in old)
+  none-there cached uri = inl (ap (λ (es : List (Vec ℕ Global × Option (List ℕ))).
       lookup (λ (k : Vec ℕ Global). is_eq (slice_cmp nat_cmp uri k.items)) es) empty)
 
+  -- what was read for a URI is what there is
+  is-there : (o : Option (List ℕ)) (uri : List ℕ) → kept_in new uri ≡ Some o
+      → octets_in new uri ≡ o
+  is-there o uri e = ap (λ (k : Option (Option (List ℕ))). unwrap_or k None) e
+
   pub agrees-on : (ca : Validated)
-      → IfSome told (λ cached. PutsRead cached (Needs ca cached) (cached_in old) (cached_in new))
-      → IfSome told (λ cached. AgreesOn ca cached (cached_in new))
-  agrees-on ca h = if-told (λ cached. AgreesOn ca cached (cached_in new)) told (λ cached t uri n.
-      (at-told (λ c. PutsRead c (Needs ca c) (cached_in old) (cached_in new)) told h cached t).here
-      (none-there cached) uri n)
+      → IfSome told (λ cached. PutsRead cached (Needs ca cached) (kept_in old) (kept_in new))
+      → IfSome told (λ cached. AgreesOn ca cached (octets_in new))
+  agrees-on ca h = if-told (λ cached. AgreesOn ca cached (octets_in new)) told (λ cached t uri n.
+      is-there (cached uri) uri
+      ((at-told (λ c. PutsRead c (Needs ca c) (kept_in old) (kept_in new)) told h cached t).here
+      (none-there cached) uri n))
 
   pub agrees-at : (uris : List TalUri)
-      → IfSome told (λ cached. PutsRead cached (IsTextOf uris) (cached_in old) (cached_in new))
-      → IfSome told (λ cached. AgreesAt uris cached (cached_in new))
-  agrees-at uris h = if-told (λ cached. AgreesAt uris cached (cached_in new)) told (λ cached t.
-      all-of (λ (u : TalUri). cached_in new (uri_text u) ≡ cached (uri_text u)) uris (λ u k.
-      (at-told (λ c. PutsRead c (IsTextOf uris) (cached_in old) (cached_in new)) told h cached
-      t).here (none-there cached) (uri_text u) (u, k, refl)))
+      → IfSome told (λ cached. PutsRead cached (IsTextOf uris) (kept_in old) (kept_in new))
+      → IfSome told (λ cached. AgreesAt uris cached (octets_in new))
+  agrees-at uris h = if-told (λ cached. AgreesAt uris cached (octets_in new)) told (λ cached t.
+      all-of (λ (u : TalUri). octets_in new (uri_text u) ≡ cached (uri_text u)) uris (λ u k.
+      is-there (cached (uri_text u)) (uri_text u)
+      ((at-told (λ c. PutsRead c (IsTextOf uris) (kept_in old) (kept_in new)) told h cached
+      t).here (none-there cached) (uri_text u) (u, k, refl))))

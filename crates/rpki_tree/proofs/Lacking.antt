@@ -1,5 +1,5 @@
 -- A CA that lacks something of its publication point has none.
-use Rattle.std.proofs.Common.{◌≡◌, ◌≤◌, inl, inr, ℕ, List, [], ◌∷◌, All, Contains, Option, Some}
+use Rattle.std.proofs.Common.{◌≡◌, inl, inr, ℕ, List, [], ◌∷◌, All, Contains, Option, Some}
 use Rattle.std.proofs.Common.{None, Result, Ok, Err, is_some, is_ok, unwrap_or, true≢false, refl}
 use Rattle.std.proofs.Common.{sym, subst, ap, ◌∙◌, MatchResult, IfErr}
 use Rattle.std.proofs.lemmas.List.Elements.{All-contains, Contains-append_right}
@@ -9,11 +9,14 @@ use Rattle.rpki_der.specs.Grammar.{HasNoFront}
 use Rattle.rpki_der.specs.Read.Reads.{Refuses}
 use Rattle.rpki_der.specs.declared.error.DecodeError.{DecodeError}
 use Rattle.rpki_der.specs.declared.error.DecodeError.TheVariants as errors
-use Rattle.rpki_basics.specs.Moment.{stamp}
+use Rattle.rpki_basics.specs.Moment.{Moment}
 use Rattle.rpki_basics.specs.declared.limits.ManifestRule.TheVariants.{Any}
-use Rattle.rpki_crls.specs.Crl.{RevocationList, CrlForm, IsSignedBy}
+use Rattle.rpki_faults.specs.Checks.{AllHold, IsFirstFault}
+use Rattle.rpki_faults.proofs.Order.{first-fails}
+use Rattle.rpki_crls.specs.Crl.{RevocationList, CrlForm}
 use Rattle.rpki_certs.specs.Cert.{Certificate}
 use Rattle.rpki_certs.specs.Validate.{Validated}
+use Rattle.rpki_certs.specs.Verify.{Verdict}
 use Rattle.rpki_sigobj.specs.Signed.{Whole, ObjectForm}
 use Rattle.rpki_sigobj.specs.Signed.Good.{IsGood}
 use Rattle.rpki_files.specs.Manifest.{Manifest, ManifestForm}
@@ -35,7 +38,7 @@ use Rattle.rpki_tree.specs.declared.read.PointFault.TheVariants as points
 use Rattle.rpki_tree.specs.Setting.{Setting}
 use Rattle.rpki_tree.specs.Point.{Point, IsPoint, IsPointAt, IsListOf, IsListAt, IsListAtUri}
 use Rattle.rpki_tree.specs.Point.{IsManifestAt, IsManifestIn, IsPresent, FindsFiles, ReadsList}
-use Rattle.rpki_tree.specs.Point.{FollowsPresent, IsUnrevoked}
+use Rattle.rpki_tree.specs.Point.{FollowsPresent, HasBadList, IsUnrevoked, list_checks}
 use Rattle.rpki_tree.specs.Faults.{LacksManifest, HasOutdated, IsRefused, LacksList, LacksListAt}
 use Rattle.rpki_tree.specs.Faults.{LacksRest, LacksPointAt, LacksPoint, IsManifestMemory}
 use Rattle.rpki_tree.specs.Faults.{IsListMemory, IsMemory, IsMemoryError, IsCurrent}
@@ -54,6 +57,47 @@ pub refuses : {X : Type 0} (form : List ℕ → X → Type 0) (octets : List ℕ
 refuses form octets x rest errors.Memory h front = refl
 refuses form octets x rest errors.Malformed h front = absurd (h x rest front.found)
 refuses form octets x rest (errors.Content fault) h front = absurd (h x rest front.found)
+
+-- ---- the checks of a revocation list
+
+module _ (verdict : Verdict) (now : Moment) (ca : Validated) (octets : List ℕ)
+    (list : RevocationList) where
+  -- each holds of a list of the CA
+  pub all-hold : IsListOf verdict now ca octets list → AllHold (list_checks verdict now ca list)
+  all-hold l = (l.key, (l.signed, (l.current.0, (l.current.1, tt))))
+
+  module _ (rest : List ℕ) (front : IsOnlyFront (CrlForm Der) octets list rest) where
+    -- and where each does, it is one
+    pub is-list : AllHold (list_checks verdict now ca list) → IsListOf verdict now ca octets list
+    is-list h = record {
+      rest = rest;
+      front = front;
+      key = h.0;
+      signed = h.1.0;
+      current = (h.1.1.0, h.1.1.1.0);
+    }
+
+    -- where one fails, its fault is answered
+    pub is-bad : (fault : ListFault) → IsFirstFault (list_checks verdict now ca list) fault
+        → ReadsList verdict now ca octets (Err fault)
+    is-bad (refusals.Decode e) h = absurd (decoded h)
+      where
+        decoded : IsFirstFault (list_checks verdict now ca list) (refusals.Decode e) → ⊥
+        decoded (inr k) = let p : refusals.Decode e ≡ refusals.OtherKey = k.1 in absurd cc
+        decoded (inl k) = elim k.1 [
+          | inr k2 ↦ let p : refusals.Decode e ≡ refusals.BadSignature = k2.1 in absurd cc
+          | inl k2 ↦ elim k2.1 [
+            | inr k3 ↦ let p : refusals.Decode e ≡ refusals.NotYet = k3.1 in absurd cc
+            | inl k3 ↦ elim k3.1 [
+              | inr k4 ↦ let p : refusals.Decode e ≡ refusals.Stale = k4.1 in absurd cc
+              | inl k4 ↦ k4.1
+            ]
+          ]
+        ]
+    is-bad refusals.OtherKey h = (list, rest, front, h)
+    is-bad refusals.BadSignature h = (list, rest, front, h)
+    is-bad refusals.NotYet h = (list, rest, front, h)
+    is-bad refusals.Stale h = (list, rest, front, h)
 
 module _ (s : Setting) (ca : Validated) where
   -- ---- the manifest
@@ -143,24 +187,20 @@ module _ (s : Setting) (ca : Validated) where
         → IsOnlyFront (CrlForm Der) octets other rest → other ≡ list
     same-list other rest front = (l.front.only other rest front.found).0
 
+    none-bad : (fault : ListFault) → HasBadList s.verdict s.now ca octets fault → ⊥
+    none-bad fault h = first-fails (list_checks s.verdict s.now ca (h.0)) fault (h.3)
+        (subst (λ (x : RevocationList). AllHold (list_checks s.verdict s.now ca x))
+        (sym (same-list (h.0) (h.1) (h.2))) (all-hold s.verdict s.now ca octets list l))
+
     list-refused : (fault : ListFault) → ReadsList s.verdict s.now ca octets (Err fault)
         → fault ≡ refusals.Decode errors.Memory
     list-refused (refusals.Decode e) h =
         ap (λ (d : DecodeError). refusals.Decode d)
         (refuses (CrlForm Der) octets list l.rest e h l.front)
-    list-refused refusals.OtherKey h = absurd (h.3
-        (subst (λ (x : RevocationList). x.tbs.extensions.authority_key
-        ≡ ca.cert.certificate.tbs.extensions.key.subject_key)
-        (sym (same-list (h.0) (h.1) (h.2))) l.key))
-    list-refused refusals.BadSignature h = absurd (h.3
-        (subst (λ (x : RevocationList). IsSignedBy s.verdict ca.cert.certificate.tbs.key x)
-        (sym (same-list (h.0) (h.1) (h.2))) l.signed))
-    list-refused refusals.NotYet h = absurd (h.3
-        (subst (λ (x : RevocationList). stamp x.tbs.this_update ≤ stamp s.now)
-        (sym (same-list (h.0) (h.1) (h.2))) l.current.0))
-    list-refused refusals.Stale h = absurd (h.3
-        (subst (λ (x : RevocationList). stamp s.now ≤ stamp x.tbs.next_update)
-        (sym (same-list (h.0) (h.1) (h.2))) l.current.1))
+    list-refused refusals.OtherKey h = absurd (none-bad refusals.OtherKey h)
+    list-refused refusals.BadSignature h = absurd (none-bad refusals.BadSignature h)
+    list-refused refusals.NotYet h = absurd (none-bad refusals.NotYet h)
+    list-refused refusals.Stale h = absurd (none-bad refusals.Stale h)
 
   module _ (folder : List ℕ) (signer : Certificate) (manifest : Manifest)
       (list : RevocationList) where

@@ -1,5 +1,5 @@
 -- Why a locator has no trust anchor in a copy.
-use Rattle.std.specs.Prelude.{◌≡◌, ℕ, List, Option, None, Some, All, Err}
+use Rattle.std.specs.Prelude.{◌≡◌, ℕ, List, Option, None, All, Err}
 use Rattle.rpki_certs.specs.Issuer.{IsAnchored}
 use Rattle.rpki_tal.specs.Tal.{Locator}
 use Rattle.rpki_tal.specs.Uri.{uri_text, https_first}
@@ -14,13 +14,6 @@ use Rattle.rpki_tree.specs.declared.anchor.AnchorFault.TheVariants.{Memory}
 -- none of these URIs is cached
 abbrev pub AreMissing : (List ℕ → Option (List ℕ)) → List TalUri → Type 0
 AreMissing cached uris = All (λ u. cached (uri_text u) ≡ None) uris
-
--- What is found: the octets of the first of these URIs under which a certificate with this key is,
--- or that there is none.
-abbrev pub FindsFirst : (List ℕ → Option (List ℕ)) → List ℕ → List TalUri → Option (List ℕ)
-    → Type 0
-FindsFirst cached key uris None = All (λ u. ¬ HasKeyAt cached key u) uris
-FindsFirst cached key uris (Some octets) = IsFirstWithKey cached key uris octets
 
 -- Why no certificate with this key is under these URIs.
 abbrev pub LacksKey : (List ℕ → Option (List ℕ)) → List ℕ → List TalUri → AnchorFault → Type 0

@@ -1,10 +1,11 @@
 -- The publication point of a certification authority (CA). The sections are those of RFC 9286,
 -- where no other RFC is named.
-use Rattle.std.specs.Prelude.{◌≡◌, ◌≤◌, ℕ, List, ◌∷◌, ◌++◌, Option, None, Some, All, Contains, map}
-use Rattle.std.specs.Prelude.{Result, Ok, Err}
+use Rattle.std.specs.Prelude.{◌≡◌, ◌≤◌, ℕ, List, [], ◌∷◌, ◌++◌, Option, None, Some, All, Contains}
+use Rattle.std.specs.Prelude.{Result, Ok, Err, map}
 use Rattle.rpki_der.specs.declared.mode.Mode.TheVariants.{Der}
 use Rattle.rpki_der.specs.Form.Decodes.{IsOnlyFront}
 use Rattle.rpki_basics.specs.declared.limits.ManifestRule.TheVariants.{Any}
+use Rattle.rpki_faults.specs.Checks.{◌unless◌, Check, IsFirstFault}
 use Rattle.rpki_crls.specs.Crl.{RevocationList, CrlForm, IsSignedBy}
 use Rattle.rpki_certs.specs.Cert.{Certificate}
 use Rattle.rpki_certs.specs.Validate.{Validated}
@@ -127,39 +128,30 @@ IsPoint s ca p = (folder : List ℕ) × (uri : List ℕ) × PublishesIn ca folde
 
 -- ---- what is answered
 
--- The octets begin with a revocation list, and with no other one, and P holds of it.
-abbrev pub BeginsWithList : List ℕ → (RevocationList → Type 0) → Type 0
-BeginsWithList octets P = (list : RevocationList) × (rest : List ℕ)
-    × IsOnlyFront (CrlForm Der) octets list rest × P list
+-- What is checked of a revocation list, in this order: it names the key of the CA, this key signed
+-- it, and it is current (RFC 6487, section 5).
+abbrev pub list_checks : Verdict → Moment → Validated → RevocationList → List (Check ListFault)
+list_checks verdict now ca list =
+    (OtherKey unless (list.tbs.extensions.authority_key
+    ≡ ca.cert.certificate.tbs.extensions.key.subject_key))
+    ∷ (BadSignature unless IsSignedBy verdict ca.cert.certificate.tbs.key list)
+    ∷ (NotYet unless (stamp list.tbs.this_update ≤ stamp now))
+    ∷ (Stale unless (stamp now ≤ stamp list.tbs.next_update))
+    ∷ []
 
--- What is answered of a revocation list: a yes, where it is one of the CA, or what it lacks.
-abbrev pub ChecksList : Verdict → Moment → Validated → RevocationList
-    → Result (Unit {0}) ListFault → Type 0
-ChecksList verdict now ca list (Ok done) =
-    (list.tbs.extensions.authority_key ≡ ca.cert.certificate.tbs.extensions.key.subject_key)
-    × IsSignedBy verdict ca.cert.certificate.tbs.key list
-    × IsWithin list.tbs.this_update list.tbs.next_update now
-ChecksList verdict now ca list (Err (Decode e)) = ⊥
-ChecksList verdict now ca list (Err OtherKey) =
-    ¬ (list.tbs.extensions.authority_key ≡ ca.cert.certificate.tbs.extensions.key.subject_key)
-ChecksList verdict now ca list (Err BadSignature) =
-    ¬ (IsSignedBy verdict ca.cert.certificate.tbs.key list)
-ChecksList verdict now ca list (Err NotYet) = ¬ (stamp list.tbs.this_update ≤ stamp now)
-ChecksList verdict now ca list (Err Stale) = ¬ (stamp now ≤ stamp list.tbs.next_update)
+-- The octets begin with a revocation list, and with no other one, and this is the fault of the
+-- first check of it that fails.
+abbrev pub HasBadList : Verdict → Moment → Validated → List ℕ → ListFault → Type 0
+HasBadList verdict now ca octets fault = (list : RevocationList) × (rest : List ℕ)
+    × IsOnlyFront (CrlForm Der) octets list rest
+    × IsFirstFault (list_checks verdict now ca list) fault
 
--- What is answered of octets that may be a revocation list of the CA: the list, or what it lacks,
--- unless memory runs out.
+-- What is answered of octets that may be a revocation list of the CA: the list, or the fault of the
+-- first check that fails, unless memory runs out.
 abbrev pub ReadsList : Verdict → Moment → Validated → List ℕ → Result KeptCrl ListFault → Type 0
 ReadsList verdict now ca octets (Ok crl) = IsListOf verdict now ca octets crl.list
 ReadsList verdict now ca octets (Err (Decode e)) = Refuses e (HasNoFront (CrlForm Der) octets)
-ReadsList verdict now ca octets (Err OtherKey) = BeginsWithList octets (λ list.
-    ¬ (list.tbs.extensions.authority_key ≡ ca.cert.certificate.tbs.extensions.key.subject_key))
-ReadsList verdict now ca octets (Err BadSignature) = BeginsWithList octets (λ list.
-    ¬ (IsSignedBy verdict ca.cert.certificate.tbs.key list))
-ReadsList verdict now ca octets (Err NotYet) = BeginsWithList octets (λ list.
-    ¬ (stamp list.tbs.this_update ≤ stamp now))
-ReadsList verdict now ca octets (Err Stale) = BeginsWithList octets (λ list.
-    ¬ (stamp now ≤ stamp list.tbs.next_update))
+ReadsList verdict now ca octets (Err fault) = HasBadList verdict now ca octets fault
 
 -- What is answered of a file: a yes, where it is present, and else that it is missing, or that it
 -- has another hash, unless memory runs out.

@@ -1,5 +1,6 @@
 -- Files that were read from a repository, and what of them a publication point needs.
 use Rattle.std.specs.Prelude.{◌≡◌, ◌⊎◌, ℕ, List, Option, None, Some, Vec, All, Contains}
+use Rattle.std.specs.Prelude.{unwrap_or}
 use Rattle.std.specs.declared.alloc.Global.{Global}
 use Rattle.std.specs.BTreeMap.{BTreeMap, get_by}
 use Rattle.std.specs.Cmp.Lexicographic.{slice_cmp}
@@ -15,33 +16,40 @@ use Rattle.rpki_tal.specs.Uri.{uri_text}
 use Rattle.rpki_tal.specs.declared.uri.TalUri.{TalUri}
 use Rattle.rpki_tree.specs.Point.{Lists, NamesManifest, PublishesIn}
 
--- the octets that a map has for a URI, if it has any
-abbrev pub cached_in : BTreeMap (Vec ℕ Global) (List ℕ) → List ℕ → Option (List ℕ)
-cached_in files uri = get_by (λ key. slice_cmp nat_cmp uri key.items) files
+-- what was read for a URI, octets or that there are none, if it was read
+abbrev pub kept_in : BTreeMap (Vec ℕ Global) (Option (List ℕ)) → List ℕ
+    → Option (Option (List ℕ))
+kept_in files uri = get_by (λ key. slice_cmp nat_cmp uri key.items) files
+
+-- the octets that were read for a URI, if there were any
+abbrev pub octets_in : BTreeMap (Vec ℕ Global) (Option (List ℕ)) → List ℕ → Option (List ℕ)
+octets_in files uri = unwrap_or (kept_in files uri) None
 
 -- ---- what is read
 
--- The octets were put under the URI, in place of what was there; nothing else has changed.
-abbrev pub IsPut : List ℕ → List ℕ → (List ℕ → Option (List ℕ)) → (List ℕ → Option (List ℕ))
-    → Type 0
-IsPut uri octets old new = (new uri ≡ Some octets)
+-- What was read for the URI was put there, in place of what was there; nothing else has changed.
+abbrev pub IsPut : List ℕ → Option (List ℕ) → (List ℕ → Option (Option (List ℕ)))
+    → (List ℕ → Option (Option (List ℕ))) → Type 0
+IsPut uri found old new = (new uri ≡ Some found)
     × ((other : List ℕ) → ¬ (other ≡ uri) → new other ≡ old other)
 
--- What is there is what the copy has.
-abbrev pub IsPart : (List ℕ → Option (List ℕ)) → (List ℕ → Option (List ℕ)) → Type 0
-IsPart cached files = (uri : List ℕ) → (files uri ≡ None) ⊎ (files uri ≡ cached uri)
+-- What was read is what the copy has.
+abbrev pub IsPart : (List ℕ → Option (List ℕ)) → (List ℕ → Option (Option (List ℕ))) → Type 0
+IsPart cached files = (uri : List ℕ) → (files uri ≡ None) ⊎ (files uri ≡ Some (cached uri))
 
--- What the copy has for the URIs of which P holds is put to what is there: where this is what the
--- copy has, it stays so, and what is there for these URIs is what the copy has for them.
+-- What the copy has for the URIs of which P holds is put to what was read: where this is what the
+-- copy has, it stays so, and all of these URIs were read then.
 pub record PutsRead (cached : List ℕ → Option (List ℕ)) (P : List ℕ → Type 0)
-    (old new : List ℕ → Option (List ℕ)) : Type 0 where
+    (old new : List ℕ → Option (Option (List ℕ))) : Type 0 where
   pub part : IsPart cached old → IsPart cached new
-  pub others : (other : List ℕ) → old other ≡ cached other → new other ≡ cached other
-  pub here : IsPart cached old → (uri : List ℕ) → P uri → new uri ≡ cached uri
+  pub others : (other : List ℕ) → old other ≡ Some (cached other)
+      → new other ≡ Some (cached other)
+  pub here : IsPart cached old → (uri : List ℕ) → P uri → new uri ≡ Some (cached uri)
 
 -- ---- what is needed
 
--- The octets begin with a manifest, good or not, and it lists a file with this URI below the folder.
+-- The octets begin with a manifest, good or not, and it lists a file with this URI below the
+-- folder.
 abbrev pub ListsIn : List ℕ → List ℕ → List ℕ → Type 0
 ListsIn folder octets uri =
     BeginsWith (ObjectForm manifest_kind.type (ManifestForm Any Der) Der) octets

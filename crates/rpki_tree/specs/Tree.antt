@@ -1,5 +1,5 @@
 -- The tree of certification authorities (CAs) under a trust anchor, and what is said in it.
-use Rattle.std.specs.Prelude.{◌≡◌, ◌⊎◌, ℕ, List, ◌∷◌, ◌++◌, Option, None, Some, All}
+use Rattle.std.specs.Prelude.{◌≡◌, ◌⊎◌, ℕ, List, ◌∷◌, ◌++◌, Option, Some, All}
 use Rattle.rpki_crls.specs.Crl.{RevocationList}
 use Rattle.rpki_faults.specs.Checks.{AllHold}
 use Rattle.rpki_certs.specs.Cert.{Certificate}

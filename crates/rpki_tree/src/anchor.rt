@@ -1,14 +1,13 @@
 //! Trust anchors.
 
-ghost use Rattle.std.specs.Prelude.{◌≡◌, ◌↔◌, IfErr, IfOk, IsTrue, MatchOption, MatchResult, Some};
+ghost use Rattle.std.specs.Prelude.{◌≡◌, ◌↔◌, IfErr, IfOk, IsTrue, MatchResult, Some};
 ghost use Rattle.rpki_certs.specs.Issuer.{BeginsWithCert, IsAnchored};
 ghost use Rattle.rpki_certs.specs.Validate.{Validated};
 ghost use Rattle.rpki_tal.specs.Uri.{https_first, uri_text};
-ghost use Rattle.rpki_tree.specs.Anchors.{AreMissing, FindsFirst, IsAnchorMemory, LacksAnchor};
-ghost use Rattle.rpki_tree.specs.Anchors.{LacksKey};
+ghost use Rattle.rpki_tree.specs.Anchors.{IsAnchorMemory, LacksAnchor, LacksKey};
 ghost use Rattle.rpki_tree.specs.Passes.{setting};
 ghost use Rattle.rpki_tree.specs.Texts.{anchor_fault_text};
-ghost use Rattle.rpki_tree.specs.Tree.{HasKeyAt, IsAnchorOf, IsFirstWithKey};
+ghost use Rattle.rpki_tree.specs.Tree.{IsAnchorOf, IsFirstWithKey};
 
 use crate::copy::LocalCopy;
 use crate::memory::is_issuer_memory;
@@ -100,90 +99,40 @@ fn begins_with_key(alloc: Global, octets: &Bytes, tal: &Tal) -> Result<bool, All
     }
 }
 
-// The octets that the copy has for a URI, where they begin with a certificate that has the key of a
-// locator.
-fn octets_with_key<S: LocalCopy>(
-    alloc: Global,
-    copy: &S,
-    tal: &Tal,
-    uri: &TalUri,
-) -> Result<Option<Bytes>, AllocError>
-    ensures { IfOk result (λ found. MatchOption found
-        (¬ HasKeyAt (S.cached copy.now) tal.now.key uri.now)
-        (λ octets. (S.cached copy.now (uri_text uri.now) ≡ Some octets)
-        × BeginsWithCert octets (λ c. c.tbs.key ≡ tal.now.key))) }
-{
-    let Some(octets) = octets_for(alloc, copy, uri)? else {
-        return Ok(None);
-    };
-    match begins_with_key(alloc, &octets, tal) {
-        Ok(true) => Ok(Some(octets)),
-        Ok(false) => {
-            drop(octets);
-            Ok(None)
-        }
-        Err(error) => {
-            drop(octets);
-            Err(error)
-        }
-    }
-}
-
-// The octets of the first URI of a locator under which the copy has a certificate with its key.
-fn first_with_key<S: LocalCopy>(
-    alloc: Global,
-    copy: &S,
-    tal: &Tal,
-) -> Result<Option<Bytes>, AllocError>
-    ensures { IfOk result (FindsFirst (S.cached copy.now) tal.now.key tal.now.uris) }
-{
-    for uri in tal.uris() {
-        match octets_with_key(alloc, copy, tal, uri) {
-            Err(error) => return Err(error),
-            Ok(Some(octets)) => return Ok(Some(octets)),
-            Ok(None) => {}
-        }
-    }
-    Ok(None)
-}
-
-// Whether the copy has nothing for the URIs of a locator.
-fn is_missing<S: LocalCopy>(alloc: Global, copy: &S, tal: &Tal) -> Result<bool, AllocError>
-    ensures { IfOk result (λ is. IsTrue is ↔ AreMissing (S.cached copy.now) tal.now.uris) }
-{
-    for uri in tal.uris() {
-        match octets_for(alloc, copy, uri) {
-            Err(error) => return Err(error),
-            Ok(Some(octets)) => {
-                drop(octets);
-                return Ok(false);
-            }
-            Ok(None) => {}
-        }
-    }
-    Ok(true)
-}
-
 // The octets of the first URI of a locator under which the copy has a certificate with its key, or
-// why there are none.
+// why there are none. What the copy has for a URI is read once.
 fn octets_in_order<S: LocalCopy>(alloc: Global, copy: &S, tal: &Tal) -> Result<Bytes, AnchorFault>
     ensures { MatchResult result
         (IsFirstWithKey (S.cached copy.now) tal.now.key tal.now.uris)
         (LacksKey (S.cached copy.now) tal.now.key tal.now.uris) }
 {
-    match first_with_key(alloc, copy, tal) {
-        Err(_) => Err(AnchorFault::Memory),
-        Ok(Some(octets)) => Ok(octets),
-        Ok(None) => match is_missing(alloc, copy, tal) {
-            Err(_) => Err(AnchorFault::Memory),
-            Ok(true) => Err(AnchorFault::Missing),
-            Ok(false) => Err(AnchorFault::OtherKey),
-        },
+    let mut are_missing = true;
+    for uri in tal.uris() {
+        match octets_for(alloc, copy, uri) {
+            Err(_) => return Err(AnchorFault::Memory),
+            Ok(None) => {}
+            Ok(Some(octets)) => {
+                are_missing = false;
+                match begins_with_key(alloc, &octets, tal) {
+                    Err(_) => {
+                        drop(octets);
+                        return Err(AnchorFault::Memory);
+                    }
+                    Ok(true) => return Ok(octets),
+                    Ok(false) => drop(octets),
+                }
+            }
+        }
+    }
+    if are_missing {
+        Err(AnchorFault::Missing)
+    } else {
+        Err(AnchorFault::OtherKey)
     }
 }
 
-// The octets of the first URI of a locator, HTTPS first, under which the copy has a certificate with
-// its key, or why there are none.
+// The octets of the first URI of a locator, HTTPS first, under which the copy has a certificate
+// with its key, or why there are none.
 fn anchor_octets<S: LocalCopy>(alloc: Global, copy: &S, tal: &Tal) -> Result<Bytes, AnchorFault>
     ensures { MatchResult result
         (IsFirstWithKey (S.cached copy.now) tal.now.key (https_first tal.now.uris))

@@ -1,10 +1,9 @@
 //! What a pass finds.
 
-ghost use Rattle.std.specs.Prelude.{◌≡◌, ◌∷◌, [], ◌++◌, map, IfOk};
+ghost use Rattle.std.specs.Prelude.{◌≡◌, ◌∷◌, [], ◌++◌, IfOk};
 ghost use Rattle.rpki_tree.specs.Cause.{fault_of};
-ghost use Rattle.rpki_tree.specs.Files.{origins};
 ghost use Rattle.rpki_tree.specs.Memory.{IsCauseMemory};
-ghost use Rattle.rpki_tree.specs.Told.{origin_found, roa_found, aspa_found, refusal};
+ghost use Rattle.rpki_tree.specs.Told.{roa_found, aspa_found, refusal};
 
 use crate::payload::{Payload, Providers};
 use crate::refusal::{Cause, Refusal};

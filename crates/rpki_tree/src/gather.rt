@@ -1,10 +1,9 @@
 //! The files that a publication point or a locator needs, read from a repository.
 
-ghost use Rattle.std.specs.Prelude.{◌≡◌, IfOk, IfSome, Contains};
-ghost use Rattle.rpki_tal.specs.Uri.{uri_text};
+ghost use Rattle.std.specs.Prelude.{IfOk, IfSome};
 ghost use Rattle.rpki_tree.specs.Point.{Lists};
-ghost use Rattle.rpki_tree.specs.Snapshot.{cached_in, AgreesAt, AgreesOn, ListsAt, ListsIn, Needs};
-ghost use Rattle.rpki_tree.specs.Snapshot.{PutsRead, IsTextOf};
+ghost use Rattle.rpki_tree.specs.Snapshot.{kept_in, octets_in, AgreesAt, AgreesOn, ListsAt};
+ghost use Rattle.rpki_tree.specs.Snapshot.{ListsIn, Needs, PutsRead, IsTextOf};
 
 use crate::copy::Repository;
 use crate::read::{folder_of, manifest_of};
@@ -28,8 +27,8 @@ fn put_listed<R: Repository>(
     files: &mut FileMap,
 ) -> Result<(), AllocError>
     ensures { IfOk result (λ _. IfSome (R.told repository.now) (λ cached.
-        PutsRead cached (Lists folder.now manifest.now) (cached_in files.old)
-        (cached_in files.new))) }
+        PutsRead cached (Lists folder.now manifest.now) (kept_in files.old)
+        (kept_in files.new))) }
 {
     let mut listed = manifest.iter_uris(alloc, folder);
     while let Some(item) = listed.next() {
@@ -53,8 +52,8 @@ fn put_below<R: Repository>(
     files: &mut FileMap,
 ) -> Result<(), AllocError>
     ensures { IfOk result (λ _. IfSome (R.told repository.now) (λ cached.
-        PutsRead cached (ListsIn folder.now octets) (cached_in files.old)
-        (cached_in files.new))) }
+        PutsRead cached (ListsIn folder.now octets) (kept_in files.old)
+        (kept_in files.new))) }
 {
     match Signed::<ManifestContent>::decode(alloc, octets, true, ManifestRule::Any) {
         Err(DecodeError::Memory) => Err(AllocError),
@@ -80,8 +79,8 @@ fn put_files<R: Repository>(
     files: &mut FileMap,
 ) -> Result<(), AllocError>
     ensures { IfOk result (λ _. IfSome (R.told repository.now) (λ cached.
-        PutsRead cached (ListsAt ca.now (cached_in files.old) uri.now) (cached_in files.old)
-        (cached_in files.new))) }
+        PutsRead cached (ListsAt ca.now (octets_in files.old) uri.now) (kept_in files.old)
+        (kept_in files.new))) }
 {
     match folder_of(ca) {
         None => Ok(()),
@@ -101,7 +100,7 @@ fn put_point<R: Repository>(
     files: &mut FileMap,
 ) -> Result<(), AllocError>
     ensures { IfOk result (λ _. IfSome (R.told repository.now) (λ cached.
-        PutsRead cached (Needs ca.now cached) (cached_in files.old) (cached_in files.new))) }
+        PutsRead cached (Needs ca.now cached) (kept_in files.old) (kept_in files.new))) }
 {
     match manifest_of(ca) {
         None => Ok(()),
@@ -121,7 +120,7 @@ pub fn snapshot_of<R: Repository>(
     ca: &ResourceCert,
 ) -> Result<Snapshot, AllocError>
     ensures { IfOk result (λ s. IfSome (R.told repository.now) (λ cached.
-        AgreesOn ca.now cached (cached_in s.files))) }
+        AgreesOn ca.now cached (octets_in s.files))) }
 {
     let mut files = BTreeMap::new(alloc);
     match put_point(alloc, repository, ca, &mut files) {
@@ -141,7 +140,7 @@ fn put_uris<R: Repository>(
     files: &mut FileMap,
 ) -> Result<(), AllocError>
     ensures { IfOk result (λ _. IfSome (R.told repository.now) (λ cached.
-        PutsRead cached (IsTextOf tal.now.uris) (cached_in files.old) (cached_in files.new))) }
+        PutsRead cached (IsTextOf tal.now.uris) (kept_in files.old) (kept_in files.new))) }
 {
     for uri in tal.uris() {
         match put_read(alloc, repository, uri.as_str().as_bytes(), files) {
@@ -159,7 +158,7 @@ pub fn snapshot_at<R: Repository>(
     tal: &Tal,
 ) -> Result<Snapshot, AllocError>
     ensures { IfOk result (λ s. IfSome (R.told repository.now) (λ cached.
-        AgreesAt tal.now.uris cached (cached_in s.files))) }
+        AgreesAt tal.now.uris cached (octets_in s.files))) }
 {
     let mut files = BTreeMap::new(alloc);
     match put_uris(alloc, repository, tal, &mut files) {

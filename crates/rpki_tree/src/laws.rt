@@ -23,5 +23,6 @@ pub fn kinds_are_those_of_names()
 pub fn points_need_what_they_list()
     ensures { (s : Setting) (ca : Validated) (a b : List ℕ → Option (List ℕ)) → AgreesOn ca a b
         → (said : List Finding) (children : List Validated)
-        → CaTellsAll (with_copy s a) ca said children ↔ CaTellsAll (with_copy s b) ca said children }
+        → CaTellsAll (with_copy s a) ca said children
+        ↔ CaTellsAll (with_copy s b) ca said children }
 {}

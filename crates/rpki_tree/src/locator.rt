@@ -1,7 +1,6 @@
 //! A pass under a trust anchor's locator.
 
-ghost use Rattle.std.specs.Prelude.{◌≡◌, ◌↔◌, Contains, IfErr, IfOk, IfSome, Err, Some};
-ghost use Rattle.rpki_tree.specs.Anchors.{IsAnchorMemory};
+ghost use Rattle.std.specs.Prelude.{◌↔◌, Contains, IfErr, IfOk, IfSome, Err, Some};
 ghost use Rattle.rpki_tree.specs.Passes.{judged};
 ghost use Rattle.rpki_tree.specs.Pass.{IsAnchorFault, IsPassFrom, IsPassOf, WhyNoPass};
 ghost use Rattle.rpki_tree.specs.Pass.{WhyNoPassFrom};

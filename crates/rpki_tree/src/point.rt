@@ -3,13 +3,14 @@
 ghost use Rattle.std.specs.Prelude.{◌≡◌, Ok, Result};
 ghost use Rattle.std.specs.Fn.{FnOnceTakesAt, FnOnceReturnsAt};
 ghost use Rattle.rpki_der.specs.declared.mode.Mode.TheVariants.{Der};
+ghost use Rattle.rpki_faults.specs.Checks.{AnswersFirstFault};
 ghost use Rattle.rpki_certs.specs.Cert.{KeptCertificate};
 ghost use Rattle.rpki_files.specs.Manifest.{ManifestForm};
 ghost use Rattle.rpki_files.specs.Uris.{uris_of};
 ghost use Rattle.rpki_signed.specs.Check.{Checks};
 ghost use Rattle.rpki_signed.specs.Exact.{IsExact};
 ghost use Rattle.rpki_files.specs.Manifest.Checks.{manifest_kind};
-ghost use Rattle.rpki_tree.specs.Point.{ReadsList, ChecksList, FindsFile, FindsFiles};
+ghost use Rattle.rpki_tree.specs.Point.{list_checks, ReadsList, FindsFile, FindsFiles};
 
 use crate::copy::LocalCopy;
 use bytes::Bytes;
@@ -49,7 +50,7 @@ pub enum FileFault {
 }
 
 /// The revocation list of a CA at the front of octets in DER, where it is current: its key signed
-/// it, and is named in it (RFC 6487, section 5).
+/// it, and is named in it (RFC 6487, section 5). A refusal is that of the first check that fails.
 pub fn list_in<C: Crypto>(
     alloc: Global,
     octets: Bytes,
@@ -68,14 +69,15 @@ pub fn list_in<C: Crypto>(
     }
 }
 
-// What a revocation list lacks to be one of the CA.
+// What a revocation list lacks to be one of the CA, by the first check that fails.
 fn check_list<C: Crypto>(
     list: &Crl,
     ca: &ResourceCert,
     crypto: &C,
     now: Time,
 ) -> Result<(), ListFault>
-    ensures { ChecksList (C.is_signed crypto.now) now ca.now list.now.list result }
+    ensures { AnswersFirstFault (list_checks (C.is_signed crypto.now) now ca.now list.now.list)
+        result }
 {
     if list.authority_key_identifier() != ca.cert().subject_key_identifier() {
         return Err(ListFault::OtherKey);

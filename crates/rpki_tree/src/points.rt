@@ -1,7 +1,5 @@
 //! The publication points of a pass, for a walk.
 
-ghost use Rattle.std.specs.Prelude.{◌≡◌};
-
 use crate::copy::Repository;
 use crate::found::Finding;
 use crate::pass::Pass;

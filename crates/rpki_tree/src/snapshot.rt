@@ -1,15 +1,15 @@
 //! Files that were read from a repository, each once, and are kept in memory.
 
 ghost use Rattle.std.specs.Prelude.{◌≡◌, IfOk, IfSome};
-ghost use Rattle.rpki_tree.specs.Snapshot.{cached_in, IsPut, PutsRead};
+ghost use Rattle.rpki_tree.specs.Snapshot.{kept_in, octets_in, IsPut, PutsRead};
 
 use crate::copy::{LocalCopy, Repository};
 use bytes::Bytes;
 use std::alloc::{AllocError, Global};
 use std::collections::BTreeMap;
 
-/// Octets by URI.
-pub type FileMap = BTreeMap<Vec<u8>, Bytes>;
+/// What was read, by URI: octets, or that there are none.
+pub type FileMap = BTreeMap<Vec<u8>, Option<Bytes>>;
 
 /// Files that were read, by URI.
 #[derive(Drop)]
@@ -17,37 +17,42 @@ pub struct Snapshot {
     pub files: FileMap,
 }
 
-/// The octets that a map has for a URI. They are shared, and not copied.
+/// The octets that were read for a URI, if there were any. They are shared, and not copied.
 pub(crate) fn octets_in(files: &FileMap, uri: &[u8]) -> Result<Option<Bytes>, AllocError>
-    ensures { IfOk result (λ found. found ≡ cached_in files.now uri.now) }
+    ensures { IfOk result (λ found. found ≡ octets_in files.now uri.now) }
 {
     match files.get(uri) {
-        None => Ok(None),
-        Some(octets) => Ok(Some(octets.clone()?)),
+        Some(Some(octets)) => Ok(Some(octets.clone()?)),
+        Some(None) | None => Ok(None),
     }
 }
 
 impl LocalCopy for Snapshot {
-    ghost use Rattle.rpki_tree.specs.Snapshot.{cached_in};
+    ghost use Rattle.rpki_tree.specs.Snapshot.{octets_in};
 
-    ghost cached = { λ s. cached_in s.files };
+    ghost cached = { λ s. octets_in s.files };
 
     fn read(&self, _alloc: Global, uri: &[u8]) -> Result<Option<Bytes>, AllocError> {
         octets_in(&self.files, uri)
     }
 }
 
-// Puts octets under a URI.
-fn put_file(alloc: Global, uri: &[u8], octets: Bytes, files: &mut FileMap) -> Result<(), AllocError>
-    ensures { IfOk result (λ _. IsPut uri.now octets (cached_in files.old) (cached_in files.new)) }
+// Keeps what was read for a URI.
+fn put_file(
+    alloc: Global,
+    uri: &[u8],
+    found: Option<Bytes>,
+    files: &mut FileMap,
+) -> Result<(), AllocError>
+    ensures { IfOk result (λ _. IsPut uri.now found (kept_in files.old) (kept_in files.new)) }
 {
     match Vec::from_slice(alloc, uri) {
         Err(error) => {
-            drop(octets);
+            drop(found);
             Err(error)
         }
         Ok(key) => {
-            files.insert(key, octets)?;
+            files.insert(key, found)?;
             Ok(())
         }
     }
@@ -61,14 +66,13 @@ pub(crate) fn put_read<R: Repository>(
     files: &mut FileMap,
 ) -> Result<(), AllocError>
     ensures { IfOk result (λ _. IfSome (R.told repository.now) (λ cached.
-        PutsRead cached (λ other. other ≡ uri.now) (cached_in files.old) (cached_in files.new))) }
+        PutsRead cached (λ other. other ≡ uri.now) (kept_in files.old) (kept_in files.new))) }
 {
     if files.contains_key(uri) {
         return Ok(());
     }
     match repository.read(alloc, uri) {
         Err(error) => Err(error),
-        Ok(None) => Ok(()),
-        Ok(Some(octets)) => put_file(alloc, uri, octets, files),
+        Ok(found) => put_file(alloc, uri, found, files),
     }
 }

@@ -1,6 +1,6 @@
 //! Certificates and objects that a CA issued and did not revoke.
 
-ghost use Rattle.std.specs.Prelude.{◌≡◌, Ok};
+ghost use Rattle.std.specs.Prelude.{Ok};
 ghost use Rattle.std.specs.Fn.{FnOnceTakesAt, FnOnceReturnsAt};
 ghost use Rattle.rpki_der.specs.declared.mode.Mode.TheVariants.{Der};
 ghost use Rattle.rpki_crls.specs.Crl.{RevocationList};
@@ -149,8 +149,8 @@ fn ca_in<C: Crypto>(
 }
 
 /// The certificate of a CA at the front of octets in DER, with its numbers, where it is valid under
-/// an issuer (RFC 6487, section 7.2) and the list does not revoke it. A refusal is that of the first
-/// check that fails, and whether the list revokes it is the last one.
+/// an issuer (RFC 6487, section 7.2) and the list does not revoke it. A refusal is that of the
+/// first check that fails, and whether the list revokes it is the last one.
 pub fn ca_under<C: Crypto>(
     alloc: Global,
     octets: Bytes,

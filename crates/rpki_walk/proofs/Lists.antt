@@ -1,5 +1,6 @@
 -- Lists: what holds of each two, what is mapped, and the last of what is mapped.
-use Rattle.std.proofs.Common.{◌≡◌, ◌<◌, ℕ, zero, suc, List, [], ◌∷◌, ◌++◌, length, Contains, All, inl, inr}
+use Rattle.std.proofs.Common.{◌≡◌, ◌<◌, ℕ, zero, suc, List, [], ◌∷◌, ◌++◌, length, Contains, All}
+use Rattle.std.proofs.Common.{inl, inr}
 use Rattle.std.proofs.Common.{map, refl, sym, subst, ap, ◌∙◌, arith, append_assoc, get_or, drop}
 use Rattle.std.specs.Prelude.{AllPairs}
 use Rattle.std.proofs.lemmas.List.{append-nil, get_or_append_left, length-append}

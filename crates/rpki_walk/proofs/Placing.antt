@@ -134,8 +134,8 @@ module _ {Ca : Type 0} (key : Ca → List ℕ) (keys : List (List ℕ)) where
               | inr now ↦ inr (
                   let r = mapped-from (λ (c : Child Ca). c.at) h.put u now in
                   subst (λ (v : Under Ca). IsPlaced key keys children v) (r.2)
-                  (let k = All-contains (λ c. IsNumbered key keys children c.number c.at) h.put (r.0)
-                  h.each (r.1) in record {
+                  (let k = All-contains (λ c. IsNumbered key keys children c.number c.at) h.put
+                  (r.0) h.each (r.1) in record {
                     ca = (r.0.number, k.stands.0, k.stands.1);
                     free = k.free;
                     above = k.above;

@@ -181,8 +181,8 @@ module _ {Ca X : Type 0} (tells : Ca → List X → List Ca → Type 0) (key : C
             v.told.told;
         stand = All-push (λ w. Stands {X = X} key anchor visits w.place w.at) t.visits visit
             (All-weaker (λ w. Stands {X = X} key anchor t.visits w.place w.at)
-            (λ w. Stands {X = X} key anchor visits w.place w.at) (λ w h. grows w.place w.at h) t.visits
-            t.are.stand)
+            (λ w. Stands {X = X} key anchor visits w.place w.at) (λ w h. grows w.place w.at h)
+            t.visits t.are.stand)
             (grows place next stands);
         order = all_pairs_push (λ w x. IsBefore w.place x.place) t.visits visit t.are.order
             (all-of (λ w. IsBefore w.place place) t.visits later);
@@ -207,12 +207,12 @@ module _ {Ca X : Type 0} (tells : Ca → List X → List Ca → Type 0) (key : C
       unfolding children child_at
       all-stand = All-append (λ s. Stands {X = X} key anchor visits s.place s.at) others children
           (all-of (λ s. Stands {X = X} key anchor visits s.place s.at) others (λ s c.
-          grows s.place s.at (All-contains (λ r. Stands {X = X} key anchor t.visits r.place r.at) t.stack s
-          t.stand (other-waits s c))))
+          grows s.place s.at (All-contains (λ r. Stands {X = X} key anchor t.visits r.place r.at)
+          t.stack s t.stand (other-waits s c))))
           (All-map (λ s. Stands {X = X} key anchor visits s.place s.at) child_at v.put.put
           (All-weaker (λ c. IsNumbered key (next.keys ++ key next.ca ∷ []) v.children c.number c.at)
-          (λ c. Stands {X = X} key anchor visits (place ++ c.number ∷ []) c.at) child-stands v.put.put
-          v.put.each))
+          (λ c. Stands {X = X} key anchor visits (place ++ c.number ∷ []) c.at) child-stands
+          v.put.put v.put.each))
 
       other-left : (s : Pending Ca) → Contains others s → IsLeft place s.place
       unfolding top

@@ -15,8 +15,8 @@ pub record Child (Ca : Type 0) : Type 0 where
   pub number : ℕ
   pub at : Under Ca
 
--- The children that may stand below CAs with these keys wait behind those that waited, from the last
--- child to the first.
+-- The children that may stand below CAs with these keys wait behind those that waited, from the
+-- last child to the first.
 pub record IsPut {Ca : Type 0} (key : Ca → List ℕ) (keys : List (List ℕ)) (children : List Ca)
     (old new : List (Under Ca)) : Type 0 where
   pub put : List (Child Ca)

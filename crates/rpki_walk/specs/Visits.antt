@@ -1,6 +1,6 @@
 -- The walk over the certification authorities (CAs) under a trust anchor: depth first, a CA before
--- those below it, and the children of a CA in their order. A place is the list of the numbers of the
--- children that lead there from the anchor down, counted from 0.
+-- those below it, and the children of a CA in their order. A place is the list of the numbers of
+-- the children that lead there from the anchor down, counted from 0.
 use Rattle.std.specs.Prelude.{◌≡◌, ◌⊎◌, ℕ, ◌<◌, ◌≤◌, List, [], ◌∷◌, ◌++◌, length, Contains, All}
 use Rattle.std.specs.Prelude.{AllPairs, flat_map, slice_index_or}
 use Rattle.rpki_walk.specs.Walk.{Under, IsFree}

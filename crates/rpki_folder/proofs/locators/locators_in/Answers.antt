@@ -1,6 +1,6 @@
 use Rattle.std.proofs.Common.{◌≡◌, ℕ, List, ◌++◌, ◌∷◌, [], refl, Some, None, rules, subst}
 use Rattle.std.proofs.lemmas.Slice.Zip.{Zip-more, either_empty_from_Zip}
-use Rattle.rpki_folder.specs.Locators.{IsLocated, IsNotLocated}
+use Rattle.rpki_folder.specs.Locators.{IsNamedLocator, IsNoLocator}
 use Rattle.rpki_folder.proofs.Locating.{none-located, one-more, one-bad, all-located}
 use Rattle.rpki_folder.proofs.locators.locators_in.Goals as goal
 
@@ -13,9 +13,9 @@ returns-in-Err c =
     let z = Zip-more c.loop-word.word-iterator c.next.new.self
     (Some (c.in-Some.word, c.in-Some.octets)) (c.in-Some.word, c.in-Some.octets) refl
     c.in-Some.ensures.steps in
-    one-bad _ c.loop-word.located.items _ _ _ _ c.in-Some.word.now c.in-Some.octets.now
+    one-bad _ c.loop-word.locators.items _ _ _ _ c.in-Some.word.now c.in-Some.octets.now
     c.loop-word.invariant z.0 z.1 c.in-Err.fault
-    (subst (λ (o : List ℕ). IsNotLocated (c.in-Some.word.now.now, o) c.in-Err.fault)
+    (subst (λ (o : List ℕ). IsNoLocator (c.in-Some.word.now.now, o) c.in-Err.fault)
     c.deref.ensures.value c.in-Err.ensures)
 
 pub loop-word-preserved : goal.loop-word-preserved
@@ -23,14 +23,14 @@ loop-word-preserved c =
     let z = Zip-more c.loop-word.word-iterator c.next.new.self
     (Some (c.in-Some.word, c.in-Some.octets)) (c.in-Some.word, c.in-Some.octets) refl
     c.in-Some.ensures.steps in
-    let items : c.push.new.self.items ≡ c.loop-word.located.items ++ c.in-Ok.one ∷ [] =
+    let items : c.push.new.self.items ≡ c.loop-word.locators.items ++ c.in-Ok.one ∷ [] =
     search rules in
-    rw items (one-more _ c.loop-word.located.items _ _ _ _ c.in-Some.word.now
+    rw items (one-more _ c.loop-word.locators.items _ _ _ _ c.in-Some.word.now
     c.in-Some.octets.now c.loop-word.invariant z.0 z.1 c.in-Ok.one
-    (subst (λ (o : List ℕ). IsLocated (c.in-Some.word.now.now, o) c.in-Ok.one)
+    (subst (λ (o : List ℕ). IsNamedLocator (c.in-Some.word.now.now, o) c.in-Ok.one)
     c.deref.ensures.value c.in-Ok.ensures))
 
 pub returns : goal.returns
-returns c = all-located _ c.loop-word.located.items _ _ c.loop-word.invariant
+returns c = all-located _ c.loop-word.locators.items _ _ c.loop-word.invariant
     (either_empty_from_Zip c.loop-word.word-iterator c.next.new.self None refl
     c.in-None.ensures.steps)

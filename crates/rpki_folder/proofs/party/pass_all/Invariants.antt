@@ -1,13 +1,13 @@
 use Rattle.std.proofs.Common.{take}
 use Rattle.std.specs.List.{AllZip}
 use Rattle.rpki_folder.specs.Party.{party_of}
-use Rattle.rpki_folder.specs.Passed.{IsUnder}
-use Rattle.rpki_folder.specs.declared.locators.Located.{Located}
+use Rattle.rpki_folder.specs.Outcomes.{IsOutcomeUnder}
+use Rattle.rpki_folder.specs.declared.locators.NamedLocator.{NamedLocator}
 use Rattle.rpki_folder.proofs.party.pass_all.Given as goal
 
 -- what the passes so far come to
 abbrev pub invariant-loop-one : goal.invariant-loop-one
 invariant-loop-one g l =
-    AllZip (λ (x : Located). IsUnder
+    AllZip (λ (x : NamedLocator). IsOutcomeUnder
     (party_of g.F.Folders.told g.C.Crypto.digest_of g.C.Crypto.is_signed l.party) l.request
-    x.name.now x.locator) (take l.one-index l.located) l.passed.items
+    x.name.now x.locator) (take l.one-index l.locators) l.outcomes.items

@@ -4,4 +4,4 @@ use Rattle.rpki_folder.proofs.report.faults_of.Given as goal
 
 -- the lines so far
 abbrev pub invariant-loop-one : goal.invariant-loop-one
-invariant-loop-one l = string_bytes l.text ≡ faults_text (take l.one-index l.passed)
+invariant-loop-one l = string_bytes l.text ≡ faults_text (take l.one-index l.outcomes)

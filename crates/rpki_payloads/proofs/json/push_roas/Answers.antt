@@ -1,9 +1,9 @@
-use Rattle.std.proofs.Common.{◌++◌, codes}
+use Rattle.std.proofs.Common.{◌++◌, codes, refl}
 use Rattle.rpki_payloads.specs.Found.{all_named}
 use Rattle.rpki_payloads.specs.Picked.{origins_among}
 use Rattle.rpki_payloads.specs.Separated.{separated}
 use Rattle.rpki_payloads.specs.Texts.Json.{json_roa, json_roas}
-use Rattle.rpki_payloads.proofs.Growing.{grown}
+use Rattle.rpki_show.proofs.Grown.{grown}
 use Rattle.rpki_payloads.proofs.json.push_roas.Goals as goal
 
 pub returns : goal.returns
@@ -11,6 +11,8 @@ unfolding json_roas
 returns c =
     let roas = separated (codes ",") json_roa (origins_among (all_named c.args.found.now)) in
     grown c.write-2.result c.args.text.now c.write.new.self c.write-2.new.self
-    (codes "{\n  \"roas\": [") (roas ++ codes "\n  ]") c.in_ok-write.ensures.bytes
+    (codes "{\n  \"roas\": [") (roas ++ codes "\n  ]") (roas ++ codes "\n  ]")
+    c.in_ok-write.ensures.bytes
     (grown c.write-2.result c.write.new.self c.push_origins.new.text c.write-2.new.self roas
-    (codes "\n  ]") c.in_ok-push_origins.ensures c.write-2.ensures.bytes)
+    (codes "\n  ]") (codes "\n  ]") c.in_ok-push_origins.ensures c.write-2.ensures.bytes refl)
+    refl

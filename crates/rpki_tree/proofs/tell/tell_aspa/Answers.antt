@@ -15,8 +15,8 @@ returns-in-Err g c =
     put-refused (HasAspa s c.args.ca.now c.args.list.now.list c.args.file.octets) aspa_found
     c.args.file.uri faults.NoAspa c.args.said.now.items c.put_refusal.new.said.items
     (has-none s aspa_kind (AspaForm s.providers) c.args.ca.now c.args.list.now.list
-    c.args.file.octets c.in-Err.error c.in-Err.ensures.exact) c.put_refusal.result c.put_refusal.ensures.memory
-    c.put_refusal.ensures.refused
+    c.args.file.octets c.in-Err.error c.in-Err.ensures.exact) c.put_refusal.result
+    c.put_refusal.ensures.memory c.put_refusal.ensures.refused
 
 pub returns-in-Ok : goal.returns-in-Ok
 returns-in-Ok g c =
@@ -25,5 +25,5 @@ returns-in-Ok g c =
     put-found (HasAspa s c.args.ca.now c.args.list.now.list c.args.file.octets) aspa_found
     c.args.file.uri faults.NoAspa c.args.said.now.items c.put_aspa-put.new.said.items
     c.in-Ok.good.1 (has-content s aspa_kind (AspaForm s.providers) c.args.ca.now
-    c.args.list.now.list c.args.file.octets c.in-Ok.good c.in-Ok.ensures.exact) c.put_aspa-put.result
-    c.put_aspa-put.ensures
+    c.args.list.now.list c.args.file.octets c.in-Ok.good c.in-Ok.ensures.exact)
+    c.put_aspa-put.result c.put_aspa-put.ensures

@@ -1,7 +1,7 @@
 use Rattle.std.proofs.lemmas.Result.{IfOk-weaker}
 use Rattle.rpki_walk.specs.Steps.{IsTold}
 use Rattle.rpki_tree.specs.Passes.{judged}
-use Rattle.rpki_tree.specs.Snapshot.{cached_in}
+use Rattle.rpki_tree.specs.Snapshot.{octets_in}
 use Rattle.rpki_tree.specs.Told.{CaTellsAll}
 use Rattle.rpki_tree.specs.Visited.{TellsFrom}
 use Rattle.rpki_tree.proofs.From.{read-tells}
@@ -11,7 +11,7 @@ pub returns-in-Ok : goal.returns-in-Ok
 returns-in-Ok g c =
     let told = g.R.Repository.told c.args.pass.now.copy.now in
     let over = judged g.C.Crypto.digest_of g.C.Crypto.is_signed c.args.pass.now in
-    let read = cached_in c.in-Ok.files.files in
+    let read = octets_in c.in-Ok.files.files in
     let ca = c.args.ca.now in
     IfOk-weaker c.read_ca-children.result
     (λ children. IsTold (CaTellsAll (over read)) ca c.args.said.now.items

@@ -3,20 +3,20 @@ use Rattle.std.specs.List.{AllZip, zip}
 use Rattle.rpki_certs.specs.Issuer.{octets_of}
 use Rattle.rpki_cli.specs.Answer.{said}
 use Rattle.rpki_cli.specs.declared.verify.relying_party.PayloadsRequest.{PayloadsRequest}
-use Rattle.rpki_folder.specs.Locators.{IsLocated}
+use Rattle.rpki_folder.specs.Locators.{IsNamedLocator}
 use Rattle.rpki_folder.specs.Party.{party_of}
 use Rattle.rpki_folder.specs.Report.{IsReportUnder}
-use Rattle.rpki_folder.specs.declared.locators.Located.{Located}
+use Rattle.rpki_folder.specs.declared.locators.NamedLocator.{NamedLocator}
 use Rattle.rpki_folder.proofs.Passing.{is-report}
 use Rattle.rpki_folder.proofs.party.FolderPartyRelyingParty.answer.Goals as goal
 
 pub returns-in-Ok : goal.returns-in-Ok
 returns-in-Ok g c =
-    is-report _ c.args.request.now _ c.in-Ok.located.items _
-    (subst (λ (r : PayloadsRequest). AllZip IsLocated
-    (zip r.locators (octets_of c.args.files.now)) c.in-Ok.located.items) c.request.view_is
+    is-report _ c.args.request.now _ c.in-Ok.locators.items _
+    (subst (λ (r : PayloadsRequest). AllZip IsNamedLocator
+    (zip r.locators (octets_of c.args.files.now)) c.in-Ok.locators.items) c.request.view_is
     c.in-Ok.ensures)
-    (subst (λ (l : List Located). IsReportUnder
+    (subst (λ (l : List NamedLocator). IsReportUnder
     (party_of g.F.Folders.told g.C.Crypto.digest_of g.C.Crypto.is_signed c.args.self.now)
     c.args.request.now l (said c.report_under-answer.result)) c.deref.ensures.value
     c.report_under-answer.ensures)

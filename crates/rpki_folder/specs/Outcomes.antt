@@ -19,7 +19,7 @@ abbrev pub Outcome : Type 0
 Outcome = Result (List Finding) PassFault
 
 -- the name of a locator, and what the pass under it came to
-pub record Passed : Type 0 where
+pub record AnchorOutcome : Type 0 where
   pub name : List ℕ
   pub outcome : Outcome
 
@@ -46,12 +46,12 @@ IsOutcome told over tal limit (Err fault) =
     × WhyNoPassFrom told over tal limit fault
 
 -- what the pass for a request comes to under the locator with this name
-abbrev pub IsUnder : Party → PayloadsRequest → List ℕ → Locator → Passed → Type 0
-IsUnder party request name tal passed =
-    (passed.name ≡ name) × IsOutcome (told_in party.told request.copy name tal)
-    (setting_of party request) tal party.limit passed.outcome
+abbrev pub IsOutcomeUnder : Party → PayloadsRequest → List ℕ → Locator → AnchorOutcome → Type 0
+IsOutcomeUnder party request name tal a =
+    (a.name ≡ name) × IsOutcome (told_in party.told request.copy name tal)
+    (setting_of party request) tal party.limit a.outcome
 
 -- what it comes to under the locator that this file is
-abbrev pub IsPassed : Party → PayloadsRequest → File → Passed → Type 0
-IsPassed party request file passed =
-    (tal : Locator) × IsLocator file tal × IsUnder party request (locator_name file.0) tal passed
+abbrev pub IsOutcomeOf : Party → PayloadsRequest → File → AnchorOutcome → Type 0
+IsOutcomeOf party request file a = (tal : Locator) × IsLocator file tal
+    × IsOutcomeUnder party request (locator_name file.0) tal a

@@ -1,7 +1,7 @@
 //! What a pass under a locator comes to.
 
-ghost use Rattle.std.specs.Prelude.{◌≡◌, IfOk, is_ok, Ok, Err};
-ghost use Rattle.rpki_payloads.specs.Grows.{Grows};
+ghost use Rattle.std.specs.Prelude.{◌≡◌, is_ok, Ok, Err};
+ghost use Rattle.rpki_show.specs.Grows.{Grows};
 ghost use Rattle.rpki_folder.specs.Report.{found_under, outcome_line};
 
 use rpki_payloads::AnchorFindings;
@@ -12,37 +12,37 @@ use std::marker::Model;
 
 /// The name of a locator, and what the pass under it came to.
 #[derive(Drop)]
-pub(crate) struct Passed<'a> {
+pub(crate) struct AnchorOutcome<'a> {
     name: &'a str,
     outcome: Result<Vec<Finding>, PassFault>,
 }
 
-impl<'a> Model for Passed<'a> {
-    ghost use Rattle.rpki_folder.specs.Passed.{Passed, outcome_of};
+impl<'a> Model for AnchorOutcome<'a> {
+    ghost use Rattle.rpki_folder.specs.Outcomes.{AnchorOutcome, outcome_of};
 
-    ghost Value = { Passed };
+    ghost Value = { AnchorOutcome };
 
     ghost view = { λ p. record { name = p.name.now; outcome = outcome_of p.outcome } };
 }
 
-impl<'a> Passed<'a> {
+impl<'a> AnchorOutcome<'a> {
     /// This was found under the locator with this name.
-    pub(crate) fn found(name: &'a str, found: Vec<Finding>) -> Passed<'a>
+    pub(crate) fn found(name: &'a str, found: Vec<Finding>) -> AnchorOutcome<'a>
         ensures name { result.name ≡ name.now }
         ensures outcome { result.outcome ≡ Ok found.items }
     {
-        Passed {
+        AnchorOutcome {
             name,
             outcome: Ok(found),
         }
     }
 
     /// There is no answer, for this fault.
-    pub(crate) fn refused(name: &'a str, fault: PassFault) -> Passed<'a>
+    pub(crate) fn refused(name: &'a str, fault: PassFault) -> AnchorOutcome<'a>
         ensures name { result.name ≡ name.now }
         ensures outcome { result.outcome ≡ Err fault }
     {
-        Passed {
+        AnchorOutcome {
             name,
             outcome: Err(fault),
         }
