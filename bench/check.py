@@ -1,80 +1,101 @@
-#!/usr/bin/env python3
-"""Measures the whole program's `check roa` beside `rpki-client -f` on the same objects, in one run.
+"""Measures `rpki_verify check roa` beside `rpki-client -f` on the same ROAs, for bench/run.
 
-    bench/check.py FOLDER [--callgrind]      makes the objects below FOLDER and prints the table of
-                                             times, and then that of instructions
-
-`bench/run --check` calls it; bench/README.md says what is measured. A subject that is not there, as
-a built program or as Debian's package, is left out.
+The ROAs have 10 to 100,000 prefixes, and their signers' certificates 2 or 1,000 blocks. All are
+below one CA and one trust anchor, laid out as rpki-client wants its cache. bench/README.md says
+more.
 """
 import importlib.util
 import ipaddress
+import itertools
 import os
 import pathlib
 import re
 import shutil
 import subprocess
 import sys
-import time
 
-sys.dont_write_bytecode = True
 TOP = pathlib.Path(__file__).resolve().parent.parent
-EXAMPLES = TOP / "examples"
-loading = importlib.util.spec_from_file_location("make", EXAMPLES / "make.py")
+loading = importlib.util.spec_from_file_location("make", TOP / "examples/make.py")
 make = importlib.util.module_from_spec(loading)
 loading.loader.exec_module(make)
 
-# How many measurements there are of each subject, of which the fastest counts.
-TRIES = 20
-
-# The blocks of the signer's certificate, no two of which touch, and how many prefixes each has.
-BLOCKS, EACH = 1000, 100
-
+PROGRAMS = ("rpki_verify",)
+PATH = f"{os.environ['PATH']}:/usr/sbin"
+BLOCKS, PREFIXES = (2, 1000), (10, 1000, 100_000)
 MOMENT = "20270101000000Z"
 
 
-def blocks():
-    """Half of them of IPv4, each a /20, and half of IPv6, each a /48."""
-    for at in range(BLOCKS // 2):
-        yield ipaddress.IPv4Network((0x0A000000 + (2 * at << 12), 20))
-        yield ipaddress.IPv6Network(((0x20010DB8 << 96) + (2 * at << 80), 48))
+def blocks(count):
+    """Half of them of IPv4 and half of IPv6, no two of which touch."""
+    if count == 2:
+        return [ipaddress.ip_network("10.0.0.0/8"), ipaddress.ip_network(make.NET6)]
+    pairs = ((ipaddress.IPv4Network((0x0A000000 + (2 * at << 12), 20)),
+              ipaddress.IPv6Network(((0x20010DB8 << 96) + (2 * at << 80), 48)))
+             for at in range(count // 2))
+    return list(itertools.chain.from_iterable(pairs))
 
 
-def prefixes():
-    """A /27 of IPv4 or a /64 of IPv6 each, and of each second one a maximum length."""
-    for block in blocks():
-        length = 27 if block.version == 4 else 64
-        for at, net in zip(range(EACH), block.subnets(new_prefix=length)):
-            yield f"{net}-{length + 1}" if at % 2 else str(net)
+def prefixes(held, count):
+    """A /27 of IPv4 or a /64 of IPv6 each, from the blocks in turn, and of each second one of a
+    block a maximum length."""
+    for at in range(count):
+        net, number = held[at % len(held)], at // len(held)
+        length = 27 if net.version == 4 else 64
+        first = int(net.network_address) + (number << net.max_prefixlen - length)
+        most = f"-{length + 1}" if number % 2 else ""
+        yield f"{type(net)((first, length))}{most}"
 
 
 class Object:
-    """A ROA in a cache as `rpki-client` wants it, with its list of verdicts."""
+    """A ROA in the cache."""
 
-    def __init__(self, folder, name, count, files):
-        self.count = count
+    def __init__(self, folder, held, count):
+        self.blocks, self.count = held, count
+        self.name = f"{held}-{count}.roa"
         self.cache, self.tal = folder / "cache", folder / "anchor.tal"
-        self.anchor = self.cache / make.HOST / "anchor.cer"
-        self.authority = self.cache / make.HOST / "anchor/authority.cer"
-        self.file = self.cache / make.HOST / "authority" / name
-        self.verdicts = folder / f"{name}.verdicts"
-        shutil.rmtree(folder, ignore_errors=True)
-        for path, octets in files.items():
-            write(folder / path if path in (self.tal.name, self.verdicts.name)
-                  else self.cache / path, octets)
-        write(self.cache / "ta/anchor/anchor.cer", self.anchor.read_bytes())
-        # (rpki-client, begun as root, reads as a user of its own)
-        for path in (folder, *folder.rglob("*")):
-            path.chmod(path.stat().st_mode | (0o555 if path.is_dir() else 0o444))
+        self.host = self.cache / make.HOST
+        self.file = self.host / "authority" / self.name
 
     def words(self, subject):
         """The words that ask a subject whether the object is good."""
-        chain = self.anchor, self.authority
         if subject == "rpki-client":
-            return ["-n", "-d", self.cache, "-t", self.tal, "-f", self.file]
-        if subject == "rpki_objects":
-            return ["check", "roa", self.file, MOMENT, self.verdicts, *chain]
-        return ["check", "roa", self.file, MOMENT, *chain]
+            words = ["-n", "-d", self.cache, "-t", self.tal, "-f", self.file]
+        else:
+            chain = self.host / "anchor.cer", self.host / "anchor/authority.cer"
+            words = ["check", "roa", self.file, MOMENT, *chain]
+        return list(map(str, words))
+
+
+def objects(folder):
+    """The ROAs, which are made unless they are there."""
+    found = [Object(folder, held, count) for held in BLOCKS for count in PREFIXES]
+    if not (folder / "made").is_file():
+        shutil.rmtree(folder, ignore_errors=True)
+        make_all(folder, found)
+        # (rpki-client, begun as root, reads as a user of its own)
+        for path in (folder, *folder.rglob("*")):
+            path.chmod(path.stat().st_mode | (0o555 if path.is_dir() else 0o444))
+        (folder / "made").touch()
+    return found
+
+
+def make_all(folder, found):
+    everything = make.Claim(["0.0.0.0/0", "::/0"], [(0, 2**32 - 1)])
+    anchor = make.Authority("anchor", None, everything, f"{make.RSYNC}/anchor.cer")
+    claim = make.Claim(["10.0.0.0/8", make.NET6], make.NUMBER)
+    ca = make.Authority("authority", anchor, claim, f"{anchor.folder}/authority.cer")
+    host = found[0].host
+    write(found[0].tal, make.locator(anchor))
+    write(host / "anchor.cer", anchor.octets)
+    write(found[0].cache / "ta/anchor/anchor.cer", anchor.octets)
+    write(host / "anchor/anchor.crl", anchor.revoked())
+    write(host / "anchor/authority.cer", ca.octets)
+    write(host / "authority/authority.crl", ca.revoked())
+    for it in found:
+        held = blocks(it.blocks)
+        content = make.roa(64496, list(prefixes(held, it.count)))
+        said = make.Claim(list(map(str, held)), [])
+        write(it.file, make.Made(it.name, ca, make.ROA, content, said).octets)
 
 
 def write(path, octets):
@@ -82,44 +103,13 @@ def write(path, octets):
     path.write_bytes(octets)
 
 
-def short(folder):
-    """The ROA of examples/ with two prefixes."""
-    name = "origin.roa"
-    files = {str(path.relative_to(EXAMPLES)): path.read_bytes()
-             for path in (EXAMPLES / make.HOST).rglob("*") if path.is_file()}
-    for other in ("anchor.tal", f"{name}.verdicts"):
-        files[other] = (EXAMPLES / other).read_bytes()
-    return Object(folder, name, 2, files)
-
-
-def long(folder):
-    """A ROA of many prefixes under a certificate of many blocks, with keys of 2048 bits."""
-    everything = make.Claim(["0.0.0.0/0", "::/0"], [(0, 2**32 - 1)])
-    anchor = make.Authority("anchor", None, everything, f"{make.RSYNC}/anchor.cer")
-    claim = make.Claim(["10.0.0.0/8", make.NET6], make.NUMBER)
-    ca = make.Authority("authority", anchor, claim, f"{anchor.folder}/authority.cer")
-    name, listed = "long.roa", list(prefixes())
-    content = make.roa(64496, listed)
-    made = make.Made(name, ca, make.ROA, content, make.Claim(list(map(str, blocks())), []))
-    return Object(folder, name, len(listed), {
-        "anchor.tal": make.locator(anchor),
-        f"{make.HOST}/anchor.cer": anchor.octets,
-        f"{make.HOST}/anchor/anchor.crl": anchor.revoked(),
-        f"{make.HOST}/anchor/authority.cer": ca.octets,
-        f"{make.HOST}/authority/authority.crl": ca.revoked(),
-        f"{make.HOST}/authority/{name}": made.octets,
-        f"{name}.verdicts": "".join(made.verdicts.lines).encode("ascii"),
-    })
-
-
 def programs():
     """The programs that are there, by the names of the subjects."""
-    found = {"rpki-client": shutil.which("rpki-client", path=f"{os.environ['PATH']}:/usr/sbin")}
-    for name in ("rpki_objects", "rpki_verify"):
-        built = TOP / "crates" / name / "out" / name
-        found[name] = str(built) if built.is_file() else None
-    for name, path in found.items():
-        if not path:
+    found = {name: TOP / "crates" / name / "out" / name for name in PROGRAMS}
+    found = {name: str(path) for name, path in found.items() if path.is_file()}
+    found["rpki-client"] = shutil.which("rpki-client", path=PATH)
+    for name in (*PROGRAMS, "rpki-client"):
+        if not found.get(name):
             print(f"bench: no {name}: measured without it")
     return {name: path for name, path in found.items() if path}
 
@@ -147,58 +137,45 @@ def compare(subjects, it):
         sys.exit(f"bench: the subjects show other prefixes of {it.file}")
 
 
-SILENT = [(os.POSIX_SPAWN_OPEN, 1, os.devnull, os.O_WRONLY, 0)]
+def took(launcher, path, words):
+    """Milliseconds by the clock and of the processor, and the KiB of the largest process, of a run
+    that the launcher begins: a process of this script would count for its own size."""
+    done = subprocess.run([launcher, "run", path, *words], stdout=subprocess.PIPE,
+                          stderr=subprocess.PIPE, text=True)
+    status, *measured = done.stdout.split() or [done.stderr]
+    if status != "0":
+        sys.exit(f"bench: {path} ended with {status}")
+    return [float(it) for it in measured]
 
 
-def took(subject, path, it):
-    """The milliseconds of a run by the clock, and those of the processors."""
-    words = [path, *map(str, it.words(subject))]
-    start = time.perf_counter()
-    child = os.posix_spawn(path, words, os.environ, file_actions=SILENT)
-    _, status, used = os.wait4(child, 0)
-    end = time.perf_counter()
-    assert status == 0, (subject, status)
-    return (end - start) * 1e3, (used.ru_utime + used.ru_stime) * 1e3
-
-
-def times(subjects, objects):
-    """Prints the fastest measurements, which are taken in turn."""
-    print(f"{'':<14}{'prefixes':>10}{'clock ms':>12}{'ratio':>8}{'processor ms':>16}{'ratio':>8}")
-    least = {(it.count, subject): (float("inf"),) * 2 for it in objects for subject in subjects}
-    for _ in range(TRIES):
-        for it in objects:
-            for subject, path in subjects.items():
-                at = it.count, subject
-                least[at] = tuple(map(min, least[at], took(subject, path, it)))
-    for (count, subject), (clock, processor) in least.items():
-        beside = least[count, next(iter(subjects))]
-        print(f"{subject:<14}{count:>10}{clock:>12.2f}{clock / beside[0]:>8.2f}"
-              f"{processor:>16.2f}{processor / beside[1]:>8.2f}")
-
-
-def instructions(subjects, objects):
-    """Prints the instructions of a run, of all processes that it begins."""
-    print(f"\n{'':<14}{'prefixes':>10}{'instructions':>16}{'ratio':>8}")
-    for it in objects:
-        beside = None
-        for subject, path in subjects.items():
-            words = ["valgrind", "--tool=callgrind", "--callgrind-out-file=/dev/null", path]
-            done = subprocess.run([*words, *it.words(subject)], capture_output=True, text=True)
-            count = sum(map(int, re.findall(r"Collected : (\d+)", done.stderr)))
-            beside = beside or count
-            print(f"{subject:<14}{it.count:>10}{count:>16}{count / beside:>8.2f}", flush=True)
-
-
-def main(folder, *words):
-    folder = pathlib.Path(folder).resolve()
-    subjects = programs()
-    objects = [short(folder / "short"), long(folder / "long")]
-    for it in objects:
+def times(launcher, subjects, found, tries):
+    """The least measurements of each subject and object, which are taken in turn."""
+    runs = {}
+    for it in found:
         compare(subjects, it)
-    times(subjects, objects)
-    if "--callgrind" in words:
-        instructions(subjects, objects)
+    for _ in range(tries):
+        for it in found:
+            for subject, path in subjects.items():
+                now = took(launcher, path, it.words(subject))
+                before = runs.get((subject, it.name), now)
+                runs[subject, it.name] = list(map(min, before, now))
+    by_name = {it.name: it for it in found}
+    return [{"subject": subject, "object": name, "blocks": by_name[name].blocks,
+             "prefixes": by_name[name].count, "clock": clock, "processor": processor,
+             "memory": memory}
+            for (subject, name), (clock, processor, memory) in runs.items()]
 
 
-if __name__ == "__main__":
-    main(*sys.argv[1:])
+def instructions(subjects, found, in_turn, few):
+    """The instructions of a run, of all processes that it begins, by subject and object."""
+    asked = [(subject, it) for subject in subjects for it in found if not few or it.count < 1000]
+
+    def counted(pair):
+        subject, it = pair
+        words = ["valgrind", "--tool=callgrind", "--callgrind-out-file=/dev/null",
+                 subjects[subject], *it.words(subject)]
+        done = subprocess.run(words, capture_output=True, text=True)
+        return sum(map(int, re.findall(r"Collected : (\d+)", done.stderr)))
+
+    return {(subject, it.name): count
+            for (subject, it), count in zip(asked, in_turn(counted, asked))}

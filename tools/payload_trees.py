@@ -6,10 +6,11 @@ the copy, or a URI to where nothing may be read, there is what a relying party w
 follows it says more. Each row of `TREES` is a name and a function that changes a `Tree`.
 """
 import copy
+import ipaddress
 import os
 
 from publication import (
-    EVERYTHING, FUTURE, HOST, NEXT, PAST, SIGNED, Ca, Router, certificate, locator, make, signer)
+    EVERYTHING, FUTURE, HOST, INHERITED, NEXT, PAST, SIGNED, Ca, Router, certificate, locator, make, signer)
 
 NO_MANIFEST, NO_FILE, NO_LIST, NO_ROA, NO_ASPA, NO_CA = (
     "no good manifest", "a listed file is missing or differs",
@@ -414,3 +415,51 @@ DEVICES = [
 ]
 
 TREES = SHAPES + POINTS + FILES + LOCATORS + DEVICES
+
+
+# ---- large files
+
+COUNT = 1_000_000
+
+
+def of_prefixes(t):
+    """The ROA of `a` has very many prefixes, each a /80 of what `a` has."""
+    first = int(ipaddress.IPv6Address("2001:db8:1::"))
+    prefixes = [first + (at << 48) for at in range(COUNT)]
+    addresses = make.sequence(*(make.sequence(make.bits(it.to_bytes(16, "big")[:10])) for it in prefixes))
+    family = make.sequence(make.octet_string(b"\0\2"), addresses)
+    content = make.sequence(make.integer(65001), make.sequence(family))
+    claim = make.Claim(["2001:db8:1::/48"], [])
+    t.a.add("o.roa", t.a.object("o.roa", make.ROA, content, claim))
+    t.says(PROVIDERS + [origin(65001, f"{ipaddress.IPv6Address(it)}/80") for it in prefixes] + C + B)
+
+
+def of_files(t):
+    """The manifest of `a` lists very many files that are not there."""
+    listed = make.sequence(*(make.sequence(make.ia5(f"{at}.roa"), make.bits(bytes(32)))
+                             for at in range(COUNT)))
+    times = make.generalized(SIGNED) + make.generalized(NEXT)
+    content = make.sequence(make.integer(1), times, make.SHA256, listed)
+    name = t.a.manifest.rsplit("/", 1)[1]
+    t.put(t.a.manifest, t.a.object(name, make.MANIFEST, content, INHERITED,
+                                   serial=t.a.MANIFEST_SERIAL))
+    t.says(B, (t.a.manifest, NO_FILE))
+
+
+def of_serials(t):
+    """The list of `a` has very many serial numbers, of no certificate that there is."""
+    t.a.revoked = range(COUNT, 2 * COUNT)
+
+
+LARGE = [
+    *(row for row in POINTS + FILES + LOCATORS if "zeros" in row[0]),
+    of_point("a list of zeros", NO_LIST, lambda t: (
+        vars(t.a).update(lists_it=False), t.a.files.update({"a.crl": ZEROS}))),
+    of_file("a certificate of zeros", "c.cer", A + B, lambda t: t.a.files.update({"c.cer": ZEROS})),
+    (f"a ROA of {COUNT} prefixes", of_prefixes),
+    (f"a manifest of {COUNT} files", of_files),
+    (f"a list of {COUNT} serial numbers", of_serials),
+]
+# How many times the files of the copy a run may need, where that is more than in tools/runs: each
+# prefix of a ROA is a payload, and a line.
+TIMES = {of_prefixes: 24}

@@ -1,202 +1,194 @@
-//! The same work in plain Rust, written by hand for this one format.
+//! The work in plain Rust, written by hand for these formats, as subjects. All that the proved code tests is tested. In
+//! each round a reference to the octets is taken, from which all is borrowed.
 
-use std::sync::Arc;
+pub mod aspas;
+pub mod certs;
+pub mod contents;
+pub mod der;
+pub mod sets;
+pub mod values;
 
-/// The contents of the value in front, which has this tag and a definite length in its shortest form, and what follows.
-#[inline]
-fn value(tag: u8, octets: &[u8]) -> Option<(&[u8], &[u8])> {
-    let (&identifier, octets) = octets.split_first()?;
-    if identifier != tag {
-        return None;
-    }
-    let (&first, octets) = octets.split_first()?;
-    let (length, octets) = if first < 0x80 {
-        (first as usize, octets)
-    } else {
-        let (digits, octets) = octets.split_at_checked(first as usize & 0x7f)?;
-        let least = match digits.len() {
-            1 => 0x80,
-            2 => 0x100,
-            3 => 0x1_0000,
-            4 => 0x100_0000,
-            _ => return None,
+use crate::calls::MISSING;
+use crate::samples::Sample;
+use der::stamp;
+use sets::Set;
+use std::hint::black_box;
+
+/// 1 January 2027, as in the exports.
+const NOW: [u64; 6] = [2027, 1, 1, 0, 0, 0];
+
+/// That moment.
+pub fn now() -> u64 {
+    stamp(NOW)
+}
+
+/// The sum of what this says of the octets in so many rounds.
+fn rounds_of(it: &Sample, rounds: u32, read: impl Fn(&[u8]) -> u64) -> u64 {
+    (0..rounds).fold(0, |sum: u64, _| {
+        let shared = it.shared();
+        sum.wrapping_add(read(black_box(&shared)))
+    })
+}
+
+fn front(octets: &[u8]) -> u64 {
+    octets.first().map_or(0, |octet| u64::from(*octet))
+}
+
+fn sum_of_manifest(octets: &[u8], is_strict: bool) -> u64 {
+    let manifest = black_box(contents::manifest(octets, is_strict));
+    manifest.map_or(0, |it| it.iter().map(|(name, hash)| name.len() as u64 + front(hash)).sum())
+}
+
+pub fn manifest(it: &Sample, rounds: u32) -> u64 {
+    rounds_of(it, rounds, |octets| sum_of_manifest(octets, true))
+}
+
+pub fn any_manifest(it: &Sample, rounds: u32) -> u64 {
+    rounds_of(it, rounds, |octets| sum_of_manifest(octets, false))
+}
+
+pub fn checklist(it: &Sample, rounds: u32) -> u64 {
+    rounds_of(it, rounds, |octets| {
+        let checklist = black_box(contents::checklist(octets));
+        let of = |(name, hash): (Option<&[u8]>, &[u8])| name.map_or(1, |name| name.len() as u64) + front(hash);
+        checklist.map_or(0, |it| it.iter().map(of).sum())
+    })
+}
+
+pub fn roa(it: &Sample, rounds: u32) -> u64 {
+    rounds_of(it, rounds, |octets| {
+        let Some(roa) = black_box(contents::roa(octets)) else {
+            return 0;
         };
-        let length = number(digits) as usize;
-        if length < least {
-            return None;
-        }
-        (length, octets)
-    };
-    octets.split_at_checked(length)
-}
-
-#[inline]
-fn number(digits: &[u8]) -> u32 {
-    digits.iter().fold(0, |n, digit| n << 8 | *digit as u32)
-}
-
-/// What the contents of an INTEGER say, from 0 to 2^32 - 1.
-#[inline]
-fn unsigned(contents: &[u8]) -> Option<u32> {
-    match *contents {
-        [] => None,
-        [first, ..] if first >= 0x80 => None,
-        [0, second, ..] if second < 0x80 => None,
-        [0, ref digits @ ..] if digits.len() <= 4 => Some(number(digits)),
-        ref digits if digits.len() <= 4 => Some(number(digits)),
-        _ => None,
-    }
-}
-
-/// The customer of the content in front, and the octets of its providers.
-#[inline]
-fn fields(octets: &[u8]) -> Option<(u32, &[u8])> {
-    let (fields, _) = value(0x30, octets)?;
-    let (version, fields) = value(0xa0, fields)?;
-    let (version, after) = value(2, version)?;
-    if version != [1] || !after.is_empty() {
-        return None;
-    }
-    let (customer, fields) = value(2, fields)?;
-    let customer = unsigned(customer)?;
-    if customer == 0 {
-        return None;
-    }
-    let (list, after) = value(0x30, fields)?;
-    if !after.is_empty() {
-        return None;
-    }
-    Some((customer, list))
-}
-
-/// The provider in front, and what follows it.
-#[inline]
-fn provider(list: &[u8]) -> Option<(u32, &[u8])> {
-    let (provider, after) = value(2, list)?;
-    Some((unsigned(provider)?, after))
-}
-
-/// Reads a content, tests all that the format asks, and calls `each` at each provider. Answers the customer and the
-/// octets of the providers.
-#[inline]
-fn read(octets: &[u8], mut each: impl FnMut(u32)) -> Option<(u32, &[u8])> {
-    let (customer, octets) = fields(octets)?;
-    let mut list = octets;
-    let mut count = 0;
-    let mut last = None;
-    while !list.is_empty() {
-        let (provider, after) = provider(list)?;
-        if count == 10_000 || provider == customer || last.is_some_and(|last| last == 0 || provider <= last) {
-            return None;
-        }
-        each(provider);
-        count += 1;
-        last = Some(provider);
-        list = after;
-    }
-    if count == 0 { None } else { Some((customer, octets)) }
-}
-
-/// A content in memory.
-pub struct Content {
-    pub customer: u32,
-    pub providers: Vec<u32>,
-}
-
-/// Reads a content into memory.
-#[inline(never)]
-pub fn decode(octets: &[u8]) -> Option<Content> {
-    let mut providers = Vec::new();
-    let (customer, _) = read(octets, |provider| providers.push(provider))?;
-    Some(Content { customer, providers })
-}
-
-/// Reads a content in one pass that keeps nothing, and answers the sum of the providers' numbers.
-#[inline(never)]
-pub fn walk(octets: &[u8]) -> Option<u64> {
-    let mut sum = 0;
-    read(octets, |provider| sum += provider as u64)?;
-    Some(sum)
-}
-
-/// A content that keeps the octets of its providers. (The customer is not asked for here.)
-#[allow(dead_code)]
-pub struct Kept<'a> {
-    customer: u32,
-    providers: &'a [u8],
-}
-
-/// Reads a content, of which the octets of the providers are kept.
-#[inline(never)]
-pub fn kept(octets: &[u8]) -> Option<Kept<'_>> {
-    let (customer, providers) = read(octets, |_| {})?;
-    Some(Kept { customer, providers })
-}
-
-impl Kept<'_> {
-    /// The providers, each of which is read again.
-    #[inline]
-    pub fn iter(&self) -> impl Iterator<Item = u32> {
-        let mut list = self.providers;
-        std::iter::from_fn(move || {
-            let (provider, after) = provider(list)?;
-            list = after;
-            Some(provider)
+        roa.iter().fold(0, |sum: u64, address| {
+            sum.wrapping_add((address.addr >> 64) as u64).wrapping_add(u64::from(address.max_length()))
         })
+    })
+}
+
+pub fn aspa(it: &Sample, rounds: u32) -> u64 {
+    rounds_of(it, rounds, |octets| {
+        let content = black_box(aspas::kept(octets));
+        content.map_or(0, |it| it.iter().map(u64::from).sum())
+    })
+}
+
+pub fn aspa_in_one_pass(it: &Sample, rounds: u32) -> u64 {
+    rounds_of(it, rounds, |octets| aspas::walk(octets).unwrap_or(0))
+}
+
+pub fn write_aspa(it: &Sample, rounds: u32) -> u64 {
+    let content = aspas::decode(it.octets()).expect("a content");
+    (0..rounds).map(|_| black_box(aspas::write(black_box(&content))).len() as u64).sum()
+}
+
+pub fn cert(it: &Sample, rounds: u32) -> u64 {
+    rounds_of(it, rounds, |octets| u64::from(black_box(certs::cert(octets)).is_some()))
+}
+
+/// How many blocks the sets of a certificate have, or 0 where it is not valid.
+fn blocks_of(octets: &[u8], issuer: &certs::Cert, sets: &certs::Sets) -> u64 {
+    let validated = certs::cert(octets).and_then(|cert| {
+        let sets = certs::validate(&cert, issuer, sets, now())?;
+        Some((cert, sets))
+    });
+    black_box(validated).map_or(0, |(_, sets)| sets.count())
+}
+
+/// The certificate of the trust anchor and its numbers.
+pub fn anchor(octets: &[u8]) -> (certs::Cert<'_>, certs::Sets) {
+    let issuer = certs::cert(octets).expect("a certificate");
+    let sets = certs::anchor(&issuer, now()).expect("the one of a trust anchor");
+    (issuer, sets)
+}
+
+pub fn validate(it: &Sample, rounds: u32) -> u64 {
+    let [_, octets] = it.parts();
+    let (issuer, sets) = anchor(octets);
+    rounds_of(it, rounds, |octets| blocks_of(octets, &issuer, &sets))
+}
+
+/// A number as a serial number.
+pub fn serial(number: u32) -> [u8; 20] {
+    let mut serial = [0; 20];
+    serial[16..].copy_from_slice(&number.to_be_bytes());
+    serial
+}
+
+fn asks(crl: &certs::Crl) -> u64 {
+    if crl.contains(black_box(&serial(MISSING))) { 1 } else { 1 << 32 }
+}
+
+pub fn crl(it: &Sample, rounds: u32) -> u64 {
+    rounds_of(it, rounds, |octets| certs::crl(octets).map_or(0, |crl| asks(black_box(&crl))))
+}
+
+pub fn asked(it: &Sample, rounds: u32) -> u64 {
+    let crl = certs::crl(it.octets()).expect("a revocation list");
+    (0..rounds).map(|_| asks(black_box(&crl))).sum()
+}
+
+pub fn time(it: &Sample, rounds: u32) -> u64 {
+    rounds_of(it, rounds, |octets| values::time(octets).unwrap_or(0))
+}
+
+pub fn key(it: &Sample, rounds: u32) -> u64 {
+    rounds_of(it, rounds, |octets| {
+        let key = black_box(values::key(octets));
+        key.map_or(0, |key| u64::from(key.identifier[0]))
+    })
+}
+
+fn as_set(mins: &[u32], maxs: &[u32]) -> Set<u32> {
+    sets::build(mins, maxs, |it| it)
+}
+
+pub fn as_build(it: &Sample, rounds: u32) -> u64 {
+    let ends = it.numbers();
+    (0..rounds).map(|_| black_box(as_set(black_box(&ends.mins), &ends.maxs)).len() as u64).sum()
+}
+
+pub fn ip_build(it: &Sample, rounds: u32) -> u64 {
+    let ends = it.addresses();
+    let set = || sets::build(black_box(&ends.mins), &ends.maxs, |it| u128::from(it) << 64);
+    (0..rounds).map(|_| black_box(set()).len() as u64).sum()
+}
+
+fn halves(it: &Sample) -> (Set<u32>, Set<u32>) {
+    let ends = it.numbers();
+    let half = ends.mins.len() / 2;
+    (as_set(&ends.mins[..half], &ends.maxs[..half]), as_set(&ends.mins[half..], &ends.maxs[half..]))
+}
+
+pub fn union(it: &Sample, rounds: u32) -> u64 {
+    let (x, y) = halves(it);
+    (0..rounds).map(|_| black_box(sets::union(black_box(&x), &y)).len() as u64).sum()
+}
+
+pub fn intersection(it: &Sample, rounds: u32) -> u64 {
+    let (x, y) = halves(it);
+    let intersected = || {
+        let mut set = black_box(&x).clone();
+        set = sets::intersection(&set, &y);
+        set
+    };
+    (0..rounds).map(|_| black_box(intersected()).len() as u64).sum()
+}
+
+pub fn contains(it: &Sample, rounds: u32) -> u64 {
+    let (x, y) = halves(it);
+    let all = sets::union(&x, &y);
+    (0..rounds).map(|_| u64::from(sets::contains(black_box(&all), &y))).sum()
+}
+
+pub fn contains_block(it: &Sample, rounds: u32) -> u64 {
+    let ends = it.numbers();
+    let all = as_set(&ends.mins, &ends.maxs);
+    let mut count = 0;
+    for _ in 0..rounds {
+        for (min, max) in black_box(&ends.mins).iter().zip(&ends.maxs) {
+            count += u64::from(sets::contains_block(&all, (*min, max.saturating_add(max - min))));
+        }
     }
-}
-
-/// Reads a content into memory from a source that is shared, gives its part of the source up, and answers the sum of
-/// the providers' numbers.
-#[inline(never)]
-pub fn keep(source: Arc<[u8]>) -> Option<u64> {
-    let content = decode(&source)?;
-    Some(content.providers.iter().map(|provider| u64::from(*provider)).sum())
-}
-
-/// How many octets the contents of an INTEGER of this number have.
-#[inline]
-fn unsigned_len(number: u32) -> usize {
-    // a bit more than the number has, so that the first is 0
-    (32 - number.leading_zeros() as usize) / 8 + 1
-}
-
-fn put_header(out: &mut Vec<u8>, tag: u8, length: usize) {
-    out.push(tag);
-    if length < 0x80 {
-        out.push(length as u8);
-    } else {
-        let digits = (length as u32).to_be_bytes();
-        let digits = &digits[length.leading_zeros() as usize / 8 - 4..];
-        out.push(0x80 + digits.len() as u8);
-        out.extend_from_slice(digits);
-    }
-}
-
-fn header_len(length: usize) -> usize {
-    if length < 0x80 { 2 } else { 2 + (71 - length.leading_zeros() as usize) / 8 }
-}
-
-#[inline]
-fn put_unsigned(out: &mut Vec<u8>, number: u32) {
-    let length = unsigned_len(number);
-    out.push(2);
-    out.push(length as u8);
-    out.extend_from_slice(&(number as u64).to_be_bytes()[8 - length..]);
-}
-
-/// Writes a content into a vector of just its length.
-#[inline(never)]
-pub fn write(content: &Content) -> Vec<u8> {
-    let list: usize = content.providers.iter().map(|it| 2 + unsigned_len(*it)).sum();
-    let fields = 5 + 2 + unsigned_len(content.customer) + header_len(list) + list;
-    let mut out = Vec::with_capacity(header_len(fields) + fields);
-    put_header(&mut out, 0x30, fields);
-    out.extend_from_slice(&[0xa0, 3, 2, 1, 1]);
-    put_unsigned(&mut out, content.customer);
-    put_header(&mut out, 0x30, list);
-    for provider in &content.providers {
-        put_unsigned(&mut out, *provider);
-    }
-    out
+    count
 }

@@ -1,6 +1,7 @@
 #!/usr/bin/env python3
 """Writes a module of tests of changed objects: the first cases of tools/fuzz with the seed 1, each
 held to what follows from the definitions. No answer is known beforehand."""
+import base64
 import difflib
 import importlib.machinery
 import importlib.util
@@ -11,6 +12,9 @@ import types
 TOP = pathlib.Path(__file__).resolve().parent.parent.parent
 # How many cases, and how many of them a test has.
 COUNT, PART = 300, 50
+# Objects of which tools/fuzz found that something did not hold, until that was mended: the name of
+# the object that was changed, and the octets that the tool printed. None was found so far.
+FOUND = []
 HEAD = '''//! Changed objects of examples/, and what follows of their answers.
 
 use crate::given::{Nobody, Said, said};
@@ -187,8 +191,12 @@ def main():
             path = fuzz.OBJECTS[case.base][1]
             made = ", ".join(changes(fuzz.octets_of(path), case.octets))
             rows.append(f'    ("{case.base}", &[{made}]),')
-    for at in range(0, COUNT, PART):
-        print(TEST.format(at // PART, PART, "\n".join(rows[at:at + PART])))
+    for base, octets in FOUND:
+        before = fuzz.octets_of(fuzz.OBJECTS[base][1])
+        rows.append(f'    ("{base}", &[(0, {len(before)}, {literal(base64.b64decode(octets))})]),')
+    for at in range(0, len(rows), PART):
+        of = rows[at:at + PART]
+        print(TEST.format(at // PART, len(of), "\n".join(of)))
 
 
 def name_of(base):

@@ -297,7 +297,7 @@ def main():
         print(textwrap.fill(", ".join(f"0x{it:02X}" for it in octets), 100))
         print("];\n")
     print("/// The files.")
-    print(f"fn files() -> [(&'static str, &'static [u8]); {len(FILES)}] {{\n    [")
+    print(f"pub fn files() -> [(&'static str, &'static [u8]); {len(FILES)}] {{\n    [")
     for name in FILES:
         print(f'        ("{name}", &{name.upper()}),')
     print("    ]\n}\n")

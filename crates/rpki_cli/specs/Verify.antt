@@ -1,3 +1,7 @@
 -- The words and the clock of the program that computes signatures.
+pub mod CheckSettings
 pub mod Clock
+pub mod Kinds
+pub mod Moments
+pub mod Settings
 pub mod Words

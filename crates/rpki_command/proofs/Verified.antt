@@ -1,8 +1,11 @@
 pub mod Alike
+pub mod Issuing
 pub mod Listed
 pub mod Payloads
+pub mod Revoking
 pub mod Right
 pub mod RtaListed
 pub mod RtaSufficing
 pub mod Sufficing
 pub mod Verifying
+pub mod Zipped

@@ -2,8 +2,10 @@
 //! says, on which stream, and with which exit status.
 
 mod check;
+pub mod issuers;
 pub mod laws;
 mod payloads;
 mod program;
+pub mod revoked;
 
 pub use program::Verify;

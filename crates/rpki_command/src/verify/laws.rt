@@ -1,5 +1,7 @@
 //! What the definitions of the program with signatures say, as functions that do nothing.
 
+pub mod issuers;
+
 ghost use Rattle.std.specs.Prelude.{◌≡◌, ◌<◌, ◌^◌, ◌↔◌, ℕ, List, ◌∷◌, length, true, Option, Some};
 ghost use Rattle.std.specs.Prelude.{Result, Ok, Contains, map};
 ghost use Rattle.std.specs.List.{zip};

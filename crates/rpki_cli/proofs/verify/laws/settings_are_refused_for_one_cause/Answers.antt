@@ -1,0 +1,5 @@
+use Rattle.rpki_cli.proofs.Verified.CheckSettings.{refused-for-one}
+use Rattle.rpki_cli.proofs.verify.laws.settings_are_refused_for_one_cause.Goals as goal
+
+pub returns : goal.returns
+returns c = refused-for-one

@@ -1,0 +1,78 @@
+-- Which list revokes a certificate first.
+use Rattle.std.proofs.Common.{◌≡◌, ◌<◌, ◌+◌, ◌∙◌, ℕ, suc, List, [], ◌∷◌, ◌++◌, All, Err, Vec, Global}
+use Rattle.std.proofs.Common.{Bool, true, false, sym, ap, subst, arith, length, get_or, take, drop}
+use Rattle.std.proofs.Math.Seq.{drop-cons}
+use Rattle.std.proofs.lemmas.List.{take-append-drop}
+use Rattle.std.proofs.lemmas.List.Elements.{All-nil, All-cons}
+use Rattle.std.specs.List.{AllZip, zip}
+use Rattle.std.specs.Prelude.{◌↔◌, IsTrue}
+use Rattle.rpki_certs.specs.Cert.{Certificate}
+use Rattle.rpki_certs.specs.Issuer.{octets_of}
+use Rattle.rpki_certs.specs.Verify.{Verdict}
+use Rattle.rpki_crls.specs.Crl.{RevocationList}
+use Rattle.rpki_command.proofs.Verified.Zipped.{AreMadeTo, next-cut}
+use Rattle.rpki_command.specs.Verify.Revoked.{File, GivenList, Revokes, IsUnrevoked, IsRevokedBy}
+use Rattle.rpki_command.specs.Verify.Revoked.{IsList, IsGivenList, AreLists, IsOneList}
+use Rattle.rpki_command.specs.declared.verify.revoked.NotLists.{NotLists}
+use Rattle.rpki_command.specs.declared.verify.revoked.NotLists.TheVariants.{Bad, Memory}
+
+-- what decides a statement is not true where that does not hold
+pub not-true : {P : Type 0} (b : Bool) → b ≡ false → IsTrue b ↔ P → P → ⊥
+not-true b e h p = let t : b ≡ true = h.1 p in absurd cc
+
+-- a list is cut at a place
+pub cut-at : {A : Type 0} (xs : List A) (i : ℕ) (d : A) → i < length xs
+    → xs ≡ take i xs ++ get_or xs i d ∷ drop (i + 1) xs
+cut-at {A} xs i d l =
+    let next : suc i ≡ i + 1 = omega arith in
+    sym (take-append-drop i xs)
+    ∙ ap (λ (r : List A). take i xs ++ r)
+    (drop-cons xs i d l ∙ ap (λ (n : ℕ). get_or xs i d ∷ drop n xs) next)
+
+abbrev with-name : GivenList → List ℕ → GivenList
+with-name l name = record { name = name; list = l.list }
+
+-- the list at a place revokes the certificate, and none before it does
+pub first-revoking : (verdict : Verdict) (lists : List GivenList) (issuer c : Certificate) (i : ℕ)
+    (l : GivenList) (name : List ℕ) → i < length lists → l ≡ get_or lists i l → name ≡ l.name
+    → IsUnrevoked verdict (take i lists) issuer c → Revokes verdict issuer c l.list
+    → IsRevokedBy verdict lists issuer c name
+first-revoking verdict lists issuer c i l name there at named before revokes = record {
+  before = take i lists;
+  list = l.list;
+  after = drop (i + 1) lists;
+  cut = subst (λ (x : GivenList). lists ≡ take i lists ++ x ∷ drop (i + 1) lists)
+      (sym at ∙ ap (with-name l) (sym named))
+      (cut-at lists i l there);
+  revokes = revokes;
+  first = before;
+}
+
+-- ---- files
+
+abbrev is-read : File → Type 0
+is-read f = (list : RevocationList) × IsList f list
+
+-- those that are read are lists
+are-read : (files : List File) (lists : List GivenList) → AllZip IsGivenList files lists
+    → All is-read files
+are-read [] lists h = All-nil is-read
+are-read (f ∷ files) [] h = absurd h
+are-read (f ∷ files) (l ∷ lists) h =
+    All-cons is-read f files (l.list, h.0.1) (are-read files lists h.1)
+
+-- one of the files begins with no list
+pub one-bad : (all : List File) (lists : List GivenList) (names rest : List (List ℕ))
+    (files others : List (Vec ℕ Global)) (name : List ℕ) (v : Vec ℕ Global)
+    → AreMadeTo IsGivenList all lists names files → names ≡ name ∷ rest → files ≡ v ∷ others
+    → (fault : NotLists) → IsOneList (name, v.items) (Err fault) → AreLists all (Err fault)
+one-bad all lists names rest files others name v m first second (Bad same) h = record {
+  before = m.done;
+  octets = v.items;
+  after = zip rest (octets_of others);
+  cut = subst (λ (w : List ℕ). all ≡ m.done ++ (w, v.items) ∷ zip rest (octets_of others))
+      (sym h.0) (next-cut all m.done names rest files others name v m.is first second);
+  lists = are-read m.done lists m.each;
+  bad = h.1;
+}
+one-bad all lists names rest files others name v m first second Memory h = tt
