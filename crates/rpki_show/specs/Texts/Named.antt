@@ -6,7 +6,7 @@ use Rattle.rpki_der.specs.Text.Hex.{upper_hex}
 use Rattle.rpki_show.specs.Texts.Serial.{serial_hex}
 
 -- the line of a serial number
-abbrev pub serial_line : List ℕ → ℕ → List ℕ
+unfoldable pub serial_line : List ℕ → ℕ → List ℕ
 serial_line name n = name ++ (codes " " ++ (serial_hex n ++ codes "\n"))
 
 -- the line of a moment (RFC 3339, section 5.6)
@@ -14,7 +14,7 @@ unfoldable pub moment_line : List ℕ → Moment → List ℕ
 moment_line name m = name ++ (codes " " ++ (iso_text m ++ codes "\n"))
 
 -- the line of the identifier of a key, in upper hexadecimal
-abbrev pub key_line : List ℕ → List ℕ → List ℕ
+unfoldable pub key_line : List ℕ → List ℕ → List ℕ
 key_line name id = name ++ (codes " " ++ (upper_hex id ++ codes "\n"))
 
 -- the line of a URI, where there is one

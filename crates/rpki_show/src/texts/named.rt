@@ -10,6 +10,7 @@ use std::alloc::{AllocError, Global};
 use std::fmt::Write;
 
 /// Appends the line of a serial number. Refuses where memory runs out.
+#[tactic(auto, unfolding(crate::specs::Texts::Named::serial_line))]
 pub fn push_serial(
     alloc: Global,
     text: &mut String,
@@ -31,6 +32,7 @@ pub fn push_moment(text: &mut String, name: &str, moment: Time) -> Result<(), Al
 }
 
 /// Appends the line of the identifier of a key. Refuses where memory runs out.
+#[tactic(auto, unfolding(crate::specs::Texts::Named::key_line))]
 pub fn push_key(text: &mut String, name: &str, key: KeyIdentifier) -> Result<(), AllocError>
     ensures { Grows result text.old text.new (key_line name.now key) }
 {
