@@ -1,6 +1,6 @@
 //! Revocation lists with the dates of their entries, as they are shown.
 
-ghost use Rattle.std.specs.Prelude.{option_map};
+ghost use Rattle.std.specs.Prelude.{◌≡◌, option_map};
 ghost use Rattle.rpki_der.specs.declared.mode.Mode.TheVariants.{Der};
 ghost use Rattle.rpki_der.specs.Form.Decodes.{Decodes};
 ghost use Rattle.rpki_der.specs.Form.Parts.{sequence_at, sequence_of_at, context_at};
@@ -12,7 +12,7 @@ ghost use Rattle.rpki_show.specs.Dated.{DatedForm, entry_fields_at, entry_at, en
 ghost use Rattle.rpki_show.specs.Dated.{tbs_fields_at, contents_at, dated_at};
 
 use bytes::Bytes;
-use rpki_basics::{Name, RpkiSignatureAlgorithm, Serial, Time};
+use rpki_basics::{KeyIdentifier, Name, RpkiSignatureAlgorithm, Serial, Time};
 use rpki_crls::CrlExtensions;
 use rpki_der::laws::slices_hold_octets;
 use rpki_der::{Constructed, DecodeError, ListItem, Mode, Tag};
@@ -34,14 +34,10 @@ pub struct DatedEntry {
 /// What a revocation list says (RFC 5280, section 5.1.2), but for the name of its issuer.
 #[derive(Debug, Drop)]
 pub struct DatedCrl {
-    /// When it was made.
-    pub this_update: Time,
-    /// Until when the next one is made.
-    pub next_update: Time,
-    /// The certificates that are revoked, in their order.
-    pub revoked: Vec<DatedEntry>,
-    /// What its extensions say.
-    pub extensions: CrlExtensions,
+    this_update: Time,
+    next_update: Time,
+    revoked: Vec<DatedEntry>,
+    extensions: CrlExtensions,
 }
 
 impl Model for DatedCrl {
@@ -65,6 +61,41 @@ impl DatedCrl {
     {
         slices_hold_octets(source.as_slice());
         read_front(alloc, source)
+    }
+
+    /// When it was made.
+    pub fn this_update(&self) -> Time
+        ensures { result ≡ self.now.this_update }
+    {
+        self.this_update
+    }
+
+    /// Until when the next one is made.
+    pub fn next_update(&self) -> Time
+        ensures { result ≡ self.now.next_update }
+    {
+        self.next_update
+    }
+
+    /// The certificates that are revoked, in their order.
+    pub fn revoked(&self) -> &[DatedEntry]
+        ensures { result.now ≡ self.now.revoked }
+    {
+        &self.revoked
+    }
+
+    /// Its number (RFC 5280, section 5.2.3).
+    pub fn number(&self) -> Serial
+        ensures { result ≡ self.now.extensions.number }
+    {
+        self.extensions.number
+    }
+
+    /// The identifier of its issuer's key (RFC 5280, section 5.2.1).
+    pub fn authority_key(&self) -> KeyIdentifier
+        ensures { result ≡ self.now.extensions.authority_key }
+    {
+        self.extensions.authority_key
     }
 }
 

@@ -12,12 +12,15 @@ unfoldable pub revoked_line : DatedEntry → List ℕ
 revoked_line e =
     codes "revoked " ++ (serial_hex e.serial ++ (codes " " ++ (iso_text e.date ++ codes "\n")))
 
+-- when it was made, and until when the next one is made
+unfoldable pub updates_text : DatedList → List ℕ
+updates_text l = moment_line (codes "this-update") l.this_update
+    ++ moment_line (codes "next-update") l.next_update
+
 -- the number, both moments, and the identifier of the issuer's key
 abbrev pub head_text : DatedList → List ℕ
 head_text l = serial_line (codes "number") l.extensions.number
-    ++ (moment_line (codes "this-update") l.this_update
-    ++ (moment_line (codes "next-update") l.next_update
-    ++ key_line (codes "authority-key-id") l.extensions.authority_key))
+    ++ (updates_text l ++ key_line (codes "authority-key-id") l.extensions.authority_key)
 
 -- the name of the kind, the lines of what the list says of itself, and a line for each entry
 abbrev pub crl_text : DatedList → List ℕ

@@ -2,7 +2,8 @@
 
 ghost use Rattle.std.specs.List.{flat_map};
 ghost use Rattle.rpki_show.specs.Grows.{Grows};
-ghost use Rattle.rpki_show.specs.Texts.Crl.{crl_text, head_text, revoked_line};
+ghost use Rattle.rpki_show.specs.Texts.Crl.{crl_text, head_text, updates_text};
+ghost use Rattle.rpki_show.specs.Texts.Crl.{revoked_line};
 
 use crate::dated::{DatedCrl, DatedEntry};
 use crate::texts::lines::push_each;
@@ -17,17 +18,25 @@ pub fn push_crl(alloc: Global, text: &mut String, list: &DatedCrl) -> Result<(),
 {
     write!(text, "crl\n")?;
     push_head(alloc, text, list)?;
-    push_entries(alloc, text, &list.revoked)
+    push_entries(alloc, text, list.revoked())
 }
 
 /// Appends the lines before those of the entries.
 fn push_head(alloc: Global, text: &mut String, list: &DatedCrl) -> Result<(), AllocError>
     ensures { Grows result text.old text.new (head_text list.now) }
 {
-    push_serial(alloc, text, "number", list.extensions.number)?;
-    push_moment(text, "this-update", list.this_update)?;
-    push_moment(text, "next-update", list.next_update)?;
-    push_key(text, "authority-key-id", list.extensions.authority_key)
+    push_serial(alloc, text, "number", list.number())?;
+    push_updates(text, list)?;
+    push_key(text, "authority-key-id", list.authority_key())
+}
+
+/// Appends the lines of both moments.
+#[tactic(auto, unfolding(crate::specs::Texts::Crl::updates_text))]
+fn push_updates(text: &mut String, list: &DatedCrl) -> Result<(), AllocError>
+    ensures { Grows result text.old text.new (updates_text list.now) }
+{
+    push_moment(text, "this-update", list.this_update())?;
+    push_moment(text, "next-update", list.next_update())
 }
 
 /// Appends a line for each entry.
