@@ -1,9 +1,10 @@
 //! The lines of a revocation list.
 
+ghost use Rattle.std.specs.Prelude.{codes};
 ghost use Rattle.std.specs.List.{flat_map};
 ghost use Rattle.rpki_show.specs.Grows.{Grows};
-ghost use Rattle.rpki_show.specs.Texts.Crl.{crl_text, head_text, updates_text};
-ghost use Rattle.rpki_show.specs.Texts.Crl.{revoked_line};
+ghost use Rattle.rpki_show.specs.Texts.Crl.{crl_text, head_text, revoked_line, updates_text};
+ghost use Rattle.rpki_show.specs.Texts.Named.{moment_line};
 
 use crate::dated::{DatedCrl, DatedEntry};
 use crate::texts::lines::push_each;
@@ -35,7 +36,23 @@ fn push_head(alloc: Global, text: &mut String, list: &DatedCrl) -> Result<(), Al
 fn push_updates(text: &mut String, list: &DatedCrl) -> Result<(), AllocError>
     ensures { Grows result text.old text.new (updates_text list.now) }
 {
-    push_moment(text, "this-update", list.this_update())?;
+    push_this(text, list)?;
+    push_next(text, list)
+}
+
+/// Appends the line of when it was made.
+fn push_this(text: &mut String, list: &DatedCrl) -> Result<(), AllocError>
+    ensures { Grows result text.old text.new
+        (moment_line (codes "this-update") list.now.this_update) }
+{
+    push_moment(text, "this-update", list.this_update())
+}
+
+/// Appends the line of until when the next one is made.
+fn push_next(text: &mut String, list: &DatedCrl) -> Result<(), AllocError>
+    ensures { Grows result text.old text.new
+        (moment_line (codes "next-update") list.now.next_update) }
+{
     push_moment(text, "next-update", list.next_update())
 }
 
