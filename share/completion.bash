@@ -16,6 +16,8 @@ _rpki_verify_calls='[--relaxed] [--registered] [--wide] check KIND FILE MOMENT T
 [--relaxed] [--registered] [--wide] payloads [--csv | --json] COPY MOMENT TAL [TAL ..]
 [--relaxed] [--registered] [--wide] show rta FILE
 [--relaxed] [--registered] [--wide] show tal FILE
+[--relaxed] [--registered] [--wide] show certificate FILE
+[--relaxed] [--registered] [--wide] show crl FILE
 --help'
 _rpki_objects_calls='[--relaxed] [--registered] [--wide] content KIND FILE
 [--relaxed] [--registered] [--wide] show KIND FILE

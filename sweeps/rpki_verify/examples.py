@@ -35,6 +35,23 @@ v6 2001:db8:100::/40
 v6 3fff::/24
 digest 27b1475ecc05bc4bbfc386c70f7bd74b99e7926da240c1e439a00700fdb4a9f2
 """
+# As `openssl x509 -text -serial` has it.
+AUTHORITY_CERTIFICATE = """certificate
+serial 02
+valid-from 2026-01-01T00:00:00Z
+valid-until 2040-01-01T00:00:00Z
+key-id C78637259551E49913A293A978985D33FBECF9C1
+authority-key-id 1A3A434D3CB238F39188C4ED212421A717BB7C97
+ca
+ca-repository rsync://rpki.example.net/authority/
+rpki-manifest rsync://rpki.example.net/authority/authority.mft
+ca-issuers rsync://rpki.example.net/anchor.cer
+crl rsync://rpki.example.net/anchor/anchor.crl
+as AS64496-AS64511
+ipv4 192.0.2.0/24
+ipv4 198.51.100.0/24
+ipv6 2001:db8::/32
+"""
 MALFORMED = "malformed\n"
 OTHER_TYPE = "malformed: eContentType is not the one that is asked for\n"
 ISSUER_MALFORMED = "issuer refused: malformed\n"
@@ -50,6 +67,8 @@ HELP = """usage: rpki_verify [OPTION ..] check KIND FILE MOMENT TA [CA ..]
        rpki_verify [OPTION ..] content KIND FILE
        rpki_verify [OPTION ..] payloads [--csv | --json] COPY MOMENT TAL [TAL ..]
        rpki_verify show tal FILE
+       rpki_verify show certificate FILE
+       rpki_verify show crl FILE
        rpki_verify --help
 OPTION, in this order: --relaxed --registered --wide
 KIND: aspa, manifest, roa or rsc; of show and content also rta
@@ -132,6 +151,13 @@ ROWS = [
      RSC + SIGNED + "7 1B95E79E269CA2092ABA65FB1D2FB3F9557D1C1A\n", 1),
     (["show", "aspa", "roa"], None, 1, OTHER_TYPE, 1),
     (["show", "tal", "roa"], None, 1, MALFORMED, 1),
+    (["show", "certificate", "authority"], None, 0, AUTHORITY_CERTIFICATE, 1),
+    (["--relaxed", "--registered", "--wide", "show", "certificate", "authority"], GOOD, 0,
+     AUTHORITY_CERTIFICATE, 1),
+    (["show", "certificate", "roa"], None, 1, MALFORMED, 1),
+    (["show", "crl", "authority"], None, 1, MALFORMED, 1),
+    (["show", "crl", "none"], None, *NONE, 1),
+    (["show", "certificate", "large"], None, *LARGE, 1),
     (["content", "roa", "roa"], None, 1, MALFORMED, 1),
     (["content", "roa", "none"], None, *NONE, 1),
     *((listed(name), None, 0, without(name), 3) for name in LISTS if name != "broken"),
@@ -218,6 +244,8 @@ OTHER_WORDS = [
     check("roa", "roa", moment="20270101000000"), check("roa", ""), check("roa", "roa", ""),
     check("roa", "roa", chain=[""]), ["verdicts"], ["verdicts", "roa"], listed(""),
     listed("roa", ""), listed("roa", chain=["", "authority"]), ["show", "rta"],
+    ["show", "certificate"], ["show", "certificate", ""], ["show", "crl", "roa", "roa"],
+    ["show", "cer", "authority"], ["content", "crl", "authority"],
     ["verdicts", "rta"], ["verdicts", "rta", "agreement"], listed("rta"), rta_listed(""),
     rta_listed("agreement", "anchor"), rta_listed("agreement", "tal=second", "second"),
     rta_listed("agreement", "tal="), rta_listed("agreement", "ca=anchor:"),

@@ -98,6 +98,8 @@ usage_text = codes "usage: rpki_verify [OPTION ..] check KIND FILE MOMENT TA [CA
     ++ (codes "       rpki_verify [OPTION ..] content KIND FILE\n"
     ++ (codes "       rpki_verify [OPTION ..] payloads [--csv | --json] COPY MOMENT TAL [TAL ..]\n"
     ++ (codes "       rpki_verify show tal FILE\n"
+    ++ (codes "       rpki_verify show certificate FILE\n"
+    ++ (codes "       rpki_verify show crl FILE\n"
     ++ (codes "       rpki_verify --help\n"
     ++ (codes "OPTION, in this order: --relaxed --registered --wide\n"
     ++ (codes "KIND: aspa, manifest, roa or rsc; of show and content also rta\n"
@@ -105,7 +107,7 @@ usage_text = codes "usage: rpki_verify [OPTION ..] check KIND FILE MOMENT TA [CA
     ++ (codes "CA of walk: any file but one named with\n"
     ++ (codes "FILE after verdicts: any file but one named rta\n"
     ++ (codes "COPY of payloads: any folder but one named --csv or --json\n"
-    ++ codes "ANCHOR: tal=FILE or ca=TA[:CA ..]\n")))))))))))))))
+    ++ codes "ANCHOR: tal=FILE or ca=TA[:CA ..]\n")))))))))))))))))
 
 -- that program says how it is called
 abbrev pub help : Output

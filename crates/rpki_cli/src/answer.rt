@@ -23,6 +23,8 @@ const USAGE: &[u8] = b"usage: rpki_verify [OPTION ..] check KIND FILE MOMENT TA 
        rpki_verify [OPTION ..] content KIND FILE
        rpki_verify [OPTION ..] payloads [--csv | --json] COPY MOMENT TAL [TAL ..]
        rpki_verify show tal FILE
+       rpki_verify show certificate FILE
+       rpki_verify show crl FILE
        rpki_verify --help
 OPTION, in this order: --relaxed --registered --wide
 KIND: aspa, manifest, roa or rsc; of show and content also rta

@@ -215,7 +215,7 @@ fn show_locator<'a, S: Store>(alloc: Global, name: &'a str, store: &mut S) -> An
 }
 
 /// The answer where a read of the file of this name fails.
-fn unread<'a>(error: StoreError, file: &'a str) -> Answer<'a>
+pub(crate) fn unread<'a>(error: StoreError, file: &'a str) -> Answer<'a>
     ensures { said result ≡ unread file.now error }
 {
     match error {

@@ -10,6 +10,8 @@ mod attestations;
 mod attested;
 mod given;
 mod granted;
+mod issued;
+mod issued_octets;
 mod octets;
 mod payloads;
 mod rtas;

@@ -1,4 +1,7 @@
+pub mod Dates
 pub mod Grown
+pub mod Lists
 pub mod Located
 pub mod Printed
+pub mod Serials
 pub mod Shown

@@ -1,7 +1,9 @@
 pub mod Attestation
 pub mod Contents
+pub mod Dated
 pub mod Grows
 pub mod Ia5
+pub mod Issued
 pub mod Kinds
 pub mod Locator
 pub mod Objects

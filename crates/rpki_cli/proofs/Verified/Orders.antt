@@ -19,12 +19,16 @@ use Rattle.rpki_cli.specs.Verify.Words.{when_word, IsWhen, is_shared, verify_wor
 use Rattle.rpki_cli.specs.Verify.Words.{verify_language, IsPlain, AskForNoCheck, AskForNoList}
 use Rattle.rpki_cli.specs.Verify.Words.{AskForNothingShared, AskForNoWalk, AskForNoRta}
 use Rattle.rpki_cli.specs.Verify.Words.{AskForNothingElse, has_tail, AskForNoRtaList, IsSharedBy}
-use Rattle.rpki_cli.specs.Verify.Words.{IsOptioned, word_rta, AskForNoPayloads}
+use Rattle.rpki_cli.specs.Verify.Words.{IsOptioned, word_rta, AskForNoPayloads, issued_word}
+use Rattle.rpki_cli.specs.Verify.Words.{issued_words, AskForNothingShown, IsShownBy}
+use Rattle.rpki_cli.specs.declared.verify.words.Issued.{Issued}
+use Rattle.rpki_cli.specs.declared.verify.words.Issued.TheVariants.{Certificate, Crl}
 use Rattle.rpki_cli.specs.declared.verify.words.Format.{Format}
 use Rattle.rpki_cli.specs.declared.verify.words.VerifyCommand.{VerifyCommand}
 use Rattle.rpki_cli.specs.declared.verify.words.VerifyCommand.TheVariants.{Help, Shared, Check}
 use Rattle.rpki_cli.specs.declared.verify.words.VerifyCommand.TheVariants.{Verdicts, Walk, Rta}
 use Rattle.rpki_cli.specs.declared.verify.words.VerifyCommand.TheVariants.{RtaVerdicts, Payloads}
+use Rattle.rpki_cli.specs.declared.verify.words.VerifyCommand.TheVariants.{ShowIssued}
 use Rattle.rpki_cli.specs.declared.verify.words.When.{When}
 use Rattle.rpki_cli.specs.declared.verify.words.When.TheVariants.{Now, At}
 use Rattle.rpki_cli.proofs.Verified.Formats.{copy-plain, formats-once}
@@ -122,6 +126,32 @@ not-payloads : (c : Command) (rest : List (List ℕ)) → command_words c ≡ co
     → ⊥
 not-payloads c rest e = search rules
 
+help-not-show : (rest : List (List ℕ)) → codes "show" ∷ rest ≡ codes "--help" ∷ [] → ⊥
+help-not-show rest e = search rules
+
+check-not-show : (rest tail : List (List ℕ)) → codes "show" ∷ rest ≡ codes "check" ∷ tail → ⊥
+check-not-show rest tail e = search rules
+
+list-not-show : (rest tail : List (List ℕ)) → codes "show" ∷ rest ≡ codes "verdicts" ∷ tail → ⊥
+list-not-show rest tail e = search rules
+
+walk-not-show : (rest tail : List (List ℕ)) → codes "show" ∷ rest ≡ codes "walk" ∷ tail → ⊥
+walk-not-show rest tail e = search rules
+
+rta-not-show : (rest tail : List (List ℕ)) → codes "show" ∷ rest ≡ codes "rta" ∷ tail → ⊥
+rta-not-show rest tail e = search rules
+
+payloads-not-show : (rest tail : List (List ℕ)) → codes "show" ∷ rest ≡ codes "payloads" ∷ tail
+    → ⊥
+payloads-not-show rest tail e = search rules
+
+-- no word of what both programs show is that of what a CA issued
+not-issued : (c : Command) (i : Issued) (f : List ℕ) → command_words c ≡ issued_words i f → ⊥
+not-issued c i f e = search rules
+
+issued-once : (i j : Issued) → issued_word i ≡ issued_word j → i ≡ j
+issued-once i j e = search rules
+
 not-list : (c : Command) (rest : List (List ℕ)) → command_words c ≡ codes "verdicts" ∷ rest → ⊥
 not-list c rest e = search rules
 
@@ -162,10 +192,14 @@ payloads-same : (f g : Format) (c d : List ℕ) (v w : When) (a b : List (List �
     → v ≡ w → a ≡ b → Payloads f c v a ≡ Payloads g d w b
 payloads-same f g c d v w a b p q r s = cc
 
+issued-same : (i j : Issued) (f g : List ℕ) → i ≡ j → f ≡ g → ShowIssued i f ≡ ShowIssued j g
+issued-same i j f g p q = cc
+
 pub commands-once : (a b : VerifyCommand) → IsFit a → IsFit b → verify_words a ≡ verify_words b → a
     ≡ b
 commands-once Help Help i j e = refl
 commands-once Help (Shared c) i j e = absurd (not-help c _ (sym e))
+commands-once Help (ShowIssued n f) i j e = absurd (help-not-show _ (sym e))
 commands-once Help (Check k f m a c) i j e = absurd (help-first _ (sym e))
 commands-once Help (Verdicts f a c) i j e = absurd (help-not-list _ (sym e))
 commands-once Help (Walk f m a t) i j e = absurd (help-not-walk _ (sym e))
@@ -176,14 +210,28 @@ commands-once (Shared c) Help i j e = absurd (not-help c _ e)
 commands-once (Shared c) (Shared d) i j e =
     ap (λ (x : Command). Shared x)
     (shown.commands-once c d (shared-in-time c i) (shared-in-time d j) e)
+commands-once (Shared c) (ShowIssued n f) i j e = absurd (not-issued c n f e)
 commands-once (Shared c) (Check k f m a d) i j e = absurd (not-check c _ i e)
 commands-once (Shared c) (Verdicts f a d) i j e = absurd (not-list c _ e)
 commands-once (Shared c) (Walk f m a t) i j e = absurd (not-walk c _ i e)
 commands-once (Shared c) (Rta f m a) i j e = absurd (not-rta c _ i e)
 commands-once (Shared c) (RtaVerdicts f a) i j e = absurd (not-list c _ e)
 commands-once (Shared c) (Payloads f d m l) i j e = absurd (not-payloads c _ e)
+commands-once (ShowIssued n f) Help i j e = absurd (help-not-show _ e)
+commands-once (ShowIssued n f) (Shared d) i j e = absurd (not-issued d n f (sym e))
+commands-once (ShowIssued n f) (ShowIssued m g) i j e =
+    let p : issued_word n ≡ issued_word m = cc in
+    let q : f ≡ g = cc in
+    issued-same n m f g (issued-once n m p) q
+commands-once (ShowIssued n f) (Check k g m b d) i j e = absurd (check-not-show _ _ e)
+commands-once (ShowIssued n f) (Verdicts g b d) i j e = absurd (list-not-show _ _ e)
+commands-once (ShowIssued n f) (Walk g m b t) i j e = absurd (walk-not-show _ _ e)
+commands-once (ShowIssued n f) (Rta g m b) i j e = absurd (rta-not-show _ _ e)
+commands-once (ShowIssued n f) (RtaVerdicts g b) i j e = absurd (list-not-show _ _ e)
+commands-once (ShowIssued n f) (Payloads g d m l) i j e = absurd (payloads-not-show _ _ e)
 commands-once (Check k f m a c) Help i j e = absurd (help-first _ e)
 commands-once (Check k f m a c) (Shared d) i j e = absurd (not-check d _ j (sym e))
+commands-once (Check k f m a c) (ShowIssued n g) i j e = absurd (check-not-show _ _ (sym e))
 commands-once (Check k f m a c) (Check l g n b d) i j e =
     let p : kind_word k ≡ kind_word l = cc in
     let q : when_word m ≡ when_word n = cc in
@@ -198,6 +246,7 @@ commands-once (Check k f m a c) (RtaVerdicts g b) i j e = absurd (check-not-list
 commands-once (Check k f m a c) (Payloads g d n l) i j e = absurd (check-not-payloads _ _ (sym e))
 commands-once (Verdicts f a c) Help i j e = absurd (help-not-list _ e)
 commands-once (Verdicts f a c) (Shared d) i j e = absurd (not-list d _ (sym e))
+commands-once (Verdicts f a c) (ShowIssued n g) i j e = absurd (list-not-show _ _ (sym e))
 commands-once (Verdicts f a c) (Check k g m b d) i j e = absurd (check-not-list _ _ e)
 commands-once (Verdicts f a c) (Verdicts g b d) i j e =
     let p : f ≡ g = cc in
@@ -212,6 +261,7 @@ commands-once (Verdicts f a c) (RtaVerdicts g b) i j e =
 commands-once (Verdicts f a c) (Payloads g d m l) i j e = absurd (list-not-payloads _ _ (sym e))
 commands-once (Walk f m a t) Help i j e = absurd (help-not-walk _ e)
 commands-once (Walk f m a t) (Shared d) i j e = absurd (not-walk d _ j (sym e))
+commands-once (Walk f m a t) (ShowIssued n g) i j e = absurd (walk-not-show _ _ (sym e))
 commands-once (Walk f m a t) (Check k g n b d) i j e = absurd (check-not-walk _ _ e)
 commands-once (Walk f m a t) (Verdicts g b d) i j e = absurd (list-not-walk _ _ e)
 commands-once (Walk f m a t) (Walk g n b u) i j e =
@@ -225,6 +275,7 @@ commands-once (Walk f m a t) (RtaVerdicts g b) i j e = absurd (list-not-walk _ _
 commands-once (Walk f m a t) (Payloads g d n l) i j e = absurd (walk-not-payloads _ _ (sym e))
 commands-once (Rta f m a) Help i j e = absurd (help-not-rta _ e)
 commands-once (Rta f m a) (Shared d) i j e = absurd (not-rta d _ j (sym e))
+commands-once (Rta f m a) (ShowIssued n g) i j e = absurd (rta-not-show _ _ (sym e))
 commands-once (Rta f m a) (Check k g n b d) i j e = absurd (check-not-rta _ _ e)
 commands-once (Rta f m a) (Verdicts g b d) i j e = absurd (list-not-rta _ _ e)
 commands-once (Rta f m a) (Walk g n b u) i j e = absurd (walk-not-rta _ _ e)
@@ -237,6 +288,7 @@ commands-once (Rta f m a) (RtaVerdicts g b) i j e = absurd (list-not-rta _ _ e)
 commands-once (Rta f m a) (Payloads g d n l) i j e = absurd (rta-not-payloads _ _ (sym e))
 commands-once (RtaVerdicts f a) Help i j e = absurd (help-not-list _ e)
 commands-once (RtaVerdicts f a) (Shared d) i j e = absurd (not-list d _ (sym e))
+commands-once (RtaVerdicts f a) (ShowIssued n g) i j e = absurd (list-not-show _ _ (sym e))
 commands-once (RtaVerdicts f a) (Check k g m b d) i j e = absurd (check-not-list _ _ e)
 commands-once (RtaVerdicts f a) (Verdicts g b d) i j e =
     let p : g ≡ word_rta = cc in
@@ -250,6 +302,7 @@ commands-once (RtaVerdicts f a) (RtaVerdicts g b) i j e =
 commands-once (RtaVerdicts f a) (Payloads g d m l) i j e = absurd (list-not-payloads _ _ (sym e))
 commands-once (Payloads f c m l) Help i j e = absurd (help-not-payloads _ e)
 commands-once (Payloads f c m l) (Shared d) i j e = absurd (not-payloads d _ (sym e))
+commands-once (Payloads f c m l) (ShowIssued n g) i j e = absurd (payloads-not-show _ _ (sym e))
 commands-once (Payloads f c m l) (Check k g n b d) i j e = absurd (check-not-payloads _ _ e)
 commands-once (Payloads f c m l) (Verdicts g b d) i j e = absurd (list-not-payloads _ _ e)
 commands-once (Payloads f c m l) (Walk g n b t) i j e = absurd (walk-not-payloads _ _ e)
@@ -282,6 +335,15 @@ help-registered rest e = search rules
 
 help-wide : (rest : List (List ℕ)) → codes "--help" ∷ [] ≡ word_wide ∷ rest → ⊥
 help-wide rest e = search rules
+
+show-relaxed : (words rest : List (List ℕ)) → codes "show" ∷ words ≡ word_relaxed ∷ rest → ⊥
+show-relaxed words rest e = search rules
+
+show-registered : (words rest : List (List ℕ)) → codes "show" ∷ words ≡ word_registered ∷ rest → ⊥
+show-registered words rest e = search rules
+
+show-wide : (words rest : List (List ℕ)) → codes "show" ∷ words ≡ word_wide ∷ rest → ⊥
+show-wide words rest e = search rules
 
 check-relaxed : (words rest : List (List ℕ)) → codes "check" ∷ words ≡ word_relaxed ∷ rest → ⊥
 check-relaxed words rest e = search rules
@@ -343,6 +405,11 @@ commands-plain (Shared c) = record {
   relaxed = relaxed-not c;
   registered = registered-not c;
   wide = wide-not c;
+}
+commands-plain (ShowIssued n f) = record {
+  relaxed = show-relaxed _;
+  registered = show-registered _;
+  wide = show-wide _;
 }
 commands-plain (Check k f m a c) = record {
   relaxed = check-relaxed _;
@@ -429,6 +496,7 @@ pub check_none : (words rest : List (List ℕ)) → words ≡ codes "check" ∷ 
     → (a : VerifyCommand) → words ≡ verify_words a → IsFit a → ⊥
 check_none words rest w n Help e i = help-first rest (sym w ∙ e)
 check_none words rest w n (Shared c) e i = not-check c rest i (sym e ∙ w)
+check_none words rest w n (ShowIssued m f) e i = check-not-show _ rest (sym e ∙ w)
 check_none words rest w n (Check k f m a c) e i = n k f m a c (rest-same (sym w ∙ e)) i
 check_none words rest w n (Verdicts f a c) e i = check-not-list _ rest (sym e ∙ w)
 check_none words rest w n (Walk f m a t) e i = check-not-walk _ rest (sym e ∙ w)
@@ -440,6 +508,7 @@ pub list_none : (words rest : List (List ℕ)) → words ≡ codes "verdicts" �
     → AskForNoList rest → (a : VerifyCommand) → words ≡ verify_words a → IsFit a → ⊥
 list_none words rest w n Help e i = help-not-list rest (sym w ∙ e)
 list_none words rest w n (Shared c) e i = not-list c rest (sym e ∙ w)
+list_none words rest w n (ShowIssued m f) e i = list-not-show _ rest (sym e ∙ w)
 list_none words rest w n (Check k f m a c) e i = check-not-list rest _ (sym w ∙ e)
 list_none words rest w n (Verdicts f a c) e i = n.object f a c (rest-same (sym w ∙ e)) i
 list_none words rest w n (Walk f m a t) e i = list-not-walk _ rest (sym e ∙ w)
@@ -452,6 +521,7 @@ pub walk_none : (words rest : List (List ℕ)) → words ≡ codes "walk" ∷ re
     → (a : VerifyCommand) → words ≡ verify_words a → IsFit a → ⊥
 walk_none words rest w n Help e i = help-not-walk rest (sym w ∙ e)
 walk_none words rest w n (Shared c) e i = not-walk c rest i (sym e ∙ w)
+walk_none words rest w n (ShowIssued m f) e i = walk-not-show _ rest (sym e ∙ w)
 walk_none words rest w n (Check k f m a c) e i = check-not-walk rest _ (sym w ∙ e)
 walk_none words rest w n (Verdicts f a c) e i = list-not-walk rest _ (sym w ∙ e)
 walk_none words rest w n (Walk f m a t) e i = n f m a t (rest-same (sym w ∙ e)) i.0 i.1
@@ -463,6 +533,7 @@ pub rta_none : (words rest : List (List ℕ)) → words ≡ codes "rta" ∷ rest
     → (a : VerifyCommand) → words ≡ verify_words a → IsFit a → ⊥
 rta_none words rest w n Help e i = help-not-rta rest (sym w ∙ e)
 rta_none words rest w n (Shared c) e i = not-rta c rest i (sym e ∙ w)
+rta_none words rest w n (ShowIssued m f) e i = rta-not-show _ rest (sym e ∙ w)
 rta_none words rest w n (Check k f m a c) e i = check-not-rta rest _ (sym w ∙ e)
 rta_none words rest w n (Verdicts f a c) e i = list-not-rta rest _ (sym w ∙ e)
 rta_none words rest w n (Walk f m a t) e i = walk-not-rta rest _ (sym w ∙ e)
@@ -474,6 +545,7 @@ pub payloads_none : (words rest : List (List ℕ)) → words ≡ codes "payloads
     → AskForNoPayloads rest → (a : VerifyCommand) → words ≡ verify_words a → IsFit a → ⊥
 payloads_none words rest w n Help e i = help-not-payloads rest (sym w ∙ e)
 payloads_none words rest w n (Shared c) e i = not-payloads c rest (sym e ∙ w)
+payloads_none words rest w n (ShowIssued m f) e i = payloads-not-show _ rest (sym e ∙ w)
 payloads_none words rest w n (Check k f m a c) e i = check-not-payloads rest _ (sym w ∙ e)
 payloads_none words rest w n (Verdicts f a c) e i = list-not-payloads rest _ (sym w ∙ e)
 payloads_none words rest w n (Walk f m a t) e i = walk-not-payloads rest _ (sym w ∙ e)
@@ -523,10 +595,11 @@ list_few words r n = record {
 pub other_none : (words : List (List ℕ)) → (words ≡ codes "--help" ∷ [] → ⊥)
     → ((rest : List (List ℕ)) → words ≡ codes "check" ∷ rest → ⊥)
     → ((rest : List (List ℕ)) → words ≡ codes "verdicts" ∷ rest → ⊥)
-    → AskForNothingShared words → (a : VerifyCommand) → has_tail a ≡ false → words ≡ verify_words a
+    → AskForNothingShown words → (a : VerifyCommand) → has_tail a ≡ false → words ≡ verify_words a
     → IsFit a → ⊥
 other_none words h k v n Help f e i = h e
-other_none words h k v n (Shared c) f e i = n c e i
+other_none words h k v n (Shared c) f e i = n.shared c e i
+other_none words h k v n (ShowIssued m g) f e i = n.issued m g e
 other_none words h k v n (Check d g m a c) f e i = k _ e
 other_none words h k v n (Verdicts g a c) f e i = v _ e
 other_none words h k v n (Walk g m a t) f e i = absurd cc
@@ -565,6 +638,7 @@ untailed : (words : List (List ℕ)) → ((rest : List (List ℕ)) → words ≡
     → AskForNothingElse words → (a : VerifyCommand) → words ≡ verify_words a → IsFit a → ⊥
 untailed words w r p n Help e i = n Help refl e i
 untailed words w r p n (Shared c) e i = n (Shared c) refl e i
+untailed words w r p n (ShowIssued m f) e i = n (ShowIssued m f) refl e i
 untailed words w r p n (Check d f m a c) e i = n (Check d f m a c) refl e i
 untailed words w r p n (Verdicts f a c) e i = n (Verdicts f a c) refl e i
 untailed words w r p n (Walk f m a t) e i = w _ e
@@ -584,10 +658,23 @@ other_of words (Some a) w r p h = h
 
 pub ruleset by_tail = (walk_of, rta_of, payloads_of, other_of)
 
-pub shared_is : (words : List (List ℕ)) (a : VerifyCommand) → IsSharedBy words a
+pub shown_is : (words : List (List ℕ)) (a : VerifyCommand) → IsShownBy words a
     → (words ≡ verify_words a) × IsFit a
+shown_is words Help s = absurd s
+shown_is words (Shared c) s = s
+shown_is words (ShowIssued n f) s = (s, tt)
+shown_is words (Check d f m a c) s = absurd s
+shown_is words (Verdicts f a c) s = absurd s
+shown_is words (Walk f m a t) s = absurd s
+shown_is words (Rta f m a) s = absurd s
+shown_is words (RtaVerdicts f a) s = absurd s
+shown_is words (Payloads f c m l) s = absurd s
+
+-- what both programs show is shown
+pub shared_is : (words : List (List ℕ)) (a : VerifyCommand) → IsSharedBy words a → IsShownBy words a
 shared_is words Help s = absurd s
 shared_is words (Shared c) s = s
+shared_is words (ShowIssued n f) s = absurd s
 shared_is words (Check d f m a c) s = absurd s
 shared_is words (Verdicts f a c) s = absurd s
 shared_is words (Walk f m a t) s = absurd s
@@ -595,6 +682,22 @@ shared_is words (Rta f m a) s = absurd s
 shared_is words (RtaVerdicts f a) s = absurd s
 shared_is words (Payloads f c m l) s = absurd s
 
-pub ruleset by_first_word = (check_of, list_of, other_none, shared_is)
+issued_none : (words : List (List ℕ))
+    → ((f : List ℕ) → words ≡ issued_words Certificate f → ⊥)
+    → ((f : List ℕ) → words ≡ issued_words Crl f → ⊥)
+    → (i : Issued) (f : List ℕ) → words ≡ issued_words i f → ⊥
+issued_none words c l Certificate f e = c f e
+issued_none words c l Crl f e = l f e
+
+-- words that ask for nothing of both programs, and for nothing that a CA issued
+pub shown_none : (words : List (List ℕ)) → AskForNothingShared words
+    → ((f : List ℕ) → words ≡ codes "show" ∷ codes "certificate" ∷ f ∷ [] → ⊥)
+    → ((f : List ℕ) → words ≡ codes "show" ∷ codes "crl" ∷ f ∷ [] → ⊥)
+    → AskForNothingShown words
+shown_none words n c l = record { shared = n; issued = issued_none words c l }
+
+pub ruleset by_issued = (shared_is, shown_none)
+
+pub ruleset by_first_word = (check_of, list_of, other_none, shown_is)
 
 pub ruleset by_second_word = (rta_list_of, list_few)

@@ -13,8 +13,11 @@ use Rattle.rpki_cli.specs.declared.words.Kind.{Kind}
 use Rattle.rpki_cli.specs.declared.words.Options.{Options}
 use Rattle.rpki_cli.specs.declared.verify.words.Format.{Format}
 use Rattle.rpki_cli.specs.declared.verify.words.Format.TheVariants.{Lines, Csv, Json}
+use Rattle.rpki_cli.specs.declared.verify.words.Issued.{Issued}
+use Rattle.rpki_cli.specs.declared.verify.words.Issued.TheVariants.{Certificate, Crl}
 use Rattle.rpki_cli.specs.declared.verify.words.VerifyCommand.{VerifyCommand}
 use Rattle.rpki_cli.specs.declared.verify.words.VerifyCommand.TheVariants.{Help, Shared, Check}
+use Rattle.rpki_cli.specs.declared.verify.words.VerifyCommand.TheVariants.{ShowIssued}
 use Rattle.rpki_cli.specs.declared.verify.words.VerifyCommand.TheVariants.{Verdicts, Walk, Rta}
 use Rattle.rpki_cli.specs.declared.verify.words.VerifyCommand.TheVariants.{RtaVerdicts, Payloads}
 use Rattle.rpki_cli.specs.declared.verify.words.When.{When}
@@ -61,11 +64,21 @@ format_words Lines = []
 format_words Csv = word_csv ∷ []
 format_words Json = word_json ∷ []
 
+-- the word of a certificate, and that of a revocation list
+abbrev pub issued_word : Issued → List ℕ
+issued_word Certificate = codes "certificate"
+issued_word Crl = codes "crl"
+
+-- the words that ask to show what a CA issued
+abbrev pub issued_words : Issued → List ℕ → List (List ℕ)
+issued_words issued file = codes "show" ∷ issued_word issued ∷ file ∷ []
+
 -- The words of a command. What shows the lines of a file has the words that it has in the other
 -- program.
 abbrev pub verify_words : VerifyCommand → List (List ℕ)
 verify_words Help = codes "--help" ∷ []
 verify_words (Shared command) = command_words command
+verify_words (ShowIssued issued file) = issued_words issued file
 verify_words (Check kind file moment anchor chain) =
     codes "check" ∷ kind_word kind ∷ file ∷ when_word moment ∷ anchor ∷ chain
 verify_words (Verdicts file anchor chain) = codes "verdicts" ∷ file ∷ anchor ∷ chain
@@ -80,6 +93,7 @@ verify_words (Payloads format copy moment locators) =
 abbrev pub files_in : VerifyCommand → List (List ℕ)
 files_in Help = []
 files_in (Shared command) = files_of command
+files_in (ShowIssued issued file) = file ∷ []
 files_in (Check kind file moment anchor chain) = file ∷ anchor ∷ chain
 files_in (Verdicts file anchor chain) = file ∷ anchor ∷ chain
 files_in (Walk file moment anchor tail) = file ∷ anchor ∷ others_in tail
@@ -99,6 +113,7 @@ is_copy word = not (bytes_eq word word_csv) && not (bytes_eq word word_json)
 abbrev pub IsFit : VerifyCommand → Type 0
 IsFit Help = Unit {0}
 IsFit (Shared command) = IsTrue (is_shared command)
+IsFit (ShowIssued issued file) = Unit {0}
 IsFit (Check kind file moment anchor chain) = IsWhen moment
 IsFit (Verdicts file anchor chain) = ¬ (file ≡ word_rta)
 IsFit (Walk file moment anchor tail) = IsWhen moment × Contains tail word_with
@@ -172,16 +187,27 @@ abbrev pub AskForNothingElse : List (List ℕ) → Type 0
 AskForNothingElse words = (c : VerifyCommand) → has_tail c ≡ false → words ≡ verify_words c
     → IsFit c → ⊥
 
--- they do not ask to show what a file holds
+-- they do not ask to show what a file holds, in words of both programs
 abbrev pub AskForNothingShared : List (List ℕ) → Type 0
 AskForNothingShared words = (command : Command) → words ≡ command_words command
     → IsTrue (is_shared command) → ⊥
 
--- they ask to show what a file holds, and this is the command
+-- they ask to show what a file holds in words of both programs, and this is the command
 abbrev pub IsSharedBy : List (List ℕ) → VerifyCommand → Type 0
 IsSharedBy words (Shared command) =
     (words ≡ command_words command) × IsTrue (is_shared command)
 IsSharedBy words other = ⊥
+
+-- they do not ask to show what a file holds
+pub record AskForNothingShown (words : List (List ℕ)) : Type 0 where
+  pub shared : AskForNothingShared words
+  pub issued : (issued : Issued) (file : List ℕ) → words ≡ issued_words issued file → ⊥
+
+-- they ask to show what a file holds, and this is the command
+abbrev pub IsShownBy : List (List ℕ) → VerifyCommand → Type 0
+IsShownBy words (Shared command) = IsSharedBy words (Shared command)
+IsShownBy words (ShowIssued issued file) = words ≡ issued_words issued file
+IsShownBy words other = ⊥
 
 -- ---- formats
 

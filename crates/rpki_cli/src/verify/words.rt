@@ -10,6 +10,7 @@ ghost use Rattle.rpki_cli.specs.Verify.Words.{AskForNoRtaList, word_rta, AskForN
 ghost use Rattle.rpki_cli.specs.Verify.Words.{AskForNoPayloads, AskForNoPayloadsIn, IsFormatted};
 ghost use Rattle.rpki_cli.specs.Verify.Words.{format_words, is_copy};
 ghost use Rattle.rpki_cli.specs.Verify.Words.{AskForNothingShared, IsSharedBy, IsTaken, IsOptioned};
+ghost use Rattle.rpki_cli.specs.Verify.Words.{AskForNothingShown, IsShownBy};
 ghost use Rattle.rpki_cli.specs.declared.verify.words.VerifyCommand.{VerifyCommand};
 ghost use Rattle.rpki_cli.specs.declared.verify.words.When.{When};
 
@@ -53,6 +54,15 @@ pub enum Format {
     Json,
 }
 
+/// What a CA issues beside signed objects.
+#[derive(Clone, Copy, Debug, PartialEq, Eq)]
+pub enum Issued {
+    /// A certificate.
+    Certificate,
+    /// A revocation list.
+    Crl,
+}
+
 /// What is to be done.
 #[derive(Drop)]
 pub enum VerifyCommand<'a> {
@@ -60,6 +70,11 @@ pub enum VerifyCommand<'a> {
     Help,
     /// To show what a file holds.
     Shared(Command<'a>),
+    /// To show a certificate or a revocation list.
+    ShowIssued {
+        issued: Issued,
+        file: Word<'a>,
+    },
     /// To check a signed object under an issuer, which is the last certificate of a chain that
     /// begins with a trust anchor.
     Check {
@@ -130,6 +145,7 @@ fn is_each_named(command: &VerifyCommand<'_>) -> bool
     match command {
         VerifyCommand::Help => true,
         VerifyCommand::Shared(command) => each_named(command),
+        VerifyCommand::ShowIssued { file, .. } => !file.0.is_empty(),
         VerifyCommand::Check {
             file,
             anchor,
@@ -233,6 +249,26 @@ fn parse_other<'a>(words: &'a [&'a str]) -> Option<VerifyCommand<'a>>
         ["check", rest @ ..] => parse_check(rest),
         ["verdicts", rest @ ..] => parse_verdicts(rest),
         ["--help"] => Some(VerifyCommand::Help),
+        _ => parse_shown(words),
+    }
+}
+
+/// The command of words that ask to show what a file holds, a certificate and a revocation list
+/// too.
+#[tactic(auto, using(crate::proofs::Verified::Orders::by_issued))]
+fn parse_shown<'a>(words: &'a [&'a str]) -> Option<VerifyCommand<'a>>
+    ensures { MatchOption result (AskForNothingShown (texts words.now))
+        (IsShownBy (texts words.now)) }
+{
+    match words {
+        ["show", "certificate", file] => Some(VerifyCommand::ShowIssued {
+            issued: Issued::Certificate,
+            file: Word(file),
+        }),
+        ["show", "crl", file] => Some(VerifyCommand::ShowIssued {
+            issued: Issued::Crl,
+            file: Word(file),
+        }),
         _ => parse_shared(words),
     }
 }
@@ -389,7 +425,7 @@ fn is_copy(word: &str) -> bool
     word != "--csv" && word != "--json"
 }
 
-/// The command of words that ask to show what a file holds.
+/// The command of words that ask to show what a file holds, as they do of the other program.
 #[tactic(auto, using(crate::proofs::Verified::Orders::by_shared))]
 fn parse_shared<'a>(words: &'a [&'a str]) -> Option<VerifyCommand<'a>>
     ensures { MatchOption result (AskForNothingShared (texts words.now))

@@ -3,7 +3,7 @@ use Rattle.std.specs.Prelude.{ℕ, List, ◌∷◌, Option, None, Some}
 use Rattle.rpki_basics.specs.Moment.{Moment}
 use Rattle.rpki_basics.specs.declared.limits.ProviderLimit.{ProviderLimit}
 use Rattle.rpki_cli.specs.Answer.{Output, help, wrong_words, no_moment}
-use Rattle.rpki_cli.specs.Command.{Task, Say, CheckFiles, Program}
+use Rattle.rpki_cli.specs.Command.{Task, Say, ShowLines, CheckFiles, Program}
 use Rattle.rpki_cli.specs.declared.causes.Causes.TheVariants.{Included}
 use Rattle.rpki_cli.specs.declared.words.Options.{Options}
 use Rattle.rpki_cli.specs.Options.{provider_limit}
@@ -15,6 +15,10 @@ use Rattle.rpki_cli.specs.declared.verify.words.VerifyCommand.{VerifyCommand}
 use Rattle.rpki_cli.specs.declared.verify.words.VerifyCommand.TheVariants.{Help, Shared, Check}
 use Rattle.rpki_cli.specs.declared.verify.words.VerifyCommand.TheVariants.{Verdicts, Walk, Rta}
 use Rattle.rpki_cli.specs.declared.verify.words.VerifyCommand.TheVariants.{RtaVerdicts, Payloads}
+use Rattle.rpki_cli.specs.declared.verify.words.VerifyCommand.TheVariants.{ShowIssued}
+use Rattle.rpki_cli.specs.declared.verify.words.Issued.{Issued}
+use Rattle.rpki_cli.specs.declared.verify.words.Issued.TheVariants.{Certificate, Crl}
+use Rattle.rpki_show.specs.Issued.{CertificateLines, CrlLines}
 use Rattle.rpki_command.specs.Command.{command_task}
 use Rattle.rpki_command.specs.Verify.Check.{VerifiedOf, ListedOf, VerifiedWalkOf, VerifiedRtaOf}
 use Rattle.rpki_command.specs.Verify.Check.{RtaListedOf}
@@ -40,11 +44,19 @@ request_at providers format copy locators now = record {
   locators = locators;
 }
 
+-- the lines of a certificate, or of a revocation list
+abbrev pub IssuedLines : Issued → List ℕ → List ℕ → Type 0
+IssuedLines Certificate = CertificateLines
+IssuedLines Crl = CrlLines
+
 -- What each command comes to with these options, where the clock tells this and the relying party
--- says this: the table of the commands.
+-- says this: the table of the commands. Certificates and revocation lists are in DER: no option
+-- speaks of them.
 abbrev pub verify_task : Option Moment → PartySays → Options → VerifyCommand → Task
 verify_task clock says options Help = Say help
 verify_task clock says options (Shared command) = command_task Included options command
+verify_task clock says options (ShowIssued issued file) =
+    ShowLines Included file (IssuedLines issued)
 verify_task clock says options (Check kind file moment anchor chain) =
     check_task (file ∷ anchor ∷ chain) (VerifiedOf options kind) (moment_at clock moment)
 verify_task clock says options (Verdicts file anchor chain) =

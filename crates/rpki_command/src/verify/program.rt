@@ -1,13 +1,16 @@
 //! The program with signatures as a function.
 
-ghost use Rattle.std.specs.Prelude.{◌≡◌, ◌≤◌, ◌∷◌, ◌++◌, length};
+ghost use Rattle.std.specs.Prelude.{◌≡◌, ◌≤◌, ◌∷◌, ◌++◌, [], length};
 ghost use Rattle.rpki_cli.specs.Answer.{said};
 ghost use Rattle.rpki_cli.specs.Command.{order_task, HasRead, IsTaskAnswer, IsAnswer, HaveRead};
+ghost use Rattle.rpki_cli.specs.Command.{IsOfFile};
+ghost use Rattle.rpki_cli.specs.Shown.{IsShown};
 ghost use Rattle.rpki_cli.specs.Words.{texts, others_in, files_of_anchors};
+ghost use Rattle.rpki_cli.specs.declared.causes.Causes.TheVariants.{Included};
 ghost use Rattle.rpki_command.specs.Verify.Check.{VerifiedOf, VerifiedWalkOf, VerifiedRtaOf};
-ghost use Rattle.rpki_command.specs.Verify.Command.{verify_program, check_task};
+ghost use Rattle.rpki_command.specs.Verify.Command.{verify_program, check_task, IssuedLines};
 
-use crate::program::answer_order;
+use crate::program::{answer_order, unread};
 use crate::verify::check::{
     CheckBySignatures, ListRtaSignatures, ListSignatures, RtaBySignatures, WalkBySignatures,
 };
@@ -15,9 +18,10 @@ use crate::verify::payloads::payloads_when;
 use rpki_basics::Time;
 use rpki_cli::answer::Answer;
 use rpki_cli::verify::RelyingParty;
-use rpki_cli::verify::words::{VerifyCommand, parse};
+use rpki_cli::verify::words::{Issued, VerifyCommand, parse};
 use rpki_cli::words::{Kind, Options, Order};
 use rpki_cli::{Causes, Program, Store, answer_anchors, answer_files, answer_tail};
+use rpki_show::{show_certificate, show_crl};
 use std::alloc::Global;
 
 /// The program with signatures, `rpki_verify`: it shows what the program with verdicts shows, checks
@@ -90,6 +94,9 @@ fn answer_verify<'a, P: RelyingParty, S: Store>(
         VerifyCommand::Shared(command) => {
             answer_order(alloc, Causes::Included, &Order { options, command }, store)
         }
+        VerifyCommand::ShowIssued { issued, file } => {
+            show_issued_file(alloc, issued, file.0, store)
+        }
         VerifyCommand::Check {
             kind,
             file,
@@ -141,6 +148,35 @@ fn answer_verify<'a, P: RelyingParty, S: Store>(
                 alloc, party, limit, format, copy.0, moment, locators.0, store,
             )
         }
+    }
+}
+
+/// Answers with the lines of the certificate or of the revocation list in a file, if there is one.
+fn show_issued_file<'a, S: Store>(
+    alloc: Global,
+    issued: Issued,
+    file: &'a str,
+    store: &mut S,
+) -> Answer<'a>
+    ensures said { IsOfFile (S.told store.old) file.now (IsShown Included (IssuedLines issued))
+        (said result) }
+    ensures reads { S.reads store.new ≡ S.reads store.old ++ file.now ∷ [] }
+    ensures same { S.told store.new ≡ S.told store.old }
+{
+    match store.read(alloc, file) {
+        Ok(octets) => show_octets(alloc, issued, octets),
+        Err(error) => unread(error, file),
+    }
+}
+
+/// Answers with the lines of the certificate or of the revocation list at the front of the octets,
+/// if there is one.
+fn show_octets<'a>(alloc: Global, issued: Issued, octets: Vec<u8>) -> Answer<'a>
+    ensures { IsShown Included (IssuedLines issued) octets.items (said result) }
+{
+    match issued {
+        Issued::Certificate => show_certificate(alloc, Causes::Included, octets),
+        Issued::Crl => show_crl(alloc, Causes::Included, octets),
     }
 }
 

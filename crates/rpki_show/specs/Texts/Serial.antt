@@ -1,0 +1,23 @@
+-- Serial numbers as `openssl x509 -serial` prints them.
+use Rattle.std.specs.Prelude.{ℕ, ◌%◌, List, [], ◌∷◌, ◌==◌, if◌then◌else◌, length, map}
+use Rattle.std.specs.Char.{to_ascii_uppercase}
+use Rattle.rpki_der.specs.Write.Written.{significant}
+use Rattle.rpki_basics.specs.Serial.{digits, serial_text}
+
+-- digits, with a 0 in front where their number is odd
+abbrev pub paired : List ℕ → List ℕ
+paired digits = if length digits % 2 == 0 then digits else 0x30 ∷ digits
+
+-- A number in upper hexadecimal digits, two for each octet, without octets of zeros in front; 00
+-- for zero.
+unfoldable pub serial_hex : ℕ → List ℕ
+serial_hex n = map to_ascii_uppercase (paired (serial_text n))
+
+-- these octets, or one of zero where there are none
+abbrev pub or_zero : List ℕ → List ℕ
+or_zero [] = 0 ∷ []
+or_zero (octet ∷ octets) = octet ∷ octets
+
+-- the octets of a number, without those of zeros in front, and one for zero
+abbrev pub shown_octets : ℕ → List ℕ
+shown_octets n = or_zero (significant (digits 20 n))
