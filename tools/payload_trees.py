@@ -461,5 +461,5 @@ LARGE = [
     (f"a list of {COUNT} serial numbers", of_serials),
 ]
 # How many times the files of the copy a run may need, where that is more than in tools/runs: each
-# prefix of a ROA is a payload, and a line.
-TIMES = {of_prefixes: 24}
+# prefix of a ROA is a payload, and a line; that a listed file is not there is kept, with its URI.
+TIMES = {of_prefixes: 24, of_files: 8}

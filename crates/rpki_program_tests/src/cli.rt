@@ -6,4 +6,3 @@
 mod arrangements;
 mod checks;
 mod file_kinds;
-mod moments;
