@@ -1,9 +1,6 @@
 -- The number of an encoded message, piece by piece.
 use Rattle.std.proofs.Common.{◌≡◌, ℕ, ◌-◌, ◌%◌, ◌<◌, List, [], ◌∷◌, ◌++◌, length}
-use Rattle.std.proofs.Common.{zero, suc, ◌+◌, ◌*◌, ◌^◌, ◌≤◌}
-use Rattle.std.proofs.Math.Nat.{pow-suc, pow-zero}
-use Rattle.std.proofs.lemmas.Nat.{pow-add}
-use Rattle.std.proofs.Common.{get_or, replicate, refl, sym, ap, ◌∙◌, arith}
+use Rattle.std.proofs.Common.{get_or, replicate, append_assoc, refl, sym, ap, ◌∙◌, arith}
 use Rattle.sha2.specs.Sha256.{sha256}
 use Rattle.sha2.proofs.Facts256.{length-sha256}
 use Rattle.rpki_der.specs.Numbers.{number}
@@ -64,7 +61,7 @@ encoded-parts k m =
     ++ ((0x00 ∷ []) ++ i))) (digest_info-parts m)
     ∙ ap (λ (j : ℕ). (0x00 ∷ 0x01 ∷ []) ++ (replicate j 0xFF ++ ((0x00 ∷ []) ++ t))) few
 
--- pushed piece by piece
+-- the number, piece by piece
 pub encoded-number : (k : ℕ) (m : List ℕ) (v1 v2 v3 v4 v5 : ℕ) → v1 ≡ number 0 (0 ∷ 1 ∷ [])
     → v2 ≡ number v1 (replicate (k - 54) 0xFF) → v3 ≡ number v2 (0 ∷ [])
     → v4 ≡ number v3 digest_front → v5 ≡ number v4 (sha256 m)
@@ -83,28 +80,19 @@ encoded-number k m v1 v2 v3 v4 v5 e1 e2 e3 e4 e5 =
     ∙ sym (number-append 0 head (fill ++ (zero_octet ++ info)))
     ∙ ap (number 0) (sym (encoded-parts k m))
 
--- the number of the octets up to the end of the padding
-pub padded-number : (k j v : ℕ) → v ≡ number 0 ((0x00 ∷ 0x01 ∷ []) ++ replicate (j - 2) 0xFF)
-    → j ≡ k - 52 → v ≡ number (number 0 (0 ∷ 1 ∷ [])) (replicate (k - 54) 0xFF)
-padded-number k j v h e =
+-- the pieces in their order
+pub encoded-from : (k j : ℕ) (m padded info end : List ℕ) → j ≡ k - 52
+    → padded ≡ (0x00 ∷ 0x01 ∷ []) ++ replicate (j - 2) 0xFF → info ≡ 0x00 ∷ digest_front
+    → end ≡ sha256 m → (padded ++ info) ++ end ≡ encoded_message k m
+encoded-from k j m padded info end e ep ei ee =
     let few : j - 2 ≡ k - 54 = omega (arith, e) in
-    h ∙ ap (λ (z : ℕ). number 0 (0x00 ∷ 0x01 ∷ replicate z 0xFF)) few
-
-fill-bound : (a n : ℕ) → number a (replicate n 0xFF) + 1 ≤ (a + 1) * 256 ^ n
-fill-bound a zero = omega (arith, pow-zero 256)
-fill-bound a (suc n) =
-    let r : number (a * 256 + 0xFF) (replicate n 0xFF) + 1 ≤ (a * 256 + 0xFF + 1) * 256 ^ n =
-    fill-bound (a * 256 + 0xFF) n in
-    omega (arith, r, ap (λ z. (a + 1) * z) (pow-suc 256 n))
-
--- it fits in as many octets
-pub padded-below : (k v : ℕ) → v ≡ number (number 0 (0 ∷ 1 ∷ [])) (replicate (k - 54) 0xFF)
-    → 54 ≤ k → v + 1 ≤ 256 ^ (k - 52)
-padded-below k v h least =
-    let e : k - 52 ≡ k - 54 + 2 = omega arith in
-    let p : 256 ^ (k - 52) ≡ 256 ^ (k - 54) * 256 ^ 2 =
-    ap (λ z. 256 ^ z) e ∙ pow-add 256 (k - 54) 2 in
-    omega (arith, h, p, fill-bound 1 (k - 54))
+    let front : List ℕ = 0x00 ∷ 0x01 ∷ replicate (k - 54) 0xFF in
+    ap (λ (p : List ℕ). (p ++ info) ++ end) ep
+    ∙ ap (λ (n : ℕ). ((0x00 ∷ 0x01 ∷ replicate n 0xFF) ++ info) ++ end) few
+    ∙ ap (λ (i : List ℕ). (front ++ i) ++ end) ei
+    ∙ ap (λ (d : List ℕ). (front ++ (0x00 ∷ digest_front)) ++ d) ee
+    ∙ append_assoc front (0x00 ∷ digest_front) (sha256 m)
+    ∙ sym (encoded-parts k m)
 
 parity : (xs : List ℕ) → 0 < length xs → value xs % 2 ≡ get_or xs 0 0 % 2
 parity xs h = omega (arith, (low-limb-all xs h).1)

@@ -4,6 +4,7 @@ pub mod KeyFacts
 pub mod KeyForms
 pub mod LimbFacts
 pub mod OctetLimbs
+pub mod Quotients
 pub mod Remainders
 pub mod Rows
 pub mod SampleSigned
