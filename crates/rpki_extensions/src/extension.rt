@@ -8,6 +8,7 @@ ghost use Rattle.rpki_extensions.specs.Extension.{extension_fields_at, oid_of, m
 ghost use Rattle.rpki_extensions.specs.Extension.{standing_at};
 
 use crate::faults;
+use crate::identifiers::is_same;
 use bytes::Bytes;
 use rpki_der::{Constructed, DecodeError, ListItem, Oid};
 use std::alloc::{AllocError, Global};
@@ -135,7 +136,7 @@ pub fn with_oid<'l>(list: &'l [Extension], oid: &[u8]) -> Option<&'l Extension>
     ensures { option_map (λ e. e.now) result ≡ with_key oid_of oid.now list.now }
 {
     for extension in list {
-        if extension.oid.as_slice() == oid {
+        if is_same(extension.oid.as_slice(), oid) {
             return Some(extension);
         }
     }
@@ -147,7 +148,7 @@ pub fn has_oid(list: &[Extension], oid: &[u8]) -> bool
     ensures { result ≡ has_key oid_of oid.now list.now }
 {
     for extension in list {
-        if extension.oid.as_slice() == oid {
+        if is_same(extension.oid.as_slice(), oid) {
             return true;
         }
     }
