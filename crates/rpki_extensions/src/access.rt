@@ -10,7 +10,9 @@ ghost use Rattle.rpki_extensions.specs.Access.{access_fields_at, accesses_at, is
 ghost use Rattle.rpki_extensions.specs.Access.{subject_of, authority_access_at};
 ghost use Rattle.rpki_extensions.specs.Access.{subject_access_at};
 
-use crate::identifiers::{CA_ISSUERS, CA_REPOSITORY, RPKI_MANIFEST, RPKI_NOTIFY, SIGNED_OBJECT};
+use crate::identifiers::{
+    CA_ISSUERS, CA_REPOSITORY, RPKI_MANIFEST, RPKI_NOTIFY, SIGNED_OBJECT, is_same,
+};
 use crate::name::{GeneralName, take_general_name, uri_of};
 use crate::uri::NamedUri;
 use rpki_basics::{Https, Rsync};
@@ -82,7 +84,7 @@ impl ListItem for Access {
 fn location_of<U: NamedUri>(access: &Access, method: &[u8]) -> Result<Option<U>, AllocError>
     ensures { IfOk result (λ uri. uri ≡ located U.of method.now access.now) }
 {
-    if access.method.as_slice() == method {
+    if is_same(access.method.as_slice(), method) {
         uri_of(&access.location)
     } else {
         Ok(None)

@@ -8,6 +8,7 @@ ghost use Rattle.rpki_extensions.specs.Extension.{extension_fields_at, oid_of, m
 ghost use Rattle.rpki_extensions.specs.Extension.{standing_at};
 
 use crate::faults;
+use crate::identifiers::is_same;
 use bytes::Bytes;
 use rpki_der::{Constructed, DecodeError, ListItem, Oid};
 use std::alloc::{AllocError, Global};
@@ -81,6 +82,35 @@ pub fn are_distinct(alloc: Global, list: &[Extension]) -> Result<bool, AllocErro
     Ok(true)
 }
 
+// How many extensions are compared in pairs, which for so few is faster than an ordered set.
+const FEW: usize = 16;
+
+// Whether no two extensions have the same identifier, of which each is compared with those after it.
+#[tactic(auto, unfolding(rpki_der::specs::Form::Keyed::are_distinct))]
+fn are_distinct_in_pairs(list: &[Extension]) -> bool
+    ensures { result ≡ are_distinct oid_of list.now }
+{
+    let mut rest = list;
+    while let Some((first, others)) = rest.split_first() {
+        if has_oid(others, first.oid.as_slice()) {
+            return false;
+        }
+        rest = others;
+    }
+    true
+}
+
+// Whether no two extensions have the same identifier. Refuses where memory runs out.
+fn stand_once(alloc: Global, list: &[Extension]) -> Result<bool, AllocError>
+    ensures { IfOk result (λ b. b ≡ are_distinct oid_of list.now) }
+{
+    if list.len() <= FEW {
+        Ok(are_distinct_in_pairs(list))
+    } else {
+        are_distinct(alloc, list)
+    }
+}
+
 /// What extensions belong to: which of them are known there.
 pub trait Profile {
     ghost use Rattle.std.specs.Prelude.{◌≡◌, ℕ, List};
@@ -108,8 +138,8 @@ fn may_stand<P: Profile>(list: &[Extension]) -> bool
 
 /// Takes as many extensions as there are, in any order (RFC 5280, section 4.2). Refuses by
 /// `EXTENSION_TWICE` where an identifier stands twice, after one look-up in an ordered set for
-/// each; by `UNKNOWN_CRITICAL_EXTENSION` for a critical one that is not known; by `Malformed`, or
-/// by `Memory`.
+/// each where there are more than sixteen; by `UNKNOWN_CRITICAL_EXTENSION` for a critical one that
+/// is not known; by `Malformed`, or by `Memory`.
 #[tactic(auto, unfolding(rpki_der::specs::Read::Parse::tested))]
 pub fn take_standing<P: Profile>(
     alloc: Global,
@@ -119,7 +149,7 @@ pub fn take_standing<P: Profile>(
     ensures stays { Stays result cons.new }
 {
     let list: Vec<Extension> = cons.take_items(alloc)?;
-    match are_distinct(alloc, &list) {
+    match stand_once(alloc, &list) {
         Ok(true) => {}
         Ok(false) => return Err(cons.refuse_for(faults::EXTENSION_TWICE)),
         Err(_) => return Err(cons.fail(DecodeError::Memory)),
@@ -135,7 +165,7 @@ pub fn with_oid<'l>(list: &'l [Extension], oid: &[u8]) -> Option<&'l Extension>
     ensures { option_map (λ e. e.now) result ≡ with_key oid_of oid.now list.now }
 {
     for extension in list {
-        if extension.oid.as_slice() == oid {
+        if is_same(extension.oid.as_slice(), oid) {
             return Some(extension);
         }
     }
@@ -147,7 +177,7 @@ pub fn has_oid(list: &[Extension], oid: &[u8]) -> bool
     ensures { result ≡ has_key oid_of oid.now list.now }
 {
     for extension in list {
-        if extension.oid.as_slice() == oid {
+        if is_same(extension.oid.as_slice(), oid) {
             return true;
         }
     }

@@ -1,6 +1,6 @@
 //! The identifiers of extensions, policies and access methods.
 
-ghost use Rattle.std.specs.Prelude.{◌≡◌};
+ghost use Rattle.std.specs.Prelude.{◌≡◌, bytes_eq};
 ghost use Rattle.rpki_extensions.specs.Extension.{is_among};
 ghost use Rattle.rpki_extensions.specs.Extensions.{certificate_extensions, ip_resources};
 ghost use Rattle.rpki_extensions.specs.Extensions.{as_resources, other};
@@ -108,21 +108,32 @@ pub(crate) fn other(policy: Overclaim) -> Overclaim
     }
 }
 
+// Whether two identifiers are the same. Their last octets are compared first: identifiers below one
+// arc mostly differ there alone.
+pub(crate) fn is_same(a: &[u8], b: &[u8]) -> bool
+    ensures { result ≡ bytes_eq a.now b.now }
+{
+    match (a, b) {
+        ([.., x], [.., y]) if *x != *y => false,
+        _ => a == b,
+    }
+}
+
 // Whether an extension is known in a resource certificate.
 pub(crate) fn is_known(oid: &[u8]) -> bool
     ensures { result ≡ is_among certificate_extensions oid.now }
 {
-    oid == SUBJECT_KEY_IDENTIFIER.as_slice()
-        || oid == KEY_USAGE.as_slice()
-        || oid == BASIC_CONSTRAINTS.as_slice()
-        || oid == CRL_DISTRIBUTION_POINTS.as_slice()
-        || oid == CERTIFICATE_POLICIES.as_slice()
-        || oid == AUTHORITY_KEY_IDENTIFIER.as_slice()
-        || oid == EXTENDED_KEY_USAGE.as_slice()
-        || oid == AUTHORITY_INFO_ACCESS.as_slice()
-        || oid == SUBJECT_INFO_ACCESS.as_slice()
-        || oid == IP_RESOURCES.as_slice()
-        || oid == AS_RESOURCES.as_slice()
-        || oid == IP_RESOURCES_V2.as_slice()
-        || oid == AS_RESOURCES_V2.as_slice()
+    is_same(oid, &SUBJECT_KEY_IDENTIFIER)
+        || is_same(oid, &KEY_USAGE)
+        || is_same(oid, &BASIC_CONSTRAINTS)
+        || is_same(oid, &CRL_DISTRIBUTION_POINTS)
+        || is_same(oid, &CERTIFICATE_POLICIES)
+        || is_same(oid, &AUTHORITY_KEY_IDENTIFIER)
+        || is_same(oid, &EXTENDED_KEY_USAGE)
+        || is_same(oid, &AUTHORITY_INFO_ACCESS)
+        || is_same(oid, &SUBJECT_INFO_ACCESS)
+        || is_same(oid, &IP_RESOURCES)
+        || is_same(oid, &AS_RESOURCES)
+        || is_same(oid, &IP_RESOURCES_V2)
+        || is_same(oid, &AS_RESOURCES_V2)
 }
