@@ -439,6 +439,8 @@ def tree():
     claim = Claim([NET4, "198.51.100.0/24", NET6], [(64496, 64511)])
     ca = Authority("authority", anchor, claim, f"{anchor.folder}/authority.cer")
     made = list(objects(ca))
+    # That of the first of these objects, `origin.roa`.
+    revoking = ca.revoked(serials=[1])
     files, listed = published(ca, {it.name: it.octets for it in made})
     above, _ = published(anchor, {"authority.cer": ca.octets})
     signed = checklist(NUMBER, [NET4], [("letter.txt", b"a letter\n"), (None, b"no name\n")])
@@ -452,6 +454,7 @@ def tree():
     yield from ((f"{HOST}/anchor/{name}", octets) for name, octets in above.items())
     yield from ((f"{HOST}/authority/{name}", octets) for name, octets in files.items())
     yield from ((it.name, it.octets) for it in (apart, *agreements))
+    yield "revoking.crl", revoking
     for it in (*made, listed, apart, *agreements):
         yield f"{it.name}.verdicts", "".join(it.verdicts.lines).encode("ascii")
 

@@ -4,9 +4,11 @@
 # The calls are those of SYNOPSIS in the manual pages: docs/rpki_verify.1, docs/rpki_objects.1.
 # `tools/completion --check` compares them, and the words below them with the usage text. A word in
 # capitals stands for something that the user chooses; one without a case of its own in
-# _rpki_complete is a file.
+# _rpki_complete is a file. The settings of `check` and `show` and their files stand in any order.
 
-_rpki_verify_calls='[--relaxed] [--registered] [--wide] check KIND FILE MOMENT TA [CA ..]
+_rpki_verify_calls='[--relaxed] [--registered] [--wide] check --ta TA [SETTING ..] FILE ..
+[--relaxed] [--registered] [--wide] show [SETTING ..] FILE ..
+[--relaxed] [--registered] [--wide] check KIND FILE MOMENT TA [CA ..]
 [--relaxed] [--registered] [--wide] walk FILE MOMENT TA [CA ..] with NAME=PATH ..
 [--relaxed] [--registered] [--wide] rta FILE MOMENT ANCHOR ..
 [--relaxed] [--registered] [--wide] verdicts FILE TA [CA ..]
@@ -18,7 +20,11 @@ _rpki_verify_calls='[--relaxed] [--registered] [--wide] check KIND FILE MOMENT T
 [--relaxed] [--registered] [--wide] show tal FILE
 [--relaxed] [--registered] [--wide] show certificate FILE
 [--relaxed] [--registered] [--wide] show crl FILE
---help'
+--help
+--version'
+# What may stand in any order; what ends in .. may stand again.
+_rpki_check_settings='--ta TA|--ca CA ..|--tal TAL|--crl CRL ..|--at MOMENT|--kind KIND|--relaxed|--registered|--wide|FILE ..'
+_rpki_show_settings='--kind KIND|--relaxed|--registered|--wide|FILE ..'
 _rpki_objects_calls='[--relaxed] [--registered] [--wide] content KIND FILE
 [--relaxed] [--registered] [--wide] show KIND FILE
 [--relaxed] [--registered] [--wide] show rta FILE
@@ -28,6 +34,7 @@ _rpki_objects_calls='[--relaxed] [--registered] [--wide] content KIND FILE
 [--relaxed] [--registered] [--wide] rta FILE MOMENT VERDICTS ANCHOR ..'
 _rpki_kinds='aspa manifest roa rsc'
 _rpki_shown_kinds='rta'
+_rpki_issued_kinds='certificate crl tal'
 _rpki_moment='now'
 _rpki_anchors='tal= ca='
 
@@ -50,10 +57,21 @@ _rpki_words() {
 }
 
 # Adds to `heads` each word with which the call $1 may begin, then a tab and the rest of the call.
+# What stands in braces may stand in any order.
 _rpki_heads() {
     local optional='^\[([^]]*)\] ?(.*)$' many='^([^ ]+) \.\. ?(.*)$' one='^([^ ]+) ?(.*)$'
-    local word rest
-    if [[ $1 =~ $optional ]]; then
+    local unordered='^\{(.*)\}$' word rest
+    local -a parts
+    if [[ $1 =~ $unordered ]]; then
+        IFS='|' read -ra parts <<<"${BASH_REMATCH[1]}"
+        for word in "${parts[@]}"; do
+            rest=$1
+            [[ $word == *' ..' ]] || rest=${1/"$word|"/}
+            word=${word% ..}
+            [[ $word != *' '* ]] || rest="${word#* } $rest"
+            heads+=("${word%% *}"$'\t'"$rest")
+        done
+    elif [[ $1 =~ $optional ]]; then
         word=${BASH_REMATCH[1]} rest=${BASH_REMATCH[2]}
         if [[ $word == *' ..' ]]; then
             heads+=("${word% ..}"$'\t'"$1")
@@ -73,22 +91,29 @@ _rpki_heads() {
 # Puts into `heads` what may stand at the cursor in one of the calls $1, a line each.
 _rpki_at_cursor() {
     local at call head
-    local -a calls heads_of_all
-    IFS=$'\n' read -rd '' -a calls <<<"$1"
+    local -a calls kinds
+    call=${1//--ta TA \[SETTING ..\] FILE ../\{$_rpki_check_settings\}}
+    call=${call//\[SETTING ..\] FILE ../\{$_rpki_show_settings\}}
+    IFS=$'\n' read -rd '' -a calls <<<"$call"
     for ((at = 1; at < ${#words[@]}; at++)); do
         heads=()
         for call in "${calls[@]}"; do
             _rpki_heads "$call"
         done
         ((at < ${#words[@]} - 1)) || return 0
-        calls=()
-        # A word of a call goes before a file of this name.
+        calls=() kinds=()
+        # A word of a call, or of a kind, goes before a file of this name.
         for head in "${heads[@]}"; do
             [[ ${head%%$'\t'*} == "${words[at]}" ]] && calls+=("${head#*$'\t'}")
+            [[ $head == KIND$'\t'* ]] && kinds+=("${head#*$'\t'}")
         done
-        ((${#calls[@]})) || for head in "${heads[@]}"; do
-            [[ $head == [[:upper:]]* ]] && calls+=("${head#*$'\t'}")
-        done
+        ((${#calls[@]})) && continue
+        if ((!${#kinds[@]})) || [[ " $_rpki_kinds " != *" ${words[at]} "* ]]; then
+            for head in "${heads[@]}"; do
+                [[ $head == [[:upper:]]* && $head != KIND$'\t'* ]] && calls+=("${head#*$'\t'}")
+            done
+        fi
+        ((${#calls[@]})) || calls=("${kinds[@]}")
     done
 }
 
@@ -100,11 +125,16 @@ _rpki_complete() {
     _rpki_at_cursor "$1"
     current=${words[${#words[@]}-1]} previous=${words[${#words[@]}-2]}
     for head in "${heads[@]}"; do
+        # Of the settings, those that need not be there are offered after a dash alone.
+        [[ $head == --ta$'\t'* || $head != --*{* || $current == -* ]] || continue
         head=${head%%$'\t'*}
         case $head in
             KIND)
                 found+=" $_rpki_kinds"
-                [[ $previous == show || $previous == content ]] && found+=" $_rpki_shown_kinds"
+                [[ $previous == show || $previous == content || $previous == --kind ]] &&
+                    found+=" $_rpki_shown_kinds"
+                [[ $previous == --kind && " ${words[*]} " == *' show '* ]] &&
+                    found+=" $_rpki_issued_kinds"
                 ;;
             MOMENT) found+=" $2" ;;
             ANCHOR)

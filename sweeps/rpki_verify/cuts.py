@@ -85,7 +85,7 @@ REPORTED = [(status, out, err) for status in (0, 1) for out in ("", "a", "found\
 # A pass takes long, and so does what verifies signatures and says much: of its answers each of so
 # many calls fails. Of the same reports each one does.
 EACH, LONG = 29, 100
-SIGNED = ("check",), ("walk",), ("rta",), ("verdicts",)
+SIGNED = ("check",), ("check --ta",), ("walk",), ("rta",), ("verdicts",)
 # What stands in the copy, and what is reported of it.
 PARTS = "rpki.example.net", "ta"
 ORIGINS = "origin AS64496 192.0.2.0/24-26\norigin AS64496 2001:db8::/32-48\n"
@@ -122,7 +122,7 @@ PAYLOADS = [
     (payloads(["absent.tal"]), 1, "", ABSENT),
     (payloads(["anchor.tal", "absent.tal", "second.tal"]), 1, LINES, ABSENT + REFUSED + SECOND),
     (payloads(["anchor.tal", "bad.tal"]), 2, "", "bad locator bad.tal\n"),
-    (payloads(["anchor.tal", "none"]), 2, "", "cannot read none\n"),
+    (payloads(["anchor.tal", "none"]), 4, "", "cannot read none: no such file\n"),
     (payloads(["anchor.tal", "large"]), 3, "", "out of memory\n"),
 ]
 # What is shown, as `openssl` prints it, and a content of the standard's draft.
@@ -142,7 +142,9 @@ LISTED = re.compile("[0-9a-f]{64} ")
 
 def command_of(words):
     """The words that say what is asked for, without options and files."""
-    asked = [it for it in words if not it.startswith("--") or it == "--help"]
+    if "--ta" in words:
+        return ("check --ta",)
+    asked = [it for it in words if not it.startswith("--") or it in ("--help", "--version")]
     has_two = asked[:1] in (["show"], ["content"]) or asked[:2] == ["verdicts", "rta"]
     return tuple(asked[:2 if has_two else 1])
 

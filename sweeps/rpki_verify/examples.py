@@ -15,7 +15,9 @@ SIGNED, text = SHOWN["SIGNED"], SHOWN["text"]
 FILES = {name: path for name, path in SHOWN["FILES"].items() if not name.endswith(".verdicts")}
 LISTED = runpy.run_path(str(SWEEPS / "rpki_verdicts" / "examples.py"))
 FILES |= {name: LISTED["FILES"][name] for name in LISTED["RTA_LISTS"]}
-FILES |= {"second": "second.tal"}
+FILES |= {"second": "second.tal", "first": "anchor.tal", "revoking": "revoking.crl",
+          "list": "rpki.example.net/anchor/anchor.crl", "anchor.cer": FILES["anchor"],
+          "origin.roa": FILES["roa"], "broken.roa": FILES["broken"], "p.ASA": FILES["aspa"]}
 LISTS = {name.removesuffix(".verdicts"): (TREE / path).read_text("ascii").splitlines(keepends=True)
          for name, path in SHOWN["FILES"].items() if name.endswith(".verdicts")}
 HEAD = '''//! The objects of examples/, each with what the program says of it.
@@ -52,13 +54,21 @@ ipv4 192.0.2.0/24
 ipv4 198.51.100.0/24
 ipv6 2001:db8::/32
 """
+CRL = """crl
+number 01
+this-update 2026-11-01T00:00:00Z
+next-update 2036-01-01T00:00:00Z
+authority-key-id 1A3A434D3CB238F39188C4ED212421A717BB7C97
+"""
 MALFORMED = "malformed\n"
 OTHER_TYPE = "malformed: eContentType is not the one that is asked for\n"
 ISSUER_MALFORMED = "issuer refused: malformed\n"
 CHAIN = "anchor", "authority"
 ANCHORS = "tal=second", "ca=anchor:authority"
-LARGE, NONE = (3, "out of memory\n"), (2, "cannot read none\n")
-HELP = """usage: rpki_verify [OPTION ..] check KIND FILE MOMENT TA [CA ..]
+LARGE, NONE = (3, "out of memory\n"), (4, "cannot read none: no such file\n")
+HELP = """usage: rpki_verify [OPTION ..] check --ta TA [SETTING ..] FILE ..
+       rpki_verify [OPTION ..] show [SETTING ..] FILE ..
+       rpki_verify [OPTION ..] check KIND FILE MOMENT TA [CA ..]
        rpki_verify [OPTION ..] walk FILE MOMENT TA [CA ..] with NAME=PATH ..
        rpki_verify [OPTION ..] verdicts FILE TA [CA ..]
        rpki_verify [OPTION ..] rta FILE MOMENT ANCHOR ..
@@ -70,15 +80,22 @@ HELP = """usage: rpki_verify [OPTION ..] check KIND FILE MOMENT TA [CA ..]
        rpki_verify show certificate FILE
        rpki_verify show crl FILE
        rpki_verify --help
+       rpki_verify --version
 OPTION, in this order: --relaxed --registered --wide
-KIND: aspa, manifest, roa or rsc; of show and content also rta
-MOMENT: now, or YYYYMMDDHHMMSSZ
+SETTING, before or after FILE: --kind KIND, or an OPTION
+SETTING of check also: --ca CA, --tal TAL, --crl CRL, --at MOMENT
+KIND: aspa, manifest, roa or rsc; of show and content, and after --kind, also rta
+KIND after --kind of show also: certificate, crl or tal
+FILE after settings: without --kind its name tells its kind
+MOMENT: now, or YYYYMMDDHHMMSSZ; after --at also YYYY-MM-DDTHH:MM:SSZ
 CA of walk: any file but one named with
 FILE after verdicts: any file but one named rta
 COPY of payloads: any folder but one named --csv or --json
 ANCHOR: tal=FILE or ca=TA[:CA ..]
+Without --crl nothing is said of revocation.
 """
 WRONG = 2, "wrong words, expected:\n" + HELP, 0
+VERSION = "rpki_verify 0.1.0\n"
 NO_TIME = 2, "cannot tell the time\n", 0
 GOOD, EARLY, LATE = "20270101000000Z", "20250101000000Z", "20410101000000Z"
 NOT_YET = 1, "issuer refused: certificate is not yet valid\n"
@@ -119,9 +136,22 @@ def without(name, *places):
     return "".join(line for at, line in enumerate(LISTS[name]) if at not in places)
 
 
+def each(*words, moment=GOOD, chain=CHAIN):
+    cas = [word for ca in chain[1:] for word in ("--ca", ca)]
+    return ["check", "--ta", chain[0], "--at", moment, *cas, *words]
+
+
+def entry(name, said):
+    """What is said of one of several files."""
+    return name + ": " + said[:-1].replace("\n", "\n  ") + "\n"
+
+
 # Words, the moment of the clock, the status, what is said, and how many files are read.
 ROWS = [
     (["--help"], None, 0, HELP, 0),
+    (["-h"], None, 0, HELP, 0),
+    (["--version"], None, 0, VERSION, 0),
+    (["--relaxed", "--wide", "--version"], None, 0, VERSION, 0),
     (["--relaxed", "--registered", "--wide", "--help"], GOOD, 0, HELP, 0),
     (check("manifest", "manifest"), None, 0, "yes\n" + MANIFEST, 3),
     (check("roa", "roa"), EARLY, 0, "yes\n" + ROA, 3),
@@ -191,7 +221,7 @@ ROWS = [
     (walk("origin.roa=roa", chain=["anchor", "roa"]), None, 1, ISSUER_MALFORMED, 4),
     (walk("origin.roa=none", chain=["anchor", "roa"]), None, *NONE, 4),
     (walk("origin.roa=large", "a=none", file="anchor"), None, *LARGE, 4),
-    (walk("with=with", "with=roa"), None, 2, "cannot read with\n", 4),
+    (walk("with=with", "with=roa"), None, 4, "cannot read with: no such file\n", 4),
     # Attestations, and the lists of their good signatures. The CA that is supplied signed one of the
     # certificates that are carried, and a locator nothing.
     (rta("agreement"), None, 0, "yes\n" + AGREEMENT, 4),
@@ -219,8 +249,8 @@ ROWS = [
     (rta_listed("none", "tal=large"), None, *NONE, 1),
     (rta_listed("agreement", "tal=large", "ca=none"), None, *LARGE, 2),
     (rta_listed("agreement", "ca=anchor:none"), None, *NONE, 3),
-    (rta_listed("rta", "tal=second"), None, 2, "cannot read rta\n", 1),
-    (listed("./rta"), None, 2, "cannot read ./rta\n", 1),
+    (rta_listed("rta", "tal=second"), None, 4, "cannot read rta: no such file\n", 1),
+    (listed("./rta"), None, 4, "cannot read ./rta: no such file\n", 1),
     (["show", "rta", "roa"], None, 1, MALFORMED, 1),
     (["--wide", "content", "rta", "roa"], None, 1, MALFORMED, 1),
     (["content", "rta", "none"], None, *NONE, 1),
@@ -228,24 +258,73 @@ ROWS = [
     # Payloads, of which the relying party here says that each file is malformed.
     (["payloads", "copy", GOOD, "second"], None, 1, MALFORMED, 1),
     (["--wide", "payloads", "--csv", "copy", "now", "second", "roa"], GOOD, 1, MALFORMED, 2),
-    (["payloads", "--json", "./--csv", GOOD, "--csv"], None, 2, "cannot read --csv\n", 1),
+    (["payloads", "--json", "./--csv", GOOD, "--csv"], None, 4,
+     "cannot read --csv: no such file\n", 1),
     (["payloads", "copy", "now", "second"], None, *NO_TIME),
     (["payloads", "copy", GOOD, "second", "none", "roa"], None, *NONE, 2),
     (["payloads", "copy", GOOD, "large", "none"], None, *LARGE, 1),
+    # Checks with settings, of one file and of several.
+    *((each("--kind", kind, kind), None, 0, "yes\n" + lines, 3)
+      for kind, lines in (("manifest", MANIFEST), ("roa", ROA), ("aspa", ASPA), ("rsc", RSC))),
+    (each("origin.roa", moment="2027-01-01T00:00:00Z"), None, 0, "yes\n" + ROA, 3),
+    (["--wide", "check", "origin.roa", "--relaxed", "--ca", "authority", "--ta", "anchor"], GOOD, 0,
+     "yes\n" + ROA, 3),
+    (["check", "--ta", "anchor", "--at", "now", "origin.roa"], None, *NO_TIME),
+    (["check", "--ta", "anchor", "origin.roa"], GOOD, 1, "refused: not issued by this CA\n", 2),
+    (each("broken.roa"), None, 1, "refused: signature is not valid\n", 3),
+    (each("--kind", "aspa", "roa"), None, 1, OTHER_TYPE, 3),
+    (each("--kind", "roa", "anchor"), None, 1, MALFORMED, 3),
+    (each("origin.roa", "p.ASA"), None, 0,
+     entry("origin.roa", "yes\n" + ROA) + entry("p.ASA", "yes\n" + ASPA), 4),
+    (each("broken.roa", "p.ASA", "broken.roa"), None, 1,
+     entry("broken.roa", "refused: signature is not valid\n") + entry("p.ASA", "yes\n" + ASPA)
+     + entry("broken.roa", "refused: signature is not valid\n"), 5),
+    (each("--kind", "roa", "anchor", "aspa"), None, 1,
+     entry("anchor", MALFORMED) + entry("aspa", OTHER_TYPE), 4),
+    (each("origin.roa", moment=EARLY), GOOD, 1,
+     "issuer refused: anchor: certificate is not yet valid\n", 3),
+    (each("origin.roa", "p.ASA", chain=["anchor", "roa"]), None, 1,
+     "issuer refused: roa: malformed\n", 4),
+    (each("--tal", "first", "origin.roa"), None, 0, "yes\n" + ROA, 4),
+    (each("--tal", "second", "origin.roa", "p.ASA"), None, 1,
+     "issuer refused: anchor: key is not that of second\n", 5),
+    (each("--tal", "roa", "--crl", "roa", "origin.roa"), None, 2, "bad locator roa\n", 5),
+    (each("--tal", "second", "--crl", "list", "--crl", "roa", "origin.roa"), None, 2,
+     "bad list roa\n", 6),
+    (each("--crl", "list", "origin.roa"), None, 0, "yes\n" + ROA, 4),
+    (each("--crl", "list", "--crl", "revoking", "origin.roa"), None, 1,
+     "refused: revoked by revoking\n", 5),
+    (each("--crl", "revoking", "origin.roa", "p.ASA"), None, 1,
+     entry("origin.roa", "refused: revoked by revoking\n") + entry("p.ASA", "yes\n" + ASPA), 5),
+    (each("--crl", "revoking", "broken.roa"), None, 1, "refused: signature is not valid\n", 4),
+    *((each("--tal", "first", "origin.roa", chain=["anchor", file, "large"]), None, *answer, 2)
+      for file, answer in (("none", NONE), ("large", LARGE))),
+    (each("--crl", "none", "--tal", "large", "origin.roa"), None, *LARGE, 3),
+    (each("--crl", "none", "--tal", "roa", "p.ASA"), None, *NONE, 4),
+    (each("--kind", "roa", "roa", "none", "large"), None, *NONE, 4),
+    (each("--kind", "rta", "agreement"), None, 1, "refused: RTA could not be validated\n", 3),
+    # Shows with settings.
+    (["show", "origin.roa"], None, 0,
+     ROA + SIGNED + "1 D499B0BF9D1519CFF7E9C67B077CDAECD7CBCA67\n", 1),
+    (["show", "--kind", "crl", "list", "anchor.cer"], None, 1, entry("list", CRL)
+     + entry("anchor.cer", MALFORMED), 2),
+    (["show", "authority", "--wide", "--kind", "certificate"], None, 0, AUTHORITY_CERTIFICATE, 1),
+    (["show", "--kind", "tal", "first", "none", "large"], None, *NONE, 2),
+    (["show", "--kind", "rta", "large", "none"], None, *LARGE, 1),
     # A word after the command that looks like an option is the name of a file.
-    (["verdicts", "--relaxed", "roa", "anchor"], None, 2, "cannot read --relaxed\n", 1),
+    (["verdicts", "--relaxed", "roa", "anchor"], None, 4,
+     "cannot read --relaxed: no such file\n", 1),
 ]
 # Words that ask for nothing that there is.
 OTHER_WORDS = [
-    [], ["help"], ["--help", "--help"], ["--help", "roa"], ["check"], ["check", "roa", "roa", GOOD],
+    [], ["help"], ["--help", "--help"], ["--help", "roa"], ["--version", "--help"], ["check"], ["check", "roa", "roa", GOOD],
     check("none", "roa"), check("tal", "roa"), check("rta", "roa"),
     check("roa", "roa", moment="NOW"), check("roa", "roa", moment="today"),
     check("roa", "roa", moment="20270229000000Z"), check("roa", "roa", moment="2027010100000Z"),
     check("roa", "roa", moment="20270101000000"), check("roa", ""), check("roa", "roa", ""),
     check("roa", "roa", chain=[""]), ["verdicts"], ["verdicts", "roa"], listed(""),
-    listed("roa", ""), listed("roa", chain=["", "authority"]), ["show", "rta"],
-    ["show", "certificate"], ["show", "certificate", ""], ["show", "crl", "roa", "roa"],
-    ["show", "cer", "authority"], ["content", "crl", "authority"],
+    listed("roa", ""), listed("roa", chain=["", "authority"]), ["show"],
+    ["show", "certificate", ""], ["content", "crl", "authority"],
     ["verdicts", "rta"], ["verdicts", "rta", "agreement"], listed("rta"), rta_listed(""),
     rta_listed("agreement", "anchor"), rta_listed("agreement", "tal=second", "second"),
     rta_listed("agreement", "tal="), rta_listed("agreement", "ca=anchor:"),
@@ -266,6 +345,32 @@ OTHER_WORDS = [
     ["--strict"] + check("roa", "roa"), ["check", "--wide"] + check("roa", "roa")[1:],
 ]
 ROWS += [(words, GOOD, *WRONG) for words in OTHER_WORDS]
+# Words with settings that ask for nothing, and what is said of them.
+WRONG_WORDS = [
+    (each("-x"), "unknown option: -x"), (each("origin.roa", "--ta=b"), "unknown option: --ta=b"),
+    (each("origin.roa", "--crl"), "no value: --crl"),
+    (each("--csv", "origin.roa"), "no option of check: --csv"),
+    (each("--version", "--help", "origin.roa"), "no option of check: --help"),
+    (each("--ta", "anchor", "origin.roa"), "twice: --ta"),
+    (each("--at", "now", "origin.roa"), "twice: --at"),
+    (each("--tal", "a", "--tal", "b", "origin.roa"), "twice: --tal"),
+    (each("--kind", "roa", "--kind", "roa", "origin.roa"), "twice: --kind"),
+    (each("--kind", "gbr", "origin.roa"), "unknown kind: gbr"),
+    (each("origin.roa", moment="2027"), "wrong moment: 2027"),
+    (["check", "--", "--ta"], "missing: --ta"), (["check", "--ta"], "no value: --ta"),
+    (each(), "no file to check"), (each("--"), "no file to check"), (each(""), "empty name"),
+    (each("origin.roa", chain=["anchor", ""]), "empty name"),
+    (each("origin.roa", "--tal", ""), "empty name"),
+    (each("origin.roa", "roa"), "unknown kind: roa"),
+    (each("anchor.cer"), "cannot check files of this kind: anchor.cer"),
+    (each("--kind", "crl", "origin.roa"), "cannot check files of this kind: origin.roa"),
+    (["show", "rta"], "unknown kind: rta"), (["show", "cer", "authority"], "unknown kind: cer"),
+    (["show", "crl", "roa", "roa"], "unknown kind: crl"), (["show", "--wide"], "no file to show"),
+    (["show", "--at", "now", "origin.roa"], "no option of show: --at"),
+    (["show", "origin.roa", ""], "empty name"),
+    (["show", "origin.roa", "-x"], "unknown option: -x"),
+]
+ROWS += [(words, GOOD, 2, said + "\n", 0) for words, said in WRONG_WORDS]
 # Attestations, moments and anchors: what is said by signatures, and by the list of the good ones.
 BY_LISTS = [(name, moment, anchors) for name in LISTED["RTA_LISTS"] for moment, anchors in (
     (GOOD, ANCHORS), (GOOD, ANCHORS[::-1]), (GOOD, ANCHORS[:1]), (GOOD, ANCHORS[1:]),
@@ -289,17 +394,21 @@ def moment(of):
     return f"Time::utc({', '.join(str(int(it)) for it in parts)})"
 
 
+def static_of(name):
+    return name.upper().replace(".", "_")
+
+
 def main():
     print(HEAD)
     for name, path in FILES.items():
         octets = (TREE / path).read_bytes()
-        print(f"static {name.upper()}: [u8; {len(octets)}] = [")
+        print(f"static {static_of(name)}: [u8; {len(octets)}] = [")
         print(textwrap.fill(", ".join(f"0x{it:02X}" for it in octets), 100))
         print("];\n")
     print("/// The files.")
     print(f"pub fn files() -> [(&'static str, &'static [u8]); {len(FILES)}] {{\n    [")
     for name in FILES:
-        print(f'        ("{name}", &{name.upper()}),')
+        print(f'        ("{name}", &{static_of(name)}),')
     print("    ]\n}\n")
     for number, (words, now, status, said, reads) in enumerate(ROWS):
         out, err = (text(said), '""') if status < 2 else ('""', text(said))

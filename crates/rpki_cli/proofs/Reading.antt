@@ -4,6 +4,7 @@ use Rattle.std.proofs.Common.{Some, None, Ok, Err, Vec, Global, Bor, arith, subs
 use Rattle.std.proofs.lemmas.List.{append_assoc, length-map, get_or-map, take_more}
 use Rattle.rpki_cli.specs.Store.{Told, Names, IsRead, AreReadTo, IsFirstUnreadable, AreSomeRead}
 use Rattle.rpki_cli.specs.Words.{texts}
+use Rattle.rpki_cli.specs.declared.store.Reason.{Reason}
 use Rattle.rpki_cli.specs.declared.store.StoreError.{StoreError}
 use Rattle.rpki_cli.specs.declared.store.StoreError.TheVariants.{Unreadable}
 
@@ -30,14 +31,15 @@ none-before told names i [] e h k d l t = absurd (omega (arith, e, l))
 none-before told names i (f ∷ fs) e h k d l t =
     subst (λ (x : Option (Option (List ℕ))). IsRead x (Ok (get_or (f ∷ fs) k f))) t (h k d f l)
 
-pub first-unreadable : (told now : Told) (error : StoreError) (names : List (Bor (List ℕ))) (i : ℕ)
+pub first-unreadable : (told now : Told) (error : StoreError) (reason : Reason)
+    (names : List (Bor (List ℕ))) (i : ℕ)
     (d : Bor (List ℕ)) (files : List (Vec ℕ Global)) (old new : Names) → i < length names
     → length files ≡ i
     → AreReadTo told (texts names) i files
-    → now ≡ told → error ≡ Unreadable → IsRead (now (get_or names i d).now) (Err error)
+    → now ≡ told → error ≡ Unreadable reason → IsRead (now (get_or names i d).now) (Err error)
     → new ≡ old ++ take (i + 1) (texts names)
-    → IsFirstUnreadable told (texts names) old new (get_or names i d).now
-first-unreadable told now error names i d files old new l e h same is r n = record {
+    → IsFirstUnreadable told (texts names) old new (get_or names i d).now reason
+first-unreadable told now error reason names i d files old new l e h same is r n = record {
   place = i;
   there = omega (arith, l, length-map names (λ (w : Bor (List ℕ)). w.now));
   named = λ x. text-at names i d x l;

@@ -6,11 +6,13 @@ use Rattle.std.proofs.Math.Seq.{get_or-append_seam}
 use Rattle.std.proofs.lemmas.Bool.{cases_order}
 use Rattle.std.proofs.lemmas.List.{append_assoc, get_or_append_left, length-append, take_at}
 use Rattle.std.specs.Prelude.{◌⊎◌}
-use Rattle.rpki_cli.specs.Answer.{Run, Output, IsSaid, cannot_read, out_of_memory, shown}
+use Rattle.rpki_cli.specs.Answer.{Run, Output, IsSaid, unreadable, out_of_memory, shown}
 use Rattle.rpki_cli.specs.Command.{IsOfRead, IsOfFile, Task, Say, ShowLines, CheckFiles, Program}
 use Rattle.rpki_cli.specs.Command.{order_task, IsOfReads, IsOfFiles, AreTold, ChecksFiles}
 use Rattle.rpki_cli.specs.Command.{IsTaskAnswer, IsAnswer, OrOutOfMemory, Shows, IsTaskDone}
+use Rattle.rpki_cli.specs.Command.{SaysUnreadable}
 use Rattle.rpki_cli.specs.Command.{HasRead, IsRunOf, HaveRead, IsRunWith, IsSaidUnread, IsStartOf}
+use Rattle.rpki_cli.specs.Command.{DoSet, IsOfSet, DoesSet}
 use Rattle.rpki_cli.specs.Arguments.{ToldArguments, AreTexts}
 use Rattle.rpki_cli.specs.Shown.{HasNoLines, IsSaidOf, IsShown}
 use Rattle.rpki_cli.specs.Refusal.{IsMalformed}
@@ -19,10 +21,12 @@ use Rattle.rpki_cli.specs.Store.{IsFirstUnreadable}
 use Rattle.rpki_cli.specs.Language.{Language, IsAsked, AskForNothing}
 use Rattle.rpki_certs.specs.Issuer.{octets_of}
 use Rattle.rpki_cli.specs.declared.causes.Causes.{Causes}
+use Rattle.rpki_cli.specs.declared.store.Reason.{Reason}
 use Rattle.rpki_cli.specs.declared.store.Unread.{Unread}
 use Rattle.rpki_cli.specs.declared.store.Unread.TheVariants as reads
 use Rattle.rpki_cli.specs.declared.store.StoreError.{StoreError}
 use Rattle.rpki_cli.specs.declared.store.StoreError.TheVariants.{Unreadable, Memory}
+use Rattle.rpki_cli.specs.declared.words.Options.{Options}
 use Rattle.rpki_cli.specs.declared.words.Order.{Order}
 
 pub said-as : (s is : Output) (run : Run) → s ≡ is → IsSaid s run → IsSaid is run
@@ -33,11 +37,12 @@ said-as s is run e h = subst (λ (x : Output). IsSaid x run) e h
 module _ (causes : Causes) (lines_of : List ℕ → List ℕ → Type 0) (s : Output) (run : Run)
     (h : IsSaid s run) where
   unreadable-said : (file : List ℕ) (P : List ℕ → Output → Type 0)
-      (read : Result (Vec ℕ Global) StoreError)
-      → IsRead (Some None) read → IsOfRead file P read s → OrOutOfMemory (cannot_read file) run
+      (read : Result (Vec ℕ Global) StoreError) → IsRead (Some None) read
+      → IsOfRead causes file P read s → IsSaid out_of_memory run ⊎ SaysUnreadable causes file run
   unreadable-said file P (Ok octets) r o = absurd r
   unreadable-said file P (Err Memory) r o = inl (said-as s out_of_memory run o h)
-  unreadable-said file P (Err Unreadable) r o = inr (said-as s (cannot_read file) run o h)
+  unreadable-said file P (Err (Unreadable reason)) r o =
+      inr (reason, said-as s (unreadable causes file reason) run o h)
 
   malformed-said : (octets : List ℕ) → HasNoLines lines_of octets
       → IsSaidOf causes lines_of octets s
@@ -55,15 +60,15 @@ module _ (causes : Causes) (lines_of : List ℕ → List ℕ → Type 0) (s : Ou
       (said-as s (shown f.0) run f.2 h))
 
   of-octets : (file octets : List ℕ) (Q : Type 0) (read : Result (Vec ℕ Global) StoreError)
-      → IsRead (Some (Some octets)) read → IsOfRead file (IsShown causes lines_of) read s
+      → IsRead (Some (Some octets)) read → IsOfRead causes file (IsShown causes lines_of) read s
       → (IsShown causes lines_of octets s → IsSaid out_of_memory run ⊎ Q)
       → IsSaid out_of_memory run ⊎ Q
   of-octets file octets Q (Ok v) r o k =
       k (subst (λ (b : List ℕ). IsShown causes lines_of b s) r o)
   of-octets file octets Q (Err Memory) r o k = inl (said-as s out_of_memory run o h)
-  of-octets file octets Q (Err Unreadable) r o k = absurd r
+  of-octets file octets Q (Err (Unreadable reason)) r o k = absurd r
 
-  shows : (told : Told) (file : List ℕ) → IsOfFile told file (IsShown causes lines_of) s
+  shows : (told : Told) (file : List ℕ) → IsOfFile causes told file (IsShown causes lines_of) s
       → Shows causes told file lines_of run
   shows told file a =
       let tells : (t : Option (Option (List ℕ))) → told file ≡ t → IsRead t a.0 =
@@ -107,12 +112,13 @@ told-at told (n ∷ ns) (o ∷ os) (suc k) d l t =
     told-at told ns os k d (omega (arith, l)) cc
 
 readable : (told : Told) (names octets : List (List ℕ)) (old new : Names) (name : List ℕ)
-    → IsFirstUnreadable told names old new name → AreTold told names octets → ⊥
-readable told names octets old new name u t =
+    (reason : Reason) → IsFirstUnreadable told names old new name reason
+    → AreTold told names octets → ⊥
+readable told names octets old new name reason u t =
     let at = told-at told names octets u.place [] u.there t in
     let same : told name ≡ Some (Some at.0) =
     subst (λ (n : List ℕ). told n ≡ Some (Some at.0)) (u.named []) at.1 in
-    subst (λ (x : Option (Option (List ℕ))). IsRead x (Err Unreadable)) same u.unreadable
+    subst (λ (x : Option (Option (List ℕ))). IsRead x (Err (Unreadable reason))) same u.unreadable
 
 -- the place of a file after others
 at-file : (before after : List (List ℕ)) (file : List ℕ) (d : List ℕ)
@@ -143,10 +149,11 @@ one-unread told before after file old new (f ∷ fs) a u =
 
 -- the first file that can't be read is the one after those that can
 first-is : (told : Told) (before after octets : List (List ℕ)) (file : List ℕ) (old new : Names)
-    (name : List ℕ) → IsFirstUnreadable told (before ++ file ∷ after) old new name
+    (name : List ℕ) (reason : Reason)
+    → IsFirstUnreadable told (before ++ file ∷ after) old new name reason
     → AreTold told before octets → told file ≡ Some None
     → (name ≡ file) × (new ≡ old ++ (before ++ file ∷ []))
-first-is told before after octets file old new name u t e =
+first-is told before after octets file old new name reason u t e =
     elim (cases_order u.place (length before)) [
       | inl same ↦ (
         subst (λ (n : ℕ). name ≡ get_or (before ++ file ∷ after) n []) same (sym (u.named []))
@@ -161,18 +168,18 @@ first-is told before after octets file old new name u t e =
           sym (get_or_append_left before (file ∷ after) [] u.place l) ∙ u.named [] in
           let same : told name ≡ Some (Some at.0) =
           subst (λ (n : List ℕ). told n ≡ Some (Some at.0)) is at.1 in
-          absurd (subst (λ (x : Option (Option (List ℕ))). IsRead x (Err Unreadable)) same
-          u.unreadable)
+          absurd (subst (λ (x : Option (Option (List ℕ))). IsRead x (Err (Unreadable reason)))
+          same u.unreadable)
       | inr (inr l) ↦
           absurd (u.before (length before) [] l
           (subst (λ (n : List ℕ). told n ≡ Some None) (sym (at-file before after file [])) e))
     ]
 
-module _ (told : Told) (P : List (List ℕ) → Output → Type 0) (old new : Names) (s : Output)
-    (run : Run) (h : IsSaid s run) where
+module _ (causes : Causes) (told : Told) (P : List (List ℕ) → Output → Type 0) (old new : Names)
+    (s : Output) (run : Run) (h : IsSaid s run) where
   of-reads : (names octets : List (List ℕ)) → AreTold told names octets
       → (read : Result (Vec (Vec ℕ Global) Global) Unread) → AreRead told names old new read
-      → IsOfReads P read s
+      → IsOfReads causes P read s
       → IsSaid out_of_memory run
       ⊎ ((new ≡ old ++ names) × (x : Output) × P octets x × IsSaid x run)
   of-reads names octets t (Ok files) a o = inr (
@@ -182,71 +189,116 @@ module _ (told : Told) (P : List (List ℕ) → Output → Type 0) (old new : Na
         (told-octets told names files.items octets a.count a.each t) o,
     h,
   )
-  of-reads names octets t (Err (reads.Unreadable name)) a o =
-      absurd (readable told names octets old new name.now a t)
+  of-reads names octets t (Err (reads.Unreadable name reason)) a o =
+      absurd (readable told names octets old new name.now reason a t)
   of-reads names octets t (Err reads.Memory) a o = inl (said-as s out_of_memory run o h)
 
   of-unread : (before after octets : List (List ℕ)) (file : List ℕ) → AreTold told before octets
       → told file ≡ Some None → (read : Result (Vec (Vec ℕ Global) Global) Unread)
-      → AreRead told (before ++ file ∷ after) old new read → IsOfReads P read s
+      → AreRead told (before ++ file ∷ after) old new read → IsOfReads causes P read s
       → IsSaid out_of_memory run
-      ⊎ ((new ≡ old ++ (before ++ file ∷ [])) × IsSaid (cannot_read file) run)
+      ⊎ ((new ≡ old ++ (before ++ file ∷ [])) × SaysUnreadable causes file run)
   of-unread before after octets file t e (Ok files) a o =
       absurd (one-unread told before after file old new files.items a e)
-  of-unread before after octets file t e (Err (reads.Unreadable name)) a o =
-      let first = first-is told before after octets file old new name.now a t e in
+  of-unread before after octets file t e (Err (reads.Unreadable name reason)) a o =
+      let first = first-is told before after octets file old new name.now reason a t e in
       inr (
         first.1,
-        subst (λ (n : List ℕ). IsSaid (cannot_read n) run) first.0
-            (said-as s (cannot_read name.now) run o h),
+        (
+          reason,
+          subst (λ (n : List ℕ). IsSaid (unreadable causes n reason) run) first.0
+              (said-as s (unreadable causes name.now reason) run o h),
+        ),
       )
   of-unread before after octets file t e (Err reads.Memory) a o =
       inl (said-as s out_of_memory run o h)
 
   all-told : (names octets : List (List ℕ)) → AreTold told names octets
-      → IsOfFiles told names P old new s
+      → IsOfFiles causes told names P old new s
       → IsSaid out_of_memory run
       ⊎ ((new ≡ old ++ names) × (x : Output) × P octets x × IsSaid x run)
   all-told names octets t (inl m) = inl (said-as s out_of_memory run m.0 h)
   all-told names octets t (inr r) = of-reads names octets t r.0 r.1 r.2
 
   one-told : (before after octets : List (List ℕ)) (file : List ℕ) → AreTold told before octets
-      → told file ≡ Some None → IsOfFiles told (before ++ file ∷ after) P old new s
+      → told file ≡ Some None → IsOfFiles causes told (before ++ file ∷ after) P old new s
       → IsSaid out_of_memory run
-      ⊎ ((new ≡ old ++ (before ++ file ∷ [])) × IsSaid (cannot_read file) run)
+      ⊎ ((new ≡ old ++ (before ++ file ∷ [])) × SaysUnreadable causes file run)
   one-told before after octets file t e (inl m) = inl (said-as s out_of_memory run m.0 h)
   one-told before after octets file t e (inr r) =
       of-unread before after octets file t e r.0 r.1 r.2
 
-  checks : (names : List (List ℕ)) → IsOfFiles told names P old new s
-      → ChecksFiles told names P old new run
+  checks : (names : List (List ℕ)) → IsOfFiles causes told names P old new s
+      → ChecksFiles causes told names P old new run
   checks names is = record {
     checked = λ octets t. all-told names octets t is;
     unreadable = λ before after octets file e t u. one-told before after octets file t u
-        (subst (λ (ns : List (List ℕ)). IsOfFiles told ns P old new s) e is);
+        (subst (λ (ns : List (List ℕ)). IsOfFiles causes told ns P old new s) e is);
+  }
+
+-- ---- what words set
+
+-- Words set one thing at most, and are not wrong then; and `P` is true of what they set.
+pub record IsSettledSet (C : Type 0) (IsSet : C → Type 0) (IsWrong : Output → Type 0)
+    (P : C → Type 0) : Type 0 where
+  pub once : (c d : C) → IsSet c → IsSet d → c ≡ d
+  pub apart : (c : C) (s : Output) → IsSet c → IsWrong s → ⊥
+  pub each : (c : C) → IsSet c → P c
+
+-- a task says for each store one thing to be done
+abbrev pub IsSettled : Task → Type 0
+IsSettled (Say x) = Unit {0}
+IsSettled (ShowLines causes file lines_of) = Unit {0}
+IsSettled (CheckFiles causes files P) = Unit {0}
+IsSettled (DoSet C IsSet IsWrong task) = IsSettledSet C IsSet IsWrong (λ c. IsSettled (task c))
+
+module _ (C : Type 0) (IsSet : C → Type 0) (IsWrong : Output → Type 0) (Q A D : C → Type 0)
+    (settled : IsSettledSet C IsSet IsWrong Q) (step : (c : C) → IsSet c → A c → D c)
+    (old new : Names) (s : Output) (run : Run) (h : IsSaid s run) where
+  does-set : IsOfSet C IsSet IsWrong A old new s → DoesSet C IsSet IsWrong D run
+  does-set (inl m) = record {
+    set = λ c i. inl (said-as s out_of_memory run m.0 h);
+    wrong = λ n. inl (said-as s out_of_memory run m.0 h);
+  }
+  does-set (inr (inl w)) = record {
+    set = λ c i. absurd (settled.apart c s i w.0);
+    wrong = λ n. inr (s, w.0, h);
+  }
+  does-set (inr (inr f)) = record {
+    set = λ c i. inr (step c i (subst A (settled.once f.0 c f.1 i) f.2));
+    wrong = λ n. absurd (n f.0 f.1);
   }
 
 -- ---- the whole
 
 module _ (told : Told) (old new : Names) (s : Output) (run : Run) (h : IsSaid s run) where
-  pub task-done : (task : Task) → IsTaskAnswer told task old new s
+  pub task-done : (task : Task) → IsSettled task → IsTaskAnswer told task old new s
       → IsTaskDone told task old new run
-  task-done (Say x) a = said-as s x run a h
-  task-done (ShowLines causes file lines_of) a = shows causes lines_of s run h told file a
-  task-done (CheckFiles files P) a = checks told P old new s run h files a
+  task-done (Say x) e a = said-as s x run a h
+  task-done (ShowLines causes file lines_of) e a = shows causes lines_of s run h told file a
+  task-done (CheckFiles causes files P) e a = checks causes told P old new s run h files a
+  task-done (DoSet C IsSet IsWrong task) e a =
+      does-set C IsSet IsWrong (λ c. IsSettled (task c))
+      (λ c. IsTaskAnswer told (task c) old new s) (λ c. IsTaskDone told (task c) old new run) e
+      (λ c i b. task-done (task c) (e.each c i) b) old new s run h a
 
 -- no words ask a program for two things
 abbrev pub IsAskedOnce : Language → Type 0
 IsAskedOnce l = (words : List (List ℕ)) (a b : Order l.Command) → IsAsked l words a
     → IsAsked l words b → a ≡ b
 
+-- what is asked of a program is settled
+abbrev pub AreSettled : Program → Type 0
+AreSettled p = (options : Options) (command : p.language.Command) → IsSettled (p.task options command)
+
 module _ (p : Program) (once : IsAskedOnce p.language) (told : Told) (old new : Names)
     (words : List (List ℕ)) where
-  module _ (s : Output) (is : IsAnswer p told words old new s) (run : Run) (h : IsSaid s run) where
+  module _ (settled : AreSettled p) (s : Output) (is : IsAnswer p told words old new s)
+      (run : Run) (h : IsSaid s run) where
     order-done : (o : Order p.language.Command) → IsAsked p.language words o
         → IsAnswer p told words old new s → IsTaskDone told (order_task p o) old new run
     order-done o asked (inl a) =
-        task-done told old new s run h (order_task p o)
+        task-done told old new s run h (order_task p o) (settled o.options o.command)
         (subst (λ (q : Order p.language.Command). IsTaskAnswer told (order_task p q) old new s)
         (once words a.0 o a.1 asked) a.2)
     order-done o asked (inr a) = absurd (a.0 o asked)

@@ -8,6 +8,7 @@ use Rattle.std.proofs.lemmas.List.{get_or-map as get_or-mapped}
 use Rattle.std.proofs.lemmas.List.Sums.{position_or_len_is}
 use Rattle.std.proofs.lemmas.Slice.Eq.{bytes_eq-Decides}
 use Rattle.std.specs.List.{position_or_len}
+use Rattle.std.specs.Str.{bytes_eq}
 use Rattle.rpki_cli.specs.Words.{texts, are_named, word_with, is_with, chain_in, pairs_in, path_in}
 use Rattle.rpki_cli.specs.Words.{paths_in, others_in}
 use Rattle.rpki_cli.proofs.Anchored.{named-append}
@@ -74,32 +75,41 @@ at-word : (words : List (Bor (List ℕ))) (k : ℕ) (d : Bor (List ℕ)) (e : Li
     → get_or (texts words) k e ≡ (get_or words k d).now
 at-word words k d e l = get_or-mapped (λ (x : Bor (List ℕ)). x.now) words k d e l
 
+-- a word of the list is this one
+pub word-there : (word : List ℕ) (words : List (Bor (List ℕ))) (k : ℕ) (d : Bor (List ℕ))
+    → k < length words → bytes_eq (get_or words k d).now word ≡ true → Contains (texts words) word
+word-there word words k d l e =
+    let is : (get_or words k d).now ≡ word = (bytes_eq-Decides (get_or words k d).now word).0 e in (
+      k,
+      omega (arith, l, length-map words (λ (x : Bor (List ℕ)). x.now)),
+      at-word words k d word l ∙ is,
+    )
+
 -- a word of the list is `with`
 pub with-at : (words : List (Bor (List ℕ))) (k : ℕ) (d : Bor (List ℕ)) → k < length words
     → is_with (get_or words k d).now ≡ true → Contains (texts words) word_with
-with-at words k d l e =
-    let is : (get_or words k d).now ≡ word_with =
-    (bytes_eq-Decides (get_or words k d).now word_with).0 e in (
-      k,
-      omega (arith, l, length-map words (λ (x : Bor (List ℕ)). x.now)),
-      at-word words k d word_with l ∙ is,
-    )
+with-at words k d l e = word-there word_with words k d l e
 
 not-both : (b : Bool) → b ≡ true → b ≡ false → ⊥
 not-both b t f = cc
 
 -- none is
+pub word-nowhere : (word : List ℕ) (words : List (Bor (List ℕ)))
+    → ((k : ℕ) (d : Bor (List ℕ)) → k < length words
+    → bytes_eq (get_or words k d).now word ≡ false) → Contains (texts words) word → ⊥
+word-nowhere word [] none c = absurd (omega (arith, c.1))
+word-nowhere word (w ∷ ws) none c =
+    let l : c.0 < length (w ∷ ws) =
+    omega (arith, c.1, length-map (w ∷ ws) (λ (x : Bor (List ℕ)). x.now)) in
+    let e : (get_or (w ∷ ws) c.0 w).now ≡ word = sym (at-word (w ∷ ws) c.0 w word l) ∙ c.2 in
+    not-both (bytes_eq (get_or (w ∷ ws) c.0 w).now word)
+    ((bytes_eq-Decides (get_or (w ∷ ws) c.0 w).now word).1 e) (none c.0 w l)
+
+-- none is `with`
 pub without-with : (words : List (Bor (List ℕ)))
     → ((k : ℕ) (d : Bor (List ℕ)) → k < length words → is_with (get_or words k d).now ≡ false)
     → Contains (texts words) word_with → ⊥
-without-with [] none c = absurd (omega (arith, c.1))
-without-with (w ∷ ws) none c =
-    let l : c.0 < length (w ∷ ws) =
-    omega (arith, c.1, length-map (w ∷ ws) (λ (x : Bor (List ℕ)). x.now)) in
-    let e : (get_or (w ∷ ws) c.0 w).now ≡ word_with =
-    sym (at-word (w ∷ ws) c.0 w word_with l) ∙ c.2 in
-    not-both (is_with (get_or (w ∷ ws) c.0 w).now) (subst (λ (x : List ℕ). is_with x ≡ true) (sym e) refl)
-    (none c.0 w l)
+without-with words none c = word-nowhere word_with words none c
 
 module _ (chain pairs : List (Bor (List ℕ))) (tail : List (List ℕ)) (a : Bool)
     (before : texts chain ≡ chain_in tail) (is : a ≡ are_named (texts chain)) where

@@ -5,4 +5,5 @@ pub mod Kinds
 pub mod Moments
 pub mod Optioned
 pub mod Orders
+pub mod Requests
 pub mod Settings

@@ -1,12 +1,17 @@
 -- What the program says for an answer, and what its two streams have taken then.
-use Rattle.std.specs.Prelude.{◌≡◌, ℕ, ◌+◌, ◌⊎◌, List, Option, ◌++◌, string_bytes, codes}
+use Rattle.std.specs.Prelude.{◌≡◌, ℕ, ◌+◌, ◌⊎◌, List, [], Option, ◌++◌, string_bytes, codes}
 use Rattle.std.specs.Io.KnownBytes.{Appends}
 use Rattle.rpki_der.specs.Write.Sink.{AppendsFront}
 use Rattle.rpki_der.specs.Write.Encode.{Sunk}
 use Rattle.rpki_cli.specs.declared.answer.Answer.{Answer}
 use Rattle.rpki_cli.specs.declared.answer.Answer.TheVariants.{Usage, Help, WrongWords, NoMoment}
 use Rattle.rpki_cli.specs.declared.answer.Answer.TheVariants.{CannotRead, BadVerdicts, OutOfMemory}
-use Rattle.rpki_cli.specs.declared.answer.Answer.TheVariants.{BadLocator}
+use Rattle.rpki_cli.specs.declared.answer.Answer.TheVariants.{BadLocator, Version, WrongBy}
+use Rattle.rpki_cli.specs.declared.answer.Answer.TheVariants.{CannotReadFor}
+use Rattle.rpki_cli.specs.declared.causes.Causes.{Causes}
+use Rattle.rpki_cli.specs.declared.causes.Causes.TheVariants.{Omitted, Included}
+use Rattle.rpki_cli.specs.declared.store.Reason.{Reason}
+use Rattle.rpki_cli.specs.declared.store.Reason.TheVariants.{NotFound, NotPermitted, Folder, Untold}
 use Rattle.rpki_cli.specs.declared.answer.Answer.TheVariants as answers
 use Rattle.rpki_cli.specs.declared.answer.Answer.TheVariants.{Malformed, MalformedBy, Refused}
 use Rattle.rpki_cli.specs.declared.answer.Answer.TheVariants.{IssuerMalformed, IssuerRefused, Shown}
@@ -89,7 +94,9 @@ usage = Complained (codes "usage\n") 2
 
 -- how the program with signatures is called
 abbrev pub usage_text : List ℕ
-usage_text = codes "usage: rpki_verify [OPTION ..] check KIND FILE MOMENT TA [CA ..]\n"
+usage_text = codes "usage: rpki_verify [OPTION ..] check --ta TA [SETTING ..] FILE ..\n"
+    ++ (codes "       rpki_verify [OPTION ..] show [SETTING ..] FILE ..\n"
+    ++ (codes "       rpki_verify [OPTION ..] check KIND FILE MOMENT TA [CA ..]\n"
     ++ (codes "       rpki_verify [OPTION ..] walk FILE MOMENT TA [CA ..] with NAME=PATH ..\n"
     ++ (codes "       rpki_verify [OPTION ..] verdicts FILE TA [CA ..]\n"
     ++ (codes "       rpki_verify [OPTION ..] rta FILE MOMENT ANCHOR ..\n"
@@ -101,13 +108,19 @@ usage_text = codes "usage: rpki_verify [OPTION ..] check KIND FILE MOMENT TA [CA
     ++ (codes "       rpki_verify show certificate FILE\n"
     ++ (codes "       rpki_verify show crl FILE\n"
     ++ (codes "       rpki_verify --help\n"
+    ++ (codes "       rpki_verify --version\n"
     ++ (codes "OPTION, in this order: --relaxed --registered --wide\n"
-    ++ (codes "KIND: aspa, manifest, roa or rsc; of show and content also rta\n"
-    ++ (codes "MOMENT: now, or YYYYMMDDHHMMSSZ\n"
+    ++ (codes "SETTING, before or after FILE: --kind KIND, or an OPTION\n"
+    ++ (codes "SETTING of check also: --ca CA, --tal TAL, --crl CRL, --at MOMENT\n"
+    ++ (codes "KIND: aspa, manifest, roa or rsc; of show and content, and after --kind, also rta\n"
+    ++ (codes "KIND after --kind of show also: certificate, crl or tal\n"
+    ++ (codes "FILE after settings: without --kind its name tells its kind\n"
+    ++ (codes "MOMENT: now, or YYYYMMDDHHMMSSZ; after --at also YYYY-MM-DDTHH:MM:SSZ\n"
     ++ (codes "CA of walk: any file but one named with\n"
     ++ (codes "FILE after verdicts: any file but one named rta\n"
     ++ (codes "COPY of payloads: any folder but one named --csv or --json\n"
-    ++ codes "ANCHOR: tal=FILE or ca=TA[:CA ..]\n")))))))))))))))))
+    ++ (codes "ANCHOR: tal=FILE or ca=TA[:CA ..]\n"
+    ++ codes "Without --crl nothing is said of revocation.\n")))))))))))))))))))))))))
 
 -- that program says how it is called
 abbrev pub help : Output
@@ -117,6 +130,14 @@ help = Printed usage_text 0
 abbrev pub wrong_words : Output
 wrong_words = Complained (codes "wrong words, expected:\n" ++ usage_text) 2
 
+-- that program says which version of it this is
+abbrev pub version : Output
+version = Printed (codes "rpki_verify 0.1.0\n") 0
+
+-- the words are wrong, by this cause and this word
+abbrev pub wrong_by : List ℕ → List ℕ → Output
+wrong_by cause word = Complained (cause ++ (word ++ codes "\n")) 2
+
 -- the clock tells no moment
 abbrev pub no_moment : Output
 no_moment = Complained (codes "cannot tell the time\n") 2
@@ -124,6 +145,23 @@ no_moment = Complained (codes "cannot tell the time\n") 2
 -- a file can't be read
 abbrev pub cannot_read : List ℕ → Output
 cannot_read file = Complained (codes "cannot read " ++ (file ++ codes "\n")) 2
+
+-- why a file can't be read, after its name, where the system tells it
+abbrev pub reason_text : Reason → List ℕ
+reason_text NotFound = codes ": no such file"
+reason_text NotPermitted = codes ": permission denied"
+reason_text Folder = codes ": is a folder"
+reason_text Untold = []
+
+-- a file can't be read, for this reason
+abbrev pub cannot_read_for : List ℕ → Reason → Output
+cannot_read_for file reason =
+    Complained (codes "cannot read " ++ (file ++ (reason_text reason ++ codes "\n"))) 4
+
+-- what is said of a file that can't be read, with the reason or without
+abbrev pub unreadable : Causes → List ℕ → Reason → Output
+unreadable Omitted file reason = cannot_read file
+unreadable Included file reason = cannot_read_for file reason
 
 -- a file is no list of verdicts
 abbrev pub bad_verdicts : Output
@@ -173,9 +211,12 @@ shown lines = Printed lines 0
 abbrev pub said : Answer → Output
 said Usage = usage
 said Help = help
+said Version = version
 said WrongWords = wrong_words
+said (WrongBy cause word) = wrong_by cause.now word.now
 said NoMoment = no_moment
 said (CannotRead file) = cannot_read file.now
+said (CannotReadFor file reason) = cannot_read_for file.now reason
 said BadVerdicts = bad_verdicts
 said (BadLocator file) = bad_locator file.now
 said OutOfMemory = out_of_memory

@@ -2,7 +2,8 @@
 use Rattle.std.specs.Prelude.{◌≡◌, ℕ, ◌+◌, ◌<◌, List, ◌++◌, take, length, slice_index_or, codes}
 use Rattle.std.specs.Prelude.{Option, None, Some, Result, Ok, Err, Vec}
 use Rattle.std.specs.declared.alloc.Global.{Global}
-use Rattle.rpki_cli.specs.Answer.{memory_text}
+use Rattle.rpki_cli.specs.Answer.{memory_text, reason_text}
+use Rattle.rpki_cli.specs.declared.store.Reason.{Reason}
 use Rattle.rpki_cli.specs.declared.store.StoreError.{StoreError}
 use Rattle.rpki_cli.specs.declared.store.StoreError.TheVariants.{Unreadable, Memory}
 use Rattle.rpki_cli.specs.declared.store.Unread.{Unread}
@@ -10,15 +11,15 @@ use Rattle.rpki_cli.specs.declared.store.Unread.TheVariants as unread
 
 -- What a read of a file may answer. Of the file the store tells its octets, or that it can't be
 -- read, or nothing. The answer is what is told, and any where nothing is; and it may always be that
--- memory ran out.
+-- memory ran out. Why a file can't be read is not told: any reason may be answered.
 abbrev pub IsRead : Option (Option (List ℕ)) → Result (Vec ℕ Global) StoreError → Type 0
 IsRead told (Err Memory) = Unit {0}
 IsRead None (Ok octets) = Unit {0}
-IsRead None (Err Unreadable) = Unit {0}
+IsRead None (Err (Unreadable reason)) = Unit {0}
 IsRead (Some None) (Ok octets) = ⊥
-IsRead (Some None) (Err Unreadable) = Unit {0}
+IsRead (Some None) (Err (Unreadable reason)) = Unit {0}
 IsRead (Some (Some file)) (Ok octets) = octets.items ≡ file
-IsRead (Some (Some file)) (Err Unreadable) = ⊥
+IsRead (Some (Some file)) (Err (Unreadable reason)) = ⊥
 
 -- Names of files, in an order; where one stands twice, these are two. As `old` and `new` they are
 -- those of all files that a store was ever asked for, in the order of asking: `old` where a call
@@ -45,13 +46,15 @@ pub record AreAllRead (told : Told) (names old new : Names) (files : List (Vec �
   pub each : AreReadTo told names (length names) files
   pub reads : new ≡ old ++ names
 
--- The read of the file of this name may answer that it can't be read, and none before it is told to
--- be such. Those up to it are read, it too, in the order of the names, each once, and no other.
-pub record IsFirstUnreadable (told : Told) (names old new : Names) (name : List ℕ) : Type 0 where
+-- The read of the file of this name may answer that it can't be read, for this reason, and none
+-- before it is told to be such. Those up to it are read, it too, in the order of the names, each
+-- once, and no other.
+pub record IsFirstUnreadable (told : Told) (names old new : Names) (name : List ℕ)
+    (reason : Reason) : Type 0 where
   pub place : ℕ
   pub there : place < length names
   pub named : (d : List ℕ) → slice_index_or names place d ≡ name
-  pub unreadable : IsRead (told name) (Err Unreadable)
+  pub unreadable : IsRead (told name) (Err (Unreadable reason))
   pub before : (k : ℕ) (d : List ℕ) → k < place → told (slice_index_or names k d) ≡ Some None → ⊥
   pub reads : new ≡ old ++ take (place + 1) names
 
@@ -68,8 +71,8 @@ pub record AreSomeRead (told : Told) (names old new : Names) : Type 0 where
 abbrev pub AreRead : Told → Names → Names → Names → Result (Vec (Vec ℕ Global) Global) Unread
     → Type 0
 AreRead told names old new (Ok files) = AreAllRead told names old new files.items
-AreRead told names old new (Err (unread.Unreadable name)) =
-    IsFirstUnreadable told names old new name.now
+AreRead told names old new (Err (unread.Unreadable name reason)) =
+    IsFirstUnreadable told names old new name.now reason
 AreRead told names old new (Err unread.Memory) = AreSomeRead told names old new
 
 -- that a file can't be read, as a text
@@ -78,10 +81,11 @@ unreadable_text = codes "unreadable file"
 
 -- The text that says why a read of a file failed.
 abbrev pub store_error_text : StoreError → List ℕ
-store_error_text Unreadable = unreadable_text
+store_error_text (Unreadable reason) = unreadable_text ++ reason_text reason
 store_error_text Memory = memory_text
 
 -- The text that says why a read of several files failed.
 abbrev pub unread_text : Unread → List ℕ
-unread_text (unread.Unreadable name) = unreadable_text ++ (codes " " ++ name.now)
+unread_text (unread.Unreadable name reason) =
+    unreadable_text ++ (codes " " ++ (name.now ++ reason_text reason))
 unread_text unread.Memory = memory_text

@@ -3,5 +3,6 @@ pub mod CheckSettings
 pub mod Clock
 pub mod Kinds
 pub mod Moments
+pub mod Requests
 pub mod Settings
 pub mod Words

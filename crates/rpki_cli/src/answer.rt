@@ -3,8 +3,9 @@
 ghost use Rattle.std.specs.Prelude.{◌≡◌, ◌+◌, ◌++◌, OnOk, OnErr, codes};
 ghost use Rattle.std.specs.Io.KnownBytes.{Appends};
 ghost use Rattle.rpki_der.specs.Write.Sink.{AppendsFront};
-ghost use Rattle.rpki_cli.specs.Answer.{Writes, IsSaid, Reports, run_of, said};
+ghost use Rattle.rpki_cli.specs.Answer.{Writes, IsSaid, Reports, run_of, said, reason_text};
 
+use crate::store::Reason;
 use rpki_der::{Sink, SinkFailed};
 
 /// That no memory was to be had.
@@ -13,8 +14,13 @@ pub const OUT_OF_MEMORY: &str = "out of memory";
 /// That a file is not, or does not begin with, what was asked for.
 const MALFORMED: &[u8] = b"malformed";
 
+/// The name of the program with signatures, and which version of it this is.
+const VERSION: &[u8] = b"rpki_verify 0.1.0";
+
 /// How the program with signatures is called, but for the end of the last line.
-const USAGE: &[u8] = b"usage: rpki_verify [OPTION ..] check KIND FILE MOMENT TA [CA ..]
+const USAGE: &[u8] = b"usage: rpki_verify [OPTION ..] check --ta TA [SETTING ..] FILE ..
+       rpki_verify [OPTION ..] show [SETTING ..] FILE ..
+       rpki_verify [OPTION ..] check KIND FILE MOMENT TA [CA ..]
        rpki_verify [OPTION ..] walk FILE MOMENT TA [CA ..] with NAME=PATH ..
        rpki_verify [OPTION ..] verdicts FILE TA [CA ..]
        rpki_verify [OPTION ..] rta FILE MOMENT ANCHOR ..
@@ -26,13 +32,19 @@ const USAGE: &[u8] = b"usage: rpki_verify [OPTION ..] check KIND FILE MOMENT TA 
        rpki_verify show certificate FILE
        rpki_verify show crl FILE
        rpki_verify --help
+       rpki_verify --version
 OPTION, in this order: --relaxed --registered --wide
-KIND: aspa, manifest, roa or rsc; of show and content also rta
-MOMENT: now, or YYYYMMDDHHMMSSZ
+SETTING, before or after FILE: --kind KIND, or an OPTION
+SETTING of check also: --ca CA, --tal TAL, --crl CRL, --at MOMENT
+KIND: aspa, manifest, roa or rsc; of show and content, and after --kind, also rta
+KIND after --kind of show also: certificate, crl or tal
+FILE after settings: without --kind its name tells its kind
+MOMENT: now, or YYYYMMDDHHMMSSZ; after --at also YYYY-MM-DDTHH:MM:SSZ
 CA of walk: any file but one named with
 FILE after verdicts: any file but one named rta
 COPY of payloads: any folder but one named --csv or --json
-ANCHOR: tal=FILE or ca=TA[:CA ..]";
+ANCHOR: tal=FILE or ca=TA[:CA ..]
+Without --crl nothing is said of revocation.";
 
 /// What stands in front of it after wrong words.
 const WRONG: &[u8] = b"wrong words, expected:\n";
@@ -50,6 +62,9 @@ const REFUSED: u8 = 1;
 /// and of a write that failed.
 const FAILED: u8 = 2;
 
+/// The exit status where the program with signatures can't read a file.
+const UNREADABLE: u8 = 4;
+
 /// The exit status where memory ran out.
 const NO_MEMORY: u8 = 3;
 
@@ -60,12 +75,21 @@ pub enum Answer<'a> {
     Usage,
     /// How the program with signatures is called.
     Help,
+    /// Which version of that program this is.
+    Version,
     /// The words are those of no order of that program.
     WrongWords,
+    /// Its words are wrong, by this cause and this word.
+    WrongBy {
+        cause: &'a str,
+        word: &'a str,
+    },
     /// The clock tells no moment.
     NoMoment,
     /// This file can't be read.
     CannotRead(&'a str),
+    /// This file can't be read, for this reason.
+    CannotReadFor(&'a str, Reason),
     /// A file is no list of verdicts.
     BadVerdicts,
     /// The file of this name is no trust anchor locator.
@@ -101,9 +125,14 @@ pub fn say<O: Sink, E: Sink>(answer: &Answer<'_>, out: &mut O, err: &mut E) -> u
     match answer {
         Answer::Usage => write(b"usage\n", FAILED, err),
         Answer::Help => write_line(b"", USAGE, SHOWN, out),
+        Answer::Version => write_line(b"", VERSION, SHOWN, out),
         Answer::WrongWords => write_line(WRONG, USAGE, FAILED, err),
+        Answer::WrongBy { cause, word } => {
+            write_line(cause.as_bytes(), word.as_bytes(), FAILED, err)
+        }
         Answer::NoMoment => write(b"cannot tell the time\n", FAILED, err),
         Answer::CannotRead(file) => write_line(b"cannot read ", file.as_bytes(), FAILED, err),
+        Answer::CannotReadFor(file, reason) => write_unreadable(file, *reason, err),
         Answer::BadVerdicts => write(b"bad verdicts\n", FAILED, err),
         Answer::BadLocator(file) => write_line(b"bad locator ", file.as_bytes(), FAILED, err),
         Answer::OutOfMemory => write_line(OUT_OF_MEMORY.as_bytes(), b"", NO_MEMORY, err),
@@ -120,6 +149,29 @@ pub fn say<O: Sink, E: Sink>(answer: &Answer<'_>, out: &mut O, err: &mut E) -> u
             err: refused,
             status,
         } => report(found.as_bytes(), refused.as_bytes(), *status, out, err),
+    }
+}
+
+/// The reason for which a file can't be read, as the end of a line.
+fn line_of(reason: Reason) -> &'static [u8]
+    ensures { result.now ≡ reason_text reason ++ codes "\n" }
+{
+    match reason {
+        Reason::NotFound => b": no such file\n",
+        Reason::NotPermitted => b": permission denied\n",
+        Reason::Folder => b": is a folder\n",
+        Reason::Untold => b"\n",
+    }
+}
+
+/// Writes that a file can't be read for this reason, and gives the status.
+fn write_unreadable<W: Sink>(file: &str, reason: Reason, sink: &mut W) -> u8
+    ensures { Writes (codes "cannot read " ++ (file.now ++ (reason_text reason ++ codes "\n"))) 4
+        (W.taken sink.old, W.failures sink.old) (W.taken sink.new, W.failures sink.new) result }
+{
+    match write_parts(b"cannot read ", file.as_bytes(), line_of(reason), sink) {
+        Ok(()) => UNREADABLE,
+        Err(SinkFailed) => FAILED,
     }
 }
 

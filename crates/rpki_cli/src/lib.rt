@@ -16,8 +16,8 @@ pub mod verify;
 pub mod words;
 
 pub use arguments::{Arguments, ProcessArguments, WordsError, words_of};
-pub use causes::{Causes, refusal};
+pub use causes::{Causes, refusal, unread, unreadable};
 pub use files::{Work, answer_anchors, answer_files, answer_tail};
 pub use read_log::ReadLog;
 pub use runs::{Program, command, run, start, texts_of};
-pub use store::{Store, StoreError, SystemFiles, Unread, read_all};
+pub use store::{FilesAndInput, Reason, Store, StoreError, SystemFiles, Unread, read_all};

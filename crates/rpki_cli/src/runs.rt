@@ -103,8 +103,9 @@ fn run_with<P: Program, S: Store, O: Sink, E: Sink>(
 /// Runs a program: does what the words ask for, which follow its name, with the files of the store.
 /// Gives the exit status: 0 where lines were shown, after a `yes` where an object was checked, 1
 /// for `malformed`, `refused: CAUSE` and `issuer refused: CAUSE`, all on standard output; 2 for
-/// wrong words, `cannot read FILE`, `bad verdicts` and `cannot tell the time`, 3 for `out of
-/// memory`, on standard error; and 2 where a write failed, after which nothing more is written.
+/// wrong words, `bad verdicts`, `cannot tell the time`, and `cannot read FILE` where no reason is to
+/// be said, 3 for `out of memory`, 4 for `cannot read FILE` with the reason, if one is told, on
+/// standard error; and 2 where a write failed, after which nothing more is written.
 pub fn command<P: Program, S: Store, O: Sink, E: Sink>(
     alloc: Global,
     program: &P,

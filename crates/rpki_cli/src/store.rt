@@ -1,6 +1,7 @@
 //! Where the program's files come from.
 
 ghost use Rattle.std.specs.Prelude.{◌≡◌, ◌∷◌, ◌++◌, ℕ, List, [], Option, None, Some};
+ghost use Rattle.rpki_cli.specs.Answer.{reason_text};
 ghost use Rattle.rpki_cli.specs.Store.{IsRead, AreRead, store_error_text, unread_text};
 ghost use Rattle.rpki_cli.specs.Words.{texts};
 
@@ -8,6 +9,7 @@ use crate::answer::OUT_OF_MEMORY;
 use crate::read_log::ReadLog;
 use std::alloc::Global;
 use std::error::Error;
+use std::io::Read;
 use std::marker::Model;
 use std::rt::Files;
 use std::{fmt, fs, io};
@@ -15,11 +17,38 @@ use std::{fmt, fs, io};
 /// That a file can't be read.
 const UNREADABLE: &str = "unreadable file";
 
+/// Why a file can't be read.
+#[derive(Clone, Copy, Debug, PartialEq, Eq)]
+pub enum Reason {
+    /// There is no file of this name.
+    NotFound,
+    /// It may not be read.
+    NotPermitted,
+    /// It is a folder.
+    Folder,
+    /// The system tells none of these.
+    Untold,
+}
+
+impl Reason {
+    /// The reason as a text, which stands after the name of the file.
+    pub fn text(self) -> &'static str
+        ensures { result.now ≡ reason_text self }
+    {
+        match self {
+            Reason::NotFound => ": no such file",
+            Reason::NotPermitted => ": permission denied",
+            Reason::Folder => ": is a folder",
+            Reason::Untold => "",
+        }
+    }
+}
+
 /// Why a read of a file failed.
 #[derive(Clone, Copy, Debug, PartialEq, Eq)]
 pub enum StoreError {
-    /// It can't be read.
-    Unreadable,
+    /// It can't be read, for this reason.
+    Unreadable(Reason),
     /// No memory was to be had.
     Memory,
 }
@@ -29,7 +58,7 @@ impl fmt::Display for StoreError {
 
     fn fmt<W: fmt::Write>(&self, f: &mut fmt::Formatter<W>) -> fmt::Result {
         match self {
-            StoreError::Unreadable => f.write_str(UNREADABLE),
+            StoreError::Unreadable(reason) => write!(f, "{UNREADABLE}{}", reason.text()),
             StoreError::Memory => f.write_str(OUT_OF_MEMORY),
         }
     }
@@ -57,8 +86,8 @@ pub trait Store {
 /// Why a read of several files failed.
 #[derive(Debug, Drop)]
 pub enum Unread<'a> {
-    /// This one can't be read.
-    Unreadable(&'a str),
+    /// This one can't be read, for this reason.
+    Unreadable(&'a str, Reason),
     /// No memory was to be had.
     Memory,
 }
@@ -68,7 +97,9 @@ impl fmt::Display for Unread<'_> {
 
     fn fmt<W: fmt::Write>(&self, f: &mut fmt::Formatter<W>) -> fmt::Result {
         match self {
-            Unread::Unreadable(name) => write!(f, "{UNREADABLE} {name}"),
+            Unread::Unreadable(name, reason) => {
+                write!(f, "{UNREADABLE} {name}{}", reason.text())
+            }
             Unread::Memory => f.write_str(OUT_OF_MEMORY),
         }
     }
@@ -97,7 +128,7 @@ pub fn read_all<'a, S: Store>(
                     return Err(Unread::Memory);
                 }
             }
-            Err(StoreError::Unreadable) => return Err(Unread::Unreadable(name)),
+            Err(StoreError::Unreadable(reason)) => return Err(Unread::Unreadable(name, reason)),
             Err(StoreError::Memory) => return Err(Unread::Memory),
         }
     }
@@ -142,10 +173,70 @@ impl<R: Files + AllocGlobal> Store for SystemFiles<'_, R> {
         self.reads = self.reads.and(name);
         match fs::read(self.runtime, name) {
             Ok(octets) => Ok(octets),
-            Err(e) => Err(match e.kind() {
-                io::ErrorKind::OutOfMemory => StoreError::Memory,
-                _ => StoreError::Unreadable,
-            }),
+            Err(error) => Err(failure(error)),
+        }
+    }
+}
+
+/// Why a read failed.
+fn failure(error: io::Error) -> StoreError {
+    match error.kind() {
+        io::ErrorKind::OutOfMemory => StoreError::Memory,
+        io::ErrorKind::NotFound => StoreError::Unreadable(Reason::NotFound),
+        io::ErrorKind::PermissionDenied => StoreError::Unreadable(Reason::NotPermitted),
+        io::ErrorKind::IsADirectory => StoreError::Unreadable(Reason::Folder),
+        _ => StoreError::Unreadable(Reason::Untold),
+    }
+}
+
+/// The name of standard input among files (POSIX.1-2017, Base Definitions, section 12.2, Guideline
+/// 13).
+const INPUT: &str = "-";
+
+/// The files of the system, and under the name `-` what is read of standard input. That is read to
+/// its end, so a second read of it gives no octets.
+#[derive(Drop)]
+pub struct FilesAndInput<'a, R, I> {
+    files: SystemFiles<'a, R>,
+    input: I,
+}
+
+impl<'a, R, I> Model for FilesAndInput<'a, R, I> {
+    ghost use Rattle.std.specs.Prelude.{ℕ, List};
+
+    // The names of the files that were asked for, in the order of asking.
+    ghost Value = { List (List ℕ) };
+
+    ghost view = { λ d. d.files };
+}
+
+impl<'a, R, I> FilesAndInput<'a, R, I> {
+    /// The files that this runtime reaches, and this input. This store was asked for none yet.
+    pub fn new(runtime: &'a R, input: I) -> FilesAndInput<'a, R, I>
+        ensures { result ≡ [] }
+    {
+        FilesAndInput {
+            files: SystemFiles::new(runtime),
+            input,
+        }
+    }
+}
+
+impl<R: Files + AllocGlobal, I: Read> Store for FilesAndInput<'_, R, I> {
+    // Of the files of the system, and of standard input, nothing is told.
+    ghost told = { λ _ _. None };
+
+    ghost reads = { λ d. d };
+
+    fn read(&mut self, alloc: Global, name: &str) -> Result<Vec<u8>, StoreError> {
+        if name != INPUT {
+            return self.files.read(alloc, name);
+        }
+        self.files.reads = self.files.reads.and(name);
+        let mut octets = Vec::new(alloc);
+        match self.input.read_to_end(&mut octets) {
+            Ok(_) => Ok(octets),
+            Err(error) => Err(failure(error)),
         }
     }
 }

@@ -7,6 +7,7 @@ pub mod kinds_by_name;
 pub mod laws;
 pub mod moments;
 mod relying_party;
+pub mod requests;
 pub mod settings;
 pub mod words;
 

@@ -2,7 +2,7 @@
 
 ghost use Rattle.std.specs.Prelude.{◌≡◌, ◌∷◌, ◌++◌, Bool, MatchOption, codes};
 ghost use Rattle.rpki_basics.specs.Moment.{Moment, IsMoment};
-ghost use Rattle.rpki_cli.specs.Options.{provider_limit, manifest_rule};
+ghost use Rattle.rpki_cli.specs.Options.{provider_limit, manifest_rule, either_options};
 ghost use Rattle.rpki_cli.specs.Command.{objects_language};
 ghost use Rattle.rpki_cli.specs.Language.{IsAsked, AskForNothing};
 ghost use Rattle.rpki_cli.specs.Words.{texts, kind_word, word_if, word_registered, word_wide};
@@ -122,6 +122,17 @@ pub struct Options {
 }
 
 impl Options {
+    /// The options that are set here or there.
+    pub fn or(self, other: Options) -> Options
+        ensures { result ≡ either_options self other }
+    {
+        Options {
+            relaxed: self.relaxed || other.relaxed,
+            registered: self.registered || other.registered,
+            wide: self.wide || other.wide,
+        }
+    }
+
     /// How many providers a customer may have.
     pub fn provider_limit(self) -> ProviderLimit
         ensures { result ≡ provider_limit self }

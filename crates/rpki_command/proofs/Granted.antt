@@ -38,11 +38,11 @@ use Rattle.rpki_command.specs.Command.{objects_program}
 use Rattle.rpki_command.specs.Rta.{supply_of, IsRtaSaid, AttestedUnder, anchor_refusal, IsSaidWith}
 use Rattle.rpki_command.specs.Rta.{RtaOf}
 use Rattle.rpki_command.specs.Yes.{rta_order, IsRightRta, BeginsWithNoGranted, IsRightNoRta}
-use Rattle.rpki_command.specs.Yes.{HoldsByList}
+use Rattle.rpki_command.specs.Yes.{HoldsByList, status_of}
 use Rattle.rpki_command.specs.declared.anchors.Anchor.{Anchor}
 use Rattle.rpki_command.specs.declared.anchors.AnchorError.{AnchorError}
 use Rattle.rpki_command.specs.declared.anchors.AnchorError.TheVariants as anchors
-use Rattle.rpki_command.proofs.Right.{status_of, other-status, whole-lines, refusal-is-none}
+use Rattle.rpki_command.proofs.Right.{other-status, whole-lines, refusal-is-none}
 use Rattle.rpki_command.proofs.Right.{fault-is-none, issuer-is-none, said-yes, said-no, one, two}
 use Rattle.rpki_command.proofs.Right.{three}
 use Rattle.rpki_command.specs.Verify.Check.{VerifiedRtaOf}
@@ -171,7 +171,7 @@ module _ (told : Told) (words : List (List ℕ)) (old new : Names) (run : Run) (
     (is : IsRunOf objects_program told words old new run)
     (asked : IsAsked objects_language words (rta_order options now file list named))
     (tells : AreTold told (file ∷ list ∷ files_of_anchors named) (object ∷ text ∷ octets)) where
-  done : ChecksFiles told (file ∷ list ∷ files_of_anchors named) (RtaOf now named) old new run
+  done : ChecksFiles Omitted told (file ∷ list ∷ files_of_anchors named) (RtaOf now named) old new run
   done = is.done (rta_order options now file list named) asked
 
   yes-of : (s : Output) → IsSaid s run → run.status ≡ 0 → status_of s ≡ 0
@@ -198,14 +198,14 @@ module _ (told : Told) (words : List (List ℕ)) (old new : Names) (run : Run) (
   pub right-rta : run.status ≡ 0
       → HoldsByList (λ verdict. IsRightRta verdict now named object octets run) text
   right-rta z =
-      let c = said-yes told (file ∷ list ∷ files_of_anchors named) (object ∷ text ∷ octets)
+      let c = said-yes Omitted told (file ∷ list ∷ files_of_anchors named) (object ∷ text ∷ octets)
       (RtaOf now named) old new run done tells z in
       yes-of c.0 c.2 z c.3 c.1
 
   pub right-no-rta : run.status ≡ 1
       → HoldsByList (λ verdict. IsRightNoRta verdict now named object octets) text
   right-no-rta z =
-      let c = said-no told (file ∷ list ∷ files_of_anchors named) (object ∷ text ∷ octets)
+      let c = said-no Omitted told (file ∷ list ∷ files_of_anchors named) (object ∷ text ∷ octets)
       (RtaOf now named) old new run done tells z in
       no-of c.0 c.3 c.1
 
@@ -219,21 +219,21 @@ module _ (told : Told) (clock : Option Moment) (party : PartySays) (words : List
     (asked : IsAsked verify_language words (verify_rta options moment file named))
     (moment-is : moment_at clock moment ≡ Some now)
     (tells : AreTold told (file ∷ files_of_anchors named) (object ∷ octets)) where
-  verified : ChecksFiles told (file ∷ files_of_anchors named) (VerifiedRtaOf named now) old new run
+  verified : ChecksFiles Included told (file ∷ files_of_anchors named) (VerifiedRtaOf named now) old new run
   verified = subst (λ (m : Option Moment). IsTaskDone told
       (check_task (file ∷ files_of_anchors named) (VerifiedRtaOf named) m) old new run)
       moment-is (is.done (verify_rta options moment file named) asked)
 
   pub verified-rta : run.status ≡ 0 → IsRightRta is_rsa_signature now named object octets run
   verified-rta z =
-      let c = said-yes told (file ∷ files_of_anchors named) (object ∷ octets)
+      let c = said-yes Included told (file ∷ files_of_anchors named) (object ∷ octets)
       (VerifiedRtaOf named now) old new run verified tells z in
       yes-made Included (λ (_ : Rsa). is_rsa_signature) (record {}) now named object octets c.0 run
       c.2 z c.3 c.1.0 c.1.1 c.1.2
 
   pub verified-no-rta : run.status ≡ 1 → IsRightNoRta is_rsa_signature now named object octets
   verified-no-rta z =
-      let c = said-no told (file ∷ files_of_anchors named) (object ∷ octets)
+      let c = said-no Included told (file ∷ files_of_anchors named) (object ∷ octets)
       (VerifiedRtaOf named now) old new run verified tells z in
       no-made Included (λ (_ : Rsa). is_rsa_signature) (record {}) now named object octets c.0 c.3
       c.1.0 c.1.1 c.1.2

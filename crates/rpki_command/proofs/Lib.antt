@@ -4,5 +4,7 @@ pub mod Holding
 pub mod Located
 pub mod Making
 pub mod Right
+pub mod Settled
+pub mod Untold
 pub mod Verified
 pub mod Walked

@@ -45,13 +45,7 @@ use Rattle.rpki_command.specs.Check.{yes_line, passes, issuer_refusal, validatio
 use Rattle.rpki_command.specs.Check.{IsCheckSaid, IsCheckedAs, CheckedUnder, IsSaidUnder, CheckOf}
 use Rattle.rpki_command.specs.Command.{objects_program}
 use Rattle.rpki_command.specs.Yes.{FilesOfCheck, in_order_with, check_order, PrintsYes, IsRightYes}
-use Rattle.rpki_command.specs.Yes.{BeginsWithNoGood, IsRightNo, HoldsByList}
-
--- the status that goes with what is said
-abbrev pub status_of : Output → ℕ
-status_of (Printed text status) = status
-status_of (Complained text status) = status
-status_of (Reported out err status) = status
+use Rattle.rpki_command.specs.Yes.{BeginsWithNoGood, IsRightNo, HoldsByList, status_of}
 
 pub one : ◌≡◌ {A = ℕ} 1 0 → ⊥
 one e = omega (arith, e)
@@ -305,9 +299,9 @@ module _ (s : Output) (options : Options) (kind : Kind) (now : Moment) (files : 
 
 -- ---- by the run
 
-module _ (told : Told) (names octets : Names) (P : List (List ℕ) → Output → Type 0)
-    (old new : Names) (run : Run) (done : ChecksFiles told names P old new run)
-    (tells : AreTold told names octets) where
+module _ (causes : Causes) (told : Told) (names octets : Names)
+    (P : List (List ℕ) → Output → Type 0) (old new : Names) (run : Run)
+    (done : ChecksFiles causes told names P old new run) (tells : AreTold told names octets) where
   -- what is said by a run that ends with this status, which is not that of a failure
   pub said-with : (n : ℕ) → run.status ≡ n → (n ≡ 2 → ⊥) → (3 ≡ n → ⊥)
       → (s : Output) × P octets s × IsSaid s run × (status_of s ≡ n)
@@ -327,19 +321,19 @@ module _ (told : Told) (words : List (List ℕ)) (old new : Names) (run : Run) (
     (is : IsRunOf objects_program told words old new run)
     (asked : IsAsked objects_language words (check_order options kind now list names))
     (tells : AreTold told (in_order_with list names) (in_order_with text files)) where
-  done : ChecksFiles told (in_order_with list names) (CheckOf options kind now) old new run
+  done : ChecksFiles Omitted told (in_order_with list names) (CheckOf options kind now) old new run
   done = is.done (check_order options kind now list names) asked
 
   pub right-yes : run.status ≡ 0
       → HoldsByList (λ verdict. IsRightYes options kind verdict now files run) text
   right-yes z =
-      let c = said-yes told (in_order_with list names) (in_order_with text files)
+      let c = said-yes Omitted told (in_order_with list names) (in_order_with text files)
       (CheckOf options kind now) old new run done tells z in
       yes-of c.0 options kind now files text run c.2 z c.3 c.1
 
   pub right-no : run.status ≡ 1
       → HoldsByList (λ verdict. IsRightNo options kind verdict now files) text
   right-no z =
-      let c = said-no told (in_order_with list names) (in_order_with text files)
+      let c = said-no Omitted told (in_order_with list names) (in_order_with text files)
       (CheckOf options kind now) old new run done tells z in
       no-of c.0 options kind now files text c.3 c.1

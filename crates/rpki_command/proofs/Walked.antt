@@ -33,8 +33,8 @@ use Rattle.rpki_command.specs.Command.{objects_program}
 use Rattle.rpki_command.specs.Held.{held_text}
 use Rattle.rpki_command.specs.Walk.{certs_in, hand_in, WalkedUnder, IsWalkedWith, WalkOf}
 use Rattle.rpki_command.specs.Yes.{FilesOfCheck, in_order, in_order_with, walk_order, IsRightWalk}
-use Rattle.rpki_command.specs.Yes.{IsRightNo, HoldsByList}
-use Rattle.rpki_command.proofs.Right.{status_of, other-status, issuer-is-none, yes-as, no-as}
+use Rattle.rpki_command.specs.Yes.{IsRightNo, HoldsByList, status_of}
+use Rattle.rpki_command.proofs.Right.{other-status, issuer-is-none, yes-as, no-as}
 use Rattle.rpki_command.proofs.Right.{no-made, said-yes, said-no, two, three}
 use Rattle.rpki_command.specs.Verify.Check.{VerifiedWalkOf}
 use Rattle.rpki_command.specs.Verify.Command.{check_task, verify_program, PartySays}
@@ -155,7 +155,7 @@ module _ (told : Told) (words : List (List ℕ)) (old new : Names) (run : Run) (
     (asked : IsAsked objects_language words (walk_order options now object list anchor tail))
     (tells : AreTold told (object ∷ list ∷ anchor ∷ chain_in tail) (in_order_with text files))
     (pairs : AreTold told (paths_in tail) octets) where
-  done : ChecksFiles told (object ∷ list ∷ anchor ∷ others_in tail) (WalkOf options now tail) old
+  done : ChecksFiles Omitted told (object ∷ list ∷ anchor ∷ others_in tail) (WalkOf options now tail) old
       new run
   done = is.done (walk_order options now object list anchor tail) asked
 
@@ -175,7 +175,7 @@ module _ (told : Told) (words : List (List ℕ)) (old new : Names) (run : Run) (
       → HoldsByList (λ verdict. IsRightWalk options verdict now files (zip (names_in tail) octets)
       run) text
   right-walk z =
-      let c = said-yes told (object ∷ list ∷ anchor ∷ others_in tail)
+      let c = said-yes Omitted told (object ∷ list ∷ anchor ∷ others_in tail)
       (files.object ∷ text ∷ files.anchor ∷ (files.chain ++ octets)) (WalkOf options now tail) old
       new run done all z in
       walk-of c.0 options now tail files text octets long run c.2 z c.3 c.1
@@ -183,7 +183,7 @@ module _ (told : Told) (words : List (List ℕ)) (old new : Names) (run : Run) (
   pub right-no-walk : run.status ≡ 1
       → HoldsByList (λ verdict. IsRightNo options Manifest verdict now files) text
   right-no-walk z =
-      let c = said-no told (object ∷ list ∷ anchor ∷ others_in tail)
+      let c = said-no Omitted told (object ∷ list ∷ anchor ∷ others_in tail)
       (files.object ∷ text ∷ files.anchor ∷ (files.chain ++ octets)) (WalkOf options now tail) old
       new run done all z in
       no-walk-of c.0 options now tail files text octets long c.3 c.1
@@ -199,7 +199,7 @@ module _ (told : Told) (clock : Option Moment) (party : PartySays) (words : List
     (moment-is : moment_at clock moment ≡ Some now)
     (tells : AreTold told (object ∷ anchor ∷ chain_in tail) (in_order files))
     (pairs : AreTold told (paths_in tail) octets) where
-  verified : ChecksFiles told (object ∷ anchor ∷ others_in tail) (VerifiedWalkOf options tail now)
+  verified : ChecksFiles Included told (object ∷ anchor ∷ others_in tail) (VerifiedWalkOf options tail now)
       old new run
   verified = subst (λ (m : Option Moment). IsTaskDone told
       (check_task (object ∷ anchor ∷ others_in tail) (VerifiedWalkOf options tail) m) old new run)
@@ -216,7 +216,7 @@ module _ (told : Told) (clock : Option Moment) (party : PartySays) (words : List
   pub verified-walk : run.status ≡ 0
       → IsRightWalk options is_rsa_signature now files (zip (names_in tail) octets) run
   verified-walk z =
-      let c = said-yes told (object ∷ anchor ∷ others_in tail)
+      let c = said-yes Included told (object ∷ anchor ∷ others_in tail)
       (files.object ∷ files.anchor ∷ (files.chain ++ octets)) (VerifiedWalkOf options tail now) old
       new run verified both z in
       let w = walked-as Included options is_rsa_signature now tail files octets as-long c.0 c.1 in
@@ -225,7 +225,7 @@ module _ (told : Told) (clock : Option Moment) (party : PartySays) (words : List
 
   pub verified-no-walk : run.status ≡ 1 → IsRightNo options Manifest is_rsa_signature now files
   verified-no-walk z =
-      let c = said-no told (object ∷ anchor ∷ others_in tail)
+      let c = said-no Included told (object ∷ anchor ∷ others_in tail)
       (files.object ∷ files.anchor ∷ (files.chain ++ octets)) (VerifiedWalkOf options tail now) old
       new run verified both z in
       let w = walked-as Included options is_rsa_signature now tail files octets as-long c.0 c.1 in

@@ -18,20 +18,21 @@ use Rattle.rpki_command.specs.Rta.{RtaOf}
 use Rattle.rpki_command.specs.Walk.{WalkOf}
 
 -- What each command of the program with verdicts comes to with these options, where the causes of
--- refusals of what is shown are told, or not: the table of its commands. A check, a walk and a
--- locator tell none. An attestation is in DER, and a locator is a text: no option speaks of them.
+-- refusals of what is shown, and of files that can't be read, are told, or not: the table of its
+-- commands. A check and a walk tell none of the object. An attestation is in DER, and a locator is a
+-- text: no option speaks of them.
 abbrev pub command_task : Causes → Options → Command → Task
 command_task causes options (Content kind file) = ShowLines causes file (LinesOf options kind)
 command_task causes options (ContentRta file) = ShowLines causes file AttestationLines
 command_task causes options (Show kind file) = ShowLines causes file (ObjectLinesOf options kind)
 command_task causes options (ShowRta file) = ShowLines causes file RtaLines
-command_task causes options (ShowTal file) = ShowLines Omitted file TalLines
+command_task causes options (ShowTal file) = ShowLines causes file TalLines
 command_task causes options (Check kind file moment verdicts anchor chain) =
-    CheckFiles (file ∷ verdicts ∷ anchor ∷ chain) (CheckOf options kind moment)
+    CheckFiles causes (file ∷ verdicts ∷ anchor ∷ chain) (CheckOf options kind moment)
 command_task causes options (Walk file moment verdicts anchor tail) =
-    CheckFiles (file ∷ verdicts ∷ anchor ∷ others_in tail) (WalkOf options moment tail)
+    CheckFiles causes (file ∷ verdicts ∷ anchor ∷ others_in tail) (WalkOf options moment tail)
 command_task causes options (Rta file moment verdicts anchors) =
-    CheckFiles (file ∷ verdicts ∷ files_of_anchors anchors) (RtaOf moment anchors)
+    CheckFiles causes (file ∷ verdicts ∷ files_of_anchors anchors) (RtaOf moment anchors)
 
 -- the program with verdicts
 abbrev pub objects_program : Program

@@ -24,7 +24,7 @@ use Rattle.rpki_sigobj.specs.Signed.Kind as signed
 use Rattle.rpki_sigobj.specs.Signed.{Whole, ObjectForm}
 use Rattle.rpki_verdicts.specs.Listed.{is_listed}
 use Rattle.rpki_verdicts.specs.Verdicts.{AreVerdicts}
-use Rattle.rpki_cli.specs.Answer.{Run, IsWhole, out_of_memory}
+use Rattle.rpki_cli.specs.Answer.{Run, IsWhole, Output, Printed, Complained, Reported, out_of_memory}
 use Rattle.rpki_cli.specs.Options.{manifest_rule}
 use Rattle.rpki_cli.specs.declared.words.Command.{Command}
 use Rattle.rpki_cli.specs.declared.words.Command.TheVariants as commands
@@ -40,6 +40,12 @@ use Rattle.rpki_command.specs.Rta.{supply_of, anchor_refusal}
 use Rattle.rpki_command.specs.Held.{held_text}
 use Rattle.rpki_command.specs.declared.anchors.Anchor.{Anchor}
 use Rattle.rpki_command.specs.declared.anchors.AnchorError.{AnchorError}
+
+-- the status that goes with what is said
+abbrev pub status_of : Output → ℕ
+status_of (Printed text status) = status
+status_of (Complained text status) = status
+status_of (Reported out err status) = status
 
 -- The files of an object and of certificates: the name of each, or its octets.
 pub record FilesOfCheck : Type 0 where

@@ -196,7 +196,7 @@ fn answer_checked<'a, C: Lines>(
 }
 
 /// A yes, and the lines of a content.
-fn say_yes<'a, C: Lines>(alloc: Global, content: &C) -> Answer<'a>
+pub fn say_yes<'a, C: Lines>(alloc: Global, content: &C) -> Answer<'a>
     ensures { IsLinesOf (yes_line ++ C.lines content.now) (said result) }
 {
     let mut text = String::new(alloc);

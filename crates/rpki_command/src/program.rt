@@ -2,11 +2,10 @@
 
 ghost use Rattle.std.specs.Prelude.{◌≡◌, ◌∷◌, ◌++◌, []};
 ghost use Rattle.rpki_cli.specs.Answer.{said};
-ghost use Rattle.rpki_cli.specs.Command.{HasRead, IsTaskAnswer, unread, IsOfFile, IsAnswer};
+ghost use Rattle.rpki_cli.specs.Command.{HasRead, IsTaskAnswer, IsOfFile, IsAnswer};
 ghost use Rattle.rpki_cli.specs.Command.{HaveRead};
 ghost use Rattle.rpki_cli.specs.Shown.{IsShown};
 ghost use Rattle.rpki_cli.specs.Words.{texts};
-ghost use Rattle.rpki_cli.specs.declared.causes.Causes.TheVariants.{Omitted};
 ghost use Rattle.rpki_show.specs.Attestation.{AttestationLines, RtaLines};
 ghost use Rattle.rpki_show.specs.Contents.{LinesOf};
 ghost use Rattle.rpki_show.specs.Objects.{ObjectLinesOf};
@@ -18,7 +17,7 @@ use crate::rta::RtaByList;
 use crate::walk::WalkByList;
 use rpki_cli::answer::Answer;
 use rpki_cli::words::{Command, Kind, Options, Order, parse};
-use rpki_cli::{Causes, Program, Store, StoreError, answer_anchors, answer_files, answer_tail};
+use rpki_cli::{Causes, Program, Store, answer_anchors, answer_files, answer_tail, unread};
 use rpki_show::{show_attestation, show_kind, show_object, show_rta, show_tal};
 use std::alloc::Global;
 
@@ -79,7 +78,7 @@ pub fn answer_order<'a, S: Store>(
         Command::ContentRta { file } => show_attestation_file(alloc, causes, file.0, store),
         Command::Show { kind, file } => show_signed(alloc, causes, options, *kind, file.0, store),
         Command::ShowRta { file } => show_rta_file(alloc, causes, file.0, store),
-        Command::ShowTal { file } => show_locator(alloc, file.0, store),
+        Command::ShowTal { file } => show_locator(alloc, causes, file.0, store),
         Command::Check {
             kind,
             file,
@@ -94,7 +93,7 @@ pub fn answer_order<'a, S: Store>(
                 moment: *moment,
             };
             let first = [file.0, verdicts.0, anchor.0];
-            answer_files(alloc, check, &first, chain.0, store)
+            answer_files(alloc, causes, check, &first, chain.0, store)
         }
         Command::Walk {
             file,
@@ -109,7 +108,7 @@ pub fn answer_order<'a, S: Store>(
                 tail: tail.0,
             };
             let before = [file.0, verdicts.0, anchor.0];
-            answer_tail(alloc, walk, &before, tail.0, store)
+            answer_tail(alloc, causes, walk, &before, tail.0, store)
         }
         Command::Rta {
             file,
@@ -122,7 +121,7 @@ pub fn answer_order<'a, S: Store>(
                 anchors: anchors.0,
             };
             let before = [file.0, verdicts.0];
-            answer_anchors(alloc, rta, &before, anchors.0, store)
+            answer_anchors(alloc, causes, rta, &before, anchors.0, store)
         }
     }
 }
@@ -136,14 +135,14 @@ fn show_file<'a, S: Store>(
     file: &'a str,
     store: &mut S,
 ) -> Answer<'a>
-    ensures said { IsOfFile (S.told store.old) file.now (IsShown causes (LinesOf options kind))
-        (said result) }
+    ensures said { IsOfFile causes (S.told store.old) file.now
+        (IsShown causes (LinesOf options kind)) (said result) }
     ensures reads { S.reads store.new ≡ S.reads store.old ++ file.now ∷ [] }
     ensures same { S.told store.new ≡ S.told store.old }
 {
     match store.read(alloc, file) {
         Ok(octets) => show_kind(alloc, causes, options, kind, octets),
-        Err(error) => unread(error, file),
+        Err(error) => unread(causes, error, file),
     }
 }
 
@@ -156,14 +155,14 @@ fn show_signed<'a, S: Store>(
     object: &'a str,
     store: &mut S,
 ) -> Answer<'a>
-    ensures said { IsOfFile (S.told store.old) object.now
+    ensures said { IsOfFile causes (S.told store.old) object.now
         (IsShown causes (ObjectLinesOf options kind)) (said result) }
     ensures reads { S.reads store.new ≡ S.reads store.old ++ object.now ∷ [] }
     ensures same { S.told store.new ≡ S.told store.old }
 {
     match store.read(alloc, object) {
         Ok(octets) => show_object(alloc, causes, options, kind, octets),
-        Err(error) => unread(error, object),
+        Err(error) => unread(causes, error, object),
     }
 }
 
@@ -174,14 +173,14 @@ fn show_attestation_file<'a, S: Store>(
     content: &'a str,
     store: &mut S,
 ) -> Answer<'a>
-    ensures said { IsOfFile (S.told store.old) content.now (IsShown causes AttestationLines)
-        (said result) }
+    ensures said { IsOfFile causes (S.told store.old) content.now
+        (IsShown causes AttestationLines) (said result) }
     ensures reads { S.reads store.new ≡ S.reads store.old ++ content.now ∷ [] }
     ensures same { S.told store.new ≡ S.told store.old }
 {
     match store.read(alloc, content) {
         Ok(octets) => show_attestation(alloc, causes, octets),
-        Err(error) => unread(error, content),
+        Err(error) => unread(causes, error, content),
     }
 }
 
@@ -192,34 +191,32 @@ fn show_rta_file<'a, S: Store>(
     rta: &'a str,
     store: &mut S,
 ) -> Answer<'a>
-    ensures said { IsOfFile (S.told store.old) rta.now (IsShown causes RtaLines) (said result) }
+    ensures said { IsOfFile causes (S.told store.old) rta.now (IsShown causes RtaLines)
+        (said result) }
     ensures reads { S.reads store.new ≡ S.reads store.old ++ rta.now ∷ [] }
     ensures same { S.told store.new ≡ S.told store.old }
 {
     match store.read(alloc, rta) {
         Ok(octets) => show_rta(alloc, causes, octets),
-        Err(error) => unread(error, rta),
+        Err(error) => unread(causes, error, rta),
     }
 }
 
 /// Answers with the lines of the trust anchor locator that the file of this name is, if it is one.
-fn show_locator<'a, S: Store>(alloc: Global, name: &'a str, store: &mut S) -> Answer<'a>
-    ensures said { IsOfFile (S.told store.old) name.now (IsShown Omitted TalLines) (said result) }
+#[tactic(auto, using(crate::proofs::Untold::by_causes))]
+fn show_locator<'a, S: Store>(
+    alloc: Global,
+    causes: Causes,
+    name: &'a str,
+    store: &mut S,
+) -> Answer<'a>
+    ensures said { IsOfFile causes (S.told store.old) name.now (IsShown causes TalLines)
+        (said result) }
     ensures reads { S.reads store.new ≡ S.reads store.old ++ name.now ∷ [] }
     ensures same { S.told store.new ≡ S.told store.old }
 {
     match store.read(alloc, name) {
         Ok(octets) => show_tal(alloc, octets.as_slice()),
-        Err(error) => unread(error, name),
-    }
-}
-
-/// The answer where a read of the file of this name fails.
-pub(crate) fn unread<'a>(error: StoreError, file: &'a str) -> Answer<'a>
-    ensures { said result ≡ unread file.now error }
-{
-    match error {
-        StoreError::Unreadable => Answer::CannotRead(file),
-        StoreError::Memory => Answer::OutOfMemory,
+        Err(error) => unread(causes, error, name),
     }
 }

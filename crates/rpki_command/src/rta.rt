@@ -108,7 +108,7 @@ fn check_anchored<'a, K: Crypto>(
 }
 
 /// Answers whether the octets begin with an attestation that is granted under these supplies.
-fn check_supplied<'a, K: Crypto>(
+pub fn check_supplied<'a, K: Crypto>(
     alloc: Global,
     causes: Causes,
     object: &[u8],

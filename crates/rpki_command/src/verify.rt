@@ -2,10 +2,14 @@
 //! says, on which stream, and with which exit status.
 
 mod check;
+pub mod checks;
+pub mod each;
 pub mod issuers;
 pub mod laws;
+pub mod objects;
 mod payloads;
 mod program;
 pub mod revoked;
+mod shows;
 
 pub use program::Verify;

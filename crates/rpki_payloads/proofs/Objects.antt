@@ -4,20 +4,21 @@ use Rattle.std.proofs.Common.{◌∙◌, arith, append_assoc, append-nil}
 use Rattle.rpki_resources.specs.As.{asn_text}
 use Rattle.rpki_resources.specs.Text.{prefix_text}
 use Rattle.rpki_payloads.specs.Found.{Found, all_named}
-use Rattle.rpki_payloads.specs.Grammar.Json.{string, number, array, object, Items, member}
-use Rattle.rpki_payloads.specs.Grammar.Json.{no_members, IsMark, IsValue, AreItems}
-use Rattle.rpki_payloads.specs.Grammar.Json.{AreFurtherMembers, IsText, items_of}
+use Rattle.rpki_json.specs.Grammar.{string, number, array, object, Items, member}
+use Rattle.rpki_json.specs.Grammar.{no_members, IsMark, IsValue, AreItems}
+use Rattle.rpki_json.specs.Grammar.{AreFurtherMembers, IsText, items_of}
 use Rattle.rpki_payloads.specs.Picked.{Origin, Customer, origins_among, customers_among}
 use Rattle.rpki_payloads.specs.Said.{roa_value, provider_value, aspa_value, json_value, HaveLengths}
-use Rattle.rpki_payloads.specs.Separated.{separated}
-use Rattle.rpki_payloads.specs.Texts.Escaped.{json_string}
+use Rattle.rpki_json.specs.Separated.{separated}
+use Rattle.rpki_json.specs.Text.{json_string}
 use Rattle.rpki_payloads.specs.Texts.Json.{json_ta, json_origin, json_roa, json_customer}
 use Rattle.rpki_payloads.specs.Texts.Json.{json_provider, json_aspa, json_roas, json_aspas}
 use Rattle.rpki_payloads.specs.Texts.Json.{json_text}
 use Rattle.rpki_payloads.specs.Texts.Origin.{max_length}
 use Rattle.rpki_payloads.proofs.Plain.{plain-by, plain-asn, plain-prefix}
-use Rattle.rpki_payloads.proofs.Strings.{is-string}
-use Rattle.rpki_payloads.proofs.Values.{plain-string, is-number, are-items, written, members}
+use Rattle.rpki_json.proofs.Strings.{is-string}
+use Rattle.rpki_json.proofs.Values.{is-number}
+use Rattle.rpki_payloads.proofs.Values.{plain-string, are-items, written, members}
 use Rattle.rpki_payloads.proofs.Values.{further-members}
 
 -- ---- marks

@@ -1,18 +1,16 @@
 -- What is written part by part is a value of JSON.
-use Rattle.std.proofs.Common.{◌≡◌, ℕ, ◌<◌, ◌^◌, List, [], ◌∷◌, ◌++◌, All, length, get_or, codes}
-use Rattle.std.proofs.Common.{decimal, inl, inr, refl, ap, arith, append_assoc}
+use Rattle.std.proofs.Common.{ℕ, List, [], ◌∷◌, ◌++◌, All, codes}
+use Rattle.std.proofs.Common.{refl, arith, append_assoc}
 use Rattle.std.specs.List.{flat_map}
-use Rattle.std.proofs.lemmas.Bool.{cases_eq}
-use Rattle.std.proofs.lemmas.Fmt.{decimal_is_IsNumeral, decimal_digit, first_decimal}
 use Rattle.std.proofs.lemmas.List.Elements.{All-head, All-tail}
-use Rattle.rpki_payloads.specs.Separated.{separated}
-use Rattle.rpki_payloads.specs.Grammar.Json.{Says, nothing, unescaped, IsString, Json, member}
-use Rattle.rpki_payloads.specs.Grammar.Json.{Members, IsMark, IsNumber, IsMember, IsValue}
-use Rattle.rpki_payloads.specs.Grammar.Json.{AreItems, AreFurtherItems, AreMembers}
-use Rattle.rpki_payloads.specs.Grammar.Json.{AreFurtherMembers, items_of}
+use Rattle.rpki_json.specs.Separated.{separated}
+use Rattle.rpki_json.specs.Grammar.{Says, nothing, unescaped, IsString, Json, member}
+use Rattle.rpki_json.specs.Grammar.{Members, IsMark, IsMember, IsValue}
+use Rattle.rpki_json.specs.Grammar.{AreItems, AreFurtherItems, AreMembers}
+use Rattle.rpki_json.specs.Grammar.{AreFurtherMembers, items_of}
 use Rattle.rpki_payloads.proofs.Plain.{IsPlain, ArePlain}
 
--- ---- strings and numbers
+-- ---- strings
 
 says-plain : (text : List ℕ) → ArePlain text → Says text text
 says-plain [] h = nothing
@@ -29,19 +27,6 @@ says-plain (o ∷ os) h =
 pub plain-string : (text : List ℕ) → ArePlain text
     → IsString (codes "\"" ++ (text ++ codes "\"")) text
 plain-string text h = record { inside = text; quoted = refl; says = says-plain text h }
-
-one-digit : (n : ℕ) → n < 2 ^ 64 → get_or (decimal n) 0 0 ≡ 0x30 → length (decimal n) ≡ 1
-one-digit n h e = elim (cases_eq n 0) [
-  | inl z ↦ rw z (ap length (decimal_digit 0 (omega arith)))
-  | inr other ↦
-      let some : 0 < n = omega arith in
-      absurd (omega (arith, first_decimal n some h))
-]
-
-pub is-number : (n : ℕ) → n < 2 ^ 64 → IsNumber (decimal n) n
-is-number n h =
-    let p = decimal_is_IsNumeral n h in
-    record { numeral = p.0; no_leading_zero = one-digit n h; value = p.1 }
 
 -- ---- arrays
 

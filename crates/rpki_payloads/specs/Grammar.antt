@@ -1,3 +1,2 @@
--- The grammars of the texts that are written.
+-- The grammar of the tables that are written.
 pub mod Csv
-pub mod Json

@@ -2,5 +2,4 @@ pub mod Found
 pub mod Grammar
 pub mod Picked
 pub mod Said
-pub mod Separated
 pub mod Texts

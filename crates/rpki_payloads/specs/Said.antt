@@ -4,8 +4,8 @@ use Rattle.rpki_resources.specs.As.{asn_text}
 use Rattle.rpki_resources.specs.Text.{prefix_text}
 use Rattle.rpki_payloads.specs.Found.{Found, all_named}
 use Rattle.rpki_payloads.specs.Grammar.Csv.{Row}
-use Rattle.rpki_payloads.specs.Grammar.Json.{Json, string, number, array, object, no_members}
-use Rattle.rpki_payloads.specs.Grammar.Json.{member, items_of}
+use Rattle.rpki_json.specs.Grammar.{Json, string, number, array, object, no_members}
+use Rattle.rpki_json.specs.Grammar.{member, items_of}
 use Rattle.rpki_payloads.specs.Picked.{Origin, Customer, origins_among, customers_among}
 use Rattle.rpki_payloads.specs.Texts.Origin.{max_length}
 

@@ -3,19 +3,19 @@
 ghost use Rattle.std.specs.Prelude.{codes};
 ghost use Rattle.rpki_payloads.specs.Found.{all_named};
 ghost use Rattle.rpki_payloads.specs.Picked.{origins_among, customers_among};
-ghost use Rattle.rpki_payloads.specs.Separated.{separated};
+ghost use Rattle.rpki_json.specs.Separated.{separated};
 ghost use Rattle.rpki_payloads.specs.Texts.Json.{json_text, json_roas, json_aspas, json_roa};
 ghost use Rattle.rpki_payloads.specs.Texts.Json.{json_origin, json_ta};
 ghost use Rattle.rpki_payloads.specs.Texts.Json.{json_aspa, json_customer, json_provider};
 ghost use Rattle.rpki_show.specs.Grows.{Grows};
 
 use crate::csv::max_length;
-use crate::each::push_separated;
-use crate::escaped::JsonString;
 use crate::found::AnchorFindings;
 use crate::picked::{NamedOrigin, NamedProviders, all_customers, all_origins};
+use rpki_json::JsonString;
 use rpki_resources::Asn;
 use rpki_routes::RouteOrigin;
+use rpki_show::texts::separated::push_separated;
 use std::alloc::AllocError;
 use std::fmt::Write;
 

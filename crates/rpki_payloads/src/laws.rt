@@ -2,21 +2,12 @@
 
 ghost use Rattle.std.specs.Prelude.{◌≡◌, ℕ, List};
 ghost use Rattle.rpki_payloads.specs.Found.{Found};
-ghost use Rattle.rpki_payloads.specs.Grammar.Json.{IsString, IsText};
+ghost use Rattle.rpki_json.specs.Grammar.{IsText};
 ghost use Rattle.rpki_payloads.specs.Grammar.Csv.{IsField, AreRecords};
 ghost use Rattle.rpki_payloads.specs.Said.{csv_rows, json_value, HaveLengths};
 ghost use Rattle.rpki_payloads.specs.Texts.Csv.{csv_text};
-ghost use Rattle.rpki_payloads.specs.Texts.Escaped.{json_string, csv_field};
+ghost use Rattle.rpki_payloads.specs.Texts.Escaped.{csv_field};
 ghost use Rattle.rpki_payloads.specs.Texts.Json.{json_text};
-
-/// What is written as a string of JSON is one, and says the text and nothing else. What a string of
-/// JSON says is unique.
-pub fn strings_say_their_texts()
-    ensures says { (text : List ℕ) → IsString (json_string text) text }
-    ensures only { (text said : List ℕ) → IsString (json_string text) said → said ≡ text }
-    ensures unique { (octets said other : List ℕ) → IsString octets said → IsString octets other
-        → said ≡ other }
-{}
 
 /// What is written as a field of CSV is one, and says the text and nothing else. What a field says
 /// is unique.

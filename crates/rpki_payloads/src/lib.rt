@@ -14,7 +14,7 @@ mod picked;
 mod refusals;
 
 pub use csv::push_csv;
-pub use escaped::{CsvField, JsonString};
+pub use escaped::CsvField;
 pub use format::push_payloads;
 pub use found::{AnchorFindings, NamedFinding, NamedFindings, all_findings};
 pub use json::push_json;

@@ -6,3 +6,4 @@
 mod arrangements;
 mod checks;
 mod file_kinds;
+mod requests;

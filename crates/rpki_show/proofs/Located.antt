@@ -5,14 +5,13 @@ use Rattle.std.proofs.lemmas.List.{append-nil}
 use Rattle.rpki_tal.specs.declared.error.ReadError.{ReadError}
 use Rattle.rpki_tal.specs.declared.uri.TalUri.{TalUri}
 use Rattle.rpki_tal.specs.declared.error.ReadError.TheVariants as error
-use Rattle.rpki_tal.specs.Form.{IsNoTal, IsOnlyTal}
+use Rattle.rpki_tal.specs.Form.{IsNoTal, IsOnlyTal, TalForm}
 use Rattle.rpki_tal.specs.Read.{HasGiven, GivesNoTal, ReadsTal, failed_calls}
 use Rattle.rpki_tal.specs.Tal.{Locator}
 use Rattle.rpki_cli.specs.Answer.{Output, malformed}
 use Rattle.rpki_cli.specs.Shown.{IsLinesOf, IsShown}
 use Rattle.rpki_cli.specs.declared.causes.Causes.TheVariants.{Omitted}
 use Rattle.rpki_show.specs.Locator.{IsLocatorOf, tal_refusal}
-use Rattle.rpki_show.specs.Texts.Tal.{TalLines, tal_text}
 
 -- all that was given are the octets
 all-given : (octets text : List ℕ) (new : Option (List ℕ)) → HasGiven (Some octets) new text
@@ -37,12 +36,17 @@ module _ (octets : List ℕ) (new : Option (List ℕ)) where
   locator-read (Err error.BadKeyInfoEncoding) kept h = none-given error.BadKeyInfoEncoding h
   locator-read (Err (error.BadKeyInfo cause)) kept h = none-given (error.BadKeyInfo cause) h
 
-module _ (octets : List ℕ) (s : Output) where
-  no-tal : s ≡ malformed → IsNoTal octets → IsShown Omitted TalLines octets s
+module _ (octets : List ℕ) (s : Output) (text : List TalUri → List ℕ → List ℕ) where
+  -- these are the lines of the locator that the octets are
+  abbrev AreLines : List ℕ → List ℕ → Type 0
+  AreLines os lines =
+      (uris : List TalUri) × (key : List ℕ) × TalForm os uris key × (lines ≡ text uris key)
+
+  no-tal : s ≡ malformed → IsNoTal octets → IsShown Omitted AreLines octets s
   no-tal is none = record { said = inr (inl (is, λ lines h. none h.0 h.1 h.2)) }
 
   pub shown-no-tal : (e : ReadError) → s ≡ tal_refusal e → IsLocatorOf octets (Err e)
-      → IsShown Omitted TalLines octets s
+      → IsShown Omitted AreLines octets s
   shown-no-tal error.Memory is h = record { said = inl is }
   shown-no-tal error.Io is h = no-tal is h
   shown-no-tal error.UnexpectedEof is h = no-tal is h
@@ -51,17 +55,17 @@ module _ (octets : List ℕ) (s : Output) where
   shown-no-tal (error.BadKeyInfo cause) is h = no-tal is h
 
   pub shown-tal : (tal : Locator) → IsLocatorOf octets (Ok tal)
-      → IsLinesOf (tal_text tal.uris tal.key) s → IsShown Omitted TalLines octets s
+      → IsLinesOf (text tal.uris tal.key) s → IsShown Omitted AreLines octets s
   shown-tal tal only (inl e) = record { said = inl e }
   shown-tal tal only (inr e) = record {
     said = inr (inr (
-      tal_text tal.uris tal.key,
+      text tal.uris tal.key,
       record {
         these = (tal.uris, tal.key, only.form, refl);
         only = λ others t.
             let same = only.only t.0 t.1 t.2 in
-            t.3 ∙ (ap (λ (uris : List TalUri). tal_text uris t.1) same.0
-            ∙ ap (λ (key : List ℕ). tal_text tal.uris key) same.1);
+            t.3 ∙ (ap (λ (uris : List TalUri). text uris t.1) same.0
+            ∙ ap (λ (key : List ℕ). text tal.uris key) same.1);
       },
       e,
     ));

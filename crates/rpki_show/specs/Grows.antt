@@ -1,19 +1,2 @@
--- Texts that grow.
-use Rattle.std.specs.Prelude.{◌≡◌, ℕ, List, ◌++◌, Result, OnOk, String, string_bytes}
-use Rattle.std.specs.Borrow.{MutBor}
-use Rattle.std.specs.declared.alloc.AllocError.{AllocError}
-use Rattle.std.specs.declared.alloc.Global.{Global}
-
--- a text grows by these octets, unless memory runs out
-abbrev pub Grows : Result (Unit {0}) AllocError → String Global → String Global → List ℕ → Type 0
-Grows result old new octets = OnOk result (string_bytes new ≡ string_bytes old ++ octets)
-
--- A call that is handed a text and an item, and of which this is known, appends the line of what
--- the item says, unless memory runs out.
-abbrev pub AppendsLine : {Item Shown : Type 0}
-    → (MutBor (String Global) → Item → Result (Unit {0}) AllocError → MutBor (String Global)
-    → Type 0)
-    → (Item → Shown) → (Shown → List ℕ) → Type 0
-AppendsLine {Item} called shown line = (item : Item) (text : MutBor (String Global))
-    (result : Result (Unit {0}) AllocError) (after : MutBor (String Global))
-    → called text item result after → Grows result text.now after.now (line (shown item))
+-- Texts that grow, as the crate of JSON has them.
+pub use Rattle.rpki_json.specs.Grows.{Grows, AppendsLine}

@@ -14,18 +14,35 @@ use Rattle.rpki_cli.specs.Options.{provider_limit, manifest_rule}
 use Rattle.rpki_cli.specs.declared.words.Kind.{Kind}
 use Rattle.rpki_cli.specs.declared.words.Kind.TheVariants.{Aspa, Manifest, Roa, Rsc}
 use Rattle.rpki_cli.specs.declared.words.Options.{Options}
+use Rattle.rpki_json.specs.Members.{Member}
+use Rattle.rpki_show.specs.Json.Aspa.{aspa_members}
+use Rattle.rpki_show.specs.Json.Manifest.{manifest_members}
+use Rattle.rpki_show.specs.Json.Roa.{roa_members}
+use Rattle.rpki_show.specs.Json.Rsc.{rsc_members}
 use Rattle.rpki_show.specs.Texts.Aspa.{aspa_text}
 use Rattle.rpki_show.specs.Texts.Manifest.{manifest_text}
 use Rattle.rpki_show.specs.Texts.Roa.{roa_text}
 use Rattle.rpki_show.specs.Texts.Rsc.{rsc_text}
 
 -- What P says of a kind, with these options: of what is asked of its objects, the form of its
--- contents, and the lines of these. A row for each kind. A content is in DER (RFC 6488, section 2),
--- with `--relaxed` too.
+-- contents, the lines of these, and their members in JSON. A row for each kind. A content is in DER
+-- (RFC 6488, section 2), with `--relaxed` too.
+abbrev pub RowOf : {R : Type 1} → Options → Kind
+    → ((X : Type 0) → signed.ObjectKind X → (List ℕ → X → Type 0) → (X → List ℕ)
+    → (X → List Member) → R) → R
+RowOf options Aspa P =
+    P _ aspa_kind (AspaForm (provider_limit options)) aspa_text aspa_members
+RowOf options Manifest P =
+    P _ manifest_kind (ManifestForm (manifest_rule options) Der) manifest_text manifest_members
+RowOf options Roa P = P _ roa_kind RoaForm roa_text roa_members
+RowOf options Rsc P = P _ checklist_kind (ChecklistForm Der) rsc_text rsc_members
+
+-- the same without the members
 abbrev pub OfKind : {R : Type 1} → Options → Kind
     → ((X : Type 0) → signed.ObjectKind X → (List ℕ → X → Type 0) → (X → List ℕ) → R) → R
-OfKind options Aspa P = P _ aspa_kind (AspaForm (provider_limit options)) aspa_text
-OfKind options Manifest P =
-    P _ manifest_kind (ManifestForm (manifest_rule options) Der) manifest_text
-OfKind options Roa P = P _ roa_kind RoaForm roa_text
-OfKind options Rsc P = P _ checklist_kind (ChecklistForm Der) rsc_text
+OfKind options kind P = RowOf options kind (λ X asked form text members. P X asked form text)
+
+-- the same without the lines
+abbrev pub JsonOfKind : {R : Type 1} → Options → Kind
+    → ((X : Type 0) → signed.ObjectKind X → (List ℕ → X → Type 0) → (X → List Member) → R) → R
+JsonOfKind options kind P = RowOf options kind (λ X asked form text members. P X asked form members)

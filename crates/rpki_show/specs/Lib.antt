@@ -4,6 +4,7 @@ pub mod Dated
 pub mod Grows
 pub mod Ia5
 pub mod Issued
+pub mod Json
 pub mod Kinds
 pub mod Locator
 pub mod Objects

@@ -1,17 +1,24 @@
 //! The table of the kinds, and what each kind brings.
 
 ghost use Rattle.std.specs.Prelude.{◌≡◌, ℕ, List};
+ghost use Rattle.std.specs.List.{flat_map};
 ghost use Rattle.rpki_sigobj.specs.Signed.Kind as signed;
 ghost use Rattle.rpki_cli.specs.Answer.{Output, said};
 ghost use Rattle.rpki_cli.specs.Options.{provider_limit, manifest_rule};
 ghost use Rattle.rpki_cli.specs.declared.words.Options.{Options};
 ghost use Rattle.rpki_show.specs.Grows.{Grows};
+ghost use Rattle.rpki_json.specs.Members.{Member, further_text};
+ghost use Rattle.rpki_show.specs.Json.Aspa.{aspa_members};
+ghost use Rattle.rpki_show.specs.Json.Manifest.{manifest_members};
+ghost use Rattle.rpki_show.specs.Json.Roa.{roa_members};
+ghost use Rattle.rpki_show.specs.Json.Rsc.{rsc_members};
 ghost use Rattle.rpki_show.specs.Kinds.{OfKind};
 ghost use Rattle.rpki_show.specs.Texts.Aspa.{aspa_text};
 ghost use Rattle.rpki_show.specs.Texts.Manifest.{manifest_text};
 ghost use Rattle.rpki_show.specs.Texts.Roa.{roa_text};
 ghost use Rattle.rpki_show.specs.Texts.Rsc.{rsc_text};
 
+use crate::json::{aspa, manifest, roa, rsc};
 use crate::texts::aspa::push_aspa;
 use crate::texts::manifest::push_manifest;
 use crate::texts::roa::push_roa;
@@ -36,9 +43,17 @@ pub trait Lines: Content {
     fn rule(options: Options) -> Self::Rule
         ensures { result ≡ rule_of options };
 
+    // Its members in JSON.
+    ghost json: { Self → List Member };
+
     /// Appends its lines. Where memory runs out, nothing is promised of the text.
     fn push(&self, text: &mut String) -> Result<(), AllocError>
         ensures { Grows result text.old text.new (lines self.now) };
+
+    /// Appends its members, after others, to an object of JSON. Where memory runs out, nothing is
+    /// promised of the text.
+    fn push_json(&self, alloc: Global, text: &mut String) -> Result<(), AllocError>
+        ensures { Grows result text.old text.new (flat_map further_text (json self.now)) };
 }
 
 /// What is answered in the same way for each kind.
@@ -76,12 +91,18 @@ impl Lines for AsProviderAttestation {
 
     ghost lines = { aspa_text };
 
+    ghost json = { aspa_members };
+
     fn rule(options: Options) -> ProviderLimit {
         options.provider_limit()
     }
 
     fn push(&self, text: &mut String) -> Result<(), AllocError> {
         push_aspa(text, self)
+    }
+
+    fn push_json(&self, alloc: Global, text: &mut String) -> Result<(), AllocError> {
+        aspa::push_aspa(alloc, text, self)
     }
 }
 
@@ -90,12 +111,18 @@ impl Lines for ManifestContent {
 
     ghost lines = { manifest_text };
 
+    ghost json = { manifest_members };
+
     fn rule(options: Options) -> ManifestRule {
         options.manifest_rule()
     }
 
     fn push(&self, text: &mut String) -> Result<(), AllocError> {
         push_manifest(text, self)
+    }
+
+    fn push_json(&self, alloc: Global, text: &mut String) -> Result<(), AllocError> {
+        manifest::push_manifest(alloc, text, self)
     }
 }
 
@@ -104,10 +131,16 @@ impl Lines for RouteOriginAttestation {
 
     ghost lines = { roa_text };
 
+    ghost json = { roa_members };
+
     fn rule(_options: Options) {}
 
     fn push(&self, text: &mut String) -> Result<(), AllocError> {
         push_roa(text, self)
+    }
+
+    fn push_json(&self, alloc: Global, text: &mut String) -> Result<(), AllocError> {
+        roa::push_roa(alloc, text, self)
     }
 }
 
@@ -116,9 +149,15 @@ impl Lines for ResourceSignedChecklist {
 
     ghost lines = { rsc_text };
 
+    ghost json = { rsc_members };
+
     fn rule(_options: Options) {}
 
     fn push(&self, text: &mut String) -> Result<(), AllocError> {
         push_rsc(text, self)
+    }
+
+    fn push_json(&self, alloc: Global, text: &mut String) -> Result<(), AllocError> {
+        rsc::push_rsc(alloc, text, self)
     }
 }

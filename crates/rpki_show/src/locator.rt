@@ -69,7 +69,7 @@ pub fn show_tal<'a>(alloc: Global, octets: &[u8]) -> Answer<'a>
 }
 
 /// The answer where a locator is not read.
-fn refusal<'a>(error: ReadError) -> Answer<'a>
+pub(crate) fn refusal<'a>(error: ReadError) -> Answer<'a>
     ensures { said result ≡ tal_refusal error }
 {
     match error {

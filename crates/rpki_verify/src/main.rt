@@ -3,7 +3,7 @@
 #![tactic(auto)]
 
 use rpki_cli::verify::now;
-use rpki_cli::{ProcessArguments, SystemFiles, start};
+use rpki_cli::{FilesAndInput, ProcessArguments, start};
 use rpki_command::verify::Verify;
 use rpki_der::Counted;
 use rpki_folder::{FolderParty, SystemFolders};
@@ -19,7 +19,7 @@ fn main(rt: HostRuntime) -> ExitCode {
         rt.alloc(),
         &program,
         &ProcessArguments::new(&rt),
-        &mut SystemFiles::new(&rt),
+        &mut FilesAndInput::new(&rt, rt.stdin()),
         &mut Counted::new(rt.stdout()),
         &mut Counted::new(rt.stderr()),
     )

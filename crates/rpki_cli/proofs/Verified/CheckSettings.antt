@@ -15,7 +15,8 @@ use Rattle.rpki_cli.specs.Verify.CheckSettings.{IsMomentGiven, IsCheckOf, IsKind
 use Rattle.rpki_cli.specs.Verify.CheckSettings.{IsMomentFault, IsAnchorFault, IsRefusal}
 use Rattle.rpki_cli.specs.Verify.CheckSettings.{of_flags, of_kind, of_moment, of_anchor, of_locator}
 use Rattle.rpki_cli.specs.Verify.CheckSettings.{of_files, of_memory, IsFirstOther, AreOfCheck}
-use Rattle.rpki_cli.specs.Verify.CheckSettings.{settings_error_text}
+use Rattle.rpki_cli.specs.Verify.CheckSettings.{settings_error_text, CheckValues, word_given}
+use Rattle.rpki_cli.specs.Verify.CheckSettings.{text_given}
 use Rattle.rpki_cli.specs.Verify.Settings.{flag_word, named_word}
 use Rattle.rpki_cli.specs.declared.verify.kinds_by_name.FileKind.{FileKind}
 use Rattle.rpki_cli.specs.declared.verify.words.When.{When}
@@ -25,14 +26,13 @@ use Rattle.rpki_cli.specs.declared.verify.settings.Flag.TheVariants.{Json, Csv, 
 use Rattle.rpki_cli.specs.declared.verify.settings.Named.{Named}
 use Rattle.rpki_cli.specs.declared.verify.settings.Named.TheVariants as names
 use Rattle.rpki_cli.specs.declared.verify.settings.Setting.{Setting}
-use Rattle.rpki_cli.specs.declared.verify.check_settings.CheckSettings.{CheckSettings}
 use Rattle.rpki_cli.specs.declared.verify.check_settings.SettingsError.{SettingsError}
 use Rattle.rpki_cli.specs.declared.verify.check_settings.SettingsError.TheVariants as errors
 
-clash : {b : Bool} → b ≡ true → b ≡ false → ⊥
+pub clash : {b : Bool} → b ≡ true → b ≡ false → ⊥
 clash t f = cc
 
-first-clash : (f : Flag) (s : List Setting) → IsFirstOther f s → AreOfCheck s → ⊥
+pub first-clash : (f : Flag) (s : List Setting) → IsFirstOther f s → AreOfCheck s → ⊥
 first-clash Csv s h o = clash h o.no_csv
 first-clash Help s h o = clash h.1 o.no_help
 first-clash Version s h o = clash h.2 o.no_version
@@ -41,10 +41,10 @@ first-clash Registered s h o = h
 first-clash Wide s h o = h
 first-clash Json s h o = h
 
-one-word : {v w : List ℕ} → v ∷ [] ≡ w ∷ [] → v ≡ w
+pub one-word : {v w : List ℕ} → v ∷ [] ≡ w ∷ [] → v ≡ w
 one-word e = cc
 
-no-word : {w : List ℕ} → [] ≡ w ∷ [] → ⊥
+pub no-word : {w : List ℕ} → [] ≡ w ∷ [] → ⊥
 no-word e = cc
 
 not-two : (values : List (List ℕ)) (w : List ℕ) → values ≡ w ∷ [] → 2 ≤ length values → ⊥
@@ -53,7 +53,7 @@ not-two values w e l = omega (arith, l, ap length e)
 not-none : (values : List (List ℕ)) → values ≡ [] → 2 ≤ length values → ⊥
 not-none values e l = omega (arith, l, ap length e)
 
-kind-clash : (values : List (List ℕ)) (k : Option FileKind) (e : SettingsError)
+pub kind-clash : (values : List (List ℕ)) (k : Option FileKind) (e : SettingsError)
     → IsKindGiven values k → IsKindFault values e → ⊥
 kind-clash values None (errors.Twice n) g h = not-none values g h.1
 kind-clash values (Some k) (errors.Twice n) g h = not-two values (file_kind_word k) g h.1
@@ -88,13 +88,24 @@ anchor-clash values ta (errors.WrongMoment w) g h = h
 anchor-clash values ta errors.NoFile g h = h
 anchor-clash values ta errors.Memory g h = h
 
+-- the value that is given, if one is
+pub only-given : (values : List (List ℕ)) (tal : Option (Bor (List ℕ))) → IsOnly values tal
+    → values ≡ word_given (text_given tal)
+only-given values None g = g
+only-given values (Some t) g = g
+
+given-clash : (values : List (List ℕ)) (tal : Option (List ℕ)) → values ≡ word_given tal
+    → 2 ≤ length values → ⊥
+given-clash values None g h = not-none values g h
+given-clash values (Some t) g h = not-two values t g h
+
 locator-clash : (values : List (List ℕ)) (tal : Option (Bor (List ℕ))) → IsOnly values tal
     → 2 ≤ length values → ⊥
 locator-clash values None g h = not-none values g h
 locator-clash values (Some t) g h = not-two values t.now g h
 
 -- what is a check is not refused
-pub check-not-refused : (s : List Setting) (files : List (List ℕ)) (c : CheckSettings)
+pub check-not-refused : (s : List Setting) (files : List (List ℕ)) (c : CheckValues)
     (e : SettingsError) → IsCheckOf s files c → IsRefusal s files e → e ≡ errors.Memory
 check-not-refused s files c e k (of_flags {f = f} h) = absurd (first-clash f s h k.flags)
 check-not-refused s files c e k (of_kind o h) =
@@ -102,9 +113,9 @@ check-not-refused s files c e k (of_kind o h) =
 check-not-refused s files c e k (of_moment q o g h) =
     absurd (moment-clash (values_of names.At s) c.at e k.at h)
 check-not-refused s files c e k (of_anchor q a o g m h) =
-    absurd (anchor-clash (values_of names.Ta s) c.ta.now e k.ta h)
+    absurd (anchor-clash (values_of names.Ta s) c.ta e k.ta h)
 check-not-refused s files c e k (of_locator q a v o g m t h) =
-    absurd (locator-clash (values_of names.Tal s) c.tal k.tal h)
+    absurd (given-clash (values_of names.Tal s) c.tal k.tal h)
 check-not-refused s files c e k (of_files q a v w o g m t l h) = absurd (k.some_file h)
 check-not-refused s files c e k of_memory = refl
 

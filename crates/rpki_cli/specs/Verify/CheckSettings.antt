@@ -11,6 +11,7 @@ use Rattle.rpki_cli.specs.Verify.Settings.{flag_word, named_word}
 use Rattle.rpki_cli.specs.declared.verify.kinds_by_name.FileKind.{FileKind}
 use Rattle.rpki_cli.specs.declared.verify.words.When.{When}
 use Rattle.rpki_cli.specs.declared.verify.words.When.TheVariants.{Now}
+use Rattle.rpki_cli.specs.declared.words.Options.{Options}
 use Rattle.rpki_cli.specs.declared.verify.settings.Flag.{Flag}
 use Rattle.rpki_cli.specs.declared.verify.settings.Flag.TheVariants.{Relaxed, Registered, Wide}
 use Rattle.rpki_cli.specs.declared.verify.settings.Flag.TheVariants.{Json, Csv, Help, Version}
@@ -84,21 +85,71 @@ pub record AreOfCheck (settings : List Setting) : Type 0 where
   pub no_help : is_on Help settings ≡ false
   pub no_version : is_on Version settings ≡ false
 
+-- What a check is to be done with, as values.
+pub record CheckValues : Type 0 where
+  -- the kind of the files, if it is not for their names to say
+  pub kind : Option FileKind
+  -- when they are judged
+  pub at : When
+  -- the file of the trust anchor's certificate
+  pub ta : List ℕ
+  -- the file of its locator
+  pub tal : Option (List ℕ)
+  -- the files of the certificates below it, in their order
+  pub cas : List (List ℕ)
+  -- the files of revocation lists
+  pub crls : List (List ℕ)
+  -- what is said is JSON
+  pub json : Bool
+  -- how objects are read
+  pub options : Options
+  -- the files that are checked
+  pub files : List (List ℕ)
+
+-- the word that is given, if one is
+abbrev pub word_given : Option (List ℕ) → List (List ℕ)
+word_given None = []
+word_given (Some word) = word ∷ []
+
+-- the text of a word that may be given
+abbrev pub text_given : Option (Bor (List ℕ)) → Option (List ℕ)
+text_given None = None
+text_given (Some word) = Some word.now
+
+-- the values of what a check is to be done with
+abbrev pub check_values : CheckSettings → CheckValues
+check_values c = record {
+  kind = c.kind;
+  at = c.at;
+  ta = c.ta.now;
+  tal = text_given c.tal;
+  cas = texts c.cas.items;
+  crls = texts c.crls.items;
+  json = c.json;
+  options = c.options;
+  files = texts c.files.items;
+}
+
+-- The files that a check reads, in this order: the trust anchor's certificate, those below it, the
+-- locator, revocation lists, and the files that are checked.
+abbrev pub check_names : CheckValues → List (List ℕ)
+check_names c = c.ta ∷ (c.cas ++ (word_given c.tal ++ (c.crls ++ c.files)))
+
 -- A check is asked for with these settings and operands, which are its files.
-pub record IsCheckOf (settings : List Setting) (operands : List (List ℕ)) (c : CheckSettings)
+pub record IsCheckOf (settings : List Setting) (operands : List (List ℕ)) (c : CheckValues)
     : Type 0 where
   pub kind : IsKindGiven (values_of names.Kind settings) c.kind
   pub at : IsMomentGiven (values_of names.At settings) c.at
-  pub ta : values_of names.Ta settings ≡ c.ta.now ∷ []
-  pub tal : IsOnly (values_of names.Tal settings) c.tal
-  pub cas : texts c.cas.items ≡ values_of names.Ca settings
-  pub crls : texts c.crls.items ≡ values_of names.Crl settings
+  pub ta : values_of names.Ta settings ≡ c.ta ∷ []
+  pub tal : values_of names.Tal settings ≡ word_given c.tal
+  pub cas : c.cas ≡ values_of names.Ca settings
+  pub crls : c.crls ≡ values_of names.Crl settings
   pub json : c.json ≡ is_on Json settings
   pub relaxed : c.options.relaxed ≡ is_on Relaxed settings
   pub registered : c.options.registered ≡ is_on Registered settings
   pub wide : c.options.wide ≡ is_on Wide settings
   pub flags : AreOfCheck settings
-  pub files : texts c.files.items ≡ operands
+  pub files : c.files ≡ operands
   pub some_file : ¬ (operands ≡ [])
 
 -- ---- refusals

@@ -11,13 +11,20 @@ use Rattle.rpki_cli.specs.declared.words.Command.{Command}
 use Rattle.rpki_cli.specs.declared.words.Command.TheVariants as commands
 use Rattle.rpki_cli.specs.declared.words.Kind.{Kind}
 use Rattle.rpki_cli.specs.declared.words.Options.{Options}
+use Rattle.rpki_cli.specs.Verify.Kinds.{file_kind_word}
+use Rattle.rpki_cli.specs.Verify.Settings.{named_word}
+use Rattle.rpki_cli.specs.declared.verify.kinds_by_name.FileKind.{FileKind}
+use Rattle.rpki_cli.specs.declared.verify.settings.Named.TheVariants.{Ta}
 use Rattle.rpki_cli.specs.declared.verify.words.Format.{Format}
 use Rattle.rpki_cli.specs.declared.verify.words.Format.TheVariants.{Lines, Csv, Json}
 use Rattle.rpki_cli.specs.declared.verify.words.Issued.{Issued}
 use Rattle.rpki_cli.specs.declared.verify.words.Issued.TheVariants.{Certificate, Crl}
+use Rattle.rpki_cli.specs.declared.verify.words.HelpWord.{HelpWord}
+use Rattle.rpki_cli.specs.declared.verify.words.HelpWord.TheVariants.{Long, Short}
 use Rattle.rpki_cli.specs.declared.verify.words.VerifyCommand.{VerifyCommand}
 use Rattle.rpki_cli.specs.declared.verify.words.VerifyCommand.TheVariants.{Help, Shared, Check}
-use Rattle.rpki_cli.specs.declared.verify.words.VerifyCommand.TheVariants.{ShowIssued}
+use Rattle.rpki_cli.specs.declared.verify.words.VerifyCommand.TheVariants.{ShowIssued, Version}
+use Rattle.rpki_cli.specs.declared.verify.words.VerifyCommand.TheVariants.{CheckEach, ShowEach}
 use Rattle.rpki_cli.specs.declared.verify.words.VerifyCommand.TheVariants.{Verdicts, Walk, Rta}
 use Rattle.rpki_cli.specs.declared.verify.words.VerifyCommand.TheVariants.{RtaVerdicts, Payloads}
 use Rattle.rpki_cli.specs.declared.verify.words.When.{When}
@@ -73,14 +80,47 @@ issued_word Crl = codes "crl"
 abbrev pub issued_words : Issued → List ℕ → List (List ℕ)
 issued_words issued file = codes "show" ∷ issued_word issued ∷ file ∷ []
 
+-- the words that ask how the program is called
+abbrev pub help_word : HelpWord → List ℕ
+help_word Long = codes "--help"
+help_word Short = codes "-h"
+
+-- the word that asks which version of the program this is
+abbrev pub word_version : List ℕ
+word_version = codes "--version"
+
+-- the word before the file of a trust anchor, which the words of a check of many files have
+abbrev pub word_ta : List ℕ
+word_ta = named_word Ta
+
+-- the words of a check of one object, after the first
+abbrev pub check_one : Kind → List ℕ → When → List ℕ → List (List ℕ) → List (List ℕ)
+check_one kind file moment anchor chain =
+    kind_word kind ∷ file ∷ when_word moment ∷ anchor ∷ chain
+
+-- the words, after the first, ask to show one file of a kind
+pub record AskForOneShown (words : List (List ℕ)) : Type 0 where
+  pub kind : FileKind
+  pub file : List ℕ
+  pub words_are : words ≡ file_kind_word kind ∷ file ∷ []
+
+-- The words, after the first, are those of a show of many files: they are there, and ask for no show
+-- of one.
+pub record AreToShow (words : List (List ℕ)) : Type 0 where
+  pub some : ¬ (words ≡ [])
+  pub not_one : ¬ AskForOneShown words
+
 -- The words of a command. What shows the lines of a file has the words that it has in the other
 -- program.
 abbrev pub verify_words : VerifyCommand → List (List ℕ)
-verify_words Help = codes "--help" ∷ []
+verify_words (Help word) = help_word word ∷ []
+verify_words Version = word_version ∷ []
 verify_words (Shared command) = command_words command
 verify_words (ShowIssued issued file) = issued_words issued file
 verify_words (Check kind file moment anchor chain) =
-    codes "check" ∷ kind_word kind ∷ file ∷ when_word moment ∷ anchor ∷ chain
+    codes "check" ∷ check_one kind file moment anchor chain
+verify_words (CheckEach words) = codes "check" ∷ words
+verify_words (ShowEach words) = codes "show" ∷ words
 verify_words (Verdicts file anchor chain) = codes "verdicts" ∷ file ∷ anchor ∷ chain
 verify_words (Walk file moment anchor tail) =
     codes "walk" ∷ file ∷ when_word moment ∷ anchor ∷ tail
@@ -89,9 +129,13 @@ verify_words (RtaVerdicts file anchors) = codes "verdicts" ∷ word_rta ∷ file
 verify_words (Payloads format copy moment locators) =
     codes "payloads" ∷ (format_words format ++ (copy ∷ when_word moment ∷ locators))
 
--- the files and folders that are named by a word, in the order of the words
+-- The files and folders that are named by a word, in the order of the words. Which files a check or
+-- a show of many files names, its settings say.
 abbrev pub files_in : VerifyCommand → List (List ℕ)
-files_in Help = []
+files_in (Help word) = []
+files_in Version = []
+files_in (CheckEach words) = []
+files_in (ShowEach words) = []
 files_in (Shared command) = files_of command
 files_in (ShowIssued issued file) = file ∷ []
 files_in (Check kind file moment anchor chain) = file ∷ anchor ∷ chain
@@ -109,12 +153,18 @@ is_copy word = not (bytes_eq word word_csv) && not (bytes_eq word word_json)
 -- has one, is one of the calendar, the words of a walk have a `with` after the trust anchor, those
 -- of an attestation end with anchors, the file of an object whose signatures are listed has another
 -- name than the word of attestations, and payloads are listed of a copy that is no word of a
--- format, under one locator or more.
+-- format, under one locator or more. The words of a check of many files have `--ta` among them, and
+-- those of a check of one object do not. Those of a show of many files are there, and are not those
+-- of a show of one file of a kind.
 abbrev pub IsFit : VerifyCommand → Type 0
-IsFit Help = Unit {0}
+IsFit (Help word) = Unit {0}
+IsFit Version = Unit {0}
 IsFit (Shared command) = IsTrue (is_shared command)
 IsFit (ShowIssued issued file) = Unit {0}
-IsFit (Check kind file moment anchor chain) = IsWhen moment
+IsFit (Check kind file moment anchor chain) =
+    IsWhen moment × ¬ Contains (check_one kind file moment anchor chain) word_ta
+IsFit (CheckEach words) = Contains words word_ta
+IsFit (ShowEach words) = AreToShow words
 IsFit (Verdicts file anchor chain) = ¬ (file ≡ word_rta)
 IsFit (Walk file moment anchor tail) = IsWhen moment × Contains tail word_with
 IsFit (Rta file moment anchors) = IsWhen moment × IsTrue (are_anchors anchors)
@@ -133,11 +183,15 @@ verify_language = record {
 
 -- ---- commands by their first word
 
--- words after the word `check` ask for no check of a signed object
-abbrev pub AskForNoCheck : List (List ℕ) → Type 0
-AskForNoCheck words = (kind : Kind) (file : List ℕ) (moment : When) (anchor : List ℕ)
-    (chain : List (List ℕ))
-    → words ≡ kind_word kind ∷ file ∷ when_word moment ∷ anchor ∷ chain → IsWhen moment → ⊥
+-- words after the word `check` ask for no check of one signed object
+abbrev pub AskForNoneChecked : List (List ℕ) → Type 0
+AskForNoneChecked words = (kind : Kind) (file : List ℕ) (moment : When) (anchor : List ℕ)
+    (chain : List (List ℕ)) → words ≡ check_one kind file moment anchor chain → IsWhen moment → ⊥
+
+-- words after the word `check` ask for no check, of one object or of many files
+pub record AskForNoCheck (words : List (List ℕ)) : Type 0 where
+  pub one : AskForNoneChecked words
+  pub each : ¬ Contains words word_ta
 
 -- words after the word `verdicts` ask for no list of the good signatures of an object
 abbrev pub AskForNoObjectList : List (List ℕ) → Type 0
@@ -198,12 +252,17 @@ IsSharedBy words (Shared command) =
     (words ≡ command_words command) × IsTrue (is_shared command)
 IsSharedBy words other = ⊥
 
--- they do not ask to show what a file holds
+-- they do not ask to show what one file holds
 pub record AskForNothingShown (words : List (List ℕ)) : Type 0 where
   pub shared : AskForNothingShared words
   pub issued : (issued : Issued) (file : List ℕ) → words ≡ issued_words issued file → ⊥
 
--- they ask to show what a file holds, and this is the command
+-- they do not ask to show what one file holds or what many do
+pub record AskForNoShow (words : List (List ℕ)) : Type 0 where
+  pub one : AskForNothingShown words
+  pub each : (rest : List (List ℕ)) → words ≡ codes "show" ∷ rest → ¬ AreToShow rest
+
+-- they ask to show what one file holds, and this is the command
 abbrev pub IsShownBy : List (List ℕ) → VerifyCommand → Type 0
 IsShownBy words (Shared command) = IsSharedBy words (Shared command)
 IsShownBy words (ShowIssued issued file) = words ≡ issued_words issued file

@@ -7,7 +7,7 @@ ghost use Rattle.rpki_cli.specs.Verify.CheckSettings.{is_flag, is_on, value_of, 
 ghost use Rattle.rpki_cli.specs.Verify.CheckSettings.{IsKindGiven, IsMomentGiven, IsCheckOf};
 ghost use Rattle.rpki_cli.specs.Verify.CheckSettings.{IsRefusal, AreOfCheck, IsFirstOther};
 ghost use Rattle.rpki_cli.specs.Verify.CheckSettings.{IsKindFault, IsMomentFault, IsAnchorFault};
-ghost use Rattle.rpki_cli.specs.Verify.CheckSettings.{settings_error_text};
+ghost use Rattle.rpki_cli.specs.Verify.CheckSettings.{settings_error_text, check_values};
 ghost use Rattle.rpki_cli.specs.declared.verify.settings.Flag.{Flag};
 ghost use Rattle.rpki_cli.specs.declared.verify.settings.Named.{Named};
 ghost use Rattle.rpki_cli.specs.declared.verify.check_settings.SettingsError.{SettingsError};
@@ -156,7 +156,7 @@ pub fn only_value_of<'a>(
 }
 
 /// Refuses the first flag that is set and is none of a check.
-fn refuse_flags(settings: &[Setting<'_>]) -> Result<(), Flag>
+pub fn refuse_flags(settings: &[Setting<'_>]) -> Result<(), Flag>
     ensures { MatchResult result (λ _. AreOfCheck settings.now) (λ f. IsFirstOther f settings.now) }
 {
     if is_on(settings, Flag::Csv) {
@@ -172,7 +172,7 @@ fn refuse_flags(settings: &[Setting<'_>]) -> Result<(), Flag>
 }
 
 /// The kind that is set, if one is.
-fn kind_in<'a>(settings: &[Setting<'a>]) -> Result<Option<FileKind>, SettingsError<'a>>
+pub fn kind_in<'a>(settings: &[Setting<'a>]) -> Result<Option<FileKind>, SettingsError<'a>>
     ensures { MatchResult result (λ k. IsKindGiven (values_of Named.Kind settings.now) k)
         (λ e. IsKindFault (values_of Named.Kind settings.now) e) }
 {
@@ -211,7 +211,7 @@ fn anchor_in<'a>(settings: &[Setting<'a>]) -> Result<&'a str, SettingsError<'a>>
 }
 
 /// How objects are read.
-fn options_in(settings: &[Setting<'_>]) -> Options
+pub fn options_in(settings: &[Setting<'_>]) -> Options
     ensures relaxed { result.relaxed ≡ is_on Flag.Relaxed settings.now }
     ensures registered { result.registered ≡ is_on Flag.Registered settings.now }
     ensures wide { result.wide ≡ is_on Flag.Wide settings.now }
@@ -230,7 +230,7 @@ pub fn settings_of<'a>(
     settings: &[Setting<'a>],
     files: &[&'a str],
 ) -> Result<CheckSettings<'a>, SettingsError<'a>>
-    ensures { MatchResult result (λ c. IsCheckOf settings.now (texts files.now) c)
+    ensures { MatchResult result (λ c. IsCheckOf settings.now (texts files.now) (check_values c))
         (λ e. IsRefusal settings.now (texts files.now) e) }
 {
     if let Err(flag) = refuse_flags(settings) {

@@ -4,6 +4,10 @@
 ghost use Rattle.std.specs.Prelude.{◌≡◌, ℕ, List};
 ghost use Rattle.rpki_cli.specs.Language.{IsAsked};
 ghost use Rattle.rpki_cli.specs.Verify.CheckSettings.{IsCheckOf, IsRefusal, settings_error_text};
+ghost use Rattle.rpki_cli.specs.Verify.CheckSettings.{CheckValues};
+ghost use Rattle.rpki_cli.specs.Verify.Requests.{AskedCheck, IsAskedCheck, IsWrongCheck};
+ghost use Rattle.rpki_cli.specs.Verify.Requests.{AskedShow, IsAskedShow, IsWrongShow, SaysWrong};
+ghost use Rattle.rpki_cli.specs.Answer.{Output};
 ghost use Rattle.rpki_cli.specs.Verify.Kinds.{IsNameOf};
 ghost use Rattle.rpki_cli.specs.Verify.Moments.{NamesWhen};
 ghost use Rattle.rpki_cli.specs.Verify.Settings.{Arranged, IsRefusedFor, arranged_words};
@@ -12,7 +16,6 @@ ghost use Rattle.rpki_cli.specs.declared.words.Order.{Order};
 ghost use Rattle.rpki_cli.specs.Verify.Words.{verify_language};
 ghost use Rattle.rpki_cli.specs.declared.verify.words.VerifyCommand.{VerifyCommand};
 ghost use Rattle.rpki_cli.specs.declared.verify.words.When.{When};
-ghost use Rattle.rpki_cli.specs.declared.verify.check_settings.CheckSettings.{CheckSettings};
 ghost use Rattle.rpki_cli.specs.declared.verify.check_settings.SettingsError.{SettingsError};
 ghost use Rattle.rpki_cli.specs.declared.verify.check_settings.SettingsError.TheVariants as errors;
 ghost use Rattle.rpki_cli.specs.declared.verify.kinds_by_name.FileKind.{FileKind};
@@ -63,7 +66,7 @@ pub fn names_say_one_kind()
 
 /// The settings of a check are refused for nothing, unless memory runs out.
 pub fn checks_are_not_refused()
-    ensures { (settings : List Setting) (files : List (List ℕ)) (c : CheckSettings)
+    ensures { (settings : List Setting) (files : List (List ℕ)) (c : CheckValues)
         (e : SettingsError) → IsCheckOf settings files c → IsRefusal settings files e
         → e ≡ errors.Memory }
 {}
@@ -73,4 +76,20 @@ pub fn settings_are_refused_for_one_cause()
     ensures { (settings : List Setting) (files : List (List ℕ)) (a b : SettingsError)
         → IsRefusal settings files a → IsRefusal settings files b → ¬ (a ≡ errors.Memory)
         → ¬ (b ≡ errors.Memory) → settings_error_text a ≡ settings_error_text b }
+{}
+
+/// The words of a check of many files ask for one thing, and those that ask for one are not wrong.
+pub fn checks_are_asked_once()
+    ensures once { (words : List (List ℕ)) (a b : AskedCheck) → IsAskedCheck words a
+        → IsAskedCheck words b → a ≡ b }
+    ensures apart { (words : List (List ℕ)) (a : AskedCheck) (s : Output) → IsAskedCheck words a
+        → SaysWrong (IsWrongCheck words) s → ⊥ }
+{}
+
+/// The words of a show of many files ask for one thing, and those that ask for one are not wrong.
+pub fn shows_are_asked_once()
+    ensures once { (words : List (List ℕ)) (a b : AskedShow) → IsAskedShow words a
+        → IsAskedShow words b → a ≡ b }
+    ensures apart { (words : List (List ℕ)) (a : AskedShow) (s : Output) → IsAskedShow words a
+        → SaysWrong (IsWrongShow words) s → ⊥ }
 {}

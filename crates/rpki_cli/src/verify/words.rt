@@ -1,6 +1,7 @@
 //! What the program with signatures is asked.
 
-ghost use Rattle.std.specs.Prelude.{◌≡◌, ◌∷◌, ◌++◌, MatchOption, codes};
+ghost use Rattle.std.specs.Prelude.{◌≡◌, ◌∷◌, ◌++◌, ◌↔◌, ℕ, List, MatchOption, IsTrue, Contains};
+ghost use Rattle.std.specs.Prelude.{codes};
 ghost use Rattle.rpki_cli.specs.Language.{IsAsked, AskForNothing};
 ghost use Rattle.rpki_cli.specs.Words.{texts, are_named, word_relaxed, word_registered, word_wide};
 ghost use Rattle.rpki_cli.specs.Verify.Words.{moment_at, when_word, IsWhen, verify_words, files_in};
@@ -10,12 +11,14 @@ ghost use Rattle.rpki_cli.specs.Verify.Words.{AskForNoRtaList, word_rta, AskForN
 ghost use Rattle.rpki_cli.specs.Verify.Words.{AskForNoPayloads, AskForNoPayloadsIn, IsFormatted};
 ghost use Rattle.rpki_cli.specs.Verify.Words.{format_words, is_copy};
 ghost use Rattle.rpki_cli.specs.Verify.Words.{AskForNothingShared, IsSharedBy, IsTaken, IsOptioned};
-ghost use Rattle.rpki_cli.specs.Verify.Words.{AskForNothingShown, IsShownBy};
+ghost use Rattle.rpki_cli.specs.Verify.Words.{AskForNothingShown, IsShownBy, AskForNoShow};
+ghost use Rattle.rpki_cli.specs.Verify.Words.{AskForNoneChecked, AreToShow, word_ta};
 ghost use Rattle.rpki_cli.specs.declared.verify.words.VerifyCommand.{VerifyCommand};
 ghost use Rattle.rpki_cli.specs.declared.verify.words.When.{When};
 
 use crate::anchor_words::{are_anchors, are_anchors_named};
 use crate::pairs::{are_others_named, has_with};
+use crate::verify::kinds_by_name::kind_of_word;
 use crate::words::{
     Command, Kind, Options, Order, Word, Words, all_named, each_named, kind_of, moment_of,
     parse_command,
@@ -63,11 +66,24 @@ pub enum Issued {
     Crl,
 }
 
+/// The words that ask how the program is called.
+#[derive(Clone, Copy, Debug, PartialEq, Eq)]
+pub enum HelpWord {
+    /// `--help`.
+    Long,
+    /// `-h`.
+    Short,
+}
+
 /// What is to be done.
 #[derive(Drop)]
 pub enum VerifyCommand<'a> {
     /// To say how the program is called.
-    Help,
+    Help {
+        word: HelpWord,
+    },
+    /// To say which version of the program this is.
+    Version,
     /// To show what a file holds.
     Shared(Command<'a>),
     /// To show a certificate or a revocation list.
@@ -83,6 +99,16 @@ pub enum VerifyCommand<'a> {
         moment: When,
         anchor: Word<'a>,
         chain: Words<'a>,
+    },
+    /// To check many files. The words are all that follow `check`, and `--ta` is among them: what
+    /// they set, `verify::requests::check_words` tells.
+    CheckEach {
+        words: Words<'a>,
+    },
+    /// To show many files. The words are all that follow `show`: what they set,
+    /// `verify::requests::show_words` tells.
+    ShowEach {
+        words: Words<'a>,
     },
     /// To list the good ones of the signatures that a check of a signed object asks about, under
     /// such a chain.
@@ -143,7 +169,8 @@ fn is_each_named(command: &VerifyCommand<'_>) -> bool
     ensures { result ≡ are_named (files_in command.now) }
 {
     match command {
-        VerifyCommand::Help => true,
+        VerifyCommand::Help { .. } | VerifyCommand::Version => true,
+        VerifyCommand::CheckEach { .. } | VerifyCommand::ShowEach { .. } => true,
         VerifyCommand::Shared(command) => each_named(command),
         VerifyCommand::ShowIssued { file, .. } => !file.0.is_empty(),
         VerifyCommand::Check {
@@ -248,8 +275,56 @@ fn parse_other<'a>(words: &'a [&'a str]) -> Option<VerifyCommand<'a>>
     match words {
         ["check", rest @ ..] => parse_check(rest),
         ["verdicts", rest @ ..] => parse_verdicts(rest),
-        ["--help"] => Some(VerifyCommand::Help),
-        _ => parse_shown(words),
+        ["--help"] => Some(VerifyCommand::Help {
+            word: HelpWord::Long,
+        }),
+        ["-h"] => Some(VerifyCommand::Help {
+            word: HelpWord::Short,
+        }),
+        ["--version"] => Some(VerifyCommand::Version),
+        _ => parse_any_show(words),
+    }
+}
+
+/// The command of words that ask to show what one file holds, or what many do.
+#[tactic(auto, using(crate::proofs::Verified::Orders::by_show))]
+fn parse_any_show<'a>(words: &'a [&'a str]) -> Option<VerifyCommand<'a>>
+    ensures { MatchOption result (AskForNoShow (texts words.now))
+        (λ c. (texts words.now ≡ verify_words c) × IsFit c) }
+{
+    match parse_shown(words) {
+        Some(command) => Some(command),
+        None => parse_show_each(words),
+    }
+}
+
+/// The command of words that ask to show what many files hold.
+#[tactic(auto, using(crate::proofs::Verified::Orders::by_show_each))]
+fn parse_show_each<'a>(words: &'a [&'a str]) -> Option<VerifyCommand<'a>>
+    ensures { MatchOption result
+        ((rest : List (List ℕ)) → texts words.now ≡ codes "show" ∷ rest → ¬ AreToShow rest)
+        (λ c. (texts words.now ≡ verify_words c) × IsFit c) }
+{
+    match words {
+        ["show", rest @ ..] => {
+            if are_to_show(rest) {
+                Some(VerifyCommand::ShowEach { words: Words(rest) })
+            } else {
+                None
+            }
+        }
+        _ => None,
+    }
+}
+
+/// Whether words, after `show`, ask to show many files.
+fn are_to_show(words: &[&str]) -> bool
+    ensures { IsTrue result ↔ AreToShow (texts words.now) }
+{
+    match words {
+        [] => false,
+        [kind, _] => kind_of_word(kind).is_none(),
+        _ => true,
     }
 }
 
@@ -273,9 +348,37 @@ fn parse_shown<'a>(words: &'a [&'a str]) -> Option<VerifyCommand<'a>>
     }
 }
 
-/// The check of a signed object that these words ask for, after the first.
+/// The check that these words ask for, after the first.
+#[tactic(auto, using(crate::proofs::Verified::Orders::by_anchor_word))]
 fn parse_check<'a>(words: &'a [&'a str]) -> Option<VerifyCommand<'a>>
     ensures { MatchOption result (AskForNoCheck (texts words.now))
+        (λ c. (codes "check" ∷ texts words.now ≡ verify_words c) × IsFit c) }
+{
+    if has_ta(words) {
+        Some(VerifyCommand::CheckEach {
+            words: Words(words),
+        })
+    } else {
+        parse_check_one(words)
+    }
+}
+
+/// Whether one of the words is that before the file of a trust anchor.
+fn has_ta(words: &[&str]) -> bool
+    ensures { IsTrue result ↔ Contains (texts words.now) word_ta }
+{
+    for word in words {
+        if *word == "--ta" {
+            return true;
+        }
+    }
+    false
+}
+
+/// The check of one signed object that these words ask for, after the first, which have no `--ta`.
+fn parse_check_one<'a>(words: &'a [&'a str]) -> Option<VerifyCommand<'a>>
+    requires { ¬ Contains (texts words.now) word_ta }
+    ensures { MatchOption result (AskForNoneChecked (texts words.now))
         (λ c. (codes "check" ∷ texts words.now ≡ verify_words c) × IsFit c) }
 {
     match words {

@@ -154,10 +154,11 @@ issuer-whole verdict now certs locator lists issuer done e h =
 
 -- ---- the trust anchor
 
-no-cut : {P : Type 0} (before : List File) (file : File) (after : List File)
-    → ◌≡◌ {A = List File} [] (before ++ file ∷ after) → P
-no-cut [] file after e = absurd cc
-no-cut (b ∷ before) file after e = absurd cc
+-- an empty list is not cut at an element
+pub no-cut : {A P : Type 0} (before : List A) (x : A) (after : List A)
+    → ◌≡◌ {A = List A} [] (before ++ x ∷ after) → P
+no-cut [] x after e = absurd cc
+no-cut (b ∷ before) x after e = absurd cc
 
 keyed-by : (verdict : Verdict) (now : Moment) (certs : CertFiles) (locator : Option GivenLocator)
     (anchor : Validated) → Make verdict now (under certs []) (Ok anchor)

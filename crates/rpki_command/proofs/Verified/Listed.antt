@@ -16,9 +16,10 @@ use Rattle.rpki_cli.specs.Store.{Told, Names}
 use Rattle.rpki_cli.specs.declared.words.Options.{Options}
 use Rattle.rpki_cli.proofs.Running.{said-as}
 use Rattle.rpki_cli.specs.Verify.Words.{verify_language}
+use Rattle.rpki_cli.specs.declared.causes.Causes.TheVariants.{Included}
 use Rattle.rpki_show.specs.Options.{read_mode}
-use Rattle.rpki_command.specs.Yes.{FilesOfCheck, in_order}
-use Rattle.rpki_command.proofs.Right.{status_of, other-status, whole-lines, said-yes, said-no}
+use Rattle.rpki_command.specs.Yes.{FilesOfCheck, in_order, status_of}
+use Rattle.rpki_command.proofs.Right.{other-status, whole-lines, said-yes, said-no}
 use Rattle.rpki_command.specs.Verify.Check.{IsListAnswer, IsListingSaid, ListedOf}
 use Rattle.rpki_command.specs.Verify.Command.{verify_program, PartySays}
 use Rattle.rpki_command.specs.Verify.Yes.{list_order, IsRightList, IsRightNoList}
@@ -76,17 +77,17 @@ module _ (told : Told) (clock : Option Moment) (party : PartySays) (words : List
     (is : IsRunOf (verify_program clock party) told words old new run)
     (asked : IsAsked verify_language words (list_order options names))
     (tells : AreTold told (in_order names) (in_order files)) where
-  done : ChecksFiles told (in_order names) (ListedOf options) old new run
+  done : ChecksFiles Included told (in_order names) (ListedOf options) old new run
   done = is.done (list_order options names) asked
 
   pub right-list : run.status ≡ 0 → IsRightList options files run
   right-list z =
-      let c = said-yes told (in_order names) (in_order files) (ListedOf options) old new run done
+      let c = said-yes Included told (in_order names) (in_order files) (ListedOf options) old new run done
       tells z in
       list-of c.0 options files run c.2 z c.3 c.1
 
   pub right-no-list : run.status ≡ 1 → IsRightNoList options files
   right-no-list z =
-      let c = said-no told (in_order names) (in_order files) (ListedOf options) old new run done
+      let c = said-no Included told (in_order names) (in_order files) (ListedOf options) old new run done
       tells z in
       no-list-of c.0 options files c.3 c.1

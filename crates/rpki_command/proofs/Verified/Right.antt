@@ -24,19 +24,19 @@ module _ (told : Told) (clock : Option Moment) (party : PartySays) (words : List
     (asked : IsAsked verify_language words (verify_order options kind moment names))
     (moment-is : moment_at clock moment ≡ Some now)
     (tells : AreTold told (in_order names) (in_order files)) where
-  done : ChecksFiles told (in_order names) (VerifiedOf options kind now) old new run
+  done : ChecksFiles Included told (in_order names) (VerifiedOf options kind now) old new run
   done = subst (λ (m : Option Moment).
       IsTaskDone told (check_task (in_order names) (VerifiedOf options kind) m) old new run)
       moment-is (is.done (verify_order options kind moment names) asked)
 
   pub right-yes : run.status ≡ 0 → IsRightYes options kind is_rsa_signature now files run
   right-yes z =
-      let c = said-yes told (in_order names) (in_order files) (VerifiedOf options kind now) old new
+      let c = said-yes Included told (in_order names) (in_order files) (VerifiedOf options kind now) old new
       run done tells z in
       yes-made c.0 Included options kind is_rsa_signature now files run c.2 z c.3 c.1.0 c.1.1 c.1.2
 
   pub right-no : run.status ≡ 1 → IsRightNo options kind is_rsa_signature now files
   right-no z =
-      let c = said-no told (in_order names) (in_order files) (VerifiedOf options kind now) old new
+      let c = said-no Included told (in_order names) (in_order files) (VerifiedOf options kind now) old new
       run done tells z in
       no-made c.0 Included options kind is_rsa_signature now files c.3 c.1.0 c.1.1 c.1.2

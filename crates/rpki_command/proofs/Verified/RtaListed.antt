@@ -16,8 +16,10 @@ use Rattle.rpki_cli.specs.Words.{files_of_anchors}
 use Rattle.rpki_cli.specs.declared.words.Options.{Options}
 use Rattle.rpki_cli.proofs.Running.{said-as}
 use Rattle.rpki_cli.specs.Verify.Words.{verify_language}
+use Rattle.rpki_cli.specs.declared.causes.Causes.TheVariants.{Included}
 use Rattle.rpki_command.specs.Anchors.{given_in, chains_in}
-use Rattle.rpki_command.proofs.Right.{status_of, other-status, whole-lines, said-yes, said-no}
+use Rattle.rpki_command.specs.Yes.{status_of}
+use Rattle.rpki_command.proofs.Right.{other-status, whole-lines, said-yes, said-no}
 use Rattle.rpki_command.specs.Verify.Check.{IsRtaListAnswer, IsListingSaid, RtaListedOf}
 use Rattle.rpki_command.specs.Verify.Command.{verify_program, PartySays}
 use Rattle.rpki_command.specs.Verify.Yes.{rta_list_order, IsRightRtaList, IsRightNoRtaList}
@@ -74,17 +76,17 @@ module _ (told : Told) (clock : Option Moment) (party : PartySays) (words : List
     (is : IsRunOf (verify_program clock party) told words old new run)
     (asked : IsAsked verify_language words (rta_list_order options file anchors))
     (tells : AreTold told (file ∷ files_of_anchors anchors) (object ∷ octets)) where
-  done : ChecksFiles told (file ∷ files_of_anchors anchors) (RtaListedOf anchors) old new run
+  done : ChecksFiles Included told (file ∷ files_of_anchors anchors) (RtaListedOf anchors) old new run
   done = is.done (rta_list_order options file anchors) asked
 
   pub right-rta-list : run.status ≡ 0 → IsRightRtaList anchors object octets run
   right-rta-list z =
-      let c = said-yes told (file ∷ files_of_anchors anchors) (object ∷ octets)
+      let c = said-yes Included told (file ∷ files_of_anchors anchors) (object ∷ octets)
       (RtaListedOf anchors) old new run done tells z in
       list-of c.0 anchors object octets run c.2 z c.3 c.1
 
   pub right-no-rta-list : run.status ≡ 1 → IsRightNoRtaList anchors object octets
   right-no-rta-list z =
-      let c = said-no told (file ∷ files_of_anchors anchors) (object ∷ octets)
+      let c = said-no Included told (file ∷ files_of_anchors anchors) (object ∷ octets)
       (RtaListedOf anchors) old new run done tells z in
       no-list-of c.0 anchors object octets c.3 c.1

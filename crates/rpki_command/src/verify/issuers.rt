@@ -73,6 +73,15 @@ impl<'s> Model for NamedLocator<'s> {
     ghost view = { λ l. record { name = l.name.now; key = l.locator.key } };
 }
 
+impl<'s> NamedLocator<'s> {
+    /// The locator.
+    pub fn locator(&self) -> &Tal
+        ensures { result.now.key ≡ self.now.key }
+    {
+        &self.locator
+    }
+}
+
 /// Why the file of a locator is not read.
 #[derive(Debug, Drop)]
 pub enum NotLocator<'s> {

@@ -1,5 +1,6 @@
 //! What the definitions of the program with signatures say, as functions that do nothing.
 
+pub mod checks;
 pub mod issuers;
 
 ghost use Rattle.std.specs.Prelude.{◌≡◌, ◌<◌, ◌^◌, ◌↔◌, ℕ, List, ◌∷◌, length, true, Option, Some};

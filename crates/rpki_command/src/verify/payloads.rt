@@ -4,6 +4,7 @@ ghost use Rattle.std.specs.Prelude.{◌≡◌};
 ghost use Rattle.rpki_cli.specs.Answer.{said};
 ghost use Rattle.rpki_cli.specs.Command.{AreReadAtMost, HasRead, IsOfFiles, IsTaskAnswer};
 ghost use Rattle.rpki_cli.specs.Words.{texts};
+ghost use Rattle.rpki_cli.specs.declared.causes.Causes.TheVariants.{Included};
 ghost use Rattle.rpki_command.specs.Verify.Command.{check_task, request_at};
 
 use rpki_basics::{ProviderLimit, Time};
@@ -11,7 +12,7 @@ use rpki_cli::answer::Answer;
 use rpki_cli::verify::words::Format;
 use rpki_cli::verify::{PayloadsRequest, RelyingParty};
 use rpki_cli::words::{Word, Words};
-use rpki_cli::{Store, Unread, read_all};
+use rpki_cli::{Causes, Store, Unread, read_all, unreadable};
 use std::alloc::Global;
 
 /// What the program answers of the payloads under the locators in these files at a moment, if there
@@ -60,13 +61,13 @@ fn answer_request<'a, P: RelyingParty, S: Store>(
     request: &PayloadsRequest<'a>,
     store: &mut S,
 ) -> Answer<'a>
-    ensures said { IsOfFiles (S.told store.old) request.now.locators (P.says party.now request.now)
+    ensures said { IsOfFiles Included (S.told store.old) request.now.locators (P.says party.now request.now)
         (S.reads store.old) (S.reads store.new) (said result) }
     ensures reads { AreReadAtMost request.now.locators (S.reads store.old) (S.reads store.new) }
     ensures same { S.told store.new ≡ S.told store.old }
 {
     match read_all(alloc, request.locators.0, store) {
-        Err(Unread::Unreadable(name)) => Answer::CannotRead(name),
+        Err(Unread::Unreadable(name, reason)) => unreadable(Causes::Included, name, reason),
         Err(Unread::Memory) => Answer::OutOfMemory,
         Ok(files) => party.answer(alloc, request, &files),
     }

@@ -1,12 +1,12 @@
 -- Payloads as one JSON object (RFC 8259), with the members of Routinator.
 use Rattle.std.specs.Prelude.{ℕ, List, ◌++◌, codes, decimal}
+use Rattle.rpki_json.specs.Separated.{separated}
+use Rattle.rpki_json.specs.Text.{json_string}
 use Rattle.rpki_resources.specs.As.{asn_text}
 use Rattle.rpki_resources.specs.Text.{prefix_text}
 use Rattle.rpki_routes.specs.declared.roa.address.RouteOrigin.{RouteOrigin}
 use Rattle.rpki_payloads.specs.Found.{Found, all_named}
 use Rattle.rpki_payloads.specs.Picked.{Origin, Customer, origins_among, customers_among}
-use Rattle.rpki_payloads.specs.Separated.{separated}
-use Rattle.rpki_payloads.specs.Texts.Escaped.{json_string}
 use Rattle.rpki_payloads.specs.Texts.Origin.{max_length}
 
 -- , "ta": "anchor" }: the last member of an object, the name of the locator, and its end

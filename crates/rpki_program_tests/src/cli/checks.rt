@@ -99,7 +99,8 @@ fn text_of(alloc: Global, words: &[&str]) -> Result<String, AllocError> {
     }
 }
 
-fn check_text(alloc: Global, check: &CheckSettings<'_>) -> Result<String, AllocError> {
+/// The settings of a check as a text.
+pub fn check_text(alloc: Global, check: &CheckSettings<'_>) -> Result<String, AllocError> {
     let mut text = String::new(alloc);
     match check.kind {
         Some(kind) => write!(text, "{} ", kind.word())?,
@@ -120,7 +121,8 @@ fn check_text(alloc: Global, check: &CheckSettings<'_>) -> Result<String, AllocE
     Ok(text)
 }
 
-fn push_words(text: &mut String, words: &[&str]) -> Result<(), AllocError> {
+/// Appends the words, with a space between them.
+pub fn push_words(text: &mut String, words: &[&str]) -> Result<(), AllocError> {
     let mut space = "";
     for word in words {
         write!(text, "{space}{word}")?;

@@ -4,7 +4,7 @@ ghost use Rattle.std.specs.Prelude.{◌≡◌, MatchOption, bytes_eq, None, Some
 ghost use Rattle.std.specs.Map.{lookup};
 ghost use Rattle.rpki_program_tests.specs.Command.Given.{by_name};
 
-use rpki_cli::{ReadLog, Store, StoreError};
+use rpki_cli::{ReadLog, Reason, Store, StoreError};
 use std::alloc::Global;
 
 /// A store with these files by name, and one that memory is not enough for, `large`.
@@ -43,7 +43,7 @@ impl Store for Files<'_> {
             return Err(StoreError::Memory);
         }
         match find(self.files, name) {
-            None => Err(StoreError::Unreadable),
+            None => Err(StoreError::Unreadable(Reason::NotFound)),
             Some(octets) => match Vec::from_slice(alloc, octets) {
                 Ok(copy) => Ok(copy),
                 Err(_) => Err(StoreError::Memory),

@@ -80,9 +80,12 @@ issued_text t = serial_line (codes "serial") t.serial_number
     ++ (moment_line (codes "valid-from") t.validity.not_before
     ++ moment_line (codes "valid-until") t.validity.not_after)
 
--- the name of the kind, the serial number and the validity, and what the extensions say of keys, of
--- places and of numbers
-abbrev pub certificate_text : Certificate → List ℕ
-certificate_text c = codes "certificate\n" ++ (issued_text c.tbs
+-- the serial number and the validity, and what the extensions say of keys, of places and of numbers
+abbrev pub facts_text : Certificate → List ℕ
+facts_text c = issued_text c.tbs
     ++ (key_text c.tbs.extensions.key ++ (locations_text c.tbs.extensions.locations
-    ++ claims_text c.tbs.extensions.claims)))
+    ++ claims_text c.tbs.extensions.claims))
+
+-- the name of the kind, and what the certificate says
+abbrev pub certificate_text : Certificate → List ℕ
+certificate_text c = codes "certificate\n" ++ facts_text c

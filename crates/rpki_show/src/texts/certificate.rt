@@ -5,8 +5,8 @@ ghost use Rattle.rpki_show.specs.Grows.{Grows};
 ghost use Rattle.rpki_show.specs.Texts.Blocks.{as_lines};
 ghost use Rattle.rpki_show.specs.Texts.Certificate.{certificate_text, issued_text, key_text};
 ghost use Rattle.rpki_show.specs.Texts.Certificate.{authority_line, subject_line, locations_text};
-ghost use Rattle.rpki_show.specs.Texts.Certificate.{claims_text, claim_lines, ipv4_lines};
-ghost use Rattle.rpki_show.specs.Texts.Certificate.{ipv6_lines, access_text};
+ghost use Rattle.rpki_show.specs.Texts.Certificate.{claims_text, claim_lines, facts_text};
+ghost use Rattle.rpki_show.specs.Texts.Certificate.{ipv4_lines, ipv6_lines, access_text};
 ghost use Rattle.rpki_show.specs.Texts.Named.{uri_line};
 
 use crate::texts::blocks::push_numbers;
@@ -23,6 +23,13 @@ pub fn push_certificate(alloc: Global, text: &mut String, cert: &Cert) -> Result
     ensures { Grows result text.old text.new (certificate_text cert.now.certificate) }
 {
     write!(text, "certificate\n")?;
+    push_facts(alloc, text, cert)
+}
+
+/// Appends the lines of a certificate after that of its kind. Refuses where memory runs out.
+pub fn push_facts(alloc: Global, text: &mut String, cert: &Cert) -> Result<(), AllocError>
+    ensures { Grows result text.old text.new (facts_text cert.now.certificate) }
+{
     push_issued(alloc, text, cert)?;
     push_keys(text, cert)?;
     push_locations(text, cert)?;

@@ -25,14 +25,16 @@ returns-then-is_err-clause-answer g c =
 pub returns-in-Err-Unreadable-clause-answer : goal.returns-in-Err-Unreadable-clause-answer
 returns-in-Err-Unreadable-clause-answer g c =
     let i = c.loop-name.invariant in
-    first-unreadable (g.S.Store.told c.args.store.now)
+    rw c.in-Err-Unreadable.field-0-is
+    (first-unreadable (g.S.Store.told c.args.store.now)
     (g.S.Store.told c.loop-name.store)
-    c.in-Err-Unreadable.field-0 c.args.names.now c.loop-name.name-index _
+    c.in-Err-Unreadable.field-0 c.in-Err-Unreadable.reason c.args.names.now
+    c.loop-name.name-index _
     c.loop-name.files.items _ _
     c.loop-name-test.true i.2 i.3 i.0 c.in-Err-Unreadable.field-0-is
     c.in-Err-Unreadable.ensures.answer
     (one-more c.args.names.now c.loop-name.name-index _ _ _ _ c.loop-name-test.true i.1
-    c.in-Err-Unreadable.ensures.noted)
+    c.in-Err-Unreadable.ensures.noted))
 
 pub returns-in-Err-Memory-clause-answer : goal.returns-in-Err-Memory-clause-answer
 returns-in-Err-Memory-clause-answer g c =

@@ -1,7 +1,7 @@
 use Rattle.std.proofs.Common.{◌++◌, codes, refl}
 use Rattle.rpki_payloads.specs.Found.{all_named}
 use Rattle.rpki_payloads.specs.Picked.{origins_among}
-use Rattle.rpki_payloads.specs.Separated.{separated}
+use Rattle.rpki_json.specs.Separated.{separated}
 use Rattle.rpki_payloads.specs.Texts.Json.{json_roa, json_roas}
 use Rattle.rpki_show.proofs.Grown.{grown}
 use Rattle.rpki_payloads.proofs.json.push_roas.Goals as goal

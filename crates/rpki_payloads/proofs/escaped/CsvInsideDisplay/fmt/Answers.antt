@@ -2,7 +2,7 @@ use Rattle.std.proofs.Common.{◌++◌, sym, ap, ◌∙◌, append_assoc, rules}
 use Rattle.std.proofs.Output.{has_written_append}
 use Rattle.std.proofs.lemmas.Str.{IsUtf8-past_char}
 use Rattle.rpki_payloads.specs.Texts.Escaped.{csv_octet, csv_character}
-use Rattle.rpki_payloads.proofs.Characters.{first_character}
+use Rattle.rpki_json.proofs.Characters.{first_character}
 use Rattle.rpki_payloads.proofs.escaped.CsvInsideDisplay.fmt.Goals as goal
 
 pub loop-character-preserved : goal.loop-character-preserved

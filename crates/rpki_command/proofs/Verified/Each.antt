@@ -1,0 +1,133 @@
+-- Files that are asked about one after the other.
+use Rattle.std.proofs.Common.{◌≡◌, ◌<◌, ◌+◌, ◌∙◌, ℕ, suc, zero, List, [], ◌∷◌, ◌++◌, Vec, Global, Bor}
+use Rattle.std.proofs.Common.{Bool, true, false, refl, ap, sym, subst, arith, length, get_or, take}
+use Rattle.std.proofs.lemmas.List.{flat_map_more, take_more}
+use Rattle.std.proofs.lemmas.Slice.Zip.{all_zipped_more}
+use Rattle.std.specs.List.{AllZip}
+use Rattle.std.specs.Prelude.{◌⊎◌, ◌==◌, if◌then◌else◌}
+use Rattle.rpki_certs.specs.Issuer.{octets_of}
+use Rattle.rpki_cli.specs.Answer.{Output, Printed, out_of_memory}
+use Rattle.rpki_cli.specs.Words.{texts}
+use Rattle.rpki_command.specs.Verify.Each.{GivenFile, asked_in, Entry, entry_text, indented}
+use Rattle.rpki_command.specs.Verify.Each.{common_status, IsEntryOf, AreEntriesOf, PrintsEach}
+use Rattle.rpki_command.specs.Verify.Each.{IsSaidOfEach}
+use Rattle.rpki_command.specs.Verify.Issuers.{named}
+
+-- the file with this name, kind and octets
+abbrev pub file_of : {K : Type 0} → Bor (List ℕ) → K → Vec ℕ Global → GivenFile K
+file_of name kind octets = record { name = name.now; kind = kind; octets = octets.items }
+
+one-asked : {K : Type 0} (names : List (Bor (List ℕ))) (kinds : List K)
+    (files : List (Vec ℕ Global)) (i : ℕ) (n : Bor (List ℕ)) (k : K) (f : Vec ℕ Global)
+    → i < length names → i < length kinds → i < length files → n ≡ get_or names i n
+    → k ≡ get_or kinds i k → f ≡ get_or files i f
+    → asked_in (take (suc i) (texts names)) kinds (octets_of files)
+    ≡ asked_in (take i (texts names)) kinds (octets_of files) ++ file_of n k f ∷ []
+one-asked [] kinds files i n k f a b c d e g = absurd (omega arith)
+one-asked (m ∷ names) [] files i n k f a b c d e g = absurd (omega arith)
+one-asked (m ∷ names) (l ∷ kinds) [] i n k f a b c d e g = absurd (omega arith)
+one-asked {K} (m ∷ names) (l ∷ kinds) (o ∷ files) zero n k f a b c d e g =
+    let p : n ≡ m = d in
+    let q : k ≡ l = e in
+    let r : f ≡ o = g in
+    let P : GivenFile K → List (GivenFile K) = λ x. x ∷ [] in
+    ap P (ap (λ (x : Bor (List ℕ)). file_of x l o) (sym p)
+    ∙ ap (λ (x : K). file_of n x o) (sym q) ∙ ap (λ (x : Vec ℕ Global). file_of n k x) (sym r))
+one-asked {K} (m ∷ names) (l ∷ kinds) (o ∷ files) (suc i) n k f a b c d e g =
+    ap (λ (fs : List (GivenFile K)). file_of m l o ∷ fs)
+    (one-asked names kinds files i n k f (omega (arith, a)) (omega (arith, b)) (omega (arith, c))
+    d e g)
+
+-- an element within a list, whatever stands for none
+same-at : {A : Type 0} (xs : List A) (i : ℕ) (c d : A) → i < length xs
+    → get_or xs i c ≡ get_or xs i d
+same-at [] i c d l = absurd (omega arith)
+same-at (x ∷ xs) zero c d l = refl
+same-at (x ∷ xs) (suc i) c d l = same-at xs i c d (omega (arith, l))
+
+-- one more of the files is asked about
+pub asked-more : {K : Type 0} (names : List (Bor (List ℕ))) (kinds : List K)
+    (files : List (Vec ℕ Global)) (asked items : List (GivenFile K)) (i : ℕ) (d : Bor (List ℕ))
+    (k : K) (f : Vec ℕ Global) (octets : List ℕ)
+    → asked ≡ asked_in (take i (texts names)) kinds (octets_of files)
+    → i < length names → i < length kinds → i < length files
+    → k ≡ get_or kinds i k → f ≡ get_or files i f → octets ≡ f.items
+    → items
+    ≡ asked ++ record { name = (get_or names i d).now; kind = k; octets = octets } ∷ []
+    → items ≡ asked_in (take (i + 1) (texts names)) kinds (octets_of files)
+asked-more {K} names kinds files asked items i d k f octets so a b c e g o is =
+    let next : suc i ≡ i + 1 = omega arith in
+    let n : Bor (List ℕ) = get_or names i d in
+    let at : n ≡ get_or names i n = same-at names i d n a in
+    is
+    ∙ ap (λ (x : List ℕ). asked ++ record { name = n.now; kind = k; octets = x } ∷ []) o
+    ∙ ap (λ (fs : List (GivenFile K)). fs ++ file_of n k f ∷ []) so
+    ∙ sym (one-asked names kinds files i n k f a b c at e g)
+    ∙ ap (λ (m : ℕ). asked_in (take m (texts names)) kinds (octets_of files)) next
+
+-- ---- entries
+
+status-more : (entries : List Entry) (e : Entry)
+    → common_status (entries ++ e ∷ []) ≡ (if e.status == 0 then common_status entries else 1)
+status-more [] e = refl
+status-more (x ∷ entries) e =
+    let own = x.status == 0 in
+    let last = e.status == 0 in
+    ap (λ (n : ℕ). if own then n else 1) (status-more entries e)
+    ∙ elim own as (λ (b : Bool).
+    ◌≡◌ {A = ℕ} (if b then (if last then common_status entries else 1) else 1)
+    (if last then (if b then common_status entries else 1) else 1)) [
+      | true ↦ refl
+      | false ↦ elim last as (λ (d : Bool). ◌≡◌ {A = ℕ} 1 (if d then 1 else 1)) [
+        | true ↦ refl
+        | false ↦ refl
+      ]
+    ]
+
+module _ {K : Type 0} (P : GivenFile K → Output → Type 0) where
+  -- no file has an entry
+  pub entries-none : (files : List (GivenFile K)) → AreEntriesOf P (take 0 files) [] 0
+  entries-none files = record { entries = []; each = tt; text_is = refl; status_is = refl }
+
+  -- one more has one
+  pub entries-more : (files : List (GivenFile K)) (i : ℕ) (file : GivenFile K)
+      (old text said lines name octets : List ℕ) (kind : K) (status next own : ℕ) (s : Output)
+      → AreEntriesOf P (take i files) old status → i < length files → file ≡ get_or files i file
+      → ◌≡◌ {A = GivenFile K} (record { name = name; kind = kind; octets = octets }) file
+      → P file s → s ≡ Printed said own → lines ≡ said
+      → text ≡ old ++ named name (indented lines) → next ≡ (if own == 0 then status else 1)
+      → AreEntriesOf P (take (i + 1) files) text next
+  entries-more files i file old text said lines name octets kind status next own s h l at view p is
+      same t n =
+      let e : Entry = record { name = file.name; text = said; status = own } in
+      let more : take (i + 1) files ≡ take i files ++ file ∷ [] =
+      take_more files i file l ∙ ap (λ (f : GivenFile K). take i files ++ f ∷ []) (sym at) in
+      record {
+        entries = h.entries ++ e ∷ [];
+        each = subst (λ (fs : List (GivenFile K)). AllZip (IsEntryOf P) fs (h.entries ++ e ∷ []))
+            (sym more)
+            (all_zipped_more (IsEntryOf P) (take i files) h.entries file e h.each
+            (refl, subst (λ (x : Output). P file x) is p));
+        text_is = t
+            ∙ ap (λ (f : GivenFile K). old ++ named f.name (indented lines)) view
+            ∙ ap (λ (x : List ℕ). old ++ named file.name (indented x)) same
+            ∙ ap (λ (x : List ℕ). x ++ entry_text e) h.text_is
+            ∙ flat_map_more entry_text [] h.entries e;
+        status_is = n ∙ ap (λ (m : ℕ). if own == 0 then m else 1) h.status_is
+            ∙ sym (status-more h.entries e);
+      }
+
+  -- ---- one file, and several
+
+  pub of-one : (files : List (GivenFile K)) (file : GivenFile K) (s : Output) → length files ≡ 1
+      → file ≡ get_or files 0 file → P file s → IsSaidOfEach P files s
+  of-one [] file s l at h = absurd (omega arith)
+  of-one (x ∷ []) file s l at h = let same : file ≡ x = at in
+      subst (λ (f : GivenFile K). P f s) same h
+  of-one (x ∷ y ∷ files) file s l at h = absurd (omega arith)
+
+  pub of-others : (files : List (GivenFile K)) (s : Output) → ¬ (length files ≡ 1)
+      → (s ≡ out_of_memory) ⊎ PrintsEach P files s → IsSaidOfEach P files s
+  of-others [] s l h = h
+  of-others (x ∷ []) s l h = absurd (l refl)
+  of-others (x ∷ y ∷ files) s l h = h

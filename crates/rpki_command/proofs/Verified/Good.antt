@@ -1,0 +1,293 @@
+-- What a yes to a check of several files means, from what is said.
+use Rattle.std.proofs.Common.{◌≡◌, ◌∙◌, ℕ, List, [], ◌∷◌, All, Bool, true, false, Result, Ok, Err}
+use Rattle.std.proofs.Common.{Option, refl, ap, sym, subst, inl, inr}
+use Rattle.std.proofs.lemmas.Bool.{eqb-true}
+use Rattle.std.proofs.lemmas.List.Elements.{All-nil, All-cons}
+use Rattle.std.specs.List.{AllZip}
+use Rattle.std.specs.Prelude.{◌==◌, ◌↔◌, if◌then◌else◌}
+use Rattle.sha2.specs.Sha256.{sha256}
+use Rattle.rpki_der.specs.declared.error.DecodeError.TheVariants as decoding
+use Rattle.rpki_der.specs.declared.mode.Mode.{Mode}
+use Rattle.rpki_basics.specs.Moment.{Moment}
+use Rattle.rpki_faults.specs.declared.validation.ValidationError.TheVariants as validation
+use Rattle.rpki_certs.specs.Cert.{KeptCertificate}
+use Rattle.rpki_certs.specs.Validate.{Validated, IsValidatedUnder}
+use Rattle.rpki_certs.specs.Verify.{Verdict}
+use Rattle.rpki_certs.specs.declared.issuer.IssuerError.TheVariants as issuing
+use Rattle.rpki_der.specs.declared.mode.Mode.TheVariants.{Der}
+use Rattle.rpki_multi.specs.Attestation.{KeptWhole, RtaForm, Whole}
+use Rattle.rpki_paths.specs.Anchor.{Supply}
+use Rattle.rpki_rsa.specs.Signature.{is_rsa_signature}
+use Rattle.rpki_rta.specs.Granted.{IsGrantedRta}
+use Rattle.rpki_signed.specs.Attested.{IsExactRta}
+use Rattle.rpki_signed.specs.Check.{BeginsWith}
+use Rattle.rpki_signed.specs.Exact.{IsExact}
+use Rattle.rpki_signed.specs.declared.check.CheckError.{CheckError}
+use Rattle.rpki_signed.specs.declared.check.CheckError.TheVariants.{Decode, Validation}
+use Rattle.rpki_sigobj.specs.Verify.{Digester}
+use Rattle.rpki_sigobj.specs.Signed.Kind as signed
+use Rattle.rpki_cli.specs.Answer.{Output, Printed, out_of_memory, refused, bad_locator}
+use Rattle.rpki_cli.specs.declared.causes.Causes.TheVariants.{Included}
+use Rattle.rpki_cli.specs.declared.words.Kind.{Kind}
+use Rattle.rpki_cli.specs.declared.words.Options.{Options}
+use Rattle.rpki_show.specs.Options.{read_mode}
+use Rattle.rpki_command.specs.Check.{passes, validation_refusal, IsCheckSaid, IsCheckedAs, CheckedUnder}
+use Rattle.rpki_command.specs.Verify.Checks.{CheckedFiles, IsLocatorOf, IsSaidOfFiles, SaidUnder}
+use Rattle.rpki_command.specs.Verify.Checks.{SaidWithLists, bad_list}
+use Rattle.rpki_command.specs.Verify.Each.{GivenFile, Entry, common_status, IsEntryOf, IsSaidOfEach}
+use Rattle.rpki_command.specs.Verify.Good.{BeginsWithUnrevoked, IsGoodKind, IsGoodFile, AreGood}
+use Rattle.rpki_command.specs.Verify.Issuers.{GivenLocator, no_issuer}
+use Rattle.rpki_command.specs.Verify.Objects.{Grounds, IsSaidOfObject, IsJudgedAs, JudgedUnder, supplied_by}
+use Rattle.rpki_command.specs.Verify.Objects.{IsJudgementSaid, IsSaidOfSigned, IsSaidOfRta, IsSaidOfKind}
+use Rattle.rpki_cli.specs.declared.verify.requests.ObjectKind.{ObjectKind}
+use Rattle.rpki_cli.specs.declared.verify.requests.ObjectKind.TheVariants.{Signed, Rta}
+use Rattle.rpki_command.specs.Rta.{IsRtaSaid}
+use Rattle.rpki_command.specs.Verify.Revoked.{GivenList, IsGivenList, IsUnrevoked}
+use Rattle.rpki_command.specs.Verify.Revoked.{Revokes, revoked_text}
+use Rattle.rpki_command.specs.Yes.{status_of}
+use Rattle.rpki_command.specs.declared.verify.issuers.IssuerFault.{IssuerFault}
+use Rattle.rpki_command.specs.declared.verify.issuers.IssuerFault.TheVariants as faults
+use Rattle.rpki_command.specs.declared.verify.issuers.NotLocator.TheVariants as locating
+use Rattle.rpki_command.specs.declared.verify.revoked.NotLists.TheVariants as listing
+use Rattle.rpki_command.proofs.Right.{other-status, refusal-is-none, fault-is-none, of-kind}
+use Rattle.rpki_command.proofs.Right.{one, two, three}
+use Rattle.rpki_command.proofs.Verified.Issuing.{no-cut}
+
+-- ---- several files
+
+-- all have status 0 only where the first does
+zero-first : (e : Entry) (entries : List Entry) → common_status (e ∷ entries) ≡ 0
+    → (e.status ≡ 0) × (common_status entries ≡ 0)
+zero-first e entries z =
+    (elim (e.status == 0) as (λ (b : Bool). (e.status == 0) ≡ b
+    → ◌≡◌ {A = ℕ} (if b then common_status entries else 1) 0
+    → (e.status ≡ 0) × (common_status entries ≡ 0)) [
+      | true ↦ λ t y. (eqb-true e.status 0 t, y)
+      | false ↦ λ t y. absurd (one y)
+    ]) refl z
+
+module _ {K : Type 0} (P : GivenFile K → Output → Type 0) (Q : GivenFile K → Type 0)
+    (more : (f : GivenFile K) (t : Output) → P f t → status_of t ≡ 0 → Q f) where
+  zip-good : (files : List (GivenFile K)) (entries : List Entry)
+      → AllZip (IsEntryOf P) files entries → common_status entries ≡ 0 → All Q files
+  zip-good [] entries h z = All-nil Q
+  zip-good (f ∷ files) [] h z = absurd h
+  zip-good (f ∷ files) (e ∷ entries) h z =
+      let p = zero-first e entries z in
+      All-cons Q f files (more f (Printed e.text e.status) h.0.1 p.0)
+      (zip-good files entries h.1 p.1)
+
+  -- what follows from a yes to a file follows for each where all have one
+  pub each-good : (files : List (GivenFile K)) (s : Output) → IsSaidOfEach P files s
+      → status_of s ≡ 0 → All Q files
+  each-good [] s h z = All-nil Q
+  each-good (f ∷ []) s h z = All-cons Q f [] (more f s h z) (All-nil Q)
+  each-good (f ∷ g ∷ files) s (inl e) z = absurd (other-status s out_of_memory 0 z e three)
+  each-good (f ∷ g ∷ files) s (inr h) z =
+      zip-good (f ∷ g ∷ files) h.2.entries h.2.each
+      (sym h.2.status_is ∙ sym (ap status_of h.3) ∙ z)
+
+-- ---- one object
+
+of-cert : (c : KeptCertificate) (issuer v : Validated) → IsValidatedUnder c issuer v → v.cert ≡ c
+unfolding IsValidatedUnder
+of-cert c issuer v h = h.0
+
+module _ {X : Type 0} (kind : signed.ObjectKind X) (form : List ℕ → X → Type 0)
+    (text : X → List ℕ) (mode : Mode) (digest : Digester) (verdict : Verdict) (issuer : Validated)
+    (now : Moment) (octets : List ℕ) (s : Output) where
+  module _ (lists : List GivenList) (zero : status_of s ≡ 0) where
+    no-memory : {R : Type 0} → s ≡ out_of_memory → R
+    no-memory e = absurd (other-status s out_of_memory 0 zero e three)
+
+    good-result : (result : Result (Validated × X) CheckError)
+        → IsExact kind form mode digest verdict issuer now passes octets result
+        → IsJudgementSaid text verdict lists issuer result s
+        → BeginsWithUnrevoked kind form mode digest verdict lists issuer now octets
+    good-result (Ok a) b (inl h) =
+        let own : a.0.cert ≡ record { certificate = b.object.object.signed.cert; mode = mode } =
+        of-cert _ issuer a.0 b.holds.1.certificate in
+        record {
+          object = b.object;
+          rest = b.rest;
+          front = b.front;
+          certificate = a.0;
+          good = b.holds.1;
+          unrevoked = subst (λ (k : KeptCertificate).
+              IsUnrevoked verdict lists issuer.cert.certificate k.certificate) own h.0;
+        }
+    good-result (Ok a) b (inr h) = elim h.2 [
+      | inl e ↦ no-memory e
+      | inr e ↦ absurd (other-status s (refused (revoked_text h.0)) 0 zero e one)
+    ]
+    good-result (Err (Decode fault)) b h = absurd (refusal-is-none Included fault s h zero)
+    good-result (Err (Validation fault)) b (inl e) = no-memory e
+    good-result (Err (Validation fault)) b (inr e) =
+        absurd (other-status s (validation_refusal fault) 0 zero e (fault-is-none fault))
+
+    pub good-as : IsJudgedAs kind form text mode digest verdict lists issuer now octets s
+        → BeginsWithUnrevoked kind form mode digest verdict lists issuer now octets
+    good-as (inl e) = no-memory e
+    good-as (inr j) = good-result j.result j.exact j.said
+
+  -- without lists
+  alone : (result : Result (Validated × X) CheckError)
+      → IsJudgementSaid text verdict [] issuer result s → IsCheckSaid Included text result s
+  alone (Ok a) (inl h) = h.1
+  alone (Ok a) (inr h) =
+      let list : GivenList = record { name = h.0; list = h.1.list } in
+      no-cut h.1.before list h.1.after h.1.cut
+  alone (Err fault) h = h
+
+  with-none : (result : Result (Validated × X) CheckError) → IsCheckSaid Included text result s
+      → IsJudgementSaid text verdict [] issuer result s
+  with-none (Ok a) h = inl (
+    All-nil (λ (l : GivenList).
+        ¬ Revokes verdict issuer.cert.certificate a.0.cert.certificate l.list),
+    h,
+  )
+  with-none (Err fault) h = h
+
+  pub alone-as : IsJudgedAs kind form text mode digest verdict [] issuer now octets s
+      → IsCheckedAs Included kind form text mode digest verdict issuer now octets s
+  alone-as (inl e) = inl e
+  alone-as (inr j) = inr (record {
+    result = j.result;
+    first = j.first;
+    exact = j.exact;
+    said = alone j.result j.said;
+  })
+
+  pub none-as : IsCheckedAs Included kind form text mode digest verdict issuer now octets s
+      → IsJudgedAs kind form text mode digest verdict [] issuer now octets s
+  none-as (inl e) = inl e
+  none-as (inr c) = inr (record {
+    result = c.result;
+    first = c.first;
+    exact = c.exact;
+    said = with-none c.result c.said;
+  })
+
+-- ---- by its kind
+
+signed-good : (g : Grounds) (kind : Kind) (octets : List ℕ) (s : Output)
+    → IsSaidOfSigned g kind octets s → status_of s ≡ 0 → IsGoodKind g (Signed kind) octets
+signed-good g kind octets s h zero = of-kind g.options kind
+    (λ X asked form text. IsJudgedAs asked form text (read_mode g.options) sha256 is_rsa_signature
+    g.lists g.issuer g.now octets s)
+    (λ X asked form text. BeginsWithUnrevoked asked form (read_mode g.options) sha256
+    is_rsa_signature g.lists g.issuer g.now octets)
+    (λ X asked form text is. good-as asked form text (read_mode g.options) sha256 is_rsa_signature
+    g.issuer g.now octets s g.lists zero is) h
+
+granted-result : (supplied : List Supply) (now : Moment) (octets : List ℕ) (s : Output)
+    → status_of s ≡ 0 → (result : Result KeptWhole CheckError)
+    → IsExactRta sha256 is_rsa_signature now supplied octets result → IsRtaSaid Included result s
+    → BeginsWith (RtaForm Der) octets
+    (λ (r : Whole). IsGrantedRta sha256 is_rsa_signature now r supplied)
+granted-result supplied now octets s zero (Ok k) b h = record {
+  object = b.object;
+  rest = b.rest;
+  front = b.front;
+  holds = b.holds.0;
+}
+granted-result supplied now octets s zero (Err (Decode fault)) b h =
+    absurd (refusal-is-none Included fault s h zero)
+granted-result supplied now octets s zero (Err (Validation fault)) b (inl e) =
+    absurd (other-status s out_of_memory 0 zero e three)
+granted-result supplied now octets s zero (Err (Validation fault)) b (inr e) =
+    absurd (other-status s (validation_refusal fault) 0 zero e (fault-is-none fault))
+
+granted-good : (g : Grounds) (octets : List ℕ) (s : Output) → IsSaidOfRta g octets s
+    → status_of s ≡ 0 → IsGoodKind g Rta octets
+granted-good g octets s (inl e) zero = absurd (other-status s out_of_memory 0 zero e three)
+granted-good g octets s (inr c) zero =
+    granted-result (supplied_by g) g.now octets s zero c.result c.exact c.said
+
+kind-good : (g : Grounds) (kind : ObjectKind) (octets : List ℕ) (s : Output)
+    → IsSaidOfKind g kind octets s → status_of s ≡ 0 → IsGoodKind g kind octets
+kind-good g (Signed kind) octets s h zero = signed-good g kind octets s h zero
+kind-good g Rta octets s h zero = granted-good g octets s h zero
+
+pub file-good : (g : Grounds) (file : GivenFile ObjectKind) (s : Output) → IsSaidOfObject g file s
+    → status_of s ≡ 0 → IsGoodFile g file
+file-good g file s h zero = kind-good g file.kind file.octets s h zero
+
+pub alone-under : (options : Options) (kind : Kind) (digest : Digester) (verdict : Verdict)
+    (issuer : Validated) (now : Moment) (octets : List ℕ) (s : Output)
+    → JudgedUnder options kind digest verdict [] issuer now octets s
+    ↔ CheckedUnder Included options kind digest verdict issuer now octets s
+alone-under options kind digest verdict issuer now octets s = (
+  of-kind options kind
+      (λ X asked form text. IsJudgedAs asked form text (read_mode options) digest verdict []
+      issuer now octets s)
+      (λ X asked form text. IsCheckedAs Included asked form text (read_mode options) digest verdict
+      issuer now octets s)
+      (λ X asked form text. alone-as asked form text (read_mode options) digest verdict issuer now
+      octets s),
+  of-kind options kind
+      (λ X asked form text. IsCheckedAs Included asked form text (read_mode options) digest verdict
+      issuer now octets s)
+      (λ X asked form text. IsJudgedAs asked form text (read_mode options) digest verdict []
+      issuer now octets s)
+      (λ X asked form text. none-as asked form text (read_mode options) digest verdict issuer now
+      octets s),
+)
+
+-- ---- by the files
+
+no-issuer-none : (file : List ℕ) (fault : IssuerFault) → status_of (no_issuer file fault) ≡ 0 → ⊥
+no-issuer-none file (faults.Error (issuing.Decode decoding.Memory)) = three
+no-issuer-none file (faults.Error (issuing.Decode decoding.Malformed)) = one
+no-issuer-none file (faults.Error (issuing.Decode (decoding.Content fault))) = one
+no-issuer-none file (faults.Error (issuing.Validation validation.Memory)) = three
+no-issuer-none file (faults.Error (issuing.Validation (validation.Inspection fault))) = one
+no-issuer-none file (faults.Error (issuing.Validation (validation.Verification fault))) = one
+no-issuer-none file (faults.OtherKey locator) = one
+no-issuer-none file (faults.Revoked list) = one
+
+module _ (options : Options) (now : Moment) (f : CheckedFiles) (s : Output)
+    (zero : status_of s ≡ 0) where
+  module _ (locator : Option GivenLocator) (located : IsLocatorOf f.locator (Ok locator)) where
+    issued-good : (lists : List GivenList) → AllZip IsGivenList f.lists lists
+        → SaidUnder options now f.certs f.objects locator lists s → AreGood options now f
+    issued-good lists listed (Ok issuer, made, h) =
+        let grounds : Grounds = record {
+          options = options;
+          locator = locator;
+          lists = lists;
+          issuer = issuer;
+          now = now;
+        } in
+        record {
+          locator = locator;
+          located = located;
+          lists = lists;
+          listed = listed;
+          issuer = issuer;
+          made = made;
+          good = each-good (IsSaidOfObject grounds) (IsGoodFile grounds) (file-good grounds)
+              f.objects s h zero;
+        }
+    issued-good lists listed (Err refusal, made, inl e) =
+        absurd (other-status s out_of_memory 0 zero e three)
+    issued-good lists listed (Err refusal, made, inr e) =
+        absurd (other-status s (no_issuer refusal.file.now refusal.fault) 0 zero e
+        (no-issuer-none refusal.file.now refusal.fault))
+
+    listed-good : SaidWithLists options now f.certs f.lists f.objects locator s
+        → AreGood options now f
+    listed-good (Ok lists, listed, h) = issued-good lists.items listed h
+    listed-good (Err (listing.Bad name), listed, inl e) =
+        absurd (other-status s out_of_memory 0 zero e three)
+    listed-good (Err (listing.Bad name), listed, inr e) =
+        absurd (other-status s (bad_list name.now) 0 zero e two)
+    listed-good (Err listing.Memory, listed, e) =
+        absurd (other-status s out_of_memory 0 zero e three)
+
+  pub files-good : IsSaidOfFiles options now f s → AreGood options now f
+  files-good (Ok locator, located, h) = listed-good locator located h
+  files-good (Err (locating.Bad name), located, e) =
+      absurd (other-status s (bad_locator name.now) 0 zero e two)
+  files-good (Err locating.Memory, located, e) =
+      absurd (other-status s out_of_memory 0 zero e three)

@@ -1,0 +1,67 @@
+use Rattle.std.proofs.Common.{◌≡◌, ◌∙◌, List, ℕ, Ok, Err, Bor, refl, inr, ap, sym, rules, length}
+use Rattle.std.proofs.lemmas.List.{length-map}
+use Rattle.std.specs.List.{zip}
+use Rattle.rpki_certs.specs.Issuer.{octets_of}
+use Rattle.rpki_cli.specs.Answer.{said}
+use Rattle.rpki_cli.specs.Verify.CheckSettings.{check_values}
+use Rattle.rpki_cli.specs.Words.{texts}
+use Rattle.rpki_command.specs.Verify.Each.{asked_in}
+use Rattle.rpki_command.specs.Verify.Issuers.{CertFiles}
+use Rattle.rpki_command.specs.declared.verify.issuers.NotLocator.TheVariants as locating
+use Rattle.rpki_command.proofs.Verified.Cutting.{of-all, below-of, from-at}
+use Rattle.rpki_command.proofs.verify.checks.check_each.Goals as goal
+
+pub returns-in-Err-Bad : goal.returns-in-Err-Bad
+returns-in-Err-Bad c =
+    let settings = c.args.settings.now in
+    let n = check_values settings in
+    let files = c.args.files.now in
+    let a = c.len.result in
+    let b = c.count_of.result in
+    let e = c.len-in-len1-up.result in
+    let cas : a ≡ length settings.cas.items = search rules in
+    let crls : e ≡ length settings.crls.items = search rules in
+    let bad : c.in-Err-Bad.field-0 ≡ locating.Bad c.in-Err-Bad.name =
+    first_of (cc, search rules) in
+    let certs : CertFiles = record {
+      anchor = (n.ta, c.anchor-item.result.items);
+      chain = zip n.cas (octets_of (below-of files));
+    } in
+    inr (of-all c.args.options c.args.now n c.args.kinds.now files c.anchor-item.result
+    c.anchor-item.result.items certs
+    (asked_in n.files c.args.kinds.now (octets_of (from-at e (from-at b (from-at a (below-of files))))))
+    a b e _ (Err c.in-Err-Bad.field-0) refl c.in-len1-up.len_at_least c.anchor-item.is
+    (cas ∙ sym (length-map settings.cas.items (λ (w : Bor (List ℕ)). w.now))) c.count_of.ensures
+    (crls ∙ sym (length-map settings.crls.items (λ (w : Bor (List ℕ)). w.now))) refl refl
+    c.in-Err-Bad.ensures (rw bad refl))
+
+pub returns-in-len1-up : goal.returns-in-len1-up
+returns-in-len1-up c =
+    let settings = c.args.settings.now in
+    let n = check_values settings in
+    let files = c.args.files.now in
+    let a = c.len.result in
+    let b = c.count_of.result in
+    let e = c.len-in-len1-up.result in
+    let cas : a ≡ length settings.cas.items = search rules in
+    let crls : e ≡ length settings.crls.items = search rules in
+    let anchor = c.deref-in-Ok.result.now in
+    let certs : CertFiles = record {
+      anchor = (n.ta, anchor);
+      chain = zip (texts c.deref-in-Ok-2.result.now) (octets_of (below-of files));
+    } in
+    inr (of-all c.args.options c.args.now n c.args.kinds.now files c.anchor-item.result anchor
+    certs c.deref-in-Ok-locator_if.result.now a b e (said c.check_listed.result)
+    (Ok c.in-Ok-locator_if.locator) c.deref-in-Ok.ensures.value c.in-len1-up.len_at_least
+    c.anchor-item.is
+    (cas ∙ sym (length-map settings.cas.items (λ (w : Bor (List ℕ)). w.now))) c.count_of.ensures
+    (crls ∙ sym (length-map settings.crls.items (λ (w : Bor (List ℕ)). w.now)))
+    (ap (λ (names : List (Bor (List ℕ))).
+    let x : CertFiles = record {
+      anchor = (n.ta, anchor);
+      chain = zip (texts names) (octets_of (below-of files));
+    } in x) c.deref-in-Ok-2.ensures.value)
+    (c.deref-in-Ok-locator_if.ensures.value ∙ c.in-Ok.ensures
+    ∙ ap (λ (names : List (Bor (List ℕ))). asked_in (texts names) c.args.kinds.now
+    (octets_of (from-at e (from-at b (from-at a (below-of files)))))) c.deref.ensures.value)
+    c.in-Ok-locator_if.ensures c.check_listed.ensures)

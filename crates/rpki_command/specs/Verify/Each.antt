@@ -1,0 +1,75 @@
+-- What is said of several files, by what is said of each.
+use Rattle.std.specs.Prelude.{◌≡◌, ℕ, ◌⊎◌, List, [], ◌∷◌, ◌++◌, ◌==◌, codes, if◌then◌else◌}
+use Rattle.std.specs.List.{AllZip, flat_map}
+use Rattle.rpki_cli.specs.Answer.{Output, Printed, Reported, out_of_memory}
+use Rattle.rpki_command.specs.Verify.Issuers.{named}
+
+-- a file that something is said of: its name, its kind, and its octets
+pub record GivenFile (K : Type 0) : Type 0 where
+  pub name : List ℕ
+  pub kind : K
+  pub octets : List ℕ
+
+-- the files with these names, kinds and octets, in their order
+abbrev pub asked_in : {K : Type 0} → List (List ℕ) → List K → List (List ℕ) → List (GivenFile K)
+asked_in (name ∷ names) (kind ∷ kinds) (octets ∷ files) =
+    record { name = name; kind = kind; octets = octets } ∷ asked_in names kinds files
+asked_in names kinds files = []
+
+-- ---- entries
+
+-- What is said of one of several files: its name, a text on standard output, and a status.
+pub record Entry : Type 0 where
+  pub name : List ℕ
+  pub text : List ℕ
+  pub status : ℕ
+
+-- what stands between this octet and those after it, if there are any: two spaces, if it is a line
+-- feed
+abbrev pub spaces_after : ℕ → List ℕ → List ℕ
+spaces_after c [] = []
+spaces_after c (d ∷ rest) = if c == 10 then codes "  " else []
+
+-- a text with two spaces after each line feed but one at its end
+abbrev pub indented : List ℕ → List ℕ
+indented [] = []
+indented (c ∷ rest) = c ∷ (spaces_after c rest ++ indented rest)
+
+-- an entry as a text: the name of the file, and what is said of it, whose lines stand under one
+-- another
+abbrev pub entry_text : Entry → List ℕ
+entry_text e = named e.name (indented e.text)
+
+-- the status of all: 0 where each has 0, and else 1
+abbrev pub common_status : List Entry → ℕ
+common_status [] = 0
+common_status (e ∷ entries) = if e.status == 0 then common_status entries else 1
+
+-- a text on standard output, with a status, and none on standard error
+abbrev pub printed : List ℕ → ℕ → Output
+printed text status = Reported text [] status
+
+-- This is the entry of the file, of which P says what stands there.
+abbrev pub IsEntryOf : {K : Type 0} → (GivenFile K → Output → Type 0) → GivenFile K → Entry → Type 0
+IsEntryOf P file e = (e.name ≡ file.name) × P file (Printed e.text e.status)
+
+-- This is the text of the entries of these files, one for each, in their order, and their status.
+pub record AreEntriesOf {K : Type 0} (P : GivenFile K → Output → Type 0)
+    (files : List (GivenFile K)) (text : List ℕ) (status : ℕ) : Type 0 where
+  pub entries : List Entry
+  pub each : AllZip (IsEntryOf P) files entries
+  pub text_is : text ≡ flat_map entry_text entries
+  pub status_is : status ≡ common_status entries
+
+-- the entries of these files are printed
+abbrev pub PrintsEach : {K : Type 0} → (GivenFile K → Output → Type 0) → List (GivenFile K) → Output
+    → Type 0
+PrintsEach P files s =
+    (text : List ℕ) × (status : ℕ) × AreEntriesOf P files text status × (s ≡ printed text status)
+
+-- What is said of files: of one what P says of it; of several an entry for each, unless memory runs
+-- out.
+abbrev pub IsSaidOfEach : {K : Type 0} → (GivenFile K → Output → Type 0) → List (GivenFile K)
+    → Output → Type 0
+IsSaidOfEach P (file ∷ []) s = P file s
+IsSaidOfEach P files s = (s ≡ out_of_memory) ⊎ PrintsEach P files s

@@ -1,0 +1,71 @@
+-- What it means that files are checked with a yes.
+use Rattle.std.specs.Prelude.{ℕ, List, All, Ok, Option}
+use Rattle.std.specs.List.{AllZip}
+use Rattle.sha2.specs.Sha256.{sha256}
+use Rattle.rpki_der.specs.Form.Decodes.{IsOnlyFront}
+use Rattle.rpki_der.specs.declared.mode.Mode.{Mode}
+use Rattle.rpki_der.specs.declared.mode.Mode.TheVariants.{Der}
+use Rattle.rpki_basics.specs.Moment.{Moment}
+use Rattle.rpki_certs.specs.Validate.{Validated}
+use Rattle.rpki_certs.specs.Verify.{Verdict}
+use Rattle.rpki_multi.specs.Attestation.{RtaForm}
+use Rattle.rpki_multi.specs.Attestation as attested
+use Rattle.rpki_rsa.specs.Signature.{is_rsa_signature}
+use Rattle.rpki_rta.specs.Granted.{IsGrantedRta}
+use Rattle.rpki_signed.specs.Check.{BeginsWith}
+use Rattle.rpki_sigobj.specs.Verify.{Digester}
+use Rattle.rpki_sigobj.specs.Signed.Good.{IsGood}
+use Rattle.rpki_sigobj.specs.Signed.Kind as signed
+use Rattle.rpki_sigobj.specs.Signed.{Whole, ObjectForm}
+use Rattle.rpki_cli.specs.declared.words.Options.{Options}
+use Rattle.rpki_show.specs.Kinds.{OfKind}
+use Rattle.rpki_show.specs.Options.{read_mode}
+use Rattle.rpki_command.specs.Verify.Checks.{CheckedFiles, IsLocatorOf}
+use Rattle.rpki_command.specs.Verify.Each.{GivenFile}
+use Rattle.rpki_command.specs.Verify.Issuers.{GivenLocator, IsIssuerOf}
+use Rattle.rpki_command.specs.Verify.Objects.{Grounds, supplied_by}
+use Rattle.rpki_command.specs.Verify.Revoked.{GivenList, IsGivenList, IsUnrevoked}
+use Rattle.rpki_cli.specs.declared.verify.requests.ObjectKind.{ObjectKind}
+use Rattle.rpki_cli.specs.declared.verify.requests.ObjectKind.TheVariants.{Signed, Rta}
+
+-- The octets begin with an object that is good under this issuer, and none of the lists revokes its
+-- certificate.
+pub record BeginsWithUnrevoked {X : Type 0} (kind : signed.ObjectKind X)
+    (form : List ℕ → X → Type 0) (mode : Mode) (digest : Digester) (verdict : Verdict)
+    (lists : List GivenList) (issuer : Validated) (now : Moment) (octets : List ℕ) : Type 0 where
+  pub object : Whole X
+  pub rest : List ℕ
+  pub front : IsOnlyFront (ObjectForm kind.type form mode) octets object rest
+  pub certificate : Validated
+  pub good : IsGood kind mode digest verdict issuer now object certificate
+  pub unrevoked : IsUnrevoked verdict lists issuer.cert.certificate object.object.signed.cert
+
+-- The octets begin with such an object of this kind, or with an attestation that is granted, by these
+-- grounds.
+abbrev pub IsGoodKind : Grounds → ObjectKind → List ℕ → Type 0
+IsGoodKind g (Signed kind) octets = OfKind g.options kind (λ X asked form text.
+    BeginsWithUnrevoked asked form (read_mode g.options) sha256 is_rsa_signature g.lists g.issuer
+    g.now octets)
+IsGoodKind g Rta octets = BeginsWith (RtaForm Der) octets
+    (λ (r : attested.Whole). IsGrantedRta sha256 is_rsa_signature g.now r (supplied_by g))
+
+-- the same of a file
+abbrev pub IsGoodFile : Grounds → GivenFile ObjectKind → Type 0
+IsGoodFile g file = IsGoodKind g file.kind file.octets
+
+-- A yes is right: the file of the locator is one, if there is one, those of the lists begin with
+-- lists, and the certificates make an issuer, under which each object is good.
+pub record AreGood (options : Options) (now : Moment) (f : CheckedFiles) : Type 0 where
+  pub locator : Option GivenLocator
+  pub located : IsLocatorOf f.locator (Ok locator)
+  pub lists : List GivenList
+  pub listed : AllZip IsGivenList f.lists lists
+  pub issuer : Validated
+  pub made : IsIssuerOf is_rsa_signature now f.certs locator lists issuer
+  pub good : All (IsGoodFile (record {
+    options = options;
+    locator = locator;
+    lists = lists;
+    issuer = issuer;
+    now = now;
+  })) f.objects

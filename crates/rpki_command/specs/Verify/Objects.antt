@@ -1,0 +1,127 @@
+-- What is said of a signed object or an attestation under an issuer, where revocation lists are given.
+use Rattle.std.specs.Prelude.{◌≡◌, ◌⊎◌, ℕ, List, [], ◌∷◌, ◌++◌, Option, None, Some, Result, Ok, Err}
+use Rattle.std.specs.Prelude.{String, string_bytes}
+use Rattle.std.specs.declared.alloc.AllocError.{AllocError}
+use Rattle.std.specs.declared.alloc.Global.{Global}
+use Rattle.sha2.specs.Sha256.{sha256}
+use Rattle.rpki_der.specs.declared.mode.Mode.{Mode}
+use Rattle.rpki_basics.specs.Moment.{Moment}
+use Rattle.rpki_certs.specs.Cert.{Certificate}
+use Rattle.rpki_certs.specs.Validate.{Validated}
+use Rattle.rpki_certs.specs.Verify.{Verdict}
+use Rattle.rpki_paths.specs.Anchor.{Supply}
+use Rattle.rpki_rsa.specs.Signature.{is_rsa_signature}
+use Rattle.rpki_rsa.specs.declared.rsa.Rsa.{Rsa}
+use Rattle.rpki_signed.specs.Check.{Checks}
+use Rattle.rpki_signed.specs.Exact.{IsExact}
+use Rattle.rpki_signed.specs.declared.check.CheckError.{CheckError}
+use Rattle.rpki_sigobj.specs.Verify.{Digester}
+use Rattle.rpki_sigobj.specs.Signed.Kind as signed
+use Rattle.rpki_cli.specs.Answer.{Output, out_of_memory, refused}
+use Rattle.rpki_cli.specs.Shown.{IsLinesOf}
+use Rattle.rpki_cli.specs.declared.causes.Causes.TheVariants.{Included}
+use Rattle.rpki_cli.specs.declared.words.Kind.{Kind}
+use Rattle.rpki_cli.specs.declared.words.Options.{Options}
+use Rattle.rpki_show.specs.Kinds.{OfKind}
+use Rattle.rpki_show.specs.Options.{read_mode}
+use Rattle.rpki_command.specs.Check.{passes, yes_line, IsCheckSaid}
+use Rattle.rpki_command.specs.Rta.{AttestedUnder, supply_of}
+use Rattle.rpki_command.specs.Verify.Each.{GivenFile}
+use Rattle.rpki_command.specs.Verify.Issuers.{GivenLocator}
+use Rattle.rpki_command.specs.Verify.Revoked.{GivenList, IsUnrevoked, IsRevokedBy, revoked_text}
+use Rattle.rpki_command.specs.declared.anchors.Anchor.TheVariants.{Ca}
+use Rattle.rpki_cli.specs.declared.verify.requests.ObjectKind.{ObjectKind}
+use Rattle.rpki_cli.specs.declared.verify.requests.ObjectKind.TheVariants.{Signed, Rta}
+
+-- ---- one object
+
+-- what is said where the list in the file of this name revokes a certificate, unless memory runs out
+abbrev pub IsRevokedSaid : List ℕ → Output → Type 0
+IsRevokedSaid list s = (s ≡ out_of_memory) ⊎ (s ≡ refused (revoked_text list))
+
+-- What is said of a good object with these lines: yes and the lines, where none of the lists revokes
+-- its certificate, which this issuer issued (RFC 6487, section 7.2), and else which list is the first
+-- that does.
+abbrev pub IsGoodSaid : Verdict → List GivenList → Certificate → Certificate → List ℕ → Output
+    → Type 0
+IsGoodSaid verdict lists issuer c lines s =
+    (IsUnrevoked verdict lists issuer c × IsLinesOf (yes_line ++ lines) s)
+    ⊎ ((list : List ℕ) × IsRevokedBy verdict lists issuer c list × IsRevokedSaid list s)
+
+-- what is said of what a check answers
+abbrev pub IsJudgementSaid : {X : Type 0} → (X → List ℕ) → Verdict → List GivenList → Validated
+    → Result (Validated × X) CheckError → Output → Type 0
+IsJudgementSaid text verdict lists issuer (Ok a) s =
+    IsGoodSaid verdict lists issuer.cert.certificate a.0.cert.certificate (text a.1) s
+IsJudgementSaid text verdict lists issuer (Err fault) s = IsCheckSaid Included text (Err fault) s
+
+-- What the check of such objects answers, as `IsChecked` has it, and what is said of it: where it
+-- finds the object good, the lists are asked.
+pub record IsJudged {X : Type 0} (kind : signed.ObjectKind X) (form : List ℕ → X → Type 0)
+    (text : X → List ℕ) (mode : Mode) (digest : Digester) (verdict : Verdict)
+    (lists : List GivenList) (issuer : Validated) (now : Moment) (octets : List ℕ) (s : Output)
+    : Type 0 where
+  pub result : Result (Validated × X) CheckError
+  pub first : Checks kind form mode digest verdict issuer now passes octets result
+  pub exact : IsExact kind form mode digest verdict issuer now passes octets result
+  pub said : IsJudgementSaid text verdict lists issuer result s
+
+-- what is said of the check of such objects, unless memory runs out
+abbrev pub IsJudgedAs : {X : Type 0} → signed.ObjectKind X → (List ℕ → X → Type 0) → (X → List ℕ)
+    → Mode → Digester → Verdict → List GivenList → Validated → Moment → List ℕ → Output → Type 0
+IsJudgedAs kind form text mode digest verdict lists issuer now octets s =
+    (s ≡ out_of_memory) ⊎ IsJudged kind form text mode digest verdict lists issuer now octets s
+
+-- What is said of octets that may begin with an object of a kind, under an issuer, where these lists
+-- are given, with these options.
+abbrev pub JudgedUnder : Options → Kind → Digester → Verdict → List GivenList → Validated → Moment
+    → List ℕ → Output → Type 0
+JudgedUnder options kind digest verdict lists issuer now octets s =
+    OfKind options kind (λ X asked form text.
+    IsJudgedAs asked form text (read_mode options) digest verdict lists issuer now octets s)
+
+-- ---- files
+
+-- What files are judged by.
+pub record Grounds : Type 0 where
+  pub options : Options
+  pub locator : Option GivenLocator
+  pub lists : List GivenList
+  pub issuer : Validated
+  pub now : Moment
+
+-- What is said of a signed object of a kind by these grounds. Digests are SHA-256, and signatures
+-- RSASSA-PKCS1-v1_5 with SHA-256 (RFC 7935, section 2; RFC 8017, section 8.2.2).
+abbrev pub IsSaidOfSigned : Grounds → Kind → List ℕ → Output → Type 0
+IsSaidOfSigned g kind octets s =
+    JudgedUnder g.options kind sha256 is_rsa_signature g.lists g.issuer g.now octets s
+
+-- what a locator supplies, if there is one: its key
+abbrev pub located_by : Option GivenLocator → List Supply
+located_by None = []
+located_by (Some l) = Supply.Tal l.key ∷ []
+
+-- what an attestation is checked with: the locator, if there is one, and the issuer
+abbrev pub supplied_by : Grounds → List Supply
+supplied_by g = located_by g.locator ++ supply_of (Ca g.issuer) ∷ []
+
+-- What is said of an attestation by these grounds. It carries lists, and of others nothing is asked.
+-- The cryptography is `Rsa`, which has one value.
+abbrev pub IsSaidOfRta : Grounds → List ℕ → Output → Type 0
+IsSaidOfRta g octets s = AttestedUnder Included (λ (_ : Rsa). sha256) (λ (_ : Rsa). is_rsa_signature)
+    (record {}) g.now (supplied_by g) octets s
+
+-- What is said of an object by these grounds.
+abbrev pub IsSaidOfKind : Grounds → ObjectKind → List ℕ → Output → Type 0
+IsSaidOfKind g (Signed kind) octets s = IsSaidOfSigned g kind octets s
+IsSaidOfKind g Rta octets s = IsSaidOfRta g octets s
+
+abbrev pub IsSaidOfObject : Grounds → GivenFile ObjectKind → Output → Type 0
+IsSaidOfObject g file s = IsSaidOfKind g file.kind file.octets s
+
+-- ---- step by step
+
+-- what is said where memory suffices for this cause, or not
+abbrev pub IsCauseRefused : Result (String Global) AllocError → Output → Type 0
+IsCauseRefused (Ok cause) s = s ≡ refused (string_bytes cause)
+IsCauseRefused (Err e) s = s ≡ out_of_memory

@@ -1,0 +1,183 @@
+//! What is said of the files of a check: of a locator, of revocation lists, of certificates, and of
+//! objects under the issuer that these make.
+
+ghost use Rattle.std.specs.Prelude.{◌≡◌, ◌⊎◌, ◌≤◌, length, option_map};
+ghost use Rattle.std.specs.List.{zip};
+ghost use Rattle.rpki_certs.specs.Issuer.{octets_of};
+ghost use Rattle.rpki_cli.specs.Answer.{out_of_memory, said};
+ghost use Rattle.rpki_cli.specs.Words.{texts};
+ghost use Rattle.rpki_cli.specs.Verify.CheckSettings.{check_values, check_names, word_given};
+ghost use Rattle.rpki_cli.specs.Verify.CheckSettings.{text_given};
+ghost use Rattle.rpki_command.specs.Verify.Checks.{first_of};
+ghost use Rattle.rpki_command.specs.Verify.Checks.{IsLocatorOf, SaidUnder, SaidWithLists};
+ghost use Rattle.rpki_command.specs.Verify.Checks.{CheckedOf, bad_list};
+
+use crate::verify::each::{AskedFile, answer_each, asked_files};
+use crate::verify::issuers::{
+    CertFiles, NamedLocator, NotLocator, issuer_of, locator_in, refused_by,
+};
+use crate::verify::objects::CheckUnder;
+use crate::verify::revoked::{NamedList, NotLists, lists_in};
+use rpki_basics::Time;
+use rpki_cli::answer::Answer;
+use rpki_cli::verify::check_settings::CheckSettings;
+use rpki_cli::verify::requests::ObjectKind;
+use rpki_cli::words::Options;
+use rpki_rsa::Rsa;
+use std::alloc::Global;
+
+/// What is said of the files of a check with these options, at a moment: first of the locator, where
+/// one is set, then of the revocation lists, then of the certificates, and then of the objects under
+/// the issuer that these make, which is validated once. The octets stand in the order of
+/// `check_names`, and the kinds are those of the objects.
+///
+/// A locator that is none is `BadLocator`, and a file that begins with no list `Reported`, with
+/// status 2. Certificates that make no issuer are refused as `refused_by` says. Of one object is
+/// said what `check` says of it, and where it is good and a list revokes its certificate, that it
+/// is refused for that; of several an entry for each, with status 0 where each is good.
+pub fn check_each<'a>(
+    alloc: Global,
+    options: Options,
+    settings: &CheckSettings<'a>,
+    kinds: &[ObjectKind],
+    now: Time,
+    files: &[Vec<u8>],
+) -> Answer<'a>
+    requires kinds { length kinds.now ≡ length settings.now.files.items }
+    requires files { length (check_names (check_values settings.now)) ≤ length files.now }
+    ensures { CheckedOf options (check_values settings.now) kinds.now now
+        (octets_of files.now) (said result) }
+{
+    match files {
+        [anchor, below @ ..] => {
+            let located = &below[settings.cas.len()..];
+            let listed = &located[count_of(settings.tal)..];
+            let objects = &listed[settings.crls.len()..];
+            match asked_files(alloc, &settings.files, kinds, objects) {
+                Err(_) => Answer::OutOfMemory,
+                Ok(objects) => {
+                    let certs = CertFiles {
+                        name: settings.ta,
+                        anchor,
+                        names: &settings.cas,
+                        chain: below,
+                    };
+                    match locator_if(alloc, settings.tal, located) {
+                        Err(NotLocator::Bad(name)) => Answer::BadLocator(name),
+                        Err(NotLocator::Memory) => Answer::OutOfMemory,
+                        Ok(locator) => check_listed(
+                            alloc, options, settings, now, &certs, locator, listed, &objects,
+                        ),
+                    }
+                }
+            }
+        }
+        _ => unreachable!(),
+    }
+}
+
+/// How many files a locator has.
+fn count_of(locator: Option<&str>) -> usize
+    ensures { result ≡ length (word_given (text_given locator.entry)) }
+{
+    match locator {
+        None => 0,
+        Some(_) => 1,
+    }
+}
+
+/// The locator in the first of these files, where one has this name.
+fn locator_if<'a>(
+    alloc: Global,
+    name: Option<&'a str>,
+    files: &[Vec<u8>],
+) -> Result<Option<NamedLocator<'a>>, NotLocator<'a>>
+    requires { length (word_given (text_given name)) ≤ length files.now }
+    ensures { IsLocatorOf (option_map (λ n. (n, first_of (octets_of files.now)))
+        (text_given name.entry)) result }
+{
+    match name {
+        None => Ok(None),
+        Some(name) => match locator_in(alloc, name, &files[0]) {
+            Ok(locator) => Ok(Some(locator)),
+            Err(fault) => Err(fault),
+        },
+    }
+}
+
+/// What is said of certificates and objects, where this locator is given, and where the first of
+/// these files are those of the lists.
+fn check_listed<'a>(
+    alloc: Global,
+    options: Options,
+    settings: &CheckSettings<'_>,
+    now: Time,
+    certs: &CertFiles<'_>,
+    locator: Option<NamedLocator<'_>>,
+    files: &[Vec<u8>],
+    objects: &[AskedFile<'_, ObjectKind>],
+) -> Answer<'a>
+    ensures { SaidWithLists options now certs.now
+        (zip (texts settings.now.crls.items) (octets_of files.now)) objects.now locator.entry
+        (said result) }
+{
+    match lists_in(alloc, &settings.crls, files) {
+        Err(NotLists::Bad(name)) => bad_list(alloc, name),
+        Err(NotLists::Memory) => Answer::OutOfMemory,
+        Ok(lists) => {
+            let locator = locator.as_ref();
+            let answer = check_under(alloc, options, now, certs, locator, &lists, objects);
+            drop(lists);
+            answer
+        }
+    }
+}
+
+/// The answer where the file of this name begins with no list.
+fn bad_list<'a>(alloc: Global, file: &str) -> Answer<'a>
+    ensures { (said result ≡ out_of_memory) ⊎ (said result ≡ bad_list file.now) }
+{
+    match format!(in alloc; "bad list {file}\n") {
+        Ok(err) => Answer::Reported {
+            out: String::new(alloc),
+            err,
+            status: 2,
+        },
+        Err(_) => Answer::OutOfMemory,
+    }
+}
+
+/// What is said of these objects under the issuer that the certificates make, where this locator
+/// and these lists are given.
+fn check_under<'a>(
+    alloc: Global,
+    options: Options,
+    moment: Time,
+    certs: &CertFiles<'_>,
+    locator: Option<&NamedLocator<'_>>,
+    lists: &[NamedList<'_>],
+    objects: &[AskedFile<'_, ObjectKind>],
+) -> Answer<'a>
+    ensures { SaidUnder options moment certs.now objects.now
+        (option_map (λ l. l.now) locator.entry) lists.now (said result) }
+{
+    match issuer_of(alloc, certs, locator, lists, &Rsa, moment) {
+        Err(refusal) => {
+            let answer = refused_by(alloc, &refusal);
+            drop(refusal);
+            answer
+        }
+        Ok(issuer) => {
+            let judge = CheckUnder {
+                options,
+                locator,
+                lists,
+                issuer: &issuer,
+                moment,
+            };
+            let answer = answer_each(alloc, &judge, objects);
+            drop(issuer);
+            answer
+        }
+    }
+}

@@ -1,0 +1,42 @@
+//! What the definitions of a check of several files say, as functions that do nothing.
+
+ghost use Rattle.std.specs.Prelude.{◌≡◌, ◌↔◌, ℕ, List, [], All};
+ghost use Rattle.rpki_basics.specs.Moment.{Moment};
+ghost use Rattle.rpki_certs.specs.Validate.{Validated};
+ghost use Rattle.rpki_certs.specs.Verify.{Verdict};
+ghost use Rattle.rpki_cli.specs.Answer.{Output};
+ghost use Rattle.rpki_cli.specs.declared.causes.Causes.TheVariants.{Included};
+ghost use Rattle.rpki_cli.specs.declared.words.Kind.{Kind};
+ghost use Rattle.rpki_cli.specs.declared.words.Options.{Options};
+ghost use Rattle.rpki_sigobj.specs.Verify.{Digester};
+ghost use Rattle.rpki_command.specs.Check.{CheckedUnder};
+ghost use Rattle.rpki_command.specs.Verify.Checks.{CheckedFiles, IsSaidOfFiles};
+ghost use Rattle.rpki_command.specs.Verify.Each.{GivenFile, IsSaidOfEach};
+ghost use Rattle.rpki_command.specs.Verify.Good.{AreGood};
+ghost use Rattle.rpki_command.specs.Verify.Objects.{JudgedUnder};
+ghost use Rattle.rpki_command.specs.Yes.{status_of};
+
+use crate::verify::each::Judge;
+
+/// A yes of several files is a yes of each: where what is said of them has status 0, so has
+/// something that the judge says of each.
+pub fn a_yes_of_several_is_one_of_each<J: Judge>()
+    ensures { (judge : J) (files : List (GivenFile J.Kind)) (s : Output)
+        → IsSaidOfEach (J.says judge) files s → status_of s ≡ 0
+        → All (λ f. (said : Output) × J.says judge f said × (status_of said ≡ 0)) files }
+{}
+
+/// Where what is said of the files of a check has status 0, the certificates make an issuer, and
+/// under it each object is good, and no list revokes its certificate.
+pub fn checks_of_files_are_right()
+    ensures { (options : Options) (now : Moment) (f : CheckedFiles) (s : Output)
+        → IsSaidOfFiles options now f s → status_of s ≡ 0 → AreGood options now f }
+{}
+
+/// Without lists, what is said of an object under an issuer is what a check of one file says of it.
+pub fn without_lists_objects_are_checked()
+    ensures { (options : Options) (kind : Kind) (digest : Digester) (verdict : Verdict)
+        (issuer : Validated) (now : Moment) (octets : List ℕ) (s : Output)
+        → JudgedUnder options kind digest verdict [] issuer now octets s
+        ↔ CheckedUnder Included options kind digest verdict issuer now octets s }
+{}

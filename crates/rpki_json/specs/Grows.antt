@@ -1,0 +1,36 @@
+-- Texts that grow.
+use Rattle.std.specs.Prelude.{◌≡◌, ℕ, List, ◌++◌, Option, IfSome, Result, OnOk, String}
+use Rattle.std.specs.Prelude.{string_bytes}
+use Rattle.std.specs.Borrow.{MutBor}
+use Rattle.std.specs.declared.alloc.AllocError.{AllocError}
+use Rattle.std.specs.declared.alloc.Global.{Global}
+
+-- a text grows by these octets, unless memory runs out
+abbrev pub Grows : Result (Unit {0}) AllocError → String Global → String Global → List ℕ → Type 0
+Grows result old new octets = OnOk result (string_bytes new ≡ string_bytes old ++ octets)
+
+-- A text grows by what is written of what a value displays, where that is known, unless memory runs
+-- out.
+abbrev pub GrowsBy : Result (Unit {0}) AllocError → String Global → String Global
+    → Option (List ℕ) → (List ℕ → List ℕ) → Type 0
+GrowsBy result old new shown written =
+    OnOk result (IfSome shown (λ s. string_bytes new ≡ string_bytes old ++ written s))
+
+-- A call that is handed a text and an item, and of which this is known, appends the line of what
+-- the item says, unless memory runs out.
+abbrev pub AppendsLine : {Item Shown : Type 0}
+    → (MutBor (String Global) → Item → Result (Unit {0}) AllocError → MutBor (String Global)
+    → Type 0)
+    → (Item → Shown) → (Shown → List ℕ) → Type 0
+AppendsLine {Item} called shown line = (item : Item) (text : MutBor (String Global))
+    (result : Result (Unit {0}) AllocError) (after : MutBor (String Global))
+    → called text item result after → Grows result text.now after.now (line (shown item))
+
+-- A call that is handed a text, and of which this is known, appends these octets, unless memory
+-- runs out.
+abbrev pub AppendsText : (MutBor (String Global) → Result (Unit {0}) AllocError
+    → MutBor (String Global) → Type 0)
+    → List ℕ → Type 0
+AppendsText called octets = (text : MutBor (String Global)) (result : Result (Unit {0}) AllocError)
+    (after : MutBor (String Global))
+    → called text result after → Grows result text.now after.now octets

@@ -1,0 +1,5 @@
+pub mod Grammar
+pub mod Grows
+pub mod Members
+pub mod Separated
+pub mod Text

@@ -1,0 +1,275 @@
+-- The numbers that JSON says of a file are below 2^64.
+use Rattle.std.proofs.Common.{ℕ, ◌≤◌, ◌<◌, ◌^◌, List, [], ◌∷◌, ◌++◌, All, Option, Some, None, map}
+use Rattle.std.proofs.Common.{refl, arith, codes}
+use Rattle.std.specs.Prelude.{IfSome, unwrap_or}
+use Rattle.std.proofs.lemmas.List.Elements.{All-head, All-tail}
+use Rattle.rpki_certs.specs.Cert.{Certificate, Tbs}
+use Rattle.rpki_extensions.specs.declared.claims.Claims.{Claims}
+use Rattle.rpki_extensions.specs.declared.keys.KeyFacts.{KeyFacts}
+use Rattle.rpki_extensions.specs.declared.locations.Locations.{Locations}
+use Rattle.rpki_files.specs.Checked.{Checked}
+use Rattle.rpki_files.specs.Checklist.{Checklist}
+use Rattle.rpki_files.specs.File.{File}
+use Rattle.rpki_files.specs.Manifest.{Manifest}
+use Rattle.rpki_json.specs.Grammar.{Json, items_of, IsText}
+use Rattle.rpki_json.specs.Members.{Member, members_of, object_of, boolean_member, HasWords}
+use Rattle.rpki_json.specs.Members.{HaveWords, MembersHaveWords}
+use Rattle.rpki_json.specs.Text.{json_text}
+use Rattle.rpki_json.proofs.Values.{is-value}
+use Rattle.rpki_multi.specs.Attestation as attestations
+use Rattle.rpki_resources.specs.Family.{max_bits}
+use Rattle.rpki_resources.specs.declared.block.Block.{Block}
+use Rattle.rpki_resources.specs.declared.family.AddressFamily.{AddressFamily}
+use Rattle.rpki_resources.specs.declared.family.AddressFamily.TheVariants.{Ipv4, Ipv6}
+use Rattle.rpki_resources.specs.declared.ip.IpBlock.{IpBlock}
+use Rattle.rpki_resources.specs.declared.asn.AsBlock.{AsBlock}
+use Rattle.rpki_resources.specs.As.{as_block}
+use Rattle.rpki_resources.specs.Ip.{ip_block}
+use Rattle.rpki_resources.specs.declared.resources.Claim.{Claim}
+use Rattle.rpki_resources.specs.declared.resources.Claim.TheVariants.{Missing, Inherit, Explicit}
+use Rattle.rpki_routes.specs.Aspa.{Aspa}
+use Rattle.rpki_routes.specs.Roa.{Roa, Address, FamilyAddress, IsRoa, IsAddress, IsMaxLength}
+use Rattle.rpki_routes.specs.Roa.{of_family}
+use Rattle.rpki_show.specs.Dated.{DatedList}
+use Rattle.rpki_show.specs.Json.Aspa.{asn_value, aspa_members}
+use Rattle.rpki_show.specs.Json.Blocks.{as_value, ip_value}
+use Rattle.rpki_show.specs.Json.Certificate.{authority_members, key_members, issued_members}
+use Rattle.rpki_show.specs.Json.Certificate.{access_members, location_members, as_claim_members}
+use Rattle.rpki_show.specs.Json.Certificate.{ip_claim_members, claim_members, signer_members}
+use Rattle.rpki_show.specs.Json.Certificate.{certificate_members, is_ca}
+use Rattle.rpki_show.specs.Json.Crl.{revoked_value, crl_members}
+use Rattle.rpki_show.specs.Json.File.{file_json, file_members}
+use Rattle.rpki_show.specs.Json.Manifest.{file_value, manifest_members}
+use Rattle.rpki_show.specs.Json.Named.{serial_member, moment_member, key_member, text_members}
+use Rattle.rpki_show.specs.Json.Object.{signed_members}
+use Rattle.rpki_show.specs.Json.Roa.{vrp_value, roa_members}
+use Rattle.rpki_show.specs.Json.Rsc.{hashed_value, checked_value, rsc_members}
+use Rattle.rpki_show.specs.Json.Rta.{subject_value, rta_members}
+use Rattle.rpki_show.specs.Json.Tal.{uri_value, tal_members}
+use Rattle.rpki_show.specs.declared.dated.DatedEntry.{DatedEntry}
+use Rattle.rpki_sigobj.specs.Object.{SignedObject}
+use Rattle.rpki_basics.specs.Moment.{Moment}
+use Rattle.rpki_tal.specs.declared.uri.TalUri.{TalUri}
+
+-- the numbers among these members are below 2^64
+abbrev Words : List Member → Type 0
+Words members = MembersHaveWords (members_of members)
+
+-- ---- lists
+
+each : {X : Type 0} (value : X → Json) → ((x : X) → HasWords (value x)) → (xs : List X)
+    → HaveWords (items_of value xs)
+each value h [] = tt
+each value h (x ∷ xs) = (h x, each value h xs)
+
+both : {X : Type 0} (value : X → Json) (xs ys : List X) → HaveWords (items_of value xs)
+    → HaveWords (items_of value ys) → HaveWords (items_of value (xs ++ ys))
+both value [] ys h k = k
+both value (x ∷ xs) ys h k = (h.0, both value xs ys h.1 k)
+
+pub joined : (a b : List Member) → Words a → Words b → Words (a ++ b)
+joined [] b h k = k
+joined (m ∷ ms) b h k = (h.0, joined ms b h.1 k)
+
+-- ---- contents
+
+pub aspa-words : (a : Aspa) → Words (aspa_members a)
+aspa-words a = (tt, (each asn_value (λ n. tt) a.providers, tt))
+
+moment-words : (name : List ℕ) (m : Moment) → HasWords (moment_member name m).value
+unfolding moment_member
+moment-words name m = tt
+
+file-words : (f : File) → HasWords (file_value f)
+file-words f = (tt, (tt, tt))
+
+pub manifest-words : (m : Manifest) → Words (manifest_members m)
+manifest-words m = (
+  tt,
+  (
+    moment-words (codes "this_update") m.this_update,
+    (moment-words (codes "next_update") m.next_update, (each file_value file-words m.files, tt)),
+  ),
+)
+
+checked-words : (name : Option (List ℕ)) (hash : List ℕ) → HasWords (hashed_value name hash)
+checked-words (Some name) hash = (tt, (tt, tt))
+checked-words None hash = (tt, tt)
+
+pub rsc-words : (l : Checklist) → Words (rsc_members l)
+rsc-words l = (
+  each as_value (λ b. tt) (map as_block l.as_resources),
+  (
+    each (ip_value Ipv4) (λ b. tt) (map ip_block l.v4_resources),
+    (
+      each (ip_value Ipv6) (λ b. tt) (map ip_block l.v6_resources),
+      (each checked_value (λ f. checked-words f.file_name f.hash) l.files, tt),
+    ),
+  ),
+)
+
+-- the maximum length is at most that of an address of IPv6
+longest : (family : AddressFamily) (max : Option ℕ) (len : ℕ) → len ≤ max_bits family
+    → IfSome max (IsMaxLength family len) → unwrap_or max len < 2 ^ 64
+longest Ipv4 None len w l = omega (arith, w)
+longest Ipv6 None len w l = omega (arith, w)
+longest Ipv4 (Some max) len w l = omega (arith, l.1)
+longest Ipv6 (Some max) len w l = omega (arith, l.1)
+
+family-words : (asn : ℕ) (family : AddressFamily) (xs : List Address)
+    → All (IsAddress family) xs
+    → HaveWords (items_of (vrp_value asn) (map (of_family family) xs))
+family-words asn family [] h = tt
+family-words asn family (x ∷ xs) h =
+    let first = All-head (IsAddress family) x xs h in (
+      (tt, (tt, (longest family x.max_length x.prefix.len first.prefix.within first.longest, tt))),
+      family-words asn family xs (All-tail (IsAddress family) x xs h),
+    )
+
+pub roa-words : (r : Roa) → IsRoa r → Words (roa_members r)
+roa-words r h = (
+  both (vrp_value r.as_id) (map (of_family Ipv4) r.v4) (map (of_family Ipv6) r.v6)
+      (family-words r.as_id Ipv4 r.v4 h.v4) (family-words r.as_id Ipv6 r.v6 h.v6),
+  tt,
+)
+
+-- ---- certificates
+
+serial-words : (name : List ℕ) (n : ℕ) → HasWords (serial_member name n).value
+unfolding serial_member
+serial-words name n = tt
+
+key-words : (name id : List ℕ) → HasWords (key_member name id).value
+unfolding key_member
+key-words name id = tt
+
+text-words : (name : List ℕ) (text : Option (List ℕ)) → Words (text_members name text)
+unfolding text_members
+text-words name (Some text) = (tt, tt)
+text-words name None = tt
+
+authority-words : (key : Option (List ℕ)) → Words (authority_members key)
+unfolding authority_members
+authority-words (Some id) = (key-words (codes "aki") id, tt)
+authority-words None = tt
+
+issued-words : (t : Tbs) → Words (issued_members t)
+issued-words t = (
+  serial-words (codes "serial") t.serial_number,
+  (
+    moment-words (codes "valid_since") t.validity.not_before,
+    (moment-words (codes "valid_until") t.validity.not_after, tt),
+  ),
+)
+
+location-words : (l : Locations) → Words (location_members l)
+location-words l =
+    let a = l.subject in
+    let repository = text-words (codes "carepository") a.ca_repository in
+    let manifest = text-words (codes "manifest") a.rpki_manifest in
+    let notify = text-words (codes "rrdp") a.rpki_notify in
+    let object = text-words (codes "sia") a.signed_object in
+    let issuer = text-words (codes "aia") l.ca_issuer in
+    let crl = text-words (codes "crl") l.crl in
+    joined (access_members a) _
+    (joined (text_members (codes "carepository") a.ca_repository) _ repository
+    (joined (text_members (codes "manifest") a.rpki_manifest) _ manifest
+    (joined (text_members (codes "rrdp") a.rpki_notify) _ notify object)))
+    (joined (text_members (codes "aia") l.ca_issuer) _ issuer crl)
+
+signer-words : (c : Certificate) → Words (signer_members c)
+unfolding signer_members
+signer-words c =
+    let x = c.tbs.extensions in
+    joined (issued_members c.tbs) (key_members x.key ++ location_members x.locations)
+    (issued-words c.tbs)
+    (joined (key_members x.key) (location_members x.locations)
+    (key-words (codes "ski") x.key.subject_key, authority-words x.key.authority_key)
+    (location-words x.locations))
+
+as-claim-words : (claim : Claim (List (Block ℕ))) → Words (as_claim_members claim)
+unfolding as_claim_members
+as-claim-words Missing = tt
+as-claim-words Inherit = (tt, tt)
+as-claim-words (Explicit set) = (each as_value (λ b. tt) (map as_block set), tt)
+
+ip-claim-words : (name : List ℕ) (family : AddressFamily) (claim : Claim (List (Block ℕ)))
+    → Words (ip_claim_members name family claim)
+unfolding ip_claim_members
+ip-claim-words name family Missing = tt
+ip-claim-words name family Inherit = (tt, tt)
+ip-claim-words name family (Explicit set) =
+    (each (ip_value family) (λ b. tt) (map ip_block set), tt)
+
+claim-words : (c : Claims) → Words (claim_members c)
+claim-words c =
+    let v4 = ip_claim_members (codes "ipv4") Ipv4 c.addresses.v4 in
+    let v6 = ip_claim_members (codes "ipv6") Ipv6 c.addresses.v6 in
+    joined (as_claim_members c.as_numbers) (v4 ++ v6) (as-claim-words c.as_numbers)
+    (joined v4 v6 (ip-claim-words (codes "ipv4") Ipv4 c.addresses.v4)
+    (ip-claim-words (codes "ipv6") Ipv6 c.addresses.v6))
+
+pub certificate-words : (c : Certificate) → Words (certificate_members c)
+unfolding certificate_members
+certificate-words c =
+    let x = c.tbs.extensions in
+    joined (signer_members c)
+    (boolean_member (codes "ca") (is_ca x.key.basic_ca) ∷ claim_members x.claims)
+    (signer-words c) (tt, claim-words x.claims)
+
+-- ---- what is signed, lists and locators
+
+pub signed-words : (o : SignedObject) → Words (signed_members o)
+signed-words o = (
+  moment-words (codes "signing_time") o.signed.signer.attributes.signing_time,
+  signer-words o.signed.cert,
+)
+
+revoked-words : (e : DatedEntry) → HasWords (revoked_value e)
+revoked-words e = (serial-words (codes "serial") e.serial, (moment-words (codes "date") e.date, tt))
+
+pub crl-words : (l : DatedList) → Words (crl_members l)
+crl-words l = (
+  serial-words (codes "crl_number") l.extensions.number,
+  (
+    moment-words (codes "this_update") l.this_update,
+    (
+      moment-words (codes "next_update") l.next_update,
+      (
+        key-words (codes "aki") l.extensions.authority_key,
+        (each revoked_value revoked-words l.revoked, tt),
+      ),
+    ),
+  ),
+)
+
+pub tal-words : (uris : List TalUri) (key : List ℕ) → Words (tal_members uris key)
+tal-words uris key = (each uri_value (λ u. tt) uris, (key-words (codes "key_id") _, tt))
+
+pub rta-words : (r : attestations.Whole) → Words (rta_members r)
+rta-words r =
+    let a = r.content in (
+      each subject_value (λ k. tt) a.subject_keys,
+      (
+        each as_value (λ b. tt) (map as_block a.as_resources),
+        (
+          each (ip_value Ipv4) (λ b. tt) (map ip_block a.v4_resources),
+          (each (ip_value Ipv6) (λ b. tt) (map ip_block a.v6_resources), (tt, tt)),
+        ),
+      ),
+    )
+
+-- ---- lines
+
+pub line-is : (name type : List ℕ) (members : List Member) → Words members
+    → IsText (file_json name type members) (object_of (file_members name type members))
+unfolding file_json
+line-is name type members h = record {
+  before = [];
+  inside = json_text (object_of (file_members name type members));
+  after = codes "\n";
+  parts = refl;
+  space_before = refl;
+  space_after = refl;
+  is = is-value (object_of (file_members name type members)) (tt, (tt, h));
+}

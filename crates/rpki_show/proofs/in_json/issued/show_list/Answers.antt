@@ -1,0 +1,12 @@
+-- One beginning of the source at most is a revocation list.
+use Rattle.rpki_show.proofs.Shown.{shown-refusal, shown-lines}
+use Rattle.rpki_show.proofs.in_json.issued.show_list.Goals as goal
+
+pub returns-in-Err : goal.returns-in-Err
+returns-in-Err c =
+    shown-refusal _ _ _ _ _ c.in-Err.error c.refusal.ensures c.in-Err.ensures
+
+pub returns-in-Ok : goal.returns-in-Ok
+returns-in-Ok c =
+    shown-lines _ _ _ _ _ c.in-Ok.list c.in-Ok.ensures.0 c.in-Ok.ensures.1
+    c.show_list_line-answer.ensures

@@ -1,0 +1,9 @@
+use Rattle.rpki_cli.specs.Answer.{said}
+use Rattle.rpki_show.proofs.Shown.{whole_of_kind}
+use Rattle.rpki_show.proofs.whole.show_whole_object.Goals as goal
+
+pub returns : goal.returns
+returns c =
+    whole_of_kind c.args.causes c.args.options c.args.kind c.args.octets.items
+    (said c.answer_for.result)
+    c.answer_for.ensures

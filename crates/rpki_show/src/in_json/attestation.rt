@@ -1,0 +1,50 @@
+//! What the programs show of attestations in JSON.
+
+ghost use Rattle.std.specs.Prelude.{codes};
+ghost use Rattle.rpki_multi.specs.Attestation.{whole_of};
+ghost use Rattle.rpki_cli.specs.Answer.{said};
+ghost use Rattle.rpki_cli.specs.Shown.{IsShown, IsLinesOf};
+ghost use Rattle.rpki_show.specs.Attestation.{RtaJson};
+ghost use Rattle.rpki_show.specs.Json.File.{file_json};
+ghost use Rattle.rpki_show.specs.Json.Rta.{rta_members};
+
+use crate::json::file::show_file;
+use crate::json::rta::push_rta;
+use bytes::Bytes;
+use rpki_cli::answer::Answer;
+use rpki_cli::{Causes, refusal};
+use rpki_multi::Rta;
+use std::alloc::Global;
+
+/// Answers with the object of JSON that says what the attestation at the front of the octets is, if
+/// there is one: under its name, in a line of its own.
+pub fn show_rta_json<'a>(alloc: Global, causes: Causes, name: &str, octets: Vec<u8>) -> Answer<'a>
+    ensures { IsShown causes (RtaJson name.now) octets.items (said result) }
+{
+    match Bytes::from_vec(octets) {
+        Ok(source) => show_object(alloc, causes, name, source),
+        Err(_) => Answer::OutOfMemory,
+    }
+}
+
+/// Answers in JSON with the attestation at the front of the source, if there is one.
+fn show_object<'a>(alloc: Global, causes: Causes, name: &str, source: Bytes) -> Answer<'a>
+    ensures { IsShown causes (RtaJson name.now) source (said result) }
+{
+    match Rta::decode(alloc, source) {
+        Err(error) => refusal(alloc, causes, error),
+        Ok(rta) => {
+            let answer = show_line(alloc, name, &rta);
+            drop(rta);
+            answer
+        }
+    }
+}
+
+/// The line of an attestation in JSON.
+fn show_line<'a>(alloc: Global, name: &str, rta: &Rta) -> Answer<'a>
+    ensures { IsLinesOf (file_json name.now (codes "rta") (rta_members (whole_of rta.now)))
+        (said result) }
+{
+    show_file(alloc, name, "rta", |text| push_rta(alloc, text, rta))
+}

@@ -1,0 +1,216 @@
+//! The members of a certificate.
+
+ghost use Rattle.std.specs.Prelude.{◌≡◌, codes};
+ghost use Rattle.std.specs.List.{flat_map};
+ghost use Rattle.rpki_json.specs.Grows.{Grows};
+ghost use Rattle.rpki_json.specs.Members.{further_text};
+ghost use Rattle.rpki_show.specs.Json.Certificate.{certificate_members, signer_members};
+ghost use Rattle.rpki_show.specs.Json.Certificate.{issued_members, key_members, access_members};
+ghost use Rattle.rpki_show.specs.Json.Certificate.{authority_members, location_members, is_ca};
+ghost use Rattle.rpki_show.specs.Json.Certificate.{claim_members, as_claim_members};
+ghost use Rattle.rpki_show.specs.Json.Certificate.{ip_claim_members};
+ghost use Rattle.rpki_show.specs.Json.Named.{text_members};
+
+use crate::json::blocks::{push_as_blocks, push_ip_blocks};
+use crate::json::named::{push_https, push_key, push_moment, push_rsync, push_serial};
+use rpki_basics::KeyIdentifier;
+use rpki_certs::Cert;
+use rpki_json::{push_boolean, push_text};
+use rpki_resources::{AddressFamily, AsResources, Claim, IpResources};
+use std::alloc::{AllocError, Global};
+
+/// Appends the members of a certificate: those of `push_signer`, `ca`, and `asns`, `ipv4` and
+/// `ipv6`, each of them an array of blocks or `inherit`, where it is claimed. Refuses where memory
+/// runs out.
+#[tactic(auto, unfolding(crate::specs::Json::Certificate::certificate_members))]
+pub fn push_certificate(alloc: Global, text: &mut String, cert: &Cert) -> Result<(), AllocError>
+    ensures { Grows result text.old text.new
+        (flat_map further_text (certificate_members cert.now.certificate)) }
+{
+    push_signer(alloc, text, cert)?;
+    push_boolean(text, "ca", is_ca(cert.basic_ca()))?;
+    push_claims(alloc, text, cert)
+}
+
+/// Whether its subject is a CA.
+fn is_ca(basic_ca: Option<bool>) -> bool
+    ensures { result ≡ is_ca basic_ca }
+{
+    match basic_ca {
+        Some(true) => true,
+        Some(false) => false,
+        None => false,
+    }
+}
+
+/// Appends the members of a certificate that signed something: `serial`, `valid_since`,
+/// `valid_until`, `ski`, `aki`, and where something lies: `carepository`, `manifest`, `rrdp`,
+/// `sia`, `aia` and `crl`, each where there is one. Refuses where memory runs out.
+#[tactic(auto, unfolding(crate::specs::Json::Certificate::signer_members))]
+pub fn push_signer(alloc: Global, text: &mut String, cert: &Cert) -> Result<(), AllocError>
+    ensures { Grows result text.old text.new
+        (flat_map further_text (signer_members cert.now.certificate)) }
+{
+    push_issued(alloc, text, cert)?;
+    push_keys(alloc, text, cert)?;
+    push_locations(text, cert)
+}
+
+/// Appends the serial number and the validity.
+fn push_issued(alloc: Global, text: &mut String, cert: &Cert) -> Result<(), AllocError>
+    ensures { Grows result text.old text.new
+        (flat_map further_text (issued_members cert.now.certificate.tbs)) }
+{
+    push_serial(alloc, text, "serial", cert.serial_number())?;
+    let validity = cert.validity();
+    push_moment(alloc, text, "valid_since", validity.not_before())?;
+    push_moment(alloc, text, "valid_until", validity.not_after())
+}
+
+/// Appends the identifiers of keys.
+fn push_keys(alloc: Global, text: &mut String, cert: &Cert) -> Result<(), AllocError>
+    ensures { Grows result text.old text.new
+        (flat_map further_text (key_members cert.now.certificate.tbs.extensions.key)) }
+{
+    push_key(alloc, text, "ski", cert.subject_key_identifier())?;
+    push_authority(alloc, text, cert.authority_key_identifier())
+}
+
+/// Appends the identifier of the issuer's key, if there is one.
+#[tactic(auto, unfolding(crate::specs::Json::Certificate::authority_members))]
+fn push_authority(
+    alloc: Global,
+    text: &mut String,
+    key: Option<KeyIdentifier>,
+) -> Result<(), AllocError>
+    ensures { Grows result text.old text.new (flat_map further_text (authority_members key)) }
+{
+    match key {
+        None => Ok(()),
+        Some(key) => push_key(alloc, text, "aki", key),
+    }
+}
+
+/// Appends where something lies.
+fn push_locations(text: &mut String, cert: &Cert) -> Result<(), AllocError>
+    ensures { Grows result text.old text.new
+        (flat_map further_text (location_members cert.now.certificate.tbs.extensions.locations)) }
+{
+    push_access(text, cert)?;
+    push_ca_issuer(text, cert)?;
+    push_crl_uri(text, cert)
+}
+
+/// Appends what is to be had from the subject.
+fn push_access(text: &mut String, cert: &Cert) -> Result<(), AllocError>
+    ensures { Grows result text.old text.new (flat_map further_text
+        (access_members cert.now.certificate.tbs.extensions.locations.subject)) }
+{
+    push_repository(text, cert)?;
+    push_manifest_uri(text, cert)?;
+    push_notify(text, cert)?;
+    push_signed_object(text, cert)
+}
+
+/// Appends the folder in which its subject publishes, if it says where.
+fn push_repository(text: &mut String, cert: &Cert) -> Result<(), AllocError>
+    ensures { Grows result text.old text.new (flat_map further_text (text_members
+        (codes "carepository")
+        cert.now.certificate.tbs.extensions.locations.subject.ca_repository)) }
+{
+    push_rsync(text, "carepository", cert.ca_repository())
+}
+
+/// Appends the manifest of its subject, if it says where.
+fn push_manifest_uri(text: &mut String, cert: &Cert) -> Result<(), AllocError>
+    ensures { Grows result text.old text.new (flat_map further_text (text_members
+        (codes "manifest") cert.now.certificate.tbs.extensions.locations.subject.rpki_manifest)) }
+{
+    push_rsync(text, "manifest", cert.rpki_manifest())
+}
+
+/// Appends the notification file of its subject's repository, if it says where.
+fn push_notify(text: &mut String, cert: &Cert) -> Result<(), AllocError>
+    ensures { Grows result text.old text.new (flat_map further_text (text_members
+        (codes "rrdp") cert.now.certificate.tbs.extensions.locations.subject.rpki_notify)) }
+{
+    push_https(text, "rrdp", cert.rpki_notify())
+}
+
+/// Appends the object that its key signed, if it says where.
+fn push_signed_object(text: &mut String, cert: &Cert) -> Result<(), AllocError>
+    ensures { Grows result text.old text.new (flat_map further_text (text_members
+        (codes "sia") cert.now.certificate.tbs.extensions.locations.subject.signed_object)) }
+{
+    push_rsync(text, "sia", cert.signed_object())
+}
+
+/// Appends the certificate of its issuer, if it says where.
+fn push_ca_issuer(text: &mut String, cert: &Cert) -> Result<(), AllocError>
+    ensures { Grows result text.old text.new (flat_map further_text (text_members
+        (codes "aia") cert.now.certificate.tbs.extensions.locations.ca_issuer)) }
+{
+    push_rsync(text, "aia", cert.ca_issuer())
+}
+
+/// Appends the revocation list of its issuer, if it says where.
+fn push_crl_uri(text: &mut String, cert: &Cert) -> Result<(), AllocError>
+    ensures { Grows result text.old text.new (flat_map further_text (text_members
+        (codes "crl") cert.now.certificate.tbs.extensions.locations.crl)) }
+{
+    push_rsync(text, "crl", cert.crl_uri())
+}
+
+/// Appends the numbers that are claimed.
+fn push_claims(alloc: Global, text: &mut String, cert: &Cert) -> Result<(), AllocError>
+    ensures { Grows result text.old text.new
+        (flat_map further_text (claim_members cert.now.certificate.tbs.extensions.claims)) }
+{
+    push_as_claim(alloc, text, cert.as_resources())?;
+    push_ip_claim(
+        alloc,
+        text,
+        "ipv4",
+        AddressFamily::Ipv4,
+        cert.v4_resources(),
+    )?;
+    push_ip_claim(
+        alloc,
+        text,
+        "ipv6",
+        AddressFamily::Ipv6,
+        cert.v6_resources(),
+    )
+}
+
+/// Appends the AS numbers.
+#[tactic(auto, unfolding(crate::specs::Json::Certificate::as_claim_members))]
+fn push_as_claim(alloc: Global, text: &mut String, claim: &AsResources) -> Result<(), AllocError>
+    ensures { Grows result text.old text.new
+        (flat_map further_text (as_claim_members claim.now)) }
+{
+    match claim.claim() {
+        Claim::Missing => Ok(()),
+        Claim::Inherit => push_text(text, "asns", "inherit"),
+        Claim::Explicit(blocks) => push_as_blocks(alloc, text, "asns", blocks),
+    }
+}
+
+/// Appends the addresses of this family.
+#[tactic(auto, unfolding(crate::specs::Json::Certificate::ip_claim_members))]
+fn push_ip_claim(
+    alloc: Global,
+    text: &mut String,
+    name: &str,
+    family: AddressFamily,
+    claim: &IpResources,
+) -> Result<(), AllocError>
+    ensures { Grows result text.old text.new
+        (flat_map further_text (ip_claim_members name.now family claim.now)) }
+{
+    match claim.claim() {
+        Claim::Missing => Ok(()),
+        Claim::Inherit => push_text(text, name, "inherit"),
+        Claim::Explicit(blocks) => push_ip_blocks(alloc, text, name, family, blocks),
+    }
+}

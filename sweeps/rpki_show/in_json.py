@@ -1,0 +1,253 @@
+#!/usr/bin/env python3
+"""Writes a module of tests that shows the files of examples/, and one more revocation list, as
+objects of JSON. Each text that is wanted is what Python's json module makes of the values, and is
+read back by it to these.
+
+Serial numbers, key identifiers, moments and URIs are those that `openssl` prints."""
+import base64
+import hashlib
+import json
+import pathlib
+import textwrap
+
+TREE = pathlib.Path(__file__).resolve().parent.parent.parent / "examples"
+HOST = "rsync://rpki.example.net"
+HEAD = '''//! The files of examples/ as objects of JSON, and what becomes of other octets.
+
+use rpki_cli::Causes;
+use rpki_cli::answer::Answer;
+use rpki_cli::words::{Kind, Options};
+use rpki_show::json::outcome::{push_error, push_invalid};
+use rpki_show::{
+    show_certificate_json, show_crl_json, show_object_json, show_rta_json, show_tal_json,
+    show_whole_object,
+};
+use std::alloc::{AllocError, Global};
+use std::process::Abort;
+
+/// How the octets of a file are shown.
+#[derive(Clone, Copy)]
+enum Shown {
+    Object(Kind),
+    Whole(Kind),
+    Certificate,
+    Crl,
+    Rta,
+    Tal,
+}
+
+/// The lines that are shown, or what is said in their stead.
+fn lines(alloc: Global, name: &str, octets: &[u8], shown: Shown) -> Result<String, AllocError> {
+    let options = Options { relaxed: true, registered: false, wide: false };
+    let causes = Causes::Included;
+    let file = Vec::from_slice(alloc, octets)?;
+    let answer = match shown {
+        Shown::Object(kind) => show_object_json(alloc, causes, options, kind, name, file),
+        Shown::Whole(kind) => show_whole_object(alloc, causes, options, kind, file),
+        Shown::Certificate => show_certificate_json(alloc, causes, name, file),
+        Shown::Crl => show_crl_json(alloc, causes, name, file),
+        Shown::Rta => show_rta_json(alloc, causes, name, file),
+        Shown::Tal => show_tal_json(alloc, name, octets),
+    };
+    match answer {
+        Answer::Shown(text) => Ok(text),
+        Answer::Malformed => "malformed".to_string(alloc),
+        Answer::MalformedBy(cause) => Ok(cause),
+        Answer::OutOfMemory => Err(AllocError),
+        _ => "another answer".to_string(alloc),
+    }
+}
+
+fn is_shown(
+    rt: &(impl Abort + AllocGlobal),
+    name: &str,
+    octets: &[u8],
+    shown: Shown,
+    wanted: &str,
+) -> Result<(), AllocError> {
+    let text = lines(rt.alloc(), name, octets, shown)?;
+    assert_eq!(rt; text.as_str(), wanted);
+    Ok(())
+}
+
+/// An error and a refusal, with a name of characters that stand after a backslash.
+#[test]
+fn outcomes(rt: HostRuntime) -> Result<(), AllocError> {
+    let alloc = rt.alloc();
+    let mut text = String::new(alloc);
+    push_error(&mut text, "a\\\\\\"\\u{e9}", "roa", "malformed: a prefix is too long")?;
+    push_invalid(&mut text, "b", "aspa", "refused: certificate has expired")?;
+    assert_eq!(rt; text.as_str(), OUTCOMES);
+    Ok(())
+}
+'''
+
+
+def signer(serial, ski, sia):
+    """The members of the certificate of a signer."""
+    said = {"serial": serial, "valid_since": "2026-01-01T00:00:00Z",
+            "valid_until": "2040-01-01T00:00:00Z", "ski": ski,
+            "aki": "C78637259551E49913A293A978985D33FBECF9C1"}
+    if sia:
+        said["sia"] = f"{HOST}/authority/{sia}"
+    said["aia"] = f"{HOST}/anchor/authority.cer"
+    said["crl"] = f"{HOST}/authority/authority.crl"
+    return said
+
+
+def certificate(serial, ski, aki, folder, manifest, above, asns, ipv4, ipv6):
+    """The members of the certificate of a CA."""
+    said = {"serial": serial, "valid_since": "2026-01-01T00:00:00Z",
+            "valid_until": "2040-01-01T00:00:00Z", "ski": ski}
+    if aki:
+        said["aki"] = aki
+    said |= {"carepository": f"{HOST}/{folder}/", "manifest": f"{HOST}/{folder}/{manifest}"}
+    if above:
+        said |= {"aia": f"{HOST}/{above}.cer", "crl": f"{HOST}/{above}/{above}.crl"}
+    return said | {"ca": True, "asns": asns, "ipv4": ipv4, "ipv6": ipv6}
+
+
+def der(tag, *parts):
+    """A value of DER with these contents."""
+    inside = b"".join(parts)
+    size = len(inside)
+    long = size.to_bytes((size.bit_length() + 7) // 8, "big")
+    head = bytes([size]) if size < 128 else bytes([0x80 | len(long)]) + long
+    return bytes([tag]) + head + inside
+
+
+def revoked_list():
+    """A revocation list of number 258 with two entries; its signature is not looked at."""
+    def moment(of):
+        return der(0x17, of)
+    algorithm = der(0x30, bytes.fromhex("06092a864886f70d01010b0500"))
+    name = der(0x30, der(0x31, der(0x30, bytes.fromhex("0603550403"), der(0x13, b"CA"))))
+    entries = der(0x30, der(0x30, der(0x02, b"\x01\x00"), moment(b"240102030405Z")),
+                  der(0x30, der(0x02, b"\x7f"), moment(b"250102030405Z")))
+    key = der(0x30, bytes.fromhex("0603551d23"),
+              der(0x04, der(0x30, der(0x80, bytes(range(20))))))
+    number = der(0x30, bytes.fromhex("0603551d14"), der(0x04, der(0x02, b"\x01\x02")))
+    signed = der(0x30, der(0x02, b"\x01"), algorithm, name, moment(b"260101000000Z"),
+                 moment(b"270101000000Z"), entries, der(0xA0, der(0x30, key, number)))
+    return der(0x30, signed, algorithm, der(0x03, b"\0\xab"))
+
+
+def key_id(locator):
+    """The SHA-1 digest of the bits of the key in a locator."""
+    info = base64.b64decode(locator.split(b"\n\n", 1)[1])
+    # SEQUENCE { SEQUENCE { OID, NULL }, BIT STRING }: the key is what follows its unused bits.
+    bits = info.index(b"\x03\x82", 4)
+    return hashlib.sha1(info[bits + 5:]).hexdigest().upper()
+
+
+HASHES = [
+    ("authority.crl", "b9b47c5f72fc845d3d575aa81b0aa9377d4ac5792f6a5cd5641e0abe86a211f7"),
+    ("broken.roa", "a8e43973fb1f5ad65ad6e2b41ba2ca2e5d96032a9b90a054d60f5ab15b5de724"),
+    ("expired.roa", "da50cfc2475a4660658d3cea6bb38db5546f9e0e34af392fbc1ba36ad5ff3384"),
+    ("origin.roa", "08037c93987acfc144a1abe39e32d3ed0815b5226709643eac2e5f3b18d8e230"),
+    ("overclaiming.roa", "4e703e9f396ec9ce3bb6a47992bfadf5903564880b95c3a714de0e88797bbff3"),
+    ("providers.asa", "33cf45a3f25377272a51416da262879035349e1bb2e2a4ad1eaf6c521ceeae84"),
+]
+MOMENT = "2026-11-01T00:00:00Z"
+SIGNED = {"signing_time": MOMENT}
+ANCHOR_KEY = "1A3A434D3CB238F39188C4ED212421A717BB7C97"
+AUTHORITY_KEY = "C78637259551E49913A293A978985D33FBECF9C1"
+AUTHORITY = f"{HOST}/authority/"
+# Files, how they are shown, the word of their kind, and what is said of them.
+OBJECTS = [
+    ("rpki.example.net/authority/origin.roa", "Object(Kind::Roa)", "roa",
+     {"vrps": [{"asn": "AS64496", "prefix": "192.0.2.0/24", "maxLength": 26},
+               {"asn": "AS64496", "prefix": "2001:db8::/32", "maxLength": 48}]} | SIGNED
+     | signer("01", "D499B0BF9D1519CFF7E9C67B077CDAECD7CBCA67", "origin.roa")),
+    ("rpki.example.net/authority/providers.asa", "Object(Kind::Aspa)", "aspa",
+     {"customer": "AS64496", "providers": ["AS64497", "AS64511"]} | SIGNED
+     | signer("02", "ACB452912B9B562E3E26A1A9B016182187C22E41", "providers.asa")),
+    ("rpki.example.net/authority/authority.mft", "Object(Kind::Manifest)", "manifest",
+     {"manifest_number": "1", "this_update": MOMENT, "next_update": "2036-01-01T00:00:00Z",
+      "files": [{"name": name, "hash": it} for name, it in HASHES]} | SIGNED
+     | signer("06", "C1888A395EE37A39F79146694636294EE42B4CED", "authority.mft")),
+    ("letter.sig", "Object(Kind::Rsc)", "rsc",
+     {"asns": ["AS64496"], "ipv4": ["192.0.2.0/24"], "ipv6": [],
+      "files": [{"name": "letter.txt",
+                 "hash": "5c8437e345f639d9940ed7d853023f6d069e923d7ab43a092591b9dbdefe1aeb"},
+                {"hash": "aee7b480ff51d4c93c72c1fc60aac4ab0187e4a1447d79d226198cb9dd4b2d4d"}]}
+     | SIGNED | signer("07", "1B95E79E269CA2092ABA65FB1D2FB3F9557D1C1A", None)),
+    ("agreement.rta", "Rta", "rta",
+     {"keys": ["1A35C53323D25266354DB3F712B6E2D00DBDCF9C",
+               "22C1F88A54BF57519EC5DE1FBA3C46609A8E4E42"],
+      "asns": ["AS64500-AS64503", "AS65536-AS65543"],
+      "ipv4": ["198.51.100.0/25", "203.0.113.0/24"], "ipv6": ["2001:db8:100::/40", "3fff::/24"],
+      "digest": "27b1475ecc05bc4bbfc386c70f7bd74b99e7926da240c1e439a00700fdb4a9f2"}),
+    ("rpki.example.net/anchor.cer", "Certificate", "certificate",
+     certificate("01", ANCHOR_KEY, None, "anchor", "anchor.mft", None,
+                 ["AS0-AS4294967295"], ["0.0.0.0/0"], ["::/0"])),
+    ("rpki.example.net/anchor/authority.cer", "Certificate", "certificate",
+     certificate("02", AUTHORITY_KEY, ANCHOR_KEY, "authority", "authority.mft", "anchor",
+                 ["AS64496-AS64511"], ["192.0.2.0/24", "198.51.100.0/24"], ["2001:db8::/32"])),
+    ("rpki.example.net/authority/authority.crl", "Crl", "crl",
+     {"crl_number": "01", "this_update": MOMENT, "next_update": "2036-01-01T00:00:00Z",
+      "aki": AUTHORITY_KEY, "revoked": []}),
+    ("anchor.tal", "Tal", "tal",
+     {"uris": [f"{HOST}/anchor.cer"], "key_id": ANCHOR_KEY}),
+]
+REVOKED = {"crl_number": "0102", "this_update": "2026-01-01T00:00:00Z",
+           "next_update": "2027-01-01T00:00:00Z", "aki": bytes(range(20)).hex().upper(),
+           "revoked": [{"serial": "0100", "date": "2024-01-02T03:04:05Z"},
+                       {"serial": "7F", "date": "2025-01-02T03:04:05Z"}]}
+WHOLE = ("aspa\ncustomer AS64496\nprovider AS64497\nprovider AS64511\n"
+         f"signing {MOMENT}\nee 2 ACB452912B9B562E3E26A1A9B016182187C22E41\n"
+         "serial 02\nvalid-from 2026-01-01T00:00:00Z\nvalid-until 2040-01-01T00:00:00Z\n"
+         "key-id ACB452912B9B562E3E26A1A9B016182187C22E41\n"
+         f"authority-key-id {AUTHORITY_KEY}\nee\n"
+         f"signed-object {AUTHORITY}providers.asa\nca-issuers {HOST}/anchor/authority.cer\n"
+         f"crl {AUTHORITY}authority.crl\nas AS64496\n")
+OUTCOMES = [
+    {"file": 'a\\"\u00e9', "type": "roa", "error": "malformed: a prefix is too long"},
+    {"file": "b", "type": "aspa", "valid": False, "error": "refused: certificate has expired"},
+]
+
+
+def line(value):
+    """The line of a value, which is read back."""
+    text = json.dumps(value, ensure_ascii=False) + "\n"
+    assert json.loads(text) == value
+    return text
+
+
+def quoted(text):
+    return 'r#"' + text + '"#'
+
+
+def table(name, octets):
+    print(f"static {name}: [u8; {len(octets)}] = [")
+    print(textwrap.fill(", ".join(f"0x{it:02X}" for it in octets), 100))
+    print("];\n")
+
+
+def print_test(number, name, octets, shown, wanted):
+    table(f"FILE_{number}", octets)
+    print(f"static WANTED_{number}: &str = {quoted(wanted)};\n")
+    print(f"#[test]\nfn row_{number}(rt: HostRuntime) -> Result<(), AllocError> {{")
+    print(f'    is_shown(&rt, "{name}", &FILE_{number}, Shown::{shown}, WANTED_{number})\n}}\n')
+
+
+def main():
+    print(HEAD)
+    print(f"static OUTCOMES: &str = {quoted(''.join(line(it) for it in OUTCOMES))};\n")
+    number = 0
+    for path, shown, word, said in OBJECTS:
+        octets = (TREE / path).read_bytes()
+        if path.endswith(".tal"):
+            assert key_id(octets) == said["key_id"]
+        print_test(number, path, octets, shown, line({"file": path, "type": word} | said))
+        # What is cut is malformed, under any name.
+        print_test(number + 1, path, octets[:-1], shown, "malformed")
+        number += 2
+    octets = revoked_list()
+    print_test(number, "a.crl", octets, "Crl", line({"file": "a.crl", "type": "crl"} | REVOKED))
+    octets = (TREE / "rpki.example.net/authority/providers.asa").read_bytes()
+    print_test(number + 1, "a", octets, "Whole(Kind::Aspa)", WHOLE)
+
+
+if __name__ == "__main__":
+    main()
