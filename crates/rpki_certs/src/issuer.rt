@@ -105,8 +105,9 @@ fn anchor_at<C: Crypto>(
     }
 }
 
-/// The certificate of a CA under this issuer at the front of the octets.
-fn issued_at<C: Crypto>(
+/// The certificate of a CA under this issuer at the front of the octets, in DER, read and validated
+/// (RFC 6487, section 7.2). Octets after it are ignored.
+pub fn issued_at<C: Crypto>(
     alloc: Global,
     octets: &[u8],
     issuer: &ResourceCert,
@@ -124,8 +125,8 @@ fn issued_at<C: Crypto>(
     }
 }
 
-/// The certificate at the front of the octets.
-fn read_cert(alloc: Global, octets: &[u8]) -> Result<Cert, DecodeError>
+/// The certificate at the front of the octets, in DER. Octets after it are ignored.
+pub fn read_cert(alloc: Global, octets: &[u8]) -> Result<Cert, DecodeError>
     ensures decodes { Decodes (CertForm Der) (λ c. c.certificate) octets.now result }
     ensures mode { IfOk result (λ c. c.mode ≡ Der) }
 {

@@ -11,7 +11,7 @@ mod validate;
 mod verify;
 
 pub use cert::Cert;
-pub use issuer::{IssuerError, issuer_at};
+pub use issuer::{IssuerError, issued_at, issuer_at, read_cert};
 pub use rpki_faults::{
     Family, InspectionError, KeyUsage, Overclaim, UncoveredPrefix, ValidationError,
     VerificationError,

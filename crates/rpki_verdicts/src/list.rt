@@ -1,9 +1,7 @@
 //! The list of the good signatures that a check asks about.
 
 ghost use Rattle.std.specs.Prelude.{Some, string_bytes};
-ghost use Rattle.rpki_der.specs.declared.mode.Mode.TheVariants.{Der};
 ghost use Rattle.rpki_der.specs.Form.Decodes.{Decodes};
-ghost use Rattle.rpki_certs.specs.Cert.{CertForm};
 ghost use Rattle.rpki_certs.specs.Issuer.{octets_of};
 ghost use Rattle.rpki_sigobj.specs.Object.{SignedForm, mode_of};
 ghost use Rattle.rpki_verdicts.specs.Lists.{Lists, PushesCert, PushesChain, PushesCerts};
@@ -12,7 +10,7 @@ ghost use Rattle.rpki_verdicts.specs.Lists.{PushesObject, IsKept, listing_error_
 use crate::lines::{push_cert, push_signed};
 use bytes::Bytes;
 use rpki_basics::Crypto;
-use rpki_certs::Cert;
+use rpki_certs::{Cert, read_cert};
 use rpki_der::DecodeError;
 use rpki_sigobj::SignedObject;
 use std::alloc::{AllocError, Global};
@@ -201,16 +199,6 @@ fn push_object<C: Crypto>(
                 Err(_) => Err(DecodeError::Memory),
             }
         }
-    }
-}
-
-/// The certificate at the front of the octets.
-fn read_cert(alloc: Global, octets: &[u8]) -> Result<Cert, DecodeError>
-    ensures { Decodes (CertForm Der) (λ c. c.certificate) octets.now result }
-{
-    match Bytes::copy_from_slice(alloc, octets) {
-        Err(_) => Err(DecodeError::Memory),
-        Ok(source) => Cert::decode(alloc, source),
     }
 }
 

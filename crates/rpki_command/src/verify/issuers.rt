@@ -4,10 +4,6 @@
 
 ghost use Rattle.std.specs.Prelude.{◌≡◌, ◌⊎◌, ◌++◌, ◌↔◌, [], IfOk, IsTrue, option_map};
 ghost use Rattle.std.specs.Prelude.{string_bytes};
-ghost use Rattle.rpki_der.specs.declared.mode.Mode.TheVariants.{Der};
-ghost use Rattle.rpki_der.specs.Form.Decodes.{Decodes};
-ghost use Rattle.rpki_certs.specs.Cert.{CertForm};
-ghost use Rattle.rpki_certs.specs.Issuer.{IsIssued};
 ghost use Rattle.rpki_certs.specs.declared.issuer.IssuerError.TheVariants as issuing;
 ghost use Rattle.rpki_faults.specs.Text.Validation.{validation_text};
 ghost use Rattle.rpki_cli.specs.Answer.{out_of_memory, said};
@@ -18,9 +14,8 @@ ghost use Rattle.rpki_command.specs.Verify.Issuers.{IsIssuerOf, IsKeyed, IsNoIss
 ghost use Rattle.rpki_command.specs.Verify.Issuers.{IsLocatorRead, IsLocatorFault, IsCauseSaid};
 
 use crate::verify::revoked::{NamedList, revoking};
-use bytes::Bytes;
 use rpki_basics::{Crypto, Time};
-use rpki_certs::{Cert, IssuerError, ResourceCert, issuer_at};
+use rpki_certs::{Cert, IssuerError, ResourceCert, issued_at, issuer_at};
 use rpki_cli::answer::Answer;
 use rpki_der::DecodeError;
 use rpki_faults::ValidationError;
@@ -258,36 +253,6 @@ fn next_under<'s, K: Crypto>(
             }
             None => Ok(next),
         },
-    }
-}
-
-/// The certificate of a CA under this issuer at the front of the octets.
-fn issued_at<K: Crypto>(
-    alloc: Global,
-    octets: &[u8],
-    issuer: &ResourceCert,
-    crypto: &K,
-    now: Time,
-) -> Result<ResourceCert, IssuerError>
-    ensures { IsIssued (K.is_signed crypto.now) now issuer.now octets.now result }
-{
-    match read_cert(alloc, octets) {
-        Err(error) => Err(IssuerError::Decode(error)),
-        Ok(cert) => match cert.validate_ca_at(alloc, issuer, true, crypto, now) {
-            Err(error) => Err(IssuerError::Validation(error)),
-            Ok(valid) => Ok(valid),
-        },
-    }
-}
-
-/// The certificate at the front of the octets.
-fn read_cert(alloc: Global, octets: &[u8]) -> Result<Cert, DecodeError>
-    ensures decodes { Decodes (CertForm Der) (λ c. c.certificate) octets.now result }
-    ensures mode { IfOk result (λ c. c.mode ≡ Der) }
-{
-    match Bytes::copy_from_slice(alloc, octets) {
-        Err(_) => Err(DecodeError::Memory),
-        Ok(source) => Cert::decode(alloc, source),
     }
 }
 

@@ -92,7 +92,12 @@ impl<'s> CheckUnder<'s> {
         match self.supplies(alloc) {
             Err(_) => Answer::OutOfMemory,
             Ok(supplies) => check_supplied(
-                alloc, Causes::Included, octets, &supplies, &Rsa, self.moment,
+                alloc,
+                Causes::Included,
+                octets,
+                &supplies,
+                &Rsa,
+                self.moment,
             ),
         }
     }

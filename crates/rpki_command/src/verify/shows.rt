@@ -9,11 +9,11 @@ ghost use Rattle.rpki_cli.specs.declared.causes.Causes.TheVariants.{Included};
 ghost use Rattle.rpki_command.specs.Verify.Shows.{FileLines, IsSaidOfShown, ShownOf};
 
 use crate::verify::each::{AskedFile, Judge, answer_each, asked_files};
+use rpki_cli::Causes;
 use rpki_cli::answer::Answer;
 use rpki_cli::verify::kinds_by_name::FileKind;
 use rpki_cli::verify::requests::ShowRequest;
 use rpki_cli::words::{Kind, Options};
-use rpki_cli::Causes;
 use rpki_show::{show_certificate, show_crl, show_object, show_rta, show_tal};
 use std::alloc::Global;
 
@@ -38,12 +38,7 @@ impl Judge for ShowFiles {
 
 /// Answers with the lines of a file of this kind, if the octets have any.
 #[tactic(auto, using(crate::proofs::Untold::by_causes))]
-fn show_octets<'a>(
-    alloc: Global,
-    options: Options,
-    kind: FileKind,
-    octets: Vec<u8>,
-) -> Answer<'a>
+fn show_octets<'a>(alloc: Global, options: Options, kind: FileKind, octets: Vec<u8>) -> Answer<'a>
     ensures { IsShown Included (FileLines options kind) octets.items (said result) }
 {
     let causes = Causes::Included;
