@@ -330,12 +330,6 @@ fn check_request<'a, S: Store>(
         (S.reads store.old) (S.reads store.new) }
     ensures same { S.told store.new ≡ S.told store.old }
 {
-    if request.settings.json {
-        return Answer::WrongBy {
-            cause: "no option of check: ",
-            word: "--json",
-        };
-    }
     match request.settings.at.moment(now) {
         None => Answer::NoMoment,
         Some(moment) => check_files(alloc, options, request, moment, store),
@@ -398,32 +392,8 @@ fn show_asked<'a, S: Store>(
 }
 
 /// What the program answers to a show of these files.
-fn show_request<'a, S: Store>(
-    alloc: Global,
-    options: Options,
-    request: &ShowRequest<'a>,
-    store: &mut S,
-) -> Answer<'a>
-    requires { length request.now.files.items ≤ length request.now.kinds.items }
-    ensures said { IsTaskAnswer (S.told store.old)
-        (show_request_task options (asked_show request.now))
-        (S.reads store.old) (S.reads store.new) (said result) }
-    ensures reads { HasRead (show_request_task options (asked_show request.now))
-        (S.reads store.old) (S.reads store.new) }
-    ensures same { S.told store.new ≡ S.told store.old }
-{
-    if request.json {
-        return Answer::WrongBy {
-            cause: "no option of show: ",
-            word: "--json",
-        };
-    }
-    show_files(alloc, options, request, store)
-}
-
-/// What the program answers to a show of these files in lines.
 #[tactic(auto, using(crate::proofs::Verified::Payloads::by_reads))]
-fn show_files<'a, S: Store>(
+fn show_request<'a, S: Store>(
     alloc: Global,
     options: Options,
     request: &ShowRequest<'a>,
