@@ -140,20 +140,22 @@ granted_json name r =
 abbrev pub IsSaidOfRtaInJson : Grounds → List ℕ → List ℕ → Output → Type 0
 IsSaidOfRtaInJson g name octets s = IsSaidOfRtaAs g (granted_json name) octets s
 
--- What is said of an object by these grounds.
+-- What is said of an object of a kind by these grounds.
 abbrev pub IsSaidOfKind : Grounds → ObjectKind → List ℕ → Output → Type 0
 IsSaidOfKind g (Signed kind) octets s = IsSaidOfSigned g kind octets s
 IsSaidOfKind g Rta octets s = IsSaidOfRta g octets s
 
+-- What is said of an object in a file by these grounds.
 abbrev pub IsSaidOfObject : Grounds → GivenFile ObjectKind → Output → Type 0
 IsSaidOfObject g file s = IsSaidOfKind g file.kind file.octets s
 
--- The same of an object in JSON.
+-- The same of an object of a kind, in JSON, in a file of this name.
 abbrev pub IsKindInJson : Grounds → ObjectKind → List ℕ → List ℕ → Output → Type 0
 IsKindInJson g (Signed kind) name octets s = JudgedInJson g.options kind name sha256 is_rsa_signature
     g.lists g.issuer g.now octets s
 IsKindInJson g Rta name octets s = IsSaidOfRtaInJson g name octets s
 
+-- What is said of an object in a file in JSON, by these grounds.
 abbrev pub IsObjectInJson : Grounds → GivenFile ObjectKind → Output → Type 0
 IsObjectInJson g file s = IsKindInJson g file.kind file.name file.octets s
 
