@@ -7,3 +7,5 @@ pub mod Optioned
 pub mod Orders
 pub mod Requests
 pub mod Settings
+pub mod Tested
+pub mod Wrong

@@ -115,7 +115,7 @@ usage_text = codes "usage: rpki_verify [OPTION ..] check --ta TA [SETTING ..] FI
     ++ (codes "KIND: aspa, manifest, roa or rsc; of show and content, and after --kind, also rta\n"
     ++ (codes "KIND after --kind of show also: certificate, crl or tal\n"
     ++ (codes "FILE after settings: without --kind its name tells its kind\n"
-    ++ (codes "MOMENT: now, or YYYYMMDDHHMMSSZ; after --at also YYYY-MM-DDTHH:MM:SSZ\n"
+    ++ (codes "MOMENT: now, YYYYMMDDHHMMSSZ or YYYY-MM-DDTHH:MM:SSZ\n"
     ++ (codes "CA of walk: any file but one named with\n"
     ++ (codes "FILE after verdicts: any file but one named rta\n"
     ++ (codes "COPY of payloads: any folder but one named --csv or --json\n"

@@ -39,7 +39,7 @@ SETTING of check also: --ca CA, --tal TAL, --crl CRL, --at MOMENT
 KIND: aspa, manifest, roa or rsc; of show and content, and after --kind, also rta
 KIND after --kind of show also: certificate, crl or tal
 FILE after settings: without --kind its name tells its kind
-MOMENT: now, or YYYYMMDDHHMMSSZ; after --at also YYYY-MM-DDTHH:MM:SSZ
+MOMENT: now, YYYYMMDDHHMMSSZ or YYYY-MM-DDTHH:MM:SSZ
 CA of walk: any file but one named with
 FILE after verdicts: any file but one named rta
 COPY of payloads: any folder but one named --csv or --json

@@ -22,10 +22,8 @@ use Rattle.rpki_cli.specs.declared.words.Options.{Options}
 use Rattle.rpki_cli.specs.declared.verify.kinds_by_name.FileKind.{FileKind}
 use Rattle.rpki_cli.specs.declared.verify.words.When.{When}
 use Rattle.rpki_cli.specs.declared.verify.settings.ArrangeError.{ArrangeError}
-use Rattle.rpki_cli.specs.declared.verify.settings.ArrangeError.TheVariants as arranges
 use Rattle.rpki_cli.specs.declared.verify.settings.Named.TheVariants as names
 use Rattle.rpki_cli.specs.declared.verify.settings.Setting.{Setting}
-use Rattle.rpki_cli.specs.declared.verify.settings.Setting.TheVariants as sets
 use Rattle.rpki_cli.specs.declared.verify.check_settings.SettingsError.{SettingsError}
 use Rattle.rpki_cli.specs.declared.verify.check_settings.SettingsError.TheVariants as faults
 use Rattle.rpki_cli.specs.declared.verify.requests.ObjectKind.{ObjectKind}

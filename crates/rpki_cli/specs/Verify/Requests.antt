@@ -9,7 +9,6 @@ use Rattle.rpki_cli.specs.Verify.CheckSettings.{IsKindGiven, IsKindFault, AreOfC
 use Rattle.rpki_cli.specs.Verify.Kinds.{IsNameOf}
 use Rattle.rpki_cli.specs.Verify.Settings.{Arranged, IsRefusedFor, arrange_error_text}
 use Rattle.rpki_cli.specs.Verify.Settings.{flag_word, named_word}
-use Rattle.rpki_cli.specs.declared.words.Kind.{Kind}
 use Rattle.rpki_cli.specs.declared.words.Kind.TheVariants as objects
 use Rattle.rpki_cli.specs.declared.words.Options.{Options}
 use Rattle.rpki_cli.specs.declared.verify.kinds_by_name.FileKind.{FileKind}

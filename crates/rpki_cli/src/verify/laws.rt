@@ -1,7 +1,7 @@
 //! What the definitions of the words of the program with signatures say, as functions that do
 //! nothing.
 
-ghost use Rattle.std.specs.Prelude.{◌≡◌, ℕ, List};
+ghost use Rattle.std.specs.Prelude.{◌≡◌, ◌↔◌, ℕ, List, IsTrue};
 ghost use Rattle.rpki_cli.specs.Language.{IsAsked};
 ghost use Rattle.rpki_cli.specs.Verify.CheckSettings.{IsCheckOf, IsRefusal, settings_error_text};
 ghost use Rattle.rpki_cli.specs.Verify.CheckSettings.{CheckValues};
@@ -9,7 +9,7 @@ ghost use Rattle.rpki_cli.specs.Verify.Requests.{AskedCheck, IsAskedCheck, IsWro
 ghost use Rattle.rpki_cli.specs.Verify.Requests.{AskedShow, IsAskedShow, IsWrongShow, SaysWrong};
 ghost use Rattle.rpki_cli.specs.Answer.{Output};
 ghost use Rattle.rpki_cli.specs.Verify.Kinds.{IsNameOf};
-ghost use Rattle.rpki_cli.specs.Verify.Moments.{NamesWhen};
+ghost use Rattle.rpki_cli.specs.Verify.Moments.{NamesWhen, names_moment};
 ghost use Rattle.rpki_cli.specs.Verify.Settings.{Arranged, IsRefusedFor, arranged_words};
 ghost use Rattle.rpki_cli.specs.Verify.Settings.{arrange_error_text};
 ghost use Rattle.rpki_cli.specs.declared.words.Order.{Order};
@@ -57,6 +57,11 @@ pub fn all_settings_have_words()
 /// No word names two moments.
 pub fn words_name_one_moment()
     ensures { (word : List ℕ) (a b : When) → NamesWhen word a → NamesWhen word b → a ≡ b }
+{}
+
+/// A word is tested to name a moment exactly if it names one.
+pub fn moments_are_tested()
+    ensures { (word : List ℕ) → IsTrue (names_moment word) ↔ ((w : When) × NamesWhen word w) }
 {}
 
 /// No name says two kinds.

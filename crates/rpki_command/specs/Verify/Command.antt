@@ -2,7 +2,7 @@
 use Rattle.std.specs.Prelude.{ℕ, List, ◌∷◌, Option, None, Some}
 use Rattle.rpki_basics.specs.Moment.{Moment}
 use Rattle.rpki_basics.specs.declared.limits.ProviderLimit.{ProviderLimit}
-use Rattle.rpki_cli.specs.Answer.{Output, help, wrong_words, no_moment, version}
+use Rattle.rpki_cli.specs.Answer.{Output, help, no_moment, version}
 use Rattle.rpki_cli.specs.Command.{Task, Say, ShowLines, CheckFiles, DoSet, Program}
 use Rattle.rpki_cli.specs.declared.causes.Causes.TheVariants.{Included}
 use Rattle.rpki_cli.specs.declared.words.Options.{Options}
@@ -12,6 +12,7 @@ use Rattle.rpki_cli.specs.Verify.CheckSettings.{check_names}
 use Rattle.rpki_cli.specs.Verify.Requests.{AskedCheck, IsAskedCheck, IsWrongCheck}
 use Rattle.rpki_cli.specs.Verify.Requests.{AskedShow, IsAskedShow, IsWrongShow, SaysWrong}
 use Rattle.rpki_cli.specs.Verify.Words.{moment_at, verify_language}
+use Rattle.rpki_cli.specs.Verify.Wrong.{said_to_wrong}
 use Rattle.rpki_cli.specs.declared.verify.relying_party.PayloadsRequest.{PayloadsRequest}
 use Rattle.rpki_cli.specs.declared.verify.words.Format.{Format}
 use Rattle.rpki_cli.specs.declared.verify.words.VerifyCommand.{VerifyCommand}
@@ -111,5 +112,5 @@ abbrev pub verify_program : Option Moment → PartySays → Program
 verify_program clock says = record {
   language = verify_language;
   task = verify_task clock says;
-  wrong = wrong_words;
+  wrong = said_to_wrong;
 }

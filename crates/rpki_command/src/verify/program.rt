@@ -31,6 +31,7 @@ use rpki_cli::verify::requests::{
     CheckRequest, ShowRequest, check_words, names_of_check, show_words,
 };
 use rpki_cli::verify::words::{Issued, VerifyCommand, parse};
+use rpki_cli::verify::wrong::answer_wrong;
 use rpki_cli::words::{Kind, Options, Order};
 use rpki_cli::{
     Causes, Program, Store, Unread, answer_anchors, answer_files, answer_tail, read_all, unread,
@@ -62,8 +63,8 @@ impl<P: RelyingParty> Program for Verify<P> {
         answer(alloc, words, self.clock, &self.relying_party, store)
     }
 
-    fn wrong<'a>(&self) -> Answer<'a> {
-        Answer::WrongWords
+    fn wrong<'a>(&self, words: &'a [&'a str]) -> Answer<'a> {
+        answer_wrong(words)
     }
 }
 
@@ -83,7 +84,7 @@ fn answer<'a, P: RelyingParty, S: Store>(
     ensures same { S.told store.new ≡ S.told store.old }
 {
     match parse(words) {
-        None => Answer::WrongWords,
+        None => answer_wrong(words),
         Some(order) => answer_verify(alloc, order, now, party, store),
     }
 }
