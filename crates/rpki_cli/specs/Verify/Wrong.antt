@@ -67,11 +67,11 @@ abbrev pub after_format : List (List ℕ) → List (List ℕ)
 after_format [] = []
 after_format (word ∷ words) = if is_copy word then word ∷ words else words
 
--- after `payloads` and a format: a copy and a moment, and more
+-- after `payloads` and a format: a copy and a moment, and more; an option is no copy here
 abbrev pub said_to_copy : List (List ℕ) → Output
 said_to_copy [] = wrong_words
 said_to_copy (copy ∷ words) =
-    if is_copy copy then said_to_file (copy ∷ words) else unknown_option copy
+    if is_dashed copy then unknown_option copy else said_to_file (copy ∷ words)
 
 -- the commands whose words have none of these places
 abbrev pub is_other : List ℕ → Bool

@@ -102,10 +102,10 @@ fn answer_copy<'a>(words: &'a [&'a str]) -> Answer<'a>
 {
     match words {
         [copy, ..] => {
-            if is_copy(copy) {
-                answer_file(words)
-            } else {
+            if is_dashed(copy) {
                 unknown_option(copy)
+            } else {
+                answer_file(words)
             }
         }
         [] => Answer::WrongWords,
