@@ -224,9 +224,9 @@ pub record IsSaidUnread (s : Output) (old new : Names) (run : Run) : Type 0 wher
   pub reads : new ≡ old
 
 -- What the start of a program does: it runs the words after the program's name. Where one of them
--- is no text (UTF-8) it says what it says to no words instead, and where memory runs out before they
--- are run it says that; either way it reads no file. Where the arguments are not told, the words may
--- be any texts, and it may be said as well what is said to no words.
+-- is no text (UTF-8) it says what it says to no words instead, and where memory runs out before
+-- they are run it says that; either way it reads no file. Where the arguments are not told, the
+-- words may be any texts, and it may be said as well what is said to no words.
 abbrev pub IsStartOf : Program → ToldArguments → Told → Names → Names → Run → Type 0
 IsStartOf p arguments told old new run =
     ((words : List (List ℕ)) × AreTexts arguments words × IsRunWith p told words old new run)

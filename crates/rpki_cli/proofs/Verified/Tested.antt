@@ -1,6 +1,6 @@
 -- Words that name moments are told by a test.
-use Rattle.std.proofs.Common.{◌≡◌, ◌∙◌, ◌||◌, ℕ, List, Bool, true, false, Option, None, Some, IsTrue}
-use Rattle.std.proofs.Common.{sym, refl, ap, codes}
+use Rattle.std.proofs.Common.{◌≡◌, ◌∙◌, ◌||◌, ℕ, List, Bool, true, false, Option, None, Some}
+use Rattle.std.proofs.Common.{IsTrue, sym, refl, ap, codes}
 use Rattle.std.proofs.lemmas.Slice.Eq.{bytes_eq-Decides}
 use Rattle.std.specs.Option.{is_some}
 use Rattle.std.specs.Prelude.{MatchOption}

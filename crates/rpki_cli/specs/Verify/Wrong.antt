@@ -46,10 +46,11 @@ missing_anchor = wrong_by (codes "missing: ") word_ta
 abbrev pub said_to_file : List (List ℕ) → Output
 said_to_file [] = wrong_words
 said_to_file (file ∷ []) = wrong_words
-said_to_file (file ∷ moment ∷ words) = if names_moment moment then wrong_words else wrong_moment moment
+said_to_file (file ∷ moment ∷ words) =
+    if names_moment moment then wrong_words else wrong_moment moment
 
--- After `check`: a kind, a file and a moment, and more. An option in the place of the kind is one of
--- a check of many files; words of such a check that have a trust anchor ask for something.
+-- After `check`: a kind, a file and a moment, and more. An option in the place of the kind is one
+-- of a check of many files; words of such a check that have a trust anchor ask for something.
 abbrev pub said_to_check : List (List ℕ) → Output
 said_to_check [] = wrong_words
 said_to_check (kind ∷ words) =
