@@ -59,10 +59,17 @@ pub const MALFORMED: Output = Output {
 };
 
 /// What is said of a file that is not there.
-pub const CANNOT_READ: Output = Output {
+const CANNOT_READ: Output = Output {
     status: 2,
     out: "",
     err: "cannot read other\n",
+};
+
+/// What the program with signatures says of a file that is not there.
+pub const NOT_THERE: Output = Output {
+    status: 4,
+    out: "",
+    err: "cannot read other: no such file\n",
 };
 
 /// What is said to words that ask for nothing.
@@ -239,13 +246,6 @@ const DATED: [&[&str]; 5] = [
         "other.roa",
     ],
 ];
-
-/// What the program with signatures says of a file that is not there.
-const NOT_THERE: Output = Output {
-    status: 4,
-    out: "",
-    err: "cannot read other: no such file\n",
-};
 
 #[test]
 fn moments_are_read_in_either_form(rt: HostRuntime) -> Result<(), Fail> {
