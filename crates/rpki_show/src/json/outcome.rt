@@ -48,8 +48,8 @@ fn push_validity<C: Lines>(alloc: Global, text: &mut String, content: &C) -> Res
     content.push_json(alloc, text)
 }
 
-/// Appends the line of an attestation that is checked and granted: `valid` is true, and the members of
-/// its content follow. Refuses where memory runs out.
+/// Appends the line of an attestation that is checked and granted: `valid` is true, and the members
+/// of its content follow. Refuses where memory runs out.
 pub fn push_granted(
     alloc: Global,
     text: &mut String,
