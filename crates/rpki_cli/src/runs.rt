@@ -35,7 +35,7 @@ pub trait Program {
 }
 
 /// Runs a program with its arguments, the first of which is its name, and gives the status that the
-/// process ends with: 0, 1, 2 or 3, as `command` answers it. Where a word is no text (UTF-8), the
+/// process ends with: 0, 1, 2, 3 or 4, as `command` answers it. Where a word is no text (UTF-8), the
 /// answer is that to no words, and `out of memory` with 3 is the answer where there is not memory
 /// enough for them.
 pub fn start<P: Program, A: Arguments, S: Store, O: Sink, E: Sink>(

@@ -29,6 +29,7 @@ use Rattle.rpki_cli.specs.Verify.Words.{AskForNothingElse, has_tail, AskForNoRta
 use Rattle.rpki_cli.specs.Verify.Words.{IsOptioned, word_rta, AskForNoPayloads, issued_word}
 use Rattle.rpki_cli.specs.Verify.Words.{issued_words, AskForNothingShown, IsShownBy, help_word}
 use Rattle.rpki_cli.specs.Verify.Words.{word_ta, AskForOneShown, AreToShow, AskForNoShow}
+use Rattle.rpki_cli.specs.Verify.Words.{begin_with_help}
 use Rattle.rpki_cli.specs.Verify.Words.{AskForNoneChecked}
 use Rattle.rpki_cli.specs.declared.verify.words.Issued.{Issued}
 use Rattle.rpki_cli.specs.declared.verify.words.Issued.TheVariants.{Certificate, Crl}
@@ -588,18 +589,19 @@ not-false false e = sym e
 
 -- two words ask for a show of many files where the first says no kind
 pub pair_shown : (words : List (Bor (List ℕ))) (d : Bor (List ℕ)) (r : Option FileKind) (b : Bool)
-    → length words ≡ 2
+    → length words ≡ 2 → begin_with_help (texts words) ≡ false
     → MatchOption r ((k : FileKind) → (get_or words 0 d).now ≡ file_kind_word k → ⊥)
     (λ k. (get_or words 0 d).now ≡ file_kind_word k) → is_some r ≡ not b
     → (IsTrue b → AreToShow (texts words)) × (AreToShow (texts words) → IsTrue b)
-pair_shown words d None b e h i = (
+pair_shown words d None b e p h i = (
   λ t. record {
+    no_help = p;
     some = λ n. not-empty (sym (two-words words d e) ∙ n);
     not_one = λ o. h o.kind (first-same (sym (two-words words d e) ∙ o.words_are));
   },
   λ s. not-false b (sym i),
 )
-pair_shown words d (Some k) b e h i = (
+pair_shown words d (Some k) b e p h i = (
   λ t. absurd (not-both b t (not-true b (sym i))),
   λ s. absurd (s.not_one (record {
     kind = k;

@@ -1,6 +1,6 @@
 -- The command line of the program with signatures: what each command is written as.
 use Rattle.std.specs.Prelude.{◌≡◌, ℕ, List, [], ◌∷◌, ◌++◌, Bool, true, false, codes, Option, Some}
-use Rattle.std.specs.Prelude.{IsTrue, Contains, length, ◌<◌, not, ◌&&◌, if◌then◌else◌}
+use Rattle.std.specs.Prelude.{IsTrue, Contains, length, ◌<◌, not, ◌&&◌, ◌||◌, if◌then◌else◌}
 use Rattle.std.specs.Str.{bytes_eq}
 use Rattle.rpki_basics.specs.Moment.{Moment}
 use Rattle.rpki_cli.specs.Language.{Language}
@@ -90,16 +90,22 @@ abbrev pub check_one : Kind → List ℕ → When → List ℕ → List (List �
 check_one kind file moment anchor chain =
     kind_word kind ∷ file ∷ when_word moment ∷ anchor ∷ chain
 
+-- whether words begin with one that asks how the program is called
+abbrev pub begin_with_help : List (List ℕ) → Bool
+begin_with_help [] = false
+begin_with_help (word ∷ words) = bytes_eq word (help_word Long) || bytes_eq word (help_word Short)
+
 -- the words, after the first, ask to show one file of a kind
 pub record AskForOneShown (words : List (List ℕ)) : Type 0 where
   pub kind : FileKind
   pub file : List ℕ
   pub words_are : words ≡ file_kind_word kind ∷ file ∷ []
 
--- The words, after the first, are those of a show of many files: they are there, and ask for no show
--- of one.
+-- The words, after the first, are those of a show of many files: they are there, do not begin with
+-- one that asks how the program is called, and ask for no show of one.
 pub record AreToShow (words : List (List ℕ)) : Type 0 where
   pub some : ¬ (words ≡ [])
+  pub no_help : begin_with_help words ≡ false
   pub not_one : ¬ AskForOneShown words
 
 -- The words of a command. What shows the lines of a file has the words that it has in the other
@@ -146,8 +152,8 @@ is_copy word = not (bytes_eq word word_csv) && not (bytes_eq word word_json)
 -- of an attestation end with anchors, the file of an object whose signatures are listed has another
 -- name than the word of attestations, and payloads are listed of a copy that is no word of a
 -- format, under one locator or more. The words of a check of many files have `--ta` among them, and
--- those of a check of one object do not. Those of a show of many files are there, and are not those
--- of a show of one file of a kind.
+-- those of a check of one object do not. Those of a show of many files are there, do not begin with
+-- `--help` or `-h`, and are not those of a show of one file of a kind.
 abbrev pub IsFit : VerifyCommand → Type 0
 IsFit (Help word) = Unit {0}
 IsFit Version = Unit {0}

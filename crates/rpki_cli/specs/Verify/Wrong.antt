@@ -1,13 +1,13 @@
 -- What the program with signatures says to words that ask for nothing: which word is wrong.
-use Rattle.std.specs.Prelude.{ℕ, List, [], ◌∷◌, Bool, ◌||◌, codes, if◌then◌else◌}
+use Rattle.std.specs.Prelude.{ℕ, List, [], ◌∷◌, Bool, ◌||◌, ◌&&◌, codes, if◌then◌else◌}
 use Rattle.std.specs.List.{list_any}
 use Rattle.std.specs.Str.{bytes_eq}
-use Rattle.rpki_cli.specs.Answer.{Output, wrong_words, wrong_by}
+use Rattle.rpki_cli.specs.Answer.{Output, help, wrong_words, wrong_by}
 use Rattle.rpki_cli.specs.Words.{kind_word}
 use Rattle.rpki_cli.specs.declared.words.Kind.TheVariants.{Aspa, Manifest, Roa, Rsc}
 use Rattle.rpki_cli.specs.Verify.Moments.{names_moment}
 use Rattle.rpki_cli.specs.Verify.Settings.{is_dashed}
-use Rattle.rpki_cli.specs.Verify.Words.{word_ta, word_rta, after_options, is_copy}
+use Rattle.rpki_cli.specs.Verify.Words.{word_ta, word_rta, after_options, is_copy, begin_with_help}
 
 -- ---- one word
 
@@ -79,9 +79,15 @@ abbrev pub is_other : List ℕ → Bool
 is_other word = is_one_of
     (codes "verdicts" ∷ codes "show" ∷ codes "--help" ∷ codes "-h" ∷ codes "--version" ∷ []) word
 
--- the word of a command, and those after it
-abbrev pub said_to_command : List ℕ → List (List ℕ) → Output
-said_to_command command words =
+-- whether a word is that of a command
+abbrev pub is_command : List ℕ → Bool
+is_command word = is_one_of
+    (codes "check" ∷ codes "content" ∷ codes "payloads" ∷ codes "rta" ∷ codes "show"
+    ∷ codes "verdicts" ∷ codes "walk" ∷ []) word
+
+-- the word of a command, and those after it, which do not begin with one that asks for help
+abbrev pub said_to_other : List ℕ → List (List ℕ) → Output
+said_to_other command words =
     if bytes_eq command (codes "check") then said_to_check words
     else if bytes_eq command (codes "content") then said_to_content words
     else if bytes_eq command (codes "walk") || bytes_eq command word_rta then said_to_file words
@@ -89,12 +95,19 @@ said_to_command command words =
     else if is_other command then wrong_words
     else if is_dashed command then unknown_option command else unknown_command command
 
+-- the word of a command, and those after it
+abbrev pub said_to_command : List ℕ → List (List ℕ) → Output
+said_to_command command words =
+    if is_command command && begin_with_help words then help
+    else said_to_other command words
+
 -- the words after the options
 abbrev pub said_to_plain : List (List ℕ) → Output
 said_to_plain [] = wrong_words
 said_to_plain (command ∷ words) = said_to_command command words
 
--- What is said to words that ask for nothing: the first that is wrong in its place is named, and
--- where each place is filled as it may be, what is expected.
+-- What is said to words that ask for nothing: where `--help` or `-h` follows the word of a command,
+-- how the program is called; else the first that is wrong in its place is named, and where each
+-- place is filled as it may be, what is expected.
 abbrev pub said_to_wrong : List (List ℕ) → Output
 said_to_wrong words = said_to_plain (after_options words)

@@ -98,3 +98,15 @@ pub fn shows_are_asked_once()
     ensures apart { (words : List (List ℕ)) (a : AskedShow) (s : Output) → IsAskedShow words a
         → SaysWrong (IsWrongShow words) s → ⊥ }
 {}
+
+/// One thing is said of the words of a check of many files that are wrong.
+pub fn wrong_checks_are_said_once()
+    ensures { (words : List (List ℕ)) (s t : Output) → SaysWrong (IsWrongCheck words) s
+        → SaysWrong (IsWrongCheck words) t → s ≡ t }
+{}
+
+/// One thing is said of the words of a show of many files that are wrong.
+pub fn wrong_shows_are_said_once()
+    ensures { (words : List (List ℕ)) (s t : Output) → SaysWrong (IsWrongShow words) s
+        → SaysWrong (IsWrongShow words) t → s ≡ t }
+{}

@@ -13,6 +13,7 @@ ghost use Rattle.rpki_cli.specs.Verify.Words.{format_words, is_copy, after_optio
 ghost use Rattle.rpki_cli.specs.Verify.Words.{AskForNothingShared, IsSharedBy, IsTaken, IsOptioned};
 ghost use Rattle.rpki_cli.specs.Verify.Words.{AskForNothingShown, IsShownBy, AskForNoShow};
 ghost use Rattle.rpki_cli.specs.Verify.Words.{AskForNoneChecked, AreToShow, word_ta};
+ghost use Rattle.rpki_cli.specs.Verify.Words.{begin_with_help};
 ghost use Rattle.rpki_cli.specs.declared.verify.words.VerifyCommand.{VerifyCommand};
 
 use crate::anchor_words::{are_anchors, are_anchors_named};
@@ -319,10 +320,23 @@ fn parse_show_each<'a>(words: &'a [&'a str]) -> Option<VerifyCommand<'a>>
     }
 }
 
+/// Whether words begin with one that asks how the program is called.
+pub fn begin_with_help(words: &[&str]) -> bool
+    ensures { result ≡ begin_with_help (texts words.now) }
+{
+    match words {
+        [word, ..] => *word == "--help" || *word == "-h",
+        [] => false,
+    }
+}
+
 /// Whether words, after `show`, ask to show many files.
 fn are_to_show(words: &[&str]) -> bool
     ensures { IsTrue result ↔ AreToShow (texts words.now) }
 {
+    if begin_with_help(words) {
+        return false;
+    }
     match words {
         [] => false,
         [kind, _] => kind_of_word(kind).is_none(),

@@ -7,15 +7,17 @@ ghost use Rattle.rpki_cli.specs.Verify.Moments.{names_moment};
 ghost use Rattle.rpki_cli.specs.Verify.Wrong.{is_kind, unknown_kind, unknown_option, said_to_file};
 ghost use Rattle.rpki_cli.specs.Verify.Wrong.{said_to_check, said_to_content, said_to_copy};
 ghost use Rattle.rpki_cli.specs.Verify.Wrong.{said_to_command, said_to_wrong, after_format};
+ghost use Rattle.rpki_cli.specs.Verify.Wrong.{said_to_other, is_command};
 
 use crate::answer::Answer;
 use crate::verify::moments::when_named;
 use crate::verify::settings::{Named, is_dashed};
-use crate::verify::words::{is_copy, take_options};
+use crate::verify::words::{begin_with_help, is_copy, take_options};
 use crate::words::kind_of;
 
-/// What is answered to words that ask for nothing of the program with signatures: which word is
-/// wrong, or else what is expected.
+/// What is answered to words that ask for nothing of the program with signatures: how it is called
+/// where `--help` or `-h` follows the word of a command, or which word is wrong, or else what is
+/// expected.
 pub fn answer_wrong<'a>(words: &'a [&'a str]) -> Answer<'a>
     ensures { said result ≡ said_to_wrong (texts words.now) }
 {
@@ -29,6 +31,27 @@ pub fn answer_wrong<'a>(words: &'a [&'a str]) -> Answer<'a>
 /// What is answered to the word of a command, and to those after it.
 fn answer_command<'a>(command: &'a str, words: &'a [&'a str]) -> Answer<'a>
     ensures { said result ≡ said_to_command command.now (texts words.now) }
+{
+    if is_command(command) && begin_with_help(words) {
+        Answer::Help
+    } else {
+        answer_other(command, words)
+    }
+}
+
+/// Whether a word is that of a command.
+fn is_command(word: &str) -> bool
+    ensures { result ≡ is_command word.now }
+{
+    matches!(
+        word,
+        "check" | "content" | "payloads" | "rta" | "show" | "verdicts" | "walk"
+    )
+}
+
+/// What is answered to the word of a command, and to those after it, which ask for no help.
+fn answer_other<'a>(command: &'a str, words: &'a [&'a str]) -> Answer<'a>
+    ensures { said result ≡ said_to_other command.now (texts words.now) }
 {
     match command {
         "check" => answer_check(words),
