@@ -1,7 +1,7 @@
 -- The text is JSON, and says the payloads.
 use Rattle.std.proofs.Common.{◌≡◌, ℕ, ◌<◌, ◌^◌, List, [], ◌++◌, All, codes, decimal, refl, sym, ap}
-use Rattle.std.proofs.Common.{◌∙◌, arith, append_assoc, append-nil, subst, IsUtf8, String, string_bytes}
-use Rattle.std.proofs.Common.{Global}
+use Rattle.std.proofs.Common.{◌∙◌, arith, append_assoc, append-nil, subst, IsUtf8, String}
+use Rattle.std.proofs.Common.{string_bytes, Global}
 use Rattle.std.proofs.lemmas.Str.{IsUtf8-string_bytes}
 use Rattle.rpki_resources.specs.As.{asn_text}
 use Rattle.rpki_resources.specs.Text.{prefix_text}
