@@ -1,5 +1,5 @@
 -- What the commands of the program with signatures come to is settled by each command alone.
-use Rattle.std.proofs.Common.{tt, ℕ, List, Option, None, Some}
+use Rattle.std.proofs.Common.{ℕ, List, Option, None, Some}
 use Rattle.rpki_basics.specs.Moment.{Moment}
 use Rattle.rpki_cli.proofs.Running.{IsSettled}
 use Rattle.rpki_cli.proofs.Verified.Requests.{check-once, check-apart, show-once, show-apart}

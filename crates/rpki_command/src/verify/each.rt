@@ -54,11 +54,11 @@ pub trait JsonKind {
     fn push_reason(
         text: &mut String,
         name: &str,
-        word: &str,
+        kind: &str,
         reason: &str,
     ) -> Result<(), AllocError>
         ensures { Grows result text.old text.new
-            (file_json name.now word.now (reasons reason.now)) };
+            (file_json name.now kind.now (reasons reason.now)) };
 }
 
 /// What is said of files.

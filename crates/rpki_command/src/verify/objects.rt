@@ -83,10 +83,10 @@ impl JsonKind for ObjectKind {
     fn push_reason(
         text: &mut String,
         name: &str,
-        word: &str,
+        kind: &str,
         reason: &str,
     ) -> Result<(), AllocError> {
-        push_invalid(text, name, word, reason)
+        push_invalid(text, name, kind, reason)
     }
 }
 
@@ -144,23 +144,25 @@ impl<'s> CheckUnder<'s> {
 
     /// Answers with the line of a good object of the kind at the front of the octets of a file of
     /// this name, or why there is none.
-    fn signed_in_json<'a>(&self, alloc: Global, kind: Kind, name: &str, octets: &[u8]) -> Answer<'a>
+    fn signed_in_json<'a, 'f>(
+        &self,
+        alloc: Global,
+        kind: Kind,
+        name: &'f str,
+        octets: &'f [u8],
+    ) -> Answer<'a>
         ensures { IsKindInJson self.now (Signed kind) name.now octets.now (said result) }
     {
-        let check = CheckListed {
+        let action = CheckListedInJson {
+            name,
+            word: kind_word(kind),
             octets,
             lists: self.lists,
             issuer: self.issuer,
             crypto: &Rsa,
             moment: self.moment,
         };
-        let word = kind_word(kind);
-        answer_in_json(
-            alloc,
-            self.options,
-            kind,
-            CheckListedInJson { check, name, word },
-        )
+        answer_in_json(alloc, self.options, kind, action)
     }
 
     /// Answers whether the octets begin with an attestation that is granted.
@@ -236,7 +238,16 @@ impl<'s, K: Crypto> Action for CheckListed<'s, K> {
         action.issuer.now action.moment action.octets.now s };
 
     fn answer<'a, C: Lines>(self, alloc: Global, options: Options) -> Answer<'a> {
-        match self.content::<C>(alloc, options) {
+        let judged = judged::<C, K>(
+            alloc,
+            options,
+            self.octets,
+            self.lists,
+            self.issuer,
+            self.crypto,
+            self.moment,
+        );
+        match judged {
             Err(answer) => answer,
             Ok(content) => {
                 let answer = say_yes(alloc, &content);
@@ -247,57 +258,68 @@ impl<'s, K: Crypto> Action for CheckListed<'s, K> {
     }
 }
 
-impl<'s, K: Crypto> CheckListed<'s, K> {
-    /// The content of the object, where it is good and no list revokes its certificate, and else
-    /// what is answered.
-    fn content<'a, C: Lines>(&self, alloc: Global, options: Options) -> Result<C, Answer<'a>>
-        ensures { Settles (λ text s. IsJudgedAs C.kind (C.form (C.rule_of options)) text
-            (read_mode options) (K.digest_of self.now.crypto.now)
-            (K.is_signed self.now.crypto.now) self.now.lists.now self.now.issuer.now
-            self.now.moment self.now.octets.now s) result }
-    {
-        match Bytes::copy_from_slice(alloc, self.octets) {
-            Err(_) => Err(Answer::OutOfMemory),
-            Ok(source) => {
-                let checked = check_passed::<C, K, _>(
-                    alloc,
-                    options,
-                    source,
-                    self.issuer,
-                    self.crypto,
-                    self.moment,
-                    pass,
-                );
-                settled(alloc, self.lists, self.issuer, self.crypto, checked)
-            }
-        }
-    }
-}
-
 /// To check the same object, and to answer in JSON under this name and this word.
 #[derive(Drop)]
-struct CheckListedInJson<'s, K: Crypto> {
-    check: CheckListed<'s, K>,
-    name: &'s str,
-    word: &'s str,
+struct CheckListedInJson<'s, 'f, K: Crypto> {
+    name: &'f str,
+    word: &'f str,
+    octets: &'f [u8],
+    lists: &'s [NamedList<'s>],
+    issuer: &'s ResourceCert,
+    crypto: &'s K,
+    moment: Time,
 }
 
-impl<'s, K: Crypto> JsonAction for CheckListedInJson<'s, K> {
+impl<'s, 'f, K: Crypto> JsonAction for CheckListedInJson<'s, 'f, K> {
     ghost says = { λ options X asked form members action s.
         IsJudgedAs asked form
         (λ x. file_json action.name.now action.word.now (valid_members (members x)))
-        (read_mode options) (K.digest_of action.check.crypto.now)
-        (K.is_signed action.check.crypto.now) action.check.lists.now action.check.issuer.now
-        action.check.moment action.check.octets.now s };
+        (read_mode options) (K.digest_of action.crypto.now) (K.is_signed action.crypto.now)
+        action.lists.now action.issuer.now action.moment action.octets.now s };
 
     fn answer<'a, C: Lines>(self, alloc: Global, options: Options) -> Answer<'a> {
-        match self.check.content::<C>(alloc, options) {
+        let judged = judged::<C, K>(
+            alloc,
+            options,
+            self.octets,
+            self.lists,
+            self.issuer,
+            self.crypto,
+            self.moment,
+        );
+        match judged {
             Err(answer) => answer,
             Ok(content) => {
                 let answer = say_valid(alloc, self.name, self.word, &content);
                 drop(content);
                 answer
             }
+        }
+    }
+}
+
+/// The content of the object at the front of the octets, where it is good under this issuer and no
+/// list revokes its certificate, and else what is answered.
+fn judged<'a, C: Lines, K: Crypto>(
+    alloc: Global,
+    options: Options,
+    octets: &[u8],
+    lists: &[NamedList<'_>],
+    issuer: &ResourceCert,
+    crypto: &K,
+    moment: Time,
+) -> Result<C, Answer<'a>>
+    ensures { Settles (λ text s. IsJudgedAs C.kind (C.form (C.rule_of options)) text
+        (read_mode options) (K.digest_of crypto.now) (K.is_signed crypto.now) lists.now issuer.now
+        moment octets.now s) result }
+{
+    match Bytes::copy_from_slice(alloc, octets) {
+        Err(_) => Err(Answer::OutOfMemory),
+        Ok(source) => {
+            let checked = check_passed::<C, K, _>(
+                alloc, options, source, issuer, crypto, moment, pass,
+            );
+            settled(alloc, lists, issuer, crypto, checked)
         }
     }
 }

@@ -36,10 +36,10 @@ impl JsonKind for FileKind {
     fn push_reason(
         text: &mut String,
         name: &str,
-        word: &str,
+        kind: &str,
         reason: &str,
     ) -> Result<(), AllocError> {
-        push_error(text, name, word, reason)
+        push_error(text, name, kind, reason)
     }
 }
 

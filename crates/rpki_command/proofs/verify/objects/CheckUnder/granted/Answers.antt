@@ -1,4 +1,4 @@
-use Rattle.std.proofs.Common.{◌≡◌, ◌∙◌, List, ap, subst}
+use Rattle.std.proofs.Common.{◌∙◌, List, ap, subst}
 use Rattle.std.specs.Prelude.{map}
 use Rattle.sha2.specs.Sha256.{sha256}
 use Rattle.rpki_basics.specs.Moment.{Moment}
