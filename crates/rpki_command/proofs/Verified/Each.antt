@@ -2,7 +2,7 @@
 use Rattle.std.proofs.Common.{◌≡◌, ◌<◌, ◌+◌, ◌∙◌, ℕ, suc, zero, List, [], ◌∷◌, ◌++◌, Vec, Global, Bor}
 use Rattle.std.proofs.Common.{Bool, true, false, refl, ap, sym, subst, arith, length, get_or, take}
 use Rattle.std.proofs.Common.{inr, codes}
-use Rattle.std.proofs.lemmas.List.{flat_map_more, take_more, append-assoc}
+use Rattle.std.proofs.lemmas.List.{flat_map_more, take_more, append_assoc}
 use Rattle.std.proofs.lemmas.Slice.Zip.{all_zipped_more}
 use Rattle.std.specs.List.{AllZip}
 use Rattle.std.specs.Prelude.{◌⊎◌, ◌==◌, if◌then◌else◌}
@@ -165,7 +165,7 @@ pub line-for : (reasons : Reasons) (name type what cause line : List ℕ) (s : O
     → IsLineFor reasons name type s line status
 line-for reasons name type what cause line s status is l n = inr (
   what ++ cause,
-  is ∙ ap (λ (t : List ℕ). Printed t 1) (sym (append-assoc what cause (codes "\n"))),
+  is ∙ ap (λ (t : List ℕ). Printed t 1) (sym (append_assoc what cause (codes "\n"))),
   l,
   n,
 )

@@ -169,13 +169,13 @@ no-pass cert fault e = absurd cc
 
 module _ {X : Type 0} (kind : signed.ObjectKind X) (form : List ℕ → X → Type 0)
     (text : X → List ℕ) (mode : Mode) (digest : Digester) (verdict : Verdict) (issuer : Validated)
-    (now : Moment) (octets : List ℕ) (s : Output) (lists : List GivenList) (no : IsNo s) where
+    (now : Moment) (octets : List ℕ) (s : Output) (lists : List GivenList) (denied : IsNo s) where
   no-front : (fault : DecodeError) → IsRefusal Included fault s
       → Refuses fault (HasNoFront (ObjectForm kind.type form mode) octets)
       → HasNoFront (ObjectForm kind.type form mode) octets
   no-front fault e none = elim
       (refusal-said Included fault s (HasNoFront (ObjectForm kind.type form mode) octets) e none) [
-        | inl m ↦ absurd (no.0 m)
+        | inl m ↦ absurd (denied.0 m)
         | inr p ↦ p.1
       ]
 
@@ -183,15 +183,15 @@ module _ {X : Type 0} (kind : signed.ObjectKind X) (form : List ℕ → X → Ty
       → (fault ≡ validation.Memory)
       ⊎ IsNotGood kind mode digest verdict issuer now (passes (cert_in mode o)) o fault
       → (v : Validated) → IsGood kind mode digest verdict issuer now o v → ⊥
-  not-good o fault e (inl m) v good = no.0 (e ∙ ap validation_refusal m)
+  not-good o fault e (inl m) v good = denied.0 (e ∙ ap validation_refusal m)
   not-good o fault e (inr n) v good = no-pass (cert_in mode o) fault (n v good)
 
   refused-result : (result : Result (Validated × X) CheckError)
       → IsExact kind form mode digest verdict issuer now passes octets result
       → IsJudgementSaid text verdict lists issuer result s
       → BeginsWithRefused kind form mode digest verdict lists issuer now octets
-  refused-result (Ok a) b (inl (u, inl e)) = absurd (no.0 e)
-  refused-result (Ok a) b (inl (u, inr e)) = absurd (no.1 (ap status_of e))
+  refused-result (Ok a) b (inl (u, inl e)) = absurd (denied.0 e)
+  refused-result (Ok a) b (inl (u, inr e)) = absurd (denied.1 (ap status_of e))
   refused-result (Ok a) b (inr h) =
       let own : a.0.cert ≡ record { certificate = b.object.object.signed.cert; mode = mode } =
       of-cert _ issuer a.0 b.holds.1.certificate in
@@ -204,7 +204,7 @@ module _ {X : Type 0} (kind : signed.ObjectKind X) (form : List ℕ → X → Ty
             k.certificate h.0) own h.1);
       })
   refused-result (Err (Decode fault)) b is = inl (inl (no-front fault is b))
-  refused-result (Err (Validation fault)) b (inl e) = absurd (no.0 e)
+  refused-result (Err (Validation fault)) b (inl e) = absurd (denied.0 e)
   refused-result (Err (Validation fault)) b (inr e) = inl (inr (record {
     object = b.object;
     rest = b.rest;
@@ -214,7 +214,7 @@ module _ {X : Type 0} (kind : signed.ObjectKind X) (form : List ℕ → X → Ty
 
   refused-as : IsJudgedAs kind form text mode digest verdict lists issuer now octets s
       → BeginsWithRefused kind form mode digest verdict lists issuer now octets
-  refused-as (inl e) = absurd (no.0 e)
+  refused-as (inl e) = absurd (denied.0 e)
   refused-as (inr j) = refused-result j.result j.exact j.said
 
 -- ---- by its kind
@@ -225,21 +225,21 @@ row-refused : (g : Grounds) (kind : Kind) (octets : List ℕ) (s : Output)
     (written X text members) (read_mode g.options) sha256 is_rsa_signature g.lists g.issuer g.now
     octets s)
     → IsRefusedKind g (Signed kind) octets
-row-refused g kind octets s written no h = of-row g.options kind
+row-refused g kind octets s written denied h = of-row g.options kind
     (λ X asked form text members. IsJudgedAs asked form (written X text members)
     (read_mode g.options) sha256 is_rsa_signature g.lists g.issuer g.now octets s)
     (λ X asked form text members. BeginsWithRefused asked form (read_mode g.options) sha256
     is_rsa_signature g.lists g.issuer g.now octets)
     (λ X asked form text members is. refused-as asked form (written X text members)
-    (read_mode g.options) sha256 is_rsa_signature g.issuer g.now octets s g.lists no is) h
+    (read_mode g.options) sha256 is_rsa_signature g.issuer g.now octets s g.lists denied is) h
 
 module _ (supplied : List Supply) (now : Moment) (octets : List ℕ) (s : Output)
-    (text : KeptWhole → List ℕ) (no : IsNo s) where
+    (text : KeptWhole → List ℕ) (denied : IsNo s) where
   no-attestation : (fault : DecodeError) → IsRefusal Included fault s
       → Refuses fault (HasNoFront (RtaForm Der) octets) → HasNoFront (RtaForm Der) octets
   no-attestation fault e none =
       elim (refusal-said Included fault s (HasNoFront (RtaForm Der) octets) e none) [
-        | inl m ↦ absurd (no.0 m)
+        | inl m ↦ absurd (denied.0 m)
         | inr p ↦ p.1
       ]
 
@@ -247,16 +247,16 @@ module _ (supplied : List Supply) (now : Moment) (octets : List ℕ) (s : Output
       → GrantsRta sha256 is_rsa_signature now supplied r (Err fault)
       → IsDistinct sha256 is_rsa_signature r
       → ¬ (IsGrantedRta sha256 is_rsa_signature now r supplied)
-  not-granted r fault e g = g (λ m. no.0 (e ∙ ap validation_refusal m))
+  not-granted r fault e g = g (λ m. denied.0 (e ∙ ap validation_refusal m))
 
   ungranted-result : (result : Result KeptWhole CheckError)
       → IsExactRta sha256 is_rsa_signature now supplied octets result
       → IsRtaSaid Included text result s
       → BeginsWithNoGranted is_rsa_signature now supplied octets
-  ungranted-result (Ok k) b (inl e) = absurd (no.0 e)
-  ungranted-result (Ok k) b (inr e) = absurd (no.1 (ap status_of e))
+  ungranted-result (Ok k) b (inl e) = absurd (denied.0 e)
+  ungranted-result (Ok k) b (inr e) = absurd (denied.1 (ap status_of e))
   ungranted-result (Err (Decode fault)) b is = inl (no-attestation fault is b)
-  ungranted-result (Err (Validation fault)) b (inl e) = absurd (no.0 e)
+  ungranted-result (Err (Validation fault)) b (inl e) = absurd (denied.0 e)
   ungranted-result (Err (Validation fault)) b (inr e) = inr (record {
     object = b.object;
     rest = b.rest;
@@ -266,44 +266,44 @@ module _ (supplied : List Supply) (now : Moment) (octets : List ℕ) (s : Output
 
 ungranted : (g : Grounds) (text : KeptWhole → List ℕ) (octets : List ℕ) (s : Output)
     → IsSaidOfRtaAs g text octets s → IsNo s → IsRefusedKind g Rta octets
-ungranted g text octets s (inl e) no = absurd (no.0 e)
-ungranted g text octets s (inr c) no =
-    ungranted-result (supplied_by g) g.now octets s text no c.result c.exact c.said
+ungranted g text octets s (inl e) denied = absurd (denied.0 e)
+ungranted g text octets s (inr c) denied =
+    ungranted-result (supplied_by g) g.now octets s text denied c.result c.exact c.said
 
 kind-refused : (g : Grounds) (kind : ObjectKind) (octets : List ℕ) (s : Output)
     → IsSaidOfKind g kind octets s → IsNo s → IsRefusedKind g kind octets
-kind-refused g (Signed kind) octets s h no =
-    row-refused g kind octets s (λ X text members x. yes_line ++ text x) no h
-kind-refused g Rta octets s h no = ungranted g granted_text octets s h no
+kind-refused g (Signed kind) octets s h denied =
+    row-refused g kind octets s (λ X text members x. yes_line ++ text x) denied h
+kind-refused g Rta octets s h denied = ungranted g granted_text octets s h denied
 
 file-refused : (g : Grounds) (file : GivenFile ObjectKind) (s : Output) → IsSaidOfObject g file s
     → IsNo s → IsRefusedFile g file
-file-refused g file s h no = kind-refused g file.kind file.octets s h no
+file-refused g file s h denied = kind-refused g file.kind file.octets s h denied
 
 json-kind-refused : (g : Grounds) (kind : ObjectKind) (name octets : List ℕ) (s : Output)
     → IsKindInJson g kind name octets s → IsNo s → IsRefusedKind g kind octets
-json-kind-refused g (Signed kind) name octets s h no = row-refused g kind octets s
-    (λ X text members x. file_json name (kind_word kind) (valid_members (members x))) no h
-json-kind-refused g Rta name octets s h no = ungranted g (granted_json name) octets s h no
+json-kind-refused g (Signed kind) name octets s h denied = row-refused g kind octets s
+    (λ X text members x. file_json name (kind_word kind) (valid_members (members x))) denied h
+json-kind-refused g Rta name octets s h denied = ungranted g (granted_json name) octets s h denied
 
 json-file-refused : (g : Grounds) (file : GivenFile ObjectKind) (s : Output)
     → IsObjectInJson g file s → IsNo s → IsRefusedFile g file
-json-file-refused g file s h no = json-kind-refused g file.kind file.name file.octets s h no
+json-file-refused g file s h denied = json-kind-refused g file.kind file.name file.octets s h denied
 
 objects-refused : (json : Bool) (g : Grounds) (files : List (GivenFile ObjectKind)) (s : Output)
     → IsSaidOfObjects json g files s → IsNo s → Any (IsRefusedFile g) files
-objects-refused false g files s h no =
-    each-refused (IsSaidOfObject g) (IsRefusedFile g) (file-refused g) files s h no
-objects-refused true g files s h no = json-refused (IsObjectInJson g) (IsRefusedFile g)
-    (json-file-refused g) invalid_members object_word files s h no
+objects-refused false g files s h denied =
+    each-refused (IsSaidOfObject g) (IsRefusedFile g) (file-refused g) files s h denied
+objects-refused true g files s h denied = json-refused (IsObjectInJson g) (IsRefusedFile g)
+    (json-file-refused g) invalid_members object_word files s h denied
 
 -- ---- by the files
 
--- why there is no issuer is neither that memory ran out where that is not said
+-- why there is no issuer is not that memory ran out, where that is not said
 has-memory : (refusal : NoIssuer) (s : Output) → IsNoIssuerSaid refusal s → IsNo s
     → no_issuer refusal.file.now refusal.fault ≡ out_of_memory → ⊥
-has-memory refusal s (inl e) no m = no.0 e
-has-memory refusal s (inr e) no m = no.0 (e ∙ m)
+has-memory refusal s (inl e) denied m = denied.0 e
+has-memory refusal s (inr e) denied m = denied.0 (e ∙ m)
 
 module _ (m : Manner) (f : CheckedFiles) (s : Output) (one : status_of s ≡ 1) where
   -- why there is none, where that is said of each object

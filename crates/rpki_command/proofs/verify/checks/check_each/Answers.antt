@@ -1,4 +1,6 @@
 use Rattle.std.proofs.Common.{◌≡◌, ◌∙◌, List, ℕ, Ok, Err, Bor, refl, inr, ap, sym, rules, length}
+use Rattle.std.proofs.Common.{subst}
+use Rattle.rpki_command.specs.Verify.Checks.{SaidWithLists}
 use Rattle.std.proofs.lemmas.List.{length-map}
 use Rattle.std.specs.List.{zip}
 use Rattle.rpki_certs.specs.Issuer.{octets_of}
@@ -67,4 +69,8 @@ returns-in-len1-up c =
     (c.deref-in-Ok-locator_if.ensures.value ∙ c.in-Ok.ensures
     ∙ ap (λ (names : List (Bor (List ℕ))). asked_in (texts names) c.args.kinds.now
     (octets_of (from-at e (from-at b (from-at a (below-of files)))))) c.deref.ensures.value)
-    c.in-Ok-locator_if.ensures c.check_listed.ensures)
+    c.in-Ok-locator_if.ensures
+    (subst (λ (names : List (Bor (List ℕ))). SaidWithLists manner certs
+    (zip (texts names) (octets_of (from-at b (from-at a (below-of files)))))
+    c.deref-in-Ok-locator_if.result.now c.in-Ok-locator_if.locator (said c.check_listed.result))
+    c.deref-names.ensures.value c.check_listed.ensures))
