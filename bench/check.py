@@ -1,4 +1,5 @@
-"""Measures `rpki_verify check roa` beside `rpki-client -f` on the same ROAs, for bench/run.
+"""Measures `rpki_verify check roa` beside `rpki-client -f` on the same ROAs, for bench/run, and
+`rpki_verify check` of many ROAs in one run.
 
 The ROAs have 10 to 100,000 prefixes, and their signers' certificates 2 or 1,000 blocks. All are
 below one CA and one trust anchor, laid out as rpki-client wants its cache. bench/README.md says
@@ -23,6 +24,8 @@ PROGRAMS = ("rpki_verify",)
 PATH = f"{os.environ['PATH']}:/usr/sbin"
 BLOCKS, PREFIXES = (2, 1000), (10, 1000, 100_000)
 MOMENT = "20270101000000Z"
+# How many ROAs of `examples/` are checked in one run beside the first.
+MORE = 100
 
 
 def blocks(count):
@@ -64,6 +67,14 @@ class Object:
             chain = self.host / "anchor.cer", self.host / "anchor/authority.cer"
             words = ["check", "roa", self.file, MOMENT, *chain]
         return list(map(str, words))
+
+
+def words_of_many(more):
+    """The words that ask `rpki_verify` for a ROA of two prefixes, and again so many more times."""
+    host = TOP / "examples" / make.HOST
+    chain = "--ta", host / "anchor.cer", "--ca", host / "anchor/authority.cer"
+    files = [host / "authority/origin.roa"] * (1 + more)
+    return list(map(str, ["check", "--at", MOMENT, *chain, *files]))
 
 
 def objects(folder):
@@ -166,16 +177,42 @@ def times(launcher, subjects, found, tries):
             for (subject, name), (clock, processor, memory) in runs.items()]
 
 
+def of_each(one, all_of_them):
+    """What each further ROA takes of a run."""
+    return (all_of_them - one) / MORE
+
+
+def time_of_many(launcher, subjects, tries):
+    """Milliseconds of the processor for each further ROA of a run, by the least of each run."""
+    path = subjects.get("rpki_verify")
+    if not path:
+        return None
+    runs = [[took(launcher, path, words_of_many(more))[1] for more in (0, MORE)]
+            for _ in range(tries)]
+    return of_each(*map(min, zip(*runs)))
+
+
+def counted(path, words):
+    """The instructions of a run, of all processes that it begins."""
+    words = ["valgrind", "--tool=callgrind", "--callgrind-out-file=/dev/null", path, *words]
+    done = subprocess.run(words, capture_output=True, text=True)
+    return sum(map(int, re.findall(r"Collected : (\d+)", done.stderr)))
+
+
+def instructions_of_many(subjects, in_turn):
+    """The instructions for each further ROA of a run."""
+    path = subjects.get("rpki_verify")
+    if not path:
+        return None
+    return of_each(*in_turn(lambda more: counted(path, words_of_many(more)), (0, MORE)))
+
+
 def instructions(subjects, found, in_turn, few):
     """The instructions of a run, of all processes that it begins, by subject and object."""
     asked = [(subject, it) for subject in subjects for it in found if not few or it.count < 1000]
 
-    def counted(pair):
+    def of(pair):
         subject, it = pair
-        words = ["valgrind", "--tool=callgrind", "--callgrind-out-file=/dev/null",
-                 subjects[subject], *it.words(subject)]
-        done = subprocess.run(words, capture_output=True, text=True)
-        return sum(map(int, re.findall(r"Collected : (\d+)", done.stderr)))
+        return counted(subjects[subject], it.words(subject))
 
-    return {(subject, it.name): count
-            for (subject, it), count in zip(asked, in_turn(counted, asked))}
+    return {(subject, it.name): count for (subject, it), count in zip(asked, in_turn(of, asked))}

@@ -142,6 +142,8 @@ def compared(it):
     yield (what, "its two verdicts", divided(ours, 2 * two), of_verdicts(it), OF_VERDICTS)
     theirs = twice(it.openssl(2048))
     yield what, "the same two by `openssl`", divided(ours, theirs), None, None
+    yield ("checking each further ROA of two prefixes in one run of `rpki_verify check`",
+           "its two verdicts", *of_many(it), OF_VERDICTS)
     for work, (what, entries) in READ.items():
         yield (f"{what}, {TYPICAL:,} {entries}", "plain Rust",
                it.factor(work, TYPICAL, "processor"), it.factor(work, TYPICAL, "instructions"),
@@ -157,6 +159,15 @@ def compared(it):
 def of_verdicts(it):
     two = it.value("verdict", "library", 2048, "instructions")
     return divided(it.value("check-roa", "library", 1, "instructions"), two and 2 * two)
+
+
+def of_many(it):
+    """The factors in time and in instructions of each further ROA of a run to its two verdicts."""
+    many = it.found.get("many", {})
+    # (milliseconds)
+    times = many.get("processor") and many["processor"] * 1e6
+    return [divided(one, twice(it.value("verdict", "library", 2048, what)))
+            for one, what in ((times, "processor"), (many.get("instructions"), "instructions"))]
 
 
 def sorted_by(it, is_slower):

@@ -23,8 +23,8 @@ _rpki_verify_calls='[--relaxed] [--registered] [--wide] check --ta TA [SETTING .
 --help
 --version'
 # What may stand in any order; what ends in .. may stand again.
-_rpki_check_settings='--ta TA|--ca CA ..|--tal TAL|--crl CRL ..|--at MOMENT|--kind KIND|--relaxed|--registered|--wide|FILE ..'
-_rpki_show_settings='--kind KIND|--relaxed|--registered|--wide|FILE ..'
+_rpki_check_settings='--ta TA|--ca CA ..|--tal TAL|--crl CRL ..|--at MOMENT|--kind KIND|--json|--relaxed|--registered|--wide|FILE ..'
+_rpki_show_settings='--kind KIND|--json|--relaxed|--registered|--wide|FILE ..'
 _rpki_objects_calls='[--relaxed] [--registered] [--wide] content KIND FILE
 [--relaxed] [--registered] [--wide] show KIND FILE
 [--relaxed] [--registered] [--wide] show rta FILE

@@ -85,7 +85,7 @@ fn outcomes(rt: HostRuntime) -> Result<(), AllocError> {
 
 def signer(serial, ski, sia):
     """The members of the certificate of a signer."""
-    said = {"serial": serial, "valid_since": "2026-01-01T00:00:00Z",
+    said = {"cert_serial": serial, "valid_since": "2026-01-01T00:00:00Z",
             "valid_until": "2040-01-01T00:00:00Z", "ski": ski,
             "aki": "C78637259551E49913A293A978985D33FBECF9C1"}
     if sia:
@@ -97,7 +97,7 @@ def signer(serial, ski, sia):
 
 def certificate(serial, ski, aki, folder, manifest, above, asns, ipv4, ipv6):
     """The members of the certificate of a CA."""
-    said = {"serial": serial, "valid_since": "2026-01-01T00:00:00Z",
+    said = {"cert_serial": serial, "valid_since": "2026-01-01T00:00:00Z",
             "valid_until": "2040-01-01T00:00:00Z", "ski": ski}
     if aki:
         said["aki"] = aki
@@ -132,6 +132,30 @@ def revoked_list():
     return der(0x30, signed, algorithm, der(0x03, b"\0\xab"))
 
 
+def parts(octets):
+    """The values of DER in these octets, one after the other."""
+    found = []
+    while octets:
+        size, head = octets[1], 2
+        if size & 0x80:
+            head = 2 + (size & 0x7F)
+            size = int.from_bytes(octets[2:head], "big")
+        found.append(octets[:head + size])
+        octets = octets[head + size:]
+    return found
+
+
+def contents(value):
+    """What stands in a value of DER."""
+    return value[2 + (value[1] & 0x7F if value[1] & 0x80 else 0):]
+
+
+def signer_of(octets):
+    """The certificate in a signed object, which stands in the SignedData of the ContentInfo."""
+    signed = contents(parts(contents(octets))[1])
+    return contents(parts(contents(signed))[3])
+
+
 def key_id(locator):
     """The SHA-1 digest of the bits of the key in a locator."""
     info = base64.b64decode(locator.split(b"\n\n", 1)[1])
@@ -152,6 +176,8 @@ MOMENT = "2026-11-01T00:00:00Z"
 SIGNED = {"signing_time": MOMENT}
 ANCHOR_KEY = "1A3A434D3CB238F39188C4ED212421A717BB7C97"
 AUTHORITY_KEY = "C78637259551E49913A293A978985D33FBECF9C1"
+MANIFEST_KEY = "C1888A395EE37A39F79146694636294EE42B4CED"
+INHERITED = {"asns": ["inherit"], "ipv4": ["inherit"], "ipv6": ["inherit"]}
 AUTHORITY = f"{HOST}/authority/"
 # Files, how they are shown, the word of their kind, and what is said of them.
 OBJECTS = [
@@ -163,12 +189,12 @@ OBJECTS = [
      {"customer": "AS64496", "providers": ["AS64497", "AS64511"]} | SIGNED
      | signer("02", "ACB452912B9B562E3E26A1A9B016182187C22E41", "providers.asa")),
     ("rpki.example.net/authority/authority.mft", "Object(Kind::Manifest)", "manifest",
-     {"manifest_number": "1", "this_update": MOMENT, "next_update": "2036-01-01T00:00:00Z",
-      "files": [{"name": name, "hash": it} for name, it in HASHES]} | SIGNED
-     | signer("06", "C1888A395EE37A39F79146694636294EE42B4CED", "authority.mft")),
+     {"manifest_number": "01", "this_update": MOMENT, "next_update": "2036-01-01T00:00:00Z",
+      "files": [{"filename": name, "hash": it} for name, it in HASHES]} | SIGNED
+     | signer("06", MANIFEST_KEY, "authority.mft")),
     ("letter.sig", "Object(Kind::Rsc)", "rsc",
      {"asns": ["AS64496"], "ipv4": ["192.0.2.0/24"], "ipv6": [],
-      "files": [{"name": "letter.txt",
+      "files": [{"filename": "letter.txt",
                  "hash": "5c8437e345f639d9940ed7d853023f6d069e923d7ab43a092591b9dbdefe1aeb"},
                 {"hash": "aee7b480ff51d4c93c72c1fc60aac4ab0187e4a1447d79d226198cb9dd4b2d4d"}]}
      | SIGNED | signer("07", "1B95E79E269CA2092ABA65FB1D2FB3F9557D1C1A", None)),
@@ -177,7 +203,8 @@ OBJECTS = [
                "22C1F88A54BF57519EC5DE1FBA3C46609A8E4E42"],
       "asns": ["AS64500-AS64503", "AS65536-AS65543"],
       "ipv4": ["198.51.100.0/25", "203.0.113.0/24"], "ipv6": ["2001:db8:100::/40", "3fff::/24"],
-      "digest": "27b1475ecc05bc4bbfc386c70f7bd74b99e7926da240c1e439a00700fdb4a9f2"}),
+      "digest": "27b1475ecc05bc4bbfc386c70f7bd74b99e7926da240c1e439a00700fdb4a9f2",
+      "certificates": 5, "crls": 3, "signers": 2}),
     ("rpki.example.net/anchor.cer", "Certificate", "certificate",
      certificate("01", ANCHOR_KEY, None, "anchor", "anchor.mft", None,
                  ["AS0-AS4294967295"], ["0.0.0.0/0"], ["::/0"])),
@@ -186,14 +213,14 @@ OBJECTS = [
                  ["AS64496-AS64511"], ["192.0.2.0/24", "198.51.100.0/24"], ["2001:db8::/32"])),
     ("rpki.example.net/authority/authority.crl", "Crl", "crl",
      {"crl_number": "01", "this_update": MOMENT, "next_update": "2036-01-01T00:00:00Z",
-      "aki": AUTHORITY_KEY, "revoked": []}),
+      "aki": AUTHORITY_KEY, "revoked_certs": []}),
     ("anchor.tal", "Tal", "tal",
-     {"uris": [f"{HOST}/anchor.cer"], "key_id": ANCHOR_KEY}),
+     {"uris": [f"{HOST}/anchor.cer"], "ski": ANCHOR_KEY}),
 ]
 REVOKED = {"crl_number": "0102", "this_update": "2026-01-01T00:00:00Z",
            "next_update": "2027-01-01T00:00:00Z", "aki": bytes(range(20)).hex().upper(),
-           "revoked": [{"serial": "0100", "date": "2024-01-02T03:04:05Z"},
-                       {"serial": "7F", "date": "2025-01-02T03:04:05Z"}]}
+           "revoked_certs": [{"serial": "0100", "date": "2024-01-02T03:04:05Z"},
+                             {"serial": "7F", "date": "2025-01-02T03:04:05Z"}]}
 WHOLE = ("aspa\ncustomer AS64496\nprovider AS64497\nprovider AS64511\n"
          f"signing {MOMENT}\nee 2 ACB452912B9B562E3E26A1A9B016182187C22E41\n"
          "serial 02\nvalid-from 2026-01-01T00:00:00Z\nvalid-until 2040-01-01T00:00:00Z\n"
@@ -238,15 +265,21 @@ def main():
     for path, shown, word, said in OBJECTS:
         octets = (TREE / path).read_bytes()
         if path.endswith(".tal"):
-            assert key_id(octets) == said["key_id"]
+            assert key_id(octets) == said["ski"]
         print_test(number, path, octets, shown, line({"file": path, "type": word} | said))
-        # What is cut is malformed, under any name.
-        print_test(number + 1, path, octets[:-1], shown, "malformed")
+        # What is cut is malformed, under any name. The last line feed of a locator may be missing.
+        cut = octets.rstrip(b"\n")[:-1] if shown == "Tal" else octets[:-1]
+        print_test(number + 1, path, cut, shown, "malformed")
         number += 2
     octets = revoked_list()
     print_test(number, "a.crl", octets, "Crl", line({"file": "a.crl", "type": "crl"} | REVOKED))
     octets = (TREE / "rpki.example.net/authority/providers.asa").read_bytes()
     print_test(number + 1, "a", octets, "Whole(Kind::Aspa)", WHOLE)
+    # The certificate of a manifest's signer inherits its numbers.
+    octets = signer_of((TREE / "rpki.example.net/authority/authority.mft").read_bytes())
+    said = signer("06", MANIFEST_KEY, "authority.mft") | {"ca": False} | INHERITED
+    print_test(number + 2, "ee.cer", octets, "Certificate",
+               line({"file": "ee.cer", "type": "certificate"} | said))
 
 
 if __name__ == "__main__":

@@ -82,22 +82,28 @@ HELP = """usage: rpki_verify [OPTION ..] check --ta TA [SETTING ..] FILE ..
        rpki_verify --help
        rpki_verify --version
 OPTION, in this order: --relaxed --registered --wide
-SETTING, before or after FILE: --kind KIND, or an OPTION
+SETTING, before or after FILE: --kind KIND, --json, or an OPTION
 SETTING of check also: --ca CA, --tal TAL, --crl CRL, --at MOMENT
 KIND: aspa, manifest, roa or rsc; of show and content, and after --kind, also rta
 KIND after --kind of show also: certificate, crl or tal
-FILE after settings: without --kind its name tells its kind
-MOMENT: now, or YYYYMMDDHHMMSSZ; after --at also YYYY-MM-DDTHH:MM:SSZ
+FILE after settings: without --kind its name tells its kind; - is standard input
+After -- each word is a FILE of check or show.
+MOMENT: now, YYYYMMDDHHMMSSZ or YYYY-MM-DDTHH:MM:SSZ
 CA of walk: any file but one named with
 FILE after verdicts: any file but one named rta
 COPY of payloads: any folder but one named --csv or --json
 ANCHOR: tal=FILE or ca=TA[:CA ..]
-Without --crl nothing is said of revocation.
+Status: 0 yes or shown, 1 no, 2 asked wrongly, 3 out of memory, 4 a file can't be read
+Example: rpki_verify check --ta anchor.cer --ca authority.cer *.roa
+Without --crl nothing is said of revocation; an attestation is checked by the lists that it carries.
 """
 WRONG = 2, "wrong words, expected:\n" + HELP, 0
 VERSION = "rpki_verify 0.1.0\n"
 NO_TIME = 2, "cannot tell the time\n", 0
 GOOD, EARLY, LATE = "20270101000000Z", "20250101000000Z", "20410101000000Z"
+RFC_3339 = "2027-01-01T00:00:00Z"
+WRONG_MOMENTS = ("NOW", "today", "20270229000000Z", "2027010100000Z", "20270101000000", "",
+                 "2027-02-29T00:00:00Z", "2027-01-01t00:00:00Z", "2027-01-01T00:00:00+00:00")
 NOT_YET = 1, "issuer refused: certificate is not yet valid\n"
 OVER = 1, "issuer refused: certificate has expired\n"
 
@@ -261,6 +267,11 @@ ROWS = [
     (["payloads", "--json", "./--csv", GOOD, "--csv"], None, 4,
      "cannot read --csv: no such file\n", 1),
     (["payloads", "copy", "now", "second"], None, *NO_TIME),
+    # Moments as RFC 3339 has them.
+    (check("roa", "roa", moment=RFC_3339), None, 0, "yes\n" + ROA, 3),
+    (walk("origin.roa=roa", moment=RFC_3339), None, 0, held("origin.roa"), 4),
+    (rta("agreement", moment=RFC_3339), None, 0, "yes\n" + AGREEMENT, 4),
+    (["payloads", "copy", RFC_3339, "second"], None, 1, MALFORMED, 1),
     (["payloads", "copy", GOOD, "second", "none", "roa"], None, *NONE, 2),
     (["payloads", "copy", GOOD, "large", "none"], None, *LARGE, 1),
     # Checks with settings, of one file and of several.
@@ -315,38 +326,52 @@ ROWS = [
     (["verdicts", "--relaxed", "roa", "anchor"], None, 4,
      "cannot read --relaxed: no such file\n", 1),
 ]
-# Words that ask for nothing that there is.
+# Words that ask for nothing, of which none is wrong in its place.
 OTHER_WORDS = [
-    [], ["help"], ["--help", "--help"], ["--help", "roa"], ["--version", "--help"], ["check"], ["check", "roa", "roa", GOOD],
-    check("none", "roa"), check("tal", "roa"), check("rta", "roa"),
-    check("roa", "roa", moment="NOW"), check("roa", "roa", moment="today"),
-    check("roa", "roa", moment="20270229000000Z"), check("roa", "roa", moment="2027010100000Z"),
-    check("roa", "roa", moment="20270101000000"), check("roa", ""), check("roa", "roa", ""),
+    [], ["--help", "--help"], ["--help", "roa"], ["--version", "--help"], ["check"],
+    ["check", "roa", "roa", GOOD], ["check", "roa", "roa", RFC_3339], check("roa", ""),
+    check("roa", "roa", ""),
     check("roa", "roa", chain=[""]), ["verdicts"], ["verdicts", "roa"], listed(""),
     listed("roa", ""), listed("roa", chain=["", "authority"]), ["show"],
-    ["show", "certificate", ""], ["content", "crl", "authority"],
+    ["show", "certificate", ""],
     ["verdicts", "rta"], ["verdicts", "rta", "agreement"], listed("rta"), rta_listed(""),
     rta_listed("agreement", "anchor"), rta_listed("agreement", "tal=second", "second"),
     rta_listed("agreement", "tal="), rta_listed("agreement", "ca=anchor:"),
-    rta_listed("agreement", "TAL=second"), ["rta", "verdicts", "agreement", *ANCHORS],
-    ["content", "rta", ""], ["content", "tal", "roa"], ["show", "roa", ""],
+    rta_listed("agreement", "TAL=second"), ["content", "rta", ""], ["show", "roa", ""],
     ["rta", "roa", GOOD, "roa", "tal=roa"],
     ["payloads"], ["payloads", "copy"], ["payloads", "copy", GOOD],
-    ["payloads", "--csv", "copy", GOOD], ["payloads", "--csv", "--json", GOOD, "tal"],
-    ["payloads", "--json", "--csv", GOOD, "tal"], ["payloads", "--yaml", "copy", GOOD, "tal"],
-    ["payloads", "copy", "20270229000000Z", "tal"], ["payloads", "", GOOD, "tal"],
+    ["payloads", "--csv", "copy", GOOD], ["payloads", "", GOOD, "tal"],
     ["payloads", "copy", GOOD, ""], ["payloads", "copy", GOOD, "tal", ""],
-    ["payloads", GOOD, "copy", "tal"], ["payloads", "copy", "--csv", GOOD, "tal"],
     ["walk"], ["walk", "manifest", GOOD, "with"], walk()[:-1], walk("roa"), walk("origin.roa="),
-    walk("="), walk("origin.roa=roa", "with"), walk("origin.roa=roa", moment="20270229000000Z"),
+    walk("="), walk("origin.roa=roa", "with"),
     walk("origin.roa=roa", file=""), walk("origin.roa=roa", chain=["anchor", ""]),
-    ["walk", "manifest", GOOD, "anchor", "authority", "origin.roa=roa"],
-    ["--wide", "--relaxed"] + check("roa", "roa"), ["--relaxed", "--relaxed"] + listed("roa"),
-    ["--strict"] + check("roa", "roa"), ["check", "--wide"] + check("roa", "roa")[1:],
+    ["walk", "manifest", GOOD, "anchor", "authority", "origin.roa=roa"], ["--relaxed", "--wide"],
 ]
 ROWS += [(words, GOOD, *WRONG) for words in OTHER_WORDS]
-# Words with settings that ask for nothing, and what is said of them.
+# Words that ask for nothing but how the program is called.
+ROWS += [([*before, command, word, *after], GOOD, 0, HELP, 0)
+         for command in ("check", "content", "payloads", "rta", "show", "verdicts", "walk")
+         for word in ("--help", "-h") for before in ([], ["--wide"]) for after in ([], ["roa"])
+         if (command, after) != ("verdicts", ["roa"])]
+# Words that ask for nothing, and what is said of them: which word is wrong.
 WRONG_WORDS = [
+    (["help"], "unknown command: help"), (["-"], "unknown command: -"),
+    (["--wide", "", "roa"], "unknown command: "),
+    (["--strict"] + check("roa", "roa"), "unknown option: --strict"),
+    (["--wide", "--relaxed"] + check("roa", "roa"), "unknown option: --relaxed"),
+    (["--relaxed", "--relaxed"] + listed("roa"), "unknown option: --relaxed"),
+    (["check", "--wide"] + check("roa", "roa")[1:], "missing: --ta"),
+    *((check(kind, "roa"), f"unknown kind: {kind}") for kind in ("none", "tal", "rta", "-", "")),
+    *((["content", kind, "roa"], f"unknown kind: {kind}") for kind in ("crl", "tal", "--wide")),
+    *((check("roa", "roa", moment=it), f"wrong moment: {it}") for it in WRONG_MOMENTS),
+    (walk("origin.roa=roa", moment="20270229000000Z"), "wrong moment: 20270229000000Z"),
+    (["rta", "verdicts", "agreement", *ANCHORS], "wrong moment: agreement"),
+    (["payloads", "copy", "20270229000000Z", "tal"], "wrong moment: 20270229000000Z"),
+    (["payloads", GOOD, "copy", "tal"], "wrong moment: copy"),
+    (["payloads", "copy", "--csv", GOOD, "tal"], "wrong moment: --csv"),
+    (["payloads", "--csv", "--json", GOOD, "tal"], "unknown option: --json"),
+    (["payloads", "--json", "--csv", GOOD, "tal"], "unknown option: --csv"),
+    (["payloads", "--yaml", "copy", GOOD, "tal"], "unknown option: --yaml"),
     (each("-x"), "unknown option: -x"), (each("origin.roa", "--ta=b"), "unknown option: --ta=b"),
     (each("origin.roa", "--crl"), "no value: --crl"),
     (each("--csv", "origin.roa"), "no option of check: --csv"),

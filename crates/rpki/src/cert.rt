@@ -1,6 +1,8 @@
 //! Certificates, the issuer that a chain of them makes, and making them.
 
-pub use rpki_certs::{Cert, IssuerError, KeyUsage, Overclaim, ResourceCert, issuer_at};
+pub use rpki_certs::{
+    Cert, IssuerError, KeyUsage, Overclaim, ResourceCert, issued_at, issuer_at, read_cert,
+};
 pub use rpki_issued::TbsCert;
 
 /// What is signed, in its octets, and claims that are built.

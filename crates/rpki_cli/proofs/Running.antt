@@ -304,9 +304,9 @@ module _ (p : Program) (once : IsAskedOnce p.language) (told : Told) (old new : 
     order-done o asked (inr a) = absurd (a.0 o asked)
 
     wrong-said : AskForNothing p.language words → IsAnswer p told words old new s
-        → IsSaid p.wrong run
+        → IsSaid (p.wrong words) run
     wrong-said nothing (inl a) = absurd (nothing a.0 a.1)
-    wrong-said nothing (inr a) = said-as s p.wrong run a.1 h
+    wrong-said nothing (inr a) = said-as s (p.wrong words) run a.1 h
 
     pub run-said : IsRunOf p told words old new run
     run-said = record {

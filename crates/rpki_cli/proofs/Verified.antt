@@ -6,4 +6,7 @@ pub mod Moments
 pub mod Optioned
 pub mod Orders
 pub mod Requests
+pub mod Said
 pub mod Settings
+pub mod Tested
+pub mod Wrong

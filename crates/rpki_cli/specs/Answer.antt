@@ -110,17 +110,20 @@ usage_text = codes "usage: rpki_verify [OPTION ..] check --ta TA [SETTING ..] FI
     ++ (codes "       rpki_verify --help\n"
     ++ (codes "       rpki_verify --version\n"
     ++ (codes "OPTION, in this order: --relaxed --registered --wide\n"
-    ++ (codes "SETTING, before or after FILE: --kind KIND, or an OPTION\n"
+    ++ (codes "SETTING, before or after FILE: --kind KIND, --json, or an OPTION\n"
     ++ (codes "SETTING of check also: --ca CA, --tal TAL, --crl CRL, --at MOMENT\n"
     ++ (codes "KIND: aspa, manifest, roa or rsc; of show and content, and after --kind, also rta\n"
     ++ (codes "KIND after --kind of show also: certificate, crl or tal\n"
-    ++ (codes "FILE after settings: without --kind its name tells its kind\n"
-    ++ (codes "MOMENT: now, or YYYYMMDDHHMMSSZ; after --at also YYYY-MM-DDTHH:MM:SSZ\n"
+    ++ (codes "FILE after settings: without --kind its name tells its kind; - is standard input\n"
+    ++ (codes "After -- each word is a FILE of check or show.\n"
+    ++ (codes "MOMENT: now, YYYYMMDDHHMMSSZ or YYYY-MM-DDTHH:MM:SSZ\n"
     ++ (codes "CA of walk: any file but one named with\n"
     ++ (codes "FILE after verdicts: any file but one named rta\n"
     ++ (codes "COPY of payloads: any folder but one named --csv or --json\n"
     ++ (codes "ANCHOR: tal=FILE or ca=TA[:CA ..]\n"
-    ++ codes "Without --crl nothing is said of revocation.\n")))))))))))))))))))))))))
+    ++ (codes "Status: 0 yes or shown, 1 no, 2 asked wrongly, 3 out of memory, 4 a file can't be read\n"
+    ++ (codes "Example: rpki_verify check --ta anchor.cer --ca authority.cer *.roa\n"
+    ++ codes "Without --crl nothing is said of revocation; an attestation is checked by the lists that it carries.\n"))))))))))))))))))))))))))))
 
 -- that program says how it is called
 abbrev pub help : Output

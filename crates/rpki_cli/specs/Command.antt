@@ -51,11 +51,11 @@ pub data Task : Type 1 where
   DoSet : (C : Type 0) (IsSet : C → Type 0) (IsWrong : Output → Type 0) (task : C → Task) → Task
 
 -- A program: how its orders are written, what a command comes to with options, and what is said to
--- words that ask for nothing.
+-- words that ask for nothing, which may name the word that is wrong.
 pub record Program : Type 1 where
   pub language : Language
   pub task : Options → language.Command → Task
-  pub wrong : Output
+  pub wrong : List (List ℕ) → Output
 
 -- what an order comes to
 abbrev pub order_task : (p : Program) → Order p.language.Command → Task
@@ -134,7 +134,7 @@ abbrev pub IsAnswer : Program → Told → List (List ℕ) → Names → Names �
 IsAnswer p told words old new s =
     ((o : Order p.language.Command) × IsAsked p.language words o
     × IsTaskAnswer told (order_task p o) old new s)
-    ⊎ (AskForNothing p.language words × (s ≡ p.wrong))
+    ⊎ (AskForNothing p.language words × (s ≡ p.wrong words))
 
 -- this is said, unless memory runs out
 abbrev pub OrOutOfMemory : Output → Run → Type 0
@@ -198,7 +198,7 @@ IsTaskDone told (DoSet C IsSet IsWrong task) old new run =
 pub record IsRunOf (p : Program) (told : Told) (words : List (List ℕ)) (old new : Names)
     (run : Run) : Type 0 where
   -- words that ask for nothing
-  pub wrong : AskForNothing p.language words → IsSaid p.wrong run
+  pub wrong : AskForNothing p.language words → IsSaid (p.wrong words) run
   -- words that ask for this
   pub done : (o : Order p.language.Command) → IsAsked p.language words o
       → IsTaskDone told (order_task p o) old new run
@@ -224,11 +224,11 @@ pub record IsSaidUnread (s : Output) (old new : Names) (run : Run) : Type 0 wher
   pub reads : new ≡ old
 
 -- What the start of a program does: it runs the words after the program's name. Where one of them
--- is no text (UTF-8) it says that they are wrong instead, and where memory runs out before they are
--- run it says that; either way it reads no file. Where the arguments are not told, the words may be
--- any texts, and it may be said as well that they are wrong.
+-- is no text (UTF-8) it says what it says to no words instead, and where memory runs out before
+-- they are run it says that; either way it reads no file. Where the arguments are not told, the
+-- words may be any texts, and it may be said as well what is said to no words.
 abbrev pub IsStartOf : Program → ToldArguments → Told → Names → Names → Run → Type 0
 IsStartOf p arguments told old new run =
     ((words : List (List ℕ)) × AreTexts arguments words × IsRunWith p told words old new run)
-    ⊎ ((HaveNoText arguments × IsSaidUnread p.wrong old new run)
+    ⊎ ((HaveNoText arguments × IsSaidUnread (p.wrong []) old new run)
     ⊎ IsSaidUnread out_of_memory old new run)

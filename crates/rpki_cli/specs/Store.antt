@@ -29,6 +29,7 @@ abbrev pub Names : Type 0
 Names = List (List ℕ)
 
 -- What a store tells of each file, by its name: its octets, that it can't be read, or nothing.
+-- Why a file can't be read it does not tell: any reason may be answered.
 abbrev pub Told : Type 0
 Told = List ℕ → Option (Option (List ℕ))
 

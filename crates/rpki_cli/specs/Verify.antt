@@ -6,3 +6,4 @@ pub mod Moments
 pub mod Requests
 pub mod Settings
 pub mod Words
+pub mod Wrong

@@ -34,17 +34,20 @@ const USAGE: &[u8] = b"usage: rpki_verify [OPTION ..] check --ta TA [SETTING ..]
        rpki_verify --help
        rpki_verify --version
 OPTION, in this order: --relaxed --registered --wide
-SETTING, before or after FILE: --kind KIND, or an OPTION
+SETTING, before or after FILE: --kind KIND, --json, or an OPTION
 SETTING of check also: --ca CA, --tal TAL, --crl CRL, --at MOMENT
 KIND: aspa, manifest, roa or rsc; of show and content, and after --kind, also rta
 KIND after --kind of show also: certificate, crl or tal
-FILE after settings: without --kind its name tells its kind
-MOMENT: now, or YYYYMMDDHHMMSSZ; after --at also YYYY-MM-DDTHH:MM:SSZ
+FILE after settings: without --kind its name tells its kind; - is standard input
+After -- each word is a FILE of check or show.
+MOMENT: now, YYYYMMDDHHMMSSZ or YYYY-MM-DDTHH:MM:SSZ
 CA of walk: any file but one named with
 FILE after verdicts: any file but one named rta
 COPY of payloads: any folder but one named --csv or --json
 ANCHOR: tal=FILE or ca=TA[:CA ..]
-Without --crl nothing is said of revocation.";
+Status: 0 yes or shown, 1 no, 2 asked wrongly, 3 out of memory, 4 a file can't be read
+Example: rpki_verify check --ta anchor.cer --ca authority.cer *.roa
+Without --crl nothing is said of revocation; an attestation is checked by the lists that it carries.";
 
 /// What stands in front of it after wrong words.
 const WRONG: &[u8] = b"wrong words, expected:\n";

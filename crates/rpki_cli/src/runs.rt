@@ -30,14 +30,14 @@ pub trait Program {
         ensures same { S.told store.new ≡ S.told store.old };
 
     /// What it answers to words that ask for nothing.
-    fn wrong<'a>(&self) -> Answer<'a>
-        ensures { said result ≡ (program self.now).wrong };
+    fn wrong<'a>(&self, words: &'a [&'a str]) -> Answer<'a>
+        ensures { said result ≡ (program self.now).wrong (texts words.now) };
 }
 
 /// Runs a program with its arguments, the first of which is its name, and gives the status that the
-/// process ends with: 0, 1, 2 or 3, as `command` answers it. Where a word is no text (UTF-8), the
-/// words are wrong, and `out of memory` with 3 is the answer where there is not memory enough for
-/// them.
+/// process ends with: 0, 1, 2, 3 or 4, as `command` answers it. Where a word is no text (UTF-8), the
+/// answer is that to no words, and `out of memory` with 3 is the answer where there is not memory
+/// enough for them.
 pub fn start<P: Program, A: Arguments, S: Store, O: Sink, E: Sink>(
     alloc: Global,
     program: &P,
@@ -56,8 +56,8 @@ pub fn start<P: Program, A: Arguments, S: Store, O: Sink, E: Sink>(
 }
 
 /// Runs a program with its arguments, the first of which is its name, and gives the exit status, as
-/// `command` answers it. Where a word is no text (UTF-8), the words are wrong, and `out of memory`
-/// with 3 is the answer where there is not memory enough for them.
+/// `command` answers it. Where a word is no text (UTF-8), the answer is that to no words, and `out
+/// of memory` with 3 is the answer where there is not memory enough for them.
 pub fn run<P: Program, A: Arguments, S: Store, O: Sink, E: Sink>(
     alloc: Global,
     program: &P,
@@ -73,7 +73,7 @@ pub fn run<P: Program, A: Arguments, S: Store, O: Sink, E: Sink>(
 {
     match words_of(alloc, arguments) {
         Err(WordsError::Memory) => say(&Answer::OutOfMemory, out, err),
-        Err(WordsError::NoText) => say(&program.wrong(), out, err),
+        Err(WordsError::NoText) => say(&program.wrong(&[]), out, err),
         Ok(words) => run_with(alloc, program, &words, store, out, err),
     }
 }

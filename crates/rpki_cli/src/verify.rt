@@ -10,6 +10,7 @@ mod relying_party;
 pub mod requests;
 pub mod settings;
 pub mod words;
+pub mod wrong;
 
 pub use clock::{moment_of, now};
 pub use relying_party::{PayloadsRequest, RelyingParty};

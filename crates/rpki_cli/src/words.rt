@@ -1,6 +1,7 @@
 //! What the program is asked.
 
 ghost use Rattle.std.specs.Prelude.{◌≡◌, ◌∷◌, ◌++◌, Bool, MatchOption, codes};
+ghost use Rattle.std.specs.List.{list_any};
 ghost use Rattle.rpki_basics.specs.Moment.{Moment, IsMoment};
 ghost use Rattle.rpki_cli.specs.Options.{provider_limit, manifest_rule, either_options};
 ghost use Rattle.rpki_cli.specs.Command.{objects_language};
@@ -8,7 +9,7 @@ ghost use Rattle.rpki_cli.specs.Language.{IsAsked, AskForNothing};
 ghost use Rattle.rpki_cli.specs.Words.{texts, kind_word, word_if, word_registered, word_wide};
 ghost use Rattle.rpki_cli.specs.Words.{with_options, command_words, files_of, are_named};
 ghost use Rattle.rpki_cli.specs.Words.{moment_word, IsProper, AskForNoWalk, AskForNoRta};
-ghost use Rattle.rpki_cli.specs.Words.{AskForNothingElse};
+ghost use Rattle.rpki_cli.specs.Words.{AskForNothingElse, is_control, is_plain, are_plain};
 ghost use Rattle.rpki_cli.specs.declared.words.Kind.{Kind};
 ghost use Rattle.rpki_cli.specs.declared.words.Command.{Command};
 ghost use Rattle.rpki_cli.specs.declared.words.Order.{Order};
@@ -229,6 +230,27 @@ pub fn all_named(files: &[&str]) -> bool
         }
     }
     true
+}
+
+/// Whether each of these names is plain: has no control character.
+pub fn all_plain(names: &[&str]) -> bool
+    ensures { result ≡ are_plain (texts names.now) }
+{
+    names.iter().all(|name| is_plain(name))
+}
+
+/// Whether a name is plain: has no control character.
+fn is_plain(name: &str) -> bool
+    ensures { result ≡ is_plain name.now }
+{
+    !has_control(name.as_bytes())
+}
+
+/// Whether one of the octets is a control character.
+fn has_control(octets: &[u8]) -> bool
+    ensures { result ≡ list_any is_control octets.now }
+{
+    octets.iter().any(|octet| *octet < 0x20 || *octet == 0x7F)
 }
 
 /// The order of words that may begin with the first option.

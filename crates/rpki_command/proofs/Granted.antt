@@ -36,7 +36,7 @@ use Rattle.rpki_command.specs.Anchors.{given_in, MakeEach, AreMade}
 use Rattle.rpki_command.specs.Check.{yes_line, validation_refusal}
 use Rattle.rpki_command.specs.Command.{objects_program}
 use Rattle.rpki_command.specs.Rta.{supply_of, IsRtaSaid, AttestedUnder, anchor_refusal, IsSaidWith}
-use Rattle.rpki_command.specs.Rta.{RtaOf}
+use Rattle.rpki_command.specs.Rta.{RtaOf, granted_text}
 use Rattle.rpki_command.specs.Yes.{rta_order, IsRightRta, BeginsWithNoGranted, IsRightNoRta}
 use Rattle.rpki_command.specs.Yes.{HoldsByList, status_of}
 use Rattle.rpki_command.specs.declared.anchors.Anchor.{Anchor}
@@ -73,7 +73,7 @@ module _ {C : Type 0} (causes : Causes) (says : C → Verdict) (crypto : C) (now
 
     yes-result : (result : Result KeptWhole CheckError)
         → IsExactRta sha256 verdict now (map supply_of made) object result
-        → IsRtaSaid causes result s → IsRightRta verdict now words object files run
+        → IsRtaSaid causes granted_text result s → IsRightRta verdict now words object files run
     yes-result (Ok k) b is =
         let same : whole_of k ≡ b.object = b.holds.1 in
         let lines = subst
@@ -127,7 +127,7 @@ module _ {C : Type 0} (causes : Causes) (says : C → Verdict) (crypto : C) (now
     not-granted r supplied fault e g = g (λ m. no-memory (e ∙ ap validation_refusal m))
 
     no-result : (supplied : List Supply) (result : Result KeptWhole CheckError)
-        → IsExactRta sha256 verdict now supplied object result → IsRtaSaid causes result s
+        → IsExactRta sha256 verdict now supplied object result → IsRtaSaid causes granted_text result s
         → BeginsWithNoGranted verdict now supplied object
     no-result supplied (Ok k) b (inl e) = absurd (no-memory e)
     no-result supplied (Ok k) b (inr e) = absurd

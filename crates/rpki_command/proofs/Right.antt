@@ -38,7 +38,8 @@ use Rattle.rpki_cli.specs.declared.causes.Causes.{Causes}
 use Rattle.rpki_cli.specs.declared.causes.Causes.TheVariants.{Omitted, Included}
 use Rattle.rpki_cli.specs.declared.words.Kind.{Kind}
 use Rattle.rpki_cli.specs.declared.words.Options.{Options}
-use Rattle.rpki_show.specs.Kinds.{OfKind}
+use Rattle.rpki_json.specs.Members.{Member}
+use Rattle.rpki_show.specs.Kinds.{OfKind, RowOf}
 use Rattle.rpki_show.specs.Options.{read_mode}
 use Rattle.rpki_show.proofs.Shown.{refusal-said}
 use Rattle.rpki_command.specs.Check.{yes_line, passes, issuer_refusal, validation_refusal}
@@ -205,6 +206,15 @@ pub of-kind : (options : Options) (kind : Kind)
     → P X asked form text → Q X asked form text)
     → OfKind options kind P → OfKind options kind Q
 of-kind options kind P Q more h = search rules
+
+-- and so does what follows from each row of their table
+pub of-row : (options : Options) (kind : Kind)
+    (P Q : (X : Type 0) → signed.ObjectKind X → (List ℕ → X → Type 0) → (X → List ℕ)
+    → (X → List Member) → Type 0)
+    → ((X : Type 0) (asked : signed.ObjectKind X) (form : List ℕ → X → Type 0) (text : X → List ℕ)
+    (members : X → List Member) → P X asked form text members → Q X asked form text members)
+    → RowOf options kind P → RowOf options kind Q
+of-row options kind P Q more h = search rules
 
 module _ (s : Output) (causes : Causes) (options : Options) (kind : Kind) (verdict : Verdict)
     (issuer : Validated) (now : Moment) (octets : List ℕ)

@@ -1,5 +1,4 @@
 -- What the commands of the program with verdicts come to is settled by each command alone.
-use Rattle.std.proofs.Common.{tt}
 use Rattle.rpki_cli.proofs.Running.{IsSettled}
 use Rattle.rpki_cli.specs.declared.causes.Causes.{Causes}
 use Rattle.rpki_cli.specs.declared.words.Command.{Command}

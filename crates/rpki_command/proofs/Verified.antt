@@ -8,6 +8,7 @@ pub mod Issuing
 pub mod Judging
 pub mod Listed
 pub mod Payloads
+pub mod Refused
 pub mod Revoking
 pub mod Right
 pub mod RtaListed

@@ -23,9 +23,10 @@ use Rattle.rpki_sigobj.specs.Signed.Kind as signed
 use Rattle.rpki_verdicts.specs.Listed.{is_listed}
 use Rattle.rpki_verdicts.specs.Verdicts.{AreVerdicts}
 use Rattle.rpki_cli.specs.Answer.{Output, out_of_memory, bad_verdicts, refused, issuer_refused}
-use Rattle.rpki_cli.specs.Answer.{issuer_malformed}
+use Rattle.rpki_cli.specs.Answer.{issuer_malformed, said}
 use Rattle.rpki_cli.specs.Shown.{IsLinesOf}
 use Rattle.rpki_cli.specs.Refusal.{IsRefusal}
+use Rattle.rpki_cli.specs.declared.answer.Answer.{Answer}
 use Rattle.rpki_cli.specs.declared.causes.Causes.{Causes}
 use Rattle.rpki_cli.specs.declared.causes.Causes.TheVariants.{Omitted}
 use Rattle.rpki_cli.specs.declared.words.Kind.{Kind}
@@ -65,6 +66,12 @@ IsIssuerRefused fault s = (s ≡ out_of_memory) ⊎ (s ≡ issuer_refusal fault)
 -- the line that says that an object is good
 abbrev pub yes_line : List ℕ
 yes_line = codes "yes\n"
+
+-- What this comes to is said, where P says what is said for each text that there may be: of a value
+-- its text, whichever is wanted, and of an answer what it says.
+abbrev pub Settles : {X : Type 0} → ((X → List ℕ) → Output → Type 0) → Result X Answer → Type 0
+Settles {X} P (Ok x) = (text : X → List ℕ) (s : Output) → IsLinesOf (text x) s → P text s
+Settles {X} P (Err answer) = (text : X → List ℕ) → P text (said answer)
 
 -- What is said of what a check answers: yes and the lines of the content, or why not.
 abbrev pub IsCheckSaid : {X : Type 0} → Causes → (X → List ℕ) → Result (Validated × X) CheckError

@@ -39,5 +39,5 @@ abbrev pub objects_program : Program
 objects_program = record {
   language = objects_language;
   task = command_task Omitted;
-  wrong = usage;
+  wrong = λ words. usage;
 }

@@ -36,32 +36,43 @@ supply_of (Tal tal) = Supply.Tal tal.key
 supply_of (Ca ca) = Supply.Ca ca.cert.certificate.tbs.extensions.key.subject_key
     ca.cert.certificate.tbs.key (set_of ca.sets)
 
--- What is said of what a check answers: yes and the lines of the content, or why not.
-abbrev pub IsRtaSaid : Causes → Result KeptWhole CheckError → Output → Type 0
-IsRtaSaid causes (Ok r) s = IsLinesOf (yes_line ++ attestation_text r.content) s
-IsRtaSaid causes (Err (Decode fault)) s = IsRefusal causes fault s
-IsRtaSaid causes (Err (Validation fault)) s = IsRefused fault s
+-- What is said of what a check answers: the text of the attestation, or why there is none.
+abbrev pub IsRtaSaid : Causes → (KeptWhole → List ℕ) → Result KeptWhole CheckError → Output → Type 0
+IsRtaSaid causes text (Ok r) s = IsLinesOf (text r) s
+IsRtaSaid causes text (Err (Decode fault)) s = IsRefusal causes fault s
+IsRtaSaid causes text (Err (Validation fault)) s = IsRefused fault s
+
+-- the text of a yes: that it is one, and the lines of the content
+abbrev pub granted_text : KeptWhole → List ℕ
+granted_text r = yes_line ++ attestation_text r.content
 
 -- What the check of an attestation answers by this cryptography, and what is said of it: unless
 -- memory runs out, a yes only where the octets begin with one that is granted under these supplies,
 -- and a refusal only where they begin with none, or with one that is not, if the identifiers of
 -- what it carries are distinct. Where they begin with one, a refusal names the fault of the first
 -- thing that fails. `given` has the locators and CAs that supply these.
-pub record IsRtaChecked {C : Type 0} (causes : Causes) (digests : C → Digester)
-    (says : C → Verdict) (crypto : C) (now : Moment) (supplied : List Supply) (octets : List ℕ)
-    (s : Output) : Type 0 where
+pub record IsRtaChecked {C : Type 0} (causes : Causes) (text : KeptWhole → List ℕ)
+    (digests : C → Digester) (says : C → Verdict) (crypto : C) (now : Moment)
+    (supplied : List Supply) (octets : List ℕ) (s : Output) : Type 0 where
   pub result : Result KeptWhole CheckError
   pub given : List (Supplied Locator Validated)
   pub same : map supply_in given ≡ supplied
   pub first : IfErr result (IsFirstOfRta digests says crypto now given octets)
   pub exact : IsExactRta (digests crypto) (says crypto) now supplied octets result
-  pub said : IsRtaSaid causes result s
+  pub said : IsRtaSaid causes text result s
 
--- what is said of octets that may begin with an attestation, unless memory runs out
+-- What is said of octets that may begin with an attestation, whose text this is where it is granted,
+-- unless memory runs out.
+abbrev pub AttestedAs : {C : Type 0} → Causes → (KeptWhole → List ℕ) → (C → Digester)
+    → (C → Verdict) → C → Moment → List Supply → List ℕ → Output → Type 0
+AttestedAs causes text digests says crypto now supplied octets s =
+    (s ≡ out_of_memory) ⊎ IsRtaChecked causes text digests says crypto now supplied octets s
+
+-- the same in lines
 abbrev pub AttestedUnder : {C : Type 0} → Causes → (C → Digester) → (C → Verdict) → C → Moment
     → List Supply → List ℕ → Output → Type 0
 AttestedUnder causes digests says crypto now supplied octets s =
-    (s ≡ out_of_memory) ⊎ IsRtaChecked causes digests says crypto now supplied octets s
+    AttestedAs causes granted_text digests says crypto now supplied octets s
 
 -- why files make no anchor, as it is said
 abbrev pub anchor_refusal : AnchorError → Output

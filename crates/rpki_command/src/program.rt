@@ -38,7 +38,7 @@ impl Program for Objects {
         answer(alloc, words, store)
     }
 
-    fn wrong<'a>(&self) -> Answer<'a> {
+    fn wrong<'a>(&self, _words: &'a [&'a str]) -> Answer<'a> {
         Answer::Usage
     }
 }

@@ -8,9 +8,9 @@ ghost use Rattle.rpki_cli.specs.Shown.{IsLinesOf};
 ghost use Rattle.rpki_cli.specs.Words.{texts, files_of_anchors};
 ghost use Rattle.rpki_show.specs.Grows.{Grows};
 ghost use Rattle.rpki_show.specs.Texts.Rta.{attestation_text};
-ghost use Rattle.rpki_command.specs.Check.{yes_line};
+ghost use Rattle.rpki_command.specs.Check.{yes_line, Settles};
 ghost use Rattle.rpki_command.specs.Rta.{supply_of, IsRtaSaid, AttestedUnder, IsAnchorRefused};
-ghost use Rattle.rpki_command.specs.Rta.{IsAttestedWith, RtaOf};
+ghost use Rattle.rpki_command.specs.Rta.{AttestedAs, IsAttestedWith, RtaOf, granted_text};
 
 use crate::anchors::{Anchor, AnchorError, anchors_of, supplies_of};
 use crate::check::{refused, refused_issuer};
@@ -108,7 +108,7 @@ fn check_anchored<'a, K: Crypto>(
 }
 
 /// Answers whether the octets begin with an attestation that is granted under these supplies.
-pub fn check_supplied<'a, K: Crypto>(
+fn check_supplied<'a, K: Crypto>(
     alloc: Global,
     causes: Causes,
     object: &[u8],
@@ -119,28 +119,56 @@ pub fn check_supplied<'a, K: Crypto>(
     ensures { AttestedUnder causes K.digest_of K.is_signed crypto.now now
         (map supply_in supplies.now) object.now (said result) }
 {
+    match granted(alloc, causes, object, supplies, crypto, now) {
+        Err(answer) => answer,
+        Ok(rta) => say_granted(alloc, rta),
+    }
+}
+
+/// The attestation at the front of the octets, where it is granted under these supplies, and else
+/// what is answered.
+pub fn granted<'a, K: Crypto>(
+    alloc: Global,
+    causes: Causes,
+    object: &[u8],
+    supplies: &[Supply<'_>],
+    crypto: &K,
+    now: Time,
+) -> Result<Rta, Answer<'a>>
+    ensures { Settles (λ text s. AttestedAs causes text K.digest_of K.is_signed crypto.now now
+        (map supply_in supplies.now) object.now s) result }
+{
     match Bytes::copy_from_slice(alloc, object) {
-        Err(_) => Answer::OutOfMemory,
+        Err(_) => Err(Answer::OutOfMemory),
         Ok(source) => {
             let checked = check::rta(alloc, source, true, crypto, now, supplies);
-            answer_checked(alloc, causes, checked)
+            settled(alloc, causes, checked)
         }
     }
 }
 
-/// What is said of what a check answers.
-fn answer_checked<'a>(alloc: Global, causes: Causes, checked: Result<Rta, CheckError>) -> Answer<'a>
-    ensures { IsRtaSaid causes checked (said result) }
+/// The attestation that a check finds granted, or what is answered.
+fn settled<'a>(
+    alloc: Global,
+    causes: Causes,
+    checked: Result<Rta, CheckError>,
+) -> Result<Rta, Answer<'a>>
+    ensures { Settles (λ text s. IsRtaSaid causes text checked s) result }
 {
     match checked {
-        Err(CheckError::Decode(error)) => refusal(alloc, causes, error),
-        Err(CheckError::Validation(error)) => refused(alloc, error),
-        Ok(rta) => {
-            let answer = say_yes(alloc, rta.content());
-            drop(rta);
-            answer
-        }
+        Err(CheckError::Decode(error)) => Err(refusal(alloc, causes, error)),
+        Err(CheckError::Validation(error)) => Err(refused(alloc, error)),
+        Ok(rta) => Ok(rta),
     }
+}
+
+/// Answers with a yes to an attestation, and lets it go.
+pub fn say_granted<'a>(alloc: Global, rta: Rta) -> Answer<'a>
+    ensures { IsLinesOf (granted_text rta) (said result) }
+{
+    let answer = say_yes(alloc, rta.content());
+    drop(rta);
+    answer
 }
 
 /// A yes, and the lines of a content.

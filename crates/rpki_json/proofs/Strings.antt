@@ -10,7 +10,7 @@ use Rattle.std.proofs.lemmas.Str.{encode_ascii}
 use Rattle.rpki_der.specs.Text.Hex.{digit, hex}
 use Rattle.rpki_der.specs.declared.hex.Case.TheVariants.{Lower}
 use Rattle.rpki_json.specs.Grammar.{short_escape, code_unit, IsHigh, IsSurrogate, Says}
-use Rattle.rpki_json.specs.Grammar.{nothing, unescaped, short, numbered, halves, IsString}
+use Rattle.rpki_json.specs.Grammar.{nothing, unescaped, short, numbered, halves, IsQuoted}
 use Rattle.rpki_json.specs.Text.{json_octet, json_string}
 use Rattle.rpki_json.proofs.Characters.{json_plain}
 
@@ -108,11 +108,11 @@ says-text (o ∷ os) = says-octet o (flat_map json_octet os) os (says-text os)
 
 -- ---- strings
 
-pub is-string : (text : List ℕ) → IsString (json_string text) text
-is-string text =
+pub is-quoted : (text : List ℕ) → IsQuoted (json_string text) text
+is-quoted text =
     record { inside = flat_map json_octet text; quoted = refl; says = says-text text }
 
-pub one-string : (octets said other : List ℕ) → IsString octets said → IsString octets other
+pub one-string : (octets said other : List ℕ) → IsQuoted octets said → IsQuoted octets other
     → said ≡ other
 one-string octets said other h k =
     let same = append_cancel_right h.inside k.inside (codes "\"")

@@ -1,6 +1,8 @@
 -- What is written of a value is in the grammar, and says the value.
 use Rattle.std.proofs.Common.{◌≡◌, ℕ, ◌<◌, ◌^◌, true, false, List, [], ◌++◌, length, get_or, codes}
-use Rattle.std.proofs.Common.{decimal, inl, inr, refl, ap, sym, arith, append-nil}
+use Rattle.std.proofs.Common.{decimal, inl, inr, refl, ap, sym, arith, append-nil, subst, IsUtf8}
+use Rattle.std.proofs.Common.{String, string_bytes, Global}
+use Rattle.std.proofs.lemmas.Str.{IsUtf8-string_bytes}
 use Rattle.std.proofs.lemmas.Bool.{cases_eq}
 use Rattle.std.proofs.lemmas.Fmt.{decimal_is_IsNumeral, decimal_digit, first_decimal}
 use Rattle.rpki_json.specs.Grammar.{Json, string, number, boolean, array, object, Items, no_items}
@@ -10,7 +12,7 @@ use Rattle.rpki_json.specs.Grammar.{AreFurtherMembers, IsText}
 use Rattle.rpki_json.specs.Members.{HasWords, HaveWords, MembersHaveWords}
 use Rattle.rpki_json.specs.Text.{json_text, json_string, items_text, further_items_text}
 use Rattle.rpki_json.specs.Text.{members_text, further_members_text, named_text}
-use Rattle.rpki_json.proofs.Strings.{is-string}
+use Rattle.rpki_json.proofs.Strings.{is-quoted}
 
 -- ---- numbers
 
@@ -44,12 +46,13 @@ spaced : (mark : List ℕ) → IsMark mark (mark ++ codes " ")
 spaced mark =
     record { before = []; after = codes " "; parts = refl; space_before = refl; space_after = refl }
 
-is-member : (name text : List ℕ) (P : List ℕ → Type 0) → P text → IsMember name P (named_text name text)
+is-member : (name text : List ℕ) (P : List ℕ → Type 0) → P text
+    → IsMember name P (named_text name text)
 is-member name text P h = record {
   first = json_string name;
   rest = codes ": " ++ text;
   parts = refl;
-  holds = is-string name;
+  holds = is-quoted name;
   goes_on = record {
     first = codes ": ";
     rest = text;
@@ -63,7 +66,7 @@ is-member name text P h = record {
 
 mutual
   pub is-value : (value : Json) → HasWords value → IsValue value (json_text value)
-  is-value (string said) h = is-string said
+  is-value (string said) h = is-quoted said
   is-value (number n) h = is-number n h
   is-value (boolean true) h = refl
   is-value (boolean false) h = refl
@@ -143,8 +146,10 @@ mutual
 
 -- ---- texts
 
-pub is-text : (value : Json) → HasWords value → IsText (json_text value) value
-is-text value h = record {
+pub is-text : (value : Json) → HasWords value → IsUtf8 (json_text value)
+    → IsText (json_text value) value
+is-text value h utf8 = record {
+  utf8 = utf8;
   before = [];
   inside = json_text value;
   after = [];
@@ -153,3 +158,10 @@ is-text value h = record {
   space_after = refl;
   is = is-value value h;
 }
+
+-- what a String has is UTF-8
+pub held : (value : Json) (text : String Global) → HasWords value
+    → string_bytes text ≡ json_text value → IsText (string_bytes text) value
+held value text h e =
+    subst (λ octets. IsText octets value) (sym e)
+    (is-text value h (subst IsUtf8 e (IsUtf8-string_bytes text)))

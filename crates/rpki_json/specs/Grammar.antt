@@ -1,14 +1,19 @@
 -- Strings and values of JSON (RFC 8259), as octets of UTF-8 (section 8.1), and what they say.
+--
+-- Left out are null (section 3), and numbers that are negative or have a fraction or an exponent
+-- (section 6). Half of a character alone, such as \uD800, is in no string here, though the ABNF of
+-- section 7 allows it (section 8.2).
 use Rattle.std.specs.Prelude.{◌≡◌, ◌≢◌, ℕ, ◌+◌, ◌-◌, ◌*◌, ◌<◌, ◌≤◌, List, [], ◌∷◌, ◌++◌, ◌==◌, ◌&&◌}
 use Rattle.std.specs.Prelude.{Option, Some, None, codes, encode_utf8, if◌then◌else◌}
-use Rattle.std.specs.Prelude.{Bool, true, false, ◌||◌, IsTrue, get_or, length}
+use Rattle.std.specs.Prelude.{Bool, true, false, ◌||◌, IsTrue, get_or, length, IsUtf8}
 use Rattle.std.specs.Char.{is_digit, digit_value}
 use Rattle.std.specs.List.{list_all}
 use Rattle.std.specs.Str.Parse.{IsNumeral, digits_value}
 
 -- ---- strings (section 7)
 
--- an octet that stands for itself: no control character, no quotation mark and no backslash
+-- an octet that stands for itself, alone or as a part of a character beyond ASCII: no control
+-- character, no quotation mark and no backslash
 pub record IsUnescaped (o : ℕ) : Type 0 where
   pub control : 0x20 ≤ o
   pub quote : o ≢ 0x22
@@ -64,11 +69,17 @@ pub data Says : List ℕ → List ℕ → Type 0 where
       → code_unit e f g h ≡ Some n → IsLow n → all ≡ encode_utf8 (joined m n) ++ said
       → Says os said → Says (v ∷ u ∷ a ∷ b ∷ c ∷ d ∷ w ∷ x ∷ e ∷ f ∷ g ∷ h ∷ os) all
 
--- the octets are a string of JSON, which says these
-pub record IsString (octets said : List ℕ) : Type 0 where
+-- These octets stand between quotation marks, and say these. That they are UTF-8 is asked of a
+-- string that stands alone, and of a text as a whole.
+pub record IsQuoted (octets said : List ℕ) : Type 0 where
   pub inside : List ℕ
   pub quoted : octets ≡ codes "\"" ++ (inside ++ codes "\"")
   pub says : Says inside said
+
+-- the octets are a string of JSON, in UTF-8 (section 8.1), which says these
+pub record IsString (octets said : List ℕ) : Type 0 where
+  pub utf8 : IsUtf8 octets
+  pub is : IsQuoted octets said
 
 -- ---- values (sections 2 to 6)
 
@@ -132,13 +143,13 @@ pub record IsJoined (P Q : List ℕ → Type 0) (octets : List ℕ) : Type 0 whe
 -- a name, a colon and a value (section 4)
 abbrev pub IsMember : List ℕ → (List ℕ → Type 0) → List ℕ → Type 0
 IsMember name value octets =
-    IsJoined (λ o. IsString o name) (IsJoined (IsMark (codes ":")) value) octets
+    IsJoined (λ o. IsQuoted o name) (IsJoined (IsMark (codes ":")) value) octets
 
 -- The octets are this value: a string (section 7), a number (section 6), true or false (section 3),
 -- an array (section 5) or an object (section 4).
 abbrev mutual
   pub IsValue : Json → List ℕ → Type 0
-  IsValue (string said) octets = IsString octets said
+  IsValue (string said) octets = IsQuoted octets said
   IsValue (number n) octets = IsNumber octets n
   IsValue (boolean true) octets = octets ≡ codes "true"
   IsValue (boolean false) octets = octets ≡ codes "false"
@@ -167,8 +178,9 @@ abbrev mutual
       IsJoined (IsMark (codes ","))
       (IsJoined (IsMember name (IsValue value)) (AreFurtherMembers more)) octets
 
--- a value with white space around it (section 2)
+-- a value with white space around it (section 2), in UTF-8 (section 8.1)
 pub record IsText (octets : List ℕ) (value : Json) : Type 0 where
+  pub utf8 : IsUtf8 octets
   pub before : List ℕ
   pub inside : List ℕ
   pub after : List ℕ

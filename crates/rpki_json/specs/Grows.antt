@@ -16,15 +16,15 @@ abbrev pub GrowsBy : Result (Unit {0}) AllocError → String Global → String G
 GrowsBy result old new shown written =
     OnOk result (IfSome shown (λ s. string_bytes new ≡ string_bytes old ++ written s))
 
--- A call that is handed a text and an item, and of which this is known, appends the line of what
--- the item says, unless memory runs out.
-abbrev pub AppendsLine : {Item Shown : Type 0}
+-- A call that is handed a text and an item, and of which this is known, appends what is written of
+-- what the item shows, unless memory runs out.
+abbrev pub AppendsItem : {Item Shown : Type 0}
     → (MutBor (String Global) → Item → Result (Unit {0}) AllocError → MutBor (String Global)
     → Type 0)
     → (Item → Shown) → (Shown → List ℕ) → Type 0
-AppendsLine {Item} called shown line = (item : Item) (text : MutBor (String Global))
+AppendsItem {Item} called shown written = (item : Item) (text : MutBor (String Global))
     (result : Result (Unit {0}) AllocError) (after : MutBor (String Global))
-    → called text item result after → Grows result text.now after.now (line (shown item))
+    → called text item result after → Grows result text.now after.now (written (shown item))
 
 -- A call that is handed a text, and of which this is known, appends these octets, unless memory
 -- runs out.

@@ -1,5 +1,5 @@
 -- Objects of JSON (RFC 8259, section 4) by the list of their members.
-use Rattle.std.specs.Prelude.{ℕ, ◌<◌, ◌^◌, Bool, List, [], ◌∷◌, ◌++◌, codes}
+use Rattle.std.specs.Prelude.{ℕ, ◌<◌, ◌^◌, Bool, List, [], ◌∷◌, ◌++◌, codes, IsUtf8}
 use Rattle.rpki_json.specs.Grammar.{Json, string, number, boolean, array, object, Items, no_items}
 use Rattle.rpki_json.specs.Grammar.{item, Members, no_members, member, items_of}
 use Rattle.rpki_json.specs.Text.{named_text, json_text}
@@ -62,3 +62,21 @@ abbrev mutual
   pub MembersHaveWords : Members → Type 0
   MembersHaveWords no_members = Unit {0}
   MembersHaveWords (member name value more) = HasWords value × MembersHaveWords more
+
+-- Each string in a value, and each name of a member, is UTF-8, as every &str is.
+abbrev mutual
+  pub HasTexts : Json → Type 0
+  HasTexts (string said) = IsUtf8 said
+  HasTexts (number n) = Unit {0}
+  HasTexts (boolean b) = Unit {0}
+  HasTexts (array items) = HaveTexts items
+  HasTexts (object members) = MembersHaveTexts members
+
+  pub HaveTexts : Items → Type 0
+  HaveTexts no_items = Unit {0}
+  HaveTexts (item value more) = HasTexts value × HaveTexts more
+
+  pub MembersHaveTexts : Members → Type 0
+  MembersHaveTexts no_members = Unit {0}
+  MembersHaveTexts (member name value more) =
+      IsUtf8 name × (HasTexts value × MembersHaveTexts more)

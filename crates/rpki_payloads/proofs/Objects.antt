@@ -1,6 +1,8 @@
 -- The text is JSON, and says the payloads.
 use Rattle.std.proofs.Common.{◌≡◌, ℕ, ◌<◌, ◌^◌, List, [], ◌++◌, All, codes, decimal, refl, sym, ap}
-use Rattle.std.proofs.Common.{◌∙◌, arith, append_assoc, append-nil}
+use Rattle.std.proofs.Common.{◌∙◌, arith, append_assoc, append-nil, subst, IsUtf8, String}
+use Rattle.std.proofs.Common.{string_bytes, Global}
+use Rattle.std.proofs.lemmas.Str.{IsUtf8-string_bytes}
 use Rattle.rpki_resources.specs.As.{asn_text}
 use Rattle.rpki_resources.specs.Text.{prefix_text}
 use Rattle.rpki_payloads.specs.Found.{Found, all_named}
@@ -16,7 +18,7 @@ use Rattle.rpki_payloads.specs.Texts.Json.{json_provider, json_aspa, json_roas, 
 use Rattle.rpki_payloads.specs.Texts.Json.{json_text}
 use Rattle.rpki_payloads.specs.Texts.Origin.{max_length}
 use Rattle.rpki_payloads.proofs.Plain.{plain-by, plain-asn, plain-prefix}
-use Rattle.rpki_json.proofs.Strings.{is-string}
+use Rattle.rpki_json.proofs.Strings.{is-quoted}
 use Rattle.rpki_json.proofs.Values.{is-number}
 use Rattle.rpki_payloads.proofs.Values.{plain-string, are-items, written, members}
 use Rattle.rpki_payloads.proofs.Values.{further-members}
@@ -109,7 +111,7 @@ ta-is : (name : List ℕ)
     → AreFurtherMembers (member (codes "ta") (string name) no_members) (ta-octets name)
 ta-is name =
     further-members (codes ", ") (codes "ta") (json_string name) [] (string name) no_members
-    comma-space (plain-by (codes "ta") refl) (is-string name) refl
+    comma-space (plain-by (codes "ta") refl) (is-quoted name) refl
 
 module _ (asn prefix length name : List ℕ) where
   abbrev length-octets : List ℕ
@@ -314,15 +316,16 @@ module _ (os : List Origin) (cs : List Customer)
             (λ _ _ _. tt))) refl);
       }
 
-pub text-is : (found : List Found) → HaveLengths found
+text-is : (found : List Found) → HaveLengths found → IsUtf8 (json_text found)
     → IsText (json_text found) (json_value found)
 unfolding json_roas json_aspas
-text-is found h =
+text-is found h utf8 =
     let os = origins_among (all_named found) in
     let cs = customers_among (all_named found) in
     let roas = separated (codes ",") json_roa os in
     let aspas = separated (codes ",") json_aspa cs in
     record {
+      utf8 = utf8;
       before = [];
       inside = object-octets roas aspas;
       after = codes "\n";
@@ -331,3 +334,10 @@ text-is found h =
       space_after = refl;
       is = object-is os cs h;
     }
+
+-- what a String has is UTF-8
+pub text-held : (found : List Found) (text : String Global) → HaveLengths found
+    → string_bytes text ≡ json_text found → IsText (string_bytes text) (json_value found)
+text-held found text h e =
+    subst (λ octets. IsText octets (json_value found)) (sym e)
+    (text-is found h (subst IsUtf8 e (IsUtf8-string_bytes text)))

@@ -4,7 +4,7 @@ use Rattle.std.proofs.Common.{refl, arith, append_assoc}
 use Rattle.std.specs.List.{flat_map}
 use Rattle.std.proofs.lemmas.List.Elements.{All-head, All-tail}
 use Rattle.rpki_json.specs.Separated.{separated}
-use Rattle.rpki_json.specs.Grammar.{Says, nothing, unescaped, IsString, Json, member}
+use Rattle.rpki_json.specs.Grammar.{Says, nothing, unescaped, IsQuoted, Json, member}
 use Rattle.rpki_json.specs.Grammar.{Members, IsMark, IsMember, IsValue}
 use Rattle.rpki_json.specs.Grammar.{AreItems, AreFurtherItems, AreMembers}
 use Rattle.rpki_json.specs.Grammar.{AreFurtherMembers, items_of}
@@ -25,7 +25,7 @@ says-plain (o ∷ os) h =
 
 -- a plain text between quotation marks is a string that says it
 pub plain-string : (text : List ℕ) → ArePlain text
-    → IsString (codes "\"" ++ (text ++ codes "\"")) text
+    → IsQuoted (codes "\"" ++ (text ++ codes "\"")) text
 plain-string text h = record { inside = text; quoted = refl; says = says-plain text h }
 
 -- ---- arrays

@@ -1,6 +1,7 @@
 //! Laws of the texts: that they are in their grammars, and what they say.
 
-ghost use Rattle.std.specs.Prelude.{◌≡◌, ℕ, List};
+ghost use Rattle.std.specs.Prelude.{◌≡◌, ℕ, List, String, string_bytes};
+ghost use Rattle.std.specs.declared.alloc.Global.{Global};
 ghost use Rattle.rpki_payloads.specs.Found.{Found};
 ghost use Rattle.rpki_json.specs.Grammar.{IsText};
 ghost use Rattle.rpki_payloads.specs.Grammar.Csv.{IsField, AreRecords};
@@ -24,8 +25,8 @@ pub fn tables_say_their_origins()
     ensures { (found : List Found) → AreRecords (csv_rows found) (csv_text found) }
 {}
 
-/// What is written as JSON is a text of JSON, and says the payloads.
+/// What is written as JSON is, as a `String` holds it, a text of JSON, and says the payloads.
 pub fn objects_say_their_payloads()
-    ensures { (found : List Found) → HaveLengths found
-        → IsText (json_text found) (json_value found) }
+    ensures { (found : List Found) (text : String Global) → HaveLengths found
+        → string_bytes text ≡ json_text found → IsText (string_bytes text) (json_value found) }
 {}

@@ -8,6 +8,7 @@
 
 mod attestations;
 mod attested;
+mod each;
 mod given;
 mod granted;
 mod issued;

@@ -1,13 +1,13 @@
 -- The numbers that JSON says of a file are below 2^64.
 use Rattle.std.proofs.Common.{ℕ, ◌≤◌, ◌<◌, ◌^◌, List, [], ◌∷◌, ◌++◌, All, Option, Some, None, map}
-use Rattle.std.proofs.Common.{refl, arith, codes}
+use Rattle.std.proofs.Common.{refl, arith, codes, length, ◌≡◌, sym, subst, IsUtf8, String}
+use Rattle.std.proofs.Common.{string_bytes, Global}
 use Rattle.std.specs.Prelude.{IfSome, unwrap_or}
 use Rattle.std.proofs.lemmas.List.Elements.{All-head, All-tail}
+use Rattle.std.proofs.lemmas.Str.{IsUtf8-string_bytes}
 use Rattle.rpki_certs.specs.Cert.{Certificate, Tbs}
 use Rattle.rpki_extensions.specs.declared.claims.Claims.{Claims}
-use Rattle.rpki_extensions.specs.declared.keys.KeyFacts.{KeyFacts}
 use Rattle.rpki_extensions.specs.declared.locations.Locations.{Locations}
-use Rattle.rpki_files.specs.Checked.{Checked}
 use Rattle.rpki_files.specs.Checklist.{Checklist}
 use Rattle.rpki_files.specs.File.{File}
 use Rattle.rpki_files.specs.Manifest.{Manifest}
@@ -21,18 +21,16 @@ use Rattle.rpki_resources.specs.Family.{max_bits}
 use Rattle.rpki_resources.specs.declared.block.Block.{Block}
 use Rattle.rpki_resources.specs.declared.family.AddressFamily.{AddressFamily}
 use Rattle.rpki_resources.specs.declared.family.AddressFamily.TheVariants.{Ipv4, Ipv6}
-use Rattle.rpki_resources.specs.declared.ip.IpBlock.{IpBlock}
-use Rattle.rpki_resources.specs.declared.asn.AsBlock.{AsBlock}
 use Rattle.rpki_resources.specs.As.{as_block}
 use Rattle.rpki_resources.specs.Ip.{ip_block}
 use Rattle.rpki_resources.specs.declared.resources.Claim.{Claim}
 use Rattle.rpki_resources.specs.declared.resources.Claim.TheVariants.{Missing, Inherit, Explicit}
 use Rattle.rpki_routes.specs.Aspa.{Aspa}
-use Rattle.rpki_routes.specs.Roa.{Roa, Address, FamilyAddress, IsRoa, IsAddress, IsMaxLength}
+use Rattle.rpki_routes.specs.Roa.{Roa, Address, IsRoa, IsAddress, IsMaxLength}
 use Rattle.rpki_routes.specs.Roa.{of_family}
 use Rattle.rpki_show.specs.Dated.{DatedList}
 use Rattle.rpki_show.specs.Json.Aspa.{asn_value, aspa_members}
-use Rattle.rpki_show.specs.Json.Blocks.{as_value, ip_value}
+use Rattle.rpki_show.specs.Json.Blocks.{as_value, ip_value, inherited_member}
 use Rattle.rpki_show.specs.Json.Certificate.{authority_members, key_members, issued_members}
 use Rattle.rpki_show.specs.Json.Certificate.{access_members, location_members, as_claim_members}
 use Rattle.rpki_show.specs.Json.Certificate.{ip_claim_members, claim_members, signer_members}
@@ -44,10 +42,12 @@ use Rattle.rpki_show.specs.Json.Named.{serial_member, moment_member, key_member,
 use Rattle.rpki_show.specs.Json.Object.{signed_members}
 use Rattle.rpki_show.specs.Json.Roa.{vrp_value, roa_members}
 use Rattle.rpki_show.specs.Json.Rsc.{hashed_value, checked_value, rsc_members}
-use Rattle.rpki_show.specs.Json.Rta.{subject_value, rta_members}
+use Rattle.rpki_show.specs.Json.Rta.{subject_value, attestation_members, carried_members}
+use Rattle.rpki_show.specs.Json.Rta.{rta_members}
 use Rattle.rpki_show.specs.Json.Tal.{uri_value, tal_members}
 use Rattle.rpki_show.specs.declared.dated.DatedEntry.{DatedEntry}
 use Rattle.rpki_sigobj.specs.Object.{SignedObject}
+use Rattle.rpki_tagged.specs.Attestation.{Attestation}
 use Rattle.rpki_basics.specs.Moment.{Moment}
 use Rattle.rpki_tal.specs.declared.uri.TalUri.{TalUri}
 
@@ -80,12 +80,16 @@ moment-words : (name : List ℕ) (m : Moment) → HasWords (moment_member name m
 unfolding moment_member
 moment-words name m = tt
 
+serial-words : (name : List ℕ) (n : ℕ) → HasWords (serial_member name n).value
+unfolding serial_member
+serial-words name n = tt
+
 file-words : (f : File) → HasWords (file_value f)
 file-words f = (tt, (tt, tt))
 
 pub manifest-words : (m : Manifest) → Words (manifest_members m)
 manifest-words m = (
-  tt,
+  serial-words (codes "manifest_number") m.number,
   (
     moment-words (codes "this_update") m.this_update,
     (moment-words (codes "next_update") m.next_update, (each file_value file-words m.files, tt)),
@@ -135,10 +139,6 @@ roa-words r h = (
 
 -- ---- certificates
 
-serial-words : (name : List ℕ) (n : ℕ) → HasWords (serial_member name n).value
-unfolding serial_member
-serial-words name n = tt
-
 key-words : (name id : List ℕ) → HasWords (key_member name id).value
 unfolding key_member
 key-words name id = tt
@@ -155,7 +155,7 @@ authority-words None = tt
 
 issued-words : (t : Tbs) → Words (issued_members t)
 issued-words t = (
-  serial-words (codes "serial") t.serial_number,
+  serial-words (codes "cert_serial") t.serial_number,
   (
     moment-words (codes "valid_since") t.validity.not_before,
     (moment-words (codes "valid_until") t.validity.not_after, tt),
@@ -167,14 +167,14 @@ location-words l =
     let a = l.subject in
     let repository = text-words (codes "carepository") a.ca_repository in
     let manifest = text-words (codes "manifest") a.rpki_manifest in
-    let notify = text-words (codes "rrdp") a.rpki_notify in
+    let notify = text-words (codes "notify_url") a.rpki_notify in
     let object = text-words (codes "sia") a.signed_object in
     let issuer = text-words (codes "aia") l.ca_issuer in
     let crl = text-words (codes "crl") l.crl in
     joined (access_members a) _
     (joined (text_members (codes "carepository") a.ca_repository) _ repository
     (joined (text_members (codes "manifest") a.rpki_manifest) _ manifest
-    (joined (text_members (codes "rrdp") a.rpki_notify) _ notify object)))
+    (joined (text_members (codes "notify_url") a.rpki_notify) _ notify object)))
     (joined (text_members (codes "aia") l.ca_issuer) _ issuer crl)
 
 signer-words : (c : Certificate) → Words (signer_members c)
@@ -187,17 +187,21 @@ signer-words c =
     (key-words (codes "ski") x.key.subject_key, authority-words x.key.authority_key)
     (location-words x.locations))
 
+inherited-words : (name : List ℕ) → HasWords (inherited_member name).value
+unfolding inherited_member
+inherited-words name = (tt, tt)
+
 as-claim-words : (claim : Claim (List (Block ℕ))) → Words (as_claim_members claim)
 unfolding as_claim_members
 as-claim-words Missing = tt
-as-claim-words Inherit = (tt, tt)
+as-claim-words Inherit = (inherited-words (codes "asns"), tt)
 as-claim-words (Explicit set) = (each as_value (λ b. tt) (map as_block set), tt)
 
 ip-claim-words : (name : List ℕ) (family : AddressFamily) (claim : Claim (List (Block ℕ)))
     → Words (ip_claim_members name family claim)
 unfolding ip_claim_members
 ip-claim-words name family Missing = tt
-ip-claim-words name family Inherit = (tt, tt)
+ip-claim-words name family Inherit = (inherited-words name, tt)
 ip-claim-words name family (Explicit set) =
     (each (ip_value family) (λ b. tt) (map ip_block set), tt)
 
@@ -244,27 +248,34 @@ crl-words l = (
 )
 
 pub tal-words : (uris : List TalUri) (key : List ℕ) → Words (tal_members uris key)
-tal-words uris key = (each uri_value (λ u. tt) uris, (key-words (codes "key_id") _, tt))
+tal-words uris key = (each uri_value (λ u. tt) uris, (key-words (codes "ski") _, tt))
 
-pub rta-words : (r : attestations.Whole) → Words (rta_members r)
-rta-words r =
-    let a = r.content in (
-      each subject_value (λ k. tt) a.subject_keys,
-      (
-        each as_value (λ b. tt) (map as_block a.as_resources),
-        (
-          each (ip_value Ipv4) (λ b. tt) (map ip_block a.v4_resources),
-          (each (ip_value Ipv6) (λ b. tt) (map ip_block a.v6_resources), (tt, tt)),
-        ),
-      ),
-    )
+pub attestation-words : (a : Attestation) → Words (attestation_members a)
+attestation-words a = (
+  each subject_value (λ k. tt) a.subject_keys,
+  (
+    each as_value (λ b. tt) (map as_block a.as_resources),
+    (
+      each (ip_value Ipv4) (λ b. tt) (map ip_block a.v4_resources),
+      (each (ip_value Ipv6) (λ b. tt) (map ip_block a.v6_resources), (tt, tt)),
+    ),
+  ),
+)
+
+pub rta-words : (r : attestations.Whole) → length r.signed.certs < 2 ^ 64
+    → length r.signed.crls < 2 ^ 64 → length r.signed.signers < 2 ^ 64 → Words (rta_members r)
+rta-words r certs crls signers =
+    joined (attestation_members r.content) (carried_members r.signed)
+    (attestation-words r.content) (certs, (crls, (signers, tt)))
 
 -- ---- lines
 
-pub line-is : (name type : List ℕ) (members : List Member) → Words members
+line-is : (name type : List ℕ) (members : List Member) → Words members
+    → IsUtf8 (file_json name type members)
     → IsText (file_json name type members) (object_of (file_members name type members))
 unfolding file_json
-line-is name type members h = record {
+line-is name type members h utf8 = record {
+  utf8 = utf8;
   before = [];
   inside = json_text (object_of (file_members name type members));
   after = codes "\n";
@@ -273,3 +284,11 @@ line-is name type members h = record {
   space_after = refl;
   is = is-value (object_of (file_members name type members)) (tt, (tt, h));
 }
+
+-- what a String has is UTF-8
+pub line-held : (name type : List ℕ) (members : List Member) (line : String Global)
+    → Words members → string_bytes line ≡ file_json name type members
+    → IsText (string_bytes line) (object_of (file_members name type members))
+line-held name type members line h e =
+    subst (λ octets. IsText octets (object_of (file_members name type members))) (sym e)
+    (line-is name type members h (subst IsUtf8 e (IsUtf8-string_bytes line)))

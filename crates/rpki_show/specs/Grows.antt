@@ -1,2 +1,2 @@
 -- Texts that grow, as the crate of JSON has them.
-pub use Rattle.rpki_json.specs.Grows.{Grows, AppendsLine}
+pub use Rattle.rpki_json.specs.Grows.{Grows, AppendsItem}

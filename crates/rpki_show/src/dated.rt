@@ -55,7 +55,8 @@ impl Model for DatedCrl {
 
 impl DatedCrl {
     /// Reads the revocation list at the front of the source, by the rules of DER. Octets after it
-    /// are left. Refuses what `Crl::decode` of `rpki_crls` refuses, for the same causes.
+    /// are left. What `Crl::decode` of `rpki_crls` reads as a list is read as one here, and nothing
+    /// else (`laws::lists_have_dates`).
     pub fn decode(alloc: Global, source: Bytes) -> Result<DatedCrl, DecodeError>
         ensures { Decodes (DatedForm Der) (λ d. d) source result }
     {

@@ -1,6 +1,8 @@
 //! What the definitions say, as functions that do nothing.
 
-ghost use Rattle.std.specs.Prelude.{◌≡◌, ◌<◌, ◌^◌, ◌++◌, ℕ, List, true};
+ghost use Rattle.std.specs.Prelude.{◌≡◌, ◌<◌, ◌^◌, ◌++◌, ℕ, List, length, true};
+ghost use Rattle.std.specs.Prelude.{String, string_bytes};
+ghost use Rattle.std.specs.declared.alloc.Global.{Global};
 ghost use Rattle.rpki_certs.specs.Cert.{Certificate};
 ghost use Rattle.rpki_files.specs.Checked.{is_portable_name};
 ghost use Rattle.rpki_files.specs.Checklist.{Checklist};
@@ -24,10 +26,11 @@ ghost use Rattle.rpki_show.specs.Json.Manifest.{manifest_members};
 ghost use Rattle.rpki_show.specs.Json.Object.{signed_members};
 ghost use Rattle.rpki_show.specs.Json.Roa.{roa_members};
 ghost use Rattle.rpki_show.specs.Json.Rsc.{rsc_members};
-ghost use Rattle.rpki_show.specs.Json.Rta.{rta_members};
+ghost use Rattle.rpki_show.specs.Json.Rta.{attestation_members, rta_members};
 ghost use Rattle.rpki_show.specs.Json.Tal.{tal_members};
 ghost use Rattle.rpki_show.specs.Texts.Serial.{serial_hex, shown_octets};
 ghost use Rattle.rpki_sigobj.specs.Object.{SignedObject};
+ghost use Rattle.rpki_tagged.specs.Attestation.{Attestation};
 ghost use Rattle.rpki_tal.specs.declared.uri.TalUri.{TalUri};
 
 /// The names of files, of a manifest and of a checklist, are printed as they are.
@@ -51,11 +54,12 @@ pub fn serials_are_octets()
     ensures { (n : ℕ) → n < 2 ^ 160 → serial_hex n ≡ upper_hex (shown_octets n) }
 {}
 
-/// The line of a file in JSON is a text of JSON, which says its name, its type and its members,
-/// where their numbers are below 2^64.
+/// The line of a file in JSON, as a `String` holds it, is a text of JSON, which says its name, its
+/// type and its members, where their numbers are below 2^64.
 pub fn lines_are_json()
-    ensures { (name type : List ℕ) (members : List Member) → HasWords (object_of members)
-        → IsText (file_json name type members) (object_of (file_members name type members)) }
+    ensures { (name type : List ℕ) (members : List Member) (line : String Global)
+        → HasWords (object_of members) → string_bytes line ≡ file_json name type members
+        → IsText (string_bytes line) (object_of (file_members name type members)) }
 {}
 
 /// The numbers among the members of each kind of content are below 2^64.
@@ -64,15 +68,19 @@ pub fn contents_have_words()
     ensures manifest { (m : Manifest) → HasWords (object_of (manifest_members m)) }
     ensures roa { (r : Roa) → IsRoa r → HasWords (object_of (roa_members r)) }
     ensures rsc { (l : Checklist) → HasWords (object_of (rsc_members l)) }
+    ensures rta { (a : Attestation) → HasWords (object_of (attestation_members a)) }
 {}
 
-/// The same of what is said of the signer of an object, of attestations, of locators, of
-/// certificates and of revocation lists; and of two lists of members, one after the other.
+/// The same of what is said of the signer of an object, of attestations that carry fewer than 2^64
+/// of each, of locators, of certificates and of revocation lists; and of two lists of members, one
+/// after the other.
 pub fn files_have_words()
     ensures joined { (a b : List Member) → HasWords (object_of a) → HasWords (object_of b)
         → HasWords (object_of (a ++ b)) }
     ensures signer { (o : SignedObject) → HasWords (object_of (signed_members o)) }
-    ensures attestation { (r : attestations.Whole) → HasWords (object_of (rta_members r)) }
+    ensures attestation { (r : attestations.Whole) → length r.signed.certs < 2 ^ 64
+        → length r.signed.crls < 2 ^ 64 → length r.signed.signers < 2 ^ 64
+        → HasWords (object_of (rta_members r)) }
     ensures locator { (uris : List TalUri) (key : List ℕ)
         → HasWords (object_of (tal_members uris key)) }
     ensures certificate { (c : Certificate) → HasWords (object_of (certificate_members c)) }

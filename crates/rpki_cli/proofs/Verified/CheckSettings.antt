@@ -121,7 +121,7 @@ check-not-refused s files c e k of_memory = refl
 
 -- ---- one refusal
 
-first-once : (f g : Flag) (s : List Setting) → IsFirstOther f s → IsFirstOther g s → f ≡ g
+pub first-once : (f g : Flag) (s : List Setting) → IsFirstOther f s → IsFirstOther g s → f ≡ g
 first-once Csv Csv s h k = refl
 first-once Csv Help s h k = absurd (clash h k.0)
 first-once Csv Version s h k = absurd (clash h k.0)
@@ -146,7 +146,7 @@ twice-told m n p e f = ap (λ (q : Named). codes "twice: " ++ named_word q) (e �
 same-words : (v w : List ℕ) (values : List (List ℕ)) → values ≡ v ∷ [] → values ≡ w ∷ [] → v ≡ w
 same-words v w values e f = one-word (sym e ∙ f)
 
-kind-once : (values : List (List ℕ)) (a b : SettingsError) → IsKindFault values a
+pub kind-once : (values : List (List ℕ)) (a b : SettingsError) → IsKindFault values a
     → IsKindFault values b → AreTold a b
 kind-once values (errors.Twice m) (errors.Twice n) h k = twice-told m n names.Kind h.0 k.0
 kind-once values (errors.Twice m) (errors.UnknownKind w) h k =

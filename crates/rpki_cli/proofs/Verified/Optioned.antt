@@ -1,8 +1,11 @@
 -- Words after options.
-use Rattle.std.proofs.Common.{rules, ◌≡◌, ◌++◌, ℕ, List, ◌∷◌, Bool, true, false, sym, refl, ◌∙◌}
+use Rattle.std.proofs.Common.{rules, ◌≡◌, ◌++◌, ℕ, List, [], ◌∷◌, Bool, true, false, sym, refl, ◌∙◌}
+use Rattle.std.proofs.Common.{ap}
+use Rattle.std.proofs.lemmas.Slice.Eq.{bytes_eq-Decides}
+use Rattle.std.specs.Str.{bytes_eq}
 use Rattle.rpki_cli.specs.Words.{word_if, word_relaxed, word_registered, word_wide, with_options}
 use Rattle.rpki_cli.specs.declared.words.Options.{Options}
-use Rattle.rpki_cli.specs.Verify.Words.{IsTaken, IsPlain, IsOptioned}
+use Rattle.rpki_cli.specs.Verify.Words.{IsTaken, IsPlain, IsOptioned, after_word, after_options}
 
 -- a word stands in front of words, or not
 taken-once : (word : List ℕ) (words : List (List ℕ)) (b x : Bool) (left tail : List (List ℕ))
@@ -49,6 +52,37 @@ cut_by_words words one two rest x r w a b c =
           let j = taken-once word_wide two w o.wide rest plain c (sym i.1) p.wide in
           (made-same o.relaxed x o.registered r o.wide w h.0 i.0 j.0, j.1);
     }
+
+untaken-left : (word first : List ℕ) (rest : List (List ℕ))
+    → ((more : List (List ℕ)) → first ∷ rest ≡ word ∷ more → ⊥)
+    → (b : Bool) → bytes_eq first word ≡ b → first ∷ rest ≡ after_word word (first ∷ rest)
+untaken-left word first rest n true e =
+    absurd (n rest (ap (λ (w : List ℕ). w ∷ rest) ((bytes_eq-Decides first word).0 e)))
+untaken-left word first rest n false e = rw e refl
+
+-- where a word is taken, what is left is what stands after it, if it stands in front
+left-is : (word : List ℕ) (words : List (List ℕ)) (b : Bool) (left : List (List ℕ))
+    → IsTaken word words b left → left ≡ after_word word words
+left-is word [] true left t = let w = t.whole in absurd cc
+left-is word [] false left t = sym t.whole
+left-is word (first ∷ rest) true left t =
+    let same : first ≡ word = let w = t.whole in cc in
+    let is : bytes_eq first word ≡ true = (bytes_eq-Decides first word).1 same in
+    let tail : left ≡ rest = let w = t.whole in cc in
+    rw is tail
+left-is word (first ∷ rest) false left t =
+    sym t.whole ∙ untaken-left word first rest (t.stood refl) _ refl
+
+-- what is left of words after their options
+pub left_by_words : (words one two rest : List (List ℕ)) (x r w : Bool)
+    → IsTaken word_relaxed words x one → IsTaken word_registered one r two
+    → IsTaken word_wide two w rest → rest ≡ after_options words
+left_by_words words one two rest x r w a b c =
+    left-is word_wide two w rest c
+    ∙ ap (after_word word_wide) (left-is word_registered one r two b
+    ∙ ap (after_word word_registered) (left-is word_relaxed words x one a))
+
+pub ruleset by_options = (cut_by_words, left_by_words)
 
 -- what is written after options begins with none
 taken-of : (word : List ℕ) (b : Bool) (tail : List (List ℕ))

@@ -5,11 +5,8 @@ use Rattle.std.proofs.Common.{if◌then◌else◌, Bor, length, get_or, not}
 use Rattle.std.specs.Option.{is_some}
 use Rattle.std.specs.Str.{bytes_eq}
 use Rattle.std.specs.Prelude.{MatchOption}
-use Rattle.rpki_basics.specs.Moment.{Moment, IsMoment}
-use Rattle.rpki_basics.specs.Time.Read.{generalized_of, pair_at}
-use Rattle.rpki_basics.proofs.Times.Exact.{exact-generalized}
 use Rattle.rpki_cli.specs.Language.{IsAsked, AskForNothing}
-use Rattle.rpki_cli.specs.Words.{kind_word, moment_word, command_words, are_named, IsProper}
+use Rattle.rpki_cli.specs.Words.{kind_word, command_words, are_named, IsProper}
 use Rattle.rpki_cli.specs.Words.{word_relaxed, word_registered, word_wide}
 use Rattle.rpki_cli.specs.declared.words.Command.{Command}
 use Rattle.rpki_cli.specs.declared.words.Command.TheVariants as commands
@@ -24,14 +21,15 @@ use Rattle.rpki_cli.specs.declared.verify.words.HelpWord.TheVariants.{Long, Shor
 use Rattle.rpki_cli.specs.declared.words.Options.{Options}
 use Rattle.rpki_cli.specs.declared.words.Order.{Order}
 use Rattle.rpki_cli.proofs.Orders as shown
-use Rattle.rpki_cli.proofs.Orders.{moments-once}
-use Rattle.rpki_cli.specs.Verify.Words.{when_word, IsWhen, is_shared, verify_words, files_in, IsFit}
+use Rattle.rpki_cli.specs.Verify.Moments.{when_word}
+use Rattle.rpki_cli.specs.Verify.Words.{is_shared, verify_words, files_in, IsFit}
 use Rattle.rpki_cli.specs.Verify.Words.{verify_language, IsPlain, AskForNoCheck, AskForNoList}
 use Rattle.rpki_cli.specs.Verify.Words.{AskForNothingShared, AskForNoWalk, AskForNoRta}
 use Rattle.rpki_cli.specs.Verify.Words.{AskForNothingElse, has_tail, AskForNoRtaList, IsSharedBy}
 use Rattle.rpki_cli.specs.Verify.Words.{IsOptioned, word_rta, AskForNoPayloads, issued_word}
 use Rattle.rpki_cli.specs.Verify.Words.{issued_words, AskForNothingShown, IsShownBy, help_word}
 use Rattle.rpki_cli.specs.Verify.Words.{word_ta, AskForOneShown, AreToShow, AskForNoShow}
+use Rattle.rpki_cli.specs.Verify.Words.{begin_with_help}
 use Rattle.rpki_cli.specs.Verify.Words.{AskForNoneChecked}
 use Rattle.rpki_cli.specs.declared.verify.words.Issued.{Issued}
 use Rattle.rpki_cli.specs.declared.verify.words.Issued.TheVariants.{Certificate, Crl}
@@ -43,24 +41,9 @@ use Rattle.rpki_cli.specs.declared.verify.words.VerifyCommand.TheVariants.{RtaVe
 use Rattle.rpki_cli.specs.declared.verify.words.VerifyCommand.TheVariants.{ShowIssued, Version}
 use Rattle.rpki_cli.specs.declared.verify.words.VerifyCommand.TheVariants.{CheckEach, ShowEach}
 use Rattle.rpki_cli.specs.declared.verify.words.When.{When}
-use Rattle.rpki_cli.specs.declared.verify.words.When.TheVariants.{Now, At}
 use Rattle.rpki_cli.proofs.Verified.Formats.{copy-plain, formats-once}
+use Rattle.rpki_cli.proofs.Verified.Moments.{when-once}
 use Rattle.rpki_cli.proofs.Verified.Optioned.{options-once}
-
-none-is-some : (o : Option Moment) (m : Moment) → o ≡ None → o ≡ Some m → ⊥
-none-is-some o m p q = absurd cc
-
--- no moment is written as `now`
-moment-not-now : (m : Moment) → IsMoment m → moment_word m ≡ codes "now" → ⊥
-unfolding moment_word generalized_of pair_at
-moment-not-now m i e = none-is-some (generalized_of (codes "now")) m refl
-    (exact-generalized.complete (codes "now") m (sym e, i))
-
-when-once : (a b : When) → IsWhen a → IsWhen b → when_word a ≡ when_word b → a ≡ b
-when-once Now Now i j e = refl
-when-once Now (At m) i j e = absurd (moment-not-now m j (sym e))
-when-once (At m) Now i j e = absurd (moment-not-now m i e)
-when-once (At m) (At n) i j e = ap (λ (x : Moment). At x) (moments-once m n i j e)
 
 kind-once : (a b : Kind) → kind_word a ≡ kind_word b → a ≡ b
 kind-once a b e = search rules
@@ -606,18 +589,19 @@ not-false false e = sym e
 
 -- two words ask for a show of many files where the first says no kind
 pub pair_shown : (words : List (Bor (List ℕ))) (d : Bor (List ℕ)) (r : Option FileKind) (b : Bool)
-    → length words ≡ 2
+    → length words ≡ 2 → begin_with_help (texts words) ≡ false
     → MatchOption r ((k : FileKind) → (get_or words 0 d).now ≡ file_kind_word k → ⊥)
     (λ k. (get_or words 0 d).now ≡ file_kind_word k) → is_some r ≡ not b
     → (IsTrue b → AreToShow (texts words)) × (AreToShow (texts words) → IsTrue b)
-pair_shown words d None b e h i = (
+pair_shown words d None b e p h i = (
   λ t. record {
+    no_help = p;
     some = λ n. not-empty (sym (two-words words d e) ∙ n);
     not_one = λ o. h o.kind (first-same (sym (two-words words d e) ∙ o.words_are));
   },
   λ s. not-false b (sym i),
 )
-pair_shown words d (Some k) b e h i = (
+pair_shown words d (Some k) b e p h i = (
   λ t. absurd (not-both b t (not-true b (sym i))),
   λ s. absurd (s.not_one (record {
     kind = k;

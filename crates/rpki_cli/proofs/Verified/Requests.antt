@@ -5,7 +5,7 @@ use Rattle.std.proofs.Common.{drop, suc, Option, None, Some, Bor, ◌==◌}
 use Rattle.std.proofs.lemmas.List.{take-append-drop, take_more, map-append}
 use Rattle.std.proofs.Math.Seq.{drop-cons}
 use Rattle.rpki_cli.specs.Answer.{Output, out_of_memory}
-use Rattle.rpki_cli.specs.Words.{texts, are_named}
+use Rattle.rpki_cli.specs.Words.{texts, are_named, are_plain}
 use Rattle.rpki_cli.specs.Verify.CheckSettings.{CheckValues, IsCheckOf, IsKindGiven, IsMomentGiven}
 use Rattle.rpki_cli.specs.Verify.CheckSettings.{check_names, word_given, values_of}
 use Rattle.rpki_cli.specs.Verify.Kinds.{file_kind_word}
@@ -13,19 +13,19 @@ use Rattle.rpki_cli.specs.Verify.Moments.{NamesWhen}
 use Rattle.rpki_cli.specs.Verify.Settings.{Arranged}
 use Rattle.rpki_cli.specs.Verify.Requests.{object_file, IsKindOf, AreKindsOf, AreObjectsOf}
 use Rattle.rpki_cli.specs.Verify.Requests.{AskedCheck, IsAskedCheck, AskedShow, IsAskedShow}
-use Rattle.rpki_cli.specs.Verify.Requests.{IsShowKind, IsShowOf, IsShowFault, IsFirstNot, HaveKinds}
+use Rattle.rpki_cli.specs.Verify.Requests.{IsShowKind, IsShowOf, IsShowFault, StandsAfter, HaveKinds}
 use Rattle.rpki_cli.specs.Verify.Requests.{AreOfObjects, HasNoKind, IsObjectFault}
 use Rattle.rpki_cli.specs.Verify.Requests.{IsObjectsFault, IsFilesFault, IsWrongCheck, IsWrongShow}
 use Rattle.rpki_cli.specs.Verify.Requests.{lacks_memory, wrong_said, SaysWrong, HaveKindAlone}
+use Rattle.rpki_cli.specs.Verify.Requests.{IsFirstName}
+use Rattle.rpki_cli.specs.declared.verify.settings.Named.{Named}
 use Rattle.rpki_cli.specs.Verify.Requests as wrong
 use Rattle.rpki_cli.specs.declared.words.Options.{Options}
 use Rattle.rpki_cli.specs.declared.verify.kinds_by_name.FileKind.{FileKind}
 use Rattle.rpki_cli.specs.declared.verify.words.When.{When}
 use Rattle.rpki_cli.specs.declared.verify.settings.ArrangeError.{ArrangeError}
-use Rattle.rpki_cli.specs.declared.verify.settings.ArrangeError.TheVariants as arranges
 use Rattle.rpki_cli.specs.declared.verify.settings.Named.TheVariants as names
 use Rattle.rpki_cli.specs.declared.verify.settings.Setting.{Setting}
-use Rattle.rpki_cli.specs.declared.verify.settings.Setting.TheVariants as sets
 use Rattle.rpki_cli.specs.declared.verify.check_settings.SettingsError.{SettingsError}
 use Rattle.rpki_cli.specs.declared.verify.check_settings.SettingsError.TheVariants as faults
 use Rattle.rpki_cli.specs.declared.verify.requests.ObjectKind.{ObjectKind}
@@ -45,7 +45,7 @@ use Rattle.rpki_cli.proofs.Verified.Settings.{arranged-once, arranged-not-refuse
 kind-words-once : (a b : FileKind) → file_kind_word a ≡ file_kind_word b → a ≡ b
 kind-words-once a b e = search rules
 
-kind-given-once : (values : List (List ℕ)) (a b : Option FileKind) → IsKindGiven values a
+pub kind-given-once : (values : List (List ℕ)) (a b : Option FileKind) → IsKindGiven values a
     → IsKindGiven values b → a ≡ b
 kind-given-once values None None h k = refl
 kind-given-once values None (Some b) h k = absurd (no-word (sym h ∙ k))
@@ -53,7 +53,7 @@ kind-given-once values (Some a) None h k = absurd (no-word (sym k ∙ h))
 kind-given-once values (Some a) (Some b) h k =
     ap (λ (x : FileKind). Some x) (kind-words-once a b (one-word (sym h ∙ k)))
 
-kind-of-once : (given : Option FileKind) (file : List ℕ) (a b : FileKind) → IsKindOf given file a
+pub kind-of-once : (given : Option FileKind) (file : List ℕ) (a b : FileKind) → IsKindOf given file a
     → IsKindOf given file b → a ≡ b
 kind-of-once None file a b h k = kinds-once file a b h k
 kind-of-once (Some given) file a b h k = h ∙ sym k
@@ -155,7 +155,7 @@ object-taken given files i d all more object l h k e =
 
 first-file : (P : List (List ℕ) → Type 0) (files : List (Bor (List ℕ))) (i : ℕ)
     (d : Bor (List ℕ)) → i < length files → P (texts (take i files))
-    → IsFirstNot P (texts files) (get_or files i d).now
+    → StandsAfter P (texts files) (get_or files i d).now
 first-file P files i d l h = record {
   before = texts (take i files);
   after = texts (drop (suc i) files);
@@ -180,7 +180,7 @@ pub kind-fault : (given : Option FileKind) (files : List (Bor (List ℕ))) (i : 
     → AreKindsOf given (texts (take i files)) all → w ≡ get_or files i d
     → HasNoKind given w.now → IsFilesFault given (texts files) (UnknownKind w)
 kind-fault given files i d w all l h e n = (
-  subst (λ (v : Bor (List ℕ)). IsFirstNot (HaveKinds given) (texts files) v.now) (sym e)
+  subst (λ (v : Bor (List ℕ)). StandsAfter (HaveKinds given) (texts files) v.now) (sym e)
       (first-file (HaveKinds given) files i d l (all, h)),
   n,
 )
@@ -240,7 +240,7 @@ values-same c d k a t l s r j o f =
     values-so c.kind d.kind c.at d.at c.ta d.ta c.tal d.tal c.cas d.cas c.crls d.crls c.json d.json
     c.options d.options c.files d.files k a t l s r j o f
 
-values-once : (s : List Setting) (o : List (List ℕ)) (c d : CheckValues) → IsCheckOf s o c
+pub values-once : (s : List Setting) (o : List (List ℕ)) (c d : CheckValues) → IsCheckOf s o c
     → IsCheckOf s o d → c ≡ d
 values-once s o c d h k =
     values-same c d (kind-given-once (values_of names.Kind s) c.kind d.kind h.kind k.kind)
@@ -262,7 +262,7 @@ asked-same : (c d : AskedCheck) → c.values ≡ d.values → c.kinds ≡ d.kind
 asked-same c d v k = asked-so c.values d.values c.kinds d.kinds v k
 
 -- what is said of other settings and operands of the same words
-same-check : {words : List (List ℕ)} {s t : List Setting} {o p : List (List ℕ)} (d : CheckValues)
+pub same-check : {words : List (List ℕ)} {s t : List Setting} {o p : List (List ℕ)} (d : CheckValues)
     → Arranged words s o → Arranged words t p → IsCheckOf t p d → IsCheckOf s o d
 same-check {s = s} {t = t} {o = o} {p = p} d x y k =
     let e = arranged-once x y in
@@ -315,7 +315,10 @@ check-wrong words c e h (wrong.IsWrongCheck.of_settings {e = f} {given = t} {ope
 check-wrong words c e h (wrong.IsWrongCheck.of_names {c = d} a k u) n =
     let v = values-once h.settings h.operands c.values d h.check (same-check d h.arranged a k) in
     clash (sym (ap (λ (x : CheckValues). are_named (check_names x)) v) ∙ h.named) u
-check-wrong words c e h (wrong.IsWrongCheck.of_files {operands = p} {c = d} a k u f) n =
+check-wrong words c e h (wrong.IsWrongCheck.of_controls {c = d} a k u q) n =
+    let v = values-once h.settings h.operands c.values d h.check (same-check d h.arranged a k) in
+    clash (sym (ap (λ (x : CheckValues). are_plain (check_names x)) v) ∙ h.plain) q
+check-wrong words c e h (wrong.IsWrongCheck.of_files {operands = p} {c = d} a k u q f) n =
     let v = values-once h.settings h.operands c.values d h.check (same-check d h.arranged a k) in
     let o = arranged-once h.arranged a in
     objects-apart d.kind p c.kinds e
@@ -360,11 +363,35 @@ show-once words c d h k =
     (i.registered ∙ sym s.registered) (i.wide ∙ sym s.wide))
     (i.files ∙ sym s.files) (kinds-of-once h.kind h.operands c.kinds d.kinds h.kinds ks)
 
+ta-not-kind : names.Ta ≡ names.Kind → ⊥
+ta-not-kind e = cc
+
+ca-not-kind : names.Ca ≡ names.Kind → ⊥
+ca-not-kind e = cc
+
+tal-not-kind : names.Tal ≡ names.Kind → ⊥
+tal-not-kind e = cc
+
+crl-not-kind : names.Crl ≡ names.Kind → ⊥
+crl-not-kind e = cc
+
+at-not-kind : names.At ≡ names.Kind → ⊥
+at-not-kind e = cc
+
+-- a name of another command is not given where the kind alone is
+pub name-clash : (n : Named) (s : List Setting) → IsFirstName n s → HaveKindAlone s → ⊥
+name-clash names.Kind s h k = h
+name-clash names.Ta s h k = h (k names.Ta ta-not-kind)
+name-clash names.Ca s h k = h.1 (k names.Ca ca-not-kind)
+name-clash names.Tal s h k = h.2 (k names.Tal tal-not-kind)
+name-clash names.Crl s h k = h.3 (k names.Crl crl-not-kind)
+name-clash names.At s h k = h.4 (k names.At at-not-kind)
+
 -- settings of a show have no fault
-show-settings-apart : (s : List Setting) (kind : Option FileKind) (e : WrongWords)
+pub show-settings-apart : (s : List Setting) (kind : Option FileKind) (e : WrongWords)
     → IsShowKind s kind → IsShowFault s e → ⊥
 show-settings-apart s kind (FlagOfOther f) h k = first-clash f s k h.flags
-show-settings-apart s kind (NameOfOther n) h k = k.2 (h.alone n k.1)
+show-settings-apart s kind (NameOfOther n) h k = name-clash n s k.1 h.alone
 show-settings-apart s kind (Settings e) h k =
     kind-clash (values_of names.Kind s) kind e h.kind_is k.2
 show-settings-apart s kind e h k = absurd k
@@ -393,7 +420,10 @@ show-wrong words c e h (wrong.IsWrongShow.of_none a k) n =
     (h.show).some_file (arranged-once h.arranged a).1
 show-wrong words c e h (wrong.IsWrongShow.of_unnamed a k o u) n =
     clash (ap are_named (sym (arranged-once h.arranged a).1) ∙ h.named) u
-show-wrong words c e h (wrong.IsWrongShow.of_files {given = t} {operands = p} {kind = g} a k o u f) n =
+show-wrong words c e h (wrong.IsWrongShow.of_controls a k o u q) n =
+    clash (ap are_plain (sym (arranged-once h.arranged a).1) ∙ h.plain) q
+show-wrong words c e h
+    (wrong.IsWrongShow.of_files {given = t} {operands = p} {kind = g} a k o u q f) n =
     let same = arranged-once h.arranged a in
     let i : h.kind ≡ g =
     kind-given-once (values_of names.Kind t) h.kind g
@@ -458,10 +488,11 @@ arranged-as words s t o p e f a =
     subst (λ (v : List Setting). Arranged words v (texts o)) (sym e) a in
     subst (λ (q : List (Bor (List ℕ))). Arranged words t (texts q)) (sym f) b
 
--- whether the files of a check have names, as it is read of their names
-pub check-named : (names seen : List (Bor (List ℕ))) (all : List (List ℕ)) (b v : Bool)
-    → texts names ≡ all → seen ≡ names → b ≡ are_named (texts seen) → b ≡ v → are_named all ≡ v
-check-named names seen all b v e d h f = ap are_named (sym e ∙ ap texts (sym d)) ∙ sym h ∙ f
+-- what a test says of the names of a check, as they are read
+pub check-tested : (test : List (List ℕ) → Bool) (names seen : List (Bor (List ℕ)))
+    (all : List (List ℕ)) (b v : Bool) → texts names ≡ all → seen ≡ names
+    → b ≡ test (texts seen) → b ≡ v → test all ≡ v
+check-tested test names seen all b v e d h f = ap test (sym e ∙ ap texts (sym d)) ∙ sym h ∙ f
 
 -- the same files, with what is said of them
 pub same-files : (P : List (List ℕ) → Type 0) (seen files : List (Bor (List ℕ)))
@@ -473,9 +504,10 @@ same-files P seen files operands d e h = subst P (ap texts d ∙ e) h
 pub faulty-check : {e : WrongWords} (words : List (List ℕ)) (s : List Setting)
     (o : List (List ℕ)) (seen files : List (Bor (List ℕ))) (c : CheckValues) → seen ≡ files
     → texts files ≡ o → Arranged words s o → IsCheckOf s o c → are_named (check_names c) ≡ true
-    → IsObjectsFault c.kind (texts seen) e → IsWrongCheck words e
-faulty-check {e = e} words s o seen files c d h a k n f =
-    wrong.IsWrongCheck.of_files a k n
+    → are_plain (check_names c) ≡ true → IsObjectsFault c.kind (texts seen) e
+    → IsWrongCheck words e
+faulty-check {e = e} words s o seen files c d h a k n p f =
+    wrong.IsWrongCheck.of_files a k n p
     (same-files (λ (q : List (List ℕ)). IsObjectsFault c.kind q e) seen files o d h f)
 
 -- there are files

@@ -2,14 +2,13 @@
 use Rattle.std.specs.Prelude.{◌≡◌, ℕ, List, [], ◌∷◌, ◌++◌, Bool, true, false, map, codes}
 use Rattle.std.specs.Prelude.{Option, None, Some, if◌then◌else◌}
 use Rattle.rpki_cli.specs.Answer.{Output, Complained, out_of_memory}
-use Rattle.rpki_cli.specs.Words.{texts, are_named}
+use Rattle.rpki_cli.specs.Words.{texts, are_named, are_plain}
 use Rattle.rpki_cli.specs.Verify.CheckSettings.{CheckValues, check_values, check_names, IsCheckOf}
 use Rattle.rpki_cli.specs.Verify.CheckSettings.{IsRefusal, settings_error_text, is_on, values_of}
 use Rattle.rpki_cli.specs.Verify.CheckSettings.{IsKindGiven, IsKindFault, AreOfCheck, IsFirstOther}
 use Rattle.rpki_cli.specs.Verify.Kinds.{IsNameOf}
 use Rattle.rpki_cli.specs.Verify.Settings.{Arranged, IsRefusedFor, arrange_error_text}
 use Rattle.rpki_cli.specs.Verify.Settings.{flag_word, named_word}
-use Rattle.rpki_cli.specs.declared.words.Kind.{Kind}
 use Rattle.rpki_cli.specs.declared.words.Kind.TheVariants as objects
 use Rattle.rpki_cli.specs.declared.words.Options.{Options}
 use Rattle.rpki_cli.specs.declared.verify.kinds_by_name.FileKind.{FileKind}
@@ -31,6 +30,7 @@ use Rattle.rpki_cli.specs.declared.verify.requests.WrongWords.TheVariants.{Arran
 use Rattle.rpki_cli.specs.declared.verify.requests.WrongWords.TheVariants.{UnknownKind, NotChecked}
 use Rattle.rpki_cli.specs.declared.verify.requests.WrongWords.TheVariants.{FlagOfOther, NameOfOther}
 use Rattle.rpki_cli.specs.declared.verify.requests.WrongWords.TheVariants.{NothingShown}
+use Rattle.rpki_cli.specs.declared.verify.requests.WrongWords.TheVariants.{ControlCharacter}
 
 -- ---- kinds of files
 
@@ -73,13 +73,14 @@ abbrev pub asked_check : CheckRequest → AskedCheck
 asked_check r = record { values = check_values r.settings; kinds = r.kinds.items }
 
 -- Words, after the word `check`, ask for this: they are settings and operands that are those of the
--- check, each file that it reads has a name, and each that is checked is that of an object.
+-- check, each file that it reads has a plain name, and each that is checked is that of an object.
 pub record IsAskedCheck (words : List (List ℕ)) (c : AskedCheck) : Type 0 where
   pub settings : List Setting
   pub operands : List (List ℕ)
   pub arranged : Arranged words settings operands
   pub check : IsCheckOf settings operands c.values
   pub named : are_named (check_names c.values) ≡ true
+  pub plain : are_plain (check_names c.values) ≡ true
   pub kinds : AreObjectsOf c.values.kind operands c.kinds
 
 -- ---- a show of many files
@@ -126,7 +127,7 @@ pub record IsShowOf (given : List Setting) (operands : List (List ℕ)) (c : Ask
   pub some_file : ¬ (operands ≡ [])
 
 -- Words, after the word `show`, ask for this: they are settings and operands that are those of the
--- show, and each file has a name and a kind.
+-- show, and each file has a plain name and a kind.
 pub record IsAskedShow (words : List (List ℕ)) (c : AskedShow) : Type 0 where
   pub settings : List Setting
   pub operands : List (List ℕ)
@@ -135,12 +136,13 @@ pub record IsAskedShow (words : List (List ℕ)) (c : AskedShow) : Type 0 where
   pub given : IsShowKind settings kind
   pub show : IsShowOf settings operands c
   pub named : are_named operands ≡ true
+  pub plain : are_plain operands ≡ true
   pub kinds : AreKindsOf kind operands c.kinds
 
 -- ---- files whose kinds are wrong
 
 -- The file stands among these, and `P` is true of those before it.
-pub record IsFirstNot (P : List (List ℕ) → Type 0) (files : List (List ℕ)) (file : List ℕ)
+pub record StandsAfter (P : List (List ℕ) → Type 0) (files : List (List ℕ)) (file : List ℕ)
     : Type 0 where
   pub before : List (List ℕ)
   pub after : List (List ℕ)
@@ -176,22 +178,39 @@ IsObjectFault given file other = ⊥
 abbrev pub IsObjectsFault : Option FileKind → List (List ℕ) → WrongWords → Type 0
 IsObjectsFault given files (Settings faults.Memory) = Unit {0}
 IsObjectsFault given files e =
-    (file : List ℕ) × IsFirstNot (AreOfObjects given) files file × IsObjectFault given file e
+    (file : List ℕ) × StandsAfter (AreOfObjects given) files file × IsObjectFault given file e
 
 -- What is wrong with files that are to be shown: the first that has no kind. Memory may always run
 -- out.
 abbrev pub IsFilesFault : Option FileKind → List (List ℕ) → WrongWords → Type 0
 IsFilesFault given files (Settings faults.Memory) = Unit {0}
 IsFilesFault given files (UnknownKind word) =
-    IsFirstNot (HaveKinds given) files word.now × HasNoKind given word.now
+    StandsAfter (HaveKinds given) files word.now × HasNoKind given word.now
 IsFilesFault given files other = ⊥
+
+-- of the names of another command, `--ta`, `--ca`, `--tal`, `--crl` and `--at`, the first that a value
+-- is given to
+abbrev pub IsFirstName : Named → List Setting → Type 0
+IsFirstName names.Kind given = ⊥
+IsFirstName names.Ta given = ¬ (values_of names.Ta given ≡ [])
+IsFirstName names.Ca given =
+    (values_of names.Ta given ≡ []) × ¬ (values_of names.Ca given ≡ [])
+IsFirstName names.Tal given =
+    (values_of names.Ta given ≡ []) × (values_of names.Ca given ≡ [])
+    × ¬ (values_of names.Tal given ≡ [])
+IsFirstName names.Crl given =
+    (values_of names.Ta given ≡ []) × (values_of names.Ca given ≡ [])
+    × (values_of names.Tal given ≡ []) × ¬ (values_of names.Crl given ≡ [])
+IsFirstName names.At given =
+    (values_of names.Ta given ≡ []) × (values_of names.Ca given ≡ [])
+    × (values_of names.Tal given ≡ []) × (values_of names.Crl given ≡ [])
+    × ¬ (values_of names.At given ≡ [])
 
 -- What is wrong with the settings of a show: a flag of another command, or a name of one, or the
 -- kind, in this order.
 abbrev pub IsShowFault : List Setting → WrongWords → Type 0
 IsShowFault given (FlagOfOther f) = IsFirstOther f given
-IsShowFault given (NameOfOther n) =
-    AreOfCheck given × ¬ (n ≡ names.Kind) × ¬ (values_of n given ≡ [])
+IsShowFault given (NameOfOther n) = AreOfCheck given × IsFirstName n given
 IsShowFault given (Settings e) =
     AreOfCheck given × HaveKindAlone given × IsKindFault (values_of names.Kind given) e
 IsShowFault given other = ⊥
@@ -199,8 +218,8 @@ IsShowFault given other = ⊥
 -- ---- words that are wrong
 
 -- What is wrong with the words of a check of many files: the first word that is no setting and no
--- operand, then the first fault of the settings, then files that have no name, and last those that
--- are no objects. Memory may always run out.
+-- operand, then the first fault of the settings, then files that have no name, those whose name has
+-- a control character, and last those that are no objects. Memory may always run out.
 pub data IsWrongCheck (words : List (List ℕ)) : WrongWords → Type 0 where
   of_words : {e : ArrangeError} → IsRefusedFor words e → IsWrongCheck words (Arrange e)
   of_settings : {e : SettingsError} {given : List Setting} {operands : List (List ℕ)}
@@ -209,14 +228,20 @@ pub data IsWrongCheck (words : List (List ℕ)) : WrongWords → Type 0 where
   of_names : {given : List Setting} {operands : List (List ℕ)} {c : CheckValues}
       → Arranged words given operands → IsCheckOf given operands c
       → are_named (check_names c) ≡ false → IsWrongCheck words NoName
+  of_controls : {given : List Setting} {operands : List (List ℕ)} {c : CheckValues}
+      → Arranged words given operands → IsCheckOf given operands c
+      → are_named (check_names c) ≡ true → are_plain (check_names c) ≡ false
+      → IsWrongCheck words ControlCharacter
   of_files : {e : WrongWords} {given : List Setting} {operands : List (List ℕ)}
       {c : CheckValues} → Arranged words given operands → IsCheckOf given operands c
-      → are_named (check_names c) ≡ true → IsObjectsFault c.kind operands e
+      → are_named (check_names c) ≡ true → are_plain (check_names c) ≡ true
+      → IsObjectsFault c.kind operands e
       → IsWrongCheck words e
 
 -- What is wrong with the words of a show of many files: the first word that is no setting and no
--- operand, then a flag or a name of another command, the kind, files that are not there or have no
--- name, and last those that have no kind. Memory may always run out.
+-- operand, then a flag or a name of another command, the kind, files that are not there, have no
+-- name, or have one with a control character, and last those that have no kind. Memory may always
+-- run out.
 pub data IsWrongShow (words : List (List ℕ)) : WrongWords → Type 0 where
   of_words : {e : ArrangeError} → IsRefusedFor words e → IsWrongShow words (Arrange e)
   of_settings : {e : WrongWords} {given : List Setting} {operands : List (List ℕ)}
@@ -226,9 +251,14 @@ pub data IsWrongShow (words : List (List ℕ)) : WrongWords → Type 0 where
   of_unnamed : {given : List Setting} {operands : List (List ℕ)} {kind : Option FileKind}
       → Arranged words given operands → IsShowKind given kind → ¬ (operands ≡ [])
       → are_named operands ≡ false → IsWrongShow words NoName
+  of_controls : {given : List Setting} {operands : List (List ℕ)} {kind : Option FileKind}
+      → Arranged words given operands → IsShowKind given kind → ¬ (operands ≡ [])
+      → are_named operands ≡ true → are_plain operands ≡ false
+      → IsWrongShow words ControlCharacter
   of_files : {e : WrongWords} {given : List Setting} {operands : List (List ℕ)}
       {kind : Option FileKind} → Arranged words given operands → IsShowKind given kind
-      → ¬ (operands ≡ []) → are_named operands ≡ true → IsFilesFault kind operands e
+      → ¬ (operands ≡ []) → are_named operands ≡ true → are_plain operands ≡ true
+      → IsFilesFault kind operands e
       → IsWrongShow words e
   of_memory : IsWrongShow words (Settings faults.Memory)
 
@@ -242,6 +272,7 @@ wrong_text (FlagOfOther f) = codes "no option of show: " ++ flag_word f
 wrong_text (NameOfOther n) = codes "no option of show: " ++ named_word n
 wrong_text NothingShown = codes "no file to show"
 wrong_text NoName = codes "empty name"
+wrong_text ControlCharacter = codes "control character in a name"
 wrong_text (UnknownKind file) = codes "unknown kind: " ++ file.now
 wrong_text (NotChecked file) = codes "cannot check files of this kind: " ++ file.now
 

@@ -1,17 +1,18 @@
 -- The command line of the program with signatures: what each command is written as.
 use Rattle.std.specs.Prelude.{◌≡◌, ℕ, List, [], ◌∷◌, ◌++◌, Bool, true, false, codes, Option, Some}
-use Rattle.std.specs.Prelude.{IsTrue, Contains, length, ◌<◌, not, ◌&&◌}
+use Rattle.std.specs.Prelude.{IsTrue, Contains, length, ◌<◌, not, ◌&&◌, ◌||◌, if◌then◌else◌}
 use Rattle.std.specs.Str.{bytes_eq}
-use Rattle.rpki_basics.specs.Moment.{Moment, IsMoment}
+use Rattle.rpki_basics.specs.Moment.{Moment}
 use Rattle.rpki_cli.specs.Language.{Language}
 use Rattle.rpki_cli.specs.Words.{kind_word, word_if, word_relaxed, word_registered, word_wide}
-use Rattle.rpki_cli.specs.Words.{with_options, moment_word, command_words, files_of, word_with}
+use Rattle.rpki_cli.specs.Words.{with_options, command_words, files_of, word_with}
 use Rattle.rpki_cli.specs.Words.{others_in, are_anchors, files_of_anchors}
 use Rattle.rpki_cli.specs.declared.words.Command.{Command}
 use Rattle.rpki_cli.specs.declared.words.Command.TheVariants as commands
 use Rattle.rpki_cli.specs.declared.words.Kind.{Kind}
 use Rattle.rpki_cli.specs.declared.words.Options.{Options}
 use Rattle.rpki_cli.specs.Verify.Kinds.{file_kind_word}
+use Rattle.rpki_cli.specs.Verify.Moments.{when_word, IsWhen}
 use Rattle.rpki_cli.specs.Verify.Settings.{named_word}
 use Rattle.rpki_cli.specs.declared.verify.kinds_by_name.FileKind.{FileKind}
 use Rattle.rpki_cli.specs.declared.verify.settings.Named.TheVariants.{Ta}
@@ -28,22 +29,13 @@ use Rattle.rpki_cli.specs.declared.verify.words.VerifyCommand.TheVariants.{Check
 use Rattle.rpki_cli.specs.declared.verify.words.VerifyCommand.TheVariants.{Verdicts, Walk, Rta}
 use Rattle.rpki_cli.specs.declared.verify.words.VerifyCommand.TheVariants.{RtaVerdicts, Payloads}
 use Rattle.rpki_cli.specs.declared.verify.words.When.{When}
-use Rattle.rpki_cli.specs.declared.verify.words.When.TheVariants.{Now, At}
-
--- the word of the moment of a check
-abbrev pub when_word : When → List ℕ
-when_word Now = codes "now"
-when_word (At moment) = moment_word moment
-
--- a moment that is named is one of the calendar (RFC 5280, section 4.1.2.5)
-abbrev pub IsWhen : When → Type 0
-IsWhen Now = Unit {0}
-IsWhen (At moment) = IsMoment moment
+use Rattle.rpki_cli.specs.declared.verify.words.When.TheVariants.{Now, At, AtIso}
 
 -- the moment of a check, where the clock tells this
 abbrev pub moment_at : Option Moment → When → Option Moment
 moment_at now Now = now
 moment_at now (At moment) = Some moment
+moment_at now (AtIso moment) = Some moment
 
 -- whether both programs have this command: it shows what a file holds
 abbrev pub is_shared : Command → Bool
@@ -98,16 +90,22 @@ abbrev pub check_one : Kind → List ℕ → When → List ℕ → List (List �
 check_one kind file moment anchor chain =
     kind_word kind ∷ file ∷ when_word moment ∷ anchor ∷ chain
 
+-- whether words begin with one that asks how the program is called
+abbrev pub begin_with_help : List (List ℕ) → Bool
+begin_with_help [] = false
+begin_with_help (word ∷ words) = bytes_eq word (help_word Long) || bytes_eq word (help_word Short)
+
 -- the words, after the first, ask to show one file of a kind
 pub record AskForOneShown (words : List (List ℕ)) : Type 0 where
   pub kind : FileKind
   pub file : List ℕ
   pub words_are : words ≡ file_kind_word kind ∷ file ∷ []
 
--- The words, after the first, are those of a show of many files: they are there, and ask for no show
--- of one.
+-- The words, after the first, are those of a show of many files: they are there, do not begin with
+-- one that asks how the program is called, and ask for no show of one.
 pub record AreToShow (words : List (List ℕ)) : Type 0 where
   pub some : ¬ (words ≡ [])
+  pub no_help : begin_with_help words ≡ false
   pub not_one : ¬ AskForOneShown words
 
 -- The words of a command. What shows the lines of a file has the words that it has in the other
@@ -154,8 +152,8 @@ is_copy word = not (bytes_eq word word_csv) && not (bytes_eq word word_json)
 -- of an attestation end with anchors, the file of an object whose signatures are listed has another
 -- name than the word of attestations, and payloads are listed of a copy that is no word of a
 -- format, under one locator or more. The words of a check of many files have `--ta` among them, and
--- those of a check of one object do not. Those of a show of many files are there, and are not those
--- of a show of one file of a kind.
+-- those of a check of one object do not. Those of a show of many files are there, do not begin with
+-- `--help` or `-h`, and are not those of a show of one file of a kind.
 abbrev pub IsFit : VerifyCommand → Type 0
 IsFit (Help word) = Unit {0}
 IsFit Version = Unit {0}
@@ -284,6 +282,16 @@ pub record IsFormatted (words : List (List ℕ)) (format : Format) (rest : List 
       → words ≡ format_words f ++ plain → (f ≡ format) × (plain ≡ rest)
 
 -- ---- options
+
+-- the words after this one in front, if it is there
+abbrev pub after_word : List ℕ → List (List ℕ) → List (List ℕ)
+after_word word [] = []
+after_word word (first ∷ words) = if bytes_eq first word then words else first ∷ words
+
+-- the words after the options in front, each of which stands at most once, and in this order
+abbrev pub after_options : List (List ℕ) → List (List ℕ)
+after_options words =
+    after_word word_wide (after_word word_registered (after_word word_relaxed words))
 
 -- A word is taken from the front of words where it stands there, and these are left.
 pub record IsTaken (word : List ℕ) (words : List (List ℕ)) (taken : Bool) (left : List (List ℕ))

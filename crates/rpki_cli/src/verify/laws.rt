@@ -1,7 +1,7 @@
 //! What the definitions of the words of the program with signatures say, as functions that do
 //! nothing.
 
-ghost use Rattle.std.specs.Prelude.{◌≡◌, ℕ, List};
+ghost use Rattle.std.specs.Prelude.{◌≡◌, ◌↔◌, ℕ, List, IsTrue};
 ghost use Rattle.rpki_cli.specs.Language.{IsAsked};
 ghost use Rattle.rpki_cli.specs.Verify.CheckSettings.{IsCheckOf, IsRefusal, settings_error_text};
 ghost use Rattle.rpki_cli.specs.Verify.CheckSettings.{CheckValues};
@@ -9,7 +9,7 @@ ghost use Rattle.rpki_cli.specs.Verify.Requests.{AskedCheck, IsAskedCheck, IsWro
 ghost use Rattle.rpki_cli.specs.Verify.Requests.{AskedShow, IsAskedShow, IsWrongShow, SaysWrong};
 ghost use Rattle.rpki_cli.specs.Answer.{Output};
 ghost use Rattle.rpki_cli.specs.Verify.Kinds.{IsNameOf};
-ghost use Rattle.rpki_cli.specs.Verify.Moments.{NamesWhen};
+ghost use Rattle.rpki_cli.specs.Verify.Moments.{NamesWhen, names_moment};
 ghost use Rattle.rpki_cli.specs.Verify.Settings.{Arranged, IsRefusedFor, arranged_words};
 ghost use Rattle.rpki_cli.specs.Verify.Settings.{arrange_error_text};
 ghost use Rattle.rpki_cli.specs.declared.words.Order.{Order};
@@ -59,6 +59,11 @@ pub fn words_name_one_moment()
     ensures { (word : List ℕ) (a b : When) → NamesWhen word a → NamesWhen word b → a ≡ b }
 {}
 
+/// A word is tested to name a moment exactly if it names one.
+pub fn moments_are_tested()
+    ensures { (word : List ℕ) → IsTrue (names_moment word) ↔ ((w : When) × NamesWhen word w) }
+{}
+
 /// No name says two kinds.
 pub fn names_say_one_kind()
     ensures { (name : List ℕ) (a b : FileKind) → IsNameOf name a → IsNameOf name b → a ≡ b }
@@ -92,4 +97,16 @@ pub fn shows_are_asked_once()
         → IsAskedShow words b → a ≡ b }
     ensures apart { (words : List (List ℕ)) (a : AskedShow) (s : Output) → IsAskedShow words a
         → SaysWrong (IsWrongShow words) s → ⊥ }
+{}
+
+/// One thing is said of the words of a check of many files that are wrong.
+pub fn wrong_checks_are_said_once()
+    ensures { (words : List (List ℕ)) (s t : Output) → SaysWrong (IsWrongCheck words) s
+        → SaysWrong (IsWrongCheck words) t → s ≡ t }
+{}
+
+/// One thing is said of the words of a show of many files that are wrong.
+pub fn wrong_shows_are_said_once()
+    ensures { (words : List (List ℕ)) (s t : Output) → SaysWrong (IsWrongShow words) s
+        → SaysWrong (IsWrongShow words) t → s ≡ t }
 {}

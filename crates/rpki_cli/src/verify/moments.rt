@@ -1,16 +1,18 @@
-//! What the moment of a check may be written as.
+//! What a moment may be written as.
 
 ghost use Rattle.std.specs.Prelude.{◌≡◌, ◌↔◌, MatchOption};
 ghost use Rattle.rpki_basics.specs.Moment.{Moment, IsMoment};
 ghost use Rattle.rpki_basics.specs.Time.Form.{generalized_text, iso_text};
-ghost use Rattle.rpki_cli.specs.Verify.Moments.{NamesWhen};
+ghost use Rattle.rpki_cli.specs.Verify.Moments.{NamesWhen, iso_word};
 ghost use Rattle.rpki_cli.specs.declared.verify.words.When.{When};
 
 use crate::verify::words::When;
+use crate::words::moment_of;
 use rpki_basics::Time;
 
 /// The moment that a word names, if it names one: `now`, `YYYYMMDDHHMMSSZ` or
 /// `YYYY-MM-DDTHH:MM:SSZ`.
+#[tactic(auto, using(crate::proofs::Verified::Moments::by_word))]
 pub fn when_named(word: &str) -> Option<When>
     ensures { MatchOption result ((w : When) → NamesWhen word.now w → ⊥)
         (λ w. NamesWhen word.now w) }
@@ -18,20 +20,20 @@ pub fn when_named(word: &str) -> Option<When>
     if word == "now" {
         return Some(When::Now);
     }
-    let text = word.as_bytes();
-    match Time::from_generalized(text) {
+    match moment_of(word) {
         Some(moment) => Some(When::At(moment)),
-        None => match time_of_iso(text) {
-            Some(moment) => Some(When::At(moment)),
+        None => match time_of_iso(word.as_bytes()) {
+            Some(moment) => Some(When::AtIso(moment)),
             None => None,
         },
     }
 }
 
 /// The moment that a text `YYYY-MM-DDTHH:MM:SSZ` names, if it names one (RFC 3339, section 5.6).
+#[tactic(auto, unfolding(crate::specs::Verify::Moments::iso_word))]
 fn time_of_iso(text: &[u8]) -> Option<Time>
-    ensures { MatchOption result ((m : Moment) → text.now ≡ iso_text m → IsMoment m → ⊥)
-        (λ m. (text.now ≡ iso_text m) × IsMoment m) }
+    ensures { MatchOption result ((m : Moment) → text.now ≡ iso_word m → IsMoment m → ⊥)
+        (λ m. (text.now ≡ iso_word m) × IsMoment m) }
 {
     let compact = without_marks(text)?;
     Time::from_generalized(&compact)

@@ -10,11 +10,11 @@ ghost use Rattle.rpki_cli.specs.Verify.Requests.{asked_check, IsAskedCheck, IsWr
 ghost use Rattle.rpki_cli.specs.Verify.Requests.{asked_show, IsAskedShow, IsWrongShow};
 ghost use Rattle.rpki_cli.specs.Verify.Requests.{HaveKindAlone, IsObjectFault, IsObjectsFault};
 ghost use Rattle.rpki_cli.specs.Verify.Requests.{IsFilesFault, IsShowKind, IsShowFault};
+ghost use Rattle.rpki_cli.specs.Verify.Requests.{IsFirstName};
 ghost use Rattle.rpki_cli.specs.Verify.Requests.{wrong_text, wrong_said};
 ghost use Rattle.rpki_cli.specs.declared.verify.kinds_by_name.FileKind.{FileKind};
 ghost use Rattle.rpki_cli.specs.declared.verify.requests.ObjectKind.{ObjectKind};
 ghost use Rattle.rpki_cli.specs.declared.verify.requests.WrongWords.{WrongWords};
-ghost use Rattle.rpki_cli.specs.declared.verify.settings.Named.{Named};
 
 use crate::answer::Answer;
 use crate::verify::check_settings::{
@@ -23,7 +23,7 @@ use crate::verify::check_settings::{
 };
 use crate::verify::kinds_by_name::{FileKind, kind_of_name};
 use crate::verify::settings::{ArrangeError, Flag, Named, Setting, arrange};
-use crate::words::{Kind, Options, all_named};
+use crate::words::{Kind, Options, all_named, all_plain};
 use std::alloc::{AllocError, AllocFailed, Global};
 use std::error::Error;
 use std::fmt;
@@ -74,6 +74,8 @@ pub enum WrongWords<'a> {
     NothingShown,
     /// A file has no name.
     NoName,
+    /// The name of a file has a control character.
+    ControlCharacter,
     /// The name of this file says no kind, and none is set.
     UnknownKind(&'a str),
     /// Files of the kind of this one can't be checked.
@@ -91,6 +93,7 @@ impl fmt::Display for WrongWords<'_> {
             WrongWords::NameOfOther(name) => write!(f, "no option of show: {}", name.word()),
             WrongWords::NothingShown => f.write_str("no file to show"),
             WrongWords::NoName => f.write_str("empty name"),
+            WrongWords::ControlCharacter => f.write_str("control character in a name"),
             WrongWords::UnknownKind(file) => write!(f, "unknown kind: {file}"),
             WrongWords::NotChecked(file) => write!(f, "cannot check files of this kind: {file}"),
         }
@@ -144,6 +147,10 @@ impl<'a> WrongWords<'a> {
             },
             WrongWords::NoName => Answer::WrongBy {
                 cause: "empty name",
+                word: "",
+            },
+            WrongWords::ControlCharacter => Answer::WrongBy {
+                cause: "control character in a name",
                 word: "",
             },
             WrongWords::UnknownKind(word) => Answer::WrongBy {
@@ -327,6 +334,9 @@ pub fn check_words<'a>(
     if !all_named(&names) {
         return Err(WrongWords::NoName);
     }
+    if !all_plain(&names) {
+        return Err(WrongWords::ControlCharacter);
+    }
     let kinds = objects_in(alloc, settings.kind, &settings.files)?;
     Ok(CheckRequest { settings, kinds })
 }
@@ -343,11 +353,11 @@ fn is_given(settings: &[Setting<'_>], name: Named) -> bool
     }
 }
 
-/// A name of another command that the settings give a value to, if there is one.
+/// The first name of another command that the settings give a value to, if there is one.
 #[tactic(auto, using(crate::proofs::Verified::Requests::by_names))]
 fn name_of_other(settings: &[Setting<'_>]) -> Option<Named>
     ensures { MatchOption result (HaveKindAlone settings.now)
-        (λ n. ¬ (n ≡ Named.Kind) × ¬ (values_of n settings.now ≡ [])) }
+        (λ n. IsFirstName n settings.now) }
 {
     if is_given(settings, Named::Ta) {
         return Some(Named::Ta);
@@ -404,6 +414,9 @@ pub fn show_words<'a>(
     }
     if !all_named(files) {
         return Err(WrongWords::NoName);
+    }
+    if !all_plain(files) {
+        return Err(WrongWords::ControlCharacter);
     }
     let kinds = kinds_in(alloc, kind, files)?;
     Ok(ShowRequest {

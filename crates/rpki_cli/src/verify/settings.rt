@@ -180,7 +180,7 @@ pub fn named_of(word: &str) -> Option<Named>
 }
 
 /// Whether a word begins with `-`, and is not `-`.
-fn is_dashed(word: &str) -> bool
+pub fn is_dashed(word: &str) -> bool
     ensures { result ≡ is_dashed word.now }
 {
     matches!(word.as_bytes(), [b'-', _, ..])

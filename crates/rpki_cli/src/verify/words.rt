@@ -4,24 +4,24 @@ ghost use Rattle.std.specs.Prelude.{◌≡◌, ◌∷◌, ◌++◌, ◌↔◌, �
 ghost use Rattle.std.specs.Prelude.{codes};
 ghost use Rattle.rpki_cli.specs.Language.{IsAsked, AskForNothing};
 ghost use Rattle.rpki_cli.specs.Words.{texts, are_named, word_relaxed, word_registered, word_wide};
-ghost use Rattle.rpki_cli.specs.Verify.Words.{moment_at, when_word, IsWhen, verify_words, files_in};
+ghost use Rattle.rpki_cli.specs.Verify.Words.{moment_at, verify_words, files_in};
 ghost use Rattle.rpki_cli.specs.Verify.Words.{is_shared, IsFit, verify_language, AskForNoCheck};
 ghost use Rattle.rpki_cli.specs.Verify.Words.{AskForNoList, AskForNoWalk, AskForNoRta};
 ghost use Rattle.rpki_cli.specs.Verify.Words.{AskForNoRtaList, word_rta, AskForNothingElse};
 ghost use Rattle.rpki_cli.specs.Verify.Words.{AskForNoPayloads, AskForNoPayloadsIn, IsFormatted};
-ghost use Rattle.rpki_cli.specs.Verify.Words.{format_words, is_copy};
+ghost use Rattle.rpki_cli.specs.Verify.Words.{format_words, is_copy, after_options};
 ghost use Rattle.rpki_cli.specs.Verify.Words.{AskForNothingShared, IsSharedBy, IsTaken, IsOptioned};
 ghost use Rattle.rpki_cli.specs.Verify.Words.{AskForNothingShown, IsShownBy, AskForNoShow};
 ghost use Rattle.rpki_cli.specs.Verify.Words.{AskForNoneChecked, AreToShow, word_ta};
+ghost use Rattle.rpki_cli.specs.Verify.Words.{begin_with_help};
 ghost use Rattle.rpki_cli.specs.declared.verify.words.VerifyCommand.{VerifyCommand};
-ghost use Rattle.rpki_cli.specs.declared.verify.words.When.{When};
 
 use crate::anchor_words::{are_anchors, are_anchors_named};
 use crate::pairs::{are_others_named, has_with};
 use crate::verify::kinds_by_name::kind_of_word;
+use crate::verify::moments::when_named;
 use crate::words::{
-    Command, Kind, Options, Order, Word, Words, all_named, each_named, kind_of, moment_of,
-    parse_command,
+    Command, Kind, Options, Order, Word, Words, all_named, each_named, kind_of, parse_command,
 };
 use rpki_basics::Time;
 
@@ -30,8 +30,10 @@ use rpki_basics::Time;
 pub enum When {
     /// The one that the clock tells.
     Now,
-    /// This one.
+    /// This one, written as `YYYYMMDDHHMMSSZ`.
     At(Time),
+    /// This one, written as RFC 3339 has it: `YYYY-MM-DDTHH:MM:SSZ`.
+    AtIso(Time),
 }
 
 impl When {
@@ -41,7 +43,7 @@ impl When {
     {
         match self {
             When::Now => now,
-            When::At(moment) => Some(moment),
+            When::At(moment) | When::AtIso(moment) => Some(moment),
         }
     }
 }
@@ -206,9 +208,10 @@ fn are_files_named(file: &Word<'_>, anchor: &Word<'_>, chain: &Words<'_>) -> boo
 }
 
 /// The options that words begin with, and the words after them.
-#[tactic(auto, using(crate::proofs::Verified::Optioned::cut_by_words))]
-fn take_options<'a>(words: &'a [&'a str]) -> (Options, &'a [&'a str])
-    ensures { IsOptioned (texts words.now) result.0 (texts result.1.now) }
+#[tactic(auto, using(crate::proofs::Verified::Optioned::by_options))]
+pub fn take_options<'a>(words: &'a [&'a str]) -> (Options, &'a [&'a str])
+    ensures cut { IsOptioned (texts words.now) result.0 (texts result.1.now) }
+    ensures left { texts result.1.now ≡ after_options (texts words.now) }
 {
     let (relaxed, rest) = take_relaxed(words);
     let (registered, rest) = take_registered(rest);
@@ -317,10 +320,23 @@ fn parse_show_each<'a>(words: &'a [&'a str]) -> Option<VerifyCommand<'a>>
     }
 }
 
+/// Whether words begin with one that asks how the program is called.
+pub fn begin_with_help(words: &[&str]) -> bool
+    ensures { result ≡ begin_with_help (texts words.now) }
+{
+    match words {
+        [word, ..] => *word == "--help" || *word == "-h",
+        [] => false,
+    }
+}
+
 /// Whether words, after `show`, ask to show many files.
 fn are_to_show(words: &[&str]) -> bool
     ensures { IsTrue result ↔ AreToShow (texts words.now) }
 {
+    if begin_with_help(words) {
+        return false;
+    }
     match words {
         [] => false,
         [kind, _] => kind_of_word(kind).is_none(),
@@ -384,7 +400,7 @@ fn parse_check_one<'a>(words: &'a [&'a str]) -> Option<VerifyCommand<'a>>
     match words {
         [kind, file, moment, anchor, chain @ ..] => Some(VerifyCommand::Check {
             kind: kind_of(kind)?,
-            moment: when_of(moment)?,
+            moment: when_named(moment)?,
             file: Word(file),
             anchor: Word(anchor),
             chain: Words(chain),
@@ -437,7 +453,7 @@ fn parse_walk<'a>(words: &'a [&'a str]) -> Option<VerifyCommand<'a>>
 {
     match words {
         [file, moment, anchor, tail @ ..] => {
-            let moment = when_of(moment)?;
+            let moment = when_named(moment)?;
             if has_with(tail) {
                 Some(VerifyCommand::Walk {
                     file: Word(file),
@@ -460,7 +476,7 @@ fn parse_rta<'a>(words: &'a [&'a str]) -> Option<VerifyCommand<'a>>
 {
     match words {
         [file, moment, anchors @ ..] => {
-            let moment = when_of(moment)?;
+            let moment = when_named(moment)?;
             if are_anchors(anchors) {
                 Some(VerifyCommand::Rta {
                     file: Word(file),
@@ -505,7 +521,7 @@ fn parse_payloads_in<'a>(format: Format, words: &'a [&'a str]) -> Option<VerifyC
 {
     match words {
         [copy, moment, locators @ ..] => {
-            let moment = when_of(moment)?;
+            let moment = when_named(moment)?;
             if is_copy(copy) && !locators.is_empty() {
                 Some(VerifyCommand::Payloads {
                     format,
@@ -522,7 +538,7 @@ fn parse_payloads_in<'a>(format: Format, words: &'a [&'a str]) -> Option<VerifyC
 }
 
 /// Whether a word may name a copy of the repositories.
-fn is_copy(word: &str) -> bool
+pub fn is_copy(word: &str) -> bool
     ensures { result ≡ is_copy word.now }
 {
     word != "--csv" && word != "--json"
@@ -550,19 +566,5 @@ fn is_shared(command: &Command<'_>) -> bool
         Command::Content { .. } | Command::ContentRta { .. } => true,
         Command::Show { .. } | Command::ShowRta { .. } | Command::ShowTal { .. } => true,
         _ => false,
-    }
-}
-
-/// The moment that a word names, if it names one.
-fn when_of(word: &str) -> Option<When>
-    ensures { MatchOption result ((w : When) → word.now ≡ when_word w → IsWhen w → ⊥)
-        (λ w. (word.now ≡ when_word w) × IsWhen w) }
-{
-    match word {
-        "now" => Some(When::Now),
-        _ => match moment_of(word) {
-            None => None,
-            Some(moment) => Some(When::At(moment)),
-        },
     }
 }

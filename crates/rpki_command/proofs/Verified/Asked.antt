@@ -1,6 +1,6 @@
 -- What is answered to words that set what is to be done, or that are wrong.
 use Rattle.std.proofs.Common.{◌≡◌, ◌∙◌, ℕ, List, [], ◌∷◌, Option, refl, ap, sym, subst, inl, inr}
-use Rattle.std.proofs.Common.{Bor, length, arith, ◌≤◌}
+use Rattle.std.proofs.Common.{Bor, length, arith, ◌≤◌, suc}
 use Rattle.std.proofs.lemmas.List.{length-map}
 use Rattle.std.specs.Prelude.{map}
 use Rattle.rpki_basics.specs.Moment.{Moment}

@@ -4,16 +4,15 @@ use Rattle.std.proofs.Common.{subst, length, drop, take, get_or, ◌-◌, ◌≤
 use Rattle.std.proofs.lemmas.List.{drop-map, take_rest}
 use Rattle.std.specs.List.{zip}
 use Rattle.std.specs.Prelude.{option_map}
-use Rattle.rpki_basics.specs.Moment.{Moment}
 use Rattle.rpki_certs.specs.Issuer.{octets_of}
 use Rattle.rpki_cli.specs.Answer.{Output}
 use Rattle.rpki_cli.specs.Verify.CheckSettings.{CheckValues, word_given}
-use Rattle.rpki_cli.specs.declared.words.Options.{Options}
 use Rattle.rpki_command.specs.Verify.Checks.{CheckedFiles}
 use Rattle.rpki_command.specs.Verify.Checks.{first_of, files_in, IsLocatorOf, IsSaidLocated}
 use Rattle.rpki_command.specs.Verify.Checks.{SaidWithLists, IsSaidOfFiles}
 use Rattle.rpki_command.specs.Verify.Each.{GivenFile, asked_in}
 use Rattle.rpki_command.specs.Verify.Issuers.{CertFiles, GivenLocator}
+use Rattle.rpki_command.specs.declared.verify.checks.Manner.{Manner}
 use Rattle.rpki_command.specs.declared.verify.issuers.NotLocator.{NotLocator}
 use Rattle.rpki_cli.specs.declared.verify.requests.ObjectKind.{ObjectKind}
 use Rattle.rpki_command.proofs.Verified.Verifying.{of-first}
@@ -35,7 +34,7 @@ files-of n certs located listed asked = record {
 }
 
 -- what is said of files that are cut so is said of all of them
-pub of-cut : (options : Options) (now : Moment) (n : CheckValues) (kinds : List ObjectKind)
+pub of-cut : (m : Manner) (n : CheckValues) (kinds : List ObjectKind)
     (anchor : List ℕ) (below located listed objects : List (Vec ℕ Global)) (certs : CertFiles)
     (asked : List (GivenFile ObjectKind)) (a b c : ℕ) (s : Output)
     (locator : Result (Option GivenLocator) NotLocator)
@@ -46,20 +45,20 @@ pub of-cut : (options : Options) (now : Moment) (n : CheckValues) (kinds : List 
     → certs ≡ record { anchor = (n.ta, anchor); chain = zip n.cas (octets_of below) }
     → asked ≡ asked_in n.files kinds (octets_of objects)
     → IsLocatorOf (option_map (λ name. (name, first_of (octets_of located))) n.tal) locator
-    → IsSaidLocated (λ l said. SaidWithLists options now certs (zip n.crls (octets_of listed)) asked
+    → IsSaidLocated (λ l said. SaidWithLists m certs (zip n.crls (octets_of listed)) asked
     l said) locator s
-    → IsSaidOfFiles options now (files_in n kinds (anchor ∷ octets_of below)) s
-of-cut options now n kinds anchor below located listed objects certs asked a b c s locator ea eb ec
+    → IsSaidOfFiles m (files_in n kinds (anchor ∷ octets_of below)) s
+of-cut m n kinds anchor below located listed objects certs asked a b c s locator ea eb ec
     first second third is so read h =
     let all = octets_of below in
     let l : octets_of located ≡ drop (length n.cas) all =
     cut-at a (length n.cas) below located all ea first refl in
-    let m : octets_of listed ≡ drop (length (word_given n.tal)) (drop (length n.cas) all) =
+    let p : octets_of listed ≡ drop (length (word_given n.tal)) (drop (length n.cas) all) =
     cut-at b (length (word_given n.tal)) located listed (drop (length n.cas) all) eb second l in
     let o : octets_of objects
     ≡ drop (length n.crls) (drop (length (word_given n.tal)) (drop (length n.cas) all)) =
     cut-at c (length n.crls) listed objects
-    (drop (length (word_given n.tal)) (drop (length n.cas) all)) ec third m in
+    (drop (length (word_given n.tal)) (drop (length n.cas) all)) ec third p in
     let whole : files-of n certs (octets_of located) (octets_of listed) asked
     ≡ files_in n kinds (anchor ∷ all) =
     ap (λ (x : CertFiles). files-of n x (octets_of located) (octets_of listed) asked) is
@@ -70,13 +69,13 @@ of-cut options now n kinds anchor below located listed objects certs asked a b c
     ∙ ap (λ (x : List (List ℕ)). files-of n (record {
       anchor = (n.ta, anchor);
       chain = zip n.cas all;
-    }) (drop (length n.cas) all) x asked) m
+    }) (drop (length n.cas) all) x asked) p
     ∙ ap (λ (x : List (GivenFile ObjectKind)). files-of n (record {
       anchor = (n.ta, anchor);
       chain = zip n.cas all;
     }) (drop (length n.cas) all) (drop (length (word_given n.tal)) (drop (length n.cas) all)) x)
     (so ∙ ap (asked_in n.files kinds) o) in
-    subst (λ (f : CheckedFiles). IsSaidOfFiles options now f s) whole (locator, read, h)
+    subst (λ (f : CheckedFiles). IsSaidOfFiles m f s) whole (locator, read, h)
 
 -- what all files but the first are
 abbrev pub below-of : List (Vec ℕ Global) → List (Vec ℕ Global)
@@ -87,7 +86,7 @@ abbrev pub from-at : ℕ → List (Vec ℕ Global) → List (Vec ℕ Global)
 from-at k files = take (length files - k) (drop k files)
 
 -- the same where the first of all files is that of the trust anchor
-pub of-all : (options : Options) (now : Moment) (n : CheckValues) (kinds : List ObjectKind)
+pub of-all : (m : Manner) (n : CheckValues) (kinds : List ObjectKind)
     (files : List (Vec ℕ Global)) (o : Vec ℕ Global) (anchor : List ℕ) (certs : CertFiles)
     (asked : List (GivenFile ObjectKind)) (a b c : ℕ) (s : Output)
     (locator : Result (Option GivenLocator) NotLocator)
@@ -97,12 +96,12 @@ pub of-all : (options : Options) (now : Moment) (n : CheckValues) (kinds : List 
     → asked ≡ asked_in n.files kinds (octets_of (from-at c (from-at b (from-at a (below-of files)))))
     → IsLocatorOf (option_map (λ name. (name, first_of (octets_of (from-at a (below-of files))))) n.tal)
     locator
-    → IsSaidLocated (λ l said. SaidWithLists options now certs
+    → IsSaidLocated (λ l said. SaidWithLists m certs
     (zip n.crls (octets_of (from-at b (from-at a (below-of files))))) asked l said) locator s
-    → IsSaidOfFiles options now (files_in n kinds (octets_of files)) s
-of-all options now n kinds files o anchor certs asked a b c s locator d l i ea eb ec is so read h =
-    of-first (λ (fs : List (List ℕ)). IsSaidOfFiles options now (files_in n kinds fs) s) files o
+    → IsSaidOfFiles m (files_in n kinds (octets_of files)) s
+of-all m n kinds files o anchor certs asked a b c s locator d l i ea eb ec is so read h =
+    of-first (λ (fs : List (List ℕ)). IsSaidOfFiles m (files_in n kinds fs) s) files o
     anchor d l i
-    (of-cut options now n kinds anchor (below-of files) (from-at a (below-of files))
+    (of-cut m n kinds anchor (below-of files) (from-at a (below-of files))
     (from-at b (from-at a (below-of files))) (from-at c (from-at b (from-at a (below-of files))))
     certs asked a b c s locator ea eb ec refl refl refl is so read h)

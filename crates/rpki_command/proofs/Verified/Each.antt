@@ -1,7 +1,8 @@
 -- Files that are asked about one after the other.
 use Rattle.std.proofs.Common.{◌≡◌, ◌<◌, ◌+◌, ◌∙◌, ℕ, suc, zero, List, [], ◌∷◌, ◌++◌, Vec, Global, Bor}
 use Rattle.std.proofs.Common.{Bool, true, false, refl, ap, sym, subst, arith, length, get_or, take}
-use Rattle.std.proofs.lemmas.List.{flat_map_more, take_more}
+use Rattle.std.proofs.Common.{inr, codes}
+use Rattle.std.proofs.lemmas.List.{flat_map_more, take_more, append_assoc}
 use Rattle.std.proofs.lemmas.Slice.Zip.{all_zipped_more}
 use Rattle.std.specs.List.{AllZip}
 use Rattle.std.specs.Prelude.{◌⊎◌, ◌==◌, if◌then◌else◌}
@@ -10,7 +11,8 @@ use Rattle.rpki_cli.specs.Answer.{Output, Printed, out_of_memory}
 use Rattle.rpki_cli.specs.Words.{texts}
 use Rattle.rpki_command.specs.Verify.Each.{GivenFile, asked_in, Entry, entry_text, indented}
 use Rattle.rpki_command.specs.Verify.Each.{common_status, IsEntryOf, AreEntriesOf, PrintsEach}
-use Rattle.rpki_command.specs.Verify.Each.{IsSaidOfEach}
+use Rattle.rpki_command.specs.Verify.Each.{IsSaidOfEach, Reasons, IsLineFor, IsLineOf}
+use Rattle.rpki_show.specs.Json.File.{file_json}
 use Rattle.rpki_command.specs.Verify.Issuers.{named}
 
 -- the file with this name, kind and octets
@@ -84,38 +86,61 @@ status-more (x ∷ entries) e =
       ]
     ]
 
-module _ {K : Type 0} (P : GivenFile K → Output → Type 0) where
+module _ {K : Type 0} (Q : GivenFile K → Entry → Type 0) (written : Entry → List ℕ) where
   -- no file has an entry
-  pub entries-none : (files : List (GivenFile K)) → AreEntriesOf P (take 0 files) [] 0
+  pub entries-none : (files : List (GivenFile K)) → AreEntriesOf Q written (take 0 files) [] 0
   entries-none files = record { entries = []; each = tt; text_is = refl; status_is = refl }
 
   -- one more has one
-  pub entries-more : (files : List (GivenFile K)) (i : ℕ) (file : GivenFile K)
-      (old text said lines name octets : List ℕ) (kind : K) (status next own : ℕ) (s : Output)
-      → AreEntriesOf P (take i files) old status → i < length files → file ≡ get_or files i file
-      → ◌≡◌ {A = GivenFile K} (record { name = name; kind = kind; octets = octets }) file
-      → P file s → s ≡ Printed said own → lines ≡ said
-      → text ≡ old ++ named name (indented lines) → next ≡ (if own == 0 then status else 1)
-      → AreEntriesOf P (take (i + 1) files) text next
-  entries-more files i file old text said lines name octets kind status next own s h l at view p is
-      same t n =
-      let e : Entry = record { name = file.name; text = said; status = own } in
+  entry-more : (files : List (GivenFile K)) (i : ℕ) (file : GivenFile K) (e : Entry)
+      (old text : List ℕ) (status next : ℕ) → AreEntriesOf Q written (take i files) old status
+      → i < length files → file ≡ get_or files i file → Q file e → text ≡ old ++ written e
+      → next ≡ (if e.status == 0 then status else 1)
+      → AreEntriesOf Q written (take (i + 1) files) text next
+  entry-more files i file e old text status next h l at is t n =
+      let own = e.status in
       let more : take (i + 1) files ≡ take i files ++ file ∷ [] =
       take_more files i file l ∙ ap (λ (f : GivenFile K). take i files ++ f ∷ []) (sym at) in
       record {
         entries = h.entries ++ e ∷ [];
-        each = subst (λ (fs : List (GivenFile K)). AllZip (IsEntryOf P) fs (h.entries ++ e ∷ []))
-            (sym more)
-            (all_zipped_more (IsEntryOf P) (take i files) h.entries file e h.each
-            (refl, subst (λ (x : Output). P file x) is p));
-        text_is = t
-            ∙ ap (λ (f : GivenFile K). old ++ named f.name (indented lines)) view
-            ∙ ap (λ (x : List ℕ). old ++ named file.name (indented x)) same
-            ∙ ap (λ (x : List ℕ). x ++ entry_text e) h.text_is
-            ∙ flat_map_more entry_text [] h.entries e;
+        each = subst (λ (fs : List (GivenFile K)). AllZip Q fs (h.entries ++ e ∷ []))
+            (sym more) (all_zipped_more Q (take i files) h.entries file e h.each is);
+        text_is = t ∙ ap (λ (x : List ℕ). x ++ written e) h.text_is
+            ∙ flat_map_more written [] h.entries e;
         status_is = n ∙ ap (λ (m : ℕ). if own == 0 then m else 1) h.status_is
             ∙ sym (status-more h.entries e);
       }
+
+module _ {K : Type 0} (P : GivenFile K → Output → Type 0) where
+  -- one more has one in lines
+  pub entries-more : (files : List (GivenFile K)) (i : ℕ) (file : GivenFile K)
+      (old text said lines name octets : List ℕ) (kind : K) (status next own : ℕ) (s : Output)
+      → AreEntriesOf (IsEntryOf P) entry_text (take i files) old status → i < length files
+      → file ≡ get_or files i file
+      → ◌≡◌ {A = GivenFile K} (record { name = name; kind = kind; octets = octets }) file
+      → P file s → s ≡ Printed said own → lines ≡ said
+      → text ≡ old ++ named name (indented lines) → next ≡ (if own == 0 then status else 1)
+      → AreEntriesOf (IsEntryOf P) entry_text (take (i + 1) files) text next
+  entries-more files i file old text said lines name octets kind status next own s h l at view p is
+      same t n =
+      let e : Entry = record { name = file.name; text = said; status = own } in
+      entry-more (IsEntryOf P) entry_text files i file e old text status next h l at
+      (refl, subst (λ (x : Output). P file x) is p)
+      (t ∙ ap (λ (f : GivenFile K). old ++ named f.name (indented lines)) view
+      ∙ ap (λ (x : List ℕ). old ++ named file.name (indented x)) same) n
+
+  -- one more has one in JSON
+  pub lines-more : (reasons : Reasons) (type : K → List ℕ) (files : List (GivenFile K)) (i : ℕ)
+      (file : GivenFile K) (old text line : List ℕ) (status next own : ℕ) (s : Output)
+      → AreEntriesOf (IsLineOf reasons type P) (λ e. e.text) (take i files) old status
+      → i < length files → file ≡ get_or files i file → P file s
+      → IsLineFor reasons file.name (type file.kind) s line own → text ≡ old ++ line
+      → next ≡ (if own == 0 then status else 1)
+      → AreEntriesOf (IsLineOf reasons type P) (λ e. e.text) (take (i + 1) files) text next
+  lines-more reasons type files i file old text line status next own s h l at p is t n =
+      let e : Entry = record { name = file.name; text = line; status = own } in
+      entry-more (IsLineOf reasons type P) (λ (x : Entry). x.text) files i file e old text status
+      next h l at (record { name_is = refl; answer = s; is = p; line = is }) t n
 
   -- ---- one file, and several
 
@@ -127,7 +152,20 @@ module _ {K : Type 0} (P : GivenFile K → Output → Type 0) where
   of-one (x ∷ y ∷ files) file s l at h = absurd (omega arith)
 
   pub of-others : (files : List (GivenFile K)) (s : Output) → ¬ (length files ≡ 1)
-      → (s ≡ out_of_memory) ⊎ PrintsEach P files s → IsSaidOfEach P files s
+      → (s ≡ out_of_memory) ⊎ PrintsEach (IsEntryOf P) entry_text files s
+      → IsSaidOfEach P files s
   of-others [] s l h = h
   of-others (x ∷ []) s l h = absurd (l refl)
   of-others (x ∷ y ∷ files) s l h = h
+
+-- the line with a reason in two parts, which stand before a line feed in what is said
+pub line-for : (reasons : Reasons) (name type what cause line : List ℕ) (s : Output) (status : ℕ)
+    → s ≡ Printed (what ++ (cause ++ codes "\n")) 1
+    → line ≡ file_json name type (reasons (what ++ cause)) → status ≡ 1
+    → IsLineFor reasons name type s line status
+line-for reasons name type what cause line s status is l n = inr (
+  what ++ cause,
+  is ∙ ap (λ (t : List ℕ). Printed t 1) (sym (append_assoc what cause (codes "\n"))),
+  l,
+  n,
+)

@@ -1,8 +1,9 @@
 -- What a yes to a check of several files means, from what is said.
 use Rattle.std.proofs.Common.{◌≡◌, ◌∙◌, ℕ, List, [], ◌∷◌, All, Bool, true, false, Result, Ok, Err}
-use Rattle.std.proofs.Common.{Option, refl, ap, sym, subst, inl, inr}
+use Rattle.std.proofs.Common.{Option, refl, ap, sym, subst, inl, inr, ◌++◌, rules}
+use Rattle.std.specs.Prelude.{◌⊎◌}
 use Rattle.std.proofs.lemmas.Bool.{eqb-true}
-use Rattle.std.proofs.lemmas.List.Elements.{All-nil, All-cons}
+use Rattle.std.proofs.lemmas.List.Elements.{All-nil, All-cons, All-head}
 use Rattle.std.specs.List.{AllZip}
 use Rattle.std.specs.Prelude.{◌==◌, ◌↔◌, if◌then◌else◌}
 use Rattle.sha2.specs.Sha256.{sha256}
@@ -30,26 +31,38 @@ use Rattle.rpki_cli.specs.Answer.{Output, Printed, out_of_memory, refused, bad_l
 use Rattle.rpki_cli.specs.declared.causes.Causes.TheVariants.{Included}
 use Rattle.rpki_cli.specs.declared.words.Kind.{Kind}
 use Rattle.rpki_cli.specs.declared.words.Options.{Options}
+use Rattle.rpki_cli.specs.Words.{kind_word}
+use Rattle.rpki_json.specs.Members.{Member}
+use Rattle.rpki_show.specs.Json.File.{file_json}
+use Rattle.rpki_show.specs.Json.Outcome.{valid_members, invalid_members}
+use Rattle.rpki_show.specs.Kinds.{RowOf}
 use Rattle.rpki_show.specs.Options.{read_mode}
-use Rattle.rpki_command.specs.Check.{passes, validation_refusal, IsCheckSaid, IsCheckedAs, CheckedUnder}
+use Rattle.rpki_command.specs.Check.{passes, yes_line, validation_refusal, IsCheckSaid, IsCheckedAs, CheckedUnder}
 use Rattle.rpki_command.specs.Verify.Checks.{CheckedFiles, IsLocatorOf, IsSaidOfFiles, SaidUnder}
+use Rattle.rpki_command.specs.Verify.Checks.{IsSaidUnissued}
 use Rattle.rpki_command.specs.Verify.Checks.{SaidWithLists, bad_list}
 use Rattle.rpki_command.specs.Verify.Each.{GivenFile, Entry, common_status, IsEntryOf, IsSaidOfEach}
+use Rattle.rpki_command.specs.Verify.Each.{PrintsEach, entry_text, Reasons, IsLineFor, IsLineOf}
+use Rattle.rpki_command.specs.Verify.Each.{IsSaidInJson}
 use Rattle.rpki_command.specs.Verify.Good.{BeginsWithUnrevoked, IsGoodKind, IsGoodFile, AreGood}
-use Rattle.rpki_command.specs.Verify.Issuers.{GivenLocator, no_issuer}
+use Rattle.rpki_command.specs.Verify.Issuers.{GivenLocator, no_issuer, IsNoIssuerSaid}
 use Rattle.rpki_command.specs.Verify.Objects.{Grounds, IsSaidOfObject, IsJudgedAs, JudgedUnder, supplied_by}
-use Rattle.rpki_command.specs.Verify.Objects.{IsJudgementSaid, IsSaidOfSigned, IsSaidOfRta, IsSaidOfKind}
+use Rattle.rpki_command.specs.Verify.Objects.{IsJudgementSaid, IsSaidOfKind, IsSaidOfRtaAs}
+use Rattle.rpki_command.specs.Verify.Objects.{IsKindInJson, IsObjectInJson, IsSaidOfObjects}
+use Rattle.rpki_command.specs.Verify.Objects.{granted_json, object_word}
 use Rattle.rpki_cli.specs.declared.verify.requests.ObjectKind.{ObjectKind}
 use Rattle.rpki_cli.specs.declared.verify.requests.ObjectKind.TheVariants.{Signed, Rta}
-use Rattle.rpki_command.specs.Rta.{IsRtaSaid}
+use Rattle.rpki_command.specs.Rta.{IsRtaSaid, granted_text}
 use Rattle.rpki_command.specs.Verify.Revoked.{GivenList, IsGivenList, IsUnrevoked}
 use Rattle.rpki_command.specs.Verify.Revoked.{Revokes, revoked_text}
 use Rattle.rpki_command.specs.Yes.{status_of}
+use Rattle.rpki_command.specs.declared.verify.checks.Manner.{Manner}
+use Rattle.rpki_command.specs.declared.verify.issuers.NoIssuer.{NoIssuer}
 use Rattle.rpki_command.specs.declared.verify.issuers.IssuerFault.{IssuerFault}
 use Rattle.rpki_command.specs.declared.verify.issuers.IssuerFault.TheVariants as faults
 use Rattle.rpki_command.specs.declared.verify.issuers.NotLocator.TheVariants as locating
 use Rattle.rpki_command.specs.declared.verify.revoked.NotLists.TheVariants as listing
-use Rattle.rpki_command.proofs.Right.{other-status, refusal-is-none, fault-is-none, of-kind}
+use Rattle.rpki_command.proofs.Right.{other-status, refusal-is-none, fault-is-none, of-kind, of-row}
 use Rattle.rpki_command.proofs.Right.{one, two, three}
 use Rattle.rpki_command.proofs.Verified.Issuing.{no-cut}
 
@@ -66,30 +79,60 @@ zero-first e entries z =
       | false ↦ λ t y. absurd (one y)
     ]) refl z
 
-module _ {K : Type 0} (P : GivenFile K → Output → Type 0) (Q : GivenFile K → Type 0)
-    (more : (f : GivenFile K) (t : Output) → P f t → status_of t ≡ 0 → Q f) where
+module _ {K : Type 0} (E : GivenFile K → Entry → Type 0) (Q : GivenFile K → Type 0)
+    (more : (f : GivenFile K) (e : Entry) → E f e → e.status ≡ 0 → Q f) where
   zip-good : (files : List (GivenFile K)) (entries : List Entry)
-      → AllZip (IsEntryOf P) files entries → common_status entries ≡ 0 → All Q files
+      → AllZip E files entries → common_status entries ≡ 0 → All Q files
   zip-good [] entries h z = All-nil Q
   zip-good (f ∷ files) [] h z = absurd h
   zip-good (f ∷ files) (e ∷ entries) h z =
       let p = zero-first e entries z in
-      All-cons Q f files (more f (Printed e.text e.status) h.0.1 p.0)
-      (zip-good files entries h.1 p.1)
+      All-cons Q f files (more f e h.0 p.0) (zip-good files entries h.1 p.1)
+
+  printed-good : (written : Entry → List ℕ) (files : List (GivenFile K)) (s : Output)
+      → (s ≡ out_of_memory) ⊎ PrintsEach E written files s → status_of s ≡ 0 → All Q files
+  printed-good written files s (inl e) z = absurd (other-status s out_of_memory 0 z e three)
+  printed-good written files s (inr h) z =
+      zip-good files h.2.entries h.2.each (sym h.2.status_is ∙ sym (ap status_of h.3) ∙ z)
+
+module _ {K : Type 0} (P : GivenFile K → Output → Type 0) (Q : GivenFile K → Type 0)
+    (more : (f : GivenFile K) (t : Output) → P f t → status_of t ≡ 0 → Q f) where
+  of-entry : (f : GivenFile K) (e : Entry) → IsEntryOf P f e → e.status ≡ 0 → Q f
+  of-entry f e h z = more f (Printed e.text e.status) h.1 z
 
   -- what follows from a yes to a file follows for each where all have one
   pub each-good : (files : List (GivenFile K)) (s : Output) → IsSaidOfEach P files s
       → status_of s ≡ 0 → All Q files
   each-good [] s h z = All-nil Q
   each-good (f ∷ []) s h z = All-cons Q f [] (more f s h z) (All-nil Q)
-  each-good (f ∷ g ∷ files) s (inl e) z = absurd (other-status s out_of_memory 0 z e three)
-  each-good (f ∷ g ∷ files) s (inr h) z =
-      zip-good (f ∷ g ∷ files) h.2.entries h.2.each
-      (sym h.2.status_is ∙ sym (ap status_of h.3) ∙ z)
+  each-good (f ∷ g ∷ files) s h z =
+      printed-good (IsEntryOf P) Q of-entry entry_text (f ∷ g ∷ files) s h z
+
+  line-zero : (reasons : Reasons) (name type : List ℕ) (t : Output) (line : List ℕ) (status : ℕ)
+      → IsLineFor reasons name type t line status → status ≡ 0 → status_of t ≡ 0
+  line-zero reasons name type t line status (inl h) z = ap status_of h.0
+  line-zero reasons name type t line status (inr h) z = absurd (one (sym h.3 ∙ z))
+
+  of-line : (reasons : Reasons) (type : K → List ℕ) (f : GivenFile K) (e : Entry)
+      → IsLineOf reasons type P f e → e.status ≡ 0 → Q f
+  of-line reasons type f e h z = more f h.answer h.is
+      (line-zero reasons f.name (type f.kind) h.answer e.text e.status h.line z)
+
+  -- and so it does in JSON
+  pub json-good : (reasons : Reasons) (type : K → List ℕ) (files : List (GivenFile K)) (s : Output)
+      → IsSaidInJson reasons type P files s → status_of s ≡ 0 → All Q files
+  json-good reasons type files s h z =
+      printed-good (IsLineOf reasons type P) Q (of-line reasons type) (λ (e : Entry). e.text) files
+      s h z
+
+none-good : {K : Type 0} (files : List (GivenFile K)) → ¬ (files ≡ [])
+    → All (λ (f : GivenFile K). ⊥) files → ⊥
+none-good [] some h = some refl
+none-good {K} (f ∷ files) some h = All-head (λ (f : GivenFile K). ⊥) f files h
 
 -- ---- one object
 
-of-cert : (c : KeptCertificate) (issuer v : Validated) → IsValidatedUnder c issuer v → v.cert ≡ c
+pub of-cert : (c : KeptCertificate) (issuer v : Validated) → IsValidatedUnder c issuer v → v.cert ≡ c
 unfolding IsValidatedUnder
 of-cert c issuer v h = h.0
 
@@ -132,23 +175,27 @@ module _ {X : Type 0} (kind : signed.ObjectKind X) (form : List ℕ → X → Ty
 
   -- without lists
   alone : (result : Result (Validated × X) CheckError)
-      → IsJudgementSaid text verdict [] issuer result s → IsCheckSaid Included text result s
+      → IsJudgementSaid (λ x. yes_line ++ text x) verdict [] issuer result s
+      → IsCheckSaid Included text result s
   alone (Ok a) (inl h) = h.1
   alone (Ok a) (inr h) =
       let list : GivenList = record { name = h.0; list = h.1.list } in
       no-cut h.1.before list h.1.after h.1.cut
-  alone (Err fault) h = h
+  alone (Err (Decode fault)) h = h
+  alone (Err (Validation fault)) h = h
 
   with-none : (result : Result (Validated × X) CheckError) → IsCheckSaid Included text result s
-      → IsJudgementSaid text verdict [] issuer result s
+      → IsJudgementSaid (λ x. yes_line ++ text x) verdict [] issuer result s
   with-none (Ok a) h = inl (
     All-nil (λ (l : GivenList).
         ¬ Revokes verdict issuer.cert.certificate a.0.cert.certificate l.list),
     h,
   )
-  with-none (Err fault) h = h
+  with-none (Err (Decode fault)) h = h
+  with-none (Err (Validation fault)) h = h
 
-  pub alone-as : IsJudgedAs kind form text mode digest verdict [] issuer now octets s
+  pub alone-as : IsJudgedAs kind form (λ x. yes_line ++ text x) mode digest verdict [] issuer now
+      octets s
       → IsCheckedAs Included kind form text mode digest verdict issuer now octets s
   alone-as (inl e) = inl e
   alone-as (inr j) = inr (record {
@@ -159,7 +206,7 @@ module _ {X : Type 0} (kind : signed.ObjectKind X) (form : List ℕ → X → Ty
   })
 
   pub none-as : IsCheckedAs Included kind form text mode digest verdict issuer now octets s
-      → IsJudgedAs kind form text mode digest verdict [] issuer now octets s
+      → IsJudgedAs kind form (λ x. yes_line ++ text x) mode digest verdict [] issuer now octets s
   none-as (inl e) = inl e
   none-as (inr c) = inr (record {
     result = c.result;
@@ -170,48 +217,81 @@ module _ {X : Type 0} (kind : signed.ObjectKind X) (form : List ℕ → X → Ty
 
 -- ---- by its kind
 
-signed-good : (g : Grounds) (kind : Kind) (octets : List ℕ) (s : Output)
-    → IsSaidOfSigned g kind octets s → status_of s ≡ 0 → IsGoodKind g (Signed kind) octets
-signed-good g kind octets s h zero = of-kind g.options kind
-    (λ X asked form text. IsJudgedAs asked form text (read_mode g.options) sha256 is_rsa_signature
-    g.lists g.issuer g.now octets s)
-    (λ X asked form text. BeginsWithUnrevoked asked form (read_mode g.options) sha256
-    is_rsa_signature g.lists g.issuer g.now octets)
-    (λ X asked form text is. good-as asked form text (read_mode g.options) sha256 is_rsa_signature
-    g.issuer g.now octets s g.lists zero is) h
+abbrev Good : Grounds → (X : Type 0) → signed.ObjectKind X → (List ℕ → X → Type 0) → List ℕ → Type 0
+Good g X asked form octets = BeginsWithUnrevoked asked form (read_mode g.options) sha256
+    is_rsa_signature g.lists g.issuer g.now octets
+
+-- what the object of a kind is judged as, with this text for each
+abbrev Judged : Grounds → (X : Type 0) → signed.ObjectKind X → (List ℕ → X → Type 0)
+    → (X → List ℕ) → List ℕ → Output → Type 0
+Judged g X asked form text octets s = IsJudgedAs asked form text (read_mode g.options) sha256
+    is_rsa_signature g.lists g.issuer g.now octets s
+
+-- a row of the kinds, by whichever text
+row-good : (g : Grounds) (kind : Kind) (octets : List ℕ) (s : Output)
+    (written : (X : Type 0) → (X → List ℕ) → (X → List Member) → X → List ℕ)
+    → status_of s ≡ 0
+    → RowOf g.options kind (λ X asked form text members. Judged g X asked form
+    (written X text members) octets s)
+    → IsGoodKind g (Signed kind) octets
+row-good g kind octets s written zero h = of-row g.options kind
+    (λ X asked form text members. Judged g X asked form (written X text members) octets s)
+    (λ X asked form text members. Good g X asked form octets)
+    (λ X asked form text members is. good-as asked form (written X text members)
+    (read_mode g.options) sha256 is_rsa_signature g.issuer g.now octets s g.lists zero is) h
 
 granted-result : (supplied : List Supply) (now : Moment) (octets : List ℕ) (s : Output)
-    → status_of s ≡ 0 → (result : Result KeptWhole CheckError)
-    → IsExactRta sha256 is_rsa_signature now supplied octets result → IsRtaSaid Included result s
+    (text : KeptWhole → List ℕ) → status_of s ≡ 0 → (result : Result KeptWhole CheckError)
+    → IsExactRta sha256 is_rsa_signature now supplied octets result
+    → IsRtaSaid Included text result s
     → BeginsWith (RtaForm Der) octets
     (λ (r : Whole). IsGrantedRta sha256 is_rsa_signature now r supplied)
-granted-result supplied now octets s zero (Ok k) b h = record {
+granted-result supplied now octets s text zero (Ok k) b h = record {
   object = b.object;
   rest = b.rest;
   front = b.front;
   holds = b.holds.0;
 }
-granted-result supplied now octets s zero (Err (Decode fault)) b h =
+granted-result supplied now octets s text zero (Err (Decode fault)) b h =
     absurd (refusal-is-none Included fault s h zero)
-granted-result supplied now octets s zero (Err (Validation fault)) b (inl e) =
+granted-result supplied now octets s text zero (Err (Validation fault)) b (inl e) =
     absurd (other-status s out_of_memory 0 zero e three)
-granted-result supplied now octets s zero (Err (Validation fault)) b (inr e) =
+granted-result supplied now octets s text zero (Err (Validation fault)) b (inr e) =
     absurd (other-status s (validation_refusal fault) 0 zero e (fault-is-none fault))
 
-granted-good : (g : Grounds) (octets : List ℕ) (s : Output) → IsSaidOfRta g octets s
-    → status_of s ≡ 0 → IsGoodKind g Rta octets
-granted-good g octets s (inl e) zero = absurd (other-status s out_of_memory 0 zero e three)
-granted-good g octets s (inr c) zero =
-    granted-result (supplied_by g) g.now octets s zero c.result c.exact c.said
+granted-good : (g : Grounds) (text : KeptWhole → List ℕ) (octets : List ℕ) (s : Output)
+    → IsSaidOfRtaAs g text octets s → status_of s ≡ 0 → IsGoodKind g Rta octets
+granted-good g text octets s (inl e) zero =
+    absurd (other-status s out_of_memory 0 zero e three)
+granted-good g text octets s (inr c) zero =
+    granted-result (supplied_by g) g.now octets s text zero c.result c.exact c.said
 
 kind-good : (g : Grounds) (kind : ObjectKind) (octets : List ℕ) (s : Output)
     → IsSaidOfKind g kind octets s → status_of s ≡ 0 → IsGoodKind g kind octets
-kind-good g (Signed kind) octets s h zero = signed-good g kind octets s h zero
-kind-good g Rta octets s h zero = granted-good g octets s h zero
+kind-good g (Signed kind) octets s h zero =
+    row-good g kind octets s (λ X text members x. yes_line ++ text x) zero h
+kind-good g Rta octets s h zero = granted-good g granted_text octets s h zero
 
-pub file-good : (g : Grounds) (file : GivenFile ObjectKind) (s : Output) → IsSaidOfObject g file s
+file-good : (g : Grounds) (file : GivenFile ObjectKind) (s : Output) → IsSaidOfObject g file s
     → status_of s ≡ 0 → IsGoodFile g file
 file-good g file s h zero = kind-good g file.kind file.octets s h zero
+
+json-kind-good : (g : Grounds) (kind : ObjectKind) (name octets : List ℕ) (s : Output)
+    → IsKindInJson g kind name octets s → status_of s ≡ 0 → IsGoodKind g kind octets
+json-kind-good g (Signed kind) name octets s h zero = row-good g kind octets s
+    (λ X text members x. file_json name (kind_word kind) (valid_members (members x))) zero h
+json-kind-good g Rta name octets s h zero = granted-good g (granted_json name) octets s h zero
+
+json-file-good : (g : Grounds) (file : GivenFile ObjectKind) (s : Output) → IsObjectInJson g file s
+    → status_of s ≡ 0 → IsGoodFile g file
+json-file-good g file s h zero = json-kind-good g file.kind file.name file.octets s h zero
+
+objects-good : (json : Bool) (g : Grounds) (files : List (GivenFile ObjectKind)) (s : Output)
+    → IsSaidOfObjects json g files s → status_of s ≡ 0 → All (IsGoodFile g) files
+objects-good false g files s h z =
+    each-good (IsSaidOfObject g) (IsGoodFile g) (file-good g) files s h z
+objects-good true g files s h z = json-good (IsObjectInJson g) (IsGoodFile g) (json-file-good g)
+    invalid_members object_word files s h z
 
 pub alone-under : (options : Options) (kind : Kind) (digest : Digester) (verdict : Verdict)
     (issuer : Validated) (now : Moment) (octets : List ℕ) (s : Output)
@@ -219,8 +299,8 @@ pub alone-under : (options : Options) (kind : Kind) (digest : Digester) (verdict
     ↔ CheckedUnder Included options kind digest verdict issuer now octets s
 alone-under options kind digest verdict issuer now octets s = (
   of-kind options kind
-      (λ X asked form text. IsJudgedAs asked form text (read_mode options) digest verdict []
-      issuer now octets s)
+      (λ X asked form text. IsJudgedAs asked form (λ x. yes_line ++ text x) (read_mode options)
+      digest verdict [] issuer now octets s)
       (λ X asked form text. IsCheckedAs Included asked form text (read_mode options) digest verdict
       issuer now octets s)
       (λ X asked form text. alone-as asked form text (read_mode options) digest verdict issuer now
@@ -228,8 +308,8 @@ alone-under options kind digest verdict issuer now octets s = (
   of-kind options kind
       (λ X asked form text. IsCheckedAs Included asked form text (read_mode options) digest verdict
       issuer now octets s)
-      (λ X asked form text. IsJudgedAs asked form text (read_mode options) digest verdict []
-      issuer now octets s)
+      (λ X asked form text. IsJudgedAs asked form (λ x. yes_line ++ text x) (read_mode options)
+      digest verdict [] issuer now octets s)
       (λ X asked form text. none-as asked form text (read_mode options) digest verdict issuer now
       octets s),
 )
@@ -246,37 +326,43 @@ no-issuer-none file (faults.Error (issuing.Validation (validation.Verification f
 no-issuer-none file (faults.OtherKey locator) = one
 no-issuer-none file (faults.Revoked list) = one
 
-module _ (options : Options) (now : Moment) (f : CheckedFiles) (s : Output)
+no-issuer-said : (refusal : NoIssuer) (s : Output) → IsNoIssuerSaid refusal s → status_of s ≡ 0 → ⊥
+no-issuer-said refusal s (inl e) zero = other-status s out_of_memory 0 zero e three
+no-issuer-said refusal s (inr e) zero =
+    other-status s (no_issuer refusal.file.now refusal.fault) 0 zero e
+    (no-issuer-none refusal.file.now refusal.fault)
+
+module _ (m : Manner) (f : CheckedFiles) (some : ¬ (f.objects ≡ [])) (s : Output)
     (zero : status_of s ≡ 0) where
+  -- where there are objects, none of which is good, the status is another one
+  unissued : (json : Bool) (refusal : NoIssuer) → IsSaidUnissued json refusal f.objects s → ⊥
+  unissued false refusal h = no-issuer-said refusal s h zero
+  unissued true refusal h = none-good f.objects some (json-good
+      (λ (file : GivenFile ObjectKind). IsNoIssuerSaid refusal) (λ (file : GivenFile ObjectKind). ⊥)
+      (λ file t is z. no-issuer-said refusal t is z) invalid_members object_word f.objects s h zero)
+
   module _ (locator : Option GivenLocator) (located : IsLocatorOf f.locator (Ok locator)) where
     issued-good : (lists : List GivenList) → AllZip IsGivenList f.lists lists
-        → SaidUnder options now f.certs f.objects locator lists s → AreGood options now f
-    issued-good lists listed (Ok issuer, made, h) =
-        let grounds : Grounds = record {
-          options = options;
-          locator = locator;
-          lists = lists;
-          issuer = issuer;
-          now = now;
-        } in
-        record {
-          locator = locator;
-          located = located;
-          lists = lists;
-          listed = listed;
-          issuer = issuer;
-          made = made;
-          good = each-good (IsSaidOfObject grounds) (IsGoodFile grounds) (file-good grounds)
-              f.objects s h zero;
-        }
-    issued-good lists listed (Err refusal, made, inl e) =
-        absurd (other-status s out_of_memory 0 zero e three)
-    issued-good lists listed (Err refusal, made, inr e) =
-        absurd (other-status s (no_issuer refusal.file.now refusal.fault) 0 zero e
-        (no-issuer-none refusal.file.now refusal.fault))
+        → SaidUnder m f.certs f.objects locator lists s → AreGood m.options m.moment f
+    issued-good lists listed (Ok issuer, made, h) = record {
+      locator = locator;
+      located = located;
+      lists = lists;
+      listed = listed;
+      issuer = issuer;
+      made = made;
+      good = objects-good m.json (record {
+        options = m.options;
+        locator = locator;
+        lists = lists;
+        issuer = issuer;
+        now = m.moment;
+      }) f.objects s h zero;
+    }
+    issued-good lists listed (Err refusal, made, h) = absurd (unissued m.json refusal h)
 
-    listed-good : SaidWithLists options now f.certs f.lists f.objects locator s
-        → AreGood options now f
+    listed-good : SaidWithLists m f.certs f.lists f.objects locator s
+        → AreGood m.options m.moment f
     listed-good (Ok lists, listed, h) = issued-good lists.items listed h
     listed-good (Err (listing.Bad name), listed, inl e) =
         absurd (other-status s out_of_memory 0 zero e three)
@@ -285,7 +371,7 @@ module _ (options : Options) (now : Moment) (f : CheckedFiles) (s : Output)
     listed-good (Err listing.Memory, listed, e) =
         absurd (other-status s out_of_memory 0 zero e three)
 
-  pub files-good : IsSaidOfFiles options now f s → AreGood options now f
+  pub files-good : IsSaidOfFiles m f s → AreGood m.options m.moment f
   files-good (Ok locator, located, h) = listed-good locator located h
   files-good (Err (locating.Bad name), located, e) =
       absurd (other-status s (bad_locator name.now) 0 zero e two)

@@ -1,10 +1,9 @@
 -- What the commands of the program with signatures come to is settled by each command alone.
-use Rattle.std.proofs.Common.{tt, ℕ, List, Option, None, Some, Bool, true, false}
+use Rattle.std.proofs.Common.{ℕ, List, Option, None, Some}
 use Rattle.rpki_basics.specs.Moment.{Moment}
 use Rattle.rpki_cli.proofs.Running.{IsSettled}
 use Rattle.rpki_cli.proofs.Verified.Requests.{check-once, check-apart, show-once, show-apart}
 use Rattle.rpki_cli.specs.Answer.{Output}
-use Rattle.rpki_cli.specs.Command.{Task}
 use Rattle.rpki_cli.specs.Verify.CheckSettings.{check_names}
 use Rattle.rpki_cli.specs.Verify.Words.{moment_at}
 use Rattle.rpki_cli.specs.Options.{either_options}
@@ -18,18 +17,13 @@ use Rattle.rpki_cli.specs.declared.verify.words.VerifyCommand.TheVariants.{ShowI
 use Rattle.rpki_cli.specs.declared.verify.words.VerifyCommand.TheVariants.{CheckEach, ShowEach}
 use Rattle.rpki_command.specs.Verify.Check.{VerifiedOf, VerifiedWalkOf, VerifiedRtaOf}
 use Rattle.rpki_command.specs.Verify.Checks.{CheckedOf}
-use Rattle.rpki_command.specs.Verify.Command.{check_task, unless_json, verify_task, PartySays}
+use Rattle.rpki_command.specs.Verify.Command.{check_task, verify_task, PartySays}
 use Rattle.rpki_command.proofs.Settled.{settled as shared-settled}
 
 at-moment : (files : List (List ℕ)) (P : Moment → List (List ℕ) → Output → Type 0)
     (moment : Option Moment) → IsSettled (check_task files P moment)
 at-moment files P None = tt
 at-moment files P (Some now) = tt
-
-unless-json : (json : Bool) (s : Output) (task : Task) → IsSettled task
-    → IsSettled (unless_json json s task)
-unless-json true s task h = tt
-unless-json false s task h = h
 
 pub settled : (clock : Option Moment) (says : PartySays) (options : Options)
     (command : VerifyCommand) → IsSettled (verify_task clock says options command)
@@ -42,14 +36,14 @@ settled clock says options (Check kind file moment anchor chain) =
 settled clock says options (CheckEach words) = record {
   once = check-once words;
   apart = check-apart words;
-  each = λ c i. unless-json c.values.json _ _ (at-moment (check_names c.values)
+  each = λ c i. at-moment (check_names c.values)
       (CheckedOf (either_options options c.values.options) c.values c.kinds)
-      (moment_at clock c.values.at));
+      (moment_at clock c.values.at);
 }
 settled clock says options (ShowEach words) = record {
   once = show-once words;
   apart = show-apart words;
-  each = λ c i. unless-json c.json _ _ tt;
+  each = λ c i. tt;
 }
 settled clock says options (Verdicts file anchor chain) = tt
 settled clock says options (Walk file moment anchor tail) = at-moment _ _ (moment_at clock moment)

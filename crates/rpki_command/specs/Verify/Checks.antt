@@ -1,7 +1,7 @@
 -- What is said of the files of a check: of a locator, of revocation lists, of certificates, and of
 -- objects under the issuer that these make.
 use Rattle.std.specs.Prelude.{◌≡◌, ◌⊎◌, ℕ, List, [], ◌∷◌, ◌++◌, drop, length, codes, Option, None, Some}
-use Rattle.std.specs.Prelude.{option_map, Result, Ok, Err, Vec}
+use Rattle.std.specs.Prelude.{option_map, Result, Ok, Err, Vec, Bool, true, false}
 use Rattle.std.specs.List.{zip}
 use Rattle.std.specs.declared.alloc.Global.{Global}
 use Rattle.rpki_basics.specs.Moment.{Moment}
@@ -10,11 +10,13 @@ use Rattle.rpki_rsa.specs.Signature.{is_rsa_signature}
 use Rattle.rpki_cli.specs.Answer.{Output, Reported, out_of_memory, bad_locator}
 use Rattle.rpki_cli.specs.Verify.CheckSettings.{CheckValues, word_given}
 use Rattle.rpki_cli.specs.declared.words.Options.{Options}
-use Rattle.rpki_command.specs.Verify.Each.{GivenFile, asked_in, IsSaidOfEach}
+use Rattle.rpki_show.specs.Json.Outcome.{invalid_members}
+use Rattle.rpki_command.specs.Verify.Each.{GivenFile, asked_in, IsSaidInJson}
 use Rattle.rpki_command.specs.Verify.Issuers.{CertFiles, GivenLocator, IsLocatorRead, IsIssuerMade}
 use Rattle.rpki_command.specs.Verify.Issuers.{IsNoIssuerSaid}
-use Rattle.rpki_command.specs.Verify.Objects.{IsSaidOfObject}
+use Rattle.rpki_command.specs.Verify.Objects.{IsSaidOfObjects, object_word}
 use Rattle.rpki_command.specs.Verify.Revoked.{File, GivenList, AreLists}
+use Rattle.rpki_command.specs.declared.verify.checks.Manner.{Manner}
 use Rattle.rpki_command.specs.declared.verify.issuers.NoIssuer.{NoIssuer}
 use Rattle.rpki_command.specs.declared.verify.issuers.NotLocator.{NotLocator}
 use Rattle.rpki_command.specs.declared.verify.issuers.NotLocator.TheVariants as locating
@@ -79,41 +81,50 @@ IsSaidListed P (Ok lists) s = P lists.items s
 IsSaidListed P (Err (listing.Bad name)) s = (s ≡ out_of_memory) ⊎ (s ≡ bad_list name.now)
 IsSaidListed P (Err listing.Memory) s = s ≡ out_of_memory
 
--- what is said where certificates make this: by P, or why they make no issuer
-abbrev pub IsSaidIssued : (Validated → Output → Type 0) → Result Validated NoIssuer → Output → Type 0
-IsSaidIssued P (Ok issuer) s = P issuer s
-IsSaidIssued P (Err refusal) s = IsNoIssuerSaid refusal s
+-- What is said of objects where certificates make no issuer: why; in JSON, that each is refused for
+-- that.
+abbrev pub IsSaidUnissued : Bool → NoIssuer → List (GivenFile ObjectKind) → Output → Type 0
+IsSaidUnissued false refusal objects s = IsNoIssuerSaid refusal s
+IsSaidUnissued true refusal objects s =
+    IsSaidInJson invalid_members object_word (λ file. IsNoIssuerSaid refusal) objects s
+
+-- what is said where certificates make this: an issuer, or none
+abbrev pub IsSaidIssued : (Validated → Output → Type 0) → (NoIssuer → Output → Type 0)
+    → Result Validated NoIssuer → Output → Type 0
+IsSaidIssued P Q (Ok issuer) s = P issuer s
+IsSaidIssued P Q (Err refusal) s = Q refusal s
 
 -- What is said of certificates and objects, where the locator and the lists are read.
-abbrev pub SaidUnder : Options → Moment → CertFiles → List (GivenFile ObjectKind) → Option GivenLocator
+abbrev pub SaidUnder : Manner → CertFiles → List (GivenFile ObjectKind) → Option GivenLocator
     → List GivenList → Output → Type 0
-SaidUnder options now certs objects locator lists s =
+SaidUnder m certs objects locator lists s =
     (issuer : Result Validated NoIssuer)
-    × IsIssuerMade is_rsa_signature now certs locator lists issuer
-    × IsSaidIssued (λ v said. IsSaidOfEach (IsSaidOfObject (record {
-      options = options;
+    × IsIssuerMade is_rsa_signature m.moment certs locator lists issuer
+    × IsSaidIssued (λ v said. IsSaidOfObjects m.json (record {
+      options = m.options;
       locator = locator;
       lists = lists;
       issuer = v;
-      now = now;
-    })) objects said) issuer s
+      now = m.moment;
+    }) objects said) (λ refusal said. IsSaidUnissued m.json refusal objects said) issuer s
 
 -- What is said of lists, certificates and objects, where the locator is read.
-abbrev pub SaidWithLists : Options → Moment → CertFiles → List File → List (GivenFile ObjectKind)
+abbrev pub SaidWithLists : Manner → CertFiles → List File → List (GivenFile ObjectKind)
     → Option GivenLocator → Output → Type 0
-SaidWithLists options now certs files objects locator s =
+SaidWithLists m certs files objects locator s =
     (lists : Result (Vec GivenList Global) NotLists) × AreLists files lists
-    × IsSaidListed (λ ls said. SaidUnder options now certs objects locator ls said) lists s
+    × IsSaidListed (λ ls said. SaidUnder m certs objects locator ls said) lists s
 
 -- What is said of the files of a check, at a moment: that the file of the locator is none; else that
 -- one of the lists is none, and which; else why the certificates make no issuer; and else what is
 -- to be said of the objects under it.
-abbrev pub IsSaidOfFiles : Options → Moment → CheckedFiles → Output → Type 0
-IsSaidOfFiles options now f s =
+abbrev pub IsSaidOfFiles : Manner → CheckedFiles → Output → Type 0
+IsSaidOfFiles m f s =
     (locator : Result (Option GivenLocator) NotLocator) × IsLocatorOf f.locator locator
-    × IsSaidLocated (λ l said. SaidWithLists options now f.certs f.lists f.objects l said) locator s
+    × IsSaidLocated (λ l said. SaidWithLists m f.certs f.lists f.objects l said) locator s
 
 -- The same of the octets of files with these names, in the order in which they are read.
 abbrev pub CheckedOf : Options → CheckValues → List ObjectKind → Moment → List (List ℕ) → Output → Type 0
-CheckedOf options names kinds now octets s =
-    (s ≡ out_of_memory) ⊎ IsSaidOfFiles options now (files_in names kinds octets) s
+CheckedOf options names kinds now octets s = (s ≡ out_of_memory)
+    ⊎ IsSaidOfFiles (record { json = names.json; options = options; moment = now })
+    (files_in names kinds octets) s

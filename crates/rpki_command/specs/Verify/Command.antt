@@ -1,8 +1,8 @@
 -- The program with signatures: what each of its commands comes to.
-use Rattle.std.specs.Prelude.{ℕ, List, ◌∷◌, Option, None, Some, Bool, true, false, codes}
+use Rattle.std.specs.Prelude.{ℕ, List, ◌∷◌, Option, None, Some}
 use Rattle.rpki_basics.specs.Moment.{Moment}
 use Rattle.rpki_basics.specs.declared.limits.ProviderLimit.{ProviderLimit}
-use Rattle.rpki_cli.specs.Answer.{Output, help, wrong_words, no_moment, version, wrong_by}
+use Rattle.rpki_cli.specs.Answer.{Output, help, no_moment, version}
 use Rattle.rpki_cli.specs.Command.{Task, Say, ShowLines, CheckFiles, DoSet, Program}
 use Rattle.rpki_cli.specs.declared.causes.Causes.TheVariants.{Included}
 use Rattle.rpki_cli.specs.declared.words.Options.{Options}
@@ -11,7 +11,8 @@ use Rattle.rpki_cli.specs.Words.{others_in, files_of_anchors}
 use Rattle.rpki_cli.specs.Verify.CheckSettings.{check_names}
 use Rattle.rpki_cli.specs.Verify.Requests.{AskedCheck, IsAskedCheck, IsWrongCheck}
 use Rattle.rpki_cli.specs.Verify.Requests.{AskedShow, IsAskedShow, IsWrongShow, SaysWrong}
-use Rattle.rpki_cli.specs.Verify.Words.{moment_at, verify_language, word_json}
+use Rattle.rpki_cli.specs.Verify.Words.{moment_at, verify_language}
+use Rattle.rpki_cli.specs.Verify.Wrong.{said_to_wrong}
 use Rattle.rpki_cli.specs.declared.verify.relying_party.PayloadsRequest.{PayloadsRequest}
 use Rattle.rpki_cli.specs.declared.verify.words.Format.{Format}
 use Rattle.rpki_cli.specs.declared.verify.words.VerifyCommand.{VerifyCommand}
@@ -55,24 +56,16 @@ abbrev pub IssuedLines : Issued → List ℕ → List ℕ → Type 0
 IssuedLines Certificate = CertificateLines
 IssuedLines Crl = CrlLines
 
--- a task, where nothing is asked for in JSON; that is wrong, since these commands print lines alone
-abbrev pub unless_json : Bool → Output → Task → Task
-unless_json true s task = Say s
-unless_json false s task = task
-
 -- what a check of many files comes to
 abbrev pub check_request_task : Option Moment → Options → AskedCheck → Task
-check_request_task clock options c =
-    unless_json c.values.json (wrong_by (codes "no option of check: ") word_json)
-    (check_task (check_names c.values)
+check_request_task clock options c = check_task (check_names c.values)
     (CheckedOf (either_options options c.values.options) c.values c.kinds)
-    (moment_at clock c.values.at))
+    (moment_at clock c.values.at)
 
 -- what a show of many files comes to
 abbrev pub show_request_task : Options → AskedShow → Task
 show_request_task options c =
-    unless_json c.json (wrong_by (codes "no option of show: ") word_json)
-    (CheckFiles Included c.files (ShownOf (either_options options c.options) c))
+    CheckFiles Included c.files (ShownOf (either_options options c.options) c)
 
 -- What words after `check` that set a trust anchor come to: a check of many files. What is wrong with
 -- the words is said before a file is read.
@@ -119,5 +112,5 @@ abbrev pub verify_program : Option Moment → PartySays → Program
 verify_program clock says = record {
   language = verify_language;
   task = verify_task clock says;
-  wrong = wrong_words;
+  wrong = said_to_wrong;
 }

@@ -1,7 +1,9 @@
 -- What is said of several files, by what is said of each.
 use Rattle.std.specs.Prelude.{◌≡◌, ℕ, ◌⊎◌, List, [], ◌∷◌, ◌++◌, ◌==◌, codes, if◌then◌else◌}
 use Rattle.std.specs.List.{AllZip, flat_map}
-use Rattle.rpki_cli.specs.Answer.{Output, Printed, Reported, out_of_memory}
+use Rattle.rpki_cli.specs.Answer.{Output, Printed, Reported, out_of_memory, shown}
+use Rattle.rpki_json.specs.Members.{Member}
+use Rattle.rpki_show.specs.Json.File.{file_json}
 use Rattle.rpki_command.specs.Verify.Issuers.{named}
 
 -- a file that something is said of: its name, its kind, and its octets
@@ -53,23 +55,54 @@ printed text status = Reported text [] status
 abbrev pub IsEntryOf : {K : Type 0} → (GivenFile K → Output → Type 0) → GivenFile K → Entry → Type 0
 IsEntryOf P file e = (e.name ≡ file.name) × P file (Printed e.text e.status)
 
--- This is the text of the entries of these files, one for each, in their order, and their status.
-pub record AreEntriesOf {K : Type 0} (P : GivenFile K → Output → Type 0)
+-- This is the text of the entries of these files, one for each, in their order, and their status;
+-- Q says which entry is that of a file, and each entry is written so.
+pub record AreEntriesOf {K : Type 0} (Q : GivenFile K → Entry → Type 0) (written : Entry → List ℕ)
     (files : List (GivenFile K)) (text : List ℕ) (status : ℕ) : Type 0 where
   pub entries : List Entry
-  pub each : AllZip (IsEntryOf P) files entries
-  pub text_is : text ≡ flat_map entry_text entries
+  pub each : AllZip Q files entries
+  pub text_is : text ≡ flat_map written entries
   pub status_is : status ≡ common_status entries
 
 -- the entries of these files are printed
-abbrev pub PrintsEach : {K : Type 0} → (GivenFile K → Output → Type 0) → List (GivenFile K) → Output
-    → Type 0
-PrintsEach P files s =
-    (text : List ℕ) × (status : ℕ) × AreEntriesOf P files text status × (s ≡ printed text status)
+abbrev pub PrintsEach : {K : Type 0} → (GivenFile K → Entry → Type 0) → (Entry → List ℕ)
+    → List (GivenFile K) → Output → Type 0
+PrintsEach Q written files s = (text : List ℕ) × (status : ℕ)
+    × AreEntriesOf Q written files text status × (s ≡ printed text status)
 
 -- What is said of files: of one what P says of it; of several an entry for each, unless memory runs
 -- out.
 abbrev pub IsSaidOfEach : {K : Type 0} → (GivenFile K → Output → Type 0) → List (GivenFile K)
     → Output → Type 0
 IsSaidOfEach P (file ∷ []) s = P file s
-IsSaidOfEach P files s = (s ≡ out_of_memory) ⊎ PrintsEach P files s
+IsSaidOfEach P files s =
+    (s ≡ out_of_memory) ⊎ PrintsEach (IsEntryOf P) entry_text files s
+
+-- ---- in JSON
+
+-- how an object of JSON says why a file is not shown, or is not good
+abbrev pub Reasons : Type 0
+Reasons = List ℕ → List Member
+
+-- The line in JSON of a file with this name and type, of which this is said, and the status that
+-- goes with it: the line that is shown; or an object with the reason why none is, which is what is
+-- said but for the line feed at its end.
+abbrev pub IsLineFor : Reasons → List ℕ → List ℕ → Output → List ℕ → ℕ → Type 0
+IsLineFor reasons name type s line status =
+    ((s ≡ shown line) × (status ≡ 0))
+    ⊎ ((reason : List ℕ) × (s ≡ Printed (reason ++ codes "\n") 1)
+    × (line ≡ file_json name type (reasons reason)) × (status ≡ 1))
+
+-- This is the line of the file, of which P says what is said; `type` is the word of each kind.
+pub record IsLineOf {K : Type 0} (reasons : Reasons) (type : K → List ℕ)
+    (P : GivenFile K → Output → Type 0) (file : GivenFile K) (e : Entry) : Type 0 where
+  pub name_is : e.name ≡ file.name
+  pub answer : Output
+  pub is : P file answer
+  pub line : IsLineFor reasons file.name (type file.kind) answer e.text e.status
+
+-- What is said of files in JSON: a line for each, in their order, unless memory runs out.
+abbrev pub IsSaidInJson : {K : Type 0} → Reasons → (K → List ℕ)
+    → (GivenFile K → Output → Type 0) → List (GivenFile K) → Output → Type 0
+IsSaidInJson reasons type P files s =
+    (s ≡ out_of_memory) ⊎ PrintsEach (IsLineOf reasons type P) (λ e. e.text) files s

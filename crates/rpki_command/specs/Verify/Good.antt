@@ -1,5 +1,5 @@
--- What it means that files are checked with a yes.
-use Rattle.std.specs.Prelude.{ℕ, List, All, Ok, Option}
+-- What it means that files are checked with a yes, or with a no.
+use Rattle.std.specs.Prelude.{◌≡◌, ◌⊎◌, ℕ, List, All, Any, Ok, Err, Option}
 use Rattle.std.specs.List.{AllZip}
 use Rattle.sha2.specs.Sha256.{sha256}
 use Rattle.rpki_der.specs.Form.Decodes.{IsOnlyFront}
@@ -17,14 +17,18 @@ use Rattle.rpki_sigobj.specs.Verify.{Digester}
 use Rattle.rpki_sigobj.specs.Signed.Good.{IsGood}
 use Rattle.rpki_sigobj.specs.Signed.Kind as signed
 use Rattle.rpki_sigobj.specs.Signed.{Whole, ObjectForm}
+use Rattle.rpki_cli.specs.Answer.{out_of_memory}
 use Rattle.rpki_cli.specs.declared.words.Options.{Options}
 use Rattle.rpki_show.specs.Kinds.{OfKind}
 use Rattle.rpki_show.specs.Options.{read_mode}
 use Rattle.rpki_command.specs.Verify.Checks.{CheckedFiles, IsLocatorOf}
 use Rattle.rpki_command.specs.Verify.Each.{GivenFile}
-use Rattle.rpki_command.specs.Verify.Issuers.{GivenLocator, IsIssuerOf}
+use Rattle.rpki_command.specs.Verify.Issuers.{CertFiles, GivenLocator, IsIssuerOf, IsIssuerMade}
+use Rattle.rpki_command.specs.Verify.Issuers.{no_issuer}
 use Rattle.rpki_command.specs.Verify.Objects.{Grounds, supplied_by}
 use Rattle.rpki_command.specs.Verify.Revoked.{GivenList, IsGivenList, IsUnrevoked}
+use Rattle.rpki_command.specs.Yes.{BeginsWithNoGood, BeginsWithNoGranted}
+use Rattle.rpki_command.specs.declared.verify.issuers.NoIssuer.{NoIssuer}
 use Rattle.rpki_cli.specs.declared.verify.requests.ObjectKind.{ObjectKind}
 use Rattle.rpki_cli.specs.declared.verify.requests.ObjectKind.TheVariants.{Signed, Rta}
 
@@ -69,3 +73,57 @@ pub record AreGood (options : Options) (now : Moment) (f : CheckedFiles) : Type 
     issuer = issuer;
     now = now;
   })) f.objects
+
+-- ---- a no
+
+-- The octets begin with no object of the kind that is good under this issuer, or with one whose
+-- certificate one of the lists revokes.
+abbrev pub BeginsWithRefused : {X : Type 0} → signed.ObjectKind X → (List ℕ → X → Type 0) → Mode
+    → Digester → Verdict → List GivenList → Validated → Moment → List ℕ → Type 0
+BeginsWithRefused {X} kind form mode digest verdict lists issuer now octets =
+    BeginsWithNoGood kind form mode digest verdict issuer now octets
+    ⊎ BeginsWith (ObjectForm kind.type form mode) octets (λ (o : Whole X).
+    ¬ IsUnrevoked verdict lists issuer.cert.certificate o.object.signed.cert)
+
+-- The octets begin with no object of this kind that is such, or with no attestation that is granted,
+-- by these grounds.
+abbrev pub IsRefusedKind : Grounds → ObjectKind → List ℕ → Type 0
+IsRefusedKind g (Signed kind) octets = OfKind g.options kind (λ X asked form text.
+    BeginsWithRefused asked form (read_mode g.options) sha256 is_rsa_signature g.lists g.issuer
+    g.now octets)
+IsRefusedKind g Rta octets =
+    BeginsWithNoGranted is_rsa_signature g.now (supplied_by g) octets
+
+-- the same of a file
+abbrev pub IsRefusedFile : Grounds → GivenFile ObjectKind → Type 0
+IsRefusedFile g file = IsRefusedKind g file.kind file.octets
+
+-- The certificates make no issuer, and not for want of memory.
+pub record MakesNoIssuer (now : Moment) (certs : CertFiles) (locator : Option GivenLocator)
+    (lists : List GivenList) : Type 0 where
+  pub refusal : NoIssuer
+  pub made : IsIssuerMade is_rsa_signature now certs locator lists (Err refusal)
+  pub has_memory : no_issuer refusal.file.now refusal.fault ≡ out_of_memory → ⊥
+
+-- The certificates make an issuer, under which one of the objects is refused.
+pub record IsOneRefusedUnder (options : Options) (now : Moment) (f : CheckedFiles)
+    (locator : Option GivenLocator) (lists : List GivenList) : Type 0 where
+  pub issuer : Validated
+  pub made : IsIssuerOf is_rsa_signature now f.certs locator lists issuer
+  pub one : Any (IsRefusedFile (record {
+    options = options;
+    locator = locator;
+    lists = lists;
+    issuer = issuer;
+    now = now;
+  })) f.objects
+
+-- A no is right: the file of the locator is one, if there is one, those of the lists begin with
+-- lists, and the certificates make no issuer, or one under which one of the objects is refused.
+pub record AreRefused (options : Options) (now : Moment) (f : CheckedFiles) : Type 0 where
+  pub locator : Option GivenLocator
+  pub located : IsLocatorOf f.locator (Ok locator)
+  pub lists : List GivenList
+  pub listed : AllZip IsGivenList f.lists lists
+  pub no : MakesNoIssuer now f.certs locator lists
+      ⊎ IsOneRefusedUnder options now f locator lists

@@ -1,6 +1,6 @@
 -- What is said of a signed object or an attestation under an issuer, where revocation lists are given.
 use Rattle.std.specs.Prelude.{◌≡◌, ◌⊎◌, ℕ, List, [], ◌∷◌, ◌++◌, Option, None, Some, Result, Ok, Err}
-use Rattle.std.specs.Prelude.{String, string_bytes}
+use Rattle.std.specs.Prelude.{String, string_bytes, Bool, true, false, codes}
 use Rattle.std.specs.declared.alloc.AllocError.{AllocError}
 use Rattle.std.specs.declared.alloc.Global.{Global}
 use Rattle.sha2.specs.Sha256.{sha256}
@@ -9,6 +9,7 @@ use Rattle.rpki_basics.specs.Moment.{Moment}
 use Rattle.rpki_certs.specs.Cert.{Certificate}
 use Rattle.rpki_certs.specs.Validate.{Validated}
 use Rattle.rpki_certs.specs.Verify.{Verdict}
+use Rattle.rpki_multi.specs.Attestation.{KeptWhole}
 use Rattle.rpki_paths.specs.Anchor.{Supply}
 use Rattle.rpki_rsa.specs.Signature.{is_rsa_signature}
 use Rattle.rpki_rsa.specs.declared.rsa.Rsa.{Rsa}
@@ -22,11 +23,17 @@ use Rattle.rpki_cli.specs.Shown.{IsLinesOf}
 use Rattle.rpki_cli.specs.declared.causes.Causes.TheVariants.{Included}
 use Rattle.rpki_cli.specs.declared.words.Kind.{Kind}
 use Rattle.rpki_cli.specs.declared.words.Options.{Options}
-use Rattle.rpki_show.specs.Kinds.{OfKind}
+use Rattle.rpki_cli.specs.Verify.Kinds.{file_kind_word}
+use Rattle.rpki_cli.specs.Verify.Requests.{object_file}
+use Rattle.rpki_cli.specs.Words.{kind_word}
+use Rattle.rpki_show.specs.Json.File.{file_json}
+use Rattle.rpki_show.specs.Json.Outcome.{valid_members, invalid_members}
+use Rattle.rpki_show.specs.Json.Rta.{attestation_members}
+use Rattle.rpki_show.specs.Kinds.{OfKind, JsonOfKind}
 use Rattle.rpki_show.specs.Options.{read_mode}
 use Rattle.rpki_command.specs.Check.{passes, yes_line, IsCheckSaid}
-use Rattle.rpki_command.specs.Rta.{AttestedUnder, supply_of}
-use Rattle.rpki_command.specs.Verify.Each.{GivenFile}
+use Rattle.rpki_command.specs.Rta.{AttestedAs, granted_text, supply_of}
+use Rattle.rpki_command.specs.Verify.Each.{GivenFile, IsSaidOfEach, IsSaidInJson}
 use Rattle.rpki_command.specs.Verify.Issuers.{GivenLocator}
 use Rattle.rpki_command.specs.Verify.Revoked.{GivenList, IsUnrevoked, IsRevokedBy, revoked_text}
 use Rattle.rpki_command.specs.declared.anchors.Anchor.TheVariants.{Ca}
@@ -39,13 +46,13 @@ use Rattle.rpki_cli.specs.declared.verify.requests.ObjectKind.TheVariants.{Signe
 abbrev pub IsRevokedSaid : List ℕ → Output → Type 0
 IsRevokedSaid list s = (s ≡ out_of_memory) ⊎ (s ≡ refused (revoked_text list))
 
--- What is said of a good object with these lines: yes and the lines, where none of the lists revokes
--- its certificate, which this issuer issued (RFC 6487, section 7.2), and else which list is the first
+-- What is said of a good object with this text: the text, where none of the lists revokes its
+-- certificate, which this issuer issued (RFC 6487, section 7.2), and else which list is the first
 -- that does.
 abbrev pub IsGoodSaid : Verdict → List GivenList → Certificate → Certificate → List ℕ → Output
     → Type 0
-IsGoodSaid verdict lists issuer c lines s =
-    (IsUnrevoked verdict lists issuer c × IsLinesOf (yes_line ++ lines) s)
+IsGoodSaid verdict lists issuer c text s =
+    (IsUnrevoked verdict lists issuer c × IsLinesOf text s)
     ⊎ ((list : List ℕ) × IsRevokedBy verdict lists issuer c list × IsRevokedSaid list s)
 
 -- what is said of what a check answers
@@ -73,12 +80,21 @@ IsJudgedAs kind form text mode digest verdict lists issuer now octets s =
     (s ≡ out_of_memory) ⊎ IsJudged kind form text mode digest verdict lists issuer now octets s
 
 -- What is said of octets that may begin with an object of a kind, under an issuer, where these lists
--- are given, with these options.
+-- are given, with these options: of a good one yes, and the lines of its content.
 abbrev pub JudgedUnder : Options → Kind → Digester → Verdict → List GivenList → Validated → Moment
     → List ℕ → Output → Type 0
 JudgedUnder options kind digest verdict lists issuer now octets s =
-    OfKind options kind (λ X asked form text.
-    IsJudgedAs asked form text (read_mode options) digest verdict lists issuer now octets s)
+    OfKind options kind (λ X asked form text. IsJudgedAs asked form (λ x. yes_line ++ text x)
+    (read_mode options) digest verdict lists issuer now octets s)
+
+-- The same in JSON, in a file of this name: of a good one the line that says that it is valid, with
+-- the members of its content.
+abbrev pub JudgedInJson : Options → Kind → List ℕ → Digester → Verdict → List GivenList → Validated
+    → Moment → List ℕ → Output → Type 0
+JudgedInJson options kind name digest verdict lists issuer now octets s =
+    JsonOfKind options kind (λ X asked form members. IsJudgedAs asked form
+    (λ x. file_json name (kind_word kind) (valid_members (members x)))
+    (read_mode options) digest verdict lists issuer now octets s)
 
 -- ---- files
 
@@ -105,19 +121,53 @@ located_by (Some l) = Supply.Tal l.key ∷ []
 abbrev pub supplied_by : Grounds → List Supply
 supplied_by g = located_by g.locator ++ supply_of (Ca g.issuer) ∷ []
 
--- What is said of an attestation by these grounds. It carries lists, and of others nothing is asked.
--- The cryptography is `Rsa`, which has one value.
-abbrev pub IsSaidOfRta : Grounds → List ℕ → Output → Type 0
-IsSaidOfRta g octets s = AttestedUnder Included (λ (_ : Rsa). sha256) (λ (_ : Rsa). is_rsa_signature)
-    (record {}) g.now (supplied_by g) octets s
+-- What is said of an attestation by these grounds, whose text this is where it is granted. It carries
+-- lists, and of others nothing is asked. The cryptography is `Rsa`, which has one value.
+abbrev pub IsSaidOfRtaAs : Grounds → (KeptWhole → List ℕ) → List ℕ → Output → Type 0
+IsSaidOfRtaAs g text octets s = AttestedAs Included text (λ (_ : Rsa). sha256)
+    (λ (_ : Rsa). is_rsa_signature) (record {}) g.now (supplied_by g) octets s
 
--- What is said of an object by these grounds.
+-- the same in lines
+abbrev pub IsSaidOfRta : Grounds → List ℕ → Output → Type 0
+IsSaidOfRta g octets s = IsSaidOfRtaAs g granted_text octets s
+
+-- the line in JSON of an attestation that is granted, in a file of this name
+abbrev pub granted_json : List ℕ → KeptWhole → List ℕ
+granted_json name r =
+    file_json name (codes "rta") (valid_members (attestation_members r.content))
+
+-- The same of an attestation, in JSON.
+abbrev pub IsSaidOfRtaInJson : Grounds → List ℕ → List ℕ → Output → Type 0
+IsSaidOfRtaInJson g name octets s = IsSaidOfRtaAs g (granted_json name) octets s
+
+-- What is said of an object of a kind by these grounds.
 abbrev pub IsSaidOfKind : Grounds → ObjectKind → List ℕ → Output → Type 0
 IsSaidOfKind g (Signed kind) octets s = IsSaidOfSigned g kind octets s
 IsSaidOfKind g Rta octets s = IsSaidOfRta g octets s
 
+-- What is said of an object in a file by these grounds.
 abbrev pub IsSaidOfObject : Grounds → GivenFile ObjectKind → Output → Type 0
 IsSaidOfObject g file s = IsSaidOfKind g file.kind file.octets s
+
+-- The same of an object of a kind, in JSON, in a file of this name.
+abbrev pub IsKindInJson : Grounds → ObjectKind → List ℕ → List ℕ → Output → Type 0
+IsKindInJson g (Signed kind) name octets s = JudgedInJson g.options kind name sha256 is_rsa_signature
+    g.lists g.issuer g.now octets s
+IsKindInJson g Rta name octets s = IsSaidOfRtaInJson g name octets s
+
+-- What is said of an object in a file in JSON, by these grounds.
+abbrev pub IsObjectInJson : Grounds → GivenFile ObjectKind → Output → Type 0
+IsObjectInJson g file s = IsKindInJson g file.kind file.name file.octets s
+
+-- the word of a kind of object
+abbrev pub object_word : ObjectKind → List ℕ
+object_word kind = file_kind_word (object_file kind)
+
+-- What is said of objects by these grounds, in lines or in JSON.
+abbrev pub IsSaidOfObjects : Bool → Grounds → List (GivenFile ObjectKind) → Output → Type 0
+IsSaidOfObjects false g objects s = IsSaidOfEach (IsSaidOfObject g) objects s
+IsSaidOfObjects true g objects s =
+    IsSaidInJson invalid_members object_word (IsObjectInJson g) objects s
 
 -- ---- step by step
 

@@ -10,13 +10,15 @@ ghost use Rattle.rpki_cli.specs.Verify.CheckSettings.{check_values, check_names,
 ghost use Rattle.rpki_cli.specs.Verify.CheckSettings.{text_given};
 ghost use Rattle.rpki_command.specs.Verify.Checks.{first_of};
 ghost use Rattle.rpki_command.specs.Verify.Checks.{IsLocatorOf, SaidUnder, SaidWithLists};
-ghost use Rattle.rpki_command.specs.Verify.Checks.{CheckedOf, bad_list};
+ghost use Rattle.rpki_command.specs.Verify.Checks.{CheckedOf, bad_list, IsSaidUnissued};
+ghost use Rattle.rpki_command.specs.Verify.Issuers.{IsNoIssuerSaid};
+ghost use Rattle.rpki_command.specs.Verify.Objects.{IsSaidOfObjects};
 
-use crate::verify::each::{AskedFile, answer_each, asked_files};
+use crate::verify::each::{AskedFile, Judge, answer_each, answer_in_json, asked_files};
 use crate::verify::issuers::{
-    CertFiles, NamedLocator, NotLocator, issuer_of, locator_in, refused_by,
+    CertFiles, NamedLocator, NoIssuer, NotLocator, issuer_of, locator_in, refused_by,
 };
-use crate::verify::objects::CheckUnder;
+use crate::verify::objects::{CheckInJson, CheckUnder};
 use crate::verify::revoked::{NamedList, NotLists, lists_in};
 use rpki_basics::Time;
 use rpki_cli::answer::Answer;
@@ -26,6 +28,17 @@ use rpki_cli::words::Options;
 use rpki_rsa::Rsa;
 use std::alloc::Global;
 
+/// How a check is done and said.
+#[derive(Clone, Copy, Debug)]
+pub struct Manner {
+    /// What is said is JSON.
+    pub json: bool,
+    /// How objects are read.
+    pub options: Options,
+    /// When they are judged.
+    pub moment: Time,
+}
+
 /// What is said of the files of a check with these options, at a moment: first of the locator, where
 /// one is set, then of the revocation lists, then of the certificates, and then of the objects under
 /// the issuer that these make, which is validated once. The octets stand in the order of
@@ -34,7 +47,8 @@ use std::alloc::Global;
 /// A locator that is none is `BadLocator`, and a file that begins with no list `Reported`, with
 /// status 2. Certificates that make no issuer are refused as `refused_by` says. Of one object is
 /// said what `check` says of it, and where it is good and a list revokes its certificate, that it
-/// is refused for that; of several an entry for each, with status 0 where each is good.
+/// is refused for that; of several an entry for each, with status 0 where each is good. In JSON
+/// there is a line for each object, and where certificates make no issuer, each is refused for that.
 pub fn check_each<'a>(
     alloc: Global,
     options: Options,
@@ -65,9 +79,15 @@ pub fn check_each<'a>(
                     match locator_if(alloc, settings.tal, located) {
                         Err(NotLocator::Bad(name)) => Answer::BadLocator(name),
                         Err(NotLocator::Memory) => Answer::OutOfMemory,
-                        Ok(locator) => check_listed(
-                            alloc, options, settings, now, &certs, locator, listed, &objects,
-                        ),
+                        Ok(locator) => {
+                            let manner = Manner {
+                                json: settings.json,
+                                options,
+                                moment: now,
+                            };
+                            let names: &[&'a str] = &settings.crls;
+                            check_listed(alloc, manner, &certs, locator, names, listed, &objects)
+                        }
                     }
                 }
             }
@@ -105,28 +125,26 @@ fn locator_if<'a>(
     }
 }
 
-/// What is said of certificates and objects, where this locator is given, and where the first of
-/// these files are those of the lists.
+/// What is said of certificates and objects, where this locator is given, and lists with these names,
+/// whose octets are the first of these files.
 fn check_listed<'a>(
     alloc: Global,
-    options: Options,
-    settings: &CheckSettings<'_>,
-    now: Time,
+    manner: Manner,
     certs: &CertFiles<'_>,
     locator: Option<NamedLocator<'_>>,
+    names: &[&str],
     files: &[Vec<u8>],
     objects: &[AskedFile<'_, ObjectKind>],
 ) -> Answer<'a>
-    ensures { SaidWithLists options now certs.now
-        (zip (texts settings.now.crls.items) (octets_of files.now)) objects.now locator.entry
-        (said result) }
+    ensures { SaidWithLists manner certs.now (zip (texts names.now) (octets_of files.now))
+        objects.now locator.entry (said result) }
 {
-    match lists_in(alloc, &settings.crls, files) {
+    match lists_in(alloc, names, files) {
         Err(NotLists::Bad(name)) => bad_list(alloc, name),
         Err(NotLists::Memory) => Answer::OutOfMemory,
         Ok(lists) => {
             let locator = locator.as_ref();
-            let answer = check_under(alloc, options, now, certs, locator, &lists, objects);
+            let answer = check_under(alloc, manner, certs, locator, &lists, objects);
             drop(lists);
             answer
         }
@@ -151,33 +169,81 @@ fn bad_list<'a>(alloc: Global, file: &str) -> Answer<'a>
 /// and these lists are given.
 fn check_under<'a>(
     alloc: Global,
-    options: Options,
-    moment: Time,
+    manner: Manner,
     certs: &CertFiles<'_>,
     locator: Option<&NamedLocator<'_>>,
     lists: &[NamedList<'_>],
     objects: &[AskedFile<'_, ObjectKind>],
 ) -> Answer<'a>
-    ensures { SaidUnder options moment certs.now objects.now
+    ensures { SaidUnder manner certs.now objects.now
         (option_map (λ l. l.now) locator.entry) lists.now (said result) }
 {
-    match issuer_of(alloc, certs, locator, lists, &Rsa, moment) {
+    match issuer_of(alloc, certs, locator, lists, &Rsa, manner.moment) {
         Err(refusal) => {
-            let answer = refused_by(alloc, &refusal);
+            let answer = refused_all(alloc, manner.json, &refusal, objects);
             drop(refusal);
             answer
         }
         Ok(issuer) => {
             let judge = CheckUnder {
-                options,
+                options: manner.options,
                 locator,
                 lists,
                 issuer: &issuer,
-                moment,
+                moment: manner.moment,
             };
-            let answer = answer_each(alloc, &judge, objects);
+            let answer = judged(alloc, manner.json, &judge, objects);
             drop(issuer);
             answer
         }
+    }
+}
+
+/// What is said of objects where certificates make no issuer: why; in JSON, that each object is
+/// refused for that.
+fn refused_all<'a>(
+    alloc: Global,
+    json: bool,
+    refusal: &NoIssuer<'_>,
+    objects: &[AskedFile<'_, ObjectKind>],
+) -> Answer<'a>
+    ensures { IsSaidUnissued json refusal.now objects.now (said result) }
+{
+    if json {
+        answer_in_json(alloc, &Unissued { refusal }, objects)
+    } else {
+        refused_by(alloc, refusal)
+    }
+}
+
+/// What is said of objects by this judge, in lines or in JSON.
+fn judged<'a>(
+    alloc: Global,
+    json: bool,
+    judge: &CheckUnder<'_>,
+    objects: &[AskedFile<'_, ObjectKind>],
+) -> Answer<'a>
+    ensures { IsSaidOfObjects json judge.now objects.now (said result) }
+{
+    if json {
+        answer_in_json(alloc, &CheckInJson { under: judge }, objects)
+    } else {
+        answer_each(alloc, judge, objects)
+    }
+}
+
+/// Of each object, that certificates make no issuer.
+#[derive(Drop)]
+pub struct Unissued<'s> {
+    pub refusal: &'s NoIssuer<'s>,
+}
+
+impl Judge for Unissued<'_> {
+    type Kind = ObjectKind;
+
+    ghost says = { λ u file. IsNoIssuerSaid u.refusal.now };
+
+    fn answer<'a>(&self, alloc: Global, _file: &AskedFile<'_, ObjectKind>) -> Answer<'a> {
+        refused_by(alloc, self.refusal)
     }
 }

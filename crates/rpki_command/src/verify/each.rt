@@ -1,13 +1,16 @@
 //! What is said of several files, by what is said of each: an entry for each, in their order.
 
 ghost use Rattle.std.specs.Prelude.{◌≡◌, ◌≤◌, ◌++◌, ◌==◌, IfOk, codes, length, string_bytes};
+ghost use Rattle.std.specs.Prelude.{ℕ, List};
 ghost use Rattle.std.specs.Prelude.{if◌then◌else◌};
 ghost use Rattle.rpki_certs.specs.Issuer.{octets_of};
 ghost use Rattle.rpki_cli.specs.Answer.{Output, Printed, said};
 ghost use Rattle.rpki_cli.specs.Words.{texts};
 ghost use Rattle.rpki_show.specs.Grows.{Grows};
+ghost use Rattle.rpki_show.specs.Json.File.{file_json};
 ghost use Rattle.rpki_command.specs.Verify.Each.{GivenFile, asked_in, indented, AreEntriesOf};
-ghost use Rattle.rpki_command.specs.Verify.Each.{IsSaidOfEach};
+ghost use Rattle.rpki_command.specs.Verify.Each.{IsSaidOfEach, IsEntryOf, entry_text, Reasons};
+ghost use Rattle.rpki_command.specs.Verify.Each.{IsSaidInJson, IsLineOf, IsLineFor};
 ghost use Rattle.rpki_command.specs.Verify.Issuers.{named};
 
 use rpki_cli::answer::Answer;
@@ -34,10 +37,34 @@ impl<'s, K> Model for AskedFile<'s, K> {
     ghost view = { λ f. record { name = f.name.now; kind = f.kind; octets = f.octets.now } };
 }
 
+/// A kind of file that JSON has a word for.
+pub trait JsonKind {
+    // The word.
+    ghost word: { Self → List ℕ };
+
+    // How an object says why a file is not shown, or is not good.
+    ghost reasons: { Reasons };
+
+    /// The word.
+    fn word(&self) -> &'static str
+        ensures { result.now ≡ word self.now };
+
+    /// Appends the line of a file of this name and type, with the reason why it is not shown or not
+    /// good. Where memory runs out, nothing is promised of the text.
+    fn push_reason(
+        text: &mut String,
+        name: &str,
+        kind: &str,
+        reason: &str,
+    ) -> Result<(), AllocError>
+        ensures { Grows result text.old text.new
+            (file_json name.now kind.now (reasons reason.now)) };
+}
+
 /// What is said of files.
 pub trait Judge {
     /// Their kinds.
-    type Kind;
+    type Kind: JsonKind;
 
     // What is said of a file.
     ghost says: { Self → GivenFile Self.Kind → Output → Type 0 };
@@ -105,7 +132,7 @@ fn entries_of<J: Judge>(
     judge: &J,
     files: &[AskedFile<'_, J::Kind>],
 ) -> Result<Entry, AllocError>
-    ensures { IfOk result (λ all. AreEntriesOf (J.says judge.now) files.now
+    ensures { IfOk result (λ all. AreEntriesOf (IsEntryOf (J.says judge.now)) entry_text files.now
         (string_bytes all.text) all.status) }
 {
     let mut text = String::new(alloc);
@@ -170,4 +197,81 @@ fn push_indented(text: &mut String, lines: &str) -> Result<(), AllocError>
         rest = others;
     }
     text.push_str(rest)
+}
+
+// ---- in JSON
+
+/// Answers of these files in JSON by the judge, whose answers are lines of JSON or say why there is
+/// none: with a line for each, in their order. The status of these is 0 where that of each is.
+pub fn answer_in_json<'a, J: Judge>(
+    alloc: Global,
+    judge: &J,
+    files: &[AskedFile<'_, J::Kind>],
+) -> Answer<'a>
+    ensures { IsSaidInJson J.Kind.reasons J.Kind.word (J.says judge.now) files.now (said result) }
+{
+    match lines_of(alloc, judge, files) {
+        Ok(lines) => Answer::Reported {
+            out: lines.text,
+            err: String::new(alloc),
+            status: lines.status,
+        },
+        Err(_) => Answer::OutOfMemory,
+    }
+}
+
+/// The lines of these files, one after the other, and the status of all.
+fn lines_of<J: Judge>(
+    alloc: Global,
+    judge: &J,
+    files: &[AskedFile<'_, J::Kind>],
+) -> Result<Entry, AllocError>
+    ensures { IfOk result (λ all.
+        AreEntriesOf (IsLineOf J.Kind.reasons J.Kind.word (J.says judge.now)) (λ e. e.text)
+        files.now (string_bytes all.text) all.status) }
+{
+    let mut text = String::new(alloc);
+    let mut status = 0;
+    for file in files {
+        let line = line_of::<J::Kind>(alloc, file, judge.answer(alloc, file))?;
+        text.push_str(&line.text)?;
+        status = joined(status, line.status);
+    }
+    Ok(Entry { text, status })
+}
+
+/// The line of a file of which this is answered.
+fn line_of<K: JsonKind>(
+    alloc: Global,
+    file: &AskedFile<'_, K>,
+    answer: Answer<'_>,
+) -> Result<Entry, AllocError>
+    ensures { IfOk result (λ e. IsLineFor K.reasons file.now.name (K.word file.now.kind)
+        (said answer.entry) (string_bytes e.text) e.status) }
+{
+    match answer {
+        Answer::Shown(text) => Ok(Entry { text, status: 0 }),
+        Answer::Malformed => reason_line(alloc, file, "malformed", ""),
+        Answer::MalformedBy(cause) => reason_line(alloc, file, "malformed: ", &cause),
+        Answer::Refused(cause) => reason_line(alloc, file, "refused: ", &cause),
+        Answer::IssuerRefused(cause) => reason_line(alloc, file, "issuer refused: ", &cause),
+        // No other answer is one of a file.
+        _ => Err(AllocError),
+    }
+}
+
+/// The line of a file with a reason in two parts.
+fn reason_line<K: JsonKind>(
+    alloc: Global,
+    file: &AskedFile<'_, K>,
+    what: &str,
+    cause: &str,
+) -> Result<Entry, AllocError>
+    ensures { IfOk result (λ e. (string_bytes e.text ≡ file_json file.now.name
+        (K.word file.now.kind) (K.reasons (what.now ++ cause.now))) × (e.status ≡ 1)) }
+{
+    let reason = format!(in alloc; "{what}{cause}")?;
+    let mut text = String::new(alloc);
+    K::push_reason(&mut text, file.name, file.kind.word(), &reason)?;
+    Ok(Entry { text, status: 1 })
 }

@@ -70,7 +70,7 @@ impl<'s> Model for NamedLocator<'s> {
 
 impl<'s> NamedLocator<'s> {
     /// The locator.
-    pub fn locator(&self) -> &Tal
+    pub(crate) fn locator(&self) -> &Tal
         ensures { result.now.key ≡ self.now.key }
     {
         &self.locator

@@ -1,31 +1,42 @@
 //! What is said of signed objects and attestations under an issuer, where revocation lists are given.
 
-ghost use Rattle.std.specs.Prelude.{◌≡◌, IfOk, map, string_bytes};
+ghost use Rattle.std.specs.Prelude.{◌≡◌, ◌++◌, IfOk, codes, map, string_bytes};
 ghost use Rattle.rpki_rta.specs.Refused.{supply_in};
 ghost use Rattle.rpki_cli.specs.Answer.{said};
+ghost use Rattle.rpki_cli.specs.Shown.{IsLinesOf};
+ghost use Rattle.rpki_cli.specs.declared.verify.requests.ObjectKind.TheVariants.{Signed};
+ghost use Rattle.rpki_show.specs.Json.File.{file_json};
+ghost use Rattle.rpki_show.specs.Json.Outcome.{valid_members, invalid_members};
+ghost use Rattle.rpki_show.specs.Json.Rta.{attestation_members};
 ghost use Rattle.rpki_show.specs.Options.{read_mode};
-ghost use Rattle.rpki_command.specs.Verify.Objects.{IsGoodSaid, IsJudgementSaid, IsJudgedAs};
+ghost use Rattle.rpki_command.specs.Check.{yes_line, Settles};
+ghost use Rattle.rpki_command.specs.Verify.Objects.{IsJudgementSaid, IsJudgedAs};
 ghost use Rattle.rpki_command.specs.Verify.Objects.{IsSaidOfObject, IsSaidOfSigned, IsSaidOfRta};
+ghost use Rattle.rpki_command.specs.Verify.Objects.{IsObjectInJson, IsKindInJson, object_word};
+ghost use Rattle.rpki_command.specs.Verify.Objects.{IsSaidOfRtaInJson, IsSaidOfRtaAs};
 ghost use Rattle.rpki_command.specs.Verify.Objects.{IsCauseRefused, supplied_by};
 ghost use Rattle.rpki_command.specs.Verify.Revoked.{revoked_text};
 
 use crate::check::{check_passed, pass, refused, say_yes};
-use crate::rta::check_supplied;
-use crate::verify::each::{AskedFile, Judge};
+use crate::rta::{granted, say_granted};
+use crate::verify::each::{AskedFile, JsonKind, Judge};
 use crate::verify::issuers::NamedLocator;
 use crate::verify::revoked::{NamedList, revoking};
 use bytes::Bytes;
 use rpki_basics::{Crypto, Time};
-use rpki_certs::{Cert, ResourceCert};
+use rpki_certs::ResourceCert;
 use rpki_cli::answer::Answer;
 use rpki_cli::verify::requests::ObjectKind;
 use rpki_cli::words::{Kind, Options};
 use rpki_cli::{Causes, refusal};
+use rpki_multi::Rta;
 use rpki_paths::Supplied;
 use rpki_rsa::Rsa;
 use rpki_rta::Supply;
-use rpki_show::{Action, Lines, answer_for};
+use rpki_show::json::outcome::{push_granted, push_invalid, push_valid};
+use rpki_show::{Action, JsonAction, Lines, answer_for, answer_in_json, kind_word};
 use rpki_signed::check::CheckError;
+use rpki_tagged::ResourceTaggedAttestation;
 use std::alloc::{AllocError, Global};
 use std::marker::Model;
 
@@ -57,6 +68,28 @@ impl<'s> Model for CheckUnder<'s> {
     } };
 }
 
+impl JsonKind for ObjectKind {
+    ghost word = { object_word };
+
+    ghost reasons = { invalid_members };
+
+    fn word(&self) -> &'static str {
+        match self {
+            ObjectKind::Signed(kind) => kind_word(*kind),
+            ObjectKind::Rta => "rta",
+        }
+    }
+
+    fn push_reason(
+        text: &mut String,
+        name: &str,
+        kind: &str,
+        reason: &str,
+    ) -> Result<(), AllocError> {
+        push_invalid(text, name, kind, reason)
+    }
+}
+
 impl Judge for CheckUnder<'_> {
     type Kind = ObjectKind;
 
@@ -66,6 +99,30 @@ impl Judge for CheckUnder<'_> {
         match file.kind {
             ObjectKind::Signed(kind) => self.signed(alloc, kind, file.octets),
             ObjectKind::Rta => self.attestation(alloc, file.octets),
+        }
+    }
+}
+
+/// The same files, whose answers are lines of JSON or say why there is none.
+#[derive(Drop)]
+pub struct CheckInJson<'s> {
+    pub under: &'s CheckUnder<'s>,
+}
+
+impl Judge for CheckInJson<'_> {
+    type Kind = ObjectKind;
+
+    ghost says = { λ c. IsObjectInJson c.under.now };
+
+    fn answer<'a>(&self, alloc: Global, file: &AskedFile<'_, ObjectKind>) -> Answer<'a> {
+        match file.kind {
+            ObjectKind::Signed(kind) => {
+                self.under
+                    .signed_in_json(alloc, kind, file.name, file.octets)
+            }
+            ObjectKind::Rta => self
+                .under
+                .attestation_in_json(alloc, file.name, file.octets),
         }
     }
 }
@@ -85,13 +142,61 @@ impl<'s> CheckUnder<'s> {
         answer_for(alloc, self.options, kind, action)
     }
 
+    /// Answers with the line of a good object of the kind at the front of the octets of a file of
+    /// this name, or why there is none.
+    fn signed_in_json<'a, 'f>(
+        &self,
+        alloc: Global,
+        kind: Kind,
+        name: &'f str,
+        octets: &'f [u8],
+    ) -> Answer<'a>
+        ensures { IsKindInJson self.now (Signed kind) name.now octets.now (said result) }
+    {
+        let action = CheckListedInJson {
+            name,
+            word: kind_word(kind),
+            octets,
+            lists: self.lists,
+            issuer: self.issuer,
+            crypto: &Rsa,
+            moment: self.moment,
+        };
+        answer_in_json(alloc, self.options, kind, action)
+    }
+
     /// Answers whether the octets begin with an attestation that is granted.
     fn attestation<'a>(&self, alloc: Global, octets: &[u8]) -> Answer<'a>
         ensures { IsSaidOfRta self.now octets.now (said result) }
     {
+        match self.granted(alloc, octets) {
+            Err(answer) => answer,
+            Ok(rta) => say_granted(alloc, rta),
+        }
+    }
+
+    /// Answers with the line of an attestation that is granted at the front of the octets of a file
+    /// of this name, or why there is none.
+    fn attestation_in_json<'a>(&self, alloc: Global, name: &str, octets: &[u8]) -> Answer<'a>
+        ensures { IsSaidOfRtaInJson self.now name.now octets.now (said result) }
+    {
+        match self.granted(alloc, octets) {
+            Err(answer) => answer,
+            Ok(rta) => {
+                let answer = say_granted_in_json(alloc, name, rta.content());
+                drop(rta);
+                answer
+            }
+        }
+    }
+
+    /// The attestation at the front of the octets, where it is granted, or what is answered.
+    fn granted<'a>(&self, alloc: Global, octets: &[u8]) -> Result<Rta, Answer<'a>>
+        ensures { Settles (λ text s. IsSaidOfRtaAs self.now text octets.now s) result }
+    {
         match self.supplies(alloc) {
-            Err(_) => Answer::OutOfMemory,
-            Ok(supplies) => check_supplied(
+            Err(_) => Err(Answer::OutOfMemory),
+            Ok(supplies) => granted(
                 alloc,
                 Causes::Included,
                 octets,
@@ -128,67 +233,151 @@ struct CheckListed<'s, K: Crypto> {
 
 impl<'s, K: Crypto> Action for CheckListed<'s, K> {
     ghost says = { λ options X asked form text action s.
-        IsJudgedAs asked form text (read_mode options) (K.digest_of action.crypto.now)
-        (K.is_signed action.crypto.now) action.lists.now action.issuer.now action.moment
-        action.octets.now s };
+        IsJudgedAs asked form (λ x. yes_line ++ text x) (read_mode options)
+        (K.digest_of action.crypto.now) (K.is_signed action.crypto.now) action.lists.now
+        action.issuer.now action.moment action.octets.now s };
 
     fn answer<'a, C: Lines>(self, alloc: Global, options: Options) -> Answer<'a> {
-        match Bytes::copy_from_slice(alloc, self.octets) {
-            Err(_) => Answer::OutOfMemory,
-            Ok(source) => {
-                let checked = check_passed::<C, K, _>(
-                    alloc,
-                    options,
-                    source,
-                    self.issuer,
-                    self.crypto,
-                    self.moment,
-                    pass,
-                );
-                answer_checked(alloc, self.lists, self.issuer, self.crypto, checked)
+        let judged = judged::<C, K>(
+            alloc,
+            options,
+            self.octets,
+            self.lists,
+            self.issuer,
+            self.crypto,
+            self.moment,
+        );
+        match judged {
+            Err(answer) => answer,
+            Ok(content) => {
+                let answer = say_yes(alloc, &content);
+                drop(content);
+                answer
             }
         }
     }
 }
 
-/// What is said of what a check under this issuer answers.
-fn answer_checked<'a, C: Lines, K: Crypto>(
+/// To check the same object, and to answer in JSON under this name and this word.
+#[derive(Drop)]
+struct CheckListedInJson<'s, 'f, K: Crypto> {
+    name: &'f str,
+    word: &'f str,
+    octets: &'f [u8],
+    lists: &'s [NamedList<'s>],
+    issuer: &'s ResourceCert,
+    crypto: &'s K,
+    moment: Time,
+}
+
+impl<'s, 'f, K: Crypto> JsonAction for CheckListedInJson<'s, 'f, K> {
+    ghost says = { λ options X asked form members action s.
+        IsJudgedAs asked form
+        (λ x. file_json action.name.now action.word.now (valid_members (members x)))
+        (read_mode options) (K.digest_of action.crypto.now) (K.is_signed action.crypto.now)
+        action.lists.now action.issuer.now action.moment action.octets.now s };
+
+    fn answer<'a, C: Lines>(self, alloc: Global, options: Options) -> Answer<'a> {
+        let judged = judged::<C, K>(
+            alloc,
+            options,
+            self.octets,
+            self.lists,
+            self.issuer,
+            self.crypto,
+            self.moment,
+        );
+        match judged {
+            Err(answer) => answer,
+            Ok(content) => {
+                let answer = say_valid(alloc, self.name, self.word, &content);
+                drop(content);
+                answer
+            }
+        }
+    }
+}
+
+/// The content of the object at the front of the octets, where it is good under this issuer and no
+/// list revokes its certificate, and else what is answered.
+fn judged<'a, C: Lines, K: Crypto>(
+    alloc: Global,
+    options: Options,
+    octets: &[u8],
+    lists: &[NamedList<'_>],
+    issuer: &ResourceCert,
+    crypto: &K,
+    moment: Time,
+) -> Result<C, Answer<'a>>
+    ensures { Settles (λ text s. IsJudgedAs C.kind (C.form (C.rule_of options)) text
+        (read_mode options) (K.digest_of crypto.now) (K.is_signed crypto.now) lists.now issuer.now
+        moment octets.now s) result }
+{
+    match Bytes::copy_from_slice(alloc, octets) {
+        Err(_) => Err(Answer::OutOfMemory),
+        Ok(source) => {
+            let checked = check_passed::<C, K, _>(
+                alloc, options, source, issuer, crypto, moment, pass,
+            );
+            settled(alloc, lists, issuer, crypto, checked)
+        }
+    }
+}
+
+/// The content that a check under this issuer finds good, where no list revokes its certificate, and
+/// else what is answered.
+fn settled<'a, C: Lines, K: Crypto>(
     alloc: Global,
     lists: &[NamedList<'_>],
     issuer: &ResourceCert,
     crypto: &K,
     checked: Result<(ResourceCert, C), CheckError>,
-) -> Answer<'a>
-    ensures { IsJudgementSaid C.lines (K.is_signed crypto.now) lists.now issuer.now checked
-        (said result) }
+) -> Result<C, Answer<'a>>
+    ensures { Settles (λ text s. IsJudgementSaid text (K.is_signed crypto.now) lists.now issuer.now
+        checked s) result }
 {
     match checked {
-        Err(CheckError::Decode(error)) => refusal(alloc, Causes::Included, error),
-        Err(CheckError::Validation(error)) => refused(alloc, error),
+        Err(CheckError::Decode(error)) => Err(refusal(alloc, Causes::Included, error)),
+        Err(CheckError::Validation(error)) => Err(refused(alloc, error)),
         Ok((cert, content)) => {
-            let answer = answer_good(alloc, lists, issuer.cert(), cert.cert(), crypto, &content);
+            let list = revoking(lists, issuer.cert(), cert.cert(), crypto);
             drop(cert);
-            drop(content);
-            answer
+            match list {
+                None => Ok(content),
+                Some(list) => {
+                    drop(content);
+                    Err(refused_for(revoked_by(alloc, list)))
+                }
+            }
         }
     }
 }
 
-/// What is said of a good object with this certificate and content.
-fn answer_good<'a, C: Lines, K: Crypto>(
-    alloc: Global,
-    lists: &[NamedList<'_>],
-    issuer: &Cert,
-    cert: &Cert,
-    crypto: &K,
-    content: &C,
-) -> Answer<'a>
-    ensures { IsGoodSaid (K.is_signed crypto.now) lists.now issuer.now.certificate
-        cert.now.certificate (C.lines content.now) (said result) }
+/// The line of a good object in JSON.
+fn say_valid<'a, C: Lines>(alloc: Global, name: &str, word: &str, content: &C) -> Answer<'a>
+    ensures { IsLinesOf (file_json name.now word.now (valid_members (C.json content.now)))
+        (said result) }
 {
-    match revoking(lists, issuer, cert, crypto) {
-        None => say_yes(alloc, content),
-        Some(list) => refused_for(revoked_by(alloc, list)),
+    let mut text = String::new(alloc);
+    match push_valid(alloc, &mut text, name, word, content) {
+        Ok(()) => Answer::Shown(text),
+        Err(_) => Answer::OutOfMemory,
+    }
+}
+
+/// The line of an attestation that is granted in JSON.
+fn say_granted_in_json<'a>(
+    alloc: Global,
+    name: &str,
+    content: &ResourceTaggedAttestation,
+) -> Answer<'a>
+    ensures { IsLinesOf (file_json name.now (codes "rta")
+        (valid_members (attestation_members content.now))) (said result) }
+{
+    let mut text = String::new(alloc);
+    match push_granted(alloc, &mut text, name, content) {
+        Ok(()) => Answer::Shown(text),
+        Err(_) => Answer::OutOfMemory,
     }
 }
 

@@ -31,6 +31,7 @@ use rpki_cli::verify::requests::{
     CheckRequest, ShowRequest, check_words, names_of_check, show_words,
 };
 use rpki_cli::verify::words::{Issued, VerifyCommand, parse};
+use rpki_cli::verify::wrong::answer_wrong;
 use rpki_cli::words::{Kind, Options, Order};
 use rpki_cli::{
     Causes, Program, Store, Unread, answer_anchors, answer_files, answer_tail, read_all, unread,
@@ -62,8 +63,8 @@ impl<P: RelyingParty> Program for Verify<P> {
         answer(alloc, words, self.clock, &self.relying_party, store)
     }
 
-    fn wrong<'a>(&self) -> Answer<'a> {
-        Answer::WrongWords
+    fn wrong<'a>(&self, words: &'a [&'a str]) -> Answer<'a> {
+        answer_wrong(words)
     }
 }
 
@@ -83,7 +84,7 @@ fn answer<'a, P: RelyingParty, S: Store>(
     ensures same { S.told store.new ≡ S.told store.old }
 {
     match parse(words) {
-        None => Answer::WrongWords,
+        None => answer_wrong(words),
         Some(order) => answer_verify(alloc, order, now, party, store),
     }
 }
@@ -330,12 +331,6 @@ fn check_request<'a, S: Store>(
         (S.reads store.old) (S.reads store.new) }
     ensures same { S.told store.new ≡ S.told store.old }
 {
-    if request.settings.json {
-        return Answer::WrongBy {
-            cause: "no option of check: ",
-            word: "--json",
-        };
-    }
     match request.settings.at.moment(now) {
         None => Answer::NoMoment,
         Some(moment) => check_files(alloc, options, request, moment, store),
@@ -398,32 +393,8 @@ fn show_asked<'a, S: Store>(
 }
 
 /// What the program answers to a show of these files.
-fn show_request<'a, S: Store>(
-    alloc: Global,
-    options: Options,
-    request: &ShowRequest<'a>,
-    store: &mut S,
-) -> Answer<'a>
-    requires { length request.now.files.items ≤ length request.now.kinds.items }
-    ensures said { IsTaskAnswer (S.told store.old)
-        (show_request_task options (asked_show request.now))
-        (S.reads store.old) (S.reads store.new) (said result) }
-    ensures reads { HasRead (show_request_task options (asked_show request.now))
-        (S.reads store.old) (S.reads store.new) }
-    ensures same { S.told store.new ≡ S.told store.old }
-{
-    if request.json {
-        return Answer::WrongBy {
-            cause: "no option of show: ",
-            word: "--json",
-        };
-    }
-    show_files(alloc, options, request, store)
-}
-
-/// What the program answers to a show of these files in lines.
 #[tactic(auto, using(crate::proofs::Verified::Payloads::by_reads))]
-fn show_files<'a, S: Store>(
+fn show_request<'a, S: Store>(
     alloc: Global,
     options: Options,
     request: &ShowRequest<'a>,

@@ -108,7 +108,7 @@ pub fn check_text(alloc: Global, check: &CheckSettings<'_>) -> Result<String, Al
     }
     match check.at {
         When::Now => write!(text, "now ")?,
-        When::At(time) => write!(text, "{time} ")?,
+        When::At(time) | When::AtIso(time) => write!(text, "{time} ")?,
     }
     write!(text, "{} {} (", check.ta, check.tal.unwrap_or("-"))?;
     push_words(&mut text, &check.cas)?;

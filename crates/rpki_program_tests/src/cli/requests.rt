@@ -15,7 +15,7 @@ use std::fmt::Write;
 use std::test::Fail;
 
 /// Words after `check`, and what they ask as a text with the files that are read, or what is wrong.
-static CHECKS: [(&[&str], &str); 17] = [
+static CHECKS: [(&[&str], &str); 22] = [
     (
         &["--ta", "a.cer", "b.roa"],
         "- now a.cer - () (); b.roa = roa; a.cer b.roa",
@@ -46,6 +46,23 @@ static CHECKS: [(&[&str], &str); 17] = [
     (&["--ta", "", "b.roa"], "empty name"),
     (&["--ta", "a.cer", "b.roa", ""], "empty name"),
     (&["--ta", "a.cer", "--crl", "", "b.roa"], "empty name"),
+    (
+        &["--ta", "a.cer", "b.roa: yes\nc.roa"],
+        "control character in a name",
+    ),
+    (
+        &["--ta", "a\x7F.cer", "b.roa"],
+        "control character in a name",
+    ),
+    (
+        &["--ta", "a.cer", "--crl", "b\x1F.crl", "c"],
+        "control character in a name",
+    ),
+    (&["--ta", "a.cer", "", "b\t.roa"], "empty name"),
+    (
+        &["--ta", "a b.cer", "b~\u{80}.roa"],
+        "- now a b.cer - () (); b~\u{80}.roa = roa; a b.cer b~\u{80}.roa",
+    ),
     (&["--ta", "a.cer", "b.roa", "c", "d"], "unknown kind: c"),
     (&["--ta", "a.cer", "-"], "unknown kind: -"),
     (
@@ -63,7 +80,7 @@ static CHECKS: [(&[&str], &str); 17] = [
 ];
 
 /// Words after `show`, and what they ask as a text, or what is wrong.
-static SHOWS: [(&[&str], &str); 13] = [
+static SHOWS: [(&[&str], &str); 21] = [
     (&["a.roa"], "a.roa = roa"),
     (
         &["a.cer", "--json", "b.crl", "c.tal", "--wide"],
@@ -78,15 +95,32 @@ static SHOWS: [(&[&str], &str); 13] = [
     (&["a.roa", "--version"], "no option of show: --version"),
     (&["a.roa", "--at", "now"], "no option of show: --at"),
     (&["--ta", "a", "--csv"], "no option of show: --csv"),
+    (
+        &["--at", "now", "--ca", "b", "a.roa"],
+        "no option of show: --ca",
+    ),
+    (
+        &["--crl", "b", "--tal", "c", "a"],
+        "no option of show: --tal",
+    ),
+    (&["--ca", "b", "--ta", "c", "a"], "no option of show: --ta"),
+    (
+        &["--at", "b", "--crl", "c", "a"],
+        "no option of show: --crl",
+    ),
     (&["--kind", "roa", "--kind", "roa", "a"], "twice: --kind"),
     (&["--kind", "gbr", "a"], "unknown kind: gbr"),
     (&["--json"], "no file to show"),
     (&["a.roa", ""], "empty name"),
+    (&["a.roa", "b\n.roa"], "control character in a name"),
+    (&["a.roa", "\x1F"], "control character in a name"),
+    (&["a", "\x7F"], "control character in a name"),
+    (&["a.roa", " \u{80}.roa"], "a.roa  \u{80}.roa = roa roa"),
     (&["a.roa", "-"], "unknown kind: -"),
 ];
 
 /// Words of the program, and the command that they ask for.
-static COMMANDS: [(&[&str], &str); 19] = [
+static COMMANDS: [(&[&str], &str); 25] = [
     (&["--help"], "help"),
     (&["-h"], "help"),
     (&["--version"], "version"),
@@ -106,6 +140,12 @@ static COMMANDS: [(&[&str], &str); 19] = [
     (&["show", "b.roa"], "show each"),
     (&["show", "roa"], "show each"),
     (&["show", "a.roa", "b.roa"], "show each"),
+    (&["show", "--help"], "none"),
+    (&["show", "-h", "a.roa"], "none"),
+    (&["show", "a.roa", "--help"], "show each"),
+    (&["show", "--", "--help"], "show each"),
+    (&["check", "--help"], "none"),
+    (&["check", "--help", "--ta", "a.cer"], "check each"),
 ];
 
 fn check_asked(alloc: Global, words: &[&str]) -> Result<String, AllocError> {

@@ -6,7 +6,7 @@
 use super::issued_octets::{ANCHOR_CRL, INHERITS, RANGES, REVOKED, ROUTER};
 use super::octets::{ANCHOR, AUTHORITY, ORIGIN};
 use super::payloads::Echo;
-use super::runs::{CANNOT_READ, MALFORMED, OUT_OF_MEMORY, Output, Row, is_answered_by};
+use super::runs::{MALFORMED, NOT_THERE, OUT_OF_MEMORY, Output, Row, is_answered_by};
 use rpki_command::verify::Verify;
 use std::test::Fail;
 
@@ -109,7 +109,7 @@ fn certificates_and_lists_are_shown(rt: HostRuntime) -> Result<(), Fail> {
         (&CRL, &REVOKED, REVOKED_SHOWN, 1),
         (&CRL, &REVOKED[..498], MALFORMED, 1),
         (&CRL, &ANCHOR, MALFORMED, 1),
-        (&["show", "crl", "other"], &REVOKED, CANNOT_READ, 1),
+        (&["show", "crl", "other"], &REVOKED, NOT_THERE, 1),
         (&["show", "crl", "large"], &REVOKED, OUT_OF_MEMORY, 1),
     ];
     for (words, octets, said, reads) in &rows {

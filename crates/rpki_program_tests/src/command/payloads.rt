@@ -2,7 +2,7 @@
 
 ghost use Rattle.std.specs.Prelude.{⊤};
 
-use super::runs::{CANNOT_READ, Output, Row, is_answered_by};
+use super::runs::{NOT_THERE, Output, Row, is_answered_by};
 use rpki_basics::Time;
 use rpki_cli::answer::Answer;
 use rpki_cli::verify::{PayloadsRequest, RelyingParty};
@@ -103,7 +103,7 @@ fn a_relying_party_is_asked(rt: HostRuntime) -> Result<(), Fail> {
         (
             &["payloads", "copy", "now", "file", "other"],
             b"octets",
-            CANNOT_READ,
+            NOT_THERE,
             2,
         ),
     ];

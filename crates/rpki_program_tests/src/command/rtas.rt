@@ -56,6 +56,15 @@ const fn unreadable(err: &'static str) -> Output<'static> {
     Output { err, ..USAGE }
 }
 
+/// What the program with signatures says of a file that is not there.
+const fn not_there(err: &'static str) -> Output<'static> {
+    Output {
+        status: 4,
+        err,
+        ..USAGE
+    }
+}
+
 /// What is said where no revocation list is a CA's own, since its signature is not good.
 const MISSING_CRL: Output = Output {
     status: 1,
@@ -207,17 +216,17 @@ fn good_signatures_of_attestations_are_listed(rt: HostRuntime) -> Result<(), Fai
         (&["rta", "empty.rta", "tal=tal", "ca=tal"], NO_ISSUER, 3),
         (
             &["rta", "empty.rta", "ca=anchor.cer:none"],
-            unreadable("cannot read none\n"),
+            not_there("cannot read none: no such file\n"),
             3,
         ),
         (
             &["rta", "rta", "tal=tal"],
-            unreadable("cannot read rta\n"),
+            not_there("cannot read rta: no such file\n"),
             1,
         ),
         (
             &["./rta", "anchor.cer"],
-            unreadable("cannot read ./rta\n"),
+            not_there("cannot read ./rta: no such file\n"),
             1,
         ),
         (&["anchor.cer", "anchor.cer"], MALFORMED, 2),

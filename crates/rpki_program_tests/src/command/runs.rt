@@ -59,10 +59,24 @@ pub const MALFORMED: Output = Output {
 };
 
 /// What is said of a file that is not there.
-pub const CANNOT_READ: Output = Output {
+const CANNOT_READ: Output = Output {
     status: 2,
     out: "",
     err: "cannot read other\n",
+};
+
+/// What the program with signatures says of a file that is not there.
+pub const NOT_THERE: Output = Output {
+    status: 4,
+    out: "",
+    err: "cannot read other: no such file\n",
+};
+
+/// What is said to words that ask for nothing.
+const USAGE: Output = Output {
+    status: 2,
+    out: "",
+    err: "usage\n",
 };
 
 /// What is said where memory runs out.
@@ -162,6 +176,88 @@ fn causes_are_told(rt: HostRuntime) -> Result<(), Fail> {
     for (words, octets, said, reads) in &rows {
         is_answered_by(&rt, &program, words, &[("file", octets)], said, *reads)?;
     }
+    Ok(())
+}
+
+/// Words that ask for nothing of the program with signatures, and which of them is wrong.
+const NAMED: [(&[&str], &str); 12] = [
+    (&["help"], "unknown command: help\n"),
+    (&["--strict", "help"], "unknown option: --strict\n"),
+    (
+        &["--wide", "--relaxed", "show", "file"],
+        "unknown option: --relaxed\n",
+    ),
+    (&["check", "--kind", "aspa", "file"], "missing: --ta\n"),
+    (
+        &["check", "rta", "file", "today", "file"],
+        "unknown kind: rta\n",
+    ),
+    (
+        &["check", "roa", "file", "2027-01-01", "file"],
+        "wrong moment: 2027-01-01\n",
+    ),
+    (&["content", "tal", "file"], "unknown kind: tal\n"),
+    (&["walk", "file", "file", "with"], "wrong moment: file\n"),
+    (
+        &["rta", "file", "20270229000000Z"],
+        "wrong moment: 20270229000000Z\n",
+    ),
+    (&["payloads", "copy", "NOW", "file"], "wrong moment: NOW\n"),
+    (
+        &["payloads", "--csv", "copy", "", "file"],
+        "wrong moment: \n",
+    ),
+    (
+        &["payloads", "--csv", "--json", "now"],
+        "unknown option: --json\n",
+    ),
+];
+
+#[test]
+fn wrong_words_are_named(rt: HostRuntime) -> Result<(), Fail> {
+    let program = Verify {
+        clock: None,
+        relying_party: Echo,
+    };
+    for (words, err) in &NAMED {
+        let said = Output {
+            status: 2,
+            out: "",
+            err,
+        };
+        is_answered_by(&rt, &program, words, &[], &said, 0)?;
+        is_answered(&rt, words, &[], &USAGE, 0)?;
+    }
+    Ok(())
+}
+
+/// Words with a moment as RFC 3339 has it. Their file is not there.
+const DATED: [&[&str]; 5] = [
+    &["check", "roa", "other", "2027-01-01T00:00:00Z", "other"],
+    &["walk", "other", "2027-01-01T00:00:00Z", "other", "with"],
+    &["rta", "other", "2027-01-01T00:00:00Z", "ca=other"],
+    &["payloads", "copy", "2027-01-01T00:00:00Z", "other"],
+    &[
+        "check",
+        "--ta",
+        "other",
+        "--at",
+        "2027-01-01T00:00:00Z",
+        "other.roa",
+    ],
+];
+
+#[test]
+fn moments_are_read_in_either_form(rt: HostRuntime) -> Result<(), Fail> {
+    let program = Verify {
+        clock: None,
+        relying_party: Echo,
+    };
+    for words in &DATED {
+        is_answered_by(&rt, &program, words, &[], &NOT_THERE, 1)?;
+    }
+    is_answered(&rt, DATED[0], &[], &USAGE, 0)?;
+    is_answered(&rt, DATED[2], &[], &USAGE, 0)?;
     Ok(())
 }
 

@@ -1,5 +1,5 @@
 -- The numbers that a content names, as texts.
-use Rattle.std.specs.Prelude.{ℕ, List, map}
+use Rattle.std.specs.Prelude.{ℕ, List, [], ◌∷◌, codes, map}
 use Rattle.rpki_json.specs.Grammar.{Json, string}
 use Rattle.rpki_json.specs.Members.{Member, array_member}
 use Rattle.rpki_resources.specs.As.{as_block, as_block_text}
@@ -25,3 +25,7 @@ as_member name set = array_member name as_value (map as_block set)
 -- the blocks of addresses of this family under this name
 abbrev pub ip_member : List ℕ → AddressFamily → List (Block ℕ) → Member
 ip_member name family set = array_member name (ip_value family) (map ip_block set)
+
+-- in the place of blocks, that those of the issuer are inherited: an array of one word
+unfoldable pub inherited_member : List ℕ → Member
+inherited_member name = array_member name string (codes "inherit" ∷ [])

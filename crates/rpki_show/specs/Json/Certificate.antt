@@ -1,18 +1,17 @@
 -- The members of a certificate (RFC 6487).
 use Rattle.std.specs.Prelude.{ℕ, List, [], ◌∷◌, ◌++◌, Bool, true, false, Option, Some, None, codes}
-use Rattle.std.specs.Prelude.{option_map}
 use Rattle.rpki_certs.specs.Cert.{Certificate, Tbs}
 use Rattle.rpki_extensions.specs.declared.access.SubjectAccess.{SubjectAccess}
 use Rattle.rpki_extensions.specs.declared.claims.Claims.{Claims}
 use Rattle.rpki_extensions.specs.declared.keys.KeyFacts.{KeyFacts}
 use Rattle.rpki_extensions.specs.declared.locations.Locations.{Locations}
-use Rattle.rpki_json.specs.Members.{Member, text_member, boolean_member}
+use Rattle.rpki_json.specs.Members.{Member, boolean_member}
 use Rattle.rpki_resources.specs.declared.block.Block.{Block}
 use Rattle.rpki_resources.specs.declared.family.AddressFamily.{AddressFamily}
 use Rattle.rpki_resources.specs.declared.family.AddressFamily.TheVariants.{Ipv4, Ipv6}
 use Rattle.rpki_resources.specs.declared.resources.Claim.{Claim}
 use Rattle.rpki_resources.specs.declared.resources.Claim.TheVariants.{Missing, Inherit, Explicit}
-use Rattle.rpki_show.specs.Json.Blocks.{as_member, ip_member}
+use Rattle.rpki_show.specs.Json.Blocks.{as_member, ip_member, inherited_member}
 use Rattle.rpki_show.specs.Json.Named.{serial_member, moment_member, key_member, text_members}
 
 -- the identifier of the issuer's key, where there is one
@@ -26,7 +25,7 @@ key_members k = key_member (codes "ski") k.subject_key ∷ authority_members k.a
 
 -- the serial number and the validity
 abbrev pub issued_members : Tbs → List Member
-issued_members t = serial_member (codes "serial") t.serial_number
+issued_members t = serial_member (codes "cert_serial") t.serial_number
     ∷ moment_member (codes "valid_since") t.validity.not_before
     ∷ moment_member (codes "valid_until") t.validity.not_after ∷ []
 
@@ -35,7 +34,7 @@ issued_members t = serial_member (codes "serial") t.serial_number
 abbrev pub access_members : SubjectAccess → List Member
 access_members a = text_members (codes "carepository") a.ca_repository
     ++ (text_members (codes "manifest") a.rpki_manifest
-    ++ (text_members (codes "rrdp") a.rpki_notify
+    ++ (text_members (codes "notify_url") a.rpki_notify
     ++ text_members (codes "sia") a.signed_object))
 
 -- where something lies, the certificate of the issuer and its revocation list at the end
@@ -49,16 +48,16 @@ is_ca (Some true) = true
 is_ca (Some false) = false
 is_ca None = false
 
--- a claim of AS numbers: nothing where it is missing, or what is inherited, or the blocks
+-- a claim of AS numbers: nothing where it is missing, or that it is inherited, or the blocks
 unfoldable pub as_claim_members : Claim (List (Block ℕ)) → List Member
 as_claim_members Missing = []
-as_claim_members Inherit = text_member (codes "asns") (codes "inherit") ∷ []
+as_claim_members Inherit = inherited_member (codes "asns") ∷ []
 as_claim_members (Explicit set) = as_member (codes "asns") set ∷ []
 
 -- a claim of addresses of a family under this name
 unfoldable pub ip_claim_members : List ℕ → AddressFamily → Claim (List (Block ℕ)) → List Member
 ip_claim_members name family Missing = []
-ip_claim_members name family Inherit = text_member name (codes "inherit") ∷ []
+ip_claim_members name family Inherit = inherited_member name ∷ []
 ip_claim_members name family (Explicit set) = ip_member name family set ∷ []
 
 -- the AS numbers, the IPv4 and the IPv6 addresses that are claimed

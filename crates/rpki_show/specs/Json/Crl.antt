@@ -17,4 +17,4 @@ crl_members l = serial_member (codes "crl_number") l.extensions.number
     ∷ moment_member (codes "this_update") l.this_update
     ∷ moment_member (codes "next_update") l.next_update
     ∷ key_member (codes "aki") l.extensions.authority_key
-    ∷ array_member (codes "revoked") revoked_value l.revoked ∷ []
+    ∷ array_member (codes "revoked_certs") revoked_value l.revoked ∷ []

@@ -6,7 +6,7 @@ use Rattle.rpki_der.specs.Text.Hex.{upper_hex}
 use Rattle.rpki_json.specs.Members.{Member, text_member}
 use Rattle.rpki_show.specs.Texts.Serial.{serial_hex}
 
--- a serial number
+-- a serial number, or that of a list, in upper hexadecimal with two digits for each octet
 unfoldable pub serial_member : List ℕ → ℕ → Member
 serial_member name n = text_member name (serial_hex n)
 

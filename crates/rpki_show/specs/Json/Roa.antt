@@ -1,4 +1,5 @@
--- The members of a ROA content, as Routinator names them.
+-- The members of a ROA content: `vrps` is rpki-client's name of the list, and the names in an item
+-- are those of Routinator.
 use Rattle.std.specs.Prelude.{ℕ, List, [], ◌∷◌, codes, unwrap_or}
 use Rattle.rpki_json.specs.Grammar.{Json}
 use Rattle.rpki_json.specs.Members.{Member, object_of, text_member, number_member, array_member}

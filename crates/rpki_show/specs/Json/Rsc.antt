@@ -6,7 +6,6 @@ use Rattle.rpki_files.specs.Checklist.{Checklist}
 use Rattle.rpki_json.specs.Grammar.{Json}
 use Rattle.rpki_json.specs.Members.{Member, object_of, text_member, array_member}
 use Rattle.rpki_resources.specs.declared.family.AddressFamily.TheVariants.{Ipv4, Ipv6}
-use Rattle.rpki_show.specs.Ia5.{ia5_text}
 use Rattle.rpki_show.specs.Json.Blocks.{as_member, ip_member}
 use Rattle.rpki_show.specs.Json.Manifest.{file_value}
 

@@ -1,9 +1,10 @@
 -- The members of an attestation (draft-michaelson-rpki-rta).
-use Rattle.std.specs.Prelude.{ℕ, List, [], ◌∷◌, codes}
+use Rattle.std.specs.Prelude.{ℕ, List, [], ◌∷◌, ◌++◌, codes, length}
 use Rattle.rpki_der.specs.Text.Hex.{hex, upper_hex}
 use Rattle.rpki_json.specs.Grammar.{Json, string}
-use Rattle.rpki_json.specs.Members.{Member, text_member, array_member}
+use Rattle.rpki_json.specs.Members.{Member, text_member, number_member, array_member}
 use Rattle.rpki_multi.specs.Attestation.{Whole}
+use Rattle.rpki_multi.specs.Multi.{MultiSigned}
 use Rattle.rpki_resources.specs.declared.family.AddressFamily.TheVariants.{Ipv4, Ipv6}
 use Rattle.rpki_show.specs.Json.Blocks.{as_member, ip_member}
 use Rattle.rpki_tagged.specs.Attestation.{Attestation}
@@ -21,6 +22,12 @@ attestation_members a = array_member (codes "keys") subject_value a.subject_keys
     ∷ ip_member (codes "ipv6") Ipv6 a.v6_resources
     ∷ text_member (codes "digest") (hex a.message_digest) ∷ []
 
--- the members of the content
+-- how many certificates and revocation lists are carried, and how many have signed
+abbrev pub carried_members : MultiSigned → List Member
+carried_members m = number_member (codes "certificates") (length m.certs)
+    ∷ number_member (codes "crls") (length m.crls)
+    ∷ number_member (codes "signers") (length m.signers) ∷ []
+
+-- the members of the content, and those of what is carried with it
 abbrev pub rta_members : Whole → List Member
-rta_members r = attestation_members r.content
+rta_members r = attestation_members r.content ++ carried_members r.signed

@@ -2,7 +2,7 @@
 
 ghost use Rattle.std.specs.Prelude.{List};
 ghost use Rattle.rpki_json.specs.Grammar.{Json};
-ghost use Rattle.rpki_json.specs.Grows.{AppendsLine, Grows};
+ghost use Rattle.rpki_json.specs.Grows.{AppendsItem, Grows};
 ghost use Rattle.rpki_json.specs.Members.{array_member, further_text};
 ghost use Rattle.rpki_json.specs.Text.{json_text};
 
@@ -21,7 +21,8 @@ where
     I::Item: Drop,
     F: Fn(&mut String, I::Item) -> Result<(), AllocError>,
     requires { F.IsAlwaysCallable push }
-    ensures { (value : I.Shown → Json) → AppendsLine (F.post push) I.shown (λ x. json_text (value x))
+    ensures { (value : I.Shown → Json)
+        → AppendsItem (F.post push) I.shown (λ x. json_text (value x))
         → Grows result text.old text.new
         (further_text (array_member name.now value (I.rest items))) }
 {

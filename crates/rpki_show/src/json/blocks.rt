@@ -2,12 +2,13 @@
 
 ghost use Rattle.rpki_json.specs.Grows.{Grows};
 ghost use Rattle.rpki_json.specs.Members.{further_text};
-ghost use Rattle.rpki_show.specs.Json.Blocks.{as_member, ip_member};
+ghost use Rattle.rpki_show.specs.Json.Blocks.{as_member, ip_member, inherited_member};
 
 use crate::json::arrays::push_array;
-use rpki_json::push_item;
+use rpki_json::{JsonString, push_item};
 use rpki_resources::{AddressFamily, AsBlocks, IpBlocks};
 use std::alloc::{AllocError, Global};
+use std::fmt::Write;
 
 /// Appends a member with the blocks of AS numbers. Refuses where memory runs out.
 pub fn push_as_blocks(
@@ -37,4 +38,14 @@ pub fn push_ip_blocks(
     push_array(text, name, blocks.iter(), |text, block| {
         push_item(alloc, text, &block.display(family))
     })
+}
+
+/// Appends a member that says that blocks are inherited: an array of one word. Refuses where memory
+/// runs out.
+#[tactic(auto, unfolding(crate::specs::Json::Blocks::inherited_member, rpki_json::specs::Members::further_text, rpki_json::specs::Members::member_text))]
+pub fn push_inherited(text: &mut String, name: &str) -> Result<(), AllocError>
+    ensures { Grows result text.old text.new (further_text (inherited_member name.now)) }
+{
+    let name = JsonString(name);
+    write!(text, ", {name}: [\"inherit\"]")
 }

@@ -9,19 +9,19 @@ ghost use Rattle.rpki_show.specs.Json.Certificate.{issued_members, key_members, 
 ghost use Rattle.rpki_show.specs.Json.Certificate.{authority_members, location_members, is_ca};
 ghost use Rattle.rpki_show.specs.Json.Certificate.{claim_members, as_claim_members};
 ghost use Rattle.rpki_show.specs.Json.Certificate.{ip_claim_members};
-ghost use Rattle.rpki_show.specs.Json.Named.{text_members};
+ghost use Rattle.rpki_show.specs.Json.Named.{serial_member, moment_member, text_members};
 
-use crate::json::blocks::{push_as_blocks, push_ip_blocks};
+use crate::json::blocks::{push_as_blocks, push_inherited, push_ip_blocks};
 use crate::json::named::{push_https, push_key, push_moment, push_rsync, push_serial};
 use rpki_basics::KeyIdentifier;
 use rpki_certs::Cert;
-use rpki_json::{push_boolean, push_text};
+use rpki_json::push_boolean;
 use rpki_resources::{AddressFamily, AsResources, Claim, IpResources};
 use std::alloc::{AllocError, Global};
 
 /// Appends the members of a certificate: those of `push_signer`, `ca`, and `asns`, `ipv4` and
-/// `ipv6`, each of them an array of blocks or `inherit`, where it is claimed. Refuses where memory
-/// runs out.
+/// `ipv6`, each of them an array of blocks or of the word `inherit`, where it is claimed. Refuses
+/// where memory runs out.
 #[tactic(auto, unfolding(crate::specs::Json::Certificate::certificate_members))]
 pub fn push_certificate(alloc: Global, text: &mut String, cert: &Cert) -> Result<(), AllocError>
     ensures { Grows result text.old text.new
@@ -43,8 +43,8 @@ fn is_ca(basic_ca: Option<bool>) -> bool
     }
 }
 
-/// Appends the members of a certificate that signed something: `serial`, `valid_since`,
-/// `valid_until`, `ski`, `aki`, and where something lies: `carepository`, `manifest`, `rrdp`,
+/// Appends the members of a certificate that signed something: `cert_serial`, `valid_since`,
+/// `valid_until`, `ski`, `aki`, and where something lies: `carepository`, `manifest`, `notify_url`,
 /// `sia`, `aia` and `crl`, each where there is one. Refuses where memory runs out.
 #[tactic(auto, unfolding(crate::specs::Json::Certificate::signer_members))]
 pub fn push_signer(alloc: Global, text: &mut String, cert: &Cert) -> Result<(), AllocError>
@@ -61,10 +61,33 @@ fn push_issued(alloc: Global, text: &mut String, cert: &Cert) -> Result<(), Allo
     ensures { Grows result text.old text.new
         (flat_map further_text (issued_members cert.now.certificate.tbs)) }
 {
-    push_serial(alloc, text, "serial", cert.serial_number())?;
-    let validity = cert.validity();
-    push_moment(alloc, text, "valid_since", validity.not_before())?;
-    push_moment(alloc, text, "valid_until", validity.not_after())
+    push_cert_serial(alloc, text, cert)?;
+    push_since(alloc, text, cert)?;
+    push_until(alloc, text, cert)
+}
+
+/// Appends the serial number.
+fn push_cert_serial(alloc: Global, text: &mut String, cert: &Cert) -> Result<(), AllocError>
+    ensures { Grows result text.old text.new (further_text (serial_member (codes "cert_serial")
+        cert.now.certificate.tbs.serial_number)) }
+{
+    push_serial(alloc, text, "cert_serial", cert.serial_number())
+}
+
+/// Appends the beginning of the validity.
+fn push_since(alloc: Global, text: &mut String, cert: &Cert) -> Result<(), AllocError>
+    ensures { Grows result text.old text.new (further_text (moment_member (codes "valid_since")
+        cert.now.certificate.tbs.validity.not_before)) }
+{
+    push_moment(alloc, text, "valid_since", cert.validity().not_before())
+}
+
+/// Appends the end of the validity.
+fn push_until(alloc: Global, text: &mut String, cert: &Cert) -> Result<(), AllocError>
+    ensures { Grows result text.old text.new (further_text (moment_member (codes "valid_until")
+        cert.now.certificate.tbs.validity.not_after)) }
+{
+    push_moment(alloc, text, "valid_until", cert.validity().not_after())
 }
 
 /// Appends the identifiers of keys.
@@ -132,9 +155,9 @@ fn push_manifest_uri(text: &mut String, cert: &Cert) -> Result<(), AllocError>
 /// Appends the notification file of its subject's repository, if it says where.
 fn push_notify(text: &mut String, cert: &Cert) -> Result<(), AllocError>
     ensures { Grows result text.old text.new (flat_map further_text (text_members
-        (codes "rrdp") cert.now.certificate.tbs.extensions.locations.subject.rpki_notify)) }
+        (codes "notify_url") cert.now.certificate.tbs.extensions.locations.subject.rpki_notify)) }
 {
-    push_https(text, "rrdp", cert.rpki_notify())
+    push_https(text, "notify_url", cert.rpki_notify())
 }
 
 /// Appends the object that its key signed, if it says where.
@@ -191,7 +214,7 @@ fn push_as_claim(alloc: Global, text: &mut String, claim: &AsResources) -> Resul
 {
     match claim.claim() {
         Claim::Missing => Ok(()),
-        Claim::Inherit => push_text(text, "asns", "inherit"),
+        Claim::Inherit => push_inherited(text, "asns"),
         Claim::Explicit(blocks) => push_as_blocks(alloc, text, "asns", blocks),
     }
 }
@@ -210,7 +233,7 @@ fn push_ip_claim(
 {
     match claim.claim() {
         Claim::Missing => Ok(()),
-        Claim::Inherit => push_text(text, name, "inherit"),
+        Claim::Inherit => push_inherited(text, name),
         Claim::Explicit(blocks) => push_ip_blocks(alloc, text, name, family, blocks),
     }
 }

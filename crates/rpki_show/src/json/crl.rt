@@ -15,7 +15,7 @@ use std::alloc::{AllocError, Global};
 use std::fmt::Write;
 
 /// Appends the members of a revocation list: `crl_number`, `this_update`, `next_update`, `aki`, and
-/// `revoked`, an array of objects with `serial` and `date`. Refuses where memory runs out.
+/// `revoked_certs`, an array of objects with `serial` and `date`. Refuses where memory runs out.
 pub fn push_crl(alloc: Global, text: &mut String, list: &DatedCrl) -> Result<(), AllocError>
     ensures { Grows result text.old text.new (flat_map further_text (crl_members list.now)) }
 {
@@ -61,22 +61,23 @@ fn push_issuer(alloc: Global, text: &mut String, list: &DatedCrl) -> Result<(), 
 /// Appends the member of the entries.
 fn push_entries(alloc: Global, text: &mut String, list: &DatedCrl) -> Result<(), AllocError>
     ensures { Grows result text.old text.new
-        (further_text (array_member (codes "revoked") revoked_value list.now.revoked)) }
+        (further_text (array_member (codes "revoked_certs") revoked_value list.now.revoked)) }
 {
     let entries = list.revoked();
-    push_revocations(alloc, text, entries)
+    push_revocations(alloc, text, "revoked_certs", entries)
 }
 
-/// Appends the member of these entries.
+/// Appends the member of these entries under this name.
 fn push_revocations(
     alloc: Global,
     text: &mut String,
+    name: &str,
     entries: &[DatedEntry],
 ) -> Result<(), AllocError>
     ensures { Grows result text.old text.new
-        (further_text (array_member (codes "revoked") revoked_value entries.now)) }
+        (further_text (array_member name.now revoked_value entries.now)) }
 {
-    push_array(text, "revoked", entries.iter(), |text, entry| {
+    push_array(text, name, entries.iter(), |text, entry| {
         push_revoked(alloc, text, entry)
     })
 }

@@ -3,15 +3,14 @@
 ghost use Rattle.std.specs.Prelude.{codes};
 ghost use Rattle.std.specs.List.{flat_map};
 ghost use Rattle.rpki_json.specs.Grows.{Grows};
-ghost use Rattle.rpki_json.specs.Members.{further_text, array_member, text_member};
+ghost use Rattle.rpki_json.specs.Members.{further_text, array_member};
 ghost use Rattle.rpki_json.specs.Text.{json_text};
-ghost use Rattle.rpki_basics.specs.Serial.{serial_text};
 ghost use Rattle.rpki_files.specs.File.{File};
 ghost use Rattle.rpki_show.specs.Json.Manifest.{manifest_members, file_value};
-ghost use Rattle.rpki_show.specs.Json.Named.{moment_member};
+ghost use Rattle.rpki_show.specs.Json.Named.{serial_member, moment_member};
 
 use crate::json::arrays::push_array;
-use crate::json::named::push_moment;
+use crate::json::named::{push_moment, push_serial};
 use crate::texts::ia5::Ia5;
 use rpki_der::LowerHex;
 use rpki_files::ManifestContent;
@@ -20,7 +19,7 @@ use std::alloc::{AllocError, Global};
 use std::fmt::Write;
 
 /// Appends the members of the content of a manifest: `manifest_number`, `this_update`,
-/// `next_update`, and `files`, an array of objects with `name` and `hash`. Refuses where memory
+/// `next_update`, and `files`, an array of objects with `filename` and `hash`. Refuses where memory
 /// runs out.
 pub fn push_manifest(
     alloc: Global,
@@ -43,9 +42,9 @@ fn push_manifest_number(
     content: &ManifestContent,
 ) -> Result<(), AllocError>
     ensures { Grows result text.old text.new
-        (further_text (text_member (codes "manifest_number") (serial_text content.now.number))) }
+        (further_text (serial_member (codes "manifest_number") content.now.number)) }
 {
-    push_shown(alloc, text, "manifest_number", &content.manifest_number())
+    push_serial(alloc, text, "manifest_number", content.manifest_number())
 }
 
 /// Appends the member of the moment at which the manifest was made.
@@ -84,7 +83,7 @@ pub fn push_file(
     ensures { Grows result text.old text.new
         (json_text (file_value (record { file = name.now; hash = hash.now }))) }
 {
-    push_first(alloc, text, "name", &Ia5(name))?;
+    push_first(alloc, text, "filename", &Ia5(name))?;
     push_shown(alloc, text, "hash", &LowerHex(hash))?;
     write!(text, "}}")
 }

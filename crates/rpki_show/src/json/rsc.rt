@@ -19,7 +19,7 @@ use std::alloc::{AllocError, Global};
 use std::fmt::Write;
 
 /// Appends the members of the content of a checklist: `asns`, `ipv4` and `ipv6`, arrays of blocks,
-/// and `files`, an array of objects with `name`, where there is one, and `hash`. Refuses where
+/// and `files`, an array of objects with `filename`, where there is one, and `hash`. Refuses where
 /// memory runs out.
 pub fn push_rsc(
     alloc: Global,

@@ -12,13 +12,13 @@ use rpki_json::push_item;
 use rpki_tal::Tal;
 use std::alloc::{AllocError, Global};
 
-/// Appends the members of a locator: `uris`, an array, and `key_id`. Refuses where memory runs out.
+/// Appends the members of a locator: `uris`, an array, and `ski`. Refuses where memory runs out.
 pub fn push_tal(alloc: Global, text: &mut String, tal: &Tal) -> Result<(), AllocError>
     ensures { Grows result text.old text.new
         (flat_map further_text (tal_members tal.now.uris tal.now.key)) }
 {
     push_uris(alloc, text, tal)?;
-    push_key(alloc, text, "key_id", tal.key_info().key_identifier())
+    push_key(alloc, text, "ski", tal.key_info().key_identifier())
 }
 
 /// Appends the member of the URIs.

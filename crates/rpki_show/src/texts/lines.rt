@@ -2,7 +2,7 @@
 
 ghost use Rattle.std.specs.Prelude.{ℕ, List};
 ghost use Rattle.std.specs.List.{flat_map};
-ghost use Rattle.rpki_show.specs.Grows.{Grows, AppendsLine};
+ghost use Rattle.rpki_show.specs.Grows.{Grows, AppendsItem};
 
 use rpki_lists::{EntryIter, EntryKind, SliceEntry};
 use rpki_resources::{AsBlock, AsBlocksIter, IpBlock, IpBlocksIter};
@@ -44,7 +44,7 @@ where
     I::Item: Drop,
     F: Fn(&mut String, I::Item) -> Result<(), AllocError>,
     requires { F.IsAlwaysCallable push }
-    ensures { (line : I.Shown → List ℕ) → AppendsLine (F.post push) I.shown line
+    ensures { (line : I.Shown → List ℕ) → AppendsItem (F.post push) I.shown line
         → Grows result text.old text.new (flat_map line (I.rest items)) }
 {
     for item in items {

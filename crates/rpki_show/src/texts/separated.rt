@@ -2,7 +2,7 @@
 
 ghost use Rattle.std.specs.Prelude.{ℕ, List};
 ghost use Rattle.rpki_json.specs.Separated.{separated};
-ghost use Rattle.rpki_show.specs.Grows.{AppendsLine, Grows};
+ghost use Rattle.rpki_show.specs.Grows.{AppendsItem, Grows};
 
 use crate::texts::lines::Listed;
 use std::alloc::AllocError;
@@ -20,7 +20,7 @@ where
     I::Item: Drop,
     F: Fn(&mut String, I::Item) -> Result<(), AllocError>,
     requires { F.IsAlwaysCallable push }
-    ensures { (written : I.Shown → List ℕ) → AppendsLine (F.post push) I.shown written
+    ensures { (written : I.Shown → List ℕ) → AppendsItem (F.post push) I.shown written
         → Grows result text.old text.new (separated separator.now written (I.rest items)) }
 {
     let Some(first) = items.next() else {

@@ -12,9 +12,10 @@ ghost use Rattle.rpki_sigobj.specs.Verify.{Digester};
 ghost use Rattle.rpki_command.specs.Check.{CheckedUnder};
 ghost use Rattle.rpki_command.specs.Verify.Checks.{CheckedFiles, IsSaidOfFiles};
 ghost use Rattle.rpki_command.specs.Verify.Each.{GivenFile, IsSaidOfEach};
-ghost use Rattle.rpki_command.specs.Verify.Good.{AreGood};
+ghost use Rattle.rpki_command.specs.Verify.Good.{AreGood, AreRefused};
 ghost use Rattle.rpki_command.specs.Verify.Objects.{JudgedUnder};
 ghost use Rattle.rpki_command.specs.Yes.{status_of};
+ghost use Rattle.rpki_command.specs.declared.verify.checks.Manner.{Manner};
 
 use crate::verify::each::Judge;
 
@@ -26,11 +27,15 @@ pub fn a_yes_of_several_is_one_of_each<J: Judge>()
         → All (λ f. (said : Output) × J.says judge f said × (status_of said ≡ 0)) files }
 {}
 
-/// Where what is said of the files of a check has status 0, the certificates make an issuer, and
-/// under it each object is good, and no list revokes its certificate.
+/// Where what is said of the files of a check, in lines or in JSON, has status 0, the certificates
+/// make an issuer, and under it each object is good, and no list revokes its certificate. Where it
+/// has status 1, they make none, or one under which one of the objects is not good, or one of the
+/// lists revokes its certificate.
 pub fn checks_of_files_are_right()
-    ensures { (options : Options) (now : Moment) (f : CheckedFiles) (s : Output)
-        → IsSaidOfFiles options now f s → status_of s ≡ 0 → AreGood options now f }
+    ensures yes { (m : Manner) (f : CheckedFiles) (s : Output) → ¬ (f.objects ≡ [])
+        → IsSaidOfFiles m f s → status_of s ≡ 0 → AreGood m.options m.moment f }
+    ensures no { (m : Manner) (f : CheckedFiles) (s : Output)
+        → IsSaidOfFiles m f s → status_of s ≡ 1 → AreRefused m.options m.moment f }
 {}
 
 /// Without lists, what is said of an object under an issuer is what a check of one file says of it.

@@ -1,4 +1,5 @@
 use Rattle.rpki_show.proofs.Words.{aspa-words, manifest-words, roa-words, rsc-words}
+use Rattle.rpki_show.proofs.Words.{attestation-words}
 use Rattle.rpki_show.proofs.laws.contents_have_words.Goals as goal
 
 pub returns-clause-aspa : goal.returns-clause-aspa
@@ -12,3 +13,6 @@ returns-clause-roa c = roa-words
 
 pub returns-clause-rsc : goal.returns-clause-rsc
 returns-clause-rsc c = rsc-words
+
+pub returns-clause-rta : goal.returns-clause-rta
+returns-clause-rta c = attestation-words

@@ -1,5 +1,5 @@
-use Rattle.rpki_show.proofs.Words.{line-is}
+use Rattle.rpki_show.proofs.Words.{line-held}
 use Rattle.rpki_show.proofs.laws.lines_are_json.Goals as goal
 
 pub returns : goal.returns
-returns c = line-is
+returns c = λ name type members line h e. line-held name type members line h e

@@ -33,6 +33,15 @@ returns-then-not-all_named c =
     (some-files c.deref-files.result.now (sym c.is_empty.ensures ∙ c.if-is_empty.false))
     (sym c.all_named.ensures ∙ c.if-not-all_named.true)
 
+pub returns-then-not-all_plain : goal.returns-then-not-all_plain
+returns-then-not-all_plain c =
+    wrong.IsWrongShow.of_controls
+    (arranged-as _ _ _ _ _ c.deref-settings.ensures.value c.deref-files.ensures.value c.in-Ok.ensures.arranged)
+    c.in_ok-kind.ensures
+    (some-files c.deref-files.result.now (sym c.is_empty.ensures ∙ c.if-is_empty.false))
+    (sym c.all_named.ensures ∙ c.if-not-all_named.false)
+    (sym c.all_plain.ensures ∙ c.if-not-all_plain.true)
+
 pub returns-in_err-kinds : goal.returns-in_err-kinds
 returns-in_err-kinds c =
     let r = c.from_residual-in_err-kinds in
@@ -42,7 +51,8 @@ returns-in_err-kinds c =
     (arranged-as _ _ _ _ _ c.deref-settings.ensures.value c.deref-files.ensures.value c.in-Ok.ensures.arranged)
     c.in_ok-kind.ensures
     (some-files c.deref-files.result.now (sym c.is_empty.ensures ∙ c.if-is_empty.false))
-    (sym c.all_named.ensures ∙ c.if-not-all_named.false) c.in_err-kinds.ensures)
+    (sym c.all_named.ensures ∙ c.if-not-all_named.false)
+    (sym c.all_plain.ensures ∙ c.if-not-all_plain.false) c.in_err-kinds.ensures)
 
 pub returns-in_err-from_slice : goal.returns-in_err-from_slice
 returns-in_err-from_slice c =
@@ -67,5 +77,6 @@ returns c = record {
     some_file = some-files c.deref-files.result.now (sym c.is_empty.ensures ∙ c.if-is_empty.false);
   };
   named = sym c.all_named.ensures ∙ c.if-not-all_named.false;
+  plain = sym c.all_plain.ensures ∙ c.if-not-all_plain.false;
   kinds = c.in_ok-kinds.ensures;
 }

@@ -1,4 +1,6 @@
 use Rattle.std.proofs.Common.{◌≡◌, ◌∙◌, List, ℕ, Ok, Err, Bor, refl, inr, ap, sym, rules, length}
+use Rattle.std.proofs.Common.{subst}
+use Rattle.rpki_command.specs.Verify.Checks.{SaidWithLists}
 use Rattle.std.proofs.lemmas.List.{length-map}
 use Rattle.std.specs.List.{zip}
 use Rattle.rpki_certs.specs.Issuer.{octets_of}
@@ -7,6 +9,7 @@ use Rattle.rpki_cli.specs.Verify.CheckSettings.{check_values}
 use Rattle.rpki_cli.specs.Words.{texts}
 use Rattle.rpki_command.specs.Verify.Each.{asked_in}
 use Rattle.rpki_command.specs.Verify.Issuers.{CertFiles}
+use Rattle.rpki_command.specs.declared.verify.checks.Manner.{Manner}
 use Rattle.rpki_command.specs.declared.verify.issuers.NotLocator.TheVariants as locating
 use Rattle.rpki_command.proofs.Verified.Cutting.{of-all, below-of, from-at}
 use Rattle.rpki_command.proofs.verify.checks.check_each.Goals as goal
@@ -15,6 +18,7 @@ pub returns-in-Err-Bad : goal.returns-in-Err-Bad
 returns-in-Err-Bad c =
     let settings = c.args.settings.now in
     let n = check_values settings in
+    let manner : Manner = record { json = n.json; options = c.args.options; moment = c.args.now } in
     let files = c.args.files.now in
     let a = c.len.result in
     let b = c.count_of.result in
@@ -27,7 +31,7 @@ returns-in-Err-Bad c =
       anchor = (n.ta, c.anchor-item.result.items);
       chain = zip n.cas (octets_of (below-of files));
     } in
-    inr (of-all c.args.options c.args.now n c.args.kinds.now files c.anchor-item.result
+    inr (of-all manner n c.args.kinds.now files c.anchor-item.result
     c.anchor-item.result.items certs
     (asked_in n.files c.args.kinds.now (octets_of (from-at e (from-at b (from-at a (below-of files))))))
     a b e _ (Err c.in-Err-Bad.field-0) refl c.in-len1-up.len_at_least c.anchor-item.is
@@ -39,6 +43,7 @@ pub returns-in-len1-up : goal.returns-in-len1-up
 returns-in-len1-up c =
     let settings = c.args.settings.now in
     let n = check_values settings in
+    let manner : Manner = record { json = n.json; options = c.args.options; moment = c.args.now } in
     let files = c.args.files.now in
     let a = c.len.result in
     let b = c.count_of.result in
@@ -50,7 +55,7 @@ returns-in-len1-up c =
       anchor = (n.ta, anchor);
       chain = zip (texts c.deref-in-Ok-2.result.now) (octets_of (below-of files));
     } in
-    inr (of-all c.args.options c.args.now n c.args.kinds.now files c.anchor-item.result anchor
+    inr (of-all manner n c.args.kinds.now files c.anchor-item.result anchor
     certs c.deref-in-Ok-locator_if.result.now a b e (said c.check_listed.result)
     (Ok c.in-Ok-locator_if.locator) c.deref-in-Ok.ensures.value c.in-len1-up.len_at_least
     c.anchor-item.is
@@ -64,4 +69,8 @@ returns-in-len1-up c =
     (c.deref-in-Ok-locator_if.ensures.value ∙ c.in-Ok.ensures
     ∙ ap (λ (names : List (Bor (List ℕ))). asked_in (texts names) c.args.kinds.now
     (octets_of (from-at e (from-at b (from-at a (below-of files)))))) c.deref.ensures.value)
-    c.in-Ok-locator_if.ensures c.check_listed.ensures)
+    c.in-Ok-locator_if.ensures
+    (subst (λ (names : List (Bor (List ℕ))). SaidWithLists manner certs
+    (zip (texts names) (octets_of (from-at b (from-at a (below-of files)))))
+    c.deref-in-Ok-locator_if.result.now c.in-Ok-locator_if.locator (said c.check_listed.result))
+    c.deref-names.ensures.value c.check_listed.ensures))

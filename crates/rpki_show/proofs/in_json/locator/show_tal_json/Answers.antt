@@ -1,4 +1,4 @@
-use Rattle.std.proofs.Common.{ℕ, List, codes}
+use Rattle.std.proofs.Common.{codes}
 use Rattle.rpki_show.specs.Json.File.{file_json}
 use Rattle.rpki_show.specs.Json.Tal.{tal_members}
 use Rattle.rpki_show.proofs.Located.{shown-no-tal, shown-tal}

@@ -10,7 +10,7 @@ returns c =
     let l = c.args.list.now in
     let r = c.push_entries.result in
     let new = c.push_entries.new.text in
-    let entries = further_text (array_member (codes "revoked") revoked_value l.revoked) in
+    let entries = further_text (array_member (codes "revoked_certs") revoked_value l.revoked) in
     grown r c.args.text.now c.push_crl_number.new.text new
     (further_text (serial_member (codes "crl_number") l.extensions.number)) _ _
     c.in_ok-push_crl_number.ensures

@@ -1,8 +1,7 @@
 use Rattle.std.proofs.Common.{codes, refl, sym, append-nil}
-use Rattle.rpki_basics.specs.Serial.{serial_text}
-use Rattle.rpki_json.specs.Members.{further_text, text_member, array_member}
+use Rattle.rpki_json.specs.Members.{further_text, array_member}
 use Rattle.rpki_show.specs.Json.Manifest.{file_value}
-use Rattle.rpki_show.specs.Json.Named.{moment_member}
+use Rattle.rpki_show.specs.Json.Named.{serial_member, moment_member}
 use Rattle.rpki_show.proofs.Grown.{grown}
 use Rattle.rpki_show.proofs.json.manifest.push_manifest.Goals as goal
 
@@ -13,7 +12,7 @@ returns c =
     let new = c.push_files.new.text in
     let files = further_text (array_member (codes "files") file_value m.files) in
     grown r c.args.text.now c.push_manifest_number.new.text new
-    (further_text (text_member (codes "manifest_number") (serial_text m.number))) _ _
+    (further_text (serial_member (codes "manifest_number") m.number)) _ _
     c.in_ok-push_manifest_number.ensures
     (grown r c.push_manifest_number.new.text c.push_this.new.text new
     (further_text (moment_member (codes "this_update") m.this_update)) _ _
