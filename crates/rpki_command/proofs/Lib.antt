@@ -4,6 +4,7 @@ pub mod Holding
 pub mod Located
 pub mod Making
 pub mod Right
+pub mod Same
 pub mod Settled
 pub mod Untold
 pub mod Verified

@@ -1,4 +1,5 @@
 pub mod Alike
+pub mod Apart
 pub mod Asked
 pub mod Cutting
 pub mod Each
@@ -6,6 +7,7 @@ pub mod Good
 pub mod Indenting
 pub mod Issuing
 pub mod Judging
+pub mod Lined
 pub mod Listed
 pub mod Payloads
 pub mod Refused
@@ -13,7 +15,12 @@ pub mod Revoking
 pub mod Right
 pub mod RtaListed
 pub mod RtaSufficing
+pub mod Running
+pub mod RunningOne
 pub mod Settled
 pub mod Sufficing
+pub mod Supplying
+pub mod Told
+pub mod Unlisted
 pub mod Verifying
 pub mod Zipped

@@ -3,6 +3,7 @@ pub mod Check
 pub mod Command
 pub mod Held
 pub mod Rta
+pub mod Same
 pub mod Verify
 pub mod Walk
 pub mod Yes

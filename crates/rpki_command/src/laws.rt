@@ -1,9 +1,13 @@
 //! What the definitions say, as functions that do nothing.
 
-ghost use Rattle.std.specs.Prelude.{◌≡◌, ◌∷◌, ℕ, List};
+ghost use Rattle.std.specs.Prelude.{◌≡◌, ◌∷◌, ℕ, List, Ok, Err};
 ghost use Rattle.std.specs.List.{zip};
 ghost use Rattle.rpki_basics.specs.Moment.{Moment};
-ghost use Rattle.rpki_cli.specs.Answer.{Run};
+ghost use Rattle.rpki_certs.specs.Issuer.{MakesIssuer};
+ghost use Rattle.rpki_certs.specs.Validate.{Validated};
+ghost use Rattle.rpki_certs.specs.Verify.{Verdict};
+ghost use Rattle.rpki_certs.specs.declared.issuer.IssuerError.{IssuerError};
+ghost use Rattle.rpki_cli.specs.Answer.{Run, out_of_memory};
 ghost use Rattle.rpki_cli.specs.Command.{AreTold, IsRunOf, objects_language};
 ghost use Rattle.rpki_cli.specs.Language.{IsAsked};
 ghost use Rattle.rpki_cli.specs.Store.{Told};
@@ -11,7 +15,9 @@ ghost use Rattle.rpki_cli.specs.Words.{chain_in, names_in, paths_in, files_of_an
 ghost use Rattle.rpki_cli.specs.declared.words.Kind.{Kind};
 ghost use Rattle.rpki_cli.specs.declared.words.Kind.TheVariants.{Manifest};
 ghost use Rattle.rpki_cli.specs.declared.words.Options.{Options};
+ghost use Rattle.rpki_command.specs.Check.{issuer_refusal};
 ghost use Rattle.rpki_command.specs.Command.{objects_program};
+ghost use Rattle.rpki_command.specs.Same.{IsSameIssuer};
 ghost use Rattle.rpki_command.specs.Yes.{FilesOfCheck, in_order_with, check_order, walk_order};
 ghost use Rattle.rpki_command.specs.Yes.{IsRightWalk, rta_order, IsRightRta, IsRightNoRta};
 ghost use Rattle.rpki_command.specs.Yes.{IsRightYes, IsRightNo, HoldsByList};
@@ -19,10 +25,10 @@ ghost use Rattle.rpki_command.specs.Yes.{IsRightYes, IsRightNo, HoldsByList};
 /// Where a store tells the files of a check, a run of it that ends with status 0 says yes, and that
 /// rightly: FILE begins with a good object under the issuer that the certificates make by the
 /// verdicts, at this moment. Where a run ends with status 1, they make none, or FILE begins with no
-/// good object under it; what it prints then, `IsRunOf` says. That the two exclude each other isn't
-/// said here: the issuer is determined up to how its numbers are written. The store of the system's
-/// files tells nothing: the program is the same for every store, and these are the laws of those
-/// that tell.
+/// good object under it; what it prints then, `IsRunOf` says. The two exclude each other, though the
+/// issuer is determined only up to how its numbers are written (`yes_and_no_exclude_each_other`). The
+/// store of the system's files tells nothing: the program is the same for every store, and these are
+/// the laws of those that tell.
 pub fn checks_are_right()
     ensures yes { (told : Told) (words : List (List ℕ)) (before after : List (List ℕ)) (run : Run)
         (options : Options) (kind : Kind) (now : Moment) (names files : FilesOfCheck)
@@ -85,4 +91,25 @@ pub fn attestations_are_right()
         → AreTold told (file ∷ list ∷ files_of_anchors anchors) (object ∷ text ∷ octets)
         → run.status ≡ 1
         → HoldsByList (λ verdict. IsRightNoRta verdict now anchors object octets) text }
+{}
+
+/// The files of a chain of certificates make one issuer, or none: any two that they make by a
+/// verdict are the same certificate with the same numbers, whose blocks may be written in other
+/// ways; and where they make one, they are refused for nothing but want of memory.
+pub fn issuers_are_unique()
+    ensures same { (verdict : Verdict) (now : Moment) (anchor : List ℕ) (chain : List (List ℕ))
+        (v w : Validated) → MakesIssuer verdict now anchor chain (Ok v)
+        → MakesIssuer verdict now anchor chain (Ok w) → IsSameIssuer v w }
+    ensures refused { (verdict : Verdict) (now : Moment) (anchor : List ℕ) (chain : List (List ℕ))
+        (v : Validated) (fault : IssuerError) → MakesIssuer verdict now anchor chain (Ok v)
+        → MakesIssuer verdict now anchor chain (Err fault)
+        → issuer_refusal fault ≡ out_of_memory }
+{}
+
+/// A yes and a no of a check exclude each other, by each verdict: where the one is right, the other
+/// is not.
+pub fn yes_and_no_exclude_each_other()
+    ensures { (options : Options) (kind : Kind) (verdict : Verdict) (now : Moment)
+        (files : FilesOfCheck) (run : Run) → IsRightYes options kind verdict now files run
+        → ¬ IsRightNo options kind verdict now files }
 {}

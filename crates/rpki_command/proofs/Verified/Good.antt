@@ -326,7 +326,7 @@ no-issuer-none file (faults.Error (issuing.Validation (validation.Verification f
 no-issuer-none file (faults.OtherKey locator) = one
 no-issuer-none file (faults.Revoked list) = one
 
-no-issuer-said : (refusal : NoIssuer) (s : Output) → IsNoIssuerSaid refusal s → status_of s ≡ 0 → ⊥
+pub no-issuer-said : (refusal : NoIssuer) (s : Output) → IsNoIssuerSaid refusal s → status_of s ≡ 0 → ⊥
 no-issuer-said refusal s (inl e) zero = other-status s out_of_memory 0 zero e three
 no-issuer-said refusal s (inr e) zero =
     other-status s (no_issuer refusal.file.now refusal.fault) 0 zero e

@@ -66,7 +66,7 @@ use Rattle.rpki_command.proofs.Right.{other-status, of-row}
 use Rattle.rpki_command.proofs.Verified.Good.{of-cert}
 
 -- This is neither that memory ran out nor a yes.
-abbrev IsNo : Output → Type 0
+abbrev pub IsNo : Output → Type 0
 IsNo s = (¬ (s ≡ out_of_memory)) × (¬ (status_of s ≡ 0))
 
 three-not-one : ◌≡◌ {A = ℕ} 3 1 → ⊥
@@ -78,7 +78,7 @@ two-not-one n = omega (arith, n)
 zero-not-one : ◌≡◌ {A = ℕ} 0 1 → ⊥
 zero-not-one n = omega (arith, n)
 
-no-of-one : (s : Output) → status_of s ≡ 1 → IsNo s
+pub no-of-one : (s : Output) → status_of s ≡ 1 → IsNo s
 no-of-one s o = (
   λ e. other-status s out_of_memory 1 o e three-not-one,
   λ z. zero-not-one (sym z ∙ o),
@@ -89,10 +89,10 @@ not-printed text n e = search rules
 
 -- ---- several files
 
-any-here : {X : Type 0} (P : X → Type 0) (x : X) (xs : List X) → P x → Any P (x ∷ xs)
+pub any-here : {X : Type 0} (P : X → Type 0) (x : X) (xs : List X) → P x → Any P (x ∷ xs)
 any-here P x xs p = (0, x, omega arith, refl, p)
 
-any-later : {X : Type 0} (P : X → Type 0) (x : X) (xs : List X) → Any P xs → Any P (x ∷ xs)
+pub any-later : {X : Type 0} (P : X → Type 0) (x : X) (xs : List X) → Any P xs → Any P (x ∷ xs)
 any-later P x xs a = (suc a.0, a.1, omega (arith, a.2), a.3, a.4)
 
 not-zero : (n : ℕ) → (n == 0) ≡ false → n ≡ 0 → ⊥
@@ -123,7 +123,7 @@ module _ {K : Type 0} (P : GivenFile K → Output → Type 0) (Q : GivenFile K �
   of-entry : (f : GivenFile K) (e : Entry) → IsEntryOf P f e → ¬ (e.status ≡ 0) → Q f
   of-entry f e h n = more f (Printed e.text e.status) h.1 (not-printed e.text e.status, n)
 
-  each-refused : (files : List (GivenFile K)) (s : Output) → IsSaidOfEach P files s → IsNo s
+  pub each-refused : (files : List (GivenFile K)) (s : Output) → IsSaidOfEach P files s → IsNo s
       → Any Q files
   each-refused [] s h n = printed-refused (IsEntryOf P) Q of-entry entry_text [] s h n
   each-refused (f ∷ []) s h n = any-here Q f [] (more f s h n)
@@ -143,7 +143,7 @@ module _ {K : Type 0} (P : GivenFile K → Output → Type 0) (Q : GivenFile K �
   of-line reasons type f e h n = more f h.answer h.is
       (line-no reasons f.name (type f.kind) h.answer e.text e.status h.line n)
 
-  json-refused : (reasons : Reasons) (type : K → List ℕ) (files : List (GivenFile K))
+  pub json-refused : (reasons : Reasons) (type : K → List ℕ) (files : List (GivenFile K))
       (s : Output) → IsSaidInJson reasons type P files s → IsNo s → Any Q files
   json-refused reasons type files s h n = printed-refused (IsLineOf reasons type P) Q
       (of-line reasons type) (λ (e : Entry). e.text) files s h n
@@ -156,7 +156,7 @@ middle P [] x after h = All-head P x after h
 middle P (y ∷ before) x after h =
     middle P before x after (All-tail P y (before ++ x ∷ after) h)
 
-not-unrevoked : (verdict : Verdict) (lists : List GivenList) (issuer c : Certificate)
+pub not-unrevoked : (verdict : Verdict) (lists : List GivenList) (issuer c : Certificate)
     (name : List ℕ) → IsRevokedBy verdict lists issuer c name
     → ¬ IsUnrevoked verdict lists issuer c
 not-unrevoked verdict lists issuer c name r all =

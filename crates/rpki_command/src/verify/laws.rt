@@ -2,6 +2,8 @@
 
 pub mod checks;
 pub mod issuers;
+pub mod runs;
+pub mod unlisted;
 
 ghost use Rattle.std.specs.Prelude.{◌≡◌, ◌<◌, ◌^◌, ◌↔◌, ℕ, List, ◌∷◌, length, true, Option, Some};
 ghost use Rattle.std.specs.Prelude.{Result, Ok, Contains, map};
