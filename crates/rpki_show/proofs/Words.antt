@@ -33,8 +33,9 @@ use Rattle.rpki_show.specs.Json.Aspa.{asn_value, aspa_members}
 use Rattle.rpki_show.specs.Json.Blocks.{as_value, ip_value, inherited_member}
 use Rattle.rpki_show.specs.Json.Certificate.{authority_members, key_members, issued_members}
 use Rattle.rpki_show.specs.Json.Certificate.{access_members, location_members, as_claim_members}
-use Rattle.rpki_show.specs.Json.Certificate.{ip_claim_members, claim_members, signer_members}
-use Rattle.rpki_show.specs.Json.Certificate.{certificate_members, is_ca}
+use Rattle.rpki_show.specs.Json.Certificate.{ip_claim_members, claims_under, signer_members}
+use Rattle.rpki_show.specs.Json.Certificate.{certificate_members, is_ca, claim_members, signer_claim_members}
+use Rattle.rpki_show.specs.Json.Certificate.{facts_members}
 use Rattle.rpki_show.specs.Json.Crl.{revoked_value, crl_members}
 use Rattle.rpki_show.specs.Json.File.{file_json, file_members}
 use Rattle.rpki_show.specs.Json.Manifest.{file_value, manifest_members}
@@ -177,9 +178,9 @@ location-words l =
     (joined (text_members (codes "notify_url") a.rpki_notify) _ notify object)))
     (joined (text_members (codes "aia") l.ca_issuer) _ issuer crl)
 
-signer-words : (c : Certificate) → Words (signer_members c)
-unfolding signer_members
-signer-words c =
+facts-words : (c : Certificate) → Words (facts_members c)
+unfolding facts_members
+facts-words c =
     let x = c.tbs.extensions in
     joined (issued_members c.tbs) (key_members x.key ++ location_members x.locations)
     (issued-words c.tbs)
@@ -191,11 +192,12 @@ inherited-words : (name : List ℕ) → HasWords (inherited_member name).value
 unfolding inherited_member
 inherited-words name = (tt, tt)
 
-as-claim-words : (claim : Claim (List (Block ℕ))) → Words (as_claim_members claim)
+as-claim-words : (name : List ℕ) (claim : Claim (List (Block ℕ)))
+    → Words (as_claim_members name claim)
 unfolding as_claim_members
-as-claim-words Missing = tt
-as-claim-words Inherit = (inherited-words (codes "asns"), tt)
-as-claim-words (Explicit set) = (each as_value (λ b. tt) (map as_block set), tt)
+as-claim-words name Missing = tt
+as-claim-words name Inherit = (inherited-words name, tt)
+as-claim-words name (Explicit set) = (each as_value (λ b. tt) (map as_block set), tt)
 
 ip-claim-words : (name : List ℕ) (family : AddressFamily) (claim : Claim (List (Block ℕ)))
     → Words (ip_claim_members name family claim)
@@ -205,23 +207,30 @@ ip-claim-words name family Inherit = (inherited-words name, tt)
 ip-claim-words name family (Explicit set) =
     (each (ip_value family) (λ b. tt) (map ip_block set), tt)
 
-claim-words : (c : Claims) → Words (claim_members c)
-claim-words c =
-    let v4 = ip_claim_members (codes "ipv4") Ipv4 c.addresses.v4 in
-    let v6 = ip_claim_members (codes "ipv6") Ipv6 c.addresses.v6 in
-    joined (as_claim_members c.as_numbers) (v4 ++ v6) (as-claim-words c.as_numbers)
-    (joined v4 v6 (ip-claim-words (codes "ipv4") Ipv4 c.addresses.v4)
-    (ip-claim-words (codes "ipv6") Ipv6 c.addresses.v6))
+claim-words : (asns ipv4 ipv6 : List ℕ) (c : Claims) → Words (claims_under asns ipv4 ipv6 c)
+claim-words asns ipv4 ipv6 c =
+    let v4 = ip_claim_members ipv4 Ipv4 c.addresses.v4 in
+    let v6 = ip_claim_members ipv6 Ipv6 c.addresses.v6 in
+    joined (as_claim_members asns c.as_numbers) (v4 ++ v6) (as-claim-words asns c.as_numbers)
+    (joined v4 v6 (ip-claim-words ipv4 Ipv4 c.addresses.v4)
+    (ip-claim-words ipv6 Ipv6 c.addresses.v6))
 
 pub certificate-words : (c : Certificate) → Words (certificate_members c)
 unfolding certificate_members
 certificate-words c =
     let x = c.tbs.extensions in
-    joined (signer_members c)
+    joined (facts_members c)
     (boolean_member (codes "ca") (is_ca x.key.basic_ca) ∷ claim_members x.claims)
-    (signer-words c) (tt, claim-words x.claims)
+    (facts-words c) (tt, claim-words (codes "asns") (codes "ipv4") (codes "ipv6") x.claims)
 
 -- ---- what is signed, lists and locators
+
+signer-words : (c : Certificate) → Words (signer_members c)
+unfolding signer_members
+signer-words c =
+    let claims = c.tbs.extensions.claims in
+    joined (facts_members c) (signer_claim_members claims) (facts-words c)
+    (claim-words (codes "cert_asns") (codes "cert_ipv4") (codes "cert_ipv6") claims)
 
 pub signed-words : (o : SignedObject) → Words (signed_members o)
 signed-words o = (

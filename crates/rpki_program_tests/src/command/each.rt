@@ -116,7 +116,8 @@ const SHOWN: Output = Output {
     status: 0,
     out: "roa\nas AS64496\norigin 192.0.2.0/24-26\norigin 2001:db8::/32-48\n\
         signing 2026-11-01T00:00:00Z\nee 1 D499B0BF9D1519CFF7E9C67B077CDAECD7CBCA67\n\
-        serial 01\nvalid-from 2026-01-01T00:00:00Z\nvalid-until 2040-01-01T00:00:00Z\n\
+        certificate\nserial 01\nvalid-from 2026-01-01T00:00:00Z\n\
+        valid-until 2040-01-01T00:00:00Z\n\
         key-id D499B0BF9D1519CFF7E9C67B077CDAECD7CBCA67\n\
         authority-key-id C78637259551E49913A293A978985D33FBECF9C1\nee\n\
         signed-object rsync://rpki.example.net/authority/origin.roa\n\

@@ -59,7 +59,7 @@ pub const MALFORMED: Output = Output {
 };
 
 /// What is said of a file that is not there.
-const CANNOT_READ: Output = Output {
+pub const CANNOT_READ: Output = Output {
     status: 2,
     out: "",
     err: "cannot read other\n",

@@ -48,11 +48,12 @@ is_ca (Some true) = true
 is_ca (Some false) = false
 is_ca None = false
 
--- a claim of AS numbers: nothing where it is missing, or that it is inherited, or the blocks
-unfoldable pub as_claim_members : Claim (List (Block ℕ)) → List Member
-as_claim_members Missing = []
-as_claim_members Inherit = inherited_member (codes "asns") ∷ []
-as_claim_members (Explicit set) = as_member (codes "asns") set ∷ []
+-- a claim of AS numbers under this name: nothing where it is missing, or that it is inherited, or
+-- the blocks
+unfoldable pub as_claim_members : List ℕ → Claim (List (Block ℕ)) → List Member
+as_claim_members name Missing = []
+as_claim_members name Inherit = inherited_member name ∷ []
+as_claim_members name (Explicit set) = as_member name set ∷ []
 
 -- a claim of addresses of a family under this name
 unfoldable pub ip_claim_members : List ℕ → AddressFamily → Claim (List (Block ℕ)) → List Member
@@ -60,19 +61,30 @@ ip_claim_members name family Missing = []
 ip_claim_members name family Inherit = inherited_member name ∷ []
 ip_claim_members name family (Explicit set) = ip_member name family set ∷ []
 
--- the AS numbers, the IPv4 and the IPv6 addresses that are claimed
+-- the AS numbers, the IPv4 and the IPv6 addresses that are claimed, under these names
+abbrev pub claims_under : List ℕ → List ℕ → List ℕ → Claims → List Member
+claims_under asns ipv4 ipv6 c = as_claim_members asns c.as_numbers
+    ++ (ip_claim_members ipv4 Ipv4 c.addresses.v4 ++ ip_claim_members ipv6 Ipv6 c.addresses.v6)
+
+-- the numbers that a certificate claims
 abbrev pub claim_members : Claims → List Member
-claim_members c = as_claim_members c.as_numbers
-    ++ (ip_claim_members (codes "ipv4") Ipv4 c.addresses.v4
-    ++ ip_claim_members (codes "ipv6") Ipv6 c.addresses.v6)
+claim_members = claims_under (codes "asns") (codes "ipv4") (codes "ipv6")
+
+-- those of a signer's certificate, under other names than the numbers that a checklist names
+abbrev pub signer_claim_members : Claims → List Member
+signer_claim_members = claims_under (codes "cert_asns") (codes "cert_ipv4") (codes "cert_ipv6")
 
 -- the serial number and the validity, and what the extensions say of keys and of places
-unfoldable pub signer_members : Certificate → List Member
-signer_members c = issued_members c.tbs
+unfoldable pub facts_members : Certificate → List Member
+facts_members c = issued_members c.tbs
     ++ (key_members c.tbs.extensions.key ++ location_members c.tbs.extensions.locations)
+
+-- the same of the certificate of a signer, and its numbers
+unfoldable pub signer_members : Certificate → List Member
+signer_members c = facts_members c ++ signer_claim_members c.tbs.extensions.claims
 
 -- the same, whether its subject is a CA, and the numbers
 unfoldable pub certificate_members : Certificate → List Member
-certificate_members c = signer_members c
+certificate_members c = facts_members c
     ++ (boolean_member (codes "ca") (is_ca c.tbs.extensions.key.basic_ca)
     ∷ claim_members c.tbs.extensions.claims)

@@ -5,7 +5,7 @@ use Rattle.rpki_basics.specs.Serial.{serial_text}
 use Rattle.rpki_basics.specs.Time.Form.{iso_text}
 use Rattle.rpki_certs.specs.Cert.{Certificate}
 use Rattle.rpki_der.specs.Text.Hex.{upper_hex}
-use Rattle.rpki_show.specs.Texts.Certificate.{facts_text}
+use Rattle.rpki_show.specs.Texts.Certificate.{certificate_text}
 use Rattle.rpki_sigobj.specs.Signed.{Whole}
 
 -- the line of the moment at which it was signed, by what the signer says
@@ -25,6 +25,6 @@ object_text text o =
     text o.content ++ (signing_line o.object.signed.signer.attributes.signing_time
     ++ signer_line o.object.signed.cert)
 
--- the same, and then what the certificate of the signer says
+-- the same, and then the lines of the certificate of the signer
 abbrev pub whole_text : {X : Type 0} → (X → List ℕ) → Whole X → List ℕ
-whole_text text o = object_text text o ++ facts_text o.object.signed.cert
+whole_text text o = object_text text o ++ certificate_text o.object.signed.cert

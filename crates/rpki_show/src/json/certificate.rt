@@ -5,9 +5,10 @@ ghost use Rattle.std.specs.List.{flat_map};
 ghost use Rattle.rpki_json.specs.Grows.{Grows};
 ghost use Rattle.rpki_json.specs.Members.{further_text};
 ghost use Rattle.rpki_show.specs.Json.Certificate.{certificate_members, signer_members};
+ghost use Rattle.rpki_show.specs.Json.Certificate.{facts_members};
 ghost use Rattle.rpki_show.specs.Json.Certificate.{issued_members, key_members, access_members};
 ghost use Rattle.rpki_show.specs.Json.Certificate.{authority_members, location_members, is_ca};
-ghost use Rattle.rpki_show.specs.Json.Certificate.{claim_members, as_claim_members};
+ghost use Rattle.rpki_show.specs.Json.Certificate.{claims_under, as_claim_members};
 ghost use Rattle.rpki_show.specs.Json.Certificate.{ip_claim_members};
 ghost use Rattle.rpki_show.specs.Json.Named.{serial_member, moment_member, text_members};
 
@@ -19,7 +20,7 @@ use rpki_json::push_boolean;
 use rpki_resources::{AddressFamily, AsResources, Claim, IpResources};
 use std::alloc::{AllocError, Global};
 
-/// Appends the members of a certificate: those of `push_signer`, `ca`, and `asns`, `ipv4` and
+/// Appends the members of a certificate: those of `push_facts`, `ca`, and `asns`, `ipv4` and
 /// `ipv6`, each of them an array of blocks or of the word `inherit`, where it is claimed. Refuses
 /// where memory runs out.
 #[tactic(auto, unfolding(crate::specs::Json::Certificate::certificate_members))]
@@ -27,9 +28,9 @@ pub fn push_certificate(alloc: Global, text: &mut String, cert: &Cert) -> Result
     ensures { Grows result text.old text.new
         (flat_map further_text (certificate_members cert.now.certificate)) }
 {
-    push_signer(alloc, text, cert)?;
+    push_facts(alloc, text, cert)?;
     push_boolean(text, "ca", is_ca(cert.basic_ca()))?;
-    push_claims(alloc, text, cert)
+    push_claims(alloc, text, "asns", "ipv4", "ipv6", cert)
 }
 
 /// Whether its subject is a CA.
@@ -43,13 +44,24 @@ fn is_ca(basic_ca: Option<bool>) -> bool
     }
 }
 
-/// Appends the members of a certificate that signed something: `cert_serial`, `valid_since`,
-/// `valid_until`, `ski`, `aki`, and where something lies: `carepository`, `manifest`, `notify_url`,
-/// `sia`, `aia` and `crl`, each where there is one. Refuses where memory runs out.
+/// Appends the members of a certificate that signed something: those of `push_facts`, and
+/// `cert_asns`, `cert_ipv4` and `cert_ipv6` for its numbers, as `push_certificate` has them. Refuses
+/// where memory runs out.
 #[tactic(auto, unfolding(crate::specs::Json::Certificate::signer_members))]
 pub fn push_signer(alloc: Global, text: &mut String, cert: &Cert) -> Result<(), AllocError>
     ensures { Grows result text.old text.new
         (flat_map further_text (signer_members cert.now.certificate)) }
+{
+    push_facts(alloc, text, cert)?;
+    push_claims(alloc, text, "cert_asns", "cert_ipv4", "cert_ipv6", cert)
+}
+
+/// Appends `cert_serial`, `valid_since`, `valid_until`, `ski`, `aki`, and where something lies:
+/// `carepository`, `manifest`, `notify_url`, `sia`, `aia` and `crl`, each where there is one.
+#[tactic(auto, unfolding(crate::specs::Json::Certificate::facts_members))]
+fn push_facts(alloc: Global, text: &mut String, cert: &Cert) -> Result<(), AllocError>
+    ensures { Grows result text.old text.new
+        (flat_map further_text (facts_members cert.now.certificate)) }
 {
     push_issued(alloc, text, cert)?;
     push_keys(alloc, text, cert)?;
@@ -184,38 +196,38 @@ fn push_crl_uri(text: &mut String, cert: &Cert) -> Result<(), AllocError>
     push_rsync(text, "crl", cert.crl_uri())
 }
 
-/// Appends the numbers that are claimed.
-fn push_claims(alloc: Global, text: &mut String, cert: &Cert) -> Result<(), AllocError>
-    ensures { Grows result text.old text.new
-        (flat_map further_text (claim_members cert.now.certificate.tbs.extensions.claims)) }
+/// Appends the numbers that are claimed, under these names.
+fn push_claims(
+    alloc: Global,
+    text: &mut String,
+    asns: &str,
+    ipv4: &str,
+    ipv6: &str,
+    cert: &Cert,
+) -> Result<(), AllocError>
+    ensures { Grows result text.old text.new (flat_map further_text (claims_under asns.now ipv4.now
+        ipv6.now cert.now.certificate.tbs.extensions.claims)) }
 {
-    push_as_claim(alloc, text, cert.as_resources())?;
-    push_ip_claim(
-        alloc,
-        text,
-        "ipv4",
-        AddressFamily::Ipv4,
-        cert.v4_resources(),
-    )?;
-    push_ip_claim(
-        alloc,
-        text,
-        "ipv6",
-        AddressFamily::Ipv6,
-        cert.v6_resources(),
-    )
+    push_as_claim(alloc, text, asns, cert.as_resources())?;
+    push_ip_claim(alloc, text, ipv4, AddressFamily::Ipv4, cert.v4_resources())?;
+    push_ip_claim(alloc, text, ipv6, AddressFamily::Ipv6, cert.v6_resources())
 }
 
 /// Appends the AS numbers.
 #[tactic(auto, unfolding(crate::specs::Json::Certificate::as_claim_members))]
-fn push_as_claim(alloc: Global, text: &mut String, claim: &AsResources) -> Result<(), AllocError>
+fn push_as_claim(
+    alloc: Global,
+    text: &mut String,
+    name: &str,
+    claim: &AsResources,
+) -> Result<(), AllocError>
     ensures { Grows result text.old text.new
-        (flat_map further_text (as_claim_members claim.now)) }
+        (flat_map further_text (as_claim_members name.now claim.now)) }
 {
     match claim.claim() {
         Claim::Missing => Ok(()),
-        Claim::Inherit => push_inherited(text, "asns"),
-        Claim::Explicit(blocks) => push_as_blocks(alloc, text, "asns", blocks),
+        Claim::Inherit => push_inherited(text, name),
+        Claim::Explicit(blocks) => push_as_blocks(alloc, text, name, blocks),
     }
 }
 

@@ -15,7 +15,7 @@ use rpki_sigobj::Signed;
 use std::alloc::{AllocError, Global};
 
 /// Appends the members of a signed object: those of its content, `signing_time`, and those of its
-/// signer's certificate but for the numbers. Refuses where memory runs out.
+/// signer's certificate. Refuses where memory runs out.
 pub fn push_object<C: Lines>(
     alloc: Global,
     text: &mut String,

@@ -27,7 +27,7 @@ pub fn push_certificate(alloc: Global, text: &mut String, cert: &Cert) -> Result
 }
 
 /// Appends the lines of a certificate after that of its kind. Refuses where memory runs out.
-pub fn push_facts(alloc: Global, text: &mut String, cert: &Cert) -> Result<(), AllocError>
+fn push_facts(alloc: Global, text: &mut String, cert: &Cert) -> Result<(), AllocError>
     ensures { Grows result text.old text.new (facts_text cert.now.certificate) }
 {
     push_issued(alloc, text, cert)?;

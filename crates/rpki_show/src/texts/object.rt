@@ -5,7 +5,7 @@ ghost use Rattle.rpki_show.specs.Grows.{Grows};
 ghost use Rattle.rpki_show.specs.Texts.Object.{object_text, signing_line, signer_line, whole_text};
 
 use crate::kinds::Lines;
-use crate::texts::certificate::push_facts;
+use crate::texts::certificate::push_certificate;
 use rpki_basics::Time;
 use rpki_certs::Cert;
 use rpki_sigobj::Signed;
@@ -31,7 +31,7 @@ pub fn push_whole<C: Lines>(
     ensures { Grows result text.old text.new (whole_text C.lines (whole_of object.now)) }
 {
     push_object(text, object)?;
-    push_facts(alloc, text, object.cert())
+    push_certificate(alloc, text, object.cert())
 }
 
 /// Appends the line of the moment of signing.
