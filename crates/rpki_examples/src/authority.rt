@@ -47,6 +47,7 @@ ghost use Rattle.rpki_examples.specs.declared.authority.IssueError.TheVariants.{
 
 use crate::received::verify_unrevoked;
 use bytes::Bytes;
+use rpki::aspa::laws::built_aspas_are_valid;
 use rpki::aspa::{AspaBuilder, ProviderLimit};
 use rpki::cert::laws::valid_anchors;
 use rpki::cert::{Cert, ResourceCert, TbsCert};
@@ -56,13 +57,12 @@ use rpki::crypto::laws::stand_in_verdicts;
 use rpki::crypto::{Crypto, Signer, SigningError};
 use rpki::der::{DecodeError, EncodeError};
 use rpki::error::ValidationError;
+use rpki::manifest::laws::built_manifests_are_valid;
 use rpki::manifest::{ManifestContent, ManifestRule};
 use rpki::roa::RoaBuilder;
-use rpki::roa::laws::claims_of_addresses;
+use rpki::roa::laws::{built_roas_are_valid, claims_of_addresses};
 use rpki::sigobj::{Content, Signed, SignedObjectBuilder};
 use rpki::x509::Time;
-use rpki_files::laws::built_manifests_are_valid;
-use rpki_routes::laws::{built_aspas_are_valid, built_roas_are_valid};
 use std::alloc::Global;
 use std::marker::Model;
 

@@ -21,13 +21,13 @@ use crate::authority::{self, Checker, IssueError};
 use bytes::Bytes;
 use rpki::aspa::{AspaBuilder, ProviderLimit};
 use rpki::cert::{ResourceCert, TbsCert};
+use rpki::crl::laws::pushed_are_revoked;
 use rpki::crl::{Crl, CrlBuilder};
 use rpki::crypto::standin::{Refused, StandIn, StandInSigner};
 use rpki::manifest::ManifestContent;
 use rpki::roa::RoaBuilder;
 use rpki::sigobj::SignedObjectBuilder;
 use rpki::x509::Time;
-use rpki_issued_crls::laws::pushed_are_revoked;
 use std::alloc::Global;
 
 /// A content, and the builder of the object that is to carry it.
