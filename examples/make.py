@@ -407,8 +407,17 @@ def agreed(name, ca, cas, prefixes, revoked=(), is_broken=False):
     return made
 
 
+def held(name, ca, customer):
+    """An attestation of the numbers of a holder alone, under one chain."""
+    made = Attested(name, ca.verdicts, [customer])
+    made.add_signer(customer, HOLDER)
+    made.add_crl(customer, ())
+    made.sign(HOLDER.numbers, HOLDER.prefixes, b"a holding\n")
+    return made
+
+
 def attestations(ca, second):
-    """One attestation that is good, and three that are refused."""
+    """Two attestations that are good, and three that are refused."""
     member = Authority("member", second, MEMBER, f"{second.folder}/member.cer")
     serial = second.count
     customer = Authority("customer", ca, Claim(INHERIT, INHERIT), f"{ca.folder}/customer.cer")
@@ -417,6 +426,7 @@ def attestations(ca, second):
     yield agreed("broken.rta", ca, cas, prefixes, is_broken=True)
     yield agreed("overclaiming.rta", ca, cas, [NET4, *prefixes])
     yield agreed("revoked.rta", ca, cas, prefixes, revoked=[serial])
+    yield held("holding.rta", ca, customer)
 
 
 def published(ca, files):
