@@ -1,6 +1,8 @@
 #!/usr/bin/env python3
 """Writes a module of tests that checks files of examples/ in one call, with a locator and with
 revocation lists, which `examples/make.py` makes here with the keys of the examples."""
+import hashlib
+import json
 import pathlib
 import runpy
 import textwrap
@@ -15,6 +17,7 @@ use super::runs::{Output, ROOM};
 use rpki_basics::Time;
 use rpki_cli::answer::say;
 use rpki_cli::verify::check_settings::CheckSettings;
+use rpki_cli::verify::requests::ObjectKind;
 use rpki_cli::verify::words::When;
 use rpki_cli::words::{Kind, Options};
 use rpki_command::verify::checks::check_each;
@@ -33,6 +36,7 @@ struct Given<'a> {
     cas: &'a [File<'a>],
     tal: &'a [File<'a>],
     crls: &'a [File<'a>],
+    json: bool,
 }
 
 /// The names of files, whose octets are appended.
@@ -54,7 +58,7 @@ fn is_said(
     rt: &(impl Abort + AllocGlobal),
     moment: Time,
     given: &Given<'_>,
-    kinds: &[Kind],
+    kinds: &[ObjectKind],
     objects: &[File<'_>],
     wanted: &Output<'_>,
 ) -> Result<(), AllocError> {
@@ -67,11 +71,12 @@ fn is_said(
     let options = Options { relaxed: false, registered: false, wide: false };
     let at = When::Now;
     let ta = given.ta.0;
-    let settings = CheckSettings { kind: None, at, ta, tal, cas, crls, json: false, options, files };
+    let json = given.json;
+    let settings = CheckSettings { kind: None, at, ta, tal, cas, crls, json, options, files };
     assert_eq!(rt; kinds.len(), settings.files.len());
     let count = 1 + settings.cas.len() + settings.crls.len() + settings.files.len();
     assert!(rt; octets.len() >= count);
-    let answer = check_each(rt.alloc(), &settings, kinds, moment, &octets);
+    let answer = check_each(rt.alloc(), options, &settings, kinds, moment, &octets);
     let mut out = Counted::new(Vec::with_capacity(rt.alloc(), ROOM)?);
     let mut err = Counted::new(Vec::with_capacity(rt.alloc(), ROOM)?);
     let status = say(&answer, &mut out, &mut err);
@@ -90,6 +95,24 @@ ROA, ASPA, RSC, MANIFEST = (f"yes\n{SHOWN[name]}" for name in ("ROA", "ASPA", "R
 BROKEN = "refused: signature is not valid\n"
 EXPIRED = "refused: certificate has expired\n"
 OVERCLAIMING = "refused: overclaimed IPv4 resources\n"
+NOT_SIGNED = {"valid": False, "error": "refused: signature is not valid"}
+KEY = ISSUERS["MAKE"]["Signer"]("holding.rta customer").id.hex().upper()
+DIGEST = hashlib.sha256(b"a holding\n").hexdigest()
+HOLDING = (f"rta\nkey {KEY}\nas AS64500-AS64503\nv4 198.51.100.0/25\nv6 2001:db8:100::/40\n"
+           f"digest {DIGEST}\n")
+ATTESTED = {"keys": [KEY], "asns": ["AS64500-AS64503"], "ipv4": ["198.51.100.0/25"],
+            "ipv6": ["2001:db8:100::/40"], "digest": DIGEST}
+PROVIDERS = {"valid": True, "customer": "AS64496", "providers": ["AS64497", "AS64511"]}
+
+
+def kind_of(name):
+    """The kind of an object, by its name here."""
+    return "ObjectKind::Rta" if name == "holding" else f"ObjectKind::Signed(Kind::{KINDS.get(name, 'Roa')})"
+
+
+def in_json(name, kind, said):
+    """The line of a file in JSON."""
+    return json.dumps({"file": name, "type": kind, **said}) + "\n"
 
 
 def under(name, said):
@@ -139,6 +162,21 @@ ROWS = [
      (1, under("aspa", ASPA) + under("roa", "refused: revoked by roa.crl\n") + under("rsc", RSC), ""),
      {"crls": ["roa.crl"], "tal": ["tal"]}),
     (["roa", "roa"], (0, 2 * under("roa", ROA), ""), {}),
+    # an attestation, whose lists are those that it carries
+    (["holding"], (0, f"yes\n{HOLDING}", ""), {}),
+    (["holding"], (0, f"yes\n{HOLDING}", ""), {"crls": ["all.crl"]}),
+    (["holding"], (1, "issuer refused: authority: revoked by anchor2.crl\n", ""), {"crls": ["anchor2.crl"]}),
+    (["holding"], (1, "refused: RTA could not be validated\n", ""), {"cas": []}),
+    (["roa", "holding"], (0, under("roa", ROA) + under("holding", f"yes\n{HOLDING}"), ""), {}),
+    # in JSON
+    (["broken", "anchor"],
+     (1, in_json("broken", "roa", NOT_SIGNED) + in_json("anchor", "roa", {"valid": False, "error": "malformed"}), ""),
+     {"json": True}),
+    (["aspa"], (0, in_json("aspa", "aspa", PROVIDERS), ""), {"json": True}),
+    (["holding"], (0, in_json("holding", "rta", {"valid": True, **ATTESTED}), ""), {"json": True}),
+    (["roa"], (1, in_json("roa", "roa", {"valid": False, "error": "issuer refused: roa: malformed"}), ""),
+     {"json": True, "cas": ["roa"]}),
+    (["roa"], (2, "", "bad list roa\n"), {"json": True, "crls": ["roa"]}),
     ([], (0, "", ""), {}),
 ]
 
@@ -151,12 +189,13 @@ def main():
         print("];\n")
     for at, (objects, (status, out, err), given) in enumerate(ROWS):
         year, month, day = given.get("moment", GOOD)
-        kinds = ", ".join(f"Kind::{KINDS.get(name, 'Roa')}" for name in objects)
+        kinds = ", ".join(map(kind_of, objects))
         print(f"#[test]\nfn row_{at}(rt: HostRuntime) -> Result<(), Fail> {{")
         print(f"    let Some(moment) = Time::utc({year}, {month}, {day}, 0, 0, 0) else {{ return Ok(()) }};")
         print(f"    let given = Given {{\n        ta: {file('anchor')},")
         for name, usual in (("cas", ["authority"]), ("tal", []), ("crls", [])):
             print(f"        {name}: {listing(given.get(name, usual))},")
+        print(f"        json: {str(given.get('json', False)).lower()},")
         print(f"    }};\n    let wanted = Output {{ status: {status}, out: {text(out)}, err: {text(err)} }};")
         print(f"    is_said(&rt, moment, &given, &[{kinds}], {listing(objects)}, &wanted)?;")
         print("    Ok(())\n}\n")

@@ -132,7 +132,8 @@ CUTS = [next(row for row in rows if kind in row[0]) for kind in KINDS for rows i
 
 
 def text(of):
-    return '"' + of.replace("\n", "\\n") + '"'
+    escaped = of.replace("\\", "\\\\").replace('"', '\\"').replace("\n", "\\n")
+    return f'"{escaped}"'
 
 
 def print_test(name, row, call):

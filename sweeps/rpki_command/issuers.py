@@ -132,7 +132,7 @@ def files():
     tree = dict(MAKE["tree"]())
     found = {name: tree[path] for name, path in SHOWN["FILES"].items() if not name.endswith(".verdicts")}
     found |= {"tal": tree["anchor.tal"], "second.tal": tree["second.tal"], "no.tal": b"none\n",
-              "second": tree["rpki.example.net/second.cer"],
+              "second": tree["rpki.example.net/second.cer"], "holding": tree["holding.rta"],
               "anchor.crl": tree["rpki.example.net/anchor/anchor.crl"],
               "authority.crl": tree["rpki.example.net/authority/authority.crl"]}
     # The same authorities as in the tree: their keys come from their names.

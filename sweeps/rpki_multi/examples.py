@@ -33,7 +33,9 @@ fn is_written(
     }
 }
 '''
-NAMES = "agreement", "broken", "overclaiming", "revoked"
+# How many certificates, revocation lists and signers each carries.
+AGREED = 5, 3, 2
+CARRIED = {"agreement": AGREED, "broken": AGREED, "holding": (2, 1, 1), "overclaiming": AGREED, "revoked": AGREED}
 
 
 def test(name, octets, carried):
@@ -47,8 +49,8 @@ def test(name, octets, carried):
 
 def main():
     print(HEAD)
-    for name in NAMES:
-        test(name, (TREE / f"{name}.rta").read_bytes(), (5, 3, 2))
+    for name, carried in CARRIED.items():
+        test(name, (TREE / f"{name}.rta").read_bytes(), carried)
 
 
 if __name__ == "__main__":

@@ -83,8 +83,8 @@ fn outcomes(rt: HostRuntime) -> Result<(), AllocError> {
 '''
 
 
-def signer(serial, ski, sia):
-    """The members of the certificate of a signer."""
+def signer(serial, ski, sia, **claims):
+    """The members of the certificate of a signer, which claims these numbers."""
     said = {"cert_serial": serial, "valid_since": "2026-01-01T00:00:00Z",
             "valid_until": "2040-01-01T00:00:00Z", "ski": ski,
             "aki": "C78637259551E49913A293A978985D33FBECF9C1"}
@@ -92,7 +92,7 @@ def signer(serial, ski, sia):
         said["sia"] = f"{HOST}/authority/{sia}"
     said["aia"] = f"{HOST}/anchor/authority.cer"
     said["crl"] = f"{HOST}/authority/authority.crl"
-    return said
+    return said | {f"cert_{name}": it for name, it in claims.items()}
 
 
 def certificate(serial, ski, aki, folder, manifest, above, asns, ipv4, ipv6):
@@ -184,20 +184,27 @@ OBJECTS = [
     ("rpki.example.net/authority/origin.roa", "Object(Kind::Roa)", "roa",
      {"vrps": [{"asn": "AS64496", "prefix": "192.0.2.0/24", "maxLength": 26},
                {"asn": "AS64496", "prefix": "2001:db8::/32", "maxLength": 48}]} | SIGNED
-     | signer("01", "D499B0BF9D1519CFF7E9C67B077CDAECD7CBCA67", "origin.roa")),
+     | signer("01", "D499B0BF9D1519CFF7E9C67B077CDAECD7CBCA67", "origin.roa",
+              ipv4=["192.0.2.0/24"], ipv6=["2001:db8::/32"])),
     ("rpki.example.net/authority/providers.asa", "Object(Kind::Aspa)", "aspa",
      {"customer": "AS64496", "providers": ["AS64497", "AS64511"]} | SIGNED
-     | signer("02", "ACB452912B9B562E3E26A1A9B016182187C22E41", "providers.asa")),
+     | signer("02", "ACB452912B9B562E3E26A1A9B016182187C22E41", "providers.asa",
+              asns=["AS64496"])),
     ("rpki.example.net/authority/authority.mft", "Object(Kind::Manifest)", "manifest",
      {"manifest_number": "01", "this_update": MOMENT, "next_update": "2036-01-01T00:00:00Z",
       "files": [{"filename": name, "hash": it} for name, it in HASHES]} | SIGNED
-     | signer("06", MANIFEST_KEY, "authority.mft")),
+     | signer("06", MANIFEST_KEY, "authority.mft", **INHERITED)),
     ("letter.sig", "Object(Kind::Rsc)", "rsc",
      {"asns": ["AS64496"], "ipv4": ["192.0.2.0/24"], "ipv6": [],
       "files": [{"filename": "letter.txt",
                  "hash": "5c8437e345f639d9940ed7d853023f6d069e923d7ab43a092591b9dbdefe1aeb"},
                 {"hash": "aee7b480ff51d4c93c72c1fc60aac4ab0187e4a1447d79d226198cb9dd4b2d4d"}]}
-     | SIGNED | signer("07", "1B95E79E269CA2092ABA65FB1D2FB3F9557D1C1A", None)),
+     | SIGNED | signer("07", "1B95E79E269CA2092ABA65FB1D2FB3F9557D1C1A", None,
+                       asns=["AS64496"], ipv4=["192.0.2.0/24"])),
+    ("holding.rta", "Rta", "rta",
+     {"keys": ["AC15A9E2F05691301C257BFEF6649F3AB7437791"], "asns": ["AS64500-AS64503"],
+      "ipv4": ["198.51.100.0/25"], "ipv6": ["2001:db8:100::/40"],
+      "digest": hashlib.sha256(b"a holding\n").hexdigest(), "certificates": 2, "crls": 1, "signers": 1}),
     ("agreement.rta", "Rta", "rta",
      {"keys": ["1A35C53323D25266354DB3F712B6E2D00DBDCF9C",
                "22C1F88A54BF57519EC5DE1FBA3C46609A8E4E42"],
@@ -223,7 +230,7 @@ REVOKED = {"crl_number": "0102", "this_update": "2026-01-01T00:00:00Z",
                              {"serial": "7F", "date": "2025-01-02T03:04:05Z"}]}
 WHOLE = ("aspa\ncustomer AS64496\nprovider AS64497\nprovider AS64511\n"
          f"signing {MOMENT}\nee 2 ACB452912B9B562E3E26A1A9B016182187C22E41\n"
-         "serial 02\nvalid-from 2026-01-01T00:00:00Z\nvalid-until 2040-01-01T00:00:00Z\n"
+         "certificate\nserial 02\nvalid-from 2026-01-01T00:00:00Z\nvalid-until 2040-01-01T00:00:00Z\n"
          "key-id ACB452912B9B562E3E26A1A9B016182187C22E41\n"
          f"authority-key-id {AUTHORITY_KEY}\nee\n"
          f"signed-object {AUTHORITY}providers.asa\nca-issuers {HOST}/anchor/authority.cer\n"
