@@ -350,13 +350,20 @@ def named(file, name):
     return f"a locator {file!r}", change
 
 
-def stops(word, error, octets=None):
+def stops(word, octets):
     """A word that names no locator ends it all."""
     def change(t):
-        if octets is not None:
-            t.tals["bad.tal"] = octets
-        t.words, t.found, t.status, t.error = ["tals/one.tal", word], None, 2, f"{error} {word}\n"
-    return f"{error}: {word}, {len(octets or b'')} octets", change
+        t.tals["bad.tal"] = octets
+        t.words, t.found, t.status, t.error = ["tals/one.tal", word], None, 2, f"bad locator {word}\n"
+    return f"bad locator {word}, {len(octets)} octets", change
+
+
+def unreadable(word, reason):
+    """So does one that names no file that can be read."""
+    def change(t):
+        t.words, t.found, t.status = ["tals/one.tal", word], None, 4
+        t.error = f"cannot read {word}: {reason}\n"
+    return f"cannot read {word}", change
 
 
 LOCATORS = [
@@ -379,8 +386,8 @@ LOCATORS = [
     located("https://a//x", "a/x"), located("https://a/", "x"), located("rsync://../x/y", "../x/y"),
     located("https://a/../x", "ta/one/x", True),
     named("...tal", ".."), named("..tal", "."), named(".tal", ""), named("one", "one"),
-    stops("tals/..", "cannot read"), stops("tals/none.tal", "cannot read"),
-    stops("tals/bad.tal", "bad locator", b""), stops("tals/bad.tal", "bad locator", ZEROS),
+    unreadable("tals/..", "is a folder"), unreadable("tals/none.tal", "no such file"),
+    stops("tals/bad.tal", b""), stops("tals/bad.tal", ZEROS),
 ]
 
 
