@@ -99,7 +99,8 @@ const SHOWN_IN_JSON: Output = Output {
         \"aki\": \"C78637259551E49913A293A978985D33FBECF9C1\", \
         \"sia\": \"rsync://rpki.example.net/authority/origin.roa\", \
         \"aia\": \"rsync://rpki.example.net/anchor/authority.cer\", \
-        \"crl\": \"rsync://rpki.example.net/authority/authority.crl\"}\n\
+        \"crl\": \"rsync://rpki.example.net/authority/authority.crl\", \
+        \"cert_ipv4\": [\"192.0.2.0/24\"], \"cert_ipv6\": [\"2001:db8::/32\"]}\n\
         {\"file\": \"other.roa\", \"type\": \"roa\", \"error\": \"malformed\"}\n\
         {\"file\": \"anchor.cer\", \"type\": \"certificate\", \"cert_serial\": \"01\", \
         \"valid_since\": \"2026-01-01T00:00:00Z\", \"valid_until\": \"2040-01-01T00:00:00Z\", \
