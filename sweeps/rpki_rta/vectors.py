@@ -23,7 +23,7 @@ from rta_compare import (  # noqa: E402
 TOP = 1
 MISSING, INHERIT = "missing", "inherit"
 NULL, TRUE = bytes.fromhex("0500"), bytes.fromhex("0101FF")
-YES = "yes"
+YES, ALL, NOT_ALL = "yes", "all", "not all"
 SAYS = {
     **TEXTS,
     "early": "certificate is not yet valid",
@@ -168,14 +168,16 @@ class Row:
     """An attestation, what is supplied, and what is to be answered.
 
     `signers` are keys, or Signers that sign with another key or of another content; the subject
-    keys are theirs where none are given."""
+    keys are theirs where none are given. `turns` is what each supply answers where refused ones are
+    gone past, and what is answered in the end."""
 
     def __init__(self, name, what, answer, *, asn=(), v4=(), v6=(), signers=(), keys=None,
-                 certs=(), crls=(), supplies=(), asked=None):
+                 certs=(), crls=(), supplies=(), asked=None, turns=()):
         self.name, self.what, self.answer, self.supplies = name, what, answer, list(supplies)
         self.signers = [it if isinstance(it, Signer) else Signer(it, it) for it in signers]
         self.keys = [it.sid for it in self.signers] if keys is None else list(keys)
         self.certs, self.crls, self.asked = list(certs), list(crls), asked
+        self.turns = ", ".join(turns)
         self.sets = asn, v4, v6
 
     def octets(self):
@@ -304,36 +306,56 @@ def anchored():
               certs=chain, supplies=[Located(3)], **own)
     yield Row("carried_anchor_signature",
               f"{what}, which another key signed; the locator of its key", SAYS["signature"],
-              certs=[chain[0], ca(2, 2, r(1, 9), signer=3)], supplies=[Located(2)], **own)
+              certs=[chain[0], ca(2, 2, r(1, 9), signer=3)], supplies=[Located(2)],
+              turns=(SAYS["signature"], SAYS["open"]), **own)
     yield Row("carried_anchor_named", f"{what}, which names its own identifier as its issuer's",
               YES, certs=[chain[0], ca(2, 2, r(1, 9), aki=2)], supplies=[Located(2)], **own)
     yield Row("other_tal_then_right", f"{what}; a locator of another key, then the right one", YES,
-              certs=chain, supplies=[Located(3), Located(2)], **own)
+              certs=chain, supplies=[Located(3), Located(2)], turns=(NOT_ALL, ALL, YES), **own)
     yield Row("ca_at_anchor", f"{what}; a CA of its key is supplied, and no locator", SAYS["open"],
-              certs=chain, supplies=[Supplied(r(1, 9), key=2)], **own)
+              certs=chain, supplies=[Supplied(r(1, 9), key=2)],
+              turns=(NOT_ALL, SAYS["open"]), **own)
     yield Row("anchor_alone", f"{what}; no supply", SAYS["open"], certs=chain, **own)
     direct = dict(asn=r(5), signers=[10], certs=[ee(10, TOP, r(5))])
     yield Row("no_supplies", "one signer, no supplies", SAYS["open"], **direct)
     yield Row("tal_at_issued", "one signer under a supplied CA; the locator of that CA's key",
               SAYS["open"], supplies=[Located(TOP)], **direct)
     yield Row("other_ca_then_right", "a CA of another key, then the right one", YES,
-              supplies=[Supplied(r(1, 9), key=3), Supplied(r(1, 9))], **direct)
+              supplies=[Supplied(r(1, 9), key=3), Supplied(r(1, 9))], turns=(NOT_ALL, ALL, YES),
+              **direct)
     yield Row("right_twice", "the right CA, and again with less", YES,
-              supplies=[Supplied(r(1, 9)), Supplied(r(1, 2))], **direct)
+              supplies=[Supplied(r(1, 9)), Supplied(r(1, 2))], turns=(ALL, ALL, YES), **direct)
     yield Row("less_then_right", "a CA of the right key with too little, then the right one",
-              SAYS["as"], supplies=[Supplied(r(1, 2)), Supplied(r(1, 9))], **direct)
+              SAYS["as"], supplies=[Supplied(r(1, 2)), Supplied(r(1, 9))],
+              turns=(SAYS["as"], ALL, YES), **direct)
     yield Row("identifier_of_supplied", "the EE names the supplied CA, and another key signed it",
               SAYS["open"], asn=r(5), signers=[10], certs=[ee(10, TOP, r(5), signer=3)],
               supplies=[Supplied(r(1, 9))])
-    yield Row("first_is_anchored", "EE Trim AS 1..5 and EE Refuse AS 7, supplied AS 1..5",
-              SAYS["as"], asn=[(1, 5), (7, 7)], signers=[10, 11],
-              certs=[ee(10, TOP, r(1, 5), trims=True), ee(11, TOP, r(7))],
-              supplies=[Supplied(r(1, 5))])
     yield Row("tal_and_ca", "two signers, one under a carried anchor, one under a supplied CA", YES,
               asn=[(1, 3), (5, 6)], signers=[10, 11], crls=[crl(2)],
               certs=[ee(10, 2, r(1, 3)), ca(2, 2, r(1, 9)), ee(11, TOP, r(5, 6))],
-              supplies=[Located(2), Supplied(r(1, 9))])
+              supplies=[Located(2), Supplied(r(1, 9))], turns=(NOT_ALL, ALL, YES))
     yield from self_signed_ees()
+
+
+def stopped():
+    """A supply stops at a path: earlier ones keep their anchor, that and later ones have none."""
+    certs, both = [ee(10, TOP, r(1, 5), trims=True), ee(11, TOP, r(7))], [(1, 5), (7, 7)]
+    what = "EE Trim AS 1..5 and EE Refuse AS 7"
+    open_end = SAYS["as"], SAYS["open"]
+    yield Row("first_is_anchored", f"{what}, supplied AS 1..5", SAYS["as"], asn=both,
+              signers=[10, 11], certs=certs, supplies=[Supplied(r(1, 5))], turns=open_end)
+    yield Row("first_is_cut", f"{what}, supplied AS 1..2", SAYS["as"], asn=both, signers=[10, 11],
+              certs=certs, supplies=[Supplied(r(1, 2))], turns=open_end)
+    yield Row("first_stays_cut", f"{what}, supplied AS 1..2 and then 1..9; attested 1..2 and 7",
+              SAYS["as"], asn=[(1, 2), (7, 7)], signers=[10, 11], certs=certs,
+              supplies=[Supplied(r(1, 2)), Supplied(r(1, 9))], turns=(SAYS["as"], ALL, YES))
+    what = "EE Refuse AS 7 and EE Trim AS 1..5"
+    yield Row("first_is_refused", f"{what}, supplied AS 1..5", SAYS["as"], asn=both,
+              signers=[11, 10], certs=certs, supplies=[Supplied(r(1, 5))], turns=open_end)
+    yield Row("later_is_left", f"{what}, supplied AS 1..5 and then 7; attested 7", SAYS["as"],
+              asn=r(7), signers=[11, 10], certs=certs, supplies=[Supplied(r(1, 5)), Supplied(r(7))],
+              turns=(SAYS["as"], ALL, YES))
 
 
 def self_signed_ees():
@@ -464,7 +486,7 @@ def faults():
                   **attested)
         yield Row(f"exceeds_{family}", f"the EE claims more {family} than the supplied CA",
                   SAYS[family], certs=[ee(10, TOP, **over)], supplies=[Supplied(**claim)],
-                  **attested)
+                  turns=(SAYS[family], SAYS["open"]), **attested)
         text = SAYS["numbers" if family == "as" else "addresses"]
         yield Row(f"attests_more_{family}", f"more {family} is attested than the path has", text,
                   certs=[ee(10, TOP, **claim)], supplies=[Supplied(**claim)],
@@ -622,7 +644,7 @@ REVERSED = ("trimmed", "chain_of_two", "two_", "three", "tal_and_ca", "cycle", "
 
 def rows(count=1000):
     """All rows; the longest path has so many CAs."""
-    every = [*trimmed(), *several(), *anchored(), *lists(), *alike(), *met(), *faults(),
+    every = [*trimmed(), *several(), *anchored(), *stopped(), *lists(), *alike(), *met(), *faults(),
              *every_family()]
     every += [cycle(2), cycle(3), cycle(50), *inspections(), *orders(), *long(count)]
     yield from every
@@ -635,7 +657,7 @@ def rows(count=1000):
 
 HEAD = """//! Attestations in octets, each with what is answered of it.
 
-use super::compared::{answer, asks_as_few, verdicts};
+use super::compared::{answer, asks_as_few, in_turn, verdicts};
 use rpki_testing::Fail;
 """
 
@@ -667,10 +689,23 @@ fn {row.name}_verdicts(rt: HostRuntime) -> Result<(), Fail> {{
 """)
 
 
+def write_turns(row):
+    """What each supply answers, and what is answered in the end."""
+    print(f"""#[test]
+fn {row.name}_in_turn(rt: HostRuntime) -> Result<(), Fail> {{
+    let said = in_turn(rt.alloc(), {row.name.upper()})?;
+    assert_eq!(rt; said.as_str(), "{row.turns}");
+    Ok(())
+}}
+""")
+
+
 def main():
     print(HEAD)
     for row in rows():
         write(row)
+        if row.turns:
+            write_turns(row)
         if row.asked is not None:
             write_count(row)
 
