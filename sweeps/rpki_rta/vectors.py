@@ -2,6 +2,7 @@
 """Writes a module of tests of attestations in octets, each with what is to be answered: each fault
 of a certificate, of a signer, of what is left over, of a path, of a supply and of the attested
 sets, alone and with the one before it; lists that are reversed; cycles; and a path of 1,000 CAs.
+All but that one are also followed by 1, 300 and 70,000 octets, after which the answer is the same.
 
 They are signed as those of tools/rta_compare.py are. Names are empty SEQUENCEs, the moment is
 1 June 2024, 00:00:00, and sets of addresses are those of their first 32 bits. Key 1 is that of the
@@ -657,25 +658,29 @@ def rows(count=1000):
 
 HEAD = """//! Attestations in octets, each with what is answered of it.
 
-use super::compared::{answer, asks_as_few, in_turn, verdicts};
+use super::compared::{answer, asks_as_few, in_turn, is_answer_before_others, verdicts};
 use rpki_testing::Fail;
 """
+# The octets that rpki_tails has room for in front of others.
+ROOM = 65536
 
 
 def write(row):
     """A row, and its test."""
-    few = ""
+    name, more = row.name.upper(), ""
     if row.answer == YES and row.asked is None:
-        few = f"    assert!(rt; asks_as_few(rt.alloc(), {row.name.upper()})?);\n"
+        more = f"    assert!(rt; asks_as_few(rt.alloc(), {name})?);\n"
+    if len(row.octets()) <= ROOM:
+        more += f'    assert!(rt; is_answer_before_others(rt.alloc(), {name}, "{row.answer}")?);\n'
     print(f"""/// {row.what[0].upper()}{row.what[1:]}.
 #[test]
 fn {row.name}(rt: HostRuntime) -> Result<(), Fail> {{
-    let said = answer(rt.alloc(), {row.name.upper()})?;
+    let said = answer(rt.alloc(), {name})?;
     assert_eq!(rt; said.as_str(), "{row.answer}");
-{few}    Ok(())
+{more}    Ok(())
 }}
 
-const {row.name.upper()}: &str = "{row.octets().hex()}|{','.join(map(str, row.supplies))}";
+const {name}: &str = "{row.octets().hex()}|{','.join(map(str, row.supplies))}";
 """)
 
 
