@@ -25,8 +25,9 @@ use rpki_folder::{FolderParty, Folders};
 use std::alloc::{AllocError, Global};
 use std::str;
 use std::test::Fail;
-
-/// A folder with the files of examples/, whatever it is called.
+'''
+# A folder that a relying party is given.
+FOLDER = '''/// A folder with the files of examples/, whatever it is called.
 #[derive(Drop)]
 struct Examples;
 
@@ -40,8 +41,8 @@ impl Folders for Examples {
         }
     }
 }
-
-/// A relying party that reports this.
+'''
+TELLER = '''/// A relying party that reports this.
 #[derive(Drop)]
 struct Teller {
     out: &'static str,
@@ -171,15 +172,11 @@ def rows():
     return found.values()
 
 
-def quoted(of):
-    return text(of.replace("\\", "\\\\").replace('"', '\\"'))
-
-
 def print_test(name, program, words, status, out, err, each=1):
     listed = ", ".join(text(it) for it in words)
     print(f"#[test]\nfn {name}(rt: HostRuntime) -> Result<(), Fail> {{")
     print(f"    let words: [&str; {len(words)}] = [{listed}];")
-    print(f"    let said: (u8, &[u8], &[u8]) = ({status}, b{quoted(out)}, b{quoted(err)});")
+    print(f"    let said: (u8, &[u8], &[u8]) = ({status}, b{text(out)}, b{text(err)});")
     print(f"    let program = {program};")
     print(f"    is_cut(&rt, &program, &words, &given(&files()), said, {each})?;\n    Ok(())\n}}\n")
 
@@ -221,6 +218,8 @@ def print_given():
 
 def main():
     print(HEAD)
+    print(FOLDER)
+    print(TELLER)
     print_copy()
     print_given()
     for number, (words, now, status, said) in enumerate(rows()):
@@ -235,7 +234,7 @@ def main():
     reported = [(status, out, err) for _, status, out, err in PAYLOADS if status < 2] + REPORTED
     words = payloads("--csv", ["second"])
     for number, (status, out, err) in enumerate(reported):
-        teller = f"Teller {{ out: {quoted(out)}, err: {quoted(err)}, status: {status} }}"
+        teller = f"Teller {{ out: {text(out)}, err: {text(err)}, status: {status} }}"
         program = f"Verify {{ clock: None, relying_party: {teller} }}"
         print_test(f"reported_{number}", program, words, status, out, err)
 
