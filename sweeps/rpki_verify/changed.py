@@ -18,8 +18,11 @@ FOUND = []
 HEAD = '''//! Changed objects of examples/, and what follows of their answers.
 
 use crate::given::{Nobody, Said, said};
+use bytes::Bytes;
 use rpki_command::Objects;
 use rpki_command::verify::Verify;
+use rpki_der::{DecodeError, Encode, EncodeError};
+use rpki_sigobj::SignedObject;
 use std::alloc::{AllocError, Global};
 use std::test::Fail;
 
@@ -121,6 +124,39 @@ impl Asked<'_> {
     }
 }
 
+/// What the object at the front of octets is written as, where it is read strictly.
+fn written(alloc: Global, octets: &[u8]) -> Result<Option<Vec<u8>>, AllocError> {
+    let source = Bytes::copy_from_slice(alloc, octets)?;
+    let object = match SignedObject::decode(alloc, source, true) {
+        Ok(object) => object,
+        Err(DecodeError::Memory) => return Err(AllocError),
+        Err(_) => return Ok(None),
+    };
+    let copy = object.encode_ref().to_bytes(alloc);
+    drop(object);
+    match copy {
+        Ok(copy) => Ok(Some(copy)),
+        Err(EncodeError::Memory) => Err(AllocError),
+        Err(_) => Ok(Some(Vec::new(alloc))),
+    }
+}
+
+/// Whether a copy that is written of an object reads alike: it is the front of the octets, and the
+/// same is said of it.
+fn is_copied(asked: &Asked<'_>, shown: &Said, checked: &Said) -> Result<bool, AllocError> {
+    let Some(copy) = written(asked.alloc, asked.octets)? else {
+        return Ok(true);
+    };
+    let again = Asked { alloc: asked.alloc, kind: asked.kind, mode: asked.mode, octets: &copy };
+    match again.answers()? {
+        Some((seen, found)) => Ok(!copy.is_empty()
+            && asked.octets.starts_with(&copy)
+            && are_same(shown, &seen)
+            && are_same(checked, &found)),
+        None => Ok(false),
+    }
+}
+
 /// Whether all that has to hold of a case does.
 fn is_right(alloc: Global, case: &Case) -> Result<bool, AllocError> {
     let (name, changes) = case;
@@ -129,9 +165,9 @@ fn is_right(alloc: Global, case: &Case) -> Result<bool, AllocError> {
     let strictly = Asked { alloc, kind, mode: &[], octets: &octets };
     let relaxed = Asked { alloc, kind, mode: &["--relaxed"], octets: &octets };
     match (strictly.answers()?, relaxed.answers()?) {
-        (Some((shown, checked)), Some((seen, found))) => {
-            Ok(is_kept(&shown, &seen) && is_kept(&checked, &found))
-        }
+        (Some((shown, checked)), Some((seen, found))) => Ok(is_kept(&shown, &seen)
+            && is_kept(&checked, &found)
+            && is_copied(&strictly, &shown, &checked)?),
         _ => Ok(false),
     }
 }
