@@ -2,7 +2,6 @@
 
 pub use rpki_multi::{
     IntoRtaBuilder, MultiSignedObject, MultiSignedObjectEncoder, Rta, RtaBuilder, SignerInfo,
-    SignerInfoEncoder,
 };
 pub use rpki_rta::{Supply, Validation, run};
 pub use rpki_tagged::{AttestationBuilder, AttestationEncoder, ResourceTaggedAttestation, faults};
