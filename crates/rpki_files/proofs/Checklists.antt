@@ -1,6 +1,6 @@
 -- Checklists.
 pub mod Exact
-pub mod Facts
 pub mod Meaning
 pub mod Named
 pub mod Written
+pub mod Known

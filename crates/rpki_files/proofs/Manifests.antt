@@ -7,3 +7,4 @@ pub mod Meaning
 pub mod Taken
 pub mod Built
 pub mod Signed
+pub mod Known

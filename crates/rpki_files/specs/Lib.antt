@@ -1,4 +1,3 @@
-pub mod Version
 pub mod Name
 pub mod File
 pub mod Manifest

@@ -15,12 +15,12 @@ use Rattle.rpki_basics.specs.Algorithm.{sha_256, named}
 use Rattle.rpki_der.specs.Tags.{SEQUENCE, OBJECT_IDENTIFIER, context}
 use Rattle.rpki_der.specs.declared.mode.Mode.{Mode}
 use Rattle.rpki_der.specs.declared.mode.Mode.TheVariants.{Der}
-use Rattle.rpki_der.specs.Grammar.{ObjectIdentifier, Optional}
+use Rattle.rpki_der.specs.Grammar.{ObjectIdentifier}
 use Rattle.rpki_der.specs.Read.Parse.{Parser, ◌>>=◌, u160_at, oid_at, optional}
 use Rattle.rpki_der.specs.Form.Parts.{Sequence, SequenceOf, sequence_at}
-use Rattle.rpki_der.specs.Form.Made.{Ignored, partly}
+use Rattle.rpki_der.specs.Form.Made.{partly}
 use Rattle.rpki_der.specs.Write.Written.{value_octets}
-use Rattle.rpki_files.specs.Version.{VersionForm, version_at}
+use Rattle.rpki_lists.specs.Version.{OptionalVersion, version_at}
 use Rattle.rpki_files.specs.File.{File, FileForm, MeetsRule, files_at, file_octets}
 
 -- what a content says
@@ -40,12 +40,11 @@ pub record IsManifest (rule : ManifestRule) (m : Manifest) : Type 0 where
 -- Manifest ::= SEQUENCE { version [0] INTEGER DEFAULT 0, manifestNumber INTEGER (0..MAX),
 -- thisUpdate, nextUpdate, fileHashAlg OBJECT IDENTIFIER, fileList SEQUENCE OF FileAndHash }
 -- (section 4.2), of which `IsManifest` holds under the rule. The algorithm is SHA-256 (RFC 7935,
--- section 2). That the number is below 2^160, that UTCTime is taken beside GeneralizedTime, and
--- that the version may be written in DER too, is this project's own rule. The files stand in DER
--- whatever the mode is.
+-- section 2). That the number is below 2^160, and that UTCTime is taken beside GeneralizedTime,
+-- is this project's own rule. The files stand in DER whatever the mode is.
 abbrev pub ManifestForm : ManifestRule → Mode → List ℕ → Manifest → Type 0
 ManifestForm rule mode octets m = Sequence mode (
-    Ignored (Optional (VersionForm mode))
+    OptionalVersion mode
     ∷ (λ o. SerialForm mode o m.number)
     ∷ (λ o. TimeForm mode o m.this_update)
     ∷ (λ o. TimeForm mode o m.next_update)

@@ -14,6 +14,7 @@ ghost use Rattle.rpki_files.specs.Checked.{checked_at};
 use crate::faults;
 use crate::name::is_stem;
 use bytes::Bytes;
+use rpki_der::Tag;
 use rpki_der::encode::{Raw, Value, ia5, octet_string, sequence};
 use rpki_lists::{EntryIter, EntryKind, Refused, SliceEntry, SliceReader, Written};
 use std::alloc::AllocError;
@@ -184,11 +185,11 @@ impl<'a> SliceEntry for CheckedEntry<'a> {
         reader.is_empty()
     }
 
-    fn read(reader: &mut SliceReader<'a>) -> Option<FileNameAndHash<&'a [u8], &'a [u8]>> {
-        match take_checked(reader) {
-            Ok(file) => Some(file),
-            Err(_) => None,
-        }
+    fn read(reader: &mut SliceReader<'a>) -> FileNameAndHash<&'a [u8], &'a [u8]> {
+        let mut fields = reader.known_sequence();
+        let file_name = fields.known_opt_contents(Tag::IA5_STRING);
+        let hash = fields.known_contents(Tag::OCTET_STRING);
+        FileNameAndHash { file_name, hash }
     }
 
     fn again(reader: &SliceReader<'a>) -> SliceReader<'a> {

@@ -109,10 +109,13 @@ impl<'a> SliceEntry for FileEntry<'a> {
         reader.is_empty()
     }
 
-    fn read(reader: &mut SliceReader<'a>) -> Option<FileAndHash<&'a [u8], &'a [u8]>> {
-        match take_file(reader) {
-            Ok(file) => Some(file),
-            Err(_) => None,
+    fn read(reader: &mut SliceReader<'a>) -> FileAndHash<&'a [u8], &'a [u8]> {
+        let mut fields = reader.known_sequence();
+        let file = fields.known_contents(Tag::IA5_STRING);
+        let bits = fields.known_bits();
+        FileAndHash {
+            file,
+            hash: bits.octets,
         }
     }
 

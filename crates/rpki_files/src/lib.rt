@@ -20,4 +20,5 @@ pub use file::{FileAndHash, FileEncoder};
 pub use files::{FileEntry, FileListIter, Files};
 pub use hash::{ManifestHash, ManifestHashMismatch};
 pub use manifest::{Manifest, ManifestContent, ManifestEncoder, ValidateManifest};
+pub use name::is_type;
 pub use uris::ManifestUriIter;

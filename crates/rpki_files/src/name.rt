@@ -64,8 +64,8 @@ fn lower(b: u8) -> u8
     }
 }
 
-// Whether octets are these three letters, in any case.
-fn is_type(octets: &[u8], a: u8, b: u8, c: u8) -> bool
+/// Whether octets are these three letters, which are given in lower case, in any case.
+pub fn is_type(octets: &[u8], a: u8, b: u8, c: u8) -> bool
     ensures { result ≡ is_type octets.now (a ∷ b ∷ c ∷ []) }
 {
     match octets {

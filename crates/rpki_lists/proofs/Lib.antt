@@ -4,5 +4,8 @@ pub mod Exact
 pub mod OctetsInDer
 pub mod Taking
 pub mod Writing
+pub mod Names
+pub mod Versions
 pub mod Fronts
 pub mod Listed
+pub mod Known

@@ -1,12 +1,12 @@
 -- Lists of entries.
 use Rattle.std.proofs.Common.{◌≡◌, ℕ, Bool, true, false, List, [], ◌∷◌, length}
 use Rattle.std.proofs.Common.{Option, Some, None, refl, sym, ◌∙◌, arith}
-use Rattle.std.specs.Prelude.{IsTrue, ◌↔◌}
+use Rattle.std.specs.Prelude.{IsTrue, IsSome, ◌↔◌}
 use Rattle.std.specs.Iterator.{YieldsFirstBy, MakesProgress, at_most}
 use Rattle.rpki_der.specs.declared.mode.Mode.TheVariants.{Der}
 use Rattle.rpki_der.specs.Read.Parse.{Parser, ◌>>=◌, all_of}
 use Rattle.rpki_der.proofs.Reading.Skips.{Takes, all-more, all-none, all-end}
-use Rattle.rpki_lists.specs.Slice.{FindsFront}
+use Rattle.rpki_lists.specs.Slice.{FindsFront, IsFound}
 use Rattle.rpki_lists.specs.Entries.{or_empty, entries_of, HoldEntries, Shrinks}
 
 takes : {X : Type 0} (p : Parser X) → Shrinks p → Takes (p Der)
@@ -50,23 +50,29 @@ module _ {X : Type 0} (p : Parser X) (s : Shrinks p) where
       let t = still-entries b x r e h in
       rw (all-first b x r e) (first-of x (all_of p Der r) t.0 t.1)
 
+-- octets that are entries begin with one, unless there are none
+pub front-entry : {X : Type 0} (p : Parser X) → Shrinks p → (b : List ℕ) → HoldEntries p b
+    → (length b ≡ 0 → ⊥) → IsFound p b
+front-entry {X} p s b are some = of (p Der b) refl
+  where
+    of : (o : Option (X × List ℕ)) → p Der b ≡ o → IsSome o
+    of (Some x) e = refl
+    of None e = absurd (let none : all_of p Der b ≡ None = all-refused p s b some e in
+        let never : (let o : Option (List X) = None in o) ≡ Some are.0 = sym none ∙ are.1 in cc)
+
 -- what a step of an iterator that is not at its end gives: the first of the entries that are left
-pub record Stepped {T X : Type 0} (view : T → X) (p : Parser X) (old : List ℕ) (result : Option T)
+pub record Stepped {T X : Type 0} (view : T → X) (p : Parser X) (old : List ℕ) (first : T)
     (new : List ℕ) : Type 0 where
   pub are : HoldEntries p new
-  pub gives : YieldsFirstBy view (λ (l : List X). l) (entries_of p old) result (entries_of p new)
-  pub some : (t : T) × (result ≡ Some t)
+  pub gives : YieldsFirstBy view (λ (l : List X). l) (entries_of p old) (Some first)
+      (entries_of p new)
 
 pub stepped : {T X : Type 0} (view : T → X) (p : Parser X) → Shrinks p → (old : List ℕ)
-    (result : Option T) (new : List ℕ) → HoldEntries p old → (length old ≡ 0 → ⊥)
-    → FindsFront view p old result new → Stepped view p old result new
-stepped view p s old None new are some h =
-    absurd (let none : all_of p Der old ≡ None = all-refused p s old some h in
-    let never : (let o : Option (List _) = None in o) ≡ Some are.0 = sym none ∙ are.1 in cc)
-stepped view p s old (Some t) new are some h = record {
-  are = still-entries p s old (view t) new h are;
-  gives = gives-first p s old (view t) new h are;
-  some = (t, refl);
+    (first : T) (new : List ℕ) → HoldEntries p old → FindsFront view p old (Some first) new
+    → Stepped view p old first new
+stepped view p s old first new are h = record {
+  are = still-entries p s old (view first) new h are;
+  gives = gives-first p s old (view first) new h are;
 }
 
 pub made-progress : {T X : Type 0} (view : T → X) (old new : List X) (result : Option T)

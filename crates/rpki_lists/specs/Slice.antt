@@ -1,5 +1,5 @@
 -- What a call of a reader of a slice answers.
-use Rattle.std.specs.Prelude.{◌≡◌, ℕ, true, List, [], ◌∷◌, Option, None, Some}
+use Rattle.std.specs.Prelude.{◌≡◌, ℕ, true, List, [], ◌∷◌, Option, None, Some, IsSome}
 use Rattle.rpki_der.specs.declared.mode.Mode.TheVariants.{Der}
 use Rattle.rpki_der.specs.Grammar.{IsBytes, HasNoFront}
 use Rattle.rpki_der.specs.Read.Parse.{Parser, optional, is_next}
@@ -9,6 +9,10 @@ use Rattle.rpki_der.specs.Form.Decodes.{IsOnlyFront, IsNextOrAbsent}
 abbrev pub FindsFront : {T X : Type 0} → (T → X) → Parser X → List ℕ → Option T → List ℕ → Type 0
 FindsFront view p old None new = p Der old ≡ None
 FindsFront view p old (Some t) new = p Der old ≡ Some (view t, new)
+
+-- The octets begin with what p finds by the rules of DER.
+abbrev pub IsFound : {X : Type 0} → Parser X → List ℕ → Type 0
+IsFound p octets = IsSome (p Der octets)
 
 -- a call that finds nothing leaves all
 abbrev pub Keeps : {T : Type 0} → Option T → List ℕ → List ℕ → Type 0

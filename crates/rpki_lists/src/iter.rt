@@ -65,7 +65,7 @@ impl<E: SliceEntry> Iterator for EntryIter<E> {
         if E::is_end(&self.reader) {
             None
         } else {
-            E::read(&mut self.reader)
+            Some(E::read(&mut self.reader))
         }
     }
 }

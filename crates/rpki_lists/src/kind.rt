@@ -2,7 +2,7 @@
 
 ghost use Rattle.std.specs.Prelude.{◌≡◌, ◌↔◌, ℕ, List, length, IsTrue, Some};
 ghost use Rattle.rpki_der.specs.Read.Parse.{Parser};
-ghost use Rattle.rpki_lists.specs.Slice.{FindsFront};
+ghost use Rattle.rpki_lists.specs.Slice.{FindsFront, IsFound};
 ghost use Rattle.rpki_lists.specs.Entries.{PassesFront, Shrinks};
 ghost use Rattle.rpki_lists.specs.Text.{refused_text};
 
@@ -70,10 +70,11 @@ pub trait SliceEntry {
     fn is_end(reader: &Self::Reader) -> bool
         ensures { IsTrue result ↔ (length (slice reader.now) ≡ 0) };
 
-    /// Reads the entry in front, if there is one.
-    fn read(reader: &mut Self::Reader) -> Option<Self::Item>
+    /// Reads the entry in front. That there is one is known, and need not be tested.
+    fn read(reader: &mut Self::Reader) -> Self::Item
+        requires { IsFound Self.EntryKind.entry_at (slice reader.old) }
         ensures { FindsFront shown Self.EntryKind.entry_at
-            (slice reader.old) result (slice reader.new) };
+            (slice reader.old) (Some result) (slice reader.new) };
 
     /// The same reader again.
     fn again(reader: &Self::Reader) -> Self::Reader

@@ -1,5 +1,5 @@
 //! Lists of contents that are kept as the octets of their entries, and a reader of slices that
-//! takes no memory.
+//! takes no memory; and what several contents have: a version, and the numbers that they name.
 #![tactic(auto)]
 
 pub mod encode;
@@ -8,8 +8,10 @@ mod kind;
 pub mod laws;
 mod list;
 mod made;
+pub mod named;
 mod rule;
 mod slice;
+pub mod version;
 
 pub use encode::{EntriesEncoder, Written};
 pub use iter::EntryIter;

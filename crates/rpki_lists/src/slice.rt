@@ -1,10 +1,11 @@
 //! The reader of values that lie in a slice.
 
-ghost use Rattle.std.specs.Prelude.{◌≡◌, ◌↔◌, length, IsTrue};
+ghost use Rattle.std.specs.Prelude.{◌≡◌, ◌↔◌, ◌≤◌, length, drop, slice_index, IsTrue, Some};
 ghost use Rattle.rpki_der.specs.Tags.{INTEGER, OCTET_STRING, IA5_STRING, SEQUENCE};
+ghost use Rattle.rpki_der.specs.declared.mode.Mode.TheVariants.{Der};
 ghost use Rattle.rpki_der.specs.Read.Parse.{is_next, value_at, u8_at, u32_at, bits_at, bits_of};
 ghost use Rattle.rpki_der.specs.Read.Parse.{ia5_at, optional, Finds};
-ghost use Rattle.rpki_lists.specs.Slice.{FindsFront, Keeps, Closes, seen};
+ghost use Rattle.rpki_lists.specs.Slice.{FindsFront, IsFound, Keeps, Closes, seen};
 
 use rpki_der::slices::{is_ia5, u8_of, u32_of, value_of};
 use rpki_der::{Mode, Tag};
@@ -14,7 +15,8 @@ use std::marker::Model;
 /// It hands out parts of the slice, and takes no memory.
 ///
 /// A call answers `None` where the octets that are left don't begin with what it asks for, and
-/// leaves them as they are.
+/// leaves them as they are. Where a caller knows what they begin with, since they were read before,
+/// the `known` calls answer it, and need not test it.
 #[derive(Drop, Debug)]
 pub struct SliceReader<'a> {
     rest: &'a [u8],
@@ -55,6 +57,58 @@ fn bits_of(contents: &[u8]) -> Option<BitSlice<'_>>
                 })
             }
         }
+    }
+}
+
+// What the contents of a BIT STRING are known to say.
+#[inline(always)]
+fn known_bits_of(contents: &[u8]) -> BitSlice<'_>
+    requires { 1 ≤ length contents.now }
+    ensures octets { result.octets.now ≡ drop 1 contents.now }
+    ensures unused { result.unused ≡ slice_index contents.now 0 }
+{
+    let (_, octets) = contents.split_at(1);
+    BitSlice {
+        octets,
+        unused: contents[0],
+    }
+}
+
+// What follows the tag and the length of a value, where that takes one octet.
+#[inline(always)]
+fn after_header(octets: &[u8]) -> &[u8]
+    requires { 2 ≤ length octets.now }
+    ensures { result.now ≡ drop 2 octets.now }
+{
+    let (_, rest) = octets.split_at(2);
+    rest
+}
+
+// The contents of the value in front, which is known to have this tag, and what follows it, by all
+// tests.
+#[cold]
+#[inline(never)]
+fn long_value(tag: Tag, octets: &[u8]) -> (&[u8], &[u8])
+    requires { IsFound (value_at tag.octet) octets.now }
+    ensures { value_at tag.octet Der octets.now ≡ Some (result.0.now, result.1.now) }
+{
+    match value_of(Mode::Der, tag, octets) {
+        Some(value) => value,
+        None => unreachable!(),
+    }
+}
+
+// The same without them. A length of more than one octet is rare, and is left to the tests.
+#[inline(always)]
+fn known_value(tag: Tag, octets: &[u8]) -> (&[u8], &[u8])
+    requires { IsFound (value_at tag.octet) octets.now }
+    ensures { value_at tag.octet Der octets.now ≡ Some (result.0.now, result.1.now) }
+{
+    let len = octets[1] as usize;
+    if len < 0x80 {
+        after_header(octets).split_at(len)
+    } else {
+        long_value(tag, octets)
     }
 }
 
@@ -219,5 +273,91 @@ impl<'a> SliceReader<'a> {
         ensures kept { Keeps result self.old self.new }
     {
         self.take_contents(Tag::OCTET_STRING)
+    }
+
+    /// Takes the contents of the value in front, which is known to have this tag (X.690, section
+    /// 8.1).
+    #[inline(always)]
+    pub fn known_contents(&mut self, tag: Tag) -> &'a [u8]
+        requires { IsFound (value_at tag.octet) self.old }
+        ensures { FindsFront (λ c. c.now) (value_at tag.octet) self.old (Some result) self.new }
+    {
+        let (contents, rest) = known_value(tag, self.rest);
+        self.rest = rest;
+        contents
+    }
+
+    /// Takes the contents of a value with this tag, if the tag is next; such a value is then known
+    /// to be there (X.690, section 8.1).
+    #[inline(always)]
+    pub fn known_opt_contents(&mut self, tag: Tag) -> Option<&'a [u8]>
+        requires { IsFound (optional tag.octet (value_at tag.octet)) self.old }
+        ensures { FindsFront (seen (λ c. c.now)) (optional tag.octet (value_at tag.octet))
+            self.old (Some result) self.new }
+    {
+        if self.is_next(tag) {
+            Some(self.known_contents(tag))
+        } else {
+            None
+        }
+    }
+
+    /// Opens the SEQUENCE that is known to be in front (X.690, sections 8.9 and 8.10): a reader of
+    /// its contents.
+    #[inline(always)]
+    pub fn known_sequence(&mut self) -> SliceReader<'a>
+        requires { IsFound (value_at SEQUENCE) self.old }
+        ensures { FindsFront (λ r. r) (value_at SEQUENCE) self.old (Some result) self.new }
+    {
+        SliceReader {
+            rest: self.known_contents(Tag::SEQUENCE),
+        }
+    }
+
+    /// Reads the BIT STRING that is known to be in front (X.690, section 8.6).
+    #[inline(always)]
+    pub fn known_bits(&mut self) -> BitSlice<'a>
+        requires { IsFound bits_at self.old }
+        ensures { FindsFront (λ b. (b.octets.now, b.unused)) bits_at
+            self.old (Some result) self.new }
+    {
+        known_bits_of(self.known_contents(Tag::BIT_STRING))
+    }
+
+    /// Reads the INTEGER from 0 to 255 that is known to be in front (X.690, section 8.3).
+    #[inline(always)]
+    pub fn known_u8(&mut self) -> u8
+        requires { IsFound u8_at self.old }
+        ensures { FindsFront (λ n. n) u8_at self.old (Some result) self.new }
+    {
+        match u8_of(self.known_contents(Tag::INTEGER)) {
+            Some(n) => n,
+            None => unreachable!(),
+        }
+    }
+
+    /// Reads an INTEGER, if one is next; it is then known to be from 0 to 255 (X.690, section 8.3).
+    #[inline(always)]
+    pub fn known_opt_u8(&mut self) -> Option<u8>
+        requires { IsFound (optional INTEGER u8_at) self.old }
+        ensures { FindsFront (λ n. n) (optional INTEGER u8_at) self.old (Some result) self.new }
+    {
+        if self.is_next(Tag::INTEGER) {
+            Some(self.known_u8())
+        } else {
+            None
+        }
+    }
+
+    /// Reads the INTEGER from 0 to 2^32 - 1 that is known to be in front (X.690, section 8.3).
+    #[inline(always)]
+    pub fn known_u32(&mut self) -> u32
+        requires { IsFound u32_at self.old }
+        ensures { FindsFront (λ n. n) u32_at self.old (Some result) self.new }
+    {
+        match u32_of(self.known_contents(Tag::INTEGER)) {
+            Some(n) => n,
+            None => unreachable!(),
+        }
     }
 }

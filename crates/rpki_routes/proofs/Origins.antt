@@ -2,7 +2,9 @@ pub mod Built
 pub mod Chains
 pub mod Exact
 pub mod Facts
+pub mod Known
 pub mod Meaning
+pub mod Networks
 pub mod Prefixes
 pub mod Signed
 pub mod Small

@@ -27,7 +27,8 @@ pub use encoder::RouteOriginAttestationEncoder;
 pub use iter::{RoaAddrIter, RoaOriginIter};
 pub use object::Roa;
 use rpki_der::laws::slices_hold_octets;
-use rpki_der::{Constructed, DecodeError, Mode, Tag};
+use rpki_der::{Constructed, DecodeError, Mode};
+use rpki_lists::version::skip_version;
 use rpki_resources::{Asn, ByFamily, take_families};
 use std::alloc::{AllocError, Global};
 use std::marker::Model;
@@ -155,7 +156,7 @@ fn take_fields(
 ) -> Result<RouteOriginAttestation, DecodeError>
     ensures { Reads (λ r. r) fields_at cons.old result cons.new }
 {
-    cons.take_opt_constructed_if(Tag::CTX_0, |cons| cons.skip_u8_if(0))?;
+    skip_version(cons)?;
     let as_id = cons.take_u32()?;
     cons.holds_octets();
     let ByFamily { v4, v6 } = take_families(alloc, cons)?;

@@ -1,5 +1,4 @@
 -- Attestations.
 pub mod Built
 pub mod Exact
-pub mod Facts
 pub mod Written

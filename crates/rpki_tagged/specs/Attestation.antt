@@ -1,14 +1,13 @@
 -- The content of a multi-signed attestation. The sections are those of draft-michaelson-rpki-rta.
-use Rattle.std.specs.Prelude.{◌≡◌, ◌++◌, ℕ, List, [], ◌∷◌, Some, true}
+use Rattle.std.specs.Prelude.{◌++◌, ℕ, List, [], ◌∷◌, Some}
 use Rattle.std.specs.List.{flat_map}
 use Rattle.rpki_der.specs.Numbers.{MAX_DEPTH}
-use Rattle.rpki_der.specs.Tags.{INTEGER, OCTET_STRING, SEQUENCE, SET, context}
+use Rattle.rpki_der.specs.Tags.{OCTET_STRING, SEQUENCE, SET, context}
 use Rattle.rpki_der.specs.declared.mode.Mode.{Mode}
-use Rattle.rpki_der.specs.Grammar.{Integer, Optional, OctetString}
-use Rattle.rpki_der.specs.Read.Parse.{Parser, ◌>>=◌, optional, primitive, tested, this, octets_at}
-use Rattle.rpki_der.specs.Form.Parts.{Sequence, SetOf, Explicit, sequence_at, set_of_at, context_at}
-use Rattle.rpki_der.specs.Form.Made.{Ignored, Made, made}
-use Rattle.rpki_der.specs.Write.Parts.{optional_octets}
+use Rattle.rpki_der.specs.Grammar.{OctetString}
+use Rattle.rpki_der.specs.Read.Parse.{Parser, ◌>>=◌, optional, octets_at}
+use Rattle.rpki_der.specs.Form.Parts.{Sequence, SetOf, sequence_at, set_of_at}
+use Rattle.rpki_der.specs.Form.Made.{Made}
 use Rattle.rpki_der.specs.Write.Written.{value_octets}
 use Rattle.rpki_resources.specs.As.Form.{AsForm}
 use Rattle.rpki_resources.specs.As.Read.{as_blocks_at}
@@ -17,9 +16,10 @@ use Rattle.rpki_basics.specs.Algorithm.{DigestAlgorithmForm, digest_algorithm_at
 use Rattle.rpki_basics.specs.Algorithm.{digest_algorithm_octets}
 use Rattle.rpki_basics.specs.Identifier.{KeyIdentifierForm, key_identifier_at}
 use Rattle.rpki_basics.specs.Identifier.{key_identifier_octets}
-use Rattle.rpki_tagged.specs.declared.named.Named.{Named}
-use Rattle.rpki_tagged.specs.Named.{Set, Sets, AddressesForm, names_some, sets_of, addresses_at}
-use Rattle.rpki_tagged.specs.Named.{written_numbers, addresses_octets}
+use Rattle.rpki_lists.specs.declared.named.Named.{Named}
+use Rattle.rpki_lists.specs.Named.{Set, ResourceBlockForm, sets_of, sets_at}
+use Rattle.rpki_lists.specs.Named.{resource_block_contents}
+use Rattle.rpki_lists.specs.Version.{OptionalVersion, version_at}
 
 -- what a content says: the identifiers of the keys that are to sign, the numbers that are attested,
 -- and the digest of the document
@@ -30,31 +30,20 @@ pub record Attestation : Type 0 where
   pub v6_resources : Set
   pub message_digest : List ℕ
 
--- [0] INTEGER that is 0
-abbrev pub VersionForm : Mode → List ℕ → Unit {0} → Type 0
-VersionForm mode octets _ = Explicit 0 mode (λ c. Integer mode c 0) octets
-
--- [0] AsList
-abbrev pub NumbersForm : Mode → List ℕ → Set → Type 0
-NumbersForm mode octets set = Explicit 0 mode (λ c. AsForm mode c set) octets
-
 -- ResourceBlock ::= SEQUENCE { asID [0] AsList OPTIONAL, ipAddrBlocks [1] IPList OPTIONAL }, where
 -- something is named (4). The families may stand in either order, each at most once. That the sets
 -- may be empty, and their blocks in any order, is this project's own rule.
 abbrev pub NamedForm : Mode → List ℕ → Named → Type 0
-NamedForm mode octets n = Sequence mode (
-    (λ o. Optional (NumbersForm mode) o n.numbers)
-    ∷ (λ o. AddressesForm mode o n.addresses)
-    ∷ []) octets × (names_some n ≡ true)
+NamedForm = ResourceBlockForm AsForm
 
 -- ResourceTaggedAttestation ::= SEQUENCE { version [0] INTEGER DEFAULT 0, subjectKeyIdentifiers SET
 -- OF SubjectKeyIdentifier, resources ResourceBlock, digestAlgorithm AlgorithmIdentifier,
--- messageDigest OCTET STRING } (4). The algorithm is SHA-256 (RFC 7935, section 2). That the
--- version may be written in DER too, that the keys may stand in any order and more than once, and
--- that there may be none, is this project's own rule.
+-- messageDigest OCTET STRING } (4). The algorithm is SHA-256 (RFC 7935, section 2). That the keys
+-- may stand in any order and more than once, and that there may be none, is this project's own
+-- rule.
 abbrev pub AttestationForm : Mode → List ℕ → Attestation → Type 0
 AttestationForm mode octets a = Sequence mode (
-    Ignored (Optional (VersionForm mode))
+    OptionalVersion mode
     ∷ (λ o. SetOf mode (KeyIdentifierForm mode) o a.subject_keys)
     ∷ (λ o. Made sets_of (NamedForm mode) o (a.as_resources, (a.v4_resources, a.v6_resources)))
     ∷ (λ o. DigestAlgorithmForm mode o tt)
@@ -63,35 +52,16 @@ AttestationForm mode octets a = Sequence mode (
 
 -- ---- as functions
 
--- the version, which may be there
-abbrev pub version_at : Parser (Unit {0})
-version_at = context_at 0 (primitive INTEGER (this 0))
-
 -- the keys
 abbrev pub subject_keys_at : Parser (List (List ℕ))
 subject_keys_at = set_of_at OCTET_STRING key_identifier_at
-
--- AS numbers
-abbrev pub numbers_at : Parser Set
-numbers_at = context_at 0 as_blocks_at
-
--- AS numbers and addresses, one after the other
-unfoldable pub named_fields_at : Parser Named
-named_fields_at mode bytes = do
-  numbers ← optional (context 0) numbers_at mode bytes
-  addresses ← addresses_at mode numbers.1
-  Some (record { numbers = numbers.0; addresses = addresses.0 }, addresses.1)
-
--- the sets, where something is named
-abbrev pub sets_at : Parser Sets
-sets_at = made sets_of (tested names_some (sequence_at named_fields_at))
 
 -- the fields, one after another
 unfoldable pub fields_at : Parser Attestation
 fields_at mode bytes = do
   version ← optional (context 0) version_at mode bytes
   keys ← subject_keys_at mode version.1
-  sets ← sets_at mode keys.1
+  sets ← sets_at as_blocks_at mode keys.1
   algorithm ← digest_algorithm_at mode sets.1
   digest ← octets_at MAX_DEPTH mode algorithm.1
   Some (
@@ -122,8 +92,7 @@ numbers_octets set = value_octets (context 0) (value_octets SEQUENCE (flat_map a
 -- what stands in the SEQUENCE of the numbers
 abbrev pub named_contents : Attestation → List ℕ
 named_contents a =
-    optional_octets numbers_octets (written_numbers a.as_resources a.v4_resources a.v6_resources)
-    ++ addresses_octets a.v4_resources a.v6_resources
+    resource_block_contents numbers_octets a.as_resources a.v4_resources a.v6_resources
 
 -- the octets in the SEQUENCE of a content, without its header
 abbrev pub attestation_contents : Attestation → List ℕ

@@ -5,7 +5,7 @@ use Rattle.rpki_basics.specs.declared.build.BuildFault.TheVariants as fault
 use Rattle.rpki_faults.specs.Checks.{Check, ◌unless◌}
 use Rattle.rpki_resources.specs.Blocks.{Holds, IsSetOf}
 use Rattle.rpki_tagged.specs.Attestation.{Attestation, attestation_contents}
-use Rattle.rpki_tagged.specs.Named.{Set}
+use Rattle.rpki_lists.specs.Named.{Set}
 
 -- The content has the keys in their order, the digest, and of each kind the numbers of the blocks,
 -- and no others.
@@ -21,12 +21,12 @@ abbrev pub HaveNumber : Set → Type 0
 HaveNumber blocks = (n : ℕ) × Holds (λ n. n) blocks n
 
 -- there is an AS number, or an address of a family
-abbrev pub NamesSome : Attestation → Type 0
-NamesSome a = HaveNumber a.as_resources ⊎ (HaveNumber a.v4_resources ⊎ HaveNumber a.v6_resources)
+abbrev pub HasNumbers : Attestation → Type 0
+HasNumbers a = HaveNumber a.as_resources ⊎ (HaveNumber a.v4_resources ⊎ HaveNumber a.v6_resources)
 
 -- what is asked of a content that is built
 abbrev pub attestation_checks : Attestation → List (Check BuildFault)
-attestation_checks a = (fault.NoResources unless NamesSome a) ∷ []
+attestation_checks a = (fault.NoResources unless HasNumbers a) ∷ []
 
 -- what is built has too many octets to be written
 abbrev pub IsTooLong : Attestation → Type 0

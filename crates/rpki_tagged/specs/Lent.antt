@@ -15,7 +15,7 @@ use Rattle.rpki_resources.specs.contracts.asn.AsnNumber.TheImpl as asn_number
 use Rattle.rpki_resources.specs.contracts.asn.AsnPartialEq.TheImpl as asn_equal
 use Rattle.rpki_resources.specs.contracts.blocks.BlocksBuilder as blocks
 use Rattle.rpki_tagged.specs.Attestation.{Attestation}
-use Rattle.rpki_tagged.specs.Named.{Set}
+use Rattle.rpki_lists.specs.Named.{Set}
 use Rattle.rpki_tagged.specs.contracts.attestation.builder.AttestationBuilder.{the_row}
 
 -- what is lent, as the logic holds it: vectors of identifiers, and builders of sets

@@ -1,4 +1,3 @@
 pub mod Attestation
 pub mod Built
 pub mod Lent
-pub mod Named

@@ -5,6 +5,5 @@
 mod attestation;
 pub mod faults;
 pub mod laws;
-mod named;
 
 pub use attestation::{AttestationBuilder, AttestationEncoder, ResourceTaggedAttestation};

@@ -6,14 +6,14 @@ use rpki_files::{FileAndHash, ManifestContent};
 use std::alloc::{AllocError, Global};
 
 /// The name and the hash of an entry.
-type Entry = (&'static [u8], &'static [u8]);
+type FileRow = (&'static [u8], &'static [u8]);
 
 /// The entries of a row.
-type Entries = &'static [Entry];
+type FileRows = &'static [FileRow];
 
 /// A rule, the day and the second of January 2024 of thisUpdate, entries, and what the content is
 /// written as, whose number is 12 and whose nextUpdate is the beginning of 2024-01-08.
-static BUILT: [(ManifestRule, (u8, u8), Entries, &[u8]); 8] = [
+static BUILT: [(ManifestRule, (u8, u8), FileRows, &[u8]); 8] = [
     (
         ManifestRule::Any,
         (1, 0),
@@ -79,7 +79,7 @@ static BUILT: [(ManifestRule, (u8, u8), Entries, &[u8]); 8] = [
 ];
 
 /// A rule, the day and the second of thisUpdate, entries, and why they are refused.
-static REFUSED: [(ManifestRule, (u8, u8), Entries, &str); 9] = [
+static REFUSED: [(ManifestRule, (u8, u8), FileRows, &str); 9] = [
     (
         ManifestRule::Any,
         (8, 1),
@@ -153,7 +153,7 @@ fn content(
     alloc: Global,
     rule: ManifestRule,
     this: (u8, u8),
-    entries: Entries,
+    entries: FileRows,
 ) -> Result<ManifestContent, BuildError> {
     ManifestContent::new(
         alloc,

@@ -1,37 +1,31 @@
 -- Checklists and their files are read exactly: a line for each field.
-use Rattle.std.proofs.Common.{◌≡◌, ℕ, List, [], ◌∷◌, Option, Some, None, refl}
+use Rattle.std.proofs.Common.{◌≡◌, ℕ, List, Option, Some, None, refl}
 use Rattle.rpki_der.specs.Numbers.{MAX_DEPTH}
 use Rattle.rpki_der.specs.Tags.{SEQUENCE, IA5_STRING, context}
 use Rattle.rpki_der.specs.declared.mode.Mode.{Mode}
-use Rattle.rpki_der.specs.Grammar.{Optional, Within}
 use Rattle.rpki_der.specs.Read.Parse.{Parser, ◌>>=◌, optional}
 use Rattle.rpki_der.specs.Read.Exact.{IsReading}
 use Rattle.rpki_der.specs.Form.Law.{nothing, is, IsPart}
-use Rattle.rpki_der.specs.Form.Made.{Made, Default}
-use Rattle.rpki_der.specs.Form.Parts.{Explicit, Parts, sequence_at}
+use Rattle.rpki_der.specs.Form.Made.{Made}
+use Rattle.rpki_der.specs.Form.Parts.{sequence_at}
 use Rattle.rpki_der.proofs.Form.Fields.{field, fixed, skipped, done, within}
 use Rattle.rpki_der.proofs.Form.Kinds.{ia5-part, octets-part}
-use Rattle.rpki_der.proofs.Form.Words.{in-tag, pass, make, option, default}
+use Rattle.rpki_der.proofs.Form.Words.{in-tag, pass, option}
 use Rattle.rpki_basics.specs.Algorithm.{digest_algorithm_at}
 use Rattle.rpki_basics.proofs.Algorithms.Parts.{digest-part}
 use Rattle.rpki_lists.specs.Entries.{list_at}
+use Rattle.rpki_lists.specs.Named.{Set, Sets, sets_of, sets_at}
 use Rattle.rpki_lists.proofs.Exact.{list-part, part-spelt}
-use Rattle.rpki_resources.specs.Families.Form.{FamiliesForm}
-use Rattle.rpki_resources.specs.Families.Read.{no_values}
-use Rattle.rpki_resources.specs.Ip.Form.{IpForm}
+use Rattle.rpki_lists.specs.Version.{version_at}
+use Rattle.rpki_lists.proofs.Names.Exact.{resource-block-part}
+use Rattle.rpki_lists.proofs.Versions.{version-part}
 use Rattle.rpki_resources.proofs.AsNumbers.Exact.{as-part}
-use Rattle.rpki_resources.proofs.Addresses.Exact.{ip-part}
-use Rattle.rpki_resources.proofs.Families.ByFamily.{families-part}
-use Rattle.rpki_files.specs.Version.{version_at}
 use Rattle.rpki_files.specs.Checked.{Checked, PortableForm, CheckedForm, is_portable_name}
 use Rattle.rpki_files.specs.Checked.{portable_at, checked_fields_at, checked_at}
-use Rattle.rpki_files.specs.Checklist.{Checklist, NumbersForm, NamedForm, ChecklistForm, Set}
-use Rattle.rpki_files.specs.Checklist.{names_some, sets_of, number_fields_at}
-use Rattle.rpki_files.specs.Checklist.{addresses_at, named_fields_at, sets_at, listed_at, fields_at}
+use Rattle.rpki_files.specs.Checklist.{Checklist, NumbersForm, NamedForm, ChecklistForm}
+use Rattle.rpki_files.specs.Checklist.{number_fields_at, numbers_at, listed_at, fields_at}
 use Rattle.rpki_files.specs.Checklist.{checklist_at}
-use Rattle.rpki_files.specs.declared.checklist.read.Named.{Named}
 use Rattle.rpki_files.proofs.Manifests.Exact.{as-reading, within-spelt}
-use Rattle.rpki_files.proofs.Versions.Exact.{version-part}
 
 -- ---- a file
 
@@ -48,38 +42,19 @@ checked-part = within SEQUENCE (
 
 -- ---- what is named
 
-numbers-part : IsPart (is SEQUENCE) nothing (sequence_at number_fields_at) NumbersForm
+numbers-part : IsPart (is SEQUENCE) nothing numbers_at NumbersForm
 unfolding number_fields_at
 numbers-part = within SEQUENCE (
     field (λ (s : Set). s) (in-tag (context 0) as-part) (λ set.
     done set (tt, refl) (λ s k i. k.1 i)) refl)
 
-addresses-part : IsPart (is (context 1)) (is (context 1)) addresses_at
-    (λ mode. Default no_values (λ c values. Explicit 1 mode
-    (λ d. FamiliesForm IpForm mode d values) c))
-addresses-part =
-    default (context 1) (in-tag (context 1) (families-part ip-part)) no_values
-
-named-part : IsPart (is SEQUENCE) nothing (sequence_at named_fields_at)
-    (λ mode octets n. Within mode SEQUENCE (Parts (
-    (λ o. Optional (λ c set. Explicit 0 mode (λ d. NumbersForm mode d set) c) o n.numbers)
-    ∷ (λ o. Default no_values (λ c values. Explicit 1 mode
-    (λ d. FamiliesForm IpForm mode d values) c) o n.addresses)
-    ∷ [])) octets)
-unfolding named_fields_at
-named-part = within SEQUENCE (
-    field (λ (n : Named). n.numbers) (option (context 0) (in-tag (context 0) numbers-part))
-    (λ numbers.
-    field (λ (n : Named). n.addresses) addresses-part (λ addresses.
-    done (record { numbers = numbers; addresses = addresses }) ((tt, refl), refl)
-    (λ n k i. record { numbers = k.0.1 i; addresses = k.1 i })) refl) refl)
-
-pub sets-part : IsPart (is SEQUENCE) nothing sets_at (λ mode. Made sets_of (NamedForm mode))
-sets-part = make sets_of (pass names_some named-part (λ n. (λ e. e, λ e. e)))
+pub sets-part : IsPart (is SEQUENCE) nothing (sets_at numbers_at)
+    (λ mode. Made sets_of (NamedForm mode))
+sets-part = resource-block-part numbers_at NumbersForm numbers-part
 
 -- ---- a content
 
-abbrev content : Set × (Set × Set) → List Checked → Checklist
+abbrev content : Sets → List Checked → Checklist
 content sets files = record {
   as_resources = sets.0;
   v4_resources = sets.1.0;
@@ -91,26 +66,26 @@ content sets files = record {
 abbrev flat_at : Parser Checklist
 flat_at mode bytes = do
   version ← optional (context 0) version_at mode bytes
-  sets ← sets_at mode version.1
+  sets ← sets_at numbers_at mode version.1
   algorithm ← digest_algorithm_at mode sets.1
   files ← list_at checked_at mode algorithm.1
   Some (content sets.0 files.0, files.1)
 
-abbrev put : Set × (Set × Set) → Option (List Checked × List ℕ) → Option (Checklist × List ℕ)
+abbrev put : Sets → Option (List Checked × List ℕ) → Option (Checklist × List ℕ)
 put sets o = o >>= λ files. Some (content sets files.0, files.1)
 
-files-spelt : (sets : Set × (Set × Set)) (o : Option (List Checked × List ℕ))
+files-spelt : (sets : Sets) (o : Option (List Checked × List ℕ))
     → put sets (◌>>=◌ {B = List Checked × List ℕ} o (λ files. Some (files.0, files.1))) ≡ put sets o
 files-spelt sets None = refl
 files-spelt sets (Some files) = refl
 
-listed-spelt : (sets : Set × (Set × Set)) (mode : Mode) (o : Option (Unit {0} × List ℕ))
+listed-spelt : (sets : Sets) (mode : Mode) (o : Option (Unit {0} × List ℕ))
     → put sets (o >>= λ a. (list_at checked_at mode a.1 >>= λ files. Some (files.0, files.1)))
     ≡ (o >>= λ a. put sets (list_at checked_at mode a.1))
 listed-spelt sets mode None = refl
 listed-spelt sets mode (Some a) = files-spelt sets (list_at checked_at mode a.1)
 
-sets-spelt : (mode : Mode) (o : Option ((Set × (Set × Set)) × List ℕ))
+sets-spelt : (mode : Mode) (o : Option (Sets × List ℕ))
     → (o >>= λ sets. put sets.0 (digest_algorithm_at mode sets.1
     >>= λ a. (list_at checked_at mode a.1 >>= λ files. Some (files.0, files.1))))
     ≡ (o >>= λ sets. (digest_algorithm_at mode sets.1
@@ -123,13 +98,13 @@ unfolding fields_at listed_at
 fields-spelt mode b = of (optional (context 0) version_at mode b)
   where
     of : (o : Option (Option (Unit {0}) × List ℕ))
-        → (o >>= λ version. (sets_at mode version.1 >>= λ sets. put sets.0
+        → (o >>= λ version. (sets_at numbers_at mode version.1 >>= λ sets. put sets.0
         (digest_algorithm_at mode sets.1
         >>= λ a. (list_at checked_at mode a.1 >>= λ files. Some (files.0, files.1)))))
-        ≡ (o >>= λ version. (sets_at mode version.1 >>= λ sets. (digest_algorithm_at mode sets.1
-        >>= λ a. put sets.0 (list_at checked_at mode a.1))))
+        ≡ (o >>= λ version. (sets_at numbers_at mode version.1 >>= λ sets.
+        (digest_algorithm_at mode sets.1 >>= λ a. put sets.0 (list_at checked_at mode a.1))))
     of None = refl
-    of (Some version) = sets-spelt mode (sets_at mode version.1)
+    of (Some version) = sets-spelt mode (sets_at numbers_at mode version.1)
 
 flat-part : IsPart (is SEQUENCE) nothing (sequence_at flat_at) ChecklistForm
 flat-part = within SEQUENCE (

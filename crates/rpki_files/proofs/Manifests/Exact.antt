@@ -29,7 +29,9 @@ use Rattle.rpki_der.proofs.Form.Kinds.{u160-part, oid-part, bits-part, ia5-part}
 use Rattle.rpki_der.proofs.Form.Words.{pass, part-as, make, make-some, option}
 use Rattle.rpki_der.proofs.Reading.Unique.{reading, IsOneValue}
 use Rattle.rpki_lists.specs.Rules.{admits}
+use Rattle.rpki_lists.specs.Version.{version_at}
 use Rattle.rpki_lists.proofs.Exact.{list-part, part-spelt}
+use Rattle.rpki_lists.proofs.Versions.{version-part}
 use Rattle.rpki_files.specs.Name.{is_file_name, is_registered}
 use Rattle.rpki_files.specs.File.{
   File,
@@ -42,12 +44,10 @@ use Rattle.rpki_files.specs.File.{
 }
 use Rattle.rpki_files.specs.File.{hash_at, file_fields_at, file_at, is_allowed, names_by}
 use Rattle.rpki_files.specs.File.{is_unrepeated, files_at}
-use Rattle.rpki_files.specs.Version.{version_at}
 use Rattle.rpki_files.specs.Manifest.{Manifest, ManifestForm}
 use Rattle.rpki_files.specs.Manifest.{Head, ordered, head_at, rest_at, fields_at}
 use Rattle.rpki_files.specs.Manifest.{manifest_at}
 use Rattle.rpki_files.proofs.Names.Decided.{name-decides}
-use Rattle.rpki_files.proofs.Versions.Exact.{version-part}
 use Rattle.rpki_basics.proofs.Algorithms.Parts.{named-is, named-self}
 
 -- ---- a file

@@ -8,8 +8,8 @@ ghost use Rattle.rpki_der.specs.Read.Parse.{oid_at, optional};
 ghost use Rattle.rpki_der.specs.Read.Reads.{Found, Reads, Stays};
 ghost use Rattle.rpki_der.specs.Form.Made.{partly};
 ghost use Rattle.rpki_der.specs.Tags.{context};
+ghost use Rattle.rpki_lists.specs.Version.{version_at};
 ghost use Rattle.rpki_files.specs.Manifest.{head_at, fields_at, manifest_at};
-ghost use Rattle.rpki_files.specs.Version.{version_at};
 
 use crate::faults;
 use crate::files::take_files;

@@ -7,15 +7,17 @@ use Rattle.std.proofs.lemmas.List.Elements.{All-nil, All-cons, All-head, All-tai
 use Rattle.rpki_der.specs.declared.mode.Mode.{Mode}
 use Rattle.rpki_der.specs.declared.mode.Mode.TheVariants.{Der}
 use Rattle.rpki_der.specs.Tags.{INTEGER, SEQUENCE, context}
-use Rattle.rpki_der.specs.Grammar.{Integer, IntegerBelow, Optional, Items}
-use Rattle.rpki_der.specs.Form.Made.{Ignored, Made}
+use Rattle.rpki_der.specs.Grammar.{IntegerBelow, Optional, Items}
+use Rattle.rpki_der.specs.Form.Made.{Made}
 use Rattle.rpki_der.specs.Form.Law.{nothing, is, or, IsPart, AreParts}
-use Rattle.rpki_der.specs.Form.Parts.{Sequence, Explicit, sequence_at}
+use Rattle.rpki_der.specs.Form.Parts.{Sequence, sequence_at}
 use Rattle.rpki_der.proofs.Form.Fields.{field, skipped, done, within}
-use Rattle.rpki_der.proofs.Form.Kinds.{u8-part, u32-part, this-part}
-use Rattle.rpki_der.proofs.Form.Words.{in-tag, pass, option, make, part-as}
+use Rattle.rpki_der.proofs.Form.Kinds.{u8-part, u32-part}
+use Rattle.rpki_der.proofs.Form.Words.{pass, option, make, part-as}
 use Rattle.rpki_lists.specs.Rules.{admits, goes_on}
+use Rattle.rpki_lists.specs.Version.{OptionalVersion}
 use Rattle.rpki_lists.proofs.Exact.{list-part}
+use Rattle.rpki_lists.proofs.Versions.{version-part}
 use Rattle.rpki_resources.specs.declared.family.AddressFamily.{AddressFamily}
 use Rattle.rpki_resources.specs.declared.family.AddressFamily.TheVariants.{Ipv6}
 use Rattle.rpki_resources.specs.As.Form.{AsId}
@@ -168,13 +170,13 @@ pub blocks-part : IsPart (is SEQUENCE) nothing (families_at addresses_at)
 blocks-part = families-part addresses-part
 
 fields : AreParts (or (is (context 0)) (or (is INTEGER) (or (is SEQUENCE) nothing))) fields_at
-    (λ mode r. Ignored (Optional {X = Unit {0}} (λ o _. Explicit 0 mode (λ c. Integer mode c 0) o))
+    (λ mode r. OptionalVersion mode
     ∷ (λ o. AsId mode o r.as_id)
     ∷ (λ o. Made lists_of (FamiliesForm AddressesForm mode) o (r.v4, r.v6)) ∷ [])
     (λ _. Unit {0})
 unfolding fields_at
 fields =
-    skipped (option (context 0) (in-tag (context 0) (this-part 0 (omega arith))))
+    skipped (option (context 0) version-part)
     (field (λ r. r.as_id) u32-part (λ number.
     field (λ r. (r.v4, r.v6)) (make lists_of blocks-part) (λ lists.
     done (record { as_id = number; v4 = lists.0; v6 = lists.1 }) ((tt, refl), refl)
@@ -183,7 +185,7 @@ fields =
 -- the content, whose addresses are in DER whatever the mode
 pub roa-part : IsPart (is SEQUENCE) nothing (sequence_at fields_at)
     (λ mode octets r. Sequence mode
-    (Ignored (Optional {X = Unit {0}} (λ o _. Explicit 0 mode (λ c. Integer mode c 0) o))
+    (OptionalVersion mode
     ∷ (λ o. AsId mode o r.as_id)
     ∷ (λ o. Made lists_of (FamiliesForm AddressesForm mode) o (r.v4, r.v6)) ∷ []) octets)
 roa-part = within SEQUENCE fields

@@ -29,8 +29,9 @@ use Rattle.rpki_resources.proofs.Addresses.Within.{max-most}
 use Rattle.rpki_resources.proofs.Families.Gathered.{entries-sound}
 use Rattle.rpki_resources.proofs.Families.Writing.{family-written}
 use Rattle.rpki_resources.proofs.Prefixes.Writing.{prefix-written}
+use Rattle.rpki_lists.specs.Version.{OptionalVersion}
 use Rattle.rpki_routes.specs.Roa.{Address, Roa, IsAddress, IsMaxLength, IsRoa}
-use Rattle.rpki_routes.specs.Roa.Form.{AddressForm, AddressesForm, VersionForm, BlocksForm}
+use Rattle.rpki_routes.specs.Roa.Form.{AddressForm, AddressesForm, BlocksForm}
 use Rattle.rpki_routes.specs.Roa.Form.{RoaForm}
 use Rattle.rpki_routes.specs.Roa.Written.{address_contents, address_octets, list_octets}
 use Rattle.rpki_routes.specs.Roa.Written.{family_contents, family_octets, families_octets}
@@ -189,7 +190,8 @@ roa-written r h inner =
     let number = number_octets r.as_id in
     let blocks = value_octets SEQUENCE (families_octets r) in
     within-written SEQUENCE
-    (Parts (VersionForm ∷ (λ o. AsId Der o r.as_id) ∷ (λ o. BlocksForm o (r.v4, r.v6)) ∷ []))
+    (Parts (OptionalVersion Der ∷ (λ o. AsId Der o r.as_id)
+    ∷ (λ o. BlocksForm o (r.v4, r.v6)) ∷ []))
     (roa_contents r) (tag-sound SEQUENCE refl) inner (
       [],
       roa_contents r,

@@ -3,14 +3,15 @@
 use Rattle.std.specs.Prelude.{ℕ, List, [], ◌∷◌, unwrap_or, IfSome}
 use Rattle.rpki_der.specs.declared.mode.Mode.{Mode}
 use Rattle.rpki_der.specs.declared.mode.Mode.TheVariants.{Der}
-use Rattle.rpki_der.specs.Grammar.{Integer, IntegerBelow, Optional}
-use Rattle.rpki_der.specs.Form.Parts.{Sequence, SequenceOf, Explicit}
-use Rattle.rpki_der.specs.Form.Made.{Made, Ignored}
+use Rattle.rpki_der.specs.Grammar.{IntegerBelow, Optional}
+use Rattle.rpki_der.specs.Form.Parts.{Sequence, SequenceOf}
+use Rattle.rpki_der.specs.Form.Made.{Made}
 use Rattle.rpki_resources.specs.declared.by_family.ByFamily.{ByFamily}
 use Rattle.rpki_resources.specs.declared.family.AddressFamily.{AddressFamily}
 use Rattle.rpki_resources.specs.As.Form.{AsId}
 use Rattle.rpki_resources.specs.Families.Form.{FamiliesForm}
 use Rattle.rpki_resources.specs.Ip.Form.{PrefixForm}
+use Rattle.rpki_lists.specs.Version.{OptionalVersion}
 use Rattle.rpki_routes.specs.Roa.{Address, Roa, IsMaxLength}
 
 -- ROAIPAddress: SEQUENCE { address, maxLength INTEGER OPTIONAL } (4.3). The bits of the prefix that
@@ -28,11 +29,6 @@ AddressForm family octets a = Sequence Der (
 abbrev pub AddressesForm : AddressFamily → Mode → List ℕ → List Address → Type 0
 AddressesForm family mode = SequenceOf mode (AddressForm family)
 
--- version: [0] { INTEGER 0 } DEFAULT 0 (4.1). That it may be written in DER too, against X.690,
--- section 11.5, is this project's own rule.
-abbrev pub VersionForm : List ℕ → Type 0
-VersionForm = Ignored (Optional {X = Unit {0}} (λ o _. Explicit 0 Der (λ c. Integer Der c 0) o))
-
 -- the addresses of each family, none where the family is not named
 abbrev pub lists_of : ByFamily (List Address) → List Address × List Address
 lists_of values = (unwrap_or values.v4 [], unwrap_or values.v6 [])
@@ -44,10 +40,10 @@ lists_of values = (unwrap_or values.v4 [], unwrap_or values.v6 [])
 abbrev pub BlocksForm : List ℕ → List Address × List Address → Type 0
 BlocksForm = Made lists_of (FamiliesForm AddressesForm Der)
 
--- RouteOriginAttestation: SEQUENCE { version, asID, ipAddrBlocks } (4)
+-- RouteOriginAttestation: SEQUENCE { version [0] INTEGER DEFAULT 0, asID, ipAddrBlocks } (4)
 abbrev pub RoaForm : List ℕ → Roa → Type 0
 RoaForm octets r = Sequence Der (
-    VersionForm
+    OptionalVersion Der
     ∷ (λ o. AsId Der o r.as_id)
     ∷ (λ o. BlocksForm o (r.v4, r.v6))
     ∷ []) octets

@@ -2,9 +2,9 @@
 use Rattle.std.specs.Prelude.{ℕ, List, Option, None, Some, Bool, true, ◌&&◌, nat_le}
 use Rattle.std.specs.Prelude.{if◌then◌else◌}
 use Rattle.rpki_der.specs.Tags.{INTEGER, context}
-use Rattle.rpki_der.specs.Read.Parse.{Parser, ◌>>=◌, primitive, this, u8_at, u32_at}
+use Rattle.rpki_der.specs.Read.Parse.{Parser, ◌>>=◌, u8_at, u32_at}
 use Rattle.rpki_der.specs.Read.Parse.{tested, optional}
-use Rattle.rpki_der.specs.Form.Parts.{sequence_at, context_at}
+use Rattle.rpki_der.specs.Form.Parts.{sequence_at}
 use Rattle.rpki_der.specs.Form.Made.{made}
 use Rattle.rpki_resources.specs.declared.family.AddressFamily.{AddressFamily}
 use Rattle.rpki_resources.specs.Family.{max_bits}
@@ -12,6 +12,7 @@ use Rattle.rpki_resources.specs.Families.Read.{families_at}
 use Rattle.rpki_resources.specs.Ip.Read.{prefix_at}
 use Rattle.rpki_lists.specs.Entries.{list_at}
 use Rattle.rpki_lists.specs.Rules.{admits}
+use Rattle.rpki_lists.specs.Version.{version_at}
 use Rattle.rpki_routes.specs.declared.roa.addresses.OneFamily.{OneFamily}
 use Rattle.rpki_routes.specs.Roa.{Address, Roa}
 use Rattle.rpki_routes.specs.Roa.Form.{lists_of}
@@ -46,14 +47,10 @@ abbrev pub addresses_at : AddressFamily → Parser (List Address)
 addresses_at family = tested (admits after_address (record { family = family }))
     (list_at address_at)
 
--- the version, which may be there
-abbrev pub version_at : Parser (Option (Unit {0}))
-version_at = optional (context 0) (context_at 0 (primitive INTEGER (this 0)))
-
 -- the version, the AS number, and the addresses of each family
 unfoldable pub fields_at : Parser Roa
 fields_at mode bytes = do
-  version ← version_at mode bytes
+  version ← optional (context 0) version_at mode bytes
   number ← u32_at mode version.1
   lists ← made lists_of (families_at addresses_at) mode number.1
   Some (record { as_id = number.0; v4 = lists.0.0; v6 = lists.0.1 }, lists.1)

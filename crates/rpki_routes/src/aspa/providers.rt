@@ -63,9 +63,8 @@ impl<'a> SliceEntry for ProvidersIn<'a> {
         reader.is_empty()
     }
 
-    fn read(reader: &mut SliceReader<'a>) -> Option<Asn> {
-        let number = reader.take_u32()?;
-        Some(Asn::from_u32(number))
+    fn read(reader: &mut SliceReader<'a>) -> Asn {
+        Asn::from_u32(reader.known_u32())
     }
 
     fn again(reader: &SliceReader<'a>) -> SliceReader<'a> {

@@ -7,7 +7,7 @@ ghost use Rattle.rpki_routes.specs.Roa.Read.{address_at, address_fields_at, is_o
 
 use crate::faults;
 use crate::roa::address::RoaIpAddress;
-use crate::roa::bits::take_prefix;
+use crate::roa::bits::{known_prefix, take_prefix};
 use bytes::Bytes;
 use rpki_der::{Constructed, DecodeError};
 use rpki_lists::{
@@ -103,8 +103,11 @@ impl<'a> SliceEntry for AddressesIn<'a> {
         reader.is_empty()
     }
 
-    fn read(reader: &mut SliceReader<'a>) -> Option<RoaIpAddress> {
-        take_address(reader)
+    fn read(reader: &mut SliceReader<'a>) -> RoaIpAddress {
+        let mut fields = reader.known_sequence();
+        let prefix = known_prefix(&mut fields);
+        let max_length = fields.known_opt_u8();
+        RoaIpAddress::new(prefix, max_length)
     }
 
     fn again(reader: &SliceReader<'a>) -> SliceReader<'a> {

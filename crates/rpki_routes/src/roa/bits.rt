@@ -1,6 +1,7 @@
 //! Prefixes in a slice, read without memory (RFC 3779, section 2.2.3.8).
 
-ghost use Rattle.rpki_lists.specs.Slice.{FindsFront};
+ghost use Rattle.std.specs.Prelude.{Some};
+ghost use Rattle.rpki_lists.specs.Slice.{FindsFront, IsFound};
 ghost use Rattle.rpki_resources.specs.Ip.Read.{prefix_at};
 
 use rpki_lists::{BitSlice, SliceReader};
@@ -15,4 +16,16 @@ pub fn take_prefix(reader: &mut SliceReader<'_>) -> Option<Prefix>
 {
     let BitSlice { octets, unused } = reader.take_bits()?;
     Prefix::from_bits(octets, unused, AddressFamily::Ipv6)
+}
+
+/// Reads the prefix of at most 128 bits that is known to be in front.
+pub fn known_prefix(reader: &mut SliceReader<'_>) -> Prefix
+    requires { IsFound (prefix_at 128) reader.old }
+    ensures { FindsFront (λ p. p) (prefix_at 128) reader.old (Some result) reader.new }
+{
+    let bits = reader.known_bits();
+    match Prefix::from_bits(bits.octets, bits.unused, AddressFamily::Ipv6) {
+        Some(prefix) => prefix,
+        None => unreachable!(),
+    }
 }

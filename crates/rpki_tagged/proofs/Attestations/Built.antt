@@ -11,13 +11,13 @@ use Rattle.rpki_resources.specs.declared.block.Block.{Block}
 use Rattle.rpki_resources.specs.Blocks.{within, holds, Holds, IsSetOf, RisesFrom}
 use Rattle.rpki_resources.proofs.Sets.Between.{between-in}
 use Rattle.rpki_tagged.specs.Attestation.{Attestation, attestation_contents}
-use Rattle.rpki_tagged.specs.Built.{HaveNumber, IsBuiltOf, IsTooLong, NamesSome}
+use Rattle.rpki_tagged.specs.Built.{HaveNumber, IsBuiltOf, IsTooLong, HasNumbers}
 use Rattle.rpki_tagged.specs.Built.{attestation_checks}
-use Rattle.rpki_tagged.specs.Named.{Set, is_none}
+use Rattle.rpki_lists.specs.Named.{Set, is_empty}
 
 -- in blocks that ascend there is a number, unless there is no block
 pub number-there : {T : Type 0} (f : T → ℕ) (a : ℕ) (set : List (Block T)) (none : Bool)
-    → none ≡ is_none set → RisesFrom f a set → IsTrue (not none) → (n : ℕ) × Holds f set n
+    → none ≡ is_empty set → RisesFrom f a set → IsTrue (not none) → (n : ℕ) × Holds f set n
 number-there f a [] none e r some = absurd cc
 number-there f a (b ∷ set) none e r some = (
   f b.min,
@@ -25,7 +25,7 @@ number-there f a (b ∷ set) none e r some = (
       (between-in (f b.min) (f b.max) (f b.min) (omega arith) r.1),
 )
 
-pub nothing-there : {T : Type 0} (set : List (Block T)) (none : Bool) → none ≡ is_none set
+pub nothing-there : {T : Type 0} (set : List (Block T)) (none : Bool) → none ≡ is_empty set
     → not none ≡ false → set ≡ []
 nothing-there [] none e h = refl
 nothing-there (b ∷ set) none e h = absurd cc
@@ -41,8 +41,8 @@ have-alike blocks set s h = (h.0, sym (s.same h.0) ∙ h.1)
 have-back : (blocks set : Set) → IsSetOf blocks set → HaveNumber blocks → HaveNumber set
 have-back blocks set s h = (h.0, s.same h.0 ∙ h.1)
 
-pub some-built : (builder content : Attestation) → IsBuiltOf builder content → NamesSome content
-    → NamesSome builder
+pub some-built : (builder content : Attestation) → IsBuiltOf builder content → HasNumbers content
+    → HasNumbers builder
 some-built builder content b (inl n) =
     inl (have-alike builder.as_resources content.as_resources b.numbers n)
 some-built builder content b (inr (inl n)) =
@@ -51,7 +51,7 @@ some-built builder content b (inr (inr n)) =
     inr (inr (have-alike builder.v6_resources content.v6_resources b.v6 n))
 
 pub none-built : (builder content : Attestation) → IsBuiltOf builder content
-    → (NamesSome content → ⊥) → NamesSome builder → ⊥
+    → (HasNumbers content → ⊥) → HasNumbers builder → ⊥
 none-built builder content b none (inl n) =
     none (inl (have-back builder.as_resources content.as_resources b.numbers n))
 none-built builder content b none (inr (inl n)) =
@@ -67,7 +67,7 @@ if-same P (Err f) a e h = tt
 
 -- what is refused for its length
 pub short-refused : (builder content : Attestation) (r : Result Attestation BuildError)
-    → IsBuiltOf builder content → NamesSome content
+    → IsBuiltOf builder content → HasNumbers content
     → IfErr r (IsNotBuilt [] (length (attestation_contents content) < 2 ^ 32 → ⊥))
     → IfErr r (IsNotBuilt (attestation_checks builder) (IsTooLong builder))
 short-refused builder content (Ok a) b some h = tt
@@ -78,6 +78,6 @@ short-refused builder content (Err error.Memory) b some h = tt
 
 -- what is refused since it names nothing
 pub nothing-refused : (builder content : Attestation) → IsBuiltOf builder content
-    → (NamesSome content → ⊥)
+    → (HasNumbers content → ⊥)
     → IsNotBuilt (attestation_checks builder) (IsTooLong builder) (error.Fault NoResources)
 nothing-refused builder content b none = inr (none-built builder content b none, refl)

@@ -1,6 +1,6 @@
 -- What is written of a content is in its form.
 use Rattle.std.proofs.Common.{◌≡◌, ℕ, ◌<◌, ◌^◌, List, [], ◌∷◌, ◌++◌, length}
-use Rattle.std.proofs.Common.{All, Option, Some, None, Err, refl, sym, subst, arith}
+use Rattle.std.proofs.Common.{All, None, Err, refl, sym, subst, arith}
 use Rattle.std.specs.List.{flat_map}
 use Rattle.std.proofs.lemmas.List.{append-nil}
 use Rattle.rpki_der.specs.Numbers.{MAX_DEPTH}
@@ -8,11 +8,11 @@ use Rattle.rpki_der.specs.Tags.{SEQUENCE, SET, OCTET_STRING, context}
 use Rattle.rpki_der.specs.declared.encode.EncodeError.{EncodeError}
 use Rattle.rpki_der.specs.declared.encode.EncodeError.TheVariants.{NotDer, TooLong, Io, Memory}
 use Rattle.rpki_der.specs.declared.mode.Mode.TheVariants.{Der}
-use Rattle.rpki_der.specs.Grammar.{Items, Optional, OctetString}
-use Rattle.rpki_der.specs.Form.Made.{Made, Ignored}
-use Rattle.rpki_der.specs.Form.Parts.{Parts, SetOf}
+use Rattle.rpki_der.specs.Grammar.{Items, OctetString}
+use Rattle.rpki_der.specs.Form.Made.{Made}
+use Rattle.rpki_der.specs.Form.Parts.{Explicit, Parts, SetOf}
 use Rattle.rpki_der.specs.Write.Encode.{IsLenOf}
-use Rattle.rpki_der.specs.Write.Parts.{contents_small, length_parts, optional_octets}
+use Rattle.rpki_der.specs.Write.Parts.{contents_small, length_parts}
 use Rattle.rpki_der.specs.Write.Written.{value_octets, length_value_octets_le}
 use Rattle.rpki_der.proofs.Reading.Scan.{tag-sound}
 use Rattle.rpki_der.proofs.Writing.Leaves.{within-written, items-written}
@@ -21,85 +21,32 @@ use Rattle.rpki_der.proofs.Writing.Values.{octets-written}
 use Rattle.rpki_basics.specs.Algorithm.{DigestAlgorithmForm, digest_algorithm_octets}
 use Rattle.rpki_basics.specs.Identifier.{KeyIdentifierForm, identifier_length}
 use Rattle.rpki_basics.specs.Identifier.{key_identifier_octets}
-use Rattle.rpki_resources.specs.declared.family.AddressFamily.TheVariants.{Ipv4, Ipv6}
 use Rattle.rpki_resources.specs.As.Form.{AsForm}
 use Rattle.rpki_resources.specs.As.Written.{as_octets}
-use Rattle.rpki_tagged.specs.declared.named.Named.{Named}
-use Rattle.rpki_tagged.specs.Attestation.{Attestation, VersionForm, NumbersForm, NamedForm}
-use Rattle.rpki_tagged.specs.Attestation.{AttestationForm, keys_octets, numbers_octets}
-use Rattle.rpki_tagged.specs.Attestation.{named_contents, attestation_contents}
-use Rattle.rpki_tagged.specs.Attestation.{attestation_octets}
-use Rattle.rpki_tagged.specs.Named.{Set, AddressesForm, sets_of, written_numbers}
-use Rattle.rpki_tagged.specs.Named.{addresses_octets}
-use Rattle.rpki_tagged.proofs.Names.Written.{AsWritten, IpWritten, values-of, addresses-written}
-use Rattle.rpki_tagged.proofs.Names.Written.{written-is, some-named, stood, number-stood}
+use Rattle.rpki_lists.specs.Named.{Set, sets_of}
+use Rattle.rpki_lists.specs.Version.{OptionalVersion}
+use Rattle.rpki_lists.proofs.Names.Written.{AsWritten, AreWritten, resource-block-written}
+use Rattle.rpki_tagged.specs.Attestation.{Attestation, NamedForm, AttestationForm}
+use Rattle.rpki_tagged.specs.Attestation.{keys_octets, numbers_octets, named_contents}
+use Rattle.rpki_tagged.specs.Attestation.{attestation_contents, attestation_octets}
 
 -- ---- what is named
 
-numbers-written : (set : Set) → AsWritten set
-    → length (value_octets SEQUENCE (flat_map as_octets set)) < 2 ^ 32
-    → NumbersForm Der (numbers_octets set) set
+numbers-written : (set : Set) → AsWritten set → length (numbers_octets set) < 2 ^ 32
+    → Explicit 0 Der (λ d. AsForm Der d set) (numbers_octets set)
 numbers-written set written short =
-    within-written (context 0) (λ d. AsForm Der d set)
-    (value_octets SEQUENCE (flat_map as_octets set)) (tag-sound (context 0) refl) short
-    (written (contents_small SEQUENCE (flat_map as_octets set) short))
+    let list = value_octets SEQUENCE (flat_map as_octets set) in
+    let few = contents_small (context 0) list short in
+    within-written (context 0) (λ d. AsForm Der d set) list (tag-sound (context 0) refl) few
+    (written (contents_small SEQUENCE (flat_map as_octets set) few))
 
-numbers-if : (found : Option Set) (set : Set) → AsWritten set
-    → ((s : Set) → found ≡ Some s → s ≡ set)
-    → length (optional_octets numbers_octets found) < 2 ^ 32
-    → Optional (NumbersForm Der) (optional_octets numbers_octets found) found
-numbers-if None set written same short = refl
-numbers-if (Some s) set written same short =
-    numbers-written s (subst AsWritten (sym (same s refl)) written)
-    (contents_small (context 0) (value_octets SEQUENCE (flat_map as_octets s)) short)
-
--- which numbers a content is written to name
-abbrev named-of : Attestation → Named
-named-of a = record {
-  numbers = written_numbers a.as_resources a.v4_resources a.v6_resources;
-  addresses = values-of a.v4_resources a.v6_resources;
-}
-
--- what the sets are written by
-pub record AreWritten (a : Attestation) : Type 0 where
-  pub numbers : AsWritten a.as_resources
-  pub v4 : IpWritten Ipv4 a.v4_resources
-  pub v6 : IpWritten Ipv6 a.v6_resources
-
-sets-written : (a : Attestation) → AreWritten a → length (named_contents a) < 2 ^ 32
+sets-written : (a : Attestation) → AreWritten a.as_resources a.v4_resources a.v6_resources
+    → length (named_contents a) < 2 ^ 32
     → Made sets_of (NamedForm Der) (value_octets SEQUENCE (named_contents a))
     (a.as_resources, (a.v4_resources, a.v6_resources))
-sets-written a w inner =
-    let found = written_numbers a.as_resources a.v4_resources a.v6_resources in
-    let numbers = optional_octets numbers_octets found in
-    let addresses = addresses_octets a.v4_resources a.v6_resources in
-    let each = length_parts numbers addresses inner in (
-      named-of a,
-      (
-        within-written SEQUENCE
-            (Parts ((λ o. Optional (NumbersForm Der) o (named-of a).numbers)
-            ∷ (λ o. AddressesForm Der o (named-of a).addresses) ∷ []))
-            (named_contents a) (tag-sound SEQUENCE refl) inner (
-              numbers,
-              addresses,
-              refl,
-              numbers-if found a.as_resources w.numbers
-                  (written-is a.as_resources a.v4_resources a.v6_resources) each.0,
-              (
-                addresses,
-                [],
-                sym (append-nil addresses),
-                addresses-written a.v4_resources a.v6_resources w.v4 w.v6 each.1,
-                refl,
-              ),
-            ),
-        some-named a.as_resources a.v4_resources a.v6_resources,
-      ),
-      (λ i. (
-        number-stood a.as_resources a.v4_resources a.v6_resources i,
-        (stood a.v4_resources i, stood a.v6_resources i),
-      )),
-    )
+sets-written a w short =
+    resource-block-written AsForm numbers_octets a.as_resources a.v4_resources a.v6_resources
+    (numbers-written a.as_resources w.numbers) w.v4 w.v6 short
 
 -- ---- the keys
 
@@ -119,7 +66,8 @@ keys-written ids valid short =
 
 -- ---- the content
 
-pub attestation-written : (a : Attestation) → AreWritten a
+pub attestation-written : (a : Attestation)
+    → AreWritten a.as_resources a.v4_resources a.v6_resources
     → All (λ id. length id ≡ identifier_length) a.subject_keys
     → DigestAlgorithmForm Der digest_algorithm_octets tt → length (attestation_contents a) < 2 ^ 32
     → AttestationForm Der (attestation_octets a) a
@@ -131,7 +79,7 @@ attestation-written a w valid algorithm short =
     let q = length_parts named (digest_algorithm_octets ++ digest) p.1 in
     let r = length_parts digest_algorithm_octets digest q.1 in
     within-written SEQUENCE
-    (Parts (Ignored (Optional (VersionForm Der))
+    (Parts (OptionalVersion Der
     ∷ (λ o. SetOf Der (KeyIdentifierForm Der) o a.subject_keys)
     ∷ (λ o. Made sets_of (NamedForm Der) o (a.as_resources, (a.v4_resources, a.v6_resources)))
     ∷ (λ o. DigestAlgorithmForm Der o tt)

@@ -13,14 +13,14 @@ ghost use Rattle.rpki_resources.specs.Ip.{ip_range};
 ghost use Rattle.rpki_resources.specs.declared.family.AddressFamily.TheVariants.{Ipv4};
 ghost use Rattle.rpki_tagged.specs.Attestation.{AttestationForm};
 ghost use Rattle.rpki_tagged.specs.Attestation.{attestation_contents, attestation_octets};
-ghost use Rattle.rpki_tagged.specs.Built.{IsBuiltOf, IsTooLong, NamesSome, attestation_checks};
+ghost use Rattle.rpki_tagged.specs.Built.{IsBuiltOf, IsTooLong, HasNumbers, attestation_checks};
 ghost use Rattle.rpki_tagged.specs.Lent.{LendsKeys, LendsNumbers, LendsV4, LendsV6};
 
 use crate::attestation::ResourceTaggedAttestation;
-use crate::named::encoder::is_none;
 use rpki_attributes::MessageDigest;
 use rpki_basics::{BuildError, BuildFault, DigestAlgorithm, KeyIdentifier};
 use rpki_der::{Encode, EncodeError};
+use rpki_lists::named::encoder::is_empty_set;
 use rpki_resources::{AsBlock, AsBlocksBuilder, Blocks, IpBlock, IpBlocksBuilder, Number};
 use std::alloc::{AllocError, Global};
 use std::marker::Model;
@@ -193,14 +193,14 @@ impl AttestationBuilder {
     pub fn into_attestation(self) -> Result<ResourceTaggedAttestation, BuildError>
         requires { All (IsWithin Ipv4) self.v4_resources }
         ensures built { IfOk result (IsBuiltOf self) }
-        ensures named { OnOk result (NamesSome self) }
+        ensures named { OnOk result (HasNumbers self) }
         ensures short { IfOk result (λ a. length (attestation_contents a) < 2 ^ 32) }
         ensures written { IfOk result (λ a. AttestationForm Der (attestation_octets a) a) }
         ensures refused { IfErr result
             (IsNotBuilt (attestation_checks self) (IsTooLong self)) }
     {
         let attestation = self.sets()?;
-        if names_some(&attestation) {
+        if has_numbers(&attestation) {
             short(attestation)
         } else {
             drop(attestation);
@@ -250,13 +250,13 @@ fn has_number<T: Number>(set: &Blocks<T>) -> bool
 {
     // The proof takes from this call that the blocks ascend.
     let _ = set.as_slice();
-    !is_none(set)
+    !is_empty_set(set)
 }
 
 // Whether there is an AS number, or an address of a family.
-fn names_some(attestation: &ResourceTaggedAttestation) -> bool
-    ensures some { IsTrue result → NamesSome attestation.now }
-    ensures none { result ≡ false → NamesSome attestation.now → ⊥ }
+fn has_numbers(attestation: &ResourceTaggedAttestation) -> bool
+    ensures some { IsTrue result → HasNumbers attestation.now }
+    ensures none { result ≡ false → HasNumbers attestation.now → ⊥ }
 {
     if has_number(attestation.as_resources()) {
         return true;

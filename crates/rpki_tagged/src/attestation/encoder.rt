@@ -8,14 +8,14 @@ ghost use Rattle.rpki_der.specs.Write.Parts.{contents_small, optional_octets};
 ghost use Rattle.rpki_der.specs.Write.Written.{value_octets};
 ghost use Rattle.rpki_resources.specs.As.Written.{as_octets};
 ghost use Rattle.rpki_tagged.specs.Attestation.{numbers_octets, named_contents};
-ghost use Rattle.rpki_tagged.specs.Named.{written_numbers, families_octets, addresses_octets};
+ghost use Rattle.rpki_lists.specs.Named.{written_asns, families_octets, addresses_octets};
 
 use crate::attestation::ResourceTaggedAttestation;
-use crate::named::encoder::{AddressesField, is_none, written_addresses};
 use rpki_attributes::MessageDigestEncoder;
 use rpki_basics::{AlgorithmEncoder, KeyIdentifier};
 use rpki_der::encode::{Value, each, sequence, set, tagged};
 use rpki_der::{Encode, EncodeError, Sink, SinkFailed, Tag};
+use rpki_lists::named::encoder::{AddressesField, is_empty_set, written_addresses};
 use rpki_resources::{AsBlocks, AsBlocksEncoder};
 use std::marker::Model;
 
@@ -113,13 +113,14 @@ impl<'a> NamedField<'a> {
     // The AS numbers, unless there are none and addresses are named.
     fn numbers(&self) -> Option<NumbersField<'a>>
         ensures { optional_octets (λ f. numbers_octets f.0.now) result
-            ≡ optional_octets numbers_octets (written_numbers self.now.0.now.as_resources
+            ≡ optional_octets numbers_octets (written_asns self.now.0.now.as_resources
             self.now.0.now.v4_resources self.now.0.now.v6_resources) }
     {
         let content = self.0;
         let numbers = content.as_resources();
-        let no_address = is_none(content.v4_resources()) && is_none(content.v6_resources());
-        if is_none(numbers) && !no_address {
+        let no_address = is_empty_set(content.v4_resources())
+            && is_empty_set(content.v6_resources());
+        if is_empty_set(numbers) && !no_address {
             None
         } else {
             Some(NumbersField(numbers))
@@ -129,8 +130,7 @@ impl<'a> NamedField<'a> {
     // The addresses, if there are some.
     fn addresses(&self) -> Option<AddressesField<'a>>
         ensures { optional_octets
-            (λ f. value_octets (context 1)
-            (value_octets SEQUENCE (families_octets f.0.v4.now f.0.v6.now))) result
+            (λ f. value_octets (context 1) (value_octets SEQUENCE (families_octets f.0 f.1))) result
             ≡ addresses_octets self.now.0.now.v4_resources self.now.0.now.v6_resources }
     {
         let content = self.0;

@@ -4,27 +4,22 @@ ghost use Rattle.std.specs.Prelude.{◌≡◌};
 ghost use Rattle.rpki_der.specs.declared.mode.Mode.TheVariants.{Der};
 ghost use Rattle.rpki_der.specs.Read.Parse.{optional};
 ghost use Rattle.rpki_der.specs.Read.Reads.{Found, Reads, Stays};
+ghost use Rattle.rpki_der.specs.Form.Parts.{context_at};
 ghost use Rattle.rpki_der.specs.Tags.{context};
-ghost use Rattle.rpki_tagged.specs.Attestation.{version_at, subject_keys_at, numbers_at};
-ghost use Rattle.rpki_tagged.specs.Attestation.{named_fields_at, sets_at, fields_at};
-ghost use Rattle.rpki_tagged.specs.Attestation.{attestation_at};
+ghost use Rattle.rpki_resources.specs.As.Read.{as_blocks_at};
+ghost use Rattle.rpki_lists.specs.Named.{named_fields_at, sets_at};
+ghost use Rattle.rpki_tagged.specs.Attestation.{subject_keys_at, fields_at, attestation_at};
 
 use crate::attestation::ResourceTaggedAttestation;
 use crate::faults;
-use crate::named::{Named, Sets, names_some, sets_of, take_addresses};
 use bytes::Bytes;
 use rpki_attributes::MessageDigest;
 use rpki_basics::{DigestAlgorithm, KeyIdentifier};
 use rpki_der::{Constructed, DecodeError, Mode, Tag};
+use rpki_lists::named::{Named, Sets, names_some, sets_of, take_addresses};
+use rpki_lists::version::skip_version;
 use rpki_resources::AsBlocks;
 use std::alloc::Global;
-
-// Skips the version, if it is there; it is 0.
-fn skip_version(cons: &mut Constructed<'_>) -> Result<Option<()>, DecodeError>
-    ensures { Reads (λ u. u) (optional (context 0) version_at) cons.old result cons.new }
-{
-    cons.take_opt_constructed_if(Tag::CTX_0, |cons| cons.skip_u8_if(0))
-}
 
 // Reads the identifiers of the keys.
 fn take_subject_keys(
@@ -36,27 +31,28 @@ fn take_subject_keys(
     cons.take_set(|cons| cons.take_items(alloc))
 }
 
-// Reads the AS numbers, if there are some.
-fn take_numbers(cons: &mut Constructed<'_>, alloc: Global) -> Result<Option<AsBlocks>, DecodeError>
-    ensures { Reads (λ set. set) (optional (context 0) numbers_at) cons.old result cons.new }
+// Reads the AS numbers, if they are there.
+fn take_asns(cons: &mut Constructed<'_>, alloc: Global) -> Result<Option<AsBlocks>, DecodeError>
+    ensures { Reads (λ set. set) (optional (context 0) (context_at 0 as_blocks_at))
+        cons.old result cons.new }
 {
     cons.take_opt_constructed_if(Tag::CTX_0, |cons| AsBlocks::take_from(alloc, cons))
 }
 
 // Reads the AS numbers and the addresses, one after the other.
-#[tactic(auto, unfolding(crate::specs::Attestation::named_fields_at))]
+#[tactic(auto, unfolding(rpki_lists::specs::Named::named_fields_at))]
 fn take_named(cons: &mut Constructed<'_>, alloc: Global) -> Result<Named, DecodeError>
-    ensures { Reads (λ named. named) named_fields_at cons.old result cons.new }
+    ensures { Reads (λ named. named) (named_fields_at as_blocks_at) cons.old result cons.new }
 {
-    let numbers = take_numbers(cons, alloc)?;
+    let asns = take_asns(cons, alloc)?;
     let addresses = take_addresses(cons, alloc)?;
-    Ok(Named { numbers, addresses })
+    Ok(Named { asns, addresses })
 }
 
 // Reads the sets, where something is named.
 #[tactic(auto, unfolding(rpki_der::specs::Read::Parse::tested))]
 fn take_sets(cons: &mut Constructed<'_>, alloc: Global) -> Result<Sets, DecodeError>
-    ensures { Reads (λ sets. sets) sets_at cons.old result cons.new }
+    ensures { Reads (λ sets. sets) (sets_at as_blocks_at) cons.old result cons.new }
 {
     let named = cons.take_sequence(|cons| take_named(cons, alloc))?;
     if names_some(&named) {

@@ -5,10 +5,12 @@ use Rattle.rpki_der.proofs.Form.Words.{items-all}
 use Rattle.rpki_der.proofs.Reading.Calls.{reads-ok}
 use Rattle.rpki_der.proofs.Reading.Exact.{IsBytes-left, IsBytes-right}
 use Rattle.rpki_basics.specs.Identifier.{KeyIdentifierForm, identifier_length}
-use Rattle.rpki_tagged.specs.Attestation.{subject_keys_at, sets_at}
-use Rattle.rpki_tagged.specs.Named.{Sets}
+use Rattle.rpki_resources.specs.As.Form.{AsForm}
+use Rattle.rpki_resources.specs.As.Read.{as_blocks_at}
+use Rattle.rpki_lists.specs.Named.{Sets, sets_at}
+use Rattle.rpki_lists.proofs.Names.Facts.{resource-block-facts}
+use Rattle.rpki_tagged.specs.Attestation.{subject_keys_at}
 use Rattle.rpki_tagged.proofs.Attestations.Exact.{keys-part, sets-part}
-use Rattle.rpki_tagged.proofs.Attestations.Facts.{sets-facts}
 use Rattle.rpki_tagged.proofs.attestation.read.take_fields.Goals as goal
 
 pub invariant_of-result : goal.invariant_of-result
@@ -30,7 +32,8 @@ invariant_of-result c =
       c.in_ok-as_resources.as_resources,
       (c.in_ok-as_resources.v4_resources, c.in_ok-as_resources.v6_resources),
     ) in
-    let r = reads-ok (λ (s : Sets). s) sets_at old sets new c.in_ok-as_resources.ensures in
+    let r = reads-ok (λ (s : Sets). s) (sets_at as_blocks_at) old sets new
+    c.in_ok-as_resources.ensures in
     let f = (sets-part.exact old.mode).sound old.rest sets new.rest bytes r.found in
     let octets : IsBytes f.0 = IsBytes-left f.0 new.rest (subst IsBytes f.1 bytes) in
-    (sets-facts old.mode f.0 sets octets f.2, lengths)
+    (resource-block-facts AsForm old.mode f.0 sets octets f.2, lengths)

@@ -5,18 +5,19 @@ ghost use Rattle.rpki_der.specs.Tags.{SEQUENCE, context};
 ghost use Rattle.rpki_der.specs.Write.Parts.{contents_small, optional_octets};
 ghost use Rattle.rpki_der.specs.Write.Written.{value_octets};
 ghost use Rattle.rpki_resources.specs.declared.family.AddressFamily.TheVariants.{Ipv4, Ipv6};
-ghost use Rattle.rpki_tagged.specs.Named.{is_none, family_contents, family_octets};
-ghost use Rattle.rpki_tagged.specs.Named.{families_octets, addresses_octets};
+ghost use Rattle.rpki_lists.specs.Named.{is_empty, family_contents, family_octets};
+ghost use Rattle.rpki_lists.specs.Named.{families_octets, addresses_octets};
 
 use rpki_der::encode::{Value, sequence, tagged};
 use rpki_der::{Encode, EncodeError, Sink, SinkFailed, Tag};
 use rpki_resources::{
     AddressFamily, AddressFamilyEncoder, Blocks, IpBlocks, IpBlocksEncoder, Number,
 };
+use std::marker::Model;
 
 /// Whether the set has no number.
-pub fn is_none<T: Number>(set: &Blocks<T>) -> bool
-    ensures { result ≡ is_none set.now }
+pub fn is_empty_set<T: Number>(set: &Blocks<T>) -> bool
+    ensures { result ≡ is_empty set.now }
 {
     match set.as_slice() {
         [] => true,
@@ -25,39 +26,57 @@ pub fn is_none<T: Number>(set: &Blocks<T>) -> bool
 }
 
 /// The addresses of both families under their tag.
-#[derive(Clone, Copy)]
-pub struct AddressesField<'a>(FamiliesField<'a>);
+#[derive(Drop)]
+pub struct AddressesField<'a> {
+    v4: &'a IpBlocks,
+    v6: &'a IpBlocks,
+}
+
+impl<'a> Model for AddressesField<'a> {
+    ghost use Rattle.rpki_lists.specs.Named.{Set};
+
+    // The addresses of IPv4 and of IPv6.
+    ghost Value = { Set × Set };
+
+    ghost view = { λ f. (f.v4.now, f.v6.now) };
+}
 
 /// What is written of the addresses: nothing, where there are none.
 pub fn written_addresses<'a>(v4: &'a IpBlocks, v6: &'a IpBlocks) -> Option<AddressesField<'a>>
     ensures { optional_octets
-        (λ f. value_octets (context 1)
-        (value_octets SEQUENCE (families_octets f.0.v4.now f.0.v6.now))) result
+        (λ f. value_octets (context 1) (value_octets SEQUENCE (families_octets f.0 f.1))) result
         ≡ addresses_octets v4.now v6.now }
 {
-    if is_none(v4) && is_none(v6) {
+    if is_empty_set(v4) && is_empty_set(v6) {
         None
     } else {
-        Some(AddressesField(FamiliesField { v4, v6 }))
+        Some(AddressesField { v4, v6 })
     }
 }
 
 impl Encode for AddressesField<'_> {
-    ghost octets = { λ s. value_octets (context 1)
-        (value_octets SEQUENCE (families_octets s.0.v4.now s.0.v6.now)) };
+    ghost octets = { λ f. value_octets (context 1)
+        (value_octets SEQUENCE (families_octets f.0 f.1)) };
 
-    ghost is_short = { λ s.
-        length (value_octets SEQUENCE (families_octets s.0.v4.now s.0.v6.now)) < 2 ^ 32 };
+    ghost is_short = { λ f. length (value_octets SEQUENCE (families_octets f.0 f.1)) < 2 ^ 32 };
 
-    ghost small = { λ s h. contents_small (context 1)
-        (value_octets SEQUENCE (families_octets s.0.v4.now s.0.v6.now)) h };
+    ghost small = { λ f h. contents_small (context 1)
+        (value_octets SEQUENCE (families_octets f.0 f.1)) h };
 
     fn encoded_len(&self) -> Result<u64, EncodeError> {
-        tagged(Tag::CTX_1, self.0).encoded_len()
+        let families = FamiliesField {
+            v4: self.v4,
+            v6: self.v6,
+        };
+        tagged(Tag::CTX_1, families).encoded_len()
     }
 
     fn put<W: Sink>(&self, len: u64, out: &mut W) -> Result<(), SinkFailed> {
-        tagged(Tag::CTX_1, self.0).put(len, out)
+        let families = FamiliesField {
+            v4: self.v4,
+            v6: self.v6,
+        };
+        tagged(Tag::CTX_1, families).put(len, out)
     }
 }
 

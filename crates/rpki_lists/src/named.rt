@@ -1,8 +1,9 @@
 //! Which numbers a content names.
 
 ghost use Rattle.std.specs.Prelude.{◌≡◌};
-ghost use Rattle.rpki_der.specs.Read.Reads.{Reads};
-ghost use Rattle.rpki_tagged.specs.Named.{addresses_at, is_there, names_some, or_nothing, sets_of};
+ghost use Rattle.rpki_der.specs.Read.Reads.{Reads, Stays};
+ghost use Rattle.rpki_lists.specs.Entries.{or_empty};
+ghost use Rattle.rpki_lists.specs.Named.{addresses_at, names_some, sets_of};
 
 pub mod encoder;
 
@@ -14,7 +15,7 @@ use std::alloc::Global;
 #[derive(Drop)]
 pub struct Named {
     /// The AS numbers.
-    pub numbers: Option<AsBlocks>,
+    pub asns: Option<AsBlocks>,
     /// The addresses.
     pub addresses: ByFamily<IpBlocks>,
 }
@@ -22,12 +23,14 @@ pub struct Named {
 /// Three sets: AS numbers, and the addresses of IPv4 and of IPv6.
 pub type Sets = (AsBlocks, (IpBlocks, IpBlocks));
 
-/// Reads the addresses, if there are some.
+/// Reads the addresses, which stand under [1], if they are there (RFC 9323, section 4.2.2;
+/// draft-michaelson-rpki-rta, section 4). Refuses as `ByFamily::take_from` does.
 pub fn take_addresses(
     cons: &mut Constructed<'_>,
     alloc: Global,
 ) -> Result<ByFamily<IpBlocks>, DecodeError>
-    ensures { Reads (λ values. values) addresses_at cons.old result cons.new }
+    ensures reads { Reads (λ values. values) addresses_at cons.old result cons.new }
+    ensures stays { Stays result cons.new }
 {
     let values = cons.take_opt_constructed_if(Tag::CTX_1, |cons| {
         ByFamily::<IpBlocks>::take_from(alloc, cons)
@@ -38,26 +41,16 @@ pub fn take_addresses(
     }
 }
 
-// Whether there is something.
-fn is_there<T>(value: &Option<T>) -> bool
-    ensures { result ≡ is_there value.now }
-{
-    match value {
-        Some(_) => true,
-        None => false,
-    }
-}
-
 /// Whether something is named.
 pub fn names_some(named: &Named) -> bool
     ensures { result ≡ names_some named.now }
 {
-    is_there(&named.numbers) || is_there(&named.addresses.v4) || is_there(&named.addresses.v6)
+    named.asns.is_some() || named.addresses.v4.is_some() || named.addresses.v6.is_some()
 }
 
 // The set, none of which is the empty one.
-fn or_nothing<T: Number>(alloc: Global, set: Option<Blocks<T>>) -> Blocks<T>
-    ensures { result ≡ or_nothing set }
+fn or_empty<T: Number>(alloc: Global, set: Option<Blocks<T>>) -> Blocks<T>
+    ensures { result ≡ or_empty set }
 {
     match set {
         Some(set) => set,
@@ -69,10 +62,10 @@ fn or_nothing<T: Number>(alloc: Global, set: Option<Blocks<T>>) -> Blocks<T>
 pub fn sets_of(alloc: Global, named: Named) -> Sets
     ensures { result ≡ sets_of named }
 {
-    let Named { numbers, addresses } = named;
+    let Named { asns, addresses } = named;
     let ByFamily { v4, v6 } = addresses;
     (
-        or_nothing(alloc, numbers),
-        (or_nothing(alloc, v4), or_nothing(alloc, v6)),
+        or_empty(alloc, asns),
+        (or_empty(alloc, v4), or_empty(alloc, v6)),
     )
 }
