@@ -2,6 +2,7 @@
 
 ghost use Rattle.std.specs.Prelude.{◌≡◌, ◌↔◌, ◌<◌, ◌^◌, ℕ, List, length, IfOk, IfErr};
 ghost use Rattle.rpki_der.specs.declared.encode.EncodeError.TheVariants.{Io};
+ghost use Rattle.rpki_der.specs.declared.error.DecodeError.{DecodeError};
 ghost use Rattle.rpki_der.specs.Tags.{SEQUENCE};
 ghost use Rattle.rpki_der.specs.Write.Encode.{IsBytesOf};
 ghost use Rattle.rpki_der.specs.Write.Written.{value_octets};
@@ -11,8 +12,8 @@ ghost use Rattle.rpki_issued.specs.Signing.{encode_fault};
 
 use rpki_basics::{RpkiSignature, RpkiSignatureAlgorithm, Signer, SigningError};
 use rpki_der::encode::{Raw, bit_string, sequence};
-use rpki_der::{Encode, EncodeError};
-use std::alloc::Global;
+use rpki_der::{DecodeError, Encode, EncodeError};
+use std::alloc::{AllocError, Global};
 
 // The SEQUENCE of what is signed, the algorithm and the signature.
 fn joined(alloc: Global, signed: &[u8], signature: &RpkiSignature) -> Result<Vec<u8>, EncodeError>
@@ -21,6 +22,17 @@ fn joined(alloc: Global, signed: &[u8], signature: &RpkiSignature) -> Result<Vec
 {
     let algorithm = RpkiSignatureAlgorithm::RsaSha256.encode_cert();
     sequence((Raw(signed), algorithm, bit_string(signature.value(), 0))).to_bytes(alloc)
+}
+
+/// The error where memory ran out, and nothing else is wrong.
+pub fn only_memory(fault: DecodeError) -> AllocError
+    requires { fault ≡ DecodeError.Memory }
+{
+    match fault {
+        DecodeError::Memory => AllocError,
+        DecodeError::Malformed => unreachable!(),
+        DecodeError::Content(_) => unreachable!(),
+    }
 }
 
 /// The error for what is not written into memory, where no call of a sink fails.

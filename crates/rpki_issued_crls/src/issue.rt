@@ -1,7 +1,6 @@
 //! Signing a revocation list.
 
 ghost use Rattle.std.specs.Prelude.{◌≡◌, ◌↔◌, ◌<◌, ◌^◌, ℕ, List, length, IfOk, IfErr, OnOk};
-ghost use Rattle.rpki_der.specs.declared.error.DecodeError.{DecodeError};
 ghost use Rattle.rpki_der.specs.declared.mode.Mode.TheVariants.{Der};
 ghost use Rattle.rpki_der.specs.Tags.{context};
 ghost use Rattle.rpki_der.specs.Write.Encode.{IsBytesOf};
@@ -22,8 +21,8 @@ use rpki_basics::{
 };
 use rpki_crls::Crl;
 use rpki_der::encode::{CapturedEncoder, Unsigned, Value, integer_u8, sequence, tagged};
-use rpki_der::{DecodeError, Encode, EncodeError, Tag};
-use rpki_issued::signing::{sign_and_join, signing_error_of};
+use rpki_der::{Encode, EncodeError, Tag};
+use rpki_issued::signing::{only_memory, sign_and_join, signing_error_of};
 use std::alloc::{AllocError, Global};
 
 // The number of the version v2 (RFC 5280, section 5.1.2.1).
@@ -113,17 +112,6 @@ impl CrlBuilder {
                 self.tbs_written(alloc, &issuer)
             }
         }
-    }
-}
-
-// The error where memory ran out, and nothing else is wrong.
-fn only_memory(fault: DecodeError) -> AllocError
-    requires { fault ≡ DecodeError.Memory }
-{
-    match fault {
-        DecodeError::Memory => AllocError,
-        DecodeError::Malformed => unreachable!(),
-        DecodeError::Content(_) => unreachable!(),
     }
 }
 

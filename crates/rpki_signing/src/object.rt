@@ -2,7 +2,6 @@
 
 ghost use Rattle.std.specs.Prelude.{◌≡◌, ◌<◌, ◌^◌, length, IfOk, IfErr};
 ghost use Rattle.rpki_der.specs.declared.mode.Mode.TheVariants.{Der};
-ghost use Rattle.rpki_der.specs.declared.error.DecodeError.TheVariants as unread;
 ghost use Rattle.rpki_der.specs.Tags.{OBJECT_IDENTIFIER, context};
 ghost use Rattle.rpki_der.specs.Write.Encode.{IsBytesOf};
 ghost use Rattle.rpki_attributes.specs.declared.attribute.OtherTypes.TheVariants.{Refuse};
@@ -19,7 +18,8 @@ use rpki_attributes::SignedAttrs;
 use rpki_basics::{KeyIdentifier, RpkiSignature, SigningError};
 use rpki_certs::Cert;
 use rpki_der::encode::{Raw, Value, primitive, sequence, tagged};
-use rpki_der::{DecodeError, Encode, EncodeError, Oid, Tag};
+use rpki_der::{Encode, EncodeError, Oid, Tag};
+use rpki_issued::signing::only_memory;
 use rpki_sigobj::SignedObject;
 use std::alloc::{AllocError, Global};
 use std::marker::Model;
@@ -156,17 +156,6 @@ fn read_back(alloc: Global, octets: Vec<u8>) -> Result<SignedObject, AllocError>
     match SignedObject::decode(alloc, source, true) {
         Ok(object) => Ok(object),
         Err(fault) => Err(only_memory(fault)),
-    }
-}
-
-// The error where memory ran out, and nothing else is wrong.
-fn only_memory(fault: DecodeError) -> AllocError
-    requires { fault ≡ unread.Memory }
-{
-    match fault {
-        DecodeError::Memory => AllocError,
-        DecodeError::Malformed => unreachable!(),
-        DecodeError::Content(_) => unreachable!(),
     }
 }
 

@@ -2,7 +2,6 @@
 
 ghost use Rattle.std.specs.Prelude.{◌≡◌, ◌↔◌, ◌<◌, ◌^◌, ℕ, List, length, IfOk, IfErr, IfSome};
 ghost use Rattle.std.specs.Prelude.{OnOk};
-ghost use Rattle.rpki_der.specs.declared.error.DecodeError.{DecodeError};
 ghost use Rattle.rpki_der.specs.declared.mode.Mode.TheVariants.{Der};
 ghost use Rattle.rpki_der.specs.Tags.{SEQUENCE};
 ghost use Rattle.rpki_der.specs.Write.Encode.{IsBytesOf};
@@ -14,7 +13,7 @@ ghost use Rattle.rpki_issued.specs.Written.{tbs_contents, tbs_octets, made_certi
 ghost use Rattle.rpki_issued.specs.Tbs.{subject_octets, tbs_of, fields_octets, NamesInDer};
 ghost use Rattle.rpki_issued.specs.Tbs.{IsNotSigned};
 
-use crate::signing::{sign_and_join, signing_error_of};
+use crate::signing::{only_memory, sign_and_join, signing_error_of};
 use crate::tbs::TbsCert;
 use crate::tbs::encoder::{IssuerFields, SubjectFields};
 use crate::writable;
@@ -22,7 +21,7 @@ use bytes::Bytes;
 use rpki_basics::{Name, Signer, SigningError};
 use rpki_certs::Cert;
 use rpki_der::encode::sequence;
-use rpki_der::{DecodeError, Encode, EncodeError};
+use rpki_der::{Encode, EncodeError};
 use std::alloc::{AllocError, Global};
 
 // The subject, or the name of the key.
@@ -87,17 +86,6 @@ fn octets_to_sign(alloc: Global, t: &TbsCert) -> Result<Vec<u8>, EncodeError>
                 Ok(octets)
             }
         },
-    }
-}
-
-// The error where memory ran out, and nothing else is wrong.
-fn only_memory(fault: DecodeError) -> AllocError
-    requires { fault ≡ DecodeError.Memory }
-{
-    match fault {
-        DecodeError::Memory => AllocError,
-        DecodeError::Malformed => unreachable!(),
-        DecodeError::Content(_) => unreachable!(),
     }
 }
 
