@@ -2,6 +2,7 @@
 
 pub use rpki_multi::{
     IntoRtaBuilder, MultiSignedObject, MultiSignedObjectEncoder, Rta, RtaBuilder, SignerInfo,
+    SignerInfoEncoder,
 };
 pub use rpki_rta::{Supply, Validation, run};
 pub use rpki_tagged::{AttestationBuilder, AttestationEncoder, ResourceTaggedAttestation, faults};
@@ -13,8 +14,8 @@ pub mod laws {
         written_attestations_are_read,
     };
     pub use rpki_rta::laws::{
-        end_after_supplies, no_is_right, refused_supply_is_right, yes_after_supplies,
-        yes_is_granted,
+        end_after_supplies, made_signers_match, no_is_right, refused_supply_is_right,
+        yes_after_supplies, yes_is_granted,
     };
     pub use rpki_tagged::laws::attestations;
 }

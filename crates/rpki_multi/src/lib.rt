@@ -12,4 +12,4 @@ mod signer;
 pub use attestation::Rta;
 pub use builder::{IntoRtaBuilder, RtaBuilder};
 pub use multi::{MultiSignedObject, MultiSignedObjectEncoder};
-pub use signer::SignerInfo;
+pub use signer::{SignerInfo, SignerInfoEncoder};

@@ -23,12 +23,12 @@ use Rattle.rpki_paths.specs.Accepting.{WhyNot, carried_of}
 use Rattle.rpki_rta.specs.Carried.{IsValid, carried_checks, is_of_ca, seen_alone, seen_crl}
 use Rattle.rpki_rta.specs.Carried.{seen_signer}
 use Rattle.rpki_rta.specs.Granted.{carried_by}
-use Rattle.rpki_rta.specs.Handles.{entry_view, crl_of, signer_of}
+use Rattle.rpki_rta.specs.Handles.{unchecked_view, crl_of, signer_of}
 use Rattle.rpki_rta.specs.Refused.{WhyNotAccepted}
 use Rattle.rpki_rta.specs.Begun.{HaveHandles, IsHandle}
 use Rattle.rpki_rta.specs.declared.carried.Carried.{Carried as Head}
 use Rattle.rpki_rta.specs.declared.carried.CarriedCrl.{CarriedCrl}
-use Rattle.rpki_rta.specs.declared.entry.Entry.{Entry}
+use Rattle.rpki_rta.specs.declared.unchecked.UncheckedCert.{UncheckedCert}
 use Rattle.rpki_rta.specs.declared.signers.Signer.{Signer as Handle}
 use Rattle.rpki_rta.proofs.Along.{all-along, seen-along, why-along}
 
@@ -42,57 +42,57 @@ carried-alike a b keys signers ees cas crls =
     ∙ ap (λ l. record b { crls = l }) crls
 
 module _ {C : Type 0} (says : C → Verdict) (crypto : C) (now : Moment) where
-  -- the entry has this cryptography and this moment
-  abbrev IsHere : Entry C → Type 0
+  -- the certificate has this cryptography and this moment
+  abbrev IsHere : UncheckedCert C → Type 0
   IsHere x = (x.crypto.now ≡ crypto) × (x.now.now ≡ now)
 
-  abbrev cert_in : Entry C → Certificate
+  abbrev cert_in : UncheckedCert C → Certificate
   cert_in x = x.cert.now.certificate
 
-  -- entries that are seen as certificates with one cryptography and one moment
-  are-here : (es : List (Entry C)) (cs : List KeptCertificate)
-      → map entry_view es ≡ map (λ c. (c.certificate, (crypto, now))) cs → All IsHere es
+  -- unchecked certificates that are seen with one cryptography and one moment
+  are-here : (es : List (UncheckedCert C)) (cs : List KeptCertificate)
+      → map unchecked_view es ≡ map (λ c. (c.certificate, (crypto, now))) cs → All IsHere es
   are-here [] cs e = All-nil IsHere
   are-here (x ∷ es) [] e = absurd cc
   are-here (x ∷ es) (c ∷ cs) e =
-      let head : entry_view x ≡ (c.certificate, (crypto, now)) = cc in
-      let tail : map entry_view es ≡ map (λ c. (c.certificate, (crypto, now))) cs = cc in
+      let head : unchecked_view x ≡ (c.certificate, (crypto, now)) = cc in
+      let tail : map unchecked_view es ≡ map (λ c. (c.certificate, (crypto, now))) cs = cc in
       All-cons IsHere x es (ap (λ p. p.1.0) head, ap (λ p. p.1.1) head) (are-here es cs tail)
 
-  certs-here : (es : List (Entry C)) (cs : List KeptCertificate)
-      → map entry_view es ≡ map (λ c. (c.certificate, (crypto, now))) cs
+  certs-here : (es : List (UncheckedCert C)) (cs : List KeptCertificate)
+      → map unchecked_view es ≡ map (λ c. (c.certificate, (crypto, now))) cs
       → map cert_in es ≡ map (λ c. c.certificate) cs
   certs-here es cs e =
-      sym (map-map (λ p. p.0) entry_view es) ∙ ap (map (λ p. p.0)) e
+      sym (map-map (λ p. p.0) unchecked_view es) ∙ ap (map (λ p. p.0)) e
       ∙ map-map (λ p. p.0) (λ (c : KeptCertificate). (c.certificate, (crypto, now))) cs
 
-  valid-here : (x : Entry C) → IsHere x → IsValid x.cert.now.certificate.tbs x.now.now
+  valid-here : (x : UncheckedCert C) → IsHere x → IsValid x.cert.now.certificate.tbs x.now.now
       → IsValid (cert_in x).tbs now
   valid-here x p h = subst (λ m. IsValid x.cert.now.certificate.tbs m) p.1 h
 
-  valid-there : (x : Entry C) → IsHere x → IsValid (cert_in x).tbs now
+  valid-there : (x : UncheckedCert C) → IsHere x → IsValid (cert_in x).tbs now
       → IsValid x.cert.now.certificate.tbs x.now.now
   valid-there x p h = subst (λ m. IsValid x.cert.now.certificate.tbs m) (sym p.1) h
 
-  because-here : (x : Entry C) (c : ValidationError) → IsHere x
+  because-here : (x : UncheckedCert C) (c : ValidationError) → IsHere x
       → IsFirstFault (carried_checks x.cert.now.certificate.tbs x.now.now) c
       → IsFirstFault (carried_checks (cert_in x).tbs now) c
   because-here x c p h =
       subst (λ m. IsFirstFault (carried_checks x.cert.now.certificate.tbs m) c) p.1 h
 
-  seen-here : (x : Entry C) → IsHere x
+  seen-here : (x : UncheckedCert C) → IsHere x
       → seen_alone (says x.crypto.now) x.cert.now.certificate ≡ seen_alone (says crypto) (cert_in x)
   seen-here x p = ap (λ k. seen_alone (says k) x.cert.now.certificate) p.0
 
-  module _ (r : KeptWhole) (es : List (Entry C))
-      (e : map entry_view es ≡ map (λ c. (c.certificate, (crypto, now))) r.signed.certs) where
+  module _ (r : KeptWhole) (es : List (UncheckedCert C))
+      (e : map unchecked_view es ≡ map (λ c. (c.certificate, (crypto, now))) r.signed.certs) where
     pub heads-here : (paths : List (Path (Head C)))
         → HeadsFrom (λ x c. (c.cert.now ≡ x.cert.now) × (c.crypto.now ≡ x.crypto.now)
         × (c.now ≡ x.now.now)) (λ c d. (d.cert.now ≡ c.cert.now) × (d.crypto.now ≡ c.crypto.now)
         × (d.now ≡ c.now)) es paths
         → HaveHandles crypto now (whole_of r) paths
     heads-here paths =
-        All-weaker (λ (p : Path (Head C)). IsFrom (λ (x : Entry C) (c : Head C).
+        All-weaker (λ (p : Path (Head C)). IsFrom (λ (x : UncheckedCert C) (c : Head C).
         (c.cert.now ≡ x.cert.now) × (c.crypto.now ≡ x.crypto.now) × (c.now ≡ x.now.now))
         (λ (c d : Head C). (d.cert.now ≡ c.cert.now) × (d.crypto.now ≡ c.crypto.now)
         × (d.now ≡ c.now)) es p.head)
@@ -145,7 +145,7 @@ module _ {C : Type 0} (says : C → Verdict) (crypto : C) (now : Moment) where
         (are-here es r.signed.certs e)
         ∙ ap (λ l. map (seen_alone (says crypto)) (filter p l)) (certs-here es r.signed.certs e)
 
-    module _ (digest : Digester) (a : Attestation (Entry C) (Handle C) (CarriedCrl C)) where
+    module _ (digest : Digester) (a : Attestation (UncheckedCert C) (Handle C) (CarriedCrl C)) where
       -- what is carried, as handles, is what the attestation carries
       carried-as : a.certs.now ≡ es → a.subject_keys.now ≡ r.content.subject_keys
           → map (signer_of says) a.signers.now
@@ -171,8 +171,8 @@ module _ {C : Type 0} (says : C → Verdict) (crypto : C) (now : Moment) where
           (crls ∙ sym (map-map (seen_crl (says crypto)) (λ l. l.list) r.signed.crls))
 
   pub carried-here : (r : KeptWhole) (digest : Digester)
-      (a : Attestation (Entry C) (Handle C) (CarriedCrl C))
-      → map entry_view a.certs.now ≡ map (λ c. (c.certificate, (crypto, now))) r.signed.certs
+      (a : Attestation (UncheckedCert C) (Handle C) (CarriedCrl C))
+      → map unchecked_view a.certs.now ≡ map (λ c. (c.certificate, (crypto, now))) r.signed.certs
       → a.subject_keys.now ≡ r.content.subject_keys
       → map (signer_of says) a.signers.now
       ≡ map (λ s. seen_signer (says crypto) (digest r.signed.content) s.signer) r.signed.signers
@@ -183,8 +183,8 @@ module _ {C : Type 0} (says : C → Verdict) (crypto : C) (now : Moment) where
   carried-here r digest a certs keys signers crls =
       carried-as r a.certs.now certs digest a refl keys signers crls
 
-  pub why-told : (r : KeptWhole) (es : List (Entry C))
-      → map entry_view es ≡ map (λ c. (c.certificate, (crypto, now))) r.signed.certs
+  pub why-told : (r : KeptWhole) (es : List (UncheckedCert C))
+      → map unchecked_view es ≡ map (λ c. (c.certificate, (crypto, now))) r.signed.certs
       → (digest : Digester) (a : Carried) → a ≡ carried_by digest (says crypto) (whole_of r)
       → (fault : AcceptFault ValidationError)
       → WhyNot (λ x. IsValid x.cert.now.certificate.tbs x.now.now)

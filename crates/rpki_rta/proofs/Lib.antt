@@ -7,4 +7,5 @@ pub mod Handling
 pub mod Refusing
 pub mod Running
 pub mod Lawful
+pub mod Matching
 pub mod Supplying

@@ -5,12 +5,12 @@ use Rattle.rpki_certs.specs.Verify.{Verdict}
 use Rattle.rpki_paths.specs.Pairing.{Crl, Signer}
 use Rattle.rpki_rta.specs.Carried.{seen_crl, seen_signer}
 use Rattle.rpki_rta.specs.declared.carried.CarriedCrl.{CarriedCrl}
-use Rattle.rpki_rta.specs.declared.entry.Entry.{Entry}
+use Rattle.rpki_rta.specs.declared.unchecked.UncheckedCert.{UncheckedCert}
 use Rattle.rpki_rta.specs.declared.signers.Signer.{Signer as Handle}
 
--- the certificate of an entry, the cryptography and the moment
-abbrev pub entry_view : {C : Type 0} → Entry C → Certificate × (C × Moment)
-entry_view x = (x.cert.now.certificate, (x.crypto.now, x.now.now))
+-- an unchecked certificate, the cryptography and the moment
+abbrev pub unchecked_view : {C : Type 0} → UncheckedCert C → Certificate × (C × Moment)
+unchecked_view x = (x.cert.now.certificate, (x.crypto.now, x.now.now))
 
 -- what pairings see of the handle of a revocation list
 abbrev pub crl_of : {C : Type 0} → (C → Verdict) → CarriedCrl C → Crl

@@ -1,14 +1,21 @@
 -- The laws of validations that public functions carry.
-use Rattle.std.specs.Prelude.{◌≡◌, List, [], ◌∷◌, ◌++◌, Bool, Result, Ok, Err, IsTrue}
+use Rattle.std.specs.Prelude.{◌≡◌, ℕ, List, [], ◌∷◌, ◌++◌, Bool, Result, Ok, Err, IsTrue}
+use Rattle.sha1.specs.Sha1.{sha1}
 use Rattle.rpki_basics.specs.Moment.{Moment}
 use Rattle.rpki_faults.specs.declared.validation.ValidationError.{ValidationError}
+use Rattle.rpki_attributes.specs.Attrs.Made.{message_of}
+use Rattle.rpki_certs.specs.Cert.{Certificate}
 use Rattle.rpki_certs.specs.Verify.{Verdict}
+use Rattle.rpki_sigobj.specs.SignerInfo.{KeptSigner}
 use Rattle.rpki_sigobj.specs.Verify.{Digester}
 use Rattle.rpki_multi.specs.Attestation.{KeptWhole, whole_of}
+use Rattle.rpki_multi.specs.Built.{IsSignedBy}
 use Rattle.rpki_paths.specs.After.{KeepsNumbers}
 use Rattle.rpki_paths.specs.Anchor.{Supply}
 use Rattle.rpki_paths.specs.Final.{all_anchored}
+use Rattle.rpki_paths.specs.Pairing.{HasKey, IsVerifiedBy}
 use Rattle.rpki_rta.specs.Begun.{Begun, IsBegun, IsEnded, EndsWith, AnswersSupply}
+use Rattle.rpki_rta.specs.Carried.{seen_alone, seen_signer}
 use Rattle.rpki_rta.specs.Granted.{DeniesRightly, IsAcceptedRta, IsGrantedRta}
 use Rattle.rpki_rta.specs.Granted.{IsGrantedRtaBySome}
 
@@ -79,3 +86,17 @@ NoIsRight {C} digests says =
     IsBegun digests says crypto now r begun → AreTaken says supplies begun end →
     EndsWith end fault →
     DeniesRightly (digests crypto) (says crypto) now supplies (whole_of r) fault
+
+-- What a signer says by a key of a content with this digest (`IsSignedBy`) matches, where the
+-- verdict on its signature is yes: the identifier of the key is the subject key that it has, it
+-- states the digest, and each certificate with the key and its identifier verifies it (RFC 5652,
+-- section 5.4).
+abbrev pub MadeSignersMatch : {S : Type 0} → (S → List ℕ → List ℕ → List ℕ → Type 0) → Type 0
+MadeSignersMatch {S} may =
+    (signer : S) (key digest : List ℕ) (time : Moment) (s : KeptSigner) (verdict : Verdict) →
+    IsSignedBy (may signer key) key digest time s →
+    IsTrue (verdict key (message_of s.signer.attributes) s.signer.signature) →
+    HasKey (seen_signer verdict digest s.signer) (sha1 key)
+    × IsTrue (seen_signer verdict digest s.signer).digest_holds
+    × ((c : Certificate) → c.tbs.key ≡ key → c.tbs.extensions.key.subject_key ≡ sha1 key →
+    IsVerifiedBy (seen_signer verdict digest s.signer) (seen_alone verdict c))

@@ -6,13 +6,13 @@ ghost use Rattle.rpki_paths.specs.Accepting.{AreAccepted, most_verdicts};
 ghost use Rattle.rpki_rta.specs.Begun.{HaveHandles, cert_of};
 ghost use Rattle.rpki_rta.specs.Carried.{IsValid, seen_crl, seen_signer};
 ghost use Rattle.rpki_rta.specs.Granted.{IsDistinct, carried_by};
-ghost use Rattle.rpki_rta.specs.Handles.{entry_view, crl_of, signer_of};
+ghost use Rattle.rpki_rta.specs.Handles.{unchecked_view, crl_of, signer_of};
 ghost use Rattle.rpki_rta.specs.Refused.{WhyRefused};
 
 use crate::carried::{Carried, CarriedCrl};
-use crate::entry::Entry;
 use crate::faults::of_acceptance;
 use crate::signers::Signer;
+use crate::unchecked::UncheckedCert;
 use rpki_basics::{Crypto, Digest, KeyIdentifier, Time};
 use rpki_certs::Cert;
 use rpki_crls::Crl;
@@ -24,20 +24,20 @@ use std::alloc::{AllocError, Global};
 use std::sync::ledger::Ledger;
 
 // The carried certificates, before they are known to be good.
-fn entries_of<'a, 'n, C>(
+fn unchecked_certs<'a, 'n, C>(
     alloc: Global,
     certs: &'a [Cert],
     crypto: &'a C,
     now: &'n Time,
-) -> Result<Vec<Entry<'a, 'n, C>>, AllocError>
-    ensures { IfOk result (λ entries. map entry_view entries.items
+) -> Result<Vec<UncheckedCert<'a, 'n, C>>, AllocError>
+    ensures { IfOk result (λ unchecked. map unchecked_view unchecked.items
         ≡ map (λ c. (c.certificate, (crypto.now, now.now))) certs.now) }
 {
-    let mut entries = Vec::new(alloc);
+    let mut unchecked = Vec::new(alloc);
     for i in 0..certs.len() {
-        entries.push(Entry::new(&certs[i], crypto, now))?;
+        unchecked.push(UncheckedCert::new(&certs[i], crypto, now))?;
     }
-    Ok(entries)
+    Ok(unchecked)
 }
 
 // The carried revocation lists.
@@ -100,7 +100,7 @@ pub fn attested_in(content: &ResourceTaggedAttestation) -> Attested<'_>
 /// What an attestation carries, as handles, each list in carried order.
 #[derive(Drop)]
 struct Handles<'a, 'n, C> {
-    entries: Vec<Entry<'a, 'n, C>>,
+    unchecked: Vec<UncheckedCert<'a, 'n, C>>,
     lists: Vec<CarriedCrl<'a, C>>,
     keys: Vec<KeyId>,
     signers: Vec<Signer<'a, C>>,
@@ -113,7 +113,7 @@ fn handles_of<'a, 'n, C: Crypto>(
     crypto: &'a C,
     now: &'n Time,
 ) -> Result<Handles<'a, 'n, C>, AllocError>
-    ensures entries { IfOk result (λ h. map entry_view h.entries.items
+    ensures unchecked { IfOk result (λ h. map unchecked_view h.unchecked.items
         ≡ map (λ c. (c.certificate, (crypto.now, now.now))) rta.now.signed.certs) }
     ensures lists { IfOk result (λ h. map (crl_of C.is_signed) h.lists.items
         ≡ map (λ l. seen_crl (C.is_signed crypto.now) l.list) rta.now.signed.crls) }
@@ -124,12 +124,12 @@ fn handles_of<'a, 'n, C: Crypto>(
 {
     let signed = rta.signed();
     let digest = crypto.digest(signed.content().as_slice());
-    let entries = entries_of(alloc, signed.certificates(), crypto, now)?;
+    let unchecked = unchecked_certs(alloc, signed.certificates(), crypto, now)?;
     let lists = lists_of(alloc, signed.crls(), crypto)?;
     let keys = keys_of(alloc, rta.content().subject_keys())?;
     let signers = signers_of(alloc, signed.signer_infos(), digest, crypto)?;
     Ok(Handles {
-        entries,
+        unchecked,
         lists,
         keys,
         signers,
@@ -161,7 +161,7 @@ pub fn accepted<'a, C: Crypto, L: Ledger>(
     let attestation = Attestation {
         subject_keys: handles.keys.as_slice(),
         signers: handles.signers.as_slice(),
-        certs: handles.entries.as_slice(),
+        certs: handles.unchecked.as_slice(),
         crls: handles.lists.as_slice(),
         sets: attested_in(rta.content()),
     };

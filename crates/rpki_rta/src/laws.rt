@@ -1,9 +1,9 @@
 //! What the definitions say of validations: laws, as functions that do nothing.
 
-ghost use Rattle.rpki_rta.specs.Laws.{EndAfterSupplies, NoIsRight, RefusedSupplyIsRight};
-ghost use Rattle.rpki_rta.specs.Laws.{YesAfterSupplies, YesIsGranted};
+ghost use Rattle.rpki_rta.specs.Laws.{EndAfterSupplies, MadeSignersMatch, NoIsRight};
+ghost use Rattle.rpki_rta.specs.Laws.{RefusedSupplyIsRight, YesAfterSupplies, YesIsGranted};
 
-use rpki_basics::Crypto;
+use rpki_basics::{Crypto, Signer};
 
 /// After any supplies, refused ones among them, a yes of `Validation::finalize` means that the
 /// attestation is granted, each path anchored by some supply that is meant for it and takes it.
@@ -34,4 +34,11 @@ pub fn refused_supply_is_right<C: Crypto>()
 /// memory, only where the attestation is not granted.
 pub fn no_is_right<C: Crypto>()
     ensures { NoIsRight C.digest_of C.is_signed }
+{}
+
+/// What `RtaBuilder::sign` makes a signer say matches, where cryptography says yes to its
+/// signature: it has the subject key of its key, it states the digest of the content, and each
+/// certificate with that key and its identifier verifies it (RFC 5652, section 5.4).
+pub fn made_signers_match<S: Signer>()
+    ensures { MadeSignersMatch S.may_sign }
 {}

@@ -3,12 +3,12 @@
 #![tactic(auto)]
 
 mod carried;
-mod entry;
 mod faults;
 mod handles;
 pub mod laws;
 mod signers;
 mod supply;
+mod unchecked;
 mod validation;
 mod verdict;
 mod whole;

@@ -6,7 +6,7 @@ ghost use Rattle.rpki_multi.specs.Built.{begun_of};
 ghost use Rattle.rpki_resources.specs.declared.family.AddressFamily.TheVariants.{Ipv4};
 ghost use Rattle.rpki_resources.specs.Family.{IsWithin};
 ghost use Rattle.rpki_tagged.specs.Attestation.{Attestation};
-ghost use Rattle.rpki_tagged.specs.Built.{IsBuiltOf, IsTooLong, NamesSome, attestation_checks};
+ghost use Rattle.rpki_tagged.specs.Built.{IsBuiltOf, IsTooLong, HasNumbers, attestation_checks};
 
 use crate::builder::RtaBuilder;
 use rpki_basics::BuildError;
@@ -24,7 +24,7 @@ pub trait IntoRtaBuilder: Sized {
     fn into_rta_builder(self, alloc: Global) -> Result<RtaBuilder, BuildError>
         requires { All (IsWithin Ipv4) (told self).v4_resources }
         ensures built { IfOk result (λ b. IsBuiltOf (told self) b.content) }
-        ensures named { OnOk result (NamesSome (told self)) }
+        ensures named { OnOk result (HasNumbers (told self)) }
         ensures begun { IfOk result (λ b. b ≡ begun_of b.content) }
         ensures refused { IfErr result
             (IsNotBuilt (attestation_checks (told self)) (IsTooLong (told self))) };

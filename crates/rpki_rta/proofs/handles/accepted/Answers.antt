@@ -5,7 +5,7 @@ use Rattle.rpki_paths.specs.declared.acceptance.AcceptFault.TheVariants as why
 use Rattle.rpki_paths.specs.Accepting.{AreAccepted, most_verdicts}
 use Rattle.rpki_paths.specs.Pairing.{HasDistinctIds}
 use Rattle.rpki_rta.specs.Begun.{cert_of}
-use Rattle.rpki_rta.specs.Handles.{entry_view, crl_of, signer_of}
+use Rattle.rpki_rta.specs.Handles.{unchecked_view, crl_of, signer_of}
 use Rattle.rpki_rta.proofs.Handling.{carried-here, good-here, heads-here, why-told}
 use Rattle.rpki_rta.proofs.handles.accepted.Goals as goal
 
@@ -18,7 +18,7 @@ pub returns-in-Ok-clause-good : goal.returns-in-Ok-clause-good
 returns-in-Ok-clause-good g c =
     good-here g.C.Crypto.is_signed c.args.crypto.now c.args.now c.args.rta.now
     c.as_slice-3.result.now
-    (ap (map entry_view) c.as_slice-3.ensures.value ∙ c.in_ok-handles.ensures.entries)
+    (ap (map unchecked_view) c.as_slice-3.ensures.value ∙ c.in_ok-handles.ensures.unchecked)
     c.in-Ok.ensures.good
 
 pub returns-in-Ok-clause-accepted : goal.returns-in-Ok-clause-accepted
@@ -34,7 +34,7 @@ returns-in-Ok-clause-accepted g c =
       crls = c.as_slice-4.result;
       sets = c.attested_in.result;
     })
-    (ap (map entry_view) c.as_slice-3.ensures.value ∙ h.entries)
+    (ap (map unchecked_view) c.as_slice-3.ensures.value ∙ h.unchecked)
     (c.as_slice.ensures.value ∙ h.keys)
     (ap (map (signer_of says)) c.as_slice-2.ensures.value ∙ h.signers)
     (ap (map (crl_of says)) c.as_slice-4.ensures.value ∙ h.lists)) c.in-Ok.ensures.accepted
@@ -43,7 +43,7 @@ pub returns-in-Ok-clause-heads : goal.returns-in-Ok-clause-heads
 returns-in-Ok-clause-heads g c =
     heads-here g.C.Crypto.is_signed c.args.crypto.now c.args.now c.args.rta.now
     c.as_slice-3.result.now
-    (ap (map entry_view) c.as_slice-3.ensures.value ∙ c.in_ok-handles.ensures.entries)
+    (ap (map unchecked_view) c.as_slice-3.ensures.value ∙ c.in_ok-handles.ensures.unchecked)
     c.in-Ok.paths.items c.in-Ok.ensures.heads
 
 pub returns-in-Ok-clause-cost : goal.returns-in-Ok-clause-cost
@@ -59,7 +59,7 @@ returns-in-Ok-clause-cost g c =
       crls = c.as_slice-4.result;
       sets = c.attested_in.result;
     })
-    (ap (map entry_view) c.as_slice-3.ensures.value ∙ h.entries)
+    (ap (map unchecked_view) c.as_slice-3.ensures.value ∙ h.unchecked)
     (c.as_slice.ensures.value ∙ h.keys)
     (ap (map (signer_of says)) c.as_slice-2.ensures.value ∙ h.signers)
     (ap (map (crl_of says)) c.as_slice-4.ensures.value ∙ h.lists)) c.in-Ok.ensures.cost
@@ -68,7 +68,7 @@ pub returns-clause-why : goal.returns-clause-why
 returns-clause-why g c =
     let says = g.C.Crypto.is_signed in
     let h = c.in_ok-handles.ensures in
-    let certs = ap (map entry_view) c.as_slice-3.ensures.value ∙ h.entries in
+    let certs = ap (map unchecked_view) c.as_slice-3.ensures.value ∙ h.unchecked in
     let digest = g.C.Crypto.digest_of c.args.crypto.now in
     let same =
     carried-here says c.args.crypto.now c.args.now c.args.rta.now digest (record {

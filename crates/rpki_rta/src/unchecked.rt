@@ -10,13 +10,13 @@ use rpki_paths::Candidate;
 use std::alloc::AllocError;
 
 /// A carried certificate, the cryptography that verdicts are asked of, and the moment.
-pub(crate) struct Entry<'a, 'n, C> {
+pub(crate) struct UncheckedCert<'a, 'n, C> {
     cert: &'a Cert,
     crypto: &'a C,
     now: &'n Time,
 }
 
-impl<C> Clone for Entry<'_, '_, C> {
+impl<C> Clone for UncheckedCert<'_, '_, C> {
     ghost is_clone = { λ x copy. copy ≡ x };
 
     fn clone(&self) -> Result<Self, AllocError> {
@@ -24,20 +24,20 @@ impl<C> Clone for Entry<'_, '_, C> {
     }
 }
 
-impl<C> Copy for Entry<'_, '_, C> {}
+impl<C> Copy for UncheckedCert<'_, '_, C> {}
 
-impl<'a, 'n, C> Entry<'a, 'n, C> {
+impl<'a, 'n, C> UncheckedCert<'a, 'n, C> {
     // A carried certificate.
     pub fn new(cert: &'a Cert, crypto: &'a C, now: &'n Time) -> Self
         ensures cert { result.cert.now ≡ cert.now }
         ensures crypto { result.crypto.now ≡ crypto.now }
         ensures now { result.now.now ≡ now.now }
     {
-        Entry { cert, crypto, now }
+        UncheckedCert { cert, crypto, now }
     }
 }
 
-impl<'a, 'n, C: Crypto> Candidate<Carried<'a, C>> for Entry<'a, 'n, C> {
+impl<'a, 'n, C: Crypto> Candidate<Carried<'a, C>> for UncheckedCert<'a, 'n, C> {
     ghost use Rattle.std.specs.Prelude.{◌≡◌, refl};
     ghost use Rattle.rpki_faults.specs.Checks.{IsFirstFault};
     ghost use Rattle.rpki_rta.specs.Carried.{IsValid, carried_checks, is_of_ca, seen_alone};

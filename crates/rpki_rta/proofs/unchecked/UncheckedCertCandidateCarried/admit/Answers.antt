@@ -1,6 +1,6 @@
 -- A handle stands for its certificate, and a refused one is not good.
 use Rattle.rpki_rta.proofs.Entering.{refused-bad, seen-same}
-use Rattle.rpki_rta.proofs.entry.EntryCandidateCarried.admit.Goals as goal
+use Rattle.rpki_rta.proofs.unchecked.UncheckedCertCandidateCarried.admit.Goals as goal
 
 pub returns-clause-seen : goal.returns-clause-seen
 returns-clause-seen g c =
