@@ -14,10 +14,11 @@ text, file, listing = SHOWN["text"], ISSUERS["file"], ISSUERS["listing"]
 HEAD = '''//! Files of examples/ that are checked in one call.
 
 use super::runs::{Output, ROOM};
+use bytes::Bytes;
 use rpki_basics::Time;
 use rpki_cli::answer::say;
 use rpki_cli::verify::check_settings::CheckSettings;
-use rpki_cli::verify::requests::ObjectKind;
+use rpki_cli::verify::requests::CheckedKind;
 use rpki_cli::verify::words::When;
 use rpki_cli::words::{Kind, Options};
 use rpki_command::verify::checks::check_each;
@@ -43,12 +44,12 @@ struct Given<'a> {
 fn names<'a>(
     rt: &(impl Abort + AllocGlobal),
     files: &[File<'a>],
-    octets: &mut Vec<Vec<u8>>,
+    octets: &mut Vec<Bytes>,
 ) -> Result<Vec<&'a str>, AllocError> {
     let mut names = Vec::new(rt.alloc());
     for (name, file) in files {
         names.push(*name)?;
-        octets.push(Vec::from_slice(rt.alloc(), file)?)?;
+        octets.push(Bytes::copy_from_slice(rt.alloc(), file)?)?;
     }
     Ok(names)
 }
@@ -58,12 +59,12 @@ fn is_said(
     rt: &(impl Abort + AllocGlobal),
     moment: Time,
     given: &Given<'_>,
-    kinds: &[ObjectKind],
+    kinds: &[CheckedKind],
     objects: &[File<'_>],
     wanted: &Output<'_>,
 ) -> Result<(), AllocError> {
     let mut octets = Vec::new(rt.alloc());
-    octets.push(Vec::from_slice(rt.alloc(), given.ta.1)?)?;
+    octets.push(Bytes::copy_from_slice(rt.alloc(), given.ta.1)?)?;
     let cas = names(rt, given.cas, &mut octets)?;
     let tal = names(rt, given.tal, &mut octets)?.first().copied();
     let crls = names(rt, given.crls, &mut octets)?;
@@ -107,7 +108,7 @@ PROVIDERS = {"valid": True, "customer": "AS64496", "providers": ["AS64497", "AS6
 
 def kind_of(name):
     """The kind of an object, by its name here."""
-    return "ObjectKind::Rta" if name == "holding" else f"ObjectKind::Signed(Kind::{KINDS.get(name, 'Roa')})"
+    return "CheckedKind::Rta" if name == "holding" else f"CheckedKind::Signed(Kind::{KINDS.get(name, 'Roa')})"
 
 
 def in_json(name, kind, said):

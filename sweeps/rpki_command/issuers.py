@@ -13,6 +13,7 @@ MAKE = runpy.run_path(str(TREE / "make.py"))
 HEAD = '''//! Issuers that certificates of examples/ make, with a locator and with revocation lists.
 
 use super::runs::{Output, ROOM};
+use bytes::Bytes;
 use rpki_basics::Time;
 use rpki_cli::answer::{Answer, say};
 use rpki_command::verify::issuers::{CertFiles, NamedLocator, NotLocator, issuer_of, locator_in};
@@ -31,12 +32,12 @@ type File<'a> = (&'a str, &'a [u8]);
 fn cut<'a>(
     rt: &(impl Abort + AllocGlobal),
     files: &[File<'a>],
-) -> Result<(Vec<&'a str>, Vec<Vec<u8>>), AllocError> {
+) -> Result<(Vec<&'a str>, Vec<Bytes>), AllocError> {
     let mut names = Vec::new(rt.alloc());
     let mut octets = Vec::new(rt.alloc());
     for (name, file) in files {
         names.push(*name)?;
-        octets.push(Vec::from_slice(rt.alloc(), file)?)?;
+        octets.push(Bytes::copy_from_slice(rt.alloc(), file)?)?;
     }
     Ok((names, octets))
 }
@@ -97,7 +98,8 @@ fn is_made(
     said: &str,
 ) -> Result<(), AllocError> {
     let (names, octets) = cut(rt, chain)?;
-    let certs = CertFiles { name: anchor.0, anchor: anchor.1, names: &names, chain: &octets };
+    let first = Bytes::copy_from_slice(rt.alloc(), anchor.1)?;
+    let certs = CertFiles { name: anchor.0, anchor: &first, names: &names, chain: &octets };
     let locator = located(rt, locator)?;
     let Ok(lists) = listed(rt, lists)? else {
         assert!(rt; false, "no list");

@@ -20,6 +20,7 @@ HEAD = """//! Attestations in octets, each with what the program says of it, by 
 //! made of it.
 
 use super::runs::{Output, is_answered};
+use bytes::Bytes;
 use rpki_basics::standin::StandIn;
 use rpki_verdicts::rta_listing;
 use std::alloc::{AllocError, Global};
@@ -30,17 +31,17 @@ use std::test::Fail;
 #[derive(Drop)]
 struct Given {
     is_chain: bool,
-    files: Vec<Vec<u8>>,
+    files: Vec<Bytes>,
 }
 
-fn octets(alloc: Global, text: &str) -> Result<Vec<u8>, AllocError> {
+fn octets(alloc: Global, text: &str) -> Result<Bytes, AllocError> {
     match hex::decode(alloc, text.as_bytes()) {
-        Ok(octets) => Ok(octets),
+        Ok(octets) => Ok(Bytes::from_vec(octets)?),
         Err(_) => Err(AllocError),
     }
 }
 
-fn files_of(alloc: Global, text: &str) -> Result<Vec<Vec<u8>>, AllocError> {
+fn files_of(alloc: Global, text: &str) -> Result<Vec<Bytes>, AllocError> {
     let mut files = Vec::new(alloc);
     for part in text.split(':') {
         files.push(octets(alloc, part)?)?;
@@ -64,7 +65,7 @@ fn given(alloc: Global, text: &str) -> Result<Vec<Given>, AllocError> {
 /// The list of the good signatures that a check of the attestation may ask about.
 fn verdicts(
     rt: &(impl Abort + AllocGlobal),
-    object: &[u8],
+    object: &Bytes,
     supplied: &[Given],
 ) -> Result<String, AllocError> {
     let mut chains = Vec::new(rt.alloc());

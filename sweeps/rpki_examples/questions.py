@@ -42,13 +42,15 @@ fn said(
 ) -> Result<Said, AllocError> {
     let mut certs = Vec::new(alloc);
     for cert in chain {
-        certs.push(Vec::from_slice(alloc, cert)?)?;
+        certs.push(Bytes::copy_from_slice(alloc, cert)?)?;
     }
+    let object = Bytes::copy_from_slice(alloc, object)?;
+    let anchor = Bytes::copy_from_slice(alloc, anchor)?;
     let (key, message, signature) = asked;
     let key = PublicKey::from_bits(Bytes::from_static(key));
     let octets = Bytes::from_static(signature);
     let signature = RpkiSignature::new(RpkiSignatureAlgorithm::RsaSha256, octets);
-    let found = is_listed_good(alloc, object, anchor, &certs, &Rsa, &key, message, &signature);
+    let found = is_listed_good(alloc, &object, &anchor, &certs, &Rsa, &key, message, &signature);
     Ok(match found {
         Ok(true) => Said::Yes,
         Ok(false) => Said::No,

@@ -115,10 +115,10 @@ fn attested(alloc: Global, list: &'static [u8], document: &[u8]) -> Result<Strin
 }
 
 /// The certificates of a chain.
-fn chain_of(alloc: Global, certs: &[&[u8]]) -> Result<Vec<Vec<u8>>, Fail> {
+fn chain_of(alloc: Global, certs: &[&[u8]]) -> Result<Vec<Bytes>, Fail> {
     let mut chain = Vec::new(alloc);
     for cert in certs {
-        if chain.push(Vec::from_slice(alloc, cert)?).is_err() {
+        if chain.push(Bytes::copy_from_slice(alloc, cert)?).is_err() {
             return Err(Fail::Memory);
         }
     }
@@ -130,7 +130,7 @@ fn chain_of(alloc: Global, certs: &[&[u8]]) -> Result<Vec<Vec<u8>>, Fail> {
 fn key(alloc: Global, certs: &[&[u8]], year: u16) -> Result<String, Fail> {
     let now = time(year)?;
     let chain = chain_of(alloc, certs)?;
-    Ok(match key_of_issuer(alloc, &ANCHOR_CER, &chain, &Rsa, now) {
+    Ok(match key_of_issuer(alloc, &Bytes::from_static(&ANCHOR_CER), &chain, &Rsa, now) {
         Ok(key) => format!(in alloc; "{key}")?,
         Err(error) => format!(in alloc; "{error}")?,
     })
@@ -142,7 +142,7 @@ fn under(alloc: Global, octets: &'static [u8], certs: &[&[u8]]) -> Result<String
     let chain = chain_of(alloc, certs)?;
     let list = Crl::decode(alloc, Bytes::from_static(&NONE))?;
     let octets = Bytes::from_static(octets);
-    Ok(match roa_under_chain(alloc, octets, &ANCHOR_CER, &chain, &list, &Rsa, now) {
+    Ok(match roa_under_chain(alloc, octets, &Bytes::from_static(&ANCHOR_CER), &chain, &list, &Rsa, now) {
         Ok((_, roa)) => {
             let system = roa.as_id();
             format!(in alloc; "{system}")?

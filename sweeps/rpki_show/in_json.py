@@ -14,6 +14,7 @@ TREE = pathlib.Path(__file__).resolve().parent.parent.parent / "examples"
 HOST = "rsync://rpki.example.net"
 HEAD = '''//! The files of examples/ as objects of JSON, and what becomes of other octets.
 
+use bytes::Bytes;
 use rpki_cli::Causes;
 use rpki_cli::answer::Answer;
 use rpki_cli::words::{Kind, Options};
@@ -40,7 +41,7 @@ enum Shown {
 fn lines(alloc: Global, name: &str, octets: &[u8], shown: Shown) -> Result<String, AllocError> {
     let options = Options { relaxed: true, registered: false, wide: false };
     let causes = Causes::Included;
-    let file = Vec::from_slice(alloc, octets)?;
+    let file = Bytes::copy_from_slice(alloc, octets)?;
     let answer = match shown {
         Shown::Object(kind) => show_object_json(alloc, causes, options, kind, name, file),
         Shown::Whole(kind) => show_whole_object(alloc, causes, options, kind, file),

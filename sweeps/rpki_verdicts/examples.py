@@ -9,6 +9,7 @@ import textwrap
 TREE = pathlib.Path(__file__).resolve().parent.parent.parent / "examples"
 HEAD = '''//! The objects of examples/, each with the list of its good signatures.
 
+use bytes::Bytes;
 use rpki_der::DecodeError;
 use rpki_rsa::Rsa;
 use rpki_verdicts::{ListingError, listing, rta_listing};
@@ -40,9 +41,11 @@ fn is_answered(rt: &(impl Abort + AllocGlobal), row: &Row<'_>) -> Result<(), All
     let (object, strict, anchor, chain, said) = row;
     let mut certs = Vec::new(rt.alloc());
     for cert in *chain {
-        certs.push(Vec::from_slice(rt.alloc(), cert)?)?;
+        certs.push(Bytes::copy_from_slice(rt.alloc(), cert)?)?;
     }
-    is_found(rt, listing(rt.alloc(), object, *strict, anchor, &certs, &Rsa), said)
+    let object = Bytes::copy_from_slice(rt.alloc(), object)?;
+    let anchor = Bytes::copy_from_slice(rt.alloc(), anchor)?;
+    is_found(rt, listing(rt.alloc(), &object, *strict, &anchor, &certs, &Rsa), said)
 }
 
 /// That this is answered of an attestation, and a fault is told.
@@ -52,7 +55,7 @@ fn is_rta_answered(rt: &(impl Abort + AllocGlobal), row: &RtaRow<'_>) -> Result<
     for chain in *chains {
         let mut certs = Vec::new(rt.alloc());
         for cert in *chain {
-            certs.push(Vec::from_slice(rt.alloc(), cert)?)?;
+            certs.push(Bytes::copy_from_slice(rt.alloc(), cert)?)?;
         }
         copies.push(certs)?;
     }
@@ -60,7 +63,8 @@ fn is_rta_answered(rt: &(impl Abort + AllocGlobal), row: &RtaRow<'_>) -> Result<
     for certs in &copies {
         slices.push(certs.as_slice())?;
     }
-    is_found(rt, rta_listing(rt.alloc(), object, &slices, &Rsa), said)
+    let object = Bytes::copy_from_slice(rt.alloc(), object)?;
+    is_found(rt, rta_listing(rt.alloc(), &object, &slices, &Rsa), said)
 }
 
 /// That this was found, and a fault is told.

@@ -67,7 +67,7 @@ impl RelyingParty for Teller {
         &self,
         alloc: Global,
         _request: &PayloadsRequest<'a>,
-        _files: &[Vec<u8>],
+        _files: &[Bytes],
     ) -> Answer<'a> {
         match self.texts(alloc) {
             Ok((out, err)) => Answer::Reported {

@@ -91,7 +91,7 @@ After -- each word is a FILE of check or show.
 MOMENT: now, YYYYMMDDHHMMSSZ or YYYY-MM-DDTHH:MM:SSZ
 CA of walk: any file but one named with
 FILE after verdicts: any file but one named rta
-COPY of payloads: any folder but one named --csv or --json
+COPY of payloads: any folder whose name does not begin with -
 ANCHOR: tal=FILE or ca=TA[:CA ..]
 Status: 0 yes or shown, 1 no, 2 asked wrongly, 3 out of memory, 4 a file can't be read
 Example: rpki_verify check --ta anchor.cer --ca authority.cer *.roa
@@ -334,16 +334,12 @@ OTHER_WORDS = [
     check("roa", "roa", chain=[""]), ["verdicts"], ["verdicts", "roa"], listed(""),
     listed("roa", ""), listed("roa", chain=["", "authority"]), ["show"],
     ["show", "certificate", ""],
-    ["verdicts", "rta"], ["verdicts", "rta", "agreement"], listed("rta"), rta_listed(""),
-    rta_listed("agreement", "anchor"), rta_listed("agreement", "tal=second", "second"),
-    rta_listed("agreement", "tal="), rta_listed("agreement", "ca=anchor:"),
-    rta_listed("agreement", "TAL=second"), ["content", "rta", ""], ["show", "roa", ""],
-    ["rta", "roa", GOOD, "roa", "tal=roa"],
+    ["verdicts", "rta"], ["verdicts", "rta", "agreement"], rta_listed(""),
+    ["content", "rta", ""], ["show", "roa", ""], ["rta", "roa", GOOD],
     ["payloads"], ["payloads", "copy"], ["payloads", "copy", GOOD],
     ["payloads", "--csv", "copy", GOOD], ["payloads", "", GOOD, "tal"],
     ["payloads", "copy", GOOD, ""], ["payloads", "copy", GOOD, "tal", ""],
-    ["walk"], ["walk", "manifest", GOOD, "with"], walk()[:-1], walk("roa"), walk("origin.roa="),
-    walk("="), walk("origin.roa=roa", "with"),
+    ["walk"], ["walk", "manifest", GOOD, "with"], walk()[:-1],
     walk("origin.roa=roa", file=""), walk("origin.roa=roa", chain=["anchor", ""]),
     ["walk", "manifest", GOOD, "anchor", "authority", "origin.roa=roa"], ["--relaxed", "--wide"],
 ]
@@ -358,20 +354,34 @@ WRONG_WORDS = [
     (["help"], "unknown command: help"), (["-"], "unknown command: -"),
     (["--wide", "", "roa"], "unknown command: "),
     (["--strict"] + check("roa", "roa"), "unknown option: --strict"),
-    (["--wide", "--relaxed"] + check("roa", "roa"), "unknown option: --relaxed"),
-    (["--relaxed", "--relaxed"] + listed("roa"), "unknown option: --relaxed"),
+    (["--wide", "--relaxed"] + check("roa", "roa"), "option out of place: --relaxed"),
+    (["--relaxed", "--relaxed"] + listed("roa"), "option out of place: --relaxed"),
+    (["--", *listed("roa")], "option out of place: --"),
     (["check", "--wide"] + check("roa", "roa")[1:], "missing: --ta"),
     *((check(kind, "roa"), f"unknown kind: {kind}") for kind in ("none", "tal", "rta", "-", "")),
-    *((["content", kind, "roa"], f"unknown kind: {kind}") for kind in ("crl", "tal", "--wide")),
+    *((["content", kind, "roa"], f"unknown kind: {kind}") for kind in ("crl", "tal", "-")),
+    (["content", "--wide", "roa"], "option out of place: --wide"),
+    (["content", "-x", "roa"], "unknown option: -x"),
     *((check("roa", "roa", moment=it), f"wrong moment: {it}") for it in WRONG_MOMENTS),
     (walk("origin.roa=roa", moment="20270229000000Z"), "wrong moment: 20270229000000Z"),
+    *((walk(*pairs), f"wrong pair: {it}") for pairs, it in (
+        (["roa"], "roa"), (["origin.roa="], "origin.roa="), (["="], "="),
+        (["origin.roa=roa", "with"], "with"), (["=roa", "roa", "a="], "roa"))),
     (["rta", "verdicts", "agreement", *ANCHORS], "wrong moment: agreement"),
+    (["rta", "roa", GOOD, "roa", "tal=roa"], "wrong anchor: roa"),
+    *((rta_listed("agreement", *anchors), f"wrong anchor: {it}") for anchors, it in (
+        (["anchor"], "anchor"), (["tal=second", "second", "tal="], "second"), (["tal="], "tal="),
+        (["ca=anchor:"], "ca=anchor:"), (["TAL=second"], "TAL=second"))),
+    (listed("rta"), "wrong anchor: authority"),
     (["payloads", "copy", "20270229000000Z", "tal"], "wrong moment: 20270229000000Z"),
     (["payloads", GOOD, "copy", "tal"], "wrong moment: copy"),
     (["payloads", "copy", "--csv", GOOD, "tal"], "wrong moment: --csv"),
-    (["payloads", "--csv", "--json", GOOD, "tal"], "unknown option: --json"),
-    (["payloads", "--json", "--csv", GOOD, "tal"], "unknown option: --csv"),
+    (["payloads", "--csv", "--json", GOOD, "tal"], "option out of place: --json"),
+    (["payloads", "--json", "--csv", GOOD, "tal"], "option out of place: --csv"),
     (["payloads", "--yaml", "copy", GOOD, "tal"], "unknown option: --yaml"),
+    (["payloads", "--relaxed", GOOD, "tal"], "option out of place: --relaxed"),
+    (["payloads", "--csv", "--help"], "option out of place: --help"),
+    (["payloads", "-", GOOD, "tal"], "unknown option: -"),
     (each("-x"), "unknown option: -x"), (each("origin.roa", "--ta=b"), "unknown option: --ta=b"),
     (each("origin.roa", "--crl"), "no value: --crl"),
     (each("--csv", "origin.roa"), "no option of check: --csv"),

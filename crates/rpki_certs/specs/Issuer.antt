@@ -1,6 +1,5 @@
 -- The issuer that certificates make (RFC 6487, section 7.2).
-use Rattle.std.specs.Prelude.{◌≡◌, ◌⊎◌, ℕ, List, [], ◌∷◌, map, Result, Ok, Err, Vec}
-use Rattle.std.specs.declared.alloc.Global.{Global}
+use Rattle.std.specs.Prelude.{◌≡◌, ◌⊎◌, ℕ, List, [], ◌∷◌, Result, Ok, Err}
 use Rattle.rpki_der.specs.declared.mode.Mode.TheVariants.{Der}
 use Rattle.rpki_der.specs.Form.Decodes.{IsOnlyFront}
 use Rattle.rpki_der.specs.Grammar.{HasNoFront}
@@ -17,10 +16,6 @@ use Rattle.rpki_certs.specs.Validate.{IsAnchorOf, IsValidatedUnder}
 use Rattle.rpki_certs.specs.Verify.{Verdict}
 use Rattle.rpki_certs.specs.declared.issuer.IssuerError.{IssuerError}
 use Rattle.rpki_certs.specs.declared.issuer.IssuerError.TheVariants.{Decode, Validation}
-
--- the octets of each file
-abbrev pub octets_of : List (Vec ℕ Global) → List (List ℕ)
-octets_of files = map (λ file. file.items) files
 
 -- The octets begin with a certificate, in DER, and with no other one, and P holds of it.
 pub record BeginsWithCert (octets : List ℕ) (P : Certificate → Type 0) : Type 0 where

@@ -4,7 +4,7 @@ ghost use Rattle.std.specs.Prelude.{◌≡◌, Some, IfOk};
 ghost use Rattle.rpki_der.specs.declared.mode.Mode.TheVariants.{Der};
 ghost use Rattle.rpki_der.specs.Form.Decodes.{Decodes};
 ghost use Rattle.rpki_certs.specs.Cert.{CertForm};
-ghost use Rattle.rpki_certs.specs.Issuer.{octets_of, IsAnchored, IsIssued, Follows};
+ghost use Rattle.rpki_certs.specs.Issuer.{IsAnchored, IsIssued, Follows};
 ghost use Rattle.rpki_certs.specs.Issuer.{MakesIssuer, issuer_text};
 
 use crate::cert::Cert;
@@ -48,12 +48,12 @@ impl Error for IssuerError {}
 /// run out at any of them.
 pub fn issuer_at<C: Crypto>(
     alloc: Global,
-    anchor: &[u8],
-    chain: &[Vec<u8>],
+    anchor: &Bytes,
+    chain: &[Bytes],
     crypto: &C,
     now: Time,
 ) -> Result<ResourceCert, IssuerError>
-    ensures { MakesIssuer (C.is_signed crypto.now) now anchor.now (octets_of chain.now) result }
+    ensures { MakesIssuer (C.is_signed crypto.now) now anchor.now chain.now result }
 {
     match anchor_at(alloc, anchor, crypto, now) {
         Err(error) => Err(error),
@@ -65,11 +65,11 @@ pub fn issuer_at<C: Crypto>(
 fn follow<C: Crypto>(
     alloc: Global,
     first: ResourceCert,
-    chain: &[Vec<u8>],
+    chain: &[Bytes],
     crypto: &C,
     now: Time,
 ) -> Result<ResourceCert, IssuerError>
-    ensures { Follows (C.is_signed crypto.now) now first (octets_of chain.now) result }
+    ensures { Follows (C.is_signed crypto.now) now first chain.now result }
 {
     let mut issuer = first;
     for octets in chain {
@@ -90,7 +90,7 @@ fn follow<C: Crypto>(
 /// The certificate of a trust anchor at the front of the octets.
 fn anchor_at<C: Crypto>(
     alloc: Global,
-    octets: &[u8],
+    octets: &Bytes,
     crypto: &C,
     now: Time,
 ) -> Result<ResourceCert, IssuerError>
@@ -106,10 +106,11 @@ fn anchor_at<C: Crypto>(
 }
 
 /// The certificate of a CA under this issuer at the front of the octets, in DER, read and validated
-/// (RFC 6487, section 7.2). Octets after it are ignored.
+/// (RFC 6487, section 7.2). Octets after it are ignored. Refuses by `Decode` where there is none, and
+/// by `Validation` for the first check that fails.
 pub fn issued_at<C: Crypto>(
     alloc: Global,
-    octets: &[u8],
+    octets: &Bytes,
     issuer: &ResourceCert,
     crypto: &C,
     now: Time,
@@ -125,12 +126,13 @@ pub fn issued_at<C: Crypto>(
     }
 }
 
-/// The certificate at the front of the octets, in DER. Octets after it are ignored.
-pub fn read_cert(alloc: Global, octets: &[u8]) -> Result<Cert, DecodeError>
+/// The certificate at the front of the octets, in DER. Octets after it are ignored. Refuses by
+/// `Malformed` or `Content` where there is none, or by `Memory`.
+pub fn read_cert(alloc: Global, octets: &Bytes) -> Result<Cert, DecodeError>
     ensures decodes { Decodes (CertForm Der) (λ c. c.certificate) octets.now result }
     ensures mode { IfOk result (λ c. c.mode ≡ Der) }
 {
-    match Bytes::copy_from_slice(alloc, octets) {
+    match octets.clone() {
         Err(_) => Err(DecodeError::Memory),
         Ok(source) => Cert::decode(alloc, source),
     }

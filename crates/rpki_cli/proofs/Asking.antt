@@ -3,7 +3,6 @@ use Rattle.std.proofs.Common.{◌≡◌, ◌+◌, ◌≤◌, ℕ, List, ◌++◌
 use Rattle.std.proofs.Common.{ap, ◌∙◌, arith, length}
 use Rattle.std.proofs.lemmas.List.{append-nil, length-append, length-map, map-append, take_all}
 use Rattle.std.specs.Borrow.{Bor}
-use Rattle.rpki_certs.specs.Issuer.{octets_of}
 use Rattle.rpki_cli.specs.Answer.{Output, unreadable, out_of_memory}
 use Rattle.rpki_cli.specs.Command.{AreReadAtMost, IsOfFiles}
 use Rattle.rpki_cli.specs.Store.{Told, Names, AreAllRead, IsFirstUnreadable, AreSomeRead}
@@ -101,13 +100,13 @@ of-some-read causes told names P old new s a e = inr (Err reads.Memory, a, e)
 
 -- all are read
 pub of-all-read : (causes : Causes) (told : Told) (names : List (List ℕ)) (P : List (List ℕ) → Output → Type 0)
-    (old new : Names) (files : Vec (Vec ℕ Global) Global) (seen : List (Vec ℕ Global)) (s : Output)
-    → AreAllRead told names old new files.items → P (octets_of seen) s → seen ≡ files.items
+    (old new : Names) (files : Vec (List ℕ) Global) (seen : List (List ℕ)) (s : Output)
+    → AreAllRead told names old new files.items → P seen s → seen ≡ files.items
     → IsOfFiles causes told names P old new s
 of-all-read causes told names P old new files seen s a h e = inr (
   Ok files,
   a,
-  subst (λ (fs : List (Vec ℕ Global)). P (octets_of fs) s) e h,
+  subst (λ (fs : List (List ℕ)). P fs s) e h,
 )
 
 -- no file is read
@@ -115,7 +114,7 @@ pub none-at-most : (files names : Names) → AreReadAtMost files names names
 none-at-most files names = record { many = 0; reads = sym (append-nil names) }
 
 -- all are read, and no other
-pub all-at-most : (told : Told) (names : Names) (old new : Names) (files : List (Vec ℕ Global))
+pub all-at-most : (told : Told) (names : Names) (old new : Names) (files : List (List ℕ))
     → AreAllRead told names old new files → AreReadAtMost names old new
 all-at-most told names old new files a = record {
   many = length names;
@@ -135,7 +134,7 @@ pub some-at-most : (told : Told) (names : Names) (old new : Names)
 some-at-most told names old new a = record { many = a.place + 1; reads = a.reads }
 
 -- as many files as names
-pub as-many-files : (n : ℕ) (names : List (Bor (List ℕ))) (files seen : List (Vec ℕ Global))
+pub as-many-files : (n : ℕ) (names : List (Bor (List ℕ))) (files seen : List (List ℕ))
     → length files ≡ length (texts names) → seen ≡ files → n ≤ length names → n ≤ length seen
 as-many-files n names files seen e d l =
     omega (arith, e, l, ap length d, length-map names (λ (x : Bor (List ℕ)). x.now))

@@ -1,6 +1,6 @@
 -- Which files are read, and the first that can't be.
 use Rattle.std.proofs.Common.{◌≡◌, ◌+◌, ◌<◌, ℕ, List, [], ◌∷◌, ◌++◌, length, get_or, take, Option}
-use Rattle.std.proofs.Common.{Some, None, Ok, Err, Vec, Global, Bor, arith, subst, sym, ap, ◌∙◌}
+use Rattle.std.proofs.Common.{Some, None, Ok, Err, Bor, arith, subst, sym, ap, ◌∙◌}
 use Rattle.std.proofs.lemmas.List.{append_assoc, length-map, get_or-map, take_more}
 use Rattle.rpki_cli.specs.Store.{Told, Names, IsRead, AreReadTo, IsFirstUnreadable, AreSomeRead}
 use Rattle.rpki_cli.specs.Words.{texts}
@@ -24,7 +24,7 @@ one-more names i d old before new l b n =
     ∙ ap (λ (x : List ℕ). old ++ (take i all ++ x ∷ [])) (sym (text-at names i d [] l))
     ∙ ap (λ (ns : Names). old ++ ns) (sym (take_more all i [] there))
 
-none-before : (told : Told) (names : List (List ℕ)) (i : ℕ) (files : List (Vec ℕ Global))
+none-before : (told : Told) (names : List (List ℕ)) (i : ℕ) (files : List (List ℕ))
     → length files ≡ i → AreReadTo told names i files
     → (k : ℕ) (d : List ℕ) → k < i → told (get_or names k d) ≡ Some None → ⊥
 none-before told names i [] e h k d l t = absurd (omega (arith, e, l))
@@ -33,7 +33,7 @@ none-before told names i (f ∷ fs) e h k d l t =
 
 pub first-unreadable : (told now : Told) (error : StoreError) (reason : Reason)
     (names : List (Bor (List ℕ))) (i : ℕ)
-    (d : Bor (List ℕ)) (files : List (Vec ℕ Global)) (old new : Names) → i < length names
+    (d : Bor (List ℕ)) (files : List (List ℕ)) (old new : Names) → i < length names
     → length files ≡ i
     → AreReadTo told (texts names) i files
     → now ≡ told → error ≡ Unreadable reason → IsRead (now (get_or names i d).now) (Err error)
@@ -49,7 +49,7 @@ first-unreadable told now error reason names i d files old new l e h same is r n
   reads = n;
 }
 
-pub some-read : (told : Told) (names : List (Bor (List ℕ))) (i : ℕ) (files : List (Vec ℕ Global))
+pub some-read : (told : Told) (names : List (Bor (List ℕ))) (i : ℕ) (files : List (List ℕ))
     (old new : Names)
     → i < length names → length files ≡ i → AreReadTo told (texts names) i files
     → new ≡ old ++ take (i + 1) (texts names) → AreSomeRead told (texts names) old new

@@ -19,7 +19,6 @@ use Rattle.rpki_cli.specs.Refusal.{IsMalformed}
 use Rattle.rpki_cli.specs.Store.{Told, Names, IsRead, AreRead, AreReadTo, AreAllRead}
 use Rattle.rpki_cli.specs.Store.{IsFirstUnreadable}
 use Rattle.rpki_cli.specs.Language.{Language, IsAsked, AskForNothing}
-use Rattle.rpki_certs.specs.Issuer.{octets_of}
 use Rattle.rpki_cli.specs.declared.causes.Causes.{Causes}
 use Rattle.rpki_cli.specs.declared.store.Reason.{Reason}
 use Rattle.rpki_cli.specs.declared.store.Unread.{Unread}
@@ -37,7 +36,7 @@ said-as s is run e h = subst (λ (x : Output). IsSaid x run) e h
 module _ (causes : Causes) (lines_of : List ℕ → List ℕ → Type 0) (s : Output) (run : Run)
     (h : IsSaid s run) where
   unreadable-said : (file : List ℕ) (P : List ℕ → Output → Type 0)
-      (read : Result (Vec ℕ Global) StoreError) → IsRead (Some None) read
+      (read : Result (List ℕ) StoreError) → IsRead (Some None) read
       → IsOfRead causes file P read s → IsSaid out_of_memory run ⊎ SaysUnreadable causes file run
   unreadable-said file P (Ok octets) r o = absurd r
   unreadable-said file P (Err Memory) r o = inl (said-as s out_of_memory run o h)
@@ -59,7 +58,7 @@ module _ (causes : Causes) (lines_of : List ℕ → List ℕ → Type 0) (s : Ou
       inr (subst (λ (l : List ℕ). IsSaid (shown l) run) (sym ((f.1).only lines is))
       (said-as s (shown f.0) run f.2 h))
 
-  of-octets : (file octets : List ℕ) (Q : Type 0) (read : Result (Vec ℕ Global) StoreError)
+  of-octets : (file octets : List ℕ) (Q : Type 0) (read : Result (List ℕ) StoreError)
       → IsRead (Some (Some octets)) read → IsOfRead causes file (IsShown causes lines_of) read s
       → (IsShown causes lines_of octets s → IsSaid out_of_memory run ⊎ Q)
       → IsSaid out_of_memory run ⊎ Q
@@ -85,10 +84,9 @@ module _ (causes : Causes) (lines_of : List ℕ → List ℕ → Type 0) (s : Ou
 
 -- ---- files that are checked
 
-told-octets : (told : Told) (names : List (List ℕ)) (files : List (Vec ℕ Global))
-    (octets : List (List ℕ)) → length files ≡ length names
+told-octets : (told : Told) (names files octets : List (List ℕ)) → length files ≡ length names
     → AreReadTo told names (length names) files → AreTold told names octets
-    → octets_of files ≡ octets
+    → files ≡ octets
 told-octets told [] [] [] e a t = refl
 told-octets told [] [] (o ∷ os) e a t = absurd cc
 told-octets told [] (f ∷ fs) octets e a t = absurd (omega (arith, e))
@@ -97,9 +95,9 @@ told-octets told (n ∷ ns) (f ∷ fs) [] e a t = absurd cc
 told-octets told (n ∷ ns) (f ∷ fs) (o ∷ os) e a t =
     let first : told n ≡ Some (Some o) = cc in
     let others : map told ns ≡ map (λ (x : List ℕ). Some (Some x)) os = cc in
-    let is : f.items ≡ o =
+    let is : f ≡ o =
     subst (λ (x : Option (Option (List ℕ))). IsRead x (Ok f)) first (a 0 n f (omega arith)) in
-    let rest : octets_of fs ≡ os = told-octets told ns fs os (omega (arith, e))
+    let rest : fs ≡ os = told-octets told ns fs os (omega (arith, e))
     (λ k d x l. a (suc k) d x (omega (arith, l))) others in
     cc
 
@@ -135,7 +133,7 @@ up-to before after file =
 
 -- not all are read where one of them can't be
 one-unread : (told : Told) (before after : List (List ℕ)) (file : List ℕ) (old new : Names)
-    (files : List (Vec ℕ Global)) → AreAllRead told (before ++ file ∷ after) old new files
+    (files : List (List ℕ)) → AreAllRead told (before ++ file ∷ after) old new files
     → told file ≡ Some None → ⊥
 one-unread told before after file old new [] a u =
     absurd (omega (arith, a.count, length-append before (file ∷ after)))
@@ -178,7 +176,7 @@ first-is told before after octets file old new name reason u t e =
 module _ (causes : Causes) (told : Told) (P : List (List ℕ) → Output → Type 0) (old new : Names)
     (s : Output) (run : Run) (h : IsSaid s run) where
   of-reads : (names octets : List (List ℕ)) → AreTold told names octets
-      → (read : Result (Vec (Vec ℕ Global) Global) Unread) → AreRead told names old new read
+      → (read : Result (Vec (List ℕ) Global) Unread) → AreRead told names old new read
       → IsOfReads causes P read s
       → IsSaid out_of_memory run
       ⊎ ((new ≡ old ++ names) × (x : Output) × P octets x × IsSaid x run)
@@ -194,7 +192,7 @@ module _ (causes : Causes) (told : Told) (P : List (List ℕ) → Output → Typ
   of-reads names octets t (Err reads.Memory) a o = inl (said-as s out_of_memory run o h)
 
   of-unread : (before after octets : List (List ℕ)) (file : List ℕ) → AreTold told before octets
-      → told file ≡ Some None → (read : Result (Vec (Vec ℕ Global) Global) Unread)
+      → told file ≡ Some None → (read : Result (Vec (List ℕ) Global) Unread)
       → AreRead told (before ++ file ∷ after) old new read → IsOfReads causes P read s
       → IsSaid out_of_memory run
       ⊎ ((new ≡ old ++ (before ++ file ∷ [])) × SaysUnreadable causes file run)

@@ -119,7 +119,7 @@ usage_text = codes "usage: rpki_verify [OPTION ..] check --ta TA [SETTING ..] FI
     ++ (codes "MOMENT: now, YYYYMMDDHHMMSSZ or YYYY-MM-DDTHH:MM:SSZ\n"
     ++ (codes "CA of walk: any file but one named with\n"
     ++ (codes "FILE after verdicts: any file but one named rta\n"
-    ++ (codes "COPY of payloads: any folder but one named --csv or --json\n"
+    ++ (codes "COPY of payloads: any folder whose name does not begin with -\n"
     ++ (codes "ANCHOR: tal=FILE or ca=TA[:CA ..]\n"
     ++ (codes "Status: 0 yes or shown, 1 no, 2 asked wrongly, 3 out of memory, 4 a file can't be read\n"
     ++ (codes "Example: rpki_verify check --ta anchor.cer --ca authority.cer *.roa\n"

@@ -3,7 +3,6 @@
 use Rattle.std.specs.Prelude.{◌≡◌, ℕ, ◌⊎◌, List, [], ◌∷◌, ◌++◌, take, map, None, Some, Result, Ok}
 use Rattle.std.specs.Prelude.{Err, Vec}
 use Rattle.std.specs.declared.alloc.Global.{Global}
-use Rattle.rpki_certs.specs.Issuer.{octets_of}
 use Rattle.rpki_cli.specs.Answer.{Run, Output, IsSaid, unreadable, out_of_memory, shown}
 use Rattle.rpki_cli.specs.Arguments.{ToldArguments, AreTexts, HaveNoText}
 use Rattle.rpki_cli.specs.Shown.{HasNoLines, IsShown}
@@ -28,13 +27,13 @@ unread causes name Memory = out_of_memory
 
 -- what is said where a read of a file answers this
 abbrev pub IsOfRead : Causes → List ℕ → (List ℕ → Output → Type 0)
-    → Result (Vec ℕ Global) StoreError → Output → Type 0
-IsOfRead causes name P (Ok octets) s = P octets.items s
+    → Result (List ℕ) StoreError → Output → Type 0
+IsOfRead causes name P (Ok octets) s = P octets s
 IsOfRead causes name P (Err error) s = s ≡ unread causes name error
 
 -- what is said of a file in a store that tells this, where `P` says what is said of its octets
 abbrev pub IsOfFile : Causes → Told → List ℕ → (List ℕ → Output → Type 0) → Output → Type 0
-IsOfFile causes told name P s = (read : Result (Vec ℕ Global) StoreError)
+IsOfFile causes told name P s = (read : Result (List ℕ) StoreError)
     × IsRead (told name) read × IsOfRead causes name P read s
 
 -- What an order comes to.
@@ -72,8 +71,8 @@ objects_language = record {
 
 -- what is said where reads of files answer this
 abbrev pub IsOfReads : Causes → (List (List ℕ) → Output → Type 0)
-    → Result (Vec (Vec ℕ Global) Global) Unread → Output → Type 0
-IsOfReads causes P (Ok files) s = P (octets_of files.items) s
+    → Result (Vec (List ℕ) Global) Unread → Output → Type 0
+IsOfReads causes P (Ok files) s = P files.items s
 IsOfReads causes P (Err (reads.Unreadable name reason)) s = s ≡ unreadable causes name.now reason
 IsOfReads causes P (Err reads.Memory) s = s ≡ out_of_memory
 
@@ -85,7 +84,7 @@ abbrev pub IsOfFiles : Causes → Told → Names → (List (List ℕ) → Output
     → Output → Type 0
 IsOfFiles causes told files P old new s =
     ((s ≡ out_of_memory) × (new ≡ old))
-    ⊎ ((read : Result (Vec (Vec ℕ Global) Global) Unread)
+    ⊎ ((read : Result (Vec (List ℕ) Global) Unread)
     × AreRead told files old new read × IsOfReads causes P read s)
 
 -- what is said where the words set something or are wrong, where `P` says what is said for what

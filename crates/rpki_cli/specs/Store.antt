@@ -12,13 +12,13 @@ use Rattle.rpki_cli.specs.declared.store.Unread.TheVariants as unread
 -- What a read of a file may answer. Of the file the store tells its octets, or that it can't be
 -- read, or nothing. The answer is what is told, and any where nothing is; and it may always be that
 -- memory ran out. Why a file can't be read is not told: any reason may be answered.
-abbrev pub IsRead : Option (Option (List ℕ)) → Result (Vec ℕ Global) StoreError → Type 0
+abbrev pub IsRead : Option (Option (List ℕ)) → Result (List ℕ) StoreError → Type 0
 IsRead told (Err Memory) = Unit {0}
 IsRead None (Ok octets) = Unit {0}
 IsRead None (Err (Unreadable reason)) = Unit {0}
 IsRead (Some None) (Ok octets) = ⊥
 IsRead (Some None) (Err (Unreadable reason)) = Unit {0}
-IsRead (Some (Some file)) (Ok octets) = octets.items ≡ file
+IsRead (Some (Some file)) (Ok octets) = octets ≡ file
 IsRead (Some (Some file)) (Err (Unreadable reason)) = ⊥
 
 -- Names of files, in an order; where one stands twice, these are two. As `old` and `new` they are
@@ -35,13 +35,13 @@ Told = List ℕ → Option (Option (List ℕ))
 
 -- For each of the first `n` names, the octets at its place are an answer that a read of the file of
 -- this name may give.
-abbrev pub AreReadTo : Told → Names → ℕ → List (Vec ℕ Global) → Type 0
-AreReadTo told names n files = (k : ℕ) (d : List ℕ) (e : Vec ℕ Global) → k < n
+abbrev pub AreReadTo : Told → Names → ℕ → List (List ℕ) → Type 0
+AreReadTo told names n files = (k : ℕ) (d e : List ℕ) → k < n
     → IsRead (told (slice_index_or names k d)) (Ok (slice_index_or files k e))
 
 -- Each file is read, in the order of the names, once, and no other. For each there are octets,
 -- which are an answer that its read may give.
-pub record AreAllRead (told : Told) (names old new : Names) (files : List (Vec ℕ Global))
+pub record AreAllRead (told : Told) (names old new : Names) (files : List (List ℕ))
     : Type 0 where
   pub count : length files ≡ length names
   pub each : AreReadTo told names (length names) files
@@ -69,8 +69,7 @@ pub record AreSomeRead (told : Told) (names old new : Names) : Type 0 where
 
 -- What a read of several files answers: all of them, or the first that can't be read, or want of
 -- memory; and which files are read for it.
-abbrev pub AreRead : Told → Names → Names → Names → Result (Vec (Vec ℕ Global) Global) Unread
-    → Type 0
+abbrev pub AreRead : Told → Names → Names → Names → Result (Vec (List ℕ) Global) Unread → Type 0
 AreRead told names old new (Ok files) = AreAllRead told names old new files.items
 AreRead told names old new (Err (unread.Unreadable name reason)) =
     IsFirstUnreadable told names old new name.now reason

@@ -43,7 +43,7 @@ After -- each word is a FILE of check or show.
 MOMENT: now, YYYYMMDDHHMMSSZ or YYYY-MM-DDTHH:MM:SSZ
 CA of walk: any file but one named with
 FILE after verdicts: any file but one named rta
-COPY of payloads: any folder but one named --csv or --json
+COPY of payloads: any folder whose name does not begin with -
 ANCHOR: tal=FILE or ca=TA[:CA ..]
 Status: 0 yes or shown, 1 no, 2 asked wrongly, 3 out of memory, 4 a file can't be read
 Example: rpki_verify check --ta anchor.cer --ca authority.cer *.roa

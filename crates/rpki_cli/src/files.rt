@@ -1,7 +1,6 @@
 //! What a program answers of several files.
 
 ghost use Rattle.std.specs.Prelude.{◌≡◌, ◌≤◌, ◌+◌, ◌++◌, ℕ, List, length, IfOk};
-ghost use Rattle.rpki_certs.specs.Issuer.{octets_of};
 ghost use Rattle.rpki_cli.specs.Answer.{Output, said};
 ghost use Rattle.rpki_cli.specs.Command.{AreReadAtMost, IsOfFiles};
 ghost use Rattle.rpki_cli.specs.Words.{texts, chain_in, others_in, files_of_anchors};
@@ -11,6 +10,7 @@ use crate::answer::Answer;
 use crate::causes::{Causes, unreadable};
 use crate::pairs::others_of;
 use crate::store::{Store, Unread, read_all};
+use bytes::Bytes;
 use std::alloc::{AllocError, Global};
 
 /// What is answered of the octets of files.
@@ -22,9 +22,9 @@ pub trait Work: Drop {
     ghost says: { Self → List (List ℕ) → Output → Type 0 };
 
     /// Answers of these files.
-    fn answer<'a>(self, alloc: Global, files: &[Vec<u8>]) -> Answer<'a>
+    fn answer<'a>(self, alloc: Global, files: &[Bytes]) -> Answer<'a>
         requires { least self ≤ length files.now }
-        ensures { says self (octets_of files.now) (said result) };
+        ensures { says self files.now (said result) };
 }
 
 /// Answers by the work of the files with these names, first some, and then others: they are read in

@@ -1,12 +1,13 @@
 //! Where the program's files come from.
 
-ghost use Rattle.std.specs.Prelude.{◌≡◌, ◌∷◌, ◌++◌, ℕ, List, [], Option, None, Some};
+ghost use Rattle.std.specs.Prelude.{◌≡◌, ◌∷◌, ◌++◌, ℕ, List, [], Option, None, Some, IfOk};
 ghost use Rattle.rpki_cli.specs.Answer.{reason_text};
 ghost use Rattle.rpki_cli.specs.Store.{IsRead, AreRead, store_error_text, unread_text};
 ghost use Rattle.rpki_cli.specs.Words.{texts};
 
 use crate::answer::OUT_OF_MEMORY;
 use crate::read_log::ReadLog;
+use bytes::Bytes;
 use std::alloc::Global;
 use std::error::Error;
 use std::io::Read;
@@ -77,7 +78,7 @@ pub trait Store {
 
     /// The octets of the file with this name. Refuses by `Unreadable` where it can't be read, or by
     /// `Memory`.
-    fn read(&mut self, alloc: Global, name: &str) -> Result<Vec<u8>, StoreError>
+    fn read(&mut self, alloc: Global, name: &str) -> Result<Bytes, StoreError>
         ensures answer { IsRead (told self.old name.now) result }
         ensures same { told self.new ≡ told self.old }
         ensures noted { reads self.new ≡ reads self.old ++ name.now ∷ [] };
@@ -115,7 +116,7 @@ pub fn read_all<'a, S: Store>(
     alloc: Global,
     names: &[&'a str],
     store: &mut S,
-) -> Result<Vec<Vec<u8>>, Unread<'a>>
+) -> Result<Vec<Bytes>, Unread<'a>>
     ensures answer { AreRead (S.told store.old) (texts names.now)
         (S.reads store.old) (S.reads store.new) result }
     ensures same { S.told store.new ≡ S.told store.old }
@@ -169,12 +170,22 @@ impl<R: Files + AllocGlobal> Store for SystemFiles<'_, R> {
 
     ghost reads = { λ d. d };
 
-    fn read(&mut self, _alloc: Global, name: &str) -> Result<Vec<u8>, StoreError> {
+    fn read(&mut self, _alloc: Global, name: &str) -> Result<Bytes, StoreError> {
         self.reads = self.reads.and(name);
         match fs::read(self.runtime, name) {
-            Ok(octets) => Ok(octets),
+            Ok(octets) => into_bytes(octets),
             Err(error) => Err(failure(error)),
         }
+    }
+}
+
+/// Octets that were read, which each use shares from here on.
+fn into_bytes(octets: Vec<u8>) -> Result<Bytes, StoreError>
+    ensures { IfOk result (λ bytes. bytes ≡ octets.items) }
+{
+    match Bytes::from_vec(octets) {
+        Ok(bytes) => Ok(bytes),
+        Err(_) => Err(StoreError::Memory),
     }
 }
 
@@ -228,14 +239,14 @@ impl<R: Files + AllocGlobal, I: Read> Store for FilesAndInput<'_, R, I> {
 
     ghost reads = { λ d. d };
 
-    fn read(&mut self, alloc: Global, name: &str) -> Result<Vec<u8>, StoreError> {
+    fn read(&mut self, alloc: Global, name: &str) -> Result<Bytes, StoreError> {
         if name != INPUT {
             return self.files.read(alloc, name);
         }
         self.files.reads = self.files.reads.and(name);
         let mut octets = Vec::new(alloc);
         match self.input.read_to_end(&mut octets) {
-            Ok(_) => Ok(octets),
+            Ok(_) => into_bytes(octets),
             Err(error) => Err(failure(error)),
         }
     }

@@ -11,7 +11,6 @@ use Rattle.rpki_faults.specs.declared.validation.ValidationError.TheVariants.{Me
 use Rattle.rpki_certs.specs.Cert.{KeptCertificate}
 use Rattle.rpki_certs.specs.Validate.{Sets, Validated}
 use Rattle.rpki_certs.specs.Verify.{Verdict}
-use Rattle.rpki_certs.specs.Issuer.{octets_of}
 use Rattle.rpki_signed.specs.Check.{Checks}
 use Rattle.rpki_signed.specs.Exact.{IsExact}
 use Rattle.rpki_signed.specs.declared.check.CheckError.{CheckError}
@@ -100,18 +99,11 @@ three (x ∷ y ∷ z ∷ rest) a b c l e f g =
     let r : c ≡ z = g in rw (p, q, r)
 
 -- what holds of the octets of the first three files and of the others holds of those of all
-pub of-three : (P : List (List ℕ) → Type 0) (files : List (Vec ℕ Global)) (o v a : Vec ℕ Global)
-    (object verdicts anchor : List ℕ) → object ≡ o.items → verdicts ≡ v.items → anchor ≡ a.items
-    → 3 ≤ length files → o ≡ get_or files 0 o → v ≡ get_or files 1 v → a ≡ get_or files 2 a
-    → P (object ∷ verdicts ∷ anchor ∷ octets_of (take (length files - 3) (drop 3 files)))
-    → P (octets_of files)
-of-three P files o v a object verdicts anchor d e f l i j k h =
-    let rest = subst (λ (tail : List (Vec ℕ Global)). P (object ∷ verdicts ∷ anchor
-    ∷ octets_of tail)) (take_rest files 3) h in
-    let anchored = subst (λ (x : List ℕ). P (object ∷ verdicts ∷ x ∷ octets_of (drop 3 files))) f
-    rest in
-    let listed = subst (λ (x : List ℕ). P (object ∷ x ∷ a.items ∷ octets_of (drop 3 files))) e
-    anchored in
-    let all = subst (λ (x : List ℕ). P (x ∷ v.items ∷ a.items ∷ octets_of (drop 3 files))) d listed
-    in
-    subst (λ (fs : List (Vec ℕ Global)). P (octets_of fs)) (sym (three files o v a l i j k)) all
+pub of-three : (P : List (List ℕ) → Type 0) (files : List (List ℕ))
+    (object verdicts anchor : List ℕ) → 3 ≤ length files → object ≡ get_or files 0 object
+    → verdicts ≡ get_or files 1 verdicts → anchor ≡ get_or files 2 anchor
+    → P (object ∷ verdicts ∷ anchor ∷ take (length files - 3) (drop 3 files)) → P files
+of-three P files object verdicts anchor l i j k h =
+    subst P (sym (three files object verdicts anchor l i j k))
+    (subst (λ (tail : List (List ℕ)). P (object ∷ verdicts ∷ anchor ∷ tail))
+    (take_rest files 3) h)

@@ -1,10 +1,9 @@
 -- Files at hand.
 use Rattle.std.proofs.Common.{◌≡◌, ◌++◌, ◌∙◌, ℕ, List, [], ◌∷◌, Bor, refl, sym, ap, map}
-use Rattle.std.proofs.Common.{Vec, Global, inl, inr, append_assoc}
+use Rattle.std.proofs.Common.{inl, inr, append_assoc}
 use Rattle.std.proofs.lemmas.List.{map-append, append-nil}
 use Rattle.std.specs.List.{zip}
 use Rattle.std.specs.Prelude.{◌⊎◌}
-use Rattle.rpki_certs.specs.Issuer.{octets_of}
 use Rattle.rpki_signed.specs.Walk.{AtHand, at_hand}
 use Rattle.rpki_cli.specs.Words.{texts, name_in}
 
@@ -16,25 +15,25 @@ hand-of = at_hand (λ (name : Bor (List ℕ)). name.now) (λ (octets : Bor (List
 
 -- the files so far, and those of the pairs that are left
 abbrev pub with-left : List (Bor (List ℕ) × Bor (List ℕ)) → List (Bor (List ℕ))
-    → List (Vec ℕ Global) → List AtHand
+    → List (List ℕ) → List AtHand
 with-left files pairs octets =
-    map hand-of files ++ zip (map name_in (texts pairs)) (octets_of octets)
+    map hand-of files ++ zip (map name_in (texts pairs)) octets
 
 -- one file more
 pub hand-more : (files : List (Bor (List ℕ) × Bor (List ℕ))) (n o : Bor (List ℕ))
-    (pairs ps : List (Bor (List ℕ))) (octets os : List (Vec ℕ Global)) (pair : Bor (List ℕ))
-    (v : Vec ℕ Global) (all : List AtHand) → with-left files pairs octets ≡ all
-    → pairs ≡ pair ∷ ps → octets ≡ v ∷ os → n.now ≡ name_in pair.now → o.now ≡ v.items
+    (pairs ps : List (Bor (List ℕ))) (octets os : List (List ℕ)) (pair : Bor (List ℕ))
+    (v : List ℕ) (all : List AtHand) → with-left files pairs octets ≡ all
+    → pairs ≡ pair ∷ ps → octets ≡ v ∷ os → n.now ≡ name_in pair.now → o.now ≡ v
     → with-left (files ++ (n, o) ∷ []) ps os ≡ all
 hand-more files n o pairs ps octets os pair v all h e d i j =
-    ap (λ (l : List AtHand). l ++ zip (map name_in (texts ps)) (octets_of os))
+    ap (λ (l : List AtHand). l ++ zip (map name_in (texts ps)) os)
     (map-append hand-of files ((n, o) ∷ []))
     ∙ append_assoc (map hand-of files) ((n.now, o.now) ∷ [])
-    (zip (map name_in (texts ps)) (octets_of os))
-    ∙ ap (λ (x : AtHand). map hand-of files ++ x ∷ zip (map name_in (texts ps)) (octets_of os))
-    (pair-same n.now (name_in pair.now) o.now v.items i j)
+    (zip (map name_in (texts ps)) os)
+    ∙ ap (λ (x : AtHand). map hand-of files ++ x ∷ zip (map name_in (texts ps)) os)
+    (pair-same n.now (name_in pair.now) o.now v i j)
     ∙ sym (ap (λ (l : List (Bor (List ℕ))). with-left files l octets) e
-    ∙ ap (λ (l : List (Vec ℕ Global)). with-left files (pair ∷ ps) l) d)
+    ∙ ap (λ (l : List (List ℕ)). with-left files (pair ∷ ps) l) d)
     ∙ h
 
 no-zip : (names octets : List (List ℕ)) → (names ≡ []) ⊎ (octets ≡ [])
@@ -46,13 +45,13 @@ no-zip (n ∷ names) (o ∷ octets) (inr e) = absurd cc
 
 -- no file is left
 pub hand-all : (files : List (Bor (List ℕ) × Bor (List ℕ))) (pairs : List (Bor (List ℕ)))
-    (octets : List (Vec ℕ Global)) (all : List AtHand) → with-left files pairs octets ≡ all
+    (octets : List (List ℕ)) (all : List AtHand) → with-left files pairs octets ≡ all
     → (pairs ≡ []) ⊎ (octets ≡ []) → map hand-of files ≡ all
 hand-all files pairs octets all h none =
     sym (append-nil (map hand-of files))
     ∙ ap (λ (l : List AtHand). map hand-of files ++ l)
-    (sym (no-zip (map name_in (texts pairs)) (octets_of octets) (elim none [
+    (sym (no-zip (map name_in (texts pairs)) octets (elim none [
       | inl e ↦ inl (ap (λ (l : List (Bor (List ℕ))). map name_in (texts l)) e)
-      | inr e ↦ inr (ap octets_of e)
+      | inr e ↦ inr e
     ])))
     ∙ h

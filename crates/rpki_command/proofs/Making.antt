@@ -1,15 +1,14 @@
 -- Anchors that files make, one after the other.
-use Rattle.std.proofs.Common.{◌≡◌, ◌<◌, ◌≤◌, ◌+◌, ◌∙◌, ℕ, List, [], ◌∷◌, ◌++◌, Bor, Vec, Global}
+use Rattle.std.proofs.Common.{◌≡◌, ◌<◌, ◌≤◌, ◌+◌, ◌∙◌, ℕ, List, [], ◌∷◌, ◌++◌, Bor}
 use Rattle.std.proofs.Common.{Bool, true, false, Ok, Err, refl, sym, ap, subst, inr, arith}
 use Rattle.std.proofs.Common.{length, get_or, take, drop, append_assoc, suc}
 use Rattle.std.proofs.Math.Seq.{drop-cons}
-use Rattle.std.proofs.lemmas.List.{append-nil, take-map, drop-map, length-append, length-drop}
+use Rattle.std.proofs.lemmas.List.{append-nil, length-append, length-drop}
 use Rattle.std.proofs.lemmas.List.{drop_all, length-take-le, map-append}
 use Rattle.std.proofs.lemmas.List.Splits.{length-slice_split}
 use Rattle.std.specs.List.{slice_split}
 use Rattle.std.specs.Prelude.{if◌then◌else◌}
 use Rattle.rpki_basics.specs.Moment.{Moment}
-use Rattle.rpki_certs.specs.Issuer.{octets_of}
 use Rattle.rpki_certs.specs.Verify.{Verdict}
 use Rattle.rpki_command.specs.Anchors.{Given, given_in, Makes, MakesOf, MakeEach, AreMade}
 use Rattle.rpki_command.specs.Anchors.{chains_in}
@@ -46,45 +45,35 @@ files-one : (word : List ℕ) → is_locator word ≡ true → length (files_of_
 files-one word e = one-of (is_locator word) (path_in word) e
 
 -- an anchor with these files
-abbrev pub given_of : List ℕ → List (Vec ℕ Global) → Given
-given_of word own = record { locates = is_locator word; files = octets_of own }
-
-octets-take : (n : ℕ) (files : List (Vec ℕ Global))
-    → take n (octets_of files) ≡ octets_of (take n files)
-octets-take n files = take-map (λ (v : Vec ℕ Global). v.items) n files
-
-octets-drop : (n : ℕ) (files : List (Vec ℕ Global))
-    → drop n (octets_of files) ≡ octets_of (drop n files)
-octets-drop n files = drop-map (λ (v : Vec ℕ Global). v.items) n files
+abbrev pub given_of : List ℕ → List (List ℕ) → Given
+given_of word own = record { locates = is_locator word; files = own }
 
 -- of the anchors that are left, the first, and those after it
-given-next : (word : List ℕ) (words : List (List ℕ)) (files own others : List (Vec ℕ Global))
+given-next : (word : List ℕ) (words : List (List ℕ)) (files own others : List (List ℕ))
     → own ≡ take (length (files_of_anchor word)) files
     → others ≡ drop (length (files_of_anchor word)) files
-    → given_in (word ∷ words) (octets_of files)
-    ≡ given_of word own ∷ given_in words (octets_of others)
+    → given_in (word ∷ words) files
+    ≡ given_of word own ∷ given_in words others
 given-next word words files own others e f =
     let n = length (files_of_anchor word) in
     ap (λ (os : List (List ℕ)). record { locates = is_locator word; files = os }
-    ∷ given_in words (drop n (octets_of files)))
-    (octets-take n files ∙ ap octets_of (sym e))
-    ∙ ap (λ (os : List (List ℕ)). given_of word own ∷ given_in words os)
-    (octets-drop n files ∙ ap octets_of (sym f))
+    ∷ given_in words (drop n files)) (sym e)
+    ∙ ap (λ (os : List (List ℕ)). given_of word own ∷ given_in words os) (sym f)
 
 -- ---- the files that are left
 
 -- The words up to a place name these anchors, and of the others these files are left.
-pub record IsCutAt (words : List (Bor (List ℕ))) (all : List (Vec ℕ Global)) (place : ℕ)
-    (left : List (Vec ℕ Global)) (done : List Given) : Type 0 where
-  pub cut : given_in (texts words) (octets_of all)
-      ≡ done ++ given_in (texts (drop place words)) (octets_of left)
+pub record IsCutAt (words : List (Bor (List ℕ))) (all : List (List ℕ)) (place : ℕ)
+    (left : List (List ℕ)) (done : List Given) : Type 0 where
+  pub cut : given_in (texts words) all
+      ≡ done ++ given_in (texts (drop place words)) left
   pub enough : length (files_of_anchors (texts (drop place words))) ≤ length left
 
-module _ (words : List (Bor (List ℕ))) (all : List (Vec ℕ Global)) where
+module _ (words : List (Bor (List ℕ))) (all : List (List ℕ)) where
   pub none-cut : length (files_of_anchors (texts words)) ≤ length all → IsCutAt words all 0 all []
   none-cut l = record { cut = refl; enough = l }
 
-  module _ (place : ℕ) (left own others : List (Vec ℕ Global)) (done : List Given)
+  module _ (place : ℕ) (left own others : List (List ℕ)) (done : List Given)
       (d : Bor (List ℕ)) (n : ℕ) (is : IsCutAt words all place left done)
       (there : place < length words)
       (count : n ≡ length (files_of_anchor (get_or words place d).now))
@@ -98,12 +87,12 @@ module _ (words : List (Bor (List ℕ))) (all : List (Vec ℕ Global)) where
     f : others ≡ drop (length (files_of_anchor word)) left
     f = back ∙ ap (λ (m : ℕ). drop m left) count
 
-    pub split : given_in (texts words) (octets_of all)
+    pub split : given_in (texts words) all
         ≡ done ++ (given_of word own
-        ∷ given_in (texts (drop (place + 1) words)) (octets_of others))
+        ∷ given_in (texts (drop (place + 1) words)) others)
     split = is.cut
         ∙ ap (λ (ws : List (Bor (List ℕ))).
-        done ++ given_in (texts ws) (octets_of left)) (left-at words place d there)
+        done ++ given_in (texts ws) left) (left-at words place d there)
         ∙ ap (λ (g : List Given). done ++ g)
         (given-next word (texts (drop (place + 1) words)) left own others e f)
 
@@ -135,7 +124,7 @@ module _ (words : List (Bor (List ℕ))) (all : List (Vec ℕ Global)) where
     cut-more = record {
       cut = split
           ∙ sym (append_assoc done (given_of word own ∷ [])
-          (given_in (texts (drop (place + 1) words)) (octets_of others)));
+          (given_in (texts (drop (place + 1) words)) others));
       enough = omega (
         arith,
         long,
@@ -144,11 +133,11 @@ module _ (words : List (Bor (List ℕ))) (all : List (Vec ℕ Global)) where
       );
     }
 
-  pub all-cut : (place : ℕ) (left : List (Vec ℕ Global)) (done : List Given)
+  pub all-cut : (place : ℕ) (left : List (List ℕ)) (done : List Given)
       → IsCutAt words all place left done → (place < length words → ⊥)
-      → given_in (texts words) (octets_of all) ≡ done
+      → given_in (texts words) all ≡ done
   all-cut place left done is l = is.cut
-      ∙ ap (λ (ws : List (Bor (List ℕ))). done ++ given_in (texts ws) (octets_of left))
+      ∙ ap (λ (ws : List (Bor (List ℕ))). done ++ given_in (texts ws) left)
       (drop_all place words (omega (arith, l)))
       ∙ append-nil done
 
@@ -164,18 +153,18 @@ module _ (verdict : Verdict) (now : Moment) where
   each-more (d ∷ done) g (b ∷ anchors) a h m = (h.0, each-more done g anchors a h.1 m)
 
   -- The anchors of the words up to a place are made, and of the others these files are left.
-  pub record AreMadeTo (words : List (Bor (List ℕ))) (all : List (Vec ℕ Global)) (place : ℕ)
-      (left : List (Vec ℕ Global)) (anchors : List Anchor) : Type 0 where
+  pub record AreMadeTo (words : List (Bor (List ℕ))) (all : List (List ℕ)) (place : ℕ)
+      (left : List (List ℕ)) (anchors : List Anchor) : Type 0 where
     pub done : List Given
     pub each : MakeEach verdict now done anchors
     pub is_cut : IsCutAt words all place left done
 
-  module _ (words : List (Bor (List ℕ))) (all : List (Vec ℕ Global)) where
+  module _ (words : List (Bor (List ℕ))) (all : List (List ℕ)) where
     pub none-made : length (files_of_anchors (texts words)) ≤ length all
         → AreMadeTo words all 0 all []
     none-made l = record { done = []; each = tt; is_cut = none-cut words all l }
 
-    module _ (place : ℕ) (left own others : List (Vec ℕ Global)) (anchors : List Anchor)
+    module _ (place : ℕ) (left own others : List (List ℕ)) (anchors : List Anchor)
         (d : Bor (List ℕ)) (n : ℕ) (is : AreMadeTo words all place left anchors)
         (there : place < length words)
         (count : n ≡ length (files_of_anchor (get_or words place d).now))
@@ -183,7 +172,7 @@ module _ (verdict : Verdict) (now : Moment) where
       abbrev named : List ℕ
       named = (get_or words place d).now
 
-      pub one-made : (a : Anchor) → MakesOf verdict now (is_locator named) (octets_of own) (Ok a)
+      pub one-made : (a : Anchor) → MakesOf verdict now (is_locator named) own (Ok a)
           → AreMadeTo words all (place + 1) others (anchors ++ a ∷ [])
       one-made a m = record {
         done = is.done ++ given_of named own ∷ [];
@@ -193,21 +182,21 @@ module _ (verdict : Verdict) (now : Moment) where
       }
 
       pub one-unmade : (fault : AnchorError)
-          → MakesOf verdict now (is_locator named) (octets_of own) (Err fault)
-          → AreMade verdict now (given_in (texts words) (octets_of all)) (Err fault)
+          → MakesOf verdict now (is_locator named) own (Err fault)
+          → AreMade verdict now (given_in (texts words) all) (Err fault)
       one-unmade fault m = inr (record {
         before = is.done;
         first = given_of named own;
-        after = given_in (texts (drop (place + 1) words)) (octets_of others);
+        after = given_in (texts (drop (place + 1) words)) others;
         cut = split words all place left own others is.done d n is.is_cut there count front back;
         made = anchors;
         each = is.each;
         unmade = m;
       })
 
-    pub all-made : (place : ℕ) (left : List (Vec ℕ Global)) (anchors : List Anchor)
+    pub all-made : (place : ℕ) (left : List (List ℕ)) (anchors : List Anchor)
         → AreMadeTo words all place left anchors → (place < length words → ⊥)
-        → MakeEach verdict now (given_in (texts words) (octets_of all)) anchors
+        → MakeEach verdict now (given_in (texts words) all) anchors
     all-made place left anchors is l =
         subst (λ (g : List Given). MakeEach verdict now g anchors)
         (sym (all-cut words all place left is.done is.is_cut l)) is.each
@@ -234,19 +223,19 @@ its-chain true files e = absurd cc
 its-chain false files e = refl
 
 -- These are the chains of the words up to a place, and of the others these files are left.
-pub record AreChainsTo (words : List (Bor (List ℕ))) (all : List (Vec ℕ Global)) (place : ℕ)
-    (left : List (Vec ℕ Global)) (chains : List (Bor (List (Vec ℕ Global)))) : Type 0 where
+pub record AreChainsTo (words : List (Bor (List ℕ))) (all : List (List ℕ)) (place : ℕ)
+    (left : List (List ℕ)) (chains : List (Bor (List (List ℕ)))) : Type 0 where
   pub done : List Given
   pub chained : octets_of_chains chains ≡ chains_in done
   pub is_cut : IsCutAt words all place left done
 
-module _ (words : List (Bor (List ℕ))) (all : List (Vec ℕ Global)) where
+module _ (words : List (Bor (List ℕ))) (all : List (List ℕ)) where
   pub none-chained : length (files_of_anchors (texts words)) ≤ length all
       → AreChainsTo words all 0 all []
   none-chained l = record { done = []; chained = refl; is_cut = none-cut words all l }
 
-  module _ (place : ℕ) (left own others : List (Vec ℕ Global))
-      (chains : List (Bor (List (Vec ℕ Global)))) (d : Bor (List ℕ)) (n : ℕ)
+  module _ (place : ℕ) (left own others : List (List ℕ))
+      (chains : List (Bor (List (List ℕ)))) (d : Bor (List ℕ)) (n : ℕ)
       (is : AreChainsTo words all place left chains) (there : place < length words)
       (count : n ≡ length (files_of_anchor (get_or words place d).now))
       (front : own ≡ take n left) (back : others ≡ drop n left) where
@@ -268,23 +257,23 @@ module _ (words : List (Bor (List ℕ))) (all : List (Vec ℕ Global)) where
     one-located e = record {
       done = is.done ++ given_of said own ∷ [];
       chained = sym (append-nil (octets_of_chains chains))
-          ∙ one-more [] (no-chain (is_locator said) (octets_of own) e);
+          ∙ one-more [] (no-chain (is_locator said) own e);
       is_cut = more;
     }
 
-    pub one-chained : (x : Bor (List (Vec ℕ Global))) → x.now ≡ own → is_locator said ≡ false
+    pub one-chained : (x : Bor (List (List ℕ))) → x.now ≡ own → is_locator said ≡ false
         → AreChainsTo words all (place + 1) others (chains ++ x ∷ [])
     one-chained x same e = record {
       done = is.done ++ given_of said own ∷ [];
-      chained = map-append (λ (c : Bor (List (Vec ℕ Global))). octets_of c.now) chains (x ∷ [])
-          ∙ ap (λ (os : List (Vec ℕ Global)). octets_of_chains chains ++ octets_of os ∷ []) same
-          ∙ one-more (octets_of own ∷ []) (its-chain (is_locator said) (octets_of own) e);
+      chained = map-append (λ (c : Bor (List (List ℕ))). c.now) chains (x ∷ [])
+          ∙ ap (λ (os : List (List ℕ)). octets_of_chains chains ++ os ∷ []) same
+          ∙ one-more (own ∷ []) (its-chain (is_locator said) own e);
       is_cut = more;
     }
 
-  pub all-chained : (place : ℕ) (left : List (Vec ℕ Global))
-      (chains : List (Bor (List (Vec ℕ Global)))) → AreChainsTo words all place left chains
+  pub all-chained : (place : ℕ) (left : List (List ℕ))
+      (chains : List (Bor (List (List ℕ)))) → AreChainsTo words all place left chains
       → (place < length words → ⊥)
-      → octets_of_chains chains ≡ chains_in (given_in (texts words) (octets_of all))
+      → octets_of_chains chains ≡ chains_in (given_in (texts words) all)
   all-chained place left chains is l =
       is.chained ∙ ap chains_in (sym (all-cut words all place left is.done is.is_cut l))

@@ -1,7 +1,6 @@
 //! Anchors of attestations: trust anchor locators, and CAs that chains of certificates make.
 
 ghost use Rattle.std.specs.Prelude.{◌≡◌, ◌≤◌, IfOk, length, map, true};
-ghost use Rattle.rpki_certs.specs.Issuer.{octets_of};
 ghost use Rattle.rpki_rta.specs.Refused.{supply_in};
 ghost use Rattle.rpki_verdicts.specs.Attested.{octets_of_chains};
 ghost use Rattle.rpki_cli.specs.Words.{texts, files_of_anchors};
@@ -9,6 +8,7 @@ ghost use Rattle.rpki_command.specs.Anchors.{given_in, AreMade, IsLocated, IsCha
 ghost use Rattle.rpki_command.specs.Anchors.{locator_fault, chains_in};
 ghost use Rattle.rpki_command.specs.Rta.{supply_of};
 
+use bytes::Bytes;
 use rpki_basics::{Crypto, Time};
 use rpki_certs::{IssuerError, ResourceCert, issuer_at};
 use rpki_cli::anchor_words::{count_of, is_locator};
@@ -44,13 +44,13 @@ pub enum AnchorError {
 pub fn anchors_of<K: Crypto>(
     alloc: Global,
     words: &[&str],
-    files: &[Vec<u8>],
+    files: &[Bytes],
     crypto: &K,
     now: Time,
 ) -> Result<Vec<Anchor>, AnchorError>
     requires { length (files_of_anchors (texts words.now)) ≤ length files.now }
     ensures { AreMade (K.is_signed crypto.now) now
-        (given_in (texts words.now) (octets_of files.now)) result }
+        (given_in (texts words.now) files.now) result }
 {
     let mut anchors = Vec::new(alloc);
     let mut rest = files;
@@ -73,13 +73,13 @@ pub fn anchors_of<K: Crypto>(
 fn anchor_of<K: Crypto>(
     alloc: Global,
     locates: bool,
-    files: &[Vec<u8>],
+    files: &[Bytes],
     crypto: &K,
     now: Time,
 ) -> Result<Anchor, AnchorError>
     requires some { 1 ≤ length files.now }
     requires one { locates ≡ true → length files.now ≡ 1 }
-    ensures { MakesOf (K.is_signed crypto.now) now locates (octets_of files.now) result }
+    ensures { MakesOf (K.is_signed crypto.now) now locates files.now result }
 {
     match files {
         [first, others @ ..] => {
@@ -120,12 +120,12 @@ fn fault_of(error: ReadError) -> AnchorError
 /// The CA that these certificates make.
 fn chained<K: Crypto>(
     alloc: Global,
-    first: &[u8],
-    others: &[Vec<u8>],
+    first: &Bytes,
+    others: &[Bytes],
     crypto: &K,
     now: Time,
 ) -> Result<Anchor, AnchorError>
-    ensures { IsChained (K.is_signed crypto.now) now first.now (octets_of others.now) result }
+    ensures { IsChained (K.is_signed crypto.now) now first.now others.now result }
 {
     match issuer_at(alloc, first, others, crypto, now) {
         Ok(ca) => Ok(Anchor::Ca(ca)),
@@ -159,11 +159,11 @@ fn supply_of<'s>(anchor: &'s Anchor) -> Supply<'s>
 pub fn chains_of<'f>(
     alloc: Global,
     words: &[&str],
-    files: &'f [Vec<u8>],
-) -> Result<Vec<&'f [Vec<u8>]>, AllocError>
+    files: &'f [Bytes],
+) -> Result<Vec<&'f [Bytes]>, AllocError>
     requires { length (files_of_anchors (texts words.now)) ≤ length files.now }
     ensures { IfOk result (λ chains. octets_of_chains chains.items
-        ≡ chains_in (given_in (texts words.now) (octets_of files.now))) }
+        ≡ chains_in (given_in (texts words.now) files.now)) }
 {
     let mut chains = Vec::new(alloc);
     let mut rest = files;

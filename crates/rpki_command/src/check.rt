@@ -5,7 +5,6 @@ ghost use Rattle.std.specs.Fn.{FnOnceTakesAt, FnOnceReturnsAt};
 ghost use Rattle.rpki_faults.specs.Text.Validation.{validation_text};
 ghost use Rattle.rpki_faults.specs.declared.validation.ValidationError.{ValidationError};
 ghost use Rattle.rpki_certs.specs.Cert.{KeptCertificate};
-ghost use Rattle.rpki_certs.specs.Issuer.{octets_of};
 ghost use Rattle.rpki_signed.specs.Check.{Checks};
 ghost use Rattle.rpki_signed.specs.Exact.{IsExact};
 ghost use Rattle.rpki_cli.specs.Answer.{said};
@@ -52,7 +51,7 @@ impl Work for CheckByList {
 
     ghost says = { λ c. CheckOf c.options c.kind c.moment };
 
-    fn answer<'a>(self, alloc: Global, files: &[Vec<u8>]) -> Answer<'a> {
+    fn answer<'a>(self, alloc: Global, files: &[Bytes]) -> Answer<'a> {
         check_files(alloc, self.options, self.kind, self.moment, files)
     }
 }
@@ -64,10 +63,10 @@ fn check_files<'a>(
     options: Options,
     kind: Kind,
     now: Time,
-    files: &[Vec<u8>],
+    files: &[Bytes],
 ) -> Answer<'a>
     requires { 3 ≤ length files.now }
-    ensures { CheckOf options kind now (octets_of files.now) (said result) }
+    ensures { CheckOf options kind now files.now (said result) }
 {
     match files {
         [object, verdicts, anchor, chain @ ..] => match Verdicts::read(verdicts) {
@@ -90,14 +89,14 @@ pub fn check_with<'a, K: Crypto>(
     causes: Causes,
     options: Options,
     kind: Kind,
-    object: &[u8],
-    anchor: &[u8],
-    chain: &[Vec<u8>],
+    object: &Bytes,
+    anchor: &Bytes,
+    chain: &[Bytes],
     crypto: &K,
     now: Time,
 ) -> Answer<'a>
     ensures { IsCheckedWith causes options kind (K.digest_of crypto.now) (K.is_signed crypto.now)
-        now object.now anchor.now (octets_of chain.now) (said result) }
+        now object.now anchor.now chain.now (said result) }
 {
     match issuer_at(alloc, anchor, chain, crypto, now) {
         Err(error) => refused_issuer(alloc, error),
@@ -120,7 +119,7 @@ pub fn check_with<'a, K: Crypto>(
 #[derive(Drop)]
 struct CheckObject<'s, K: Crypto> {
     causes: Causes,
-    octets: &'s [u8],
+    octets: &'s Bytes,
     issuer: &'s ResourceCert,
     crypto: &'s K,
     moment: Time,
@@ -133,7 +132,7 @@ impl<'s, K: Crypto> Action for CheckObject<'s, K> {
         action.moment action.octets.now s };
 
     fn answer<'a, C: Lines>(self, alloc: Global, options: Options) -> Answer<'a> {
-        match Bytes::copy_from_slice(alloc, self.octets) {
+        match self.octets.clone() {
             Err(_) => Answer::OutOfMemory,
             Ok(source) => {
                 let checked = check_passed::<C, K, _>(

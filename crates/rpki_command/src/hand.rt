@@ -1,11 +1,11 @@
 //! Files at hand: those that the pairs after the trust anchor of a walk name.
 
 ghost use Rattle.std.specs.Prelude.{◌≡◌, ◌≤◌, length, map, IfOk};
-ghost use Rattle.rpki_certs.specs.Issuer.{octets_of};
 ghost use Rattle.rpki_signed.specs.Walk.{at_hand};
 ghost use Rattle.rpki_cli.specs.Words.{texts, chain_in};
 ghost use Rattle.rpki_command.specs.Walk.{certs_in, hand_in};
 
+use bytes::Bytes;
 use rpki_cli::pairs::{cut_at_with, name_of};
 use std::alloc::{AllocError, Global};
 use std::marker::Model;
@@ -14,26 +14,25 @@ use std::marker::Model;
 #[derive(Drop)]
 pub struct Hand<'s> {
     pairs: &'s [&'s str],
-    octets: &'s [Vec<u8>],
+    octets: &'s [Bytes],
 }
 
 impl<'s> Model for Hand<'s> {
     ghost use Rattle.std.specs.Prelude.{ℕ, List, map};
     ghost use Rattle.std.specs.List.{zip};
-    ghost use Rattle.rpki_certs.specs.Issuer.{octets_of};
     ghost use Rattle.rpki_cli.specs.Words.{name_in, texts};
 
     // Each name with its octets.
     ghost Value = { List (List ℕ × List ℕ) };
 
-    ghost view = { λ h. zip (map name_in (texts h.pairs.now)) (octets_of h.octets.now) };
+    ghost view = { λ h. zip (map name_in (texts h.pairs.now)) h.octets.now };
 }
 
 /// Of the files that the words after a trust anchor name, those of CAs, and the files at hand.
-pub fn cut_others<'s>(tail: &'s [&'s str], others: &'s [Vec<u8>]) -> (&'s [Vec<u8>], Hand<'s>)
+pub fn cut_others<'s>(tail: &'s [&'s str], others: &'s [Bytes]) -> (&'s [Bytes], Hand<'s>)
     requires { length (chain_in (texts tail.now)) ≤ length others.now }
-    ensures certs { octets_of result.0.now ≡ certs_in (texts tail.now) (octets_of others.now) }
-    ensures hand { result.1 ≡ hand_in (texts tail.now) (octets_of others.now) }
+    ensures certs { result.0.now ≡ certs_in (texts tail.now) others.now }
+    ensures hand { result.1 ≡ hand_in (texts tail.now) others.now }
 {
     let (chain, pairs) = cut_at_with(tail);
     let (certs, octets) = others.split_at(chain.len());

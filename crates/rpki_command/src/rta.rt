@@ -1,7 +1,6 @@
 //! What the programs answer of attestations under anchors.
 
 ghost use Rattle.std.specs.Prelude.{◌≤◌, ◌+◌, ◌++◌, length, map};
-ghost use Rattle.rpki_certs.specs.Issuer.{octets_of};
 ghost use Rattle.rpki_rta.specs.Refused.{supply_in};
 ghost use Rattle.rpki_cli.specs.Answer.{said};
 ghost use Rattle.rpki_cli.specs.Shown.{IsLinesOf};
@@ -41,16 +40,16 @@ impl Work for RtaByList<'_> {
 
     ghost says = { λ r. RtaOf r.moment (texts r.anchors.now) };
 
-    fn answer<'a>(self, alloc: Global, files: &[Vec<u8>]) -> Answer<'a> {
+    fn answer<'a>(self, alloc: Global, files: &[Bytes]) -> Answer<'a> {
         check_files(alloc, self.moment, self.anchors, files)
     }
 }
 
 /// Answers whether the first of these files begins with an attestation that is granted at this
 /// moment, by the verdicts of the second, under the anchors, whose files are the others.
-fn check_files<'a>(alloc: Global, now: Time, words: &[&str], files: &[Vec<u8>]) -> Answer<'a>
+fn check_files<'a>(alloc: Global, now: Time, words: &[&str], files: &[Bytes]) -> Answer<'a>
     requires { 2 + length (files_of_anchors (texts words.now)) ≤ length files.now }
-    ensures { RtaOf now (texts words.now) (octets_of files.now) (said result) }
+    ensures { RtaOf now (texts words.now) files.now (said result) }
 {
     match files {
         [object, verdicts, others @ ..] => match Verdicts::read(verdicts) {
@@ -69,15 +68,15 @@ fn check_files<'a>(alloc: Global, now: Time, words: &[&str], files: &[Vec<u8>]) 
 pub fn check_rta<'a, K: Crypto>(
     alloc: Global,
     causes: Causes,
-    object: &[u8],
+    object: &Bytes,
     words: &[&str],
-    files: &[Vec<u8>],
+    files: &[Bytes],
     crypto: &K,
     now: Time,
 ) -> Answer<'a>
     requires { length (files_of_anchors (texts words.now)) ≤ length files.now }
     ensures { IsAttestedWith causes K.digest_of K.is_signed crypto.now now
-        (texts words.now) object.now (octets_of files.now) (said result) }
+        (texts words.now) object.now files.now (said result) }
 {
     match anchors_of(alloc, words, files, crypto, now) {
         Err(error) => refused_anchor(alloc, error),
@@ -93,7 +92,7 @@ pub fn check_rta<'a, K: Crypto>(
 fn check_anchored<'a, K: Crypto>(
     alloc: Global,
     causes: Causes,
-    object: &[u8],
+    object: &Bytes,
     anchors: &[Anchor],
     crypto: &K,
     now: Time,
@@ -111,7 +110,7 @@ fn check_anchored<'a, K: Crypto>(
 fn check_supplied<'a, K: Crypto>(
     alloc: Global,
     causes: Causes,
-    object: &[u8],
+    object: &Bytes,
     supplies: &[Supply<'_>],
     crypto: &K,
     now: Time,
@@ -130,7 +129,7 @@ fn check_supplied<'a, K: Crypto>(
 pub fn granted<'a, K: Crypto>(
     alloc: Global,
     causes: Causes,
-    object: &[u8],
+    object: &Bytes,
     supplies: &[Supply<'_>],
     crypto: &K,
     now: Time,
@@ -138,7 +137,7 @@ pub fn granted<'a, K: Crypto>(
     ensures { Settles (λ text s. AttestedAs causes text K.digest_of K.is_signed crypto.now now
         (map supply_in supplies.now) object.now s) result }
 {
-    match Bytes::copy_from_slice(alloc, object) {
+    match object.clone() {
         Err(_) => Err(Answer::OutOfMemory),
         Ok(source) => {
             let checked = check::rta(alloc, source, true, crypto, now, supplies);

@@ -1,7 +1,6 @@
 //! What the programs answer of a manifest and of files at hand.
 
 ghost use Rattle.std.specs.Prelude.{◌≤◌, ◌+◌, ◌++◌, length};
-ghost use Rattle.rpki_certs.specs.Issuer.{octets_of};
 ghost use Rattle.rpki_cli.specs.Answer.{said};
 ghost use Rattle.rpki_cli.specs.Shown.{IsLinesOf};
 ghost use Rattle.rpki_cli.specs.Words.{texts, chain_in};
@@ -40,7 +39,7 @@ impl Work for WalkByList<'_> {
 
     ghost says = { λ w. WalkOf w.options w.moment (texts w.tail.now) };
 
-    fn answer<'a>(self, alloc: Global, files: &[Vec<u8>]) -> Answer<'a> {
+    fn answer<'a>(self, alloc: Global, files: &[Bytes]) -> Answer<'a> {
         walk_files(alloc, self.options, self.moment, self.tail, files)
     }
 }
@@ -53,10 +52,10 @@ fn walk_files<'a>(
     options: Options,
     now: Time,
     tail: &[&str],
-    files: &[Vec<u8>],
+    files: &[Bytes],
 ) -> Answer<'a>
     requires { 3 + length (chain_in (texts tail.now)) ≤ length files.now }
-    ensures { WalkOf options now (texts tail.now) (octets_of files.now) (said result) }
+    ensures { WalkOf options now (texts tail.now) files.now (said result) }
 {
     match files {
         [object, verdicts, anchor, others @ ..] => match Verdicts::read(verdicts) {
@@ -80,15 +79,15 @@ pub fn walk_with<'a, K: Crypto>(
     causes: Causes,
     options: Options,
     tail: &[&str],
-    object: &[u8],
-    anchor: &[u8],
-    others: &[Vec<u8>],
+    object: &Bytes,
+    anchor: &Bytes,
+    others: &[Bytes],
     crypto: &K,
     now: Time,
 ) -> Answer<'a>
     requires { length (chain_in (texts tail.now)) ≤ length others.now }
     ensures { IsWalkedWith causes options (K.digest_of crypto.now) (K.is_signed crypto.now) now
-        (texts tail.now) object.now anchor.now (octets_of others.now) (said result) }
+        (texts tail.now) object.now anchor.now others.now (said result) }
 {
     let (certs, hand) = cut_others(tail, others);
     match issuer_at(alloc, anchor, certs, crypto, now) {
@@ -108,7 +107,7 @@ fn walk_under<'a, K: Crypto>(
     causes: Causes,
     options: Options,
     hand: &Hand<'_>,
-    object: &[u8],
+    object: &Bytes,
     issuer: &ResourceCert,
     crypto: &K,
     now: Time,
@@ -116,7 +115,7 @@ fn walk_under<'a, K: Crypto>(
     ensures { WalkedUnder causes options (K.digest_of crypto.now) (K.is_signed crypto.now)
         issuer.now now hand.now object.now (said result) }
 {
-    match Bytes::copy_from_slice(alloc, object) {
+    match object.clone() {
         Err(_) => Answer::OutOfMemory,
         Ok(source) => {
             let checked = check_passed::<ManifestContent, K, _>(

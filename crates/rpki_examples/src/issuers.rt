@@ -3,7 +3,7 @@
 ghost use Rattle.std.specs.Prelude.{◌≡◌, Ok, Err, Some, MatchResult};
 ghost use Rattle.rpki_der.specs.declared.mode.Mode.TheVariants.{Der};
 ghost use Rattle.rpki_certs.specs.Validate.{Validated};
-ghost use Rattle.rpki_certs.specs.Issuer.{octets_of, MakesIssuer};
+ghost use Rattle.rpki_certs.specs.Issuer.{MakesIssuer};
 ghost use Rattle.rpki_routes.specs.Roa.Form.{RoaForm};
 ghost use Rattle.rpki_routes.specs.Roa.Checks.{roa_kind};
 ghost use Rattle.rpki_signed.specs.Exact.{IsExact};
@@ -47,17 +47,17 @@ impl Error for ChainError {}
 /// The identifier of the key of the issuer that a chain makes, as its certificate states it.
 pub fn key_of_issuer<C: Crypto>(
     alloc: Global,
-    anchor: &[u8],
-    chain: &[Vec<u8>],
+    anchor: &Bytes,
+    chain: &[Bytes],
     crypto: &C,
     now: Time,
 ) -> Result<KeyIdentifier, IssuerError>
     ensures { MatchResult result
         (λ identifier. (issuer : Validated)
-        × MakesIssuer (C.is_signed crypto.now) now anchor.now (octets_of chain.now) (Ok issuer)
+        × MakesIssuer (C.is_signed crypto.now) now anchor.now chain.now (Ok issuer)
         × (identifier ≡ issuer.cert.certificate.tbs.extensions.key.subject_key))
         (λ error.
-        MakesIssuer (C.is_signed crypto.now) now anchor.now (octets_of chain.now) (Err error)) }
+        MakesIssuer (C.is_signed crypto.now) now anchor.now chain.now (Err error)) }
 {
     let issuer = issuer_at(alloc, anchor, chain, crypto, now)?;
     let identifier = issuer.cert().subject_key_identifier();
@@ -70,14 +70,14 @@ pub fn key_of_issuer<C: Crypto>(
 pub fn roa_under_chain<C: Crypto>(
     alloc: Global,
     octets: Bytes,
-    anchor: &[u8],
-    chain: &[Vec<u8>],
+    anchor: &Bytes,
+    chain: &[Bytes],
     list: &Crl,
     crypto: &C,
     now: Time,
 ) -> Result<(ResourceCert, RouteOriginAttestation), ChainError>
     ensures { UnderIssuer
-        (MakesIssuer (C.is_signed crypto.now) now anchor.now (octets_of chain.now))
+        (MakesIssuer (C.is_signed crypto.now) now anchor.now chain.now)
         (λ issuer answer. IsExact roa_kind RoaForm Der (C.digest_of crypto.now)
         (C.is_signed crypto.now) issuer now (SaysOf list.now.list) octets answer) result }
 {

@@ -59,8 +59,8 @@ impl<'a> SliceEntry for NumberEntry<'a> {
         reader.is_empty()
     }
 
-    fn read(reader: &mut SliceReader<'a>) -> Option<u32> {
-        reader.take_u32()
+    fn read(reader: &mut SliceReader<'a>) -> u32 {
+        reader.known_u32()
     }
 
     fn again(reader: &SliceReader<'a>) -> SliceReader<'a> {

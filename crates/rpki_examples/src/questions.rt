@@ -2,11 +2,11 @@
 
 ghost use Rattle.std.specs.Prelude.{◌↔◌, Err, List, IsTrue, MatchResult};
 ghost use Rattle.rpki_der.specs.declared.mode.Mode.TheVariants.{Der};
-ghost use Rattle.rpki_certs.specs.Issuer.{octets_of};
 ghost use Rattle.rpki_verdicts.specs.Lists.{Lists};
 ghost use Rattle.rpki_verdicts.specs.Questions.{Question};
 ghost use Rattle.rpki_examples.specs.Questions.{AreAskedOf, IsListedGood};
 
+use bytes::Bytes;
 use rpki::crypto::{Crypto, PublicKey, RpkiSignature};
 use rpki::verdicts::laws::lists_are_verdicts;
 use rpki::verdicts::{ListingError, Verdicts, listing};
@@ -16,9 +16,9 @@ use std::alloc::Global;
 /// check of an object in DER asks about, under the certificate of a trust anchor and a chain.
 pub fn is_listed_good<C: Crypto>(
     alloc: Global,
-    object: &[u8],
-    anchor: &[u8],
-    chain: &[Vec<u8>],
+    object: &Bytes,
+    anchor: &Bytes,
+    chain: &[Bytes],
     crypto: &C,
     key: &PublicKey,
     message: &[u8],
@@ -26,10 +26,10 @@ pub fn is_listed_good<C: Crypto>(
 ) -> Result<bool, ListingError>
     ensures { MatchResult result
         (λ yes. (questions : List Question)
-        × AreAskedOf Der object.now anchor.now (octets_of chain.now) questions
+        × AreAskedOf Der object.now anchor.now chain.now questions
         × (IsTrue yes ↔ IsListedGood (C.is_signed crypto.now) questions
         key.now message.now signature.now))
-        (λ error. Lists Der (C.is_signed crypto.now) object.now anchor.now (octets_of chain.now)
+        (λ error. Lists Der (C.is_signed crypto.now) object.now anchor.now chain.now
         (Err error)) }
 {
     lists_are_verdicts();

@@ -1,5 +1,5 @@
 -- Files that are read one after the other.
-use Rattle.std.proofs.Common.{◌≡◌, ◌∙◌, ℕ, List, [], ◌∷◌, ◌++◌, Bor, Vec, Global, refl, sym, ap}
+use Rattle.std.proofs.Common.{◌≡◌, ◌∙◌, ℕ, List, [], ◌∷◌, ◌++◌, Bor, refl, sym, ap}
 use Rattle.std.proofs.Common.{inl, inr, append_assoc, subst, All, Err}
 use Rattle.std.proofs.lemmas.List.{append-nil}
 use Rattle.std.proofs.lemmas.List.Elements.{All-nil, All-cons}
@@ -7,7 +7,6 @@ use Rattle.std.proofs.lemmas.Slice.Zip.{all_zipped_more}
 use Rattle.std.specs.List.{AllZip, zip}
 use Rattle.std.specs.Prelude.{◌⊎◌}
 use Rattle.rpki_tal.specs.Tal.{Locator}
-use Rattle.rpki_certs.specs.Issuer.{octets_of}
 use Rattle.rpki_cli.specs.Words.{texts}
 use Rattle.rpki_folder.specs.Locators.{File, IsLocator, IsNamedLocator, IsNoLocator, AreLocators}
 use Rattle.rpki_folder.specs.declared.locators.NamedLocator.{NamedLocator}
@@ -16,19 +15,19 @@ use Rattle.rpki_folder.specs.declared.locators.LocatorFault.TheVariants.{Bad, Me
 
 -- Of the files, all but those that are left are locators.
 pub record AreLocatorsTo (all : List File) (locators : List NamedLocator)
-    (words : List (Bor (List ℕ))) (files : List (Vec ℕ Global)) : Type 0 where
+    (words : List (Bor (List ℕ))) (files : List (List ℕ)) : Type 0 where
   pub done : List File
   pub each : AllZip IsNamedLocator done locators
-  pub cut : all ≡ done ++ zip (texts words) (octets_of files)
+  pub cut : all ≡ done ++ zip (texts words) files
 
-pub none-located : (words left : List (Bor (List ℕ))) (files rest : List (Vec ℕ Global))
+pub none-located : (words left : List (Bor (List ℕ))) (files rest : List (List ℕ))
     (locators : List NamedLocator) → locators ≡ [] → left ≡ words → rest ≡ files
-    → AreLocatorsTo (zip (texts words) (octets_of files)) locators left rest
+    → AreLocatorsTo (zip (texts words) files) locators left rest
 none-located words left files rest locators e w f = record {
   done = [];
   each = subst (λ (l : List NamedLocator). AllZip IsNamedLocator [] l) (sym e) tt;
-  cut = ap (λ (l : List (Bor (List ℕ))). zip (texts l) (octets_of files)) (sym w)
-      ∙ ap (λ (l : List (Vec ℕ Global)). zip (texts left) (octets_of l)) (sym f);
+  cut = ap (λ (l : List (Bor (List ℕ))). zip (texts l) files) (sym w)
+      ∙ ap (λ (l : List (List ℕ)). zip (texts left) l) (sym f);
 }
 
 abbrev locates : File → Type 0
@@ -51,30 +50,30 @@ no-files (w ∷ words) [] h = refl
 no-files (w ∷ words) (o ∷ octets) h = elim h [ inl e ↦ absurd cc | inr e ↦ absurd cc ]
 
 module _ (all : List File) (locators : List NamedLocator) (words ws : List (Bor (List ℕ)))
-    (files fs : List (Vec ℕ Global)) (word : Bor (List ℕ)) (v : Vec ℕ Global)
+    (files fs : List (List ℕ)) (word : Bor (List ℕ)) (v : List ℕ)
     (is : AreLocatorsTo all locators words files) (first : words ≡ word ∷ ws)
     (second : files ≡ v ∷ fs) where
-  next : all ≡ is.done ++ (word.now, v.items) ∷ zip (texts ws) (octets_of fs)
+  next : all ≡ is.done ++ (word.now, v) ∷ zip (texts ws) fs
   next = is.cut
-      ∙ ap (λ (l : List (Bor (List ℕ))). is.done ++ zip (texts l) (octets_of files)) first
-      ∙ ap (λ (l : List (Vec ℕ Global)). is.done ++ zip (texts (word ∷ ws)) (octets_of l)) second
+      ∙ ap (λ (l : List (Bor (List ℕ))). is.done ++ zip (texts l) files) first
+      ∙ ap (λ (l : List (List ℕ)). is.done ++ zip (texts (word ∷ ws)) l) second
 
-  pub one-more : (one : NamedLocator) → IsNamedLocator (word.now, v.items) one
+  pub one-more : (one : NamedLocator) → IsNamedLocator (word.now, v) one
       → AreLocatorsTo all (locators ++ one ∷ []) ws fs
   one-more one h = record {
-    done = is.done ++ (word.now, v.items) ∷ [];
-    each = all_zipped_more IsNamedLocator is.done locators (word.now, v.items) one is.each h;
+    done = is.done ++ (word.now, v) ∷ [];
+    each = all_zipped_more IsNamedLocator is.done locators (word.now, v) one is.each h;
     cut = next
-        ∙ sym (append_assoc is.done ((word.now, v.items) ∷ []) (zip (texts ws) (octets_of fs)));
+        ∙ sym (append_assoc is.done ((word.now, v) ∷ []) (zip (texts ws) fs));
   }
 
-  pub one-bad : (fault : LocatorFault) → IsNoLocator (word.now, v.items) fault
+  pub one-bad : (fault : LocatorFault) → IsNoLocator (word.now, v) fault
       → AreLocators all (Err fault)
   one-bad (Bad same) h = record {
     before = is.done;
-    octets = v.items;
-    after = zip (texts ws) (octets_of fs);
-    cut = subst (λ (w : List ℕ). all ≡ is.done ++ (w, v.items) ∷ zip (texts ws) (octets_of fs))
+    octets = v;
+    after = zip (texts ws) fs;
+    cut = subst (λ (w : List ℕ). all ≡ is.done ++ (w, v) ∷ zip (texts ws) fs)
         (sym h.0) next;
     locators = are-locators is.done locators is.each;
     bad = h.1;
@@ -82,13 +81,13 @@ module _ (all : List File) (locators : List NamedLocator) (words ws : List (Bor 
   one-bad Memory h = tt
 
 pub all-located : (all : List File) (locators : List NamedLocator) (words : List (Bor (List ℕ)))
-    (files : List (Vec ℕ Global)) → AreLocatorsTo all locators words files
+    (files : List (List ℕ)) → AreLocatorsTo all locators words files
     → (words ≡ []) ⊎ (files ≡ []) → AllZip IsNamedLocator all locators
 all-located all locators words files is none =
-    let left : ◌≡◌ {A = List File} (zip (texts words) (octets_of files)) [] =
-    no-files (texts words) (octets_of files) (elim none [
+    let left : ◌≡◌ {A = List File} (zip (texts words) files) [] =
+    no-files (texts words) files (elim none [
       | inl e ↦ inl (ap texts e)
-      | inr e ↦ inr (ap octets_of e)
+      | inr e ↦ inr e
     ]) in
     subst (λ (fs : List File). AllZip IsNamedLocator fs locators)
     (sym (is.cut ∙ ap (λ (l : List File). is.done ++ l) left ∙ append-nil is.done)) is.each

@@ -2,11 +2,11 @@
 
 ghost use Rattle.std.specs.Prelude.{MatchResult};
 ghost use Rattle.std.specs.List.{zip};
-ghost use Rattle.rpki_certs.specs.Issuer.{octets_of};
 ghost use Rattle.rpki_cli.specs.Words.{texts};
 ghost use Rattle.rpki_folder.specs.Locators.{AreLocators, IsNamedLocator, IsNoLocator, IsFaultOf};
 
 use crate::names::locator_name;
+use bytes::Bytes;
 use rpki_show::locator_of;
 use rpki_tal::{ReadError, Tal};
 use std::alloc::Global;
@@ -63,9 +63,9 @@ fn fault_of<'a>(error: ReadError, word: &'a str) -> LocatorFault<'a>
 pub(crate) fn locators_in<'a>(
     alloc: Global,
     words: &[&'a str],
-    files: &[Vec<u8>],
+    files: &[Bytes],
 ) -> Result<Vec<NamedLocator<'a>>, LocatorFault<'a>>
-    ensures { AreLocators (zip (texts words.now) (octets_of files.now)) result }
+    ensures { AreLocators (zip (texts words.now) files.now) result }
 {
     let mut locators = Vec::new(alloc);
     for (word, octets) in words.iter().zip(files.iter()) {

@@ -12,6 +12,7 @@ use crate::folders::Folders;
 use crate::locators::{LocatorFault, NamedLocator, locators_in};
 use crate::outcome::AnchorOutcome;
 use crate::report::report_outcomes;
+use bytes::Bytes;
 use rpki_basics::Crypto;
 use rpki_cli::answer::Answer;
 use rpki_cli::verify::{PayloadsRequest, RelyingParty};
@@ -54,7 +55,7 @@ impl<F: Folders, C: Crypto> RelyingParty for FolderParty<'_, F, C> {
         &self,
         alloc: Global,
         request: &PayloadsRequest<'a>,
-        files: &[Vec<u8>],
+        files: &[Bytes],
     ) -> Answer<'a> {
         match locators_in(alloc, request.locators.0, files) {
             Err(LocatorFault::Bad(word)) => Answer::BadLocator(word),

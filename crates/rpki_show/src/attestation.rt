@@ -16,20 +16,10 @@ use std::alloc::Global;
 
 /// Answers with the lines of the content of an attestation at the front of the octets, if there is
 /// one.
-pub fn show_attestation<'a>(alloc: Global, causes: Causes, octets: Vec<u8>) -> Answer<'a>
-    ensures { IsShown causes AttestationLines octets.items (said result) }
+pub fn show_attestation<'a>(alloc: Global, causes: Causes, octets: Bytes) -> Answer<'a>
+    ensures { IsShown causes AttestationLines octets (said result) }
 {
-    match Bytes::from_vec(octets) {
-        Ok(source) => show_content(alloc, causes, source),
-        Err(_) => Answer::OutOfMemory,
-    }
-}
-
-/// Answers with the lines of the content at the front of the source, if there is one.
-fn show_content<'a>(alloc: Global, causes: Causes, source: Bytes) -> Answer<'a>
-    ensures { IsShown causes AttestationLines source (said result) }
-{
-    match ResourceTaggedAttestation::decode(alloc, source) {
+    match ResourceTaggedAttestation::decode(alloc, octets) {
         Err(error) => refusal(alloc, causes, error),
         Ok(content) => {
             let answer = show_content_lines(alloc, &content);
@@ -51,20 +41,10 @@ fn show_content_lines<'a>(alloc: Global, content: &ResourceTaggedAttestation) ->
 }
 
 /// Answers with the lines of the attestation at the front of the octets, if there is one.
-pub fn show_rta<'a>(alloc: Global, causes: Causes, octets: Vec<u8>) -> Answer<'a>
-    ensures { IsShown causes RtaLines octets.items (said result) }
+pub fn show_rta<'a>(alloc: Global, causes: Causes, octets: Bytes) -> Answer<'a>
+    ensures { IsShown causes RtaLines octets (said result) }
 {
-    match Bytes::from_vec(octets) {
-        Ok(source) => show_object(alloc, causes, source),
-        Err(_) => Answer::OutOfMemory,
-    }
-}
-
-/// Answers with the lines of the attestation at the front of the source, if there is one.
-fn show_object<'a>(alloc: Global, causes: Causes, source: Bytes) -> Answer<'a>
-    ensures { IsShown causes RtaLines source (said result) }
-{
-    match Rta::decode(alloc, source) {
+    match Rta::decode(alloc, octets) {
         Err(error) => refusal(alloc, causes, error),
         Ok(rta) => {
             let answer = show_object_lines(alloc, &rta);

@@ -17,9 +17,9 @@ pub fn show_kind<'a>(
     causes: Causes,
     options: Options,
     kind: Kind,
-    octets: Vec<u8>,
+    octets: Bytes,
 ) -> Answer<'a>
-    ensures { IsShown causes (LinesOf options kind) octets.items (said result) }
+    ensures { IsShown causes (LinesOf options kind) octets (said result) }
 {
     answer_for(alloc, options, kind, ShowContent { causes, octets })
 }
@@ -28,18 +28,15 @@ pub fn show_kind<'a>(
 #[derive(Drop)]
 struct ShowContent {
     causes: Causes,
-    octets: Vec<u8>,
+    octets: Bytes,
 }
 
 impl Action for ShowContent {
     ghost says = { λ options X asked form text action s.
-        IsShown action.causes (HasLines form text) action.octets.items s };
+        IsShown action.causes (HasLines form text) action.octets s };
 
     fn answer<'a, C: Lines>(self, alloc: Global, options: Options) -> Answer<'a> {
-        match Bytes::from_vec(self.octets) {
-            Ok(source) => show::<C>(alloc, self.causes, options, source),
-            Err(_) => Answer::OutOfMemory,
-        }
+        show::<C>(alloc, self.causes, options, self.octets)
     }
 }
 

@@ -16,20 +16,10 @@ use rpki_cli::{Causes, refusal};
 use std::alloc::Global;
 
 /// Answers with the lines of the certificate at the front of the octets, if there is one.
-pub fn show_certificate<'a>(alloc: Global, causes: Causes, octets: Vec<u8>) -> Answer<'a>
-    ensures { IsShown causes CertificateLines octets.items (said result) }
+pub fn show_certificate<'a>(alloc: Global, causes: Causes, octets: Bytes) -> Answer<'a>
+    ensures { IsShown causes CertificateLines octets (said result) }
 {
-    match Bytes::from_vec(octets) {
-        Ok(source) => show_cert(alloc, causes, source),
-        Err(_) => Answer::OutOfMemory,
-    }
-}
-
-/// Answers with the lines of the certificate at the front of the source, if there is one.
-fn show_cert<'a>(alloc: Global, causes: Causes, source: Bytes) -> Answer<'a>
-    ensures { IsShown causes CertificateLines source (said result) }
-{
-    match Cert::decode(alloc, source) {
+    match Cert::decode(alloc, octets) {
         Err(error) => refusal(alloc, causes, error),
         Ok(cert) => {
             let answer = show_cert_lines(alloc, &cert);
@@ -51,20 +41,10 @@ fn show_cert_lines<'a>(alloc: Global, cert: &Cert) -> Answer<'a>
 }
 
 /// Answers with the lines of the revocation list at the front of the octets, if there is one.
-pub fn show_crl<'a>(alloc: Global, causes: Causes, octets: Vec<u8>) -> Answer<'a>
-    ensures { IsShown causes CrlLines octets.items (said result) }
+pub fn show_crl<'a>(alloc: Global, causes: Causes, octets: Bytes) -> Answer<'a>
+    ensures { IsShown causes CrlLines octets (said result) }
 {
-    match Bytes::from_vec(octets) {
-        Ok(source) => show_list(alloc, causes, source),
-        Err(_) => Answer::OutOfMemory,
-    }
-}
-
-/// Answers with the lines of the revocation list at the front of the source, if there is one.
-fn show_list<'a>(alloc: Global, causes: Causes, source: Bytes) -> Answer<'a>
-    ensures { IsShown causes CrlLines source (said result) }
-{
-    match DatedCrl::decode(alloc, source) {
+    match DatedCrl::decode(alloc, octets) {
         Err(error) => refusal(alloc, causes, error),
         Ok(list) => {
             let answer = show_list_lines(alloc, &list);

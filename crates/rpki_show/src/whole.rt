@@ -24,9 +24,9 @@ pub fn show_whole_object<'a>(
     causes: Causes,
     options: Options,
     kind: Kind,
-    octets: Vec<u8>,
+    octets: Bytes,
 ) -> Answer<'a>
-    ensures { IsShown causes (WholeObjectLinesOf options kind) octets.items (said result) }
+    ensures { IsShown causes (WholeObjectLinesOf options kind) octets (said result) }
 {
     answer_for(alloc, options, kind, ShowWholeObject { causes, octets })
 }
@@ -35,20 +35,17 @@ pub fn show_whole_object<'a>(
 #[derive(Drop)]
 struct ShowWholeObject {
     causes: Causes,
-    octets: Vec<u8>,
+    octets: Bytes,
 }
 
 impl Action for ShowWholeObject {
     ghost says = { λ options X asked form text action s.
         IsShown action.causes
         (HasLines (ObjectForm asked.type form (read_mode options)) (whole_text text))
-        action.octets.items s };
+        action.octets s };
 
     fn answer<'a, C: Lines>(self, alloc: Global, options: Options) -> Answer<'a> {
-        match Bytes::from_vec(self.octets) {
-            Ok(source) => show::<C>(alloc, self.causes, options, source),
-            Err(_) => Answer::OutOfMemory,
-        }
+        show::<C>(alloc, self.causes, options, self.octets)
     }
 }
 

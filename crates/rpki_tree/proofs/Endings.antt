@@ -8,7 +8,7 @@ use Rattle.rpki_files.specs.File.{File, name_of}
 use Rattle.rpki_files.specs.Name.{IsFileName, is_type}
 use Rattle.rpki_files.specs.Uris.{uri_of}
 use Rattle.rpki_tree.specs.Kind.{kind_of, letters_of}
-use Rattle.rpki_tree.specs.declared.kind.FileKind.TheVariants.{Roa, Aspa, Ca, Other}
+use Rattle.rpki_tree.specs.declared.kind.ListedKind.TheVariants.{Roa, Aspa, Ca, Other}
 
 -- what stands before a name does not change its last letters
 letters-after : (before name : List ℕ) → 3 ≤ length name

@@ -16,8 +16,8 @@ use Rattle.std.specs.Ordering.{is_eq, match_ordering, nat_cmp}
 use Rattle.rpki_tree.specs.Snapshot.{kept_in, IsPut, PutsRead}
 
 -- what was read, and its URI
-abbrev Entry : Type 0
-Entry = Vec ℕ Global × Option (List ℕ)
+abbrev ReadAt : Type 0
+ReadAt = Vec ℕ Global × Option (List ℕ)
 
 -- whether a key is this URI
 abbrev has : List ℕ → Vec ℕ Global → Bool
@@ -34,7 +34,7 @@ itself uri = ap is_eq (tied_itself nat_list_cmp_total uri)
 
 module _ (key : Vec ℕ Global) (found : Option (List ℕ)) where
   -- what was read is found under its URI
-  found-here : (es : List Entry)
+  found-here : (es : List ReadAt)
       → lookup (has key.items) (insert_entry order es key found) ≡ Some found
   found-here [] = ap (λ b. cond b (Some found) None) (itself key.items)
   found-here (e ∷ es) = by (order key e.0) refl (found-here es)
@@ -60,7 +60,7 @@ module _ (key : Vec ℕ Global) (found : Option (List ℕ)) where
     no = apart (has other key) refl
 
     -- under another one is what was there
-    found-else : (es : List Entry)
+    found-else : (es : List ReadAt)
         → lookup (has other) (insert_entry order es key found) ≡ lookup (has other) es
     found-else [] = ap (λ b. cond b (Some found) None) no
     found-else (e ∷ es) = by (order key e.0) refl (found-else es)
@@ -86,9 +86,9 @@ pub is-put : (key : Vec ℕ Global) (uri : List ℕ) (found : Option (List ℕ))
     → IsPut uri found (kept_in old) (kept_in new)
 is-put key uri found old new e f = (
   subst (λ (u : List ℕ). kept_in new u ≡ Some found) e
-      (ap (λ (es : List Entry). lookup (has key.items) es) f ∙ found-here key found old.entries),
+      (ap (λ (es : List ReadAt). lookup (has key.items) es) f ∙ found-here key found old.entries),
   λ other differs.
-      ap (λ (es : List Entry). lookup (has other) es) f
+      ap (λ (es : List ReadAt). lookup (has other) es) f
       ∙ found-else key found other (λ s. differs (s ∙ e)) old.entries,
 )
 

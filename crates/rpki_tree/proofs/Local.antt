@@ -20,8 +20,8 @@ use Rattle.rpki_tree.specs.Snapshot.{AgreesOn, Needs}
 use Rattle.rpki_tree.specs.Told.{CaTellsAll, FileTells, FilesTell, KindTells, NoneTells}
 use Rattle.rpki_tree.specs.Tree.{IsRefusedAt}
 use Rattle.rpki_tree.specs.declared.found.Finding.{Finding}
-use Rattle.rpki_tree.specs.declared.kind.FileKind.{FileKind}
-use Rattle.rpki_tree.specs.declared.kind.FileKind.TheVariants as kinds
+use Rattle.rpki_tree.specs.declared.kind.ListedKind.{ListedKind}
+use Rattle.rpki_tree.specs.declared.kind.ListedKind.TheVariants as kinds
 use Rattle.rpki_tree.specs.declared.refusal.Fault.{Fault}
 use Rattle.rpki_tree.specs.declared.refusal.Fault.TheVariants as faults
 
@@ -57,7 +57,7 @@ module _ (now : Moment) (digest : Digester) (verdict : Verdict) (providers : Pro
 
   module _ (a b : List ℕ → Option (List ℕ)) where
     -- what a file tells depends on its octets
-    kind-tells : (list : RevocationList) (uri octets : List ℕ) (kind : FileKind)
+    kind-tells : (list : RevocationList) (uri octets : List ℕ) (kind : ListedKind)
         (said : List Finding) (children : List Validated)
         → KindTells (over a) ca list uri octets kind said children
         → KindTells (over b) ca list uri octets kind said children

@@ -22,8 +22,8 @@ use Rattle.rpki_tree.specs.Told.{SaysOrRefuses, EntityTells, KindTells}
 use Rattle.rpki_tree.specs.Told.{origin_found, roa_found, aspa_found, refusal}
 use Rattle.rpki_tree.specs.declared.found.Finding.{Finding}
 use Rattle.rpki_tree.specs.declared.found.Finding.TheVariants as findings
-use Rattle.rpki_tree.specs.declared.kind.FileKind.{FileKind}
-use Rattle.rpki_tree.specs.declared.kind.FileKind.TheVariants as kinds
+use Rattle.rpki_tree.specs.declared.kind.ListedKind.{ListedKind}
+use Rattle.rpki_tree.specs.declared.kind.ListedKind.TheVariants as kinds
 use Rattle.rpki_tree.specs.declared.payload.Payload.TheVariants as payloads
 use Rattle.rpki_tree.specs.declared.payload.Providers.{Providers}
 use Rattle.rpki_tree.specs.declared.refusal.Fault.{Fault}
@@ -223,7 +223,7 @@ module _ (s : Setting) (ca : Validated) (list : RevocationList) (file : UriAndHa
 
   -- ---- both ways, by kind
 
-  pub kind-said : (kind : FileKind) → kind_of (file.0) ≡ kind → (said : List Finding)
+  pub kind-said : (kind : ListedKind) → kind_of (file.0) ≡ kind → (said : List Finding)
       (children : List Validated) → KindTells s ca list (file.0) octets kind said children
       → (z : Finding) → Contains said z ↔ FileSays s ca list file octets z
   kind-said kinds.Roa k said children h z =
@@ -242,7 +242,7 @@ module _ (s : Setting) (ca : Validated) (list : RevocationList) (file : UriAndHa
   kind-said kinds.Other k said children h z =
       (λ w. absurd (none-of said z (h.0) w), λ w. absurd (other-says k z w))
 
-  pub kind-held : (kind : FileKind) → kind_of (file.0) ≡ kind → (said : List Finding)
+  pub kind-held : (kind : ListedKind) → kind_of (file.0) ≡ kind → (said : List Finding)
       (children : List Validated) → KindTells s ca list (file.0) octets kind said children
       → (d : Validated) → Contains children d ↔ FileHolds s ca list file octets d
   kind-held kinds.Roa k said children h d = (

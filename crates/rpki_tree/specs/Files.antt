@@ -21,7 +21,7 @@ use Rattle.rpki_tree.specs.declared.found.Finding.{Finding}
 use Rattle.rpki_tree.specs.declared.found.Finding.TheVariants as findings
 use Rattle.rpki_tree.specs.declared.refusal.Fault.{Fault}
 use Rattle.rpki_tree.specs.declared.refusal.Fault.TheVariants as faults
-use Rattle.rpki_tree.specs.declared.kind.FileKind.TheVariants as kinds
+use Rattle.rpki_tree.specs.declared.kind.ListedKind.TheVariants as kinds
 use Rattle.rpki_tree.specs.declared.payload.Payload.{Payload}
 use Rattle.rpki_tree.specs.declared.payload.Payload.TheVariants as payloads
 use Rattle.rpki_tree.specs.declared.payload.Providers.{Providers}

@@ -1,8 +1,8 @@
 -- Kinds of files in a publication point.
 use Rattle.std.specs.Prelude.{ℕ, ◌-◌, List, length, drop, codes, if◌then◌else◌}
 use Rattle.rpki_files.specs.Name.{is_type}
-use Rattle.rpki_tree.specs.declared.kind.FileKind.{FileKind}
-use Rattle.rpki_tree.specs.declared.kind.FileKind.TheVariants.{Roa, Aspa, Ca, Other}
+use Rattle.rpki_tree.specs.declared.kind.ListedKind.{ListedKind}
+use Rattle.rpki_tree.specs.declared.kind.ListedKind.TheVariants.{Roa, Aspa, Ca, Other}
 
 -- the last three letters
 abbrev pub letters_of : List ℕ → List ℕ
@@ -10,7 +10,7 @@ letters_of name = drop (length name - 3) name
 
 -- The kind of a file, by the last three letters of its name, in any case (RFC 9286, section 4.2.2).
 -- The URI of a file ends with its name.
-abbrev pub kind_of : List ℕ → FileKind
+abbrev pub kind_of : List ℕ → ListedKind
 kind_of name =
     if is_type (letters_of name) (codes "roa") then Roa else
     (if is_type (letters_of name) (codes "asa") then Aspa else

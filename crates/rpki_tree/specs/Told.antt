@@ -18,8 +18,8 @@ use Rattle.rpki_tree.specs.declared.found.Finding.{Finding}
 use Rattle.rpki_tree.specs.declared.found.Finding.TheVariants as findings
 use Rattle.rpki_tree.specs.declared.refusal.Fault.{Fault}
 use Rattle.rpki_tree.specs.declared.refusal.Fault.TheVariants as faults
-use Rattle.rpki_tree.specs.declared.kind.FileKind.{FileKind}
-use Rattle.rpki_tree.specs.declared.kind.FileKind.TheVariants as kinds
+use Rattle.rpki_tree.specs.declared.kind.ListedKind.{ListedKind}
+use Rattle.rpki_tree.specs.declared.kind.ListedKind.TheVariants as kinds
 use Rattle.rpki_tree.specs.declared.payload.Payload.TheVariants as payloads
 
 -- what is said by an origin
@@ -60,7 +60,7 @@ CaTells s ca list uri octets said children =
     × (children ≡ []))
 
 -- What is told by a file of this kind: what is said, and the CAs that are held.
-abbrev pub KindTells : Setting → Validated → RevocationList → List ℕ → List ℕ → FileKind
+abbrev pub KindTells : Setting → Validated → RevocationList → List ℕ → List ℕ → ListedKind
     → List Finding → List Validated → Type 0
 KindTells s ca list uri octets kinds.Roa said children =
     SaysOrRefuses (HasRoa s ca list octets) roa_found uri faults.NoRoa said × (children ≡ [])

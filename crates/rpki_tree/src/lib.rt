@@ -28,7 +28,7 @@ pub use anchor::{AnchorFault, anchor_of};
 pub use copy::{LocalCopy, Repository};
 pub use found::Finding;
 pub use gather::{snapshot_at, snapshot_of};
-pub use kind::FileKind;
+pub use kind::ListedKind;
 pub use list::{NoList, list_at};
 pub use locator::{PassFault, findings};
 pub use manifest::{ManifestFault, manifest_at};

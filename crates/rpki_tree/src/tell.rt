@@ -14,7 +14,7 @@ ghost use Rattle.rpki_tree.specs.declared.refusal.Fault.{Fault};
 
 use crate::copy::LocalCopy;
 use crate::found::{Finding, put_aspa, put_refusal, put_roa};
-use crate::kind::{FileKind, kind_of};
+use crate::kind::{ListedKind, kind_of};
 use crate::manifest::octets_at;
 use crate::pass::Pass;
 use crate::refusal::Cause;
@@ -207,10 +207,10 @@ fn tell_read<S: LocalCopy, C: Crypto>(
         children.new.items) }
 {
     match kind_of(file.uri.as_slice()) {
-        FileKind::Roa => tell_roa(alloc, pass, ca, list, file, said),
-        FileKind::Aspa => tell_aspa(alloc, pass, ca, list, file, said),
-        FileKind::Ca => tell_ca(alloc, pass, ca, list, file, said, children),
-        FileKind::Other => {
+        ListedKind::Roa => tell_roa(alloc, pass, ca, list, file, said),
+        ListedKind::Aspa => tell_aspa(alloc, pass, ca, list, file, said),
+        ListedKind::Ca => tell_ca(alloc, pass, ca, list, file, said, children),
+        ListedKind::Other => {
             drop(file);
             Ok(())
         }

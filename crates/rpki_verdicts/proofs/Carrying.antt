@@ -9,7 +9,6 @@ use Rattle.rpki_der.specs.declared.error.DecodeError.{DecodeError}
 use Rattle.rpki_der.specs.declared.error.DecodeError.TheVariants.{Malformed, Content, Memory}
 use Rattle.rpki_der.specs.Read.Reads.{Refuses}
 use Rattle.rpki_certs.specs.Cert.{Certificate, KeptCertificate}
-use Rattle.rpki_certs.specs.Issuer.{octets_of}
 use Rattle.rpki_certs.specs.Verify.{Verdict}
 use Rattle.rpki_verdicts.specs.Attested.{AreChains, AreNotAllChains, IsRtaListingOf, PushesChains}
 use Rattle.rpki_verdicts.specs.Attested.{PushesRta, PushesSupplied, certificates, object_questions}
@@ -63,14 +62,14 @@ are-more (f ∷ files) (c ∷ certs) file cert are one =
     (are.0, are-more files certs file cert are.1 one)
 
 -- The text has the lines of the chains up to a place, after what it had, and these are supplied.
-pub record ArePushedTo (verdict : Verdict) (chains : List (Bor (List (Vec ℕ Global)))) (place : ℕ)
+pub record ArePushedTo (verdict : Verdict) (chains : List (Bor (List (List ℕ)))) (place : ℕ)
     (old text : List ℕ) (supplied : List KeptCertificate) : Type 0 where
   pub certs : List (List Certificate)
   pub are : AreChains (octets_of_chains (take place chains)) certs
   pub has : certificates supplied ≡ flat_map supplied_by certs
   pub grown : text ≡ old ++ listing verdict (flat_map supplied_questions certs)
 
-pub none-pushed : (verdict : Verdict) (chains : List (Bor (List (Vec ℕ Global)))) (old : List ℕ)
+pub none-pushed : (verdict : Verdict) (chains : List (Bor (List (List ℕ)))) (old : List ℕ)
     → ArePushedTo verdict chains 0 old old []
 none-pushed verdict chains old = record {
   certs = [];
@@ -79,23 +78,23 @@ none-pushed verdict chains old = record {
   grown = sym (append-nil old);
 }
 
-module _ (verdict : Verdict) (chains : List (Bor (List (Vec ℕ Global)))) (place : ℕ)
+module _ (verdict : Verdict) (chains : List (Bor (List (List ℕ)))) (place : ℕ)
     (old text : List ℕ) (supplied : List KeptCertificate)
-    (is : ArePushedTo verdict chains place old text supplied) (chain : Bor (List (Vec ℕ Global)))
+    (is : ArePushedTo verdict chains place old text supplied) (chain : Bor (List (List ℕ)))
     (there : place < length chains) (at : chain ≡ get_or chains place chain) where
   pub chain-pushed : (new : List ℕ) (has : List KeptCertificate)
-      → PushesSupplied verdict (octets_of chain.now) text supplied (Ok tt) new has
+      → PushesSupplied verdict chain.now text supplied (Ok tt) new has
       → ArePushedTo verdict chains (place + 1) old new has
   chain-pushed new has h = record {
     certs = is.certs ++ h.0 ∷ [];
-    are = subst (λ (cs : List (Bor (List (Vec ℕ Global)))). AreChains (octets_of_chains cs)
+    are = subst (λ (cs : List (Bor (List (List ℕ)))). AreChains (octets_of_chains cs)
         (is.certs ++ h.0 ∷ []))
-        (ap (λ (z : Bor (List (Vec ℕ Global))). take place chains ++ z ∷ []) at
+        (ap (λ (z : Bor (List (List ℕ))). take place chains ++ z ∷ []) at
         ∙ sym (take_more chains place chain there))
         (subst (λ (fs : List (List (List ℕ))). AreChains fs (is.certs ++ h.0 ∷ []))
-        (sym (map-append (λ (c : Bor (List (Vec ℕ Global))). octets_of c.now) (take place chains)
+        (sym (map-append (λ (c : Bor (List (List ℕ))). c.now) (take place chains)
         (chain ∷ [])))
-        (are-more (octets_of_chains (take place chains)) is.certs (octets_of chain.now) h.0 is.are
+        (are-more (octets_of_chains (take place chains)) is.certs chain.now h.0 is.are
         h.1));
     has = h.2
         ∙ ap (λ (cs : List Certificate). cs ++ supplied_by h.0) is.has
@@ -110,29 +109,29 @@ module _ (verdict : Verdict) (chains : List (Bor (List (Vec ℕ Global)))) (plac
         (sym (lines-more verdict supplied_questions is.certs h.0));
   }
 
-  not-all : (all : List (Bor (List (Vec ℕ Global)))) (n : ℕ) → n < length all
-      → chain ≡ get_or all n chain → AreNotAllCerts (octets_of chain.now)
+  not-all : (all : List (Bor (List (List ℕ)))) (n : ℕ) → n < length all
+      → chain ≡ get_or all n chain → AreNotAllCerts chain.now
       → AreNotAllChains (octets_of_chains all)
   not-all [] n l e none certs are = absurd (omega (arith, l))
   not-all (x ∷ all) n l e none [] are = absurd are
   not-all (x ∷ all) zero l e none (c ∷ certs) are =
-      none c (subst (λ (z : Bor (List (Vec ℕ Global))). AreCerts (octets_of z.now) c) (sym e) are.0)
+      none c (subst (λ (z : Bor (List (List ℕ))). AreCerts z.now c) (sym e) are.0)
   not-all (x ∷ all) (suc n) l e none (c ∷ certs) are =
       not-all all n (omega (arith, l)) e none certs are.1
 
-  pub chain-refused : (e : DecodeError) → Refuses e (AreNotAllCerts (octets_of chain.now))
+  pub chain-refused : (e : DecodeError) → Refuses e (AreNotAllCerts chain.now)
       → Refuses e (AreNotAllChains (octets_of_chains chains))
   chain-refused Memory none = tt
   chain-refused Malformed none = not-all chains place there at none
   chain-refused (Content fault) none = not-all chains place there at none
 
-pub all-pushed : (verdict : Verdict) (chains : List (Bor (List (Vec ℕ Global)))) (place : ℕ)
+pub all-pushed : (verdict : Verdict) (chains : List (Bor (List (List ℕ)))) (place : ℕ)
     (old text : List ℕ) (supplied : Vec KeptCertificate Global)
     → ArePushedTo verdict chains place old text supplied.items → (place < length chains → ⊥)
     → PushesChains verdict (octets_of_chains chains) old (Ok supplied) text
 all-pushed verdict chains place old text supplied is l = (
   is.certs,
-  subst (λ (cs : List (Bor (List (Vec ℕ Global)))). AreChains (octets_of_chains cs) is.certs)
+  subst (λ (cs : List (Bor (List (List ℕ)))). AreChains (octets_of_chains cs) is.certs)
       (take_all place chains (omega (arith, l))) is.are,
   is.has,
   is.grown,
@@ -180,10 +179,10 @@ rta-listed verdict object chains supplied text new h k = record {
 -- ---- by their places
 
 -- the files are the first and those after it
-pub first-cut : (files : List (Vec ℕ Global)) (a : Vec ℕ Global) → 1 ≤ length files
+pub first-cut : (files : List (List ℕ)) (a : List ℕ) → 1 ≤ length files
     → a ≡ get_or files 0 a
-    → octets_of files ≡ a.items ∷ octets_of (take (length files - 1) (drop 1 files))
+    → files ≡ a ∷ take (length files - 1) (drop 1 files)
 first-cut [] a l e = absurd (omega (arith, l))
 first-cut (x ∷ rest) a l e =
-    ap (λ (z : Vec ℕ Global). z.items ∷ octets_of (drop 1 (x ∷ rest))) (sym e)
-    ∙ ap (λ (fs : List (Vec ℕ Global)). a.items ∷ octets_of fs) (sym (take_rest (x ∷ rest) 1))
+    ap (λ (z : List ℕ). z ∷ drop 1 (x ∷ rest)) (sym e)
+    ∙ ap (λ (fs : List (List ℕ)). a ∷ fs) (sym (take_rest (x ∷ rest) 1))

@@ -1,7 +1,7 @@
 -- A text that grows by the lines of certificates, one by one.
 use Rattle.std.proofs.Common.{◌≡◌, ℕ, zero, suc, ◌+◌, ◌<◌, List, [], ◌∷◌, ◌++◌, length, drop}
-use Rattle.std.proofs.Common.{get_or, Vec}
-use Rattle.std.proofs.Common.{Result, Ok, Err, Global, arith, refl, sym, subst, ap, ◌∙◌}
+use Rattle.std.proofs.Common.{get_or}
+use Rattle.std.proofs.Common.{Result, Ok, Err, arith, refl, sym, subst, ap, ◌∙◌}
 use Rattle.std.proofs.Common.{append_assoc}
 use Rattle.std.specs.Prelude.{OnOk}
 use Rattle.std.specs.declared.alloc.AllocError.{AllocError}
@@ -15,7 +15,6 @@ use Rattle.rpki_der.specs.Grammar.{HasNoFront}
 use Rattle.rpki_der.specs.Read.Reads.{Refuses}
 use Rattle.rpki_certs.specs.Cert.{Certificate, KeptCertificate, CertForm}
 use Rattle.rpki_certs.specs.Verify.{Verdict}
-use Rattle.rpki_certs.specs.Issuer.{octets_of}
 use Rattle.rpki_sigobj.specs.Object.{SignedData, SignedForm}
 use Rattle.rpki_verdicts.specs.Listing.{good_line, listing}
 use Rattle.rpki_verdicts.specs.Lists.{BeginWith, AreCerts, AreNotAllCerts, IsListingOf, IsKept}
@@ -85,14 +84,14 @@ all-pushed verdict first files old last text goes = goes.grown [] tt
 
 -- ---- by their places
 
-pub left-cons : (chain : List (Vec ℕ Global)) (i : ℕ) (d : Vec ℕ Global) → i < length chain
-    → octets_of (drop i chain) ≡ (get_or chain i d).items ∷ octets_of (drop (suc i) chain)
+pub left-cons : (chain : List (List ℕ)) (i : ℕ) (d : List ℕ) → i < length chain
+    → drop i chain ≡ get_or chain i d ∷ drop (suc i) chain
 left-cons [] i d l = absurd (omega (arith, l))
 left-cons (x ∷ xs) zero d l = refl
 left-cons (x ∷ xs) (suc i) d l = left-cons xs i d (omega (arith, l))
 
-pub none-left : (chain : List (Vec ℕ Global)) (i : ℕ) → (i < length chain → ⊥)
-    → octets_of (drop i chain) ≡ []
+pub none-left : (chain : List (List ℕ)) (i : ℕ) → (i < length chain → ⊥)
+    → drop i chain ≡ []
 none-left [] zero n = refl
 none-left [] (suc i) n = refl
 none-left (x ∷ xs) zero n = absurd (n (omega arith))
@@ -100,14 +99,14 @@ none-left (x ∷ xs) (suc i) n = none-left xs i (λ l. n (omega (arith, l)))
 
 -- the files that are left are this one and those that are left after it
 pub next-left : (verdict : Verdict) (first : Certificate) (files : List (List ℕ)) (old : List ℕ)
-    (last : Certificate) (text : List ℕ) (chain : List (Vec ℕ Global)) (i : ℕ) (d : Vec ℕ Global)
-    → i < length chain → GoesOn verdict first files old last (octets_of (drop i chain)) text
+    (last : Certificate) (text : List ℕ) (chain : List (List ℕ)) (i : ℕ) (d : List ℕ)
+    → i < length chain → GoesOn verdict first files old last (drop i chain) text
     → GoesOn verdict first files old last
-    ((get_or chain i d).items ∷ octets_of (drop (i + 1) chain)) text
+    (get_or chain i d ∷ drop (i + 1) chain) text
 next-left verdict first files old last text chain i d l goes =
     let same : suc i ≡ i + 1 = omega arith in
     subst (λ (j : ℕ). GoesOn verdict first files old last
-    ((get_or chain i d).items ∷ octets_of (drop j chain)) text) same
+    (get_or chain i d ∷ drop j chain) text) same
     (subst (λ (left : List (List ℕ)). GoesOn verdict first files old last left text)
     (left-cons chain i d l) goes)
 

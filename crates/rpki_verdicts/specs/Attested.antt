@@ -12,7 +12,6 @@ use Rattle.rpki_der.specs.Grammar.{HasNoFront}
 use Rattle.rpki_der.specs.Read.Reads.{Refuses}
 use Rattle.rpki_attributes.specs.Attrs.Made.{message_of}
 use Rattle.rpki_certs.specs.Cert.{Certificate, KeptCertificate}
-use Rattle.rpki_certs.specs.Issuer.{octets_of}
 use Rattle.rpki_certs.specs.Verify.{Verdict}
 use Rattle.rpki_crls.specs.Crl.{RevocationList}
 use Rattle.rpki_multi.specs.Attestation.{Whole, RtaForm}
@@ -90,8 +89,8 @@ rta_questions chains m =
 -- ---- the list
 
 -- the octets of the files of each chain
-abbrev pub octets_of_chains : List (Bor (List (Vec ℕ Global))) → List (List (List ℕ))
-octets_of_chains chains = map (λ chain. octets_of chain.now) chains
+abbrev pub octets_of_chains : List (Bor (List (List ℕ))) → List (List (List ℕ))
+octets_of_chains chains = map (λ chain. chain.now) chains
 
 -- The octets of each file of each chain begin with a certificate, in DER: with these.
 abbrev pub AreChains : List (List (List ℕ)) → List (List Certificate) → Type 0

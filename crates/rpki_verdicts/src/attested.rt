@@ -4,7 +4,6 @@ ghost use Rattle.std.specs.Prelude.{◌++◌, map, string_bytes};
 ghost use Rattle.std.specs.List.{flat_map};
 ghost use Rattle.rpki_der.specs.declared.mode.Mode.TheVariants.{Der};
 ghost use Rattle.rpki_der.specs.Form.Decodes.{Decodes};
-ghost use Rattle.rpki_certs.specs.Issuer.{octets_of};
 ghost use Rattle.rpki_multi.specs.Attestation.{RtaForm, whole_of};
 ghost use Rattle.rpki_multi.specs.Multi.{multi_of};
 ghost use Rattle.rpki_verdicts.specs.Attested.{ListsRta, PushesSupplied, PushesChains, PushesRta};
@@ -38,8 +37,8 @@ use std::alloc::{AllocError, Global};
 /// Nothing is validated. Memory may run out at any of them.
 pub fn rta_listing<C: Crypto>(
     alloc: Global,
-    object: &[u8],
-    chains: &[&[Vec<u8>]],
+    object: &Bytes,
+    chains: &[&[Bytes]],
     crypto: &C,
 ) -> Result<String, ListingError>
     ensures { ListsRta (C.is_signed crypto.now) object.now (octets_of_chains chains.now) result }
@@ -62,7 +61,7 @@ pub fn rta_listing<C: Crypto>(
 fn push_chains<C: Crypto>(
     alloc: Global,
     text: &mut String,
-    chains: &[&[Vec<u8>]],
+    chains: &[&[Bytes]],
     crypto: &C,
 ) -> Result<Vec<Cert>, DecodeError>
     ensures { PushesChains (C.is_signed crypto.now) (octets_of_chains chains.now)
@@ -87,10 +86,10 @@ fn push_supplied<C: Crypto>(
     alloc: Global,
     text: &mut String,
     supplied: &mut Vec<Cert>,
-    chain: &[Vec<u8>],
+    chain: &[Bytes],
     crypto: &C,
 ) -> Result<(), DecodeError>
-    ensures { PushesSupplied (C.is_signed crypto.now) (octets_of chain.now)
+    ensures { PushesSupplied (C.is_signed crypto.now) chain.now
         (string_bytes text.old) supplied.old.items result
         (string_bytes text.new) supplied.new.items }
 {
@@ -115,7 +114,7 @@ fn push_rta<C: Crypto>(
     alloc: Global,
     text: &mut String,
     supplied: &[Cert],
-    octets: &[u8],
+    octets: &Bytes,
     crypto: &C,
 ) -> Result<(), DecodeError>
     ensures { PushesRta (C.is_signed crypto.now) (certificates supplied.now) octets.now
@@ -274,10 +273,10 @@ fn push_info<C: Crypto>(
 }
 
 /// The attestation at the front of the octets.
-fn read_rta(alloc: Global, octets: &[u8]) -> Result<Rta, DecodeError>
+fn read_rta(alloc: Global, octets: &Bytes) -> Result<Rta, DecodeError>
     ensures { Decodes (RtaForm Der) whole_of octets.now result }
 {
-    match Bytes::copy_from_slice(alloc, octets) {
+    match octets.clone() {
         Err(_) => Err(DecodeError::Memory),
         Ok(source) => Rta::decode(alloc, source),
     }

@@ -2,7 +2,6 @@
 
 ghost use Rattle.std.specs.Prelude.{Some, string_bytes};
 ghost use Rattle.rpki_der.specs.Form.Decodes.{Decodes};
-ghost use Rattle.rpki_certs.specs.Issuer.{octets_of};
 ghost use Rattle.rpki_sigobj.specs.Object.{SignedForm, mode_of};
 ghost use Rattle.rpki_verdicts.specs.Lists.{Lists, PushesCert, PushesChain, PushesCerts};
 ghost use Rattle.rpki_verdicts.specs.Lists.{PushesObject, IsKept, listing_error_text};
@@ -52,14 +51,14 @@ impl Error for ListingError {}
 /// `Object` where the object is not. Nothing is validated. Memory may run out at any of them.
 pub fn listing<C: Crypto>(
     alloc: Global,
-    object: &[u8],
+    object: &Bytes,
     strict: bool,
-    anchor: &[u8],
-    chain: &[Vec<u8>],
+    anchor: &Bytes,
+    chain: &[Bytes],
     crypto: &C,
 ) -> Result<String, ListingError>
     ensures { Lists (mode_of strict) (C.is_signed crypto.now) object.now anchor.now
-        (octets_of chain.now) result }
+        chain.now result }
 {
     let mut text = String::new(alloc);
     match push_certs(alloc, &mut text, anchor, chain, crypto) {
@@ -80,11 +79,11 @@ pub fn listing<C: Crypto>(
 pub(crate) fn push_certs<C: Crypto>(
     alloc: Global,
     text: &mut String,
-    anchor: &[u8],
-    chain: &[Vec<u8>],
+    anchor: &Bytes,
+    chain: &[Bytes],
     crypto: &C,
 ) -> Result<Cert, DecodeError>
-    ensures { PushesCerts (C.is_signed crypto.now) anchor.now (octets_of chain.now)
+    ensures { PushesCerts (C.is_signed crypto.now) anchor.now chain.now
         (string_bytes text.old) result (string_bytes text.new) }
 {
     match push_anchor(alloc, text, anchor, crypto) {
@@ -97,7 +96,7 @@ pub(crate) fn push_certs<C: Crypto>(
 fn push_anchor<C: Crypto>(
     alloc: Global,
     text: &mut String,
-    octets: &[u8],
+    octets: &Bytes,
     crypto: &C,
 ) -> Result<Cert, DecodeError>
     ensures { PushesCert (C.is_signed crypto.now) (λ c. c.tbs.key) octets.now
@@ -118,10 +117,10 @@ fn push_chain<C: Crypto>(
     alloc: Global,
     text: &mut String,
     first: Cert,
-    chain: &[Vec<u8>],
+    chain: &[Bytes],
     crypto: &C,
 ) -> Result<Cert, DecodeError>
-    ensures { PushesChain (C.is_signed crypto.now) first.certificate (octets_of chain.now)
+    ensures { PushesChain (C.is_signed crypto.now) first.certificate chain.now
         (string_bytes text.old) result (string_bytes text.new) }
 {
     let mut issuer = first;
@@ -146,7 +145,7 @@ fn push_issued<C: Crypto>(
     alloc: Global,
     text: &mut String,
     issuer: &Cert,
-    octets: &[u8],
+    octets: &Bytes,
     crypto: &C,
 ) -> Result<Cert, DecodeError>
     ensures { PushesCert (C.is_signed crypto.now) (λ _. issuer.now.certificate.tbs.key) octets.now
@@ -180,7 +179,7 @@ fn push_object<C: Crypto>(
     alloc: Global,
     text: &mut String,
     issuer: &Cert,
-    octets: &[u8],
+    octets: &Bytes,
     strict: bool,
     crypto: &C,
 ) -> Result<(), DecodeError>
@@ -203,10 +202,10 @@ fn push_object<C: Crypto>(
 }
 
 /// The signed object at the front of the octets.
-fn read_object(alloc: Global, octets: &[u8], strict: bool) -> Result<SignedObject, DecodeError>
+fn read_object(alloc: Global, octets: &Bytes, strict: bool) -> Result<SignedObject, DecodeError>
     ensures { Decodes (SignedForm (mode_of strict)) (λ o. o.object) octets.now result }
 {
-    match Bytes::copy_from_slice(alloc, octets) {
+    match octets.clone() {
         Err(_) => Err(DecodeError::Memory),
         Ok(source) => SignedObject::decode(alloc, source, strict),
     }

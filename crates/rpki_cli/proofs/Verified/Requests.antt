@@ -28,7 +28,7 @@ use Rattle.rpki_cli.specs.declared.verify.settings.Named.TheVariants as names
 use Rattle.rpki_cli.specs.declared.verify.settings.Setting.{Setting}
 use Rattle.rpki_cli.specs.declared.verify.check_settings.SettingsError.{SettingsError}
 use Rattle.rpki_cli.specs.declared.verify.check_settings.SettingsError.TheVariants as faults
-use Rattle.rpki_cli.specs.declared.verify.requests.ObjectKind.{ObjectKind}
+use Rattle.rpki_cli.specs.declared.verify.requests.CheckedKind.{CheckedKind}
 use Rattle.rpki_cli.specs.declared.verify.requests.WrongWords.{WrongWords}
 use Rattle.rpki_cli.specs.declared.verify.requests.WrongWords.TheVariants.{Arrange, Settings}
 use Rattle.rpki_cli.specs.declared.verify.requests.WrongWords.TheVariants.{UnknownKind, NotChecked}
@@ -71,10 +71,10 @@ kinds-of-once given (f ∷ fs) (a ∷ as_) [] h k = absurd k
 kinds-of-once given (f ∷ fs) (a ∷ as_) (b ∷ bs) h k =
     heads-same a b as_ bs (kind-of-once given f a b h.0 k.0) (kinds-of-once given fs as_ bs h.1 k.1)
 
-object-files-once : (a b : ObjectKind) → object_file a ≡ object_file b → a ≡ b
+object-files-once : (a b : CheckedKind) → object_file a ≡ object_file b → a ≡ b
 object-files-once a b e = search rules
 
-objects-same : (a b : ObjectKind) (c d : List ObjectKind) → a ≡ b → c ≡ d → a ∷ c ≡ b ∷ d
+objects-same : (a b : CheckedKind) (c d : List CheckedKind) → a ≡ b → c ≡ d → a ∷ c ≡ b ∷ d
 objects-same a b c d e f = cc
 
 first-kind : {a b : FileKind} {c d : List FileKind} → a ∷ c ≡ b ∷ d → a ≡ b
@@ -83,7 +83,7 @@ first-kind e = cc
 other-kinds : {a b : FileKind} {c d : List FileKind} → a ∷ c ≡ b ∷ d → c ≡ d
 other-kinds e = cc
 
-objects-once : (a b : List ObjectKind) → map object_file a ≡ map object_file b → a ≡ b
+objects-once : (a b : List CheckedKind) → map object_file a ≡ map object_file b → a ≡ b
 objects-once [] [] e = refl
 objects-once [] (b ∷ bs) e = absurd cc
 objects-once (a ∷ as_) [] e = absurd cc
@@ -101,8 +101,8 @@ kind-at given (b ∷ bs) after file [] h = absurd h
 kind-at given (b ∷ bs) after file (k ∷ ks) h = kind-at given bs after file ks h.1
 
 object-at : (given : Option FileKind) (before after : List (List ℕ)) (file : List ℕ)
-    (all : List ObjectKind) → AreObjectsOf given (before ++ file ∷ after) all
-    → (object : ObjectKind) × IsKindOf given file (object_file object)
+    (all : List CheckedKind) → AreObjectsOf given (before ++ file ∷ after) all
+    → (object : CheckedKind) × IsKindOf given file (object_file object)
 object-at given [] after file [] h = absurd h
 object-at given [] after file (k ∷ ks) h = (k, h.0)
 object-at given (b ∷ bs) after file [] h = absurd h
@@ -144,13 +144,13 @@ kind-taken given files i d all more kind l h k e =
     (kinds-more given (texts (take i files)) all (get_or files i d).now kind h k))
 
 pub object-taken : (given : Option FileKind) (files : List (Bor (List ℕ))) (i : ℕ)
-    (d : Bor (List ℕ)) (all more : List ObjectKind) (object : ObjectKind) → i < length files
+    (d : Bor (List ℕ)) (all more : List CheckedKind) (object : CheckedKind) → i < length files
     → AreObjectsOf given (texts (take i files)) all
     → IsKindOf given (get_or files i d).now (object_file object)
     → more ≡ all ++ object ∷ [] → AreObjectsOf given (texts (take (i + 1) files)) more
 object-taken given files i d all more object l h k e =
     kind-taken given files i d (map object_file all) (map object_file more) (object_file object) l
-    h k (ap (λ (ks : List ObjectKind). map object_file ks) e
+    h k (ap (λ (ks : List CheckedKind). map object_file ks) e
     ∙ map-append object_file all (object ∷ []))
 
 first-file : (P : List (List ℕ) → Type 0) (files : List (Bor (List ℕ))) (i : ℕ)
@@ -165,7 +165,7 @@ first-file P files i d l h = record {
 
 -- the first file that is that of no object
 pub object-fault : (given : Option FileKind) (files : List (Bor (List ℕ))) (i : ℕ)
-    (d : Bor (List ℕ)) (all : List ObjectKind) (e : WrongWords) → i < length files
+    (d : Bor (List ℕ)) (all : List CheckedKind) (e : WrongWords) → i < length files
     → AreObjectsOf given (texts (take i files)) all
     → IsObjectFault given (get_or files i d).now e → IsObjectsFault given (texts files) e
 object-fault given files i d all (UnknownKind w) l h f =
@@ -251,10 +251,10 @@ values-once s o c d h k =
     (h.registered ∙ sym k.registered) (h.wide ∙ sym k.wide))
     (h.files ∙ sym k.files)
 
-abbrev asked-made : CheckValues → List ObjectKind → AskedCheck
+abbrev asked-made : CheckValues → List CheckedKind → AskedCheck
 asked-made v k = record { values = v; kinds = k }
 
-asked-so : (v w : CheckValues) (k l : List ObjectKind) → v ≡ w → k ≡ l
+asked-so : (v w : CheckValues) (k l : List CheckedKind) → v ≡ w → k ≡ l
     → asked-made v k ≡ asked-made w l
 asked-so v w k l e f = cc
 
@@ -285,7 +285,7 @@ check-once words c d h k =
     h.kinds ks))
 
 -- files of objects have no fault
-objects-apart : (given : Option FileKind) (files : List (List ℕ)) (all : List ObjectKind)
+objects-apart : (given : Option FileKind) (files : List (List ℕ)) (all : List CheckedKind)
     (e : WrongWords) → AreObjectsOf given files all → IsObjectsFault given files e
     → lacks_memory e ≡ false → ⊥
 objects-apart given files all (UnknownKind w) h f n =

@@ -21,7 +21,7 @@ use Rattle.rpki_cli.specs.declared.verify.settings.Named.TheVariants as names
 use Rattle.rpki_cli.specs.declared.verify.settings.Setting.{Setting}
 use Rattle.rpki_cli.specs.declared.verify.check_settings.SettingsError.{SettingsError}
 use Rattle.rpki_cli.specs.declared.verify.check_settings.SettingsError.TheVariants as faults
-use Rattle.rpki_cli.specs.declared.verify.requests.ObjectKind.{ObjectKind}
+use Rattle.rpki_cli.specs.declared.verify.requests.CheckedKind.{CheckedKind}
 use Rattle.rpki_cli.specs.declared.verify.requests.WrongWords.{WrongWords}
 use Rattle.rpki_cli.specs.declared.verify.requests.WrongWords.TheVariants.{Arrange, Settings, NoName}
 use Rattle.rpki_cli.specs.declared.verify.requests.WrongWords.TheVariants.{UnknownKind, NotChecked}
@@ -87,12 +87,12 @@ file-once R (d ∷ b) (p ∷ c) r q f g e h k m n =
     file-once R b c r q f g (others-same e) h.1 k.1 m n
 
 abbrev HasObject : Option FileKind → List ℕ → Type 0
-HasObject given file = (object : ObjectKind) × IsKindOf given file (object_file object)
+HasObject given file = (object : CheckedKind) × IsKindOf given file (object_file object)
 
 abbrev HasKind : Option FileKind → List ℕ → Type 0
 HasKind given file = (kind : FileKind) × IsKindOf given file kind
 
-objects-each : (given : Option FileKind) (files : List (List ℕ)) (all : List ObjectKind)
+objects-each : (given : Option FileKind) (files : List (List ℕ)) (all : List CheckedKind)
     → AreObjectsOf given files all → Each (HasObject given) files
 objects-each given [] all h = tt
 objects-each given (f ∷ fs) [] h = absurd h

@@ -22,8 +22,8 @@ use Rattle.rpki_cli.specs.declared.verify.settings.Setting.{Setting}
 use Rattle.rpki_cli.specs.declared.verify.check_settings.SettingsError.{SettingsError}
 use Rattle.rpki_cli.specs.declared.verify.check_settings.SettingsError.TheVariants as faults
 use Rattle.rpki_cli.specs.declared.verify.requests.CheckRequest.{CheckRequest}
-use Rattle.rpki_cli.specs.declared.verify.requests.ObjectKind.{ObjectKind}
-use Rattle.rpki_cli.specs.declared.verify.requests.ObjectKind.TheVariants.{Signed, Rta}
+use Rattle.rpki_cli.specs.declared.verify.requests.CheckedKind.{CheckedKind}
+use Rattle.rpki_cli.specs.declared.verify.requests.CheckedKind.TheVariants.{Signed, Rta}
 use Rattle.rpki_cli.specs.declared.verify.requests.ShowRequest.{ShowRequest}
 use Rattle.rpki_cli.specs.declared.verify.requests.WrongWords.{WrongWords}
 use Rattle.rpki_cli.specs.declared.verify.requests.WrongWords.TheVariants.{Arrange, Settings, NoName}
@@ -35,7 +35,7 @@ use Rattle.rpki_cli.specs.declared.verify.requests.WrongWords.TheVariants.{Contr
 -- ---- kinds of files
 
 -- the kind of the files of objects of this kind
-abbrev pub object_file : ObjectKind → FileKind
+abbrev pub object_file : CheckedKind → FileKind
 object_file (Signed objects.Aspa) = kinds.Aspa
 object_file (Signed objects.Manifest) = kinds.Manifest
 object_file (Signed objects.Roa) = kinds.Roa
@@ -56,7 +56,7 @@ AreKindsOf given (file ∷ files) (kind ∷ others) =
     IsKindOf given file kind × AreKindsOf given files others
 
 -- each file is that of an object of the kind at its place
-abbrev pub AreObjectsOf : Option FileKind → List (List ℕ) → List ObjectKind → Type 0
+abbrev pub AreObjectsOf : Option FileKind → List (List ℕ) → List CheckedKind → Type 0
 AreObjectsOf given files objects = AreKindsOf given files (map object_file objects)
 
 -- ---- a check of many files
@@ -66,7 +66,7 @@ pub record AskedCheck : Type 0 where
   -- what the check is to be done with
   pub values : CheckValues
   -- the kind of each file that is checked
-  pub kinds : List ObjectKind
+  pub kinds : List CheckedKind
 
 -- what a request asks
 abbrev pub asked_check : CheckRequest → AskedCheck
@@ -155,7 +155,7 @@ HaveKinds given files = (all : List FileKind) × AreKindsOf given files all
 
 -- each file is that of an object
 abbrev pub AreOfObjects : Option FileKind → List (List ℕ) → Type 0
-AreOfObjects given files = (all : List ObjectKind) × AreObjectsOf given files all
+AreOfObjects given files = (all : List CheckedKind) × AreObjectsOf given files all
 
 -- a file has no kind
 abbrev pub HasNoKind : Option FileKind → List ℕ → Type 0
@@ -165,7 +165,7 @@ HasNoKind given file = (kind : FileKind) → ¬ IsKindOf given file kind
 pub record IsOfNoObject (given : Option FileKind) (file : List ℕ) : Type 0 where
   pub kind : FileKind
   pub is : IsKindOf given file kind
-  pub other : (object : ObjectKind) → ¬ (object_file object ≡ kind)
+  pub other : (object : CheckedKind) → ¬ (object_file object ≡ kind)
 
 -- What is wrong with a file that is to be checked.
 abbrev pub IsObjectFault : Option FileKind → List ℕ → WrongWords → Type 0

@@ -1,6 +1,6 @@
 -- The command line of the program with signatures: what each command is written as.
 use Rattle.std.specs.Prelude.{◌≡◌, ℕ, List, [], ◌∷◌, ◌++◌, Bool, true, false, codes, Option, Some}
-use Rattle.std.specs.Prelude.{IsTrue, Contains, length, ◌<◌, not, ◌&&◌, ◌||◌, if◌then◌else◌}
+use Rattle.std.specs.Prelude.{IsTrue, Contains, length, ◌<◌, ◌==◌, not, ◌||◌, if◌then◌else◌}
 use Rattle.std.specs.Str.{bytes_eq}
 use Rattle.rpki_basics.specs.Moment.{Moment}
 use Rattle.rpki_cli.specs.Language.{Language}
@@ -143,17 +143,18 @@ files_in (Rta file moment anchors) = file ∷ files_of_anchors anchors
 files_in (RtaVerdicts file anchors) = file ∷ files_of_anchors anchors
 files_in (Payloads format copy moment locators) = copy ∷ locators
 
--- whether a word may name a copy of the repositories: it is none of the words of formats
+-- whether a word may name a copy of the repositories: it does not begin with `-`
 abbrev pub is_copy : List ℕ → Bool
-is_copy word = not (bytes_eq word word_csv) && not (bytes_eq word word_json)
+is_copy [] = true
+is_copy (first ∷ rest) = not (first == 0x2D)
 
 -- A command is fit: the one of the other program, if it has one, shows a file, its moment, if it
 -- has one, is one of the calendar, the words of a walk have a `with` after the trust anchor, those
 -- of an attestation end with anchors, the file of an object whose signatures are listed has another
--- name than the word of attestations, and payloads are listed of a copy that is no word of a
--- format, under one locator or more. The words of a check of many files have `--ta` among them, and
--- those of a check of one object do not. Those of a show of many files are there, do not begin with
--- `--help` or `-h`, and are not those of a show of one file of a kind.
+-- name than the word of attestations, and payloads are listed of a copy whose name does not begin
+-- with `-`, under one locator or more. The words of a check of many files have `--ta` among them,
+-- and those of a check of one object do not. Those of a show of many files are there, do not begin
+-- with `--help` or `-h`, and are not those of a show of one file of a kind.
 abbrev pub IsFit : VerifyCommand → Type 0
 IsFit (Help word) = Unit {0}
 IsFit Version = Unit {0}

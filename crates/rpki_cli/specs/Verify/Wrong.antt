@@ -1,13 +1,20 @@
 -- What the program with signatures says to words that ask for nothing: which word is wrong.
-use Rattle.std.specs.Prelude.{ℕ, List, [], ◌∷◌, Bool, ◌||◌, ◌&&◌, codes, if◌then◌else◌}
+use Rattle.std.specs.Prelude.{ℕ, List, [], ◌∷◌, Bool, not, ◌||◌, ◌&&◌, ◌==◌, codes, length}
+use Rattle.std.specs.Prelude.{Option, None, Some, if◌then◌else◌}
 use Rattle.std.specs.List.{list_any}
+use Rattle.std.specs.Option.{unwrap_or}
 use Rattle.std.specs.Str.{bytes_eq}
 use Rattle.rpki_cli.specs.Answer.{Output, help, wrong_words, wrong_by}
-use Rattle.rpki_cli.specs.Words.{kind_word}
+use Rattle.rpki_cli.specs.Words.{kind_word, is_anchor, files_of_anchor, are_named}
+use Rattle.rpki_cli.specs.Words.{pairs_in, path_in}
 use Rattle.rpki_cli.specs.declared.words.Kind.TheVariants.{Aspa, Manifest, Roa, Rsc}
 use Rattle.rpki_cli.specs.Verify.Moments.{names_moment}
-use Rattle.rpki_cli.specs.Verify.Settings.{is_dashed}
-use Rattle.rpki_cli.specs.Verify.Words.{word_ta, word_rta, after_options, is_copy, begin_with_help}
+use Rattle.rpki_cli.specs.Verify.Settings.{is_dashed, flag_word, named_word, word_end}
+use Rattle.rpki_cli.specs.declared.verify.settings.Flag.TheVariants as flags
+use Rattle.rpki_cli.specs.declared.verify.settings.Named.TheVariants as names
+use Rattle.rpki_cli.specs.Verify.Words.{word_ta, word_rta, word_csv, word_json, word_version}
+use Rattle.rpki_cli.specs.Verify.Words.{help_word, after_options, is_copy, begin_with_help}
+use Rattle.rpki_cli.specs.declared.verify.words.HelpWord.TheVariants.{Long, Short}
 
 -- ---- one word
 
@@ -20,6 +27,31 @@ abbrev pub is_kind : List ℕ → Bool
 is_kind word = is_one_of
     (kind_word Aspa ∷ kind_word Manifest ∷ kind_word Roa ∷ kind_word Rsc ∷ []) word
 
+-- whether a word is an anchor, and its files have names
+abbrev pub is_named_anchor : List ℕ → Bool
+is_named_anchor word = is_anchor word && are_named (files_of_anchor word)
+
+-- whether a word is a pair NAME=PATH, whose path is not empty
+abbrev pub is_pair : List ℕ → Bool
+is_pair word = not (length (path_in word) == 0)
+
+-- whether a word is that of a flag
+abbrev pub is_flag : List ℕ → Bool
+is_flag word = is_one_of
+    (flag_word flags.Relaxed ∷ flag_word flags.Registered ∷ flag_word flags.Wide
+    ∷ flag_word flags.Json ∷ flag_word flags.Csv ∷ flag_word flags.Help ∷ help_word Short
+    ∷ flag_word flags.Version ∷ []) word
+
+-- whether a word is one after which a value stands
+abbrev pub is_name : List ℕ → Bool
+is_name word = is_one_of
+    (named_word names.Kind ∷ named_word names.Ta ∷ named_word names.Ca ∷ named_word names.Tal
+    ∷ named_word names.Crl ∷ named_word names.At ∷ []) word
+
+-- whether a word is an option of some command, or `--`
+abbrev pub is_option : List ℕ → Bool
+is_option word = is_flag word || (is_name word || bytes_eq word word_end)
+
 -- the word is no kind of what is to be checked or shown
 abbrev pub unknown_kind : List ℕ → Output
 unknown_kind word = wrong_by (codes "unknown kind: ") word
@@ -28,9 +60,19 @@ unknown_kind word = wrong_by (codes "unknown kind: ") word
 abbrev pub wrong_moment : List ℕ → Output
 wrong_moment word = wrong_by (codes "wrong moment: ") word
 
--- the word is an option that there is not, or not here
-abbrev pub unknown_option : List ℕ → Output
-unknown_option word = wrong_by (codes "unknown option: ") word
+-- the word is no anchor with its files
+abbrev pub wrong_anchor : List ℕ → Output
+wrong_anchor word = wrong_by (codes "wrong anchor: ") word
+
+-- the word is no pair of a name and a file
+abbrev pub wrong_pair : List ℕ → Output
+wrong_pair word = wrong_by (codes "wrong pair: ") word
+
+-- the word is an option that can't stand here, or that there is not
+abbrev pub wrong_option : List ℕ → Output
+wrong_option word =
+    if is_option word then wrong_by (codes "option out of place: ") word
+    else wrong_by (codes "unknown option: ") word
 
 -- the word is that of no command
 abbrev pub unknown_command : List ℕ → Output
@@ -42,42 +84,92 @@ missing_anchor = wrong_by (codes "missing: ") word_ta
 
 -- ---- the words after that of a command
 
--- a file and a moment, and more
-abbrev pub said_to_file : List (List ℕ) → Output
-said_to_file [] = wrong_words
-said_to_file (file ∷ []) = wrong_words
-said_to_file (file ∷ moment ∷ words) =
-    if names_moment moment then wrong_words else wrong_moment moment
+-- a place after the word of a command: what is said to a word that may not stand there
+abbrev pub Place : Type 0
+Place = List ℕ → Option Output
 
--- After `check`: a kind, a file and a moment, and more. An option in the place of the kind is one
--- of a check of many files; words of such a check that have a trust anchor ask for something.
-abbrev pub said_to_check : List (List ℕ) → Output
-said_to_check [] = wrong_words
-said_to_check (kind ∷ words) =
-    if is_dashed kind then missing_anchor
-    else if is_kind kind then said_to_file words else unknown_kind kind
+-- the kind of an object that is checked; an option here is one of a check of many files, and words
+-- of such a check that have a trust anchor ask for something
+abbrev pub object_kind : Place
+object_kind word =
+    if is_kind word then None
+    else if is_dashed word then Some missing_anchor else Some (unknown_kind word)
 
--- after `content`: a kind, to which attestations belong, and more
-abbrev pub said_to_content : List (List ℕ) → Output
-said_to_content [] = wrong_words
-said_to_content (kind ∷ words) =
-    if is_kind kind || bytes_eq kind word_rta then wrong_words else unknown_kind kind
+-- the kind of a content, to which attestations belong
+abbrev pub content_kind : Place
+content_kind word =
+    if is_kind word || bytes_eq word word_rta then None
+    else if is_dashed word then Some (wrong_option word) else Some (unknown_kind word)
+
+-- a file, which may have any name
+abbrev pub any_file : Place
+any_file word = None
+
+-- a copy of the repositories
+abbrev pub a_copy : Place
+a_copy word = if is_copy word then None else Some (wrong_option word)
+
+-- a moment
+abbrev pub a_moment : Place
+a_moment word = if names_moment word then None else Some (wrong_moment word)
+
+-- an anchor
+abbrev pub an_anchor : Place
+an_anchor word = if is_named_anchor word then None else Some (wrong_anchor word)
+
+-- a pair
+abbrev pub a_pair : Place
+a_pair word = if is_pair word then None else Some (wrong_pair word)
+
+-- What is said to words each of which stands in this place, and which ask for nothing: the first
+-- that may not stand there is named, and where there is none, what is expected.
+abbrev pub said_to_each : Place → List (List ℕ) → Output
+said_to_each place [] = wrong_words
+said_to_each place (word ∷ words) = unwrap_or (place word) (said_to_each place words)
+
+-- What is said to words that begin in these places, and ask for nothing: the first of them that may
+-- not stand in its place is named, and where there is none, this is said to the words after them.
+-- Where a word is missing, it is said what is expected.
+abbrev pub said_in : List Place → (List (List ℕ) → Output) → List (List ℕ) → Output
+said_in [] more words = more words
+said_in (place ∷ places) more [] = wrong_words
+said_in (place ∷ places) more (word ∷ words) = unwrap_or (place word) (said_in places more words)
+
+-- what is said to any words: what is expected
+abbrev pub any_more : List (List ℕ) → Output
+any_more words = wrong_words
+
+-- what is said to anchors
+abbrev pub said_to_anchors : List (List ℕ) → Output
+said_to_anchors words = said_to_each an_anchor words
+
+-- what is said to pairs
+abbrev pub said_to_pairs : List (List ℕ) → Output
+said_to_pairs words = said_to_each a_pair words
+
+-- what is said to the words after the trust anchor of a walk, which end with pairs
+abbrev pub said_to_tail : List (List ℕ) → Output
+said_to_tail words = said_to_pairs (pairs_in words)
+
+-- what is said to the words after `verdicts`, which have anchors where the first is `rta`
+abbrev pub said_to_verdicts : List (List ℕ) → Output
+said_to_verdicts [] = wrong_words
+said_to_verdicts (word ∷ words) =
+    if bytes_eq word word_rta then said_in (any_file ∷ []) said_to_anchors words else wrong_words
+
+-- whether a word is that of a format
+abbrev pub is_format : List ℕ → Bool
+is_format word = is_one_of (word_csv ∷ word_json ∷ []) word
 
 -- the words after that of a format in front, if there is one
 abbrev pub after_format : List (List ℕ) → List (List ℕ)
 after_format [] = []
-after_format (word ∷ words) = if is_copy word then word ∷ words else words
-
--- after `payloads` and a format: a copy and a moment, and more; an option is no copy here
-abbrev pub said_to_copy : List (List ℕ) → Output
-said_to_copy [] = wrong_words
-said_to_copy (copy ∷ words) =
-    if is_dashed copy then unknown_option copy else said_to_file (copy ∷ words)
+after_format (word ∷ words) = if is_format word then words else word ∷ words
 
 -- the commands whose words have none of these places
 abbrev pub is_other : List ℕ → Bool
-is_other word = is_one_of
-    (codes "verdicts" ∷ codes "show" ∷ codes "--help" ∷ codes "-h" ∷ codes "--version" ∷ []) word
+is_other word =
+    is_one_of (codes "show" ∷ help_word Long ∷ help_word Short ∷ word_version ∷ []) word
 
 -- whether a word is that of a command
 abbrev pub is_command : List ℕ → Bool
@@ -86,20 +178,26 @@ is_command word = is_one_of
     ∷ codes "verdicts" ∷ codes "walk" ∷ []) word
 
 -- the word of a command, and those after it, which do not begin with one that asks for help
-abbrev pub said_to_other : List ℕ → List (List ℕ) → Output
-said_to_other command words =
-    if bytes_eq command (codes "check") then said_to_check words
-    else if bytes_eq command (codes "content") then said_to_content words
-    else if bytes_eq command (codes "walk") || bytes_eq command word_rta then said_to_file words
-    else if bytes_eq command (codes "payloads") then said_to_copy (after_format words)
+abbrev pub said_after : List ℕ → List (List ℕ) → Output
+said_after command words =
+    if bytes_eq command (codes "check") then
+    said_in (object_kind ∷ any_file ∷ a_moment ∷ []) any_more words
+    else if bytes_eq command (codes "content") then said_in (content_kind ∷ []) any_more words
+    else if bytes_eq command (codes "payloads") then
+    said_in (a_copy ∷ a_moment ∷ []) any_more (after_format words)
+    else if bytes_eq command (codes "walk") then
+    said_in (any_file ∷ a_moment ∷ any_file ∷ []) said_to_tail words
+    else if bytes_eq command word_rta then
+    said_in (any_file ∷ a_moment ∷ []) said_to_anchors words
+    else if bytes_eq command (codes "verdicts") then said_to_verdicts words
     else if is_other command then wrong_words
-    else if is_dashed command then unknown_option command else unknown_command command
+    else if is_dashed command then wrong_option command else unknown_command command
 
 -- the word of a command, and those after it
 abbrev pub said_to_command : List ℕ → List (List ℕ) → Output
 said_to_command command words =
     if is_command command && begin_with_help words then help
-    else said_to_other command words
+    else said_after command words
 
 -- the words after the options
 abbrev pub said_to_plain : List (List ℕ) → Output

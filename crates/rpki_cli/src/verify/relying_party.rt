@@ -1,13 +1,13 @@
 //! Who finds the payloads under the locators of trust anchors.
 
 ghost use Rattle.std.specs.Prelude.{◌≡◌, ℕ, List, length};
-ghost use Rattle.rpki_certs.specs.Issuer.{octets_of};
 ghost use Rattle.rpki_cli.specs.Answer.{Output, said};
 ghost use Rattle.rpki_cli.specs.declared.verify.relying_party.PayloadsRequest.{PayloadsRequest};
 
 use crate::answer::Answer;
 use crate::verify::words::Format;
 use crate::words::{Word, Words};
+use bytes::Bytes;
 use rpki_basics::{ProviderLimit, Time};
 use std::alloc::Global;
 
@@ -37,8 +37,8 @@ pub trait RelyingParty {
         &self,
         alloc: Global,
         request: &PayloadsRequest<'a>,
-        files: &[Vec<u8>],
+        files: &[Bytes],
     ) -> Answer<'a>
         requires { length files.now ≡ length request.now.locators }
-        ensures { says self.now request.now (octets_of files.now) (said result) };
+        ensures { says self.now request.now files.now (said result) };
 }

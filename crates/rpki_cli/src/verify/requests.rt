@@ -13,7 +13,7 @@ ghost use Rattle.rpki_cli.specs.Verify.Requests.{IsFilesFault, IsShowKind, IsSho
 ghost use Rattle.rpki_cli.specs.Verify.Requests.{IsFirstName};
 ghost use Rattle.rpki_cli.specs.Verify.Requests.{wrong_text, wrong_said};
 ghost use Rattle.rpki_cli.specs.declared.verify.kinds_by_name.FileKind.{FileKind};
-ghost use Rattle.rpki_cli.specs.declared.verify.requests.ObjectKind.{ObjectKind};
+ghost use Rattle.rpki_cli.specs.declared.verify.requests.CheckedKind.{CheckedKind};
 ghost use Rattle.rpki_cli.specs.declared.verify.requests.WrongWords.{WrongWords};
 
 use crate::answer::Answer;
@@ -30,7 +30,7 @@ use std::fmt;
 
 /// A kind of file that can be checked.
 #[derive(Clone, Copy, Debug, PartialEq, Eq)]
-pub enum ObjectKind {
+pub enum CheckedKind {
     /// A signed object of this kind.
     Signed(Kind),
     /// A Resource Tagged Attestation.
@@ -43,7 +43,7 @@ pub struct CheckRequest<'a> {
     /// What the check is to be done with.
     pub settings: CheckSettings<'a>,
     /// The kind of each file that is checked, in their order.
-    pub kinds: Vec<ObjectKind>,
+    pub kinds: Vec<CheckedKind>,
 }
 
 /// What is asked of files that are shown.
@@ -227,23 +227,23 @@ pub fn kind_of_file(given: Option<FileKind>, name: &str) -> Option<FileKind>
 }
 
 /// The kind of object that files of this kind are, if they can be checked.
-pub fn object_of(kind: FileKind) -> Option<ObjectKind>
-    ensures { MatchOption result ((object : ObjectKind) → object_file object ≡ kind → ⊥)
+pub fn object_of(kind: FileKind) -> Option<CheckedKind>
+    ensures { MatchOption result ((object : CheckedKind) → object_file object ≡ kind → ⊥)
         (λ object. object_file object ≡ kind) }
 {
     match kind {
-        FileKind::Roa => Some(ObjectKind::Signed(Kind::Roa)),
-        FileKind::Aspa => Some(ObjectKind::Signed(Kind::Aspa)),
-        FileKind::Manifest => Some(ObjectKind::Signed(Kind::Manifest)),
-        FileKind::Rsc => Some(ObjectKind::Signed(Kind::Rsc)),
-        FileKind::Rta => Some(ObjectKind::Rta),
+        FileKind::Roa => Some(CheckedKind::Signed(Kind::Roa)),
+        FileKind::Aspa => Some(CheckedKind::Signed(Kind::Aspa)),
+        FileKind::Manifest => Some(CheckedKind::Signed(Kind::Manifest)),
+        FileKind::Rsc => Some(CheckedKind::Signed(Kind::Rsc)),
+        FileKind::Rta => Some(CheckedKind::Rta),
         FileKind::Certificate | FileKind::Crl | FileKind::Tal => None,
     }
 }
 
 /// The kind of object that a file is. Refuses by `UnknownKind`, or by `NotChecked` where files of its
 /// kind can't be checked.
-fn object_in<'a>(given: Option<FileKind>, file: &'a str) -> Result<ObjectKind, WrongWords<'a>>
+fn object_in<'a>(given: Option<FileKind>, file: &'a str) -> Result<CheckedKind, WrongWords<'a>>
     ensures { MatchResult result (λ object. IsKindOf given file.now (object_file object))
         (λ e. IsObjectFault given file.now e) }
 {
@@ -262,7 +262,7 @@ fn objects_in<'a>(
     alloc: Global,
     given: Option<FileKind>,
     files: &[&'a str],
-) -> Result<Vec<ObjectKind>, WrongWords<'a>>
+) -> Result<Vec<CheckedKind>, WrongWords<'a>>
     ensures { MatchResult result (λ kinds. AreObjectsOf given (texts files.now) kinds.items)
         (λ e. IsObjectsFault given (texts files.now) e) }
 {

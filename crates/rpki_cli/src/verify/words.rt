@@ -537,11 +537,11 @@ fn parse_payloads_in<'a>(format: Format, words: &'a [&'a str]) -> Option<VerifyC
     }
 }
 
-/// Whether a word may name a copy of the repositories.
+/// Whether a word may name a copy of the repositories: it does not begin with `-`.
 pub fn is_copy(word: &str) -> bool
     ensures { result ≡ is_copy word.now }
 {
-    word != "--csv" && word != "--json"
+    !matches!(word.as_bytes(), [b'-', ..])
 }
 
 /// The command of words that ask to show what a file holds, as they do of the other program.

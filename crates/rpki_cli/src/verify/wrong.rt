@@ -1,17 +1,22 @@
 //! What is answered to words that ask for nothing of the program with signatures.
 
-ghost use Rattle.std.specs.Prelude.{◌≡◌};
+ghost use Rattle.std.specs.Prelude.{◌≡◌, ◌∷◌, []};
 ghost use Rattle.rpki_cli.specs.Answer.{said};
 ghost use Rattle.rpki_cli.specs.Words.{texts};
 ghost use Rattle.rpki_cli.specs.Verify.Moments.{names_moment};
-ghost use Rattle.rpki_cli.specs.Verify.Wrong.{is_kind, unknown_kind, unknown_option, said_to_file};
-ghost use Rattle.rpki_cli.specs.Verify.Wrong.{said_to_check, said_to_content, said_to_copy};
-ghost use Rattle.rpki_cli.specs.Verify.Wrong.{said_to_command, said_to_wrong, after_format};
-ghost use Rattle.rpki_cli.specs.Verify.Wrong.{said_to_other, is_command};
+ghost use Rattle.rpki_cli.specs.Verify.Wrong.{is_kind, is_command, is_option, is_flag, is_name};
+ghost use Rattle.rpki_cli.specs.Verify.Wrong.{is_named_anchor, is_pair, unknown_kind};
+ghost use Rattle.rpki_cli.specs.Verify.Wrong.{wrong_moment, wrong_option, object_kind};
+ghost use Rattle.rpki_cli.specs.Verify.Wrong.{content_kind, any_file, a_copy, a_moment};
+ghost use Rattle.rpki_cli.specs.Verify.Wrong.{any_more, is_format, after_format, said_in, said_after};
+ghost use Rattle.rpki_cli.specs.Verify.Wrong.{said_to_anchors, said_to_pairs, said_to_tail};
+ghost use Rattle.rpki_cli.specs.Verify.Wrong.{said_to_verdicts, said_to_command, said_to_wrong};
 
+use crate::anchor_words::{is_anchor, is_named};
 use crate::answer::Answer;
+use crate::pairs::{cut_at_with, path_of};
 use crate::verify::moments::when_named;
-use crate::verify::settings::{Named, is_dashed};
+use crate::verify::settings::{Named, flag_of, is_dashed, named_of};
 use crate::verify::words::{begin_with_help, is_copy, take_options};
 use crate::words::kind_of;
 
@@ -51,17 +56,19 @@ fn is_command(word: &str) -> bool
 
 /// What is answered to the word of a command, and to those after it, which ask for no help.
 fn answer_other<'a>(command: &'a str, words: &'a [&'a str]) -> Answer<'a>
-    ensures { said result ≡ said_to_other command.now (texts words.now) }
+    ensures { said result ≡ said_after command.now (texts words.now) }
 {
     match command {
         "check" => answer_check(words),
         "content" => answer_content(words),
-        "walk" | "rta" => answer_file(words),
-        "payloads" => answer_copy(after_format(words)),
-        "verdicts" | "show" | "--help" | "-h" | "--version" => Answer::WrongWords,
+        "payloads" => answer_payloads(after_format(words)),
+        "walk" => answer_walk(words),
+        "rta" => answer_rta(words),
+        "verdicts" => answer_verdicts(words),
+        "show" | "--help" | "-h" | "--version" => Answer::WrongWords,
         _ => {
             if is_dashed(command) {
-                unknown_option(command)
+                wrong_option(command)
             } else {
                 Answer::WrongBy {
                     cause: "unknown command: ",
@@ -74,17 +81,18 @@ fn answer_other<'a>(command: &'a str, words: &'a [&'a str]) -> Answer<'a>
 
 /// What is answered to a kind, a file and a moment, and more.
 fn answer_check<'a>(words: &'a [&'a str]) -> Answer<'a>
-    ensures { said result ≡ said_to_check (texts words.now) }
+    ensures { said result ≡ said_in (object_kind ∷ any_file ∷ a_moment ∷ []) any_more
+        (texts words.now) }
 {
     match words {
         [kind, rest @ ..] => {
-            if is_dashed(kind) {
+            if is_kind(kind) {
+                answer_file(rest)
+            } else if is_dashed(kind) {
                 Answer::WrongBy {
                     cause: "missing: ",
                     word: Named::Ta.word(),
                 }
-            } else if is_kind(kind) {
-                answer_file(rest)
             } else {
                 unknown_kind(kind)
             }
@@ -95,12 +103,14 @@ fn answer_check<'a>(words: &'a [&'a str]) -> Answer<'a>
 
 /// What is answered to a kind of content, and more.
 fn answer_content<'a>(words: &'a [&'a str]) -> Answer<'a>
-    ensures { said result ≡ said_to_content (texts words.now) }
+    ensures { said result ≡ said_in (content_kind ∷ []) any_more (texts words.now) }
 {
     match words {
         [kind, ..] => {
             if is_kind(kind) || *kind == "rta" {
                 Answer::WrongWords
+            } else if is_dashed(kind) {
+                wrong_option(kind)
             } else {
                 unknown_kind(kind)
             }
@@ -114,21 +124,28 @@ fn after_format<'a>(words: &'a [&'a str]) -> &'a [&'a str]
     ensures { texts result.now ≡ after_format (texts words.now) }
 {
     match words {
-        [word, rest @ ..] => { if is_copy(word) { words } else { rest } }
+        [word, rest @ ..] => { if is_format(word) { rest } else { words } }
         [] => words,
     }
 }
 
+/// Whether a word is that of a format.
+fn is_format(word: &str) -> bool
+    ensures { result ≡ is_format word.now }
+{
+    matches!(word, "--csv" | "--json")
+}
+
 /// What is answered to a copy of the repositories and a moment, and more.
-fn answer_copy<'a>(words: &'a [&'a str]) -> Answer<'a>
-    ensures { said result ≡ said_to_copy (texts words.now) }
+fn answer_payloads<'a>(words: &'a [&'a str]) -> Answer<'a>
+    ensures { said result ≡ said_in (a_copy ∷ a_moment ∷ []) any_more (texts words.now) }
 {
     match words {
         [copy, ..] => {
-            if is_dashed(copy) {
-                unknown_option(copy)
-            } else {
+            if is_copy(copy) {
                 answer_file(words)
+            } else {
+                wrong_option(copy)
             }
         }
         [] => Answer::WrongWords,
@@ -137,21 +154,132 @@ fn answer_copy<'a>(words: &'a [&'a str]) -> Answer<'a>
 
 /// What is answered to a file and a moment, and more.
 fn answer_file<'a>(words: &'a [&'a str]) -> Answer<'a>
-    ensures { said result ≡ said_to_file (texts words.now) }
+    ensures { said result ≡ said_in (any_file ∷ a_moment ∷ []) any_more (texts words.now) }
 {
     match words {
         [_, moment, ..] => {
             if names_moment(moment) {
                 Answer::WrongWords
             } else {
-                Answer::WrongBy {
-                    cause: "wrong moment: ",
-                    word: moment,
-                }
+                wrong_moment(moment)
             }
         }
         _ => Answer::WrongWords,
     }
+}
+
+/// What is answered to a file, a moment and a trust anchor, and the words after these.
+fn answer_walk<'a>(words: &'a [&'a str]) -> Answer<'a>
+    ensures { said result ≡ said_in (any_file ∷ a_moment ∷ any_file ∷ []) said_to_tail
+        (texts words.now) }
+{
+    match words {
+        [_, moment, rest @ ..] => {
+            if names_moment(moment) {
+                answer_tail(rest)
+            } else {
+                wrong_moment(moment)
+            }
+        }
+        _ => Answer::WrongWords,
+    }
+}
+
+/// What is answered to a file and a moment, and anchors.
+fn answer_rta<'a>(words: &'a [&'a str]) -> Answer<'a>
+    ensures { said result ≡ said_in (any_file ∷ a_moment ∷ []) said_to_anchors
+        (texts words.now) }
+{
+    match words {
+        [_, moment, anchors @ ..] => {
+            if names_moment(moment) {
+                answer_anchors(anchors)
+            } else {
+                wrong_moment(moment)
+            }
+        }
+        _ => Answer::WrongWords,
+    }
+}
+
+/// What is answered to the words after `verdicts`, which have anchors where the first is `rta`.
+fn answer_verdicts<'a>(words: &'a [&'a str]) -> Answer<'a>
+    ensures { said result ≡ said_to_verdicts (texts words.now) }
+{
+    match words {
+        [word, rest @ ..] => {
+            if *word == "rta" {
+                answer_listed(rest)
+            } else {
+                Answer::WrongWords
+            }
+        }
+        [] => Answer::WrongWords,
+    }
+}
+
+/// What is answered to a file and anchors.
+fn answer_listed<'a>(words: &'a [&'a str]) -> Answer<'a>
+    ensures { said result ≡ said_in (any_file ∷ []) said_to_anchors (texts words.now) }
+{
+    match words {
+        [_, anchors @ ..] => answer_anchors(anchors),
+        [] => Answer::WrongWords,
+    }
+}
+
+/// What is answered to anchors: the first word that is none.
+fn answer_anchors<'a>(words: &'a [&'a str]) -> Answer<'a>
+    ensures { said result ≡ said_to_anchors (texts words.now) }
+{
+    for word in words {
+        if !is_named_anchor(word) {
+            return Answer::WrongBy {
+                cause: "wrong anchor: ",
+                word,
+            };
+        }
+    }
+    Answer::WrongWords
+}
+
+/// Whether a word is an anchor, and its files have names.
+fn is_named_anchor(word: &str) -> bool
+    ensures { result ≡ is_named_anchor word.now }
+{
+    is_anchor(word) && is_named(word)
+}
+
+/// What is answered to a trust anchor and the words after it, which end with pairs.
+fn answer_tail<'a>(words: &'a [&'a str]) -> Answer<'a>
+    ensures { said result ≡ said_in (any_file ∷ []) said_to_tail (texts words.now) }
+{
+    match words {
+        [_, tail @ ..] => answer_pairs(cut_at_with(tail).1),
+        [] => Answer::WrongWords,
+    }
+}
+
+/// What is answered to pairs: the first word that is none.
+fn answer_pairs<'a>(words: &'a [&'a str]) -> Answer<'a>
+    ensures { said result ≡ said_to_pairs (texts words.now) }
+{
+    for word in words {
+        if !is_pair(word) {
+            return Answer::WrongBy {
+                cause: "wrong pair: ",
+                word,
+            };
+        }
+    }
+    Answer::WrongWords
+}
+
+/// Whether a word is a pair of a name and a file.
+fn is_pair(word: &str) -> bool
+    ensures { result ≡ is_pair word.now }
+{
+    !path_of(word).is_empty()
 }
 
 /// What is answered to a word in the place of a kind that is none.
@@ -164,14 +292,54 @@ fn unknown_kind<'a>(word: &'a str) -> Answer<'a>
     }
 }
 
-/// What is answered to an option that there is not, or not here.
-fn unknown_option<'a>(word: &'a str) -> Answer<'a>
-    ensures { said result ≡ unknown_option word.now }
+/// What is answered to a word in the place of a moment that names none.
+fn wrong_moment<'a>(word: &'a str) -> Answer<'a>
+    ensures { said result ≡ wrong_moment word.now }
 {
     Answer::WrongBy {
-        cause: "unknown option: ",
+        cause: "wrong moment: ",
         word,
     }
+}
+
+/// What is answered to an option that can't stand here, or that there is not.
+fn wrong_option<'a>(word: &'a str) -> Answer<'a>
+    ensures { said result ≡ wrong_option word.now }
+{
+    if is_option(word) {
+        Answer::WrongBy {
+            cause: "option out of place: ",
+            word,
+        }
+    } else {
+        Answer::WrongBy {
+            cause: "unknown option: ",
+            word,
+        }
+    }
+}
+
+/// Whether a word is an option of some command, or `--`.
+fn is_option(word: &str) -> bool
+    ensures { result ≡ is_option word.now }
+{
+    is_flag(word) || is_name(word) || word == "--"
+}
+
+/// Whether a word is that of a flag.
+#[tactic(auto, using(crate::proofs::Verified::Wrong::by_flag))]
+fn is_flag(word: &str) -> bool
+    ensures { result ≡ is_flag word.now }
+{
+    flag_of(word).is_some()
+}
+
+/// Whether a word is one after which a value stands.
+#[tactic(auto, using(crate::proofs::Verified::Wrong::by_name))]
+fn is_name(word: &str) -> bool
+    ensures { result ≡ is_name word.now }
+{
+    named_of(word).is_some()
 }
 
 /// Whether a word is that of a kind of signed objects.

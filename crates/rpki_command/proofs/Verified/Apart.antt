@@ -15,8 +15,8 @@ use Rattle.rpki_sigobj.specs.Signed.Kind as signed
 use Rattle.rpki_sigobj.specs.Signed.{Whole}
 use Rattle.rpki_cli.specs.Answer.{Output, out_of_memory}
 use Rattle.rpki_cli.specs.declared.causes.Causes.TheVariants.{Included}
-use Rattle.rpki_cli.specs.declared.verify.requests.ObjectKind.{ObjectKind}
-use Rattle.rpki_cli.specs.declared.verify.requests.ObjectKind.TheVariants.{Signed, Rta}
+use Rattle.rpki_cli.specs.declared.verify.requests.CheckedKind.{CheckedKind}
+use Rattle.rpki_cli.specs.declared.verify.requests.CheckedKind.TheVariants.{Signed, Rta}
 use Rattle.rpki_cli.specs.declared.words.Kind.{Kind}
 use Rattle.rpki_cli.specs.declared.words.Options.{Options}
 use Rattle.rpki_show.specs.Kinds.{OfKind}
@@ -163,12 +163,12 @@ module _ (options : Options) (now : Moment) (locator : Option GivenLocator)
       (supplied_by (by w))) (b.front.only good.object good.rest good.front.found).0
       (granted-same now locator v w good.object same good.holds))
 
-  kind-clash : (kind : ObjectKind) (octets : List ℕ) → HasDistinctKeys kind octets
+  kind-clash : (kind : CheckedKind) (octets : List ℕ) → HasDistinctKeys kind octets
       → IsGoodKind (by v) kind octets → IsRefusedKind (by w) kind octets → ⊥
   kind-clash (Signed kind) octets distinct good refused = signed-clash kind octets good refused
   kind-clash Rta octets distinct good refused = granted-clash octets distinct good refused
 
-  clash-in : (files : List (GivenFile ObjectKind)) → All IsDistinctFile files
+  clash-in : (files : List (GivenFile CheckedKind)) → All IsDistinctFile files
       → All (IsGoodFile (by v)) files → Any (IsRefusedFile (by w)) files → ⊥
   clash-in files distinct good a =
       let file = a.1 in

@@ -1,30 +1,29 @@
 -- Files that are asked about one after the other.
-use Rattle.std.proofs.Common.{◌≡◌, ◌<◌, ◌+◌, ◌∙◌, ℕ, suc, zero, List, [], ◌∷◌, ◌++◌, Vec, Global, Bor}
+use Rattle.std.proofs.Common.{◌≡◌, ◌<◌, ◌+◌, ◌∙◌, ℕ, suc, zero, List, [], ◌∷◌, ◌++◌, Bor}
 use Rattle.std.proofs.Common.{Bool, true, false, refl, ap, sym, subst, arith, length, get_or, take}
 use Rattle.std.proofs.Common.{inr, codes}
 use Rattle.std.proofs.lemmas.List.{flat_map_more, take_more, append_assoc}
 use Rattle.std.proofs.lemmas.Slice.Zip.{all_zipped_more}
 use Rattle.std.specs.List.{AllZip}
 use Rattle.std.specs.Prelude.{◌⊎◌, ◌==◌, if◌then◌else◌}
-use Rattle.rpki_certs.specs.Issuer.{octets_of}
 use Rattle.rpki_cli.specs.Answer.{Output, Printed, out_of_memory}
 use Rattle.rpki_cli.specs.Words.{texts}
-use Rattle.rpki_command.specs.Verify.Each.{GivenFile, asked_in, Entry, entry_text, indented}
-use Rattle.rpki_command.specs.Verify.Each.{common_status, IsEntryOf, AreEntriesOf, PrintsEach}
+use Rattle.rpki_command.specs.Verify.Each.{GivenFile, asked_in, FileAnswer, answer_text, indented}
+use Rattle.rpki_command.specs.Verify.Each.{common_status, IsAnswerOf, AreAnswersOf, PrintsEach}
 use Rattle.rpki_command.specs.Verify.Each.{IsSaidOfEach, Reasons, IsLineFor, IsLineOf}
 use Rattle.rpki_show.specs.Json.File.{file_json}
 use Rattle.rpki_command.specs.Verify.Issuers.{named}
 
 -- the file with this name, kind and octets
-abbrev pub file_of : {K : Type 0} → Bor (List ℕ) → K → Vec ℕ Global → GivenFile K
-file_of name kind octets = record { name = name.now; kind = kind; octets = octets.items }
+abbrev pub file_of : {K : Type 0} → Bor (List ℕ) → K → List ℕ → GivenFile K
+file_of name kind octets = record { name = name.now; kind = kind; octets = octets }
 
 one-asked : {K : Type 0} (names : List (Bor (List ℕ))) (kinds : List K)
-    (files : List (Vec ℕ Global)) (i : ℕ) (n : Bor (List ℕ)) (k : K) (f : Vec ℕ Global)
+    (files : List (List ℕ)) (i : ℕ) (n : Bor (List ℕ)) (k : K) (f : List ℕ)
     → i < length names → i < length kinds → i < length files → n ≡ get_or names i n
     → k ≡ get_or kinds i k → f ≡ get_or files i f
-    → asked_in (take (suc i) (texts names)) kinds (octets_of files)
-    ≡ asked_in (take i (texts names)) kinds (octets_of files) ++ file_of n k f ∷ []
+    → asked_in (take (suc i) (texts names)) kinds files
+    ≡ asked_in (take i (texts names)) kinds files ++ file_of n k f ∷ []
 one-asked [] kinds files i n k f a b c d e g = absurd (omega arith)
 one-asked (m ∷ names) [] files i n k f a b c d e g = absurd (omega arith)
 one-asked (m ∷ names) (l ∷ kinds) [] i n k f a b c d e g = absurd (omega arith)
@@ -34,7 +33,7 @@ one-asked {K} (m ∷ names) (l ∷ kinds) (o ∷ files) zero n k f a b c d e g =
     let r : f ≡ o = g in
     let P : GivenFile K → List (GivenFile K) = λ x. x ∷ [] in
     ap P (ap (λ (x : Bor (List ℕ)). file_of x l o) (sym p)
-    ∙ ap (λ (x : K). file_of n x o) (sym q) ∙ ap (λ (x : Vec ℕ Global). file_of n k x) (sym r))
+    ∙ ap (λ (x : K). file_of n x o) (sym q) ∙ ap (λ (x : List ℕ). file_of n k x) (sym r))
 one-asked {K} (m ∷ names) (l ∷ kinds) (o ∷ files) (suc i) n k f a b c d e g =
     ap (λ (fs : List (GivenFile K)). file_of m l o ∷ fs)
     (one-asked names kinds files i n k f (omega (arith, a)) (omega (arith, b)) (omega (arith, c))
@@ -49,27 +48,25 @@ same-at (x ∷ xs) (suc i) c d l = same-at xs i c d (omega (arith, l))
 
 -- one more of the files is asked about
 pub asked-more : {K : Type 0} (names : List (Bor (List ℕ))) (kinds : List K)
-    (files : List (Vec ℕ Global)) (asked items : List (GivenFile K)) (i : ℕ) (d : Bor (List ℕ))
-    (k : K) (f : Vec ℕ Global) (octets : List ℕ)
-    → asked ≡ asked_in (take i (texts names)) kinds (octets_of files)
+    (files : List (List ℕ)) (asked items : List (GivenFile K)) (i : ℕ) (d : Bor (List ℕ))
+    (k : K) (f : List ℕ)
+    → asked ≡ asked_in (take i (texts names)) kinds files
     → i < length names → i < length kinds → i < length files
-    → k ≡ get_or kinds i k → f ≡ get_or files i f → octets ≡ f.items
-    → items
-    ≡ asked ++ record { name = (get_or names i d).now; kind = k; octets = octets } ∷ []
-    → items ≡ asked_in (take (i + 1) (texts names)) kinds (octets_of files)
-asked-more {K} names kinds files asked items i d k f octets so a b c e g o is =
+    → k ≡ get_or kinds i k → f ≡ get_or files i f
+    → items ≡ asked ++ record { name = (get_or names i d).now; kind = k; octets = f } ∷ []
+    → items ≡ asked_in (take (i + 1) (texts names)) kinds files
+asked-more {K} names kinds files asked items i d k f so a b c e g is =
     let next : suc i ≡ i + 1 = omega arith in
     let n : Bor (List ℕ) = get_or names i d in
     let at : n ≡ get_or names i n = same-at names i d n a in
     is
-    ∙ ap (λ (x : List ℕ). asked ++ record { name = n.now; kind = k; octets = x } ∷ []) o
     ∙ ap (λ (fs : List (GivenFile K)). fs ++ file_of n k f ∷ []) so
     ∙ sym (one-asked names kinds files i n k f a b c at e g)
-    ∙ ap (λ (m : ℕ). asked_in (take m (texts names)) kinds (octets_of files)) next
+    ∙ ap (λ (m : ℕ). asked_in (take m (texts names)) kinds files) next
 
 -- ---- entries
 
-status-more : (entries : List Entry) (e : Entry)
+status-more : (entries : List FileAnswer) (e : FileAnswer)
     → common_status (entries ++ e ∷ []) ≡ (if e.status == 0 then common_status entries else 1)
 status-more [] e = refl
 status-more (x ∷ entries) e =
@@ -86,17 +83,17 @@ status-more (x ∷ entries) e =
       ]
     ]
 
-module _ {K : Type 0} (Q : GivenFile K → Entry → Type 0) (written : Entry → List ℕ) where
+module _ {K : Type 0} (Q : GivenFile K → FileAnswer → Type 0) (written : FileAnswer → List ℕ) where
   -- no file has an entry
-  pub entries-none : (files : List (GivenFile K)) → AreEntriesOf Q written (take 0 files) [] 0
+  pub entries-none : (files : List (GivenFile K)) → AreAnswersOf Q written (take 0 files) [] 0
   entries-none files = record { entries = []; each = tt; text_is = refl; status_is = refl }
 
   -- one more has one
-  entry-more : (files : List (GivenFile K)) (i : ℕ) (file : GivenFile K) (e : Entry)
-      (old text : List ℕ) (status next : ℕ) → AreEntriesOf Q written (take i files) old status
+  entry-more : (files : List (GivenFile K)) (i : ℕ) (file : GivenFile K) (e : FileAnswer)
+      (old text : List ℕ) (status next : ℕ) → AreAnswersOf Q written (take i files) old status
       → i < length files → file ≡ get_or files i file → Q file e → text ≡ old ++ written e
       → next ≡ (if e.status == 0 then status else 1)
-      → AreEntriesOf Q written (take (i + 1) files) text next
+      → AreAnswersOf Q written (take (i + 1) files) text next
   entry-more files i file e old text status next h l at is t n =
       let own = e.status in
       let more : take (i + 1) files ≡ take i files ++ file ∷ [] =
@@ -115,16 +112,16 @@ module _ {K : Type 0} (P : GivenFile K → Output → Type 0) where
   -- one more has one in lines
   pub entries-more : (files : List (GivenFile K)) (i : ℕ) (file : GivenFile K)
       (old text said lines name octets : List ℕ) (kind : K) (status next own : ℕ) (s : Output)
-      → AreEntriesOf (IsEntryOf P) entry_text (take i files) old status → i < length files
+      → AreAnswersOf (IsAnswerOf P) answer_text (take i files) old status → i < length files
       → file ≡ get_or files i file
       → ◌≡◌ {A = GivenFile K} (record { name = name; kind = kind; octets = octets }) file
       → P file s → s ≡ Printed said own → lines ≡ said
       → text ≡ old ++ named name (indented lines) → next ≡ (if own == 0 then status else 1)
-      → AreEntriesOf (IsEntryOf P) entry_text (take (i + 1) files) text next
+      → AreAnswersOf (IsAnswerOf P) answer_text (take (i + 1) files) text next
   entries-more files i file old text said lines name octets kind status next own s h l at view p is
       same t n =
-      let e : Entry = record { name = file.name; text = said; status = own } in
-      entry-more (IsEntryOf P) entry_text files i file e old text status next h l at
+      let e : FileAnswer = record { name = file.name; text = said; status = own } in
+      entry-more (IsAnswerOf P) answer_text files i file e old text status next h l at
       (refl, subst (λ (x : Output). P file x) is p)
       (t ∙ ap (λ (f : GivenFile K). old ++ named f.name (indented lines)) view
       ∙ ap (λ (x : List ℕ). old ++ named file.name (indented x)) same) n
@@ -132,14 +129,14 @@ module _ {K : Type 0} (P : GivenFile K → Output → Type 0) where
   -- one more has one in JSON
   pub lines-more : (reasons : Reasons) (type : K → List ℕ) (files : List (GivenFile K)) (i : ℕ)
       (file : GivenFile K) (old text line : List ℕ) (status next own : ℕ) (s : Output)
-      → AreEntriesOf (IsLineOf reasons type P) (λ e. e.text) (take i files) old status
+      → AreAnswersOf (IsLineOf reasons type P) (λ e. e.text) (take i files) old status
       → i < length files → file ≡ get_or files i file → P file s
       → IsLineFor reasons file.name (type file.kind) s line own → text ≡ old ++ line
       → next ≡ (if own == 0 then status else 1)
-      → AreEntriesOf (IsLineOf reasons type P) (λ e. e.text) (take (i + 1) files) text next
+      → AreAnswersOf (IsLineOf reasons type P) (λ e. e.text) (take (i + 1) files) text next
   lines-more reasons type files i file old text line status next own s h l at p is t n =
-      let e : Entry = record { name = file.name; text = line; status = own } in
-      entry-more (IsLineOf reasons type P) (λ (x : Entry). x.text) files i file e old text status
+      let e : FileAnswer = record { name = file.name; text = line; status = own } in
+      entry-more (IsLineOf reasons type P) (λ (x : FileAnswer). x.text) files i file e old text status
       next h l at (record { name_is = refl; answer = s; is = p; line = is }) t n
 
   -- ---- one file, and several
@@ -152,7 +149,7 @@ module _ {K : Type 0} (P : GivenFile K → Output → Type 0) where
   of-one (x ∷ y ∷ files) file s l at h = absurd (omega arith)
 
   pub of-others : (files : List (GivenFile K)) (s : Output) → ¬ (length files ≡ 1)
-      → (s ≡ out_of_memory) ⊎ PrintsEach (IsEntryOf P) entry_text files s
+      → (s ≡ out_of_memory) ⊎ PrintsEach (IsAnswerOf P) answer_text files s
       → IsSaidOfEach P files s
   of-others [] s l h = h
   of-others (x ∷ []) s l h = absurd (l refl)

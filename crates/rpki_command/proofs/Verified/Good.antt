@@ -41,8 +41,8 @@ use Rattle.rpki_command.specs.Check.{passes, yes_line, validation_refusal, IsChe
 use Rattle.rpki_command.specs.Verify.Checks.{CheckedFiles, IsLocatorOf, IsSaidOfFiles, SaidUnder}
 use Rattle.rpki_command.specs.Verify.Checks.{IsSaidUnissued}
 use Rattle.rpki_command.specs.Verify.Checks.{SaidWithLists, bad_list}
-use Rattle.rpki_command.specs.Verify.Each.{GivenFile, Entry, common_status, IsEntryOf, IsSaidOfEach}
-use Rattle.rpki_command.specs.Verify.Each.{PrintsEach, entry_text, Reasons, IsLineFor, IsLineOf}
+use Rattle.rpki_command.specs.Verify.Each.{GivenFile, FileAnswer, common_status, IsAnswerOf, IsSaidOfEach}
+use Rattle.rpki_command.specs.Verify.Each.{PrintsEach, answer_text, Reasons, IsLineFor, IsLineOf}
 use Rattle.rpki_command.specs.Verify.Each.{IsSaidInJson}
 use Rattle.rpki_command.specs.Verify.Good.{BeginsWithUnrevoked, IsGoodKind, IsGoodFile, AreGood}
 use Rattle.rpki_command.specs.Verify.Issuers.{GivenLocator, no_issuer, IsNoIssuerSaid}
@@ -50,8 +50,8 @@ use Rattle.rpki_command.specs.Verify.Objects.{Grounds, IsSaidOfObject, IsJudgedA
 use Rattle.rpki_command.specs.Verify.Objects.{IsJudgementSaid, IsSaidOfKind, IsSaidOfRtaAs}
 use Rattle.rpki_command.specs.Verify.Objects.{IsKindInJson, IsObjectInJson, IsSaidOfObjects}
 use Rattle.rpki_command.specs.Verify.Objects.{granted_json, object_word}
-use Rattle.rpki_cli.specs.declared.verify.requests.ObjectKind.{ObjectKind}
-use Rattle.rpki_cli.specs.declared.verify.requests.ObjectKind.TheVariants.{Signed, Rta}
+use Rattle.rpki_cli.specs.declared.verify.requests.CheckedKind.{CheckedKind}
+use Rattle.rpki_cli.specs.declared.verify.requests.CheckedKind.TheVariants.{Signed, Rta}
 use Rattle.rpki_command.specs.Rta.{IsRtaSaid, granted_text}
 use Rattle.rpki_command.specs.Verify.Revoked.{GivenList, IsGivenList, IsUnrevoked}
 use Rattle.rpki_command.specs.Verify.Revoked.{Revokes, revoked_text}
@@ -69,7 +69,7 @@ use Rattle.rpki_command.proofs.Verified.Issuing.{no-cut}
 -- ---- several files
 
 -- all have status 0 only where the first does
-zero-first : (e : Entry) (entries : List Entry) → common_status (e ∷ entries) ≡ 0
+zero-first : (e : FileAnswer) (entries : List FileAnswer) → common_status (e ∷ entries) ≡ 0
     → (e.status ≡ 0) × (common_status entries ≡ 0)
 zero-first e entries z =
     (elim (e.status == 0) as (λ (b : Bool). (e.status == 0) ≡ b
@@ -79,9 +79,9 @@ zero-first e entries z =
       | false ↦ λ t y. absurd (one y)
     ]) refl z
 
-module _ {K : Type 0} (E : GivenFile K → Entry → Type 0) (Q : GivenFile K → Type 0)
-    (more : (f : GivenFile K) (e : Entry) → E f e → e.status ≡ 0 → Q f) where
-  zip-good : (files : List (GivenFile K)) (entries : List Entry)
+module _ {K : Type 0} (E : GivenFile K → FileAnswer → Type 0) (Q : GivenFile K → Type 0)
+    (more : (f : GivenFile K) (e : FileAnswer) → E f e → e.status ≡ 0 → Q f) where
+  zip-good : (files : List (GivenFile K)) (entries : List FileAnswer)
       → AllZip E files entries → common_status entries ≡ 0 → All Q files
   zip-good [] entries h z = All-nil Q
   zip-good (f ∷ files) [] h z = absurd h
@@ -89,7 +89,7 @@ module _ {K : Type 0} (E : GivenFile K → Entry → Type 0) (Q : GivenFile K �
       let p = zero-first e entries z in
       All-cons Q f files (more f e h.0 p.0) (zip-good files entries h.1 p.1)
 
-  printed-good : (written : Entry → List ℕ) (files : List (GivenFile K)) (s : Output)
+  printed-good : (written : FileAnswer → List ℕ) (files : List (GivenFile K)) (s : Output)
       → (s ≡ out_of_memory) ⊎ PrintsEach E written files s → status_of s ≡ 0 → All Q files
   printed-good written files s (inl e) z = absurd (other-status s out_of_memory 0 z e three)
   printed-good written files s (inr h) z =
@@ -97,7 +97,7 @@ module _ {K : Type 0} (E : GivenFile K → Entry → Type 0) (Q : GivenFile K �
 
 module _ {K : Type 0} (P : GivenFile K → Output → Type 0) (Q : GivenFile K → Type 0)
     (more : (f : GivenFile K) (t : Output) → P f t → status_of t ≡ 0 → Q f) where
-  of-entry : (f : GivenFile K) (e : Entry) → IsEntryOf P f e → e.status ≡ 0 → Q f
+  of-entry : (f : GivenFile K) (e : FileAnswer) → IsAnswerOf P f e → e.status ≡ 0 → Q f
   of-entry f e h z = more f (Printed e.text e.status) h.1 z
 
   -- what follows from a yes to a file follows for each where all have one
@@ -106,14 +106,14 @@ module _ {K : Type 0} (P : GivenFile K → Output → Type 0) (Q : GivenFile K �
   each-good [] s h z = All-nil Q
   each-good (f ∷ []) s h z = All-cons Q f [] (more f s h z) (All-nil Q)
   each-good (f ∷ g ∷ files) s h z =
-      printed-good (IsEntryOf P) Q of-entry entry_text (f ∷ g ∷ files) s h z
+      printed-good (IsAnswerOf P) Q of-entry answer_text (f ∷ g ∷ files) s h z
 
   line-zero : (reasons : Reasons) (name type : List ℕ) (t : Output) (line : List ℕ) (status : ℕ)
       → IsLineFor reasons name type t line status → status ≡ 0 → status_of t ≡ 0
   line-zero reasons name type t line status (inl h) z = ap status_of h.0
   line-zero reasons name type t line status (inr h) z = absurd (one (sym h.3 ∙ z))
 
-  of-line : (reasons : Reasons) (type : K → List ℕ) (f : GivenFile K) (e : Entry)
+  of-line : (reasons : Reasons) (type : K → List ℕ) (f : GivenFile K) (e : FileAnswer)
       → IsLineOf reasons type P f e → e.status ≡ 0 → Q f
   of-line reasons type f e h z = more f h.answer h.is
       (line-zero reasons f.name (type f.kind) h.answer e.text e.status h.line z)
@@ -122,7 +122,7 @@ module _ {K : Type 0} (P : GivenFile K → Output → Type 0) (Q : GivenFile K �
   pub json-good : (reasons : Reasons) (type : K → List ℕ) (files : List (GivenFile K)) (s : Output)
       → IsSaidInJson reasons type P files s → status_of s ≡ 0 → All Q files
   json-good reasons type files s h z =
-      printed-good (IsLineOf reasons type P) Q (of-line reasons type) (λ (e : Entry). e.text) files
+      printed-good (IsLineOf reasons type P) Q (of-line reasons type) (λ (e : FileAnswer). e.text) files
       s h z
 
 none-good : {K : Type 0} (files : List (GivenFile K)) → ¬ (files ≡ [])
@@ -266,27 +266,27 @@ granted-good g text octets s (inl e) zero =
 granted-good g text octets s (inr c) zero =
     granted-result (supplied_by g) g.now octets s text zero c.result c.exact c.said
 
-kind-good : (g : Grounds) (kind : ObjectKind) (octets : List ℕ) (s : Output)
+kind-good : (g : Grounds) (kind : CheckedKind) (octets : List ℕ) (s : Output)
     → IsSaidOfKind g kind octets s → status_of s ≡ 0 → IsGoodKind g kind octets
 kind-good g (Signed kind) octets s h zero =
     row-good g kind octets s (λ X text members x. yes_line ++ text x) zero h
 kind-good g Rta octets s h zero = granted-good g granted_text octets s h zero
 
-file-good : (g : Grounds) (file : GivenFile ObjectKind) (s : Output) → IsSaidOfObject g file s
+file-good : (g : Grounds) (file : GivenFile CheckedKind) (s : Output) → IsSaidOfObject g file s
     → status_of s ≡ 0 → IsGoodFile g file
 file-good g file s h zero = kind-good g file.kind file.octets s h zero
 
-json-kind-good : (g : Grounds) (kind : ObjectKind) (name octets : List ℕ) (s : Output)
+json-kind-good : (g : Grounds) (kind : CheckedKind) (name octets : List ℕ) (s : Output)
     → IsKindInJson g kind name octets s → status_of s ≡ 0 → IsGoodKind g kind octets
 json-kind-good g (Signed kind) name octets s h zero = row-good g kind octets s
     (λ X text members x. file_json name (kind_word kind) (valid_members (members x))) zero h
 json-kind-good g Rta name octets s h zero = granted-good g (granted_json name) octets s h zero
 
-json-file-good : (g : Grounds) (file : GivenFile ObjectKind) (s : Output) → IsObjectInJson g file s
+json-file-good : (g : Grounds) (file : GivenFile CheckedKind) (s : Output) → IsObjectInJson g file s
     → status_of s ≡ 0 → IsGoodFile g file
 json-file-good g file s h zero = json-kind-good g file.kind file.name file.octets s h zero
 
-objects-good : (json : Bool) (g : Grounds) (files : List (GivenFile ObjectKind)) (s : Output)
+objects-good : (json : Bool) (g : Grounds) (files : List (GivenFile CheckedKind)) (s : Output)
     → IsSaidOfObjects json g files s → status_of s ≡ 0 → All (IsGoodFile g) files
 objects-good false g files s h z =
     each-good (IsSaidOfObject g) (IsGoodFile g) (file-good g) files s h z
@@ -338,7 +338,7 @@ module _ (m : Manner) (f : CheckedFiles) (some : ¬ (f.objects ≡ [])) (s : Out
   unissued : (json : Bool) (refusal : NoIssuer) → IsSaidUnissued json refusal f.objects s → ⊥
   unissued false refusal h = no-issuer-said refusal s h zero
   unissued true refusal h = none-good f.objects some (json-good
-      (λ (file : GivenFile ObjectKind). IsNoIssuerSaid refusal) (λ (file : GivenFile ObjectKind). ⊥)
+      (λ (file : GivenFile CheckedKind). IsNoIssuerSaid refusal) (λ (file : GivenFile CheckedKind). ⊥)
       (λ file t is z. no-issuer-said refusal t is z) invalid_members object_word f.objects s h zero)
 
   module _ (locator : Option GivenLocator) (located : IsLocatorOf f.locator (Ok locator)) where

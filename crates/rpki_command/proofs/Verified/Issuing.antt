@@ -1,12 +1,12 @@
 -- Certificates of a chain, one after the other, where their files have names.
 use Rattle.std.proofs.Common.{◌≡◌, ◌∙◌, ℕ, List, [], ◌∷◌, ◌++◌, Result, Ok, Err, Option, Some, None}
-use Rattle.std.proofs.Common.{Bor, Vec, Global, refl, sym, ap, subst, inr, append_assoc}
+use Rattle.std.proofs.Common.{Bor, refl, sym, ap, subst, inr, append_assoc}
 use Rattle.std.proofs.lemmas.List.{map-append}
 use Rattle.std.proofs.lemmas.List.Elements.{All-nil}
 use Rattle.std.specs.List.{zip}
 use Rattle.std.specs.Prelude.{IfSome, ◌↔◌}
 use Rattle.rpki_basics.specs.Moment.{Moment}
-use Rattle.rpki_certs.specs.Issuer.{octets_of, IsIssued, Then, Follows, MakesIssuer}
+use Rattle.rpki_certs.specs.Issuer.{IsIssued, Then, Follows, MakesIssuer}
 use Rattle.rpki_certs.specs.Validate.{Validated}
 use Rattle.rpki_certs.specs.Verify.{Verdict}
 use Rattle.rpki_certs.specs.declared.issuer.IssuerError.{IssuerError}
@@ -83,18 +83,18 @@ cut-more {A} P (d ∷ done) x all at (b ∷ before) y after e =
 -- the certificates so far make this issuer, and the others are left
 pub record IsIssuerTo (verdict : Verdict) (now : Moment) (certs : CertFiles)
     (locator : Option GivenLocator) (lists : List GivenList) (issuer : Validated)
-    (names : List (List ℕ)) (files : List (Vec ℕ Global)) : Type 0 where
+    (names : List (List ℕ)) (files : List (List ℕ)) : Type 0 where
   pub done : List File
   pub is : AreDoneTo certs.chain done names files
   pub made : IsIssuerOf verdict now (under certs done) locator lists issuer
 
 module _ (verdict : Verdict) (now : Moment) (certs : CertFiles) (locator : Option GivenLocator)
     (lists : List GivenList) (issuer : Validated) (names rest : List (List ℕ))
-    (files others : List (Vec ℕ Global)) (name : List ℕ) (v : Vec ℕ Global)
+    (files others : List (List ℕ)) (name : List ℕ) (v : List ℕ)
     (so : IsIssuerTo verdict now certs locator lists issuer names files)
     (first : names ≡ name ∷ rest) (second : files ≡ v ∷ others) where
   abbrev file : File
-  file = (name, v.items)
+  file = (name, v)
 
   pub issuer-more : (next : Validated)
       → IsNextMade verdict now lists issuer file (Ok next)
@@ -117,14 +117,14 @@ module _ (verdict : Verdict) (now : Moment) (certs : CertFiles) (locator : Optio
       → IsFirstIn verdict now certs locator lists other Q
   at other e Q h = record {
     before = so.done;
-    octets = v.items;
-    after = zip rest (octets_of others);
+    octets = v;
+    after = zip rest others;
     cut = subst (λ (n : List ℕ).
-        certs.chain ≡ so.done ++ (n, v.items) ∷ zip rest (octets_of others)) (sym e)
+        certs.chain ≡ so.done ++ (n, v) ∷ zip rest others) (sym e)
         (next-cut certs.chain so.done names rest files others name v so.is first second);
     issuer = issuer;
     made = so.made;
-    refused = subst (λ (n : List ℕ). Q issuer (under certs (so.done ++ (n, v.items) ∷ []))) (sym e) h;
+    refused = subst (λ (n : List ℕ). Q issuer (under certs (so.done ++ (n, v) ∷ []))) (sym e) h;
   }
 
   refused-at : (other : List ℕ) → other ≡ name → (fault : IssuerFault)

@@ -15,8 +15,8 @@ use Rattle.rpki_sigobj.specs.Signed.Kind as signed
 use Rattle.rpki_cli.specs.Answer.{Output, out_of_memory, bad_locator, refused, shown}
 use Rattle.rpki_cli.specs.Words.{kind_word}
 use Rattle.rpki_cli.specs.declared.causes.Causes.TheVariants.{Included}
-use Rattle.rpki_cli.specs.declared.verify.requests.ObjectKind.{ObjectKind}
-use Rattle.rpki_cli.specs.declared.verify.requests.ObjectKind.TheVariants.{Signed, Rta}
+use Rattle.rpki_cli.specs.declared.verify.requests.CheckedKind.{CheckedKind}
+use Rattle.rpki_cli.specs.declared.verify.requests.CheckedKind.TheVariants.{Signed, Rta}
 use Rattle.rpki_cli.specs.declared.words.Kind.{Kind}
 use Rattle.rpki_cli.specs.declared.words.Kind.TheVariants.{Aspa, Manifest, Roa, Rsc}
 use Rattle.rpki_json.specs.Members.{Member}
@@ -28,7 +28,7 @@ use Rattle.rpki_command.specs.Check.{validation_refusal}
 use Rattle.rpki_command.specs.Rta.{IsRtaSaid}
 use Rattle.rpki_command.specs.Verify.Checks.{CheckedFiles, IsSaidOfFiles, SaidUnder, SaidWithLists}
 use Rattle.rpki_command.specs.Verify.Checks.{IsSaidUnissued, bad_list}
-use Rattle.rpki_command.specs.Verify.Each.{GivenFile, Entry, IsLineFor, IsLineOf, IsSaidInJson}
+use Rattle.rpki_command.specs.Verify.Each.{GivenFile, FileAnswer, IsLineFor, IsLineOf, IsSaidInJson}
 use Rattle.rpki_command.specs.Verify.Each.{printed}
 use Rattle.rpki_command.specs.Verify.Issuers.{GivenLocator, IsNoIssuerSaid}
 use Rattle.rpki_command.specs.Verify.Lines.{IsFileLine, PrintsLines}
@@ -105,7 +105,7 @@ module _ (s : Output) (line : List ℕ) (is : s ≡ shown line) (text : KeptWhol
   rta-shown g octets (inr c) = rta-result c.result c.said
 
 -- what is shown of a kind in JSON is an object with the name of the file
-kind-line : (g : Grounds) (kind : ObjectKind) (name octets : List ℕ) (s : Output) (line : List ℕ)
+kind-line : (g : Grounds) (kind : CheckedKind) (name octets : List ℕ) (s : Output) (line : List ℕ)
     → s ≡ shown line → IsKindInJson g kind name octets s
     → (members : List Member) × (line ≡ file_json name (object_word kind) members)
 kind-line g (Signed kind) name octets s line is h =
@@ -129,39 +129,39 @@ kind-line g Rta name octets s line is h =
 -- ---- lines
 
 -- what is said of a file may be the line that is shown of it
-abbrev Shows : (GivenFile ObjectKind → Output → Type 0) → Type 0
-Shows P = (file : GivenFile ObjectKind) (s : Output) (line : List ℕ) → s ≡ shown line → P file s
+abbrev Shows : (GivenFile CheckedKind → Output → Type 0) → Type 0
+Shows P = (file : GivenFile CheckedKind) (s : Output) (line : List ℕ) → s ≡ shown line → P file s
     → IsFileLine file line
 
-texts-of : (entries : List Entry)
-    → flat_map (λ (e : Entry). e.text) entries
-    ≡ flat_map (λ (line : List ℕ). line) (map (λ (e : Entry). e.text) entries)
+texts-of : (entries : List FileAnswer)
+    → flat_map (λ (e : FileAnswer). e.text) entries
+    ≡ flat_map (λ (line : List ℕ). line) (map (λ (e : FileAnswer). e.text) entries)
 texts-of [] = refl
 texts-of (e ∷ entries) = ap (λ (rest : List ℕ). e.text ++ rest) (texts-of entries)
 
-module _ (P : GivenFile ObjectKind → Output → Type 0) (shows : Shows P) where
-  line-for : (file : GivenFile ObjectKind) (s : Output) (line : List ℕ) (status : ℕ) → P file s
+module _ (P : GivenFile CheckedKind → Output → Type 0) (shows : Shows P) where
+  line-for : (file : GivenFile CheckedKind) (s : Output) (line : List ℕ) (status : ℕ) → P file s
       → IsLineFor invalid_members file.name (object_word file.kind) s line status
       → IsFileLine file line
   line-for file s line status h (inl l) = shows file s line l.0 h
   line-for file s line status h (inr l) =
       record { members = invalid_members l.0; is = l.2 }
 
-  each-line : (files : List (GivenFile ObjectKind)) (entries : List Entry)
+  each-line : (files : List (GivenFile CheckedKind)) (entries : List FileAnswer)
       → AllZip (IsLineOf invalid_members object_word P) files entries
-      → AllZip IsFileLine files (map (λ (e : Entry). e.text) entries)
+      → AllZip IsFileLine files (map (λ (e : FileAnswer). e.text) entries)
   each-line [] [] h = tt
   each-line [] (e ∷ entries) h = absurd h
   each-line (f ∷ files) [] h = absurd h
   each-line (f ∷ files) (e ∷ entries) h =
       (line-for f h.0.answer e.text e.status h.0.is h.0.line, each-line files entries h.1)
 
-  pub lines-said : (files : List (GivenFile ObjectKind)) (s : Output)
+  pub lines-said : (files : List (GivenFile CheckedKind)) (s : Output)
       → IsSaidInJson invalid_members object_word P files s → status_of s < 2 → PrintsLines files s
   lines-said files s (inl e) l =
       let three_is : status_of s ≡ 3 = ap status_of e in absurd (omega (arith, l, three_is))
   lines-said files s (inr h) l = record {
-    lines = map (λ (e : Entry). e.text) h.2.entries;
+    lines = map (λ (e : FileAnswer). e.text) h.2.entries;
     each = each-line files h.2.entries h.2.each;
     status = h.1;
     said = h.3 ∙ ap (λ (text : List ℕ). printed text h.1)

@@ -33,8 +33,8 @@ use Rattle.rpki_cli.specs.Answer.{Output, Printed, out_of_memory, bad_locator, s
 use Rattle.rpki_cli.specs.Refusal.{IsRefusal}
 use Rattle.rpki_cli.specs.Words.{kind_word}
 use Rattle.rpki_cli.specs.declared.causes.Causes.TheVariants.{Included}
-use Rattle.rpki_cli.specs.declared.verify.requests.ObjectKind.{ObjectKind}
-use Rattle.rpki_cli.specs.declared.verify.requests.ObjectKind.TheVariants.{Signed, Rta}
+use Rattle.rpki_cli.specs.declared.verify.requests.CheckedKind.{CheckedKind}
+use Rattle.rpki_cli.specs.declared.verify.requests.CheckedKind.TheVariants.{Signed, Rta}
 use Rattle.rpki_cli.specs.declared.words.Kind.{Kind}
 use Rattle.rpki_json.specs.Members.{Member}
 use Rattle.rpki_show.proofs.Shown.{refusal-said}
@@ -46,8 +46,8 @@ use Rattle.rpki_command.specs.Check.{passes, yes_line, validation_refusal}
 use Rattle.rpki_command.specs.Rta.{IsRtaSaid, granted_text}
 use Rattle.rpki_command.specs.Verify.Checks.{CheckedFiles, IsLocatorOf, IsSaidOfFiles, SaidUnder}
 use Rattle.rpki_command.specs.Verify.Checks.{SaidWithLists, bad_list, IsSaidUnissued}
-use Rattle.rpki_command.specs.Verify.Each.{GivenFile, Entry, common_status, IsEntryOf, IsSaidOfEach}
-use Rattle.rpki_command.specs.Verify.Each.{PrintsEach, entry_text, Reasons, IsLineFor, IsLineOf}
+use Rattle.rpki_command.specs.Verify.Each.{GivenFile, FileAnswer, common_status, IsAnswerOf, IsSaidOfEach}
+use Rattle.rpki_command.specs.Verify.Each.{PrintsEach, answer_text, Reasons, IsLineFor, IsLineOf}
 use Rattle.rpki_command.specs.Verify.Each.{IsSaidInJson}
 use Rattle.rpki_command.specs.Verify.Good.{BeginsWithRefused, IsRefusedKind, IsRefusedFile}
 use Rattle.rpki_command.specs.Verify.Good.{AreRefused}
@@ -98,9 +98,9 @@ any-later P x xs a = (suc a.0, a.1, omega (arith, a.2), a.3, a.4)
 not-zero : (n : ℕ) → (n == 0) ≡ false → n ≡ 0 → ⊥
 not-zero n f z = let t : (n == 0) ≡ true = rw z refl in absurd cc
 
-module _ {K : Type 0} (E : GivenFile K → Entry → Type 0) (Q : GivenFile K → Type 0)
-    (more : (f : GivenFile K) (e : Entry) → E f e → ¬ (e.status ≡ 0) → Q f) where
-  zip-refused : (files : List (GivenFile K)) (entries : List Entry)
+module _ {K : Type 0} (E : GivenFile K → FileAnswer → Type 0) (Q : GivenFile K → Type 0)
+    (more : (f : GivenFile K) (e : FileAnswer) → E f e → ¬ (e.status ≡ 0) → Q f) where
+  zip-refused : (files : List (GivenFile K)) (entries : List FileAnswer)
       → AllZip E files entries → ¬ (common_status entries ≡ 0) → Any Q files
   zip-refused [] [] h n = absurd (n refl)
   zip-refused [] (e ∷ entries) h n = absurd h
@@ -112,7 +112,7 @@ module _ {K : Type 0} (E : GivenFile K → Entry → Type 0) (Q : GivenFile K �
         | false ↦ λ t k. any-here Q f files (more f e h.0 (not-zero e.status t))
       ]) refl n
 
-  printed-refused : (written : Entry → List ℕ) (files : List (GivenFile K)) (s : Output)
+  printed-refused : (written : FileAnswer → List ℕ) (files : List (GivenFile K)) (s : Output)
       → (s ≡ out_of_memory) ⊎ PrintsEach E written files s → IsNo s → Any Q files
   printed-refused written files s (inl e) n = absurd (n.0 e)
   printed-refused written files s (inr h) n = zip-refused files h.2.entries h.2.each
@@ -120,15 +120,15 @@ module _ {K : Type 0} (E : GivenFile K → Entry → Type 0) (Q : GivenFile K �
 
 module _ {K : Type 0} (P : GivenFile K → Output → Type 0) (Q : GivenFile K → Type 0)
     (more : (f : GivenFile K) (t : Output) → P f t → IsNo t → Q f) where
-  of-entry : (f : GivenFile K) (e : Entry) → IsEntryOf P f e → ¬ (e.status ≡ 0) → Q f
+  of-entry : (f : GivenFile K) (e : FileAnswer) → IsAnswerOf P f e → ¬ (e.status ≡ 0) → Q f
   of-entry f e h n = more f (Printed e.text e.status) h.1 (not-printed e.text e.status, n)
 
   pub each-refused : (files : List (GivenFile K)) (s : Output) → IsSaidOfEach P files s → IsNo s
       → Any Q files
-  each-refused [] s h n = printed-refused (IsEntryOf P) Q of-entry entry_text [] s h n
+  each-refused [] s h n = printed-refused (IsAnswerOf P) Q of-entry answer_text [] s h n
   each-refused (f ∷ []) s h n = any-here Q f [] (more f s h n)
   each-refused (f ∷ g ∷ files) s h n =
-      printed-refused (IsEntryOf P) Q of-entry entry_text (f ∷ g ∷ files) s h n
+      printed-refused (IsAnswerOf P) Q of-entry answer_text (f ∷ g ∷ files) s h n
 
   line-no : (reasons : Reasons) (name type : List ℕ) (t : Output) (line : List ℕ) (status : ℕ)
       → IsLineFor reasons name type t line status → ¬ (status ≡ 0) → IsNo t
@@ -138,7 +138,7 @@ module _ {K : Type 0} (P : GivenFile K → Output → Type 0) (Q : GivenFile K �
     λ z. zero-not-one (sym z ∙ ap status_of h.1),
   )
 
-  of-line : (reasons : Reasons) (type : K → List ℕ) (f : GivenFile K) (e : Entry)
+  of-line : (reasons : Reasons) (type : K → List ℕ) (f : GivenFile K) (e : FileAnswer)
       → IsLineOf reasons type P f e → ¬ (e.status ≡ 0) → Q f
   of-line reasons type f e h n = more f h.answer h.is
       (line-no reasons f.name (type f.kind) h.answer e.text e.status h.line n)
@@ -146,7 +146,7 @@ module _ {K : Type 0} (P : GivenFile K → Output → Type 0) (Q : GivenFile K �
   pub json-refused : (reasons : Reasons) (type : K → List ℕ) (files : List (GivenFile K))
       (s : Output) → IsSaidInJson reasons type P files s → IsNo s → Any Q files
   json-refused reasons type files s h n = printed-refused (IsLineOf reasons type P) Q
-      (of-line reasons type) (λ (e : Entry). e.text) files s h n
+      (of-line reasons type) (λ (e : FileAnswer). e.text) files s h n
 
 -- ---- one object
 
@@ -270,27 +270,27 @@ ungranted g text octets s (inl e) denied = absurd (denied.0 e)
 ungranted g text octets s (inr c) denied =
     ungranted-result (supplied_by g) g.now octets s text denied c.result c.exact c.said
 
-kind-refused : (g : Grounds) (kind : ObjectKind) (octets : List ℕ) (s : Output)
+kind-refused : (g : Grounds) (kind : CheckedKind) (octets : List ℕ) (s : Output)
     → IsSaidOfKind g kind octets s → IsNo s → IsRefusedKind g kind octets
 kind-refused g (Signed kind) octets s h denied =
     row-refused g kind octets s (λ X text members x. yes_line ++ text x) denied h
 kind-refused g Rta octets s h denied = ungranted g granted_text octets s h denied
 
-file-refused : (g : Grounds) (file : GivenFile ObjectKind) (s : Output) → IsSaidOfObject g file s
+file-refused : (g : Grounds) (file : GivenFile CheckedKind) (s : Output) → IsSaidOfObject g file s
     → IsNo s → IsRefusedFile g file
 file-refused g file s h denied = kind-refused g file.kind file.octets s h denied
 
-json-kind-refused : (g : Grounds) (kind : ObjectKind) (name octets : List ℕ) (s : Output)
+json-kind-refused : (g : Grounds) (kind : CheckedKind) (name octets : List ℕ) (s : Output)
     → IsKindInJson g kind name octets s → IsNo s → IsRefusedKind g kind octets
 json-kind-refused g (Signed kind) name octets s h denied = row-refused g kind octets s
     (λ X text members x. file_json name (kind_word kind) (valid_members (members x))) denied h
 json-kind-refused g Rta name octets s h denied = ungranted g (granted_json name) octets s h denied
 
-json-file-refused : (g : Grounds) (file : GivenFile ObjectKind) (s : Output)
+json-file-refused : (g : Grounds) (file : GivenFile CheckedKind) (s : Output)
     → IsObjectInJson g file s → IsNo s → IsRefusedFile g file
 json-file-refused g file s h denied = json-kind-refused g file.kind file.name file.octets s h denied
 
-objects-refused : (json : Bool) (g : Grounds) (files : List (GivenFile ObjectKind)) (s : Output)
+objects-refused : (json : Bool) (g : Grounds) (files : List (GivenFile CheckedKind)) (s : Output)
     → IsSaidOfObjects json g files s → IsNo s → Any (IsRefusedFile g) files
 objects-refused false g files s h denied =
     each-refused (IsSaidOfObject g) (IsRefusedFile g) (file-refused g) files s h denied
@@ -311,8 +311,8 @@ module _ (m : Manner) (f : CheckedFiles) (s : Output) (one : status_of s ≡ 1) 
       → no_issuer refusal.file.now refusal.fault ≡ out_of_memory → ⊥
   said-of-one false refusal h e = has-memory refusal s h (no-of-one s one) e
   said-of-one true refusal h e =
-      let said = json-refused (λ (file : GivenFile ObjectKind). IsNoIssuerSaid refusal)
-      (λ (file : GivenFile ObjectKind). no_issuer refusal.file.now refusal.fault ≡ out_of_memory → ⊥)
+      let said = json-refused (λ (file : GivenFile CheckedKind). IsNoIssuerSaid refusal)
+      (λ (file : GivenFile CheckedKind). no_issuer refusal.file.now refusal.fault ≡ out_of_memory → ⊥)
       (λ file t is n. has-memory refusal t is n) invalid_members object_word f.objects s h
       (no-of-one s one) in
       said.4 e

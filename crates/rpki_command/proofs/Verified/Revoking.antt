@@ -1,5 +1,5 @@
 -- Which list revokes a certificate first.
-use Rattle.std.proofs.Common.{◌≡◌, ◌<◌, ◌+◌, ◌∙◌, ℕ, suc, List, [], ◌∷◌, ◌++◌, All, Err, Vec, Global}
+use Rattle.std.proofs.Common.{◌≡◌, ◌<◌, ◌+◌, ◌∙◌, ℕ, suc, List, [], ◌∷◌, ◌++◌, All, Err}
 use Rattle.std.proofs.Common.{Bool, true, false, sym, ap, subst, arith, length, get_or, take, drop}
 use Rattle.std.proofs.Math.Seq.{drop-cons}
 use Rattle.std.proofs.lemmas.List.{take-append-drop}
@@ -7,7 +7,6 @@ use Rattle.std.proofs.lemmas.List.Elements.{All-nil, All-cons}
 use Rattle.std.specs.List.{AllZip, zip}
 use Rattle.std.specs.Prelude.{◌↔◌, IsTrue}
 use Rattle.rpki_certs.specs.Cert.{Certificate}
-use Rattle.rpki_certs.specs.Issuer.{octets_of}
 use Rattle.rpki_certs.specs.Verify.{Verdict}
 use Rattle.rpki_crls.specs.Crl.{RevocationList}
 use Rattle.rpki_command.proofs.Verified.Zipped.{AreMadeTo, next-cut}
@@ -63,14 +62,14 @@ are-read (f ∷ files) (l ∷ lists) h =
 
 -- one of the files begins with no list
 pub one-bad : (all : List File) (lists : List GivenList) (names rest : List (List ℕ))
-    (files others : List (Vec ℕ Global)) (name : List ℕ) (v : Vec ℕ Global)
+    (files others : List (List ℕ)) (name : List ℕ) (v : List ℕ)
     → AreMadeTo IsGivenList all lists names files → names ≡ name ∷ rest → files ≡ v ∷ others
-    → (fault : NotLists) → IsOneList (name, v.items) (Err fault) → AreLists all (Err fault)
+    → (fault : NotLists) → IsOneList (name, v) (Err fault) → AreLists all (Err fault)
 one-bad all lists names rest files others name v m first second (Bad same) h = record {
   before = m.done;
-  octets = v.items;
-  after = zip rest (octets_of others);
-  cut = subst (λ (w : List ℕ). all ≡ m.done ++ (w, v.items) ∷ zip rest (octets_of others))
+  octets = v;
+  after = zip rest others;
+  cut = subst (λ (w : List ℕ). all ≡ m.done ++ (w, v) ∷ zip rest others)
       (sym h.0) (next-cut all m.done names rest files others name v m.is first second);
   lists = are-read m.done lists m.each;
   bad = h.1;

@@ -10,7 +10,7 @@ use Rattle.rpki_cli.specs.Store.{Told}
 use Rattle.rpki_cli.specs.Verify.CheckSettings.{check_names}
 use Rattle.rpki_cli.specs.Verify.Requests.{AskedCheck}
 use Rattle.rpki_cli.specs.declared.causes.Causes.TheVariants.{Included}
-use Rattle.rpki_cli.specs.declared.verify.requests.ObjectKind.{ObjectKind}
+use Rattle.rpki_cli.specs.declared.verify.requests.CheckedKind.{CheckedKind}
 use Rattle.rpki_cli.specs.declared.words.Options.{Options}
 use Rattle.rpki_command.specs.Verify.Checks.{CheckedFiles, CheckedOf, IsSaidOfFiles}
 use Rattle.rpki_command.specs.Verify.Command.{PartySays, check_request_task, check_task}
@@ -25,7 +25,7 @@ use Rattle.rpki_command.proofs.Verified.Refused.{files-refused}
 use Rattle.rpki_command.proofs.Verified.Told.{octets_read, names-told, files-same}
 
 -- files of no names are none
-none-told : (told : Told) (names : List (List ℕ)) (objects : List (GivenFile ObjectKind))
+none-told : (told : Told) (names : List (List ℕ)) (objects : List (GivenFile CheckedKind))
     → AllZip (IsToldObject told) names objects → objects ≡ [] → names ≡ []
 none-told told [] objects h e = refl
 none-told told (n ∷ names) [] h e = absurd h

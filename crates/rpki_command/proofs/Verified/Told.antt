@@ -8,7 +8,7 @@ use Rattle.rpki_cli.specs.Command.{AreTold}
 use Rattle.rpki_cli.specs.Store.{Told}
 use Rattle.rpki_cli.specs.Verify.CheckSettings.{CheckValues, check_names, word_given}
 use Rattle.rpki_cli.specs.Verify.Requests.{AskedCheck}
-use Rattle.rpki_cli.specs.declared.verify.requests.ObjectKind.{ObjectKind}
+use Rattle.rpki_cli.specs.declared.verify.requests.CheckedKind.{CheckedKind}
 use Rattle.rpki_command.specs.Verify.Checks.{CheckedFiles, first_of, files_in}
 use Rattle.rpki_command.specs.Verify.Each.{GivenFile, asked_in}
 use Rattle.rpki_command.specs.Verify.Issuers.{octets_in}
@@ -24,8 +24,8 @@ located None = []
 located (Some file) = file ∷ []
 
 -- the octets of each object
-abbrev contents_in : List (GivenFile ObjectKind) → List (List ℕ)
-contents_in objects = map (λ (o : GivenFile ObjectKind). o.octets) objects
+abbrev contents_in : List (GivenFile CheckedKind) → List (List ℕ)
+contents_in objects = map (λ (o : GivenFile CheckedKind). o.octets) objects
 
 -- what a store tells of a file with these octets
 abbrev with_octets : List ℕ → Option (Option (List ℕ))
@@ -51,7 +51,7 @@ module _ (told : Told) where
       two-of (told n) (with_octets f.1) (map told names) (map with_octets (octets_in files)) h.0.1
       (each-octets names files h.1)
 
-  each-content : (names : List (List ℕ)) (objects : List (GivenFile ObjectKind))
+  each-content : (names : List (List ℕ)) (objects : List (GivenFile CheckedKind))
       → AllZip (IsToldObject told) names objects → AreTold told names (contents_in objects)
   each-content [] [] h = refl
   each-content [] (o ∷ objects) h = absurd h
@@ -100,18 +100,18 @@ module _ (told : Told) where
   locator-cut (Some n) (Some f) rest h =
       ap (λ (x : File). let o : Option File = Some x in o) (same-file n f h)
 
-  objects-zipped : (names : List (List ℕ)) (objects : List (GivenFile ObjectKind))
+  objects-zipped : (names : List (List ℕ)) (objects : List (GivenFile CheckedKind))
       → AllZip (IsToldObject told) names objects
-      → asked_in names (map (λ (o : GivenFile ObjectKind). o.kind) objects) (contents_in objects)
+      → asked_in names (map (λ (o : GivenFile CheckedKind). o.kind) objects) (contents_in objects)
       ≡ objects
   objects-zipped [] [] h = refl
   objects-zipped [] (o ∷ objects) h = absurd h
   objects-zipped (n ∷ names) [] h = absurd h
   objects-zipped (n ∷ names) (o ∷ objects) h =
-      two-of {A = GivenFile ObjectKind} (record { name = n; kind = o.kind; octets = o.octets }) o
-      (asked_in names (map (λ (x : GivenFile ObjectKind). x.kind) objects) (contents_in objects))
+      two-of {A = GivenFile CheckedKind} (record { name = n; kind = o.kind; octets = o.octets }) o
+      (asked_in names (map (λ (x : GivenFile CheckedKind). x.kind) objects) (contents_in objects))
       objects
-      (ap (λ (x : List ℕ). let f : GivenFile ObjectKind = record {
+      (ap (λ (x : List ℕ). let f : GivenFile CheckedKind = record {
         name = x;
         kind = o.kind;
         octets = o.octets;
@@ -184,7 +184,7 @@ module _ (told : Told) where
         (drop (length (word_given n.tal)) (drop (length n.cas) from_chain))) ≡ f.objects
     objects-are =
         ap (asked_in n.files c.kinds) after-lists
-        ∙ ap (λ (ks : List ObjectKind). asked_in n.files ks from_objects) (sym are.kinds)
+        ∙ ap (λ (ks : List CheckedKind). asked_in n.files ks from_objects) (sym are.kinds)
         ∙ objects-zipped n.files f.objects are.objects
 
     anchor-is : ◌≡◌ {A = File} (n.ta, f.certs.anchor.1) f.certs.anchor
@@ -218,10 +218,10 @@ module _ (told : Told) where
   locator-told (Some n) [] h = absurd h
   locator-told (Some n) (o ∷ octets) h = h.0
 
-  objects-told : (names : List (List ℕ)) (kinds : List ObjectKind) (octets : List (List ℕ))
+  objects-told : (names : List (List ℕ)) (kinds : List CheckedKind) (octets : List (List ℕ))
       → length kinds ≡ length names → AreTold told names octets
       → AllZip (IsToldObject told) names (asked_in names kinds octets)
-      × (map (λ (o : GivenFile ObjectKind). o.kind) (asked_in names kinds octets) ≡ kinds)
+      × (map (λ (o : GivenFile CheckedKind). o.kind) (asked_in names kinds octets) ≡ kinds)
   objects-told [] [] octets e h = (tt, refl)
   objects-told [] (k ∷ kinds) octets e h = absurd (omega (arith, e))
   objects-told (n ∷ names) [] octets e h = absurd (omega (arith, e))
@@ -231,7 +231,7 @@ module _ (told : Told) where
       let others : map told names ≡ map with_octets octets = cc in
       let r = objects-told names kinds octets (omega (arith, e)) others in (
         ((refl, first), r.0),
-        two-of k k (map (λ (x : GivenFile ObjectKind). x.kind) (asked_in names kinds octets)) kinds
+        two-of k k (map (λ (x : GivenFile CheckedKind). x.kind) (asked_in names kinds octets)) kinds
             refl r.1,
       )
 

@@ -28,8 +28,8 @@ use Rattle.rpki_cli.specs.Answer.{Output, out_of_memory, malformed_text}
 use Rattle.rpki_cli.specs.Answer.{shown}
 use Rattle.rpki_cli.specs.Words.{kind_word}
 use Rattle.rpki_cli.specs.declared.causes.Causes.TheVariants.{Included}
-use Rattle.rpki_cli.specs.declared.verify.requests.ObjectKind.{ObjectKind}
-use Rattle.rpki_cli.specs.declared.verify.requests.ObjectKind.TheVariants.{Signed, Rta}
+use Rattle.rpki_cli.specs.declared.verify.requests.CheckedKind.{CheckedKind}
+use Rattle.rpki_cli.specs.declared.verify.requests.CheckedKind.TheVariants.{Signed, Rta}
 use Rattle.rpki_cli.specs.declared.words.Kind.{Kind}
 use Rattle.rpki_cli.specs.declared.words.Kind.TheVariants.{Aspa, Manifest, Roa, Rsc}
 use Rattle.rpki_cli.specs.declared.words.Options.{Options}
@@ -179,7 +179,7 @@ no-lists : (lists : List GivenList) → AllZip IsGivenList [] lists → lists �
 no-lists [] h = refl
 no-lists (l ∷ lists) h = absurd h
 
-module _ (m : Manner) (certs : CertFiles) (objects : List (GivenFile ObjectKind)) (s : Output) where
+module _ (m : Manner) (certs : CertFiles) (objects : List (GivenFile CheckedKind)) (s : Output) where
   of-lists : (lists : Result (Vec GivenList Global) NotLists) → AreLists [] lists
       → IsSaidListed (λ ls said. SaidUnder m certs objects None ls said) lists s
       → (s ≡ out_of_memory) ⊎ SaidUnder m certs objects None [] s
@@ -404,12 +404,12 @@ module _ (options : Options) (now : Moment) (issuer : Validated) where
 
 module _ (options : Options) (now : Moment) (certs : CertFiles) where
   -- a check of an object of this kind may say something with this status
-  abbrev Ends : ℕ → ObjectKind → List ℕ → List ℕ → Type 0
+  abbrev Ends : ℕ → CheckedKind → List ℕ → List ℕ → Type 0
   Ends n (Signed kind) name octets =
       MayEndWith n options now certs (record { name = name; kind = kind; octets = octets })
   Ends n Rta name octets = Unit {0}
 
-  abbrev FileEnds : ℕ → GivenFile ObjectKind → Type 0
+  abbrev FileEnds : ℕ → GivenFile CheckedKind → Type 0
   FileEnds n file = Ends n file.kind file.name file.octets
 
   -- the same of the objects as they are given
@@ -420,7 +420,7 @@ module _ (options : Options) (now : Moment) (certs : CertFiles) where
       (All-head (FileEnds n) (as_object o) (map as_object objects) h)
       (all-back n objects (All-tail (FileEnds n) (as_object o) (map as_object objects) h))
 
-  any-at : (n : ℕ) (objects : List (GivenFile Kind)) (k : ℕ) (x : GivenFile ObjectKind)
+  any-at : (n : ℕ) (objects : List (GivenFile Kind)) (k : ℕ) (x : GivenFile CheckedKind)
       → k < length (map as_object objects) → slice_index_or (map as_object objects) k x ≡ x
       → FileEnds n x → Any (MayEndWith n options now certs) objects
   any-at n [] k x l e p = absurd (omega (arith, l))
@@ -451,27 +451,27 @@ module _ (options : Options) (now : Moment) (certs : CertFiles) where
       ends-with n kind name octets t h z =
           record { answer = t; is = (Ok issuer, made, h); status_is = z }
 
-      kind-yes : (kind : ObjectKind) (name octets : List ℕ) (t : Output)
+      kind-yes : (kind : CheckedKind) (name octets : List ℕ) (t : Output)
           → IsSaidOfKind grounds kind octets t → status_of t ≡ 0 → Ends 0 kind name octets
       kind-yes (Signed kind) name octets t h z = ends-with 0 kind name octets t
           ((alone-under options kind sha256 is_rsa_signature issuer now octets t).0 h) z
       kind-yes Rta name octets t h z = tt
 
-      kind-refusal : (kind : ObjectKind) (name octets : List ℕ) (t : Output)
+      kind-refusal : (kind : CheckedKind) (name octets : List ℕ) (t : Output)
           → IsSaidOfKind grounds kind octets t → IsNo t → Ends 1 kind name octets
       kind-refusal (Signed kind) name octets t h n =
           let c = (alone-under options kind sha256 is_rsa_signature issuer now octets t).0 h in
           ends-with 1 kind name octets t c (kind-no options now issuer kind octets t c n)
       kind-refusal Rta name octets t h n = tt
 
-      json-yes : (kind : ObjectKind) (name octets : List ℕ) (t : Output)
+      json-yes : (kind : CheckedKind) (name octets : List ℕ) (t : Output)
           → IsKindInJson grounds kind name octets t → status_of t ≡ 0 → Ends 0 kind name octets
       json-yes (Signed kind) name octets t h z =
           let l = kind-lines options now issuer kind name octets t h in
           ends-with 0 kind name octets l.0 l.1 (l.2.0 ∙ z)
       json-yes Rta name octets t h z = tt
 
-      json-refusal : (kind : ObjectKind) (name octets : List ℕ) (t : Output)
+      json-refusal : (kind : CheckedKind) (name octets : List ℕ) (t : Output)
           → IsKindInJson grounds kind name octets t → IsNo t → Ends 1 kind name octets
       json-refusal (Signed kind) name octets t h n =
           let l = kind-lines options now issuer kind name octets t h in
@@ -479,7 +479,7 @@ module _ (options : Options) (now : Moment) (certs : CertFiles) where
           (kind-no options now issuer kind octets l.0 l.1 (no-as-good t l.0 l.2 n))
       json-refusal Rta name octets t h n = tt
 
-      issued-yes : (json : Bool) (files : List (GivenFile ObjectKind)) (s : Output)
+      issued-yes : (json : Bool) (files : List (GivenFile CheckedKind)) (s : Output)
           → IsSaidOfObjects json grounds files s → status_of s ≡ 0 → All (FileEnds 0) files
       issued-yes false files s h z = each-good (IsSaidOfObject grounds) (FileEnds 0)
           (λ f t is e. kind-yes f.kind f.name f.octets t is e) files s h z
@@ -487,7 +487,7 @@ module _ (options : Options) (now : Moment) (certs : CertFiles) where
           (λ f t is e. json-yes f.kind f.name f.octets t is e) invalid_members object_word files s h
           z
 
-      issued-no : (json : Bool) (files : List (GivenFile ObjectKind)) (s : Output)
+      issued-no : (json : Bool) (files : List (GivenFile CheckedKind)) (s : Output)
           → IsSaidOfObjects json grounds files s → IsNo s → Any (FileEnds 1) files
       issued-no false files s h n = each-refused (IsSaidOfObject grounds) (FileEnds 1)
           (λ f t is e. kind-refusal f.kind f.name f.octets t is e) files s h n
@@ -506,7 +506,7 @@ module _ (options : Options) (now : Moment) (certs : CertFiles) where
 
     -- why there is none, as a check of one object says it
     refusal-ends : (n : ℕ) (t : Output) → status_of t ≡ n
-        → t ≡ no_issuer name refusal.fault → (kind : ObjectKind) (file octets : List ℕ)
+        → t ≡ no_issuer name refusal.fault → (kind : CheckedKind) (file octets : List ℕ)
         → Ends n kind file octets
     refusal-ends n t z e (Signed kind) file octets = record {
       answer = issuer_refusal own.0;
@@ -517,25 +517,25 @@ module _ (options : Options) (now : Moment) (certs : CertFiles) where
     refusal-ends n t z e Rta file octets = tt
 
     refusal-no : (t : Output) → IsNoIssuerSaid refusal t → IsNo t
-        → (file : GivenFile ObjectKind) → FileEnds 1 file
+        → (file : GivenFile CheckedKind) → FileEnds 1 file
     refusal-no t (inl e) n file = absurd (n.0 e)
     refusal-no t (inr e) n file = refusal-ends 1 t
         (named-no name own.0 t (e ∙ ap (no_issuer name) own.1) n) e file.kind file.name file.octets
 
-    unissued-yes : (json : Bool) (files : List (GivenFile ObjectKind)) (s : Output)
+    unissued-yes : (json : Bool) (files : List (GivenFile CheckedKind)) (s : Output)
         → IsSaidUnissued json refusal files s → status_of s ≡ 0 → All (FileEnds 0) files
     unissued-yes false files s h z = absurd (no-issuer-said refusal s h z)
     unissued-yes true files s h z = json-good
-        (λ (file : GivenFile ObjectKind). IsNoIssuerSaid refusal) (FileEnds 0)
+        (λ (file : GivenFile CheckedKind). IsNoIssuerSaid refusal) (FileEnds 0)
         (λ f t is e. absurd (no-issuer-said refusal t is e)) invalid_members object_word files s h z
 
-    unissued-no : (json : Bool) (files : List (GivenFile ObjectKind)) (s : Output)
+    unissued-no : (json : Bool) (files : List (GivenFile CheckedKind)) (s : Output)
         → ¬ (files ≡ []) → IsSaidUnissued json refusal files s → IsNo s → Any (FileEnds 1) files
     unissued-no false [] s some h n = absurd (some refl)
     unissued-no false (f ∷ files) s some h n =
         any-here (FileEnds 1) f files (refusal-no s h n f)
     unissued-no true files s some h n = json-refused
-        (λ (file : GivenFile ObjectKind). IsNoIssuerSaid refusal) (FileEnds 1)
+        (λ (file : GivenFile CheckedKind). IsNoIssuerSaid refusal) (FileEnds 1)
         (λ f t is e. refusal-no t is e f) invalid_members object_word files s h n
 
 -- no objects are given where there are none
@@ -544,7 +544,7 @@ none-given [] e = refl
 none-given (o ∷ objects) e = absurd cc
 
 module _ (m : Manner) (certs : CertFiles) (objects : List (GivenFile Kind)) (s : Output) where
-  abbrev files : List (GivenFile ObjectKind)
+  abbrev files : List (GivenFile CheckedKind)
   files = map as_object objects
 
   abbrev Issued : Result Validated NoIssuer → Type 0

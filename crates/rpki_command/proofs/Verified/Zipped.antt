@@ -1,11 +1,10 @@
 -- Files that are gone through one after the other, each with its name, or with what names it.
-use Rattle.std.proofs.Common.{◌≡◌, ◌∙◌, ℕ, List, [], ◌∷◌, ◌++◌, Vec, Global, refl, sym, ap, subst}
+use Rattle.std.proofs.Common.{◌≡◌, ◌∙◌, ℕ, List, [], ◌∷◌, ◌++◌, refl, sym, ap, subst}
 use Rattle.std.proofs.Common.{inl, inr, append_assoc}
 use Rattle.std.proofs.lemmas.List.{append-nil}
 use Rattle.std.proofs.lemmas.Slice.Zip.{all_zipped_more}
 use Rattle.std.specs.List.{AllZip, zip}
 use Rattle.std.specs.Prelude.{◌⊎◌}
-use Rattle.rpki_certs.specs.Issuer.{octets_of}
 
 -- where one of two lists is empty, so are their pairs
 pub no-pairs : {N : Type 0} (names : List N) (octets : List (List ℕ)) → (names ≡ []) ⊎ (octets ≡ [])
@@ -16,68 +15,68 @@ no-pairs (n ∷ names) (o ∷ octets) h = elim h [ inl e ↦ absurd cc | inr e �
 
 -- of the files, all but those that are left are done
 pub record AreDoneTo {N : Type 0} (all done : List (N × List ℕ)) (names : List N)
-    (files : List (Vec ℕ Global)) : Type 0 where
-  pub cut : all ≡ done ++ zip names (octets_of files)
+    (files : List (List ℕ)) : Type 0 where
+  pub cut : all ≡ done ++ zip names files
 
 module _ {N : Type 0} (all done : List (N × List ℕ)) (names rest : List N)
-    (files others : List (Vec ℕ Global)) (name : N) (v : Vec ℕ Global)
+    (files others : List (List ℕ)) (name : N) (v : List ℕ)
     (is : AreDoneTo all done names files) (first : names ≡ name ∷ rest)
     (second : files ≡ v ∷ others) where
   -- the next one
-  pub next-cut : all ≡ done ++ (name, v.items) ∷ zip rest (octets_of others)
+  pub next-cut : all ≡ done ++ (name, v) ∷ zip rest others
   next-cut = is.cut
-      ∙ ap (λ (l : List N). done ++ zip l (octets_of files)) first
-      ∙ ap (λ (l : List (Vec ℕ Global)). done ++ zip (name ∷ rest) (octets_of l)) second
+      ∙ ap (λ (l : List N). done ++ zip l files) first
+      ∙ ap (λ (l : List (List ℕ)). done ++ zip (name ∷ rest) l) second
 
   -- it is done
-  pub next-done : AreDoneTo all (done ++ (name, v.items) ∷ []) rest others
+  pub next-done : AreDoneTo all (done ++ (name, v) ∷ []) rest others
   next-done = record {
-    cut = next-cut ∙ sym (append_assoc done ((name, v.items) ∷ []) (zip rest (octets_of others)));
+    cut = next-cut ∙ sym (append_assoc done ((name, v) ∷ []) (zip rest others));
   }
 
 -- all are done
 pub none-left : {N : Type 0} (all done : List (N × List ℕ)) (names : List N)
-    (files : List (Vec ℕ Global)) → AreDoneTo all done names files
+    (files : List (List ℕ)) → AreDoneTo all done names files
     → (names ≡ []) ⊎ (files ≡ []) → all ≡ done
 none-left {N} all done names files is none =
-    let left : ◌≡◌ {A = List (N × List ℕ)} (zip names (octets_of files)) [] =
-    no-pairs names (octets_of files) (elim none [ inl e ↦ inl e | inr e ↦ inr (ap octets_of e) ]) in
+    let left : ◌≡◌ {A = List (N × List ℕ)} (zip names files) [] =
+    no-pairs names files (elim none [ inl e ↦ inl e | inr e ↦ inr e ]) in
     is.cut ∙ ap (λ (fs : List (N × List ℕ)). done ++ fs) left ∙ append-nil done
 
 -- ---- what is made of each
 
 -- this is made of those that are done
 pub record AreMadeTo {N A : Type 0} (R : N × List ℕ → A → Type 0) (all : List (N × List ℕ))
-    (made : List A) (names : List N) (files : List (Vec ℕ Global)) : Type 0 where
+    (made : List A) (names : List N) (files : List (List ℕ)) : Type 0 where
   pub done : List (N × List ℕ)
   pub each : AllZip R done made
   pub is : AreDoneTo all done names files
 
 pub none-made : {N A : Type 0} (R : N × List ℕ → A → Type 0) (names left : List N)
-    (files rest : List (Vec ℕ Global)) (made : List A) → made ≡ [] → left ≡ names → rest ≡ files
-    → AreMadeTo R (zip names (octets_of files)) made left rest
+    (files rest : List (List ℕ)) (made : List A) → made ≡ [] → left ≡ names → rest ≡ files
+    → AreMadeTo R (zip names files) made left rest
 none-made {N} {A} R names left files rest made e w f = record {
   done = [];
   each = subst (λ (l : List A). AllZip R [] l) (sym e) tt;
   is = record {
-    cut = ap (λ (l : List N). zip l (octets_of files)) (sym w)
-        ∙ ap (λ (l : List (Vec ℕ Global)). zip left (octets_of l)) (sym f);
+    cut = ap (λ (l : List N). zip l files) (sym w)
+        ∙ ap (λ (l : List (List ℕ)). zip left l) (sym f);
   };
 }
 
 pub one-made : {N A : Type 0} (R : N × List ℕ → A → Type 0) (all : List (N × List ℕ))
-    (made : List A) (names rest : List N) (files others : List (Vec ℕ Global)) (name : N)
-    (v : Vec ℕ Global) → AreMadeTo R all made names files → names ≡ name ∷ rest
-    → files ≡ v ∷ others → (one : A) → R (name, v.items) one
+    (made : List A) (names rest : List N) (files others : List (List ℕ)) (name : N)
+    (v : List ℕ) → AreMadeTo R all made names files → names ≡ name ∷ rest
+    → files ≡ v ∷ others → (one : A) → R (name, v) one
     → AreMadeTo R all (made ++ one ∷ []) rest others
 one-made R all made names rest files others name v m first second one h = record {
-  done = m.done ++ (name, v.items) ∷ [];
-  each = all_zipped_more R m.done made (name, v.items) one m.each h;
+  done = m.done ++ (name, v) ∷ [];
+  each = all_zipped_more R m.done made (name, v) one m.each h;
   is = next-done all m.done names rest files others name v m.is first second;
 }
 
 pub all-made : {N A : Type 0} (R : N × List ℕ → A → Type 0) (all : List (N × List ℕ))
-    (made : List A) (names : List N) (files : List (Vec ℕ Global))
+    (made : List A) (names : List N) (files : List (List ℕ))
     → AreMadeTo R all made names files → (names ≡ []) ⊎ (files ≡ []) → AllZip R all made
 all-made {N} R all made names files m none =
     subst (λ (fs : List (N × List ℕ)). AllZip R fs made)

@@ -20,7 +20,7 @@ use Rattle.rpki_command.specs.declared.verify.checks.Manner.{Manner}
 use Rattle.rpki_command.specs.declared.verify.issuers.NoIssuer.{NoIssuer}
 use Rattle.rpki_command.specs.declared.verify.issuers.NotLocator.{NotLocator}
 use Rattle.rpki_command.specs.declared.verify.issuers.NotLocator.TheVariants as locating
-use Rattle.rpki_cli.specs.declared.verify.requests.ObjectKind.{ObjectKind}
+use Rattle.rpki_cli.specs.declared.verify.requests.CheckedKind.{CheckedKind}
 use Rattle.rpki_command.specs.declared.verify.revoked.NotLists.{NotLists}
 use Rattle.rpki_command.specs.declared.verify.revoked.NotLists.TheVariants as listing
 
@@ -31,7 +31,7 @@ pub record CheckedFiles : Type 0 where
   pub certs : CertFiles
   pub locator : Option File
   pub lists : List File
-  pub objects : List (GivenFile ObjectKind)
+  pub objects : List (GivenFile CheckedKind)
 
 -- the first of these octets
 abbrev pub first_of : List (List ℕ) → List ℕ
@@ -39,7 +39,7 @@ first_of [] = []
 first_of (octets ∷ files) = octets
 
 -- the files with these names, whose octets stand in the order in which they are read (`check_names`)
-abbrev pub files_in : CheckValues → List ObjectKind → List (List ℕ) → CheckedFiles
+abbrev pub files_in : CheckValues → List CheckedKind → List (List ℕ) → CheckedFiles
 files_in n kinds octets =
     let below = drop 1 octets in
     let located = drop (length n.cas) below in
@@ -83,7 +83,7 @@ IsSaidListed P (Err listing.Memory) s = s ≡ out_of_memory
 
 -- What is said of objects where certificates make no issuer: why; in JSON, that each is refused for
 -- that.
-abbrev pub IsSaidUnissued : Bool → NoIssuer → List (GivenFile ObjectKind) → Output → Type 0
+abbrev pub IsSaidUnissued : Bool → NoIssuer → List (GivenFile CheckedKind) → Output → Type 0
 IsSaidUnissued false refusal objects s = IsNoIssuerSaid refusal s
 IsSaidUnissued true refusal objects s =
     IsSaidInJson invalid_members object_word (λ file. IsNoIssuerSaid refusal) objects s
@@ -95,7 +95,7 @@ IsSaidIssued P Q (Ok issuer) s = P issuer s
 IsSaidIssued P Q (Err refusal) s = Q refusal s
 
 -- What is said of certificates and objects, where the locator and the lists are read.
-abbrev pub SaidUnder : Manner → CertFiles → List (GivenFile ObjectKind) → Option GivenLocator
+abbrev pub SaidUnder : Manner → CertFiles → List (GivenFile CheckedKind) → Option GivenLocator
     → List GivenList → Output → Type 0
 SaidUnder m certs objects locator lists s =
     (issuer : Result Validated NoIssuer)
@@ -109,7 +109,7 @@ SaidUnder m certs objects locator lists s =
     }) objects said) (λ refusal said. IsSaidUnissued m.json refusal objects said) issuer s
 
 -- What is said of lists, certificates and objects, where the locator is read.
-abbrev pub SaidWithLists : Manner → CertFiles → List File → List (GivenFile ObjectKind)
+abbrev pub SaidWithLists : Manner → CertFiles → List File → List (GivenFile CheckedKind)
     → Option GivenLocator → Output → Type 0
 SaidWithLists m certs files objects locator s =
     (lists : Result (Vec GivenList Global) NotLists) × AreLists files lists
@@ -124,7 +124,7 @@ IsSaidOfFiles m f s =
     × IsSaidLocated (λ l said. SaidWithLists m f.certs f.lists f.objects l said) locator s
 
 -- The same of the octets of files with these names, in the order in which they are read.
-abbrev pub CheckedOf : Options → CheckValues → List ObjectKind → Moment → List (List ℕ) → Output → Type 0
+abbrev pub CheckedOf : Options → CheckValues → List CheckedKind → Moment → List (List ℕ) → Output → Type 0
 CheckedOf options names kinds now octets s = (s ≡ out_of_memory)
     ⊎ IsSaidOfFiles (record { json = names.json; options = options; moment = now })
     (files_in names kinds octets) s

@@ -18,10 +18,11 @@ asked_in (name ∷ names) (kind ∷ kinds) (octets ∷ files) =
     record { name = name; kind = kind; octets = octets } ∷ asked_in names kinds files
 asked_in names kinds files = []
 
--- ---- entries
+-- ---- answers
 
--- What is said of one of several files: its name, a text on standard output, and a status.
-pub record Entry : Type 0 where
+-- What is said of one of several files: its name, a text on standard output, and a status. Among
+-- those of other files it is an entry.
+pub record FileAnswer : Type 0 where
   pub name : List ℕ
   pub text : List ℕ
   pub status : ℕ
@@ -39,11 +40,11 @@ indented (c ∷ rest) = c ∷ (spaces_after c rest ++ indented rest)
 
 -- an entry as a text: the name of the file, and what is said of it, whose lines stand under one
 -- another
-abbrev pub entry_text : Entry → List ℕ
-entry_text e = named e.name (indented e.text)
+abbrev pub answer_text : FileAnswer → List ℕ
+answer_text e = named e.name (indented e.text)
 
 -- the status of all: 0 where each has 0, and else 1
-abbrev pub common_status : List Entry → ℕ
+abbrev pub common_status : List FileAnswer → ℕ
 common_status [] = 0
 common_status (e ∷ entries) = if e.status == 0 then common_status entries else 1
 
@@ -52,23 +53,25 @@ abbrev pub printed : List ℕ → ℕ → Output
 printed text status = Reported text [] status
 
 -- This is the entry of the file, of which P says what stands there.
-abbrev pub IsEntryOf : {K : Type 0} → (GivenFile K → Output → Type 0) → GivenFile K → Entry → Type 0
-IsEntryOf P file e = (e.name ≡ file.name) × P file (Printed e.text e.status)
+abbrev pub IsAnswerOf : {K : Type 0} → (GivenFile K → Output → Type 0) → GivenFile K
+    → FileAnswer → Type 0
+IsAnswerOf P file e = (e.name ≡ file.name) × P file (Printed e.text e.status)
 
 -- This is the text of the entries of these files, one for each, in their order, and their status;
 -- Q says which entry is that of a file, and each entry is written so.
-pub record AreEntriesOf {K : Type 0} (Q : GivenFile K → Entry → Type 0) (written : Entry → List ℕ)
-    (files : List (GivenFile K)) (text : List ℕ) (status : ℕ) : Type 0 where
-  pub entries : List Entry
+pub record AreAnswersOf {K : Type 0} (Q : GivenFile K → FileAnswer → Type 0)
+    (written : FileAnswer → List ℕ) (files : List (GivenFile K)) (text : List ℕ) (status : ℕ)
+    : Type 0 where
+  pub entries : List FileAnswer
   pub each : AllZip Q files entries
   pub text_is : text ≡ flat_map written entries
   pub status_is : status ≡ common_status entries
 
 -- the entries of these files are printed
-abbrev pub PrintsEach : {K : Type 0} → (GivenFile K → Entry → Type 0) → (Entry → List ℕ)
+abbrev pub PrintsEach : {K : Type 0} → (GivenFile K → FileAnswer → Type 0) → (FileAnswer → List ℕ)
     → List (GivenFile K) → Output → Type 0
 PrintsEach Q written files s = (text : List ℕ) × (status : ℕ)
-    × AreEntriesOf Q written files text status × (s ≡ printed text status)
+    × AreAnswersOf Q written files text status × (s ≡ printed text status)
 
 -- What is said of files: of one what P says of it; of several an entry for each, unless memory runs
 -- out.
@@ -76,7 +79,7 @@ abbrev pub IsSaidOfEach : {K : Type 0} → (GivenFile K → Output → Type 0) �
     → Output → Type 0
 IsSaidOfEach P (file ∷ []) s = P file s
 IsSaidOfEach P files s =
-    (s ≡ out_of_memory) ⊎ PrintsEach (IsEntryOf P) entry_text files s
+    (s ≡ out_of_memory) ⊎ PrintsEach (IsAnswerOf P) answer_text files s
 
 -- ---- in JSON
 
@@ -95,7 +98,7 @@ IsLineFor reasons name type s line status =
 
 -- This is the line of the file, of which P says what is said; `type` is the word of each kind.
 pub record IsLineOf {K : Type 0} (reasons : Reasons) (type : K → List ℕ)
-    (P : GivenFile K → Output → Type 0) (file : GivenFile K) (e : Entry) : Type 0 where
+    (P : GivenFile K → Output → Type 0) (file : GivenFile K) (e : FileAnswer) : Type 0 where
   pub name_is : e.name ≡ file.name
   pub answer : Output
   pub is : P file answer

@@ -29,8 +29,8 @@ use Rattle.rpki_command.specs.Verify.Objects.{Grounds, supplied_by}
 use Rattle.rpki_command.specs.Verify.Revoked.{GivenList, IsGivenList, IsUnrevoked}
 use Rattle.rpki_command.specs.Yes.{BeginsWithNoGood, BeginsWithNoGranted}
 use Rattle.rpki_command.specs.declared.verify.issuers.NoIssuer.{NoIssuer}
-use Rattle.rpki_cli.specs.declared.verify.requests.ObjectKind.{ObjectKind}
-use Rattle.rpki_cli.specs.declared.verify.requests.ObjectKind.TheVariants.{Signed, Rta}
+use Rattle.rpki_cli.specs.declared.verify.requests.CheckedKind.{CheckedKind}
+use Rattle.rpki_cli.specs.declared.verify.requests.CheckedKind.TheVariants.{Signed, Rta}
 
 -- The octets begin with an object that is good under this issuer, and none of the lists revokes its
 -- certificate.
@@ -46,7 +46,7 @@ pub record BeginsWithUnrevoked {X : Type 0} (kind : signed.ObjectKind X)
 
 -- The octets begin with such an object of this kind, or with an attestation that is granted, by these
 -- grounds.
-abbrev pub IsGoodKind : Grounds → ObjectKind → List ℕ → Type 0
+abbrev pub IsGoodKind : Grounds → CheckedKind → List ℕ → Type 0
 IsGoodKind g (Signed kind) octets = OfKind g.options kind (λ X asked form text.
     BeginsWithUnrevoked asked form (read_mode g.options) sha256 is_rsa_signature g.lists g.issuer
     g.now octets)
@@ -54,7 +54,7 @@ IsGoodKind g Rta octets = BeginsWith (RtaForm Der) octets
     (λ (r : attested.Whole). IsGrantedRta sha256 is_rsa_signature g.now r (supplied_by g))
 
 -- the same of a file
-abbrev pub IsGoodFile : Grounds → GivenFile ObjectKind → Type 0
+abbrev pub IsGoodFile : Grounds → GivenFile CheckedKind → Type 0
 IsGoodFile g file = IsGoodKind g file.kind file.octets
 
 -- A yes is right: the file of the locator is one, if there is one, those of the lists begin with
@@ -87,7 +87,7 @@ BeginsWithRefused {X} kind form mode digest verdict lists issuer now octets =
 
 -- The octets begin with no object of this kind that is such, or with no attestation that is granted,
 -- by these grounds.
-abbrev pub IsRefusedKind : Grounds → ObjectKind → List ℕ → Type 0
+abbrev pub IsRefusedKind : Grounds → CheckedKind → List ℕ → Type 0
 IsRefusedKind g (Signed kind) octets = OfKind g.options kind (λ X asked form text.
     BeginsWithRefused asked form (read_mode g.options) sha256 is_rsa_signature g.lists g.issuer
     g.now octets)
@@ -95,7 +95,7 @@ IsRefusedKind g Rta octets =
     BeginsWithNoGranted is_rsa_signature g.now (supplied_by g) octets
 
 -- the same of a file
-abbrev pub IsRefusedFile : Grounds → GivenFile ObjectKind → Type 0
+abbrev pub IsRefusedFile : Grounds → GivenFile CheckedKind → Type 0
 IsRefusedFile g file = IsRefusedKind g file.kind file.octets
 
 -- The certificates make no issuer, and not for want of memory.

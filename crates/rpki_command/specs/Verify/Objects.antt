@@ -37,8 +37,8 @@ use Rattle.rpki_command.specs.Verify.Each.{GivenFile, IsSaidOfEach, IsSaidInJson
 use Rattle.rpki_command.specs.Verify.Issuers.{GivenLocator}
 use Rattle.rpki_command.specs.Verify.Revoked.{GivenList, IsUnrevoked, IsRevokedBy, revoked_text}
 use Rattle.rpki_command.specs.declared.anchors.Anchor.TheVariants.{Ca}
-use Rattle.rpki_cli.specs.declared.verify.requests.ObjectKind.{ObjectKind}
-use Rattle.rpki_cli.specs.declared.verify.requests.ObjectKind.TheVariants.{Signed, Rta}
+use Rattle.rpki_cli.specs.declared.verify.requests.CheckedKind.{CheckedKind}
+use Rattle.rpki_cli.specs.declared.verify.requests.CheckedKind.TheVariants.{Signed, Rta}
 
 -- ---- one object
 
@@ -141,30 +141,30 @@ abbrev pub IsSaidOfRtaInJson : Grounds → List ℕ → List ℕ → Output → 
 IsSaidOfRtaInJson g name octets s = IsSaidOfRtaAs g (granted_json name) octets s
 
 -- What is said of an object of a kind by these grounds.
-abbrev pub IsSaidOfKind : Grounds → ObjectKind → List ℕ → Output → Type 0
+abbrev pub IsSaidOfKind : Grounds → CheckedKind → List ℕ → Output → Type 0
 IsSaidOfKind g (Signed kind) octets s = IsSaidOfSigned g kind octets s
 IsSaidOfKind g Rta octets s = IsSaidOfRta g octets s
 
 -- What is said of an object in a file by these grounds.
-abbrev pub IsSaidOfObject : Grounds → GivenFile ObjectKind → Output → Type 0
+abbrev pub IsSaidOfObject : Grounds → GivenFile CheckedKind → Output → Type 0
 IsSaidOfObject g file s = IsSaidOfKind g file.kind file.octets s
 
 -- The same of an object of a kind, in JSON, in a file of this name.
-abbrev pub IsKindInJson : Grounds → ObjectKind → List ℕ → List ℕ → Output → Type 0
+abbrev pub IsKindInJson : Grounds → CheckedKind → List ℕ → List ℕ → Output → Type 0
 IsKindInJson g (Signed kind) name octets s = JudgedInJson g.options kind name sha256 is_rsa_signature
     g.lists g.issuer g.now octets s
 IsKindInJson g Rta name octets s = IsSaidOfRtaInJson g name octets s
 
 -- What is said of an object in a file in JSON, by these grounds.
-abbrev pub IsObjectInJson : Grounds → GivenFile ObjectKind → Output → Type 0
+abbrev pub IsObjectInJson : Grounds → GivenFile CheckedKind → Output → Type 0
 IsObjectInJson g file s = IsKindInJson g file.kind file.name file.octets s
 
 -- the word of a kind of object
-abbrev pub object_word : ObjectKind → List ℕ
+abbrev pub object_word : CheckedKind → List ℕ
 object_word kind = file_kind_word (object_file kind)
 
 -- What is said of objects by these grounds, in lines or in JSON.
-abbrev pub IsSaidOfObjects : Bool → Grounds → List (GivenFile ObjectKind) → Output → Type 0
+abbrev pub IsSaidOfObjects : Bool → Grounds → List (GivenFile CheckedKind) → Output → Type 0
 IsSaidOfObjects false g objects s = IsSaidOfEach (IsSaidOfObject g) objects s
 IsSaidOfObjects true g objects s =
     IsSaidInJson invalid_members object_word (IsObjectInJson g) objects s

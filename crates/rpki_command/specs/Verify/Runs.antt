@@ -8,7 +8,7 @@ use Rattle.rpki_cli.specs.Language.{IsAsked}
 use Rattle.rpki_cli.specs.Store.{Told}
 use Rattle.rpki_cli.specs.Verify.Requests.{AskedCheck, IsAskedCheck}
 use Rattle.rpki_cli.specs.Verify.Words.{moment_at, verify_language}
-use Rattle.rpki_cli.specs.declared.verify.requests.ObjectKind.{ObjectKind}
+use Rattle.rpki_cli.specs.declared.verify.requests.CheckedKind.{CheckedKind}
 use Rattle.rpki_cli.specs.declared.verify.words.VerifyCommand.{VerifyCommand}
 use Rattle.rpki_cli.specs.declared.verify.words.VerifyCommand.TheVariants.{CheckEach}
 use Rattle.rpki_cli.specs.declared.words.Options.{Options}
@@ -36,7 +36,7 @@ IsToldIf told (Some name) None = ⊥
 IsToldIf told (Some name) (Some file) = IsTold told name file
 
 -- The same of a file that is checked.
-abbrev pub IsToldObject : Told → List ℕ → GivenFile ObjectKind → Type 0
+abbrev pub IsToldObject : Told → List ℕ → GivenFile CheckedKind → Type 0
 IsToldObject told name file = (file.name ≡ name) × (told name ≡ Some (Some file.octets))
 
 -- The files of a check: each has the name that is asked for at its place, those that are checked
@@ -47,7 +47,7 @@ pub record AreFilesOf (told : Told) (c : AskedCheck) (f : CheckedFiles) : Type 0
   pub locator : IsToldIf told c.values.tal f.locator
   pub lists : AllZip (IsTold told) c.values.crls f.lists
   pub objects : AllZip (IsToldObject told) c.values.files f.objects
-  pub kinds : map (λ (file : GivenFile ObjectKind). file.kind) f.objects ≡ c.kinds
+  pub kinds : map (λ (file : GivenFile CheckedKind). file.kind) f.objects ≡ c.kinds
 
 -- ---- runs
 

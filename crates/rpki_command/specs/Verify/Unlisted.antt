@@ -3,8 +3,8 @@
 use Rattle.std.specs.Prelude.{◌≡◌, ◌⊎◌, ℕ, List, [], map, None, false}
 use Rattle.rpki_basics.specs.Moment.{Moment}
 use Rattle.rpki_cli.specs.Answer.{Output, issuer_refused}
-use Rattle.rpki_cli.specs.declared.verify.requests.ObjectKind.{ObjectKind}
-use Rattle.rpki_cli.specs.declared.verify.requests.ObjectKind.TheVariants.{Signed}
+use Rattle.rpki_cli.specs.declared.verify.requests.CheckedKind.{CheckedKind}
+use Rattle.rpki_cli.specs.declared.verify.requests.CheckedKind.TheVariants.{Signed}
 use Rattle.rpki_cli.specs.declared.words.Kind.{Kind}
 use Rattle.rpki_cli.specs.declared.words.Options.{Options}
 use Rattle.rpki_command.specs.Verify.Check.{VerifiedOf}
@@ -15,7 +15,7 @@ use Rattle.rpki_command.specs.Yes.{FilesOfCheck, in_order, status_of}
 use Rattle.rpki_command.specs.declared.verify.checks.Manner.{Manner}
 
 -- a signed object as one of the objects of a check
-abbrev pub as_object : GivenFile Kind → GivenFile ObjectKind
+abbrev pub as_object : GivenFile Kind → GivenFile CheckedKind
 as_object file = record { name = file.name; kind = Signed file.kind; octets = file.octets }
 
 -- the files of a check of signed objects with these certificates, with no locator and no lists

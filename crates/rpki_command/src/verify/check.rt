@@ -1,7 +1,6 @@
 //! What the program answers of a signed object and a chain of certificates.
 
 ghost use Rattle.std.specs.Prelude.{◌≡◌, ◌≤◌, ◌+◌, length};
-ghost use Rattle.rpki_certs.specs.Issuer.{octets_of};
 ghost use Rattle.rpki_certs.specs.declared.issuer.IssuerError.TheVariants as issuing;
 ghost use Rattle.rpki_cli.specs.Answer.{said};
 ghost use Rattle.rpki_cli.specs.Words.{texts, chain_in, files_of_anchors};
@@ -15,6 +14,7 @@ use crate::anchors::chains_of;
 use crate::check::check_with;
 use crate::rta::check_rta;
 use crate::walk::walk_with;
+use bytes::Bytes;
 use rpki_basics::Time;
 use rpki_cli::answer::Answer;
 use rpki_cli::words::{Kind, Options};
@@ -39,7 +39,7 @@ impl Work for CheckBySignatures {
 
     ghost says = { λ c. VerifiedOf c.options c.kind c.moment };
 
-    fn answer<'a>(self, alloc: Global, files: &[Vec<u8>]) -> Answer<'a> {
+    fn answer<'a>(self, alloc: Global, files: &[Bytes]) -> Answer<'a> {
         check_files(alloc, self.options, self.kind, self.moment, files)
     }
 }
@@ -55,7 +55,7 @@ impl Work for ListSignatures {
 
     ghost says = { λ l. ListedOf l.options };
 
-    fn answer<'a>(self, alloc: Global, files: &[Vec<u8>]) -> Answer<'a> {
+    fn answer<'a>(self, alloc: Global, files: &[Bytes]) -> Answer<'a> {
         list_files(alloc, self.options, files)
     }
 }
@@ -75,7 +75,7 @@ impl Work for WalkBySignatures<'_> {
 
     ghost says = { λ w. VerifiedWalkOf w.options (texts w.tail.now) w.moment };
 
-    fn answer<'a>(self, alloc: Global, files: &[Vec<u8>]) -> Answer<'a> {
+    fn answer<'a>(self, alloc: Global, files: &[Bytes]) -> Answer<'a> {
         walk_files(alloc, self.options, self.tail, self.moment, files)
     }
 }
@@ -93,7 +93,7 @@ impl Work for RtaBySignatures<'_> {
 
     ghost says = { λ r. VerifiedRtaOf (texts r.anchors.now) r.moment };
 
-    fn answer<'a>(self, alloc: Global, files: &[Vec<u8>]) -> Answer<'a> {
+    fn answer<'a>(self, alloc: Global, files: &[Bytes]) -> Answer<'a> {
         rta_files(alloc, self.anchors, self.moment, files)
     }
 }
@@ -110,7 +110,7 @@ impl Work for ListRtaSignatures<'_> {
 
     ghost says = { λ l. RtaListedOf (texts l.anchors.now) };
 
-    fn answer<'a>(self, alloc: Global, files: &[Vec<u8>]) -> Answer<'a> {
+    fn answer<'a>(self, alloc: Global, files: &[Bytes]) -> Answer<'a> {
         list_rta_files(alloc, self.anchors, files)
     }
 }
@@ -122,10 +122,10 @@ fn check_files<'a>(
     options: Options,
     kind: Kind,
     now: Time,
-    files: &[Vec<u8>],
+    files: &[Bytes],
 ) -> Answer<'a>
     requires { 2 ≤ length files.now }
-    ensures { VerifiedOf options kind now (octets_of files.now) (said result) }
+    ensures { VerifiedOf options kind now files.now (said result) }
 {
     match files {
         [object, anchor, chain @ ..] => {
@@ -145,10 +145,10 @@ fn walk_files<'a>(
     options: Options,
     tail: &[&str],
     now: Time,
-    files: &[Vec<u8>],
+    files: &[Bytes],
 ) -> Answer<'a>
     requires { 2 + length (chain_in (texts tail.now)) ≤ length files.now }
-    ensures { VerifiedWalkOf options (texts tail.now) now (octets_of files.now) (said result) }
+    ensures { VerifiedWalkOf options (texts tail.now) now files.now (said result) }
 {
     match files {
         [object, anchor, others @ ..] => {
@@ -163,9 +163,9 @@ fn walk_files<'a>(
 
 /// Answers whether the first of these files begins with an attestation that is granted at this
 /// moment, under the anchors, whose files are the others.
-fn rta_files<'a>(alloc: Global, words: &[&str], now: Time, files: &[Vec<u8>]) -> Answer<'a>
+fn rta_files<'a>(alloc: Global, words: &[&str], now: Time, files: &[Bytes]) -> Answer<'a>
     requires { 1 + length (files_of_anchors (texts words.now)) ≤ length files.now }
-    ensures { VerifiedRtaOf (texts words.now) now (octets_of files.now) (said result) }
+    ensures { VerifiedRtaOf (texts words.now) now files.now (said result) }
 {
     match files {
         [object, others @ ..] => {
@@ -177,9 +177,9 @@ fn rta_files<'a>(alloc: Global, words: &[&str], now: Time, files: &[Vec<u8>]) ->
 
 /// Answers with the list of the good ones of the signatures that a check of the first of these
 /// files asks about, under the certificates of the others.
-fn list_files<'a>(alloc: Global, options: Options, files: &[Vec<u8>]) -> Answer<'a>
+fn list_files<'a>(alloc: Global, options: Options, files: &[Bytes]) -> Answer<'a>
     requires { 2 ≤ length files.now }
-    ensures { ListedOf options (octets_of files.now) (said result) }
+    ensures { ListedOf options files.now (said result) }
 {
     match files {
         [object, anchor, chain @ ..] => {
@@ -192,9 +192,9 @@ fn list_files<'a>(alloc: Global, options: Options, files: &[Vec<u8>]) -> Answer<
 
 /// Answers with the list of the good ones of the signatures that a check of the attestation in the
 /// first of these files may ask about, under the anchors, whose files are the others.
-fn list_rta_files<'a>(alloc: Global, words: &[&str], files: &[Vec<u8>]) -> Answer<'a>
+fn list_rta_files<'a>(alloc: Global, words: &[&str], files: &[Bytes]) -> Answer<'a>
     requires { 1 + length (files_of_anchors (texts words.now)) ≤ length files.now }
-    ensures { RtaListedOf (texts words.now) (octets_of files.now) (said result) }
+    ensures { RtaListedOf (texts words.now) files.now (said result) }
 {
     match files {
         [object, others @ ..] => list_rta(alloc, object, words, others),
@@ -204,10 +204,10 @@ fn list_rta_files<'a>(alloc: Global, words: &[&str], files: &[Vec<u8>]) -> Answe
 
 /// Answers with the list of the good ones of the signatures that a check of this attestation may
 /// ask about, under the anchors that the words name, whose files are these.
-fn list_rta<'a>(alloc: Global, object: &[u8], words: &[&str], files: &[Vec<u8>]) -> Answer<'a>
+fn list_rta<'a>(alloc: Global, object: &Bytes, words: &[&str], files: &[Bytes]) -> Answer<'a>
     requires { length (files_of_anchors (texts words.now)) ≤ length files.now }
     ensures { IsRtaListAnswer object.now
-        (chains_in (given_in (texts words.now) (octets_of files.now))) (said result) }
+        (chains_in (given_in (texts words.now) files.now)) (said result) }
 {
     match chains_of(alloc, words, files) {
         Err(_) => Answer::OutOfMemory,

@@ -3,7 +3,6 @@
 
 ghost use Rattle.std.specs.Prelude.{◌≡◌, ◌⊎◌, ◌≤◌, length, option_map};
 ghost use Rattle.std.specs.List.{zip};
-ghost use Rattle.rpki_certs.specs.Issuer.{octets_of};
 ghost use Rattle.rpki_cli.specs.Answer.{out_of_memory, said};
 ghost use Rattle.rpki_cli.specs.Words.{texts};
 ghost use Rattle.rpki_cli.specs.Verify.CheckSettings.{check_values, check_names, word_given};
@@ -20,10 +19,11 @@ use crate::verify::issuers::{
 };
 use crate::verify::objects::{CheckInJson, CheckUnder};
 use crate::verify::revoked::{NamedList, NotLists, lists_in};
+use bytes::Bytes;
 use rpki_basics::Time;
 use rpki_cli::answer::Answer;
 use rpki_cli::verify::check_settings::CheckSettings;
-use rpki_cli::verify::requests::ObjectKind;
+use rpki_cli::verify::requests::CheckedKind;
 use rpki_cli::words::Options;
 use rpki_rsa::Rsa;
 use std::alloc::Global;
@@ -53,14 +53,14 @@ pub fn check_each<'a>(
     alloc: Global,
     options: Options,
     settings: &CheckSettings<'a>,
-    kinds: &[ObjectKind],
+    kinds: &[CheckedKind],
     now: Time,
-    files: &[Vec<u8>],
+    files: &[Bytes],
 ) -> Answer<'a>
     requires kinds { length kinds.now ≡ length settings.now.files.items }
     requires files { length (check_names (check_values settings.now)) ≤ length files.now }
     ensures { CheckedOf options (check_values settings.now) kinds.now now
-        (octets_of files.now) (said result) }
+        files.now (said result) }
 {
     match files {
         [anchor, below @ ..] => {
@@ -110,10 +110,10 @@ fn count_of(locator: Option<&str>) -> usize
 fn locator_if<'a>(
     alloc: Global,
     name: Option<&'a str>,
-    files: &[Vec<u8>],
+    files: &[Bytes],
 ) -> Result<Option<NamedLocator<'a>>, NotLocator<'a>>
     requires { length (word_given (text_given name)) ≤ length files.now }
-    ensures { IsLocatorOf (option_map (λ n. (n, first_of (octets_of files.now)))
+    ensures { IsLocatorOf (option_map (λ n. (n, first_of files.now))
         (text_given name.entry)) result }
 {
     match name {
@@ -133,10 +133,10 @@ fn check_listed<'a>(
     certs: &CertFiles<'_>,
     locator: Option<NamedLocator<'_>>,
     names: &[&str],
-    files: &[Vec<u8>],
-    objects: &[AskedFile<'_, ObjectKind>],
+    files: &[Bytes],
+    objects: &[AskedFile<'_, CheckedKind>],
 ) -> Answer<'a>
-    ensures { SaidWithLists manner certs.now (zip (texts names.now) (octets_of files.now))
+    ensures { SaidWithLists manner certs.now (zip (texts names.now) files.now)
         objects.now locator.entry (said result) }
 {
     match lists_in(alloc, names, files) {
@@ -173,7 +173,7 @@ fn check_under<'a>(
     certs: &CertFiles<'_>,
     locator: Option<&NamedLocator<'_>>,
     lists: &[NamedList<'_>],
-    objects: &[AskedFile<'_, ObjectKind>],
+    objects: &[AskedFile<'_, CheckedKind>],
 ) -> Answer<'a>
     ensures { SaidUnder manner certs.now objects.now
         (option_map (λ l. l.now) locator.entry) lists.now (said result) }
@@ -205,7 +205,7 @@ fn refused_all<'a>(
     alloc: Global,
     json: bool,
     refusal: &NoIssuer<'_>,
-    objects: &[AskedFile<'_, ObjectKind>],
+    objects: &[AskedFile<'_, CheckedKind>],
 ) -> Answer<'a>
     ensures { IsSaidUnissued json refusal.now objects.now (said result) }
 {
@@ -221,7 +221,7 @@ fn judged<'a>(
     alloc: Global,
     json: bool,
     judge: &CheckUnder<'_>,
-    objects: &[AskedFile<'_, ObjectKind>],
+    objects: &[AskedFile<'_, CheckedKind>],
 ) -> Answer<'a>
     ensures { IsSaidOfObjects json judge.now objects.now (said result) }
 {
@@ -239,11 +239,11 @@ pub struct Unissued<'s> {
 }
 
 impl Judge for Unissued<'_> {
-    type Kind = ObjectKind;
+    type Kind = CheckedKind;
 
     ghost says = { λ u file. IsNoIssuerSaid u.refusal.now };
 
-    fn answer<'a>(&self, alloc: Global, _file: &AskedFile<'_, ObjectKind>) -> Answer<'a> {
+    fn answer<'a>(&self, alloc: Global, _file: &AskedFile<'_, CheckedKind>) -> Answer<'a> {
         refused_by(alloc, self.refusal)
     }
 }

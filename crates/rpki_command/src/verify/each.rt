@@ -3,16 +3,16 @@
 ghost use Rattle.std.specs.Prelude.{◌≡◌, ◌≤◌, ◌++◌, ◌==◌, IfOk, codes, length, string_bytes};
 ghost use Rattle.std.specs.Prelude.{ℕ, List};
 ghost use Rattle.std.specs.Prelude.{if◌then◌else◌};
-ghost use Rattle.rpki_certs.specs.Issuer.{octets_of};
 ghost use Rattle.rpki_cli.specs.Answer.{Output, Printed, said};
 ghost use Rattle.rpki_cli.specs.Words.{texts};
 ghost use Rattle.rpki_show.specs.Grows.{Grows};
 ghost use Rattle.rpki_show.specs.Json.File.{file_json};
-ghost use Rattle.rpki_command.specs.Verify.Each.{GivenFile, asked_in, indented, AreEntriesOf};
-ghost use Rattle.rpki_command.specs.Verify.Each.{IsSaidOfEach, IsEntryOf, entry_text, Reasons};
+ghost use Rattle.rpki_command.specs.Verify.Each.{GivenFile, asked_in, indented, AreAnswersOf};
+ghost use Rattle.rpki_command.specs.Verify.Each.{IsSaidOfEach, IsAnswerOf, answer_text, Reasons};
 ghost use Rattle.rpki_command.specs.Verify.Each.{IsSaidInJson, IsLineOf, IsLineFor};
 ghost use Rattle.rpki_command.specs.Verify.Issuers.{named};
 
+use bytes::Bytes;
 use rpki_cli::answer::Answer;
 use std::alloc::{AllocError, Global};
 use std::fmt::Write;
@@ -26,7 +26,7 @@ pub struct AskedFile<'s, K> {
     /// Its kind.
     pub kind: K,
     /// Its octets.
-    pub octets: &'s [u8],
+    pub octets: &'s Bytes,
 }
 
 impl<'s, K> Model for AskedFile<'s, K> {
@@ -74,9 +74,9 @@ pub trait Judge {
         ensures { says self.now file.now (said result) };
 }
 
-/// What is said of a file on standard output, and the status that goes with it.
+/// A text for standard output, and the status that goes with it.
 #[derive(Drop)]
-struct Entry {
+struct PrintedText {
     text: String,
     status: u8,
 }
@@ -86,12 +86,12 @@ pub fn asked_files<'s, K: Copy + Drop>(
     alloc: Global,
     names: &[&'s str],
     kinds: &[K],
-    files: &'s [Vec<u8>],
+    files: &'s [Bytes],
 ) -> Result<Vec<AskedFile<'s, K>>, AllocError>
     requires kinds { length names.now ≤ length kinds.now }
     requires files { length names.now ≤ length files.now }
     ensures { IfOk result (λ asked. asked.items
-        ≡ asked_in (texts names.now) kinds.now (octets_of files.now)) }
+        ≡ asked_in (texts names.now) kinds.now files.now) }
 {
     let mut asked = Vec::new(alloc);
     for (i, name) in names.iter().enumerate() {
@@ -131,8 +131,8 @@ fn entries_of<J: Judge>(
     alloc: Global,
     judge: &J,
     files: &[AskedFile<'_, J::Kind>],
-) -> Result<Entry, AllocError>
-    ensures { IfOk result (λ all. AreEntriesOf (IsEntryOf (J.says judge.now)) entry_text files.now
+) -> Result<PrintedText, AllocError>
+    ensures { IfOk result (λ all. AreAnswersOf (IsAnswerOf (J.says judge.now)) answer_text files.now
         (string_bytes all.text) all.status) }
 {
     let mut text = String::new(alloc);
@@ -142,7 +142,7 @@ fn entries_of<J: Judge>(
         push_entry(&mut text, file.name, &entry.text)?;
         status = joined(status, entry.status);
     }
-    Ok(Entry { text, status })
+    Ok(PrintedText { text, status })
 }
 
 /// The status of files with this one and of one more with that one.
@@ -153,11 +153,11 @@ fn joined(status: u8, more: u8) -> u8
 }
 
 /// What an answer of a file prints.
-fn entry_of(alloc: Global, answer: Answer<'_>) -> Result<Entry, AllocError>
+fn entry_of(alloc: Global, answer: Answer<'_>) -> Result<PrintedText, AllocError>
     ensures { IfOk result (λ e. said answer.entry ≡ Printed (string_bytes e.text) e.status) }
 {
     match answer {
-        Answer::Shown(text) => Ok(Entry { text, status: 0 }),
+        Answer::Shown(text) => Ok(PrintedText { text, status: 0 }),
         Answer::Malformed => refusal(alloc, "malformed", ""),
         Answer::MalformedBy(cause) => refusal(alloc, "malformed: ", &cause),
         Answer::Refused(cause) => refusal(alloc, "refused: ", &cause),
@@ -167,12 +167,12 @@ fn entry_of(alloc: Global, answer: Answer<'_>) -> Result<Entry, AllocError>
 }
 
 /// A refusal in two parts.
-fn refusal(alloc: Global, what: &str, cause: &str) -> Result<Entry, AllocError>
+fn refusal(alloc: Global, what: &str, cause: &str) -> Result<PrintedText, AllocError>
     ensures { IfOk result (λ e. (string_bytes e.text ≡ what.now ++ (cause.now ++ codes "\n"))
         × (e.status ≡ 1)) }
 {
     let text = format!(in alloc; "{what}{cause}\n")?;
-    Ok(Entry { text, status: 1 })
+    Ok(PrintedText { text, status: 1 })
 }
 
 /// Appends the entry of a file of this name, of which this is said.
@@ -225,9 +225,9 @@ fn lines_of<J: Judge>(
     alloc: Global,
     judge: &J,
     files: &[AskedFile<'_, J::Kind>],
-) -> Result<Entry, AllocError>
+) -> Result<PrintedText, AllocError>
     ensures { IfOk result (λ all.
-        AreEntriesOf (IsLineOf J.Kind.reasons J.Kind.word (J.says judge.now)) (λ e. e.text)
+        AreAnswersOf (IsLineOf J.Kind.reasons J.Kind.word (J.says judge.now)) (λ e. e.text)
         files.now (string_bytes all.text) all.status) }
 {
     let mut text = String::new(alloc);
@@ -237,7 +237,7 @@ fn lines_of<J: Judge>(
         text.push_str(&line.text)?;
         status = joined(status, line.status);
     }
-    Ok(Entry { text, status })
+    Ok(PrintedText { text, status })
 }
 
 /// The line of a file of which this is answered.
@@ -245,12 +245,12 @@ fn line_of<K: JsonKind>(
     alloc: Global,
     file: &AskedFile<'_, K>,
     answer: Answer<'_>,
-) -> Result<Entry, AllocError>
+) -> Result<PrintedText, AllocError>
     ensures { IfOk result (λ e. IsLineFor K.reasons file.now.name (K.word file.now.kind)
         (said answer.entry) (string_bytes e.text) e.status) }
 {
     match answer {
-        Answer::Shown(text) => Ok(Entry { text, status: 0 }),
+        Answer::Shown(text) => Ok(PrintedText { text, status: 0 }),
         Answer::Malformed => reason_line(alloc, file, "malformed", ""),
         Answer::MalformedBy(cause) => reason_line(alloc, file, "malformed: ", &cause),
         Answer::Refused(cause) => reason_line(alloc, file, "refused: ", &cause),
@@ -266,12 +266,12 @@ fn reason_line<K: JsonKind>(
     file: &AskedFile<'_, K>,
     what: &str,
     cause: &str,
-) -> Result<Entry, AllocError>
+) -> Result<PrintedText, AllocError>
     ensures { IfOk result (λ e. (string_bytes e.text ≡ file_json file.now.name
         (K.word file.now.kind) (K.reasons (what.now ++ cause.now))) × (e.status ≡ 1)) }
 {
     let reason = format!(in alloc; "{what}{cause}")?;
     let mut text = String::new(alloc);
     K::push_reason(&mut text, file.name, file.kind.word(), &reason)?;
-    Ok(Entry { text, status: 1 })
+    Ok(PrintedText { text, status: 1 })
 }

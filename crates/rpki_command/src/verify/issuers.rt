@@ -14,6 +14,7 @@ ghost use Rattle.rpki_command.specs.Verify.Issuers.{IsIssuerOf, IsKeyed, IsNoIss
 ghost use Rattle.rpki_command.specs.Verify.Issuers.{IsLocatorRead, IsLocatorFault, IsCauseSaid};
 
 use crate::verify::revoked::{NamedList, revoking};
+use bytes::Bytes;
 use rpki_basics::{Crypto, Time};
 use rpki_certs::{Cert, IssuerError, ResourceCert, issued_at, issuer_at};
 use rpki_cli::answer::Answer;
@@ -31,16 +32,15 @@ pub struct CertFiles<'s> {
     /// The name of the file of the trust anchor.
     pub name: &'s str,
     /// Its octets.
-    pub anchor: &'s [u8],
+    pub anchor: &'s Bytes,
     /// The names of the files of the chain.
     pub names: &'s [&'s str],
     /// Their octets.
-    pub chain: &'s [Vec<u8>],
+    pub chain: &'s [Bytes],
 }
 
 impl<'s> Model for CertFiles<'s> {
     ghost use Rattle.std.specs.List.{zip};
-    ghost use Rattle.rpki_certs.specs.Issuer.{octets_of};
     ghost use Rattle.rpki_cli.specs.Words.{texts};
     ghost use Rattle.rpki_command.specs.Verify.Issuers.{CertFiles as Certs};
 
@@ -49,7 +49,7 @@ impl<'s> Model for CertFiles<'s> {
     // Each name with its octets.
     ghost view = { λ c. record {
       anchor = (c.name.now, c.anchor.now);
-      chain = zip (texts c.names.now) (octets_of c.chain.now);
+      chain = zip (texts c.names.now) c.chain.now;
     } };
 }
 
@@ -230,7 +230,7 @@ fn next_under<'s, K: Crypto>(
     alloc: Global,
     issuer: &ResourceCert,
     name: &'s str,
-    octets: &[u8],
+    octets: &Bytes,
     lists: &[NamedList<'s>],
     crypto: &K,
     now: Time,

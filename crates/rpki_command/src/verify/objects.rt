@@ -4,7 +4,7 @@ ghost use Rattle.std.specs.Prelude.{◌≡◌, ◌++◌, IfOk, codes, map, strin
 ghost use Rattle.rpki_rta.specs.Refused.{supply_in};
 ghost use Rattle.rpki_cli.specs.Answer.{said};
 ghost use Rattle.rpki_cli.specs.Shown.{IsLinesOf};
-ghost use Rattle.rpki_cli.specs.declared.verify.requests.ObjectKind.TheVariants.{Signed};
+ghost use Rattle.rpki_cli.specs.declared.verify.requests.CheckedKind.TheVariants.{Signed};
 ghost use Rattle.rpki_show.specs.Json.File.{file_json};
 ghost use Rattle.rpki_show.specs.Json.Outcome.{valid_members, invalid_members};
 ghost use Rattle.rpki_show.specs.Json.Rta.{attestation_members};
@@ -26,7 +26,7 @@ use bytes::Bytes;
 use rpki_basics::{Crypto, Time};
 use rpki_certs::ResourceCert;
 use rpki_cli::answer::Answer;
-use rpki_cli::verify::requests::ObjectKind;
+use rpki_cli::verify::requests::CheckedKind;
 use rpki_cli::words::{Kind, Options};
 use rpki_cli::{Causes, refusal};
 use rpki_multi::Rta;
@@ -68,15 +68,15 @@ impl<'s> Model for CheckUnder<'s> {
     } };
 }
 
-impl JsonKind for ObjectKind {
+impl JsonKind for CheckedKind {
     ghost word = { object_word };
 
     ghost reasons = { invalid_members };
 
     fn word(&self) -> &'static str {
         match self {
-            ObjectKind::Signed(kind) => kind_word(*kind),
-            ObjectKind::Rta => "rta",
+            CheckedKind::Signed(kind) => kind_word(*kind),
+            CheckedKind::Rta => "rta",
         }
     }
 
@@ -91,14 +91,14 @@ impl JsonKind for ObjectKind {
 }
 
 impl Judge for CheckUnder<'_> {
-    type Kind = ObjectKind;
+    type Kind = CheckedKind;
 
     ghost says = { IsSaidOfObject };
 
-    fn answer<'a>(&self, alloc: Global, file: &AskedFile<'_, ObjectKind>) -> Answer<'a> {
+    fn answer<'a>(&self, alloc: Global, file: &AskedFile<'_, CheckedKind>) -> Answer<'a> {
         match file.kind {
-            ObjectKind::Signed(kind) => self.signed(alloc, kind, file.octets),
-            ObjectKind::Rta => self.attestation(alloc, file.octets),
+            CheckedKind::Signed(kind) => self.signed(alloc, kind, file.octets),
+            CheckedKind::Rta => self.attestation(alloc, file.octets),
         }
     }
 }
@@ -110,17 +110,17 @@ pub struct CheckInJson<'s> {
 }
 
 impl Judge for CheckInJson<'_> {
-    type Kind = ObjectKind;
+    type Kind = CheckedKind;
 
     ghost says = { λ c. IsObjectInJson c.under.now };
 
-    fn answer<'a>(&self, alloc: Global, file: &AskedFile<'_, ObjectKind>) -> Answer<'a> {
+    fn answer<'a>(&self, alloc: Global, file: &AskedFile<'_, CheckedKind>) -> Answer<'a> {
         match file.kind {
-            ObjectKind::Signed(kind) => {
+            CheckedKind::Signed(kind) => {
                 self.under
                     .signed_in_json(alloc, kind, file.name, file.octets)
             }
-            ObjectKind::Rta => self
+            CheckedKind::Rta => self
                 .under
                 .attestation_in_json(alloc, file.name, file.octets),
         }
@@ -129,7 +129,7 @@ impl Judge for CheckInJson<'_> {
 
 impl<'s> CheckUnder<'s> {
     /// Answers whether the octets begin with a good object of the kind.
-    fn signed<'a>(&self, alloc: Global, kind: Kind, octets: &[u8]) -> Answer<'a>
+    fn signed<'a>(&self, alloc: Global, kind: Kind, octets: &Bytes) -> Answer<'a>
         ensures { IsSaidOfSigned self.now kind octets.now (said result) }
     {
         let action = CheckListed {
@@ -149,7 +149,7 @@ impl<'s> CheckUnder<'s> {
         alloc: Global,
         kind: Kind,
         name: &'f str,
-        octets: &'f [u8],
+        octets: &'f Bytes,
     ) -> Answer<'a>
         ensures { IsKindInJson self.now (Signed kind) name.now octets.now (said result) }
     {
@@ -166,7 +166,7 @@ impl<'s> CheckUnder<'s> {
     }
 
     /// Answers whether the octets begin with an attestation that is granted.
-    fn attestation<'a>(&self, alloc: Global, octets: &[u8]) -> Answer<'a>
+    fn attestation<'a>(&self, alloc: Global, octets: &Bytes) -> Answer<'a>
         ensures { IsSaidOfRta self.now octets.now (said result) }
     {
         match self.granted(alloc, octets) {
@@ -177,7 +177,7 @@ impl<'s> CheckUnder<'s> {
 
     /// Answers with the line of an attestation that is granted at the front of the octets of a file
     /// of this name, or why there is none.
-    fn attestation_in_json<'a>(&self, alloc: Global, name: &str, octets: &[u8]) -> Answer<'a>
+    fn attestation_in_json<'a>(&self, alloc: Global, name: &str, octets: &Bytes) -> Answer<'a>
         ensures { IsSaidOfRtaInJson self.now name.now octets.now (said result) }
     {
         match self.granted(alloc, octets) {
@@ -191,7 +191,7 @@ impl<'s> CheckUnder<'s> {
     }
 
     /// The attestation at the front of the octets, where it is granted, or what is answered.
-    fn granted<'a>(&self, alloc: Global, octets: &[u8]) -> Result<Rta, Answer<'a>>
+    fn granted<'a>(&self, alloc: Global, octets: &Bytes) -> Result<Rta, Answer<'a>>
         ensures { Settles (λ text s. IsSaidOfRtaAs self.now text octets.now s) result }
     {
         match self.supplies(alloc) {
@@ -224,7 +224,7 @@ impl<'s> CheckUnder<'s> {
 /// lists are given.
 #[derive(Drop)]
 struct CheckListed<'s, K: Crypto> {
-    octets: &'s [u8],
+    octets: &'s Bytes,
     lists: &'s [NamedList<'s>],
     issuer: &'s ResourceCert,
     crypto: &'s K,
@@ -263,7 +263,7 @@ impl<'s, K: Crypto> Action for CheckListed<'s, K> {
 struct CheckListedInJson<'s, 'f, K: Crypto> {
     name: &'f str,
     word: &'f str,
-    octets: &'f [u8],
+    octets: &'f Bytes,
     lists: &'s [NamedList<'s>],
     issuer: &'s ResourceCert,
     crypto: &'s K,
@@ -303,7 +303,7 @@ impl<'s, 'f, K: Crypto> JsonAction for CheckListedInJson<'s, 'f, K> {
 fn judged<'a, C: Lines, K: Crypto>(
     alloc: Global,
     options: Options,
-    octets: &[u8],
+    octets: &Bytes,
     lists: &[NamedList<'_>],
     issuer: &ResourceCert,
     crypto: &K,
@@ -313,7 +313,7 @@ fn judged<'a, C: Lines, K: Crypto>(
         (read_mode options) (K.digest_of crypto.now) (K.is_signed crypto.now) lists.now issuer.now
         moment octets.now s) result }
 {
-    match Bytes::copy_from_slice(alloc, octets) {
+    match octets.clone() {
         Err(_) => Err(Answer::OutOfMemory),
         Ok(source) => {
             let checked = check_passed::<C, K, _>(

@@ -24,6 +24,7 @@ use crate::verify::check::{
 use crate::verify::checks::check_each;
 use crate::verify::payloads::payloads_when;
 use crate::verify::shows::show_each;
+use bytes::Bytes;
 use rpki_basics::Time;
 use rpki_cli::answer::Answer;
 use rpki_cli::verify::RelyingParty;
@@ -190,8 +191,8 @@ fn show_issued_file<'a, S: Store>(
 
 /// Answers with the lines of the certificate or of the revocation list at the front of the octets,
 /// if there is one.
-fn show_octets<'a>(alloc: Global, issued: Issued, octets: Vec<u8>) -> Answer<'a>
-    ensures { IsShown Included (IssuedLines issued) octets.items (said result) }
+fn show_octets<'a>(alloc: Global, issued: Issued, octets: Bytes) -> Answer<'a>
+    ensures { IsShown Included (IssuedLines issued) octets (said result) }
 {
     match issued {
         Issued::Certificate => show_certificate(alloc, Causes::Included, octets),

@@ -5,7 +5,6 @@ ghost use Rattle.std.specs.Prelude.{◌≡◌, ◌↔◌, IsTrue, MatchOption};
 ghost use Rattle.std.specs.List.{zip};
 ghost use Rattle.rpki_der.specs.declared.mode.Mode.TheVariants.{Der};
 ghost use Rattle.rpki_der.specs.Form.Decodes.{Decodes};
-ghost use Rattle.rpki_certs.specs.Issuer.{octets_of};
 ghost use Rattle.rpki_crls.specs.Crl.{CrlForm};
 ghost use Rattle.rpki_cli.specs.Words.{texts};
 ghost use Rattle.rpki_command.specs.Verify.Revoked.{IsListOf, Revokes, IsUnrevoked, IsRevokedBy};
@@ -71,9 +70,9 @@ impl<'s> NamedList<'s> {
 pub fn lists_in<'s>(
     alloc: Global,
     names: &[&'s str],
-    files: &[Vec<u8>],
+    files: &[Bytes],
 ) -> Result<Vec<NamedList<'s>>, NotLists<'s>>
-    ensures { AreLists (zip (texts names.now) (octets_of files.now)) result }
+    ensures { AreLists (zip (texts names.now) files.now) result }
 {
     let mut lists = Vec::new(alloc);
     for (name, octets) in names.iter().zip(files.iter()) {
@@ -90,7 +89,7 @@ pub fn lists_in<'s>(
 }
 
 /// The list that the file of this name begins with.
-fn list_in<'s>(alloc: Global, name: &'s str, octets: &[u8]) -> Result<NamedList<'s>, NotLists<'s>>
+fn list_in<'s>(alloc: Global, name: &'s str, octets: &Bytes) -> Result<NamedList<'s>, NotLists<'s>>
     ensures { IsOneList (name.now, octets.now) result }
 {
     match read_list(alloc, octets) {
@@ -100,10 +99,10 @@ fn list_in<'s>(alloc: Global, name: &'s str, octets: &[u8]) -> Result<NamedList<
 }
 
 /// The list at the front of the octets.
-fn read_list(alloc: Global, octets: &[u8]) -> Result<Crl, DecodeError>
+fn read_list(alloc: Global, octets: &Bytes) -> Result<Crl, DecodeError>
     ensures { Decodes (CrlForm Der) (λ c. c.list) octets.now result }
 {
-    match Bytes::copy_from_slice(alloc, octets) {
+    match octets.clone() {
         Err(_) => Err(DecodeError::Memory),
         Ok(source) => Crl::decode(alloc, source),
     }

@@ -1,7 +1,6 @@
 //! What is said of files that are shown, each by its kind.
 
 ghost use Rattle.std.specs.Prelude.{◌≡◌, ◌≤◌, length};
-ghost use Rattle.rpki_certs.specs.Issuer.{octets_of};
 ghost use Rattle.rpki_cli.specs.Answer.{said};
 ghost use Rattle.rpki_cli.specs.Shown.{IsShown};
 ghost use Rattle.rpki_cli.specs.Verify.Requests.{asked_show};
@@ -12,6 +11,7 @@ ghost use Rattle.rpki_command.specs.Verify.Shows.{FileLines, IsSaidOfShown, Show
 ghost use Rattle.rpki_command.specs.Verify.Shows.{FileJson, IsSaidOfShownInJson, IsSaidOfShow};
 
 use crate::verify::each::{AskedFile, JsonKind, Judge, answer_each, answer_in_json, asked_files};
+use bytes::Bytes;
 use rpki_cli::Causes;
 use rpki_cli::answer::Answer;
 use rpki_cli::verify::kinds_by_name::FileKind;
@@ -55,7 +55,7 @@ impl Judge for ShowFiles {
     ghost says = { λ s. IsSaidOfShown s.options };
 
     fn answer<'a>(&self, alloc: Global, file: &AskedFile<'_, FileKind>) -> Answer<'a> {
-        match Vec::from_slice(alloc, file.octets) {
+        match file.octets.clone() {
             Ok(octets) => show_octets(alloc, self.options, file.kind, octets),
             Err(_) => Answer::OutOfMemory,
         }
@@ -63,8 +63,8 @@ impl Judge for ShowFiles {
 }
 
 /// Answers with the lines of a file of this kind, if the octets have any.
-fn show_octets<'a>(alloc: Global, options: Options, kind: FileKind, octets: Vec<u8>) -> Answer<'a>
-    ensures { IsShown Included (FileLines options kind) octets.items (said result) }
+fn show_octets<'a>(alloc: Global, options: Options, kind: FileKind, octets: Bytes) -> Answer<'a>
+    ensures { IsShown Included (FileLines options kind) octets (said result) }
 {
     let causes = Causes::Included;
     match kind {
@@ -91,7 +91,7 @@ impl Judge for ShowFilesInJson {
     ghost says = { λ s. IsSaidOfShownInJson s.options };
 
     fn answer<'a>(&self, alloc: Global, file: &AskedFile<'_, FileKind>) -> Answer<'a> {
-        match Vec::from_slice(alloc, file.octets) {
+        match file.octets.clone() {
             Ok(octets) => show_in_json(alloc, self.options, file.kind, file.name, octets),
             Err(_) => Answer::OutOfMemory,
         }
@@ -104,9 +104,9 @@ fn show_in_json<'a>(
     options: Options,
     kind: FileKind,
     name: &str,
-    octets: Vec<u8>,
+    octets: Bytes,
 ) -> Answer<'a>
-    ensures { IsShown Included (FileJson options kind name.now) octets.items (said result) }
+    ensures { IsShown Included (FileJson options kind name.now) octets (said result) }
 {
     let causes = Causes::Included;
     match kind {
@@ -128,11 +128,11 @@ pub fn show_each<'a>(
     alloc: Global,
     options: Options,
     request: &ShowRequest<'_>,
-    files: &[Vec<u8>],
+    files: &[Bytes],
 ) -> Answer<'a>
     requires kinds { length request.now.files.items ≤ length request.now.kinds.items }
     requires files { length request.now.files.items ≤ length files.now }
-    ensures { ShownOf options (asked_show request.now) (octets_of files.now) (said result) }
+    ensures { ShownOf options (asked_show request.now) files.now (said result) }
 {
     match asked_files(alloc, &request.files, &request.kinds, files) {
         Ok(asked) => show_asked(alloc, options, request.json, &asked),

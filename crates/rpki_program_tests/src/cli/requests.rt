@@ -4,7 +4,7 @@ use super::checks::{check_text, push_words};
 use rpki_cli::verify::check_settings::SettingsError;
 use rpki_cli::verify::kinds_by_name::FileKind;
 use rpki_cli::verify::requests::{
-    CheckRequest, ObjectKind, ShowRequest, WrongWords, check_words, kind_of_file, names_of_check,
+    CheckRequest, CheckedKind, ShowRequest, WrongWords, check_words, kind_of_file, names_of_check,
     object_of, show_words,
 };
 use rpki_cli::verify::settings::ArrangeError;
@@ -169,13 +169,13 @@ fn request_text(alloc: Global, request: &CheckRequest<'_>) -> Result<String, All
     Ok(text)
 }
 
-fn object_word(kind: ObjectKind) -> &'static str {
+fn object_word(kind: CheckedKind) -> &'static str {
     match kind {
-        ObjectKind::Signed(Kind::Aspa) => "aspa",
-        ObjectKind::Signed(Kind::Manifest) => "manifest",
-        ObjectKind::Signed(Kind::Roa) => "roa",
-        ObjectKind::Signed(Kind::Rsc) => "rsc",
-        ObjectKind::Rta => "rta",
+        CheckedKind::Signed(Kind::Aspa) => "aspa",
+        CheckedKind::Signed(Kind::Manifest) => "manifest",
+        CheckedKind::Signed(Kind::Roa) => "roa",
+        CheckedKind::Signed(Kind::Rsc) => "rsc",
+        CheckedKind::Rta => "rta",
     }
 }
 
@@ -255,7 +255,7 @@ fn kinds_are_those_of_files(rt: HostRuntime) -> Result<(), Fail> {
     assert!(rt; kind_of_file(Some(FileKind::Crl), "a.roa") == Some(FileKind::Crl));
     assert!(rt; kind_of_file(None, "a.roa") == Some(FileKind::Roa));
     assert!(rt; kind_of_file(None, "roa") == None);
-    assert!(rt; object_of(FileKind::Rsc) == Some(ObjectKind::Signed(Kind::Rsc)));
+    assert!(rt; object_of(FileKind::Rsc) == Some(CheckedKind::Signed(Kind::Rsc)));
     assert!(rt; object_of(FileKind::Certificate) == None);
     Ok(())
 }

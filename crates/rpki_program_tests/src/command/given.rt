@@ -4,6 +4,7 @@ ghost use Rattle.std.specs.Prelude.{◌≡◌, MatchOption, bytes_eq, None, Some
 ghost use Rattle.std.specs.Map.{lookup};
 ghost use Rattle.rpki_program_tests.specs.Command.Given.{by_name};
 
+use bytes::Bytes;
 use rpki_cli::{ReadLog, Reason, Store, StoreError};
 use std::alloc::Global;
 
@@ -36,7 +37,7 @@ impl Store for Files<'_> {
 
     ghost reads = { λ s. s.reads.names };
 
-    fn read(&mut self, alloc: Global, name: &str) -> Result<Vec<u8>, StoreError> {
+    fn read(&mut self, alloc: Global, name: &str) -> Result<Bytes, StoreError> {
         self.reads = self.reads.and(name);
         self.calls = self.calls.saturating_add(1);
         if name == "large" {
@@ -44,7 +45,7 @@ impl Store for Files<'_> {
         }
         match find(self.files, name) {
             None => Err(StoreError::Unreadable(Reason::NotFound)),
-            Some(octets) => match Vec::from_slice(alloc, octets) {
+            Some(octets) => match Bytes::copy_from_slice(alloc, octets) {
                 Ok(copy) => Ok(copy),
                 Err(_) => Err(StoreError::Memory),
             },

@@ -3,6 +3,7 @@
 ghost use Rattle.std.specs.Prelude.{⊤};
 
 use super::runs::{NOT_THERE, Output, Row, is_answered_by};
+use bytes::Bytes;
 use rpki_basics::Time;
 use rpki_cli::answer::Answer;
 use rpki_cli::verify::{PayloadsRequest, RelyingParty};
@@ -23,7 +24,7 @@ impl RelyingParty for Echo {
         &self,
         alloc: Global,
         request: &PayloadsRequest<'a>,
-        files: &[Vec<u8>],
+        files: &[Bytes],
     ) -> Answer<'a> {
         for (name, octets) in request.locators.0.iter().zip(files.iter()) {
             if octets.is_empty() {

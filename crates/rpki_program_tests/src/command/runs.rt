@@ -180,12 +180,12 @@ fn causes_are_told(rt: HostRuntime) -> Result<(), Fail> {
 }
 
 /// Words that ask for nothing of the program with signatures, and which of them is wrong.
-const NAMED: [(&[&str], &str); 12] = [
+const NAMED: [(&[&str], &str); 16] = [
     (&["help"], "unknown command: help\n"),
     (&["--strict", "help"], "unknown option: --strict\n"),
     (
         &["--wide", "--relaxed", "show", "file"],
-        "unknown option: --relaxed\n",
+        "option out of place: --relaxed\n",
     ),
     (&["check", "--kind", "aspa", "file"], "missing: --ta\n"),
     (
@@ -209,7 +209,20 @@ const NAMED: [(&[&str], &str); 12] = [
     ),
     (
         &["payloads", "--csv", "--json", "now"],
-        "unknown option: --json\n",
+        "option out of place: --json\n",
+    ),
+    (
+        &["payloads", "--relaxed", "now", "file"],
+        "option out of place: --relaxed\n",
+    ),
+    (&["rta", "file", "now", "ca="], "wrong anchor: ca=\n"),
+    (
+        &["verdicts", "rta", "file", "tal=file", "file"],
+        "wrong anchor: file\n",
+    ),
+    (
+        &["walk", "file", "now", "file", "with", "a=file", "a"],
+        "wrong pair: a\n",
     ),
 ];
 

@@ -18,20 +18,10 @@ use std::alloc::Global;
 
 /// Answers with the object of JSON that says what the attestation at the front of the octets is, if
 /// there is one: under its name, in a line of its own.
-pub fn show_rta_json<'a>(alloc: Global, causes: Causes, name: &str, octets: Vec<u8>) -> Answer<'a>
-    ensures { IsShown causes (RtaJson name.now) octets.items (said result) }
+pub fn show_rta_json<'a>(alloc: Global, causes: Causes, name: &str, octets: Bytes) -> Answer<'a>
+    ensures { IsShown causes (RtaJson name.now) octets (said result) }
 {
-    match Bytes::from_vec(octets) {
-        Ok(source) => show_object(alloc, causes, name, source),
-        Err(_) => Answer::OutOfMemory,
-    }
-}
-
-/// Answers in JSON with the attestation at the front of the source, if there is one.
-fn show_object<'a>(alloc: Global, causes: Causes, name: &str, source: Bytes) -> Answer<'a>
-    ensures { IsShown causes (RtaJson name.now) source (said result) }
-{
-    match Rta::decode(alloc, source) {
+    match Rta::decode(alloc, octets) {
         Err(error) => refusal(alloc, causes, error),
         Ok(rta) => {
             let answer = show_line(alloc, name, &rta);

@@ -26,21 +26,11 @@ pub fn show_certificate_json<'a>(
     alloc: Global,
     causes: Causes,
     name: &str,
-    octets: Vec<u8>,
+    octets: Bytes,
 ) -> Answer<'a>
-    ensures { IsShown causes (CertificateJson name.now) octets.items (said result) }
+    ensures { IsShown causes (CertificateJson name.now) octets (said result) }
 {
-    match Bytes::from_vec(octets) {
-        Ok(source) => show_cert(alloc, causes, name, source),
-        Err(_) => Answer::OutOfMemory,
-    }
-}
-
-/// Answers in JSON with the certificate at the front of the source, if there is one.
-fn show_cert<'a>(alloc: Global, causes: Causes, name: &str, source: Bytes) -> Answer<'a>
-    ensures { IsShown causes (CertificateJson name.now) source (said result) }
-{
-    match Cert::decode(alloc, source) {
+    match Cert::decode(alloc, octets) {
         Err(error) => refusal(alloc, causes, error),
         Ok(cert) => {
             let answer = show_cert_line(alloc, name, &cert);
@@ -79,20 +69,10 @@ fn push_cert_line(
 
 /// Answers with the object of JSON that says what the revocation list at the front of the octets
 /// is, if there is one: under its name, in a line of its own.
-pub fn show_crl_json<'a>(alloc: Global, causes: Causes, name: &str, octets: Vec<u8>) -> Answer<'a>
-    ensures { IsShown causes (CrlJson name.now) octets.items (said result) }
+pub fn show_crl_json<'a>(alloc: Global, causes: Causes, name: &str, octets: Bytes) -> Answer<'a>
+    ensures { IsShown causes (CrlJson name.now) octets (said result) }
 {
-    match Bytes::from_vec(octets) {
-        Ok(source) => show_list(alloc, causes, name, source),
-        Err(_) => Answer::OutOfMemory,
-    }
-}
-
-/// Answers in JSON with the revocation list at the front of the source, if there is one.
-fn show_list<'a>(alloc: Global, causes: Causes, name: &str, source: Bytes) -> Answer<'a>
-    ensures { IsShown causes (CrlJson name.now) source (said result) }
-{
-    match DatedCrl::decode(alloc, source) {
+    match DatedCrl::decode(alloc, octets) {
         Err(error) => refusal(alloc, causes, error),
         Ok(list) => {
             let answer = show_list_line(alloc, name, &list);

@@ -28,9 +28,9 @@ pub fn show_object_json<'a>(
     options: Options,
     kind: Kind,
     name: &str,
-    octets: Vec<u8>,
+    octets: Bytes,
 ) -> Answer<'a>
-    ensures { IsShown causes (ObjectJsonOf options kind name.now) octets.items (said result) }
+    ensures { IsShown causes (ObjectJsonOf options kind name.now) octets (said result) }
 {
     let action = ShowObjectJson {
         causes,
@@ -47,20 +47,18 @@ struct ShowObjectJson<'s> {
     causes: Causes,
     name: &'s str,
     word: &'s str,
-    octets: Vec<u8>,
+    octets: Bytes,
 }
 
 impl<'s> JsonAction for ShowObjectJson<'s> {
     ghost says = { λ options X asked form json action s.
         IsShown action.causes (HasLines (ObjectForm asked.type form (read_mode options))
         (λ o. file_json action.name.now action.word.now (object_members json o)))
-        action.octets.items s };
+        action.octets s };
 
     fn answer<'a, C: Lines>(self, alloc: Global, options: Options) -> Answer<'a> {
-        match Bytes::from_vec(self.octets) {
-            Ok(source) => { show::<C>(alloc, self.causes, options, self.name, self.word, source) }
-            Err(_) => Answer::OutOfMemory,
-        }
+        let (name, word) = (self.name, self.word);
+        show::<C>(alloc, self.causes, options, name, word, self.octets)
     }
 }
 

@@ -2,6 +2,7 @@
 
 use super::copy::Files;
 use super::locators::{LOCATOR, locator, moment};
+use bytes::Bytes;
 use rpki_basics::standin::StandIn;
 use rpki_basics::{ProviderLimit, Time};
 use rpki_cli::answer::Answer;
@@ -97,10 +98,10 @@ fn files_are_below_the_folder(rt: HostRuntime) -> Result<(), Fail> {
 }
 
 // The octets of files.
-fn octets_of(alloc: Global, files: &[&[u8]]) -> Result<Vec<Vec<u8>>, AllocError> {
+fn octets_of(alloc: Global, files: &[&[u8]]) -> Result<Vec<Bytes>, AllocError> {
     let mut octets = Vec::new(alloc);
     for file in files {
-        octets.push(Vec::from_slice(alloc, file)?)?;
+        octets.push(Bytes::copy_from_slice(alloc, file)?)?;
     }
     Ok(octets)
 }
@@ -109,7 +110,7 @@ fn octets_of(alloc: Global, files: &[&[u8]]) -> Result<Vec<Vec<u8>>, AllocError>
 fn answer<'a>(
     alloc: Global,
     locators: &'a [&'a str],
-    files: &[Vec<u8>],
+    files: &[Bytes],
     moment: Time,
 ) -> Result<Answer<'a>, AllocError> {
     if files.len() != locators.len() {

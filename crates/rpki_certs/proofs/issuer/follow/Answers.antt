@@ -1,4 +1,4 @@
-use Rattle.std.proofs.Common.{◌+◌, ℕ, List, Result, Ok, Err, arith, refl, subst, Vec, Global}
+use Rattle.std.proofs.Common.{◌+◌, ℕ, List, Result, Ok, Err, arith, refl, subst}
 use Rattle.rpki_certs.specs.Validate.{Validated}
 use Rattle.rpki_certs.specs.Issuer.{IsIssued}
 use Rattle.rpki_certs.specs.declared.issuer.IssuerError.{IssuerError}
@@ -13,10 +13,8 @@ returns-in-Err g c =
     l.invariant next
     (one-more verdict c.args.now l.issuer next next c.args.chain.now l.octets-index
     (l.octets-index + 1) _ refl c.loop-octets-test.true
-    (subst (λ (v : Vec ℕ Global). IsIssued verdict c.args.now l.issuer v.items next)
-    c.octets-item.is
-    (subst (λ (o : List ℕ). IsIssued verdict c.args.now l.issuer o next) c.deref.ensures.value
-    c.in-Err.ensures)) refl)
+    (subst (λ (o : List ℕ). IsIssued verdict c.args.now l.issuer o next) c.octets-item.is
+    c.in-Err.ensures) refl)
 
 pub loop-octets-preserved : goal.loop-octets-preserved
 loop-octets-preserved g c = λ result after.
@@ -26,10 +24,8 @@ loop-octets-preserved g c = λ result after.
     l.invariant result
     (one-more verdict c.args.now l.issuer next result c.args.chain.now l.octets-index
     (l.octets-index + 1) _ refl c.loop-octets-test.true
-    (subst (λ (v : Vec ℕ Global). IsIssued verdict c.args.now l.issuer v.items next)
-    c.octets-item.is
-    (subst (λ (o : List ℕ). IsIssued verdict c.args.now l.issuer o next) c.deref.ensures.value
-    c.in-Ok.ensures)) after)
+    (subst (λ (o : List ℕ). IsIssued verdict c.args.now l.issuer o next) c.octets-item.is
+    c.in-Ok.ensures) after)
 
 pub returns : goal.returns
 returns g c =

@@ -1,5 +1,4 @@
 use Rattle.std.proofs.Common.{◌≡◌, ◌++◌, ◌∷◌, [], Bool, Ok, Err, subst, rules}
-use Rattle.rpki_certs.specs.Issuer.{octets_of}
 use Rattle.rpki_command.specs.Anchors.{MakesOf}
 use Rattle.rpki_command.proofs.Making.{one-made, one-unmade, own-some}
 use Rattle.rpki_command.proofs.anchors.anchors_of.Goals as goal
@@ -19,7 +18,7 @@ returns-in-Err g c =
     c.count_of.ensures c.split_at.ensures.front c.split_at.ensures.back
     c.in-Err.error
     (subst (λ (b : Bool). MakesOf (g.K.Crypto.is_signed c.args.crypto.now) c.args.now b
-    (octets_of c.split_at.result.0.now) (Err c.in-Err.error)) c.is_locator.ensures
+    c.split_at.result.0.now (Err c.in-Err.error)) c.is_locator.ensures
     c.in-Err.ensures)
 
 pub loop-word-preserved : goal.loop-word-preserved
@@ -33,5 +32,5 @@ loop-word-preserved g c =
     c.count_of.ensures c.split_at.ensures.front c.split_at.ensures.back
     c.in-Ok.anchor
     (subst (λ (b : Bool). MakesOf (g.K.Crypto.is_signed c.args.crypto.now) c.args.now b
-    (octets_of c.split_at.result.0.now) (Ok c.in-Ok.anchor)) c.is_locator.ensures
+    c.split_at.result.0.now (Ok c.in-Ok.anchor)) c.is_locator.ensures
     c.in-Ok.ensures))

@@ -10,7 +10,7 @@ pub returns-in-Ok-clause-said : goal.returns-in-Ok-clause-said
 returns-in-Ok-clause-said g c = let s = said c.show_tal.result in (
   Ok c.in-Ok.octets,
   c.in-Ok.ensures.answer,
-  shown-any c.args.causes TalLines c.in-Ok.octets.items s
-      (subst (λ (o : List ℕ). IsShown Omitted TalLines o s) c.as_slice.ensures.value
+  shown-any c.args.causes TalLines c.in-Ok.octets s
+      (subst (λ (o : List ℕ). IsShown Omitted TalLines o s) c.as_slice.ensures
       c.show_tal.ensures),
 )

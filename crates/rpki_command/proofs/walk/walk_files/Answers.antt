@@ -1,4 +1,5 @@
-use Rattle.std.proofs.Common.{◌≡◌, ℕ, List, inr}
+use Rattle.std.proofs.Common.{ℕ, List, inr, subst}
+use Rattle.rpki_verdicts.specs.Verdicts.{AreVerdicts}
 use Rattle.rpki_cli.specs.Answer.{said}
 use Rattle.rpki_cli.specs.Words.{texts}
 use Rattle.rpki_command.specs.Walk.{WalkOf}
@@ -7,12 +8,12 @@ use Rattle.rpki_command.proofs.walk.walk_files.Goals as goal
 
 pub returns-in-Some : goal.returns-in-Some
 returns-in-Some c =
-    let verdicts : c.deref.result.now ≡ c.verdicts-item.result.items = cc in
-    let object : c.deref-in-Some.result.now ≡ c.object-item.result.items = cc in
-    let anchor : c.deref-in-Some-2.result.now ≡ c.anchor-item.result.items = cc in
     of-three (λ (fs : List (List ℕ)).
     WalkOf c.args.options c.args.now (texts c.args.tail.now) fs (said c.walk_with.result))
     c.args.files.now c.object-item.result c.verdicts-item.result c.anchor-item.result
-    c.deref-in-Some.result.now c.deref.result.now c.deref-in-Some-2.result.now object verdicts
-    anchor c.in-len3-up.len_at_least c.object-item.is c.verdicts-item.is c.anchor-item.is
-    (inr (c.in-Some.verdicts, c.in-Some.ensures, c.walk_with.ensures))
+    c.in-len3-up.len_at_least c.object-item.is c.verdicts-item.is c.anchor-item.is
+    (inr (
+      c.in-Some.verdicts,
+      subst (λ (o : List ℕ). AreVerdicts o c.in-Some.verdicts) c.deref.ensures c.in-Some.ensures,
+      c.walk_with.ensures,
+    ))

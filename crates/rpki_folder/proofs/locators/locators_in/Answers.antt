@@ -16,7 +16,7 @@ returns-in-Err c =
     one-bad _ c.loop-word.locators.items _ _ _ _ c.in-Some.word.now c.in-Some.octets.now
     c.loop-word.invariant z.0 z.1 c.in-Err.fault
     (subst (λ (o : List ℕ). IsNoLocator (c.in-Some.word.now.now, o) c.in-Err.fault)
-    c.deref.ensures.value c.in-Err.ensures)
+    c.deref.ensures c.in-Err.ensures)
 
 pub loop-word-preserved : goal.loop-word-preserved
 loop-word-preserved c =
@@ -28,7 +28,7 @@ loop-word-preserved c =
     rw items (one-more _ c.loop-word.locators.items _ _ _ _ c.in-Some.word.now
     c.in-Some.octets.now c.loop-word.invariant z.0 z.1 c.in-Ok.one
     (subst (λ (o : List ℕ). IsNamedLocator (c.in-Some.word.now.now, o) c.in-Ok.one)
-    c.deref.ensures.value c.in-Ok.ensures))
+    c.deref.ensures c.in-Ok.ensures))
 
 pub returns : goal.returns
 returns c = all-located _ c.loop-word.locators.items _ _ c.loop-word.invariant

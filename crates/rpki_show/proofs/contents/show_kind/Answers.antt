@@ -4,5 +4,5 @@ use Rattle.rpki_show.proofs.contents.show_kind.Goals as goal
 
 pub returns : goal.returns
 returns c =
-    of_kind c.args.causes c.args.options c.args.kind c.args.octets.items (said c.answer_for.result)
+    of_kind c.args.causes c.args.options c.args.kind c.args.octets (said c.answer_for.result)
     c.answer_for.ensures

@@ -4,8 +4,8 @@ use Rattle.rpki_tree.specs.Files.{HasRoa, HasAspa}
 use Rattle.rpki_tree.specs.Kind.{kind_of}
 use Rattle.rpki_tree.specs.Passes.{setting}
 use Rattle.rpki_tree.specs.Told.{CaTells, KindTells, SaysOrRefuses, roa_found, aspa_found}
-use Rattle.rpki_tree.specs.declared.kind.FileKind.{FileKind}
-use Rattle.rpki_tree.specs.declared.kind.FileKind.TheVariants as kinds
+use Rattle.rpki_tree.specs.declared.kind.ListedKind.{ListedKind}
+use Rattle.rpki_tree.specs.declared.kind.ListedKind.TheVariants as kinds
 use Rattle.rpki_tree.specs.declared.refusal.Fault.TheVariants as faults
 use Rattle.rpki_tree.proofs.Putting.{put-alone, put-as}
 use Rattle.rpki_tree.proofs.tell.tell_read.Goals as goal
@@ -21,7 +21,7 @@ returns-in-Roa g c =
     put-alone (SaysOrRefuses (HasRoa s c.args.ca.now list file.octets) roa_found file.uri
     faults.NoRoa) (KindTells s c.args.ca.now list file.uri file.octets (kind_of file.uri))
     c.args.said.now.items c.tell_roa.new.said.items c.args.children.now.items
-    (λ put h. subst (λ (k : FileKind). KindTells s c.args.ca.now list file.uri file.octets k put [])
+    (λ put h. subst (λ (k : ListedKind). KindTells s c.args.ca.now list file.uri file.octets k put [])
     e (h, refl)) c.tell_roa.result c.tell_roa.ensures
 
 pub returns-in-Aspa : goal.returns-in-Aspa
@@ -35,7 +35,7 @@ returns-in-Aspa g c =
     put-alone (SaysOrRefuses (HasAspa s c.args.ca.now list file.octets) aspa_found file.uri
     faults.NoAspa) (KindTells s c.args.ca.now list file.uri file.octets (kind_of file.uri))
     c.args.said.now.items c.tell_aspa.new.said.items c.args.children.now.items
-    (λ put h. subst (λ (k : FileKind). KindTells s c.args.ca.now list file.uri file.octets k put [])
+    (λ put h. subst (λ (k : ListedKind). KindTells s c.args.ca.now list file.uri file.octets k put [])
     e (h, refl)) c.tell_aspa.result c.tell_aspa.ensures
 
 pub returns-in-Ca : goal.returns-in-Ca
@@ -50,7 +50,7 @@ returns-in-Ca g c =
     (KindTells s c.args.ca.now list file.uri file.octets (kind_of file.uri))
     c.args.said.now.items c.tell_ca.new.said.items c.args.children.now.items
     c.tell_ca.new.children.items
-    (λ put put2 h. subst (λ (k : FileKind).
+    (λ put put2 h. subst (λ (k : ListedKind).
     KindTells s c.args.ca.now list file.uri file.octets k put put2) e h)
     c.tell_ca.result c.tell_ca.ensures
 
@@ -64,7 +64,7 @@ returns-in-Other g c =
     record {
       put = [];
       put2 = [];
-      holds = subst (λ (k : FileKind).
+      holds = subst (λ (k : ListedKind).
           KindTells s c.args.ca.now c.args.list.now.list file.uri file.octets k [] [])
           e (refl, refl);
       appends = sym (append-nil c.args.said.now.items);

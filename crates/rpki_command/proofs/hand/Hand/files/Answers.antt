@@ -11,7 +11,7 @@ loop-pair-preserved c =
     let items = c.in_ok-push.ensures.items in
     rw items (hand-more c.loop-pair.files.items c.as_bytes.result c.as_slice.result _ _ _ _
     c.in-Some.pair.now c.in-Some.octets.now c.args.self.now c.loop-pair.invariant z.0 z.1
-    (c.as_bytes.ensures.value ∙ c.name_of.ensures) c.as_slice.ensures.value)
+    (c.as_bytes.ensures.value ∙ c.name_of.ensures) c.as_slice.ensures)
 
 pub returns : goal.returns
 returns c = hand-all c.loop-pair.files.items _ _ c.args.self.now c.loop-pair.invariant

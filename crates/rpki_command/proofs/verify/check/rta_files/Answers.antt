@@ -1,4 +1,4 @@
-use Rattle.std.proofs.Common.{◌≡◌, ℕ, List}
+use Rattle.std.proofs.Common.{ℕ, List}
 use Rattle.rpki_cli.specs.Answer.{said}
 use Rattle.rpki_cli.specs.Words.{texts}
 use Rattle.rpki_command.specs.Verify.Check.{VerifiedRtaOf}
@@ -7,8 +7,7 @@ use Rattle.rpki_command.proofs.verify.check.rta_files.Goals as goal
 
 pub returns : goal.returns
 returns c =
-    let object : c.deref.result.now ≡ c.object-item.result.items = cc in
     of-first (λ (fs : List (List ℕ)).
     VerifiedRtaOf (texts c.args.words.now) c.args.now fs (said c.check_rta.result))
-    c.args.files.now c.object-item.result c.deref.result.now object c.in-len1-up.len_at_least
-    c.object-item.is c.check_rta.ensures
+    c.args.files.now c.object-item.result c.in-len1-up.len_at_least c.object-item.is
+    c.check_rta.ensures

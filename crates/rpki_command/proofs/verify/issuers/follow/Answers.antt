@@ -1,9 +1,9 @@
-use Rattle.std.proofs.Common.{[], List, ℕ, refl, Ok, Err, Some, None, rules, subst, ap, inl, inr}
+use Rattle.std.proofs.Common.{[], refl, Some, None, rules, ap, inl, inr}
 use Rattle.std.proofs.lemmas.Slice.Zip.{Zip-more, either_empty_from_Zip}
 use Rattle.std.specs.Borrow.{Bor}
 use Rattle.std.specs.Prelude.{option_map}
 use Rattle.rpki_cli.specs.Words.{texts}
-use Rattle.rpki_command.specs.Verify.Issuers.{GivenLocator, IsNextMade}
+use Rattle.rpki_command.specs.Verify.Issuers.{GivenLocator}
 use Rattle.rpki_command.proofs.Verified.Issuing.{issuer-more, issuer-refused, issuer-whole}
 use Rattle.rpki_command.proofs.Verified.Zipped.{none-left}
 use Rattle.rpki_command.proofs.verify.issuers.follow.Goals as goal
@@ -25,8 +25,7 @@ returns-in-Err g c =
     issuer-refused verdict c.args.now c.args.certs.now
     (option_map (λ (b : Bor GivenLocator). b.now) c.args.locator) c.args.lists.now l.issuer
     _ _ _ _ c.in-Some.name.now.now c.in-Some.octets.now l.invariant (ap texts z.0) z.1 c.in-Err.refusal
-    (subst (λ (o : List ℕ). IsNextMade verdict c.args.now c.args.lists.now l.issuer
-    (c.in-Some.name.now.now, o) (Err c.in-Err.refusal)) c.deref.ensures.value c.in-Err.ensures)
+    c.in-Err.ensures
 
 pub loop-name-preserved : goal.loop-name-preserved
 loop-name-preserved g c =
@@ -38,9 +37,7 @@ loop-name-preserved g c =
     issuer-more verdict c.args.now c.args.certs.now
     (option_map (λ (b : Bor GivenLocator). b.now) c.args.locator) c.args.lists.now l.issuer
     _ _ _ _ c.in-Some.name.now.now c.in-Some.octets.now l.invariant (ap texts z.0) z.1
-    c.in-Ok.next
-    (subst (λ (o : List ℕ). IsNextMade verdict c.args.now c.args.lists.now l.issuer
-    (c.in-Some.name.now.now, o) (Ok c.in-Ok.next)) c.deref.ensures.value c.in-Ok.ensures)
+    c.in-Ok.next c.in-Ok.ensures
 
 pub returns : goal.returns
 returns g c =

@@ -1,8 +1,7 @@
-use Rattle.std.proofs.Common.{◌≡◌, ◌∷◌, [], ◌++◌, List, ℕ, refl, Some, None, rules, subst, ap, inl, inr}
-use Rattle.std.proofs.Common.{Err}
+use Rattle.std.proofs.Common.{◌≡◌, ◌∷◌, [], ◌++◌, refl, Some, None, rules, ap, inl, inr}
 use Rattle.std.proofs.lemmas.Slice.Zip.{Zip-more, either_empty_from_Zip}
 use Rattle.rpki_cli.specs.Words.{texts}
-use Rattle.rpki_command.specs.Verify.Revoked.{IsGivenList, IsOneList}
+use Rattle.rpki_command.specs.Verify.Revoked.{IsGivenList}
 use Rattle.rpki_command.proofs.Verified.Zipped.{none-made, one-made, all-made}
 use Rattle.rpki_command.proofs.Verified.Revoking.{one-bad}
 use Rattle.rpki_command.proofs.verify.revoked.lists_in.Goals as goal
@@ -17,9 +16,7 @@ returns-in-Err c =
     (Some (c.in-Some.name, c.in-Some.octets)) (c.in-Some.name, c.in-Some.octets) refl
     c.in-Some.ensures.steps in
     one-bad _ c.loop-name.lists.items _ _ _ _ c.in-Some.name.now.now c.in-Some.octets.now
-    c.loop-name.invariant (ap texts z.0) z.1 c.in-Err.fault
-    (subst (λ (o : List ℕ). IsOneList (c.in-Some.name.now.now, o) (Err c.in-Err.fault))
-    c.deref.ensures.value c.in-Err.ensures)
+    c.loop-name.invariant (ap texts z.0) z.1 c.in-Err.fault c.in-Err.ensures
 
 pub loop-name-preserved : goal.loop-name-preserved
 loop-name-preserved c =
@@ -29,9 +26,7 @@ loop-name-preserved c =
     let items : c.push.new.self.items ≡ c.loop-name.lists.items ++ c.in-Ok.list ∷ [] =
     search rules in
     rw items (one-made IsGivenList _ c.loop-name.lists.items _ _ _ _ c.in-Some.name.now.now
-    c.in-Some.octets.now c.loop-name.invariant (ap texts z.0) z.1 c.in-Ok.list
-    (subst (λ (o : List ℕ). IsGivenList (c.in-Some.name.now.now, o) c.in-Ok.list)
-    c.deref.ensures.value c.in-Ok.ensures))
+    c.in-Some.octets.now c.loop-name.invariant (ap texts z.0) z.1 c.in-Ok.list c.in-Ok.ensures)
 
 pub returns : goal.returns
 returns c = all-made IsGivenList _ c.loop-name.lists.items _ _ c.loop-name.invariant

@@ -12,9 +12,9 @@ pub returns : goal.returns
 returns c =
     let s = said c.show_tal_json.result in
     let name = c.args.name.now in
-    let octets = c.args.octets.items in
+    let octets = c.args.octets in
     subst (λ (k : FileKind). IsShown Included (FileJson c.args.options k name) octets s)
     (sym c.in-Tal.is)
     (shown-any Included (TalJson name) octets s
-    (subst (λ (o : List ℕ). IsShown Omitted (TalJson name) o s) c.as_slice.ensures.value
+    (subst (λ (o : List ℕ). IsShown Omitted (TalJson name) o s) c.as_slice.ensures
     c.show_tal_json.ensures))

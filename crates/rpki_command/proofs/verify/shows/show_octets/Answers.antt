@@ -11,9 +11,9 @@ use Rattle.rpki_command.proofs.verify.shows.show_octets.Goals as goal
 pub returns : goal.returns
 returns c =
     let s = said c.show_tal.result in
-    let octets = c.args.octets.items in
+    let octets = c.args.octets in
     subst (λ (k : FileKind). IsShown Included (FileLines c.args.options k) octets s)
     (sym c.in-Tal.is)
     (shown-any Included TalLines octets s
-    (subst (λ (o : List ℕ). IsShown Omitted TalLines o s) c.as_slice.ensures.value
+    (subst (λ (o : List ℕ). IsShown Omitted TalLines o s) c.as_slice.ensures
     c.show_tal.ensures))

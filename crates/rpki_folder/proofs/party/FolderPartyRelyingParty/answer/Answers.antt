@@ -1,6 +1,5 @@
 use Rattle.std.proofs.Common.{List, subst}
 use Rattle.std.specs.List.{AllZip, zip}
-use Rattle.rpki_certs.specs.Issuer.{octets_of}
 use Rattle.rpki_cli.specs.Answer.{said}
 use Rattle.rpki_cli.specs.declared.verify.relying_party.PayloadsRequest.{PayloadsRequest}
 use Rattle.rpki_folder.specs.Locators.{IsNamedLocator}
@@ -14,7 +13,7 @@ pub returns-in-Ok : goal.returns-in-Ok
 returns-in-Ok g c =
     is-report _ c.args.request.now _ c.in-Ok.locators.items _
     (subst (λ (r : PayloadsRequest). AllZip IsNamedLocator
-    (zip r.locators (octets_of c.args.files.now)) c.in-Ok.locators.items) c.request.view_is
+    (zip r.locators c.args.files.now) c.in-Ok.locators.items) c.request.view_is
     c.in-Ok.ensures)
     (subst (λ (l : List NamedLocator). IsReportUnder
     (party_of g.F.Folders.told g.C.Crypto.digest_of g.C.Crypto.is_signed c.args.self.now)

@@ -2,7 +2,7 @@ use Rattle.std.proofs.Common.{List, ℕ, subst}
 use Rattle.sha2.specs.Sha256.{sha256}
 use Rattle.rpki_rsa.specs.Signature.{is_rsa_signature}
 use Rattle.rpki_cli.specs.Answer.{said}
-use Rattle.rpki_cli.specs.declared.verify.requests.ObjectKind.TheVariants.{Signed}
+use Rattle.rpki_cli.specs.declared.verify.requests.CheckedKind.TheVariants.{Signed}
 use Rattle.rpki_show.specs.Json.File.{file_json}
 use Rattle.rpki_show.specs.Json.Outcome.{valid_members}
 use Rattle.rpki_show.specs.Kinds.{JsonOfKind}

@@ -1,7 +1,7 @@
 -- One beginning of the source at most is such an object.
 use Rattle.rpki_multi.specs.Attestation.{whole_of}
 use Rattle.rpki_show.proofs.Shown.{shown-refusal, shown-lines}
-use Rattle.rpki_show.proofs.in_json.attestation.show_object.Goals as goal
+use Rattle.rpki_show.proofs.attestation.show_rta.Goals as goal
 
 pub returns-in-Err : goal.returns-in-Err
 returns-in-Err c =
@@ -10,4 +10,4 @@ returns-in-Err c =
 pub returns-in-Ok : goal.returns-in-Ok
 returns-in-Ok c =
     shown-lines _ _ _ _ _ (whole_of c.in-Ok.rta) c.in-Ok.ensures.0 c.in-Ok.ensures.1
-    c.show_line-answer.ensures
+    c.show_object_lines-answer.ensures

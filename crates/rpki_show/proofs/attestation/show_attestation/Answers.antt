@@ -1,6 +1,6 @@
 -- One beginning of the source at most is such a content.
 use Rattle.rpki_show.proofs.Shown.{shown-refusal, shown-lines}
-use Rattle.rpki_show.proofs.attestation.show_content.Goals as goal
+use Rattle.rpki_show.proofs.attestation.show_attestation.Goals as goal
 
 pub returns-in-Err : goal.returns-in-Err
 returns-in-Err c =

@@ -1,6 +1,6 @@
 -- One beginning of the source at most is a revocation list.
 use Rattle.rpki_show.proofs.Shown.{shown-refusal, shown-lines}
-use Rattle.rpki_show.proofs.issued.show_list.Goals as goal
+use Rattle.rpki_show.proofs.issued.show_crl.Goals as goal
 
 pub returns-in-Err : goal.returns-in-Err
 returns-in-Err c =
