@@ -171,10 +171,14 @@ def times(launcher, subjects, found, tries):
                 before = runs.get((subject, it.name), now)
                 runs[subject, it.name] = list(map(min, before, now))
     by_name = {it.name: it for it in found}
-    return [{"subject": subject, "object": name, "blocks": by_name[name].blocks,
-             "prefixes": by_name[name].count, "clock": clock, "processor": processor,
+    return [{**named(subject, by_name[name]), "clock": clock, "processor": processor,
              "memory": memory}
             for (subject, name), (clock, processor, memory) in runs.items()]
+
+
+def named(subject, it):
+    """What a run is known by."""
+    return {"subject": subject, "blocks": it.blocks, "prefixes": it.count}
 
 
 def of_each(one, all_of_them):
@@ -208,11 +212,12 @@ def instructions_of_many(subjects, in_turn):
 
 
 def instructions(subjects, found, in_turn, few):
-    """The instructions of a run, of all processes that it begins, by subject and object."""
+    """The instructions of a run of each subject and object, of all processes that it begins."""
     asked = [(subject, it) for subject in subjects for it in found if not few or it.count < 1000]
 
     def of(pair):
         subject, it = pair
         return counted(subjects[subject], it.words(subject))
 
-    return {(subject, it.name): count for (subject, it), count in zip(asked, in_turn(of, asked))}
+    return [{**named(subject, it), "instructions": count}
+            for (subject, it), count in zip(asked, in_turn(of, asked))]

@@ -1,9 +1,11 @@
 """Writes docs/BENCHMARKS.md, its picture and four rows of README.md from what bench/run measured.
 
 What is written stands between the lines `<!-- bench/run: NAME -->` and `<!-- bench/run: end -->`.
+Each goal that was missed has to have a cause in docs/DECISIONS.md, by the words that name it here.
 """
 import re
 import statistics
+import typing
 
 import chart
 
@@ -14,7 +16,7 @@ READ = {
     "any-manifest": ("reading a manifest of any names and going over it", "files"),
     "checklist": ("reading a checklist and going over it", "files"),
     "aspa": ("reading an ASPA and going over it", "providers"),
-    "aspa-in-one-pass": ("the same, beside code that keeps nothing", "providers"),
+    "aspa-in-one-pass": ("reading an ASPA, beside code that keeps nothing", "providers"),
     "write-aspa": ("writing an ASPA", "providers"),
     "crl": ("reading a revocation list and asking it once", "entries"),
     "asked": ("asking a revocation list", "entries"),
@@ -44,17 +46,23 @@ WANTED = {
 OF_OPENSSL, OF_VERDICTS, OF_CLIENT = 2, 1.1, 1
 # Who does the work.
 BY = "library", "plain", "bcder"
+# How much of a processor other work may take, while times are rough no more than they always are.
+ROUGH = 0.25
 # Which numbers of entries the summary and README take.
 TYPICAL, MOST = 1000, 100_000
 
 
 class Results:
-    """What was measured, by names."""
+    """What was measured, by names: times, and counts that other work does not change."""
 
     def __init__(self, found):
-        self.found = found
-        self.of = {(it["work"], it["by"], it["count"]): it for it in found["libraries"]}
-        self.runs = {(it["subject"], it["blocks"], it["prefixes"]): it for it in found["runs"]}
+        self.times, self.counted = found.get("times", {}), found.get("counts", {})
+        self.of, self.runs = {}, {}
+        for part in self.times, self.counted:
+            for it in part.get("libraries", ()):
+                self.of.setdefault((it["work"], it["by"], it["count"]), {}).update(it)
+            for it in part.get("runs", ()):
+                self.runs.setdefault((it["subject"], it["blocks"], it["prefixes"]), {}).update(it)
 
     def counts(self, work):
         return sorted({count for name, _, count in self.of if name == work})
@@ -67,7 +75,7 @@ class Results:
 
     def openssl(self, bits):
         """Nanoseconds of a power."""
-        found = self.found["openssl"][str(bits)]
+        found = self.times.get("openssl", {}).get(str(bits))
         return found and found * 1e3
 
     def run(self, subject, blocks, prefixes, what):
@@ -76,6 +84,10 @@ class Results:
     def factor_of_run(self, blocks, prefixes, what):
         return divided(self.run("rpki_verify", blocks, prefixes, what),
                        self.run("rpki-client", blocks, prefixes, what))
+
+    def is_rough(self):
+        """Whether other work may have disturbed the times."""
+        return self.times["others"] > ROUGH
 
 
 def twice(number):
@@ -90,9 +102,8 @@ def said(number, form):
     return "" if number is None else format(number, form)
 
 
-def factor(number, wanted=None):
-    """A factor, and whether it misses what is wanted."""
-    return said(number, ".2f") + (" (missed)" if wanted and number and number > wanted else "")
+def factor(number):
+    return said(number, ".2f")
 
 
 def time(nanoseconds):
@@ -107,75 +118,116 @@ def table(head, rows):
 # ---- the parts of the page
 
 def machine(it):
-    about, (before, after) = it.found["machine"], it.found["load"]
+    if not it.times:
+        return "No times were measured."
+    about, others = it.times["machine"], it.times["others"]
     more = statistics.median(
-        row["clock"] / row["processor"] for row in it.found["libraries"] if row["processor"])
+        row["clock"] / row["processor"] for row in it.times["libraries"] if row["processor"])
     client = f", `rpki-client` {about['client']}" if about["client"] else ""
     text = (f"Measured on {about['date']} on {about['processors']} processors "
             f"({about['processor']}), with `rustc` {about['rust']}, OpenSSL {about['openssl']}"
             f"{client}. Times of libraries are those of the processor; by the clock the middle one "
-            f"was {100 * (more - 1):.1f} % more. The load of the machine was {before:.1f} before "
-            f"and {after:.1f} after the times were taken.")
-    if it.found["few"]:
+            f"was {100 * (more - 1):.1f} % more.")
+    taken = f"other work took {others:.2f} of the {about['processors']} processors meanwhile"
+    if it.is_rough():
+        text += f" **Times are rough, those by the clock above all: {taken}.**"
+    else:
+        text += f" Beside that, {taken}."
+    if it.times["few"]:
         text += " **There were few measurements of each.**"
-    if max(before, after - 1) > 1.5:
-        text += " **Other work ran meanwhile, so times are rough; instructions are exact.**"
+    if not it.counted:
+        text += " The memory of the libraries and instructions were not measured."
+    elif not it.counted["runs"]:
+        text += " Instructions were not counted."
     return text
 
 
+class Compared(typing.NamedTuple):
+    """What is compared with what, of which size, the factors, and what is wanted at most."""
+
+    what: str
+    size: str
+    peer: str
+    times: float | None
+    counted: float | None
+    wanted: float | None
+
+    def by(self):
+        """The factor that tells its place: that in instructions where no time was measured."""
+        return self.counted if self.times is None else self.times
+
+    def goal(self):
+        """What became of the goal."""
+        if not self.wanted or self.by() is None:
+            return ""
+        missed = [name for name, number in (("time", self.times), ("instructions", self.counted))
+                  if number is not None and number > self.wanted]
+        is_whole = len(missed) == sum(it is not None for it in (self.times, self.counted))
+        return "met" if not missed else "missed" + ("" if is_whole else f" in {missed[0]}")
+
+
 def compared(it):
-    """All that is compared: what, with what, the factors in time and in instructions, and what is
-    wanted."""
+    """All that is compared."""
+    yield from compared_programs(it)
+    yield from compared_checks(it)
+    for work, (what, entries) in READ.items():
+        yield beside_plain(it, work, what, TYPICAL, f"{TYPICAL:,} {entries}")
+    for work, what in SINGLE.items():
+        yield beside_plain(it, work, what, 1, "")
+    for work, what in SETS.items():
+        yield beside_plain(it, work, what, TYPICAL, f"{TYPICAL:,} blocks")
+
+
+def beside_plain(it, work, what, count, size):
+    return Compared(what, size, "plain Rust", it.factor(work, count, "processor"),
+                    it.factor(work, count, "instructions"), WANTED[work])
+
+
+def compared_programs(it):
     for blocks in 2, 1000:
         for prefixes in 10, MOST:
-            what = (f"`rpki_verify check` of a ROA of {prefixes:,} prefixes, whose certificate has "
-                    f"{blocks:,} blocks")
-            times = it.factor_of_run(blocks, prefixes, "processor")
-            yield (what, "`rpki-client -f`", times,
-                   it.factor_of_run(blocks, prefixes, "instructions"), OF_CLIENT)
+            size = f"{prefixes:,} prefixes, its certificate has {blocks:,} blocks"
+            yield Compared("`rpki_verify check` of a ROA", size, "`rpki-client -f`",
+                           it.factor_of_run(blocks, prefixes, "processor"),
+                           it.factor_of_run(blocks, prefixes, "instructions"), OF_CLIENT)
+
+
+def compared_checks(it):
     for bits in it.counts("verdict"):
         ours, theirs = it.value("verdict", "library", bits), it.openssl(bits)
-        yield (f"a verdict on a signature of {bits} bits", "`openssl`", divided(ours, theirs), None,
-               OF_OPENSSL)
+        yield Compared("a verdict on a signature", f"{bits} bits", "`openssl`",
+                       divided(ours, theirs), None, OF_OPENSSL)
     ours, two = it.value("check-roa", "library", 1), it.value("verdict", "library", 2048)
-    what = "checking a ROA of two prefixes, its CA at hand"
-    yield (what, "its two verdicts", divided(ours, 2 * two), of_verdicts(it), OF_VERDICTS)
-    theirs = twice(it.openssl(2048))
-    yield what, "the same two by `openssl`", divided(ours, theirs), None, None
-    yield ("checking each further ROA of two prefixes in one run of `rpki_verify check`",
-           "its two verdicts", *of_many(it), OF_VERDICTS)
-    for work, (what, entries) in READ.items():
-        yield (f"{what}, {TYPICAL:,} {entries}", "plain Rust",
-               it.factor(work, TYPICAL, "processor"), it.factor(work, TYPICAL, "instructions"),
-               WANTED[work])
-    for work, what in SINGLE.items():
-        yield (what, "plain Rust", it.factor(work, 1, "processor"),
-               it.factor(work, 1, "instructions"), WANTED[work])
-    for work, what in SETS.items():
-        yield (f"{what}, {TYPICAL:,} blocks", "plain Rust", it.factor(work, TYPICAL, "processor"),
-               it.factor(work, TYPICAL, "instructions"), WANTED[work])
+    what = "checking a ROA, its CA at hand"
+    yield Compared(what, "2 prefixes", "its two verdicts", divided(ours, twice(two)),
+                   of_verdicts(it), OF_VERDICTS)
+    yield Compared(what, "2 prefixes", "the same two by `openssl`",
+                   divided(ours, twice(it.openssl(2048))), None, None)
+    yield Compared("checking each further ROA in one run of `rpki_verify check`", "2 prefixes",
+                   "its two verdicts", *of_many(it), OF_VERDICTS)
 
 
 def of_verdicts(it):
     two = it.value("verdict", "library", 2048, "instructions")
-    return divided(it.value("check-roa", "library", 1, "instructions"), two and 2 * two)
+    return divided(it.value("check-roa", "library", 1, "instructions"), twice(two))
 
 
 def of_many(it):
     """The factors in time and in instructions of each further ROA of a run to its two verdicts."""
-    many = it.found.get("many", {})
     # (milliseconds)
-    times = many.get("processor") and many["processor"] * 1e6
+    times = it.times.get("many") and it.times["many"] * 1e6
     return [divided(one, twice(it.value("verdict", "library", 2048, what)))
-            for one, what in ((times, "processor"), (many.get("instructions"), "instructions"))]
+            for one, what in ((times, "processor"), (it.counted.get("many"), "instructions"))]
 
 
 def sorted_by(it, is_slower):
-    rows = sorted((row for row in compared(it) if row[2] is not None), key=lambda row: -row[2])
-    head = ["what", "beside", "factor in time", "factor in instructions", "wanted"]
+    """What is compared and takes longer, or does not, the slowest first."""
+    rows = sorted((row for row in compared(it) if row.by() is not None), key=Compared.by,
+                  reverse=True)
+    head = ["what", "of", "beside", "factor in time", "factor in instructions", "wanted", "goal"]
     return table(head, [
-        [what, peer, factor(times, wanted), factor(counted, wanted), said(wanted, "g")]
-        for what, peer, times, counted, wanted in rows if (times > 1.05) == is_slower])
+        [row.what, row.size, row.peer, factor(row.times), factor(row.counted),
+         said(row.wanted, "g"), row.goal()] for row in rows if (row.by() > 1.05) == is_slower])
 
 
 def programs(it):
@@ -242,7 +294,7 @@ def signatures(it):
                      said(it.value("verdict", "library", bits, "instructions"), ",.0f")])
     ours, theirs = it.value("check-roa", "library", 1), twice(it.openssl(2048))
     rows.append(["a check of a ROA of two prefixes with two verdicts, 2048 bits", time(ours),
-                 f"{time(theirs)} (the verdicts)", factor(divided(ours, theirs)),
+                 f"{time(theirs)} (the verdicts)" if theirs else "", factor(divided(ours, theirs)),
                  said(it.value("check-roa", "library", 1, "instructions"), ",.0f")])
     return table(["what", "this project", "`openssl`", "factor", "instructions"], rows)
 
@@ -261,12 +313,14 @@ def sets(it):
 
 
 def four(it):
-    """The four rows of README."""
+    """The four rows of README, and what is to be known of them."""
+    if not it.times:
+        return ""
     run = [it.run(subject, 2, MOST, "processor") for subject in ("rpki_verify", "rpki-client")]
     verdict = it.value("verdict", "library", 2048), it.openssl(2048)
     read = [it.value("roa", by, TYPICAL) for by in ("library", "plain")]
     valid = [it.value("validate", by, 1) for by in ("library", "plain")]
-    client = f"`rpki-client -f` {it.found['machine']['client']}"
+    client = f"`rpki-client -f` {it.times['machine']['client']}"
     rows = [
         (f"`rpki_verify check` of a ROA of {MOST:,} prefixes", client,
          *(one and one * 1e6 for one in run)),
@@ -274,9 +328,15 @@ def four(it):
         (f"reading a ROA of {TYPICAL:,} prefixes and going over them", "plain Rust", *read),
         ("reading and validating a certificate, its signature apart", "plain Rust", *valid),
     ]
-    return table(["what", "this project", "beside", "", "factor"], [
+    rows = table(["what", "this project", "beside", "", "factor"], [
         [what, time(ours), peer, time(theirs), factor(divided(ours, theirs))]
         for what, peer, ours, theirs in rows])
+    text = (f"{rows}\n\nTimes are those of the processor; where the factor is below 1, this "
+            "project takes less.")
+    if it.is_rough():
+        text += (f" They are rough: other work took {it.times['others']:.1f} of the "
+                 f"{it.times['machine']['processors']} processors while they were measured.")
+    return text
 
 
 PANELS = (("roa", "Reading a ROA", "prefixes"), ("manifest", "Reading a manifest", "files"),
@@ -306,6 +366,25 @@ def picture(it):
     return chart.picture("Processor time against entries", panels)
 
 
+# ---- causes
+
+def first_cells(text, heading):
+    """What stands in the first cells of the table below a heading, parted by semicolons."""
+    below = text.partition(f"\n## {heading}\n")[2].partition("\n## ")[0]
+    cells = re.findall(r"^\| (.*?) \|", below, re.M)
+    return {goal for cell in cells for goal in cell.split("; ")}
+
+
+def unexplained(it, text):
+    """Goals that were missed and have no cause, and goals with a cause that were not missed."""
+    missed = {row.what for row in compared(it) if row.goal().startswith("missed")}
+    named = first_cells(text, "Goals that were missed")
+    for goal in sorted(missed - named):
+        yield f"was missed, and has no cause: {goal}"
+    for goal in sorted(named & {row.what for row in compared(it)} - missed):
+        yield f"has a cause, and was not missed: {goal}"
+
+
 # ---- writing
 
 def filled(text, parts):
@@ -326,12 +405,15 @@ def write(top, found, writes):
         "single": single(it), "signatures": signatures(it), "sets": sets(it),
     }
     pages = {top / "docs/BENCHMARKS.md": parts, top / "README.md": {"four": four(it)}}
-    if not writes:
-        for name, part in {**parts, "four": four(it)}.items():
+    if writes:
+        for path, of_page in pages.items():
+            path.write_text(filled(path.read_text(), of_page))
+        (top / "docs/benchmarks.svg").write_text(picture(it))
+        print("bench: wrote", *(path.relative_to(top) for path in pages), "docs/benchmarks.svg")
+    else:
+        for name, part in {**parts, **pages[top / "README.md"]}.items():
             print(f"\n{name}\n\n{part}")
-        return 0
-    for path, of_page in pages.items():
-        path.write_text(filled(path.read_text(), of_page))
-    (top / "docs/benchmarks.svg").write_text(picture(it))
-    print("bench: wrote", *(str(path.relative_to(top)) for path in pages), "docs/benchmarks.svg")
-    return 0
+    wrong = list(unexplained(it, (top / "docs/DECISIONS.md").read_text()))
+    for line in wrong:
+        print(f"bench: docs/DECISIONS.md: {line}")
+    return 1 if wrong else 0
