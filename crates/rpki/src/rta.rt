@@ -4,7 +4,7 @@ pub use rpki_multi::{
     IntoRtaBuilder, MultiSignedObject, MultiSignedObjectEncoder, Rta, RtaBuilder, SignerInfo,
     SignerInfoEncoder,
 };
-pub use rpki_rta::{Supply, Validation, run};
+pub use rpki_rta::{Supply, Validation, VerdictCount, run};
 pub use rpki_tagged::{AttestationBuilder, AttestationEncoder, ResourceTaggedAttestation, faults};
 
 /// What the definitions of attestations say.

@@ -23,5 +23,6 @@ pub mod laws {
     pub use rpki_signing::laws::{built_objects_are_valid, objects_are_written};
     pub use rpki_sigobj::laws::{
         octets_after_a_signed_object_are_left, refused_objects, signed_objects, valid_objects,
+        written_contents_are_read, written_objects_are_read,
     };
 }

@@ -11,9 +11,10 @@ pub fn yes_after_supplies<C: Crypto>()
     ensures { YesAfterSupplies C.digest_of C.is_signed }
 {}
 
-/// After any supplies, refused ones among them, where all paths are anchored,
-/// `Validation::finalize` says no, but for memory, exactly where an attested set is not the union
-/// of the sets of the paths, each anchored by some supply that is meant for it and takes it.
+/// After any supplies, refused ones among them, where all paths are anchored, what
+/// `Validation::finalize` compares the attested sets with are the sets of the paths, each anchored
+/// by some supply that is meant for it and takes it. So it says no, but for memory, exactly where
+/// an attested set is not their union.
 pub fn end_after_supplies<C: Crypto>()
     ensures { EndAfterSupplies C.digest_of C.is_signed }
 {}

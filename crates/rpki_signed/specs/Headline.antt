@@ -47,7 +47,8 @@ SaysOne Says =
     (c : KeptCertificate) (a b : Result (Unit {0}) ValidationError) → Says c a → Says c b → a ≡ b
 
 -- A check of this kind says yes exactly where the octets begin with a good object: a yes implies
--- it, and any answer but a yes, unless memory ran out, that it is not so.
+-- it, and any answer but a yes, unless memory ran out, that it is not so, if the caller has one
+-- answer about a certificate (`SaysOne`).
 pub record IsHeadline {X : Type 0} (kind : ObjectKind X) (form : List ℕ → X → Type 0)
     (Says : KeptCertificate → Result (Unit {0}) ValidationError → Type 0) : Type 0 where
   pub yes : (mode : Mode) (digest : Digester) (verdict : Verdict) (issuer : Validated)

@@ -2,18 +2,20 @@
 //!
 //! The files are those of `examples/`, which `openssl` signed.
 
-use super::octets::{ANCHOR, AUTHORITY, ORIGIN};
+use super::octets::{ANCHOR, AUTHORITY, LOCATOR, ORIGIN, REVOKING};
 use super::payloads::Echo;
 use super::runs::{Output, is_answered_by};
 use rpki_command::verify::Verify;
 use std::test::Fail;
 
 /// The files.
-const FILES: [(&str, &[u8]); 4] = [
+const FILES: [(&str, &[u8]); 6] = [
     ("anchor.cer", &ANCHOR),
     ("ca.cer", &AUTHORITY),
     ("origin.roa", &ORIGIN),
     ("other.roa", &ANCHOR),
+    ("anchor.tal", LOCATOR),
+    ("revoking.crl", &REVOKING),
 ];
 
 /// The words before those of each row, and those of the row.
@@ -55,6 +57,20 @@ const BOTH_IN_JSON: Output = Output {
     err: "",
 };
 
+/// What is said of it where a list revokes the certificate of its signer.
+const REVOKED: Output = Output {
+    status: 1,
+    out: "refused: revoked by revoking.crl\n",
+    err: "",
+};
+
+/// What is said of a list that is none.
+const NO_LIST: Output = Output {
+    status: 2,
+    out: "",
+    err: "bad list other.roa\n",
+};
+
 /// What is said in JSON of a file under certificates that make no issuer.
 const UNISSUED_IN_JSON: Output = Output {
     status: 1,
@@ -65,8 +81,11 @@ const UNISSUED_IN_JSON: Output = Output {
 
 #[test]
 fn several_files_are_checked(rt: HostRuntime) -> Result<(), Fail> {
-    let rows: [Row; 4] = [
+    let rows: [Row; 7] = [
         (&["origin.roa"], YES, 3),
+        (&["--tal", "anchor.tal", "origin.roa"], YES, 4),
+        (&["--crl", "revoking.crl", "origin.roa"], REVOKED, 4),
+        (&["--crl", "other.roa", "origin.roa"], NO_LIST, 4),
         (&["origin.roa", "other.roa"], BOTH, 4),
         (&["origin.roa", "--json", "other.roa"], BOTH_IN_JSON, 4),
         (
