@@ -96,6 +96,7 @@ ROA, ASPA, RSC, MANIFEST = (f"yes\n{SHOWN[name]}" for name in ("ROA", "ASPA", "R
 BROKEN = "refused: signature is not valid\n"
 EXPIRED = "refused: certificate has expired\n"
 OVERCLAIMING = "refused: overclaimed IPv4 resources\n"
+KEYLESS = "keyless: malformed: subjectKeyIdentifier is missing"
 NOT_SIGNED = {"valid": False, "error": "refused: signature is not valid"}
 KEY = ISSUERS["MAKE"]["Signer"]("holding.rta customer").id.hex().upper()
 DIGEST = hashlib.sha256(b"a holding\n").hexdigest()
@@ -149,6 +150,7 @@ ROWS = [
     (["roa"], (1, "issuer refused: anchor: key is not that of second.tal\n", ""), {"tal": ["second.tal"]}),
     # certificates that make no issuer
     (["roa"], (1, "issuer refused: roa: malformed\n", ""), {"cas": ["roa"]}),
+    (["roa"], (1, f"issuer refused: {KEYLESS}\n", ""), {"cas": ["keyless"]}),
     (["roa"], (1, "issuer refused: anchor: certificate has expired\n", ""), {"moment": (2099, 1, 1)}),
     (["roa"], (1, "refused: not issued by this CA\n", ""), {"cas": []}),
     # several objects
@@ -177,6 +179,8 @@ ROWS = [
     (["holding"], (0, in_json("holding", "rta", {"valid": True, **ATTESTED}), ""), {"json": True}),
     (["roa"], (1, in_json("roa", "roa", {"valid": False, "error": "issuer refused: roa: malformed"}), ""),
      {"json": True, "cas": ["roa"]}),
+    (["roa"], (1, in_json("roa", "roa", {"valid": False, "error": f"issuer refused: {KEYLESS}"}), ""),
+     {"json": True, "cas": ["keyless"]}),
     (["roa"], (2, "", "bad list roa\n"), {"json": True, "crls": ["roa"]}),
     ([], (0, "", ""), {}),
 ]

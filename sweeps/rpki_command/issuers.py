@@ -150,6 +150,8 @@ def files():
     found["unsigned.crl"] = changed(anchor.revoked(None, [2]), 1)
     MAKE["Authority"].revoked.__globals__["NEXT"] = "20261102000000Z"
     found["stale.crl"] = anchor.revoked(None, [2])
+    # The extension of the subject key identifier, under another type (2.5.29.127).
+    found["keyless"] = found["authority"].replace(b"\x06\x03\x55\x1d\x0e", b"\x06\x03\x55\x1d\x7f")
     found["longer.crl"] = found["anchor2.crl"] + b"more"
     return found
 
@@ -168,6 +170,8 @@ CHAINS = [
     ("anchor: certificate is not yet valid", {"moment": EARLY}),
     ("roa: malformed", {"chain": ["roa"]}),
     ("aspa: malformed", {"chain": ["authority", "aspa", "roa"]}),
+    ("keyless: malformed: subjectKeyIdentifier is missing", {"chain": ["keyless"]}),
+    ("keyless: malformed: subjectKeyIdentifier is missing", {"anchor": "keyless", "chain": ["roa"]}),
     ("anchor: missing AKI", {"chain": ["anchor", "authority"]}),
     ("tal: malformed", {"anchor": "tal"}),
     ("authority: not issued by this CA", {"anchor": "second"}),

@@ -61,11 +61,11 @@ module _ (clock : Option Moment) (says : PartySays) (told : Told) (options : Opt
 
     yes-same : (s t : Output) → IsSameButName s t → status_of s ≡ 0 → s ≡ t
     yes-same s t (inl e) z = e
-    yes-same s t (inr h) z = absurd (other-status s (issuer_refused (named h.0 h.1)) 0 z h.2 one)
+    yes-same s t (inr h) z = absurd (other-status s (issuer_refused (named h.0 h.1)) 0 z h.4 one)
 
     no-same : (s t : Output) → IsSameButName s t → status_of s ≡ 1 → status_of t ≡ 1
     no-same s t (inl e) o = ap status_of (sym e) ∙ o
-    no-same s t (inr h) o = ap status_of h.3
+    no-same s t (inr h) o = ap status_of h.5
 
     pub run-yes-of-one : run.status ≡ 0
         → IsRightYes how file.kind is_rsa_signature now (files_of_one certs file) run

@@ -45,7 +45,7 @@ use Rattle.rpki_command.specs.Verify.Checks.{IsSaidIssued}
 use Rattle.rpki_command.specs.Verify.Each.{GivenFile}
 use Rattle.rpki_command.specs.Verify.Issuers.{CertFiles, GivenLocator, octets_in, Make, under}
 use Rattle.rpki_command.specs.Verify.Issuers.{IsFaultAt, IsIssuerMade, IsRefusedAt, no_issuer}
-use Rattle.rpki_command.specs.Verify.Issuers.{IsNoIssuerSaid}
+use Rattle.rpki_command.specs.Verify.Issuers.{IsNoIssuerSaid, malformed_for}
 use Rattle.rpki_command.specs.Verify.Objects.{Grounds, IsJudgedAs, IsJudgementSaid, IsSaidOfKind}
 use Rattle.rpki_command.specs.Verify.Objects.{IsSaidOfObject, IsSaidOfObjects, IsKindInJson}
 use Rattle.rpki_command.specs.Verify.Objects.{IsObjectInJson, object_word}
@@ -145,14 +145,15 @@ own-fault verdict now certs name (faults.Revoked list) h =
 pub same-but-name : (name : List ℕ) (error : IssuerError)
     → IsSameButName (no_issuer name (faults.Error error)) (issuer_refusal error)
 same-but-name name (issuing.Decode decoding.Memory) = inl refl
-same-but-name name (issuing.Decode decoding.Malformed) = inr (name, malformed_text, refl, refl)
+same-but-name name (issuing.Decode decoding.Malformed) =
+    inr (name, malformed_text, malformed_text, inl refl, refl, refl)
 same-but-name name (issuing.Decode (decoding.Content fault)) =
-    inr (name, malformed_text, refl, refl)
+    inr (name, malformed_for fault, malformed_text, inr (fault, refl, refl), refl, refl)
 same-but-name name (issuing.Validation validation.Memory) = inl refl
 same-but-name name (issuing.Validation (validation.Inspection fault)) =
-    inr (name, inspection_text fault, refl, refl)
+    inr (name, inspection_text fault, inspection_text fault, inl refl, refl, refl)
 same-but-name name (issuing.Validation (validation.Verification fault)) =
-    inr (name, verification_text fault, refl, refl)
+    inr (name, verification_text fault, verification_text fault, inl refl, refl, refl)
 
 refusal-status : (name : List ℕ) (error : IssuerError)
     → status_of (issuer_refusal error) ≡ status_of (no_issuer name (faults.Error error))

@@ -5,6 +5,8 @@ use Rattle.std.specs.Prelude.{Result, Ok, Err, String, string_bytes}
 use Rattle.std.specs.Borrow.{Bor}
 use Rattle.std.specs.declared.alloc.AllocError.{AllocError}
 use Rattle.std.specs.declared.alloc.Global.{Global}
+use Rattle.rpki_der.specs.Text.Error.{fault_text}
+use Rattle.rpki_der.specs.declared.error.ContentFault.{ContentFault}
 use Rattle.rpki_der.specs.declared.error.DecodeError.TheVariants as decoding
 use Rattle.rpki_basics.specs.Moment.{Moment}
 use Rattle.rpki_faults.specs.Text.Inspection.{inspection_text}
@@ -141,13 +143,17 @@ IsIssuerMade verdict now certs locator lists (Err refusal) =
 abbrev pub named : List ℕ → List ℕ → List ℕ
 named file cause = file ++ (codes ": " ++ cause)
 
+-- that a certificate is malformed, and which rule beyond its ASN.1 it breaks
+abbrev pub malformed_for : ContentFault → List ℕ
+malformed_for fault = codes "malformed: " ++ fault_text fault
+
 -- why there is no issuer, as it is said
 abbrev pub no_issuer : List ℕ → IssuerFault → Output
 no_issuer file (Error (issuing.Decode decoding.Memory)) = out_of_memory
 no_issuer file (Error (issuing.Decode decoding.Malformed)) =
     issuer_refused (named file malformed_text)
 no_issuer file (Error (issuing.Decode (decoding.Content fault))) =
-    issuer_refused (named file malformed_text)
+    issuer_refused (named file (malformed_for fault))
 no_issuer file (Error (issuing.Validation validation.Memory)) = out_of_memory
 no_issuer file (Error (issuing.Validation (validation.Inspection fault))) =
     issuer_refused (named file (inspection_text fault))

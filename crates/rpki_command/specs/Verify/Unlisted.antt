@@ -1,8 +1,9 @@
 -- A check of signed objects without a locator and without lists, beside `check KIND FILE MOMENT TA
 -- [CA ..]`.
 use Rattle.std.specs.Prelude.{◌≡◌, ◌⊎◌, ℕ, List, [], map, None, false}
+use Rattle.rpki_der.specs.declared.error.ContentFault.{ContentFault}
 use Rattle.rpki_basics.specs.Moment.{Moment}
-use Rattle.rpki_cli.specs.Answer.{Output, issuer_refused}
+use Rattle.rpki_cli.specs.Answer.{Output, issuer_refused, malformed_text}
 use Rattle.rpki_cli.specs.declared.verify.requests.CheckedKind.{CheckedKind}
 use Rattle.rpki_cli.specs.declared.verify.requests.CheckedKind.TheVariants.{Signed}
 use Rattle.rpki_cli.specs.declared.words.Kind.{Kind}
@@ -10,7 +11,7 @@ use Rattle.rpki_cli.specs.declared.words.Options.{Options}
 use Rattle.rpki_command.specs.Verify.Check.{VerifiedOf}
 use Rattle.rpki_command.specs.Verify.Checks.{CheckedFiles}
 use Rattle.rpki_command.specs.Verify.Each.{GivenFile}
-use Rattle.rpki_command.specs.Verify.Issuers.{CertFiles, octets_in, named}
+use Rattle.rpki_command.specs.Verify.Issuers.{CertFiles, octets_in, named, malformed_for}
 use Rattle.rpki_command.specs.Yes.{FilesOfCheck, in_order, status_of}
 use Rattle.rpki_command.specs.declared.verify.checks.Manner.{Manner}
 
@@ -51,9 +52,15 @@ pub record MayEndWith (status : ℕ) (options : Options) (now : Moment) (certs :
   pub is : IsSaidOfOne options now certs file answer
   pub status_is : status_of answer ≡ status
 
+-- The first says this cause, or that a certificate is malformed and which rule it breaks, where the
+-- second says that it is malformed.
+abbrev pub IsSameButRule : List ℕ → List ℕ → Type 0
+IsSameButRule full cause = (full ≡ cause)
+    ⊎ ((fault : ContentFault) × (full ≡ malformed_for fault) × (cause ≡ malformed_text))
+
 -- Both say the same, but that the first names the file of a certificate before the cause for which
--- it makes no issuer.
+-- it makes no issuer, and after `malformed` the rule that it breaks.
 abbrev pub IsSameButName : Output → Output → Type 0
 IsSameButName s t = (s ≡ t)
-    ⊎ ((file : List ℕ) × (cause : List ℕ) × (s ≡ issuer_refused (named file cause))
-    × (t ≡ issuer_refused cause))
+    ⊎ ((file : List ℕ) × (full : List ℕ) × (cause : List ℕ) × IsSameButRule full cause
+    × (s ≡ issuer_refused (named file full)) × (t ≡ issuer_refused cause))

@@ -4,6 +4,7 @@
 
 ghost use Rattle.std.specs.Prelude.{◌≡◌, ◌⊎◌, ◌++◌, ◌↔◌, [], IfOk, IsTrue, option_map};
 ghost use Rattle.std.specs.Prelude.{string_bytes};
+ghost use Rattle.rpki_der.specs.Text.Error.{fault_text};
 ghost use Rattle.rpki_certs.specs.declared.issuer.IssuerError.TheVariants as issuing;
 ghost use Rattle.rpki_faults.specs.Text.Validation.{validation_text};
 ghost use Rattle.rpki_cli.specs.Answer.{out_of_memory, said};
@@ -18,7 +19,7 @@ use bytes::Bytes;
 use rpki_basics::{Crypto, Time};
 use rpki_certs::{Cert, IssuerError, ResourceCert, issued_at, issuer_at};
 use rpki_cli::answer::Answer;
-use rpki_der::DecodeError;
+use rpki_der::{ContentFault, DecodeError};
 use rpki_faults::ValidationError;
 use rpki_show::locator_of;
 use rpki_tal::{ReadError, Tal};
@@ -278,10 +279,22 @@ fn refused_unread<'a>(alloc: Global, file: &str, error: &DecodeError) -> Answer<
 {
     match error {
         DecodeError::Memory => Answer::OutOfMemory,
-        DecodeError::Malformed | DecodeError::Content(_) => {
-            issuer_refused(cause_with(alloc, file, "malformed", ""))
-        }
+        DecodeError::Malformed => issuer_refused(cause_with(alloc, file, "malformed", "")),
+        DecodeError::Content(fault) => issuer_refused(rule_with(alloc, file, "malformed: ", fault)),
     }
+}
+
+/// What is said with a rule beyond its ASN.1 that a certificate breaks, after the name of its file.
+fn rule_with(
+    alloc: Global,
+    file: &str,
+    what: &str,
+    fault: &ContentFault,
+) -> Result<String, AllocError>
+    ensures { IfOk result (λ text. string_bytes text
+        ≡ named file.now (what.now ++ fault_text fault.now)) }
+{
+    format!(in alloc; "{file}: {what}{fault}")
 }
 
 /// The answer where the certificate in a file is not valid.

@@ -18,8 +18,8 @@ ghost use Rattle.rpki_command.specs.declared.verify.checks.Manner.{Manner};
 
 /// What `check --ta TA [--ca CA ..] FILE` says in lines of one signed object, without a locator and
 /// without lists, `check KIND FILE MOMENT TA [CA ..]` may say of it, but that a refusal of an issuer
-/// names the file of the certificate before its cause. And what the second may say, the first may,
-/// under these certificates.
+/// names the file of the certificate before its cause, and which rule a malformed one breaks. And
+/// what the second may say, the first may, under these certificates.
 pub fn without_lists_one_object_is_checked()
     ensures first { (options : Options) (now : Moment) (certs : CertFiles) (file : GivenFile Kind)
         (s : Output) → IsSaidOfFiles (in_lines options now) (unlisted certs (file ∷ [])) s
