@@ -239,7 +239,7 @@ pub struct Unissued<'s> {
 }
 
 impl Judge for Unissued<'_> {
-    type Kind = CheckedKind;
+    type AskedKind = CheckedKind;
 
     ghost says = { λ u file. IsNoIssuerSaid u.refusal.now };
 

@@ -64,13 +64,13 @@ pub trait JsonKind {
 /// What is said of files.
 pub trait Judge {
     /// Their kinds.
-    type Kind: JsonKind;
+    type AskedKind: JsonKind;
 
     // What is said of a file.
-    ghost says: { Self → GivenFile Self.Kind → Output → Type 0 };
+    ghost says: { Self → GivenFile Self.AskedKind → Output → Type 0 };
 
     /// Answers of a file: its lines, that it is malformed or refused, or that memory ran out.
-    fn answer<'a>(&self, alloc: Global, file: &AskedFile<'_, Self::Kind>) -> Answer<'a>
+    fn answer<'a>(&self, alloc: Global, file: &AskedFile<'_, Self::AskedKind>) -> Answer<'a>
         ensures { says self.now file.now (said result) };
 }
 
@@ -109,7 +109,7 @@ pub fn asked_files<'s, K: Copy + Drop>(
 pub fn answer_each<'a, J: Judge>(
     alloc: Global,
     judge: &J,
-    files: &[AskedFile<'_, J::Kind>],
+    files: &[AskedFile<'_, J::AskedKind>],
 ) -> Answer<'a>
     ensures { IsSaidOfEach (J.says judge.now) files.now (said result) }
 {
@@ -130,7 +130,7 @@ pub fn answer_each<'a, J: Judge>(
 fn entries_of<J: Judge>(
     alloc: Global,
     judge: &J,
-    files: &[AskedFile<'_, J::Kind>],
+    files: &[AskedFile<'_, J::AskedKind>],
 ) -> Result<PrintedText, AllocError>
     ensures { IfOk result (λ all. AreAnswersOf (IsAnswerOf (J.says judge.now)) answer_text files.now
         (string_bytes all.text) all.status) }
@@ -206,9 +206,10 @@ fn push_indented(text: &mut String, lines: &str) -> Result<(), AllocError>
 pub fn answer_in_json<'a, J: Judge>(
     alloc: Global,
     judge: &J,
-    files: &[AskedFile<'_, J::Kind>],
+    files: &[AskedFile<'_, J::AskedKind>],
 ) -> Answer<'a>
-    ensures { IsSaidInJson J.Kind.reasons J.Kind.word (J.says judge.now) files.now (said result) }
+    ensures { IsSaidInJson J.AskedKind.reasons J.AskedKind.word (J.says judge.now) files.now
+        (said result) }
 {
     match lines_of(alloc, judge, files) {
         Ok(lines) => Answer::Reported {
@@ -224,16 +225,16 @@ pub fn answer_in_json<'a, J: Judge>(
 fn lines_of<J: Judge>(
     alloc: Global,
     judge: &J,
-    files: &[AskedFile<'_, J::Kind>],
+    files: &[AskedFile<'_, J::AskedKind>],
 ) -> Result<PrintedText, AllocError>
     ensures { IfOk result (λ all.
-        AreAnswersOf (IsLineOf J.Kind.reasons J.Kind.word (J.says judge.now)) (λ e. e.text)
-        files.now (string_bytes all.text) all.status) }
+        AreAnswersOf (IsLineOf J.AskedKind.reasons J.AskedKind.word (J.says judge.now))
+        (λ e. e.text) files.now (string_bytes all.text) all.status) }
 {
     let mut text = String::new(alloc);
     let mut status = 0;
     for file in files {
-        let line = line_of::<J::Kind>(alloc, file, judge.answer(alloc, file))?;
+        let line = line_of::<J::AskedKind>(alloc, file, judge.answer(alloc, file))?;
         text.push_str(&line.text)?;
         status = joined(status, line.status);
     }

@@ -91,7 +91,7 @@ impl JsonKind for CheckedKind {
 }
 
 impl Judge for CheckUnder<'_> {
-    type Kind = CheckedKind;
+    type AskedKind = CheckedKind;
 
     ghost says = { IsSaidOfObject };
 
@@ -110,7 +110,7 @@ pub struct CheckInJson<'s> {
 }
 
 impl Judge for CheckInJson<'_> {
-    type Kind = CheckedKind;
+    type AskedKind = CheckedKind;
 
     ghost says = { λ c. IsObjectInJson c.under.now };
 

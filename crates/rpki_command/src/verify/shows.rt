@@ -50,7 +50,7 @@ pub struct ShowFiles {
 }
 
 impl Judge for ShowFiles {
-    type Kind = FileKind;
+    type AskedKind = FileKind;
 
     ghost says = { λ s. IsSaidOfShown s.options };
 
@@ -86,7 +86,7 @@ pub struct ShowFilesInJson {
 }
 
 impl Judge for ShowFilesInJson {
-    type Kind = FileKind;
+    type AskedKind = FileKind;
 
     ghost says = { λ s. IsSaidOfShownInJson s.options };
 

@@ -22,7 +22,7 @@ use crate::verify::each::Judge;
 /// A yes of several files is a yes of each: where what is said of them has status 0, so has
 /// something that the judge says of each.
 pub fn a_yes_of_several_is_one_of_each<J: Judge>()
-    ensures { (judge : J) (files : List (GivenFile J.Kind)) (s : Output)
+    ensures { (judge : J) (files : List (GivenFile J.AskedKind)) (s : Output)
         → IsSaidOfEach (J.says judge) files s → status_of s ≡ 0
         → All (λ f. (said : Output) × J.says judge f said × (status_of said ≡ 0)) files }
 {}
