@@ -147,6 +147,8 @@ def files():
     found["roa.crl"] = ca.revoked(None, [1])
     found["aspa.crl"] = ca.revoked(None, [2])
     found["all.crl"] = ca.revoked(None, range(1, 10))
+    found["holder.crl"] = ca.revoked(None, [5])
+    found["customer.crl"] = ca.revoked(None, [8])
     found["unsigned.crl"] = changed(anchor.revoked(None, [2]), 1)
     MAKE["Authority"].revoked.__globals__["NEXT"] = "20261102000000Z"
     found["stale.crl"] = anchor.revoked(None, [2])

@@ -46,12 +46,12 @@ IsRtaSaid causes text (Err (Validation fault)) s = IsRefused fault s
 abbrev pub granted_text : KeptWhole → List ℕ
 granted_text r = yes_line ++ attestation_text r.content
 
--- What the check of an attestation answers by this cryptography, and what is said of it: unless
--- memory runs out, a yes only where the octets begin with one that is granted under these supplies,
--- and a refusal only where they begin with none, or with one that is not, if the identifiers of
--- what it carries are distinct. Where they begin with one, a refusal names the fault of the first
--- thing that fails. `given` has the locators and CAs that supply these.
-pub record IsRtaChecked {C : Type 0} (causes : Causes) (text : KeptWhole → List ℕ)
+-- What the check of an attestation answers by this cryptography, and that P holds of what is said
+-- of it: unless memory runs out, a yes only where the octets begin with one that is granted under
+-- these supplies, and a refusal only where they begin with none, or with one that is not, if the
+-- identifiers of what it carries are distinct. Where they begin with one, a refusal names the fault
+-- of the first thing that fails. `given` has the locators and CAs that supply these.
+pub record IsRtaChecked {C : Type 0} (P : Result KeptWhole CheckError → Output → Type 0)
     (digests : C → Digester) (says : C → Verdict) (crypto : C) (now : Moment)
     (supplied : List Supply) (octets : List ℕ) (s : Output) : Type 0 where
   pub result : Result KeptWhole CheckError
@@ -59,20 +59,20 @@ pub record IsRtaChecked {C : Type 0} (causes : Causes) (text : KeptWhole → Lis
   pub same : map supply_in given ≡ supplied
   pub first : IfErr result (IsFirstOfRta digests says crypto now given octets)
   pub exact : IsExactRta (digests crypto) (says crypto) now supplied octets result
-  pub said : IsRtaSaid causes text result s
+  pub said : P result s
 
--- What is said of octets that may begin with an attestation, whose text this is where it is granted,
--- unless memory runs out.
-abbrev pub AttestedAs : {C : Type 0} → Causes → (KeptWhole → List ℕ) → (C → Digester)
-    → (C → Verdict) → C → Moment → List Supply → List ℕ → Output → Type 0
-AttestedAs causes text digests says crypto now supplied octets s =
-    (s ≡ out_of_memory) ⊎ IsRtaChecked causes text digests says crypto now supplied octets s
+-- What is said of octets that may begin with an attestation, where P says what is said of what the
+-- check of it answers, unless memory runs out.
+abbrev pub AttestedAs : {C : Type 0} → (Result KeptWhole CheckError → Output → Type 0)
+    → (C → Digester) → (C → Verdict) → C → Moment → List Supply → List ℕ → Output → Type 0
+AttestedAs P digests says crypto now supplied octets s =
+    (s ≡ out_of_memory) ⊎ IsRtaChecked P digests says crypto now supplied octets s
 
 -- the same in lines
 abbrev pub AttestedUnder : {C : Type 0} → Causes → (C → Digester) → (C → Verdict) → C → Moment
     → List Supply → List ℕ → Output → Type 0
 AttestedUnder causes digests says crypto now supplied octets s =
-    AttestedAs causes granted_text digests says crypto now supplied octets s
+    AttestedAs (IsRtaSaid causes granted_text) digests says crypto now supplied octets s
 
 -- why files make no anchor, as it is said
 abbrev pub anchor_refusal : AnchorError → Output

@@ -1,7 +1,8 @@
 //! What the programs answer of attestations under anchors.
 
-ghost use Rattle.std.specs.Prelude.{◌≤◌, ◌+◌, ◌++◌, length, map};
+ghost use Rattle.std.specs.Prelude.{◌≤◌, ◌+◌, ◌++◌, length, map, IfErr};
 ghost use Rattle.rpki_rta.specs.Refused.{supply_in};
+ghost use Rattle.rpki_signed.specs.Attested.{IsExactRta, IsFirstOfRta};
 ghost use Rattle.rpki_cli.specs.Answer.{said};
 ghost use Rattle.rpki_cli.specs.Shown.{IsLinesOf};
 ghost use Rattle.rpki_cli.specs.Words.{texts, files_of_anchors};
@@ -17,6 +18,7 @@ use bytes::Bytes;
 use rpki_basics::{Crypto, Time};
 use rpki_cli::answer::Answer;
 use rpki_cli::{Causes, Work, refusal};
+use rpki_der::DecodeError;
 use rpki_multi::Rta;
 use rpki_rta::Supply;
 use rpki_show::texts::rta::push_attestation;
@@ -126,7 +128,7 @@ fn check_supplied<'a, K: Crypto>(
 
 /// The attestation at the front of the octets, where it is granted under these supplies, and else
 /// what is answered.
-pub fn granted<'a, K: Crypto>(
+fn granted<'a, K: Crypto>(
     alloc: Global,
     causes: Causes,
     object: &Bytes,
@@ -134,15 +136,28 @@ pub fn granted<'a, K: Crypto>(
     crypto: &K,
     now: Time,
 ) -> Result<Rta, Answer<'a>>
-    ensures { Settles (λ text s. AttestedAs causes text K.digest_of K.is_signed crypto.now now
-        (map supply_in supplies.now) object.now s) result }
+    ensures { Settles (λ text s. AttestedAs (IsRtaSaid causes text) K.digest_of K.is_signed
+        crypto.now now (map supply_in supplies.now) object.now s) result }
+{
+    settled(alloc, causes, checked(alloc, object, supplies, crypto, now))
+}
+
+/// What a check of the octets under these supplies answers, as `check::rta` of `rpki_signed` does.
+pub fn checked<K: Crypto>(
+    alloc: Global,
+    object: &Bytes,
+    supplies: &[Supply<'_>],
+    crypto: &K,
+    now: Time,
+) -> Result<Rta, CheckError>
+    ensures first { IfErr result (IsFirstOfRta K.digest_of K.is_signed crypto.now now
+        supplies.now object.now) }
+    ensures exact { IsExactRta (K.digest_of crypto.now) (K.is_signed crypto.now) now
+        (map supply_in supplies.now) object.now result }
 {
     match object.clone() {
-        Err(_) => Err(Answer::OutOfMemory),
-        Ok(source) => {
-            let checked = check::rta(alloc, source, true, crypto, now, supplies);
-            settled(alloc, causes, checked)
-        }
+        Err(_) => Err(CheckError::Decode(DecodeError::Memory)),
+        Ok(source) => check::rta(alloc, source, true, crypto, now, supplies),
     }
 }
 

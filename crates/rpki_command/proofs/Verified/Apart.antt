@@ -34,6 +34,7 @@ use Rattle.rpki_command.specs.Verify.Issuers.{CertFiles, GivenLocator, octets_in
 use Rattle.rpki_command.specs.Verify.Issuers.{IsFaultAt, IsIssuerOf, no_issuer}
 use Rattle.rpki_command.specs.Verify.Objects.{Grounds, supplied_by}
 use Rattle.rpki_command.specs.Verify.Revoked.{File, GivenList, IsGivenList, IsUnrevoked}
+use Rattle.rpki_command.specs.Verify.Revoked.{AreUnrevokedUnder}
 use Rattle.rpki_command.specs.Verify.Unlisted.{files_of_one, IsSaidOfOne, MayEndWith}
 use Rattle.rpki_command.specs.Yes.{BeginsWithNoGood, IsRightNo, status_of}
 use Rattle.rpki_command.specs.declared.verify.issuers.IssuerFault.{IssuerFault}
@@ -157,11 +158,18 @@ module _ (options : Options) (now : Moment) (locator : Option GivenLocator)
 
   granted-clash : (octets : List ℕ) → HasDistinctKeys Rta octets → IsGoodKind (by v) Rta octets
       → IsRefusedKind (by w) Rta octets → ⊥
-  granted-clash octets distinct good (inl none) = none good.object good.rest good.front.found
-  granted-clash octets distinct good (inr b) = b.holds (distinct b.object b.rest b.front.found)
+  granted-clash octets distinct good (inl (inl none)) =
+      none good.object good.rest good.front.found
+  granted-clash octets distinct good (inl (inr b)) =
+      b.holds (distinct b.object b.rest b.front.found)
       (subst (λ (r : attested.Whole). IsGrantedRta sha256 is_rsa_signature now r
       (supplied_by (by w))) (b.front.only good.object good.rest good.front.found).0
-      (granted-same now locator v w good.object same good.holds))
+      (granted-same now locator v w good.object same good.holds.0))
+  granted-clash octets distinct good (inr b) =
+      b.holds (subst (λ (c : Certificate). AreUnrevokedUnder is_rsa_signature lists c
+      b.object.signed.certs) (certificates-same v w same)
+      (subst (λ (r : attested.Whole). AreUnrevokedUnder is_rsa_signature lists v.cert.certificate
+      r.signed.certs) (b.front.only good.object good.rest good.front.found).0 good.holds.1))
 
   kind-clash : (kind : CheckedKind) (octets : List ℕ) → HasDistinctKeys kind octets
       → IsGoodKind (by v) kind octets → IsRefusedKind (by w) kind octets → ⊥

@@ -15,13 +15,9 @@ use Rattle.rpki_certs.specs.Cert.{KeptCertificate}
 use Rattle.rpki_certs.specs.Validate.{Validated, IsValidatedUnder}
 use Rattle.rpki_certs.specs.Verify.{Verdict}
 use Rattle.rpki_certs.specs.declared.issuer.IssuerError.TheVariants as issuing
-use Rattle.rpki_der.specs.declared.mode.Mode.TheVariants.{Der}
-use Rattle.rpki_multi.specs.Attestation.{KeptWhole, RtaForm, Whole}
-use Rattle.rpki_paths.specs.Anchor.{Supply}
+use Rattle.rpki_multi.specs.Attestation.{KeptWhole, Whole}
 use Rattle.rpki_rsa.specs.Signature.{is_rsa_signature}
-use Rattle.rpki_rta.specs.Granted.{IsGrantedRta}
 use Rattle.rpki_signed.specs.Attested.{IsExactRta}
-use Rattle.rpki_signed.specs.Check.{BeginsWith}
 use Rattle.rpki_signed.specs.Exact.{IsExact}
 use Rattle.rpki_signed.specs.declared.check.CheckError.{CheckError}
 use Rattle.rpki_signed.specs.declared.check.CheckError.TheVariants.{Decode, Validation}
@@ -48,13 +44,14 @@ use Rattle.rpki_command.specs.Verify.Good.{BeginsWithUnrevoked, IsGoodKind, IsGo
 use Rattle.rpki_command.specs.Verify.Issuers.{GivenLocator, no_issuer, IsNoIssuerSaid}
 use Rattle.rpki_command.specs.Verify.Objects.{Grounds, IsSaidOfObject, IsJudgedAs, JudgedUnder, supplied_by}
 use Rattle.rpki_command.specs.Verify.Objects.{IsJudgementSaid, IsSaidOfKind, IsSaidOfRtaAs}
+use Rattle.rpki_command.specs.Verify.Objects.{IsAttestationSaid}
 use Rattle.rpki_command.specs.Verify.Objects.{IsKindInJson, IsObjectInJson, IsSaidOfObjects}
 use Rattle.rpki_command.specs.Verify.Objects.{granted_json, object_word}
 use Rattle.rpki_cli.specs.declared.verify.requests.CheckedKind.{CheckedKind}
 use Rattle.rpki_cli.specs.declared.verify.requests.CheckedKind.TheVariants.{Signed, Rta}
-use Rattle.rpki_command.specs.Rta.{IsRtaSaid, granted_text}
+use Rattle.rpki_command.specs.Rta.{granted_text}
 use Rattle.rpki_command.specs.Verify.Revoked.{GivenList, IsGivenList, IsUnrevoked}
-use Rattle.rpki_command.specs.Verify.Revoked.{Revokes, revoked_text}
+use Rattle.rpki_command.specs.Verify.Revoked.{AreUnrevokedUnder, Revokes, revoked_text}
 use Rattle.rpki_command.specs.Yes.{status_of}
 use Rattle.rpki_command.specs.declared.verify.checks.Manner.{Manner}
 use Rattle.rpki_command.specs.declared.verify.issuers.NoIssuer.{NoIssuer}
@@ -240,37 +237,40 @@ row-good g kind octets s written zero h = of-row g.options kind
     (λ X asked form text members is. good-as asked form (written X text members)
     (read_mode g.options) sha256 is_rsa_signature g.issuer g.now octets s g.lists zero is) h
 
-granted-result : (supplied : List Supply) (now : Moment) (octets : List ℕ) (s : Output)
-    (text : KeptWhole → List ℕ) → status_of s ≡ 0 → (result : Result KeptWhole CheckError)
-    → IsExactRta sha256 is_rsa_signature now supplied octets result
-    → IsRtaSaid Included text result s
-    → BeginsWith (RtaForm Der) octets
-    (λ (r : Whole). IsGrantedRta sha256 is_rsa_signature now r supplied)
-granted-result supplied now octets s text zero (Ok k) b h = record {
-  object = b.object;
-  rest = b.rest;
-  front = b.front;
-  holds = b.holds.0;
-}
-granted-result supplied now octets s text zero (Err (Decode fault)) b h =
-    absurd (refusal-is-none Included fault s h zero)
-granted-result supplied now octets s text zero (Err (Validation fault)) b (inl e) =
-    absurd (other-status s out_of_memory 0 zero e three)
-granted-result supplied now octets s text zero (Err (Validation fault)) b (inr e) =
-    absurd (other-status s (validation_refusal fault) 0 zero e (fault-is-none fault))
+module _ (g : Grounds) (text : KeptWhole → List ℕ) (octets : List ℕ) (s : Output)
+    (zero : status_of s ≡ 0) where
+  granted-result : (result : Result KeptWhole CheckError)
+      → IsExactRta sha256 is_rsa_signature g.now (supplied_by g) octets result
+      → IsAttestationSaid text is_rsa_signature g.lists g.issuer result s → IsGoodKind g Rta octets
+  granted-result (Ok k) b (inl h) = record {
+    object = b.object;
+    rest = b.rest;
+    front = b.front;
+    holds = (
+      b.holds.0,
+      subst (λ (r : Whole). AreUnrevokedUnder is_rsa_signature g.lists g.issuer.cert.certificate
+          r.signed.certs) b.holds.1 h.0,
+    );
+  }
+  granted-result (Ok k) b (inr h) = elim h.2 [
+    | inl e ↦ absurd (other-status s out_of_memory 0 zero e three)
+    | inr e ↦ absurd (other-status s (refused (revoked_text h.0)) 0 zero e one)
+  ]
+  granted-result (Err (Decode fault)) b h = absurd (refusal-is-none Included fault s h zero)
+  granted-result (Err (Validation fault)) b (inl e) =
+      absurd (other-status s out_of_memory 0 zero e three)
+  granted-result (Err (Validation fault)) b (inr e) =
+      absurd (other-status s (validation_refusal fault) 0 zero e (fault-is-none fault))
 
-granted-good : (g : Grounds) (text : KeptWhole → List ℕ) (octets : List ℕ) (s : Output)
-    → IsSaidOfRtaAs g text octets s → status_of s ≡ 0 → IsGoodKind g Rta octets
-granted-good g text octets s (inl e) zero =
-    absurd (other-status s out_of_memory 0 zero e three)
-granted-good g text octets s (inr c) zero =
-    granted-result (supplied_by g) g.now octets s text zero c.result c.exact c.said
+  granted-good : IsSaidOfRtaAs g text octets s → IsGoodKind g Rta octets
+  granted-good (inl e) = absurd (other-status s out_of_memory 0 zero e three)
+  granted-good (inr c) = granted-result c.result c.exact c.said
 
 kind-good : (g : Grounds) (kind : CheckedKind) (octets : List ℕ) (s : Output)
     → IsSaidOfKind g kind octets s → status_of s ≡ 0 → IsGoodKind g kind octets
 kind-good g (Signed kind) octets s h zero =
     row-good g kind octets s (λ X text members x. yes_line ++ text x) zero h
-kind-good g Rta octets s h zero = granted-good g granted_text octets s h zero
+kind-good g Rta octets s h zero = granted-good g granted_text octets s zero h
 
 file-good : (g : Grounds) (file : GivenFile CheckedKind) (s : Output) → IsSaidOfObject g file s
     → status_of s ≡ 0 → IsGoodFile g file
@@ -280,7 +280,7 @@ json-kind-good : (g : Grounds) (kind : CheckedKind) (name octets : List ℕ) (s 
     → IsKindInJson g kind name octets s → status_of s ≡ 0 → IsGoodKind g kind octets
 json-kind-good g (Signed kind) name octets s h zero = row-good g kind octets s
     (λ X text members x. file_json name (kind_word kind) (valid_members (members x))) zero h
-json-kind-good g Rta name octets s h zero = granted-good g (granted_json name) octets s h zero
+json-kind-good g Rta name octets s h zero = granted-good g (granted_json name) octets s zero h
 
 json-file-good : (g : Grounds) (file : GivenFile CheckedKind) (s : Output) → IsObjectInJson g file s
     → status_of s ≡ 0 → IsGoodFile g file

@@ -25,7 +25,6 @@ use Rattle.rpki_show.specs.Json.Outcome.{valid_members, invalid_members}
 use Rattle.rpki_show.specs.Json.Rta.{attestation_members}
 use Rattle.rpki_show.specs.Options.{read_mode}
 use Rattle.rpki_command.specs.Check.{validation_refusal}
-use Rattle.rpki_command.specs.Rta.{IsRtaSaid}
 use Rattle.rpki_command.specs.Verify.Checks.{CheckedFiles, IsSaidOfFiles, SaidUnder, SaidWithLists}
 use Rattle.rpki_command.specs.Verify.Checks.{IsSaidUnissued, bad_list}
 use Rattle.rpki_command.specs.Verify.Each.{GivenFile, FileAnswer, IsLineFor, IsLineOf, IsSaidInJson}
@@ -33,7 +32,8 @@ use Rattle.rpki_command.specs.Verify.Each.{printed}
 use Rattle.rpki_command.specs.Verify.Issuers.{GivenLocator, IsNoIssuerSaid}
 use Rattle.rpki_command.specs.Verify.Lines.{IsFileLine, PrintsLines}
 use Rattle.rpki_command.specs.Verify.Objects.{Grounds, IsJudgedAs, IsJudgementSaid, IsKindInJson}
-use Rattle.rpki_command.specs.Verify.Objects.{IsObjectInJson, IsSaidOfRtaAs, granted_json}
+use Rattle.rpki_command.specs.Verify.Objects.{IsAttestationSaid, IsObjectInJson, IsSaidOfRtaAs}
+use Rattle.rpki_command.specs.Verify.Objects.{granted_json}
 use Rattle.rpki_command.specs.Verify.Objects.{object_word}
 use Rattle.rpki_command.specs.Verify.Objects.{IsSaidOfObjects}
 use Rattle.rpki_command.specs.Verify.Revoked.{GivenList, revoked_text}
@@ -85,24 +85,30 @@ module _ {X : Type 0} (kind : signed.ObjectKind X) (form : List ℕ → X → Ty
   judged-shown (inl e) = absurd (other-status s out_of_memory 0 shown-zero e three)
   judged-shown (inr j) = result-shown j.result j.said
 
-module _ (s : Output) (line : List ℕ) (is : s ≡ shown line) (text : KeptWhole → List ℕ) where
-  rta-result : (result : Result KeptWhole CheckError) → IsRtaSaid Included text result s
+module _ (s : Output) (line : List ℕ) (is : s ≡ shown line) (text : KeptWhole → List ℕ)
+    (g : Grounds) where
+  no-memory : {A : Type 0} → s ≡ out_of_memory → A
+  no-memory e = absurd (other-status s out_of_memory 0 (ap status_of is) e three)
+
+  rta-result : (result : Result KeptWhole CheckError)
+      → IsAttestationSaid text is_rsa_signature g.lists g.issuer result s
       → (x : KeptWhole) × (line ≡ text x)
-  rta-result (Ok a) (inl e) =
-      absurd (other-status s out_of_memory 0 (ap status_of is) e three)
-  rta-result (Ok a) (inr e) = (a, same-text line (text a) (sym is ∙ e))
+  rta-result (Ok a) (inl (u, inl e)) = no-memory e
+  rta-result (Ok a) (inl (u, inr e)) = (a, same-text line (text a) (sym is ∙ e))
+  rta-result (Ok a) (inr h) = elim h.2 [
+    | inl e ↦ no-memory e
+    | inr e ↦ absurd (other-status s (refused (revoked_text h.0)) 0 (ap status_of is) e one)
+  ]
   rta-result (Err (Decode fault)) h =
       absurd (refusal-is-none Included fault s h (ap status_of is))
-  rta-result (Err (Validation fault)) (inl e) =
-      absurd (other-status s out_of_memory 0 (ap status_of is) e three)
+  rta-result (Err (Validation fault)) (inl e) = no-memory e
   rta-result (Err (Validation fault)) (inr e) = absurd
       (other-status s (validation_refusal fault) 0 (ap status_of is) e (fault-is-none fault))
 
-  rta-shown : (g : Grounds) (octets : List ℕ) → IsSaidOfRtaAs g text octets s
+  rta-shown : (octets : List ℕ) → IsSaidOfRtaAs g text octets s
       → (x : KeptWhole) × (line ≡ text x)
-  rta-shown g octets (inl e) =
-      absurd (other-status s out_of_memory 0 (ap status_of is) e three)
-  rta-shown g octets (inr c) = rta-result c.result c.said
+  rta-shown octets (inl e) = no-memory e
+  rta-shown octets (inr c) = rta-result c.result c.said
 
 -- what is shown of a kind in JSON is an object with the name of the file
 kind-line : (g : Grounds) (kind : CheckedKind) (name octets : List ℕ) (s : Output) (line : List ℕ)

@@ -18,7 +18,6 @@ use Rattle.rpki_certs.specs.Validate.{Validated}
 use Rattle.rpki_certs.specs.Verify.{Verdict}
 use Rattle.rpki_multi.specs.Attestation.{KeptWhole, RtaForm}
 use Rattle.rpki_multi.specs.Attestation as attested
-use Rattle.rpki_paths.specs.Anchor.{Supply}
 use Rattle.rpki_rsa.specs.Signature.{is_rsa_signature}
 use Rattle.rpki_rta.specs.Granted.{GrantsRta, IsDistinct, IsGrantedRta}
 use Rattle.rpki_signed.specs.Attested.{IsExactRta}
@@ -43,21 +42,24 @@ use Rattle.rpki_show.specs.Json.Outcome.{valid_members, invalid_members}
 use Rattle.rpki_show.specs.Kinds.{RowOf}
 use Rattle.rpki_show.specs.Options.{read_mode}
 use Rattle.rpki_command.specs.Check.{passes, yes_line, validation_refusal}
-use Rattle.rpki_command.specs.Rta.{IsRtaSaid, granted_text}
+use Rattle.rpki_command.specs.Rta.{granted_text}
 use Rattle.rpki_command.specs.Verify.Checks.{CheckedFiles, IsLocatorOf, IsSaidOfFiles, SaidUnder}
 use Rattle.rpki_command.specs.Verify.Checks.{SaidWithLists, bad_list, IsSaidUnissued}
 use Rattle.rpki_command.specs.Verify.Each.{GivenFile, FileAnswer, common_status, IsAnswerOf, IsSaidOfEach}
 use Rattle.rpki_command.specs.Verify.Each.{PrintsEach, answer_text, Reasons, IsLineFor, IsLineOf}
 use Rattle.rpki_command.specs.Verify.Each.{IsSaidInJson}
 use Rattle.rpki_command.specs.Verify.Good.{BeginsWithRefused, IsRefusedKind, IsRefusedFile}
+use Rattle.rpki_command.specs.Verify.Good.{BeginsWithRefusedRta}
 use Rattle.rpki_command.specs.Verify.Good.{AreRefused}
 use Rattle.rpki_command.specs.Verify.Issuers.{GivenLocator, IsNoIssuerSaid, no_issuer}
 use Rattle.rpki_command.specs.Verify.Objects.{Grounds, IsSaidOfObject, IsJudgedAs, supplied_by}
 use Rattle.rpki_command.specs.Verify.Objects.{IsJudgementSaid, IsSaidOfKind, IsSaidOfRtaAs}
+use Rattle.rpki_command.specs.Verify.Objects.{IsAttestationSaid}
 use Rattle.rpki_command.specs.Verify.Objects.{IsKindInJson, IsObjectInJson, IsSaidOfObjects}
 use Rattle.rpki_command.specs.Verify.Objects.{granted_json, object_word}
 use Rattle.rpki_command.specs.Verify.Revoked.{GivenList, IsGivenList, IsUnrevoked, IsRevokedBy, Revokes}
-use Rattle.rpki_command.specs.Yes.{BeginsWithNoGranted, status_of}
+use Rattle.rpki_command.specs.Verify.Revoked.{AreUnrevokedUnder, IsOneRevokedBy, IsUnrevokedUnder}
+use Rattle.rpki_command.specs.Yes.{status_of}
 use Rattle.rpki_command.specs.declared.verify.checks.Manner.{Manner}
 use Rattle.rpki_command.specs.declared.verify.issuers.NoIssuer.{NoIssuer}
 use Rattle.rpki_command.specs.declared.verify.issuers.NotLocator.TheVariants as locating
@@ -164,6 +166,14 @@ not-unrevoked verdict lists issuer c name r all =
     let P : GivenList → Type 0 = λ l. ¬ Revokes verdict issuer c l.list in
     middle P r.before one r.after (subst (All P) r.cut all) r.revokes
 
+pub not-all-unrevoked : (verdict : Verdict) (lists : List GivenList) (issuer : Certificate)
+    (certs : List Certificate) (name : List ℕ) → IsOneRevokedBy verdict lists issuer certs name
+    → ¬ AreUnrevokedUnder verdict lists issuer certs
+not-all-unrevoked verdict lists issuer certs name r all =
+    let P : Certificate → Type 0 = IsUnrevokedUnder verdict lists issuer in
+    not-unrevoked verdict lists issuer r.cert name r.revoked
+    (middle P r.before r.cert r.after (subst (All P) r.cut all) r.under)
+
 no-pass : (cert : KeptCertificate) (fault : ValidationError) → passes cert (Err fault) → ⊥
 no-pass cert fault e = absurd cc
 
@@ -233,8 +243,8 @@ row-refused g kind octets s written denied h = of-row g.options kind
     (λ X asked form text members is. refused-as asked form (written X text members)
     (read_mode g.options) sha256 is_rsa_signature g.issuer g.now octets s g.lists denied is) h
 
-module _ (supplied : List Supply) (now : Moment) (octets : List ℕ) (s : Output)
-    (text : KeptWhole → List ℕ) (denied : IsNo s) where
+module _ (g : Grounds) (text : KeptWhole → List ℕ) (octets : List ℕ) (s : Output)
+    (denied : IsNo s) where
   no-attestation : (fault : DecodeError) → IsRefusal Included fault s
       → Refuses fault (HasNoFront (RtaForm Der) octets) → HasNoFront (RtaForm Der) octets
   no-attestation fault e none =
@@ -244,37 +254,44 @@ module _ (supplied : List Supply) (now : Moment) (octets : List ℕ) (s : Output
       ]
 
   not-granted : (r : attested.Whole) (fault : ValidationError) → s ≡ validation_refusal fault
-      → GrantsRta sha256 is_rsa_signature now supplied r (Err fault)
+      → GrantsRta sha256 is_rsa_signature g.now (supplied_by g) r (Err fault)
       → IsDistinct sha256 is_rsa_signature r
-      → ¬ (IsGrantedRta sha256 is_rsa_signature now r supplied)
-  not-granted r fault e g = g (λ m. denied.0 (e ∙ ap validation_refusal m))
+      → ¬ (IsGrantedRta sha256 is_rsa_signature g.now r (supplied_by g))
+  not-granted r fault e h = h (λ m. denied.0 (e ∙ ap validation_refusal m))
 
   ungranted-result : (result : Result KeptWhole CheckError)
-      → IsExactRta sha256 is_rsa_signature now supplied octets result
-      → IsRtaSaid Included text result s
-      → BeginsWithNoGranted is_rsa_signature now supplied octets
-  ungranted-result (Ok k) b (inl e) = absurd (denied.0 e)
-  ungranted-result (Ok k) b (inr e) = absurd (denied.1 (ap status_of e))
-  ungranted-result (Err (Decode fault)) b is = inl (no-attestation fault is b)
+      → IsExactRta sha256 is_rsa_signature g.now (supplied_by g) octets result
+      → IsAttestationSaid text is_rsa_signature g.lists g.issuer result s
+      → BeginsWithRefusedRta g octets
+  ungranted-result (Ok k) b (inl (u, inl e)) = absurd (denied.0 e)
+  ungranted-result (Ok k) b (inl (u, inr e)) = absurd (denied.1 (ap status_of e))
+  ungranted-result (Ok k) b (inr h) = inr (record {
+    object = b.object;
+    rest = b.rest;
+    front = b.front;
+    holds = not-all-unrevoked is_rsa_signature g.lists g.issuer.cert.certificate
+        b.object.signed.certs h.0
+        (subst (λ (r : attested.Whole). IsOneRevokedBy is_rsa_signature g.lists
+        g.issuer.cert.certificate r.signed.certs h.0) b.holds.1 h.1);
+  })
+  ungranted-result (Err (Decode fault)) b is = inl (inl (no-attestation fault is b))
   ungranted-result (Err (Validation fault)) b (inl e) = absurd (denied.0 e)
-  ungranted-result (Err (Validation fault)) b (inr e) = inr (record {
+  ungranted-result (Err (Validation fault)) b (inr e) = inl (inr (record {
     object = b.object;
     rest = b.rest;
     front = b.front;
     holds = not-granted b.object fault e b.holds;
-  })
+  }))
 
-ungranted : (g : Grounds) (text : KeptWhole → List ℕ) (octets : List ℕ) (s : Output)
-    → IsSaidOfRtaAs g text octets s → IsNo s → IsRefusedKind g Rta octets
-ungranted g text octets s (inl e) denied = absurd (denied.0 e)
-ungranted g text octets s (inr c) denied =
-    ungranted-result (supplied_by g) g.now octets s text denied c.result c.exact c.said
+  ungranted : IsSaidOfRtaAs g text octets s → IsRefusedKind g Rta octets
+  ungranted (inl e) = absurd (denied.0 e)
+  ungranted (inr c) = ungranted-result c.result c.exact c.said
 
 kind-refused : (g : Grounds) (kind : CheckedKind) (octets : List ℕ) (s : Output)
     → IsSaidOfKind g kind octets s → IsNo s → IsRefusedKind g kind octets
 kind-refused g (Signed kind) octets s h denied =
     row-refused g kind octets s (λ X text members x. yes_line ++ text x) denied h
-kind-refused g Rta octets s h denied = ungranted g granted_text octets s h denied
+kind-refused g Rta octets s h denied = ungranted g granted_text octets s denied h
 
 file-refused : (g : Grounds) (file : GivenFile CheckedKind) (s : Output) → IsSaidOfObject g file s
     → IsNo s → IsRefusedFile g file
@@ -284,7 +301,7 @@ json-kind-refused : (g : Grounds) (kind : CheckedKind) (name octets : List ℕ) 
     → IsKindInJson g kind name octets s → IsNo s → IsRefusedKind g kind octets
 json-kind-refused g (Signed kind) name octets s h denied = row-refused g kind octets s
     (λ X text members x. file_json name (kind_word kind) (valid_members (members x))) denied h
-json-kind-refused g Rta name octets s h denied = ungranted g (granted_json name) octets s h denied
+json-kind-refused g Rta name octets s h denied = ungranted g (granted_json name) octets s denied h
 
 json-file-refused : (g : Grounds) (file : GivenFile CheckedKind) (s : Output)
     → IsObjectInJson g file s → IsNo s → IsRefusedFile g file

@@ -1,16 +1,19 @@
 -- Which list revokes a certificate first.
 use Rattle.std.proofs.Common.{◌≡◌, ◌<◌, ◌+◌, ◌∙◌, ℕ, suc, List, [], ◌∷◌, ◌++◌, All, Err}
 use Rattle.std.proofs.Common.{Bool, true, false, sym, ap, subst, arith, length, get_or, take, drop}
+use Rattle.std.proofs.Common.{map}
 use Rattle.std.proofs.Math.Seq.{drop-cons}
 use Rattle.std.proofs.lemmas.List.{take-append-drop}
-use Rattle.std.proofs.lemmas.List.Elements.{All-nil, All-cons}
+use Rattle.std.proofs.lemmas.List.{map-append}
+use Rattle.std.proofs.lemmas.List.Elements.{All-nil, All-cons, All-map}
 use Rattle.std.specs.List.{AllZip, zip}
 use Rattle.std.specs.Prelude.{◌↔◌, IsTrue}
-use Rattle.rpki_certs.specs.Cert.{Certificate}
+use Rattle.rpki_certs.specs.Cert.{Certificate, KeptCertificate}
 use Rattle.rpki_certs.specs.Verify.{Verdict}
 use Rattle.rpki_crls.specs.Crl.{RevocationList}
 use Rattle.rpki_command.proofs.Verified.Zipped.{AreMadeTo, next-cut}
 use Rattle.rpki_command.specs.Verify.Revoked.{File, GivenList, Revokes, IsUnrevoked, IsRevokedBy}
+use Rattle.rpki_command.specs.Verify.Revoked.{IsUnder, IsUnrevokedUnder, IsOneRevokedBy}
 use Rattle.rpki_command.specs.Verify.Revoked.{IsList, IsGivenList, AreLists, IsOneList}
 use Rattle.rpki_command.specs.declared.verify.revoked.NotLists.{NotLists}
 use Rattle.rpki_command.specs.declared.verify.revoked.NotLists.TheVariants.{Bad, Memory}
@@ -46,6 +49,28 @@ first-revoking verdict lists issuer c i l name there at named before revokes = r
   revokes = revokes;
   first = before;
 }
+
+-- the certificate at a place is under the issuer and revoked, and none before it is
+pub one-revoking : (verdict : Verdict) (lists : List GivenList) (issuer : Certificate)
+    (certs : List KeptCertificate) (i : ℕ) (k : KeptCertificate) (name : List ℕ)
+    → i < length certs → k ≡ get_or certs i k
+    → All (λ (c : KeptCertificate). IsUnrevokedUnder verdict lists issuer c.certificate)
+    (take i certs)
+    → IsUnder issuer k.certificate → IsRevokedBy verdict lists issuer k.certificate name
+    → IsOneRevokedBy verdict lists issuer (map (λ (c : KeptCertificate). c.certificate) certs) name
+one-revoking verdict lists issuer certs i k name there at before under revoked =
+    let f : KeptCertificate → Certificate = λ c. c.certificate in
+    record {
+      before = map f (take i certs);
+      cert = k.certificate;
+      after = map f (drop (i + 1) certs);
+      cut = ap (map f) (subst (λ (c : KeptCertificate).
+          certs ≡ take i certs ++ c ∷ drop (i + 1) certs) (sym at) (cut-at certs i k there))
+          ∙ map-append f (take i certs) (k ∷ drop (i + 1) certs);
+      under = under;
+      revoked = revoked;
+      first = All-map (IsUnrevokedUnder verdict lists issuer) f (take i certs) before;
+    }
 
 -- ---- files
 

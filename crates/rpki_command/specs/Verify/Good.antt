@@ -27,6 +27,7 @@ use Rattle.rpki_command.specs.Verify.Issuers.{CertFiles, GivenLocator, IsIssuerO
 use Rattle.rpki_command.specs.Verify.Issuers.{no_issuer}
 use Rattle.rpki_command.specs.Verify.Objects.{Grounds, supplied_by}
 use Rattle.rpki_command.specs.Verify.Revoked.{GivenList, IsGivenList, IsUnrevoked}
+use Rattle.rpki_command.specs.Verify.Revoked.{AreUnrevokedUnder}
 use Rattle.rpki_command.specs.Yes.{BeginsWithNoGood, BeginsWithNoGranted}
 use Rattle.rpki_command.specs.declared.verify.issuers.NoIssuer.{NoIssuer}
 use Rattle.rpki_cli.specs.declared.verify.requests.CheckedKind.{CheckedKind}
@@ -44,14 +45,15 @@ pub record BeginsWithUnrevoked {X : Type 0} (kind : signed.ObjectKind X)
   pub good : IsGood kind mode digest verdict issuer now object certificate
   pub unrevoked : IsUnrevoked verdict lists issuer.cert.certificate object.object.signed.cert
 
--- The octets begin with such an object of this kind, or with an attestation that is granted, by these
--- grounds.
+-- The octets begin with such an object of this kind, or with an attestation that is granted and none
+-- of whose certificates under this issuer a list revokes, by these grounds.
 abbrev pub IsGoodKind : Grounds → CheckedKind → List ℕ → Type 0
 IsGoodKind g (Signed kind) octets = OfKind g.options kind (λ X asked form text.
     BeginsWithUnrevoked asked form (read_mode g.options) sha256 is_rsa_signature g.lists g.issuer
     g.now octets)
 IsGoodKind g Rta octets = BeginsWith (RtaForm Der) octets
-    (λ (r : attested.Whole). IsGrantedRta sha256 is_rsa_signature g.now r (supplied_by g))
+    (λ (r : attested.Whole). IsGrantedRta sha256 is_rsa_signature g.now r (supplied_by g)
+    × AreUnrevokedUnder is_rsa_signature g.lists g.issuer.cert.certificate r.signed.certs)
 
 -- the same of a file
 abbrev pub IsGoodFile : Grounds → GivenFile CheckedKind → Type 0
@@ -85,14 +87,21 @@ BeginsWithRefused {X} kind form mode digest verdict lists issuer now octets =
     ⊎ BeginsWith (ObjectForm kind.type form mode) octets (λ (o : Whole X).
     ¬ IsUnrevoked verdict lists issuer.cert.certificate o.object.signed.cert)
 
--- The octets begin with no object of this kind that is such, or with no attestation that is granted,
--- by these grounds.
+-- The octets begin with no attestation that is granted under the supplies, or with one that carries
+-- a certificate under this issuer that one of the lists revokes, by these grounds.
+abbrev pub BeginsWithRefusedRta : Grounds → List ℕ → Type 0
+BeginsWithRefusedRta g octets =
+    BeginsWithNoGranted is_rsa_signature g.now (supplied_by g) octets
+    ⊎ BeginsWith (RtaForm Der) octets (λ (r : attested.Whole).
+    ¬ AreUnrevokedUnder is_rsa_signature g.lists g.issuer.cert.certificate r.signed.certs)
+
+-- The octets begin with no object of this kind that is such, or with no such attestation, by these
+-- grounds.
 abbrev pub IsRefusedKind : Grounds → CheckedKind → List ℕ → Type 0
 IsRefusedKind g (Signed kind) octets = OfKind g.options kind (λ X asked form text.
     BeginsWithRefused asked form (read_mode g.options) sha256 is_rsa_signature g.lists g.issuer
     g.now octets)
-IsRefusedKind g Rta octets =
-    BeginsWithNoGranted is_rsa_signature g.now (supplied_by g) octets
+IsRefusedKind g Rta octets = BeginsWithRefusedRta g octets
 
 -- the same of a file
 abbrev pub IsRefusedFile : Grounds → GivenFile CheckedKind → Type 0

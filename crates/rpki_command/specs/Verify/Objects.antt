@@ -9,7 +9,7 @@ use Rattle.rpki_basics.specs.Moment.{Moment}
 use Rattle.rpki_certs.specs.Cert.{Certificate}
 use Rattle.rpki_certs.specs.Validate.{Validated}
 use Rattle.rpki_certs.specs.Verify.{Verdict}
-use Rattle.rpki_multi.specs.Attestation.{KeptWhole}
+use Rattle.rpki_multi.specs.Attestation.{KeptWhole, whole_of}
 use Rattle.rpki_paths.specs.Anchor.{Supply}
 use Rattle.rpki_rsa.specs.Signature.{is_rsa_signature}
 use Rattle.rpki_rsa.specs.declared.rsa.Rsa.{Rsa}
@@ -32,10 +32,11 @@ use Rattle.rpki_show.specs.Json.Rta.{attestation_members}
 use Rattle.rpki_show.specs.Kinds.{OfKind, JsonOfKind}
 use Rattle.rpki_show.specs.Options.{read_mode}
 use Rattle.rpki_command.specs.Check.{passes, yes_line, IsCheckSaid}
-use Rattle.rpki_command.specs.Rta.{AttestedAs, granted_text, supply_of}
+use Rattle.rpki_command.specs.Rta.{AttestedAs, IsRtaSaid, granted_text, supply_of}
 use Rattle.rpki_command.specs.Verify.Each.{GivenFile, IsSaidOfEach, IsSaidInJson}
 use Rattle.rpki_command.specs.Verify.Issuers.{GivenLocator}
 use Rattle.rpki_command.specs.Verify.Revoked.{GivenList, IsUnrevoked, IsRevokedBy, revoked_text}
+use Rattle.rpki_command.specs.Verify.Revoked.{AreUnrevokedUnder, IsOneRevokedBy}
 use Rattle.rpki_command.specs.declared.anchors.Anchor.TheVariants.{Ca}
 use Rattle.rpki_cli.specs.declared.verify.requests.CheckedKind.{CheckedKind}
 use Rattle.rpki_cli.specs.declared.verify.requests.CheckedKind.TheVariants.{Signed, Rta}
@@ -121,10 +122,28 @@ located_by (Some l) = Supply.Tal l.key ∷ []
 abbrev pub supplied_by : Grounds → List Supply
 supplied_by g = located_by g.locator ++ supply_of (Ca g.issuer) ∷ []
 
--- What is said of an attestation by these grounds, whose text this is where it is granted. It carries
--- lists, and of others nothing is asked. The cryptography is `Rsa`, which has one value.
+-- What is said of an attestation that is granted, with this text, and that carries these
+-- certificates: the text, where none of the lists revokes one that is under this issuer, and else
+-- which list is the first that revokes the first such certificate.
+abbrev pub IsGrantedSaid : Verdict → List GivenList → Certificate → List Certificate → List ℕ
+    → Output → Type 0
+IsGrantedSaid verdict lists issuer certs text s =
+    (AreUnrevokedUnder verdict lists issuer certs × IsLinesOf text s)
+    ⊎ ((list : List ℕ) × IsOneRevokedBy verdict lists issuer certs list × IsRevokedSaid list s)
+
+-- what is said of what the check of an attestation answers
+abbrev pub IsAttestationSaid : (KeptWhole → List ℕ) → Verdict → List GivenList → Validated
+    → Result KeptWhole CheckError → Output → Type 0
+IsAttestationSaid text verdict lists issuer (Ok r) s =
+    IsGrantedSaid verdict lists issuer.cert.certificate (whole_of r).signed.certs (text r) s
+IsAttestationSaid text verdict lists issuer (Err fault) s = IsRtaSaid Included text (Err fault) s
+
+-- What is said of an attestation by these grounds, whose text this is where it is granted: where
+-- the check finds it granted, by the lists that it carries, those of the grounds are asked. The
+-- cryptography is `Rsa`, which has one value.
 abbrev pub IsSaidOfRtaAs : Grounds → (KeptWhole → List ℕ) → List ℕ → Output → Type 0
-IsSaidOfRtaAs g text octets s = AttestedAs Included text (λ (_ : Rsa). sha256)
+IsSaidOfRtaAs g text octets s =
+    AttestedAs (IsAttestationSaid text is_rsa_signature g.lists g.issuer) (λ (_ : Rsa). sha256)
     (λ (_ : Rsa). is_rsa_signature) (record {}) g.now (supplied_by g) octets s
 
 -- the same in lines

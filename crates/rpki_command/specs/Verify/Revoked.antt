@@ -1,5 +1,6 @@
 -- Revocation lists that are given beside objects: which of them count, and what they revoke.
-use Rattle.std.specs.Prelude.{◌≡◌, ℕ, List, ◌∷◌, ◌++◌, All, Contains, Result, Ok, Err, Vec, codes}
+use Rattle.std.specs.Prelude.{◌≡◌, ℕ, List, ◌∷◌, ◌++◌, All, Contains, Result, Ok, Err, Some, Vec}
+use Rattle.std.specs.Prelude.{codes}
 use Rattle.std.specs.List.{AllZip}
 use Rattle.std.specs.declared.alloc.Global.{Global}
 use Rattle.rpki_der.specs.Form.Decodes.{IsOnlyFront}
@@ -49,6 +50,31 @@ pub record IsRevokedBy (verdict : Verdict) (lists : List GivenList) (issuer c : 
   pub cut : lists ≡ before ++ record { name = name; list = list } ∷ after
   pub revokes : Revokes verdict issuer c list
   pub first : IsUnrevoked verdict before issuer c
+
+-- The certificate states the identifier of the issuer's key as that of its authority (RFC 5280,
+-- section 4.2.1.1).
+abbrev pub IsUnder : Certificate → Certificate → Type 0
+IsUnder issuer c = c.tbs.extensions.key.authority_key ≡ Some issuer.tbs.extensions.key.subject_key
+
+-- None of the lists revokes the certificate, if it is under this issuer.
+abbrev pub IsUnrevokedUnder : Verdict → List GivenList → Certificate → Certificate → Type 0
+IsUnrevokedUnder verdict lists issuer c = IsUnder issuer c → IsUnrevoked verdict lists issuer c
+
+-- None of the lists revokes one of these certificates that is under this issuer.
+abbrev pub AreUnrevokedUnder : Verdict → List GivenList → Certificate → List Certificate → Type 0
+AreUnrevokedUnder verdict lists issuer certs = All (IsUnrevokedUnder verdict lists issuer) certs
+
+-- One of these certificates is under this issuer, and one of the lists revokes it; the first of the
+-- lists that revokes the first such certificate is in the file of this name.
+pub record IsOneRevokedBy (verdict : Verdict) (lists : List GivenList) (issuer : Certificate)
+    (certs : List Certificate) (name : List ℕ) : Type 0 where
+  pub before : List Certificate
+  pub cert : Certificate
+  pub after : List Certificate
+  pub cut : certs ≡ before ++ cert ∷ after
+  pub under : IsUnder issuer cert
+  pub revoked : IsRevokedBy verdict lists issuer cert name
+  pub first : AreUnrevokedUnder verdict lists issuer before
 
 -- that a list revokes a certificate, as a text
 abbrev pub revoked_text : List ℕ → List ℕ

@@ -15,13 +15,14 @@ ghost use Rattle.rpki_command.specs.Verify.Objects.{IsSaidOfObject, IsSaidOfSign
 ghost use Rattle.rpki_command.specs.Verify.Objects.{IsObjectInJson, IsKindInJson, object_word};
 ghost use Rattle.rpki_command.specs.Verify.Objects.{IsSaidOfRtaInJson, IsSaidOfRtaAs};
 ghost use Rattle.rpki_command.specs.Verify.Objects.{IsCauseRefused, supplied_by};
+ghost use Rattle.rpki_command.specs.Verify.Objects.{IsAttestationSaid};
 ghost use Rattle.rpki_command.specs.Verify.Revoked.{revoked_text};
 
 use crate::check::{check_passed, pass, refused, say_yes};
-use crate::rta::{granted, say_granted};
+use crate::rta::{checked, say_granted};
 use crate::verify::each::{AskedFile, JsonKind, Judge};
 use crate::verify::issuers::NamedLocator;
-use crate::verify::revoked::{NamedList, revoking};
+use crate::verify::revoked::{NamedList, revoking, revoking_one};
 use bytes::Bytes;
 use rpki_basics::{Crypto, Time};
 use rpki_certs::ResourceCert;
@@ -41,9 +42,10 @@ use std::alloc::{AllocError, Global};
 use std::marker::Model;
 
 /// Whether files begin with good objects of their kinds, by their signatures, under this issuer and
-/// at this moment. A signed object whose certificate a list revokes is refused by the first list that
-/// does. An attestation is checked with the locator, if there is one, and the issuer as supplies: it
-/// carries lists of its own, and these here say nothing of it.
+/// at this moment. A signed object whose certificate a list revokes is refused by the first list
+/// that does. An attestation is checked with the locator, if there is one, and the issuer as
+/// supplies, and by the lists that it carries; where it is granted, and a list here revokes one of
+/// its certificates under the issuer, it is refused by the first that revokes the first of these.
 #[derive(Drop)]
 pub struct CheckUnder<'s> {
     pub options: Options,
@@ -190,19 +192,19 @@ impl<'s> CheckUnder<'s> {
         }
     }
 
-    /// The attestation at the front of the octets, where it is granted, or what is answered.
+    /// The attestation at the front of the octets, where it is granted and no list revokes one of
+    /// its certificates under the issuer, or what is answered.
     fn granted<'a>(&self, alloc: Global, octets: &Bytes) -> Result<Rta, Answer<'a>>
         ensures { Settles (λ text s. IsSaidOfRtaAs self.now text octets.now s) result }
     {
         match self.supplies(alloc) {
             Err(_) => Err(Answer::OutOfMemory),
-            Ok(supplies) => granted(
+            Ok(supplies) => settled_rta(
                 alloc,
-                Causes::Included,
-                octets,
-                &supplies,
+                self.lists,
+                self.issuer,
                 &Rsa,
-                self.moment,
+                checked(alloc, octets, &supplies, &Rsa, self.moment),
             ),
         }
     }
@@ -346,6 +348,34 @@ fn settled<'a, C: Lines, K: Crypto>(
                 None => Ok(content),
                 Some(list) => {
                     drop(content);
+                    Err(refused_for(revoked_by(alloc, list)))
+                }
+            }
+        }
+    }
+}
+
+/// The attestation that a check finds granted, where no list revokes one of its certificates under
+/// this issuer, and else what is answered.
+fn settled_rta<'a, K: Crypto>(
+    alloc: Global,
+    lists: &[NamedList<'_>],
+    issuer: &ResourceCert,
+    crypto: &K,
+    checked: Result<Rta, CheckError>,
+) -> Result<Rta, Answer<'a>>
+    ensures { Settles (λ text s. IsAttestationSaid text (K.is_signed crypto.now) lists.now
+        issuer.now checked s) result }
+{
+    match checked {
+        Err(CheckError::Decode(error)) => Err(refusal(alloc, Causes::Included, error)),
+        Err(CheckError::Validation(error)) => Err(refused(alloc, error)),
+        Ok(rta) => {
+            let certs = rta.signed().certificates();
+            match revoking_one(lists, issuer.cert(), certs, crypto) {
+                None => Ok(rta),
+                Some(list) => {
+                    drop(rta);
                     Err(refused_for(revoked_by(alloc, list)))
                 }
             }

@@ -1,13 +1,15 @@
 //! Revocation lists that are given beside objects: which of them count, and what they revoke. One
 //! counts where it states the identifier of the issuer's key, and that key signed it.
 
-ghost use Rattle.std.specs.Prelude.{◌≡◌, ◌↔◌, IsTrue, MatchOption};
+ghost use Rattle.std.specs.Prelude.{◌≡◌, ◌↔◌, IsTrue, MatchOption, map};
 ghost use Rattle.std.specs.List.{zip};
 ghost use Rattle.rpki_der.specs.declared.mode.Mode.TheVariants.{Der};
 ghost use Rattle.rpki_der.specs.Form.Decodes.{Decodes};
 ghost use Rattle.rpki_crls.specs.Crl.{CrlForm};
 ghost use Rattle.rpki_cli.specs.Words.{texts};
 ghost use Rattle.rpki_command.specs.Verify.Revoked.{IsListOf, Revokes, IsUnrevoked, IsRevokedBy};
+ghost use Rattle.rpki_command.specs.Verify.Revoked.{IsUnder, IsUnrevokedUnder, IsOneRevokedBy};
+ghost use Rattle.rpki_command.specs.Verify.Revoked.{AreUnrevokedUnder};
 ghost use Rattle.rpki_command.specs.Verify.Revoked.{AreLists, IsOneList, IsListFault};
 
 use bytes::Bytes;
@@ -136,4 +138,59 @@ pub fn revoking<'s, K: Crypto>(
         }
     }
     None
+}
+
+/// The name of the first of the lists that revokes the first of these certificates that one does,
+/// among those under this issuer: they state the identifier of its key as that of their authority.
+pub fn revoking_one<'s, K: Crypto>(
+    lists: &[NamedList<'s>],
+    issuer: &Cert,
+    certs: &[Cert],
+    crypto: &K,
+) -> Option<&'s str>
+    ensures { MatchOption result
+        (AreUnrevokedUnder (K.is_signed crypto.now) lists.now issuer.now.certificate
+        (map (λ c. c.certificate) certs.now))
+        (λ name. IsOneRevokedBy (K.is_signed crypto.now) lists.now issuer.now.certificate
+        (map (λ c. c.certificate) certs.now) name.now) }
+{
+    for cert in certs {
+        match revoking_under(lists, issuer, cert, crypto) {
+            None => {}
+            Some(name) => return Some(name),
+        }
+    }
+    None
+}
+
+/// The name of the first of the lists that revokes a certificate, if it is under this issuer and
+/// one does.
+fn revoking_under<'s, K: Crypto>(
+    lists: &[NamedList<'s>],
+    issuer: &Cert,
+    cert: &Cert,
+    crypto: &K,
+) -> Option<&'s str>
+    ensures { MatchOption result
+        (IsUnrevokedUnder (K.is_signed crypto.now) lists.now issuer.now.certificate
+        cert.now.certificate)
+        (λ name. IsUnder issuer.now.certificate cert.now.certificate
+        × IsRevokedBy (K.is_signed crypto.now) lists.now issuer.now.certificate
+        cert.now.certificate name.now) }
+{
+    if is_under(issuer, cert) {
+        revoking(lists, issuer, cert, crypto)
+    } else {
+        None
+    }
+}
+
+/// Whether a certificate states the identifier of this issuer's key as that of its authority.
+fn is_under(issuer: &Cert, cert: &Cert) -> bool
+    ensures { IsTrue result ↔ IsUnder issuer.now.certificate cert.now.certificate }
+{
+    match cert.authority_key_identifier() {
+        None => false,
+        Some(authority) => authority == issuer.subject_key_identifier(),
+    }
 }
