@@ -48,6 +48,7 @@ use Rattle.rpki_verdicts.specs.Listing.{is_listable, good_lines}
 use Rattle.rpki_verdicts.specs.Questions.{Question, says, cert_question, chain_questions}
 use Rattle.rpki_verdicts.specs.Questions.{last_of, signer_question, check_questions}
 use Rattle.rpki_verdicts.proofs.Good.{all-lines, each-good, only-good}
+use Rattle.rpki_signed.specs.Check.{BeginsWith}
 use Rattle.rpki_cli.specs.Answer.{Run}
 use Rattle.rpki_cli.specs.declared.words.Kind.{Kind}
 use Rattle.rpki_cli.specs.declared.words.Options.{Options}
@@ -56,7 +57,10 @@ use Rattle.rpki_show.specs.Options.{read_mode}
 use Rattle.rpki_command.specs.Yes.{FilesOfCheck, PrintsYes, BeginsWithNoGood, HoldsByList}
 use Rattle.rpki_command.specs.Yes.{IsRightYes, IsRightNo}
 use Rattle.rpki_command.proofs.Right.{of-kind}
+use Rattle.rpki_command.specs.Verify.Good.{BeginsWithUnrevoked}
+use Rattle.rpki_command.specs.Verify.Revoked.{GivenList}
 use Rattle.rpki_command.specs.Verify.Sufficing.{SaysYesToo, SayTheSame, HaveTheirOwnLines}
+use Rattle.rpki_command.specs.Verify.Unlisted.{IsGoodBy}
 
 -- ---- keys of good signatures
 
@@ -717,6 +721,48 @@ module _ (options : Options) (kind : Kind) (now : Moment) (files : FilesOfCheck)
     pub right-yes-by-list
         : HoldsByList (λ verdict. IsRightYes options kind verdict now files run) text
     right-yes-by-list = record { lines = lines; listed = listed; holds = yes-listed }
+
+  module _ (lists : List GivenList) (issuer : Validated)
+      (made : MakesIssuer is_rsa_signature now files.anchor files.chain (Ok issuer)) where
+    front-by-list : {X : Type 0} (asked : signed.ObjectKind X) (form : List ℕ → X → Type 0)
+        → BeginsWithUnrevoked asked form (read_mode options) sha256 is_rsa_signature lists issuer now
+        files.object
+        → BeginsWith (ObjectForm asked.type form (read_mode options)) files.object
+        (λ (o : Whole X). (v : Validated)
+        × IsGood asked (read_mode options) sha256 (is_listed lines) issuer now o v)
+    front-by-list asked form b = record {
+      object = b.object;
+      rest = b.rest;
+      front = b.front;
+      holds = (
+        b.certificate,
+        good-too now files.anchor files.chain list.first list.others list.signed.signed list.certs
+            is_rsa_signature (is_listed lines) too issuer made asked (read_mode options) sha256
+            b.object b.certificate (the-object asked form b.object b.rest b.front) b.good,
+      );
+    }
+
+    -- what is good and not revoked is good by the list
+    pub good-by-list : OfKind options kind (λ X asked form text.
+        BeginsWithUnrevoked asked form (read_mode options) sha256 is_rsa_signature lists issuer now
+        files.object)
+        → HoldsByList (λ verdict. IsGoodBy verdict options kind now files) text
+    good-by-list good = record {
+      lines = lines;
+      listed = listed;
+      holds = record {
+        issuer = issuer;
+        made = issuer-too now files.anchor files.chain list.first list.others list.signed.signed
+            list.certs is_rsa_signature (is_listed lines) too issuer made;
+        good = of-kind options kind
+            (λ X asked form text. BeginsWithUnrevoked asked form (read_mode options) sha256
+            is_rsa_signature lists issuer now files.object)
+            (λ X asked form text. BeginsWith (ObjectForm asked.type form (read_mode options))
+            files.object (λ (o : Whole X). (v : Validated)
+            × IsGood asked (read_mode options) sha256 (is_listed lines) issuer now o v))
+            (λ X asked form text b. front-by-list asked form b) good;
+      };
+    }
 
   module _ (own : HaveTheirOwnLines questions) where
     issuer-by-list : (result : Result Validated IssuerError)

@@ -19,6 +19,7 @@ ghost use Rattle.rpki_command.specs.Verify.Issuers.{CertFiles};
 ghost use Rattle.rpki_command.specs.Verify.Lines.{PrintsLines};
 ghost use Rattle.rpki_command.specs.Verify.Runs.{AreFilesOf, IsCheckRun};
 ghost use Rattle.rpki_command.specs.Verify.Unlisted.{unlisted, files_of_one, MayEndWith};
+ghost use Rattle.rpki_command.specs.Verify.Unlisted.{DoesListSuffice};
 ghost use Rattle.rpki_command.specs.Yes.{IsRightYes, IsRightNo, status_of};
 ghost use Rattle.rpki_command.specs.declared.verify.checks.Manner.{Manner};
 
@@ -84,6 +85,17 @@ pub fn checks_of_several_without_lists_are_right<P: RelyingParty>()
         (run : Run) → IsCheckRun clock (P.says party) told options c now (unlisted certs objects) run
         → run.status ≡ 1
         → Any (MayEndWith 1 (either_options options c.values.options) now certs) objects }
+{}
+
+/// Where such a check of signed objects ends with status 0, in lines or in JSON, the list of good
+/// signatures that `verdicts` prints suffices for each FILE: by each such list, too, the certificates
+/// make an issuer, under which the object is good. So a check by `rpki_objects` says yes.
+pub fn lists_suffice_for_each<P: RelyingParty>()
+    ensures { (clock : Option Moment) (party : P) (told : Told) (options : Options)
+        (c : AskedCheck) (now : Moment) (certs : CertFiles) (objects : List (GivenFile Kind))
+        (run : Run) → IsCheckRun clock (P.says party) told options c now (unlisted certs objects) run
+        → run.status ≡ 0
+        → All (DoesListSuffice (either_options options c.values.options) now certs) objects }
 {}
 
 /// What such a check says in JSON, where nothing is wrong with its words and files, is a line for
