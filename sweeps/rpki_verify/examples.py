@@ -87,6 +87,7 @@ SETTING of check also: --ca CA, --tal TAL, --crl CRL, --at MOMENT
 KIND: aspa, manifest, roa or rsc; of show and content, and after --kind, also rta
 KIND after --kind of show also: certificate, crl or tal
 FILE after settings: without --kind its name tells its kind; - is standard input
+Endings that tell a kind: .asa, .mft, .roa, .sig, .rta; of show also .cer, .crl, .tal
 After -- each word is a FILE of check or show.
 MOMENT: now, YYYYMMDDHHMMSSZ or YYYY-MM-DDTHH:MM:SSZ
 CA of walk: any file but one named with
@@ -385,7 +386,7 @@ WRONG_WORDS = [
     (each("-x"), "unknown option: -x"), (each("origin.roa", "--ta=b"), "unknown option: --ta=b"),
     (each("origin.roa", "--crl"), "no value: --crl"),
     (each("--csv", "origin.roa"), "no option of check: --csv"),
-    (each("--version", "--help", "origin.roa"), "no option of check: --help"),
+    (each("--version", "origin.roa"), "no option of check: --version"),
     (each("--ta", "anchor", "origin.roa"), "twice: --ta"),
     (each("--at", "now", "origin.roa"), "twice: --at"),
     (each("--tal", "a", "--tal", "b", "origin.roa"), "twice: --tal"),
@@ -406,6 +407,13 @@ WRONG_WORDS = [
     (["show", "origin.roa", "-x"], "unknown option: -x"),
 ]
 ROWS += [(words, GOOD, 2, said + "\n", 0) for words, said in WRONG_WORDS]
+# Words with settings that ask how the program is called, whatever else is wrong with the settings.
+HELP_WORDS = [
+    each("origin.roa", "--help"), each("-h"), each("--csv", "--version", "--help", "origin.roa"),
+    each("--kind", "gbr", "-h", "none", moment="2027"), each("--ta", "anchor", "--help"),
+    ["show", "origin.roa", "--help"], ["show", "--csv", "none", "-h", "--ta", "anchor"],
+]
+ROWS += [(words, GOOD, 0, HELP, 0) for words in HELP_WORDS]
 # Attestations, moments and anchors: what is said by signatures, and by the list of the good ones.
 BY_LISTS = [(name, moment, anchors) for name in LISTED["RTA_LISTS"] for moment, anchors in (
     (GOOD, ANCHORS), (GOOD, ANCHORS[::-1]), (GOOD, ANCHORS[:1]), (GOOD, ANCHORS[1:]),

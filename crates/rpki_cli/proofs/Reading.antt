@@ -1,8 +1,9 @@
 -- Which files are read, and the first that can't be.
 use Rattle.std.proofs.Common.{◌≡◌, ◌+◌, ◌<◌, ℕ, List, [], ◌∷◌, ◌++◌, length, get_or, take, Option}
-use Rattle.std.proofs.Common.{Some, None, Ok, Err, Bor, arith, subst, sym, ap, ◌∙◌}
+use Rattle.std.proofs.Common.{Some, Result, Ok, Err, Bor, arith, subst, sym, ap, ◌∙◌}
 use Rattle.std.proofs.lemmas.List.{append_assoc, length-map, get_or-map, take_more}
 use Rattle.rpki_cli.specs.Store.{Told, Names, IsRead, AreReadTo, IsFirstUnreadable, AreSomeRead}
+use Rattle.rpki_cli.specs.Store.{NoneIsUnreadable}
 use Rattle.rpki_cli.specs.Words.{texts}
 use Rattle.rpki_cli.specs.declared.store.Reason.{Reason}
 use Rattle.rpki_cli.specs.declared.store.StoreError.{StoreError}
@@ -25,11 +26,11 @@ one-more names i d old before new l b n =
     ∙ ap (λ (ns : Names). old ++ ns) (sym (take_more all i [] there))
 
 none-before : (told : Told) (names : List (List ℕ)) (i : ℕ) (files : List (List ℕ))
-    → length files ≡ i → AreReadTo told names i files
-    → (k : ℕ) (d : List ℕ) → k < i → told (get_or names k d) ≡ Some None → ⊥
-none-before told names i [] e h k d l t = absurd (omega (arith, e, l))
-none-before told names i (f ∷ fs) e h k d l t =
-    subst (λ (x : Option (Option (List ℕ))). IsRead x (Ok (get_or (f ∷ fs) k f))) t (h k d f l)
+    → length files ≡ i → AreReadTo told names i files → NoneIsUnreadable told names i
+none-before told names i [] e h k d why l t = absurd (omega (arith, e, l))
+none-before told names i (f ∷ fs) e h k d why l t =
+    subst (λ (x : Option (Result (List ℕ) Reason)). IsRead x (Ok (get_or (f ∷ fs) k f))) t
+    (h k d f l)
 
 pub first-unreadable : (told now : Told) (error : StoreError) (reason : Reason)
     (names : List (Bor (List ℕ))) (i : ℕ)

@@ -1,5 +1,5 @@
 -- What a run of the program does, from what it says.
-use Rattle.std.proofs.Common.{◌≡◌, ℕ, List, Option, Some, None, Result, Ok, Err, Vec, Global}
+use Rattle.std.proofs.Common.{◌≡◌, ℕ, List, Option, Some, Result, Ok, Err, Vec, Global}
 use Rattle.std.proofs.Common.{sym, subst, inl, inr, refl, arith, ◌<◌, [], ◌∷◌, zero, suc, length}
 use Rattle.std.proofs.Common.{map, get_or, ◌++◌, ◌∙◌, ◌+◌, ap, take}
 use Rattle.std.proofs.Math.Seq.{get_or-append_seam}
@@ -10,14 +10,13 @@ use Rattle.rpki_cli.specs.Answer.{Run, Output, IsSaid, unreadable, out_of_memory
 use Rattle.rpki_cli.specs.Command.{IsOfRead, IsOfFile, Task, Say, ShowLines, CheckFiles, Program}
 use Rattle.rpki_cli.specs.Command.{order_task, IsOfReads, IsOfFiles, AreTold, ChecksFiles}
 use Rattle.rpki_cli.specs.Command.{IsTaskAnswer, IsAnswer, OrOutOfMemory, Shows, IsTaskDone}
-use Rattle.rpki_cli.specs.Command.{SaysUnreadable}
 use Rattle.rpki_cli.specs.Command.{HasRead, IsRunOf, HaveRead, IsRunWith, IsSaidUnread, IsStartOf}
 use Rattle.rpki_cli.specs.Command.{DoSet, IsOfSet, DoesSet}
 use Rattle.rpki_cli.specs.Arguments.{ToldArguments, AreTexts}
 use Rattle.rpki_cli.specs.Shown.{HasNoLines, IsSaidOf, IsShown}
 use Rattle.rpki_cli.specs.Refusal.{IsMalformed}
 use Rattle.rpki_cli.specs.Store.{Told, Names, IsRead, AreRead, AreReadTo, AreAllRead}
-use Rattle.rpki_cli.specs.Store.{IsFirstUnreadable}
+use Rattle.rpki_cli.specs.Store.{IsFirstUnreadable, with_octets}
 use Rattle.rpki_cli.specs.Language.{Language, IsAsked, AskForNothing}
 use Rattle.rpki_cli.specs.declared.causes.Causes.{Causes}
 use Rattle.rpki_cli.specs.declared.store.Reason.{Reason}
@@ -35,13 +34,14 @@ said-as s is run e h = subst (λ (x : Output). IsSaid x run) e h
 
 module _ (causes : Causes) (lines_of : List ℕ → List ℕ → Type 0) (s : Output) (run : Run)
     (h : IsSaid s run) where
-  unreadable-said : (file : List ℕ) (P : List ℕ → Output → Type 0)
-      (read : Result (List ℕ) StoreError) → IsRead (Some None) read
-      → IsOfRead causes file P read s → IsSaid out_of_memory run ⊎ SaysUnreadable causes file run
-  unreadable-said file P (Ok octets) r o = absurd r
-  unreadable-said file P (Err Memory) r o = inl (said-as s out_of_memory run o h)
-  unreadable-said file P (Err (Unreadable reason)) r o =
-      inr (reason, said-as s (unreadable causes file reason) run o h)
+  unreadable-said : (file : List ℕ) (why : Reason) (P : List ℕ → Output → Type 0)
+      (read : Result (List ℕ) StoreError) → IsRead (Some (Err why)) read
+      → IsOfRead causes file P read s → OrOutOfMemory (unreadable causes file why) run
+  unreadable-said file why P (Ok octets) r o = absurd r
+  unreadable-said file why P (Err Memory) r o = inl (said-as s out_of_memory run o h)
+  unreadable-said file why P (Err (Unreadable reason)) r o =
+      inr (said-as s (unreadable causes file why) run
+      (o ∙ ap (λ (e : Reason). unreadable causes file e) r) h)
 
   malformed-said : (octets : List ℕ) → HasNoLines lines_of octets
       → IsSaidOf causes lines_of octets s
@@ -59,7 +59,7 @@ module _ (causes : Causes) (lines_of : List ℕ → List ℕ → Type 0) (s : Ou
       (said-as s (shown f.0) run f.2 h))
 
   of-octets : (file octets : List ℕ) (Q : Type 0) (read : Result (List ℕ) StoreError)
-      → IsRead (Some (Some octets)) read → IsOfRead causes file (IsShown causes lines_of) read s
+      → IsRead (Some (Ok octets)) read → IsOfRead causes file (IsShown causes lines_of) read s
       → (IsShown causes lines_of octets s → IsSaid out_of_memory run ⊎ Q)
       → IsSaid out_of_memory run ⊎ Q
   of-octets file octets Q (Ok v) r o k =
@@ -70,16 +70,16 @@ module _ (causes : Causes) (lines_of : List ℕ → List ℕ → Type 0) (s : Ou
   shows : (told : Told) (file : List ℕ) → IsOfFile causes told file (IsShown causes lines_of) s
       → Shows causes told file lines_of run
   shows told file a =
-      let tells : (t : Option (Option (List ℕ))) → told file ≡ t → IsRead t a.0 =
-      λ t e. subst (λ (t : Option (Option (List ℕ))). IsRead t a.0) e a.1 in
+      let tells : (t : Option (Result (List ℕ) Reason)) → told file ≡ t → IsRead t a.0 =
+      λ t e. subst (λ (t : Option (Result (List ℕ) Reason)). IsRead t a.0) e a.1 in
       record {
-        unreadable = λ e. unreadable-said file (IsShown causes lines_of) a.0 (tells (Some None) e)
-            a.2;
+        unreadable = λ why e. unreadable-said file why (IsShown causes lines_of) a.0
+            (tells (Some (Err why)) e) a.2;
         malformed = λ octets e none. of-octets file octets
             ((x : Output) × IsMalformed causes x × IsSaid x run) a.0
-            (tells (Some (Some octets)) e) a.2 (λ h. malformed-said octets none h.said);
+            (tells (Some (Ok octets)) e) a.2 (λ h. malformed-said octets none h.said);
         shown = λ octets lines e is. of-octets file octets (IsSaid (shown lines) run) a.0
-            (tells (Some (Some octets)) e) a.2 (λ h. shown-said octets lines is h.said);
+            (tells (Some (Ok octets)) e) a.2 (λ h. shown-said octets lines is h.said);
       }
 
 -- ---- files that are checked
@@ -93,16 +93,17 @@ told-octets told [] (f ∷ fs) octets e a t = absurd (omega (arith, e))
 told-octets told (n ∷ ns) [] octets e a t = absurd (omega (arith, e))
 told-octets told (n ∷ ns) (f ∷ fs) [] e a t = absurd cc
 told-octets told (n ∷ ns) (f ∷ fs) (o ∷ os) e a t =
-    let first : told n ≡ Some (Some o) = cc in
-    let others : map told ns ≡ map (λ (x : List ℕ). Some (Some x)) os = cc in
+    let first : told n ≡ Some (Ok o) = cc in
+    let others : map told ns ≡ map with_octets os = cc in
     let is : f ≡ o =
-    subst (λ (x : Option (Option (List ℕ))). IsRead x (Ok f)) first (a 0 n f (omega arith)) in
+    subst (λ (x : Option (Result (List ℕ) Reason)). IsRead x (Ok f)) first
+    (a 0 n f (omega arith)) in
     let rest : fs ≡ os = told-octets told ns fs os (omega (arith, e))
     (λ k d x l. a (suc k) d x (omega (arith, l))) others in
     cc
 
 told-at : (told : Told) (names octets : List (List ℕ)) (k : ℕ) (d : List ℕ) → k < length names
-    → AreTold told names octets → (o : List ℕ) × (told (get_or names k d) ≡ Some (Some o))
+    → AreTold told names octets → (o : List ℕ) × (told (get_or names k d) ≡ Some (Ok o))
 told-at told [] octets k d l t = absurd (omega (arith, l))
 told-at told (n ∷ ns) [] k d l t = absurd cc
 told-at told (n ∷ ns) (o ∷ os) zero d l t = (o, cc)
@@ -114,9 +115,10 @@ readable : (told : Told) (names octets : List (List ℕ)) (old new : Names) (nam
     → AreTold told names octets → ⊥
 readable told names octets old new name reason u t =
     let at = told-at told names octets u.place [] u.there t in
-    let same : told name ≡ Some (Some at.0) =
-    subst (λ (n : List ℕ). told n ≡ Some (Some at.0)) (u.named []) at.1 in
-    subst (λ (x : Option (Option (List ℕ))). IsRead x (Err (Unreadable reason))) same u.unreadable
+    let same : told name ≡ Some (Ok at.0) =
+    subst (λ (n : List ℕ). told n ≡ Some (Ok at.0)) (u.named []) at.1 in
+    subst (λ (x : Option (Result (List ℕ) Reason)). IsRead x (Err (Unreadable reason))) same
+    u.unreadable
 
 -- the place of a file after others
 at-file : (before after : List (List ℕ)) (file : List ℕ) (d : List ℕ)
@@ -132,26 +134,27 @@ up-to before after file =
     (omega (arith, length-append before (file ∷ [])))
 
 -- not all are read where one of them can't be
-one-unread : (told : Told) (before after : List (List ℕ)) (file : List ℕ) (old new : Names)
-    (files : List (List ℕ)) → AreAllRead told (before ++ file ∷ after) old new files
-    → told file ≡ Some None → ⊥
-one-unread told before after file old new [] a u =
+one-unread : (told : Told) (before after : List (List ℕ)) (file : List ℕ) (why : Reason)
+    (old new : Names) (files : List (List ℕ))
+    → AreAllRead told (before ++ file ∷ after) old new files → told file ≡ Some (Err why) → ⊥
+one-unread told before after file why old new [] a u =
     absurd (omega (arith, a.count, length-append before (file ∷ after)))
-one-unread told before after file old new (f ∷ fs) a u =
+one-unread told before after file why old new (f ∷ fs) a u =
     let there : length before < length (before ++ file ∷ after) =
     omega (arith, length-append before (file ∷ after)) in
-    let here : told (get_or (before ++ file ∷ after) (length before) []) ≡ Some None =
-    subst (λ (n : List ℕ). told n ≡ Some None) (sym (at-file before after file [])) u in
-    subst (λ (x : Option (Option (List ℕ))). IsRead x (Ok (get_or (f ∷ fs) (length before) f))) here
+    let here : told (get_or (before ++ file ∷ after) (length before) []) ≡ Some (Err why) =
+    subst (λ (n : List ℕ). told n ≡ Some (Err why)) (sym (at-file before after file [])) u in
+    subst (λ (x : Option (Result (List ℕ) Reason)).
+    IsRead x (Ok (get_or (f ∷ fs) (length before) f))) here
     (a.each (length before) [] f there)
 
 -- the first file that can't be read is the one after those that can
-first-is : (told : Told) (before after octets : List (List ℕ)) (file : List ℕ) (old new : Names)
-    (name : List ℕ) (reason : Reason)
+first-is : (told : Told) (before after octets : List (List ℕ)) (file : List ℕ) (why : Reason)
+    (old new : Names) (name : List ℕ) (reason : Reason)
     → IsFirstUnreadable told (before ++ file ∷ after) old new name reason
-    → AreTold told before octets → told file ≡ Some None
+    → AreTold told before octets → told file ≡ Some (Err why)
     → (name ≡ file) × (new ≡ old ++ (before ++ file ∷ []))
-first-is told before after octets file old new name reason u t e =
+first-is told before after octets file why old new name reason u t e =
     elim (cases_order u.place (length before)) [
       | inl same ↦ (
         subst (λ (n : ℕ). name ≡ get_or (before ++ file ∷ after) n []) same (sym (u.named []))
@@ -164,14 +167,21 @@ first-is told before after octets file old new name reason u t e =
           let at = told-at told before octets u.place [] l t in
           let is : get_or before u.place [] ≡ name =
           sym (get_or_append_left before (file ∷ after) [] u.place l) ∙ u.named [] in
-          let same : told name ≡ Some (Some at.0) =
-          subst (λ (n : List ℕ). told n ≡ Some (Some at.0)) is at.1 in
-          absurd (subst (λ (x : Option (Option (List ℕ))). IsRead x (Err (Unreadable reason)))
-          same u.unreadable)
+          let same : told name ≡ Some (Ok at.0) =
+          subst (λ (n : List ℕ). told n ≡ Some (Ok at.0)) is at.1 in
+          absurd (subst (λ (x : Option (Result (List ℕ) Reason)).
+          IsRead x (Err (Unreadable reason))) same u.unreadable)
       | inr (inr l) ↦
-          absurd (u.before (length before) [] l
-          (subst (λ (n : List ℕ). told n ≡ Some None) (sym (at-file before after file [])) e))
+          absurd (u.before (length before) [] why l
+          (subst (λ (n : List ℕ). told n ≡ Some (Err why)) (sym (at-file before after file [])) e))
     ]
+
+-- the reason is the one that is told
+why-is : (told : Told) (name file : List ℕ) (reason why : Reason) → name ≡ file
+    → told file ≡ Some (Err why) → IsRead (told name) (Err (Unreadable reason)) → reason ≡ why
+why-is told name file reason why same e r =
+    subst (λ (x : Option (Result (List ℕ) Reason)). IsRead x (Err (Unreadable reason))) e
+    (subst (λ (n : List ℕ). IsRead (told n) (Err (Unreadable reason))) same r)
 
 module _ (causes : Causes) (told : Told) (P : List (List ℕ) → Output → Type 0) (old new : Names)
     (s : Output) (run : Run) (h : IsSaid s run) where
@@ -191,24 +201,24 @@ module _ (causes : Causes) (told : Told) (P : List (List ℕ) → Output → Typ
       absurd (readable told names octets old new name.now reason a t)
   of-reads names octets t (Err reads.Memory) a o = inl (said-as s out_of_memory run o h)
 
-  of-unread : (before after octets : List (List ℕ)) (file : List ℕ) → AreTold told before octets
-      → told file ≡ Some None → (read : Result (Vec (List ℕ) Global) Unread)
+  of-unread : (before after octets : List (List ℕ)) (file : List ℕ) (why : Reason)
+      → AreTold told before octets → told file ≡ Some (Err why)
+      → (read : Result (Vec (List ℕ) Global) Unread)
       → AreRead told (before ++ file ∷ after) old new read → IsOfReads causes P read s
       → IsSaid out_of_memory run
-      ⊎ ((new ≡ old ++ (before ++ file ∷ [])) × SaysUnreadable causes file run)
-  of-unread before after octets file t e (Ok files) a o =
-      absurd (one-unread told before after file old new files.items a e)
-  of-unread before after octets file t e (Err (reads.Unreadable name reason)) a o =
-      let first = first-is told before after octets file old new name.now reason a t e in
+      ⊎ ((new ≡ old ++ (before ++ file ∷ [])) × IsSaid (unreadable causes file why) run)
+  of-unread before after octets file why t e (Ok files) a o =
+      absurd (one-unread told before after file why old new files.items a e)
+  of-unread before after octets file why t e (Err (reads.Unreadable name reason)) a o =
+      let first = first-is told before after octets file why old new name.now reason a t e in
+      let same : reason ≡ why = why-is told name.now file reason why first.0 e a.unreadable in
       inr (
         first.1,
-        (
-          reason,
-          subst (λ (n : List ℕ). IsSaid (unreadable causes n reason) run) first.0
-              (said-as s (unreadable causes name.now reason) run o h),
-        ),
+        said-as s (unreadable causes file why) run
+            (o ∙ ap (λ (n : List ℕ). unreadable causes n reason) first.0
+            ∙ ap (λ (r : Reason). unreadable causes file r) same) h,
       )
-  of-unread before after octets file t e (Err reads.Memory) a o =
+  of-unread before after octets file why t e (Err reads.Memory) a o =
       inl (said-as s out_of_memory run o h)
 
   all-told : (names octets : List (List ℕ)) → AreTold told names octets
@@ -218,19 +228,20 @@ module _ (causes : Causes) (told : Told) (P : List (List ℕ) → Output → Typ
   all-told names octets t (inl m) = inl (said-as s out_of_memory run m.0 h)
   all-told names octets t (inr r) = of-reads names octets t r.0 r.1 r.2
 
-  one-told : (before after octets : List (List ℕ)) (file : List ℕ) → AreTold told before octets
-      → told file ≡ Some None → IsOfFiles causes told (before ++ file ∷ after) P old new s
+  one-told : (before after octets : List (List ℕ)) (file : List ℕ) (why : Reason)
+      → AreTold told before octets → told file ≡ Some (Err why)
+      → IsOfFiles causes told (before ++ file ∷ after) P old new s
       → IsSaid out_of_memory run
-      ⊎ ((new ≡ old ++ (before ++ file ∷ [])) × SaysUnreadable causes file run)
-  one-told before after octets file t e (inl m) = inl (said-as s out_of_memory run m.0 h)
-  one-told before after octets file t e (inr r) =
-      of-unread before after octets file t e r.0 r.1 r.2
+      ⊎ ((new ≡ old ++ (before ++ file ∷ [])) × IsSaid (unreadable causes file why) run)
+  one-told before after octets file why t e (inl m) = inl (said-as s out_of_memory run m.0 h)
+  one-told before after octets file why t e (inr r) =
+      of-unread before after octets file why t e r.0 r.1 r.2
 
   checks : (names : List (List ℕ)) → IsOfFiles causes told names P old new s
       → ChecksFiles causes told names P old new run
   checks names is = record {
     checked = λ octets t. all-told names octets t is;
-    unreadable = λ before after octets file e t u. one-told before after octets file t u
+    unreadable = λ before after octets file why e t u. one-told before after octets file why t u
         (subst (λ (ns : List (List ℕ)). IsOfFiles causes told ns P old new s) e is);
   }
 

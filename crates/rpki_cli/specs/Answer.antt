@@ -115,6 +115,7 @@ usage_text = codes "usage: rpki_verify [OPTION ..] check --ta TA [SETTING ..] FI
     ++ (codes "KIND: aspa, manifest, roa or rsc; of show and content, and after --kind, also rta\n"
     ++ (codes "KIND after --kind of show also: certificate, crl or tal\n"
     ++ (codes "FILE after settings: without --kind its name tells its kind; - is standard input\n"
+    ++ (codes "Endings that tell a kind: .asa, .mft, .roa, .sig, .rta; of show also .cer, .crl, .tal\n"
     ++ (codes "After -- each word is a FILE of check or show.\n"
     ++ (codes "MOMENT: now, YYYYMMDDHHMMSSZ or YYYY-MM-DDTHH:MM:SSZ\n"
     ++ (codes "CA of walk: any file but one named with\n"
@@ -123,7 +124,7 @@ usage_text = codes "usage: rpki_verify [OPTION ..] check --ta TA [SETTING ..] FI
     ++ (codes "ANCHOR: tal=FILE or ca=TA[:CA ..]\n"
     ++ (codes "Status: 0 yes or shown, 1 no, 2 asked wrongly, 3 out of memory, 4 a file can't be read\n"
     ++ (codes "Example: rpki_verify check --ta anchor.cer --ca authority.cer *.roa\n"
-    ++ codes "Without --crl nothing is said of revocation; an attestation is checked by the lists that it carries.\n"))))))))))))))))))))))))))))
+    ++ codes "Without --crl nothing is said of revocation; an attestation is checked by the lists that it carries.\n")))))))))))))))))))))))))))))
 
 -- that program says how it is called
 abbrev pub help : Output

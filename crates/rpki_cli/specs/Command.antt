@@ -8,7 +8,7 @@ use Rattle.rpki_cli.specs.Arguments.{ToldArguments, AreTexts, HaveNoText}
 use Rattle.rpki_cli.specs.Shown.{HasNoLines, IsShown}
 use Rattle.rpki_cli.specs.Language.{Language, IsAsked, AskForNothing}
 use Rattle.rpki_cli.specs.Refusal.{IsMalformed}
-use Rattle.rpki_cli.specs.Store.{Told, Names, IsRead, AreRead}
+use Rattle.rpki_cli.specs.Store.{Told, Names, IsRead, AreRead, with_octets}
 use Rattle.rpki_cli.specs.Words.{command_words, files_of, IsProper}
 use Rattle.rpki_cli.specs.declared.causes.Causes.{Causes}
 use Rattle.rpki_cli.specs.declared.store.Reason.{Reason}
@@ -139,26 +139,22 @@ IsAnswer p told words old new s =
 abbrev pub OrOutOfMemory : Output → Run → Type 0
 OrOutOfMemory s run = IsSaid out_of_memory run ⊎ IsSaid s run
 
--- it is said that this file can't be read, for some reason or without one
-abbrev pub SaysUnreadable : Causes → List ℕ → Run → Type 0
-SaysUnreadable causes file run = (reason : Reason) × IsSaid (unreadable causes file reason) run
-
 -- The run shows what stands in a file, where the store tells the file.
 pub record Shows (causes : Causes) (told : Told) (file : List ℕ)
     (lines_of : List ℕ → List ℕ → Type 0) (run : Run) : Type 0 where
-  -- a file that can't be read
-  pub unreadable : told file ≡ Some None
-      → IsSaid out_of_memory run ⊎ SaysUnreadable causes file run
+  -- a file that can't be read, for this reason
+  pub unreadable : (reason : Reason) → told file ≡ Some (Err reason)
+      → OrOutOfMemory (unreadable causes file reason) run
   -- octets that have no lines
-  pub malformed : (octets : List ℕ) → told file ≡ Some (Some octets) → HasNoLines lines_of octets
+  pub malformed : (octets : List ℕ) → told file ≡ Some (Ok octets) → HasNoLines lines_of octets
       → IsSaid out_of_memory run ⊎ ((s : Output) × IsMalformed causes s × IsSaid s run)
   -- octets that have lines
-  pub shown : (octets lines : List ℕ) → told file ≡ Some (Some octets) → lines_of octets lines
+  pub shown : (octets lines : List ℕ) → told file ≡ Some (Ok octets) → lines_of octets lines
       → OrOutOfMemory (shown lines) run
 
 -- the store tells these octets of these files
 abbrev pub AreTold : Told → List (List ℕ) → List (List ℕ) → Type 0
-AreTold told files octets = map told files ≡ map (λ o. Some (Some o)) octets
+AreTold told files octets = map told files ≡ map with_octets octets
 
 -- The run checks files, where the store tells them, unless memory runs out.
 pub record ChecksFiles (causes : Causes) (told : Told) (files : Names)
@@ -168,12 +164,13 @@ pub record ChecksFiles (causes : Causes) (told : Told) (files : Names)
   pub checked : (octets : List (List ℕ)) → AreTold told files octets
       → IsSaid out_of_memory run
       ⊎ ((new ≡ old ++ files) × (s : Output) × P octets s × IsSaid s run)
-  -- a file that can't be read, after any number that can: these are read in their order, each
-  -- once, then it, and no other, and it is said that it can't be read
-  pub unreadable : (before after octets : List (List ℕ)) (file : List ℕ)
-      → files ≡ before ++ file ∷ after → AreTold told before octets → told file ≡ Some None
+  -- a file that can't be read, for this reason, after any number that can: these are read in their
+  -- order, each once, then it, and no other, and it is said that it can't be read, for this reason
+  pub unreadable : (before after octets : List (List ℕ)) (file : List ℕ) (reason : Reason)
+      → files ≡ before ++ file ∷ after → AreTold told before octets
+      → told file ≡ Some (Err reason)
       → IsSaid out_of_memory run
-      ⊎ ((new ≡ old ++ (before ++ file ∷ [])) × SaysUnreadable causes file run)
+      ⊎ ((new ≡ old ++ (before ++ file ∷ [])) × IsSaid (unreadable causes file reason) run)
 
 -- The run does what the words set, where `P` says what it does for that, unless memory runs out.
 pub record DoesSet (C : Type 0) (IsSet : C → Type 0) (IsWrong : Output → Type 0) (P : C → Type 0)

@@ -9,17 +9,17 @@ use Rattle.rpki_cli.specs.declared.store.StoreError.TheVariants.{Unreadable, Mem
 use Rattle.rpki_cli.specs.declared.store.Unread.{Unread}
 use Rattle.rpki_cli.specs.declared.store.Unread.TheVariants as unread
 
--- What a read of a file may answer. Of the file the store tells its octets, or that it can't be
+-- What a read of a file may answer. Of the file the store tells its octets, or why it can't be
 -- read, or nothing. The answer is what is told, and any where nothing is; and it may always be that
--- memory ran out. Why a file can't be read is not told: any reason may be answered.
-abbrev pub IsRead : Option (Option (List ℕ)) → Result (List ℕ) StoreError → Type 0
+-- memory ran out.
+abbrev pub IsRead : Option (Result (List ℕ) Reason) → Result (List ℕ) StoreError → Type 0
 IsRead told (Err Memory) = Unit {0}
 IsRead None (Ok octets) = Unit {0}
 IsRead None (Err (Unreadable reason)) = Unit {0}
-IsRead (Some None) (Ok octets) = ⊥
-IsRead (Some None) (Err (Unreadable reason)) = Unit {0}
-IsRead (Some (Some file)) (Ok octets) = octets ≡ file
-IsRead (Some (Some file)) (Err (Unreadable reason)) = ⊥
+IsRead (Some (Ok file)) (Ok octets) = octets ≡ file
+IsRead (Some (Ok file)) (Err (Unreadable reason)) = ⊥
+IsRead (Some (Err told)) (Ok octets) = ⊥
+IsRead (Some (Err told)) (Err (Unreadable reason)) = reason ≡ told
 
 -- Names of files, in an order; where one stands twice, these are two. As `old` and `new` they are
 -- those of all files that a store was ever asked for, in the order of asking: `old` where a call
@@ -28,10 +28,13 @@ IsRead (Some (Some file)) (Err (Unreadable reason)) = ⊥
 abbrev pub Names : Type 0
 Names = List (List ℕ)
 
--- What a store tells of each file, by its name: its octets, that it can't be read, or nothing.
--- Why a file can't be read it does not tell: any reason may be answered.
+-- What a store tells of each file, by its name: its octets, why it can't be read, or nothing.
 abbrev pub Told : Type 0
-Told = List ℕ → Option (Option (List ℕ))
+Told = List ℕ → Option (Result (List ℕ) Reason)
+
+-- what a store tells of a file that has these octets
+abbrev pub with_octets : List ℕ → Option (Result (List ℕ) Reason)
+with_octets octets = Some (Ok octets)
 
 -- For each of the first `n` names, the octets at its place are an answer that a read of the file of
 -- this name may give.
@@ -47,6 +50,11 @@ pub record AreAllRead (told : Told) (names old new : Names) (files : List (List 
   pub each : AreReadTo told names (length names) files
   pub reads : new ≡ old ++ names
 
+-- Of none of the first `n` names is it told that the file can't be read, whatever the reason.
+abbrev pub NoneIsUnreadable : Told → Names → ℕ → Type 0
+NoneIsUnreadable told names n = (k : ℕ) (d : List ℕ) (why : Reason) → k < n
+    → told (slice_index_or names k d) ≡ Some (Err why) → ⊥
+
 -- The read of the file of this name may answer that it can't be read, for this reason, and none
 -- before it is told to be such. Those up to it are read, it too, in the order of the names, each
 -- once, and no other.
@@ -56,7 +64,7 @@ pub record IsFirstUnreadable (told : Told) (names old new : Names) (name : List 
   pub there : place < length names
   pub named : (d : List ℕ) → slice_index_or names place d ≡ name
   pub unreadable : IsRead (told name) (Err (Unreadable reason))
-  pub before : (k : ℕ) (d : List ℕ) → k < place → told (slice_index_or names k d) ≡ Some None → ⊥
+  pub before : NoneIsUnreadable told names place
   pub reads : new ≡ old ++ take (place + 1) names
 
 -- Memory runs out. The files up to some place are read, one at least, in the order of the names,
@@ -64,7 +72,7 @@ pub record IsFirstUnreadable (told : Told) (names old new : Names) (name : List 
 pub record AreSomeRead (told : Told) (names old new : Names) : Type 0 where
   pub place : ℕ
   pub there : place < length names
-  pub before : (k : ℕ) (d : List ℕ) → k < place → told (slice_index_or names k d) ≡ Some None → ⊥
+  pub before : NoneIsUnreadable told names place
   pub reads : new ≡ old ++ take (place + 1) names
 
 -- What a read of several files answers: all of them, or the first that can't be read, or want of

@@ -39,6 +39,7 @@ SETTING of check also: --ca CA, --tal TAL, --crl CRL, --at MOMENT
 KIND: aspa, manifest, roa or rsc; of show and content, and after --kind, also rta
 KIND after --kind of show also: certificate, crl or tal
 FILE after settings: without --kind its name tells its kind; - is standard input
+Endings that tell a kind: .asa, .mft, .roa, .sig, .rta; of show also .cer, .crl, .tal
 After -- each word is a FILE of check or show.
 MOMENT: now, YYYYMMDDHHMMSSZ or YYYY-MM-DDTHH:MM:SSZ
 CA of walk: any file but one named with

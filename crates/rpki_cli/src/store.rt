@@ -1,9 +1,10 @@
 //! Where the program's files come from.
 
-ghost use Rattle.std.specs.Prelude.{◌≡◌, ◌∷◌, ◌++◌, ℕ, List, [], Option, None, Some, IfOk};
+ghost use Rattle.std.specs.Prelude.{◌≡◌, ◌∷◌, ◌++◌, ℕ, List, [], Option, None, Some, Result, IfOk};
 ghost use Rattle.rpki_cli.specs.Answer.{reason_text};
 ghost use Rattle.rpki_cli.specs.Store.{IsRead, AreRead, store_error_text, unread_text};
 ghost use Rattle.rpki_cli.specs.Words.{texts};
+ghost use Rattle.rpki_cli.specs.declared.store.Reason.{Reason};
 
 use crate::answer::OUT_OF_MEMORY;
 use crate::read_log::ReadLog;
@@ -69,8 +70,8 @@ impl Error for StoreError {}
 
 /// Files by name.
 pub trait Store {
-    // What it tells of the file of a name: nothing, or that it can't be read, or its octets.
-    ghost told: { Self → List ℕ → Option (Option (List ℕ)) };
+    // What it tells of the file of a name: nothing, or why it can't be read, or its octets.
+    ghost told: { Self → List ℕ → Option (Result (List ℕ) Reason) };
 
     // The names of the files that it was ever asked for, in the order of asking, each as often as
     // it was asked for.

@@ -19,10 +19,11 @@ use Rattle.rpki_cli.specs.Answer.{Run, Output, IsSaid, out_of_memory, bad_verdic
 use Rattle.rpki_cli.specs.Command.{AreTold, ChecksFiles, IsRunOf, IsTaskDone, objects_language}
 use Rattle.rpki_cli.specs.Language.{IsAsked}
 use Rattle.rpki_cli.specs.Options.{manifest_rule}
-use Rattle.rpki_cli.specs.Store.{Told, Names}
+use Rattle.rpki_cli.specs.Store.{Told, Names, with_octets}
 use Rattle.rpki_cli.specs.Words.{chain_in, names_in, paths_in, others_in}
 use Rattle.rpki_cli.specs.declared.causes.Causes.{Causes}
 use Rattle.rpki_cli.specs.declared.causes.Causes.TheVariants.{Omitted, Included}
+use Rattle.rpki_cli.specs.declared.store.Reason.{Reason}
 use Rattle.rpki_cli.specs.declared.words.Kind.TheVariants.{Manifest}
 use Rattle.rpki_cli.specs.declared.words.Options.{Options}
 use Rattle.rpki_cli.specs.Verify.Words.{verify_language, moment_at}
@@ -82,14 +83,14 @@ told-both : (told : Told) (a b x y : List (List ℕ)) → AreTold told a x → A
     → AreTold told (a ++ b) (x ++ y)
 told-both told a b x y h k =
     map-append told a b
-    ∙ ap (λ (r : List (Option (Option (List ℕ)))). r ++ map told b) h
-    ∙ ap (λ (r : List (Option (Option (List ℕ)))). map (λ (o : List ℕ). Some (Some o)) x ++ r) k
-    ∙ sym (map-append (λ (o : List ℕ). Some (Some o)) x y)
+    ∙ ap (λ (r : List (Option (Result (List ℕ) Reason))). r ++ map told b) h
+    ∙ ap (λ (r : List (Option (Result (List ℕ) Reason))). map with_octets x ++ r) k
+    ∙ sym (map-append with_octets x y)
 
 -- as many files as names
 told-long : (told : Told) (a x : List (List ℕ)) → AreTold told a x → length x ≡ length a
 told-long told a x h =
-    omega (arith, length-map a told, length-map x (λ (o : List ℕ). Some (Some o)), ap length h)
+    omega (arith, length-map a told, length-map x with_octets, ap length h)
 
 module _ (causes : Causes) (options : Options) (verdict : Verdict) (now : Moment)
     (tail : List (List ℕ)) (files : FilesOfCheck) (octets : List (List ℕ))

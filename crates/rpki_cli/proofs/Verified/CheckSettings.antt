@@ -17,6 +17,7 @@ use Rattle.rpki_cli.specs.Verify.CheckSettings.{of_flags, of_kind, of_moment, of
 use Rattle.rpki_cli.specs.Verify.CheckSettings.{of_files, of_memory, IsFirstOther, AreOfCheck}
 use Rattle.rpki_cli.specs.Verify.CheckSettings.{settings_error_text, CheckValues, word_given}
 use Rattle.rpki_cli.specs.Verify.CheckSettings.{text_given}
+use Rattle.rpki_cli.specs.Verify.Requests.{asks_help}
 use Rattle.rpki_cli.specs.Verify.Settings.{flag_word, named_word}
 use Rattle.rpki_cli.specs.declared.verify.kinds_by_name.FileKind.{FileKind}
 use Rattle.rpki_cli.specs.declared.verify.words.When.{When}
@@ -28,13 +29,14 @@ use Rattle.rpki_cli.specs.declared.verify.settings.Named.TheVariants as names
 use Rattle.rpki_cli.specs.declared.verify.settings.Setting.{Setting}
 use Rattle.rpki_cli.specs.declared.verify.check_settings.SettingsError.{SettingsError}
 use Rattle.rpki_cli.specs.declared.verify.check_settings.SettingsError.TheVariants as errors
+use Rattle.rpki_cli.specs.declared.verify.requests.WrongWords.TheVariants.{Settings}
 
 pub clash : {b : Bool} → b ≡ true → b ≡ false → ⊥
 clash t f = cc
 
 pub first-clash : (f : Flag) (s : List Setting) → IsFirstOther f s → AreOfCheck s → ⊥
-first-clash Csv s h o = clash h o.no_csv
-first-clash Help s h o = clash h.1 o.no_help
+first-clash Help s h o = clash h o.no_help
+first-clash Csv s h o = clash h.1 o.no_csv
 first-clash Version s h o = clash h.2 o.no_version
 first-clash Relaxed s h o = h
 first-clash Registered s h o = h
@@ -122,26 +124,28 @@ check-not-refused s files c e k of_memory = refl
 -- ---- one refusal
 
 pub first-once : (f g : Flag) (s : List Setting) → IsFirstOther f s → IsFirstOther g s → f ≡ g
-first-once Csv Csv s h k = refl
-first-once Csv Help s h k = absurd (clash h k.0)
-first-once Csv Version s h k = absurd (clash h k.0)
-first-once Help Csv s h k = absurd (clash k h.0)
 first-once Help Help s h k = refl
-first-once Help Version s h k = absurd (clash h.1 k.1)
-first-once Version Csv s h k = absurd (clash k h.0)
-first-once Version Help s h k = absurd (clash k.1 h.1)
+first-once Help Csv s h k = absurd (clash h k.0)
+first-once Help Version s h k = absurd (clash h k.0)
+first-once Csv Help s h k = absurd (clash k h.0)
+first-once Csv Csv s h k = refl
+first-once Csv Version s h k = absurd (clash h.1 k.1)
+first-once Version Help s h k = absurd (clash k h.0)
+first-once Version Csv s h k = absurd (clash k.1 h.1)
 first-once Version Version s h k = refl
-first-once Csv g s h k = absurd k
 first-once Help g s h k = absurd k
+first-once Csv g s h k = absurd k
 first-once Version g s h k = absurd k
 first-once f g s h k = absurd h
 
--- two refusals that are told by one text
+-- two refusals that are told by one text, and both or neither of which ask for help
 abbrev AreTold : SettingsError → SettingsError → Type 0
-AreTold a b = settings_error_text a ≡ settings_error_text b
+AreTold a b =
+    (settings_error_text a ≡ settings_error_text b)
+    × (asks_help (Settings a) ≡ asks_help (Settings b))
 
 twice-told : (m n p : Named) → m ≡ p → n ≡ p → AreTold (errors.Twice m) (errors.Twice n)
-twice-told m n p e f = ap (λ (q : Named). codes "twice: " ++ named_word q) (e ∙ sym f)
+twice-told m n p e f = (ap (λ (q : Named). codes "twice: " ++ named_word q) (e ∙ sym f), refl)
 
 same-words : (v w : List ℕ) (values : List (List ℕ)) → values ≡ v ∷ [] → values ≡ w ∷ [] → v ≡ w
 same-words v w values e f = one-word (sym e ∙ f)
@@ -154,7 +158,7 @@ kind-once values (errors.Twice m) (errors.UnknownKind w) h k =
 kind-once values (errors.UnknownKind v) (errors.Twice n) h k =
     absurd (not-two values v.now h.0 k.1)
 kind-once values (errors.UnknownKind v) (errors.UnknownKind w) h k =
-    ap (λ (t : List ℕ). codes "unknown kind: " ++ t) (same-words v.now w.now values h.0 k.0)
+    (ap (λ (t : List ℕ). codes "unknown kind: " ++ t) (same-words v.now w.now values h.0 k.0), refl)
 kind-once values (errors.Twice m) b h k = absurd k
 kind-once values (errors.UnknownKind v) b h k = absurd k
 kind-once values a b h k = absurd h
@@ -167,7 +171,7 @@ moment-once values (errors.Twice m) (errors.WrongMoment w) h k =
 moment-once values (errors.WrongMoment v) (errors.Twice n) h k =
     absurd (not-two values v.now h.0 k.1)
 moment-once values (errors.WrongMoment v) (errors.WrongMoment w) h k =
-    ap (λ (t : List ℕ). codes "wrong moment: " ++ t) (same-words v.now w.now values h.0 k.0)
+    (ap (λ (t : List ℕ). codes "wrong moment: " ++ t) (same-words v.now w.now values h.0 k.0), refl)
 moment-once values (errors.Twice m) b h k = absurd k
 moment-once values (errors.WrongMoment v) b h k = absurd k
 moment-once values a b h k = absurd h
@@ -178,7 +182,7 @@ anchor-once values (errors.Twice m) (errors.Twice n) h k = twice-told m n names.
 anchor-once values (errors.Twice m) (errors.Missing n) h k = absurd (not-none values k.1 h.1)
 anchor-once values (errors.Missing m) (errors.Twice n) h k = absurd (not-none values h.1 k.1)
 anchor-once values (errors.Missing m) (errors.Missing n) h k =
-    ap (λ (q : Named). codes "missing: " ++ named_word q) (h.0 ∙ sym k.0)
+    (ap (λ (q : Named). codes "missing: " ++ named_word q) (h.0 ∙ sym k.0), refl)
 anchor-once values (errors.Twice m) b h k = absurd k
 anchor-once values (errors.Missing m) b h k = absurd k
 anchor-once values a b h k = absurd h
@@ -199,7 +203,10 @@ module _ (s : List Setting) (files : List (List ℕ)) where
   flags-against : (f : Flag) (b : SettingsError) → IsFirstOther f s → IsRefusal s files b
       → ¬ (b ≡ errors.Memory) → AreTold (errors.NotHere f) b
   flags-against f b h (of_flags {f = g} k) n =
-      ap (λ (q : Flag). codes "no option of check: " ++ flag_word q) (first-once f g s h k)
+      let same : f ≡ g = first-once f g s h k in (
+        ap (λ (q : Flag). codes "no option of check: " ++ flag_word q) same,
+        ap (λ (q : Flag). asks_help (Settings (errors.NotHere q))) same,
+      )
   flags-against f b h (of_kind o k) n = absurd (first-clash f s h o)
   flags-against f b h (of_moment q o g k) n = absurd (first-clash f s h o)
   flags-against f b h (of_anchor q a o g m k) n = absurd (first-clash f s h o)
@@ -251,7 +258,7 @@ module _ (s : List Setting) (files : List (List ℕ)) where
           locator-against b h (of_kind p k) n = absurd (kind-clash kinds kind b d k)
           locator-against b h (of_moment q p g k) n = absurd (moment-clash moments at b i k)
           locator-against b h (of_anchor q a p g m k) n = absurd (anchor-clash anchors ta b j k)
-          locator-against b h (of_locator q a v p g m t k) n = refl
+          locator-against b h (of_locator q a v p g m t k) n = (refl, refl)
           locator-against b h (of_files q a v w p g m t l k) n =
               absurd (locator-clash locators w l h)
           locator-against b h of_memory n = absurd (n refl)
@@ -266,7 +273,7 @@ module _ (s : List Setting) (files : List (List ℕ)) where
               absurd (anchor-clash anchors ta b j k)
           files-against tal b h (of_locator q a v p g m t k) n =
               absurd (locator-clash locators tal h k)
-          files-against tal b h (of_files q a v w p g m t l k) n = refl
+          files-against tal b h (of_files q a v w p g m t l k) n = (refl, refl)
           files-against tal b h of_memory n = absurd (n refl)
 
   -- settings are refused for one cause

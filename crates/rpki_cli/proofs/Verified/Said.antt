@@ -1,7 +1,7 @@
 -- One thing is said of wrong words.
 use Rattle.std.proofs.Common.{rules, ◌≡◌, ◌∙◌, ◌++◌, ℕ, List, [], ◌∷◌, true, false, sym, refl, ap}
-use Rattle.std.proofs.Common.{subst, codes, Option}
-use Rattle.rpki_cli.specs.Answer.{Output, Complained}
+use Rattle.std.proofs.Common.{subst, codes, Option, Bool, if◌then◌else◌}
+use Rattle.rpki_cli.specs.Answer.{Output, Complained, help}
 use Rattle.rpki_cli.specs.Words.{are_named, are_plain}
 use Rattle.rpki_cli.specs.Verify.CheckSettings.{CheckValues, IsCheckOf, IsRefusal, AreOfCheck}
 use Rattle.rpki_cli.specs.Verify.CheckSettings.{check_names, values_of}
@@ -11,6 +11,7 @@ use Rattle.rpki_cli.specs.Verify.Requests.{IsShowKind, IsShowFault, StandsAfter,
 use Rattle.rpki_cli.specs.Verify.Requests.{AreOfObjects, IsObjectFault, IsFirstName}
 use Rattle.rpki_cli.specs.Verify.Requests.{IsObjectsFault, IsFilesFault, IsWrongCheck, IsWrongShow}
 use Rattle.rpki_cli.specs.Verify.Requests.{lacks_memory, wrong_said, wrong_text, SaysWrong}
+use Rattle.rpki_cli.specs.Verify.Requests.{asks_help}
 use Rattle.rpki_cli.specs.Verify.Requests as wrong
 use Rattle.rpki_cli.specs.declared.verify.kinds_by_name.FileKind.{FileKind}
 use Rattle.rpki_cli.specs.declared.verify.settings.ArrangeError.{ArrangeError}
@@ -36,18 +37,27 @@ use Rattle.rpki_cli.proofs.Verified.Settings.{arranged-once, arranged-not-refuse
 
 -- ---- outputs
 
+-- what is said for a text, or where help is asked for
+abbrev said_by : Bool → List ℕ → Output
+said_by asks text = if asks then help else Complained (text ++ codes "\n") 2
+
 said-of : (e : WrongWords) → lacks_memory e ≡ false
-    → wrong_said e ≡ Complained (wrong_text e ++ codes "\n") 2
+    → wrong_said e ≡ said_by (asks_help e) (wrong_text e)
 said-of e n = rw n refl
+
+-- they have one text, and both or neither of them ask for help
+abbrev AreAlike : WrongWords → WrongWords → Type 0
+AreAlike a b = (wrong_text a ≡ wrong_text b) × (asks_help a ≡ asks_help b)
 
 said-once : (P : WrongWords → Type 0)
     → ((a b : WrongWords) → P a → P b → lacks_memory a ≡ false → lacks_memory b ≡ false
-    → wrong_text a ≡ wrong_text b)
+    → AreAlike a b)
     → (s t : Output) → SaysWrong P s → SaysWrong P t → s ≡ t
 said-once P once s t h k =
+    let alike = once h.wrong k.wrong h.is k.is h.no_memory k.no_memory in
     h.said ∙ said-of h.wrong h.no_memory
-    ∙ ap (λ (x : List ℕ). Complained (x ++ codes "\n") 2)
-    (once h.wrong k.wrong h.is k.is h.no_memory k.no_memory)
+    ∙ ap (λ (x : List ℕ). said_by (asks_help h.wrong) x) alike.0
+    ∙ ap (λ (b : Bool). said_by b (wrong_text k.wrong)) alike.1
     ∙ sym (said-of k.wrong k.no_memory) ∙ sym k.said
 
 -- ---- memory
@@ -115,15 +125,15 @@ no-object given file (NotChecked w) h o =
 no-object given file e h o = absurd h
 
 object-fault-once : (given : Option FileKind) (file : List ℕ) (a b : WrongWords)
-    → IsObjectFault given file a → IsObjectFault given file b → wrong_text a ≡ wrong_text b
+    → IsObjectFault given file a → IsObjectFault given file b → AreAlike a b
 object-fault-once given file (UnknownKind v) (UnknownKind w) h k =
-    ap (λ (t : List ℕ). codes "unknown kind: " ++ t) (h.0 ∙ sym k.0)
+    (ap (λ (t : List ℕ). codes "unknown kind: " ++ t) (h.0 ∙ sym k.0), refl)
 object-fault-once given file (UnknownKind v) (NotChecked w) h k =
     let other = k.1 in absurd (h.1 other.kind other.is)
 object-fault-once given file (NotChecked v) (UnknownKind w) h k =
     let other = h.1 in absurd (k.1 other.kind other.is)
 object-fault-once given file (NotChecked v) (NotChecked w) h k =
-    ap (λ (t : List ℕ). codes "cannot check files of this kind: " ++ t) (h.0 ∙ sym k.0)
+    (ap (λ (t : List ℕ). codes "cannot check files of this kind: " ++ t) (h.0 ∙ sym k.0), refl)
 object-fault-once given file (UnknownKind v) b h k = absurd k
 object-fault-once given file (NotChecked v) b h k = absurd k
 object-fault-once given file a b h k = absurd h
@@ -138,7 +148,7 @@ fault-at given files e f n = absurd (f.2)
 
 objects-fault-once : (given : Option FileKind) (files : List (List ℕ)) (a b : WrongWords)
     → IsObjectsFault given files a → IsObjectsFault given files b → lacks_memory a ≡ false
-    → lacks_memory b ≡ false → wrong_text a ≡ wrong_text b
+    → lacks_memory b ≡ false → AreAlike a b
 objects-fault-once given files a b f g m n =
     let x = fault-at given files a f m in
     let y = fault-at given files b g n in
@@ -156,15 +166,16 @@ objects-fault-once given files a b f g m n =
 
 files-fault-once : (given : Option FileKind) (files : List (List ℕ)) (a b : WrongWords)
     → IsFilesFault given files a → IsFilesFault given files b → lacks_memory a ≡ false
-    → lacks_memory b ≡ false → wrong_text a ≡ wrong_text b
+    → lacks_memory b ≡ false → AreAlike a b
 files-fault-once given files (UnknownKind v) (UnknownKind w) f g m n =
     let at = f.0 in
     let to = g.0 in
-    ap (λ (t : List ℕ). codes "unknown kind: " ++ t)
-    (file-once (HasKind given) at.before to.before at.after to.after v.now w.now
+    let same : v.now ≡ w.now =
+    file-once (HasKind given) at.before to.before at.after to.after v.now w.now
     (sym at.parts ∙ to.parts) (kinds-each given at.before (at.earlier).0 (at.earlier).1)
     (kinds-each given to.before (to.earlier).0 (to.earlier).1) (λ k. f.1 k.0 k.1)
-    (λ k. g.1 k.0 k.1))
+    (λ k. g.1 k.0 k.1) in
+    (ap (λ (t : List ℕ). codes "unknown kind: " ++ t) same, refl)
 files-fault-once given files (UnknownKind v) (Settings faults.Memory) f g m n = absurd cc
 files-fault-once given files (Settings faults.Memory) b f g m n = absurd cc
 files-fault-once given files (UnknownKind v) b f g m n = absurd g
@@ -182,12 +193,12 @@ data OfNames (c : CheckValues) (o : List (List ℕ)) : WrongWords → Type 0 whe
 
 names-told : (c : CheckValues) (o : List (List ℕ)) (a b : WrongWords) → OfNames c o a
     → OfNames c o b → lacks_memory a ≡ false → lacks_memory b ≡ false
-    → wrong_text a ≡ wrong_text b
-names-told c o a b (unnamed u) (unnamed v) m n = refl
+    → AreAlike a b
+names-told c o a b (unnamed u) (unnamed v) m n = (refl, refl)
 names-told c o a b (unnamed u) (controls v w) m n = absurd (clash v u)
 names-told c o a b (unnamed u) (others v w f) m n = absurd (clash v u)
 names-told c o a b (controls u x) (unnamed v) m n = absurd (clash u v)
-names-told c o a b (controls u x) (controls v w) m n = refl
+names-told c o a b (controls u x) (controls v w) m n = (refl, refl)
 names-told c o a b (controls u x) (others v w f) m n = absurd (clash w x)
 names-told c o a b (others u x f) (unnamed v) m n = absurd (clash u v)
 names-told c o a b (others u x f) (controls v w) m n = absurd (clash x w)
@@ -200,7 +211,7 @@ data OfCheck (s : List Setting) (o : List (List ℕ)) : WrongWords → Type 0 wh
 
 check-told : (s : List Setting) (o : List (List ℕ)) (a b : WrongWords) → OfCheck s o a
     → OfCheck s o b → lacks_memory a ≡ false → lacks_memory b ≡ false
-    → wrong_text a ≡ wrong_text b
+    → AreAlike a b
 check-told s o a b (refused {e = d} h) (refused {e = e} k) m n =
     refused-for-one s o d e h k (settings-kept d m) (settings-kept e n)
 check-told s o a b (refused {e = d} h) (asked c i k) m n =
@@ -229,13 +240,13 @@ of-check words s o e x (wrong.IsWrongCheck.of_files {c = c} a k u v f) n =
 
 words-told : (words : List (List ℕ)) (d e : ArrangeError) → IsRefusedFor words d
     → IsRefusedFor words e → lacks_memory (Arrange d) ≡ false → lacks_memory (Arrange e) ≡ false
-    → wrong_text (Arrange d) ≡ wrong_text (Arrange e)
+    → AreAlike (Arrange d) (Arrange e)
 words-told words d e h k m n =
-    refused-once words d e h k (arranged-kept d m) (arranged-kept e n)
+    (refused-once words d e h k (arranged-kept d m) (arranged-kept e n), refl)
 
 check-words-told : (words : List (List ℕ)) (d : ArrangeError) (b : WrongWords)
     → IsRefusedFor words d → IsWrongCheck words b → lacks_memory (Arrange d) ≡ false
-    → lacks_memory b ≡ false → wrong_text (Arrange d) ≡ wrong_text b
+    → lacks_memory b ≡ false → AreAlike (Arrange d) b
 check-words-told words d b h (wrong.IsWrongCheck.of_words {e = e} r) m n =
     words-told words d e h r m n
 check-words-told words d b h (wrong.IsWrongCheck.of_settings {given = t} {operands = p} a r) m n =
@@ -249,7 +260,7 @@ check-words-told words d b h (wrong.IsWrongCheck.of_files {given = t} {operands 
 
 checks-told : (words : List (List ℕ)) (a b : WrongWords) → IsWrongCheck words a
     → IsWrongCheck words b → lacks_memory a ≡ false → lacks_memory b ≡ false
-    → wrong_text a ≡ wrong_text b
+    → AreAlike a b
 checks-told words a b (wrong.IsWrongCheck.of_words {e = d} r) w m n =
     check-words-told words d b r w m n
 checks-told words a b (wrong.IsWrongCheck.of_settings {given = t} {operands = p} x r) w m n =
@@ -299,14 +310,18 @@ name-once names.At names.At s h k = refl
 name-once m names.Kind s h k = absurd k
 
 show-fault-once : (s : List Setting) (a b : WrongWords) → IsShowFault s a → IsShowFault s b
-    → wrong_text a ≡ wrong_text b
+    → AreAlike a b
 show-fault-once s (FlagOfOther f) (FlagOfOther g) h k =
-    ap (λ (q : Flag). codes "no option of show: " ++ flag_word q) (first-once f g s h k)
+    let same : f ≡ g = first-once f g s h k in (
+      ap (λ (q : Flag). codes "no option of show: " ++ flag_word q) same,
+      ap (λ (q : Flag). asks_help (FlagOfOther q)) same,
+    )
 show-fault-once s (FlagOfOther f) (NameOfOther n) h k = absurd (first-clash f s h k.0)
 show-fault-once s (FlagOfOther f) (Settings e) h k = absurd (first-clash f s h k.0)
 show-fault-once s (NameOfOther m) (FlagOfOther g) h k = absurd (first-clash g s k h.0)
 show-fault-once s (NameOfOther m) (NameOfOther n) h k =
-    ap (λ (q : Named). codes "no option of show: " ++ named_word q) (name-once m n s h.1 k.1)
+    let same : m ≡ n = name-once m n s h.1 k.1 in
+    (ap (λ (q : Named). codes "no option of show: " ++ named_word q) same, refl)
 show-fault-once s (NameOfOther m) (Settings e) h k = absurd (name-clash m s h.1 k.1)
 show-fault-once s (Settings d) (FlagOfOther g) h k = absurd (first-clash g s k h.0)
 show-fault-once s (Settings d) (NameOfOther n) h k = absurd (name-clash n s k.1 h.1)
@@ -327,18 +342,18 @@ data OfFiles (given : Option FileKind) (o : List (List ℕ)) : WrongWords → Ty
 
 files-told : (given : Option FileKind) (o : List (List ℕ)) (a b : WrongWords)
     → OfFiles given o a → OfFiles given o b → lacks_memory a ≡ false → lacks_memory b ≡ false
-    → wrong_text a ≡ wrong_text b
-files-told given o a b (empty i) (empty j) m n = refl
+    → AreAlike a b
+files-told given o a b (empty i) (empty j) m n = (refl, refl)
 files-told given o a b (empty i) (unnamed_file j v) m n = absurd (j i)
 files-told given o a b (empty i) (control j v w) m n = absurd (j i)
 files-told given o a b (empty i) (unkinded j v w g) m n = absurd (j i)
 files-told given o a b (unnamed_file i u) (empty j) m n = absurd (i j)
-files-told given o a b (unnamed_file i u) (unnamed_file j v) m n = refl
+files-told given o a b (unnamed_file i u) (unnamed_file j v) m n = (refl, refl)
 files-told given o a b (unnamed_file i u) (control j v w) m n = absurd (clash v u)
 files-told given o a b (unnamed_file i u) (unkinded j v w g) m n = absurd (clash v u)
 files-told given o a b (control i u x) (empty j) m n = absurd (i j)
 files-told given o a b (control i u x) (unnamed_file j v) m n = absurd (clash u v)
-files-told given o a b (control i u x) (control j v w) m n = refl
+files-told given o a b (control i u x) (control j v w) m n = (refl, refl)
 files-told given o a b (control i u x) (unkinded j v w g) m n = absurd (clash w x)
 files-told given o a b (unkinded i u x f) (empty j) m n = absurd (i j)
 files-told given o a b (unkinded i u x f) (unnamed_file j v) m n = absurd (clash u v)
@@ -354,7 +369,7 @@ data OfShow (s : List Setting) (o : List (List ℕ)) : WrongWords → Type 0 whe
 
 show-told : (s : List Setting) (o : List (List ℕ)) (a b : WrongWords) → OfShow s o a
     → OfShow s o b → lacks_memory a ≡ false → lacks_memory b ≡ false
-    → wrong_text a ≡ wrong_text b
+    → AreAlike a b
 show-told s o a b (faulty h) (faulty k) m n = show-fault-once s a b h k
 show-told s o a b (faulty h) (shown g i k) m n = absurd (show-settings-apart s g a i h)
 show-told s o a b (shown g i h) (faulty k) m n = absurd (show-settings-apart s g b i k)
@@ -391,7 +406,7 @@ module _ (words : List (List ℕ)) (s : List Setting) (o : List (List ℕ)) (x :
 
 show-words-told : (words : List (List ℕ)) (d : ArrangeError) (b : WrongWords)
     → IsRefusedFor words d → IsWrongShow words b → lacks_memory (Arrange d) ≡ false
-    → lacks_memory b ≡ false → wrong_text (Arrange d) ≡ wrong_text b
+    → lacks_memory b ≡ false → AreAlike (Arrange d) b
 show-words-told words d b h (wrong.IsWrongShow.of_words {e = e} r) m n =
     words-told words d e h r m n
 show-words-told words d b h (wrong.IsWrongShow.of_settings {given = t} {operands = p} a r) m n =
@@ -410,7 +425,7 @@ show-words-told words d b h wrong.IsWrongShow.of_memory m n = absurd cc
 
 shows-told : (words : List (List ℕ)) (a b : WrongWords) → IsWrongShow words a
     → IsWrongShow words b → lacks_memory a ≡ false → lacks_memory b ≡ false
-    → wrong_text a ≡ wrong_text b
+    → AreAlike a b
 shows-told words a b (wrong.IsWrongShow.of_words {e = d} r) w m n =
     show-words-told words d b r w m n
 shows-told words a b (wrong.IsWrongShow.of_settings {given = t} {operands = p} x r) w m n =

@@ -154,12 +154,12 @@ pub record IsCheckOf (settings : List Setting) (operands : List (List ℕ)) (c :
 
 -- ---- refusals
 
--- of the flags of other commands, the first that is set
+-- of the flags of other commands, the first that is set, where the one for help goes first
 abbrev pub IsFirstOther : Flag → List Setting → Type 0
-IsFirstOther Csv settings = is_on Csv settings ≡ true
-IsFirstOther Help settings = (is_on Csv settings ≡ false) × (is_on Help settings ≡ true)
+IsFirstOther Help settings = is_on Help settings ≡ true
+IsFirstOther Csv settings = (is_on Help settings ≡ false) × (is_on Csv settings ≡ true)
 IsFirstOther Version settings =
-    (is_on Csv settings ≡ false) × (is_on Help settings ≡ false) × (is_on Version settings ≡ true)
+    (is_on Help settings ≡ false) × (is_on Csv settings ≡ false) × (is_on Version settings ≡ true)
 IsFirstOther other settings = ⊥
 
 -- What is wrong with the values of the kind: there are two or more, or the only one says no kind.

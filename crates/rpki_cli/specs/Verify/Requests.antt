@@ -1,7 +1,7 @@
 -- What words ask of many files.
 use Rattle.std.specs.Prelude.{◌≡◌, ℕ, List, [], ◌∷◌, ◌++◌, Bool, true, false, map, codes}
 use Rattle.std.specs.Prelude.{Option, None, Some, if◌then◌else◌}
-use Rattle.rpki_cli.specs.Answer.{Output, Complained, out_of_memory}
+use Rattle.rpki_cli.specs.Answer.{Output, Complained, out_of_memory, help}
 use Rattle.rpki_cli.specs.Words.{texts, are_named, are_plain}
 use Rattle.rpki_cli.specs.Verify.CheckSettings.{CheckValues, check_values, check_names, IsCheckOf}
 use Rattle.rpki_cli.specs.Verify.CheckSettings.{IsRefusal, settings_error_text, is_on, values_of}
@@ -16,6 +16,7 @@ use Rattle.rpki_cli.specs.declared.verify.kinds_by_name.FileKind.TheVariants as 
 use Rattle.rpki_cli.specs.declared.verify.settings.ArrangeError.{ArrangeError}
 use Rattle.rpki_cli.specs.declared.verify.settings.ArrangeError.TheVariants as words
 use Rattle.rpki_cli.specs.declared.verify.settings.Flag.TheVariants.{Json, Relaxed, Registered, Wide}
+use Rattle.rpki_cli.specs.declared.verify.settings.Flag.TheVariants.{Help}
 use Rattle.rpki_cli.specs.declared.verify.settings.Named.{Named}
 use Rattle.rpki_cli.specs.declared.verify.settings.Named.TheVariants as names
 use Rattle.rpki_cli.specs.declared.verify.settings.Setting.{Setting}
@@ -282,9 +283,17 @@ lacks_memory (Arrange words.Memory) = true
 lacks_memory (Settings faults.Memory) = true
 lacks_memory e = false
 
--- what is said where this is wrong
+-- whether it is that the settings ask for help
+abbrev pub asks_help : WrongWords → Bool
+asks_help (Settings (faults.NotHere Help)) = true
+asks_help (FlagOfOther Help) = true
+asks_help e = false
+
+-- what is said where this is wrong: how the program is called, where the settings ask for that
 abbrev pub wrong_said : WrongWords → Output
-wrong_said e = if lacks_memory e then out_of_memory else Complained (wrong_text e ++ codes "\n") 2
+wrong_said e =
+    if lacks_memory e then out_of_memory
+    else if asks_help e then help else Complained (wrong_text e ++ codes "\n") 2
 
 -- It is said which of these things is wrong; that memory ran out is none of them.
 pub record SaysWrong (P : WrongWords → Type 0) (s : Output) : Type 0 where

@@ -155,15 +155,15 @@ pub fn only_value_of<'a>(
     Ok(only)
 }
 
-/// Refuses the first flag that is set and is none of a check.
+/// Refuses the first flag that is set and is none of a check: that for help, or else another one.
 pub fn refuse_flags(settings: &[Setting<'_>]) -> Result<(), Flag>
     ensures { MatchResult result (λ _. AreOfCheck settings.now) (λ f. IsFirstOther f settings.now) }
 {
-    if is_on(settings, Flag::Csv) {
-        return Err(Flag::Csv);
-    }
     if is_on(settings, Flag::Help) {
         return Err(Flag::Help);
+    }
+    if is_on(settings, Flag::Csv) {
+        return Err(Flag::Csv);
     }
     if is_on(settings, Flag::Version) {
         return Err(Flag::Version);

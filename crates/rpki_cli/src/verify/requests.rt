@@ -126,13 +126,14 @@ impl<T: Drop> From<AllocFailed<T>> for WrongWords<'_> {
 
 impl<'a> WrongWords<'a> {
     /// What is answered to such words: a line on standard error, with the status of wrong words, or
-    /// that memory ran out.
+    /// how the program is called, where they ask for help, or that memory ran out.
     pub fn answer(self) -> Answer<'a>
         ensures { said result ≡ wrong_said self.entry }
     {
         match self {
             WrongWords::Arrange(error) => answer_arrange(error),
             WrongWords::Settings(error) => answer_settings(error),
+            WrongWords::FlagOfOther(Flag::Help) => Answer::Help,
             WrongWords::FlagOfOther(flag) => Answer::WrongBy {
                 cause: "no option of show: ",
                 word: flag.word(),
@@ -182,11 +183,13 @@ fn answer_arrange<'a>(error: ArrangeError<'a>) -> Answer<'a>
     }
 }
 
-/// What is answered to settings that are not those of the command.
+/// What is answered to settings that are not those of the command: how the program is called, where
+/// they ask for help.
 fn answer_settings<'a>(error: SettingsError<'a>) -> Answer<'a>
     ensures { said result ≡ wrong_said (WrongWords.Settings error.entry) }
 {
     match error {
+        SettingsError::NotHere(Flag::Help) => Answer::Help,
         SettingsError::NotHere(flag) => Answer::WrongBy {
             cause: "no option of check: ",
             word: flag.word(),

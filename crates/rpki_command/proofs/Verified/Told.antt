@@ -1,13 +1,14 @@
 -- The files of a check by their names, as a store tells them.
 use Rattle.std.proofs.Common.{◌≡◌, ◌∙◌, ℕ, List, [], ◌∷◌, ◌++◌, Option, Some, None, refl, sym, ap}
-use Rattle.std.proofs.Common.{map, length, drop, arith}
+use Rattle.std.proofs.Common.{Result, Ok, map, length, drop, arith}
 use Rattle.std.proofs.lemmas.List.{map-append}
 use Rattle.std.specs.List.{AllZip, zip}
 use Rattle.std.specs.Prelude.{option_map}
 use Rattle.rpki_cli.specs.Command.{AreTold}
-use Rattle.rpki_cli.specs.Store.{Told}
+use Rattle.rpki_cli.specs.Store.{Told, with_octets}
 use Rattle.rpki_cli.specs.Verify.CheckSettings.{CheckValues, check_names, word_given}
 use Rattle.rpki_cli.specs.Verify.Requests.{AskedCheck}
+use Rattle.rpki_cli.specs.declared.store.Reason.{Reason}
 use Rattle.rpki_cli.specs.declared.verify.requests.CheckedKind.{CheckedKind}
 use Rattle.rpki_command.specs.Verify.Checks.{CheckedFiles, first_of, files_in}
 use Rattle.rpki_command.specs.Verify.Each.{GivenFile, asked_in}
@@ -27,17 +28,13 @@ located (Some file) = file ∷ []
 abbrev contents_in : List (GivenFile CheckedKind) → List (List ℕ)
 contents_in objects = map (λ (o : GivenFile CheckedKind). o.octets) objects
 
--- what a store tells of a file with these octets
-abbrev with_octets : List ℕ → Option (Option (List ℕ))
-with_octets o = Some (Some o)
-
 module _ (told : Told) where
   join-told : (xs ys os ps : List (List ℕ)) → AreTold told xs os → AreTold told ys ps
       → AreTold told (xs ++ ys) (os ++ ps)
   join-told xs ys os ps h k =
       map-append told xs ys
-      ∙ ap (λ (l : List (Option (Option (List ℕ)))). l ++ map told ys) h
-      ∙ ap (λ (l : List (Option (Option (List ℕ)))). map with_octets os ++ l) k
+      ∙ ap (λ (l : List (Option (Result (List ℕ) Reason))). l ++ map told ys) h
+      ∙ ap (λ (l : List (Option (Result (List ℕ) Reason))). map with_octets os ++ l) k
       ∙ sym (map-append with_octets os ps)
 
   -- ---- from the files to the octets
@@ -207,7 +204,7 @@ module _ (told : Told) where
   split-told [] rest octets h = (tt, h)
   split-told (n ∷ names) rest [] h = absurd cc
   split-told (n ∷ names) rest (o ∷ octets) h =
-      let first : told n ≡ Some (Some o) = cc in
+      let first : told n ≡ Some (Ok o) = cc in
       let others : map told (names ++ rest) ≡ map with_octets octets = cc in
       let s = split-told names rest octets others in (((refl, first), s.0), s.1)
 
@@ -227,7 +224,7 @@ module _ (told : Told) where
   objects-told (n ∷ names) [] octets e h = absurd (omega (arith, e))
   objects-told (n ∷ names) (k ∷ kinds) [] e h = absurd cc
   objects-told (n ∷ names) (k ∷ kinds) (o ∷ octets) e h =
-      let first : told n ≡ Some (Some o) = cc in
+      let first : told n ≡ Some (Ok o) = cc in
       let others : map told names ≡ map with_octets octets = cc in
       let r = objects-told names kinds octets (omega (arith, e)) others in (
         ((refl, first), r.0),
@@ -241,7 +238,7 @@ module _ (told : Told) where
   files-told c [] e h = absurd cc
   files-told c (o ∷ octets) e h =
       let n = c.values in
-      let first : told n.ta ≡ Some (Some o) = cc in
+      let first : told n.ta ≡ Some (Ok o) = cc in
       let others : AreTold told (n.cas ++ (word_given n.tal ++ (n.crls ++ n.files))) octets = cc in
       let p = split-told n.cas (word_given n.tal ++ (n.crls ++ n.files)) octets others in
       let located = drop (length n.cas) octets in

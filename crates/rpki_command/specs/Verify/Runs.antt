@@ -1,5 +1,5 @@
 -- Runs of a check of several files: what words ask for, and the files as a store tells them.
-use Rattle.std.specs.Prelude.{◌≡◌, ℕ, List, map, Option, None, Some}
+use Rattle.std.specs.Prelude.{◌≡◌, ℕ, List, map, Option, None, Some, Ok}
 use Rattle.std.specs.List.{AllZip}
 use Rattle.rpki_basics.specs.Moment.{Moment}
 use Rattle.rpki_cli.specs.Answer.{Run}
@@ -26,7 +26,7 @@ check_each_order options words = record { options = options; command = CheckEach
 
 -- The file has this name, and the store tells its octets.
 abbrev pub IsTold : Told → List ℕ → File → Type 0
-IsTold told name file = (file.0 ≡ name) × (told name ≡ Some (Some file.1))
+IsTold told name file = (file.0 ≡ name) × (told name ≡ Some (Ok file.1))
 
 -- The same of the file of a locator, where one is named.
 abbrev pub IsToldIf : Told → Option (List ℕ) → Option File → Type 0
@@ -37,7 +37,7 @@ IsToldIf told (Some name) (Some file) = IsTold told name file
 
 -- The same of a file that is checked.
 abbrev pub IsToldObject : Told → List ℕ → GivenFile CheckedKind → Type 0
-IsToldObject told name file = (file.name ≡ name) × (told name ≡ Some (Some file.octets))
+IsToldObject told name file = (file.name ≡ name) × (told name ≡ Some (Ok file.octets))
 
 -- The files of a check: each has the name that is asked for at its place, those that are checked
 -- have the kinds too, and the store tells the octets of each.

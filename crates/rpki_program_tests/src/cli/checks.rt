@@ -8,7 +8,7 @@ use std::fmt::Write;
 use std::test::Fail;
 
 /// Words, and what they set for a check as a text, or why they set nothing.
-static CHECKS: [(&[&str], &str); 23] = [
+static CHECKS: [(&[&str], &str); 24] = [
     (&["--ta", "a.cer", "b.roa"], "- now a.cer - () (); b.roa"),
     (
         &["b.roa", "c.asa", "--json", "--ta", "a.cer"],
@@ -52,6 +52,7 @@ static CHECKS: [(&[&str], &str); 23] = [
         &["-h", "--ta", "a.cer", "b.roa"],
         "no option of check: --help",
     ),
+    (&["--csv", "b.roa", "--help"], "no option of check: --help"),
     (&["--version", "b.roa"], "no option of check: --version"),
     (&["--version", "--csv"], "no option of check: --csv"),
     (

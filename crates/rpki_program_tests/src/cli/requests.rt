@@ -80,7 +80,7 @@ static CHECKS: [(&[&str], &str); 22] = [
 ];
 
 /// Words after `show`, and what they ask as a text, or what is wrong.
-static SHOWS: [(&[&str], &str); 21] = [
+static SHOWS: [(&[&str], &str); 22] = [
     (&["a.roa"], "a.roa = roa"),
     (
         &["a.cer", "--json", "b.crl", "c.tal", "--wide"],
@@ -95,6 +95,7 @@ static SHOWS: [(&[&str], &str); 21] = [
     (&["a.roa", "--version"], "no option of show: --version"),
     (&["a.roa", "--at", "now"], "no option of show: --at"),
     (&["--ta", "a", "--csv"], "no option of show: --csv"),
+    (&["--csv", "a.roa", "-h"], "no option of show: --help"),
     (
         &["--at", "now", "--ca", "b", "a.roa"],
         "no option of show: --ca",

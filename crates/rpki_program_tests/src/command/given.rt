@@ -2,6 +2,8 @@
 
 ghost use Rattle.std.specs.Prelude.{◌≡◌, MatchOption, bytes_eq, None, Some};
 ghost use Rattle.std.specs.Map.{lookup};
+ghost use Rattle.std.specs.Option.{ok_or};
+ghost use Rattle.rpki_cli.specs.declared.store.Reason.TheVariants.{NotFound};
 ghost use Rattle.rpki_program_tests.specs.Command.Given.{by_name};
 
 use bytes::Bytes;
@@ -33,7 +35,7 @@ impl<'a> Files<'a> {
 }
 
 impl Store for Files<'_> {
-    ghost told = { λ s name. Some (lookup (bytes_eq name) (by_name s.files.now)) };
+    ghost told = { λ s name. Some (ok_or (lookup (bytes_eq name) (by_name s.files.now)) NotFound) };
 
     ghost reads = { λ s. s.reads.names };
 
