@@ -71,7 +71,7 @@ def manifest(lines):
     [number], [this], [until] = (after(lines, word) for word in ("number", "this", "next"))
     files = [it.rsplit(" ", 1) for it in after(lines, "file")]
     return {"manifest_number": whole_hex(number), "this_update": this, "next_update": until,
-            "files": [{"filename": name, "hash": it} for name, it in files]}
+            "filesandhashes": [{"filename": name, "hash": it} for name, it in files]}
 
 
 def rsc(lines):
@@ -82,7 +82,7 @@ def rsc(lines):
             files.append({"filename": name, "hash": it})
         elif word == "unnamed":
             files.append({"hash": text})
-    return {**{name: after(lines, word) for word, name in NUMBERS.items()}, "files": files}
+    return {**{name: after(lines, word) for word, name in NUMBERS.items()}, "filenamesandhashes": files}
 
 
 def rta(lines):
@@ -93,7 +93,7 @@ def rta(lines):
 
 
 def crl(lines):
-    words = {"number": "crl_number", "this-update": "this_update", "next-update": "next_update", "authority-key-id": "aki"}
+    words = {"number": "crl_serial", "this-update": "this_update", "next-update": "next_update", "authority-key-id": "aki"}
     revoked = [it.split(" ") for it in after(lines, "revoked")]
     return {**{name: it for word, name in words.items() for it in after(lines, word)},
             "revoked_certs": [{"serial": serial, "date": date} for serial, date in revoked]}
@@ -101,7 +101,7 @@ def crl(lines):
 
 def tal(lines):
     [key] = after(lines, "key")
-    return {"uris": after(lines, "uri"), "ski": key}
+    return {"trust_anchor_locations": after(lines, "uri"), "ski": key}
 
 
 def facts(lines):

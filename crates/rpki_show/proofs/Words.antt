@@ -243,7 +243,7 @@ revoked-words e = (serial-words (codes "serial") e.serial, (moment-words (codes 
 
 pub crl-words : (l : DatedList) → Words (crl_members l)
 crl-words l = (
-  serial-words (codes "crl_number") l.extensions.number,
+  serial-words (codes "crl_serial") l.extensions.number,
   (
     moment-words (codes "this_update") l.this_update,
     (

@@ -13,7 +13,7 @@ revoked_value e = object_of (
 
 -- the number, both moments, the identifier of the issuer's key, and the entries
 abbrev pub crl_members : DatedList → List Member
-crl_members l = serial_member (codes "crl_number") l.extensions.number
+crl_members l = serial_member (codes "crl_serial") l.extensions.number
     ∷ moment_member (codes "this_update") l.this_update
     ∷ moment_member (codes "next_update") l.next_update
     ∷ key_member (codes "aki") l.extensions.authority_key

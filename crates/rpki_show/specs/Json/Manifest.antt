@@ -20,4 +20,4 @@ abbrev pub manifest_members : Manifest → List Member
 manifest_members m = serial_member (codes "manifest_number") m.number
     ∷ moment_member (codes "this_update") m.this_update
     ∷ moment_member (codes "next_update") m.next_update
-    ∷ array_member (codes "files") file_value m.files ∷ []
+    ∷ array_member (codes "filesandhashes") file_value m.files ∷ []

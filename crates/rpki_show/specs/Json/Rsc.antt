@@ -22,4 +22,4 @@ abbrev pub rsc_members : Checklist → List Member
 rsc_members l = as_member (codes "asns") l.as_resources
     ∷ ip_member (codes "ipv4") Ipv4 l.v4_resources
     ∷ ip_member (codes "ipv6") Ipv6 l.v6_resources
-    ∷ array_member (codes "files") checked_value l.files ∷ []
+    ∷ array_member (codes "filenamesandhashes") checked_value l.files ∷ []

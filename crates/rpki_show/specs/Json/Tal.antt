@@ -15,7 +15,7 @@ uri_value uri = string (uri_text uri)
 
 -- the URIs, and the identifier of the key, the SHA-1 digest of its bits (RFC 5280, section 4.2.1.2)
 abbrev pub tal_members : List TalUri → List ℕ → List Member
-tal_members uris key = array_member (codes "uris") uri_value uris
+tal_members uris key = array_member (codes "trust_anchor_locations") uri_value uris
     ∷ key_member (codes "ski") (sha1 key) ∷ []
 
 -- The octets are the text of a locator (RFC 8630, section 2.2), whole, and this is its line in

@@ -14,7 +14,7 @@ use crate::json::named::{push_first_serial, push_key, push_moment, push_serial};
 use std::alloc::{AllocError, Global};
 use std::fmt::Write;
 
-/// Appends the members of a revocation list: `crl_number`, `this_update`, `next_update`, `aki`, and
+/// Appends the members of a revocation list: `crl_serial`, `this_update`, `next_update`, `aki`, and
 /// `revoked_certs`, an array of objects with `serial` and `date`. Refuses where memory runs out.
 pub fn push_crl(alloc: Global, text: &mut String, list: &DatedCrl) -> Result<(), AllocError>
     ensures { Grows result text.old text.new (flat_map further_text (crl_members list.now)) }
@@ -29,9 +29,9 @@ pub fn push_crl(alloc: Global, text: &mut String, list: &DatedCrl) -> Result<(),
 /// Appends the member of the number.
 fn push_crl_number(alloc: Global, text: &mut String, list: &DatedCrl) -> Result<(), AllocError>
     ensures { Grows result text.old text.new
-        (further_text (serial_member (codes "crl_number") list.now.extensions.number)) }
+        (further_text (serial_member (codes "crl_serial") list.now.extensions.number)) }
 {
-    push_serial(alloc, text, "crl_number", list.number())
+    push_serial(alloc, text, "crl_serial", list.number())
 }
 
 /// Appends the member of when it was made.

@@ -19,8 +19,8 @@ use std::alloc::{AllocError, Global};
 use std::fmt::Write;
 
 /// Appends the members of the content of a manifest: `manifest_number`, `this_update`,
-/// `next_update`, and `files`, an array of objects with `filename` and `hash`. Refuses where memory
-/// runs out.
+/// `next_update`, and `filesandhashes`, an array of objects with `filename` and `hash`. Refuses
+/// where memory runs out.
 pub fn push_manifest(
     alloc: Global,
     text: &mut String,
@@ -66,9 +66,22 @@ fn push_next(alloc: Global, text: &mut String, content: &ManifestContent) -> Res
 /// Appends the member of the files.
 fn push_files(alloc: Global, text: &mut String, content: &ManifestContent) -> Result<(), AllocError>
     ensures { Grows result text.old text.new
-        (further_text (array_member (codes "files") file_value content.now.files)) }
+        (further_text (array_member (codes "filesandhashes") file_value content.now.files)) }
 {
-    push_array(text, "files", content.iter(), |text, file| {
+    push_listed(alloc, text, "filesandhashes", content)
+}
+
+/// Appends the member of the files under this name.
+fn push_listed(
+    alloc: Global,
+    text: &mut String,
+    name: &str,
+    content: &ManifestContent,
+) -> Result<(), AllocError>
+    ensures { Grows result text.old text.new
+        (further_text (array_member name.now file_value content.now.files)) }
+{
+    push_array(text, name, content.iter(), |text, file| {
         push_file(alloc, text, file.file, file.hash)
     })
 }

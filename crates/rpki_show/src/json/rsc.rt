@@ -19,8 +19,8 @@ use std::alloc::{AllocError, Global};
 use std::fmt::Write;
 
 /// Appends the members of the content of a checklist: `asns`, `ipv4` and `ipv6`, arrays of blocks,
-/// and `files`, an array of objects with `filename`, where there is one, and `hash`. Refuses where
-/// memory runs out.
+/// and `filenamesandhashes`, an array of objects with `filename`, where there is one, and `hash`.
+/// Refuses where memory runs out.
 pub fn push_rsc(
     alloc: Global,
     text: &mut String,
@@ -43,9 +43,22 @@ fn push_files(
     content: &ResourceSignedChecklist,
 ) -> Result<(), AllocError>
     ensures { Grows result text.old text.new
-        (further_text (array_member (codes "files") checked_value content.now.files)) }
+        (further_text (array_member (codes "filenamesandhashes") checked_value content.now.files)) }
 {
-    push_array(text, "files", content.iter(), |text, file| {
+    push_listed(alloc, text, "filenamesandhashes", content)
+}
+
+/// Appends the member of the files under this name.
+fn push_listed(
+    alloc: Global,
+    text: &mut String,
+    name: &str,
+    content: &ResourceSignedChecklist,
+) -> Result<(), AllocError>
+    ensures { Grows result text.old text.new
+        (further_text (array_member name.now checked_value content.now.files)) }
+{
+    push_array(text, name, content.iter(), |text, file| {
         push_checked(alloc, text, file.file_name, file.hash)
     })
 }

@@ -12,7 +12,8 @@ use rpki_json::push_item;
 use rpki_tal::Tal;
 use std::alloc::{AllocError, Global};
 
-/// Appends the members of a locator: `uris`, an array, and `ski`. Refuses where memory runs out.
+/// Appends the members of a locator: `trust_anchor_locations`, an array, and `ski`. Refuses where
+/// memory runs out.
 pub fn push_tal(alloc: Global, text: &mut String, tal: &Tal) -> Result<(), AllocError>
     ensures { Grows result text.old text.new
         (flat_map further_text (tal_members tal.now.uris tal.now.key)) }
@@ -24,9 +25,17 @@ pub fn push_tal(alloc: Global, text: &mut String, tal: &Tal) -> Result<(), Alloc
 /// Appends the member of the URIs.
 fn push_uris(alloc: Global, text: &mut String, tal: &Tal) -> Result<(), AllocError>
     ensures { Grows result text.old text.new
-        (further_text (array_member (codes "uris") uri_value tal.now.uris)) }
+        (further_text (array_member (codes "trust_anchor_locations") uri_value tal.now.uris)) }
 {
-    push_array(text, "uris", tal.uris(), |text, uri| {
+    push_located(alloc, text, "trust_anchor_locations", tal)
+}
+
+/// Appends the member of the URIs under this name.
+fn push_located(alloc: Global, text: &mut String, name: &str, tal: &Tal) -> Result<(), AllocError>
+    ensures { Grows result text.old text.new
+        (further_text (array_member name.now uri_value tal.now.uris)) }
+{
+    push_array(text, name, tal.uris(), |text, uri| {
         push_item(alloc, text, uri)
     })
 }

@@ -12,7 +12,7 @@ returns c =
     let new = c.push_entries.new.text in
     let entries = further_text (array_member (codes "revoked_certs") revoked_value l.revoked) in
     grown r c.args.text.now c.push_crl_number.new.text new
-    (further_text (serial_member (codes "crl_number") l.extensions.number)) _ _
+    (further_text (serial_member (codes "crl_serial") l.extensions.number)) _ _
     c.in_ok-push_crl_number.ensures
     (grown r c.push_crl_number.new.text c.push_this.new.text new
     (further_text (moment_member (codes "this_update") l.this_update)) _ _

@@ -10,7 +10,7 @@ returns c =
     let m = c.args.content.now in
     let r = c.push_files.result in
     let new = c.push_files.new.text in
-    let files = further_text (array_member (codes "files") file_value m.files) in
+    let files = further_text (array_member (codes "filesandhashes") file_value m.files) in
     grown r c.args.text.now c.push_manifest_number.new.text new
     (further_text (serial_member (codes "manifest_number") m.number)) _ _
     c.in_ok-push_manifest_number.ensures
