@@ -55,7 +55,7 @@ const NO_SUCH_TIME: &str = "there is no such date or time of day";
 
 /// Attributes, and why `take_from` refuses them and why `take_from_signed_message` does, if it
 /// does.
-static ROWS: [(&[&[u8]], &str, &str); 24] = [
+pub static ROWS: [(&[&[u8]], &str, &str); 24] = [
     (&[TYPE, TIME, DIGEST], "", ""),
     (&[TYPE, DIGEST, TIME], "", ""),
     (&[TIME, TYPE, DIGEST], "", ""),
