@@ -159,8 +159,14 @@ def took(launcher, path, words):
     return [float(it) for it in measured]
 
 
+def quartile(numbers):
+    """The number that a quarter of these are below."""
+    return sorted(numbers)[(len(numbers) - 1) // 4]
+
+
 def times(launcher, subjects, found, tries):
-    """The least measurements of each subject and object, which are taken in turn."""
+    """The measurements of each subject and object, which are taken in turn: a quarter of those of
+    each kind are below what is answered."""
     runs = {}
     for it in found:
         compare(subjects, it)
@@ -168,12 +174,11 @@ def times(launcher, subjects, found, tries):
         for it in found:
             for subject, path in subjects.items():
                 now = took(launcher, path, it.words(subject))
-                before = runs.get((subject, it.name), now)
-                runs[subject, it.name] = list(map(min, before, now))
+                runs.setdefault((subject, it.name), []).append(now)
     by_name = {it.name: it for it in found}
-    return [{**named(subject, by_name[name]), "clock": clock, "processor": processor,
-             "memory": memory}
-            for (subject, name), (clock, processor, memory) in runs.items()]
+    kinds = "clock", "processor", "memory"
+    return [{**named(subject, by_name[name]), **dict(zip(kinds, map(quartile, zip(*each))))}
+            for (subject, name), each in runs.items()]
 
 
 def named(subject, it):
@@ -187,13 +192,13 @@ def of_each(one, all_of_them):
 
 
 def time_of_many(launcher, subjects, tries):
-    """Milliseconds of the processor for each further ROA of a run, by the least of each run."""
+    """Milliseconds of the processor for each further ROA of a run."""
     path = subjects.get("rpki_verify")
     if not path:
         return None
     runs = [[took(launcher, path, words_of_many(more))[1] for more in (0, MORE)]
             for _ in range(tries)]
-    return of_each(*map(min, zip(*runs)))
+    return of_each(*map(quartile, zip(*runs)))
 
 
 def counted(path, words):

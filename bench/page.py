@@ -44,12 +44,40 @@ WANTED = {
     **dict.fromkeys(SETS, 1.3),
 }
 OF_OPENSSL, OF_VERDICTS, OF_CLIENT = 2, 1.1, 1
+# Of building a set of ten times the blocks, and of an entry's instructions among more entries.
+OF_TENTH, OF_FEWER = 13, 1.05
 # Who does the work.
 BY = "library", "plain", "bcder"
 # How much of a processor other work may take, while times are rough no more than they always are.
 ROUGH = 0.25
+# How many sound measurements the driver wants.
+LEAST = 3
+# The bits of keys.
+BITS = 2048, 3072, 4096
 # Which numbers of entries the summary and README take.
-TYPICAL, MOST = 1000, 100_000
+FEW, TYPICAL, MOST = 10, 1000, 100_000
+# How far apart the least and the greatest of some numbers are, so that both are told.
+APART = 1.05
+
+
+class Spread(typing.NamedTuple):
+    """The middle one of some numbers, the least and the greatest."""
+
+    middle: float
+    least: float
+    most: float
+
+    def is_wide(self):
+        return self.most > APART * self.least
+
+
+def spread(numbers):
+    found = [it for it in numbers if it is not None]
+    return Spread(statistics.median(found), min(found), max(found)) if found else None
+
+
+def middle(found):
+    return found and found.middle
 
 
 class Results:
@@ -63,6 +91,7 @@ class Results:
                 self.of.setdefault((it["work"], it["by"], it["count"]), {}).update(it)
             for it in part.get("runs", ()):
                 self.runs.setdefault((it["subject"], it["blocks"], it["prefixes"]), {}).update(it)
+        self.signed = [nanoseconds(it) for it in self.times.get("signed", ())]
 
     def counts(self, work):
         return sorted({count for name, _, count in self.of if name == work})
@@ -73,10 +102,17 @@ class Results:
     def factor(self, work, count, what, by="plain"):
         return divided(self.value(work, "library", count, what), self.value(work, by, count, what))
 
-    def openssl(self, bits):
-        """Nanoseconds of a power."""
-        found = self.times.get("openssl", {}).get(str(bits))
-        return found and found * 1e3
+    def grown(self, work, count, fewer, what):
+        """The cost for so many entries, divided by that for fewer."""
+        return divided(*(self.value(work, "library", it, what) for it in (count, fewer)))
+
+    def of_signed(self, name):
+        """Nanoseconds of what was measured several times beside openssl."""
+        return spread(it.get(name) for it in self.signed)
+
+    def factor_of_signed(self, one, other, times=1):
+        """By how much one of these takes longer than another so many times."""
+        return spread(divided(divided(it.get(one), it.get(other)), times) for it in self.signed)
 
     def run(self, subject, blocks, prefixes, what):
         return self.runs.get((subject, blocks, prefixes), {}).get(what)
@@ -88,6 +124,17 @@ class Results:
     def is_rough(self):
         """Whether other work may have disturbed the times."""
         return self.times["others"] > ROUGH
+
+
+# What was measured beside openssl, by its name and its bits.
+CHECK, MANY = ("check-roa", 1), ("many", 1)
+
+
+def nanoseconds(it):
+    """What was measured once beside openssl, by name."""
+    found = {(row["work"], row["count"]): row["processor"] for row in it["libraries"]}
+    found |= {("openssl", int(bits)): each and each * 1e3 for bits, each in it["openssl"].items()}
+    return {**found, MANY: it["many"] and it["many"] * 1e6}
 
 
 def twice(number):
@@ -110,6 +157,14 @@ def time(nanoseconds):
     return "" if nanoseconds is None else chart.unit(nanoseconds * 1e-9)
 
 
+def spread_of(found, form):
+    """The middle one of a spread, and how far apart the others are, where that is much."""
+    if not found:
+        return ""
+    apart = f" ({form(found.least)} to {form(found.most)})" if found.is_wide() else ""
+    return form(found.middle) + apart
+
+
 def table(head, rows):
     lines = ["| " + " | ".join(map(str, line)) + " |" for line in (head, *rows)]
     return "\n".join([lines[0], "|---" * len(head) + "|", *lines[1:]])
@@ -121,13 +176,19 @@ def machine(it):
     if not it.times:
         return "No times were measured."
     about, others = it.times["machine"], it.times["others"]
-    more = statistics.median(
-        row["clock"] / row["processor"] for row in it.times["libraries"] if row["processor"])
+    rows = it.times["libraries"] + [row for one in it.times["signed"] for row in one["libraries"]]
+    more = statistics.median(row["clock"] / row["processor"] for row in rows)
+    sound, dropped = (sum(row[what] for row in rows) for what in ("sound", "dropped"))
+    few = sorted({f"`{row['work']}` of {row['count']:,} by {row['by']}" for row in rows
+                  if row["sound"] < LEAST})
     client = f", `rpki-client` {about['client']}" if about["client"] else ""
     text = (f"Measured on {about['date']} on {about['processors']} processors "
             f"({about['processor']}), with `rustc` {about['rust']}, OpenSSL {about['openssl']}"
             f"{client}. Times of libraries are those of the processor; by the clock the middle one "
-            f"was {100 * (more - 1):.1f} % more.")
+            f"was {100 * (more - 1):.1f} % more. Of 1,000 measurements "
+            f"{1000 * dropped / (sound + dropped):.1f} were not sound and were dropped.")
+    if few:
+        text += f" **Too few measurements were sound of {', '.join(few)}.**"
     taken = f"other work took {others:.2f} of the {about['processors']} processors meanwhile"
     if it.is_rough():
         text += f" **Times are rough, those by the clock above all: {taken}.**"
@@ -143,7 +204,8 @@ def machine(it):
 
 
 class Compared(typing.NamedTuple):
-    """What is compared with what, of which size, the factors, and what is wanted at most."""
+    """What is compared with what, of which size, the factors, and what is wanted at most; how far
+    apart the factors in time are where there are several; and the factors of few entries."""
 
     what: str
     size: str
@@ -151,6 +213,8 @@ class Compared(typing.NamedTuple):
     times: float | None
     counted: float | None
     wanted: float | None
+    spread: Spread | None = None
+    of_few: tuple = ()
 
     def by(self):
         """The factor that tells its place: that in instructions where no time was measured."""
@@ -164,6 +228,11 @@ class Compared(typing.NamedTuple):
                   if number is not None and number > self.wanted]
         is_whole = len(missed) == sum(it is not None for it in (self.times, self.counted))
         return "met" if not missed else "missed" + ("" if is_whole else f" in {missed[0]}")
+
+    def cells(self):
+        times = spread_of(self.spread, factor) if self.spread else factor(self.times)
+        return [self.what, self.size, self.peer, times, factor(self.counted),
+                said(self.wanted, "g"), self.goal(), ", ".join(map(factor, self.of_few))]
 
 
 def compared(it):
@@ -179,8 +248,10 @@ def compared(it):
 
 
 def beside_plain(it, work, what, count, size):
-    return Compared(what, size, "plain Rust", it.factor(work, count, "processor"),
-                    it.factor(work, count, "instructions"), WANTED[work])
+    times, counted = (it.factor(work, count, kind) for kind in ("processor", "instructions"))
+    of_few = [it.factor(work, FEW, kind) for kind in ("processor", "instructions")]
+    return Compared(what, size, "plain Rust", times, counted, WANTED[work],
+                    of_few=tuple(number for number in of_few if number))
 
 
 def compared_programs(it):
@@ -193,41 +264,84 @@ def compared_programs(it):
 
 
 def compared_checks(it):
-    for bits in it.counts("verdict"):
-        ours, theirs = it.value("verdict", "library", bits), it.openssl(bits)
+    for bits in BITS:
+        found = it.factor_of_signed(("verdict", bits), ("openssl", bits))
         yield Compared("a verdict on a signature", f"{bits} bits", "`openssl`",
-                       divided(ours, theirs), None, OF_OPENSSL)
-    ours, two = it.value("check-roa", "library", 1), it.value("verdict", "library", 2048)
-    what = "checking a ROA, its CA at hand"
-    yield Compared(what, "2 prefixes", "its two verdicts", divided(ours, twice(two)),
-                   of_verdicts(it), OF_VERDICTS)
-    yield Compared(what, "2 prefixes", "the same two by `openssl`",
-                   divided(ours, twice(it.openssl(2048))), None, None)
+                       middle(found), None, OF_OPENSSL, found)
+    what, verdict = "checking a ROA, its CA at hand", ("verdict", 2048)
+    found = it.factor_of_signed(CHECK, verdict, 2)
+    ours = it.value("check-roa", "library", 1, "instructions")
+    yield Compared(what, "2 prefixes", "its two verdicts", middle(found), of_verdicts(it, ours),
+                   OF_VERDICTS, found)
+    found = it.factor_of_signed(CHECK, ("openssl", 2048), 2)
+    yield Compared(what, "2 prefixes", "the same two by `openssl`", middle(found), None, None,
+                   found)
+    found = it.factor_of_signed(MANY, verdict, 2)
     yield Compared("checking each further ROA in one run of `rpki_verify check`", "2 prefixes",
-                   "its two verdicts", *of_many(it), OF_VERDICTS)
+                   "its two verdicts", middle(found), of_verdicts(it, it.counted.get("many")),
+                   OF_VERDICTS, found)
 
 
-def of_verdicts(it):
-    two = it.value("verdict", "library", 2048, "instructions")
-    return divided(it.value("check-roa", "library", 1, "instructions"), twice(two))
+def of_verdicts(it, instructions):
+    """The factor of these instructions to those of two verdicts."""
+    return divided(instructions, twice(it.value("verdict", "library", 2048, "instructions")))
 
 
-def of_many(it):
-    """The factors in time and in instructions of each further ROA of a run to its two verdicts."""
-    # (milliseconds)
-    times = it.times.get("many") and it.times["many"] * 1e6
-    return [divided(one, twice(it.value("verdict", "library", 2048, what)))
-            for one, what in ((times, "processor"), (it.counted.get("many"), "instructions"))]
+def compared_growth(it):
+    """What more entries cost: of lists an entry, of sets all blocks."""
+    for work, (what, entries) in READ.items():
+        counts = it.counts(work)
+        # (beside code that keeps nothing, this project does the same)
+        if work != "aspa-in-one-pass" and TYPICAL in counts and counts[-1] > TYPICAL:
+            times, counted = (
+                divided(it.grown(work, counts[-1], TYPICAL, kind), counts[-1] / TYPICAL)
+                for kind in ("processor", "instructions"))
+            yield Grown(what, f"{TYPICAL:,} to {counts[-1]:,} {entries}", times, counted,
+                        "an entry", OF_FEWER, False)
+    for work in "as-build", "ip-build":
+        counts = [count for count in it.counts(work) if count >= 10_000]
+        for fewer, count in zip(counts, counts[1:]):
+            yield Grown(SETS[work], f"{fewer:,} to {count:,} blocks",
+                        it.grown(work, count, fewer, "processor"),
+                        it.grown(work, count, fewer, "instructions"), "the whole", OF_TENTH, True)
+
+
+class Grown(typing.NamedTuple):
+    """What grows, from which size to which, the factors of its cost, of what that is the cost, and
+    what is wanted at most, of the instructions alone or of the time too."""
+
+    what: str
+    size: str
+    times: float | None
+    counted: float | None
+    cost: str
+    wanted: float
+    is_timed: bool
+
+    def goal(self):
+        return Compared(self.what, self.size, self.cost, self.times if self.is_timed else None,
+                        self.counted, self.wanted).goal()
+
+    def named(self):
+        """The words for it among the causes."""
+        return f"growth: {self.what}"
 
 
 def sorted_by(it, is_slower):
     """What is compared and takes longer, or does not, the slowest first."""
     rows = sorted((row for row in compared(it) if row.by() is not None), key=Compared.by,
                   reverse=True)
-    head = ["what", "of", "beside", "factor in time", "factor in instructions", "wanted", "goal"]
+    head = ["what", "of", "beside", "factor in time", "factor in instructions", "wanted", "goal",
+            f"both of {FEW} entries"]
+    return table(head, [row.cells() for row in rows if (row.by() > 1.05) == is_slower])
+
+
+def grown(it):
+    head = ["what", "from", "of", "factor in time", "factor in instructions", "wanted", "goal"]
     return table(head, [
-        [row.what, row.size, row.peer, factor(row.times), factor(row.counted),
-         said(row.wanted, "g"), row.goal()] for row in rows if (row.by() > 1.05) == is_slower])
+        [row.what, row.size, row.cost, factor(row.times), factor(row.counted),
+         f"{row.wanted:g}" + ("" if row.is_timed else " in instructions"), row.goal()]
+        for row in compared_growth(it)])
 
 
 def programs(it):
@@ -268,9 +382,9 @@ def memory(it):
     head = ["what", "entries", "this project", "plain Rust", "`bcder`"]
     rows = []
     for work, (what, entries) in READ.items():
-        most = it.counts(work)[-1]
-        found = [it.value(work, by, most, "memory") for by in BY]
-        rows.append([what, f"{most:,} {entries}", *(said(one, ",.0f") for one in found)])
+        for most in it.counts(work)[-1:]:
+            found = [it.value(work, by, most, "memory") for by in BY]
+            rows.append([what, f"{most:,} {entries}", *(said(one, ",.0f") for one in found)])
     return table(head, rows)
 
 
@@ -287,14 +401,17 @@ def single(it):
 
 def signatures(it):
     rows = []
-    for bits in it.counts("verdict"):
-        ours, theirs = it.value("verdict", "library", bits), it.openssl(bits)
-        rows.append([f"a verdict, {bits} bits", time(ours), time(theirs),
-                     factor(divided(ours, theirs)),
+    for bits in BITS:
+        ours, theirs = ("verdict", bits), ("openssl", bits)
+        rows.append([f"a verdict, {bits} bits", spread_of(it.of_signed(ours), time),
+                     spread_of(it.of_signed(theirs), time),
+                     spread_of(it.factor_of_signed(ours, theirs), factor),
                      said(it.value("verdict", "library", bits, "instructions"), ",.0f")])
-    ours, theirs = it.value("check-roa", "library", 1), twice(it.openssl(2048))
-    rows.append(["a check of a ROA of two prefixes with two verdicts, 2048 bits", time(ours),
-                 f"{time(theirs)} (the verdicts)" if theirs else "", factor(divided(ours, theirs)),
+    theirs = it.of_signed(("openssl", 2048))
+    two = theirs and f"{time(twice(theirs.middle))} (the verdicts)"
+    rows.append(["a check of a ROA of two prefixes with two verdicts, 2048 bits",
+                 spread_of(it.of_signed(CHECK), time), two or "",
+                 spread_of(it.factor_of_signed(CHECK, ("openssl", 2048), 2), factor),
                  said(it.value("check-roa", "library", 1, "instructions"), ",.0f")])
     return table(["what", "this project", "`openssl`", "factor", "instructions"], rows)
 
@@ -317,7 +434,7 @@ def four(it):
     if not it.times:
         return ""
     run = [it.run(subject, 2, MOST, "processor") for subject in ("rpki_verify", "rpki-client")]
-    verdict = it.value("verdict", "library", 2048), it.openssl(2048)
+    verdict = [middle(it.of_signed((who, 2048))) for who in ("verdict", "openssl")]
     read = [it.value("roa", by, TYPICAL) for by in ("library", "plain")]
     valid = [it.value("validate", by, 1) for by in ("library", "plain")]
     client = f"`rpki-client -f` {it.times['machine']['client']}"
@@ -377,11 +494,13 @@ def first_cells(text, heading):
 
 def unexplained(it, text):
     """Goals that were missed and have no cause, and goals with a cause that were not missed."""
-    missed = {row.what for row in compared(it) if row.goal().startswith("missed")}
+    goals = [(row.what, row.goal()) for row in compared(it)]
+    goals += [(row.named(), row.goal()) for row in compared_growth(it)]
+    missed = {what for what, goal in goals if goal.startswith("missed")}
     named = first_cells(text, "Goals that were missed")
     for goal in sorted(missed - named):
         yield f"was missed, and has no cause: {goal}"
-    for goal in sorted(named & {row.what for row in compared(it)} - missed):
+    for goal in sorted(named & {what for what, _ in goals} - missed):
         yield f"has a cause, and was not missed: {goal}"
 
 
@@ -402,7 +521,7 @@ def write(top, found, writes):
     parts = {
         "machine": machine(it), "slower": sorted_by(it, True), "faster": sorted_by(it, False),
         "programs": programs(it), "growth": growth(it), "memory": memory(it),
-        "single": single(it), "signatures": signatures(it), "sets": sets(it),
+        "grown": grown(it), "single": single(it), "signatures": signatures(it), "sets": sets(it),
     }
     pages = {top / "docs/BENCHMARKS.md": parts, top / "README.md": {"four": four(it)}}
     if writes:

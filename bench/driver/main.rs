@@ -2,7 +2,7 @@
 //! bench/run builds and calls it; bench/README.md says what is measured. FILES are the examples' certificates and ROA,
 //! KEYS the keys and signatures that bench/run has made.
 //!
-//! driver FILES KEYS times SECONDS               the least times of all, each measured for so many seconds
+//! driver FILES KEYS times SECONDS [WORK ..]     the times of these works, or of all, each measured for so many seconds
 //! driver FILES KEYS memory WORK BY COUNT        how much memory one of them takes
 //! driver FILES KEYS rounds WORK BY COUNT N      one of them N times, for a tool that counts instructions
 //! driver FILES KEYS agree                       tests that all answer the same of changed octets
@@ -26,6 +26,7 @@ const ENTRIES: &[u32] = &[10, 1_000, 100_000];
 const PROVIDERS: &[u32] = &[10, 1_000, 10_000];
 const BITS: &[u32] = &[2048, 3072, 4096];
 const BLOCKS: &[u32] = &[1_000, 10_000, 100_000];
+const MORE_BLOCKS: &[u32] = &[1_000, 10_000, 100_000, 1_000_000];
 
 type Run = fn(&Sample, u32) -> u64;
 
@@ -77,8 +78,8 @@ fn works() -> Vec<Work> {
         beside!("key", ONE, key, key, key),
         work("verdict", BITS, samples::signature, calls::verify),
         work("check-roa", ONE, samples::signed_roa, calls::check_roa),
-        beside!("as-build", BLOCKS, blocks, as_build, as_build),
-        beside!("ip-build", BLOCKS, blocks, ip_build, ip_build),
+        beside!("as-build", MORE_BLOCKS, blocks, as_build, as_build),
+        beside!("ip-build", MORE_BLOCKS, blocks, ip_build, ip_build),
         beside!("union", BLOCKS, blocks, union, union),
         beside!("intersection", BLOCKS, blocks, intersection, intersection),
         beside!("contains", BLOCKS, blocks, contains, contains),
@@ -125,15 +126,16 @@ fn main() {
         return launch::run(program);
     }
     let [files, keys, words @ ..] = words.as_slice() else {
-        panic!("driver FILES KEYS times SECONDS | memory .. | rounds .. | agree | list");
+        panic!("driver FILES KEYS times SECONDS .. | memory .. | rounds .. | agree | list");
     };
     let given = Given { examples: files.into(), keys: keys.into() };
     let works = works();
     match words.iter().map(String::as_str).collect::<Vec<_>>()[..] {
         ["list"] => list(&works),
-        ["times", seconds] => {
+        ["times", seconds, ref names @ ..] => {
             calls::keep_memory();
-            works.iter().for_each(|it| measure::times(&given, it, number(seconds)));
+            let is_asked = |it: &&Work| names.is_empty() || names.contains(&it.name);
+            works.iter().filter(is_asked).for_each(|it| measure::times(&given, it, number(seconds)));
         }
         ["memory", name, by, count] => {
             let (subject, sample) = named(&given, &works, [name, by, count]);

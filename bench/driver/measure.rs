@@ -3,7 +3,7 @@
 use crate::calls::{give_back, processor_time};
 use crate::samples::{Given, Maker, Sample};
 use std::hint::black_box;
-use std::time::{Duration, Instant};
+use std::time::Instant;
 
 /// Who does the work.
 #[derive(Clone, Copy, PartialEq)]
@@ -46,63 +46,82 @@ pub struct Work {
 
 /// A measurement goes over as many rounds as last so long, and twice as long as what a call does before them; or over
 /// one round that lasts longer.
-const LASTS: Duration = Duration::from_micros(30);
+const LASTS: f64 = 100e3;
 
-/// How many measurements there are at least.
-const LEAST: u32 = 3;
+/// How many sound measurements there are at least, and how often one that is not sound is taken again.
+const LEAST: usize = 3;
+const AGAIN: usize = 10;
 
-/// By the clock, and of the processor.
+/// Of a sound reading, each of the two times is at least so much of the other, but for so many nanoseconds in which the
+/// clocks are read themselves.
+const ALIKE: f64 = 0.9;
+const READING: f64 = 2e3;
+
+/// Nanoseconds by the clock, and of the processor.
 #[derive(Clone, Copy)]
-struct Times([Duration; 2]);
+struct Times([f64; 2]);
 
 impl Times {
-    const MOST: Times = Times([Duration::MAX; 2]);
-
     fn of(subject: &Subject, sample: &Sample, rounds: u32) -> Times {
         let (start, before) = (Instant::now(), processor_time());
         black_box((subject.run)(black_box(sample), rounds));
-        let used = processor_time() - before;
-        Times([start.elapsed(), used])
+        let used = processor_time().saturating_sub(before);
+        Times([start.elapsed(), used].map(|it| it.as_nanos() as f64))
     }
 
-    fn least(self, other: Times) -> Times {
-        Times([self.0[0].min(other.0[0]), self.0[1].min(other.0[1])])
+    /// Whether this thread ran all the while, and its time was counted in full. The system takes off what the host of a
+    /// virtual machine took, later than it was taken: then the processor's time of a later reading is too low, even 0.
+    fn is_sound(self) -> bool {
+        let Times([clock, processor]) = self;
+        processor >= ALIKE * clock - READING && clock >= ALIKE * processor - READING
     }
 }
 
-/// A subject and its best times so far: of what a call does before its rounds, and of a call with its rounds.
+/// A subject, and the times of a round that were measured so far.
 struct Measured<'a> {
     subject: &'a Subject,
     rounds: u32,
-    empty: Times,
-    whole: Times,
+    sound: Vec<Times>,
+    others: Vec<Times>,
 }
 
 impl<'a> Measured<'a> {
     fn new(subject: &'a Subject, sample: &Sample) -> Measured<'a> {
         // (the first call fills what is near the processor)
         Times::of(subject, sample, 1);
-        let (empty, whole) = (Times::of(subject, sample, 0), Times::of(subject, sample, 1));
-        let round = whole.0[1].saturating_sub(empty.0[1]).max(Duration::from_nanos(10));
-        let lasts = LASTS.max(2 * empty.0[1]);
-        let rounds = (lasts.as_nanos() / round.as_nanos()).clamp(1, 3_000) as u32;
-        Measured { subject, rounds, empty: Times::MOST, whole: Times::MOST }
+        let least = |rounds| (0..LEAST).map(|_| Times::of(subject, sample, rounds).0[0]).fold(f64::MAX, f64::min);
+        let (empty, one) = (least(0), least(1));
+        let rounds = (LASTS.max(2.0 * empty) / (one - empty).max(10.0)).clamp(1.0, 10e3) as u32;
+        Measured { subject, rounds, sound: Vec::new(), others: Vec::new() }
     }
 
+    /// Takes a measurement: a call without rounds and one with them, right after each other. It is taken again where
+    /// one of the readings is not sound.
     fn measure(&mut self, sample: &Sample) {
-        self.empty = self.empty.least(Times::of(self.subject, sample, 0));
-        self.whole = self.whole.least(Times::of(self.subject, sample, self.rounds));
+        for _ in 0..AGAIN {
+            let [empty, whole] = [0, self.rounds].map(|rounds| Times::of(self.subject, sample, rounds));
+            let of_round = |i: usize| (whole.0[i] - empty.0[i]) / f64::from(self.rounds);
+            let times = Times([of_round(0), of_round(1)]);
+            if empty.is_sound() && whole.is_sound() {
+                self.sound.push(times);
+                return;
+            }
+            self.others.push(times);
+        }
     }
 
-    /// The nanoseconds of a round, by the clock or of the processor.
+    /// The nanoseconds of a round, by the clock or of the processor: a quarter of the sound measurements are below
+    /// them. Where there are too few sound ones, all count.
     fn nanoseconds(&self, which: usize) -> f64 {
-        let of_rounds = self.whole.0[which].saturating_sub(self.empty.0[which]);
-        of_rounds.as_nanos() as f64 / f64::from(self.rounds)
+        let others = if self.sound.len() < LEAST { self.others.as_slice() } else { &[] };
+        let mut all: Vec<f64> = self.sound.iter().chain(others).map(|it| it.0[which]).collect();
+        all.sort_by(f64::total_cmp);
+        all[(all.len() - 1) / 4]
     }
 }
 
 /// Measures the subjects of a work in turn, so that what slows the machine for a while slows all of them, for so many
-/// seconds each, and prints the least times.
+/// seconds each. Prints the times of each, and how many measurements were sound and were not.
 pub fn times(given: &Given, work: &Work, seconds: f64) {
     for &count in work.counts {
         let sample = (work.make)(given, count);
@@ -119,8 +138,9 @@ pub fn times(given: &Given, work: &Work, seconds: f64) {
             tries += 1;
         }
         for it in &all {
-            let (clock, processor) = (it.nanoseconds(0), it.nanoseconds(1));
-            println!("{}\t{}\t{count}\t{clock:.2}\t{processor:.2}", work.name, it.subject.by.name());
+            let (by, clock, processor) = (it.subject.by.name(), it.nanoseconds(0), it.nanoseconds(1));
+            let (sound, others) = (it.sound.len(), it.others.len());
+            println!("{}\t{by}\t{count}\t{clock:.2}\t{processor:.2}\t{sound}\t{others}", work.name);
         }
     }
 }
