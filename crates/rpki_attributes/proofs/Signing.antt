@@ -1,7 +1,6 @@
 -- Attributes that are not made are not signed.
 use Rattle.std.proofs.Common.{◌≡◌, ℕ, ◌<◌, List, length, Err, refl}
 use Rattle.std.specs.List.{concat}
-use Rattle.rpki_basics.specs.declared.signing.SigningError.{SigningError}
 use Rattle.rpki_basics.specs.Signing.{CountsError}
 use Rattle.rpki_attributes.specs.declared.fault.AttrsFault.{AttrsFault}
 use Rattle.rpki_attributes.specs.declared.fault.AttrsFault.TheVariants as unmade

@@ -1,6 +1,6 @@
 -- Which files are read, and the first that can't be.
 use Rattle.std.proofs.Common.{◌≡◌, ◌+◌, ◌<◌, ℕ, List, [], ◌∷◌, ◌++◌, length, get_or, take, Option}
-use Rattle.std.proofs.Common.{Some, Result, Ok, Err, Bor, arith, subst, sym, ap, ◌∙◌}
+use Rattle.std.proofs.Common.{Result, Ok, Err, Bor, arith, subst, sym, ap, ◌∙◌}
 use Rattle.std.proofs.lemmas.List.{append_assoc, length-map, get_or-map, take_more}
 use Rattle.rpki_cli.specs.Store.{Told, Names, IsRead, AreReadTo, IsFirstUnreadable, AreSomeRead}
 use Rattle.rpki_cli.specs.Store.{NoneIsUnreadable}

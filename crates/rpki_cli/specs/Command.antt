@@ -1,6 +1,6 @@
 -- What a program answers to its words, and what a run of it does. What `old` and `new` are is said
 -- with `Names` (specs/Store.antt).
-use Rattle.std.specs.Prelude.{◌≡◌, ℕ, ◌⊎◌, List, [], ◌∷◌, ◌++◌, take, map, None, Some, Result, Ok}
+use Rattle.std.specs.Prelude.{◌≡◌, ℕ, ◌⊎◌, List, [], ◌∷◌, ◌++◌, take, map, Some, Result, Ok}
 use Rattle.std.specs.Prelude.{Err, Vec}
 use Rattle.std.specs.declared.alloc.Global.{Global}
 use Rattle.rpki_cli.specs.Answer.{Run, Output, IsSaid, unreadable, out_of_memory, shown}

@@ -1,5 +1,5 @@
 -- What a check answers, where nobody asks whether a certificate was revoked.
-use Rattle.std.proofs.Common.{◌≡◌, ◌≤◌, ℕ, List, [], ◌∷◌, Result, Ok, Err, Vec, Global, inl, inr}
+use Rattle.std.proofs.Common.{◌≡◌, ◌≤◌, ℕ, List, [], ◌∷◌, Result, Ok, Err, inl, inr}
 use Rattle.std.proofs.Common.{subst, sym, arith, length, get_or, take, drop, ◌-◌}
 use Rattle.std.proofs.lemmas.List.{take_rest}
 use Rattle.std.specs.Prelude.{◌⊎◌}

@@ -1,7 +1,7 @@
 //! That what a certificate says can be written: what its types promise, as functions that do
 //! nothing.
 
-ghost use Rattle.std.specs.Prelude.{◌≡◌, ◌<◌, ◌^◌, length, IfSome, All, false};
+ghost use Rattle.std.specs.Prelude.{◌≡◌, ◌<◌, length, IfSome, All, false};
 ghost use Rattle.rpki_resources.specs.declared.family.AddressFamily.TheVariants.{Ipv4, Ipv6};
 ghost use Rattle.rpki_resources.specs.Family.{IsWithin};
 ghost use Rattle.rpki_basics.specs.Uri.{IsRsync, IsHttps};

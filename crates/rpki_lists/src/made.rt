@@ -1,6 +1,6 @@
 //! Lists of entries that are made of values: what these are written as, and the list of it.
 
-ghost use Rattle.std.specs.Prelude.{◌≡◌, [], IfOk, IfErr, OnOk};
+ghost use Rattle.std.specs.Prelude.{◌≡◌, [], IfOk, IfErr};
 ghost use Rattle.rpki_der.specs.Write.Encode.{Fits};
 ghost use Rattle.rpki_lists.specs.Entries.{HoldEntries, entries_of};
 ghost use Rattle.rpki_lists.specs.Built.{IsNotBuilt};

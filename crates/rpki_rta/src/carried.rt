@@ -1,6 +1,6 @@
 //! Certificates and revocation lists that an attestation carries, as handles.
 
-ghost use Rattle.std.specs.Prelude.{◌≡◌, ◌↔◌, IsTrue, IfOk, None};
+ghost use Rattle.std.specs.Prelude.{◌≡◌, IfOk, None};
 ghost use Rattle.rpki_faults.specs.Checks.{AnswersFirst, AnswersFirstFault};
 ghost use Rattle.rpki_rta.specs.Carried.{IsValid, carried_checks, is_of_ca, is_self_signed};
 ghost use Rattle.rpki_rta.specs.Carried.{kind_checks};

@@ -1,7 +1,6 @@
 -- What building a signed object answers.
-use Rattle.std.proofs.Common.{◌≡◌, ℕ, ◌<◌, List, length, Option, None, Some, Result, Ok, Err}
+use Rattle.std.proofs.Common.{◌≡◌, ℕ, List, Option, None, Some, Result, Ok, Err}
 use Rattle.std.proofs.Common.{inl, inr, refl, sym, ap, subst, ◌∙◌}
-use Rattle.std.specs.List.{concat}
 use Rattle.std.specs.Prelude.{IfOk, IfErr, IfSome}
 use Rattle.sha1.specs.Sha1.{sha1}
 use Rattle.rpki_der.specs.declared.mode.Mode.TheVariants.{Der}

@@ -1,5 +1,5 @@
 -- Contents that are built and signed.
-use Rattle.std.proofs.Common.{◌≡◌, ℕ, List, [], Result, Err, inl, inr, refl, subst, sym}
+use Rattle.std.proofs.Common.{◌≡◌, ℕ, List, [], Result, Err, inl, inr, subst, sym}
 use Rattle.std.specs.Prelude.{IfErr}
 use Rattle.std.proofs.lemmas.List.{append-nil}
 use Rattle.rpki_basics.specs.declared.build.BuildError.{BuildError}

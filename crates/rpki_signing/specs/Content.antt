@@ -1,5 +1,5 @@
 -- Signed objects that are built of contents.
-use Rattle.std.specs.Prelude.{◌≡◌, ◌⊎◌, List, ◌++◌, Result, Err}
+use Rattle.std.specs.Prelude.{◌⊎◌, List}
 use Rattle.rpki_der.specs.declared.mode.Mode.{Mode}
 use Rattle.rpki_basics.specs.Moment.{Moment}
 use Rattle.rpki_basics.specs.declared.build.BuildError.{BuildError}

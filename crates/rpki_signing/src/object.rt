@@ -7,7 +7,6 @@ ghost use Rattle.rpki_der.specs.Write.Encode.{IsBytesOf};
 ghost use Rattle.rpki_attributes.specs.declared.attribute.OtherTypes.TheVariants.{Refuse};
 ghost use Rattle.rpki_attributes.specs.Attrs.{SignedAttrsForm};
 ghost use Rattle.rpki_attributes.specs.Attrs.Made.{attrs_octets};
-ghost use Rattle.rpki_certs.specs.Cert.{CertForm};
 ghost use Rattle.rpki_sigobj.specs.Object.{SignedObject as AnObject, SignedForm, id_signed_data};
 ghost use Rattle.rpki_signing.specs.Written.{IsDataToWrite, IsNotWritten};
 ghost use Rattle.rpki_signing.specs.Written.{made_object, object_contents, object_octets};

@@ -1,5 +1,5 @@
 -- Certification authorities (CAs) whose publication points are pairs of numbers.
-use Rattle.std.specs.Prelude.{ℕ, ◌==◌, ◌/◌, List, ◌∷◌, [], ◌++◌, Option, Some, None, cond}
+use Rattle.std.specs.Prelude.{ℕ, ◌==◌, ◌/◌, List, ◌∷◌, [], ◌++◌, Some, None, cond}
 use Rattle.std.specs.Prelude.{filter_map, replicate}
 
 -- the second numbers of the pairs whose first number is this

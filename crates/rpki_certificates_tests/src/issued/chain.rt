@@ -1,8 +1,7 @@
 //! A trust anchor, a CA and an end entity that are made, written, read and validated.
 
 ghost use Rattle.std.specs.Prelude.{◌≡◌, OnOk};
-ghost use Rattle.rpki_resources.specs.declared.resources.Claim.TheVariants.{Missing, Inherit};
-ghost use Rattle.rpki_issued.specs.Written.{ClaimsIpv4};
+ghost use Rattle.rpki_resources.specs.declared.resources.Claim.TheVariants.{Inherit};
 
 use super::given::{key, octets_signed, plain, rsync, start_of};
 use bytes::Bytes;

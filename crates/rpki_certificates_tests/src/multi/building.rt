@@ -2,7 +2,7 @@
 
 ghost use Rattle.std.specs.Prelude.{◌≡◌, [], IfOk};
 
-use super::octets::{AUTHORITY, BUILT, EMPTY, ENTITY, FIRST, LIST, SECOND, WHOLE};
+use super::octets::{AUTHORITY, BUILT, EMPTY, ENTITY, FIRST, LIST, WHOLE};
 use bytes::Bytes;
 use rpki_attributes::MessageDigest;
 use rpki_basics::standin::{Refused, StandInSigner};

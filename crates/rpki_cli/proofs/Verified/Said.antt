@@ -1,13 +1,13 @@
 -- One thing is said of wrong words.
-use Rattle.std.proofs.Common.{rules, ◌≡◌, ◌∙◌, ◌++◌, ℕ, List, [], ◌∷◌, true, false, sym, refl, ap}
+use Rattle.std.proofs.Common.{◌≡◌, ◌∙◌, ◌++◌, ℕ, List, [], ◌∷◌, true, false, sym, refl, ap}
 use Rattle.std.proofs.Common.{subst, codes, Option, Bool, if◌then◌else◌}
 use Rattle.rpki_cli.specs.Answer.{Output, Complained, help}
 use Rattle.rpki_cli.specs.Words.{are_named, are_plain}
-use Rattle.rpki_cli.specs.Verify.CheckSettings.{CheckValues, IsCheckOf, IsRefusal, AreOfCheck}
+use Rattle.rpki_cli.specs.Verify.CheckSettings.{CheckValues, IsCheckOf, IsRefusal}
 use Rattle.rpki_cli.specs.Verify.CheckSettings.{check_names, values_of}
 use Rattle.rpki_cli.specs.Verify.Settings.{Arranged, IsRefusedFor, flag_word, named_word}
 use Rattle.rpki_cli.specs.Verify.Requests.{object_file, IsKindOf, AreKindsOf, AreObjectsOf}
-use Rattle.rpki_cli.specs.Verify.Requests.{IsShowKind, IsShowFault, StandsAfter, HaveKinds}
+use Rattle.rpki_cli.specs.Verify.Requests.{IsShowKind, IsShowFault, StandsAfter}
 use Rattle.rpki_cli.specs.Verify.Requests.{AreOfObjects, IsObjectFault, IsFirstName}
 use Rattle.rpki_cli.specs.Verify.Requests.{IsObjectsFault, IsFilesFault, IsWrongCheck, IsWrongShow}
 use Rattle.rpki_cli.specs.Verify.Requests.{lacks_memory, wrong_said, wrong_text, SaysWrong}

@@ -14,7 +14,6 @@ use Rattle.rpki_cli.specs.Verify.Requests.{IsWrongCheck, IsWrongShow, SaysWrong,
 use Rattle.rpki_cli.specs.declared.words.Options.{Options}
 use Rattle.rpki_cli.specs.declared.verify.kinds_by_name.FileKind.{FileKind}
 use Rattle.rpki_cli.specs.declared.verify.requests.CheckRequest.{CheckRequest}
-use Rattle.rpki_cli.specs.declared.verify.requests.CheckedKind.{CheckedKind}
 use Rattle.rpki_cli.specs.declared.verify.requests.ShowRequest.{ShowRequest}
 use Rattle.rpki_cli.specs.declared.verify.requests.WrongWords.{WrongWords}
 use Rattle.rpki_command.specs.Verify.Command.{check_request_task, show_request_task}

@@ -1,5 +1,5 @@
 -- The files of a check, cut from all of them.
-use Rattle.std.proofs.Common.{◌≡◌, ◌∙◌, ℕ, List, ◌∷◌, Result, Option, refl, ap, sym}
+use Rattle.std.proofs.Common.{◌≡◌, ◌∙◌, ℕ, List, ◌∷◌, Result, Option, refl, ap}
 use Rattle.std.proofs.Common.{subst, length, drop, take, get_or, ◌-◌, ◌≤◌}
 use Rattle.std.proofs.lemmas.List.{take_rest}
 use Rattle.std.specs.List.{zip}

@@ -1,6 +1,6 @@
 -- What a yes to a check of several files means, from what is said.
 use Rattle.std.proofs.Common.{◌≡◌, ◌∙◌, ℕ, List, [], ◌∷◌, All, Bool, true, false, Result, Ok, Err}
-use Rattle.std.proofs.Common.{Option, refl, ap, sym, subst, inl, inr, ◌++◌, rules}
+use Rattle.std.proofs.Common.{Option, refl, ap, sym, subst, inl, inr, ◌++◌}
 use Rattle.std.specs.Prelude.{◌⊎◌}
 use Rattle.std.proofs.lemmas.Bool.{eqb-true}
 use Rattle.std.proofs.lemmas.List.Elements.{All-nil, All-cons, All-head}

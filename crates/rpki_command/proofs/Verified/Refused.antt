@@ -28,7 +28,7 @@ use Rattle.rpki_sigobj.specs.Verify.{Digester}
 use Rattle.rpki_sigobj.specs.Signed.Good.{IsGood, IsNotGood}
 use Rattle.rpki_sigobj.specs.Signed.Kind as signed
 use Rattle.rpki_sigobj.specs.Signed.{Whole, ObjectForm, cert_in}
-use Rattle.rpki_cli.specs.Answer.{Output, Printed, out_of_memory, bad_locator, shown}
+use Rattle.rpki_cli.specs.Answer.{Output, Printed, out_of_memory, bad_locator}
 use Rattle.rpki_cli.specs.Refusal.{IsRefusal}
 use Rattle.rpki_cli.specs.Words.{kind_word}
 use Rattle.rpki_cli.specs.declared.causes.Causes.TheVariants.{Included}

@@ -15,7 +15,6 @@ use Rattle.rpki_cli.specs.declared.verify.words.VerifyCommand.TheVariants.{Verdi
 use Rattle.rpki_cli.specs.declared.verify.words.VerifyCommand.TheVariants.{RtaVerdicts, Payloads}
 use Rattle.rpki_cli.specs.declared.verify.words.VerifyCommand.TheVariants.{ShowIssued, Version}
 use Rattle.rpki_cli.specs.declared.verify.words.VerifyCommand.TheVariants.{CheckEach, ShowEach}
-use Rattle.rpki_command.specs.Verify.Check.{VerifiedOf, VerifiedWalkOf, VerifiedRtaOf}
 use Rattle.rpki_command.specs.Verify.Checks.{CheckedOf}
 use Rattle.rpki_command.specs.Verify.Command.{check_task, verify_task, PartySays}
 use Rattle.rpki_command.proofs.Settled.{settled as shared-settled}

@@ -14,7 +14,7 @@ ghost use Rattle.rpki_cli.specs.Verify.Requests.{asked_check, asked_show};
 ghost use Rattle.rpki_command.specs.Verify.Checks.{CheckedOf};
 ghost use Rattle.rpki_command.specs.Verify.Command.{verify_program, check_task, IssuedLines};
 ghost use Rattle.rpki_command.specs.Verify.Command.{check_each_task, show_each_task};
-ghost use Rattle.rpki_command.specs.Verify.Command.{check_request_task, show_request_task};
+ghost use Rattle.rpki_command.specs.Verify.Command.{check_request_task};
 ghost use Rattle.rpki_command.specs.Verify.Shows.{ShownOf};
 
 use crate::program::answer_order;

@@ -1,7 +1,7 @@
 //! Revocation lists that are given beside objects: which of them count, and what they revoke. One
 //! counts where it states the identifier of the issuer's key, and that key signed it.
 
-ghost use Rattle.std.specs.Prelude.{◌≡◌, ◌↔◌, IsTrue, MatchOption, map};
+ghost use Rattle.std.specs.Prelude.{◌↔◌, IsTrue, MatchOption, map};
 ghost use Rattle.std.specs.List.{zip};
 ghost use Rattle.rpki_der.specs.declared.mode.Mode.TheVariants.{Der};
 ghost use Rattle.rpki_der.specs.Form.Decodes.{Decodes};

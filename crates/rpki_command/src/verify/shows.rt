@@ -1,6 +1,6 @@
 //! What is said of files that are shown, each by its kind.
 
-ghost use Rattle.std.specs.Prelude.{◌≡◌, ◌≤◌, length};
+ghost use Rattle.std.specs.Prelude.{◌≤◌, length};
 ghost use Rattle.rpki_cli.specs.Answer.{said};
 ghost use Rattle.rpki_cli.specs.Shown.{IsShown};
 ghost use Rattle.rpki_cli.specs.Verify.Requests.{asked_show};

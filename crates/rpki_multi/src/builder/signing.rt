@@ -2,8 +2,7 @@
 
 ghost use Rattle.std.specs.Prelude.{◌≡◌, ◌↔◌, ℕ, List, IfErr, IfOk, length};
 ghost use Rattle.sha1.specs.Sha1.{sha1};
-ghost use Rattle.rpki_der.specs.declared.mode.Mode.TheVariants.{Der};
-ghost use Rattle.rpki_attributes.specs.Attrs.Made.{AreMade, attributes_of, message_of};
+ghost use Rattle.rpki_attributes.specs.Attrs.Made.{attributes_of, message_of};
 ghost use Rattle.rpki_attributes.specs.Signing.{AreNotSigned};
 ghost use Rattle.rpki_basics.specs.Identifier.{identifier_length};
 ghost use Rattle.rpki_basics.specs.Signing.{CountsError};

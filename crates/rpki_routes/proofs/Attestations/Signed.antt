@@ -11,7 +11,7 @@ use Rattle.rpki_faults.specs.declared.validation.ValidationError.TheVariants.{Ve
 use Rattle.rpki_faults.specs.Validated.{IsValidated}
 use Rattle.rpki_faults.proofs.Order.{hold-join, hold-shown}
 use Rattle.rpki_resources.specs.declared.block.Block.{Block}
-use Rattle.rpki_resources.specs.declared.resources.Claim.TheVariants.{Missing, Explicit}
+use Rattle.rpki_resources.specs.declared.resources.Claim.TheVariants.{Explicit}
 use Rattle.rpki_resources.specs.As.Form.{only}
 use Rattle.rpki_resources.specs.Blocks.{Covers}
 use Rattle.rpki_extensions.specs.declared.claims.Claims.{Claims}

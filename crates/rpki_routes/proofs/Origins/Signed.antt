@@ -1,5 +1,5 @@
 -- ROAs that are built and signed.
-use Rattle.std.proofs.Common.{◌≡◌, ◌≢◌, ℕ, ◌<◌, ◌^◌, List, [], ◌∷◌, length, All, inl, inr, refl}
+use Rattle.std.proofs.Common.{◌≡◌, ℕ, ◌<◌, ◌^◌, List, [], ◌∷◌, length, All, inl, inr, refl}
 use Rattle.std.proofs.Common.{true, false, ◌⊎◌, ap, subst, sym, ◌∙◌}
 use Rattle.std.proofs.lemmas.Bool.{or_cases, or_left}
 use Rattle.std.proofs.lemmas.List.Elements.{All-head, All-tail}
@@ -21,12 +21,11 @@ use Rattle.rpki_resources.specs.declared.resources.Claim.TheVariants.{Missing, I
 use Rattle.rpki_resources.specs.Blocks.{Holds, holds, within}
 use Rattle.rpki_resources.specs.Claim.{HasBlocks, claim_of}
 use Rattle.rpki_resources.specs.Family.{IsWithin}
-use Rattle.rpki_certs.specs.Cert.{Tbs, Certificate}
+use Rattle.rpki_certs.specs.Cert.{Certificate}
 use Rattle.rpki_certs.specs.Inspect.{NamesNothing}
 use Rattle.rpki_certs.specs.Validate.{AreValidated, IsResourceCert, IsValidatedUnder, Validated}
 use Rattle.rpki_certs.specs.Verify.{Verdict}
 use Rattle.rpki_extensions.specs.declared.claims.Claims.{Claims}
-use Rattle.rpki_issued.specs.Tbs.{tbs_of}
 use Rattle.rpki_issued.specs.Written.{ClaimsIpv4, OfNumbers}
 use Rattle.rpki_lists.specs.Built.{IsNotBuilt}
 use Rattle.rpki_sigobj.specs.Object.{SignedData}
@@ -34,10 +33,10 @@ use Rattle.rpki_sigobj.specs.Signed.Good.{IsGood}
 use Rattle.rpki_sigobj.specs.Signed.{Whole, cert_in}
 use Rattle.rpki_sigobj.specs.Validate.{object_validation}
 use Rattle.rpki_sigobj.specs.Verify.{Digester}
-use Rattle.rpki_signing.specs.Built.{Settings, IsBuilt, IsFit, claims_of, unsigned_of}
+use Rattle.rpki_signing.specs.Built.{Settings, IsBuilt, IsFit, claims_of}
 use Rattle.rpki_signing.specs.Built.{NamesInDer}
 use Rattle.rpki_signing.specs.Built.{IsNotBuilt as IsUnsigned}
-use Rattle.rpki_signing.specs.Content.{IsNotSigned, Passes, signing_error}
+use Rattle.rpki_signing.specs.Content.{Passes, signing_error}
 use Rattle.rpki_signing.proofs.Contents.{content-unsigned, object-unsigned}
 use Rattle.rpki_signing.proofs.Valid.{built-valid}
 use Rattle.rpki_routes.specs.Roa.{Address, Roa, IsAddress, IsRoa}

@@ -19,7 +19,7 @@ use crate::roa::RouteOriginAttestation;
 use crate::roa::address::RoaIpAddress;
 pub use addresses::{RoaIpAddressesBuilder, RoaIpAddressesEncoder};
 use rpki_basics::{BuildError, BuildFault};
-use rpki_der::{Encode, EncodeError};
+use rpki_der::Encode;
 use rpki_resources::{AddressFamily, Asn};
 use std::alloc::{AllocError, Global};
 use std::marker::Model;

@@ -1,6 +1,5 @@
 //! Arrays of JSON, from iterators.
 
-ghost use Rattle.std.specs.Prelude.{List};
 ghost use Rattle.rpki_json.specs.Grammar.{Json};
 ghost use Rattle.rpki_json.specs.Grows.{AppendsItem, Grows};
 ghost use Rattle.rpki_json.specs.Members.{array_member, further_text};

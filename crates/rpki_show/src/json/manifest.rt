@@ -5,7 +5,6 @@ ghost use Rattle.std.specs.List.{flat_map};
 ghost use Rattle.rpki_json.specs.Grows.{Grows};
 ghost use Rattle.rpki_json.specs.Members.{further_text, array_member};
 ghost use Rattle.rpki_json.specs.Text.{json_text};
-ghost use Rattle.rpki_files.specs.File.{File};
 ghost use Rattle.rpki_show.specs.Json.Manifest.{manifest_members, file_value};
 ghost use Rattle.rpki_show.specs.Json.Named.{serial_member, moment_member};
 

@@ -19,7 +19,7 @@ ghost use Rattle.rpki_tagged.specs.Lent.{LendsKeys, LendsNumbers, LendsV4, Lends
 use crate::attestation::ResourceTaggedAttestation;
 use rpki_attributes::MessageDigest;
 use rpki_basics::{BuildError, BuildFault, DigestAlgorithm, KeyIdentifier};
-use rpki_der::{Encode, EncodeError};
+use rpki_der::Encode;
 use rpki_lists::named::encoder::is_empty_set;
 use rpki_resources::{AsBlock, AsBlocksBuilder, Blocks, IpBlock, IpBlocksBuilder, Number};
 use std::alloc::{AllocError, Global};

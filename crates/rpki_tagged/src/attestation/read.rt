@@ -1,6 +1,5 @@
 //! Reading a content.
 
-ghost use Rattle.std.specs.Prelude.{◌≡◌};
 ghost use Rattle.rpki_der.specs.declared.mode.Mode.TheVariants.{Der};
 ghost use Rattle.rpki_der.specs.Read.Parse.{optional};
 ghost use Rattle.rpki_der.specs.Read.Reads.{Found, Reads, Stays};

@@ -12,7 +12,6 @@ ghost use Rattle.rpki_sigobj.specs.Signed.{ObjectForm, whole_of};
 ghost use Rattle.rpki_signing.specs.Built.{AreSignatures, IsBuilt, NamesInDer};
 ghost use Rattle.rpki_signing.specs.Built.{IsNotBuilt as IsUnsigned};
 ghost use Rattle.rpki_signing.specs.Written.{made_object};
-ghost use Rattle.rpki_routes.specs.Aspa.{IsAttestation};
 ghost use Rattle.rpki_routes.specs.Aspa.Checks.{ct_aspa};
 ghost use Rattle.rpki_routes.specs.Aspa.Form.{AspaForm};
 ghost use Rattle.rpki_routes.specs.Aspa.Signed.{IsBuiltAspa, IsNotBuiltAspa, claiming};

@@ -1,4 +1,4 @@
-use Rattle.std.proofs.Common.{List, ap, map, subst}
+use Rattle.std.proofs.Common.{List, map, subst}
 use Rattle.std.proofs.lemmas.List.{take_all}
 use Rattle.std.proofs.lemmas.List.Elements.{All-more, All-map}
 use Rattle.rpki_certs.specs.Cert.{Certificate, KeptCertificate}
