@@ -60,7 +60,7 @@ use Rattle.rpki_command.specs.declared.verify.issuers.NoIssuer.{NoIssuer}
 use Rattle.rpki_command.specs.declared.verify.issuers.NotLocator.{NotLocator}
 use Rattle.rpki_command.specs.declared.verify.revoked.NotLists.{NotLists}
 use Rattle.rpki_command.specs.declared.verify.revoked.NotLists.TheVariants as listing
-use Rattle.rpki_command.proofs.Right.{of-row, other-status, one, three}
+use Rattle.rpki_command.proofs.Right.{of-row, other-status, three}
 use Rattle.rpki_command.proofs.Verified.Good.{alone-under, each-good, json-good, no-issuer-said}
 use Rattle.rpki_command.proofs.Verified.Issuing.{make-more, no-cut, unlisted-issuer}
 use Rattle.rpki_command.proofs.Verified.Refused.{IsNo, any-here, any-later, each-refused}
