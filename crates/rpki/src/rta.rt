@@ -17,5 +17,5 @@ pub mod laws {
         end_after_supplies, made_signers_match, no_is_right, refused_supply_is_right,
         yes_after_supplies, yes_is_granted,
     };
-    pub use rpki_tagged::laws::attestations;
+    pub use rpki_tagged::laws::{attestations, octets_after_a_tagged_attestation_are_left};
 }

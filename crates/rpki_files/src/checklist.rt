@@ -1,5 +1,6 @@
 //! Contents of signed checklists (RFC 9323, section 4).
 
+mod checked;
 mod checks;
 mod encoder;
 mod object;
@@ -14,10 +15,10 @@ ghost use Rattle.rpki_resources.specs.declared.family.AddressFamily.TheVariants.
 ghost use Rattle.rpki_resources.specs.Family.{IsWithin};
 ghost use Rattle.rpki_files.specs.Checklist.{ChecklistForm, checklist_at, checklist_contents};
 ghost use Rattle.rpki_files.specs.Checklist.{checklist_octets};
-ghost use Rattle.rpki_files.specs.Checked.{IsNamed};
+ghost use Rattle.rpki_files.specs.Checklist.Checked.{IsNamed};
 
-use crate::checked::{CheckListIter, CheckedFiles};
 use bytes::Bytes;
+pub use checked::{CheckListIter, CheckedEntry, CheckedFiles, FileNameAndHash};
 pub use encoder::ChecklistEncoder;
 pub use object::{InspectResources, Rsc};
 use read::{read_front, take_checklist};

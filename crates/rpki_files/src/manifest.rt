@@ -2,8 +2,12 @@
 
 mod builder;
 mod encoder;
+mod file;
+mod files;
+mod hash;
 mod object;
 mod read;
+mod uris;
 
 ghost use Rattle.std.specs.Prelude.{◌≡◌, ◌↔◌, ◌<◌, ◌≤◌, ◌^◌, ◌++◌, ℕ, List, All, Some, length};
 ghost use Rattle.std.specs.Prelude.{IsTrue, nat_lt};
@@ -15,14 +19,16 @@ ghost use Rattle.rpki_der.specs.Read.Reads.{Reads, Stays};
 ghost use Rattle.rpki_der.specs.Form.Decodes.{Decodes, DecodesNext};
 ghost use Rattle.rpki_files.specs.Manifest.{ManifestForm, manifest_at, manifest_contents};
 ghost use Rattle.rpki_files.specs.Manifest.{manifest_octets};
-ghost use Rattle.rpki_files.specs.File.{MeetsRule, name_of};
+ghost use Rattle.rpki_files.specs.Manifest.File.{MeetsRule, name_of};
 ghost use Rattle.rpki_files.specs.Name.{IsFileName};
-ghost use Rattle.rpki_files.specs.Uris.{uris_of};
+ghost use Rattle.rpki_files.specs.Manifest.Uris.{uris_of};
 
-use crate::files::{FileListIter, Files, files_of};
-use crate::uris::ManifestUriIter;
 use bytes::Bytes;
 pub use encoder::ManifestEncoder;
+pub use file::{FileAndHash, FileEncoder};
+use files::files_of;
+pub use files::{FileEntry, FileListIter, Files};
+pub use hash::{ManifestHash, ManifestHashMismatch};
 pub use object::{Manifest, ValidateManifest};
 use read::{read_front, take_manifest};
 use rpki_basics::{DigestAlgorithm, ManifestRule, Rsync, Serial, Time};
@@ -31,6 +37,7 @@ use rpki_der::{Constructed, DecodeError};
 use rpki_lists::EntryList;
 use std::alloc::{AllocError, Global};
 use std::marker::Model;
+pub use uris::ManifestUriIter;
 
 /// Which files a publication point holds, and until when that is said.
 #[derive(Debug, Drop)]

@@ -37,12 +37,12 @@ use std::marker::Model;
 
 // Octets of a content, and what they begin with.
 #[derive(Drop)]
-struct Said {
+struct ReadContent {
     octets: Bytes,
     content: ResourceTaggedAttestation,
 }
 
-impl Model for Said {
+impl Model for ReadContent {
     ghost use Rattle.std.specs.Prelude.{ℕ, List};
     ghost use Rattle.rpki_der.specs.declared.mode.Mode.TheVariants.{Der};
     ghost use Rattle.rpki_der.specs.Form.Made.{Begins};
@@ -60,7 +60,7 @@ impl Model for Said {
 /// see it as the attestation that it would make, with the mode that each part was read in.
 #[derive(Drop)]
 pub struct RtaBuilder {
-    said: Said,
+    said: ReadContent,
     certs: Vec<Cert>,
     crls: Vec<Crl>,
     signers: Vec<SignerInfo>,
@@ -106,7 +106,7 @@ impl RtaBuilder {
                     Err(EncodeError::Memory)
                 }
                 Ok(octets) => Ok(RtaBuilder {
-                    said: Said { octets, content },
+                    said: ReadContent { octets, content },
                     certs: Vec::new(alloc),
                     crls: Vec::new(alloc),
                     signers: Vec::new(alloc),
@@ -129,7 +129,7 @@ impl RtaBuilder {
             signers,
         } = signed.into_parts();
         RtaBuilder {
-            said: Said { octets, content },
+            said: ReadContent { octets, content },
             certs,
             crls,
             signers,
@@ -279,7 +279,7 @@ impl RtaBuilder {
             crls,
             signers,
         } = self;
-        let Said { octets, content } = said;
+        let ReadContent { octets, content } = said;
         let parts = Parts {
             mode: Mode::Der,
             content: octets,

@@ -15,7 +15,7 @@ use Rattle.rpki_basics.specs.declared.limits.ManifestRule.TheVariants.{Any}
 use Rattle.rpki_certs.specs.Validate.{Validated}
 use Rattle.rpki_files.specs.Manifest.{Manifest, ManifestForm}
 use Rattle.rpki_files.specs.Manifest.Checks.{manifest_kind}
-use Rattle.rpki_files.specs.Uris.{UriAndHash, uris_of}
+use Rattle.rpki_files.specs.Manifest.Uris.{UriAndHash, uris_of}
 use Rattle.rpki_sigobj.specs.Signed.{Whole, ObjectForm}
 use Rattle.rpki_tal.specs.Uri.{uri_text}
 use Rattle.rpki_tal.specs.declared.uri.TalUri.{TalUri}

@@ -4,7 +4,7 @@ use Rattle.std.proofs.Common.{subst}
 use Rattle.rpki_certs.specs.Cert.{Certificate}
 use Rattle.rpki_certs.specs.Validate.{Validated}
 use Rattle.rpki_files.specs.Manifest.{Manifest}
-use Rattle.rpki_files.specs.Uris.{uris_of}
+use Rattle.rpki_files.specs.Manifest.Uris.{uris_of}
 use Rattle.rpki_tree.specs.declared.read.PointFault.{PointFault}
 use Rattle.rpki_tree.specs.declared.read.PointFault.TheVariants as points
 use Rattle.rpki_tree.specs.Setting.{Setting}

@@ -9,7 +9,7 @@ use Rattle.rpki_certs.specs.Validate.{Validated}
 use Rattle.rpki_certs.specs.Verify.{Verdict}
 use Rattle.rpki_crls.specs.Crl.{RevocationList}
 use Rattle.rpki_files.specs.Manifest.{Manifest}
-use Rattle.rpki_files.specs.Uris.{UriAndHash, uris_of}
+use Rattle.rpki_files.specs.Manifest.Uris.{UriAndHash, uris_of}
 use Rattle.rpki_sigobj.specs.Verify.{Digester}
 use Rattle.rpki_walk.proofs.Lists.{all-of, contains-first, contains-mapped, contains-rest}
 use Rattle.rpki_tree.specs.Kind.{kind_of}

@@ -5,7 +5,7 @@ use Rattle.std.proofs.lemmas.Map.Made.{Contains-tail}
 use Rattle.std.specs.Prelude.{IfOk}
 use Rattle.std.proofs.lemmas.List.{append-nil}
 use Rattle.std.proofs.lemmas.List.Elements.{All-nil, All-push, Contains-append_right}
-use Rattle.rpki_files.specs.Uris.{UriAndHash}
+use Rattle.rpki_files.specs.Manifest.Uris.{UriAndHash}
 use Rattle.rpki_sigobj.specs.Verify.{Digester}
 use Rattle.rpki_tree.specs.Point.{FindsFile, FindsFiles, FollowsPresent, IsPresent}
 use Rattle.rpki_tree.specs.declared.point.FileFault.{FileFault}

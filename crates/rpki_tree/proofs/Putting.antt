@@ -6,7 +6,7 @@ use Rattle.std.proofs.lemmas.List.{append-nil}
 use Rattle.std.proofs.lemmas.List.Elements.{Contains-append_right}
 use Rattle.rpki_crls.specs.Crl.{RevocationList}
 use Rattle.rpki_certs.specs.Validate.{Validated}
-use Rattle.rpki_files.specs.Uris.{UriAndHash}
+use Rattle.rpki_files.specs.Manifest.Uris.{UriAndHash}
 use Rattle.rpki_walk.proofs.Lists.{contains-first}
 use Rattle.rpki_tree.specs.Setting.{Setting}
 use Rattle.rpki_tree.specs.Told.{Appends, AppendsBoth, SaysOrRefuses, FileTells, FilesTell}

@@ -1,7 +1,7 @@
 -- A CA that lacks its publication point has it refused.
 use Rattle.std.proofs.Common.{inl, inr, ℕ, List, [], refl, subst}
 use Rattle.rpki_certs.specs.Validate.{Validated}
-use Rattle.rpki_files.specs.Uris.{uris_of}
+use Rattle.rpki_files.specs.Manifest.Uris.{uris_of}
 use Rattle.rpki_tree.specs.Cause.{point_fault}
 use Rattle.rpki_tree.specs.Faults.{LacksPointAt, LacksPoint, IsMemory}
 use Rattle.rpki_tree.specs.Setting.{Setting}

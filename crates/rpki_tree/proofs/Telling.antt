@@ -5,7 +5,7 @@ use Rattle.std.specs.Prelude.{◌↔◌}
 use Rattle.std.proofs.lemmas.List.Elements.{Contains-push_cases}
 use Rattle.rpki_crls.specs.Crl.{RevocationList}
 use Rattle.rpki_certs.specs.Validate.{Validated}
-use Rattle.rpki_files.specs.Uris.{UriAndHash}
+use Rattle.rpki_files.specs.Manifest.Uris.{UriAndHash}
 use Rattle.rpki_routes.specs.Aspa.{Aspa}
 use Rattle.rpki_routes.specs.Aspa.Form.{AspaForm}
 use Rattle.rpki_routes.specs.Aspa.Checks.{aspa_kind}

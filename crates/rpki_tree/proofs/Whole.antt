@@ -6,7 +6,7 @@ use Rattle.std.proofs.lemmas.List.Elements.{Contains-append_left, Contains-appen
 use Rattle.std.proofs.lemmas.List.Elements.{Contains-append_cases}
 use Rattle.rpki_crls.specs.Crl.{RevocationList}
 use Rattle.rpki_certs.specs.Validate.{Validated}
-use Rattle.rpki_files.specs.Uris.{UriAndHash, uris_of}
+use Rattle.rpki_files.specs.Manifest.Uris.{UriAndHash, uris_of}
 use Rattle.rpki_walk.specs.Steps.{IsTold}
 use Rattle.rpki_walk.proofs.Lists.{nothing, contains-first, contains-rest}
 use Rattle.rpki_tree.specs.Cause.{Refused}

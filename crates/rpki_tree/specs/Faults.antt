@@ -14,7 +14,7 @@ use Rattle.rpki_tree.specs.Setting.{Setting, IsWithin}
 use Rattle.rpki_tree.specs.Point.{IsManifestIn, IsListOf, IsUnrevoked, Lists, ReadsList}
 use Rattle.rpki_crls.specs.Crl.{RevocationList}
 use Rattle.rpki_tree.specs.Point.{FindsFiles, IsManifestAt, IsPresent, PublishesIn, NamesManifest}
-use Rattle.rpki_files.specs.Uris.{uris_of}
+use Rattle.rpki_files.specs.Manifest.Uris.{uris_of}
 use Rattle.rpki_der.specs.declared.error.DecodeError.TheVariants as errors
 use Rattle.rpki_faults.specs.declared.validation.ValidationError.TheVariants as faults
 use Rattle.rpki_signed.specs.declared.check.CheckError.TheVariants as checks

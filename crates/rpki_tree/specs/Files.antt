@@ -5,7 +5,7 @@ use Rattle.rpki_crls.specs.Crl.{RevocationList}
 use Rattle.rpki_faults.specs.Checks.{AllHold}
 use Rattle.rpki_certs.specs.Issuer.{BeginsWithCert, in_der}
 use Rattle.rpki_certs.specs.Validate.{Validated, AreCanonical, ca_validation, IsValidatedUnder}
-use Rattle.rpki_files.specs.Uris.{UriAndHash, uris_of}
+use Rattle.rpki_files.specs.Manifest.Uris.{UriAndHash, uris_of}
 use Rattle.rpki_routes.specs.Aspa.{Aspa}
 use Rattle.rpki_routes.specs.Aspa.Form.{AspaForm}
 use Rattle.rpki_routes.specs.Aspa.Checks.{aspa_kind}

@@ -10,7 +10,7 @@ use Rattle.rpki_crls.specs.Crl.{RevocationList, CrlForm, IsSignedBy}
 use Rattle.rpki_certs.specs.Cert.{Certificate}
 use Rattle.rpki_certs.specs.Validate.{Validated}
 use Rattle.rpki_files.specs.Manifest.{Manifest, ManifestForm}
-use Rattle.rpki_files.specs.Uris.{UriAndHash, uris_of}
+use Rattle.rpki_files.specs.Manifest.Uris.{UriAndHash, uris_of}
 use Rattle.rpki_signed.specs.Check.{BeginsWith}
 use Rattle.rpki_sigobj.specs.Signed.Good.{IsGood}
 use Rattle.rpki_sigobj.specs.Signed.Kind.{ObjectKind}

@@ -2,7 +2,7 @@
 use Rattle.std.specs.Prelude.{◌≡◌, ◌⊎◌, ℕ, List, [], ◌∷◌, ◌++◌, map}
 use Rattle.rpki_crls.specs.Crl.{RevocationList}
 use Rattle.rpki_certs.specs.Validate.{Validated}
-use Rattle.rpki_files.specs.Uris.{UriAndHash, uris_of}
+use Rattle.rpki_files.specs.Manifest.Uris.{UriAndHash, uris_of}
 use Rattle.rpki_routes.specs.Aspa.{Aspa}
 use Rattle.rpki_routes.specs.Roa.{Roa}
 use Rattle.rpki_routes.specs.declared.roa.address.RouteOrigin.{RouteOrigin}

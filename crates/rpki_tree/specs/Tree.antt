@@ -6,7 +6,7 @@ use Rattle.rpki_certs.specs.Cert.{Certificate}
 use Rattle.rpki_certs.specs.Issuer.{BeginsWithCert, in_der}
 use Rattle.rpki_certs.specs.Validate.{Validated, ta_validation, IsAnchorOf as HasClaimed}
 use Rattle.rpki_files.specs.Manifest.{Manifest}
-use Rattle.rpki_files.specs.Uris.{UriAndHash, uris_of}
+use Rattle.rpki_files.specs.Manifest.Uris.{UriAndHash, uris_of}
 use Rattle.rpki_tal.specs.Tal.{Locator}
 use Rattle.rpki_tal.specs.Uri.{uri_text, https_first}
 use Rattle.rpki_tal.specs.declared.uri.TalUri.{TalUri}

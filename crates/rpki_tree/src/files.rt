@@ -1,7 +1,7 @@
 //! What the publication point of a certification authority (CA) tells.
 
 ghost use Rattle.std.specs.Prelude.{All, IfOk, MatchOption};
-ghost use Rattle.rpki_files.specs.Uris.{uris_of};
+ghost use Rattle.rpki_files.specs.Manifest.Uris.{uris_of};
 ghost use Rattle.rpki_tree.specs.Faults.{IsMemory, NamesNoPoint};
 ghost use Rattle.rpki_tree.specs.Passes.{setting};
 ghost use Rattle.rpki_tree.specs.Point.{IsPresent, IsPoint, NamesManifest};

@@ -6,7 +6,7 @@ ghost use Rattle.rpki_der.specs.declared.mode.Mode.TheVariants.{Der};
 ghost use Rattle.rpki_faults.specs.Checks.{AnswersFirstFault};
 ghost use Rattle.rpki_certs.specs.Cert.{KeptCertificate};
 ghost use Rattle.rpki_files.specs.Manifest.{ManifestForm};
-ghost use Rattle.rpki_files.specs.Uris.{uris_of};
+ghost use Rattle.rpki_files.specs.Manifest.Uris.{uris_of};
 ghost use Rattle.rpki_signed.specs.Check.{Checks};
 ghost use Rattle.rpki_signed.specs.Exact.{IsExact};
 ghost use Rattle.rpki_files.specs.Manifest.Checks.{manifest_kind};

@@ -1,7 +1,7 @@
 //! The publication point of a certification authority (CA), read from a copy.
 
 ghost use Rattle.std.specs.Prelude.{◌≡◌, All, IfErr, MatchResult, MatchOption, None};
-ghost use Rattle.rpki_files.specs.Uris.{uris_of};
+ghost use Rattle.rpki_files.specs.Manifest.Uris.{uris_of};
 ghost use Rattle.rpki_tree.specs.Faults.{LacksRest, LacksPointAt, LacksPoint, IsMemory};
 ghost use Rattle.rpki_tree.specs.Point.{IsPoint, IsPointAt, IsListAt, IsPresent, PublishesIn};
 ghost use Rattle.rpki_tree.specs.Point.{NamesManifest};

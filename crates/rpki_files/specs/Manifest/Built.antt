@@ -12,8 +12,8 @@ use Rattle.rpki_basics.specs.declared.limits.ManifestRule.{ManifestRule}
 use Rattle.rpki_basics.specs.declared.limits.ManifestRule.TheVariants.{Any, Registered}
 use Rattle.rpki_der.specs.Form.Keyed.{AreDistinct}
 use Rattle.rpki_faults.specs.Checks.{Check, ◌unless◌, AllHold, IsFirstFault}
-use Rattle.rpki_files.specs.declared.file.FileAndHash.{FileAndHash}
-use Rattle.rpki_files.specs.File.{File, name_of}
+use Rattle.rpki_files.specs.declared.manifest.file.FileAndHash.{FileAndHash}
+use Rattle.rpki_files.specs.Manifest.File.{File, name_of}
 use Rattle.rpki_files.specs.Manifest.{Manifest, manifest_contents}
 use Rattle.rpki_files.specs.Name.{IsFileName, is_registered}
 

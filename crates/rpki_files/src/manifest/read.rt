@@ -12,8 +12,8 @@ ghost use Rattle.rpki_lists.specs.Version.{version_at};
 ghost use Rattle.rpki_files.specs.Manifest.{head_at, fields_at, manifest_at};
 
 use crate::faults;
-use crate::files::take_files;
 use crate::manifest::ManifestContent;
+use crate::manifest::files::take_files;
 use crate::version::take_version;
 use bytes::Bytes;
 use rpki_basics::{ManifestRule, Serial, Time};

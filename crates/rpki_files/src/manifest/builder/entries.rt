@@ -3,13 +3,13 @@
 ghost use Rattle.std.specs.Prelude.{◌≡◌, ◌≤◌, ◌<◌, ◌^◌, ◌++◌, ◌∷◌, [], List, IfErr, IfOk, OnOk};
 ghost use Rattle.std.specs.Prelude.{IsTrue, false, length, true};
 ghost use Rattle.std.specs.Iterator.{IsFinite};
-ghost use Rattle.rpki_files.specs.File.{File, MeetsRule};
+ghost use Rattle.rpki_files.specs.Manifest.File.{File, MeetsRule};
 ghost use Rattle.rpki_faults.specs.Checks.{AllHold};
 ghost use Rattle.rpki_files.specs.Manifest.Built.{Gives, name_checks};
 ghost use Rattle.rpki_files.specs.Manifest.Taken.{AreNotListed, AreTaken};
 
-use crate::file::FileAndHash;
-use crate::files::{Files, is_unrepeated};
+use crate::manifest::file::FileAndHash;
+use crate::manifest::files::{Files, is_unrepeated};
 use crate::name::{is_allowed, is_file_name};
 use rpki_basics::{BuildError, BuildFault, ManifestRule};
 use rpki_der::{AsOctets, Encode, EncodeError};

@@ -3,7 +3,7 @@ use Rattle.std.proofs.Common.{subst, ap, ◌∙◌}
 use Rattle.std.proofs.lemmas.List.Elements.{All-contains}
 use Rattle.rpki_crls.specs.Crl.{RevocationList}
 use Rattle.rpki_files.specs.Manifest.{Manifest}
-use Rattle.rpki_files.specs.Uris.{uris_of}
+use Rattle.rpki_files.specs.Manifest.Uris.{uris_of}
 use Rattle.rpki_tree.specs.Passes.{setting}
 use Rattle.rpki_tree.specs.Point.{IsPresent}
 use Rattle.rpki_tree.specs.Told.{AppendsBoth, FileTells}

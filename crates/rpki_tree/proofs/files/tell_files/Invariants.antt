@@ -1,6 +1,6 @@
 -- The files that are still to be told of.
 use Rattle.std.proofs.Common.{length}
-use Rattle.rpki_files.specs.Uris.{uris_of}
+use Rattle.rpki_files.specs.Manifest.Uris.{uris_of}
 use Rattle.rpki_tree.specs.Passes.{setting}
 use Rattle.rpki_tree.proofs.Putting.{IsTelling}
 use Rattle.rpki_tree.proofs.files.tell_files.Given as goal

@@ -1,5 +1,5 @@
 use Rattle.std.proofs.Common.{ℕ, List, All, inl, subst}
-use Rattle.rpki_files.specs.Uris.{uris_of}
+use Rattle.rpki_files.specs.Manifest.Uris.{uris_of}
 use Rattle.rpki_tree.specs.Passes.{setting}
 use Rattle.rpki_tree.specs.Point.{IsPresent}
 use Rattle.rpki_tree.specs.Told.{CaTellsAll, FilesTell}

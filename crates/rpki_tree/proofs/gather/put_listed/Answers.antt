@@ -1,6 +1,6 @@
 -- One file more is read.
 use Rattle.std.proofs.Common.{◌≡◌, ℕ, List, IfSome, subst}
-use Rattle.rpki_files.specs.Uris.{UriAndHash, uris_of}
+use Rattle.rpki_files.specs.Manifest.Uris.{UriAndHash, uris_of}
 use Rattle.rpki_tree.specs.Point.{Lists}
 use Rattle.rpki_tree.specs.Snapshot.{kept_in, PutsRead}
 use Rattle.rpki_tree.proofs.Gathering.{begun, one-more, ended, of-listed}

@@ -1,6 +1,6 @@
 -- The files that are still to be read.
 use Rattle.std.proofs.Common.{length, IfSome}
-use Rattle.rpki_files.specs.Uris.{UriAndHash, uris_of}
+use Rattle.rpki_files.specs.Manifest.Uris.{UriAndHash, uris_of}
 use Rattle.rpki_tree.specs.Snapshot.{kept_in}
 use Rattle.rpki_tree.proofs.Gathering.{IsReading}
 use Rattle.rpki_tree.proofs.gather.put_listed.Given as goal

@@ -1,6 +1,6 @@
 -- One file more has another URI, or one has it.
 use Rattle.std.proofs.Common.{refl, sym, ◌∙◌, true≢false}
-use Rattle.rpki_files.specs.Uris.{uris_of}
+use Rattle.rpki_files.specs.Manifest.Uris.{uris_of}
 use Rattle.rpki_tree.proofs.Looking.{all-left, is-here, is-later, is-nowhere, first-left}
 use Rattle.rpki_tree.proofs.list.is_listed.Goals as goal
 

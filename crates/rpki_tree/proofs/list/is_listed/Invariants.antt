@@ -1,6 +1,6 @@
 -- The files that are still to be looked at.
 use Rattle.std.proofs.Common.{length}
-use Rattle.rpki_files.specs.Uris.{uris_of}
+use Rattle.rpki_files.specs.Manifest.Uris.{uris_of}
 use Rattle.rpki_tree.proofs.Looking.{IsStillAmong}
 use Rattle.rpki_tree.proofs.list.is_listed.Given as goal
 
