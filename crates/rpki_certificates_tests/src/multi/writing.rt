@@ -72,19 +72,24 @@ fn signers_are_written(rt: HostRuntime) -> Result<(), Fail> {
     Ok(())
 }
 
-/// How many keys a copy of the attestation with these octets names, and what it is written as.
+/// How many keys a copy of the attestation with these octets names, and what it is written as where
+/// both ways to write it give the same.
 fn attestation(alloc: Global, octets: &'static [u8]) -> Result<(usize, Bytes), Fail> {
     let rta = Rta::decode(alloc, Bytes::from_static(octets))?;
     let copy: Result<_, _> = rta.clone();
     drop(rta);
     let copy = copy?;
     let keys = copy.subject_keys().len();
+    let encoded = copy.encode_ref().to_bytes(alloc);
     let written = copy.to_captured(alloc);
     drop(copy);
+    let encoded = octets_of(encoded)?;
     match written {
-        Ok(octets) => Ok((keys, octets)),
+        Ok(octets) if encoded.is_some_and(|it| it.as_slice() == octets.as_slice()) => {
+            Ok((keys, octets))
+        }
         Err(EncodeError::Memory) => Err(Fail::Memory),
-        Err(_) => Err(Fail::Refused),
+        _ => Err(Fail::Refused),
     }
 }
 

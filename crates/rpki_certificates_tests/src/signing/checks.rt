@@ -8,9 +8,11 @@ use bytes::Bytes;
 use rpki_basics::standin::{StandIn, StandInSigner};
 use rpki_basics::{ManifestRule, ProviderLimit};
 use rpki_certs::{Cert, ResourceCert};
+use rpki_der::DecodeError;
 use rpki_faults::ValidationError;
+use rpki_routes::Aspa;
 use rpki_signed::check::{self, CheckError};
-use rpki_sigobj::SignedObject;
+use rpki_sigobj::{SignedObject, faults};
 use rpki_testing::Fail;
 use std::alloc::Global;
 
@@ -109,5 +111,26 @@ fn checklists_are_good(rt: HostRuntime) -> Result<(), Fail> {
     let mut signer = StandInSigner::new(alloc);
     let octets = checklist(alloc, &mut signer)?;
     assert!(rt; is_good_checklist(alloc, octets, &mut signer)?);
+    Ok(())
+}
+
+/// Whether these octets are no ASPA, for the type of their content.
+fn is_of_another_type(alloc: Global, octets: Bytes) -> Result<bool, Fail> {
+    match Aspa::decode(alloc, octets, true, ProviderLimit::Wide) {
+        Ok(aspa) => {
+            drop(aspa);
+            Ok(false)
+        }
+        Err(DecodeError::Memory) => Err(Fail::Memory),
+        Err(error) => Ok(format!(in alloc; "{error}")?.as_str() == faults::OTHER_CONTENT_TYPE),
+    }
+}
+
+#[test]
+fn a_checklist_is_no_aspa(rt: HostRuntime) -> Result<(), Fail> {
+    let alloc = rt.alloc();
+    let mut signer = StandInSigner::new(alloc);
+    let octets = checklist(alloc, &mut signer)?;
+    assert!(rt; is_of_another_type(alloc, octets)?);
     Ok(())
 }

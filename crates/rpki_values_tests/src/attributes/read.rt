@@ -1,7 +1,7 @@
 //! Rows of attributes that are read.
 
 use bytes::Bytes;
-use rpki_attributes::SignedAttrs;
+use rpki_attributes::{SignedAttrs, faults};
 use rpki_der::build::tlv;
 use rpki_der::{Constructed, DecodeError, Mode};
 use std::alloc::{AllocError, Global};
@@ -163,5 +163,28 @@ fn rows(rt: HostRuntime) -> Result<(), AllocError> {
         let answer = read(alloc, &contents, Mode::Der, false)?;
         assert!(rt; is_answer(alloc, answer, &contents, message)?);
     }
+    Ok(())
+}
+
+/// What is read of attributes whose digest has so many zeros.
+fn with_zeros(alloc: Global, len: usize) -> Result<Result<SignedAttrs, DecodeError>, AllocError> {
+    let zeros = value(alloc, 4, &vec![in alloc; 0u8; len]?)?;
+    let set = value(alloc, 0x31, &zeros)?;
+    let kind: &[u8] = b"\x06\x09\x2A\x86\x48\x86\xF7\x0D\x01\x09\x04";
+    let digest = value(alloc, 0x30, &joined(alloc, &[kind, &set])?)?;
+    read(
+        alloc,
+        &joined(alloc, &[TYPE, TIME, &digest])?,
+        Mode::Der,
+        true,
+    )
+}
+
+#[test]
+fn attributes_have_at_most_65535_octets(rt: HostRuntime) -> Result<(), AllocError> {
+    let alloc = rt.alloc();
+    let last = with_zeros(alloc, 65454)?;
+    let first = with_zeros(alloc, 65455)?;
+    assert!(rt; last.is_ok() && is_answer(alloc, first, b"", faults::ATTRIBUTES_TOO_LONG)?);
     Ok(())
 }
