@@ -1,7 +1,7 @@
 -- The lines of the files that a manifest holds.
 use Rattle.std.specs.Prelude.{ℕ, List, ◌++◌, codes}
 use Rattle.std.specs.List.{flat_map}
-use Rattle.rpki_files.specs.Manifest.File.{File}
+use Rattle.rpki_files.specs.Manifest.Files.{File}
 use Rattle.rpki_files.specs.Manifest.{Manifest}
 use Rattle.rpki_signed.specs.Walk.{AtHand, walk_of}
 use Rattle.rpki_sigobj.specs.Verify.{Digester}

@@ -22,7 +22,7 @@ ghost use Rattle.rpki_issued.specs.Written.{ClaimsIpv4};
 ghost use Rattle.rpki_issued_crls.specs.Lists.{IsNotIssued, made_list, name_of};
 ghost use Rattle.rpki_sigobj.specs.Signed.{ObjectForm, whole_of};
 ghost use Rattle.rpki_signing.specs.Content.{Passes};
-ghost use Rattle.rpki_files.specs.Manifest.File.{MeetsRule};
+ghost use Rattle.rpki_files.specs.Manifest.Files.{MeetsRule};
 ghost use Rattle.rpki_files.specs.Manifest.{ManifestForm};
 ghost use Rattle.rpki_files.specs.Manifest.Checks.{manifest_kind};
 ghost use Rattle.rpki_files.specs.Manifest.Signed.{IsNotSigned as IsUnsignedManifest};

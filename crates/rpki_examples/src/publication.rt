@@ -8,7 +8,7 @@ ghost use Rattle.rpki_basics.specs.declared.limits.ManifestRule.{ManifestRule};
 ghost use Rattle.rpki_crls.specs.Crl.{IsSignedBy};
 ghost use Rattle.rpki_issued.specs.Written.{ClaimsIpv4};
 ghost use Rattle.rpki_issued_crls.specs.Lists.{made_list, name_of};
-ghost use Rattle.rpki_files.specs.Manifest.File.{MeetsRule};
+ghost use Rattle.rpki_files.specs.Manifest.Files.{MeetsRule};
 ghost use Rattle.rpki_examples.specs.Authority.{CountsIssue, IsMadeAnchor, IsNotPublished};
 ghost use Rattle.rpki_examples.specs.Publication.{AnchorFits, ArePublished, AreUnsigned};
 ghost use Rattle.rpki_examples.specs.Publication.{AspaFits, IsGoodAspa, IsGoodManifest, IsGoodRoa};

@@ -1,6 +1,6 @@
 -- The content of a signed checklist. The sections are those of RFC 9323.
-pub mod Checked
 pub mod Checks
+pub mod Files
 use Rattle.std.specs.Prelude.{◌++◌, ℕ, List, [], ◌∷◌, Some}
 use Rattle.std.specs.List.{flat_map}
 use Rattle.rpki_der.specs.Tags.{SEQUENCE, context}
@@ -20,7 +20,7 @@ use Rattle.rpki_lists.specs.Entries.{list_at}
 use Rattle.rpki_lists.specs.Named.{Set, ResourceBlockForm, sets_of, sets_at}
 use Rattle.rpki_lists.specs.Named.{resource_block_contents}
 use Rattle.rpki_lists.specs.Version.{OptionalVersion, version_at}
-use Rattle.rpki_files.specs.Checklist.Checked.{Checked, CheckedForm, checked_at, checked_octets}
+use Rattle.rpki_files.specs.Checklist.Files.{Checked, CheckedForm, checked_at, checked_octets}
 
 -- what a content says: the numbers that it names, which its signer has to hold (4.2), and the
 -- files

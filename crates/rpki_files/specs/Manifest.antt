@@ -1,7 +1,7 @@
 -- The content of a manifest. The sections are those of RFC 9286.
 pub mod Built
 pub mod Checks
-pub mod File
+pub mod Files
 pub mod Signed
 pub mod Taken
 pub mod Uris
@@ -23,7 +23,7 @@ use Rattle.rpki_der.specs.Form.Parts.{Sequence, SequenceOf, sequence_at}
 use Rattle.rpki_der.specs.Form.Made.{partly}
 use Rattle.rpki_der.specs.Write.Written.{value_octets}
 use Rattle.rpki_lists.specs.Version.{OptionalVersion, version_at}
-use Rattle.rpki_files.specs.Manifest.File.{File, FileForm, MeetsRule, files_at, file_octets}
+use Rattle.rpki_files.specs.Manifest.Files.{File, FileForm, MeetsRule, files_at, file_octets}
 
 -- what a content says
 pub record Manifest : Type 0 where

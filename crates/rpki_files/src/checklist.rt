@@ -15,7 +15,7 @@ ghost use Rattle.rpki_resources.specs.declared.family.AddressFamily.TheVariants.
 ghost use Rattle.rpki_resources.specs.Family.{IsWithin};
 ghost use Rattle.rpki_files.specs.Checklist.{ChecklistForm, checklist_at, checklist_contents};
 ghost use Rattle.rpki_files.specs.Checklist.{checklist_octets};
-ghost use Rattle.rpki_files.specs.Checklist.Checked.{IsNamed};
+ghost use Rattle.rpki_files.specs.Checklist.Files.{IsNamed};
 
 use bytes::Bytes;
 pub use checked::{CheckListIter, CheckedEntry, CheckedFiles, FileNameAndHash};

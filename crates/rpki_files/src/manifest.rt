@@ -19,7 +19,7 @@ ghost use Rattle.rpki_der.specs.Read.Reads.{Reads, Stays};
 ghost use Rattle.rpki_der.specs.Form.Decodes.{Decodes, DecodesNext};
 ghost use Rattle.rpki_files.specs.Manifest.{ManifestForm, manifest_at, manifest_contents};
 ghost use Rattle.rpki_files.specs.Manifest.{manifest_octets};
-ghost use Rattle.rpki_files.specs.Manifest.File.{MeetsRule, name_of};
+ghost use Rattle.rpki_files.specs.Manifest.Files.{MeetsRule, name_of};
 ghost use Rattle.rpki_files.specs.Name.{IsFileName};
 ghost use Rattle.rpki_files.specs.Manifest.Uris.{uris_of};
 

@@ -2,7 +2,7 @@
 
 ghost use Rattle.std.specs.Prelude.{◌≡◌, ◌∷◌, []};
 ghost use Rattle.std.specs.List.{list_all};
-ghost use Rattle.rpki_files.specs.Manifest.File.{is_allowed};
+ghost use Rattle.rpki_files.specs.Manifest.Files.{is_allowed};
 ghost use Rattle.rpki_files.specs.Name.{is_letter, is_stem, is_ending, is_file_name};
 ghost use Rattle.rpki_files.specs.Name.{lower, is_type, is_registered};
 

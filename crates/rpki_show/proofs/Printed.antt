@@ -8,7 +8,7 @@ use Rattle.std.proofs.lemmas.List.Concat.{flat_map-append}
 use Rattle.std.proofs.lemmas.Bool.{and_parts}
 use Rattle.rpki_show.specs.Ia5.{ia5_text}
 use Rattle.rpki_files.specs.Name.{IsFileName, is_letter, is_stem}
-use Rattle.rpki_files.specs.Checklist.Checked.{is_portable, is_portable_name}
+use Rattle.rpki_files.specs.Checklist.Files.{is_portable, is_portable_name}
 
 -- what passes the test is below 128
 abbrev pub IsIa5Test : (ℕ → Bool) → Type 0

@@ -9,7 +9,7 @@ use Rattle.rpki_certs.specs.Cert.{Certificate, Tbs}
 use Rattle.rpki_extensions.specs.declared.claims.Claims.{Claims}
 use Rattle.rpki_extensions.specs.declared.locations.Locations.{Locations}
 use Rattle.rpki_files.specs.Checklist.{Checklist}
-use Rattle.rpki_files.specs.Manifest.File.{File}
+use Rattle.rpki_files.specs.Manifest.Files.{File}
 use Rattle.rpki_files.specs.Manifest.{Manifest}
 use Rattle.rpki_json.specs.Grammar.{Json, items_of, IsText}
 use Rattle.rpki_json.specs.Members.{Member, members_of, object_of, boolean_member, HasWords}

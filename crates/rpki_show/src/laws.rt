@@ -4,7 +4,7 @@ ghost use Rattle.std.specs.Prelude.{◌≡◌, ◌<◌, ◌^◌, ◌++◌, ℕ, 
 ghost use Rattle.std.specs.Prelude.{String, string_bytes};
 ghost use Rattle.std.specs.declared.alloc.Global.{Global};
 ghost use Rattle.rpki_certs.specs.Cert.{Certificate};
-ghost use Rattle.rpki_files.specs.Checklist.Checked.{is_portable_name};
+ghost use Rattle.rpki_files.specs.Checklist.Files.{is_portable_name};
 ghost use Rattle.rpki_files.specs.Checklist.{Checklist};
 ghost use Rattle.rpki_files.specs.Manifest.{Manifest};
 ghost use Rattle.rpki_files.specs.Name.{IsFileName};

@@ -11,7 +11,7 @@ use Rattle.rpki_der.proofs.Form.Keyed.{differ}
 use Rattle.rpki_der.proofs.Reading.Lengths.{some_is}
 use Rattle.rpki_der.specs.Form.Keyed.{with_key}
 use Rattle.rpki_sigobj.specs.Verify.{Digester}
-use Rattle.rpki_files.specs.Manifest.File.{File, name_of}
+use Rattle.rpki_files.specs.Manifest.Files.{File, name_of}
 use Rattle.rpki_signed.specs.Walk.{AtHand, IsFirstNamed, IsHeld, GivesAll, has_hash, is_held}
 use Rattle.rpki_signed.specs.Walk.{walk_of}
 

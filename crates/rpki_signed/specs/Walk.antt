@@ -6,7 +6,7 @@ use Rattle.std.specs.List.{filter}
 use Rattle.std.specs.Str.{bytes_eq}
 use Rattle.rpki_der.specs.Form.Keyed.{with_key}
 use Rattle.rpki_sigobj.specs.Verify.{Digester}
-use Rattle.rpki_files.specs.Manifest.File.{File, name_of}
+use Rattle.rpki_files.specs.Manifest.Files.{File, name_of}
 
 -- a file at hand: its name and its octets
 abbrev pub AtHand : Type 0

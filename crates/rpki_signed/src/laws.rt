@@ -8,7 +8,7 @@ ghost use Rattle.rpki_der.specs.declared.mode.Mode.{Mode};
 ghost use Rattle.rpki_der.specs.declared.mode.Mode.TheVariants.{Der};
 ghost use Rattle.rpki_der.specs.Form.After.{LeavesOctetsAfter};
 ghost use Rattle.rpki_files.specs.Checklist.{ChecklistForm};
-ghost use Rattle.rpki_files.specs.Manifest.File.{File};
+ghost use Rattle.rpki_files.specs.Manifest.Files.{File};
 ghost use Rattle.rpki_files.specs.Manifest.{Manifest, ManifestForm};
 ghost use Rattle.rpki_routes.specs.Aspa.{Aspa};
 ghost use Rattle.rpki_routes.specs.Aspa.Form.{AspaForm};

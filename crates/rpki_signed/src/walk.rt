@@ -27,7 +27,7 @@ pub struct Walk<'a, N: AsOctets, O: AsOctets, C: Crypto> {
 
 impl<'a, N: AsOctets, O: AsOctets, C: Crypto> Model for Walk<'a, N, O, C> {
     ghost use Rattle.std.specs.Prelude.{List, map};
-    ghost use Rattle.rpki_files.specs.Manifest.File.{File};
+    ghost use Rattle.rpki_files.specs.Manifest.Files.{File};
     ghost use Rattle.rpki_signed.specs.Walk.{at_hand, walk_of};
 
     // The entries that are still to come.

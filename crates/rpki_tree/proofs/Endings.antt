@@ -4,7 +4,7 @@ use Rattle.std.proofs.Common.{take, drop, arith, append_assoc, sym, ap, ◌∙�
 use Rattle.std.specs.Prelude.{codes, nat_eq, if◌then◌else◌}
 use Rattle.std.specs.List.{ends_with}
 use Rattle.std.proofs.lemmas.List.{drop_at, length-append, length-take, take-append-drop}
-use Rattle.rpki_files.specs.Manifest.File.{File, name_of}
+use Rattle.rpki_files.specs.Manifest.Files.{File, name_of}
 use Rattle.rpki_files.specs.Name.{IsFileName, is_type}
 use Rattle.rpki_files.specs.Manifest.Uris.{uri_of}
 use Rattle.rpki_tree.specs.Kind.{kind_of, letters_of}

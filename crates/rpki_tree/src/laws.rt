@@ -2,7 +2,7 @@
 
 ghost use Rattle.std.specs.Prelude.{◌≡◌, ◌↔◌, ℕ, List, Option};
 ghost use Rattle.rpki_certs.specs.Validate.{Validated};
-ghost use Rattle.rpki_files.specs.Manifest.File.{File, name_of};
+ghost use Rattle.rpki_files.specs.Manifest.Files.{File, name_of};
 ghost use Rattle.rpki_files.specs.Name.{IsFileName};
 ghost use Rattle.rpki_files.specs.Manifest.Uris.{uri_of};
 ghost use Rattle.rpki_tree.specs.Kind.{kind_of};

@@ -20,8 +20,8 @@ use Rattle.rpki_lists.specs.Version.{version_at}
 use Rattle.rpki_lists.proofs.Names.Exact.{resource-block-part}
 use Rattle.rpki_lists.proofs.Versions.{version-part}
 use Rattle.rpki_resources.proofs.AsNumbers.Exact.{as-part}
-use Rattle.rpki_files.specs.Checklist.Checked.{Checked, PortableForm, CheckedForm, is_portable_name}
-use Rattle.rpki_files.specs.Checklist.Checked.{portable_at, checked_fields_at, checked_at}
+use Rattle.rpki_files.specs.Checklist.Files.{Checked, PortableForm, CheckedForm, is_portable_name}
+use Rattle.rpki_files.specs.Checklist.Files.{portable_at, checked_fields_at, checked_at}
 use Rattle.rpki_files.specs.Checklist.{Checklist, NumbersForm, NamedForm, ChecklistForm}
 use Rattle.rpki_files.specs.Checklist.{number_fields_at, numbers_at, listed_at, fields_at}
 use Rattle.rpki_files.specs.Checklist.{checklist_at}

@@ -8,8 +8,8 @@ use Rattle.rpki_lists.specs.Slice.{IsFound}
 use Rattle.rpki_lists.proofs.Known.{there, string-in-front, string-known, front-within, read-within}
 use Rattle.rpki_lists.proofs.Known.{optional-in-front, optional-known}
 use Rattle.rpki_lists.proofs.OctetsInDer.{octets-in-der}
-use Rattle.rpki_files.specs.Checklist.Checked.{is_portable_name, portable_at, portable_if_at}
-use Rattle.rpki_files.specs.Checklist.Checked.{checked_fields_at, checked_at}
+use Rattle.rpki_files.specs.Checklist.Files.{is_portable_name, portable_at, portable_if_at}
+use Rattle.rpki_files.specs.Checklist.Files.{checked_fields_at, checked_at}
 
 module _ (b : List ℕ) (h : IsFound checked_at b) (c r : List ℕ)
     (e : value_at SEQUENCE Der b ≡ Some (c, r)) where

@@ -8,9 +8,9 @@ use Rattle.rpki_der.specs.Read.Parse.{ia5_at, octets_at}
 use Rattle.rpki_der.proofs.Reading.Lengths.{bind_some, some_is}
 use Rattle.rpki_der.proofs.Reading.Many.{optional-some}
 use Rattle.rpki_lists.specs.Entries.{entries_of, HoldEntries}
-use Rattle.rpki_files.specs.Checklist.Checked.{Checked, IsNamed, is_portable_name, portable_at}
-use Rattle.rpki_files.specs.Checklist.Checked.{portable_if_at}
-use Rattle.rpki_files.specs.Checklist.Checked.{checked_fields_at, checked_at}
+use Rattle.rpki_files.specs.Checklist.Files.{Checked, IsNamed, is_portable_name, portable_at}
+use Rattle.rpki_files.specs.Checklist.Files.{portable_if_at}
+use Rattle.rpki_files.specs.Checklist.Files.{checked_fields_at, checked_at}
 use Rattle.rpki_files.proofs.Manifests.Named.{entries-good, in-sequence, tested-good}
 
 name-good : (b : List ℕ) (name : Option (List ℕ)) (r : List ℕ)

@@ -23,7 +23,7 @@ use Rattle.rpki_der.specs.declared.encode.EncodeError.TheVariants as encode
 use Rattle.rpki_der.proofs.Form.Words.{items-all}
 use Rattle.rpki_faults.specs.Checks.{AllHold, IsFirstFault}
 use Rattle.rpki_faults.proofs.Order.{first-fails}
-use Rattle.rpki_files.specs.Manifest.File.{File, FileForm, MeetsRule, name_of}
+use Rattle.rpki_files.specs.Manifest.Files.{File, FileForm, MeetsRule, name_of}
 use Rattle.rpki_files.specs.Manifest.{Manifest, ManifestForm, files_octets, manifest_contents}
 use Rattle.rpki_files.specs.Manifest.{manifest_octets}
 use Rattle.rpki_files.specs.Manifest.Built.{IsContentOf, IsNotBuilt, early_checks}

@@ -33,7 +33,7 @@ use Rattle.rpki_lists.specs.Version.{version_at}
 use Rattle.rpki_lists.proofs.Exact.{list-part, part-spelt}
 use Rattle.rpki_lists.proofs.Versions.{version-part}
 use Rattle.rpki_files.specs.Name.{is_file_name, is_registered}
-use Rattle.rpki_files.specs.Manifest.File.{
+use Rattle.rpki_files.specs.Manifest.Files.{
   File,
   FileNameForm,
   HashForm,
@@ -42,8 +42,8 @@ use Rattle.rpki_files.specs.Manifest.File.{
   name_of,
   file_name_at,
 }
-use Rattle.rpki_files.specs.Manifest.File.{hash_at, file_fields_at, file_at, is_allowed, names_by}
-use Rattle.rpki_files.specs.Manifest.File.{is_unrepeated, files_at}
+use Rattle.rpki_files.specs.Manifest.Files.{hash_at, file_fields_at, file_at, is_allowed, names_by}
+use Rattle.rpki_files.specs.Manifest.Files.{is_unrepeated, files_at}
 use Rattle.rpki_files.specs.Manifest.{Manifest, ManifestForm}
 use Rattle.rpki_files.specs.Manifest.{Head, ordered, head_at, rest_at, fields_at}
 use Rattle.rpki_files.specs.Manifest.{manifest_at}

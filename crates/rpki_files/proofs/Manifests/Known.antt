@@ -6,7 +6,7 @@ use Rattle.rpki_der.specs.Read.Parse.{value_at, bits_at}
 use Rattle.rpki_lists.specs.Slice.{IsFound}
 use Rattle.rpki_lists.proofs.Known.{there, string-in-front, string-known, front-within, read-within}
 use Rattle.rpki_files.specs.Name.{is_file_name}
-use Rattle.rpki_files.specs.Manifest.File.{file_name_at, hash_at, file_fields_at, file_at}
+use Rattle.rpki_files.specs.Manifest.Files.{file_name_at, hash_at, file_fields_at, file_at}
 
 module _ (b : List ℕ) (h : IsFound file_at b) (c r : List ℕ)
     (e : value_at SEQUENCE Der b ≡ Some (c, r)) where

@@ -18,7 +18,7 @@ use Rattle.rpki_der.proofs.Reading.Scan.{tag-sound}
 use Rattle.rpki_der.proofs.Writing.Leaves.{within-written, items-written}
 use Rattle.rpki_der.proofs.Writing.Strings.{bits-whole}
 use Rattle.rpki_files.specs.Name.{IsFileName}
-use Rattle.rpki_files.specs.Manifest.File.{
+use Rattle.rpki_files.specs.Manifest.Files.{
   File,
   FileForm,
   HashForm,
@@ -26,7 +26,7 @@ use Rattle.rpki_files.specs.Manifest.File.{
   file_octets,
   file_contents,
 }
-use Rattle.rpki_files.specs.Manifest.File.{MeetsRule, is_short_file, file-small}
+use Rattle.rpki_files.specs.Manifest.Files.{MeetsRule, is_short_file, file-small}
 use Rattle.rpki_files.specs.Manifest.{Manifest, ManifestForm, files_octets, manifest_contents}
 use Rattle.rpki_files.specs.Manifest.{manifest_octets}
 use Rattle.rpki_files.proofs.Names.Decided.{name-below}

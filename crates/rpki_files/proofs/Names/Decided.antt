@@ -7,7 +7,7 @@ use Rattle.std.proofs.lemmas.Bool.{eqb-true, ltb-false, le-ltb, leb-true, and_pa
 use Rattle.std.proofs.lemmas.List.{take_at, drop_at, take-append-drop, length-append}
 use Rattle.std.proofs.lemmas.List.{length-take-le}
 use Rattle.std.proofs.lemmas.List.Elements.{All-append, All-cons, All-nil}
-use Rattle.rpki_files.specs.Checklist.Checked.{is_portable, is_portable_name}
+use Rattle.rpki_files.specs.Checklist.Files.{is_portable, is_portable_name}
 use Rattle.rpki_files.specs.Name.{IsFileName, is_file_name, is_ending, is_letter, is_stem, is_from}
 
 ending-sound : (e : List ℕ) → is_ending e ≡ true

@@ -7,7 +7,7 @@ use Rattle.rpki_der.specs.Tags.{IA5_STRING}
 use Rattle.rpki_der.specs.declared.mode.Mode.TheVariants.{Der}
 use Rattle.rpki_der.specs.Read.Parse.{◌>>=◌, value_at, ia5_of, tested}
 use Rattle.rpki_files.specs.Name.{is_file_name}
-use Rattle.rpki_files.specs.Manifest.File.{file_name_at}
+use Rattle.rpki_files.specs.Manifest.Files.{file_name_at}
 use Rattle.rpki_files.proofs.Names.Decided.{name-below, name-decides}
 use Rattle.rpki_der.proofs.Writing.Values.{all-below}
 

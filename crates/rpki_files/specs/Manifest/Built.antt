@@ -13,7 +13,7 @@ use Rattle.rpki_basics.specs.declared.limits.ManifestRule.TheVariants.{Any, Regi
 use Rattle.rpki_der.specs.Form.Keyed.{AreDistinct}
 use Rattle.rpki_faults.specs.Checks.{Check, ◌unless◌, AllHold, IsFirstFault}
 use Rattle.rpki_files.specs.declared.manifest.file.FileAndHash.{FileAndHash}
-use Rattle.rpki_files.specs.Manifest.File.{File, name_of}
+use Rattle.rpki_files.specs.Manifest.Files.{File, name_of}
 use Rattle.rpki_files.specs.Manifest.{Manifest, manifest_contents}
 use Rattle.rpki_files.specs.Name.{IsFileName, is_registered}
 

@@ -6,7 +6,7 @@ use Rattle.rpki_basics.specs.declared.build.BuildError.TheVariants as error
 use Rattle.rpki_basics.specs.declared.limits.ManifestRule.{ManifestRule}
 use Rattle.rpki_faults.specs.Checks.{AllHold, IsFirstFault}
 use Rattle.rpki_files.specs.declared.manifest.builder.entries.Entries.{Entries}
-use Rattle.rpki_files.specs.Manifest.File.{File, name_of, is_allowed}
+use Rattle.rpki_files.specs.Manifest.Files.{File, name_of, is_allowed}
 use Rattle.rpki_files.specs.Manifest.{files_octets}
 use Rattle.rpki_files.specs.Manifest.Built.{file_checks, name_checks}
 use Rattle.rpki_files.specs.Name.{is_file_name}

@@ -1,7 +1,7 @@
 -- The URIs of the files of a manifest. The section is that of RFC 9286.
 use Rattle.std.specs.Prelude.{◌≡◌, ◌∷◌, ℕ, List, [], map, Option, Result, MatchOption, IfOk}
 use Rattle.rpki_basics.specs.Uri.{join_text}
-use Rattle.rpki_files.specs.Manifest.File.{File, name_of}
+use Rattle.rpki_files.specs.Manifest.Files.{File, name_of}
 
 -- the URI of a file and its hash
 abbrev pub UriAndHash : Type 0

@@ -7,9 +7,9 @@ ghost use Rattle.rpki_der.specs.Read.Parse.{octets_at};
 ghost use Rattle.rpki_der.specs.Write.Parts.{contents_small, optional_octets};
 ghost use Rattle.rpki_der.specs.Write.Written.{value_octets};
 ghost use Rattle.rpki_lists.specs.Slice.{seen};
-ghost use Rattle.rpki_files.specs.Manifest.File.{Takes};
-ghost use Rattle.rpki_files.specs.Checklist.Checked.{is_portable, is_portable_name, portable_if_at};
-ghost use Rattle.rpki_files.specs.Checklist.Checked.{checked_at};
+ghost use Rattle.rpki_files.specs.Manifest.Files.{Takes};
+ghost use Rattle.rpki_files.specs.Checklist.Files.{is_portable, is_portable_name, portable_if_at};
+ghost use Rattle.rpki_files.specs.Checklist.Files.{checked_at};
 
 use crate::faults;
 use crate::name::is_stem;
@@ -124,7 +124,7 @@ fn take_hash<'a>(reader: &mut SliceReader<'a>) -> Result<&'a [u8], Refused>
 }
 
 // Reads the file in front.
-#[tactic(auto, unfolding(crate::specs::Checklist::Checked::checked_fields_at))]
+#[tactic(auto, unfolding(crate::specs::Checklist::Files::checked_fields_at))]
 fn take_checked<'a>(reader: &mut SliceReader<'a>) -> Result<CheckedSlices<'a>, Refused>
     ensures { Takes (λ f. record { file_name = seen (λ n. n.now) f.file_name; hash = f.hash.now })
         checked_at reader.old result reader.new }
@@ -148,7 +148,7 @@ impl EntryKind for CheckedFiles {
     ghost use Rattle.rpki_der.specs.Tags.{SEQUENCE};
     ghost use Rattle.rpki_der.specs.declared.mode.Mode.TheVariants.{Der};
     ghost use Rattle.rpki_der.proofs.Reading.Many.{in_value-shorter};
-    ghost use Rattle.rpki_files.specs.Checklist.Checked.{checked_at, checked_fields_at};
+    ghost use Rattle.rpki_files.specs.Checklist.Files.{checked_at, checked_fields_at};
 
     type Shown = FileNameAndHash<Bytes, Bytes>;
 
@@ -212,7 +212,7 @@ impl<'a> Written for CheckedEntry<'a> {
     ghost use Rattle.std.specs.Prelude.{◌<◌, ◌^◌, length};
     ghost use Rattle.rpki_der.specs.Tags.{SEQUENCE};
     ghost use Rattle.rpki_der.specs.Write.Parts.{contents_small};
-    ghost use Rattle.rpki_files.specs.Checklist.Checked.{checked_octets, checked_contents};
+    ghost use Rattle.rpki_files.specs.Checklist.Files.{checked_octets, checked_contents};
 
     type Encoder = Value<(Option<Value<Raw<'a>>>, Value<Raw<'a>>)>;
 

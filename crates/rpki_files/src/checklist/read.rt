@@ -4,7 +4,7 @@ ghost use Rattle.rpki_der.specs.declared.mode.Mode.TheVariants.{Der};
 ghost use Rattle.rpki_der.specs.Read.Reads.{Found, Reads, Stays};
 ghost use Rattle.rpki_lists.specs.Entries.{list_at};
 ghost use Rattle.rpki_lists.specs.Named.{named_fields_at, sets_at};
-ghost use Rattle.rpki_files.specs.Checklist.Checked.{checked_at};
+ghost use Rattle.rpki_files.specs.Checklist.Files.{checked_at};
 ghost use Rattle.rpki_files.specs.Checklist.{number_fields_at, numbers_at, listed_at, fields_at};
 ghost use Rattle.rpki_files.specs.Checklist.{checklist_at};
 

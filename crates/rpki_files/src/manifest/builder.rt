@@ -8,7 +8,7 @@ ghost use Rattle.std.specs.Iterator.{IsFinite};
 ghost use Rattle.rpki_basics.specs.declared.build.BuildError.TheVariants as error;
 ghost use Rattle.rpki_basics.specs.declared.limits.ManifestRule.{ManifestRule};
 ghost use Rattle.rpki_der.specs.declared.mode.Mode.TheVariants.{Der};
-ghost use Rattle.rpki_files.specs.Manifest.File.{MeetsRule};
+ghost use Rattle.rpki_files.specs.Manifest.Files.{MeetsRule};
 ghost use Rattle.rpki_files.specs.Manifest.{IsManifest, ManifestForm};
 ghost use Rattle.rpki_files.specs.Manifest.{manifest_contents, manifest_octets};
 ghost use Rattle.rpki_files.specs.Manifest.Built.{Gives, IsContentOf, IsNotBuilt};

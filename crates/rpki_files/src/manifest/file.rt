@@ -1,7 +1,7 @@
 //! An entry of a manifest.
 
 ghost use Rattle.std.specs.Prelude.{◌≡◌, ◌↔◌, IfOk, MatchResult};
-ghost use Rattle.rpki_files.specs.Manifest.File.{file_octets, is_short_file};
+ghost use Rattle.rpki_files.specs.Manifest.Files.{file_octets, is_short_file};
 ghost use Rattle.rpki_files.specs.Name.{IsFileName};
 
 use crate::faults;

@@ -3,8 +3,8 @@
 ghost use Rattle.std.specs.Prelude.{◌≡◌, All, IfOk};
 ghost use Rattle.rpki_der.specs.Read.Reads.{Reads, Stays};
 ghost use Rattle.rpki_der.specs.Form.Keyed.{are_distinct};
-ghost use Rattle.rpki_files.specs.Manifest.File.{Takes, name_of, file_name_at, hash_at, file_at, files_at};
-ghost use Rattle.rpki_files.specs.Manifest.File.{is_unrepeated};
+ghost use Rattle.rpki_files.specs.Manifest.Files.{Takes, name_of, file_name_at, hash_at, file_at, files_at};
+ghost use Rattle.rpki_files.specs.Manifest.Files.{is_unrepeated};
 ghost use Rattle.rpki_files.specs.Name.{IsFileName};
 
 use crate::faults;
@@ -50,7 +50,7 @@ fn take_hash<'a>(reader: &mut SliceReader<'a>) -> Result<&'a [u8], Refused>
 }
 
 // Reads the file in front.
-#[tactic(auto, unfolding(crate::specs::Manifest::File::file_fields_at))]
+#[tactic(auto, unfolding(crate::specs::Manifest::Files::file_fields_at))]
 fn take_file<'a>(reader: &mut SliceReader<'a>) -> Result<FileSlices<'a>, Refused>
     ensures { Takes (λ f. record { file = f.file.now; hash = f.hash.now }) file_at
         reader.old result reader.new }
@@ -74,7 +74,7 @@ impl EntryKind for Files {
     ghost use Rattle.rpki_der.specs.Tags.{SEQUENCE};
     ghost use Rattle.rpki_der.specs.declared.mode.Mode.TheVariants.{Der};
     ghost use Rattle.rpki_der.proofs.Reading.Many.{in_value-shorter};
-    ghost use Rattle.rpki_files.specs.Manifest.File.{file_at, file_fields_at};
+    ghost use Rattle.rpki_files.specs.Manifest.Files.{file_at, file_fields_at};
 
     type Shown = FileAndHash<Bytes, Bytes>;
 
@@ -125,7 +125,7 @@ impl<'a> SliceEntry for FileEntry<'a> {
 }
 
 impl<'a> Written for FileEntry<'a> {
-    ghost use Rattle.rpki_files.specs.Manifest.File.{file_octets, is_short_file, file-small};
+    ghost use Rattle.rpki_files.specs.Manifest.Files.{file_octets, is_short_file, file-small};
 
     type Encoder = FileEncoder<'a>;
 
@@ -151,7 +151,7 @@ pub struct NamesBy {
 }
 
 impl Rule for NamesBy {
-    ghost use Rattle.rpki_files.specs.Manifest.File.{names_by};
+    ghost use Rattle.rpki_files.specs.Manifest.Files.{names_by};
 
     type EntryKind = Files;
 

@@ -2,7 +2,7 @@
 
 ghost use Rattle.std.specs.Prelude.{◌≡◌, All, IfOk};
 ghost use Rattle.rpki_basics.specs.Uri.{join_text};
-ghost use Rattle.rpki_files.specs.Manifest.File.{name_of};
+ghost use Rattle.rpki_files.specs.Manifest.Files.{name_of};
 ghost use Rattle.rpki_files.specs.Name.{IsFileName};
 ghost use Rattle.rpki_files.specs.Manifest.Uris.{uri_of, uris_of};
 
@@ -58,7 +58,7 @@ pub struct ManifestUriIter<'a> {
 
 impl<'a> Model for ManifestUriIter<'a> {
     ghost use Rattle.std.specs.Prelude.{All, List};
-    ghost use Rattle.rpki_files.specs.Manifest.File.{name_of};
+    ghost use Rattle.rpki_files.specs.Manifest.Files.{name_of};
     ghost use Rattle.rpki_files.specs.Name.{IsFileName};
     ghost use Rattle.rpki_files.specs.Manifest.Uris.{UriAndHash, uris_of};
 

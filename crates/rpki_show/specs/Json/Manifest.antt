@@ -1,7 +1,7 @@
 -- The members of the content of a manifest.
 use Rattle.std.specs.Prelude.{List, [], ◌∷◌, codes}
 use Rattle.rpki_der.specs.Text.Hex.{hex}
-use Rattle.rpki_files.specs.Manifest.File.{File}
+use Rattle.rpki_files.specs.Manifest.Files.{File}
 use Rattle.rpki_files.specs.Manifest.{Manifest}
 use Rattle.rpki_json.specs.Grammar.{Json}
 use Rattle.rpki_json.specs.Members.{Member, object_of, text_member, array_member}

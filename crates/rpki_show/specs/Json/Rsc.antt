@@ -1,7 +1,7 @@
 -- The members of the content of a signed checklist.
 use Rattle.std.specs.Prelude.{ℕ, List, [], ◌∷◌, Option, Some, None, codes}
 use Rattle.rpki_der.specs.Text.Hex.{hex}
-use Rattle.rpki_files.specs.Checklist.Checked.{Checked}
+use Rattle.rpki_files.specs.Checklist.Files.{Checked}
 use Rattle.rpki_files.specs.Checklist.{Checklist}
 use Rattle.rpki_json.specs.Grammar.{Json}
 use Rattle.rpki_json.specs.Members.{Member, object_of, text_member, array_member}

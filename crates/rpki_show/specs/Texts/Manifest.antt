@@ -5,7 +5,7 @@ use Rattle.rpki_der.specs.Text.Hex.{hex}
 use Rattle.rpki_basics.specs.Moment.{Moment}
 use Rattle.rpki_basics.specs.Serial.{serial_text}
 use Rattle.rpki_basics.specs.Time.Form.{iso_text}
-use Rattle.rpki_files.specs.Manifest.File.{File}
+use Rattle.rpki_files.specs.Manifest.Files.{File}
 use Rattle.rpki_files.specs.Manifest.{Manifest}
 use Rattle.rpki_show.specs.Ia5.{ia5_text}
 

@@ -2,7 +2,7 @@
 use Rattle.std.specs.Prelude.{ℕ, List, ◌++◌, Option, Some, None, codes}
 use Rattle.std.specs.List.{flat_map}
 use Rattle.rpki_der.specs.Text.Hex.{hex}
-use Rattle.rpki_files.specs.Checklist.Checked.{Checked}
+use Rattle.rpki_files.specs.Checklist.Files.{Checked}
 use Rattle.rpki_files.specs.Checklist.{Checklist}
 use Rattle.rpki_show.specs.Ia5.{ia5_text}
 use Rattle.rpki_show.specs.Texts.Blocks.{as_lines, v4_lines, v6_lines}

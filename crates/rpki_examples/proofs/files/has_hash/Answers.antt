@@ -1,6 +1,6 @@
 use Rattle.std.proofs.Common.{◌≡◌}
 use Rattle.rpki_lists.specs.Slice.{seen}
-use Rattle.rpki_files.specs.Checklist.Checked.{Checked}
+use Rattle.rpki_files.specs.Checklist.Files.{Checked}
 use Rattle.rpki_examples.proofs.Search.{found, left-more, say-yes, told-same, told-apart}
 use Rattle.rpki_examples.proofs.files.has_hash.Goals as goal
 

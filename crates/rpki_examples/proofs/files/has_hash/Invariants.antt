@@ -1,5 +1,5 @@
 use Rattle.std.proofs.Common.{◌≡◌, length}
-use Rattle.rpki_files.specs.Checklist.Checked.{Checked}
+use Rattle.rpki_files.specs.Checklist.Files.{Checked}
 use Rattle.rpki_examples.proofs.Search.{LeftTo}
 use Rattle.rpki_examples.proofs.files.has_hash.Given as goal
 

@@ -1,5 +1,5 @@
 use Rattle.std.proofs.Common.{◌≡◌, ap}
-use Rattle.rpki_files.specs.Manifest.File.{File}
+use Rattle.rpki_files.specs.Manifest.Files.{File}
 use Rattle.rpki_examples.proofs.Search.{left-more, told-apart}
 use Rattle.rpki_examples.proofs.files.names_file.Goals as goal
 use Rattle.rpki_examples.proofs.files.names_file.Goals.{else-eq-via-then-eq+else-eq-2}

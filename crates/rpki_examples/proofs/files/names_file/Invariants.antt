@@ -1,5 +1,5 @@
 use Rattle.std.proofs.Common.{◌≡◌, length}
-use Rattle.rpki_files.specs.Manifest.File.{File}
+use Rattle.rpki_files.specs.Manifest.Files.{File}
 use Rattle.rpki_examples.proofs.Search.{LeftTo}
 use Rattle.rpki_examples.proofs.files.names_file.Given as goal
 

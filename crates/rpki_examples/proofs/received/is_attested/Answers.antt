@@ -1,7 +1,7 @@
 use Rattle.std.proofs.Common.{◌↔◌, IsTrue, Bool, ◌≡◌}
 use Rattle.std.specs.List.{Any}
 use Rattle.rpki_der.specs.declared.mode.Mode.TheVariants.{Der}
-use Rattle.rpki_files.specs.Checklist.Checked.{Checked}
+use Rattle.rpki_files.specs.Checklist.Files.{Checked}
 use Rattle.rpki_files.specs.Checklist.{Checklist, ChecklistForm}
 use Rattle.rpki_files.specs.Checklist.Checks.{checklist_kind}
 use Rattle.rpki_examples.proofs.ByList.{looked, refused}

@@ -3,7 +3,7 @@
 ghost use Rattle.std.specs.Prelude.{◌≡◌, ◌≤◌, ◌<◌, ◌^◌, ◌++◌, ◌∷◌, [], List, IfErr, IfOk, OnOk};
 ghost use Rattle.std.specs.Prelude.{IsTrue, false, length, true};
 ghost use Rattle.std.specs.Iterator.{IsFinite};
-ghost use Rattle.rpki_files.specs.Manifest.File.{File, MeetsRule};
+ghost use Rattle.rpki_files.specs.Manifest.Files.{File, MeetsRule};
 ghost use Rattle.rpki_faults.specs.Checks.{AllHold};
 ghost use Rattle.rpki_files.specs.Manifest.Built.{Gives, name_checks};
 ghost use Rattle.rpki_files.specs.Manifest.Taken.{AreNotListed, AreTaken};

@@ -7,7 +7,7 @@ ghost use Rattle.rpki_der.specs.declared.mode.Mode.TheVariants.{Der};
 ghost use Rattle.rpki_sigobj.specs.Signed.{ObjectForm, whole_of};
 ghost use Rattle.rpki_signing.specs.Built.{AreSignatures, IsBuilt, NamesInDer};
 ghost use Rattle.rpki_signing.specs.Written.{made_object};
-ghost use Rattle.rpki_files.specs.Manifest.File.{MeetsRule};
+ghost use Rattle.rpki_files.specs.Manifest.Files.{MeetsRule};
 ghost use Rattle.rpki_files.specs.Manifest.{ManifestForm, manifest_contents, manifest_octets};
 ghost use Rattle.rpki_files.specs.Manifest.Signed.{IsNotSigned, inheriting};
 ghost use Rattle.rpki_files.specs.Manifest.Checks.{ct_manifest};

@@ -1,6 +1,6 @@
 use Rattle.std.proofs.Common.{◌<◌, ◌^◌, List, All, length, subst}
 use Rattle.rpki_der.specs.declared.mode.Mode.TheVariants.{Der}
-use Rattle.rpki_files.specs.Checklist.Checked.{Checked, IsNamed}
+use Rattle.rpki_files.specs.Checklist.Files.{Checked, IsNamed}
 use Rattle.rpki_files.specs.Checklist.{Checklist, ChecklistForm, checklist_contents}
 use Rattle.rpki_files.specs.Checklist.{checklist_octets}
 use Rattle.rpki_files.proofs.Checklists.Exact.{checklist-part}

@@ -1,5 +1,5 @@
 use Rattle.std.proofs.Common.{List, All, subst}
-use Rattle.rpki_files.specs.Checklist.Checked.{Checked, IsNamed}
+use Rattle.rpki_files.specs.Checklist.Files.{Checked, IsNamed}
 use Rattle.rpki_files.specs.Checklist.{Checklist}
 use Rattle.rpki_files.proofs.Checklists.Named.{checked-named}
 use Rattle.rpki_files.proofs.checklist.ResourceSignedChecklist.iter.Goals as goal

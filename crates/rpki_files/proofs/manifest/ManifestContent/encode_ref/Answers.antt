@@ -1,7 +1,7 @@
 use Rattle.std.proofs.Common.{◌<◌, ◌^◌, List, All, length, subst}
 use Rattle.rpki_der.specs.declared.mode.Mode.TheVariants.{Der}
 use Rattle.rpki_files.specs.Name.{IsFileName}
-use Rattle.rpki_files.specs.Manifest.File.{File, MeetsRule}
+use Rattle.rpki_files.specs.Manifest.Files.{File, MeetsRule}
 use Rattle.rpki_files.specs.Manifest.{Manifest, ManifestForm, manifest_contents, manifest_octets}
 use Rattle.rpki_files.proofs.Manifests.Exact.{manifest-part}
 use Rattle.rpki_files.proofs.Manifests.Named.{files-named}

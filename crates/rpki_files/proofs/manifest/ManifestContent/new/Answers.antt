@@ -2,7 +2,7 @@ use Rattle.std.proofs.Common.{◌≡◌, ◌<◌, ◌^◌, List, length, true, f
 use Rattle.std.proofs.lemmas.Result.{err_from_is_err_and, on_ok_weaker}
 use Rattle.rpki_der.specs.declared.mode.Mode.TheVariants.{Der}
 use Rattle.rpki_faults.specs.Checks.{AllHold}
-use Rattle.rpki_files.specs.Manifest.File.{File, MeetsRule}
+use Rattle.rpki_files.specs.Manifest.Files.{File, MeetsRule}
 use Rattle.rpki_files.specs.Manifest.{Manifest, ManifestForm, manifest_contents, manifest_octets}
 use Rattle.rpki_files.specs.Manifest.Built.{Gives, name_checks}
 use Rattle.rpki_files.proofs.Manifests.Built.{of-same, out-of-order, too-long, unlisted}

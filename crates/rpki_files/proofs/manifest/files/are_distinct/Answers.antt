@@ -1,6 +1,6 @@
 use Rattle.std.proofs.Common.{refl, sym, ◌∙◌}
 use Rattle.std.proofs.lemmas.Bool.{not-true, not-false}
-use Rattle.rpki_files.specs.Manifest.File.{File, name_of}
+use Rattle.rpki_files.specs.Manifest.Files.{File, name_of}
 use Rattle.rpki_files.proofs.Manifests.Distinct.{seen-none, seen-again, seen-more}
 use Rattle.rpki_files.proofs.manifest.files.are_distinct.Goals as goal
 

@@ -1,5 +1,5 @@
 use Rattle.std.proofs.Common.{length}
-use Rattle.rpki_files.specs.Manifest.File.{name_of}
+use Rattle.rpki_files.specs.Manifest.Files.{name_of}
 use Rattle.rpki_files.proofs.Manifests.Distinct.{SeenSoFar}
 use Rattle.rpki_files.proofs.manifest.files.are_distinct.Given as goal
 

@@ -1,6 +1,6 @@
 use Rattle.std.proofs.Common.{List, All, subst}
 use Rattle.rpki_files.specs.Name.{IsFileName}
-use Rattle.rpki_files.specs.Manifest.File.{File}
+use Rattle.rpki_files.specs.Manifest.Files.{File}
 use Rattle.rpki_files.proofs.Manifests.Named.{files-named}
 use Rattle.rpki_files.proofs.manifest.files.files_of.Goals as goal
 

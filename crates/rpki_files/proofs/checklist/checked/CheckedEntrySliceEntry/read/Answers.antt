@@ -1,6 +1,6 @@
 use Rattle.rpki_der.specs.Tags.{SEQUENCE}
 use Rattle.rpki_lists.proofs.Known.{value-around}
-use Rattle.rpki_files.specs.Checklist.Checked.{checked_fields_at}
+use Rattle.rpki_files.specs.Checklist.Files.{checked_fields_at}
 use Rattle.rpki_files.proofs.Checklists.Known.{name-in-front, hash-in-front, file-known}
 use Rattle.rpki_files.proofs.checklist.checked.CheckedEntrySliceEntry.read.Goals as goal
 

@@ -1,6 +1,6 @@
 use Rattle.rpki_der.specs.Tags.{SEQUENCE}
 use Rattle.rpki_lists.proofs.Known.{value-around}
-use Rattle.rpki_files.specs.Manifest.File.{file_fields_at}
+use Rattle.rpki_files.specs.Manifest.Files.{file_fields_at}
 use Rattle.rpki_files.proofs.Manifests.Known.{name-in-front, hash-in-front, file-known}
 use Rattle.rpki_files.proofs.manifest.files.FileEntrySliceEntry.read.Goals as goal
 

@@ -1,6 +1,6 @@
 use Rattle.std.proofs.Common.{All, subst}
 use Rattle.std.proofs.lemmas.List.Elements.{All-head, All-rest}
-use Rattle.rpki_files.specs.Manifest.File.{File, name_of}
+use Rattle.rpki_files.specs.Manifest.Files.{File, name_of}
 use Rattle.rpki_files.specs.Name.{IsFileName}
 use Rattle.rpki_files.proofs.manifest.uris.ManifestUriIterIterator.next.Goals as goal
 

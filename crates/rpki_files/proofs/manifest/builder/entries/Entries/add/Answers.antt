@@ -2,7 +2,7 @@ use Rattle.std.proofs.Common.{◌≡◌, true, false, Bor, List, ℕ, inr, ap, r
 use Rattle.std.specs.Prelude.{◌&&◌}
 use Rattle.rpki_files.specs.declared.manifest.file.FileAndHash.{FileAndHash}
 use Rattle.rpki_files.specs.declared.manifest.builder.entries.Entries.{Entries}
-use Rattle.rpki_files.specs.Manifest.File.{File, is_allowed}
+use Rattle.rpki_files.specs.Manifest.Files.{File, is_allowed}
 use Rattle.rpki_files.specs.Name.{is_file_name}
 use Rattle.rpki_files.proofs.Manifests.Taken.{not-short, taken-more}
 use Rattle.rpki_files.proofs.manifest.builder.entries.Entries.add.Goals as goal

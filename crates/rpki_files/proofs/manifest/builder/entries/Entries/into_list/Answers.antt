@@ -1,5 +1,5 @@
 use Rattle.std.proofs.Common.{◌≡◌, List, sym, subst, true, false, ◌∙◌}
-use Rattle.rpki_files.specs.Manifest.File.{File, is_unrepeated}
+use Rattle.rpki_files.specs.Manifest.Files.{File, is_unrepeated}
 use Rattle.rpki_files.proofs.Manifests.Taken.{bad-extension, bad-name, entries-are, met-rule}
 use Rattle.rpki_files.proofs.Manifests.Taken.{names-hold, repeated-name, too-many}
 use Rattle.rpki_files.proofs.manifest.builder.entries.Entries.into_list.Goals as goal
