@@ -359,6 +359,9 @@ WRONG_WORDS = [
     (["--relaxed", "--relaxed"] + listed("roa"), "option out of place: --relaxed"),
     (["--", *listed("roa")], "option out of place: --"),
     (["check", "--wide"] + check("roa", "roa")[1:], "missing: --ta"),
+    *(([*before, "check", *words], "missing: --ta") for before in ([], ["--wide"]) for words in (
+        ["a.roa"], ["b.TAL", "roa"], ["a.roa", "--ca", "authority"], ["none", "roa", "--at", "now"],
+        ["-", "--kind", "roa"], ["", "-x"])),
     *((check(kind, "roa"), f"unknown kind: {kind}") for kind in ("none", "tal", "rta", "-", "")),
     *((["content", kind, "roa"], f"unknown kind: {kind}") for kind in ("crl", "tal", "-")),
     (["content", "--wide", "roa"], "option out of place: --wide"),

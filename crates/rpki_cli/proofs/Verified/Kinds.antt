@@ -1,14 +1,21 @@
 -- Kinds of files by their names.
 use Rattle.std.proofs.Common.{rules, arith, ◌≡◌, ◌++◌, ◌∙◌, ◌+◌, ◌-◌, ◌<◌, ◌≤◌, ℕ, List, [], ◌∷◌}
 use Rattle.std.proofs.Common.{Option, None, Some, length, get_or, take, drop, map, sym, ap, subst}
-use Rattle.std.proofs.Common.{suc}
+use Rattle.std.proofs.Common.{suc, Bool, true, false, IsTrue, refl}
 use Rattle.std.proofs.lemmas.List.{length-append, length-map, take-append-drop, length-drop}
 use Rattle.std.proofs.Math.Seq.{drop-append_seam, drop-cons}
 use Rattle.std.proofs.Math.ListN.{drop_of_length-le}
+use Rattle.std.proofs.lemmas.Slice.Eq.{bytes_eq-Decides}
 use Rattle.std.specs.Char.{to_ascii_lowercase}
+use Rattle.std.specs.Option.{is_some}
 use Rattle.std.specs.Prelude.{MatchOption}
-use Rattle.rpki_cli.specs.Verify.Kinds.{extension, IsNameOf}
+use Rattle.std.specs.List.{list_any}
+use Rattle.std.specs.Str.{bytes_eq}
+use Rattle.rpki_cli.specs.Verify.Kinds.{extension, IsNameOf, low_end, tells_kind}
 use Rattle.rpki_cli.specs.declared.verify.kinds_by_name.FileKind.{FileKind}
+use Rattle.rpki_cli.specs.declared.verify.kinds_by_name.FileKind.TheVariants.{Roa, Aspa, Manifest}
+use Rattle.rpki_cli.specs.declared.verify.kinds_by_name.FileKind.TheVariants.{Rsc, Rta, Certificate}
+use Rattle.rpki_cli.specs.declared.verify.kinds_by_name.FileKind.TheVariants.{Crl, Tal}
 
 -- ---- one kind
 
@@ -116,3 +123,111 @@ named-by-end name xs a b d e r same l p q s t h =
     let low : lowered (drop i xs) ≡ a ∷ b ∷ d ∷ e ∷ [] = cc in
     subst (λ (x : List ℕ). MatchOption r ((k : FileKind) → IsNameOf x k → ⊥) (λ k. IsNameOf x k))
     same (kind-of-end xs i (a ∷ b ∷ d ∷ e ∷ []) r n low h)
+
+-- ---- ends of names are tested
+
+-- the end of a name of this kind
+low-of : (name : List ℕ) (k : FileKind) → IsNameOf name k → low_end name ≡ extension k
+low-of name k h =
+    let l : length h.ending ≡ 4 = ending-length name k h in
+    let n : length name - 4 ≡ length h.stem =
+    omega (arith, l, ap length h.parts, length-append h.stem h.ending) in
+    ap (λ (i : ℕ). lowered (drop i name)) n
+    ∙ ap (λ (t : List ℕ). lowered (drop (length h.stem) t)) h.parts
+    ∙ ap lowered (drop-append_seam h.stem h.ending)
+    ∙ h.kind_of
+
+of-low : (name : List ℕ) (k : FileKind) → low_end name ≡ extension k → IsNameOf name k
+of-low name k e = record {
+  stem = take (length name - 4) name;
+  ending = drop (length name - 4) name;
+  parts = sym (take-append-drop (length name - 4) name);
+  kind_of = e;
+}
+
+-- whether octets are what the names of some kind end with
+abbrev is_extension : List ℕ → Bool
+is_extension low = list_any (bytes_eq low)
+    (extension Roa ∷ extension Aspa ∷ extension Manifest ∷ extension Rsc ∷ extension Rta
+    ∷ extension Certificate ∷ extension Crl ∷ extension Tal ∷ [])
+
+extension-is : (k : FileKind) → is_extension (extension k) ≡ true
+extension-is Roa = refl
+extension-is Aspa = refl
+extension-is Manifest = refl
+extension-is Rsc = refl
+extension-is Rta = refl
+extension-is Certificate = refl
+extension-is Crl = refl
+extension-is Tal = refl
+
+differ : (word that : List ℕ) → (word ≡ that → ⊥) → (b : Bool) → bytes_eq word that ≡ b
+    → bytes_eq word that ≡ false
+differ word that n true e = absurd (n ((bytes_eq-Decides word that).0 e))
+differ word that n false e = e
+
+end-complete : (name : List ℕ) (k : FileKind) → IsNameOf name k → tells_kind name ≡ true
+end-complete name k h = ap is_extension (low-of name k h) ∙ extension-is k
+
+-- a name that says no kind is tested so
+no-end : (name : List ℕ) → ((k : FileKind) → IsNameOf name k → ⊥) → tells_kind name ≡ false
+no-end name n =
+    let at = λ (k : FileKind).
+    differ (low_end name) (extension k) (λ e. n k (of-low name k e)) _ refl in
+    let a = at Roa in
+    let b = at Aspa in
+    let c = at Manifest in
+    let d = at Rsc in
+    let e = at Rta in
+    let f = at Certificate in
+    let g = at Crl in
+    let h = at Tal in
+    rw (a, b, c, d, e, f, g, h) refl
+
+-- the end of a name is tested to tell a kind where one is found
+pub found_end : (name : List ℕ) (r : Option FileKind)
+    → MatchOption r ((k : FileKind) → IsNameOf name k → ⊥) (λ k. IsNameOf name k)
+    → is_some r ≡ tells_kind name
+found_end name (Some k) h = sym (end-complete name k h)
+found_end name None n = sym (no-end name n)
+
+pub ruleset by_ending = (found_end)
+
+-- a test of eight parts holds by one of them
+some-of : (low : List ℕ) (a b c d e f g h : Bool) → bytes_eq low (extension Roa) ≡ a
+    → bytes_eq low (extension Aspa) ≡ b → bytes_eq low (extension Manifest) ≡ c
+    → bytes_eq low (extension Rsc) ≡ d → bytes_eq low (extension Rta) ≡ e
+    → bytes_eq low (extension Certificate) ≡ f → bytes_eq low (extension Crl) ≡ g
+    → bytes_eq low (extension Tal) ≡ h
+    → list_any (λ (x : Bool). x) (a ∷ b ∷ c ∷ d ∷ e ∷ f ∷ g ∷ h ∷ []) ≡ true
+    → (k : FileKind) × (low ≡ extension k)
+some-of low true b c d e f g h p q r s u v w x t =
+    (Roa, (bytes_eq-Decides low (extension Roa)).0 p)
+some-of low false true c d e f g h p q r s u v w x t =
+    (Aspa, (bytes_eq-Decides low (extension Aspa)).0 q)
+some-of low false false true d e f g h p q r s u v w x t =
+    (Manifest, (bytes_eq-Decides low (extension Manifest)).0 r)
+some-of low false false false true e f g h p q r s u v w x t =
+    (Rsc, (bytes_eq-Decides low (extension Rsc)).0 s)
+some-of low false false false false true f g h p q r s u v w x t =
+    (Rta, (bytes_eq-Decides low (extension Rta)).0 u)
+some-of low false false false false false true g h p q r s u v w x t =
+    (Certificate, (bytes_eq-Decides low (extension Certificate)).0 v)
+some-of low false false false false false false true h p q r s u v w x t =
+    (Crl, (bytes_eq-Decides low (extension Crl)).0 w)
+some-of low false false false false false false false true p q r s u v w x t =
+    (Tal, (bytes_eq-Decides low (extension Tal)).0 x)
+some-of low false false false false false false false false p q r s u v w x t = absurd cc
+
+-- octets that are what the names of some kind end with
+some-extension : (low : List ℕ) → is_extension low ≡ true
+    → (k : FileKind) × (low ≡ extension k)
+some-extension low t = some-of low _ _ _ _ _ _ _ _ refl refl refl refl refl refl refl refl t
+
+pub ends-tested : (name : List ℕ)
+    → (IsTrue (tells_kind name) → (k : FileKind) × IsNameOf name k)
+    × ((k : FileKind) × IsNameOf name k → IsTrue (tells_kind name))
+ends-tested name = (
+  λ t. let some = some-extension (low_end name) t in (some.0, of-low name some.0 some.1),
+  λ s. end-complete name s.0 s.1,
+)

@@ -1,8 +1,9 @@
 -- Words that ask for nothing.
 use Rattle.std.proofs.Common.{◌≡◌, ◌<◌, ◌∙◌, ℕ, List, [], ◌∷◌, Bool, true, false, Option, None}
 use Rattle.std.proofs.Common.{Some, Bor, zero, suc, sym, refl, ap, arith, length, get_or, codes}
-use Rattle.std.proofs.Common.{inl, inr}
+use Rattle.std.proofs.Common.{inl, inr, ◌||◌}
 use Rattle.std.proofs.lemmas.Slice.Eq.{bytes_eq-Decides}
+use Rattle.std.specs.List.{list_any}
 use Rattle.std.specs.Option.{is_some, unwrap_or}
 use Rattle.std.specs.Prelude.{MatchOption, if◌then◌else◌}
 use Rattle.std.specs.Str.{bytes_eq}
@@ -98,6 +99,12 @@ found_name word None n =
     rw (kind, ta, ca, tal, crl, at) refl
 
 pub ruleset by_name = (found_name)
+
+-- a test of words is one of their texts
+pub any-text : (test : List ℕ → Bool) (words : List (Bor (List ℕ)))
+    → list_any test (texts words) ≡ list_any (λ (w : Bor (List ℕ)). test w.now) words
+any-text test [] = refl
+any-text test (w ∷ ws) = ap (λ (b : Bool). test w.now || b) (any-text test ws)
 
 -- ---- words in one place
 

@@ -1,6 +1,8 @@
 -- Kinds of files, and what says them.
-use Rattle.std.specs.Prelude.{◌≡◌, ℕ, List, ◌++◌, map, codes}
+use Rattle.std.specs.Prelude.{◌≡◌, ℕ, ◌-◌, List, [], ◌∷◌, ◌++◌, Bool, map, drop, length, codes}
 use Rattle.std.specs.Char.{to_ascii_lowercase}
+use Rattle.std.specs.List.{list_any}
+use Rattle.std.specs.Str.{bytes_eq}
 use Rattle.rpki_cli.specs.declared.verify.kinds_by_name.FileKind.{FileKind}
 use Rattle.rpki_cli.specs.declared.verify.kinds_by_name.FileKind.TheVariants.{Roa, Aspa, Manifest}
 use Rattle.rpki_cli.specs.declared.verify.kinds_by_name.FileKind.TheVariants.{Rsc, Rta, Certificate}
@@ -37,3 +39,13 @@ pub record IsNameOf (name : List ℕ) (kind : FileKind) : Type 0 where
   pub ending : List ℕ
   pub parts : name ≡ stem ++ ending
   pub kind_of : map to_ascii_lowercase ending ≡ extension kind
+
+-- the last four octets of a name in lower case: as many as what the names of a kind end with
+abbrev pub low_end : List ℕ → List ℕ
+low_end name = map to_ascii_lowercase (drop (length name - 4) name)
+
+-- Whether the end of a name tells a kind, as the law `verify::laws::ends_of_names_are_tested` says.
+abbrev pub tells_kind : List ℕ → Bool
+tells_kind name = list_any (bytes_eq (low_end name))
+    (extension Roa ∷ extension Aspa ∷ extension Manifest ∷ extension Rsc ∷ extension Rta
+    ∷ extension Certificate ∷ extension Crl ∷ extension Tal ∷ [])

@@ -1,5 +1,5 @@
 -- What the program with signatures says to words that ask for nothing: which word is wrong.
-use Rattle.std.specs.Prelude.{ℕ, List, [], ◌∷◌, Bool, not, ◌||◌, ◌&&◌, ◌==◌, codes, length}
+use Rattle.std.specs.Prelude.{ℕ, List, [], ◌∷◌, Bool, false, not, ◌||◌, ◌&&◌, ◌==◌, codes, length}
 use Rattle.std.specs.Prelude.{Option, None, Some, if◌then◌else◌}
 use Rattle.std.specs.List.{list_any}
 use Rattle.std.specs.Option.{unwrap_or}
@@ -8,6 +8,7 @@ use Rattle.rpki_cli.specs.Answer.{Output, help, wrong_words, wrong_by}
 use Rattle.rpki_cli.specs.Words.{kind_word, is_anchor, files_of_anchor, are_named}
 use Rattle.rpki_cli.specs.Words.{pairs_in, path_in}
 use Rattle.rpki_cli.specs.declared.words.Kind.TheVariants.{Aspa, Manifest, Roa, Rsc}
+use Rattle.rpki_cli.specs.Verify.Kinds.{tells_kind}
 use Rattle.rpki_cli.specs.Verify.Moments.{names_moment}
 use Rattle.rpki_cli.specs.Verify.Settings.{is_dashed, flag_word, named_word, word_end}
 use Rattle.rpki_cli.specs.declared.verify.settings.Flag.TheVariants as flags
@@ -88,12 +89,18 @@ missing_anchor = wrong_by (codes "missing: ") word_ta
 abbrev pub Place : Type 0
 Place = List ℕ → Option Output
 
--- the kind of an object that is checked; an option here is one of a check of many files, and words
--- of such a check that have a trust anchor ask for something
-abbrev pub object_kind : Place
-object_kind word =
+-- Whether words after `check` look like those of a check of many files: the end of the first tells
+-- a kind of file, or an option is among them. Such words with a trust anchor ask for something.
+abbrev pub look_like_many : List (List ℕ) → Bool
+look_like_many [] = false
+look_like_many (word ∷ words) = tells_kind word || list_any is_dashed (word ∷ words)
+
+-- the kind of an object that is checked; where the words look like those of a check of many files,
+-- their trust anchor is missing
+abbrev pub object_kind : Bool → Place
+object_kind many word =
     if is_kind word then None
-    else if is_dashed word then Some missing_anchor else Some (unknown_kind word)
+    else if many then Some missing_anchor else Some (unknown_kind word)
 
 -- the kind of a content, to which attestations belong
 abbrev pub content_kind : Place
@@ -139,6 +146,11 @@ said_in (place ∷ places) more (word ∷ words) = unwrap_or (place word) (said_
 abbrev pub any_more : List (List ℕ) → Output
 any_more words = wrong_words
 
+-- what is said to the words after `check`
+abbrev pub said_to_check : List (List ℕ) → Output
+said_to_check words =
+    said_in (object_kind (look_like_many words) ∷ any_file ∷ a_moment ∷ []) any_more words
+
 -- what is said to anchors
 abbrev pub said_to_anchors : List (List ℕ) → Output
 said_to_anchors words = said_to_each an_anchor words
@@ -180,8 +192,7 @@ is_command word = is_one_of
 -- the word of a command, and those after it, which do not begin with one that asks for help
 abbrev pub said_after : List ℕ → List (List ℕ) → Output
 said_after command words =
-    if bytes_eq command (codes "check") then
-    said_in (object_kind ∷ any_file ∷ a_moment ∷ []) any_more words
+    if bytes_eq command (codes "check") then said_to_check words
     else if bytes_eq command (codes "content") then said_in (content_kind ∷ []) any_more words
     else if bytes_eq command (codes "payloads") then
     said_in (a_copy ∷ a_moment ∷ []) any_more (after_format words)

@@ -8,7 +8,7 @@ ghost use Rattle.rpki_cli.specs.Verify.CheckSettings.{CheckValues};
 ghost use Rattle.rpki_cli.specs.Verify.Requests.{AskedCheck, IsAskedCheck, IsWrongCheck};
 ghost use Rattle.rpki_cli.specs.Verify.Requests.{AskedShow, IsAskedShow, IsWrongShow, SaysWrong};
 ghost use Rattle.rpki_cli.specs.Answer.{Output};
-ghost use Rattle.rpki_cli.specs.Verify.Kinds.{IsNameOf};
+ghost use Rattle.rpki_cli.specs.Verify.Kinds.{IsNameOf, tells_kind};
 ghost use Rattle.rpki_cli.specs.Verify.Moments.{NamesWhen, names_moment};
 ghost use Rattle.rpki_cli.specs.Verify.Settings.{Arranged, IsRefusedFor, arranged_words};
 ghost use Rattle.rpki_cli.specs.Verify.Settings.{arrange_error_text};
@@ -67,6 +67,11 @@ pub fn moments_are_tested()
 /// No name says two kinds.
 pub fn names_say_one_kind()
     ensures { (name : List ℕ) (a b : FileKind) → IsNameOf name a → IsNameOf name b → a ≡ b }
+{}
+
+/// The end of a name is tested to tell a kind exactly if it says one.
+pub fn ends_of_names_are_tested()
+    ensures { (name : List ℕ) → IsTrue (tells_kind name) ↔ ((k : FileKind) × IsNameOf name k) }
 {}
 
 /// The settings of a check are refused for nothing, unless memory runs out.

@@ -1,20 +1,25 @@
 //! What is answered to words that ask for nothing of the program with signatures.
 
 ghost use Rattle.std.specs.Prelude.{◌≡◌, ◌∷◌, []};
+ghost use Rattle.std.specs.List.{list_any};
 ghost use Rattle.rpki_cli.specs.Answer.{said};
 ghost use Rattle.rpki_cli.specs.Words.{texts};
+ghost use Rattle.rpki_cli.specs.Verify.Kinds.{tells_kind};
 ghost use Rattle.rpki_cli.specs.Verify.Moments.{names_moment};
+ghost use Rattle.rpki_cli.specs.Verify.Settings.{is_dashed};
 ghost use Rattle.rpki_cli.specs.Verify.Wrong.{is_kind, is_command, is_option, is_flag, is_name};
 ghost use Rattle.rpki_cli.specs.Verify.Wrong.{is_named_anchor, is_pair, unknown_kind};
-ghost use Rattle.rpki_cli.specs.Verify.Wrong.{wrong_moment, wrong_option, object_kind};
+ghost use Rattle.rpki_cli.specs.Verify.Wrong.{wrong_moment, wrong_option, look_like_many};
 ghost use Rattle.rpki_cli.specs.Verify.Wrong.{content_kind, any_file, a_copy, a_moment};
 ghost use Rattle.rpki_cli.specs.Verify.Wrong.{any_more, is_format, after_format, said_in, said_after};
-ghost use Rattle.rpki_cli.specs.Verify.Wrong.{said_to_anchors, said_to_pairs, said_to_tail};
+ghost use Rattle.rpki_cli.specs.Verify.Wrong.{said_to_check, said_to_anchors, said_to_pairs};
+ghost use Rattle.rpki_cli.specs.Verify.Wrong.{said_to_tail};
 ghost use Rattle.rpki_cli.specs.Verify.Wrong.{said_to_verdicts, said_to_command, said_to_wrong};
 
 use crate::anchor_words::{is_anchor, is_named};
 use crate::answer::Answer;
 use crate::pairs::{cut_at_with, path_of};
+use crate::verify::kinds_by_name::kind_of_name;
 use crate::verify::moments::when_named;
 use crate::verify::settings::{Named, flag_of, is_dashed, named_of};
 use crate::verify::words::{begin_with_help, is_copy, take_options};
@@ -79,16 +84,16 @@ fn answer_other<'a>(command: &'a str, words: &'a [&'a str]) -> Answer<'a>
     }
 }
 
-/// What is answered to a kind, a file and a moment, and more.
+/// What is answered to a kind, a file and a moment, and more. Where the words look like those of a
+/// check of many files, their trust anchor is missing.
 fn answer_check<'a>(words: &'a [&'a str]) -> Answer<'a>
-    ensures { said result ≡ said_in (object_kind ∷ any_file ∷ a_moment ∷ []) any_more
-        (texts words.now) }
+    ensures { said result ≡ said_to_check (texts words.now) }
 {
     match words {
         [kind, rest @ ..] => {
             if is_kind(kind) {
                 answer_file(rest)
-            } else if is_dashed(kind) {
+            } else if look_like_many(words) {
                 Answer::WrongBy {
                     cause: "missing: ",
                     word: Named::Ta.word(),
@@ -99,6 +104,32 @@ fn answer_check<'a>(words: &'a [&'a str]) -> Answer<'a>
         }
         [] => Answer::WrongWords,
     }
+}
+
+/// Whether words after `check` look like those of a check of many files: the end of the first tells
+/// a kind of file, or an option is among them.
+fn look_like_many(words: &[&str]) -> bool
+    ensures { result ≡ look_like_many (texts words.now) }
+{
+    match words {
+        [word, ..] => tells_kind(word) || has_option(words),
+        [] => false,
+    }
+}
+
+/// Whether one of the words is dashed, as an option is.
+fn has_option(words: &[&str]) -> bool
+    ensures { result ≡ list_any is_dashed (texts words.now) }
+{
+    words.iter().any(|word| is_dashed(word))
+}
+
+/// Whether the end of a word tells a kind of file.
+#[tactic(auto, using(crate::proofs::Verified::Kinds::by_ending))]
+fn tells_kind(word: &str) -> bool
+    ensures { result ≡ tells_kind word.now }
+{
+    kind_of_name(word).is_some()
 }
 
 /// What is answered to a kind of content, and more.

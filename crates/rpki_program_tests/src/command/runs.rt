@@ -180,7 +180,7 @@ fn causes_are_told(rt: HostRuntime) -> Result<(), Fail> {
 }
 
 /// Words that ask for nothing of the program with signatures, and which of them is wrong.
-const NAMED: [(&[&str], &str); 16] = [
+const NAMED: [(&[&str], &str); 19] = [
     (&["help"], "unknown command: help\n"),
     (&["--strict", "help"], "unknown option: --strict\n"),
     (
@@ -188,6 +188,9 @@ const NAMED: [(&[&str], &str); 16] = [
         "option out of place: --relaxed\n",
     ),
     (&["check", "--kind", "aspa", "file"], "missing: --ta\n"),
+    (&["check", "a.asa"], "missing: --ta\n"),
+    (&["check", "file", "--ca", "file"], "missing: --ta\n"),
+    (&["check", "file", "file"], "unknown kind: file\n"),
     (
         &["check", "rta", "file", "today", "file"],
         "unknown kind: rta\n",
