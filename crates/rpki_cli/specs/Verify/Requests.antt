@@ -6,7 +6,7 @@ use Rattle.rpki_cli.specs.Words.{texts, are_named, are_plain}
 use Rattle.rpki_cli.specs.Verify.CheckSettings.{CheckValues, check_values, check_names, IsCheckOf}
 use Rattle.rpki_cli.specs.Verify.CheckSettings.{IsRefusal, settings_error_text, is_on, values_of}
 use Rattle.rpki_cli.specs.Verify.CheckSettings.{IsKindGiven, IsKindFault, AreOfCheck, IsFirstOther}
-use Rattle.rpki_cli.specs.Verify.Kinds.{IsNameOf}
+use Rattle.rpki_cli.specs.Verify.Kinds.{IsNameOf, file_kind_word}
 use Rattle.rpki_cli.specs.Verify.Settings.{Arranged, IsRefusedFor, arrange_error_text}
 use Rattle.rpki_cli.specs.Verify.Settings.{flag_word, named_word}
 use Rattle.rpki_cli.specs.declared.words.Kind.TheVariants as objects
@@ -168,10 +168,16 @@ pub record IsOfNoObject (given : Option FileKind) (file : List ℕ) : Type 0 whe
   pub is : IsKindOf given file kind
   pub other : (object : CheckedKind) → ¬ (object_file object ≡ kind)
 
--- What is wrong with a file that is to be checked.
+-- the word that tells the kind of a file: that of the kind that is given, or else the file's name
+abbrev pub kind_teller : Option FileKind → List ℕ → List ℕ
+kind_teller (Some given) file = file_kind_word given
+kind_teller None file = file
+
+-- What is wrong with a file that is to be checked, and the word by which it is.
 abbrev pub IsObjectFault : Option FileKind → List ℕ → WrongWords → Type 0
 IsObjectFault given file (UnknownKind word) = (word.now ≡ file) × HasNoKind given file
-IsObjectFault given file (NotChecked word) = (word.now ≡ file) × IsOfNoObject given file
+IsObjectFault given file (NotChecked word) =
+    (word.now ≡ kind_teller given file) × IsOfNoObject given file
 IsObjectFault given file other = ⊥
 
 -- What is wrong with files that are to be checked: the first that is not that of an object has no
@@ -275,7 +281,7 @@ wrong_text NothingShown = codes "no file to show"
 wrong_text NoName = codes "empty name"
 wrong_text ControlCharacter = codes "control character in a name"
 wrong_text (UnknownKind file) = codes "unknown kind: " ++ file.now
-wrong_text (NotChecked file) = codes "cannot check files of this kind: " ++ file.now
+wrong_text (NotChecked word) = codes "cannot check files of this kind: " ++ word.now
 
 -- whether it is that memory ran out
 abbrev pub lacks_memory : WrongWords → Bool

@@ -9,6 +9,7 @@ ghost use Rattle.rpki_cli.specs.Verify.Requests.{object_file, IsKindOf, AreKinds
 ghost use Rattle.rpki_cli.specs.Verify.Requests.{asked_check, IsAskedCheck, IsWrongCheck};
 ghost use Rattle.rpki_cli.specs.Verify.Requests.{asked_show, IsAskedShow, IsWrongShow};
 ghost use Rattle.rpki_cli.specs.Verify.Requests.{HaveKindAlone, IsObjectFault, IsObjectsFault};
+ghost use Rattle.rpki_cli.specs.Verify.Requests.{kind_teller};
 ghost use Rattle.rpki_cli.specs.Verify.Requests.{IsFilesFault, IsShowKind, IsShowFault};
 ghost use Rattle.rpki_cli.specs.Verify.Requests.{IsFirstName};
 ghost use Rattle.rpki_cli.specs.Verify.Requests.{wrong_text, wrong_said};
@@ -78,7 +79,8 @@ pub enum WrongWords<'a> {
     ControlCharacter,
     /// The name of this file says no kind, and none is set.
     UnknownKind(&'a str),
-    /// Files of the kind of this one can't be checked.
+    /// Files of the kind that this word tells can't be checked: it is that of the kind, where one is
+    /// set, or else the name of a file.
     NotChecked(&'a str),
 }
 
@@ -95,7 +97,7 @@ impl fmt::Display for WrongWords<'_> {
             WrongWords::NoName => f.write_str("empty name"),
             WrongWords::ControlCharacter => f.write_str("control character in a name"),
             WrongWords::UnknownKind(file) => write!(f, "unknown kind: {file}"),
-            WrongWords::NotChecked(file) => write!(f, "cannot check files of this kind: {file}"),
+            WrongWords::NotChecked(word) => write!(f, "cannot check files of this kind: {word}"),
         }
     }
 }
@@ -244,6 +246,16 @@ pub fn object_of(kind: FileKind) -> Option<CheckedKind>
     }
 }
 
+/// The word that tells the kind of a file: that of the kind that is given, or else the file's name.
+fn kind_teller<'a>(given: Option<FileKind>, file: &'a str) -> &'a str
+    ensures { result.now ≡ kind_teller given file.now }
+{
+    match given {
+        Some(kind) => kind.word(),
+        None => file,
+    }
+}
+
 /// The kind of object that a file is. Refuses by `UnknownKind`, or by `NotChecked` where files of its
 /// kind can't be checked.
 fn object_in<'a>(given: Option<FileKind>, file: &'a str) -> Result<CheckedKind, WrongWords<'a>>
@@ -253,7 +265,7 @@ fn object_in<'a>(given: Option<FileKind>, file: &'a str) -> Result<CheckedKind, 
     match kind_of_file(given, file) {
         None => Err(WrongWords::UnknownKind(file)),
         Some(kind) => match object_of(kind) {
-            None => Err(WrongWords::NotChecked(file)),
+            None => Err(WrongWords::NotChecked(kind_teller(given, file))),
             Some(object) => Ok(object),
         },
     }

@@ -71,7 +71,7 @@ static CHECKS: [(&[&str], &str); 22] = [
     ),
     (
         &["--ta", "a.cer", "--kind", "crl", "b.roa"],
-        "cannot check files of this kind: b.roa",
+        "cannot check files of this kind: crl",
     ),
     (
         &["--ta", "a.cer", "--kind", "gbr", "b"],
