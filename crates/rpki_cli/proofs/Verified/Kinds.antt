@@ -11,7 +11,7 @@ use Rattle.std.specs.Option.{is_some}
 use Rattle.std.specs.Prelude.{MatchOption}
 use Rattle.std.specs.List.{list_any}
 use Rattle.std.specs.Str.{bytes_eq}
-use Rattle.rpki_cli.specs.Verify.Kinds.{extension, IsNameOf, low_end, tells_kind}
+use Rattle.rpki_cli.specs.Verify.Kinds.{extension, file_kind_word, IsNameOf, low_end, tells_kind}
 use Rattle.rpki_cli.specs.declared.verify.kinds_by_name.FileKind.{FileKind}
 use Rattle.rpki_cli.specs.declared.verify.kinds_by_name.FileKind.TheVariants.{Roa, Aspa, Manifest}
 use Rattle.rpki_cli.specs.declared.verify.kinds_by_name.FileKind.TheVariants.{Rsc, Rta, Certificate}
@@ -168,6 +168,23 @@ differ word that n false e = e
 
 end-complete : (name : List ℕ) (k : FileKind) → IsNameOf name k → tells_kind name ≡ true
 end-complete name k h = ap is_extension (low-of name k h) ∙ extension-is k
+
+no-word-end : (k : FileKind) → tells_kind (file_kind_word k) ≡ false
+no-word-end Roa = refl
+no-word-end Aspa = refl
+no-word-end Manifest = refl
+no-word-end Rsc = refl
+no-word-end Rta = refl
+no-word-end Certificate = refl
+no-word-end Crl = refl
+no-word-end Tal = refl
+
+-- the word of a kind is no name that says one
+pub words-no-names : (k j : FileKind) → IsNameOf (file_kind_word k) j → ⊥
+words-no-names k j h =
+    let yes = end-complete (file_kind_word k) j h in
+    let no = no-word-end k in
+    cc
 
 -- a name that says no kind is tested so
 no-end : (name : List ℕ) → ((k : FileKind) → IsNameOf name k → ⊥) → tells_kind name ≡ false

@@ -2,7 +2,7 @@
 use Rattle.std.proofs.Common.{rules, arith, ◌≡◌, ◌∙◌, ◌++◌, ◌+◌, ◌<◌, ◌≤◌, ◌⊎◌, ℕ, List, [], ◌∷◌}
 use Rattle.std.proofs.Common.{Bool, true, false, sym, refl, ap, subst, inl, inr, map, length, get_or, take}
 use Rattle.std.proofs.Common.{drop, suc, Option, None, Some, Bor, ◌==◌}
-use Rattle.std.proofs.lemmas.List.{take-append-drop, take_more, map-append}
+use Rattle.std.proofs.lemmas.List.{take-append-drop, take_more, map-append, length-map}
 use Rattle.std.proofs.Math.Seq.{drop-cons}
 use Rattle.rpki_cli.specs.Answer.{Output, out_of_memory}
 use Rattle.rpki_cli.specs.Words.{texts, are_named, are_plain}
@@ -17,7 +17,7 @@ use Rattle.rpki_cli.specs.Verify.Requests.{IsShowKind, IsShowOf, IsShowFault, St
 use Rattle.rpki_cli.specs.Verify.Requests.{AreOfObjects, HasNoKind, IsObjectFault}
 use Rattle.rpki_cli.specs.Verify.Requests.{IsObjectsFault, IsFilesFault, IsWrongCheck, IsWrongShow}
 use Rattle.rpki_cli.specs.Verify.Requests.{lacks_memory, wrong_said, SaysWrong, HaveKindAlone}
-use Rattle.rpki_cli.specs.Verify.Requests.{IsFirstName}
+use Rattle.rpki_cli.specs.Verify.Requests.{IsFirstName, IsExtra}
 use Rattle.rpki_cli.specs.declared.verify.settings.Named.{Named}
 use Rattle.rpki_cli.specs.Verify.Requests as wrong
 use Rattle.rpki_cli.specs.declared.words.Options.{Options}
@@ -36,7 +36,7 @@ use Rattle.rpki_cli.specs.declared.verify.requests.WrongWords.TheVariants.{FlagO
 use Rattle.rpki_cli.specs.declared.verify.requests.WrongWords.TheVariants.{NothingShown}
 use Rattle.rpki_cli.proofs.Verified.CheckSettings.{check-not-refused, one-word, no-word, clash}
 use Rattle.rpki_cli.proofs.Verified.CheckSettings.{first-clash, kind-clash}
-use Rattle.rpki_cli.proofs.Verified.Kinds.{kinds-once}
+use Rattle.rpki_cli.proofs.Verified.Kinds.{kinds-once, words-no-names}
 use Rattle.rpki_cli.proofs.Verified.Moments.{whens-once}
 use Rattle.rpki_cli.proofs.Verified.Settings.{arranged-once, arranged-not-refused}
 
@@ -407,6 +407,15 @@ kinds-apart given files all (UnknownKind w) h f n =
 kinds-apart given files all (Settings faults.Memory) h f n = absurd cc
 kinds-apart given files all e h f n = absurd f
 
+-- files that have kinds do not begin with the word of one
+extra-apart : (given : Option FileKind) (files : List (List ℕ)) (all : List FileKind)
+    (word : List ℕ) → AreKindsOf given files all → IsExtra given files word → ⊥
+extra-apart (Some g) files all word h x = x
+extra-apart None files all word h x =
+    let at = kind-at None [] (x.1 ∷ word ∷ x.2) (file_kind_word x.0) all
+    (subst (λ (q : List (List ℕ)). AreKindsOf None q all) x.3 h) in
+    words-no-names x.0 at.0 at.1
+
 show-wrong : (words : List (List ℕ)) (c : AskedShow) (e : WrongWords) → IsAskedShow words c
     → IsWrongShow words e → lacks_memory e ≡ false → ⊥
 show-wrong words c e h (wrong.IsWrongShow.of_words {e = f} r) n =
@@ -423,7 +432,17 @@ show-wrong words c e h (wrong.IsWrongShow.of_unnamed a k o u) n =
 show-wrong words c e h (wrong.IsWrongShow.of_controls a k o u q) n =
     clash (ap are_plain (sym (arranged-once h.arranged a).1) ∙ h.plain) q
 show-wrong words c e h
-    (wrong.IsWrongShow.of_files {given = t} {operands = p} {kind = g} a k o u q f) n =
+    (wrong.IsWrongShow.of_extra {word = w} {given = t} {operands = p} {kind = g} a k u q x) n =
+    let same = arranged-once h.arranged a in
+    let i : h.kind ≡ g =
+    kind-given-once (values_of names.Kind t) h.kind g
+    (subst (λ (v : List Setting). IsKindGiven (values_of names.Kind v) h.kind) same.0
+    (h.given).kind_is) k.kind_is in
+    extra-apart g p c.kinds w.now
+    (subst (λ (q : Option FileKind). AreKindsOf q p c.kinds) i
+    (subst (λ (q : List (List ℕ)). AreKindsOf h.kind q c.kinds) same.1 h.kinds)) x
+show-wrong words c e h
+    (wrong.IsWrongShow.of_files {given = t} {operands = p} {kind = g} a k o u q x f) n =
     let same = arranged-once h.arranged a in
     let i : h.kind ≡ g =
     kind-given-once (values_of names.Kind t) h.kind g
@@ -521,3 +540,36 @@ pub nothing-shown : (words : List (List ℕ)) (s : List Setting) (o : List (List
     → IsWrongShow words NothingShown
 nothing-shown words s o kind a e k =
     wrong.IsWrongShow.of_none (subst (λ (q : List (List ℕ)). Arranged words s q) e a) k
+
+-- ---- words too many
+
+pub no-words : {a : List ℕ} {c : List (List ℕ)} → [] ≡ a ∷ c → ⊥
+no-words e = cc
+
+first-word : {a b : List ℕ} {c d : List (List ℕ)} → a ∷ c ≡ b ∷ d → a ≡ b
+first-word e = cc
+
+-- fewer words than three have none too many
+pub fewer-words : (operands : List (Bor (List ℕ))) (word : List ℕ) → length operands < 3
+    → IsExtra None (texts operands) word → ⊥
+fewer-words operands word l x =
+    omega (arith, l, length-map operands (λ (w : Bor (List ℕ)). w.now), ap length x.3)
+
+-- there is a word too many after the word of a kind and a file
+pub extra-word : (operands : List (Bor (List ℕ))) (kind : FileKind) (d e f : Bor (List ℕ))
+    → 3 ≤ length operands → (get_or operands 0 d).now ≡ file_kind_word kind
+    → IsExtra None (texts operands) (get_or operands 2 f).now
+extra-word [] kind d e f l h = absurd (omega (arith, l))
+extra-word (a ∷ []) kind d e f l h = absurd (omega (arith, l))
+extra-word (a ∷ b ∷ []) kind d e f l h = absurd (omega (arith, l))
+extra-word (a ∷ b ∷ c ∷ more) kind d e f l h =
+    (kind, b.now, texts more, ap (λ (w : List ℕ). w ∷ b.now ∷ c.now ∷ texts more) h)
+
+-- there is none where the first word is that of no kind
+pub no-extra : (operands : List (Bor (List ℕ))) (d : Bor (List ℕ)) (word : List ℕ)
+    → ((kind : FileKind) → (get_or operands 0 d).now ≡ file_kind_word kind → ⊥)
+    → IsExtra None (texts operands) word → ⊥
+no-extra [] d word n x = no-words x.3
+no-extra (a ∷ as_) d word n x = n x.0 (first-word x.3)
+
+pub ruleset by_extra = (fewer-words, extra-word, no-extra)

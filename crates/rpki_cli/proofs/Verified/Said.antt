@@ -1,6 +1,6 @@
 -- One thing is said of wrong words.
 use Rattle.std.proofs.Common.{◌≡◌, ◌∙◌, ◌++◌, ℕ, List, [], ◌∷◌, true, false, sym, refl, ap}
-use Rattle.std.proofs.Common.{subst, codes, Option, Bool, if◌then◌else◌}
+use Rattle.std.proofs.Common.{subst, codes, Option, None, Some, Bor, Bool, if◌then◌else◌}
 use Rattle.rpki_cli.specs.Answer.{Output, Complained, help}
 use Rattle.rpki_cli.specs.Words.{are_named, are_plain}
 use Rattle.rpki_cli.specs.Verify.CheckSettings.{CheckValues, IsCheckOf, IsRefusal}
@@ -11,7 +11,7 @@ use Rattle.rpki_cli.specs.Verify.Requests.{IsShowKind, IsShowFault, StandsAfter}
 use Rattle.rpki_cli.specs.Verify.Requests.{AreOfObjects, IsObjectFault, IsFirstName}
 use Rattle.rpki_cli.specs.Verify.Requests.{IsObjectsFault, IsFilesFault, IsWrongCheck, IsWrongShow}
 use Rattle.rpki_cli.specs.Verify.Requests.{lacks_memory, wrong_said, wrong_text, SaysWrong}
-use Rattle.rpki_cli.specs.Verify.Requests.{asks_help}
+use Rattle.rpki_cli.specs.Verify.Requests.{asks_help, IsExtra}
 use Rattle.rpki_cli.specs.Verify.Requests as wrong
 use Rattle.rpki_cli.specs.declared.verify.kinds_by_name.FileKind.{FileKind}
 use Rattle.rpki_cli.specs.declared.verify.settings.ArrangeError.{ArrangeError}
@@ -29,10 +29,11 @@ use Rattle.rpki_cli.specs.declared.verify.requests.WrongWords.TheVariants.{Unkno
 use Rattle.rpki_cli.specs.declared.verify.requests.WrongWords.TheVariants.{FlagOfOther, NameOfOther}
 use Rattle.rpki_cli.specs.declared.verify.requests.WrongWords.TheVariants.{NothingShown}
 use Rattle.rpki_cli.specs.declared.verify.requests.WrongWords.TheVariants.{ControlCharacter}
+use Rattle.rpki_cli.specs.declared.verify.requests.WrongWords.TheVariants.{ExtraWord}
 use Rattle.rpki_cli.proofs.Verified.CheckSettings.{check-not-refused, clash, first-clash, first-once}
 use Rattle.rpki_cli.proofs.Verified.CheckSettings.{kind-once, refused-for-one}
 use Rattle.rpki_cli.proofs.Verified.Requests.{kind-given-once, kind-of-once, values-once, same-check}
-use Rattle.rpki_cli.proofs.Verified.Requests.{name-clash, show-settings-apart}
+use Rattle.rpki_cli.proofs.Verified.Requests.{name-clash, no-words, show-settings-apart}
 use Rattle.rpki_cli.proofs.Verified.Settings.{arranged-once, arranged-not-refused, refused-once}
 
 -- ---- outputs
@@ -331,14 +332,29 @@ show-fault-once s (NameOfOther m) b h k = absurd k
 show-fault-once s (Settings d) b h k = absurd k
 show-fault-once s a b h k = absurd h
 
+third-same : {a b c d v w : List ℕ} {m n : List (List ℕ)} → a ∷ b ∷ v ∷ m ≡ c ∷ d ∷ w ∷ n → v ≡ w
+third-same e = cc
+
+extra-once : (given : Option FileKind) (o : List (List ℕ)) (v w : List ℕ) → IsExtra given o v
+    → IsExtra given o w → v ≡ w
+extra-once (Some g) o v w h k = absurd h
+extra-once None o v w h k = third-same (sym h.3 ∙ k.3)
+
+extra-some : (given : Option FileKind) (o : List (List ℕ)) (w : List ℕ) → IsExtra given o w
+    → o ≡ [] → ⊥
+extra-some (Some g) o w h e = h
+extra-some None o w h e = no-words (sym e ∙ h.3)
+
 -- what is wrong with the files of a show
 data OfFiles (given : Option FileKind) (o : List (List ℕ)) : WrongWords → Type 0 where
   empty : o ≡ [] → OfFiles given o NothingShown
   unnamed_file : ¬ (o ≡ []) → are_named o ≡ false → OfFiles given o NoName
   control : ¬ (o ≡ []) → are_named o ≡ true → are_plain o ≡ false
       → OfFiles given o ControlCharacter
+  extra : {w : Bor (List ℕ)} → are_named o ≡ true → are_plain o ≡ true → IsExtra given o w.now
+      → OfFiles given o (ExtraWord w)
   unkinded : {e : WrongWords} → ¬ (o ≡ []) → are_named o ≡ true → are_plain o ≡ true
-      → IsFilesFault given o e → OfFiles given o e
+      → ((w : List ℕ) → IsExtra given o w → ⊥) → IsFilesFault given o e → OfFiles given o e
 
 files-told : (given : Option FileKind) (o : List (List ℕ)) (a b : WrongWords)
     → OfFiles given o a → OfFiles given o b → lacks_memory a ≡ false → lacks_memory b ≡ false
@@ -346,19 +362,31 @@ files-told : (given : Option FileKind) (o : List (List ℕ)) (a b : WrongWords)
 files-told given o a b (empty i) (empty j) m n = (refl, refl)
 files-told given o a b (empty i) (unnamed_file j v) m n = absurd (j i)
 files-told given o a b (empty i) (control j v w) m n = absurd (j i)
-files-told given o a b (empty i) (unkinded j v w g) m n = absurd (j i)
+files-told given o a b (empty i) (extra {w = q} v w g) m n =
+    absurd (extra-some given o q.now g i)
+files-told given o a b (empty i) (unkinded j v w y g) m n = absurd (j i)
 files-told given o a b (unnamed_file i u) (empty j) m n = absurd (i j)
 files-told given o a b (unnamed_file i u) (unnamed_file j v) m n = (refl, refl)
 files-told given o a b (unnamed_file i u) (control j v w) m n = absurd (clash v u)
-files-told given o a b (unnamed_file i u) (unkinded j v w g) m n = absurd (clash v u)
+files-told given o a b (unnamed_file i u) (extra v w g) m n = absurd (clash v u)
+files-told given o a b (unnamed_file i u) (unkinded j v w y g) m n = absurd (clash v u)
 files-told given o a b (control i u x) (empty j) m n = absurd (i j)
 files-told given o a b (control i u x) (unnamed_file j v) m n = absurd (clash u v)
 files-told given o a b (control i u x) (control j v w) m n = (refl, refl)
-files-told given o a b (control i u x) (unkinded j v w g) m n = absurd (clash w x)
-files-told given o a b (unkinded i u x f) (empty j) m n = absurd (i j)
-files-told given o a b (unkinded i u x f) (unnamed_file j v) m n = absurd (clash u v)
-files-told given o a b (unkinded i u x f) (control j v w) m n = absurd (clash x w)
-files-told given o a b (unkinded i u x f) (unkinded j v w g) m n =
+files-told given o a b (control i u x) (extra v w g) m n = absurd (clash w x)
+files-told given o a b (control i u x) (unkinded j v w y g) m n = absurd (clash w x)
+files-told given o a b (extra {w = p} u x f) (empty j) m n =
+    absurd (extra-some given o p.now f j)
+files-told given o a b (extra u x f) (unnamed_file j v) m n = absurd (clash u v)
+files-told given o a b (extra u x f) (control j v w) m n = absurd (clash x w)
+files-told given o a b (extra {w = p} u x f) (extra {w = q} v w g) m n =
+    (ap (λ (t : List ℕ). codes "extra word: " ++ t) (extra-once given o p.now q.now f g), refl)
+files-told given o a b (extra {w = p} u x f) (unkinded j v w y g) m n = absurd (y p.now f)
+files-told given o a b (unkinded i u x y f) (empty j) m n = absurd (i j)
+files-told given o a b (unkinded i u x y f) (unnamed_file j v) m n = absurd (clash u v)
+files-told given o a b (unkinded i u x y f) (control j v w) m n = absurd (clash x w)
+files-told given o a b (unkinded i u x y f) (extra {w = q} v w g) m n = absurd (y q.now g)
+files-told given o a b (unkinded i u x y f) (unkinded j v w z g) m n =
     files-fault-once given o a b f g m n
 
 -- what is wrong with the settings of a show and its files
@@ -400,8 +428,10 @@ module _ (words : List (List ℕ)) (s : List Setting) (o : List (List ℕ)) (x :
         shown g (same-kind t p g a k) (same-files t p g _ a (unnamed_file i u))
     of-show e (wrong.IsWrongShow.of_controls {given = t} {operands = p} {kind = g} a k i u v) n =
         shown g (same-kind t p g a k) (same-files t p g _ a (control i u v))
-    of-show e (wrong.IsWrongShow.of_files {given = t} {operands = p} {kind = g} a k i u v f) n =
-        shown g (same-kind t p g a k) (same-files t p g e a (unkinded i u v f))
+    of-show e (wrong.IsWrongShow.of_extra {given = t} {operands = p} {kind = g} a k u v f) n =
+        shown g (same-kind t p g a k) (same-files t p g _ a (extra u v f))
+    of-show e (wrong.IsWrongShow.of_files {given = t} {operands = p} {kind = g} a k i u v y f) n =
+        shown g (same-kind t p g a k) (same-files t p g e a (unkinded i u v y f))
     of-show e wrong.IsWrongShow.of_memory n = absurd cc
 
 show-words-told : (words : List (List ℕ)) (d : ArrangeError) (b : WrongWords)
@@ -419,7 +449,10 @@ show-words-told words d b h
     (wrong.IsWrongShow.of_controls {given = t} {operands = p} a k i u v) m n =
     absurd (arranged-clash words p t d a h m)
 show-words-told words d b h
-    (wrong.IsWrongShow.of_files {given = t} {operands = p} a k i u v f) m n =
+    (wrong.IsWrongShow.of_extra {given = t} {operands = p} a k u v f) m n =
+    absurd (arranged-clash words p t d a h m)
+show-words-told words d b h
+    (wrong.IsWrongShow.of_files {given = t} {operands = p} a k i u v y f) m n =
     absurd (arranged-clash words p t d a h m)
 show-words-told words d b h wrong.IsWrongShow.of_memory m n = absurd cc
 
@@ -439,8 +472,11 @@ shows-told words a b
     (wrong.IsWrongShow.of_controls {given = t} {operands = p} {kind = g} x k i u v) w m n =
     show-told t p _ b (shown g k (control i u v)) (of-show words t p x b w n) m n
 shows-told words a b
-    (wrong.IsWrongShow.of_files {given = t} {operands = p} {kind = g} x k i u v f) w m n =
-    show-told t p a b (shown g k (unkinded i u v f)) (of-show words t p x b w n) m n
+    (wrong.IsWrongShow.of_extra {word = q} {given = t} {operands = p} {kind = g} x k u v f) w m n =
+    show-told t p _ b (shown g k (extra {w = q} u v f)) (of-show words t p x b w n) m n
+shows-told words a b
+    (wrong.IsWrongShow.of_files {given = t} {operands = p} {kind = g} x k i u v y f) w m n =
+    show-told t p a b (shown g k (unkinded i u v y f)) (of-show words t p x b w n) m n
 shows-told words a b wrong.IsWrongShow.of_memory w m n = absurd cc
 
 pub show-said-once : (words : List (List ℕ)) (s t : Output)

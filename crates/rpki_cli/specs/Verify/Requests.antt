@@ -1,6 +1,7 @@
 -- What words ask of many files.
 use Rattle.std.specs.Prelude.{◌≡◌, ℕ, List, [], ◌∷◌, ◌++◌, Bool, true, false, map, codes}
 use Rattle.std.specs.Prelude.{Option, None, Some, if◌then◌else◌}
+use Rattle.std.specs.Borrow.{Bor}
 use Rattle.rpki_cli.specs.Answer.{Output, Complained, out_of_memory, help}
 use Rattle.rpki_cli.specs.Words.{texts, are_named, are_plain}
 use Rattle.rpki_cli.specs.Verify.CheckSettings.{CheckValues, check_values, check_names, IsCheckOf}
@@ -32,6 +33,7 @@ use Rattle.rpki_cli.specs.declared.verify.requests.WrongWords.TheVariants.{Unkno
 use Rattle.rpki_cli.specs.declared.verify.requests.WrongWords.TheVariants.{FlagOfOther, NameOfOther}
 use Rattle.rpki_cli.specs.declared.verify.requests.WrongWords.TheVariants.{NothingShown}
 use Rattle.rpki_cli.specs.declared.verify.requests.WrongWords.TheVariants.{ControlCharacter}
+use Rattle.rpki_cli.specs.declared.verify.requests.WrongWords.TheVariants.{ExtraWord}
 
 -- ---- kinds of files
 
@@ -195,6 +197,14 @@ IsFilesFault given files (UnknownKind word) =
     StandsAfter (HaveKinds given) files word.now × HasNoKind given word.now
 IsFilesFault given files other = ⊥
 
+-- The operands of a show begin with the word of a kind, a file and this word, and no kind is set:
+-- this is the first word too many for a show of one file of that kind.
+abbrev pub IsExtra : Option FileKind → List (List ℕ) → List ℕ → Type 0
+IsExtra (Some given) operands word = ⊥
+IsExtra None operands word =
+    (kind : FileKind) × (file : List ℕ) × (more : List (List ℕ))
+    × (operands ≡ file_kind_word kind ∷ file ∷ word ∷ more)
+
 -- of the names of another command, `--ta`, `--ca`, `--tal`, `--crl` and `--at`, the first that a value
 -- is given to
 abbrev pub IsFirstName : Named → List Setting → Type 0
@@ -247,8 +257,8 @@ pub data IsWrongCheck (words : List (List ℕ)) : WrongWords → Type 0 where
 
 -- What is wrong with the words of a show of many files: the first word that is no setting and no
 -- operand, then a flag or a name of another command, the kind, files that are not there, have no
--- name, or have one with a control character, and last those that have no kind. Memory may always
--- run out.
+-- name, or have one with a control character, a word too many for a show of one file, and last
+-- those that have no kind. Memory may always run out.
 pub data IsWrongShow (words : List (List ℕ)) : WrongWords → Type 0 where
   of_words : {e : ArrangeError} → IsRefusedFor words e → IsWrongShow words (Arrange e)
   of_settings : {e : WrongWords} {given : List Setting} {operands : List (List ℕ)}
@@ -262,10 +272,14 @@ pub data IsWrongShow (words : List (List ℕ)) : WrongWords → Type 0 where
       → Arranged words given operands → IsShowKind given kind → ¬ (operands ≡ [])
       → are_named operands ≡ true → are_plain operands ≡ false
       → IsWrongShow words ControlCharacter
+  of_extra : {word : Bor (List ℕ)} {given : List Setting} {operands : List (List ℕ)}
+      {kind : Option FileKind} → Arranged words given operands → IsShowKind given kind
+      → are_named operands ≡ true → are_plain operands ≡ true → IsExtra kind operands word.now
+      → IsWrongShow words (ExtraWord word)
   of_files : {e : WrongWords} {given : List Setting} {operands : List (List ℕ)}
       {kind : Option FileKind} → Arranged words given operands → IsShowKind given kind
       → ¬ (operands ≡ []) → are_named operands ≡ true → are_plain operands ≡ true
-      → IsFilesFault kind operands e
+      → ((word : List ℕ) → ¬ IsExtra kind operands word) → IsFilesFault kind operands e
       → IsWrongShow words e
   of_memory : IsWrongShow words (Settings faults.Memory)
 
@@ -280,6 +294,7 @@ wrong_text (NameOfOther n) = codes "no option of show: " ++ named_word n
 wrong_text NothingShown = codes "no file to show"
 wrong_text NoName = codes "empty name"
 wrong_text ControlCharacter = codes "control character in a name"
+wrong_text (ExtraWord word) = codes "extra word: " ++ word.now
 wrong_text (UnknownKind file) = codes "unknown kind: " ++ file.now
 wrong_text (NotChecked word) = codes "cannot check files of this kind: " ++ word.now
 

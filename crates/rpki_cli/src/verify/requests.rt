@@ -1,6 +1,6 @@
 //! What words ask of many files: settings and operands in any order.
 
-ghost use Rattle.std.specs.Prelude.{◌≡◌, [], true, false, Some, IfOk, MatchOption};
+ghost use Rattle.std.specs.Prelude.{◌≡◌, ℕ, List, [], true, false, Some, IfOk, MatchOption};
 ghost use Rattle.std.specs.Prelude.{MatchResult};
 ghost use Rattle.rpki_cli.specs.Answer.{said};
 ghost use Rattle.rpki_cli.specs.Words.{texts};
@@ -9,7 +9,7 @@ ghost use Rattle.rpki_cli.specs.Verify.Requests.{object_file, IsKindOf, AreKinds
 ghost use Rattle.rpki_cli.specs.Verify.Requests.{asked_check, IsAskedCheck, IsWrongCheck};
 ghost use Rattle.rpki_cli.specs.Verify.Requests.{asked_show, IsAskedShow, IsWrongShow};
 ghost use Rattle.rpki_cli.specs.Verify.Requests.{HaveKindAlone, IsObjectFault, IsObjectsFault};
-ghost use Rattle.rpki_cli.specs.Verify.Requests.{kind_teller};
+ghost use Rattle.rpki_cli.specs.Verify.Requests.{kind_teller, IsExtra};
 ghost use Rattle.rpki_cli.specs.Verify.Requests.{IsFilesFault, IsShowKind, IsShowFault};
 ghost use Rattle.rpki_cli.specs.Verify.Requests.{IsFirstName};
 ghost use Rattle.rpki_cli.specs.Verify.Requests.{wrong_text, wrong_said};
@@ -22,7 +22,7 @@ use crate::verify::check_settings::{
     CheckSettings, SettingsError, is_on, kind_in, only_value_of, options_in, refuse_flags,
     settings_of,
 };
-use crate::verify::kinds_by_name::{FileKind, kind_of_name};
+use crate::verify::kinds_by_name::{FileKind, kind_of_name, kind_of_word};
 use crate::verify::settings::{ArrangeError, Flag, Named, Setting, arrange};
 use crate::words::{Kind, Options, all_named, all_plain};
 use std::alloc::{AllocError, AllocFailed, Global};
@@ -77,6 +77,8 @@ pub enum WrongWords<'a> {
     NoName,
     /// The name of a file has a control character.
     ControlCharacter,
+    /// This word is the first too many after the word of a kind and a file to show.
+    ExtraWord(&'a str),
     /// The name of this file says no kind, and none is set.
     UnknownKind(&'a str),
     /// Files of the kind that this word tells can't be checked: it is that of the kind, where one is
@@ -96,6 +98,7 @@ impl fmt::Display for WrongWords<'_> {
             WrongWords::NothingShown => f.write_str("no file to show"),
             WrongWords::NoName => f.write_str("empty name"),
             WrongWords::ControlCharacter => f.write_str("control character in a name"),
+            WrongWords::ExtraWord(word) => write!(f, "extra word: {word}"),
             WrongWords::UnknownKind(file) => write!(f, "unknown kind: {file}"),
             WrongWords::NotChecked(word) => write!(f, "cannot check files of this kind: {word}"),
         }
@@ -155,6 +158,10 @@ impl<'a> WrongWords<'a> {
             WrongWords::ControlCharacter => Answer::WrongBy {
                 cause: "control character in a name",
                 word: "",
+            },
+            WrongWords::ExtraWord(word) => Answer::WrongBy {
+                cause: "extra word: ",
+                word,
             },
             WrongWords::UnknownKind(word) => Answer::WrongBy {
                 cause: "unknown kind: ",
@@ -309,6 +316,25 @@ fn kinds_in<'a>(
     Ok(kinds)
 }
 
+/// The first word too many for a show of one file, where no kind is set and the operands begin with
+/// the word of one and a file.
+#[tactic(auto, using(crate::proofs::Verified::Requests::by_extra))]
+fn extra_in<'a>(given: Option<FileKind>, operands: &[&'a str]) -> Option<&'a str>
+    ensures { MatchOption result ((word : List ℕ) → IsExtra given (texts operands.now) word → ⊥)
+        (λ word. IsExtra given (texts operands.now) word.now) }
+{
+    match given {
+        Some(_) => None,
+        None => match operands {
+            [kind, _, word, ..] => match kind_of_word(kind) {
+                Some(_) => Some(word),
+                None => None,
+            },
+            _ => None,
+        },
+    }
+}
+
 /// The names of the files that a check reads, in the order that they are read in: the trust anchor's
 /// certificate, those below it, the locator, revocation lists, and the files that are checked.
 pub fn names_of_check<'a>(
@@ -432,6 +458,9 @@ pub fn show_words<'a>(
     }
     if !all_plain(files) {
         return Err(WrongWords::ControlCharacter);
+    }
+    if let Some(word) = extra_in(kind, files) {
+        return Err(WrongWords::ExtraWord(word));
     }
     let kinds = kinds_in(alloc, kind, files)?;
     Ok(ShowRequest {

@@ -80,7 +80,7 @@ static CHECKS: [(&[&str], &str); 22] = [
 ];
 
 /// Words after `show`, and what they ask as a text, or what is wrong.
-static SHOWS: [(&[&str], &str); 22] = [
+static SHOWS: [(&[&str], &str); 28] = [
     (&["a.roa"], "a.roa = roa"),
     (
         &["a.cer", "--json", "b.crl", "c.tal", "--wide"],
@@ -118,6 +118,18 @@ static SHOWS: [(&[&str], &str); 22] = [
     (&["a", "\x7F"], "control character in a name"),
     (&["a.roa", " \u{80}.roa"], "a.roa  \u{80}.roa = roa roa"),
     (&["a.roa", "-"], "unknown kind: -"),
+    (&["roa", "a.roa", "b.roa"], "extra word: b.roa"),
+    (
+        &["--wide", "certificate", "a", "--json", "b", "c"],
+        "extra word: b",
+    ),
+    (&["tal", "a", ""], "empty name"),
+    (&["roa", "a.roa", "--json"], "unknown kind: roa"),
+    (&["a.roa", "roa", "b.roa", "c.roa"], "unknown kind: roa"),
+    (
+        &["--kind", "roa", "roa", "a", "b"],
+        "roa a b = roa roa roa",
+    ),
 ];
 
 /// Words of the program, and the command that they ask for.

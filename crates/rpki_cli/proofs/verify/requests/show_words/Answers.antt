@@ -42,6 +42,15 @@ returns-then-not-all_plain c =
     (sym c.all_named.ensures ∙ c.if-not-all_named.false)
     (sym c.all_plain.ensures ∙ c.if-not-all_plain.true)
 
+pub returns-in-Some : goal.returns-in-Some
+returns-in-Some c =
+    wrong.IsWrongShow.of_extra
+    (arranged-as _ _ _ _ _ c.deref-settings.ensures.value c.deref-files.ensures.value
+    c.in-Ok.ensures.arranged)
+    c.in_ok-kind.ensures
+    (sym c.all_named.ensures ∙ c.if-not-all_named.false)
+    (sym c.all_plain.ensures ∙ c.if-not-all_plain.false) c.in-Some.ensures
+
 pub returns-in_err-kinds : goal.returns-in_err-kinds
 returns-in_err-kinds c =
     let r = c.from_residual-in_err-kinds in
@@ -52,7 +61,8 @@ returns-in_err-kinds c =
     c.in_ok-kind.ensures
     (some-files c.deref-files.result.now (sym c.is_empty.ensures ∙ c.if-is_empty.false))
     (sym c.all_named.ensures ∙ c.if-not-all_named.false)
-    (sym c.all_plain.ensures ∙ c.if-not-all_plain.false) c.in_err-kinds.ensures)
+    (sym c.all_plain.ensures ∙ c.if-not-all_plain.false) c.in_default.ensures
+    c.in_err-kinds.ensures)
 
 pub returns-in_err-from_slice : goal.returns-in_err-from_slice
 returns-in_err-from_slice c =
