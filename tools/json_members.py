@@ -79,9 +79,9 @@ def rsc(lines):
     for word, _, text in (line.partition(" ") for line in lines):
         if word == "named":
             name, it = text.rsplit(" ", 1)
-            files.append({"filename": name, "hash": it})
+            files.append({"filename": name, "hash_digest": it})
         elif word == "unnamed":
-            files.append({"hash": text})
+            files.append({"hash_digest": text})
     return {**{name: after(lines, word) for word, name in NUMBERS.items()}, "filenamesandhashes": files}
 
 
@@ -93,7 +93,7 @@ def rta(lines):
 
 
 def crl(lines):
-    words = {"number": "crl_serial", "this-update": "this_update", "next-update": "next_update", "authority-key-id": "aki"}
+    words = {"number": "crl_serial", "this-update": "valid_since", "next-update": "valid_until", "authority-key-id": "aki"}
     revoked = [it.split(" ") for it in after(lines, "revoked")]
     return {**{name: it for word, name in words.items() for it in after(lines, word)},
             "revoked_certs": [{"serial": serial, "date": date} for serial, date in revoked]}

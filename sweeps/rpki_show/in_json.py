@@ -199,8 +199,9 @@ OBJECTS = [
      {"asns": ["AS64496"], "ipv4": ["192.0.2.0/24"], "ipv6": [],
       "filenamesandhashes": [
           {"filename": "letter.txt",
-           "hash": "5c8437e345f639d9940ed7d853023f6d069e923d7ab43a092591b9dbdefe1aeb"},
-          {"hash": "aee7b480ff51d4c93c72c1fc60aac4ab0187e4a1447d79d226198cb9dd4b2d4d"}]}
+           "hash_digest": "5c8437e345f639d9940ed7d853023f6d069e923d7ab43a092591b9dbdefe1aeb"},
+          {"hash_digest":
+           "aee7b480ff51d4c93c72c1fc60aac4ab0187e4a1447d79d226198cb9dd4b2d4d"}]}
      | SIGNED | signer("07", "1B95E79E269CA2092ABA65FB1D2FB3F9557D1C1A", None,
                        asns=["AS64496"], ipv4=["192.0.2.0/24"])),
     ("holding.rta", "Rta", "rta",
@@ -221,13 +222,13 @@ OBJECTS = [
      certificate("02", AUTHORITY_KEY, ANCHOR_KEY, "authority", "authority.mft", "anchor",
                  ["AS64496-AS64511"], ["192.0.2.0/24", "198.51.100.0/24"], ["2001:db8::/32"])),
     ("rpki.example.net/authority/authority.crl", "Crl", "crl",
-     {"crl_serial": "01", "this_update": MOMENT, "next_update": "2036-01-01T00:00:00Z",
+     {"crl_serial": "01", "valid_since": MOMENT, "valid_until": "2036-01-01T00:00:00Z",
       "aki": AUTHORITY_KEY, "revoked_certs": []}),
     ("anchor.tal", "Tal", "tal",
      {"trust_anchor_locations": [f"{HOST}/anchor.cer"], "ski": ANCHOR_KEY}),
 ]
-REVOKED = {"crl_serial": "0102", "this_update": "2026-01-01T00:00:00Z",
-           "next_update": "2027-01-01T00:00:00Z", "aki": bytes(range(20)).hex().upper(),
+REVOKED = {"crl_serial": "0102", "valid_since": "2026-01-01T00:00:00Z",
+           "valid_until": "2027-01-01T00:00:00Z", "aki": bytes(range(20)).hex().upper(),
            "revoked_certs": [{"serial": "0100", "date": "2024-01-02T03:04:05Z"},
                              {"serial": "7F", "date": "2025-01-02T03:04:05Z"}]}
 WHOLE = ("aspa\ncustomer AS64496\nprovider AS64497\nprovider AS64511\n"

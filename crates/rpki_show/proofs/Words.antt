@@ -245,9 +245,9 @@ pub crl-words : (l : DatedList) → Words (crl_members l)
 crl-words l = (
   serial-words (codes "crl_serial") l.extensions.number,
   (
-    moment-words (codes "this_update") l.this_update,
+    moment-words (codes "valid_since") l.this_update,
     (
-      moment-words (codes "next_update") l.next_update,
+      moment-words (codes "valid_until") l.next_update,
       (
         key-words (codes "aki") l.extensions.authority_key,
         (each revoked_value revoked-words l.revoked, tt),

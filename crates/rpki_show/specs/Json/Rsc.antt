@@ -6,13 +6,18 @@ use Rattle.rpki_files.specs.Checklist.{Checklist}
 use Rattle.rpki_json.specs.Grammar.{Json}
 use Rattle.rpki_json.specs.Members.{Member, object_of, text_member, array_member}
 use Rattle.rpki_resources.specs.declared.family.AddressFamily.TheVariants.{Ipv4, Ipv6}
+use Rattle.rpki_show.specs.Ia5.{ia5_text}
 use Rattle.rpki_show.specs.Json.Blocks.{as_member, ip_member}
-use Rattle.rpki_show.specs.Json.Manifest.{file_value}
 
--- a file: its name, if it has one, and its hash in lower hexadecimal
+-- the hash of a file in lower hexadecimal, under the name that rpki-client has in a checklist
+abbrev pub hash_member : List ℕ → Member
+hash_member hash = text_member (codes "hash_digest") (hex hash)
+
+-- a file: its name, if it has one, and its hash
 abbrev pub hashed_value : Option (List ℕ) → List ℕ → Json
-hashed_value (Some name) hash = file_value (record { file = name; hash = hash })
-hashed_value None hash = object_of (text_member (codes "hash") (hex hash) ∷ [])
+hashed_value (Some name) hash =
+    object_of (text_member (codes "filename") (ia5_text name) ∷ hash_member hash ∷ [])
+hashed_value None hash = object_of (hash_member hash ∷ [])
 
 abbrev pub checked_value : Checked → Json
 checked_value f = hashed_value f.file_name f.hash

@@ -14,7 +14,7 @@ use crate::json::named::{push_first_serial, push_key, push_moment, push_serial};
 use std::alloc::{AllocError, Global};
 use std::fmt::Write;
 
-/// Appends the members of a revocation list: `crl_serial`, `this_update`, `next_update`, `aki`, and
+/// Appends the members of a revocation list: `crl_serial`, `valid_since`, `valid_until`, `aki`, and
 /// `revoked_certs`, an array of objects with `serial` and `date`. Refuses where memory runs out.
 pub fn push_crl(alloc: Global, text: &mut String, list: &DatedCrl) -> Result<(), AllocError>
     ensures { Grows result text.old text.new (flat_map further_text (crl_members list.now)) }
@@ -37,17 +37,17 @@ fn push_crl_number(alloc: Global, text: &mut String, list: &DatedCrl) -> Result<
 /// Appends the member of when it was made.
 fn push_this(alloc: Global, text: &mut String, list: &DatedCrl) -> Result<(), AllocError>
     ensures { Grows result text.old text.new
-        (further_text (moment_member (codes "this_update") list.now.this_update)) }
+        (further_text (moment_member (codes "valid_since") list.now.this_update)) }
 {
-    push_moment(alloc, text, "this_update", list.this_update())
+    push_moment(alloc, text, "valid_since", list.this_update())
 }
 
 /// Appends the member of until when the next one is made.
 fn push_next(alloc: Global, text: &mut String, list: &DatedCrl) -> Result<(), AllocError>
     ensures { Grows result text.old text.new
-        (further_text (moment_member (codes "next_update") list.now.next_update)) }
+        (further_text (moment_member (codes "valid_until") list.now.next_update)) }
 {
-    push_moment(alloc, text, "next_update", list.next_update())
+    push_moment(alloc, text, "valid_until", list.next_update())
 }
 
 /// Appends the member of its issuer's key.

@@ -85,13 +85,8 @@ fn push_listed(
     })
 }
 
-/// Appends the object of a file: its name and its hash. Refuses where memory runs out.
-pub fn push_file(
-    alloc: Global,
-    text: &mut String,
-    name: &[u8],
-    hash: &[u8],
-) -> Result<(), AllocError>
+/// Appends the object of a file: its name and its hash.
+fn push_file(alloc: Global, text: &mut String, name: &[u8], hash: &[u8]) -> Result<(), AllocError>
     ensures { Grows result text.old text.new
         (json_text (file_value (record { file = name.now; hash = hash.now }))) }
 {

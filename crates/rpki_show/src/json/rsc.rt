@@ -1,6 +1,6 @@
 //! The members of the content of a signed checklist.
 
-ghost use Rattle.std.specs.Prelude.{None, codes};
+ghost use Rattle.std.specs.Prelude.{None, Some, codes};
 ghost use Rattle.std.specs.List.{flat_map};
 ghost use Rattle.rpki_lists.specs.Slice.{seen};
 ghost use Rattle.rpki_json.specs.Grows.{Grows};
@@ -10,17 +10,17 @@ ghost use Rattle.rpki_show.specs.Json.Rsc.{rsc_members, checked_value, hashed_va
 
 use crate::json::arrays::push_array;
 use crate::json::blocks::{push_as_blocks, push_ip_blocks};
-use crate::json::manifest::push_file;
+use crate::texts::ia5::Ia5;
 use rpki_der::LowerHex;
 use rpki_files::ResourceSignedChecklist;
-use rpki_json::push_first;
+use rpki_json::{push_first, push_shown};
 use rpki_resources::AddressFamily;
 use std::alloc::{AllocError, Global};
 use std::fmt::Write;
 
 /// Appends the members of the content of a checklist: `asns`, `ipv4` and `ipv6`, arrays of blocks,
-/// and `filenamesandhashes`, an array of objects with `filename`, where there is one, and `hash`.
-/// Refuses where memory runs out.
+/// and `filenamesandhashes`, an array of objects with `filename`, where there is one, and
+/// `hash_digest`. Refuses where memory runs out.
 pub fn push_rsc(
     alloc: Global,
     text: &mut String,
@@ -74,9 +74,18 @@ fn push_checked(
         (json_text (hashed_value (seen (λ n. n.now) name.entry) hash.now)) }
 {
     match name {
-        Some(name) => push_file(alloc, text, name, hash),
+        Some(name) => push_named(alloc, text, name, hash),
         None => push_unnamed(alloc, text, hash),
     }
+}
+
+/// Appends the object of a file with a name.
+fn push_named(alloc: Global, text: &mut String, name: &[u8], hash: &[u8]) -> Result<(), AllocError>
+    ensures { Grows result text.old text.new (json_text (hashed_value (Some name.now) hash.now)) }
+{
+    push_first(alloc, text, "filename", &Ia5(name))?;
+    push_shown(alloc, text, "hash_digest", &LowerHex(hash))?;
+    write!(text, "}}")
 }
 
 /// Appends the object of a file without a name.
@@ -84,6 +93,6 @@ fn push_checked(
 fn push_unnamed(alloc: Global, text: &mut String, hash: &[u8]) -> Result<(), AllocError>
     ensures { Grows result text.old text.new (json_text (hashed_value None hash.now)) }
 {
-    push_first(alloc, text, "hash", &LowerHex(hash))?;
+    push_first(alloc, text, "hash_digest", &LowerHex(hash))?;
     write!(text, "}}")
 }

@@ -15,10 +15,10 @@ returns c =
     (further_text (serial_member (codes "crl_serial") l.extensions.number)) _ _
     c.in_ok-push_crl_number.ensures
     (grown r c.push_crl_number.new.text c.push_this.new.text new
-    (further_text (moment_member (codes "this_update") l.this_update)) _ _
+    (further_text (moment_member (codes "valid_since") l.this_update)) _ _
     c.in_ok-push_this.ensures
     (grown r c.push_this.new.text c.push_next.new.text new
-    (further_text (moment_member (codes "next_update") l.next_update)) _ _
+    (further_text (moment_member (codes "valid_until") l.next_update)) _ _
     c.in_ok-push_next.ensures
     (grown r c.push_next.new.text c.push_issuer.new.text new
     (further_text (key_member (codes "aki") l.extensions.authority_key)) entries _
