@@ -55,6 +55,14 @@ def whole_hex(digits):
     return digits.upper() if len(digits) % 2 == 0 else f"0{digits.upper()}"
 
 
+def in_octets(lines):
+    """The lines of `show FILE` where these are those of `show KIND FILE`: the number of a manifest and
+    the serial number of a signer have two digits for each octet."""
+    cut = [(line, *line.split(" ", 2)) for line in lines]
+    return [" ".join((its[0], whole_hex(its[1]), *its[2:])) if its[0] in ("number", "ee") and its[1:] else line
+            for line, *its in cut]
+
+
 def roa(lines):
     [asn] = after(lines, "as")
     cut = [it.partition("-") for it in after(lines, "origin")]

@@ -232,7 +232,7 @@ REVOKED = {"crl_serial": "0102", "valid_since": "2026-01-01T00:00:00Z",
            "revoked_certs": [{"serial": "0100", "date": "2024-01-02T03:04:05Z"},
                              {"serial": "7F", "date": "2025-01-02T03:04:05Z"}]}
 WHOLE = ("aspa\ncustomer AS64496\nprovider AS64497\nprovider AS64511\n"
-         f"signing {MOMENT}\nee 2 ACB452912B9B562E3E26A1A9B016182187C22E41\n"
+         f"signing {MOMENT}\nee 02 ACB452912B9B562E3E26A1A9B016182187C22E41\n"
          "certificate\nserial 02\nvalid-from 2026-01-01T00:00:00Z\nvalid-until 2040-01-01T00:00:00Z\n"
          "key-id ACB452912B9B562E3E26A1A9B016182187C22E41\n"
          f"authority-key-id {AUTHORITY_KEY}\nee\n"

@@ -11,6 +11,7 @@ ghost use Rattle.rpki_cli.specs.Answer.{said};
 ghost use Rattle.rpki_cli.specs.Shown.{IsLinesOf};
 ghost use Rattle.rpki_show.specs.Grows.{Grows};
 ghost use Rattle.rpki_show.specs.Options.{read_mode};
+ghost use Rattle.rpki_show.specs.declared.texts.serial.Hexadecimal.TheVariants.{Plain};
 ghost use Rattle.rpki_command.specs.Check.{passes, yes_line, IsCheckSaid, IsCheckedAs, IsRefused};
 ghost use Rattle.rpki_command.specs.Check.{IsIssuerRefused, IsCheckedWith, CheckOf};
 
@@ -22,6 +23,7 @@ use rpki_cli::words::{Kind, Options};
 use rpki_cli::{Causes, Work, refusal};
 use rpki_der::DecodeError;
 use rpki_faults::ValidationError;
+use rpki_show::texts::serial::Hexadecimal;
 use rpki_show::{Action, Lines, answer_for};
 use rpki_signed::check;
 use rpki_signed::check::CheckError;
@@ -180,7 +182,7 @@ fn answer_checked<'a, C: Lines>(
     causes: Causes,
     checked: Result<(ResourceCert, C), CheckError>,
 ) -> Answer<'a>
-    ensures { IsCheckSaid causes C.lines checked (said result) }
+    ensures { IsCheckSaid causes (C.lines Plain) checked (said result) }
 {
     match checked {
         Err(CheckError::Decode(error)) => refusal(alloc, causes, error),
@@ -196,21 +198,21 @@ fn answer_checked<'a, C: Lines>(
 
 /// A yes, and the lines of a content.
 pub fn say_yes<'a, C: Lines>(alloc: Global, content: &C) -> Answer<'a>
-    ensures { IsLinesOf (yes_line ++ C.lines content.now) (said result) }
+    ensures { IsLinesOf (yes_line ++ C.lines Plain content.now) (said result) }
 {
     let mut text = String::new(alloc);
-    match push_yes(&mut text, content) {
+    match push_yes(alloc, &mut text, content) {
         Ok(()) => Answer::Shown(text),
         Err(_) => Answer::OutOfMemory,
     }
 }
 
 /// Appends a yes, and the lines of a content.
-fn push_yes<C: Lines>(text: &mut String, content: &C) -> Result<(), AllocError>
-    ensures { Grows result text.old text.new (yes_line ++ C.lines content.now) }
+fn push_yes<C: Lines>(alloc: Global, text: &mut String, content: &C) -> Result<(), AllocError>
+    ensures { Grows result text.old text.new (yes_line ++ C.lines Plain content.now) }
 {
     write!(text, "yes\n")?;
-    content.push(text)
+    content.push(alloc, text, Hexadecimal::Plain)
 }
 
 /// The answer where an object is refused for this fault.

@@ -19,10 +19,11 @@ use Rattle.rpki_cli.specs.declared.words.Options.{Options}
 use Rattle.rpki_show.specs.Contents.{HasLines, LinesOf}
 use Rattle.rpki_show.specs.Json.File.{file_json}
 use Rattle.rpki_show.specs.Json.Object.{object_members}
-use Rattle.rpki_show.specs.Kinds.{OfKind, JsonOfKind}
+use Rattle.rpki_show.specs.Kinds.{OfKind, OfKindIn, JsonOfKind}
 use Rattle.rpki_show.specs.Objects.{ObjectLinesOf, ObjectJsonOf, WholeObjectLinesOf}
 use Rattle.rpki_show.specs.Options.{read_mode}
 use Rattle.rpki_show.specs.Texts.Object.{object_text, whole_text}
+use Rattle.rpki_show.specs.declared.texts.serial.Hexadecimal.TheVariants.{Plain, Octets}
 
 -- what may be said of octets that are refused
 pub refusal-said : (causes : Causes) (e : DecodeError) (s : Output) (P : Type 0)
@@ -68,15 +69,15 @@ of_kind causes options other octets s h = h
 pub object_of_kind : (causes : Causes) (options : Options) (kind : Kind) (octets : List ℕ)
     (s : Output)
     → OfKind options kind (λ X asked form text. IsShown causes (HasLines (ObjectForm asked.type form
-    (read_mode options)) (object_text text)) octets s)
+    (read_mode options)) (object_text Plain text)) octets s)
     → IsShown causes (ObjectLinesOf options kind) octets s
 object_of_kind causes options Aspa octets s h = h
 object_of_kind causes options other octets s h = h
 
 pub whole_of_kind : (causes : Causes) (options : Options) (kind : Kind) (octets : List ℕ)
     (s : Output)
-    → OfKind options kind (λ X asked form text. IsShown causes (HasLines (ObjectForm asked.type form
-    (read_mode options)) (whole_text text)) octets s)
+    → OfKindIn Octets options kind (λ X asked form text. IsShown causes (HasLines
+    (ObjectForm asked.type form (read_mode options)) (whole_text text)) octets s)
     → IsShown causes (WholeObjectLinesOf options kind) octets s
 whole_of_kind causes options Aspa octets s h = h
 whole_of_kind causes options other octets s h = h

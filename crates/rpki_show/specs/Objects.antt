@@ -7,19 +7,21 @@ use Rattle.rpki_cli.specs.declared.words.Options.{Options}
 use Rattle.rpki_show.specs.Contents.{HasLines}
 use Rattle.rpki_show.specs.Json.File.{file_json}
 use Rattle.rpki_show.specs.Json.Object.{object_members}
-use Rattle.rpki_show.specs.Kinds.{OfKind, JsonOfKind}
+use Rattle.rpki_show.specs.Kinds.{OfKind, OfKindIn, JsonOfKind}
 use Rattle.rpki_show.specs.Options.{read_mode}
 use Rattle.rpki_show.specs.Texts.Object.{object_text, whole_text}
+use Rattle.rpki_show.specs.declared.texts.serial.Hexadecimal.TheVariants.{Plain, Octets}
 
 -- The lines of a signed object of a kind at the front of the octets, with these options. Its
 -- content is in DER, and the object is too, unless the reading is relaxed.
 abbrev pub ObjectLinesOf : Options → Kind → List ℕ → List ℕ → Type 0
 ObjectLinesOf options kind = OfKind options kind (λ X asked form text.
-    HasLines (ObjectForm asked.type form (read_mode options)) (object_text text))
+    HasLines (ObjectForm asked.type form (read_mode options)) (object_text Plain text))
 
--- The same lines, and then those of the certificate of the signer.
+-- The same lines, with two hexadecimal digits for each octet of a number, and then those of the
+-- certificate of the signer.
 abbrev pub WholeObjectLinesOf : Options → Kind → List ℕ → List ℕ → Type 0
-WholeObjectLinesOf options kind = OfKind options kind (λ X asked form text.
+WholeObjectLinesOf options kind = OfKindIn Octets options kind (λ X asked form text.
     HasLines (ObjectForm asked.type form (read_mode options)) (whole_text text))
 
 -- The line in JSON of a signed object of a kind at the front of the octets, with these options, in

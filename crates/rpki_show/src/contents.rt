@@ -3,8 +3,10 @@
 ghost use Rattle.rpki_cli.specs.Answer.{said};
 ghost use Rattle.rpki_cli.specs.Shown.{IsShown, IsLinesOf};
 ghost use Rattle.rpki_show.specs.Contents.{HasLines, LinesOf};
+ghost use Rattle.rpki_show.specs.declared.texts.serial.Hexadecimal.TheVariants.{Plain};
 
 use crate::kinds::{Action, Lines, answer_for};
+use crate::texts::serial::Hexadecimal;
 use bytes::Bytes;
 use rpki_cli::answer::Answer;
 use rpki_cli::words::{Kind, Options};
@@ -42,7 +44,8 @@ impl Action for ShowContent {
 
 /// Answers with the lines of the content at the front of the source, if there is one.
 fn show<'a, C: Lines>(alloc: Global, causes: Causes, options: Options, source: Bytes) -> Answer<'a>
-    ensures { IsShown causes (HasLines (C.form (C.rule_of options)) C.lines) source (said result) }
+    ensures { IsShown causes (HasLines (C.form (C.rule_of options)) (C.lines Plain)) source
+        (said result) }
 {
     match C::read(alloc, source, C::rule(options)) {
         Err(error) => refusal(alloc, causes, error),
@@ -52,10 +55,10 @@ fn show<'a, C: Lines>(alloc: Global, causes: Causes, options: Options, source: B
 
 /// The lines of a content.
 fn show_lines<'a, C: Lines>(alloc: Global, content: &C) -> Answer<'a>
-    ensures { IsLinesOf (C.lines content.now) (said result) }
+    ensures { IsLinesOf (C.lines Plain content.now) (said result) }
 {
     let mut text = String::new(alloc);
-    match content.push(&mut text) {
+    match content.push(alloc, &mut text, Hexadecimal::Plain) {
         Ok(()) => Answer::Shown(text),
         Err(_) => Answer::OutOfMemory,
     }

@@ -12,17 +12,20 @@ ghost use Rattle.rpki_show.specs.Json.Aspa.{aspa_members};
 ghost use Rattle.rpki_show.specs.Json.Manifest.{manifest_members};
 ghost use Rattle.rpki_show.specs.Json.Roa.{roa_members};
 ghost use Rattle.rpki_show.specs.Json.Rsc.{rsc_members};
-ghost use Rattle.rpki_show.specs.Kinds.{OfKind};
+ghost use Rattle.rpki_show.specs.Kinds.{OfKindIn};
 ghost use Rattle.rpki_show.specs.Texts.Aspa.{aspa_text};
 ghost use Rattle.rpki_show.specs.Texts.Manifest.{manifest_text};
 ghost use Rattle.rpki_show.specs.Texts.Roa.{roa_text};
 ghost use Rattle.rpki_show.specs.Texts.Rsc.{rsc_text};
+ghost use Rattle.rpki_show.specs.declared.texts.serial.Hexadecimal.{Hexadecimal};
+ghost use Rattle.rpki_show.specs.declared.texts.serial.Hexadecimal.TheVariants.{Plain};
 
 use crate::json::{aspa, manifest, roa, rsc};
 use crate::texts::aspa::push_aspa;
 use crate::texts::manifest::push_manifest;
 use crate::texts::roa::push_roa;
 use crate::texts::rsc::push_rsc;
+use crate::texts::serial::Hexadecimal;
 use rpki_basics::{ManifestRule, ProviderLimit};
 use rpki_cli::answer::Answer;
 use rpki_cli::words::{Kind, Options};
@@ -36,8 +39,8 @@ pub trait Lines: Content {
     // How it is read with these options.
     ghost rule_of: { Options → Self.Rule };
 
-    // Its lines.
-    ghost lines: { Self → List ℕ };
+    // Its lines, with numbers in hexadecimal written so.
+    ghost lines: { Hexadecimal → Self → List ℕ };
 
     /// How it is read with these options.
     fn rule(options: Options) -> Self::Rule
@@ -46,9 +49,10 @@ pub trait Lines: Content {
     // Its members in JSON.
     ghost json: { Self → List Member };
 
-    /// Appends its lines. Where memory runs out, nothing is promised of the text.
-    fn push(&self, text: &mut String) -> Result<(), AllocError>
-        ensures { Grows result text.old text.new (lines self.now) };
+    /// Appends its lines, with numbers in hexadecimal written so. Where memory runs out, nothing is
+    /// promised of the text.
+    fn push(&self, alloc: Global, text: &mut String, way: Hexadecimal) -> Result<(), AllocError>
+        ensures { Grows result text.old text.new (lines way self.now) };
 
     /// Appends its members, after others, to an object of JSON. Where memory runs out, nothing is
     /// promised of the text.
@@ -58,6 +62,9 @@ pub trait Lines: Content {
 
 /// What is answered in the same way for each kind.
 pub trait Action: Drop {
+    // How numbers in hexadecimal are written in lines.
+    ghost way: { Hexadecimal } = { Plain };
+
     // What is said, with these options, by the row of a kind: what is asked of its objects, the
     // form of its contents, and their lines.
     ghost says: { Options → (X : Type 0) → signed.ObjectKind X → (List ℕ → X → Type 0)
@@ -65,7 +72,8 @@ pub trait Action: Drop {
 
     /// Answers for the kind with such contents.
     fn answer<'a, C: Lines>(self, alloc: Global, options: Options) -> Answer<'a>
-        ensures { says options C C.kind (C.form (C.rule_of options)) C.lines self (said result) };
+        ensures { says options C C.kind (C.form (C.rule_of options)) (C.lines way) self
+            (said result) };
 }
 
 /// Answers by the action for a kind: a row for each kind.
@@ -75,7 +83,7 @@ pub fn answer_for<'a, A: Action>(
     kind: Kind,
     action: A,
 ) -> Answer<'a>
-    ensures { OfKind options kind (λ X asked form text.
+    ensures { OfKindIn A.way options kind (λ X asked form text.
         A.says options X asked form text action (said result)) }
 {
     match kind {
@@ -89,7 +97,7 @@ pub fn answer_for<'a, A: Action>(
 impl Lines for AsProviderAttestation {
     ghost rule_of = { provider_limit };
 
-    ghost lines = { aspa_text };
+    ghost lines = { λ _. aspa_text };
 
     ghost json = { aspa_members };
 
@@ -97,7 +105,7 @@ impl Lines for AsProviderAttestation {
         options.provider_limit()
     }
 
-    fn push(&self, text: &mut String) -> Result<(), AllocError> {
+    fn push(&self, _: Global, text: &mut String, _: Hexadecimal) -> Result<(), AllocError> {
         push_aspa(text, self)
     }
 
@@ -117,8 +125,8 @@ impl Lines for ManifestContent {
         options.manifest_rule()
     }
 
-    fn push(&self, text: &mut String) -> Result<(), AllocError> {
-        push_manifest(text, self)
+    fn push(&self, alloc: Global, text: &mut String, way: Hexadecimal) -> Result<(), AllocError> {
+        push_manifest(alloc, text, way, self)
     }
 
     fn push_json(&self, alloc: Global, text: &mut String) -> Result<(), AllocError> {
@@ -129,13 +137,13 @@ impl Lines for ManifestContent {
 impl Lines for RouteOriginAttestation {
     ghost rule_of = { λ _. tt };
 
-    ghost lines = { roa_text };
+    ghost lines = { λ _. roa_text };
 
     ghost json = { roa_members };
 
     fn rule(_options: Options) {}
 
-    fn push(&self, text: &mut String) -> Result<(), AllocError> {
+    fn push(&self, _: Global, text: &mut String, _: Hexadecimal) -> Result<(), AllocError> {
         push_roa(text, self)
     }
 
@@ -147,13 +155,13 @@ impl Lines for RouteOriginAttestation {
 impl Lines for ResourceSignedChecklist {
     ghost rule_of = { λ _. tt };
 
-    ghost lines = { rsc_text };
+    ghost lines = { λ _. rsc_text };
 
     ghost json = { rsc_members };
 
     fn rule(_options: Options) {}
 
-    fn push(&self, text: &mut String) -> Result<(), AllocError> {
+    fn push(&self, _: Global, text: &mut String, _: Hexadecimal) -> Result<(), AllocError> {
         push_rsc(text, self)
     }
 

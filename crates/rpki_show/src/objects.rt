@@ -7,9 +7,11 @@ ghost use Rattle.rpki_show.specs.Contents.{HasLines};
 ghost use Rattle.rpki_show.specs.Objects.{ObjectLinesOf};
 ghost use Rattle.rpki_show.specs.Options.{read_mode};
 ghost use Rattle.rpki_show.specs.Texts.Object.{object_text};
+ghost use Rattle.rpki_show.specs.declared.texts.serial.Hexadecimal.TheVariants.{Plain};
 
 use crate::kinds::{Action, Lines, answer_for};
 use crate::texts::object::push_object;
+use crate::texts::serial::Hexadecimal;
 use bytes::Bytes;
 use rpki_cli::answer::Answer;
 use rpki_cli::words::{Kind, Options};
@@ -41,7 +43,7 @@ struct ShowObject {
 impl Action for ShowObject {
     ghost says = { λ options X asked form text action s.
         IsShown action.causes
-        (HasLines (ObjectForm asked.type form (read_mode options)) (object_text text))
+        (HasLines (ObjectForm asked.type form (read_mode options)) (object_text Plain text))
         action.octets s };
 
     fn answer<'a, C: Lines>(self, alloc: Global, options: Options) -> Answer<'a> {
@@ -52,7 +54,7 @@ impl Action for ShowObject {
 /// Answers with the lines of the object at the front of the source, if there is one.
 fn show<'a, C: Lines>(alloc: Global, causes: Causes, options: Options, source: Bytes) -> Answer<'a>
     ensures { IsShown causes (HasLines (ObjectForm C.kind.type (C.form (C.rule_of options))
-        (read_mode options)) (object_text C.lines)) source (said result) }
+        (read_mode options)) (object_text Plain (C.lines Plain))) source (said result) }
 {
     match Signed::<C>::decode(alloc, source, !options.relaxed, C::rule(options)) {
         Err(error) => refusal(alloc, causes, error),
@@ -66,10 +68,10 @@ fn show<'a, C: Lines>(alloc: Global, causes: Causes, options: Options, source: B
 
 /// The lines of an object.
 fn show_lines<'a, C: Lines>(alloc: Global, object: &Signed<C>) -> Answer<'a>
-    ensures { IsLinesOf (object_text C.lines (whole_of object.now)) (said result) }
+    ensures { IsLinesOf (object_text Plain (C.lines Plain) (whole_of object.now)) (said result) }
 {
     let mut text = String::new(alloc);
-    match push_object(&mut text, object) {
+    match push_object(alloc, &mut text, Hexadecimal::Plain, object) {
         Ok(()) => Answer::Shown(text),
         Err(_) => Answer::OutOfMemory,
     }

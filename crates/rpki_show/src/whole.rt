@@ -7,6 +7,7 @@ ghost use Rattle.rpki_show.specs.Contents.{HasLines};
 ghost use Rattle.rpki_show.specs.Objects.{WholeObjectLinesOf};
 ghost use Rattle.rpki_show.specs.Options.{read_mode};
 ghost use Rattle.rpki_show.specs.Texts.Object.{whole_text};
+ghost use Rattle.rpki_show.specs.declared.texts.serial.Hexadecimal.TheVariants.{Octets};
 
 use crate::kinds::{Action, Lines, answer_for};
 use crate::texts::object::push_whole;
@@ -39,6 +40,8 @@ struct ShowWholeObject {
 }
 
 impl Action for ShowWholeObject {
+    ghost way = { Octets };
+
     ghost says = { λ options X asked form text action s.
         IsShown action.causes
         (HasLines (ObjectForm asked.type form (read_mode options)) (whole_text text))
@@ -53,7 +56,7 @@ impl Action for ShowWholeObject {
 /// certificate, if there is one.
 fn show<'a, C: Lines>(alloc: Global, causes: Causes, options: Options, source: Bytes) -> Answer<'a>
     ensures { IsShown causes (HasLines (ObjectForm C.kind.type (C.form (C.rule_of options))
-        (read_mode options)) (whole_text C.lines)) source (said result) }
+        (read_mode options)) (whole_text (C.lines Octets))) source (said result) }
 {
     match Signed::<C>::decode(alloc, source, !options.relaxed, C::rule(options)) {
         Err(error) => refusal(alloc, causes, error),
@@ -67,7 +70,7 @@ fn show<'a, C: Lines>(alloc: Global, causes: Causes, options: Options, source: B
 
 /// The lines of an object and those of its signer's certificate.
 fn show_lines<'a, C: Lines>(alloc: Global, object: &Signed<C>) -> Answer<'a>
-    ensures { IsLinesOf (whole_text C.lines (whole_of object.now)) (said result) }
+    ensures { IsLinesOf (whole_text (C.lines Octets) (whole_of object.now)) (said result) }
 {
     let mut text = String::new(alloc);
     match push_whole(alloc, &mut text, object) {

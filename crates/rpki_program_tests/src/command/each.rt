@@ -135,7 +135,7 @@ const SHOWN_IN_JSON: Output = Output {
 const SHOWN: Output = Output {
     status: 0,
     out: "roa\nas AS64496\norigin 192.0.2.0/24-26\norigin 2001:db8::/32-48\n\
-        signing 2026-11-01T00:00:00Z\nee 1 D499B0BF9D1519CFF7E9C67B077CDAECD7CBCA67\n\
+        signing 2026-11-01T00:00:00Z\nee 01 D499B0BF9D1519CFF7E9C67B077CDAECD7CBCA67\n\
         certificate\nserial 01\nvalid-from 2026-01-01T00:00:00Z\n\
         valid-until 2040-01-01T00:00:00Z\n\
         key-id D499B0BF9D1519CFF7E9C67B077CDAECD7CBCA67\n\

@@ -3,6 +3,8 @@ use Rattle.std.specs.Prelude.{ℕ, ◌%◌, List, [], ◌∷◌, ◌==◌, if◌
 use Rattle.std.specs.Char.{to_ascii_uppercase}
 use Rattle.rpki_der.specs.Write.Written.{significant}
 use Rattle.rpki_basics.specs.Serial.{digits, serial_text}
+use Rattle.rpki_show.specs.declared.texts.serial.Hexadecimal.{Hexadecimal}
+use Rattle.rpki_show.specs.declared.texts.serial.Hexadecimal.TheVariants.{Plain, Octets}
 
 -- digits, with a 0 in front where their number is odd
 abbrev pub paired : List ℕ → List ℕ
@@ -12,6 +14,11 @@ paired digits = if length digits % 2 == 0 then digits else 0x30 ∷ digits
 -- for zero.
 unfoldable pub serial_hex : ℕ → List ℕ
 serial_hex n = map to_ascii_uppercase (paired (serial_text n))
+
+-- a number in lower hexadecimal without a zero in front, or as above
+abbrev pub hexadecimal : Hexadecimal → ℕ → List ℕ
+hexadecimal Plain n = serial_text n
+hexadecimal Octets n = serial_hex n
 
 -- these octets, or one of zero where there are none
 abbrev pub or_zero : List ℕ → List ℕ

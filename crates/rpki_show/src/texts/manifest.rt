@@ -7,28 +7,42 @@ ghost use Rattle.rpki_show.specs.Texts.Manifest.{file_line};
 
 use crate::texts::ia5::Ia5;
 use crate::texts::lines::push_each;
+use crate::texts::serial::{Hexadecimal, push_hexadecimal};
 use rpki_basics::{Serial, Time};
 use rpki_der::LowerHex;
 use rpki_files::ManifestContent;
-use std::alloc::AllocError;
+use std::alloc::{AllocError, Global};
 use std::fmt::Write;
 
-/// Appends the lines of the content of a manifest. Refuses where memory runs out.
-pub fn push_manifest(text: &mut String, content: &ManifestContent) -> Result<(), AllocError>
-    ensures { Grows result text.old text.new (manifest_text content.now) }
+/// Appends the lines of the content of a manifest, with its number written so. Refuses where memory
+/// runs out.
+pub fn push_manifest(
+    alloc: Global,
+    text: &mut String,
+    way: Hexadecimal,
+    content: &ManifestContent,
+) -> Result<(), AllocError>
+    ensures { Grows result text.old text.new (manifest_text way content.now) }
 {
     write!(text, "manifest\n")?;
-    push_number(text, content.manifest_number())?;
+    push_number(alloc, text, way, content.manifest_number())?;
     push_this(text, content.this_update())?;
     push_next(text, content.next_update())?;
     push_files(text, content)
 }
 
 /// Appends the line of the number.
-fn push_number(text: &mut String, number: Serial) -> Result<(), AllocError>
-    ensures { Grows result text.old text.new (number_line number) }
+fn push_number(
+    alloc: Global,
+    text: &mut String,
+    way: Hexadecimal,
+    number: Serial,
+) -> Result<(), AllocError>
+    ensures { Grows result text.old text.new (number_line way number) }
 {
-    write!(text, "number {number}\n")
+    write!(text, "number ")?;
+    push_hexadecimal(alloc, text, way, number)?;
+    write!(text, "\n")
 }
 
 /// Appends the line of the moment of this manifest.

@@ -3,12 +3,13 @@ use Rattle.std.proofs.Common.{subst}
 use Rattle.rpki_cli.specs.Answer.{said}
 use Rattle.rpki_cli.specs.Shown.{IsShown}
 use Rattle.rpki_show.specs.Contents.{HasLines}
+use Rattle.rpki_show.specs.declared.texts.serial.Hexadecimal.TheVariants.{Plain}
 use Rattle.rpki_show.proofs.Shown.{shown-refusal, shown-lines}
 use Rattle.rpki_show.proofs.contents.show.Goals as goal
 
 pub returns-in-Err : goal.returns-in-Err
 returns-in-Err g c =
-    subst (λ rule. IsShown c.args.causes (HasLines (g.C.Content.form rule) g.C.Lines.lines)
+    subst (λ rule. IsShown c.args.causes (HasLines (g.C.Content.form rule) (g.C.Lines.lines Plain))
     c.args.source
     (said c.refusal.result)) c.rule.ensures
     (shown-refusal _ _ _ _ _ c.in-Err.error c.refusal.ensures c.in-Err.ensures.decodes)
@@ -16,7 +17,7 @@ returns-in-Err g c =
 pub returns-in-Ok : goal.returns-in-Ok
 returns-in-Ok g c =
     let decoded = c.in-Ok.ensures.decodes in
-    subst (λ rule. IsShown c.args.causes (HasLines (g.C.Content.form rule) g.C.Lines.lines)
+    subst (λ rule. IsShown c.args.causes (HasLines (g.C.Content.form rule) (g.C.Lines.lines Plain))
     c.args.source
     (said c.show_lines.result)) c.rule.ensures
     (shown-lines _ _ _ _ _ c.in-Ok.content decoded.0 decoded.1 c.show_lines.ensures)
