@@ -22,7 +22,8 @@ HEAD = """//! Attestations in octets, each with what the program says of it, by 
 use super::runs::{Output, is_answered};
 use bytes::Bytes;
 use rpki_basics::standin::StandIn;
-use rpki_verdicts::rta_listing;
+use rpki_der::DecodeError;
+use rpki_verdicts::{ListingError, rta_listing};
 use std::alloc::{AllocError, Global};
 use std::process::Abort;
 use std::test::Fail;
@@ -76,6 +77,8 @@ fn verdicts(
     }
     match rta_listing(rt.alloc(), object, &chains, &StandIn) {
         Ok(text) => Ok(text),
+        Err(ListingError::Certificate(DecodeError::Memory)) => Err(AllocError),
+        Err(ListingError::Object(DecodeError::Memory)) => Err(AllocError),
         Err(error) => {
             assert_eq!(rt; format!(in rt.alloc(); "{error}")?.as_str(), "listed");
             Err(AllocError)
@@ -166,14 +169,15 @@ const {row.name.upper()}: (&str, &str) = (
 """)
 
 
-def main():
+def write_all(rows):
+    """The module of these rows."""
     names = "abcdefgh"
     print(HEAD)
     print(f"/// Names of files.\nstatic NAMES: [&str; {len(names)}] = "
           f"[{', '.join(map(literal, names))}];\n")
-    for row in VECTORS["rows"](LONGEST):
+    for row in rows:
         write(row, names)
 
 
 if __name__ == "__main__":
-    main()
+    write_all(VECTORS["rows"](LONGEST))
