@@ -8,7 +8,7 @@ use rpki_lists::{EntriesEncoder, EntryList};
 use std::alloc::{AllocError, Global};
 
 /// The octets of a list, and in DER how many numbers it has and which, or why it is refused.
-static ROWS: [(&[u8], &str); 21] = [
+pub static ROWS: [(&[u8], &str); 21] = [
     (b"\x30\x00", "0"),
     (b"\x30\x03\x02\x01\x05", "1 5"),
     (b"\x30\x07\x02\x01\x00\x02\x02\x00\xFF", "2 0 255"),
