@@ -1,7 +1,8 @@
 #!/usr/bin/env python3
 """Writes a module of tests that shows the files of examples/, and one more revocation list, as
 objects of JSON. Each text that is wanted is what Python's json module makes of the values, and is
-read back by it to these.
+read back by it to these. Want of memory is handed on, so `tools/growth --unproved` refuses each of
+their allocations too.
 
 Serial numbers, key identifiers, moments and URIs are those that `openssl` prints."""
 import base64
