@@ -20,6 +20,8 @@ MISSING, OTHER_KEY, EXPIRED = (
     "not in the copy", "no certificate with its key",
     "its certificate is refused: certificate has expired")
 ZEROS = bytes(int(os.environ.get("MB_OF_ZEROS", 100)) << 20)
+# As many octets: SEQUENCEs of indefinite length in one another.
+NESTED = b"\x30\x80" * (len(ZEROS) // 2)
 
 
 def origin(number, prefix, most=None):
@@ -429,10 +431,10 @@ TREES = SHAPES + POINTS + FILES + LOCATORS + DEVICES
 COUNT = 1_000_000
 
 
-def of_prefixes(t):
+def of_prefixes(t, count=COUNT):
     """The ROA of `a` has very many prefixes, each a /80 of what `a` has."""
     first = int(ipaddress.IPv6Address("2001:db8:1::"))
-    prefixes = [first + (at << 48) for at in range(COUNT)]
+    prefixes = [first + (at << 48) for at in range(count)]
     addresses = make.sequence(*(make.sequence(make.bits(it.to_bytes(16, "big")[:10])) for it in prefixes))
     family = make.sequence(make.octet_string(b"\0\2"), addresses)
     content = make.sequence(make.integer(65001), make.sequence(family))
@@ -458,15 +460,30 @@ def of_serials(t):
     t.a.revoked = range(COUNT, 2 * COUNT)
 
 
+def each_is(what, it):
+    """Each file of a copy, and its locator, is these octets."""
+    return [
+        of_point(f"a manifest of {what}", NO_MANIFEST, lambda t: t.put(t.a.manifest, it)),
+        of_point(f"a list of {what}", NO_LIST, lambda t: (
+            vars(t.a).update(lists_it=False), t.a.files.update({"a.crl": it}))),
+        of_file(f"a ROA of {what}", "o.roa", NO_ROAS, octets(it)),
+        of_file(f"an ASPA of {what}", "o.asa", ORIGINS + C + B,
+                lambda t: t.a.files.update({"o.asa": it})),
+        of_file(f"a certificate of {what}", "c.cer", A + B,
+                lambda t: t.a.files.update({"c.cer": it})),
+        (f"an anchor of {what}", anchor_is(lambda t: it, OTHER_KEY)),
+        (f"a locator of {what}", stops("tals/bad.tal", it)[1]),
+    ]
+
+
 LARGE = [
-    *(row for row in POINTS + FILES + LOCATORS if "zeros" in row[0]),
-    of_point("a list of zeros", NO_LIST, lambda t: (
-        vars(t.a).update(lists_it=False), t.a.files.update({"a.crl": ZEROS}))),
-    of_file("a certificate of zeros", "c.cer", A + B, lambda t: t.a.files.update({"c.cer": ZEROS})),
+    *each_is("zeros", ZEROS), *each_is("values in values", NESTED),
+    ("anchors: zeros, another key, good", several(lambda t: ZEROS, other, good)),
     (f"a ROA of {COUNT} prefixes", of_prefixes),
     (f"a manifest of {COUNT} files", of_files),
     (f"a list of {COUNT} serial numbers", of_serials),
 ]
 # How many times the files of the copy a run may need, where that is more than in tools/runs: each
-# prefix of a ROA is a payload, and a line; that a listed file is not there is kept, with its URI.
-TIMES = {of_prefixes: 24, of_files: 8}
+# prefix of a ROA is a payload, and a line, or an object of JSON; that a listed file is not there is
+# kept, with its URI.
+TIMES, TIMES_OF_JSON = {of_prefixes: 24, of_files: 8}, 48
