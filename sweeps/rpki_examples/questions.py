@@ -22,7 +22,7 @@ use std::alloc::{AllocError, Global};
 
 /// What is answered, in a word.
 #[derive(Clone, Copy, Debug, PartialEq, Eq)]
-enum Said {
+enum Finding {
     Yes,
     No,
     Certificate,
@@ -39,7 +39,7 @@ fn said(
     anchor: &[u8],
     chain: &[&[u8]],
     asked: &Asked,
-) -> Result<Said, AllocError> {
+) -> Result<Finding, AllocError> {
     let mut certs = Vec::new(alloc);
     for cert in chain {
         certs.push(Bytes::copy_from_slice(alloc, cert)?)?;
@@ -52,10 +52,10 @@ fn said(
     let signature = RpkiSignature::new(RpkiSignatureAlgorithm::RsaSha256, octets);
     let found = is_listed_good(alloc, &object, &anchor, &certs, &Rsa, &key, message, &signature);
     Ok(match found {
-        Ok(true) => Said::Yes,
-        Ok(false) => Said::No,
-        Err(ListingError::Certificate(_)) => Said::Certificate,
-        Err(ListingError::Object(_)) => Said::Object,
+        Ok(true) => Finding::Yes,
+        Ok(false) => Finding::No,
+        Err(ListingError::Certificate(_)) => Finding::Certificate,
+        Err(ListingError::Object(_)) => Finding::Object,
     })
 }
 '''
@@ -172,7 +172,7 @@ def main():
         print(f"    let chain: [&[u8]; {len(others)}] = [{', '.join(others)}];")
         print(f"    let asked: Asked = ({parts_of});")
         print(f"    let got = said(rt.alloc(), &{name.upper()}, {anchor}, &chain, &asked)?;")
-        print(f"    assert_eq!(rt; got, Said::{said});\n    Ok(())\n}}\n")
+        print(f"    assert_eq!(rt; got, Finding::{said});\n    Ok(())\n}}\n")
 
 
 if __name__ == "__main__":

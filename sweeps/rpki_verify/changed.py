@@ -17,7 +17,7 @@ COUNT, PART = 300, 50
 FOUND = []
 HEAD = '''//! Changed objects of examples/, and what follows of their answers.
 
-use crate::given::{Nobody, Said, said};
+use crate::given::{Nobody, RunOutput, said};
 use bytes::Bytes;
 use rpki_command::Objects;
 use rpki_command::verify::Verify;
@@ -46,23 +46,23 @@ fn changed(alloc: Global, octets: &[u8], changes: &[Change]) -> Result<Vec<u8>, 
 }
 
 /// What is not said of a file that can be read, where there is memory.
-fn is_known(answer: &Said) -> bool {
+fn is_known(answer: &RunOutput) -> bool {
     answer.status < 2 && answer.err.is_empty() && !answer.out.is_empty()
 }
 
 /// Whether two runs say the same, but for the cause of what is malformed.
-fn are_same(one: &Said, other: &Said) -> bool {
+fn are_same(one: &RunOutput, other: &RunOutput) -> bool {
     let are_malformed = one.out.starts_with(b"malformed") && other.out.starts_with(b"malformed");
     one.status == other.status && (are_malformed || one.out.as_slice() == other.out.as_slice())
 }
 
 /// Whether a yes said strictly is said relaxed.
-fn is_kept(strict: &Said, relaxed: &Said) -> bool {
+fn is_kept(strict: &RunOutput, relaxed: &RunOutput) -> bool {
     strict.status != 0 || are_same(strict, relaxed)
 }
 
 /// Whether the lines of a yes are among those that are shown.
-fn is_shown(checked: &Said, shown: &Said) -> bool {
+fn is_shown(checked: &RunOutput, shown: &RunOutput) -> bool {
     let lines = checked.out.get(4..).unwrap_or(&[]);
     checked.status != 0 || shown.status == 0 && shown.out.starts_with(lines)
 }
@@ -85,14 +85,14 @@ impl Asked<'_> {
         Ok(words)
     }
 
-    fn by_signatures(&self, others: &[&str]) -> Result<Said, AllocError> {
+    fn by_signatures(&self, others: &[&str]) -> Result<RunOutput, AllocError> {
         let files = [("file", self.octets), ("anchor", ANCHOR), ("ca", AUTHORITY)];
         let words = self.words(others)?;
         let program = Verify { clock: None, relying_party: Nobody };
         Ok(said(self.alloc, &program, &words, &files))
     }
 
-    fn by_list(&self, others: &[&str], list: &[u8]) -> Result<Said, AllocError> {
+    fn by_list(&self, others: &[&str], list: &[u8]) -> Result<RunOutput, AllocError> {
         let files = [
             ("file", self.octets),
             ("anchor", ANCHOR),
@@ -104,7 +104,7 @@ impl Asked<'_> {
     }
 
     /// What is shown and what is checked, where all that has to hold in this mode does.
-    fn answers(&self) -> Result<Option<(Said, Said)>, AllocError> {
+    fn answers(&self) -> Result<Option<(RunOutput, RunOutput)>, AllocError> {
         let shown = self.by_list(&["show", self.kind, "file"], &[])?;
         let seen = self.by_signatures(&["show", self.kind, "file"])?;
         let checked = self.by_signatures(&["check", self.kind, "file", MOMENT, "anchor", "ca"])?;
@@ -143,7 +143,7 @@ fn written(alloc: Global, octets: &[u8]) -> Result<Option<Vec<u8>>, AllocError> 
 
 /// Whether a copy that is written of an object reads alike: it is the front of the octets, and the
 /// same is said of it.
-fn is_copied(asked: &Asked<'_>, shown: &Said, checked: &Said) -> Result<bool, AllocError> {
+fn is_copied(asked: &Asked<'_>, shown: &RunOutput, checked: &RunOutput) -> Result<bool, AllocError> {
     let Some(copy) = written(asked.alloc, asked.octets)? else {
         return Ok(true);
     };
