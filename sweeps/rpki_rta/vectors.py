@@ -1,8 +1,9 @@
 #!/usr/bin/env python3
 """Writes a module of tests of attestations in octets, each with what is to be answered: each fault
 of a certificate, of a signer, of what is left over, of a path, of a supply and of the attested
-sets, alone and with the one before it; lists that are reversed; cycles; and a path of 1,000 CAs.
-All but that one are also followed by 1, 300 and 70,000 octets, after which the answer is the same.
+sets, alone and with the one before it; lists that are reversed, together and alone; cycles; and a
+path of 1,000 CAs. Each is also followed by 1, 300 and 70,000 octets, after which the answer is the
+same.
 
 They are signed as those of tools/rta_compare.py are. Names are empty SEQUENCEs, the moment is
 1 June 2024, 00:00:00, and sets of addresses are those of their first 32 bits. Key 1 is that of the
@@ -10,6 +11,7 @@ CA that is supplied; 2, 3, .. are those of carried CAs, 10, 11, .. those of sign
 """
 import base64
 import collections
+import copy
 import hashlib
 import pathlib
 import sys
@@ -151,6 +153,8 @@ def content(keys, asn, v4, v6):
     return sequence(keys, sequence(named), SHA256, octet_string(bytes(32)))
 
 
+# The lists of an attestation.
+LISTS = ("certs", "crls", "signers", "keys")
 Signer = collections.namedtuple("Signer", "sid signer has_digest", defaults=(True,))
 
 
@@ -190,14 +194,20 @@ class Row:
             under(0, *self.certs), crls, value(0x31, infos))
         return sequence(SIGNED_DATA, under(0, data))
 
-    def reversed(self):
-        """The same with each list the other way round."""
-        other = Row(f"{self.name}_reversed", f"{self.what}; each list reversed", self.answer,
-                    supplies=self.supplies)
-        other.sets, other.keys = self.sets, self.keys[::-1]
-        other.signers, other.certs = self.signers[::-1], self.certs[::-1]
-        other.crls = self.crls[::-1]
+    def reversed(self, *names):
+        """The same with these lists the other way round, or with each."""
+        other = copy.copy(self)
+        other.name = "_".join((self.name, *names, "reversed"))
+        other.what = f"{self.what}; {' and '.join(names) or 'each list'} reversed"
+        other.asked, other.turns = None, ""
+        for name in names or LISTS:
+            setattr(other, name, getattr(self, name)[::-1])
         return other
+
+    def reversed_alone(self):
+        """The same with one list reversed, for each that is another one then."""
+        return [self.reversed(name) for name in LISTS
+                if getattr(self, name) != getattr(self, name)[::-1]]
 
 
 class Supplied:
@@ -641,6 +651,8 @@ def orders():
 # How the names begin of rows whose answer is the same where each list is reversed.
 REVERSED = ("trimmed", "chain_of_two", "two_", "three", "tal_and_ca", "cycle", "crl_of_other_key",
             "key_twice", "serial_of_other_list")
+# The same where one list alone is reversed.
+REVERSED_ALONE = ("trimmed", "chain_of_two", "two_")
 
 
 def rows(count=1000):
@@ -652,17 +664,18 @@ def rows(count=1000):
     for row in every:
         if row.name.startswith(REVERSED):
             yield row.reversed()
+        if row.name.startswith(REVERSED_ALONE):
+            yield from row.reversed_alone()
 
 
 # The module
 
 HEAD = """//! Attestations in octets, each with what is answered of it.
 
-use super::compared::{answer, asks_as_few, in_turn, is_answer_before_others, verdicts};
+use super::compared::{answer, asks_as_few, in_turn, is_answer_before, verdicts};
+use rpki_tails::AFTER;
 use rpki_testing::Fail;
 """
-# The octets that rpki_tails has room for in front of others.
-ROOM = 65536
 
 
 def write(row):
@@ -670,8 +683,8 @@ def write(row):
     name, more = row.name.upper(), ""
     if row.answer == YES and row.asked is None:
         more = f"    assert!(rt; asks_as_few(rt.alloc(), {name})?);\n"
-    if len(row.octets()) <= ROOM:
-        more += f'    assert!(rt; is_answer_before_others(rt.alloc(), {name}, "{row.answer}")?);\n'
+    if row.asked is None:
+        more += f'    assert!(rt; is_answer_before(rt.alloc(), {name}, "{row.answer}", &AFTER)?);\n'
     print(f"""/// {row.what[0].upper()}{row.what[1:]}.
 #[test]
 fn {row.name}(rt: HostRuntime) -> Result<(), Fail> {{
@@ -689,6 +702,17 @@ def write_count(row):
     print(f"""#[test]
 fn {row.name}_verdicts(rt: HostRuntime) -> Result<(), Fail> {{
     assert_eq!(rt; verdicts(rt.alloc(), {row.name.upper()})?, {row.asked});
+    Ok(())
+}}
+""")
+
+
+def write_followed(row):
+    """That the answer is the same where octets of one kind follow."""
+    name = row.name.upper()
+    print(f"""#[test]
+fn {row.name}_followed(rt: HostRuntime) -> Result<(), Fail> {{
+    assert!(rt; is_answer_before(rt.alloc(), {name}, "{row.answer}", &AFTER[..1])?);
     Ok(())
 }}
 """)
@@ -713,6 +737,7 @@ def main():
             write_turns(row)
         if row.asked is not None:
             write_count(row)
+            write_followed(row)
 
 
 if __name__ == "__main__":
