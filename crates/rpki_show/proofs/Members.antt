@@ -91,6 +91,13 @@ object_grown (Ok t) old begun filled new m ms b f h =
     ∙ ap (λ (z : List ℕ). string_bytes old ++ z) (sym (object-text m ms))
 object_grown (Err e) old begun filled new m ms b f h = tt
 
+-- the same of one member
+pub single_grown : (r : Result (Unit {0}) AllocError) (old begun new : String Global) (m : Member)
+    → string_bytes begun ≡ string_bytes old ++ (codes "{" ++ member_text m)
+    → Grows r begun new (codes "}") → Grows r old new (json_text (object_of (m ∷ [])))
+single_grown r old begun new m b h =
+    object_grown r old begun begun new m [] b (sym (append-nil (string_bytes begun))) h
+
 -- the same of two members
 pub pair_grown : (r : Result (Unit {0}) AllocError) (old begun filled new : String Global)
     (m n : Member)

@@ -89,7 +89,6 @@ fn push_named(alloc: Global, text: &mut String, name: &[u8], hash: &[u8]) -> Res
 }
 
 /// Appends the object of a file without a name.
-#[tactic(auto, unfolding(rpki_json::specs::Members::member_text))]
 fn push_unnamed(alloc: Global, text: &mut String, hash: &[u8]) -> Result<(), AllocError>
     ensures { Grows result text.old text.new (json_text (hashed_value None hash.now)) }
 {
