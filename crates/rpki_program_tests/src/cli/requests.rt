@@ -126,10 +126,7 @@ static SHOWS: [(&[&str], &str); 28] = [
     (&["tal", "a", ""], "empty name"),
     (&["roa", "a.roa", "--json"], "unknown kind: roa"),
     (&["a.roa", "roa", "b.roa", "c.roa"], "unknown kind: roa"),
-    (
-        &["--kind", "roa", "roa", "a", "b"],
-        "roa a b = roa roa roa",
-    ),
+    (&["--kind", "roa", "roa", "a", "b"], "roa a b = roa roa roa"),
 ];
 
 /// Words of the program, and the command that they ask for.
