@@ -175,7 +175,7 @@ abbrev pub kind_teller : Option FileKind → List ℕ → List ℕ
 kind_teller (Some given) file = file_kind_word given
 kind_teller None file = file
 
--- What is wrong with a file that is to be checked, and the word by which it is.
+-- What is wrong with a file that is to be checked, and which word is named.
 abbrev pub IsObjectFault : Option FileKind → List ℕ → WrongWords → Type 0
 IsObjectFault given file (UnknownKind word) = (word.now ≡ file) × HasNoKind given file
 IsObjectFault given file (NotChecked word) =
@@ -197,8 +197,9 @@ IsFilesFault given files (UnknownKind word) =
     StandsAfter (HaveKinds given) files word.now × HasNoKind given word.now
 IsFilesFault given files other = ⊥
 
--- The operands of a show begin with the word of a kind, a file and this word, and no kind is set:
--- this is the first word too many for a show of one file of that kind.
+-- The operands of a show, whatever settings stand among them, begin with the word of a kind, a file
+-- and this word, and no kind is set: most likely a show of one file was meant, and this word is one
+-- too many.
 abbrev pub IsExtra : Option FileKind → List (List ℕ) → List ℕ → Type 0
 IsExtra (Some given) operands word = ⊥
 IsExtra None operands word =

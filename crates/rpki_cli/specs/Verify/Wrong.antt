@@ -90,7 +90,7 @@ abbrev pub Place : Type 0
 Place = List ℕ → Option Output
 
 -- Whether words after `check` look like those of a check of many files: the end of the first tells
--- a kind of file, or an option is among them. Such words with a trust anchor ask for something.
+-- a kind of file, or an option is among them. Words with `--ta` among them don't come here.
 abbrev pub look_like_many : List (List ℕ) → Bool
 look_like_many [] = false
 look_like_many (word ∷ words) = tells_kind word || list_any is_dashed (word ∷ words)

@@ -316,8 +316,8 @@ fn kinds_in<'a>(
     Ok(kinds)
 }
 
-/// The first word too many for a show of one file, where no kind is set and the operands begin with
-/// the word of one and a file.
+/// The third operand, where no kind is set and the first two are the word of one and a file: most
+/// likely a show of one file was meant, and this word is one too many.
 #[tactic(auto, using(crate::proofs::Verified::Requests::by_extra))]
 fn extra_in<'a>(given: Option<FileKind>, operands: &[&'a str]) -> Option<&'a str>
     ensures { MatchOption result ((word : List ℕ) → IsExtra given (texts operands.now) word → ⊥)

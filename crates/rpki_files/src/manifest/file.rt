@@ -85,8 +85,8 @@ impl<F: AsOctets, H: AsOctets> FileAndHash<F, H> {
 
 impl FileAndHash<Bytes, Bytes> {
     /// Whether octets are the name of a file in a manifest: one or more letters, digits, `-` and
-    /// `_`, a dot and three letters (RFC 9286, section 4.2.2). Refuses any others by a text that
-    /// says so.
+    /// `_`, a dot and three letters (RFC 9286, section 4.2.2). Refuses any others by
+    /// `BAD_MANIFEST_NAME`.
     pub fn validate_file_name(name: &[u8]) -> Result<(), &'static str>
         ensures { MatchResult result (λ _. IsFileName name.now) (λ _. IsFileName name.now → ⊥) }
     {

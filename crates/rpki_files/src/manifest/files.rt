@@ -3,8 +3,8 @@
 ghost use Rattle.std.specs.Prelude.{◌≡◌, All, IfOk};
 ghost use Rattle.rpki_der.specs.Read.Reads.{Reads, Stays};
 ghost use Rattle.rpki_der.specs.Form.Keyed.{are_distinct};
-ghost use Rattle.rpki_files.specs.Manifest.Files.{Takes, name_of, file_name_at, hash_at, file_at, files_at};
-ghost use Rattle.rpki_files.specs.Manifest.Files.{is_unrepeated};
+ghost use Rattle.rpki_files.specs.Manifest.Files.{Takes, name_of, file_name_at, hash_at, file_at};
+ghost use Rattle.rpki_files.specs.Manifest.Files.{files_at, is_unrepeated};
 ghost use Rattle.rpki_files.specs.Name.{IsFileName};
 
 use crate::faults;

@@ -1,4 +1,4 @@
--- Serial numbers as `openssl x509 -serial` prints them.
+-- Numbers in hexadecimal: serial numbers as `openssl x509 -serial` prints them, or plain digits.
 use Rattle.std.specs.Prelude.{ℕ, ◌%◌, List, [], ◌∷◌, ◌==◌, if◌then◌else◌, length, map}
 use Rattle.std.specs.Char.{to_ascii_uppercase}
 use Rattle.rpki_der.specs.Write.Written.{significant}
@@ -15,7 +15,7 @@ paired digits = if length digits % 2 == 0 then digits else 0x30 ∷ digits
 unfoldable pub serial_hex : ℕ → List ℕ
 serial_hex n = map to_ascii_uppercase (paired (serial_text n))
 
--- a number in lower hexadecimal without a zero in front, or as above
+-- a number in lower hexadecimal without a zero in front, 0 for zero; or as `serial_hex` has it
 abbrev pub hexadecimal : Hexadecimal → ℕ → List ℕ
 hexadecimal Plain n = serial_text n
 hexadecimal Octets n = serial_hex n

@@ -11,7 +11,7 @@ use std::fmt::Write;
 /// How a number is written in hexadecimal.
 #[derive(Clone, Copy, Debug, PartialEq, Eq)]
 pub enum Hexadecimal {
-    /// In lower case, without a zero in front.
+    /// In lower case, without a zero in front; 0 for zero.
     Plain,
     /// In upper case, with two digits for each octet, as `serial_hex` has it.
     Octets,
