@@ -37,7 +37,20 @@ v6 2001:db8:100::/40
 v6 3fff::/24
 digest 27b1475ecc05bc4bbfc386c70f7bd74b99e7926da240c1e439a00700fdb4a9f2
 """
-# As `openssl x509 -text -serial` has it.
+# As `openssl x509 -text -serial` has them.
+ORIGIN_CERTIFICATE = """certificate
+serial 01
+valid-from 2026-01-01T00:00:00Z
+valid-until 2040-01-01T00:00:00Z
+key-id D499B0BF9D1519CFF7E9C67B077CDAECD7CBCA67
+authority-key-id C78637259551E49913A293A978985D33FBECF9C1
+ee
+signed-object rsync://rpki.example.net/authority/origin.roa
+ca-issuers rsync://rpki.example.net/anchor/authority.cer
+crl rsync://rpki.example.net/authority/authority.crl
+ipv4 192.0.2.0/24
+ipv6 2001:db8::/32
+"""
 AUTHORITY_CERTIFICATE = """certificate
 serial 02
 valid-from 2026-01-01T00:00:00Z
@@ -316,8 +329,8 @@ ROWS = [
     (each("--kind", "roa", "roa", "none", "large"), None, *NONE, 4),
     (each("--kind", "rta", "agreement"), None, 1, "refused: RTA could not be validated\n", 3),
     # Shows with settings.
-    (["show", "origin.roa"], None, 0,
-     ROA + SIGNED + "1 D499B0BF9D1519CFF7E9C67B077CDAECD7CBCA67\n", 1),
+    (["show", "origin.roa"], None, 0, ROA + SIGNED
+     + "01 D499B0BF9D1519CFF7E9C67B077CDAECD7CBCA67\n" + ORIGIN_CERTIFICATE, 1),
     (["show", "--kind", "crl", "list", "anchor.cer"], None, 1, entry("list", CRL)
      + entry("anchor.cer", MALFORMED), 2),
     (["show", "authority", "--wide", "--kind", "certificate"], None, 0, AUTHORITY_CERTIFICATE, 1),
