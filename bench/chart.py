@@ -2,8 +2,8 @@
 import html
 import math
 
-WIDTH, HEIGHT = 1110, 760
-COLUMNS, PANEL_W, PANEL_H, TOP = 3, 370, 330, 90
+COLUMNS, PANEL_W, PANEL_H, TOP, BOTTOM = 3, 370, 330, 90, 10
+WIDTH = COLUMNS * PANEL_W
 LEFT, RIGHT, ABOVE, BELOW = 62, 58, 30, 52  # around the axes of a panel
 
 # How each is drawn: its colour, its mark and its name.
@@ -120,11 +120,12 @@ def picture(title, panels):
     named = {line[0] for panel in drawn for line in panel.lines}
     used = [style for style in STYLES if style in named]
     has_dashes = any(it[1] for panel in drawn for it in panel.lines)
+    height = TOP + math.ceil(len(panels) / COLUMNS) * PANEL_H + BOTTOM
     parts = [
-        f'<svg xmlns="http://www.w3.org/2000/svg" viewBox="0 0 {WIDTH} {HEIGHT}" '
-        f'width="{WIDTH}" height="{HEIGHT}" font-family="Helvetica, Arial, sans-serif">',
+        f'<svg xmlns="http://www.w3.org/2000/svg" viewBox="0 0 {WIDTH} {height}" '
+        f'width="{WIDTH}" height="{height}" font-family="Helvetica, Arial, sans-serif">',
         f"<title>{html.escape(title)}</title>",
-        f'<rect width="{WIDTH}" height="{HEIGHT}" fill="white"/>',
+        f'<rect width="{WIDTH}" height="{height}" fill="white"/>',
         text(20, 30, title, 17, "start", more=' font-weight="bold"'),
         *legend(used, has_dashes),
     ]

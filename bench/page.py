@@ -15,6 +15,7 @@ READ = {
     "manifest": ("reading a manifest of registered names, none twice, and going over it", "files"),
     "any-manifest": ("reading a manifest of any names and going over it", "files"),
     "checklist": ("reading a checklist and going over it", "files"),
+    "attestation": ("reading an attestation and going over it", "signers' keys"),
     "aspa": ("reading an ASPA and going over it", "providers"),
     "aspa-in-one-pass": ("reading an ASPA, beside code that keeps nothing", "providers"),
     "write-aspa": ("writing an ASPA", "providers"),
@@ -38,9 +39,9 @@ SETS = {
 }
 # What is wanted at most, of the time and of the instructions of plain Rust.
 WANTED = {
-    "roa": 1.5, "manifest": 1.2, "any-manifest": 1.2, "checklist": 1.2, "aspa": 1.3,
-    "aspa-in-one-pass": 1.5, "write-aspa": 1.5, "crl": 1.6, "asked": 1.5, "cert": 1.4,
-    "validate": 1.3, "key": 1.5, "utc-time": 1.5, "generalized-time": 1.5,
+    "roa": 1.5, "manifest": 1.2, "any-manifest": 1.2, "checklist": 1.2, "attestation": 1.2,
+    "aspa": 1.3, "aspa-in-one-pass": 1.5, "write-aspa": 1.5, "crl": 1.6, "asked": 1.5,
+    "cert": 1.4, "validate": 1.3, "key": 1.5, "utc-time": 1.5, "generalized-time": 1.5,
     **dict.fromkeys(SETS, 1.3),
 }
 OF_OPENSSL, OF_VERDICTS, OF_CLIENT = 2, 1.1, 1
@@ -458,6 +459,7 @@ def four(it):
 
 PANELS = (("roa", "Reading a ROA", "prefixes"), ("manifest", "Reading a manifest", "files"),
           ("checklist", "Reading a checklist", "files"),
+          ("attestation", "Reading an attestation", "signers' keys"),
           ("crl", "Reading a revocation list", "revoked numbers"),
           ("aspa", "Reading an ASPA", "providers"))
 

@@ -8,6 +8,7 @@ unsafe extern "C" {
     fn bench_manifest(octets: *const u8, len: usize, rounds: u32) -> u64;
     fn bench_any_manifest(octets: *const u8, len: usize, rounds: u32) -> u64;
     fn bench_checklist(octets: *const u8, len: usize, rounds: u32) -> u64;
+    fn bench_attestation(octets: *const u8, len: usize, rounds: u32) -> u64;
     fn bench_roa(octets: *const u8, len: usize, rounds: u32) -> u64;
     fn bench_aspa(octets: *const u8, len: usize, rounds: u32) -> u64;
     fn bench_write_aspa(octets: *const u8, len: usize, rounds: u32) -> u64;
@@ -58,6 +59,7 @@ of_octets! {
     manifest bench_manifest
     any_manifest bench_any_manifest
     checklist bench_checklist
+    attestation bench_attestation
     roa bench_roa
     aspa bench_aspa
     write_aspa bench_write_aspa

@@ -25,8 +25,8 @@ const ENTRIES: &[u32] = &[10, 1_000, 100_000];
 /// A customer has 10,000 providers at most, and those whose key has as many bits are asked for by that number.
 const PROVIDERS: &[u32] = &[10, 1_000, 10_000];
 const BITS: &[u32] = &[2048, 3072, 4096];
-const BLOCKS: &[u32] = &[1_000, 10_000, 100_000];
-const MORE_BLOCKS: &[u32] = &[1_000, 10_000, 100_000, 1_000_000];
+const BLOCKS: &[u32] = &[10, 1_000, 10_000, 100_000];
+const MORE_BLOCKS: &[u32] = &[10, 1_000, 10_000, 100_000, 1_000_000];
 
 type Run = fn(&Sample, u32) -> u64;
 
@@ -66,6 +66,7 @@ fn works() -> Vec<Work> {
         beside!("manifest", ENTRIES, manifest, manifest, manifest, manifest),
         beside!("any-manifest", ENTRIES, manifest, any_manifest, any_manifest, any_manifest),
         beside!("checklist", ENTRIES, checklist, checklist, checklist, checklist),
+        beside!("attestation", ENTRIES, attestation, attestation, attestation, attestation),
         beside!("aspa", PROVIDERS, aspa, aspa, aspa, aspa),
         beside!("aspa-in-one-pass", PROVIDERS, aspa, aspa, aspa_in_one_pass, aspa_in_one_pass),
         beside!("write-aspa", PROVIDERS, aspa, write_aspa, write_aspa),
@@ -88,11 +89,12 @@ fn works() -> Vec<Work> {
 }
 
 /// The works whose octets are changed, and how many entries they have then.
-const CHANGED: [(&str, u32); 8] = [
+const CHANGED: [(&str, u32); 9] = [
     ("roa", 6),
     ("manifest", 4),
     ("any-manifest", 4),
     ("checklist", 3),
+    ("attestation", 3),
     ("aspa", 4),
     ("crl", 3),
     ("cert", 1),

@@ -55,6 +55,13 @@ pub fn checklist(it: &Sample, rounds: u32) -> u64 {
     })
 }
 
+pub fn attestation(it: &Sample, rounds: u32) -> u64 {
+    rounds_of(it, rounds, |octets| {
+        let attestation = black_box(contents::attestation(octets));
+        attestation.map_or(0, |it| it.blocks() + it.subject_keys().map(|key| front(key)).sum::<u64>())
+    })
+}
+
 pub fn roa(it: &Sample, rounds: u32) -> u64 {
     rounds_of(it, rounds, |octets| {
         let Some(roa) = black_box(contents::roa(octets)) else {

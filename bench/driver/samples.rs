@@ -111,14 +111,28 @@ pub fn checklist(_: &Given, count: u32) -> Sample {
             value(0x30, &[&name, &value(0x04, &[&hash])])
         })
         .collect();
+    let numbers = value(0x30, &[&value(0xA0, &[&value(0x30, &[&integer(64_496)])])]);
+    let algorithm = value(0x30, &[&value(0x06, &[&SHA_256])]);
+    one(value(0x30, &[&resources(&numbers), &algorithm, &value(0x30, &[&files.concat()])]))
+}
+
+/// These AS numbers, 192.0.2.0/24 and 2001:db8::/32, as resources that are named.
+fn resources(numbers: &[u8]) -> Vec<u8> {
     let family = |number: u8, bits: &[u8]| {
         value(0x30, &[&value(0x04, &[&[0, number]]), &value(0x30, &[&value(0x03, &[&[0], bits])])])
     };
-    let numbers = value(0xA0, &[&value(0x30, &[&value(0xA0, &[&value(0x30, &[&integer(64_496)])])])]);
     let families = value(0x30, &[&family(1, &[192, 0, 2]), &family(2, &[0x20, 0x01, 0x0D, 0xB8])]);
-    let resources = value(0x30, &[&numbers, &value(0xA1, &[&families])]);
+    value(0x30, &[&value(0xA0, &[numbers]), &value(0xA1, &[&families])])
+}
+
+/// The content of an attestation by so many keys, whose identifiers ascend, of the same resources.
+pub fn attestation(_: &Given, count: u32) -> Sample {
+    let key = |i: u32| value(0x04, &[&(u32::MAX / count * i).to_be_bytes(), &[9; 16]]);
+    let keys: Vec<Vec<u8>> = (0..count).map(key).collect();
+    let numbers = value(0x30, &[&integer(64_496)]);
     let algorithm = value(0x30, &[&value(0x06, &[&SHA_256])]);
-    one(value(0x30, &[&resources, &algorithm, &value(0x30, &[&files.concat()])]))
+    let digest = value(0x04, &[&[9; 32]]);
+    one(value(0x30, &[&value(0x31, &[&keys.concat()]), &resources(&numbers), &algorithm, &digest]))
 }
 
 /// A ROA of prefixes, half of them of 24 bits of IPv4 and half of 48 bits of IPv6, each second one with a maximum

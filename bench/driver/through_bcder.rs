@@ -27,6 +27,10 @@ pub fn checklist(it: &Sample, rounds: u32) -> u64 {
     rounds_of(it, rounds, contents::sum_of_checklist)
 }
 
+pub fn attestation(it: &Sample, rounds: u32) -> u64 {
+    rounds_of(it, rounds, contents::sum_of_attestation)
+}
+
 pub fn roa(it: &Sample, rounds: u32) -> u64 {
     rounds_of(it, rounds, contents::sum_of_roa)
 }

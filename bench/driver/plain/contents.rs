@@ -1,6 +1,6 @@
-//! Manifests, signed checklists and route origin attestations in plain Rust, written by hand for these formats. A
-//! content keeps the octets of its entries, all of which are tested when it is read, and an entry is read from them when
-//! it is asked for.
+//! Manifests, signed checklists, multi-signed attestations and route origin attestations in plain Rust, written by hand
+//! for these formats. A content keeps the octets of its entries, all of which are tested when it is read, and an entry
+//! is read from them when it is asked for.
 
 use super::der::Reader;
 use std::collections::BTreeSet;
@@ -220,13 +220,8 @@ pub fn is_portable(name: &[u8]) -> bool {
 pub fn checklist(octets: &[u8]) -> Option<Checklist<'_>> {
     let mut fields = Reader(octets).sequence()?;
     version(&mut fields)?;
-    let [as_resources, v4_resources, v6_resources] = resources(fields.sequence()?)?;
-    let mut algorithm = fields.sequence()?;
-    if algorithm.oid()? != SHA_256 {
-        return None;
-    }
-    algorithm.null()?;
-    algorithm.close(())?;
+    let [as_resources, v4_resources, v6_resources] = resources(fields.sequence()?, chosen_as_blocks)?;
+    digest_algorithm(&mut fields)?;
     let files = fields.take(0x30)?;
     fields.close(())?;
     let mut list = Reader(files);
@@ -245,13 +240,70 @@ impl<'a> Checklist<'a> {
     }
 }
 
-/// The AS numbers and the addresses of both families that are named: at least one of the three has to be.
-fn resources(mut fields: Reader) -> Option<[Blocks; 3]> {
+/// The content of a multi-signed attestation, of which the same holds.
+#[allow(dead_code)]
+pub struct Attestation<'a> {
+    subject_keys: &'a [u8],
+    as_resources: Blocks,
+    v4_resources: Blocks,
+    v6_resources: Blocks,
+    message_digest: &'a [u8],
+}
+
+/// The identifier of a key.
+#[inline]
+fn identifier<'a>(list: &mut Reader<'a>) -> Option<&'a [u8; 20]> {
+    list.take(0x04)?.try_into().ok()
+}
+
+/// The content at the front. Keys may come in any order and more than once, and there may be none.
+#[inline(never)]
+pub fn attestation(octets: &[u8]) -> Option<Attestation<'_>> {
+    let mut fields = Reader(octets).sequence()?;
+    version(&mut fields)?;
+    let subject_keys = fields.take(0x31)?;
+    let mut list = Reader(subject_keys);
+    while !list.is_empty() {
+        identifier(&mut list)?;
+    }
+    let [as_resources, v4_resources, v6_resources] = resources(fields.sequence()?, as_blocks)?;
+    digest_algorithm(&mut fields)?;
+    let message_digest = fields.take(0x04)?;
+    fields.close(Attestation { subject_keys, as_resources, v4_resources, v6_resources, message_digest })
+}
+
+impl<'a> Attestation<'a> {
+    /// The identifiers of the keys.
+    #[inline]
+    pub fn subject_keys(&self) -> impl Iterator<Item = &'a [u8; 20]> {
+        let mut list = Reader(self.subject_keys);
+        std::iter::from_fn(move || identifier(&mut list))
+    }
+
+    /// How many blocks its sets have.
+    pub fn blocks(&self) -> u64 {
+        (self.as_resources.len() + self.v4_resources.len() + self.v6_resources.len()) as u64
+    }
+}
+
+/// Goes past the algorithm of digests, SHA-256, with or without a NULL.
+fn digest_algorithm(fields: &mut Reader) -> Option<()> {
+    let mut algorithm = fields.sequence()?;
+    if algorithm.oid()? != SHA_256 {
+        return None;
+    }
+    algorithm.null()?;
+    algorithm.close(())
+}
+
+/// The AS numbers, as `read` takes them, and the addresses of both families that are named: at least one of the three
+/// has to be.
+fn resources(mut fields: Reader, read: fn(Reader) -> Option<Blocks>) -> Option<[Blocks; 3]> {
     let (numbers, families) = (fields.take_if(0xA0)?, fields.take_if(0xA1)?);
     fields.close(())?;
     let mut sets = [None, None, None];
     if let Some(numbers) = numbers {
-        sets[0] = Some(as_blocks(Reader(numbers))?);
+        sets[0] = Some(read(Reader(numbers))?);
     }
     if let Some(families) = families {
         let mut outer = Reader(families);
@@ -275,13 +327,18 @@ fn resources(mut fields: Reader) -> Option<[Blocks; 3]> {
 }
 
 /// SEQUENCE { [0] { SEQUENCE OF numbers and ranges of them } }.
-fn as_blocks(mut outer: Reader) -> Option<Blocks> {
+fn chosen_as_blocks(mut outer: Reader) -> Option<Blocks> {
     let mut fields = outer.sequence()?;
     outer.close(())?;
-    let mut choice = fields.open(0xA0)?;
+    let choice = fields.open(0xA0)?;
     fields.close(())?;
-    let mut list = choice.sequence()?;
-    choice.close(())?;
+    as_blocks(choice)
+}
+
+/// SEQUENCE OF numbers and ranges of them.
+fn as_blocks(mut outer: Reader) -> Option<Blocks> {
+    let mut list = outer.sequence()?;
+    outer.close(())?;
     let mut blocks = Blocks::new();
     while !list.is_empty() {
         let (low, high) = if list.is_next(0x30) {

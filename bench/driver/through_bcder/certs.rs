@@ -258,7 +258,8 @@ fn take_extensions<S: Source>(cons: &mut Constructed<S>) -> Result<Found, S::Err
     })
 }
 
-fn identifier<S: Source>(octets: &mut Primitive<S>) -> Result<[u8; 20], S::Err> {
+/// The identifier of a key.
+pub fn identifier<S: Source>(octets: &mut Primitive<S>) -> Result<[u8; 20], S::Err> {
     there::<S, _>(octets.take_all()?[..].try_into().ok())
 }
 

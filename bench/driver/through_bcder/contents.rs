@@ -1,6 +1,7 @@
 //! The same work through the crate bcder, with the tests that the formats ask: a content keeps the octets of its
 //! entries, which are tested when it is read, and which are gone over a second time.
 
+use super::certs::identifier;
 use crate::plain::der::generalized_time;
 use crate::plain::contents::{Address, Blocks, SHA_256, ends, is_file_name, is_portable, is_registered, joined};
 use bcder::decode::{Constructed, Error, Source};
@@ -114,16 +115,16 @@ fn take_opt_ip_block<S: Source>(cons: &mut Constructed<S>, most: u8) -> Result<O
 
 fn take_as_blocks<S: Source>(cons: &mut Constructed<S>) -> Result<Blocks, S::Err> {
     cons.take_sequence(|cons| {
-        cons.take_constructed_if(Tag::CTX_0, |cons| {
-            cons.take_sequence(|cons| {
-                let mut blocks = Blocks::new();
-                while let Some(block) = take_opt_as_block(cons)? {
-                    blocks.push(block);
-                }
-                Ok(joined(blocks))
-            })
-        })
+        let mut blocks = Blocks::new();
+        while let Some(block) = take_opt_as_block(cons)? {
+            blocks.push(block);
+        }
+        Ok(joined(blocks))
     })
+}
+
+fn take_chosen_as_blocks<S: Source>(cons: &mut Constructed<S>) -> Result<Blocks, S::Err> {
+    cons.take_sequence(|cons| cons.take_constructed_if(Tag::CTX_0, take_as_blocks))
 }
 
 /// The addresses of each family, beside the AS numbers.
@@ -148,14 +149,25 @@ fn take_families<S: Source>(cons: &mut Constructed<S>, sets: &mut [Option<Blocks
     })
 }
 
-/// The AS numbers and the addresses of both families that are named: at least one of the three has to be.
-fn take_resources<S: Source>(cons: &mut Constructed<S>) -> Result<[Option<Blocks>; 3], S::Err> {
+/// The AS numbers, as `take` takes them, and the addresses of both families that are named: at least one of the three
+/// has to be.
+fn take_resources<S: Source>(
+    cons: &mut Constructed<S>,
+    take: fn(&mut Constructed<S>) -> Result<Blocks, S::Err>,
+) -> Result<[Option<Blocks>; 3], S::Err> {
     cons.take_sequence(|cons| {
         let mut sets = [None, None, None];
-        sets[0] = cons.take_opt_constructed_if(Tag::CTX_0, take_as_blocks)?;
+        sets[0] = cons.take_opt_constructed_if(Tag::CTX_0, take)?;
         cons.take_opt_constructed_if(Tag::CTX_1, |cons| take_families(cons, &mut sets))?;
         must::<S>(sets.iter().any(Option::is_some))?;
         Ok(sets)
+    })
+}
+
+fn skip_digest_algorithm<S: Source>(cons: &mut Constructed<S>) -> Result<(), S::Err> {
+    cons.take_sequence(|cons| {
+        must::<S>(Oid::take_from(cons)?.as_ref() == SHA_256)?;
+        cons.take_opt_null()
     })
 }
 
@@ -173,11 +185,8 @@ fn checklist(octets: Bytes) -> Result<([Option<Blocks>; 3], Captured), Error> {
     Mode::Der.decode(octets, |cons| {
         cons.take_sequence(|cons| {
             skip_version(cons)?;
-            let sets = take_resources(cons)?;
-            cons.take_sequence(|cons| {
-                must::<Bytes>(Oid::take_from(cons)?.as_ref() == SHA_256)?;
-                cons.take_opt_null().map(|_| ())
-            })?;
+            let sets = take_resources(cons, take_chosen_as_blocks)?;
+            skip_digest_algorithm(cons)?;
             let files = cons.take_sequence(|cons| {
                 cons.capture(|cons| {
                     while take_opt_listed(cons)?.is_some() {}
@@ -196,6 +205,41 @@ pub fn sum_of_checklist(octets: Bytes) -> Result<u64, Error> {
         let mut sum = 0;
         while let Some((name, hash)) = take_opt_listed(cons)? {
             sum += name.map_or(1, |name| name.len() as u64) + u64::from(hash[0]);
+        }
+        Ok(sum)
+    })
+}
+
+/// The identifier of a key.
+fn take_opt_key<S: Source>(cons: &mut Constructed<S>) -> Result<Option<[u8; 20]>, S::Err> {
+    cons.take_opt_primitive_if(Tag::OCTET_STRING, identifier)
+}
+
+fn attestation(octets: Bytes) -> Result<(Captured, [Option<Blocks>; 3], Bytes), Error> {
+    Mode::Der.decode(octets, |cons| {
+        cons.take_sequence(|cons| {
+            skip_version(cons)?;
+            let keys = cons.take_set(|cons| {
+                cons.capture(|cons| {
+                    while take_opt_key(cons)?.is_some() {}
+                    Ok(())
+                })
+            })?;
+            let sets = take_resources(cons, take_as_blocks)?;
+            skip_digest_algorithm(cons)?;
+            Ok((keys, sets, OctetString::take_from(cons)?.into_bytes()))
+        })
+    })
+}
+
+/// The sum of the octets in front of the identifiers of keys, and of how many blocks the sets have.
+pub fn sum_of_attestation(octets: Bytes) -> Result<u64, Error> {
+    let (keys, sets, _) = black_box(attestation(octets)?);
+    let blocks = sets.iter().flatten().map(|set| set.len() as u64).sum();
+    keys.decode(|cons| {
+        let mut sum = blocks;
+        while let Some(key) = take_opt_key(cons)? {
+            sum += u64::from(key[0]);
         }
         Ok(sum)
     })
