@@ -25,23 +25,13 @@ pub struct Ends<N> {
 #[derive(Default)]
 pub struct Sample {
     parts: Vec<Vec<u8>>,
-    /// The octets once more, with a count of references.
-    shared: Option<Arc<[u8]>>,
-    #[cfg(bcder)]
-    bytes: bytes::Bytes,
     numbers: Ends<u32>,
     addresses: Ends<u64>,
 }
 
 impl Sample {
     pub fn of(parts: Vec<Vec<u8>>) -> Sample {
-        Sample {
-            shared: Some(Arc::from(parts[0].as_slice())),
-            #[cfg(bcder)]
-            bytes: bytes::Bytes::from(parts[0].clone()),
-            parts,
-            ..Sample::default()
-        }
+        Sample { parts, ..Sample::default() }
     }
 
     pub fn octets(&self) -> &[u8] {
@@ -57,15 +47,15 @@ impl Sample {
         self.parts.clone()
     }
 
-    /// A reference to the octets.
+    /// A copy of the octets with a count of references.
     pub fn shared(&self) -> Arc<[u8]> {
-        Arc::clone(self.shared.as_ref().expect("octets"))
+        Arc::from(self.octets())
     }
 
     /// The same for bcder.
     #[cfg(bcder)]
     pub fn bytes(&self) -> bytes::Bytes {
-        self.bytes.clone()
+        bytes::Bytes::copy_from_slice(self.octets())
     }
 
     pub fn numbers(&self) -> &Ends<u32> {

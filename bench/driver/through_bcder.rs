@@ -1,5 +1,5 @@
-//! The work through the calls of the crate bcder, on which the original stands, as subjects. In each round a reference
-//! to the octets is taken, of which the parts that are kept are references too.
+//! The work through the calls of the crate bcder, on which the original stands, as subjects. The octets are copied once,
+//! and in each round a reference to the copy is taken, of which the parts that are kept are references too.
 
 mod aspas;
 mod certs;
@@ -12,7 +12,8 @@ use bytes::Bytes;
 use std::hint::black_box;
 
 fn rounds_of<E>(it: &Sample, rounds: u32, read: impl Fn(Bytes) -> Result<u64, E>) -> u64 {
-    (0..rounds).fold(0, |sum: u64, _| sum.wrapping_add(read(black_box(it.bytes())).unwrap_or(0)))
+    let octets = it.bytes();
+    (0..rounds).fold(0, |sum: u64, _| sum.wrapping_add(read(black_box(octets.clone())).unwrap_or(0)))
 }
 
 pub fn manifest(it: &Sample, rounds: u32) -> u64 {
