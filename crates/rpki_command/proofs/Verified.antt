@@ -9,6 +9,7 @@ pub mod Issuing
 pub mod Judging
 pub mod Lined
 pub mod Listed
+pub mod ListedEach
 pub mod Payloads
 pub mod Refused
 pub mod Revoking
@@ -19,6 +20,7 @@ pub mod Running
 pub mod RunningOne
 pub mod Settled
 pub mod Sufficing
+pub mod SufficingLists
 pub mod Supplying
 pub mod Told
 pub mod Unlisted

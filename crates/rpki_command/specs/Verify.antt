@@ -7,6 +7,7 @@ pub mod Each
 pub mod Good
 pub mod Issuers
 pub mod Lines
+pub mod Listed
 pub mod Objects
 pub mod Revoked
 pub mod Runs

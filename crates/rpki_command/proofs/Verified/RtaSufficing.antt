@@ -37,9 +37,12 @@ use Rattle.rpki_verdicts.specs.Questions.{Question, last_of, says}
 use Rattle.rpki_verdicts.specs.Verdicts.{AreVerdicts}
 use Rattle.rpki_verdicts.proofs.Cut.{only-lines}
 use Rattle.rpki_verdicts.proofs.Good.{all-lines}
-use Rattle.rpki_cli.specs.Answer.{Run}
+use Rattle.rpki_cli.specs.Answer.{Run, IsWhole}
+use Rattle.rpki_show.specs.Texts.Rta.{attestation_text}
 use Rattle.rpki_command.specs.Anchors.{Given, given_in, chains_in, IsFirstUnmade, MakeEach, MakesOf}
+use Rattle.rpki_command.specs.Check.{yes_line}
 use Rattle.rpki_command.specs.Rta.{supply_of}
+use Rattle.rpki_command.specs.Verify.Listed.{IsGrantedBy, IsNotGrantedBy}
 use Rattle.rpki_command.specs.Verify.Sufficing.{SayTheSame, HaveTheirOwnLines}
 use Rattle.rpki_command.specs.Yes.{BeginsWithNoGranted, HoldsByList, IsRightNoRta, IsRightRta}
 use Rattle.rpki_command.specs.declared.anchors.Anchor.{Anchor}
@@ -49,7 +52,8 @@ use Rattle.rpki_command.specs.declared.anchors.AnchorError.TheVariants.{NoLocato
 use Rattle.rpki_command.proofs.Verified.Alike.{AreEach, AreLike, AreHeld, IsHeld, IsLike, IsLikeCrl}
 use Rattle.rpki_command.proofs.Verified.Alike.{IsLikeSigner, distinct-on, granted-on}
 use Rattle.rpki_command.proofs.Verified.Sufficing.{Each, each-cons, each-head, each-none, each-tail}
-use Rattle.rpki_command.proofs.Verified.Sufficing.{makes-as, makes-end, says-same}
+use Rattle.rpki_command.proofs.Verified.Sufficing.{makes-as, makes-end}
+use Rattle.rpki_command.proofs.Verified.SufficingLists.{says-same}
 
 -- ---- all of some questions
 
@@ -460,14 +464,10 @@ module _ (a b : Verdict) (now : Moment) (given : List Given) (chains : List (Lis
 
 -- ---- what is right
 
-module _ (a b : Verdict) (now : Moment) (words : List (List ℕ)) (object : List ℕ)
-    (files : List (List ℕ)) (chains : List (List Certificate)) (r : Whole)
-    (are : AreChains (chains_in (given_in words files)) chains)
+module _ (a b : Verdict) (now : Moment) (given : List Given) (object : List ℕ)
+    (chains : List (List Certificate)) (r : Whole) (are : AreChains (chains_in given) chains)
     (begins : BeginWith (RtaForm Der) object r)
     (same : SayTheSame a b (rta_questions chains r.signed)) where
-  abbrev given : List Given
-  given = given_in words files
-
   anchors-as : (anchors : List Anchor) → MakeEach a now given anchors
       → MakeEach b now given anchors
   anchors-as anchors = (same-anchors a b now given chains r are same anchors).0
@@ -491,17 +491,18 @@ module _ (a b : Verdict) (now : Moment) (words : List (List ℕ)) (object : List
       (turned a b (rta_questions chains r.signed) same) sha256
       (subst (λ (y : Whole). IsDistinct sha256 b y) e h))
 
-  right-as : (run : Run) → IsRightRta a now words object files run
-      → IsRightRta b now words object files run
-  right-as run h = record {
+  abbrev granted-as-too : IsGrantedBy a now given object → IsGrantedBy b now given object
+  granted-as-too h = record {
     anchors = h.anchors;
     made = anchors-as h.anchors h.made;
-    rta = h.rta;
-    rest = h.rest;
-    front = h.front;
-    granted = (granted-both h.rta (the-rta h.rta h.rest h.front) h.anchors h.made).0 h.granted;
-    printed = h.printed;
-    silent = h.silent;
+    granted = record {
+      object = h.granted.object;
+      rest = h.granted.rest;
+      front = h.granted.front;
+      holds = (granted-both h.granted.object
+          (the-rta h.granted.object h.granted.rest h.granted.front) h.anchors h.made).0
+          h.granted.holds;
+    };
   }
 
   no-granted-as : (anchors : List Anchor) → MakeEach a now given anchors
@@ -518,7 +519,7 @@ module _ (a b : Verdict) (now : Moment) (words : List (List ℕ)) (object : List
             ((granted-both some.object e anchors made).1 granted);
       })
 
-  no-as : IsRightNoRta a now words object files → IsRightNoRta b now words object files
+  no-as : IsNotGrantedBy a now given object → IsNotGrantedBy b now given object
   no-as (inl n) = inl (record {
     fault = n.fault;
     first = (same-unmade a b now given chains r are same n.fault).0 n.first;
@@ -530,6 +531,35 @@ module _ (a b : Verdict) (now : Moment) (words : List (List ℕ)) (object : List
     no = no-granted-as n.anchors n.made n.no;
   })
 
+-- a yes that is right is that the attestation is granted, and that a run prints so
+module _ (verdict : Verdict) (now : Moment) (words : List (List ℕ)) (object : List ℕ)
+    (files : List (List ℕ)) (run : Run) where
+  -- what is printed of it
+  abbrev Prints : (h : IsGrantedBy verdict now (given_in words files) object) → Type 0
+  Prints h = IsWhole (yes_line ++ attestation_text h.granted.object.content) 0 run.out_before
+      run.out_after run.status × (run.err_after ≡ run.err_before)
+
+  abbrev granted-in : IsRightRta verdict now words object files run
+      → IsGrantedBy verdict now (given_in words files) object
+  granted-in h = record {
+    anchors = h.anchors;
+    made = h.made;
+    granted = record { object = h.rta; rest = h.rest; front = h.front; holds = h.granted };
+  }
+
+  right-of : (h : IsGrantedBy verdict now (given_in words files) object) → Prints h
+      → IsRightRta verdict now words object files run
+  right-of h p = record {
+    anchors = h.anchors;
+    made = h.made;
+    rta = h.granted.object;
+    rest = h.granted.rest;
+    front = h.granted.front;
+    granted = h.granted.holds;
+    printed = p.0;
+    silent = p.1;
+  }
+
 -- ---- the list of the good ones
 
 -- a text is a list of verdicts in one way
@@ -537,9 +567,8 @@ one-list : (text : List ℕ) (lines others : List (List ℕ)) → AreVerdicts te
     → AreVerdicts text others → lines ≡ others
 one-list text lines others h k = sym (only-lines text lines h).1 ∙ (only-lines text others k).1
 
-module _ (now : Moment) (words : List (List ℕ)) (object : List ℕ) (files : List (List ℕ))
-    (text : List ℕ)
-    (list : IsRtaListingOf is_rsa_signature object (chains_in (given_in words files)) text)
+module _ (now : Moment) (given : List Given) (object : List ℕ) (text : List ℕ)
+    (list : IsRtaListingOf is_rsa_signature object (chains_in given) text)
     (own : HaveTheirOwnLines (rta_questions list.supplied list.rta.signed)) where
   abbrev questions : List Question
   questions = rta_questions list.supplied list.rta.signed
@@ -562,30 +591,64 @@ module _ (now : Moment) (words : List (List ℕ)) (object : List ℕ) (files : L
   by-lines P h = subst (λ (ls : List (List ℕ)). P (is_listed ls))
       (one-list text h.lines lines h.listed listed) h.holds
 
+  -- what is granted by the keys is granted by the list, and the other way round
+  abbrev granted-listed : IsGrantedBy is_rsa_signature now given object
+      → IsGrantedBy (is_listed lines) now given object
+  granted-listed = granted-as-too is_rsa_signature (is_listed lines) now given object list.supplied
+      list.rta list.certs list.front alike-said
+
+  abbrev granted-signed : IsGrantedBy (is_listed lines) now given object
+      → IsGrantedBy is_rsa_signature now given object
+  granted-signed = granted-as-too (is_listed lines) is_rsa_signature now given object list.supplied
+      list.rta list.certs list.front alike-back
+
+  pub granted-by-list : IsGrantedBy is_rsa_signature now given object
+      → HoldsByList (λ verdict. IsGrantedBy verdict now given object) text
+  granted-by-list h = record { lines = lines; listed = listed; holds = granted-listed h }
+
+  -- so is what is not granted
+  pub not-granted-by-list : IsNotGrantedBy is_rsa_signature now given object
+      ↔ HoldsByList (λ verdict. IsNotGrantedBy verdict now given object) text
+  not-granted-by-list = (
+    λ h. record {
+      lines = lines;
+      listed = listed;
+      holds = no-as is_rsa_signature (is_listed lines) now given object list.supplied list.rta
+          list.certs list.front alike-said h;
+    },
+    λ h. no-as (is_listed lines) is_rsa_signature now given object list.supplied list.rta
+        list.certs list.front alike-back
+        (by-lines (λ verdict. IsNotGrantedBy verdict now given object) h),
+  )
+
+module _ (now : Moment) (words : List (List ℕ)) (object : List ℕ) (files : List (List ℕ))
+    (text : List ℕ)
+    (list : IsRtaListingOf is_rsa_signature object (chains_in (given_in words files)) text)
+    (own : HaveTheirOwnLines (rta_questions list.supplied list.rta.signed)) where
+  abbrev anchored : List Given
+  anchored = given_in words files
+
+  abbrev by : Verdict
+  by = is_listed (lines now anchored object text list own)
+
   pub right-rta-by-list : (run : Run) → IsRightRta is_rsa_signature now words object files run
       ↔ HoldsByList (λ verdict. IsRightRta verdict now words object files run) text
   right-rta-by-list run = (
     λ h. record {
-      lines = lines;
-      listed = listed;
-      holds = right-as is_rsa_signature (is_listed lines) now words object files list.supplied
-          list.rta list.certs list.front alike-said run h;
+      lines = lines now anchored object text list own;
+      listed = listed now anchored object text list own;
+      holds = right-of by now words object files run
+          (granted-listed now anchored object text list own
+          (granted-in is_rsa_signature now words object files run h)) (h.printed, h.silent);
     },
-    λ h. right-as (is_listed lines) is_rsa_signature now words object files list.supplied
-        list.rta list.certs list.front alike-back run
-        (by-lines (λ verdict. IsRightRta verdict now words object files run) h),
+    λ h.
+        let l = by-lines now anchored object text list own
+        (λ verdict. IsRightRta verdict now words object files run) h in
+        right-of is_rsa_signature now words object files run
+        (granted-signed now anchored object text list own
+        (granted-in by now words object files run l)) (l.printed, l.silent),
   )
 
   pub right-no-rta-by-list : IsRightNoRta is_rsa_signature now words object files
       ↔ HoldsByList (λ verdict. IsRightNoRta verdict now words object files) text
-  right-no-rta-by-list = (
-    λ h. record {
-      lines = lines;
-      listed = listed;
-      holds = no-as is_rsa_signature (is_listed lines) now words object files list.supplied
-          list.rta list.certs list.front alike-said h;
-    },
-    λ h. no-as (is_listed lines) is_rsa_signature now words object files list.supplied
-        list.rta list.certs list.front alike-back
-        (by-lines (λ verdict. IsRightNoRta verdict now words object files) h),
-  )
+  right-no-rta-by-list = not-granted-by-list now anchored object text list own

@@ -1,58 +1,27 @@
 -- What a run of a check without a locator and without lists says, beside a check of one object.
 use Rattle.std.proofs.Common.{◌≡◌, ◌∙◌, List, [], ◌∷◌, All, Bool, false, Option, ap, sym, subst}
-use Rattle.std.proofs.Common.{inl, inr, map, Ok}
-use Rattle.std.proofs.lemmas.List.Elements.{All-nil, All-cons, All-head, All-tail}
+use Rattle.std.proofs.Common.{inl, inr, map}
 use Rattle.std.specs.Prelude.{Any}
 use Rattle.rpki_basics.specs.Moment.{Moment}
-use Rattle.rpki_certs.specs.Issuer.{MakesIssuer}
-use Rattle.rpki_certs.specs.Validate.{Validated}
 use Rattle.rpki_rsa.specs.Signature.{is_rsa_signature}
 use Rattle.rpki_cli.specs.Answer.{Run, Output, IsSaid, issuer_refused}
 use Rattle.rpki_cli.specs.Options.{either_options}
 use Rattle.rpki_cli.specs.Store.{Told}
 use Rattle.rpki_cli.specs.Verify.Requests.{AskedCheck}
 use Rattle.rpki_cli.specs.declared.causes.Causes.TheVariants.{Included}
-use Rattle.rpki_cli.specs.declared.verify.requests.CheckedKind.{CheckedKind}
 use Rattle.rpki_cli.specs.declared.words.Kind.{Kind}
 use Rattle.rpki_cli.specs.declared.words.Options.{Options}
 use Rattle.rpki_command.specs.Verify.Checks.{IsSaidOfFiles}
 use Rattle.rpki_command.specs.Verify.Command.{PartySays}
 use Rattle.rpki_command.specs.Verify.Each.{GivenFile}
-use Rattle.rpki_command.specs.Verify.Good.{IsGoodFile}
-use Rattle.rpki_command.specs.Verify.Issuers.{CertFiles, GivenLocator, named, octets_in}
-use Rattle.rpki_command.specs.Verify.Revoked.{GivenList}
+use Rattle.rpki_command.specs.Verify.Issuers.{CertFiles, named}
 use Rattle.rpki_command.specs.Verify.Runs.{IsCheckRun}
 use Rattle.rpki_command.specs.Verify.Unlisted.{as_object, unlisted, files_of_one}
 use Rattle.rpki_command.specs.Verify.Unlisted.{IsSaidOfOne, MayEndWith, IsSameButName}
-use Rattle.rpki_command.specs.Verify.Unlisted.{DoesListSuffice}
 use Rattle.rpki_command.specs.Yes.{IsRightYes, IsRightNo, status_of}
 use Rattle.rpki_command.proofs.Right.{yes-made, no-made, other-status, one}
-use Rattle.rpki_command.proofs.Verified.Running.{run-good, said-yes-of-run, said-no-of-run}
-use Rattle.rpki_command.proofs.Verified.Running.{some-object}
-use Rattle.rpki_command.proofs.Verified.Sufficing.{good-by-list}
+use Rattle.rpki_command.proofs.Verified.Running.{said-yes-of-run, said-no-of-run, some-object}
 use Rattle.rpki_command.proofs.Verified.Unlisted.{one-said, each-yes, one-no}
-
--- what is good by its signatures is good by a list of them
-module _ (options : Options) (now : Moment) (certs : CertFiles) (locator : Option GivenLocator)
-    (lists : List GivenList) (issuer : Validated)
-    (made : MakesIssuer is_rsa_signature now certs.anchor.1 (octets_in certs.chain) (Ok issuer))
-  where
-    abbrev IsGoodHere : GivenFile CheckedKind → Type 0
-    IsGoodHere = IsGoodFile (record {
-      options = options;
-      locator = locator;
-      lists = lists;
-      issuer = issuer;
-      now = now;
-    })
-
-    each-listed : (objects : List (GivenFile Kind)) → All IsGoodHere (map as_object objects)
-        → All (DoesListSuffice options now certs) objects
-    each-listed [] h = All-nil (DoesListSuffice options now certs)
-    each-listed (o ∷ objects) h = All-cons (DoesListSuffice options now certs) o objects
-        (λ text list. good-by-list options o.kind now (files_of_one certs o) text list lists issuer made
-        (All-head IsGoodHere (as_object o) (map as_object objects) h))
-        (each-listed objects (All-tail IsGoodHere (as_object o) (map as_object objects) h))
 
 module _ (clock : Option Moment) (says : PartySays) (told : Told) (options : Options)
     (c : AskedCheck) (now : Moment) (certs : CertFiles) where
@@ -67,12 +36,6 @@ module _ (clock : Option Moment) (says : PartySays) (told : Told) (options : Opt
         in
         each-yes (record { json = c.values.json; options = how; moment = now }) certs objects said.0
         said.1 said.3
-
-    -- a list suffices for each
-    pub run-each-listed : run.status ≡ 0 → All (DoesListSuffice how now certs) objects
-    run-each-listed z =
-        let good = run-good clock says told options c now (unlisted certs objects) run is z in
-        each-listed how now certs good.locator good.lists good.issuer good.made.made objects good.good
 
     -- one is checked
     some-given : ¬ (objects ≡ [])

@@ -10,6 +10,7 @@ ghost use Rattle.rpki_cli.specs.Options.{either_options};
 ghost use Rattle.rpki_cli.specs.Store.{Told};
 ghost use Rattle.rpki_cli.specs.Verify.CheckSettings.{check_names};
 ghost use Rattle.rpki_cli.specs.Verify.Requests.{AskedCheck};
+ghost use Rattle.rpki_cli.specs.declared.verify.requests.CheckedKind.{CheckedKind};
 ghost use Rattle.rpki_cli.specs.declared.words.Kind.{Kind};
 ghost use Rattle.rpki_cli.specs.declared.words.Options.{Options};
 ghost use Rattle.rpki_command.specs.Verify.Checks.{CheckedFiles, IsSaidOfFiles, files_in};
@@ -17,9 +18,10 @@ ghost use Rattle.rpki_command.specs.Verify.Each.{GivenFile};
 ghost use Rattle.rpki_command.specs.Verify.Good.{AreGood, AreRefused};
 ghost use Rattle.rpki_command.specs.Verify.Issuers.{CertFiles};
 ghost use Rattle.rpki_command.specs.Verify.Lines.{PrintsLines};
+ghost use Rattle.rpki_command.specs.Verify.Listed.{DoesListSuffice, DoesListRefuse};
+ghost use Rattle.rpki_command.specs.Verify.Listed.{HasGoodSignatures, without_lists};
 ghost use Rattle.rpki_command.specs.Verify.Runs.{AreFilesOf, IsCheckRun};
 ghost use Rattle.rpki_command.specs.Verify.Unlisted.{unlisted, files_of_one, MayEndWith};
-ghost use Rattle.rpki_command.specs.Verify.Unlisted.{DoesListSuffice};
 ghost use Rattle.rpki_command.specs.Yes.{IsRightYes, IsRightNo, status_of};
 ghost use Rattle.rpki_command.specs.declared.verify.checks.Manner.{Manner};
 
@@ -87,15 +89,34 @@ pub fn checks_of_several_without_lists_are_right<P: RelyingParty>()
         → Any (MayEndWith 1 (either_options options c.values.options) now certs) objects }
 {}
 
-/// Where such a check of signed objects ends with status 0, in lines or in JSON, the list of good
-/// signatures that `verdicts` prints suffices for each FILE: by each such list, too, the certificates
-/// make an issuer, under which the object is good. So a check by `rpki_objects` says yes.
+/// Where such a check ends with status 0, in lines or in JSON, whichever locator and lists it has,
+/// the list of good signatures that `verdicts` prints suffices for each FILE. By each such list, too,
+/// the certificates make an issuer, under which the object is good, so a check by `rpki_objects` says
+/// yes. An attestation is granted by the list under the locator and the certificates, where different
+/// questions of its check have different lines. Where such a check without a locator and without
+/// revocation lists ends with status 1, a check of one FILE by such a list is right to say no.
 pub fn lists_suffice_for_each<P: RelyingParty>()
+    ensures yes { (clock : Option Moment) (party : P) (told : Told) (options : Options)
+        (c : AskedCheck) (now : Moment) (f : CheckedFiles) (run : Run)
+        → IsCheckRun clock (P.says party) told options c now f run → run.status ≡ 0
+        → All (DoesListSuffice (either_options options c.values.options) now f.certs f.locator)
+        f.objects }
+    ensures no { (clock : Option Moment) (party : P) (told : Told) (options : Options)
+        (c : AskedCheck) (now : Moment) (certs : CertFiles) (objects : List (GivenFile CheckedKind))
+        (run : Run)
+        → IsCheckRun clock (P.says party) told options c now (without_lists certs objects) run
+        → run.status ≡ 1
+        → Any (DoesListRefuse (either_options options c.values.options) now certs) objects }
+{}
+
+/// Such a check needs a yes to each question that it asks about a signed object: where it ends with
+/// status 0, the keys made all signatures on which it rests, that of the object, that of its
+/// certificate, and those of the certificates in the files.
+pub fn each_signature_of_a_check_is_good<P: RelyingParty>()
     ensures { (clock : Option Moment) (party : P) (told : Told) (options : Options)
-        (c : AskedCheck) (now : Moment) (certs : CertFiles) (objects : List (GivenFile Kind))
-        (run : Run) → IsCheckRun clock (P.says party) told options c now (unlisted certs objects) run
-        → run.status ≡ 0
-        → All (DoesListSuffice (either_options options c.values.options) now certs) objects }
+        (c : AskedCheck) (now : Moment) (f : CheckedFiles) (run : Run)
+        → IsCheckRun clock (P.says party) told options c now f run → run.status ≡ 0
+        → All (HasGoodSignatures (either_options options c.values.options) f.certs) f.objects }
 {}
 
 /// What such a check says in JSON, where nothing is wrong with its words and files, is a line for

@@ -1,4 +1,4 @@
-use Rattle.rpki_command.proofs.Verified.Sufficing.{right-yes-by-list, right-no-by-list}
+use Rattle.rpki_command.proofs.Verified.SufficingLists.{right-yes-by-list, right-no-by-list}
 use Rattle.rpki_command.proofs.verify.laws.lists_suffice.Goals as goal
 
 pub returns-clause-yes : goal.returns-clause-yes
