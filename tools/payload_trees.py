@@ -1,4 +1,7 @@
+#!/usr/bin/env python3
 """Trees with one thing wrong each, hostile copies, and what `rpki_verify payloads` says of them.
+
+    tools/payload_trees.py FOLDER    makes copy/ and tals/ in FOLDER, with several things wrong
 
 Under the anchor `top` are the CAs `a` and `b`, and `c` is under `a`. The wrong thing is at `a`, or
 at the certificate of `c`. What `b` says stays, whatever is wrong there. Where a name leads out of
@@ -8,8 +11,11 @@ follows it says more. Each row of `TREES` is a name and a function that changes 
 import copy
 import ipaddress
 import os
+import pathlib
+import sys
 
-from publication import (
+sys.dont_write_bytecode = True
+from publication import (  # noqa: E402
     EVERYTHING, FUTURE, HOST, INHERITED, NEXT, PAST, SIGNED, Ca, Router, certificate, locator, make, signer)
 
 NO_MANIFEST, NO_FILE, NO_LIST, NO_ROA, NO_ASPA, NO_CA = (
@@ -239,6 +245,27 @@ def two_parents(t):
     t.says(A + C + C)
 
 
+def several_wrong(t):
+    """Four ROAs of `a` are bad, that of `d` is missing, and the locator `other` has another key. The
+    point of `b` ends with 2027, and a ROA of `a` with 2028. docs/COOKBOOK.md asks about this tree at
+    the moment now, so what is expired ended on 2 November 2026."""
+    t.a.add_roa("early.roa", 65001, ["10.1.128.0/17"], last="20290101000000Z")
+    t.a.add_roa("expired.roa", 65001, ["10.1.0.0/16"], last="20261102000000Z")
+    t.a.add_roa("forged.roa", 65001, ["10.1.0.0/16"], by=t.b.signer)
+    t.a.add_roa("revoked.roa", 65003, ["10.1.0.0/20"])
+    t.a.add_roa("wide.roa", 65001, ["10.1.0.0/16", "10.2.0.0/16"])
+    t.a.revoke("revoked.roa")
+    t.b.manifest_times = SIGNED, "20280101000000Z"
+    d = Ca("d", make.Claim(["10.4.0.0/16"], []), t.top)
+    t.cas.append(d)
+    t.top.add_ca(d)
+    t.lose(d.add_roa("o.roa", 65006, ["10.4.0.0/16"]))
+    t.tals["other.tal"] = locator([t.top.uri], t.b.signer)
+    bad = [(f"{t.a.folder}{it}.roa", NO_ROA) for it in ("expired", "forged", "revoked", "wide")]
+    t.says(A + [origin(65001, "10.1.128.0/17")] + C + B, *bad, (d.manifest, NO_FILE))
+    t.fails(OTHER_KEY, "other")
+
+
 def at(what, folder, manifest, fault):
     """`c` publishes there. Where its certificate names no URI that may be, it is refused itself."""
     def change(t):
@@ -252,6 +279,7 @@ def at(what, folder, manifest, fault):
 OUT, HERE = "rsync://../m/x", "rsync://./m/x"
 SHAPES = [
     ("nothing is wrong", lambda t: None),
+    ("several things wrong", several_wrong),
     ("COPY/", lambda t: vars(t).update(copy="copy/")),
     ("./none/../COPY", lambda t: vars(t).update(copy="./none/../copy")),
     ("COPY from the root on", lambda t: vars(t).update(copy=None)),
@@ -487,3 +515,24 @@ LARGE = [
 # prefix of a ROA is a payload, and a line, or an object of JSON; that a listed file is not there is
 # kept, with its URI.
 TIMES, TIMES_OF_JSON = {of_prefixes: 24, of_files: 8}, 48
+
+
+# ---- a tree on disk, for docs/COOKBOOK.md
+
+def main(words):
+    if len(words) != 1 or words[0].startswith("-"):
+        print(__doc__, end="")
+        return 0 if words in (["-h"], ["--help"]) else 2
+    tree = Tree()
+    several_wrong(tree)
+    files = {f"copy/{path}": octets for path, octets in tree.written().items()}
+    files |= {f"tals/{name}": octets for name, octets in tree.tals.items()}
+    for path, octets in files.items():
+        path = pathlib.Path(words[0], path)
+        path.parent.mkdir(parents=True, exist_ok=True)
+        path.write_bytes(octets)
+    return 0
+
+
+if __name__ == "__main__":
+    sys.exit(main(sys.argv[1:]))
