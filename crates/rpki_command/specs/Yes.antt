@@ -154,12 +154,17 @@ pub record IsRefusedAnchored (verdict : Verdict) (now : Moment) (given : List Gi
   pub made : MakeEach verdict now given anchors
   pub no : BeginsWithNoGranted verdict now (map supply_of anchors) object
 
--- A no to an attestation is right by a verdict: one of the anchors is not made, or under them the
--- octets begin with no attestation that is granted at this moment, if identifiers are distinct.
+-- By this verdict one of the anchors is not made, and not for want of memory; or under them the octets
+-- begin with no attestation that is granted at this moment, if the identifiers of what it carries are
+-- distinct.
+abbrev pub IsNotGrantedBy : Verdict → Moment → List Given → List ℕ → Type 0
+IsNotGrantedBy verdict now given object =
+    HasNoAnchor verdict now given ⊎ IsRefusedAnchored verdict now given object
+
+-- That is what it means that a no to an attestation is right, under the anchors of these words.
 abbrev pub IsRightNoRta : Verdict → Moment → List (List ℕ) → List ℕ → List (List ℕ) → Type 0
 IsRightNoRta verdict now words object files =
-    HasNoAnchor verdict now (given_in words files)
-    ⊎ IsRefusedAnchored verdict now (given_in words files) object
+    IsNotGrantedBy verdict now (given_in words files) object
 
 -- The octets begin with no object of the kind, or with one that is not good under this issuer.
 abbrev pub BeginsWithNoGood : {X : Type 0} → signed.ObjectKind X → (List ℕ → X → Type 0) → Mode

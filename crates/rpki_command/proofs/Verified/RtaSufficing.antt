@@ -42,9 +42,10 @@ use Rattle.rpki_show.specs.Texts.Rta.{attestation_text}
 use Rattle.rpki_command.specs.Anchors.{Given, given_in, chains_in, IsFirstUnmade, MakeEach, MakesOf}
 use Rattle.rpki_command.specs.Check.{yes_line}
 use Rattle.rpki_command.specs.Rta.{supply_of}
-use Rattle.rpki_command.specs.Verify.Listed.{IsGrantedBy, IsNotGrantedBy}
+use Rattle.rpki_command.specs.Verify.Listed.{IsGrantedBy}
 use Rattle.rpki_command.specs.Verify.Sufficing.{SayTheSame, HaveTheirOwnLines}
-use Rattle.rpki_command.specs.Yes.{BeginsWithNoGranted, HoldsByList, IsRightNoRta, IsRightRta}
+use Rattle.rpki_command.specs.Yes.{BeginsWithNoGranted, HoldsByList, IsNotGrantedBy}
+use Rattle.rpki_command.specs.Yes.{IsRightNoRta, IsRightRta}
 use Rattle.rpki_command.specs.declared.anchors.Anchor.{Anchor}
 use Rattle.rpki_command.specs.declared.anchors.Anchor.TheVariants.{Tal, Ca}
 use Rattle.rpki_command.specs.declared.anchors.AnchorError.{AnchorError}
@@ -563,7 +564,7 @@ module _ (verdict : Verdict) (now : Moment) (words : List (List ℕ)) (object : 
 -- ---- the list of the good ones
 
 -- a text is a list of verdicts in one way
-one-list : (text : List ℕ) (lines others : List (List ℕ)) → AreVerdicts text lines
+pub one-list : (text : List ℕ) (lines others : List (List ℕ)) → AreVerdicts text lines
     → AreVerdicts text others → lines ≡ others
 one-list text lines others h k = sym (only-lines text lines h).1 ∙ (only-lines text others k).1
 

@@ -371,6 +371,50 @@ module _ (now : Moment) (anchor : List ℕ) (chain : List (List ℕ)) (first : C
       follows-end now a issuer chain others w.0 certs.1 w.2
       ∙ ap (λ (c : Certificate). last_of c others) (anchored-cert anchor first certs.0 now a w.0 i)
 
+  module _ (a : Verdict) (issuer : Validated)
+      (made : MakesIssuer a now anchor chain (Ok issuer)) where
+    says-on : (tail : List Certificate)
+        → Each (λ q. says a q ≡ true) (chain_questions (key_of issuer) tail)
+        → Each (λ q. says a q ≡ true)
+        (chain_questions first.tbs.key (first ∷ (others ++ tail)))
+    says-on tail each =
+        let P : Question → Type 0 = λ q. says a q ≡ true in
+        let w = went-on (λ v. Follows a now v chain (Ok issuer)) made.0 issuer made.2 in
+        let i = subst (λ (r : Result Validated IssuerError). IsAnchored a now anchor r) w.1 made.1
+        in
+        each-cons P (cert_question first.tbs.key first)
+        (chain_questions first.tbs.key (others ++ tail))
+        (anchored-says anchor first certs.0 now a w.0 i)
+        (subst (λ (c : Certificate). Each P (chain_questions c.tbs.key (others ++ tail)))
+        (anchored-cert anchor first certs.0 now a w.0 i)
+        (follows-says now a issuer tail chain others w.0 certs.1 w.2 each))
+
+    -- each of them is signed
+    pub makes-says : Each (λ q. says a q ≡ true) (chain_questions first.tbs.key (first ∷ others))
+    makes-says = chain-front (λ q. says a q ≡ true) first.tbs.key (first ∷ others) []
+        (says-on [] (each-none (λ q. says a q ≡ true)))
+
+-- the files begin with certificates
+follows-certs : (a : Verdict) (now : Moment) (issuer : Validated) (files : List (List ℕ))
+    (before : Validated) → Follows a now before files (Ok issuer)
+    → (certs : List Certificate) × AreCerts files certs
+follows-certs a now issuer [] before h = ([], tt)
+follows-certs a now issuer (file ∷ files) before h =
+    let w = went-on (λ v. Follows a now v files (Ok issuer)) h.0 issuer h.2 in
+    let i = subst (λ (r : Result Validated IssuerError). IsIssued a now before file r) w.1 h.1 in
+    let others = follows-certs a now issuer files w.0 w.2 in
+    (i.cert ∷ others.0, ((i.rest, i.front), others.1))
+
+pub makes-certs : (a : Verdict) (now : Moment) (anchor : List ℕ) (chain : List (List ℕ))
+    (issuer : Validated) → MakesIssuer a now anchor chain (Ok issuer)
+    → (first : Certificate) × (others : List Certificate)
+    × AreCerts (anchor ∷ chain) (first ∷ others)
+makes-certs a now anchor chain issuer made =
+    let w = went-on (λ v. Follows a now v chain (Ok issuer)) made.0 issuer made.2 in
+    let i = subst (λ (r : Result Validated IssuerError). IsAnchored a now anchor r) w.1 made.1 in
+    let others = follows-certs a now issuer chain w.0 w.2 in
+    (i.cert, others.0, ((i.rest, i.front), others.1))
+
 -- ---- an object
 
 -- whatever holds of the checks of an object
@@ -441,26 +485,6 @@ module _ (now : Moment) (anchor : List ℕ) (chain : List (List ℕ)) (first : C
 
   module _ (a : Verdict) (issuer : Validated)
       (made : MakesIssuer a now anchor chain (Ok issuer)) where
-    says-on : (tail : List Certificate)
-        → Each (λ q. says a q ≡ true) (chain_questions (key_of issuer) tail)
-        → Each (λ q. says a q ≡ true)
-        (chain_questions first.tbs.key (first ∷ (others ++ tail)))
-    says-on tail each =
-        let P : Question → Type 0 = λ q. says a q ≡ true in
-        let w = went-on (λ v. Follows a now v chain (Ok issuer)) made.0 issuer made.2 in
-        let i = subst (λ (r : Result Validated IssuerError). IsAnchored a now anchor r) w.1 made.1
-        in
-        each-cons P (cert_question first.tbs.key first)
-        (chain_questions first.tbs.key (others ++ tail))
-        (anchored-says anchor first certs.0 now a w.0 i)
-        (subst (λ (c : Certificate). Each P (chain_questions c.tbs.key (others ++ tail)))
-        (anchored-cert anchor first certs.0 now a w.0 i)
-        (follows-says now a issuer tail chain others w.0 certs.1 w.2 each))
-
-    makes-says : Each (λ q. says a q ≡ true) (chain_questions first.tbs.key (first ∷ others))
-    makes-says = chain-front (λ q. says a q ≡ true) first.tbs.key (first ∷ others) []
-        (says-on [] (each-none (λ q. says a q ≡ true)))
-
     -- where an object is good, each question has a yes
     pub good-says : {X : Type 0} (kind : signed.ObjectKind X) (mode : Mode) (digest : Digester)
         (o : Whole X)
@@ -473,7 +497,7 @@ module _ (now : Moment) (anchor : List ℕ) (chain : List (List ℕ)) (first : C
         in
         let signer = subst (λ (d : SignedData). P (signer_question d)) same yes.1 in
         each-push P (chain_questions first.tbs.key (first ∷ (others ++ (s.cert ∷ []))))
-        (signer_question s) (says-on (s.cert ∷ [])
+        (signer_question s) (says-on now anchor chain first others certs a issuer made (s.cert ∷ [])
         (each-cons P (cert_question (key_of issuer) s.cert) [] cert (each-none P))) signer
 
     -- of the certificate in the object the key of the issuer is asked
@@ -496,7 +520,7 @@ module _ (now : Moment) (anchor : List ℕ) (chain : List (List ℕ)) (first : C
       pub issuer-too : MakesIssuer b now anchor chain (Ok issuer)
       issuer-too =
           makes-as now anchor chain first others certs a b (λ q k.
-          let yes = makes-says a issuer made q k in
+          let yes = makes-says now anchor chain first others certs a issuer made q k in
           yes ∙ sym (of-issuer (λ p. says a p ≡ true → says b p ≡ true) too q k yes))
           (Ok issuer) made
 

@@ -12,7 +12,7 @@ use Rattle.rpki_command.specs.Verify.Check.{VerifiedOf}
 use Rattle.rpki_command.specs.Verify.Checks.{CheckedFiles}
 use Rattle.rpki_command.specs.Verify.Each.{GivenFile}
 use Rattle.rpki_command.specs.Verify.Issuers.{CertFiles, named, malformed_for}
-use Rattle.rpki_command.specs.Verify.Listed.{files_of, without_lists}
+use Rattle.rpki_command.specs.Verify.Listed.{certs_alone, check_files}
 use Rattle.rpki_command.specs.Yes.{FilesOfCheck, in_order, status_of}
 use Rattle.rpki_command.specs.declared.verify.checks.Manner.{Manner}
 
@@ -20,9 +20,9 @@ use Rattle.rpki_command.specs.declared.verify.checks.Manner.{Manner}
 abbrev pub as_object : GivenFile Kind → GivenFile CheckedKind
 as_object file = record { name = file.name; kind = Signed file.kind; octets = file.octets }
 
--- the files of a check of signed objects with these certificates, with no locator and no lists
+-- the files of a check of signed objects under certificates alone
 abbrev pub unlisted : CertFiles → List (GivenFile Kind) → CheckedFiles
-unlisted certs objects = without_lists certs (map as_object objects)
+unlisted certs objects = certs_alone certs (map as_object objects)
 
 -- the manner in which what is said is lines
 abbrev pub in_lines : Options → Moment → Manner
@@ -30,7 +30,7 @@ in_lines options now = record { json = false; options = options; moment = now }
 
 -- the files of a check of one of them with these certificates
 abbrev pub files_of_one : CertFiles → GivenFile Kind → FilesOfCheck
-files_of_one certs file = files_of certs file.octets
+files_of_one certs file = check_files certs file.octets
 
 -- What `check KIND FILE MOMENT TA [CA ..]` says of a signed object, with these certificates.
 abbrev pub IsSaidOfOne : Options → Moment → CertFiles → GivenFile Kind → Output → Type 0

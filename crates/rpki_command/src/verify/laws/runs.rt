@@ -18,8 +18,8 @@ ghost use Rattle.rpki_command.specs.Verify.Each.{GivenFile};
 ghost use Rattle.rpki_command.specs.Verify.Good.{AreGood, AreRefused};
 ghost use Rattle.rpki_command.specs.Verify.Issuers.{CertFiles};
 ghost use Rattle.rpki_command.specs.Verify.Lines.{PrintsLines};
-ghost use Rattle.rpki_command.specs.Verify.Listed.{DoesListSuffice, DoesListRefuse};
-ghost use Rattle.rpki_command.specs.Verify.Listed.{HasGoodSignatures, without_lists};
+ghost use Rattle.rpki_command.specs.Verify.Listed.{EachListSuffices, EachListRefuses};
+ghost use Rattle.rpki_command.specs.Verify.Listed.{HasGoodSignatures, certs_alone};
 ghost use Rattle.rpki_command.specs.Verify.Runs.{AreFilesOf, IsCheckRun};
 ghost use Rattle.rpki_command.specs.Verify.Unlisted.{unlisted, files_of_one, MayEndWith};
 ghost use Rattle.rpki_command.specs.Yes.{IsRightYes, IsRightNo, status_of};
@@ -89,30 +89,34 @@ pub fn checks_of_several_without_lists_are_right<P: RelyingParty>()
         → Any (MayEndWith 1 (either_options options c.values.options) now certs) objects }
 {}
 
-/// Where such a check ends with status 0, in lines or in JSON, whichever locator and lists it has,
-/// the list of good signatures that `verdicts` prints suffices for each FILE. By each such list, too,
-/// the certificates make an issuer, under which the object is good, so a check by `rpki_objects` says
-/// yes. An attestation is granted by the list under the locator and the certificates, where different
-/// questions of its check have different lines. Where such a check without a locator and without
-/// revocation lists ends with status 1, a check of one FILE by such a list is right to say no.
+/// Where a check of files ends with status 0, in lines or in JSON, with `--tal` and `--crl` or
+/// without, there is a list that `verdicts` prints for each FILE with the same options, and by each
+/// such list a yes is right at the same moment; so `rpki_objects check` never says no to a signed
+/// object by it. It looks at no revocation, and of a signed object at no locator. Of an attestation
+/// this is said where different questions of its check have different lines.
+///
+/// Where a check without `--tal` and `--crl` ends with status 1, a no to one FILE is right by the
+/// signatures, and by each list that `verdicts` prints for it, where different questions have
+/// different lines; of an attestation, if the identifiers of what it carries are distinct.
 pub fn lists_suffice_for_each<P: RelyingParty>()
     ensures yes { (clock : Option Moment) (party : P) (told : Told) (options : Options)
         (c : AskedCheck) (now : Moment) (f : CheckedFiles) (run : Run)
         → IsCheckRun clock (P.says party) told options c now f run → run.status ≡ 0
-        → All (DoesListSuffice (either_options options c.values.options) now f.certs f.locator)
+        → All (EachListSuffices (either_options options c.values.options) now f.certs f.locator)
         f.objects }
     ensures no { (clock : Option Moment) (party : P) (told : Told) (options : Options)
         (c : AskedCheck) (now : Moment) (certs : CertFiles) (objects : List (GivenFile CheckedKind))
         (run : Run)
-        → IsCheckRun clock (P.says party) told options c now (without_lists certs objects) run
+        → IsCheckRun clock (P.says party) told options c now (certs_alone certs objects) run
         → run.status ≡ 1
-        → Any (DoesListRefuse (either_options options c.values.options) now certs) objects }
+        → Any (EachListRefuses (either_options options c.values.options) now certs) objects }
 {}
 
-/// Such a check needs a yes to each question that it asks about a signed object: where it ends with
-/// status 0, the keys made all signatures on which it rests, that of the object, that of its
-/// certificate, and those of the certificates in the files.
-pub fn each_signature_of_a_check_is_good<P: RelyingParty>()
+/// Where a check of files ends with status 0, with `--tal` and `--crl` or without, all signatures are
+/// good on which each signed object rests: its own, that of its certificate, and those of the
+/// certificates in the files; of an attestation these last. Those of the lists of `--crl` need not
+/// be: a list with another one is not counted.
+pub fn each_signature_behind_a_yes_is_good<P: RelyingParty>()
     ensures { (clock : Option Moment) (party : P) (told : Told) (options : Options)
         (c : AskedCheck) (now : Moment) (f : CheckedFiles) (run : Run)
         → IsCheckRun clock (P.says party) told options c now f run → run.status ≡ 0
