@@ -1,3 +1,4 @@
+pub mod Carried
 pub mod Dates
 pub mod Grown
 pub mod Lists

@@ -1,9 +1,9 @@
 -- Texts of members, one after the other.
 use Rattle.std.proofs.Common.{◌≡◌, ◌∙◌, ℕ, List, [], ◌∷◌, ◌++◌, codes, ap, sym, append_assoc, append-nil, Global}
-use Rattle.std.proofs.Common.{Result, Ok, Err, String, string_bytes}
+use Rattle.std.proofs.Common.{Result, Ok, Err, String, map, refl, string_bytes}
 use Rattle.std.specs.declared.alloc.AllocError.{AllocError}
 use Rattle.std.specs.List.{flat_map}
-use Rattle.rpki_json.specs.Grammar.{Json}
+use Rattle.rpki_json.specs.Grammar.{Json, Items, array, item, items_of}
 use Rattle.rpki_json.specs.Grows.{Grows}
 use Rattle.rpki_json.specs.Members.{Member, text_member, member_text, further_text, array_member, object_of}
 use Rattle.rpki_json.specs.Separated.{separated}
@@ -51,6 +51,17 @@ array_grown value xs (Ok t) old begun filled new name b f h =
     ∙ regroup (string_bytes old) (json_string name) items
     ∙ ap (λ (z : List ℕ). string_bytes old ++ z) (sym (array-member-text name value xs))
 array_grown value xs (Err e) old begun filled new name b f h = tt
+
+items-map : {X Y : Type 0} (value : Y → Json) (f : X → Y) (xs : List X)
+    → items_of value (map f xs) ≡ items_of (λ x. value (f x)) xs
+items-map value f [] = refl
+items-map value f (x ∷ xs) = ap (item (value (f x))) (items-map value f xs)
+
+-- an array of the values of what is made of each of these
+pub array-map : {X Y : Type 0} (name : List ℕ) (value : Y → Json) (f : X → Y) (xs : List X)
+    → array_member name value (map f xs) ≡ array_member name (λ x. value (f x)) xs
+array-map name value f xs =
+    ap (λ (items : Items). record { name = name; value = array items }) (items-map value f xs)
 
 -- ---- files
 

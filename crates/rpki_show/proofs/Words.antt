@@ -16,7 +16,6 @@ use Rattle.rpki_json.specs.Members.{Member, members_of, object_of, boolean_membe
 use Rattle.rpki_json.specs.Members.{HaveWords, MembersHaveWords}
 use Rattle.rpki_json.specs.Text.{json_text}
 use Rattle.rpki_json.proofs.Values.{is-value}
-use Rattle.rpki_multi.specs.Attestation as attestations
 use Rattle.rpki_resources.specs.Family.{max_bits}
 use Rattle.rpki_resources.specs.declared.block.Block.{Block}
 use Rattle.rpki_resources.specs.declared.family.AddressFamily.{AddressFamily}
@@ -29,6 +28,7 @@ use Rattle.rpki_routes.specs.Aspa.{Aspa}
 use Rattle.rpki_routes.specs.Roa.{Roa, Address, IsRoa, IsAddress, IsMaxLength}
 use Rattle.rpki_routes.specs.Roa.{of_family}
 use Rattle.rpki_show.specs.Dated.{DatedList}
+use Rattle.rpki_show.specs.DatedRta.{DatedWhole}
 use Rattle.rpki_show.specs.Json.Aspa.{asn_value, aspa_members}
 use Rattle.rpki_show.specs.Json.Blocks.{as_value, ip_value, inherited_member}
 use Rattle.rpki_show.specs.Json.Certificate.{authority_members, key_members, issued_members}
@@ -44,7 +44,7 @@ use Rattle.rpki_show.specs.Json.Object.{signed_members}
 use Rattle.rpki_show.specs.Json.Roa.{vrp_value, roa_members}
 use Rattle.rpki_show.specs.Json.Rsc.{hashed_value, checked_value, rsc_members}
 use Rattle.rpki_show.specs.Json.Rta.{subject_value, attestation_members, carried_members}
-use Rattle.rpki_show.specs.Json.Rta.{rta_members}
+use Rattle.rpki_show.specs.Json.Rta.{certificate_value, list_value, rta_members}
 use Rattle.rpki_show.specs.Json.Tal.{uri_value, tal_members}
 use Rattle.rpki_show.specs.declared.dated.DatedEntry.{DatedEntry}
 use Rattle.rpki_sigobj.specs.Object.{SignedObject}
@@ -271,11 +271,14 @@ attestation-words a = (
   ),
 )
 
-pub rta-words : (r : attestations.Whole) → length r.signed.certs < 2 ^ 64
-    → length r.signed.crls < 2 ^ 64 → length r.signed.signers < 2 ^ 64 → Words (rta_members r)
-rta-words r certs crls signers =
-    joined (attestation_members r.content) (carried_members r.signed)
-    (attestation-words r.content) (certs, (crls, (signers, tt)))
+pub rta-words : (r : DatedWhole) → length r.rta.signed.signers < 2 ^ 64 → Words (rta_members r)
+rta-words r signers =
+    joined (attestation_members r.rta.content) (carried_members r)
+    (attestation-words r.rta.content)
+    (
+      each certificate_value certificate-words r.rta.signed.certs,
+      (each list_value crl-words r.lists, (signers, tt)),
+    )
 
 -- ---- lines
 

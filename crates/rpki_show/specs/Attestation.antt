@@ -4,9 +4,10 @@ use Rattle.rpki_der.specs.declared.mode.Mode.TheVariants.{Der}
 use Rattle.rpki_tagged.specs.Attestation.{AttestationForm}
 use Rattle.rpki_multi.specs.Attestation.{RtaForm}
 use Rattle.rpki_show.specs.Contents.{HasLines}
+use Rattle.rpki_show.specs.DatedRta.{DatedRtaForm}
 use Rattle.rpki_show.specs.Json.File.{file_json}
 use Rattle.rpki_show.specs.Json.Rta.{rta_members}
-use Rattle.rpki_show.specs.Texts.Rta.{attestation_text, rta_text}
+use Rattle.rpki_show.specs.Texts.Rta.{attestation_text, rta_text, whole_rta_text}
 
 -- The lines of the content of an attestation at the front of the octets, in DER.
 abbrev pub AttestationLines : List ℕ → List ℕ → Type 0
@@ -16,6 +17,10 @@ AttestationLines = HasLines (AttestationForm Der) attestation_text
 abbrev pub RtaLines : List ℕ → List ℕ → Type 0
 RtaLines = HasLines (RtaForm Der) rta_text
 
+-- The same, and those of each certificate and of each revocation list that it carries.
+abbrev pub WholeRtaLines : List ℕ → List ℕ → Type 0
+WholeRtaLines = HasLines (DatedRtaForm Der) whole_rta_text
+
 -- The line in JSON of an attestation at the front of the octets of a file of this name, in DER.
 abbrev pub RtaJson : List ℕ → List ℕ → List ℕ → Type 0
-RtaJson name = HasLines (RtaForm Der) (λ r. file_json name (codes "rta") (rta_members r))
+RtaJson name = HasLines (DatedRtaForm Der) (λ r. file_json name (codes "rta") (rta_members r))

@@ -1,6 +1,7 @@
 pub mod Attestation
 pub mod Contents
 pub mod Dated
+pub mod DatedRta
 pub mod Grows
 pub mod Ia5
 pub mod Issued

@@ -3,10 +3,12 @@
 ghost use Rattle.rpki_multi.specs.Attestation.{whole_of};
 ghost use Rattle.rpki_cli.specs.Answer.{said};
 ghost use Rattle.rpki_cli.specs.Shown.{IsShown, IsLinesOf};
-ghost use Rattle.rpki_show.specs.Attestation.{AttestationLines, RtaLines};
-ghost use Rattle.rpki_show.specs.Texts.Rta.{attestation_text, rta_text};
+ghost use Rattle.rpki_show.specs.Attestation.{AttestationLines, RtaLines, WholeRtaLines};
+ghost use Rattle.rpki_show.specs.DatedRta.{dated_of};
+ghost use Rattle.rpki_show.specs.Texts.Rta.{attestation_text, rta_text, whole_rta_text};
 
-use crate::texts::rta::{push_attestation, push_rta};
+use crate::dated_rta::DatedRta;
+use crate::texts::rta::{push_attestation, push_rta, push_whole_rta};
 use bytes::Bytes;
 use rpki_cli::answer::Answer;
 use rpki_cli::{Causes, refusal};
@@ -60,6 +62,32 @@ fn show_object_lines<'a>(alloc: Global, rta: &Rta) -> Answer<'a>
 {
     let mut text = String::new(alloc);
     match push_rta(&mut text, rta) {
+        Ok(()) => Answer::Shown(text),
+        Err(_) => Answer::OutOfMemory,
+    }
+}
+
+/// Answers with the lines of the attestation at the front of the octets, and those of each
+/// certificate and of each revocation list that it carries, if there is one.
+pub fn show_whole_rta<'a>(alloc: Global, causes: Causes, octets: Bytes) -> Answer<'a>
+    ensures { IsShown causes WholeRtaLines octets (said result) }
+{
+    match DatedRta::decode(alloc, octets) {
+        Err(error) => refusal(alloc, causes, error),
+        Ok(rta) => {
+            let answer = show_whole_lines(alloc, &rta);
+            drop(rta);
+            answer
+        }
+    }
+}
+
+/// The lines of an attestation, and of what it carries.
+fn show_whole_lines<'a>(alloc: Global, rta: &DatedRta) -> Answer<'a>
+    ensures { IsLinesOf (whole_rta_text (dated_of rta.now)) (said result) }
+{
+    let mut text = String::new(alloc);
+    match push_whole_rta(alloc, &mut text, rta) {
         Ok(()) => Answer::Shown(text),
         Err(_) => Answer::OutOfMemory,
     }

@@ -13,10 +13,10 @@ ghost use Rattle.rpki_der.specs.Text.Hex.{upper_hex};
 ghost use Rattle.rpki_der.specs.declared.mode.Mode.{Mode};
 ghost use Rattle.rpki_json.specs.Grammar.{IsText};
 ghost use Rattle.rpki_json.specs.Members.{Member, object_of, HasWords};
-ghost use Rattle.rpki_multi.specs.Attestation as attestations;
 ghost use Rattle.rpki_routes.specs.Aspa.{Aspa};
 ghost use Rattle.rpki_routes.specs.Roa.{Roa, IsRoa};
 ghost use Rattle.rpki_show.specs.Dated.{DatedForm, DatedList, IsDated};
+ghost use Rattle.rpki_show.specs.DatedRta.{DatedWhole};
 ghost use Rattle.rpki_show.specs.Ia5.{ia5_text};
 ghost use Rattle.rpki_show.specs.Json.Aspa.{aspa_members};
 ghost use Rattle.rpki_show.specs.Json.Certificate.{certificate_members};
@@ -71,15 +71,14 @@ pub fn contents_have_words()
     ensures rta { (a : Attestation) → HasWords (object_of (attestation_members a)) }
 {}
 
-/// The same of what is said of the signer of an object, of attestations that carry fewer than 2^64
-/// of each, of locators, of certificates and of revocation lists; and of two lists of members, one
+/// The same of what is said of the signer of an object, of attestations that fewer than 2^64 have
+/// signed, of locators, of certificates and of revocation lists; and of two lists of members, one
 /// after the other.
 pub fn files_have_words()
     ensures joined { (a b : List Member) → HasWords (object_of a) → HasWords (object_of b)
         → HasWords (object_of (a ++ b)) }
     ensures signer { (o : SignedObject) → HasWords (object_of (signed_members o)) }
-    ensures attestation { (r : attestations.Whole) → length r.signed.certs < 2 ^ 64
-        → length r.signed.crls < 2 ^ 64 → length r.signed.signers < 2 ^ 64
+    ensures attestation { (r : DatedWhole) → length r.rta.signed.signers < 2 ^ 64
         → HasWords (object_of (rta_members r)) }
     ensures locator { (uris : List TalUri) (key : List ℕ)
         → HasWords (object_of (tal_members uris key)) }

@@ -6,6 +6,7 @@
 mod attestation;
 mod contents;
 mod dated;
+mod dated_rta;
 mod in_json;
 mod issued;
 pub mod json;
@@ -16,9 +17,10 @@ mod objects;
 pub mod texts;
 mod whole;
 
-pub use attestation::{show_attestation, show_rta};
+pub use attestation::{show_attestation, show_rta, show_whole_rta};
 pub use contents::show_kind;
 pub use dated::{DatedCrl, DatedEntry};
+pub use dated_rta::DatedRta;
 pub use in_json::attestation::show_rta_json;
 pub use in_json::issued::{show_certificate_json, show_crl_json};
 pub use in_json::kinds::{JsonAction, answer_in_json, kind_word};

@@ -9,7 +9,7 @@ use Rattle.rpki_cli.specs.declared.verify.kinds_by_name.FileKind.{FileKind}
 use Rattle.rpki_cli.specs.declared.verify.kinds_by_name.FileKind.TheVariants as files
 use Rattle.rpki_cli.specs.declared.words.Kind.TheVariants as kinds
 use Rattle.rpki_cli.specs.declared.words.Options.{Options}
-use Rattle.rpki_show.specs.Attestation.{RtaLines, RtaJson}
+use Rattle.rpki_show.specs.Attestation.{WholeRtaLines, RtaJson}
 use Rattle.rpki_show.specs.Issued.{CertificateLines, CrlLines, CertificateJson, CrlJson}
 use Rattle.rpki_show.specs.Json.Outcome.{error_members}
 use Rattle.rpki_show.specs.Json.Tal.{TalJson}
@@ -17,7 +17,8 @@ use Rattle.rpki_show.specs.Objects.{WholeObjectLinesOf, ObjectJsonOf}
 use Rattle.rpki_show.specs.Texts.Tal.{TalLines}
 use Rattle.rpki_command.specs.Verify.Each.{GivenFile, asked_in, IsSaidOfEach, IsSaidInJson}
 
--- The lines of a file of a kind; of a signed object also those of its signer's certificate.
+-- The lines of a file of a kind; of a signed object also those of its signer's certificate, and of
+-- an attestation those of the certificates and of the revocation lists that it carries.
 -- Certificates, revocation lists and attestations are in DER, and a locator is a text: no option
 -- speaks of them.
 abbrev pub FileLines : Options → FileKind → List ℕ → List ℕ → Type 0
@@ -25,7 +26,7 @@ FileLines options files.Roa = WholeObjectLinesOf options kinds.Roa
 FileLines options files.Aspa = WholeObjectLinesOf options kinds.Aspa
 FileLines options files.Manifest = WholeObjectLinesOf options kinds.Manifest
 FileLines options files.Rsc = WholeObjectLinesOf options kinds.Rsc
-FileLines options files.Rta = RtaLines
+FileLines options files.Rta = WholeRtaLines
 FileLines options files.Certificate = CertificateLines
 FileLines options files.Crl = CrlLines
 FileLines options files.Tal = TalLines

@@ -19,8 +19,8 @@ use rpki_cli::verify::requests::ShowRequest;
 use rpki_cli::words::{Kind, Options};
 use rpki_show::json::outcome::push_error;
 use rpki_show::{
-    show_certificate, show_certificate_json, show_crl, show_crl_json, show_object_json, show_rta,
-    show_rta_json, show_tal, show_tal_json, show_whole_object,
+    show_certificate, show_certificate_json, show_crl, show_crl_json, show_object_json,
+    show_rta_json, show_tal, show_tal_json, show_whole_object, show_whole_rta,
 };
 use std::alloc::{AllocError, Global};
 
@@ -72,7 +72,7 @@ fn show_octets<'a>(alloc: Global, options: Options, kind: FileKind, octets: Byte
         FileKind::Aspa => show_whole_object(alloc, causes, options, Kind::Aspa, octets),
         FileKind::Manifest => show_whole_object(alloc, causes, options, Kind::Manifest, octets),
         FileKind::Rsc => show_whole_object(alloc, causes, options, Kind::Rsc, octets),
-        FileKind::Rta => show_rta(alloc, causes, octets),
+        FileKind::Rta => show_whole_rta(alloc, causes, octets),
         FileKind::Certificate => show_certificate(alloc, causes, octets),
         FileKind::Crl => show_crl(alloc, causes, octets),
         FileKind::Tal => show_tal(alloc, octets.as_slice()),

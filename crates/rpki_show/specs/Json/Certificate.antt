@@ -23,11 +23,14 @@ authority_members None = []
 abbrev pub key_members : KeyFacts → List Member
 key_members k = key_member (codes "ski") k.subject_key ∷ authority_members k.authority_key
 
+-- the validity
+abbrev pub validity_members : Tbs → List Member
+validity_members t = moment_member (codes "valid_since") t.validity.not_before
+    ∷ moment_member (codes "valid_until") t.validity.not_after ∷ []
+
 -- the serial number and the validity
 abbrev pub issued_members : Tbs → List Member
-issued_members t = serial_member (codes "cert_serial") t.serial_number
-    ∷ moment_member (codes "valid_since") t.validity.not_before
-    ∷ moment_member (codes "valid_until") t.validity.not_after ∷ []
+issued_members t = serial_member (codes "cert_serial") t.serial_number ∷ validity_members t
 
 -- what is to be had from the subject: the folder in which it publishes, its manifest, the
 -- notification file of its repository, and the object that its key signed
@@ -88,3 +91,10 @@ unfoldable pub certificate_members : Certificate → List Member
 certificate_members c = facts_members c
     ++ (boolean_member (codes "ca") (is_ca c.tbs.extensions.key.basic_ca)
     ∷ claim_members c.tbs.extensions.claims)
+
+-- what the members of a certificate are after its serial number, which is the first
+unfoldable pub later_members : Certificate → List Member
+later_members c = validity_members c.tbs
+    ++ ((key_members c.tbs.extensions.key ++ location_members c.tbs.extensions.locations)
+    ++ (boolean_member (codes "ca") (is_ca c.tbs.extensions.key.basic_ca)
+    ∷ claim_members c.tbs.extensions.claims))

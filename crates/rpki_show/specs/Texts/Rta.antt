@@ -5,7 +5,10 @@ use Rattle.rpki_der.specs.Text.Hex.{hex, upper_hex}
 use Rattle.rpki_tagged.specs.Attestation.{Attestation}
 use Rattle.rpki_multi.specs.Attestation.{Whole}
 use Rattle.rpki_multi.specs.Multi.{MultiSigned}
+use Rattle.rpki_show.specs.DatedRta.{DatedWhole}
 use Rattle.rpki_show.specs.Texts.Blocks.{as_lines, v4_lines, v6_lines}
+use Rattle.rpki_show.specs.Texts.Certificate.{certificate_text}
+use Rattle.rpki_show.specs.Texts.Crl.{crl_text}
 
 -- the line of a key that is to sign: its identifier, in upper hexadecimal
 abbrev pub subject_line : List ℕ → List ℕ
@@ -42,3 +45,8 @@ carried_text m = certificates_line (length m.certs)
 -- the lines of the content, and those of what is carried with it
 abbrev pub rta_text : Whole → List ℕ
 rta_text r = attestation_text r.content ++ carried_text r.signed
+
+-- the same, then the lines of each certificate that is carried, and those of each revocation list
+abbrev pub whole_rta_text : DatedWhole → List ℕ
+whole_rta_text r = rta_text r.rta
+    ++ (flat_map certificate_text r.rta.signed.certs ++ flat_map crl_text r.lists)

@@ -1,10 +1,12 @@
 //! The members of a certificate.
 
-ghost use Rattle.std.specs.Prelude.{◌≡◌, codes};
+ghost use Rattle.std.specs.Prelude.{◌≡◌, ◌++◌, codes};
 ghost use Rattle.std.specs.List.{flat_map};
 ghost use Rattle.rpki_json.specs.Grows.{Grows};
-ghost use Rattle.rpki_json.specs.Members.{further_text};
+ghost use Rattle.rpki_json.specs.Members.{further_text, member_text, object_of};
+ghost use Rattle.rpki_json.specs.Text.{json_text};
 ghost use Rattle.rpki_show.specs.Json.Certificate.{certificate_members, signer_members};
+ghost use Rattle.rpki_show.specs.Json.Certificate.{later_members, validity_members};
 ghost use Rattle.rpki_show.specs.Json.Certificate.{facts_members};
 ghost use Rattle.rpki_show.specs.Json.Certificate.{issued_members, key_members, access_members};
 ghost use Rattle.rpki_show.specs.Json.Certificate.{authority_members, location_members, is_ca};
@@ -13,12 +15,15 @@ ghost use Rattle.rpki_show.specs.Json.Certificate.{ip_claim_members};
 ghost use Rattle.rpki_show.specs.Json.Named.{serial_member, moment_member, text_members};
 
 use crate::json::blocks::{push_as_blocks, push_inherited, push_ip_blocks};
-use crate::json::named::{push_https, push_key, push_moment, push_rsync, push_serial};
+use crate::json::named::{
+    push_first_serial, push_https, push_key, push_moment, push_rsync, push_serial,
+};
 use rpki_basics::KeyIdentifier;
 use rpki_certs::Cert;
 use rpki_json::push_boolean;
 use rpki_resources::{AddressFamily, AsResources, Claim, IpResources};
 use std::alloc::{AllocError, Global};
+use std::fmt::Write;
 
 /// Appends the members of a certificate: those of `push_facts`, `ca`, and `asns`, `ipv4` and
 /// `ipv6`, each of them an array of blocks or of the word `inherit`, where it is claimed. Refuses
@@ -29,6 +34,38 @@ pub fn push_certificate(alloc: Global, text: &mut String, cert: &Cert) -> Result
         (flat_map further_text (certificate_members cert.now.certificate)) }
 {
     push_facts(alloc, text, cert)?;
+    push_boolean(text, "ca", is_ca(cert.basic_ca()))?;
+    push_claims(alloc, text, "asns", "ipv4", "ipv6", cert)
+}
+
+/// Appends the object of a certificate, with the members that `push_certificate` appends. Refuses
+/// where memory runs out.
+pub fn push_object(alloc: Global, text: &mut String, cert: &Cert) -> Result<(), AllocError>
+    ensures { Grows result text.old text.new
+        (json_text (object_of (certificate_members cert.now.certificate))) }
+{
+    push_first(alloc, text, cert)?;
+    push_later(alloc, text, cert)?;
+    write!(text, "}}")
+}
+
+/// Appends the beginning of the object, with the serial number.
+fn push_first(alloc: Global, text: &mut String, cert: &Cert) -> Result<(), AllocError>
+    ensures { Grows result text.old text.new (codes "{" ++ member_text (serial_member
+        (codes "cert_serial") cert.now.certificate.tbs.serial_number)) }
+{
+    push_first_serial(alloc, text, "cert_serial", cert.serial_number())
+}
+
+/// Appends the members after the serial number.
+#[tactic(auto, unfolding(crate::specs::Json::Certificate::later_members))]
+fn push_later(alloc: Global, text: &mut String, cert: &Cert) -> Result<(), AllocError>
+    ensures { Grows result text.old text.new
+        (flat_map further_text (later_members cert.now.certificate)) }
+{
+    push_validity(alloc, text, cert)?;
+    push_keys(alloc, text, cert)?;
+    push_locations(text, cert)?;
     push_boolean(text, "ca", is_ca(cert.basic_ca()))?;
     push_claims(alloc, text, "asns", "ipv4", "ipv6", cert)
 }
@@ -74,6 +111,14 @@ fn push_issued(alloc: Global, text: &mut String, cert: &Cert) -> Result<(), Allo
         (flat_map further_text (issued_members cert.now.certificate.tbs)) }
 {
     push_cert_serial(alloc, text, cert)?;
+    push_validity(alloc, text, cert)
+}
+
+/// Appends the validity.
+fn push_validity(alloc: Global, text: &mut String, cert: &Cert) -> Result<(), AllocError>
+    ensures { Grows result text.old text.new
+        (flat_map further_text (validity_members cert.now.certificate.tbs)) }
+{
     push_since(alloc, text, cert)?;
     push_until(alloc, text, cert)
 }

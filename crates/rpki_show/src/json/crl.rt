@@ -1,11 +1,11 @@
 //! The members of a revocation list.
 
-ghost use Rattle.std.specs.Prelude.{codes};
+ghost use Rattle.std.specs.Prelude.{◌++◌, codes};
 ghost use Rattle.std.specs.List.{flat_map};
 ghost use Rattle.rpki_json.specs.Grows.{Grows};
-ghost use Rattle.rpki_json.specs.Members.{further_text, array_member};
+ghost use Rattle.rpki_json.specs.Members.{further_text, member_text, object_of, array_member};
 ghost use Rattle.rpki_json.specs.Text.{json_text};
-ghost use Rattle.rpki_show.specs.Json.Crl.{crl_members, revoked_value};
+ghost use Rattle.rpki_show.specs.Json.Crl.{crl_members, later_members, revoked_value};
 ghost use Rattle.rpki_show.specs.Json.Named.{serial_member, moment_member, key_member};
 
 use crate::dated::{DatedCrl, DatedEntry};
@@ -20,6 +20,31 @@ pub fn push_crl(alloc: Global, text: &mut String, list: &DatedCrl) -> Result<(),
     ensures { Grows result text.old text.new (flat_map further_text (crl_members list.now)) }
 {
     push_crl_number(alloc, text, list)?;
+    push_later(alloc, text, list)
+}
+
+/// Appends the object of a revocation list, with the members that `push_crl` appends. Refuses where
+/// memory runs out.
+pub fn push_object(alloc: Global, text: &mut String, list: &DatedCrl) -> Result<(), AllocError>
+    ensures { Grows result text.old text.new (json_text (object_of (crl_members list.now))) }
+{
+    push_first(alloc, text, list)?;
+    push_later(alloc, text, list)?;
+    write!(text, "}}")
+}
+
+/// Appends the beginning of the object, with the number.
+fn push_first(alloc: Global, text: &mut String, list: &DatedCrl) -> Result<(), AllocError>
+    ensures { Grows result text.old text.new (codes "{" ++ member_text (serial_member
+        (codes "crl_serial") list.now.extensions.number)) }
+{
+    push_first_serial(alloc, text, "crl_serial", list.number())
+}
+
+/// Appends the members after the number.
+fn push_later(alloc: Global, text: &mut String, list: &DatedCrl) -> Result<(), AllocError>
+    ensures { Grows result text.old text.new (flat_map further_text (later_members list.now)) }
+{
     push_this(alloc, text, list)?;
     push_next(alloc, text, list)?;
     push_issuer(alloc, text, list)?;

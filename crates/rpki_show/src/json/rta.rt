@@ -1,20 +1,25 @@
 //! The members of an attestation.
 
-ghost use Rattle.std.specs.Prelude.{codes};
+ghost use Rattle.std.specs.Prelude.{codes, length};
 ghost use Rattle.std.specs.List.{flat_map};
-ghost use Rattle.rpki_multi.specs.Attestation.{whole_of};
 ghost use Rattle.rpki_multi.specs.Multi.{multi_of};
 ghost use Rattle.rpki_json.specs.Grows.{Grows};
-ghost use Rattle.rpki_json.specs.Members.{further_text, array_member};
+ghost use Rattle.rpki_json.specs.Members.{further_text, array_member, number_member};
+ghost use Rattle.rpki_show.specs.DatedRta.{dated_of};
 ghost use Rattle.rpki_show.specs.Json.Rta.{attestation_members, rta_members};
 ghost use Rattle.rpki_show.specs.Json.Rta.{carried_members, subject_value};
+ghost use Rattle.rpki_show.specs.Json.Rta.{certificate_value, list_value};
 
+use crate::dated::DatedCrl;
+use crate::dated_rta::DatedRta;
 use crate::json::arrays::push_array;
 use crate::json::blocks::{push_as_blocks, push_ip_blocks};
+use crate::json::{certificate, crl};
 use rpki_basics::KeyIdentifier;
+use rpki_certs::Cert;
 use rpki_der::LowerHex;
 use rpki_json::{push_item, push_number, push_shown};
-use rpki_multi::{MultiSignedObject, Rta};
+use rpki_multi::MultiSignedObject;
 use rpki_resources::AddressFamily;
 use rpki_tagged::ResourceTaggedAttestation;
 use std::alloc::{AllocError, Global};
@@ -49,22 +54,83 @@ fn push_keys(alloc: Global, text: &mut String, keys: &[KeyIdentifier]) -> Result
     })
 }
 
-/// Appends the members of an attestation: those of its content, and `certificates`, `crls` and
-/// `signers`, the numbers of these. Refuses where memory runs out.
-pub fn push_rta(alloc: Global, text: &mut String, rta: &Rta) -> Result<(), AllocError>
+/// Appends the members of an attestation: those of its content, `certificates` and `crls`, arrays of
+/// objects with the members of a certificate and of a revocation list, and `signers`, the number of
+/// these. Refuses where memory runs out.
+pub fn push_rta(alloc: Global, text: &mut String, rta: &DatedRta) -> Result<(), AllocError>
     ensures { Grows result text.old text.new
-        (flat_map further_text (rta_members (whole_of rta.now))) }
+        (flat_map further_text (rta_members (dated_of rta.now))) }
 {
-    push_attestation(alloc, text, rta.content())?;
-    push_carried(text, rta.signed())
+    push_content(alloc, text, rta)?;
+    push_carried(alloc, text, rta)
 }
 
-/// Appends how many certificates and revocation lists are carried, and how many have signed.
-fn push_carried(text: &mut String, object: &MultiSignedObject) -> Result<(), AllocError>
+/// Appends the members of the content.
+fn push_content(alloc: Global, text: &mut String, rta: &DatedRta) -> Result<(), AllocError>
     ensures { Grows result text.old text.new
-        (flat_map further_text (carried_members (multi_of object.now))) }
+        (flat_map further_text (attestation_members rta.now.rta.content)) }
 {
-    push_number(text, "certificates", object.certificates().len() as u64)?;
-    push_number(text, "crls", object.crls().len() as u64)?;
+    push_attestation(alloc, text, rta.rta().content())
+}
+
+/// Appends what is carried, and how many have signed.
+fn push_carried(alloc: Global, text: &mut String, rta: &DatedRta) -> Result<(), AllocError>
+    ensures { Grows result text.old text.new
+        (flat_map further_text (carried_members (dated_of rta.now))) }
+{
+    push_certificates(alloc, text, rta)?;
+    push_crls(alloc, text, rta)?;
+    push_signers(text, rta)
+}
+
+/// Appends the member of the certificates.
+fn push_certificates(alloc: Global, text: &mut String, rta: &DatedRta) -> Result<(), AllocError>
+    ensures { Grows result text.old text.new (further_text (array_member (codes "certificates")
+        certificate_value (multi_of rta.now.rta.signed).certs)) }
+{
+    push_certs(alloc, text, rta.rta().signed().certificates())
+}
+
+/// Appends the member of these certificates.
+fn push_certs(alloc: Global, text: &mut String, certs: &[Cert]) -> Result<(), AllocError>
+    ensures { Grows result text.old text.new (further_text (array_member (codes "certificates")
+        (λ c. certificate_value c.certificate) certs.now)) }
+{
+    push_array(text, "certificates", certs.iter(), |text, cert| {
+        certificate::push_object(alloc, text, cert)
+    })
+}
+
+/// Appends the member of the revocation lists.
+fn push_crls(alloc: Global, text: &mut String, rta: &DatedRta) -> Result<(), AllocError>
+    ensures { Grows result text.old text.new
+        (further_text (array_member (codes "crls") list_value rta.now.lists)) }
+{
+    push_lists(alloc, text, rta.lists())
+}
+
+/// Appends the member of these revocation lists.
+fn push_lists(alloc: Global, text: &mut String, lists: &[DatedCrl]) -> Result<(), AllocError>
+    ensures { Grows result text.old text.new
+        (further_text (array_member (codes "crls") list_value lists.now)) }
+{
+    push_array(text, "crls", lists.iter(), |text, list| {
+        crl::push_object(alloc, text, list)
+    })
+}
+
+/// Appends how many have signed.
+fn push_signers(text: &mut String, rta: &DatedRta) -> Result<(), AllocError>
+    ensures { Grows result text.old text.new (further_text (number_member (codes "signers")
+        (length (multi_of rta.now.rta.signed).signers))) }
+{
+    push_signed(text, rta.rta().signed())
+}
+
+/// Appends how many have signed an object.
+fn push_signed(text: &mut String, object: &MultiSignedObject) -> Result<(), AllocError>
+    ensures { Grows result text.old text.new (further_text (number_member (codes "signers")
+        (length (multi_of object.now).signers))) }
+{
     push_number(text, "signers", object.signer_infos().len() as u64)
 }

@@ -1,5 +1,5 @@
 -- One beginning of the source at most is such an object.
-use Rattle.rpki_multi.specs.Attestation.{whole_of}
+use Rattle.rpki_show.specs.DatedRta.{dated_of}
 use Rattle.rpki_show.proofs.Shown.{shown-refusal, shown-lines}
 use Rattle.rpki_show.proofs.in_json.attestation.show_rta_json.Goals as goal
 
@@ -9,5 +9,5 @@ returns-in-Err c =
 
 pub returns-in-Ok : goal.returns-in-Ok
 returns-in-Ok c =
-    shown-lines _ _ _ _ _ (whole_of c.in-Ok.rta) c.in-Ok.ensures.0 c.in-Ok.ensures.1
+    shown-lines _ _ _ _ _ (dated_of c.in-Ok.rta) c.in-Ok.ensures.0 c.in-Ok.ensures.1
     c.show_line-answer.ensures

@@ -1,25 +1,11 @@
-use Rattle.std.proofs.Common.{codes, refl, sym, append-nil}
-use Rattle.rpki_json.specs.Members.{further_text, array_member}
-use Rattle.rpki_show.specs.Json.Crl.{revoked_value}
-use Rattle.rpki_show.specs.Json.Named.{serial_member, moment_member, key_member}
+use Rattle.std.proofs.Common.{codes, refl}
+use Rattle.rpki_json.specs.Members.{further_text}
+use Rattle.rpki_show.specs.Json.Named.{serial_member}
 use Rattle.rpki_show.proofs.Grown.{grown}
 use Rattle.rpki_show.proofs.json.crl.push_crl.Goals as goal
 
 pub returns : goal.returns
 returns c =
-    let l = c.args.list.now in
-    let r = c.push_entries.result in
-    let new = c.push_entries.new.text in
-    let entries = further_text (array_member (codes "revoked_certs") revoked_value l.revoked) in
-    grown r c.args.text.now c.push_crl_number.new.text new
-    (further_text (serial_member (codes "crl_serial") l.extensions.number)) _ _
-    c.in_ok-push_crl_number.ensures
-    (grown r c.push_crl_number.new.text c.push_this.new.text new
-    (further_text (moment_member (codes "valid_since") l.this_update)) _ _
-    c.in_ok-push_this.ensures
-    (grown r c.push_this.new.text c.push_next.new.text new
-    (further_text (moment_member (codes "valid_until") l.next_update)) _ _
-    c.in_ok-push_next.ensures
-    (grown r c.push_next.new.text c.push_issuer.new.text new
-    (further_text (key_member (codes "aki") l.extensions.authority_key)) entries _
-    c.in_ok-push_issuer.ensures c.push_entries.ensures (sym (append-nil entries))) refl) refl) refl
+    grown c.push_later.result c.args.text.now c.push_crl_number.new.text c.push_later.new.text
+    (further_text (serial_member (codes "crl_serial") c.args.list.now.extensions.number)) _ _
+    c.in_ok-push_crl_number.ensures c.push_later.ensures refl

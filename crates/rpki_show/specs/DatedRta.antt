@@ -1,0 +1,33 @@
+-- Attestations with the dates of the entries of the revocation lists that they carry
+-- (draft-michaelson-rpki-rta, section 3).
+use Rattle.std.specs.Prelude.{ℕ, List, [], ◌∷◌}
+use Rattle.rpki_crls.specs.Crl.{RevocationList}
+use Rattle.rpki_der.specs.declared.mode.Mode.{Mode}
+use Rattle.rpki_multi.specs.Attestation.{Whole, KeptWhole, RtaForm, whole_of}
+use Rattle.rpki_show.specs.Dated.{DatedForm, DatedList}
+
+-- an attestation, and the revocation lists that it carries, with the dates of their entries
+pub record DatedWhole : Type 0 where
+  pub rta : Whole
+  pub lists : List DatedList
+
+-- The octets of each revocation list are those of the one with dates in its place, and there are no
+-- others.
+abbrev pub AreDated : Mode → List RevocationList → List DatedList → Type 0
+AreDated mode [] [] = Unit {0}
+AreDated mode [] (d ∷ dated) = ⊥
+AreDated mode (l ∷ lists) [] = ⊥
+AreDated mode (l ∷ lists) (d ∷ dated) = DatedForm mode l.octets d × AreDated mode lists dated
+
+-- A multi-signed attestation, and what its revocation lists say with the dates of their entries.
+abbrev pub DatedRtaForm : Mode → List ℕ → DatedWhole → Type 0
+DatedRtaForm mode octets r = RtaForm mode octets r.rta × AreDated mode r.rta.signed.crls r.lists
+
+-- the same, with the modes that the parts of the attestation were read in
+pub record KeptDated : Type 0 where
+  pub rta : KeptWhole
+  pub lists : List DatedList
+
+-- without these modes
+abbrev pub dated_of : KeptDated → DatedWhole
+dated_of k = record { rta = whole_of k.rta; lists = k.lists }
