@@ -94,10 +94,18 @@ def rsc(lines):
 
 
 def rta(lines):
-    [digest] = after(lines, "digest")
-    carried = {word: int(it) for word in ("certificates", "crls", "signers") for it in after(lines, word)}
-    numbers = {name: after(lines, word) for word, name in NUMBERS.items()}
-    return {"keys": after(lines, "key"), **numbers, "digest": digest, **carried}
+    """An attestation, whose lines end with those of each certificate and of each list that it carries."""
+    starts = [at for at, line in enumerate(lines) if line in ("certificate", "crl")]
+    carried = [lines[at:end] for at, end in zip(starts, [*starts[1:], len(lines)])]
+    own = lines[:starts[0]] if starts else lines
+    [digest] = after(own, "digest")
+    numbers = {name: after(own, word) for word, name in NUMBERS.items()}
+    said = {"keys": after(own, "key"), **numbers, "digest": digest}
+    for signers in after(own, "signers"):
+        said["certificates"] = [certificate(it[1:]) for it in carried if it[0] == "certificate"]
+        said["crls"] = [crl(it[1:]) for it in carried if it[0] == "crl"]
+        said["signers"] = int(signers)
+    return said
 
 
 def crl(lines):
@@ -138,8 +146,13 @@ def members_of(lines):
     return {**KINDS[lines[0]](lines[1:signing]), "signing_time": time, **facts(signer), **claims(signer, "cert_")}
 
 
-def without_empty(said):
-    """An object of a file without the claims of its certificate that are empty."""
-    begin = "" if said.get("type") == "certificate" else "cert_"
+def without(said, begin):
+    """Members without the claims of a certificate that are empty, under names that begin so."""
     names = {f"{begin}{name}" for name in CLAIMS.values()}
     return {name: it for name, it in said.items() if name not in names or it != []}
+
+
+def without_empty(said):
+    """An object of a file without the claims of its certificate, or of those it carries, that are empty."""
+    said = without(said, "" if said.get("type") == "certificate" else "cert_")
+    return {name: [without(each, "") for each in it] if name == "certificates" else it for name, it in said.items()}

@@ -22,7 +22,7 @@ use rpki_cli::words::{Kind, Options};
 use rpki_show::json::outcome::{push_error, push_invalid};
 use rpki_show::{
     show_certificate_json, show_crl_json, show_object_json, show_rta_json, show_tal_json,
-    show_whole_object,
+    show_whole_object, show_whole_rta,
 };
 use std::alloc::{AllocError, Global};
 use std::process::Abort;
@@ -32,6 +32,7 @@ use std::process::Abort;
 enum Shown {
     Object(Kind),
     Whole(Kind),
+    WholeRta,
     Certificate,
     Crl,
     Rta,
@@ -46,6 +47,7 @@ fn lines(alloc: Global, name: &str, octets: &[u8], shown: Shown) -> Result<Strin
     let answer = match shown {
         Shown::Object(kind) => show_object_json(alloc, causes, options, kind, name, file),
         Shown::Whole(kind) => show_whole_object(alloc, causes, options, kind, file),
+        Shown::WholeRta => show_whole_rta(alloc, causes, file),
         Shown::Certificate => show_certificate_json(alloc, causes, name, file),
         Shown::Crl => show_crl_json(alloc, causes, name, file),
         Shown::Rta => show_rta_json(alloc, causes, name, file),
@@ -105,8 +107,23 @@ def certificate(serial, ski, aki, folder, manifest, above, asns, ipv4, ipv6):
         said["aki"] = aki
     said |= {"carepository": f"{HOST}/{folder}/", "manifest": f"{HOST}/{folder}/{manifest}"}
     if above:
-        said |= {"aia": f"{HOST}/{above}.cer", "crl": f"{HOST}/{above}/{above}.crl"}
+        issuer = above.rpartition("/")[2]
+        said |= {"aia": f"{HOST}/{above}.cer", "crl": f"{HOST}/{issuer}/{issuer}.crl"}
     return said | {"ca": True, "asns": asns, "ipv4": ipv4, "ipv6": ipv6}
+
+
+def end_entity(serial, ski, aki, issuer, above, asns, ipv4, ipv6):
+    """The members of a certificate that an attestation carries for a signer."""
+    return {"cert_serial": serial, "valid_since": "2026-01-01T00:00:00Z",
+            "valid_until": "2040-01-01T00:00:00Z", "ski": ski, "aki": aki,
+            "aia": f"{HOST}/{above}/{issuer}.cer", "crl": f"{HOST}/{issuer}/{issuer}.crl",
+            "ca": False, "asns": asns, "ipv4": ipv4, "ipv6": ipv6}
+
+
+def revocations(key):
+    """The members of a list of the CA with this key that revokes nothing."""
+    return {"crl_serial": "01", "valid_since": MOMENT, "valid_until": "2036-01-01T00:00:00Z",
+            "aki": key, "revoked_certs": []}
 
 
 def der(tag, *parts):
@@ -181,6 +198,28 @@ AUTHORITY_KEY = "C78637259551E49913A293A978985D33FBECF9C1"
 MANIFEST_KEY = "C1888A395EE37A39F79146694636294EE42B4CED"
 INHERITED = {"asns": ["inherit"], "ipv4": ["inherit"], "ipv6": ["inherit"]}
 AUTHORITY = f"{HOST}/authority/"
+# What the attestations carry: the CAs, the end entities that signed, and the lists of the CAs.
+CUSTOMER_KEY, SECOND_KEY, MEMBER_KEY = (
+    "58D72BAF86D30DE78AEBFE31BD6F53CAEF7D2AF6", "34EB4F79DBFC177F2263A2F42E69DB6262D2C8BD",
+    "DED8149EE8EF64F66DAEC0F303D2FFE101F35C7D")
+CUSTOMER = certificate("08", CUSTOMER_KEY, AUTHORITY_KEY, "customer", "customer.mft",
+                       "anchor/authority", **INHERITED)
+HOLDING_DIGEST = hashlib.sha256(b"a holding\n").hexdigest()
+HELD = ["AS64500-AS64503"], ["198.51.100.0/25"], ["2001:db8:100::/40"]
+INHERITING = ["inherit"], ["inherit"], ["inherit"]
+HOLDER = end_entity("05", "AC15A9E2F05691301C257BFEF6649F3AB7437791", CUSTOMER_KEY,
+                    "customer", "authority", *HELD)
+AGREED = [
+    certificate("01", SECOND_KEY, None, "second", "second.mft", None,
+                ["AS65536-AS65551"], ["203.0.113.0/24"], ["3fff::/20"]),
+    end_entity("01", "22C1F88A54BF57519EC5DE1FBA3C46609A8E4E42", MEMBER_KEY,
+               "member", "second", *INHERITING),
+    end_entity("01", "1A35C53323D25266354DB3F712B6E2D00DBDCF9C", CUSTOMER_KEY,
+               "customer", "authority", *HELD),
+    CUSTOMER,
+    certificate("02", MEMBER_KEY, SECOND_KEY, "member", "member.mft", "second",
+                ["AS65536-AS65543"], ["203.0.113.0/24"], ["3fff::/24"]),
+]
 # Files, how they are shown, the word of their kind, and what is said of them.
 OBJECTS = [
     ("rpki.example.net/authority/origin.roa", "Object(Kind::Roa)", "roa",
@@ -208,14 +247,16 @@ OBJECTS = [
     ("holding.rta", "Rta", "rta",
      {"keys": ["AC15A9E2F05691301C257BFEF6649F3AB7437791"], "asns": ["AS64500-AS64503"],
       "ipv4": ["198.51.100.0/25"], "ipv6": ["2001:db8:100::/40"],
-      "digest": hashlib.sha256(b"a holding\n").hexdigest(), "certificates": 2, "crls": 1, "signers": 1}),
+      "digest": HOLDING_DIGEST, "certificates": [HOLDER, CUSTOMER],
+      "crls": [revocations(CUSTOMER_KEY)], "signers": 1}),
     ("agreement.rta", "Rta", "rta",
      {"keys": ["1A35C53323D25266354DB3F712B6E2D00DBDCF9C",
                "22C1F88A54BF57519EC5DE1FBA3C46609A8E4E42"],
       "asns": ["AS64500-AS64503", "AS65536-AS65543"],
       "ipv4": ["198.51.100.0/25", "203.0.113.0/24"], "ipv6": ["2001:db8:100::/40", "3fff::/24"],
       "digest": "27b1475ecc05bc4bbfc386c70f7bd74b99e7926da240c1e439a00700fdb4a9f2",
-      "certificates": 5, "crls": 3, "signers": 2}),
+      "certificates": AGREED, "crls": [*map(revocations, (SECOND_KEY, CUSTOMER_KEY, MEMBER_KEY))],
+      "signers": 2}),
     ("rpki.example.net/anchor.cer", "Certificate", "certificate",
      certificate("01", ANCHOR_KEY, None, "anchor", "anchor.mft", None,
                  ["AS0-AS4294967295"], ["0.0.0.0/0"], ["::/0"])),
@@ -239,6 +280,22 @@ WHOLE = ("aspa\ncustomer AS64496\nprovider AS64497\nprovider AS64511\n"
          f"authority-key-id {AUTHORITY_KEY}\nee\n"
          f"signed-object {AUTHORITY}providers.asa\nca-issuers {HOST}/anchor/authority.cer\n"
          f"crl {AUTHORITY}authority.crl\nas AS64496\n")
+WHOLE_RTA = ("rta\nkey AC15A9E2F05691301C257BFEF6649F3AB7437791\nas AS64500-AS64503\n"
+             "v4 198.51.100.0/25\nv6 2001:db8:100::/40\n"
+             f"digest {HOLDING_DIGEST}\n"
+             "certificates 2\ncrls 1\nsigners 1\n"
+             "certificate\nserial 05\nvalid-from 2026-01-01T00:00:00Z\n"
+             "valid-until 2040-01-01T00:00:00Z\nkey-id AC15A9E2F05691301C257BFEF6649F3AB7437791\n"
+             f"authority-key-id {CUSTOMER_KEY}\nee\nca-issuers {AUTHORITY}customer.cer\n"
+             f"crl {HOST}/customer/customer.crl\nas AS64500-AS64503\n"
+             "ipv4 198.51.100.0/25\nipv6 2001:db8:100::/40\n"
+             "certificate\nserial 08\nvalid-from 2026-01-01T00:00:00Z\n"
+             f"valid-until 2040-01-01T00:00:00Z\nkey-id {CUSTOMER_KEY}\n"
+             f"authority-key-id {AUTHORITY_KEY}\nca\nca-repository {HOST}/customer/\n"
+             f"rpki-manifest {HOST}/customer/customer.mft\nca-issuers {HOST}/anchor/authority.cer\n"
+             f"crl {AUTHORITY}authority.crl\nas inherit\nipv4 inherit\nipv6 inherit\n"
+             f"crl\nnumber 01\nthis-update {MOMENT}\nnext-update 2036-01-01T00:00:00Z\n"
+             f"authority-key-id {CUSTOMER_KEY}\n")
 OUTCOMES = [
     {"file": 'a\\"\u00e9', "type": "roa", "error": "malformed: a prefix is too long"},
     {"file": "b", "type": "aspa", "valid": False, "error": "refused: certificate has expired"},
@@ -286,10 +343,12 @@ def main():
     print_test(number, "a.crl", octets, "Crl", line({"file": "a.crl", "type": "crl"} | REVOKED))
     octets = (TREE / "rpki.example.net/authority/providers.asa").read_bytes()
     print_test(number + 1, "a", octets, "Whole(Kind::Aspa)", WHOLE)
+    octets = (TREE / "holding.rta").read_bytes()
+    print_test(number + 2, "a", octets, "WholeRta", WHOLE_RTA)
     # The certificate of a manifest's signer inherits its numbers.
     octets = signer_of((TREE / "rpki.example.net/authority/authority.mft").read_bytes())
     said = signer("06", MANIFEST_KEY, "authority.mft") | {"ca": False} | INHERITED
-    print_test(number + 2, "ee.cer", octets, "Certificate",
+    print_test(number + 3, "ee.cer", octets, "Certificate",
                line({"file": "ee.cer", "type": "certificate"} | said))
 
 

@@ -3,6 +3,7 @@ use Rattle.std.specs.Prelude.{ℕ, List, [], ◌∷◌, ◌++◌, Bool, true, fa
 use Rattle.rpki_certs.specs.Cert.{Certificate, Tbs}
 use Rattle.rpki_extensions.specs.declared.access.SubjectAccess.{SubjectAccess}
 use Rattle.rpki_extensions.specs.declared.claims.Claims.{Claims}
+use Rattle.rpki_extensions.specs.declared.extensions.Extensions.{Extensions}
 use Rattle.rpki_extensions.specs.declared.keys.KeyFacts.{KeyFacts}
 use Rattle.rpki_extensions.specs.declared.locations.Locations.{Locations}
 use Rattle.rpki_json.specs.Members.{Member, boolean_member}
@@ -77,24 +78,28 @@ claim_members = claims_under (codes "asns") (codes "ipv4") (codes "ipv6")
 abbrev pub signer_claim_members : Claims → List Member
 signer_claim_members = claims_under (codes "cert_asns") (codes "cert_ipv4") (codes "cert_ipv6")
 
--- the serial number and the validity, and what the extensions say of keys and of places
+-- what the extensions say of keys and of places
+abbrev pub extension_members : Extensions → List Member
+extension_members x = key_members x.key ++ location_members x.locations
+
+-- the serial number and the validity, and the same
 unfoldable pub facts_members : Certificate → List Member
-facts_members c = issued_members c.tbs
-    ++ (key_members c.tbs.extensions.key ++ location_members c.tbs.extensions.locations)
+facts_members c = issued_members c.tbs ++ extension_members c.tbs.extensions
 
 -- the same of the certificate of a signer, and its numbers
 unfoldable pub signer_members : Certificate → List Member
 signer_members c = facts_members c ++ signer_claim_members c.tbs.extensions.claims
 
--- the same, whether its subject is a CA, and the numbers
-unfoldable pub certificate_members : Certificate → List Member
-certificate_members c = facts_members c
-    ++ (boolean_member (codes "ca") (is_ca c.tbs.extensions.key.basic_ca)
-    ∷ claim_members c.tbs.extensions.claims)
+-- whether its subject is a CA, and the numbers
+abbrev pub standing_members : Certificate → List Member
+standing_members c = boolean_member (codes "ca") (is_ca c.tbs.extensions.key.basic_ca)
+    ∷ claim_members c.tbs.extensions.claims
 
--- what the members of a certificate are after its serial number, which is the first
+-- the facts, and the same
+unfoldable pub certificate_members : Certificate → List Member
+certificate_members c = facts_members c ++ standing_members c
+
+-- the members of a certificate without the first, its serial number
 unfoldable pub later_members : Certificate → List Member
-later_members c = validity_members c.tbs
-    ++ ((key_members c.tbs.extensions.key ++ location_members c.tbs.extensions.locations)
-    ++ (boolean_member (codes "ca") (is_ca c.tbs.extensions.key.basic_ca)
-    ∷ claim_members c.tbs.extensions.claims))
+later_members c =
+    validity_members c.tbs ++ (extension_members c.tbs.extensions ++ standing_members c)

@@ -6,6 +6,7 @@ ghost use Rattle.rpki_json.specs.Grows.{Grows};
 ghost use Rattle.rpki_json.specs.Members.{further_text, member_text, object_of};
 ghost use Rattle.rpki_json.specs.Text.{json_text};
 ghost use Rattle.rpki_show.specs.Json.Certificate.{certificate_members, signer_members};
+ghost use Rattle.rpki_show.specs.Json.Certificate.{extension_members, standing_members};
 ghost use Rattle.rpki_show.specs.Json.Certificate.{later_members, validity_members};
 ghost use Rattle.rpki_show.specs.Json.Certificate.{facts_members};
 ghost use Rattle.rpki_show.specs.Json.Certificate.{issued_members, key_members, access_members};
@@ -34,8 +35,7 @@ pub fn push_certificate(alloc: Global, text: &mut String, cert: &Cert) -> Result
         (flat_map further_text (certificate_members cert.now.certificate)) }
 {
     push_facts(alloc, text, cert)?;
-    push_boolean(text, "ca", is_ca(cert.basic_ca()))?;
-    push_claims(alloc, text, "asns", "ipv4", "ipv6", cert)
+    push_standing(alloc, text, cert)
 }
 
 /// Appends the object of a certificate, with the members that `push_certificate` appends. Refuses
@@ -64,8 +64,15 @@ fn push_later(alloc: Global, text: &mut String, cert: &Cert) -> Result<(), Alloc
         (flat_map further_text (later_members cert.now.certificate)) }
 {
     push_validity(alloc, text, cert)?;
-    push_keys(alloc, text, cert)?;
-    push_locations(text, cert)?;
+    push_keys_and_places(alloc, text, cert)?;
+    push_standing(alloc, text, cert)
+}
+
+/// Appends whether its subject is a CA, and the numbers that are claimed.
+fn push_standing(alloc: Global, text: &mut String, cert: &Cert) -> Result<(), AllocError>
+    ensures { Grows result text.old text.new
+        (flat_map further_text (standing_members cert.now.certificate)) }
+{
     push_boolean(text, "ca", is_ca(cert.basic_ca()))?;
     push_claims(alloc, text, "asns", "ipv4", "ipv6", cert)
 }
@@ -101,6 +108,14 @@ fn push_facts(alloc: Global, text: &mut String, cert: &Cert) -> Result<(), Alloc
         (flat_map further_text (facts_members cert.now.certificate)) }
 {
     push_issued(alloc, text, cert)?;
+    push_keys_and_places(alloc, text, cert)
+}
+
+/// Appends the identifiers of keys, and where something lies.
+fn push_keys_and_places(alloc: Global, text: &mut String, cert: &Cert) -> Result<(), AllocError>
+    ensures { Grows result text.old text.new
+        (flat_map further_text (extension_members cert.now.certificate.tbs.extensions)) }
+{
     push_keys(alloc, text, cert)?;
     push_locations(text, cert)
 }
