@@ -1,17 +1,21 @@
 -- The revocation lists that an attestation carries are read with the dates of their entries.
 use Rattle.std.proofs.Common.{◌≡◌, ◌<◌, ◌+◌, ◌++◌, ◌∙◌, ℕ, List, [], ◌∷◌, length, map, take, get_or}
-use Rattle.std.proofs.Common.{refl, sym, ap, subst}
-use Rattle.std.proofs.lemmas.List.{take_more}
+use Rattle.std.proofs.Common.{Option, Some, None, refl, sym, ap, subst, arith}
+use Rattle.std.specs.Prelude.{unwrap_or}
+use Rattle.std.proofs.lemmas.List.{take_all, take_more}
 use Rattle.rpki_der.specs.declared.error.DecodeError.{DecodeError}
 use Rattle.rpki_der.specs.declared.error.DecodeError.TheVariants.{Malformed, Content, Memory}
+use Rattle.rpki_der.specs.declared.mode.Mode.{Mode}
 use Rattle.rpki_der.specs.declared.mode.Mode.TheVariants.{Der}
 use Rattle.rpki_der.specs.Form.Decodes.{IsOnlyFront}
-use Rattle.rpki_der.specs.Grammar.{HasNoFront}
+use Rattle.rpki_der.specs.Form.Parts.{ImplicitOf}
+use Rattle.rpki_der.specs.Grammar.{HasNoFront, Items, Optional}
 use Rattle.rpki_der.specs.Read.Reads.{Refuses}
 use Rattle.rpki_der.proofs.Form.ReadBack.{only-front}
 use Rattle.rpki_der.proofs.Form.Words.{part-unique}
 use Rattle.rpki_crls.specs.Crl.{CrlForm, KeptCrl, RevocationList}
 use Rattle.rpki_multi.specs.Attestation.{RtaForm, Whole}
+use Rattle.rpki_multi.specs.Multi.{CrlsForm}
 use Rattle.rpki_show.specs.Dated.{DatedForm, DatedList}
 use Rattle.rpki_show.specs.DatedRta.{AreDated, DatedRtaForm, DatedWhole}
 use Rattle.rpki_show.proofs.Dates.{list-dated}
@@ -31,7 +35,7 @@ whole-list octets list d rest same form front =
 
 one-only : (octets : List ℕ) (d e : DatedList) → DatedForm Der octets d → DatedForm Der octets e
     → d ≡ e
-one-only octets d e h k = (part-unique dated-part Der octets octets d e [] [] h k refl).0
+one-only octets d e h k = (part-unique dated-part Der octets octets d e [] [] h k refl).1
 
 -- ---- lists
 
@@ -58,6 +62,14 @@ one-more crls place crl dated d there is are one =
     ∙ ap (λ (c : KeptCrl). take place crls ++ c ∷ []) (sym is) in
     subst (λ (cs : List KeptCrl). AreDated Der (lists_of cs) (dated ++ d ∷ [])) (sym more)
     (are-more (take place crls) dated crl d are one)
+
+-- all are
+pub all-read : (crls : List KeptCrl) (place : ℕ) (dated : List DatedList)
+    → AreDated Der (lists_of (take place crls)) dated → (place < length crls → ⊥)
+    → AreDated Der (lists_of crls) dated
+all-read crls place dated are end =
+    subst (λ (cs : List KeptCrl). AreDated Der (lists_of cs) dated)
+    (take_all place crls (omega (arith, end))) are
 
 same-lists : (d e : DatedList) (ds es : List DatedList) → d ≡ e → ds ≡ es → d ∷ ds ≡ e ∷ es
 same-lists d e ds es p q = cc
@@ -97,3 +109,43 @@ module _ (octets : List ℕ) where
         let own = subst (λ (w : Whole). AreDated Der w.signed.crls y.lists) same.0 f.2.1 in
         (same-dated y r ds same.0 (all-only r.signed.crls y.lists ds own dated), same.1);
   }
+
+-- ---- each attestation has them
+
+module _ (mode : Mode) where
+  items-have : (octets : List ℕ) (lists : List RevocationList)
+      → Items (CrlForm mode) octets lists → (ds : List DatedList) × AreDated mode lists ds
+  items-have octets [] h = ([], tt)
+  items-have octets (l ∷ lists) h =
+      let first = list-dated mode h.0 l h.3 in
+      let others = items-have h.1 lists h.4 in (
+        first.0 ∷ others.0,
+        (subst (λ (o : List ℕ). DatedForm mode o first.0) (sym h.3.0) first.1, others.1),
+      )
+
+  written-have : (octets : List ℕ) (lists : List RevocationList)
+      (written : Option (List RevocationList))
+      → Optional (ImplicitOf 1 mode (CrlForm mode)) octets written
+      → lists ≡ unwrap_or written [] → (ds : List DatedList) × AreDated mode lists ds
+  written-have octets lists None h e =
+      subst (λ (ls : List RevocationList). (ds : List DatedList) × AreDated mode ls ds) (sym e)
+      ([], tt)
+  written-have octets lists (Some those) h e =
+      subst (λ (ls : List RevocationList). (ds : List DatedList) × AreDated mode ls ds) (sym e)
+      (items-have h.0 those h.2)
+
+  crls-have : (octets : List ℕ) (lists : List RevocationList) → CrlsForm mode octets lists
+      → (ds : List DatedList) × AreDated mode lists ds
+  crls-have octets lists h = written-have octets lists h.0 h.1 h.2
+
+  pub rta-dated : (octets : List ℕ) (r : Whole) → RtaForm mode octets r
+      → (ds : List DatedList) × DatedRtaForm mode octets (record { rta = r; lists = ds })
+  rta-dated octets r h =
+      let type = h.0.2 in
+      let version = type.4.3.2.2 in
+      let algorithm = version.4 in
+      let content = algorithm.4 in
+      let certs = content.4 in
+      let crls = certs.4 in
+      let dated = crls-have crls.0 r.signed.crls crls.3 in
+      (dated.0, (h, dated.1))

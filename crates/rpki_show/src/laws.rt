@@ -13,10 +13,11 @@ ghost use Rattle.rpki_der.specs.Text.Hex.{upper_hex};
 ghost use Rattle.rpki_der.specs.declared.mode.Mode.{Mode};
 ghost use Rattle.rpki_json.specs.Grammar.{IsText};
 ghost use Rattle.rpki_json.specs.Members.{Member, object_of, HasWords};
+ghost use Rattle.rpki_multi.specs.Attestation.{RtaForm, Whole};
 ghost use Rattle.rpki_routes.specs.Aspa.{Aspa};
 ghost use Rattle.rpki_routes.specs.Roa.{Roa, IsRoa};
 ghost use Rattle.rpki_show.specs.Dated.{DatedForm, DatedList, IsDated};
-ghost use Rattle.rpki_show.specs.DatedRta.{DatedWhole};
+ghost use Rattle.rpki_show.specs.DatedRta.{DatedRtaForm, DatedWhole};
 ghost use Rattle.rpki_show.specs.Ia5.{ia5_text};
 ghost use Rattle.rpki_show.specs.Json.Aspa.{aspa_members};
 ghost use Rattle.rpki_show.specs.Json.Certificate.{certificate_members};
@@ -47,6 +48,13 @@ pub fn lists_have_dates()
         → (d : DatedList) × DatedForm mode octets d × IsDated list.tbs d }
     ensures plain { (mode : Mode) (octets : List ℕ) (d : DatedList) → DatedForm mode octets d
         → (list : RevocationList) × CrlForm mode octets list × IsDated list.tbs d }
+{}
+
+/// Each attestation is read with the dates of the entries of its revocation lists.
+pub fn attestations_have_dates()
+    ensures { (mode : Mode) (octets : List ℕ) (r : Whole) → RtaForm mode octets r
+        → (lists : List DatedList) × DatedRtaForm mode octets
+        (record { rta = r; lists = lists }) }
 {}
 
 /// The text of a serial number is its octets in upper hexadecimal.
