@@ -1,6 +1,6 @@
 -- The revocation lists that an attestation carries are read with the dates of their entries.
-use Rattle.std.proofs.Common.{◌≡◌, ◌<◌, ◌+◌, ◌++◌, ◌∙◌, ℕ, List, [], ◌∷◌, length, map, take, get_or}
-use Rattle.std.proofs.Common.{Option, Some, None, refl, sym, ap, subst, arith}
+use Rattle.std.proofs.Common.{◌≡◌, ◌<◌, ◌≤◌, ◌+◌, ◌++◌, ◌∙◌, ℕ, List, [], ◌∷◌, length, map, take, get_or}
+use Rattle.std.proofs.Common.{Option, Some, None, refl, sym, ap, subst}
 use Rattle.std.specs.Prelude.{unwrap_or}
 use Rattle.std.proofs.lemmas.List.{take_all, take_more}
 use Rattle.rpki_der.specs.declared.error.DecodeError.{DecodeError}
@@ -65,11 +65,11 @@ one-more crls place crl dated d there is are one =
 
 -- all are
 pub all-read : (crls : List KeptCrl) (place : ℕ) (dated : List DatedList)
-    → AreDated Der (lists_of (take place crls)) dated → (place < length crls → ⊥)
+    → AreDated Der (lists_of (take place crls)) dated → length crls ≤ place
     → AreDated Der (lists_of crls) dated
 all-read crls place dated are end =
     subst (λ (cs : List KeptCrl). AreDated Der (lists_of cs) dated)
-    (take_all place crls (omega (arith, end))) are
+    (take_all place crls end) are
 
 same-lists : (d e : DatedList) (ds es : List DatedList) → d ≡ e → ds ≡ es → d ∷ ds ≡ e ∷ es
 same-lists d e ds es p q = cc

@@ -274,8 +274,7 @@ attestation-words a = (
 pub rta-words : (r : DatedWhole) → length r.rta.signed.signers < 2 ^ 64 → Words (rta_members r)
 rta-words r signers =
     joined (attestation_members r.rta.content) (carried_members r)
-    (attestation-words r.rta.content)
-    (
+    (attestation-words r.rta.content) (
       each certificate_value certificate-words r.rta.signed.certs,
       (each list_value crl-words r.lists, (signers, tt)),
     )

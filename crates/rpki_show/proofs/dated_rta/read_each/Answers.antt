@@ -8,7 +8,7 @@ pub loop-crl-preserved : goal.loop-crl-preserved
 loop-crl-preserved c =
     rw c.in_ok-push.ensures.items
     (one-more c.args.crls.now c.loop-crl.crl-index c.crl-item.result c.loop-crl.lists.items
-    c.in_ok-list.list c.loop-crl.invariant c.loop-crl-test.true c.crl-item.is
+    c.in_ok-list.list c.loop-crl-test.true c.crl-item.is c.loop-crl.invariant
     c.in_ok-list.ensures)
 
 pub returns : goal.returns
