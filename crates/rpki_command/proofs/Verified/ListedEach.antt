@@ -103,20 +103,20 @@ module _ (options : Options) (kind : Kind) (now : Moment) (files : FilesOfCheck)
     never-no : HoldsByList (λ verdict. IsGoodBy verdict options kind now files) text
         → NeverEndsWith 1 options kind now files text
     never-no good told words before after run names list is asked tells one =
-        let no = right-no told words before after run options kind now names files list text is asked
-        tells one in
+        let other = right-no told words before after run options kind now names files list text is
+        asked tells one in
         good-not-refused (is_listed good.lines) options kind now files good.holds
         (subst (λ (ls : List (List ℕ)). IsRightNo options kind (is_listed ls) now files)
-        (one-list text no.lines good.lines no.listed good.listed) no.holds)
+        (one-list text other.lines good.lines other.listed good.listed) other.holds)
 
     never-yes : HoldsByList (λ verdict. IsRightNo options kind verdict now files) text
         → NeverEndsWith 0 options kind now files text
-    never-yes no told words before after run names list is asked tells zero =
+    never-yes refused told words before after run names list is asked tells zero =
         let yes = right-yes told words before after run options kind now names files list text is
         asked tells zero in
-        yes-or-no options kind (is_listed no.lines) now files run
+        yes-or-no options kind (is_listed refused.lines) now files run
         (subst (λ (ls : List (List ℕ)). IsRightYes options kind (is_listed ls) now files run)
-        (one-list text yes.lines no.lines yes.listed no.listed) yes.holds) no.holds
+        (one-list text yes.lines refused.lines yes.listed refused.listed) yes.holds) refused.holds
 
 -- a signed object at the front is the only one
 only-signed : (mode : Mode) (octets : List ℕ) (o : SignedObject) (rest : List ℕ)
@@ -324,20 +324,21 @@ module _ (options : Options) (now : Moment) (certs : CertFiles) where
   signed-refused : (kind : Kind) (octets : List ℕ)
       → IsRightNo options kind is_rsa_signature now (check_files certs octets)
       → IsRefusedByLists options now certs (Signed kind) octets
-  signed-refused kind octets no = (
-    no,
+  signed-refused kind octets refused = (
+    refused,
     λ text list own.
         let files = check_files certs octets in
-        let by-list = right-no-by-list options kind now files text list own no in
+        let by-list = right-no-by-list options kind now files text list own refused in
         (by-list, never-yes options kind now files text by-list),
   )
 
   rta-refused : (octets : List ℕ)
       → IsNotGrantedBy is_rsa_signature now (given_for certs None) octets
       → IsRefusedByLists options now certs Rta octets
-  rta-refused octets no = (
-    no,
-    λ text list own. (not-granted-by-list now (given_for certs None) octets text list own).0 no,
+  rta-refused octets refused = (
+    refused,
+    λ text list own.
+        (not-granted-by-list now (given_for certs None) octets text list own).0 refused,
   )
 
   -- the certificates make no issuer
@@ -463,8 +464,8 @@ module _ (clock : Option Moment) (says : PartySays) (told : Told) (options : Opt
 
   module _ (certs : CertFiles) (objects : List (GivenFile CheckedKind)) (run : Run)
       (is : IsCheckRun clock says told options c now (certs_alone certs objects) run)
-      (no : run.status ≡ 1) where
+      (one : run.status ≡ 1) where
     pub run-not-listed : Any (EachListRefuses how now certs) objects
     run-not-listed = listed-refused how now certs objects
         (some-object clock says told options c now (certs_alone certs objects) run is)
-        (run-refused clock says told options c now (certs_alone certs objects) run is no)
+        (run-refused clock says told options c now (certs_alone certs objects) run is one)

@@ -176,7 +176,7 @@ named-no name (issuing.Validation (validation.Verification fault)) t e n = ap st
 
 -- ---- what is read of no locator and of no lists
 
-no-lists : (lists : List GivenList) → AllZip IsGivenList [] lists → lists ≡ []
+pub no-lists : (lists : List GivenList) → AllZip IsGivenList [] lists → lists ≡ []
 no-lists [] h = refl
 no-lists (l ∷ lists) h = absurd h
 
