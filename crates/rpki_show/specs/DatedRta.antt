@@ -11,8 +11,8 @@ pub record DatedWhole : Type 0 where
   pub rta : Whole
   pub lists : List DatedList
 
--- The octets of each revocation list are those of the one with dates in its place, and there are no
--- others.
+-- There are as many lists with dates, and the octets of each revocation list are those of the one in
+-- its place.
 abbrev pub AreDated : Mode → List RevocationList → List DatedList → Type 0
 AreDated mode [] [] = Unit {0}
 AreDated mode [] (d ∷ dated) = ⊥
@@ -23,11 +23,11 @@ AreDated mode (l ∷ lists) (d ∷ dated) = DatedForm mode l.octets d × AreDate
 abbrev pub DatedRtaForm : Mode → List ℕ → DatedWhole → Type 0
 DatedRtaForm mode octets r = RtaForm mode octets r.rta × AreDated mode r.rta.signed.crls r.lists
 
--- the same, with the modes that the parts of the attestation were read in
+-- such an attestation, with the modes that its parts were read in, and its lists
 pub record KeptDated : Type 0 where
   pub rta : KeptWhole
   pub lists : List DatedList
 
--- without these modes
+-- the same without the modes
 abbrev pub dated_of : KeptDated → DatedWhole
 dated_of k = record { rta = whole_of k.rta; lists = k.lists }
