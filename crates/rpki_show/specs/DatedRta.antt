@@ -1,6 +1,7 @@
 -- Attestations with the dates of the entries of the revocation lists that they carry
 -- (draft-michaelson-rpki-rta, section 3).
-use Rattle.std.specs.Prelude.{ℕ, List, [], ◌∷◌}
+use Rattle.std.specs.Prelude.{ℕ, List}
+use Rattle.std.specs.List.{AllZip}
 use Rattle.rpki_crls.specs.Crl.{RevocationList}
 use Rattle.rpki_der.specs.declared.mode.Mode.{Mode}
 use Rattle.rpki_multi.specs.Attestation.{Whole, KeptWhole, RtaForm, whole_of}
@@ -11,13 +12,10 @@ pub record DatedWhole : Type 0 where
   pub rta : Whole
   pub lists : List DatedList
 
--- There are as many lists with dates, and the octets of each revocation list are those of the one in
--- its place.
+-- There are as many lists with dates as revocation lists, and each says what the octets of the one in
+-- its place say.
 abbrev pub AreDated : Mode → List RevocationList → List DatedList → Type 0
-AreDated mode [] [] = Unit {0}
-AreDated mode [] (d ∷ dated) = ⊥
-AreDated mode (l ∷ lists) [] = ⊥
-AreDated mode (l ∷ lists) (d ∷ dated) = DatedForm mode l.octets d × AreDated mode lists dated
+AreDated mode = AllZip (λ (l : RevocationList) (d : DatedList). DatedForm mode l.octets d)
 
 -- A multi-signed attestation, and what its revocation lists say with the dates of their entries.
 abbrev pub DatedRtaForm : Mode → List ℕ → DatedWhole → Type 0

@@ -34,8 +34,9 @@ impl Model for DatedRta {
 
 impl DatedRta {
     /// Reads the attestation at the front of the source, by the rules of DER. Octets after it are
-    /// left. What `Rta::decode` reads as an attestation is read as one here, and nothing else
-    /// (`laws::attestations_have_dates`).
+    /// left. What `Rta::decode` reads as an attestation is read as one here
+    /// (`laws::attestations_have_dates`), and nothing else is, by the definition of `DatedRtaForm`.
+    /// Refuses as `Rta::decode` does, or for want of memory.
     pub fn decode(alloc: Global, source: Bytes) -> Result<DatedRta, DecodeError>
         ensures { Decodes (DatedRtaForm Der) dated_of source result }
     {

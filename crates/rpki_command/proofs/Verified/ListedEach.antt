@@ -173,8 +173,8 @@ module _ (options : Options) (now : Moment) (certs : CertFiles) (lists : List Gi
           others = c.1;
           begin = c.2;
           object = b.object.object;
-          rest = b.rest;
-          front = (f.0, f.1, f.2.0.0);
+          front = (b.rest, only-signed (read_mode options) octets b.object.object b.rest
+              (f.0, f.1, f.2.0.0));
           good = good-says now certs.anchor.1 (octets_in certs.chain) c.0 c.1 b.object.object.signed
               c.2 is_rsa_signature issuer made asked (read_mode options) sha256 b.object
               b.certificate refl b.good;
@@ -218,7 +218,7 @@ module _ (options : Options) (now : Moment) (certs : CertFiles) (lists : List Gi
           others = s.others;
           signed = s.object;
           certs = s.begin;
-          front = (s.rest, only-signed (read_mode options) octets s.object s.rest s.front);
+          front = s.front;
           whole = refl;
         },
       )

@@ -2,7 +2,6 @@
 use Rattle.std.specs.Prelude.{◌≡◌, ℕ, List, [], ◌∷◌, ◌++◌, map, Option, Some, None, Ok, true, false}
 use Rattle.std.specs.Prelude.{Contains}
 use Rattle.sha2.specs.Sha256.{sha256}
-use Rattle.rpki_der.specs.Grammar.{Front}
 use Rattle.rpki_der.specs.declared.mode.Mode.TheVariants.{Der}
 use Rattle.rpki_basics.specs.Moment.{Moment}
 use Rattle.rpki_certs.specs.Cert.{Certificate}
@@ -18,7 +17,7 @@ use Rattle.rpki_sigobj.specs.Object.{SignedObject, SignedForm}
 use Rattle.rpki_sigobj.specs.Signed.Good.{IsGood}
 use Rattle.rpki_sigobj.specs.Signed.{Whole, ObjectForm}
 use Rattle.rpki_verdicts.specs.Attested.{IsRtaListingOf, rta_questions}
-use Rattle.rpki_verdicts.specs.Lists.{AreCerts, IsListingOf}
+use Rattle.rpki_verdicts.specs.Lists.{AreCerts, BeginWith, IsListingOf}
 use Rattle.rpki_verdicts.specs.Questions.{Question, says, chain_questions, check_questions}
 use Rattle.rpki_cli.specs.Answer.{Run}
 use Rattle.rpki_cli.specs.Command.{AreTold, IsRunOf, objects_language}
@@ -177,13 +176,13 @@ pub record IsObjectSigned (options : Options) (certs : CertFiles) (octets : List
   pub others : List Certificate
   pub begin : AreCerts (certs.anchor.1 ∷ octets_in certs.chain) (first ∷ others)
   pub object : SignedObject
-  pub rest : List ℕ
-  pub front : Front (SignedForm (read_mode options)) octets object rest
+  pub front : BeginWith (SignedForm (read_mode options)) octets object
   pub good : (q : Question) → Contains (check_questions first others object.signed) q
       → says is_rsa_signature q ≡ true
 
--- The signatures are good on which a check of an object of this kind rests: of an attestation those
--- of the certificates in the files alone, since not all that it carries need be signed.
+-- The signatures are good on which a check of an object of this kind rests; of an attestation this is
+-- said of the certificates in the files alone. What it carries is signed too, each part by one of the
+-- keys with the identifier that it names; which one that is, no identifier tells.
 abbrev pub AreSignaturesGood : Options → CertFiles → CheckedKind → List ℕ → Type 0
 AreSignaturesGood options certs (Signed kind) octets = IsObjectSigned options certs octets
 AreSignaturesGood options certs Rta octets = AreCertsSigned certs

@@ -82,24 +82,24 @@ signer_claim_members = claims_under (codes "cert_asns") (codes "cert_ipv4") (cod
 abbrev pub extension_members : Extensions → List Member
 extension_members x = key_members x.key ++ location_members x.locations
 
--- the serial number and the validity, and the same
+-- the serial number, the validity, and what the extensions say of keys and of places
 unfoldable pub facts_members : Certificate → List Member
 facts_members c = issued_members c.tbs ++ extension_members c.tbs.extensions
 
--- the same of the certificate of a signer, and its numbers
+-- the facts of the certificate of a signer, and the numbers that it claims
 unfoldable pub signer_members : Certificate → List Member
 signer_members c = facts_members c ++ signer_claim_members c.tbs.extensions.claims
 
--- whether its subject is a CA, and the numbers
+-- whether the subject of a certificate is a CA, and the numbers that it claims
 abbrev pub standing_members : Certificate → List Member
 standing_members c = boolean_member (codes "ca") (is_ca c.tbs.extensions.key.basic_ca)
     ∷ claim_members c.tbs.extensions.claims
 
--- the facts, and the same
+-- the facts, whether the subject is a CA, and the numbers that are claimed
 unfoldable pub certificate_members : Certificate → List Member
 certificate_members c = facts_members c ++ standing_members c
 
 -- the members of a certificate without the first, its serial number
-unfoldable pub later_members : Certificate → List Member
-later_members c =
+unfoldable pub after_serial_members : Certificate → List Member
+after_serial_members c =
     validity_members c.tbs ++ (extension_members c.tbs.extensions ++ standing_members c)

@@ -12,12 +12,12 @@ revoked_value e = object_of (
     serial_member (codes "serial") e.serial ∷ moment_member (codes "date") e.date ∷ [])
 
 -- both moments under rpki-client's names, the identifier of the issuer's key, and the entries
-abbrev pub later_members : DatedList → List Member
-later_members l = moment_member (codes "valid_since") l.this_update
+abbrev pub after_number_members : DatedList → List Member
+after_number_members l = moment_member (codes "valid_since") l.this_update
     ∷ moment_member (codes "valid_until") l.next_update
     ∷ key_member (codes "aki") l.extensions.authority_key
     ∷ array_member (codes "revoked_certs") revoked_value l.revoked ∷ []
 
--- the number, and the same
+-- the number, both moments, the identifier of the issuer's key, and the entries
 abbrev pub crl_members : DatedList → List Member
-crl_members l = serial_member (codes "crl_serial") l.extensions.number ∷ later_members l
+crl_members l = serial_member (codes "crl_serial") l.extensions.number ∷ after_number_members l

@@ -7,7 +7,7 @@ ghost use Rattle.rpki_json.specs.Members.{further_text, member_text, object_of};
 ghost use Rattle.rpki_json.specs.Text.{json_text};
 ghost use Rattle.rpki_show.specs.Json.Certificate.{certificate_members, signer_members};
 ghost use Rattle.rpki_show.specs.Json.Certificate.{extension_members, standing_members};
-ghost use Rattle.rpki_show.specs.Json.Certificate.{later_members, validity_members};
+ghost use Rattle.rpki_show.specs.Json.Certificate.{after_serial_members, validity_members};
 ghost use Rattle.rpki_show.specs.Json.Certificate.{facts_members};
 ghost use Rattle.rpki_show.specs.Json.Certificate.{issued_members, key_members, access_members};
 ghost use Rattle.rpki_show.specs.Json.Certificate.{authority_members, location_members, is_ca};
@@ -40,7 +40,7 @@ pub fn push_certificate(alloc: Global, text: &mut String, cert: &Cert) -> Result
 
 /// Appends the object of a certificate, with the members that `push_certificate` appends. Refuses
 /// where memory runs out.
-pub fn push_object(alloc: Global, text: &mut String, cert: &Cert) -> Result<(), AllocError>
+pub(crate) fn push_certificate_value(alloc: Global, text: &mut String, cert: &Cert) -> Result<(), AllocError>
     ensures { Grows result text.old text.new
         (json_text (object_of (certificate_members cert.now.certificate))) }
 {
@@ -58,10 +58,10 @@ fn push_first(alloc: Global, text: &mut String, cert: &Cert) -> Result<(), Alloc
 }
 
 /// Appends the members after the serial number.
-#[tactic(auto, unfolding(crate::specs::Json::Certificate::later_members))]
+#[tactic(auto, unfolding(crate::specs::Json::Certificate::after_serial_members))]
 fn push_later(alloc: Global, text: &mut String, cert: &Cert) -> Result<(), AllocError>
     ensures { Grows result text.old text.new
-        (flat_map further_text (later_members cert.now.certificate)) }
+        (flat_map further_text (after_serial_members cert.now.certificate)) }
 {
     push_validity(alloc, text, cert)?;
     push_keys_and_places(alloc, text, cert)?;

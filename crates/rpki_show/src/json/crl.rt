@@ -5,7 +5,7 @@ ghost use Rattle.std.specs.List.{flat_map};
 ghost use Rattle.rpki_json.specs.Grows.{Grows};
 ghost use Rattle.rpki_json.specs.Members.{further_text, member_text, object_of, array_member};
 ghost use Rattle.rpki_json.specs.Text.{json_text};
-ghost use Rattle.rpki_show.specs.Json.Crl.{crl_members, later_members, revoked_value};
+ghost use Rattle.rpki_show.specs.Json.Crl.{crl_members, after_number_members, revoked_value};
 ghost use Rattle.rpki_show.specs.Json.Named.{serial_member, moment_member, key_member};
 
 use crate::dated::{DatedCrl, DatedEntry};
@@ -25,7 +25,7 @@ pub fn push_crl(alloc: Global, text: &mut String, list: &DatedCrl) -> Result<(),
 
 /// Appends the object of a revocation list, with the members that `push_crl` appends. Refuses where
 /// memory runs out.
-pub fn push_object(alloc: Global, text: &mut String, list: &DatedCrl) -> Result<(), AllocError>
+pub(crate) fn push_crl_value(alloc: Global, text: &mut String, list: &DatedCrl) -> Result<(), AllocError>
     ensures { Grows result text.old text.new (json_text (object_of (crl_members list.now))) }
 {
     push_first(alloc, text, list)?;
@@ -43,7 +43,7 @@ fn push_first(alloc: Global, text: &mut String, list: &DatedCrl) -> Result<(), A
 
 /// Appends the members after the number.
 fn push_later(alloc: Global, text: &mut String, list: &DatedCrl) -> Result<(), AllocError>
-    ensures { Grows result text.old text.new (flat_map further_text (later_members list.now)) }
+    ensures { Grows result text.old text.new (flat_map further_text (after_number_members list.now)) }
 {
     push_this(alloc, text, list)?;
     push_next(alloc, text, list)?;

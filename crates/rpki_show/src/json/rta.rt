@@ -55,8 +55,8 @@ fn push_keys(alloc: Global, text: &mut String, keys: &[KeyIdentifier]) -> Result
 }
 
 /// Appends the members of an attestation: those of its content, `certificates` and `crls`, arrays of
-/// objects with the members of a certificate and of a revocation list, and `signers`, the number of
-/// these. Refuses where memory runs out.
+/// objects with the members of a certificate and of a revocation list, and `signers`, how many have
+/// signed it. Refuses where memory runs out.
 pub fn push_rta(alloc: Global, text: &mut String, rta: &DatedRta) -> Result<(), AllocError>
     ensures { Grows result text.old text.new
         (flat_map further_text (rta_members (dated_of rta.now))) }
@@ -97,7 +97,7 @@ fn push_certs(alloc: Global, text: &mut String, certs: &[Cert]) -> Result<(), Al
         (λ c. certificate_value c.certificate) certs.now)) }
 {
     push_array(text, "certificates", certs.iter(), |text, cert| {
-        certificate::push_object(alloc, text, cert)
+        certificate::push_certificate_value(alloc, text, cert)
     })
 }
 
@@ -115,7 +115,7 @@ fn push_lists(alloc: Global, text: &mut String, lists: &[DatedCrl]) -> Result<()
         (further_text (array_member (codes "crls") list_value lists.now)) }
 {
     push_array(text, "crls", lists.iter(), |text, list| {
-        crl::push_object(alloc, text, list)
+        crl::push_crl_value(alloc, text, list)
     })
 }
 

@@ -81,9 +81,9 @@ fn push_carried(text: &mut String, object: &MultiSignedObject) -> Result<(), All
 pub fn push_whole_rta(alloc: Global, text: &mut String, rta: &DatedRta) -> Result<(), AllocError>
     ensures { Grows result text.old text.new (whole_rta_text (dated_of rta.now)) }
 {
-    let whole = rta.rta();
-    push_rta(text, whole)?;
-    push_certificates(alloc, text, whole.signed())?;
+    let plain = rta.rta();
+    push_rta(text, plain)?;
+    push_certificates(alloc, text, plain.signed())?;
     push_lists(alloc, text, rta.lists())
 }
 

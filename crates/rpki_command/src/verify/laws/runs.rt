@@ -92,12 +92,13 @@ pub fn checks_of_several_without_lists_are_right<P: RelyingParty>()
 /// Where a check of files ends with status 0, in lines or in JSON, with `--tal` and `--crl` or
 /// without, there is a list that `verdicts` prints for each FILE with the same options, and by each
 /// such list a yes is right at the same moment; so `rpki_objects check` never says no to a signed
-/// object by it. It looks at no revocation, and of a signed object at no locator. Of an attestation
-/// this is said where different questions of its check have different lines.
+/// object by it. Such a yes looks at none of the lists of `--crl`, and of a signed object at no
+/// locator. Of an attestation it is said only where different questions of its check have different
+/// lines.
 ///
 /// Where a check without `--tal` and `--crl` ends with status 1, a no to one FILE is right by the
 /// signatures, and by each list that `verdicts` prints for it, where different questions have
-/// different lines; of an attestation, if the identifiers of what it carries are distinct.
+/// different lines; of an attestation, also only if the identifiers of what it carries are distinct.
 pub fn lists_suffice_for_each<P: RelyingParty>()
     ensures yes { (clock : Option Moment) (party : P) (told : Told) (options : Options)
         (c : AskedCheck) (now : Moment) (f : CheckedFiles) (run : Run)
@@ -114,8 +115,8 @@ pub fn lists_suffice_for_each<P: RelyingParty>()
 
 /// Where a check of files ends with status 0, with `--tal` and `--crl` or without, all signatures are
 /// good on which each signed object rests: its own, that of its certificate, and those of the
-/// certificates in the files; of an attestation these last. Those of the lists of `--crl` need not
-/// be: a list with another one is not counted.
+/// certificates in the files; of an attestation it is said of these last alone. The signatures of the
+/// lists of `--crl` need not be good: a list that the issuer's key did not sign does not count.
 pub fn each_signature_behind_a_yes_is_good<P: RelyingParty>()
     ensures { (clock : Option Moment) (party : P) (told : Told) (options : Options)
         (c : AskedCheck) (now : Moment) (f : CheckedFiles) (run : Run)
