@@ -18,12 +18,12 @@ returns c =
     let rta = c.args.rta.now.rta in
     grown r old shown new (rta_text (whole_of rta)) _ _
     (c.in_ok-push_rta.ensures
-    ∙ ap (λ (k : KeptWhole). string_bytes old ++ rta_text (whole_of k)) c.rta-whole.ensures)
+    ∙ ap (λ (k : KeptWhole). string_bytes old ++ rta_text (whole_of k)) c.rta-plain.ensures)
     (grown r shown c.push_certificates.new.text new
     (flat_map certificate_text (multi_of rta.signed).certs) _ _
     (c.in_ok-push_certificates.ensures
     ∙ ap (λ (m : KeptMulti). string_bytes shown ++ flat_map certificate_text (multi_of m).certs)
-    (c.signed.ensures.value ∙ ap (λ (k : KeptWhole). k.signed) c.rta-whole.ensures))
+    (c.signed.ensures.value ∙ ap (λ (k : KeptWhole). k.signed) c.rta-plain.ensures))
     c.push_lists.ensures
     (ap (λ (lists : List DatedList). flat_map crl_text lists) c.lists.ensures))
     refl
