@@ -173,8 +173,11 @@ module _ (options : Options) (now : Moment) (certs : CertFiles) (lists : List Gi
           others = c.1;
           begin = c.2;
           object = b.object.object;
-          front = (b.rest, only-signed (read_mode options) octets b.object.object b.rest
-              (f.0, f.1, f.2.0.0));
+          front = (
+            b.rest,
+            only-signed (read_mode options) octets b.object.object b.rest
+                (f.0, f.1, f.2.0.0),
+          );
           good = good-says now certs.anchor.1 (octets_in certs.chain) c.0 c.1 b.object.object.signed
               c.2 is_rsa_signature issuer made asked (read_mode options) sha256 b.object
               b.certificate refl b.good;
@@ -229,6 +232,7 @@ module _ (options : Options) (now : Moment) (certs : CertFiles) (lists : List Gi
         where
           chained : List (List Certificate)
           chained = (certs-signed.first ∷ certs-signed.others) ∷ []
+
           list-under : (file : Option File)
               → (text : List ℕ) × IsGoodRtaList (given_for certs file) octets text
           list-under None = (

@@ -40,7 +40,11 @@ pub fn push_certificate(alloc: Global, text: &mut String, cert: &Cert) -> Result
 
 /// Appends the object of a certificate, with the members that `push_certificate` appends. Refuses
 /// where memory runs out.
-pub(crate) fn push_certificate_value(alloc: Global, text: &mut String, cert: &Cert) -> Result<(), AllocError>
+pub(crate) fn push_certificate_value(
+    alloc: Global,
+    text: &mut String,
+    cert: &Cert,
+) -> Result<(), AllocError>
     ensures { Grows result text.old text.new
         (json_text (object_of (certificate_members cert.now.certificate))) }
 {

@@ -25,7 +25,11 @@ pub fn push_crl(alloc: Global, text: &mut String, list: &DatedCrl) -> Result<(),
 
 /// Appends the object of a revocation list, with the members that `push_crl` appends. Refuses where
 /// memory runs out.
-pub(crate) fn push_crl_value(alloc: Global, text: &mut String, list: &DatedCrl) -> Result<(), AllocError>
+pub(crate) fn push_crl_value(
+    alloc: Global,
+    text: &mut String,
+    list: &DatedCrl,
+) -> Result<(), AllocError>
     ensures { Grows result text.old text.new (json_text (object_of (crl_members list.now))) }
 {
     push_first(alloc, text, list)?;
