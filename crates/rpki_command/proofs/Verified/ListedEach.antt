@@ -1,8 +1,8 @@
 -- A list of good signatures suffices for each file of a check.
 use Rattle.std.proofs.Common.{◌≡◌, ◌∙◌, ◌++◌, ℕ, List, [], ◌∷◌, All, Option, Some, None, Ok, Err}
-use Rattle.std.proofs.Common.{refl, ap, sym, subst, inl, inr, map, arith, true, false}
+use Rattle.std.proofs.Common.{refl, ap, sym, subst, inl, inr, map, arith, false}
 use Rattle.std.proofs.lemmas.List.Elements.{All-nil, All-cons, All-weaker}
-use Rattle.std.specs.Prelude.{◌⊎◌, Any, Contains}
+use Rattle.std.specs.Prelude.{◌⊎◌, Any}
 use Rattle.sha2.specs.Sha256.{sha256}
 use Rattle.rpki_der.specs.Form.Decodes.{IsOnlyFront}
 use Rattle.rpki_der.specs.Grammar.{Front}
@@ -37,7 +37,6 @@ use Rattle.rpki_cli.specs.declared.verify.requests.CheckedKind.{CheckedKind}
 use Rattle.rpki_cli.specs.declared.verify.requests.CheckedKind.TheVariants.{Signed, Rta}
 use Rattle.rpki_cli.specs.declared.words.Kind.{Kind}
 use Rattle.rpki_cli.specs.declared.words.Options.{Options}
-use Rattle.rpki_show.specs.Kinds.{OfKind}
 use Rattle.rpki_show.specs.Options.{read_mode}
 use Rattle.rpki_command.specs.Anchors.{MakeEach}
 use Rattle.rpki_command.specs.Check.{issuer_refusal}
