@@ -39,7 +39,7 @@ SETS = {
 }
 # What is wanted at most, of the time and of the instructions of plain Rust.
 WANTED = {
-    "roa": 1.5, "manifest": 1.2, "any-manifest": 1.2, "checklist": 1.2, "attestation": 1.2,
+    "roa": 1.5, "manifest": 1.2, "any-manifest": 1.2, "checklist": 1.2, "attestation": 1.6,
     "aspa": 1.3, "aspa-in-one-pass": 1.5, "write-aspa": 1.5, "crl": 1.6, "asked": 1.5,
     "cert": 1.4, "validate": 1.3, "key": 1.5, "utc-time": 1.5, "generalized-time": 1.5,
     **dict.fromkeys(SETS, 1.3),
