@@ -25,7 +25,7 @@ use Rattle.rpki_sigobj.specs.Signed.Good.{IsGood}
 use Rattle.rpki_sigobj.specs.Signed.Kind as signed
 use Rattle.rpki_sigobj.specs.Signed.{Whole, ObjectForm}
 use Rattle.rpki_signed.specs.Check.{BeginsWith}
-use Rattle.rpki_verdicts.specs.Attested.{rta_questions}
+use Rattle.rpki_verdicts.specs.Attested.{IsRtaListingOf, rta_questions}
 use Rattle.rpki_verdicts.specs.Listed.{is_listed}
 use Rattle.rpki_verdicts.specs.Listing.{listing}
 use Rattle.rpki_verdicts.specs.Questions.{check_questions}
@@ -38,7 +38,7 @@ use Rattle.rpki_cli.specs.declared.verify.requests.CheckedKind.TheVariants.{Sign
 use Rattle.rpki_cli.specs.declared.words.Kind.{Kind}
 use Rattle.rpki_cli.specs.declared.words.Options.{Options}
 use Rattle.rpki_show.specs.Options.{read_mode}
-use Rattle.rpki_command.specs.Anchors.{MakeEach}
+use Rattle.rpki_command.specs.Anchors.{MakeEach, chains_in}
 use Rattle.rpki_command.specs.Check.{issuer_refusal}
 use Rattle.rpki_command.specs.Rta.{supply_of}
 use Rattle.rpki_command.specs.Verify.Checks.{CheckedFiles, IsLocatorOf}
@@ -225,34 +225,28 @@ module _ (options : Options) (now : Moment) (certs : CertFiles) (lists : List Gi
         },
       )
 
+      -- a locator asks about no signature
+      chain-alone : (at : Option File)
+          → chains_in (given_for certs at) ≡ (certs.anchor.1 ∷ octets_in certs.chain) ∷ []
+      chain-alone None = refl
+      chain-alone (Some f) = refl
+
       rta-list : (octets : List ℕ) → IsGoodKind by Rta octets
           → (text : List ℕ) × IsGoodRtaList (given_for certs file) octets text
-      rta-list octets good = list-under file
-        where
-          chained : List (List Certificate)
-          chained = (certs-signed.first ∷ certs-signed.others) ∷ []
-
-          list-under : (file : Option File)
-              → (text : List ℕ) × IsGoodRtaList (given_for certs file) octets text
-          list-under None = (
-            listing is_rsa_signature (rta_questions chained good.object.signed),
-            record {
-              supplied = chained;
-              rta = good.object;
-              certs = (certs-signed.begin, tt);
-              front = (good.rest, good.front);
-              whole = refl;
-            },
-          )
-          list-under (Some f) = (
-            listing is_rsa_signature (rta_questions chained good.object.signed),
-            record {
-              supplied = chained;
-              rta = good.object;
-              certs = (certs-signed.begin, tt);
-              front = (good.rest, good.front);
-              whole = refl;
-            },
+      rta-list octets good =
+          let chained : List (List Certificate) =
+          (certs-signed.first ∷ certs-signed.others) ∷ [] in
+          let text = listing is_rsa_signature (rta_questions chained good.object.signed) in (
+            text,
+            subst (λ (chains : List (List (List ℕ))).
+                IsRtaListingOf is_rsa_signature octets chains text) (sym (chain-alone file))
+                (record {
+                  supplied = chained;
+                  rta = good.object;
+                  certs = (certs-signed.begin, tt);
+                  front = (good.rest, good.front);
+                  whole = refl;
+                }),
           )
 
       granted : (octets : List ℕ) → IsGoodKind by Rta octets
