@@ -71,16 +71,62 @@ const UNNAMED_TOLD: Output = Output {
     err: "",
 };
 
+/// What it says of an attestation, and of what that carries.
+const CARRIED_SHOWN: Output = Output {
+    status: 0,
+    out: "rta\ndigest 0000000000000000000000000000000000000000000000000000000000000000\n\
+        certificates 2\ncrls 1\nsigners 2\n\
+        certificate\nserial 03\nvalid-from 2024-01-01T00:00:00Z\n\
+        valid-until 2034-12-31T23:59:59Z\nkey-id 461D6580E38CCB6DC72699B6C945E53831DCDF03\n\
+        authority-key-id 07AAE1B618F604C684EE3189FA1723BEF8656FE4\nee\n\
+        certificate\nserial 02\nvalid-from 2024-01-01T00:00:00Z\n\
+        valid-until 2034-12-31T23:59:59Z\nkey-id 07AAE1B618F604C684EE3189FA1723BEF8656FE4\n\
+        authority-key-id CB473678976F425D6EC1339838F11011007AD27D\nca\n\
+        crl\nnumber 0C\nthis-update 2024-01-01T00:00:00Z\nnext-update 2024-01-08T00:00:00Z\n\
+        authority-key-id 07AAE1B618F604C684EE3189FA1723BEF8656FE4\n\
+        revoked 04 2024-01-01T00:00:00Z\nrevoked 07 2024-01-01T00:00:00Z\n",
+    err: "",
+};
+
+/// The same in JSON.
+const CARRIED_IN_JSON: Output = Output {
+    status: 0,
+    out: "{\"file\": \"file\", \"type\": \"rta\", \"keys\": [], \"asns\": [], \"ipv4\": [], \
+        \"ipv6\": [], \"digest\": \
+        \"0000000000000000000000000000000000000000000000000000000000000000\", \
+        \"certificates\": [{\"cert_serial\": \"03\", \
+        \"valid_since\": \"2024-01-01T00:00:00Z\", \"valid_until\": \"2034-12-31T23:59:59Z\", \
+        \"ski\": \"461D6580E38CCB6DC72699B6C945E53831DCDF03\", \
+        \"aki\": \"07AAE1B618F604C684EE3189FA1723BEF8656FE4\", \"ca\": false}, \
+        {\"cert_serial\": \"02\", \
+        \"valid_since\": \"2024-01-01T00:00:00Z\", \"valid_until\": \"2034-12-31T23:59:59Z\", \
+        \"ski\": \"07AAE1B618F604C684EE3189FA1723BEF8656FE4\", \
+        \"aki\": \"CB473678976F425D6EC1339838F11011007AD27D\", \"ca\": true}], \
+        \"crls\": [{\"crl_serial\": \"0C\", \
+        \"valid_since\": \"2024-01-01T00:00:00Z\", \"valid_until\": \"2024-01-08T00:00:00Z\", \
+        \"aki\": \"07AAE1B618F604C684EE3189FA1723BEF8656FE4\", \
+        \"revoked_certs\": [{\"serial\": \"04\", \"date\": \"2024-01-01T00:00:00Z\"}, \
+        {\"serial\": \"07\", \"date\": \"2024-01-01T00:00:00Z\"}]}], \"signers\": 2}\n",
+    err: "",
+};
+
 #[test]
 fn both_programs_show_attestations(rt: HostRuntime) -> Result<(), Fail> {
     let program = Verify {
         clock: None,
         relying_party: Echo,
     };
-    let rows: [Row; 3] = [
+    let rows: [Row; 5] = [
         (&CONTENT, ALL, ALL_SHOWN, 1),
         (&CONTENT, UNNAMED, UNNAMED_TOLD, 1),
         (&SHOW, WHOLE, WHOLE_SHOWN, 1),
+        (&["show", "--kind", "rta", "file"], WHOLE, CARRIED_SHOWN, 1),
+        (
+            &["show", "--json", "--kind", "rta", "file"],
+            WHOLE,
+            CARRIED_IN_JSON,
+            1,
+        ),
     ];
     for (words, octets, said, reads) in &rows {
         is_answered_by(&rt, &program, words, &[("file", octets)], said, *reads)?;
