@@ -154,9 +154,9 @@ pub record IsRefusedAnchored (verdict : Verdict) (now : Moment) (given : List Gi
   pub made : MakeEach verdict now given anchors
   pub no : BeginsWithNoGranted verdict now (map supply_of anchors) object
 
--- By this verdict one of the anchors is not made, and not for want of memory; or under them the octets
--- begin with no attestation that is granted at this moment, if the identifiers of what it carries are
--- distinct.
+-- By this verdict one of the anchors is not made, and not for want of memory; or under them the
+-- octets begin with no attestation that is granted at this moment, if the identifiers of what it
+-- carries are distinct.
 abbrev pub IsNotGrantedBy : Verdict → Moment → List Given → List ℕ → Type 0
 IsNotGrantedBy verdict now given object =
     HasNoAnchor verdict now given ⊎ IsRefusedAnchored verdict now given object

@@ -12,8 +12,8 @@ pub record DatedWhole : Type 0 where
   pub rta : Whole
   pub lists : List DatedList
 
--- There are as many lists with dates as revocation lists, and each says what the octets of the one in
--- its place say.
+-- There are as many lists with dates as revocation lists, and each says what the octets of the one
+-- in its place say.
 abbrev pub AreDated : Mode → List RevocationList → List DatedList → Type 0
 AreDated mode = AllZip (λ (l : RevocationList) (d : DatedList). DatedForm mode l.octets d)
 

@@ -67,7 +67,8 @@ use Rattle.rpki_command.proofs.Right.{of-kind, other-status, right-no, right-yes
 use Rattle.rpki_command.proofs.Same.{kinds-clash, makes-not, makes-same, memory-had, not-both}
 use Rattle.rpki_command.proofs.Same.{yes-or-no}
 use Rattle.rpki_command.proofs.Verified.Refused.{any-here}
-use Rattle.rpki_command.proofs.Verified.RtaSufficing.{granted-by-list, not-granted-by-list, one-list}
+use Rattle.rpki_command.proofs.Verified.RtaSufficing.{granted-by-list, not-granted-by-list}
+use Rattle.rpki_command.proofs.Verified.RtaSufficing.{one-list}
 use Rattle.rpki_command.proofs.Verified.Running.{run-good, run-refused, some-object}
 use Rattle.rpki_command.proofs.Verified.Sufficing.{good-says, makes-certs, makes-says}
 use Rattle.rpki_command.proofs.Verified.SufficingLists.{good-by-list, right-no-by-list}

@@ -1,6 +1,6 @@
 -- A list of the good signatures suffices for a check of an object.
-use Rattle.std.proofs.Common.{◌≡◌, ℕ, ◌^◌, Bool, true, false, List, length, Result, Ok, Err, inl, inr}
-use Rattle.std.proofs.Common.{refl, sym, ap, subst}
+use Rattle.std.proofs.Common.{◌≡◌, ℕ, ◌^◌, Bool, true, false, List, length, Result, Ok, Err}
+use Rattle.std.proofs.Common.{inl, inr, refl, sym, ap, subst}
 use Rattle.std.specs.Prelude.{nat_lt}
 use Rattle.std.proofs.lemmas.Bool.{and_parts}
 use Rattle.sha2.specs.Sha256.{sha256}

@@ -43,7 +43,8 @@ use Rattle.rpki_command.specs.declared.anchors.Anchor.{Anchor}
 
 -- ---- the files
 
--- the files of a check of these objects under certificates alone: no locator and no revocation lists
+-- the files of a check of these objects under certificates alone, with no locator and no revocation
+-- lists
 abbrev pub certs_alone : CertFiles → List (GivenFile CheckedKind) → CheckedFiles
 certs_alone certs objects = record {
   certs = certs;
@@ -73,8 +74,8 @@ given_for certs locator = locator_given locator
 
 -- ---- by a verdict
 
--- By this verdict the certificates make an issuer, under which the octets begin with an object of the
--- kind that is good at this moment: `IsRightYes` without what is printed.
+-- By this verdict the certificates make an issuer, under which the octets begin with an object of
+-- the kind that is good at this moment: `IsRightYes` without what is printed.
 pub record IsGoodBy (verdict : Verdict) (options : Options) (kind : Kind) (now : Moment)
     (files : FilesOfCheck) : Type 0 where
   pub issuer : Validated
@@ -117,7 +118,8 @@ IsGoodRtaList given octets text =
 -- There is a list of the good signatures that a check asks about, and by each such list a yes is
 -- right: of a signed object, that it is good, and `rpki_objects` never says no to it; of an
 -- attestation, that it is granted, where different questions have different lines.
-abbrev pub IsGoodByLists : Options → Moment → CertFiles → Option File → CheckedKind → List ℕ → Type 0
+abbrev pub IsGoodByLists : Options → Moment → CertFiles → Option File → CheckedKind → List ℕ
+    → Type 0
 IsGoodByLists options now certs locator (Signed kind) octets =
     let files = check_files certs octets in
     ((text : List ℕ) × IsGoodList options files text)
@@ -169,8 +171,9 @@ pub record AreCertsSigned (certs : CertFiles) : Type 0 where
   pub good : (q : Question) → Contains (chain_questions first.tbs.key (first ∷ others)) q
       → says is_rsa_signature q ≡ true
 
--- The octets begin with a signed object and the files with certificates, and all signatures are good
--- on which a check of the object rests: its own, that of its certificate, and those of the others.
+-- The octets begin with a signed object and the files with certificates, and all signatures are
+-- good on which a check of the object rests: its own, that of its certificate, and those of the
+-- others.
 pub record IsObjectSigned (options : Options) (certs : CertFiles) (octets : List ℕ) : Type 0 where
   pub first : Certificate
   pub others : List Certificate
@@ -180,9 +183,9 @@ pub record IsObjectSigned (options : Options) (certs : CertFiles) (octets : List
   pub good : (q : Question) → Contains (check_questions first others object.signed) q
       → says is_rsa_signature q ≡ true
 
--- The signatures are good on which a check of an object of this kind rests; of an attestation this is
--- said of the certificates in the files alone. What it carries is signed too, each part by one of the
--- keys with the identifier that it names; which one that is, no identifier tells.
+-- The signatures are good on which a check of an object of this kind rests; of an attestation this
+-- is said of the certificates in the files alone. What it carries is signed too, each part by one of
+-- the keys with the identifier that it names; which one that is, no identifier tells.
 abbrev pub AreSignaturesGood : Options → CertFiles → CheckedKind → List ℕ → Type 0
 AreSignaturesGood options certs (Signed kind) octets = IsObjectSigned options certs octets
 AreSignaturesGood options certs Rta octets = AreCertsSigned certs

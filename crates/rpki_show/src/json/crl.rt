@@ -47,7 +47,8 @@ fn push_first(alloc: Global, text: &mut String, list: &DatedCrl) -> Result<(), A
 
 /// Appends the members after the number.
 fn push_later(alloc: Global, text: &mut String, list: &DatedCrl) -> Result<(), AllocError>
-    ensures { Grows result text.old text.new (flat_map further_text (after_number_members list.now)) }
+    ensures { Grows result text.old text.new
+        (flat_map further_text (after_number_members list.now)) }
 {
     push_this(alloc, text, list)?;
     push_next(alloc, text, list)?;

@@ -54,9 +54,9 @@ fn push_keys(alloc: Global, text: &mut String, keys: &[KeyIdentifier]) -> Result
     })
 }
 
-/// Appends the members of an attestation: those of its content, `certificates` and `crls`, arrays of
-/// objects with the members of a certificate and of a revocation list, and `signers`, how many have
-/// signed it. Refuses where memory runs out.
+/// Appends the members of an attestation: those of its content, `certificates` and `crls`, arrays
+/// of objects with the members of a certificate and of a revocation list, and `signers`, how many
+/// have signed it. Refuses where memory runs out.
 pub fn push_rta(alloc: Global, text: &mut String, rta: &DatedRta) -> Result<(), AllocError>
     ensures { Grows result text.old text.new
         (flat_map further_text (rta_members (dated_of rta.now))) }

@@ -98,7 +98,8 @@ pub fn checks_of_several_without_lists_are_right<P: RelyingParty>()
 ///
 /// Where a check without `--tal` and `--crl` ends with status 1, a no to one FILE is right by the
 /// signatures, and by each list that `verdicts` prints for it, where different questions have
-/// different lines; of an attestation, also only if the identifiers of what it carries are distinct.
+/// different lines; of an attestation, also only if the identifiers of what it carries are
+/// distinct.
 pub fn lists_suffice_for_each<P: RelyingParty>()
     ensures yes { (clock : Option Moment) (party : P) (told : Told) (options : Options)
         (c : AskedCheck) (now : Moment) (f : CheckedFiles) (run : Run)
@@ -113,10 +114,10 @@ pub fn lists_suffice_for_each<P: RelyingParty>()
         → Any (EachListRefuses (either_options options c.values.options) now certs) objects }
 {}
 
-/// Where a check of files ends with status 0, with `--tal` and `--crl` or without, all signatures are
-/// good on which each signed object rests: its own, that of its certificate, and those of the
-/// certificates in the files; of an attestation it is said of these last alone. The signatures of the
-/// lists of `--crl` need not be good: a list that the issuer's key did not sign does not count.
+/// Where a check of files ends with status 0, with `--tal` and `--crl` or without, all signatures
+/// are good on which each signed object rests: its own, that of its certificate, and those of the
+/// certificates in the files; of an attestation it is said of these last alone. The signatures of
+/// the lists of `--crl` need not be good: a list that the issuer's key did not sign does not count.
 pub fn each_signature_behind_a_yes_is_good<P: RelyingParty>()
     ensures { (clock : Option Moment) (party : P) (told : Told) (options : Options)
         (c : AskedCheck) (now : Moment) (f : CheckedFiles) (run : Run)

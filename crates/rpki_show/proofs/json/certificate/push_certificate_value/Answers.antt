@@ -1,5 +1,6 @@
 use Rattle.std.proofs.Common.{codes}
-use Rattle.rpki_show.specs.Json.Certificate.{certificate_members, facts_members, after_serial_members}
+use Rattle.rpki_show.specs.Json.Certificate.{certificate_members, facts_members}
+use Rattle.rpki_show.specs.Json.Certificate.{after_serial_members}
 use Rattle.rpki_show.specs.Json.Named.{serial_member}
 use Rattle.rpki_show.proofs.Members.{object_grown}
 use Rattle.rpki_show.proofs.json.certificate.push_certificate_value.Goals as goal
