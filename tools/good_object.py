@@ -43,6 +43,15 @@ PLAIN = re.compile(r"(sections? )?(\d[\d.]*(?:(?: and | to |, )\d[\d.]*)*(?:, po
 CALLER = "what the caller says"
 # The section that has the checks which the kinds share.
 COMMON = "[the object and its certificate](#the-checks-of-the-object-and-its-certificate)"
+# When a claim is too much, by what has to hold: whose claim is compared with whose.
+OVERCLAIMED = {
+    "IsAllowed": "The policy is the one that refuses, and the certificate claims numbers of this family "
+    "that its issuer does not have",
+    "IsLinkCovered": "The policy of a certificate below a CA is the one that refuses, the CA claims a set "
+    "of this family, and the nearest explicit set at or below the certificate does not lie in it",
+    "Takes": "The policy of the head is the one that refuses, and the nearest explicit set of this "
+    "family at or below the head does not lie in that of the CA",
+}
 # Texts that a reader could take for a misprint.
 ODD = {"EE certificate is contains IP resources": "so worded in the original"}
 ASKED = "The caller, who is asked once, refuses the certificate; the programs ask nobody"
@@ -359,6 +368,11 @@ def sections(comment, standard):
     )
 
 
+def meant(specs, fault, holds):
+    """When a check fails, by its fault and by the name of what has to hold."""
+    return OVERCLAIMED[holds] if fault == "Overclaimed" else phrase(specs.docs[fault])
+
+
 def phrase(text):
     """A docstring without the sections that it cites."""
     text = re.sub(r" \([^()]*(?:RFC|draft|X\.690)[^()]*\)", "", text)
@@ -388,7 +402,7 @@ def told(specs, row, rows):
     """When the check fails. Where the same fault is listed again, its list says of what it is."""
     if row.fault is None:
         return ASKED
-    where = phrase(specs.docs[row.fault[1]])
+    where = meant(specs, row.fault[1], (words(row.holds) or [""])[0])
     if sum(other.fault == row.fault for other in rows) > 1 and row.alone and not row.each:
         comment = phrase(row.listed.comment)
         where += ": " + comment[0].lower() + comment[1:]
@@ -550,7 +564,7 @@ def faults(specs, given):
     for word in given:
         (name, *of), (crate, made) = (part.split(mark) for part, mark in zip(word.split("="), ".:"))
         text = specs.text(("VerificationError", name, of))
-        rows.append(f"| `{text}` | {phrase(specs.docs[name])} | {specs.named(crate, made).link()} |")
+        rows.append(f"| `{text}` | {meant(specs, name, made)} | {specs.named(crate, made).link()} |")
     return rows
 
 

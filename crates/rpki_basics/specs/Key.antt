@@ -12,9 +12,9 @@ use Rattle.rpki_basics.specs.Algorithm.{algorithm_alone, algorithm_and_null}
 
 -- SubjectPublicKeyInfo ::= SEQUENCE { rsaEncryption, BIT STRING } without unused bits (RFC 5280,
 -- section 4.1.2.7). That the algorithm is rsaEncryption (RFC 3279, section 2.3.1) is this project's
--- own reading of RFC 7935, section 3.1. Two rules are its own: the NULL after rsaEncryption may be
--- missing, against RFC 3279, and any bits pass, where RFC 7935, section 3, asks for an RSAPublicKey
--- of 2048 bits with the exponent 65537, which is left to cryptography.
+-- own reading of RFC 7935, section 3.1. That the NULL after it may be missing, against RFC 3279, is
+-- this project's own rule. That any bits pass, where RFC 7935, section 3, asks for an RSAPublicKey
+-- of 2048 bits with the exponent 65537, is this project's own rule: that is left to cryptography.
 abbrev pub KeyForm : Mode → List ℕ → List ℕ → Type 0
 KeyForm mode octets bits = Sequence mode (
     (λ o. AlgorithmForm mode o rsa_encryption)

@@ -10,7 +10,8 @@ use Rattle.rpki_der.specs.Form.Parts.{Sequence, Set, sequence_at}
 use Rattle.rpki_der.specs.Text.Hex.{upper_hex}
 
 -- A Name: a SEQUENCE of values that are skipped (RFC 5280, section 4.1.2.4). That it may have any
--- contents is this project's own rule.
+-- contents is this project's own rule, and so is that a value which is skipped, here as elsewhere,
+-- may have the identifier of a string that it is not.
 abbrev pub IsName : Mode → List ℕ → Type 0
 IsName mode octets = Within mode SEQUENCE (ListOf (Skipped mode MAX_DEPTH)) octets
 

@@ -14,8 +14,8 @@ use Rattle.rpki_basics.specs.declared.uri.Error.TheVariants.{Memory}
 -- An octet that a URI may have: a visible character of ASCII, but for " < > \ ^ ` { | } (section
 -- 2), and for #, which begins a fragment. The schemes have none (RFC 5781, section 2; RFC 9110,
 -- section 4.2.2), but section 3 lets one follow in any scheme: that none may is this project's own
--- rule. So is that % may stand without two hexadecimal digits (section 2.1), and [ and ] outside an
--- address (section 3.2.2).
+-- rule. That % may stand without two hexadecimal digits (section 2.1), and [ and ] outside an
+-- address (section 3.2.2), is this project's own rule.
 abbrev pub is_uri_octet : ℕ → Bool
 is_uri_octet octet =
     nat_le 0x21 octet && nat_le octet 0x7E
@@ -49,9 +49,9 @@ IsPath (segment ∷ next ∷ others) =
     IsNoDotSegment segment × (0 < length segment) × IsPath (next ∷ others)
 
 -- An authority, a module and a path (RFC 5781, section 2). That there are an authority and a
--- module, that neither is empty, and that the module is not . or .., is this project's own rule. So
--- is that the authority ends at the first slash alone, and may have any octets of a URI, and that ?
--- may stand in the module and in the path, where RFC 5781 has no query.
+-- module, that neither is empty, and that the module is not . or .., is this project's own rule.
+-- That the authority ends at the first slash alone and may have any octets of a URI, and that ? may
+-- stand in the module and in the path, where RFC 5781 has no query, is this project's own rule.
 abbrev pub AreRsyncSegments : List (List ℕ) → Type 0
 AreRsyncSegments [] = ⊥
 AreRsyncSegments (authority ∷ []) = ⊥

@@ -117,7 +117,8 @@ ta_validation verdict c now =
 
 -- The certificate of a CA is valid under this issuer: it fits the profile, it is verified under the
 -- issuer, and its claims are allowed (RFC 6487, section 7.2). The order is this project's own. That
--- the issuer has not revoked it, which that section asks for too, is not looked at here.
+-- no validation of a certificate looks whether the issuer has revoked it, which that section asks
+-- for too, is this project's own rule: the caller is asked.
 unfoldable pub ca_validation : Verdict → Certificate → Validated → Moment
     → List (Check ValidationError)
 ca_validation verdict c issuer now =
