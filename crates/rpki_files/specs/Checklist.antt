@@ -46,7 +46,8 @@ NamedForm = ResourceBlockForm NumbersForm
 -- RpkiSignedChecklist ::= SEQUENCE { version [0] INTEGER DEFAULT 0, resources ResourceBlock,
 -- digestAlgorithm DigestAlgorithmIdentifier, checkList SEQUENCE OF FileNameAndHash } (4). The
 -- algorithm is SHA-256 (RFC 7935, section 2). That the list may be empty, and that a name may come
--- twice, is this project's own rule. The files stand in DER whatever the mode is.
+-- twice, is this project's own rule. That the files stand in DER in a reader of BER too is this
+-- project's own rule.
 abbrev pub ChecklistForm : Mode → List ℕ → Checklist → Type 0
 ChecklistForm mode octets l = Sequence mode (
     OptionalVersion mode

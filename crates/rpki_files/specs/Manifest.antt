@@ -43,7 +43,8 @@ pub record IsManifest (rule : ManifestRule) (m : Manifest) : Type 0 where
 -- thisUpdate, nextUpdate, fileHashAlg OBJECT IDENTIFIER, fileList SEQUENCE OF FileAndHash }
 -- (section 4.2), of which `IsManifest` holds under the rule. The algorithm is SHA-256 (RFC 7935,
 -- section 2). That the number is below 2^160, and that UTCTime is taken beside GeneralizedTime,
--- is this project's own rule. The files stand in DER whatever the mode is.
+-- is this project's own rule. That the files stand in DER in a reader of BER too is this project's
+-- own rule.
 abbrev pub ManifestForm : ManifestRule → Mode → List ℕ → Manifest → Type 0
 ManifestForm rule mode octets m = Sequence mode (
     OptionalVersion mode

@@ -18,7 +18,8 @@ entries_of p octets = or_empty (all_of p Der octets)
 abbrev pub HoldEntries : {X : Type 0} → Parser X → List ℕ → Type 0
 HoldEntries {X} p octets = (xs : List X) × (all_of p Der octets ≡ Some xs)
 
--- A SEQUENCE OF entries, each of which p reads. The entries stand in DER whatever the mode is.
+-- A SEQUENCE OF entries, each of which p reads. That the entries stand in DER in a reader of BER too
+-- is this project's own rule.
 abbrev pub list_at : {X : Type 0} → Parser X → Parser (List X)
 list_at p mode bytes = primitive SEQUENCE (all_of p Der) mode bytes
 
