@@ -3,6 +3,7 @@
 ghost use Rattle.std.specs.Prelude.{◌≡◌, ◌↔◌, IsTrue, IfOk, Contains};
 ghost use Rattle.std.specs.List.{Any};
 ghost use Rattle.rpki_der.specs.Form.Decodes.{Decodes};
+ghost use Rattle.rpki_routes.specs.Roa.{addresses};
 ghost use Rattle.rpki_routes.specs.Roa.Form.{RoaForm};
 ghost use Rattle.rpki_examples.specs.Routes.{AreWithin, IsMatched};
 
@@ -49,6 +50,19 @@ pub fn are_matched(addresses: &RoaIpAddresses, route: Prefix) -> bool
     let mut left = addresses.iter();
     while let Some(address) = left.next() {
         if is_matched(address, route) {
+            return true;
+        }
+    }
+    false
+}
+
+/// Whether a ROA has an address with this prefix, of IPv4 or of IPv6.
+pub fn has_prefix(roa: &RouteOriginAttestation, prefix: Prefix) -> bool
+    ensures { IsTrue result ↔ Any (λ address. address.address.prefix ≡ prefix) (addresses roa.now) }
+{
+    let mut left = roa.iter();
+    while let Some(address) = left.next() {
+        if address.prefix() == prefix {
             return true;
         }
     }
