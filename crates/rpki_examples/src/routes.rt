@@ -57,7 +57,7 @@ pub fn are_matched(addresses: &RoaIpAddresses, route: Prefix) -> bool
 }
 
 /// Whether a ROA has an address with this prefix, of IPv4 or of IPv6.
-pub fn has_prefix(roa: &RouteOriginAttestation, prefix: Prefix) -> bool
+pub fn names_prefix(roa: &RouteOriginAttestation, prefix: Prefix) -> bool
     ensures { IsTrue result ↔ Any (λ address. address.address.prefix ≡ prefix) (addresses roa.now) }
 {
     let mut left = roa.iter();

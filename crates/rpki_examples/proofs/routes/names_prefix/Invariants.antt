@@ -1,7 +1,7 @@
 use Rattle.std.proofs.Common.{◌≡◌, length}
 use Rattle.rpki_routes.specs.Roa.{FamilyAddress, addresses}
 use Rattle.rpki_examples.proofs.Search.{LeftTo}
-use Rattle.rpki_examples.proofs.routes.has_prefix.Given as goal
+use Rattle.rpki_examples.proofs.routes.names_prefix.Given as goal
 
 abbrev pub invariant-loop-address : goal.invariant-loop-address
 invariant-loop-address l =
