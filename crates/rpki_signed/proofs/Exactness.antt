@@ -44,25 +44,19 @@ module _ {X : Type 0} (kind : ObjectKind X) (form : List ℕ → X → Type 0) (
     said = b.holds.0;
   }
 
-  -- the caller says one thing of a certificate
-  one-answer : SaysOne Says → (c : KeptCertificate) (fault : ValidationError) → Says c (Ok tt)
-      → Says c (Err fault) → ⊥
-  one-answer one c fault agreed refused =
-      yes-is-no tt fault (one c (Ok tt) (Err fault) agreed refused)
-
-  refused-here : SaysOne Says → (fault : ValidationError) → (g : Good)
+  refused-here : (fault : ValidationError) → (g : Good)
       → IsNotGood kind mode digest verdict issuer now (Says (cert_in mode g.object)) g.object fault
-      → ⊥
-  refused-here one fault g h =
-      one-answer one (cert_in mode g.object) fault g.said (h g.certificate g.good)
+      → ¬ (SaysOne Says (cert_in mode g.object))
+  refused-here fault g h one =
+      yes-is-no tt fault (one (Ok tt) (Err fault) g.said (h g.certificate g.good))
 
   no-is-not-good : (e : CheckError)
       → IsExact kind form mode digest verdict issuer now Says octets (Err e) → ¬ (IsMemory e)
-      → SaysOne Says → ¬ Good
-  no-is-not-good (Decode unread.Memory) h m one g = m refl
-  no-is-not-good (Decode unread.Malformed) h m one g = h g.object g.rest g.front.found
-  no-is-not-good (Decode (unread.Content fault)) h m one g = h g.object g.rest g.front.found
-  no-is-not-good (Validation fault) b m one g =
+      → (g : Good) → ¬ (SaysOne Says (cert_in mode g.object))
+  no-is-not-good (Decode unread.Memory) h m g one = m refl
+  no-is-not-good (Decode unread.Malformed) h m g one = h g.object g.rest g.front.found
+  no-is-not-good (Decode (unread.Content fault)) h m g one = h g.object g.rest g.front.found
+  no-is-not-good (Validation fault) b m g one =
       let same : b.object ≡ g.object = (g.front.only b.object b.rest b.front.found).0 in
       of (subst (λ (o : Whole X). (fault ≡ faults.Memory)
       ⊎ IsNotGood kind mode digest verdict issuer now (Says (cert_in mode o)) o fault) same b.holds)
@@ -72,7 +66,7 @@ module _ {X : Type 0} (kind : ObjectKind X) (form : List ℕ → X → Type 0) (
           fault
           → ⊥
       of (inl e) = m e
-      of (inr h) = refused-here one fault g h
+      of (inr h) = refused-here fault g h one
 
 pub headline : {X : Type 0} (kind : ObjectKind X) (form : List ℕ → X → Type 0)
     (Says : KeptCertificate → Result (Unit {0}) ValidationError → Type 0)

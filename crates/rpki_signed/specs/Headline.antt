@@ -41,14 +41,14 @@ pub record BeginsWithGood {X : Type 0} (kind : ObjectKind X) (form : List ℕ �
   pub good : IsGood kind mode digest verdict issuer now object certificate
   pub said : Says (cert_in mode object) (Ok tt)
 
--- What a caller says of a certificate is one answer.
-abbrev pub SaysOne : (KeptCertificate → Result (Unit {0}) ValidationError → Type 0) → Type 0
-SaysOne Says =
-    (c : KeptCertificate) (a b : Result (Unit {0}) ValidationError) → Says c a → Says c b → a ≡ b
+-- What a caller says of this certificate is one answer.
+abbrev pub SaysOne : (KeptCertificate → Result (Unit {0}) ValidationError → Type 0)
+    → KeptCertificate → Type 0
+SaysOne Says c = (a b : Result (Unit {0}) ValidationError) → Says c a → Says c b → a ≡ b
 
 -- A check of this kind says yes exactly where the octets begin with a good object: a yes implies
 -- it, and any answer but a yes, unless memory ran out, that it is not so, if the caller has one
--- answer about a certificate (`SaysOne`).
+-- answer about the certificate of that object (`SaysOne`).
 pub record IsHeadline {X : Type 0} (kind : ObjectKind X) (form : List ℕ → X → Type 0)
     (Says : KeptCertificate → Result (Unit {0}) ValidationError → Type 0) : Type 0 where
   pub yes : (mode : Mode) (digest : Digester) (verdict : Verdict) (issuer : Validated)
@@ -58,8 +58,8 @@ pub record IsHeadline {X : Type 0} (kind : ObjectKind X) (form : List ℕ → X 
   pub no : (mode : Mode) (digest : Digester) (verdict : Verdict) (issuer : Validated)
       (now : Moment) (octets : List ℕ) (e : CheckError)
       → IsExact kind form mode digest verdict issuer now Says octets (Err e) → ¬ (IsMemory e)
-      → SaysOne Says
-      → ¬ (BeginsWithGood kind form mode digest verdict issuer now Says octets)
+      → (good : BeginsWithGood kind form mode digest verdict issuer now Says octets)
+      → ¬ (SaysOne Says (cert_in mode good.object))
 
 -- The octets begin with a multi-signed attestation, in DER, that is granted at this moment under
 -- these supplies (`IsGrantedRta`): every stated check of it holds, and each attested set equals the
