@@ -1,4 +1,5 @@
 pub mod Alike
+pub mod Anchored
 pub mod Apart
 pub mod Asked
 pub mod Cutting

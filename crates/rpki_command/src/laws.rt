@@ -2,11 +2,13 @@
 
 ghost use Rattle.std.specs.Prelude.{◌≡◌, ◌∷◌, ℕ, List, Ok, Err};
 ghost use Rattle.std.specs.List.{zip};
+ghost use Rattle.sha2.specs.Sha256.{sha256};
 ghost use Rattle.rpki_basics.specs.Moment.{Moment};
 ghost use Rattle.rpki_certs.specs.Issuer.{MakesIssuer};
 ghost use Rattle.rpki_certs.specs.Validate.{Validated};
 ghost use Rattle.rpki_certs.specs.Verify.{Verdict};
 ghost use Rattle.rpki_certs.specs.declared.issuer.IssuerError.{IssuerError};
+ghost use Rattle.rpki_rta.specs.Granted.{IsDistinct};
 ghost use Rattle.rpki_cli.specs.Answer.{Run, out_of_memory};
 ghost use Rattle.rpki_cli.specs.Command.{AreTold, IsRunOf, objects_language};
 ghost use Rattle.rpki_cli.specs.Language.{IsAsked};
@@ -106,10 +108,15 @@ pub fn issuers_are_unique()
         → issuer_refusal fault ≡ out_of_memory }
 {}
 
-/// A yes and a no of a check exclude each other, by each verdict: where the one is right, the other
-/// is not.
+/// A yes and a no exclude each other, by each verdict: where the one is right, the other is not. Of
+/// an attestation this holds if no two carried CAs have one key identifier, and end entities that
+/// share one have one key.
 pub fn yes_and_no_exclude_each_other()
-    ensures { (options : Options) (kind : Kind) (verdict : Verdict) (now : Moment)
+    ensures checks { (options : Options) (kind : Kind) (verdict : Verdict) (now : Moment)
         (files : FilesOfCheck) (run : Run) → IsRightYes options kind verdict now files run
         → ¬ IsRightNo options kind verdict now files }
+    ensures attestations { (verdict : Verdict) (now : Moment) (anchors : List (List ℕ))
+        (object : List ℕ) (octets : List (List ℕ)) (run : Run)
+        (yes : IsRightRta verdict now anchors object octets run)
+        → IsDistinct sha256 verdict yes.rta → ¬ IsRightNoRta verdict now anchors object octets }
 {}

@@ -13,6 +13,7 @@ use Rattle.rpki_faults.specs.declared.overclaim.Overclaim.{Overclaim}
 use Rattle.rpki_faults.specs.declared.overclaim.Overclaim.TheVariants.{Refuse, Trim}
 use Rattle.rpki_certs.specs.Cert.{KeptCertificate}
 use Rattle.rpki_certs.specs.Validate.{Sets, Validated}
+use Rattle.rpki_certs.specs.Verify.{Verdict}
 use Rattle.rpki_multi.specs.Attestation as attested
 use Rattle.rpki_paths.specs.Anchor.{Supply, Fits, Takes, IsAnchored, path_set}
 use Rattle.rpki_paths.specs.Cert.{Cert, Numbers}
@@ -29,7 +30,7 @@ use Rattle.rpki_command.specs.Verify.Objects.{located_by}
 use Rattle.rpki_command.specs.declared.anchors.Anchor.TheVariants.{Ca}
 
 -- Both supply the same, but that the blocks of numbers may be written in other ways.
-abbrev IsLikeSupply : Supply → Supply → Type 0
+abbrev pub IsLikeSupply : Supply → Supply → Type 0
 IsLikeSupply (Supply.Tal key) (Supply.Tal other) = key ≡ other
 IsLikeSupply (Supply.Tal key) (Supply.Ca ski own sets) = ⊥
 IsLikeSupply (Supply.Ca ski key sets) (Supply.Tal other) = ⊥
@@ -132,7 +133,7 @@ families-same a b h As = h.as_numbers
 families-same a b h V4 = h.v4
 families-same a b h V6 = h.v6
 
-issuer-like : (v w : Validated) → IsSameIssuer v w
+pub issuer-like : (v w : Validated) → IsSameIssuer v w
     → IsLikeSupply (supply_of (Ca v)) (supply_of (Ca w))
 issuer-like v w same = (
   ap (λ (k : KeptCertificate). k.certificate.tbs.extensions.key.subject_key) same.cert,
@@ -146,18 +147,24 @@ supplied-like : (locator : Option GivenLocator) (v w : Validated) → IsSameIssu
 supplied-like None v w same = (issuer-like v w same, tt)
 supplied-like (Some l) v w same = (refl, (issuer-like v w same, tt))
 
--- an attestation that is granted under the one is granted under the other
-pub granted-same : (now : Moment) (locator : Option GivenLocator) (v w : Validated)
-    (r : attested.Whole) → IsSameIssuer v w
-    → IsGrantedRta sha256 is_rsa_signature now r (located_by locator ++ supply_of (Ca v) ∷ [])
-    → IsGrantedRta sha256 is_rsa_signature now r (located_by locator ++ supply_of (Ca w) ∷ [])
-granted-same now locator v w r same h = record {
+-- an attestation that is granted under supplies is granted under others that are like them
+pub granted-like : (verdict : Verdict) (now : Moment) (r : attested.Whole) (xs ys : List Supply)
+    → AllZip IsLikeSupply xs ys → IsGrantedRta sha256 verdict now r xs
+    → IsGrantedRta sha256 verdict now r ys
+granted-like verdict now r xs ys like h = record {
   valid = h.valid;
   granted = record {
     paths = h.granted.paths;
     accepted = h.granted.accepted;
-    earned = earned-like h.granted.paths (located_by locator ++ supply_of (Ca v) ∷ [])
-        (located_by locator ++ supply_of (Ca w) ∷ []) _ (supplied-like locator v w same)
-        h.granted.earned;
+    earned = earned-like h.granted.paths xs ys _ like h.granted.earned;
   };
 }
+
+-- an attestation that is granted under the one issuer is granted under the other
+pub granted-same : (now : Moment) (locator : Option GivenLocator) (v w : Validated)
+    (r : attested.Whole) → IsSameIssuer v w
+    → IsGrantedRta sha256 is_rsa_signature now r (located_by locator ++ supply_of (Ca v) ∷ [])
+    → IsGrantedRta sha256 is_rsa_signature now r (located_by locator ++ supply_of (Ca w) ∷ [])
+granted-same now locator v w r same =
+    granted-like is_rsa_signature now r (located_by locator ++ supply_of (Ca v) ∷ [])
+    (located_by locator ++ supply_of (Ca w) ∷ []) (supplied-like locator v w same)

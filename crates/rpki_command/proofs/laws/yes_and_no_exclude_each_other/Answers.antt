@@ -1,5 +1,9 @@
 use Rattle.rpki_command.proofs.Same.{yes-or-no}
+use Rattle.rpki_command.proofs.Verified.Anchored.{granted-or-not}
 use Rattle.rpki_command.proofs.laws.yes_and_no_exclude_each_other.Goals as goal
 
-pub returns : goal.returns
-returns c = yes-or-no
+pub returns-clause-checks : goal.returns-clause-checks
+returns-clause-checks c = yes-or-no
+
+pub returns-clause-attestations : goal.returns-clause-attestations
+returns-clause-attestations c = granted-or-not
