@@ -22,7 +22,7 @@ use rpki_cli::answer::Answer;
 use rpki_cli::words::{Kind, Options};
 use rpki_cli::{Causes, Work, refusal};
 use rpki_der::DecodeError;
-use rpki_faults::ValidationError;
+use rpki_faults::{FaultText, ValidationError};
 use rpki_show::texts::serial::Hexadecimal;
 use rpki_show::{Action, Lines, answer_for};
 use rpki_signed::check;
@@ -250,6 +250,16 @@ fn cause_of(alloc: Global, error: ValidationError) -> Result<String, AllocError>
     ensures { IfOk result (λ text. string_bytes text ≡ validation_text error) }
 {
     let mut text = String::new(alloc);
-    write!(text, "{error}")?;
+    push_fault(&mut text, &error)?;
     Ok(text)
+}
+
+/// Appends the text of a fault. It is formatted only where it names a prefix.
+pub fn push_fault(text: &mut String, error: &ValidationError) -> Result<(), AllocError>
+    ensures { Grows result text.old text.new (validation_text error.now) }
+{
+    match error.text() {
+        FaultText::Fixed(words) => text.push_str(words),
+        FaultText::Uncovered(uncovered) => write!(text, "{uncovered}"),
+    }
 }

@@ -14,6 +14,7 @@ ghost use Rattle.rpki_command.specs.Verify.Issuers.{named, no_issuer};
 ghost use Rattle.rpki_command.specs.Verify.Issuers.{IsIssuerOf, IsKeyed, IsNoIssuerSaid};
 ghost use Rattle.rpki_command.specs.Verify.Issuers.{IsLocatorRead, IsLocatorFault, IsCauseSaid};
 
+use crate::check::push_fault;
 use crate::verify::revoked::{NamedList, revoking};
 use bytes::Bytes;
 use rpki_basics::{Crypto, Time};
@@ -315,7 +316,9 @@ fn cause_of(alloc: Global, file: &str, error: &ValidationError) -> Result<String
     ensures { IfOk result (λ text. string_bytes text
         ≡ named file.now (validation_text error.now)) }
 {
-    format!(in alloc; "{file}: {error}")
+    let mut text = format!(in alloc; "{file}: ")?;
+    push_fault(&mut text, error)?;
+    Ok(text)
 }
 
 /// What is said with a name, after the name of a file.
