@@ -2,6 +2,6 @@
 
 pub use rpki_basics::{BuildError, BuildFault};
 pub use rpki_faults::{
-    Family, InspectionError, KeyUsage, Overclaim, UncoveredPrefix, ValidationError,
+    Family, FaultText, InspectionError, KeyUsage, Overclaim, UncoveredPrefix, ValidationError,
     VerificationError, laws, validated,
 };
