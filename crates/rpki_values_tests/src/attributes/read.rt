@@ -1,7 +1,8 @@
 //! Rows of attributes that are read.
 
+use crate::reads::joined;
 use bytes::Bytes;
-use rpki_attributes::{SignedAttrs, faults};
+use rpki_attributes::SignedAttrs;
 use rpki_der::build::tlv;
 use rpki_der::{Constructed, DecodeError, Mode};
 use std::alloc::{AllocError, Global};
@@ -50,6 +51,8 @@ const NO_DAY: &[u8] = b"\x30\x1C\x06\x09\x2A\x86\x48\x86\xF7\x0D\x01\x09\x05\
 const TWICE: &str = "signed attribute stands more than once";
 
 const TYPE_IS_OTHER: &str = "invalid extension 1.2.3";
+
+const TOO_LONG: &str = "signedAttrs has more than 65535 octets";
 
 const NO_SUCH_TIME: &str = "there is no such date or time of day";
 
@@ -102,15 +105,6 @@ pub static ROWS: [(&[&[u8]], &str, &str); 24] = [
     (&[TYPE, NO_DAY, DIGEST], NO_SUCH_TIME, NO_SUCH_TIME),
 ];
 
-/// These octets, one after the other.
-pub fn joined(alloc: Global, parts: &[&[u8]]) -> Result<Vec<u8>, AllocError> {
-    let mut octets = Vec::new(alloc);
-    for part in parts {
-        octets.extend_from_slice(part)?;
-    }
-    Ok(octets)
-}
-
 /// A value with this tag. Its contents are short.
 pub fn value(alloc: Global, tag: u8, contents: &[u8]) -> Result<Vec<u8>, AllocError> {
     match tlv(alloc, tag, contents) {
@@ -119,7 +113,7 @@ pub fn value(alloc: Global, tag: u8, contents: &[u8]) -> Result<Vec<u8>, AllocEr
     }
 }
 
-/// What is read of these octets under [0], strictly or as a message. Want of memory is handed on.
+/// What is read of these octets under [0], strictly or as a message.
 pub fn read(
     alloc: Global,
     contents: &[u8],
@@ -127,20 +121,16 @@ pub fn read(
     is_strict: bool,
 ) -> Result<Result<SignedAttrs, DecodeError>, AllocError> {
     let source = Bytes::from_vec(value(alloc, 0xA0, contents)?)?;
-    let answer = if is_strict {
-        Constructed::decode(source, mode, |cons| SignedAttrs::take_from(alloc, cons))
-    } else {
-        Constructed::decode(source, mode, |cons| {
+    Ok(Constructed::decode(source, mode, |cons| {
+        if is_strict {
+            SignedAttrs::take_from(alloc, cons)
+        } else {
             SignedAttrs::take_from_signed_message(alloc, cons)
-        })
-    };
-    match answer {
-        Err(DecodeError::Memory) => Err(AllocError),
-        answer => Ok(answer),
-    }
+        }
+    }))
 }
 
-/// Whether the answer is these octets, or is refused for this reason.
+/// Whether the answer is these octets, or is refused for this reason. Want of memory is handed on.
 pub fn is_answer(
     alloc: Global,
     answer: Result<SignedAttrs, DecodeError>,
@@ -149,8 +139,109 @@ pub fn is_answer(
 ) -> Result<bool, AllocError> {
     match answer {
         Ok(attrs) => Ok(why.is_empty() && attrs.as_slice() == contents),
-        Err(error) => Ok(format!(in alloc; "{error}")?.as_str() == why),
+        Err(DecodeError::Memory) => Err(AllocError),
+        Err(error) => Ok(error.to_string(alloc)?.as_str() == why),
     }
+}
+
+/// Whether the message that is signed is this head and these octets; without a head the attributes
+/// are too long. Want of memory is handed on.
+pub fn is_message(
+    alloc: Global,
+    answer: Result<SignedAttrs, DecodeError>,
+    head: &[u8],
+    contents: &[u8],
+) -> Result<bool, AllocError> {
+    match answer {
+        Ok(attrs) => {
+            let message = attrs.encode_verify(alloc)?;
+            drop(attrs);
+            Ok(!head.is_empty() && message.strip_prefix(head) == Some(contents))
+        }
+        answer => Ok(head.is_empty() && is_answer(alloc, answer, contents, TOO_LONG)?),
+    }
+}
+
+/// Whether attributes are answered so, strictly and as a message, in a mode.
+fn are_answers(
+    alloc: Global,
+    mode: Mode,
+    contents: &[u8],
+    strict: &str,
+    message: &str,
+) -> Result<bool, AllocError> {
+    Ok(
+        is_answer(alloc, read(alloc, contents, mode, true)?, contents, strict)?
+            && is_answer(
+                alloc,
+                read(alloc, contents, mode, false)?,
+                contents,
+                message,
+            )?,
+    )
+}
+
+/// An attribute of the type 1.2.3 whose value has this number of octets.
+fn padding(alloc: Global, len: usize) -> Result<Vec<u8>, AllocError> {
+    let string = value(alloc, 4, &vec![in alloc; 0u8; len]?)?;
+    let set = value(alloc, 0x31, &string)?;
+    value(alloc, 0x30, &joined(alloc, &[b"\x06\x02\x2A\x03", &set])?)
+}
+
+/// The attribute of a digest with so many zeros.
+fn digest(alloc: Global, len: usize) -> Result<Vec<u8>, AllocError> {
+    let string = value(alloc, 4, &vec![in alloc; 0u8; len]?)?;
+    let set = value(alloc, 0x31, &string)?;
+    let kind: &[u8] = b"\x06\x09\x2A\x86\x48\x86\xF7\x0D\x01\x09\x04";
+    value(alloc, 0x30, &joined(alloc, &[kind, &set])?)
+}
+
+/// How many octets an attribute of the type 1.2.3 has in its value, how many all attributes have
+/// with it, and how the message begins, if they are read.
+static PADDED: [(usize, usize, &[u8]); 6] = [
+    (10, 127, b"\x31\x7F"),
+    (11, 128, b"\x31\x81\x80"),
+    (135, 255, b"\x31\x81\xFF"),
+    (136, 256, b"\x31\x82\x01\0"),
+    (65412, 65535, b"\x31\x82\xFF\xFF"),
+    (65413, 65536, b""),
+];
+
+/// Whether attributes that are padded so are refused strictly, and signed so as a message.
+fn is_padded(alloc: Global, len: usize, total: usize, head: &[u8]) -> Result<bool, AllocError> {
+    let padding = padding(alloc, len)?;
+    let contents = joined(alloc, &[TYPE, TIME, &padding, DIGEST])?;
+    Ok(
+        contents.len() == total
+            && is_answer(
+                alloc,
+                read(alloc, &contents, Mode::Der, true)?,
+                b"",
+                TYPE_IS_OTHER,
+            )?
+            && is_message(
+                alloc,
+                read(alloc, &contents, Mode::Der, false)?,
+                head,
+                &contents,
+            )?,
+    )
+}
+
+/// How many zeros a digest has, how many octets all attributes have with it, and how the message
+/// begins, if they are read.
+static LONGEST: [(usize, usize, &[u8]); 3] = [
+    (32, 107, b"\x31\x6B"),
+    (65454, 65535, b"\x31\x82\xFF\xFF"),
+    (65455, 65536, b""),
+];
+
+/// Whether attributes with such a digest are signed so, strictly read.
+fn is_long(alloc: Global, len: usize, total: usize, head: &[u8]) -> Result<bool, AllocError> {
+    let digest = digest(alloc, len)?;
+    let contents = joined(alloc, &[TYPE, TIME, &digest])?;
+    let answer = read(alloc, &contents, Mode::Ber, true)?;
+    Ok(contents.len() == total && is_message(alloc, answer, head, &contents)?)
 }
 
 #[test]
@@ -158,35 +249,20 @@ fn rows(rt: HostRuntime) -> Result<(), AllocError> {
     let alloc = rt.alloc();
     for (parts, strict, message) in &ROWS {
         let contents = joined(alloc, parts)?;
-        let answer = read(alloc, &contents, Mode::Der, true)?;
-        assert!(rt; is_answer(alloc, answer, &contents, strict)?);
-        let answer = read(alloc, &contents, Mode::Der, false)?;
-        assert!(rt; is_answer(alloc, answer, &contents, message)?);
+        assert!(rt; are_answers(alloc, Mode::Der, &contents, strict, message)?);
     }
+    let pieces = joined(alloc, &[TYPE, TIME, PIECES])?;
+    assert!(rt; are_answers(alloc, Mode::Ber, &pieces, "", "")?);
     Ok(())
 }
 
-/// What is read of attributes whose digest has so many zeros.
-fn with_zeros(alloc: Global, len: usize) -> Result<Result<SignedAttrs, DecodeError>, AllocError> {
-    let zeros = value(alloc, 4, &vec![in alloc; 0u8; len]?)?;
-    let set = value(alloc, 0x31, &zeros)?;
-    let kind: &[u8] = b"\x06\x09\x2A\x86\x48\x86\xF7\x0D\x01\x09\x04";
-    let digest = value(alloc, 0x30, &joined(alloc, &[kind, &set])?)?;
-    read(
-        alloc,
-        &joined(alloc, &[TYPE, TIME, &digest])?,
-        Mode::Der,
-        true,
-    )
-}
-
 #[test]
-fn attributes_have_at_most_65535_octets(rt: HostRuntime) -> Result<(), AllocError> {
-    let alloc = rt.alloc();
-    let last = with_zeros(alloc, 65454)?;
-    let is_read = last.is_ok();
-    drop(last);
-    let first = with_zeros(alloc, 65455)?;
-    assert!(rt; is_read && is_answer(alloc, first, b"", faults::ATTRIBUTES_TOO_LONG)?);
+fn lengths(rt: HostRuntime) -> Result<(), AllocError> {
+    for (len, total, head) in &PADDED {
+        assert!(rt; is_padded(rt.alloc(), *len, *total, head)?);
+    }
+    for (len, total, head) in &LONGEST {
+        assert!(rt; is_long(rt.alloc(), *len, *total, head)?);
+    }
     Ok(())
 }

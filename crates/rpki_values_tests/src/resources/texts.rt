@@ -1,6 +1,7 @@
 //! Rows of printed texts.
 
-use rpki_resources::{Addr, AddressFamily};
+use crate::reads::is_printed;
+use rpki_resources::{Addr, AddressFamily, AsBlock, Asn, IpBlock, MaxLenPrefix, Prefix};
 use std::alloc::{AllocError, Global};
 
 /// The addresses that `tools/addresses.py table` prints, with the texts that Python has for them.
@@ -207,19 +208,56 @@ static TEXTS: [(AddressFamily, u128, &str); 40] = [
     ),
 ];
 
-fn are_addresses(alloc: Global) -> Result<bool, AllocError> {
+/// A prefix, and its text.
+static PREFIXES: [(AddressFamily, u128, u8, &str); 5] = [
+    (AddressFamily::Ipv4, 0xC000_02FF << 96, 24, "192.0.2.0/24"),
+    (AddressFamily::Ipv4, 0xC000_0201 << 96, 32, "192.0.2.1/32"),
+    (AddressFamily::Ipv6, u128::MAX, 0, "::/0"),
+    (AddressFamily::Ipv6, 1, 128, "::1/128"),
+    (AddressFamily::Ipv6, 0x2001_0DB8 << 96, 32, "2001:db8::/32"),
+];
+
+/// Whether the rows are printed so.
+fn are_rows(alloc: Global) -> Result<bool, AllocError> {
     for (family, bits, want) in &TEXTS {
-        let addr = Addr::from_bits(*bits).display(*family);
-        if format!(in alloc; "{addr}")?.as_str() != *want {
+        if !is_printed(alloc, &Addr::from_bits(*bits).display(*family), want)? {
+            return Ok(false);
+        }
+    }
+    for (family, bits, len, want) in &PREFIXES {
+        let prefix = Prefix::new(Addr::from_bits(*bits), *len);
+        if !is_printed(alloc, &prefix.display(*family), want)?
+            || !is_printed(alloc, &IpBlock::Prefix(prefix).display(*family), want)?
+        {
             return Ok(false);
         }
     }
     Ok(true)
 }
 
+/// The entry of 192.0.2.0/24 with this maximum length.
+fn entry(max_len: Option<u8>) -> MaxLenPrefix {
+    MaxLenPrefix {
+        family: AddressFamily::Ipv4,
+        prefix: Prefix::new(Addr::from_bits(0xC000_0200 << 96), 24),
+        max_len,
+    }
+}
+
 #[test]
 fn texts(rt: HostRuntime) -> Result<(), AllocError> {
     let alloc = rt.alloc();
-    assert!(rt; are_addresses(alloc)?);
+    let (ten, twenty) = (Asn::from_u32(10), Asn::from_u32(20));
+    let first = Addr::from_bits(0x0A00_0000 << 96);
+    let last = Addr::from_bits((0x0A00_0003 << 96) - 1);
+    let block = IpBlock::from_range(first, last).display(AddressFamily::Ipv4);
+    assert!(rt;
+        are_rows(alloc)?
+            && is_printed(alloc, &block, "10.0.0.0-10.0.0.2")?
+            && is_printed(alloc, &entry(Some(26)), "192.0.2.0/24-26")?
+            && is_printed(alloc, &entry(None), "192.0.2.0/24")?
+            && is_printed(alloc, &AsBlock::Id(Asn::MAX), "AS4294967295")?
+            && is_printed(alloc, &AsBlock::Range(ten, twenty), "AS10-AS20")?
+    );
     Ok(())
 }
