@@ -3,6 +3,7 @@ pub mod BigEndian
 pub mod Keys
 pub mod Names
 pub mod OctetSets
+pub mod ReadAgain
 pub mod Serials
 pub mod Times
 pub mod Uris

@@ -3,6 +3,7 @@
 ghost use Rattle.std.specs.Prelude.{◌≡◌, ◌↔◌, ◌<◌, ◌^◌, ◌++◌, ◌⊎◌, ℕ, List, Some, length, IsTrue};
 ghost use Rattle.rpki_der.specs.declared.mode.Mode.{Mode};
 ghost use Rattle.rpki_der.specs.declared.mode.Mode.TheVariants.{Der};
+ghost use Rattle.rpki_der.specs.Form.After.{LeavesOctetsAfter};
 ghost use Rattle.rpki_der.specs.Grammar.{IsBytes};
 ghost use Rattle.rpki_der.specs.Read.Exact.{IsReading};
 ghost use Rattle.rpki_der.specs.Read.Parse.{u160_at};
@@ -86,6 +87,12 @@ pub fn algorithms_are_written()
 /// Reading a key is exact and unique, and DER is a part of BER (RFC 5280, section 4.1.2.7).
 pub fn keys()
     ensures { IsReading key_at KeyForm }
+{}
+
+/// Octets after a key change nothing: they are left. Nor do octets after one whole value make it a
+/// key that it is not.
+pub fn octets_after_a_key_are_left()
+    ensures { (mode : Mode) → LeavesOctetsAfter mode (KeyForm mode) }
 {}
 
 /// What is written of a key is in its form, one of the two ways that there are in DER, and read

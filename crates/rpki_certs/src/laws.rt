@@ -1,12 +1,18 @@
 //! What the definitions of certificates say: laws, as functions that do nothing.
 
+ghost use Rattle.std.specs.Prelude.{◌≡◌, ◌↔◌, ◌++◌, ℕ, List, Result, MatchResult};
+ghost use Rattle.rpki_der.specs.declared.error.DecodeError.{DecodeError};
+ghost use Rattle.rpki_der.specs.declared.error.DecodeError.TheVariants.{Memory};
+ghost use Rattle.rpki_der.specs.declared.mode.Mode.{Mode};
+ghost use Rattle.rpki_der.specs.declared.mode.Mode.TheVariants.{Der};
+ghost use Rattle.rpki_der.specs.Form.After.{LeavesOctetsAfter};
+ghost use Rattle.rpki_der.specs.Form.Decodes.{Decodes};
 ghost use Rattle.rpki_der.specs.Read.Exact.{IsReading};
-ghost use Rattle.std.specs.Prelude.{◌↔◌};
 ghost use Rattle.rpki_basics.specs.Moment.{Moment};
 ghost use Rattle.rpki_faults.specs.Checks.{AllHold, IsFirstFault};
 ghost use Rattle.rpki_faults.specs.declared.validation.ValidationError.{ValidationError};
 ghost use Rattle.rpki_extensions.specs.declared.claims.Claims.{Claims};
-ghost use Rattle.rpki_certs.specs.Cert.{Certificate, CertForm, cert_at};
+ghost use Rattle.rpki_certs.specs.Cert.{Certificate, KeptCertificate, CertForm, cert_at};
 ghost use Rattle.rpki_certs.specs.Inspect.{ta_checks, ca_checks, ee_checks, detached_ee_checks};
 ghost use Rattle.rpki_certs.specs.Verify.{Verdict};
 ghost use Rattle.rpki_certs.specs.Validate.{Sets, Validated, ta_validation, ca_validation};
@@ -20,6 +26,21 @@ use rpki_resources::{Addr, Asn};
 /// Reading a certificate is exact and unique, and DER is a part of BER (RFC 5280, section 4.1).
 pub fn certificates()
     ensures { IsReading cert_at CertForm }
+{}
+
+/// Octets after a certificate change nothing: they are left. Nor do octets after one whole value
+/// make it a certificate that it is not.
+pub fn octets_after_a_certificate_are_left()
+    ensures { (mode : Mode) → LeavesOctetsAfter mode (CertForm mode) }
+{}
+
+/// What is written of a certificate that was read strictly is read strictly as this certificate,
+/// whatever octets follow it, unless memory runs out.
+pub fn written_certificates_are_read()
+    ensures { (c : Certificate) (rest : List ℕ) (r : Result KeptCertificate DecodeError)
+        → CertForm Der c.octets c
+        → Decodes (CertForm Der) (λ k. k.certificate) (c.octets ++ rest) r
+        → MatchResult r (λ k. k.certificate ≡ c) (λ e. e ≡ Memory) }
 {}
 
 /// What a yes of `validate_ta_at` means: the certificate of the trust anchor fits the profile, the

@@ -13,7 +13,7 @@ mod verify;
 pub use cert::Cert;
 pub use issuer::{IssuerError, issued_at, issuer_at, read_cert};
 pub use rpki_faults::{
-    Family, InspectionError, KeyUsage, Overclaim, UncoveredPrefix, ValidationError,
+    Family, FaultText, InspectionError, KeyUsage, Overclaim, UncoveredPrefix, ValidationError,
     VerificationError,
 };
 pub use validate::ResourceCert;

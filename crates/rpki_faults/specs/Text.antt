@@ -1,3 +1,4 @@
 pub mod Inspection
 pub mod Verification
+pub mod Fault
 pub mod Validation

@@ -1,12 +1,14 @@
 //! Why a certificate or an object is not valid.
 
 ghost use Rattle.std.specs.Prelude.{◌≡◌, Some};
+ghost use Rattle.rpki_faults.specs.Text.Fault.{text_of};
 ghost use Rattle.rpki_faults.specs.Text.Validation.{validation_text};
 ghost use Rattle.rpki_faults.specs.declared.validation.ValidationError.TheVariants.{Inspection};
 ghost use Rattle.rpki_faults.specs.declared.validation.ValidationError.TheVariants.{Verification};
 ghost use Rattle.rpki_faults.specs.declared.validation.ValidationError.TheVariants.{Memory};
 
 use crate::inspection::InspectionError;
+use crate::text::FaultText;
 use crate::verification::VerificationError;
 use std::alloc::{AllocError, AllocFailed};
 use std::error::Error;
@@ -23,15 +25,24 @@ pub enum ValidationError {
     Memory,
 }
 
+impl ValidationError {
+    /// Why it is not valid, in words: those of the fault in it.
+    pub fn text(&self) -> FaultText
+        ensures { text_of result ≡ validation_text self.now }
+    {
+        match self {
+            ValidationError::Inspection(error) => FaultText::Fixed(error.text()),
+            ValidationError::Verification(error) => error.text(),
+            ValidationError::Memory => FaultText::Fixed("out of memory"),
+        }
+    }
+}
+
 impl fmt::Display for ValidationError {
     ghost output = { λ error. Some (validation_text error) };
 
     fn fmt<W: fmt::Write>(&self, f: &mut fmt::Formatter<W>) -> fmt::Result {
-        match self {
-            ValidationError::Inspection(error) => error.fmt(f),
-            ValidationError::Verification(error) => error.fmt(f),
-            ValidationError::Memory => f.write_str("out of memory"),
-        }
+        self.text().fmt(f)
     }
 }
 

@@ -1,10 +1,12 @@
 //! Why a certificate or an object is not good.
 
-ghost use Rattle.std.specs.Prelude.{◌≡◌, false, Some, MatchOption};
-ghost use Rattle.rpki_faults.specs.Text.Verification.{verification_text, is_of_attestation};
+ghost use Rattle.std.specs.Prelude.{◌≡◌, Some};
+ghost use Rattle.rpki_faults.specs.Text.Fault.{text_of};
+ghost use Rattle.rpki_faults.specs.Text.Verification.{verification_text};
 ghost use Rattle.rpki_faults.specs.declared.verification.VerificationError.{VerificationError};
 
 use crate::family::Family;
+use crate::text::FaultText::{self, Fixed, Uncovered};
 use crate::uncovered::UncoveredPrefix;
 use rpki_resources::AddressFamily;
 use std::error::Error;
@@ -95,49 +97,55 @@ pub enum VerificationError {
     Caller,
 }
 
-// A family of which more is claimed than the issuer has.
-fn overclaimed(family: Family) -> &'static str
-    ensures { result.now ≡ verification_text (VerificationError.Overclaimed family) }
-{
-    match family {
-        Family::As => "overclaimed AS resources",
-        Family::V4 => "overclaimed IPv4 resources",
-        Family::V6 => "overclaimed IPv6 resources",
-    }
-}
-
-// A family of which a ROA has prefixes, and its certificate nothing.
-fn no_prefix_covered(family: AddressFamily) -> &'static str
-    ensures { result.now ≡ verification_text (VerificationError.NoPrefixCovered family) }
-{
-    match family {
-        AddressFamily::Ipv4 => "no IPv4 ROA prefix covered by certificate",
-        AddressFamily::Ipv6 => "no IPv6 ROA prefix covered by certificate",
-    }
-}
-
 impl VerificationError {
-    // The text of a fault that an attestation alone may have.
-    fn attestation_text(&self) -> Option<&'static str>
-        ensures { MatchOption result (is_of_attestation self.now ≡ false)
-            (λ text. text.now ≡ verification_text self.now) }
+    /// What is not good, in words.
+    pub fn text(&self) -> FaultText
+        ensures { text_of result ≡ verification_text self.now }
     {
         match self {
-            Self::UnknownKey => Some("public key not found in chain"),
-            Self::SignerDigest => Some("message digest mismatch"),
-            Self::MissingCertificate => Some("missing certificate"),
-            Self::MissingCrl => Some("missing CRL"),
-            Self::UnusedSubjectKeys => Some("unused subject keys"),
-            Self::UnusedCrls => Some("unused CRLs"),
-            Self::UnusedEeCertificates => Some("unused EE certificates"),
-            Self::InvalidCaCertificates => Some("only invalid CA certificates found"),
-            Self::PathReturns => Some("path returns"),
-            Self::Revoked => Some("CA certificate has been revoked"),
-            Self::UnusedCaCertificates => Some("unused CA certificates"),
-            Self::NotAnchored => Some("RTA could not be validated"),
-            Self::AsNotFullyCovered => Some("AS resources not fully covered"),
-            Self::IpNotFullyCovered => Some("IP resources not fully covered"),
-            _ => None,
+            Self::DigestMismatch => Fixed("message digest mismatch in signed object"),
+            Self::SigningTime => Fixed("signing time is after not_after validity time"),
+            Self::BadSignature => Fixed("signature is not valid"),
+            Self::IssuerClaim => Fixed("not issued by this CA"),
+            Self::NotYetValid => Fixed("certificate is not yet valid"),
+            Self::Expired => Fixed("certificate has expired"),
+            Self::Overclaimed(Family::As) => Fixed("overclaimed AS resources"),
+            Self::Overclaimed(Family::V4) => Fixed("overclaimed IPv4 resources"),
+            Self::Overclaimed(Family::V6) => Fixed("overclaimed IPv6 resources"),
+            Self::NoAsResources => Fixed("EE certificate is missing AS resources"),
+            Self::InheritedAsResources => Fixed("EE certificate contains inherited AS resources"),
+            Self::EmptyAsResources => Fixed("EE certificate contains empty AS resources"),
+            Self::SeveralAsBlocks => Fixed("EE certificate contains multiple AS resource blocks"),
+            Self::AsRange => Fixed("EE certificate contains AS resource with range"),
+            Self::OtherCustomer => Fixed(
+                "EE certificate does not contain customer AS in AS resources",
+            ),
+            Self::IpResources => Fixed("EE certificate is contains IP resources"),
+            Self::CustomerNotHeld => Fixed("customer AS not held"),
+            Self::NoPrefixCovered(AddressFamily::Ipv4) => Fixed(
+                "no IPv4 ROA prefix covered by certificate",
+            ),
+            Self::NoPrefixCovered(AddressFamily::Ipv6) => Fixed(
+                "no IPv6 ROA prefix covered by certificate",
+            ),
+            Self::UncoveredPrefix(uncovered) => Uncovered(*uncovered),
+            Self::ChecklistNotHeld => Fixed("checklist resources not held"),
+            Self::ManifestHash => Fixed("manifest hash mismatch"),
+            Self::UnknownKey => Fixed("public key not found in chain"),
+            Self::SignerDigest => Fixed("message digest mismatch"),
+            Self::MissingCertificate => Fixed("missing certificate"),
+            Self::MissingCrl => Fixed("missing CRL"),
+            Self::UnusedSubjectKeys => Fixed("unused subject keys"),
+            Self::UnusedCrls => Fixed("unused CRLs"),
+            Self::UnusedEeCertificates => Fixed("unused EE certificates"),
+            Self::InvalidCaCertificates => Fixed("only invalid CA certificates found"),
+            Self::PathReturns => Fixed("path returns"),
+            Self::Revoked => Fixed("CA certificate has been revoked"),
+            Self::UnusedCaCertificates => Fixed("unused CA certificates"),
+            Self::NotAnchored => Fixed("RTA could not be validated"),
+            Self::AsNotFullyCovered => Fixed("AS resources not fully covered"),
+            Self::IpNotFullyCovered => Fixed("IP resources not fully covered"),
+            Self::Caller => Fixed("refused by the caller"),
         }
     }
 }
@@ -146,38 +154,7 @@ impl fmt::Display for VerificationError {
     ghost output = { λ error. Some (verification_text error) };
 
     fn fmt<W: fmt::Write>(&self, f: &mut fmt::Formatter<W>) -> fmt::Result {
-        if let Some(text) = self.attestation_text() {
-            return f.write_str(text);
-        }
-        match self {
-            Self::UncoveredPrefix(uncovered) => uncovered.fmt(f),
-            Self::DigestMismatch => f.write_str("message digest mismatch in signed object"),
-            Self::SigningTime => f.write_str("signing time is after not_after validity time"),
-            Self::BadSignature => f.write_str("signature is not valid"),
-            Self::IssuerClaim => f.write_str("not issued by this CA"),
-            Self::NotYetValid => f.write_str("certificate is not yet valid"),
-            Self::Expired => f.write_str("certificate has expired"),
-            Self::Overclaimed(family) => f.write_str(overclaimed(*family)),
-            Self::NoAsResources => f.write_str("EE certificate is missing AS resources"),
-            Self::InheritedAsResources => f.write_str(
-                "EE certificate contains inherited AS resources",
-            ),
-            Self::EmptyAsResources => f.write_str("EE certificate contains empty AS resources"),
-            Self::SeveralAsBlocks => f.write_str(
-                "EE certificate contains multiple AS resource blocks",
-            ),
-            Self::AsRange => f.write_str("EE certificate contains AS resource with range"),
-            Self::OtherCustomer => f.write_str(
-                "EE certificate does not contain customer AS in AS resources",
-            ),
-            Self::IpResources => f.write_str("EE certificate is contains IP resources"),
-            Self::CustomerNotHeld => f.write_str("customer AS not held"),
-            Self::NoPrefixCovered(family) => f.write_str(no_prefix_covered(*family)),
-            Self::ChecklistNotHeld => f.write_str("checklist resources not held"),
-            Self::ManifestHash => f.write_str("manifest hash mismatch"),
-            Self::Caller => f.write_str("refused by the caller"),
-            _ => unreachable!(),
-        }
+        self.text().fmt(f)
     }
 }
 

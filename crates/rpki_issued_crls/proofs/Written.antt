@@ -1,15 +1,10 @@
 -- What is made and signed is a revocation list.
-use Rattle.std.proofs.Common.{◌≡◌, ℕ, List, [], ◌++◌, Result, Ok, Err, refl, sym, arith}
-use Rattle.std.specs.Prelude.{MatchResult}
+use Rattle.std.proofs.Common.{◌≡◌, ℕ, List, [], ◌++◌, refl, sym, arith}
 use Rattle.std.proofs.lemmas.List.{append-nil}
-use Rattle.rpki_der.specs.declared.error.DecodeError.{DecodeError}
-use Rattle.rpki_der.specs.declared.error.DecodeError.TheVariants as failed
 use Rattle.rpki_der.specs.declared.mode.Mode.TheVariants.{Der}
-use Rattle.rpki_der.specs.Form.Decodes.{Decodes}
 use Rattle.rpki_der.specs.Tags.{BIT_STRING, SEQUENCE, context}
 use Rattle.rpki_der.specs.Write.Parts.{contents_small, length_parts}
 use Rattle.rpki_der.specs.Write.Written.{value_octets, number_octets, bit_string_contents}
-use Rattle.rpki_der.proofs.Form.ReadBack.{only-front, refuses-memory}
 use Rattle.rpki_der.proofs.Reading.Scan.{tag-sound}
 use Rattle.rpki_der.proofs.Writing.Lengths.{value-written}
 use Rattle.rpki_der.proofs.Writing.Values.{number-written}
@@ -18,7 +13,7 @@ use Rattle.rpki_basics.specs.Name.{IsName}
 use Rattle.rpki_basics.specs.Time.Form.{time_octets}
 use Rattle.rpki_basics.proofs.Algorithms.Written.{cert-written as algorithm-written}
 use Rattle.rpki_basics.proofs.Times.Written.{time-written}
-use Rattle.rpki_crls.specs.Crl.{TbsForm, CrlForm, KeptCrl, v2}
+use Rattle.rpki_crls.specs.Crl.{TbsForm, CrlForm, v2}
 use Rattle.rpki_issued.proofs.Parts.{Short, short-value}
 use Rattle.rpki_issued.proofs.Written.{signature-written}
 use Rattle.rpki_issued_crls.specs.Lists.{UnsignedList, IsToWrite, revoked_octets}
@@ -128,15 +123,3 @@ list-written u issuer s h name short =
         ),
       ),
     )
-
--- what is written is read again
-pub list-read : (u : UnsignedList) (issuer s : List ℕ) (r : Result KeptCrl DecodeError)
-    → IsToWrite u → IsName Der issuer → Short (crl_contents u issuer s)
-    → Decodes (CrlForm Der) (λ k. k.list) (crl_octets u issuer s) r
-    → MatchResult r (λ k. k.list ≡ made_list u issuer s) (λ e. e ≡ failed.Memory)
-list-read u issuer s (Ok k) h name short read =
-    only-front (CrlForm Der) (crl_octets u issuer s) k.list (made_list u issuer s) read.0 read.1
-    (list-written u issuer s h name short)
-list-read u issuer s (Err e) h name short read =
-    refuses-memory (CrlForm Der) (crl_octets u issuer s) (made_list u issuer s) e read
-    (list-written u issuer s h name short)

@@ -1,7 +1,7 @@
 //! What the definitions of revocation lists that are made say: laws, as functions that do nothing.
 
-ghost use Rattle.std.specs.Prelude.{◌≡◌, ◌↔◌, ◌<◌, ◌^◌, ℕ, List, Any, Contains, length};
-ghost use Rattle.std.specs.Prelude.{Result, MatchResult};
+ghost use Rattle.std.specs.Prelude.{◌≡◌, ◌↔◌, ◌<◌, ◌^◌, ◌++◌, ℕ, List, Any, Contains};
+ghost use Rattle.std.specs.Prelude.{Result, MatchResult, length};
 ghost use Rattle.rpki_der.specs.declared.error.DecodeError.{DecodeError};
 ghost use Rattle.rpki_der.specs.declared.mode.Mode.TheVariants.{Der};
 ghost use Rattle.rpki_der.specs.Form.Decodes.{Decodes};
@@ -18,11 +18,12 @@ pub fn lists_are_written()
         → CrlForm Der (crl_octets u issuer s) (made_list u issuer s) }
 {}
 
-/// What is written of a revocation list is read again as this list, unless memory runs out.
+/// What is written of a revocation list is read again as this list, whatever octets follow it,
+/// unless memory runs out.
 pub fn written_lists_are_read()
-    ensures { (u : UnsignedList) (issuer s : List ℕ) (r : Result KeptCrl DecodeError) →
+    ensures { (u : UnsignedList) (issuer s rest : List ℕ) (r : Result KeptCrl DecodeError) →
         IsToWrite u → IsName Der issuer → length (crl_contents u issuer s) < 2 ^ 32
-        → Decodes (CrlForm Der) (λ k. k.list) (crl_octets u issuer s) r
+        → Decodes (CrlForm Der) (λ k. k.list) (crl_octets u issuer s ++ rest) r
         → MatchResult r (λ k. k.list ≡ made_list u issuer s) (λ e. e ≡ DecodeError.Memory) }
 {}
 

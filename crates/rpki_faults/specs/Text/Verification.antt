@@ -1,5 +1,5 @@
 -- The texts of verifications.
-use Rattle.std.specs.Prelude.{ℕ, Bool, true, false, List, ◌++◌, codes}
+use Rattle.std.specs.Prelude.{ℕ, List, ◌++◌, codes}
 use Rattle.rpki_resources.specs.declared.family.AddressFamily.TheVariants.{Ipv4, Ipv6}
 use Rattle.rpki_resources.specs.Text.{max_len_text}
 use Rattle.rpki_faults.specs.declared.family.Family.TheVariants.{As, V4, V6}
@@ -56,21 +56,3 @@ verification_text faults.NotAnchored = codes "RTA could not be validated"
 verification_text faults.AsNotFullyCovered = codes "AS resources not fully covered"
 verification_text faults.IpNotFullyCovered = codes "IP resources not fully covered"
 verification_text faults.Caller = codes "refused by the caller"
-
--- Whether an attestation alone may have the fault.
-abbrev pub is_of_attestation : VerificationError → Bool
-is_of_attestation faults.UnknownKey = true
-is_of_attestation faults.SignerDigest = true
-is_of_attestation faults.MissingCertificate = true
-is_of_attestation faults.MissingCrl = true
-is_of_attestation faults.UnusedSubjectKeys = true
-is_of_attestation faults.UnusedCrls = true
-is_of_attestation faults.UnusedEeCertificates = true
-is_of_attestation faults.InvalidCaCertificates = true
-is_of_attestation faults.PathReturns = true
-is_of_attestation faults.Revoked = true
-is_of_attestation faults.UnusedCaCertificates = true
-is_of_attestation faults.NotAnchored = true
-is_of_attestation faults.AsNotFullyCovered = true
-is_of_attestation faults.IpNotFullyCovered = true
-is_of_attestation _ = false
