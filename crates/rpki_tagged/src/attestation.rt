@@ -8,8 +8,7 @@ ghost use Rattle.std.specs.Prelude.{◌≡◌, ◌<◌, ◌^◌, ◌++◌, ℕ, 
 ghost use Rattle.rpki_basics.specs.Identifier.{identifier_length};
 ghost use Rattle.rpki_basics.specs.declared.algorithm.DigestAlgorithm.TheVariants.{Sha256};
 ghost use Rattle.rpki_der.specs.declared.mode.Mode.TheVariants.{Der};
-ghost use Rattle.rpki_der.specs.Read.Reads.{Reads, Stays};
-ghost use Rattle.rpki_der.specs.Form.Decodes.{Decodes, DecodesNext};
+ghost use Rattle.rpki_der.specs.Form.Decodes.{Decodes};
 ghost use Rattle.rpki_resources.specs.declared.family.AddressFamily.TheVariants.{Ipv4};
 ghost use Rattle.rpki_resources.specs.Family.{IsWithin};
 ghost use Rattle.rpki_tagged.specs.Attestation.{AttestationForm, attestation_at};
@@ -18,11 +17,11 @@ ghost use Rattle.rpki_tagged.specs.Attestation.{attestation_contents, attestatio
 pub use builder::AttestationBuilder;
 use bytes::Bytes;
 pub use encoder::AttestationEncoder;
-use read::{read_front, take_attestation};
+use read::read_front;
 use rpki_attributes::MessageDigest;
 use rpki_basics::{DigestAlgorithm, KeyIdentifier};
+use rpki_der::DecodeError;
 use rpki_der::laws::slices_hold_octets;
-use rpki_der::{Constructed, DecodeError};
 use rpki_resources::{AddressFamily, AsBlocks, IpBlocks};
 use std::alloc::{AllocError, Global};
 use std::marker::Model;
@@ -85,21 +84,6 @@ impl ResourceTaggedAttestation {
         // `Bytes`.
         slices_hold_octets(source.as_slice());
         read_front(alloc, source)
-    }
-
-    /// Reads a content in the mode of the reader (draft-michaelson-rpki-rta, section 4). Refuses
-    /// what is no such content by `Malformed`, or by a rule of its format that it breaks
-    /// (`faults`), and by `Memory`.
-    pub fn take_from(
-        alloc: Global,
-        cons: &mut Constructed<'_>,
-    ) -> Result<ResourceTaggedAttestation, DecodeError>
-        ensures reads { Reads (λ a. a) attestation_at cons.old result cons.new }
-        ensures decodes { DecodesNext AttestationForm (λ a. a) cons.old result cons.new }
-        ensures stays { Stays result cons.new }
-    {
-        cons.holds_octets();
-        take_attestation(alloc, cons)
     }
 
     /// The identifiers of the keys that are to sign, in the order in which they stand.

@@ -84,8 +84,8 @@ fn take_fields(
     })
 }
 
-/// Reads a content.
-pub fn take_attestation(
+// Reads a content.
+fn take_attestation(
     alloc: Global,
     cons: &mut Constructed<'_>,
 ) -> Result<ResourceTaggedAttestation, DecodeError>
