@@ -463,7 +463,7 @@ def long(count):
     yield Row(f"path_{count}",
               f"{count} CAs, all Trim and inheriting, EE AS 5..20, supplied 1..9", YES,
               asn=r(5, 9), signers=[5000], certs=[ee(5000, 2, r(5, 20), trims=True), *cas],
-              crls=map(crl, keys), supplies=[Supplied(r(1, 9))], asked=(before, before, before + 1))
+              crls=map(crl, keys), supplies=[Supplied(r(1, 9))], asked=(before, before + 1))
 
 
 def faults():
@@ -698,7 +698,7 @@ const {name}: &str = "{row.octets().hex()}|{','.join(map(str, row.supplies))}";
 
 
 def write_count(row):
-    """How many verdicts are asked before the supplies, counted and not, and in all."""
+    """How many verdicts are asked before the supplies, and in all."""
     print(f"""#[test]
 fn {row.name}_verdicts(rt: HostRuntime) -> Result<(), Fail> {{
     assert_eq!(rt; verdicts(rt.alloc(), {row.name.upper()})?, {row.asked});

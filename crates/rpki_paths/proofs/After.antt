@@ -16,7 +16,7 @@ use Rattle.rpki_paths.specs.Anchor.{Supply, Takes, IsAnchored, supplied_claim, p
 use Rattle.rpki_paths.specs.Walk.{resources_in}
 use Rattle.rpki_paths.specs.Kept.{IsUnder}
 use Rattle.rpki_paths.specs.After.{FitsPath, IsAnchoredBySome, IsUnderSome, IsKeptBySome}
-use Rattle.rpki_paths.specs.After.{AreKeptBySome, AreAnchoredBySome}
+use Rattle.rpki_paths.specs.After.{AreKeptBySome, AreAnchoredBySome, KeepsNumbers}
 use Rattle.rpki_paths.specs.Supplied.{IsSupplied}
 use Rattle.rpki_paths.specs.Final.{some_has, all_anchored, IsWhole}
 use Rattle.rpki_paths.specs.Grant.{union_of}
@@ -155,6 +155,20 @@ module _ {C : Type 0} (cert : C → Cert) where
             ∙ ap (λ b. path_set p u.0 f n || b) (rest.2 f n),
       )
 
+  pub keeps-numbers : (supplies : List Supply) (kept : List (Path C)) (paths : List (List Cert))
+      → AreKeptBySome cert supplies kept paths → IsTrue (all_anchored kept)
+      → KeepsNumbers kept paths supplies
+  keeps-numbers supplies kept paths held d =
+      let t = anchors-some supplies kept paths held d in
+      record {
+        anchors = t.0;
+        anchored = t.1;
+        whole = λ attested f. (
+          (λ h n. h n ∙ t.2 f n),
+          (λ h n. h n ∙ sym (t.2 f n)),
+        );
+      }
+
 -- ---- supplies that are handed in
 
 module _ {X C F : Type 0} (cert : C → Cert) (of : X → Supply) (refuses : X → C → F → Type 0) where
@@ -205,16 +219,8 @@ module _ {X C F : Type 0} (cert : C → Cert) (of : X → Supply) (refuses : X �
   pub end_after_refusals : EndAfterRefusals cert of refuses
   end_after_refusals a ees crls walked kept xs valid m w after d =
       let held = all_keep_some xs [] walked kept w.paths after
-      (kept_is_kept_by_some cert [] walked w.paths w.are_kept) in
-      let t = anchors-some cert (map of xs) kept w.paths held d in (
+      (kept_is_kept_by_some cert [] walked w.paths w.are_kept) in (
         w.paths,
         walks_are_accepted cert a ees crls walked valid m w,
-        record {
-          anchors = t.0;
-          anchored = t.1;
-          whole = λ attested f. (
-            (λ h n. h n ∙ t.2 f n),
-            (λ h n. h n ∙ sym (t.2 f n)),
-          );
-        },
+        keeps-numbers cert (map of xs) kept w.paths held d,
       )

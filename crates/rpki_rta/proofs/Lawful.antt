@@ -6,14 +6,15 @@ use Rattle.rpki_certs.specs.Verify.{Verdict}
 use Rattle.rpki_sigobj.specs.Verify.{Digester}
 use Rattle.rpki_multi.specs.Attestation.{KeptWhole, whole_of}
 use Rattle.rpki_paths.specs.declared.supply.SupplyFault.{SupplyFault}
-use Rattle.rpki_paths.specs.After.{AreAfter, IsGrantedBySome, KeepsNumbers}
+use Rattle.rpki_paths.specs.After.{AreAfter, AreKeptBySome, IsGrantedBySome}
 use Rattle.rpki_paths.specs.Grant.{IsGranted}
 use Rattle.rpki_paths.specs.Supplied.{AnswersEach, AreSuppliedAll}
 use Rattle.rpki_paths.specs.Anchor.{Supply}
 use Rattle.rpki_paths.specs.Final.{Decides}
-use Rattle.rpki_paths.proofs.After.{end_after_refusals, yes_after_refusals}
+use Rattle.rpki_paths.proofs.After.{all_keep_some, keeps-numbers, kept_is_kept_by_some}
+use Rattle.rpki_paths.proofs.After.{yes_after_refusals}
 use Rattle.rpki_paths.proofs.Granting.{yes_is_granted as paths-granted, unsupplied_is_refused}
-use Rattle.rpki_paths.proofs.Granting.{undecided_is_refused}
+use Rattle.rpki_paths.proofs.Granting.{undecided_is_refused, walks_are_accepted}
 use Rattle.rpki_paths.proofs.Keeps.{all-stops}
 use Rattle.rpki_rta.specs.Begun.{Begun, Refuses, cert_of}
 use Rattle.rpki_rta.specs.Faults.{final_fault, supply_answer, supply_fault}
@@ -60,15 +61,23 @@ module _ {C : Type 0} (says : C → Verdict) where
       }
 
   pub end_after_supplies : (digests : C → Digester) → EndAfterSupplies digests says
-  end_after_supplies digests crypto now r supplies begun end b after anchored =
+  end_after_supplies digests crypto now r supplies begun end b after =
       let a = carried_by (digests crypto) (says crypto) (whole_of r) in
       let acc = b.accepted in
-      let t = end_after_refusals (cert_of says) (λ s. s) (Refuses says) a acc.ees acc.crls
-      begun.paths end.paths supplies acc.valid acc.paired.matching acc.walked
-      (paths-after supplies begun end after) anchored in (
+      let w = acc.walked in
+      let held = subst (λ l. AreKeptBySome (cert_of says) l end.paths w.paths) (same-list supplies)
+      (all_keep_some (cert_of says) (λ s. s) (Refuses says) supplies [] begun.paths end.paths
+      w.paths (paths-after supplies begun end after)
+      (kept_is_kept_by_some (cert_of says) [] begun.paths w.paths w.are_kept)) in (
         rta-after supplies begun end after ∙ b.of_rta,
-        record { valid = b.valid; paths = t.0; accepted = t.1 },
-        subst (λ l. KeepsNumbers end.paths t.0 l) (same-list supplies) t.2,
+        record {
+          valid = b.valid;
+          paths = w.paths;
+          accepted = walks_are_accepted (cert_of says) a acc.ees acc.crls begun.paths acc.valid
+              acc.paired.matching w;
+        },
+        held,
+        keeps-numbers (cert_of says) supplies end.paths w.paths held,
       )
 
   -- ---- supplies of which none is refused

@@ -6,6 +6,7 @@ pub mod Ending
 pub mod Handling
 pub mod Refusing
 pub mod Running
+pub mod Shortness
 pub mod Lawful
 pub mod Matching
 pub mod Supplying

@@ -82,13 +82,13 @@ module _ {C : Type 0} (digests : C → Digester) (says : C → Verdict) (crypto 
       cause-right (digests crypto) (says crypto) now (whole_of r) c w other dist
       (record { valid = g.valid; paths = g.granted.paths; accepted = g.granted.accepted })
   not-granted (NotSupplied c) w other dist g =
-      let acc = w.2.accepted in
+      let acc = w.2.1.accepted in
       unsupplied_is_refused (cert_of says) supply_in (RefusesIn says)
       (carried_by (digests crypto) (says crypto) (whole_of r)) acc.ees acc.crls w.0 w.1 supplies
       (attested_by r.content) c dist acc.paired.matching acc.walked
       (λ m. other (ap supply_fault m)) w.3 g.granted
   not-granted (NotGranted c) w other dist g =
-      let acc = w.2.accepted in
+      let acc = w.2.1.accepted in
       undecided_is_refused (cert_of says) supply_in (RefusesIn says)
       (carried_by (digests crypto) (says crypto) (whole_of r)) acc.ees acc.crls w.0 w.1 supplies
       (attested_by r.content) c dist acc.paired.matching acc.walked

@@ -31,7 +31,10 @@ module _ {C : Type 0} (digests : C → Digester) (says : C → Verdict) (crypto 
   module _ (begun after : Begun C) (b : IsBegun digests says crypto now r begun) where
     -- the same, of the attestation itself
     begins : BeginsWith digests says crypto now r begun.paths
-    begins = record { of_rta = refl; valid = b.valid; accepted = b.accepted; heads = b.heads }
+    begins = (
+      begun.verdicts,
+      record { of_rta = refl; valid = b.valid; accepted = b.accepted; heads = b.heads },
+    )
 
     stops : (fault : ValidationError) (answer : Result (Unit {0}) (SupplyFault ValidationError))
         → Err fault ≡ supply_answer answer

@@ -1,6 +1,6 @@
 -- A validation of an attestation that has begun, and what its calls answer
 -- (draft-michaelson-rpki-rta).
-use Rattle.std.specs.Prelude.{◌≡◌, List, Bool, Result, Ok, Err, All, option_map}
+use Rattle.std.specs.Prelude.{◌≡◌, ◌≤◌, ℕ, List, Bool, Result, Ok, Err, All, option_map}
 use Rattle.rpki_basics.specs.Moment.{Moment}
 use Rattle.rpki_faults.specs.Checks.{IsFirstFault}
 use Rattle.rpki_faults.specs.declared.validation.ValidationError.{ValidationError}
@@ -12,20 +12,22 @@ use Rattle.rpki_multi.specs.Attestation.{KeptWhole, Whole, whole_of}
 use Rattle.rpki_paths.specs.declared.decision.FinalFault.{FinalFault}
 use Rattle.rpki_paths.specs.declared.supply.SupplyFault.{SupplyFault}
 use Rattle.rpki_paths.specs.declared.walker.Path.{Path}
-use Rattle.rpki_paths.specs.Accepting.{AreAccepted}
+use Rattle.rpki_paths.specs.Accepting.{AreAccepted, most_verdicts}
 use Rattle.rpki_paths.specs.Anchor.{Supply}
 use Rattle.rpki_paths.specs.Cert.{Cert, IsIn}
 use Rattle.rpki_paths.specs.Final.{Decides}
 use Rattle.rpki_paths.specs.Supplied.{AnswersEach}
 use Rattle.rpki_rta.specs.Carried.{IsValid, seen_cert, set_of}
-use Rattle.rpki_rta.specs.Granted.{attested_by, carried_by}
+use Rattle.rpki_rta.specs.Granted.{IsDistinct, attested_by, carried_by}
 use Rattle.rpki_rta.specs.Faults.{final_fault, supply_answer}
 use Rattle.rpki_rta.specs.declared.carried.Carried.{Carried as Handle}
 
--- An attestation that is being validated, and what is kept of its paths.
+-- An attestation that is being validated, what is kept of its paths, and how many verdicts were
+-- asked to begin.
 pub record Begun (C : Type 0) : Type 0 where
   pub rta : KeptWhole
   pub paths : List (Path (Handle C))
+  pub verdicts : ℕ
 
 -- what paths see of the handle of a carried certificate
 abbrev pub cert_of : {C : Type 0} → (C → Verdict) → Handle C → Cert
@@ -55,6 +57,12 @@ pub record IsBegun {C : Type 0} (digests : C → Digester) (says : C → Verdict
       (carried_by (digests crypto) (says crypto) (whole_of r)) v.paths
   pub heads : HaveHandles crypto now (whole_of r) v.paths
 
+-- With distinct identifiers few verdicts were asked to begin: of s signers, l lists and a CAs, at
+-- most s + l + s * a (`most_verdicts`).
+abbrev pub AsksFew : {C : Type 0} → Digester → Verdict → Whole → Begun C → Type 0
+AsksFew digest verdict r v =
+    IsDistinct digest verdict r → v.verdicts ≤ most_verdicts (carried_by digest verdict r)
+
 -- what is supplied by a locator
 abbrev pub supply_of_tal : Locator → Supply
 supply_of_tal t = Supply.Tal t.key
@@ -79,10 +87,13 @@ Refuses says (Supply.Ca ski key sets) head fault = ⊥
 -- What a supply answers to the paths, its fault told as that of the whole, and what it leaves: on
 -- each path that is not anchored, in order, it changes nothing where it is not meant for the head,
 -- and anchors the path where it takes it; the first path that it is meant for and does not take
--- ends the call. The attestation stays.
+-- ends the call. The attestation stays, and so does the number of verdicts that were asked to
+-- begin. That heads are valid is no premise, though `seen_cert` takes it as given: a handle is made
+-- only of a certificate that is valid (`IsValid`).
 pub record AnswersSupply {C : Type 0} (says : C → Verdict) (s : Supply) (old new : Begun C)
     (result : Result Bool ValidationError) : Type 0 where
   pub of_rta : new.rta ≡ old.rta
+  pub of_verdicts : new.verdicts ≡ old.verdicts
   pub answer : Result Bool (SupplyFault ValidationError)
   pub each : AnswersEach (cert_of says) (Refuses says s) s old.paths new.paths answer
   pub told : result ≡ supply_answer answer

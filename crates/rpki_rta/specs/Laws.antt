@@ -1,5 +1,6 @@
 -- The laws of validations that public functions carry.
-use Rattle.std.specs.Prelude.{◌≡◌, ℕ, List, [], ◌∷◌, ◌++◌, Bool, Result, Ok, Err, IsTrue}
+use Rattle.std.specs.Prelude.{◌≡◌, ◌≤◌, ◌+◌, ℕ, List, [], ◌∷◌, ◌++◌, length, Bool, Result, Ok}
+use Rattle.std.specs.Prelude.{Err, IsTrue}
 use Rattle.sha1.specs.Sha1.{sha1}
 use Rattle.rpki_basics.specs.Moment.{Moment}
 use Rattle.rpki_faults.specs.declared.validation.ValidationError.{ValidationError}
@@ -8,16 +9,17 @@ use Rattle.rpki_certs.specs.Cert.{Certificate}
 use Rattle.rpki_certs.specs.Verify.{Verdict}
 use Rattle.rpki_sigobj.specs.SignerInfo.{KeptSigner}
 use Rattle.rpki_sigobj.specs.Verify.{Digester}
-use Rattle.rpki_multi.specs.Attestation.{KeptWhole, whole_of}
+use Rattle.rpki_multi.specs.Attestation.{KeptWhole, Whole, whole_of}
 use Rattle.rpki_multi.specs.Built.{IsSignedBy}
-use Rattle.rpki_paths.specs.After.{KeepsNumbers}
+use Rattle.rpki_paths.specs.After.{AreKeptBySome, KeepsNumbers}
 use Rattle.rpki_paths.specs.Anchor.{Supply}
+use Rattle.rpki_paths.specs.Cert.{Cert, IsIn}
 use Rattle.rpki_paths.specs.Final.{all_anchored}
 use Rattle.rpki_paths.specs.Pairing.{HasKey, IsVerifiedBy}
-use Rattle.rpki_rta.specs.Begun.{Begun, IsBegun, IsEnded, EndsWith, AnswersSupply}
+use Rattle.rpki_rta.specs.Begun.{Begun, IsBegun, IsEnded, EndsWith, AnswersSupply, cert_of}
 use Rattle.rpki_rta.specs.Carried.{seen_alone, seen_signer}
 use Rattle.rpki_rta.specs.Granted.{DeniesRightly, IsAcceptedRta, IsGrantedRta}
-use Rattle.rpki_rta.specs.Granted.{IsGrantedRtaBySome}
+use Rattle.rpki_rta.specs.Granted.{IsGrantedRtaBySome, carried_by}
 
 -- Supplies that are handed in one after the other, each to the paths as the one before it left
 -- them, whatever was answered.
@@ -38,18 +40,28 @@ YesAfterSupplies {C} digests says =
     IsEnded end →
     IsGrantedRtaBySome (digests crypto) (says crypto) now (whole_of r) supplies
 
--- Where the validation of an attestation has begun, and after any supplies, refused ones among
--- them, all paths are anchored, the attestation is still this one, it is accepted with some paths,
--- and what is kept tells their numbers (`KeepsNumbers`). So the end, which compares the attested
--- sets with what is kept (`EndsWith`), says no but for memory exactly where a set is not the union
--- of the sets of these paths, each anchored by a supply that is meant for it and takes it.
+-- Where the validation of an attestation has begun, after any supplies, refused ones among them,
+-- the attestation is still this one, it is accepted with some paths, and this is kept of each of
+-- them (`AreKeptBySome`): its explicit sets, where it is not anchored, and else these with those of
+-- a supply that is meant for it and took it. Where all are anchored, what is kept tells their
+-- numbers (`KeepsNumbers`): so the end, which compares the attested sets with what is kept
+-- (`EndsWith`), says no but for memory exactly where a set is not the union of the sets of these
+-- paths.
 abbrev pub EndAfterSupplies : {C : Type 0} → (C → Digester) → (C → Verdict) → Type 0
 EndAfterSupplies {C} digests says =
     (crypto : C) (now : Moment) (r : KeptWhole) (supplies : List Supply) (begun end : Begun C) →
     IsBegun digests says crypto now r begun → AreAfterSupplies says supplies begun end →
-    IsTrue (all_anchored end.paths) →
     (end.rta ≡ r) × (a : IsAcceptedRta (digests crypto) (says crypto) now (whole_of r))
-    × KeepsNumbers end.paths a.paths supplies
+    × AreKeptBySome (cert_of says) supplies end.paths a.paths
+    × (IsTrue (all_anchored end.paths) → KeepsNumbers end.paths a.paths supplies)
+
+-- Each path of an attestation that is accepted has its end entity, and at most as many CAs above it
+-- as are carried.
+abbrev pub AcceptedPathsAreShort : Type 0
+AcceptedPathsAreShort =
+    (digest : Digester) (verdict : Verdict) (now : Moment) (r : Whole)
+    (a : IsAcceptedRta digest verdict now r) (p : List Cert) → IsIn p a.paths →
+    length p ≤ 1 + length (carried_by digest verdict r).cas
 
 -- Supplies that are handed in one after the other, each to the paths as the one before it left
 -- them, none of which is refused.

@@ -1,5 +1,5 @@
 -- Why an attestation is refused, in the order of what is asked (draft-michaelson-rpki-rta).
-use Rattle.std.specs.Prelude.{◌≡◌, List, Result}
+use Rattle.std.specs.Prelude.{◌≡◌, ℕ, List, Result}
 use Rattle.rpki_basics.specs.Moment.{Moment}
 use Rattle.rpki_faults.specs.Checks.{IsFirstFault}
 use Rattle.rpki_faults.specs.declared.validation.ValidationError.{ValidationError}
@@ -64,11 +64,11 @@ pub record SuppliesAll {C : Type 0} (says : C → Verdict)
       answer
   pub told : result ≡ supply_answer answer
 
--- The validation of this attestation begins with these paths.
+-- The validation of this attestation begins with these paths, whatever number of verdicts it asks.
 abbrev pub BeginsWith : {C : Type 0} → (C → Digester) → (C → Verdict) → C → Moment → KeptWhole →
     List (Path (Handle C)) → Type 0
 BeginsWith digests says crypto now r paths =
-    IsBegun digests says crypto now r (record { rta = r; paths = paths })
+    (n : ℕ) × IsBegun digests says crypto now r (record { rta = r; paths = paths; verdicts = n })
 
 -- Why an attestation is not granted under some supplies, handed in one after the other: it is not
 -- accepted; or its validation begins, and a supply is meant for a path and does not take it, as

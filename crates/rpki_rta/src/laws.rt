@@ -1,6 +1,7 @@
 //! What the definitions say of validations: laws, as functions that do nothing.
 
-ghost use Rattle.rpki_rta.specs.Laws.{EndAfterSupplies, MadeSignersMatch, NoIsRight};
+ghost use Rattle.rpki_rta.specs.Laws.{AcceptedPathsAreShort, EndAfterSupplies};
+ghost use Rattle.rpki_rta.specs.Laws.{MadeSignersMatch, NoIsRight};
 ghost use Rattle.rpki_rta.specs.Laws.{RefusedSupplyIsRight, YesAfterSupplies, YesIsGranted};
 
 use rpki_basics::{Crypto, Signer};
@@ -11,12 +12,18 @@ pub fn yes_after_supplies<C: Crypto>()
     ensures { YesAfterSupplies C.digest_of C.is_signed }
 {}
 
-/// After any supplies, refused ones among them, where all paths are anchored, what
-/// `Validation::finalize` compares the attested sets with are the sets of the paths, each anchored
-/// by some supply that is meant for it and takes it. So it says no, but for memory, exactly where
-/// an attested set is not their union.
+/// After any supplies, refused ones among them, what is kept of each path are its explicit sets,
+/// where it is not anchored, and else these with those of a supply that is meant for it and took
+/// it. Where all paths are anchored, what `Validation::finalize` compares the attested sets with
+/// are the sets of the paths under these supplies: so it says no, but for memory, exactly where an
+/// attested set is not their union.
 pub fn end_after_supplies<C: Crypto>()
     ensures { EndAfterSupplies C.digest_of C.is_signed }
+{}
+
+/// Each path of an accepted attestation has at most as many CAs as are carried.
+pub fn accepted_paths_are_short()
+    ensures { AcceptedPathsAreShort }
 {}
 
 /// Where no supply is refused, a yes of `Validation::finalize` means that the attestation is

@@ -11,8 +11,8 @@ mod supply;
 mod unchecked;
 mod validation;
 mod verdict;
+mod verdict_total;
 mod whole;
 
-pub use rpki_paths::VerdictCount;
 pub use validation::Validation;
 pub use whole::{Supply, run};

@@ -1,17 +1,17 @@
 //! The validation of a multi-signed attestation (draft-michaelson-rpki-rta).
 
-ghost use Rattle.std.specs.Prelude.{◌≡◌, ◌≤◌, ◌<◌, ◌+◌, IfOk, IfErr, OnOk};
+ghost use Rattle.std.specs.Prelude.{◌≡◌, ◌<◌, IfOk, IfErr, OnOk};
 ghost use Rattle.rpki_faults.specs.declared.validation.ValidationError.TheVariants.{Memory};
 ghost use Rattle.rpki_multi.specs.Attestation.{whole_of};
-ghost use Rattle.rpki_paths.specs.Accepting.{most_verdicts};
-ghost use Rattle.rpki_rta.specs.Begun.{AnswersSupply, IsBegun, IsEnded, EndsWith};
+ghost use Rattle.rpki_rta.specs.Begun.{AnswersSupply, AsksFew, IsBegun, IsEnded, EndsWith};
 ghost use Rattle.rpki_rta.specs.Begun.{supply_of_ca, supply_of_tal};
-ghost use Rattle.rpki_rta.specs.Granted.{IsAcceptedRta, IsDistinct, RefusesRightly, carried_by};
+ghost use Rattle.rpki_rta.specs.Granted.{IsAcceptedRta, RefusesRightly};
 ghost use Rattle.rpki_rta.specs.Refused.{WhyRefused};
 
 use crate::carried::Carried;
 use crate::faults::{of_end, of_supply};
 use crate::handles::{accepted, attested_in};
+use crate::verdict_total::VerdictTotal;
 use rpki_basics::{Clock, Crypto, Time};
 use rpki_certs::ResourceCert;
 use rpki_faults::ValidationError;
@@ -24,12 +24,15 @@ use std::marker::{Brand, Model};
 use std::sync::ledger::{Blank, Ledger};
 
 /// An attestation that is being validated: what it carries is accepted, and its paths wait for what
-/// anchors them. Contracts see it as the attestation and what is kept of the paths.
+/// anchors them. Contracts see it as the attestation, what is kept of the paths, and how many
+/// verdicts were asked to begin.
 #[derive(Drop)]
 #[derive_where(Debug)]
 pub struct Validation<'a, C> {
     rta: &'a Rta,
     pub(crate) paths: Vec<Path<Carried<'a, C>>>,
+    #[derive_where(skip)]
+    verdicts: VerdictTotal,
 }
 
 impl<'a, C> Model for Validation<'a, C> {
@@ -37,7 +40,11 @@ impl<'a, C> Model for Validation<'a, C> {
 
     ghost Value = { Begun C };
 
-    ghost view = { λ v. record { rta = v.rta.now; paths = v.paths.items } };
+    ghost view = { λ v. record {
+      rta = v.rta.now;
+      paths = v.paths.items;
+      verdicts = v.verdicts.number;
+    } };
 }
 
 impl<'a, C> Clone for Validation<'a, C> {
@@ -47,45 +54,54 @@ impl<'a, C> Clone for Validation<'a, C> {
         Ok(Validation {
             rta: self.rta,
             paths: self.paths.clone()?,
+            verdicts: VerdictTotal::of(&self.verdicts),
         })
     }
 }
 
-// Begins a validation, with a count of its own.
-fn begin_counted<'a, C: Crypto, L: Ledger>(
-    alloc: Global,
-    rta: &'a Rta,
-    strict: bool,
-    crypto: &'a C,
-    now: Time,
-    blank: Blank,
-) -> Result<Validation<'a, C>, ValidationError>
-    requires name { blank.name ≡ L.name }
-    requires parts { blank.parts ≡ L.parts }
-    requires some { 0 < blank.parts }
-    ensures begun { IfOk result (IsBegun C.digest_of C.is_signed crypto.now now rta.now) }
-    ensures accepted { OnOk result (IsAcceptedRta (C.digest_of crypto.now)
-        (C.is_signed crypto.now) now (whole_of rta.now)) }
-    ensures refused { IfErr result (RefusesRightly (C.digest_of crypto.now)
-        (C.is_signed crypto.now) now (whole_of rta.now)) }
-    ensures why { IfErr result (WhyRefused (C.digest_of crypto.now) (C.is_signed crypto.now)
-        now (whole_of rta.now)) }
-{
-    let mut asked = VerdictCount::<L>::new(blank);
-    Validation::new_counted(alloc, rta, strict, crypto, now, &mut asked)
-}
-
 impl<'a, C: Crypto> Validation<'a, C> {
-    /// Begins the validation of an attestation at a moment, and counts the verdicts that it asks
-    /// for (draft-michaelson-rpki-rta, section 5). All goes in carried order. Certificate by
-    /// certificate: it is inspected, as that of an end entity where it has no basic constraints, as
-    /// that of a trust anchor where it is self-signed by its form, else as that of a CA; the moment
-    /// lies in its validity; and one of a CA takes the first revocation list that is left, names it
-    /// and was signed by its key. Then signer by signer: it takes the first subject key that is
-    /// left and its own, its digest is that of the content, and it takes the first certificate of
-    /// an end entity that is left, that it names and whose key verifies it. Then no subject key may
-    /// be left over, no revocation list, and no certificate of an end entity. Then a path is walked
-    /// from the certificate of each signer, and each CA has to stand on one of them.
+    // Begins a validation, and counts the verdicts that it asks on a ledger of its own.
+    fn begin<L: Ledger>(
+        alloc: Global,
+        rta: &'a Rta,
+        crypto: &'a C,
+        now: Time,
+        blank: Blank,
+    ) -> Result<Self, ValidationError>
+        requires name { blank.name ≡ L.name }
+        requires parts { blank.parts ≡ L.parts }
+        requires some { 0 < blank.parts }
+        ensures begun { IfOk result (IsBegun C.digest_of C.is_signed crypto.now now rta.now) }
+        ensures accepted { OnOk result (IsAcceptedRta (C.digest_of crypto.now)
+            (C.is_signed crypto.now) now (whole_of rta.now)) }
+        ensures refused { IfErr result (RefusesRightly (C.digest_of crypto.now)
+            (C.is_signed crypto.now) now (whole_of rta.now)) }
+        ensures why { IfErr result (WhyRefused (C.digest_of crypto.now) (C.is_signed crypto.now)
+            now (whole_of rta.now)) }
+        ensures few { IfOk result (AsksFew (C.digest_of crypto.now) (C.is_signed crypto.now)
+            (whole_of rta.now)) }
+    {
+        let asked = &mut VerdictCount::<L>::new(blank);
+        match accepted(alloc, rta, crypto, now, asked) {
+            Ok(paths) => Ok(Validation {
+                rta,
+                paths,
+                verdicts: VerdictTotal::of(asked),
+            }),
+            Err(fault) => Err(fault),
+        }
+    }
+
+    /// Begins the validation of an attestation at a moment (draft-michaelson-rpki-rta, section 5).
+    /// All goes in carried order. Certificate by certificate: it is inspected, as that of an end
+    /// entity where it has no basic constraints, as that of a trust anchor where it is self-signed
+    /// by its form, else as that of a CA; the moment lies in its validity; and one of a CA takes
+    /// the first revocation list that is left, names it and was signed by its key. Then signer by
+    /// signer: it takes the first subject key that is left and its own, its digest is that of the
+    /// content, and it takes the first certificate of an end entity that is left, that it names and
+    /// whose key verifies it. Then no subject key may be left over, no revocation list, and no
+    /// certificate of an end entity. Then a path is walked from the certificate of each signer, and
+    /// each CA has to stand on one of them.
     ///
     /// Refuses by the first of these that fails: the fault of the certificate, `MissingCrl`,
     /// `UnknownKey`, `SignerDigest`, `MissingCertificate`, `UnusedSubjectKeys`, `UnusedCrls`,
@@ -93,13 +109,12 @@ impl<'a, C: Crypto> Validation<'a, C> {
     /// `UnusedCaCertificates`; or by `Memory`. Of s signers, l revocation lists and a CAs with
     /// distinct identifiers, at most s + l + s * a verdicts are asked where it succeeds. `strict`
     /// changes nothing.
-    pub fn new_counted<L: Ledger>(
+    pub fn new_at(
         alloc: Global,
         rta: &'a Rta,
         _strict: bool,
         crypto: &'a C,
         now: Time,
-        asked: &mut VerdictCount<L>,
     ) -> Result<Self, ValidationError>
         ensures begun { IfOk result (IsBegun C.digest_of C.is_signed crypto.now now rta.now) }
         ensures accepted { OnOk result (IsAcceptedRta (C.digest_of crypto.now)
@@ -108,37 +123,14 @@ impl<'a, C: Crypto> Validation<'a, C> {
             (C.is_signed crypto.now) now (whole_of rta.now)) }
         ensures why { IfErr result (WhyRefused (C.digest_of crypto.now) (C.is_signed crypto.now)
             now (whole_of rta.now)) }
-        ensures cost { OnOk result (IsDistinct (C.digest_of crypto.now) (C.is_signed crypto.now)
-            (whole_of rta.now) → asked.new ≤ asked.old + most_verdicts
-            (carried_by (C.digest_of crypto.now) (C.is_signed crypto.now) (whole_of rta.now))) }
+        ensures few { IfOk result (AsksFew (C.digest_of crypto.now) (C.is_signed crypto.now)
+            (whole_of rta.now)) }
     {
-        match accepted(alloc, rta, crypto, now, asked) {
-            Ok(paths) => Ok(Validation { rta, paths }),
-            Err(fault) => Err(fault),
-        }
-    }
-
-    /// Begins the validation of an attestation at a moment. Asks and refuses as `new_counted` does.
-    pub fn new_at(
-        alloc: Global,
-        rta: &'a Rta,
-        strict: bool,
-        crypto: &'a C,
-        now: Time,
-    ) -> Result<Self, ValidationError>
-        ensures begun { IfOk result (IsBegun C.digest_of C.is_signed crypto.now now rta.now) }
-        ensures accepted { OnOk result (IsAcceptedRta (C.digest_of crypto.now)
-            (C.is_signed crypto.now) now (whole_of rta.now)) }
-        ensures refused { IfErr result (RefusesRightly (C.digest_of crypto.now)
-            (C.is_signed crypto.now) now (whole_of rta.now)) }
-        ensures why { IfErr result (WhyRefused (C.digest_of crypto.now) (C.is_signed crypto.now)
-            now (whole_of rta.now)) }
-    {
-        begin_counted::<C, Brand>(alloc, rta, strict, crypto, now, Blank::new(1))
+        Validation::<C>::begin::<Brand>(alloc, rta, crypto, now, Blank::new(1))
     }
 
     /// Begins the validation of an attestation at the moment that the clock tells. Asks and refuses
-    /// as `new_counted` does.
+    /// as `new_at` does.
     pub fn new<K: Clock>(
         alloc: Global,
         rta: &'a Rta,
@@ -154,6 +146,8 @@ impl<'a, C: Crypto> Validation<'a, C> {
             (C.is_signed crypto.now) (K.moment clock.now) (whole_of rta.now)) }
         ensures why { IfErr result (WhyRefused (C.digest_of crypto.now) (C.is_signed crypto.now)
             (K.moment clock.now) (whole_of rta.now)) }
+        ensures few { IfOk result (AsksFew (C.digest_of crypto.now) (C.is_signed crypto.now)
+            (whole_of rta.now)) }
     {
         Validation::new_at(alloc, rta, strict, crypto, clock.now())
     }

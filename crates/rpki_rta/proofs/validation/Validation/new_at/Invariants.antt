@@ -1,5 +1,5 @@
 -- The verdicts are counted by a blank of their own.
 use Rattle.rpki_rta.proofs.validation.Validation.new_at.Given as goal
 
-abbrev pub ghosts-begin_counted : goal.ghosts-begin_counted
-ghosts-begin_counted g a = record { name = a.blank.name; parts = a.blank.parts }
+abbrev pub ghosts-begin : goal.ghosts-begin
+ghosts-begin g a = record { name = a.blank.name; parts = a.blank.parts }

@@ -21,6 +21,7 @@ returns g c =
     ] in
     record {
       of_rta = ap (λ v. v.rta) c.self.view_is;
+      of_verdicts = ap (λ v. v.verdicts) c.self.view_is;
       answer = c.supply_each.result;
       each = subst (λ l. AnswersEach cert refuses s l
           (take paths.len (new ++ drop (length new) paths.items)) c.supply_each.result)

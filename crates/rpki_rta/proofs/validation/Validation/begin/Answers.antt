@@ -2,7 +2,7 @@
 use Rattle.rpki_multi.specs.Attestation.{whole_of}
 use Rattle.rpki_rta.specs.Begun.{cert_of}
 use Rattle.rpki_rta.proofs.Refusing.{is-accepted, why-refused}
-use Rattle.rpki_rta.proofs.validation.Validation.new_counted.Goals as goal
+use Rattle.rpki_rta.proofs.validation.Validation.begin.Goals as goal
 
 pub returns-in-Ok-clause-accepted : goal.returns-in-Ok-clause-accepted
 returns-in-Ok-clause-accepted g c =
