@@ -117,7 +117,7 @@ granted-or-not verdict now words object files run yes distinct (inr other) = of 
     of (inl empty) = empty yes.rta yes.rest yes.front.found
     of (inr begun) =
         let same : begun.object ≡ yes.rta =
-            (yes.front.only begun.object begun.rest begun.front.found).0 in
+        (yes.front.only begun.object begun.rest begun.front.found).0 in
         subst (λ (r : attested.Whole). IsDistinct sha256 verdict r
         → ¬ (IsGrantedRta sha256 verdict now r (map supply_of other.anchors))) same begun.holds
         distinct here
