@@ -36,9 +36,10 @@ def aspa(customer, first, last):
 
 def aspas():
     for options, count, is_good in (
-        ([], 9_999, True), ([], 10_000, True), ([], 10_001, False), ([], 16_380, False),
-        ([], 16_381, False), (["--wide"], 10_000, True), (["--wide"], 10_001, True),
-        (["--wide"], 16_380, True), (["--wide"], 16_381, False),
+        ([], 9_999, True), ([], 10_000, True), ([], 10_001, False), ([], 16_379, False),
+        ([], 16_380, False), ([], 16_381, False), (["--wide"], 10_000, True),
+        (["--wide"], 10_001, True), (["--wide"], 16_379, True), (["--wide"], 16_380, True),
+        (["--wide"], 16_381, False),
     ):
         lines = "".join(f"provider AS{it}\n" for it in range(2, count + 2))
         yield {"name": " ".join([f"ASPA of {count:,} providers", *options]),
