@@ -61,9 +61,9 @@ def functions(path):
     lines = [re.sub(r'\s*//.*|"(?:[^"\\]|\\.)*"', "", line) for line in path.read_text().split("\n")]
     subject = ""
     for number, line in enumerate(lines):
-        if match := re.match(r"impl\b(?:<.*?>(?= \w))? ?(.*?) ?\{?$", line):
+        if match := re.match(r"impl\b(?:<.*?>(?= \w))? ?([^{}]*?) ?\{?$", line):
             subject = match[1].split(" for ")[-1]
-        elif line == "}":
+        elif line == "}" or re.match(r"\S.*\{\}$", line):
             subject = ""
         match = re.match(r"( *)(?:pub(?:\([^)]*\))? )?(?:final |const )*fn (\w+)", line)
         opening = opening_of(lines, number, match[1]) if match else None
