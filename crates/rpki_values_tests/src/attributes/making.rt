@@ -5,7 +5,7 @@ use crate::reads::{is_written, joined};
 use bytes::Bytes;
 use rpki_attributes::{AttrsFault, MessageDigest, SignedAttrs};
 use rpki_basics::standin::StandIn;
-use rpki_basics::{Crypto, Digest, Time};
+use rpki_basics::{Crypto, Time};
 use rpki_der::Oid;
 use std::alloc::{AllocError, Global};
 
@@ -75,28 +75,17 @@ fn make(alloc: Global, (oid, zeros, year): Values) -> Result<Option<SignedAttrs>
     made(SignedAttrs::new(alloc, &oid, &digest, time))
 }
 
-/// Whether the attributes say these values.
-fn say(attrs: &SignedAttrs, (oid, zeros, year): Values) -> bool {
-    let digest = attrs.message_digest().as_slice();
-    attrs.content_type().as_slice() == oid
-        && digest.len() == zeros
-        && digest.iter().all(|octet| *octet == 0)
-        && Time::utc(year, 1, 1, 0, 0, 0) == Some(attrs.signing_time())
-}
-
-/// Whether the attributes say these values, are written as these octets, and are signed as a
-/// message with this head and these contents.
+/// Whether the attributes are written as these octets, and are signed as a message with this head
+/// and these contents.
 fn is_right(
     alloc: Global,
     attrs: SignedAttrs,
-    values: Values,
     written: &[u8],
     head: &[u8],
     contents: &[u8],
 ) -> Result<bool, AllocError> {
-    let is_said = say(&attrs, values);
     let is_written = is_written(alloc, &attrs.encode_ref(), written);
-    Ok(is_message(alloc, Ok(attrs), head, contents)? && is_said && is_written?)
+    Ok(is_message(alloc, Ok(attrs), head, contents)? && is_written?)
 }
 
 /// Whether the copy of what is made of these values is of these attributes.
@@ -109,7 +98,7 @@ fn is_made(alloc: Global, values: Values, len: &[u8], parts: &[&[u8]]) -> Result
         Some(attrs) => {
             let copy: Result<_, _> = attrs.clone();
             drop(attrs);
-            is_right(alloc, copy?, values, &written, &head, &contents)
+            is_right(alloc, copy?, &written, &head, &contents)
         }
     }
 }
@@ -131,15 +120,6 @@ fn is_of_content(alloc: Global) -> Result<bool, AllocError> {
     }
 }
 
-/// Whether a digest is written so.
-fn is_digest(alloc: Global) -> Result<bool, AllocError> {
-    let digest = MessageDigest::from(Bytes::copy_from_slice(alloc, b"hash")?);
-    Ok(
-        is_written(alloc, &digest.encode_ref(), b"\x04\x04hash")?
-            && digest != MessageDigest::from_digest(alloc, &Digest::new([7; 32]))?,
-    )
-}
-
 #[test]
 fn making(rt: HostRuntime) -> Result<(), AllocError> {
     let alloc = rt.alloc();
@@ -148,6 +128,8 @@ fn making(rt: HostRuntime) -> Result<(), AllocError> {
     }
     assert!(rt; make(alloc, (ROA, 65454, 2024))?.is_some());
     assert!(rt; make(alloc, (ROA, 65455, 2024))?.is_none());
-    assert!(rt; is_of_content(alloc)? && is_digest(alloc)?);
+    let digest = MessageDigest::from(Bytes::from_static(b"hash"));
+    let is_written = is_written(alloc, &digest.encode_ref(), b"\x04\x04hash")?;
+    assert!(rt; is_written && is_of_content(alloc)?);
     Ok(())
 }

@@ -181,43 +181,68 @@ fn are_answers(
     )
 }
 
-/// An attribute of the type 1.2.3 whose value has this number of octets.
-fn padding(alloc: Global, len: usize) -> Result<Vec<u8>, AllocError> {
-    let string = value(alloc, 4, &vec![in alloc; 0u8; len]?)?;
-    let set = value(alloc, 0x31, &string)?;
-    value(alloc, 0x30, &joined(alloc, &[b"\x06\x02\x2A\x03", &set])?)
-}
+/// The contents of the types 1.2.3 and of a digest, in an OBJECT IDENTIFIER.
+const OTHER_OID: &[u8] = b"\x06\x02\x2A\x03";
 
-/// The attribute of a digest with so many zeros.
-fn digest(alloc: Global, len: usize) -> Result<Vec<u8>, AllocError> {
-    let string = value(alloc, 4, &vec![in alloc; 0u8; len]?)?;
-    let set = value(alloc, 0x31, &string)?;
-    let kind: &[u8] = b"\x06\x09\x2A\x86\x48\x86\xF7\x0D\x01\x09\x04";
-    value(alloc, 0x30, &joined(alloc, &[kind, &set])?)
-}
+const DIGEST_OID: &[u8] = b"\x06\x09\x2A\x86\x48\x86\xF7\x0D\x01\x09\x04";
 
-/// How many octets an attribute of the type 1.2.3 has in its value, how many all attributes have
-/// with it, and how the message begins, if they are read.
-static PADDED: [(usize, usize, &[u8]); 6] = [
-    (10, 127, b"\x31\x7F"),
-    (11, 128, b"\x31\x81\x80"),
-    (135, 255, b"\x31\x81\xFF"),
-    (136, 256, b"\x31\x82\x01\0"),
-    (65412, 65535, b"\x31\x82\xFF\xFF"),
-    (65413, 65536, b""),
+/// An attribute that is added: its type, and how many zeros its value has; the attribute after it;
+/// how many octets all have with it; why they are refused strictly; and how the message begins that
+/// is read of them, if one is.
+type Padding = (
+    &'static [u8],
+    usize,
+    &'static [u8],
+    usize,
+    &'static str,
+    &'static [u8],
+);
+
+static LENGTHS: [Padding; 9] = [
+    (OTHER_OID, 10, DIGEST, 127, TYPE_IS_OTHER, b"\x31\x7F"),
+    (OTHER_OID, 11, DIGEST, 128, TYPE_IS_OTHER, b"\x31\x81\x80"),
+    (OTHER_OID, 135, DIGEST, 255, TYPE_IS_OTHER, b"\x31\x81\xFF"),
+    (
+        OTHER_OID,
+        136,
+        DIGEST,
+        256,
+        TYPE_IS_OTHER,
+        b"\x31\x82\x01\0",
+    ),
+    (
+        OTHER_OID,
+        65412,
+        DIGEST,
+        65535,
+        TYPE_IS_OTHER,
+        b"\x31\x82\xFF\xFF",
+    ),
+    (OTHER_OID, 65413, DIGEST, 65536, TYPE_IS_OTHER, b""),
+    (DIGEST_OID, 32, b"", 107, "", b"\x31\x6B"),
+    (DIGEST_OID, 65454, b"", 65535, "", b"\x31\x82\xFF\xFF"),
+    (DIGEST_OID, 65455, b"", 65536, TOO_LONG, b""),
 ];
 
-/// Whether attributes that are padded so are refused strictly, and signed so as a message.
-fn is_padded(alloc: Global, len: usize, total: usize, head: &[u8]) -> Result<bool, AllocError> {
-    let padding = padding(alloc, len)?;
-    let contents = joined(alloc, &[TYPE, TIME, &padding, DIGEST])?;
+/// The content type, the time and these attributes.
+fn padded(alloc: Global, oid: &[u8], zeros: usize, after: &[u8]) -> Result<Vec<u8>, AllocError> {
+    let string = value(alloc, 4, &vec![in alloc; 0u8; zeros]?)?;
+    let set = value(alloc, 0x31, &string)?;
+    let attribute = value(alloc, 0x30, &joined(alloc, &[oid, &set])?)?;
+    joined(alloc, &[TYPE, TIME, &attribute, after])
+}
+
+/// Whether attributes that are padded so are answered so, strictly and as a message.
+fn is_padded(alloc: Global, row: &Padding) -> Result<bool, AllocError> {
+    let (oid, zeros, after, total, why, head) = *row;
+    let contents = padded(alloc, oid, zeros, after)?;
     Ok(
         contents.len() == total
             && is_answer(
                 alloc,
                 read(alloc, &contents, Mode::Der, true)?,
-                b"",
-                TYPE_IS_OTHER,
+                &contents,
+                why,
             )?
             && is_message(
                 alloc,
@@ -226,22 +251,6 @@ fn is_padded(alloc: Global, len: usize, total: usize, head: &[u8]) -> Result<boo
                 &contents,
             )?,
     )
-}
-
-/// How many zeros a digest has, how many octets all attributes have with it, and how the message
-/// begins, if they are read.
-static LONGEST: [(usize, usize, &[u8]); 3] = [
-    (32, 107, b"\x31\x6B"),
-    (65454, 65535, b"\x31\x82\xFF\xFF"),
-    (65455, 65536, b""),
-];
-
-/// Whether attributes with such a digest are signed so, strictly read.
-fn is_long(alloc: Global, len: usize, total: usize, head: &[u8]) -> Result<bool, AllocError> {
-    let digest = digest(alloc, len)?;
-    let contents = joined(alloc, &[TYPE, TIME, &digest])?;
-    let answer = read(alloc, &contents, Mode::Ber, true)?;
-    Ok(contents.len() == total && is_message(alloc, answer, head, &contents)?)
 }
 
 #[test]
@@ -258,11 +267,8 @@ fn rows(rt: HostRuntime) -> Result<(), AllocError> {
 
 #[test]
 fn lengths(rt: HostRuntime) -> Result<(), AllocError> {
-    for (len, total, head) in &PADDED {
-        assert!(rt; is_padded(rt.alloc(), *len, *total, head)?);
-    }
-    for (len, total, head) in &LONGEST {
-        assert!(rt; is_long(rt.alloc(), *len, *total, head)?);
+    for row in &LENGTHS {
+        assert!(rt; is_padded(rt.alloc(), row)?);
     }
     Ok(())
 }

@@ -32,12 +32,9 @@ pub static DIGESTS: [(&[u8], [u8; 32]); 3] = [
     ),
 ];
 
-// Whether the stand-in's digests are these.
-fn are_digests() -> bool {
-    DIGESTS.iter().all(|(octets, want)| StandIn.digest(octets).as_slice() == want.as_slice())
-}
-
 #[test]
 fn digests(rt: HostRuntime) {
-    assert!(rt; are_digests());
+    for (octets, want) in &DIGESTS {
+        assert!(rt; StandIn.digest(octets).as_slice() == want.as_slice());
+    }
 }

@@ -1,7 +1,7 @@
-//! Streams that move one octet a call and fail at one of them, and those over writers and readers.
+//! Streams that move one octet a call, and fail at one of them.
 
 use rpki_der::drip::{DripSink, DripSource};
-use rpki_der::{Counted, Sink, Source, SourceError};
+use rpki_der::{Sink, Source, SourceError};
 use std::alloc::{AllocError, Global};
 
 static WHOLE: [u8; 13] = [0x30, 0x0B, 2, 2, 0, 0x80, 0x31, 5, 4, 3, 7, 7, 7];
@@ -30,27 +30,12 @@ fn is_given(alloc: Global, fails_at: u64) -> Result<bool, AllocError> {
     Ok(is_whole == (fails_at == 0) && source.calls() == calls)
 }
 
-/// Whether these octets are written by a writer into a vector, and read again, in one call each.
-fn are_moved(alloc: Global, octets: &[u8]) -> Result<bool, AllocError> {
-    let mut sink = Counted::new(Vec::with_capacity(alloc, octets.len())?);
-    let is_taken = sink.take_all(octets).is_ok();
-    let written = sink.into_inner();
-    Ok(is_taken && is_read(alloc, &mut Counted::new(written.as_slice()), octets)?)
-}
-
 #[test]
 fn streams(rt: HostRuntime) -> Result<(), AllocError> {
     let alloc = rt.alloc();
     for k in 0..14usize {
         assert!(rt; is_full(alloc, k)? && is_given(alloc, k as u64)?);
     }
-    let mut none = [0u8; 0];
-    let mut full = Counted::new(&mut none[..]);
-    assert!(rt;
-        is_given(alloc, 14)?
-            && are_moved(alloc, &vec![in alloc; 6u8; 2000]?)?
-            && full.take(b"a").is_err()
-            && full.take(b"").is_ok()
-    );
+    assert!(rt; is_given(alloc, 14)?);
     Ok(())
 }

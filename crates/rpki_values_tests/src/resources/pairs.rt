@@ -1,6 +1,5 @@
 //! Rows of sets that are joined, intersected, covered and claimed.
 
-use super::octets::Addresses;
 use super::sets::{Numbers, as_set, ip_set};
 use rpki_resources::{
     Addr, AsBlock, AsBlocks, AsBlocksBuilder, AsResourcesBuilder, Asn, Blocks, BlocksBuilder,
@@ -40,28 +39,6 @@ static PAIRS: [(Numbers, Numbers, Numbers, Numbers); 10] = [
     (&[(1, 5), (7, 7)], &[(6, 6)], &[(1, 7)], &[]),
 ];
 
-/// The same of addresses: those of two prefixes that overlap, touch, and lie apart.
-static ADDRESSES: [(Addresses, Addresses, Addresses, Addresses); 3] = [
-    (
-        &[(10 << 120, (12 << 120) - 1)],
-        &[(11 << 120, (13 << 120) - 1)],
-        &[(10 << 120, (13 << 120) - 1)],
-        &[(11 << 120, (12 << 120) - 1)],
-    ),
-    (
-        &[(0, (1 << 127) - 1)],
-        &[(1 << 127, u128::MAX)],
-        &[(0, u128::MAX)],
-        &[],
-    ),
-    (
-        &[(0, 7), (u128::MAX, u128::MAX)],
-        &[(0, 7)],
-        &[(0, 7), (u128::MAX, u128::MAX)],
-        &[(0, 7)],
-    ),
-];
-
 /// Whether what two sets make is this, and one covers the other where both have all of it.
 fn is_pair<T: Number>(
     first: &Blocks<T>,
@@ -94,21 +71,11 @@ fn are_pairs(alloc: Global) -> Result<bool, AllocError> {
             return Ok(false);
         }
     }
-    for (first, second, all, both) in &ADDRESSES {
-        if !is_pair(
-            &ip_set(alloc, first)?,
-            &ip_set(alloc, second)?,
-            &ip_set(alloc, all)?,
-            &ip_set(alloc, both)?,
-        )? {
-            return Ok(false);
-        }
-    }
     Ok(true)
 }
 
 /// Whether a claim gives this set. Want of memory is handed on.
-fn gives<T: Number>(
+pub fn gives<T: Number>(
     alloc: Global,
     claim: &Resources<T>,
     set: &Blocks<T>,
@@ -140,18 +107,14 @@ fn are_claims<T: Number>(alloc: Global, set: &Blocks<T>) -> Result<bool, AllocEr
     )
 }
 
-/// Whether a builder that inherited has what was added then, and a refused call leaves it.
+/// Whether the copy of a builder that inherited has what was added then.
 fn are_built(alloc: Global) -> Result<bool, AllocError> {
     let mut builder = AsResourcesBuilder::new(alloc);
     builder.inherit();
     builder.blocks(|blocks| blocks.push(AsBlock::Id(Asn::from_u32(4))))?;
     builder.push_set(&as_set(alloc, &[(5, 5)])?)?;
-    let refused = builder.blocks(|blocks| {
-        *blocks = AsBlocksBuilder::new(alloc);
-        Err(AllocError)
-    });
     let claim = builder.clone()?.finalize()?;
-    Ok(refused.is_err() && gives(alloc, &claim, &as_set(alloc, &[(4, 5)])?)?)
+    gives(alloc, &claim, &as_set(alloc, &[(4, 5)])?)
 }
 
 /// The same of addresses.
@@ -161,12 +124,8 @@ fn are_addresses_built(alloc: Global) -> Result<bool, AllocError> {
     let eight = IpBlock::Prefix(Prefix::new(Addr::from_bits(8), 127));
     builder.blocks(|blocks| blocks.push(eight))?;
     builder.push_set(&ip_set(alloc, &[(10, 10)])?)?;
-    let refused = builder.blocks(|blocks| {
-        *blocks = IpBlocksBuilder::new(alloc);
-        Err(AllocError)
-    });
     let claim = builder.clone()?.finalize()?;
-    Ok(refused.is_err() && gives(alloc, &claim, &ip_set(alloc, &[(8, 10)])?)?)
+    gives(alloc, &claim, &ip_set(alloc, &[(8, 10)])?)
 }
 
 /// Whether the copy of a builder to which a set was added builds it.
@@ -174,14 +133,6 @@ fn is_added<T: Number>(alloc: Global, set: &Blocks<T>) -> Result<bool, AllocErro
     let mut builder = BlocksBuilder::new(alloc);
     builder.push_set(set)?;
     Ok(builder.clone()?.finalize()? == *set)
-}
-
-/// Whether this set is claimed.
-fn is_explicit(claim: &Claim<AsBlocks>, set: &AsBlocks) -> bool {
-    match claim {
-        Claim::Explicit(found) => found == set,
-        Claim::Missing | Claim::Inherit => false,
-    }
 }
 
 /// Whether a builder to which the blocks of a set were added at once builds it.
@@ -200,42 +151,46 @@ fn are_addresses_extended(alloc: Global, set: &IpBlocks) -> Result<bool, AllocEr
     Ok(builder.finalize()? == *set)
 }
 
-/// Whether copies of claims, of what stands for the families and of iterators are alike.
+/// Whether copies of claims, of what stands for the families, and of what goes over sets are alike.
 fn are_copied(alloc: Global) -> Result<bool, AllocError> {
-    let set = ip_set(alloc, &[(0, 7)])?;
-    let numbers = as_set(alloc, &[(1, 2), (8, 8)])?;
-    let claim = Claim::Explicit(numbers.clone()?).clone()?;
-    let families = ByFamily {
-        v4: Some(set.clone()?),
-        v6: None,
-    }
-    .clone()?;
-    let few = SmallAsnSet::from_ascending(Vec::from_slice(alloc, &[Asn::MIN, Asn::MAX])?).clone()?;
+    let two = [Asn::from_u32(1), Asn::from_u32(7)];
+    let few = SmallAsnSet::from_ascending(Vec::from_slice(alloc, &two)?);
     Ok(
-        is_explicit(&claim, &numbers)
-            && families.v4.as_ref() == Some(&set)
-            && families.v6.is_none()
-            && few.as_slice() == [Asn::MIN, Asn::MAX].as_slice()
-            && numbers.iter().clone()?.count() == 2
-            && set.iter().clone()?.next()
-                == Some(IpBlock::Prefix(Prefix::new(Addr::from_bits(0), 125))),
+        few.clone()?.as_slice() == two.as_slice()
+            && matches!(
+                Claim::Explicit(as_set(alloc, &[(1, 2)])?).clone()?,
+                Claim::Explicit(_)
+            )
+            && as_set(alloc, &[(1, 2), (8, 8)])?.iter().clone()?.count() == 2,
     )
+}
+
+/// The same of addresses.
+fn are_addresses_copied(alloc: Global, set: IpBlocks) -> Result<bool, AllocError> {
+    let is_all = set.iter().clone()?.count() == 2;
+    let families = ByFamily {
+        v4: Some(set),
+        v6: None,
+    };
+    let copy = families.clone()?;
+    Ok(is_all && copy.v4 == families.v4 && copy.v6.is_none())
 }
 
 #[test]
 fn sets(rt: HostRuntime) -> Result<(), AllocError> {
     let alloc = rt.alloc();
-    assert!(rt; are_pairs(alloc)? && are_copied(alloc)?);
-    assert!(rt; are_built(alloc)? && are_addresses_built(alloc)?);
-    let numbers = as_set(alloc, &[(1, 5), (9, 9)])?;
     assert!(rt;
-        are_claims(alloc, &numbers)? && is_added(alloc, &numbers)? && is_extended(alloc, &numbers)?
+        are_pairs(alloc)? && are_copied(alloc)? && are_built(alloc)? && are_addresses_built(alloc)?
     );
-    let addresses = ip_set(alloc, &[(1, 5), (9, 9)])?;
+    let set = as_set(alloc, &[(1, 5), (9, 9)])?;
+    assert!(rt; are_claims(alloc, &set)? && is_added(alloc, &set)? && is_extended(alloc, &set)?);
+    let set = ip_set(alloc, &[(1, 5), (9, 9)])?;
     assert!(rt;
-        are_claims(alloc, &addresses)?
-            && is_added(alloc, &addresses)?
-            && are_addresses_extended(alloc, &addresses)?
+        is_pair(&set, &set, &set, &set)?
+            && are_claims(alloc, &set)?
+            && is_added(alloc, &set)?
+            && are_addresses_extended(alloc, &set)?
+            && are_addresses_copied(alloc, set)?
     );
     Ok(())
 }
