@@ -1,12 +1,10 @@
 //! Tests of `rpki_routes`, each a table of rows that one small function walks.
 //!
 //! The expected values follow from RFC 9582, RFC 3779 and the ASPA profile by hand. A test hands
-//! want of memory on and asserts everything else. Long contents, and what is cut short, are in the
-//! sweeps.
+//! want of memory on and asserts everything else. Long contents are in the sweeps.
 
 mod aspas;
 mod built;
 mod built_roas;
 mod calls;
-mod limits;
 mod roas;

@@ -1,7 +1,7 @@
 //! Contents of manifests that are built: what they are written as, or why they are refused.
 
+use crate::contents::{Answer, Row, are_so, is_built};
 use rpki_basics::{BuildError, DigestAlgorithm, ManifestRule, Serial, Time};
-use rpki_der::{Encode, EncodeError};
 use rpki_files::{FileAndHash, ManifestContent};
 use std::alloc::{AllocError, Global};
 
@@ -12,45 +12,58 @@ type FileRow = (&'static [u8], &'static [u8]);
 type FileRows = &'static [FileRow];
 
 /// A rule, the day and the second of January 2024 of thisUpdate, entries, and what the content is
-/// written as, whose number is 12 and whose nextUpdate is the beginning of 2024-01-08.
-static BUILT: [(ManifestRule, (u8, u8), FileRows, &[u8]); 8] = [
-    (
+/// written as, whose number is 12 and whose nextUpdate is the beginning of 2024-01-08, or why it is
+/// refused.
+struct Built(ManifestRule, (u8, u8), FileRows, Answer<'static>);
+
+static ROWS: [Built; 17] = [
+    Built(
         ManifestRule::Any,
         (1, 0),
         &[(b"file.cer", b"hash"), (b"file.cer", b"hash")],
-        b"0X\x02\x01\x0C\x18\x0F20240101000000Z\x18\x0F20240108000000Z\x06\x09`\x86H\x01e\
+        Ok(
+            b"0X\x02\x01\x0C\x18\x0F20240101000000Z\x18\x0F20240108000000Z\x06\x09`\x86H\x01e\
           \x03\x04\x02\x010&0\x11\x16\x08file.cer\x03\x05\x00hash0\x11\x16\x08file.cer\x03\
           \x05\x00hash",
+        ),
     ),
-    (
+    Built(
         ManifestRule::Any,
         (1, 0),
         &[(b"file.cer", b"hash")],
-        b"0E\x02\x01\x0C\x18\x0F20240101000000Z\x18\x0F20240108000000Z\x06\x09`\x86H\x01e\
+        Ok(
+            b"0E\x02\x01\x0C\x18\x0F20240101000000Z\x18\x0F20240108000000Z\x06\x09`\x86H\x01e\
           \x03\x04\x02\x010\x130\x11\x16\x08file.cer\x03\x05\x00hash",
+        ),
     ),
-    (
+    Built(
         ManifestRule::Registered,
         (1, 0),
         &[(b"file.cer", b"hash")],
-        b"0E\x02\x01\x0C\x18\x0F20240101000000Z\x18\x0F20240108000000Z\x06\x09`\x86H\x01e\
+        Ok(
+            b"0E\x02\x01\x0C\x18\x0F20240101000000Z\x18\x0F20240108000000Z\x06\x09`\x86H\x01e\
           \x03\x04\x02\x010\x130\x11\x16\x08file.cer\x03\x05\x00hash",
+        ),
     ),
-    (
+    Built(
         ManifestRule::Any,
         (1, 0),
         &[(b"unknownextension.abc", b"\x01\x02")],
-        b"0O\x02\x01\x0C\x18\x0F20240101000000Z\x18\x0F20240108000000Z\x06\x09`\x86H\x01e\
+        Ok(
+            b"0O\x02\x01\x0C\x18\x0F20240101000000Z\x18\x0F20240108000000Z\x06\x09`\x86H\x01e\
           \x03\x04\x02\x010\x1D0\x1B\x16\x14unknownextension.abc\x03\x03\x00\x01\x02",
+        ),
     ),
-    (
+    Built(
         ManifestRule::Registered,
         (1, 0),
         &[(b"correct.ASA", b"")],
-        b"0D\x02\x01\x0C\x18\x0F20240101000000Z\x18\x0F20240108000000Z\x06\x09`\x86H\x01e\
+        Ok(
+            b"0D\x02\x01\x0C\x18\x0F20240101000000Z\x18\x0F20240108000000Z\x06\x09`\x86H\x01e\
           \x03\x04\x02\x010\x120\x10\x16\x0Bcorrect.ASA\x03\x01\x00",
+        ),
     ),
-    (
+    Built(
         ManifestRule::Registered,
         (1, 0),
         &[
@@ -58,35 +71,37 @@ static BUILT: [(ManifestRule, (u8, u8), FileRows, &[u8]); 8] = [
             (b"a.cer", b"\x00"),
             (b"A.cer", b"hash"),
         ],
-        b"0\\\x02\x01\x0C\x18\x0F20240101000000Z\x18\x0F20240108000000Z\x06\x09`\x86H\x01e\
+        Ok(
+            b"0\\\x02\x01\x0C\x18\x0F20240101000000Z\x18\x0F20240108000000Z\x06\x09`\x86H\x01e\
           \x03\x04\x02\x010*0\x0B\x16\x05b.roa\x03\x02\x00\xFF0\x0B\x16\x05a.cer\x03\x02\x00\
           \x000\x0E\x16\x05A.cer\x03\x05\x00hash",
+        ),
     ),
-    (
+    Built(
         ManifestRule::Registered,
         (1, 0),
         &[],
-        b"02\x02\x01\x0C\x18\x0F20240101000000Z\x18\x0F20240108000000Z\x06\x09`\x86H\x01e\
+        Ok(
+            b"02\x02\x01\x0C\x18\x0F20240101000000Z\x18\x0F20240108000000Z\x06\x09`\x86H\x01e\
           \x03\x04\x02\x010\x00",
+        ),
     ),
-    (
+    Built(
         ManifestRule::Any,
         (8, 0),
         &[],
-        b"02\x02\x01\x0C\x18\x0F20240108000000Z\x18\x0F20240108000000Z\x06\x09`\x86H\x01e\
+        Ok(
+            b"02\x02\x01\x0C\x18\x0F20240108000000Z\x18\x0F20240108000000Z\x06\x09`\x86H\x01e\
           \x03\x04\x02\x010\x00",
+        ),
     ),
-];
-
-/// A rule, the day and the second of thisUpdate, entries, and why they are refused.
-static REFUSED: [(ManifestRule, (u8, u8), FileRows, &str); 9] = [
-    (
+    Built(
         ManifestRule::Any,
         (8, 1),
         &[(b"file.cer", b"hash")],
-        "thisUpdate is after nextUpdate",
+        Err("thisUpdate is after nextUpdate"),
     ),
-    (
+    Built(
         ManifestRule::Registered,
         (8, 1),
         &[
@@ -94,49 +109,49 @@ static REFUSED: [(ManifestRule, (u8, u8), FileRows, &str); 9] = [
             (b"a.abc", b""),
             (b"a.abc", b""),
         ],
-        "thisUpdate is after nextUpdate",
+        Err("thisUpdate is after nextUpdate"),
     ),
-    (
+    Built(
         ManifestRule::Any,
         (8, 0),
         &[(b"file.cer", b""), (b"bar", b"")],
-        "bad file name",
+        Err("bad file name"),
     ),
-    (
+    Built(
         ManifestRule::Any,
         (1, 0),
         &[(b"", b"hash"), (b"file.cer", b"")],
-        "bad file name",
+        Err("bad file name"),
     ),
-    (
+    Built(
         ManifestRule::Registered,
         (1, 0),
         &[(b"a.abc", b""), (b"a.abc", b""), (b"bar.a00", b"")],
-        "bad file name",
+        Err("bad file name"),
     ),
-    (
+    Built(
         ManifestRule::Registered,
         (1, 0),
         &[(b"unknownextension.abc", b"hash")],
-        "file type not registered",
+        Err("file type not registered"),
     ),
-    (
+    Built(
         ManifestRule::Registered,
         (1, 0),
         &[(b"a.cer", b""), (b"a.cer", b""), (b"a.abc", b"")],
-        "file type not registered",
+        Err("file type not registered"),
     ),
-    (
+    Built(
         ManifestRule::Registered,
         (1, 0),
         &[(b"file.cer", b"hash"), (b"file.cer", b"hash")],
-        "repeated file name",
+        Err("repeated file name"),
     ),
-    (
+    Built(
         ManifestRule::Registered,
         (1, 0),
         &[(b"a.cer", b"1"), (b"b.cer", b"2"), (b"a.cer", b"3")],
-        "repeated file name",
+        Err("repeated file name"),
     ),
 ];
 
@@ -181,82 +196,32 @@ fn again(alloc: Global, content: &ManifestContent) -> Result<ManifestContent, Bu
     )
 }
 
-/// Whether a content is written as these octets.
-fn is_written(alloc: Global, content: &ManifestContent, wanted: &[u8]) -> Result<bool, BuildError> {
-    match content.encode_ref().to_bytes(alloc) {
-        Ok(found) => Ok(found.as_slice() == wanted),
-        Err(EncodeError::Memory) => Err(BuildError::Memory),
-        Err(_) => Ok(false),
-    }
-}
-
-/// Whether the content of the entries of another one is written as these octets.
-fn is_written_again(
+/// The content of these entries, built of what one of them hands out.
+fn copied(
     alloc: Global,
-    content: &ManifestContent,
-    wanted: &[u8],
-) -> Result<bool, BuildError> {
-    let again = again(alloc, content)?;
-    let is = is_written(alloc, &again, wanted);
-    drop(again);
-    is
-}
-
-/// Whether the content of a row, and that of its entries, are written as these octets.
-fn are_written(
-    alloc: Global,
-    content: &ManifestContent,
-    wanted: &[u8],
-) -> Result<bool, BuildError> {
-    Ok(is_written(alloc, content, wanted)? && is_written_again(alloc, content, wanted)?)
-}
-
-/// Whether this is what each row is written as.
-fn are_built(alloc: Global) -> Result<bool, BuildError> {
-    for (rule, this, entries, wanted) in &BUILT {
-        let content = content(alloc, *rule, *this, *entries)?;
-        let is = are_written(alloc, &content, wanted);
-        drop(content);
-        if !is? {
-            return Ok(false);
+    rule: ManifestRule,
+    this: (u8, u8),
+    entries: FileRows,
+) -> Result<ManifestContent, BuildError> {
+    match content(alloc, rule, this, entries) {
+        Ok(content) => {
+            let copy = again(alloc, &content);
+            drop(content);
+            copy
         }
-    }
-    Ok(true)
-}
-
-/// Whether this is why the content is refused.
-fn is_refused(alloc: Global, answer: &BuildError, wanted: &str) -> Result<bool, AllocError> {
-    match answer {
-        BuildError::Memory => Err(AllocError),
-        error => Ok(format!(in alloc; "{error}")?.as_str() == wanted),
+        Err(error) => Err(error),
     }
 }
 
-/// Whether each row is refused as it says.
-fn are_refused(alloc: Global) -> Result<bool, AllocError> {
-    for (rule, this, entries, wanted) in &REFUSED {
-        let is = match content(alloc, *rule, *this, *entries) {
-            Ok(content) => {
-                drop(content);
-                false
-            }
-            Err(error) => is_refused(alloc, &error, wanted)?,
-        };
-        if !is {
-            return Ok(false);
-        }
+impl Row for Built {
+    fn is_so(&self, alloc: Global) -> Result<bool, AllocError> {
+        let Built(rule, this, entries, wanted) = self;
+        is_built(alloc, copied(alloc, *rule, *this, *entries), *wanted)
     }
-    Ok(true)
 }
 
 #[test]
-fn contents_are_built(rt: HostRuntime) -> Result<(), BuildError> {
-    assert!(rt; are_built(rt.alloc())?);
-    Ok(())
-}
-
-#[test]
-fn contents_are_refused(rt: HostRuntime) -> Result<(), AllocError> {
-    assert!(rt; are_refused(rt.alloc())?);
+fn contents_are_built(rt: HostRuntime) -> Result<(), AllocError> {
+    assert!(rt; are_so(rt.alloc(), &ROWS)?);
     Ok(())
 }

@@ -1,12 +1,14 @@
-//! Hashes, single entries, a manifest that gets stale, and the URIs of its files.
+//! Hashes, single entries, names of files, a manifest that gets stale, and the URIs of its files.
 
+use crate::contents::is_written;
 use bytes::Bytes;
 use rpki_basics::standin::StandIn;
-use rpki_basics::{DigestAlgorithm, ManifestRule, Rsync, Time};
-use rpki_der::{DecodeError, Encode, EncodeError, LowerHex};
+use rpki_basics::{DigestAlgorithm, ManifestRule, Rsync, Time, uri};
+use rpki_der::{DecodeError, Encode};
 use rpki_faults::VerificationError;
 use rpki_files::{
     FileAndHash, FileNameAndHash, ManifestContent, ManifestHash, ManifestHashMismatch,
+    ManifestUriIter,
 };
 use std::alloc::{AllocError, Global};
 
@@ -30,48 +32,57 @@ fn is_other(hash: &ManifestHash) -> bool {
     cut != *hash && cut.verify(&StandIn, b"foobar").is_err()
 }
 
+/// Whether a copy of the hash is it.
+fn is_hash_copied(hash: &ManifestHash) -> Result<bool, AllocError> {
+    let copy = hash.clone()?;
+    Ok(copy == *hash && is_hash(&copy) && is_other(&copy))
+}
+
+/// Whether a hash of other octets is told.
+fn is_mismatch_told(alloc: Global) -> Result<bool, AllocError> {
+    let mismatch = ManifestHashMismatch;
+    let text = format!(in alloc; "{mismatch}")?;
+    let is_told = text.as_str() == "manifest hash mismatch";
+    Ok(is_told && VerificationError::from(mismatch) == VerificationError::ManifestHash)
+}
+
 #[test]
 fn hashes(rt: HostRuntime) -> Result<(), AllocError> {
     let hash = ManifestHash::new(Bytes::from_static(&FOOBAR[..]), DigestAlgorithm::sha256());
-    let copy = hash.clone()?;
-    assert!(rt; copy == hash && is_hash(&copy) && is_other(&hash));
-    let mismatch = ManifestHashMismatch;
-    let text = format!(in rt.alloc(); "{mismatch}")?;
-    assert_eq!(rt; text.as_str(), "manifest hash mismatch");
-    assert!(rt; VerificationError::from(mismatch) == VerificationError::ManifestHash);
+    assert!(rt; is_hash_copied(&hash)? && is_mismatch_told(rt.alloc())?);
     Ok(())
 }
 
-/// Whether an entry of a manifest is written as these octets.
-fn is_written(
-    alloc: Global,
-    entry: &FileAndHash<&'static [u8], &'static [u8]>,
-    wanted: &[u8],
-) -> Result<bool, AllocError> {
-    match entry.encode_ref().to_bytes(alloc) {
-        Ok(found) => Ok(found.as_slice() == wanted),
-        Err(EncodeError::Memory) => Err(AllocError),
-        Err(_) => Ok(false),
-    }
+/// Whether a copy of an entry of a manifest has its parts.
+fn is_entry_copied(entry: &FileAndHash<&'static [u8], &'static [u8]>) -> Result<bool, AllocError> {
+    let copy = entry.clone()?;
+    let is_equal = copy.file() == entry.file() && copy.hash() == entry.hash();
+    let (file, hash) = copy.into_pair();
+    Ok(is_equal && file == &b"a.cer"[..] && hash == &b"h"[..])
+}
+
+/// Whether a copy of an entry of a checklist has its parts.
+fn is_named_copied(entry: &FileNameAndHash<Bytes, Bytes>) -> Result<bool, AllocError> {
+    let (name, hash) = entry.clone()?.into_pair();
+    Ok(
+        name.as_ref() == entry.file_name()
+            && hash == *entry.hash()
+            && name.is_some()
+            && hash.as_slice() == b"h".as_slice(),
+    )
 }
 
 #[test]
 fn entries(rt: HostRuntime) -> Result<(), AllocError> {
     let entry = FileAndHash::new(&b"a.cer"[..], &b"h"[..]);
-    assert!(rt; *entry.file() == &b"a.cer"[..] && *entry.hash() == &b"h"[..]);
-    assert!(rt; is_written(rt.alloc(), &entry, b"\x30\x0B\x16\x05a.cer\x03\x02\x00h")?);
-    let (file, hash) = entry.clone()?.into_pair();
-    assert!(rt; file == &b"a.cer"[..] && hash == &b"h"[..]);
-    Ok(())
-}
-
-#[test]
-fn entries_of_checklists(rt: HostRuntime) -> Result<(), AllocError> {
+    let written = entry.encode_ref().to_bytes(rt.alloc());
     let (name, hash): (Bytes, Bytes) = (Bytes::from_static(b"a"), Bytes::from_static(b"h"));
-    let entry = FileNameAndHash::new(Some(name), hash);
-    let (name, hash) = entry.clone()?.into_pair();
-    assert!(rt; name.as_ref() == entry.file_name() && hash == *entry.hash());
-    assert!(rt; name.is_some() && hash.as_slice() == b"h".as_slice());
+    let named = FileNameAndHash::new(Some(name), hash);
+    assert!(rt;
+        is_written(written, b"\x30\x0B\x16\x05a.cer\x03\x02\x00h")?
+            && is_entry_copied(&entry)?
+            && is_named_copied(&named)?
+    );
     Ok(())
 }
 
@@ -81,25 +92,54 @@ static TWO: &[u8] = b"0U\x02\x01\x0C\x18\x0F20240101000000Z\x18\x0F2024010800000
     \x86H\x01e\x03\x04\x02\x010#0\x11\x16\x08file.cer\x03\x05\x00hash0\x0E\x16\x05A.roa\x03\x05\
     \x00HASH";
 
+/// Where a manifest is published, and the URIs of these files.
+static BASES: [(&[u8], [&str; 2]); 5] = [
+    (
+        b"rsync://example.com/m/p",
+        [
+            "rsync://example.com/m/p/file.cer",
+            "rsync://example.com/m/p/A.roa",
+        ],
+    ),
+    (
+        b"rsync://example.com/m/p/",
+        [
+            "rsync://example.com/m/p/file.cer",
+            "rsync://example.com/m/p/A.roa",
+        ],
+    ),
+    (
+        b"rsync://example.com/m",
+        [
+            "rsync://example.com/m/file.cer",
+            "rsync://example.com/m/A.roa",
+        ],
+    ),
+    (
+        b"rsync://example.com/m/",
+        [
+            "rsync://example.com/m/file.cer",
+            "rsync://example.com/m/A.roa",
+        ],
+    ),
+    (
+        b"RSYNC://a:1/m/q?/..x/",
+        [
+            "RSYNC://a:1/m/q?/..x/file.cer",
+            "RSYNC://a:1/m/q?/..x/A.roa",
+        ],
+    ),
+];
+
+/// The hashes of these files.
+static HASHES: [&[u8]; 2] = [b"hash", b"HASH"];
+
 /// Whether the manifest is stale from this second of 2024-01-08 on.
 fn is_stale(manifest: &ManifestContent, second: u8) -> bool {
     match Time::utc(2024, 1, 8, 0, 0, second) {
         Some(now) => manifest.is_stale(now),
         None => false,
     }
-}
-
-/// The URIs of the files below this text, and their hashes.
-fn uris_text(alloc: Global, manifest: &ManifestContent) -> Result<String, AllocError> {
-    let mut text = String::new(alloc);
-    if let Ok(base) = Rsync::from_bytes(Bytes::from_static(b"rsync://example.com/m/p")) {
-        for item in manifest.iter_uris(alloc, &base).clone()? {
-            let (uri, hash) = item?;
-            let (uri, hash) = (uri.as_str(), LowerHex(hash.as_slice()));
-            text.push_str(&format!(in alloc; "{uri} {hash};")?)?;
-        }
-    }
-    Ok(text)
 }
 
 /// Whether the manifest has both files, and is stale after its next update.
@@ -111,35 +151,59 @@ fn is_told(manifest: &ManifestContent) -> bool {
         && is_stale(manifest, 1)
 }
 
-/// Whether a copy of the manifest is told so, and the URIs of its files.
-fn told_text(alloc: Global, manifest: &ManifestContent) -> Result<String, AllocError> {
-    let copied: Result<_, _> = manifest.clone();
-    let copy = copied?;
-    let is_told = is_told(&copy);
-    let text = uris_text(alloc, &copy);
-    drop(copy);
-    let text = text?;
-    format!(in alloc; "{is_told} {text}")
+/// Whether the next file has this URI and this hash.
+fn is_next(uris: &mut ManifestUriIter<'_>, uri: &str, hash: &[u8]) -> Result<bool, AllocError> {
+    match uris.next() {
+        Some(Ok((found, digest))) => Ok(found.as_str() == uri && digest.as_slice() == hash),
+        Some(Err(error)) => Err(error),
+        None => Ok(false),
+    }
 }
 
-/// What is told of the manifest, or why it is refused.
-fn answer(alloc: Global) -> Result<String, AllocError> {
-    match ManifestContent::decode(alloc, Bytes::from_static(TWO), ManifestRule::Registered) {
-        Ok(manifest) => {
-            let text = told_text(alloc, &manifest);
-            drop(manifest);
-            text
-        }
-        Err(DecodeError::Memory) => Err(AllocError),
-        Err(error) => format!(in alloc; "{error}"),
+/// Whether the files have these URIs, and the last one is the next of a copy of what is left.
+fn are_uris(uris: &mut ManifestUriIter<'_>, wanted: &[&str; 2]) -> Result<bool, AllocError> {
+    let is_first = is_next(uris, wanted[0], HASHES[0])?;
+    let mut copy = uris.clone()?;
+    let is_last = is_next(uris, wanted[1], HASHES[1])? && is_next(&mut copy, wanted[1], HASHES[1])?;
+    Ok(is_first && is_last && copy.next().is_none())
+}
+
+/// Whether the files have these URIs below this base.
+fn is_below(
+    alloc: Global,
+    manifest: &ManifestContent,
+    base: &[u8],
+    wanted: &[&str; 2],
+) -> Result<bool, AllocError> {
+    match Rsync::from_bytes(Bytes::copy_from_slice(alloc, base)?) {
+        Ok(base) => are_uris(&mut manifest.iter_uris(alloc, &base), wanted),
+        Err(uri::Error::Memory) => Err(AllocError),
+        Err(_) => Ok(false),
     }
+}
+
+/// Whether they have those of each base.
+fn are_below(alloc: Global, manifest: &ManifestContent) -> Result<bool, AllocError> {
+    for (base, wanted) in &BASES {
+        if !is_below(alloc, manifest, base, wanted)? {
+            return Ok(false);
+        }
+    }
+    Ok(true)
 }
 
 #[test]
 fn a_manifest(rt: HostRuntime) -> Result<(), AllocError> {
-    assert_eq!(rt;
-        answer(rt.alloc())?.as_str(),
-        "true rsync://example.com/m/p/file.cer 68617368;rsync://example.com/m/p/A.roa 48415348;"
-    );
+    let alloc = rt.alloc();
+    match ManifestContent::decode(alloc, Bytes::from_static(TWO), ManifestRule::Registered) {
+        Ok(manifest) => {
+            let is = is_told(&manifest);
+            let are = are_below(alloc, &manifest);
+            drop(manifest);
+            assert!(rt; is && are?);
+        }
+        Err(DecodeError::Memory) => return Err(AllocError),
+        Err(_) => assert!(rt; false),
+    }
     Ok(())
 }

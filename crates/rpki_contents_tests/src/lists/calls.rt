@@ -1,80 +1,81 @@
 //! Calls by themselves: the text of a refusal, a list that is made of octets, and copies.
 
 use super::numbers::{NOT_ASCENDING, Numbers, in_order};
+use crate::contents::{Row, are_so};
 use bytes::Bytes;
 use rpki_der::{Constructed, DecodeError, Mode};
 use rpki_lists::{EntryList, Refused, SliceReader};
 use std::alloc::{AllocError, Global};
 
 /// Why an entry is refused, and the text that says so.
-static REFUSED: [(Refused, &str); 3] = [
-    (Refused::Malformed, "malformed"),
-    (Refused::For("name is too long"), "name is too long"),
-    (
+struct Said(Refused, &'static str);
+
+static TEXTS: [Said; 3] = [
+    Said(Refused::Malformed, "malformed"),
+    Said(Refused::For("name is too long"), "name is too long"),
+    Said(
         Refused::For(NOT_ASCENDING),
         "numbers are not in ascending order",
     ),
 ];
 
-fn are_said(alloc: Global) -> Result<bool, AllocError> {
-    for (refused, text) in &REFUSED {
-        if format!(in alloc; "{refused}")?.as_str() != *text {
-            return Ok(false);
-        }
+impl Row for Said {
+    fn is_so(&self, alloc: Global) -> Result<bool, AllocError> {
+        let Said(refused, text) = self;
+        Ok(format!(in alloc; "{refused}")?.as_str() == *text)
     }
-    Ok(true)
 }
 
-/// Octets in DER, and whether they are numbers and which.
-static CONTENTS: [(&[u8], &str); 5] = [
-    (b"", "0 true:"),
-    (b"\x02\x01\x05", "1 false: 5"),
-    (b"\x02\x01\x05\x02\x01\x04", "2 false: 5 4"),
-    (b"\x02\x01\x05\x02", "none"),
-    (b"\x02\x81\x01\x05", "none"),
+/// Octets in DER, and the numbers that they are, if they are some.
+struct Made(&'static [u8], Option<&'static [u32]>);
+
+static LISTS: [Made; 5] = [
+    Made(b"", Some(&[])),
+    Made(b"\x02\x01\x05", Some(&[5])),
+    Made(b"\x02\x01\x05\x02\x01\x04", Some(&[5, 4])),
+    Made(b"\x02\x01\x05\x02", None),
+    Made(b"\x02\x81\x01\x05", None),
 ];
 
-/// How many numbers there are, whether there is none, and which.
-fn text_of(alloc: Global, list: &EntryList<Numbers>) -> Result<String, AllocError> {
-    let (len, is_empty) = (list.len(), list.is_empty());
-    let mut text = format!(in alloc; "{len} {is_empty}:")?;
-    for n in in_order(list).clone()? {
-        text.push_str(&format!(in alloc; " {n}")?)?;
-    }
-    Ok(text)
+/// Whether the list has these numbers, and a copy of what is to come.
+fn are_numbers(list: &EntryList<Numbers>, wanted: &[u32]) -> Result<bool, AllocError> {
+    let copied = in_order(list).clone()?;
+    Ok(
+        list.len() == wanted.len()
+            && list.is_empty() == wanted.is_empty()
+            && in_order(list).eq(wanted.iter().copied())
+            && copied.eq(wanted.iter().copied()),
+    )
 }
 
-/// What a copy of the list of these octets says.
-fn made(alloc: Global, octets: &[u8]) -> Result<String, AllocError> {
-    match EntryList::of(Bytes::copy_from_slice(alloc, octets)?) {
-        Some(list) => {
-            let copied: Result<_, _> = list.clone();
-            drop(list);
-            text_of(alloc, &copied?)
+impl Row for Made {
+    fn is_so(&self, alloc: Global) -> Result<bool, AllocError> {
+        let Made(octets, wanted) = self;
+        match (
+            EntryList::of(Bytes::copy_from_slice(alloc, octets)?),
+            wanted,
+        ) {
+            (Some(list), Some(wanted)) => {
+                let copied: Result<EntryList<Numbers>, AllocError> = list.clone();
+                drop(list);
+                are_numbers(&copied?, wanted)
+            }
+            (None, None) => Ok(true),
+            _ => Ok(false),
         }
-        None => format!(in alloc; "none"),
     }
 }
 
-fn are_made(alloc: Global) -> Result<bool, AllocError> {
-    for (octets, text) in &CONTENTS {
-        if made(alloc, octets)?.as_str() != *text {
-            return Ok(false);
-        }
-    }
-    Ok(true)
+/// The numbers of a list, in no order.
+fn free() -> Result<EntryList<Numbers>, DecodeError> {
+    let source = Bytes::from_static(b"\x30\x06\x02\x01\x05\x02\x01\x04");
+    Constructed::decode(source, Mode::Der, |cons| EntryList::take_from(cons))
 }
 
 /// Whether numbers that do not ascend are read, where no rule asks for that.
-fn are_free(alloc: Global) -> Result<bool, AllocError> {
-    let source = Bytes::from_static(b"\x30\x06\x02\x01\x05\x02\x01\x04");
-    let read: Result<EntryList<Numbers>, DecodeError> = Constructed::decode(
-        source,
-        Mode::Der,
-        |cons| EntryList::take_from(cons),
-    );
-    match read {
-        Ok(list) => Ok(text_of(alloc, &list)?.as_str() == "2 false: 5 4"),
+fn are_free() -> Result<bool, AllocError> {
+    match free() {
+        Ok(list) => are_numbers(&list, &[5, 4]),
         Err(DecodeError::Memory) => Err(AllocError),
         Err(_) => Ok(false),
     }
@@ -90,6 +91,6 @@ fn is_again() -> bool {
 #[test]
 fn calls(rt: HostRuntime) -> Result<(), AllocError> {
     let alloc = rt.alloc();
-    assert!(rt; are_said(alloc)? && are_made(alloc)? && are_free(alloc)? && is_again());
+    assert!(rt; are_so(alloc, &TEXTS)? && are_so(alloc, &LISTS)? && are_free()? && is_again());
     Ok(())
 }

@@ -1,163 +1,109 @@
 //! What contents hand out: sets, claims, origins, single addresses, and copies.
 
+use super::built_roas::ip_of;
 use super::{aspas, roas};
+use crate::contents::{Row, are_so, is_written};
+use bytes::Bytes;
 use rpki_basics::ProviderLimit;
-use rpki_der::{Encode, EncodeError};
-use rpki_resources::{Addr, AddressFamily, Claim, Prefix};
+use rpki_der::{DecodeError, Encode};
+use rpki_resources::{Addr, AddressFamily, AsBlock, Asn, Claim, Prefix};
 use rpki_routes::{
-    AsProviderAttestation, FriendlyRoaIpAddress, RoaIpAddress, RouteOriginAttestation,
+    AsProviderAttestation, FriendlyRoaIpAddress, ProviderAsSet, RoaIpAddress, RoaIpAddresses,
+    RouteOriginAttestation,
 };
 use std::alloc::{AllocError, Global};
-use std::net::{IpAddr, Ipv4Addr, Ipv6Addr};
+use std::net::{IpAddr, Ipv4Addr};
 
-/// The set of the providers and how many there are, and the blocks that are claimed.
-fn claim_text(alloc: Global, content: &AsProviderAttestation) -> Result<String, AllocError> {
-    let providers = content.provider_as_set();
-    let (len, is_empty) = (providers.len(), providers.is_empty());
-    let mut text = format!(in alloc; "{len} {is_empty}:")?;
-    for number in providers.to_set(alloc)?.as_slice() {
-        text.push_str(&format!(in alloc; " {number}")?)?;
-    }
-    if let Claim::Explicit(blocks) = content.as_resources(alloc)?.claim() {
-        for block in blocks.iter() {
-            text.push_str(&format!(in alloc; " of {block}")?)?;
+/// Whether copies of the providers, of those that are to come and of their set are four.
+fn are_providers(alloc: Global, providers: &ProviderAsSet) -> Result<bool, AllocError> {
+    let copy = providers.clone()?;
+    let set = copy.to_set(alloc)?;
+    let is_set = set.as_slice().iter().copied().eq(providers.iter());
+    Ok(is_set && copy.len() == 4 && copy.iter().clone()?.eq(providers.iter()))
+}
+
+/// Whether the customer alone is claimed.
+fn is_customer_claimed(alloc: Global, content: &AsProviderAttestation) -> Result<bool, AllocError> {
+    match content.as_resources(alloc)?.claim() {
+        Claim::Explicit(blocks) => {
+            let mut blocks = blocks.iter();
+            let is_customer = blocks.next() == Some(AsBlock::Id(Asn::from_u32(15562)));
+            Ok(is_customer && blocks.next().is_none())
         }
+        _ => Ok(false),
     }
-    Ok(text)
 }
 
-/// What a copy of the content says, and how many providers a copy of its set has.
-fn copy_text(alloc: Global, content: &AsProviderAttestation) -> Result<String, AllocError> {
-    let copied: Result<_, _> = content.clone();
-    let text = aspas::content_text(alloc, &copied?)?;
-    let set = content.provider_as_set().clone()?;
-    let count = set.iter().clone()?.count();
-    drop(set);
-    format!(in alloc; "{text} {count}")
-}
-
-/// All that is told of the first content.
-fn providers_text(alloc: Global) -> Result<String, AllocError> {
-    match aspas::read(alloc, aspas::CONTENT, ProviderLimit::Narrow)? {
+/// Whether what the content with four providers hands out is right.
+fn is_aspa(alloc: Global) -> Result<bool, AllocError> {
+    let source = Bytes::from_static(aspas::CONTENT);
+    match AsProviderAttestation::decode(source, ProviderLimit::Narrow) {
         Ok(content) => {
-            let (claim, copy) = (claim_text(alloc, &content), copy_text(alloc, &content));
+            let are_providers = are_providers(alloc, content.provider_as_set());
+            let is_claimed = is_customer_claimed(alloc, &content);
             drop(content);
-            let (claim, copy) = (claim?, copy?);
-            format!(in alloc; "{claim}; {copy}")
+            Ok(are_providers? && is_claimed?)
         }
-        Err(error) => format!(in alloc; "{error}"),
+        Err(DecodeError::Memory) => Err(AllocError),
+        Err(_) => Ok(false),
     }
 }
 
-#[test]
-fn providers(rt: HostRuntime) -> Result<(), AllocError> {
-    assert_eq!(rt;
-        providers_text(rt.alloc())?.as_str(),
-        "4 false: AS2914 AS8283 AS51088 AS206238 of AS15562; \
-            AS15562 AS2914 AS8283 AS51088 AS206238 4"
-    );
-    Ok(())
+/// Whether a copy of the addresses of a family has one.
+fn is_one(addresses: &RoaIpAddresses) -> Result<bool, AllocError> {
+    let copy = addresses.clone()?;
+    Ok(!copy.is_empty() && copy.iter().clone()?.count() == 1)
 }
 
-/// The origins.
-fn origins_text(alloc: Global, content: &RouteOriginAttestation) -> Result<String, AllocError> {
-    let mut text = String::new(alloc);
-    for origin in content.iter_origins().clone()? {
-        let (asn, prefix) = (origin.asn, origin.prefix);
-        text.push_str(&format!(in alloc; "{asn} {prefix};")?)?;
-    }
-    Ok(text)
-}
-
-/// What a copy of the content says, and how many addresses each family has, and both.
-fn copied_roa_text(alloc: Global, content: &RouteOriginAttestation) -> Result<String, AllocError> {
-    let copied: Result<_, _> = content.clone();
-    let text = roas::content_text(alloc, &copied?)?;
-    let v4 = content.v4_addrs().iter().count();
-    let v6 = content.v6_addrs().clone()?.iter().count();
-    let mut all: usize = 0;
-    for _ in content.iter().clone()? {
-        all = all.saturating_add(1);
-    }
-    format!(in alloc; "{text} {v4} {v6} {all}")
-}
-
-/// All that is told of the content with both families.
-fn roa_text(alloc: Global) -> Result<String, AllocError> {
-    match roas::read(alloc, roas::BOTH)? {
-        Ok(content) => {
-            let (origins, copy) = (
-                origins_text(alloc, &content),
-                copied_roa_text(alloc, &content),
-            );
-            drop(content);
-            let (origins, copy) = (origins?, copy?);
-            format!(in alloc; "{origins} {copy}")
-        }
-        Err(error) => format!(in alloc; "{error}"),
-    }
-}
-
-#[test]
-fn origins(rt: HostRuntime) -> Result<(), AllocError> {
-    assert_eq!(rt;
-        roa_text(rt.alloc())?.as_str(),
-        "AS64496 192.0.2.0/24;AS64496 2001:db8::/32; AS64496 192.0.2.0/24 2001:db8::/32 1 1 2"
-    );
-    Ok(())
-}
-
-/// An address, its family, first address, length and maximum length, as they are told.
-fn is_told(address: FriendlyRoaIpAddress, family: AddressFamily, first: IpAddr, max: u8) -> bool {
-    let is_v4 = address.is_v4() == (family == AddressFamily::Ipv4);
+/// Whether an address is 192.0.2.0/24, as it is told.
+fn is_told(address: FriendlyRoaIpAddress) -> bool {
     let prefix = address.max_len_prefix();
-    is_v4
-        && address.address() == first
-        && address.max_length() == max
-        && prefix.family == family
+    address.is_v4()
+        && address.address() == IpAddr::V4(Ipv4Addr::new(192, 0, 2, 0))
+        && address.address_length() == 24
+        && address.max_length() == 24
+        && prefix.family == AddressFamily::Ipv4
         && prefix.prefix == address.prefix()
-        && address.address_length() == address.prefix().addr_len()
 }
 
-/// Whether the addresses of this content are told so.
-fn are_told(content: &RouteOriginAttestation, max: u8) -> bool {
-    let v4 = IpAddr::V4(Ipv4Addr::new(192, 0, 2, 0));
-    let v6 = IpAddr::V6(Ipv6Addr::new(0x2001, 0xDB8, 0, 0, 0, 0, 0, 0));
-    let mut addresses = content.iter();
-    let first = match addresses.next() {
-        Some(address) => is_told(address, AddressFamily::Ipv4, v4, max),
-        None => false,
-    };
-    let others = match addresses.next() {
-        Some(address) => is_told(address, AddressFamily::Ipv6, v6, 32),
-        None => content.v6_addrs().is_empty(),
-    };
-    first && others && addresses.next().is_none() && !content.v4_addrs().is_empty()
-}
-
-/// Whether the addresses of these octets are told so.
-fn are_read(alloc: Global, octets: &[u8], max: u8) -> Result<bool, AllocError> {
-    match roas::read(alloc, octets)? {
-        Ok(content) => {
-            let is = are_told(&content, max);
-            drop(content);
-            Ok(is)
+/// Whether copies of the addresses and of the origins that are to come begin with 192.0.2.0/24.
+fn are_iterated(alloc: Global, content: &RouteOriginAttestation) -> Result<bool, AllocError> {
+    let mut addresses = content.iter().clone()?;
+    let mut origins = content.iter_origins().clone()?;
+    match (addresses.next(), origins.next()) {
+        (Some(address), Some(origin)) => {
+            let text = format!(in alloc; "{address}")?;
+            Ok(
+                is_told(address)
+                    && text.as_str() == "192.0.2.0/24"
+                    && origin.asn == content.as_id()
+                    && origin.prefix == address.max_len_prefix(),
+            )
         }
-        Err(_error) => Ok(false),
+        _ => Ok(false),
     }
 }
 
-#[test]
-fn addresses_are_told(rt: HostRuntime) -> Result<(), AllocError> {
-    let alloc = rt.alloc();
-    assert!(rt; are_read(alloc, roas::BOTH, 24)? && are_read(alloc, roas::WITH_MAX, 26)?);
-    Ok(())
+/// Whether what the content with both families hands out is right.
+fn is_roa(alloc: Global) -> Result<bool, AllocError> {
+    match RouteOriginAttestation::decode(alloc, Bytes::from_static(roas::BOTH)) {
+        Ok(content) => {
+            let (v4, v6) = (is_one(content.v4_addrs()), is_one(content.v6_addrs()));
+            let are_iterated = are_iterated(alloc, &content);
+            drop(content);
+            Ok(v4? && v6? && are_iterated?)
+        }
+        Err(DecodeError::Memory) => Err(AllocError),
+        Err(_) => Ok(false),
+    }
 }
 
 /// A family, an address in 128 bits, a length and a maximum length, the first address in 128 bits,
 /// and what is written.
-static ADDRESSES: [(AddressFamily, u128, u8, Option<u8>, u128, &[u8]); 3] = [
-    (
+struct Made(AddressFamily, u128, u8, Option<u8>, u128, &'static [u8]);
+
+static ADDRESSES: [Made; 3] = [
+    Made(
         AddressFamily::Ipv4,
         0xC000_0281_0000_0000_0000_0000_0000_0000,
         24,
@@ -165,7 +111,7 @@ static ADDRESSES: [(AddressFamily, u128, u8, Option<u8>, u128, &[u8]); 3] = [
         0xC000_0200_0000_0000_0000_0000_0000_0000,
         b"\x30\x09\x03\x04\x00\xC0\x00\x02\x02\x01\x1A",
     ),
-    (
+    Made(
         AddressFamily::Ipv4,
         0xC000_0281_0000_0000_0000_0000_0000_0000,
         21,
@@ -173,7 +119,7 @@ static ADDRESSES: [(AddressFamily, u128, u8, Option<u8>, u128, &[u8]); 3] = [
         0xC000_0000_0000_0000_0000_0000_0000_0000,
         b"\x30\x06\x03\x04\x03\xC0\x00\x00",
     ),
-    (
+    Made(
         AddressFamily::Ipv6,
         0x2001_0DB8_0000_0000_0000_0000_0000_0001,
         32,
@@ -183,34 +129,27 @@ static ADDRESSES: [(AddressFamily, u128, u8, Option<u8>, u128, &[u8]); 3] = [
     ),
 ];
 
-/// The address of this family with these bits.
-pub fn ip_of(family: AddressFamily, bits: u128) -> IpAddr {
-    let addr = Addr::from_bits(bits);
-    match family {
-        AddressFamily::Ipv4 => IpAddr::V4(addr.to_v4()),
-        AddressFamily::Ipv6 => IpAddr::V6(addr.to_v6()),
-    }
+/// Whether an address has this prefix and this maximum length, and differs from that with another.
+fn is_address(address: RoaIpAddress, prefix: Prefix, max: Option<u8>) -> bool {
+    address == RoaIpAddress::new(prefix, max)
+        && address != RoaIpAddress::new(prefix, Some(0))
+        && address.range() == prefix.range()
+        && address.prefix() == prefix
+        && address.max_length() == max
 }
 
-/// Whether an address is written as these octets.
-fn is_written(alloc: Global, address: RoaIpAddress, wanted: &[u8]) -> Result<bool, AllocError> {
-    match address.to_bytes(alloc) {
-        Ok(found) => Ok(found.as_slice() == wanted),
-        Err(EncodeError::Memory) => Err(AllocError),
-        Err(_) => Ok(false),
+impl Row for Made {
+    fn is_so(&self, alloc: Global) -> Result<bool, AllocError> {
+        let Made(family, bits, len, max, first, octets) = self;
+        let address = RoaIpAddress::new_addr(ip_of(*family, *bits), *len, *max);
+        let is = is_address(address, Prefix::new(Addr::from_bits(*first), *len), *max);
+        Ok(is && is_written(address.to_bytes(alloc), octets)?)
     }
 }
 
 #[test]
-fn addresses_are_made(rt: HostRuntime) -> Result<(), AllocError> {
-    for (family, bits, len, max, first, octets) in &ADDRESSES {
-        let address = RoaIpAddress::new_addr(ip_of(*family, *bits), *len, *max);
-        let prefix = Prefix::new(Addr::from_bits(*first), *len);
-        assert!(rt;
-            address == RoaIpAddress::new(prefix, *max) && address.range() == prefix.range()
-        );
-        assert!(rt; address.prefix() == prefix && address.max_length() == *max);
-        assert!(rt; is_written(rt.alloc(), address, octets)?);
-    }
+fn contents(rt: HostRuntime) -> Result<(), AllocError> {
+    let alloc = rt.alloc();
+    assert!(rt; is_aspa(alloc)? && is_roa(alloc)? && are_so(alloc, &ADDRESSES)?);
     Ok(())
 }

@@ -1,16 +1,17 @@
 //! Contents that are built.
 
-ghost use Rattle.std.specs.Prelude.{◌≡◌, ◌≤◌, [], All, IfOk};
+ghost use Rattle.std.specs.Prelude.{◌≡◌, ◌≤◌, [], All};
 ghost use Rattle.rpki_resources.specs.declared.family.AddressFamily.TheVariants.{Ipv4};
 ghost use Rattle.rpki_resources.specs.As.{as_range};
 ghost use Rattle.rpki_resources.specs.Blocks.{IsBlock};
 ghost use Rattle.rpki_resources.specs.Family.{IsWithin};
 ghost use Rattle.rpki_resources.specs.Ip.{ip_range};
 
-use super::rows::is_written;
+use crate::contents;
+use crate::contents::{Answer, Row, are_so};
 use bytes::Bytes;
 use rpki_attributes::MessageDigest;
-use rpki_basics::{BuildError, BuildFault, DigestAlgorithm, KeyIdentifier};
+use rpki_basics::{DigestAlgorithm, KeyIdentifier};
 use rpki_resources::{Addr, AsBlock, Asn, IpBlock, Prefix};
 use rpki_tagged::AttestationBuilder;
 use std::alloc::{AllocError, Global};
@@ -35,15 +36,15 @@ pub static ALL: &[u8] =
       \x05\x00 \x01\x0D\xB80\x0B\x06\x09`\x86H\x01e\x03\x04\x02\x01\x04\x04hash";
 
 /// No key, and of these numbers those of one kind alone.
-static NUMBERS: &[u8] =
+const NUMBERS: &[u8] =
     b"0 1\x000\x09\xA0\x070\x05\x02\x03\x00\xFB\xF00\x0B\x06\x09`\x86H\x01e\x03\x04\x02\x01\x04\
       \x04hash";
 
-static V4: &[u8] =
+const V4: &[u8] =
     b"0)1\x000\x12\xA1\x100\x0E0\x0C\x04\x02\x00\x010\x06\x03\x04\x00\xC0\x00\x020\x0B\x06\x09`\
       \x86H\x01e\x03\x04\x02\x01\x04\x04hash";
 
-static V6: &[u8] =
+const V6: &[u8] =
     b"0*1\x000\x13\xA1\x110\x0F0\x0D\x04\x02\x00\x020\x07\x03\x05\x00 \x01\x0D\xB80\x0B\x06\x09`\
       \x86H\x01e\x03\x04\x02\x01\x04\x04hash";
 
@@ -84,98 +85,106 @@ pub fn numbers(first: u32, last: u32) -> AsBlock
     AsBlock::Range(Asn::from_u32(first), Asn::from_u32(last))
 }
 
-/// A builder to which all was pushed, AS numbers in blocks that overlap.
-fn by_pushes(alloc: Global) -> Result<AttestationBuilder, AllocError>
-    ensures { IfOk result (λ b. All (IsWithin Ipv4) b.v4_resources) }
+/// Pushes all, AS numbers in blocks that overlap.
+fn push_all(to: &mut AttestationBuilder) -> Result<(), AllocError>
+    ensures { All (IsWithin Ipv4) to.old.v4_resources → All (IsWithin Ipv4) to.new.v4_resources }
 {
-    let mut builder = empty(alloc);
-    builder.push_v6(v6_block())?;
-    builder.push_as(numbers(64500, 64511))?;
-    builder.push_v4(v4_block())?;
-    builder.push_key(key(0))?;
-    builder.push_as(numbers(64498, 64505))?;
-    builder.push_as(AsBlock::Id(Asn::from_u32(64496)))?;
-    builder.push_key(key(1))?;
-    Ok(builder)
+    to.push_v6(v6_block())?;
+    to.push_as(numbers(64500, 64511))?;
+    to.push_v4(v4_block())?;
+    to.push_key(key(0))?;
+    to.push_as(numbers(64498, 64505))?;
+    to.push_as(AsBlock::Id(Asn::from_u32(64496)))?;
+    to.push_key(key(1))
 }
 
 /// The same by what the builder lends.
-fn by_lent(alloc: Global) -> Result<AttestationBuilder, AllocError>
-    ensures { IfOk result (λ b. All (IsWithin Ipv4) b.v4_resources) }
+fn lend_all(to: &mut AttestationBuilder) -> Result<(), AllocError>
+    ensures { All (IsWithin Ipv4) to.old.v4_resources → All (IsWithin Ipv4) to.new.v4_resources }
 {
-    let mut builder = empty(alloc);
-    builder.keys_mut().push(key(0))?;
-    builder.keys_mut().push(key(1))?;
-    builder.as_resources_mut().push(numbers(64496, 64496))?;
-    builder.as_resources_mut().push(numbers(64498, 64511))?;
-    builder.v4_resources_mut().push(v4_block())?;
-    builder.v6_resources_mut().push(v6_block())?;
-    Ok(builder)
+    to.keys_mut().push(key(0))?;
+    to.keys_mut().push(key(1))?;
+    to.as_resources_mut().push(numbers(64496, 64496))?;
+    to.as_resources_mut().push(numbers(64498, 64511))?;
+    to.v4_resources_mut().push(v4_block())?;
+    to.v6_resources_mut().push(v6_block())
 }
 
-/// Whether the builder shows both keys, and as many blocks of each kind as were pushed.
-fn shows(builder: &AttestationBuilder) -> Result<bool, AllocError> {
-    let asns = builder.as_resources().clone()?.finalize()?;
-    let v4 = builder.v4_resources().clone()?.finalize()?;
-    let v6 = builder.v6_resources().clone()?.finalize()?;
-    Ok(
-        builder.keys() == &[key(0), key(1)][..]
-            && asns.iter().count() == 2
-            && v4.iter().next() == Some(v4_block())
-            && v6.iter().next() == Some(v6_block()),
-    )
-}
-
-/// Whether the content is written as these octets; where there are none, whether it is refused
-/// since it names nothing.
+/// Whether the content is built so.
 pub fn is_built(
     alloc: Global,
     builder: AttestationBuilder,
-    wanted: &[u8],
+    wanted: Answer<'_>,
 ) -> Result<bool, AllocError>
     requires { All (IsWithin Ipv4) builder.v4_resources }
 {
-    match builder.into_attestation() {
-        Ok(content) => {
-            let is = is_written(alloc, &content, wanted);
-            drop(content);
-            is
-        }
-        Err(BuildError::Memory) => Err(AllocError),
-        Err(BuildError::Fault(BuildFault::NoResources)) => Ok(wanted.is_empty()),
-        Err(_) => Ok(false),
+    contents::is_built(alloc, builder.into_attestation(), wanted)
+}
+
+/// Whether the content to which all is pushed is built.
+fn is_pushed(alloc: Global) -> Result<bool, AllocError> {
+    let mut builder = empty(alloc);
+    let pushed = push_all(&mut builder);
+    let has_keys = builder.keys() == &[key(0), key(1)][..];
+    let is_built = is_built(alloc, builder, Ok(ALL));
+    pushed?;
+    Ok(has_keys && is_built?)
+}
+
+/// The same by what the builder lends.
+fn is_lent(alloc: Global) -> Result<bool, AllocError> {
+    let mut builder = empty(alloc);
+    let lent = lend_all(&mut builder);
+    let is_built = is_built(alloc, builder, Ok(ALL));
+    lent?;
+    is_built
+}
+
+/// Resources of one kind, or none.
+#[derive(Clone, Copy)]
+enum Named {
+    Nothing,
+    Numbers,
+    V4,
+    V6,
+}
+
+/// What is named, and what is written, or why it is refused.
+struct Built(Named, Answer<'static>);
+
+static ROWS: [Built; 4] = [
+    Built(Named::Nothing, Err("no resources")),
+    Built(Named::Numbers, Ok(NUMBERS)),
+    Built(Named::V4, Ok(V4)),
+    Built(Named::V6, Ok(V6)),
+];
+
+/// Pushes what is named.
+fn push(to: &mut AttestationBuilder, named: Named) -> Result<(), AllocError>
+    ensures { All (IsWithin Ipv4) to.old.v4_resources → All (IsWithin Ipv4) to.new.v4_resources }
+{
+    match named {
+        Named::Nothing => Ok(()),
+        Named::Numbers => to.push_as(AsBlock::Id(Asn::from_u32(64496))),
+        Named::V4 => to.push_v4(v4_block()),
+        Named::V6 => to.push_v6(v6_block()),
+    }
+}
+
+impl Row for Built {
+    fn is_so(&self, alloc: Global) -> Result<bool, AllocError> {
+        let Built(named, wanted) = self;
+        let mut builder = empty(alloc);
+        let pushed = push(&mut builder, *named);
+        let is_built = is_built(alloc, builder, *wanted);
+        pushed?;
+        is_built
     }
 }
 
 #[test]
-fn all_is_built(rt: HostRuntime) -> Result<(), AllocError> {
+fn contents_are_built(rt: HostRuntime) -> Result<(), AllocError> {
     let alloc = rt.alloc();
-    let builder = by_pushes(alloc)?;
-    assert!(rt; shows(&builder)?);
-    assert!(rt; is_built(alloc, builder, ALL)?);
-    assert!(rt; is_built(alloc, by_lent(alloc)?, ALL)?);
-    Ok(())
-}
-
-/// Whether numbers of one kind alone are enough.
-fn one_is_enough(alloc: Global) -> Result<bool, AllocError> {
-    let mut one = empty(alloc);
-    one.push_as(AsBlock::Id(Asn::from_u32(64496)))?;
-    let asns = is_built(alloc, one, NUMBERS)?;
-    let mut one = empty(alloc);
-    one.push_v4(v4_block())?;
-    let v4 = is_built(alloc, one, V4)?;
-    let mut one = empty(alloc);
-    one.push_v6(v6_block())?;
-    Ok(asns && v4 && is_built(alloc, one, V6)?)
-}
-
-#[test]
-fn something_is_named(rt: HostRuntime) -> Result<(), AllocError> {
-    let alloc = rt.alloc();
-    let mut none = empty(alloc);
-    none.push_key(key(0))?;
-    assert!(rt; is_built(alloc, none, b"")?);
-    assert!(rt; one_is_enough(alloc)?);
+    assert!(rt; is_pushed(alloc)? && is_lent(alloc)? && are_so(alloc, &ROWS)?);
     Ok(())
 }

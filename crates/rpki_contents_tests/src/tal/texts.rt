@@ -1,5 +1,7 @@
-//! Texts of locators, and what they say.
+//! A text of a locator that is cut, read from sources of each sort, and what may stand after it.
 
+use crate::contents::{Row, are_so};
+use rpki_der::drip::DripSource;
 use rpki_der::{Counted, Source};
 use rpki_tal::{ReadError, Tal};
 use std::alloc::{AllocError, Global};
@@ -9,120 +11,6 @@ pub const TEXT: &[u8] = b"# c\nrsync://a.example.com/1/1\n\nMBUwDQYJKoZIhvcNAQEB
 
 /// What it says: the URI, and the identifier of the key (FIPS 180-4).
 pub const SAID: &str = "rsync://a.example.com/1/1 A9993E364706816ABA3E25717850C26C9CD0D89D";
-
-/// Texts, and what they say, or why they are refused.
-static ROWS: [(&[u8], &str); 37] = [
-    (TEXT, SAID),
-    (
-        b"# a locator that was made for this page\nhttps://tal.example.com/root.cer\n\
-rsync://tal.example.com/repo/root.cer\n\nMBUwDQYJKoZIhvcNAQEBBQADBABhYmM=\n",
-        "https://tal.example.com/root.cer,rsync://tal.example.com/repo/root.cer \
-A9993E364706816ABA3E25717850C26C9CD0D89D",
-    ),
-    // missing line feeds
-    (b"", "unexpected end of file"),
-    (b"# only a comment", "unexpected end of file"),
-    (b"#", "unexpected end of file"),
-    (b"# c\n", "unexpected end of file"),
-    (b"rsync://a/b", "unexpected end of file"),
-    (b"ftp://a/b", "unexpected end of file"),
-    (b"rsync://a/b\n", "unexpected end of file"),
-    (b"rsync://a/b\n\r", "unexpected end of file"),
-    // comments
-    (
-        b"#\n#rsync://a/b\n\nMBUwDQYJKoZIhvcNAQEBBQADBABhYmM=",
-        " A9993E364706816ABA3E25717850C26C9CD0D89D",
-    ),
-    (
-        b"# c\r\nrsync://a/b\r\n\r\nMBUwDQYJKoZIhvcNAQEBBQADBABhYmM=\r\n",
-        "rsync://a/b A9993E364706816ABA3E25717850C26C9CD0D89D",
-    ),
-    (
-        b"rsync://a/b\n# c\n\nMBUwDQYJKoZIhvcNAQEBBQADBABhYmM=",
-        "bad trust anchor URI: invalid characters",
-    ),
-    (
-        b" # c\n\nMBUwDQYJKoZIhvcNAQEBBQADBABhYmM=",
-        "bad trust anchor URI: invalid characters",
-    ),
-    // lists
-    (
-        b"\nMBUwDQYJKoZIhvcNAQEBBQADBABhYmM=",
-        " A9993E364706816ABA3E25717850C26C9CD0D89D",
-    ),
-    (
-        b"\n\nMBUwDQYJKoZIhvcNAQEBBQADBABhYmM=",
-        " A9993E364706816ABA3E25717850C26C9CD0D89D",
-    ),
-    (
-        b"https://a\nrsync://a/b\nHTTPS://a\n\nMBUwDQYJKoZIhvcNAQEBBQADBABhYmM=",
-        "https://a,rsync://a/b,HTTPS://a A9993E364706816ABA3E25717850C26C9CD0D89D",
-    ),
-    (
-        b"rsync://a/b\rhttps://a\n\nMBUwDQYJKoZIhvcNAQEBBQADBABhYmM=",
-        "bad trust anchor URI: invalid characters",
-    ),
-    (
-        b"rsync://a/b\r\r\n\nMBUwDQYJKoZIhvcNAQEBBQADBABhYmM=",
-        "bad trust anchor URI: invalid characters",
-    ),
-    (b"ftp://a/b\n", "bad trust anchor URI: bad URI scheme"),
-    (b"rsync://a\n", "bad trust anchor URI: bad URI scheme"),
-    (b"https:///x\n\n", "bad trust anchor URI: bad URI"),
-    (b"rsync://a/b\n\nrsync://a/c\n", "bad key info: bad base64"),
-    // base64
-    (
-        b"\nMBUwDQYJKoZI\nhvcNAQEBBQADBABhYmM=",
-        " A9993E364706816ABA3E25717850C26C9CD0D89D",
-    ),
-    (
-        b"\n MBUw DQYJ\tKoZI\r\nhvcN\x0CAQEB\n\nBQAD BABh YmM = \n",
-        " A9993E364706816ABA3E25717850C26C9CD0D89D",
-    ),
-    (
-        b"\nMBUwDQYJKoZIhvcNAQEBBQADBABhYmM",
-        "bad key info: bad base64",
-    ),
-    (
-        b"\nMBUwDQYJKoZIhvcNAQEBBQADBABhYmN=",
-        "bad key info: bad base64",
-    ),
-    (
-        b"\nMBUwDQYJKoZIhvcNAQEBBQADBABhYmM==",
-        "bad key info: bad base64",
-    ),
-    (
-        b"\nMBUwDQYJKoZIhvcNAQEBBQADBABhYm-=",
-        "bad key info: bad base64",
-    ),
-    (
-        b"\nMBUwDQYJKoZIhvcNAQEBBQADBABhYmM=\x0B",
-        "bad key info: bad base64",
-    ),
-    // keys: octets after one, none, a cut one, one of another algorithm, one with unused bits
-    (
-        b"\nMBUwDQYJKoZIhvcNAQEBBQADBABhYmP/",
-        " A9993E364706816ABA3E25717850C26C9CD0D89D",
-    ),
-    (
-        b"\nMBUwDQYJKoZIhvcNAQEBBQADBABhYmMwMA==",
-        " A9993E364706816ABA3E25717850C26C9CD0D89D",
-    ),
-    (b"\n", "bad key info: malformed"),
-    (b"\n \r\n", "bad key info: malformed"),
-    (
-        b"\nMBUwDQYJKoZIhvcNAQEBBQADBABhYg==",
-        "bad key info: malformed",
-    ),
-    (
-        b"\nMBUwDQYJKoZIhvcNAQELBQADBABhYmM=",
-        "bad key info: algorithm is none that the profile names",
-    ),
-    (
-        b"\nMBUwDQYJKoZIhvcNAQEBBQADBAFhYmM=",
-        "bad key info: malformed",
-    ),
-];
 
 /// What a locator says: its URIs with commas between them, a space, and the identifier of its key.
 fn line(alloc: Global, tal: &Tal) -> Result<String, AllocError> {
@@ -137,44 +25,107 @@ fn line(alloc: Global, tal: &Tal) -> Result<String, AllocError> {
     format!(in alloc; "{line} {key}")
 }
 
-/// Whether the name of a locator is `name`, and this is what it says.
-fn says(alloc: Global, tal: &Tal, want: &str) -> Result<bool, AllocError> {
-    let is_named = tal.info().as_ref().name() == "name";
-    Ok(is_named && line(alloc, tal)?.as_str() == want)
+/// Whether this is what a copy of a locator says, whose name is `name`.
+fn is_line(alloc: Global, tal: &Tal, want: &str) -> Result<bool, AllocError> {
+    let copied: Result<Tal, AllocError> = tal.clone();
+    let copy = copied?;
+    let is_named = copy.info().as_ref().name() == "name";
+    let line = line(alloc, &copy);
+    drop(copy);
+    Ok(is_named && line?.as_str() == want)
 }
 
-/// Whether this is what all the text of a source says, under the name `name`, and what a clone of
-/// the locator says. Want of memory is handed on.
+/// Whether this is what all the text of a source says, under the name `name`, or why it is refused.
 pub fn is_said<S: Source + Drop>(alloc: Global, source: S, want: &str) -> Result<bool, AllocError> {
     let mut source = source;
     let name = String::from_str(alloc, "name")?;
     match Tal::read_named(alloc, name, &mut source) {
         Ok(tal) => {
-            let said = says(alloc, &tal, want);
-            let copied: Result<_, _> = tal.clone();
+            let is_said = is_line(alloc, &tal, want);
             drop(tal);
-            let copy = copied?;
-            let said_too = says(alloc, &copy, want);
-            drop(copy);
-            Ok(said? && said_too?)
+            is_said
         }
         Err(ReadError::Memory) => Err(AllocError),
         Err(e) => Ok(format!(in alloc; "{e}")?.as_str() == want),
     }
 }
 
-/// The number of the first row of which something else is said.
-fn wrong_row(alloc: Global) -> Result<Option<usize>, AllocError> {
-    for (i, (text, want)) in ROWS.iter().enumerate() {
-        if !is_said(alloc, Counted::new(*text), want)? {
-            return Ok(Some(i));
+/// What is said of the first octets of the text.
+fn said_of(len: usize) -> &'static str {
+    match len {
+        0..=30 => "unexpected end of file",
+        31 | 35 | 39 | 43 | 47 | 51 | 55 | 59 => "bad key info: malformed",
+        63 | 64 => SAID,
+        _ => "bad key info: bad base64",
+    }
+}
+
+/// Whether a source of these octets, one a call, which fails at any of its calls, also at the one
+/// that finds the end, says that it failed.
+fn is_failed(alloc: Global, cut: &[u8]) -> Result<bool, AllocError> {
+    for call in 0..=cut.len() as u64 {
+        let source = DripSource::failing_at(cut, call.saturating_add(1));
+        if !is_said(alloc, source, "read failed")? {
+            return Ok(false);
         }
     }
-    Ok(None)
+    Ok(true)
+}
+
+/// Whether the first octets of the text say what they have to, by every source.
+fn is_cut(alloc: Global, cut: &[u8]) -> Result<bool, AllocError> {
+    let want = said_of(cut.len());
+    let later = (cut.len() as u64).saturating_add(2);
+    Ok(
+        is_said(alloc, Counted::new(cut), want)?
+            && is_said(alloc, DripSource::new(cut), want)?
+            && is_said(alloc, DripSource::failing_at(cut, later), want)?
+            && is_failed(alloc, cut)?,
+    )
+}
+
+fn are_cut(alloc: Global) -> Result<bool, AllocError> {
+    for len in 0..65usize {
+        if !is_cut(alloc, TEXT.get(..len).unwrap_or(b"no such text"))? {
+            return Ok(false);
+        }
+    }
+    Ok(true)
+}
+
+/// How many octets stand after the text.
+static COUNTS: [usize; 3] = [1, 300, 70_000];
+
+/// What stands after it, and what is said then: only blanks may.
+struct After(u8, &'static str);
+
+static FOLLOWED: [After; 8] = [
+    After(0x00, "bad key info: bad base64"),
+    After(0x30, "bad key info: bad base64"),
+    After(b'#', "bad key info: bad base64"),
+    After(b'=', "bad key info: bad base64"),
+    After(0xFF, "bad key info: bad base64"),
+    After(b'\n', SAID),
+    After(b' ', SAID),
+    After(b'\t', SAID),
+];
+
+impl Row for After {
+    fn is_so(&self, alloc: Global) -> Result<bool, AllocError> {
+        let After(octet, want) = self;
+        for count in &COUNTS {
+            let mut text = Vec::from_slice(alloc, TEXT)?;
+            text.resize(count.saturating_add(TEXT.len()), *octet)?;
+            if !is_said(alloc, Counted::new(text.as_slice()), want)? {
+                return Ok(false);
+            }
+        }
+        Ok(true)
+    }
 }
 
 #[test]
 fn texts(rt: HostRuntime) -> Result<(), AllocError> {
-    assert!(rt; wrong_row(rt.alloc())?.is_none());
+    assert!(rt; are_cut(rt.alloc())? && are_so(rt.alloc(), &FOLLOWED)?);
     Ok(())
 }
