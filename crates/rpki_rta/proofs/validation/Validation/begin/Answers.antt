@@ -10,7 +10,7 @@ returns-in-Ok-clause-accepted g c =
     (g.C.Crypto.is_signed c.args.crypto.now) c.args.now (whole_of c.args.rta.now)
     c.in-Ok.paths.items c.in-Ok.ensures.good c.in-Ok.ensures.accepted
 
-pub returns-in-Err-clause-refused : goal.returns-in-Err-clause-refused
-returns-in-Err-clause-refused g c =
+pub returns-clause-refused : goal.returns-clause-refused
+returns-clause-refused g c =
     why-refused (g.C.Crypto.digest_of c.args.crypto.now) (g.C.Crypto.is_signed c.args.crypto.now)
     c.args.now (whole_of c.args.rta.now) c.in-Err.fault c.in-Err.ensures.why
