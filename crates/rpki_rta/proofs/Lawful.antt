@@ -11,7 +11,8 @@ use Rattle.rpki_paths.specs.Grant.{IsGranted}
 use Rattle.rpki_paths.specs.Supplied.{AnswersEach, AreSuppliedAll}
 use Rattle.rpki_paths.specs.Anchor.{Supply}
 use Rattle.rpki_paths.specs.Final.{Decides}
-use Rattle.rpki_paths.proofs.After.{all_keep_some, kept_is_kept_by_some, yes_after_refusals}
+use Rattle.rpki_paths.proofs.After.{all_keep_some, keeps-numbers, kept_is_kept_by_some}
+use Rattle.rpki_paths.proofs.After.{yes_after_refusals}
 use Rattle.rpki_paths.proofs.Granting.{yes_is_granted as paths-granted, unsupplied_is_refused}
 use Rattle.rpki_paths.proofs.Granting.{undecided_is_refused, walks_are_accepted}
 use Rattle.rpki_paths.proofs.Keeps.{all-stops}
@@ -20,7 +21,6 @@ use Rattle.rpki_rta.specs.Faults.{final_fault, supply_answer, supply_fault}
 use Rattle.rpki_rta.specs.Granted.{attested_by, carried_by}
 use Rattle.rpki_rta.specs.Laws.{AreAfterSupplies, AreTaken, EndAfterSupplies, NoIsRight}
 use Rattle.rpki_rta.specs.Laws.{RefusedSupplyIsRight, YesAfterSupplies, YesIsGranted}
-use Rattle.rpki_rta.proofs.Numbering.{keeps-numbers}
 
 same-list : {A : Type 0} (xs : List A) → map (λ x. x) xs ≡ xs
 same-list [] = refl

@@ -8,6 +8,5 @@ pub mod Refusing
 pub mod Running
 pub mod Shortness
 pub mod Lawful
-pub mod Numbering
 pub mod Matching
 pub mod Supplying
