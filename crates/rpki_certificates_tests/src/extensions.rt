@@ -6,4 +6,4 @@
 
 mod lists;
 mod parts;
-mod texts;
+mod said;

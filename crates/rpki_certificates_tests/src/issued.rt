@@ -3,8 +3,6 @@
 //! A test hands want of memory on and asserts everything else. That what is made has the fields
 //! that were handed in, and is in its form, is proved.
 
-mod chain;
 mod given;
 mod made;
 mod octets;
-mod refused;

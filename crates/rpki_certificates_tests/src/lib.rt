@@ -1,8 +1,10 @@
-//! Tests of certificates, lists and objects: of `rpki_extensions`, `rpki_crls`, `rpki_issued`,
-//! `rpki_issued_crls`, `rpki_signing`, `rpki_multi`, `rpki_signed`, `rpki_paths` and `rpki_rta`, each
-//! in the module of its name.
+//! Tests of certificates, lists and objects: of `rpki_extensions`, `rpki_crls`, `rpki_certs`,
+//! `rpki_issued`, `rpki_issued_crls`, `rpki_signing`, `rpki_multi`, `rpki_signed`, `rpki_paths` and
+//! `rpki_rta`, each in the module of its name.
 #![tactic(auto)]
 
+#[cfg(test)]
+mod certs;
 #[cfg(test)]
 mod crls;
 #[cfg(test)]

@@ -1,11 +1,12 @@
 //! Tests of `rpki_rta`, and of the check of attestations in `rpki_signed`: whole attestations,
-//! whose octets another program made, are validated under what anchors their paths. Keys are those
-//! of the stand-in.
+//! whose octets another program made, are validated under what anchors their paths; and the
+//! verdicts on a long path are counted. Keys are those of the stand-in.
 //!
-//! A test hands want of memory on and asserts everything else. Each fault of a part, long paths and
-//! random attestations are in the sweeps.
+//! A test hands want of memory on and asserts everything else. Attestations that are validated in
+//! one call, right and wrong, are rows of the programs.
 
+mod asked;
 mod calls;
 mod given;
+mod long;
 mod octets;
-mod rows;

@@ -1,12 +1,9 @@
-//! Tests of `rpki_signing`, and of the kinds that are signed with it: objects that are built, under
-//! an issuer that was built too, and a signer whose calls fail. Keys and signatures are those of the
-//! stand-in.
+//! Tests of `rpki_signing`, of the kinds that are signed with it, and of the checks in `rpki_signed`:
+//! objects that are built, under an issuer whose certificate another program made. Keys and
+//! signatures are those of the stand-in.
 //!
 //! A test hands want of memory on and asserts everything else.
 
 mod checks;
 mod given;
-mod manifests;
-mod numbers;
 mod objects;
-mod routes;

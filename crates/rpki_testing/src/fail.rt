@@ -7,7 +7,7 @@ ghost use Rattle.rpki_faults.specs.declared.validation.ValidationError.{Validati
 
 use rpki_der::DecodeError;
 use rpki_faults::ValidationError;
-use std::alloc::AllocError;
+use std::alloc::{AllocError, AllocFailed};
 
 /// Why a test ends early: only want of memory is none of its answers.
 #[derive(Clone, Copy, Debug, PartialEq, Eq)]
@@ -20,6 +20,14 @@ impl From<AllocError> for Fail {
     ghost from_gives = { λ _ why. why ≡ Fail.Memory };
 
     fn from(_error: AllocError) -> Fail {
+        Fail::Memory
+    }
+}
+
+impl<T: Drop> From<AllocFailed<T>> for Fail {
+    ghost from_gives = { λ _ why. why ≡ Fail.Memory };
+
+    fn from(_error: AllocFailed<T>) -> Fail {
         Fail::Memory
     }
 }

@@ -8,8 +8,8 @@ use super::parts::{
 use bytes::Bytes;
 use rpki_basics::Serial;
 use rpki_crls::Crl;
-use rpki_der::build::tlv;
 use rpki_der::{Constructed, DecodeError, Mode};
+use rpki_testing::{Fail, joined, said, value};
 use std::alloc::{AllocError, Global};
 
 /// What is signed, what stands after it, and what is said or why it is refused: the two times, the
@@ -161,71 +161,60 @@ pub static ROWS: [Row; 34] = [
     (&[], &[], "malformed"),
 ];
 
-/// Octets one after another, under the header of a SEQUENCE.
-pub fn sequence(alloc: Global, parts: &[&[u8]]) -> Result<Vec<u8>, AllocError> {
-    let mut contents = Vec::new(alloc);
-    for part in parts {
-        contents.extend_from_slice(part)?;
-    }
-    match tlv(alloc, 0x30, &contents) {
-        Ok(octets) => Ok(octets),
-        Err(_) => Err(AllocError),
-    }
-}
-
 /// The octets of a revocation list.
 pub fn list(alloc: Global, signed: &[&[u8]], after: &[&[u8]]) -> Result<Bytes, AllocError> {
-    let mut contents = sequence(alloc, signed)?;
-    for part in after {
-        contents.extend_from_slice(part)?;
-    }
-    Ok(Bytes::from_vec(sequence(alloc, &[&contents])?)?)
+    let signed = value(alloc, 0x30, signed)?;
+    let after = joined(alloc, after)?;
+    Ok(Bytes::from_vec(value(alloc, 0x30, &[&signed, &after])?)?)
 }
 
-/// Which numbers from 0 to 3 are revoked.
-fn revoked_text(alloc: Global, crl: &Crl) -> Result<String, AllocError> {
-    let mut text = String::new(alloc);
+/// A revocation list that is read in this mode.
+pub fn read(alloc: Global, source: Bytes, mode: Mode) -> Result<Crl, DecodeError> {
+    match mode {
+        Mode::Der => Crl::decode(alloc, source),
+        Mode::Ber => Constructed::decode(source, mode, |cons| Crl::take_from(alloc, cons)),
+    }
+}
+
+/// What a revocation list says.
+fn text_of(alloc: Global, crl: &Crl) -> Result<String, AllocError> {
+    let (this, next) = (crl.this_update(), crl.next_update());
+    let (number, key) = (crl.crl_number(), crl.authority_key_identifier());
+    let mut text = format!(in alloc; "{this} {next} {number} {key} ")?;
     for number in 0..4u64 {
         if crl.contains(Serial::from(number)) {
-            text.push_str(&format!(in alloc; "{number}")?)?;
+            write!(text, "{number}")?;
         }
     }
     Ok(text)
 }
 
-/// What a revocation list says.
-fn text_of(alloc: Global, crl: &Crl) -> Result<String, AllocError> {
-    let this = crl.this_update();
-    let next = crl.next_update();
-    let number = crl.crl_number();
-    let key = crl.authority_key_identifier();
-    let revoked = revoked_text(alloc, crl)?;
-    format!(in alloc; "{this} {next} {number} {key} {revoked}")
-}
-
 /// The text of an answer, or why there is none.
-pub fn shown(alloc: Global, answer: Result<Crl, DecodeError>) -> Result<String, AllocError> {
+pub fn shown(alloc: Global, answer: Result<Crl, DecodeError>) -> Result<String, Fail> {
     match answer {
-        Ok(crl) => text_of(alloc, &crl),
-        Err(DecodeError::Memory) => Err(AllocError),
-        Err(error) => format!(in alloc; "{error}"),
+        Err(error) => said(alloc, Err::<(), _>(error)),
+        Ok(crl) => {
+            let text = text_of(alloc, &crl);
+            drop(crl);
+            Ok(text?)
+        }
     }
 }
 
-/// A revocation list that is read in this mode.
-pub fn read(alloc: Global, source: Bytes, mode: Mode) -> Result<Crl, DecodeError> {
-    Constructed::decode(source, mode, |cons| Crl::take_from(alloc, cons))
+fn are_right(alloc: Global) -> Result<bool, Fail> {
+    for (signed, after, text) in &ROWS {
+        for mode in [Mode::Der, Mode::Ber] {
+            let source = list(alloc, signed, after)?;
+            if shown(alloc, read(alloc, source, mode))?.as_str() != *text {
+                return Ok(false);
+            }
+        }
+    }
+    Ok(true)
 }
 
 #[test]
-fn rows(rt: HostRuntime) -> Result<(), AllocError> {
-    let alloc = rt.alloc();
-    for (signed, after, text) in &ROWS {
-        let source = list(alloc, signed, after)?;
-        let found = shown(alloc, Crl::decode(alloc, source.clone()?))?;
-        assert_eq!(rt; found.as_str(), *text);
-        let relaxed = shown(alloc, read(alloc, source, Mode::Ber))?;
-        assert_eq!(rt; relaxed.as_str(), *text);
-    }
+fn rows(rt: HostRuntime) -> Result<(), Fail> {
+    assert!(rt; are_right(rt.alloc())?);
     Ok(())
 }

@@ -1,97 +1,130 @@
 //! What the certificates of tests are made of.
 
-ghost use Rattle.std.specs.Prelude.{◌≡◌, IfOk};
-ghost use Rattle.rpki_resources.specs.declared.resources.Claim.TheVariants.{Missing};
-ghost use Rattle.rpki_issued.specs.Written.{ClaimsIpv4};
+ghost use Rattle.std.specs.Prelude.{◌≡◌, IfOk, OnOk};
+ghost use Rattle.rpki_resources.specs.declared.resources.Claim.TheVariants.{Missing, Inherit};
 
 use bytes::Bytes;
-use rpki_basics::standin::{Refused, StandInSigner};
-use rpki_basics::{Https, Name, PublicKey, Rsync, Serial, SigningError, Time, Validity, uri};
-use rpki_certs::Cert;
-use rpki_der::{Constructed, DecodeError, Encode, EncodeError, Mode};
+use rpki_basics::{Https, Name, Serial, Time, Validity};
+use rpki_der::{Constructed, DecodeError, Mode};
 use rpki_faults::{KeyUsage, Overclaim};
 use rpki_issued::TbsCert;
-use rpki_testing::Fail;
+use rpki_issued::resources::{build_as_resources, build_ip_resources};
+use rpki_resources::{
+    Addr, AsBlock, AsBlocksBuilder, Asn, IpBlock, IpBlocksBuilder, Prefix, Resources,
+};
+use rpki_testing::{Fail, key, ok, rsync, year};
 use std::alloc::{AllocError, Global};
 
-/// The first moment of this year.
-pub fn start_of(year: u16) -> Result<Time, Fail> {
-    match Time::utc(year, 1, 1, 0, 0, 0) {
-        Some(time) => Ok(time),
-        None => Err(Fail::Refused),
-    }
-}
+/// The names of an issuer and of a subject.
+static ISSUER: &[u8] = b"\x30\x0C\x31\x0A\x30\x08\x06\x03\x55\x04\x03\x13\x01\x69";
 
-/// The key with this number.
-pub fn key(alloc: Global, number: u64) -> Result<PublicKey, AllocError> {
-    let bits = Bytes::copy_from_slice(alloc, &number.to_be_bytes())?;
-    Ok(PublicKey::from_bits(bits))
-}
+static SUBJECT: &[u8] = b"\x30\x0C\x31\x0A\x30\x08\x06\x03\x55\x04\x03\x13\x01\x73";
 
 /// The name with these octets, read in this mode.
-pub fn name(alloc: Global, octets: &[u8], mode: Mode) -> Result<Name, DecodeError> {
-    let source = Bytes::copy_from_slice(alloc, octets)?;
-    Constructed::decode(source, mode, |cons| Name::take_from(cons))
+pub fn name(octets: &'static [u8], mode: Mode) -> Result<Name, DecodeError> {
+    Constructed::decode(
+        Bytes::from_static(octets),
+        mode,
+        |cons| Name::take_from(cons),
+    )
 }
 
-// What is wrong with a URI ends a test.
-fn of_uri<T>(made: Result<T, uri::Error>) -> Result<T, Fail> {
-    match made {
-        Ok(uri) => Ok(uri),
-        Err(uri::Error::Memory) => Err(Fail::Memory),
-        Err(_) => Err(Fail::Refused),
-    }
-}
-
-/// The rsync URI of this text.
-pub fn rsync(alloc: Global, text: &[u8]) -> Result<Rsync, Fail> {
-    of_uri(Rsync::from_bytes(Bytes::copy_from_slice(alloc, text)?))
-}
-
-/// The https URI of this text.
-pub fn https(alloc: Global, text: &[u8]) -> Result<Https, Fail> {
-    of_uri(Https::from_bytes(Bytes::copy_from_slice(alloc, text)?))
-}
-
-/// A certificate of the key with the second number, under the name of the first one, from 2024 to
-/// 2049, that says nothing else.
-pub fn plain(alloc: Global, issuer: u64, of: u64, usage: KeyUsage) -> Result<TbsCert, Fail>
+/// A certificate of an end entity with key 2, under this name, from 2024 to 2049, that says nothing
+/// else.
+pub fn plain(alloc: Global, issuer: Name) -> Result<TbsCert, Fail>
     ensures { IfOk result (λ t. t.extensions.claims.addresses.v4 ≡ Missing) }
 {
-    let validity = Validity::new(start_of(2024)?, start_of(2050)?);
-    let issuer = key(alloc, issuer)?.to_subject_name(alloc)?;
-    let of = key(alloc, of)?;
-    let serial = Serial::from(7);
+    let validity = Validity::new(year(2024)?, year(2050)?);
+    let of = key(alloc, 2)?;
+    let (serial, usage) = (Serial::from(7), KeyUsage::Ee);
     Ok(TbsCert::new(serial, issuer, validity, None, of, usage, Overclaim::Refuse))
 }
 
-/// The certificate, signed by the key with this number.
-pub fn signed(alloc: Global, t: TbsCert, key: u64) -> Result<Cert, Fail>
-    requires { ClaimsIpv4 t.extensions.claims }
+/// A CA's with key 2, under both names, that says nothing else.
+pub fn named(alloc: Global) -> Result<TbsCert, Fail>
+    ensures { IfOk result (λ t. t.extensions.claims.addresses.v4 ≡ Missing) }
 {
-    let mut signer = StandInSigner::new(alloc);
-    match t.into_cert(alloc, &mut signer, &key) {
-        Ok(cert) => Ok(cert),
-        Err(SigningError::Memory) => Err(Fail::Memory),
-        Err(_) => Err(Fail::Refused),
-    }
+    let Some(end) = Time::utc(2049, 12, 31, 23, 59, 59) else {
+        return Err(Fail::Refused);
+    };
+    let validity = Validity::new(year(2024)?, end);
+    let issuer = name(ISSUER, Mode::Der)?;
+    let subject = Some(name(SUBJECT, Mode::Der)?);
+    let of = key(alloc, 2)?;
+    let serial = Serial::from(u64::MAX);
+    Ok(TbsCert::new(
+        serial,
+        issuer,
+        validity,
+        subject,
+        of,
+        KeyUsage::Ca,
+        Overclaim::Trim,
+    ))
 }
 
-/// The octets of a certificate.
-pub fn octets_of(alloc: Global, cert: &Cert) -> Result<Vec<u8>, Fail> {
-    match cert.encode_ref().to_bytes(alloc) {
-        Ok(octets) => Ok(octets),
-        Err(EncodeError::Memory) => Err(Fail::Memory),
-        Err(_) => Err(Fail::Refused),
-    }
+/// Sets each URI.
+pub fn set_places(alloc: Global, t: &mut TbsCert) -> Result<(), Fail> {
+    t.set_crl_uri(Some(rsync(alloc, b"rsync://a.example.com/r/a.crl")?));
+    t.set_ca_issuer(Some(rsync(alloc, b"rsync://a.example.com/r/a.cer")?));
+    t.set_ca_repository(Some(rsync(alloc, b"rsync://a.example.com/r/s/")?));
+    t.set_rpki_manifest(Some(rsync(alloc, b"rsync://a.example.com/r/s/a.mft")?));
+    t.set_signed_object(Some(rsync(alloc, b"rsync://a.example.com/r/a.roa")?));
+    let notify = Https::from_bytes(Bytes::from_static(b"https://a.example.com/n.xml"));
+    t.set_rpki_notify(Some(ok(alloc, notify)?));
+    Ok(())
 }
 
-/// The octets of the certificate, signed by the key with this number.
-pub fn octets_signed(alloc: Global, t: TbsCert, key: u64) -> Result<Vec<u8>, Fail>
-    requires { ClaimsIpv4 t.extensions.claims }
+/// AS64496, and AS1 to AS3 in two blocks that touch.
+pub fn push_numbers(blocks: &mut AsBlocksBuilder) -> Result<(), AllocError> {
+    blocks.push(AsBlock::Id(Asn::from_u32(64496)))?;
+    blocks.push(AsBlock::Range(Asn::from_u32(2), Asn::from_u32(3)))?;
+    blocks.push(AsBlock::Id(Asn::from_u32(1)))
+}
+
+/// fd00::/8 and 2001:db8::/32.
+pub fn push_addresses(blocks: &mut IpBlocksBuilder) -> Result<(), AllocError> {
+    let first = Addr::from_bits(0xFD << 120);
+    blocks.push(IpBlock::Prefix(Prefix::new(first, 8)))?;
+    let first = Addr::from_bits(0x2001_0DB8 << 96);
+    blocks.push(IpBlock::Prefix(Prefix::new(first, 32)))
+}
+
+/// How what is claimed is built.
+#[derive(Clone, Copy)]
+pub enum Way {
+    /// By the certificate, of which IPv4 addresses are inherited in the end.
+    Within,
+    /// Before it is handed to the certificate.
+    Before,
+}
+
+/// Sets what is claimed.
+fn set_claims(alloc: Global, t: &mut TbsCert, way: Way) -> Result<(), AllocError>
+    ensures { OnOk result (t.new.extensions.claims.addresses.v4 ≡ Inherit) }
 {
-    let cert = signed(alloc, t, key)?;
-    let octets = octets_of(alloc, &cert);
-    drop(cert);
-    octets
+    match way {
+        Way::Within => {
+            t.build_as_resource_blocks(alloc, push_numbers)?;
+            t.build_v4_resource_blocks(alloc, push_addresses)?;
+            t.build_v6_resource_blocks(alloc, push_addresses)?;
+        }
+        Way::Before => {
+            t.set_as_resources(build_as_resources(alloc, push_numbers)?);
+            t.set_v6_resources(build_ip_resources(alloc, push_addresses)?);
+        }
+    }
+    t.set_v4_resources(Resources::inherit());
+    Ok(())
+}
+
+/// Sets all that can be set.
+pub fn set_all(alloc: Global, t: &mut TbsCert, way: Way) -> Result<(), Fail>
+    ensures { OnOk result (t.new.extensions.claims.addresses.v4 ≡ Inherit) }
+{
+    t.set_basic_ca(Some(true));
+    t.set_authority_key_identifier(Some(key(alloc, 1)?.key_identifier()));
+    set_places(alloc, t)?;
+    set_claims(alloc, t, way)?;
+    Ok(())
 }

@@ -1,112 +1,63 @@
-//! Certificates whose octets another program made.
+//! Certificates whose octets another program made, signers that fail, and closures that refuse.
 
-ghost use Rattle.std.specs.Prelude.{◌≡◌, IfOk, OnOk};
-ghost use Rattle.rpki_resources.specs.declared.resources.Claim.TheVariants.{Missing, Inherit};
+ghost use Rattle.std.specs.Prelude.{◌≡◌, IfOk, OnOk, IsErr};
+ghost use Rattle.rpki_resources.specs.declared.resources.Claim.TheVariants.{Inherit};
+ghost use Rattle.rpki_issued.specs.Written.{ClaimsIpv4};
 
-use super::given::{https, key, name, octets_signed, plain, rsync, start_of};
+use super::given::{Way, name, named, plain, set_all};
 use super::octets::{JOINED, SMALL, WHOLE};
-use rpki_basics::standin::StandInSigner;
-use rpki_basics::{Serial, SigningError, Time, Validity};
-use rpki_der::Mode;
-use rpki_faults::{KeyUsage, Overclaim};
+use rpki_basics::standin::{Refused, StandInSigner};
+use rpki_basics::{Name, SigningError};
+use rpki_der::{Encode, Mode};
 use rpki_issued::TbsCert;
 use rpki_issued::signing::sign_and_join;
-use rpki_resources::{
-    Addr, AsBlock, AsBlocksBuilder, Asn, IpBlock, IpBlocksBuilder, Prefix, Resources,
-};
-use rpki_testing::Fail;
+use rpki_resources::{Addr, AsBlock, AsBlocksBuilder, Asn, IpBlock, IpBlocksBuilder};
+use rpki_testing::{Fail, key, ok, said};
 use std::alloc::{AllocError, Global};
 
-/// The names of the issuer and of the subject.
-const ISSUER: &[u8] = b"\x30\x0C\x31\x0A\x30\x08\x06\x03\x55\x04\x03\x13\x01\x69";
+/// What signing answers.
+type Answer<T> = Result<T, SigningError<Refused>>;
 
-const SUBJECT: &[u8] = b"\x30\x0C\x31\x0A\x30\x08\x06\x03\x55\x04\x03\x13\x01\x73";
-
-#[test]
-fn nothing_is_said(rt: HostRuntime) -> Result<(), Fail> {
-    let alloc = rt.alloc();
-    let octets = octets_signed(alloc, plain(alloc, 1, 2, KeyUsage::Ee)?, 1)?;
-    assert!(rt; octets.as_slice() == SMALL);
-    Ok(())
-}
-
-/// A CA's, under these names, that says nothing else.
-pub fn named(alloc: Global) -> Result<TbsCert, Fail>
-    ensures { IfOk result (λ t. t.extensions.claims.addresses.v4 ≡ Missing) }
+/// The octets of a certificate, signed by key 1 of a signer whose call with this number fails.
+fn octets_signed(alloc: Global, t: TbsCert, call: u64) -> Result<Answer<Vec<u8>>, Fail>
+    requires { ClaimsIpv4 t.extensions.claims }
 {
-    let Some(end) = Time::utc(2049, 12, 31, 23, 59, 59) else {
-        return Err(Fail::Refused);
-    };
-    let validity = Validity::new(start_of(2024)?, end);
-    let issuer = name(alloc, ISSUER, Mode::Der)?;
-    let subject = name(alloc, SUBJECT, Mode::Der)?;
-    let of = key(alloc, 2)?;
-    let serial = Serial::from(u64::MAX);
-    Ok(TbsCert::new(
-        serial,
-        issuer,
-        validity,
-        Some(subject),
-        of,
-        KeyUsage::Ca,
-        Overclaim::Trim,
-    ))
+    let mut signer = StandInSigner::failing_at(alloc, call);
+    match t.into_cert(alloc, &mut signer, &1) {
+        Err(fault) => Ok(Err(fault)),
+        Ok(cert) => {
+            let octets = cert.encode_ref().to_bytes(alloc);
+            drop(cert);
+            Ok(Ok(ok(alloc, octets)?))
+        }
+    }
 }
 
-/// Sets each URI.
-pub fn set_places(alloc: Global, t: &mut TbsCert) -> Result<(), Fail> {
-    t.set_crl_uri(Some(rsync(alloc, b"rsync://a.example.com/r/a.crl")?));
-    t.set_ca_issuer(Some(rsync(alloc, b"rsync://a.example.com/r/a.cer")?));
-    t.set_ca_repository(Some(rsync(alloc, b"rsync://a.example.com/r/s/")?));
-    t.set_rpki_manifest(Some(rsync(alloc, b"rsync://a.example.com/r/s/a.mft")?));
-    t.set_signed_object(Some(rsync(alloc, b"rsync://a.example.com/r/a.roa")?));
-    t.set_rpki_notify(Some(https(alloc, b"https://a.example.com/n.xml")?));
-    Ok(())
+/// Whether these octets are answered.
+fn are_octets(alloc: Global, answer: Answer<Vec<u8>>, want: &[u8]) -> Result<bool, Fail> {
+    Ok(ok(alloc, answer)?.as_slice() == want)
 }
 
-/// AS64496, and AS1 to AS3 in two blocks that touch.
-pub fn push_numbers(blocks: &mut AsBlocksBuilder) -> Result<(), AllocError> {
-    blocks.push(AsBlock::Id(Asn::from_u32(64496)))?;
-    blocks.push(AsBlock::Range(Asn::from_u32(2), Asn::from_u32(3)))?;
-    blocks.push(AsBlock::Id(Asn::from_u32(1)))
+/// Whether a certificate that says nothing, or all that can be said, has the octets that another
+/// program made.
+fn are_as_elsewhere(alloc: Global) -> Result<bool, Fail> {
+    let issuer = key(alloc, 1)?.to_subject_name(alloc)?;
+    let small = octets_signed(alloc, plain(alloc, issuer)?, 0)?;
+    let within = octets_signed(alloc, whole(alloc, Way::Within)?, 0)?;
+    let before = octets_signed(alloc, whole(alloc, Way::Before)?, 2)?;
+    Ok(
+        are_octets(alloc, small, SMALL)?
+            && are_octets(alloc, within, WHOLE)?
+            && are_octets(alloc, before, WHOLE)?,
+    )
 }
 
-/// fd00::/8 and 2001:db8::/32.
-pub fn push_addresses(blocks: &mut IpBlocksBuilder) -> Result<(), AllocError> {
-    let first = Addr::from_bits(0xFD << 120);
-    blocks.push(IpBlock::Prefix(Prefix::new(first, 8)))?;
-    let first = Addr::from_bits(0x2001_0DB8 << 96);
-    blocks.push(IpBlock::Prefix(Prefix::new(first, 32)))
-}
-
-/// Sets what is claimed: IPv4 addresses that are built and then inherited.
-fn set_claims(alloc: Global, t: &mut TbsCert) -> Result<(), AllocError>
-    ensures { OnOk result (t.new.extensions.claims.addresses.v4 ≡ Inherit) }
-{
-    t.build_as_resource_blocks(alloc, push_numbers)?;
-    t.build_v4_resource_blocks(alloc, push_addresses)?;
-    t.build_v6_resource_blocks(alloc, push_addresses)?;
-    t.set_v4_resources(Resources::inherit());
-    Ok(())
-}
-
-/// Sets all that can be set.
-fn set_all(alloc: Global, t: &mut TbsCert) -> Result<(), Fail>
-    ensures { OnOk result (t.new.extensions.claims.addresses.v4 ≡ Inherit) }
-{
-    t.set_basic_ca(Some(true));
-    t.set_authority_key_identifier(Some(key(alloc, 1)?.key_identifier()));
-    set_places(alloc, t)?;
-    set_claims(alloc, t)?;
-    Ok(())
-}
-
-/// A CA's, with all that can be set.
-fn whole(alloc: Global) -> Result<TbsCert, Fail>
+/// A CA's, with all that can be set, on which closures have refused.
+fn whole(alloc: Global, way: Way) -> Result<TbsCert, Fail>
     ensures { IfOk result (λ t. t.extensions.claims.addresses.v4 ≡ Inherit) }
 {
     let mut t = named(alloc)?;
-    match set_all(alloc, &mut t) {
+    match set_after_refusals(alloc, &mut t, way) {
         Ok(()) => Ok(t),
         Err(fail) => {
             drop(t);
@@ -115,22 +66,81 @@ fn whole(alloc: Global) -> Result<TbsCert, Fail>
     }
 }
 
-#[test]
-fn all_is_said(rt: HostRuntime) -> Result<(), Fail> {
-    let alloc = rt.alloc();
-    let octets = octets_signed(alloc, whole(alloc)?, 1)?;
-    assert!(rt; octets.as_slice() == WHOLE);
-    Ok(())
+/// Three numbers, and then no.
+fn refuse_numbers(blocks: &mut AsBlocksBuilder) -> Result<(), AllocError> {
+    blocks.push(AsBlock::Id(Asn::from_u32(1)))?;
+    blocks.push(AsBlock::Id(Asn::from_u32(3)))?;
+    blocks.push(AsBlock::Id(Asn::from_u32(5)))?;
+    Err(AllocError)
+}
+
+/// Three addresses, and then no.
+fn refuse_addresses(blocks: &mut IpBlocksBuilder) -> Result<(), AllocError> {
+    for bits in [1, 3, 5] {
+        blocks.push(IpBlock::Range(Addr::from_bits(bits), Addr::from_bits(bits)))?;
+    }
+    Err(AllocError)
+}
+
+/// What was refused, as it has to be.
+fn refused(built: Result<(), AllocError>) -> Result<(), Fail>
+    ensures { OnOk result (IsErr built) }
+{
+    match built {
+        Ok(()) => Err(Fail::Refused),
+        Err(_) => Ok(()),
+    }
+}
+
+/// Sets all, after each closure has refused, and has each refuse once more.
+fn set_after_refusals(alloc: Global, t: &mut TbsCert, way: Way) -> Result<(), Fail>
+    ensures { OnOk result (t.new.extensions.claims.addresses.v4 ≡ Inherit) }
+{
+    refused(t.build_as_resource_blocks(alloc, refuse_numbers))?;
+    set_all(alloc, t, way)?;
+    refused(t.build_as_resource_blocks(alloc, refuse_numbers))?;
+    refused(t.build_v4_resource_blocks(alloc, refuse_addresses))?;
+    refused(t.build_v6_resource_blocks(alloc, refuse_addresses))
+}
+
+/// What is answered where the issuer has this name, and this call of the signer fails.
+fn answered(alloc: Global, issuer: Name, call: u64) -> Result<String, Fail> {
+    said(alloc, octets_signed(alloc, plain(alloc, issuer)?, call)?)
+}
+
+/// The name of an issuer and the mode that it is read in, the call of the signer that fails, and
+/// what is answered.
+static ANSWERS: [(&[u8], Mode, u64, &str); 5] = [
+    (b"\x30\x00", Mode::Der, 0, "yes"),
+    (b"\x30\x00", Mode::Der, 1, "told to fail"),
+    (b"\x30\x00", Mode::Der, 2, "yes"),
+    (b"\x30\x00", Mode::Ber, 0, "not DER"),
+    (b"\x30\x80\x00\x00", Mode::Ber, 2, "not DER"),
+];
+
+fn are_answered(alloc: Global) -> Result<bool, Fail> {
+    for (octets, mode, call, want) in &ANSWERS {
+        let issuer = name(*octets, *mode)?;
+        if answered(alloc, issuer, *call)?.as_str() != *want {
+            return Ok(false);
+        }
+    }
+    Ok(true)
+}
+
+/// Whether octets are joined with their signature.
+fn are_joined(alloc: Global) -> Result<bool, Fail> {
+    let mut signer = StandInSigner::new(alloc);
+    are_octets(
+        alloc,
+        sign_and_join(alloc, b"\x30\x00", &mut signer, &1),
+        JOINED,
+    )
 }
 
 #[test]
-fn octets_are_signed(rt: HostRuntime) -> Result<(), Fail> {
+fn certificates_are_issued(rt: HostRuntime) -> Result<(), Fail> {
     let alloc = rt.alloc();
-    let mut signer = StandInSigner::new(alloc);
-    match sign_and_join(alloc, b"\x30\x00", &mut signer, &1) {
-        Ok(joined) => assert!(rt; joined.as_slice() == JOINED),
-        Err(SigningError::Memory) => return Err(Fail::Memory),
-        Err(_) => return Err(Fail::Refused),
-    }
+    assert!(rt; are_as_elsewhere(alloc)? && are_answered(alloc)? && are_joined(alloc)?);
     Ok(())
 }

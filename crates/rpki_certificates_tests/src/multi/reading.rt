@@ -3,8 +3,8 @@
 use super::octets::{AUTHORITY, EMPTY, ENTITY, FIRST, LIST, OTHER_TYPE, SECOND, WHOLE};
 use bytes::Bytes;
 use rpki_der::{Constructed, DecodeError, Mode};
-use rpki_multi::{MultiSignedObject, SignerInfo};
-use rpki_testing::{Fail, value};
+use rpki_multi::{MultiSignedObject, Rta};
+use rpki_testing::{Fail, said, value};
 use std::alloc::{AllocError, Global};
 
 /// The version, the algorithm, and the content with its type.
@@ -186,6 +186,17 @@ static ROWS: [Row; 20] = [
     ),
 ];
 
+/// The two objects that were made as a whole.
+static WHOLES: [(&[u8], &str); 2] = [
+    (EMPTY, "57 certs crls signers"),
+    (
+        WHOLE,
+        "57 certs 3 2 crls 07AAE1B618F604C684EE3189FA1723BEF8656FE4 signers \
+            216A788021417AD345B1B1EE10753127C457AFC0 2024-06-02T12:00:00Z \
+            461D6580E38CCB6DC72699B6C945E53831DCDF03 2024-06-01T00:00:00Z",
+    ),
+];
+
 /// The object of these fields.
 fn object(alloc: Global, fields: &[&[u8]], lists: &[Held]) -> Result<Bytes, AllocError> {
     let mut contents = fields.concat(alloc)?;
@@ -197,16 +208,6 @@ fn object(alloc: Global, fields: &[&[u8]], lists: &[Held]) -> Result<Bytes, Allo
     let tagged = value(alloc, 0xA0, &[&signed])?;
     let kind: &[u8] = b"\x06\x09\x2A\x86\x48\x86\xF7\x0D\x01\x07\x02";
     Ok(Bytes::from_vec(value(alloc, 0x30, &[kind, &tagged])?)?)
-}
-
-/// Appends the identifiers and the times of signers.
-fn push_signers(text: &mut String, signers: &[SignerInfo]) -> Result<(), AllocError> {
-    for signer in signers {
-        let sid = signer.sid();
-        let time = signer.signing_time();
-        write!(text, " {sid} {time}")?;
-    }
-    Ok(())
 }
 
 /// What an object says.
@@ -223,90 +224,76 @@ fn text(alloc: Global, object: &MultiSignedObject) -> Result<String, AllocError>
         write!(text, " {key}")?;
     }
     text.push_str(" signers")?;
-    push_signers(&mut text, object.signer_infos())?;
-    Ok(text)
-}
-
-/// What is answered.
-fn shown(
-    alloc: Global,
-    answer: Result<MultiSignedObject, DecodeError>,
-) -> Result<String, AllocError> {
-    match answer {
-        Ok(object) => {
-            let text = text(alloc, &object);
-            drop(object);
-            text
-        }
-        Err(DecodeError::Memory) => Err(AllocError),
-        Err(error) => format!(in alloc; "{error}"),
+    for signer in object.signer_infos() {
+        let (sid, time) = (signer.sid(), signer.signing_time());
+        write!(text, " {sid} {time}")?;
     }
+    Ok(text)
 }
 
 /// The object that is read in this mode.
 pub fn read(alloc: Global, octets: Bytes, mode: Mode) -> Result<MultiSignedObject, DecodeError> {
-    Constructed::decode(
-        octets,
-        mode,
-        |cons| MultiSignedObject::take_from(alloc, cons),
-    )
+    match mode {
+        Mode::Der => MultiSignedObject::decode(alloc, octets),
+        Mode::Ber => {
+            Constructed::decode(
+                octets,
+                mode,
+                |cons| MultiSignedObject::take_from(alloc, cons),
+            )
+        }
+    }
+}
+
+/// What the object says that is read in this mode, or why it is refused.
+fn answered(alloc: Global, octets: Bytes, mode: Mode) -> Result<String, Fail> {
+    match read(alloc, octets, mode) {
+        Err(error) => said(alloc, Err::<(), _>(error)),
+        Ok(object) => {
+            let text = text(alloc, &object);
+            drop(object);
+            Ok(text?)
+        }
+    }
 }
 
 /// Whether the object of a row says this, where it is read strictly and where not.
-fn is_so(alloc: Global, row: &Row) -> Result<bool, AllocError> {
-    let octets = object(alloc, row.0, row.1)?;
-    let strict = shown(alloc, MultiSignedObject::decode(alloc, octets.clone()?))?;
-    let relaxed = shown(alloc, read(alloc, octets, Mode::Ber))?;
-    Ok(strict.as_str() == row.2 && relaxed.as_str() == row.3)
+fn is_so(alloc: Global, octets: Bytes, strict: &str, relaxed: &str) -> Result<bool, Fail> {
+    let same: Result<Bytes, _> = octets.clone();
+    Ok(
+        answered(alloc, same?, Mode::Der)?.as_str() == strict
+            && answered(alloc, octets, Mode::Ber)?.as_str() == relaxed,
+    )
 }
 
-#[test]
-fn rows(rt: HostRuntime) -> Result<(), AllocError> {
-    let alloc = rt.alloc();
-    for row in &ROWS {
-        assert!(rt; is_so(alloc, row)?);
+fn are_so(alloc: Global) -> Result<bool, Fail> {
+    for (fields, lists, strict, relaxed) in &ROWS {
+        if !is_so(alloc, object(alloc, fields, lists)?, strict, relaxed)? {
+            return Ok(false);
+        }
     }
-    Ok(())
+    for (octets, text) in &WHOLES {
+        if !is_so(alloc, Bytes::from_static(octets), text, text)? {
+            return Ok(false);
+        }
+    }
+    Ok(true)
 }
 
-/// An object whose content is a number.
-pub fn number_alone(alloc: Global) -> Result<Bytes, AllocError> {
-    object(alloc, &[VERSION, DIGEST, CONTENT], &[NO_CERTS, NO_SIGNERS])
-}
-
-/// The number of the content, of which there is one.
-fn number(alloc: Global) -> Result<u8, Fail> {
-    let octets = number_alone(alloc)?;
-    let object = MultiSignedObject::decode(alloc, octets)?;
+/// The number of the content, of which there is one, and what is answered where the object is read
+/// as an attestation.
+fn number(alloc: Global) -> Result<(u8, String), Fail> {
+    let octets = object(alloc, &[VERSION, DIGEST, CONTENT], &[NO_CERTS, NO_SIGNERS])?;
+    let same: Result<Bytes, _> = octets.clone();
+    let object = MultiSignedObject::decode(alloc, same?)?;
     let number = object.decode_content(|cons| cons.take_u8());
     drop(object);
-    Ok(number?)
+    Ok((number?, said(alloc, Rta::decode(alloc, octets))?))
 }
 
 #[test]
-fn contents(rt: HostRuntime) -> Result<(), Fail> {
-    assert!(rt; number(rt.alloc())? == 5);
-    Ok(())
-}
-
-/// The two objects that were made as a whole.
-static WHOLES: [(&[u8], &str); 2] = [
-    (EMPTY, "57 certs crls signers"),
-    (
-        WHOLE,
-        "57 certs 3 2 crls 07AAE1B618F604C684EE3189FA1723BEF8656FE4 signers \
-            216A788021417AD345B1B1EE10753127C457AFC0 2024-06-02T12:00:00Z \
-            461D6580E38CCB6DC72699B6C945E53831DCDF03 2024-06-01T00:00:00Z",
-    ),
-];
-
-#[test]
-fn wholes(rt: HostRuntime) -> Result<(), AllocError> {
-    let alloc = rt.alloc();
-    for (octets, text) in &WHOLES {
-        let object = MultiSignedObject::decode(alloc, Bytes::from_static(octets));
-        let found = shown(alloc, object)?;
-        assert_eq!(rt; found.as_str(), *text);
-    }
+fn objects_are_read(rt: HostRuntime) -> Result<(), Fail> {
+    let (number, attested) = number(rt.alloc())?;
+    assert!(rt; are_so(rt.alloc())? && number == 5 && attested.as_str() == "malformed");
     Ok(())
 }

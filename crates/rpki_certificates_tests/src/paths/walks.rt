@@ -5,8 +5,8 @@ ghost use Rattle.std.specs.Prelude.{◌≡◌, ◌<◌};
 use super::plain::{Above, NoAnchor, Plain, Root, Seen, as_set, id, ip_set};
 use rpki_faults::{Family, Overclaim};
 use rpki_paths::{
-    Attested, Certificate, FinalFault, KeyId, Path, PathFault, PathResources, Supplied,
-    SupplyFault, VerdictCount, WalksFault, finalize, supply_all, supply_each, walk_each,
+    Attested, FinalFault, KeyId, Path, PathFault, Supplied, SupplyFault, VerdictCount, WalksFault,
+    finalize, supply_all, walk_each,
 };
 use rpki_resources::{AsResources, IpResources};
 use std::alloc::{AllocError, Global};
@@ -252,7 +252,7 @@ const INHERITED: Claimed = Claimed::Inherited;
 /// No certificate has this serial number.
 const NONE: u64 = 255;
 
-static CASES: [Case; 32] = [
+static CASES: [Case; 33] = [
     // a set is trimmed to the issuer's, an inherited one is the issuer's
     (
         &[Row(1, 2, 2, TRIM, Claimed::From(10, 20), NONE)],
@@ -302,6 +302,18 @@ static CASES: [Case; 32] = [
         &[
             Row(2, 3, 3, TRIM, INHERITED, NONE),
             Row(3, 2, 2, TRIM, INHERITED, NONE),
+        ],
+        &[Given::Ca(0, 1, 9)],
+        &[(1, 5)],
+        Answer::NotWalked(WalksFault::NoPath(PathFault::Returns)),
+    ),
+    // three, of which each is issued by the next
+    (
+        &[Row(1, 2, 2, TRIM, Claimed::From(1, 5), NONE)],
+        &[
+            Row(2, 3, 3, TRIM, INHERITED, NONE),
+            Row(3, 4, 4, TRIM, INHERITED, NONE),
+            Row(4, 2, 2, TRIM, INHERITED, NONE),
         ],
         &[Given::Ca(0, 1, 9)],
         &[(1, 5)],
@@ -561,9 +573,32 @@ fn answer_in(family: Family, answer: Answer) -> Answer {
     }
 }
 
+/// The same rows, the last one first.
+fn reversed(alloc: Global, rows: &[Row]) -> Result<Vec<Row>, AllocError> {
+    let mut reversed = Vec::new(alloc);
+    for row in rows.iter().rev() {
+        reversed.push(*row)?;
+    }
+    Ok(reversed)
+}
+
+/// Whether a case is answered, and what is granted also where the certificates that are carried
+/// stand the other way round.
+fn is_answered(alloc: Global, family: Family, case: &Case) -> Result<bool, AllocError> {
+    let (ees, cas, given, attested, want) = *case;
+    if answered(alloc, family, ees, cas, given, attested)? != answer_in(family, want) {
+        return Ok(false);
+    }
+    if want != Answer::Granted {
+        return Ok(true);
+    }
+    let (ees, cas) = (reversed(alloc, ees)?, reversed(alloc, cas)?);
+    Ok(answered(alloc, family, &ees, &cas, given, attested)? == want)
+}
+
 fn are_answered(alloc: Global, family: Family) -> Result<bool, AllocError> {
-    for (ees, cas, given, attested, want) in &CASES {
-        if answered(alloc, family, ees, cas, given, attested)? != answer_in(family, *want) {
+    for case in &CASES {
+        if !is_answered(alloc, family, case)? {
             return Ok(false);
         }
     }
@@ -582,74 +617,5 @@ fn are_answered_in_each(alloc: Global) -> Result<bool, AllocError> {
 #[test]
 fn walks_and_supplies(rt: HostRuntime) -> Result<(), AllocError> {
     assert!(rt; are_answered_in_each(rt.alloc())?);
-    Ok(())
-}
-
-/// The path of a certificate alone.
-fn alone<'a>(alloc: Global, head: Seen<'a>) -> Result<Path<Seen<'a>>, AllocError> {
-    let sets = PathResources::none().with_issuer(alloc, head.overclaim(), &head)?;
-    Ok(Path {
-        head,
-        place: 0,
-        sets,
-        anchored: false,
-    })
-}
-
-static HEADS: [Row; 3] = [
-    Row(1, 7, 7, REFUSE, Claimed::From(1, 5), NONE),
-    Row(2, 2, 2, TRIM, Claimed::From(1, 5), NONE),
-    Row(3, 8, 8, REFUSE, Claimed::From(1, 5), NONE),
-];
-
-/// Supplies that are handed in one after the other, and what each answers.
-static SINGLES: [(Given, Result<bool, SupplyFault<NoAnchor>>); 7] = [
-    (Given::Ca(7, 2, 9), Err(SupplyFault::NotCovered(Family::V6))),
-    (Given::Ca(7, 1, 9), Ok(false)),
-    // the path is anchored already
-    (Given::Ca(7, 2, 9), Ok(false)),
-    (Given::Ca(8, 1, 9), Ok(false)),
-    // of another key, and of its own
-    (Given::Tal(3), Ok(false)),
-    (Given::Tal(2), Ok(true)),
-    // meant for none
-    (Given::Ca(9, 1, 1), Ok(true)),
-];
-
-/// Whether a single supply answers this.
-fn is_answered_alone<'a>(
-    alloc: Global,
-    paths: &mut [Path<Seen<'a>>],
-    given: Given,
-    want: &Result<bool, SupplyFault<NoAnchor>>,
-) -> Result<bool, AllocError> {
-    let pairs = pairs(alloc, Family::V6, &[given])?;
-    let supplies = supplies(alloc, &[given], &pairs)?;
-    for supply in &supplies {
-        match supply_each(paths, supply) {
-            Err(SupplyFault::Memory) => return Err(AllocError),
-            answer => return Ok(answer == *want),
-        }
-    }
-    Ok(false)
-}
-
-fn are_answered_alone(alloc: Global) -> Result<bool, AllocError> {
-    let heads = plains(alloc, Family::V6, &HEADS)?;
-    let mut paths = Vec::new(alloc);
-    for head in &heads {
-        paths.push(alone(alloc, Seen(head, head.revoked.as_slice()))?)?;
-    }
-    for (given, want) in &SINGLES {
-        if !is_answered_alone(alloc, &mut paths, *given, want)? {
-            return Ok(false);
-        }
-    }
-    Ok(true)
-}
-
-#[test]
-fn single_supplies(rt: HostRuntime) -> Result<(), AllocError> {
-    assert!(rt; are_answered_alone(rt.alloc())?);
     Ok(())
 }

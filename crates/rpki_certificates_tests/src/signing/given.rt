@@ -1,101 +1,96 @@
-//! What tests are given: an issuer that was built, and builders of objects.
+//! What tests are given: an issuer, and builders of objects.
 
 ghost use Rattle.std.specs.Prelude.{◌≡◌, IfOk};
 ghost use Rattle.rpki_resources.specs.declared.resources.Claim.TheVariants.{Missing};
 
 use bytes::Bytes;
-use rpki_basics::standin::{Refused, StandIn, StandInSigner};
-use rpki_basics::{PublicKey, Rsync, Serial, Signer, SignerFault, SigningError, Time, Validity};
+use rpki_basics::standin::StandIn;
+use rpki_basics::{Serial, Validity};
 use rpki_certs::{Cert, ResourceCert};
-use rpki_faults::{KeyUsage, Overclaim};
-use rpki_issued::TbsCert;
-use rpki_resources::{AsBlock, Asn};
+use rpki_resources::{
+    Addr, AsBlock, AsBlocksBuilder, Asn, Claim, IpBlock, IpBlocksBuilder, Number, Prefix, Resources,
+};
 use rpki_signing::SignedObjectBuilder;
-use rpki_testing::Fail;
-use std::alloc::Global;
+use rpki_testing::{Fail, rsync, year};
+use std::alloc::{AllocError, Global};
 
 /// The key of the issuer.
 pub const ISSUER: u64 = 7;
 
-/// What the signer answers, or why a test ends early.
-pub fn signed<T>(answer: Result<T, SigningError<Refused>>) -> Result<T, Fail> {
-    match answer {
-        Ok(value) => Ok(value),
-        Err(SigningError::Memory) => Err(Fail::Memory),
-        Err(_) => Err(Fail::Refused),
-    }
-}
-
-/// The first moment of a year.
-pub fn year(year: u16) -> Result<Time, Fail> {
-    match Time::utc(year, 1, 1, 0, 0, 0) {
-        Some(time) => Ok(time),
-        None => Err(Fail::Refused),
-    }
-}
-
-/// A URI.
-pub fn uri(alloc: Global, text: &[u8]) -> Result<Rsync, Fail> {
-    match Rsync::from_bytes(Bytes::copy_from_slice(alloc, text)?) {
-        Ok(uri) => Ok(uri),
-        Err(_) => Err(Fail::Refused),
-    }
-}
-
-/// The key with this number.
-fn key(signer: &mut StandInSigner, number: u64) -> Result<PublicKey, Fail> {
-    match signer.get_key_info(&number) {
-        Ok(key) => Ok(key),
-        Err(SignerFault::Memory) => Err(Fail::Memory),
-        Err(_) => Err(Fail::Refused),
-    }
-}
-
-/// The certificate of the issuer before it is signed: that of a trust anchor with AS numbers from 1
-/// to 10.
-pub fn unsigned(alloc: Global, signer: &mut StandInSigner) -> Result<TbsCert, Fail>
-    ensures { IfOk result (λ t. t.extensions.claims.addresses.v4 ≡ Missing) }
-{
-    let validity = Validity::new(year(2020)?, year(2040)?);
-    let repository = uri(alloc, b"rsync://host/module/")?;
-    let manifest = uri(alloc, b"rsync://host/module/mft.mft")?;
-    let key = key(signer, ISSUER)?;
-    let name = key.to_subject_name(alloc)?;
-    let usage = KeyUsage::Ca;
-    let mut cert = TbsCert::new(
-        Serial::from(1),
-        name,
-        validity,
-        None,
-        key,
-        usage,
-        Overclaim::Refuse,
-    );
-    cert.set_basic_ca(Some(true));
-    cert.set_ca_repository(Some(repository));
-    cert.set_rpki_manifest(Some(manifest));
-    let numbers = AsBlock::Range(Asn::from_u32(1), Asn::from_u32(10));
-    cert.build_as_resource_blocks(alloc, |blocks| blocks.push(numbers))?;
-    Ok(cert)
-}
+/// The certificate of a trust anchor of this key, from 2020 to 2040, with AS64496, 192.0.2.0/24 and
+/// 2001:db8::/32, which another program made.
+static ANCHOR: &[u8] = b"\
+    \x30\x82\x01\x7B\x30\x82\x01\x45\xA0\x03\x02\x01\x02\x02\x01\x01\x30\x0D\x06\x09\x2A\x86\x48\
+    \x86\xF7\x0D\x01\x01\x0B\x05\x00\x30\x00\x30\x1E\x17\x0D\x32\x30\x30\x31\x30\x31\x30\x30\x30\
+    \x30\x30\x30\x5A\x17\x0D\x34\x30\x30\x31\x30\x31\x30\x30\x30\x30\x30\x30\x5A\x30\x00\x30\x1A\
+    \x30\x0D\x06\x09\x2A\x86\x48\x86\xF7\x0D\x01\x01\x01\x05\x00\x03\x09\x00\x00\x00\x00\x00\x00\
+    \x00\x00\x07\xA3\x81\xEB\x30\x81\xE8\x30\x0F\x06\x03\x55\x1D\x13\x01\x01\xFF\x04\x05\x30\x03\
+    \x01\x01\xFF\x30\x1D\x06\x03\x55\x1D\x0E\x04\x16\x04\x14\xAE\xBF\x74\x00\x96\xFE\xA5\xF7\x38\
+    \x20\x2D\x5D\x29\x9F\xC8\x4E\x93\x21\x55\xD5\x30\x0E\x06\x03\x55\x1D\x0F\x01\x01\xFF\x04\x04\
+    \x03\x02\x01\x06\x30\x40\x06\x08\x2B\x06\x01\x05\x05\x07\x01\x0B\x04\x34\x30\x32\x30\x17\x06\
+    \x08\x2B\x06\x01\x05\x05\x07\x30\x05\x86\x0B\x72\x73\x79\x6E\x63\x3A\x2F\x2F\x68\x2F\x6D\x30\
+    \x17\x06\x08\x2B\x06\x01\x05\x05\x07\x30\x0A\x86\x0B\x72\x73\x79\x6E\x63\x3A\x2F\x2F\x68\x2F\
+    \x6D\x30\x18\x06\x03\x55\x1D\x20\x01\x01\xFF\x04\x0E\x30\x0C\x30\x0A\x06\x08\x2B\x06\x01\x05\
+    \x05\x07\x0E\x02\x30\x2E\x06\x08\x2B\x06\x01\x05\x05\x07\x01\x07\x01\x01\xFF\x04\x1F\x30\x1D\
+    \x30\x0C\x04\x02\x00\x01\x30\x06\x03\x04\x00\xC0\x00\x02\x30\x0D\x04\x02\x00\x02\x30\x07\x03\
+    \x05\x00\x20\x01\x0D\xB8\x30\x1A\x06\x08\x2B\x06\x01\x05\x05\x07\x01\x08\x01\x01\xFF\x04\x0B\
+    \x30\x09\xA0\x07\x30\x05\x02\x03\x00\xFB\xF0\x30\x0D\x06\x09\x2A\x86\x48\x86\xF7\x0D\x01\x01\
+    \x0B\x05\x00\x03\x21\x00\x33\x4A\xE7\x77\x5E\xD9\x7E\x4E\x7A\x81\xD4\x19\x55\x95\x33\x7C\x7F\
+    \xC7\x36\x42\xB6\xFA\xA4\x55\xCC\x8D\x28\x70\x37\x97\x3B\x11";
 
 /// The issuer, a trust anchor.
-pub fn issuer(alloc: Global, signer: &mut StandInSigner) -> Result<ResourceCert, Fail> {
-    let cert: Cert = signed(unsigned(alloc, signer)?.into_cert(alloc, signer, &ISSUER))?;
-    Ok(cert.validate_ta_at(alloc, true, &StandIn, year(2030)?)?)
+pub fn issuer(alloc: Global) -> Result<ResourceCert, Fail> {
+    let now = year(2030)?;
+    let cert = Cert::decode(alloc, Bytes::from_static(ANCHOR))?;
+    Ok(cert.validate_ta_at(alloc, true, &StandIn, now)?)
 }
 
-/// A builder that claims the AS numbers of the issuer, and signs at this moment.
-pub fn builder(alloc: Global, signing_time: Time) -> Result<SignedObjectBuilder, Fail>
+/// AS64496.
+fn push_number(blocks: &mut AsBlocksBuilder) -> Result<(), AllocError> {
+    blocks.push(AsBlock::Id(Asn::from_u32(64496)))
+}
+
+/// 2001:db8::/32.
+fn push_prefix(blocks: &mut IpBlocksBuilder) -> Result<(), AllocError> {
+    let first = Addr::from_bits(0x2001_0DB8 << 96);
+    blocks.push(IpBlock::Prefix(Prefix::new(first, 32)))
+}
+
+/// Whether there is a claim, of one block.
+fn is_one<T: Number>(claim: &Resources<T>) -> bool {
+    match claim.claim() {
+        Claim::Explicit(blocks) => blocks.as_slice().len() == 1,
+        _ => false,
+    }
+}
+
+/// Whether a builder claims the block of each family that is added to it.
+pub fn are_claimed(alloc: Global) -> Result<bool, Fail> {
+    let mut builder = builder(alloc, 2030)?;
+    let numbers = builder.build_as_resource_blocks(alloc, push_number);
+    let v4 = builder.build_v4_resource_blocks(alloc, push_prefix);
+    let v6 = builder.build_v6_resource_blocks(alloc, push_prefix);
+    let are_claimed = is_one(builder.as_resources())
+        && is_one(builder.v4_resources())
+        && is_one(builder.v6_resources());
+    drop(builder);
+    numbers?;
+    v4?;
+    v6?;
+    Ok(are_claimed)
+}
+
+/// A builder that claims the AS numbers of the issuer, and signs at the beginning of this year.
+pub fn builder(alloc: Global, at: u16) -> Result<SignedObjectBuilder, Fail>
     ensures { IfOk result (λ b. b.v4 ≡ Missing) }
 {
     let mut builder = SignedObjectBuilder::new(
         Serial::from(2),
         Validity::new(year(2029)?, year(2031)?),
-        uri(alloc, b"rsync://host/module/ca.crl")?,
-        uri(alloc, b"rsync://host/ca.cer")?,
-        uri(alloc, b"rsync://host/module/object.roa")?,
-        signing_time,
+        rsync(alloc, b"rsync://host/module/ca.crl")?,
+        rsync(alloc, b"rsync://host/ca.cer")?,
+        rsync(alloc, b"rsync://host/module/object.roa")?,
+        year(at)?,
     );
     builder.set_as_resources_inherit();
     Ok(builder)

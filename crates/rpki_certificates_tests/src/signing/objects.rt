@@ -1,117 +1,183 @@
-//! Objects that are built.
+//! Objects of each kind that are built and signed.
 
-use super::given::{ISSUER, builder, issuer, signed, year};
+use super::given::{ISSUER, builder};
 use bytes::Bytes;
-use rpki_basics::SigningError;
-use rpki_basics::standin::{Refused, StandIn, StandInSigner};
+use rpki_basics::standin::{Refused, StandInSigner};
+use rpki_basics::{DigestAlgorithm, ManifestRule, ProviderLimit, Serial, SigningError};
 use rpki_der::Oid;
-use rpki_faults::ValidationError;
-use rpki_sigobj::SignedObject;
-use rpki_testing::Fail;
+use rpki_files::{FileAndHash, Manifest, ManifestContent, ResourceSignedChecklist};
+use rpki_resources::Asn;
+use rpki_routes::{Aspa, AspaBuilder, Roa, RoaBuilder, RouteOriginAttestation};
+use rpki_sigobj::{Content, Signed};
+use rpki_testing::{Fail, ok, year};
 use std::alloc::{AllocError, Global};
+use std::net::{Ipv4Addr, Ipv6Addr};
 
-/// The content of each object.
-const CONTENT: &[u8] = b"\x02\x01\x05";
+/// What a signer answers.
+pub type Answer<T> = Result<T, SigningError<Refused>>;
 
-/// The contents of id-ct-routeOriginAuthz (RFC 9582, section 3).
-pub const KIND: &[u8] = b"\x2A\x86\x48\x86\xF7\x0D\x01\x09\x10\x01\x18";
-
-/// The object identifier with these contents.
-pub fn kind(alloc: Global, contents: &[u8]) -> Result<Oid, Fail> {
-    match Oid::from_bytes(Bytes::copy_from_slice(alloc, contents)?) {
-        Some(kind) => Ok(kind),
-        None => Err(Fail::Refused),
-    }
+/// What is signed.
+#[derive(Clone, Copy)]
+pub enum Object {
+    /// A number, of the type of ROAs.
+    Number,
+    Checklist,
+    Manifest,
+    /// A ROA of 2001:db8::/32 and of 192.0.2.0 with a prefix of this length, or of nothing.
+    Roa(Option<u8>),
+    /// An ASPA of these providers.
+    Aspa(&'static [u32]),
 }
 
-/// An object that this signer has signed in this year.
-fn object(
+/// The content of the object that has a number.
+pub static NUMBER: &[u8] = b"\x02\x01\x05";
+
+/// A checklist of AS64496 for a file without a name.
+pub static CHECKLIST: &[u8] = b"\x30\x26\x30\x0D\xA0\x0B\x30\x09\xA0\x07\
+    \x30\x05\x02\x03\x00\xFB\xF0\x30\x0B\x06\x09\x60\x86\x48\x01\x65\x03\x04\x02\x01\
+    \x30\x08\x30\x06\x04\x04hash";
+
+/// The entries of each manifest.
+static ENTRIES: [(&[u8], &[u8]); 2] = [(b"ca.crl", b"1"), (b"b.roa", b"2")];
+
+/// The autonomous system of each ROA, and the customer of each ASPA.
+const AS: u32 = 64496;
+
+/// An object with this content, signed in this year.
+fn signed_object(
     alloc: Global,
     signer: &mut StandInSigner,
+    kind: &Oid,
+    content: &[u8],
     at: u16,
-) -> Result<Result<SignedObject, SigningError<Refused>>, Fail> {
-    let kind = kind(alloc, KIND)?;
-    let builder = builder(alloc, year(at)?)?;
-    Ok(builder.finalize(alloc, &kind, CONTENT, signer, &ISSUER))
-}
-
-/// Whether an object that was signed in this year is valid under its issuer in 2030.
-fn is_valid(alloc: Global, at: u16) -> Result<bool, Fail> {
-    let mut signer = StandInSigner::new(alloc);
-    let issuer = issuer(alloc, &mut signer)?;
-    let object = signed(object(alloc, &mut signer, at)?)?;
-    let answer = object.validate_at(alloc, &issuer, true, &StandIn, year(2030)?);
-    drop(issuer);
-    match answer {
-        Ok(cert) => {
-            drop(cert);
-            Ok(true)
-        }
-        Err(ValidationError::Memory) => Err(Fail::Memory),
-        Err(_) => Ok(false),
-    }
-}
-
-#[test]
-fn built_objects_are_valid(rt: HostRuntime) -> Result<(), Fail> {
-    let alloc = rt.alloc();
-    assert!(rt; is_valid(alloc, 2030)?);
-    assert!(rt; is_valid(alloc, 2031)?);
-    assert!(rt; !is_valid(alloc, 2032)?);
-    Ok(())
-}
-
-/// What an object says, in a text.
-fn text(alloc: Global, object: &SignedObject) -> Result<String, AllocError> {
-    let kind = object.content_type();
-    let len = object.content().len();
-    let time = object.signing_time();
-    let serial = object.cert().serial_number();
-    format!(in alloc; "{kind} {len} {time} {serial}")
-}
-
-/// What an object says that was written, and read again strictly.
-fn read_again(alloc: Global) -> Result<(String, String), Fail> {
-    let mut signer = StandInSigner::new(alloc);
-    let object = signed(object(alloc, &mut signer, 2030)?)?;
-    let one = text(alloc, &object);
-    let octets = object.to_captured();
-    drop(object);
-    let Ok(octets) = octets else {
-        return Err(Fail::Memory);
-    };
-    let again = SignedObject::decode(alloc, octets, true)?;
-    let two = text(alloc, &again);
-    drop(again);
-    Ok((one?, two?))
-}
-
-#[test]
-fn built_objects_are_read_again(rt: HostRuntime) -> Result<(), Fail> {
-    let (one, two) = read_again(rt.alloc())?;
-    assert!(rt; one.as_str() == "1.2.840.113549.1.9.16.1.24 3 2030-01-01T00:00:00Z 2");
-    assert!(rt; two.as_str() == one.as_str());
-    Ok(())
-}
-
-/// Whether the signer's own fault is answered where its call with this number fails.
-fn is_refused(alloc: Global, call: u64) -> Result<bool, Fail> {
-    let mut signer = StandInSigner::failing_at(alloc, call);
-    match object(alloc, &mut signer, 2030)? {
+) -> Result<Answer<Bytes>, Fail> {
+    match builder(alloc, at)?.finalize(alloc, kind, content, signer, &ISSUER) {
+        Err(fault) => Ok(Err(fault)),
         Ok(object) => {
+            let octets = object.to_captured();
             drop(object);
-            Ok(false)
+            Ok(Ok(ok(alloc, octets)?))
         }
-        Err(SigningError::Signer(Refused)) => Ok(true),
-        Err(SigningError::Memory) => Err(Fail::Memory),
-        Err(_) => Err(Fail::Refused),
     }
 }
 
-#[test]
-fn calls_that_fail_refuse(rt: HostRuntime) -> Result<(), Fail> {
-    let alloc = rt.alloc();
-    assert!(rt; is_refused(alloc, 1)? && is_refused(alloc, 2)? && is_refused(alloc, 3)?);
-    assert!(rt; !is_refused(alloc, 4)? && !is_refused(alloc, 0)?);
-    Ok(())
+/// A manifest from 2029 to 2031 with the number 12, signed in this year.
+fn manifest(alloc: Global, signer: &mut StandInSigner, at: u16) -> Result<Answer<Manifest>, Fail> {
+    let (this, next) = (year(2029)?, year(2031)?);
+    let entries = ENTRIES
+        .iter()
+        .map(|(name, hash)| FileAndHash::new(*name, *hash));
+    let content = ok(
+        alloc,
+        ManifestContent::new(
+            alloc,
+            Serial::from(12),
+            this,
+            next,
+            DigestAlgorithm::sha256(),
+            entries,
+            ManifestRule::Registered,
+        ),
+    )?;
+    match builder(alloc, at) {
+        Ok(builder) => Ok(content.into_manifest(alloc, builder, signer, &ISSUER)),
+        Err(fail) => {
+            drop(content);
+            Err(fail)
+        }
+    }
+}
+
+/// A builder of a ROA of two prefixes, of which this is the length of the second one.
+fn with_addresses(alloc: Global, len: Option<u8>) -> Result<RoaBuilder, AllocError> {
+    let mut roa = RoaBuilder::new(alloc, Asn::from_u32(AS));
+    if let Some(len) = len {
+        roa.push_v6_addr(Ipv6Addr::new(0x2001, 0xDB8, 0, 0, 0, 0, 0, 0), 32, None)?;
+        roa.push_v4_addr(Ipv4Addr::new(192, 0, 2, 0), len, None)?;
+    }
+    Ok(roa)
+}
+
+/// A ROA, signed in this year.
+fn roa(
+    alloc: Global,
+    signer: &mut StandInSigner,
+    len: Option<u8>,
+    at: u16,
+) -> Result<Answer<Roa>, Fail> {
+    let content = with_addresses(alloc, len)?;
+    match builder(alloc, at) {
+        Ok(builder) => Ok(content.finalize(alloc, builder, signer, &ISSUER)),
+        Err(fail) => {
+            drop(content);
+            Err(fail)
+        }
+    }
+}
+
+/// A builder of an ASPA with these providers.
+fn with_providers(alloc: Global, providers: &[u32]) -> Result<AspaBuilder, Fail> {
+    let mut aspa = AspaBuilder::empty(alloc, Asn::from_u32(AS));
+    for provider in providers {
+        ok(alloc, aspa.add_provider(Asn::from_u32(*provider)))?;
+    }
+    Ok(aspa)
+}
+
+/// An ASPA, signed in this year.
+fn aspa(
+    alloc: Global,
+    signer: &mut StandInSigner,
+    providers: &[u32],
+    at: u16,
+) -> Result<Answer<Aspa>, Fail> {
+    let content = with_providers(alloc, providers)?;
+    match builder(alloc, at) {
+        Ok(builder) => Ok(content.finalize(alloc, builder, signer, &ISSUER, ProviderLimit::Narrow)),
+        Err(fail) => {
+            drop(content);
+            Err(fail)
+        }
+    }
+}
+
+/// The octets of what was signed.
+fn octets<T: Content>(
+    alloc: Global,
+    answer: Result<Answer<Signed<T>>, Fail>,
+) -> Result<Answer<Bytes>, Fail> {
+    match answer? {
+        Err(fault) => Ok(Err(fault)),
+        Ok(object) => {
+            let octets = object.to_captured();
+            drop(object);
+            Ok(Ok(ok(alloc, octets)?))
+        }
+    }
+}
+
+/// The octets of an object that this signer has signed in this year.
+pub fn made(
+    alloc: Global,
+    object: Object,
+    signer: &mut StandInSigner,
+    at: u16,
+) -> Result<Answer<Bytes>, Fail> {
+    match object {
+        Object::Number => {
+            signed_object(alloc, signer, &RouteOriginAttestation::oid(), NUMBER, at)
+        }
+        Object::Checklist => {
+            signed_object(
+                alloc,
+                signer,
+                &ResourceSignedChecklist::oid(),
+                CHECKLIST,
+                at,
+            )
+        }
+        Object::Manifest => octets(alloc, manifest(alloc, signer, at)),
+        Object::Roa(len) => octets(alloc, roa(alloc, signer, len, at)),
+        Object::Aspa(providers) => octets(alloc, aspa(alloc, signer, providers, at)),
+    }
 }
