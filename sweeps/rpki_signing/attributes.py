@@ -5,8 +5,7 @@ import hashlib
 
 HEAD = '''//! The signed attributes of an object that is built, octet by octet.
 
-use super::given::{ISSUER, builder, signed, year};
-use super::objects::{KIND, kind};
+use super::issuing::{ISSUER, KIND, builder, kind, signed, year};
 use rpki_basics::standin::StandInSigner;
 use rpki_testing::Fail;
 
