@@ -45,16 +45,6 @@ pub fn names_octets<C: Crypto>(
     names_file(manifest, name, digest.as_slice())
 }
 
-/// Whether these octets have the hash that a manifest lists of a file.
-pub fn is_listed_file<C: Crypto>(hash: &ManifestHash, crypto: &C, octets: &[u8]) -> bool
-    ensures { IsTrue result ↔ (C.digest_of crypto.now octets.now ≡ hash.now) }
-{
-    match hash.verify(crypto, octets) {
-        Ok(()) => true,
-        Err(_) => false,
-    }
-}
-
 /// How many files the manifest at the front of octets in DER names, or `None` where it is overdue.
 pub fn files_due(
     alloc: Global,
@@ -98,4 +88,14 @@ pub fn attests<C: Crypto>(checklist: &ResourceSignedChecklist, crypto: &C, docum
 {
     let digest = crypto.digest(document);
     has_hash(checklist, digest.as_slice())
+}
+
+/// Whether these octets have the hash that a manifest lists of a file.
+pub fn is_listed_file<C: Crypto>(hash: &ManifestHash, crypto: &C, octets: &[u8]) -> bool
+    ensures { IsTrue result ↔ (C.digest_of crypto.now octets.now ≡ hash.now) }
+{
+    match hash.verify(crypto, octets) {
+        Ok(()) => true,
+        Err(_) => false,
+    }
 }

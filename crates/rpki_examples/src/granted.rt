@@ -150,9 +150,10 @@ where
         }
         Err(fault) => {
             if of_acceptance(&fault) {
-                return Err(AllocError);
+                Err(AllocError)
+            } else {
+                Ok(false)
             }
-            Ok(false)
         }
     }
 }

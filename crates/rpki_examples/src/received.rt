@@ -75,7 +75,8 @@ pub fn roa_relying<C: Crypto, F: FnOnce(&Cert) -> Result<(), ValidationError>>(
     ensures { IsExact roa_kind RoaForm Der (C.digest_of crypto.now) (C.is_signed crypto.now)
         issuer.now now (FnOnceReturnsAt F.FnOnce ask) octets result }
 {
-    check::roa(alloc, octets, true, issuer, crypto, now, ask)
+    let strict = true;
+    check::roa(alloc, octets, strict, issuer, crypto, now, ask)
 }
 
 // Whether the octets begin with a good manifest in DER with registered names, as `roa_asking` says

@@ -56,19 +56,6 @@ pub fn are_matched(addresses: &RoaIpAddresses, route: Prefix) -> bool
     false
 }
 
-/// Whether a ROA has an address with this prefix, of IPv4 or of IPv6.
-pub fn names_prefix(roa: &RouteOriginAttestation, prefix: Prefix) -> bool
-    ensures { IsTrue result ↔ Any (λ address. address.address.prefix ≡ prefix) (addresses roa.now) }
-{
-    let mut left = roa.iter();
-    while let Some(address) = left.next() {
-        if address.prefix() == prefix {
-            return true;
-        }
-    }
-    false
-}
-
 /// Whether a ROA allows this autonomous system to originate a route to this prefix of IPv4.
 pub fn is_allowed(roa: &RouteOriginAttestation, origin: Asn, route: Prefix) -> bool
     ensures { IsTrue result ↔ ((origin ≡ roa.now.as_id)
@@ -88,6 +75,19 @@ pub fn is_provider(content: &AsProviderAttestation, customer: Asn, provider: Asn
     let mut left = content.provider_as_set().iter();
     while let Some(next) = left.next() {
         if next == provider {
+            return true;
+        }
+    }
+    false
+}
+
+/// Whether a ROA has an address with this prefix, of IPv4 or of IPv6.
+pub fn names_prefix(roa: &RouteOriginAttestation, prefix: Prefix) -> bool
+    ensures { IsTrue result ↔ Any (λ address. address.address.prefix ≡ prefix) (addresses roa.now) }
+{
+    let mut left = roa.iter();
+    while let Some(address) = left.next() {
+        if address.prefix() == prefix {
             return true;
         }
     }
