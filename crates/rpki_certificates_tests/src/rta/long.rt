@@ -1,8 +1,8 @@
-//! The parts of a path of many CAs, which another program made, but for what differs from one CA to
-//! the next: the bits of keys, and the identifiers of these.
+//! The parts of a path of many CAs, which another program made, but for what differs from one CA
+//! to the next: the bits of keys, and the identifiers of these.
 
-/// What is signed of a certificate, but for the bits of its key, the identifier of this key and that
-/// of its issuer's.
+/// What is signed of a certificate, but for the bits of its key, the identifier of this key and
+/// that of its issuer's.
 pub struct Form {
     pub before_key: &'static [u8],
     pub before_subject: &'static [u8],
