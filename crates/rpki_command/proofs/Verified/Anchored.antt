@@ -101,23 +101,23 @@ module _ (verdict : Verdict) (now : Moment) where
 
 -- a yes to an attestation and a no exclude each other, if what it carries has distinct identifiers
 pub granted-or-not : (verdict : Verdict) (now : Moment) (words : List (List ℕ)) (object : List ℕ)
-    (files : List (List ℕ)) (run : Run) (yes : IsRightRta verdict now words object files run)
-    → IsDistinct sha256 verdict yes.rta → IsRightNoRta verdict now words object files → ⊥
-granted-or-not verdict now words object files run yes distinct (inl none) =
-    none.has_memory (all-made verdict now (given_in words files) yes.anchors none.fault yes.made
-    none.first)
-granted-or-not verdict now words object files run yes distinct (inr other) = of other.no
+    (files : List (List ℕ)) (run : Run) (right : IsRightRta verdict now words object files run)
+    → IsDistinct sha256 verdict right.rta → IsRightNoRta verdict now words object files → ⊥
+granted-or-not verdict now words object files run right distinct (inl lacking) =
+    lacking.has_memory (all-made verdict now (given_in words files) right.anchors lacking.fault
+    right.made lacking.first)
+granted-or-not verdict now words object files run right distinct (inr other) = of other.no
   where
-    here : IsGrantedRta sha256 verdict now yes.rta (map supply_of other.anchors)
-    here = granted-like verdict now yes.rta (map supply_of yes.anchors)
-        (map supply_of other.anchors) (each-like verdict now (given_in words files) yes.anchors
-        other.anchors yes.made other.made) yes.granted
+    here : IsGrantedRta sha256 verdict now right.rta (map supply_of other.anchors)
+    here = granted-like verdict now right.rta (map supply_of right.anchors)
+        (map supply_of other.anchors) (each-like verdict now (given_in words files) right.anchors
+        other.anchors right.made other.made) right.granted
 
     of : BeginsWithNoGranted verdict now (map supply_of other.anchors) object → ⊥
-    of (inl empty) = empty yes.rta yes.rest yes.front.found
+    of (inl empty) = empty right.rta right.rest right.front.found
     of (inr begun) =
-        let same : begun.object ≡ yes.rta =
-        (yes.front.only begun.object begun.rest begun.front.found).0 in
+        let same : begun.object ≡ right.rta =
+        (right.front.only begun.object begun.rest begun.front.found).0 in
         subst (λ (r : attested.Whole). IsDistinct sha256 verdict r
         → ¬ (IsGrantedRta sha256 verdict now r (map supply_of other.anchors))) same begun.holds
         distinct here

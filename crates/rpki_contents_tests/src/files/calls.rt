@@ -192,18 +192,22 @@ fn are_below(alloc: Global, manifest: &ManifestContent) -> Result<bool, AllocErr
     Ok(true)
 }
 
-#[test]
-fn a_manifest(rt: HostRuntime) -> Result<(), AllocError> {
-    let alloc = rt.alloc();
+/// Whether a manifest is told as it is, and its files are below each base.
+fn is_manifest(alloc: Global) -> Result<bool, AllocError> {
     match ManifestContent::decode(alloc, Bytes::from_static(TWO), ManifestRule::Registered) {
         Ok(manifest) => {
-            let is = is_told(&manifest);
-            let are = are_below(alloc, &manifest);
+            let is_told = is_told(&manifest);
+            let are_below = are_below(alloc, &manifest);
             drop(manifest);
-            assert!(rt; is && are?);
+            Ok(is_told && are_below?)
         }
-        Err(DecodeError::Memory) => return Err(AllocError),
-        Err(_) => assert!(rt; false),
+        Err(DecodeError::Memory) => Err(AllocError),
+        Err(_) => Ok(false),
     }
+}
+
+#[test]
+fn a_manifest(rt: HostRuntime) -> Result<(), AllocError> {
+    assert!(rt; is_manifest(rt.alloc())?);
     Ok(())
 }

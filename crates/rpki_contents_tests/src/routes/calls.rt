@@ -141,6 +141,9 @@ fn is_address(address: RoaIpAddress, prefix: Prefix, max: Option<u8>) -> bool {
 impl Row for Made {
     fn is_so(&self, alloc: Global) -> Result<bool, AllocError> {
         let Made(family, bits, len, max, first, octets) = self;
+        if *len > 128 {
+            return Ok(false);
+        }
         let address = RoaIpAddress::new_addr(ip_of(*family, *bits), *len, *max);
         let is = is_address(address, Prefix::new(Addr::from_bits(*first), *len), *max);
         Ok(is && is_written(address.to_bytes(alloc), octets)?)
