@@ -1,7 +1,6 @@
 //! Proved callers of the libraries, which their pages `CALLING.md` quote.
 #![tactic(auto)]
 
-pub mod attested;
 pub mod attributes;
 pub mod authority;
 pub mod certs;
@@ -28,6 +27,4 @@ pub mod routes;
 pub mod sets;
 pub mod signatures;
 pub mod signers;
-pub mod signing;
-pub mod streams;
 pub mod values;

@@ -3,7 +3,6 @@
 ghost use Rattle.std.specs.Prelude.{◌≡◌, ◌↔◌, IsTrue, IfOk, Contains};
 ghost use Rattle.std.specs.List.{Any};
 ghost use Rattle.rpki_der.specs.Form.Decodes.{Decodes};
-ghost use Rattle.rpki_routes.specs.Roa.{addresses};
 ghost use Rattle.rpki_routes.specs.Roa.Form.{RoaForm};
 ghost use Rattle.rpki_examples.specs.Routes.{AreWithin, IsMatched};
 
@@ -75,19 +74,6 @@ pub fn is_provider(content: &AsProviderAttestation, customer: Asn, provider: Asn
     let mut left = content.provider_as_set().iter();
     while let Some(next) = left.next() {
         if next == provider {
-            return true;
-        }
-    }
-    false
-}
-
-/// Whether a ROA has an address with this prefix, of IPv4 or of IPv6.
-pub fn names_prefix(roa: &RouteOriginAttestation, prefix: Prefix) -> bool
-    ensures { IsTrue result ↔ Any (λ address. address.address.prefix ≡ prefix) (addresses roa.now) }
-{
-    let mut left = roa.iter();
-    while let Some(address) = left.next() {
-        if address.prefix() == prefix {
             return true;
         }
     }
