@@ -1,4 +1,7 @@
-"""The cases that are too large to be read, each made by a rule, in the notation of README.md."""
+"""The cases that are too large to be read, or too many, each made by a rule, in the notation of
+README.md."""
+import json
+import pathlib
 
 ASPA = "30{a0{020101} %s 30{%s}}"
 CA = ("BasicConstraints SubjectKey(%d) AuthorityKey(%d) UsageOfCa CrlPoints IssuerAccess"
@@ -11,13 +14,15 @@ ANCHOR = ("Signed(1){Version3 020101 Sha256WithRsa Name(1) Year2024 Name(1) Key(
           " 30{AsNumbers 04{%s}}}}}")
 LIST = ("Signed(%d){020101 Sha256WithRsa Name(%d) Start2024 End2024"
         " a0{30{AuthorityKey(%d) CrlNumber1}}}")
-CONTENT = "30{31{04{KeyIdentifier(%d)}} %s Sha256 04{" + "00" * 32 + "}}"
+CONTENT = "30{31{04{KeyIdentifier(%d)}} %s Sha256 ZeroDigest}"
 ATTESTATION = ("30{SignedData a0{30{020103 31{Sha256} 30{AttestationType a0{Content{%s}}}"
                " a0{%s} a1{%s} 31{AttestationSigner(%d)}}}}")
 LOCATOR = "'rsync://a.example.com/1/1\n\nMBowDQYJKoZIhvcNAQEBBQADCQAAAAAAAAAD5w==\n'"
 # What a certificate says of AS numbers, and under which policy.
 TRIMMED, REFUSED = "PolicyTrim 30{AsNumbersV2 04{%s}}", "PolicyRefuse 30{AsNumbers 04{%s}}"
 INHERITED = "30{a0{0500}}"
+# A case of objects.jsonl.
+SHOWN = "attestation that is shown: all lists"
 
 
 def integer(number):
@@ -88,5 +93,15 @@ def circle():
         stdout="refused: path returns\n")
 
 
+def cuts():
+    """The object of a case, cut after each of its first octets, and then at some places."""
+    lines = pathlib.Path(__file__).with_name("objects.jsonl").open(encoding="utf-8")
+    whole = next(it for it in map(json.loads, lines) if it["name"] == SHOWN)
+    for length in (*range(60), *range(60, 1516, 97)):
+        yield {"name": f"{SHOWN}, cut after {length:,} octets", "words": whole["words"],
+               "files": {"f": "First(%d){%s}" % (length, whole["files"]["f"])},
+               "status": 1, "stdout": "malformed\n"}
+
+
 def cases():
-    return [*aspas(), *path(), *circle()]
+    return [*aspas(), *path(), *circle(), *cuts()]

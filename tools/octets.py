@@ -95,7 +95,9 @@ class Octets:
         return self.around(word, number, inside) if match["open"] else self.computed(word, number)
 
     def around(self, word, number, inside):
-        """A value that the word says more of than its tag."""
+        """A value that the word says more of than its tag, or the first octets of values."""
+        if word == "First":
+            return inside[:number]
         if word == "Content":
             self.content = inside
             return value(0x04, inside)
