@@ -134,9 +134,8 @@ fn asked_in_all(alloc: Global, rta: &Rta) -> Result<u32, Fail> {
     };
     let now = now()?;
     let top = ca_of(alloc, TOP)?;
-    let answer = run(alloc, rta, true, &crypto, now, &[Supply::Ca(&top)]);
+    run(alloc, rta, true, &crypto, now, &[Supply::Ca(&top)])?;
     drop(top);
-    ok(alloc, answer)?;
     Ok(crypto.asked.get())
 }
 
