@@ -20,6 +20,11 @@ HELD = re.compile(rf"(?<![&\w])(?<!mut )(?<!Vec<)(?<!Box<)(?<!'\w )\b({'|'.join(
 CALL = re.compile(r"(?:(\w+)(?:::<[^()]*?>)?::)?(\w+)(?:::<[^()]*?>)?\(|[()\[\]{}]")
 
 
+# Tests whose answer borrows from the value: the prover can't follow an answer that is held over the
+# drop, so the value goes at the `?` of the call.
+LENT = {("rpki_certificates_tests/src/rta/asked.rt", "asked_in_all")}
+
+
 class Function:
     """A function: its file, the line of its body, its name, the type of its `impl`, what it takes
     and gives, whether it takes `self` by value, and the lines of its body."""
@@ -241,6 +246,8 @@ def places(top):
     everything = [it for path in sorted(top.glob("crates/*/src/**/*.rt")) for it in functions(path)]
     calls = Calls(everything)
     for function in everything:
+        if (str(function.path.relative_to(top / "crates")), function.name) in LENT:
+            continue
         for name, at in bound(calls, function):
             for number, where in silent(calls, function, name, at):
                 place = f"{function.path.relative_to(top)}, line {function.first + number + 1}"
