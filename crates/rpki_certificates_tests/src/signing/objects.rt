@@ -88,13 +88,13 @@ fn manifest(alloc: Global, signer: &mut StandInSigner, at: u16) -> Result<Answer
     }
 }
 
-/// A builder of a ROA of two prefixes, of which this is the length of the second one, if it is one
-/// of IPv4.
+/// A builder of a ROA of two prefixes, of which this is the length of the second one, if a prefix
+/// may have it.
 fn with_addresses(alloc: Global, len: Option<u8>) -> Result<RoaBuilder, AllocError> {
     let mut roa = RoaBuilder::new(alloc, Asn::from_u32(AS));
     if let Some(len) = len {
         roa.push_v6_addr(Ipv6Addr::new(0x2001, 0xDB8, 0, 0, 0, 0, 0, 0), 32, None)?;
-        if len <= 32 {
+        if len <= 128 {
             roa.push_v4_addr(Ipv4Addr::new(192, 0, 2, 0), len, None)?;
         }
     }
