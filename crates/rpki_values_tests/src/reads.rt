@@ -25,34 +25,139 @@ pub enum Want {
 pub const MALFORMED: Want = Want::Refused("malformed");
 
 impl Want {
-    /// Whether it is done.
-    pub fn is_done(self) -> bool {
-        matches!(self, Want::Done)
+    /// Whether it is that there is no value.
+    pub fn is_absent(self) -> bool {
+        matches!(self, Want::Absent)
     }
 
-    /// Whether this number, or none, is what is wanted.
-    pub fn is_number(self, found: Option<u32>) -> bool {
-        match (self, found) {
-            (Want::Number(want), Some(found)) => found == want,
-            (Want::Absent, None) => true,
-            (_, _) => false,
+    /// Whether this number is wanted.
+    pub fn is_number(self, found: u32) -> bool {
+        match self {
+            Want::Number(want) => found == want,
+            _ => false,
         }
     }
 
-    /// Whether these octets, or none, are what is wanted.
-    pub fn is_octets(self, found: Option<&[u8]>) -> bool {
-        match (self, found) {
-            (Want::Read(want), Some(found)) => found == want,
-            (Want::Absent, None) => true,
-            (_, _) => false,
+    /// Whether these octets are wanted.
+    pub fn is_octets(self, found: &[u8]) -> bool {
+        match self {
+            Want::Read(want) => found == want,
+            _ => false,
         }
     }
 
-    /// Whether a value that is written as these octets is what is wanted.
+    /// Whether a value that is written as these octets is wanted.
     pub fn is_written_of<T: Encode>(self, alloc: Global, value: &T) -> Result<bool, AllocError> {
         match self {
             Want::Read(octets) => is_written(alloc, value, octets),
             _ => Ok(false),
+        }
+    }
+}
+
+/// What is read, and may be what is wanted.
+pub trait Shown {
+    /// Whether it is what is wanted.
+    fn is_wanted(&self, alloc: Global, want: Want) -> Result<bool, AllocError>;
+}
+
+impl Shown for u8 {
+    fn is_wanted(&self, _alloc: Global, want: Want) -> Result<bool, AllocError> {
+        Ok(want.is_number(u32::from(*self)))
+    }
+}
+
+impl Shown for u32 {
+    fn is_wanted(&self, _alloc: Global, want: Want) -> Result<bool, AllocError> {
+        Ok(want.is_number(*self))
+    }
+}
+
+impl Shown for bool {
+    fn is_wanted(&self, _alloc: Global, want: Want) -> Result<bool, AllocError> {
+        Ok(want.is_number(u32::from(*self)))
+    }
+}
+
+impl Shown for () {
+    fn is_wanted(&self, _alloc: Global, want: Want) -> Result<bool, AllocError> {
+        Ok(matches!(want, Want::Done))
+    }
+}
+
+impl Shown for Bytes {
+    fn is_wanted(&self, _alloc: Global, want: Want) -> Result<bool, AllocError> {
+        Ok(want.is_octets(self.as_slice()))
+    }
+}
+
+impl<const N: usize> Shown for [u8; N] {
+    fn is_wanted(&self, _alloc: Global, want: Want) -> Result<bool, AllocError> {
+        Ok(want.is_octets(self.as_slice()))
+    }
+}
+
+impl<T: Shown> Shown for Option<T> {
+    fn is_wanted(&self, alloc: Global, want: Want) -> Result<bool, AllocError> {
+        match self {
+            Some(value) => value.is_wanted(alloc, want),
+            None => Ok(want.is_absent()),
+        }
+    }
+}
+
+/// Whether what a reader has answered is what is wanted.
+pub fn shows<T: Shown + Drop>(
+    alloc: Global,
+    answer: Result<T, DecodeError>,
+    want: Want,
+) -> Result<bool, DecodeError> {
+    match answer {
+        Ok(value) => {
+            let is_wanted = value.is_wanted(alloc, want);
+            drop(value);
+            Ok(is_wanted?)
+        }
+        Err(error) => Err(error),
+    }
+}
+
+/// Whether all that was asked is so, and whether there was memory for it.
+#[derive(Clone, Copy)]
+pub struct All {
+    are_so: bool,
+    has_memory: bool,
+}
+
+impl All {
+    /// Nothing was asked yet.
+    pub fn new() -> All {
+        All {
+            are_so: true,
+            has_memory: true,
+        }
+    }
+
+    /// One more answer.
+    pub fn and(self, answer: Result<bool, AllocError>) -> All {
+        match answer {
+            Ok(is_so) => All {
+                are_so: self.are_so && is_so,
+                has_memory: self.has_memory,
+            },
+            Err(_) => All {
+                are_so: self.are_so,
+                has_memory: false,
+            },
+        }
+    }
+
+    /// Whether all is so. Want of memory is handed on.
+    pub fn end(self) -> Result<bool, AllocError> {
+        if self.has_memory {
+            Ok(self.are_so)
+        } else {
+            Err(AllocError)
         }
     }
 }
@@ -99,7 +204,10 @@ pub fn are_so<C: Reads>(
     der: Want,
     ber: Want,
 ) -> Result<bool, AllocError> {
-    Ok(is_so(alloc, Mode::Der, call, octets, der)? && is_so(alloc, Mode::Ber, call, octets, ber)?)
+    All::new()
+        .and(is_so(alloc, Mode::Der, call, octets, der))
+        .and(is_so(alloc, Mode::Ber, call, octets, ber))
+        .end()
 }
 
 /// Whether each row is answered so in both modes.

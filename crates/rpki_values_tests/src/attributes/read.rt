@@ -1,6 +1,6 @@
 //! Rows of attributes that are read.
 
-use crate::reads::joined;
+use crate::reads::{All, joined};
 use bytes::Bytes;
 use rpki_attributes::SignedAttrs;
 use rpki_der::build::tlv;
@@ -232,25 +232,30 @@ fn padded(alloc: Global, oid: &[u8], zeros: usize, after: &[u8]) -> Result<Vec<u
     joined(alloc, &[TYPE, TIME, &attribute, after])
 }
 
+/// Whether these attributes are answered so, strictly and as a message.
+fn are_padded(alloc: Global, contents: &[u8], why: &str, head: &[u8]) -> Result<bool, AllocError> {
+    All::new()
+        .and(is_answer(
+            alloc,
+            read(alloc, contents, Mode::Der, true)?,
+            contents,
+            why,
+        ))
+        .and(is_message(
+            alloc,
+            read(alloc, contents, Mode::Der, false)?,
+            head,
+            contents,
+        ))
+        .end()
+}
+
 /// Whether attributes that are padded so are answered so, strictly and as a message.
 fn is_padded(alloc: Global, row: &Padding) -> Result<bool, AllocError> {
     let (oid, zeros, after, total, why, head) = *row;
     let contents = padded(alloc, oid, zeros, after)?;
-    Ok(
-        contents.len() == total
-            && is_answer(
-                alloc,
-                read(alloc, &contents, Mode::Der, true)?,
-                &contents,
-                why,
-            )?
-            && is_message(
-                alloc,
-                read(alloc, &contents, Mode::Der, false)?,
-                head,
-                &contents,
-            )?,
-    )
+    let is_padded = are_padded(alloc, &contents, why, head);
+    Ok(is_padded? && contents.len() == total)
 }
 
 #[test]

@@ -1,9 +1,10 @@
 //! Rows of times, serial numbers, keys, algorithms and names that are read.
 
-use crate::reads::{MALFORMED, Reads, Row, Want, are_alike, are_relaxed};
+use crate::reads::{All, MALFORMED, Reads, Row, Shown, Want, are_alike, are_relaxed, shows};
 use rpki_basics::{DigestAlgorithm, Name, PublicKey, RpkiSignatureAlgorithm, Serial, Time};
 use rpki_der::{Constructed, DecodeError};
 use std::alloc::{AllocError, Global};
+use std::fmt::Display;
 
 /// What is read.
 #[derive(Clone, Copy)]
@@ -23,6 +24,61 @@ pub enum Kind {
     Name,
 }
 
+/// A value by its text.
+#[derive(Drop)]
+struct Text<T>(T);
+
+/// The text of what was read.
+fn in_text<T: Drop>(answer: Result<T, DecodeError>) -> Result<Text<T>, DecodeError> {
+    match answer {
+        Ok(value) => Ok(Text(value)),
+        Err(error) => Err(error),
+    }
+}
+
+impl<T: Display> Shown for Text<T> {
+    fn is_wanted(&self, alloc: Global, want: Want) -> Result<bool, AllocError> {
+        Ok(want.is_octets(self.0.to_string(alloc)?.as_bytes()))
+    }
+}
+
+impl Shown for Time {
+    fn is_wanted(&self, alloc: Global, want: Want) -> Result<bool, AllocError> {
+        want.is_written_of(alloc, &self.encode_ref())
+    }
+}
+
+impl Shown for Serial {
+    fn is_wanted(&self, alloc: Global, want: Want) -> Result<bool, AllocError> {
+        want.is_written_of(alloc, &self.encode_ref())
+    }
+}
+
+impl Shown for PublicKey {
+    fn is_wanted(&self, alloc: Global, want: Want) -> Result<bool, AllocError> {
+        want.is_written_of(alloc, &self.encode_ref())
+    }
+}
+
+impl Shown for Name {
+    fn is_wanted(&self, _alloc: Global, want: Want) -> Result<bool, AllocError> {
+        Ok(want.is_octets(self.as_slice()))
+    }
+}
+
+impl Shown for DigestAlgorithm {
+    fn is_wanted(&self, alloc: Global, want: Want) -> Result<bool, AllocError> {
+        want.is_written_of(alloc, &self.encode_ref())
+    }
+}
+
+/// It is written as that of a signed object.
+impl Shown for RpkiSignatureAlgorithm {
+    fn is_wanted(&self, alloc: Global, want: Want) -> Result<bool, AllocError> {
+        want.is_written_of(alloc, &self.encode_cms())
+    }
+}
+
 impl Reads for Kind {
     fn is_read(
         self,
@@ -30,43 +86,18 @@ impl Reads for Kind {
         alloc: Global,
         want: Want,
     ) -> Result<bool, DecodeError> {
-        Ok(match self {
-            Kind::Time => want.is_written_of(alloc, &Time::take_from(cons)?.encode_ref())?,
-            Kind::TimeText => {
-                let text = Time::take_from(cons)?.to_string(alloc)?;
-                want.is_octets(Some(text.as_bytes()))
-            }
-            Kind::Serial => {
-                let serial = Serial::take_from(cons)?;
-                want.is_written_of(alloc, &serial.encode_ref())?
-            }
-            Kind::SerialText => {
-                let text = Serial::take_from(cons)?.to_string(alloc)?;
-                want.is_octets(Some(text.as_bytes()))
-            }
-            Kind::Key => {
-                let key = PublicKey::take_from(cons)?;
-                want.is_written_of(alloc, &key.encode_ref())?
-            }
-            Kind::Name => want.is_octets(Some(Name::take_from(cons)?.as_slice())),
-            _ => is_algorithm(self, cons, alloc, want)?,
-        })
+        match self {
+            Kind::Time => shows(alloc, Time::take_from(cons), want),
+            Kind::TimeText => shows(alloc, in_text(Time::take_from(cons)), want),
+            Kind::Serial => shows(alloc, Serial::take_from(cons), want),
+            Kind::SerialText => shows(alloc, in_text(Serial::take_from(cons)), want),
+            Kind::Key => shows(alloc, PublicKey::take_from(cons), want),
+            Kind::Digest => shows(alloc, DigestAlgorithm::take_from(cons), want),
+            Kind::Cms => shows(alloc, RpkiSignatureAlgorithm::take_cms_from(cons), want),
+            Kind::Cert => shows(alloc, RpkiSignatureAlgorithm::take_cert_from(cons), want),
+            Kind::Name => shows(alloc, Name::take_from(cons), want),
+        }
     }
-}
-
-/// Whether an algorithm is read so.
-fn is_algorithm(
-    kind: Kind,
-    cons: &mut Constructed<'_>,
-    alloc: Global,
-    want: Want,
-) -> Result<bool, DecodeError> {
-    let written = match kind {
-        Kind::Digest => DigestAlgorithm::take_from(cons)?.encode_ref(),
-        Kind::Cms => RpkiSignatureAlgorithm::take_cms_from(cons)?.encode_cms(),
-        _ => RpkiSignatureAlgorithm::take_cert_from(cons)?.encode_cert(),
-    };
-    Ok(want.is_written_of(alloc, &written)?)
 }
 
 /// What is refused of a time.
@@ -274,8 +305,8 @@ static ALGORITHMS: [Row<Kind>; 27] = [
     (Kind::Cms, NO_OID, MALFORMED),
     (Kind::Cert, SHA_256_NULL, UNKNOWN),
     (Kind::Cert, RSA_NULL, UNKNOWN),
-    (Kind::Cert, RSA_SHA_256, Want::Read(RSA_SHA_256_NULL)),
-    (Kind::Cert, RSA_SHA_256_NULL, Want::Read(RSA_SHA_256_NULL)),
+    (Kind::Cert, RSA_SHA_256, Want::Read(RSA_NULL)),
+    (Kind::Cert, RSA_SHA_256_NULL, Want::Read(RSA_NULL)),
     (Kind::Cert, RSA_SHA_384, UNKNOWN),
     (Kind::Cert, LONG_NULL, MALFORMED),
     (Kind::Cert, TWO_NULLS, MALFORMED),
@@ -304,12 +335,12 @@ static RELAXED: [Row<Kind>; 3] = [
 #[test]
 fn reading(rt: HostRuntime) -> Result<(), AllocError> {
     let alloc = rt.alloc();
-    assert!(rt;
-        are_alike(alloc, &TIMES)?
-            && are_alike(alloc, &SERIALS)?
-            && are_alike(alloc, &KEYS)?
-            && are_alike(alloc, &ALGORITHMS)?
-            && are_relaxed(alloc, &RELAXED)?
-    );
+    let all = All::new()
+        .and(are_alike(alloc, &TIMES))
+        .and(are_alike(alloc, &SERIALS))
+        .and(are_alike(alloc, &KEYS))
+        .and(are_alike(alloc, &ALGORITHMS))
+        .and(are_relaxed(alloc, &RELAXED));
+    assert!(rt; all.end()?);
     Ok(())
 }

@@ -1,7 +1,7 @@
 //! What is written, copied, named and signed, each call to its exact answer.
 
 use super::reading::{KEY, NAME, RSA_NULL, RSA_SHA_256_NULL, SHA_256, SHORT_KEY};
-use crate::reads::{are_octets, is_written};
+use crate::reads::{All, are_octets, is_written};
 use bytes::Bytes;
 use rpki_basics::standin::{Refused, StandIn, StandInSigner};
 use rpki_basics::{
@@ -41,34 +41,45 @@ fn are_written(alloc: Global) -> Result<bool, AllocError> {
         return Ok(false);
     };
     let algorithm = RpkiSignatureAlgorithm::default();
-    Ok(
-        is_written(alloc, &DigestAlgorithm::sha256().encode_ref(), SHA_256)?
-            && is_written(alloc, &algorithm.encode_cms(), RSA_NULL)?
-            && is_written(alloc, &algorithm.encode_cert(), RSA_SHA_256_NULL)?
-            && is_written(
-                alloc,
-                &time.encode_generalized(),
-                b"\x18\x0F20240108000000Z",
-            )?,
-    )
+    All::new()
+        .and(is_written(alloc, &DigestAlgorithm::sha256().encode_ref(), SHA_256))
+        .and(is_written(alloc, &algorithm.encode_cms(), RSA_NULL))
+        .and(is_written(alloc, &algorithm.encode_cert(), RSA_SHA_256_NULL))
+        .and(is_written(
+            alloc,
+            &time.encode_generalized(),
+            b"\x18\x0F20240108000000Z",
+        ))
+        .end()
 }
 
-/// Whether the copy of the key that was read without a NULL is written with one, and has this name.
+/// The key that was read without a NULL. Want of memory is handed on.
+fn key(alloc: Global) -> Result<Option<PublicKey>, AllocError> {
+    match PublicKey::decode(Bytes::copy_from_slice(alloc, SHORT_KEY)?) {
+        Ok(key) => Ok(Some(key)),
+        Err(DecodeError::Memory) => Err(AllocError),
+        Err(_) => Ok(None),
+    }
+}
+
+/// Whether the copy of the name of a key is written so.
+fn is_named(alloc: Global, key: &PublicKey) -> Result<bool, AllocError> {
+    let name = key.to_subject_name(alloc)?.clone()?;
+    is_written(alloc, &name.encode_ref(), NAME)
+}
+
+/// Whether the copy of the key is written with a NULL, and has this name.
 fn is_key(alloc: Global) -> Result<bool, AllocError> {
-    let key = match PublicKey::decode(Bytes::copy_from_slice(alloc, SHORT_KEY)?) {
-        Ok(key) => key.clone()?,
-        Err(DecodeError::Memory) => return Err(AllocError),
-        Err(_) => return Ok(false),
-    };
-    Ok(
-        key.bits() == b"abc".as_slice()
-            && are_octets(key.to_info_bytes(alloc), KEY)?
-            && is_written(
-                alloc,
-                &key.to_subject_name(alloc)?.clone()?.encode_ref(),
-                NAME,
-            )?,
-    )
+    match key(alloc)? {
+        None => Ok(false),
+        Some(key) => {
+            let key = key.clone()?;
+            All::new()
+                .and(are_octets(key.to_info_bytes(alloc), KEY))
+                .and(is_named(alloc, &key))
+                .end()
+        }
+    }
 }
 
 /// Whether what the key 7 signs, and what is signed once, are good signatures.
@@ -85,7 +96,11 @@ fn is_signed(alloc: Global) -> Result<bool, SignerFault<Refused>> {
 #[test]
 fn values(rt: HostRuntime) -> Result<(), AllocError> {
     let alloc = rt.alloc();
-    assert!(rt; are_identifiers(alloc)? && are_written(alloc)? && is_key(alloc)?);
+    let all = All::new()
+        .and(are_identifiers(alloc))
+        .and(are_written(alloc))
+        .and(is_key(alloc));
+    assert!(rt; all.end()?);
     match is_signed(alloc) {
         Ok(is_signed) => assert!(rt; is_signed),
         Err(SignerFault::Memory) => return Err(AllocError),

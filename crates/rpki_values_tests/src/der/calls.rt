@@ -1,8 +1,8 @@
 //! Rows of octets that a reader takes and refuses (X.690).
 
-use crate::reads::{MALFORMED, Reads, Row, Want, are_alike, are_relaxed};
+use crate::reads::{All, MALFORMED, Reads, Row, Shown, Want, are_alike, are_relaxed, shows};
 use bytes::Bytes;
-use rpki_der::{Constructed, DecodeError, ListItem, Mode, Tag};
+use rpki_der::{BitString, Captured, Constructed, DecodeError, ListItem, Mode, Oid, Tag};
 use std::alloc::{AllocError, Global};
 use std::marker::Model;
 
@@ -17,8 +17,7 @@ pub enum Call {
     Bool,
     Null,
     Oid,
-    /// A BIT STRING with this many unused bits.
-    Bits(u8),
+    Bits,
     Ia5,
     OptIa5,
     Octets,
@@ -81,14 +80,49 @@ impl ListItem for Digit {
     }
 }
 
-/// The numbers of a list, as octets.
-fn take_list(cons: &mut Constructed<'_>, alloc: Global) -> Result<Vec<u8>, DecodeError> {
-    let numbers: Vec<Digit> = cons.take_items(alloc)?;
-    let mut octets = Vec::new(alloc);
-    for number in &numbers {
-        octets.push(number.0)?;
+impl Shown for Vec<Digit> {
+    fn is_wanted(&self, _alloc: Global, want: Want) -> Result<bool, AllocError> {
+        let Want::Read(octets) = want else {
+            return Ok(false);
+        };
+        for (number, octet) in self.iter().zip(octets) {
+            if number.0 != *octet {
+                return Ok(false);
+            }
+        }
+        Ok(self.len() == octets.len())
     }
-    Ok(octets)
+}
+
+impl Shown for Oid {
+    fn is_wanted(&self, _alloc: Global, want: Want) -> Result<bool, AllocError> {
+        Ok(want.is_octets(self.as_slice()))
+    }
+}
+
+/// The number of bits that are not used, and the octets.
+impl Shown for BitString {
+    fn is_wanted(&self, _alloc: Global, want: Want) -> Result<bool, AllocError> {
+        match want {
+            Want::Read([unused, octets @ ..]) => Ok(
+                self.unused == *unused && self.octets.as_slice() == octets,
+            ),
+            _ => Ok(false),
+        }
+    }
+}
+
+impl Shown for Captured {
+    fn is_wanted(&self, _alloc: Global, want: Want) -> Result<bool, AllocError> {
+        Ok(want.is_octets(self.as_slice()))
+    }
+}
+
+/// A number that has to be 9, and its octets.
+impl Shown for (u8, Captured) {
+    fn is_wanted(&self, _alloc: Global, want: Want) -> Result<bool, AllocError> {
+        Ok(self.0 == 9 && want.is_octets(self.1.as_slice()))
+    }
 }
 
 fn small(cons: &mut Constructed<'_>) -> Result<u8, DecodeError> {
@@ -100,118 +134,87 @@ pub fn skip(cons: &mut Constructed<'_>) -> Result<(), DecodeError> {
     cons.skip_one()
 }
 
-/// Whether this small number, or none, is what is wanted.
-fn is_small(want: Want, found: Option<u8>) -> bool {
-    match found {
-        Some(n) => want.is_number(Some(u32::from(n))),
-        None => want.is_number(None),
-    }
+/// Takes a list.
+fn take_list(cons: &mut Constructed<'_>, alloc: Global) -> Result<Vec<Digit>, DecodeError> {
+    cons.take_items(alloc)
 }
 
-/// Whether this string, or none, is what is wanted.
-fn is_string(want: Want, found: Option<Bytes>) -> bool {
-    match found {
-        Some(octets) => want.is_octets(Some(octets.as_slice())),
-        None => want.is_octets(None),
-    }
+/// Marks a reader as failed by a rule of its own, then by others, and goes on as if it had not.
+fn mark(cons: &mut Constructed<'_>) -> Result<(), DecodeError> {
+    let _ = cons.refuse_for("first");
+    let _ = cons.fail(DecodeError::Malformed);
+    let _ = cons.fail(DecodeError::refusal("second"));
+    Ok(())
 }
 
-/// Whether this truth, or none, is what is wanted.
-fn is_truth(want: Want, found: Option<bool>) -> bool {
-    match found {
-        Some(truth) => want.is_number(Some(u32::from(truth))),
-        None => want.is_number(None),
-    }
-}
-
-/// Whether a value was gone past, or none was there, as is wanted.
-fn is_past(want: Want, found: Option<()>) -> bool {
-    match found {
-        Some(()) => want.is_done(),
-        None => want.is_octets(None),
-    }
-}
-
-/// Calls that read a number, or are done.
-fn is_number(cons: &mut Constructed<'_>, call: Call, want: Want) -> Result<bool, DecodeError> {
-    Ok(match call {
-        Call::U8 => is_small(want, Some(cons.take_u8()?)),
-        Call::U32 => want.is_number(Some(cons.take_u32()?)),
-        Call::OptU8 => is_small(want, cons.take_opt_u8()?),
-        Call::OptU32 => want.is_number(cons.take_opt_u32()?),
-        Call::Bool => is_truth(want, cons.take_opt_bool()?),
-        Call::Flag => is_truth(want, Some(cons.take_flag()?)),
-        Call::AtEnd => is_truth(want, Some(cons.is_at_end()?)),
-        Call::SkipFive => is_past(want, Some(cons.skip_u8_if(5)?)),
-        Call::Null => is_past(want, cons.skip_opt_null()?),
-        _ => want.is_octets(Some(cons.take_unsigned()?.as_slice())),
-    })
-}
-
-/// Calls that read a string.
-fn is_primitive(
+/// Calls that read a number, or keep octets.
+fn is_number(
     cons: &mut Constructed<'_>,
     alloc: Global,
     call: Call,
     want: Want,
 ) -> Result<bool, DecodeError> {
-    Ok(match call {
-        Call::Oid => want.is_octets(Some(cons.take_oid()?.as_slice())),
-        Call::Bits(unused) => {
-            let bits = cons.take_bits()?;
-            bits.unused == unused && is_string(want, Some(bits.octets))
-        }
-        Call::Ia5 => is_string(want, Some(cons.take_ia5()?)),
-        Call::OptIa5 => is_string(want, cons.take_opt_ia5()?),
-        Call::Octets => is_string(want, Some(cons.take_octets(alloc)?)),
-        Call::Key => is_string(want, cons.take_opt_primitive_if(Tag::CTX_0_PRIMITIVE)?),
-        Call::WholeBits => is_string(want, Some(cons.take_octets_in_bits()?)),
-        Call::Primitive => is_string(want, Some(cons.take_primitive_if(Tag::CTX_0_PRIMITIVE)?)),
-        Call::Contents => is_string(want, cons.take_opt_primitive_if(Tag::CTX_0)?),
-        _ => want.is_octets(Some(cons.take_octets_of::<2>(alloc)?.as_slice())),
-    })
+    match call {
+        Call::U8 => shows(alloc, cons.take_u8(), want),
+        Call::U32 => shows(alloc, cons.take_u32(), want),
+        Call::OptU8 => shows(alloc, cons.take_opt_u8(), want),
+        Call::OptU32 => shows(alloc, cons.take_opt_u32(), want),
+        Call::Bool => shows(alloc, cons.take_opt_bool(), want),
+        Call::Flag => shows(alloc, cons.take_flag(), want),
+        Call::AtEnd => shows(alloc, cons.is_at_end(), want),
+        Call::SkipFive => shows(alloc, cons.skip_u8_if(5), want),
+        Call::Null => shows(alloc, cons.skip_opt_null(), want),
+        Call::Unsigned => shows(alloc, cons.take_unsigned(), want),
+        Call::Capture => shows(alloc, cons.capture(skip), want),
+        Call::CaptureNine => shows(alloc, cons.capture_with(small), want),
+        _ => shows(alloc, mark(cons), want),
+    }
+}
+
+/// Calls that read a string, or a list.
+fn is_string(
+    cons: &mut Constructed<'_>,
+    alloc: Global,
+    call: Call,
+    want: Want,
+) -> Result<bool, DecodeError> {
+    match call {
+        Call::Oid => shows(alloc, cons.take_oid(), want),
+        Call::Bits => shows(alloc, cons.take_bits(), want),
+        Call::Ia5 => shows(alloc, cons.take_ia5(), want),
+        Call::OptIa5 => shows(alloc, cons.take_opt_ia5(), want),
+        Call::Octets => shows(alloc, cons.take_octets(alloc), want),
+        Call::Key => shows(
+            alloc,
+            cons.take_opt_primitive_if(Tag::CTX_0_PRIMITIVE),
+            want,
+        ),
+        Call::WholeBits => shows(alloc, cons.take_octets_in_bits(), want),
+        Call::Primitive => shows(alloc, cons.take_primitive_if(Tag::CTX_0_PRIMITIVE), want),
+        Call::Contents => shows(alloc, cons.take_opt_primitive_if(Tag::CTX_0), want),
+        Call::TwoOctets => shows(alloc, cons.take_octets_of::<2>(alloc), want),
+        _ => shows(alloc, take_list(cons, alloc), want),
+    }
 }
 
 /// Calls that open a value, or go past one.
-fn is_opened(cons: &mut Constructed<'_>, call: Call, want: Want) -> Result<bool, DecodeError> {
-    Ok(match call {
-        Call::Sequence => is_small(want, Some(cons.take_sequence(small)?)),
-        Call::OptSequence => is_small(want, cons.take_opt_sequence(small)?),
-        Call::Set => is_small(want, Some(cons.take_set(small)?)),
-        Call::Tagged => is_small(want, Some(cons.take_constructed_if(Tag::CTX_0, small)?)),
-        Call::OptTagged => is_small(want, cons.take_opt_constructed_if(Tag::CTX_0, small)?),
-        Call::SkipOne => is_past(want, Some(cons.skip_one()?)),
-        Call::SkipOptOne => is_past(want, cons.skip_opt_one()?),
-        Call::SkipAll => is_past(want, Some(cons.skip_all()?)),
-        _ => is_past(want, Some(cons.skip_oid_if(&[0x55, 4, 3])?)),
-    })
-}
-
-/// Calls that keep octets, and the one of a reader with an error of its own.
-fn is_kept(
+fn is_opened(
     cons: &mut Constructed<'_>,
     alloc: Global,
     call: Call,
     want: Want,
 ) -> Result<bool, DecodeError> {
-    Ok(match call {
-        Call::Capture => {
-            let mode = cons.mode();
-            let kept = cons.capture(skip)?;
-            want.is_octets(Some(kept.as_slice())) && kept.mode() == mode
-        }
-        Call::CaptureNine => {
-            let (digit, kept) = cons.capture_with(small)?;
-            digit == 9 && want.is_octets(Some(kept.as_slice()))
-        }
-        Call::Items => want.is_octets(Some(take_list(cons, alloc)?.as_slice())),
-        _ => {
-            let _ = cons.refuse_for("first");
-            let _ = cons.fail(DecodeError::Malformed);
-            let _ = cons.fail(DecodeError::refusal("second"));
-            want.is_done()
-        }
-    })
+    match call {
+        Call::Sequence => shows(alloc, cons.take_sequence(small), want),
+        Call::OptSequence => shows(alloc, cons.take_opt_sequence(small), want),
+        Call::Set => shows(alloc, cons.take_set(small), want),
+        Call::Tagged => shows(alloc, cons.take_constructed_if(Tag::CTX_0, small), want),
+        Call::OptTagged => shows(alloc, cons.take_opt_constructed_if(Tag::CTX_0, small), want),
+        Call::SkipOne => shows(alloc, cons.skip_one(), want),
+        Call::SkipOptOne => shows(alloc, cons.skip_opt_one(), want),
+        Call::SkipAll => shows(alloc, cons.skip_all(), want),
+        _ => shows(alloc, cons.skip_oid_if(&[0x55, 4, 3]), want),
+    }
 }
 
 impl Reads for Call {
@@ -222,15 +225,14 @@ impl Reads for Call {
         want: Want,
     ) -> Result<bool, DecodeError> {
         match self {
-            Call::U8 | Call::U32 | Call::OptU8 | Call::OptU32 => is_number(cons, self, want),
-            Call::Bool | Call::Flag | Call::AtEnd => is_number(cons, self, want),
-            Call::SkipFive | Call::Null | Call::Unsigned => is_number(cons, self, want),
-            Call::Capture | Call::CaptureNine => is_kept(cons, alloc, self, want),
-            Call::Items | Call::Marked => is_kept(cons, alloc, self, want),
-            Call::Sequence | Call::OptSequence | Call::Set => is_opened(cons, self, want),
-            Call::Tagged | Call::OptTagged | Call::Name => is_opened(cons, self, want),
-            Call::SkipOne | Call::SkipOptOne | Call::SkipAll => is_opened(cons, self, want),
-            _ => is_primitive(cons, alloc, self, want),
+            Call::U8 | Call::U32 | Call::OptU8 | Call::OptU32 => is_number(cons, alloc, self, want),
+            Call::Bool | Call::Flag | Call::AtEnd => is_number(cons, alloc, self, want),
+            Call::SkipFive | Call::Null | Call::Unsigned => is_number(cons, alloc, self, want),
+            Call::Capture | Call::CaptureNine | Call::Marked => is_number(cons, alloc, self, want),
+            Call::Sequence | Call::OptSequence | Call::Set => is_opened(cons, alloc, self, want),
+            Call::Tagged | Call::OptTagged | Call::Name => is_opened(cons, alloc, self, want),
+            Call::SkipOne | Call::SkipOptOne | Call::SkipAll => is_opened(cons, alloc, self, want),
+            _ => is_string(cons, alloc, self, want),
         }
     }
 }
@@ -268,14 +270,14 @@ pub static READ: [Row<Call>; 54] = [
     (Call::Oid, &[6, 1, 0], Want::Read(&[0])),
     (Call::Oid, &[6, 3, 0x55, 4, 3], Want::Read(&[0x55, 4, 3])),
     (Call::Oid, &[6, 2, 0x88, 0x37], Want::Read(&[0x88, 0x37])),
-    (Call::Bits(0), &[3, 1, 0], Want::Read(&[])),
-    (Call::Bits(3), &[3, 2, 3, 0xA8], Want::Read(&[0xA8])),
+    (Call::Bits, &[3, 1, 0], Want::Read(&[0])),
+    (Call::Bits, &[3, 2, 3, 0xA8], Want::Read(&[3, 0xA8])),
     (
-        Call::Bits(4),
+        Call::Bits,
         &[3, 3, 4, 0xAB, 0xC0],
-        Want::Read(&[0xAB, 0xC0]),
+        Want::Read(&[4, 0xAB, 0xC0]),
     ),
-    (Call::Bits(7), &[3, 2, 7, 0x80], Want::Read(&[0x80])),
+    (Call::Bits, &[3, 2, 7, 0x80], Want::Read(&[7, 0x80])),
     (Call::Ia5, &[0x16, 0], Want::Read(&[])),
     (Call::Ia5, &[0x16, 2, 0x61, 0x62], Want::Read(b"ab")),
     (Call::Ia5, &[0x16, 2, 0, 0x7F], Want::Read(&[0, 0x7F])),
@@ -352,7 +354,7 @@ pub static RELAXED: [Row<Call>; 22] = [
     (Call::Octets, &[4, 0x83, 0, 0, 1, 0x41], Want::Read(b"A")),
     (Call::Octets, &[4, 0x84, 0, 0, 0, 1, 0x41], Want::Read(b"A")),
     (Call::Key, &[0x80, 0x81, 1, 0x99], Want::Read(&[0x99])),
-    (Call::Bits(3), &[3, 0x81, 2, 3, 0xA8], Want::Read(&[0xA8])),
+    (Call::Bits, &[3, 0x81, 2, 3, 0xA8], Want::Read(&[3, 0xA8])),
     // an indefinite length
     (
         Call::Sequence,
@@ -430,9 +432,9 @@ pub static WRONG: [Row<Call>; 42] = [
     (Call::Oid, &[6, 0], MALFORMED),
     (Call::Oid, &[6, 2, 0x2A, 0x80], MALFORMED),
     // unused bits of no octet, and eight of them
-    (Call::Bits(0), &[3, 0], MALFORMED),
-    (Call::Bits(0), &[3, 1, 1], MALFORMED),
-    (Call::Bits(0), &[3, 2, 8, 0xA8], MALFORMED),
+    (Call::Bits, &[3, 0], MALFORMED),
+    (Call::Bits, &[3, 1, 1], MALFORMED),
+    (Call::Bits, &[3, 2, 8, 0xA8], MALFORMED),
     (Call::Ia5, &[0x16, 1, 0x80], MALFORMED),
     (Call::OptIa5, &[0x16, 1, 0x80], MALFORMED),
     // pieces that are no OCTET STRING, and an indefinite length of a primitive value
@@ -525,13 +527,12 @@ fn is_all(octets: &'static [u8]) -> bool {
 #[test]
 fn rows(rt: HostRuntime) -> Result<(), AllocError> {
     let alloc = rt.alloc();
-    assert!(rt;
-        are_alike(alloc, &READ)?
-            && are_alike(alloc, &WRONG)?
-            && are_alike(alloc, &OTHERS)?
-            && are_relaxed(alloc, &RELAXED)?
-            && is_all(&[5, 0])
-            && !is_all(&[5, 0, 5])
-    );
+    let all = All::new()
+        .and(are_alike(alloc, &READ))
+        .and(are_alike(alloc, &WRONG))
+        .and(are_alike(alloc, &OTHERS))
+        .and(are_relaxed(alloc, &RELAXED))
+        .and(Ok(is_all(&[5, 0]) && !is_all(&[5, 0, 5])));
+    assert!(rt; all.end()?);
     Ok(())
 }

@@ -1,5 +1,6 @@
 //! Values that are made, copied and printed.
 
+use crate::reads::All;
 use bytes::Bytes;
 use rpki_der::{AsOctets, BitString, ContentFault, DecodeError, InvalidSignedAttr, Oid, Tag};
 use std::alloc::{AllocError, Global};
@@ -115,12 +116,9 @@ fn shows<T: AsOctets>(value: &T, octets: &[u8]) -> bool {
 fn values(rt: HostRuntime) -> Result<(), AllocError> {
     let alloc = rt.alloc();
     let octets: &[u8] = b"\x01\x02\x03";
-    assert!(rt;
-        are_right(alloc)?
-            && is_told(alloc)?
-            && shows(&octets, octets)
-            && shows(&Vec::from_slice(alloc, octets)?, octets)
-            && shows(&Bytes::copy_from_slice(alloc, octets)?, octets)
-    );
+    let all = All::new().and(are_right(alloc)).and(is_told(alloc));
+    let vector = Vec::from_slice(alloc, octets)?;
+    assert!(rt; all.end()?);
+    assert!(rt; shows(&octets, octets) && shows(&vector, octets));
     Ok(())
 }

@@ -1,6 +1,6 @@
 //! Rows of values that are written.
 
-use crate::reads::{are_octets, is_written, joined};
+use crate::reads::{All, are_octets, is_written, joined};
 use bytes::Bytes;
 use rpki_der::build::tlv;
 use rpki_der::encode::{
@@ -79,20 +79,20 @@ fn are_leaves(alloc: Global) -> Result<bool, AllocError> {
     let Some(id) = id else {
         return Ok(false);
     };
-    Ok(
-        is_written(alloc, &integer_u8(200), b"\x02\x02\x00\xC8")?
-            && is_written(alloc, &boolean(true), b"\x01\x01\xFF")?
-            && is_written(alloc, &boolean(false), b"\x01\x01\x00")?
-            && is_written(alloc, &null(), b"\x05\x00")?
-            && is_written(alloc, &ia5(b"a.roa"), b"\x16\x05a.roa")?
-            && is_written(
-                alloc,
-                &primitive(Tag::CTX_1, b"\x05\x00"),
-                b"\xA1\x02\x05\x00",
-            )?
-            && is_written(alloc, &oid(&id), b"\x06\x03\x55\x04\x03")?
-            && is_written(alloc, &id.encode_ref(), b"\x06\x03\x55\x04\x03")?,
-    )
+    All::new()
+        .and(is_written(alloc, &integer_u8(200), b"\x02\x02\x00\xC8"))
+        .and(is_written(alloc, &boolean(true), b"\x01\x01\xFF"))
+        .and(is_written(alloc, &boolean(false), b"\x01\x01\x00"))
+        .and(is_written(alloc, &null(), b"\x05\x00"))
+        .and(is_written(alloc, &ia5(b"a.roa"), b"\x16\x05a.roa"))
+        .and(is_written(
+            alloc,
+            &primitive(Tag::CTX_1, b"\x05\x00"),
+            b"\xA1\x02\x05\x00",
+        ))
+        .and(is_written(alloc, &oid(&id), b"\x06\x03\x55\x04\x03"))
+        .and(is_written(alloc, &id.encode_ref(), b"\x06\x03\x55\x04\x03"))
+        .end()
 }
 
 /// A count of octets, and the header of an OCTET STRING that has as many (section 8.1.3).
@@ -111,34 +111,40 @@ static LENGTHS: [(usize, &[u8]); 8] = [
 fn has_header(alloc: Global, len: usize, header: &[u8]) -> Result<bool, AllocError> {
     let contents = vec![in alloc; 0x55u8; len]?;
     let want = joined(alloc, &[header, &contents])?;
-    Ok(
-        are_octets(tlv(alloc, 4, &contents), &want)?
-            && are_octets(octet_string(&contents).to_bytes(alloc), &want)?
-            && (len > 256 || is_written(alloc, &octet_string(&contents), &want)?),
-    )
+    let all = All::new()
+        .and(are_octets(tlv(alloc, 4, &contents), &want))
+        .and(are_octets(octet_string(&contents).to_bytes(alloc), &want));
+    if len > 256 {
+        all.end()
+    } else {
+        all.and(is_written(alloc, &octet_string(&contents), &want))
+            .end()
+    }
 }
 
 /// Whether values of several parts are written so.
 fn are_parts(alloc: Global) -> Result<bool, AllocError> {
     let (a, b) = (&Raw(b"a"), &Raw(b"b"));
     let list = [integer(1), integer(128)];
-    Ok(
-        is_written(
+    All::new()
+        .and(is_written(
             alloc,
             &set(each(&list)),
             b"\x31\x07\x02\x01\x01\x02\x02\x00\x80",
-        )? && is_written(
+        ))
+        .and(is_written(
             alloc,
             &tagged(Tag::CTX_1, integer(1)),
             b"\xA1\x03\x02\x01\x01",
-        )? && is_written(alloc, &sequence((Some(a), None::<Raw<'_>>)), b"\x30\x01a")?
-            && is_written(alloc, &(a, b, a), b"aba")?
-            && is_written(alloc, &(a, b, a, b), b"abab")?
-            && is_written(alloc, &(a, b, a, b, b), b"ababb")?
-            && is_written(alloc, &(a, b, a, b, b, a), b"ababba")?
-            && is_written(alloc, &(a, b, a, b, b, a, a), b"ababbaa")?
-            && is_written(alloc, &(a, b, a, b, b, a, a, b), b"ababbaab")?,
-    )
+        ))
+        .and(is_written(alloc, &sequence((Some(a), None::<Raw<'_>>)), b"\x30\x01a"))
+        .and(is_written(alloc, &(a, b, a), b"aba"))
+        .and(is_written(alloc, &(a, b, a, b), b"abab"))
+        .and(is_written(alloc, &(a, b, a, b, b), b"ababb"))
+        .and(is_written(alloc, &(a, b, a, b, b, a), b"ababba"))
+        .and(is_written(alloc, &(a, b, a, b, b, a, a), b"ababbaa"))
+        .and(is_written(alloc, &(a, b, a, b, b, a, a, b), b"ababbaab"))
+        .end()
 }
 
 /// Whether the copy of octets that were kept in this mode is written again in DER, and that of
@@ -162,12 +168,12 @@ fn written(rt: HostRuntime) -> Result<(), AllocError> {
     for (len, header) in &LENGTHS {
         assert!(rt; has_header(alloc, *len, header)?);
     }
-    assert!(rt;
-        are_rows(alloc)?
-            && are_leaves(alloc)?
-            && are_parts(alloc)?
-            && is_kept(alloc, Mode::Der)?
-            && is_kept(alloc, Mode::Ber)?
-    );
+    let all = All::new()
+        .and(are_rows(alloc))
+        .and(are_leaves(alloc))
+        .and(are_parts(alloc))
+        .and(is_kept(alloc, Mode::Der))
+        .and(is_kept(alloc, Mode::Ber));
+    assert!(rt; all.end()?);
     Ok(())
 }

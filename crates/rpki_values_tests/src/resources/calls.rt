@@ -1,11 +1,11 @@
 //! Calls that read sets, prefixes, families and claims.
 
-use crate::reads::{Reads, Want};
+use crate::reads::{Reads, Shown, Want, shows};
 use rpki_der::encode::{null, sequence};
 use rpki_der::{Constructed, DecodeError};
 use rpki_resources::{
-    AddressFamily, AsBlocks, AsResources, ByFamily, Claim, IpBlocks, IpResources, Prefix,
-    take_families,
+    AddressFamily, AsBlocks, AsResources, Blocks, ByFamily, Claim, IpBlocks, IpResources, Number,
+    Prefix, Resources, take_families,
 };
 use std::alloc::{AllocError, Global};
 
@@ -28,50 +28,54 @@ pub enum Call {
     ClaimOf(AddressFamily),
 }
 
-/// What stands for a family.
-fn part<T>(parts: &ByFamily<T>, family: AddressFamily) -> Option<&T> {
-    match family {
-        AddressFamily::Ipv4 => parts.v4.as_ref(),
-        AddressFamily::Ipv6 => parts.v6.as_ref(),
+impl Shown for AsBlocks {
+    fn is_wanted(&self, alloc: Global, want: Want) -> Result<bool, AllocError> {
+        want.is_written_of(alloc, &sequence(self.encode_ref()))
     }
 }
 
-/// Whether this set, or none, is wanted.
-fn is_set(
-    alloc: Global,
-    family: AddressFamily,
-    set: Option<&IpBlocks>,
-    want: Want,
-) -> Result<bool, AllocError> {
-    match set {
-        Some(set) => want.is_written_of(alloc, &sequence(set.encode_ref(family))),
-        None => Ok(want.is_octets(None)),
+/// The blocks of IPv4 are written as those of IPv6 that begin with the same bits.
+impl Shown for IpBlocks {
+    fn is_wanted(&self, alloc: Global, want: Want) -> Result<bool, AllocError> {
+        want.is_written_of(alloc, &sequence(self.encode_ref(AddressFamily::Ipv6)))
     }
 }
 
-/// Whether this claim of addresses, or none, is wanted: NULL where it is inherited.
-fn is_claim(
-    alloc: Global,
-    family: AddressFamily,
-    claim: Option<&IpResources>,
-    want: Want,
-) -> Result<bool, AllocError> {
-    match claim {
-        Some(claim) => match claim.claim() {
-            Claim::Explicit(set) => is_set(alloc, family, Some(set), want),
+impl Shown for Prefix {
+    fn is_wanted(&self, alloc: Global, want: Want) -> Result<bool, AllocError> {
+        want.is_written_of(alloc, self)
+    }
+}
+
+impl Shown for AddressFamily {
+    fn is_wanted(&self, alloc: Global, want: Want) -> Result<bool, AllocError> {
+        want.is_written_of(alloc, &self.encode_ref())
+    }
+}
+
+/// NULL where it is inherited.
+impl<T: Number> Shown for Resources<T>
+where
+    Blocks<T>: Shown,
+{
+    fn is_wanted(&self, alloc: Global, want: Want) -> Result<bool, AllocError> {
+        match self.claim() {
+            Claim::Explicit(set) => set.is_wanted(alloc, want),
             Claim::Inherit => want.is_written_of(alloc, &null()),
-            Claim::Missing => Ok(false),
-        },
-        None => Ok(want.is_octets(None)),
+            Claim::Missing => Ok(want.is_absent()),
+        }
     }
 }
 
-/// Whether this claim of numbers is wanted: NULL where it is inherited.
-fn is_numbers_claim(alloc: Global, claim: &AsResources, want: Want) -> Result<bool, AllocError> {
-    match claim.claim() {
-        Claim::Explicit(set) => want.is_written_of(alloc, &sequence(set.encode_ref())),
-        Claim::Inherit => want.is_written_of(alloc, &null()),
-        Claim::Missing => Ok(false),
+/// What stands for a family.
+fn part<T: Drop>(
+    answer: Result<ByFamily<T>, DecodeError>,
+    family: AddressFamily,
+) -> Result<Option<T>, DecodeError> {
+    match (answer, family) {
+        (Ok(parts), AddressFamily::Ipv4) => Ok(parts.v4),
+        (Ok(parts), AddressFamily::Ipv6) => Ok(parts.v6),
+        (Err(error), _) => Err(error),
     }
 }
 
@@ -82,56 +86,41 @@ impl Reads for Call {
         alloc: Global,
         want: Want,
     ) -> Result<bool, DecodeError> {
-        Ok(match self {
-            Call::Numbers => {
-                let set = AsBlocks::take_from(alloc, cons)?;
-                want.is_written_of(alloc, &sequence(set.encode_ref()))?
-            }
+        match self {
+            Call::Numbers => shows(alloc, AsBlocks::take_from(alloc, cons), want),
             Call::Addresses(family) => {
-                let set = IpBlocks::take_from(alloc, cons, family)?;
-                is_set(alloc, family, Some(&set), want)?
+                shows(alloc, IpBlocks::take_from(alloc, cons, family), want)
             }
-            Call::Prefix(family) => want.is_written_of(alloc, &Prefix::take_from(cons, family)?)?,
-            Call::Family => {
-                let family = AddressFamily::take_from(alloc, cons)?;
-                want.is_written_of(alloc, &family.encode_ref())?
+            Call::Prefix(family) => shows(alloc, Prefix::take_from(cons, family), want),
+            Call::Family => shows(alloc, AddressFamily::take_from(alloc, cons), want),
+            Call::NumbersClaim => shows(alloc, AsResources::take_from(alloc, cons), want),
+            Call::AddressesClaim(family) => {
+                shows(alloc, IpResources::take_from(alloc, cons, family), want)
             }
-            _ => is_claimed(self, cons, alloc, want)?,
-        })
+            Call::SetOf(family) => {
+                shows(
+                    alloc,
+                    part(ByFamily::<IpBlocks>::take_from(alloc, cons), family),
+                    want,
+                )
+            }
+            Call::AnySetOf(family) => {
+                shows(
+                    alloc,
+                    part(take_families::<IpBlocks>(alloc, cons), family),
+                    want,
+                )
+            }
+            Call::ClaimOf(family) => {
+                shows(
+                    alloc,
+                    part(ByFamily::<IpResources>::take_from(alloc, cons), family),
+                    want,
+                )
+            }
+            Call::Identifiers => {
+                shows(alloc, AsResources::take_identifiers_from(alloc, cons), want)
+            }
+        }
     }
-}
-
-/// The calls that read claims, or a value for each family.
-fn is_claimed(
-    call: Call,
-    cons: &mut Constructed<'_>,
-    alloc: Global,
-    want: Want,
-) -> Result<bool, DecodeError> {
-    Ok(match call {
-        Call::NumbersClaim => {
-            is_numbers_claim(alloc, &AsResources::take_from(alloc, cons)?, want)?
-        }
-        Call::AddressesClaim(family) => {
-            let claim = IpResources::take_from(alloc, cons, family)?;
-            is_claim(alloc, family, Some(&claim), want)?
-        }
-        Call::SetOf(family) => {
-            let sets = ByFamily::<IpBlocks>::take_from(alloc, cons)?;
-            is_set(alloc, family, part(&sets, family), want)?
-        }
-        Call::AnySetOf(family) => {
-            let sets = take_families::<IpBlocks>(alloc, cons)?;
-            is_set(alloc, family, part(&sets, family), want)?
-        }
-        Call::ClaimOf(family) => {
-            let claims = ByFamily::<IpResources>::take_from(alloc, cons)?;
-            is_claim(alloc, family, part(&claims, family), want)?
-        }
-        _ => is_numbers_claim(
-            alloc,
-            &AsResources::take_identifiers_from(alloc, cons)?,
-            want,
-        )?,
-    })
 }

@@ -1,7 +1,7 @@
 //! Rows of families, of claims, and of values by family (RFC 3779, sections 2.2.3 and 3.2.3).
 
 use super::calls::Call;
-use crate::reads::{MALFORMED, Row, Want, are_alike, are_relaxed};
+use crate::reads::{All, MALFORMED, Row, Want, are_alike, are_relaxed};
 use rpki_resources::AddressFamily::{Ipv4, Ipv6};
 use rpki_resources::faults;
 use std::alloc::AllocError;
@@ -216,12 +216,12 @@ static RELAXED: [Row<Call>; 2] = [
 #[test]
 fn claims(rt: HostRuntime) -> Result<(), AllocError> {
     let alloc = rt.alloc();
-    assert!(rt;
-        are_alike(alloc, &NUMBERS)?
-            && are_alike(alloc, &FAMILIES)?
-            && are_alike(alloc, &BY_FAMILY)?
-            && are_alike(alloc, &WRONG)?
-            && are_relaxed(alloc, &RELAXED)?
-    );
+    let all = All::new()
+        .and(are_alike(alloc, &NUMBERS))
+        .and(are_alike(alloc, &FAMILIES))
+        .and(are_alike(alloc, &BY_FAMILY))
+        .and(are_alike(alloc, &WRONG))
+        .and(are_relaxed(alloc, &RELAXED));
+    assert!(rt; all.end()?);
     Ok(())
 }

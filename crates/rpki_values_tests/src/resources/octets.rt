@@ -2,8 +2,8 @@
 
 use super::calls::Call;
 use super::sets::{Numbers, as_set, ip_set};
-use crate::reads::{MALFORMED, Row, Want, are_alike, are_relaxed, are_so, is_written};
-use rpki_der::encode::sequence;
+use crate::reads::{All, MALFORMED, Row, Want, are_alike, are_relaxed, are_so, is_written};
+use rpki_der::encode::{Encode, sequence};
 use rpki_resources::AddressFamily::{Ipv4, Ipv6};
 use rpki_resources::{Addr, AddressFamily, Asn, Prefix, faults};
 use std::alloc::{AllocError, Global};
@@ -310,27 +310,41 @@ static WRONG: [Row<Call>; 19] = [
     (Call::Addresses(Ipv6), &[0x31, 4, 3, 2, 0, 10], MALFORMED),
 ];
 
-/// Whether each set is written so, and is read of these octets.
-fn are_sets(alloc: Global) -> Result<bool, AllocError> {
+/// Whether a set is written so, and is read of these octets by this call.
+fn is_set<T: Encode>(
+    alloc: Global,
+    call: Call,
+    set: &T,
+    octets: &'static [u8],
+) -> Result<bool, AllocError> {
+    let want = Want::Read(octets);
+    All::new()
+        .and(is_written(alloc, set, octets))
+        .and(are_so(alloc, call, octets, want, want))
+        .end()
+}
+
+/// Whether each row of numbers is right.
+fn are_numbers(alloc: Global) -> Result<bool, AllocError> {
     for (blocks, octets) in &NUMBERS {
-        let want = Want::Read(octets);
-        if !is_written(
-            alloc,
-            &sequence(as_set(alloc, blocks)?.encode_ref()),
-            octets,
-        )? || !are_so(alloc, Call::Numbers, octets, want, want)?
-        {
+        let set = as_set(alloc, blocks)?;
+        let is_right = is_set(alloc, Call::Numbers, &sequence(set.encode_ref()), octets);
+        drop(set);
+        if !is_right? {
             return Ok(false);
         }
     }
+    Ok(true)
+}
+
+/// Whether each row of addresses is right.
+fn are_addresses(alloc: Global) -> Result<bool, AllocError> {
     for (family, blocks, octets) in &ADDRESSES {
-        let want = Want::Read(octets);
-        if !is_written(
-            alloc,
-            &sequence(ip_set(alloc, blocks)?.encode_ref(*family)),
-            octets,
-        )? || !are_so(alloc, Call::Addresses(*family), octets, want, want)?
-        {
+        let set = ip_set(alloc, blocks)?;
+        let written = sequence(set.encode_ref(*family));
+        let is_right = is_set(alloc, Call::Addresses(*family), &written, octets);
+        drop(set);
+        if !is_right? {
             return Ok(false);
         }
     }
@@ -340,17 +354,15 @@ fn are_sets(alloc: Global) -> Result<bool, AllocError> {
 #[test]
 fn octets(rt: HostRuntime) -> Result<(), AllocError> {
     let alloc = rt.alloc();
-    assert!(rt;
-        are_sets(alloc)?
-            && are_alike(alloc, &OTHERS)?
-            && are_relaxed(alloc, &RELAXED)?
-            && are_alike(alloc, &WRONG)?
-            && is_written(alloc, &Asn::from_u32(300), b"\x02\x02\x01\x2C")?
-            && is_written(
-                alloc,
-                &Prefix::new(Addr::from_bits(0x0A00_0800 << 96), 21),
-                b"\x03\x04\x03\x0A\x00\x08",
-            )?
-    );
+    let prefix = Prefix::new(Addr::from_bits(0x0A00_0800 << 96), 21);
+    let all = All::new()
+        .and(are_numbers(alloc))
+        .and(are_addresses(alloc))
+        .and(are_alike(alloc, &OTHERS))
+        .and(are_relaxed(alloc, &RELAXED))
+        .and(are_alike(alloc, &WRONG))
+        .and(is_written(alloc, &Asn::from_u32(300), b"\x02\x02\x01\x2C"))
+        .and(is_written(alloc, &prefix, b"\x03\x04\x03\x0A\x00\x08"));
+    assert!(rt; all.end()?);
     Ok(())
 }

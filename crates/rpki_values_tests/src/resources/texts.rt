@@ -1,6 +1,6 @@
 //! Rows of printed texts.
 
-use crate::reads::is_printed;
+use crate::reads::{All, is_printed};
 use rpki_resources::{Addr, AddressFamily, AsBlock, Asn, IpBlock, MaxLenPrefix, Prefix};
 use std::alloc::{AllocError, Global};
 
@@ -251,13 +251,13 @@ fn texts(rt: HostRuntime) -> Result<(), AllocError> {
     let first = Addr::from_bits(0x0A00_0000 << 96);
     let last = Addr::from_bits((0x0A00_0003 << 96) - 1);
     let block = IpBlock::from_range(first, last).display(AddressFamily::Ipv4);
-    assert!(rt;
-        are_rows(alloc)?
-            && is_printed(alloc, &block, "10.0.0.0-10.0.0.2")?
-            && is_printed(alloc, &entry(Some(26)), "192.0.2.0/24-26")?
-            && is_printed(alloc, &entry(None), "192.0.2.0/24")?
-            && is_printed(alloc, &AsBlock::Id(Asn::MAX), "AS4294967295")?
-            && is_printed(alloc, &AsBlock::Range(ten, twenty), "AS10-AS20")?
-    );
+    let all = All::new()
+        .and(are_rows(alloc))
+        .and(is_printed(alloc, &block, "10.0.0.0-10.0.0.2"))
+        .and(is_printed(alloc, &entry(Some(26)), "192.0.2.0/24-26"))
+        .and(is_printed(alloc, &entry(None), "192.0.2.0/24"))
+        .and(is_printed(alloc, &AsBlock::Id(Asn::MAX), "AS4294967295"))
+        .and(is_printed(alloc, &AsBlock::Range(ten, twenty), "AS10-AS20"));
+    assert!(rt; all.end()?);
     Ok(())
 }
