@@ -1,5 +1,8 @@
-//! Tests of `rpki_tree` and `rpki_folder`, over copies and folders in memory.
+//! Tests of `rpki_tree`, `rpki_payloads` and `rpki_folder`. Each hands on that memory ran out, so
+//! `tools/growth` can refuse each of its allocations in turn.
 
+mod calls;
 mod copy;
-mod folders;
-mod locators;
+mod held;
+mod octets;
+mod reports;
