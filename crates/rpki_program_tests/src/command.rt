@@ -1,21 +1,26 @@
-//! Tests of `rpki_cli`, `rpki_show`, `rpki_command` and `rpki_verdicts`, each a table of rows that
-//! one small function walks.
+//! Tests of `rpki_cli`, `rpki_show`, `rpki_command` and `rpki_verdicts`: tables of runs, which
+//! `rows` walks.
 //!
-//! The expected values follow from the profile by hand. A test hands on that memory ran out and
-//! asserts everything else, so `tools/growth` can refuse each of its allocations in turn. Other
-//! words, contents and files, streams that fail at each of their calls, lines that are refused,
+//! The expected values follow from the profile by hand, or are those of other programs. A test
+//! hands on that memory ran out and asserts everything else, so `tools/growth` can refuse each of
+//! its allocations in turn. Other contents and files, streams that fail at each of their calls,
 //! long lists, and objects that are checked are in the sweeps.
 
+mod asked;
 mod attestations;
 mod attested;
+mod checked;
 mod each;
+mod first_read;
 mod given;
 mod granted;
 mod issued;
 mod issued_octets;
+mod objects;
 mod octets;
 mod payloads;
-mod rtas;
-mod runs;
+mod rows;
+mod shown;
+mod signed;
 mod verdicts;
 mod walks;

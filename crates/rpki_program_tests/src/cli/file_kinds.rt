@@ -39,22 +39,41 @@ static NAMES: [(&str, Option<FileKind>); 17] = [
     ("", None),
 ];
 
-#[test]
-fn kinds_have_words(rt: HostRuntime) -> Result<(), Fail> {
-    for (kind, word, extension) in &KINDS {
-        assert_eq!(rt; kind.word(), *word);
-        assert_eq!(rt; kind.extension(), *extension);
-        assert!(rt; kind_of_word(word) == Some(*kind));
+/// Words of no kind.
+static NO_KINDS: [&str; 3] = ["asa", "ROA", ""];
+
+fn are_kinds(rows: &[(FileKind, &str, &str)]) -> bool {
+    for (kind, word, extension) in rows {
+        if kind.word() != *word
+            || kind.extension() != *extension
+            || kind_of_word(word) != Some(*kind)
+        {
+            return false;
+        }
     }
-    assert!(rt; kind_of_word("asa").is_none());
-    assert!(rt; kind_of_word("ROA").is_none());
-    Ok(())
+    true
+}
+
+fn are_none(words: &[&str]) -> bool {
+    for word in words {
+        if kind_of_word(word).is_some() {
+            return false;
+        }
+    }
+    true
+}
+
+fn are_named(rows: &[(&str, Option<FileKind>)]) -> bool {
+    for (name, kind) in rows {
+        if kind_of_name(name) != *kind {
+            return false;
+        }
+    }
+    true
 }
 
 #[test]
-fn names_say_kinds(rt: HostRuntime) -> Result<(), Fail> {
-    for (name, kind) in &NAMES {
-        assert!(rt; kind_of_name(name) == *kind);
-    }
+fn kinds_have_words_and_names(rt: HostRuntime) -> Result<(), Fail> {
+    assert!(rt; are_kinds(&KINDS) && are_none(&NO_KINDS) && are_named(&NAMES));
     Ok(())
 }

@@ -1,133 +1,228 @@
 //! What words ask of many files.
 
-use super::checks::{check_text, push_words};
-use rpki_cli::verify::check_settings::SettingsError;
+use rpki_cli::verify::check_settings::{CheckSettings, SettingsError, settings_of};
 use rpki_cli::verify::kinds_by_name::FileKind;
 use rpki_cli::verify::requests::{
-    CheckRequest, CheckedKind, ShowRequest, WrongWords, check_words, kind_of_file, names_of_check,
-    object_of, show_words,
+    CheckedKind, WrongWords, check_words, kind_of_file, names_of_check, object_of, show_words,
 };
-use rpki_cli::verify::settings::ArrangeError;
-use rpki_cli::verify::words::{VerifyCommand, parse};
-use rpki_cli::words::Kind;
+use rpki_cli::verify::settings::{ArrangeError, arrange};
+use rpki_cli::verify::words::{VerifyCommand, When, parse};
+use rpki_cli::words::{Kind, Options};
 use std::alloc::{AllocError, Global};
-use std::fmt::Write;
 use std::test::Fail;
 
-/// Words after `check`, and what they ask as a text with the files that are read, or what is wrong.
-static CHECKS: [(&[&str], &str); 22] = [
-    (
-        &["--ta", "a.cer", "b.roa"],
-        "- now a.cer - () (); b.roa = roa; a.cer b.roa",
-    ),
+/// Words after a command, the files that it names, and the kinds of those that it is about.
+type Row<K> = (
+    &'static [&'static str],
+    &'static [&'static str],
+    &'static [K],
+);
+
+const ROA: CheckedKind = CheckedKind::Signed(Kind::Roa);
+
+const ASPA: CheckedKind = CheckedKind::Signed(Kind::Aspa);
+
+const MANIFEST: CheckedKind = CheckedKind::Signed(Kind::Manifest);
+
+const CHECKLIST: CheckedKind = CheckedKind::Signed(Kind::Rsc);
+
+/// Words after `check`, and the files in the order in which they are read.
+static CHECKS: [Row<CheckedKind>; 12] = [
+    (&["--ta", "a.cer", "b.roa"], &["a.cer", "b.roa"], &[ROA]),
     (
         &["b.asa", "--ta", "a.cer", "c.mft", "d.sig", "e.rta"],
-        "- now a.cer - () (); b.asa c.mft d.sig e.rta = aspa manifest rsc rta; \
-        a.cer b.asa c.mft d.sig e.rta",
+        &["a.cer", "b.asa", "c.mft", "d.sig", "e.rta"],
+        &[ASPA, MANIFEST, CHECKLIST, CheckedKind::Rta],
     ),
     (
         &[
             "--crl", "c.crl", "--tal", "a.tal", "--ca", "b.cer", "--ta", "a.cer", "d.ROA",
         ],
-        "- now a.cer a.tal (b.cer) (c.crl); d.ROA = roa; a.cer b.cer a.tal c.crl d.ROA",
+        &["a.cer", "b.cer", "a.tal", "c.crl", "d.ROA"],
+        &[ROA],
+    ),
+    (
+        &["--ta", "a", "--ca", "b", "--ca", "c", "--crl", "d", "e.roa"],
+        &["a", "b", "c", "d", "e.roa"],
+        &[ROA],
     ),
     (
         &["--kind", "rta", "--ta", "a.cer", "-", "b.roa"],
-        "rta now a.cer - () (); - b.roa = rta rta; a.cer - b.roa",
+        &["a.cer", "-", "b.roa"],
+        &[CheckedKind::Rta, CheckedKind::Rta],
+    ),
+    (
+        &["--tal", "a.tal", "--ta", "a.cer", "--kind", "roa", "b"],
+        &["a.cer", "a.tal", "b"],
+        &[ROA],
     ),
     (
         &["--ta", "a.cer", "--", "--ta.roa"],
-        "- now a.cer - () (); --ta.roa = roa; a.cer --ta.roa",
+        &["a.cer", "--ta.roa"],
+        &[ROA],
     ),
-    (&["--ta", "a.cer", "-x"], "unknown option: -x"),
-    (&["b.roa", "--ta"], "no value: --ta"),
-    (&["--csv", "--ta", "a.cer"], "no option of check: --csv"),
-    (&["--ta", "a.cer"], "no file to check"),
-    (&["--ta", "", "b.roa"], "empty name"),
-    (&["--ta", "a.cer", "b.roa", ""], "empty name"),
-    (&["--ta", "a.cer", "--crl", "", "b.roa"], "empty name"),
-    (
-        &["--ta", "a.cer", "b.roa: yes\nc.roa"],
-        "control character in a name",
-    ),
-    (
-        &["--ta", "a\x7F.cer", "b.roa"],
-        "control character in a name",
-    ),
-    (
-        &["--ta", "a.cer", "--crl", "b\x1F.crl", "c"],
-        "control character in a name",
-    ),
-    (&["--ta", "a.cer", "", "b\t.roa"], "empty name"),
     (
         &["--ta", "a b.cer", "b~\u{80}.roa"],
-        "- now a b.cer - () (); b~\u{80}.roa = roa; a b.cer b~\u{80}.roa",
-    ),
-    (&["--ta", "a.cer", "b.roa", "c", "d"], "unknown kind: c"),
-    (&["--ta", "a.cer", "-"], "unknown kind: -"),
-    (
-        &["--ta", "a.cer", "b.roa", "c.cer"],
-        "cannot check files of this kind: c.cer",
+        &["a b.cer", "b~\u{80}.roa"],
+        &[ROA],
     ),
     (
-        &["--ta", "a.cer", "--kind", "crl", "b.roa"],
-        "cannot check files of this kind: crl",
+        &["b.roa", "c.asa", "--json", "--ta", "a.cer"],
+        &["a.cer", "b.roa", "c.asa"],
+        &[ROA, ASPA],
     ),
     (
-        &["--ta", "a.cer", "--kind", "gbr", "b"],
-        "unknown kind: gbr",
+        &["--registered", "--json", "--json", "--ta", "a", "b.roa"],
+        &["a", "b.roa"],
+        &[ROA],
+    ),
+    (
+        &["--at", "now", "--wide", "--relaxed", "--ta", "-", "a.roa"],
+        &["-", "a.roa"],
+        &[ROA],
+    ),
+    (
+        &["--at", "2027-01-01T00:00:00Z", "--ta", "a", "a.roa"],
+        &["a", "a.roa"],
+        &[ROA],
     ),
 ];
 
-/// Words after `show`, and what they ask as a text, or what is wrong.
-static SHOWS: [(&[&str], &str); 28] = [
-    (&["a.roa"], "a.roa = roa"),
+/// Words after `show`.
+static SHOWS: [Row<FileKind>; 7] = [
+    (&["a.roa"], &["a.roa"], &[FileKind::Roa]),
     (
         &["a.cer", "--json", "b.crl", "c.tal", "--wide"],
-        "json wide a.cer b.crl c.tal = certificate crl tal",
+        &["a.cer", "b.crl", "c.tal"],
+        &[FileKind::Certificate, FileKind::Crl, FileKind::Tal],
     ),
-    (&["--kind", "manifest", "-"], "- = manifest"),
+    (&["--kind", "manifest", "-"], &["-"], &[FileKind::Manifest]),
     (
         &["--relaxed", "--registered", "a.mft"],
-        "relaxed registered a.mft = manifest",
-    ),
-    (&["-x"], "unknown option: -x"),
-    (&["a.roa", "--version"], "no option of show: --version"),
-    (&["a.roa", "--at", "now"], "no option of show: --at"),
-    (&["--ta", "a", "--csv"], "no option of show: --csv"),
-    (&["--csv", "a.roa", "-h"], "no option of show: --help"),
-    (
-        &["--at", "now", "--ca", "b", "a.roa"],
-        "no option of show: --ca",
+        &["a.mft"],
+        &[FileKind::Manifest],
     ),
     (
-        &["--crl", "b", "--tal", "c", "a"],
-        "no option of show: --tal",
+        &["a.asa", " \u{80}.sig"],
+        &["a.asa", " \u{80}.sig"],
+        &[FileKind::Aspa, FileKind::Rsc],
     ),
-    (&["--ca", "b", "--ta", "c", "a"], "no option of show: --ta"),
     (
-        &["--at", "b", "--crl", "c", "a"],
-        "no option of show: --crl",
+        &["--kind", "roa", "roa", "a", "b"],
+        &["roa", "a", "b"],
+        &[FileKind::Roa, FileKind::Roa, FileKind::Roa],
     ),
-    (&["--kind", "roa", "--kind", "roa", "a"], "twice: --kind"),
-    (&["--kind", "gbr", "a"], "unknown kind: gbr"),
-    (&["--json"], "no file to show"),
-    (&["a.roa", ""], "empty name"),
-    (&["a.roa", "b\n.roa"], "control character in a name"),
-    (&["a.roa", "\x1F"], "control character in a name"),
-    (&["a", "\x7F"], "control character in a name"),
-    (&["a.roa", " \u{80}.roa"], "a.roa  \u{80}.roa = roa roa"),
-    (&["a.roa", "-"], "unknown kind: -"),
-    (&["roa", "a.roa", "b.roa"], "extra word: b.roa"),
-    (
-        &["--wide", "certificate", "a", "--json", "b", "c"],
-        "extra word: b",
-    ),
-    (&["tal", "a", ""], "empty name"),
-    (&["roa", "a.roa", "--json"], "unknown kind: roa"),
-    (&["a.roa", "roa", "b.roa", "c.roa"], "unknown kind: roa"),
-    (&["--kind", "roa", "roa", "a", "b"], "roa a b = roa roa roa"),
+    (&["--", "--json.rta"], &["--json.rta"], &[FileKind::Rta]),
 ];
+
+// That nothing is asked, or that memory ran out, which is handed on.
+fn refused(wrong: WrongWords<'_>) -> Result<bool, AllocError> {
+    match wrong {
+        WrongWords::Arrange(ArrangeError::Memory) | WrongWords::Settings(SettingsError::Memory) => {
+            Err(AllocError)
+        }
+        _ => Ok(false),
+    }
+}
+
+fn is_check(alloc: Global, row: Row<CheckedKind>) -> Result<bool, AllocError> {
+    let (words, files, kinds) = row;
+    match check_words(alloc, words) {
+        Ok(request) => {
+            let names = names_of_check(alloc, &request.settings)?;
+            Ok(names.as_slice() == files && request.kinds.as_slice() == kinds)
+        }
+        Err(wrong) => refused(wrong),
+    }
+}
+
+fn is_show(alloc: Global, row: Row<FileKind>) -> Result<bool, AllocError> {
+    let (words, files, kinds) = row;
+    match show_words(alloc, words) {
+        Ok(request) => {
+            Ok(request.files.as_slice() == files && request.kinds.as_slice() == kinds)
+        }
+        Err(wrong) => refused(wrong),
+    }
+}
+
+fn are_asked(alloc: Global) -> Result<bool, AllocError> {
+    for row in &CHECKS {
+        if !is_check(alloc, *row)? {
+            return Ok(false);
+        }
+    }
+    for row in &SHOWS {
+        if !is_show(alloc, *row)? {
+            return Ok(false);
+        }
+    }
+    Ok(true)
+}
+
+#[test]
+fn files_are_asked_for(rt: HostRuntime) -> Result<(), Fail> {
+    assert!(rt; are_asked(rt.alloc())?);
+    Ok(())
+}
+
+/// Words that set all that may be set for a check.
+static ALL_SET: [&str; 19] = [
+    "--kind",
+    "roa",
+    "--at",
+    "2027-01-01T00:00:00Z",
+    "--ta",
+    "a.cer",
+    "--tal",
+    "a.tal",
+    "--ca",
+    "b.cer",
+    "--ca",
+    "c.cer",
+    "--crl",
+    "c.crl",
+    "--json",
+    "--relaxed",
+    "--registered",
+    "--wide",
+    "d",
+];
+
+fn are_all_set(settings: &CheckSettings<'_>) -> bool {
+    settings.kind == Some(FileKind::Roa)
+        && matches!(settings.at, When::AtIso(_))
+        && settings.ta == "a.cer"
+        && settings.tal == Some("a.tal")
+        && settings.cas.as_slice() == ["b.cer", "c.cer"].as_slice()
+        && settings.crls.as_slice() == ["c.crl"].as_slice()
+        && settings.files.as_slice() == ["d"].as_slice()
+        && settings.json
+        && settings.options == ALL_OPTIONS
+}
+
+const ALL_OPTIONS: Options = Options {
+    relaxed: true,
+    registered: true,
+    wide: true,
+};
+
+fn all_is_set(alloc: Global) -> Result<bool, AllocError> {
+    let found = match arrange(alloc, &ALL_SET) {
+        Ok(found) => found,
+        Err(error) => return refused(WrongWords::Arrange(error)),
+    };
+    match settings_of(alloc, &found.settings, &found.operands) {
+        Ok(settings) => Ok(are_all_set(&settings)),
+        Err(error) => refused(WrongWords::Settings(error)),
+    }
+}
+
+#[test]
+fn settings_are_those_of_a_check(rt: HostRuntime) -> Result<(), Fail> {
+    assert!(rt; all_is_set(rt.alloc())?);
+    Ok(())
+}
 
 /// Words of the program, and the command that they ask for.
 static COMMANDS: [(&[&str], &str); 25] = [
@@ -158,66 +253,6 @@ static COMMANDS: [(&[&str], &str); 25] = [
     (&["check", "--help", "--ta", "a.cer"], "check each"),
 ];
 
-fn check_asked(alloc: Global, words: &[&str]) -> Result<String, AllocError> {
-    match check_words(alloc, words) {
-        Ok(request) => request_text(alloc, &request),
-        Err(WrongWords::Arrange(ArrangeError::Memory)) => Err(AllocError),
-        Err(WrongWords::Settings(SettingsError::Memory)) => Err(AllocError),
-        Err(wrong) => format!(in alloc; "{wrong}"),
-    }
-}
-
-fn request_text(alloc: Global, request: &CheckRequest<'_>) -> Result<String, AllocError> {
-    let mut text = check_text(alloc, &request.settings)?;
-    write!(text, " =")?;
-    for kind in &request.kinds {
-        write!(text, " {}", object_word(*kind))?;
-    }
-    write!(text, "; ")?;
-    let names = names_of_check(alloc, &request.settings)?;
-    push_words(&mut text, &names)?;
-    Ok(text)
-}
-
-fn object_word(kind: CheckedKind) -> &'static str {
-    match kind {
-        CheckedKind::Signed(Kind::Aspa) => "aspa",
-        CheckedKind::Signed(Kind::Manifest) => "manifest",
-        CheckedKind::Signed(Kind::Roa) => "roa",
-        CheckedKind::Signed(Kind::Rsc) => "rsc",
-        CheckedKind::Rta => "rta",
-    }
-}
-
-fn show_asked(alloc: Global, words: &[&str]) -> Result<String, AllocError> {
-    match show_words(alloc, words) {
-        Ok(request) => show_text(alloc, &request),
-        Err(WrongWords::Arrange(ArrangeError::Memory)) => Err(AllocError),
-        Err(WrongWords::Settings(SettingsError::Memory)) => Err(AllocError),
-        Err(wrong) => format!(in alloc; "{wrong}"),
-    }
-}
-
-fn show_text(alloc: Global, request: &ShowRequest<'_>) -> Result<String, AllocError> {
-    let mut text = String::new(alloc);
-    for (is_on, word) in [
-        (request.json, "json "),
-        (request.options.relaxed, "relaxed "),
-        (request.options.registered, "registered "),
-        (request.options.wide, "wide "),
-    ] {
-        if is_on {
-            text.push_str(word)?;
-        }
-    }
-    push_words(&mut text, &request.files)?;
-    write!(text, " =")?;
-    for kind in &request.kinds {
-        write!(text, " {}", kind.word())?;
-    }
-    Ok(text)
-}
-
 fn command_text(words: &[&str]) -> &'static str {
     match parse(words) {
         None => "none",
@@ -234,38 +269,31 @@ fn command_text(words: &[&str]) -> &'static str {
     }
 }
 
-#[test]
-fn checks_are_asked(rt: HostRuntime) -> Result<(), Fail> {
-    for (words, want) in &CHECKS {
-        let text = check_asked(rt.alloc(), words)?;
-        assert_eq!(rt; text.as_str(), *want);
+fn are_commands(rows: &[(&[&str], &str)]) -> bool {
+    for (words, wanted) in rows {
+        if command_text(words) != *wanted {
+            return false;
+        }
     }
-    Ok(())
-}
-
-#[test]
-fn shows_are_asked(rt: HostRuntime) -> Result<(), Fail> {
-    for (words, want) in &SHOWS {
-        let text = show_asked(rt.alloc(), words)?;
-        assert_eq!(rt; text.as_str(), *want);
-    }
-    Ok(())
+    true
 }
 
 #[test]
 fn words_are_those_of_commands(rt: HostRuntime) -> Result<(), Fail> {
-    for (words, want) in &COMMANDS {
-        assert_eq!(rt; command_text(words), *want);
-    }
+    assert!(rt; are_commands(&COMMANDS));
     Ok(())
+}
+
+fn are_kinds_of_files() -> bool {
+    kind_of_file(Some(FileKind::Crl), "a.roa") == Some(FileKind::Crl)
+        && kind_of_file(None, "a.roa") == Some(FileKind::Roa)
+        && kind_of_file(None, "roa").is_none()
+        && object_of(FileKind::Rsc) == Some(CHECKLIST)
+        && object_of(FileKind::Certificate).is_none()
 }
 
 #[test]
 fn kinds_are_those_of_files(rt: HostRuntime) -> Result<(), Fail> {
-    assert!(rt; kind_of_file(Some(FileKind::Crl), "a.roa") == Some(FileKind::Crl));
-    assert!(rt; kind_of_file(None, "a.roa") == Some(FileKind::Roa));
-    assert!(rt; kind_of_file(None, "roa") == None);
-    assert!(rt; object_of(FileKind::Rsc) == Some(CheckedKind::Signed(Kind::Rsc)));
-    assert!(rt; object_of(FileKind::Certificate) == None);
+    assert!(rt; are_kinds_of_files());
     Ok(())
 }

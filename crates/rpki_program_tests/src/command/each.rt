@@ -3,166 +3,196 @@
 //! The files are those of `examples/`, which `openssl` signed.
 
 use super::octets::{ANCHOR, AUTHORITY, LOCATOR, ORIGIN, REVOKING};
-use super::payloads::Echo;
-use super::runs::{Output, is_answered_by};
-use rpki_command::verify::Verify;
+use super::rows::{By, File, OUT_OF_MEMORY, Row, Said, answered};
 use std::test::Fail;
 
-/// The files.
-const FILES: [(&str, &[u8]); 6] = [
-    ("anchor.cer", &ANCHOR),
-    ("ca.cer", &AUTHORITY),
-    ("origin.roa", &ORIGIN),
-    ("other.roa", &ANCHOR),
+static FILES: [File; 7] = [
+    ("ta.cer", ANCHOR),
+    ("ca.cer", AUTHORITY),
+    ("origin.roa", ORIGIN),
+    ("other.roa", ANCHOR),
     ("anchor.tal", LOCATOR),
-    ("revoking.crl", &REVOKING),
+    ("other.tal", b"x"),
+    ("revoking.crl", REVOKING),
 ];
-
-/// The words before those of each row, and those of the row.
-const CHECK: [&str; 7] = [
-    "check",
-    "--ta",
-    "anchor.cer",
-    "--ca",
-    "ca.cer",
-    "--at",
-    "2026-11-28T00:00:00Z",
-];
-
-/// Words, what is said, and how many files are read.
-type Row<'a> = (&'a [&'a str], Output<'a>, usize);
 
 /// What is said of the good one alone.
-const YES: Output = Output {
-    status: 0,
-    out: "yes\nroa\nas AS64496\norigin 192.0.2.0/24-26\norigin 2001:db8::/32-48\n",
-    err: "",
-};
+const YES: Said = Said::Yes(
+    "yes\nroa\nas AS64496\norigin 192.0.2.0/24-26\norigin 2001:db8::/32-48\n",
+);
 
 /// What is said of it and of one that is none.
-const BOTH: Output = Output {
-    status: 1,
-    out: "origin.roa: yes\n  roa\n  as AS64496\n  origin 192.0.2.0/24-26\n  \
-        origin 2001:db8::/32-48\nother.roa: malformed\n",
-    err: "",
-};
+const BOTH: Said = Said::No(
+    "origin.roa: yes\n  roa\n  as AS64496\n  origin 192.0.2.0/24-26\n  \
+     origin 2001:db8::/32-48\nother.roa: malformed\n",
+);
 
 /// The same in JSON.
-const BOTH_IN_JSON: Output = Output {
-    status: 1,
-    out: "{\"file\": \"origin.roa\", \"type\": \"roa\", \"valid\": true, \"vrps\": [\
-        {\"asn\": \"AS64496\", \"prefix\": \"192.0.2.0/24\", \"maxLength\": 26}, \
-        {\"asn\": \"AS64496\", \"prefix\": \"2001:db8::/32\", \"maxLength\": 48}]}\n\
-        {\"file\": \"other.roa\", \"type\": \"roa\", \"valid\": false, \"error\": \"malformed\"}\n",
-    err: "",
-};
+const BOTH_IN_JSON: Said = Said::No(
+    "{\"file\": \"origin.roa\", \"type\": \"roa\", \"valid\": true, \"vrps\": [\
+     {\"asn\": \"AS64496\", \"prefix\": \"192.0.2.0/24\", \"maxLength\": 26}, \
+     {\"asn\": \"AS64496\", \"prefix\": \"2001:db8::/32\", \"maxLength\": 48}]}\n\
+     {\"file\": \"other.roa\", \"type\": \"roa\", \"valid\": false, \"error\": \"malformed\"}\n",
+);
 
 /// What is said of it where a list revokes the certificate of its signer.
-const REVOKED: Output = Output {
-    status: 1,
-    out: "refused: revoked by revoking.crl\n",
-    err: "",
-};
+const REVOKED: Said = Said::No("refused: revoked by revoking.crl\n");
 
 /// What is said of a list that is none.
-const NO_LIST: Output = Output {
-    status: 2,
-    out: "",
-    err: "bad list other.roa\n",
-};
+const NO_LIST: Said = Said::Error(2, "bad list other.roa\n");
 
 /// What is said in JSON of a file under certificates that make no issuer.
-const UNISSUED_IN_JSON: Output = Output {
-    status: 1,
-    out: "{\"file\": \"origin.roa\", \"type\": \"roa\", \"valid\": false, \
-        \"error\": \"issuer refused: origin.roa: malformed\"}\n",
-    err: "",
-};
+const UNISSUED_IN_JSON: Said = Said::No(
+    "{\"file\": \"origin.roa\", \"type\": \"roa\", \"valid\": false, \
+     \"error\": \"issuer refused: origin.roa: malformed\"}\n",
+);
+
+/// What a file of each of two kinds says, and that a third is none, in JSON.
+const SHOWN_IN_JSON: Said = Said::No(
+    "{\"file\": \"origin.roa\", \"type\": \"roa\", \"vrps\": [\
+     {\"asn\": \"AS64496\", \"prefix\": \"192.0.2.0/24\", \"maxLength\": 26}, \
+     {\"asn\": \"AS64496\", \"prefix\": \"2001:db8::/32\", \"maxLength\": 48}], \
+     \"signing_time\": \"2026-11-01T00:00:00Z\", \"cert_serial\": \"01\", \
+     \"valid_since\": \"2026-01-01T00:00:00Z\", \"valid_until\": \"2040-01-01T00:00:00Z\", \
+     \"ski\": \"D499B0BF9D1519CFF7E9C67B077CDAECD7CBCA67\", \
+     \"aki\": \"C78637259551E49913A293A978985D33FBECF9C1\", \
+     \"sia\": \"rsync://rpki.example.net/authority/origin.roa\", \
+     \"aia\": \"rsync://rpki.example.net/anchor/authority.cer\", \
+     \"crl\": \"rsync://rpki.example.net/authority/authority.crl\", \
+     \"cert_ipv4\": [\"192.0.2.0/24\"], \"cert_ipv6\": [\"2001:db8::/32\"]}\n\
+     {\"file\": \"other.roa\", \"type\": \"roa\", \"error\": \"malformed\"}\n\
+     {\"file\": \"ta.cer\", \"type\": \"certificate\", \"cert_serial\": \"01\", \
+     \"valid_since\": \"2026-01-01T00:00:00Z\", \"valid_until\": \"2040-01-01T00:00:00Z\", \
+     \"ski\": \"1A3A434D3CB238F39188C4ED212421A717BB7C97\", \
+     \"carepository\": \"rsync://rpki.example.net/anchor/\", \
+     \"manifest\": \"rsync://rpki.example.net/anchor/anchor.mft\", \
+     \"ca\": true, \"asns\": [\"AS0-AS4294967295\"], \"ipv4\": [\"0.0.0.0/0\"], \
+     \"ipv6\": [\"::/0\"]}\n",
+);
+
+/// What the good one says, with the certificate of its signer.
+const SHOWN: Said = Said::Yes(
+    "roa\nas AS64496\norigin 192.0.2.0/24-26\norigin 2001:db8::/32-48\n\
+     signing 2026-11-01T00:00:00Z\nee 01 D499B0BF9D1519CFF7E9C67B077CDAECD7CBCA67\n\
+     certificate\nserial 01\nvalid-from 2026-01-01T00:00:00Z\n\
+     valid-until 2040-01-01T00:00:00Z\n\
+     key-id D499B0BF9D1519CFF7E9C67B077CDAECD7CBCA67\n\
+     authority-key-id C78637259551E49913A293A978985D33FBECF9C1\nee\n\
+     signed-object rsync://rpki.example.net/authority/origin.roa\n\
+     ca-issuers rsync://rpki.example.net/anchor/authority.cer\n\
+     crl rsync://rpki.example.net/authority/authority.crl\n\
+     ipv4 192.0.2.0/24\nipv6 2001:db8::/32\n",
+);
+
+static ROWS: [Row; 19] = [
+    (
+        By::Verify,
+        "check --ta ta.cer --ca ca.cer --at 2026-11-28T00:00:00Z origin.roa",
+        YES,
+        3,
+    ),
+    (
+        By::Verify,
+        "check --ta ta.cer --ca ca.cer origin.roa",
+        YES,
+        3,
+    ),
+    (
+        By::Verify,
+        "check origin.roa --at now --ca ca.cer --ta ta.cer --kind roa",
+        YES,
+        3,
+    ),
+    (
+        By::Verify,
+        "--relaxed check --ta ta.cer --ca ca.cer --at 2026-11-28T00:00:00Z origin.roa",
+        YES,
+        3,
+    ),
+    (
+        By::WithoutClock,
+        "check --ta ta.cer --ca ca.cer origin.roa",
+        Said::Error(2, "cannot tell the time\n"),
+        0,
+    ),
+    (
+        By::Verify,
+        "check --ta ta.cer --ca ca.cer --at 2026-11-28T00:00:00Z --tal anchor.tal origin.roa",
+        YES,
+        4,
+    ),
+    (
+        By::Verify,
+        "check --ta ta.cer --ca ca.cer --at 2026-11-28T00:00:00Z --crl revoking.crl origin.roa",
+        REVOKED,
+        4,
+    ),
+    (
+        By::Verify,
+        "check --ta ta.cer --ca ca.cer --at 2026-11-28T00:00:00Z --crl other.roa origin.roa",
+        NO_LIST,
+        4,
+    ),
+    (
+        By::Verify,
+        "check --ta ta.cer --ca ca.cer --at 2026-11-28T00:00:00Z origin.roa other.roa",
+        BOTH,
+        4,
+    ),
+    (
+        By::Verify,
+        "check --ta ta.cer --ca ca.cer --at 2026-11-28T00:00:00Z origin.roa --json other.roa",
+        BOTH_IN_JSON,
+        4,
+    ),
+    (
+        By::Verify,
+        "check --ta ta.cer --ca ca.cer --at 2026-11-28T00:00:00Z --ca origin.roa origin.roa --json",
+        UNISSUED_IN_JSON,
+        4,
+    ),
+    (
+        By::Verify,
+        "check --ta ta.cer --ca ca.cer --at 2026-11-28T00:00:00Z --tal other.tal origin.roa",
+        Said::Error(2, "bad locator other.tal\n"),
+        4,
+    ),
+    (
+        By::Verify,
+        "check --ta ta.cer --ca ca.cer --at 2026-11-28T00:00:00Z origin.roa gone.roa",
+        Said::Error(4, "cannot read gone.roa: no such file\n"),
+        4,
+    ),
+    (
+        By::Verify,
+        "check --ta ta.cer --ca ca.cer --at 2026-11-28T00:00:00Z --crl gone.crl gone.roa",
+        Said::Error(4, "cannot read gone.crl: no such file\n"),
+        3,
+    ),
+    (
+        By::Verify,
+        "check --ta gone.cer --ca ca.cer origin.roa",
+        Said::Error(4, "cannot read gone.cer: no such file\n"),
+        1,
+    ),
+    (
+        By::Verify,
+        "check --ta ta.cer --ca ca.cer --at 2026-11-28T00:00:00Z --kind roa large",
+        OUT_OF_MEMORY,
+        3,
+    ),
+    (By::Verify, "show origin.roa", SHOWN, 1),
+    (By::Verify, "show --kind roa origin.roa", SHOWN, 1),
+    (
+        By::Verify,
+        "show origin.roa other.roa --json ta.cer",
+        SHOWN_IN_JSON,
+        3,
+    ),
+];
 
 #[test]
 fn several_files_are_checked(rt: HostRuntime) -> Result<(), Fail> {
-    let rows: [Row; 7] = [
-        (&["origin.roa"], YES, 3),
-        (&["--tal", "anchor.tal", "origin.roa"], YES, 4),
-        (&["--crl", "revoking.crl", "origin.roa"], REVOKED, 4),
-        (&["--crl", "other.roa", "origin.roa"], NO_LIST, 4),
-        (&["origin.roa", "other.roa"], BOTH, 4),
-        (&["origin.roa", "--json", "other.roa"], BOTH_IN_JSON, 4),
-        (
-            &["--ca", "origin.roa", "origin.roa", "--json"],
-            UNISSUED_IN_JSON,
-            4,
-        ),
-    ];
-    let program = Verify {
-        clock: None,
-        relying_party: Echo,
-    };
-    for (given, said, reads) in &rows {
-        let mut words = Vec::from_slice(rt.alloc(), &CHECK)?;
-        words.extend_from_slice(given)?;
-        is_answered_by(&rt, &program, &words, &FILES, said, *reads)?;
-    }
-    Ok(())
-}
-
-/// What a file of each of two kinds says, and that a third is none, in JSON.
-const SHOWN_IN_JSON: Output = Output {
-    status: 1,
-    out: "{\"file\": \"origin.roa\", \"type\": \"roa\", \"vrps\": [\
-        {\"asn\": \"AS64496\", \"prefix\": \"192.0.2.0/24\", \"maxLength\": 26}, \
-        {\"asn\": \"AS64496\", \"prefix\": \"2001:db8::/32\", \"maxLength\": 48}], \
-        \"signing_time\": \"2026-11-01T00:00:00Z\", \"cert_serial\": \"01\", \
-        \"valid_since\": \"2026-01-01T00:00:00Z\", \"valid_until\": \"2040-01-01T00:00:00Z\", \
-        \"ski\": \"D499B0BF9D1519CFF7E9C67B077CDAECD7CBCA67\", \
-        \"aki\": \"C78637259551E49913A293A978985D33FBECF9C1\", \
-        \"sia\": \"rsync://rpki.example.net/authority/origin.roa\", \
-        \"aia\": \"rsync://rpki.example.net/anchor/authority.cer\", \
-        \"crl\": \"rsync://rpki.example.net/authority/authority.crl\", \
-        \"cert_ipv4\": [\"192.0.2.0/24\"], \"cert_ipv6\": [\"2001:db8::/32\"]}\n\
-        {\"file\": \"other.roa\", \"type\": \"roa\", \"error\": \"malformed\"}\n\
-        {\"file\": \"anchor.cer\", \"type\": \"certificate\", \"cert_serial\": \"01\", \
-        \"valid_since\": \"2026-01-01T00:00:00Z\", \"valid_until\": \"2040-01-01T00:00:00Z\", \
-        \"ski\": \"1A3A434D3CB238F39188C4ED212421A717BB7C97\", \
-        \"carepository\": \"rsync://rpki.example.net/anchor/\", \
-        \"manifest\": \"rsync://rpki.example.net/anchor/anchor.mft\", \
-        \"ca\": true, \"asns\": [\"AS0-AS4294967295\"], \"ipv4\": [\"0.0.0.0/0\"], \
-        \"ipv6\": [\"::/0\"]}\n",
-    err: "",
-};
-
-/// What the good one says, with the certificate of its signer.
-const SHOWN: Output = Output {
-    status: 0,
-    out: "roa\nas AS64496\norigin 192.0.2.0/24-26\norigin 2001:db8::/32-48\n\
-        signing 2026-11-01T00:00:00Z\nee 01 D499B0BF9D1519CFF7E9C67B077CDAECD7CBCA67\n\
-        certificate\nserial 01\nvalid-from 2026-01-01T00:00:00Z\n\
-        valid-until 2040-01-01T00:00:00Z\n\
-        key-id D499B0BF9D1519CFF7E9C67B077CDAECD7CBCA67\n\
-        authority-key-id C78637259551E49913A293A978985D33FBECF9C1\nee\n\
-        signed-object rsync://rpki.example.net/authority/origin.roa\n\
-        ca-issuers rsync://rpki.example.net/anchor/authority.cer\n\
-        crl rsync://rpki.example.net/authority/authority.crl\n\
-        ipv4 192.0.2.0/24\nipv6 2001:db8::/32\n",
-    err: "",
-};
-
-#[test]
-fn several_files_are_shown(rt: HostRuntime) -> Result<(), Fail> {
-    let rows: [Row; 2] = [
-        (&["show", "origin.roa"], SHOWN, 1),
-        (
-            &["show", "origin.roa", "other.roa", "--json", "anchor.cer"],
-            SHOWN_IN_JSON,
-            3,
-        ),
-    ];
-    let program = Verify {
-        clock: None,
-        relying_party: Echo,
-    };
-    for (words, said, reads) in &rows {
-        is_answered_by(&rt, &program, words, &FILES, said, *reads)?;
-    }
+    assert_eq!(rt; answered(rt.alloc(), &FILES, &ROWS)?, ROWS.len());
     Ok(())
 }

@@ -46,9 +46,10 @@ pub const AUTHORITY: &[u8] = b"\
     \x2D\x2B\x32\xED\x56\x89\x69\x2D\x36\x68\x0F\x57\xA1\xA7\xD9\x23\x75\x5C\xA3\xEF\x99\x8D\x02\
     \x30\x93\xC2\x28\xF1\x73";
 
-/// The attestation of AS15 to AS20 and AS64500 by keys 4 and 6. The certificate of key 4 claims AS10
-/// to AS20 under a carried CA of key 3, which inherits under key 2: both are trimmed (RFC 8360). That
-/// of key 6 claims AS64500 under the carried certificate of a trust anchor, of key 5.
+/// The attestation of AS15 to AS20 and AS64500 by keys 4 and 6. The certificate of key 4 claims
+/// AS10 to AS20 under a carried CA of key 3, which inherits under key 2: both are trimmed
+/// (RFC 8360). That of key 6 claims AS64500 under the carried certificate of a trust anchor, of key
+/// 5.
 pub const GRANTED: &[u8] = b"\
     \x30\x82\x09\xE5\x06\x09\x2A\x86\x48\x86\xF7\x0D\x01\x07\x02\xA0\x82\x09\xD6\x30\x82\x09\xD2\
     \x02\x01\x03\x31\x0D\x30\x0B\x06\x09\x60\x86\x48\x01\x65\x03\x04\x02\x01\x30\x67\x06\x0B\x2A\
@@ -163,13 +164,13 @@ pub const GRANTED: &[u8] = b"\
     \xFE\x26\xE4\x6D\x1C\x12\x07";
 
 /// A locator with key 5, and one with key 1.
-pub const TAL: &str = "rsync://a.example.com/1/1\n\nMBowDQYJKoZIhvcNAQEBBQADCQAAAAAAAAAABQ==\n";
+pub const TAL: &[u8] = b"rsync://a.example.com/1/1\n\nMBowDQYJKoZIhvcNAQEBBQADCQAAAAAAAAAABQ==\n";
 
-pub const OTHER_TAL: &str =
-    "rsync://a.example.com/1/1\n\nMBowDQYJKoZIhvcNAQEBBQADCQAAAAAAAAAAAQ==\n";
+pub const OTHER_TAL: &[u8] =
+    b"rsync://a.example.com/1/1\n\nMBowDQYJKoZIhvcNAQEBBQADCQAAAAAAAAAAAQ==\n";
 
 /// Each of their signatures is good.
-pub const GRANTED_VERDICTS: &str = "\
+pub const GRANTED_VERDICTS: &[u8] = b"\
     6009a4f91b943a2732f78d551fc6e98b304598a8aca84ac2f93bdfa810a8235e \
     32703479cf8723d152464472999c3e1c748cb62dfeb1da7f8823f52a3cb0737c \
     534c7c36fec54280b2a175deaba83f4ae1325174b70580a9699b9eac58b910ef\n\

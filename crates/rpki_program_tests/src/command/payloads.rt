@@ -2,12 +2,10 @@
 
 ghost use Rattle.std.specs.Prelude.{⊤};
 
-use super::runs::{NOT_THERE, Output, Row, is_answered_by};
+use super::rows::{By, File, Row, Said, answered};
 use bytes::Bytes;
-use rpki_basics::Time;
 use rpki_cli::answer::Answer;
 use rpki_cli::verify::{PayloadsRequest, RelyingParty};
-use rpki_command::verify::Verify;
 use std::alloc::{AllocError, Global};
 use std::fmt::Write;
 use std::test::Fail;
@@ -54,77 +52,61 @@ fn texts_of(alloc: Global, request: &PayloadsRequest<'_>) -> Result<(String, Str
     Ok((out, err))
 }
 
-const NARROW: Output = Output {
-    status: 1,
-    out: "copy Lines Narrow\n",
-    err: "refused file\n",
-};
+static FILES: [File; 2] = [("file", b"octets"), ("empty", b"")];
 
-const WIDE: Output = Output {
-    status: 1,
-    out: "copy Json Wide\n",
-    err: "refused file\nrefused file\n",
-};
-
-const BAD_LOCATOR: Output = Output {
-    status: 2,
-    out: "",
-    err: "bad locator file\n",
-};
-
-const NO_MOMENT: Output = Output {
-    status: 2,
-    out: "",
-    err: "cannot tell the time\n",
-};
+static ROWS: [Row; 8] = [
+    (
+        By::Verify,
+        "payloads copy 20270101000000Z file",
+        Said::Report("copy Lines Narrow\n", "refused file\n"),
+        1,
+    ),
+    (
+        By::Verify,
+        "--wide payloads --json copy now file file",
+        Said::Report("copy Json Wide\n", "refused file\nrefused file\n"),
+        2,
+    ),
+    (
+        By::WithoutClock,
+        "payloads --csv copy 2027-01-01T00:00:00Z file",
+        Said::Report("copy Csv Narrow\n", "refused file\n"),
+        1,
+    ),
+    (
+        By::Verify,
+        "payloads --csv copy now empty",
+        Said::Error(2, "bad locator empty\n"),
+        1,
+    ),
+    (
+        By::Verify,
+        "payloads copy now file other",
+        Said::Error(4, "cannot read other: no such file\n"),
+        2,
+    ),
+    (
+        By::Verify,
+        "payloads copy now file large",
+        Said::Error(3, "out of memory\n"),
+        2,
+    ),
+    (
+        By::WithoutClock,
+        "payloads copy now file",
+        Said::Error(2, "cannot tell the time\n"),
+        0,
+    ),
+    (
+        By::Objects,
+        "payloads copy 20270101000000Z file",
+        Said::Error(2, "usage\n"),
+        0,
+    ),
+];
 
 #[test]
 fn a_relying_party_is_asked(rt: HostRuntime) -> Result<(), Fail> {
-    let rows: [Row; 4] = [
-        (
-            &["payloads", "copy", "20270101000000Z", "file"],
-            b"octets",
-            NARROW,
-            1,
-        ),
-        (
-            &[
-                "--wide", "payloads", "--json", "copy", "now", "file", "file",
-            ],
-            b"octets",
-            WIDE,
-            2,
-        ),
-        (
-            &["payloads", "--csv", "copy", "now", "file"],
-            b"",
-            BAD_LOCATOR,
-            1,
-        ),
-        (
-            &["payloads", "copy", "now", "file", "other"],
-            b"octets",
-            NOT_THERE,
-            2,
-        ),
-    ];
-    let program = Verify {
-        clock: Time::utc(2027, 1, 1, 0, 0, 0),
-        relying_party: Echo,
-    };
-    for (words, octets, said, reads) in &rows {
-        is_answered_by(&rt, &program, words, &[("file", octets)], said, *reads)?;
-    }
-    Ok(())
-}
-
-#[test]
-fn a_clock_may_tell_no_moment(rt: HostRuntime) -> Result<(), Fail> {
-    let program = Verify {
-        clock: None,
-        relying_party: Echo,
-    };
-    let words = ["payloads", "copy", "now", "file"];
-    is_answered_by(&rt, &program, &words, &[("file", b"octets")], &NO_MOMENT, 0)?;
+    assert_eq!(rt; answered(rt.alloc(), &FILES, &ROWS)?, ROWS.len());
     Ok(())
 }

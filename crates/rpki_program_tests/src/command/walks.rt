@@ -1,217 +1,212 @@
 //! Walks over the files of a manifest.
 
 use super::octets::{ANCHOR, AUTHORITY, HELD, HELD_VERDICTS, ORIGIN};
-use super::payloads::Echo;
-use super::runs::{Output, is_answered, is_answered_by};
-use rpki_command::verify::Verify;
-use std::alloc::AllocError;
-use std::process::Abort;
+use super::rows::{By, File, MALFORMED, OUT_OF_MEMORY, Row, Said, USAGE, answered};
 use std::test::Fail;
 
-/// Files by name. The manifest has `a.cer`, `b.roa` and `c.crl`, each with the hash of `foobar`.
-fn files() -> [(&'static str, &'static [u8]); 9] {
-    [
-        ("anchor.cer", &ANCHOR),
-        ("authority.cer", &AUTHORITY),
-        ("origin.roa", &ORIGIN),
-        ("held.mft", &HELD),
-        ("verdicts", HELD_VERDICTS.as_bytes()),
-        ("foobar", b"foobar"),
-        ("barfoo", b"barfoo"),
-        ("x=y", b"foobar"),
-        ("empty", b""),
-    ]
-}
-
-/// The words before the certificates of CAs.
-const WALK: [&str; 5] = [
-    "walk",
-    "held.mft",
-    "20270101000000Z",
-    "verdicts",
-    "anchor.cer",
+/// The manifest has `a.cer`, `b.roa` and `c.crl`, each with the hash of `foobar`.
+static FILES: [File; 9] = [
+    ("ta.cer", ANCHOR),
+    ("ca.cer", AUTHORITY),
+    ("origin.roa", ORIGIN),
+    ("held.mft", HELD),
+    ("v", HELD_VERDICTS),
+    ("f", b"foobar"),
+    ("b", b"barfoo"),
+    ("x=y", b"foobar"),
+    ("empty", b""),
 ];
 
-const YES: Output = Output {
-    status: 0,
-    out: "yes\n",
-    err: "",
-};
+const YES: Said = Said::Yes("yes\n");
 
-const USAGE: Output = Output {
-    status: 2,
-    out: "",
-    err: "usage\n",
-};
+/// What the program with signatures says of the manifest, whose signature is for another content.
+const NOT_SIGNED: Said = Said::No("refused: signature is not valid\n");
 
-const NOT_ISSUED: Output = Output {
-    status: 1,
-    out: "refused: not issued by this CA\n",
-    err: "",
-};
-
-const NO_ISSUER: Output = Output {
-    status: 1,
-    out: "issuer refused: malformed\n",
-    err: "",
-};
-
-/// What is said where these entries are held.
-const fn held(out: &'static str) -> Output<'static> {
-    Output { out, ..YES }
-}
-
-/// What is said of a file that can't be read.
-const fn unreadable(err: &'static str) -> Output<'static> {
-    Output { err, ..USAGE }
-}
-
-/// The words after the trust anchor, what is said, and how many files are read.
-type Row<'a> = (&'a [&'a str], Output<'a>, usize);
-
-/// That these words, with those of each row after them, are answered so.
-fn are_walked<'a>(
-    rt: &(impl Abort + AllocGlobal),
-    before: &[&'a str],
-    rows: &[Row<'a>],
-) -> Result<(), AllocError> {
-    for (tail, said, reads) in rows {
-        let mut words = Vec::from_slice(rt.alloc(), before)?;
-        words.extend_from_slice(tail)?;
-        is_answered(rt, &words, &files(), said, *reads)?;
-    }
-    Ok(())
-}
+static ROWS: [Row; 30] = [
+    (
+        By::Objects,
+        "walk held.mft 20270101000000Z v ta.cer ca.cer with b.roa=f a.cer=b a.cer=f d.cer=f",
+        Said::Yes("yes\nheld b.roa\n"),
+        8,
+    ),
+    (
+        By::Objects,
+        "walk held.mft 20270101000000Z v ta.cer ca.cer with",
+        YES,
+        4,
+    ),
+    (
+        By::Objects,
+        "walk held.mft 20270101000000Z v ta.cer ca.cer with a.cer=f a.cer=b",
+        Said::Yes("yes\nheld a.cer\n"),
+        6,
+    ),
+    (
+        By::Objects,
+        "walk held.mft 20270101000000Z v ta.cer ca.cer with c.crl=f b.roa=f a.cer=f",
+        Said::Yes("yes\nheld a.cer\nheld b.roa\nheld c.crl\n"),
+        7,
+    ),
+    (
+        By::Objects,
+        "walk held.mft 20270101000000Z v ta.cer ca.cer with c.crl=x=y",
+        Said::Yes("yes\nheld c.crl\n"),
+        5,
+    ),
+    (
+        By::Objects,
+        "walk held.mft 20270101000000Z v ta.cer ca.cer with =f with=f a.cer=empty",
+        YES,
+        7,
+    ),
+    (
+        By::Objects,
+        "--relaxed walk held.mft 20270101000000Z v ta.cer ca.cer with",
+        YES,
+        4,
+    ),
+    (
+        By::Objects,
+        "--registered walk held.mft 20270101000000Z v ta.cer ca.cer with",
+        YES,
+        4,
+    ),
+    (
+        By::Objects,
+        "walk held.mft 20270101000000Z v ta.cer with a.cer=f",
+        Said::No("refused: not issued by this CA\n"),
+        4,
+    ),
+    (
+        By::Objects,
+        "walk held.mft 20270101000000Z v ta.cer origin.roa with a.cer=f",
+        Said::No("issuer refused: malformed\n"),
+        5,
+    ),
+    (
+        By::Objects,
+        "walk origin.roa 20270101000000Z v ta.cer ca.cer with",
+        MALFORMED,
+        4,
+    ),
+    (
+        By::Objects,
+        "walk held.mft 20270101000000Z f ta.cer ca.cer with",
+        Said::Error(2, "bad verdicts\n"),
+        4,
+    ),
+    (
+        By::Objects,
+        "walk held.mft 20270101000000Z v ta.cer ca.cer with a.cer=none",
+        Said::Error(2, "cannot read none\n"),
+        5,
+    ),
+    (
+        By::Objects,
+        "walk held.mft 20270101000000Z v ta.cer gone with a.cer=none",
+        Said::Error(2, "cannot read gone\n"),
+        4,
+    ),
+    (
+        By::Objects,
+        "walk held.mft 20270101000000Z v ta.cer ca.cer with x=f a.cer=b.roa=1",
+        Said::Error(2, "cannot read b.roa=1\n"),
+        6,
+    ),
+    (
+        By::Objects,
+        "walk held.mft 20270101000000Z v ta.cer origin.roa with a.cer=none",
+        Said::Error(2, "cannot read none\n"),
+        5,
+    ),
+    (
+        By::Objects,
+        "walk held.mft 20270101000000Z v ta.cer ca.cer with a.cer=large",
+        OUT_OF_MEMORY,
+        5,
+    ),
+    (
+        By::Objects,
+        "walk held.mft 20270101000000Z v ta.cer ca.cer",
+        USAGE,
+        0,
+    ),
+    (
+        By::Objects,
+        "walk held.mft 20270101000000Z v ta.cer ca.cer a.cer=f",
+        USAGE,
+        0,
+    ),
+    (
+        By::Objects,
+        "walk held.mft 20270101000000Z v ta.cer ca.cer with foobar",
+        USAGE,
+        0,
+    ),
+    (
+        By::Objects,
+        "walk held.mft 20270101000000Z v ta.cer ca.cer with a.cer=",
+        USAGE,
+        0,
+    ),
+    (
+        By::Objects,
+        "walk held.mft 20270101000000Z v ta.cer ca.cer with with",
+        USAGE,
+        0,
+    ),
+    (
+        By::Objects,
+        "walk held.mft 20270101000000Z v ta.cer  with a.cer=f",
+        USAGE,
+        0,
+    ),
+    (
+        By::Objects,
+        "walk held.mft 20270101000000Z v ta.cer",
+        USAGE,
+        0,
+    ),
+    (
+        By::Objects,
+        "walk held.mft 20270229000000Z v ta.cer with",
+        USAGE,
+        0,
+    ),
+    (
+        By::Objects,
+        "walk held.mft 20270101000000Z v with",
+        USAGE,
+        0,
+    ),
+    (
+        By::Verify,
+        "walk held.mft 20270101000000Z ta.cer ca.cer with a.cer=f",
+        NOT_SIGNED,
+        4,
+    ),
+    (
+        By::Verify,
+        "walk held.mft now ta.cer ca.cer with",
+        NOT_SIGNED,
+        3,
+    ),
+    (
+        By::Verify,
+        "walk held.mft now gone ca.cer with a.cer=f",
+        Said::Error(4, "cannot read gone: no such file\n"),
+        2,
+    ),
+    (
+        By::WithoutClock,
+        "walk held.mft now ta.cer with",
+        Said::Error(2, "cannot tell the time\n"),
+        0,
+    ),
+];
 
 #[test]
 fn entries_are_held(rt: HostRuntime) -> Result<(), Fail> {
-    let rows: [Row; 8] = [
-        (
-            &[
-                "authority.cer",
-                "with",
-                "b.roa=foobar",
-                "a.cer=barfoo",
-                "a.cer=foobar",
-                "d.cer=foobar",
-            ],
-            held("yes\nheld b.roa\n"),
-            8,
-        ),
-        (&["authority.cer", "with"], YES, 4),
-        (
-            &["authority.cer", "with", "a.cer=foobar", "a.cer=barfoo"],
-            held("yes\nheld a.cer\n"),
-            6,
-        ),
-        (
-            &[
-                "authority.cer",
-                "with",
-                "c.crl=foobar",
-                "b.roa=foobar",
-                "a.cer=foobar",
-            ],
-            held("yes\nheld a.cer\nheld b.roa\nheld c.crl\n"),
-            7,
-        ),
-        (
-            &["authority.cer", "with", "c.crl=x=y"],
-            held("yes\nheld c.crl\n"),
-            5,
-        ),
-        (
-            &[
-                "authority.cer",
-                "with",
-                "=foobar",
-                "with=foobar",
-                "a.cer=empty",
-            ],
-            YES,
-            7,
-        ),
-        (&["with", "a.cer=foobar"], NOT_ISSUED, 4),
-        (&["origin.roa", "with", "a.cer=foobar"], NO_ISSUER, 5),
-    ];
-    are_walked(&rt, &WALK, &rows)?;
-    Ok(())
-}
-
-#[test]
-fn files_are_read_first(rt: HostRuntime) -> Result<(), Fail> {
-    let rows: [Row; 4] = [
-        (
-            &["authority.cer", "with", "a.cer=none"],
-            unreadable("cannot read none\n"),
-            5,
-        ),
-        (
-            &["gone", "with", "a.cer=none"],
-            unreadable("cannot read gone\n"),
-            4,
-        ),
-        (
-            &["authority.cer", "with", "x=foobar", "a.cer=b.roa=1"],
-            unreadable("cannot read b.roa=1\n"),
-            6,
-        ),
-        (
-            &["origin.roa", "with", "a.cer=none"],
-            unreadable("cannot read none\n"),
-            5,
-        ),
-    ];
-    are_walked(&rt, &WALK, &rows)?;
-    Ok(())
-}
-
-#[test]
-fn other_words_are_usage(rt: HostRuntime) -> Result<(), Fail> {
-    let rows: [Row; 7] = [
-        (&[], USAGE, 0),
-        (&["authority.cer"], USAGE, 0),
-        (&["authority.cer", "a.cer=foobar"], USAGE, 0),
-        (&["authority.cer", "with", "foobar"], USAGE, 0),
-        (&["authority.cer", "with", "a.cer="], USAGE, 0),
-        (&["authority.cer", "with", "with"], USAGE, 0),
-        (&["", "with", "a.cer=foobar"], USAGE, 0),
-    ];
-    are_walked(&rt, &WALK, &rows)?;
-    let early = [
-        "walk",
-        "held.mft",
-        "20270229000000Z",
-        "verdicts",
-        "anchor.cer",
-        "with",
-    ];
-    is_answered(&rt, &early, &files(), &USAGE, 0)?;
-    Ok(())
-}
-
-/// What the program with signatures says of the manifest, whose signature is for another content.
-const NOT_SIGNED: Output = Output {
-    status: 1,
-    out: "refused: signature is not valid\n",
-    err: "",
-};
-
-#[test]
-fn signatures_are_verified(rt: HostRuntime) -> Result<(), Fail> {
-    let program = Verify {
-        clock: None,
-        relying_party: Echo,
-    };
-    let words = [
-        "walk",
-        "held.mft",
-        "20270101000000Z",
-        "anchor.cer",
-        "authority.cer",
-        "with",
-        "a.cer=foobar",
-    ];
-    is_answered_by(&rt, &program, &words, &files(), &NOT_SIGNED, 4)?;
+    assert_eq!(rt; answered(rt.alloc(), &FILES, &ROWS)?, ROWS.len());
     Ok(())
 }
