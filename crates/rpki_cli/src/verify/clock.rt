@@ -1,42 +1,49 @@
 //! The moment that a clock of the system tells.
 
-ghost use Rattle.std.specs.Prelude.{ℤ, pos, ◌≤ℤ◌, IfSome, MatchOption};
+ghost use Rattle.std.specs.Prelude.{◌≡◌, ℤ, pos, ◌≤ℤ◌, IfSome, MatchOption};
 ghost use Rattle.rpki_basics.specs.Moment.{Moment, IsMoment};
-ghost use Rattle.rpki_cli.specs.Verify.Clock.{IsSecondOf};
+ghost use Rattle.rpki_cli.specs.Verify.Clock.{IsSecondOf, seconds_to};
 
-use jiff::Timestamp;
-use jiff::tz::Offset;
+use jiff_core::civil::Date;
 use rpki_basics::Time;
-use std::time::Clock;
+use std::time::{Clock, SystemTime};
 
-/// The moment that the clock tells, to the second, if that is not before 1970 and `jiff` has a
-/// timestamp for it, as it has until 30 December 9999, 22:00:00. The contract says only that it is
-/// a second of the calendar from 1970 on: what a clock tells can't be seen by a contract.
+const SECONDS_A_DAY: i64 = 86_400;
+
+/// The moment that the clock tells, to the second, if it is one of the years 1970 to 9999. The
+/// contract says only that it is a second of the calendar from 1970 on: what a clock tells can't be
+/// seen by a contract.
 pub fn now(clock: &impl Clock) -> Option<Time>
     ensures { IfSome result (λ m. IsMoment m × (n : ℤ) × (pos 0 ≤ℤ n) × IsSecondOf n m) }
 {
-    match Timestamp::now(clock) {
-        Ok(timestamp) => moment_of(timestamp),
+    let time = SystemTime::now(clock).ok()?;
+    let since_1970 = time.duration_since(SystemTime::UNIX_EPOCH).ok()?;
+    match i64::try_from(since_1970.as_secs()) {
+        Ok(second) => moment_of(second),
         Err(_) => None,
     }
 }
 
-/// The moment of a timestamp, in UTC and to the second, if it is one of the years 0 to 9999.
-pub fn moment_of(timestamp: Timestamp) -> Option<Time>
-    ensures { MatchOption result
-        ((m : Moment) → IsMoment m → IsSecondOf timestamp.nanosecond m → ⊥)
-        (λ m. IsMoment m × IsSecondOf timestamp.nanosecond m) }
+/// The moment that begins this many seconds after 1970 began, in UTC, if it is one of the years 0
+/// to 9999.
+pub fn moment_of(second: i64) -> Option<Time>
+    ensures { MatchOption result ((m : Moment) → IsMoment m → seconds_to m ≡ second → ⊥)
+        (λ m. IsMoment m × (seconds_to m ≡ second)) }
 {
-    let civil = Offset::UTC.to_datetime(timestamp).to_plain();
-    match u16::try_from(civil.date.year) {
-        Err(_) => None,
-        Ok(year) => Time::utc(
-            year,
-            civil.date.month,
-            civil.date.day,
-            civil.time.hour,
-            civil.time.minute,
-            civil.time.second,
-        ),
-    }
+    let Ok(date) = Date::from_unix_epoch_day(second.div_euclid(SECONDS_A_DAY)) else {
+        return None;
+    };
+    let Ok(year) = u16::try_from(date.year) else {
+        return None;
+    };
+    let second = second.rem_euclid(SECONDS_A_DAY) as u32;
+    let (hour, minute, second) = (second / 3600, second / 60 % 60, second % 60);
+    Time::utc(
+        year,
+        date.month,
+        date.day,
+        hour as u8,
+        minute as u8,
+        second as u8,
+    )
 }

@@ -1,32 +1,42 @@
-use Rattle.std.proofs.Common.{◌≡◌, ℤ, pos, ◌+ℤ◌, sym, subst}
+-- The moment of a day and a second of it.
+use Rattle.std.proofs.Common.{◌≡◌, ℤ, sym, subst, ◌∙◌}
 use Rattle.std.specs.Int.{FitsUnsignedBits}
+use Rattle.std.proofs.lemmas.Bool.{true≢false}
 use lib.IntN.{nat_abs}
-use Rattle.jiff_core.specs.DateTime.{civil_nanos}
-use Rattle.jiff_core.specs.Timestamp.{nanos_of_seconds}
-use Rattle.jiff_core.specs.declared.civil.datetime.DateTime.{DateTime}
-use Rattle.rpki_cli.proofs.Verified.Clocks.{moment_in, is-moment, is-second, is-later, year-kept}
-use Rattle.rpki_cli.proofs.Verified.Clocks.{year-negative, year-natural, moment-told}
+use Rattle.jiff_core.specs.Calendar.{IsEpochDay}
+use Rattle.rpki_cli.proofs.Verified.Clocks.{moment_in, is-moment, seconds-in, is-epoch_day, is-later, year-kept}
+use Rattle.rpki_cli.proofs.Verified.Clocks.{year-negative, year-natural, moment-told, day-kept, second-kept}
+use Rattle.rpki_cli.proofs.Verified.Clocks.{second-below}
 use Rattle.rpki_cli.proofs.verify.clock.moment_of.Goals as goal
 
-pub returns-in-Err : goal.returns-in-Err
-returns-in-Err c = λ m i s.
-    let n = c.args.timestamp.nanosecond in
-    let dt = c.to_plain-civil.result in
-    let same = subst (λ (d : DateTime). civil_nanos d ≡ n +ℤ nanos_of_seconds (pos 0))
-    (sym c.to_plain-civil.ensures) c.to_datetime.ensures in
-    let not = subst (λ (y : ℤ). FitsUnsignedBits 16 y → ⊥) (year-kept dt.date.year dt.date.year_in)
-    c.in-Err.ensures in
-    is-later dt n m same (year-negative dt.date.year dt.date.year_in not) i s
+pub returns-in_default : goal.returns-in_default
+returns-in_default c = λ m i e.
+    let n = c.args.second in
+    let day = day-kept n c.div_euclid.result c.ranges.second c.div_euclid.ensures in
+    true≢false (sym (c.in_default.ensures.succeeds.1
+    (subst (λ (z : ℤ). IsEpochDay z) (sym day) (is-epoch_day m n i e))))
 
-pub returns-in-Ok : goal.returns-in-Ok
-returns-in-Ok c =
-    let n = c.args.timestamp.nanosecond in
-    let dt = c.to_plain-civil.result in
-    let same = subst (λ (d : DateTime). civil_nanos d ≡ n +ℤ nanos_of_seconds (pos 0))
-    (sym c.to_plain-civil.ensures) c.to_datetime.ensures in
-    let kept = year-kept dt.date.year dt.date.year_in in
-    let fits = subst (λ (y : ℤ). FitsUnsignedBits 16 y) kept c.in-Ok.ensures.0 in
-    let abs = subst (λ (y : ℤ). c.in-Ok.year ≡ nat_abs y) kept c.in-Ok.ensures.1 in
-    let year = year-natural dt.date.year c.in-Ok.year fits abs in
-    moment-told c.utc.result (moment_in dt c.in-Ok.year) n c.utc.ensures.real
-    (is-moment dt c.in-Ok.year year) (is-second dt n c.in-Ok.year same year)
+pub returns-in_default-try_from : goal.returns-in_default-try_from
+returns-in_default-try_from c = λ m i e.
+    let n = c.args.second in
+    let d = c.in-Ok.date in
+    let day = day-kept n c.div_euclid.result c.ranges.second c.div_euclid.ensures in
+    let not = subst (λ (y : ℤ). FitsUnsignedBits 16 y → ⊥) (year-kept d.year d.year_in)
+    c.in_default-try_from.ensures in
+    is-later d m n (c.in-Ok.ensures.value ∙ day) (year-negative d.year d.year_in not) i e
+
+pub returns : goal.returns
+returns c =
+    let n = c.args.second in
+    let d = c.in-Ok.date in
+    let day = day-kept n c.div_euclid.result c.ranges.second c.div_euclid.ensures in
+    let kept = year-kept d.year d.year_in in
+    let fits = subst (λ (y : ℤ). FitsUnsignedBits 16 y) kept c.in-Ok-try_from.ensures.0 in
+    let abs = subst (λ (y : ℤ). c.in-Ok-try_from.year ≡ nat_abs y) kept
+    c.in-Ok-try_from.ensures.1 in
+    let year = year-natural d.year c.in-Ok-try_from.year fits abs in
+    let second = second-kept n c.rem_euclid-second.result c.ranges.second
+    c.rem_euclid-second.ensures.value in
+    moment-told c.utc.result _ n c.utc.ensures.real
+    (is-moment d c.in-Ok-try_from.year _ year (second-below n _ second))
+    (seconds-in d c.in-Ok-try_from.year _ n year (c.in-Ok.ensures.value ∙ day) second)
