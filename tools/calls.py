@@ -16,8 +16,6 @@ import drops
 
 # Crates whose calls nobody has to make: callers, and what tests use.
 CALLERS = ("rpki_examples", "rpki_testing")
-# Calls that sweeps alone make: the program makes its three parts, and only callers the whole.
-SWEPT = ("rpki_paths: grant",)
 CALL = re.compile(r"(?:\b(?P<type>[A-Z]\w*)(?:::)?(?:<[^;()]*?>)?::|\b(?P<module>[a-z]\w*)::"
                   r"|(?P<dot>\.))?\b(?P<name>[a-z_]\w*)\b(?!\s*:(?!:))")
 TYPE = re.compile(r"\b[A-Z]\w*\b")
@@ -150,7 +148,5 @@ def made(top):
     libraries = {it.parent.parent.name for it in top.glob("crates/*/src/lib.rt")} - {*CALLERS}
     wants = sources.wants()
     for it in sources.functions:
-        if it.shown() in SWEPT:
-            continue
         if it.gives & wants and it.crate in libraries and sources.is_public(it):
             yield it, makers.get(it)

@@ -17,6 +17,7 @@ use Rattle.rpki_faults.specs.declared.overclaim.Overclaim.{Overclaim}
 use Rattle.rpki_faults.specs.declared.overclaim.Overclaim.TheVariants.{Refuse, Trim}
 use Rattle.rpki_paths.specs.declared.family_resources.FamilyResources.{FamilyResources}
 use Rattle.rpki_paths.specs.declared.path_resources.PathResources.{PathResources}
+use Rattle.rpki_paths.specs.declared.walker.PathFault.{PathFault}
 use Rattle.rpki_paths.specs.declared.walker.PathFault.TheVariants.{NoValidIssuer, Returns, Revoked}
 use Rattle.rpki_paths.specs.declared.walker.PathFault.TheVariants.{NotCovered, Memory}
 use Rattle.rpki_paths.specs.Cert.{Cert, Numbers, IsIn, IsSelfSigned}
@@ -25,7 +26,7 @@ use Rattle.rpki_paths.specs.Path.{IsIssuedBy, IsOff, IsChain, HasNoIssuer, IsPat
 use Rattle.rpki_paths.specs.Path.{IsLinkCovered, explicit_sets}
 use Rattle.rpki_paths.specs.Walk.{FoundSays, resources_in, InEach, FailsFirst, IsNext, IsUnverified}
 use Rattle.rpki_paths.specs.Cert.{at_place}
-use Rattle.rpki_paths.specs.Walk.{IsReached, AreFirst, placed}
+use Rattle.rpki_paths.specs.Walk.{IsReached, AreFirst, CoversIn, EndsWith, GoesOn, HasNext, placed}
 use Rattle.rpki_paths.specs.Walk.{IsRefused, AreVisited, KeepsVisited, IsWalked}
 use Rattle.rpki_paths.specs.declared.key_id_index.KeyIdIndex.{KeyIdIndex}
 use Rattle.rpki_paths.specs.declared.walker.Found.TheVariants.{Issuer}
@@ -412,7 +413,7 @@ module _ (cas : List Cert) (ee head : Cert) (sets : PathResources) (visited : Li
     not_self_signed = open_head;
   }
 
-  pub none-verifies : ¬ (IsSelfSigned head) → IsUnverified cas head.aki head.verifies
+  none-verifies : ¬ (IsSelfSigned head) → IsUnverified cas head.aki head.verifies
       → IsRefused NoValidIssuer cas ee
   none-verifies open_head u = (head, w.below, reached open_head, u)
 
@@ -422,7 +423,7 @@ module _ (cas : List Cert) (ee head : Cert) (sets : PathResources) (visited : Li
 
   module _ (d : Cert) (i : ℕ) (at_i : slice_get cas i ≡ Some d)
       (open_head : ¬ (IsSelfSigned head)) (next : IsNext cas head.aki head.verifies d) where
-    pub returns-to-visited : slice_index visited i ≡ turn → IsRefused Returns cas ee
+    returns-to-visited : slice_index visited i ≡ turn → IsRefused Returns cas ee
     returns-to-visited e = (
       head,
       d,
@@ -432,7 +433,7 @@ module _ (cas : List Cert) (ee head : Cert) (sets : PathResources) (visited : Li
       w.visits.on i d at_i e,
     )
 
-    pub is-revoked : slice_index visited i ≢ turn → IsTrue (d.revokes head.serial)
+    is-revoked : slice_index visited i ≢ turn → IsTrue (d.revokes head.serial)
         → IsRefused Revoked cas ee
     is-revoked e r = (
       head,
@@ -457,7 +458,7 @@ module _ (cas : List Cert) (ee head : Cert) (sets : PathResources) (visited : Li
     to-nearest f h = covers_nearest (λ n. n) head.overclaim (resources_in sets f)
         (explicit_sets (head ∷ w.below) f) (d.claim f) (w.stands f) h
 
-    pub is-uncovered : (family : Family) → slice_index visited i ≢ turn
+    is-uncovered : (family : Family) → slice_index visited i ≢ turn
         → IsFalse (d.revokes head.serial) → FailsFirst IsNearestIn family
         → IsRefused (NotCovered family) cas ee
     is-uncovered family e r h = (
@@ -473,7 +474,7 @@ module _ (cas : List Cert) (ee head : Cert) (sets : PathResources) (visited : Li
       ),
     )
 
-    pub walks-on : (new : PathResources) → AreApart ee cas → i < length visited
+    walks-on : (new : PathResources) → AreApart ee cas → i < length visited
         → slice_index visited i ≢ turn → IsFalse (d.revokes head.serial) → InEach IsNearestIn →
         InEach (λ f. IsWithClaim (λ n. n) head.overclaim (resources_in sets f) (d.claim f)
         (resources_in new f))
@@ -521,6 +522,27 @@ module _ (cas : List Cert) (ee head : Cert) (sets : PathResources) (visited : Li
           count = (let t : suc (length w.below) ≡ steps + 1 = omega (arith, w.count) in t);
         }
 
+  -- each reason for which a walk ends at its head
+  pub ends : (fault : PathFault) → EndsWith fault cas head sets visited turn
+      → IsRefused fault cas ee
+  ends NoValidIssuer h = none-verifies h.0 h.1
+  ends Returns h = returns-to-visited h.1 h.2.index h.2.at_index h.0 h.2 h.3
+  ends Revoked h = is-revoked h.1 h.2.index h.2.at_index h.0 h.2 h.3.0 h.3.1
+  ends (NotCovered family) h =
+      is-uncovered h.1 h.2.index h.2.at_index h.0 h.2 family h.3.0 h.3.1 h.3.2
+  ends Memory h = absurd h
+
+  pub goes-on : (new : PathResources) (d : Cert) (i : ℕ) → slice_get cas i ≡ Some d
+      → GoesOn cas head sets visited turn i → AreApart ee cas → i < length visited →
+      InEach (λ f. IsWithClaim (λ n. n) head.overclaim (resources_in sets f) (d.claim f)
+      (resources_in new f))
+      → IsWalking cas ee d new (set visited i turn) turn (steps + 1)
+  goes-on new d i at_i h apart lt claimed =
+      let same = same_Some h.1 d (sym h.2.at_index ∙ ap (slice_get cas) h.3.0 ∙ at_i) in
+      walks-on d i at_i h.0 (subst (λ x. IsNext cas head.aki head.verifies x) same h.2) new apart lt
+      h.3.1 (subst (λ (x : Cert). IsFalse (x.revokes head.serial)) same h.3.2)
+      (subst (λ x. InEach (λ f. CoversIn sets head x f)) same h.3.3) claimed
+
 pub keeps-none : (turn : ℕ) (visited : List ℕ) → KeepsVisited turn visited visited
 keeps-none turn visited i ne = refl
 
@@ -555,12 +577,19 @@ index-named ids index id (Some aki) named h e f =
     subst (λ l. IsNamed ids aki l) (sym (e ∙ ap (places_of index) f)) (h aki)
 
 -- what was found, by the certificate at its place
-pub issuer-at : (cas : List Cert) (aki : Option (List ℕ)) (verifies : List ℕ → Bool) (i : ℕ)
-    (x : Cert) →
-    slice_get cas i ≡ Some x → FoundSays cas aki verifies (Issuer i) → IsNext cas aki verifies x
-issuer-at cas aki verifies i x at_i h =
-    subst (λ z. IsNext cas aki verifies z)
-    (same_Some h.0 x (sym h.1.at_index ∙ ap (slice_get cas) h.2 ∙ at_i)) h.1
+pub next-found : {C : Type 0} (cert : C → Cert) (cas : List C) (P : Cert → ℕ → Type 0) (c : Cert)
+    (i : ℕ) (ca : C) → ¬ (IsSelfSigned c) → i < length cas → ca ≡ get_or cas i ca
+    → FoundSays (placed cert 1 cas) c.aki c.verifies (Issuer i) → P (at_place (i + 1) (cert ca)) i
+    → HasNext P (placed cert 1 cas) c
+next-found cert cas P c i ca open_head lt at_i found p =
+    let d = at_place (i + 1) (cert ca) in
+    let same = same_Some found.0 d (sym found.1.at_index
+    ∙ ap (slice_get (placed cert 1 cas)) found.2 ∙ get-placed cert 1 cas i ca lt at_i) in (
+      open_head,
+      found.0,
+      found.1,
+      subst (λ x. P x found.1.index) (sym same) (subst (λ n. P d n) (sym found.2) p),
+    )
 
 pub empty-from : {A : Type 0} (xs : List A) → length xs ≡ 0 → xs ≡ []
 empty-from [] e = refl

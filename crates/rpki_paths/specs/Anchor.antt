@@ -20,7 +20,8 @@ supplied_claim (Tal key) f = Inherit
 supplied_claim (Ca ski key sets) f = Explicit (sets f)
 
 -- The supply is meant for this head: a locator for one that is self-signed and has its key; a CA
--- for one that is not self-signed, names it as its issuer, and is verified by its key.
+-- for one that is not self-signed, names it as its issuer, and is verified by its key. That a head is
+-- looked up in no revocation list of the CA is this project's own rule.
 abbrev pub Fits : Cert → Supply → Type 0
 Fits head (Tal key) = IsSelfSigned head × (head.key ≡ key)
 Fits head (Ca ski key sets) =

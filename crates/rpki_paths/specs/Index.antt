@@ -8,7 +8,7 @@ use Rattle.std.specs.Cmp.Lexicographic.{slice_cmp}
 use Rattle.rpki_paths.specs.declared.key_id_index.KeyIdIndex.{KeyIdIndex}
 use Rattle.rpki_paths.specs.Cert.{IsIn}
 
--- The places that stand at a key, or none.
+-- The places of an index that stand at a key, or none.
 abbrev pub listed_in : Option (Vec ℕ Global) → List ℕ
 listed_in None = []
 listed_in (Some places) = places.items

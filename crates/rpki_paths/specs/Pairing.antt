@@ -60,7 +60,8 @@ HasKey = IsPair (λ s. s.sid) (λ key. key) (λ s key. true)
 abbrev pub IsVerifiedBy : Signer → Cert → Type 0
 IsVerifiedBy = IsPair (λ s. s.sid) (λ e. e.ski) (λ s e. s.verifies e.key)
 
--- The CRL names this CA, whose key verifies it (RFC 6487, section 5).
+-- The CRL names this CA, whose key verifies it (RFC 6487, section 5). That its times are not looked
+-- at, where section 7.2 asks for the current one, is this project's own rule.
 abbrev pub HasCrl : Cert → Crl → Type 0
 HasCrl = IsPair (λ d. d.ski) (λ l. l.aki) (λ d l. l.verifies d.key)
 

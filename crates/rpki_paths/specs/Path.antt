@@ -5,7 +5,8 @@ use Rattle.rpki_paths.specs.Cert.{Cert, Numbers, IsSelfSigned, IsIn, NoTwice}
 use Rattle.rpki_paths.specs.Sets.{with_claim, IsCovered}
 
 -- The carried CA `d` issued `c` and has not revoked it: `c` is not self-signed and names `d` by its
--- key identifier, the key of `d` verifies `c`, and the CRL of `d` does not list its serial.
+-- key identifier, the key of `d` verifies `c`, and the CRL of `d` does not list its serial. That names
+-- are not compared, as RFC 6487, section 7.2, asks, is this project's own rule.
 pub record IsIssuedBy (cas : List Cert) (c d : Cert) : Type 0 where
   pub not_self_signed : ¬ (IsSelfSigned c)
   pub carried : IsIn d cas

@@ -12,7 +12,7 @@ use Rattle.rpki_paths.specs.declared.walker.PathFault.{PathFault}
 use Rattle.rpki_paths.specs.declared.walker.PathFault.TheVariants.{NoValidIssuer, Returns, Revoked}
 use Rattle.rpki_paths.specs.declared.walker.PathFault.TheVariants.{NotCovered, Memory}
 use Rattle.rpki_paths.specs.Cert.{Cert, Numbers, IsIn, IsSelfSigned, at_place}
-use Rattle.rpki_paths.specs.Sets.{StandsFor, IsCovered}
+use Rattle.rpki_paths.specs.Sets.{StandsFor, IsCovered, CoversNearest}
 use Rattle.rpki_paths.specs.Path.{IsChain, IsOff, IsPath, IsLinkCovered, explicit_sets}
 
 -- The resources of a path in one family, of those that sets has in all three.
@@ -64,6 +64,36 @@ FoundSays cas aki verifies NoIssuer = (d : Cert) → IsIn d cas → ¬ (aki ≡ 
 FoundSays cas aki verifies Invalid = IsUnverified cas aki verifies
 FoundSays cas aki verifies (Issuer i) =
     (d : Cert) × (next : IsNext cas aki verifies d) × (next.index ≡ i)
+
+-- `c` is not self-signed, and of the first CA that it names whose key verifies it, and of the index
+-- of that CA, P holds.
+abbrev pub HasNext : (Cert → ℕ → Type 0) → List Cert → Cert → Type 0
+HasNext P cas c =
+    ¬ (IsSelfSigned c) × (d : Cert) × (next : IsNext cas c.aki c.verifies d) × P d next.index
+
+-- In this family, the claim of `d` covers the nearest explicit set of these resources, where it has
+-- to under the mode of `c`.
+abbrev pub CoversIn : PathResources → Cert → Cert → Family → Type 0
+CoversIn sets c d f = CoversNearest (λ n. n) c.overclaim (resources_in sets f) (d.claim f)
+
+-- The CA with index `i` comes next above `c`: its number in visited is not turn, it has not revoked
+-- `c`, and its claims cover these resources.
+abbrev pub GoesOn : List Cert → Cert → PathResources → List ℕ → ℕ → ℕ → Type 0
+GoesOn cas c sets visited turn i =
+    HasNext (λ d j. (j ≡ i) × (slice_index visited i ≢ turn) × IsFalse (d.revokes c.serial)
+    × InEach (λ f. CoversIn sets c d f)) cas c
+
+-- Why no CA comes next above `c`, which is asked in the order of `IsRefused`, below.
+abbrev pub EndsWith : PathFault → List Cert → Cert → PathResources → List ℕ → ℕ → Type 0
+EndsWith NoValidIssuer cas c sets visited turn =
+    ¬ (IsSelfSigned c) × IsUnverified cas c.aki c.verifies
+EndsWith Returns cas c sets visited turn = HasNext (λ d i. slice_index visited i ≡ turn) cas c
+EndsWith Revoked cas c sets visited turn =
+    HasNext (λ d i. (slice_index visited i ≢ turn) × IsTrue (d.revokes c.serial)) cas c
+EndsWith (NotCovered family) cas c sets visited turn =
+    HasNext (λ d i. (slice_index visited i ≢ turn) × IsFalse (d.revokes c.serial)
+    × FailsFirst (λ f. CoversIn sets c d f) family) cas c
+EndsWith Memory cas c sets visited turn = ⊥
 
 -- A covered chain of first issuers goes up to the head `c`, which is not self-signed.
 pub record IsReached (cas : List Cert) (ee c : Cert) (p : List Cert) : Type 0 where

@@ -113,33 +113,43 @@ fn are_anchored<C>(paths: &[Path<C>]) -> bool
     paths.iter().all(|path| path.anchored)
 }
 
-/// The numbers of several paths in each family.
-#[derive(Drop)]
-struct Unions {
-    asn: Union<Asn>,
-    v4: Union<Addr>,
-    v6: Union<Addr>,
-}
-
-// The numbers that are kept of the paths.
-fn gathered<C>(alloc: Global, paths: &[Path<C>]) -> Result<Unions, AllocError>
-    ensures asn { IfOk result (λ u. (n : ℕ) →
-        union_has (λ k. k) u.asn n ≡ some_has paths.now Family.As n) }
-    ensures v4 { IfOk result (λ u. (n : ℕ) →
-        union_has (λ k. k) u.v4 n ≡ some_has paths.now Family.V4 n) }
-    ensures v6 { IfOk result (λ u. (n : ℕ) →
-        union_has (λ k. k) u.v6 n ≡ some_has paths.now Family.V6 n) }
+// The AS numbers that are kept of the paths.
+fn as_numbers<C>(alloc: Global, paths: &[Path<C>]) -> Result<Union<Asn>, AllocError>
+    ensures { IfOk result (λ u. (n : ℕ) →
+        union_has (λ k. k) u n ≡ some_has paths.now Family.As n) }
 {
-    let mut asn = Union::none(alloc);
-    let mut v4 = Union::none(alloc);
-    let mut v6 = Union::none(alloc);
+    let mut kept = Union::none(alloc);
     for i in 0..paths.len() {
         let path = &paths[i];
-        asn.add(&path.sets.asn)?;
-        v4.add(&path.sets.v4)?;
-        v6.add(&path.sets.v6)?;
+        kept.add(&path.sets.asn)?;
     }
-    Ok(Unions { asn, v4, v6 })
+    Ok(kept)
+}
+
+// The IPv4 addresses that are kept of the paths.
+fn v4_addresses<C>(alloc: Global, paths: &[Path<C>]) -> Result<Union<Addr>, AllocError>
+    ensures { IfOk result (λ u. (n : ℕ) →
+        union_has (λ k. k) u n ≡ some_has paths.now Family.V4 n) }
+{
+    let mut kept = Union::none(alloc);
+    for i in 0..paths.len() {
+        let path = &paths[i];
+        kept.add(&path.sets.v4)?;
+    }
+    Ok(kept)
+}
+
+// The IPv6 addresses that are kept of the paths.
+fn v6_addresses<C>(alloc: Global, paths: &[Path<C>]) -> Result<Union<Addr>, AllocError>
+    ensures { IfOk result (λ u. (n : ℕ) →
+        union_has (λ k. k) u n ≡ some_has paths.now Family.V6 n) }
+{
+    let mut kept = Union::none(alloc);
+    for i in 0..paths.len() {
+        let path = &paths[i];
+        kept.add(&path.sets.v6)?;
+    }
+    Ok(kept)
 }
 
 /// Tells whether each path is anchored, and each attested set has just the numbers that are kept of
@@ -151,14 +161,13 @@ pub fn finalize<C>(alloc: Global, paths: &[Path<C>], attested: &Attested) -> Res
     if !are_anchored(paths) {
         return Err(FinalFault::NotAnchored);
     }
-    let Unions { asn, v4, v6 } = gathered(alloc, paths)?;
-    if !asn.equals(attested.asn)? {
+    if !as_numbers(alloc, paths)?.equals(attested.asn)? {
         return Err(FinalFault::AsNumbers);
     }
-    if !v4.equals(attested.v4)? {
+    if !v4_addresses(alloc, paths)?.equals(attested.v4)? {
         return Err(FinalFault::Addresses);
     }
-    if !v6.equals(attested.v6)? {
+    if !v6_addresses(alloc, paths)?.equals(attested.v6)? {
         return Err(FinalFault::Addresses);
     }
     Ok(())

@@ -137,10 +137,7 @@ pub fn take_first<X: Accepts<Y, L>, Y, L: Ledger>(
 }
 
 // The identifiers of the others.
-pub(crate) fn identifiers<X: Seeks<Y>, Y>(
-    alloc: Global,
-    others: &[Y],
-) -> Result<Vec<KeyId>, AllocError>
+fn identifiers<X: Seeks<Y>, Y>(alloc: Global, others: &[Y]) -> Result<Vec<KeyId>, AllocError>
     ensures { IfOk result (λ ids. ids.items ≡ map X.held others.now) }
 {
     let mut ids = Vec::new(alloc);
@@ -148,6 +145,17 @@ pub(crate) fn identifiers<X: Seeks<Y>, Y>(
         ids.push(X::identifier(&others[i]))?;
     }
     Ok(ids)
+}
+
+// The index of the others by their identifiers.
+pub(crate) fn index_of<X: Seeks<Y>, Y>(
+    alloc: Global,
+    others: &[Y],
+) -> Result<KeyIdIndex, AllocError>
+    ensures { IfOk result (IsIndex (map X.held others.now)) }
+{
+    let ids = identifiers::<X, Y>(alloc, others)?;
+    KeyIdIndex::of(alloc, &ids)
 }
 
 // Adds an item after the others.
@@ -177,8 +185,7 @@ pub fn pair_off<X: Accepts<Y, L>, Y, L: Ledger>(
         (AllVerifyEach X.sought X.held X.verdict takers.now others.now →
         asked.new ≤ asked.old + X.price * length takers.now) }
 {
-    let ids = identifiers::<X, Y>(alloc, others)?;
-    let index = KeyIdIndex::of(alloc, &ids)?;
+    let index = index_of::<X, Y>(alloc, others)?;
     let mut taken = vec![in alloc; false; others.len()]?;
     let mut places = Vec::new(alloc);
     for i in 0..takers.len() {

@@ -12,7 +12,7 @@ ghost use Rattle.rpki_paths.specs.Taking.{AllVerify, AllVerifyEach, FitsNone, Is
 use crate::carried::CarriedSigner;
 use crate::certificate::{Certificate, KeyId};
 use crate::key_id_index::KeyIdIndex;
-use crate::pairs::{Accepts, append, identifiers, take_first};
+use crate::pairs::{Accepts, append, index_of, take_first};
 use crate::verdict_count::VerdictCount;
 use std::alloc::{AllocError, Global};
 use std::sync::ledger::Ledger;
@@ -131,6 +131,58 @@ fn take_one<S: CarriedSigner<C> + Accepts<C, L>, C: Certificate, L: Ledger>(
     }
 }
 
+// Each of some signers, in carried order, takes a subject key and its end-entity certificate.
+fn take_each<S, C, L: Ledger>(
+    signers: &[S],
+    keys: &[KeyId],
+    ees: &[C],
+    key_index: &KeyIdIndex,
+    ee_index: &KeyIdIndex,
+    keys_taken: &mut [bool],
+    ees_taken: &mut [bool],
+    taken: &mut Vec<C>,
+    asked: &mut VerdictCount<L>,
+) -> Result<(), SignFault>
+where
+    S: CarriedSigner<C> + Accepts<C, L>,
+    C: Certificate,
+    requires key_index { IsIndex keys.now key_index.now }
+    requires ee_index { IsIndex (map S.held ees.now) ee_index.now }
+    requires keys_many { length keys_taken.old ≡ length keys.now }
+    requires ees_many { length ees_taken.old ≡ length ees.now }
+    requires start { AreSigned [] keys.now (map C.cert ees.now) (map C.cert taken.old.items)
+        (left_of keys_taken.old keys.now) (map C.cert (left_of ees_taken.old ees.now)) }
+    requires among { AreAmong taken.old.items ees.now }
+    ensures signed { OnOk result (AreSigned (map S.signer signers.now) keys.now
+        (map C.cert ees.now) (map C.cert taken.new.items) (left_of keys_taken.new keys.now)
+        (map C.cert (left_of ees_taken.new ees.now))) }
+    ensures among { OnOk result (AreAmong taken.new.items ees.now) }
+    ensures refused { IfErr result
+        (WhyNotSigned (map S.signer signers.now) keys.now (map C.cert ees.now)) }
+    ensures cost { OnOk result (AllVerifyEach (λ s. s.sid) (λ e. e.ski) (λ s e. s.verifies e.key)
+        (map S.signer signers.now) (map C.cert ees.now) →
+        asked.new ≤ asked.old + 1 * length (map S.signer signers.now)) }
+{
+    for i in 0..signers.len() {
+        match take_one(
+            &signers[i],
+            keys,
+            ees,
+            key_index,
+            ee_index,
+            keys_taken,
+            ees_taken,
+            asked,
+        ) {
+            Ok(ee) => append(taken, ee)?,
+            Err(fault) => {
+                return Err(fault);
+            }
+        }
+    }
+    Ok(())
+}
+
 // Takes signers in carried order: each takes the first subject key that is its own and is left, has
 // the digest of the content, and takes the first end-entity certificate that it names, whose key
 // verifies it and that is left. Answers these certificates, in the order of the signers. An error
@@ -158,27 +210,25 @@ where
         asked.new ≤ asked.old + 1 * length (map S.signer signers.now)) }
 {
     let key_index = KeyIdIndex::of(alloc, keys)?;
-    let ids = identifiers::<S, C>(alloc, ees)?;
-    let ee_index = KeyIdIndex::of(alloc, &ids)?;
+    let ee_index = index_of::<S, C>(alloc, ees)?;
     let mut keys_taken = vec![in alloc; false; keys.len()]?;
     let mut ees_taken = vec![in alloc; false; ees.len()]?;
     let mut taken = Vec::new(alloc);
-    for i in 0..signers.len() {
-        match take_one(
-            &signers[i],
-            keys,
-            ees,
-            &key_index,
-            &ee_index,
-            &mut keys_taken,
-            &mut ees_taken,
-            asked,
-        ) {
-            Ok(ee) => append(&mut taken, ee)?,
-            Err(fault) => {
-                return Err(fault);
-            }
+    match take_each(
+        signers,
+        keys,
+        ees,
+        &key_index,
+        &ee_index,
+        &mut keys_taken,
+        &mut ees_taken,
+        &mut taken,
+        asked,
+    ) {
+        Ok(()) => Ok(taken),
+        Err(fault) => {
+            drop(taken);
+            Err(fault)
         }
     }
-    Ok(taken)
 }

@@ -11,7 +11,7 @@ ghost use Rattle.rpki_paths.specs.Taking.{AllVerify, AllVerifyEach, FitsNone, Is
 
 use crate::carried::{Candidate, CarriedCert};
 use crate::key_id_index::KeyIdIndex;
-use crate::pairs::{Accepts, append, identifiers, take_first};
+use crate::pairs::{Accepts, append, index_of, take_first};
 use crate::verdict_count::VerdictCount;
 use std::alloc::{AllocError, Global};
 use std::sync::ledger::Ledger;
@@ -121,6 +121,46 @@ where
     }
 }
 
+// Sorts some certificates, in carried order.
+fn sort_each<X, C, R, L: Ledger>(
+    certs: &[X],
+    crls: &[R],
+    index: &KeyIdIndex,
+    taken: &mut [bool],
+    sorted: &mut Sorted<C>,
+    asked: &mut VerdictCount<L>,
+) -> Result<(), SortFault<X::Fault>>
+where
+    X: Candidate<C>,
+    C: CarriedCert<R> + Accepts<R, L>,
+    requires index { IsIndex (map C.held crls.now) index.now }
+    requires as_many { length taken.old ≡ length crls.now }
+    requires start { AreSorted X.is_good X.seen X.of_ca C.cert [] (map C.crl crls.now)
+        sorted.old.ees.items sorted.old.cas.items (map C.crl (left_of taken.old crls.now)) }
+    requires from_ees { AreFrom X.admits C.same certs.now sorted.old.ees.items }
+    requires from_cas { AreFrom X.admits C.same certs.now sorted.old.cas.items }
+    ensures sorted { OnOk result (AreSorted X.is_good X.seen X.of_ca C.cert certs.now
+        (map C.crl crls.now) sorted.new.ees.items sorted.new.cas.items
+        (map C.crl (left_of taken.new crls.now))) }
+    ensures from_ees { OnOk result (AreFrom X.admits C.same certs.now sorted.new.ees.items) }
+    ensures from_cas { OnOk result (AreFrom X.admits C.same certs.now sorted.new.cas.items) }
+    ensures refused { IfErr result (WhyNotSorted X.is_good X.because X.seen X.of_ca certs.now
+        (map C.crl crls.now)) }
+    ensures cost { OnOk result (AllVerifyEach (λ d. d.ski) (λ l. l.aki) (λ d l. l.verifies d.key)
+        (map X.seen (cas_of X.of_ca certs.now)) (map C.crl crls.now) →
+        asked.new ≤ asked.old + 1 * length (map X.seen (cas_of X.of_ca certs.now))) }
+{
+    for i in 0..certs.len() {
+        match sort_one(&certs[i], crls, index, taken, sorted, asked) {
+            Ok(()) => {}
+            Err(fault) => {
+                return Err(fault);
+            }
+        }
+    }
+    Ok(())
+}
+
 // Sorts certificates by their kind. In carried order each has to be good, and each CA takes the
 // first CRL that fits it and is left. An error is the first that is not so, or want of memory.
 // Where a CRL that names a CA is also verified by its key, at most one verdict is asked of each CA.
@@ -144,20 +184,17 @@ where
         (map X.seen (cas_of X.of_ca certs.now)) (map C.crl crls.now) →
         asked.new ≤ asked.old + 1 * length (map X.seen (cas_of X.of_ca certs.now))) }
 {
-    let ids = identifiers::<C, R>(alloc, crls)?;
-    let index = KeyIdIndex::of(alloc, &ids)?;
+    let index = index_of::<C, R>(alloc, crls)?;
     let mut taken = vec![in alloc; false; crls.len()]?;
     let mut sorted = Sorted {
         ees: Vec::new(alloc),
         cas: Vec::new(alloc),
     };
-    for i in 0..certs.len() {
-        match sort_one(&certs[i], crls, &index, &mut taken, &mut sorted, asked) {
-            Ok(()) => {}
-            Err(fault) => {
-                return Err(fault);
-            }
+    match sort_each(certs, crls, &index, &mut taken, &mut sorted, asked) {
+        Ok(()) => Ok(sorted),
+        Err(fault) => {
+            drop(sorted);
+            Err(fault)
         }
     }
-    Ok(sorted)
 }

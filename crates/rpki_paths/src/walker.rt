@@ -1,13 +1,13 @@
 //! The walk from an end-entity certificate up the carried CAs.
 
 ghost use Rattle.std.specs.Prelude.{map, ◌≡◌, ◌≢◌, ℕ, ◌+◌, ◌<◌, ◌≤◌, length, IfOk, IfErr, OnOk};
-ghost use Rattle.std.specs.Prelude.{Some, ◌∷◌};
+ghost use Rattle.std.specs.Prelude.{Ok, None, Some, ◌∷◌, IfSome, MatchOption};
 ghost use Rattle.std.specs.Prelude.{IsFalse, slice_index};
 ghost use Rattle.rpki_paths.specs.declared.walker.Found.{Found};
 ghost use Rattle.rpki_paths.specs.declared.walker.PathFault.{PathFault};
 ghost use Rattle.rpki_paths.specs.Index.{IsIndex, IsNamedBy};
-ghost use Rattle.rpki_paths.specs.Path.{IsDistinct};
-ghost use Rattle.rpki_paths.specs.Walk.{FoundSays, IsRefused, IsWalked};
+ghost use Rattle.rpki_paths.specs.Path.{HasNoIssuer, IsDistinct};
+ghost use Rattle.rpki_paths.specs.Walk.{FoundSays, EndsWith, GoesOn, IsRefused, IsWalked};
 ghost use Rattle.rpki_paths.specs.Cert.{IsIn, at_place};
 ghost use Rattle.rpki_paths.specs.Walk.{KeepsVisited, placed};
 ghost use Rattle.rpki_paths.specs.Texts.{path_text};
@@ -142,6 +142,50 @@ fn find_issuer<C: SignedCertificate<L>, L: Ledger>(
     }
 }
 
+// The place of the CA that comes next above a head, or none where the head is the top. An error is
+// the first cause for which no CA does.
+fn issuer_of<C: SignedCertificate<L>, L: Ledger>(
+    head: &C,
+    cas: &[C],
+    index: &KeyIdIndex,
+    visited: &[u64],
+    turn: u64,
+    sets: &PathResources,
+    asked: &mut VerdictCount<L>,
+) -> Result<Option<usize>, PathFault>
+    requires index { IsIndex (map (λ c. (C.cert c).ski) cas.now) index.now }
+    requires as_many { length visited.now ≡ length cas.now }
+    ensures next { IfOk result (λ next. MatchOption next
+        (HasNoIssuer (placed C.cert 1 cas.now) (C.cert head.now))
+        (GoesOn (placed C.cert 1 cas.now) (C.cert head.now) sets.now visited.now turn)) }
+    ensures refused { IfErr result (λ fault.
+        EndsWith fault (placed C.cert 1 cas.now) (C.cert head.now) sets.now visited.now turn) }
+    ensures in_range { IfOk result (λ next. IfSome next (λ i. i < length cas.now)) }
+    ensures cost { OnOk result (IsDistinct (placed C.cert 1 cas.now) → asked.new ≤ asked.old + 1) }
+    ensures none_asked { result ≡ Ok None → asked.new ≡ asked.old }
+{
+    if head.is_self_signed() {
+        return Ok(None);
+    }
+    match find_issuer(head, cas, index.named(head.authority()), asked) {
+        Found::NoIssuer => Ok(None),
+        Found::Invalid => Err(PathFault::NoValidIssuer),
+        Found::Issuer(i) => {
+            let ca = &cas[i];
+            if visited[i] == turn {
+                return Err(PathFault::Returns);
+            }
+            if ca.revokes(head) {
+                return Err(PathFault::Revoked);
+            }
+            match sets.uncovered(head.overclaim(), ca) {
+                Some(family) => Err(PathFault::NotCovered(family)),
+                None => Ok(Some(i)),
+            }
+        }
+    }
+}
+
 /// Walks from an end-entity certificate up to the top: to a head that is self-signed, or that names
 /// no carried CA. Each issuer is the first of those named whose key verifies what is below. The
 /// index has the CAs' subject key identifiers. For each CA `visited` has the number of the walk
@@ -175,37 +219,23 @@ pub fn walk<C: SignedCertificate<L>, L: Ledger>(
     let mut place: usize = 0;
     let mut sets = PathResources::none().with_issuer(alloc, ee.overclaim(), ee)?;
     for step in 0..visited.len() + 1 {
-        if head.is_self_signed() {
-            return Ok(Path::up_to(head, place, sets));
-        }
-        match find_issuer(&head, cas, index.named(head.authority()), asked) {
-            Found::NoIssuer => {
+        match issuer_of(&head, cas, index, visited, turn, &sets, asked) {
+            Ok(None) => {
                 return Ok(Path::up_to(head, place, sets));
             }
-            Found::Invalid => {
-                return Err(PathFault::NoValidIssuer);
-            }
-            Found::Issuer(i) => {
+            Ok(Some(i)) => {
                 let ca = &cas[i];
-                if visited[i] == turn {
-                    return Err(PathFault::Returns);
-                }
-                if ca.revokes(&head) {
-                    return Err(PathFault::Revoked);
-                }
-                match sets.uncovered(head.overclaim(), ca) {
-                    Some(family) => {
-                        return Err(PathFault::NotCovered(family));
-                    }
-                    None => {
-                        sets = sets.with_issuer(alloc, head.overclaim(), ca)?;
-                        visited[i] = turn;
-                        head = *ca;
-                        place = i + 1;
-                    }
-                }
+                sets = sets.with_issuer(alloc, head.overclaim(), ca)?;
+                visited[i] = turn;
+                head = *ca;
+                place = i + 1;
+            }
+            Err(fault) => {
+                drop(sets);
+                return Err(fault);
             }
         }
     }
+    drop(sets);
     Err(PathFault::Returns)
 }

@@ -84,7 +84,7 @@ fn plain(alloc: Global, family: Family, row: Row) -> Result<Plain, AllocError> {
     })
 }
 
-fn plains(alloc: Global, family: Family, rows: &[Row]) -> Result<Vec<Plain>, AllocError> {
+pub fn plains(alloc: Global, family: Family, rows: &[Row]) -> Result<Vec<Plain>, AllocError> {
     let mut plains = Vec::new(alloc);
     for row in rows {
         plains.push(plain(alloc, family, *row)?)?;
@@ -112,7 +112,12 @@ fn ranges_in<'a>(ranges: &'a [(u32, u32)], of: Family, family: Family) -> &'a [(
     if of == family { ranges } else { &[] }
 }
 
-fn above(alloc: Global, family: Family, key: u8, set: &[(u32, u32)]) -> Result<Above, AllocError> {
+pub fn above(
+    alloc: Global,
+    family: Family,
+    key: u8,
+    set: &[(u32, u32)],
+) -> Result<Above, AllocError> {
     Ok(Above {
         subject: id_of(key),
         key: [key],

@@ -4,7 +4,6 @@ use Rattle.std.proofs.Common.{refl, sym, ap, ◌∙◌, subst, arith}
 use Rattle.std.proofs.Math.Nat.{mul-suc}
 use Rattle.std.proofs.lemmas.Option.{slice_get_read}
 use Rattle.std.proofs.lemmas.List.{take_more, take_all, length-replicate}
-use Rattle.rpki_paths.specs.Index.{IsIndex}
 use Rattle.rpki_paths.specs.Taking.{IsTakenAt, FitsNone, left_of}
 use Rattle.rpki_paths.specs.Pairing.{IsPair}
 use Rattle.rpki_paths.proofs.Walking.{get-in}
@@ -22,11 +21,6 @@ loop-i-init g c =
           c.new-places.ensures.items,
       λ each. omega arith,
     )
-
-pub take_first-requires-clause-index : goal.take_first-requires-clause-index
-take_first-requires-clause-index g c =
-    subst (λ ids. IsIndex ids c.in_ok-index.index)
-    (c.deref.ensures.value ∙ c.in_ok-ids.ensures) c.in_ok-index.ensures
 
 pub returns-in-None-clause-refused : goal.returns-in-None-clause-refused
 returns-in-None-clause-refused g c =

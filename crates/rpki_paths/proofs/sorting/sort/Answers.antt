@@ -1,107 +1,36 @@
--- One certificate more is sorted; where it stops, it is not good, or lacks a revocation list.
-use Rattle.std.proofs.Common.{◌≡◌, ◌+◌, ◌++◌, ◌∷◌, [], length, map, take}
-use Rattle.std.proofs.Common.{refl, sym, ap, ◌∙◌, subst, arith}
-use Rattle.std.proofs.lemmas.Option.{slice_get_read}
-use Rattle.std.proofs.lemmas.List.{take_more, take_all, length-replicate, length-map}
+-- At the start nothing is sorted.
+use Rattle.std.proofs.Common.{◌≡◌, length, map, ap, ◌∙◌}
+use Rattle.std.proofs.lemmas.List.{length-replicate}
 use Rattle.rpki_paths.specs.Heads.{IsFrom}
-use Rattle.rpki_paths.specs.Index.{IsIndex}
 use Rattle.rpki_paths.specs.Taking.{left_of}
 use Rattle.rpki_paths.proofs.Heads.{all-none}
-use Rattle.rpki_paths.proofs.PairingOff.{written-back, split-at, left-all}
-use Rattle.rpki_paths.proofs.Walking.{get-in}
-use Rattle.rpki_paths.proofs.Mapping.{in-image}
-use Rattle.rpki_paths.specs.Sorting.{AreSorted, WhyNotOne, cas_of}
-use Rattle.rpki_paths.proofs.Sorts.{sorted-start, refused-at, in-filter, many-more}
+use Rattle.rpki_paths.proofs.PairingOff.{left-all}
+use Rattle.rpki_paths.proofs.Sorts.{sorted-start}
 use Rattle.rpki_paths.proofs.sorting.sort.Goals as goal
 
-pub loop-i-init : goal.loop-i-init
-loop-i-init g c =
+pub sort_each-requires-clause-as_many : goal.sort_each-requires-clause-as_many
+sort_each-requires-clause-as_many g c =
+    ap length (c.deref_mut.ensures.value
+    ∙ c.in_ok-taken.ensures.items_if_clones_equal (λ y e. e))
+    ∙ length-replicate (length c.args.crls.now) _
+
+pub sort_each-requires-clause-start : goal.sort_each-requires-clause-start
+sort_each-requires-clause-start g c =
     let crl = g.C.CarriedCert.crl in
     let crls = c.args.crls.now in
-    let none = c.in_ok-taken.ensures.items_if_clones_equal (λ y e. e) in
-    let all : left_of c.in_ok-taken.taken.items crls ≡ crls =
-    ap (λ m. left_of m crls) none ∙ left-all crls in (
-      ap length none ∙ length-replicate (length crls) _,
-      sorted-start g.X.Candidate.is_good g.X.Candidate.seen g.X.Candidate.of_ca
-          g.C.Certificate.cert (map crl crls) (map crl (left_of c.in_ok-taken.taken.items crls))
-          _ _ c.new.ensures.items c.new-2.ensures.items (ap (map crl) all),
-      λ each. omega arith,
-      all-none (λ h. IsFrom g.X.Candidate.admits g.C.CarriedCert.same c.args.certs.now h) _
-          c.new.ensures.items,
-      all-none (λ h. IsFrom g.X.Candidate.admits g.C.CarriedCert.same c.args.certs.now h) _
-          c.new-2.ensures.items,
-    )
+    let all : left_of c.deref_mut.result.now crls ≡ crls =
+    ap (λ m. left_of m crls) (c.deref_mut.ensures.value
+    ∙ c.in_ok-taken.ensures.items_if_clones_equal (λ y e. e)) ∙ left-all crls in
+    sorted-start g.X.Candidate.is_good g.X.Candidate.seen g.X.Candidate.of_ca
+    g.C.Certificate.cert (map crl crls) (map crl (left_of c.deref_mut.result.now crls))
+    _ _ c.new.ensures.items c.new-2.ensures.items (ap (map crl) all)
 
-pub sort_one-requires-clause-index : goal.sort_one-requires-clause-index
-sort_one-requires-clause-index g c =
-    subst (λ ids. IsIndex ids c.in_ok-index.index)
-    (c.deref.ensures.value ∙ c.in_ok-ids.ensures) c.in_ok-index.ensures
+pub sort_each-requires-clause-from_ees : goal.sort_each-requires-clause-from_ees
+sort_each-requires-clause-from_ees g c =
+    all-none (λ h. IsFrom g.X.Candidate.admits g.C.CarriedCert.same c.args.certs.now h) _
+    c.new.ensures.items
 
-pub loop-i-preserved : goal.loop-i-preserved
-loop-i-preserved g c =
-    let crl = g.C.CarriedCert.crl in
-    let certs = c.args.certs.now in
-    let crls = c.args.crls.now in
-    let i = c.loop-i.i in
-    let x = c.index-certs-i.result in
-    let old = c.loop-i.taken.items in
-    let new = c.sort_one.new.taken in
-    let as_many : length new ≡ length old =
-    c.in-Ok.ensures.as_many ∙ ap length c.deref_mut.ensures.value in
-    let back = written-back c.loop-i.taken.len new old as_many
-    (omega (arith, as_many, c.loop-i.taken.ok.0)) in
-    let one_more = take_more certs i x c.loop-i-test.true
-    ∙ ap (λ z. take i certs ++ z ∷ []) (sym c.index-certs-i.is) in
-    let before = subst (λ m. AreSorted g.X.Candidate.is_good g.X.Candidate.seen
-    g.X.Candidate.of_ca g.C.Certificate.cert (take i certs) (map crl crls)
-    c.loop-i.sorted.ees.items c.loop-i.sorted.cas.items (map crl (left_of m crls)))
-    (sym c.deref_mut.ensures.value) c.loop-i.invariant.1 in
-    let inside = get-in certs i x
-    (slice_get_read certs (length certs) i x refl c.loop-i-test.true c.index-certs-i.is) in
-    let after = c.in-Ok.ensures.sorted (take i certs) (map crl crls) before in (
-      ap length back ∙ as_many ∙ c.loop-i.invariant.0,
-      subst (λ m. AreSorted g.X.Candidate.is_good g.X.Candidate.seen g.X.Candidate.of_ca
-          g.C.Certificate.cert (take (i + 1) certs) (map crl crls) c.sort_one.new.sorted.ees.items
-          c.sort_one.new.sorted.cas.items (map crl (left_of m crls))) (sym back)
-          (subst (λ l. AreSorted g.X.Candidate.is_good g.X.Candidate.seen g.X.Candidate.of_ca
-          g.C.Certificate.cert l (map crl crls) c.sort_one.new.sorted.ees.items
-          c.sort_one.new.sorted.cas.items (map crl (left_of new crls))) (sym one_more) after),
-      λ each.
-          (let of_ca = g.X.Candidate.of_ca in
-          let one = c.in-Ok.ensures.cost (λ e. each (g.X.Candidate.seen x)
-          (in-image g.X.Candidate.seen (cas_of of_ca certs) x
-          (in-filter of_ca certs x inside e))) in
-          let more = ap (λ l. length (cas_of of_ca l)) one_more
-          ∙ many-more of_ca (take i certs) x in
-          omega (arith, c.loop-i.invariant.2 each, one, more)),
-      c.in-Ok.ensures.from_ees certs inside c.loop-i.invariant.3,
-      c.in-Ok.ensures.from_cas certs inside c.loop-i.invariant.4,
-    )
-
-pub returns-in-Err-clause-refused : goal.returns-in-Err-clause-refused
-returns-in-Err-clause-refused g c =
-    let crl = g.C.CarriedCert.crl in
-    let certs = c.args.certs.now in
-    let crls = c.args.crls.now in
-    let i = c.loop-i.i in
-    let x = c.index-certs-i.result in
-    let at_i = slice_get_read certs (length certs) i x refl c.loop-i-test.true
-    c.index-certs-i.is in
-    let parts = split-at certs i x at_i in
-    let why = subst (λ m. WhyNotOne g.X.Candidate.is_good g.X.Candidate.because
-    g.X.Candidate.seen g.X.Candidate.of_ca x (map crl (left_of m crls)) c.in-Err.fault)
-    c.deref_mut.ensures.value c.in-Err.ensures.refused in
-    refused-at g.X.Candidate.is_good g.X.Candidate.seen g.X.Candidate.of_ca
-    g.C.Certificate.cert g.X.Candidate.because certs (take i certs) parts.0 x (map crl crls)
-    c.loop-i.sorted.ees.items c.loop-i.sorted.cas.items
-    (map crl (left_of c.loop-i.taken.items crls)) c.in-Err.fault c.loop-i.invariant.1
-    (sym parts.1) why
-
-pub returns-clause-cost : goal.returns-clause-cost
-returns-clause-cost g c = λ each.
-    (let of_ca = g.X.Candidate.of_ca in
-    let certs = c.args.certs.now in
-    let all = take_all c.loop-i.i certs (omega (arith, c.loop-i-test.false)) in
-    let many = ap (λ l. length (cas_of of_ca l)) all
-    ∙ sym (length-map (cas_of of_ca certs) g.X.Candidate.seen) in
-    omega (arith, c.loop-i.invariant.2 each, many))
+pub sort_each-requires-clause-from_cas : goal.sort_each-requires-clause-from_cas
+sort_each-requires-clause-from_cas g c =
+    all-none (λ h. IsFrom g.X.Candidate.admits g.C.CarriedCert.same c.args.certs.now h) _
+    c.new-2.ensures.items

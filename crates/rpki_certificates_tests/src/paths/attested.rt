@@ -1,4 +1,4 @@
-//! What whole attestations carry beside certificates, and items that are paired, with plain fields.
+//! What whole attestations carry beside certificates, with plain fields.
 
 ghost use Rattle.std.specs.Prelude.{◌≡◌};
 
@@ -196,42 +196,4 @@ impl<'a> CarriedSigner<Seen<'a>> for Signer {
     ghost verdict_is_own = { λ s c. refl };
 
     ghost one_verdict = { refl };
-}
-
-/// An item that is paired: by an identifier, and by the key that verifies it. It seeks one that has
-/// the identifier and is that key's.
-#[derive(Clone, Copy, Drop)]
-pub struct Item {
-    pub id: KeyId,
-    pub key: u8,
-}
-
-impl Seeks<Item> for Item {
-    ghost use Rattle.std.proofs.Common.{rules};
-    ghost use Rattle.std.specs.Prelude.{◌==◌};
-
-    ghost sought = { λ s. s.id };
-
-    ghost held = { λ s. s.id };
-
-    ghost verdict = { λ s t. s.key == t.key };
-
-    ghost price = { 1 };
-
-    fn seeks(&self) -> KeyId {
-        self.id
-    }
-
-    fn identifier(other: &Item) -> KeyId {
-        other.id
-    }
-
-    ghost free_is_yes = { Prim.search rules };
-}
-
-impl<L: Ledger> Accepts<Item, L> for Item {
-    fn accepts(&self, other: &Item, asked: &mut VerdictCount<L>) -> bool {
-        asked.count();
-        self.key == other.key
-    }
 }
