@@ -13,7 +13,7 @@ use rpki_certs::{Cert, ResourceCert};
 use rpki_crls::Crl;
 use rpki_der::{DecodeError, Oid};
 use rpki_examples::issuers::{key_of_issuer, roa_under_chain};
-use rpki_examples::objects::{content_in, copy_of, number_of, signed_in, signer_under};
+use rpki_examples::objects::{content_in, copy_of, number_of, signer_under};
 use rpki_examples::received::{is_attested, is_in_manifest, roa_under};
 use rpki_faults::ValidationError;
 use rpki_resources::AddressFamily;
@@ -191,19 +191,6 @@ fn copied(alloc: Global, strict: bool) -> Result<String, Fail> {
     })
 }
 
-/// Whether what the signer of the ROA signed, which is read so, is written as it stands there, or why
-/// it is not written.
-fn signed(alloc: Global, strict: bool) -> Result<String, Fail> {
-    let object = SignedObject::decode(alloc, Bytes::from_static(&ORIGIN), strict)?;
-    Ok(match signed_in(alloc, &object) {
-        Ok(octets) => {
-            let is_same = octets.as_slice() == &SIGNED[..];
-            format!(in alloc; "{is_same}")?
-        }
-        Err(error) => format!(in alloc; "{error}")?,
-    })
-}
-
 /// The addresses of the signer of an object, or why it has none.
 fn signer(alloc: Global, octets: &'static [u8]) -> Result<String, Fail> {
     let now = time(2027)?;
@@ -263,8 +250,6 @@ ROWS = (
     ("number", "&ORIGIN", "malformed"),
     ("copied", "true", "true"),
     ("copied", "false", "not in DER"),
-    ("signed", "true", "true"),
-    ("signed", "false", "not in DER"),
     ("signer", "&ORIGIN", "192.0.2.0/24"),
     ("signer", "&BROKEN", "signature is not valid"),
     ("signer", "&OVERCLAIMING", "overclaimed IPv4 resources"),
@@ -311,18 +296,11 @@ def content_of(octets):
     return next(parts(list(parts(data_of(octets)[2][1]))[1][1]))[1]
 
 
-def attributes_of(octets):
-    """The octets of the signed attributes of a signed object, with their header."""
-    signer = next(parts(data_of(octets)[-1][1]))[1]
-    return list(parts(signer))[3][0]
-
-
 def main():
     print(HEAD)
     made = {name: (TREE / path).read_bytes() for name, path in FILES.items()}
     content = content_of(made["ORIGIN"])
     made["CONTENT"] = content
-    made["SIGNED"] = attributes_of(made["ORIGIN"])
     made["NUMBERED"] = made["ORIGIN"].replace(content, b"\x02\x01\x05" + content[3:])
     made["THESE"] = revoking(made["NONE"], (1, 5, 6, 7))
     made["OTHERS"] = revoking(made["NONE"], (2, 3))

@@ -1,7 +1,6 @@
 pub mod Authority
 pub mod Checks
 pub mod Claimed
-pub mod Families
 pub mod Inspected
 pub mod Issuers
 pub mod Locators

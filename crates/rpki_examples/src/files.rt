@@ -12,7 +12,7 @@ ghost use Rattle.rpki_files.specs.Manifest.{Manifest, ManifestForm};
 use bytes::Bytes;
 use rpki::crypto::Crypto;
 use rpki::der::DecodeError;
-use rpki::manifest::{ManifestContent, ManifestRule};
+use rpki::manifest::{ManifestContent, ManifestHash, ManifestRule};
 use rpki::rsc::ResourceSignedChecklist;
 use rpki::x509::Time;
 use std::alloc::Global;
@@ -88,4 +88,14 @@ pub fn attests<C: Crypto>(checklist: &ResourceSignedChecklist, crypto: &C, docum
 {
     let digest = crypto.digest(document);
     has_hash(checklist, digest.as_slice())
+}
+
+/// Whether these octets have the hash that a manifest lists of a file.
+pub fn is_listed_file<C: Crypto>(hash: &ManifestHash, crypto: &C, octets: &[u8]) -> bool
+    ensures { IsTrue result ↔ (C.digest_of crypto.now octets.now ≡ hash.now) }
+{
+    match hash.verify(crypto, octets) {
+        Ok(()) => true,
+        Err(_) => false,
+    }
 }

@@ -1,11 +1,13 @@
 //! Attestations and paths, as those who decide what is granted use them.
 
-ghost use Rattle.std.specs.Prelude.{◌≡◌, ◌↔◌, false, IsFalse, IsTrue, IfOk, OnOk, List, map};
+ghost use Rattle.std.specs.Prelude.{◌≡◌, ◌↔◌, ◌≤◌, ◌+◌, false, IsFalse, IsTrue, IfOk, OnOk, List};
+ghost use Rattle.std.specs.Prelude.{map};
 ghost use Rattle.std.specs.Prelude.{All, MatchResult};
 ghost use Rattle.rpki_paths.specs.declared.decision.FinalFault.{FinalFault};
 ghost use Rattle.rpki_paths.specs.declared.supply.SupplyFault.{SupplyFault};
 ghost use Rattle.rpki_paths.specs.declared.walks.WalksFault.{WalksFault};
 ghost use Rattle.rpki_paths.specs.Accepting.{AreAccepted, WantsMemory, carried_of};
+ghost use Rattle.rpki_paths.specs.Accepting.{most_verdicts};
 ghost use Rattle.rpki_paths.specs.After.{AreAfter, IsGrantedBySome};
 ghost use Rattle.rpki_paths.specs.Cert.{Cert};
 ghost use Rattle.rpki_paths.specs.Final.{attested_sets};
@@ -122,6 +124,37 @@ where
                 return Err(AllocError);
             }
             Ok(false)
+        }
+    }
+}
+
+/// Whether an attestation is accepted. A yes costs few verdicts, whoever made it: of s signers, l
+/// revocation lists and a CAs with distinct identifiers, at most s + l + s * a.
+pub fn is_accepted<X, S, C, R, L: Ledger>(
+    alloc: Global,
+    a: &Attestation<X, S, R>,
+    asked: &mut VerdictCount<L>,
+) -> Result<bool, AllocError>
+where
+    X: Candidate<C>,
+    X::Fault: Copy,
+    S: CarriedSigner<C> + Accepts<C, L>,
+    C: CarriedCert<R> + Accepts<R, L> + SignedCertificate<L>,
+    ensures { IfOk result (λ yes. IsTrue yes →
+        HasDistinctIds (carried_of X.seen X.of_ca S.signer C.crl a.now) → asked.new ≤
+        asked.old + most_verdicts (carried_of X.seen X.of_ca S.signer C.crl a.now)) }
+{
+    match accept(alloc, a, asked) {
+        Ok(paths) => {
+            drop(paths);
+            Ok(true)
+        }
+        Err(fault) => {
+            if of_acceptance(&fault) {
+                Err(AllocError)
+            } else {
+                Ok(false)
+            }
         }
     }
 }

@@ -1,13 +1,13 @@
 //! Proved callers of the libraries, which their pages `CALLING.md` quote.
 #![tactic(auto)]
 
+pub mod attested;
 pub mod attributes;
 pub mod authority;
 pub mod certs;
 pub mod checks;
 pub mod claimed;
 pub mod extensions;
-pub mod families;
 pub mod files;
 pub mod granted;
 pub mod inspected;
@@ -27,4 +27,6 @@ pub mod routes;
 pub mod sets;
 pub mod signatures;
 pub mod signers;
+pub mod signing;
+pub mod streams;
 pub mod values;

@@ -1,13 +1,11 @@
 //! Signed objects, as those who have a kind of content of their own use them.
 
-ghost use Rattle.std.specs.Prelude.{◌≡◌, ℕ, List, Err, IfOk, IsErr, MatchResult};
+ghost use Rattle.std.specs.Prelude.{◌≡◌, ℕ, List, Err, IfOk, MatchResult};
 ghost use Rattle.rpki_der.specs.declared.encode.EncodeError.TheVariants.{NotDer, Memory};
 ghost use Rattle.rpki_der.specs.declared.mode.Mode.TheVariants.{Der, Ber};
 ghost use Rattle.rpki_der.specs.Grammar.{Front, HasNoFront};
 ghost use Rattle.rpki_der.specs.Read.Parse.{u32_at};
 ghost use Rattle.rpki_der.specs.Read.Reads.{Found, Refuses};
-ghost use Rattle.rpki_attributes.specs.declared.attribute.OtherTypes.TheVariants.{Skip};
-ghost use Rattle.rpki_attributes.specs.Attrs.{SignedAttrsForm};
 ghost use Rattle.rpki_certs.specs.Inspect.{ee_checks};
 ghost use Rattle.rpki_certs.specs.Validate.{AreHeld, IsGoodUnder};
 ghost use Rattle.rpki_faults.specs.Checks.{AllHold};
@@ -19,7 +17,7 @@ use bytes::Bytes;
 use rpki::cert::ResourceCert;
 use rpki::cert::laws::numbers_are_held;
 use rpki::crypto::Crypto;
-use rpki::der::{DecodeError, Encode, EncodeError, Oid};
+use rpki::der::{DecodeError, EncodeError, Oid};
 use rpki::error::ValidationError;
 use rpki::sigobj::SignedObject;
 use rpki::sigobj::laws::valid_objects;
@@ -76,15 +74,4 @@ pub fn copy_of(object: &SignedObject) -> Result<Bytes, EncodeError>
     ensures ber { object.now.mode ≡ Ber → result ≡ Err NotDer }
 {
     object.to_captured()
-}
-
-/// The octets of the attributes that the signer of an object signed, under [0]. Of an object that
-/// was read in DER only memory may be wanting; of one that was read in BER there are none.
-pub fn signed_in(alloc: Global, object: &SignedObject) -> Result<Vec<u8>, EncodeError>
-    ensures der { object.now.mode ≡ Der → MatchResult result
-        (λ octets. SignedAttrsForm Skip Der octets.items
-        object.now.object.signed.signer.attributes) (λ e. e ≡ Memory) }
-    ensures ber { object.now.mode ≡ Ber → IsErr result }
-{
-    object.attributes().encode_ref().to_bytes(alloc)
 }

@@ -6,6 +6,7 @@ ghost use Rattle.std.specs.List.{Any};
 ghost use Rattle.rpki_der.specs.declared.mode.Mode.TheVariants.{Der};
 ghost use Rattle.rpki_crls.specs.Crl.{RevocationList};
 ghost use Rattle.rpki_certs.specs.Cert.{KeptCertificate};
+ghost use Rattle.rpki_certs.specs.Validate.{IsGoodUnder};
 ghost use Rattle.rpki_files.specs.Checklist.{ChecklistForm};
 ghost use Rattle.rpki_files.specs.Manifest.{ManifestForm};
 ghost use Rattle.rpki_files.specs.Checklist.Checks.{checklist_kind};
@@ -55,6 +56,27 @@ fn roa_asking<C: Crypto, F: FnOnce(&Cert) -> Result<(), ValidationError>>(
         issuer.now now (SaysOf list) octets result }
 {
     check::roa(alloc, octets, true, issuer, crypto, now, ask)
+}
+
+/// What the ROA at the front of octets in DER says, and its certificate, where it is good under an
+/// issuer and `ask` says yes. `ask` may rely on it that the certificate is valid under the issuer
+/// at this moment: it is asked about no other.
+pub fn roa_relying<C: Crypto, F: FnOnce(&Cert) -> Result<(), ValidationError>>(
+    alloc: Global,
+    octets: Bytes,
+    issuer: &ResourceCert,
+    crypto: &C,
+    now: Time,
+    ask: F,
+) -> Result<(ResourceCert, RouteOriginAttestation), CheckError>
+    requires { (k : KeptCertificate)
+        → IsGoodUnder (C.is_signed crypto.now) k.certificate issuer.now now
+        → FnOnceTakesAt F.FnOnce ask k }
+    ensures { IsExact roa_kind RoaForm Der (C.digest_of crypto.now) (C.is_signed crypto.now)
+        issuer.now now (FnOnceReturnsAt F.FnOnce ask) octets result }
+{
+    let strict = true;
+    check::roa(alloc, octets, strict, issuer, crypto, now, ask)
 }
 
 // Whether the octets begin with a good manifest in DER with registered names, as `roa_asking` says

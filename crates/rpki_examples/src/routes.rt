@@ -3,6 +3,7 @@
 ghost use Rattle.std.specs.Prelude.{◌≡◌, ◌↔◌, IsTrue, IfOk, Contains};
 ghost use Rattle.std.specs.List.{Any};
 ghost use Rattle.rpki_der.specs.Form.Decodes.{Decodes};
+ghost use Rattle.rpki_routes.specs.Roa.{addresses};
 ghost use Rattle.rpki_routes.specs.Roa.Form.{RoaForm};
 ghost use Rattle.rpki_examples.specs.Routes.{AreWithin, IsMatched};
 
@@ -74,6 +75,26 @@ pub fn is_provider(content: &AsProviderAttestation, customer: Asn, provider: Asn
     let mut left = content.provider_as_set().iter();
     while let Some(next) = left.next() {
         if next == provider {
+            return true;
+        }
+    }
+    false
+}
+
+// Whether two prefixes are the same.
+fn is_same(a: Prefix, b: Prefix) -> bool
+    ensures { IsTrue result ↔ ((a.addr ≡ b.addr) × (a.len ≡ b.len)) }
+{
+    a.addr() == b.addr() && a.addr_len() == b.addr_len()
+}
+
+/// Whether a ROA has an address with this prefix, of IPv4 or of IPv6.
+pub fn names_prefix(roa: &RouteOriginAttestation, prefix: Prefix) -> bool
+    ensures { IsTrue result ↔ Any (λ address. address.address.prefix ≡ prefix) (addresses roa.now) }
+{
+    let mut left = roa.iter();
+    while let Some(address) = left.next() {
+        if is_same(address.prefix(), prefix) {
             return true;
         }
     }
