@@ -14,8 +14,8 @@ pub mod issued {
 /// What the definitions of certificates say.
 pub mod laws {
     pub use rpki_certs::laws::{
-        certificates, numbers_are_held, refused_anchors, refused_certificates, valid_anchors,
-        valid_certificates,
+        certificates, numbers_are_held, octets_after_a_certificate_are_left, refused_anchors,
+        refused_certificates, valid_anchors, valid_certificates, written_certificates_are_read,
     };
     pub use rpki_issued::laws::{
         certificates_are_written, claims_of_a_family, extensions_are_written,

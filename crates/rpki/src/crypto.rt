@@ -13,6 +13,7 @@ pub mod faults {
 /// What the definitions of algorithms, of keys and of the stand-in say.
 pub mod laws {
     pub use rpki_basics::laws::{
-        algorithms, algorithms_are_written, keys, keys_are_written, stand_in_verdicts,
+        algorithms, algorithms_are_written, keys, keys_are_written, octets_after_a_key_are_left,
+        stand_in_verdicts,
     };
 }

@@ -18,7 +18,7 @@ pub mod faults {
 pub mod laws {
     pub use rpki_attributes::laws::{
         attributes_are_made, attributes_are_written, attributes_without_others, messages,
-        signed_attributes,
+        octets_after_signed_attributes_are_left, signed_attributes,
     };
     pub use rpki_signing::laws::{built_objects_are_valid, objects_are_written};
     pub use rpki_sigobj::laws::{

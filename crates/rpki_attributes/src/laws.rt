@@ -3,6 +3,7 @@
 ghost use Rattle.std.specs.Prelude.{◌≡◌, ◌++◌, ◌≤◌, ℕ, List, length, Some};
 ghost use Rattle.rpki_der.specs.declared.mode.Mode.{Mode};
 ghost use Rattle.rpki_der.specs.declared.mode.Mode.TheVariants.{Der};
+ghost use Rattle.rpki_der.specs.Form.After.{LeavesOctetsAfter};
 ghost use Rattle.rpki_der.specs.Grammar.{Value, IsBytes};
 ghost use Rattle.rpki_der.specs.Oid.{IsOid};
 ghost use Rattle.rpki_der.specs.Read.Exact.{IsReading};
@@ -19,6 +20,13 @@ ghost use Rattle.rpki_attributes.specs.Attrs.Made.{message_of};
 /// other types are refused or skipped (RFC 5652, section 5.3; RFC 6488, section 2.1.6.4).
 pub fn signed_attributes()
     ensures { (others : OtherTypes) → IsReading (attrs_at others) (SignedAttrsForm others) }
+{}
+
+/// Octets after signed attributes change nothing: they are left. Nor do octets after one whole
+/// value make it signed attributes that it is not.
+pub fn octets_after_signed_attributes_are_left()
+    ensures { (others : OtherTypes) (mode : Mode)
+        → LeavesOctetsAfter mode (SignedAttrsForm others mode) }
 {}
 
 /// What `take_from` reads, `take_from_signed_message` reads alike.

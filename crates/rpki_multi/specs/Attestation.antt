@@ -11,7 +11,7 @@ pub record Whole : Type 0 where
   pub signed : MultiSigned
   pub content : Attestation
 
--- the same, with the modes that its parts were read in
+-- an attestation, with the modes that its parts were read in
 pub record KeptWhole : Type 0 where
   pub signed : KeptMulti
   pub content : Attestation

@@ -38,15 +38,15 @@ IsNotBegun a TooLong = ¬ (length (attestation_contents a) < 2 ^ 32)
 IsNotBegun a Io = ⊥
 IsNotBegun a Memory = Unit {0}
 
--- the same with these certificates
+-- an attestation with these certificates in place of its own
 abbrev pub with_certs : KeptWhole → List KeptCertificate → KeptWhole
 with_certs k certs = record k { signed = record k.signed { certs = certs } }
 
--- the same with these revocation lists
+-- an attestation with these revocation lists in place of its own
 abbrev pub with_crls : KeptWhole → List KeptCrl → KeptWhole
 with_crls k crls = record k { signed = record k.signed { crls = crls } }
 
--- the same with these signers
+-- an attestation with these signers in place of its own
 abbrev pub with_signers : KeptWhole → List KeptSigner → KeptWhole
 with_signers k signers = record k { signed = record k.signed { signers = signers } }
 

@@ -20,9 +20,11 @@ use Rattle.rpki_multi.specs.contracts.builder.RtaBuilder.{the_row}
 abbrev certs_row : RattleType
 certs_row = vec.the_row cert.the_row global.the_row memory.ghosts
 
+-- vectors of revocation lists, as the logic holds them
 abbrev crls_row : RattleType
 crls_row = vec.the_row crl.the_row global.the_row memory.ghosts
 
+-- vectors of signers, as the logic holds them
 abbrev signers_row : RattleType
 signers_row = vec.the_row signer.the_row global.the_row memory.ghosts
 

@@ -94,7 +94,7 @@ content_fields_at mode bytes = do
   content ← context_at 0 (octets_at MAX_DEPTH) mode type.1
   Some (content.0, content.1)
 
--- the same, in their SEQUENCE
+-- the octets of a content of this type, in its SEQUENCE
 abbrev pub content_at : Parser (List ℕ)
 content_at = sequence_at content_fields_at
 

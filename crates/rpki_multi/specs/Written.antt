@@ -16,7 +16,7 @@ use Rattle.rpki_multi.specs.Signer.{id_rta}
 
 -- ---- what a signer says
 
--- the same, without its header (5.3)
+-- what a signer says, without its header (5.3)
 abbrev pub signer_contents : SignerInfo → List ℕ
 signer_contents s =
     number_octets cms_version ++ (value_octets (context_primitive 0) s.sid
@@ -27,7 +27,7 @@ signer_contents s =
 unfoldable pub signer_octets : SignerInfo → List ℕ
 signer_octets s = value_octets SEQUENCE (signer_contents s)
 
--- its contents have fewer than 2^32 octets
+-- the contents of what a signer says have fewer than 2^32 octets
 unfoldable pub IsShortSigner : SignerInfo → Type 0
 IsShortSigner s = length (signer_contents s) < 2 ^ 32
 
@@ -44,11 +44,11 @@ content_contents content =
     value_octets OBJECT_IDENTIFIER id_rta
     ++ value_octets (context 0) (value_octets OCTET_STRING content)
 
--- the same (5.2)
+-- a content with its type (5.2)
 unfoldable pub content_octets : List ℕ → List ℕ
 content_octets content = value_octets SEQUENCE (content_contents content)
 
--- its contents have fewer than 2^32 octets
+-- the contents of a content with its type have fewer than 2^32 octets
 unfoldable pub IsShortContent : List ℕ → Type 0
 IsShortContent content = length (content_contents content) < 2 ^ 32
 
@@ -73,7 +73,7 @@ abbrev pub crls_octets : List KeptCrl → List ℕ
 crls_octets [] = []
 crls_octets (l ∷ crls) = value_octets (context 1) (crls_contents (l ∷ crls))
 
--- its contents, where there is a list, have fewer than 2^32 octets
+-- the contents of the set of revocation lists, where there is a list, have fewer than 2^32 octets
 abbrev pub AreShortCrls : List KeptCrl → Type 0
 AreShortCrls [] = Unit {0}
 AreShortCrls (l ∷ crls) = length (crls_contents (l ∷ crls)) < 2 ^ 32
@@ -123,7 +123,7 @@ data_contents m =
 unfoldable pub data_octets : KeptMulti → List ℕ
 data_octets m = value_octets SEQUENCE (data_contents m)
 
--- its contents have fewer than 2^32 octets
+-- the contents of what is signed have fewer than 2^32 octets
 unfoldable pub IsShortData : KeptMulti → Type 0
 IsShortData m = length (data_contents m) < 2 ^ 32
 

@@ -4,7 +4,7 @@ ghost use Rattle.std.specs.Prelude.{◌≡◌, ◌⊎◌, ◌<◌, ◌^◌, IfOk
 ghost use Rattle.rpki_der.specs.declared.mode.Mode.TheVariants.{Der};
 ghost use Rattle.rpki_der.specs.declared.encode.EncodeError.TheVariants.{TooLong, Memory};
 ghost use Rattle.rpki_der.specs.Form.Decodes.{Decodes};
-ghost use Rattle.rpki_der.specs.Write.Encode.{Fits, IsBytesOf};
+ghost use Rattle.rpki_der.specs.Write.Encode.{Fits};
 ghost use Rattle.rpki_tagged.specs.Attestation.{AttestationForm};
 ghost use Rattle.rpki_multi.specs.Attestation.{RtaForm, IsKeptRta, whole_of};
 ghost use Rattle.rpki_multi.specs.Multi.{AreIn};
@@ -47,14 +47,6 @@ fn read_content(
         Err(_) => Err(DecodeError::Memory),
         Ok(octets) => ResourceTaggedAttestation::decode(alloc, octets),
     }
-}
-
-// The octets of an object in DER.
-fn bytes_of(signed: &MultiSignedObject, alloc: Global) -> Result<Vec<u8>, EncodeError>
-    ensures { IsBytesOf (AreIn Der signed.now) (length (multi_contents signed.now) < 2 ^ 32)
-        (multi_octets signed.now) result }
-{
-    signed.encode_ref().to_bytes(alloc)
 }
 
 impl Rta {
@@ -124,11 +116,12 @@ impl Rta {
     /// else only for want of memory.
     pub fn to_captured(&self, alloc: Global) -> Result<Bytes, EncodeError>
         ensures octets { IfOk result (λ octets. octets ≡ multi_octets self.now.signed) }
+        ensures written { IfOk result (λ octets. RtaForm Der octets (whole_of self.now)) }
         ensures refused { IfErr result (λ e. (e ≡ Memory) ⊎ ((e ≡ TooLong)
             × ¬ (Fits (length (multi_contents self.now.signed) < 2 ^ 32)
             (multi_octets self.now.signed)))) }
     {
-        match bytes_of(self.signed(), alloc) {
+        match self.encode_ref().to_bytes(alloc) {
             Err(e) => Err(e),
             Ok(octets) => match Bytes::from_vec(octets) {
                 Ok(octets) => Ok(octets),

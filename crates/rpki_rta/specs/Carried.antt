@@ -74,7 +74,7 @@ set_of s V6 = s.v6
 abbrev pub lists : RevocationList → ℕ → Bool
 lists l n = list_any (λ x. n == x) l.tbs.revoked
 
--- the same of a list that may be there
+-- whether a revocation list is there and lists a serial number
 abbrev pub listed_in : Option RevocationList → ℕ → Bool
 listed_in None n = false
 listed_in (Some l) n = lists l n

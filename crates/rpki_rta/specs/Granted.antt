@@ -56,7 +56,8 @@ pub record IsGrantedRta (digest : Digester) (verdict : Verdict) (now : Moment) (
   pub valid : All (λ c. IsValid c.tbs now) r.signed.certs
   pub granted : IsGranted (carried_by digest verdict r) supplies (attested_by r.content)
 
--- The same, but that a path may be anchored by any supply that is meant for it and takes it.
+-- The attestation is granted, but that each path may be anchored by any supply that is meant for it
+-- and takes it.
 pub record IsGrantedRtaBySome (digest : Digester) (verdict : Verdict) (now : Moment) (r : Whole)
     (supplies : List Supply) : Type 0 where
   pub valid : All (λ c. IsValid c.tbs now) r.signed.certs

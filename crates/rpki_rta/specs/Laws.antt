@@ -41,12 +41,12 @@ YesAfterSupplies {C} digests says =
     IsGrantedRtaBySome (digests crypto) (says crypto) now (whole_of r) supplies
 
 -- Where the validation of an attestation has begun, after any supplies, refused ones among them,
--- the attestation is still this one, it is accepted with some paths, and this is kept of each of
--- them (`AreKeptBySome`): its explicit sets, where it is not anchored, and else these with those of
--- a supply that is meant for it and took it. Where all are anchored, what is kept tells their
--- numbers (`KeepsNumbers`): so the end, which compares the attested sets with what is kept
--- (`EndsWith`), says no but for memory exactly where a set is not the union of the sets of these
--- paths.
+-- the attestation is still this one, it is accepted with some paths, and what is kept of each of
+-- them stands for its explicit sets (`AreKeptBySome`): for the numbers that all of them have, and
+-- the nearest of them; and where it is anchored, for these with those of a supply that is meant for
+-- it and took it. Where all are anchored, what is kept tells their numbers (`KeepsNumbers`): so the
+-- end, which compares the attested sets with what is kept (`EndsWith`), says no but for memory
+-- exactly where a set is not the union of the sets of these paths.
 abbrev pub EndAfterSupplies : {C : Type 0} → (C → Digester) → (C → Verdict) → Type 0
 EndAfterSupplies {C} digests says =
     (crypto : C) (now : Moment) (r : KeptWhole) (supplies : List Supply) (begun end : Begun C) →

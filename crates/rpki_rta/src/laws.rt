@@ -12,11 +12,11 @@ pub fn yes_after_supplies<C: Crypto>()
     ensures { YesAfterSupplies C.digest_of C.is_signed }
 {}
 
-/// After any supplies, refused ones among them, what is kept of each path are its explicit sets,
-/// where it is not anchored, and else these with those of a supply that is meant for it and took
-/// it. Where all paths are anchored, what `Validation::finalize` compares the attested sets with
-/// are the sets of the paths under these supplies: so it says no, but for memory, exactly where an
-/// attested set is not their union.
+/// After any supplies, refused ones among them, what is kept of each path stands for its explicit
+/// sets: for the numbers that all of them have, and the nearest of them. Where it is anchored,
+/// those of a supply that is meant for it and took it are among them. Where all paths are anchored,
+/// what `Validation::finalize` compares the attested sets with are the sets of the paths under
+/// these supplies: so it says no, but for memory, exactly where an attested set is not their union.
 pub fn end_after_supplies<C: Crypto>()
     ensures { EndAfterSupplies C.digest_of C.is_signed }
 {}

@@ -54,7 +54,7 @@ impl<'a, C> Clone for Validation<'a, C> {
         Ok(Validation {
             rta: self.rta,
             paths: self.paths.clone()?,
-            verdicts: VerdictTotal::of(&self.verdicts),
+            verdicts: self.verdicts.copied(),
         })
     }
 }
@@ -81,12 +81,12 @@ impl<'a, C: Crypto> Validation<'a, C> {
         ensures few { IfOk result (AsksFew (C.digest_of crypto.now) (C.is_signed crypto.now)
             (whole_of rta.now)) }
     {
-        let asked = &mut VerdictCount::<L>::new(blank);
-        match accepted(alloc, rta, crypto, now, asked) {
+        let mut asked = VerdictCount::<L>::new(blank);
+        match accepted(alloc, rta, crypto, now, &mut asked) {
             Ok(paths) => Ok(Validation {
                 rta,
                 paths,
-                verdicts: VerdictTotal::of(asked),
+                verdicts: VerdictTotal::after(asked),
             }),
             Err(fault) => Err(fault),
         }

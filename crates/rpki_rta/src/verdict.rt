@@ -6,8 +6,8 @@ use rpki_basics::{Crypto, PublicKey, RpkiSignature};
 use rpki_paths::VerdictCount;
 use std::sync::ledger::Ledger;
 
-/// Whether the key says yes to the signature of the message. Each verdict on what is carried is
-/// asked here, once, and one is added to the count.
+/// Whether the key says yes to the signature of the message. Each verdict that is asked to begin a
+/// validation is asked here, and one is added to the count.
 pub fn verdict<C: Crypto, L: Ledger>(
     crypto: &C,
     key: &PublicKey,

@@ -7,7 +7,7 @@ use rpki_paths::VerdictCount;
 use std::marker::Model;
 use std::sync::ledger::Ledger;
 
-/// What tells how many verdicts were asked.
+// What tells how many verdicts were asked.
 pub(crate) trait CountsVerdicts {
     // How many.
     ghost number: { Self → ℕ };
@@ -26,12 +26,28 @@ impl Model for VerdictTotal {
 }
 
 impl VerdictTotal {
-    /// As many as are counted here.
-    pub fn of<X: CountsVerdicts>(count: &X) -> VerdictTotal
+    // As many as are counted here so far.
+    fn of<X: CountsVerdicts>(count: &X) -> VerdictTotal
         ensures { result.number ≡ X.number count.now }
     {
         let _ = count;
         VerdictTotal { seal: () }
+    }
+
+    /// As many as are counted here, by a count that ends: nothing is asked on it any more.
+    pub fn after<L: Ledger>(count: VerdictCount<L>) -> VerdictTotal
+        ensures { result.number ≡ count }
+    {
+        let total = VerdictTotal::of(&count);
+        drop(count);
+        total
+    }
+
+    /// The same total.
+    pub fn copied(&self) -> VerdictTotal
+        ensures { result.number ≡ self.now.number }
+    {
+        VerdictTotal::of(self)
     }
 }
 

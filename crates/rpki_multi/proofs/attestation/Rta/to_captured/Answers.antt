@@ -1,8 +1,10 @@
 use Rattle.std.proofs.Common.{◌≡◌, ◌⊎◌, ℕ, ◌<◌, ◌^◌, List, length, Err, refl, sym, subst, inl, inr}
+use Rattle.std.proofs.Common.{ap, ◌∙◌}
 use Rattle.rpki_der.specs.declared.mode.Mode.TheVariants.{Der}
 use Rattle.rpki_der.specs.declared.encode.EncodeError.{EncodeError}
 use Rattle.rpki_der.specs.declared.encode.EncodeError.TheVariants.{NotDer, TooLong, Io, Memory}
 use Rattle.rpki_der.specs.Write.Encode.{Fits, IsBytesOf}
+use Rattle.rpki_multi.specs.Attestation.{RtaForm, whole_of}
 use Rattle.rpki_multi.specs.Multi.{KeptMulti, AreIn}
 use Rattle.rpki_multi.specs.Written.{multi_contents, multi_octets}
 use Rattle.rpki_multi.proofs.attestation.Rta.to_captured.Goals as goal
@@ -18,10 +20,21 @@ bytes-refused der short octets Memory d h = inl refl
 
 pub returns-in-Err-clause-refused : goal.returns-in-Err-clause-refused
 returns-in-Err-clause-refused c =
-    let signed : KeptMulti = c.signed.result.now in
+    let signed : KeptMulti = c.encode_ref.result in
     subst (λ (k : KeptMulti). (c.in-Err.e ≡ Memory) ⊎ ((c.in-Err.e ≡ TooLong)
-    × ¬ (Fits (length (multi_contents k) < 2 ^ 32) (multi_octets k)))) c.signed.ensures.value
+    × ¬ (Fits (length (multi_contents k) < 2 ^ 32) (multi_octets k)))) c.encode_ref.ensures.value
     (bytes-refused (AreIn Der signed) (length (multi_contents signed) < 2 ^ 32)
     (multi_octets signed) c.in-Err.e
-    (subst (λ (k : KeptMulti). AreIn Der k) (sym c.signed.ensures.value) c.signed.ensures.mode)
+    (subst (λ (k : KeptMulti). AreIn Der k) (sym c.encode_ref.ensures.value)
+    c.encode_ref.ensures.mode)
     c.in-Err.ensures)
+
+pub returns-in-Ok-from_vec-clause-written : goal.returns-in-Ok-from_vec-clause-written
+returns-in-Ok-from_vec-clause-written c =
+    let written = c.in-Ok.ensures in
+    let octets = c.in-Ok-from_vec.ensures.ok ∙ written.0
+    ∙ ap multi_octets c.encode_ref.ensures.value in
+    subst (λ (o : List ℕ). RtaForm Der o (whole_of c.args.self.now)) (sym octets)
+    (c.encode_ref.ensures.written
+    (subst (λ (k : KeptMulti). length (multi_contents k) < 2 ^ 32) c.encode_ref.ensures.value
+    written.2.0))
