@@ -1,5 +1,6 @@
 -- What a yes and a no to an attestation mean, from what is said.
-use Rattle.std.proofs.Common.{◌≡◌, ℕ, List, ◌∷◌, ◌++◌, ◌∙◌, Option, Some, Result, Ok, Err, Vec, Global}
+use Rattle.std.proofs.Common.{◌≡◌, ℕ, List, ◌∷◌, ◌++◌, ◌∙◌, Option, Some, Result, Ok, Err, Vec}
+use Rattle.std.proofs.Common.{Global}
 use Rattle.std.proofs.Common.{inl, inr, subst, ap, arith, map}
 use Rattle.sha2.specs.Sha256.{sha256}
 use Rattle.rpki_der.specs.Grammar.{HasNoFront}
@@ -127,7 +128,8 @@ module _ {C : Type 0} (causes : Causes) (says : C → Verdict) (crypto : C) (now
     not-granted r supplied fault e g = g (λ m. no-memory (e ∙ ap validation_refusal m))
 
     no-result : (supplied : List Supply) (result : Result KeptWhole CheckError)
-        → IsExactRta sha256 verdict now supplied object result → IsRtaSaid causes granted_text result s
+        → IsExactRta sha256 verdict now supplied object result
+        → IsRtaSaid causes granted_text result s
         → BeginsWithNoGranted verdict now supplied object
     no-result supplied (Ok k) b (inl e) = absurd (no-memory e)
     no-result supplied (Ok k) b (inr e) = absurd

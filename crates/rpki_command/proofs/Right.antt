@@ -88,7 +88,8 @@ whole-lines lines run h z = elim h.out [
 ]
 
 -- a refusal is no yes
-pub refusal-is-none : (causes : Causes) (fault : DecodeError) (s : Output) → IsRefusal causes fault s
+pub refusal-is-none : (causes : Causes) (fault : DecodeError) (s : Output)
+    → IsRefusal causes fault s
     → status_of s ≡ 0 → ⊥
 refusal-is-none Omitted decoding.Memory s e z = other-status s out_of_memory 0 z e three
 refusal-is-none Included decoding.Memory s e z = other-status s out_of_memory 0 z e three

@@ -121,8 +121,8 @@ IsCheckedWith causes options kind digest verdict now object anchor chain s =
     × IsSaidUnder (λ v said. CheckedUnder causes options kind digest verdict v now object said)
     issuer s
 
--- What is said where a text is to be a list of verdicts: by `P` of its lines, if it is one, and else
--- that it is none.
+-- What is said where a text is to be a list of verdicts: by `P` of its lines, if it is one, and
+-- else that it is none.
 abbrev pub IsByLines : (List (List ℕ) → Output → Type 0) → List ℕ → Output → Type 0
 IsByLines P text s =
     (((lines : List (List ℕ)) → AreVerdicts text lines → ⊥) × (s ≡ bad_verdicts))

@@ -19,8 +19,8 @@ use Rattle.rpki_command.specs.Walk.{WalkOf}
 
 -- What each command of the program with verdicts comes to with these options, where the causes of
 -- refusals of what is shown, and of files that can't be read, are told, or not: the table of its
--- commands. A check and a walk tell none of the object. An attestation is in DER, and a locator is a
--- text: no option speaks of them.
+-- commands. A check and a walk tell none of the object. An attestation is in DER, and a locator is
+-- a text: no option speaks of them.
 abbrev pub command_task : Causes → Options → Command → Task
 command_task causes options (Content kind file) = ShowLines causes file (LinesOf options kind)
 command_task causes options (ContentRta file) = ShowLines causes file AttestationLines

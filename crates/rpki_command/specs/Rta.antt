@@ -68,7 +68,7 @@ abbrev pub AttestedAs : {C : Type 0} → (Result KeptWhole CheckError → Output
 AttestedAs P digests says crypto now supplied octets s =
     (s ≡ out_of_memory) ⊎ IsRtaChecked P digests says crypto now supplied octets s
 
--- the same in lines
+-- What is said in lines of octets that may begin with an attestation.
 abbrev pub AttestedUnder : {C : Type 0} → Causes → (C → Digester) → (C → Verdict) → C → Moment
     → List Supply → List ℕ → Output → Type 0
 AttestedUnder causes digests says crypto now supplied octets s =

@@ -24,7 +24,8 @@ use Rattle.rpki_sigobj.specs.Signed.Kind as signed
 use Rattle.rpki_sigobj.specs.Signed.{Whole, ObjectForm}
 use Rattle.rpki_verdicts.specs.Listed.{is_listed}
 use Rattle.rpki_verdicts.specs.Verdicts.{AreVerdicts}
-use Rattle.rpki_cli.specs.Answer.{Run, IsWhole, Output, Printed, Complained, Reported, out_of_memory}
+use Rattle.rpki_cli.specs.Answer.{Run, IsWhole, Output, Printed, Complained, Reported}
+use Rattle.rpki_cli.specs.Answer.{out_of_memory}
 use Rattle.rpki_cli.specs.Options.{manifest_rule}
 use Rattle.rpki_cli.specs.declared.words.Command.{Command}
 use Rattle.rpki_cli.specs.declared.words.Command.TheVariants as commands
@@ -53,11 +54,11 @@ pub record FilesOfCheck : Type 0 where
   pub anchor : List ℕ
   pub chain : List (List ℕ)
 
--- the same in the order of the words
+-- the files of a check, in the order of the words
 abbrev pub in_order : FilesOfCheck → List (List ℕ)
 in_order files = files.object ∷ files.anchor ∷ files.chain
 
--- the same with the file of verdicts, in the order of the words
+-- the files of a check with the file of verdicts, in the order of the words
 abbrev pub in_order_with : List ℕ → FilesOfCheck → List (List ℕ)
 in_order_with verdicts files = files.object ∷ verdicts ∷ files.anchor ∷ files.chain
 
@@ -118,9 +119,9 @@ pub record IsRightWalk (options : Options) (verdict : Verdict) (now : Moment) (f
   pub yes : PrintsYes manifest_kind (ManifestForm (manifest_rule options) Der)
       (held_text sha256 hand) (read_mode options) sha256 verdict issuer now files.object run
 
--- A yes to an attestation is right by a verdict: the files make anchors, under which the attestation
--- is granted at this moment, and the run prints yes and its lines, and nothing else. Digests are
--- SHA-256 (RFC 7935, section 2).
+-- A yes to an attestation is right by a verdict: the files make anchors, under which the
+-- attestation is granted at this moment, and the run prints yes and its lines, and nothing else.
+-- Digests are SHA-256 (RFC 7935, section 2).
 pub record IsRightRta (verdict : Verdict) (now : Moment) (words : List (List ℕ))
     (object : List ℕ) (files : List (List ℕ)) (run : Run) : Type 0 where
   pub anchors : List Anchor

@@ -27,10 +27,10 @@ ghost use Rattle.rpki_command.specs.Yes.{IsRightYes, IsRightNo, HoldsByList};
 /// Where a store tells the files of a check, a run of it that ends with status 0 says yes, and that
 /// rightly: FILE begins with a good object under the issuer that the certificates make by the
 /// verdicts, at this moment. Where a run ends with status 1, they make none, or FILE begins with no
-/// good object under it; what it prints then, `IsRunOf` says. The two exclude each other, though the
-/// issuer is determined only up to how its numbers are written (`yes_and_no_exclude_each_other`). The
-/// store of the system's files tells nothing: the program is the same for every store, and these are
-/// the laws of those that tell.
+/// good object under it; what it prints then, `IsRunOf` says. The two exclude each other, though
+/// the issuer is determined only up to how its numbers are written
+/// (`yes_and_no_exclude_each_other`). The store of the system's files tells nothing: the program is
+/// the same for every store, and these are the laws of those that tell.
 pub fn checks_are_right()
     ensures yes { (told : Told) (words : List (List ℕ)) (before after : List (List ℕ)) (run : Run)
         (options : Options) (kind : Kind) (now : Moment) (names files : FilesOfCheck)
@@ -74,8 +74,8 @@ pub fn walks_are_right()
 /// Where a store tells the files of a check of an attestation, a run of it that ends with status 0
 /// says yes, and that rightly: the files of the anchors make them by the verdicts, and FILE begins
 /// with an attestation that is granted under them at this moment. Where a run ends with status 1,
-/// one of the anchors is not made, or FILE begins with no attestation that is granted under them, if
-/// no two carried CAs have one key identifier, and end entities that share one have one key.
+/// one of the anchors is not made, or FILE begins with no attestation that is granted under them,
+/// if no two carried CAs have one key identifier, and end entities that share one have one key.
 pub fn attestations_are_right()
     ensures yes { (told : Told) (words : List (List ℕ)) (before after : List (List ℕ)) (run : Run)
         (options : Options) (now : Moment) (file list : List ℕ) (anchors : List (List ℕ))

@@ -30,7 +30,8 @@ pub fn written_revocation_lists_are_read()
         → MatchResult r (λ k. k.list ≡ l) (λ e. e ≡ Memory) }
 {}
 
-/// So it is with the extensions of a revocation list (RFC 5280, section 5.2).
+/// Reading the extensions of a revocation list is exact and unique, and DER is a part of BER
+/// (RFC 5280, section 5.2).
 pub fn extensions()
     ensures { IsReading crl_extensions_at CrlExtensionsForm }
 {}

@@ -67,8 +67,8 @@ pub enum VerificationError {
     /// None of the end-entity certificates that are left in an attestation has the signer's key
     /// identifier and a key that verifies its signature; each signer takes one.
     MissingCertificate,
-    /// None of the revocation lists that are left in an attestation was issued by a CA certificate
-    /// there; each CA certificate takes one.
+    /// A CA certificate in an attestation finds none of its own among the revocation lists that are
+    /// left; each CA certificate takes one.
     MissingCrl,
     /// A subject key of an attestation is left over: no signer took it.
     UnusedSubjectKeys,

@@ -3,6 +3,7 @@ use Rattle.std.specs.Prelude.{◌≡◌, ℕ, ◌-◌, List, [], ◌++◌, Bool,
 use Rattle.std.specs.Prelude.{take, bytes_eq, All, if◌then◌else◌}
 use Rattle.std.specs.List.{list_all, slice_split, after_first, after_last, ends_with}
 
+-- whether an octet is a slash
 abbrev pub is_slash : ℕ → Bool
 is_slash o = o == 0x2f
 
@@ -21,7 +22,7 @@ is_plain segment = not (length segment == 0)
 abbrev pub is_below : List ℕ → Bool
 is_below name = list_all is_plain (segments name)
 
--- the same in words: a segment is a name of its own
+-- a segment is a name of its own: not empty, and neither `.` nor `..`
 abbrev pub IsPlain : List ℕ → Type 0
 IsPlain segment = (¬ (segment ≡ [])) × (¬ (segment ≡ codes ".")) × (¬ (segment ≡ codes ".."))
 

@@ -23,7 +23,7 @@ found_under name (Err fault) = None
 abbrev pub found_in : List AnchorOutcome → List Found
 found_in outcomes = filter_map (λ p. found_under p.name p.outcome) outcomes
 
--- refused anchor: not in the copy
+-- the line of a locator that has no answer, as `refused anchor: not in the copy`
 abbrev pub outcome_line : List ℕ → Outcome → List ℕ
 outcome_line name (Ok found) = []
 outcome_line name (Err fault) =

@@ -36,34 +36,34 @@ pub record IsUnsigned (u : Unsigned) : Type 0 where
 
 -- ---- with another value
 
--- the same, but for what is said of the key
+-- what is to be signed, with this said of the key
 abbrev pub with_key : Unsigned → KeyFacts → Unsigned
 with_key u x = record u { extensions = record u.extensions { key = x } }
 
--- the same, but for where something lies
+-- what is to be signed, with these places
 abbrev pub with_locations : Unsigned → Locations → Unsigned
 with_locations u x = record u { extensions = record u.extensions { locations = x } }
 
--- the same, but for what is to be had from the subject
+-- what is to be signed, with these places of what the subject has
 abbrev pub with_access : Unsigned → SubjectAccess → Unsigned
 with_access u x = with_locations u (record u.extensions.locations { subject = x })
 
--- the same, but for what is claimed
+-- what is to be signed, with these claims
 abbrev pub with_claims : Unsigned → Claims → Unsigned
 with_claims u x = record u { extensions = record u.extensions { claims = x } }
 
--- the same, but for the claim of AS numbers
+-- what is to be signed, with this claim of AS numbers
 abbrev pub with_as : Unsigned → Claim (List (Block ℕ)) → Unsigned
 with_as u claim = with_claims u (record u.extensions.claims { as_numbers = claim })
 
--- the same, but for the claim of IPv4 addresses
+-- what is to be signed, with this claim of IPv4 addresses
 abbrev pub with_v4 : Unsigned → Claim (List (Block ℕ)) → Unsigned
 with_v4 u claim =
     with_claims u (record u.extensions.claims {
       addresses = record u.extensions.claims.addresses { v4 = claim };
     })
 
--- the same, but for the claim of IPv6 addresses
+-- what is to be signed, with this claim of IPv6 addresses
 abbrev pub with_v6 : Unsigned → Claim (List (Block ℕ)) → Unsigned
 with_v6 u claim =
     with_claims u (record u.extensions.claims {

@@ -90,9 +90,9 @@ fn no_claims(policy: Overclaim) -> Claims
 
 impl TbsCert {
     /// A certificate of this key, under the name of its issuer. Without a subject, the
-    /// subject is the key's name (RFC 6487, section 4.5). The identifier of the subject's key is that of
-    /// the key (RFC 6487, section 4.8.2). There are no basic constraints, no identifier of the
-    /// issuer's key and no URIs, and nothing is claimed.
+    /// subject is the key's name (RFC 6487, section 4.5). The identifier of the subject's key is
+    /// that of the key (RFC 6487, section 4.8.2). There are no basic constraints, no identifier of
+    /// the issuer's key and no URIs, and nothing is claimed.
     pub fn new(
         serial_number: Serial,
         issuer: Name,

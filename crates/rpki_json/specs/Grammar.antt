@@ -39,13 +39,15 @@ code_unit a b c d =
     then Some (digit_value a * 4096 + (digit_value b * 256 + (digit_value c * 16 + digit_value d)))
     else None
 
--- the first and the second half of a character beyond the first 2^16, and either
+-- the first half of a character beyond the first 2^16
 abbrev pub IsHigh : ℕ → Type 0
 IsHigh n = (0xd800 ≤ n) × (n < 0xdc00)
 
+-- the second half of a character beyond the first 2^16
 abbrev pub IsLow : ℕ → Type 0
 IsLow n = (0xdc00 ≤ n) × (n < 0xe000)
 
+-- either half of a character beyond the first 2^16
 abbrev pub IsSurrogate : ℕ → Type 0
 IsSurrogate n = (0xd800 ≤ n) × (n < 0xe000)
 
@@ -93,10 +95,12 @@ mutual
     array : Items → Json
     object : Members → Json
 
+  -- the items of an array
   pub data Items : Type 0 where
     no_items : Items
     item : Json → Items → Items
 
+  -- the members of an object, each with its name
   pub data Members : Type 0 where
     no_members : Members
     member : List ℕ → Json → Members → Members
@@ -105,6 +109,7 @@ mutual
 abbrev pub is_space : ℕ → Bool
 is_space o = (o == 0x20) || ((o == 0x09) || ((o == 0x0a) || (o == 0x0d)))
 
+-- white space, or nothing
 abbrev pub IsSpace : List ℕ → Type 0
 IsSpace octets = IsTrue (list_all is_space octets)
 
@@ -145,9 +150,9 @@ abbrev pub IsMember : List ℕ → (List ℕ → Type 0) → List ℕ → Type 0
 IsMember name value octets =
     IsJoined (λ o. IsQuoted o name) (IsJoined (IsMark (codes ":")) value) octets
 
--- The octets are this value: a string (section 7), a number (section 6), true or false (section 3),
--- an array (section 5) or an object (section 4).
 abbrev mutual
+  -- The octets are this value: a string (section 7), a number (section 6), true or false (section 3),
+  -- an array (section 5) or an object (section 4).
   pub IsValue : Json → List ℕ → Type 0
   IsValue (string said) octets = IsQuoted octets said
   IsValue (number n) octets = IsNumber octets n
@@ -161,6 +166,7 @@ abbrev mutual
   AreItems no_items octets = octets ≡ []
   AreItems (item value more) octets = IsJoined (IsValue value) (AreFurtherItems more) octets
 
+  -- the items after the first, each after a comma
   pub AreFurtherItems : Items → List ℕ → Type 0
   AreFurtherItems no_items octets = octets ≡ []
   AreFurtherItems (item value more) octets =
@@ -172,6 +178,7 @@ abbrev mutual
   AreMembers (member name value more) octets =
       IsJoined (IsMember name (IsValue value)) (AreFurtherMembers more) octets
 
+  -- the members after the first, each after a comma
   pub AreFurtherMembers : Members → List ℕ → Type 0
   AreFurtherMembers no_members octets = octets ≡ []
   AreFurtherMembers (member name value more) octets =

@@ -46,8 +46,8 @@ member_text m = named_text m.name (json_text m.value)
 unfoldable pub further_text : Member → List ℕ
 further_text m = codes ", " ++ member_text m
 
--- Each number in a value is below 2^64, as every u64 is.
 abbrev mutual
+  -- Each number in a value is below 2^64, as every u64 is.
   pub HasWords : Json → Type 0
   HasWords (string said) = Unit {0}
   HasWords (number n) = n < 2 ^ 64
@@ -55,16 +55,18 @@ abbrev mutual
   HasWords (array items) = HaveWords items
   HasWords (object members) = MembersHaveWords members
 
+  -- each number in items is below 2^64
   pub HaveWords : Items → Type 0
   HaveWords no_items = Unit {0}
   HaveWords (item value more) = HasWords value × HaveWords more
 
+  -- each number in members is below 2^64
   pub MembersHaveWords : Members → Type 0
   MembersHaveWords no_members = Unit {0}
   MembersHaveWords (member name value more) = HasWords value × MembersHaveWords more
 
--- Each string in a value, and each name of a member, is UTF-8, as every &str is.
 abbrev mutual
+  -- Each string in a value, and each name of a member, is UTF-8, as every &str is.
   pub HasTexts : Json → Type 0
   HasTexts (string said) = IsUtf8 said
   HasTexts (number n) = Unit {0}
@@ -72,10 +74,12 @@ abbrev mutual
   HasTexts (array items) = HaveTexts items
   HasTexts (object members) = MembersHaveTexts members
 
+  -- each string and each name in items is UTF-8
   pub HaveTexts : Items → Type 0
   HaveTexts no_items = Unit {0}
   HaveTexts (item value more) = HasTexts value × HaveTexts more
 
+  -- each string and each name in members is UTF-8
   pub MembersHaveTexts : Members → Type 0
   MembersHaveTexts no_members = Unit {0}
   MembersHaveTexts (member name value more) =

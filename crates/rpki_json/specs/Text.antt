@@ -30,8 +30,8 @@ json_character c = flat_map json_octet (encode_utf8 c)
 abbrev pub named_text : List ℕ → List ℕ → List ℕ
 named_text name text = json_string name ++ (codes ": " ++ text)
 
--- the text of a value, with a space after each comma and after each colon
 abbrev mutual
+  -- the text of a value, with a space after each comma and after each colon
   pub json_text : Json → List ℕ
   json_text (string said) = json_string said
   json_text (number n) = decimal n
@@ -40,20 +40,24 @@ abbrev mutual
   json_text (array items) = codes "[" ++ (items_text items ++ codes "]")
   json_text (object members) = codes "{" ++ (members_text members ++ codes "}")
 
+  -- the text of the items of an array, without its brackets
   pub items_text : Items → List ℕ
   items_text no_items = []
   items_text (item value more) = json_text value ++ further_items_text more
 
+  -- the text of the items after the first, each after a comma
   pub further_items_text : Items → List ℕ
   further_items_text no_items = []
   further_items_text (item value more) =
       codes ", " ++ (json_text value ++ further_items_text more)
 
+  -- the text of the members of an object, without its brackets
   pub members_text : Members → List ℕ
   members_text no_members = []
   members_text (member name value more) =
       named_text name (json_text value) ++ further_members_text more
 
+  -- the text of the members after the first, each after a comma
   pub further_members_text : Members → List ℕ
   further_members_text no_members = []
   further_members_text (member name value more) =

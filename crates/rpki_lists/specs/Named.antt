@@ -78,7 +78,8 @@ abbrev pub is_empty : {T : Type 0} → List T → Bool
 is_empty [] = true
 is_empty (x ∷ xs) = false
 
--- the set of AS numbers that is written: an empty one only where nothing else is
+-- The set of AS numbers that is written: an empty one only where nothing else is. That it is written
+-- then, so that the content can be read again, is this project's own rule.
 abbrev pub written_asns : Set → Set → Set → Option Set
 written_asns asns v4 v6 =
     if is_empty asns && not (is_empty v4 && is_empty v6) then None else Some asns

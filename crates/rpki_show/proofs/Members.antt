@@ -1,11 +1,13 @@
 -- Texts of members, one after the other.
-use Rattle.std.proofs.Common.{◌≡◌, ◌∙◌, ℕ, List, [], ◌∷◌, ◌++◌, codes, ap, sym, append_assoc, append-nil, Global}
+use Rattle.std.proofs.Common.{◌≡◌, ◌∙◌, ℕ, List, [], ◌∷◌, ◌++◌, codes, ap, sym, append_assoc}
+use Rattle.std.proofs.Common.{append-nil, Global}
 use Rattle.std.proofs.Common.{Result, Ok, Err, String, map, refl, string_bytes}
 use Rattle.std.specs.declared.alloc.AllocError.{AllocError}
 use Rattle.std.specs.List.{flat_map}
 use Rattle.rpki_json.specs.Grammar.{Json, Items, array, item, items_of}
 use Rattle.rpki_json.specs.Grows.{Grows}
-use Rattle.rpki_json.specs.Members.{Member, text_member, member_text, further_text, array_member, object_of}
+use Rattle.rpki_json.specs.Members.{Member, text_member, member_text, further_text, array_member}
+use Rattle.rpki_json.specs.Members.{object_of}
 use Rattle.rpki_json.specs.Separated.{separated}
 use Rattle.rpki_json.specs.Text.{json_string, json_text}
 use Rattle.rpki_json.proofs.Members.{object-text, array-member-text}

@@ -34,7 +34,8 @@ use Rattle.rpki_show.specs.Json.Blocks.{as_value, ip_value, inherited_member}
 use Rattle.rpki_show.specs.Json.Certificate.{authority_members, key_members, issued_members}
 use Rattle.rpki_show.specs.Json.Certificate.{access_members, location_members, as_claim_members}
 use Rattle.rpki_show.specs.Json.Certificate.{ip_claim_members, claims_under, signer_members}
-use Rattle.rpki_show.specs.Json.Certificate.{certificate_members, is_ca, claim_members, signer_claim_members}
+use Rattle.rpki_show.specs.Json.Certificate.{certificate_members, is_ca, claim_members}
+use Rattle.rpki_show.specs.Json.Certificate.{signer_claim_members}
 use Rattle.rpki_show.specs.Json.Certificate.{facts_members}
 use Rattle.rpki_show.specs.Json.Crl.{revoked_value, crl_members}
 use Rattle.rpki_show.specs.Json.File.{file_json, file_members}

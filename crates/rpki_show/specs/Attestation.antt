@@ -17,7 +17,8 @@ AttestationLines = HasLines (AttestationForm Der) attestation_text
 abbrev pub RtaLines : List ℕ → List ℕ → Type 0
 RtaLines = HasLines (RtaForm Der) rta_text
 
--- The same, and those of each certificate and of each revocation list that it carries.
+-- The lines of an attestation, and those of each certificate and of each revocation list that it
+-- carries.
 abbrev pub WholeRtaLines : List ℕ → List ℕ → Type 0
 WholeRtaLines = HasLines (DatedRtaForm Der) whole_rta_text
 

@@ -26,6 +26,6 @@ pub record KeptDated : Type 0 where
   pub rta : KeptWhole
   pub lists : List DatedList
 
--- the same without the modes
+-- an attestation with its dated lists, without the modes
 abbrev pub dated_of : KeptDated → DatedWhole
 dated_of k = record { rta = whole_of k.rta; lists = k.lists }

@@ -40,7 +40,7 @@ RowIn way options Manifest P =
 RowIn way options Roa P = P _ roa_kind RoaForm roa_text roa_members
 RowIn way options Rsc P = P _ checklist_kind (ChecklistForm Der) rsc_text rsc_members
 
--- the same with such numbers in lower hexadecimal (`Plain`)
+-- the row of a kind, with numbers in lower hexadecimal (`Plain`)
 abbrev pub RowOf : {R : Type 1} → Options → Kind
     → ((X : Type 0) → signed.ObjectKind X → (List ℕ → X → Type 0) → (X → List ℕ)
     → (X → List Member) → R) → R
@@ -52,7 +52,7 @@ abbrev pub OfKindIn : {R : Type 1} → Hexadecimal → Options → Kind
 OfKindIn way options kind P =
     RowIn way options kind (λ X asked form text members. P X asked form text)
 
--- the same with such numbers in lower hexadecimal (`Plain`)
+-- the row of a kind without the members, with numbers in lower hexadecimal (`Plain`)
 abbrev pub OfKind : {R : Type 1} → Options → Kind
     → ((X : Type 0) → signed.ObjectKind X → (List ℕ → X → Type 0) → (X → List ℕ) → R) → R
 OfKind options kind P = OfKindIn Plain options kind P

@@ -18,8 +18,8 @@ abbrev pub ObjectLinesOf : Options → Kind → List ℕ → List ℕ → Type 0
 ObjectLinesOf options kind = OfKind options kind (λ X asked form text.
     HasLines (ObjectForm asked.type form (read_mode options)) (object_text Plain text))
 
--- The same lines, with two hexadecimal digits for each octet of a number, and then those of the
--- certificate of the signer.
+-- The lines of an object of a kind, with two hexadecimal digits for each octet of a number, and
+-- then those of the certificate of the signer.
 abbrev pub WholeObjectLinesOf : Options → Kind → List ℕ → List ℕ → Type 0
 WholeObjectLinesOf options kind = OfKindIn Octets options kind (λ X asked form text.
     HasLines (ObjectForm asked.type form (read_mode options)) (whole_text text))

@@ -56,7 +56,7 @@ Checks kind form mode digest verdict issuer now Says octets result =
     (IsValidatedUnder (cert_in mode o) issuer) (Says (cert_in mode o)) (kind.held o.content)
     o.content r) result
 
--- The same; and `IsContent` holds of the content.
+-- What a check answers (`Checks`), where moreover `IsContent` holds of the content.
 abbrev pub ChecksContent : {X : Type 0} → (X → Type 0) → ObjectKind X → (List ℕ → X → Type 0) → Mode
     → Digester → Verdict → Validated → Moment
     → (KeptCertificate → Result (Unit {0}) ValidationError → Type 0)

@@ -231,12 +231,14 @@ fn granted<C: Crypto>(
 /// were validated elsewhere. The answer is the attestation. `strict` changes nothing.
 ///
 /// A yes means that every certificate that is carried is valid, that signers, certificates and
-/// revocation lists pair off, that the certificate of each signer has a path of signed and
-/// unrevoked certificates up to one that a supply anchors, and that each attested set is the union,
-/// over the signers, of the numbers of their paths. If no two carried CAs have one key identifier,
-/// and certificates of end entities that share one have one key, a yes is answered exactly there,
-/// unless memory runs out. Refuses by `Decode` exactly where the octets begin with no attestation,
-/// and by `Validation` as `rpki_rta::run` does, or by want of memory.
+/// revocation lists pair off, that each signer states the digest of the content, that the
+/// certificate of each signer has a path of signed and unrevoked certificates, whose links are
+/// covered where they have to be, up to one that a supply anchors, that each carried CA stands on
+/// one of these paths, and that each attested set is the union, over the signers, of the numbers of
+/// their paths. If no two carried CAs have one key identifier, and certificates of end entities
+/// that share one have one key, a yes is answered exactly there, unless memory runs out. Refuses by
+/// `Decode` exactly where the octets begin with no attestation, and by `Validation` as
+/// `rpki_rta::run` does, or by want of memory.
 pub fn rta<C: Crypto>(
     alloc: Global,
     bytes: Bytes,

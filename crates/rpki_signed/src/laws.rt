@@ -89,12 +89,12 @@ pub fn walks_are_whole<'a, N: AsOctets, O: AsOctets, C: Crypto>(walk: &Walk<'a, 
 /// From octets to the yes. A check of a manifest, a ROA, an ASPA or a checklist, which `exact` says
 /// of `check::manifest`, `roa`, `aspa` and `rsc`, says yes exactly where the octets begin with a
 /// member of the grammar, every stated check holds, and the numbers claimed lie in the sets of the
-/// validated certificate. A check of a multi-signed attestation, which `exact` says of `check::rta`,
-/// says yes only where the octets begin with one, every stated check holds, and each attested set
-/// equals the union, over its signers, of the intersections of all explicit sets along anchored,
-/// signed, valid, unrevoked paths without a cycle; and, if the identifiers of the certificates that
-/// it carries are distinct, exactly there. Unless memory runs out, and if `check_crl` has one answer
-/// about a certificate.
+/// validated certificate. A check of a multi-signed attestation, which `exact` says of
+/// `check::rta`, says yes only where the octets begin with one, every stated check holds, and each
+/// attested set equals the union, over its signers, of the intersections of all explicit sets along
+/// anchored, signed, valid, unrevoked paths without a cycle; and, if the identifiers of the
+/// certificates that it carries are distinct, exactly there. Unless memory runs out, and if
+/// `check_crl` has one answer about a certificate.
 pub fn yes_is_exact<F: FnOnce(&Cert) -> Result<(), ValidationError>>(check_crl: &F)
     ensures manifests { (rule : ManifestRule) → IsHeadline manifest_kind (ManifestForm rule Der)
         (FnOnceReturnsAt F.FnOnce check_crl.now) }

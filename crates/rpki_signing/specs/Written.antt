@@ -57,12 +57,12 @@ signer_contents sid attributes signature =
     number_octets cms_version ++ (value_octets (context_primitive 0) sid
     ++ (digest_algorithm_octets ++ signed_tail attributes signature))
 
--- the same (5.3)
+-- what a signer with this identifier says (5.3)
 unfoldable pub signer_octets : List ℕ → List ℕ → List ℕ → List ℕ
 signer_octets sid attributes signature =
     value_octets SEQUENCE (signer_contents sid attributes signature)
 
--- its contents have fewer than 2^32 octets
+-- the contents of what a signer says have fewer than 2^32 octets
 unfoldable pub IsShortSigner : List ℕ → List ℕ → List ℕ → Type 0
 IsShortSigner sid attributes signature =
     length (signer_contents sid attributes signature) < 2 ^ 32
@@ -81,11 +81,11 @@ content_contents type content =
     value_octets OBJECT_IDENTIFIER type
     ++ value_octets (context 0) (value_octets OCTET_STRING content)
 
--- the same (5.2)
+-- a content with its type (5.2)
 unfoldable pub content_octets : List ℕ → List ℕ → List ℕ
 content_octets type content = value_octets SEQUENCE (content_contents type content)
 
--- its contents have fewer than 2^32 octets
+-- the contents of a content with its type have fewer than 2^32 octets
 unfoldable pub IsShortContent : List ℕ → List ℕ → Type 0
 IsShortContent type content = length (content_contents type content) < 2 ^ 32
 
@@ -116,11 +116,11 @@ abbrev pub data_contents : List ℕ → List ℕ → List ℕ
 data_contents content tail =
     number_octets cms_version ++ (value_octets SET digest_algorithm_octets ++ (content ++ tail))
 
--- the same (5.1)
+-- what is signed, of a content and of the last fields (5.1)
 unfoldable pub data_octets : List ℕ → List ℕ → List ℕ
 data_octets content tail = value_octets SEQUENCE (data_contents content tail)
 
--- its contents have fewer than 2^32 octets
+-- the contents of what is signed have fewer than 2^32 octets
 unfoldable pub IsShortData : List ℕ → List ℕ → Type 0
 IsShortData content tail = length (data_contents content tail) < 2 ^ 32
 

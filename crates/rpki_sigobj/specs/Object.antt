@@ -104,7 +104,7 @@ content_fields_at mode bytes = do
   content ← context_at 0 (octets_at MAX_DEPTH) mode type.1
   Some ((type.0, content.0), content.1)
 
--- the same, in their SEQUENCE
+-- the type of the content and its octets, in their SEQUENCE
 abbrev pub content_at : Parser (List ℕ × List ℕ)
 content_at = sequence_at content_fields_at
 

@@ -39,8 +39,8 @@ NamedForm = ResourceBlockForm AsForm
 -- ResourceTaggedAttestation ::= SEQUENCE { version [0] INTEGER DEFAULT 0, subjectKeyIdentifiers SET
 -- OF SubjectKeyIdentifier, resources ResourceBlock, digestAlgorithm AlgorithmIdentifier,
 -- messageDigest OCTET STRING } (4). The algorithm is SHA-256 (RFC 7935, section 2). That the keys
--- may stand in any order and more than once, and that there may be none, is this project's own
--- rule.
+-- may stand in any order and more than once, that there may be none, and that the digest has any
+-- length, is this project's own rule.
 abbrev pub AttestationForm : Mode → List ℕ → Attestation → Type 0
 AttestationForm mode octets a = Sequence mode (
     OptionalVersion mode

@@ -22,9 +22,11 @@ use Rattle.rpki_tagged.specs.contracts.attestation.builder.AttestationBuilder.{t
 abbrev keys_row : RattleType
 keys_row = vec.the_row identifier.the_row global.the_row memory.ghosts
 
+-- builders of sets of AS numbers, as the logic holds them
 abbrev numbers_row : RattleType
 numbers_row = blocks.the_row asn.the_row asn_number.ghosts asn_equal.ghosts
 
+-- builders of sets of addresses, as the logic holds them
 abbrev addresses_row : RattleType
 addresses_row = blocks.the_row addr.the_row addr_number.ghosts addr_equal.ghosts
 

@@ -34,7 +34,7 @@ LacksAnchor s tal OtherKey =
     × All (λ u. ¬ HasKeyAt s.cached tal.key u) (https_first tal.uris)
 LacksAnchor s tal Memory = Unit {0}
 
--- It says no more than that memory ran out.
+-- The fault of a trust anchor says no more than that memory ran out.
 abbrev pub IsAnchorMemory : AnchorFault → Type 0
 IsAnchorMemory Missing = ⊥
 IsAnchorMemory (Refused error) = IsIssuerMemory error

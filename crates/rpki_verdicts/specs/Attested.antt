@@ -35,7 +35,7 @@ named_question id message signature d =
     cond (has_id id d)
     (record { key = d.tbs.key; message = message; signature = signature } ∷ []) []
 
--- the same of each of these certificates, in their order
+-- what is asked of a signature, of each of these certificates that is named, in their order
 abbrev pub named_questions : List Certificate → List ℕ → List ℕ → List ℕ → List Question
 named_questions certs id message signature = flat_map (named_question id message signature) certs
 

@@ -18,7 +18,7 @@ abbrev pub question_line : Question → List ℕ
 question_line q =
     line_of (digest_text (key_octets q.key)) (digest_text q.message) (digest_text q.signature)
 
--- that line, where the list may say so, and else nothing
+-- the line of a verdict, where the signature is good, and else nothing
 abbrev pub good_line : Verdict → Question → List ℕ
 good_line verdict q = cond (is_listable verdict q) (question_line q) []
 

@@ -94,7 +94,7 @@ PushesChain verdict first chain old (Ok last) new =
     × (last_of first certs ≡ last.certificate)
 PushesChain verdict first chain old (Err e) new = Refuses e (AreNotAllCerts chain)
 
--- The same, with the certificate of a trust anchor in front.
+-- Lines are put to a list for the certificates of a chain, with that of a trust anchor in front.
 abbrev pub PushesCerts : Verdict → List ℕ → List (List ℕ) → List ℕ
     → Result KeptCertificate DecodeError → List ℕ → Type 0
 PushesCerts verdict anchor chain old (Ok last) new =

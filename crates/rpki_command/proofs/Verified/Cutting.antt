@@ -21,7 +21,8 @@ cut-at : (k n : ℕ) (files rest octets : List (List ℕ)) → k ≡ n
 cut-at k n files rest octets e d o =
     d ∙ take_rest files k ∙ ap (λ (m : ℕ). drop m files) e ∙ ap (drop n) o
 
-abbrev files-of : CheckValues → CertFiles → List (List ℕ) → List (List ℕ) → List (GivenFile CheckedKind)
+abbrev files-of : CheckValues → CertFiles → List (List ℕ) → List (List ℕ)
+    → List (GivenFile CheckedKind)
     → CheckedFiles
 files-of n certs located listed asked = record {
   certs = certs;

@@ -33,16 +33,19 @@ use Rattle.rpki_show.specs.Json.File.{file_json}
 use Rattle.rpki_show.specs.Json.Outcome.{valid_members, invalid_members}
 use Rattle.rpki_show.specs.Kinds.{RowOf}
 use Rattle.rpki_show.specs.Options.{read_mode}
-use Rattle.rpki_command.specs.Check.{passes, yes_line, validation_refusal, IsCheckSaid, IsCheckedAs, CheckedUnder}
+use Rattle.rpki_command.specs.Check.{passes, yes_line, validation_refusal, IsCheckSaid, IsCheckedAs}
+use Rattle.rpki_command.specs.Check.{CheckedUnder}
 use Rattle.rpki_command.specs.Verify.Checks.{CheckedFiles, IsLocatorOf, IsSaidOfFiles, SaidUnder}
 use Rattle.rpki_command.specs.Verify.Checks.{IsSaidUnissued}
 use Rattle.rpki_command.specs.Verify.Checks.{SaidWithLists, bad_list}
-use Rattle.rpki_command.specs.Verify.Each.{GivenFile, FileAnswer, common_status, IsAnswerOf, IsSaidOfEach}
+use Rattle.rpki_command.specs.Verify.Each.{GivenFile, FileAnswer, common_status, IsAnswerOf}
+use Rattle.rpki_command.specs.Verify.Each.{IsSaidOfEach}
 use Rattle.rpki_command.specs.Verify.Each.{PrintsEach, answer_text, Reasons, IsLineFor, IsLineOf}
 use Rattle.rpki_command.specs.Verify.Each.{IsSaidInJson}
 use Rattle.rpki_command.specs.Verify.Good.{BeginsWithUnrevoked, IsGoodKind, IsGoodFile, AreGood}
 use Rattle.rpki_command.specs.Verify.Issuers.{GivenLocator, no_issuer, IsNoIssuerSaid}
-use Rattle.rpki_command.specs.Verify.Objects.{Grounds, IsSaidOfObject, IsJudgedAs, JudgedUnder, supplied_by}
+use Rattle.rpki_command.specs.Verify.Objects.{Grounds, IsSaidOfObject, IsJudgedAs, JudgedUnder}
+use Rattle.rpki_command.specs.Verify.Objects.{supplied_by}
 use Rattle.rpki_command.specs.Verify.Objects.{IsJudgementSaid, IsSaidOfKind, IsSaidOfRtaAs}
 use Rattle.rpki_command.specs.Verify.Objects.{IsAttestationSaid}
 use Rattle.rpki_command.specs.Verify.Objects.{IsKindInJson, IsObjectInJson, IsSaidOfObjects}
@@ -129,7 +132,8 @@ none-good {K} (f ∷ files) some h = All-head (λ (f : GivenFile K). ⊥) f file
 
 -- ---- one object
 
-pub of-cert : (c : KeptCertificate) (issuer v : Validated) → IsValidatedUnder c issuer v → v.cert ≡ c
+pub of-cert : (c : KeptCertificate) (issuer v : Validated) → IsValidatedUnder c issuer v
+    → v.cert ≡ c
 unfolding IsValidatedUnder
 of-cert c issuer v h = h.0
 
@@ -326,7 +330,8 @@ no-issuer-none file (faults.Error (issuing.Validation (validation.Verification f
 no-issuer-none file (faults.OtherKey locator) = one
 no-issuer-none file (faults.Revoked list) = one
 
-pub no-issuer-said : (refusal : NoIssuer) (s : Output) → IsNoIssuerSaid refusal s → status_of s ≡ 0 → ⊥
+pub no-issuer-said : (refusal : NoIssuer) (s : Output) → IsNoIssuerSaid refusal s → status_of s ≡ 0
+    → ⊥
 no-issuer-said refusal s (inl e) zero = other-status s out_of_memory 0 zero e three
 no-issuer-said refusal s (inr e) zero =
     other-status s (no_issuer refusal.file.now refusal.fault) 0 zero e

@@ -1,5 +1,6 @@
 -- What a no to a check of several files means, from what is said.
-use Rattle.std.proofs.Common.{◌≡◌, ◌∙◌, ◌++◌, ℕ, List, [], ◌∷◌, All, Bool, true, false, Result, Ok, Err}
+use Rattle.std.proofs.Common.{◌≡◌, ◌∙◌, ◌++◌, ℕ, List, [], ◌∷◌, All, Bool, true, false, Result, Ok}
+use Rattle.std.proofs.Common.{Err}
 use Rattle.std.proofs.Common.{Option, refl, ap, sym, subst, inl, inr, arith, rules, codes, suc}
 use Rattle.std.proofs.lemmas.List.Elements.{All-head, All-tail}
 use Rattle.std.specs.List.{AllZip}
@@ -45,7 +46,8 @@ use Rattle.rpki_command.specs.Check.{passes, yes_line, validation_refusal}
 use Rattle.rpki_command.specs.Rta.{granted_text}
 use Rattle.rpki_command.specs.Verify.Checks.{CheckedFiles, IsLocatorOf, IsSaidOfFiles, SaidUnder}
 use Rattle.rpki_command.specs.Verify.Checks.{SaidWithLists, bad_list, IsSaidUnissued}
-use Rattle.rpki_command.specs.Verify.Each.{GivenFile, FileAnswer, common_status, IsAnswerOf, IsSaidOfEach}
+use Rattle.rpki_command.specs.Verify.Each.{GivenFile, FileAnswer, common_status, IsAnswerOf}
+use Rattle.rpki_command.specs.Verify.Each.{IsSaidOfEach}
 use Rattle.rpki_command.specs.Verify.Each.{PrintsEach, answer_text, Reasons, IsLineFor, IsLineOf}
 use Rattle.rpki_command.specs.Verify.Each.{IsSaidInJson}
 use Rattle.rpki_command.specs.Verify.Good.{BeginsWithRefused, IsRefusedKind, IsRefusedFile}
@@ -57,7 +59,8 @@ use Rattle.rpki_command.specs.Verify.Objects.{IsJudgementSaid, IsSaidOfKind, IsS
 use Rattle.rpki_command.specs.Verify.Objects.{IsAttestationSaid}
 use Rattle.rpki_command.specs.Verify.Objects.{IsKindInJson, IsObjectInJson, IsSaidOfObjects}
 use Rattle.rpki_command.specs.Verify.Objects.{granted_json, object_word}
-use Rattle.rpki_command.specs.Verify.Revoked.{GivenList, IsGivenList, IsUnrevoked, IsRevokedBy, Revokes}
+use Rattle.rpki_command.specs.Verify.Revoked.{GivenList, IsGivenList, IsUnrevoked, IsRevokedBy}
+use Rattle.rpki_command.specs.Verify.Revoked.{Revokes}
 use Rattle.rpki_command.specs.Verify.Revoked.{AreUnrevokedUnder, IsOneRevokedBy, IsUnrevokedUnder}
 use Rattle.rpki_command.specs.Yes.{status_of}
 use Rattle.rpki_command.specs.declared.verify.checks.Manner.{Manner}
@@ -329,7 +332,8 @@ module _ (m : Manner) (f : CheckedFiles) (s : Output) (one : status_of s ≡ 1) 
   said-of-one false refusal h e = has-memory refusal s h (no-of-one s one) e
   said-of-one true refusal h e =
       let said = json-refused (λ (file : GivenFile CheckedKind). IsNoIssuerSaid refusal)
-      (λ (file : GivenFile CheckedKind). no_issuer refusal.file.now refusal.fault ≡ out_of_memory → ⊥)
+      (λ (file : GivenFile CheckedKind). no_issuer refusal.file.now refusal.fault ≡ out_of_memory
+      → ⊥)
       (λ file t is n. has-memory refusal t is n) invalid_members object_word f.objects s h
       (no-of-one s one) in
       said.4 e

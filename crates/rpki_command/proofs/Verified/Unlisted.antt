@@ -302,7 +302,8 @@ all-kinds options Rsc A h = h
 
 -- an answer for its row is one for this kind
 some-answer : (options : Options) (kind : Kind)
-    (P : (X : Type 0) → signed.ObjectKind X → (List ℕ → X → Type 0) → (X → List ℕ) → Output → Type 0)
+    (P : (X : Type 0) → signed.ObjectKind X → (List ℕ → X → Type 0) → (X → List ℕ) → Output
+    → Type 0)
     (R : Output → Type 0)
     → OfKind options kind (λ X asked form text. (t : Output) × P X asked form text t × R t)
     → (t : Output) × OfKind options kind (λ X asked form text. P X asked form text t) × R t
@@ -385,7 +386,8 @@ module _ (options : Options) (now : Moment) (issuer : Validated) where
       → RowOf options kind (λ X asked form text members. IsJudgedAs asked form
       (λ x. file_json name (kind_word kind) (valid_members (members x))) (read_mode options) sha256
       is_rsa_signature [] issuer now octets s)
-      → (t : Output) × CheckedUnder Included options kind sha256 is_rsa_signature issuer now octets t
+      → (t : Output)
+      × CheckedUnder Included options kind sha256 is_rsa_signature issuer now octets t
       × IsAsGood s t
   kind-lines kind name octets s h = some-answer options kind
       (λ X asked form text t. IsCheckedAs Included asked form text (read_mode options) sha256

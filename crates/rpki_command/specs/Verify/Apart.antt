@@ -18,6 +18,6 @@ HasDistinctKeys (Signed kind) octets = Unit {0}
 HasDistinctKeys Rta octets = (r : attested.Whole) (rest : List ℕ)
     → Front (RtaForm Der) octets r rest → IsDistinct sha256 is_rsa_signature r
 
--- the same of a file
+-- Where a file is to be an attestation, its identifiers are distinct so.
 abbrev pub IsDistinctFile : GivenFile CheckedKind → Type 0
 IsDistinctFile file = HasDistinctKeys file.kind file.octets

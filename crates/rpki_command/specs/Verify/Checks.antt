@@ -1,6 +1,7 @@
 -- What is said of the files of a check: of a locator, of revocation lists, of certificates, and of
 -- objects under the issuer that these make.
-use Rattle.std.specs.Prelude.{◌≡◌, ◌⊎◌, ℕ, List, [], ◌∷◌, ◌++◌, drop, length, codes, Option, None, Some}
+use Rattle.std.specs.Prelude.{◌≡◌, ◌⊎◌, ℕ, List, [], ◌∷◌, ◌++◌, drop, length, codes, Option, None}
+use Rattle.std.specs.Prelude.{Some}
 use Rattle.std.specs.Prelude.{option_map, Result, Ok, Err, Vec, Bool, true, false}
 use Rattle.std.specs.List.{zip}
 use Rattle.std.specs.declared.alloc.Global.{Global}
@@ -38,7 +39,8 @@ abbrev pub first_of : List (List ℕ) → List ℕ
 first_of [] = []
 first_of (octets ∷ files) = octets
 
--- the files with these names, whose octets stand in the order in which they are read (`check_names`)
+-- the files with these names, whose octets stand in the order in which they are read
+-- (`check_names`)
 abbrev pub files_in : CheckValues → List CheckedKind → List (List ℕ) → CheckedFiles
 files_in n kinds octets =
     let below = drop 1 octets in
@@ -75,7 +77,8 @@ IsSaidLocated P (Err (locating.Bad name)) s = s ≡ bad_locator name.now
 IsSaidLocated P (Err locating.Memory) s = s ≡ out_of_memory
 
 -- what is said where this is read of the files of lists: by P, or which file begins with none
-abbrev pub IsSaidListed : (List GivenList → Output → Type 0) → Result (Vec GivenList Global) NotLists
+abbrev pub IsSaidListed : (List GivenList → Output → Type 0)
+    → Result (Vec GivenList Global) NotLists
     → Output → Type 0
 IsSaidListed P (Ok lists) s = P lists.items s
 IsSaidListed P (Err (listing.Bad name)) s = (s ≡ out_of_memory) ⊎ (s ≡ bad_list name.now)
@@ -115,16 +118,18 @@ SaidWithLists m certs files objects locator s =
     (lists : Result (Vec GivenList Global) NotLists) × AreLists files lists
     × IsSaidListed (λ ls said. SaidUnder m certs objects locator ls said) lists s
 
--- What is said of the files of a check, at a moment: that the file of the locator is none; else that
--- one of the lists is none, and which; else why the certificates make no issuer; and else what is
--- to be said of the objects under it.
+-- What is said of the files of a check, at a moment: that the file of the locator is none; else
+-- that one of the lists is none, and which; else why the certificates make no issuer; and else what
+-- is to be said of the objects under it.
 abbrev pub IsSaidOfFiles : Manner → CheckedFiles → Output → Type 0
 IsSaidOfFiles m f s =
     (locator : Result (Option GivenLocator) NotLocator) × IsLocatorOf f.locator locator
     × IsSaidLocated (λ l said. SaidWithLists m f.certs f.lists f.objects l said) locator s
 
--- The same of the octets of files with these names, in the order in which they are read.
-abbrev pub CheckedOf : Options → CheckValues → List CheckedKind → Moment → List (List ℕ) → Output → Type 0
+-- What a check with settings says of the octets of files with these names, in the order in which
+-- they are read.
+abbrev pub CheckedOf : Options → CheckValues → List CheckedKind → Moment → List (List ℕ) → Output
+    → Type 0
 CheckedOf options names kinds now octets s = (s ≡ out_of_memory)
     ⊎ IsSaidOfFiles (record { json = names.json; options = options; moment = now })
     (files_in names kinds octets) s

@@ -67,8 +67,8 @@ abbrev pub show_request_task : Options → AskedShow → Task
 show_request_task options c =
     CheckFiles Included c.files (ShownOf (either_options options c.options) c)
 
--- What words after `check` that set a trust anchor come to: a check of many files. What is wrong with
--- the words is said before a file is read.
+-- What words after `check` that set a trust anchor come to: a check of many files. What is wrong
+-- with the words is said before a file is read.
 abbrev pub check_each_task : Option Moment → Options → List (List ℕ) → Task
 check_each_task clock options words =
     DoSet AskedCheck (IsAskedCheck words) (SaysWrong (IsWrongCheck words))

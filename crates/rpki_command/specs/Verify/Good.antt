@@ -45,8 +45,8 @@ pub record BeginsWithUnrevoked {X : Type 0} (kind : signed.ObjectKind X)
   pub good : IsGood kind mode digest verdict issuer now object certificate
   pub unrevoked : IsUnrevoked verdict lists issuer.cert.certificate object.object.signed.cert
 
--- The octets begin with such an object of this kind, or with an attestation that is granted and none
--- of whose certificates under this issuer a list revokes, by these grounds.
+-- The octets begin with such an object of this kind, or with an attestation that is granted and
+-- none of whose certificates under this issuer a list revokes, by these grounds.
 abbrev pub IsGoodKind : Grounds → CheckedKind → List ℕ → Type 0
 IsGoodKind g (Signed kind) octets = OfKind g.options kind (λ X asked form text.
     BeginsWithUnrevoked asked form (read_mode g.options) sha256 is_rsa_signature g.lists g.issuer
@@ -55,7 +55,7 @@ IsGoodKind g Rta octets = BeginsWith (RtaForm Der) octets
     (λ (r : attested.Whole). IsGrantedRta sha256 is_rsa_signature g.now r (supplied_by g)
     × AreUnrevokedUnder is_rsa_signature g.lists g.issuer.cert.certificate r.signed.certs)
 
--- the same of a file
+-- The file begins with an object or an attestation of its kind that is good by these grounds.
 abbrev pub IsGoodFile : Grounds → GivenFile CheckedKind → Type 0
 IsGoodFile g file = IsGoodKind g file.kind file.octets
 
@@ -103,7 +103,7 @@ IsRefusedKind g (Signed kind) octets = OfKind g.options kind (λ X asked form te
     g.now octets)
 IsRefusedKind g Rta octets = BeginsWithRefusedRta g octets
 
--- the same of a file
+-- The file begins with no object or attestation of its kind that is good by these grounds.
 abbrev pub IsRefusedFile : Grounds → GivenFile CheckedKind → Type 0
 IsRefusedFile g file = IsRefusedKind g file.kind file.octets
 

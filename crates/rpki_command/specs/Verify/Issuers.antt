@@ -1,6 +1,7 @@
 -- The issuer that a trust anchor and a chain of CAs make, where their files have names, where a
 -- locator may be given, and revocation lists.
-use Rattle.std.specs.Prelude.{◌≡◌, ◌⊎◌, ℕ, List, [], ◌∷◌, ◌++◌, map, codes, Option, None, Some, IfSome}
+use Rattle.std.specs.Prelude.{◌≡◌, ◌⊎◌, ℕ, List, [], ◌∷◌, ◌++◌, map, codes, Option, None, Some}
+use Rattle.std.specs.Prelude.{IfSome}
 use Rattle.std.specs.Prelude.{Result, Ok, Err, String, string_bytes}
 use Rattle.std.specs.Borrow.{Bor}
 use Rattle.std.specs.declared.alloc.AllocError.{AllocError}
@@ -49,7 +50,7 @@ octets_in files = map (λ f. f.1) files
 abbrev pub Make : Verdict → Moment → CertFiles → Result Validated IssuerError → Type 0
 Make verdict now certs result = MakesIssuer verdict now certs.anchor.1 (octets_in certs.chain) result
 
--- the same trust anchor, with these files for the chain
+-- the files of a trust anchor, with these files for the chain
 abbrev pub under : CertFiles → List File → CertFiles
 under certs chain = record { anchor = certs.anchor; chain = chain }
 
@@ -182,8 +183,8 @@ IsLocatorRead file (Err Memory) = Unit {0}
 
 -- ---- step by step
 
--- the fault of a file of this name that is refused so as a locator: want of memory is that, and every
--- other fault says that it is none
+-- the fault of a file of this name that is refused so as a locator: want of memory is that, and
+-- every other fault says that it is none
 abbrev pub IsLocatorFault : ReadError → List ℕ → NotLocator → Type 0
 IsLocatorFault errors.Memory name fault = fault ≡ Memory
 IsLocatorFault error name Memory = ⊥

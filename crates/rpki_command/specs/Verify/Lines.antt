@@ -8,13 +8,13 @@ use Rattle.rpki_show.specs.Json.File.{file_json}
 use Rattle.rpki_command.specs.Verify.Each.{GivenFile, printed}
 use Rattle.rpki_command.specs.Verify.Objects.{object_word}
 
--- The line is that of the file: the text of an object with the file's name, the word of its kind and
--- other members, and a line feed.
+-- The line is that of the file: the text of an object with the file's name, the word of its kind
+-- and other members, and a line feed.
 pub record IsFileLine (file : GivenFile CheckedKind) (line : List ℕ) : Type 0 where
   pub members : List Member
   pub is : line ≡ file_json file.name (object_word file.kind) members
 
--- Such lines are printed, one for each file, in their order, and nothing else.
+-- Lines of JSON are printed, one for each file, in their order, and nothing else.
 pub record PrintsLines (files : List (GivenFile CheckedKind)) (s : Output) : Type 0 where
   pub lines : List (List ℕ)
   pub each : AllZip IsFileLine files lines

@@ -156,7 +156,7 @@ abbrev pub EachListSuffices : Options → Moment → CertFiles → Option File �
 EachListSuffices options now certs locator file =
     IsGoodByLists options now certs locator file.kind file.octets
 
--- and for a no, under these certificates alone
+-- each list suffices for a no to this file, under these certificates and no locator
 abbrev pub EachListRefuses : Options → Moment → CertFiles → GivenFile CheckedKind → Type 0
 EachListRefuses options now certs file = IsRefusedByLists options now certs file.kind file.octets
 
@@ -184,12 +184,12 @@ pub record IsObjectSigned (options : Options) (certs : CertFiles) (octets : List
       → says is_rsa_signature q ≡ true
 
 -- The signatures are good on which a check of an object of this kind rests; of an attestation this
--- is said of the certificates in the files alone. What it carries is signed too, each part by one of
--- the keys with the identifier that it names; which one that is, no identifier tells.
+-- is said of the certificates in the files alone. What it carries is signed too, each part by one
+-- of the keys with the identifier that it names; which one that is, no identifier tells.
 abbrev pub AreSignaturesGood : Options → CertFiles → CheckedKind → List ℕ → Type 0
 AreSignaturesGood options certs (Signed kind) octets = IsObjectSigned options certs octets
 AreSignaturesGood options certs Rta octets = AreCertsSigned certs
 
--- the same of a file
+-- The signatures are good on which a check of this file rests.
 abbrev pub HasGoodSignatures : Options → CertFiles → GivenFile CheckedKind → Type 0
 HasGoodSignatures options certs file = AreSignaturesGood options certs file.kind file.octets

@@ -1,4 +1,5 @@
--- What is said of a signed object or an attestation under an issuer, where revocation lists are given.
+-- What is said of a signed object or an attestation under an issuer, where revocation lists are
+-- given.
 use Rattle.std.specs.Prelude.{◌≡◌, ◌⊎◌, ℕ, List, [], ◌∷◌, ◌++◌, Option, None, Some, Result, Ok, Err}
 use Rattle.std.specs.Prelude.{String, string_bytes, Bool, true, false, codes}
 use Rattle.std.specs.declared.alloc.AllocError.{AllocError}
@@ -43,7 +44,8 @@ use Rattle.rpki_cli.specs.declared.verify.requests.CheckedKind.TheVariants.{Sign
 
 -- ---- one object
 
--- what is said where the list in the file of this name revokes a certificate, unless memory runs out
+-- what is said where the list in the file of this name revokes a certificate, unless memory runs
+-- out
 abbrev pub IsRevokedSaid : List ℕ → Output → Type 0
 IsRevokedSaid list s = (s ≡ out_of_memory) ⊎ (s ≡ refused (revoked_text list))
 
@@ -80,16 +82,16 @@ abbrev pub IsJudgedAs : {X : Type 0} → signed.ObjectKind X → (List ℕ → X
 IsJudgedAs kind form text mode digest verdict lists issuer now octets s =
     (s ≡ out_of_memory) ⊎ IsJudged kind form text mode digest verdict lists issuer now octets s
 
--- What is said of octets that may begin with an object of a kind, under an issuer, where these lists
--- are given, with these options: of a good one yes, and the lines of its content.
+-- What is said of octets that may begin with an object of a kind, under an issuer, where these
+-- lists are given, with these options: of a good one yes, and the lines of its content.
 abbrev pub JudgedUnder : Options → Kind → Digester → Verdict → List GivenList → Validated → Moment
     → List ℕ → Output → Type 0
 JudgedUnder options kind digest verdict lists issuer now octets s =
     OfKind options kind (λ X asked form text. IsJudgedAs asked form (λ x. yes_line ++ text x)
     (read_mode options) digest verdict lists issuer now octets s)
 
--- The same in JSON, in a file of this name: of a good one the line that says that it is valid, with
--- the members of its content.
+-- What is said in JSON of an object of a kind in a file of this name: of a good one the line that
+-- says that it is valid, with the members of its content.
 abbrev pub JudgedInJson : Options → Kind → List ℕ → Digester → Verdict → List GivenList → Validated
     → Moment → List ℕ → Output → Type 0
 JudgedInJson options kind name digest verdict lists issuer now octets s =
@@ -146,7 +148,7 @@ IsSaidOfRtaAs g text octets s =
     AttestedAs (IsAttestationSaid text is_rsa_signature g.lists g.issuer) (λ (_ : Rsa). sha256)
     (λ (_ : Rsa). is_rsa_signature) (record {}) g.now (supplied_by g) octets s
 
--- the same in lines
+-- what is said of an attestation, in lines
 abbrev pub IsSaidOfRta : Grounds → List ℕ → Output → Type 0
 IsSaidOfRta g octets s = IsSaidOfRtaAs g granted_text octets s
 
@@ -155,7 +157,7 @@ abbrev pub granted_json : List ℕ → KeptWhole → List ℕ
 granted_json name r =
     file_json name (codes "rta") (valid_members (attestation_members r.content))
 
--- The same of an attestation, in JSON.
+-- What is said of an attestation in a file of this name, in JSON.
 abbrev pub IsSaidOfRtaInJson : Grounds → List ℕ → List ℕ → Output → Type 0
 IsSaidOfRtaInJson g name octets s = IsSaidOfRtaAs g (granted_json name) octets s
 
@@ -168,7 +170,7 @@ IsSaidOfKind g Rta octets s = IsSaidOfRta g octets s
 abbrev pub IsSaidOfObject : Grounds → GivenFile CheckedKind → Output → Type 0
 IsSaidOfObject g file s = IsSaidOfKind g file.kind file.octets s
 
--- The same of an object of a kind, in JSON, in a file of this name.
+-- What is said of a file of this name and kind, in JSON.
 abbrev pub IsKindInJson : Grounds → CheckedKind → List ℕ → List ℕ → Output → Type 0
 IsKindInJson g (Signed kind) name octets s = JudgedInJson g.options kind name sha256 is_rsa_signature
     g.lists g.issuer g.now octets s

@@ -31,8 +31,8 @@ pub record IsListOf (verdict : Verdict) (issuer : Certificate) (list : Revocatio
   pub identifier : list.tbs.extensions.authority_key ≡ issuer.tbs.extensions.key.subject_key
   pub signed : IsSignedBy verdict issuer.tbs.key list
 
--- A list revokes a certificate of this issuer: it counts for the issuer, and an entry has the serial
--- number of the certificate (RFC 5280, section 5.1.2.6).
+-- A list revokes a certificate of this issuer: it counts for the issuer, and an entry has the
+-- serial number of the certificate (RFC 5280, section 5.1.2.6).
 abbrev pub Revokes : Verdict → Certificate → Certificate → RevocationList → Type 0
 Revokes verdict issuer c list =
     IsListOf verdict issuer list × Contains list.tbs.revoked c.tbs.serial_number

@@ -28,14 +28,15 @@ check_each_order options words = record { options = options; command = CheckEach
 abbrev pub IsTold : Told → List ℕ → File → Type 0
 IsTold told name file = (file.0 ≡ name) × (told name ≡ Some (Ok file.1))
 
--- The same of the file of a locator, where one is named.
+-- The file of a locator has the name that is given, and the store tells its octets; or none is
+-- named.
 abbrev pub IsToldIf : Told → Option (List ℕ) → Option File → Type 0
 IsToldIf told None None = Unit {0}
 IsToldIf told None (Some file) = ⊥
 IsToldIf told (Some name) None = ⊥
 IsToldIf told (Some name) (Some file) = IsTold told name file
 
--- The same of a file that is checked.
+-- The file that is checked has this name, and the store tells its octets.
 abbrev pub IsToldObject : Told → List ℕ → GivenFile CheckedKind → Type 0
 IsToldObject told name file = (file.name ≡ name) × (told name ≡ Some (Ok file.octets))
 

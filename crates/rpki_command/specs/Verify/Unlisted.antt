@@ -37,7 +37,7 @@ abbrev pub IsSaidOfOne : Options → Moment → CertFiles → GivenFile Kind →
 IsSaidOfOne options now certs file s =
     VerifiedOf options file.kind now (in_order (files_of_one certs file)) s
 
--- It may say something with this status.
+-- A check of this signed object may say something with this status.
 pub record MayEndWith (status : ℕ) (options : Options) (now : Moment) (certs : CertFiles)
     (file : GivenFile Kind) : Type 0 where
   pub answer : Output

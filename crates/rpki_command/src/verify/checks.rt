@@ -39,16 +39,17 @@ pub struct Manner {
     pub moment: Time,
 }
 
-/// What is said of the files of a check with these options, at a moment: first of the locator, where
-/// one is set, then of the revocation lists, then of the certificates, and then of the objects under
-/// the issuer that these make, which is validated once. The octets stand in the order of
-/// `check_names`, and the kinds are those of the objects.
+/// What is said of the files of a check with these options, at a moment: first of the locator,
+/// where one is set, then of the revocation lists, then of the certificates, and then of the
+/// objects under the issuer that these make, which is validated once. The octets stand in the order
+/// of `check_names`, and the kinds are those of the objects.
 ///
 /// A locator that is none is `BadLocator`, and a file that begins with no list `Reported`, with
 /// status 2. Certificates that make no issuer are refused as `refused_by` says. Of one object is
 /// said what `check` says of it, and where it is good and a list revokes its certificate, that it
 /// is refused for that; of several an entry for each, with status 0 where each is good. In JSON
-/// there is a line for each object, and where certificates make no issuer, each is refused for that.
+/// there is a line for each object, and where certificates make no issuer, each is refused for
+/// that.
 pub fn check_each<'a>(
     alloc: Global,
     options: Options,
@@ -125,8 +126,8 @@ fn locator_if<'a>(
     }
 }
 
-/// What is said of certificates and objects, where this locator is given, and lists with these names,
-/// whose octets are the first of these files.
+/// What is said of certificates and objects, where this locator is given, and lists with these
+/// names, whose octets are the first of these files.
 fn check_listed<'a>(
     alloc: Global,
     manner: Manner,

@@ -78,9 +78,9 @@ pub fn checks_are_right<P: RelyingParty>()
 
 /// Where a store tells the files of a walk, a run of it that ends with status 0 says yes and which
 /// entries are held, and that rightly: FILE begins with a good manifest under the issuer that the
-/// certificates make, at this moment, by signatures as RFC 8017, section 8.2.2, has them, and a line
-/// is printed for each of its entries that the files at hand hold, and for no other. Where a run
-/// ends with status 1, they make no issuer, or FILE begins with no good manifest under it.
+/// certificates make, at this moment, by signatures as RFC 8017, section 8.2.2, has them, and a
+/// line is printed for each of its entries that the files at hand hold, and for no other. Where a
+/// run ends with status 1, they make no issuer, or FILE begins with no good manifest under it.
 pub fn walks_are_right<P: RelyingParty>()
     ensures yes { (told : Told) (clock : Option Moment) (party : P) (words : List (List ℕ))
         (before after : List (List ℕ)) (run : Run) (options : Options) (moment : When)
@@ -150,9 +150,9 @@ pub fn lists_are_right<P: RelyingParty>()
 {}
 
 /// Where a store tells the files of a list for an attestation, a run that ends with status 0 prints
-/// the list of the good ones of the signatures that a check of FILE under the anchors may ask about.
-/// Where a run ends with status 1, not all files of their chains begin with a certificate, or FILE
-/// begins with no attestation.
+/// the list of the good ones of the signatures that a check of FILE under the anchors may ask
+/// about. Where a run ends with status 1, not all files of their chains begin with a certificate,
+/// or FILE begins with no attestation.
 pub fn attestation_lists_are_right<P: RelyingParty>()
     ensures yes { (told : Told) (clock : Option Moment) (party : P) (words : List (List ℕ))
         (before after : List (List ℕ)) (run : Run) (options : Options) (file : List ℕ)

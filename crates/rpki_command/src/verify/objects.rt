@@ -1,4 +1,5 @@
-//! What is said of signed objects and attestations under an issuer, where revocation lists are given.
+//! What is said of signed objects and attestations under an issuer, where revocation lists are
+//! given.
 
 ghost use Rattle.std.specs.Prelude.{◌≡◌, ◌++◌, IfOk, codes, map, string_bytes};
 ghost use Rattle.rpki_rta.specs.Refused.{supply_in};
@@ -326,8 +327,8 @@ fn judged<'a, C: Lines, K: Crypto>(
     }
 }
 
-/// The content that a check under this issuer finds good, where no list revokes its certificate, and
-/// else what is answered.
+/// The content that a check under this issuer finds good, where no list revokes its certificate,
+/// and else what is answered.
 fn settled<'a, C: Lines, K: Crypto>(
     alloc: Global,
     lists: &[NamedList<'_>],

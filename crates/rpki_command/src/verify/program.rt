@@ -41,9 +41,9 @@ use rpki_cli::{
 use rpki_show::{show_certificate, show_crl};
 use std::alloc::Global;
 
-/// The program with signatures, `rpki_verify`: it shows what the program with verdicts shows, checks
-/// objects by their signatures, tells which files a manifest holds, and lists the payloads that a
-/// relying party finds.
+/// The program with signatures, `rpki_verify`: it shows what the program with verdicts shows,
+/// checks objects by their signatures, tells which files a manifest holds, and lists the payloads
+/// that a relying party finds.
 #[derive(Drop)]
 pub struct Verify<P> {
     /// The moment that the clock tells, if it tells one.

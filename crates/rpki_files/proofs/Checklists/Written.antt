@@ -22,7 +22,8 @@ use Rattle.rpki_resources.specs.As.Written.{as_octets}
 use Rattle.rpki_lists.specs.Named.{Set, sets_of}
 use Rattle.rpki_lists.specs.Version.{OptionalVersion}
 use Rattle.rpki_lists.proofs.Names.Written.{AsWritten, AreWritten, resource-block-written}
-use Rattle.rpki_files.specs.Checklist.Files.{Checked, CheckedForm, IsNamed, PortableForm, is_portable_name}
+use Rattle.rpki_files.specs.Checklist.Files.{Checked, CheckedForm, IsNamed, PortableForm}
+use Rattle.rpki_files.specs.Checklist.Files.{is_portable_name}
 use Rattle.rpki_files.specs.Checklist.Files.{checked_contents, checked_octets}
 use Rattle.rpki_files.specs.Checklist.{Checklist, NumbersForm, NamedForm, ChecklistForm}
 use Rattle.rpki_files.specs.Checklist.{numbers_octets, named_contents}

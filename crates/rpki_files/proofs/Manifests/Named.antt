@@ -9,7 +9,8 @@ use Rattle.rpki_der.specs.Form.Parts.{sequence_at}
 use Rattle.rpki_der.proofs.Reading.Lengths.{bind_some, some_is}
 use Rattle.rpki_lists.specs.Entries.{entries_of, HoldEntries}
 use Rattle.rpki_files.specs.Name.{IsFileName, is_file_name}
-use Rattle.rpki_files.specs.Manifest.Files.{File, name_of, file_name_at, hash_at, file_fields_at, file_at}
+use Rattle.rpki_files.specs.Manifest.Files.{File, name_of, file_name_at, hash_at, file_fields_at}
+use Rattle.rpki_files.specs.Manifest.Files.{file_at}
 use Rattle.rpki_files.proofs.Names.Decided.{name-decides}
 use Rattle.rpki_der.proofs.Reading.Contents.{guarded}
 

@@ -19,7 +19,8 @@ use Rattle.rpki_lists.specs.Entries.{HoldEntries, entries_of}
 use Rattle.rpki_lists.proofs.Listed.{entries-held, entries-read}
 use Rattle.rpki_files.specs.declared.manifest.file.FileAndHash.{FileAndHash}
 use Rattle.rpki_files.specs.declared.manifest.builder.entries.Entries.{Entries}
-use Rattle.rpki_files.specs.Manifest.Files.{File, MeetsRule, file-small, file_at, file_octets, is_allowed}
+use Rattle.rpki_files.specs.Manifest.Files.{File, MeetsRule, file-small, file_at, file_octets}
+use Rattle.rpki_files.specs.Manifest.Files.{is_allowed}
 use Rattle.rpki_files.specs.Manifest.Files.{is_short_file, is_unrepeated, name_of}
 use Rattle.rpki_files.specs.Manifest.{files_octets}
 use Rattle.rpki_files.specs.Manifest.Built.{file_checks, meant, name_checks}

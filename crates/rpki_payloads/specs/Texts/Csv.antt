@@ -14,7 +14,7 @@ use Rattle.rpki_payloads.specs.Texts.Origin.{max_length}
 abbrev pub csv_header : List ℕ
 csv_header = codes "ASN,IP Prefix,Max Length,Trust Anchor\n"
 
--- AS64496,192.0.2.0/24,26,anchor
+-- the row of an origin, as `AS64496,192.0.2.0/24,26,anchor`
 abbrev pub csv_row : Origin → List ℕ
 csv_row o = asn_text o.origin.asn ++ (codes ","
     ++ (prefix_text o.origin.prefix.family o.origin.prefix.prefix ++ (codes ","

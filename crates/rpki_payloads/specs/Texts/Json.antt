@@ -13,7 +13,8 @@ use Rattle.rpki_payloads.specs.Texts.Origin.{max_length}
 unfoldable pub json_ta : List ℕ → List ℕ
 json_ta name = codes ", \"ta\": " ++ (json_string name ++ codes " }")
 
--- { "asn": "AS64496", "prefix": "192.0.2.0/24", "maxLength": 26
+-- the first members of an origin, as `{ "asn": "AS64496", "prefix": "192.0.2.0/24", "maxLength":
+-- 26`
 unfoldable pub json_origin : RouteOrigin → List ℕ
 json_origin o = codes "\n    { \"asn\": \"" ++ (asn_text o.asn
     ++ (codes "\", \"prefix\": \"" ++ (prefix_text o.prefix.family o.prefix.prefix
@@ -23,11 +24,11 @@ json_origin o = codes "\n    { \"asn\": \"" ++ (asn_text o.asn
 abbrev pub json_roa : Origin → List ℕ
 json_roa o = json_origin o.origin ++ json_ta o.name
 
--- { "customer": "AS64496", "providers": [
+-- a customer before its providers, as `{ "customer": "AS64496", "providers": [`
 unfoldable pub json_customer : ℕ → List ℕ
 json_customer n = codes "\n    { \"customer\": \"" ++ (asn_text n ++ codes "\", \"providers\": [")
 
--- "AS64497"
+-- a provider, as `"AS64497"`
 abbrev pub json_provider : ℕ → List ℕ
 json_provider n = codes "\"" ++ (asn_text n ++ codes "\"")
 

@@ -10,7 +10,8 @@ use Rattle.rpki_tree.specs.declared.payload.Payload.TheVariants as payloads
 use Rattle.rpki_tree.specs.declared.payload.Providers.{Providers}
 use Rattle.rpki_payloads.specs.Found.{Found, all_named}
 
--- origin AS64496 192.0.2.0/24-26, or without the maximum length where none is set
+-- the line of an origin, as `origin AS64496 192.0.2.0/24-26`; without the maximum length where none
+-- is set
 abbrev pub origin_line : RouteOrigin → List ℕ
 origin_line o =
     codes "origin " ++ (asn_text o.asn ++ (codes " " ++ (max_len_text o.prefix ++ codes "\n")))
@@ -19,7 +20,7 @@ origin_line o =
 abbrev pub provider_text : ℕ → List ℕ
 provider_text n = codes " " ++ asn_text n
 
--- aspa AS64496 AS64497 AS64511: the customer, and each provider
+-- the line of a customer with each provider, as `aspa AS64496 AS64497 AS64511`
 abbrev pub aspa_line : Providers → List ℕ
 aspa_line p =
     codes "aspa " ++ (asn_text p.customer ++ (flat_map provider_text p.providers ++ codes "\n"))

@@ -19,6 +19,7 @@ hashed_value (Some name) hash =
     object_of (text_member (codes "filename") (ia5_text name) ∷ hash_member hash ∷ [])
 hashed_value None hash = object_of (hash_member hash ∷ [])
 
+-- the object of an entry of a checklist
 abbrev pub checked_value : Checked → Json
 checked_value f = hashed_value f.file_name f.hash
 

@@ -27,7 +27,7 @@ object_text way text o =
     text o.content ++ (signing_line o.object.signed.signer.attributes.signing_time
     ++ signer_line way o.object.signed.cert)
 
--- the same, with the serial number as the lines of the certificate of the signer have it, and then
--- these lines
+-- the text of an object, with the serial number as the lines of the certificate of the signer have
+-- it, and then these lines
 abbrev pub whole_text : {X : Type 0} → (X → List ℕ) → Whole X → List ℕ
 whole_text text o = object_text Octets text o ++ certificate_text o.object.signed.cert

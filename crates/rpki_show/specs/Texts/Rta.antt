@@ -46,7 +46,8 @@ carried_text m = certificates_line (length m.certs)
 abbrev pub rta_text : Whole → List ℕ
 rta_text r = attestation_text r.content ++ carried_text r.signed
 
--- the same, then the lines of each certificate that is carried, and those of each revocation list
+-- the text of an attestation, then the lines of each certificate that is carried, and those of each
+-- revocation list
 abbrev pub whole_rta_text : DatedWhole → List ℕ
 whole_rta_text r = rta_text r.rta
     ++ (flat_map certificate_text r.rta.signed.certs ++ flat_map crl_text r.lists)

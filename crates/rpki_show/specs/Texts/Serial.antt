@@ -20,7 +20,7 @@ abbrev pub hexadecimal : Hexadecimal → ℕ → List ℕ
 hexadecimal Plain n = serial_text n
 hexadecimal Octets n = serial_hex n
 
--- these octets, or one of zero where there are none
+-- octets, or one of zero where there are none
 abbrev pub or_zero : List ℕ → List ℕ
 or_zero [] = 0 ∷ []
 or_zero (octet ∷ octets) = octet ∷ octets

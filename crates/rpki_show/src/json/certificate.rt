@@ -93,8 +93,8 @@ fn is_ca(basic_ca: Option<bool>) -> bool
 }
 
 /// Appends the members of a certificate that signed something: those of `push_facts`, and
-/// `cert_asns`, `cert_ipv4` and `cert_ipv6` for its numbers, as `push_certificate` has them. Refuses
-/// where memory runs out.
+/// `cert_asns`, `cert_ipv4` and `cert_ipv6` for its numbers, as `push_certificate` has them.
+/// Refuses where memory runs out.
 #[tactic(auto, unfolding(crate::specs::Json::Certificate::signer_members))]
 pub fn push_signer(alloc: Global, text: &mut String, cert: &Cert) -> Result<(), AllocError>
     ensures { Grows result text.old text.new

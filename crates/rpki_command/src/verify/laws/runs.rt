@@ -55,9 +55,9 @@ pub fn checks_with_settings_are_right<P: RelyingParty>()
         → AreRefused (either_options options c.values.options) now f }
 {}
 
-/// Where such a check has one signed object, no locator and no lists, and is said in lines, a yes is
-/// right as one of `check KIND FILE MOMENT TA [CA ..]` is, and so is a no. So what holds of these,
-/// as that a list of verdicts suffices (`lists_suffice`), holds of those.
+/// Where such a check has one signed object, no locator and no lists, and is said in lines, a yes
+/// is right as one of `check KIND FILE MOMENT TA [CA ..]` is, and so is a no. So what holds of
+/// these, as that a list of verdicts suffices (`lists_suffice`), holds of those.
 pub fn checks_without_lists_are_right<P: RelyingParty>()
     ensures yes { (clock : Option Moment) (party : P) (told : Told) (options : Options)
         (c : AskedCheck) (now : Moment) (certs : CertFiles) (file : GivenFile Kind) (run : Run)
@@ -126,8 +126,8 @@ pub fn each_signature_behind_a_yes_is_good<P: RelyingParty>()
 {}
 
 /// What such a check says in JSON, where nothing is wrong with its words and files, is a line for
-/// each FILE, in their order, which is the text of an object with the name of the file as the member
-/// `file`. Such a line is a text of JSON (`lines_are_json` of `rpki_show`).
+/// each FILE, in their order, which is the text of an object with the name of the file as the
+/// member `file`. Such a line is a text of JSON (`lines_are_json` of `rpki_show`).
 pub fn lines_name_their_files()
     ensures { (m : Manner) (f : CheckedFiles) (s : Output) → m.json ≡ true → IsSaidOfFiles m f s
         → status_of s < 2 → PrintsLines f.objects s }

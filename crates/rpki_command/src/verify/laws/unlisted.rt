@@ -17,9 +17,9 @@ ghost use Rattle.rpki_command.specs.Yes.{status_of};
 ghost use Rattle.rpki_command.specs.declared.verify.checks.Manner.{Manner};
 
 /// What `check --ta TA [--ca CA ..] FILE` says in lines of one signed object, without a locator and
-/// without lists, `check KIND FILE MOMENT TA [CA ..]` may say of it, but that a refusal of an issuer
-/// names the file of the certificate before its cause, and which rule a malformed one breaks. And
-/// what the second may say, the first may, under these certificates.
+/// without lists, `check KIND FILE MOMENT TA [CA ..]` may say of it, but that a refusal of an
+/// issuer names the file of the certificate before its cause, and which rule a malformed one
+/// breaks. And what the second may say, the first may, under these certificates.
 pub fn without_lists_one_object_is_checked()
     ensures first { (options : Options) (now : Moment) (certs : CertFiles) (file : GivenFile Kind)
         (s : Output) → IsSaidOfFiles (in_lines options now) (unlisted certs (file ∷ [])) s
@@ -43,9 +43,9 @@ pub fn without_lists_each_object_is_checked()
 {}
 
 /// A yes and a no exclude each other. What a check of one signed object may say with status 0, it
-/// never says with status 1. And files that are good are not refused, by whichever issuer, if no two
-/// CAs that an attestation among them carries share a key identifier, and end entities that share
-/// one have one key.
+/// never says with status 1. And files that are good are not refused, by whichever issuer, if no
+/// two CAs that an attestation among them carries share a key identifier, and end entities that
+/// share one have one key.
 pub fn a_yes_is_never_a_no()
     ensures one { (options : Options) (now : Moment) (certs : CertFiles) (file : GivenFile Kind)
         → MayEndWith 0 options now certs file → ¬ MayEndWith 1 options now certs file }
