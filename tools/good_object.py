@@ -22,7 +22,7 @@ import hashlib
 import re
 
 # The crates whose texts may be printed of an object.
-TEXTS = ["rpki_basics", "rpki_resources", "rpki_attributes", "rpki_extensions", "rpki_sigobj"]
+TEXTS = ["rpki_basics", "rpki_resources", "rpki_attributes", "rpki_extensions", "rpki_crls", "rpki_sigobj"]
 TEXTS += ["rpki_files", "rpki_routes", "rpki_tagged"]
 # How names are shortened in what has to hold.
 SHORT = [("o.object.signed", "signed"), ("o.content", "content"), ("valid.sets", "sets")]
@@ -33,7 +33,7 @@ ROOT = ("rpki_sigobj", "Signed/Process")
 OWN = "project's own"
 DEFINITION = re.compile(
     r"(?:(?:abbrev|unfoldable|opaque) )?(?:pub )?(record |data )?([^\s:(){}]+)"
-    r"(?: +[({].*)? *:(?: |$)"
+    r"(?: +[({][^=]*)? *:(?: |$)"
 )
 
 
@@ -47,8 +47,9 @@ COMMON = "[the object and its certificate](#the-checks-of-the-object-and-its-cer
 OVERCLAIMED = {
     "IsAllowed": "The policy is the one that refuses, and the certificate claims numbers of this family "
     "that its issuer does not have",
-    "IsLinkCovered": "The policy of a certificate below a CA is the one that refuses, the CA claims a set "
-    "of this family, and the nearest explicit set at or below the certificate does not lie in it",
+    "IsLinkCovered": "The policy of a certificate below a CA is the one that refuses, the CA does not "
+    "inherit this family, and the nearest explicit set at or below the certificate does not lie in what "
+    "the CA claims, which is nothing where it does not name the family",
     "Takes": "The policy of the head is the one that refuses, and the nearest explicit set of this "
     "family at or below the head does not lie in that of the CA",
 }
