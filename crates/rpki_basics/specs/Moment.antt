@@ -23,7 +23,7 @@ pub record IsMoment (m : Moment) : Type 0 where
   pub minute : m.minute < 60
   pub second : m.second < 60
 
--- The same, as a test.
+-- whether the numbers are those of a day of the calendar and a second of it
 abbrev pub is_moment : Moment → Bool
 is_moment m =
     nat_le m.year 9999 && nat_le 1 m.month && nat_le m.month 12 && nat_le 1 m.day

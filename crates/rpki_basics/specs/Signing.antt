@@ -24,7 +24,8 @@ signing_text own (error.Content fault) = Some (fault_text fault)
 signing_text own error.NotDer = Some (codes "not DER")
 signing_text own error.Memory = Some (codes "out of memory")
 
--- Each fault of the signer's own raises the count of its failed calls, and nothing else does.
+-- Each fault that a signer can answer (no such key, an incompatible key, one of its own) raises the
+-- count of its failed calls, and nothing else does.
 abbrev pub CountsError : {T E : Type 0} → ℕ → ℕ → Result T (SigningError E) → Type 0
 CountsError old new (Ok t) = new ≡ old
 CountsError old new (Err error.KeyNotFound) = old < new

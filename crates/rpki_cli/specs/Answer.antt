@@ -191,7 +191,7 @@ malformed_text = codes "malformed"
 abbrev pub malformed : Output
 malformed = Printed (malformed_text ++ codes "\n") 1
 
--- the same, for this cause
+-- the answer that a file is malformed, for this cause
 abbrev pub malformed_by : List ℕ → Output
 malformed_by cause = Printed (codes "malformed: " ++ (cause ++ codes "\n")) 1
 

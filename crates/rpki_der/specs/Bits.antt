@@ -9,7 +9,7 @@ pub record IsBits (octets : List ℕ) (unused : ℕ) : Type 0 where
   pub few : unused < 8
   pub none : length octets ≡ 0 → unused ≡ 0
 
--- the same as a truth value
+-- whether the unused bits are fewer than 8, and none where no octet follows
 abbrev pub are_bits : List ℕ → ℕ → Bool
 are_bits octets unused =
     if nat_lt unused 8 then (if length octets == 0 then unused == 0 else true) else false

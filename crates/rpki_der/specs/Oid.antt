@@ -9,7 +9,7 @@ use Rattle.rpki_der.specs.Text.Hex.{hex}
 abbrev pub IsOid : List ℕ → Type 0
 IsOid contents = (0 < length contents) × (slice_index contents (length contents - 1) < 128)
 
--- the same as a truth value
+-- whether the contents are those of an OBJECT IDENTIFIER: not empty, and the last octet below 128
 abbrev pub is_oid : List ℕ → Bool
 is_oid contents = if nat_lt 0 (length contents) then nat_lt
     (slice_index contents (length contents - 1)) 128 else false

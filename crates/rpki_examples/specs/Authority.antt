@@ -45,7 +45,8 @@ pub record Desk (C : Type 0) : Type 0 where
   pub list : RevocationList
   pub moment : Moment
 
--- The same, by its digests and its verdicts.
+-- A check of an object under an issuer with a revocation list, by the digests and the verdicts of
+-- the cryptography in use.
 pub record Checking : Type 0 where
   pub digest : Digester
   pub verdict : Verdict

@@ -45,7 +45,7 @@ validity_checks c now =
     ∷ (verifications.Expired unless (now ≤ c.not_after))
     ∷ []
 
--- It is signed (RFC 5280, section 6.1.3).
+-- The certificate has to be signed (RFC 5280, section 6.1.3).
 abbrev pub signature_checks : Facts → List (Check VerificationError)
 signature_checks c = (verifications.BadSignature unless (c.is_signed ≡ true)) ∷ []
 

@@ -2,7 +2,7 @@
 
 ghost use Rattle.std.specs.Prelude.{◌≡◌, ◌<◌, ◌^◌, ℕ, List, Option, MatchOption, All, length};
 ghost use Rattle.std.specs.List.{flat_map};
-ghost use Rattle.rpki_der.specs.Tags.{INTEGER, OCTET_STRING, IA5_STRING, SEQUENCE};
+ghost use Rattle.rpki_der.specs.Tags.{INTEGER, OCTET_STRING, IA5_STRING, SEQUENCE, context};
 ghost use Rattle.rpki_der.specs.Numbers.{MAX_DEPTH};
 ghost use Rattle.rpki_der.specs.declared.mode.Mode.TheVariants.{Der};
 ghost use Rattle.rpki_der.specs.Grammar.{IsBytes, HasNoFront, Value, IntegerBelow, BitString};
@@ -14,6 +14,7 @@ ghost use Rattle.rpki_der.specs.Form.Law.{TagSet, IsPart, nothing, is};
 ghost use Rattle.rpki_der.specs.Form.Parts.{SequenceOf};
 ghost use Rattle.rpki_der.specs.Write.Written.{value_octets};
 ghost use Rattle.rpki_lists.specs.Entries.{list_at};
+ghost use Rattle.rpki_lists.specs.Named.{IpAddrBlocksForm, addresses_at};
 ghost use Rattle.rpki_lists.specs.Slice.{FindsFront, IsTakenBy, IsTakenIfNextBy};
 
 use rpki_der::laws::forms::Part;
@@ -47,6 +48,11 @@ pub fn fronts_are_found<U: Drop, T: Part>()
         (rest : List ℕ) → IsBytes octets → FindsFront view T.at octets result rest
         → MatchOption result (HasNoFront (T.form Der) octets)
         (λ found. IsOnlyFront (T.form Der) octets (view found) rest) }
+{}
+
+/// The addresses that a content names, if it names any, are read exactly.
+pub fn named_addresses()
+    ensures { IsPart (is (context 1)) (is (context 1)) addresses_at IpAddrBlocksForm }
 {}
 
 /// In DER an OCTET STRING is one value, as the reader of a slice takes it (X.690, sections 8.7 and

@@ -11,7 +11,8 @@ Numbers = List (Block ℕ)
 
 -- A carried certificate, with the answers that are asked about it. Identifiers and keys are octets.
 pub record Cert : Type 0 where
-  -- where it stands among the carried certificates
+  -- its place on a path: 0 of an end-entity certificate, one more than its index among the CAs of a
+  -- CA; 0 where no path is spoken of
   pub place : ℕ
   -- the subject key identifier (RFC 6487, section 4.8.2)
   pub ski : List ℕ

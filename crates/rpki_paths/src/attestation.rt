@@ -90,8 +90,9 @@ where
 }
 
 /// Whether an attestation is granted under some supplies, handed in one after the other. A yes is
-/// right always, and an error but for memory where identifiers are distinct. An error is the first
-/// thing that fails: what `accept` asks, then the supplies, then the end. Of s signers, l CRLs and
+/// right always. With distinct identifiers an error but for memory means that a certificate is not
+/// good, or that the attestation is not granted. An error is the first thing that fails: what
+/// `accept` asks, then the supplies, then the end. Of s signers, l CRLs and
 /// a CAs, with distinct identifiers, a yes asks for at most s + l + s * a verdicts.
 pub fn grant<X, S, C, R, T, U, L: Ledger>(
     alloc: Global,

@@ -256,13 +256,15 @@ pub fn refusal_is_right<X: Candidate<C>, C: Certificate>()
     ensures { RefusalIsRight X.is_good X.because X.seen X.of_ca }
 {}
 
-/// With distinct identifiers a matching asks for one verdict of each signer and of each CA.
+/// With distinct identifiers and a matching, whatever has the identifier that is sought also has the
+/// verdict, so that each signer and each CA asks for one (`cost` of `accept`).
 pub fn matching_is_cheap()
     ensures { MatchingIsCheap }
 {}
 
-/// With distinct identifiers an attestation of s signers, l CRLs and a CAs takes at most
-/// s + l + s * a verdicts: those that its pairings and its walks ask for.
+/// With distinct identifiers and a matching, where the pairings and the walks each ask for what they
+/// cost, they ask in all for at most s + l + s * a verdicts, of s signers, l CRLs and a CAs (`cost` of
+/// `accept`).
 pub fn verdicts_are_few()
     ensures { VerdictsAreFew }
 {}

@@ -17,7 +17,7 @@ within f n b = is_between (f b.min) (f b.max) n
 abbrev pub holds : {T : Type 0} → (T → ℕ) → List (Block T) → ℕ → Bool
 holds f bs n = list_any (within f n) bs
 
--- the same, as a fact
+-- The number is in one of the blocks.
 abbrev pub Holds : {T : Type 0} → (T → ℕ) → List (Block T) → ℕ → Type 0
 Holds f bs n = IsTrue (holds f bs n)
 

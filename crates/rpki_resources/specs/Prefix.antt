@@ -22,7 +22,8 @@ pub record IsPrefix (lo hi len : ℕ) : Type 0 where
   pub aligned : lo % 2 ^ (128 - len) ≡ 0
   pub size : hi + 1 ≡ lo + 2 ^ (128 - len)
 
--- the same as a truth value, but without the limit of 128 on the length
+-- whether the two are the first and the last address of a prefix of this length; no length is too
+-- large here
 abbrev pub is_prefix : ℕ → ℕ → ℕ → Bool
 is_prefix lo hi len = (lo % 2 ^ (128 - len) == 0) && (hi + 1 == lo + 2 ^ (128 - len))
 

@@ -24,7 +24,7 @@ abbrev pub addr_text : AddressFamily → ℕ → List ℕ
 addr_text Ipv4 addr = ipv4_text (to_be_bytes w32 (addr / 2 ^ 96))
 addr_text Ipv6 addr = hex_groups_text (groups_of addr)
 
--- 192.0.2.0/24
+-- a prefix: its address, a slash and its length, as 192.0.2.0/24
 abbrev pub prefix_text : AddressFamily → Network → List ℕ
 prefix_text family p = addr_text family p.addr ++ (codes "/" ++ decimal p.len)
 

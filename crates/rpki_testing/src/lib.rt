@@ -10,4 +10,4 @@ mod values;
 pub use answers::{ok, said};
 pub use fail::Fail;
 pub use octets::{joined, value};
-pub use values::{key, rsync, year};
+pub use values::{copied, key, rsync, year};

@@ -1,10 +1,21 @@
 //! Values of which others are made.
 
+ghost use Rattle.std.specs.Prelude.{IfOk};
+
 use crate::answers::ok;
 use crate::fail::Fail;
 use bytes::Bytes;
 use rpki_basics::{PublicKey, Rsync, Time};
 use std::alloc::{AllocError, Global};
+
+/// A copy of a value, which is let go.
+pub fn copied<T: Clone + Drop>(value: T) -> Result<T, AllocError>
+    ensures { IfOk result (λ copy. T.is_clone value copy) }
+{
+    let copy: Result<T, AllocError> = value.clone();
+    drop(value);
+    copy
+}
 
 /// The first moment of a year.
 pub fn year(year: u16) -> Result<Time, Fail> {

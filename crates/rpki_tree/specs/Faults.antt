@@ -109,22 +109,22 @@ LacksPoint s ca fault =
 
 -- ---- faults that say no more than that memory ran out
 
--- of an object
+-- The fault of an object says no more than that memory ran out.
 abbrev pub IsMemoryError : CheckError → Type 0
 IsMemoryError (checks.Decode error) = error ≡ errors.Memory
 IsMemoryError (checks.Validation fault) = fault ≡ faults.Memory
 
--- of a manifest
+-- The fault of a manifest says no more than that memory ran out.
 abbrev pub IsManifestMemory : ManifestFault → Type 0
 IsManifestMemory (Refused error) = IsMemoryError error
 IsManifestMemory fault = fault ≡ Memory
 
--- of a revocation list
+-- The fault of a revocation list says no more than that memory ran out.
 abbrev pub IsListMemory : NoList → Type 0
 IsListMemory (lists.Refused fault) = fault ≡ refusals.Decode errors.Memory
 IsListMemory fault = fault ≡ lists.Memory
 
--- of a publication point
+-- The fault of a publication point says no more than that memory ran out.
 abbrev pub IsMemory : PointFault → Type 0
 IsMemory points.Unnamed = ⊥
 IsMemory (points.Manifest fault) = IsManifestMemory fault

@@ -44,23 +44,24 @@ abbrev pub HasContent : {X : Type 0} → Setting → ObjectKind X → (List ℕ 
 HasContent s kind form ca list octets x =
     HasGood s kind form ca octets (λ o. IsUnrevoked list o.object.signed.cert × (o.content ≡ x))
 
--- They begin with such a ROA (RFC 9582, section 5).
+-- The octets begin with a ROA that is good under the CA and not revoked (RFC 9582, section 5).
 abbrev pub HasRoa : Setting → Validated → RevocationList → List ℕ → Roa → Type 0
 HasRoa s ca list octets roa = HasContent s roa_kind RoaForm ca list octets roa
 
--- They begin with such an ASPA (draft-ietf-sidrops-aspa-profile-15, section 4).
+-- The octets begin with an ASPA that is good under the CA and not revoked
+-- (draft-ietf-sidrops-aspa-profile-15, section 4).
 abbrev pub HasAspa : Setting → Validated → RevocationList → List ℕ → Aspa → Type 0
 HasAspa s ca list octets aspa = HasContent s aspa_kind (AspaForm s.providers) ca list octets aspa
 
--- They begin with the certificate of a CA, which is good under this one (RFC 6487, section 7.2),
--- which the list does not revoke, and whose validated numbers are these.
+-- The octets begin with the certificate of a CA, which is good under this one (RFC 6487, section
+-- 7.2), which the list does not revoke, and whose validated numbers are these.
 abbrev pub HasCa : Setting → Validated → RevocationList → List ℕ → Validated → Type 0
 HasCa s ca list octets v =
     BeginsWithCert octets (λ c. AllHold (ca_validation s.verdict c ca s.now)
     × IsUnrevoked list c × IsValidatedUnder (in_der c) ca v × AreCanonical v.sets)
 
--- They begin with a certificate that is no CA's: it has no basic constraints (RFC 6487, section
--- 4.8.1), as that of an end entity.
+-- The octets begin with a certificate that is no CA's: it has no basic constraints (RFC 6487,
+-- section 4.8.1), as that of an end entity.
 abbrev pub HasEntity : List ℕ → Type 0
 HasEntity octets = BeginsWithCert octets (λ c. c.tbs.extensions.key.basic_ca ≡ None)
 

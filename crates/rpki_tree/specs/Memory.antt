@@ -8,12 +8,12 @@ use Rattle.rpki_tree.specs.Faults.{IsMemoryError, IsMemory}
 use Rattle.rpki_tree.specs.declared.refusal.Cause.{Cause}
 use Rattle.rpki_tree.specs.declared.refusal.Cause.TheVariants.{Point, Roa, Aspa, Ca}
 
--- of a certificate
+-- The fault of a certificate says no more than that memory ran out.
 abbrev pub IsIssuerMemory : IssuerError → Type 0
 IsIssuerMemory (Decode error) = error ≡ errors.Memory
 IsIssuerMemory (Validation fault) = fault ≡ faults.Memory
 
--- of what is refused
+-- The cause of a refusal says no more than that memory ran out.
 abbrev pub IsCauseMemory : Cause → Type 0
 IsCauseMemory (Point fault) = IsMemory fault
 IsCauseMemory (Roa error) = IsMemoryError error

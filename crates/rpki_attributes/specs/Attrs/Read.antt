@@ -32,7 +32,7 @@ fields_of octets mode list = do
     signing_time = time;
   })
 
--- the same, where they are not too many octets
+-- what signed attributes say, where they are not too many octets
 unfoldable pub says_of : Mode → List Attribute × List ℕ → Option SignedAttributes
 says_of mode read =
     if nat_le (length read.1) most_octets then fields_of read.1 mode read.0 else None

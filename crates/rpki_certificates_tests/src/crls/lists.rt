@@ -9,7 +9,7 @@ use bytes::Bytes;
 use rpki_basics::Serial;
 use rpki_crls::Crl;
 use rpki_der::{Constructed, DecodeError, Mode};
-use rpki_testing::{Fail, joined, said, value};
+use rpki_testing::{Fail, copied, joined, said, value};
 use std::alloc::{AllocError, Global};
 
 /// What is signed, what stands after it, and what is said or why it is refused: the two times, the
@@ -171,7 +171,7 @@ pub fn list(alloc: Global, signed: &[&[u8]], after: &[&[u8]]) -> Result<Bytes, A
 /// A revocation list that is read in this mode.
 pub fn read(alloc: Global, source: Bytes, mode: Mode) -> Result<Crl, DecodeError> {
     match mode {
-        Mode::Der => Crl::decode(alloc, source),
+        Mode::Der => Ok(copied(Crl::decode(alloc, source)?)?),
         Mode::Ber => Constructed::decode(source, mode, |cons| Crl::take_from(alloc, cons)),
     }
 }

@@ -10,9 +10,9 @@ use super::parts::{
 use super::said::{Claimed, PLAIN, Said, are_said};
 use bytes::Bytes;
 use rpki_der::{Constructed, DecodeError, Mode};
-use rpki_extensions::Extensions;
+use rpki_extensions::{Extension, Extensions, take_purposes};
 use rpki_faults::{KeyUsage, Overclaim};
-use rpki_testing::{Fail, said, value};
+use rpki_testing::{Fail, copied, said, value};
 use std::alloc::Global;
 
 /// Extensions, and what they say or why they are refused.
@@ -213,8 +213,41 @@ fn are_right(alloc: Global) -> Result<bool, Fail> {
     )
 }
 
+/// Extensions, of which no value is read.
+fn take_each(alloc: Global, cons: &mut Constructed<'_>) -> Result<Vec<Extension>, DecodeError> {
+    cons.take_sequence(|cons| cons.take_items(alloc))
+}
+
+/// Whether a copy of the last purpose in these octets is id-kp-bgpsec-router.
+fn is_purpose(alloc: Global, value: Bytes) -> Result<bool, Fail> {
+    let mut purposes = Constructed::decode(value, Mode::Der, |cons| take_purposes(alloc, cons))?;
+    match purposes.pop() {
+        None => Ok(false),
+        Some(purpose) => {
+            let copy = copied(purpose)?;
+            let is_router = copy.oid().as_slice() == b"\x2B\x06\x01\x05\x05\x07\x03\x1E".as_slice();
+            drop(copy);
+            Ok(is_router)
+        }
+    }
+}
+
+/// Whether a copy of an extension of purposes has them in its value.
+fn are_purposes(alloc: Global) -> Result<bool, Fail> {
+    let source = Bytes::from_vec(value(alloc, 0x30, &[PURPOSES])?)?;
+    let mut read = Constructed::decode(source, Mode::Der, |cons| take_each(alloc, cons))?;
+    match read.pop() {
+        None => Ok(false),
+        Some(extension) => {
+            let Extension { value, .. } = copied(extension)?;
+            is_purpose(alloc, value)
+        }
+    }
+}
+
 #[test]
 fn rows(rt: HostRuntime) -> Result<(), Fail> {
-    assert!(rt; are_right(rt.alloc())?);
+    let alloc = rt.alloc();
+    assert!(rt; are_right(alloc)? && are_purposes(alloc)?);
     Ok(())
 }

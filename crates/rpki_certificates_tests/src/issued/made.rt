@@ -12,18 +12,19 @@ use rpki_der::{Encode, Mode};
 use rpki_issued::TbsCert;
 use rpki_issued::signing::sign_and_join;
 use rpki_resources::{Addr, AsBlock, AsBlocksBuilder, Asn, IpBlock, IpBlocksBuilder};
-use rpki_testing::{Fail, key, ok, said};
+use rpki_testing::{Fail, copied, key, ok, said};
 use std::alloc::{AllocError, Global};
 
 /// What signing answers.
 type Answer<T> = Result<T, SigningError<Refused>>;
 
-/// The octets of a certificate, signed by key 1 of a signer whose call with this number fails.
+/// The octets of a copy of a certificate, signed by key 1 of a signer whose call with this number fails.
 fn octets_signed(alloc: Global, t: TbsCert, call: u64) -> Result<Answer<Vec<u8>>, Fail>
     requires { ClaimsIpv4 t.extensions.claims }
 {
+    let copy = copied(t)?;
     let mut signer = StandInSigner::failing_at(alloc, call);
-    match t.into_cert(alloc, &mut signer, &1) {
+    match copy.into_cert(alloc, &mut signer, &1) {
         Err(fault) => Ok(Err(fault)),
         Ok(cert) => {
             let octets = cert.encode_ref().to_bytes(alloc);

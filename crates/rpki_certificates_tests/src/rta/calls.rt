@@ -11,7 +11,7 @@ use rpki_basics::standin::StandIn;
 use rpki_multi::Rta;
 use rpki_rta::{Supply, Validation};
 use rpki_signed::check;
-use rpki_testing::{Fail, said};
+use rpki_testing::{Fail, copied, said};
 use std::alloc::Global;
 
 /// What is supplied: the certificate of a CA, or the text of a locator.
@@ -165,14 +165,23 @@ fn are_right(alloc: Global, rows: &[Row]) -> Result<bool, Fail> {
     Ok(true)
 }
 
-/// What the check of octets answers under a CA.
-fn checked(alloc: Global) -> Result<String, Fail> {
+/// What the check of octets answers under a copy of a supply.
+fn checked_under(alloc: Global, supply: Supply<'_>) -> Result<String, Fail> {
     let now = now()?;
-    let ca = ca_of(alloc, CA_8_30)?;
+    let supply = copied(supply)?;
     let octets = Bytes::from_static(CHAIN);
-    let answer = check::rta(alloc, octets, true, &StandIn, now, &[Supply::Ca(&ca)]);
+    said(
+        alloc,
+        check::rta(alloc, octets, true, &StandIn, now, &[supply]),
+    )
+}
+
+/// What it answers under a CA.
+fn checked(alloc: Global) -> Result<String, Fail> {
+    let ca = ca_of(alloc, CA_8_30)?;
+    let answer = checked_under(alloc, Supply::Ca(&ca));
     drop(ca);
-    said(alloc, answer)
+    answer
 }
 
 #[test]

@@ -11,7 +11,7 @@ use rpki_resources::{
     Addr, AsBlock, AsBlocksBuilder, Asn, Claim, IpBlock, IpBlocksBuilder, Number, Prefix, Resources,
 };
 use rpki_signing::SignedObjectBuilder;
-use rpki_testing::{Fail, rsync, year};
+use rpki_testing::{Fail, copied, rsync, year};
 use std::alloc::{AllocError, Global};
 
 /// The key of the issuer.
@@ -41,8 +41,8 @@ static ANCHOR: &[u8] = b"\
 /// The issuer, a trust anchor.
 pub fn issuer(alloc: Global) -> Result<ResourceCert, Fail> {
     let now = year(2030)?;
-    let cert = Cert::decode(alloc, Bytes::from_static(ANCHOR))?;
-    Ok(cert.validate_ta_at(alloc, true, &StandIn, now)?)
+    let cert = copied(Cert::decode(alloc, Bytes::from_static(ANCHOR))?)?;
+    Ok(copied(cert.validate_ta_at(alloc, true, &StandIn, now)?)?)
 }
 
 /// AS64496.
@@ -80,7 +80,7 @@ pub fn are_claimed(alloc: Global) -> Result<bool, Fail> {
     Ok(are_claimed)
 }
 
-/// A builder that claims the AS numbers of the issuer, and signs at the beginning of this year.
+/// A copy of a builder that claims the AS numbers of the issuer, and signs at the beginning of this year.
 pub fn builder(alloc: Global, at: u16) -> Result<SignedObjectBuilder, Fail>
     ensures { IfOk result (λ b. b.v4 ≡ Missing) }
 {
@@ -93,5 +93,5 @@ pub fn builder(alloc: Global, at: u16) -> Result<SignedObjectBuilder, Fail>
         year(at)?,
     );
     builder.set_as_resources_inherit();
-    Ok(builder)
+    Ok(copied(builder)?)
 }

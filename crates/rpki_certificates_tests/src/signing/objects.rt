@@ -9,7 +9,7 @@ use rpki_files::{FileAndHash, Manifest, ManifestContent, ResourceSignedChecklist
 use rpki_resources::Asn;
 use rpki_routes::{Aspa, AspaBuilder, Roa, RoaBuilder, RouteOriginAttestation};
 use rpki_sigobj::{Content, Signed};
-use rpki_testing::{Fail, ok, year};
+use rpki_testing::{Fail, copied, ok, year};
 use std::alloc::{AllocError, Global};
 use std::net::{Ipv4Addr, Ipv6Addr};
 
@@ -54,8 +54,9 @@ fn signed_object(
     match builder(alloc, at)?.finalize(alloc, kind, content, signer, &ISSUER) {
         Err(fault) => Ok(Err(fault)),
         Ok(object) => {
-            let octets = object.to_captured();
-            drop(object);
+            let copy = copied(object)?;
+            let octets = copy.to_captured();
+            drop(copy);
             Ok(Ok(ok(alloc, octets)?))
         }
     }
@@ -144,7 +145,7 @@ fn aspa(
     }
 }
 
-/// The octets of what was signed.
+/// The octets of a copy of what was signed.
 fn octets<T: Content>(
     alloc: Global,
     answer: Result<Answer<Signed<T>>, Fail>,
@@ -152,8 +153,9 @@ fn octets<T: Content>(
     match answer? {
         Err(fault) => Ok(Err(fault)),
         Ok(object) => {
-            let octets = object.to_captured();
-            drop(object);
+            let copy = copied(object)?;
+            let octets = copy.to_captured();
+            drop(copy);
             Ok(Ok(ok(alloc, octets)?))
         }
     }

@@ -50,10 +50,11 @@ is_shared other = false
 abbrev pub word_rta : List ℕ
 word_rta = codes "rta"
 
--- the words of formats of payloads: the first has none
+-- the word that asks for payloads as CSV; lines have none
 abbrev pub word_csv : List ℕ
 word_csv = codes "--csv"
 
+-- the word that asks for payloads as JSON
 abbrev pub word_json : List ℕ
 word_json = codes "--json"
 

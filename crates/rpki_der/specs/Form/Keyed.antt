@@ -68,7 +68,7 @@ abbrev pub said : {I X : Type 0} → (I → List ℕ) → (I → Option X) → L
     → Option (Option X)
 said key say oid items = said_of say (with_key key oid items)
 
--- what has to be said
+-- the value of a field that has to be there
 abbrev pub must : {X : Type 0} → Option (Option X) → Option X
 must None = None
 must (Some x) = x

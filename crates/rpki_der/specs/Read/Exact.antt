@@ -14,7 +14,7 @@ pub record IsExact {X : Type 0} (ends : List ℕ → Type 0) (p : List ℕ → O
   pub complete : (front : List ℕ) (x : X) (rest : List ℕ) → ends rest → G front x
       → p (front ++ rest) ≡ Some (x, rest)
 
--- whatever follows
+-- what may follow a value: any octets at all
 abbrev pub anything : List ℕ → Type 0
 anything rest = Unit {0}
 

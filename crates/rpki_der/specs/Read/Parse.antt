@@ -315,7 +315,7 @@ octets_at zero mode bytes = None
 octets_at (suc depth) mode bytes =
     any_at mode bytes >>= λ v. (string_of (octets_at depth) mode v.0.0 v.0.1 >>= λ s. Some (s, v.1))
 
--- the same octets, after others
+-- octets that were read, if any were, with others in front of them
 abbrev pub after_others : List ℕ → Option (List ℕ) → Option (List ℕ)
 after_others front None = None
 after_others front (Some octets) = Some (front ++ octets)

@@ -16,7 +16,7 @@ use Rattle.rpki_lists.specs.declared.named.Named.{Named}
 use Rattle.rpki_lists.specs.Named.{Set, IpAddrBlocksForm, ResourceBlockForm, names_some, sets_of}
 use Rattle.rpki_lists.specs.Named.{addresses_at, named_fields_at, sets_at}
 
-addresses-part : IsPart (is (context 1)) (is (context 1)) addresses_at IpAddrBlocksForm
+pub addresses-part : IsPart (is (context 1)) (is (context 1)) addresses_at IpAddrBlocksForm
 addresses-part = default (context 1) (in-tag (context 1) (families-part ip-part)) no_values
 
 module _ (set_at : Parser Set) (form : Mode → List ℕ → Set → Type 0)

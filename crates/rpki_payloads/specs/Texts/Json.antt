@@ -9,7 +9,7 @@ use Rattle.rpki_payloads.specs.Found.{Found, all_named}
 use Rattle.rpki_payloads.specs.Picked.{Origin, Customer, origins_among, customers_among}
 use Rattle.rpki_payloads.specs.Texts.Origin.{max_length}
 
--- , "ta": "anchor" }: the last member of an object, the name of the locator, and its end
+-- the last member of an object, the name of the locator, and its end: `, "ta": "anchor" }`
 unfoldable pub json_ta : List ℕ → List ℕ
 json_ta name = codes ", \"ta\": " ++ (json_string name ++ codes " }")
 

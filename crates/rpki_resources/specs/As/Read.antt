@@ -19,7 +19,7 @@ as_ends_at mode bytes = do
 abbrev pub as_item_at : Parser (Block ℕ)
 as_item_at = choice_at SEQUENCE (sequence_at as_ends_at) (made only u32_at)
 
--- all of them, sorted and joined
+-- reads numbers and ranges of AS numbers to the end: their blocks, sorted and joined
 abbrev pub as_items_at : Parser (List (Block ℕ))
 as_items_at = made joined (all_at as_item_at)
 

@@ -25,7 +25,7 @@ abbrev pub ip_item_at : ℕ → Parser (Block ℕ)
 ip_item_at most = choice_at SEQUENCE (sequence_at (ip_ends_at most))
     (made beginning (ip_address_at most))
 
--- all of them, sorted and joined
+-- reads prefixes and ranges of addresses to the end: their blocks, sorted and joined
 unfoldable pub ip_items_at : ℕ → Parser (List (Block ℕ))
 ip_items_at most = made joined (all_at (ip_item_at most))
 

@@ -27,7 +27,7 @@ named_checks claim =
     ∷ (faults.InheritedAsResources unless (claim ≢ Inherit))
     ∷ []
 
--- It names one, which is the customer (4).
+-- The certificate of an ASPA names one AS number, which is the customer (4).
 abbrev pub block_checks : ℕ → List (Block ℕ) → List (Check VerificationError)
 block_checks customer blocks =
     (faults.EmptyAsResources unless (blocks ≢ []))
