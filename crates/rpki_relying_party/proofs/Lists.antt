@@ -1,0 +1,85 @@
+-- Lists: what they contain, what is mapped, and keys that differ.
+use Rattle.std.proofs.Common.{◌≡◌, ◌<◌, ◌⊎◌, inl, inr, ℕ, zero, suc, List, [], ◌∷◌, ◌++◌, length}
+use Rattle.std.proofs.Common.{Contains, All, map, refl, sym, subst, ap, ◌∙◌, arith, get_or, Bool, false}
+use Rattle.std.specs.List.{IsDistinct, AllByRecursion}
+use Rattle.std.proofs.lemmas.List.Elements.{All-contains, Contains-get_or, Contains-append_cases}
+use Rattle.std.proofs.lemmas.List.Elements.{Contains-append_left, Contains-append_right}
+use Rattle.std.proofs.lemmas.Map.Keys.{IsDistinct-cons, IsDistinct-head, IsDistinct-tail}
+
+pub nothing : {X : Type 0} (x : X) → Contains [] x → ⊥
+nothing x w = absurd (omega (arith, w.1))
+
+-- what holds of whatever is contained holds of each
+pub all-of : {X : Type 0} (P : X → Type 0) (xs : List X) → ((x : X) → Contains xs x → P x)
+    → All P xs
+all-of P xs f k d h = f (get_or xs k d) (Contains-get_or xs k d h)
+
+pub contains-first : {X : Type 0} (x : X) (xs : List X) → Contains (x ∷ xs) x
+contains-first x xs = (0, omega arith, refl)
+
+pub contains-rest : {X : Type 0} (x y : X) (xs : List X) → Contains xs y → Contains (x ∷ xs) y
+contains-rest x y xs c = (suc (c.0), omega (arith, c.1), c.2)
+
+cons-at : {X : Type 0} (x y : X) (xs : List X) (k : ℕ) → k < length (x ∷ xs)
+    → get_or (x ∷ xs) k y ≡ y → (x ≡ y) ⊎ Contains xs y
+cons-at x y xs zero l e = inl e
+cons-at x y xs (suc k) l e = inr (k, omega (arith, l), e)
+
+pub cons-cases : {X : Type 0} (x y : X) (xs : List X) → Contains (x ∷ xs) y
+    → (x ≡ y) ⊎ Contains xs y
+cons-cases x y xs c = cons-at x y xs (c.0) (c.1) (c.2)
+
+module _ {A B : Type 0} (f : A → B) where
+  mapped-at : (xs : List A) (k : ℕ) (x : A) → k < length xs → get_or xs k x ≡ x
+      → Contains (map f xs) (f x)
+  mapped-at [] k x l e = absurd (omega (arith, l))
+  mapped-at (y ∷ ys) zero x l e = (0, omega arith, ap f e)
+  mapped-at (y ∷ ys) (suc k) x l e =
+      contains-rest (f y) (f x) (map f ys) (mapped-at ys k x (omega (arith, l)) e)
+
+  pub contains-mapped : (xs : List A) (x : A) → Contains xs x → Contains (map f xs) (f x)
+  contains-mapped xs x c = mapped-at xs (c.0) x (c.1) (c.2)
+
+  from-at : (xs : List A) (k : ℕ) (y : B) → k < length (map f xs) → get_or (map f xs) k y ≡ y
+      → (x : A) × Contains xs x × (f x ≡ y)
+  from-at [] k y l e = absurd (omega (arith, l))
+  from-at (x ∷ xs) zero y l e = (x, contains-first x xs, e)
+  from-at (x ∷ xs) (suc k) y l e =
+      let r = from-at xs k y (omega (arith, l)) e in
+      (r.0, contains-rest x (r.0) xs (r.1), r.2)
+
+  pub mapped-from : (xs : List A) (y : B) → Contains (map f xs) y
+      → (x : A) × Contains xs x × (f x ≡ y)
+  mapped-from xs y c = from-at xs (c.0) y (c.1) (c.2)
+
+pub distinct-none : {K : Type 0} (e : K → K → Bool) → IsDistinct e []
+unfolding IsDistinct
+distinct-none e = tt
+
+-- two lists of distinct keys, of which none of the first is in the second
+module _ {K : Type 0} (e : K → K → Bool) where
+  -- what holds of whatever is contained, by recursion
+  pub each-of : (P : K → Type 0) (ks : List K) → ((k : K) → Contains ks k → P k)
+      → AllByRecursion P ks
+  each-of P [] f = tt
+  each-of P (k ∷ ks) f =
+      (f k (contains-first k ks), each-of P ks (λ x c. f x (contains-rest k x ks c)))
+
+  pub each-at : (P : K → Type 0) (ks : List K) → AllByRecursion P ks → (k : K) → Contains ks k
+      → P k
+  each-at P [] h k c = absurd (nothing k c)
+  each-at P (x ∷ ks) h k c = elim (cons-cases x k ks c) [
+    | inl s ↦ subst P s (h.0)
+    | inr r ↦ each-at P ks (h.1) k r
+  ]
+
+  pub distinct-append : (ks ls : List K) → IsDistinct e ks → IsDistinct e ls
+      → ((k l : K) → Contains ks k → Contains ls l → e k l ≡ false) → IsDistinct e (ks ++ ls)
+  distinct-append [] ls d c apart = c
+  distinct-append (k ∷ ks) ls d c apart = IsDistinct-cons e k (ks ++ ls)
+      (each-of (λ y. e k y ≡ false) (ks ++ ls) (λ y h. elim (Contains-append_cases ks ls y h) [
+        | inl here ↦ each-at (λ y. e k y ≡ false) ks (IsDistinct-head e k ks d) y here
+        | inr there ↦ apart k y (contains-first k ks) there
+      ]))
+      (distinct-append ks ls (IsDistinct-tail e k ks d) c
+      (λ x y h i. apart x y (contains-rest k x ks h) i))

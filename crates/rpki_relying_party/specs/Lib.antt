@@ -1,0 +1,4 @@
+pub mod Paths
+pub mod Walk
+pub mod Queue
+pub mod Steps

@@ -1,0 +1,5 @@
+//! Tests of `rpki_relying_party`.
+#![tactic(auto)]
+
+#[cfg(test)]
+mod walk;
