@@ -25,7 +25,7 @@ use Rattle.rpki_relying_party.specs.declared.walk.Why.TheVariants.{Limit, Memory
 use Rattle.rpki_relying_party.specs.Paths.{Leads}
 use Rattle.rpki_relying_party.specs.Walk.{Read, Left, IsToldChild, IsMet, HasKey, IsWalk, spent}
 use Rattle.rpki_relying_party.specs.Walk.{places_read, places_left, IsTooMuch, IsLimited}
-use Rattle.rpki_relying_party.specs.Steps.{IsPut, IsMeeting, AreMet, AreLeft, IsRead, IsUnread, IsVisit}
+use Rattle.rpki_relying_party.specs.Steps.{IsPut, IsMeeting, AreMet, AreLeft, WasRead, WasLeft, IsVisit}
 use Rattle.rpki_relying_party.specs.Steps.{IsWhy, left_for}
 use Rattle.rpki_relying_party.proofs.Lists.{nothing, all-of, contains-first, contains-rest}
 use Rattle.rpki_relying_party.proofs.Lists.{cons-cases, mapped-from, distinct-append, distinct-none}
@@ -424,7 +424,7 @@ module _ {P X : Type 0} (tells : P → List X → List P → Type 0) (costs : P 
       (turn : IsPermutation waiting (p ∷ waiting2)) (fits : allowed ≤ room)
       (in-share : allowed ≤ limit / 8 + 1)
       (share : (allowed ≡ room) ⊎ (allowed ≡ limit / 8 + 1)) where
-    unread-then : IsUnread costs p allowed done found found2 unread unread2 keys new waiting2 waiting3
+    unread-then : WasLeft costs p allowed done found found2 unread unread2 keys new waiting2 waiting3
         → Run (lists found2) (has found2) (room - done) unread2 new waiting3
     unread-then u =
         subst (λ (f : F). Run (lists f) (has f) (room - done) unread2 new waiting3) (sym u.same_found)
@@ -438,7 +438,7 @@ module _ {P X : Type 0} (tells : P → List X → List P → Type 0) (costs : P 
         (run-left (lists found) (has found) room unread keys waiting waiting2 p allowed w turn fits in-share
         share u.why u.is_why)))))
 
-    read-then : IsRead tells costs key lists has p allowed done found found2 unread unread2 keys new
+    read-then : WasRead tells costs key lists has p allowed done found found2 unread unread2 keys new
         waiting2 waiting3 → Run (lists found2) (has found2) (room - done) unread2 new waiting3
     read-then r = subst (λ (l : List (Left P)).
         Run (lists found2) (has found2) (room - done) l new waiting3) (sym r.none_left)

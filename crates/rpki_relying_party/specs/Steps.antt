@@ -62,7 +62,7 @@ IsWhy costs p room Limit = (n : ℕ) × costs p n × (room < n)
 IsWhy costs p room Memory = Unit {0}
 
 -- A place was left unread: all the room was spent, and nothing was met or found.
-pub record IsUnread {P F : Type 0} (costs : P → ℕ → Type 0) (p : P) (room spent : ℕ)
+pub record WasLeft {P F : Type 0} (costs : P → ℕ → Type 0) (p : P) (room spent : ℕ)
     (found found2 : F) (unread unread2 : List (Left P)) (old new : List ℕ → Bool)
     (waiting waiting2 : List P) : Type 0 where
   pub why : Why
@@ -74,7 +74,7 @@ pub record IsUnread {P F : Type 0} (costs : P → ℕ → Type 0) (p : P) (room 
   pub same_waiting : waiting2 ≡ waiting
 
 -- A place was read: what it said was found, and its children were met.
-pub record IsRead {P X F : Type 0} (tells : P → List X → List P → Type 0) (costs : P → ℕ → Type 0)
+pub record WasRead {P X F : Type 0} (tells : P → List X → List P → Type 0) (costs : P → ℕ → Type 0)
     (key : P → List ℕ) (lists has : F → X → Type 0) (p : P) (room spent : ℕ)
     (found found2 : F) (unread unread2 : List (Left P)) (old new : List ℕ → Bool)
     (waiting waiting2 : List P) : Type 0 where
@@ -95,6 +95,6 @@ abbrev pub IsVisit : {P X F : Type 0} → (P → List X → List P → Type 0) �
     → (P → List ℕ) → (F → X → Type 0) → (F → X → Type 0) → P → ℕ → ℕ → F → F → List (Left P)
     → List (Left P) → (List ℕ → Bool) → (List ℕ → Bool) → List P → List P → Type 0
 IsVisit tells costs key lists has p room spent found found2 unread unread2 old new waiting waiting2 =
-    IsUnread costs p room spent found found2 unread unread2 old new waiting waiting2
-    ⊎ IsRead tells costs key lists has p room spent found found2 unread unread2 old new waiting
+    WasLeft costs p room spent found found2 unread unread2 old new waiting waiting2
+    ⊎ WasRead tells costs key lists has p room spent found found2 unread unread2 old new waiting
     waiting2
