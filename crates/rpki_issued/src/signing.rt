@@ -50,9 +50,9 @@ pub fn signing_error_of<E>(fault: EncodeError) -> SigningError<E>
 
 /// Signs the octets of what is to be signed, a value, by the key of this name, and answers the
 /// SEQUENCE of the value, the algorithm and the signature, in DER: a certificate (RFC 5280, section
-/// 4.1) or a revocation list (RFC 5280, section 5.1). The signer is asked once. Refuses by the
-/// faults of the signer, by `TooLong` where the SEQUENCE would have contents of 2^32 octets or
-/// more, or by `Memory`.
+/// 4.1) or a revocation list (RFC 5280, section 5.1). That the signer is asked once, no clause
+/// says. Refuses by the faults of the signer, by `TooLong` where the SEQUENCE would have contents
+/// of 2^32 octets or more, or by `Memory`.
 pub fn sign_and_join<S: Signer>(
     alloc: Global,
     octets: &[u8],

@@ -41,7 +41,7 @@ impl Model for CrlBuilder {
 impl CrlBuilder {
     /// A list without entries: the identifier of its issuer's key (RFC 5280, section 5.2.1), when
     /// it is made and until when the next one is (sections 5.1.2.4 and 5.1.2.5), and its number
-    /// (section 5.2.3). The two times are not compared. It does not allocate.
+    /// (section 5.2.3). The two times are not compared.
     pub fn new(
         alloc: Global,
         authority_key: KeyIdentifier,

@@ -173,11 +173,12 @@ impl CrlBuilder {
     }
 
     /// The list, in DER, signed by the key of this name, which is the issuer's; the issuer is the
-    /// name of this key. The signer is asked for the key, and then once for a signature of what is
-    /// signed with its header (RFC 5280, section 5.1.1.3). Entries stand in the order in which they
-    /// were pushed, without extensions, and the list of them is left out where there are none
-    /// (section 5.1.2.6). The extensions are the identifier of the issuer's key and the number, in
-    /// this order; neither is critical (RFC 6487, section 5).
+    /// name of this key. The signature is one that the signer may answer for what is signed with
+    /// its header (RFC 5280, section 5.1.1.3); that it is asked for the key first, and for each
+    /// once, no clause says. Entries stand in the order in which they were pushed, without
+    /// extensions, and the list of them is left out where there are none (section 5.1.2.6). The
+    /// extensions are the identifier of the issuer's key and the number, in this order; neither is
+    /// critical (RFC 6487, section 5).
     ///
     /// Refuses by the faults of the signer, by `TooLong` where some contents has 2^32 octets or
     /// more, or by `Memory`.

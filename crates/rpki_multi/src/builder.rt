@@ -196,9 +196,9 @@ impl RtaBuilder {
     }
 
     /// Adds what a signer says of the content by this key, at this time, after the other signers.
-    /// The signer is asked for a signature of the attributes, and then for the key. Refuses by the
-    /// signer's faults, by `AttrsTooLong` where the attributes have more than 65535 octets, and by
-    /// `Memory`; the builder then stays as it was.
+    /// The signer is asked for a signature of the attributes, and then for the key, in this order,
+    /// which no clause says. Refuses by the signer's faults, by `AttrsTooLong` where the attributes
+    /// have more than 65535 octets, and by `Memory`; the builder then stays as it was.
     pub fn sign<S: Signer>(
         &mut self,
         alloc: Global,

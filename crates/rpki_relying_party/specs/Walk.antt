@@ -72,7 +72,8 @@ pub record IsWalk {P X : Type 0} (tells : P → List X → List P → Type 0) (c
   pub found : (x : X) → lists x → listed x ⊎ ((r : Read P X) × Contains reads r × Contains r.said x)
   pub kept : All (λ r. All has r.said) reads
   pub stays : (x : X) → had x → has x
-  -- no more was read than may be, of each place an eighth of it, and nothing was left but for that
+  -- no more was read than may be, of each place an eighth of it and one, and some were left only
+  -- for that
   pub small : All (λ r. r.cost ≤ limit / 8 + 1) reads
   pub within : spent reads ≤ limit
   pub left : (unread ≡ []) ⊎ IsLimited costs limit (spent reads) unread

@@ -33,7 +33,7 @@ pub trait Places {
     /// What was found so far.
     type Found: Drop;
 
-    // The key of a place: places with the same key say the same.
+    // The key of a place: of places with one key, one is read.
     ghost key_of: { Self → Self.Place → List ℕ };
 
     // The place says this, and these are its children, both in their order. Where places may change

@@ -1,4 +1,4 @@
-//! A walk over places, each of which is read once.
+//! A walk over places, of each key of which one is read.
 
 ghost use Rattle.std.specs.Prelude.{◌≡◌, ◌⊎◌, ℕ, ◌<◌, ◌≤◌, ◌∷◌, [], List, Contains, IfOk, OnOk, All};
 ghost use Rattle.std.specs.Prelude.{◌++◌, ◌+◌, ◌/◌, IsPermutation, MatchOption};
@@ -171,12 +171,14 @@ fn leave_all<P: Drop>(mut queue: Queue<P>, unread: &mut Vec<Unread<P>>) -> Resul
 /// Walks from a place on: reads it, then its children, theirs, and so on, of each key one. What the
 /// places say is put to `found`; the answer is the places that were met and left unread.
 ///
-/// All reads together are at most `limit` of work, and that of one place at most an eighth of it, and
-/// one; a place that is more is left unread. So what was found is said by a place to which a chain of children leads from the start;
-/// and where places do not change, all is found that a place says to which a chain leads, unless
+/// All reads together are at most `limit` of work, and that of one place at most an eighth of it,
+/// and one; a place that is more is left unread. What is new in `found` is said by a place to which
+/// a chain of children leads from the start. Where places with one key tell one thing, whenever
+/// they are read, something alike to all that a place says to which a chain leads is found, unless
 /// some place on that chain has the key of an unread one.
 ///
-/// The next place is on the branch that has cost least so far, from the start down.
+/// The next place is on the branch that has cost least so far, from the start down, which no clause
+/// says.
 pub fn walk_from<P: Places>(
     alloc: Global,
     places: &P,

@@ -107,8 +107,8 @@ impl<'a, C: Crypto> Validation<'a, C> {
     /// `UnknownKey`, `SignerDigest`, `MissingCertificate`, `UnusedSubjectKeys`, `UnusedCrls`,
     /// `UnusedEeCertificates`, `InvalidCaCertificates`, `PathReturns`, `Revoked`, `Overclaimed`,
     /// `UnusedCaCertificates`; or by `Memory`. Of s signers, l revocation lists and a CAs with
-    /// distinct identifiers, at most s + l + s * a verdicts are asked where it succeeds. `strict`
-    /// changes nothing.
+    /// distinct identifiers, at most s + l + s * a verdicts are asked where it succeeds, as it
+    /// counts them. `strict` changes nothing.
     pub fn new_at(
         alloc: Global,
         rta: &'a Rta,

@@ -43,8 +43,8 @@ fn with_content<T: Content>(object: SignedObject, content: T) -> Signed<T>
 
 impl SignedObjectBuilder {
     /// The signed object of this content, whose octets are these: they are in the form of its kind,
-    /// by some rule for how contents are read. The signer is asked as by `finalize`, and what is
-    /// refused is refused as there. The blocks that are claimed of IPv4 have to be of this family.
+    /// by some rule for how contents are read. Signs and refuses as `finalize` does. The blocks
+    /// that are claimed of IPv4 have to be of this family.
     pub fn finalize_content<T: Content, S: Signer>(
         self,
         alloc: Global,

@@ -173,12 +173,13 @@ impl SignedObjectBuilder {
         }
     }
 
-    /// The signed object of this content. The signer is asked for the issuer's key, for a signature
-    /// of the attributes by a key that is made for it, and for the issuer's signature of the
-    /// certificate of this key, in this order. Refuses by the signer's faults, by `AttrsTooLong`
-    /// where the attributes have more than 65535 octets, by `TooLong` where some contents has 2^32
-    /// octets or more, by `NotDer` where a name was read in BER, and by `Memory`. The blocks that
-    /// are claimed of IPv4 have to be of this family.
+    /// The signed object of this content. Both signatures are such as the signer may answer: that
+    /// of the attributes by a key that is made to sign once, and that of the certificate of this
+    /// key by the issuer's. The signer is asked for the issuer's key, and then for these two, in
+    /// this order, which no clause says. Refuses by the signer's faults, by `AttrsTooLong` where
+    /// the attributes have more than 65535 octets, by `TooLong` where some contents has 2^32 octets
+    /// or more, by `NotDer` where a name was read in BER, and by `Memory`. The blocks that are
+    /// claimed of IPv4 have to be of this family.
     pub fn finalize<S: Signer>(
         self,
         alloc: Global,

@@ -111,9 +111,10 @@ fn put_point<R: Repository>(
     }
 }
 
-/// The files of the publication point of a CA, each read once: its manifest, and what this lists
-/// below the folder of the CA. A manifest that does not decode lists nothing. None of them is
-/// checked.
+/// The files of the publication point of a CA: its manifest, and what this lists below the folder
+/// of the CA. A manifest that does not decode lists nothing. None of them is checked. Where the
+/// repository tells what it has, the answer has just that for each of them. That each is read once,
+/// no clause says.
 pub fn snapshot_of<R: Repository>(
     alloc: Global,
     repository: &R,
@@ -151,7 +152,8 @@ fn put_uris<R: Repository>(
     Ok(())
 }
 
-/// The files of the URIs of a locator, each read once.
+/// The files of the URIs of a locator. Where the repository tells what it has, the answer has just
+/// that for each URI. That each is read once, no clause says.
 pub fn snapshot_at<R: Repository>(
     alloc: Global,
     repository: &R,

@@ -59,10 +59,11 @@ fn of_anchor(fault: AnchorFault) -> PassFault
 /// certificates leads from its trust anchor, and what is refused in their publication points. A
 /// chain has 32 certificates at most, and no key twice. The order is that of a walk, depth first;
 /// the files of a CA are in the order of its manifest. At most `limit` places are visited, a CA
-/// that several chains reach as often as they do; at each visit each file is read once.
+/// that several chains reach as often as they do.
 ///
 /// Where the repository tells what it has, just that is found which follows from it. Where it tells
-/// nothing, as a folder does, what is found of each CA follows from some files.
+/// nothing, as a folder does, what is found at each visit follows from one state of each file. That
+/// a visit reads each file once, no clause says.
 pub fn findings<R: Repository, C: Crypto>(
     alloc: Global,
     pass: &Pass<'_, R, C>,

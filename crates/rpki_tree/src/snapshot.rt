@@ -1,4 +1,4 @@
-//! Files that were read from a repository, each once, and are kept in memory.
+//! Files that were read from a repository and are kept in memory, in one state each.
 
 ghost use Rattle.std.specs.Prelude.{◌≡◌, IfOk, IfSome};
 ghost use Rattle.rpki_tree.specs.Snapshot.{kept_in, octets_in, IsPut, PutsRead};

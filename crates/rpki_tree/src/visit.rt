@@ -17,7 +17,8 @@ use rpki_certs::ResourceCert;
 use rpki_tal::Tal;
 use std::alloc::{AllocError, Global};
 
-/// Reads the publication point of a CA, each file once, and tells of it as `read_ca` does.
+/// Reads the publication point of a CA, and tells of it as `read_ca` does, by one state of each
+/// file. That each is read once, no clause says.
 pub fn visit_ca<R: Repository, C: Crypto>(
     alloc: Global,
     pass: &Pass<'_, R, C>,
@@ -44,7 +45,8 @@ pub fn visit_ca<R: Repository, C: Crypto>(
     }
 }
 
-/// The trust anchor of a locator, each of whose files is read once, as `anchor_of` finds it.
+/// The trust anchor of a locator, as `anchor_of` finds it in one state of each of its files. That
+/// each is read once, no clause says.
 pub fn anchor_from<R: Repository, C: Crypto>(
     alloc: Global,
     pass: &Pass<'_, R, C>,

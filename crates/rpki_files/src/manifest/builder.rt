@@ -24,8 +24,7 @@ use std::alloc::Global;
 impl ManifestContent {
     /// A content with this number, these times and these entries, in their order; each hash has no
     /// unused bits, and is not compared with any file (RFC 9286, section 4.2). There is one
-    /// algorithm of hashes. The entries come from an iterator that ends, and are all taken before
-    /// anything is looked at; their octets are written once.
+    /// algorithm of hashes. The entries come from an iterator that ends.
     ///
     /// Refuses by the first of these: `UpdateOrder` where `this_update` is after `next_update`,
     /// `BadName` where a name is not that of a file, and under `Registered` `BadExtension` where

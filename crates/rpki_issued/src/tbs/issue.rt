@@ -105,11 +105,12 @@ fn read_back(alloc: Global, octets: Vec<u8>) -> Result<Cert, AllocError>
 
 impl TbsCert {
     /// The certificate, in DER, signed by the key of this name, which is the issuer's: that of the
-    /// certificate itself for a trust anchor. The signer is asked once, for a signature of what is
-    /// signed with its header (RFC 5280, section 4.1.1.3). Extensions stand in the order basic
-    /// constraints, identifiers of the subject's and of the issuer's key, key usage, revocation
-    /// list, access to the issuer and to the subject, policies, IP addresses, AS numbers, each
-    /// where there is something to say; critical are those that RFC 6487, section 4.8, has so.
+    /// certificate itself for a trust anchor. The signature is one that the signer may answer for
+    /// what is signed with its header (RFC 5280, section 4.1.1.3); that it is asked once, no clause
+    /// says. Extensions stand in the order basic constraints, identifiers of the subject's and of
+    /// the issuer's key, key usage, revocation list, access to the issuer and to the subject,
+    /// policies, IP addresses, AS numbers, each where there is something to say; critical are those
+    /// that RFC 6487, section 4.8, has so.
     ///
     /// The blocks that are claimed of IPv4 have to be of this family. Refuses by the faults of the
     /// signer, by `NotDer` where a name was read in BER, by `TooLong` where some contents has 2^32

@@ -82,7 +82,7 @@ impl Model for AspaBuilder {
 
 impl AspaBuilder {
     /// A builder for this customer with these providers, which may come in any order. Refuses where
-    /// one of them stands twice. It does not allocate.
+    /// one of them stands twice.
     pub fn new(customer: Asn, providers: Vec<Asn>) -> Result<AspaBuilder, DuplicateProviderAs>
         ensures customer { IfOk result (λ b. b.customer ≡ customer) }
         ensures providers { IfOk result (λ b. IsPermutation providers.items b.providers) }
@@ -132,8 +132,7 @@ impl AspaBuilder {
 
     /// The content (section 3 of the profile), with at most as many providers as the limit says.
     /// Refuses by the first of these: `CustomerAs0`, `Empty`, `TooMany`, `CustomerInSet`,
-    /// `As0NotAlone`; and by `Memory`, and never by `TooLong`. The octets of the providers are
-    /// written once.
+    /// `As0NotAlone`; and by `Memory`, and never by `TooLong`.
     pub fn into_attestation(self, limit: ProviderLimit) -> Result<AsProviderAttestation, BuildError>
         ensures built { IfOk result (λ a. a ≡ self) }
         ensures within { OnOk result (IsAttestation limit self) }

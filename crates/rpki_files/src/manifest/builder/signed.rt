@@ -42,9 +42,9 @@ impl ManifestContent {
     }
 
     /// The manifest of this content: its octets as a signed object, whose certificate inherits all
-    /// numbers (RFC 9286, section 5.1), whatever the builder claims. The signer is asked as
-    /// `SignedObjectBuilder::finalize` says. Refuses as that call does, and by `TooLong` where the
-    /// content has contents of 2^32 octets or more; no condition is put on the builder.
+    /// numbers (RFC 9286, section 5.1), whatever the builder claims. Signs and refuses as
+    /// `SignedObjectBuilder::finalize` does, and refuses by `TooLong` where the content has
+    /// contents of 2^32 octets or more; no condition is put on the builder.
     pub fn into_manifest<S: Signer>(
         self,
         alloc: Global,

@@ -30,7 +30,7 @@ impl AspaBuilder {
     /// The ASPA of this content as a signed object (sections 2 and 3 of the profile), with at most
     /// as many providers as the limit says. The builder of the signed object claims the customer
     /// and no address, whatever it claimed before (section 4). Refuses by the faults of
-    /// `into_attestation`, before the signer is asked for anything; and then as
+    /// `into_attestation`, which go before those of the signer and leave it as it was; and then as
     /// `SignedObjectBuilder::finalize` does.
     pub fn finalize<S: Signer>(
         self,

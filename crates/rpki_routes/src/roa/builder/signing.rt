@@ -41,7 +41,7 @@ impl RoaBuilder {
     /// object claims the addresses of the prefixes, whatever it claimed of addresses before; its
     /// claim of AS numbers stays as it was handed in, and should be missing (section 5). Refuses by
     /// the faults of `to_attestation`, and by `EmptyRoa` where there is no address; a fault of the
-    /// content comes before the signer is asked for anything. Then refuses as
+    /// content goes before one of the signer, and leaves the signer as it was. Then refuses as
     /// `SignedObjectBuilder::finalize` does.
     pub fn finalize<S: Signer>(
         self,
