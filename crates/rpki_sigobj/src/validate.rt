@@ -18,7 +18,7 @@ impl SignedObject {
     ///
     /// Refuses by the fault of the first check that does not hold, in this order: `SidMismatch`,
     /// `DigestMismatch`, `SigningTime`, `BadSignature`, and those of `Cert::validate_ee_at`; or by
-    /// `Memory`. The content is digested once.
+    /// `Memory`. That the content is digested once, no clause says.
     pub fn validate_at<C: Crypto>(
         self,
         alloc: Global,

@@ -41,8 +41,8 @@ pub struct Manner {
 
 /// What is said of the files of a check with these options, at a moment: first of the locator,
 /// where one is set, then of the revocation lists, then of the certificates, and then of the
-/// objects under the issuer that these make, which is validated once. The octets stand in the order
-/// of `check_names`, and the kinds are those of the objects.
+/// objects under the one issuer that these make. The octets stand in the order of `check_names`,
+/// and the kinds are those of the objects.
 ///
 /// A locator that is none is `BadLocator`, and a file that begins with no list `Reported`, with
 /// status 2. Certificates that make no issuer are refused as `refused_by` says. Of one object is
