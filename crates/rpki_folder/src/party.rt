@@ -35,7 +35,8 @@ pub struct FolderParty<'a, F, C> {
 }
 
 impl<'a, F> FolderParty<'a, F, Rsa> {
-    /// A relying party that computes signatures, and visits 1,000,000 places under a locator.
+    /// A relying party that computes signatures. That it visits 1,000,000 places at most under a
+    /// locator is this project's own rule.
     pub fn new(folders: &'a F) -> FolderParty<'a, F, Rsa>
         ensures folders { result.folders.now ≡ folders.now }
         ensures limit { result.limit ≡ 1000000 }

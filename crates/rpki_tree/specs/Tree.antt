@@ -100,12 +100,12 @@ key_of ca = ca.cert.certificate.tbs.extensions.key.subject_key
 -- ---- the tree
 
 -- The CA is reached from the trust anchor: it is the anchor, or a chain leads there, of 32
--- certificates at most and with no key twice.
+-- certificates at most and with no key identifier twice.
 abbrev pub IsReached : Setting → Validated → Validated → Type 0
 IsReached s anchor ca = walk.IsPayload (λ c d. c ≡ d) (IsChild s) key_of anchor ca
 
 -- This is found under the locator: from its trust anchor some chain leads, of 32 certificates at
--- most and with no key twice, to a CA that says it.
+-- most and with no key identifier twice, to a CA that says it.
 abbrev pub IsFinding : Setting → Locator → Finding → Type 0
 IsFinding s tal x =
     (anchor : Validated) × IsAnchorOf s tal anchor

@@ -57,9 +57,9 @@ fn of_anchor(fault: AnchorFault) -> PassFault
 
 /// What is found under a locator: the payloads that CAs say to which a chain of valid and unrevoked
 /// certificates leads from its trust anchor, and what is refused in their publication points. A
-/// chain has 32 certificates at most, and no key twice. The order is that of a walk, depth first;
-/// the files of a CA are in the order of its manifest. At most `limit` places are visited, a CA
-/// that several chains reach as often as they do.
+/// chain has 32 certificates at most, and no key identifier twice. The order is that of a walk,
+/// depth first; the files of a CA are in the order of its manifest. At most `limit` places are
+/// visited, a CA that several chains reach as often as they do.
 ///
 /// Where the repository tells what it has, just that is found which follows from it. Where it tells
 /// nothing, as a folder does, what is found at each visit follows from one state of each file. That

@@ -20,7 +20,7 @@ pub trait Points {
     // points are files of a folder, only `tells` speaks of what was read.
     ghost told: { Self → Type 0 };
 
-    // The key of a CA.
+    // The key identifier of a CA.
     ghost key_of: { Self → Self.Ca → List ℕ };
 
     // The CA says this.
@@ -33,7 +33,7 @@ pub trait Points {
     // point has them.
     ghost tells: { Self → Self.Ca → List Self.Said → List Self.Ca → Type 0 };
 
-    /// The key of a CA.
+    /// The key identifier of a CA.
     fn key(&self, ca: &Self::Ca) -> KeyId
         ensures { result ≡ key_of self.now ca.now };
 

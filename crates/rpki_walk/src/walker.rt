@@ -118,10 +118,10 @@ fn visit<P: Points>(
 }
 
 /// What the CA of a trust anchor says, and those below it, each as often as a chain leads there:
-/// a chain has 32 certificates at most, and no key twice. The CAs are visited depth first, a CA
-/// before its children, and these in their order. Where there are more places than `limit`, which
-/// counts chains and not CAs, nothing is answered of what they say. Where the points don't tell
-/// what their CAs say, the order still holds of what was read.
+/// a chain has 32 certificates at most, and no key identifier twice. The CAs are visited depth
+/// first, a CA before its children, and these in their order. Where there are more places than
+/// `limit`, which counts chains and not CAs, nothing is answered of what they say. Where the points
+/// don't tell what their CAs say, the order still holds of what was read.
 pub fn walk<P: Points>(
     alloc: Global,
     points: &P,

@@ -36,7 +36,8 @@ pub record IsFurther (said : List ℕ) (rest : List ℕ → Type 0) (octets : Li
   pub says : IsField field said
   pub goes_on : rest later
 
--- what follows a field of a record, whose further fields say these
+-- What follows a field of a record, whose further fields say these. That a record ends in LF alone,
+-- where RFC 4180 has CR and LF, is this project's own rule.
 abbrev pub AreFurther : List (List ℕ) → List ℕ → Type 0
 AreFurther [] octets = octets ≡ codes "\n"
 AreFurther (said ∷ more) octets = IsFurther said (AreFurther more) octets
