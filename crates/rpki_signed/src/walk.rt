@@ -9,8 +9,8 @@ use rpki_files::{FileAndHash, FileListIter, ManifestContent};
 use std::marker::Model;
 
 /// The entries of a manifest that are held by files at hand, in the manifest's order: those whose
-/// name a file has, and whose hash is the SHA-256 digest of the first such file's octets (RFC 9286,
-/// section 6.5).
+/// name a file has, and whose hash is the digest of the first such file's octets (RFC 9286, section
+/// 6.5).
 ///
 /// It borrows the manifest and the files, which are pairs of a name and its octets, takes no memory
 /// and can't fail. Names are octets, and are compared as they are. A hash is compared as a whole,
