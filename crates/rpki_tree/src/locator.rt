@@ -24,7 +24,7 @@ use std::fmt;
 pub enum PassFault {
     /// There is no trust anchor of the locator.
     Anchor(AnchorFault),
-    /// More CAs are reached than may be visited.
+    /// More places are reached than may be visited; a CA has one for each chain that leads to it.
     Limit,
     /// No memory was to be had.
     Memory,
