@@ -1,5 +1,6 @@
-//! A whole authority of the stand-in: the certificate of its trust anchor, its revocation list and
-//! an object of each kind, each made and checked under both before it is published.
+//! A whole authority of the stand-in: the certificate of its trust anchor, its revocation list, and
+//! a ROA, an ASPA and a manifest, each of which is made and checked under both before it is
+//! published.
 
 ghost use Rattle.std.specs.Prelude.{◌≡◌, IfErr, IfOk};
 ghost use Rattle.std.specs.Int.{w64, to_be_bytes};
