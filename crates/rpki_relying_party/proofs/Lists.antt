@@ -1,9 +1,8 @@
 -- Lists: what they contain, what is mapped, and keys that differ.
 use Rattle.std.proofs.Common.{◌≡◌, ◌<◌, ◌⊎◌, inl, inr, ℕ, zero, suc, List, [], ◌∷◌, ◌++◌, length}
-use Rattle.std.proofs.Common.{Contains, All, map, refl, sym, subst, ap, ◌∙◌, arith, get_or, Bool, false}
+use Rattle.std.proofs.Common.{Contains, All, map, refl, subst, ap, arith, get_or, Bool, false}
 use Rattle.std.specs.List.{IsDistinct, AllByRecursion}
-use Rattle.std.proofs.lemmas.List.Elements.{All-contains, Contains-get_or, Contains-append_cases}
-use Rattle.std.proofs.lemmas.List.Elements.{Contains-append_left, Contains-append_right}
+use Rattle.std.proofs.lemmas.List.Elements.{Contains-get_or, Contains-append_cases}
 use Rattle.std.proofs.lemmas.Map.Keys.{IsDistinct-cons, IsDistinct-head, IsDistinct-tail}
 
 pub nothing : {X : Type 0} (x : X) → Contains [] x → ⊥

@@ -1,13 +1,15 @@
 -- The turns of a walk keep what was read, what was left, and what waits.
-use Rattle.std.proofs.Common.{◌≡◌, ◌⊎◌, inl, inr, ℕ, zero, suc, ◌+◌, ◌-◌, ◌<◌, ◌≤◌, ◌/◌, List, []}
+use Rattle.std.proofs.Common.{◌≡◌, ◌⊎◌, inl, inr, ℕ, zero, suc, ◌+◌, ◌-◌, ◌<◌, ◌≤◌, List, []}
 use Rattle.std.proofs.Common.{◌∷◌, ◌++◌, length, Bool, true, false, cond, Contains, All, map, refl}
 use Rattle.std.proofs.Common.{sym, subst, ap, ◌∙◌, arith, get_or, append_assoc}
 use Rattle.std.specs.Prelude.{◌↔◌, AllPairs, IsTrue, IsPermutation, bytes_eq, sum_by}
 use Rattle.std.specs.List.{IsDistinct}
 use Rattle.std.proofs.lemmas.Bool.{true≢false}
-use Rattle.std.proofs.lemmas.List.{map-append, map-id, nil_from_length}
+use Rattle.std.proofs.lemmas.List.{append-nil, map-append, map-id, nil_from_length}
 use Rattle.std.proofs.lemmas.Simd.{map-map}
-use Rattle.std.proofs.lemmas.List.Sums.{sum_by-append}
+use Rattle.std.proofs.lemmas.List.Kept.{AllPairs-cons}
+use Rattle.std.proofs.lemmas.List.Quantifiers.{all_pairs_push}
+use Rattle.std.proofs.lemmas.List.Sums.{sum_by-append, sum_by-cons, sum_by_push}
 use Rattle.std.proofs.lemmas.List.Elements.{All-nil, All-cons, All-push, All-append, All-weaker}
 use Rattle.std.proofs.lemmas.List.Elements.{All-contains, Contains-append_left, Contains-push}
 use Rattle.std.proofs.lemmas.List.Elements.{Contains-append_right, Contains-push_cases}
@@ -21,12 +23,11 @@ use Rattle.std.proofs.lemmas.Map.Keys.{IsDistinct-cons, IsDistinct-IsPermutation
 use Rattle.std.proofs.lemmas.Map.Made.{AllPairs-from_IsDistinct}
 use Rattle.std.proofs.lemmas.Slice.Eq.{bytes_eq-Decides}
 use Rattle.rpki_relying_party.specs.declared.walk.Why.{Why}
-use Rattle.rpki_relying_party.specs.declared.walk.Why.TheVariants.{Limit, Memory}
 use Rattle.rpki_relying_party.specs.Paths.{Leads}
 use Rattle.rpki_relying_party.specs.Walk.{Read, Left, IsToldChild, IsMet, HasKey, IsWalk, spent}
-use Rattle.rpki_relying_party.specs.Walk.{places_read, places_left, IsTooMuch, IsLimited}
+use Rattle.rpki_relying_party.specs.Walk.{places_read, places_left, total, share, IsWhy, IsLeft}
 use Rattle.rpki_relying_party.specs.Steps.{IsPut, IsMeeting, AreMet, AreLeft, WasRead, WasLeft, IsVisit}
-use Rattle.rpki_relying_party.specs.Steps.{IsWhy, left_for}
+use Rattle.rpki_relying_party.specs.Steps.{left_for, untried}
 use Rattle.rpki_relying_party.proofs.Lists.{nothing, all-of, contains-first, contains-rest}
 use Rattle.rpki_relying_party.proofs.Lists.{cons-cases, mapped-from, distinct-append, distinct-none}
 use Rattle.rpki_relying_party.proofs.Meeting.{differ}
@@ -36,31 +37,22 @@ use Rattle.rpki_relying_party.proofs.Meeting.{differ}
 exact : (d r l c : ℕ) → d + r ≡ l → c ≤ r → (d + c) + (r - c) ≡ l
 exact d r l c e h = omega arith
 
-within-more : (d r l c : ℕ) → d + r ≤ l → c ≤ r → (d + c) + (r - c) ≤ l
-within-more d r l c e h = omega arith
-
-within-less : (d r l c : ℕ) → d + r ≤ l → d + (r - c) ≤ l
-within-less d r l c e = omega arith
-
-le-more : (a b c : ℕ) → a ≤ b → a ≤ b + c
-le-more a b c h = omega arith
-
-lt-more : (l d c n : ℕ) → l < d + n → l < (d + c) + n
-lt-more l d c n h = omega arith
-
 le-through : (a b c : ℕ) → a ≤ b → b ≤ c → a ≤ c
 le-through a b c h i = omega arith
 
-past-share : (a b c : ℕ) → b ≡ a + 1 → b < c → a < c
-past-share a b c h i = omega arith
+no-room : (a r : ℕ) → 0 < a → a ≤ r → r ≡ 0 → ⊥
+no-room a r h i e = absurd (omega (arith, h, i, e))
 
-past : (d r l n : ℕ) → d + r ≡ l → r < n → l < d + n
-past d r l n e h = omega arith
+all-gone : (a r : ℕ) → a ≡ r → r - a ≡ 0
+all-gone a r e = omega arith
+
+still-none : (r c : ℕ) → r ≡ 0 → r - c ≡ 0
+still-none r c e = omega arith
 
 all-spent : (d r l : ℕ) → d + r ≡ l → r ≡ 0 → l ≤ d
 all-spent d r l e z = omega arith
 
-in-all : (d r l : ℕ) → d + r ≤ l → d ≤ l
+in-all : (d r l : ℕ) → d + r ≡ l → d ≤ l
 in-all d r l e = omega arith
 
 -- ---- keys, and orders of lists
@@ -89,16 +81,30 @@ module _ {P : Type 0} (key : P → List ℕ) where
 
 -- the places of one more that is left
 module _ {P : Type 0} where
-  pub left-more : (unread : List (Left P)) (p : P) (why : Why)
-      → places_left (unread ++ left_for p why ∷ []) ≡ places_left unread ++ p ∷ []
-  left-more unread p why = map-append (λ (u : Left P). u.place) unread (left_for p why ∷ [])
+  pub left-more : (unread : List (Left P)) (p : P) (why : Why) (n : ℕ)
+      → places_left (unread ++ left_for p why n ∷ []) ≡ places_left unread ++ p ∷ []
+  left-more unread p why n = map-append (λ (u : Left P). u.place) unread (left_for p why n ∷ [])
 
   pub left-all : (unread : List (Left P)) (left : List P)
-      → places_left (unread ++ map (λ p. left_for p Limit) left) ≡ places_left unread ++ left
+      → places_left (unread ++ map (λ p. untried p) left) ≡ places_left unread ++ left
   left-all unread left =
-      map-append (λ (u : Left P). u.place) unread (map (λ (p : P). left_for p Limit) left)
+      map-append (λ (u : Left P). u.place) unread (map (λ (p : P). untried p) left)
       ∙ ap (λ (l : List P). places_left unread ++ l)
-      (map-map (λ (u : Left P). u.place) (λ (p : P). left_for p Limit) left ∙ map-id left)
+      (map-map (λ (u : Left P). u.place) (λ (p : P). untried p) left ∙ map-id left)
+
+  -- on those that are not tried nothing is spent
+  pub untried-sum : (ps : List P) → sum_by (λ (u : Left P). u.tried) (map (λ p. untried p) ps) ≡ 0
+  untried-sum [] = refl
+  untried-sum (p ∷ ps) = omega (
+    arith,
+    sum_by-cons (λ (u : Left P). u.tried) (untried p) (map (λ p. untried p) ps),
+    untried-sum ps,
+  )
+
+  pub untried-each : (Q : Left P → Type 0) → ((p : P) → Q (untried p)) → (ps : List P)
+      → All Q (map (λ p. untried p) ps)
+  untried-each Q f ps = all-of Q (map (λ p. untried p) ps) (λ u c.
+      let r = mapped-from (λ (p : P). untried p) ps u c in subst Q (r.2) (f (r.0)))
 
   -- one of those that wait is left
   pub order-left : (met rs ls w w2 : List P) (p : P) → IsPermutation met (rs ++ (ls ++ w))
@@ -140,6 +146,39 @@ sum-more : {P X : Type 0} (reads : List (Read P X)) (r : Read P X)
     → spent (reads ++ r ∷ []) ≡ spent reads + r.cost
 sum-more reads r = omega (arith, sum_by-append (λ (s : Read _ _). s.cost) reads (r ∷ []))
 
+-- the work of one more that is read, or left, or not tried
+module _ {P X : Type 0} (reads : List (Read P X)) (unread : List (Left P)) where
+  pub total-read : (r : Read P X) → total (reads ++ r ∷ []) unread ≡ total reads unread + r.cost
+  total-read r = omega (arith, sum-more reads r)
+
+  pub total-left : (u : Left P) → total reads (unread ++ u ∷ []) ≡ total reads unread + u.tried
+  total-left u = omega (arith, sum_by_push (λ (u : Left P). u.tried) unread u)
+
+  pub total-untried : (ps : List P)
+      → total reads (unread ++ map (λ p. untried p) ps) ≡ total reads unread
+  total-untried ps = omega (
+    arith,
+    sum_by-append (λ (u : Left P). u.tried) unread (map (λ p. untried p) ps),
+    untried-sum ps,
+  )
+
+-- pairs, of which either holds of the first, or the other of the later one
+module _ {X : Type 0} (Q R : X → Type 0) where
+  abbrev pub Either : X → X → Type 0
+  Either x y = Q x ⊎ R y
+
+  pub pairs-push : (xs : List X) (y : X) → AllPairs Either xs → All Q xs
+      → AllPairs Either (xs ++ y ∷ [])
+  pairs-push xs y h q = all_pairs_push Either xs y h (λ k d l. inl (q k d l))
+
+  pub pairs-rest : (xs ys : List X) → AllPairs Either xs → All R ys → AllPairs Either (xs ++ ys)
+  pairs-rest [] ys h r = λ i j d b l. inr (r j d l)
+  pairs-rest (x ∷ xs) ys h r = AllPairs-cons Either x (xs ++ ys)
+      (All-append (Either x) xs ys
+      (λ k d l. h 0 (suc k) d (omega arith) (omega (arith, l))) (λ k d l. inr (r k d l)))
+      (pairs-rest xs ys
+      (λ i j d b l. h (suc i) (suc j) d (omega (arith, b)) (omega (arith, l))) r)
+
 -- a chain, and one child more
 pub leads-on : {P : Type 0} (child : P → P → Type 0) (s q p : P) (path : List P)
     → Leads child s path q → child q p → Leads child s (path ++ p ∷ []) p
@@ -172,16 +211,27 @@ pub record IsRun {P X : Type 0} (tells : P → List X → List P → Type 0) (co
       → listed x ⊎ ((r : Read P X) × Contains reads r × Contains r.said x)
   pub kept : All (λ r. All has r.said) reads
   pub stays : (x : X) → had x → has x
-  pub within : spent reads + room ≤ limit
-  pub small : All (λ r. r.cost ≤ limit / 8 + 1) reads
-  pub left : ((unread ≡ []) × (spent reads + room ≡ limit))
-      ⊎ IsLimited costs limit (spent reads) unread
+  pub within : total reads unread + room ≡ limit
+  pub small : All (λ r. r.cost ≤ share limit) reads
+  pub left : All (IsLeft costs limit) unread
+  pub full : (room ≡ 0) ⊎ All (λ u. u.tried ≡ share limit) unread
+  pub last : AllPairs (λ u v. (u.tried ≡ share limit) ⊎ (v.tried ≡ 0)) unread
 
 module _ {P X : Type 0} (tells : P → List X → List P → Type 0) (costs : P → ℕ → Type 0)
     (key : P → List ℕ) (listed had : X → Type 0) (start : P) (limit : ℕ) where
   abbrev Run : (X → Type 0) → (X → Type 0) → ℕ → List (Left P) → (List ℕ → Bool) → List P → Type 0
   Run lists has room unread keys waiting =
       IsRun tells costs key listed lists had has start limit room unread keys waiting
+
+  -- as much was spent on the place as may be, or nothing
+  abbrev Full : Left P → Type 0
+  Full u = u.tried ≡ share limit
+
+  abbrev None : Left P → Type 0
+  None u = u.tried ≡ 0
+
+  abbrev Ordered : List (Left P) → Type 0
+  Ordered unread = AllPairs (λ u v. Full u ⊎ None v) unread
 
   none-read : (x : X) → listed x
       → listed x ⊎ ((r : Read P X) × Contains [] r × Contains r.said x)
@@ -213,9 +263,13 @@ module _ {P X : Type 0} (tells : P → List X → List P → Type 0) (costs : P 
     found = none-read;
     kept = All-nil (λ r. All had r.said);
     stays = λ x h. h;
-    within = omega arith;
-    small = All-nil (λ r. r.cost ≤ limit / 8 + 1);
-    left = inl (u, omega arith);
+    within = subst (λ (l : List (Left P)). total {X = X} [] l + limit ≡ limit) (sym u)
+        (omega arith);
+    small = All-nil (λ r. r.cost ≤ share limit);
+    left = subst (λ (l : List (Left P)). All (IsLeft costs limit) l) (sym u)
+        (All-nil (IsLeft costs limit));
+    full = inr (subst (λ (l : List (Left P)). All Full l) (sym u) (All-nil Full));
+    last = subst Ordered (sym u) (λ i j d b l. absurd (omega (arith, l)));
   }
     where
       only-start : (p : P) → Contains (start ∷ []) p → p ≡ start
@@ -234,34 +288,25 @@ module _ {P X : Type 0} (tells : P → List X → List P → Type 0) (costs : P 
   module _ (lists has : X → Type 0) (room : ℕ) (unread : List (Left P)) (keys : List ℕ → Bool)
       (waiting waiting2 : List P) (p : P) (allowed : ℕ)
       (w : Run lists has room unread keys waiting) (turn : IsPermutation waiting (p ∷ waiting2))
-      (fits : allowed ≤ room) (in-share : allowed ≤ limit / 8 + 1)
-      (share : (allowed ≡ room) ⊎ (allowed ≡ limit / 8 + 1)) where
+      (some : 0 < allowed) (fits : allowed ≤ room) (in-share : allowed ≤ share limit)
+      (whole : (allowed ≡ room) ⊎ (allowed ≡ share limit)) where
     -- a place is left unread
     module _ (why : Why) (is : IsWhy costs p allowed why) where
       abbrev one : Left P
-      one = left_for p why
+      one = left_for p why allowed
 
-      too-much : (y : Why) → y ≡ why
-          → ((unread ≡ []) × (spent w.reads + room ≡ limit)) → IsTooMuch costs limit (spent w.reads) one
-      too-much Memory e h = inl (sym e)
-      too-much Limit e h =
-          let h2 : IsWhy costs p allowed Limit = subst (λ (z : Why). IsWhy costs p allowed z) (sym e) is in
-          inr (
-            h2.0,
-            h2.1,
-            (elim share [
-              | inl s ↦ inr (past (spent w.reads) room limit (h2.0) (h.1)
-                  (subst (λ (n : ℕ). n < h2.0) s (h2.2)))
-              | inr big ↦ inl (past-share (limit / 8) allowed (h2.0) big (h2.2))
-            ]),
-          )
+      all-full : All Full unread
+      all-full = elim w.full [
+        | inl z ↦ absurd (no-room allowed room some fits z)
+        | inr h ↦ h
+      ]
 
       pub run-left : Run lists has (room - allowed) (unread ++ one ∷ []) keys waiting2
       run-left = record {
         reads = w.reads;
         met = w.met;
         split = subst (λ (l : List P). IsPermutation w.met (places_read w.reads ++ (l ++ waiting2)))
-            (sym (left-more unread p why))
+            (sym (left-more unread p why allowed))
             (order-left w.met (places_read w.reads) (places_left unread) waiting waiting2 p w.split
             turn);
         distinct = w.distinct;
@@ -274,15 +319,15 @@ module _ {P X : Type 0} (tells : P → List X → List P → Type 0) (costs : P 
         found = w.found;
         kept = w.kept;
         stays = w.stays;
-        within = within-less (spent w.reads) room limit allowed w.within;
+        within = ap (λ (n : ℕ). n + (room - allowed)) (total-left w.reads unread one)
+            ∙ exact (total w.reads unread) room limit allowed w.within fits;
         small = w.small;
-        left = inr (elim w.left [
-          | inl h ↦ inr (one, Contains-push unread one, too-much why refl h)
-          | inr h ↦ (elim h [
-            | inl all ↦ inl all
-            | inr u ↦ inr (u.0, Contains-append_left unread (one ∷ []) (u.0) (u.1), u.2)
-          ])
-        ]);
+        left = All-push (IsLeft costs limit) unread one w.left (inr (some, in-share, is));
+        full = elim whole [
+          | inl all ↦ inl (all-gone allowed room all)
+          | inr big ↦ inr (All-push Full unread one all-full big)
+        ];
+        last = pairs-push Full None unread one w.last all-full;
       }
 
     -- a place is read
@@ -340,9 +385,6 @@ module _ {P X : Type 0} (tells : P → List X → List P → Type 0) (costs : P 
       all-closed cs h = All-weaker (λ d. HasKey key w.met (key d)) (λ d. HasKey key met2 (key d))
           (λ d k. has-behind key m.fresh w.met (key d) k) cs h
 
-      sums : spent reads2 ≡ spent w.reads + c
-      sums = sum-more w.reads read
-
       apart : (k l : List ℕ) → Contains (map key m.fresh) k → Contains (map key w.met) l
           → bytes_eq k l ≡ false
       apart k l h i =
@@ -385,35 +427,17 @@ module _ {P X : Type 0} (tells : P → List X → List P → Type 0) (costs : P 
             (All-weaker (λ r. All has r.said) (λ r. All has2 r.said)
             (λ r h. All-weaker has has2 stays r.said h) w.reads w.kept) kept;
         stays = λ x h. stays x (w.stays x h);
-        within = subst (λ (n : ℕ). n + (room - c) ≤ limit) (sym sums)
-            (within-more (spent w.reads) room limit c w.within (le-through c allowed room cheap fits));
-        small = All-push (λ r. r.cost ≤ limit / 8 + 1) w.reads read w.small
-            (le-through c allowed (limit / 8 + 1) cheap in-share);
-        left = elim w.left [
-          | inl h ↦ inl (
-            h.0,
-            ap (λ (n : ℕ). n + (room - c)) sums
-                ∙ exact (spent w.reads) room limit c (h.1) (le-through c allowed room cheap fits),
-          )
-          | inr h ↦ inr (subst (λ (n : ℕ). IsLimited costs limit n unread) (sym sums) (elim h [
-            | inl all ↦ inl (le-more limit (spent w.reads) c all)
-            | inr u ↦ inr (
-              u.0,
-              u.1,
-              (elim (u.2) [
-                | inl memory ↦ inl memory
-                | inr n ↦ inr (
-                  n.0,
-                  n.1,
-                  (elim (n.2) [
-                    | inl big ↦ inl big
-                    | inr over ↦ inr (lt-more limit (spent w.reads) c (n.0) over)
-                  ]),
-                )
-              ]),
-            )
-          ]))
+        within = ap (λ (n : ℕ). n + (room - c)) (total-read w.reads unread read)
+            ∙ exact (total w.reads unread) room limit c w.within
+            (le-through c allowed room cheap fits);
+        small = All-push (λ r. r.cost ≤ share limit) w.reads read w.small
+            (le-through c allowed (share limit) cheap in-share);
+        left = w.left;
+        full = elim w.full [
+          | inl z ↦ inl (still-none room c z)
+          | inr h ↦ inr h
         ];
+        last = w.last;
       }
 
   -- the turn of a place came
@@ -421,9 +445,9 @@ module _ {P X : Type 0} (tells : P → List X → List P → Type 0) (costs : P 
       (unread unread2 : List (Left P)) (keys new : List ℕ → Bool)
       (waiting waiting2 waiting3 : List P) (p : P) (allowed done : ℕ)
       (w : Run (lists found) (has found) room unread keys waiting)
-      (turn : IsPermutation waiting (p ∷ waiting2)) (fits : allowed ≤ room)
-      (in-share : allowed ≤ limit / 8 + 1)
-      (share : (allowed ≡ room) ⊎ (allowed ≡ limit / 8 + 1)) where
+      (turn : IsPermutation waiting (p ∷ waiting2)) (some : 0 < allowed)
+      (fits : allowed ≤ room) (in-share : allowed ≤ share limit)
+      (whole : (allowed ≡ room) ⊎ (allowed ≡ share limit)) where
     unread-then : WasLeft costs p allowed done found found2 unread unread2 keys new waiting2 waiting3
         → Run (lists found2) (has found2) (room - done) unread2 new waiting3
     unread-then u =
@@ -432,19 +456,19 @@ module _ {P X : Type 0} (tells : P → List X → List P → Type 0) (costs : P 
         (subst (λ (l : List (Left P)).
         Run (lists found) (has found) (room - allowed) l new waiting3) (sym u.left)
         (subst (λ (k : List ℕ → Bool). Run (lists found) (has found) (room - allowed)
-        (unread ++ left_for p u.why ∷ []) k waiting3) (sym u.same_keys)
+        (unread ++ left_for p u.why allowed ∷ []) k waiting3) (sym u.same_keys)
         (subst (λ (l : List P). Run (lists found) (has found) (room - allowed)
-        (unread ++ left_for p u.why ∷ []) keys l) (sym u.same_waiting)
-        (run-left (lists found) (has found) room unread keys waiting waiting2 p allowed w turn fits in-share
-        share u.why u.is_why)))))
+        (unread ++ left_for p u.why allowed ∷ []) keys l) (sym u.same_waiting)
+        (run-left (lists found) (has found) room unread keys waiting waiting2 p allowed w turn some
+        fits in-share whole u.why u.is_why)))))
 
     read-then : WasRead tells costs key lists has p allowed done found found2 unread unread2 keys new
         waiting2 waiting3 → Run (lists found2) (has found2) (room - done) unread2 new waiting3
     read-then r = subst (λ (l : List (Left P)).
         Run (lists found2) (has found2) (room - done) l new waiting3) (sym r.none_left)
-        (run-read (lists found) (has found) room unread keys waiting waiting2 p allowed w turn fits in-share
-        share (lists found2) (has found2) r.said r.children done new waiting3 r.told r.cost r.fits
-        r.found_now r.stays r.kept r.met)
+        (run-read (lists found) (has found) room unread keys waiting waiting2 p allowed w turn some
+        fits in-share whole (lists found2) (has found2) r.said r.children done new waiting3 r.told
+        r.cost r.fits r.found_now r.stays r.kept r.met)
 
     pub run-visit : IsVisit tells costs key lists has p allowed done found found2 unread unread2 keys
         new waiting2 waiting3 → Run (lists found2) (has found2) (room - done) unread2 new waiting3
@@ -473,20 +497,25 @@ module _ {P X : Type 0} (tells : P → List X → List P → Type 0) (costs : P 
     none-waits e = nil_from_length (a.0)
         (length_permutation waiting (a.0) (a.1) ∙ ap (λ (l : List P). length l) e)
 
-    none-left : unread ≡ [] → a.0 ≡ [] → unread2 ≡ []
-    none-left u e = a.2 ∙ ap (λ (l : List (Left P)). l ++ map (λ p. left_for p Limit) (a.0)) u
-        ∙ ap (λ (l : List P). map (λ p. left_for p Limit) l) e
+    none-left : a.0 ≡ [] → unread2 ≡ unread
+    none-left e = a.2 ∙ ap (λ (l : List P). unread ++ map (λ p. untried p) l) e ∙ append-nil unread
 
-    limited : IsLimited costs limit (spent w.reads) unread
-        → IsLimited costs limit (spent w.reads) unread2
-    limited h = elim h [
-      | inl all ↦ inl all
-      | inr u ↦ inr (
-        u.0,
-        subst (λ (l : List (Left P)). Contains l (u.0)) (sym (a.2))
-            (Contains-append_left unread (map (λ p. left_for p Limit) (a.0)) (u.0) (u.1)),
-        u.2,
-      )
+    same-total : total w.reads unread2 ≡ total w.reads unread
+    same-total = ap (λ (l : List (Left P)). total w.reads l) (a.2)
+        ∙ total-untried w.reads unread (a.0)
+
+    abbrev Done : Left P → Type 0
+    Done u = Full u ⊎ (limit ≤ total w.reads unread2)
+
+    when-spent : room ≡ 0 → All Done unread2
+    when-spent z = λ k d l. inr (subst (λ (n : ℕ). limit ≤ n) (sym same-total)
+        (all-spent (total w.reads unread) room limit w.within z))
+
+    when-empty : a.0 ≡ [] → All Done unread2
+    when-empty e = elim w.full [
+      | inl z ↦ when-spent z
+      | inr h ↦ subst (λ (l : List (Left P)). All Done l) (sym (none-left e))
+          (All-weaker Full Done (λ u f. inl f) unread h)
     ]
 
     pub run-ended : IsWalk tells costs key listed lists had has start limit unread2
@@ -506,13 +535,17 @@ module _ {P X : Type 0} (tells : P → List X → List P → Type 0) (costs : P 
       found = w.found;
       kept = w.kept;
       stays = w.stays;
-      within = in-all (spent w.reads) room limit w.within;
+      within = subst (λ (n : ℕ). n ≤ limit) (sym same-total)
+          (in-all (total w.reads unread) room limit w.within);
       small = w.small;
-      left = elim w.left [
-        | inl h ↦ (elim stop [
-          | inl z ↦ inr (inl (all-spent (spent w.reads) room limit (h.1) z))
-          | inr n ↦ inl (none-left (h.0) (none-waits n))
-        ])
-        | inr h ↦ inr (limited h)
+      left = subst (λ (l : List (Left P)). All (IsLeft costs limit) l) (sym (a.2))
+          (All-append (IsLeft costs limit) unread (map (λ p. untried p) (a.0)) w.left
+          (untried-each (IsLeft costs limit) (λ p. inl (refl, refl)) (a.0)));
+      full = elim stop [
+        | inl z ↦ when-spent z
+        | inr n ↦ when-empty (none-waits n)
       ];
+      last = subst Ordered (sym (a.2))
+          (pairs-rest Full None unread (map (λ p. untried p) (a.0)) w.last
+          (untried-each None (λ p. refl) (a.0)));
     }

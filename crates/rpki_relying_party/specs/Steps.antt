@@ -6,11 +6,11 @@ use Rattle.std.specs.declared.alloc.Global.{Global}
 use Rattle.std.specs.BTreeSet.{BTreeSet, contains_by}
 use Rattle.std.specs.Cmp.Lexicographic.{slice_cmp}
 use Rattle.std.specs.Ordering.{nat_cmp}
-use Rattle.rpki_relying_party.specs.Walk.{Left, HasKey}
+use Rattle.rpki_relying_party.specs.Walk.{Left, HasKey, IsWhy}
 use Rattle.rpki_relying_party.specs.declared.places.Reading.{Reading}
 use Rattle.rpki_relying_party.specs.declared.places.Reading.TheVariants as readings
 use Rattle.rpki_relying_party.specs.declared.walk.Why.{Why}
-use Rattle.rpki_relying_party.specs.declared.walk.Why.TheVariants.{Limit, Memory}
+use Rattle.rpki_relying_party.specs.declared.walk.Why.TheVariants.{Limit}
 
 -- What came of reading a place within some room: what it tells, at the cost of reading it, one at
 -- least; or that this is more than there was room for.
@@ -47,26 +47,25 @@ pub record AreMet {P : Type 0} (key : P → List ℕ) (places : List P) (old new
   pub now : (k : List ℕ) → IsTrue (new k) ↔ (IsTrue (old k) ⊎ HasKey key fresh k)
   pub all : All (λ p. IsTrue (new (key p))) places
 
--- a place, left unread for this
-abbrev pub left_for : {P : Type 0} → P → Why → Left P
-left_for p why = record { place = p; why = why }
+-- a place, left unread for this after so much work
+abbrev pub left_for : {P : Type 0} → P → Why → ℕ → Left P
+left_for p why tried = record { place = p; why = why; tried = tried }
 
--- These places are left unread, in some order, since no work is left for them.
+-- a place, left without trying it, since no work is left
+abbrev pub untried : {P : Type 0} → P → Left P
+untried p = left_for p Limit 0
+
+-- These places are left untried, in some order.
 abbrev pub AreLeft : {P : Type 0} → List P → List (Left P) → List (Left P) → Type 0
 AreLeft {P} places old new = (left : List P) × IsPermutation places left
-    × (new ≡ old ++ map (λ p. left_for p Limit) left)
-
--- why a place is left unread for which there was this room
-abbrev pub IsWhy : {P : Type 0} → (P → ℕ → Type 0) → P → ℕ → Why → Type 0
-IsWhy costs p room Limit = (n : ℕ) × costs p n × (room < n)
-IsWhy costs p room Memory = Unit {0}
+    × (new ≡ old ++ map (λ p. untried p) left)
 
 -- A place was left unread: all the room was spent, and nothing was met or found.
 pub record WasLeft {P F : Type 0} (costs : P → ℕ → Type 0) (p : P) (room spent : ℕ)
     (found found2 : F) (unread unread2 : List (Left P)) (old new : List ℕ → Bool)
     (waiting waiting2 : List P) : Type 0 where
   pub why : Why
-  pub left : unread2 ≡ unread ++ left_for p why ∷ []
+  pub left : unread2 ≡ unread ++ left_for p why room ∷ []
   pub is_why : IsWhy costs p room why
   pub all : spent ≡ room
   pub same_found : found2 ≡ found

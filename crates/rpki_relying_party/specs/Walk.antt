@@ -12,10 +12,11 @@ pub record Read (P X : Type 0) : Type 0 where
   pub children : List P
   pub cost : ℕ
 
--- a place that was met and not read
+-- a place that was met and not read, and how much work was spent on it before it was left
 pub record Left (P : Type 0) : Type 0 where
   pub place : P
   pub why : Why
+  pub tried : ℕ
 
 -- the places that were read
 abbrev pub places_read : {P X : Type 0} → List (Read P X) → List P
@@ -28,6 +29,14 @@ places_left unread = map (λ u. u.place) unread
 -- how much work the reads were
 abbrev pub spent : {P X : Type 0} → List (Read P X) → ℕ
 spent reads = sum_by (λ r. r.cost) reads
+
+-- how much work all was: the reads, and what was spent on those that were left
+abbrev pub total : {P X : Type 0} → List (Read P X) → List (Left P) → ℕ
+total reads unread = spent reads + sum_by (λ u. u.tried) unread
+
+-- the most that may be spent on one place: an eighth of the limit, and one
+abbrev pub share : ℕ → ℕ
+share limit = limit / 8 + 1
 
 -- When the first place was read, it told that the second is its child.
 abbrev pub IsToldChild : {P X : Type 0} → List (Read P X) → P → P → Type 0
@@ -42,17 +51,15 @@ IsMet {P} start reads p = (path : List P) × Leads (IsToldChild reads) start pat
 abbrev pub HasKey : {P : Type 0} → (P → List ℕ) → List P → List ℕ → Type 0
 HasKey {P} key places k = (p : P) × Contains places p × (key p ≡ k)
 
--- The place is more work than a place may be, which is an eighth of the limit, or than was left of
--- the limit, or there was no memory to read it.
-abbrev pub IsTooMuch : {P : Type 0} → (P → ℕ → Type 0) → ℕ → ℕ → Left P → Type 0
-IsTooMuch costs limit done u =
-    (u.why ≡ Memory)
-    ⊎ ((n : ℕ) × costs u.place n × ((limit / 8 < n) ⊎ (limit < done + n)))
+-- why a place is left on which so much was spent: reading it is more, or memory was wanting
+abbrev pub IsWhy : {P : Type 0} → (P → ℕ → Type 0) → P → ℕ → Why → Type 0
+IsWhy costs p tried Limit = (n : ℕ) × costs p n × (tried < n)
+IsWhy costs p tried Memory = Unit {0}
 
--- The reads were as much work as they may be, or one of the unread places is too much.
-abbrev pub IsLimited : {P : Type 0} → (P → ℕ → Type 0) → ℕ → ℕ → List (Left P) → Type 0
-IsLimited {P} costs limit done unread =
-    (limit ≤ done) ⊎ ((u : Left P) × Contains unread u × IsTooMuch costs limit done u)
+-- The place was not tried, since no work was left; or it was, within the share, and left for this.
+abbrev pub IsLeft : {P : Type 0} → (P → ℕ → Type 0) → ℕ → Left P → Type 0
+IsLeft costs limit u = ((u.tried ≡ 0) × (u.why ≡ Limit))
+    ⊎ ((0 < u.tried) × (u.tried ≤ share limit) × IsWhy costs u.place u.tried u.why)
 
 -- What was read, and what was found and left unread then.
 pub record IsWalk {P X : Type 0} (tells : P → List X → List P → Type 0) (costs : P → ℕ → Type 0)
@@ -72,8 +79,11 @@ pub record IsWalk {P X : Type 0} (tells : P → List X → List P → Type 0) (c
   pub found : (x : X) → lists x → listed x ⊎ ((r : Read P X) × Contains reads r × Contains r.said x)
   pub kept : All (λ r. All has r.said) reads
   pub stays : (x : X) → had x → has x
-  -- no more was read than may be, of each place an eighth of it and one, and some were left only
-  -- for that
-  pub small : All (λ r. r.cost ≤ limit / 8 + 1) reads
-  pub within : spent reads ≤ limit
-  pub left : (unread ≡ []) ⊎ IsLimited costs limit (spent reads) unread
+  -- all work was within the limit, and that on one place within its share
+  pub within : total reads unread ≤ limit
+  pub small : All (λ r. r.cost ≤ share limit) reads
+  -- each place that was left was tried with its share, unless the limit was spent: then one at most
+  -- was tried with less, and those that were left after it were not tried
+  pub left : All (IsLeft costs limit) unread
+  pub full : All (λ u. (u.tried ≡ share limit) ⊎ (limit ≤ total reads unread)) unread
+  pub last : AllPairs (λ u v. (u.tried ≡ share limit) ⊎ (v.tried ≡ 0)) unread

@@ -1,8 +1,8 @@
 //! Places that wait to be read, in an order that is fair to each.
 //!
 //! Each place stands on a branch below that of the place which told of it. The next one is on the
-//! branch that has cost least so far, from the first place down: so a branch waits as soon as it has
-//! cost more than those beside it. No proof says so; that no place is lost is proved.
+//! branch that has cost least so far, from the first place down: so a branch waits as soon as it
+//! has cost more than those beside it. No proof says so; that no place is lost is proved.
 
 ghost use Rattle.std.specs.Prelude.{◌≡◌, ◌∷◌, [], MatchOption, OnOk, IsPermutation};
 ghost use Rattle.rpki_relying_party.specs.Queue.{waiting_in, TakesNone};

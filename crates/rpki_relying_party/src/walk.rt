@@ -1,10 +1,11 @@
 //! A walk over places, of each key of which one is read.
 
-ghost use Rattle.std.specs.Prelude.{◌≡◌, ◌⊎◌, ℕ, ◌<◌, ◌≤◌, ◌∷◌, [], List, Contains, IfOk, OnOk, All};
-ghost use Rattle.std.specs.Prelude.{◌++◌, ◌+◌, ◌/◌, IsPermutation, MatchOption};
+ghost use Rattle.std.specs.Prelude.{◌≡◌, ◌⊎◌, ℕ, ◌<◌, ◌≤◌, ◌∷◌, [], List, Contains, IfOk, OnOk};
+ghost use Rattle.std.specs.Prelude.{All, ◌++◌, ◌+◌, ◌/◌, IsPermutation, MatchOption};
 ghost use Rattle.rpki_relying_party.specs.Paths.{IsSaid, IsFound, IsChild, Leads, TellsOne, Passes};
 ghost use Rattle.rpki_relying_party.specs.Walk.{IsWalk, places_left};
-ghost use Rattle.rpki_relying_party.specs.Steps.{has_key, left_for, IsPut, IsMeeting, AreMet, AreLeft, IsVisit};
+ghost use Rattle.rpki_relying_party.specs.Steps.{has_key, left_for, IsPut, IsMeeting, AreMet};
+ghost use Rattle.rpki_relying_party.specs.Steps.{AreLeft, IsVisit};
 
 use crate::places::{Places, Reading, Told};
 use crate::queue::{Queue, Turn};
@@ -26,6 +27,8 @@ pub enum Why {
 pub struct Unread<P> {
     pub place: P,
     pub why: Why,
+    /// How much work was spent on it before it was left: none, where it was not tried.
+    pub tried: u64,
 }
 
 impl<P> Model for Unread<P> {
@@ -33,7 +36,7 @@ impl<P> Model for Unread<P> {
 
     ghost Value = { Left P };
 
-    ghost view = { λ u. record { place = u.place; why = u.why } };
+    ghost view = { λ u. record { place = u.place; why = u.why; tried = u.tried } };
 }
 
 // The places that were met: their keys, and those of them that wait to be read.
@@ -86,11 +89,16 @@ fn meet_all<P: Places>(
     Ok(())
 }
 
-// A place is left unread.
-fn leave<P: Drop>(place: P, why: Why, unread: &mut Vec<Unread<P>>) -> Result<(), AllocError>
-    ensures { OnOk result (unread.new.items ≡ unread.old.items ++ left_for place why ∷ []) }
+// A place is left unread, on which so much was spent.
+fn leave<P: Drop>(
+    place: P,
+    why: Why,
+    tried: u64,
+    unread: &mut Vec<Unread<P>>,
+) -> Result<(), AllocError>
+    ensures { OnOk result (unread.new.items ≡ unread.old.items ++ left_for place why tried ∷ []) }
 {
-    unread.push(Unread { place, why })?;
+    unread.push(Unread { place, why, tried })?;
     Ok(())
 }
 
@@ -113,11 +121,11 @@ fn visit<P: Places>(
     let Turn { place, branch } = turn;
     match places.read(alloc, &place, room) {
         Err(_) => {
-            leave(place, Why::Memory, unread)?;
+            leave(place, Why::Memory, room, unread)?;
             Ok(room)
         }
         Ok(Reading::Cut) => {
-            leave(place, Why::Limit, unread)?;
+            leave(place, Why::Limit, room, unread)?;
             Ok(room)
         }
         Ok(Reading::Told(told)) => {
@@ -158,12 +166,12 @@ fn room_for_one(limit: u64, room: u64) -> u64
     if room < share { room } else { share }
 }
 
-// Those that wait are left unread.
+// Those that wait are left unread, and nothing is spent on them.
 fn leave_all<P: Drop>(mut queue: Queue<P>, unread: &mut Vec<Unread<P>>) -> Result<(), AllocError>
     ensures { OnOk result (AreLeft queue unread.old.items unread.new.items) }
 {
     while let Some(turn) = queue.take() {
-        leave(turn.place, Why::Limit, unread)?;
+        leave(turn.place, Why::Limit, 0, unread)?;
     }
     Ok(())
 }
@@ -171,11 +179,14 @@ fn leave_all<P: Drop>(mut queue: Queue<P>, unread: &mut Vec<Unread<P>>) -> Resul
 /// Walks from a place on: reads it, then its children, theirs, and so on, of each key one. What the
 /// places say is put to `found`; the answer is the places that were met and left unread.
 ///
-/// All reads together are at most `limit` of work, and that of one place at most an eighth of it,
-/// and one; a place that is more is left unread. What is new in `found` is said by a place to which
-/// a chain of children leads from the start. Where places with one key tell one thing, whenever
-/// they are read, something alike to all that a place says to which a chain leads is found, unless
-/// some place on that chain has the key of an unread one.
+/// All work together is at most `limit`, and that on one place at most an eighth of it, and one. A
+/// place that is more is left unread; what was spent on it counts. A place is left with less than
+/// that spent on it only where the limit is spent.
+///
+/// What is new in `found` is said by a place to which a chain of children leads from the start.
+/// Where places with one key tell one thing, whenever they are read, something alike to all that a
+/// place says to which a chain leads is found, unless some place on that chain has the key of an
+/// unread one.
 ///
 /// The next place is on the branch that has cost least so far, from the start down, which no clause
 /// says.

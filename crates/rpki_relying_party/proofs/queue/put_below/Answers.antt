@@ -1,5 +1,5 @@
 -- One more waits.
-use Rattle.std.proofs.Common.{ap, refl, sym, ◌∙◌, Some}
+use Rattle.std.proofs.Common.{ap, Some}
 use Rattle.rpki_relying_party.proofs.Waiting.{on-ok, put-new}
 use Rattle.rpki_relying_party.proofs.queue.put_below.Goals as goal
 

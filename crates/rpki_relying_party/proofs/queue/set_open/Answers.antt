@@ -1,5 +1,5 @@
 -- What waits stays.
-use Rattle.std.proofs.Common.{ap, sym}
+use Rattle.std.proofs.Common.{ap}
 use Rattle.rpki_relying_party.specs.Queue.{place_on}
 use Rattle.rpki_relying_party.proofs.Waiting.{same-waiting}
 use Rattle.rpki_relying_party.proofs.queue.set_open.Goals as goal

@@ -1,5 +1,5 @@
 -- The place that waited is taken.
-use Rattle.std.proofs.Common.{ap, sym, arith, ◌∙◌, Box, Option, Some}
+use Rattle.std.proofs.Common.{ap, sym, arith, ◌∙◌, Some}
 use Rattle.std.specs.Option.{option_map}
 use Rattle.rpki_relying_party.specs.Queue.{place_on}
 use Rattle.rpki_relying_party.proofs.Waiting.{taken}

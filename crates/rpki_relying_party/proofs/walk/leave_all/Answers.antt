@@ -3,8 +3,7 @@ use Rattle.std.proofs.Common.{◌∷◌, [], ◌++◌, List, map, ap, ◌∙◌,
 use Rattle.std.proofs.lemmas.List.{map-append}
 use Rattle.std.proofs.lemmas.List.Sorted.{IsPermutation-pop_more, length_permutation}
 use Rattle.rpki_relying_party.specs.Walk.{Left}
-use Rattle.rpki_relying_party.specs.Steps.{left_for}
-use Rattle.rpki_relying_party.specs.declared.walk.Why.TheVariants.{Limit}
+use Rattle.rpki_relying_party.specs.Steps.{untried}
 use Rattle.rpki_relying_party.proofs.walk.leave_all.Goals as goal
 
 pub loop-turn-smaller : goal.loop-turn-smaller
@@ -19,7 +18,7 @@ pub loop-turn-preserved : goal.loop-turn-preserved
 loop-turn-preserved g c =
     let i = c.loop-turn.invariant in
     let p = c.in-Some.turn.place in
-    let f : g.row.P.Denot → Left g.row.P.Denot = λ p. left_for p Limit in (
+    let f : g.row.P.Denot → Left g.row.P.Denot = λ p. untried p in (
       i.0 ++ p ∷ [],
       IsPermutation-pop_more c.args.queue (i.0) c.loop-turn.queue c.take.new.self p (i.1)
           c.in-Some.ensures,

@@ -1,11 +1,10 @@
 -- The start is met, a turn comes, and the rest is left; what follows for all chains.
 use Rattle.std.proofs.Common.{◌-◌, List, subst, sym}
 use Rattle.std.proofs.lemmas.List.{nil_from_length}
-use Rattle.rpki_relying_party.specs.Walk.{IsWalk}
 use Rattle.rpki_relying_party.specs.Steps.{has_key, AreLeft}
 use Rattle.rpki_relying_party.proofs.Keys.{none-has}
 use Rattle.rpki_relying_party.proofs.Walking.{IsRun, run-begun, run-visit, run-ended}
-use Rattle.rpki_relying_party.proofs.Laws as laws
+use Rattle.rpki_relying_party.proofs.Chains as laws
 use Rattle.rpki_relying_party.proofs.walk.walk_from.Goals as goal
 
 pub loop-turn-init : goal.loop-turn-init
@@ -35,7 +34,7 @@ loop-turn-preserved g c =
     (has_key c.visit.new.front.keys) c.loop-turn.front.queue c.next_turn.new.queue
     c.visit.new.front.queue c.in-Some.turn.place c.room_for_one-allowed.result
     c.in_ok-spent.spent c.loop-turn.invariant (c.in-Some.ensures.1)
-    c.room_for_one-allowed.ensures.within c.room_for_one-allowed.ensures.eighth
+    c.room_for_one-allowed.ensures.some c.room_for_one-allowed.ensures.within c.room_for_one-allowed.ensures.eighth
     c.room_for_one-allowed.ensures.share
     c.in_ok-spent.ensures)
 

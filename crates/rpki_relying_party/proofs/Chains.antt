@@ -1,0 +1,104 @@
+-- What follows of a walk for all chains.
+use Rattle.std.proofs.Common.{◌≡◌, ◌⊎◌, inl, inr, ℕ, List, [], ◌∷◌, ◌++◌, Contains, All, sym}
+use Rattle.std.proofs.Common.{subst, ap, ◌∙◌}
+use Rattle.std.specs.List.{AllZip}
+use Rattle.std.proofs.lemmas.List.Elements.{All-contains, Contains-append_cases}
+use Rattle.std.proofs.lemmas.List.Elements.{Contains-append_left}
+use Rattle.rpki_relying_party.specs.Paths.{IsChild, Leads, IsFound, IsSaid, TellsOne, Passes}
+use Rattle.rpki_relying_party.specs.Walk.{Read, Left, IsToldChild, IsMet, HasKey, IsWalk}
+use Rattle.rpki_relying_party.specs.Walk.{places_read, places_left}
+use Rattle.rpki_relying_party.proofs.Lists.{nothing, contains-first, contains-rest, cons-cases}
+use Rattle.rpki_relying_party.proofs.Lists.{contains-mapped, mapped-from}
+use Rattle.rpki_relying_party.proofs.Walking.{leads-weaker}
+
+-- what stands beside an element
+pub beside : {A B : Type 0} (R : A → B → Type 0) (xs : List A) (ys : List B) → AllZip R xs ys
+    → (x : A) → Contains xs x → (y : B) × Contains ys y × R x y
+beside R [] ys z x c = absurd (nothing x c)
+beside R (a ∷ xs) [] z x c = absurd z
+beside R (a ∷ xs) (b ∷ ys) z x c = elim (cons-cases a x xs c) [
+  | inl e ↦ (b, contains-first b ys, subst (λ (q : _). R q b) e (z.0))
+  | inr r ↦ (let y = beside R xs ys (z.1) x r in
+      (y.0, contains-rest b (y.0) ys (y.1), y.2))
+]
+
+module _ {P X : Type 0} (tells : P → List X → List P → Type 0) (costs : P → ℕ → Type 0)
+    (key : P → List ℕ) (listed lists had has : X → Type 0) (start : P) (limit : ℕ)
+    (unread : List (Left P))
+    (w : IsWalk tells costs key listed lists had has start limit unread) where
+  told : (r : Read P X) → Contains w.reads r → tells r.place r.said r.children
+  told r c = All-contains (λ r. tells r.place r.said r.children) w.reads r w.told c
+
+  is-child : (p q : P) → IsToldChild w.reads p q → IsChild tells p q
+  is-child p q t = (
+    t.0.said,
+    t.0.children,
+    subst (λ (z : P). tells z t.0.said t.0.children) (t.2) (told (t.0) (t.1)),
+    t.3,
+  )
+
+  was-met : (r : Read P X) → Contains w.reads r → IsMet start w.reads r.place
+  was-met r c = All-contains (IsMet start w.reads) (places_read w.reads ++ places_left unread)
+      r.place w.met (before (contains-mapped (λ (r : Read P X). r.place) w.reads r c))
+    where
+      before : Contains (places_read w.reads) r.place
+          → Contains (places_read w.reads ++ places_left unread) r.place
+      before h = Contains-append_left (places_read w.reads) (places_left unread) r.place h
+
+  pub sound : (x : X) → lists x → listed x ⊎ IsSaid tells start x
+  sound x l = elim (w.found x l) [
+    | inl old ↦ inl old
+    | inr s ↦ (let to = was-met (s.0) (s.1) in inr (
+      to.0,
+      s.0.place,
+      leads-weaker (IsToldChild w.reads) (IsChild tells) is-child (to.0) start s.0.place (to.1),
+      (s.0.said, s.0.children, told (s.0) (s.1), s.2),
+    ))
+  ]
+
+  module _ (alike : X → X → Type 0) (one : TellsOne tells key alike) where
+    -- what a place says whose key was read is found
+    heard : (p : P) (r : Read P X) → Contains w.reads r → key p ≡ key r.place
+        → IsFound tells alike has p
+    heard p r c e = λ x h.
+        let z = one p r.place (h.0) r.said (h.1) r.children e (h.2) (told r c) in
+        let y = beside alike (h.0) r.said (z.0) x (h.3) in (
+          y.0,
+          y.2,
+          All-contains has r.said (y.0) (All-contains (λ r. All has r.said) w.reads r
+              w.kept c) (y.1),
+        )
+
+    further : (q c : P) (path : List P) (p : P)
+        → IsFound tells alike has p ⊎ Passes key (places_left unread) c path
+        → IsFound tells alike has p ⊎ Passes key (places_left unread) q (c ∷ path)
+    further q c path p (inl f) = inl f
+    further q c path p (inr h) = inr (h.0, h.1, contains-rest q (h.0) (c ∷ path) (h.2), h.3, h.4)
+
+    abbrev Known : P → Type 0
+    Known q = HasKey key (places_read w.reads ++ places_left unread) (key q)
+
+    along : (path : List P) (q p : P) → Known q → Leads (IsChild tells) q path p
+        → IsFound tells alike has p ⊎ Passes key (places_left unread) q path
+    along [] q p k e =
+        elim (Contains-append_cases (places_read w.reads) (places_left unread) (k.0) (k.1)) [
+          | inl done ↦ (let r = mapped-from (λ (r : Read P X). r.place) w.reads (k.0) done in
+              inl (heard p (r.0) (r.1) (ap key (sym e) ∙ sym (k.2) ∙ ap key (sym (r.2)))))
+          | inr left ↦ inr (q, k.0, contains-first q [], left, sym (k.2))
+        ]
+    along (c ∷ path) q p k h =
+        elim (Contains-append_cases (places_read w.reads) (places_left unread) (k.0) (k.1)) [
+          | inl done ↦ (let r = mapped-from (λ (r : Read P X). r.place) w.reads (k.0) done in
+              let z = one q r.0.place (h.0.0) r.0.said (h.0.1) r.0.children
+              (sym (k.2) ∙ ap key (sym (r.2))) (h.0.2) (told (r.0) (r.1)) in
+              let d = beside (λ a b. key a ≡ key b) (h.0.1) r.0.children (z.1) c (h.0.3) in
+              further q c path p (along path c p (subst (HasKey key (places_read w.reads
+              ++ places_left unread)) (sym (d.2)) (All-contains (λ b. Known b) r.0.children (d.0)
+              (All-contains (λ r. All (λ b. Known b) r.children) w.reads (r.0) w.closed (r.1))
+              (d.1))) (h.1)))
+          | inr left ↦ inr (q, k.0, contains-first q (c ∷ path), left, sym (k.2))
+        ]
+
+    pub complete : (path : List P) (p : P) → Leads (IsChild tells) start path p
+        → IsFound tells alike has p ⊎ Passes key (places_left unread) start path
+    complete path p h = along path start p w.begun h

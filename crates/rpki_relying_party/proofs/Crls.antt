@@ -1,0 +1,269 @@
+-- What comes of looking for a revocation list.
+use Rattle.std.proofs.Common.{◌≡◌, ◌⊎◌, inl, inr, ℕ, List, [], ◌∷◌, ◌++◌, Contains, Option, None}
+use Rattle.std.proofs.Common.{Some, Result, Ok, Err, is_some, unwrap_or, true≢false, refl, sym, ap}
+use Rattle.std.proofs.Common.{subst, ◌∙◌, append_assoc, MatchOption}
+use Rattle.std.specs.Prelude.{IfOk}
+use Rattle.std.proofs.lemmas.List.{append-nil}
+use Rattle.std.proofs.lemmas.List.Elements.{Contains-append_cases, Contains-append_right}
+use Rattle.rpki_der.specs.declared.mode.Mode.TheVariants.{Der}
+use Rattle.rpki_der.specs.Form.Decodes.{IsOnlyFront}
+use Rattle.rpki_der.specs.Grammar.{HasNoFront}
+use Rattle.rpki_basics.specs.Moment.{Moment}
+use Rattle.rpki_crls.specs.Crl.{RevocationList, KeptCrl, CrlForm}
+use Rattle.rpki_faults.specs.Checks.{AllHold, IsFirstFault}
+use Rattle.rpki_certs.specs.Cert.{Certificate}
+use Rattle.rpki_certs.specs.Validate.{Validated}
+use Rattle.rpki_certs.specs.Verify.{Verdict}
+use Rattle.rpki_files.specs.Manifest.{Manifest}
+use Rattle.rpki_files.specs.Manifest.Uris.{UriAndHash, uris_of}
+use Rattle.rpki_relying_party.specs.Costs.{ListCosts, ReadCosts}
+use Rattle.rpki_relying_party.specs.Lacks.{HasBadList, IsLostFile, WhyNoList, list_checks}
+use Rattle.rpki_relying_party.specs.Outcome.{Spends, IsOutcome}
+use Rattle.rpki_relying_party.specs.Point.{Has, IsListAt, IsListFile}
+use Rattle.rpki_relying_party.specs.Setting.{Setting}
+use Rattle.rpki_relying_party.specs.declared.cause.Cause.{Cause}
+use Rattle.rpki_relying_party.specs.declared.cause.Cause.TheVariants as causes
+use Rattle.rpki_relying_party.specs.declared.cause.ListFault.{ListFault}
+use Rattle.rpki_relying_party.specs.declared.cause.ListFault.TheVariants as faults
+use Rattle.rpki_relying_party.specs.declared.cause.Stop.{Stop}
+use Rattle.rpki_relying_party.specs.declared.cause.Stop.TheVariants.{Memory, Refused}
+use Rattle.rpki_relying_party.specs.declared.list.List.{List as Found}
+use Rattle.rpki_relying_party.proofs.Lists.{nothing, contains-first, cons-cases}
+use Rattle.rpki_relying_party.proofs.Outcomes.{none-spent, spent-as, outcome-stops}
+
+-- ---- a URI among those of files
+
+-- The files that are left come after others, of which none has the URI.
+pub record AreOthers (uri : List ℕ) (all left : List UriAndHash) : Type 0 where
+  pub before : List UriAndHash
+  pub splits : all ≡ before ++ left
+  pub others : (hash : List ℕ) → ¬ Contains before (uri, hash)
+
+pub none-before : (uri : List ℕ) (all left : List UriAndHash) → left ≡ all
+    → AreOthers uri all left
+none-before uri all left e = record {
+  before = [];
+  splits = sym e;
+  others = λ hash w. nothing (uri, hash) w;
+}
+
+-- the file that the next call answers
+pub first-left : {X E : Type 0} (item : Result X E) (y : X) (left rest : List X)
+    → ((x : X) × (left ≡ x ∷ rest) × IfOk item (λ z. z ≡ x)) → item ≡ Ok y → left ≡ y ∷ rest
+first-left {X} {E} item y left rest s e =
+    s.1 ∙ ap (λ (z : X). z ∷ rest)
+    (sym (subst (λ (i : Result X E). IfOk i (λ z. z ≡ s.0)) e s.2))
+
+module _ (uri : List ℕ) (all left rest : List UriAndHash) (listed hash : List ℕ)
+    (h : AreOthers uri all left) (e : left ≡ (listed, hash) ∷ rest) where
+  order : all ≡ h.before ++ (listed, hash) ∷ rest
+  order = h.splits ∙ ap (λ (l : List UriAndHash). h.before ++ l) e
+
+  pub is-here : listed ≡ uri → Contains all (uri, hash)
+  is-here same = subst (λ (l : List UriAndHash). Contains l (uri, hash)) (sym order)
+      (Contains-append_right h.before ((listed, hash) ∷ rest) (uri, hash)
+      (subst (λ (u : List ℕ). Contains ((listed, hash) ∷ rest) (u, hash)) same
+      (contains-first (listed, hash) rest)))
+
+  pub is-later : (¬ (listed ≡ uri)) → AreOthers uri all rest
+  is-later other = record {
+    before = h.before ++ (listed, hash) ∷ [];
+    splits = order ∙ sym (append_assoc h.before ((listed, hash) ∷ []) rest);
+    others = λ x w. elim (Contains-append_cases h.before ((listed, hash) ∷ []) (uri, x) w) [
+      | inl was ↦ h.others x was
+      | inr last ↦ elim (cons-cases (listed, hash) (uri, x) [] last) [
+        | inl same ↦ other (ap (λ (f : UriAndHash). f.0) same)
+        | inr none ↦ nothing (uri, x) none
+      ]
+    ];
+  }
+
+pub is-nowhere : (uri : List ℕ) (all left : List UriAndHash) → AreOthers uri all left → left ≡ []
+    → (hash : List ℕ) → ¬ Contains all (uri, hash)
+is-nowhere uri all left h e hash w =
+    h.others hash (subst (λ (l : List UriAndHash). Contains l (uri, hash))
+    (h.splits ∙ (ap (λ (l : List UriAndHash). h.before ++ l) e ∙ append-nil h.before)) w)
+
+-- ---- what it lacks
+
+-- the fault of a list that is none of the CA
+abbrev IsFaultOf : RevocationList → ListFault → Type 0
+IsFaultOf list fault = (fault ≡ faults.OtherKey) ⊎ ((fault ≡ faults.BadSignature)
+    ⊎ ((fault ≡ faults.NotYet list.tbs.this_update) ⊎ ((fault ≡ faults.Stale list.tbs.next_update)
+    ⊎ (fault ≡ faults.RevokesManifest))))
+
+fault-of : (verdict : Verdict) (now : Moment) (ca : Validated) (signer : Certificate)
+    (list : RevocationList) (fault : ListFault)
+    → IsFirstFault (list_checks verdict now ca signer list) fault → IsFaultOf list fault
+fault-of verdict now ca signer list fault (inr k) = inl (k.1)
+fault-of verdict now ca signer list fault (inl k) = inr (elim (k.1) [
+  | inr k2 ↦ inl (k2.1)
+  | inl k2 ↦ inr (elim (k2.1) [
+    | inr k3 ↦ inl (k3.1)
+    | inl k3 ↦ inr (elim (k3.1) [
+      | inr k4 ↦ inl (k4.1)
+      | inl k4 ↦ inr (elim (k4.1) [
+        | inr k5 ↦ k5.1
+        | inl k5 ↦ absurd (k5.1)
+      ])
+    ])
+  ])
+])
+
+some-some : (o : Option (List ℕ)) (a b : List ℕ) → o ≡ Some a → o ≡ Some b → a ≡ b
+some-some o a b e f = ap (λ (p : Option (List ℕ)). unwrap_or p []) (sym e ∙ f)
+
+none-some : (o : Option (List ℕ)) (a : List ℕ) → o ≡ None → o ≡ Some a → ⊥
+none-some o a e f = true≢false (ap (λ (p : Option (List ℕ)). is_some p) (sym f ∙ e))
+
+module _ (s : Setting) (ca : Validated) (folder : List ℕ) (signer : Certificate)
+    (manifest : Manifest) where
+  -- the files of the manifest
+  abbrev files : List UriAndHash
+  files = uris_of folder manifest.files
+
+  -- what comes of looking for the list
+  abbrev IsLooked : ℕ → ℕ → Result Found Stop → Type 0
+  IsLooked old new r = IsOutcome (ListCosts s files)
+      (λ list. IsListAt s ca folder signer manifest list.uri list.crl.list)
+      (WhyNoList s ca folder signer manifest) old new r
+
+  -- the certificate of the manifest names none
+  pub unnamed : (room : ℕ) → signer.tbs.extensions.locations.crl ≡ None
+      → IsLooked room room (Err (Refused (causes.List faults.Unlisted)))
+  unnamed room e = (
+    none-spent (ListCosts s files) room (inl refl),
+    λ file l. none-some signer.tbs.extensions.locations.crl (file.0) e l.named,
+  )
+
+  module _ (uri : List ℕ) (named : signer.tbs.extensions.locations.crl ≡ Some uri) where
+    -- the hash of a file with its URI, if one is listed
+    abbrev IsHash : Option (List ℕ) → Type 0
+    IsHash found = MatchOption found ((hash : List ℕ) → ¬ Contains files (uri, hash))
+        (λ hash. Contains files (uri, hash))
+
+    -- it names one that is not listed
+    pub unlisted : (room : ℕ) (found : Option (List ℕ)) → found ≡ None → IsHash found
+        → IsLooked room room (Err (Refused (causes.List faults.Unlisted)))
+    unlisted room found e h = (
+      none-spent (ListCosts s files) room (inl refl),
+      λ file l. none (file.1) (subst (λ (u : List ℕ). Contains files (u, file.1))
+          (some-some signer.tbs.extensions.locations.crl (file.0) uri l.named named) l.listed),
+    )
+      where
+        none : (hash : List ℕ) → ¬ Contains files (uri, hash)
+        none = subst (λ (o : Option (List ℕ)). IsHash o) e h
+
+    -- it names one that is listed with this hash
+    module _ (found : Option (List ℕ)) (hash : List ℕ) (e : found ≡ Some hash) (h : IsHash found)
+        (old new : ℕ) where
+      listed : Contains files (uri, hash)
+      listed = subst (λ (o : Option (List ℕ)). IsHash o) e h
+
+      file : IsListFile folder signer manifest (uri, hash)
+      file = record { named = named; listed = listed }
+
+      costs : (n : ℕ) → ReadCosts s uri n → ListCosts s files n
+      costs n c = inr ((uri, hash), listed, c)
+
+      why : (cause : Cause) → IsLostFile s (uri, hash) cause
+          → WhyNoList s ca folder signer manifest cause
+      why (causes.Manifest fault) h = absurd h
+      why (causes.List fault) h = absurd h
+      why (causes.File u fault) h = ((uri, hash), file, h)
+      why (causes.Object error) h = absurd h
+      why causes.RoaCertificate h = absurd h
+      why (causes.Certificate error) h = absurd h
+      why (causes.Limit count) h = absurd h
+      why causes.Memory h = absurd h
+
+      -- the copy has not the file
+      pub lost : (stop : Stop)
+          → IsOutcome {T = List ℕ} (ReadCosts s uri) (Has s (uri, hash)) (IsLostFile s (uri, hash))
+          old new (Err stop) → IsLooked old new (Err stop)
+      lost stop h = outcome-stops (ListCosts s files) costs old new why (Has s (uri, hash))
+          (λ (list : Found). IsListAt s ca folder signer manifest list.uri list.crl.list) stop h
+
+      module _ (spends : Spends (ReadCosts s uri) old new) (octets : List ℕ)
+          (has : Has s (uri, hash) octets) where
+        spent : Spends (ListCosts s files) old new
+        spent = spent-as (ListCosts s files) costs old new spends
+
+        -- it is none
+        pub malformed : (stop : Stop)
+            → (stop ≡ Memory) ⊎ ((stop ≡ Refused (causes.List faults.Malformed))
+            × HasNoFront (CrlForm Der) octets) → IsLooked old new (Err stop)
+        malformed stop (inl e) = subst (λ (x : Stop). IsLooked old new (Err x)) (sym e) tt
+        malformed stop (inr e) = subst (λ (x : Stop). IsLooked old new (Err x)) (sym (e.0))
+            (spent, ((uri, hash), octets, file, has, e.1))
+
+        module _ (crl : KeptCrl) (rest : List ℕ)
+            (front : IsOnlyFront (CrlForm Der) octets crl.list rest) where
+          -- it is none of the CA, or it revokes the certificate of the manifest
+          pub bad : (fault : ListFault)
+              → IsFirstFault (list_checks s.verdict s.now ca signer crl.list) fault
+              → IsLooked old new (Err (Refused (causes.List fault)))
+          bad fault h = (
+            spent,
+            elim (fault-of s.verdict s.now ca signer crl.list fault h) [
+              | inl e ↦ to faults.OtherKey e (has-bad faults.OtherKey e)
+              | inr a ↦ elim a [
+                | inl e ↦ to faults.BadSignature e (has-bad faults.BadSignature e)
+                | inr b ↦ elim b [
+                  | inl e ↦ to (faults.NotYet crl.list.tbs.this_update) e
+                      (has-bad (faults.NotYet crl.list.tbs.this_update) e)
+                  | inr c ↦ elim c [
+                    | inl e ↦ to (faults.Stale crl.list.tbs.next_update) e
+                        (has-bad (faults.Stale crl.list.tbs.next_update) e)
+                    | inr e ↦ to faults.RevokesManifest e (has-bad faults.RevokesManifest e)
+                  ]
+                ]
+              ]
+            ],
+          )
+            where
+              to : (x : ListFault) → fault ≡ x
+                  → WhyNoList s ca folder signer manifest (causes.List x)
+                  → WhyNoList s ca folder signer manifest (causes.List fault)
+              to x e w = subst
+                  (λ (y : ListFault). WhyNoList s ca folder signer manifest (causes.List y))
+                  (sym e) w
+
+              has-bad : (x : ListFault) → fault ≡ x
+                  → (f : UriAndHash) × (o : List ℕ) × IsListFile folder signer manifest f
+                  × Has s f o × HasBadList s ca signer o x
+              has-bad x e = (
+                (uri, hash),
+                octets,
+                file,
+                has,
+                (
+                  crl.list,
+                  rest,
+                  front,
+                  subst (λ (y : ListFault). IsFirstFault
+                      (list_checks s.verdict s.now ca signer crl.list) y) e h,
+                ),
+              )
+
+          -- it is the list
+          pub is-list : AllHold (list_checks s.verdict s.now ca signer crl.list)
+              → (at : List ℕ) → at ≡ uri → IsLooked old new (Ok (record { uri = at; crl = crl }))
+          is-list h at same = (
+            spent,
+            subst (λ (u : List ℕ). IsListAt s ca folder signer manifest
+                u crl.list) (sym same) (record {
+                  hash = hash;
+                  file = file;
+                  octets = octets;
+                  found = has;
+                  list_of = record {
+                    rest = rest;
+                    front = front;
+                    key = h.0;
+                    signed = h.1.0;
+                    current = (h.1.1.0, h.1.1.1.0);
+                  };
+                  unrevoked = h.1.1.1.1.0;
+                }),
+          )

@@ -1,0 +1,149 @@
+-- What comes of looking for a manifest.
+use Rattle.std.proofs.Common.{◌≡◌, ◌⊎◌, inl, inr, ℕ, List, Result, Ok, Err, sym, subst, ap}
+use Rattle.rpki_der.specs.declared.mode.Mode.TheVariants.{Der}
+use Rattle.rpki_basics.specs.Moment.{Moment}
+use Rattle.rpki_basics.specs.declared.limits.ManifestRule.TheVariants.{Any}
+use Rattle.rpki_faults.specs.Checks.{AllHold, IsFirstFault}
+use Rattle.rpki_certs.specs.Cert.{KeptCertificate}
+use Rattle.rpki_certs.specs.Validate.{Validated, IsValidatedUnder}
+use Rattle.rpki_files.specs.Manifest.{Manifest, ManifestForm}
+use Rattle.rpki_files.specs.Manifest.Checks.{manifest_kind}
+use Rattle.rpki_files.specs.Manifest.Uris.{uris_of}
+use Rattle.rpki_signed.specs.Check.{Checks}
+use Rattle.rpki_signed.specs.Exact.{IsExact}
+use Rattle.rpki_signed.specs.declared.check.CheckError.{CheckError}
+use Rattle.rpki_relying_party.specs.Costs.{ReadCosts}
+use Rattle.rpki_relying_party.specs.Lacks.{IsFirstRepeated, WhyNoManifest, WhyNoManifestOf}
+use Rattle.rpki_relying_party.specs.Lacks.{manifest_checks}
+use Rattle.rpki_relying_party.specs.Memory.{IsCheckMemory}
+use Rattle.rpki_relying_party.specs.Outcome.{Spends, IsOutcome}
+use Rattle.rpki_relying_party.specs.Point.{AreOnce, IsManifestAt, IsManifestIn}
+use Rattle.rpki_relying_party.specs.Setting.{Setting}
+use Rattle.rpki_relying_party.specs.declared.cause.Cause.TheVariants as causes
+use Rattle.rpki_relying_party.specs.declared.cause.ManifestFault.{ManifestFault}
+use Rattle.rpki_relying_party.specs.declared.cause.ManifestFault.TheVariants as faults
+use Rattle.rpki_relying_party.specs.declared.cause.Stop.{Stop}
+use Rattle.rpki_relying_party.specs.declared.cause.Stop.TheVariants.{Memory, Refused}
+use Rattle.rpki_relying_party.specs.declared.copy.NoFile.{NoFile}
+use Rattle.rpki_relying_party.specs.declared.manifest.Manifest.{Manifest as Checked}
+
+-- the fault of a manifest that is not current
+fault-of : (now : Moment) (manifest : Manifest) (fault : ManifestFault)
+    → IsFirstFault (manifest_checks now manifest) fault
+    → (fault ≡ faults.NotYet manifest.this_update) ⊎ (fault ≡ faults.Stale manifest.next_update)
+fault-of now manifest fault (inr k) = inl (k.1)
+fault-of now manifest fault (inl k) = elim (k.1) [
+  | inr l ↦ inr (l.1)
+  | inl l ↦ absurd (l.1)
+]
+
+module _ (s : Setting) (ca : Validated) (folder uri : List ℕ) (old new : ℕ) where
+  -- what comes of looking for it
+  abbrev pub IsLooked : Result Checked Stop → Type 0
+  IsLooked r = IsOutcome (ReadCosts s uri)
+      (λ m. IsManifestAt s ca folder uri m.signer.cert.certificate m.content)
+      (WhyNoManifestOf s ca folder uri) old new r
+
+  module _ (spends : Spends (ReadCosts s uri) old new) where
+    pub no-manifest : (why : NoFile) → s.finds uri (Err why)
+        → IsLooked (Err (Refused (causes.Manifest (faults.NoFile why))))
+    no-manifest why f = (spends, f)
+
+    module _ (octets : List ℕ) (f : s.finds uri (Ok octets)) where
+      -- what is there is refused
+      pub refused : (error : CheckError)
+          → Checks manifest_kind (ManifestForm Any Der) Der s.digest s.verdict ca s.now
+          (λ k said. said ≡ Ok tt) octets (Err error) → (stop : Stop)
+          → (IsCheckMemory error × (stop ≡ Memory)) ⊎ ((¬ IsCheckMemory error)
+          × (stop ≡ Refused (causes.Manifest (faults.Refused error)))) → IsLooked (Err stop)
+      refused error h stop (inl e) = subst (λ (x : Stop). IsLooked (Err x)) (sym (e.1)) tt
+      refused error h stop (inr e) = subst (λ (x : Stop). IsLooked (Err x)) (sym (e.1))
+          (spends, (octets, f, (h, e.0)))
+
+      -- what is there is good
+      module _ (checked : Validated × Manifest)
+          (h : IsExact manifest_kind (ManifestForm Any Der) Der s.digest s.verdict ca s.now
+          (λ k said. said ≡ Ok tt) octets (Ok checked)) where
+        good : IsManifestIn s ca octets checked.0.cert.certificate checked.1
+        unfolding IsValidatedUnder
+        good = record {
+          object = h.object;
+          rest = h.rest;
+          front = h.front;
+          holds = (
+            (checked.0, h.holds.1),
+            (
+              sym (ap (λ (k : KeptCertificate). k.certificate) (h.holds.1.certificate.0)),
+              sym (h.holds.2),
+            ),
+          );
+        }
+
+        -- it is not current
+        pub outdated : (fault : ManifestFault)
+            → IsFirstFault (manifest_checks s.now (checked.1)) fault
+            → IsLooked (Err (Refused (causes.Manifest fault)))
+        outdated fault k = (
+          spends,
+          elim (fault-of s.now (checked.1) fault k) [
+            | inl e ↦ lacks (faults.NotYet checked.1.this_update) e (
+              octets,
+              checked.0.cert.certificate,
+              checked.1,
+              f,
+              good,
+              first (faults.NotYet checked.1.this_update) e,
+            )
+            | inr e ↦ lacks (faults.Stale checked.1.next_update) e (
+              octets,
+              checked.0.cert.certificate,
+              checked.1,
+              f,
+              good,
+              first (faults.Stale checked.1.next_update) e,
+            )
+          ],
+        )
+          where
+            lacks : (x : ManifestFault) → fault ≡ x → WhyNoManifest s ca folder uri x
+                → WhyNoManifest s ca folder uri fault
+            lacks x e w =
+                subst (λ (y : ManifestFault). WhyNoManifest s ca folder uri y) (sym e) w
+
+            first : (x : ManifestFault) → fault ≡ x
+                → IsFirstFault (manifest_checks s.now (checked.1)) x
+            first x e =
+                subst (λ (y : ManifestFault). IsFirstFault (manifest_checks s.now (checked.1)) y)
+                e k
+
+        module _ (current : AllHold (manifest_checks s.now (checked.1))) where
+          -- it lists a name twice
+          pub repeats : (twice : List ℕ)
+              → IsFirstRepeated (uris_of folder checked.1.files) twice
+              → IsLooked (Err (Refused (causes.Manifest (faults.Twice twice))))
+          repeats twice r = (
+            spends,
+            (
+              octets,
+              checked.0.cert.certificate,
+              checked.1,
+              f,
+              good,
+              current.0,
+              current.1.0,
+              r,
+            ),
+          )
+
+          pub is-manifest : AreOnce (uris_of folder checked.1.files)
+              → IsLooked (Ok (record { signer = checked.0; content = checked.1 }))
+          is-manifest once = (
+            spends,
+            record {
+              octets = octets;
+              found = f;
+              good = good;
+              current = (current.0, current.1.0);
+              once = once;
+            },
+          )

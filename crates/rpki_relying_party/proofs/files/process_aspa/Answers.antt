@@ -1,0 +1,45 @@
+use Rattle.std.proofs.Common.{◌≡◌, [], ◌∷◌, ◌++◌, inr, refl, subst}
+use Rattle.std.specs.Prelude.{IfOk}
+use Rattle.rpki_basics.specs.Moment.{Moment}
+use Rattle.rpki_relying_party.specs.Passes.{setting}
+use Rattle.rpki_relying_party.specs.Tells.{KindTells, refusal, providers_said, earlier}
+use Rattle.rpki_relying_party.specs.declared.cause.Cause.TheVariants as causes
+use Rattle.rpki_relying_party.specs.declared.kind.ListedKind.TheVariants as kinds
+use Rattle.rpki_relying_party.proofs.Judging.{ends-with, aspa-told}
+use Rattle.rpki_relying_party.proofs.Putting.{first-put-if, first-put-unless}
+use Rattle.rpki_relying_party.proofs.files.process_aspa.Goals as goal
+
+pub returns-in-Err : goal.returns-in-Err
+returns-in-Err g c =
+    let s = setting g.R.Repository.finds g.C.Crypto.digest_of g.C.Crypto.is_signed
+    c.args.pass.now in
+    let above = c.args.above.now in
+    let list = above.list.now.crl.list in
+    first-put-unless (KindTells s above.ca.now list above.until above.manifest.now c.args.uri
+    c.args.octets kinds.Aspa) c.args.findings.now.said.items c.refuse_object.new.said.items
+    (refusal c.args.uri (causes.Object c.in-Err.error) above.manifest.now ∷ [])
+    c.args.findings.now.children.items c.refuse_object.result
+    (λ m. (inr (causes.Object c.in-Err.error, (c.in-Err.ensures.first, m), refl), refl))
+    c.refuse_object.ensures.memory c.refuse_object.ensures.refused
+
+pub returns-in-Ok : goal.returns-in-Ok
+returns-in-Ok g c =
+    let s = setting g.R.Repository.finds g.C.Crypto.digest_of g.C.Crypto.is_signed
+    c.args.pass.now in
+    let above = c.args.above.now in
+    let list = above.list.now.crl.list in
+    first-put-if (KindTells s above.ca.now list above.until above.manifest.now c.args.uri
+    c.args.octets kinds.Aspa) c.args.findings.now.said.items c.put_providers-put.new.said.items
+    (providers_said (earlier above.until c.in-Ok.cert.cert.certificate.tbs.validity.not_after)
+    c.args.uri c.in-Ok.aspa)
+    c.args.findings.now.children.items c.put_providers-put.result (
+      aspa-told s above.ca.now list above.until above.manifest.now c.args.uri c.args.octets
+          c.in-Ok.cert c.in-Ok.aspa c.in-Ok.ensures.exact,
+      refl,
+    )
+    (subst (λ (t : Moment). IfOk c.put_providers-put.result (λ _.
+    c.put_providers-put.new.said.items
+    ≡ c.args.findings.now.said.items ++ providers_said t c.args.uri c.in-Ok.aspa))
+    (ends-with above.until c.earlier-until.result c.not_after.result c.validity.result
+    c.cert.result.now c.in-Ok.cert.cert c.earlier-until.ensures c.not_after.ensures
+    c.validity.ensures c.cert.ensures) c.put_providers-put.ensures)

@@ -1,0 +1,16 @@
+use Rattle.std.proofs.Common.{◌≡◌, rules, inl, Err}
+use Rattle.rpki_relying_party.specs.declared.copy.NoFile.TheVariants.{Missing}
+use Rattle.rpki_relying_party.proofs.Copies.{anchor-missing}
+use Rattle.rpki_relying_party.proofs.folder.FolderCopy.read_named.Goals as goal
+
+pub returns-then-is_missing : goal.returns-then-is_missing
+returns-then-is_missing g c =
+    let missing : c.in_ok-found.found ≡ Err Missing = search rules in
+    anchor-missing (g.F.Folders.finds c.args.self.now.folders.now c.args.self.now.folder.now)
+    c.args.self.now.name.now c.args.uri.now c.read_path.result c.in_ok-found.found
+    c.in_ok-found.ensures missing c.read_path.ensures
+
+pub returns-else-is_missing : goal.returns-else-is_missing
+returns-else-is_missing g c =
+    let there : ¬ (c.in_ok-found.found ≡ Err Missing) = λ e. search rules in
+    inl (c.in_ok-found.ensures, there)

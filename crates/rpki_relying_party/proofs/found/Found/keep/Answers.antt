@@ -1,0 +1,24 @@
+-- A payload and a refusal are each kept among their own.
+use Rattle.std.proofs.Common.{refl, sym, subst}
+use Rattle.std.specs.Prelude.{OnOk}
+use Rattle.rpki_relying_party.specs.Found.{KeepsFinding}
+use Rattle.rpki_relying_party.specs.declared.found.Finding.{Finding}
+use Rattle.rpki_relying_party.specs.declared.found.Found.{Found}
+use Rattle.rpki_relying_party.proofs.Kept.{onward, keeps-payload, keeps-refusal}
+use Rattle.rpki_relying_party.proofs.found.Found.keep.Goals as goal
+
+pub returns-in-Payload : goal.returns-in-Payload
+returns-in-Payload c =
+    let old = c.args.self.now in
+    let new : Found = record { payloads = c.keep.new.self; refusals = old.refusals } in
+    subst (λ (x : Finding). OnOk c.keep.result (KeepsFinding x old new)) (sym c.in-Payload.is)
+    (onward c.keep.result
+    (λ k. keeps-payload c.in-Payload.payload c.in-Payload.held old new k refl) c.keep.ensures)
+
+pub returns-in-Refusal : goal.returns-in-Refusal
+returns-in-Refusal c =
+    let old = c.args.self.now in
+    let r = c.keep_refusal in
+    let new : Found = record { payloads = old.payloads; refusals = r.new.refusals } in
+    subst (λ (x : Finding). OnOk r.result (KeepsFinding x old new)) (sym c.in-Refusal.is)
+    (onward r.result (λ k. keeps-refusal c.in-Refusal.refusal old new k refl) r.ensures)

@@ -1,0 +1,14 @@
+-- The refusal stands at its line.
+use Rattle.std.proofs.Common.{Some}
+use Rattle.std.proofs.lemmas.Map.Text.{btree_map_updates_text}
+use Rattle.std.specs.String.{string_bytes}
+use Rattle.rpki_relying_party.proofs.Kept.{puts-refusal}
+use Rattle.rpki_relying_party.proofs.found.keep_refusal.Goals as goal
+
+pub returns-in-Ok-insert : goal.returns-in-Ok-insert
+returns-in-Ok-insert c =
+    let line = string_bytes c.in-Ok.line in
+    let old = c.args.refusals.now in
+    let new = c.insert.new.self in
+    puts-refusal c.args.refusal line old new c.in-Ok.ensures
+    (btree_map_updates_text line old new (Some c.args.refusal) c.in-Ok-insert.ensures.updates)

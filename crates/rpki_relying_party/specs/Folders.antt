@@ -1,0 +1,61 @@
+-- What reads of a folder may find, as a copy of the repositories: octets, or why there is no file.
+use Rattle.std.specs.Prelude.{◌≡◌, ◌⊎◌, ◌<◌, ◌≤◌, ℕ, List, ◌++◌, codes, Result, Ok, Err, Contains}
+use Rattle.std.specs.Prelude.{map}
+use Rattle.std.specs.Fs.{metadata_len, file_type, IsFile, IsDir, IsSymlink}
+use Rattle.std.specs.declared.fs.attrs.Metadata.{Metadata}
+use Rattle.rpki_tal.specs.Tal.{Locator}
+use Rattle.rpki_tal.specs.Uri.{uri_text}
+use Rattle.rpki_relying_party.specs.Names.{IsBelow, path_of, anchor_name}
+use Rattle.rpki_relying_party.specs.declared.copy.NoFile.{NoFile}
+use Rattle.rpki_relying_party.specs.declared.copy.NoFile.TheVariants.{Missing, NotRegular, TooLarge}
+
+-- What may be found under a name: what a read of it may find, where it leads to a file below the
+-- folder. Under any other name there is no file.
+abbrev pub FindsBelow : (List ℕ → Result (List ℕ) NoFile → Type 0) → List ℕ
+    → Result (List ℕ) NoFile → Type 0
+FindsBelow finds name found =
+    (IsBelow name × finds name found) ⊎ ((¬ IsBelow name) × (found ≡ Err Missing))
+
+-- What may be found for a URI of the locator with this name: the file `ta/NAME/LAST` comes first,
+-- whatever it is, and where that is missing, the file at the host and the path of the URI.
+abbrev pub FindsAnchor : (List ℕ → Result (List ℕ) NoFile → Type 0) → List ℕ → List ℕ
+    → Result (List ℕ) NoFile → Type 0
+FindsAnchor finds name uri found =
+    (FindsBelow finds (anchor_name name uri) found × (¬ (found ≡ Err Missing)))
+    ⊎ (FindsBelow finds (anchor_name name uri) (Err Missing)
+    × FindsBelow finds (path_of uri) found)
+
+-- this is the text of a URI of the locator
+abbrev pub IsUriOf : Locator → List ℕ → Type 0
+IsUriOf tal uri = Contains (map uri_text tal.uris) uri
+
+-- What may be found for a URI, under the locator with this name: for a URI of the locator what was
+-- said above, and for any other the file at its host and its path.
+abbrev pub FindsIn : (List ℕ → Result (List ℕ) NoFile → Type 0) → List ℕ → Locator → List ℕ
+    → Result (List ℕ) NoFile → Type 0
+FindsIn finds name tal uri found =
+    (IsUriOf tal uri × FindsAnchor finds name uri found)
+    ⊎ ((¬ IsUriOf tal uri) × FindsBelow finds (path_of uri) found)
+
+-- ---- folders of the system
+
+-- the path of the file with this name below a folder
+abbrev pub path_below : List ℕ → List ℕ → List ℕ
+path_below folder name = folder ++ (codes "/" ++ name)
+
+-- a file is read: it is a regular one, and of at most so many octets
+abbrev pub IsReadable : ℕ → Metadata → Type 0
+IsReadable most m = IsFile (file_type m) × (metadata_len m ≤ most)
+
+-- why a file is not read
+abbrev pub WhyUnread : ℕ → Metadata → NoFile → Type 0
+WhyUnread most m NotRegular = ¬ IsFile (file_type m)
+WhyUnread most m TooLarge = IsFile (file_type m) × (most < metadata_len m)
+WhyUnread most m why = ⊥
+
+-- why what stands on the way is no folder: a symbolic link is not followed, and below anything else
+-- there is no file
+abbrev pub WhyNoFolder : Metadata → NoFile → Type 0
+WhyNoFolder m NotRegular = IsSymlink (file_type m)
+WhyNoFolder m Missing = (¬ IsDir (file_type m)) × (¬ IsSymlink (file_type m))
+WhyNoFolder m why = ⊥

@@ -1,0 +1,27 @@
+-- What comes of a part of the reading of a publication point.
+use Rattle.std.specs.Prelude.{◌≡◌, ℕ, ◌+◌, ◌<◌, List, ◌++◌, Result, Ok, Err}
+use Rattle.rpki_relying_party.specs.declared.cause.Cause.{Cause}
+use Rattle.rpki_relying_party.specs.declared.cause.Stop.{Stop}
+use Rattle.rpki_relying_party.specs.declared.cause.Stop.TheVariants.{Room, Memory, Refused}
+
+-- So much was spent of the room.
+abbrev pub Spends : (ℕ → Type 0) → ℕ → ℕ → Type 0
+Spends Costs old new = (n : ℕ) × Costs n × (new + n ≡ old)
+
+-- A value of which `Yes` holds, or that the point is refused for the first check that fails, once
+-- so much was spent; or that there was too little room for it; or no memory.
+abbrev pub IsOutcome : {T : Type 0} → (ℕ → Type 0) → (T → Type 0) → (Cause → Type 0) → ℕ → ℕ
+    → Result T Stop → Type 0
+IsOutcome Costs Yes Why old new (Ok value) = Spends Costs old new × Yes value
+IsOutcome Costs Yes Why old new (Err Room) = (n : ℕ) × Costs n × (old < n)
+IsOutcome Costs Yes Why old new (Err Memory) = Unit {0}
+IsOutcome Costs Yes Why old new (Err (Refused cause)) = Spends Costs old new × Why cause
+
+-- These were put at the ends of two lists, and P holds of them.
+pub record AppendsBoth {X Y : Type 0} (P : List X → List Y → Type 0) (old new : List X)
+    (old2 new2 : List Y) : Type 0 where
+  pub put : List X
+  pub put2 : List Y
+  pub holds : P put put2
+  pub appends : new ≡ old ++ put
+  pub appends2 : new2 ≡ old2 ++ put2

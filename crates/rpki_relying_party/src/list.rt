@@ -1,0 +1,170 @@
+//! The revocation list of a publication point.
+
+ghost use Rattle.std.specs.Prelude.{◌≡◌, ◌↔◌, ◌⊎◌, ℕ, Contains, IfOk, IsTrue, MatchOption};
+ghost use Rattle.std.specs.Prelude.{MatchResult, None, Some, List as ListOf};
+ghost use Rattle.rpki_der.specs.declared.mode.Mode.TheVariants.{Der};
+ghost use Rattle.rpki_der.specs.Form.Decodes.{IsOnlyFront};
+ghost use Rattle.rpki_der.specs.Grammar.{HasNoFront};
+ghost use Rattle.rpki_crls.specs.Crl.{CrlForm};
+ghost use Rattle.rpki_faults.specs.Checks.{AnswersFirstFault};
+ghost use Rattle.rpki_files.specs.Manifest.Uris.{uris_of};
+ghost use Rattle.rpki_relying_party.specs.Costs.{ListCosts};
+ghost use Rattle.rpki_relying_party.specs.Lacks.{WhyNoList, list_checks};
+ghost use Rattle.rpki_relying_party.specs.Outcome.{IsOutcome};
+ghost use Rattle.rpki_relying_party.specs.Passes.{setting};
+ghost use Rattle.rpki_relying_party.specs.Point.{IsListAt};
+ghost use Rattle.rpki_relying_party.specs.declared.cause.Cause.TheVariants as causes;
+ghost use Rattle.rpki_relying_party.specs.declared.cause.ListFault.TheVariants as faults;
+ghost use Rattle.rpki_relying_party.specs.declared.cause.Stop.TheVariants as stops;
+
+use crate::cause::{Cause, ListFault, Stop};
+use crate::copy::Repository;
+use crate::manifest::Manifest;
+use crate::pass::Pass;
+use crate::reader::read_listed;
+use bytes::Bytes;
+use rpki_basics::{Crypto, Rsync, Time};
+use rpki_certs::{Cert, ResourceCert};
+use rpki_crls::Crl;
+use rpki_der::DecodeError;
+use rpki_files::{ManifestContent, ManifestHash};
+use std::alloc::{AllocError, Global};
+
+/// A revocation list, and its URI.
+#[derive(Drop)]
+pub(crate) struct List {
+    pub uri: Rsync,
+    pub crl: Crl,
+}
+
+// Whether two URIs are the same.
+fn is_same(a: &Rsync, b: &Rsync) -> bool
+    ensures { IsTrue result ↔ (a.now ≡ b.now) }
+{
+    a.as_slice() == b.as_slice()
+}
+
+// The first file of a manifest that has this URI, with its hash.
+fn find_listed(
+    alloc: Global,
+    manifest: &ManifestContent,
+    folder: &Rsync,
+    uri: &Rsync,
+) -> Result<Option<ManifestHash>, AllocError>
+    ensures { IfOk result (λ found. MatchOption found
+        ((hash : ListOf ℕ) → ¬ Contains (uris_of folder.now manifest.now.files) (uri.now, hash))
+        (λ hash. Contains (uris_of folder.now manifest.now.files) (uri.now, hash))) }
+{
+    let mut files = manifest.iter_uris(alloc, folder);
+    while let Some(item) = files.next() {
+        match item {
+            Err(error) => return Err(error),
+            Ok((listed, hash)) => {
+                if is_same(&listed, uri) {
+                    return Ok(Some(hash));
+                }
+            }
+        }
+    }
+    Ok(None)
+}
+
+// The revocation list at the front of octets.
+fn list_in(alloc: Global, octets: Bytes) -> Result<Crl, Stop>
+    ensures { MatchResult result
+        (λ crl. (rest : ListOf ℕ) × IsOnlyFront (CrlForm Der) octets crl.list rest)
+        (λ stop. (stop ≡ stops.Memory)
+        ⊎ ((stop ≡ stops.Refused (causes.List faults.Malformed))
+        × HasNoFront (CrlForm Der) octets)) }
+{
+    match Crl::decode(alloc, octets) {
+        Ok(crl) => Ok(crl),
+        Err(DecodeError::Memory) => Err(Stop::Memory),
+        Err(DecodeError::Malformed) => Err(Stop::Refused(Cause::List(ListFault::Malformed))),
+        Err(DecodeError::Content(fault)) => {
+            drop(fault);
+            Err(Stop::Refused(Cause::List(ListFault::Malformed)))
+        }
+    }
+}
+
+// Why a revocation list is none of the CA's, or revokes the certificate of the manifest, by the
+// first check that fails.
+fn check_list<C: Crypto>(
+    list: &Crl,
+    ca: &ResourceCert,
+    signer: &ResourceCert,
+    crypto: &C,
+    now: Time,
+) -> Result<(), ListFault>
+    ensures { AnswersFirstFault (list_checks (C.is_signed crypto.now) now ca.now
+        signer.now.cert.certificate list.now.list) result }
+{
+    if list.authority_key_identifier() != ca.cert().subject_key_identifier() {
+        return Err(ListFault::OtherKey);
+    }
+    if list
+        .verify_signature(ca.cert().subject_public_key_info(), crypto)
+        .is_err()
+    {
+        return Err(ListFault::BadSignature);
+    }
+    if now < list.this_update() {
+        return Err(ListFault::NotYet(list.this_update()));
+    }
+    if list.next_update() < now {
+        return Err(ListFault::Stale(list.next_update()));
+    }
+    if list.contains(signer.cert().serial_number()) {
+        return Err(ListFault::RevokesManifest);
+    }
+    Ok(())
+}
+
+// The URI of the revocation list that a certificate names.
+fn list_uri_of(signer: &ResourceCert) -> Option<&Rsync>
+    ensures { MatchOption result
+        (signer.now.cert.certificate.tbs.extensions.locations.crl ≡ None)
+        (λ uri. signer.now.cert.certificate.tbs.extensions.locations.crl ≡ Some uri.now) }
+{
+    signer.cert().crl_uri()
+}
+
+/// The revocation list that the certificate of a manifest names, where it is a listed file, a list
+/// of the CA, and does not revoke that certificate (RFC 6487, section 5; RFC 9286, section 6).
+pub(crate) fn find_crl<R: Repository, C: Crypto>(
+    alloc: Global,
+    pass: &Pass<'_, R, C>,
+    ca: &ResourceCert,
+    folder: &Rsync,
+    manifest: &Manifest,
+    room: &mut u64,
+) -> Result<List, Stop>
+    ensures { IsOutcome (ListCosts (setting R.finds C.digest_of C.is_signed pass.now)
+        (uris_of folder.now manifest.now.content.files))
+        (λ list. IsListAt (setting R.finds C.digest_of C.is_signed pass.now) ca.now folder.now
+        manifest.now.signer.cert.certificate manifest.now.content list.uri list.crl.list)
+        (WhyNoList (setting R.finds C.digest_of C.is_signed pass.now) ca.now folder.now
+        manifest.now.signer.cert.certificate manifest.now.content)
+        room.old room.new result }
+{
+    let Some(uri) = list_uri_of(&manifest.signer) else {
+        return Err(Stop::Refused(Cause::List(ListFault::Unlisted)));
+    };
+    let Some(hash) = find_listed(alloc, &manifest.content, folder, uri)? else {
+        return Err(Stop::Refused(Cause::List(ListFault::Unlisted)));
+    };
+    let octets = read_listed(alloc, pass, uri, &hash, room)?;
+    let crl = list_in(alloc, octets)?;
+    if let Err(fault) = check_list(&crl, ca, &manifest.signer, pass.crypto, pass.moment) {
+        drop(crl);
+        return Err(Stop::Refused(Cause::List(fault)));
+    }
+    match uri.clone() {
+        Err(_) => {
+            drop(crl);
+            Err(Stop::Memory)
+        }
+        Ok(uri) => Ok(List { uri, crl }),
+    }
+}

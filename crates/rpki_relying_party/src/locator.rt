@@ -1,0 +1,217 @@
+//! A validation run under a trust anchor's locator.
+
+ghost use Rattle.std.specs.Prelude.{◌≡◌, ◌⊎◌, ◌+◌, ◌<◌, ◌^◌, ℕ, List, Some};
+ghost use Rattle.std.specs.Prelude.{bytes_eq, cond, option_map, IfErr, IfOk, OnOk};
+ghost use Rattle.rpki_relying_party.specs.Found.{Lists, HasAsLong};
+ghost use Rattle.rpki_relying_party.specs.Passes.{setting};
+ghost use Rattle.rpki_relying_party.specs.Runs.{IsRunUnder, IsSaidUnder, FindsAllUnder, WhyNoRun};
+ghost use Rattle.rpki_relying_party.specs.Runs.{TellsSteadily, IsFaultOf};
+ghost use Rattle.rpki_relying_party.specs.Runs.{start_place, run_fault_text};
+ghost use Rattle.rpki_relying_party.specs.Runs.{IsLeftRefusal, IsRefusalFor, KeepsAll, lister_of};
+ghost use Rattle.rpki_relying_party.specs.Runs.{is_limited, limited_under, left_cause, count_for};
+
+use crate::anchor::{AnchorFault, anchor_of};
+use crate::cause::Cause;
+use crate::copy::Repository;
+use crate::found::{Finding, Found, Refusal};
+use crate::pass::Pass;
+use crate::place::Place;
+use crate::walk::{Unread, Why, walk_from};
+use rpki_basics::{Crypto, Rsync};
+use rpki_certs::ResourceCert;
+use rpki_tal::Tal;
+use std::alloc::{AllocError, Global};
+use std::collections::BTreeMap;
+use std::error::Error;
+use std::fmt;
+
+/// Why there is no validation run under a locator.
+#[derive(Debug, Drop)]
+pub enum RunFault {
+    /// The locator has no trust anchor.
+    Anchor(AnchorFault),
+    /// No memory was to be had.
+    Memory,
+}
+
+impl fmt::Display for RunFault {
+    ghost output = { λ fault. Some (run_fault_text fault) };
+
+    fn fmt<W: fmt::Write>(&self, f: &mut fmt::Formatter<W>) -> fmt::Result {
+        match self {
+            RunFault::Anchor(fault) => fault.fmt(f),
+            RunFault::Memory => f.write_str("out of memory"),
+        }
+    }
+}
+
+impl Error for RunFault {}
+
+// What a fault of the trust anchor is of the run: want of memory is that of the run.
+fn of_anchor(fault: AnchorFault) -> RunFault
+    ensures { IsFaultOf fault result }
+{
+    match fault {
+        AnchorFault::TooManyUris => RunFault::Anchor(AnchorFault::TooManyUris),
+        AnchorFault::Missing => RunFault::Anchor(AnchorFault::Missing),
+        AnchorFault::OtherKey => RunFault::Anchor(AnchorFault::OtherKey),
+        AnchorFault::Refused(error) => RunFault::Anchor(AnchorFault::Refused(error)),
+        AnchorFault::Memory => RunFault::Memory,
+    }
+}
+
+// The place of a trust anchor.
+fn start_place(ca: ResourceCert) -> Place
+    ensures { result ≡ start_place ca }
+{
+    let until = ca.cert().validity().not_after();
+    Place {
+        ca,
+        until,
+        listed_by: None,
+    }
+}
+
+/// A validation run under a locator: from its trust anchor on each place is read once, as
+/// `walk_from` does it, within this limit on work. What the places say is put to `found`; the
+/// answer is the places that were met and left unread.
+///
+/// What was found is said by a place to which a chain of children leads from the trust anchor.
+/// Where the copy does not change, all is found that such a place says, unless its chain passes one
+/// that was left unread.
+pub fn run_under<R: Repository, C: Crypto>(
+    alloc: Global,
+    pass: &Pass<'_, R, C>,
+    tal: &Tal,
+    limit: u64,
+    found: &mut Found,
+) -> Result<Vec<Unread<Place>>, RunFault>
+    ensures reads { IfOk result (λ unread. IsRunUnder
+        (setting R.finds C.digest_of C.is_signed pass.now) tal.now limit found.old found.new
+        unread.items) }
+    ensures sound { OnOk result ((x : Finding) → Lists found.new x → Lists found.old x
+        ⊎ IsSaidUnder (setting R.finds C.digest_of C.is_signed pass.now) tal.now x) }
+    ensures complete { IfOk result (λ unread.
+        TellsSteadily (setting R.finds C.digest_of C.is_signed pass.now)
+        → FindsAllUnder (setting R.finds C.digest_of C.is_signed pass.now) tal.now found.new
+        unread.items) }
+    ensures refused { IfErr result
+        (WhyNoRun (setting R.finds C.digest_of C.is_signed pass.now) tal.now) }
+{
+    match anchor_of(alloc, pass, tal) {
+        Err(fault) => Err(of_anchor(fault)),
+        Ok(ca) => match walk_from(alloc, pass, start_place(ca), limit, found) {
+            Err(_) => Err(RunFault::Memory),
+            Ok(unread) => Ok(unread),
+        },
+    }
+}
+
+// The CA that listed a place, by the URI of its manifest; a trust anchor stands for itself.
+fn lister_of(place: &Place) -> Option<&Rsync>
+    ensures { option_map (λ uri. uri.now) result ≡ lister_of place.now }
+{
+    match &place.listed_by {
+        Some(uri) => Some(uri),
+        None => place.ca.cert().rpki_manifest(),
+    }
+}
+
+// So many places of each CA were left unread for the limit, by the URI of its manifest.
+type Counts = BTreeMap<String, u64>;
+
+// How many there are of a CA.
+fn count_for(counts: &Counts, uri: &Rsync) -> u64
+    ensures { result ≡ count_for counts.now uri.now }
+{
+    match counts.get(uri.as_str()) {
+        None => 0,
+        Some(count) => *count,
+    }
+}
+
+// Counts one more of a CA.
+fn count_one(alloc: Global, uri: &Rsync, counts: &mut Counts) -> Result<(), AllocError>
+    requires { count_for counts.now uri.now + 1 < 2 ^ 64 }
+    ensures { OnOk result ((other : List ℕ) → count_for counts.new other
+        ≡ count_for counts.old other + cond (bytes_eq uri.now other) 1 0) }
+{
+    let key = String::from_str(alloc, uri.as_str())?;
+    let next = count_for(counts, uri) + 1;
+    counts.insert(key, next)?;
+    Ok(())
+}
+
+// Counts a place, if it was left unread for the limit.
+fn count_left(alloc: Global, left: &Unread<Place>, counts: &mut Counts) -> Result<(), AllocError>
+    requires { (uri : List ℕ) → count_for counts.now uri + 1 < 2 ^ 64 }
+    ensures { OnOk result ((uri : List ℕ) → count_for counts.new uri
+        ≡ count_for counts.old uri + cond (is_limited uri left.now) 1 0) }
+{
+    match left.why {
+        Why::Memory => Ok(()),
+        Why::Limit => match lister_of(&left.place) {
+            None => Ok(()),
+            Some(uri) => count_one(alloc, uri, counts),
+        },
+    }
+}
+
+// Counts the places that were left unread for the limit, of each CA.
+fn count_all(alloc: Global, unread: &[Unread<Place>]) -> Result<Counts, AllocError>
+    ensures { IfOk result (λ counts. (uri : List ℕ)
+        → count_for counts uri ≡ limited_under unread.now uri) }
+{
+    let mut counts = BTreeMap::new(alloc);
+    for left in unread {
+        count_left(alloc, left, &mut counts)?;
+    }
+    Ok(counts)
+}
+
+// Why places of a CA are refused, of which one was left for this.
+fn cause_for(counts: &Counts, uri: &Rsync, why: Why) -> Cause
+    ensures { result ≡ left_cause why (count_for counts.now uri.now) }
+{
+    match why {
+        Why::Limit => Cause::Limit(count_for(counts, uri)),
+        Why::Memory => Cause::Memory,
+    }
+}
+
+// Refuses a place that was left unread.
+fn refuse_left(
+    alloc: Global,
+    counts: &Counts,
+    left: &Unread<Place>,
+    found: &mut Found,
+) -> Result<(), AllocError>
+    ensures { OnOk result
+        (KeepsAll (IsRefusalFor (count_for counts.now) left.now) found.old found.new) }
+{
+    match lister_of(&left.place) {
+        None => Ok(()),
+        Some(manifest) => {
+            let (uri, under) = (manifest.clone()?, manifest.clone()?);
+            let cause = cause_for(counts, manifest, left.why);
+            found.keep(alloc, Finding::Refusal(Refusal { uri, cause, under }))
+        }
+    }
+}
+
+/// Puts to what was found, for each CA that listed places which were left unread, how many were
+/// left for the limit, and that there was no memory, where some were left for that. A trust anchor
+/// stands for itself. Where memory runs out nothing is known of `found`.
+pub fn refuse_unread(
+    alloc: Global,
+    unread: &[Unread<Place>],
+    found: &mut Found,
+) -> Result<(), AllocError>
+    ensures { OnOk result (KeepsAll (IsLeftRefusal unread.now) found.old found.new) }
+{
+    let counts = count_all(alloc, unread)?;
+    for left in unread {
+        refuse_left(alloc, &counts, left, found)?;
+    }
+    Ok(())
+}

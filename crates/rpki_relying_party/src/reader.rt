@@ -1,0 +1,78 @@
+//! The room in which a publication point is read.
+
+ghost use Rattle.std.specs.Prelude.{◌≡◌, ◌+◌, ◌<◌, MatchResult};
+ghost use Rattle.rpki_relying_party.specs.Costs.{ReadCosts};
+ghost use Rattle.rpki_relying_party.specs.Lacks.{IsLostFile};
+ghost use Rattle.rpki_relying_party.specs.Outcome.{IsOutcome};
+ghost use Rattle.rpki_relying_party.specs.Passes.{setting};
+ghost use Rattle.rpki_relying_party.specs.Point.{Has};
+ghost use Rattle.rpki_relying_party.specs.declared.cause.Stop.{Stop as Stops};
+
+use crate::cause::{Cause, FileFault, Stop};
+use crate::copy::{NoFile, Repository};
+use crate::pass::Pass;
+use bytes::Bytes;
+use rpki_basics::{Crypto, Rsync};
+use rpki_files::ManifestHash;
+use std::alloc::Global;
+
+// Spends so much of the room, unless there is less.
+pub(crate) fn spend(room: &mut u64, cost: u64) -> Result<(), Stop>
+    ensures { MatchResult result (λ _. room.new + cost ≡ room.old)
+        (λ stop. (stop ≡ Stops.Room) × (room.old < cost) × (room.new ≡ room.old)) }
+{
+    match room.checked_sub(cost) {
+        None => Err(Stop::Room),
+        Some(left) => {
+            *room = left;
+            Ok(())
+        }
+    }
+}
+
+/// What the copy has for a URI; as much room is spent as it has octets.
+pub(crate) fn read_file<R: Repository, C: Crypto>(
+    alloc: Global,
+    pass: &Pass<'_, R, C>,
+    uri: &Rsync,
+    room: &mut u64,
+) -> Result<Result<Bytes, NoFile>, Stop>
+    ensures { IsOutcome (ReadCosts (setting R.finds C.digest_of C.is_signed pass.now) uri.now)
+        (λ found. R.finds pass.now.copy.now uri.now found) (λ cause. ⊥) room.old room.new result }
+{
+    match pass.copy.read(alloc, uri.as_slice())? {
+        Err(why) => Ok(Err(why)),
+        Ok(octets) => match spend(room, octets.len() as u64) {
+            Err(stop) => {
+                drop(octets);
+                Err(stop)
+            }
+            Ok(()) => Ok(Ok(octets)),
+        },
+    }
+}
+
+/// The octets of a listed file, which have its hash.
+pub(crate) fn read_listed<R: Repository, C: Crypto>(
+    alloc: Global,
+    pass: &Pass<'_, R, C>,
+    uri: &Rsync,
+    hash: &ManifestHash,
+    room: &mut u64,
+) -> Result<Bytes, Stop>
+    ensures { IsOutcome (ReadCosts (setting R.finds C.digest_of C.is_signed pass.now) uri.now)
+        (Has (setting R.finds C.digest_of C.is_signed pass.now) (uri.now, hash.now))
+        (IsLostFile (setting R.finds C.digest_of C.is_signed pass.now) (uri.now, hash.now))
+        room.old room.new result }
+{
+    match read_file(alloc, pass, uri, room)? {
+        Err(why) => Err(Stop::Refused(Cause::File(uri.clone()?, FileFault::NoFile(why)))),
+        Ok(octets) => match hash.verify(pass.crypto, octets.as_slice()) {
+            Err(_) => {
+                drop(octets);
+                Err(Stop::Refused(Cause::File(uri.clone()?, FileFault::OtherHash)))
+            }
+            Ok(()) => Ok(octets),
+        },
+    }
+}

@@ -1,0 +1,111 @@
+//! What a folder has for URIs, row by row.
+
+use super::files::Files;
+use rpki_der::Counted;
+use rpki_relying_party::{FolderCopy, NoFile, Repository, is_below, locator_name};
+use rpki_tal::{ReadError, Tal};
+use rpki_testing::Fail;
+use std::alloc::{AllocError, Global};
+
+/// The locator of a trust anchor.
+const LOCATOR: &[u8] =
+    b"rsync://h/ta/t.cer\nhttps://h/ta/t.cer\n\nMBowDQYJKoZIhvcNAQEBBQADCQAAAAAAAAAAAQ==\n";
+
+/// The names of files, and what they hold or why they are not read.
+static FILES: [(&str, Result<&[u8], NoFile>); 9] = [
+    ("host/module/x.roa", Ok(b"file")),
+    ("host/module/big.roa", Err(NoFile::TooLarge)),
+    ("h/ta/t.cer", Ok(b"published")),
+    ("ta/name/t.cer", Ok(b"anchor")),
+    ("ta/link/t.cer", Err(NoFile::NotRegular)),
+    ("../module/x", Ok(b"above")),
+    ("host/../x", Ok(b"above")),
+    ("ta/../t.cer", Ok(b"above")),
+    ("", Ok(b"nameless")),
+];
+
+/// The names of locators, URIs, and what a folder with these files has for them.
+static HELD: [(&str, &str, Result<&[u8], NoFile>); 15] = [
+    ("name", "rsync://host/module/x.roa", Ok(b"file")),
+    ("name", "https://host/module/x.roa", Ok(b"file")),
+    ("name", "rsync://host/module/y.roa", Err(NoFile::Missing)),
+    ("name", "rsync://host/module/big.roa", Err(NoFile::TooLarge)),
+    // the file of the trust anchor comes first, whatever it is
+    ("name", "rsync://h/ta/t.cer", Ok(b"anchor")),
+    ("name", "https://h/ta/t.cer", Ok(b"anchor")),
+    ("link", "rsync://h/ta/t.cer", Err(NoFile::NotRegular)),
+    ("other", "rsync://h/ta/t.cer", Ok(b"published")),
+    ("name", "https://h/t.cer", Err(NoFile::Missing)),
+    // no name leads out of the folder
+    ("..", "https://h/ta/t.cer", Ok(b"published")),
+    ("name", "rsync://../module/x", Err(NoFile::Missing)),
+    ("name", "https://host/../x", Err(NoFile::Missing)),
+    ("name", "rsync://host/module/", Err(NoFile::Missing)),
+    ("name", "rsync:", Err(NoFile::Missing)),
+    ("name", "rsync://", Err(NoFile::Missing)),
+];
+
+/// Paths of files, and the names of the locators in them.
+static NAMES: [(&str, &str); 4] = [
+    ("name.tal", "name"),
+    ("/tals/name.tal", "name"),
+    ("tals.tal/name.cer", "name.cer"),
+    ("tals/.tal", ""),
+];
+
+/// Names, and whether they lead to a file below a folder.
+static BELOW: [(&[u8], bool); 6] = [
+    (b"host/module/x.roa", true),
+    (b".../..x", true),
+    (b"host/./x", false),
+    (b"/host/x", false),
+    (b"host/..", false),
+    (b"", false),
+];
+
+fn locator(alloc: Global) -> Result<Tal, Fail> {
+    match Tal::read_named(alloc, String::new(alloc), &mut Counted::new(LOCATOR)) {
+        Ok(tal) => Ok(tal),
+        Err(ReadError::Memory) => Err(Fail::Memory),
+        Err(_) => Err(Fail::Refused),
+    }
+}
+
+// Whether a copy has just this for a URI.
+fn has<R: Repository>(
+    alloc: Global,
+    copy: &R,
+    uri: &str,
+    wanted: &Result<&[u8], NoFile>,
+) -> Result<bool, AllocError> {
+    match copy.read(alloc, uri.as_bytes())? {
+        Err(why) => Ok(*wanted == Err(why)),
+        Ok(found) => Ok(*wanted == Ok(found.as_slice())),
+    }
+}
+
+// Whether the folder has for each URI what its row says.
+fn folder_has(alloc: Global, locator: &Tal) -> Result<bool, AllocError> {
+    let folders = Files { files: &FILES };
+    for (name, uri, wanted) in &HELD {
+        let copy = FolderCopy {
+            folders: &folders,
+            folder: "copy",
+            name,
+            locator,
+        };
+        if !has(alloc, &copy, uri, wanted)? {
+            return Ok(false);
+        }
+    }
+    Ok(true)
+}
+
+#[test]
+fn folders_have_files(rt: HostRuntime) -> Result<(), Fail> {
+    let locator = locator(rt.alloc())?;
+    assert!(rt; folder_has(rt.alloc(), &locator)?);
+    assert!(rt; NAMES.iter().all(|row| locator_name(row.0) == row.1));
+    assert!(rt; BELOW.iter().all(|row| is_below(row.0) == row.1));
+    Ok(())
+}

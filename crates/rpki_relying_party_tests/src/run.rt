@@ -1,0 +1,4 @@
+//! Tests of a run under a locator.
+
+mod octets;
+mod tree;
