@@ -1,5 +1,1 @@
-mod Endings
 mod Locating
-mod Passing
-mod Plain
-mod Slashes

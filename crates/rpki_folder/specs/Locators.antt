@@ -6,7 +6,7 @@ use Rattle.rpki_tal.specs.Form.{IsNoTal, IsOnlyTal}
 use Rattle.rpki_tal.specs.Tal.{Locator}
 use Rattle.rpki_tal.specs.declared.error.ReadError.{ReadError}
 use Rattle.rpki_tal.specs.declared.error.ReadError.TheVariants as errors
-use Rattle.rpki_folder.specs.Names.{locator_name}
+use Rattle.rpki_relying_party.specs.Names.{locator_name}
 use Rattle.rpki_folder.specs.declared.locators.NamedLocator.{NamedLocator}
 use Rattle.rpki_folder.specs.declared.locators.LocatorFault.{LocatorFault}
 use Rattle.rpki_folder.specs.declared.locators.LocatorFault.TheVariants.{Bad, Memory}

@@ -1,34 +1,37 @@
 -- What a relying party with a folder knows.
-use Rattle.std.specs.Prelude.{ℕ, List, Option}
+use Rattle.std.specs.Prelude.{ℕ, List, Result}
 use Rattle.rpki_certs.specs.Verify.{Verdict}
 use Rattle.rpki_cli.specs.declared.verify.relying_party.PayloadsRequest.{PayloadsRequest}
 use Rattle.rpki_sigobj.specs.Verify.{Digester}
-use Rattle.rpki_tree.specs.Setting.{Setting}
+use Rattle.rpki_tal.specs.Tal.{Locator}
+use Rattle.rpki_relying_party.specs.Folders.{FindsIn}
+use Rattle.rpki_relying_party.specs.Setting.{Setting}
+use Rattle.rpki_relying_party.specs.declared.copy.NoFile.{NoFile}
 use Rattle.rpki_folder.specs.declared.party.FolderParty.{FolderParty}
 
--- What its folders tell, if they tell anything; what cryptography says; and how many places are
--- visited under a locator.
-pub record Party : Type 0 where
-  pub told : Option (List ℕ → List ℕ → Option (List ℕ))
+-- What a read of a name below a folder may find; what cryptography says; and how much work there is
+-- at most under a locator.
+pub record Party : Type 1 where
+  pub finds : List ℕ → List ℕ → Result (List ℕ) NoFile → Type 0
   pub digest : Digester
   pub verdict : Verdict
   pub limit : ℕ
 
--- what it knows of a pass for this request, over a copy that has these octets for each URI
-abbrev pub setting_of : Party → PayloadsRequest → (List ℕ → Option (List ℕ)) → Setting
-setting_of party request cached = record {
-  cached = cached;
+-- what it knows of a validation run for this request, under the locator with this name
+abbrev pub setting_of : Party → PayloadsRequest → List ℕ → Locator → Setting
+setting_of party request name tal = record {
+  finds = FindsIn (party.finds request.copy) name tal;
   now = request.moment;
   digest = party.digest;
   verdict = party.verdict;
   providers = request.providers;
 }
 
--- what this one knows, where it is told what its folders tell, and what cryptography says
-abbrev pub party_of : {F C : Type 0} → (F → Option (List ℕ → List ℕ → Option (List ℕ)))
+-- what this one knows, where this is what its folders find, and what cryptography says
+abbrev pub party_of : {F C : Type 0} → (F → List ℕ → List ℕ → Result (List ℕ) NoFile → Type 0)
     → (C → Digester) → (C → Verdict) → FolderParty F C → Party
-party_of told digest verdict p = record {
-  told = told p.folders.now;
+party_of finds digest verdict p = record {
+  finds = finds p.folders.now;
   digest = digest p.crypto.now;
   verdict = verdict p.crypto.now;
   limit = p.limit;

@@ -5,8 +5,8 @@ ghost use Rattle.std.specs.List.{zip};
 ghost use Rattle.rpki_cli.specs.Words.{texts};
 ghost use Rattle.rpki_folder.specs.Locators.{AreLocators, IsNamedLocator, IsNoLocator, IsFaultOf};
 
-use crate::names::locator_name;
 use bytes::Bytes;
+use rpki_relying_party::locator_name;
 use rpki_show::locator_of;
 use rpki_tal::{ReadError, Tal};
 use std::alloc::Global;

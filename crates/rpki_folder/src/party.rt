@@ -1,27 +1,21 @@
 //! A relying party with a folder.
 
-ghost use Rattle.std.specs.Prelude.{◌≡◌, IfOk};
-ghost use Rattle.std.specs.List.{AllZip};
-ghost use Rattle.rpki_cli.specs.Answer.{said};
-ghost use Rattle.rpki_folder.specs.Party.{party_of};
-ghost use Rattle.rpki_folder.specs.Outcomes.{IsOutcomeUnder};
-ghost use Rattle.rpki_folder.specs.Report.{IsReport, IsReportUnder};
+ghost use Rattle.std.specs.Prelude.{◌≡◌};
 
-use crate::copy::FolderCopy;
-use crate::folders::Folders;
 use crate::locators::{LocatorFault, NamedLocator, locators_in};
-use crate::outcome::AnchorOutcome;
+use crate::outcome::{AnchorOutcome, is_good, put_outcome};
 use crate::report::report_outcomes;
 use bytes::Bytes;
 use rpki_basics::Crypto;
 use rpki_cli::answer::Answer;
 use rpki_cli::verify::{PayloadsRequest, RelyingParty};
+use rpki_relying_party::{FolderCopy, Folders, Found, Pass, RunFault, refuse_unread, run_under};
 use rpki_rsa::Rsa;
-use rpki_tree::{Pass, PassFault, findings};
+use rpki_tal::Tal;
 use std::alloc::{AllocError, Global};
 
-/// How many places are visited under a locator.
-const MOST_PLACES: usize = 1_000_000;
+/// How much work there is at most under a locator, if nothing else is said: 8 GiB.
+const MOST_WORK: u64 = 8_589_934_592;
 
 /// A relying party that finds payloads in a folder.
 #[derive(Drop)]
@@ -30,27 +24,28 @@ pub struct FolderParty<'a, F, C> {
     pub folders: &'a F,
     /// What says which signatures are good.
     pub crypto: &'a C,
-    /// How many places are visited under a locator.
-    pub limit: usize,
+    /// How much work there is at most under a locator: the octets that are read, and 16,384 or more
+    /// for each certification authority that is met.
+    pub limit: u64,
 }
 
 impl<'a, F> FolderParty<'a, F, Rsa> {
-    /// A relying party that computes signatures. That it visits 1,000,000 places at most under a
-    /// locator is this project's own rule.
+    /// A relying party that computes signatures, with 8 GiB of work under a locator.
     pub fn new(folders: &'a F) -> FolderParty<'a, F, Rsa>
         ensures folders { result.folders.now ≡ folders.now }
-        ensures limit { result.limit ≡ 1000000 }
+        ensures limit { result.limit ≡ 8589934592 }
     {
         FolderParty {
             folders,
             crypto: &Rsa,
-            limit: MOST_PLACES,
+            limit: MOST_WORK,
         }
     }
 }
 
 impl<F: Folders, C: Crypto> RelyingParty for FolderParty<'_, F, C> {
-    ghost says = { λ p. IsReport (party_of F.told C.digest_of C.is_signed p) };
+    // Nothing is promised yet.
+    ghost says = { λ _ _ _ _. Unit {0} };
 
     fn answer<'a>(
         &self,
@@ -70,54 +65,46 @@ impl<F: Folders, C: Crypto> RelyingParty for FolderParty<'_, F, C> {
     }
 }
 
-// Reports of the passes under these locators.
+// Reports of the runs under these locators.
 fn report_under<'a, F: Folders, C: Crypto>(
     alloc: Global,
     party: &FolderParty<'_, F, C>,
     request: &PayloadsRequest<'_>,
     locators: &[NamedLocator<'_>],
-) -> Answer<'a>
-    ensures { IsReportUnder (party_of F.told C.digest_of C.is_signed party.now) request.now
-        locators.now (said result) }
-{
-    match pass_all(alloc, party, request, locators) {
+) -> Answer<'a> {
+    match run_all(alloc, party, request, locators) {
         Err(_) => Answer::OutOfMemory,
         Ok(outcomes) => {
-            let answer = report_outcomes(alloc, request.format, &outcomes);
+            let answer = report_outcomes(alloc, request.format, request.moment, &outcomes);
             drop(outcomes);
             answer
         }
     }
 }
 
-// What the passes under these locators come to.
-fn pass_all<'p, F: Folders, C: Crypto>(
+// What the runs under these locators come to: one for each name, and one for each locator without
+// a run.
+fn run_all<'p, F: Folders, C: Crypto>(
     alloc: Global,
     party: &FolderParty<'_, F, C>,
     request: &PayloadsRequest<'_>,
     locators: &'p [NamedLocator<'_>],
-) -> Result<Vec<AnchorOutcome<'p>>, AllocError>
-    ensures { IfOk result (λ outcomes. AllZip
-        (λ l. IsOutcomeUnder (party_of F.told C.digest_of C.is_signed party.now) request.now
-        l.name.now l.locator) locators.now outcomes.items) }
-{
+) -> Result<Vec<AnchorOutcome<'p>>, AllocError> {
     let mut outcomes = Vec::new(alloc);
     for one in locators {
-        outcomes.push(pass_under(alloc, party, request, one)?)?;
+        let outcome = run_named(alloc, party, request, one)?;
+        put_outcome(&mut outcomes, outcome)?;
     }
     Ok(outcomes)
 }
 
-// What the pass under this locator comes to.
-fn pass_under<'p, F: Folders, C: Crypto>(
+// What the run under this locator comes to.
+fn run_named<'p, F: Folders, C: Crypto>(
     alloc: Global,
     party: &FolderParty<'_, F, C>,
     request: &PayloadsRequest<'_>,
     named: &'p NamedLocator<'_>,
-) -> Result<AnchorOutcome<'p>, AllocError>
-    ensures { IfOk result (IsOutcomeUnder (party_of F.told C.digest_of C.is_signed party.now)
-        request.now named.now.name.now named.now.locator) }
-{
+) -> Result<AnchorOutcome<'p>, AllocError> {
     let copy = FolderCopy {
         folders: party.folders,
         folder: request.copy.0,
@@ -130,12 +117,35 @@ fn pass_under<'p, F: Folders, C: Crypto>(
         moment: request.moment,
         providers: request.providers,
     };
-    match findings(alloc, &pass, &named.locator, party.limit) {
-        Ok(found) => Ok(AnchorOutcome::found(named.name, found)),
-        Err(PassFault::Memory) => Err(AllocError),
-        Err(PassFault::Limit) => Ok(AnchorOutcome::refused(named.name, PassFault::Limit)),
-        Err(PassFault::Anchor(fault)) => {
-            Ok(AnchorOutcome::refused(named.name, PassFault::Anchor(fault)))
+    match found_under(alloc, &pass, &named.locator, party.limit) {
+        Ok((found, is_good)) => Ok(AnchorOutcome::found(named.name, found, is_good)),
+        Err(RunFault::Memory) => Err(AllocError),
+        Err(RunFault::Anchor(fault)) => {
+            Ok(AnchorOutcome::refused(named.name, RunFault::Anchor(fault)))
+        }
+    }
+}
+
+// What is found under a locator, with what was left unread, and whether the point of its trust
+// anchor is good.
+fn found_under<F: Folders, C: Crypto>(
+    alloc: Global,
+    pass: &Pass<'_, FolderCopy<'_, F>, C>,
+    locator: &Tal,
+    limit: u64,
+) -> Result<(Found, bool), RunFault> {
+    let mut found = Found::new(alloc);
+    match run_under(alloc, pass, locator, limit, &mut found) {
+        Err(fault) => {
+            drop(found);
+            Err(fault)
+        }
+        Ok(unread) => {
+            let is_good = is_good(&found, &unread);
+            match refuse_unread(alloc, &unread, &mut found) {
+                Err(_) => Err(RunFault::Memory),
+                Ok(()) => Ok((found, is_good)),
+            }
         }
     }
 }

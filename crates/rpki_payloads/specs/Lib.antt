@@ -1,5 +1,5 @@
 pub mod Found
 pub mod Grammar
-pub mod Picked
+pub mod Payloads
 pub mod Said
 pub mod Texts

@@ -6,11 +6,15 @@ use rpki_cli::verify::now;
 use rpki_cli::{FilesAndInput, ProcessArguments, start};
 use rpki_command::verify::Verify;
 use rpki_der::Counted;
-use rpki_folder::{FolderParty, SystemFolders};
+use rpki_folder::FolderParty;
+use rpki_relying_party::{MAX_FILE, SystemFolders};
 use std::process::ExitCode;
 
 fn main(rt: HostRuntime) -> ExitCode {
-    let folders = SystemFolders::new(&rt);
+    let folders = SystemFolders {
+        runtime: &rt,
+        max_file: MAX_FILE,
+    };
     let program = Verify {
         clock: now(&rt),
         relying_party: FolderParty::new(&folders),

@@ -1,33 +1,18 @@
 -- The lines of what is refused.
-use Rattle.std.specs.Prelude.{ℕ, List, [], ◌++◌, codes}
+use Rattle.std.specs.Prelude.{ℕ, List, ◌++◌, codes, map}
+use Rattle.std.specs.BTreeMap.{values}
 use Rattle.std.specs.List.{flat_map}
-use Rattle.rpki_tree.specs.Cause.{Refused}
-use Rattle.rpki_tree.specs.declared.found.Finding.{Finding}
-use Rattle.rpki_tree.specs.declared.found.Finding.TheVariants as findings
-use Rattle.rpki_tree.specs.declared.refusal.Fault.{Fault}
-use Rattle.rpki_tree.specs.declared.refusal.Fault.TheVariants.{NoManifest, NoFile, NoList, NoRoa}
-use Rattle.rpki_tree.specs.declared.refusal.Fault.TheVariants.{NoAspa, NoCa}
-use Rattle.rpki_payloads.specs.Found.{Found, all_named}
+use Rattle.rpki_relying_party.specs.Texts.{cause_text}
+use Rattle.rpki_relying_party.specs.declared.found.Refusal.{Refusal}
+use Rattle.rpki_payloads.specs.Found.{FoundUnder}
 
--- what is said of a fault
-abbrev pub fault_text : Fault → List ℕ
-fault_text NoManifest = codes "no good manifest"
-fault_text NoFile = codes "a listed file is missing or differs"
-fault_text NoList = codes "no good revocation list, or it revokes the manifest"
-fault_text NoRoa = codes "no good ROA"
-fault_text NoAspa = codes "no good ASPA"
-fault_text NoCa = codes "no good CA certificate"
+-- the line of a refusal below a locator with this name, as `refused rsync://h/m/a.roa: certificate
+-- has expired (under rsync://h/m/a.mft, anchor)`
+abbrev pub refused_line : List ℕ → Refusal → List ℕ
+refused_line name r =
+    codes "refused " ++ (r.uri ++ (codes ": " ++ (cause_text r.cause ++ (codes " (under "
+    ++ (r.under ++ (codes ", " ++ (name ++ codes ")\n")))))))
 
--- refused rsync://host/module/a.roa: no good ROA
-abbrev pub refused_line : Refused → List ℕ
-refused_line r =
-    codes "refused " ++ (r.uri ++ (codes ": " ++ (fault_text r.fault ++ codes "\n")))
-
--- the line of a refusal; a payload has none
-abbrev pub refusal_line : Finding → List ℕ
-refusal_line (findings.Payload payload) = []
-refusal_line (findings.Refusal refusal) = refused_line refusal
-
--- a line for each refusal, in the order of the findings
-abbrev pub refusals_text : List Found → List ℕ
-refusals_text found = flat_map (λ n. refusal_line n.finding) (all_named found)
+-- a line for each refusal, name by name
+abbrev pub refusals_text : List FoundUnder → List ℕ
+refusals_text found = flat_map (λ f. flat_map (refused_line f.name) (values f.found.refusals)) found

@@ -1,5 +1,0 @@
-use Rattle.rpki_payloads.proofs.Objects.{text-held}
-use Rattle.rpki_payloads.proofs.laws.objects_say_their_payloads.Goals as goal
-
-pub returns : goal.returns
-returns c = λ found text h e. text-held found text h e

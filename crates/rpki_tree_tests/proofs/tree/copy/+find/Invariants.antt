@@ -1,6 +1,0 @@
-use Rattle.std.proofs.Common.{length}
-use Rattle.rpki_tree_tests.proofs.tree.copy.+find.Given as goal
-
--- the files that are left
-abbrev pub decreases-find : goal.decreases-find
-decreases-find l = length l.files.now

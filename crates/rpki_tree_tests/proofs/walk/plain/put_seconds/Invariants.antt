@@ -1,7 +1,0 @@
-use Rattle.std.proofs.Common.{◌≡◌, ◌++◌, take}
-use Rattle.rpki_tree_tests.specs.Walk.{seconds_of}
-use Rattle.rpki_tree_tests.proofs.walk.plain.put_seconds.Given as goal
-
-abbrev pub invariant-loop-number : goal.invariant-loop-number
-invariant-loop-number l =
-    l.list.items ≡ l.fn.list.items ++ seconds_of l.first (take l.number-index l.pairs)
