@@ -8,6 +8,7 @@ of all signed objects have one key, which no CA has.
 import functools
 import hashlib
 import importlib.util
+import itertools
 import pathlib
 import sys
 
@@ -16,6 +17,7 @@ TOP = pathlib.Path(__file__).resolve().parent.parent
 _loading = importlib.util.spec_from_file_location("make", TOP / "examples" / "make.py")
 make = importlib.util.module_from_spec(_loading)
 _loading.loader.exec_module(make)
+from rsa_vectors import public  # noqa: E402
 
 HOST = make.HOST
 MOMENT = "20270101000000Z"
@@ -65,6 +67,24 @@ class Signer(make.Signer):
 @functools.cache
 def signer(name):
     return Signer(name)
+
+
+def of_primes(p, q):
+    """The key of two primes."""
+    key = make.Key.__new__(make.Key)
+    key.p, key.q, key.n, key.e, key.len = p, q, p * q, 65537, 256
+    key.d = pow(key.e, -1, (p - 1) * (q - 1))
+    key.der = public(key.n, key.e)
+    return Signer(None, key)
+
+
+@functools.cache
+def shared(number):
+    """One of 112 keys that keep no secret: of two primes of eight others, so that none is looked for."""
+    keys = [signer(name).key for name in ("top", "a", "b", "c", "of objects", "h", "x", "y")]
+    pairs = [(one, other) for one, other in itertools.combinations(keys, 2)]
+    one, other = pairs[number // 4]
+    return of_primes((one.p, one.q)[number // 2 % 2], (other.p, other.q)[number % 2])
 
 
 class Router:
