@@ -9,6 +9,7 @@ the copy, or a URI to where nothing may be read, there is what a relying party w
 follows it says more. Each row of `TREES` is a name and a function that changes a `Tree`; of
 `HOSTILE` it has a size too, and the CA `h`, which the anchor lists before all others, is hostile.
 """
+import copy
 import hashlib
 import ipaddress
 import os
@@ -253,7 +254,8 @@ def silent(t):
 
 def certify(t, above, ca, claim, name, **more):
     """One CA lists a certificate with the key, the folder and the manifest of another one."""
-    other = Ca(ca.name, claim, above, key=ca.signer, folder=ca.folder, manifest=ca.manifest)
+    key = copy.copy(ca.signer)
+    other = Ca(ca.name, claim, above, key=key, folder=ca.folder, manifest=ca.manifest)
     above.add(name, other.certificate(above, **more))
 
 
@@ -286,7 +288,7 @@ def two_parents_that_trim(t):
 
 def joined(t):
     """What several objects say is said once, until the last moment at which one of them does."""
-    t.a.add_aspa("p.asa", 65001, [65012, 65010])
+    t.a.add_aspa("p.asa", 65001, [65010, 65012])
     t.a.add_roa("early.roa", 65001, ["10.1.0.0/16-24", "10.1.0.0/16-20"], last="20290101000000Z")
     t.says([aspa(65001, 65010, 65011, 65012), *ORIGINS, *C, *B,
             origin(65001, "10.1.0.0/16", 20, "20290101000000Z")])
@@ -614,13 +616,14 @@ def many_names(t, count):
 
 def two_keys(t, count):
     """Two keys that certify each other with all numbers but one, so many times: each set of numbers
-    is a place of its own."""
+    is a place of its own. (With fewer than all, a certificate of them all claims too much.)"""
     h = hostile(t, count)
     x = below(t, h, count=count)
     for above, ca in ((h, x), (x, h)):
         for at in range(count):
             fewer = [it for it in numbers(count) if it != numbers(count)[at]]
             certify(t, above, ca, make.Claim([PLACE], fewer), f"{ca.name}{at}.cer", trims=True)
+    t.says(t.found["one"], (f"{h.folder}x.cer", WIDE_AS, h.manifest))
 
 
 def one_roa(t, count):
