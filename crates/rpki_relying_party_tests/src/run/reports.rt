@@ -41,21 +41,23 @@ const LINES: &str = "origin AS65001 10.1.0.0/16-24\norigin AS65100 192.0.2.0/24\
 const CSV: &str = "ASN,IP Prefix,Max Length,Trust Anchor,Expires\n\
     AS65001,10.1.0.0/16,24,one,2082758400\nAS65100,192.0.2.0/24,24,one,2082758400\n";
 
-const JSON: &str = r#"{
-  "metadata": {
-    "generated": 1798761600,
-    "generatedTime": "2027-01-01T00:00:00Z",
-    "buildtime": "2027-01-01T00:00:00Z"
+const JSON: &str = "{
+  \"metadata\": {
+    \"generated\": 1798761600,
+    \"generatedTime\": \"2027-01-01T00:00:00Z\",
+    \"buildtime\": \"2027-01-01T00:00:00Z\"
   },
-  "roas": [
-    { "asn": "AS65001", "prefix": "10.1.0.0/16", "maxLength": 24, "ta": "one", "expires": 2082758400 },
-    { "asn": "AS65100", "prefix": "192.0.2.0/24", "maxLength": 24, "ta": "one", "expires": 2082758400 }
+  \"roas\": [
+    { \"asn\": \"AS65001\", \"prefix\": \"10.1.0.0/16\", \"maxLength\": 24, \
+    \"ta\": \"one\", \"expires\": 2082758400 },
+    { \"asn\": \"AS65100\", \"prefix\": \"192.0.2.0/24\", \"maxLength\": 24, \
+    \"ta\": \"one\", \"expires\": 2082758400 }
   ],
-  "aspas": [
-    { "customer": "AS65001", "providers": ["AS65010", "AS65011"], "ta": "one" }
+  \"aspas\": [
+    { \"customer\": \"AS65001\", \"providers\": [\"AS65010\", \"AS65011\"], \"ta\": \"one\" }
   ]
 }
-"#;
+";
 
 const NO_CSV: &str = "ASN,IP Prefix,Max Length,Trust Anchor,Expires\n";
 

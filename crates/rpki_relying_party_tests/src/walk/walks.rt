@@ -43,8 +43,8 @@ static ROWS: [Row; 9] = [
     (&[(0, 100), (0, 1)], SAID, 100, 229, &[10, 11], &[]),
 ];
 
-/// Pairs of a place and a child, and the limit: from place 0 places lead by 2, 3 and 4 to the victim
-/// 5, which says 77, and beside them something costs as much as all there is room for, or more.
+/// Pairs of a place and a child, and the limit: from place 0 on, 2, 3 and 4 lead to the victim 5,
+/// which says 77. Beside them something costs as much as all there is room for, or more.
 static VICTIMS: [(&[(u8, u8)], u64); 6] = [
     // a neighbour with many dear children
     (
