@@ -11,7 +11,6 @@ follows it says more. Each row of `TREES` is a name and a function that changes 
 """
 import copy
 import hashlib
-import ipaddress
 import os
 import pathlib
 import sys
@@ -655,9 +654,9 @@ def one_key(t, count):
 
 
 def one_key_of_zeros(t, count):
-    """The same, and the manifest of them all is a large file of zeros."""
+    """The same, and the manifest of them all is a file of zeros."""
     x = one_key(t, count)
-    t.put(x.manifest, ZEROS)
+    t.put(x.manifest, bytes(1_000_000))
     t.says(A + C + B, (x.manifest, f"manifest: {BAD}", f"rsync://{HOST}/m/h/h.mft"))
 
 
@@ -739,26 +738,31 @@ HOSTILE = [
 
 # ---- large files
 
-# So many prefixes of a ROA, and so many entries of a manifest and of a list, fit into a file.
-PREFIXES, COUNT = 1_000_000, 900_000
+# So many prefixes of a ROA, files of a manifest and serial numbers of a list fit into a file.
+PREFIXES, FILES_LISTED, SERIALS = 1_000_000, 400_000, 900_000
+
+
+def prefix_of(at):
+    """A /80 of what `a` has, without its length."""
+    fourth, fifth = at >> 16, at & 0xFFFF
+    return f"2001:db8:1:{fourth:x}:{fifth:x}::" if fifth else f"2001:db8:1:{fourth:x}::" if fourth else "2001:db8:1::"
 
 
 def of_prefixes(t, count=PREFIXES):
-    """The ROA of `a` has very many prefixes, each a /80 of what `a` has."""
-    first = int(ipaddress.IPv6Address("2001:db8:1::"))
-    prefixes = [first + (at << 48) for at in range(count)]
-    addresses = make.sequence(*(make.sequence(make.bits(it.to_bytes(16, "big")[:10])) for it in prefixes))
+    """The ROA of `a` has very many prefixes."""
+    head, first = make.sequence(make.bits(bytes(10)))[:-10], bytes.fromhex("20010db80001")
+    addresses = make.sequence(b"".join(head + first + at.to_bytes(4, "big") for at in range(count)))
     family = make.sequence(make.octet_string(b"\0\2"), addresses)
     content = make.sequence(make.integer(65001), make.sequence(family))
     claim = make.Claim(["2001:db8:1::/48"], [])
     t.a.add("o.roa", t.a.object("o.roa", make.ROA, content, claim))
-    t.says(PROVIDERS + [origin(65001, f"{ipaddress.IPv6Address(it)}/80") for it in prefixes] + C + B)
+    t.says(PROVIDERS + [origin(65001, f"{prefix_of(at)}/80") for at in range(count)] + C + B)
 
 
 def of_files(t):
     """The manifest of `a` lists very many files that are not there, after its revocation list."""
     digest = hashlib.sha256(t.a.published()[t.a.crl]).digest()
-    names = [("a.crl", digest), *((f"{at}.roa", digest) for at in range(COUNT))]
+    names = [("a.crl", digest), *((f"{at}.roa", digest) for at in range(FILES_LISTED))]
     listed = make.sequence(*(make.sequence(make.ia5(it), make.bits(digest)) for it, digest in names))
     times = make.generalized(SIGNED) + make.generalized(NEXT)
     content = make.sequence(make.integer(1), times, make.SHA256, listed)
@@ -770,7 +774,7 @@ def of_files(t):
 
 def of_serials(t):
     """The list of `a` has very many serial numbers, of no certificate that there is."""
-    t.a.revoked = serials(COUNT)
+    t.a.revoked = serials(SERIALS)
 
 
 def each_is(what, it):
@@ -793,8 +797,8 @@ LARGE = [
     *each_is("zeros", ZEROS), *each_is("values in values", NESTED),
     ("anchors: zeros, another key, good", several(lambda t: ZEROS, other, good)),
     (f"a ROA of {PREFIXES} prefixes", of_prefixes),
-    (f"a manifest of {COUNT} files", of_files),
-    (f"a list of {COUNT} serial numbers", of_serials),
+    (f"a manifest of {FILES_LISTED} files", of_files),
+    (f"a list of {SERIALS} serial numbers", of_serials),
 ]
 # How many times the files of the copy a run may need, where that is more than in tools/runs: each
 # prefix of a ROA is a payload, and a line, or an object of JSON; each listed name is kept until all are

@@ -124,7 +124,8 @@ def crl(key, this, to, serials, by):
     name = make.sequence(make.value(0x80, key.id))
     added = make.sequence(make.extension("2.5.29.35", False, name),
                           make.extension("2.5.29.20", False, make.integer(1)))
-    listed = (make.sequence(make.integer(serial), make.time(SIGNED)) for serial in serials)
+    since = make.time(SIGNED)
+    listed = (make.sequence(make.integer(serial), since) for serial in serials)
     message = make.sequence(
         make.integer(1), make.SHA256_WITH_RSA, key.name, make.time(this), make.time(to),
         make.sequence(*listed) if serials else b"", make.under(0, added))

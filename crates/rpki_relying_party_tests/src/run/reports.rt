@@ -229,7 +229,10 @@ fn is_wanted(answer: &Answer<'_>, wanted: &Wanted) -> Result<bool, AllocError> {
         (Answer::OutOfMemory, _) => Err(AllocError),
         (Answer::BadLocator(bad), Wanted::Bad(name)) => Ok(bad == name),
         (Answer::Reported { out, err, status }, Wanted::Reported(lines, refused, wanted)) => {
-            is_said((out.as_str(), err.as_str(), *status), (lines, refused, *wanted))
+            is_said(
+                (out.as_str(), err.as_str(), *status),
+                (lines, refused, *wanted),
+            )
         }
         _ => Ok(false),
     }

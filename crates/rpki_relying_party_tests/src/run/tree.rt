@@ -10,7 +10,8 @@ use rpki_basics::standin::StandIn;
 use rpki_basics::{ProviderLimit, Time};
 use rpki_der::Counted;
 use rpki_relying_party::{
-    FolderCopy, Found, Held, NoFile, Origin, Pass, Provider, RunFault, Why, refuse_unread, run_under,
+    FolderCopy, Found, Held, NoFile, Origin, Pass, Provider, RunFault, Why, refuse_unread,
+    run_under,
 };
 use rpki_tal::{ReadError, Tal};
 use rpki_testing::Fail;

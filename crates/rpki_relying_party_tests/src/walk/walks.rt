@@ -109,10 +109,7 @@ static VICTIMS: [(&[(u8, u8)], u64); 6] = [
     // one that lists it before all others, behind a dear place
     (&[(0, 100), (100, 5), (0, 2), (2, 3), (3, 4), (4, 5)], 60),
     // a circle of two, and one that lists a child many times
-    (
-        &[(0, 1), (1, 6), (6, 1), (0, 2), (2, 3), (3, 4), (4, 5)],
-        8,
-    ),
+    (&[(0, 1), (1, 6), (6, 1), (0, 2), (2, 3), (3, 4), (4, 5)], 8),
     (
         &[
             (0, 1),
@@ -159,7 +156,10 @@ fn is_right(alloc: Global, numbers: &Numbers<'_>, row: &Row) -> Result<bool, All
     let mut found = Vec::new(alloc);
     let unread = walked(alloc, numbers, limit, &mut found)?;
     let is_left = unread.len() == left.len()
-        && unread.iter().zip(left).all(|(unread, place)| unread.place == *place);
+        && unread
+            .iter()
+            .zip(left)
+            .all(|(unread, place)| unread.place == *place);
     Ok(is_left && found.as_slice() == wanted)
 }
 
