@@ -6,43 +6,53 @@
 Under the anchor `top` are the CAs `a` and `b`, and `c` is under `a`. The wrong thing is at `a`, or
 at the certificate of `c`. What `b` says stays, whatever is wrong there. Where a name leads out of
 the copy, or a URI to where nothing may be read, there is what a relying party would take: one that
-follows it says more. Each row of `TREES` is a name and a function that changes a `Tree`.
+follows it says more. Each row of `TREES` is a name and a function that changes a `Tree`; of
+`HOSTILE` it has a size too, and the CA `h`, which the anchor lists before all others, is hostile.
 """
 import copy
-import ipaddress
+import hashlib
 import os
 import pathlib
 import sys
 
 sys.dont_write_bytecode = True
 from publication import (  # noqa: E402
-    EVERYTHING, FUTURE, HOST, INHERITED, NEXT, PAST, SIGNED, Ca, Router, certificate, locator, make, signer)
+    EVERYTHING, FUTURE, HOST, INHERITED, NEXT, PAST, SIGNED, Ca, Router, certificate, locator, make, shared,
+    signer)
 
-NO_MANIFEST, NO_FILE, NO_LIST, NO_ROA, NO_ASPA, NO_CA = (
-    "no good manifest", "a listed file is missing or differs",
-    "no good revocation list, or it revokes the manifest", "no good ROA", "no good ASPA",
-    "no good CA certificate")
-MISSING, OTHER_KEY, EXPIRED = (
-    "not in the copy", "no certificate with its key",
-    "its certificate is refused: certificate has expired")
-ZEROS = bytes(int(os.environ.get("MB_OF_ZEROS", 100)) << 20)
+# Why a point is refused, and a file.
+GONE, HASH, NO_FILE, LARGE_FILE, UNREAD = (
+    "is not in the copy", "has another hash", "is no regular file", "is too large", "can't be read")
+BAD, FORGED, REVOKED, ENDED, WIDE_IPV4, WIDE_AS, OF_ANOTHER = (
+    "malformed", "signature is not valid", "certificate has been revoked", "certificate has expired",
+    "overclaimed IPv4 resources", "overclaimed AS resources", "not issued by this CA")
+STALE, EARLY = "is stale: nextUpdate 2026-12-01T00:00:00Z", "is not yet current: thisUpdate 2027-06-01T00:00:00Z"
+NO_AS = "certificate of a ROA names AS numbers or inherits"
+NO_FOLDER, NO_URI = "missing CA repository", "missing manifest URI"
+# Why a locator has no run.
+MISSING, OTHER_KEY, EXPIRED, MANY_URIS = (
+    f"its certificate {GONE}", "no certificate with its key",
+    f"its certificate is refused: {ENDED}", "more than 64 URIs")
+# A file may have so many octets.
+MOST = 20_000_000
+ZEROS = bytes(min(int(os.environ.get("MB_OF_ZEROS", 100)) << 20, MOST))
 # As many octets: SEQUENCEs of indefinite length in one another.
 NESTED = b"\x30\x80" * (len(ZEROS) // 2)
 
 
-def origin(number, prefix, most=None):
-    return "origin", number, prefix, most
+def origin(number, prefix, most=None, until=NEXT):
+    return "origin", number, prefix, most, until
 
 
 def aspa(customer, *providers):
     return "aspa", customer, providers
 
 
-# What the CAs say, in the order of their manifests.
+# What the CAs say.
 PROVIDERS = [aspa(65001, 65010, 65011)]
 ORIGINS = [origin(65001, "10.1.0.0/16", 24), origin(65001, "2001:db8:1::/48")]
 A, B, C = (
-    PROVIDERS + ORIGINS, [origin(65002, "10.2.0.0/16")], [origin(65004, "10.1.4.0/24", 24)])
+    PROVIDERS + ORIGINS, [origin(65002, "10.2.0.0/16")], [origin(65004, "10.1.4.0/24")])
 
 
 class Tree:
@@ -50,7 +60,9 @@ class Tree:
 
     `files` are octets by path below the copy, `lost` the paths of files that are made and not
     there, `devices` make what is no plain file. `found` has the payloads of each locator, or is
-    None where `error` is all that is said; `faults` are the locators without an anchor."""
+    None where `error` is all that is said, `again` those of further ones of the same names, and
+    `refused` what is refused below a locator: a URI, the cause, and the manifest of the CA;
+    `faults` are the locators without a run."""
 
     def __init__(self):
         self.top = Ca("top", EVERYTHING)
@@ -65,8 +77,8 @@ class Tree:
         self.top.add_ca(self.b)
         self.put(self.top.uri, self.top.certificate())
         self.tals = {"one.tal": locator([self.top.uri], self.top.signer)}
-        self.found, self.faults, self.refused, self.status = {"one": A + C + B}, [], [], 0
-        self.copy, self.words, self.waits, self.error = "copy", None, False, ""
+        self.found, self.faults, self.refused, self.status = {"one": A + C + B}, [], {}, 0
+        self.copy, self.words, self.error, self.again = "copy", None, "", []
         self.roa = f"{self.a.folder}o.roa"
 
     def add_c(self, **places):
@@ -74,6 +86,13 @@ class Tree:
         self.c.add_roa("o.roa", 65004, ["10.1.4.0/24-24"])
         self.a.add_ca(self.c)
         self.cas[3:] = [self.c]
+
+    def ca(self, name, prefixes, numbers=(), issuer=None, key=None):
+        """A further CA, which its issuer lists."""
+        ca = Ca(name, make.Claim(list(prefixes), list(numbers)), issuer or self.top, key=key)
+        self.cas.append(ca)
+        ca.issuer.add_ca(ca)
+        return ca
 
     def put(self, uri, octets):
         self.files[path_of(uri)] = octets
@@ -83,12 +102,13 @@ class Tree:
 
     def says(self, payloads, *refused):
         """Of the one locator there are these payloads and refusals."""
-        self.found, self.refused = {"one": payloads}, list(refused)
+        self.found, self.refused = {"one": payloads}, {"one": refused}
 
     def fails(self, text, name="one"):
-        """A locator has no anchor."""
+        """A locator has no run."""
         self.found.pop(name, None)
-        self.faults, self.status = [(name, text)], 1
+        self.faults.append((name, text))
+        self.status = 1
         return self
 
     def written(self):
@@ -108,20 +128,19 @@ def sets(**fields):
     return lambda t: vars(t.a).update({it: value(t) for it, value in fields.items()})
 
 
-def of_point(name, fault, change):
+def of_point(name, cause, change):
     """The point of `a` is refused: what it says is gone, and what those below it say."""
     def row(t):
         change(t)
-        t.says(B, (t.a.manifest, fault))
+        t.says(B, (t.a.manifest, cause, t.top.manifest))
     return name, row
 
 
-def of_file(name, file, left, change):
+def of_file(name, file, cause, left, change):
     """A file of `a` is refused, and the rest stays."""
     def row(t):
         change(t)
-        fault = {"roa": NO_ROA, "asa": NO_ASPA, "cer": NO_CA}[file.split(".")[1]]
-        t.says(left, (f"{t.a.folder}{file}", fault))
+        t.says(left, (f"{t.a.folder}{file}", cause, t.a.manifest))
     return name, row
 
 
@@ -129,36 +148,47 @@ def times(this, to):
     return lambda t: (this, to)
 
 
-def listed(name, fault=NO_MANIFEST):
+def listed(name, cause=f"manifest: {BAD}"):
     """The manifest of `a` lists its ROA under this name."""
     def change(t):
         t.a.listed_as["o.roa"] = name
         if name.endswith(".roa") and len(name) < 100:
             t.put(f"{t.a.folder}{name}", t.a.files["o.roa"])
-    return of_point(f"a manifest lists {name[:20]!r}", fault, change)
+    return of_point(f"a manifest lists {name[:20]!r}", cause, change)
 
 
+def twice(name):
+    """The manifest of `a` lists this name once more, with the octets of its ROA."""
+    def change(t):
+        t.a.add("again.roa", t.a.files["o.roa"])
+        t.a.listed_as["again.roa"] = name
+    return of_point(f"a manifest lists {name!r} twice", f"{name} is listed twice", change)
+
+
+LONG = "a" * 4996 + ".roa"
 POINTS = [
-    of_point("a listed file is missing", NO_FILE, lambda t: t.lose(t.roa)),
-    of_point("a listed file has another hash", NO_FILE, lambda t: t.put(t.roa, b"other")),
-    of_point("the list is missing", NO_FILE, lambda t: t.lose(t.a.crl)),
-    of_point("no manifest", NO_MANIFEST, lambda t: t.lose(t.a.manifest)),
-    of_point("a stale manifest", NO_MANIFEST, sets(manifest_times=times(SIGNED, PAST))),
-    of_point("a manifest to come", NO_MANIFEST, sets(manifest_times=times(FUTURE, NEXT))),
-    of_point("a manifest of another CA", NO_MANIFEST,
+    of_point("a listed file is missing", f"o.roa {GONE}", lambda t: t.lose(t.roa)),
+    of_point("a listed file has another hash", f"o.roa {HASH}", lambda t: t.put(t.roa, b"other")),
+    of_point("the list is missing", f"a.crl {GONE}", lambda t: t.lose(t.a.crl)),
+    of_point("no manifest", f"manifest {GONE}", lambda t: t.lose(t.a.manifest)),
+    of_point("a stale manifest", f"manifest {STALE}", sets(manifest_times=times(SIGNED, PAST))),
+    of_point("a manifest to come", f"manifest {EARLY}", sets(manifest_times=times(FUTURE, NEXT))),
+    of_point("a manifest of another CA", f"manifest: {OF_ANOTHER}",
              lambda t: t.put(t.a.manifest, t.b.published()[t.b.manifest])),
-    of_point("a manifest of 0 octets", NO_MANIFEST, lambda t: t.put(t.a.manifest, b"")),
-    of_point("a manifest of zeros", NO_MANIFEST, lambda t: t.put(t.a.manifest, ZEROS)),
-    of_point("a stale list", NO_LIST, sets(list_times=times(SIGNED, PAST))),
-    of_point("a list to come", NO_LIST, sets(list_times=times(FUTURE, NEXT))),
-    of_point("a list that another key signed", NO_LIST, sets(list_signer=lambda t: t.b.signer)),
-    of_point("a list of another key", NO_LIST,
+    of_point("a manifest of 0 octets", f"manifest: {BAD}", lambda t: t.put(t.a.manifest, b"")),
+    of_point("a manifest of zeros", f"manifest: {BAD}", lambda t: t.put(t.a.manifest, ZEROS)),
+    of_point("a stale list", f"revocation list {STALE}", sets(list_times=times(SIGNED, PAST))),
+    of_point("a list to come", f"revocation list {EARLY}", sets(list_times=times(FUTURE, NEXT))),
+    of_point("a list that another key signed", f"revocation list: {FORGED}",
+             sets(list_signer=lambda t: t.b.signer)),
+    of_point("a list of another key", "revocation list: names another key",
              sets(list_signer=lambda t: t.b.signer, list_key=lambda t: t.b.signer)),
-    of_point("a list that is not listed", NO_LIST, sets(lists_it=lambda t: False)),
-    of_point("a revoked certificate of the manifest", NO_LIST,
+    of_point("a list that is not listed", "revocation list is not listed",
+             sets(lists_it=lambda t: False)),
+    of_point("a revoked certificate of the manifest", f"manifest: {REVOKED}",
              sets(revoked=lambda t: [t.a.MANIFEST_SERIAL])),
     listed("../x.roa"), listed(".."), listed("."), listed("a/b.roa"), listed("/etc/passwd"),
-    listed("/x.roa"), listed(""), listed("a" * 4996 + ".roa", NO_FILE),
+    listed("/x.roa"), listed(""), listed(LONG, f"{LONG} {UNREAD}"), twice("o.roa"), twice("a.crl"),
 ]
 
 
@@ -179,28 +209,35 @@ def octets(what):
     return lambda t: t.a.files.update({"o.roa": what})
 
 
+def with_roa(prefix="10.1.0.0/16", by=None, **more):
+    """The ROA of `a` is another one."""
+    return lambda t: t.a.add_roa("o.roa", 65001, [prefix], by=by and by(t), **more)
+
+
 NO_ROAS = PROVIDERS + C + B
 FILES = [
-    of_file("a revoked child", "c.cer", A + B, lambda t: t.a.revoke("c.cer")),
-    of_file("a revoked ROA", "o.roa", NO_ROAS, lambda t: t.a.revoke("o.roa")),
-    of_file("a revoked ASPA", "o.asa", ORIGINS + C + B, lambda t: t.a.revoke("o.asa")),
-    of_file("an expired ROA", "o.roa", NO_ROAS,
-            lambda t: t.a.add_roa("o.roa", 65001, ["10.1.0.0/16"], last=PAST)),
-    of_file("a ROA that another key signed", "o.roa", NO_ROAS,
-            lambda t: t.a.add_roa("o.roa", 65001, ["10.1.0.0/16"], by=t.b.signer)),
-    of_file("an overclaiming ROA", "o.roa", NO_ROAS,
-            lambda t: t.a.add_roa("o.roa", 65001, ["10.2.0.0/16"])),
-    of_file("an overclaiming child", "c.cer", A + B, wide),
-    of_file("a certificate of a router", "r.cer", A + C + B, router),
-    of_file("a ROA of 0 octets", "o.roa", NO_ROAS, octets(b"")),
-    of_file("a ROA of zeros", "o.roa", NO_ROAS, octets(ZEROS)),
+    of_file("a revoked child", "c.cer", REVOKED, A + B, lambda t: t.a.revoke("c.cer")),
+    of_file("a revoked ROA", "o.roa", REVOKED, NO_ROAS, lambda t: t.a.revoke("o.roa")),
+    of_file("a revoked ASPA", "o.asa", REVOKED, ORIGINS + C + B, lambda t: t.a.revoke("o.asa")),
+    of_file("an expired ROA", "o.roa", ENDED, NO_ROAS, with_roa(last=PAST)),
+    of_file("a ROA that another key signed", "o.roa", FORGED, NO_ROAS,
+            with_roa(by=lambda t: t.b.signer)),
+    of_file("an overclaiming ROA", "o.roa", WIDE_IPV4, NO_ROAS, with_roa("10.2.0.0/16")),
+    of_file("a ROA whose certificate inherits", "o.roa", NO_AS, NO_ROAS,
+            with_roa(claim=make.Claim(make.INHERIT, []))),
+    of_file("a ROA whose certificate has AS numbers", "o.roa", NO_AS, NO_ROAS,
+            with_roa(claim=make.Claim(["10.1.0.0/16"], [(65001, 65001)]))),
+    of_file("an overclaiming child", "c.cer", WIDE_IPV4, A + B, wide),
+    of_file("a certificate of a router", "r.cer", BAD, A + C + B, router),
+    of_file("a ROA of 0 octets", "o.roa", BAD, NO_ROAS, octets(b"")),
+    of_file("a ROA of zeros", "o.roa", BAD, NO_ROAS, octets(ZEROS)),
 ]
 
 
 # ---- other shapes
 
 def trimmed(t):
-    t.says(A + C + B, (wide(t, trims=True), NO_ROA))
+    t.says(A + C + B, (wide(t, trims=True), WIDE_IPV4, t.c.manifest))
 
 
 def silent(t):
@@ -214,35 +251,46 @@ def silent(t):
     t.put(t.a.manifest, t.a.published()[t.a.manifest] + b"more")
 
 
+def certify(t, above, ca, claim, name, **more):
+    """One CA lists a certificate with the key, the folder and the manifest of another one."""
+    key = copy.copy(ca.signer)
+    other = Ca(ca.name, claim, above, key=key, folder=ca.folder, manifest=ca.manifest)
+    above.add(name, other.certificate(above, **more))
+
+
 def ring(t):
-    """`a` and `c` issued each other, and `a` itself."""
-    again = Ca("again", t.c.claim, t.a, key=copy.copy(t.a.signer), folder=t.a.folder,
-               manifest=t.a.manifest)
-    t.c.add_ca(again)
-    t.a.add_ca(again)
-
-
-def chain_of(count):
-    """The anchor and CAs below it, so many in all, each with a ROA: 32 are followed."""
-    def change(t):
-        above, t.cas[1:], t.top.files = t.top, [], {}
-        for number in range(1, count):
-            ca = Ca(f"k{number}", EVERYTHING, above)
-            above.add_ca(ca)
-            ca.add_roa("o.roa", 65000 + number, [f"10.{number}.0.0/16"])
-            t.cas.append(ca)
-            above = ca
-        followed = range(1, min(count, 32))
-        t.says([origin(65000 + number, f"10.{number}.0.0/16") for number in followed])
-    return change
+    """`a` and `c` issued each other, and `a` itself, with fewer numbers: with these the objects of
+    `a` claim too much."""
+    certify(t, t.c, t.a, t.c.claim, "again.cer")
+    certify(t, t.a, t.a, t.c.claim, "again.cer")
+    t.says(A + C + B, (t.roa, WIDE_IPV4, t.a.manifest),
+           (f"{t.a.folder}o.asa", WIDE_AS, t.a.manifest))
 
 
 def two_parents(t):
-    """`c` has a certificate by `b` too: what it says is found twice."""
+    """`c` has a certificate by `b` too."""
     t.b.claim, t.b.files = t.a.claim, {}
     t.top.add_ca(t.b)
     t.b.add_ca(t.c)
-    t.says(A + C + C)
+    t.says(A + C)
+
+
+def two_parents_that_trim(t):
+    """`c` claims what `a` and `b` have together, and each of them lets it have its own."""
+    t.c.claim = make.Claim(["10.1.4.0/24", "10.2.4.0/24"], [])
+    t.c.add_roa("p.roa", 65004, ["10.2.4.0/24"])
+    t.a.add_ca(t.c, trims=True)
+    t.b.add_ca(t.c, trims=True)
+    t.says(A + C + B + [origin(65004, "10.2.4.0/24")],
+           *((f"{t.c.folder}{it}.roa", WIDE_IPV4, t.c.manifest) for it in "op"))
+
+
+def joined(t):
+    """What several objects say is said once, until the last moment at which one of them does."""
+    t.a.add_aspa("p.asa", 65001, [65010, 65012])
+    t.a.add_roa("early.roa", 65001, ["10.1.0.0/16-24", "10.1.0.0/16-20"], last="20290101000000Z")
+    t.says([aspa(65001, 65010, 65011, 65012), *ORIGINS, *C, *B,
+            origin(65001, "10.1.0.0/16", 20, "20290101000000Z")])
 
 
 def several_wrong(t):
@@ -256,27 +304,29 @@ def several_wrong(t):
     t.a.add_roa("wide.roa", 65001, ["10.1.0.0/16", "10.2.0.0/16"])
     t.a.revoke("revoked.roa")
     t.b.manifest_times = SIGNED, "20280101000000Z"
-    d = Ca("d", make.Claim(["10.4.0.0/16"], []), t.top)
-    t.cas.append(d)
-    t.top.add_ca(d)
+    d = t.ca("d", ["10.4.0.0/16"])
     t.lose(d.add_roa("o.roa", 65006, ["10.4.0.0/16"]))
     t.tals["other.tal"] = locator([t.top.uri], t.b.signer)
-    bad = [(f"{t.a.folder}{it}.roa", NO_ROA) for it in ("expired", "forged", "revoked", "wide")]
-    t.says(A + [origin(65001, "10.1.128.0/17")] + C + B, *bad, (d.manifest, NO_FILE))
+    bad = {"expired": ENDED, "forged": FORGED, "revoked": REVOKED, "wide": WIDE_IPV4}
+    t.says(A + C + [origin(65002, "10.2.0.0/16", until="20280101000000Z"),
+                    origin(65001, "10.1.128.0/17", until="20290101000000Z")],
+           *((f"{t.a.folder}{it}.roa", cause, t.a.manifest) for it, cause in bad.items()),
+           (d.manifest, f"o.roa {GONE}", t.top.manifest))
     t.fails(OTHER_KEY, "other")
 
 
-def at(what, folder, manifest, fault):
+def at(what, folder, manifest, cause):
     """`c` publishes there. Where its certificate names no URI that may be, it is refused itself."""
     def change(t):
         good = f"rsync://{HOST}/m/c"
         t.add_c(folder=f"{folder or good}/", manifest=f"{manifest or good}/c.mft")
-        refused = f"{t.a.folder}c.cer" if fault == NO_CA else t.c.manifest
-        t.says(A + B, (refused, fault))
+        refused = f"{t.a.folder}c.cer" if cause in (NO_FOLDER, NO_URI) else t.c.manifest
+        t.says(A + B, (refused, cause, t.a.manifest))
     return f"{what} {folder or manifest}", change
 
 
 OUT, HERE = "rsync://../m/x", "rsync://./m/x"
+NOWHERE = "rsync://h/m/../x", "rsync://h/../x", "rsync://h/m//x", "https://a/../x"
 SHAPES = [
     ("nothing is wrong", lambda t: None),
     ("several things wrong", several_wrong),
@@ -284,18 +334,17 @@ SHAPES = [
     ("./none/../COPY", lambda t: vars(t).update(copy="./none/../copy")),
     ("COPY from the root on", lambda t: vars(t).update(copy=None)),
     ("no COPY", lambda t: vars(t.fails(MISSING)).update(copy="none/copy")),
+    ("what several objects say", joined),
     ("an overclaiming child under RFC 8360", trimmed),
     ("what says nothing", silent),
     ("two CAs that issued each other", ring),
-    ("a chain of 32", chain_of(32)),
-    ("a chain of 33", chain_of(33)),
     ("a CA under two parents", two_parents),
-    at("a folder", OUT, None, NO_FILE), at("a manifest", None, OUT, NO_MANIFEST),
-    at("a point", OUT, OUT, NO_MANIFEST), at("a folder", HERE, None, NO_FILE),
-    at("a point", HERE, HERE, NO_MANIFEST),
-    *(at(what, uri if what == "a folder" else None, uri if what != "a folder" else None, NO_CA)
-      for what in ("a folder", "a manifest")
-      for uri in ("rsync://h/m/../x", "rsync://h/../x", "rsync://h/m//x", "https://a/../x")),
+    ("a CA under two parents with other numbers", two_parents_that_trim),
+    at("a folder", OUT, None, f"c.crl {GONE}"), at("a manifest", None, OUT, f"manifest {GONE}"),
+    at("a point", OUT, OUT, f"manifest {GONE}"), at("a folder", HERE, None, f"c.crl {GONE}"),
+    at("a point", HERE, HERE, f"manifest {GONE}"),
+    *(at("a folder", uri, None, NO_FOLDER) for uri in NOWHERE),
+    *(at("a manifest", None, uri, NO_URI) for uri in NOWHERE),
 ]
 
 
@@ -313,18 +362,31 @@ def one_of_two(t):
     t.fails(MISSING, "gone")
 
 
-def two_anchors(t):
-    """A second anchor, whose point is not there."""
-    other = Ca("other", EVERYTHING)
-    t.put(other.uri, other.certificate())
-    t.tals["other.tal"] = locator([other.uri], other.signer)
-    t.found["other"], t.refused = [], [(other.manifest, NO_MANIFEST)]
+def three_anchors(t):
+    """The point of the second anchor is not there, and that of the third is stale."""
+    for name in "gone", "stale":
+        ca = Ca(name, EVERYTHING)
+        ca.manifest_times = SIGNED, PAST
+        t.put(ca.uri, ca.certificate())
+        t.tals[f"{name}.tal"] = locator([ca.uri], ca.signer)
+    t.cas.append(ca)
+    t.fails(f"manifest {GONE}", "gone").fails(f"manifest {STALE}", "stale")
 
 
 def one_twice(t):
-    """The same anchor under a name that CSV quotes and JSON escapes."""
+    """The same anchor under a name that CSV quotes and JSON escapes, and a file that is refused."""
+    t.a.add("n.roa", b"")
+    refused = f"{t.a.folder}n.roa", BAD, t.a.manifest
     t.tals['two, "2"\n\\.tal'] = t.tals["one.tal"]
-    t.found['two, "2"\n\\'] = A + C + B
+    t.says(A + C + B, refused)
+    t.found['two, "2"\n\\'], t.refused['two, "2"\n\\'] = A + C + B, [refused]
+
+
+def same_names(t):
+    """Two locators of one name, in two folders: each has an answer of its own."""
+    t.words = ["tals/one.tal", "tals/more/one.tal"]
+    t.tals["more/one.tal"] = t.tals["one.tal"]
+    t.again = [("one", A + C + B)]
 
 
 def kept_at_ta(t):
@@ -347,6 +409,16 @@ def several(*octets_of, text=None):
         if text:
             t.fails(text)
     return change
+
+
+def uris_of(count, text=None):
+    """A locator with so many URIs, of which the last is that of the anchor."""
+    def change(t):
+        others = [f"rsync://{HOST}/ta/{at}.cer" for at in range(count - 1)]
+        t.tals["one.tal"] = locator([*others, t.top.uri], t.top.signer)
+        if text:
+            t.fails(text)
+    return f"a locator with {count} URIs", change
 
 
 def good(t):
@@ -409,9 +481,11 @@ LOCATORS = [
     ("anchors: good, expired, expired", several(good, expired, expired)),
     ("anchors: other keys", several(other, other, other, text=OTHER_KEY)),
     ("two locators, one without an anchor", one_of_two),
-    ("two locators", two_anchors),
+    ("two anchors whose own points are refused", three_anchors),
     ("two locators of one anchor", one_twice),
+    ("two locators of one name", same_names),
     ("an anchor at ta/NAME/FILE", kept_at_ta),
+    uris_of(64), uris_of(65, MANY_URIS),
     located("https://a/../x", "x"), located("https://../x", "../x"), located("https://a/..", "x"),
     located("https://a//x", "a/x"), located("https://a/", "x"), located("rsync://../x/y", "../x/y"),
     located("https://a/../x", "ta/one/x", True),
@@ -423,81 +497,296 @@ LOCATORS = [
 
 # ---- files that are no plain files
 
-def device(make_it, *refused, waits=False):
-    """The ROA of `a` is something else on the disk, and that is well or refuses the point."""
+def device(what, make_it, cause=NO_FILE, file="o.roa"):
+    """A file of `a`, or its folder, is something else on the disk; the point is refused."""
     def change(t):
-        t.lose(t.roa)
-        t.devices[path_of(t.roa)] = lambda where: make_it(where, t.a.files["o.roa"])
-        t.waits = waits
-        if refused:
-            t.says(B, (t.a.manifest, NO_FILE))
-    return change
+        uri = f"{t.a.folder}{file}".rstrip("/")
+        for path in t.written():
+            if f"{path}/".startswith(f"{path_of(uri)}/"):
+                t.lost.append(path)
+        t.devices[path_of(uri)] = make_it
+        if cause:
+            name = file if file.endswith((".roa", ".crl")) else "manifest"
+            t.says(B, (t.a.manifest, f"{name} {cause}", t.top.manifest))
+    return f"{what} in the place of {file or 'a folder'}", change
 
 
 def link_out(where, octets):
-    """The system follows a symbolic link."""
     outside = where.split("/copy/")[0] + "/outside.roa"
     with open(outside, "wb") as it:
         it.write(octets)
     os.symlink(outside, where)
 
 
+def link_in(where, octets):
+    with open(f"{where}.there", "wb") as it:
+        it.write(octets)
+    os.symlink(os.path.basename(where) + ".there", where)
+
+
+def over(where, _):
+    with open(where, "wb") as it:
+        it.truncate(MOST + 1)
+
+
+def locked(where, octets):
+    with open(where, "wb") as it:
+        it.write(octets)
+    os.chmod(where, 0)
+
+
+def fifo(where, _):
+    os.mkfifo(where)
+
+
+def link_to(path):
+    return lambda where, _: os.symlink(path, where)
+
+
+def anchor(what, make_it, cause=NO_FILE):
+    """The certificate of the trust anchor is something else on the disk."""
+    def change(t):
+        t.lose(t.top.uri)
+        t.devices[path_of(t.top.uri)] = make_it
+        t.fails(f"its certificate {cause}")
+    return f"{what} in the place of the anchor", change
+
+
 DEVICES = [
-    ("a FIFO into which somebody writes", device(lambda where, _: os.mkfifo(where))),
-    ("a FIFO into which nobody writes", device(lambda where, _: os.mkfifo(where), waits=True)),
-    ("a folder in the place of a file", device(lambda where, _: os.makedirs(where), NO_FILE)),
-    ("a symbolic link out of COPY", device(link_out)),
-    ("a link to other octets", device(lambda where, _: os.symlink("/etc/passwd", where), NO_FILE)),
-    ("a link to itself", device(lambda where, _: os.symlink(where, where), NO_FILE)),
+    device("a pipe", fifo), device("a pipe", fifo, file="a.crl"), device("a pipe", fifo, file="a.mft"),
+    device("a link to /dev/zero", link_to("/dev/zero")),
+    device("a link to /dev/zero", link_to("/dev/zero"), file="a.mft"),
+    device("a folder", lambda where, _: os.makedirs(where)),
+    device("a folder", lambda where, _: os.makedirs(where), file="a.mft"),
+    device("a link out of COPY", link_out), device("a link inside COPY", link_in),
+    device("a link to itself", lambda where, _: os.symlink(where, where)),
+    device("a link", link_to("../m"), file=""),
+    device("a file", lambda where, _: pathlib.Path(where).write_bytes(b""), GONE, file=""),
+    device("a file over the bound", over, LARGE_FILE),
+    device("a file over the bound", over, LARGE_FILE, file="a.mft"),
+    # (the superuser reads each file)
+    device("a file that may not be read", locked, os.geteuid() and UNREAD),
+    anchor("a pipe", fifo), anchor("a link", link_to("/dev/zero")), anchor("a file over the bound", over, LARGE_FILE),
 ]
 
 TREES = SHAPES + POINTS + FILES + LOCATORS + DEVICES
 
 
+# ---- hostile CAs
+
+PLACE = "10.9.0.0/16"
+
+
+def numbers(count):
+    return [(65100 + 2 * at, 65100 + 2 * at) for at in range(count)]
+
+
+def hostile(t, count=0, also=(), name="h", key=None):
+    """A CA that the anchor lists before all others, with so many AS numbers."""
+    ca = t.ca(name, [PLACE, *also], numbers(count), key=key)
+    t.top.files = {f"{name}.cer": t.top.files.pop(f"{name}.cer"), **t.top.files}
+    return ca
+
+
+def below(t, above, name="x", count=0, key=None):
+    """A CA below a hostile one, with a ROA, which is found too."""
+    ca = t.ca(name, [PLACE], numbers(count), above, key)
+    number = 65100 + len(t.cas)
+    ca.add_roa("o.roa", number, [PLACE])
+    t.found["one"] = [*t.found["one"], origin(number, PLACE)]
+    return ca
+
+
+def serials(count):
+    """Serial numbers of no certificate that there is."""
+    return range(1_000_000, 1_000_000 + count)
+
+
+def many_names(t, count):
+    """Two manifests that list one certificate under so many names."""
+    h = hostile(t)
+    x = below(t, h)
+    y = below(t, x, "y")
+    for above, ca in ((h, x), (x, y)):
+        octets = ca.certificate(above)
+        for at in range(count):
+            above.add(f"{ca.name}{at}.cer", octets)
+
+
+def two_keys(t, count):
+    """Two keys that certify each other with all numbers but one, so many times: each set of numbers
+    is a place of its own. (With fewer than all, a certificate of them all claims too much.)"""
+    h = hostile(t, count)
+    x = below(t, h, count=count)
+    for above, ca in ((h, x), (x, h)):
+        for at in range(count):
+            fewer = [it for it in numbers(count) if it != numbers(count)[at]]
+            certify(t, above, ca, make.Claim([PLACE], fewer), f"{ca.name}{at}.cer", trims=True)
+    t.says(t.found["one"], (f"{h.folder}x.cer", WIDE_AS, h.manifest))
+
+
+def one_roa(t, count):
+    """A ROA of 2,000 prefixes, under so many names."""
+    h, prefixes = hostile(t, also=["10.16.0.0/12"]), [f"10.{16 + (at >> 8)}.{at & 255}.0/24" for at in range(2000)]
+    h.add_roa("o.roa", 65100, prefixes)
+    for at in range(count):
+        h.add(f"{at}.roa", h.files["o.roa"])
+    t.says(A + C + B + [origin(65100, it) for it in prefixes])
+
+
+def one_point(t, count, revoked=5_000):
+    """A point with a large revocation list, certified so many times with other numbers."""
+    h = hostile(t, count)
+    x = below(t, h, count=count)
+    x.revoked = serials(revoked)
+    for at in range(count):
+        certify(t, h, x, make.Claim([PLACE], numbers(at)), f"x{at}.cer")
+    return h
+
+
+def one_key(t, count):
+    """So many children with one key, each with a number of its own."""
+    h = hostile(t, count)
+    x = t.ca("x", [PLACE], (), h)
+    for at in range(count):
+        certify(t, h, x, make.Claim([], numbers(count)[at:at + 1]), f"x{at}.cer")
+    return x
+
+
+def one_key_of_zeros(t, count):
+    """The same, and the manifest of them all is a file of zeros."""
+    x = one_key(t, count)
+    t.put(x.manifest, bytes(1_000_000))
+    t.says(A + C + B, (x.manifest, f"manifest: {BAD}", f"rsync://{HOST}/m/h/h.mft"))
+
+
+def shadow(t, _):
+    """A certificate for the key and the folder of `b`, with other numbers."""
+    h = hostile(t)
+    certify(t, h, t.b, make.Claim([PLACE], []), "b.cer")
+    t.says(A + C + B, (f"{t.b.folder}o.roa", WIDE_IPV4, t.b.manifest))
+
+
+def held(t, count):
+    """A certificate with the key, the folder and the numbers of `c` and an early end, after a point
+    that is certified so many times."""
+    h = one_point(t, count)
+    h.claim = make.Claim([PLACE, "10.1.4.0/24"], numbers(count))
+    t.top.files["h.cer"] = h.certificate()
+    certify(t, h, t.c, t.c.claim, "c.cer", last="20280101000000Z")
+
+
+def siblings(t, count):
+    """So many CAs before all others, each with a manifest of zeros."""
+    refused = []
+    for at in range(count):
+        h = hostile(t, name=f"h{at}", key=shared(at))
+        t.put(h.manifest, ZEROS)
+        refused.append((h.manifest, f"manifest: {BAD}", t.top.manifest))
+    t.says(A + C + B, *refused)
+
+
+def long_list(t, count):
+    """So many ROAs below a revocation list of 100 times as many numbers."""
+    h = hostile(t)
+    h.revoked = serials(100 * count)
+    for at in range(count):
+        h.add_roa(f"{at}.roa", 65100, [f"10.9.{at}.0/24"])
+    t.says(A + C + B + [origin(65100, f"10.9.{at}.0/24") for at in range(count)])
+
+
+def empty_files(t, count):
+    """So many ROAs of no octets."""
+    h = hostile(t)
+    h.files |= {f"{at}.roa": b"" for at in range(count)}
+    t.says(A + C + B, *((f"{h.folder}{at}.roa", BAD, h.manifest) for at in range(count)))
+
+
+def circle(t, count):
+    """So many CAs, each of which certifies the next, and the last one the first."""
+    first = above = hostile(t)
+    for at in range(1, count):
+        above = below(t, above, f"h{at}", key=shared(at))
+    certify(t, above, first, first.claim, "h.cer")
+
+
+def long_chain(t, count):
+    """A chain of so many CAs."""
+    above = hostile(t)
+    for at in range(1, count):
+        above = below(t, above, f"h{at}", key=shared(at))
+
+
+# With how many there are of what, of the proved program and of another one.
+HOSTILE = [
+    ("two manifests that list one certificate many times", many_names, 1_001, 40),
+    ("two keys that certify each other", two_keys, 8, 3),
+    ("a ROA of 2,000 prefixes that is listed many times", one_roa, 1_000, 10),
+    ("a point with a long list that is certified many times", one_point, 300, 8),
+    ("many children with one key", one_key, 1_000, 30),
+    ("many children with one key, and a manifest of zeros", one_key_of_zeros, 300, 8),
+    ("a certificate for the key of a victim", shadow, 1, 1),
+    ("a certificate for the key of a victim, with its numbers", held, 300, 8),
+    ("siblings with manifests of zeros", siblings, 20, 9),
+    ("ROAs below a long list", long_list, 200, 10),
+    ("ROAs of no octets", empty_files, 10_000, 50),
+    ("a circle of 2", circle, 2, 2),
+    ("a circle of 50", circle, 50, 5),
+    ("a chain of 100", long_chain, 100, 5),
+]
+
+
 # ---- large files
 
-COUNT = 1_000_000
+# So many prefixes of a ROA, files of a manifest and serial numbers of a list fit into a file.
+PREFIXES, FILES_LISTED, SERIALS = 1_000_000, 400_000, 900_000
 
 
-def of_prefixes(t, count=COUNT):
-    """The ROA of `a` has very many prefixes, each a /80 of what `a` has."""
-    first = int(ipaddress.IPv6Address("2001:db8:1::"))
-    prefixes = [first + (at << 48) for at in range(count)]
-    addresses = make.sequence(*(make.sequence(make.bits(it.to_bytes(16, "big")[:10])) for it in prefixes))
+def prefix_of(at):
+    """A /80 of what `a` has, without its length."""
+    fourth, fifth = at >> 16, at & 0xFFFF
+    return f"2001:db8:1:{fourth:x}:{fifth:x}::" if fifth else f"2001:db8:1:{fourth:x}::" if fourth else "2001:db8:1::"
+
+
+def of_prefixes(t, count=PREFIXES):
+    """The ROA of `a` has very many prefixes."""
+    head, first = make.sequence(make.bits(bytes(10)))[:-10], bytes.fromhex("20010db80001")
+    addresses = make.sequence(b"".join(head + first + at.to_bytes(4, "big") for at in range(count)))
     family = make.sequence(make.octet_string(b"\0\2"), addresses)
     content = make.sequence(make.integer(65001), make.sequence(family))
     claim = make.Claim(["2001:db8:1::/48"], [])
     t.a.add("o.roa", t.a.object("o.roa", make.ROA, content, claim))
-    t.says(PROVIDERS + [origin(65001, f"{ipaddress.IPv6Address(it)}/80") for it in prefixes] + C + B)
+    t.says(PROVIDERS + [origin(65001, f"{prefix_of(at)}/80") for at in range(count)] + C + B)
 
 
 def of_files(t):
-    """The manifest of `a` lists very many files that are not there."""
-    listed = make.sequence(*(make.sequence(make.ia5(f"{at}.roa"), make.bits(bytes(32)))
-                             for at in range(COUNT)))
+    """The manifest of `a` lists very many files that are not there, after its revocation list."""
+    digest = hashlib.sha256(t.a.published()[t.a.crl]).digest()
+    names = [("a.crl", digest), *((f"{at}.roa", digest) for at in range(FILES_LISTED))]
+    listed = make.sequence(*(make.sequence(make.ia5(it), make.bits(digest)) for it, digest in names))
     times = make.generalized(SIGNED) + make.generalized(NEXT)
     content = make.sequence(make.integer(1), times, make.SHA256, listed)
     name = t.a.manifest.rsplit("/", 1)[1]
     t.put(t.a.manifest, t.a.object(name, make.MANIFEST, content, INHERITED,
                                    serial=t.a.MANIFEST_SERIAL))
-    t.says(B, (t.a.manifest, NO_FILE))
+    t.says(B, (t.a.manifest, f"0.roa {GONE}", t.top.manifest))
 
 
 def of_serials(t):
     """The list of `a` has very many serial numbers, of no certificate that there is."""
-    t.a.revoked = range(COUNT, 2 * COUNT)
+    t.a.revoked = serials(SERIALS)
 
 
 def each_is(what, it):
     """Each file of a copy, and its locator, is these octets."""
     return [
-        of_point(f"a manifest of {what}", NO_MANIFEST, lambda t: t.put(t.a.manifest, it)),
-        of_point(f"a list of {what}", NO_LIST, lambda t: (
+        of_point(f"a manifest of {what}", f"manifest: {BAD}", lambda t: t.put(t.a.manifest, it)),
+        of_point(f"a list of {what}", f"revocation list: {BAD}", lambda t: (
             vars(t.a).update(lists_it=False), t.a.files.update({"a.crl": it}))),
-        of_file(f"a ROA of {what}", "o.roa", NO_ROAS, octets(it)),
-        of_file(f"an ASPA of {what}", "o.asa", ORIGINS + C + B,
+        of_file(f"a ROA of {what}", "o.roa", BAD, NO_ROAS, octets(it)),
+        of_file(f"an ASPA of {what}", "o.asa", BAD, ORIGINS + C + B,
                 lambda t: t.a.files.update({"o.asa": it})),
-        of_file(f"a certificate of {what}", "c.cer", A + B,
+        of_file(f"a certificate of {what}", "c.cer", BAD, A + B,
                 lambda t: t.a.files.update({"c.cer": it})),
         (f"an anchor of {what}", anchor_is(lambda t: it, OTHER_KEY)),
         (f"a locator of {what}", stops("tals/bad.tal", it)[1]),
@@ -507,13 +796,13 @@ def each_is(what, it):
 LARGE = [
     *each_is("zeros", ZEROS), *each_is("values in values", NESTED),
     ("anchors: zeros, another key, good", several(lambda t: ZEROS, other, good)),
-    (f"a ROA of {COUNT} prefixes", of_prefixes),
-    (f"a manifest of {COUNT} files", of_files),
-    (f"a list of {COUNT} serial numbers", of_serials),
+    (f"a ROA of {PREFIXES} prefixes", of_prefixes),
+    (f"a manifest of {FILES_LISTED} files", of_files),
+    (f"a list of {SERIALS} serial numbers", of_serials),
 ]
 # How many times the files of the copy a run may need, where that is more than in tools/runs: each
-# prefix of a ROA is a payload, and a line, or an object of JSON; that a listed file is not there is
-# kept, with its URI.
+# prefix of a ROA is a payload, and a line, or an object of JSON; each listed name is kept until all are
+# known to be different.
 TIMES, TIMES_OF_JSON = {of_prefixes: 24, of_files: 8}, 48
 
 

@@ -8,6 +8,7 @@ of all signed objects have one key, which no CA has.
 import functools
 import hashlib
 import importlib.util
+import itertools
 import pathlib
 import sys
 
@@ -16,6 +17,7 @@ TOP = pathlib.Path(__file__).resolve().parent.parent
 _loading = importlib.util.spec_from_file_location("make", TOP / "examples" / "make.py")
 make = importlib.util.module_from_spec(_loading)
 _loading.loader.exec_module(make)
+from rsa_vectors import public  # noqa: E402
 
 HOST = make.HOST
 MOMENT = "20270101000000Z"
@@ -67,6 +69,24 @@ def signer(name):
     return Signer(name)
 
 
+def of_primes(p, q):
+    """The key of two primes."""
+    key = make.Key.__new__(make.Key)
+    key.p, key.q, key.n, key.e, key.len = p, q, p * q, 65537, 256
+    key.d = pow(key.e, -1, (p - 1) * (q - 1))
+    key.der = public(key.n, key.e)
+    return Signer(None, key)
+
+
+@functools.cache
+def shared(number):
+    """One of 112 keys that keep no secret: of two primes of eight others, so that none is looked for."""
+    keys = [signer(name).key for name in ("top", "a", "b", "c", "of objects", "h", "x", "y")]
+    pairs = [(one, other) for one, other in itertools.combinations(keys, 2)]
+    one, other = pairs[number // 4]
+    return of_primes((one.p, one.q)[number // 2 % 2], (other.p, other.q)[number % 2])
+
+
 class Router:
     """A router's key, on the curve P-256 (RFC 8608): the curve's base point."""
 
@@ -104,7 +124,8 @@ def crl(key, this, to, serials, by):
     name = make.sequence(make.value(0x80, key.id))
     added = make.sequence(make.extension("2.5.29.35", False, name),
                           make.extension("2.5.29.20", False, make.integer(1)))
-    listed = (make.sequence(make.integer(serial), make.time(SIGNED)) for serial in serials)
+    since = make.time(SIGNED)
+    listed = (make.sequence(make.integer(serial), since) for serial in serials)
     message = make.sequence(
         make.integer(1), make.SHA256_WITH_RSA, key.name, make.time(this), make.time(to),
         make.sequence(*listed) if serials else b"", make.under(0, added))

@@ -13,13 +13,12 @@ CUTS = runpy.run_path(str(SWEEPS / "rpki_verify" / "cuts.py"))
 TREE, text, line = CUTS["TREE"], CUTS["text"], SHOWN["line"]
 HEAD = '''//! Files of examples/ that are shown and checked in JSON, and payloads in JSON.
 
-ghost use Rattle.std.specs.Prelude.{None};
-
 use super::payloads::Echo;
 use super::runs::{Output, is_answered_by};
 use bytes::Bytes;
 use rpki_command::verify::Verify;
-use rpki_folder::{FolderParty, Folders};
+use rpki_folder::FolderParty;
+use rpki_relying_party::{Folders, NoFile};
 use std::alloc::{AllocError, Global};
 use std::str;
 use std::test::Fail;

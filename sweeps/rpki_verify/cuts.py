@@ -12,7 +12,7 @@ GOOD = EXAMPLES["GOOD"]
 text, moment = EXAMPLES["text"], EXAMPLES["moment"]
 HEAD = '''//! The answers of the program with signatures, over streams that fail at each of their calls.
 
-ghost use Rattle.std.specs.Prelude.{⊤, None};
+ghost use Rattle.std.specs.Prelude.{⊤};
 
 use crate::examples::files;
 use crate::given::{Nobody, is_cut};
@@ -21,7 +21,8 @@ use rpki_basics::Time;
 use rpki_cli::answer::Answer;
 use rpki_cli::verify::{PayloadsRequest, RelyingParty};
 use rpki_command::verify::Verify;
-use rpki_folder::{FolderParty, Folders};
+use rpki_folder::FolderParty;
+use rpki_relying_party::{Folders, NoFile};
 use std::alloc::{AllocError, Global};
 use std::str;
 use std::test::Fail;
@@ -32,12 +33,17 @@ FOLDER = '''/// A folder with the files of examples/, whatever it is called.
 struct Examples;
 
 impl Folders for Examples {
-    ghost told = { λ _. None };
+    ghost finds = { λ _ _ _ _. Unit {0} };
 
-    fn read(&self, alloc: Global, _folder: &str, name: &[u8]) -> Result<Option<Bytes>, AllocError> {
+    fn read(
+        &self,
+        alloc: Global,
+        _folder: &str,
+        name: &[u8],
+    ) -> Result<Result<Bytes, NoFile>, AllocError> {
         match str::from_utf8(name).ok().and_then(in_copy) {
-            Some(octets) => Ok(Some(Bytes::copy_from_slice(alloc, octets)?)),
-            None => Ok(None),
+            Some(octets) => Ok(Ok(Bytes::copy_from_slice(alloc, octets)?)),
+            None => Ok(Err(NoFile::Missing)),
         }
     }
 }
@@ -91,12 +97,17 @@ SIGNED = ("check",), ("check --ta",), ("walk",), ("rta",), ("verdicts",)
 PARTS = "rpki.example.net", "ta"
 ORIGINS = "origin AS64496 192.0.2.0/24-26\norigin AS64496 2001:db8::/32-48\n"
 LINES = ORIGINS + "aspa AS64496 AS64497 AS64511\n"
-CSV = ("ASN,IP Prefix,Max Length,Trust Anchor\n"
-       "AS64496,192.0.2.0/24,26,anchor\nAS64496,2001:db8::/32,48,anchor\n")
+CSV = ("ASN,IP Prefix,Max Length,Trust Anchor,Expires\n"
+       "AS64496,192.0.2.0/24,26,anchor,2082758400\nAS64496,2001:db8::/32,48,anchor,2082758400\n")
 JSON = """{
+  "metadata": {
+    "generated": 1798761600,
+    "generatedTime": "2027-01-01T00:00:00Z",
+    "buildtime": "2027-01-01T00:00:00Z"
+  },
   "roas": [
-    { "asn": "AS64496", "prefix": "192.0.2.0/24", "maxLength": 26, "ta": "anchor" },
-    { "asn": "AS64496", "prefix": "2001:db8::/32", "maxLength": 48, "ta": "anchor" }
+    { "asn": "AS64496", "prefix": "192.0.2.0/24", "maxLength": 26, "ta": "anchor", "expires": 2082758400 },
+    { "asn": "AS64496", "prefix": "2001:db8::/32", "maxLength": 48, "ta": "anchor", "expires": 2082758400 }
   ],
   "aspas": [
     { "customer": "AS64496", "providers": ["AS64497", "AS64511"], "ta": "anchor" }
@@ -104,10 +115,12 @@ JSON = """{
 }
 """
 AUTHORITY = "rsync://rpki.example.net/authority/"
-REFUSED = "".join(f"refused {AUTHORITY}{name}.roa: no good ROA\n"
-                  for name in ("broken", "expired", "overclaiming"))
-SECOND = "refused rsync://rpki.example.net/second/second.mft: no good manifest\n"
-ABSENT = "refused absent: not in the copy\n"
+REFUSED = "".join(
+    f"refused {AUTHORITY}{name}.roa: {cause} (under {AUTHORITY}authority.mft, anchor)\n"
+    for name, cause in (("broken", "signature is not valid"), ("expired", "certificate has expired"),
+                        ("overclaiming", "overclaimed IPv4 resources")))
+SECOND = "refused second: manifest is not in the copy\n"
+ABSENT = "refused absent: its certificate is not in the copy\n"
 
 
 def payloads(*words):
@@ -119,9 +132,9 @@ PAYLOADS = [
     (payloads(["anchor.tal"]), 0, LINES, REFUSED),
     (payloads("--csv", ["anchor.tal"]), 0, CSV, REFUSED),
     (payloads("--json", ["anchor.tal"]), 0, JSON, REFUSED),
-    (payloads(["second.tal"]), 0, "", SECOND),
+    (payloads(["second.tal"]), 1, "", SECOND),
     (payloads(["absent.tal"]), 1, "", ABSENT),
-    (payloads(["anchor.tal", "absent.tal", "second.tal"]), 1, LINES, ABSENT + REFUSED + SECOND),
+    (payloads(["anchor.tal", "absent.tal", "second.tal"]), 1, LINES, ABSENT + SECOND + REFUSED),
     (payloads(["anchor.tal", "bad.tal"]), 2, "", "bad locator bad.tal\n"),
     (payloads(["anchor.tal", "none"]), 4, "", "cannot read none: no such file\n"),
     (payloads(["anchor.tal", "large"]), 3, "", "out of memory\n"),

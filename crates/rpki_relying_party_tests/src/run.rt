@@ -1,4 +1,6 @@
-//! Tests of a run under a locator.
+//! Tests of a run under a locator. Each hands on that memory ran out, so `tools/growth` can refuse
+//! each of its allocations in turn.
 
-mod octets;
-mod tree;
+pub mod octets;
+mod reports;
+pub mod tree;

@@ -328,3 +328,10 @@ pub const ASPA: &[u8] = b"\
 /// The locator of the trust anchor.
 pub const LOCATOR: &[u8] =
     b"rsync://h/ta/t.cer\nhttps://h/ta/t.cer\n\nMBowDQYJKoZIhvcNAQEBBQADCQAAAAAAAAAAAQ==\n";
+
+/// A locator of another key, with the same URI.
+pub const OTHER_KEY: &[u8] = b"rsync://h/ta/t.cer\n\nMBowDQYJKoZIhvcNAQEBBQADCQAAAAAAAAAAAg==\n";
+
+/// A locator with the key of the trust anchor and other URIs, of which one leads out of the folder.
+pub const OTHER_URIS: &[u8] =
+    b"rsync://h/ta/none.cer\nhttps://h/../t.cer\n\nMBowDQYJKoZIhvcNAQEBBQADCQAAAAAAAAAAAQ==\n";

@@ -10,7 +10,8 @@ use rpki_basics::standin::StandIn;
 use rpki_basics::{ProviderLimit, Time};
 use rpki_der::Counted;
 use rpki_relying_party::{
-    FolderCopy, Found, Held, NoFile, Origin, Pass, Provider, RunFault, refuse_unread, run_under,
+    FolderCopy, Found, Held, NoFile, Origin, Pass, Provider, RunFault, Why, refuse_unread,
+    run_under,
 };
 use rpki_tal::{ReadError, Tal};
 use rpki_testing::Fail;
@@ -18,8 +19,9 @@ use std::alloc::Global;
 
 /// The files of the tree. The certificate of the trust anchor is where `rpki-client` keeps it, and
 /// what stands at its URI is none.
-static FILES: [(&str, Result<&[u8], NoFile>); 12] = [
+pub static FILES: [(&str, Result<&[u8], NoFile>); 13] = [
     ("ta/one/t.cer", Ok(ANCHOR)),
+    ("ta/large/t.cer", Err(NoFile::TooLarge)),
     ("h/ta/t.cer", Ok(b"none")),
     ("h/m/t/t.crl", Ok(ANCHOR_LIST)),
     ("h/m/t/t.mft", Ok(ANCHOR_MANIFEST)),
@@ -135,6 +137,9 @@ fn run_within(alloc: Global, tal: &Tal, limit: u64, found: &mut Found) -> Result
             Err(Fail::Refused)
         }
         Ok(unread) => {
+            if unread.iter().any(|left| left.why == Why::Memory) {
+                return Err(Fail::Memory);
+            }
             refuse_unread(alloc, &unread, found)?;
             Ok(unread.is_empty())
         }

@@ -1,7 +1,7 @@
 //! Walks, row by row.
 
 use super::numbers::Numbers;
-use rpki_relying_party::{Why, walk_from};
+use rpki_relying_party::{Places, Reading, Unread, Why, walk_from};
 use std::alloc::{AllocError, Global};
 
 /// Pairs of a place and a child, pairs of a place and what it says, the first place that costs 100,
@@ -34,29 +34,133 @@ static ROWS: [Row; 9] = [
         &[],
     ),
     (CIRCLE, SAID, 255, 80, &[10, 11, 12, 14, 13, 23], &[]),
-    // without any room, with room for two, and with just as much as is needed
-    (CIRCLE, SAID, 255, 0, &[], &[0]),
+    // with room for the first, with room for two, and with just as much as is needed
+    (CIRCLE, SAID, 255, 1, &[10], &[1]),
     (CIRCLE, SAID, 255, 2, &[10, 11], &[2, 4]),
     (CIRCLE, SAID, 255, 5, &[10, 11, 12, 14, 13, 23], &[]),
-    // one that is more than an eighth of the limit is left, and its neighbour is read
-    (&[(0, 100), (0, 1)], SAID, 100, 791, &[10, 11], &[100]),
-    (&[(0, 100), (0, 1)], SAID, 100, 792, &[10, 11], &[]),
+    // one of 100 is tried with 1, 2, 4 .. 64, which is 127, before it is read
+    (&[(0, 100), (0, 1)], SAID, 100, 228, &[10, 11], &[100]),
+    (&[(0, 100), (0, 1)], SAID, 100, 229, &[10, 11], &[]),
 ];
 
-// Whether these are the numbers, in their order.
-fn are(numbers: &[u8], wanted: &[u8]) -> bool {
-    numbers == wanted
+/// Pairs of a place and a child, and the limit: from place 0 on, 2, 3 and 4 lead to the victim 5,
+/// which says 77. Beside them something costs as much as all there is room for, or more.
+static VICTIMS: [(&[(u8, u8)], u64); 6] = [
+    // a neighbour with many dear children
+    (
+        &[
+            (0, 1),
+            (1, 100),
+            (1, 101),
+            (1, 102),
+            (1, 103),
+            (1, 104),
+            (1, 105),
+            (1, 106),
+            (1, 107),
+            (1, 108),
+            (0, 2),
+            (2, 3),
+            (3, 4),
+            (4, 5),
+        ],
+        60,
+    ),
+    // dear neighbours
+    (
+        &[
+            (0, 100),
+            (0, 101),
+            (0, 102),
+            (0, 103),
+            (0, 104),
+            (0, 105),
+            (0, 106),
+            (0, 107),
+            (0, 108),
+            (0, 2),
+            (2, 3),
+            (3, 4),
+            (4, 5),
+        ],
+        90,
+    ),
+    // a neighbour that lists the victim too, after dear children
+    (
+        &[
+            (0, 1),
+            (1, 100),
+            (1, 101),
+            (1, 102),
+            (1, 103),
+            (1, 104),
+            (1, 105),
+            (1, 106),
+            (1, 107),
+            (1, 108),
+            (1, 5),
+            (0, 2),
+            (2, 3),
+            (3, 4),
+            (4, 5),
+        ],
+        60,
+    ),
+    // one that lists it before all others, behind a dear place
+    (&[(0, 100), (100, 5), (0, 2), (2, 3), (3, 4), (4, 5)], 60),
+    // a circle of two, and one that lists a child many times
+    (&[(0, 1), (1, 6), (6, 1), (0, 2), (2, 3), (3, 4), (4, 5)], 8),
+    (
+        &[
+            (0, 1),
+            (1, 6),
+            (1, 6),
+            (1, 6),
+            (1, 6),
+            (6, 7),
+            (6, 7),
+            (6, 7),
+            (6, 7),
+            (0, 2),
+            (2, 3),
+            (3, 4),
+            (4, 5),
+        ],
+        8,
+    ),
+];
+
+// Walks from place 0 on, which there is room to read. That there was no memory to read a place is
+// handed on.
+fn walked(
+    alloc: Global,
+    numbers: &Numbers<'_>,
+    limit: u64,
+    found: &mut Vec<u8>,
+) -> Result<Vec<Unread<u8>>, AllocError> {
+    match numbers.read(alloc, &0, limit)? {
+        Reading::Cut => Err(AllocError),
+        Reading::Told(told) => {
+            let unread = walk_from(alloc, numbers, 0, told, limit, found)?;
+            if unread.iter().any(|left| left.why == Why::Memory) {
+                return Err(AllocError);
+            }
+            Ok(unread)
+        }
+    }
 }
 
-// Whether these places are left, for the limit.
+// Whether these places are left, for the limit, and these numbers found.
 fn is_right(alloc: Global, numbers: &Numbers<'_>, row: &Row) -> Result<bool, AllocError> {
     let (_, _, _, limit, wanted, left) = *row;
     let mut found = Vec::new(alloc);
-    let unread = walk_from(alloc, numbers, 0, limit, &mut found)?;
+    let unread = walked(alloc, numbers, limit, &mut found)?;
     let is_left = unread.len() == left.len()
-        && unread.iter().zip(left).all(|(unread, place)| unread.place == *place
-            && unread.why == Why::Limit);
-    Ok(is_left && are(&found, wanted))
+        && unread
+            .iter()
+            .zip(left)
+            .all(|(unread, place)| unread.place == *place);
+    Ok(is_left && found.as_slice() == wanted)
 }
 
 fn are_right(alloc: Global, rows: &[Row]) -> Result<bool, AllocError> {
@@ -75,33 +179,25 @@ fn walks_read_each_place_once(rt: HostRuntime) -> Result<(), AllocError> {
     Ok(())
 }
 
-// A place with this many children, each of which has one of its own.
-fn children_of(alloc: Global, place: u8, first: u8) -> Result<Vec<(u8, u8)>, AllocError> {
-    let mut pairs = Vec::new(alloc);
-    for child in first..=254 {
-        pairs.push((place, child))?;
+// How many rows there are before the first in which the victim is not found, or all.
+fn victims(alloc: Global, rows: &[(&[(u8, u8)], u64)]) -> Result<usize, AllocError> {
+    for (at, (issued, limit)) in rows.iter().enumerate() {
+        let numbers = Numbers {
+            issued,
+            said: &[(5, 77)],
+            dear: 100,
+        };
+        let mut found = Vec::new(alloc);
+        drop(walked(alloc, &numbers, *limit, &mut found)?);
+        if found.as_slice() != [77].as_slice() {
+            return Ok(at);
+        }
     }
-    Ok(pairs)
-}
-
-// A neighbour, whose children cost as much as all there is room for, takes nothing from a chain
-// beside it: 0 has the children 1 and 2, 1 has all from 100 on, and 2 leads by 3 and 4 to 5, which
-// says 77.
-fn is_victim_found(alloc: Global) -> Result<bool, AllocError> {
-    let mut issued = children_of(alloc, 1, 100)?;
-    issued.extend_from_slice(&[(0, 1), (0, 2), (2, 3), (3, 4), (4, 5)])?;
-    let numbers = Numbers {
-        issued: &issued,
-        said: &[(5, 77)],
-        dear: 100,
-    };
-    let mut found = Vec::new(alloc);
-    let unread = walk_from(alloc, &numbers, 0, 800, &mut found)?;
-    Ok(!unread.is_empty() && are(&found, &[77]))
+    Ok(rows.len())
 }
 
 #[test]
-fn a_neighbour_takes_no_turn(rt: HostRuntime) -> Result<(), AllocError> {
-    assert!(rt; is_victim_found(rt.alloc())?);
+fn victims_are_found(rt: HostRuntime) -> Result<(), AllocError> {
+    assert_eq!(rt; victims(rt.alloc(), &VICTIMS)?, VICTIMS.len());
     Ok(())
 }

@@ -1,0 +1,285 @@
+//! What is reported of locators over a folder that holds the tree.
+
+use super::octets::{LOCATOR, OTHER_KEY, OTHER_URIS};
+use super::tree::FILES;
+use crate::folder::files::Files;
+use bytes::Bytes;
+use rpki_basics::standin::StandIn;
+use rpki_basics::{ProviderLimit, Time};
+use rpki_cli::answer::Answer;
+use rpki_cli::verify::words::Format;
+use rpki_cli::verify::{PayloadsRequest, RelyingParty};
+use rpki_cli::words::{Word, Words};
+use rpki_folder::FolderParty;
+use rpki_testing::Fail;
+use std::alloc::{AllocError, Global};
+
+/// In which form, in which year and within which limit what is asked, of which files of locators
+/// with which octets.
+type Asked = (
+    Format,
+    u16,
+    u64,
+    &'static [&'static str],
+    &'static [&'static [u8]],
+);
+
+/// What is answered.
+enum Wanted {
+    /// That this file is no locator.
+    Bad(&'static str),
+    /// This on standard output and on standard error, and this status.
+    Reported(&'static str, &'static str, u8),
+}
+
+/// More than all of the tree costs.
+const MOST: u64 = 1_000_000;
+
+const LINES: &str = "origin AS65001 10.1.0.0/16-24\norigin AS65100 192.0.2.0/24\n\
+    aspa AS65001 AS65010 AS65011\n";
+
+const CSV: &str = "ASN,IP Prefix,Max Length,Trust Anchor,Expires\n\
+    AS65001,10.1.0.0/16,24,one,2082758400\nAS65100,192.0.2.0/24,24,one,2082758400\n";
+
+const JSON: &str = "{
+  \"metadata\": {
+    \"generated\": 1798761600,
+    \"generatedTime\": \"2027-01-01T00:00:00Z\",
+    \"buildtime\": \"2027-01-01T00:00:00Z\"
+  },
+  \"roas\": [
+    { \"asn\": \"AS65001\", \"prefix\": \"10.1.0.0/16\", \"maxLength\": 24, \
+    \"ta\": \"one\", \"expires\": 2082758400 },
+    { \"asn\": \"AS65100\", \"prefix\": \"192.0.2.0/24\", \"maxLength\": 24, \
+    \"ta\": \"one\", \"expires\": 2082758400 }
+  ],
+  \"aspas\": [
+    { \"customer\": \"AS65001\", \"providers\": [\"AS65010\", \"AS65011\"], \"ta\": \"one\" }
+  ]
+}
+";
+
+const NO_CSV: &str = "ASN,IP Prefix,Max Length,Trust Anchor,Expires\n";
+
+/// What is refused of the tree.
+const REFUSED: &str = "\
+    refused rsync://h/m/b/b.mft: manifest is not in the copy (under rsync://h/m/t/t.mft, one)\n\
+    refused rsync://h/m/t/x.roa: malformed (under rsync://h/m/t/t.mft, one)\n";
+
+static ROWS: [(Asked, Wanted); 17] = [
+    (
+        (Format::Lines, 2027, MOST, &["one.tal"], &[LOCATOR]),
+        Wanted::Reported(LINES, REFUSED, 0),
+    ),
+    (
+        (Format::Csv, 2027, MOST, &["tals/one.tal"], &[LOCATOR]),
+        Wanted::Reported(CSV, REFUSED, 0),
+    ),
+    (
+        (Format::Json, 2027, MOST, &["one.tal"], &[LOCATOR]),
+        Wanted::Reported(JSON, REFUSED, 0),
+    ),
+    // the point of the trust anchor is more than the limit; or it is not, and those below it are
+    (
+        (Format::Csv, 2027, 20_000, &["one.tal"], &[LOCATOR]),
+        Wanted::Reported(NO_CSV, "refused one: not read: limit reached\n", 1),
+    ),
+    (
+        (Format::Lines, 2027, 48_000, &["one.tal"], &[LOCATOR]),
+        Wanted::Reported(
+            "origin AS65100 192.0.2.0/24\n",
+            "refused rsync://h/m/t/t.mft: not read: 2 CAs, limit reached \
+             (under rsync://h/m/t/t.mft, one)\n\
+             refused rsync://h/m/t/x.roa: malformed (under rsync://h/m/t/t.mft, one)\n",
+            0,
+        ),
+    ),
+    (
+        (Format::Lines, 2027, MOST, &["two.tal"], &[LOCATOR]),
+        Wanted::Reported("", "refused two: no certificate with its key\n", 1),
+    ),
+    (
+        (Format::Lines, 2027, MOST, &["one.tal"], &[OTHER_KEY]),
+        Wanted::Reported("", "refused one: no certificate with its key\n", 1),
+    ),
+    (
+        (Format::Lines, 2027, MOST, &["large.tal"], &[LOCATOR]),
+        Wanted::Reported("", "refused large: its certificate is too large\n", 1),
+    ),
+    (
+        (
+            Format::Lines,
+            2027,
+            MOST,
+            &["x.tal", "one.tal"],
+            &[OTHER_URIS, LOCATOR],
+        ),
+        Wanted::Reported(
+            LINES,
+            "refused x: its certificate is not in the copy\n\
+             refused rsync://h/m/b/b.mft: manifest is not in the copy \
+             (under rsync://h/m/t/t.mft, one)\n\
+             refused rsync://h/m/t/x.roa: malformed (under rsync://h/m/t/t.mft, one)\n",
+            1,
+        ),
+    ),
+    (
+        (
+            Format::Csv,
+            2027,
+            MOST,
+            &["a.tal", "tals/b", "c"],
+            &[OTHER_URIS, OTHER_URIS, OTHER_URIS],
+        ),
+        Wanted::Reported(
+            NO_CSV,
+            "refused a: its certificate is not in the copy\n\
+             refused b: its certificate is not in the copy\n\
+             refused c: its certificate is not in the copy\n",
+            1,
+        ),
+    ),
+    // locators of one name have an answer each
+    (
+        (
+            Format::Csv,
+            2027,
+            MOST,
+            &["one.tal", "tals/one.tal"],
+            &[LOCATOR, LOCATOR],
+        ),
+        Wanted::Reported(
+            "ASN,IP Prefix,Max Length,Trust Anchor,Expires\n\
+             AS65001,10.1.0.0/16,24,one,2082758400\nAS65100,192.0.2.0/24,24,one,2082758400\n\
+             AS65001,10.1.0.0/16,24,one,2082758400\nAS65100,192.0.2.0/24,24,one,2082758400\n",
+            "refused rsync://h/m/b/b.mft: manifest is not in the copy \
+             (under rsync://h/m/t/t.mft, one)\n\
+             refused rsync://h/m/t/x.roa: malformed (under rsync://h/m/t/t.mft, one)\n\
+             refused rsync://h/m/b/b.mft: manifest is not in the copy \
+             (under rsync://h/m/t/t.mft, one)\n\
+             refused rsync://h/m/t/x.roa: malformed (under rsync://h/m/t/t.mft, one)\n",
+            0,
+        ),
+    ),
+    // before all is made, at the last moment of manifests and lists, and later
+    (
+        (Format::Lines, 2025, MOST, &["one.tal"], &[LOCATOR]),
+        Wanted::Reported(
+            "",
+            "refused one: its certificate is refused: certificate is not yet valid\n",
+            1,
+        ),
+    ),
+    (
+        (Format::Lines, 2036, MOST, &["one.tal"], &[LOCATOR]),
+        Wanted::Reported(LINES, REFUSED, 0),
+    ),
+    (
+        (Format::Lines, 2037, MOST, &["one.tal"], &[LOCATOR]),
+        Wanted::Reported(
+            "",
+            "refused one: manifest is stale: nextUpdate 2036-01-01T00:00:00Z\n",
+            1,
+        ),
+    ),
+    (
+        (Format::Lines, 2041, MOST, &["one.tal"], &[LOCATOR]),
+        Wanted::Reported(
+            "",
+            "refused one: its certificate is refused: certificate has expired\n",
+            1,
+        ),
+    ),
+    (
+        (
+            Format::Lines,
+            2027,
+            MOST,
+            &["one.tal", "tals/b.tal", "c"],
+            &[LOCATOR, b"none", b""],
+        ),
+        Wanted::Bad("tals/b.tal"),
+    ),
+    (
+        (Format::Lines, 2027, MOST, &["c"], &[b""]),
+        Wanted::Bad("c"),
+    ),
+];
+
+// The octets of files.
+fn octets_of(alloc: Global, files: &[&[u8]]) -> Result<Vec<Bytes>, AllocError> {
+    let mut octets = Vec::new(alloc);
+    for file in files {
+        octets.push(Bytes::copy_from_slice(alloc, file)?)?;
+    }
+    Ok(octets)
+}
+
+// Whether this is said. That memory ran out, also for a point, is handed on.
+fn is_said(said: (&str, &str, u8), wanted: (&str, &str, u8)) -> Result<bool, AllocError> {
+    if said.1.contains("out of memory") {
+        return Err(AllocError);
+    }
+    Ok(said == wanted)
+}
+
+// Whether this is answered.
+fn is_wanted(answer: &Answer<'_>, wanted: &Wanted) -> Result<bool, AllocError> {
+    match (answer, wanted) {
+        (Answer::OutOfMemory, _) => Err(AllocError),
+        (Answer::BadLocator(bad), Wanted::Bad(name)) => Ok(bad == name),
+        (Answer::Reported { out, err, status }, Wanted::Reported(lines, refused, wanted)) => {
+            is_said(
+                (out.as_str(), err.as_str(), *status),
+                (lines, refused, *wanted),
+            )
+        }
+        _ => Ok(false),
+    }
+}
+
+// What is answered over the tree.
+fn answer(alloc: Global, asked: &Asked, files: &[Bytes], moment: Time) -> Answer<'static> {
+    let names = asked.3;
+    if files.len() != names.len() {
+        return Answer::WrongWords;
+    }
+    let request = PayloadsRequest {
+        format: asked.0,
+        copy: Word("copy"),
+        moment,
+        providers: ProviderLimit::Narrow,
+        locators: Words(names),
+    };
+    let folders = Files { files: &FILES };
+    let party = FolderParty {
+        folders: &folders,
+        crypto: &StandIn,
+        limit: asked.2,
+    };
+    party.answer(alloc, &request, files)
+}
+
+fn is_answered(alloc: Global, asked: &Asked, wanted: &Wanted) -> Result<bool, AllocError> {
+    let files = octets_of(alloc, asked.4)?;
+    match Time::utc(asked.1, 1, 1, 0, 0, 0) {
+        None => Ok(false),
+        Some(moment) => is_wanted(&answer(alloc, asked, &files, moment), wanted),
+    }
+}
+
+// How many rows are answered before the first that is not, or all.
+fn answered(alloc: Global, rows: &[(Asked, Wanted)]) -> Result<usize, AllocError> {
+    for (place, (asked, wanted)) in rows.iter().enumerate() {
+        if !is_answered(alloc, asked, wanted)? {
+            return Ok(place);
+        }
+    }
+    Ok(rows.len())
+}
+
+#[test]
+fn locators_are_reported(rt: HostRuntime) -> Result<(), Fail> {
+    assert_eq!(rt; answered(rt.alloc(), &ROWS)?, ROWS.len());
+    Ok(())
+}
