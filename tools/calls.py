@@ -119,7 +119,7 @@ class Sources:
         while more:
             found |= more
             more = {name for name, body in bodies.items() if name not in found
-                    and re.search(r"(Error|Fault|Unread|Words)$|^No[A-Z]", name)
+                    and re.search(r"(Error|Fault|Unread|Words)$|^Not?[A-Z]", name)
                     and (re.search(r"^ *Memory\b", body, re.M) or found & set(TYPE.findall(body)))}
         return found
 

@@ -51,12 +51,15 @@ def arguments(signature):
 
 
 def opening_of(lines, number, indent):
-    """The line on which the body of a function begins, or None where it has none."""
+    """The line on which the body of a function begins, or None where it has none. A clause may have
+    lines that end in `;`, in a record."""
+    depth = 0
     for at in range(number, len(lines)):
         text = lines[at]
         if text == indent + "{" or re.match(rf"{indent}\).*\{{$", text) or at == number and text.endswith("{"):
             return at
-        if text.endswith((";", "{}")):
+        depth += text.count("{") - text.count("}")
+        if depth == 0 and text.endswith((";", "{}")):
             return None
     return None
 
