@@ -8,7 +8,7 @@ use Rattle.rpki_crls.specs.Crl.{RevocationList}
 use Rattle.rpki_certs.specs.Validate.{Validated}
 use Rattle.rpki_files.specs.Manifest.Uris.{UriAndHash}
 use Rattle.rpki_relying_party.specs.Costs.{ReadCosts, ReadStarts, ChildCosts, FileCosts}
-use Rattle.rpki_relying_party.specs.Costs.{FileStarts, LostCosts, FilesCost, FilesLost, FilesStart}
+use Rattle.rpki_relying_party.specs.Costs.{FileStarts, FilesCost, FilesLost, FilesStart}
 use Rattle.rpki_relying_party.specs.Costs.{found_cost, lookup_cost}
 use Rattle.rpki_relying_party.specs.Kind.{kind_of}
 use Rattle.rpki_relying_party.specs.Lacks.{WhyNoFiles, IsLostFile}
@@ -21,7 +21,7 @@ use Rattle.rpki_relying_party.specs.declared.cause.Stop.{Stop}
 use Rattle.rpki_relying_party.specs.declared.cause.Stop.TheVariants.{Room, Memory, Refused}
 use Rattle.rpki_relying_party.specs.declared.found.Finding.{Finding}
 use Rattle.rpki_relying_party.specs.declared.place.Place.{Place}
-use Rattle.rpki_relying_party.proofs.Outcomes.{none-spent, outcome-of-room, outcome-stops}
+use Rattle.rpki_relying_party.proofs.Outcomes.{none-spent, outcome-stops}
 use Rattle.rpki_relying_party.proofs.Outcomes.{outcome-then}
 use Rattle.rpki_relying_party.proofs.Putting.{nothing-put, put-as}
 

@@ -1,5 +1,5 @@
 -- The publication point of a place is read step by step.
-use Rattle.std.proofs.Common.{◌≡◌, ◌⊎◌, ◌<◌, ◌≤◌, ◌+◌, ◌-◌, inl, inr, ℕ, List, [], ◌∷◌, ◌++◌}
+use Rattle.std.proofs.Common.{◌≡◌, ◌<◌, ◌≤◌, ◌-◌, inl, inr, ℕ, List, [], ◌∷◌, ◌++◌}
 use Rattle.std.proofs.Common.{Result, Ok, Err, unwrap_or, refl, sym, subst, ap, ◌∙◌, arith}
 use Rattle.std.specs.Prelude.{IfOk}
 use Rattle.std.specs.declared.alloc.AllocError.{AllocError}
@@ -12,7 +12,6 @@ use Rattle.rpki_files.specs.Manifest.Uris.{UriAndHash, uris_of}
 use Rattle.rpki_relying_party.specs.Costs.{ReadCosts, ReadStarts, ListCosts, ListStarts, FilesCost}
 use Rattle.rpki_relying_party.specs.Costs.{FilesLost, FilesStart, ListedCosts, ListedStarts}
 use Rattle.rpki_relying_party.specs.Costs.{PointCosts, PointStarts, PlaceCosts, PlaceExceeds}
-use Rattle.rpki_relying_party.specs.Costs.{found_cost}
 use Rattle.rpki_relying_party.specs.Lacks.{WhyNoManifestOf, WhyNoList, WhyNoFiles, WhyNoPoint}
 use Rattle.rpki_relying_party.specs.Outcome.{Spends, IsOutcome, AppendsBoth}
 use Rattle.rpki_relying_party.specs.Point.{Point, IsManifestAt, IsListAt, PublishesIn}

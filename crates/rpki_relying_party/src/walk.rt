@@ -246,8 +246,8 @@ fn leave_all<P: Places>(
 /// All work together is at most `limit`. A place is first tried with room for an 8192nd part of it,
 /// and one. Each time that its reading is cut it waits again, and then has twice the room, though
 /// never more than is left. What is spent on such tries counts: for a place that is read in the end
-/// it is less than twice what reading it costs, and for one that is left for the limit less than
-/// three times. A place is left for it only where the whole limit is spent. One for which memory is
+/// it is at most twice what reading it exceeds, and for one that is left for the limit at most three
+/// times that. A place is left for it only where the whole limit is spent. One for which memory is
 /// wanting is left at once, and all its room counts as spent.
 ///
 /// A place that is told waits, even where its key was met before: it is passed over once a place

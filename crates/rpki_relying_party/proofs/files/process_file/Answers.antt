@@ -1,4 +1,4 @@
-use Rattle.std.proofs.Common.{◌≡◌, ℕ, Ok, sym, ◌∙◌, true≢false}
+use Rattle.std.proofs.Common.{◌≡◌, Ok, sym, ◌∙◌, true≢false}
 use Rattle.rpki_relying_party.specs.Costs.{FileCosts, found_cost}
 use Rattle.rpki_relying_party.specs.Outcome.{AppendsBoth}
 use Rattle.rpki_relying_party.specs.Passes.{setting}
