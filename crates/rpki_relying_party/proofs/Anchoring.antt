@@ -1,7 +1,7 @@
 -- The trust anchor of a locator is found, or there is none.
-use Rattle.std.proofs.Common.{◌≡◌, inl, inr, ℕ, ◌≤◌, List, [], ◌∷◌, ◌++◌, length, Ok, Err, Result}
-use Rattle.std.proofs.Common.{MatchResult, append_assoc, sym, subst, ap, ◌∙◌, All, Contains, Bool}
-use Rattle.std.proofs.Common.{true, false, IsTrue, true≢false}
+use Rattle.std.proofs.Common.{◌≡◌, ◌⊎◌, inl, inr, ℕ, ◌≤◌, List, [], ◌∷◌, ◌++◌, length, Ok, Err, Result}
+use Rattle.std.proofs.Common.{MatchResult, append_assoc, refl, sym, subst, ap, ◌∙◌, All, Contains}
+use Rattle.std.proofs.Common.{Bool, true, false, IsTrue, true≢false}
 use Rattle.std.specs.Prelude.{◌↔◌}
 use Rattle.std.proofs.lemmas.List.{append-nil}
 use Rattle.std.proofs.lemmas.List.Elements.{All-nil, All-push, Contains-append_right}
@@ -14,13 +14,15 @@ use Rattle.rpki_certs.specs.declared.issuer.IssuerError.{IssuerError}
 use Rattle.rpki_tal.specs.Tal.{Locator}
 use Rattle.rpki_tal.specs.Uri.{uri_text, https_first}
 use Rattle.rpki_tal.specs.declared.uri.TalUri.{TalUri}
-use Rattle.rpki_relying_party.specs.Anchors.{IsMissing, HasOther, LacksKeyAt}
+use Rattle.rpki_relying_party.specs.Anchors.{LacksFor, LacksFile, LackFiles, HasOther, LacksKeyAt}
 use Rattle.rpki_relying_party.specs.Anchors.{IsFirstWithKey, WhyNoKey, WhyNoAnchor, IsRefusalOf}
 use Rattle.rpki_relying_party.specs.Anchors.{most_uris}
 use Rattle.rpki_relying_party.specs.Setting.{Setting}
 use Rattle.rpki_relying_party.specs.declared.anchor.AnchorFault.{AnchorFault}
 use Rattle.rpki_relying_party.specs.declared.anchor.AnchorFault.TheVariants as anchors
 use Rattle.rpki_relying_party.specs.declared.copy.NoFile.{NoFile}
+use Rattle.rpki_relying_party.specs.declared.copy.NoFile.TheVariants.{Missing, NotRegular, TooLarge}
+use Rattle.rpki_relying_party.specs.declared.copy.NoFile.TheVariants.{Unreadable}
 use Rattle.rpki_relying_party.proofs.Lists.{contains-first}
 
 -- ---- the first with a key
@@ -31,18 +33,23 @@ pub record IsSought (P : TalUri → Type 0) (all left : List TalUri) : Type 0 wh
   pub splits : all ≡ before ++ left
   pub each : All P before
 
--- where none are left, each is such
+-- where none are left, those before are all, and each is such
+no-more : (P : TalUri → Type 0) (all left : List TalUri) → left ≡ [] → (h : IsSought P all left)
+    → all ≡ h.before
+no-more P all left e h =
+    h.splits ∙ (ap (λ (l : List TalUri). h.before ++ l) e ∙ append-nil h.before)
+
 sought-all : (P : TalUri → Type 0) (all left : List TalUri) → left ≡ [] → IsSought P all left
     → All P all
-sought-all P all left e h = subst (λ (l : List TalUri). All P l)
-    (sym (h.splits ∙ (ap (λ (l : List TalUri). h.before ++ l) e ∙ append-nil h.before))) h.each
+sought-all P all left e h =
+    subst (λ (l : List TalUri). All P l) (sym (no-more P all left e h)) h.each
 
 module _ (P : TalUri → Type 0) (all left rest : List TalUri) (u : TalUri) (e : left ≡ u ∷ rest)
     (h : IsSought P all left) where
   split-next : all ≡ h.before ++ u ∷ rest
   split-next = h.splits ∙ ap (λ (l : List TalUri). h.before ++ l) e
 
-  sought-next : P u → IsSought P all rest
+  abbrev sought-next : P u → IsSought P all rest
   sought-next p = record {
     before = h.before ++ u ∷ [];
     splits = split-next ∙ sym (append_assoc h.before (u ∷ []) rest);
@@ -54,49 +61,92 @@ module _ (P : TalUri → Type 0) (all left rest : List TalUri) (u : TalUri) (e :
   sought-among = subst (λ (l : List TalUri). Contains l u) (sym split-next)
       (Contains-append_right h.before (u ∷ rest) u (contains-first u rest))
 
--- What was looked at so far has no certificate with this key, and it is missing, or is not.
+-- whether a reason says more than that the copy has no file
+says-more : (why : NoFile) → (why ≡ Missing) ⊎ (¬ (why ≡ Missing))
+says-more Missing = inl refl
+says-more NotRegular = inr (λ e. cc)
+says-more TooLarge = inr (λ e. cc)
+says-more Unreadable = inr (λ e. cc)
+
+module _ (finds : List ℕ → Result (List ℕ) NoFile → Type 0) (seen : List TalUri) (u : TalUri)
+    (old why new : NoFile) (lacks : LacksFor finds why u) (first : old ≡ Missing → new ≡ why)
+    (later : ¬ (old ≡ Missing) → new ≡ old) where
+  first-reason : All (LacksFor finds Missing) seen → new ≡ why
+      → (why ≡ Missing) ⊎ (¬ (why ≡ Missing)) → LackFiles finds (seen ++ u ∷ []) new
+  first-reason all e (inl none) = inl (
+    e ∙ none,
+    All-push (LacksFor finds Missing) seen u all
+        (subst (λ (w : NoFile). LacksFor finds w u) none lacks),
+  )
+  first-reason all e (inr more) = inr (record {
+    before = seen;
+    uri = u;
+    after = [];
+    order = refl;
+    missing = all;
+    here = subst (λ (w : NoFile). LacksFor finds w u) (sym e) lacks;
+    says_more = λ m. more (sym e ∙ m);
+    others = All-nil (LacksFile finds);
+  })
+
+  -- no file is found for one more
+  lack-next : LackFiles finds seen old → LackFiles finds (seen ++ u ∷ []) new
+  lack-next (inl none) = first-reason (none.1) (first (none.0)) (says-more why)
+  lack-next (inr r) = subst (λ (w : NoFile). LackFiles finds (seen ++ u ∷ []) w)
+      (sym (later r.says_more)) (inr (record {
+        before = r.before;
+        uri = r.uri;
+        after = r.after ++ u ∷ [];
+        order = ap (λ (l : List TalUri). l ++ u ∷ []) r.order
+            ∙ append_assoc r.before (r.uri ∷ r.after) (u ∷ []);
+        missing = r.missing;
+        here = r.here;
+        says_more = r.says_more;
+        others = All-push (LacksFile finds) r.after u r.others (why, lacks);
+      }))
+
+-- What was looked at so far has no certificate with this key, and no file for this reason, or some.
 pub record IsSearched (finds : List ℕ → Result (List ℕ) NoFile → Type 0) (key : List ℕ)
-    (all left : List TalUri) (are_missing : Bool) : Type 0 where
+    (all left : List TalUri) (are_missing : Bool) (reason : NoFile) : Type 0 where
   pub others : IsSought (LacksKeyAt finds key) all left
-  pub missing : are_missing ≡ true → IsSought (IsMissing finds) all left
+  pub missing : are_missing ≡ true → LackFiles finds others.before reason
   pub there : are_missing ≡ false → (u : TalUri) × Contains all u × HasOther finds key u
 
 module _ (finds : List ℕ → Result (List ℕ) NoFile → Type 0) (key : List ℕ)
     (all left : List TalUri) where
-  none-sought : (P : TalUri → Type 0) → left ≡ all → IsSought P all left
-  none-sought P e = record { before = []; splits = sym e; each = All-nil P }
-
-  pub none-searched : left ≡ all → IsSearched finds key all left true
+  pub none-searched : left ≡ all → IsSearched finds key all left true Missing
   none-searched e = record {
-    others = none-sought (LacksKeyAt finds key) e;
-    missing = λ t. none-sought (IsMissing finds) e;
+    others = record { before = []; splits = sym e; each = All-nil (LacksKeyAt finds key) };
+    missing = λ t. inl (refl, All-nil (LacksFor finds Missing));
     there = λ f. absurd (true≢false f);
   }
 
-  module _ (are_missing : Bool) (h : IsSearched finds key all left are_missing) where
+  module _ (are_missing : Bool) (reason : NoFile)
+      (h : IsSearched finds key all left are_missing reason) where
     -- none are left
-    pub all-missing : left ≡ [] → are_missing ≡ true → WhyNoKey finds key all anchors.Missing
-    all-missing e t = sought-all (IsMissing finds) all left e (h.missing t)
+    pub all-missing : left ≡ [] → are_missing ≡ true
+        → WhyNoKey finds key all (anchors.NoFile reason)
+    all-missing e t = subst (λ (l : List TalUri). LackFiles finds l reason)
+        (sym (no-more (LacksKeyAt finds key) all left e h.others)) (h.missing t)
 
     pub all-other : left ≡ [] → are_missing ≡ false → WhyNoKey finds key all anchors.OtherKey
     all-other e f = (sought-all (LacksKeyAt finds key) all left e h.others, h.there f)
 
     module _ (rest : List TalUri) (u : TalUri) (e : left ≡ u ∷ rest)
         (found : Result (List ℕ) NoFile) (finds-it : finds (uri_text u) found) where
-      -- one more is missing
-      pub more-missing : (why : NoFile) → found ≡ Err why
-          → IsSearched finds key all rest are_missing
-      more-missing why is = record {
-        others = sought-next (LacksKeyAt finds key) all left rest u e h.others (inl none);
-        missing = λ t. sought-next (IsMissing finds) all left rest u e (h.missing t) none;
+      -- for one more there is no file
+      pub more-missing : (why : NoFile) → found ≡ Err why → (new : NoFile)
+          → (reason ≡ Missing → new ≡ why) → (¬ (reason ≡ Missing) → new ≡ reason)
+          → IsSearched finds key all rest are_missing new
+      more-missing why is new first later = record {
+        others = sought-next (LacksKeyAt finds key) all left rest u e h.others (inl (why, none));
+        missing = λ t. lack-next finds h.others.before u reason why new none first later
+            (h.missing t);
         there = h.there;
       }
         where
-          none : IsMissing finds u
-          none = (
-            why,
-            subst (λ (r : Result (List ℕ) NoFile). finds (uri_text u) r) is finds-it,
-          )
+          none : LacksFor finds why u
+          none = subst (λ (r : Result (List ℕ) NoFile). finds (uri_text u) r) is finds-it
 
       module _ (octets : List ℕ) (is : found ≡ Ok octets) where
         finds-octets : finds (uri_text u) (Ok octets)
@@ -104,7 +154,7 @@ module _ (finds : List ℕ → Result (List ℕ) NoFile → Type 0) (key : List 
 
         -- one more is there, and has no certificate with the key
         pub more-others : ¬ BeginsWithCert octets (λ c. c.tbs.key ≡ key)
-            → IsSearched finds key all rest false
+            → IsSearched finds key all rest false reason
         more-others other = record {
           others = sought-next (LacksKeyAt finds key) all left rest u e h.others
               (inr (octets, finds-octets, other));
@@ -170,7 +220,7 @@ module _ (s : Setting) (tal : Locator) (few : length tal.uris ≤ most_uris) whe
   pub lacks-key : (fault : AnchorFault) → WhyNoKey s.finds tal.key (https_first tal.uris) fault
       → WhyNoAnchor s tal fault
   lacks-key anchors.TooManyUris h = absurd h
-  lacks-key anchors.Missing h = (few, h)
+  lacks-key (anchors.NoFile why) h = (few, h)
   lacks-key anchors.OtherKey h = (few, h)
   lacks-key (anchors.Refused error) h = absurd h
   lacks-key anchors.Memory h = (few, h)

@@ -1,7 +1,7 @@
 -- Reads of folders.
 use Rattle.std.proofs.Common.{◌≡◌, ◌<◌, ◌↔◌, ◌∙◌, ℕ, List, [], ◌∷◌, ◌++◌, Bool, true, false, refl}
 use Rattle.std.proofs.Common.{sym, ap, subst, arith, length, get_or, IsTrue, Option, Some, None}
-use Rattle.std.proofs.Common.{◌⊎◌, option_map, min, Result, Ok, Err}
+use Rattle.std.proofs.Common.{◌⊎◌, option_map, min, Result, Err}
 use Rattle.std.proofs.Common.{inl, inr, append_assoc, codes}
 use Rattle.std.proofs.lemmas.Bool.{eqb-true, or_left, or_right}
 use Rattle.std.proofs.lemmas.List.{length-take, take_all}

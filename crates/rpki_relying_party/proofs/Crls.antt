@@ -16,7 +16,8 @@ use Rattle.rpki_certs.specs.Validate.{Validated}
 use Rattle.rpki_certs.specs.Verify.{Verdict}
 use Rattle.rpki_files.specs.Manifest.{Manifest}
 use Rattle.rpki_files.specs.Manifest.Uris.{UriAndHash, uris_of}
-use Rattle.rpki_relying_party.specs.Costs.{ListCosts, ReadCosts}
+use Rattle.rpki_relying_party.specs.Costs.{ReadCosts, ReadStarts, ListCosts, ListStarts}
+use Rattle.rpki_relying_party.specs.Costs.{found_cost}
 use Rattle.rpki_relying_party.specs.Lacks.{HasBadList, IsLostFile, WhyNoList, list_checks}
 use Rattle.rpki_relying_party.specs.Outcome.{Spends, IsOutcome}
 use Rattle.rpki_relying_party.specs.Point.{Has, IsListAt, IsListFile}
@@ -29,7 +30,7 @@ use Rattle.rpki_relying_party.specs.declared.cause.Stop.{Stop}
 use Rattle.rpki_relying_party.specs.declared.cause.Stop.TheVariants.{Memory, Refused}
 use Rattle.rpki_relying_party.specs.declared.list.List.{List as Found}
 use Rattle.rpki_relying_party.proofs.Lists.{nothing, contains-first, cons-cases}
-use Rattle.rpki_relying_party.proofs.Outcomes.{none-spent, spent-as, outcome-stops}
+use Rattle.rpki_relying_party.proofs.Outcomes.{none-spent, outcome-stops}
 
 -- ---- a URI among those of files
 
@@ -124,17 +125,24 @@ module _ (s : Setting) (ca : Validated) (folder : List ℕ) (signer : Certificat
 
   -- what comes of looking for the list
   abbrev IsLooked : ℕ → ℕ → Result Found Stop → Type 0
-  IsLooked old new r = IsOutcome (ListCosts s files)
-      (λ list. IsListAt s ca folder signer manifest list.uri list.crl.list)
-      (WhyNoList s ca folder signer manifest) old new r
+  IsLooked old new r = IsOutcome (ListStarts s folder signer manifest)
+      (λ list n. IsListAt s ca folder signer manifest list.uri list.crl.list
+      × ListCosts s folder signer manifest n)
+      (λ cause n. WhyNoList s ca folder signer manifest cause
+      × ListCosts s folder signer manifest n) old new r
+
+  -- no listed file is named
+  none-listed : (room : ℕ) → ((file : UriAndHash) → ¬ IsListFile folder signer manifest file)
+      → IsLooked room room (Err (Refused (causes.List faults.Unlisted)))
+  none-listed room none = none-spent (λ n. WhyNoList s ca folder signer manifest
+      (causes.List faults.Unlisted) × ListCosts s folder signer manifest n) room
+      (none, inl (none, refl))
 
   -- the certificate of the manifest names none
   pub unnamed : (room : ℕ) → signer.tbs.extensions.locations.crl ≡ None
       → IsLooked room room (Err (Refused (causes.List faults.Unlisted)))
-  unnamed room e = (
-    none-spent (ListCosts s files) room (inl refl),
-    λ file l. none-some signer.tbs.extensions.locations.crl (file.0) e l.named,
-  )
+  unnamed room e = none-listed room
+      (λ file l. none-some signer.tbs.extensions.locations.crl (file.0) e l.named)
 
   module _ (uri : List ℕ) (named : signer.tbs.extensions.locations.crl ≡ Some uri) where
     -- the hash of a file with its URI, if one is listed
@@ -145,11 +153,9 @@ module _ (s : Setting) (ca : Validated) (folder : List ℕ) (signer : Certificat
     -- it names one that is not listed
     pub unlisted : (room : ℕ) (found : Option (List ℕ)) → found ≡ None → IsHash found
         → IsLooked room room (Err (Refused (causes.List faults.Unlisted)))
-    unlisted room found e h = (
-      none-spent (ListCosts s files) room (inl refl),
-      λ file l. none (file.1) (subst (λ (u : List ℕ). Contains files (u, file.1))
-          (some-some signer.tbs.extensions.locations.crl (file.0) uri l.named named) l.listed),
-    )
+    unlisted room found e h = none-listed room
+        (λ file l. none (file.1) (subst (λ (u : List ℕ). Contains files (u, file.1))
+        (some-some signer.tbs.extensions.locations.crl (file.0) uri l.named named) l.listed))
       where
         none : (hash : List ℕ) → ¬ Contains files (uri, hash)
         none = subst (λ (o : Option (List ℕ)). IsHash o) e h
@@ -163,8 +169,8 @@ module _ (s : Setting) (ca : Validated) (folder : List ℕ) (signer : Certificat
       file : IsListFile folder signer manifest (uri, hash)
       file = record { named = named; listed = listed }
 
-      costs : (n : ℕ) → ReadCosts s uri n → ListCosts s files n
-      costs n c = inr ((uri, hash), listed, c)
+      costs : (n : ℕ) → ReadCosts s uri n → ListCosts s folder signer manifest n
+      costs n c = inr ((uri, hash), file, c)
 
       why : (cause : Cause) → IsLostFile s (uri, hash) cause
           → WhyNoList s ca folder signer manifest cause
@@ -178,81 +184,95 @@ module _ (s : Setting) (ca : Validated) (folder : List ℕ) (signer : Certificat
       why causes.Memory h = absurd h
 
       -- the copy has not the file
-      pub lost : (stop : Stop)
-          → IsOutcome {T = List ℕ} (ReadCosts s uri) (Has s (uri, hash)) (IsLostFile s (uri, hash))
-          old new (Err stop) → IsLooked old new (Err stop)
-      lost stop h = outcome-stops (ListCosts s files) costs old new why (Has s (uri, hash))
-          (λ (list : Found). IsListAt s ca folder signer manifest list.uri list.crl.list) stop h
+      pub lost : (stop : Stop) → IsOutcome {T = List ℕ} (ReadStarts s uri)
+          (λ octets n. Has s (uri, hash) octets × (n ≡ found_cost (Ok octets)))
+          (λ cause n. IsLostFile s (uri, hash) cause × ReadCosts s uri n) old new (Err stop)
+          → IsLooked old new (Err stop)
+      lost stop h = outcome-stops {A = ReadStarts s uri} (ListStarts s folder signer manifest)
+          (λ n c. ((uri, hash), file, c))
+          {V = λ cause n. IsLostFile s (uri, hash) cause × ReadCosts s uri n}
+          {W = λ cause n. WhyNoList s ca folder signer manifest cause
+          × ListCosts s folder signer manifest n}
+          (λ cause n w. (why cause (w.0), costs n (w.1))) old new
+          (λ octets n. Has s (uri, hash) octets × (n ≡ found_cost (Ok octets)))
+          (λ (list : Found) n. IsListAt s ca folder signer manifest list.uri list.crl.list
+          × ListCosts s folder signer manifest n) stop h
 
-      module _ (spends : Spends (ReadCosts s uri) old new) (octets : List ℕ)
-          (has : Has s (uri, hash) octets) where
-        spent : Spends (ListCosts s files) old new
-        spent = spent-as (ListCosts s files) costs old new spends
+      module _ (octets : List ℕ)
+          (spends : Spends (λ n. Has s (uri, hash) octets × (n ≡ found_cost (Ok octets))) old new)
+        where
+          has : Has s (uri, hash) octets
+          has = spends.1.0
 
-        -- it is none
-        pub malformed : (stop : Stop)
-            → (stop ≡ Memory) ⊎ ((stop ≡ Refused (causes.List faults.Malformed))
-            × HasNoFront (CrlForm Der) octets) → IsLooked old new (Err stop)
-        malformed stop (inl e) = subst (λ (x : Stop). IsLooked old new (Err x)) (sym e) tt
-        malformed stop (inr e) = subst (λ (x : Stop). IsLooked old new (Err x)) (sym (e.0))
-            (spent, ((uri, hash), octets, file, has, e.1))
-
-        module _ (crl : KeptCrl) (rest : List ℕ)
-            (front : IsOnlyFront (CrlForm Der) octets crl.list rest) where
-          -- it is none of the CA, or it revokes the certificate of the manifest
-          pub bad : (fault : ListFault)
-              → IsFirstFault (list_checks s.verdict s.now ca signer crl.list) fault
-              → IsLooked old new (Err (Refused (causes.List fault)))
-          bad fault h = (
-            spent,
-            elim (fault-of s.verdict s.now ca signer crl.list fault h) [
-              | inl e ↦ to faults.OtherKey e (has-bad faults.OtherKey e)
-              | inr a ↦ elim a [
-                | inl e ↦ to faults.BadSignature e (has-bad faults.BadSignature e)
-                | inr b ↦ elim b [
-                  | inl e ↦ to (faults.NotYet crl.list.tbs.this_update) e
-                      (has-bad (faults.NotYet crl.list.tbs.this_update) e)
-                  | inr c ↦ elim c [
-                    | inl e ↦ to (faults.Stale crl.list.tbs.next_update) e
-                        (has-bad (faults.Stale crl.list.tbs.next_update) e)
-                    | inr e ↦ to faults.RevokesManifest e (has-bad faults.RevokesManifest e)
-                  ]
-                ]
-              ]
-            ],
+          -- what was found out, and what was spent then
+          spent : {Y : Type 0} → Y → Spends (λ n. Y × ListCosts s folder signer manifest n) old new
+          spent y = (
+            spends.0,
+            (y, costs (spends.0) (Ok octets, spends.1.0.0, spends.1.1)),
+            spends.2,
           )
-            where
-              to : (x : ListFault) → fault ≡ x
-                  → WhyNoList s ca folder signer manifest (causes.List x)
-                  → WhyNoList s ca folder signer manifest (causes.List fault)
-              to x e w = subst
-                  (λ (y : ListFault). WhyNoList s ca folder signer manifest (causes.List y))
-                  (sym e) w
 
-              has-bad : (x : ListFault) → fault ≡ x
-                  → (f : UriAndHash) × (o : List ℕ) × IsListFile folder signer manifest f
-                  × Has s f o × HasBadList s ca signer o x
-              has-bad x e = (
-                (uri, hash),
-                octets,
-                file,
-                has,
-                (
-                  crl.list,
-                  rest,
-                  front,
-                  subst (λ (y : ListFault). IsFirstFault
-                      (list_checks s.verdict s.now ca signer crl.list) y) e h,
-                ),
-              )
+          -- it is none
+          pub malformed : (stop : Stop)
+              → (stop ≡ Memory) ⊎ ((stop ≡ Refused (causes.List faults.Malformed))
+              × HasNoFront (CrlForm Der) octets) → IsLooked old new (Err stop)
+          malformed stop (inl e) = subst (λ (x : Stop). IsLooked old new (Err x)) (sym e) tt
+          malformed stop (inr e) = subst (λ (x : Stop). IsLooked old new (Err x)) (sym (e.0))
+              (spent ((uri, hash), octets, file, has, e.1))
 
-          -- it is the list
-          pub is-list : AllHold (list_checks s.verdict s.now ca signer crl.list)
-              → (at : List ℕ) → at ≡ uri → IsLooked old new (Ok (record { uri = at; crl = crl }))
-          is-list h at same = (
-            spent,
-            subst (λ (u : List ℕ). IsListAt s ca folder signer manifest
-                u crl.list) (sym same) (record {
+          module _ (crl : KeptCrl) (rest : List ℕ)
+              (front : IsOnlyFront (CrlForm Der) octets crl.list rest) where
+            -- it is none of the CA, or it revokes the certificate of the manifest
+            pub bad : (fault : ListFault)
+                → IsFirstFault (list_checks s.verdict s.now ca signer crl.list) fault
+                → IsLooked old new (Err (Refused (causes.List fault)))
+            bad fault h = spent {Y = WhyNoList s ca folder signer manifest (causes.List fault)}
+                (elim (fault-of s.verdict s.now ca signer crl.list fault h) [
+                  | inl e ↦ to faults.OtherKey e (has-bad faults.OtherKey e)
+                  | inr a ↦ elim a [
+                    | inl e ↦ to faults.BadSignature e (has-bad faults.BadSignature e)
+                    | inr b ↦ elim b [
+                      | inl e ↦ to (faults.NotYet crl.list.tbs.this_update) e
+                          (has-bad (faults.NotYet crl.list.tbs.this_update) e)
+                      | inr c ↦ elim c [
+                        | inl e ↦ to (faults.Stale crl.list.tbs.next_update) e
+                            (has-bad (faults.Stale crl.list.tbs.next_update) e)
+                        | inr e ↦ to faults.RevokesManifest e (has-bad faults.RevokesManifest e)
+                      ]
+                    ]
+                  ]
+                ])
+              where
+                to : (x : ListFault) → fault ≡ x
+                    → WhyNoList s ca folder signer manifest (causes.List x)
+                    → WhyNoList s ca folder signer manifest (causes.List fault)
+                to x e w = subst
+                    (λ (y : ListFault). WhyNoList s ca folder signer manifest (causes.List y))
+                    (sym e) w
+
+                has-bad : (x : ListFault) → fault ≡ x
+                    → (f : UriAndHash) × (o : List ℕ) × IsListFile folder signer manifest f
+                    × Has s f o × HasBadList s ca signer o x
+                has-bad x e = (
+                  (uri, hash),
+                  octets,
+                  file,
+                  has,
+                  (
+                    crl.list,
+                    rest,
+                    front,
+                    subst (λ (y : ListFault). IsFirstFault
+                        (list_checks s.verdict s.now ca signer crl.list) y) e h,
+                  ),
+                )
+
+            -- it is the list
+            pub is-list : AllHold (list_checks s.verdict s.now ca signer crl.list)
+                → (at : List ℕ) → at ≡ uri → IsLooked old new (Ok (record { uri = at; crl = crl }))
+            is-list h at same = spent {Y = IsListAt s ca folder signer manifest at crl.list}
+                (subst (λ (u : List ℕ). IsListAt s ca folder signer manifest u crl.list)
+                (sym same) (record {
                   hash = hash;
                   file = file;
                   octets = octets;
@@ -265,5 +285,4 @@ module _ (s : Setting) (ca : Validated) (folder : List ℕ) (signer : Certificat
                     current = (h.1.1.0, h.1.1.1.0);
                   };
                   unrevoked = h.1.1.1.1.0;
-                }),
-          )
+                }))

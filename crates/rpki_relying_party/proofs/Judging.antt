@@ -1,5 +1,5 @@
 -- What a file tells by its kind.
-use Rattle.std.proofs.Common.{◌≡◌, ◌⊎◌, ◌≤◌, inl, inr, ℕ, List, [], ◌∷◌, ◌++◌}
+use Rattle.std.proofs.Common.{◌≡◌, ◌⊎◌, inl, inr, ℕ, List, [], ◌∷◌, ◌++◌}
 use Rattle.std.proofs.Common.{Result, Ok, Err, refl, sym, subst, ap, ◌∙◌}
 use Rattle.std.proofs.lemmas.List.{append-nil}
 use Rattle.rpki_der.specs.declared.mode.Mode.TheVariants.{Der}
@@ -16,8 +16,9 @@ use Rattle.rpki_routes.specs.Roa.Form.{RoaForm}
 use Rattle.rpki_routes.specs.Roa.Checks.{roa_kind}
 use Rattle.rpki_signed.specs.Exact.{IsExact}
 use Rattle.rpki_relying_party.specs.Costs.{ChildCosts, waiting_cost}
+use Rattle.rpki_relying_party.specs.Kind.{kind_of}
 use Rattle.rpki_relying_party.specs.Memory.{IsIssuerMemory}
-use Rattle.rpki_relying_party.specs.Outcome.{IsOutcome, AppendsBoth}
+use Rattle.rpki_relying_party.specs.Outcome.{Spends, IsOutcome, AppendsBoth}
 use Rattle.rpki_relying_party.specs.Setting.{Setting}
 use Rattle.rpki_relying_party.specs.Tells.{NamesPrefixesAlone, HasEntity, RoaTells, AspaTells}
 use Rattle.rpki_relying_party.specs.Tells.{CaTells, KindTells, earlier, refusal}
@@ -27,10 +28,12 @@ use Rattle.rpki_relying_party.specs.Under.{SaysOf, IsCaUnder}
 use Rattle.rpki_relying_party.specs.declared.cause.Cause.TheVariants as causes
 use Rattle.rpki_relying_party.specs.declared.cause.Stop.{Stop}
 use Rattle.rpki_relying_party.specs.declared.kind.ListedKind.{ListedKind}
+use Rattle.rpki_relying_party.specs.declared.kind.ListedKind.TheVariants as kinds
 use Rattle.rpki_relying_party.specs.declared.found.Finding.{Finding}
 use Rattle.rpki_relying_party.specs.declared.place.Place.{Place}
 use Rattle.rpki_relying_party.proofs.Certificates.{has-ca, has-no-ca}
 use Rattle.rpki_relying_party.proofs.Objects.{has-content}
+use Rattle.rpki_relying_party.proofs.Outcomes.{none-spent}
 use Rattle.rpki_relying_party.proofs.Putting.{first-put}
 
 -- until when a certificate holds, and what is above it
@@ -89,16 +92,29 @@ module _ (s : Setting) (ca : Validated) (list : RevocationList) (until : Moment)
   child-told v h r = inl (v, has-ca s ca list octets v h r, refl, refl)
 
   -- and what is spent on it
-  pub child-cost : s.finds uri (Ok octets) → (v : Validated)
-      → IsCaUnder s.verdict s.now ca list octets (Ok v) → (n : ℕ) → n ≤ waiting_cost v
-      → ChildCosts s ca uri n
-  child-cost f v h n l = inr (
-    octets,
-    v,
-    f,
-    record { cert = h.cert; rest = h.rest; front = h.front; holds = h.holds.1 },
-    l,
-  )
+  pub child-cost : kind_of uri ≡ kinds.Ca → (v : Validated)
+      → IsCaUnder s.verdict s.now ca list octets (Ok v) → IsResourceCert v
+      → ChildCosts s ca list uri octets (waiting_cost v)
+  child-cost k v h r = inl (v, (k, has-ca s ca list octets v h r), refl)
+
+  -- nothing is spent where there is none
+  pub none-cost : (error : IssuerError) → IsCaUnder s.verdict s.now ca list octets (Err error)
+      → (¬ IsIssuerMemory error) → ChildCosts s ca list uri octets 0
+  none-cost error h m = inr (λ v w. has-no-ca s ca list octets error h m v (w.1), refl)
+
+  -- nor where none is looked for
+  pub told-free : (kind : ListedKind) → kind ≡ kind_of uri → ¬ (kind ≡ kinds.Ca)
+      → (said said2 : List Finding) (children children2 : List Place)
+      → AppendsBoth (KindTells s ca list until under uri octets kind) said said2 children children2
+      → (room : ℕ) → Spends (λ n. AppendsBoth (KindTells s ca list until under uri octets
+      (kind_of uri)) said said2 children children2 × ChildCosts s ca list uri octets n) room room
+  told-free kind e n said said2 children children2 t room =
+      none-spent (λ m. AppendsBoth (KindTells s ca list until under uri octets (kind_of uri)) said
+      said2 children children2 × ChildCosts s ca list uri octets m) room (
+        subst (λ (k : ListedKind). AppendsBoth (KindTells s ca list until under uri octets k) said
+            said2 children children2) e t,
+        inr (λ v w. n (e ∙ w.0), refl),
+      )
 
   -- no child: an end entity, or a refusal
   pub none-told : (error : IssuerError) → IsCaUnder s.verdict s.now ca list octets (Err error)
@@ -118,10 +134,23 @@ module _ (s : Setting) (ca : Validated) (list : RevocationList) (until : Moment)
   -- what comes of a file by its kind, under another name of it
   pub judged-as : (kind kind2 : ListedKind) → kind ≡ kind2 → (said said2 : List Finding)
       (children children2 : List Place) (old new : ℕ) (r : Result (Unit {0}) Stop)
-      → IsOutcome (ChildCosts s ca uri) (λ _. AppendsBoth (KindTells s ca list until under uri
-      octets kind) said said2 children children2) (λ cause. ⊥) old new r
-      → IsOutcome (ChildCosts s ca uri) (λ _. AppendsBoth (KindTells s ca list until under uri
-      octets kind2) said said2 children children2) (λ cause. ⊥) old new r
+      → IsOutcome (ChildCosts s ca list uri octets) (λ _ n. AppendsBoth (KindTells s ca list until
+      under uri octets kind) said said2 children children2 × ChildCosts s ca list uri octets n)
+      (λ cause n. ⊥) old new r
+      → IsOutcome (ChildCosts s ca list uri octets) (λ _ n. AppendsBoth (KindTells s ca list until
+      under uri octets kind2) said said2 children children2 × ChildCosts s ca list uri octets n)
+      (λ cause n. ⊥) old new r
   judged-as kind kind2 e said said2 children children2 old new r h =
-      subst (λ (k : ListedKind). IsOutcome (ChildCosts s ca uri) (λ _. AppendsBoth (KindTells s
-      ca list until under uri octets k) said said2 children children2) (λ cause. ⊥) old new r) e h
+      subst (λ (k : ListedKind). IsOutcome (ChildCosts s ca list uri octets)
+      (λ _ n. AppendsBoth (KindTells s ca list until under uri octets k) said said2 children
+      children2 × ChildCosts s ca list uri octets n) (λ cause n. ⊥) old new r) e h
+
+-- no other kind is that of a certificate
+pub roa-no-ca : ¬ (kinds.Roa ≡ kinds.Ca)
+roa-no-ca e = cc
+
+pub aspa-no-ca : ¬ (kinds.Aspa ≡ kinds.Ca)
+aspa-no-ca e = cc
+
+pub other-no-ca : ¬ (kinds.Other ≡ kinds.Ca)
+other-no-ca e = cc

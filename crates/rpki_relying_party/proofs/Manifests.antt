@@ -12,7 +12,7 @@ use Rattle.rpki_files.specs.Manifest.Uris.{uris_of}
 use Rattle.rpki_signed.specs.Check.{Checks}
 use Rattle.rpki_signed.specs.Exact.{IsExact}
 use Rattle.rpki_signed.specs.declared.check.CheckError.{CheckError}
-use Rattle.rpki_relying_party.specs.Costs.{ReadCosts}
+use Rattle.rpki_relying_party.specs.Costs.{ReadCosts, ReadStarts, found_cost}
 use Rattle.rpki_relying_party.specs.Lacks.{IsFirstRepeated, WhyNoManifest, WhyNoManifestOf}
 use Rattle.rpki_relying_party.specs.Lacks.{manifest_checks}
 use Rattle.rpki_relying_party.specs.Memory.{IsCheckMemory}
@@ -26,6 +26,7 @@ use Rattle.rpki_relying_party.specs.declared.cause.Stop.{Stop}
 use Rattle.rpki_relying_party.specs.declared.cause.Stop.TheVariants.{Memory, Refused}
 use Rattle.rpki_relying_party.specs.declared.copy.NoFile.{NoFile}
 use Rattle.rpki_relying_party.specs.declared.manifest.Manifest.{Manifest as Checked}
+use Rattle.rpki_relying_party.proofs.Outcomes.{outcome-stops}
 
 -- the fault of a manifest that is not current
 fault-of : (now : Moment) (manifest : Manifest) (fault : ManifestFault)
@@ -40,16 +41,35 @@ fault-of now manifest fault (inl k) = elim (k.1) [
 module _ (s : Setting) (ca : Validated) (folder uri : List ℕ) (old new : ℕ) where
   -- what comes of looking for it
   abbrev pub IsLooked : Result Checked Stop → Type 0
-  IsLooked r = IsOutcome (ReadCosts s uri)
-      (λ m. IsManifestAt s ca folder uri m.signer.cert.certificate m.content)
-      (WhyNoManifestOf s ca folder uri) old new r
+  IsLooked r = IsOutcome (ReadStarts s uri)
+      (λ m n. IsManifestAt s ca folder uri m.signer.cert.certificate m.content
+      × ReadCosts s uri n)
+      (λ cause n. WhyNoManifestOf s ca folder uri cause × ReadCosts s uri n) old new r
 
-  module _ (spends : Spends (ReadCosts s uri) old new) where
-    pub no-manifest : (why : NoFile) → s.finds uri (Err why)
+  -- the first step stops
+  pub unread : {T : Type 0} (Yes : T → ℕ → Type 0) (stop : Stop)
+      → IsOutcome (ReadStarts s uri) Yes (λ cause n. ⊥) old new (Err stop) → IsLooked (Err stop)
+  unread Yes stop h = outcome-stops {A = ReadStarts s uri} (ReadStarts s uri) (λ n c. c)
+      {V = λ cause n. ⊥} {W = λ cause n. WhyNoManifestOf s ca folder uri cause
+      × ReadCosts s uri n} (λ cause n w. absurd w) old new Yes
+      (λ (m : Checked) n. IsManifestAt s ca folder uri m.signer.cert.certificate m.content
+      × ReadCosts s uri n) stop h
+
+  module _ (found : Result (List ℕ) NoFile)
+      (spends : Spends (λ n. s.finds uri found × (n ≡ found_cost found)) old new) where
+    -- what was found out, and what was spent then
+    spent : {Y : Type 0} → Y → Spends (λ n. Y × ReadCosts s uri n) old new
+    spent y = (spends.0, (y, (found, spends.1.0, spends.1.1)), spends.2)
+
+    pub no-manifest : (why : NoFile) → found ≡ Err why
         → IsLooked (Err (Refused (causes.Manifest (faults.NoFile why))))
-    no-manifest why f = (spends, f)
+    no-manifest why e =
+        spent (subst (λ (r : Result (List ℕ) NoFile). s.finds uri r) e (spends.1.0))
 
-    module _ (octets : List ℕ) (f : s.finds uri (Ok octets)) where
+    module _ (octets : List ℕ) (is : found ≡ Ok octets) where
+      f : s.finds uri (Ok octets)
+      f = subst (λ (r : Result (List ℕ) NoFile). s.finds uri r) is (spends.1.0)
+
       -- what is there is refused
       pub refused : (error : CheckError)
           → Checks manifest_kind (ManifestForm Any Der) Der s.digest s.verdict ca s.now
@@ -58,7 +78,7 @@ module _ (s : Setting) (ca : Validated) (folder uri : List ℕ) (old new : ℕ) 
           × (stop ≡ Refused (causes.Manifest (faults.Refused error)))) → IsLooked (Err stop)
       refused error h stop (inl e) = subst (λ (x : Stop). IsLooked (Err x)) (sym (e.1)) tt
       refused error h stop (inr e) = subst (λ (x : Stop). IsLooked (Err x)) (sym (e.1))
-          (spends, (octets, f, (h, e.0)))
+          (spent (octets, f, (h, e.0)))
 
       -- what is there is good
       module _ (checked : Validated × Manifest)
@@ -83,27 +103,25 @@ module _ (s : Setting) (ca : Validated) (folder uri : List ℕ) (old new : ℕ) 
         pub outdated : (fault : ManifestFault)
             → IsFirstFault (manifest_checks s.now (checked.1)) fault
             → IsLooked (Err (Refused (causes.Manifest fault)))
-        outdated fault k = (
-          spends,
-          elim (fault-of s.now (checked.1) fault k) [
-            | inl e ↦ lacks (faults.NotYet checked.1.this_update) e (
-              octets,
-              checked.0.cert.certificate,
-              checked.1,
-              f,
-              good,
-              first (faults.NotYet checked.1.this_update) e,
-            )
-            | inr e ↦ lacks (faults.Stale checked.1.next_update) e (
-              octets,
-              checked.0.cert.certificate,
-              checked.1,
-              f,
-              good,
-              first (faults.Stale checked.1.next_update) e,
-            )
-          ],
-        )
+        outdated fault k = spent {Y = WhyNoManifest s ca folder uri fault}
+            (elim (fault-of s.now (checked.1) fault k) [
+              | inl e ↦ lacks (faults.NotYet checked.1.this_update) e (
+                octets,
+                checked.0.cert.certificate,
+                checked.1,
+                f,
+                good,
+                first (faults.NotYet checked.1.this_update) e,
+              )
+              | inr e ↦ lacks (faults.Stale checked.1.next_update) e (
+                octets,
+                checked.0.cert.certificate,
+                checked.1,
+                f,
+                good,
+                first (faults.Stale checked.1.next_update) e,
+              )
+            ])
           where
             lacks : (x : ManifestFault) → fault ≡ x → WhyNoManifest s ca folder uri x
                 → WhyNoManifest s ca folder uri fault
@@ -121,29 +139,23 @@ module _ (s : Setting) (ca : Validated) (folder uri : List ℕ) (old new : ℕ) 
           pub repeats : (twice : List ℕ)
               → IsFirstRepeated (uris_of folder checked.1.files) twice
               → IsLooked (Err (Refused (causes.Manifest (faults.Twice twice))))
-          repeats twice r = (
-            spends,
-            (
-              octets,
-              checked.0.cert.certificate,
-              checked.1,
-              f,
-              good,
-              current.0,
-              current.1.0,
-              r,
-            ),
+          repeats twice r = spent (
+            octets,
+            checked.0.cert.certificate,
+            checked.1,
+            f,
+            good,
+            current.0,
+            current.1.0,
+            r,
           )
 
           pub is-manifest : AreOnce (uris_of folder checked.1.files)
               → IsLooked (Ok (record { signer = checked.0; content = checked.1 }))
-          is-manifest once = (
-            spends,
-            record {
-              octets = octets;
-              found = f;
-              good = good;
-              current = (current.0, current.1.0);
-              once = once;
-            },
-          )
+          is-manifest once = spent (record {
+            octets = octets;
+            found = f;
+            good = good;
+            current = (current.0, current.1.0);
+            once = once;
+          })

@@ -1,6 +1,6 @@
 -- The trust anchor of a locator (RFC 8630), or why there is none.
-use Rattle.std.specs.Prelude.{◌≡◌, ◌⊎◌, ◌≤◌, ◌<◌, ℕ, List, ◌∷◌, ◌++◌, length, Result, Ok, Err}
-use Rattle.std.specs.Prelude.{All, Contains, codes}
+use Rattle.std.specs.Prelude.{◌≡◌, ◌≢◌, ◌⊎◌, ◌≤◌, ◌<◌, ℕ, List, ◌∷◌, ◌++◌, length, Result, Ok}
+use Rattle.std.specs.Prelude.{Err, All, Contains, codes}
 use Rattle.rpki_faults.specs.Checks.{AllHold}
 use Rattle.rpki_faults.specs.Text.Validation.{validation_text}
 use Rattle.rpki_certs.specs.Issuer.{BeginsWithCert, IsAnchored, in_der}
@@ -12,9 +12,11 @@ use Rattle.rpki_tal.specs.Uri.{uri_text, https_first}
 use Rattle.rpki_tal.specs.declared.uri.TalUri.{TalUri}
 use Rattle.rpki_relying_party.specs.Memory.{IsIssuerMemory}
 use Rattle.rpki_relying_party.specs.Setting.{Setting}
+use Rattle.rpki_relying_party.specs.Texts.{no_file_text}
 use Rattle.rpki_relying_party.specs.declared.anchor.AnchorFault.{AnchorFault}
 use Rattle.rpki_relying_party.specs.declared.anchor.AnchorFault.TheVariants as anchors
 use Rattle.rpki_relying_party.specs.declared.copy.NoFile.{NoFile}
+use Rattle.rpki_relying_party.specs.declared.copy.NoFile.TheVariants.{Missing}
 
 -- A locator has at most so many URIs, which is this project's own rule.
 abbrev pub most_uris : ℕ
@@ -22,9 +24,13 @@ most_uris = 64
 
 -- ---- what is found for a URI; a read of another one, or again of the same, may find anything else
 
+-- No file is found for the URI, for this reason.
+abbrev pub LacksFor : (List ℕ → Result (List ℕ) NoFile → Type 0) → NoFile → TalUri → Type 0
+LacksFor finds why uri = finds (uri_text uri) (Err why)
+
 -- No file is found for the URI.
-abbrev pub IsMissing : (List ℕ → Result (List ℕ) NoFile → Type 0) → TalUri → Type 0
-IsMissing finds uri = (why : NoFile) × finds (uri_text uri) (Err why)
+abbrev pub LacksFile : (List ℕ → Result (List ℕ) NoFile → Type 0) → TalUri → Type 0
+LacksFile finds uri = (why : NoFile) × LacksFor finds why uri
 
 -- These octets are found for the URI, and begin with a certificate that has this key.
 abbrev pub HasKeyAt : (List ℕ → Result (List ℕ) NoFile → Type 0) → List ℕ → TalUri → List ℕ
@@ -40,7 +46,7 @@ HasOther finds key uri =
 
 -- No file is found for the URI, or one that begins with no such certificate.
 abbrev pub LacksKeyAt : (List ℕ → Result (List ℕ) NoFile → Type 0) → List ℕ → TalUri → Type 0
-LacksKeyAt finds key uri = IsMissing finds uri ⊎ HasOther finds key uri
+LacksKeyAt finds key uri = LacksFile finds uri ⊎ HasOther finds key uri
 
 -- ---- one URI after the other
 
@@ -55,12 +61,31 @@ pub record IsFirstWithKey (finds : List ℕ → Result (List ℕ) NoFile → Typ
   pub others : All (LacksKeyAt finds key) before
   pub here : HasKeyAt finds key uri octets
 
+-- No file is found for any of these URIs, and this is the first reason that says more than that the
+-- copy has none.
+pub record IsFirstReason (finds : List ℕ → Result (List ℕ) NoFile → Type 0) (uris : List TalUri)
+    (why : NoFile) : Type 0 where
+  pub before : List TalUri
+  pub uri : TalUri
+  pub after : List TalUri
+  pub order : uris ≡ before ++ uri ∷ after
+  pub missing : All (LacksFor finds Missing) before
+  pub here : LacksFor finds why uri
+  pub says_more : why ≢ Missing
+  pub others : All (LacksFile finds) after
+
+-- No file is found for any of these URIs: the copy has none for any, or there is a first reason
+-- that says more.
+abbrev pub LackFiles : (List ℕ → Result (List ℕ) NoFile → Type 0) → List TalUri → NoFile → Type 0
+LackFiles finds uris why =
+    ((why ≡ Missing) × All (LacksFor finds Missing) uris) ⊎ IsFirstReason finds uris why
+
 -- Why no certificate with this key is found for any of these URIs: no file is found for any; or it
 -- is for some, but for none one with the key.
 abbrev pub WhyNoKey : (List ℕ → Result (List ℕ) NoFile → Type 0) → List ℕ → List TalUri
     → AnchorFault → Type 0
 WhyNoKey finds key uris anchors.TooManyUris = ⊥
-WhyNoKey finds key uris anchors.Missing = All (IsMissing finds) uris
+WhyNoKey finds key uris (anchors.NoFile why) = LackFiles finds uris why
 WhyNoKey finds key uris anchors.OtherKey =
     All (LacksKeyAt finds key) uris
     × ((uri : TalUri) × Contains uris uri × HasOther finds key uri)
@@ -100,7 +125,7 @@ IsRefusalOf error fault =
 -- Why a locator has no trust anchor, in words. Which fault a decoder meets first is left open.
 abbrev pub anchor_fault_text : AnchorFault → List ℕ
 anchor_fault_text anchors.TooManyUris = codes "more than 64 URIs"
-anchor_fault_text anchors.Missing = codes "not in the copy"
+anchor_fault_text (anchors.NoFile why) = codes "its certificate " ++ no_file_text why
 anchor_fault_text anchors.OtherKey = codes "no certificate with its key"
 anchor_fault_text (anchors.Refused (issuers.Decode error)) =
     codes "its certificate is refused: malformed"

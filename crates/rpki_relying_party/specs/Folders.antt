@@ -1,5 +1,5 @@
 -- What reads of a folder may find, as a copy of the repositories: octets, or why there is no file.
-use Rattle.std.specs.Prelude.{◌≡◌, ◌⊎◌, ◌<◌, ◌≤◌, ℕ, List, ◌++◌, codes, Result, Ok, Err, Contains}
+use Rattle.std.specs.Prelude.{◌≡◌, ◌⊎◌, ◌<◌, ◌≤◌, ℕ, List, ◌++◌, codes, Result, Err, Contains}
 use Rattle.std.specs.Prelude.{map}
 use Rattle.std.specs.Fs.{metadata_len, file_type, IsFile, IsDir, IsSymlink}
 use Rattle.std.specs.declared.fs.attrs.Metadata.{Metadata}

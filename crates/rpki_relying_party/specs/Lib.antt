@@ -13,6 +13,7 @@ pub mod Payload
 pub mod Tells
 pub mod Costs
 pub mod Outcome
+pub mod Reading
 pub mod Texts
 pub mod Place
 pub mod Found

@@ -8,14 +8,15 @@ use Rattle.rpki_relying_party.specs.declared.cause.Stop.TheVariants.{Room, Memor
 abbrev pub Spends : (ℕ → Type 0) → ℕ → ℕ → Type 0
 Spends Costs old new = (n : ℕ) × Costs n × (new + n ≡ old)
 
--- A value of which `Yes` holds, or that the point is refused for the first check that fails, once
--- so much was spent; or that there was too little room for it; or no memory.
-abbrev pub IsOutcome : {T : Type 0} → (ℕ → Type 0) → (T → Type 0) → (Cause → Type 0) → ℕ → ℕ
-    → Result T Stop → Type 0
-IsOutcome Costs Yes Why old new (Ok value) = Spends Costs old new × Yes value
-IsOutcome Costs Yes Why old new (Err Room) = (n : ℕ) × Costs n × (old < n)
-IsOutcome Costs Yes Why old new (Err Memory) = Unit {0}
-IsOutcome Costs Yes Why old new (Err (Refused cause)) = Spends Costs old new × Why cause
+-- `Yes` holds of a value and of what was spent on it; or the point is refused for the first check
+-- that fails, and `Why` holds of this and of what was spent until then; or there was too little
+-- room for what some first steps cost; or no memory.
+abbrev pub IsOutcome : {T : Type 0} → (ℕ → Type 0) → (T → ℕ → Type 0) → (Cause → ℕ → Type 0) → ℕ
+    → ℕ → Result T Stop → Type 0
+IsOutcome Starts Yes Why old new (Ok value) = Spends (Yes value) old new
+IsOutcome Starts Yes Why old new (Err Room) = (n : ℕ) × Starts n × (old < n)
+IsOutcome Starts Yes Why old new (Err Memory) = Unit {0}
+IsOutcome Starts Yes Why old new (Err (Refused cause)) = Spends (Why cause) old new
 
 -- These were put at the ends of two lists, and P holds of them.
 pub record AppendsBoth {X Y : Type 0} (P : List X → List Y → Type 0) (old new : List X)

@@ -6,13 +6,16 @@ use Rattle.std.specs.Option.{option_or, option_eq}
 use Rattle.rpki_certs.specs.Validate.{Validated}
 use Rattle.rpki_tal.specs.Tal.{Locator}
 use Rattle.rpki_relying_party.specs.Anchors.{IsAnchorOf, WhyNoAnchor, anchor_fault_text}
-use Rattle.rpki_relying_party.specs.Costs.{PlaceCosts}
+use Rattle.rpki_relying_party.specs.Costs.{PlaceCosts, PlaceExceeds}
 use Rattle.rpki_relying_party.specs.Found.{Lists, HasAsLong, SaysLike}
+use Rattle.rpki_relying_party.specs.Lacks.{WhyNoPoint}
 use Rattle.rpki_relying_party.specs.Paths.{IsChild, IsSaid, IsFound, Leads, Passes, TellsOne}
 use Rattle.rpki_relying_party.specs.Place.{key_of}
+use Rattle.rpki_relying_party.specs.Point.{PublishesIn, NamesManifest}
 use Rattle.rpki_relying_party.specs.Setting.{Setting}
 use Rattle.rpki_relying_party.specs.Tells.{PlaceTells, refusal}
-use Rattle.rpki_relying_party.specs.Walk.{Left, IsWalk, places_left}
+use Rattle.rpki_relying_party.specs.Texts.{cause_text}
+use Rattle.rpki_relying_party.specs.Walk.{Left, Read, IsWalk, places_left}
 use Rattle.rpki_relying_party.specs.declared.anchor.AnchorFault.{AnchorFault}
 use Rattle.rpki_relying_party.specs.declared.anchor.AnchorFault.TheVariants as anchors
 use Rattle.rpki_relying_party.specs.declared.cause.Cause.{Cause}
@@ -54,31 +57,42 @@ FindsAllUnder s tal found unread =
     → IsFound (PlaceTells s) SaysLike (HasAsLong found) p
     ⊎ Passes key_of (places_left unread) start path)
 
--- Each place was read once or left unread, from a trust anchor of the locator on, within this limit
--- on work; what was found before and after is that, and those were left unread.
+-- A trust anchor of the locator was read first, and from it on places of each key once, within this
+-- limit on work; what was found before and after is that, and those were left unread.
 abbrev pub IsRunUnder : Setting → Locator → ℕ → Found → Found → List (Left Place) → Type 0
 IsRunUnder s tal limit old new unread =
-    (start : Place) × IsStartOf s tal start
-    × IsWalk (PlaceTells s) (PlaceCosts s) key_of (Lists old) (Lists new) (HasAsLong old)
-    (HasAsLong new) start limit unread
+    (first : Read Place Finding) × IsStartOf s tal first.place
+    × IsWalk (PlaceTells s) (PlaceCosts s) (PlaceExceeds s) key_of (Lists old) (Lists new)
+    (HasAsLong old) (HasAsLong new) first limit unread
 
 -- Places with one key tell one thing, whenever they are read, as where the copy does not change.
 abbrev pub TellsSteadily : Setting → Type 0
 TellsSteadily s = TellsOne (PlaceTells s) key_of SaysLike
 
--- Why there was no run: the locator has no trust anchor, unless memory ran out.
-abbrev pub WhyNoRun : Setting → Locator → RunFault → Type 0
-WhyNoRun s tal (faults.Anchor fault) = WhyNoAnchor s tal fault × (fault ≢ anchors.Memory)
-WhyNoRun s tal faults.Memory = Unit {0}
+-- Why there was no run within this limit, unless memory ran out: the locator has no trust anchor;
+-- or it has one whose certificate names a point that is refused; or one of which to read the place
+-- is more work than the limit.
+abbrev pub WhyNoRun : Setting → Locator → ℕ → RunFault → Type 0
+WhyNoRun s tal limit (faults.Anchor fault) = WhyNoAnchor s tal fault × (fault ≢ anchors.Memory)
+WhyNoRun s tal limit (faults.Point cause) = (ca : Validated) × (folder : List ℕ) × (uri : List ℕ)
+    × IsAnchorOf s tal ca × PublishesIn ca folder × NamesManifest ca uri
+    × WhyNoPoint s ca folder uri cause
+WhyNoRun s tal limit faults.Limit =
+    (ca : Validated) × IsAnchorOf s tal ca × PlaceExceeds s (start_place ca) limit
+WhyNoRun s tal limit faults.Memory = Unit {0}
 
 -- What a fault of the trust anchor is of the run: want of memory is that of the run.
 abbrev pub IsFaultOf : AnchorFault → RunFault → Type 0
 IsFaultOf fault (faults.Anchor same) = (same ≡ fault) × (fault ≢ anchors.Memory)
+IsFaultOf fault (faults.Point cause) = ⊥
+IsFaultOf fault faults.Limit = ⊥
 IsFaultOf fault faults.Memory = fault ≡ anchors.Memory
 
 -- why there is no run, as it is shown
 abbrev pub run_fault_text : RunFault → List ℕ
 run_fault_text (faults.Anchor fault) = anchor_fault_text fault
+run_fault_text (faults.Point cause) = cause_text cause
+run_fault_text faults.Limit = codes "not read: limit reached"
 run_fault_text faults.Memory = codes "out of memory"
 
 -- ---- places that were left unread

@@ -1,11 +1,12 @@
 //! Trust anchors.
 
-ghost use Rattle.std.specs.Prelude.{◌≡◌, ◌≤◌, ◌↔◌, length, IfOk, IsTrue, MatchResult, Some};
+ghost use Rattle.std.specs.Prelude.{◌≡◌, ◌≢◌, ◌≤◌, ◌↔◌, length, IfOk, IsTrue, MatchResult, Some};
 ghost use Rattle.rpki_certs.specs.Issuer.{BeginsWithCert, IsAnchored};
 ghost use Rattle.rpki_relying_party.specs.Anchors.{IsAnchorOf, WhyNoAnchor};
 ghost use Rattle.rpki_relying_party.specs.Anchors.{IsFirstWithKey, WhyNoKey};
 ghost use Rattle.rpki_relying_party.specs.Anchors.{IsRefusalOf, anchor_fault_text, most_uris};
 ghost use Rattle.rpki_relying_party.specs.Passes.{setting};
+ghost use Rattle.rpki_relying_party.specs.declared.copy.NoFile.{NoFile};
 ghost use Rattle.rpki_tal.specs.Uri.{https_first, uri_text};
 
 use crate::copy::{NoFile, Repository};
@@ -28,8 +29,8 @@ const MOST_URIS: usize = 64;
 pub enum AnchorFault {
     /// The locator has more than 64 URIs.
     TooManyUris,
-    /// The copy has no file for any of its URIs.
-    Missing,
+    /// The copy gives no file for any of its URIs, for this reason.
+    NoFile(NoFile),
     /// The copy has files for its URIs, but no certificate with its key.
     OtherKey,
     /// The first certificate with its key is no good one of a trust anchor.
@@ -44,7 +45,7 @@ impl fmt::Display for AnchorFault {
     fn fmt<W: fmt::Write>(&self, f: &mut fmt::Formatter<W>) -> fmt::Result {
         match self {
             AnchorFault::TooManyUris => f.write_str("more than 64 URIs"),
-            AnchorFault::Missing => f.write_str("not in the copy"),
+            AnchorFault::NoFile(why) => write!(f, "its certificate {why}"),
             AnchorFault::OtherKey => f.write_str("no certificate with its key"),
             AnchorFault::Refused(IssuerError::Decode(_)) => {
                 f.write_str("its certificate is refused: malformed")
@@ -97,6 +98,18 @@ fn begins_with_key(alloc: Global, octets: &Bytes, tal: &Tal) -> Result<bool, All
     }
 }
 
+// Of two reasons the first that says more than that the copy has no file.
+fn first_reason(before: NoFile, why: NoFile) -> NoFile
+    ensures first { before ≡ NoFile.Missing → result ≡ why }
+    ensures later { before ≢ NoFile.Missing → result ≡ before }
+{
+    if before == NoFile::Missing {
+        why
+    } else {
+        before
+    }
+}
+
 // The octets of the first URI of a locator for which a certificate with its key is found, or why
 // there is none. Each URI up to it is read once.
 fn octets_in_order<R: Repository>(alloc: Global, copy: &R, tal: &Tal) -> Result<Bytes, AnchorFault>
@@ -104,10 +117,11 @@ fn octets_in_order<R: Repository>(alloc: Global, copy: &R, tal: &Tal) -> Result<
         (WhyNoKey (R.finds copy.now) tal.now.key tal.now.uris) }
 {
     let mut are_missing = true;
+    let mut reason = NoFile::Missing;
     for uri in tal.uris() {
         match read_uri(alloc, copy, uri) {
             Err(_) => return Err(AnchorFault::Memory),
-            Ok(Err(_)) => {}
+            Ok(Err(why)) => reason = first_reason(reason, why),
             Ok(Ok(octets)) => {
                 are_missing = false;
                 match begins_with_key(alloc, &octets, tal) {
@@ -122,7 +136,7 @@ fn octets_in_order<R: Repository>(alloc: Global, copy: &R, tal: &Tal) -> Result<
         }
     }
     if are_missing {
-        Err(AnchorFault::Missing)
+        Err(AnchorFault::NoFile(reason))
     } else {
         Err(AnchorFault::OtherKey)
     }

@@ -1,9 +1,9 @@
 //! What the files of a publication point tell.
 
-ghost use Rattle.std.specs.Prelude.{◌≡◌, ◌↔◌, ◌⊎◌, [], ◌∷◌, ◌++◌, Ok, IfOk, IsTrue};
-ghost use Rattle.rpki_certs.specs.Validate.{IsResourceCert};
+ghost use Rattle.std.specs.Prelude.{◌≡◌, ◌↔◌, ◌⊎◌, [], ◌∷◌, ◌++◌, IfOk, IsTrue};
 ghost use Rattle.rpki_files.specs.Manifest.Uris.{uris_of};
-ghost use Rattle.rpki_relying_party.specs.Costs.{FileCosts, FilesCost, ChildCosts};
+ghost use Rattle.rpki_relying_party.specs.Costs.{ReadCosts, ChildCosts, FileCosts, FileStarts};
+ghost use Rattle.rpki_relying_party.specs.Costs.{FilesCost, FilesLost, FilesStart};
 ghost use Rattle.rpki_relying_party.specs.Kind.{kind_of};
 ghost use Rattle.rpki_relying_party.specs.Lacks.{WhyNoFiles, IsLostFile};
 ghost use Rattle.rpki_relying_party.specs.Memory.{IsCheckMemory, IsIssuerMemory};
@@ -18,9 +18,9 @@ ghost use Rattle.rpki_relying_party.specs.declared.kind.ListedKind.{ListedKind a
 
 use crate::cause::{Cause, Stop};
 use crate::copy::Repository;
-use crate::found::{Finding, Refusal};
+use crate::found::{BoxedRefusal, Finding, Refusal};
 use crate::kind::{ListedKind, kind_of};
-use crate::list::List;
+use crate::list::{List, lookup_cost};
 use crate::memory::{is_check_memory, is_issuer_memory};
 use crate::pass::Pass;
 use crate::payload::{Held, Payload, origin_of, provider_of};
@@ -55,8 +55,27 @@ pub(crate) struct Findings {
     pub children: Vec<Place>,
 }
 
-/// A file, or a point, is refused.
-pub(crate) fn refuse(
+/// Puts a refusal at the end of a list.
+pub(crate) fn put_refusal(
+    alloc: Global,
+    refusal: Refusal,
+    said: &mut Vec<Finding>,
+) -> Result<(), AllocError>
+    ensures { IfOk result (λ _. said.new.items
+        ≡ said.old.items ++ Finding.Refusal refusal ∷ []) }
+{
+    match BoxedRefusal::new(alloc, refusal) {
+        Err(error) => Err(error),
+        Ok(boxed) => {
+            said.push(Finding::Refusal(boxed))?;
+            Ok(())
+        }
+    }
+}
+
+// A file is refused.
+fn refuse(
+    alloc: Global,
     uri: Rsync,
     cause: Cause,
     under: &Rsync,
@@ -71,15 +90,13 @@ pub(crate) fn refuse(
             drop(cause);
             Err(error)
         }
-        Ok(under) => {
-            said.push(Finding::Refusal(Refusal { uri, cause, under }))?;
-            Ok(())
-        }
+        Ok(under) => put_refusal(alloc, Refusal { uri, cause, under }, said),
     }
 }
 
 // A ROA or an ASPA is refused, unless its fault is that memory ran out.
 fn refuse_object(
+    alloc: Global,
     uri: Rsync,
     error: CheckError,
     under: &Rsync,
@@ -94,7 +111,7 @@ fn refuse_object(
         drop(error);
         return Err(AllocError);
     }
-    refuse(uri, Cause::Object(error), under, said)
+    refuse(alloc, uri, Cause::Object(error), under, said)
 }
 
 // Whether a certificate names no AS numbers and inherits no addresses (RFC 9582, section 5).
@@ -182,7 +199,7 @@ fn process_roa<R: Repository, C: Crypto>(
         pass.crypto,
         pass.moment,
     ) {
-        Err(error) => refuse_object(uri, error, above.manifest, &mut findings.said),
+        Err(error) => refuse_object(alloc, uri, error, above.manifest, &mut findings.said),
         Ok((cert, roa)) => {
             let until = earlier(above.until, cert.cert().validity().not_after());
             if names_prefixes_alone(cert.cert()) {
@@ -195,6 +212,7 @@ fn process_roa<R: Repository, C: Crypto>(
             drop(cert);
             drop(roa);
             refuse(
+                alloc,
                 uri,
                 Cause::RoaCertificate,
                 above.manifest,
@@ -229,7 +247,7 @@ fn process_aspa<R: Repository, C: Crypto>(
         pass.moment,
         pass.providers,
     ) {
-        Err(error) => refuse_object(uri, error, above.manifest, &mut findings.said),
+        Err(error) => refuse_object(alloc, uri, error, above.manifest, &mut findings.said),
         Ok((cert, aspa)) => {
             let until = earlier(above.until, cert.cert().validity().not_after());
             drop(cert);
@@ -298,7 +316,7 @@ fn refuse_cert(
             drop(error);
             Ok(())
         }
-        Ok(false) => refuse(uri, Cause::Certificate(error), under, said),
+        Ok(false) => refuse(alloc, uri, Cause::Certificate(error), under, said),
     }
 }
 
@@ -308,11 +326,9 @@ fn put_child(
     ca: ResourceCert,
     children: &mut Vec<Place>,
 ) -> Result<(), AllocError>
-    ensures child { IfOk result (λ _. children.new.items
+    ensures { IfOk result (λ _. children.new.items
         ≡ children.old.items ++ child_of above.now.until above.now.manifest.now ca ∷ []) }
-    ensures certificate { IfOk result (λ _. IsResourceCert ca) }
 {
-    ca.is_resource_cert();
     let until = earlier(above.until, ca.cert().validity().not_after());
     match above.manifest.clone() {
         Err(error) => {
@@ -341,15 +357,17 @@ fn process_cert<R: Repository, C: Crypto>(
     findings: &mut Findings,
     room: &mut u64,
 ) -> Result<(), Stop>
-    requires { R.finds pass.now.copy.now uri (Ok octets) }
-    ensures { IsOutcome
-        (ChildCosts (setting R.finds C.digest_of C.is_signed pass.now) above.now.ca.now uri)
-        (λ _. AppendsBoth (KindTells (setting R.finds C.digest_of C.is_signed pass.now)
+    requires { kind_of uri ≡ Kinds.Ca }
+    ensures { IsOutcome (ChildCosts (setting R.finds C.digest_of C.is_signed pass.now)
+        above.now.ca.now above.now.list.now.crl.list uri octets)
+        (λ _ n. AppendsBoth (KindTells (setting R.finds C.digest_of C.is_signed pass.now)
         above.now.ca.now above.now.list.now.crl.list above.now.until above.now.manifest.now uri
         octets Kinds.Ca)
         findings.old.said.items findings.new.said.items
-        findings.old.children.items findings.new.children.items)
-        (λ cause. ⊥) room.old room.new result }
+        findings.old.children.items findings.new.children.items
+        × ChildCosts (setting R.finds C.digest_of C.is_signed pass.now) above.now.ca.now
+        above.now.list.now.crl.list uri octets n)
+        (λ cause n. ⊥) room.old room.new result }
 {
     let copy = octets.clone()?;
     match ca_under(
@@ -370,6 +388,7 @@ fn process_cert<R: Repository, C: Crypto>(
         Ok(ca) => {
             drop(uri);
             drop(octets);
+            ca.is_resource_cert();
             match spend(room, cost_of(&ca)) {
                 Err(stop) => {
                     drop(ca);
@@ -394,15 +413,16 @@ fn process_read<R: Repository, C: Crypto>(
     findings: &mut Findings,
     room: &mut u64,
 ) -> Result<(), Stop>
-    requires { R.finds pass.now.copy.now uri (Ok octets) }
-    ensures { IsOutcome
-        (ChildCosts (setting R.finds C.digest_of C.is_signed pass.now) above.now.ca.now uri)
-        (λ _. AppendsBoth (KindTells (setting R.finds C.digest_of C.is_signed pass.now)
+    ensures { IsOutcome (ChildCosts (setting R.finds C.digest_of C.is_signed pass.now)
+        above.now.ca.now above.now.list.now.crl.list uri octets)
+        (λ _ n. AppendsBoth (KindTells (setting R.finds C.digest_of C.is_signed pass.now)
         above.now.ca.now above.now.list.now.crl.list above.now.until above.now.manifest.now uri
         octets (kind_of uri))
         findings.old.said.items findings.new.said.items
-        findings.old.children.items findings.new.children.items)
-        (λ cause. ⊥) room.old room.new result }
+        findings.old.children.items findings.new.children.items
+        × ChildCosts (setting R.finds C.digest_of C.is_signed pass.now) above.now.ca.now
+        above.now.list.now.crl.list uri octets n)
+        (λ cause n. ⊥) room.old room.new result }
 {
     match kind_of(uri.as_slice()) {
         ListedKind::Roa => match process_roa(alloc, pass, above, uri, octets, findings) {
@@ -438,15 +458,18 @@ fn process_file<R: Repository, C: Crypto>(
     findings: &mut Findings,
     room: &mut u64,
 ) -> Result<(), Stop>
-    ensures { IsOutcome
-        (FileCosts (setting R.finds C.digest_of C.is_signed pass.now) above.now.ca.now listed)
-        (λ _. AppendsBoth (FileTells (setting R.finds C.digest_of C.is_signed pass.now)
+    ensures { IsOutcome (FileStarts (setting R.finds C.digest_of C.is_signed pass.now)
+        above.now.ca.now above.now.list.now.uri above.now.list.now.crl.list listed)
+        (λ _ n. AppendsBoth (FileTells (setting R.finds C.digest_of C.is_signed pass.now)
         above.now.ca.now above.now.list.now.uri above.now.list.now.crl.list above.now.until
         above.now.manifest.now listed)
         findings.old.said.items findings.new.said.items
-        findings.old.children.items findings.new.children.items)
-        (λ cause. (¬ (listed.0 ≡ above.now.list.now.uri))
-        × IsLostFile (setting R.finds C.digest_of C.is_signed pass.now) listed cause)
+        findings.old.children.items findings.new.children.items
+        × FileCosts (setting R.finds C.digest_of C.is_signed pass.now) above.now.ca.now
+        above.now.list.now.uri above.now.list.now.crl.list listed n)
+        (λ cause n. (¬ (listed.0 ≡ above.now.list.now.uri))
+        × IsLostFile (setting R.finds C.digest_of C.is_signed pass.now) listed cause
+        × ReadCosts (setting R.finds C.digest_of C.is_signed pass.now) listed.0 n)
         room.old room.new result }
 {
     let (uri, hash) = listed;
@@ -463,7 +486,14 @@ fn process_file<R: Repository, C: Crypto>(
         }
         Ok(octets) => {
             drop(hash);
-            process_read(alloc, pass, above, uri, octets, findings, room)
+            match spend(room, lookup_cost(above.list)) {
+                Err(stop) => {
+                    drop(uri);
+                    drop(octets);
+                    Err(stop)
+                }
+                Ok(()) => process_read(alloc, pass, above, uri, octets, findings, room),
+            }
         }
     }
 }
@@ -478,15 +508,22 @@ pub(crate) fn process_files<'x, R: Repository, C: Crypto>(
     findings: &mut Findings,
     room: &mut u64,
 ) -> Result<(), Stop>
-    ensures { IsOutcome (FilesCost (setting R.finds C.digest_of C.is_signed pass.now)
-        above.now.ca.now (uris_of folder.now manifest.now.files))
-        (λ _. AppendsBoth (FilesTell (setting R.finds C.digest_of C.is_signed pass.now)
+    ensures { IsOutcome (FilesStart (setting R.finds C.digest_of C.is_signed pass.now)
+        above.now.ca.now above.now.list.now.uri above.now.list.now.crl.list
+        (uris_of folder.now manifest.now.files))
+        (λ _ n. AppendsBoth (FilesTell (setting R.finds C.digest_of C.is_signed pass.now)
         above.now.ca.now above.now.list.now.uri above.now.list.now.crl.list above.now.until
         above.now.manifest.now (uris_of folder.now manifest.now.files))
         findings.old.said.items findings.new.said.items
-        findings.old.children.items findings.new.children.items)
-        (WhyNoFiles (setting R.finds C.digest_of C.is_signed pass.now)
-        (uris_of folder.now manifest.now.files) above.now.list.now.uri)
+        findings.old.children.items findings.new.children.items
+        × FilesCost (setting R.finds C.digest_of C.is_signed pass.now) above.now.ca.now
+        above.now.list.now.uri above.now.list.now.crl.list
+        (uris_of folder.now manifest.now.files) n)
+        (λ cause n. WhyNoFiles (setting R.finds C.digest_of C.is_signed pass.now)
+        (uris_of folder.now manifest.now.files) above.now.list.now.uri cause
+        × FilesLost (setting R.finds C.digest_of C.is_signed pass.now) above.now.ca.now
+        above.now.list.now.uri above.now.list.now.crl.list
+        (uris_of folder.now manifest.now.files) n)
         room.old room.new result }
 {
     let mut files = manifest.iter_uris(alloc, folder);

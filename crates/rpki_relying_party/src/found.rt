@@ -11,6 +11,7 @@ use crate::payload::{Held, Payload, Payloads};
 use rpki_basics::Rsync;
 use std::alloc::{AllocError, Global};
 use std::collections::BTreeMap;
+use std::marker::Model;
 
 /// What is refused, a file or a publication point under the URI of its manifest; why; and the URI
 /// of the manifest of the CA that it stands below, which for the point of a trust anchor is its
@@ -22,11 +23,47 @@ pub struct Refusal {
     pub under: Rsync,
 }
 
+/// A refusal, kept apart: findings, most of which are payloads, are small so.
+#[derive(Debug, Drop)]
+pub struct BoxedRefusal {
+    refusal: Box<Refusal>,
+}
+
+impl Model for BoxedRefusal {
+    ghost use Rattle.rpki_relying_party.specs.declared.found.Refusal.{Refusal};
+
+    ghost Value = { Refusal };
+
+    ghost view = { λ b. b.refusal.value };
+}
+
+impl BoxedRefusal {
+    /// Keeps a refusal apart.
+    pub(crate) fn new(alloc: Global, refusal: Refusal) -> Result<BoxedRefusal, AllocError>
+        ensures { IfOk result (λ boxed. boxed ≡ refusal) }
+    {
+        match Box::new(alloc, refusal) {
+            Err(refused) => {
+                drop(refused);
+                Err(AllocError)
+            }
+            Ok(refusal) => Ok(BoxedRefusal { refusal }),
+        }
+    }
+
+    /// The refusal.
+    pub fn into_refusal(self) -> Refusal
+        ensures { result ≡ self }
+    {
+        Box::into_inner(self.refusal)
+    }
+}
+
 /// One of the things that a place says.
 #[derive(Debug, Drop)]
 pub enum Finding {
     Payload(Payload, Held),
-    Refusal(Refusal),
+    Refusal(BoxedRefusal),
 }
 
 /// What was found: payloads, and refusals by their lines, each line once.
@@ -83,13 +120,20 @@ impl Found {
         }
     }
 
+    /// Keeps a refusal.
+    pub(crate) fn refuse(&mut self, alloc: Global, refusal: Refusal) -> Result<(), AllocError>
+        ensures { OnOk result (KeepsFinding (Finding.Refusal refusal) self.old self.new) }
+    {
+        keep_refusal(alloc, &mut self.refusals, refusal)
+    }
+
     /// Keeps a finding.
     pub(crate) fn keep(&mut self, alloc: Global, finding: Finding) -> Result<(), AllocError>
         ensures { OnOk result (KeepsFinding finding self.old self.new) }
     {
         match finding {
             Finding::Payload(payload, held) => self.payloads.keep(payload, held),
-            Finding::Refusal(refusal) => keep_refusal(alloc, &mut self.refusals, refusal),
+            Finding::Refusal(boxed) => self.refuse(alloc, boxed.into_refusal()),
         }
     }
 

@@ -8,7 +8,7 @@ ghost use Rattle.rpki_der.specs.Grammar.{HasNoFront};
 ghost use Rattle.rpki_crls.specs.Crl.{CrlForm};
 ghost use Rattle.rpki_faults.specs.Checks.{AnswersFirstFault};
 ghost use Rattle.rpki_files.specs.Manifest.Uris.{uris_of};
-ghost use Rattle.rpki_relying_party.specs.Costs.{ListCosts};
+ghost use Rattle.rpki_relying_party.specs.Costs.{ListCosts, ListStarts, lookup_cost};
 ghost use Rattle.rpki_relying_party.specs.Lacks.{WhyNoList, list_checks};
 ghost use Rattle.rpki_relying_party.specs.Outcome.{IsOutcome};
 ghost use Rattle.rpki_relying_party.specs.Passes.{setting};
@@ -35,6 +35,13 @@ use std::alloc::{AllocError, Global};
 pub(crate) struct List {
     pub uri: Rsync,
     pub crl: Crl,
+}
+
+/// What it costs to look a certificate up in the list.
+pub(crate) fn lookup_cost(list: &List) -> u128
+    ensures { result ≡ lookup_cost list.now.crl.list }
+{
+    (list.crl.signed().len() / 16) as u128
 }
 
 // Whether two URIs are the same.
@@ -140,12 +147,16 @@ pub(crate) fn find_crl<R: Repository, C: Crypto>(
     manifest: &Manifest,
     room: &mut u64,
 ) -> Result<List, Stop>
-    ensures { IsOutcome (ListCosts (setting R.finds C.digest_of C.is_signed pass.now)
-        (uris_of folder.now manifest.now.content.files))
-        (λ list. IsListAt (setting R.finds C.digest_of C.is_signed pass.now) ca.now folder.now
-        manifest.now.signer.cert.certificate manifest.now.content list.uri list.crl.list)
-        (WhyNoList (setting R.finds C.digest_of C.is_signed pass.now) ca.now folder.now
+    ensures { IsOutcome (ListStarts (setting R.finds C.digest_of C.is_signed pass.now) folder.now
         manifest.now.signer.cert.certificate manifest.now.content)
+        (λ list n. IsListAt (setting R.finds C.digest_of C.is_signed pass.now) ca.now folder.now
+        manifest.now.signer.cert.certificate manifest.now.content list.uri list.crl.list
+        × ListCosts (setting R.finds C.digest_of C.is_signed pass.now) folder.now
+        manifest.now.signer.cert.certificate manifest.now.content n)
+        (λ cause n. WhyNoList (setting R.finds C.digest_of C.is_signed pass.now) ca.now folder.now
+        manifest.now.signer.cert.certificate manifest.now.content cause
+        × ListCosts (setting R.finds C.digest_of C.is_signed pass.now) folder.now
+        manifest.now.signer.cert.certificate manifest.now.content n)
         room.old room.new result }
 {
     let Some(uri) = list_uri_of(&manifest.signer) else {

@@ -9,13 +9,15 @@ ghost use Rattle.rpki_relying_party.specs.Runs.{TellsSteadily, IsFaultOf};
 ghost use Rattle.rpki_relying_party.specs.Runs.{start_place, run_fault_text};
 ghost use Rattle.rpki_relying_party.specs.Runs.{IsLeftRefusal, IsRefusalFor, KeepsAll, lister_of};
 ghost use Rattle.rpki_relying_party.specs.Runs.{is_limited, limited_under, left_cause, count_for};
+ghost use Rattle.rpki_relying_party.specs.declared.found.Finding.{Finding};
 
 use crate::anchor::{AnchorFault, anchor_of};
 use crate::cause::Cause;
 use crate::copy::Repository;
-use crate::found::{Finding, Found, Refusal};
+use crate::found::{Found, Refusal};
 use crate::pass::Pass;
 use crate::place::Place;
+use crate::point::{PointReading, read_within};
 use crate::walk::{Unread, Why, walk_from};
 use rpki_basics::{Crypto, Rsync};
 use rpki_certs::ResourceCert;
@@ -30,6 +32,10 @@ use std::fmt;
 pub enum RunFault {
     /// The locator has no trust anchor.
     Anchor(AnchorFault),
+    /// The publication point of its trust anchor is refused.
+    Point(Cause),
+    /// To read the publication point of its trust anchor is more work than the limit.
+    Limit,
     /// No memory was to be had.
     Memory,
 }
@@ -40,6 +46,8 @@ impl fmt::Display for RunFault {
     fn fmt<W: fmt::Write>(&self, f: &mut fmt::Formatter<W>) -> fmt::Result {
         match self {
             RunFault::Anchor(fault) => fault.fmt(f),
+            RunFault::Point(cause) => cause.fmt(f),
+            RunFault::Limit => f.write_str("not read: limit reached"),
             RunFault::Memory => f.write_str("out of memory"),
         }
     }
@@ -53,7 +61,7 @@ fn of_anchor(fault: AnchorFault) -> RunFault
 {
     match fault {
         AnchorFault::TooManyUris => RunFault::Anchor(AnchorFault::TooManyUris),
-        AnchorFault::Missing => RunFault::Anchor(AnchorFault::Missing),
+        AnchorFault::NoFile(why) => RunFault::Anchor(AnchorFault::NoFile(why)),
         AnchorFault::OtherKey => RunFault::Anchor(AnchorFault::OtherKey),
         AnchorFault::Refused(error) => RunFault::Anchor(AnchorFault::Refused(error)),
         AnchorFault::Memory => RunFault::Memory,
@@ -72,9 +80,22 @@ fn start_place(ca: ResourceCert) -> Place
     }
 }
 
+// What the refusal of a trust anchor's own point is of the run.
+fn of_point(refusal: Refusal) -> RunFault
+    ensures { result ≡ RunFault.Point refusal.cause }
+{
+    let Refusal { uri, cause, under } = refusal;
+    drop(uri);
+    drop(under);
+    RunFault::Point(cause)
+}
+
 /// A validation run under a locator: from its trust anchor on each place is read once, as
 /// `walk_from` does it, within this limit on work. What the places say is put to `found`; the
 /// answer is the places that were met and left unread.
+///
+/// The trust anchor's own place is read first, and may take all of the limit. Where its point is
+/// refused, or is more work than that, there is no run.
 ///
 /// What was found is said by a place to which a chain of children leads from the trust anchor.
 /// Where the copy does not change, all is found that such a place says, unless its chain passes one
@@ -96,11 +117,27 @@ pub fn run_under<R: Repository, C: Crypto>(
         → FindsAllUnder (setting R.finds C.digest_of C.is_signed pass.now) tal.now found.new
         unread.items) }
     ensures refused { IfErr result
-        (WhyNoRun (setting R.finds C.digest_of C.is_signed pass.now) tal.now) }
+        (WhyNoRun (setting R.finds C.digest_of C.is_signed pass.now) tal.now limit) }
 {
-    match anchor_of(alloc, pass, tal) {
-        Err(fault) => Err(of_anchor(fault)),
-        Ok(ca) => match walk_from(alloc, pass, start_place(ca), limit, found) {
+    let ca = match anchor_of(alloc, pass, tal) {
+        Err(fault) => return Err(of_anchor(fault)),
+        Ok(ca) => ca,
+    };
+    let start = start_place(ca);
+    match read_within(alloc, pass, &start, limit) {
+        Err(_) => {
+            drop(start);
+            Err(RunFault::Memory)
+        }
+        Ok(PointReading::Cut) => {
+            drop(start);
+            Err(RunFault::Limit)
+        }
+        Ok(PointReading::Refused(refusal, _)) => {
+            drop(start);
+            Err(of_point(refusal))
+        }
+        Ok(PointReading::Told(told)) => match walk_from(alloc, pass, start, told, limit, found) {
             Err(_) => Err(RunFault::Memory),
             Ok(unread) => Ok(unread),
         },
@@ -194,7 +231,7 @@ fn refuse_left(
         Some(manifest) => {
             let (uri, under) = (manifest.clone()?, manifest.clone()?);
             let cause = cause_for(counts, manifest, left.why);
-            found.keep(alloc, Finding::Refusal(Refusal { uri, cause, under }))
+            found.refuse(alloc, Refusal { uri, cause, under })
         }
     }
 }

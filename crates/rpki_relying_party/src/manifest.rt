@@ -10,7 +10,7 @@ ghost use Rattle.rpki_files.specs.Manifest.Checks.{manifest_kind};
 ghost use Rattle.rpki_files.specs.Manifest.Uris.{uris_of};
 ghost use Rattle.rpki_signed.specs.Check.{Checks};
 ghost use Rattle.rpki_signed.specs.Exact.{IsExact};
-ghost use Rattle.rpki_relying_party.specs.Costs.{ReadCosts};
+ghost use Rattle.rpki_relying_party.specs.Costs.{ReadCosts, ReadStarts};
 ghost use Rattle.rpki_relying_party.specs.Lacks.{IsFirstRepeated, WhyNoManifestOf, manifest_checks};
 ghost use Rattle.rpki_relying_party.specs.Memory.{IsCheckMemory};
 ghost use Rattle.rpki_relying_party.specs.Outcome.{IsOutcome};
@@ -163,11 +163,13 @@ pub(crate) fn find_manifest<R: Repository, C: Crypto>(
     uri: &Rsync,
     room: &mut u64,
 ) -> Result<Manifest, Stop>
-    ensures { IsOutcome (ReadCosts (setting R.finds C.digest_of C.is_signed pass.now) uri.now)
-        (λ m. IsManifestAt (setting R.finds C.digest_of C.is_signed pass.now) ca.now folder.now
-        uri.now m.signer.cert.certificate m.content)
-        (WhyNoManifestOf (setting R.finds C.digest_of C.is_signed pass.now) ca.now folder.now
-        uri.now)
+    ensures { IsOutcome (ReadStarts (setting R.finds C.digest_of C.is_signed pass.now) uri.now)
+        (λ m n. IsManifestAt (setting R.finds C.digest_of C.is_signed pass.now) ca.now folder.now
+        uri.now m.signer.cert.certificate m.content
+        × ReadCosts (setting R.finds C.digest_of C.is_signed pass.now) uri.now n)
+        (λ cause n. WhyNoManifestOf (setting R.finds C.digest_of C.is_signed pass.now) ca.now
+        folder.now uri.now cause
+        × ReadCosts (setting R.finds C.digest_of C.is_signed pass.now) uri.now n)
         room.old room.new result }
 {
     let octets = match read_file(alloc, pass, uri, room)? {

@@ -1,6 +1,6 @@
 //! Places of a validation run: certification authorities (CAs) with the numbers that they have.
 
-ghost use Rattle.std.specs.Prelude.{◌≡◌, ◌≤◌, ◌*◌, length, ◌++◌, IfOk, OnOk, option_map};
+ghost use Rattle.std.specs.Prelude.{◌≡◌, ◌<◌, ◌^◌, length, ◌++◌, IfOk, OnOk, option_map};
 ghost use Rattle.std.specs.List.{flat_map};
 ghost use Rattle.rpki_relying_party.specs.Costs.{waiting_cost};
 ghost use Rattle.rpki_relying_party.specs.Place.{octets_of, part_of, uri_part, ends_of, set_part};
@@ -122,22 +122,20 @@ pub(crate) fn key_of(alloc: Global, place: &Place) -> Result<Vec<u8>, AllocError
     Ok(key)
 }
 
-// How many octets the blocks take, unless that is too large a number.
-fn blocks_cost<T: Number>(blocks: &Blocks<T>) -> u64
-    ensures { result ≤ 64 * length blocks.now }
+// How many blocks a set has.
+fn count_of<T: Number>(blocks: &Blocks<T>) -> u128
+    ensures counts { result ≡ length blocks.now }
+    ensures fits { result < 2 ^ 64 }
 {
-    (blocks.as_slice().len() as u64).saturating_mul(64)
+    blocks.as_slice().len() as u128
 }
 
 /// What a place takes that waits: its certificate, its key and its sets.
-pub(crate) fn cost_of(ca: &ResourceCert) -> u64
-    ensures most { result ≤ waiting_cost ca.now }
-    ensures least { 16384 ≤ result }
+pub(crate) fn cost_of(ca: &ResourceCert) -> u128
+    ensures { result ≡ waiting_cost ca.now }
 {
-    16_384u64
-        .saturating_add(blocks_cost(ca.as_resources()))
-        .saturating_add(blocks_cost(ca.v4_resources()))
-        .saturating_add(blocks_cost(ca.v6_resources()))
+    let addresses = count_of(ca.v4_resources()) + count_of(ca.v6_resources());
+    16_384 + 64 * (count_of(ca.as_resources()) + addresses)
 }
 
 /// The earlier of two moments.

@@ -43,6 +43,9 @@ pub trait Places {
     // To read the place is so much work.
     ghost costs: { Self → Self.Place → ℕ → Type 0 };
 
+    // To read the place is more work than so much.
+    ghost exceeds: { Self → Self.Place → ℕ → Type 0 };
+
     // The two say the same, though perhaps not for as long.
     ghost alike: { Self.Finding → Self.Finding → Type 0 };
 
@@ -63,7 +66,8 @@ pub trait Places {
         place: &Self::Place,
         room: u64,
     ) -> Result<Reading<Self::Place, Self::Finding>, AllocError>
-        ensures { IfOk result (IsReading (tells self.now) (costs self.now) place.now room) };
+        ensures { IfOk result (IsReading (tells self.now) (costs self.now) (exceeds self.now)
+            place.now room) };
 
     /// Puts what was said to what was found. Where memory runs out nothing is known of `found`.
     fn keep(

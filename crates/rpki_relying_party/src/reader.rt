@@ -1,7 +1,7 @@
 //! The room in which a publication point is read.
 
-ghost use Rattle.std.specs.Prelude.{◌≡◌, ◌+◌, ◌<◌, MatchResult};
-ghost use Rattle.rpki_relying_party.specs.Costs.{ReadCosts};
+ghost use Rattle.std.specs.Prelude.{◌≡◌, ◌+◌, ◌<◌, MatchResult, Ok};
+ghost use Rattle.rpki_relying_party.specs.Costs.{ReadCosts, ReadStarts, found_cost};
 ghost use Rattle.rpki_relying_party.specs.Lacks.{IsLostFile};
 ghost use Rattle.rpki_relying_party.specs.Outcome.{IsOutcome};
 ghost use Rattle.rpki_relying_party.specs.Passes.{setting};
@@ -16,33 +16,38 @@ use rpki_basics::{Crypto, Rsync};
 use rpki_files::ManifestHash;
 use std::alloc::Global;
 
-// Spends so much of the room, unless there is less.
-pub(crate) fn spend(room: &mut u64, cost: u64) -> Result<(), Stop>
+// To look for a file costs so much: it is opened, and may have two signatures.
+const OPENING: u128 = 1024;
+
+/// Spends so much of the room, unless there is less.
+pub(crate) fn spend(room: &mut u64, cost: u128) -> Result<(), Stop>
     ensures { MatchResult result (λ _. room.new + cost ≡ room.old)
         (λ stop. (stop ≡ Stops.Room) × (room.old < cost) × (room.new ≡ room.old)) }
 {
-    match room.checked_sub(cost) {
-        None => Err(Stop::Room),
-        Some(left) => {
-            *room = left;
-            Ok(())
-        }
+    if cost > u128::from(*room) {
+        return Err(Stop::Room);
     }
+    *room -= cost as u64;
+    Ok(())
 }
 
-/// What the copy has for a URI; as much room is spent as it has octets.
+/// What the copy has for a URI. It costs that it is looked for, and as much as it has octets.
 pub(crate) fn read_file<R: Repository, C: Crypto>(
     alloc: Global,
     pass: &Pass<'_, R, C>,
     uri: &Rsync,
     room: &mut u64,
 ) -> Result<Result<Bytes, NoFile>, Stop>
-    ensures { IsOutcome (ReadCosts (setting R.finds C.digest_of C.is_signed pass.now) uri.now)
-        (λ found. R.finds pass.now.copy.now uri.now found) (λ cause. ⊥) room.old room.new result }
+    ensures { IsOutcome (ReadStarts (setting R.finds C.digest_of C.is_signed pass.now) uri.now)
+        (λ found n. R.finds pass.now.copy.now uri.now found × (n ≡ found_cost found))
+        (λ cause n. ⊥) room.old room.new result }
 {
+    if let Err(stop) = spend(room, OPENING) {
+        return Err(stop);
+    }
     match pass.copy.read(alloc, uri.as_slice())? {
         Err(why) => Ok(Err(why)),
-        Ok(octets) => match spend(room, octets.len() as u64) {
+        Ok(octets) => match spend(room, octets.len() as u128) {
             Err(stop) => {
                 drop(octets);
                 Err(stop)
@@ -60,9 +65,12 @@ pub(crate) fn read_listed<R: Repository, C: Crypto>(
     hash: &ManifestHash,
     room: &mut u64,
 ) -> Result<Bytes, Stop>
-    ensures { IsOutcome (ReadCosts (setting R.finds C.digest_of C.is_signed pass.now) uri.now)
-        (Has (setting R.finds C.digest_of C.is_signed pass.now) (uri.now, hash.now))
-        (IsLostFile (setting R.finds C.digest_of C.is_signed pass.now) (uri.now, hash.now))
+    ensures { IsOutcome (ReadStarts (setting R.finds C.digest_of C.is_signed pass.now) uri.now)
+        (λ octets n. Has (setting R.finds C.digest_of C.is_signed pass.now) (uri.now, hash.now)
+        octets × (n ≡ found_cost (Ok octets)))
+        (λ cause n. IsLostFile (setting R.finds C.digest_of C.is_signed pass.now)
+        (uri.now, hash.now) cause
+        × ReadCosts (setting R.finds C.digest_of C.is_signed pass.now) uri.now n)
         room.old room.new result }
 {
     match read_file(alloc, pass, uri, room)? {

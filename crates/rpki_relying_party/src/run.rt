@@ -5,7 +5,7 @@ use crate::found::{Finding, Found};
 use crate::pass::Pass;
 use crate::place::{Place, key_of};
 use crate::places::{Places, Reading};
-use crate::point::read_within;
+use crate::point::read_place;
 use rpki_basics::Crypto;
 use std::alloc::{AllocError, Global};
 
@@ -18,7 +18,7 @@ impl<'a, R: Repository, C: Crypto> Places for Pass<'a, R, C> {
 
     ghost use Rattle.std.specs.Prelude.{◌⊎◌, All, Contains, OnOk};
     ghost use Rattle.rpki_relying_party.specs.declared.found.Finding.{Finding};
-    ghost use Rattle.rpki_relying_party.specs.Costs.{PlaceCosts};
+    ghost use Rattle.rpki_relying_party.specs.Costs.{PlaceCosts, PlaceExceeds};
     ghost use Rattle.rpki_relying_party.specs.Found.{Lists, HasAsLong, SaysLike};
     ghost use Rattle.rpki_relying_party.specs.Passes.{setting};
     ghost use Rattle.rpki_relying_party.specs.Place.{key_of};
@@ -29,6 +29,8 @@ impl<'a, R: Repository, C: Crypto> Places for Pass<'a, R, C> {
     ghost tells = { λ pass. PlaceTells (setting R.finds C.digest_of C.is_signed pass) };
 
     ghost costs = { λ pass. PlaceCosts (setting R.finds C.digest_of C.is_signed pass) };
+
+    ghost exceeds = { λ pass. PlaceExceeds (setting R.finds C.digest_of C.is_signed pass) };
 
     ghost alike = { SaysLike };
 
@@ -46,7 +48,7 @@ impl<'a, R: Repository, C: Crypto> Places for Pass<'a, R, C> {
         place: &Place,
         room: u64,
     ) -> Result<Reading<Place, Finding>, AllocError> {
-        read_within(alloc, self, place, room)
+        read_place(alloc, self, place, room)
     }
 
     fn keep(&self, alloc: Global, said: Vec<Finding>, found: &mut Found) -> Result<(), AllocError>

@@ -17,14 +17,18 @@ loop-uri-init g c =
 pub loop-uri-preserved-in-Ok-Err : goal.loop-uri-preserved-in-Ok-Err
 loop-uri-preserved-in-Ok-Err g c =
     more-missing (g.R.Repository.finds c.args.copy.now) c.args.tal.now.key c.args.tal.now.uris
-    (iter_rest c.loop-uri.uri-iterator) c.loop-uri.are_missing c.loop-uri.invariant
+    (iter_rest c.loop-uri.uri-iterator) c.loop-uri.are_missing c.loop-uri.reason
+    c.loop-uri.invariant
     (iter_rest c.next.new.self) c.in-Some.uri.now c.in-Some.ensures.steps
-    c.in-Ok-Err.field-0 c.in-Ok-Err.ensures c.in-Ok-Err.field-0-0 c.in-Ok-Err.field-0-is
+    c.in-Ok-Err.field-0 c.in-Ok-Err.ensures c.in-Ok-Err.why c.in-Ok-Err.field-0-is
+    c.first_reason-reason.result c.first_reason-reason.ensures.first
+    c.first_reason-reason.ensures.later
 
 pub loop-uri-preserved : goal.loop-uri-preserved
 loop-uri-preserved g c =
     more-others (g.R.Repository.finds c.args.copy.now) c.args.tal.now.key c.args.tal.now.uris
-    (iter_rest c.loop-uri.uri-iterator) c.loop-uri.are_missing c.loop-uri.invariant
+    (iter_rest c.loop-uri.uri-iterator) c.loop-uri.are_missing c.loop-uri.reason
+    c.loop-uri.invariant
     (iter_rest c.next.new.self) c.in-Some.uri.now c.in-Some.ensures.steps
     c.in-Ok-Ok.field-0 c.in-Ok-Ok.ensures c.in-Ok-Ok.octets c.in-Ok-Ok.field-0-is
     (λ b. true≢false (sym (c.in-Ok-false.ensures.1 b) ∙ c.in-Ok-false.field-0-test))
@@ -32,7 +36,8 @@ loop-uri-preserved g c =
 pub returns-in-Ok-true : goal.returns-in-Ok-true
 returns-in-Ok-true g c =
     first-found (g.R.Repository.finds c.args.copy.now) c.args.tal.now.key c.args.tal.now.uris
-    (iter_rest c.loop-uri.uri-iterator) c.loop-uri.are_missing c.loop-uri.invariant
+    (iter_rest c.loop-uri.uri-iterator) c.loop-uri.are_missing c.loop-uri.reason
+    c.loop-uri.invariant
     (iter_rest c.next.new.self) c.in-Some.uri.now c.in-Some.ensures.steps
     c.in-Ok-Ok.field-0 c.in-Ok-Ok.ensures c.in-Ok-Ok.octets c.in-Ok-Ok.field-0-is
     (c.in-Ok-true.ensures.0 c.in-Ok-true.field-0-test)
@@ -40,13 +45,15 @@ returns-in-Ok-true g c =
 pub returns-then-are_missing : goal.returns-then-are_missing
 returns-then-are_missing g c =
     all-missing (g.R.Repository.finds c.args.copy.now) c.args.tal.now.key c.args.tal.now.uris
-    (iter_rest c.loop-uri.uri-iterator) c.loop-uri.are_missing c.loop-uri.invariant
+    (iter_rest c.loop-uri.uri-iterator) c.loop-uri.are_missing c.loop-uri.reason
+    c.loop-uri.invariant
     (nil_from_length (iter_rest c.loop-uri.uri-iterator) c.in-None.ensures.steps.0)
     c.if-are_missing.true
 
 pub returns-else-are_missing : goal.returns-else-are_missing
 returns-else-are_missing g c =
     all-other (g.R.Repository.finds c.args.copy.now) c.args.tal.now.key c.args.tal.now.uris
-    (iter_rest c.loop-uri.uri-iterator) c.loop-uri.are_missing c.loop-uri.invariant
+    (iter_rest c.loop-uri.uri-iterator) c.loop-uri.are_missing c.loop-uri.reason
+    c.loop-uri.invariant
     (nil_from_length (iter_rest c.loop-uri.uri-iterator) c.in-None.ensures.steps.0)
     c.if-are_missing.false

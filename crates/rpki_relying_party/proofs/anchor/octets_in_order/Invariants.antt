@@ -7,4 +7,4 @@ use Rattle.rpki_relying_party.proofs.anchor.octets_in_order.Given as goal
 abbrev pub invariant-loop-uri : goal.invariant-loop-uri
 invariant-loop-uri g l =
     IsSearched (g.R.Repository.finds l.copy) l.tal.key l.tal.uris (iter_rest l.uri-iterator)
-    l.are_missing
+    l.are_missing l.reason

@@ -1,9 +1,10 @@
-use Rattle.std.proofs.Common.{sym, ◌∙◌, true≢false}
+use Rattle.std.proofs.Common.{◌≡◌, Ok, sym, ◌∙◌, true≢false}
+use Rattle.rpki_relying_party.specs.Costs.{FileCosts, found_cost}
 use Rattle.rpki_relying_party.specs.Outcome.{AppendsBoth}
 use Rattle.rpki_relying_party.specs.Passes.{setting}
 use Rattle.rpki_relying_party.specs.Point.{Has}
 use Rattle.rpki_relying_party.specs.Tells.{FileTells}
-use Rattle.rpki_relying_party.proofs.Filing.{list-passed, file-lost, file-read}
+use Rattle.rpki_relying_party.proofs.Filing.{list-passed, file-lost, no-lookup, file-read}
 use Rattle.rpki_relying_party.proofs.files.process_file.Goals as goal
 
 pub returns-then-are_same : goal.returns-then-are_same
@@ -13,8 +14,8 @@ returns-then-are_same g c =
     let above = c.args.above.now in
     let list = above.list.now.crl.list in
     list-passed s above.ca.now above.list.now.uri list above.until above.manifest.now
-    c.args.listed (c.are_same.ensures.0 c.if-are_same.true) c.args.room.now
-    c.args.findings.now.said.items c.args.findings.now.children.items
+    c.args.listed c.args.findings.now.said.items c.args.findings.now.children.items
+    (c.are_same.ensures.0 c.if-are_same.true) c.args.room.now
 
 pub returns-in-Err : goal.returns-in-Err
 returns-in-Err g c =
@@ -23,25 +24,45 @@ returns-in-Err g c =
     let above = c.args.above.now in
     let list = above.list.now.crl.list in
     file-lost s above.ca.now above.list.now.uri list above.until above.manifest.now c.args.listed
+    c.args.findings.now.said.items c.args.findings.now.children.items
     (λ e. true≢false (sym (c.are_same.ensures.1 e) ∙ c.if-are_same.false))
-    (Has s c.args.listed) (λ (_ : Unit {0}). AppendsBoth (FileTells s above.ca.now
+    (λ octets n. Has s c.args.listed octets × (n ≡ found_cost (Ok octets)))
+    (λ (_ : Unit {0}) n. AppendsBoth (FileTells s above.ca.now
     above.list.now.uri list above.until above.manifest.now c.args.listed)
     c.args.findings.now.said.items c.args.findings.now.said.items
-    c.args.findings.now.children.items c.args.findings.now.children.items)
+    c.args.findings.now.children.items c.args.findings.now.children.items
+    × FileCosts s above.ca.now above.list.now.uri list c.args.listed n)
     c.args.room.now c.read_listed.new.room c.in-Err.stop c.in-Err.ensures
 
-pub process_read-requires : goal.process_read-requires
-process_read-requires g c = c.in-Ok.ensures.1.0
+pub returns-in-Err-spend : goal.returns-in-Err-spend
+returns-in-Err-spend g c =
+    let s = setting g.R.Repository.finds g.C.Crypto.digest_of g.C.Crypto.is_signed
+    c.args.pass.now in
+    let above = c.args.above.now in
+    let list = above.list.now.crl.list in
+    no-lookup s above.ca.now above.list.now.uri list above.until above.manifest.now c.args.listed
+    c.args.findings.now.said.items c.args.findings.now.children.items
+    (λ e. true≢false (sym (c.are_same.ensures.1 e) ∙ c.if-are_same.false)) c.in-Ok.octets
+    c.args.room.now c.read_listed.new.room c.in-Ok.ensures c.lookup_cost.result
+    c.lookup_cost.ensures
+    (λ (_ : Unit {0}) n. AppendsBoth (FileTells s above.ca.now
+    above.list.now.uri list above.until above.manifest.now c.args.listed)
+    c.args.findings.now.said.items c.args.findings.now.said.items
+    c.args.findings.now.children.items c.args.findings.now.children.items
+    × FileCosts s above.ca.now above.list.now.uri list c.args.listed n)
+    c.spend.new.room c.in-Err-spend.stop c.in-Err-spend.ensures
 
-pub returns-in-Ok : goal.returns-in-Ok
-returns-in-Ok g c =
+pub returns-in-Ok-spend : goal.returns-in-Ok-spend
+returns-in-Ok-spend g c =
     let s = setting g.R.Repository.finds g.C.Crypto.digest_of g.C.Crypto.is_signed
     c.args.pass.now in
     let above = c.args.above.now in
     let list = above.list.now.crl.list in
     file-read s above.ca.now above.list.now.uri list above.until above.manifest.now c.args.listed
+    c.args.findings.now.said.items c.args.findings.now.children.items
     (λ e. true≢false (sym (c.are_same.ensures.1 e) ∙ c.if-are_same.false)) c.in-Ok.octets
-    c.in-Ok.ensures.1 c.args.findings.now.said.items c.process_read.new.findings.said.items
-    c.args.findings.now.children.items c.process_read.new.findings.children.items
-    c.args.room.now c.read_listed.new.room c.process_read.new.room c.in-Ok.ensures.0
-    c.process_read.result c.process_read.ensures
+    c.args.room.now c.read_listed.new.room c.in-Ok.ensures c.lookup_cost.result
+    c.lookup_cost.ensures c.spend.new.room
+    c.in-Ok-spend.ensures
+    c.process_read.new.findings.said.items c.process_read.new.findings.children.items
+    c.process_read.new.room c.process_read.result c.process_read.ensures

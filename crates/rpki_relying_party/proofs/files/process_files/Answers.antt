@@ -1,5 +1,6 @@
 -- One file more is read.
 use Rattle.rpki_files.specs.Manifest.Uris.{uris_of}
+use Rattle.rpki_relying_party.specs.Costs.{FileCosts, FilesCost}
 use Rattle.rpki_relying_party.specs.Outcome.{AppendsBoth}
 use Rattle.rpki_relying_party.specs.Passes.{setting}
 use Rattle.rpki_relying_party.specs.Tells.{FileTells, FilesTell}
@@ -31,14 +32,17 @@ returns-in-Err-process_file g c =
     c.args.room.now c.loop-item.room c.loop-item.invariant c.in-Ok.listed c.next.new.self
     (first-left c.in-Some.item c.in-Ok.listed c.loop-item.files c.next.new.self
     c.in-Some.ensures.steps c.in-Ok.is)
-    (λ (_ : Unit {0}). AppendsBoth (FileTells s above.ca.now above.list.now.uri list above.until
+    (λ (_ : Unit {0}) n. AppendsBoth (FileTells s above.ca.now above.list.now.uri list above.until
     above.manifest.now c.in-Ok.listed) c.loop-item.findings.said.items
     c.process_file.new.findings.said.items c.loop-item.findings.children.items
-    c.process_file.new.findings.children.items)
-    (λ (_ : Unit {0}). AppendsBoth (FilesTell s above.ca.now above.list.now.uri list above.until
+    c.process_file.new.findings.children.items
+    × FileCosts s above.ca.now above.list.now.uri list c.in-Ok.listed n)
+    (λ (_ : Unit {0}) n. AppendsBoth (FilesTell s above.ca.now above.list.now.uri list above.until
     above.manifest.now (uris_of c.args.folder.now c.args.manifest.now.files))
     c.args.findings.now.said.items c.process_file.new.findings.said.items
-    c.args.findings.now.children.items c.process_file.new.findings.children.items)
+    c.args.findings.now.children.items c.process_file.new.findings.children.items
+    × FilesCost s above.ca.now above.list.now.uri list
+    (uris_of c.args.folder.now c.args.manifest.now.files) n)
     c.process_file.new.room c.in-Err-process_file.stop c.in-Err-process_file.ensures
 
 pub loop-item-preserved : goal.loop-item-preserved
@@ -55,7 +59,7 @@ loop-item-preserved g c =
     (first-left c.in-Some.item c.in-Ok.listed c.loop-item.files c.next.new.self
     c.in-Some.ensures.steps c.in-Ok.is)
     c.process_file.new.findings.said.items c.process_file.new.findings.children.items
-    c.process_file.new.room c.in-Ok-process_file.ensures.0 c.in-Ok-process_file.ensures.1
+    c.process_file.new.room c.in-Ok-process_file.ensures
 
 pub returns : goal.returns
 returns g c =

@@ -1,3 +1,4 @@
+use Rattle.rpki_relying_party.specs.Costs.{ListCosts, ListedCosts}
 use Rattle.rpki_relying_party.specs.Outcome.{AppendsBoth}
 use Rattle.rpki_relying_party.specs.Passes.{setting}
 use Rattle.rpki_relying_party.specs.Point.{IsListAt}
@@ -14,10 +15,12 @@ returns-in-Err g c =
     let signer = c.args.manifest.now.signer.cert.certificate in
     let content = c.args.manifest.now.content in
     no-list s place c.args.folder.now c.args.uri.now signer content c.requires
-    (λ (l : List). IsListAt s place.ca c.args.folder.now signer content l.uri l.crl.list)
-    (λ (_ : Unit {0}). AppendsBoth (PointTells s place c.args.folder.now c.args.uri.now)
+    (λ (l : List) n. IsListAt s place.ca c.args.folder.now signer content l.uri l.crl.list
+    × ListCosts s c.args.folder.now signer content n)
+    (λ (_ : Unit {0}) n. AppendsBoth (PointTells s place c.args.folder.now c.args.uri.now)
     c.args.findings.now.said.items c.args.findings.now.said.items
-    c.args.findings.now.children.items c.args.findings.now.children.items)
+    c.args.findings.now.children.items c.args.findings.now.children.items
+    × ListedCosts s place.ca c.args.folder.now signer content n)
     c.args.room.now c.find_crl.new.room c.in-Err.stop c.in-Err.ensures
 
 pub returns-in-Ok : goal.returns-in-Ok
@@ -28,8 +31,8 @@ returns-in-Ok g c =
     let signer = c.args.manifest.now.signer.cert.certificate in
     let content = c.args.manifest.now.content in
     files-read s place c.args.folder.now c.args.uri.now signer content c.requires
-    c.in-Ok.list.uri c.in-Ok.list.crl.list c.in-Ok.ensures.1 c.until_of.result c.until_of.ensures
+    c.in-Ok.list.uri c.in-Ok.list.crl.list c.until_of.result c.until_of.ensures
     c.args.findings.now.said.items c.process_files-done.new.findings.said.items
     c.args.findings.now.children.items c.process_files-done.new.findings.children.items
-    c.args.room.now c.find_crl.new.room c.process_files-done.new.room c.in-Ok.ensures.0
+    c.args.room.now c.find_crl.new.room c.process_files-done.new.room c.in-Ok.ensures
     c.process_files-done.result c.process_files-done.ensures

@@ -1,3 +1,4 @@
+use Rattle.rpki_relying_party.specs.Costs.{ReadCosts, PointCosts}
 use Rattle.rpki_relying_party.specs.Outcome.{AppendsBoth}
 use Rattle.rpki_relying_party.specs.Passes.{setting}
 use Rattle.rpki_relying_party.specs.Point.{IsManifestAt}
@@ -12,12 +13,17 @@ returns-in-Err g c =
     c.args.pass.now in
     let place = c.args.place.now in
     no-manifest s place c.args.folder.now c.args.uri.now
-    (λ (m : Manifest). IsManifestAt s place.ca c.args.folder.now c.args.uri.now
-    m.signer.cert.certificate m.content)
-    (λ (_ : Unit {0}). AppendsBoth (PointTells s place c.args.folder.now c.args.uri.now)
+    (λ (m : Manifest) n. IsManifestAt s place.ca c.args.folder.now c.args.uri.now
+    m.signer.cert.certificate m.content × ReadCosts s c.args.uri.now n)
+    (λ (_ : Unit {0}) n. AppendsBoth (PointTells s place c.args.folder.now c.args.uri.now)
     c.args.findings.now.said.items c.args.findings.now.said.items
-    c.args.findings.now.children.items c.args.findings.now.children.items)
+    c.args.findings.now.children.items c.args.findings.now.children.items
+    × PointCosts s place.ca c.args.folder.now c.args.uri.now n)
     c.args.room.now c.find_manifest.new.room c.in-Err.stop c.in-Err.ensures
+
+-- the manifest is good, whatever was spent on it
+pub process_listed-done-requires : goal.process_listed-done-requires
+process_listed-done-requires g c = c.in-Ok.ensures.1.0
 
 pub returns-in-Ok : goal.returns-in-Ok
 returns-in-Ok g c =
@@ -25,9 +31,8 @@ returns-in-Ok g c =
     c.args.pass.now in
     let place = c.args.place.now in
     point-read s place c.args.folder.now c.args.uri.now c.in-Ok.manifest.signer.cert.certificate
-    c.in-Ok.manifest.content c.in-Ok.ensures.1
-    (λ (_ : Unit {0}). AppendsBoth (PointTells s place c.args.folder.now c.args.uri.now)
-    c.args.findings.now.said.items c.process_listed-done.new.findings.said.items
-    c.args.findings.now.children.items c.process_listed-done.new.findings.children.items)
-    c.args.room.now c.find_manifest.new.room c.process_listed-done.new.room c.in-Ok.ensures.0
-    c.process_listed-done.result c.process_listed-done.ensures
+    c.in-Ok.manifest.content c.args.findings.now.said.items
+    c.process_listed-done.new.findings.said.items c.args.findings.now.children.items
+    c.process_listed-done.new.findings.children.items c.args.room.now c.find_manifest.new.room
+    c.process_listed-done.new.room c.in-Ok.ensures c.process_listed-done.result
+    c.process_listed-done.ensures

@@ -1,21 +1,33 @@
-use Rattle.std.proofs.Common.{inl, inr}
+use Rattle.std.proofs.Common.{subst}
 use Rattle.rpki_relying_party.specs.Passes.{setting}
-use Rattle.rpki_relying_party.proofs.Pointing.{nothing-told}
+use Rattle.rpki_relying_party.specs.Reading.{IsPointReading}
+use Rattle.rpki_relying_party.specs.declared.point.PointReading.{PointReading}
+use Rattle.rpki_relying_party.proofs.Pointing.{reads-told, reads-refused}
 use Rattle.rpki_relying_party.proofs.point.read_place.Goals as goal
 
-pub returns-in-None : goal.returns-in-None
-returns-in-None g c =
+pub returns-in-Ok-Told : goal.returns-in-Ok-Told
+returns-in-Ok-Told g c =
     let s = setting g.R.Repository.finds g.C.Crypto.digest_of g.C.Crypto.is_signed
     c.args.pass.now in
     let place = c.args.place.now in
-    nothing-told s place (inl c.in-None.ensures) c.args.room.now c.read_nothing.new.room
-    c.read_nothing.result c.read_nothing.ensures
+    reads-told s place c.args.room c.in-Ok-Told.told
+    (subst (λ (r : PointReading). IsPointReading s place c.args.room r) c.in-Ok-Told.field-0-is
+    c.in-Ok-Told.ensures)
 
-pub returns-in-None-manifest_of : goal.returns-in-None-manifest_of
-returns-in-None-manifest_of g c =
+pub returns-in-Ok-Cut : goal.returns-in-Ok-Cut
+returns-in-Ok-Cut g c =
     let s = setting g.R.Repository.finds g.C.Crypto.digest_of g.C.Crypto.is_signed
     c.args.pass.now in
     let place = c.args.place.now in
-    nothing-told s place (inr c.in-None-manifest_of.ensures) c.args.room.now
-    c.read_nothing-in-None-manifest_of.new.room c.read_nothing-in-None-manifest_of.result
-    c.read_nothing-in-None-manifest_of.ensures
+    subst (λ (r : PointReading). IsPointReading s place c.args.room r) c.in-Ok-Cut.field-0-is
+    c.in-Ok-Cut.ensures
+
+pub returns-in-Ok : goal.returns-in-Ok
+returns-in-Ok g c =
+    let s = setting g.R.Repository.finds g.C.Crypto.digest_of g.C.Crypto.is_signed
+    c.args.pass.now in
+    let place = c.args.place.now in
+    reads-refused s place c.args.room c.in-Ok-Refused.refusal c.in-Ok-Refused.cost
+    (subst (λ (r : PointReading). IsPointReading s place c.args.room r)
+    c.in-Ok-Refused.field-0-is c.in-Ok-Refused.ensures)
+    c.in-Ok.told c.in-Ok.ensures.said c.in-Ok.ensures.children c.in-Ok.ensures.costs

@@ -3,8 +3,10 @@ use Rattle.std.proofs.Common.{refl, sym, subst}
 use Rattle.std.specs.Prelude.{OnOk}
 use Rattle.rpki_relying_party.specs.Found.{KeepsFinding}
 use Rattle.rpki_relying_party.specs.declared.found.Finding.{Finding}
+use Rattle.rpki_relying_party.specs.declared.found.Finding.TheVariants as findings
 use Rattle.rpki_relying_party.specs.declared.found.Found.{Found}
-use Rattle.rpki_relying_party.proofs.Kept.{onward, keeps-payload, keeps-refusal}
+use Rattle.rpki_relying_party.specs.declared.found.Refusal.{Refusal}
+use Rattle.rpki_relying_party.proofs.Kept.{onward, keeps-payload}
 use Rattle.rpki_relying_party.proofs.found.Found.keep.Goals as goal
 
 pub returns-in-Payload : goal.returns-in-Payload
@@ -18,7 +20,8 @@ returns-in-Payload c =
 pub returns-in-Refusal : goal.returns-in-Refusal
 returns-in-Refusal c =
     let old = c.args.self.now in
-    let r = c.keep_refusal in
-    let new : Found = record { payloads = old.payloads; refusals = r.new.refusals } in
-    subst (λ (x : Finding). OnOk r.result (KeepsFinding x old new)) (sym c.in-Refusal.is)
-    (onward r.result (λ k. keeps-refusal c.in-Refusal.refusal old new k refl) r.ensures)
+    subst (λ (x : Finding). OnOk c.refuse.result (KeepsFinding x old c.refuse.new.self))
+    (sym c.in-Refusal.is)
+    (subst (λ (r : Refusal).
+    OnOk c.refuse.result (KeepsFinding (findings.Refusal r) old c.refuse.new.self))
+    c.into_refusal.ensures c.refuse.ensures)
