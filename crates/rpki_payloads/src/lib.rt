@@ -3,6 +3,7 @@
 #![tactic(auto)]
 
 mod csv;
+mod customers;
 mod escaped;
 mod format;
 mod found;

@@ -1,0 +1,73 @@
+-- Customers with their providers, from one to the next.
+use Rattle.std.proofs.Common.{◌≡◌, ◌≢◌, ℕ, ◌==◌, List, [], ◌∷◌, if◌then◌else◌, refl, sym, ap, ◌∙◌}
+use Rattle.std.proofs.Common.{subst, arith}
+use Rattle.std.proofs.lemmas.Bool.Decides.{nat_tests}
+use Rattle.rpki_relying_party.specs.declared.payload.Provider.{Provider}
+use Rattle.rpki_payloads.specs.Payloads.{Customer, put_provider, customers_of, providers_of}
+
+-- the customers after this one, where it is the first of them, and else all
+abbrev pub customers_after : ℕ → List Customer → List Customer
+customers_after customer [] = []
+customers_after customer (c ∷ cs) = if c.number == customer then cs else c ∷ cs
+
+-- the providers of this customer, where it is the first of these
+abbrev first_providers : ℕ → List Customer → List ℕ
+first_providers customer [] = []
+first_providers customer (c ∷ cs) = if c.number == customer then c.providers else []
+
+-- the customer of a provider that was put before customers stands first
+put-first : (p : Provider) (cs : List Customer)
+    → put_provider p cs ≡ record {
+      number = p.customer;
+      providers = p.provider ∷ first_providers p.customer cs;
+    } ∷ customers_after p.customer cs
+put-first p [] = refl
+put-first p (c ∷ cs) = grind (arith, nat_tests)
+
+put-providers : (customer : ℕ) (p : Provider) (cs : List Customer)
+    → first_providers customer (put_provider p cs)
+    ≡ if p.customer == customer then p.provider ∷ first_providers customer cs else []
+put-providers customer p [] = refl
+put-providers customer p (c ∷ cs) = grind (arith, nat_tests)
+
+-- the providers of a customer that stand at the front are those of the first customer, if it is this
+-- one
+front : (customer : ℕ) (ps : List Provider)
+    → first_providers customer (customers_of ps) ≡ providers_of customer ps
+front customer [] = refl
+front customer (p ∷ ps) =
+    put-providers customer p (customers_of ps)
+    ∙ ap (λ ns. if p.customer == customer then p.provider ∷ ns else []) (front customer ps)
+
+-- the first customer with its providers, and the customers after it
+pub first-of : (p : Provider) (ps : List Provider)
+    → customers_of (p ∷ ps) ≡ record {
+      number = p.customer;
+      providers = p.provider ∷ providers_of p.customer ps;
+    } ∷ customers_after p.customer (customers_of ps)
+first-of p ps =
+    put-first p (customers_of ps)
+    ∙ ap (λ ns. record { number = p.customer; providers = p.provider ∷ ns }
+    ∷ customers_after p.customer (customers_of ps)) (front p.customer ps)
+
+if-same : (n : ℕ) (xs ys : List Customer) → (if n == n then xs else ys) ≡ xs
+if-same n xs ys = grind (arith, nat_tests)
+
+if-other : (m n : ℕ) (xs ys : List Customer) → m ≢ n → (if m == n then xs else ys) ≡ ys
+if-other m n xs ys ne = grind (arith, nat_tests)
+
+-- where a provider of this customer stands first, the customers after it are those after it among
+-- the further ones
+pub passed : (p : Provider) (ps : List Provider) (customer : ℕ) → p.customer ≡ customer
+    → customers_after customer (customers_of (p ∷ ps))
+    ≡ customers_after customer (customers_of ps)
+passed p ps customer e =
+    subst (λ n. customers_after n (customers_of (p ∷ ps)) ≡ customers_after n (customers_of ps)) e
+    (ap (customers_after p.customer) (first-of p ps) ∙ if-same p.customer _ _)
+
+-- where one of another customer stands first, all are after this one
+pub others : (p : Provider) (ps : List Provider) (customer : ℕ) → p.customer ≢ customer
+    → customers_after customer (customers_of (p ∷ ps)) ≡ customers_of (p ∷ ps)
+others p ps customer ne =
+    ap (customers_after customer) (first-of p ps) ∙ if-other p.customer customer _ _ ne
+    ∙ sym (first-of p ps)
