@@ -1,6 +1,6 @@
 //! Revocation lists.
 
-pub use rpki_crls::{Crl, CrlExtensions, faults};
+pub use rpki_crls::{Crl, CrlEntry, CrlExtensions, faults};
 pub use rpki_issued_crls::{CrlBuilder, RevokedCert};
 
 /// Laws of revocation lists, and of those that are made.

@@ -35,6 +35,13 @@ impl CrlEntry {
     {
         CrlEntry(serial)
     }
+
+    /// The serial number of the certificate.
+    pub fn serial(&self) -> Serial
+        ensures { result ≡ self.now }
+    {
+        self.0
+    }
 }
 
 impl PartialEq for CrlEntry {

@@ -8,4 +8,5 @@ pub mod faults;
 pub mod laws;
 
 pub use crl::Crl;
+pub use entry::CrlEntry;
 pub use extensions::{CRL_NUMBER, CrlExtensions};

@@ -1,9 +1,9 @@
 pub mod Characters
-pub mod Customers
+pub mod Counted
 pub mod Fields
 pub mod Further
+pub mod Grouped
 pub mod Objects
 pub mod Plain
-pub mod Seconds
 pub mod Tables
 pub mod Values

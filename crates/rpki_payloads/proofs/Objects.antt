@@ -1,5 +1,5 @@
 -- The text is JSON, and says the payloads.
-use Rattle.std.proofs.Common.{◌≡◌, ℕ, ◌<◌, ◌^◌, List, [], ◌++◌, All, codes, decimal, refl, sym}
+use Rattle.std.proofs.Common.{◌≡◌, ℕ, ◌<◌, ◌^◌, List, [], ◌++◌, All, codes, decimal, refl, sym, ap}
 use Rattle.std.proofs.Common.{◌∙◌, arith, append_assoc, append-nil, subst, IsUtf8, String}
 use Rattle.std.proofs.Common.{string_bytes, Global}
 use Rattle.std.proofs.lemmas.Str.{IsUtf8-string_bytes}
@@ -19,12 +19,12 @@ use Rattle.rpki_payloads.specs.Payloads.{NamedCustomer, customers_among}
 use Rattle.rpki_payloads.specs.Said.{metadata_value, roa_value, provider_value, aspa_value}
 use Rattle.rpki_payloads.specs.Said.{json_value, HasNumbers, HaveNumbers}
 use Rattle.rpki_payloads.specs.Seconds.{seconds_since}
-use Rattle.rpki_payloads.specs.Texts.Json.{json_metadata, json_origin, json_expires, json_roa}
-use Rattle.rpki_payloads.specs.Texts.Json.{json_customer, json_provider, json_ta, json_aspa}
+use Rattle.rpki_payloads.specs.Texts.Json.{json_generated, json_times, json_origin, json_expires}
+use Rattle.rpki_payloads.specs.Texts.Json.{json_roa, json_customer, json_provider, json_ta, json_aspa}
 use Rattle.rpki_payloads.specs.Texts.Json.{json_roas, json_aspas, json_text}
 use Rattle.rpki_payloads.specs.Texts.Origin.{prefix_of}
 use Rattle.rpki_payloads.proofs.Plain.{plain-by, plain-asn, plain-prefix, plain-moment}
-use Rattle.rpki_payloads.proofs.Seconds.{seconds-small}
+use Rattle.rpki_payloads.proofs.Counted.{seconds-small}
 use Rattle.rpki_payloads.proofs.Values.{plain-string, are-items, written, members}
 use Rattle.rpki_payloads.proofs.Values.{further-members}
 
@@ -108,6 +108,9 @@ array-is items octets last closes h = record {
   holds = h;
 }
 
+step : (a q rest end : List ℕ) → ((a ++ q) ++ rest) ++ end ≡ a ++ (q ++ (rest ++ end))
+step a q rest end = append_assoc (a ++ q) rest end ∙ append_assoc a q (rest ++ end)
+
 -- ---- when payloads were found
 
 module _ (seconds time : List ℕ) where
@@ -177,11 +180,42 @@ module _ (asn prefix length name expires : List ℕ) where
   roa-octets = codes "\n    { "
       ++ ((written (codes "asn") (quoted asn) ++ prefix-octets) ++ codes " }")
 
+  -- what is written of an origin, from one part to the next
+  abbrev roa-row : List ℕ → List ℕ
+  roa-row rest = codes "\n    { \"asn\": \"" ++ (asn ++ (codes "\", \"prefix\": \"" ++ (prefix
+      ++ (codes "\", \"maxLength\": " ++ (length ++ rest)))))
+
+  -- its last members
+  abbrev last-row : List ℕ
+  last-row = codes ", \"ta\": " ++ (name ++ (codes ", \"expires\": " ++ (expires ++ codes " }")))
+
+  roa-left : (codes "\n    { \"asn\": \"" ++ (asn ++ (codes "\", \"prefix\": \"" ++ (prefix
+      ++ (codes "\", \"maxLength\": " ++ length))))) ++ last-row ≡ roa-row last-row
+  roa-left =
+      ap (λ z. codes "\n    { \"asn\": \"" ++ z)
+      (append_assoc asn (codes "\", \"prefix\": \"" ++ (prefix
+      ++ (codes "\", \"maxLength\": " ++ length))) last-row
+      ∙ ap (λ z. asn ++ (codes "\", \"prefix\": \"" ++ z))
+      (append_assoc prefix (codes "\", \"maxLength\": " ++ length) last-row))
+
+  last-same : last-row ≡ ta-octets ++ codes " }"
+  last-same =
+      ap (λ z. codes ", \"ta\": " ++ z)
+      (sym (append_assoc name expires-octets (codes " }")
+      ∙ ap (λ z. name ++ (codes ", \"expires\": " ++ (z ++ codes " }"))) (append-nil expires)))
+
+  roa-right : roa-octets ≡ roa-row (ta-octets ++ codes " }")
+  roa-right =
+      ap (λ z. codes "\n    { \"asn\": \"" ++ z)
+      (step asn (codes "\"") prefix-octets (codes " }")
+      ∙ ap (λ z. asn ++ (codes "\", \"prefix\": \"" ++ z))
+      (step prefix (codes "\"") length-octets (codes " }")
+      ∙ ap (λ z. prefix ++ (codes "\", \"maxLength\": " ++ z))
+      (append_assoc length ta-octets (codes " }"))))
+
   roa-parts : (codes "\n    { \"asn\": \"" ++ (asn ++ (codes "\", \"prefix\": \"" ++ (prefix
-      ++ (codes "\", \"maxLength\": " ++ length)))))
-      ++ (codes ", \"ta\": " ++ (name ++ (codes ", \"expires\": " ++ (expires ++ codes " }"))))
-      ≡ roa-octets
-  roa-parts = simp (append_assoc, append-nil)
+      ++ (codes "\", \"maxLength\": " ++ length))))) ++ last-row ≡ roa-octets
+  roa-parts = roa-left ∙ ap roa-row last-same ∙ sym roa-right
 
 roa-is : (o : NamedOrigin) → HasNumbers o → IsValue (roa_value o) (json_roa o)
 unfolding json_origin json_expires
@@ -271,6 +305,15 @@ aspa-is c _ =
 
 -- ---- the whole
 
+left : (g s t m b e r o f p : List ℕ)
+    → (g ++ s) ++ ((t ++ (m ++ (b ++ (m ++ e)))) ++ ((r ++ (o ++ f)) ++ p))
+    ≡ g ++ (s ++ (t ++ (m ++ (b ++ (m ++ (e ++ (r ++ (o ++ (f ++ p)))))))))
+left g s t m b e r o f p = simp append_assoc
+
+right : (s t m r e n : List ℕ)
+    → ((((s ++ t) ++ m) ++ r) ++ e) ++ n ≡ s ++ (t ++ (m ++ (r ++ (e ++ n))))
+right s t m r e n = simp append_assoc
+
 module _ (seconds time roas aspas : List ℕ) where
   abbrev aspas-octets : List ℕ
   aspas-octets = codes ",\n  "
@@ -285,13 +328,40 @@ module _ (seconds time roas aspas : List ℕ) where
       ++ ((written (codes "metadata") (metadata-octets seconds time) ++ roas-octets)
       ++ codes "\n}")
 
-  object-parts : (codes "{\n  \"metadata\": {\n    \"generated\": " ++ (seconds
+  -- what follows the metadata, up to the end of the text
+  abbrev rest-octets : List ℕ
+  rest-octets = codes "\n  }" ++ (roas-octets ++ codes "\n}\n")
+
+  -- the same from one part to the next
+  abbrev object-row : List ℕ
+  object-row = codes "{\n  \"metadata\": {\n    \"generated\": " ++ (seconds
       ++ (codes ",\n    \"generatedTime\": \"" ++ (time ++ (codes "\",\n    \"buildtime\": \""
-      ++ (time ++ codes "\"\n  },\n"))))))
+      ++ (time ++ (codes "\"\n  },\n  \"roas\": [" ++ (roas
+      ++ (codes "\n  ],\n  \"aspas\": [" ++ (aspas ++ codes "\n  ]\n}\n")))))))))
+
+  object-left : (codes "{\n  \"metadata\": {\n    \"generated\": " ++ seconds)
+      ++ ((codes ",\n    \"generatedTime\": \"" ++ (time ++ (codes "\",\n    \"buildtime\": \""
+      ++ (time ++ codes "\"\n  },\n"))))
       ++ ((codes "  \"roas\": [" ++ (roas ++ codes "\n  ],\n"))
-      ++ (codes "  \"aspas\": [" ++ (aspas ++ codes "\n  ]\n}\n")))
-      ≡ object-octets ++ codes "\n"
-  object-parts = simp (append_assoc, append-nil)
+      ++ (codes "  \"aspas\": [" ++ (aspas ++ codes "\n  ]\n}\n"))))
+      ≡ object-row
+  object-left = left (codes "{\n  \"metadata\": {\n    \"generated\": ") seconds
+      (codes ",\n    \"generatedTime\": \"") time (codes "\",\n    \"buildtime\": \"")
+      (codes "\"\n  },\n") (codes "  \"roas\": [") roas (codes "\n  ],\n")
+      (codes "  \"aspas\": [" ++ (aspas ++ codes "\n  ]\n}\n"))
+
+  object-right : object-octets ++ codes "\n" ≡ object-row
+  object-right =
+      ap (λ z. codes "{\n  \"metadata\": {\n    \"generated\": " ++ z)
+      (right seconds (time-octets seconds time) (codes "\n  }") roas-octets (codes "\n}") (codes "\n")
+      ∙ ap (λ z. seconds ++ (codes ",\n    \"generatedTime\": \"" ++ z))
+      (step time (codes "\"") (build-octets seconds time) rest-octets
+      ∙ ap (λ z. time ++ (codes "\",\n    \"buildtime\": \"" ++ z))
+      (step time (codes "\"") [] rest-octets
+      ∙ ap (λ z. time ++ (codes "\"\n  },\n  \"roas\": [" ++ z))
+      (step roas (codes "\n  ]") aspas-octets (codes "\n}\n")
+      ∙ ap (λ z. roas ++ (codes "\n  ],\n  \"aspas\": [" ++ z))
+      (step aspas (codes "\n  ]") [] (codes "\n}\n"))))))
 
 module _ (m : Moment) (os : List NamedOrigin) (cs : List NamedCustomer) (i : IsMoment m)
     (h : All HasNumbers os) where
@@ -346,7 +416,7 @@ module _ (m : Moment) (os : List NamedOrigin) (cs : List NamedCustomer) (i : IsM
 
 text-is : (m : Moment) (found : List FoundUnder) → IsMoment m → HaveNumbers found
     → IsUtf8 (json_text m found) → IsText (json_text m found) (json_value m found)
-unfolding json_metadata json_roas json_aspas
+unfolding json_generated json_times json_roas json_aspas
 text-is m found i h utf8 =
     let os = origins_among found in
     let cs = customers_among found in
@@ -359,7 +429,7 @@ text-is m found i h utf8 =
       before = [];
       inside = object-octets seconds time roas aspas;
       after = codes "\n";
-      parts = object-parts seconds time roas aspas;
+      parts = object-left seconds time roas aspas ∙ sym (object-right seconds time roas aspas);
       space_before = refl;
       space_after = refl;
       is = object-is m os cs i h;

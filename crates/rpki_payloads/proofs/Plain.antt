@@ -154,20 +154,45 @@ plain-two n h =
     (record { low = omega arith; backslash = λ e. omega arith })
     (one (0x30 + n % 10) (record { low = omega arith; backslash = λ e. omega arith }))
 
-pub plain-moment : (m : Moment) → IsMoment m → ArePlain (iso_text m)
-plain-moment m i =
-    both _ _ (plain-two _ (omega (arith, i.year)))
-    (both _ _ (plain-two _ (omega arith))
-    (both (codes "-") _ hyphen
-    (both _ _ (plain-two _ (omega (arith, i.month)))
-    (both (codes "-") _ hyphen
-    (both _ _ (plain-two _ (omega (arith, i.day, days_in_month_bounds (pos m.year) m.month)))
-    (both (codes "T") _ (plain-by (codes "T") refl)
-    (both _ _ (plain-two _ (omega (arith, i.hour)))
-    (both (codes ":") _ colon
-    (both _ _ (plain-two _ (omega (arith, i.minute)))
-    (both (codes ":") _ colon
-    (both _ _ (plain-two _ (omega (arith, i.second))) (plain-by (codes "Z") refl))))))))))))
+two-then : (n : ℕ) (mark rest : List ℕ) → n < 100 → ArePlain mark → ArePlain rest
+    → ArePlain (two_digits n ++ (mark ++ rest))
+two-then n mark rest h i j =
+    both (two_digits n) (mark ++ rest) (plain-two n h) (both mark rest i j)
+
+module _ (m : Moment) (i : IsMoment m) where
+  abbrev from-second : List ℕ
+  from-second = two_digits m.second ++ codes "Z"
+
+  abbrev from-minute : List ℕ
+  from-minute = two_digits m.minute ++ (codes ":" ++ from-second)
+
+  abbrev from-hour : List ℕ
+  from-hour = two_digits m.hour ++ (codes ":" ++ from-minute)
+
+  abbrev from-day : List ℕ
+  from-day = two_digits m.day ++ (codes "T" ++ from-hour)
+
+  abbrev from-month : List ℕ
+  from-month = two_digits m.month ++ (codes "-" ++ from-day)
+
+  pub plain-moment : ArePlain (iso_text m)
+  plain-moment =
+      let year = i.year in
+      let month = i.month in
+      let day = i.day in
+      let hour = i.hour in
+      let minute = i.minute in
+      let second = i.second in
+      let most = days_in_month_bounds (pos m.year) m.month in
+      both (two_digits (m.year / 100)) (two_digits (m.year % 100) ++ (codes "-" ++ from-month))
+      (plain-two (m.year / 100) (omega arith))
+      (two-then (m.year % 100) (codes "-") from-month (omega arith) hyphen
+      (two-then m.month (codes "-") from-day (omega arith) hyphen
+      (two-then m.day (codes "T") from-hour (omega arith) (plain-by (codes "T") refl)
+      (two-then m.hour (codes ":") from-minute (omega arith) colon
+      (two-then m.minute (codes ":") from-second (omega arith) colon
+      (both (two_digits m.second) (codes "Z") (plain-two m.second (omega arith))
+      (plain-by (codes "Z") refl)))))))
 
 -- ---- what is written
 

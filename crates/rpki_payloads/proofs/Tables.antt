@@ -1,14 +1,16 @@
 -- The table is CSV, and its records say the rows.
 use Rattle.std.proofs.Common.{ℕ, List, [], ◌∷◌, ◌++◌, map, codes, decimal, inr, refl, arith}
+use Rattle.std.proofs.Common.{◌≡◌, ap, ◌∙◌, subst}
 use Rattle.std.specs.List.{flat_map}
+use Rattle.std.proofs.lemmas.Grind.{flat_map-append}
 use Rattle.std.proofs.lemmas.List.Elements.{All-weaker}
 use Rattle.rpki_resources.specs.As.{asn_text}
 use Rattle.rpki_payloads.specs.Found.{FoundUnder}
 use Rattle.rpki_payloads.specs.Grammar.Csv.{IsTextData, IsField, IsRecord, AreRecords}
-use Rattle.rpki_payloads.specs.Payloads.{NamedOrigin, origins_among}
+use Rattle.rpki_payloads.specs.Payloads.{NamedOrigin, origins_under, origins_among}
 use Rattle.rpki_payloads.specs.Said.{header_row, origin_row, csv_rows}
 use Rattle.rpki_payloads.specs.Seconds.{seconds_since}
-use Rattle.rpki_payloads.specs.Texts.Csv.{csv_header, csv_row, csv_text}
+use Rattle.rpki_payloads.specs.Texts.Csv.{csv_header, csv_row, rows_under, csv_text}
 use Rattle.rpki_payloads.specs.Texts.Escaped.{csv_field}
 use Rattle.rpki_payloads.specs.Texts.Origin.{prefix_of}
 use Rattle.rpki_payloads.proofs.Fields.{all-text-data, is-field}
@@ -109,11 +111,20 @@ rows-are (o ∷ os) = record {
   goes_on = rows-are os;
 }
 
+-- the rows of one name after the other
+all-rows : (found : List FoundUnder)
+    → flat_map csv_row (origins_among found) ≡ flat_map rows_under found
+all-rows [] = refl
+all-rows (f ∷ fs) =
+    flat_map-append csv_row (origins_under f) (origins_among fs)
+    ∙ ap (λ rows. rows_under f ++ rows) (all-rows fs)
+
 pub table-is : (found : List FoundUnder) → AreRecords (csv_rows found) (csv_text found)
 table-is found = record {
   record_octets = csv_header;
-  later = flat_map csv_row (origins_among found);
+  later = flat_map rows_under found;
   parts = refl;
   is = header-is;
-  goes_on = rows-are (origins_among found);
+  goes_on = subst (AreRecords (map origin_row (origins_among found))) (all-rows found)
+      (rows-are (origins_among found));
 }

@@ -1,8 +1,8 @@
 //! Origins as comma-separated values (RFC 4180).
 
 ghost use Rattle.std.specs.List.{flat_map};
-ghost use Rattle.rpki_payloads.specs.Payloads.{origins_under, named_origin};
-ghost use Rattle.rpki_payloads.specs.Texts.Csv.{csv_text, csv_row};
+ghost use Rattle.rpki_payloads.specs.Payloads.{named_origin};
+ghost use Rattle.rpki_payloads.specs.Texts.Csv.{csv_text, csv_row, rows_under};
 ghost use Rattle.rpki_show.specs.Grows.{Grows};
 
 use crate::escaped::CsvField;
@@ -21,15 +21,21 @@ pub fn push_csv(text: &mut String, found: &[AnchorFindings<'_>]) -> Result<(), A
     ensures { Grows result text.old text.new (csv_text found.now) }
 {
     write!(text, "ASN,IP Prefix,Max Length,Trust Anchor,Expires\n")?;
+    push_rows(text, found)
+}
+
+/// Appends a row for each origin.
+fn push_rows(text: &mut String, found: &[AnchorFindings<'_>]) -> Result<(), AllocError>
+    ensures { Grows result text.old text.new (flat_map rows_under found.now) }
+{
     push_each(text, found.iter(), |text, one| {
-        push_rows(text, one)
+        push_rows_of(text, one)
     })
 }
 
 /// Appends a row for each origin of one name.
-fn push_rows(text: &mut String, one: &AnchorFindings<'_>) -> Result<(), AllocError>
-    ensures { Grows result text.old text.new
-        (flat_map csv_row (origins_under one.now)) }
+fn push_rows_of(text: &mut String, one: &AnchorFindings<'_>) -> Result<(), AllocError>
+    ensures { Grows result text.old text.new (rows_under one.now) }
 {
     for (origin, held) in one.found().payloads.origins.iter() {
         push_row(text, origin, held, one.name())?;

@@ -4,13 +4,13 @@ ghost use Rattle.std.specs.Prelude.{◌≡◌, ◌++◌, codes, string_bytes, If
 ghost use Rattle.rpki_json.specs.Separated.{separated};
 ghost use Rattle.rpki_payloads.specs.Payloads.{named_origin, origins_under, origins_among};
 ghost use Rattle.rpki_payloads.specs.Payloads.{named_customer, customers_under, customers_among};
-ghost use Rattle.rpki_payloads.specs.Texts.Json.{json_text, json_metadata, json_roa, json_origin};
-ghost use Rattle.rpki_payloads.specs.Texts.Json.{json_expires, json_aspa, json_customer, json_ta};
-ghost use Rattle.rpki_payloads.specs.Texts.Json.{json_roas, json_aspas, comma_after, is_any};
-ghost use Rattle.rpki_payloads.specs.Texts.Json.{separated_after};
+ghost use Rattle.rpki_payloads.specs.Texts.Json.{json_text, json_generated, json_times, json_roa};
+ghost use Rattle.rpki_payloads.specs.Texts.Json.{json_origin, json_expires, json_aspa, json_customer};
+ghost use Rattle.rpki_payloads.specs.Texts.Json.{json_ta, json_roas, json_aspas, comma_after, is_any};
+ghost use Rattle.rpki_payloads.specs.Texts.Json.{json_provider, separated_after};
 ghost use Rattle.rpki_show.specs.Grows.{Grows};
 
-use crate::customers::{Customer, customers_of};
+use crate::aspas::{Aspa, Providers, aspas_of};
 use crate::found::AnchorFindings;
 use crate::numbers::PrefixOf;
 use crate::seconds::seconds_of;
@@ -31,20 +31,30 @@ pub fn push_json(
 ) -> Result<(), AllocError>
     ensures { Grows result text.old text.new (json_text moment found.now) }
 {
-    push_metadata(text, moment)?;
+    push_generated(text, moment)?;
+    push_times(text, moment)?;
     push_roas(text, found)?;
     push_aspas(text, found)
 }
 
-/// Appends the beginning of the object, with the moment in both of its forms.
-#[tactic(auto, unfolding(crate::specs::Texts::Json::json_metadata))]
-fn push_metadata(text: &mut String, moment: Time) -> Result<(), AllocError>
-    ensures { Grows result text.old text.new (json_metadata moment) }
+/// Appends the beginning of the object, with the moment as a count of seconds.
+#[tactic(auto, unfolding(crate::specs::Texts::Json::json_generated))]
+fn push_generated(text: &mut String, moment: Time) -> Result<(), AllocError>
+    ensures { Grows result text.old text.new (json_generated moment) }
 {
     let seconds = seconds_of(moment);
-    write!(text, "{{\n  \"metadata\": {{\n    \"generated\": {seconds},\n")?;
-    write!(text, "    \"generatedTime\": \"{moment}\",\n")?;
-    write!(text, "    \"buildtime\": \"{moment}\"\n  }},\n")
+    write!(text, "{{\n  \"metadata\": {{\n    \"generated\": {seconds}")
+}
+
+/// Appends the moment in words, and the end of the first member.
+#[tactic(auto, unfolding(crate::specs::Texts::Json::json_times))]
+fn push_times(text: &mut String, moment: Time) -> Result<(), AllocError>
+    ensures { Grows result text.old text.new (json_times moment) }
+{
+    write!(
+        text,
+        ",\n    \"generatedTime\": \"{moment}\",\n    \"buildtime\": \"{moment}\"\n  }},\n"
+    )
 }
 
 /// Appends the origins.
@@ -52,9 +62,9 @@ fn push_metadata(text: &mut String, moment: Time) -> Result<(), AllocError>
 fn push_roas(text: &mut String, found: &[AnchorFindings<'_>]) -> Result<(), AllocError>
     ensures { Grows result text.old text.new (json_roas (origins_among found.now)) }
 {
-    text.push_str("  \"roas\": [")?;
+    write!(text, "  \"roas\": [")?;
     push_origins(text, found)?;
-    text.push_str("\n  ],\n")
+    write!(text, "\n  ],\n")
 }
 
 /// Appends the objects of the origins.
@@ -139,9 +149,9 @@ fn push_expires(text: &mut String, held: &Held, name: &str) -> Result<(), AllocE
 fn push_aspas(text: &mut String, found: &[AnchorFindings<'_>]) -> Result<(), AllocError>
     ensures { Grows result text.old text.new (json_aspas (customers_among found.now)) }
 {
-    text.push_str("  \"aspas\": [")?;
+    write!(text, "  \"aspas\": [")?;
     push_customers(text, found)?;
-    text.push_str("\n  ]\n}\n")
+    write!(text, "\n  ]\n}}\n")
 }
 
 /// Appends the objects of the customers.
@@ -168,24 +178,25 @@ fn push_customers_of(
     ensures any { IfOk result (λ any. any ≡ is_any is_further (customers_under one.now)) }
 {
     let mut is_further = is_further;
-    for customer in customers_of(&one.found().payloads.providers) {
+    for aspa in aspas_of(&one.found().payloads.providers) {
         push_comma(text, is_further)?;
-        push_aspa(text, customer, one.name())?;
+        push_aspa(text, aspa, one.name())?;
         is_further = true;
     }
     Ok(is_further)
 }
 
 /// Appends the object of a customer with its providers.
-fn push_aspa(text: &mut String, customer: Customer<'_>, name: &str) -> Result<(), AllocError>
+fn push_aspa(text: &mut String, aspa: Aspa<'_>, name: &str) -> Result<(), AllocError>
     ensures { Grows result text.old text.new
-        (json_aspa (named_customer name.now customer)) }
+        (json_aspa (named_customer name.now aspa.entry)) }
 {
-    let Customer { number, providers } = customer;
-    push_customer(text, number)?;
-    push_separated(text, providers, ", ", |text, provider| {
-        write!(text, "\"{provider}\"")
-    })?;
+    let Aspa {
+        customer,
+        providers,
+    } = aspa;
+    push_customer(text, customer)?;
+    push_providers(text, providers)?;
     push_ta(text, name)
 }
 
@@ -198,6 +209,16 @@ fn push_customer(text: &mut String, customer: Asn) -> Result<(), AllocError>
         text,
         "\n    {{ \"customer\": \"{customer}\", \"providers\": ["
     )
+}
+
+/// Appends the providers.
+fn push_providers(text: &mut String, providers: Providers<'_>) -> Result<(), AllocError>
+    ensures { Grows result text.old text.new
+        (separated (codes ", ") json_provider providers.entry) }
+{
+    push_separated(text, providers, ", ", |text, provider| {
+        write!(text, "\"{provider}\"")
+    })
 }
 
 /// Appends the end of the list of providers, the name of the locators, and the end of the object.

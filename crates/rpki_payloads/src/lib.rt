@@ -2,8 +2,8 @@
 //! lines.
 #![tactic(auto)]
 
+mod aspas;
 mod csv;
-mod customers;
 mod escaped;
 mod format;
 mod found;

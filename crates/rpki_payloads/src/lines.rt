@@ -4,9 +4,10 @@ ghost use Rattle.std.specs.BTreeMap.{keys};
 ghost use Rattle.std.specs.List.{flat_map};
 ghost use Rattle.rpki_payloads.specs.Payloads.{customers_of};
 ghost use Rattle.rpki_payloads.specs.Texts.Lines.{lines_text, lines_under, origin_line, aspa_line};
+ghost use Rattle.rpki_payloads.specs.Texts.Lines.{provider_text};
 ghost use Rattle.rpki_show.specs.Grows.{Grows};
 
-use crate::customers::{Customer, customers_of};
+use crate::aspas::{Aspa, Providers, aspas_of};
 use crate::found::AnchorFindings;
 use crate::numbers::PrefixOf;
 use rpki_relying_party::{Held, Origin, Provider};
@@ -67,20 +68,30 @@ fn push_customers(
     ensures { Grows result text.old text.new
         (flat_map aspa_line (customers_of (keys providers.now))) }
 {
-    for customer in customers_of(providers) {
-        push_aspa(text, customer)?;
+    for aspa in aspas_of(providers) {
+        push_aspa(text, aspa)?;
     }
     Ok(())
 }
 
 /// Appends the line of a customer with its providers.
-fn push_aspa(text: &mut String, customer: Customer<'_>) -> Result<(), AllocError>
-    ensures { Grows result text.old text.new (aspa_line customer) }
+fn push_aspa(text: &mut String, aspa: Aspa<'_>) -> Result<(), AllocError>
+    ensures { Grows result text.old text.new (aspa_line aspa.entry) }
 {
-    let Customer { number, providers } = customer;
-    write!(text, "aspa {number}")?;
+    let Aspa {
+        customer,
+        providers,
+    } = aspa;
+    write!(text, "aspa {customer}")?;
+    push_providers(text, providers)?;
+    write!(text, "\n")
+}
+
+/// Appends each provider, after a space.
+fn push_providers(text: &mut String, providers: Providers<'_>) -> Result<(), AllocError>
+    ensures { Grows result text.old text.new (flat_map provider_text providers.entry) }
+{
     push_each(text, providers, |text, provider| {
         write!(text, " {provider}")
-    })?;
-    text.push_str("\n")
+    })
 }

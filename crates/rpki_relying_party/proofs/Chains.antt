@@ -1,6 +1,6 @@
 -- What follows of a walk for all chains.
 use Rattle.std.proofs.Common.{◌≡◌, ◌⊎◌, inl, inr, ℕ, List, [], ◌∷◌, ◌++◌, Contains, All, sym}
-use Rattle.std.proofs.Common.{subst, ap, ◌∙◌}
+use Rattle.std.proofs.Common.{subst, ap, refl, ◌∙◌}
 use Rattle.std.specs.List.{AllZip}
 use Rattle.std.proofs.lemmas.List.Elements.{All-contains, Contains-append_cases}
 use Rattle.std.proofs.lemmas.List.Elements.{Contains-append_left}
@@ -23,9 +23,15 @@ beside R (a ∷ xs) (b ∷ ys) z x c = elim (cons-cases a x xs c) [
 ]
 
 module _ {P X : Type 0} (tells : P → List X → List P → Type 0) (costs : P → ℕ → Type 0)
-    (key : P → List ℕ) (listed lists had has : X → Type 0) (start : P) (limit : ℕ)
+    (key : P → List ℕ) (listed lists had has : X → Type 0) (first : Read P X) (limit : ℕ)
     (unread : List (Left P))
-    (w : IsWalk tells costs key listed lists had has start limit unread) where
+    (w : IsWalk tells costs key listed lists had has first limit unread) where
+  abbrev start : P
+  start = first.place
+
+  abbrev places : List P
+  places = places_read w.reads ++ places_left unread
+
   told : (r : Read P X) → Contains w.reads r → tells r.place r.said r.children
   told r c = All-contains (λ r. tells r.place r.said r.children) w.reads r w.told c
 
@@ -76,7 +82,7 @@ module _ {P X : Type 0} (tells : P → List X → List P → Type 0) (costs : P 
     further q c path p (inr h) = inr (h.0, h.1, contains-rest q (h.0) (c ∷ path) (h.2), h.3, h.4)
 
     abbrev Known : P → Type 0
-    Known q = HasKey key (places_read w.reads ++ places_left unread) (key q)
+    Known q = HasKey key (places) (key q)
 
     along : (path : List P) (q p : P) → Known q → Leads (IsChild tells) q path p
         → IsFound tells alike has p ⊎ Passes key (places_left unread) q path
@@ -99,6 +105,16 @@ module _ {P X : Type 0} (tells : P → List X → List P → Type 0) (costs : P 
           | inr left ↦ inr (q, k.0, contains-first q (c ∷ path), left, sym (k.2))
         ]
 
+    begun : Known start
+    begun = (
+      start,
+      Contains-append_left (places_read w.reads) (places_left unread) start
+          (contains-mapped (λ (r : Read P X). r.place) w.reads first
+          (subst (λ (l : List (Read P X)). Contains l first) (sym (w.begun.1))
+          (contains-first first (w.begun.0)))),
+      refl,
+    )
+
     pub complete : (path : List P) (p : P) → Leads (IsChild tells) start path p
         → IsFound tells alike has p ⊎ Passes key (places_left unread) start path
-    complete path p h = along path start p w.begun h
+    complete path p h = along path start p begun h

@@ -14,9 +14,7 @@ use Rattle.std.specs.BTreeSet.{BTreeSet, insert_key}
 use Rattle.std.specs.Cmp.{Equal-is}
 use Rattle.std.specs.Cmp.Lexicographic.{slice_cmp}
 use Rattle.std.specs.Ordering.{is_eq, match_ordering, nat_cmp}
-use Rattle.std.specs.Prelude.{IsPermutation}
-use Rattle.std.proofs.lemmas.List.Sorted.{IsPermutation-refl}
-use Rattle.rpki_relying_party.specs.Steps.{has_key, IsPut, IsMeeting}
+use Rattle.rpki_relying_party.specs.Steps.{has_key, IsPut}
 
 -- whether a key has these octets
 abbrev has : List ℕ → Vec ℕ Global → Bool
@@ -117,18 +115,3 @@ is-put key old new fresh e f = record {
         → IsTrue (has_key new k)
     back k o (inl s) = there k s
     back k o (inr n) = other k n ∙ o
-
--- ---- a place is met: where its key is new it waits, and else nothing does
-module _ {P : Type 0} (key : P → List ℕ) (p : P) (k : List ℕ) (old new : List ℕ → Bool)
-    (fresh : Bool) (e : k ≡ key p) (put : IsPut k old new fresh) where
-  put-as : (b : Bool) → fresh ≡ b → IsPut (key p) old new b
-  put-as b f = subst (λ (a : Bool). IsPut (key p) old new a) f
-      (subst (λ (j : List ℕ). IsPut j old new fresh) e put)
-
-  pub meets-new : (waiting waiting2 : List P) → fresh ≡ true
-      → IsPermutation (p ∷ waiting) waiting2 → IsMeeting key p old new waiting waiting2
-  meets-new waiting waiting2 f w = record { fresh = true; put = put-as true f; waits = w }
-
-  pub meets-old : (waiting : List P) → fresh ≡ false → IsMeeting key p old new waiting waiting
-  meets-old waiting f =
-      record { fresh = false; put = put-as false f; waits = IsPermutation-refl waiting }

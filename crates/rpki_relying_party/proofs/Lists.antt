@@ -1,8 +1,11 @@
 -- Lists: what they contain, what is mapped, and keys that differ.
 use Rattle.std.proofs.Common.{◌≡◌, ◌<◌, ◌⊎◌, inl, inr, ℕ, zero, suc, List, [], ◌∷◌, ◌++◌, length}
-use Rattle.std.proofs.Common.{Contains, All, map, refl, subst, ap, arith, get_or, Bool, false}
+use Rattle.std.proofs.Common.{Contains, All, map, refl, sym, subst, ap, arith, get_or, Bool, false}
+use Rattle.std.specs.Prelude.{flat_map}
 use Rattle.std.specs.List.{IsDistinct, AllByRecursion}
-use Rattle.std.proofs.lemmas.List.Elements.{Contains-get_or, Contains-append_cases}
+use Rattle.std.proofs.lemmas.List.Concat.{flat_map-cons}
+use Rattle.std.proofs.lemmas.List.Elements.{All-contains, Contains-get_or, Contains-append_cases}
+use Rattle.std.proofs.lemmas.List.Elements.{Contains-append_left, Contains-append_right}
 use Rattle.std.proofs.lemmas.Map.Keys.{IsDistinct-cons, IsDistinct-head, IsDistinct-tail}
 
 pub nothing : {X : Type 0} (x : X) → Contains [] x → ⊥
@@ -82,3 +85,22 @@ module _ {K : Type 0} (e : K → K → Bool) where
       ]))
       (distinct-append ks ls (IsDistinct-tail e k ks d) c
       (λ x y h i. apart x y (contains-rest k x ks h) i))
+
+-- what holds of each of two lists that are joined
+module _ {X : Type 0} (P : X → Type 0) (xs ys : List X) (h : All P (xs ++ ys)) where
+  pub all-front : All P xs
+  all-front = all-of P xs (λ x c. All-contains P (xs ++ ys) x h (Contains-append_left xs ys x c))
+
+  pub all-back : All P ys
+  all-back = all-of P ys (λ x c. All-contains P (xs ++ ys) x h (Contains-append_right xs ys x c))
+
+-- what one element gives is among what all give
+pub contains-flat : {X A : Type 0} (f : X → List A) (xs : List X) (x : X) (a : A) → Contains xs x
+    → Contains (f x) a → Contains (flat_map f xs) a
+contains-flat f [] x a c h = absurd (nothing x c)
+contains-flat f (y ∷ ys) x a c h = subst (λ (l : List _). Contains l a) (sym (flat_map-cons f y ys))
+    (elim (cons-cases y x ys c) [
+      | inl s ↦ Contains-append_left (f y) (flat_map f ys) a
+          (subst (λ (z : _). Contains (f z) a) (sym s) h)
+      | inr r ↦ Contains-append_right (f y) (flat_map f ys) a (contains-flat f ys x a r h)
+    ])

@@ -1,137 +1,155 @@
--- Places are met, one after the other.
-use Rattle.std.proofs.Common.{◌≡◌, ◌⊎◌, inl, inr, ℕ, List, [], ◌∷◌, ◌++◌, Bool, true, false, cond}
-use Rattle.std.proofs.Common.{Contains, All, map, refl, sym, subst, ap, ◌∙◌}
-use Rattle.std.specs.Prelude.{◌↔◌, IsTrue, IsPermutation, bytes_eq}
-use Rattle.std.proofs.lemmas.Bool.{true≢false}
-use Rattle.std.proofs.lemmas.List.Elements.{All-nil, All-cons, All-push, All-weaker}
-use Rattle.std.proofs.lemmas.List.Elements.{Contains-append_left, Contains-push}
-use Rattle.std.proofs.lemmas.List.Sorted.{IsPermutation-refl, IsPermutation-cons, IsPermutation-trans}
-use Rattle.std.proofs.lemmas.Map.Keys.{IsDistinct-cons}
-use Rattle.std.proofs.lemmas.Slice.Eq.{bytes_eq-Decides}
-use Rattle.rpki_relying_party.specs.Walk.{HasKey}
-use Rattle.rpki_relying_party.specs.Steps.{IsPut, IsMeeting, AreMet}
-use Rattle.rpki_relying_party.proofs.Lists.{nothing, contains-first, contains-rest, cons-cases}
-use Rattle.rpki_relying_party.proofs.Lists.{mapped-from, each-of, distinct-none}
+-- Places are met, passed over, and left.
+use Rattle.std.proofs.Common.{◌≡◌, ℕ, List, [], ◌∷◌, ◌++◌, Bool, All, map, refl}
+use Rattle.std.proofs.Common.{sym, subst, ap, ◌∙◌, arith, append_assoc}
+use Rattle.std.specs.Prelude.{IsTrue, IsPermutation, sum_by}
+use Rattle.std.proofs.lemmas.List.{append-nil, map-append, map-id}
+use Rattle.std.proofs.lemmas.Simd.{map-map}
+use Rattle.std.proofs.lemmas.List.Sums.{sum_by-cons}
+use Rattle.std.proofs.lemmas.List.Elements.{All-nil, All-cons, All-append, All-push, All-map}
+use Rattle.std.proofs.lemmas.List.Sorted.{IsPermutation-refl, IsPermutation-sym, IsPermutation-trans}
+use Rattle.std.proofs.lemmas.List.Sorted.{IsPermutation-append_left, IsPermutation-append_right}
+use Rattle.std.proofs.lemmas.List.Sorted.{IsPermutation-append_comm, IsPermutation-middle}
+use Rattle.rpki_relying_party.specs.declared.walk.Waiting.{Waiting}
+use Rattle.rpki_relying_party.specs.Walk.{Left, places_waiting}
+use Rattle.rpki_relying_party.specs.Steps.{waits_with, limited, ArePassed, AreLeft}
 
-was-there : (b : Bool) → (IsTrue false ↔ (¬ IsTrue b)) → IsTrue b
-was-there true h = refl
-was-there false h = absurd (true≢false (sym (h.1 (λ t. true≢false (sym t)))))
+-- ---- orders of lists
+module _ {X : Type 0} where
+  pub swap-front : (xs ys zs : List X) → IsPermutation (xs ++ (ys ++ zs)) (ys ++ (xs ++ zs))
+  swap-front xs ys zs =
+      subst (λ (l : List X). IsPermutation l (ys ++ (xs ++ zs))) (append_assoc xs ys zs)
+      (subst (λ (l : List X). IsPermutation ((xs ++ ys) ++ zs) l) (append_assoc ys xs zs)
+      (IsPermutation-append_left zs (xs ++ ys) (ys ++ xs) (IsPermutation-append_comm xs ys)))
 
--- octets that differ are not equal by `==`
-pub differ : (a b : List ℕ) → ¬ (a ≡ b) → bytes_eq a b ≡ false
-differ a b n = by (bytes_eq a b) refl
-  where
-    by : (t : Bool) → bytes_eq a b ≡ t → t ≡ false
-    by true e = absurd (n ((bytes_eq-Decides a b).0 e))
-    by false e = refl
+  -- of two lists that are joined the first parts come first
+  parts-first : (ks ls ms ns : List X)
+      → IsPermutation ((ks ++ ls) ++ (ms ++ ns)) ((ks ++ ms) ++ (ls ++ ns))
+  parts-first ks ls ms ns =
+      subst (λ (l : List X). IsPermutation l ((ks ++ ms) ++ (ls ++ ns)))
+      (sym (append_assoc ks ls (ms ++ ns)))
+      (subst (λ (l : List X). IsPermutation (ks ++ (ls ++ (ms ++ ns))) l)
+      (sym (append_assoc ks ms (ls ++ ns)))
+      (IsPermutation-append_right ks (ls ++ (ms ++ ns)) (ms ++ (ls ++ ns))
+      (swap-front ls ms ns)))
 
-module _ {P : Type 0} (key : P → List ℕ) where
-  pub has-more : (p : P) (ps : List P) (k : List ℕ)
-      → HasKey key (p ∷ ps) k ↔ (HasKey key ps k ⊎ (k ≡ key p))
-  has-more p ps k = (
-    λ h. elim (cons-cases p (h.0) ps (h.1)) [
-      | inl s ↦ inr (sym (h.2) ∙ ap key (sym s))
-      | inr r ↦ inl (h.0, r, h.2)
-    ],
-    λ h. elim h [
-      | inl r ↦ (r.0, contains-rest p (r.0) ps (r.1), r.2)
-      | inr s ↦ (p, contains-first p ps, sym s)
-    ],
+  -- one of those that were to be put was put
+  pub put-one : (all rest old new : List X) (x : X) → IsPermutation all (x ∷ rest ++ old)
+      → IsPermutation (x ∷ old) new → IsPermutation all (rest ++ new)
+  put-one all rest old new x h i =
+      IsPermutation-trans all (x ∷ rest ++ old) (rest ++ new) h
+      (IsPermutation-trans (x ∷ rest ++ old) (rest ++ x ∷ old) (rest ++ new)
+      (IsPermutation-sym (rest ++ x ∷ old) (x ∷ rest ++ old) (IsPermutation-middle rest x old))
+      (IsPermutation-append_right rest (x ∷ old) new i))
+
+-- ---- places are met
+module _ {P : Type 0} where
+  -- on those that are met nothing was spent
+  abbrev pub fresh_ones : List P → List (Waiting P)
+  fresh_ones children = map (λ c. waits_with c 0) children
+
+  pub fresh-places : (children : List P) → places_waiting (fresh_ones children) ≡ children
+  fresh-places children =
+      map-map (λ (w : Waiting P). w.place) (λ (c : P). waits_with c 0) children ∙ map-id children
+
+  pub fresh-sum : (children : List P)
+      → sum_by (λ (w : Waiting P). w.tried) (fresh_ones children) ≡ 0
+  fresh-sum [] = refl
+  fresh-sum (c ∷ children) = omega (
+    arith,
+    sum_by-cons (λ (w : Waiting P). w.tried) (waits_with c 0) (fresh_ones children),
+    fresh-sum children,
   )
 
-  module _ (old : List ℕ → Bool) (waiting : List P) where
-    pub none-met : AreMet key [] old old waiting waiting
-    none-met = record {
-      fresh = [];
-      waits = IsPermutation-refl waiting;
-      among = All-nil (Contains []);
-      others = All-nil (λ p. ¬ IsTrue (old (key p)));
-      distinct = distinct-none bytes_eq;
-      now = λ k. (
-        λ t. inl t,
-        λ h. elim h [
-          | inl t ↦ t
-          | inr w ↦ absurd (nothing (w.0) (w.1))
-        ],
-      );
-      all = All-nil (λ p. IsTrue (old (key p)));
+  pub fresh-each : (Q : Waiting P → Type 0) → ((c : P) → Q (waits_with c 0)) → (children : List P)
+      → All Q (fresh_ones children)
+  fresh-each Q f children = All-map Q (λ (c : P). waits_with c 0) children (λ k d l. f _)
+
+-- ---- some are passed over
+module _ {P : Type 0} (key : P → List ℕ) (keys : List ℕ → Bool) where
+  abbrev IsOver : Waiting P → Type 0
+  IsOver w = IsTrue (keys (key w.place))
+
+  pub passed-to : (waiting waiting2 : List (Waiting P)) → IsPermutation waiting waiting2
+      → ArePassed key keys waiting waiting2
+  passed-to waiting waiting2 h = record { passed = []; over = All-nil IsOver; split = h }
+
+  pub passed-none : (waiting : List (Waiting P)) → ArePassed key keys waiting waiting
+  passed-none waiting = passed-to waiting waiting (IsPermutation-refl waiting)
+
+  module _ (waiting mid : List (Waiting P)) (a : ArePassed key keys waiting mid) where
+    -- the others in another order
+    pub passed-then : (waiting2 : List (Waiting P)) → IsPermutation mid waiting2
+        → ArePassed key keys waiting waiting2
+    passed-then waiting2 h = record {
+      passed = a.passed;
+      over = a.over;
+      split = IsPermutation-trans waiting (a.passed ++ mid) (a.passed ++ waiting2) a.split
+          (IsPermutation-append_right a.passed mid waiting2 h);
     }
 
-    module _ (done : List P) (p : P) (mid new : List ℕ → Bool) (waiting2 waiting3 : List P)
-        (a : AreMet key done old mid waiting waiting2) where
-      kept-all : ((k : List ℕ) → IsTrue (mid k) → IsTrue (new k)) → IsTrue (new (key p))
-          → All (λ q. IsTrue (new (key q))) (done ++ p ∷ [])
-      kept-all f t = All-push (λ q. IsTrue (new (key q))) done p
-          (All-weaker (λ q. IsTrue (mid (key q))) (λ q. IsTrue (new (key q)))
-          (λ q h. f (key q) h) done a.all) t
+    -- one more is passed over
+    pub passed-more : (w : Waiting P) (waiting2 : List (Waiting P))
+        → IsPermutation mid (w ∷ waiting2) → IsOver w → ArePassed key keys waiting waiting2
+    passed-more w waiting2 h t = record {
+      passed = a.passed ++ w ∷ [];
+      over = All-push IsOver a.passed w a.over t;
+      split = subst (λ (l : List (Waiting P)). IsPermutation waiting l)
+          (sym (append_assoc a.passed (w ∷ []) waiting2))
+          (IsPermutation-trans waiting (a.passed ++ mid) (a.passed ++ w ∷ waiting2) a.split
+          (IsPermutation-append_right a.passed mid (w ∷ waiting2) h));
+    }
 
-      among-more : All (Contains (done ++ p ∷ [])) a.fresh
-      among-more = All-weaker (Contains done) (Contains (done ++ p ∷ []))
-          (λ q c. Contains-append_left done (p ∷ []) q c) a.fresh a.among
+  -- ---- the others are left
+  abbrev IsOther : Waiting P → Type 0
+  IsOther w = ¬ IsTrue (keys (key w.place))
 
-      known : IsPut (key p) mid new false → IsPermutation waiting2 waiting3
-          → AreMet key (done ++ p ∷ []) old new waiting waiting3
-      known put w = record {
-        fresh = a.fresh;
-        waits = IsPermutation-trans (a.fresh ++ waiting) waiting2 waiting3 a.waits w;
-        among = among-more;
-        others = a.others;
-        distinct = a.distinct;
-        now = λ k. (
-          λ t. elim ((put.now k).0 t) [
-            | inl o ↦ (a.now k).0 o
-            | inr s ↦ (a.now k).0 (subst (λ (j : List ℕ). IsTrue (mid j)) (sym s) there)
-          ],
-          λ h. (put.now k).1 (inl ((a.now k).1 h)),
-        );
-        all = kept-all (λ k t. (put.now k).1 (inl t)) ((put.now (key p)).1 (inr refl));
-      }
-        where
-          there : IsTrue (mid (key p))
-          there = was-there (mid (key p)) put.was
+  pub left-none : (old : List (Left P)) → AreLeft key keys [] old old
+  left-none old = record {
+    left = [];
+    others = All-nil IsOther;
+    passed = passed-none [];
+    now = sym (append-nil old);
+  }
 
-      fresh : IsPut (key p) mid new true → IsPermutation (p ∷ waiting2) waiting3
-          → AreMet key (done ++ p ∷ []) old new waiting waiting3
-      fresh put w = record {
-        fresh = p ∷ a.fresh;
-        waits = IsPermutation-trans (p ∷ a.fresh ++ waiting) (p ∷ waiting2) waiting3
-            (IsPermutation-cons p (a.fresh ++ waiting) waiting2 a.waits) w;
-        among = All-cons (Contains (done ++ p ∷ [])) p a.fresh (Contains-push done p) among-more;
-        others = All-cons (λ q. ¬ IsTrue (old (key q))) p a.fresh
-            (λ t. new-here ((a.now (key p)).1 (inl t))) a.others;
-        distinct = IsDistinct-cons bytes_eq (key p) (map key a.fresh)
-            (each-of bytes_eq (λ y. bytes_eq (key p) y ≡ false) (map key a.fresh) (λ y c.
-            let q = mapped-from key a.fresh y c in
-            differ (key p) y (λ s. new-here ((a.now (key p)).1 (inr (q.0, q.1, q.2 ∙ sym s))))))
-            a.distinct;
-        now = λ k. (
-          λ t. elim ((put.now k).0 t) [
-            | inl o ↦ (elim ((a.now k).0 o) [
-              | inl before ↦ inl before
-              | inr h ↦ inr ((has-more p a.fresh k).1 (inl h))
-            ])
-            | inr s ↦ inr ((has-more p a.fresh k).1 (inr s))
-          ],
-          λ h. elim h [
-            | inl before ↦ (put.now k).1 (inl ((a.now k).1 (inl before)))
-            | inr more ↦ (elim ((has-more p a.fresh k).0 more) [
-              | inl h ↦ (put.now k).1 (inl ((a.now k).1 (inr h)))
-              | inr s ↦ (put.now k).1 (inr s)
-            ])
-          ],
-        );
-        all = kept-all (λ k t. (put.now k).1 (inl t)) ((put.now (key p)).1 (inr refl));
-      }
-        where
-          new-here : IsTrue (mid (key p)) → ⊥
-          new-here = put.was.0 refl
+  pub left-over : (w : Waiting P) (old : List (Left P)) → IsOver w
+      → AreLeft key keys (w ∷ []) old old
+  left-over w old t = record {
+    left = [];
+    others = All-nil IsOther;
+    passed = passed-more (w ∷ []) (w ∷ []) (passed-none (w ∷ [])) w []
+        (IsPermutation-refl (w ∷ [])) t;
+    now = sym (append-nil old);
+  }
 
-      by-fresh : (f : Bool) → IsPut (key p) mid new f
-          → IsPermutation (cond f (p ∷ waiting2) waiting2) waiting3
-          → AreMet key (done ++ p ∷ []) old new waiting waiting3
-      by-fresh true put w = fresh put w
-      by-fresh false put w = known put w
+  pub left-one : (w : Waiting P) (old new : List (Left P)) → IsOther w
+      → new ≡ old ++ limited w ∷ [] → AreLeft key keys (w ∷ []) old new
+  left-one w old new f e = record {
+    left = w ∷ [];
+    others = All-cons IsOther w [] f (All-nil IsOther);
+    passed = passed-none (w ∷ []);
+    now = e;
+  }
 
-      pub one-met : IsMeeting key p mid new waiting2 waiting3
-          → AreMet key (done ++ p ∷ []) old new waiting waiting3
-      one-met m = by-fresh m.fresh m.put m.waits
+  pub left-more : (done more : List (Waiting P)) (old mid new : List (Left P))
+      → AreLeft key keys done old mid → AreLeft key keys more mid new
+      → AreLeft key keys (done ++ more) old new
+  left-more done more old mid new a b = record {
+    left = a.left ++ b.left;
+    others = All-append IsOther a.left b.left a.others b.others;
+    passed = record {
+      passed = a.passed.passed ++ b.passed.passed;
+      over = All-append IsOver a.passed.passed b.passed.passed a.passed.over b.passed.over;
+      split = IsPermutation-trans (done ++ more)
+          ((a.passed.passed ++ a.left) ++ (b.passed.passed ++ b.left))
+          ((a.passed.passed ++ b.passed.passed) ++ (a.left ++ b.left))
+          (IsPermutation-trans (done ++ more) ((a.passed.passed ++ a.left) ++ more)
+          ((a.passed.passed ++ a.left) ++ (b.passed.passed ++ b.left))
+          (IsPermutation-append_left more done (a.passed.passed ++ a.left) a.passed.split)
+          (IsPermutation-append_right (a.passed.passed ++ a.left) more
+          (b.passed.passed ++ b.left) b.passed.split))
+          (parts-first a.passed.passed a.left b.passed.passed b.left);
+    };
+    now = b.now ∙ ap (λ (l : List (Left P)). l ++ map (λ w. limited w) b.left) a.now
+        ∙ append_assoc old (map (λ w. limited w) a.left) (map (λ w. limited w) b.left)
+        ∙ ap (λ (l : List (Left P)). old ++ l) (sym (map-append (λ (w : Waiting P). limited w) a.left b.left));
+  }

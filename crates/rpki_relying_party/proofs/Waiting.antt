@@ -17,6 +17,10 @@ pub on-ok : {T E P : Type 0} (r : Result T E) → P → OnOk r P
 on-ok (Ok t) p = p
 on-ok (Err e) p = tt
 
+pub on-ok-then : {T E P Q : Type 0} (r : Result T E) → OnOk r P → (P → Q) → OnOk r Q
+on-ok-then (Ok t) p f = f p
+on-ok-then (Err e) p f = tt
+
 module _ {P : Type 0} where
   -- one more waits, behind the others
   pub one-more : (os : List (Option P)) (p : P)
@@ -37,6 +41,35 @@ module _ {P : Type 0} where
       IsPermutation-trans (q ∷ somes os) (q ∷ p ∷ rest) (p ∷ q ∷ rest)
       (IsPermutation-cons q (somes os) (p ∷ rest) (one-taken os i p d (omega (arith, l)) e))
       (IsPermutation-middle (q ∷ []) p rest)
+
+  -- one is put where none waits
+  put-none : (os : List (Option P)) (i : ℕ) (p : P) (d : Option P) → i < length os
+      → get_or os i d ≡ None → IsPermutation (p ∷ somes os) (somes (set os i (Some p)))
+  put-none [] i p d l e = absurd (omega (arith, l))
+  put-none (o ∷ os) zero p d l e = subst (λ (x : Option P).
+      IsPermutation (p ∷ somes (x ∷ os)) (p ∷ somes os)) (sym e) (IsPermutation-refl (p ∷ somes os))
+  put-none (None ∷ os) (suc i) p d l e = put-none os i p d (omega (arith, l)) e
+  put-none (Some q ∷ os) (suc i) p d l e =
+      let rest = somes (set os i (Some p)) in
+      IsPermutation-trans (p ∷ q ∷ somes os) (q ∷ p ∷ somes os) (q ∷ rest)
+      (IsPermutation-middle (p ∷ []) q (somes os))
+      (IsPermutation-cons q (p ∷ somes os) rest (put-none os i p d (omega (arith, l)) e))
+
+  -- one is put where another waits
+  put-some : (os : List (Option P)) (i : ℕ) (p q : P) (d : Option P) → i < length os
+      → get_or os i d ≡ Some q → IsPermutation (p ∷ somes os) (q ∷ somes (set os i (Some p)))
+  put-some [] i p q d l e = absurd (omega (arith, l))
+  put-some (o ∷ os) zero p q d l e = subst (λ (x : Option P).
+      IsPermutation (p ∷ somes (x ∷ os)) (q ∷ p ∷ somes os)) (sym e)
+      (IsPermutation-middle (p ∷ []) q (somes os))
+  put-some (None ∷ os) (suc i) p q d l e = put-some os i p q d (omega (arith, l)) e
+  put-some (Some r ∷ os) (suc i) p q d l e =
+      let rest = somes (set os i (Some p)) in
+      IsPermutation-trans (p ∷ r ∷ somes os) (r ∷ p ∷ somes os) (q ∷ r ∷ rest)
+      (IsPermutation-middle (p ∷ []) r (somes os))
+      (IsPermutation-trans (r ∷ p ∷ somes os) (r ∷ q ∷ rest) (q ∷ r ∷ rest)
+      (IsPermutation-cons r (p ∷ somes os) (q ∷ rest) (put-some os i p q d (omega (arith, l)) e))
+      (IsPermutation-middle (r ∷ []) q rest))
 
   -- none of the first ones waits, nor does the next
   pub none-yet : (os : List (Option P)) (i : ℕ) → i < length os → somes (take i os) ≡ []
@@ -67,6 +100,31 @@ module _ {P : Type 0} where
       (sym (map-set place_on bs i b ∙ ap (λ (o : Option P). set (map place_on bs) i o) none))
       (one-taken (map place_on bs) i p None (omega (arith, l, length-map bs (place_on {P = P})))
       (get_or-map place_on bs i d None l ∙ e))
+
+  -- a place is put on a branch on which none waits
+  pub put-free : (bs : List (Branch P)) (i : ℕ) (b d : Branch P) (p : P) → i < length bs
+      → place_on (get_or bs i d) ≡ None → place_on b ≡ Some p
+      → IsPermutation (p ∷ waiting_in bs) (waiting_in (set bs i b))
+  put-free bs i b d p l e now = subst (λ (os : List (Option P)).
+      IsPermutation (p ∷ waiting_in bs) (somes os))
+      (sym (map-set place_on bs i b ∙ ap (λ (o : Option P). set (map place_on bs) i o) now))
+      (put-none (map place_on bs) i p None (omega (arith, l, length-map bs (place_on {P = P})))
+      (get_or-map place_on bs i d None l ∙ e))
+
+  -- a place is put on a branch on which another waits
+  pub put-over : (bs : List (Branch P)) (i : ℕ) (b d : Branch P) (p q : P) → i < length bs
+      → place_on (get_or bs i d) ≡ Some q → place_on b ≡ Some p
+      → IsPermutation (p ∷ waiting_in bs) (q ∷ waiting_in (set bs i b))
+  put-over bs i b d p q l e now = subst (λ (os : List (Option P)).
+      IsPermutation (p ∷ waiting_in bs) (q ∷ somes os))
+      (sym (map-set place_on bs i b ∙ ap (λ (o : Option P). set (map place_on bs) i o) now))
+      (put-some (map place_on bs) i p q None (omega (arith, l, length-map bs (place_on {P = P})))
+      (get_or-map place_on bs i d None l ∙ e))
+
+  -- what waits on one branch more
+  pub one-branch : (bs : List (Branch P)) (b : Branch P)
+      → waiting_in (b ∷ bs) ≡ somes (place_on b ∷ []) ++ waiting_in bs
+  one-branch bs b = filter_map-append (λ (o : Option P). o) (place_on b ∷ []) (map place_on bs)
 
   -- a branch is new, and then others change
   pub put-new : (bs bs2 bs3 : List (Branch P)) (b : Branch P) (p : P) → bs2 ≡ bs ++ b ∷ []

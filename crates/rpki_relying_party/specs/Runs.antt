@@ -1,5 +1,5 @@
 -- What a validation run under a locator finds, and what it leaves unread.
-use Rattle.std.specs.Prelude.{◌≡◌, ◌≢◌, ◌⊎◌, ℕ, List, Option, None, Some, Bool, true, false}
+use Rattle.std.specs.Prelude.{◌≡◌, ◌≢◌, ◌⊎◌, ℕ, ◌<◌, List, Option, None, Some, Bool, true, false}
 use Rattle.std.specs.Prelude.{◌&&◌, Contains, bytes_eq, codes, count_by, unwrap_or, String}
 use Rattle.std.specs.BTreeMap.{BTreeMap, get_by_text}
 use Rattle.std.specs.Option.{option_or, option_eq}
@@ -12,7 +12,7 @@ use Rattle.rpki_relying_party.specs.Paths.{IsChild, IsSaid, IsFound, Leads, Pass
 use Rattle.rpki_relying_party.specs.Place.{key_of}
 use Rattle.rpki_relying_party.specs.Setting.{Setting}
 use Rattle.rpki_relying_party.specs.Tells.{PlaceTells, refusal}
-use Rattle.rpki_relying_party.specs.Walk.{Left, IsWalk, places_left}
+use Rattle.rpki_relying_party.specs.Walk.{Left, Read, IsWalk, places_left}
 use Rattle.rpki_relying_party.specs.declared.anchor.AnchorFault.{AnchorFault}
 use Rattle.rpki_relying_party.specs.declared.anchor.AnchorFault.TheVariants as anchors
 use Rattle.rpki_relying_party.specs.declared.cause.Cause.{Cause}
@@ -44,41 +44,62 @@ IsStartOf s tal start = (ca : Validated) × IsAnchorOf s tal ca × (start ≡ st
 abbrev pub IsSaidUnder : Setting → Locator → Finding → Type 0
 IsSaidUnder s tal x = (start : Place) × IsStartOf s tal start × IsSaid (PlaceTells s) start x
 
--- There is a trust anchor of the locator below which all was found: of each chain of children that
--- leads from it, what its last place says was found, for as long, unless the chain passes a place
--- that was left unread.
+-- All was found below a place: of each chain of children that leads from it, what its last place
+-- says was found, for as long, unless the chain passes a place that was left unread.
+abbrev pub FindsAllBelow : Setting → Place → Found → List (Left Place) → Type 0
+FindsAllBelow s start found unread =
+    (path : List Place) (p : Place) → Leads (IsChild (PlaceTells s)) start path p
+    → IsFound (PlaceTells s) SaysLike (HasAsLong found) p
+    ⊎ Passes key_of (places_left unread) start path
+
+-- There is a trust anchor of the locator below which all was found.
 abbrev pub FindsAllUnder : Setting → Locator → Found → List (Left Place) → Type 0
 FindsAllUnder s tal found unread =
-    (start : Place) × IsStartOf s tal start
-    × ((path : List Place) (p : Place) → Leads (IsChild (PlaceTells s)) start path p
-    → IsFound (PlaceTells s) SaysLike (HasAsLong found) p
-    ⊎ Passes key_of (places_left unread) start path)
+    (start : Place) × IsStartOf s tal start × FindsAllBelow s start found unread
+
+-- Each place was read once or left unread, from this one on, which was read first, within this limit
+-- on work; what was found before and after is that, and those were left unread.
+abbrev pub IsRunFrom : Setting → Place → ℕ → Found → Found → List (Left Place) → Type 0
+IsRunFrom s start limit old new unread =
+    (first : Read Place Finding) × (first.place ≡ start)
+    × IsWalk (PlaceTells s) (PlaceCosts s) key_of (Lists old) (Lists new) (HasAsLong old)
+    (HasAsLong new) first limit unread
 
 -- Each place was read once or left unread, from a trust anchor of the locator on, within this limit
 -- on work; what was found before and after is that, and those were left unread.
 abbrev pub IsRunUnder : Setting → Locator → ℕ → Found → Found → List (Left Place) → Type 0
 IsRunUnder s tal limit old new unread =
-    (start : Place) × IsStartOf s tal start
-    × IsWalk (PlaceTells s) (PlaceCosts s) key_of (Lists old) (Lists new) (HasAsLong old)
-    (HasAsLong new) start limit unread
+    (start : Place) × IsStartOf s tal start × IsRunFrom s start limit old new unread
 
 -- Places with one key tell one thing, whenever they are read, as where the copy does not change.
 abbrev pub TellsSteadily : Setting → Type 0
 TellsSteadily s = TellsOne (PlaceTells s) key_of SaysLike
 
--- Why there was no run: the locator has no trust anchor, unless memory ran out.
-abbrev pub WhyNoRun : Setting → Locator → RunFault → Type 0
-WhyNoRun s tal (faults.Anchor fault) = WhyNoAnchor s tal fault × (fault ≢ anchors.Memory)
-WhyNoRun s tal faults.Memory = Unit {0}
+-- Why there is no run from a place on, unless memory ran out: to read it is more work than the
+-- limit.
+abbrev pub WhyNotRead : Setting → Place → ℕ → RunFault → Type 0
+WhyNotRead s start limit (faults.Anchor fault) = ⊥
+WhyNotRead s start limit faults.Limit = (n : ℕ) × PlaceCosts s start n × (limit < n)
+WhyNotRead s start limit faults.Memory = Unit {0}
+
+-- Why there was no run within this limit, unless memory ran out: the locator has no trust anchor;
+-- or it has one of which to read the place is more work than the limit.
+abbrev pub WhyNoRun : Setting → Locator → ℕ → RunFault → Type 0
+WhyNoRun s tal limit (faults.Anchor fault) = WhyNoAnchor s tal fault × (fault ≢ anchors.Memory)
+WhyNoRun s tal limit faults.Limit =
+    (ca : Validated) × IsAnchorOf s tal ca × WhyNotRead s (start_place ca) limit faults.Limit
+WhyNoRun s tal limit faults.Memory = Unit {0}
 
 -- What a fault of the trust anchor is of the run: want of memory is that of the run.
 abbrev pub IsFaultOf : AnchorFault → RunFault → Type 0
 IsFaultOf fault (faults.Anchor same) = (same ≡ fault) × (fault ≢ anchors.Memory)
+IsFaultOf fault faults.Limit = ⊥
 IsFaultOf fault faults.Memory = fault ≡ anchors.Memory
 
 -- why there is no run, as it is shown
 abbrev pub run_fault_text : RunFault → List ℕ
 run_fault_text (faults.Anchor fault) = anchor_fault_text fault
+run_fault_text faults.Limit = codes "not read: limit reached"
 run_fault_text faults.Memory = codes "out of memory"
 
 -- ---- places that were left unread

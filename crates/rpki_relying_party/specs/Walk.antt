@@ -1,16 +1,19 @@
 -- A walk over places: what was read, and what was left unread.
-use Rattle.std.specs.Prelude.{◌≡◌, ◌≢◌, ◌⊎◌, ℕ, ◌+◌, ◌/◌, ◌<◌, ◌≤◌, List, [], ◌++◌, Contains, All}
-use Rattle.std.specs.Prelude.{AllPairs, map, sum_by}
+use Rattle.std.specs.Prelude.{◌≡◌, ◌≢◌, ◌⊎◌, ℕ, ◌+◌, ◌*◌, ◌/◌, ◌<◌, ◌≤◌, List, ◌∷◌, ◌++◌, Contains}
+use Rattle.std.specs.Prelude.{All, AllPairs, IsPermutation, flat_map, map, sum_by}
 use Rattle.rpki_relying_party.specs.Paths.{Leads}
+use Rattle.rpki_relying_party.specs.declared.walk.Waiting.{Waiting}
 use Rattle.rpki_relying_party.specs.declared.walk.Why.{Why}
 use Rattle.rpki_relying_party.specs.declared.walk.Why.TheVariants.{Limit, Memory}
 
--- a place that was read: what it said, its children, and how much work that was
+-- a place that was read: what it said, its children, how much work that was, and how much was spent
+-- before on tries of it, each of which was cut
 pub record Read (P X : Type 0) : Type 0 where
   pub place : P
   pub said : List X
   pub children : List P
   pub cost : ℕ
+  pub tried : ℕ
 
 -- a place that was met and not read, and how much work was spent on it before it was left
 pub record Left (P : Type 0) : Type 0 where
@@ -26,17 +29,23 @@ places_read reads = map (λ r. r.place) reads
 abbrev pub places_left : {P : Type 0} → List (Left P) → List P
 places_left unread = map (λ u. u.place) unread
 
--- how much work the reads were
-abbrev pub spent : {P X : Type 0} → List (Read P X) → ℕ
-spent reads = sum_by (λ r. r.cost) reads
+-- the places that wait
+abbrev pub places_waiting : {P : Type 0} → List (Waiting P) → List P
+places_waiting waiting = map (λ w. w.place) waiting
 
--- how much work all was: the reads, and what was spent on those that were left
-abbrev pub total : {P X : Type 0} → List (Read P X) → List (Left P) → ℕ
-total reads unread = spent reads + sum_by (λ u. u.tried) unread
+-- the start, and the children that were told, each as often as it was
+abbrev pub places_told : {P X : Type 0} → P → List (Read P X) → List P
+places_told start reads = start ∷ flat_map (λ r. r.children) reads
 
--- the most that may be spent on one place: an eighth of the limit, and one
-abbrev pub share : ℕ → ℕ
-share limit = limit / 8 + 1
+-- how much work all was: the reads and the tries before them, and what was spent on those that were
+-- left and on those that were passed over
+abbrev pub total : {P X : Type 0} → List (Read P X) → List (Left P) → List (Waiting P) → ℕ
+total reads unread passed = sum_by (λ r. r.cost + r.tried) reads
+    + (sum_by (λ u. u.tried) unread + sum_by (λ w. w.tried) passed)
+
+-- how much a place may cost at its first try
+abbrev pub first_room : ℕ → ℕ
+first_room limit = limit / 8192 + 1
 
 -- When the first place was read, it told that the second is its child.
 abbrev pub IsToldChild : {P X : Type 0} → List (Read P X) → P → P → Type 0
@@ -51,39 +60,46 @@ IsMet {P} start reads p = (path : List P) × Leads (IsToldChild reads) start pat
 abbrev pub HasKey : {P : Type 0} → (P → List ℕ) → List P → List ℕ → Type 0
 HasKey {P} key places k = (p : P) × Contains places p × (key p ≡ k)
 
--- why a place is left on which so much was spent: reading it is more, or memory was wanting
-abbrev pub IsWhy : {P : Type 0} → (P → ℕ → Type 0) → P → ℕ → Why → Type 0
-IsWhy costs p tried Limit = (n : ℕ) × costs p n × (tried < n)
-IsWhy costs p tried Memory = Unit {0}
+-- Nothing was spent on the place, or less than so many times what reading it costs.
+abbrev pub IsSmall : {P : Type 0} → (P → ℕ → Type 0) → ℕ → P → ℕ → Type 0
+IsSmall costs times p tried = (tried ≡ 0) ⊎ ((n : ℕ) × costs p n × (tried < times * n))
 
--- The place was not tried, since no work was left; or it was, within the share, and left for this.
-abbrev pub IsLeft : {P : Type 0} → (P → ℕ → Type 0) → ℕ → Left P → Type 0
-IsLeft costs limit u = ((u.tried ≡ 0) × (u.why ≡ Limit))
-    ⊎ ((0 < u.tried) × (u.tried ≤ share limit) × IsWhy costs u.place u.tried u.why)
+-- What was spent on a place that was left for this: little beside what reading it costs, and where
+-- memory was wanting also a last try, with as much again and the first room.
+abbrev pub IsSpent : {P : Type 0} → (P → ℕ → Type 0) → ℕ → P → ℕ → Why → Type 0
+IsSpent costs limit p tried Limit = IsSmall costs 3 p tried
+IsSpent costs limit p tried Memory =
+    (before : ℕ) × IsSmall costs 2 p before × (tried ≤ 2 * before + first_room limit)
 
--- What was read, and what was found and left unread then.
+-- What was read, this first, and what was found and left unread then.
 pub record IsWalk {P X : Type 0} (tells : P → List X → List P → Type 0) (costs : P → ℕ → Type 0)
-    (key : P → List ℕ) (listed lists had has : X → Type 0) (start : P) (limit : ℕ)
+    (key : P → List ℕ) (listed lists had has : X → Type 0) (first : Read P X) (limit : ℕ)
     (unread : List (Left P)) : Type 0 where
   pub reads : List (Read P X)
-  -- each place was read once, told what it tells, and cost what it costs
+  pub begun : (rest : List (Read P X)) × (reads ≡ first ∷ rest)
+  -- those that waited until one with their key was read
+  pub passed : List (Waiting P)
+  pub over : All (λ w. HasKey key (places_read reads) (key w.place)) passed
+  -- each told what it tells, and cost what it costs; of each key one was read
   pub told : All (λ r. tells r.place r.said r.children) reads
   pub cost : All (λ r. costs r.place r.cost) reads
-  pub once : AllPairs (λ k l. k ≢ l) (map key (places_read reads ++ places_left unread))
-  -- all that was met was read or left: the start, and each child of what was read
-  pub met : All (IsMet start reads) (places_read reads ++ places_left unread)
-  pub begun : HasKey key (places_read reads ++ places_left unread) (key start)
+  pub once : AllPairs (λ k l. k ≢ l) (map key (places_read reads))
+  -- all that was met was read, left or passed over: the start, and each child of what was read
+  pub split : IsPermutation (places_told first.place reads)
+      (places_read reads ++ (places_left unread ++ places_waiting passed))
+  pub met : All (IsMet first.place reads) (places_read reads ++ places_left unread)
   pub closed : All (λ r. All (λ c. HasKey key (places_read reads ++ places_left unread) (key c))
       r.children) reads
   -- what was said was found, and nothing else
   pub found : (x : X) → lists x → listed x ⊎ ((r : Read P X) × Contains reads r × Contains r.said x)
   pub kept : All (λ r. All has r.said) reads
   pub stays : (x : X) → had x → has x
-  -- all work was within the limit, and that on one place within its share
-  pub within : total reads unread ≤ limit
-  pub small : All (λ r. r.cost ≤ share limit) reads
-  -- each place that was left was tried with its share, unless the limit was spent: then one at most
-  -- was tried with less, and those that were left after it were not tried
-  pub left : All (IsLeft costs limit) unread
-  pub full : All (λ u. (u.tried ≡ share limit) ⊎ (limit ≤ total reads unread)) unread
-  pub last : AllPairs (λ u v. (u.tried ≡ share limit) ⊎ (v.tried ≡ 0)) unread
+  -- all work was within the limit; a place was left for it only where it was spent, and where no
+  -- place with its key was read
+  pub within : total reads unread passed ≤ limit
+  pub full : All (λ u. u.why ≡ Limit → total reads unread passed ≡ limit) unread
+  pub fresh : All (λ u. u.why ≡ Limit → ¬ HasKey key (places_read reads) (key u.place)) unread
+  -- what was spent on tries of a place is little beside what reading it costs
+  pub tried : All (λ r. IsSmall costs 2 r.place r.tried) reads
+  pub left : All (λ u. IsSpent costs limit u.place u.tried u.why) unread
+  pub wasted : All (λ w. IsSmall costs 3 w.place w.tried) passed

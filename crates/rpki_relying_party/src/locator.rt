@@ -5,10 +5,13 @@ ghost use Rattle.std.specs.Prelude.{bytes_eq, cond, option_map, IfErr, IfOk, OnO
 ghost use Rattle.rpki_relying_party.specs.Found.{Lists, HasAsLong};
 ghost use Rattle.rpki_relying_party.specs.Passes.{setting};
 ghost use Rattle.rpki_relying_party.specs.Runs.{IsRunUnder, IsSaidUnder, FindsAllUnder, WhyNoRun};
+ghost use Rattle.rpki_relying_party.specs.Paths.{IsSaid};
+ghost use Rattle.rpki_relying_party.specs.Runs.{IsRunFrom, FindsAllBelow, WhyNotRead};
 ghost use Rattle.rpki_relying_party.specs.Runs.{TellsSteadily, IsFaultOf};
 ghost use Rattle.rpki_relying_party.specs.Runs.{start_place, run_fault_text};
 ghost use Rattle.rpki_relying_party.specs.Runs.{IsLeftRefusal, IsRefusalFor, KeepsAll, lister_of};
 ghost use Rattle.rpki_relying_party.specs.Runs.{is_limited, limited_under, left_cause, count_for};
+ghost use Rattle.rpki_relying_party.specs.Tells.{PlaceTells};
 
 use crate::anchor::{AnchorFault, anchor_of};
 use crate::cause::Cause;
@@ -16,6 +19,7 @@ use crate::copy::Repository;
 use crate::found::{Finding, Found, Refusal};
 use crate::pass::Pass;
 use crate::place::Place;
+use crate::places::{Places, Reading};
 use crate::walk::{Unread, Why, walk_from};
 use rpki_basics::{Crypto, Rsync};
 use rpki_certs::ResourceCert;
@@ -30,6 +34,8 @@ use std::fmt;
 pub enum RunFault {
     /// The locator has no trust anchor.
     Anchor(AnchorFault),
+    /// To read the place of its trust anchor is more work than the limit.
+    Limit,
     /// No memory was to be had.
     Memory,
 }
@@ -40,6 +46,7 @@ impl fmt::Display for RunFault {
     fn fmt<W: fmt::Write>(&self, f: &mut fmt::Formatter<W>) -> fmt::Result {
         match self {
             RunFault::Anchor(fault) => fault.fmt(f),
+            RunFault::Limit => f.write_str("not read: limit reached"),
             RunFault::Memory => f.write_str("out of memory"),
         }
     }
@@ -72,9 +79,46 @@ fn start_place(ca: ResourceCert) -> Place
     }
 }
 
+// A validation run from a place on, which is read first and may take all of the limit.
+fn run_from<R: Repository, C: Crypto>(
+    alloc: Global,
+    pass: &Pass<'_, R, C>,
+    start: Place,
+    limit: u64,
+    found: &mut Found,
+) -> Result<Vec<Unread<Place>>, RunFault>
+    ensures reads { IfOk result (λ unread. IsRunFrom
+        (setting R.finds C.digest_of C.is_signed pass.now) start limit found.old found.new
+        unread.items) }
+    ensures sound { OnOk result ((x : Finding) → Lists found.new x → Lists found.old x
+        ⊎ IsSaid (PlaceTells (setting R.finds C.digest_of C.is_signed pass.now)) start x) }
+    ensures complete { IfOk result (λ unread.
+        TellsSteadily (setting R.finds C.digest_of C.is_signed pass.now)
+        → FindsAllBelow (setting R.finds C.digest_of C.is_signed pass.now) start found.new
+        unread.items) }
+    ensures refused { IfErr result
+        (WhyNotRead (setting R.finds C.digest_of C.is_signed pass.now) start limit) }
+{
+    match pass.read(alloc, &start, limit) {
+        Err(_) => {
+            drop(start);
+            Err(RunFault::Memory)
+        }
+        Ok(Reading::Cut) => {
+            drop(start);
+            Err(RunFault::Limit)
+        }
+        Ok(Reading::Told(told)) => match walk_from(alloc, pass, start, told, limit, found) {
+            Err(_) => Err(RunFault::Memory),
+            Ok(unread) => Ok(unread),
+        },
+    }
+}
+
 /// A validation run under a locator: from its trust anchor on each place is read once, as
 /// `walk_from` does it, within this limit on work. What the places say is put to `found`; the
-/// answer is the places that were met and left unread.
+/// answer is the places that were met and left unread. The trust anchor's own place is read first,
+/// and may take all of the limit.
 ///
 /// What was found is said by a place to which a chain of children leads from the trust anchor.
 /// Where the copy does not change, all is found that such a place says, unless its chain passes one
@@ -96,14 +140,11 @@ pub fn run_under<R: Repository, C: Crypto>(
         → FindsAllUnder (setting R.finds C.digest_of C.is_signed pass.now) tal.now found.new
         unread.items) }
     ensures refused { IfErr result
-        (WhyNoRun (setting R.finds C.digest_of C.is_signed pass.now) tal.now) }
+        (WhyNoRun (setting R.finds C.digest_of C.is_signed pass.now) tal.now limit) }
 {
     match anchor_of(alloc, pass, tal) {
         Err(fault) => Err(of_anchor(fault)),
-        Ok(ca) => match walk_from(alloc, pass, start_place(ca), limit, found) {
-            Err(_) => Err(RunFault::Memory),
-            Ok(unread) => Ok(unread),
-        },
+        Ok(ca) => run_from(alloc, pass, start_place(ca), limit, found),
     }
 }
 

@@ -4,8 +4,8 @@
 //! branch that has cost least so far, from the first place down: so a branch waits as soon as it
 //! has cost more than those beside it. No proof says so; that no place is lost is proved.
 
-ghost use Rattle.std.specs.Prelude.{◌≡◌, ◌∷◌, [], MatchOption, OnOk, IsPermutation};
-ghost use Rattle.rpki_relying_party.specs.Queue.{waiting_in, TakesNone};
+ghost use Rattle.std.specs.Prelude.{◌≡◌, ◌∷◌, ◌++◌, [], MatchOption, IfOk, OnOk, IsPermutation};
+ghost use Rattle.rpki_relying_party.specs.Queue.{place_on, somes, waiting_in, TakesNone};
 
 use std::alloc::{AllocError, Global};
 use std::collections::BTreeSet;
@@ -52,13 +52,20 @@ pub struct Turn<P> {
 }
 
 impl<P: Drop> Queue<P> {
-    /// No places.
-    pub fn new(alloc: Global) -> Queue<P>
-        ensures { result ≡ [] }
+    /// No places, and the branch 0 of one that was read.
+    pub fn new(alloc: Global) -> Result<Queue<P>, AllocError>
+        ensures { IfOk result (λ queue. queue ≡ []) }
     {
-        Queue {
-            branches: Vec::new(alloc),
-        }
+        let mut branches = Vec::new(alloc);
+        let open = BTreeSet::new(alloc);
+        branches.push(Branch {
+            parent: 0,
+            level: 0,
+            spent: 0,
+            place: None,
+            open,
+        })?;
+        Ok(Queue { branches })
     }
 
     /// Puts a place below the branch of the one that told of it.
@@ -66,6 +73,14 @@ impl<P: Drop> Queue<P> {
         ensures { OnOk result (IsPermutation (place ∷ self.old) self.new) }
     {
         put_below(&mut self.branches, alloc, place, told_by)
+    }
+
+    /// Puts a place back on the branch that it was taken from. It has its turn again once something
+    /// was spent on the branch.
+    pub fn put_back(&mut self, alloc: Global, place: P, branch: usize) -> Result<(), AllocError>
+        ensures { OnOk result (IsPermutation (place ∷ self.old) self.new) }
+    {
+        put_at(&mut self.branches, alloc, place, branch)
     }
 
     /// Takes the place whose turn it is.
@@ -85,6 +100,17 @@ impl<P: Drop> Queue<P> {
         ensures { self.new ≡ self.old }
     {
         spend_on(&mut self.branches, branch, cost)
+    }
+
+    /// The places that wait, branch by branch.
+    pub fn into_waiting(self, alloc: Global) -> Result<Vec<P>, AllocError>
+        ensures { IfOk result (λ waiting. waiting.items ≡ self) }
+    {
+        let mut waiting = Vec::new(alloc);
+        for branch in self.branches {
+            push_waiting(branch, &mut waiting)?;
+        }
+        Ok(waiting)
     }
 }
 
@@ -119,6 +145,26 @@ fn put_below<P: Drop>(
         open,
     })?;
     set_open(branches, parent, (0, at), true)
+}
+
+// Puts a place on a branch. Where that is none, or another waits there, one stands on a new branch.
+fn put_at<P: Drop>(
+    branches: &mut Vec<Branch<P>>,
+    alloc: Global,
+    place: P,
+    at: usize,
+) -> Result<(), AllocError>
+    ensures { OnOk result (IsPermutation (place ∷ waiting_in branches.old.items)
+        (waiting_in branches.new.items)) }
+{
+    if at >= branches.len() {
+        return put_below(branches, alloc, place, at);
+    }
+    let place = Box::new(alloc, place)?;
+    match branches[at].place.replace(place) {
+        None => Ok(()),
+        Some(other) => put_below(branches, alloc, Box::into_inner(other), at),
+    }
 }
 
 // A branch below this one has a place that waits, or none.
@@ -230,4 +276,20 @@ fn raise<P: Drop>(branches: &mut Vec<Branch<P>>, at: usize, cost: u64) -> Result
     set_open(branches, parent, (before, at), false)?;
     set_open(branches, parent, (after, at), is_open)?;
     Ok(parent)
+}
+
+// Puts the place that waits on a branch, if one does, at the end of others.
+fn push_waiting<P: Drop>(branch: Branch<P>, waiting: &mut Vec<P>) -> Result<(), AllocError>
+    ensures { OnOk result (waiting.new.items
+        ≡ waiting.old.items ++ somes (place_on branch ∷ [])) }
+{
+    let Branch { place, open, .. } = branch;
+    drop(open);
+    match place {
+        None => Ok(()),
+        Some(place) => {
+            waiting.push(Box::into_inner(place))?;
+            Ok(())
+        }
+    }
 }

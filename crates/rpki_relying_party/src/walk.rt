@@ -1,11 +1,11 @@
 //! A walk over places, of each key of which one is read.
 
-ghost use Rattle.std.specs.Prelude.{◌≡◌, ◌⊎◌, ℕ, ◌<◌, ◌≤◌, ◌∷◌, [], List, Contains, IfOk, OnOk};
-ghost use Rattle.std.specs.Prelude.{All, ◌++◌, ◌+◌, ◌/◌, IsPermutation, MatchOption};
+ghost use Rattle.std.specs.Prelude.{◌≡◌, ◌⊎◌, ◌↔◌, ℕ, ◌<◌, ◌≤◌, ◌∷◌, [], List, Contains, IfOk, OnOk};
+ghost use Rattle.std.specs.Prelude.{All, ◌++◌, ◌+◌, ◌/◌, ◌^◌, IsTrue, IsPermutation, MatchOption};
 ghost use Rattle.rpki_relying_party.specs.Paths.{IsSaid, IsFound, IsChild, Leads, TellsOne, Passes};
-ghost use Rattle.rpki_relying_party.specs.Walk.{IsWalk, places_left};
-ghost use Rattle.rpki_relying_party.specs.Steps.{has_key, left_for, IsPut, IsMeeting, AreMet};
-ghost use Rattle.rpki_relying_party.specs.Steps.{AreLeft, IsVisit};
+ghost use Rattle.rpki_relying_party.specs.Walk.{IsWalk, places_left, first_room};
+ghost use Rattle.rpki_relying_party.specs.Steps.{has_key, left_for, read_as, IsPut, IsTelling};
+ghost use Rattle.rpki_relying_party.specs.Steps.{AreMet, IsHeard, ArePassed, AreLeft, IsVisit};
 
 use crate::places::{Places, Reading, Told};
 use crate::queue::{Queue, Turn};
@@ -39,11 +39,19 @@ impl<P> Model for Unread<P> {
     ghost view = { λ u. record { place = u.place; why = u.why; tried = u.tried } };
 }
 
-// The places that were met: their keys, and those of them that wait to be read.
+/// A place that waits to be read.
+#[derive(Drop)]
+pub struct Waiting<P> {
+    pub place: P,
+    /// How much work was spent on tries of it so far, each of which was cut.
+    pub tried: u64,
+}
+
+// The keys of the places that were read, and the places that wait.
 #[derive(Drop)]
 struct Front<P> {
     keys: BTreeSet<Vec<u8>>,
-    queue: Queue<P>,
+    queue: Queue<Waiting<P>>,
 }
 
 // Puts a key to the keys: whether it was not among them.
@@ -54,39 +62,54 @@ fn put_key(keys: &mut BTreeSet<Vec<u8>>, key: Vec<u8>) -> Result<bool, AllocErro
     Ok(keys.insert(key)?)
 }
 
-// A place is met that the one on this branch told of.
-fn meet<P: Places>(
+// Whether a place with the key of this one was read.
+fn was_read<P: Places>(
     alloc: Global,
     places: &P,
-    place: P::Place,
-    told_by: usize,
-    front: &mut Front<P::Place>,
-) -> Result<(), AllocError>
-    ensures { OnOk result (IsMeeting (P.key_of places.now) place (has_key front.old.keys)
-        (has_key front.new.keys) front.old.queue front.new.queue) }
+    place: &P::Place,
+    keys: &BTreeSet<Vec<u8>>,
+) -> Result<bool, AllocError>
+    ensures { IfOk result (λ was. was ≡ has_key keys.now (P.key_of places.now place.now)) }
 {
-    let key = places.key(alloc, &place)?;
-    if put_key(&mut front.keys, key)? {
-        front.queue.put(alloc, place, told_by)?;
+    let key = places.key(alloc, place)?;
+    Ok(keys.contains(&key))
+}
+
+// These places are met, of which the one on this branch told, and wait.
+fn meet_all<P: Drop>(
+    alloc: Global,
+    children: Vec<P>,
+    told_by: usize,
+    queue: &mut Queue<Waiting<P>>,
+) -> Result<(), AllocError>
+    ensures { OnOk result (AreMet children.items queue.old queue.new) }
+{
+    for place in children {
+        queue.put(alloc, Waiting { place, tried: 0 }, told_by)?;
     }
     Ok(())
 }
 
-// These places are met, one after the other.
-fn meet_all<P: Places>(
+// A place on this branch was read, and told this.
+fn hear<P: Places>(
     alloc: Global,
     places: &P,
-    children: Vec<P::Place>,
-    told_by: usize,
+    place: P::Place,
+    told: Told<P::Place, P::Finding>,
+    branch: usize,
     front: &mut Front<P::Place>,
+    found: &mut P::Found,
 ) -> Result<(), AllocError>
-    ensures { OnOk result (AreMet (P.key_of places.now) children.items
-        (has_key front.old.keys) (has_key front.new.keys) front.old.queue front.new.queue) }
+    ensures { OnOk result (IsHeard (P.key_of places.now) P.lists P.has place told.said.items
+        told.children.items found.old found.new (has_key front.old.keys) (has_key front.new.keys)
+        front.old.queue front.new.queue) }
 {
-    for child in children {
-        meet(alloc, places, child, told_by, front)?;
-    }
-    Ok(())
+    let Told { said, children, .. } = told;
+    let key = places.key(alloc, &place)?;
+    drop(place);
+    put_key(&mut front.keys, key)?;
+    places.keep(alloc, said, found)?;
+    meet_all(alloc, children, branch, &mut front.queue)
 }
 
 // A place is left unread, on which so much was spent.
@@ -102,104 +125,134 @@ fn leave<P: Drop>(
     Ok(())
 }
 
-// Reads a place, within this room, or leaves it unread: how much was spent on it.
+// Tries to read a place within this room: how much was spent on it.
 fn visit<P: Places>(
     alloc: Global,
     places: &P,
-    turn: Turn<P::Place>,
+    turn: Turn<Waiting<P::Place>>,
     room: u64,
     front: &mut Front<P::Place>,
     found: &mut P::Found,
     unread: &mut Vec<Unread<P::Place>>,
 ) -> Result<u64, AllocError>
-    requires { 0 < room }
+    requires { turn.place.tried + room < 2 ^ 64 }
     ensures { IfOk result (λ spent. IsVisit (P.tells places.now) (P.costs places.now)
         (P.key_of places.now) P.lists P.has turn.place room spent found.old found.new
         unread.old.items unread.new.items (has_key front.old.keys) (has_key front.new.keys)
         front.old.queue front.new.queue) }
 {
     let Turn { place, branch } = turn;
+    let Waiting { place, tried } = place;
     match places.read(alloc, &place, room) {
         Err(_) => {
-            leave(place, Why::Memory, room, unread)?;
+            leave(place, Why::Memory, tried + room, unread)?;
             Ok(room)
         }
         Ok(Reading::Cut) => {
-            leave(place, Why::Limit, room, unread)?;
+            let tried = tried + room;
+            front.queue.put_back(alloc, Waiting { place, tried }, branch)?;
             Ok(room)
         }
         Ok(Reading::Told(told)) => {
-            drop(place);
-            let Told {
-                said,
-                children,
-                cost,
-            } = told;
-            places.keep(alloc, said, found)?;
-            meet_all(alloc, places, children, branch, front)?;
+            let cost = told.cost;
+            hear(alloc, places, place, told, branch, front, found)?;
             Ok(cost)
         }
     }
 }
 
-// The place whose turn it is, where there is room to read it.
-fn next_turn<P: Drop>(queue: &mut Queue<P>, room: u64) -> Option<Turn<P>>
-    ensures { MatchOption result
-        ((queue.new ≡ queue.old) × ((room ≡ 0) ⊎ (queue.old ≡ [])))
-        (λ turn. (0 < room) × IsPermutation queue.old (turn.place ∷ queue.new)) }
+// The place whose turn it is, of those whose keys were not read, where there is room to read one.
+// The others are passed over.
+fn next_turn<P: Places>(
+    alloc: Global,
+    places: &P,
+    keys: &BTreeSet<Vec<u8>>,
+    queue: &mut Queue<Waiting<P::Place>>,
+    room: u64,
+) -> Result<Option<Turn<Waiting<P::Place>>>, AllocError>
+    ensures { IfOk result (λ next. MatchOption next
+        (ArePassed (P.key_of places.now) (has_key keys.now) queue.old queue.new
+        × ((room ≡ 0) ⊎ (queue.new ≡ [])))
+        (λ turn. ArePassed (P.key_of places.now) (has_key keys.now) queue.old
+        (turn.place ∷ queue.new) × (¬ IsTrue (has_key keys.now
+        (P.key_of places.now turn.place.place))) × (0 < room))) }
 {
     if room == 0 {
-        return None;
+        return Ok(None);
     }
-    queue.take()
-}
-
-// The room that one place may have: an eighth of all, so that none is all that is read.
-fn room_for_one(limit: u64, room: u64) -> u64
-    requires { 0 < room }
-    ensures some { 0 < result }
-    ensures within { result ≤ room }
-    ensures eighth { result ≤ limit / 8 + 1 }
-    ensures share { (result ≡ room) ⊎ (result ≡ limit / 8 + 1) }
-{
-    let share = limit / 8 + 1;
-    if room < share { room } else { share }
-}
-
-// Those that wait are left unread, and nothing is spent on them.
-fn leave_all<P: Drop>(mut queue: Queue<P>, unread: &mut Vec<Unread<P>>) -> Result<(), AllocError>
-    ensures { OnOk result (AreLeft queue unread.old.items unread.new.items) }
-{
     while let Some(turn) = queue.take() {
-        leave(turn.place, Why::Limit, 0, unread)?;
+        if !was_read(alloc, places, &turn.place.place, keys)? {
+            return Ok(Some(turn));
+        }
+        queue.spend(turn.branch, 0)?;
+        drop(turn);
+    }
+    Ok(None)
+}
+
+// The room for a try: as much again as was spent on the place, and the first room, so that it
+// doubles from try to try; no more than is left.
+fn room_for(tried: u64, limit: u64, left: u64) -> u64
+    requires { 0 < left }
+    ensures some { 0 < result }
+    ensures within { result ≤ left }
+    ensures small { result ≤ tried + first_room limit }
+    ensures grows { (result ≡ left) ⊎ (tried < result) }
+{
+    let wanted = tried.saturating_add(limit / 8192 + 1);
+    if left < wanted { left } else { wanted }
+}
+
+// One that waits is left unread, unless its key was read.
+fn leave_one<P: Places>(
+    alloc: Global,
+    places: &P,
+    waiting: Waiting<P::Place>,
+    keys: &BTreeSet<Vec<u8>>,
+    unread: &mut Vec<Unread<P::Place>>,
+) -> Result<(), AllocError>
+    ensures { OnOk result (AreLeft (P.key_of places.now) (has_key keys.now) (waiting ∷ [])
+        unread.old.items unread.new.items) }
+{
+    if was_read(alloc, places, &waiting.place, keys)? {
+        drop(waiting);
+        return Ok(());
+    }
+    leave(waiting.place, Why::Limit, waiting.tried, unread)
+}
+
+// Those that wait are left unread, but for those whose keys were read.
+fn leave_all<P: Places>(
+    alloc: Global,
+    places: &P,
+    front: Front<P::Place>,
+    unread: &mut Vec<Unread<P::Place>>,
+) -> Result<(), AllocError>
+    ensures { OnOk result (AreLeft (P.key_of places.now) (has_key front.keys) front.queue
+        unread.old.items unread.new.items) }
+{
+    let Front { keys, queue } = front;
+    for waiting in queue.into_waiting(alloc)? {
+        leave_one(alloc, places, waiting, &keys, unread)?;
     }
     Ok(())
 }
 
-/// Walks from a place on: reads it, then its children, theirs, and so on, of each key one. What the
-/// places say is put to `found`; the answer is the places that were met and left unread.
-///
-/// All work together is at most `limit`, and that on one place at most an eighth of it, and one. A
-/// place that is more is left unread; what was spent on it counts. A place is left with less than
-/// that spent on it only where the limit is spent.
-///
-/// What is new in `found` is said by a place to which a chain of children leads from the start.
-/// Where places with one key tell one thing, whenever they are read, something alike to all that a
-/// place says to which a chain leads is found, unless some place on that chain has the key of an
-/// unread one.
-///
-/// The next place is on the branch that has cost least so far, from the start down, which no clause
-/// says.
+/// Walks from a place on that was read, and told this: reads its children, theirs, and so on, of
+/// each key one. What the places say is put to `found`; the answer is the places that were met and
+/// left unread.
 pub fn walk_from<P: Places>(
     alloc: Global,
     places: &P,
     start: P::Place,
+    told: Told<P::Place, P::Finding>,
     limit: u64,
     found: &mut P::Found,
 ) -> Result<Vec<Unread<P::Place>>, AllocError>
+    requires { IsTelling (P.tells places.now) (P.costs places.now) start limit told }
     ensures reads { IfOk result (λ unread. IsWalk (P.tells places.now) (P.costs places.now)
         (P.key_of places.now) (P.lists found.old) (P.lists found.new) (P.has found.old)
-        (P.has found.new) start limit unread.items) }
+        (P.has found.new) (read_as start told 0) limit unread.items) }
     ensures sound { OnOk result ((x : P.Finding) → P.lists found.new x
         → P.lists found.old x ⊎ IsSaid (P.tells places.now) start x) }
     ensures complete { IfOk result (λ unread.
@@ -210,18 +263,18 @@ pub fn walk_from<P: Places>(
         ⊎ Passes (P.key_of places.now) (places_left unread.items) start path) }
 {
     let keys = BTreeSet::new(alloc);
-    let queue = Queue::new(alloc);
+    let queue = Queue::new(alloc)?;
     let mut front = Front { keys, queue };
     let mut unread = Vec::new(alloc);
-    meet(alloc, places, start, 0, &mut front)?;
-    let mut room = limit;
-    while let Some(turn) = next_turn(&mut front.queue, room) {
+    let mut room = limit - told.cost;
+    hear(alloc, places, start, told, 0, &mut front, found)?;
+    while let Some(turn) = next_turn(alloc, places, &front.keys, &mut front.queue, room)? {
         let branch = turn.branch;
-        let allowed = room_for_one(limit, room);
+        let allowed = room_for(turn.place.tried, limit, room);
         let spent = visit(alloc, places, turn, allowed, &mut front, found, &mut unread)?;
         front.queue.spend(branch, spent)?;
         room -= spent;
     }
-    leave_all(front.queue, &mut unread)?;
+    leave_all(alloc, places, front, &mut unread)?;
     Ok(unread)
 }

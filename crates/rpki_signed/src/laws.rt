@@ -93,8 +93,8 @@ pub fn walks_are_whole<'a, N: AsOctets, O: AsOctets, C: Crypto>(walk: &Walk<'a, 
 /// `check::rta`, says yes only where the octets begin with one, every stated check holds, and each
 /// attested set equals the union, over its signers, of the intersections of all explicit sets along
 /// anchored, signed, valid, unrevoked paths without a cycle; and, if the identifiers of the
-/// certificates that it carries are distinct, exactly there. Unless memory runs out, and if
-/// `check_crl` has one answer about a certificate.
+/// certificates that it carries are distinct, exactly there. Unless memory runs out, and, of the
+/// first four, if `check_crl` has one answer about the certificate of that object (`SaysOne`).
 pub fn yes_is_exact<F: FnOnce(&Cert) -> Result<(), ValidationError>>(check_crl: &F)
     ensures manifests { (rule : ManifestRule) → IsHeadline manifest_kind (ManifestForm rule Der)
         (FnOnceReturnsAt F.FnOnce check_crl.now) }

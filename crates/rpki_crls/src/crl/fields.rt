@@ -46,6 +46,13 @@ impl Crl {
         self.contents.tbs.extensions.number
     }
 
+    /// The certificates that it revokes, in its order (RFC 5280, section 5.1.2.6).
+    pub fn revoked(&self) -> &[CrlEntry]
+        ensures { result.now ≡ self.now.list.tbs.revoked }
+    {
+        self.contents.tbs.revoked.as_slice()
+    }
+
     /// Whether it revokes the certificate with this serial number: an entry has it (RFC 5280,
     /// section 5.1.2.6). All entries are gone through.
     pub fn contains(&self, serial: Serial) -> bool

@@ -4,7 +4,7 @@ use Rattle.std.specs.Prelude.{ℕ, List, ◌++◌, codes, decimal}
 use Rattle.std.specs.List.{flat_map}
 use Rattle.rpki_resources.specs.As.{asn_text}
 use Rattle.rpki_payloads.specs.Found.{FoundUnder}
-use Rattle.rpki_payloads.specs.Payloads.{NamedOrigin, origins_among}
+use Rattle.rpki_payloads.specs.Payloads.{NamedOrigin, origins_under}
 use Rattle.rpki_payloads.specs.Seconds.{seconds_since}
 use Rattle.rpki_payloads.specs.Texts.Escaped.{csv_field}
 use Rattle.rpki_payloads.specs.Texts.Origin.{prefix_of}
@@ -20,6 +20,10 @@ csv_row o = asn_text o.origin.asn ++ (codes "," ++ (prefix_of o.origin ++ (codes
     ++ (decimal o.origin.max_len ++ (codes "," ++ (csv_field o.name ++ (codes ","
     ++ (decimal (seconds_since o.until) ++ codes "\n"))))))))
 
--- the header, and a row for each origin: name by name, in the order of origins
+-- the rows of the origins under one name, in their order
+abbrev pub rows_under : FoundUnder → List ℕ
+rows_under f = flat_map csv_row (origins_under f)
+
+-- the header, and a row for each origin, name by name
 abbrev pub csv_text : List FoundUnder → List ℕ
-csv_text found = csv_header ++ flat_map csv_row (origins_among found)
+csv_text found = csv_header ++ flat_map rows_under found

@@ -13,13 +13,15 @@ use Rattle.rpki_payloads.specs.Payloads.{origins_among, customers_among}
 use Rattle.rpki_payloads.specs.Seconds.{seconds_since}
 use Rattle.rpki_payloads.specs.Texts.Origin.{prefix_of}
 
--- the beginning of the object: the moment at which payloads were found, as seconds after 1970 began
--- and in words (RFC 3339)
-unfoldable pub json_metadata : Moment → List ℕ
-json_metadata moment = codes "{\n  \"metadata\": {\n    \"generated\": "
-    ++ (decimal (seconds_since moment) ++ (codes ",\n    \"generatedTime\": \""
-    ++ (iso_text moment ++ (codes "\",\n    \"buildtime\": \""
-    ++ (iso_text moment ++ codes "\"\n  },\n")))))
+-- the beginning of the object, and the moment at which payloads were found, as a count of seconds
+unfoldable pub json_generated : Moment → List ℕ
+json_generated moment =
+    codes "{\n  \"metadata\": {\n    \"generated\": " ++ decimal (seconds_since moment)
+
+-- the moment in words (RFC 3339), and the end of the first member
+unfoldable pub json_times : Moment → List ℕ
+json_times moment = codes ",\n    \"generatedTime\": \"" ++ (iso_text moment
+    ++ (codes "\",\n    \"buildtime\": \"" ++ (iso_text moment ++ codes "\"\n  },\n")))
 
 -- the first members of an origin, as `{ "asn": "AS64496", "prefix": "192.0.2.0/24", "maxLength":
 -- 26`
@@ -64,8 +66,8 @@ json_aspas cs = codes "  \"aspas\": [" ++ (separated (codes ",") json_aspa cs ++
 
 -- the object: when it was made, its origins, and its customers with their providers, name by name
 abbrev pub json_text : Moment → List FoundUnder → List ℕ
-json_text moment found = json_metadata moment
-    ++ (json_roas (origins_among found) ++ json_aspas (customers_among found))
+json_text moment found = json_generated moment ++ (json_times moment
+    ++ (json_roas (origins_among found) ++ json_aspas (customers_among found)))
 
 -- ---- objects after others
 

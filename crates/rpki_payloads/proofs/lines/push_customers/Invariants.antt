@@ -6,6 +6,6 @@ use Rattle.rpki_payloads.specs.Texts.Lines.{aspa_line}
 use Rattle.rpki_payloads.proofs.lines.push_customers.Given as goal
 
 -- the text, and the lines of the customers that are still to come
-abbrev pub invariant-loop-customer : goal.invariant-loop-customer
-invariant-loop-customer l = string_bytes l.text ++ flat_map aspa_line l.customer-iterator
+abbrev pub invariant-loop-aspa : goal.invariant-loop-aspa
+invariant-loop-aspa l = string_bytes l.text ++ flat_map aspa_line l.aspa-iterator
     ≡ string_bytes l.fn.text ++ flat_map aspa_line (customers_of (keys l.providers))

@@ -1,13 +1,13 @@
--- Those that the loop has had were met.
-use Rattle.std.proofs.Common.{◌≡◌, ◌++◌, List, length}
+-- What waits, and what the loop has still to put.
+use Rattle.std.proofs.Common.{◌≡◌, ◌++◌, length, map}
+use Rattle.std.specs.Prelude.{IsPermutation}
 use Rattle.std.specs.Vec.Iter.{into_iter_items, into_iter_len}
-use Rattle.rpki_relying_party.specs.Steps.{has_key, AreMet}
+use Rattle.rpki_relying_party.specs.Steps.{waits_with}
 use Rattle.rpki_relying_party.proofs.walk.meet_all.Given as goal
 
-abbrev pub invariant-loop-child : goal.invariant-loop-child
-invariant-loop-child g l =
-    (done : List g.row.P-Place.Denot)
-    × (l.fn.children.items ≡ done ++ into_iter_items l.child-iterator)
-    × (into_iter_len l.child-iterator ≡ length (into_iter_items l.child-iterator))
-    × AreMet (g.P.Places.key_of l.places) done (has_key l.fn.front.keys) (has_key l.front.keys)
-    l.fn.front.queue l.front.queue
+abbrev pub invariant-loop-place : goal.invariant-loop-place
+invariant-loop-place g l = record {
+  all : IsPermutation (map (λ c. waits_with c 0) l.fn.children.items ++ l.fn.queue)
+      (map (λ c. waits_with c 0) (into_iter_items l.place-iterator) ++ l.queue);
+  long : into_iter_len l.place-iterator ≡ length (into_iter_items l.place-iterator);
+}

@@ -1,9 +1,11 @@
 -- Customers with their providers, from one to the next.
 use Rattle.std.proofs.Common.{◌≡◌, ◌≢◌, ℕ, ◌==◌, List, [], ◌∷◌, if◌then◌else◌, refl, sym, ap, ◌∙◌}
+use Rattle.std.proofs.Common.{Option, Some}
 use Rattle.std.proofs.Common.{subst, arith}
 use Rattle.std.proofs.lemmas.Bool.Decides.{nat_tests}
 use Rattle.rpki_relying_party.specs.declared.payload.Provider.{Provider}
 use Rattle.rpki_payloads.specs.Payloads.{Customer, put_provider, customers_of, providers_of}
+use Rattle.rpki_payloads.specs.Payloads.{and_further}
 
 -- the customers after this one, where it is the first of them, and else all
 abbrev pub customers_after : ℕ → List Customer → List Customer
@@ -50,7 +52,7 @@ first-of p ps =
     ∙ ap (λ ns. record { number = p.customer; providers = p.provider ∷ ns }
     ∷ customers_after p.customer (customers_of ps)) (front p.customer ps)
 
-if-same : (n : ℕ) (xs ys : List Customer) → (if n == n then xs else ys) ≡ xs
+if-same : {X : Type 0} (n : ℕ) (xs ys : List X) → (if n == n then xs else ys) ≡ xs
 if-same n xs ys = grind (arith, nat_tests)
 
 if-other : (m n : ℕ) (xs ys : List Customer) → m ≢ n → (if m == n then xs else ys) ≡ ys
@@ -71,3 +73,30 @@ pub others : (p : Provider) (ps : List Provider) (customer : ℕ) → p.customer
 others p ps customer ne =
     ap (customers_after customer) (first-of p ps) ∙ if-other p.customer customer _ _ ne
     ∙ sym (first-of p ps)
+
+-- the first of all customers, and the others
+pub next-of : (all : List Customer) (first : Option Provider) (further : List Provider)
+    (p : Provider) (rest : List Customer)
+    → all ≡ customers_of (and_further first further) → first ≡ Some p
+    → rest ≡ customers_after p.customer all
+    → all ≡ record {
+      number = p.customer;
+      providers = providers_of p.customer (and_further first further);
+    } ∷ rest
+next-of all first further p rest a e r =
+    let taken : and_further first further ≡ p ∷ further =
+    ap (λ (o : Option Provider). and_further o further) e in
+    let whole : all ≡ customers_of (p ∷ further) = a ∙ ap customers_of taken in
+    let after : customers_after p.customer (customers_of further) ≡ rest =
+    sym (passed p further p.customer refl) ∙ sym (ap (customers_after p.customer) whole) ∙ sym r in
+    let all-providers : p.provider ∷ providers_of p.customer further
+        ≡ providers_of p.customer (and_further first further) =
+    sym (if-same p.customer (p.provider ∷ providers_of p.customer further) [])
+    ∙ sym (ap (providers_of p.customer) taken) in
+    whole ∙ first-of p further
+    ∙ ap (λ ns. record { number = p.customer; providers = ns }
+    ∷ customers_after p.customer (customers_of further)) all-providers
+    ∙ ap (λ cs. record {
+      number = p.customer;
+      providers = providers_of p.customer (and_further first further);
+    } ∷ cs) after

@@ -1,4 +1,4 @@
-//! Customers with their providers.
+//! ASPAs: customers with their providers.
 
 ghost use Rattle.std.specs.Prelude.{◌≡◌};
 ghost use Rattle.std.specs.BTreeMap.{keys};
@@ -64,27 +64,27 @@ impl<'a> Listed for Providers<'a> {
 
 /// A customer with its providers.
 #[derive(Drop)]
-pub(crate) struct Customer<'a> {
-    pub(crate) number: Asn,
+pub(crate) struct Aspa<'a> {
+    pub(crate) customer: Asn,
     pub(crate) providers: Providers<'a>,
 }
 
-impl<'a> Model for Customer<'a> {
+impl<'a> Model for Aspa<'a> {
     ghost use Rattle.rpki_payloads.specs.Payloads.{Customer};
 
     ghost Value = { Customer };
 
-    ghost view = { λ c. record { number = c.number; providers = c.providers } };
+    ghost view = { λ c. record { number = c.customer; providers = c.providers } };
 }
 
 /// Goes over customers with their providers.
 #[derive(Drop)]
-pub(crate) struct Customers<'a> {
+pub(crate) struct Aspas<'a> {
     first: Option<Provider>,
     further: Keys<'a, Provider, Held>,
 }
 
-impl<'a> Model for Customers<'a> {
+impl<'a> Model for Aspas<'a> {
     ghost use Rattle.std.specs.Prelude.{List};
     ghost use Rattle.rpki_payloads.specs.Payloads.{Customer, customers_of, and_further};
 
@@ -95,16 +95,16 @@ impl<'a> Model for Customers<'a> {
 }
 
 /// Goes over the customers of these providers, in their order.
-pub(crate) fn customers_of<'a>(providers: &'a BTreeMap<Provider, Held>) -> Customers<'a>
+pub(crate) fn aspas_of<'a>(providers: &'a BTreeMap<Provider, Held>) -> Aspas<'a>
     ensures { result ≡ customers_of (keys providers.now) }
 {
     let mut further = providers.keys();
     let first = further.next().copied();
-    Customers { first, further }
+    Aspas { first, further }
 }
 
-impl<'a> Iterator for Customers<'a> {
-    type Item = Customer<'a>;
+impl<'a> Iterator for Aspas<'a> {
+    type Item = Aspa<'a>;
 
     ghost use Rattle.std.specs.Iterator.{YieldsFirst, item_count};
 
@@ -112,7 +112,7 @@ impl<'a> Iterator for Customers<'a> {
 
     ghost remaining = { item_count (λ s. s) };
 
-    fn next(&mut self) -> Option<Customer<'a>> {
+    fn next(&mut self) -> Option<Aspa<'a>> {
         let customer = self.first?.customer;
         let Ok(further) = self.further.clone() else {
             return None;
@@ -128,8 +128,8 @@ impl<'a> Iterator for Customers<'a> {
             }
             self.first = self.further.next().copied();
         }
-        Some(Customer {
-            number: Asn::from_u32(customer),
+        Some(Aspa {
+            customer: Asn::from_u32(customer),
             providers,
         })
     }
