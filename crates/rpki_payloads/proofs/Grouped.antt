@@ -1,6 +1,6 @@
 -- Customers with their providers, from one to the next.
 use Rattle.std.proofs.Common.{◌≡◌, ◌≢◌, ℕ, ◌==◌, List, [], ◌∷◌, if◌then◌else◌, refl, sym, ap, ◌∙◌}
-use Rattle.std.proofs.Common.{Option, Some}
+use Rattle.std.proofs.Common.{Option, None, Some}
 use Rattle.std.proofs.Common.{subst, arith}
 use Rattle.std.proofs.lemmas.Bool.Decides.{nat_tests}
 use Rattle.rpki_relying_party.specs.declared.payload.Provider.{Provider}
@@ -75,28 +75,54 @@ others p ps customer ne =
     ∙ sym (first-of p ps)
 
 -- the first of all customers, and the others
-pub next-of : (all : List Customer) (first : Option Provider) (further : List Provider)
-    (p : Provider) (rest : List Customer)
-    → all ≡ customers_of (and_further first further) → first ≡ Some p
-    → rest ≡ customers_after p.customer all
+pub next-of : (all : List Customer) (first : Option Provider) (further copied : List Provider)
+    (p : Provider) (number : ℕ) (rest : List Customer)
+    → customers_of (and_further first further) ≡ all → first ≡ Some p → copied ≡ further
+    → number ≡ p.customer → rest ≡ customers_after p.customer all
     → all ≡ record {
-      number = p.customer;
-      providers = providers_of p.customer (and_further first further);
+      number = number;
+      providers = providers_of p.customer (and_further first copied);
     } ∷ rest
-next-of all first further p rest a e r =
+next-of all first further copied p number rest a e k n r =
     let taken : and_further first further ≡ p ∷ further =
     ap (λ (o : Option Provider). and_further o further) e in
-    let whole : all ≡ customers_of (p ∷ further) = a ∙ ap customers_of taken in
+    let whole : all ≡ customers_of (p ∷ further) = sym a ∙ ap customers_of taken in
     let after : customers_after p.customer (customers_of further) ≡ rest =
     sym (passed p further p.customer refl) ∙ sym (ap (customers_after p.customer) whole) ∙ sym r in
-    let all-providers : p.provider ∷ providers_of p.customer further
-        ≡ providers_of p.customer (and_further first further) =
+    let providers : p.provider ∷ providers_of p.customer further
+        ≡ providers_of p.customer (and_further first copied) =
     sym (if-same p.customer (p.provider ∷ providers_of p.customer further) [])
-    ∙ sym (ap (providers_of p.customer) taken) in
+    ∙ sym (ap (providers_of p.customer) taken)
+    ∙ ap (λ ps. providers_of p.customer (and_further first ps)) (sym k) in
     whole ∙ first-of p further
-    ∙ ap (λ ns. record { number = p.customer; providers = ns }
-    ∷ customers_after p.customer (customers_of further)) all-providers
+    ∙ ap (λ m. record { number = m; providers = p.provider ∷ providers_of p.customer further }
+    ∷ customers_after p.customer (customers_of further)) (sym n)
+    ∙ ap (λ ns. record { number = number; providers = ns }
+    ∷ customers_after p.customer (customers_of further)) providers
     ∙ ap (λ cs. record {
-      number = p.customer;
-      providers = providers_of p.customer (and_further first further);
+      number = number;
+      providers = providers_of p.customer (and_further first copied);
     } ∷ cs) after
+
+-- the providers of a customer were passed, and another provider stands first, or none is left
+pub passed-to : (customer : ℕ) (all rest : List Customer) (first : Option Provider)
+    (further : List Provider) (p : Provider)
+    → rest ≡ customers_of (and_further first further) → first ≡ Some p → p.customer ≢ customer
+    → customers_after customer (customers_of (and_further first further))
+    ≡ customers_after customer all → rest ≡ customers_after customer all
+passed-to customer all rest first further p r e ne held =
+    let taken : and_further first further ≡ p ∷ further =
+    ap (λ (o : Option Provider). and_further o further) e in
+    r ∙ ap customers_of taken ∙ sym (others p further customer ne)
+    ∙ sym (ap (λ ps. customers_after customer (customers_of ps)) taken) ∙ held
+
+pub passed-all : (customer : ℕ) (all rest : List Customer) (first : Option Provider)
+    (further : List Provider)
+    → rest ≡ customers_of (and_further first further) → first ≡ None
+    → customers_after customer (customers_of (and_further first further))
+    ≡ customers_after customer all → rest ≡ customers_after customer all
+passed-all customer all rest first further r e held =
+    let taken : and_further first further ≡ [] =
+    ap (λ (o : Option Provider). and_further o further) e in
+    r ∙ ap customers_of taken
+    ∙ sym (ap (λ ps. customers_after customer (customers_of ps)) taken) ∙ held
