@@ -90,7 +90,7 @@ next-of all first further copied p number rest a e k n r =
     let after : customers_after p.customer (customers_of further) ≡ rest =
     sym (passed p further p.customer refl) ∙ sym (ap (customers_after p.customer) whole) ∙ sym r in
     let providers : p.provider ∷ providers_of p.customer further
-        ≡ providers_of p.customer (and_further first copied) =
+    ≡ providers_of p.customer (and_further first copied) =
     sym (if-same p.customer (p.provider ∷ providers_of p.customer further) [])
     ∙ sym (ap (providers_of p.customer) taken)
     ∙ ap (λ ps. providers_of p.customer (and_further first ps)) (sym k) in

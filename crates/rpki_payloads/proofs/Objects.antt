@@ -7,7 +7,7 @@ use Rattle.rpki_basics.specs.Moment.{Moment, IsMoment}
 use Rattle.rpki_basics.specs.Time.Form.{iso_text}
 use Rattle.rpki_json.specs.Grammar.{string, number, array, object, Items, member}
 use Rattle.rpki_json.specs.Grammar.{no_members, IsMark, IsValue, AreItems}
-use Rattle.rpki_json.specs.Grammar.{AreFurtherMembers, IsText, items_of}
+use Rattle.rpki_json.specs.Grammar.{IsText, items_of}
 use Rattle.rpki_json.specs.Separated.{separated}
 use Rattle.rpki_json.specs.Text.{json_string}
 use Rattle.rpki_json.proofs.Strings.{is-quoted}

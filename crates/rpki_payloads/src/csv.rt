@@ -28,9 +28,7 @@ pub fn push_csv(text: &mut String, found: &[AnchorFindings<'_>]) -> Result<(), A
 fn push_rows(text: &mut String, found: &[AnchorFindings<'_>]) -> Result<(), AllocError>
     ensures { Grows result text.old text.new (flat_map rows_under found.now) }
 {
-    push_each(text, found.iter(), |text, one| {
-        push_rows_of(text, one)
-    })
+    push_each(text, found.iter(), |text, one| { push_rows_of(text, one) })
 }
 
 /// Appends a row for each origin of one name.
@@ -44,12 +42,7 @@ fn push_rows_of(text: &mut String, one: &AnchorFindings<'_>) -> Result<(), Alloc
 }
 
 /// Appends the row of an origin.
-fn push_row(
-    text: &mut String,
-    origin: &Origin,
-    held: &Held,
-    name: &str,
-) -> Result<(), AllocError>
+fn push_row(text: &mut String, origin: &Origin, held: &Held, name: &str) -> Result<(), AllocError>
     ensures { Grows result text.old text.new (csv_row (named_origin name.now (origin.now, held.now))) }
 {
     let asn = Asn::from_u32(origin.asn);

@@ -103,16 +103,15 @@ fn push_origins_of(
 fn push_comma(text: &mut String, is_further: bool) -> Result<(), AllocError>
     ensures { Grows result text.old text.new (comma_after is_further) }
 {
-    if is_further { text.push_str(",") } else { Ok(()) }
+    if is_further {
+        text.push_str(",")
+    } else {
+        Ok(())
+    }
 }
 
 /// Appends the object of an origin.
-fn push_roa(
-    text: &mut String,
-    origin: &Origin,
-    held: &Held,
-    name: &str,
-) -> Result<(), AllocError>
+fn push_roa(text: &mut String, origin: &Origin, held: &Held, name: &str) -> Result<(), AllocError>
     ensures { Grows result text.old text.new
         (json_roa (named_origin name.now (origin.now, held.now))) }
 {

@@ -22,9 +22,7 @@ use std::fmt::Write;
 pub fn push_lines(text: &mut String, found: &[AnchorFindings<'_>]) -> Result<(), AllocError>
     ensures { Grows result text.old text.new (lines_text found.now) }
 {
-    push_each(text, found.iter(), |text, one| {
-        push_found(text, one)
-    })
+    push_each(text, found.iter(), |text, one| { push_found(text, one) })
 }
 
 /// Appends the lines of what was found under one name.
@@ -61,10 +59,7 @@ fn push_origin(text: &mut String, origin: &Origin) -> Result<(), AllocError>
 }
 
 /// Appends the lines of customers.
-fn push_customers(
-    text: &mut String,
-    providers: &BTreeMap<Provider, Held>,
-) -> Result<(), AllocError>
+fn push_customers(text: &mut String, providers: &BTreeMap<Provider, Held>) -> Result<(), AllocError>
     ensures { Grows result text.old text.new
         (flat_map aspa_line (customers_of (keys providers.now))) }
 {

@@ -14,9 +14,7 @@ use std::fmt::Write;
 pub fn push_refusals(text: &mut String, found: &[AnchorFindings<'_>]) -> Result<(), AllocError>
     ensures { Grows result text.old text.new (refusals_text found.now) }
 {
-    push_each(text, found.iter(), |text, one| {
-        push_found(text, one)
-    })
+    push_each(text, found.iter(), |text, one| { push_found(text, one) })
 }
 
 /// Appends the lines of one name.
