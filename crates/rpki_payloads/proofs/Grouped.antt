@@ -32,8 +32,8 @@ put-providers : (customer : ℕ) (p : Provider) (cs : List Customer)
 put-providers customer p [] = refl
 put-providers customer p (c ∷ cs) = grind (arith, nat_tests)
 
--- the providers of a customer that stand at the front are those of the first customer, if it is this
--- one
+-- the providers of this customer that stand at the front are those of the first customer, if that
+-- is this one
 front : (customer : ℕ) (ps : List Provider)
     → first_providers customer (customers_of ps) ≡ providers_of customer ps
 front customer [] = refl

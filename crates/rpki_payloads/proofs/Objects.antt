@@ -20,8 +20,8 @@ use Rattle.rpki_payloads.specs.Said.{metadata_value, roa_value, provider_value, 
 use Rattle.rpki_payloads.specs.Said.{json_value, HasNumbers, HaveNumbers}
 use Rattle.rpki_payloads.specs.Seconds.{seconds_since}
 use Rattle.rpki_payloads.specs.Texts.Json.{json_generated, json_times, json_origin, json_expires}
-use Rattle.rpki_payloads.specs.Texts.Json.{json_roa, json_customer, json_provider, json_ta, json_aspa}
-use Rattle.rpki_payloads.specs.Texts.Json.{json_roas, json_aspas, json_text}
+use Rattle.rpki_payloads.specs.Texts.Json.{json_roa, json_customer, json_provider, json_ta}
+use Rattle.rpki_payloads.specs.Texts.Json.{json_aspa, json_roas, json_aspas, json_text}
 use Rattle.rpki_payloads.specs.Texts.Origin.{prefix_of}
 use Rattle.rpki_payloads.proofs.Plain.{plain-by, plain-asn, plain-prefix, plain-moment}
 use Rattle.rpki_payloads.proofs.Counted.{seconds-small}
@@ -249,8 +249,8 @@ roa-is o h =
           (further-members (codes ", ") (codes "ta") name
           (expires-octets asn prefix length name expires) (string o.name) last comma-space
           (plain-by (codes "ta") refl) (is-quoted o.name)
-          (further-members (codes ", ") (codes "expires") expires [] (number (seconds_since o.until))
-          no_members comma-space (plain-by (codes "expires") refl)
+          (further-members (codes ", ") (codes "expires") expires []
+          (number (seconds_since o.until)) no_members comma-space (plain-by (codes "expires") refl)
           (is-number (seconds_since o.until) (seconds-small o.until h.moment)) refl))));
     }
 
@@ -353,7 +353,8 @@ module _ (seconds time roas aspas : List ℕ) where
   object-right : object-octets ++ codes "\n" ≡ object-row
   object-right =
       ap (λ z. codes "{\n  \"metadata\": {\n    \"generated\": " ++ z)
-      (right seconds (time-octets seconds time) (codes "\n  }") roas-octets (codes "\n}") (codes "\n")
+      (right seconds (time-octets seconds time) (codes "\n  }") roas-octets (codes "\n}")
+      (codes "\n")
       ∙ ap (λ z. seconds ++ (codes ",\n    \"generatedTime\": \"" ++ z))
       (step time (codes "\"") (build-octets seconds time) rest-octets
       ∙ ap (λ z. time ++ (codes "\",\n    \"buildtime\": \"" ++ z))

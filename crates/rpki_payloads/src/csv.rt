@@ -43,7 +43,8 @@ fn push_rows_of(text: &mut String, one: &AnchorFindings<'_>) -> Result<(), Alloc
 
 /// Appends the row of an origin.
 fn push_row(text: &mut String, origin: &Origin, held: &Held, name: &str) -> Result<(), AllocError>
-    ensures { Grows result text.old text.new (csv_row (named_origin name.now (origin.now, held.now))) }
+    ensures { Grows result text.old text.new
+        (csv_row (named_origin name.now (origin.now, held.now))) }
 {
     let asn = Asn::from_u32(origin.asn);
     let prefix = PrefixOf(origin);

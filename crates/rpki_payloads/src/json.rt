@@ -5,9 +5,9 @@ ghost use Rattle.rpki_json.specs.Separated.{separated};
 ghost use Rattle.rpki_payloads.specs.Payloads.{named_origin, origins_under, origins_among};
 ghost use Rattle.rpki_payloads.specs.Payloads.{named_customer, customers_under, customers_among};
 ghost use Rattle.rpki_payloads.specs.Texts.Json.{json_text, json_generated, json_times, json_roa};
-ghost use Rattle.rpki_payloads.specs.Texts.Json.{json_origin, json_expires, json_aspa, json_customer};
-ghost use Rattle.rpki_payloads.specs.Texts.Json.{json_ta, json_roas, json_aspas, comma_after, is_any};
-ghost use Rattle.rpki_payloads.specs.Texts.Json.{json_provider, separated_after};
+ghost use Rattle.rpki_payloads.specs.Texts.Json.{json_origin, json_expires, json_roas, json_aspa};
+ghost use Rattle.rpki_payloads.specs.Texts.Json.{json_customer, json_provider, json_ta, json_aspas};
+ghost use Rattle.rpki_payloads.specs.Texts.Json.{comma_after, separated_after, is_any};
 ghost use Rattle.rpki_show.specs.Grows.{Grows};
 
 use crate::aspas::{Aspa, Providers, aspas_of};

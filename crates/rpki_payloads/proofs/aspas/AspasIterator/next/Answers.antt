@@ -1,7 +1,8 @@
 use Rattle.std.proofs.Common.{◌≡◌}
 use Rattle.rpki_payloads.proofs.Grouped.{customers_after, next-of, passed-to, passed-all}
 use Rattle.rpki_payloads.proofs.aspas.AspasIterator.next.Goals as goal
-use Rattle.rpki_payloads.proofs.aspas.AspasIterator.next.Goals.{in-Some+then-provider-customer, in_default-first}
+use Rattle.rpki_payloads.proofs.aspas.AspasIterator.next.Goals.{in-Some+then-provider-customer}
+use Rattle.rpki_payloads.proofs.aspas.AspasIterator.next.Goals.{in_default-first}
 
 pub returns-clause-steps : goal.returns-clause-steps
 returns-clause-steps c =
