@@ -1,5 +1,8 @@
 pub mod Characters
+pub mod Counted
 pub mod Fields
+pub mod Further
+pub mod Grouped
 pub mod Objects
 pub mod Plain
 pub mod Tables

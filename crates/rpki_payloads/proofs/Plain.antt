@@ -1,8 +1,8 @@
--- The octets of numbers and of prefixes are digits, letters, dots, slashes and colons, so they
--- stand for themselves in a string of JSON and in a field of CSV.
+-- The octets of numbers, of prefixes and of moments are digits, letters, hyphens, dots, slashes and
+-- colons, so they stand for themselves in a string of JSON and in a field of CSV.
 use Rattle.std.proofs.Common.{◌≡◌, ◌≢◌, ℕ, zero, suc, ◌+◌, ◌^◌, ◌≤◌, nat_lt, nat_le, ◌&&◌, not}
 use Rattle.std.proofs.Common.{◌/◌, ◌%◌, ◌==◌, Bool, true, false, List, [], ◌∷◌, ◌++◌, All, take}
-use Rattle.std.proofs.Common.{drop, codes, decimal, arith, if◌then◌else◌}
+use Rattle.std.proofs.Common.{drop, codes, decimal, arith, refl, pos, ◌<◌, if◌then◌else◌}
 use Rattle.std.specs.Char.{digit_char}
 use Rattle.std.specs.Fmt.{digits, digits_onto}
 use Rattle.std.specs.Int.{w32, to_be_bytes}
@@ -12,15 +12,19 @@ use Rattle.std.specs.Net.Text.{ipv4_text, groups_text, hex_groups_text}
 use Rattle.std.proofs.lemmas.Bool.{and_parts, leb-true}
 use Rattle.std.proofs.lemmas.Bool.Decides.{nat_tests}
 use Rattle.std.proofs.lemmas.List.Elements.{All-nil, All-cons, All-append, All-drop}
+use Rattle.jiff_core.proofs.CalendarLemmas.{days_in_month_bounds}
+use Rattle.rpki_basics.specs.Moment.{Moment, IsMoment}
+use Rattle.rpki_basics.specs.Time.Form.{two_digits, iso_text}
 use Rattle.rpki_resources.specs.As.{asn_text}
-use Rattle.rpki_resources.specs.Prefix.{Network}
-use Rattle.rpki_resources.specs.Text.{addr_text, groups_of, prefix_text}
+use Rattle.rpki_resources.specs.Text.{addr_text, groups_of}
 use Rattle.rpki_resources.specs.declared.family.AddressFamily.{AddressFamily}
 use Rattle.rpki_resources.specs.declared.family.AddressFamily.TheVariants.{Ipv4, Ipv6}
+use Rattle.rpki_relying_party.specs.declared.payload.Origin.{Origin}
+use Rattle.rpki_payloads.specs.Texts.Origin.{family_of, prefix_of}
 
--- an octet from the dot on that is no backslash
+-- an octet from the hyphen on that is no backslash
 pub record IsPlain (o : ℕ) : Type 0 where
-  pub low : 0x2e ≤ o
+  pub low : 0x2d ≤ o
   pub backslash : o ≢ 0x5c
 
 abbrev pub ArePlain : List ℕ → Type 0
@@ -46,7 +50,7 @@ each f h (x ∷ xs) = both (f x) (flat_map f xs) (h x) (each f h xs)
 
 -- the same as a test, which computes
 abbrev is_plain : ℕ → Bool
-is_plain o = nat_le 0x2e o && not (o == 0x5c)
+is_plain o = nat_le 0x2d o && not (o == 0x5c)
 
 is_plain-true : (o : ℕ) → is_plain o ≡ true → IsPlain o
 is_plain-true o e =
@@ -62,7 +66,7 @@ plain-by (o ∷ os) e =
 
 -- ---- digits
 
-low-digit : (d : ℕ) → 0x2e ≤ digit_char d
+low-digit : (d : ℕ) → 0x2d ≤ digit_char d
 low-digit d = grind (arith, nat_tests)
 
 other-digit : (d : ℕ) → digit_char d ≢ 0x5c
@@ -83,6 +87,9 @@ unfolding digits
 plain-decimal n = plain-digits 64 n [] (All-nil IsPlain)
 
 -- ---- addresses
+
+hyphen : ArePlain (codes "-")
+hyphen = one 0x2d (record { low = omega arith; backslash = λ e. omega arith })
 
 dot : ArePlain (codes ".")
 dot = one 0x2e (record { low = omega arith; backslash = λ e. omega arith })
@@ -139,6 +146,54 @@ plain-addr : (family : AddressFamily) (addr : ℕ) → ArePlain (addr_text famil
 plain-addr Ipv4 addr = plain-ipv4 (to_be_bytes w32 (addr / 2 ^ 96))
 plain-addr Ipv6 addr = plain-ipv6 (groups_of addr)
 
+-- ---- moments
+
+plain-two : (n : ℕ) → n < 100 → ArePlain (two_digits n)
+plain-two n h =
+    All-cons IsPlain (0x30 + n / 10) ((0x30 + n % 10) ∷ [])
+    (record { low = omega arith; backslash = λ e. omega arith })
+    (one (0x30 + n % 10) (record { low = omega arith; backslash = λ e. omega arith }))
+
+two-then : (n : ℕ) (mark rest : List ℕ) → n < 100 → ArePlain mark → ArePlain rest
+    → ArePlain (two_digits n ++ (mark ++ rest))
+two-then n mark rest h i j =
+    both (two_digits n) (mark ++ rest) (plain-two n h) (both mark rest i j)
+
+module _ (m : Moment) (i : IsMoment m) where
+  abbrev from-second : List ℕ
+  from-second = two_digits m.second ++ codes "Z"
+
+  abbrev from-minute : List ℕ
+  from-minute = two_digits m.minute ++ (codes ":" ++ from-second)
+
+  abbrev from-hour : List ℕ
+  from-hour = two_digits m.hour ++ (codes ":" ++ from-minute)
+
+  abbrev from-day : List ℕ
+  from-day = two_digits m.day ++ (codes "T" ++ from-hour)
+
+  abbrev from-month : List ℕ
+  from-month = two_digits m.month ++ (codes "-" ++ from-day)
+
+  pub plain-moment : ArePlain (iso_text m)
+  plain-moment =
+      let year = i.year in
+      let month = i.month in
+      let day = i.day in
+      let hour = i.hour in
+      let minute = i.minute in
+      let second = i.second in
+      let most = days_in_month_bounds (pos m.year) m.month in
+      both (two_digits (m.year / 100)) (two_digits (m.year % 100) ++ (codes "-" ++ from-month))
+      (plain-two (m.year / 100) (omega arith))
+      (two-then (m.year % 100) (codes "-") from-month (omega arith) hyphen
+      (two-then m.month (codes "-") from-day (omega arith) hyphen
+      (two-then m.day (codes "T") from-hour (omega arith) (plain-by (codes "T") refl)
+      (two-then m.hour (codes ":") from-minute (omega arith) colon
+      (two-then m.minute (codes ":") from-second (omega arith) colon
+      (both (two_digits m.second) (codes "Z") (plain-two m.second (omega arith))
+      (plain-by (codes "Z") refl)))))))
+
 -- ---- what is written
 
 pub plain-asn : (n : ℕ) → ArePlain (asn_text n)
@@ -148,7 +203,7 @@ plain-asn n =
     (All-cons IsPlain 0x53 (decimal n) (record { low = omega arith; backslash = λ e. omega arith })
     (plain-decimal n))
 
-pub plain-prefix : (family : AddressFamily) (p : Network) → ArePlain (prefix_text family p)
-plain-prefix family p =
-    both _ _ (plain-addr family p.addr)
-    (both (codes "/") (decimal p.len) slash (plain-decimal p.len))
+pub plain-prefix : (o : Origin) → ArePlain (prefix_of o)
+plain-prefix o =
+    both _ _ (plain-addr (family_of o.family) o.addr)
+    (both (codes "/") (decimal o.len) slash (plain-decimal o.len))

@@ -1,16 +1,18 @@
 -- The table is CSV, and its records say the rows.
 use Rattle.std.proofs.Common.{ℕ, List, [], ◌∷◌, ◌++◌, map, codes, decimal, inr, refl, arith}
+use Rattle.std.proofs.Common.{◌≡◌, ap, ◌∙◌, subst}
 use Rattle.std.specs.List.{flat_map}
+use Rattle.std.proofs.lemmas.Grind.{flat_map-append}
 use Rattle.std.proofs.lemmas.List.Elements.{All-weaker}
 use Rattle.rpki_resources.specs.As.{asn_text}
-use Rattle.rpki_resources.specs.Text.{prefix_text}
-use Rattle.rpki_payloads.specs.Found.{Found, all_named}
+use Rattle.rpki_payloads.specs.Found.{FoundUnder}
 use Rattle.rpki_payloads.specs.Grammar.Csv.{IsTextData, IsField, IsRecord, AreRecords}
-use Rattle.rpki_payloads.specs.Picked.{Origin, origins_among}
+use Rattle.rpki_payloads.specs.Payloads.{NamedOrigin, origins_under, origins_among}
 use Rattle.rpki_payloads.specs.Said.{header_row, origin_row, csv_rows}
-use Rattle.rpki_payloads.specs.Texts.Csv.{csv_header, csv_row, csv_text}
+use Rattle.rpki_payloads.specs.Seconds.{seconds_since}
+use Rattle.rpki_payloads.specs.Texts.Csv.{csv_header, csv_row, rows_under, csv_text}
 use Rattle.rpki_payloads.specs.Texts.Escaped.{csv_field}
-use Rattle.rpki_payloads.specs.Texts.Origin.{max_length}
+use Rattle.rpki_payloads.specs.Texts.Origin.{prefix_of}
 use Rattle.rpki_payloads.proofs.Fields.{all-text-data, is-field}
 use Rattle.rpki_payloads.proofs.Plain.{IsPlain, ArePlain, plain-decimal, plain-asn, plain-prefix}
 
@@ -30,62 +32,76 @@ plain-field text h = inr (refl, All-weaker IsPlain IsTextData text-data text h)
 header-is : IsRecord header_row.first header_row.others csv_header
 header-is = record {
   field = codes "ASN";
-  later = codes ",IP Prefix,Max Length,Trust Anchor\n";
+  later = codes ",IP Prefix,Max Length,Trust Anchor,Expires\n";
   parts = refl;
   says = inr (refl, all-text-data (codes "ASN") refl);
   goes_on = record {
     field = codes "IP Prefix";
-    later = codes ",Max Length,Trust Anchor\n";
+    later = codes ",Max Length,Trust Anchor,Expires\n";
     parts = refl;
     says = inr (refl, all-text-data (codes "IP Prefix") refl);
     goes_on = record {
       field = codes "Max Length";
-      later = codes ",Trust Anchor\n";
+      later = codes ",Trust Anchor,Expires\n";
       parts = refl;
       says = inr (refl, all-text-data (codes "Max Length") refl);
       goes_on = record {
         field = codes "Trust Anchor";
-        later = codes "\n";
+        later = codes ",Expires\n";
         parts = refl;
         says = inr (refl, all-text-data (codes "Trust Anchor") refl);
-        goes_on = refl;
+        goes_on = record {
+          field = codes "Expires";
+          later = codes "\n";
+          parts = refl;
+          says = inr (refl, all-text-data (codes "Expires") refl);
+          goes_on = refl;
+        };
       };
     };
   };
 }
 
-row-is : (o : Origin) → IsRecord (origin_row o).first (origin_row o).others (csv_row o)
+row-is : (o : NamedOrigin) → IsRecord (origin_row o).first (origin_row o).others (csv_row o)
 row-is o =
-    let prefix = prefix_text o.origin.prefix.family o.origin.prefix.prefix in
-    let length = decimal (max_length o.origin.prefix) in
-    let last = codes "," ++ (csv_field o.name ++ codes "\n") in
+    let prefix = prefix_of o.origin in
+    let length = decimal o.origin.max_len in
+    let expires = decimal (seconds_since o.until) in
+    let last = codes "," ++ (expires ++ codes "\n") in
+    let name = codes "," ++ (csv_field o.name ++ last) in
     record {
       field = asn_text o.origin.asn;
-      later = codes "," ++ (prefix ++ (codes "," ++ (length ++ last)));
+      later = codes "," ++ (prefix ++ (codes "," ++ (length ++ name)));
       parts = refl;
       says = plain-field (asn_text o.origin.asn) (plain-asn o.origin.asn);
       goes_on = record {
         field = prefix;
-        later = codes "," ++ (length ++ last);
+        later = codes "," ++ (length ++ name);
         parts = refl;
-        says = plain-field prefix (plain-prefix o.origin.prefix.family o.origin.prefix.prefix);
+        says = plain-field prefix (plain-prefix o.origin);
         goes_on = record {
           field = length;
-          later = last;
+          later = name;
           parts = refl;
-          says = plain-field length (plain-decimal (max_length o.origin.prefix));
+          says = plain-field length (plain-decimal o.origin.max_len);
           goes_on = record {
             field = csv_field o.name;
-            later = codes "\n";
+            later = last;
             parts = refl;
             says = is-field o.name;
-            goes_on = refl;
+            goes_on = record {
+              field = expires;
+              later = codes "\n";
+              parts = refl;
+              says = plain-field expires (plain-decimal (seconds_since o.until));
+              goes_on = refl;
+            };
           };
         };
       };
     }
 
-rows-are : (os : List Origin) → AreRecords (map origin_row os) (flat_map csv_row os)
+rows-are : (os : List NamedOrigin) → AreRecords (map origin_row os) (flat_map csv_row os)
 rows-are [] = refl
 rows-are (o ∷ os) = record {
   record_octets = csv_row o;
@@ -95,11 +111,20 @@ rows-are (o ∷ os) = record {
   goes_on = rows-are os;
 }
 
-pub table-is : (found : List Found) → AreRecords (csv_rows found) (csv_text found)
+-- the rows of one name after the other
+all-rows : (found : List FoundUnder)
+    → flat_map csv_row (origins_among found) ≡ flat_map rows_under found
+all-rows [] = refl
+all-rows (f ∷ fs) =
+    flat_map-append csv_row (origins_under f) (origins_among fs)
+    ∙ ap (λ rows. rows_under f ++ rows) (all-rows fs)
+
+pub table-is : (found : List FoundUnder) → AreRecords (csv_rows found) (csv_text found)
 table-is found = record {
   record_octets = csv_header;
-  later = flat_map csv_row (origins_among (all_named found));
+  later = flat_map rows_under found;
   parts = refl;
   is = header-is;
-  goes_on = rows-are (origins_among (all_named found));
+  goes_on = subst (AreRecords (map origin_row (origins_among found))) (all-rows found)
+      (rows-are (origins_among found));
 }

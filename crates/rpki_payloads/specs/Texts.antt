@@ -3,6 +3,7 @@ pub mod Csv
 pub mod Escaped
 pub mod Json
 pub mod Lines
+pub mod Origin
 pub mod Refusals
 use Rattle.std.specs.Prelude.{ℕ, List}
 use Rattle.rpki_basics.specs.Moment.{Moment}

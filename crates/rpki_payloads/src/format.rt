@@ -1,5 +1,8 @@
 //! The formats of payloads.
 
+ghost use Rattle.rpki_payloads.specs.Texts.{payloads_text};
+ghost use Rattle.rpki_show.specs.Grows.{Grows};
+
 use crate::csv::push_csv;
 use crate::found::AnchorFindings;
 use crate::json::push_json;
@@ -15,7 +18,9 @@ pub fn push_payloads(
     format: Format,
     moment: Time,
     found: &[AnchorFindings<'_>],
-) -> Result<(), AllocError> {
+) -> Result<(), AllocError>
+    ensures { Grows result text.old text.new (payloads_text format moment found.now) }
+{
     match format {
         Format::Lines => push_lines(text, found),
         Format::Csv => push_csv(text, found),

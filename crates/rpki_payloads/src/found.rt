@@ -13,9 +13,13 @@ pub struct AnchorFindings<'a> {
 }
 
 impl<'a> Model for AnchorFindings<'a> {
+    ghost use Rattle.std.specs.Coded.{codes};
+    ghost use Rattle.rpki_relying_party.specs.contracts.found.Found as what_found;
     ghost use Rattle.rpki_payloads.specs.Found.{FoundUnder};
 
     ghost Value = { FoundUnder };
+
+    ghost coded = { Prim.hlevel (codes, what_found.the_row.coded) };
 
     ghost view = { λ f. record { name = f.name.now; found = f.found.now } };
 }

@@ -2,6 +2,7 @@
 //! lines.
 #![tactic(auto)]
 
+mod aspas;
 mod csv;
 mod escaped;
 mod format;

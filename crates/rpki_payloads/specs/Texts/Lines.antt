@@ -1,18 +1,20 @@
 -- The plain lines of payloads.
 use Rattle.std.specs.Prelude.{ℕ, List, ◌++◌, codes}
+use Rattle.std.specs.BTreeMap.{keys}
 use Rattle.std.specs.List.{flat_map}
 use Rattle.rpki_resources.specs.As.{asn_text}
-use Rattle.rpki_resources.specs.Text.{max_len_text}
-use Rattle.rpki_relying_party.specs.declared.payload.Held.{Held}
+use Rattle.rpki_resources.specs.Text.{with_max_len}
 use Rattle.rpki_relying_party.specs.declared.payload.Origin.{Origin}
 use Rattle.rpki_payloads.specs.Found.{FoundUnder}
-use Rattle.rpki_payloads.specs.Payloads.{Customer, customers_under, origins_under, prefix_of}
+use Rattle.rpki_payloads.specs.Payloads.{Customer, customers_of}
+use Rattle.rpki_payloads.specs.Texts.Origin.{prefix_of, longer_than}
 
 -- the line of an origin, as `origin AS64496 192.0.2.0/24-26`; without the maximum length where it
 -- is that of the prefix
-abbrev pub origin_line : Origin × Held → List ℕ
-origin_line (o , held) =
-    codes "origin " ++ (asn_text o.asn ++ (codes " " ++ (max_len_text (prefix_of o) ++ codes "\n")))
+abbrev pub origin_line : Origin → List ℕ
+origin_line o =
+    codes "origin " ++ (asn_text o.asn ++ (codes " "
+    ++ (with_max_len (prefix_of o) (longer_than o.len o.max_len) ++ codes "\n")))
 
 -- a provider, after a space
 abbrev pub provider_text : ℕ → List ℕ
@@ -23,9 +25,10 @@ abbrev pub aspa_line : Customer → List ℕ
 aspa_line c =
     codes "aspa " ++ (asn_text c.number ++ (flat_map provider_text c.providers ++ codes "\n"))
 
--- what was found under one name: origins, and then customers
+-- what was found under one name: origins in their order, and then customers in theirs
 abbrev pub lines_under : FoundUnder → List ℕ
-lines_under f = flat_map origin_line (origins_under f) ++ flat_map aspa_line (customers_under f)
+lines_under f = flat_map origin_line (keys f.found.payloads.origins)
+    ++ flat_map aspa_line (customers_of (keys f.found.payloads.providers))
 
 -- a line for each payload, name by name
 abbrev pub lines_text : List FoundUnder → List ℕ

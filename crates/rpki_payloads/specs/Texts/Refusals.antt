@@ -1,5 +1,5 @@
 -- The lines of what is refused.
-use Rattle.std.specs.Prelude.{ℕ, List, ◌++◌, codes, map}
+use Rattle.std.specs.Prelude.{ℕ, List, ◌++◌, codes}
 use Rattle.std.specs.BTreeMap.{values}
 use Rattle.std.specs.List.{flat_map}
 use Rattle.rpki_relying_party.specs.Texts.{cause_text}
@@ -13,6 +13,10 @@ refused_line name r =
     codes "refused " ++ (r.uri ++ (codes ": " ++ (cause_text r.cause ++ (codes " (under "
     ++ (r.under ++ (codes ", " ++ (name ++ codes ")\n")))))))
 
+-- the lines of what is refused under one name, in the order of what they say
+abbrev pub refusals_under : FoundUnder → List ℕ
+refusals_under f = flat_map (refused_line f.name) (values f.found.refusals)
+
 -- a line for each refusal, name by name
 abbrev pub refusals_text : List FoundUnder → List ℕ
-refusals_text found = flat_map (λ f. flat_map (refused_line f.name) (values f.found.refusals)) found
+refusals_text found = flat_map refusals_under found
