@@ -7,3 +7,5 @@ pub mod Objects
 pub mod Plain
 pub mod Tables
 pub mod Values
+mod Locating
+mod Reporting

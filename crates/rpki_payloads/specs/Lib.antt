@@ -4,3 +4,7 @@ pub mod Payloads
 pub mod Said
 pub mod Seconds
 pub mod Texts
+pub mod Locators
+pub mod Outcomes
+pub mod Party
+pub mod Report

@@ -6,7 +6,7 @@ use rpki_cli::verify::now;
 use rpki_cli::{FilesAndInput, ProcessArguments, start};
 use rpki_command::verify::Verify;
 use rpki_der::Counted;
-use rpki_folder::FolderParty;
+use rpki_payloads::FolderParty;
 use rpki_relying_party::{MAX_FILE, SystemFolders};
 use std::process::ExitCode;
 

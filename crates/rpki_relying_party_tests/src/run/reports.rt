@@ -10,7 +10,7 @@ use rpki_cli::answer::Answer;
 use rpki_cli::verify::words::Format;
 use rpki_cli::verify::{PayloadsRequest, RelyingParty};
 use rpki_cli::words::{Word, Words};
-use rpki_folder::FolderParty;
+use rpki_payloads::FolderParty;
 use rpki_testing::Fail;
 use std::alloc::{AllocError, Global};
 

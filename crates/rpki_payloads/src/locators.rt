@@ -3,7 +3,7 @@
 ghost use Rattle.std.specs.Prelude.{MatchResult};
 ghost use Rattle.std.specs.List.{zip};
 ghost use Rattle.rpki_cli.specs.Words.{texts};
-ghost use Rattle.rpki_folder.specs.Locators.{AreLocators, IsNamedLocator, IsNoLocator, IsFaultOf};
+ghost use Rattle.rpki_payloads.specs.Locators.{AreLocators, IsNamedLocator, IsNoLocator, IsFaultOf};
 
 use bytes::Bytes;
 use rpki_relying_party::locator_name;

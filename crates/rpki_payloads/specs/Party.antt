@@ -7,7 +7,7 @@ use Rattle.rpki_tal.specs.Tal.{Locator}
 use Rattle.rpki_relying_party.specs.Folders.{FindsIn}
 use Rattle.rpki_relying_party.specs.Setting.{Setting}
 use Rattle.rpki_relying_party.specs.declared.copy.NoFile.{NoFile}
-use Rattle.rpki_folder.specs.declared.party.FolderParty.{FolderParty}
+use Rattle.rpki_payloads.specs.declared.party.FolderParty.{FolderParty}
 
 -- What a read of a name below a folder may find; what cryptography says; and how much work there is
 -- at most under a locator.

@@ -1,17 +1,21 @@
 //! A relying party with a folder.
 
-ghost use Rattle.std.specs.Prelude.{◌≡◌};
+ghost use Rattle.std.specs.Prelude.{◌≡◌, IfOk};
+ghost use Rattle.std.specs.List.{AllZip};
+ghost use Rattle.rpki_cli.specs.Answer.{said};
+ghost use Rattle.rpki_payloads.specs.Outcomes.{IsOutcomeUnder};
+ghost use Rattle.rpki_payloads.specs.Party.{party_of};
+ghost use Rattle.rpki_payloads.specs.Report.{IsReport, IsReportUnder};
 
-use crate::locators::{LocatorFault, NamedLocator, locators_in};
-use crate::outcome::{AnchorOutcome, is_good, put_outcome};
-use crate::report::report_outcomes;
 use bytes::Bytes;
+use crate::locators::{LocatorFault, NamedLocator, locators_in};
+use crate::outcome::AnchorOutcome;
+use crate::report::report_outcomes;
 use rpki_basics::Crypto;
 use rpki_cli::answer::Answer;
 use rpki_cli::verify::{PayloadsRequest, RelyingParty};
-use rpki_relying_party::{FolderCopy, Folders, Found, Pass, RunFault, refuse_unread, run_under};
+use rpki_relying_party::{FolderCopy, Folders, Pass};
 use rpki_rsa::Rsa;
-use rpki_tal::Tal;
 use std::alloc::{AllocError, Global};
 
 /// How much work there is at most under a locator, if nothing else is said: 8 GiB.
@@ -30,7 +34,8 @@ pub struct FolderParty<'a, F, C> {
 }
 
 impl<'a, F> FolderParty<'a, F, Rsa> {
-    /// A relying party that computes signatures, with 8 GiB of work under a locator.
+    /// A relying party that computes signatures. That there is 8 GiB of work at most under a
+    /// locator is this project's own rule.
     pub fn new(folders: &'a F) -> FolderParty<'a, F, Rsa>
         ensures folders { result.folders.now ≡ folders.now }
         ensures limit { result.limit ≡ 8589934592 }
@@ -44,8 +49,7 @@ impl<'a, F> FolderParty<'a, F, Rsa> {
 }
 
 impl<F: Folders, C: Crypto> RelyingParty for FolderParty<'_, F, C> {
-    // Nothing is promised yet.
-    ghost says = { λ _ _ _ _. Unit {0} };
+    ghost says = { λ p. IsReport (party_of F.finds C.digest_of C.is_signed p) };
 
     fn answer<'a>(
         &self,
@@ -71,7 +75,10 @@ fn report_under<'a, F: Folders, C: Crypto>(
     party: &FolderParty<'_, F, C>,
     request: &PayloadsRequest<'_>,
     locators: &[NamedLocator<'_>],
-) -> Answer<'a> {
+) -> Answer<'a>
+    ensures { IsReportUnder (party_of F.finds C.digest_of C.is_signed party.now) request.now
+        locators.now (said result) }
+{
     match run_all(alloc, party, request, locators) {
         Err(_) => Answer::OutOfMemory,
         Ok(outcomes) => {
@@ -82,18 +89,20 @@ fn report_under<'a, F: Folders, C: Crypto>(
     }
 }
 
-// What the runs under these locators come to: one for each name, and one for each locator without
-// a run.
+// What the runs under these locators come to, in their order.
 fn run_all<'p, F: Folders, C: Crypto>(
     alloc: Global,
     party: &FolderParty<'_, F, C>,
     request: &PayloadsRequest<'_>,
     locators: &'p [NamedLocator<'_>],
-) -> Result<Vec<AnchorOutcome<'p>>, AllocError> {
+) -> Result<Vec<AnchorOutcome<'p>>, AllocError>
+    ensures { IfOk result (λ outcomes. AllZip
+        (λ l. IsOutcomeUnder (party_of F.finds C.digest_of C.is_signed party.now) request.now
+        l.name.now l.locator) locators.now outcomes.items) }
+{
     let mut outcomes = Vec::new(alloc);
     for one in locators {
-        let outcome = run_named(alloc, party, request, one)?;
-        put_outcome(&mut outcomes, outcome)?;
+        outcomes.push(run_named(alloc, party, request, one)?)?;
     }
     Ok(outcomes)
 }
@@ -104,7 +113,10 @@ fn run_named<'p, F: Folders, C: Crypto>(
     party: &FolderParty<'_, F, C>,
     request: &PayloadsRequest<'_>,
     named: &'p NamedLocator<'_>,
-) -> Result<AnchorOutcome<'p>, AllocError> {
+) -> Result<AnchorOutcome<'p>, AllocError>
+    ensures { IfOk result (IsOutcomeUnder (party_of F.finds C.digest_of C.is_signed party.now)
+        request.now named.now.name.now named.now.locator) }
+{
     let copy = FolderCopy {
         folders: party.folders,
         folder: request.copy.0,
@@ -117,35 +129,5 @@ fn run_named<'p, F: Folders, C: Crypto>(
         moment: request.moment,
         providers: request.providers,
     };
-    match found_under(alloc, &pass, &named.locator, party.limit) {
-        Ok((found, is_good)) => Ok(AnchorOutcome::found(named.name, found, is_good)),
-        Err(RunFault::Memory) => Err(AllocError),
-        Err(RunFault::Anchor(fault)) => {
-            Ok(AnchorOutcome::refused(named.name, RunFault::Anchor(fault)))
-        }
-    }
-}
-
-// What is found under a locator, with what was left unread, and whether the point of its trust
-// anchor is good.
-fn found_under<F: Folders, C: Crypto>(
-    alloc: Global,
-    pass: &Pass<'_, FolderCopy<'_, F>, C>,
-    locator: &Tal,
-    limit: u64,
-) -> Result<(Found, bool), RunFault> {
-    let mut found = Found::new(alloc);
-    match run_under(alloc, pass, locator, limit, &mut found) {
-        Err(fault) => {
-            drop(found);
-            Err(fault)
-        }
-        Ok(unread) => {
-            let is_good = is_good(&found, &unread);
-            match refuse_unread(alloc, &unread, &mut found) {
-                Err(_) => Err(RunFault::Memory),
-                Ok(()) => Ok((found, is_good)),
-            }
-        }
-    }
+    AnchorOutcome::of_run(alloc, &pass, named.name, &named.locator, party.limit)
 }

@@ -8,10 +8,10 @@ use Rattle.std.specs.List.{AllZip, zip}
 use Rattle.std.specs.Prelude.{◌⊎◌}
 use Rattle.rpki_tal.specs.Tal.{Locator}
 use Rattle.rpki_cli.specs.Words.{texts}
-use Rattle.rpki_folder.specs.Locators.{File, IsLocator, IsNamedLocator, IsNoLocator, AreLocators}
-use Rattle.rpki_folder.specs.declared.locators.NamedLocator.{NamedLocator}
-use Rattle.rpki_folder.specs.declared.locators.LocatorFault.{LocatorFault}
-use Rattle.rpki_folder.specs.declared.locators.LocatorFault.TheVariants.{Bad, Memory}
+use Rattle.rpki_payloads.specs.Locators.{File, IsLocator, IsNamedLocator, IsNoLocator, AreLocators}
+use Rattle.rpki_payloads.specs.declared.locators.NamedLocator.{NamedLocator}
+use Rattle.rpki_payloads.specs.declared.locators.LocatorFault.{LocatorFault}
+use Rattle.rpki_payloads.specs.declared.locators.LocatorFault.TheVariants.{Bad, Memory}
 
 -- Of the files, all but those that are left are locators.
 pub record AreLocatorsTo (all : List File) (locators : List NamedLocator)

@@ -1,5 +1,5 @@
 -- What a validation run under a locator comes to.
-use Rattle.std.specs.Prelude.{◌≡◌, ◌⊎◌, ℕ, List, Result, Ok, Err}
+use Rattle.std.specs.Prelude.{◌≡◌, ◌≢◌, ℕ, List, Result, Ok, Err}
 use Rattle.rpki_cli.specs.declared.verify.relying_party.PayloadsRequest.{PayloadsRequest}
 use Rattle.rpki_tal.specs.Tal.{Locator}
 use Rattle.rpki_relying_party.specs.Found.{Lists}
@@ -13,8 +13,8 @@ use Rattle.rpki_relying_party.specs.declared.found.Found.{Found}
 use Rattle.rpki_relying_party.specs.declared.locator.RunFault.{RunFault}
 use Rattle.rpki_relying_party.specs.declared.locator.RunFault.TheVariants.{Memory}
 use Rattle.rpki_relying_party.specs.declared.place.Place.{Place}
-use Rattle.rpki_folder.specs.Locators.{File, IsLocator}
-use Rattle.rpki_folder.specs.Party.{Party, setting_of}
+use Rattle.rpki_payloads.specs.Locators.{File, IsLocator}
+use Rattle.rpki_payloads.specs.Party.{Party, setting_of}
 
 -- what is found, or why there is no run
 abbrev pub Outcome : Type 0
@@ -40,12 +40,16 @@ pub record IsFoundIn (s : Setting) (tal : Locator) (limit : ℕ) (found : Found)
 -- what a run under a locator comes to, other than want of memory
 abbrev pub IsOutcome : Setting → Locator → ℕ → Outcome → Type 0
 IsOutcome s tal limit (Ok found) = IsFoundIn s tal limit found
-IsOutcome s tal limit (Err fault) = (¬ (fault ≡ Memory)) × WhyNoRun s tal fault
+IsOutcome s tal limit (Err fault) = (fault ≢ Memory) × WhyNoRun s tal limit fault
+
+-- the same, of the locator with this name
+abbrev pub IsNamedOutcome : Setting → List ℕ → Locator → ℕ → AnchorOutcome → Type 0
+IsNamedOutcome s name tal limit a = (a.name ≡ name) × IsOutcome s tal limit a.outcome
 
 -- what the run for a request comes to under the locator with this name
 abbrev pub IsOutcomeUnder : Party → PayloadsRequest → List ℕ → Locator → AnchorOutcome → Type 0
 IsOutcomeUnder party request name tal a =
-    (a.name ≡ name) × IsOutcome (setting_of party request name tal) tal party.limit a.outcome
+    IsNamedOutcome (setting_of party request name tal) name tal party.limit a
 
 -- what it comes to under the locator that this file is
 abbrev pub IsOutcomeOf : Party → PayloadsRequest → File → AnchorOutcome → Type 0

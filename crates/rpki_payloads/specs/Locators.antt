@@ -7,9 +7,9 @@ use Rattle.rpki_tal.specs.Tal.{Locator}
 use Rattle.rpki_tal.specs.declared.error.ReadError.{ReadError}
 use Rattle.rpki_tal.specs.declared.error.ReadError.TheVariants as errors
 use Rattle.rpki_relying_party.specs.Names.{locator_name}
-use Rattle.rpki_folder.specs.declared.locators.NamedLocator.{NamedLocator}
-use Rattle.rpki_folder.specs.declared.locators.LocatorFault.{LocatorFault}
-use Rattle.rpki_folder.specs.declared.locators.LocatorFault.TheVariants.{Bad, Memory}
+use Rattle.rpki_payloads.specs.declared.locators.NamedLocator.{NamedLocator}
+use Rattle.rpki_payloads.specs.declared.locators.LocatorFault.{LocatorFault}
+use Rattle.rpki_payloads.specs.declared.locators.LocatorFault.TheVariants.{Bad, Memory}
 
 -- a file: the word that names it, and its octets
 abbrev pub File : Type 0

@@ -1,8 +1,8 @@
 use Rattle.std.proofs.Common.{◌≡◌, ℕ, List, ◌++◌, ◌∷◌, [], refl, Some, None, rules, subst}
 use Rattle.std.proofs.lemmas.Slice.Zip.{Zip-more, either_empty_from_Zip}
-use Rattle.rpki_folder.specs.Locators.{IsNamedLocator, IsNoLocator}
-use Rattle.rpki_folder.proofs.Locating.{none-located, one-more, one-bad, all-located}
-use Rattle.rpki_folder.proofs.locators.locators_in.Goals as goal
+use Rattle.rpki_payloads.specs.Locators.{IsNamedLocator, IsNoLocator}
+use Rattle.rpki_payloads.proofs.Locating.{none-located, one-more, one-bad, all-located}
+use Rattle.rpki_payloads.proofs.locators.locators_in.Goals as goal
 
 pub loop-word-init : goal.loop-word-init
 loop-word-init c = none-located c.args.words.now _ c.args.files.now _ _ (search rules)

@@ -1,4 +1,0 @@
-pub mod Locators
-pub mod Outcomes
-pub mod Party
-pub mod Report
