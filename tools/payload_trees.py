@@ -738,8 +738,9 @@ HOSTILE = [
 
 # ---- large files
 
-# So many prefixes of a ROA, files of a manifest and serial numbers of a list fit into a file.
-PREFIXES, FILES_LISTED, SERIALS = 1_000_000, 400_000, 900_000
+# So many prefixes of a ROA, files of a manifest and serial numbers of a list fit into a file; there are
+# fewer where there are fewer zeros.
+PREFIXES, FILES_LISTED, SERIALS = (it * len(ZEROS) // MOST for it in (1_000_000, 400_000, 900_000))
 
 
 def prefix_of(at):
