@@ -17,7 +17,7 @@ use super::payloads::Echo;
 use super::runs::{Output, is_answered_by};
 use bytes::Bytes;
 use rpki_command::verify::Verify;
-use rpki_folder::FolderParty;
+use rpki_payloads::FolderParty;
 use rpki_relying_party::{Folders, NoFile};
 use std::alloc::{AllocError, Global};
 use std::str;

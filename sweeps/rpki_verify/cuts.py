@@ -21,7 +21,7 @@ use rpki_basics::Time;
 use rpki_cli::answer::Answer;
 use rpki_cli::verify::{PayloadsRequest, RelyingParty};
 use rpki_command::verify::Verify;
-use rpki_folder::FolderParty;
+use rpki_payloads::FolderParty;
 use rpki_relying_party::{Folders, NoFile};
 use std::alloc::{AllocError, Global};
 use std::str;

@@ -7,10 +7,10 @@ ghost use Rattle.rpki_payloads.specs.Outcomes.{IsOutcomeUnder};
 ghost use Rattle.rpki_payloads.specs.Party.{party_of};
 ghost use Rattle.rpki_payloads.specs.Report.{IsReport, IsReportUnder};
 
-use bytes::Bytes;
 use crate::locators::{LocatorFault, NamedLocator, locators_in};
 use crate::outcome::AnchorOutcome;
 use crate::report::report_outcomes;
+use bytes::Bytes;
 use rpki_basics::Crypto;
 use rpki_cli::answer::Answer;
 use rpki_cli::verify::{PayloadsRequest, RelyingParty};
