@@ -43,7 +43,7 @@ fn append(numbers: &[u8], list: &mut Vec<u8>) -> Result<(), AllocError>
 }
 
 impl<'a> Places for Numbers<'a> {
-    ghost use Rattle.std.specs.Prelude.{◌≡◌, ◌⊎◌, ◌∷◌, [], ℕ, All, Contains, OnOk};
+    ghost use Rattle.std.specs.Prelude.{◌≡◌, ◌<◌, ◌⊎◌, ◌∷◌, [], ℕ, All, Contains, OnOk};
     ghost use Rattle.rpki_relying_party_tests.specs.Numbers.{cost_of, seconds_of};
 
     type Place = u8;
@@ -58,6 +58,8 @@ impl<'a> Places for Numbers<'a> {
         × (children ≡ seconds_of place t.issued.now) };
 
     ghost costs = { λ t place n. n ≡ cost_of t.dear place };
+
+    ghost exceeds = { λ t place n. n < cost_of t.dear place };
 
     ghost alike = { λ x y. x ≡ y };
 
