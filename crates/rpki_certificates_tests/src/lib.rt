@@ -18,4 +18,6 @@ mod paths;
 #[cfg(test)]
 mod rta;
 #[cfg(test)]
+mod shared;
+#[cfg(test)]
 mod signing;
