@@ -173,8 +173,7 @@ fn is_good<T: Content>(
     now: Time,
     want: &str,
 ) -> Result<bool, Fail> {
-    let answer =
-        check::object::<T, _, _>(alloc, octets, strict, issuer, &StandIn, now, pass, rule);
+    let answer = check::object::<T, _, _>(alloc, octets, strict, issuer, &StandIn, now, pass, rule);
     is_said(alloc, answer, want)
 }
 
@@ -322,8 +321,7 @@ fn is_right(
         Call::Cut => is_cut(alloc, object, octets, issuer, now),
         Call::Manifest | Call::ManifestAt => is_manifest(alloc, call, octets, issuer, now, want),
         Call::Checklist => {
-            let object: Signed<ResourceSignedChecklist> =
-                Signed::decode(alloc, octets, true, ())?;
+            let object: Signed<ResourceSignedChecklist> = Signed::decode(alloc, octets, true, ())?;
             let clock = FixedClock(now);
             is_said(
                 alloc,
