@@ -301,7 +301,8 @@ enum Part {
     Signer,
 }
 
-/// What is written, the octets of the object, the mode that these are read in, and what is answered.
+/// What is written, the octets of the object, the mode that these are read in, and what is
+/// answered.
 type Written = (Part, &'static [u8], Mode, Octets);
 
 static WRITTEN: [Written; 6] = [

@@ -68,7 +68,8 @@ pub fn are_claimed(alloc: Global) -> Result<bool, Fail> {
     Ok(are_claimed)
 }
 
-/// A copy of a builder that claims the AS numbers of the issuer, and signs at the beginning of this year.
+/// A copy of a builder that claims the AS numbers of the issuer, and signs at the beginning of this
+/// year.
 pub fn builder(alloc: Global, at: u16) -> Result<SignedObjectBuilder, Fail>
     ensures { IfOk result (λ b. b.v4 ≡ Missing) }
 {
