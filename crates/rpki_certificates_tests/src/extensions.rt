@@ -1,9 +1,6 @@
-//! Tests of `rpki_extensions`, each a table of rows that one small function walks.
+//! Tests of `rpki_extensions`. Lists of extensions, and what they say or why they are refused, are
+//! rows of the programs; rows of each value by itself are in the sweeps.
 //!
-//! The octets follow from RFC 5280, section 4.2, RFC 6487, section 4.8, RFC 3779 and RFC 8360. A
-//! test hands want of memory on and asserts everything else. Rows of each value by itself are in
-//! the sweeps.
+//! A test hands want of memory on and asserts everything else.
 
-mod lists;
-mod parts;
-mod said;
+mod copies;

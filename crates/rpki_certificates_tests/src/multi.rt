@@ -6,4 +6,3 @@
 mod building;
 mod octets;
 mod reading;
-mod writing;

@@ -5,16 +5,17 @@ use super::parts::{
     NO_NUMBER, NO_SECONDS, NUMBER_IN_BER, NUMBER_TWICE, OTHER_ORDER, RSA, RSA_ALONE, SHA_256,
     SIGNATURE, THIS, TIMELESS, TWICE, UNKNOWN, UNUSED, USAGE, V2, V3, WRONG_ENTRY, WRONG_NUMBER,
 };
+use crate::shared::{Row, Says, are_so, is_told};
 use bytes::Bytes;
 use rpki_basics::Serial;
 use rpki_crls::Crl;
 use rpki_der::{Constructed, DecodeError, Mode};
-use rpki_testing::{Fail, copied, joined, said, value};
+use rpki_testing::{Fail, copied, joined, value};
 use std::alloc::{AllocError, Global};
 
 /// What is signed, what stands after it, and what is said or why it is refused: the two times, the
 /// number, the identifier of the key, and which numbers from 0 to 3 are revoked.
-type Row = (
+type Listed = (
     &'static [&'static [u8]],
     &'static [&'static [u8]],
     &'static str,
@@ -24,7 +25,7 @@ type Row = (
 const SIGNED: &[&[u8]] = &[RSA, SIGNATURE];
 
 /// Revocation lists.
-pub static ROWS: [Row; 34] = [
+pub static ROWS: [Listed; 34] = [
     (
         &[V2, RSA, NAME, THIS, NEXT, ENTRIES, BOTH],
         SIGNED,
@@ -176,45 +177,39 @@ pub fn read(alloc: Global, source: Bytes, mode: Mode) -> Result<Crl, DecodeError
     }
 }
 
-/// What a revocation list says.
-fn text_of(alloc: Global, crl: &Crl) -> Result<String, AllocError> {
-    let (this, next) = (crl.this_update(), crl.next_update());
-    let (number, key) = (crl.crl_number(), crl.authority_key_identifier());
-    let mut text = format!(in alloc; "{this} {next} {number} {key} ")?;
-    for number in 0..4u64 {
-        if crl.contains(Serial::from(number)) {
-            write!(text, "{number}")?;
-        }
-    }
-    Ok(text)
-}
-
-/// The text of an answer, or why there is none.
-pub fn shown(alloc: Global, answer: Result<Crl, DecodeError>) -> Result<String, Fail> {
-    match answer {
-        Err(error) => said(alloc, Err::<(), _>(error)),
-        Ok(crl) => {
-            let text = text_of(alloc, &crl);
-            drop(crl);
-            Ok(text?)
-        }
-    }
-}
-
-fn are_right(alloc: Global) -> Result<bool, Fail> {
-    for (signed, after, text) in &ROWS {
-        for mode in [Mode::Der, Mode::Ber] {
-            let source = list(alloc, signed, after)?;
-            if shown(alloc, read(alloc, source, mode))?.as_str() != *text {
-                return Ok(false);
+impl Says for Crl {
+    fn text(&self, alloc: Global) -> Result<String, AllocError> {
+        let (this, next) = (self.this_update(), self.next_update());
+        let (number, key) = (self.crl_number(), self.authority_key_identifier());
+        let mut text = format!(in alloc; "{this} {next} {number} {key} ")?;
+        for number in 0..4u64 {
+            if self.contains(Serial::from(number)) {
+                write!(text, "{number}")?;
             }
         }
+        Ok(text)
     }
-    Ok(true)
+}
+
+impl Row for Listed {
+    fn is_so(&self, alloc: Global) -> Result<bool, Fail> {
+        let (signed, after, want) = *self;
+        Ok(
+            is_told(
+                alloc,
+                read(alloc, list(alloc, signed, after)?, Mode::Der),
+                want,
+            )? && is_told(
+                alloc,
+                read(alloc, list(alloc, signed, after)?, Mode::Ber),
+                want,
+            )?,
+        )
+    }
 }
 
 #[test]
 fn rows(rt: HostRuntime) -> Result<(), Fail> {
-    assert!(rt; are_right(rt.alloc())?);
+    assert!(rt; are_so(rt.alloc(), &ROWS)?);
     Ok(())
 }

@@ -3,17 +3,16 @@
 ghost use Rattle.std.specs.Prelude.{◌≡◌, IfOk, OnOk};
 ghost use Rattle.rpki_resources.specs.declared.resources.Claim.TheVariants.{Missing, Inherit};
 
+use crate::shared::{push_addresses, push_numbers};
 use bytes::Bytes;
 use rpki_basics::{Https, Name, Serial, Time, Validity};
 use rpki_der::{Constructed, DecodeError, Mode};
 use rpki_faults::{KeyUsage, Overclaim};
 use rpki_issued::TbsCert;
 use rpki_issued::resources::{build_as_resources, build_ip_resources};
-use rpki_resources::{
-    Addr, AsBlock, AsBlocksBuilder, Asn, IpBlock, IpBlocksBuilder, Prefix, Resources,
-};
+use rpki_resources::Resources;
 use rpki_testing::{Fail, key, ok, rsync, year};
-use std::alloc::{AllocError, Global};
+use std::alloc::Global;
 
 /// The names of an issuer and of a subject.
 static ISSUER: &[u8] = b"\x30\x0C\x31\x0A\x30\x08\x06\x03\x55\x04\x03\x13\x01\x69";
@@ -22,11 +21,7 @@ static SUBJECT: &[u8] = b"\x30\x0C\x31\x0A\x30\x08\x06\x03\x55\x04\x03\x13\x01\x
 
 /// The name with these octets, read in this mode.
 pub fn name(octets: &'static [u8], mode: Mode) -> Result<Name, DecodeError> {
-    Constructed::decode(
-        Bytes::from_static(octets),
-        mode,
-        |cons| Name::take_from(cons),
-    )
+    Constructed::decode(Bytes::from_static(octets), mode, Name::take_from)
 }
 
 /// A certificate of an end entity with key 2, under this name, from 2024 to 2049, that says nothing
@@ -75,23 +70,7 @@ pub fn set_places(alloc: Global, t: &mut TbsCert) -> Result<(), Fail> {
     Ok(())
 }
 
-/// AS64496, and AS1 to AS3 in two blocks that touch.
-pub fn push_numbers(blocks: &mut AsBlocksBuilder) -> Result<(), AllocError> {
-    blocks.push(AsBlock::Id(Asn::from_u32(64496)))?;
-    blocks.push(AsBlock::Range(Asn::from_u32(2), Asn::from_u32(3)))?;
-    blocks.push(AsBlock::Id(Asn::from_u32(1)))
-}
-
-/// fd00::/8 and 2001:db8::/32.
-pub fn push_addresses(blocks: &mut IpBlocksBuilder) -> Result<(), AllocError> {
-    let first = Addr::from_bits(0xFD << 120);
-    blocks.push(IpBlock::Prefix(Prefix::new(first, 8)))?;
-    let first = Addr::from_bits(0x2001_0DB8 << 96);
-    blocks.push(IpBlock::Prefix(Prefix::new(first, 32)))
-}
-
 /// How what is claimed is built.
-#[derive(Clone, Copy)]
 pub enum Way {
     /// By the certificate, of which IPv4 addresses are inherited in the end.
     Within,
@@ -99,10 +78,13 @@ pub enum Way {
     Before,
 }
 
-/// Sets what is claimed.
-fn set_claims(alloc: Global, t: &mut TbsCert, way: Way) -> Result<(), AllocError>
+/// Sets all that can be set.
+pub fn set_all(alloc: Global, t: &mut TbsCert, way: &Way) -> Result<(), Fail>
     ensures { OnOk result (t.new.extensions.claims.addresses.v4 ≡ Inherit) }
 {
+    t.set_basic_ca(Some(true));
+    t.set_authority_key_identifier(Some(key(alloc, 1)?.key_identifier()));
+    set_places(alloc, t)?;
     match way {
         Way::Within => {
             t.build_as_resource_blocks(alloc, push_numbers)?;
@@ -115,16 +97,5 @@ fn set_claims(alloc: Global, t: &mut TbsCert, way: Way) -> Result<(), AllocError
         }
     }
     t.set_v4_resources(Resources::inherit());
-    Ok(())
-}
-
-/// Sets all that can be set.
-pub fn set_all(alloc: Global, t: &mut TbsCert, way: Way) -> Result<(), Fail>
-    ensures { OnOk result (t.new.extensions.claims.addresses.v4 ≡ Inherit) }
-{
-    t.set_basic_ca(Some(true));
-    t.set_authority_key_identifier(Some(key(alloc, 1)?.key_identifier()));
-    set_places(alloc, t)?;
-    set_claims(alloc, t, way)?;
     Ok(())
 }

@@ -1,21 +1,37 @@
 //! Lists whose octets another program made, what is said of them, and signers that fail.
 
 use super::octets::{EMPTY, TWO};
-use bytes::Bytes;
-use rpki_basics::standin::{Refused, StandIn, StandInSigner};
-use rpki_basics::{Serial, SigningError, Time};
+use crate::shared::{Row, are_so, is_answer, is_said};
+use rpki_basics::standin::{StandIn, StandInSigner};
+use rpki_basics::{Serial, Time};
 use rpki_crls::Crl;
 use rpki_der::Encode;
 use rpki_issued_crls::CrlBuilder;
-use rpki_testing::{Fail, key, ok, said, year};
+use rpki_testing::{Fail, key, year};
 use std::alloc::Global;
 
-/// A list without entries, with the number zero, whose next update is in 2050.
-pub fn empty(alloc: Global) -> Result<CrlBuilder, Fail> {
-    let id = key(alloc, 1)?.key_identifier();
-    let (this, next) = (year(2024)?, year(2050)?);
-    Ok(CrlBuilder::new(alloc, id, this, next, Serial::from(0)))
+/// What is made.
+enum Made {
+    /// A list without entries, with the number zero, whose next update is in 2050.
+    Empty,
+    /// One with two entries that states another key than the one that is to sign it.
+    Two,
 }
+
+/// The octets of a list, and which serial numbers below 16 it revokes, each as the bit with this
+/// number.
+struct Elsewhere(&'static [u8], u16);
+
+/// What is made, the call of the signer that fails, and the list or why there is none.
+type Issued = (Made, u64, Result<Elsewhere, &'static str>);
+
+static ROWS: [Issued; 5] = [
+    (Made::Empty, 0, Ok(Elsewhere(EMPTY, 0))),
+    (Made::Two, 0, Ok(Elsewhere(TWO, 0x0208))),
+    (Made::Two, 1, Err("told to fail")),
+    (Made::Two, 2, Err("told to fail")),
+    (Made::Two, 3, Ok(Elsewhere(TWO, 0x0208))),
+];
 
 /// Adds both entries, of which that of 2050 is the first.
 fn push_both(list: &mut CrlBuilder) -> Result<(), Fail> {
@@ -25,10 +41,14 @@ fn push_both(list: &mut CrlBuilder) -> Result<(), Fail> {
     Ok(())
 }
 
-/// A list with two entries that states another key than the one that is to sign it.
-fn two(alloc: Global) -> Result<CrlBuilder, Fail> {
-    let id = key(alloc, 2)?.key_identifier();
+/// A list that is to be signed.
+fn unsigned(alloc: Global, made: &Made) -> Result<CrlBuilder, Fail> {
     let this = year(2024)?;
+    let Made::Two = made else {
+        let id = key(alloc, 1)?.key_identifier();
+        return Ok(CrlBuilder::new(alloc, id, this, year(2050)?, Serial::from(0)));
+    };
+    let id = key(alloc, 2)?.key_identifier();
     let Some(next) = Time::utc(2049, 12, 31, 23, 59, 59) else {
         return Err(Fail::Refused);
     };
@@ -42,56 +62,41 @@ fn two(alloc: Global) -> Result<CrlBuilder, Fail> {
     }
 }
 
-/// What key 1 of a signer answers whose call with this number fails.
-pub fn signed(alloc: Global, list: CrlBuilder, call: u64) -> Result<Crl, SigningError<Refused>> {
-    let mut signer = StandInSigner::failing_at(alloc, call);
-    list.into_crl(alloc, &mut signer, &1)
-}
-
-/// Whether a list has these octets, which serial numbers below 16 it revokes, each as the bit with
-/// this number, and whether key 1 and key 2 are said to have signed it.
-fn is_as_elsewhere(alloc: Global, list: &Crl, octets: &[u8], revoked: u16) -> Result<bool, Fail> {
-    let written = ok(alloc, list.encode_ref().to_bytes(alloc))?;
+/// Whether a list is this one, and key 1 and not key 2 is said to have signed it.
+fn is_as_elsewhere(alloc: Global, list: &Crl, want: &Elsewhere) -> Result<bool, Fail> {
+    let Elsewhere(octets, revoked) = want;
     let first = list.verify_signature(&key(alloc, 1)?, &StandIn).is_ok();
     let second = list.verify_signature(&key(alloc, 2)?, &StandIn).is_ok();
     for n in 0..16u16 {
-        if list.contains(Serial::from(u64::from(n))) != (revoked >> n & 1 == 1) {
+        if list.contains(Serial::from(u64::from(n))) != (*revoked >> n & 1 == 1) {
             return Ok(false);
         }
     }
-    Ok(written.as_slice() == octets && first && !second)
+    let is_written = is_answer(alloc, list.encode_ref().to_bytes(alloc), &Ok(*octets))?;
+    Ok(is_written && first && !second)
 }
 
-fn are_as_elsewhere(alloc: Global) -> Result<bool, Fail> {
-    let list = ok(alloc, signed(alloc, empty(alloc)?, 0))?;
-    let is_empty = is_as_elsewhere(alloc, &list, EMPTY, 0);
-    drop(list);
-    let list = ok(alloc, signed(alloc, two(alloc)?, 3))?;
-    let has_two = is_as_elsewhere(alloc, &list, TWO, 0x0208);
-    drop(list);
-    Ok(is_empty? && has_two?)
-}
-
-/// The call of the signer that fails, and what is answered.
-static ANSWERS: [(u64, &str); 4] = [
-    (0, "yes"),
-    (1, "told to fail"),
-    (2, "told to fail"),
-    (3, "yes"),
-];
-
-fn are_answered(alloc: Global) -> Result<bool, Fail> {
-    for (call, want) in &ANSWERS {
-        if said(alloc, signed(alloc, two(alloc)?, *call))?.as_str() != *want {
-            return Ok(false);
+impl Row for Issued {
+    fn is_so(&self, alloc: Global) -> Result<bool, Fail> {
+        let (made, call, want) = self;
+        let mut signer = StandInSigner::failing_at(alloc, *call);
+        match (
+            unsigned(alloc, made)?.into_crl(alloc, &mut signer, &1),
+            want,
+        ) {
+            (Ok(list), Ok(want)) => {
+                let is_so = is_as_elsewhere(alloc, &list, want);
+                drop(list);
+                is_so
+            }
+            (answer, Err(text)) => is_said(alloc, answer, text),
+            (answer, Ok(_)) => is_said(alloc, answer, ""),
         }
     }
-    Ok(true)
 }
 
 #[test]
 fn lists_are_issued(rt: HostRuntime) -> Result<(), Fail> {
-    let alloc = rt.alloc();
-    assert!(rt; are_as_elsewhere(alloc)? && are_answered(alloc)?);
+    assert!(rt; are_so(rt.alloc(), &ROWS)?);
     Ok(())
 }

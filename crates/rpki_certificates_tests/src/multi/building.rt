@@ -2,19 +2,57 @@
 
 ghost use Rattle.std.specs.Prelude.{◌≡◌, [], IfOk};
 
-use super::octets::{AUTHORITY, BUILT, EMPTY, ENTITY, FIRST, LIST, WHOLE};
+use super::octets::{BUILT, EMPTY, WHOLE};
+use super::reading::read;
+use crate::shared::{Octets, Row, are_so, is_said};
 use bytes::Bytes;
 use rpki_attributes::MessageDigest;
 use rpki_basics::standin::StandInSigner;
 use rpki_basics::{BuildError, DigestAlgorithm, KeyIdentifier, Time};
-use rpki_certs::Cert;
-use rpki_crls::Crl;
-use rpki_der::{Constructed, EncodeError, Mode};
-use rpki_multi::{IntoRtaBuilder, Rta, RtaBuilder, SignerInfo};
+use rpki_der::{EncodeError, Mode};
+use rpki_multi::{IntoRtaBuilder, MultiSignedObject, Rta, RtaBuilder};
 use rpki_resources::{AsBlock, Asn};
 use rpki_tagged::{AttestationBuilder, ResourceTaggedAttestation};
-use rpki_testing::{Fail, ok, said};
-use std::alloc::Global;
+use rpki_testing::{Fail, ok};
+use std::alloc::{AllocError, Global};
+
+/// Parts of an attestation.
+enum Part {
+    Certificate,
+    List,
+    Signer,
+}
+
+/// How an attestation is built.
+enum Way {
+    /// Of another one, without its signers; the second one signs first, and before it once more
+    /// where the signer's call with this number fails, which leaves the builder as it was.
+    Whole(u64),
+    /// The content of AS64496 is built, or that of no numbers, and signed by key 3.
+    Signed(bool),
+    /// Of the content of another one, and with nothing else.
+    Alone,
+    /// The lists that a builder lends are cleared.
+    Lent,
+    /// Parts that are read in BER are added.
+    InBer(Part),
+}
+
+/// How an attestation is built, and its octets or why there are none.
+type Built = (Way, Octets);
+
+static ROWS: [Built; 10] = [
+    (Way::Whole(0), Ok(WHOLE)),
+    (Way::Whole(1), Ok(WHOLE)),
+    (Way::Whole(2), Ok(WHOLE)),
+    (Way::Signed(true), Ok(BUILT)),
+    (Way::Signed(false), Err("no resources")),
+    (Way::Alone, Ok(EMPTY)),
+    (Way::Lent, Ok(EMPTY)),
+    (Way::InBer(Part::Certificate), Err("not in DER")),
+    (Way::InBer(Part::List), Err("not in DER")),
+    (Way::InBer(Part::Signer), Err("not in DER")),
+];
 
 /// The octets that what is built is written as.
 fn finished(alloc: Global, builder: RtaBuilder) -> Result<Bytes, EncodeError> {
@@ -24,9 +62,13 @@ fn finished(alloc: Global, builder: RtaBuilder) -> Result<Bytes, EncodeError> {
     written
 }
 
-/// Whether what is built is written as these octets.
-pub fn is_written(alloc: Global, builder: RtaBuilder, wanted: &[u8]) -> Result<bool, Fail> {
-    Ok(ok(alloc, finished(alloc, builder))?.as_slice() == wanted)
+/// Whether what is built is written as these octets, or refused so.
+pub fn is_written(alloc: Global, builder: RtaBuilder, want: &Octets) -> Result<bool, Fail> {
+    match (finished(alloc, builder), want) {
+        (Ok(octets), Ok(want)) => Ok(octets.as_slice() == *want),
+        (answer, Err(text)) => is_said(alloc, answer, text),
+        (answer, Ok(_)) => is_said(alloc, answer, ""),
+    }
 }
 
 /// The first moment of June 2024, and noon of the next day.
@@ -55,46 +97,6 @@ pub fn counts(builder: &RtaBuilder) -> (usize, usize, usize, usize) {
     )
 }
 
-/// Adds both certificates and the list.
-fn carry(alloc: Global, builder: &mut RtaBuilder) -> Result<(), Fail> {
-    builder.push_cert(Cert::decode(alloc, Bytes::from_static(ENTITY))?)?;
-    builder.push_cert(Cert::decode(alloc, Bytes::from_static(AUTHORITY))?)?;
-    builder.push_crl(Crl::decode(alloc, Bytes::from_static(LIST))?)?;
-    Ok(())
-}
-
-/// Adds all that is carried, and both signers, the second one first; and before them once more
-/// where the signer's call with this number fails, which leaves the builder without signers.
-fn fill(alloc: Global, builder: &mut RtaBuilder, fails: u64) -> Result<bool, Fail> {
-    carry(alloc, builder)?;
-    let (first, second) = moments()?;
-    let mut signer = StandInSigner::failing_at(alloc, fails);
-    let refused = if fails > 0 {
-        said(alloc, builder.sign(alloc, &mut signer, &5, second))?.as_str() == "told to fail"
-    } else {
-        true
-    };
-    let is_left = counts(builder) == (2, 1, 0, 0);
-    ok(alloc, builder.sign(alloc, &mut signer, &5, second))?;
-    ok(alloc, builder.sign(alloc, &mut signer, &3, first))?;
-    Ok(refused && is_left && counts(builder) == (2, 1, 2, 0))
-}
-
-/// Whether all that is carried and both signers make the attestation of another program.
-fn is_whole(alloc: Global, fails: u64) -> Result<bool, Fail> {
-    let mut builder = of_octets(alloc, EMPTY)?;
-    let filled = fill(alloc, &mut builder, fails);
-    let written = is_written(alloc, builder, WHOLE);
-    Ok(filled? && written?)
-}
-
-#[test]
-fn failing_calls_leave_the_builder(rt: HostRuntime) -> Result<(), Fail> {
-    let alloc = rt.alloc();
-    assert!(rt; is_whole(alloc, 0)? && is_whole(alloc, 1)? && is_whole(alloc, 2)?);
-    Ok(())
-}
-
 /// A builder of the content for the document `document`, whose digest stands here, by key 3: of
 /// AS64496, or of no numbers.
 fn content(alloc: Global, is_named: bool) -> Result<AttestationBuilder, Fail>
@@ -112,110 +114,111 @@ fn content(alloc: Global, is_named: bool) -> Result<AttestationBuilder, Fail>
     Ok(builder)
 }
 
-/// A builder of its attestation.
-fn begun(alloc: Global, is_named: bool) -> Result<Result<RtaBuilder, BuildError>, Fail> {
-    Ok(content(alloc, is_named)?.into_rta_builder(alloc))
-}
-
-/// Whether an attestation of AS64496 is built and signed as another program built it.
-fn is_built(alloc: Global) -> Result<bool, Fail> {
-    let mut builder = ok(alloc, begun(alloc, true)?)?;
-    let (first, _) = moments()?;
-    let mut signer = StandInSigner::new(alloc);
-    let signed = builder.sign(alloc, &mut signer, &3, first);
-    let counts = counts(&builder);
-    let written = is_written(alloc, builder, BUILT);
-    ok(alloc, signed)?;
-    Ok(counts == (0, 0, 1, 1) && written?)
-}
-
-/// The content of the attestation with these octets.
-fn content_of(alloc: Global, octets: &'static [u8]) -> Result<ResourceTaggedAttestation, Fail> {
+/// A builder of the content of the attestation with these octets.
+fn alone(alloc: Global, octets: &'static [u8]) -> Result<RtaBuilder, Fail> {
     let rta = Rta::decode(alloc, Bytes::from_static(octets))?;
-    let content: Result<_, _> = rta.content().clone();
+    let content: Result<ResourceTaggedAttestation, _> = rta.content().clone();
     drop(rta);
-    Ok(content?)
+    ok(alloc, RtaBuilder::from_attestation(alloc, content?))
 }
 
-/// Whether an attestation of the same content, and with nothing else, is written as it should be.
-fn is_alone(alloc: Global) -> Result<bool, Fail> {
-    let content = content_of(alloc, WHOLE)?;
-    let builder = ok(alloc, RtaBuilder::from_attestation(alloc, content))?;
-    is_written(alloc, builder, EMPTY)
+/// What an attestation is built from.
+fn begun(alloc: Global, way: &Way) -> Result<Result<RtaBuilder, BuildError>, Fail> {
+    match way {
+        Way::Signed(is_named) => Ok(content(alloc, *is_named)?.into_rta_builder(alloc)),
+        Way::Alone => Ok(Ok(alone(alloc, WHOLE)?)),
+        _ => Ok(Ok(of_octets(alloc, WHOLE)?)),
+    }
 }
 
-/// Whether the builder ends with what was put into the lists that it lends.
-fn is_lent(alloc: Global) -> Result<bool, Fail> {
-    let mut builder = of_octets(alloc, WHOLE)?;
-    builder.certificates_mut().clear();
-    builder.crls_mut().clear();
+/// Adds both signers, after one that fails.
+fn sign_both(alloc: Global, builder: &mut RtaBuilder, fails: u64) -> Result<bool, Fail> {
     builder.signer_infos_mut().clear();
-    let counts = counts(&builder);
-    let written = is_written(alloc, builder, EMPTY);
-    Ok(counts == (0, 0, 0, 0) && written?)
+    let (first, second) = moments()?;
+    let mut signer = StandInSigner::failing_at(alloc, fails);
+    let is_refused = fails == 0
+        || is_said(
+            alloc,
+            builder.sign(alloc, &mut signer, &5, second),
+            "told to fail",
+        )?;
+    let is_left = counts(builder) == (2, 1, 0, 0);
+    ok(alloc, builder.sign(alloc, &mut signer, &5, second))?;
+    ok(alloc, builder.sign(alloc, &mut signer, &3, first))?;
+    Ok(is_refused && is_left && counts(builder) == (2, 1, 2, 0))
+}
+
+/// Adds these parts of an object.
+fn push_parts(
+    builder: &mut RtaBuilder,
+    object: &MultiSignedObject,
+    part: &Part,
+) -> Result<(), AllocError> {
+    match part {
+        Part::Certificate => {
+            builder
+                .certificates_mut()
+                .extend_from_slice(object.certificates())
+        }
+        Part::List => builder.crls_mut().extend_from_slice(object.crls()),
+        Part::Signer => {
+            builder
+                .signer_infos_mut()
+                .extend_from_slice(object.signer_infos())
+        }
+    }
+}
+
+/// Adds parts that are read in BER.
+fn push_in_ber(alloc: Global, builder: &mut RtaBuilder, part: &Part) -> Result<(), Fail> {
+    let object = read(alloc, Bytes::from_static(WHOLE), Mode::Ber)?;
+    let pushed = push_parts(builder, &object, part);
+    drop(object);
+    Ok(pushed?)
+}
+
+/// Builds an attestation, and tells whether all went as it should.
+fn is_done(alloc: Global, builder: &mut RtaBuilder, way: &Way) -> Result<bool, Fail> {
+    match way {
+        Way::Whole(fails) => sign_both(alloc, builder, *fails),
+        Way::Signed(_) => {
+            let (first, _) = moments()?;
+            let mut signer = StandInSigner::new(alloc);
+            ok(alloc, builder.sign(alloc, &mut signer, &3, first))?;
+            Ok(counts(builder) == (0, 0, 1, 1))
+        }
+        Way::Alone => Ok(true),
+        Way::Lent => {
+            builder.certificates_mut().clear();
+            builder.crls_mut().clear();
+            builder.signer_infos_mut().clear();
+            Ok(counts(builder) == (0, 0, 0, 0))
+        }
+        Way::InBer(part) => {
+            push_in_ber(alloc, builder, part)?;
+            Ok(true)
+        }
+    }
+}
+
+impl Row for Built {
+    fn is_so(&self, alloc: Global) -> Result<bool, Fail> {
+        let (way, want) = self;
+        match (begun(alloc, way)?, want) {
+            (Ok(builder), _) => {
+                let mut builder = builder;
+                let is_done = is_done(alloc, &mut builder, way);
+                let is_written = is_written(alloc, builder, want);
+                Ok(is_done? && is_written?)
+            }
+            (Err(error), Err(text)) => is_said(alloc, Err::<(), _>(error), text),
+            (Err(error), Ok(_)) => is_said(alloc, Err::<(), _>(error), ""),
+        }
+    }
 }
 
 #[test]
 fn attestations_are_built(rt: HostRuntime) -> Result<(), Fail> {
-    let alloc = rt.alloc();
-    let nothing = said(alloc, begun(alloc, false)?)?;
-    assert!(rt; is_built(alloc)? && is_alone(alloc)? && is_lent(alloc)?);
-    assert!(rt; nothing.as_str() == "no resources");
-    Ok(())
-}
-
-/// A part of an attestation.
-#[derive(Clone, Copy)]
-enum Part {
-    Certificate,
-    List,
-    Signer,
-}
-
-static PARTS: [Part; 3] = [Part::Certificate, Part::List, Part::Signer];
-
-/// Adds a part that is read in BER.
-fn push_in_ber(alloc: Global, builder: &mut RtaBuilder, part: Part) -> Result<(), Fail> {
-    let mode = Mode::Ber;
-    match part {
-        Part::Certificate => {
-            let source = Bytes::from_static(ENTITY);
-            let cert = Constructed::decode(source, mode, |cons| Cert::take_from(alloc, cons))?;
-            builder.push_cert(cert)?;
-        }
-        Part::List => {
-            let source = Bytes::from_static(LIST);
-            let list = Constructed::decode(source, mode, |cons| Crl::take_from(alloc, cons))?;
-            builder.push_crl(list)?;
-        }
-        Part::Signer => {
-            let source = Bytes::from_static(FIRST);
-            let signer = Constructed::decode(
-                source,
-                mode,
-                |cons| SignerInfo::take_opt_from(alloc, cons),
-            )?;
-            if let Some(signer) = signer {
-                builder.signer_infos_mut().push(signer)?;
-            }
-        }
-    }
-    Ok(())
-}
-
-/// Whether what has a part that was read in BER is not made.
-fn is_refused(alloc: Global, part: Part) -> Result<bool, Fail> {
-    let mut builder = of_octets(alloc, WHOLE)?;
-    let pushed = push_in_ber(alloc, &mut builder, part);
-    let made = said(alloc, finished(alloc, builder))?;
-    pushed?;
-    Ok(made.as_str() == "not in DER")
-}
-
-#[test]
-fn parts_in_ber_are_refused(rt: HostRuntime) -> Result<(), Fail> {
-    for part in &PARTS {
-        assert!(rt; is_refused(rt.alloc(), *part)?);
-    }
+    assert!(rt; are_so(rt.alloc(), &ROWS)?);
     Ok(())
 }

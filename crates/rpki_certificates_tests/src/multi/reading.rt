@@ -1,10 +1,11 @@
-//! Rows of multi-signed objects that are read, and what they say.
+//! Rows of multi-signed objects that are read, what they say, and what they are written as.
 
 use super::octets::{AUTHORITY, EMPTY, ENTITY, FIRST, LIST, OTHER_TYPE, SECOND, WHOLE};
+use crate::shared::{Octets, Row, Says, are_so, is_answer, is_told};
 use bytes::Bytes;
-use rpki_der::{Constructed, DecodeError, Mode};
+use rpki_der::{Constructed, DecodeError, Encode, EncodeError, Mode};
 use rpki_multi::{MultiSignedObject, Rta};
-use rpki_testing::{Fail, said, value};
+use rpki_testing::{Fail, copied, value};
 use std::alloc::{AllocError, Global};
 
 /// The version, the algorithm, and the content with its type.
@@ -46,7 +47,7 @@ const SIGNERS: Held = (0x31, &[SECOND, FIRST]);
 
 /// The fields before the lists, the lists, and what is said or why it is refused: where the object
 /// is read strictly, and where not.
-type Row = (
+type Fields = (
     &'static [&'static [u8]],
     &'static [Held],
     &'static str,
@@ -63,7 +64,7 @@ const UNKNOWN: &str = "algorithm is none that the profile names";
 
 const OTHER: &str = "content-type attribute is not the eContentType";
 
-static ROWS: [Row; 20] = [
+static ROWS: [Fields; 20] = [
     (
         &[VERSION, DIGEST, CONTENT],
         &[CERTS, LISTS, SIGNERS],
@@ -186,8 +187,10 @@ static ROWS: [Row; 20] = [
     ),
 ];
 
-/// The two objects that were made as a whole.
-static WHOLES: [(&[u8], &str); 2] = [
+/// The two objects that were made as a whole, and what each says.
+type Whole = (&'static [u8], &'static str);
+
+static WHOLES: [Whole; 2] = [
     (EMPTY, "57 certs crls signers"),
     (
         WHOLE,
@@ -197,23 +200,26 @@ static WHOLES: [(&[u8], &str); 2] = [
     ),
 ];
 
+/// Adds lists.
+fn push_lists(alloc: Global, contents: &mut Vec<u8>, lists: &[Held]) -> Result<(), AllocError> {
+    for (identifier, parts) in lists {
+        contents.extend_from_slice(&value(alloc, *identifier, parts)?)?;
+    }
+    Ok(())
+}
+
 /// The object of these fields.
 fn object(alloc: Global, fields: &[&[u8]], lists: &[Held]) -> Result<Bytes, AllocError> {
     let mut contents = fields.concat(alloc)?;
-    for (identifier, parts) in lists {
-        let list = value(alloc, *identifier, parts)?;
-        contents.extend_from_slice(&list)?;
-    }
+    push_lists(alloc, &mut contents, lists)?;
     let signed = value(alloc, 0x30, &[&contents])?;
     let tagged = value(alloc, 0xA0, &[&signed])?;
     let kind: &[u8] = b"\x06\x09\x2A\x86\x48\x86\xF7\x0D\x01\x07\x02";
     Ok(Bytes::from_vec(value(alloc, 0x30, &[kind, &tagged])?)?)
 }
 
-/// What an object says.
-fn text(alloc: Global, object: &MultiSignedObject) -> Result<String, AllocError> {
-    let len = object.content().len();
-    let mut text = format!(in alloc; "{len} certs")?;
+/// Adds what an object says after its content.
+fn push_parts(text: &mut String, object: &MultiSignedObject) -> Result<(), AllocError> {
     for cert in object.certificates() {
         let serial = cert.serial_number();
         write!(text, " {serial}")?;
@@ -228,7 +234,16 @@ fn text(alloc: Global, object: &MultiSignedObject) -> Result<String, AllocError>
         let (sid, time) = (signer.sid(), signer.signing_time());
         write!(text, " {sid} {time}")?;
     }
-    Ok(text)
+    Ok(())
+}
+
+impl Says for MultiSignedObject {
+    fn text(&self, alloc: Global) -> Result<String, AllocError> {
+        let len = self.content().len();
+        let mut text = format!(in alloc; "{len} certs")?;
+        push_parts(&mut text, self)?;
+        Ok(text)
+    }
 }
 
 /// The object that is read in this mode.
@@ -245,55 +260,104 @@ pub fn read(alloc: Global, octets: Bytes, mode: Mode) -> Result<MultiSignedObjec
     }
 }
 
-/// What the object says that is read in this mode, or why it is refused.
-fn answered(alloc: Global, octets: Bytes, mode: Mode) -> Result<String, Fail> {
-    match read(alloc, octets, mode) {
-        Err(error) => said(alloc, Err::<(), _>(error)),
-        Ok(object) => {
-            let text = text(alloc, &object);
-            drop(object);
-            Ok(text?)
-        }
+impl Row for Fields {
+    fn is_so(&self, alloc: Global) -> Result<bool, Fail> {
+        let (fields, lists, strict, relaxed) = *self;
+        Ok(
+            is_told(
+                alloc,
+                read(alloc, object(alloc, fields, lists)?, Mode::Der),
+                strict,
+            )? && is_told(
+                alloc,
+                read(alloc, object(alloc, fields, lists)?, Mode::Ber),
+                relaxed,
+            )?,
+        )
     }
 }
 
-/// Whether the object of a row says this, where it is read strictly and where not.
-fn is_so(alloc: Global, octets: Bytes, strict: &str, relaxed: &str) -> Result<bool, Fail> {
-    let same: Result<Bytes, _> = octets.clone();
-    Ok(
-        answered(alloc, same?, Mode::Der)?.as_str() == strict
-            && answered(alloc, octets, Mode::Ber)?.as_str() == relaxed,
-    )
+impl Row for Whole {
+    fn is_so(&self, alloc: Global) -> Result<bool, Fail> {
+        let (octets, text) = *self;
+        Ok(
+            is_told(
+                alloc,
+                read(alloc, Bytes::from_static(octets), Mode::Der),
+                text,
+            )? && is_told(
+                alloc,
+                read(alloc, Bytes::from_static(octets), Mode::Ber),
+                text,
+            )?,
+        )
+    }
 }
 
-fn are_so(alloc: Global) -> Result<bool, Fail> {
-    for (fields, lists, strict, relaxed) in &ROWS {
-        if !is_so(alloc, object(alloc, fields, lists)?, strict, relaxed)? {
-            return Ok(false);
-        }
-    }
-    for (octets, text) in &WHOLES {
-        if !is_so(alloc, Bytes::from_static(octets), text, text)? {
-            return Ok(false);
-        }
-    }
-    Ok(true)
+/// What is written of a copy of an object.
+enum Part {
+    Whole,
+    /// The last of its signers.
+    Signer,
 }
 
-/// The number of the content, of which there is one, and what is answered where the object is read
-/// as an attestation.
-fn number(alloc: Global) -> Result<(u8, String), Fail> {
+/// What is written, the octets of the object, the mode that these are read in, and what is
+/// answered.
+type Written = (Part, &'static [u8], Mode, Octets);
+
+static WRITTEN: [Written; 6] = [
+    (Part::Whole, EMPTY, Mode::Der, Ok(EMPTY)),
+    (Part::Whole, EMPTY, Mode::Ber, Err("not in DER")),
+    (Part::Whole, WHOLE, Mode::Der, Ok(WHOLE)),
+    (Part::Whole, WHOLE, Mode::Ber, Err("not in DER")),
+    (Part::Signer, WHOLE, Mode::Der, Ok(FIRST)),
+    (Part::Signer, WHOLE, Mode::Ber, Err("not in DER")),
+];
+
+fn written(alloc: Global, object: &MultiSignedObject, part: &Part) -> Result<Vec<u8>, EncodeError> {
+    match (part, object.signer_infos().last()) {
+        (Part::Signer, Some(signer)) => signer.encode_ref().to_bytes(alloc),
+        _ => object.encode_ref().to_bytes(alloc),
+    }
+}
+
+impl Row for Written {
+    fn is_so(&self, alloc: Global) -> Result<bool, Fail> {
+        let (part, octets, mode, want) = self;
+        let copy = copied(read(alloc, Bytes::from_static(*octets), *mode)?)?;
+        let written = written(alloc, &copy, part);
+        drop(copy);
+        is_answer(alloc, written, want)
+    }
+}
+
+/// Whether a copy of an attestation is written as it was read.
+fn is_written(alloc: Global) -> Result<bool, Fail> {
+    let copy = copied(Rta::decode(alloc, Bytes::from_static(EMPTY))?)?;
+    let written = copy.encode_ref().to_bytes(alloc);
+    drop(copy);
+    is_answer(alloc, written, &Ok(EMPTY))
+}
+
+/// The number of the content, where it is one.
+fn number(alloc: Global) -> Result<u8, Fail> {
     let octets = object(alloc, &[VERSION, DIGEST, CONTENT], &[NO_CERTS, NO_SIGNERS])?;
-    let same: Result<Bytes, _> = octets.clone();
-    let object = MultiSignedObject::decode(alloc, same?)?;
+    let object = MultiSignedObject::decode(alloc, octets)?;
     let number = object.decode_content(|cons| cons.take_u8());
     drop(object);
-    Ok((number?, said(alloc, Rta::decode(alloc, octets))?))
+    Ok(number?)
 }
 
 #[test]
 fn objects_are_read(rt: HostRuntime) -> Result<(), Fail> {
-    let (number, attested) = number(rt.alloc())?;
-    assert!(rt; are_so(rt.alloc())? && number == 5 && attested.as_str() == "malformed");
+    let alloc = rt.alloc();
+    assert!(rt; are_so(alloc, &ROWS)? && are_so(alloc, &WHOLES)? && number(alloc)? == 5);
+    Ok(())
+}
+
+#[test]
+fn objects_are_written(rt: HostRuntime) -> Result<(), Fail> {
+    let alloc = rt.alloc();
+    assert!(rt; are_so(alloc, &WRITTEN)? && is_written(alloc)?);
     Ok(())
 }

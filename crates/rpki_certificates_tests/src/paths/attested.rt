@@ -7,7 +7,7 @@ use rpki_paths::{Accepts, Candidate, CarriedCert, CarriedSigner, KeyId, Seeks, V
 use std::sync::ledger::Ledger;
 
 /// Why a certificate is not good.
-#[derive(Clone, Copy, Debug, PartialEq, Eq)]
+#[derive(Clone, Copy, PartialEq, Eq)]
 pub enum Bad {
     Inspection,
     Expired,

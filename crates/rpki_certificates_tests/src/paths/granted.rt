@@ -3,19 +3,21 @@
 ghost use Rattle.std.specs.Prelude.{◌≡◌, ◌<◌};
 
 use super::attested::{Bad, CandidateCert, List, Listed, Signer};
-use super::plain::{Above, NoAnchor, Plain, Root, id};
+use super::plain::{Above, NoAnchor, Root, id};
 use super::walks::{Claimed, Row, above, plains};
+use crate::shared;
 use rpki_faults::{Family, Overclaim};
 use rpki_paths::{
     AcceptFault, Attestation, Attested, FinalFault, GrantFault, KeyId, Supplied, SupplyFault,
     VerdictCount, grant,
 };
+use rpki_testing::Fail;
 use std::alloc::{AllocError, Global};
 use std::marker::Brand;
 use std::sync::ledger::{Blank, Ledger};
 
 /// What is answered of an attestation.
-type Answer = Result<(), GrantFault<Bad, NoAnchor>>;
+pub type Answer = Result<(), GrantFault<Bad, NoAnchor>>;
 
 /// The certificate of an end entity of key 1, and that of the CA of key 2 above it.
 static CARRIED: [Row; 2] = [
@@ -25,27 +27,15 @@ static CARRIED: [Row; 2] = [
 
 static KEYS: [KeyId; 1] = [[0, 0, 0, 0, 0, 0, 0, 0, 0, 0, 0, 0, 0, 0, 0, 0, 0, 0, 0, 1]];
 
-/// The carried certificates, of which that of key 2 is a CA's.
-fn candidates<'a>(
-    alloc: Global,
-    plains: &'a [Plain],
-) -> Result<Vec<CandidateCert<'a>>, AllocError> {
-    let mut candidates = Vec::new(alloc);
-    for plain in plains {
-        candidates.push(CandidateCert(plain, plain.key == [2], None))?;
-    }
-    Ok(candidates)
-}
+/// Whether the signer states this digest or another one, the last AS number that is attested, and
+/// what is answered.
+pub type Granted = (bool, u32, Answer);
 
-/// The answer, where it is not that memory ran out.
-fn but_for_memory(answer: Answer) -> Result<Answer, AllocError> {
-    match answer {
-        Err(GrantFault::NotAccepted(AcceptFault::Memory)) => Err(AllocError),
-        Err(GrantFault::NotSupplied(SupplyFault::Memory)) => Err(AllocError),
-        Err(GrantFault::NotGranted(FinalFault::Memory)) => Err(AllocError),
-        answer => Ok(answer),
-    }
-}
+pub static ROWS: [Granted; 3] = [
+    (true, 5, Ok(())),
+    (false, 5, Err(GrantFault::NotAccepted(AcceptFault::Digest))),
+    (true, 6, Err(GrantFault::NotGranted(FinalFault::AsNumbers))),
+];
 
 /// What is answered of these certificates and this signer, with the revocation list of the CA of
 /// key 2, under a CA of key 0, where these numbers are attested.
@@ -75,14 +65,25 @@ fn answer_under<'a, L: Ledger>(
     };
     let supplies: [Supplied<Root, Above>; 1] = [Supplied::Ca(supplied)];
     let mut asked = VerdictCount::<L>::new(blank);
-    but_for_memory(grant(alloc, &attestation, &supplies, &mut asked))
+    match grant(alloc, &attestation, &supplies, &mut asked) {
+        Err(GrantFault::NotAccepted(AcceptFault::Memory)) => Err(AllocError),
+        Err(GrantFault::NotSupplied(SupplyFault::Memory)) => Err(AllocError),
+        Err(GrantFault::NotGranted(FinalFault::Memory)) => Err(AllocError),
+        answer => Ok(answer),
+    }
 }
 
 /// What is answered where the signer states this digest or another one, and AS numbers up to this
 /// one are attested.
 fn answer(alloc: Global, has_digest: bool, last: u32) -> Result<Answer, AllocError> {
-    let plains = plains(alloc, Family::As, &CARRIED)?;
-    let certs = candidates(alloc, &plains)?;
+    let plains = plains(alloc, Family::As, &CARRIED, false)?;
+    let [ee, ca] = plains.as_slice() else {
+        return Err(AllocError);
+    };
+    let certs = [
+        CandidateCert(ee, false, None),
+        CandidateCert(ca, true, None),
+    ];
     let list = List {
         authority: id(2),
         signer: [2],
@@ -106,19 +107,9 @@ fn answer(alloc: Global, has_digest: bool, last: u32) -> Result<Answer, AllocErr
     )
 }
 
-/// Whether the answer is a yes, where another digest or another number makes it a no.
-fn are_granted(alloc: Global) -> Result<bool, AllocError> {
-    let other_digest = GrantFault::NotAccepted(AcceptFault::Digest);
-    let other_numbers = GrantFault::NotGranted(FinalFault::AsNumbers);
-    Ok(
-        answer(alloc, true, 5)? == Ok(())
-            && answer(alloc, false, 5)? == Err(other_digest)
-            && answer(alloc, true, 6)? == Err(other_numbers),
-    )
-}
-
-#[test]
-fn an_attestation_is_granted(rt: HostRuntime) -> Result<(), AllocError> {
-    assert!(rt; are_granted(rt.alloc())?);
-    Ok(())
+impl shared::Row for Granted {
+    fn is_so(&self, alloc: Global) -> Result<bool, Fail> {
+        let (has_digest, last, want) = self;
+        Ok(answer(alloc, *has_digest, *last)? == *want)
+    }
 }

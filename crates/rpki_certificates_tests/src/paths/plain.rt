@@ -132,7 +132,7 @@ impl<'a, L: Ledger> SignedCertificate<L> for Seen<'a> {
 }
 
 /// Why a head is no trust anchor.
-#[derive(Clone, Copy, Debug, PartialEq, Eq)]
+#[derive(Clone, Copy, PartialEq, Eq)]
 pub enum NoAnchor {
     /// It does not pass the inspection of one.
     Inspection,

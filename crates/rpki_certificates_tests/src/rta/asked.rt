@@ -14,7 +14,7 @@ use rpki_crls::Crl;
 use rpki_issued::signing::sign_and_join;
 use rpki_multi::{Rta, RtaBuilder};
 use rpki_rta::{Supply, Validation, run};
-use rpki_testing::{Fail, joined, ok};
+use rpki_testing::{Fail, copied, joined, ok};
 use std::alloc::Global;
 use std::cell::Cell;
 
@@ -61,14 +61,15 @@ fn signed(
     Ok(Bytes::from_vec(ok(alloc, sign_and_join(alloc, &octets, signer, &key))?)?)
 }
 
-/// The certificate of a key that another issued.
-fn cert(
+/// Adds the certificate of a key that another issued.
+fn push_cert(
     alloc: Global,
     signer: &mut StandInSigner,
+    builder: &mut RtaBuilder,
     form: &Form,
     key: u64,
     issuer: u64,
-) -> Result<Cert, Fail> {
+) -> Result<(), Fail> {
     let (bits, subject, authority) = (key.to_be_bytes(), id_of(key), id_of(issuer));
     let parts: [&[u8]; 7] = [
         form.before_key,
@@ -79,36 +80,39 @@ fn cert(
         &authority,
         form.after,
     ];
-    Ok(Cert::decode(alloc, signed(alloc, signer, &parts, issuer)?)?)
+    let cert = signed(alloc, signer, &parts, issuer)?;
+    builder.push_cert(Cert::decode(alloc, cert)?)?;
+    Ok(())
 }
 
-/// The revocation list of a key.
-fn list(alloc: Global, signer: &mut StandInSigner, key: u64) -> Result<Crl, Fail> {
-    let (before, after) = LIST;
-    let id = id_of(key);
-    let parts: [&[u8]; 3] = [before, &id, after];
-    Ok(Crl::decode(alloc, signed(alloc, signer, &parts, key)?)?)
-}
-
-/// Adds the path and its signer.
-fn add_path(
+/// Adds the revocation list of a key.
+fn push_list(
     alloc: Global,
     signer: &mut StandInSigner,
     builder: &mut RtaBuilder,
+    key: u64,
 ) -> Result<(), Fail> {
-    builder.push_cert(cert(alloc, signer, &ENTITY, SIGNER, 2)?)?;
+    let (before, after) = LIST;
+    let list = signed(alloc, signer, &[before, &id_of(key), after], key)?;
+    builder.push_crl(Crl::decode(alloc, list)?)?;
+    Ok(())
+}
+
+/// Adds the path and its signer.
+fn add_path(alloc: Global, builder: &mut RtaBuilder) -> Result<(), Fail> {
+    let mut signer = StandInSigner::new(alloc);
+    push_cert(alloc, &mut signer, builder, &ENTITY, SIGNER, 2)?;
     for key in 2..LENGTH + 2 {
-        builder.push_cert(cert(alloc, signer, &CA, key, key + 1)?)?;
-        builder.push_crl(list(alloc, signer, key)?)?;
+        push_cert(alloc, &mut signer, builder, &CA, key, key + 1)?;
+        push_list(alloc, &mut signer, builder, key)?;
     }
-    ok(alloc, builder.sign(alloc, signer, &SIGNER, now()?))
+    ok(alloc, builder.sign(alloc, &mut signer, &SIGNER, now()?))
 }
 
 /// The attestation.
 fn attestation(alloc: Global) -> Result<Rta, Fail> {
-    let mut signer = StandInSigner::new(alloc);
     let mut builder = RtaBuilder::from_rta(Rta::decode(alloc, Bytes::from_static(ALONE))?);
-    match add_path(alloc, &mut signer, &mut builder) {
+    match add_path(alloc, &mut builder) {
         Ok(()) => ok(alloc, builder.finalize()),
         Err(fail) => {
             drop(builder);
@@ -117,41 +121,43 @@ fn attestation(alloc: Global) -> Result<Rta, Fail> {
     }
 }
 
-/// How many verdicts are asked where the validation begins.
-fn asked_first(alloc: Global, rta: &Rta) -> Result<u32, Fail> {
-    let crypto = Counting {
-        asked: Cell::new(0),
-    };
-    let begun = Validation::new_at(alloc, rta, true, &crypto, now()?)?;
+/// Begins the validation.
+fn begin(alloc: Global, rta: &Rta, crypto: &Counting) -> Result<(), Fail> {
+    let begun = Validation::new_at(alloc, rta, true, crypto, now()?)?;
     drop(begun);
-    Ok(crypto.asked.get())
+    Ok(())
 }
 
-/// How many verdicts are asked where the attestation is granted in one call.
-fn asked_in_all(alloc: Global, rta: &Rta) -> Result<u32, Fail> {
-    let crypto = Counting {
-        asked: Cell::new(0),
-    };
+/// Has the attestation granted in one call, under a copy of a supply.
+fn asked_in_all(alloc: Global, rta: &Rta, crypto: &Counting) -> Result<(), Fail> {
     let now = now()?;
     let top = ca_of(alloc, TOP)?;
-    run(alloc, rta, true, &crypto, now, &[Supply::Ca(&top)])?;
+    let supply = copied(Supply::Ca(&top))?;
+    run(alloc, rta, true, crypto, now, &[supply])?;
     drop(top);
-    Ok(crypto.asked.get())
+    Ok(())
 }
 
+/// How many verdicts are asked at first, and in all.
 fn asked(alloc: Global) -> Result<(u32, u32), Fail> {
     let rta = attestation(alloc)?;
-    let first = asked_first(alloc, &rta);
-    let all = asked_in_all(alloc, &rta);
+    let crypto = Counting {
+        asked: Cell::new(0),
+    };
+    let begun = begin(alloc, &rta, &crypto);
+    let first = crypto.asked.get();
+    crypto.asked.set(0);
+    let granted = asked_in_all(alloc, &rta, &crypto);
     drop(rta);
-    Ok((first?, all?))
+    begun?;
+    granted?;
+    Ok((first, crypto.asked.get()))
 }
 
 /// One verdict for the signer, one for each revocation list, and one for each certificate that a
 /// carried CA issued; and one more for the CA that is supplied.
 #[test]
 fn verdicts_are_counted(rt: HostRuntime) -> Result<(), Fail> {
-    let (first, all) = asked(rt.alloc())?;
-    assert!(rt; first == 2_001 && all == 2_002);
+    assert!(rt; asked(rt.alloc())? == (2_001, 2_002));
     Ok(())
 }

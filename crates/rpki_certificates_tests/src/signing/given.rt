@@ -3,16 +3,15 @@
 ghost use Rattle.std.specs.Prelude.{◌≡◌, IfOk};
 ghost use Rattle.rpki_resources.specs.declared.resources.Claim.TheVariants.{Missing};
 
+use crate::shared::{push_addresses, push_numbers};
 use bytes::Bytes;
 use rpki_basics::standin::StandIn;
 use rpki_basics::{Serial, Validity};
 use rpki_certs::{Cert, ResourceCert};
-use rpki_resources::{
-    Addr, AsBlock, AsBlocksBuilder, Asn, Claim, IpBlock, IpBlocksBuilder, Number, Prefix, Resources,
-};
+use rpki_resources::{Claim, Number, Resources};
 use rpki_signing::SignedObjectBuilder;
 use rpki_testing::{Fail, copied, rsync, year};
-use std::alloc::{AllocError, Global};
+use std::alloc::Global;
 
 /// The key of the issuer.
 pub const ISSUER: u64 = 7;
@@ -45,34 +44,23 @@ pub fn issuer(alloc: Global) -> Result<ResourceCert, Fail> {
     Ok(copied(cert.validate_ta_at(alloc, true, &StandIn, now)?)?)
 }
 
-/// AS64496.
-fn push_number(blocks: &mut AsBlocksBuilder) -> Result<(), AllocError> {
-    blocks.push(AsBlock::Id(Asn::from_u32(64496)))
-}
-
-/// 2001:db8::/32.
-fn push_prefix(blocks: &mut IpBlocksBuilder) -> Result<(), AllocError> {
-    let first = Addr::from_bits(0x2001_0DB8 << 96);
-    blocks.push(IpBlock::Prefix(Prefix::new(first, 32)))
-}
-
-/// Whether there is a claim, of one block.
-fn is_one<T: Number>(claim: &Resources<T>) -> bool {
+/// Whether there is a claim, of two blocks.
+fn are_two<T: Number>(claim: &Resources<T>) -> bool {
     match claim.claim() {
-        Claim::Explicit(blocks) => blocks.as_slice().len() == 1,
+        Claim::Explicit(blocks) => blocks.as_slice().len() == 2,
         _ => false,
     }
 }
 
-/// Whether a builder claims the block of each family that is added to it.
+/// Whether a builder claims the blocks of each family that are added to it.
 pub fn are_claimed(alloc: Global) -> Result<bool, Fail> {
     let mut builder = builder(alloc, 2030)?;
-    let numbers = builder.build_as_resource_blocks(alloc, push_number);
-    let v4 = builder.build_v4_resource_blocks(alloc, push_prefix);
-    let v6 = builder.build_v6_resource_blocks(alloc, push_prefix);
-    let are_claimed = is_one(builder.as_resources())
-        && is_one(builder.v4_resources())
-        && is_one(builder.v6_resources());
+    let numbers = builder.build_as_resource_blocks(alloc, push_numbers);
+    let v4 = builder.build_v4_resource_blocks(alloc, push_addresses);
+    let v6 = builder.build_v6_resource_blocks(alloc, push_addresses);
+    let are_claimed = are_two(builder.as_resources())
+        && are_two(builder.v4_resources())
+        && are_two(builder.v6_resources());
     drop(builder);
     numbers?;
     v4?;
@@ -80,7 +68,8 @@ pub fn are_claimed(alloc: Global) -> Result<bool, Fail> {
     Ok(are_claimed)
 }
 
-/// A copy of a builder that claims the AS numbers of the issuer, and signs at the beginning of this year.
+/// A copy of a builder that claims the AS numbers of the issuer, and signs at the beginning of this
+/// year.
 pub fn builder(alloc: Global, at: u16) -> Result<SignedObjectBuilder, Fail>
     ensures { IfOk result (λ b. b.v4 ≡ Missing) }
 {

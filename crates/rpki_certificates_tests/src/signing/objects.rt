@@ -3,13 +3,13 @@
 use super::given::{ISSUER, builder};
 use bytes::Bytes;
 use rpki_basics::standin::{Refused, StandInSigner};
-use rpki_basics::{DigestAlgorithm, ManifestRule, ProviderLimit, Serial, SigningError};
+use rpki_basics::{ManifestRule, ProviderLimit, SigningError};
 use rpki_der::Oid;
-use rpki_files::{FileAndHash, Manifest, ManifestContent, ResourceSignedChecklist};
+use rpki_files::{Manifest, ManifestContent, ResourceSignedChecklist};
 use rpki_resources::Asn;
 use rpki_routes::{Aspa, AspaBuilder, Roa, RoaBuilder, RouteOriginAttestation};
 use rpki_sigobj::{Content, Signed};
-use rpki_testing::{Fail, copied, ok, year};
+use rpki_testing::{Fail, copied, ok};
 use std::alloc::{AllocError, Global};
 use std::net::{Ipv4Addr, Ipv6Addr};
 
@@ -17,7 +17,6 @@ use std::net::{Ipv4Addr, Ipv6Addr};
 pub type Answer<T> = Result<T, SigningError<Refused>>;
 
 /// What is signed.
-#[derive(Clone, Copy)]
 pub enum Object {
     /// A number, of the type of ROAs.
     Number,
@@ -30,15 +29,28 @@ pub enum Object {
 }
 
 /// The content of the object that has a number.
-pub static NUMBER: &[u8] = b"\x02\x01\x05";
+pub const NUMBER: &[u8] = b"\x02\x01\x05";
 
 /// A checklist of AS64496 for a file without a name.
-pub static CHECKLIST: &[u8] = b"\x30\x26\x30\x0D\xA0\x0B\x30\x09\xA0\x07\
+pub const CHECKLIST: &[u8] = b"\x30\x26\x30\x0D\xA0\x0B\x30\x09\xA0\x07\
     \x30\x05\x02\x03\x00\xFB\xF0\x30\x0B\x06\x09\x60\x86\x48\x01\x65\x03\x04\x02\x01\
     \x30\x08\x30\x06\x04\x04hash";
 
-/// The entries of each manifest.
-static ENTRIES: [(&[u8], &[u8]); 2] = [(b"ca.crl", b"1"), (b"b.roa", b"2")];
+/// Number 12, from 2029 to 2031, with the files `ca.crl` and `b.roa`.
+pub const MANIFEST: &[u8] = b"\
+    \x30\x4D\x02\x01\x0C\x18\x0F\x32\x30\x32\x39\x30\x31\x30\x31\x30\x30\x30\x30\x30\x30\x5A\x18\
+    \x0F\x32\x30\x33\x31\x30\x31\x30\x31\x30\x30\x30\x30\x30\x30\x5A\x06\x09\x60\x86\x48\x01\x65\
+    \x03\x04\x02\x01\x30\x1B\x30\x0C\x16\x06\x63\x61\x2E\x63\x72\x6C\x03\x02\x00\x31\x30\x0B\x16\
+    \x05\x62\x2E\x72\x6F\x61\x03\x02\x00\x32";
+
+/// AS64496, 192.0.2.0/24 and 2001:db8::/32.
+pub const ROA: &[u8] = b"\x30\x28\x02\x03\x00\xFB\xF0\x30\x21\x30\x0E\x04\x02\x00\x01\x30\x08\
+    \x30\x06\x03\x04\x00\xC0\x00\x02\x30\x0F\x04\x02\x00\x02\x30\x09\x30\x07\x03\x05\x00\x20\
+    \x01\x0D\xB8";
+
+/// AS64496 with AS64497, AS64498 and AS64499.
+pub const ASPA: &[u8] = b"\x30\x1B\xA0\x03\x02\x01\x01\x02\x03\x00\xFB\xF0\x30\x0F\x02\x03\x00\
+    \xFB\xF1\x02\x03\x00\xFB\xF2\x02\x03\x00\xFB\xF3";
 
 /// The autonomous system of each ROA, and the customer of each ASPA.
 const AS: u32 = 64496;
@@ -54,32 +66,17 @@ fn signed_object(
     match builder(alloc, at)?.finalize(alloc, kind, content, signer, &ISSUER) {
         Err(fault) => Ok(Err(fault)),
         Ok(object) => {
-            let copy = copied(object)?;
-            let octets = copy.to_captured();
-            drop(copy);
+            let octets = object.to_captured();
+            drop(object);
             Ok(Ok(ok(alloc, octets)?))
         }
     }
 }
 
-/// A manifest from 2029 to 2031 with the number 12, signed in this year.
+/// A manifest, signed in this year.
 fn manifest(alloc: Global, signer: &mut StandInSigner, at: u16) -> Result<Answer<Manifest>, Fail> {
-    let (this, next) = (year(2029)?, year(2031)?);
-    let entries = ENTRIES
-        .iter()
-        .map(|(name, hash)| FileAndHash::new(*name, *hash));
-    let content = ok(
-        alloc,
-        ManifestContent::new(
-            alloc,
-            Serial::from(12),
-            this,
-            next,
-            DigestAlgorithm::sha256(),
-            entries,
-            ManifestRule::Registered,
-        ),
-    )?;
+    let octets = Bytes::from_static(MANIFEST);
+    let content = ManifestContent::decode(alloc, octets, ManifestRule::Registered)?;
     match builder(alloc, at) {
         Ok(builder) => Ok(content.into_manifest(alloc, builder, signer, &ISSUER)),
         Err(fail) => {
@@ -164,7 +161,7 @@ fn octets<T: Content>(
 /// The octets of an object that this signer has signed in this year.
 pub fn made(
     alloc: Global,
-    object: Object,
+    object: &Object,
     signer: &mut StandInSigner,
     at: u16,
 ) -> Result<Answer<Bytes>, Fail> {
@@ -182,7 +179,7 @@ pub fn made(
             )
         }
         Object::Manifest => octets(alloc, manifest(alloc, signer, at)),
-        Object::Roa(len) => octets(alloc, roa(alloc, signer, len, at)),
-        Object::Aspa(providers) => octets(alloc, aspa(alloc, signer, providers, at)),
+        Object::Roa(len) => octets(alloc, roa(alloc, signer, *len, at)),
+        Object::Aspa(providers) => octets(alloc, aspa(alloc, signer, *providers, at)),
     }
 }
