@@ -26,7 +26,8 @@ pub record AnchorOutcome : Type 0 where
   pub outcome : Outcome
 
 -- This is found under a locator, within a limit: what a run from nothing found, and a refusal for
--- each CA that listed places which were left unread. A copy that does not change has all of it.
+-- each CA that listed places which were left unread. Where the copy does not change, all was found
+-- but what lies below such places.
 pub record IsFoundIn (s : Setting) (tal : Locator) (limit : ℕ) (found : Found) : Type 0 where
   pub nothing : Found
   pub is_empty : (x : Finding) → ¬ Lists nothing x

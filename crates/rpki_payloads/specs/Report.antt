@@ -24,7 +24,7 @@ found_under name (Err fault) = None
 abbrev pub found_in : List AnchorOutcome → List FoundUnder
 found_in outcomes = filter_map (λ p. found_under p.name p.outcome) outcomes
 
--- the line of a locator that has no run, as `refused anchor: not in the copy`
+-- the line of a locator that has no run, as `refused anchor: more than 64 URIs`
 abbrev pub outcome_line : List ℕ → Outcome → List ℕ
 outcome_line name (Ok found) = []
 outcome_line name (Err fault) =

@@ -28,8 +28,7 @@ pub struct FolderParty<'a, F, C> {
     pub folders: &'a F,
     /// What says which signatures are good.
     pub crypto: &'a C,
-    /// How much work there is at most under a locator: the octets that are read, and 16,384 or more
-    /// for each certification authority that is met.
+    /// How much work there is at most under a locator, as `run_under` counts it.
     pub limit: u64,
 }
 

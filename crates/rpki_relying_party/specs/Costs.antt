@@ -43,7 +43,7 @@ waiting_cost v = 16384 + 64 * (length v.sets.as_numbers + (length v.sets.v4 + le
 abbrev pub ReadCosts : Setting → List ℕ → ℕ → Type 0
 ReadCosts s uri n = (found : Result (List ℕ) NoFile) × s.finds uri found × (n ≡ found_cost found)
 
--- It costs that the file is looked for, at first.
+-- What some first steps of it cost: that the file is looked for, or all.
 abbrev pub ReadStarts : Setting → List ℕ → ℕ → Type 0
 ReadStarts s uri n = (n ≡ opening_cost) ⊎ ReadCosts s uri n
 

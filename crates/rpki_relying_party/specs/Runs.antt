@@ -48,8 +48,8 @@ abbrev pub IsSaidUnder : Setting → Locator → Finding → Type 0
 IsSaidUnder s tal x = (start : Place) × IsStartOf s tal start × IsSaid (PlaceTells s) start x
 
 -- There is a trust anchor of the locator below which all was found: of each chain of children that
--- leads from it, what its last place says was found, for as long, unless the chain passes a place
--- that was left unread.
+-- leads from it, something alike to all that its last place says, unless some place on the chain has
+-- the key of one that was left unread.
 abbrev pub FindsAllUnder : Setting → Locator → Found → List (Left Place) → Type 0
 FindsAllUnder s tal found unread =
     (start : Place) × IsStartOf s tal start

@@ -97,9 +97,9 @@ fn of_point(refusal: Refusal) -> RunFault
 /// The trust anchor's own place is read first, and may take all of the limit. Where its point is
 /// refused, or is more work than that, there is no run.
 ///
-/// What was found is said by a place to which a chain of children leads from the trust anchor.
-/// Where the copy does not change, all is found that such a place says, unless its chain passes one
-/// that was left unread.
+/// What is new in `found` is said by a place to which a chain of children leads from the trust
+/// anchor. Where the copy does not change, something alike to all that such a place says is found,
+/// unless some place on its chain has the key of one that was left unread.
 pub fn run_under<R: Repository, C: Crypto>(
     alloc: Global,
     pass: &Pass<'_, R, C>,

@@ -16,7 +16,7 @@ use std::marker::Model;
 /// and can't fail. Names are octets, and are compared as they are. A hash is compared as a whole,
 /// so one of no octets, or of any number but 32, is never held. Since nothing is kept, each entry
 /// is looked up among the files from the first one on: its cost grows with their number. For a
-/// folder of many files there is `rpki_relying_party`, which reads each entry once, by its URI.
+/// folder of many files there is `rpki_relying_party`, which looks each entry up by its URI.
 #[derive(Debug, Drop)]
 pub struct Walk<'a, N: AsOctets, O: AsOctets, C: Crypto> {
     entries: FileListIter<'a>,
