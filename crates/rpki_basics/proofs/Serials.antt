@@ -1,3 +1,4 @@
 -- Serial numbers.
+pub mod Order
 pub mod Unique
 pub mod Written

@@ -2,6 +2,7 @@
 
 ghost use Rattle.std.proofs.Common.{rules};
 ghost use Rattle.std.specs.Cmp.Rules.{comparing};
+ghost use Rattle.std.specs.Ordering.{nat_cmp, as_partial_cmp};
 ghost use Rattle.std.specs.Prelude.{◌≡◌, ◌==◌, ◌<◌, ◌^◌, length, Some};
 ghost use Rattle.rpki_der.specs.Numbers.{number};
 ghost use Rattle.rpki_der.specs.Read.Parse.{u160_at};
@@ -15,6 +16,7 @@ ghost use Rattle.rpki_basics.specs.Serial.{hex_text};
 use rpki_der::encode::integer_of;
 use rpki_der::laws::slices_hold_octets;
 use rpki_der::{Constructed, DecodeError, Encode, EncodeError, LowerHex, Sink, SinkFailed};
+use std::cmp::Ordering;
 use std::fmt;
 use std::fmt::Write;
 use std::marker::Model;
@@ -55,6 +57,31 @@ impl PartialEq for Serial {
 
 impl Eq for Serial {
     ghost laws = { Prim.search (comparing, rules) };
+}
+
+impl PartialOrd for Serial {
+    ghost partial_cmp = { as_partial_cmp nat_cmp };
+
+    ghost laws = { Prim.search (comparing, rules) };
+
+    fn partial_cmp(&self, other: &Serial) -> Option<Ordering> {
+        Some(self.cmp(other))
+    }
+}
+
+/// The order of the numbers.
+impl Ord for Serial {
+    ghost cmp = { nat_cmp };
+
+    ghost total = { Prim.search (comparing, rules) };
+
+    ghost matches_partial_cmp = { Prim.search (comparing, rules) };
+
+    ghost matches_eq = { Prim.search (comparing, rules) };
+
+    fn cmp(&self, other: &Serial) -> Ordering {
+        self.octets.cmp(&other.octets)
+    }
 }
 
 impl From<u64> for Serial {

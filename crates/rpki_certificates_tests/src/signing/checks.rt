@@ -10,7 +10,7 @@ use rpki_basics::{FixedClock, ManifestRule, ProviderLimit, Time};
 use rpki_certs::{Cert, ResourceCert};
 use rpki_der::{Constructed, Mode};
 use rpki_faults::ValidationError;
-use rpki_files::{Manifest, ManifestContent, ResourceSignedChecklist, ValidateManifest};
+use rpki_files::{Manifest, ResourceSignedChecklist, ValidateManifest};
 use rpki_routes::{AsProviderAttestation, Aspa, RouteOriginAttestation};
 use rpki_signed::check;
 use rpki_sigobj::{Content, Signed, SignedObject};
@@ -30,8 +30,11 @@ enum Call {
     Process,
     /// That of an object which is read by the rules of BER.
     Taken,
-    /// Those of a checklist, of a manifest and of an ASPA.
-    Checklist,
+    /// That of a checklist, a ROA or an ASPA, which is of its type.
+    ProcessSigned,
+    /// The check for which the type is a parameter, of a ROA.
+    CheckType,
+    /// Those of a manifest and of an ASPA.
     Manifest,
     ManifestAt,
     Aspa,
@@ -49,7 +52,7 @@ const TWO: Object = Object::Roa(Some(24));
 
 const THREE: Object = Object::Aspa(&[64498, 64497, 64499]);
 
-static SIGNED: [Made; 58] = [
+static SIGNED: [Made; 61] = [
     (Object::Number, 0, 2030, Call::Check, "yes"),
     (Object::Number, 0, 2031, Call::Check, "yes"),
     (
@@ -139,7 +142,10 @@ static SIGNED: [Made; 58] = [
     (Object::Number, 0, 2030, Call::Process, "yes"),
     (Object::Number, 0, 2030, Call::Taken, "yes"),
     (Object::Checklist, 0, 2030, Call::ValidateDetached, "yes"),
-    (Object::Checklist, 0, 2030, Call::Checklist, "yes"),
+    (Object::Checklist, 0, 2030, Call::ProcessSigned, "yes"),
+    (TWO, 0, 2030, Call::ProcessSigned, "yes"),
+    (THREE, 0, 2030, Call::ProcessSigned, "yes"),
+    (TWO, 0, 2030, Call::CheckType, "yes"),
     (Object::Manifest, 0, 2030, Call::Manifest, "yes"),
     (Object::Manifest, 0, 2030, Call::ManifestAt, "yes"),
     (THREE, 0, 2030, Call::Aspa, "yes"),
@@ -163,20 +169,6 @@ fn pass(_cert: &Cert) -> Result<(), ValidationError> {
     Ok(())
 }
 
-/// Whether the check of a kind answers so to octets.
-fn is_good<T: Content>(
-    alloc: Global,
-    octets: Bytes,
-    strict: bool,
-    rule: T::Rule,
-    issuer: &ResourceCert,
-    now: Time,
-    want: &str,
-) -> Result<bool, Fail> {
-    let answer = check::object::<T, _, _>(alloc, octets, strict, issuer, &StandIn, now, pass, rule);
-    is_said(alloc, answer, want)
-}
-
 /// Whether the check of its kind answers so to octets.
 fn is_checked(
     alloc: Global,
@@ -187,28 +179,37 @@ fn is_checked(
     now: Time,
     want: &str,
 ) -> Result<bool, Fail> {
+    let crypto = &StandIn;
     match object {
         Object::Number => match SignedObject::decode(alloc, octets, strict) {
             Err(error) => is_said(alloc, Err::<(), _>(error), want),
             Ok(object) => is_answered(alloc, &Call::ValidateAt, object, issuer, now, want),
         },
-        Object::Checklist => {
+        Object::Checklist => is_said(
+            alloc,
+            check::rsc(alloc, octets, strict, issuer, crypto, now, pass),
+            want,
+        ),
+        Object::Manifest => {
+            let rule = ManifestRule::Registered;
             is_said(
                 alloc,
-                check::rsc(alloc, octets, strict, issuer, &StandIn, now, pass),
+                check::manifest(alloc, octets, strict, issuer, crypto, now, pass, rule),
                 want,
             )
         }
-        Object::Manifest => {
-            let rule = ManifestRule::Registered;
-            is_good::<ManifestContent>(alloc, octets, strict, rule, issuer, now, want)
-        }
-        Object::Roa(_) => {
-            is_good::<RouteOriginAttestation>(alloc, octets, strict, (), issuer, now, want)
-        }
+        Object::Roa(_) => is_said(
+            alloc,
+            check::roa(alloc, octets, strict, issuer, crypto, now, pass),
+            want,
+        ),
         Object::Aspa(_) => {
             let limit = ProviderLimit::Narrow;
-            is_good::<AsProviderAttestation>(alloc, octets, strict, limit, issuer, now, want)
+            is_said(
+                alloc,
+                check::aspa(alloc, octets, strict, issuer, crypto, now, pass, limit),
+                want,
+            )
         }
     }
 }
@@ -306,6 +307,45 @@ fn is_manifest(
     }
 }
 
+/// Whether the call that validates an object of a type answers so.
+fn is_processed<T: Content>(
+    alloc: Global,
+    octets: Bytes,
+    rule: T::Rule,
+    issuer: &ResourceCert,
+    now: Time,
+    want: &str,
+) -> Result<bool, Fail> {
+    let object: Signed<T> = Signed::decode(alloc, octets, true, rule)?;
+    let clock = FixedClock(now);
+    is_said(
+        alloc,
+        object.process(alloc, issuer, true, &StandIn, &clock, pass),
+        want,
+    )
+}
+
+/// Whether that of its own type does.
+fn is_signed(
+    alloc: Global,
+    object: &Object,
+    octets: Bytes,
+    issuer: &ResourceCert,
+    now: Time,
+    want: &str,
+) -> Result<bool, Fail> {
+    match object {
+        Object::Roa(_) => {
+            is_processed::<RouteOriginAttestation>(alloc, octets, (), issuer, now, want)
+        }
+        Object::Aspa(_) => {
+            let limit = ProviderLimit::Narrow;
+            is_processed::<AsProviderAttestation>(alloc, octets, limit, issuer, now, want)
+        }
+        _ => is_processed::<ResourceSignedChecklist>(alloc, octets, (), issuer, now, want),
+    }
+}
+
 /// Whether a call answers so to the octets of an object.
 fn is_right(
     alloc: Global,
@@ -320,15 +360,21 @@ fn is_right(
         Call::Check => is_checked(alloc, object, octets, true, issuer, now, want),
         Call::Cut => is_cut(alloc, object, octets, issuer, now),
         Call::Manifest | Call::ManifestAt => is_manifest(alloc, call, octets, issuer, now, want),
-        Call::Checklist => {
-            let object: Signed<ResourceSignedChecklist> = Signed::decode(alloc, octets, true, ())?;
-            let clock = FixedClock(now);
-            is_said(
+        Call::ProcessSigned => is_signed(alloc, object, octets, issuer, now, want),
+        Call::CheckType => is_said(
+            alloc,
+            check::object::<RouteOriginAttestation, _, _>(
                 alloc,
-                object.process(alloc, issuer, true, &StandIn, &clock, pass),
-                want,
-            )
-        }
+                octets,
+                true,
+                issuer,
+                &StandIn,
+                now,
+                pass,
+                (),
+            ),
+            want,
+        ),
         Call::Aspa => is_said(
             alloc,
             Aspa::decode(alloc, octets, true, ProviderLimit::Wide),
