@@ -1,0 +1,581 @@
+"""Makes the text of docs/SPECIFICATION.md, for tools/specification: the main promises, as the sources
+have them, and each definition that they rest on, from the top down.
+
+A definition has one place: in the section of its subject, or in a later one where only definitions
+of later sections cite it, and there after the first that cites it. One that a single other cites,
+and that is short, stands in the place of that other. A definition is cited where the page shows its
+name: in an equation or in the type of a field.
+"""
+import heapq
+import re
+
+from clauses import clause_of
+from definitions import TOP, sentence
+
+HEAD = """\
+# Specification
+
+This page says what a yes of the programs means, and what a payload is that they print: first the
+promises, word for word as the sources have them, and then each definition that they rest on, from the
+top down to the octets. Each definition has one place, after the first that cites it: its name, a
+sentence with the section of the standard, its text, and after → the names in it that the sentence
+does not have. That the code keeps the promises is proved, function by function, and `.ci/run` proves
+it again; that a definition says what its standard says is for a reader to judge, with the standard
+beside this page. Everything holds unless memory runs out, and rests on the toolchain, on RSA and
+SHA-256, and on what a caller hands in: [PROVED.md](PROVED.md#what-is-trusted) lists what is trusted.
+`tools/specification` makes the page from the comments in `crates/NAME/specs`; change them there.
+
+Where this project is narrower or wider than a standard, the sentence says that it is this project's
+own rule; [PROFILE.md](PROFILE.md) has all of these. [GOOD-OBJECT.md](GOOD-OBJECT.md) has the checks of
+each kind of object as tables, with the text of each fault.
+
+## How it is written
+
+- Octets are a list of numbers (`List ℕ`). A *form* is a relation between octets and what they say; a
+  *front* of octets is what they begin with, whatever follows. `Mode` is `Der` (strict) or `Ber`.
+- `P × Q` is both, `P ⊎ Q` one of them, `P → Q` that Q follows, `¬ P` and `P → ⊥` that P does not hold,
+  `Unit {0}` what always holds, `⊥` what never does. `(x : A) × P` says that there is an x, and
+  `(x : A) → P` that it holds of each. `Type 0` is the type of all that may hold or not.
+- `a ≡ b` says that they are equal, `a ≢ b` that they are not; `==`, `&&`, `||`, `not`, `nat_lt` and
+  `nat_le` compute `true` or `false`, and `IsTrue` says that it is `true`.
+- `[]` is the list without entries, `x ∷ xs` the one that begins with x, `a ++ b` one after the other;
+  `All P xs` says that P holds of each entry, `Any P xs` of one, `AllZip P xs ys` of each two at one
+  place, and `Contains xs x` that x is one. `map`, `flat_map`, `filter`, `take`, `drop`, `zip`, `length`
+  and `concat` are what they are elsewhere. `codes "abc"` are the octets of a text in quotes.
+- `Some x` and `None` are an option, `Ok x` and `Err e` a result, `(a, b)` is a pair with `.0` and `.1`;
+  `IfOk r P` says that, if r is `Ok x`, P holds of x, and `IfSome` the same of an option. `λ x. e` is a function.
+- A *record* holds where each of its fields does: `name : what holds`, or `name : type` of something that
+  there is. The fields of one that is data are read as `r.name`, and written `record { name = value; }`.
+- `x.now` is what a value of the code is worth at a call, `x.old` and `x.new` before and after it.
+  `C.is_signed crypto.now` is which signatures the caller's cryptography calls good, and
+  `C.digest_of crypto.now` how it digests; `R.finds` is what reads of a copy may find.
+"""
+
+# The promises: the heading, what is said of it, and the clauses, each with its crate, its source
+# file, the function or the `impl`, and its names.
+PROMISES = [
+    (
+        "A yes of `rpki_verify check`",
+        "Where a run has the status 0, the files of the certificates make an issuer, and under it the "
+        "file begins with a good object of its kind, and with status 1 they make none, or under it the "
+        "file begins with no good object. `is_rsa_signature` is the signature of RFC 8017.",
+        [("rpki_command", "verify/laws", "checks_are_right", ["yes", "no"])],
+    ),
+    (
+        "A yes of `rpki_verify check --ta`",
+        "The same of several files, with a locator and with revocation lists, if the words name them: "
+        "each file begins with a good object that no list revokes.",
+        [("rpki_command", "verify/laws/runs", "checks_with_settings_are_right", ["yes", "no"])],
+    ),
+    (
+        "A yes of `rpki_objects check`",
+        "The same, by a list of good signatures that the caller hands in.",
+        [("rpki_command", "laws", "checks_are_right", ["yes", "no"])],
+    ),
+    (
+        "A yes of `rta`",
+        "Where a run of `rpki_verify rta` has the status 0, the anchors are made, and the file begins "
+        "with an attestation that is granted under them; `rpki_objects rta` says the same by a list of "
+        "good signatures (`HoldsByList`).",
+        [("rpki_command", "verify/laws", "attestations_are_right", ["yes", "no"])],
+    ),
+    (
+        "A payload of `rpki_verify payloads`",
+        "What is printed is the report of the runs under the locators; what a run finds is said below "
+        "a trust anchor of its locator, and a payload is said there by a good object in a good "
+        "publication point to which a chain of valid, unrevoked certificates leads.",
+        [
+            ("rpki_payloads", "party", "RelyingParty for FolderParty", ["says"]),
+            ("rpki_relying_party", "locator", "run_under", ["reads", "sound", "complete", "refused"]),
+            ("rpki_relying_party", "laws", "payloads_are_said", ["ensures"]),
+        ],
+    ),
+    (
+        "A yes of the calls of the library",
+        "What `check::manifest`, `roa`, `aspa`, `rsc` and `rta` of `rpki_signed` promise, from octets "
+        "to the yes. The first four also name the first check that fails, as here `check::roa`.",
+        [
+            ("rpki_signed", "laws", "yes_is_exact", ["manifests", "roas", "aspas", "checklists", "attestations"]),
+            ("rpki_signed", "check", "roa", ["requires", "first", "exact"]),
+        ],
+    ),
+]
+
+# The sections: the heading, and the crates, or the files, that it is about.
+SUBJECTS = [
+    ("What is right to say", ["rpki_command", "rpki_signed", "rpki_show/Kinds", "rpki_show/Options"]),
+    ("Signed objects", ["rpki_sigobj", "rpki_faults", "rpki_attributes"]),
+    ("Certificates", ["rpki_certs", "rpki_extensions"]),
+    ("Revocation lists", ["rpki_crls"]),
+    ("Manifests", ["rpki_files/Manifest", "rpki_files/Name", "rpki_lists"]),
+    ("ROAs", ["rpki_routes/Roa"]),
+    ("ASPAs", ["rpki_routes/Aspa"]),
+    ("Checklists", ["rpki_files/Checklist"]),
+    ("Attestations", ["rpki_multi", "rpki_tagged", "rpki_rta", "rpki_paths"]),
+    ("Locators", ["rpki_tal"]),
+    ("The pass over a local copy", ["rpki_relying_party", "rpki_payloads"]),
+    ("Numbers that certificates have", ["rpki_resources"]),
+    ("Signatures", ["rpki_rsa", "rpki_verdicts"]),
+    ("Names, keys, times and algorithms", ["rpki_basics"]),
+    ("DER", ["rpki_der"]),
+    (
+        "Runs of the programs",
+        ["rpki_cli", "rpki_command/Command", "rpki_command/Verify/Command", "rpki_command/Verify/Runs"]
+        + [f"rpki_command/Yes/{name}" for name in ("check_order", "in_order", "in_order_with", "FilesOfCheck")]
+        + [f"rpki_command/Verify/Yes/{name}" for name in ("verify_order", "verify_rta")],
+    ),
+    (
+        "What is printed",
+        ["rpki_show", "rpki_json", "rpki_faults/Text", "rpki_der/Text", "rpki_resources/Text", "rpki_cli/Answer"]
+        + ["rpki_payloads/Texts", "rpki_payloads/Payloads", "rpki_payloads/Seconds", "rpki_payloads/Found"]
+        + ["rpki_relying_party/Texts", "rpki_relying_party/Names"],
+    ),
+]
+# The definitions whose names lead to their files: what each command does with its words.
+ENDS = {"verify_program", "objects_program", "verify_language", "objects_language", "IsAskedCheck"}
+# From this section on a definition stands in no place of an earlier one.
+LAST = len(SUBJECTS) - 2
+# Crates whose calls nobody else makes.
+INNER = re.compile(r"rpki_examples|rpki_\w*tests|rpki_testing")
+# How long a definition may be that stands in the place of the one that cites it, and how long all
+# of these together.
+LINE, LINES = 190, 400
+# How long a definition is that stands in one line with its sentence.
+SHORT = 170
+# How many variants or fields of a type of the code are shown.
+FEW = 12
+
+WORD = re.compile(r"[^\s(){}\[\],;λ]+")
+# What may be a name in a comment: in backticks, or with a capital inside.
+NAME = re.compile(r"`([^`\s]+)`|(?<![\w/`.-])([A-Z][a-z]\w*[A-Z]\w*)(?![\w/`-])")
+
+
+class Place:
+    """What has a place on the page: a definition, or a type of the code."""
+
+    def __init__(self, key, file, about, link):
+        self.key, self.file, self.about, self.link = key, file, about, link
+        self.name = key[2]
+        self.head, self.told, self.parts = self.name, "", []
+        self.cites, self.citers, self.inner = [], [], []
+        self.section, self.anchor, self.host = None, "", None
+
+    def size(self):
+        return len(self.told) + sum(len(text) + len(comment) for text, comment in self.parts)
+
+
+class Page:
+    """The definitions of all crates, and those that have a place."""
+
+    def __init__(self, files):
+        self.files = {(crate, tuple(f.module)): f for crate, them in files.items() for f in them}
+        self.crate_of = {id(f): crate for crate, them in files.items() for f in them}
+        self.made = {
+            (*at, made.name): (file, made) for at, file in self.files.items() for made in file.definitions
+        }
+        self.constructors = {
+            name
+            for _, made in self.made.values()
+            if made.members == "data"
+            for name, _ in made.parts
+        }
+        self.places, self.types = {}, {}
+
+    # --- names ---
+
+    def meant(self, path, there):
+        """The key of what a path of a `use` line and a name in it stand for, or None."""
+        if path[1:2] != ["specs"]:
+            return None
+        if path[2:3] == ["declared"]:
+            inner = [part for part in path[3:] if part != "TheVariants"]
+            return self.declared(path[0], inner[:-1], inner[-1])
+        key = (path[0], tuple(path[2:]), there)
+        return key if key in self.made else None
+
+    def declared(self, crate, module, name):
+        """The key of a type of the code, or None."""
+        key = (crate, ("declared", *module), name)
+        if key not in self.types:
+            self.types[key] = type_of(crate, module, name)
+        return key if self.types[key] else None
+
+    def resolved(self, file, word):
+        """The key of what a word in a file stands for, or None."""
+        at = (self.crate_of[id(file)], tuple(file.module))
+        for name in (word, f"◌{word}◌"):
+            if (*at, name) in self.made:
+                return (*at, name)
+            if name in file.used:
+                return self.meant(*file.used[name])
+        first, dot, rest = word.partition(".")
+        if not dot or not first:
+            return None
+        if first in file.alias:
+            return self.meant(file.alias[first], rest.split(".")[0])
+        return self.resolved(file, first)
+
+    def linked(self, place, text):
+        """The text, in which each name leads to its place, and the keys of these."""
+        seen = set()
+
+        def link(match):
+            key = self.resolved(place.file, match[1] or match[2]) if place.file else None
+            if not key or key == place.key:
+                return match[0]
+            seen.add(key)
+            return self.link(key, match[1] or match[2])
+
+        return NAME.sub(link, text), seen
+
+    def link(self, key, name=None):
+        """A link to the place of a name, or to its file."""
+        name = name or bare(key[2])
+        if key in self.places:
+            return f"[`{name}`](#{self.places[key].anchor})"
+        return f"[`{name}`]({link_of(key)})"
+
+    # --- what has a place ---
+
+    def take(self, key):
+        """The place of a key, with all that it cites."""
+        if key in self.places:
+            return
+        if key in self.types:
+            self.places[key] = self.type_place(key)
+            return
+        self.places[key] = place = self.definition_place(key)
+        for cited in place.cites:
+            self.take(cited)
+
+    def type_place(self, key):
+        told, shown = self.types[key]
+        place = Place(key, None, "", link_of(key))
+        place.told, place.parts = sentence(told), [(shown, "")] if shown else []
+        return place
+
+    def definition_place(self, key):
+        file, made = self.made[key]
+        place = Place(key, file, file.about, link_of(key))
+        names = made.arguments(self.constructors)
+        place.told = sentence(made.comment, names)
+        comments = dict(made.parts)
+        for part in pieces(made):
+            field = re.match(r"([^\s:(){}]+) *:(?: |$)", part) if made.members else None
+            comment = comments.get(field[1], "") if field else ""
+            place.parts.append((part, sentence(comment, names)))
+        if made.members:
+            place.head = " ".join([made.name, *made.binders])
+        ends = made.name in ENDS
+        for part, _ in place.parts:
+            words = WORD.findall(part)[1 if made.members else 0 :]
+            for word in () if ends else words:
+                cited = self.resolved(file, word.strip("."))
+                if cited and cited != key and cited not in place.cites:
+                    place.cites.append(cited)
+        return place
+
+
+def bare(name):
+    """A name without the marks of an operator."""
+    return name.strip("◌")
+
+
+def link_of(key):
+    """Where a definition, or a type of the code, is written."""
+    crate, module, _ = key
+    if module[:1] == ("declared",):
+        return f"../crates/{crate}/src/{'/'.join(module[1:]) or 'lib'}.rt"
+    return f"../crates/{crate}/specs/{'/'.join(module) or 'Lib'}.antt"
+
+
+def type_of(crate, module, name):
+    """What the docstring of a type of the code says, and its variants or its public fields."""
+    path = TOP / "crates" / crate / "src" / f"{'/'.join(module) or 'lib'}.rt"
+    if not path.is_file():
+        return None
+    head = rf"((?:^/// ?.*\n)*)(?:^#\[.*\n)*^pub (enum|struct) {name}\b[^{{;]*([{{;])"
+    found = re.search(head, path.read_text(), re.M)
+    if not found:
+        return None
+    told = " ".join(re.findall(r"/// ?(.*)", found[1]))
+    if found[3] == ";":
+        return told, ""
+    body = path.read_text()[found.end() :].split("\n}")[0]
+    rows = [row.strip().rstrip(",") for row in body.split("\n")]
+    if found[2] == "enum":
+        rows = [row for row in rows if re.match(r"[A-Z]\w*(\(.*\))?$", row)]
+        return told, " | ".join(rows) if len(rows) <= FEW else f"one of {len(rows)} variants"
+    rows = [row.removeprefix("pub ") for row in rows if re.match(r"pub \w+: ", row)]
+    return told, ", ".join(rows) if len(rows) <= FEW else ""
+
+
+def pieces(made):
+    """A definition, whole: its equations, or the fields of a record, without its head."""
+    lines = made.lines
+    if re.match(r"(?:pub )?(?:record|data) ", lines[0]):
+        body, margin = lines[1:] if lines[0].endswith(" where") else [], 2
+    else:
+        # (an equation with a type in it is taken for the head of another definition)
+        first = 0 if re.search(r" =( |$)", lines[0]) else 1
+        inner = [at for at, line in enumerate(lines) if at >= first and line[:1] != " "]
+        body, margin = lines[inner[0] :] if inner else [], 0
+    found = []
+    for line in body:
+        if len(line) - len(line.lstrip()) <= margin and line.strip() != "}":
+            found.append(line.strip().removeprefix("pub "))
+        elif found:
+            found[-1] += " " + line.strip()
+    return found
+
+
+# --- the order ---
+
+
+def subject(key):
+    """The number of the section that a definition, or a type, is about: the longest name fits."""
+    crate, module, name = key
+    path = "/".join((crate, *(part for part in module if part != "declared"), bare(name)))
+    fitting = [
+        (len(of), number)
+        for number, (_, them) in enumerate(SUBJECTS)
+        for of in them
+        if (path + "/").startswith(of + "/")
+    ]
+    return max(fitting)[1] if fitting else 0
+
+
+def set_sections(page, roots):
+    """Gives each place the section of its subject, or a later one: that of the first that cites it."""
+    queue = []
+    for root in roots:
+        heapq.heappush(queue, (subject(root), len(queue), root))
+    count = len(queue)
+    while queue:
+        section, _, key = heapq.heappop(queue)
+        place = page.places[key]
+        if place.section is not None:
+            continue
+        place.section = section
+        for cited in place.cites:
+            count += 1
+            heapq.heappush(queue, (max(section, subject(cited)), count, cited))
+
+
+def set_hosts(page, roots):
+    """Puts short definitions that a single other cites in the place of that one."""
+    for place in page.places.values():
+        for cited in place.cites:
+            page.places[cited].citers.append(place)
+    for place in page.places.values():
+        alone = len(place.citers) == 1 and place.key not in roots
+        if alone and place.size() <= LINE and len(place.parts) <= 2:
+            host = place.citers[0]
+            place.host = host if place.section == host.section or place.section < LAST else None
+    # Who is long itself keeps its place, and so does one in a circle.
+    for place in page.places.values():
+        seen = [place]
+        while seen[-1].host and seen[-1].host not in seen:
+            seen.append(seen[-1].host)
+        if seen[-1].host:
+            seen[-1].host = None
+    for place in page.places.values():
+        for cited in place.cites:
+            inner = page.places[cited]
+            if inner.host is place:
+                if sum(other.size() for other in hosted(place)) + inner.size() > LINES:
+                    inner.host = None
+                else:
+                    place.inner.append(inner)
+
+
+def hosted(place):
+    """All that stand in a place, each before those that it cites."""
+    return [one for inner in place.inner for one in (inner, *hosted(inner))]
+
+
+def in_order(page, roots):
+    """For each section its groups: a file, and the places in it."""
+    order = {key: number for number, key in enumerate(roots)}
+    sections = []
+    for number in range(len(SUBJECTS)):
+        left = {key for key, place in page.places.items() if place.section == number and not place.host}
+        groups = []
+        while left:
+            group = next_group(page, left, order)
+            groups.append(group)
+            for place in group:
+                left.discard(place.key)
+                for one in (place, *hosted(place)):
+                    for cited in one.cites:
+                        order.setdefault(top(page.places[cited]).key, len(order))
+        sections.append(groups)
+    return sections
+
+
+def top(place):
+    """The place in which one stands."""
+    while place.host:
+        place = place.host
+    return place
+
+
+def group_of(place):
+    """The file whose group a place is in. A type of the code is in none."""
+    return place.key[:2] if place.file else None
+
+
+def next_group(page, left, order):
+    """The next group of a section: of a file all whose places are cited by now, or by each other, if
+    there is one; of all such files that which is cited first."""
+    ready = sorted((key for key in left if key in order), key=order.get)
+    best = None
+    for key in ready:
+        group = reached(page, page.places[key], left, order)
+        missing = sum(1 for other in left if other[:2] == key[:2] and page.places[other] not in group)
+        if best is None or missing < best[0]:
+            best = (missing, group)
+        if missing == 0:
+            break
+    return best[1]
+
+
+def reached(page, first, left, order):
+    """The places of a file that are cited by now or by each other, in the order in which they are."""
+    of_file = group_of(first)
+    ready = sorted((key for key in left if key in order), key=order.get)
+    queue = [page.places[key] for key in ready if group_of(page.places[key]) == of_file]
+    if of_file is None:
+        queue = [first]
+    at = 0
+    while at < len(queue):
+        for one in (queue[at], *hosted(queue[at])):
+            for cited in one.cites:
+                place = top(page.places[cited])
+                near = place.file is None or group_of(place) == of_file
+                if place.key in left and near and place not in queue:
+                    queue.append(place)
+        at += 1
+    return queue
+
+
+# --- the text ---
+
+
+def set_anchors(page):
+    """Gives each place a name for links to it."""
+    taken = {}
+    for place in page.places.values():
+        name = re.sub(r"[^\w-]", "", bare(place.name)).lower()
+        taken.setdefault(name, []).append(place)
+    for name, them in taken.items():
+        for place in them:
+            crate, module, _ = place.key
+            long = "-".join([crate.removeprefix("rpki_"), *(module[-1:]), bare(place.name)])
+            place.anchor = name if len(them) == 1 else re.sub(r"[^\w-]", "", long).lower()
+    anchors = [place.anchor for place in page.places.values()]
+    for place in page.places.values():
+        if anchors.count(place.anchor) > 1:
+            place.anchor += "-" + ("type" if not place.file else "word" if place.name[0].islower() else "name")
+
+
+def code(text):
+    return f"`` {text} ``" if "`" in text else f"`{text}`"
+
+
+def body(page, place, with_links=True):
+    """What is shown of a place below its name: its text, and links to the names in it."""
+    rows = [code(text) + (f" {page.linked(place, comment)[0]}" if comment else "") for text, comment in place.parts]
+    _, seen = page.linked(place, place.told + " ".join(comment for _, comment in place.parts))
+    inner = {one.key for one in place.inner}
+    links = [page.link(key) for key in place.cites if key not in seen and key not in inner]
+    if place.name in ENDS:
+        rows = [f"The rest of it is in [its file]({place.link})."]
+    arrow = ["→ " + ", ".join(links)] if links else []
+    return rows, arrow
+
+
+def shown(page, place, group):
+    """The lines of a place."""
+    told, _ = page.linked(place, place.told)
+    apart = "" if place.file and place.key[:2] == group else f" ([file]({place.link}))"
+    name = f'  - <a id="{place.anchor}"></a>**`{bare(place.head)}`**{apart} {told}'.rstrip()
+    rows, arrow = body(page, place)
+    if place.size() <= SHORT and len(rows) < 2:
+        lines = [" ".join([name, *rows, *arrow])]
+    else:
+        lines = [name + "<br>", "    " + "<br>".join(rows) + (" " + arrow[0] if arrow else "")]
+    inner = hosted(place)
+    if inner:
+        lines[-1] += "<br>"
+        lines.append("    where " + "<br>".join(within(page, one) for one in inner))
+    return lines
+
+
+def within(page, place):
+    """A definition that stands in the place of another."""
+    told, _ = page.linked(place, place.told)
+    rows, arrow = body(page, place)
+    name = f'<a id="{place.anchor}"></a>**`{bare(place.head)}`**'
+    return " ".join([name, *([told] if told else []), *rows, *arrow])
+
+
+def section_lines(page, heading, groups):
+    """A section: for each group its file, and the places in it."""
+    lines = [f"## {heading}", ""]
+    for group in groups:
+        file = next((place for place in group if place.file), group[0])
+        crate, module = file.key[:2]
+        about = file.about or ""
+        label = f"{crate}: {'/'.join(part for part in module if part != 'declared') or 'Lib'}"
+        lines.append(f"- {sentence(about)} [{label}]({file.link})" if about else f"- [{label}]({file.link})")
+        for place in group:
+            lines += shown(page, place, file.key[:2])
+    return lines + [""]
+
+
+def promise_lines(page, heading, told, clauses):
+    """A promise: what is said of it, and its clauses as they stand."""
+    lines = [f"### {heading}", "", told, ""]
+    for crate, module, item, names in clauses:
+        path = f"../crates/{crate}/src/{module}.rt"
+        texts = [clause_of(crate, module, item, name) for name in names]
+        lines += [f"[`{item}` of `{crate}`]({path}):", "", "```", *"\n".join(texts).split("\n"), "```", ""]
+    return lines
+
+
+def other_lines(page, all_cited):
+    """What the clauses of other public calls cite, a line for each crate."""
+    lines = []
+    for crate, of_crate in all_cited.items():
+        keys = dict.fromkeys(k for items in of_crate.values() for keys in items.values() for k in keys)
+        by_file = {}
+        for key in keys:
+            if key not in page.places and not INNER.fullmatch(key[0]):
+                by_file.setdefault(key[:2], []).append(key)
+        if by_file and not INNER.fullmatch(crate):
+            words = "; ".join(", ".join(page.link(key) for key in them) for them in by_file.values())
+            lines.append(f"- `{crate}`: {words}.")
+    return lines
+
+
+def text_of(files, all_cited, cited_in):
+    """The text of the page. `cited_in` says what the names in a clause of a source file stand for."""
+    page = Page(files)
+    roots, promised = [], []
+    for heading, told, clauses in PROMISES:
+        for clause in clauses:
+            roots += [key for key in cited_in(*clause) if key not in roots]
+        promised.append((heading, told, clauses))
+    for key in roots:
+        page.take(key)
+    set_sections(page, roots)
+    set_hosts(page, set(roots))
+    set_anchors(page)
+    lines = HEAD.split("\n") + ["## The promises", ""]
+    for heading, told, clauses in promised:
+        lines += promise_lines(page, heading, told, clauses)
+    for (heading, _), groups in zip(SUBJECTS, in_order(page, roots)):
+        if groups:
+            lines += section_lines(page, heading, groups)
+    return page, lines
