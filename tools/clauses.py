@@ -199,32 +199,46 @@ def citations(crate, known):
     return found
 
 
+class Missing(Exception):
+    """What the page quotes, and the sources don't have."""
+
+
 def source_of(crate, module):
+    """The source file of a module."""
     return TOP / "crates" / crate / "src" / f"{module}.rt"
 
 
 def clause_places(text, item, name):
-    """Where the clauses with this name begin and end, of a function or of an `impl`."""
+    """Where the clause with this name begins and ends, of a function or of an `impl`."""
     bare = blanked(text)
     if " for " in item:
-        for begin, end, _, _, shown in blocks(bare):
-            if base(shown_impl(shown).split(" for ")[-1]) != item.split(" for ")[-1]:
-                continue
-            for match in re.finditer(rf"\bghost {name}\b", bare[begin:end]):
-                start = begin + match.start()
-                return start, ending(bare, start) + 1
-    place = re.search(rf"\bfn {item}\b", bare).end()
-    clause = re.compile(rf"\b(?:ensures|requires) {name} {{" if name not in ("ensures", "requires") else rf"\b{name} {{")
-    match = clause.search(bare, place)
-    return match.start(), closing(bare, match.end() - 1) + 1
+        heads = ((begin, end, shown_impl(shown)) for begin, end, _, _, shown in blocks(bare))
+        found = next((head for head in heads if head[2].startswith(item)), None)
+        member = found and re.compile(rf"\bghost {name}\b").search(bare, *found[:2])
+        if member:
+            return member.start(), ending(bare, member.end()) + 1
+    elif function := re.search(rf"\bfn {item}\b", bare):
+        word = name if name in ("ensures", "requires") else rf"(?:ensures|requires) {name}"
+        clause = re.compile(rf"\b{word} {{|^{{", re.M).search(bare, function.end())
+        if clause and clause[0] != "{":
+            return clause.start(), closing(bare, clause.end() - 1) + 1
+    raise Missing(f"there is no clause {name} of {item}")
 
 
-def clause_of(crate, module, item, name):
-    """The text of a clause, as it stands."""
-    text = source_of(crate, module).read_text()
-    begin, end = clause_places(text, item, name)
-    margin = begin - text.rindex("\n", 0, begin) - 1
-    return re.sub(rf"^ {{{margin}}}", "", text[begin:end], flags=re.M)
+def clauses_of(crate, module, item, names):
+    """The texts of clauses, as they stand; `-- ..` is between two that do not follow each other."""
+    text, found, last = source_of(crate, module).read_text(), "", None
+    for name in names:
+        try:
+            begin, end = clause_places(text, item, name)
+        except Missing as missing:
+            raise Missing(f"tools/from_the_top.py: {missing}, in {module} of {crate}") from None
+        margin = begin - text.rindex("\n", 0, begin) - 1
+        if last is not None:
+            found += "\n" if last <= begin and not text[last:begin].strip() else "\n-- ..\n"
+        found += re.sub(rf"^ {{{margin}}}", "", text[begin:end], flags=re.M)
+        last = end
+    return found
 
 
 def cited_in(known, crate, module, item, names):
@@ -232,7 +246,7 @@ def cited_in(known, crate, module, item, names):
     text = source_of(crate, module).read_text()
     here, found = imports(text), []
     for name in names:
-        *supposed, says = clause_of(crate, module, item, name).split("→")
+        *supposed, says = clauses_of(crate, module, item, [name]).split("→")
         for word in WORD.findall(" ".join([says, *supposed])):
             for shown in [word, f"◌{word}◌"]:
                 if here.get(shown) in known and here[shown] not in found:

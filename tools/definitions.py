@@ -13,12 +13,13 @@ FIELD = re.compile(r"(?:pub )?([^\s:(){}]+) *:(?: |$)")
 
 
 class Definition:
-    """A definition of a file of specs/: its name, its arguments, its comment, and its lines without
-    their comments."""
+    """A definition of a file of specs/: its name, its arguments, its comment, what the part of the
+    file is about in which it stands, and its lines without their comments."""
 
-    def __init__(self, name, comment):
+    def __init__(self, name, comment, part):
         self.name = name
         self.comment = comment
+        self.part = part
         self.lines = []
         self.equations = []
         self.binders = []
@@ -83,6 +84,7 @@ class File:
     def __init__(self, path, module):
         self.path, self.module = path, module
         self.about, self.definitions, self.modules = "", [], []
+        self.part = ""
         text = path.read_text()
         self.used, self.alias = uses(text)
         self.read(text.split("\n"))
@@ -92,6 +94,9 @@ class File:
         for line in joined(lines):
             bare = line.strip()
             margin = len(line) - len(line.lstrip())
+            if bare.startswith("-- ---- "):
+                self.part = bare.removeprefix("-- ---- ")
+                continue
             if bare.startswith("-- ") or bare == "--":
                 comment.append(bare[3:])
                 continue
@@ -125,7 +130,7 @@ class File:
         """A definition that begins in this line, or one of its equations."""
         match = DEFINITION.match(bare)
         if match and not bare.startswith(("unfolding", "syntax")):
-            made = Definition(match.group(2), words)
+            made = Definition(match.group(2), words, self.part)
             made.members = (match.group(1) or "").strip()
             if made.members:
                 made.binders = binders(match.group(3))

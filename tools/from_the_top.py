@@ -9,30 +9,28 @@ name: in an equation or in the type of a field.
 import heapq
 import re
 
-from clauses import clause_of
+from clauses import Missing, clauses_of
 from definitions import TOP, sentence
 
 HEAD = """\
 # Specification
 
-This page says what a yes of the programs means, and what a payload is that they print: first the
-promises, word for word as the sources have them, and then each definition that they rest on, from the
-top down to the octets. Each definition has one place, after the first that cites it: its name, a
-sentence with the section of the standard, its text, and after → the names in it that the sentence
-does not have. That the code keeps the promises is proved, function by function, and `.ci/run` proves
-it again; that a definition says what its standard says is for a reader to judge, with the standard
-beside this page. Everything holds unless memory runs out, and rests on the toolchain, on RSA and
-SHA-256, and on what a caller hands in: [PROVED.md](PROVED.md#what-is-trusted) lists what is trusted.
-`tools/specification` makes the page from the comments in `crates/NAME/specs`; change them there.
-
-Where this project is narrower or wider than a standard, the sentence says that it is this project's
-own rule; [PROFILE.md](PROFILE.md) has all of these. [GOOD-OBJECT.md](GOOD-OBJECT.md) has the checks of
-each kind of object as tables, with the text of each fault.
+What a yes of the programs means, and what a payload is that they print: first the promises, as the
+sources have them, and then each definition that they rest on, from the top down to the octets. A
+definition has one place, after the first that cites it: its name, a sentence with the section of the
+standard, its text, where short ones that it alone cites stand below it, and after → the names in it
+that have a place of their own. Each function of `crates/*/src` is proved to keep its clauses, which
+`.ci/run` proves again from nothing ([PROVED.md](PROVED.md) says what is proved, what is only tested,
+and what is trusted: the toolchain, RSA and SHA-256, and what is handed in); everything holds unless
+memory runs out. That a definition says what its standard says is left to you, with the standard
+beside this page; where this project is narrower or wider, the sentence says that it is this project's
+own rule, and [PROFILE.md](PROFILE.md) has all of these. `tools/specification` makes the page from the
+comments in `crates/NAME/specs`; change them there.
 
 ## How it is written
 
-- Octets are a list of numbers (`List ℕ`). A *form* is a relation between octets and what they say; a
-  *front* of octets is what they begin with, whatever follows. `Mode` is `Der` (strict) or `Ber`.
+- Octets are a list of numbers, `List ℕ`. A *form* relates octets to what they say; a *front* of octets
+  is what they begin with, whatever follows. Names that end in `_text` are what is printed.
 - `P × Q` is both, `P ⊎ Q` one of them, `P → Q` that Q follows, `¬ P` and `P → ⊥` that P does not hold,
   `Unit {0}` what always holds, `⊥` what never does. `(x : A) × P` says that there is an x, and
   `(x : A) → P` that it holds of each. `Type 0` is the type of all that may hold or not.
@@ -41,14 +39,19 @@ each kind of object as tables, with the text of each fault.
 - `[]` is the list without entries, `x ∷ xs` the one that begins with x, `a ++ b` one after the other;
   `All P xs` says that P holds of each entry, `Any P xs` of one, `AllZip P xs ys` of each two at one
   place, and `Contains xs x` that x is one. `map`, `flat_map`, `filter`, `take`, `drop`, `zip`, `length`
-  and `concat` are what they are elsewhere. `codes "abc"` are the octets of a text in quotes.
-- `Some x` and `None` are an option, `Ok x` and `Err e` a result, `(a, b)` is a pair with `.0` and `.1`;
-  `IfOk r P` says that, if r is `Ok x`, P holds of x, and `IfSome` the same of an option. `λ x. e` is a function.
-- A *record* holds where each of its fields does: `name : what holds`, or `name : type` of something that
-  there is. The fields of one that is data are read as `r.name`, and written `record { name = value; }`.
-- `x.now` is what a value of the code is worth at a call, `x.old` and `x.new` before and after it.
-  `C.is_signed crypto.now` is which signatures the caller's cryptography calls good, and
-  `C.digest_of crypto.now` how it digests; `R.finds` is what reads of a copy may find.
+  and `concat` are what they are elsewhere. `codes "abc"` are the octets of a text.
+- `Some x` and `None` are an option, `Ok x` and `Err e` a result, `(a, b)` a pair with `.0` and `.1`;
+  `IfOk r P` says that, if r is `Ok x`, P holds of x, `OnOk` that P holds then, `IfErr` and `IfSome` the
+  like. `λ x. e` is a function.
+- A *record* is what its fields are, which stand in lines: `name : type` of something that there is,
+  or `name : what holds`. A field is read as `r.name`; `record { name = value; }` is one.
+- `x.now` is what a value of the code is at a call, `x.old` and `x.new` before and after it.
+  `C.is_signed` is which signatures the caller's cryptography calls good, and `C.digest_of` how it
+  digests; `R.finds` and `F.finds` are what reads of a copy may find; `FnOnceReturnsAt F.FnOnce check_crl`
+  is what the caller's `check_crl` may answer.
+
+[GOOD-OBJECT.md](GOOD-OBJECT.md) has the checks of each kind of object as tables, with the text of each
+fault.
 """
 
 # The promises: the heading, what is said of it, and the clauses, each with its crate, its source
@@ -58,8 +61,11 @@ PROMISES = [
         "A yes of `rpki_verify check`",
         "Where a run has the status 0, the files of the certificates make an issuer, and under it the "
         "file begins with a good object of its kind, and with status 1 they make none, or under it the "
-        "file begins with no good object. `is_rsa_signature` is the signature of RFC 8017.",
-        [("rpki_command", "verify/laws", "checks_are_right", ["yes", "no"])],
+        "file begins with no good object. Signatures are those of RFC 8017.",
+        [
+            ("rpki_command", "verify/laws", "checks_are_right", ["yes", "no"]),
+            ("rpki_rsa", "laws", "verdicts", ["ensures"]),
+        ],
     ),
     (
         "A yes of `rpki_verify check --ta`",
@@ -81,13 +87,13 @@ PROMISES = [
     ),
     (
         "A payload of `rpki_verify payloads`",
-        "What is printed is the report of the runs under the locators; what a run finds is said below "
-        "a trust anchor of its locator, and a payload is said there by a good object in a good "
-        "publication point to which a chain of valid, unrevoked certificates leads.",
+        "What a run finds is said below a trust anchor of its locator; a payload is said there by a "
+        "good object in a good publication point to which a chain of valid, unrevoked certificates "
+        "leads; and what is printed is the report of the runs under the locators.",
         [
-            ("rpki_payloads", "party", "RelyingParty for FolderParty", ["says"]),
-            ("rpki_relying_party", "locator", "run_under", ["reads", "sound", "complete", "refused"]),
             ("rpki_relying_party", "laws", "payloads_are_said", ["ensures"]),
+            ("rpki_relying_party", "locator", "run_under", ["sound", "complete", "refused", "reads"]),
+            ("rpki_payloads", "party", "RelyingParty for FolderParty", ["says"]),
         ],
     ),
     (
@@ -131,17 +137,23 @@ SUBJECTS = [
         + ["rpki_relying_party/Texts", "rpki_relying_party/Names"],
     ),
 ]
-# The definitions whose names lead to their files: what each command does with its words.
+# The definitions whose texts are not on the page, but in their files: what each command does with
+# its words, and what it says of octets in JSON.
 ENDS = {"verify_program", "objects_program", "verify_language", "objects_language", "IsAskedCheck"}
+ENDS |= {"IsTaskDone", "IsAnswer", "aspa_members", "manifest_members", "roa_members", "rsc_members"}
 # From this section on a definition stands in no place of an earlier one.
 LAST = len(SUBJECTS) - 2
+OTHERS = """\
+The clauses of other public calls and laws, as those that read, write, build and sign, cite {} more
+definitions. They stand, with their comments, in these files; the page CALLING.md of a crate says which
+call is for what."""
 # Crates whose calls nobody else makes.
 INNER = re.compile(r"rpki_examples|rpki_\w*tests|rpki_testing")
 # How long a definition may be that stands in the place of the one that cites it, and how long all
 # of these together.
-LINE, LINES = 190, 400
+LINE, LINES = 230, 600
 # How long a definition is that stands in one line with its sentence.
-SHORT = 170
+SHORT = 240
 # How many variants or fields of a type of the code are shown.
 FEW = 12
 
@@ -258,7 +270,7 @@ class Page:
         file, made = self.made[key]
         place = Place(key, file, file.about, link_of(key))
         names = made.arguments(self.constructors)
-        place.told = sentence(made.comment, names)
+        place.told = sentence(made.comment or made.part, names)
         comments = dict(made.parts)
         for part in pieces(made):
             field = re.match(r"([^\s:(){}]+) *:(?: |$)", part) if made.members else None
@@ -305,7 +317,7 @@ def type_of(crate, module, name):
     rows = [row.strip().rstrip(",") for row in body.split("\n")]
     if found[2] == "enum":
         rows = [row for row in rows if re.match(r"[A-Z]\w*(\(.*\))?$", row)]
-        return told, " | ".join(rows) if len(rows) <= FEW else f"one of {len(rows)} variants"
+        return told, " | ".join(rows) if len(rows) <= FEW else ""
     rows = [row.removeprefix("pub ") for row in rows if re.match(r"pub \w+: ", row)]
     return told, ", ".join(rows) if len(rows) <= FEW else ""
 
@@ -322,7 +334,7 @@ def pieces(made):
         body, margin = lines[inner[0] :] if inner else [], 0
     found = []
     for line in body:
-        if len(line) - len(line.lstrip()) <= margin and line.strip() != "}":
+        if len(line) - len(line.lstrip()) <= margin and line.strip()[0] != "}":
             found.append(line.strip().removeprefix("pub "))
         elif found:
             found[-1] += " " + line.strip()
@@ -333,16 +345,21 @@ def pieces(made):
 
 
 def subject(key):
-    """The number of the section that a definition, or a type, is about: the longest name fits."""
+    """The number of the section that a definition is about, by the longest name that fits. A type
+    of the code is about none: it stands where it is cited first."""
     crate, module, name = key
-    path = "/".join((crate, *(part for part in module if part != "declared"), bare(name)))
+    if module[:1] == ("declared",):
+        return 0
+    path = "/".join((crate, *module, bare(name)))
     fitting = [
         (len(of), number)
         for number, (_, them) in enumerate(SUBJECTS)
         for of in them
         if (path + "/").startswith(of + "/")
     ]
-    return max(fitting)[1] if fitting else 0
+    if not fitting:
+        raise Missing(f"tools/from_the_top.py: no section is about {path}")
+    return max(fitting)[1]
 
 
 def set_sections(page, roots):
@@ -490,7 +507,7 @@ def body(page, place, with_links=True):
     inner = {one.key for one in place.inner}
     links = [page.link(key) for key in place.cites if key not in seen and key not in inner]
     if place.name in ENDS:
-        rows = [f"The rest of it is in [its file]({place.link})."]
+        rows = [f"Its text is in [its file]({place.link})."]
     arrow = ["→ " + ", ".join(links)] if links else []
     return rows, arrow
 
@@ -534,48 +551,54 @@ def section_lines(page, heading, groups):
     return lines + [""]
 
 
-def promise_lines(page, heading, told, clauses):
+def promise_lines(heading, told, clauses):
     """A promise: what is said of it, and its clauses as they stand."""
     lines = [f"### {heading}", "", told, ""]
     for crate, module, item, names in clauses:
         path = f"../crates/{crate}/src/{module}.rt"
-        texts = [clause_of(crate, module, item, name) for name in names]
-        lines += [f"[`{item}` of `{crate}`]({path}):", "", "```", *"\n".join(texts).split("\n"), "```", ""]
+        text = clauses_of(crate, module, item, names)
+        lines += [f"[`{item}` of `{crate}`]({path}):", "", "```", *text.split("\n"), "```", ""]
     return lines
 
 
 def other_lines(page, all_cited):
     """What the clauses of other public calls cite, a line for each crate."""
-    lines = []
-    for crate, of_crate in all_cited.items():
-        keys = dict.fromkeys(k for items in of_crate.values() for keys in items.values() for k in keys)
-        by_file = {}
-        for key in keys:
+    others = {}
+    for of_crate in all_cited.values():
+        for key in (key for items in of_crate.values() for keys in items.values() for key in keys):
             if key not in page.places and not INNER.fullmatch(key[0]):
-                by_file.setdefault(key[:2], []).append(key)
-        if by_file and not INNER.fullmatch(crate):
-            words = "; ".join(", ".join(page.link(key) for key in them) for them in by_file.values())
-            lines.append(f"- `{crate}`: {words}.")
+                others.setdefault(key[0], {}).setdefault(key[:2], {})[key] = None
+    count = sum(len(them) for by_file in others.values() for them in by_file.values())
+    lines = ["## What other calls promise", "", OTHERS.format(count), ""]
+    for crate in (crate for crate in all_cited if crate in others):
+        files = [
+            f"[{'/'.join(key[1])}]({link_of((*key, ''))}): " + ", ".join(f"`{bare(k[2])}`" for k in them)
+            for key, them in others[crate].items()
+        ]
+        lines.append(f"- `{crate}`: {'; '.join(files)}.")
     return lines
 
 
-def text_of(files, all_cited, cited_in):
-    """The text of the page. `cited_in` says what the names in a clause of a source file stand for."""
-    page = Page(files)
+def page(files, all_cited, cited_in):
+    """The page and its text. `cited_in` says what the names in a clause of a source file stand for."""
+    whole = Page(files)
     roots, promised = [], []
     for heading, told, clauses in PROMISES:
         for clause in clauses:
             roots += [key for key in cited_in(*clause) if key not in roots]
         promised.append((heading, told, clauses))
     for key in roots:
-        page.take(key)
-    set_sections(page, roots)
-    set_hosts(page, set(roots))
-    set_anchors(page)
+        whole.take(key)
+    for name in ENDS - {place.name for place in whole.places.values()}:
+        raise Missing(f"tools/from_the_top.py: nothing on the page is called {name}")
+    set_sections(whole, roots)
+    set_hosts(whole, set(roots))
+    set_anchors(whole)
     lines = HEAD.split("\n") + ["## The promises", ""]
     for heading, told, clauses in promised:
-        lines += promise_lines(page, heading, told, clauses)
-    for (heading, _), groups in zip(SUBJECTS, in_order(page, roots)):
+        lines += promise_lines(heading, told, clauses)
+    for (heading, _), groups in zip(SUBJECTS, in_order(whole, roots)):
         if groups:
-            lines += section_lines(page, heading, groups)
-    return page, lines
+            lines += section_lines(whole, heading, groups)
+    lines += other_lines(whole, all_cited)
+    return whole, "\n".join(lines).rstrip("\n") + "\n"
