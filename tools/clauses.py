@@ -8,7 +8,7 @@ import re
 
 from definitions import TOP
 
-WORD = re.compile(r"[^\s(){}\[\],;.λ]+")
+WORD = re.compile(r"[^\s(){}\[\],;λ]+")
 
 
 def blanked(text):
@@ -34,7 +34,8 @@ def closing(text, start):
 
 
 def imports(text):
-    """What the file's `ghost use` lines bring in: name, crate, module, and the name there."""
+    """What the file's `ghost use` lines bring in: for a name its crate, its module, and the name
+    there; for the name of a module, with a dot, the first two."""
     found = {}
     for path, names in re.findall(r"ghost use Rattle\.([\w.+]+)\.\{([^}]*)\}", text):
         parts = path.split(".")
@@ -43,6 +44,8 @@ def imports(text):
                 there, _, here = name.strip().partition(" as ")
                 if there:
                     found[here.strip() or there] = (parts[0], tuple(parts[2:]), there)
+    for crate, module, name in re.findall(r"ghost use Rattle\.(\w+)\.specs\.([\w.]+) as (\w+);", text):
+        found[f"{name}."] = (crate, tuple(module.split(".")))
     return found
 
 
@@ -183,6 +186,18 @@ def sources(crate):
     return [path for path in found if module_of(path)[:1] != ("tests",)]
 
 
+def meant(text, names, known):
+    """The definitions that the words of a clause name, in their order."""
+    found = []
+    for word in WORD.findall(text):
+        first, _, rest = word.partition(".")
+        keys = [names.get(name) for name in (first, f"◌{first}◌")]
+        if f"{first}." in names:
+            keys.append((*names[f"{first}."], rest.split(".")[0]))
+        found += [key for key in keys if key in known]
+    return list(dict.fromkeys(found))
+
+
 def citations(crate, known):
     """For each file and each public item of a crate, in order, what its clauses cite."""
     found = {}
@@ -192,10 +207,7 @@ def citations(crate, known):
         module = "/".join(module_of(path)) or path.stem
         for item, _, said in public_clauses(path, public):
             row = found.setdefault(module, {}).setdefault(item, [])
-            for word in WORD.findall(said):
-                for name in [word, f"◌{word}◌"]:
-                    if names.get(name) in known and names[name] not in row:
-                        row.append(names[name])
+            row += [key for key in meant(said, names, known) if key not in row]
     return found
 
 
@@ -247,8 +259,5 @@ def cited_in(known, crate, module, item, names):
     here, found = imports(text), []
     for name in names:
         *supposed, says = clauses_of(crate, module, item, [name]).split("→")
-        for word in WORD.findall(" ".join([says, *supposed])):
-            for shown in [word, f"◌{word}◌"]:
-                if here.get(shown) in known and here[shown] not in found:
-                    found.append(here[shown])
-    return found
+        found += meant(" ".join([says, *supposed]), here, known)
+    return list(dict.fromkeys(found))

@@ -18,14 +18,14 @@ HEAD = """\
 What a yes of the programs means, and what a payload is that they print: first the promises, as the
 sources have them, and then each definition that they rest on, from the top down to the octets. A
 definition has one place, after the first that cites it: its name, a sentence with the section of the
-standard, its text, where short ones that it alone cites stand below it, and after → the names in it
-that have a place of their own. Each function of `crates/*/src` is proved to keep its clauses, which
-`.ci/run` proves again from nothing ([PROVED.md](PROVED.md) says what is proved, what is only tested,
-and what is trusted: the toolchain, RSA and SHA-256, and what is handed in); everything holds unless
-memory runs out. That a definition says what its standard says is left to you, with the standard
-beside this page; where this project is narrower or wider, the sentence says that it is this project's
-own rule, and [PROFILE.md](PROFILE.md) has all of these. `tools/specification` makes the page from the
-comments in `crates/NAME/specs`; change them there.
+standard, its text, and after → the names in it and the types of its arguments that have a place of
+their own; short ones that it alone cites stand below it. Each function of `crates/*/src` is proved to
+keep its clauses, which `.ci/run` proves again from nothing ([PROVED.md](PROVED.md) says what is
+proved, what is only tested, and what is trusted: the toolchain, RSA and SHA-256, and what is handed
+in); everything holds unless memory runs out. That a definition says what its standard says is left to
+you, with the standard beside this page; where this project is narrower or wider, the sentence says
+that it is this project's own rule, and [PROFILE.md](PROFILE.md) has all of these.
+`tools/specification` makes the page from the comments in `crates/NAME/specs`; change them there.
 
 ## How it is written
 
@@ -49,6 +49,9 @@ comments in `crates/NAME/specs`; change them there.
   `C.is_signed` is which signatures the caller's cryptography calls good, and `C.digest_of` how it
   digests; `R.finds` and `F.finds` are what reads of a copy may find; `FnOnceReturnsAt F.FnOnce check_crl`
   is what the caller's `check_crl` may answer.
+- `suc n` is n + 1, `decimal n` a number as a text, `sha256` and `sha1` are the digests of FIPS 180-4.
+  These and other names without a link are those of the standard library, or of `sha2`, `sha1`, `hex`,
+  `base64` and `jiff`; the `use` lines of a file say of which.
 
 [GOOD-OBJECT.md](GOOD-OBJECT.md) has the checks of each kind of object as tables, with the text of each
 fault.
@@ -109,7 +112,7 @@ PROMISES = [
 
 # The sections: the heading, and the crates, or the files, that it is about.
 SUBJECTS = [
-    ("What is right to say", ["rpki_command", "rpki_signed", "rpki_show/Kinds", "rpki_show/Options"]),
+    ("A yes and a no", ["rpki_command", "rpki_signed", "rpki_show/Kinds", "rpki_show/Options"]),
     ("Signed objects", ["rpki_sigobj", "rpki_faults", "rpki_attributes"]),
     ("Certificates", ["rpki_certs", "rpki_extensions"]),
     ("Revocation lists", ["rpki_crls"]),
@@ -151,13 +154,18 @@ call is for what."""
 INNER = re.compile(r"rpki_examples|rpki_\w*tests|rpki_testing")
 # How long a definition may be that stands in the place of the one that cites it, and how long all
 # of these together.
-LINE, LINES = 230, 600
+LINE, LINES = 250, 700
 # How long a definition is that stands in one line with its sentence.
-SHORT = 240
-# How many variants or fields of a type of the code are shown.
+SHORT = 280
+# How many variants or fields of a type of the code are shown, and how many definitions may have an
+# argument of a type and each a link to it.
 FEW = 12
 
 WORD = re.compile(r"[^\s(){}\[\],;λ]+")
+# The standard of the sections that a file names, and a section, or several, without one.
+STANDARD = re.compile(r"(RFC \d+|X\.690|draft-[\w-]+)")
+THOSE = re.compile(r"sections?(?: named)? (?:are those|is that) of " + STANDARD.pattern)
+PLAIN = re.compile(r"(?:sections? )?(\d[\d.]*(?:(?: and | to |, )\d[\d.]*)*(?:, point [\w.]+)?)")
 # What may be a name in a comment: in backticks, or with a capital inside.
 NAME = re.compile(r"`([^`\s]+)`|(?<![\w/`.-])([A-Z][a-z]\w*[A-Z]\w*)(?![\w/`-])")
 
@@ -169,8 +177,12 @@ class Place:
         self.key, self.file, self.about, self.link = key, file, about, link
         self.name = key[2]
         self.head, self.told, self.parts = self.name, "", []
-        self.cites, self.citers, self.inner = [], [], []
+        self.cites, self.types, self.citers, self.inner = [], [], [], []
         self.section, self.anchor, self.host = None, "", None
+
+    def all_cites(self):
+        """What its text cites, and then what the types of its arguments do."""
+        return self.cites + self.types
 
     def size(self):
         return len(self.told) + sum(len(text) + len(comment) for text, comment in self.parts)
@@ -191,7 +203,7 @@ class Page:
             if made.members == "data"
             for name, _ in made.parts
         }
-        self.places, self.types = {}, {}
+        self.places, self.types, self.first = {}, {}, {}
 
     # --- names ---
 
@@ -238,7 +250,8 @@ class Page:
             seen.add(key)
             return self.link(key, match[1] or match[2])
 
-        return NAME.sub(link, text), seen
+        # (a lone backtick is one of a text)
+        return NAME.sub(link, text).replace(" ` ", " \\` "), seen
 
     def link(self, key, name=None):
         """A link to the place of a name, or to its file."""
@@ -246,6 +259,11 @@ class Page:
         if key in self.places:
             return f"[`{name}`](#{self.places[key].anchor})"
         return f"[`{name}`]({link_of(key)})"
+
+    def is_told(self, place, key):
+        """Whether a place has a link to a type of its arguments: where few have it, and the first."""
+        having = [citer for citer in self.places[key].citers if key in citer.types]
+        return len(having) <= FEW or self.first.setdefault(key, place) is place
 
     # --- what has a place ---
 
@@ -257,7 +275,7 @@ class Page:
             self.places[key] = self.type_place(key)
             return
         self.places[key] = place = self.definition_place(key)
-        for cited in place.cites:
+        for cited in place.all_cites():
             self.take(cited)
 
     def type_place(self, key):
@@ -270,22 +288,28 @@ class Page:
         file, made = self.made[key]
         place = Place(key, file, file.about, link_of(key))
         names = made.arguments(self.constructors)
-        place.told = sentence(made.comment or made.part, names)
+        place.told = sentence(with_standard(made.comment or made.part, file.about), names)
         comments = dict(made.parts)
-        for part in pieces(made):
+        head, body = pieces(made)
+        for part in body:
             field = re.match(r"([^\s:(){}]+) *:(?: |$)", part) if made.members else None
-            comment = comments.get(field[1], "") if field else ""
+            comment = with_standard(comments.get(field[1], "") if field else "", file.about)
             place.parts.append((part, sentence(comment, names)))
         if made.members:
             place.head = " ".join([made.name, *made.binders])
-        ends = made.name in ENDS
-        for part, _ in place.parts:
-            words = WORD.findall(part)[1 if made.members else 0 :]
-            for word in () if ends else words:
-                cited = self.resolved(file, word.strip("."))
-                if cited and cited != key and cited not in place.cites:
-                    place.cites.append(cited)
+        if made.name in ENDS:
+            return place
+        for part in body:
+            self.add_cited(place, place.cites, WORD.findall(part)[1 if made.members else 0 :])
+        self.add_cited(place, place.types, WORD.findall(head))
         return place
+
+    def add_cited(self, place, cites, words):
+        """Notes what the words cite."""
+        for word in words:
+            cited = self.resolved(place.file, word.strip("."))
+            if cited and cited != place.key and cited not in place.cites + place.types:
+                cites.append(cited)
 
 
 def bare(name):
@@ -323,22 +347,40 @@ def type_of(crate, module, name):
 
 
 def pieces(made):
-    """A definition, whole: its equations, or the fields of a record, without its head."""
+    """A definition: its head, with its types, and its equations, or the fields of a record."""
     lines = made.lines
-    if re.match(r"(?:pub )?(?:record|data) ", lines[0]):
-        body, margin = lines[1:] if lines[0].endswith(" where") else [], 2
+    if made.members:
+        first, margin = 1, 2
     else:
         # (an equation with a type in it is taken for the head of another definition)
-        first = 0 if re.search(r" =( |$)", lines[0]) else 1
-        inner = [at for at, line in enumerate(lines) if at >= first and line[:1] != " "]
-        body, margin = lines[inner[0] :] if inner else [], 0
+        known = 0 if re.search(r" =( |$)", lines[0]) else 1
+        first = next((at for at in range(known, len(lines)) if lines[at][:1] != " "), len(lines))
+        margin = 0
     found = []
-    for line in body:
+    for line in lines[first:]:
         if len(line) - len(line.lstrip()) <= margin and line.strip()[0] != "}":
             found.append(line.strip().removeprefix("pub "))
         elif found:
             found[-1] += " " + line.strip()
-    return found
+    return " ".join(line.strip() for line in lines[:first]), found
+
+
+def with_standard(comment, about):
+    """A comment, whose brackets name the standard of each section: that of the file, if no other."""
+    named = THOSE.search(about) or STANDARD.search(about)
+    if not named:
+        return comment
+
+    def whole(match):
+        first, *others = match[1].split(";")
+        plain = PLAIN.fullmatch(first.strip())
+        if not plain:
+            return match[0]
+        many = "s" if re.search(r" and | to |, \d", plain[1]) else ""
+        first = f"{named[1]}, section{many} {plain[1]}"
+        return "(" + ";".join([first, *others]) + ")"
+
+    return re.sub(r"\(([^()]*)\)", whole, comment)
 
 
 # --- the order ---
@@ -374,7 +416,7 @@ def set_sections(page, roots):
         if place.section is not None:
             continue
         place.section = section
-        for cited in place.cites:
+        for cited in place.all_cites():
             count += 1
             heapq.heappush(queue, (max(section, subject(cited)), count, cited))
 
@@ -382,13 +424,12 @@ def set_sections(page, roots):
 def set_hosts(page, roots):
     """Puts short definitions that a single other cites in the place of that one."""
     for place in page.places.values():
-        for cited in place.cites:
+        for cited in place.all_cites():
             page.places[cited].citers.append(place)
     for place in page.places.values():
         alone = len(place.citers) == 1 and place.key not in roots
-        if alone and place.size() <= LINE and len(place.parts) <= 2:
-            host = place.citers[0]
-            place.host = host if place.section == host.section or place.section < LAST else None
+        if alone and place.size() <= LINE and len(place.parts) <= 2 and fits(place, place.citers[0]):
+            place.host = place.citers[0]
     # Who is long itself keeps its place, and so does one in a circle.
     for place in page.places.values():
         seen = [place]
@@ -397,13 +438,20 @@ def set_hosts(page, roots):
         if seen[-1].host:
             seen[-1].host = None
     for place in page.places.values():
-        for cited in place.cites:
+        for cited in place.all_cites():
             inner = page.places[cited]
             if inner.host is place:
                 if sum(other.size() for other in hosted(place)) + inner.size() > LINES:
                     inner.host = None
                 else:
                     place.inner.append(inner)
+
+
+def fits(place, host):
+    """Whether a place may be in another one: in its section or before the last ones, and, if the
+    section of a standard may be named without it, in its file."""
+    alike = place.key[:2] == host.key[:2] or not re.search(r"\d", re.sub(r"\([^()]*\)", "", place.told))
+    return alike and (place.section == host.section or place.section < LAST)
 
 
 def hosted(place):
@@ -424,7 +472,7 @@ def in_order(page, roots):
             for place in group:
                 left.discard(place.key)
                 for one in (place, *hosted(place)):
-                    for cited in one.cites:
+                    for cited in one.all_cites():
                         order.setdefault(top(page.places[cited]).key, len(order))
         sections.append(groups)
     return sections
@@ -467,7 +515,7 @@ def reached(page, first, left, order):
     at = 0
     while at < len(queue):
         for one in (queue[at], *hosted(queue[at])):
-            for cited in one.cites:
+            for cited in one.all_cites():
                 place = top(page.places[cited])
                 near = place.file is None or group_of(place) == of_file
                 if place.key in left and near and place not in queue:
@@ -500,12 +548,13 @@ def code(text):
     return f"`` {text} ``" if "`" in text else f"`{text}`"
 
 
-def body(page, place, with_links=True):
+def body(page, place):
     """What is shown of a place below its name: its text, and links to the names in it."""
     rows = [code(text) + (f" {page.linked(place, comment)[0]}" if comment else "") for text, comment in place.parts]
     _, seen = page.linked(place, place.told + " ".join(comment for _, comment in place.parts))
     inner = {one.key for one in place.inner}
-    links = [page.link(key) for key in place.cites if key not in seen and key not in inner]
+    linked = place.cites + [key for key in place.types if page.is_told(place, key)]
+    links = [page.link(key) for key in linked if key not in seen and key not in inner]
     if place.name in ENDS:
         rows = [f"Its text is in [its file]({place.link})."]
     arrow = ["→ " + ", ".join(links)] if links else []
@@ -514,9 +563,7 @@ def body(page, place, with_links=True):
 
 def shown(page, place, group):
     """The lines of a place."""
-    told, _ = page.linked(place, place.told)
-    apart = "" if place.file and place.key[:2] == group else f" ([file]({place.link}))"
-    name = f'  - <a id="{place.anchor}"></a>**`{bare(place.head)}`**{apart} {told}'.rstrip()
+    name = "  - " + named(page, place, group)
     rows, arrow = body(page, place)
     if place.size() <= SHORT and len(rows) < 2:
         lines = [" ".join([name, *rows, *arrow])]
@@ -525,16 +572,21 @@ def shown(page, place, group):
     inner = hosted(place)
     if inner:
         lines[-1] += "<br>"
-        lines.append("    where " + "<br>".join(within(page, one) for one in inner))
+        lines.append("    where " + "<br>".join(within(page, one, group) for one in inner))
     return lines
 
 
-def within(page, place):
+def within(page, place, group):
     """A definition that stands in the place of another."""
-    told, _ = page.linked(place, place.told)
     rows, arrow = body(page, place)
-    name = f'<a id="{place.anchor}"></a>**`{bare(place.head)}`**'
-    return " ".join([name, *([told] if told else []), *rows, *arrow])
+    return " ".join([named(page, place, group), *rows, *arrow])
+
+
+def named(page, place, group):
+    """The name of a place, its file, if that is not the one of its group, and its sentence."""
+    told, _ = page.linked(place, place.told)
+    apart = "" if place.key[:2] == group else f" ([file]({place.link}))"
+    return f'<a id="{place.anchor}"></a>**`{bare(place.head)}`**{apart} {told}'.rstrip()
 
 
 def section_lines(page, heading, groups):
@@ -543,7 +595,7 @@ def section_lines(page, heading, groups):
     for group in groups:
         file = next((place for place in group if place.file), group[0])
         crate, module = file.key[:2]
-        about = file.about or ""
+        about = re.sub("  +", " ", file.about)
         label = f"{crate}: {'/'.join(part for part in module if part != 'declared') or 'Lib'}"
         lines.append(f"- {sentence(about)} [{label}]({file.link})" if about else f"- [{label}]({file.link})")
         for place in group:
@@ -551,13 +603,14 @@ def section_lines(page, heading, groups):
     return lines + [""]
 
 
-def promise_lines(heading, told, clauses):
+def promise_lines(page, heading, told, clauses):
     """A promise: what is said of it, and its clauses as they stand."""
     lines = [f"### {heading}", "", told, ""]
-    for crate, module, item, names in clauses:
+    for (crate, module, item, names), cited in clauses:
         path = f"../crates/{crate}/src/{module}.rt"
         text = clauses_of(crate, module, item, names)
         lines += [f"[`{item}` of `{crate}`]({path}):", "", "```", *text.split("\n"), "```", ""]
+        lines += ["→ " + ", ".join(page.link(key) for key in cited), ""]
     return lines
 
 
@@ -582,11 +635,11 @@ def other_lines(page, all_cited):
 def page(files, all_cited, cited_in):
     """The page and its text. `cited_in` says what the names in a clause of a source file stand for."""
     whole = Page(files)
-    roots, promised = [], []
-    for heading, told, clauses in PROMISES:
-        for clause in clauses:
-            roots += [key for key in cited_in(*clause) if key not in roots]
-        promised.append((heading, told, clauses))
+    promised = [
+        (heading, told, [(clause, cited_in(*clause)) for clause in clauses])
+        for heading, told, clauses in PROMISES
+    ]
+    roots = list(dict.fromkeys(key for _, _, them in promised for _, keys in them for key in keys))
     for key in roots:
         whole.take(key)
     for name in ENDS - {place.name for place in whole.places.values()}:
@@ -596,7 +649,7 @@ def page(files, all_cited, cited_in):
     set_anchors(whole)
     lines = HEAD.split("\n") + ["## The promises", ""]
     for heading, told, clauses in promised:
-        lines += promise_lines(heading, told, clauses)
+        lines += promise_lines(whole, heading, told, clauses)
     for (heading, _), groups in zip(SUBJECTS, in_order(whole, roots)):
         if groups:
             lines += section_lines(whole, heading, groups)
