@@ -148,8 +148,8 @@ ENDS |= {"IsTaskDone", "IsAnswer", "aspa_members", "manifest_members", "roa_memb
 LAST = len(SUBJECTS) - 2
 OTHERS = """\
 The clauses of other public calls and laws, as those that read, write, build and sign, cite {} more
-definitions. They stand, with their comments, in these files; the page CALLING.md of a crate says which
-call is for what."""
+definitions, and these cite others. They stand, with their comments, in these files; the page CALLING.md
+of a crate says which call is for what."""
 # Crates whose calls nobody else makes.
 INNER = re.compile(r"rpki_examples|rpki_\w*tests|rpki_testing")
 # How long a definition may be that stands in the place of the one that cites it, and how long all
