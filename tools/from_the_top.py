@@ -197,12 +197,13 @@ class Page:
         self.made = {
             (*at, made.name): (file, made) for at, file in self.files.items() for made in file.definitions
         }
-        self.constructors = {
-            name
-            for _, made in self.made.values()
+        self.data_of = {
+            (*key[:2], name): key
+            for key, (_, made) in self.made.items()
             if made.members == "data"
             for name, _ in made.parts
         }
+        self.constructors = {name for _, _, name in self.data_of}
         self.places, self.types, self.first = {}, {}, {}
 
     # --- names ---
@@ -215,7 +216,7 @@ class Page:
             inner = [part for part in path[3:] if part != "TheVariants"]
             return self.declared(path[0], inner[:-1], inner[-1])
         key = (path[0], tuple(path[2:]), there)
-        return key if key in self.made else None
+        return key if key in self.made else self.data_of.get(key)
 
     def declared(self, crate, module, name):
         """The key of a type of the code, or None."""
@@ -228,8 +229,8 @@ class Page:
         """The key of what a word in a file stands for, or None."""
         at = (self.crate_of[id(file)], tuple(file.module))
         for name in (word, f"◌{word}◌"):
-            if (*at, name) in self.made:
-                return (*at, name)
+            if (*at, name) in self.made or (*at, name) in self.data_of:
+                return self.data_of.get((*at, name), (*at, name))
             if name in file.used:
                 return self.meant(*file.used[name])
         first, dot, rest = word.partition(".")
@@ -300,7 +301,9 @@ class Page:
         if made.name in ENDS:
             return place
         for part in body:
-            self.add_cited(place, place.cites, WORD.findall(part)[1 if made.members else 0 :])
+            variables = bound(part)
+            words = WORD.findall(part)[1 if made.members else 0 :]
+            self.add_cited(place, place.cites, (word for word in words if word not in variables))
         self.add_cited(place, place.types, WORD.findall(head))
         return place
 
@@ -310,6 +313,14 @@ class Page:
             cited = self.resolved(place.file, word.strip("."))
             if cited and cited != place.key and cited not in place.cites + place.types:
                 cites.append(cited)
+
+
+def bound(part):
+    """The variables of an equation, or of the type of a field, that begin with a small letter."""
+    left, equals, _ = part.partition(" =")
+    words = re.findall(r"[({]([^(){}:]*) :", part) + re.findall(r"λ ([^.()]*)\.", part)
+    words += [word for word in left.split()[1:] if equals]
+    return {name for name in re.findall(r"[^\s(){}]+", " ".join(words)) if name[0].islower() and "." not in name}
 
 
 def bare(name):
