@@ -1,7 +1,7 @@
 """Writes docs/BENCHMARKS.md, its picture and four rows of README.md from what bench/run measured.
 
 What is written stands between the lines `<!-- bench/run: NAME -->` and `<!-- bench/run: end -->`.
-Each goal that was missed has to have a cause in docs/DECISIONS.md, by the words that name it here.
+Each goal that was missed has to have a cause in bench/README.md, by the words that name it here.
 """
 import re
 import statistics
@@ -534,7 +534,7 @@ def write(top, found, writes):
     else:
         for name, part in {**parts, **pages[top / "README.md"]}.items():
             print(f"\n{name}\n\n{part}")
-    wrong = list(unexplained(it, (top / "docs/DECISIONS.md").read_text()))
+    wrong = list(unexplained(it, (top / "bench/README.md").read_text()))
     for line in wrong:
-        print(f"bench: docs/DECISIONS.md: {line}")
+        print(f"bench: bench/README.md: {line}")
     return 1 if wrong else 0

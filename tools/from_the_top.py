@@ -23,7 +23,7 @@ their own; short ones that it alone cites stand below it. Each function of `crat
 keep its clauses, which `.ci/run` proves again from nothing ([PROVED.md](PROVED.md) says what is
 proved, what is only tested, and what is trusted: the toolchain, RSA and SHA-256, and what is handed
 in); everything holds unless memory runs out. That a definition says what its standard says is left to
-you, with the standard beside this page; where this project is narrower or wider, the sentence says
+you, with the standard beside this page; where this project is stricter or laxer, the sentence says
 that it is this project's own rule, and [PROFILE.md](PROFILE.md) has all of these.
 `tools/specification` makes the page from the comments in `crates/NAME/specs`; change them there.
 
