@@ -614,6 +614,13 @@ def section_lines(page, heading, groups):
     return lines + [""]
 
 
+def contents():
+    """Links to the sections."""
+    headings = ["The promises", *(heading for heading, _ in SUBJECTS), "What other calls promise"]
+    links = (f"[{it}](#{re.sub('[^a-z -]', '', it.lower()).replace(' ', '-')})" for it in headings)
+    return f"Sections: {', '.join(links)}."
+
+
 def promise_lines(page, heading, told, clauses):
     """A promise: what is said of it, and its clauses as they stand."""
     lines = [f"### {heading}", "", told, ""]
@@ -658,11 +665,10 @@ def page(files, all_cited, cited_in):
     set_sections(whole, roots)
     set_hosts(whole, set(roots))
     set_anchors(whole)
-    lines = HEAD.split("\n") + ["## The promises", ""]
+    lines = [*HEAD.split("\n"), contents(), "", "## The promises", ""]
     for heading, told, clauses in promised:
         lines += promise_lines(whole, heading, told, clauses)
     for (heading, _), groups in zip(SUBJECTS, in_order(whole, roots)):
-        if groups:
-            lines += section_lines(whole, heading, groups)
+        lines += section_lines(whole, heading, groups)
     lines += other_lines(whole, all_cited)
     return whole, "\n".join(lines).rstrip("\n") + "\n"
