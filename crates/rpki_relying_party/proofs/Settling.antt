@@ -1,9 +1,10 @@
 -- Of each key one place is settled: read, or left unread.
-use Rattle.std.proofs.Common.{◌≡◌, ◌⊎◌, inl, inr, ℕ, List, [], ◌∷◌, ◌++◌, Bool, true, false}
-use Rattle.std.proofs.Common.{Contains, map, refl, sym, subst, ap, ◌∙◌, append_assoc}
+use Rattle.std.proofs.Common.{◌≡◌, inl, inr, ℕ, List, [], ◌∷◌, ◌++◌, Bool, true, false}
+use Rattle.std.proofs.Common.{map, refl, sym, subst, ap, ◌∙◌, append_assoc}
 use Rattle.std.specs.Prelude.{◌↔◌, IsTrue, IsPermutation, bytes_eq}
 use Rattle.std.specs.List.{IsDistinct}
 use Rattle.std.proofs.lemmas.List.{map-append}
+use Rattle.std.proofs.lemmas.List.Elements.{recursion_from_All}
 use Rattle.std.proofs.lemmas.List.Sorted.{IsPermutation-sym, IsPermutation-trans}
 use Rattle.std.proofs.lemmas.List.Sorted.{IsPermutation-append_left, IsPermutation-append_right}
 use Rattle.std.proofs.lemmas.List.Sorted.{IsPermutation-append_comm, IsPermutation-middle}
@@ -15,7 +16,7 @@ use Rattle.rpki_relying_party.specs.Walk.{Read, Left, HasKey, places_read, place
 use Rattle.rpki_relying_party.specs.Walk.{places_settled}
 use Rattle.rpki_relying_party.specs.Steps.{Settles}
 use Rattle.rpki_relying_party.proofs.Lists.{contains-first, contains-rest, cons-cases}
-use Rattle.rpki_relying_party.proofs.Lists.{mapped-from, each-of}
+use Rattle.rpki_relying_party.proofs.Lists.{mapped-from, all-of}
 
 -- octets that differ are not equal by `==`
 pub differ : (a b : List ℕ) → ¬ (a ≡ b) → bytes_eq a b ≡ false
@@ -51,9 +52,10 @@ module _ {P : Type 0} (key : P → List ℕ) where
     distinct2 = IsDistinct-IsPermutation bytes_eq either-way (map key (p ∷ places))
         (map key places2) (IsPermutation-map key (p ∷ places) places2 i)
         (IsDistinct-cons bytes_eq (key p) (map key places)
-        (each-of bytes_eq (λ k. bytes_eq (key p) k ≡ false) (map key places) (λ k c.
+        (recursion_from_All (λ k. bytes_eq (key p) k ≡ false) (map key places)
+        (all-of (λ k. bytes_eq (key p) k ≡ false) (map key places) (λ k c.
         differ (key p) k (λ e. unknown ((h.keyed (key p)).1 (
-          let q = mapped-from key places k c in (q.0, q.1, q.2 ∙ sym e))))))
+        let q = mapped-from key places k c in (q.0, q.1, q.2 ∙ sym e)))))))
         h.distinct)
 
     keyed2 : (k : List ℕ) → IsTrue (settled2 k) ↔ HasKey key places2 k
@@ -63,11 +65,11 @@ module _ {P : Type 0} (key : P → List ℕ) where
         | inr s ↦ (p, contains-first p places, sym s)
       ]),
       λ w. (now k).1 (
-        let v = has-moved places2 (p ∷ places) (IsPermutation-sym (p ∷ places) places2 i) k w in
-        elim (cons-cases p (v.0) places (v.1)) [
-          | inl s ↦ inr (sym (v.2) ∙ ap key (sym s))
-          | inr c ↦ inl ((h.keyed k).1 (v.0, c, v.2))
-        ]),
+          let v = has-moved places2 (p ∷ places) (IsPermutation-sym (p ∷ places) places2 i) k w in
+          elim (cons-cases p (v.0) places (v.1)) [
+            | inl s ↦ inr (sym (v.2) ∙ ap key (sym s))
+            | inr c ↦ inl ((h.keyed k).1 (v.0, c, v.2))
+          ]),
     )
 
     pub settle : AreSettled key settled2 places2

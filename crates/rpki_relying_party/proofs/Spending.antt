@@ -11,7 +11,7 @@ use Rattle.std.specs.declared.alloc.Global.{Global}
 use Rattle.std.specs.BTreeMap.{BTreeMap, Updates, is_at}
 use Rattle.std.specs.Cmp.Lexicographic.{slice_cmp}
 use Rattle.std.specs.Map.{KeepsOthers, lookup}
-use Rattle.std.specs.Ordering.{is_eq, eq_by_cmp, nat_cmp}
+use Rattle.std.specs.Ordering.{eq_by_cmp, nat_cmp}
 use Rattle.rpki_relying_party.specs.Walk.{Try, IsSmall, spent_on}
 use Rattle.rpki_relying_party.specs.Steps.{spent_for, Spends}
 use Rattle.rpki_relying_party.proofs.Keys.{same-if}

@@ -1,9 +1,9 @@
 -- The turns of a walk keep what was read, what was left, and what waits.
 use Rattle.std.proofs.Common.{◌≡◌, ◌⊎◌, inl, inr, ℕ, ◌+◌, ◌-◌, ◌<◌, ◌≤◌, List, [], ◌∷◌, ◌++◌}
-use Rattle.std.proofs.Common.{Bool, true, false, Contains, All, map, refl, sym, subst, ap, ◌∙◌, arith}
+use Rattle.std.proofs.Common.{Bool, Contains, All, map, refl, sym, subst, ap, ◌∙◌, arith}
 use Rattle.std.proofs.Common.{length, length-append}
-use Rattle.std.specs.Prelude.{IsTrue, IsPermutation, bytes_eq, flat_map, sum_by}
-use Rattle.std.proofs.lemmas.List.{append-nil, map-append, flat_map_more}
+use Rattle.std.specs.Prelude.{IsTrue, IsPermutation, bytes_eq, flat_map}
+use Rattle.std.proofs.lemmas.List.{append-nil, flat_map_more}
 use Rattle.std.proofs.lemmas.List.Sums.{sum_by-cons, sum_by_push}
 use Rattle.std.proofs.lemmas.List.Elements.{All-nil, All-cons, All-push, All-append, All-weaker}
 use Rattle.std.proofs.lemmas.List.Elements.{All-contains, Contains-append_left}
@@ -12,7 +12,6 @@ use Rattle.std.proofs.lemmas.List.Elements.{Contains-push}
 use Rattle.std.proofs.lemmas.List.Sorted.{IsPermutation-refl, IsPermutation-sym}
 use Rattle.std.proofs.lemmas.List.Sorted.{IsPermutation-cons, All-permutation}
 use Rattle.std.proofs.lemmas.List.Sorted.{Contains-permutation, length_permutation}
-use Rattle.std.proofs.lemmas.Map.Keys.{IsDistinct-cons}
 use Rattle.std.proofs.lemmas.Map.Made.{AllPairs-from_IsDistinct}
 use Rattle.std.proofs.lemmas.Slice.Eq.{bytes_eq-Decides}
 use Rattle.rpki_relying_party.specs.declared.walk.Why.{Why}
@@ -24,13 +23,13 @@ use Rattle.rpki_relying_party.specs.Walk.{places_told, spent_on, total, first_ro
 use Rattle.rpki_relying_party.specs.Steps.{IsHeard, ArePassed, IsNext, IsLeft, IsVisit, WasLeft}
 use Rattle.rpki_relying_party.specs.Steps.{WasCut, WasRead, Settles, Spends, left_for}
 use Rattle.rpki_relying_party.proofs.Lists.{nothing, all-of, contains-first, contains-rest}
-use Rattle.rpki_relying_party.proofs.Lists.{cons-cases, contains-mapped, distinct-none, all-front}
+use Rattle.rpki_relying_party.proofs.Lists.{contains-mapped, distinct-none, all-front}
 use Rattle.rpki_relying_party.proofs.Lists.{contains-flat}
 use Rattle.rpki_relying_party.proofs.Meeting.{passed-to}
 use Rattle.rpki_relying_party.proofs.Settling.{AreSettled, differ, has-moved, settle, one-read}
 use Rattle.rpki_relying_party.proofs.Settling.{one-left, order-passed, order-settled, order-met}
 use Rattle.rpki_relying_party.proofs.Spending.{spent-fits, spent-more, spent-else, spent-grows}
-use Rattle.rpki_relying_party.proofs.Spending.{small-weaker, small-more, small-once}
+use Rattle.rpki_relying_party.proofs.Spending.{small-more, small-once}
 
 -- ---- numbers
 
@@ -102,71 +101,71 @@ module _ {P X F : Type 0} (tells : P → List X → List P → Type 0) (costs ex
       (absent : (j : List ℕ) → ¬ IsTrue (none j)) (unspent : (j : List ℕ) → spent j ≡ 0)
       (e : empty ≡ [])
       (h : IsHeard lists has k first.said first.children found found2 none settled empty waiting)
-      where
-    abbrev reads1 : List (Read P X)
-    reads1 = first ∷ []
+    where
+      abbrev reads1 : List (Read P X)
+      reads1 = first ∷ []
 
-    abbrev Untried : Read P X → Type 0
-    Untried r = IsSmall key exceeds 2 (key r.place) (spent_on key [] (key r.place))
+      abbrev Untried : Read P X → Type 0
+      Untried r = IsSmall key exceeds 2 (key r.place) (spent_on key [] (key r.place))
 
-    met : IsPermutation (first.children ++ []) waiting
-    met = subst (λ (l : List P). IsPermutation (first.children ++ l) waiting) e h.met
+      met : IsPermutation (first.children ++ []) waiting
+      met = subst (λ (l : List P). IsPermutation (first.children ++ l) waiting) e h.met
 
-    first-met : (c : P) → Contains (first.children ++ []) c → IsMet first.place reads1 c
-    first-met c i = (
-      c ∷ [],
-      (
+      first-met : (c : P) → Contains (first.children ++ []) c → IsMet first.place reads1 c
+      first-met c i = (
+        c ∷ [],
         (
-          first,
-          contains-first first [],
+          (
+            first,
+            contains-first first [],
+            refl,
+            subst (λ (l : List P). Contains l c) (append-nil first.children) i,
+          ),
           refl,
-          subst (λ (l : List P). Contains l c) (append-nil first.children) i,
         ),
-        refl,
-      ),
-    )
+      )
 
-    begun : Begun []
-    begun = record {
-      reads = reads1;
-      begun = ([], refl);
-      told = All-cons (λ r. tells r.place r.said r.children) first [] told
-          (All-nil (λ r. tells r.place r.said r.children));
-      cost = All-cons (λ r. costs r.place r.cost) first [] cost
-          (All-nil (λ r. costs r.place r.cost));
-      once = settle key none settled [] (first.place ∷ []) first.place
-          (record {
-            distinct = distinct-none bytes_eq;
-            keyed = λ j. (λ t. absurd (absent j t), λ w. absurd (nothing (w.0) (w.1)));
-          })
-          (absent (key first.place))
-          (subst (λ (j : List ℕ). Settles j none settled) its h.settles)
-          (IsPermutation-refl (first.place ∷ []));
-      passed = [];
-      over = All-nil (λ p. HasKey key (places_settled reads1 []) (key p));
-      split = IsPermutation-cons first.place (first.children ++ []) waiting met;
-      reached = All-cons (IsMet first.place reads1) first.place (first.children ++ []) ([], refl)
-          (all-of (IsMet first.place reads1) (first.children ++ []) first-met);
-      found = λ x l. elim (h.found_now x l) [
-        | inl old ↦ inl old
-        | inr now ↦ inr (first, contains-first first [], now)
-      ];
-      kept = All-cons (λ r. All (has found2) r.said) first [] h.kept
-          (All-nil (λ r. All (has found2) r.said));
-      stays = h.stays;
-      cuts = [];
-      cut = All-nil (λ t. exceeds t.place t.room);
-      counts = unspent;
-      exact = omega (arith, sum_by-cons (λ (r : Read P X). r.cost) first [], fits);
-      full = All-nil (λ u. u.why ≡ Limit → limit - first.cost ≡ 0);
-      wasted = λ j. inl refl;
-      small = inr (λ j. inl refl);
-      tried = All-cons Untried first [] (inl refl) (All-nil Untried);
-      left = All-nil (λ u. IsLastTry limit (spent_on key [] (key u.place)) u.why u.tried);
-    }
+      begun : Begun []
+      begun = record {
+        reads = reads1;
+        begun = ([], refl);
+        told = All-cons (λ r. tells r.place r.said r.children) first [] told
+            (All-nil (λ r. tells r.place r.said r.children));
+        cost = All-cons (λ r. costs r.place r.cost) first [] cost
+            (All-nil (λ r. costs r.place r.cost));
+        once = settle key none settled [] (first.place ∷ []) first.place
+            (record {
+              distinct = distinct-none bytes_eq;
+              keyed = λ j. (λ t. absurd (absent j t), λ w. absurd (nothing (w.0) (w.1)));
+            })
+            (absent (key first.place))
+            (subst (λ (j : List ℕ). Settles j none settled) its h.settles)
+            (IsPermutation-refl (first.place ∷ []));
+        passed = [];
+        over = All-nil (λ p. HasKey key (places_settled reads1 []) (key p));
+        split = IsPermutation-cons first.place (first.children ++ []) waiting met;
+        reached = All-cons (IsMet first.place reads1) first.place (first.children ++ []) ([], refl)
+            (all-of (IsMet first.place reads1) (first.children ++ []) first-met);
+        found = λ x l. elim (h.found_now x l) [
+          | inl old ↦ inl old
+          | inr now ↦ inr (first, contains-first first [], now)
+        ];
+        kept = All-cons (λ r. All (has found2) r.said) first [] h.kept
+            (All-nil (λ r. All (has found2) r.said));
+        stays = h.stays;
+        cuts = [];
+        cut = All-nil (λ t. exceeds t.place t.room);
+        counts = unspent;
+        exact = omega (arith, sum_by-cons (λ (r : Read P X). r.cost) first [], fits);
+        full = All-nil (λ u. u.why ≡ Limit → limit - first.cost ≡ 0);
+        wasted = λ j. inl refl;
+        small = inr (λ j. inl refl);
+        tried = All-cons Untried first [] (inl refl) (All-nil Untried);
+        left = All-nil (λ u. IsLastTry limit (spent_on key [] (key u.place)) u.why u.tried);
+      }
 
-    pub run-begun : unread ≡ [] → Begun unread
-    run-begun u = subst Begun (sym u) begun
+      pub run-begun : unread ≡ [] → Begun unread
+      run-begun u = subst Begun (sym u) begun
 
 module _ {P X : Type 0} (tells : P → List X → List P → Type 0) (costs exceeds : P → ℕ → Type 0)
     (key : P → List ℕ) (listed had : X → Type 0) (first : Read P X) (limit : ℕ) where

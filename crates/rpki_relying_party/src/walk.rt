@@ -77,11 +77,7 @@ fn spent_on(spent: &BTreeMap<Vec<u8>, u64>, key: &[u8]) -> u64
 }
 
 // A try of a key was cut, which had this room.
-fn count_cut(
-    spent: &mut BTreeMap<Vec<u8>, u64>,
-    key: Vec<u8>,
-    room: u64,
-) -> Result<(), AllocError>
+fn count_cut(spent: &mut BTreeMap<Vec<u8>, u64>, key: Vec<u8>, room: u64) -> Result<(), AllocError>
     requires { spent_for spent.now key.items + room < 2 ^ 64 }
     ensures { OnOk result (Spends key.items room (spent_for spent.old) (spent_for spent.new)) }
 {
@@ -285,11 +281,19 @@ pub fn walk_from<P: Places>(
 {
     let (settled, spent) = (BTreeSet::new(alloc), BTreeMap::new(alloc));
     let queue = Queue::new(alloc)?;
-    let mut front = Front { settled, spent, queue };
+    let mut front = Front {
+        settled,
+        spent,
+        queue,
+    };
     let mut unread = Vec::new(alloc);
     let mut room = limit - told.cost;
     let key = places.key(alloc, &start)?;
-    let first = Due { place: start, branch: 0, key };
+    let first = Due {
+        place: start,
+        branch: 0,
+        key,
+    };
     hear(alloc, places, first, told, &mut front, found)?;
     while let Some(due) = next_turn(alloc, places, &front.settled, &mut front.queue, room)? {
         let branch = due.branch;

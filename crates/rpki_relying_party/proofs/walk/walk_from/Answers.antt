@@ -1,5 +1,5 @@
 -- The first was read, a turn comes, and the rest is left; what follows for all chains.
-use Rattle.std.proofs.Common.{◌≡◌, ◌⊎◌, inl, ℕ, Vec, ◌∷◌, ◌++◌, ◌+◌, ◌-◌, ◌<◌, ◌≤◌, List, length, arith, refl}
+use Rattle.std.proofs.Common.{◌≡◌, ◌⊎◌, inl, ℕ, Vec, ◌∷◌, ◌++◌, ◌+◌, ◌-◌, ◌<◌, ◌≤◌, List, length, arith}
 use Rattle.std.proofs.Common.{subst, sym, ap, ◌∙◌, length-append}
 use Rattle.std.proofs.lemmas.List.Sorted.{length_permutation}
 use Rattle.std.specs.BTreeMap.{BTreeMap}
