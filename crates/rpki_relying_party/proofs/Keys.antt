@@ -23,7 +23,7 @@ has octets key = is_at (λ (k : Vec ℕ Global). slice_cmp nat_cmp octets k.item
 abbrev order : Vec ℕ Global → Vec ℕ Global → Ordering
 order x y = slice_cmp nat_cmp x.items y.items
 
-same-if : (a b : List ℕ) → is_eq (slice_cmp nat_cmp a b) ≡ true → a ≡ b
+pub same-if : (a b : List ℕ) → is_eq (slice_cmp nat_cmp a b) ≡ true → a ≡ b
 same-if a b e = exact_bytes a b ((Equal-is (slice_cmp nat_cmp a b)).0 e)
 
 itself : (a : List ℕ) → is_eq (slice_cmp nat_cmp a a) ≡ true

@@ -2,6 +2,8 @@ pub mod Lists
 pub mod Keys
 pub mod Waiting
 pub mod Meeting
+pub mod Settling
+pub mod Spending
 pub mod Walking
 pub mod Chains
 pub mod Outcomes

@@ -1,12 +1,11 @@
 -- Lists: what they contain, what is mapped, and keys that differ.
 use Rattle.std.proofs.Common.{◌≡◌, ◌<◌, ◌⊎◌, inl, inr, ℕ, zero, suc, List, [], ◌∷◌, ◌++◌, length}
-use Rattle.std.proofs.Common.{Contains, All, map, refl, sym, subst, ap, arith, get_or, Bool, false}
+use Rattle.std.proofs.Common.{Contains, All, map, refl, sym, subst, ap, arith, get_or, Bool}
 use Rattle.std.specs.Prelude.{flat_map}
-use Rattle.std.specs.List.{IsDistinct, AllByRecursion}
+use Rattle.std.specs.List.{IsDistinct}
 use Rattle.std.proofs.lemmas.List.Concat.{flat_map-cons}
-use Rattle.std.proofs.lemmas.List.Elements.{All-contains, Contains-get_or, Contains-append_cases}
+use Rattle.std.proofs.lemmas.List.Elements.{All-contains, Contains-get_or}
 use Rattle.std.proofs.lemmas.List.Elements.{Contains-append_left, Contains-append_right}
-use Rattle.std.proofs.lemmas.Map.Keys.{IsDistinct-cons, IsDistinct-head, IsDistinct-tail}
 
 pub nothing : {X : Type 0} (x : X) → Contains [] x → ⊥
 nothing x w = absurd (omega (arith, w.1))
@@ -58,41 +57,10 @@ pub distinct-none : {K : Type 0} (e : K → K → Bool) → IsDistinct e []
 unfolding IsDistinct
 distinct-none e = tt
 
--- two lists of distinct keys, of which none of the first is in the second
-module _ {K : Type 0} (e : K → K → Bool) where
-  -- what holds of whatever is contained, by recursion
-  pub each-of : (P : K → Type 0) (ks : List K) → ((k : K) → Contains ks k → P k)
-      → AllByRecursion P ks
-  each-of P [] f = tt
-  each-of P (k ∷ ks) f =
-      (f k (contains-first k ks), each-of P ks (λ x c. f x (contains-rest k x ks c)))
-
-  pub each-at : (P : K → Type 0) (ks : List K) → AllByRecursion P ks → (k : K) → Contains ks k
-      → P k
-  each-at P [] h k c = absurd (nothing k c)
-  each-at P (x ∷ ks) h k c = elim (cons-cases x k ks c) [
-    | inl s ↦ subst P s (h.0)
-    | inr r ↦ each-at P ks (h.1) k r
-  ]
-
-  pub distinct-append : (ks ls : List K) → IsDistinct e ks → IsDistinct e ls
-      → ((k l : K) → Contains ks k → Contains ls l → e k l ≡ false) → IsDistinct e (ks ++ ls)
-  distinct-append [] ls d c apart = c
-  distinct-append (k ∷ ks) ls d c apart = IsDistinct-cons e k (ks ++ ls)
-      (each-of (λ y. e k y ≡ false) (ks ++ ls) (λ y h. elim (Contains-append_cases ks ls y h) [
-        | inl here ↦ each-at (λ y. e k y ≡ false) ks (IsDistinct-head e k ks d) y here
-        | inr there ↦ apart k y (contains-first k ks) there
-      ]))
-      (distinct-append ks ls (IsDistinct-tail e k ks d) c
-      (λ x y h i. apart x y (contains-rest k x ks h) i))
-
--- what holds of each of two lists that are joined
-module _ {X : Type 0} (P : X → Type 0) (xs ys : List X) (h : All P (xs ++ ys)) where
-  pub all-front : All P xs
-  all-front = all-of P xs (λ x c. All-contains P (xs ++ ys) x h (Contains-append_left xs ys x c))
-
-  pub all-back : All P ys
-  all-back = all-of P ys (λ x c. All-contains P (xs ++ ys) x h (Contains-append_right xs ys x c))
+-- what holds of the first of two lists that are joined
+pub all-front : {X : Type 0} (P : X → Type 0) (xs ys : List X) → All P (xs ++ ys) → All P xs
+all-front P xs ys h =
+    all-of P xs (λ x c. All-contains P (xs ++ ys) x h (Contains-append_left xs ys x c))
 
 -- what one element gives is among what all give
 pub contains-flat : {X A : Type 0} (f : X → List A) (xs : List X) (x : X) (a : A) → Contains xs x

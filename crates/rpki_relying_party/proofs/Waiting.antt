@@ -121,11 +121,6 @@ module _ {P : Type 0} where
       (put-some (map place_on bs) i p q None (omega (arith, l, length-map bs (place_on {P = P})))
       (get_or-map place_on bs i d None l ∙ e))
 
-  -- what waits on one branch more
-  pub one-branch : (bs : List (Branch P)) (b : Branch P)
-      → waiting_in (b ∷ bs) ≡ somes (place_on b ∷ []) ++ waiting_in bs
-  one-branch bs b = filter_map-append (λ (o : Option P). o) (place_on b ∷ []) (map place_on bs)
-
   -- a branch is new, and then others change
   pub put-new : (bs bs2 bs3 : List (Branch P)) (b : Branch P) (p : P) → bs2 ≡ bs ++ b ∷ []
       → place_on b ≡ Some p → waiting_in bs3 ≡ waiting_in bs2

@@ -1,7 +1,8 @@
 -- The steps of a walk.
-use Rattle.std.specs.Prelude.{◌≡◌, ◌↔◌, ◌⊎◌, ℕ, ◌+◌, ◌<◌, ◌≤◌, List, [], ◌∷◌, ◌++◌, Contains, map}
-use Rattle.std.specs.Prelude.{All, Bool, IsTrue, IsPermutation, Vec}
+use Rattle.std.specs.Prelude.{◌≡◌, ◌↔◌, ◌⊎◌, ℕ, ◌+◌, ◌<◌, ◌≤◌, List, [], ◌∷◌, ◌++◌, Contains}
+use Rattle.std.specs.Prelude.{All, Bool, IsTrue, IsPermutation, Vec, bytes_eq, cond, unwrap_or}
 use Rattle.std.specs.declared.alloc.Global.{Global}
+use Rattle.std.specs.BTreeMap.{BTreeMap, get_by}
 use Rattle.std.specs.BTreeSet.{BTreeSet, contains_by}
 use Rattle.std.specs.Cmp.Lexicographic.{slice_cmp}
 use Rattle.std.specs.Ordering.{nat_cmp}
@@ -9,9 +10,8 @@ use Rattle.rpki_relying_party.specs.Walk.{Read, Left}
 use Rattle.rpki_relying_party.specs.declared.places.Reading.{Reading}
 use Rattle.rpki_relying_party.specs.declared.places.Reading.TheVariants as readings
 use Rattle.rpki_relying_party.specs.declared.places.Told.{Told}
-use Rattle.rpki_relying_party.specs.declared.walk.Waiting.{Waiting}
 use Rattle.rpki_relying_party.specs.declared.walk.Why.{Why}
-use Rattle.rpki_relying_party.specs.declared.walk.Why.TheVariants.{Limit, Memory}
+use Rattle.rpki_relying_party.specs.declared.walk.Why.TheVariants.{Memory}
 
 -- What a place tells when it is read, at the cost of reading it, one at least, within some room.
 abbrev pub IsTelling : {P X : Type 0} → (P → List X → List P → Type 0) → (P → ℕ → Type 0) → P → ℕ
@@ -35,102 +35,111 @@ pub record IsPut (key : List ℕ) (old new : List ℕ → Bool) (fresh : Bool) :
   pub was : IsTrue fresh ↔ (¬ IsTrue (old key))
   pub now : (k : List ℕ) → IsTrue (new k) ↔ (IsTrue (old k) ⊎ (k ≡ key))
 
--- a place that was read, as it told, with so much spent on tries of it before
-abbrev pub read_as : {P X : Type 0} → P → Told P X → ℕ → Read P X
-read_as p t tried = record {
-  place = p;
-  said = t.said.items;
-  children = t.children.items;
-  cost = t.cost;
-  tried = tried;
-}
+-- The key is settled now, and each that was.
+abbrev pub Settles : List ℕ → (List ℕ → Bool) → (List ℕ → Bool) → Type 0
+Settles key old new = (k : List ℕ) → IsTrue (new k) ↔ (IsTrue (old k) ⊎ (k ≡ key))
 
--- a place that waits, on which so much was spent
-abbrev pub waits_with : {P : Type 0} → P → ℕ → Waiting P
-waits_with p tried = record { place = p; tried = tried }
+-- how much was spent on tries of this key
+abbrev pub spent_for : BTreeMap (Vec ℕ Global) ℕ → List ℕ → ℕ
+spent_for spent octets = unwrap_or (get_by (λ k. slice_cmp nat_cmp octets k.items) spent) 0
 
--- a place, left unread for this after so much work
+-- So much more was spent on tries of the key, and of no other.
+abbrev pub Spends : List ℕ → ℕ → (List ℕ → ℕ) → (List ℕ → ℕ) → Type 0
+Spends key room old new = (k : List ℕ) → new k ≡ old k + cond (bytes_eq key k) room 0
+
+-- a place that was read, as it told
+abbrev pub read_as : {P X : Type 0} → P → Told P X → Read P X
+read_as p t =
+    record { place = p; said = t.said.items; children = t.children.items; cost = t.cost }
+
+-- a place, left unread for this after a last try that took so much
 abbrev pub left_for : {P : Type 0} → P → Why → ℕ → Left P
 left_for p why tried = record { place = p; why = why; tried = tried }
 
--- a place that waits, left unread for the limit
-abbrev pub limited : {P : Type 0} → Waiting P → Left P
-limited w = left_for w.place Limit w.tried
+-- These wait in addition.
+abbrev pub AreMet : {P : Type 0} → List P → List P → List P → Type 0
+AreMet children waiting waiting2 = IsPermutation (children ++ waiting) waiting2
 
--- These wait in addition, on which nothing was spent.
-abbrev pub AreMet : {P : Type 0} → List P → List (Waiting P) → List (Waiting P) → Type 0
-AreMet children waiting waiting2 =
-    IsPermutation (map (λ c. waits_with c 0) children ++ waiting) waiting2
-
--- A place was read: its key is among the keys, what it said was found, and its children wait.
-pub record IsHeard {P X F : Type 0} (key : P → List ℕ) (lists has : F → X → Type 0) (p : P)
-    (said : List X) (children : List P) (found found2 : F) (old new : List ℕ → Bool)
-    (waiting waiting2 : List (Waiting P)) : Type 0 where
-  pub keyed : (k : List ℕ) → IsTrue (new k) ↔ (IsTrue (old k) ⊎ (k ≡ key p))
+-- A place with this key was read: the key is settled, what the place said was found, and its
+-- children wait.
+pub record IsHeard {P X F : Type 0} (lists has : F → X → Type 0) (k : List ℕ) (said : List X)
+    (children : List P) (found found2 : F) (settled settled2 : List ℕ → Bool)
+    (waiting waiting2 : List P) : Type 0 where
+  pub settles : Settles k settled settled2
   pub found_now : (x : X) → lists found2 x → lists found x ⊎ Contains said x
   pub stays : (x : X) → has found x → has found2 x
   pub kept : All (has found2) said
   pub met : AreMet children waiting waiting2
 
--- Some of those that waited were passed over, since their keys were read; the others wait.
-pub record ArePassed {P : Type 0} (key : P → List ℕ) (keys : List ℕ → Bool)
-    (waiting waiting2 : List (Waiting P)) : Type 0 where
-  pub passed : List (Waiting P)
-  pub over : All (λ w. IsTrue (keys (key w.place))) passed
+-- Some of those that waited were passed over, since their keys were settled; the others wait.
+pub record ArePassed {P : Type 0} (key : P → List ℕ) (settled : List ℕ → Bool)
+    (waiting waiting2 : List P) : Type 0 where
+  pub passed : List P
+  pub over : All (λ p. IsTrue (settled (key p))) passed
   pub split : IsPermutation waiting (passed ++ waiting2)
 
--- Those that wait are left unread for the limit, but for those whose keys were read.
-pub record AreLeft {P : Type 0} (key : P → List ℕ) (keys : List ℕ → Bool)
-    (waiting : List (Waiting P)) (old new : List (Left P)) : Type 0 where
-  pub left : List (Waiting P)
-  pub others : All (λ w. ¬ IsTrue (keys (key w.place))) left
-  pub passed : ArePassed key keys waiting left
-  pub now : new ≡ old ++ map (λ w. limited w) left
+-- The next place, with its key, is one of those that waited whose keys are not settled. Those before
+-- it are passed over.
+pub record IsNext {P : Type 0} (key : P → List ℕ) (settled : List ℕ → Bool)
+    (waiting waiting2 : List P) (p : P) (k : List ℕ) : Type 0 where
+  pub passed : ArePassed key settled waiting (p ∷ waiting2)
+  pub its : k ≡ key p
+  pub unsettled : ¬ IsTrue (settled k)
 
--- A place was left unread for want of memory: all the room was spent, and nothing was met or found.
-pub record WasLeft {P F : Type 0} (w : Waiting P) (room spent : ℕ) (found found2 : F)
-    (unread unread2 : List (Left P)) (old new : List ℕ → Bool)
-    (waiting waiting2 : List (Waiting P)) : Type 0 where
-  pub left : unread2 ≡ unread ++ left_for w.place Memory (w.tried + room) ∷ []
-  pub all : spent ≡ room
+-- A place with this key was left unread for this, after a last try that took so much: the key is
+-- settled.
+pub record IsLeft {P : Type 0} (p : P) (k : List ℕ) (why : Why) (tried : ℕ)
+    (unread unread2 : List (Left P)) (settled settled2 : List ℕ → Bool) : Type 0 where
+  pub settles : Settles k settled settled2
+  pub now : unread2 ≡ unread ++ left_for p why tried ∷ []
+
+-- It was left for want of memory: all the room was spent, and nothing was met or found.
+pub record WasLeft {P F : Type 0} (p : P) (k : List ℕ) (room done : ℕ) (found found2 : F)
+    (unread unread2 : List (Left P)) (settled settled2 : List ℕ → Bool)
+    (spent spent2 : List ℕ → ℕ) (waiting waiting2 : List P) : Type 0 where
+  pub left : IsLeft p k Memory room unread unread2 settled settled2
+  pub all : done ≡ room
   pub same_found : found2 ≡ found
-  pub same_keys : new ≡ old
+  pub same_spent : spent2 ≡ spent
   pub same_waiting : waiting2 ≡ waiting
 
--- The reading of a place was cut: all the room was spent, and it waits again.
-pub record WasCut {P F : Type 0} (exceeds : P → ℕ → Type 0) (w : Waiting P) (room spent : ℕ)
-    (found found2 : F) (unread unread2 : List (Left P)) (old new : List ℕ → Bool)
-    (waiting waiting2 : List (Waiting P)) : Type 0 where
-  pub more : exceeds w.place room
-  pub waits : IsPermutation (waits_with w.place (w.tried + room) ∷ waiting) waiting2
-  pub all : spent ≡ room
+-- Its reading was cut: all the room was spent on a try of the key, and the place waits again.
+pub record WasCut {P F : Type 0} (exceeds : P → ℕ → Type 0) (p : P) (k : List ℕ)
+    (room done : ℕ) (found found2 : F) (unread unread2 : List (Left P))
+    (settled settled2 : List ℕ → Bool) (spent spent2 : List ℕ → ℕ)
+    (waiting waiting2 : List P) : Type 0 where
+  pub more : exceeds p room
+  pub waits : IsPermutation (p ∷ waiting) waiting2
+  pub spends : Spends k room spent spent2
+  pub all : done ≡ room
   pub same_found : found2 ≡ found
-  pub same_keys : new ≡ old
+  pub same_settled : settled2 ≡ settled
   pub same_left : unread2 ≡ unread
 
--- A place was read: what it said was found, and its children were met.
+-- It was read: what it said was found, and its children were met.
 pub record WasRead {P X F : Type 0} (tells : P → List X → List P → Type 0) (costs : P → ℕ → Type 0)
-    (key : P → List ℕ) (lists has : F → X → Type 0) (p : P) (room spent : ℕ)
-    (found found2 : F) (unread unread2 : List (Left P)) (old new : List ℕ → Bool)
-    (waiting waiting2 : List (Waiting P)) : Type 0 where
+    (lists has : F → X → Type 0) (p : P) (k : List ℕ) (room done : ℕ)
+    (found found2 : F) (unread unread2 : List (Left P)) (settled settled2 : List ℕ → Bool)
+    (spent spent2 : List ℕ → ℕ) (waiting waiting2 : List P) : Type 0 where
   pub said : List X
   pub children : List P
   pub told : tells p said children
-  pub cost : costs p spent
-  pub some : 0 < spent
-  pub fits : spent ≤ room
+  pub cost : costs p done
+  pub some : 0 < done
+  pub fits : done ≤ room
   pub none_left : unread2 ≡ unread
-  pub heard : IsHeard key lists has p said children found found2 old new waiting waiting2
+  pub same_spent : spent2 ≡ spent
+  pub heard : IsHeard lists has k said children found found2 settled settled2 waiting waiting2
 
--- The turn of a place came: it was left unread, waits again, or was read.
+-- The turn of a place with this key came: it was left unread, waits again, or was read.
 abbrev pub IsVisit : {P X F : Type 0} → (P → List X → List P → Type 0) → (P → ℕ → Type 0)
-    → (P → ℕ → Type 0)
-    → (P → List ℕ) → (F → X → Type 0) → (F → X → Type 0) → Waiting P → ℕ → ℕ → F → F
-    → List (Left P) → List (Left P) → (List ℕ → Bool) → (List ℕ → Bool) → List (Waiting P)
-    → List (Waiting P) → Type 0
-IsVisit tells costs exceeds key lists has w room n found found2 unread unread2 old new waiting
-    waiting2 =
-    WasLeft w room n found found2 unread unread2 old new waiting waiting2
-    ⊎ (WasCut exceeds w room n found found2 unread unread2 old new waiting waiting2
-    ⊎ WasRead tells costs key lists has w.place room n found found2 unread unread2 old new waiting
-    waiting2)
+    → (P → ℕ → Type 0) → (F → X → Type 0) → (F → X → Type 0) → P → List ℕ → ℕ → ℕ → F → F
+    → List (Left P) → List (Left P) → (List ℕ → Bool) → (List ℕ → Bool) → (List ℕ → ℕ)
+    → (List ℕ → ℕ) → List P → List P → Type 0
+IsVisit tells costs exceeds lists has p k room n found found2 unread unread2 settled settled2 spent
+    spent2 waiting waiting2 =
+    WasLeft p k room n found found2 unread unread2 settled settled2 spent spent2 waiting waiting2
+    ⊎ (WasCut exceeds p k room n found found2 unread unread2 settled settled2 spent spent2 waiting
+    waiting2
+    ⊎ WasRead tells costs lists has p k room n found found2 unread unread2 settled settled2 spent
+    spent2 waiting waiting2)

@@ -1,25 +1,28 @@
 -- A walk over places: what was read, and what was left unread.
 use Rattle.std.specs.Prelude.{◌≡◌, ◌≢◌, ◌⊎◌, ℕ, ◌+◌, ◌*◌, ◌/◌, ◌<◌, ◌≤◌, List, ◌∷◌, ◌++◌, Contains}
-use Rattle.std.specs.Prelude.{All, AllPairs, IsPermutation, flat_map, map, sum_by}
+use Rattle.std.specs.Prelude.{All, AllPairs, IsPermutation, bytes_eq, cond, flat_map, map, sum_by}
 use Rattle.rpki_relying_party.specs.Paths.{Leads}
-use Rattle.rpki_relying_party.specs.declared.walk.Waiting.{Waiting}
 use Rattle.rpki_relying_party.specs.declared.walk.Why.{Why}
 use Rattle.rpki_relying_party.specs.declared.walk.Why.TheVariants.{Limit, Memory}
 
--- a place that was read: what it said, its children, how much work that was, and how much was spent
--- before on tries of it, each of which was cut
+-- a place that was read: what it said, its children, and how much work that was
 pub record Read (P X : Type 0) : Type 0 where
   pub place : P
   pub said : List X
   pub children : List P
   pub cost : ℕ
-  pub tried : ℕ
 
--- a place that was met and not read, and how much work was spent on it before it was left
+-- a place that was met and left unread, and how much its last try took, for which there was no
+-- memory
 pub record Left (P : Type 0) : Type 0 where
   pub place : P
   pub why : Why
   pub tried : ℕ
+
+-- a try of a place that was cut, and the room that it had, all of which was spent
+pub record Try (P : Type 0) : Type 0 where
+  pub place : P
+  pub room : ℕ
 
 -- the places that were read
 abbrev pub places_read : {P X : Type 0} → List (Read P X) → List P
@@ -29,21 +32,24 @@ places_read reads = map (λ r. r.place) reads
 abbrev pub places_left : {P : Type 0} → List (Left P) → List P
 places_left unread = map (λ u. u.place) unread
 
--- the places that wait
-abbrev pub places_waiting : {P : Type 0} → List (Waiting P) → List P
-places_waiting waiting = map (λ w. w.place) waiting
+-- the places that were read, and those that were left unread
+abbrev pub places_settled : {P X : Type 0} → List (Read P X) → List (Left P) → List P
+places_settled reads unread = places_read reads ++ places_left unread
 
 -- the start, and the children that were told, each as often as it was
 abbrev pub places_told : {P X : Type 0} → P → List (Read P X) → List P
 places_told start reads = start ∷ flat_map (λ r. r.children) reads
 
--- how much work all was: the reads and the tries before them, and what was spent on those that were
--- left and on those that were passed over
-abbrev pub total : {P X : Type 0} → List (Read P X) → List (Left P) → List (Waiting P) → ℕ
-total reads unread passed = sum_by (λ r. r.cost + r.tried) reads
-    + (sum_by (λ u. u.tried) unread + sum_by (λ w. w.tried) passed)
+-- how much was spent on cut tries of places with this key
+abbrev pub spent_on : {P : Type 0} → (P → List ℕ) → List (Try P) → List ℕ → ℕ
+spent_on key cuts k = sum_by (λ t. cond (bytes_eq (key t.place) k) t.room 0) cuts
 
--- how much a place may cost at its first try
+-- how much work all was: the reads, the tries for which there was no memory, and those that were cut
+abbrev pub total : {P X : Type 0} → List (Read P X) → List (Left P) → List (Try P) → ℕ
+total reads unread cuts =
+    sum_by (λ r. r.cost) reads + (sum_by (λ u. u.tried) unread + sum_by (λ t. t.room) cuts)
+
+-- how much a place may cost at the first try of its key
 abbrev pub first_room : ℕ → ℕ
 first_room limit = limit / 8192 + 1
 
@@ -60,17 +66,18 @@ IsMet {P} start reads p = (path : List P) × Leads (IsToldChild reads) start pat
 abbrev pub HasKey : {P : Type 0} → (P → List ℕ) → List P → List ℕ → Type 0
 HasKey {P} key places k = (p : P) × Contains places p × (key p ≡ k)
 
--- Nothing was spent on the place, or no more than so many times what reading it exceeds.
-abbrev pub IsSmall : {P : Type 0} → (P → ℕ → Type 0) → ℕ → P → ℕ → Type 0
-IsSmall exceeds times p tried = (tried ≡ 0) ⊎ ((n : ℕ) × exceeds p n × (tried ≤ times * n))
+-- Nothing was spent on tries of places with the key, or at most so many times what reading one of
+-- them exceeds.
+abbrev pub IsSmall : {P : Type 0} → (P → List ℕ) → (P → ℕ → Type 0) → ℕ → List ℕ → ℕ → Type 0
+IsSmall {P} key exceeds times k spent = (spent ≡ 0)
+    ⊎ ((p : P) × (n : ℕ) × (key p ≡ k) × exceeds p n × (spent ≤ times * n))
 
--- What was spent on a place that was left for this: little beside what reading it costs, and where
--- memory was wanting also a last try, with as much again and the first room.
-abbrev pub IsSpent : {P : Type 0} → (P → ℕ → Type 0) → ℕ → P → ℕ → Why → Type 0
-IsSpent exceeds limit p tried Limit = IsSmall exceeds 3 p tried
-IsSpent exceeds limit p tried Memory =
-    (before : ℕ) × IsSmall exceeds 2 p before × (before < tried)
-    × (tried ≤ 2 * before + first_room limit)
+-- How much the last try of a place took that was left for this: there was none, where no work was
+-- left for it; where memory was wanting, it had as much room as cut tries of its key had taken, and
+-- the first room, at most.
+abbrev pub IsLastTry : ℕ → ℕ → Why → ℕ → Type 0
+IsLastTry limit spent Limit tried = tried ≡ 0
+IsLastTry limit spent Memory tried = (0 < tried) × (tried ≤ spent + first_room limit)
 
 -- What was read, this first, and what was found and left unread then.
 pub record IsWalk {P X : Type 0} (tells : P → List X → List P → Type 0)
@@ -79,29 +86,29 @@ pub record IsWalk {P X : Type 0} (tells : P → List X → List P → Type 0)
     (unread : List (Left P)) : Type 0 where
   pub reads : List (Read P X)
   pub begun : (rest : List (Read P X)) × (reads ≡ first ∷ rest)
-  -- those that waited until one with their key was read
-  pub passed : List (Waiting P)
-  pub over : All (λ w. HasKey key (places_read reads) (key w.place)) passed
-  -- each told what it tells, and cost what it costs; of each key one was read
+  -- each told what it tells, and cost what it costs
   pub told : All (λ r. tells r.place r.said r.children) reads
   pub cost : All (λ r. costs r.place r.cost) reads
-  pub once : AllPairs (λ k l. k ≢ l) (map key (places_read reads))
+  -- of each key one place was read or left, and others were passed over
+  pub once : AllPairs (λ k l. k ≢ l) (map key (places_settled reads unread))
+  pub passed : List P
+  pub over : All (λ p. HasKey key (places_settled reads unread) (key p)) passed
   -- all that was met was read, left or passed over: the start, and each child of what was read
-  pub split : IsPermutation (places_told first.place reads)
-      (places_read reads ++ (places_left unread ++ places_waiting passed))
-  pub met : All (IsMet first.place reads) (places_read reads ++ places_left unread)
-  pub closed : All (λ r. All (λ c. HasKey key (places_read reads ++ places_left unread) (key c))
-      r.children) reads
+  pub split : IsPermutation (places_told first.place reads) (places_settled reads unread ++ passed)
+  pub met : All (IsMet first.place reads) (places_settled reads unread)
+  pub closed : All (λ r. All (λ c. HasKey key (places_settled reads unread) (key c)) r.children)
+      reads
   -- what was said was found, and nothing else
   pub found : (x : X) → lists x → listed x ⊎ ((r : Read P X) × Contains reads r × Contains r.said x)
   pub kept : All (λ r. All has r.said) reads
   pub stays : (x : X) → had x → has x
-  -- all work was within the limit; a place was left for it only where it was spent, and where no
-  -- place with its key was read
-  pub within : total reads unread passed ≤ limit
-  pub full : All (λ u. u.why ≡ Limit → total reads unread passed ≡ limit) unread
-  pub fresh : All (λ u. u.why ≡ Limit → ¬ HasKey key (places_read reads) (key u.place)) unread
-  -- what was spent on tries of a place is little beside what reading it costs
-  pub tried : All (λ r. IsSmall exceeds 2 r.place r.tried) reads
-  pub left : All (λ u. IsSpent exceeds limit u.place u.tried u.why) unread
-  pub wasted : All (λ w. IsSmall exceeds 3 w.place w.tried) passed
+  -- all work was within the limit, and a place was left for it only where it was spent
+  pub cuts : List (Try P)
+  pub cut : All (λ t. exceeds t.place t.room) cuts
+  pub within : total reads unread cuts ≤ limit
+  pub full : All (λ u. u.why ≡ Limit → total reads unread cuts ≡ limit) unread
+  -- what was spent on tries of a key is little beside what reading one of its places costs, however
+  -- often it was told
+  pub wasted : (k : List ℕ) → IsSmall key exceeds 3 k (spent_on key cuts k)
+  pub tried : All (λ r. IsSmall key exceeds 2 (key r.place) (spent_on key cuts (key r.place))) reads
+  pub left : All (λ u. IsLastTry limit (spent_on key cuts (key u.place)) u.why u.tried) unread

@@ -4,8 +4,8 @@
 //! branch that has cost least so far, from the first place down: so a branch waits as soon as it
 //! has cost more than those beside it. No proof says so; that no place is lost is proved.
 
-ghost use Rattle.std.specs.Prelude.{◌≡◌, ◌∷◌, ◌++◌, [], MatchOption, IfOk, OnOk, IsPermutation};
-ghost use Rattle.rpki_relying_party.specs.Queue.{place_on, somes, waiting_in, TakesNone};
+ghost use Rattle.std.specs.Prelude.{◌≡◌, ◌∷◌, [], MatchOption, IfOk, OnOk, IsPermutation};
+ghost use Rattle.rpki_relying_party.specs.Queue.{waiting_in, TakesNone};
 
 use std::alloc::{AllocError, Global};
 use std::collections::BTreeSet;
@@ -100,17 +100,6 @@ impl<P: Drop> Queue<P> {
         ensures { self.new ≡ self.old }
     {
         spend_on(&mut self.branches, branch, cost)
-    }
-
-    /// The places that wait, branch by branch.
-    pub fn into_waiting(self, alloc: Global) -> Result<Vec<P>, AllocError>
-        ensures { IfOk result (λ waiting. waiting.items ≡ self) }
-    {
-        let mut waiting = Vec::new(alloc);
-        for branch in self.branches {
-            push_waiting(branch, &mut waiting)?;
-        }
-        Ok(waiting)
     }
 }
 
@@ -276,20 +265,4 @@ fn raise<P: Drop>(branches: &mut Vec<Branch<P>>, at: usize, cost: u64) -> Result
     set_open(branches, parent, (before, at), false)?;
     set_open(branches, parent, (after, at), is_open)?;
     Ok(parent)
-}
-
-// Puts the place that waits on a branch, if one does, at the end of others.
-fn push_waiting<P: Drop>(branch: Branch<P>, waiting: &mut Vec<P>) -> Result<(), AllocError>
-    ensures { OnOk result (waiting.new.items
-        ≡ waiting.old.items ++ somes (place_on branch ∷ [])) }
-{
-    let Branch { place, open, .. } = branch;
-    drop(open);
-    match place {
-        None => Ok(()),
-        Some(place) => {
-            waiting.push(Box::into_inner(place))?;
-            Ok(())
-        }
-    }
 }

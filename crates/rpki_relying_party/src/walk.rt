@@ -1,16 +1,17 @@
-//! A walk over places, of each key of which one is read.
+//! A walk over places, of each key of which one is read or left unread.
 
-ghost use Rattle.std.specs.Prelude.{◌≡◌, ◌⊎◌, ℕ, ◌<◌, ◌≤◌, ◌∷◌, [], List, Contains, IfOk, OnOk};
-ghost use Rattle.std.specs.Prelude.{All, ◌++◌, ◌+◌, ◌/◌, ◌^◌, IsTrue, IsPermutation, MatchOption};
+ghost use Rattle.std.specs.Prelude.{◌≡◌, ◌⊎◌, ℕ, ◌<◌, ◌≤◌, ◌∷◌, [], List, IfOk, OnOk};
+ghost use Rattle.std.specs.Prelude.{◌+◌, ◌/◌, ◌^◌, IsTrue, IsPermutation, MatchOption};
 ghost use Rattle.rpki_relying_party.specs.Paths.{IsSaid, IsFound, IsChild, Leads, TellsOne, Passes};
 ghost use Rattle.rpki_relying_party.specs.Walk.{IsWalk, places_left, first_room};
-ghost use Rattle.rpki_relying_party.specs.Steps.{has_key, left_for, read_as, IsPut, IsTelling};
-ghost use Rattle.rpki_relying_party.specs.Steps.{AreMet, IsHeard, ArePassed, AreLeft, IsVisit};
+ghost use Rattle.rpki_relying_party.specs.Steps.{has_key, spent_for, read_as, IsTelling};
+ghost use Rattle.rpki_relying_party.specs.Steps.{Settles, Spends, AreMet, IsHeard, ArePassed};
+ghost use Rattle.rpki_relying_party.specs.Steps.{IsNext, IsLeft, IsVisit};
 
 use crate::places::{Places, Reading, Told};
 use crate::queue::{Queue, Turn};
 use std::alloc::{AllocError, Global};
-use std::collections::BTreeSet;
+use std::collections::{BTreeMap, BTreeSet};
 use std::marker::Model;
 
 /// Why a place was left unread.
@@ -22,12 +23,13 @@ pub enum Why {
     Memory,
 }
 
-/// A place that was met and not read.
+/// A place that was met and left unread.
 #[derive(Drop)]
 pub struct Unread<P> {
     pub place: P,
     pub why: Why,
-    /// How much work was spent on it before it was left: none, where it was not tried.
+    /// How much of the limit its last try took, for which there was no memory: none, where it was
+    /// left for the limit.
     pub tried: u64,
 }
 
@@ -39,40 +41,49 @@ impl<P> Model for Unread<P> {
     ghost view = { λ u. record { place = u.place; why = u.why; tried = u.tried } };
 }
 
-/// A place that waits to be read.
-#[derive(Drop)]
-pub struct Waiting<P> {
-    pub place: P,
-    /// How much work was spent on tries of it so far, each of which was cut.
-    pub tried: u64,
-}
-
-// The keys of the places that were read, and the places that wait.
+// The keys of the places that were read or left, how much was spent on cut tries of each key, and
+// the places that wait.
 #[derive(Drop)]
 struct Front<P> {
-    keys: BTreeSet<Vec<u8>>,
-    queue: Queue<Waiting<P>>,
+    settled: BTreeSet<Vec<u8>>,
+    spent: BTreeMap<Vec<u8>, u64>,
+    queue: Queue<P>,
 }
 
-// Puts a key to the keys: whether it was not among them.
-fn put_key(keys: &mut BTreeSet<Vec<u8>>, key: Vec<u8>) -> Result<bool, AllocError>
-    ensures { IfOk result (λ fresh.
-        IsPut key.items (has_key keys.old) (has_key keys.new) fresh) }
-{
-    Ok(keys.insert(key)?)
+// A place whose turn it is, its branch and its key.
+#[derive(Drop)]
+struct Due<P> {
+    place: P,
+    branch: usize,
+    key: Vec<u8>,
 }
 
-// Whether a place with the key of this one was read.
-fn was_read<P: Places>(
-    alloc: Global,
-    places: &P,
-    place: &P::Place,
-    keys: &BTreeSet<Vec<u8>>,
-) -> Result<bool, AllocError>
-    ensures { IfOk result (λ was. was ≡ has_key keys.now (P.key_of places.now place.now)) }
+// A place with this key is read or left.
+fn settle(settled: &mut BTreeSet<Vec<u8>>, key: Vec<u8>) -> Result<(), AllocError>
+    ensures { OnOk result (Settles key.items (has_key settled.old) (has_key settled.new)) }
 {
-    let key = places.key(alloc, place)?;
-    Ok(keys.contains(&key))
+    settled.insert(key)?;
+    Ok(())
+}
+
+// How much was spent on cut tries of a key.
+fn spent_on(spent: &BTreeMap<Vec<u8>, u64>, key: &[u8]) -> u64
+    ensures { result ≡ spent_for spent.now key.now }
+{
+    match spent.get(key) {
+        None => 0,
+        Some(spent) => *spent,
+    }
+}
+
+// A try of a key was cut, which had this room.
+fn count_cut(spent: &mut BTreeMap<Vec<u8>, u64>, key: Vec<u8>, room: u64) -> Result<(), AllocError>
+    requires { spent_for spent.now key.items + room < 2 ^ 64 }
+    ensures { OnOk result (Spends key.items room (spent_for spent.old) (spent_for spent.new)) }
+{
+    let now = spent_on(spent, key.as_slice()) + room;
+    spent.insert(key, now)?;
+    Ok(())
 }
 
 // These places are met, of which the one on this branch told, and wait.
@@ -80,47 +91,51 @@ fn meet_all<P: Drop>(
     alloc: Global,
     children: Vec<P>,
     told_by: usize,
-    queue: &mut Queue<Waiting<P>>,
+    queue: &mut Queue<P>,
 ) -> Result<(), AllocError>
     ensures { OnOk result (AreMet children.items queue.old queue.new) }
 {
     for place in children {
-        queue.put(alloc, Waiting { place, tried: 0 }, told_by)?;
+        queue.put(alloc, place, told_by)?;
     }
     Ok(())
 }
 
-// A place on this branch was read, and told this.
+// A place was read, and told this.
 fn hear<P: Places>(
     alloc: Global,
     places: &P,
-    place: P::Place,
+    due: Due<P::Place>,
     told: Told<P::Place, P::Finding>,
-    branch: usize,
     front: &mut Front<P::Place>,
     found: &mut P::Found,
 ) -> Result<(), AllocError>
-    ensures { OnOk result (IsHeard (P.key_of places.now) P.lists P.has place told.said.items
-        told.children.items found.old found.new (has_key front.old.keys) (has_key front.new.keys)
+    ensures heard { OnOk result (IsHeard P.lists P.has due.key.items told.said.items told.children.items
+        found.old found.new (has_key front.old.settled) (has_key front.new.settled)
         front.old.queue front.new.queue) }
+    ensures spent { OnOk result (front.new.spent ≡ front.old.spent) }
 {
+    let Due { place, branch, key } = due;
     let Told { said, children, .. } = told;
-    let key = places.key(alloc, &place)?;
     drop(place);
-    put_key(&mut front.keys, key)?;
+    settle(&mut front.settled, key)?;
     places.keep(alloc, said, found)?;
     meet_all(alloc, children, branch, &mut front.queue)
 }
 
-// A place is left unread, on which so much was spent.
+// A place is left unread, after a last try that took so much.
 fn leave<P: Drop>(
-    place: P,
+    due: Due<P>,
     why: Why,
     tried: u64,
+    settled: &mut BTreeSet<Vec<u8>>,
     unread: &mut Vec<Unread<P>>,
 ) -> Result<(), AllocError>
-    ensures { OnOk result (unread.new.items ≡ unread.old.items ++ left_for place why tried ∷ []) }
+    ensures { OnOk result (IsLeft due.place due.key.items why tried unread.old.items
+        unread.new.items (has_key settled.old) (has_key settled.new)) }
 {
+    let Due { place, key, .. } = due;
+    settle(settled, key)?;
     unread.push(Unread { place, why, tried })?;
     Ok(())
 }
@@ -129,61 +144,55 @@ fn leave<P: Drop>(
 fn visit<P: Places>(
     alloc: Global,
     places: &P,
-    turn: Turn<Waiting<P::Place>>,
+    due: Due<P::Place>,
     room: u64,
     front: &mut Front<P::Place>,
     found: &mut P::Found,
     unread: &mut Vec<Unread<P::Place>>,
 ) -> Result<u64, AllocError>
-    requires { turn.place.tried + room < 2 ^ 64 }
-    ensures { IfOk result (λ spent. IsVisit (P.tells places.now) (P.costs places.now)
-        (P.exceeds places.now) (P.key_of places.now) P.lists P.has turn.place room spent
-        found.old found.new unread.old.items unread.new.items (has_key front.old.keys)
-        (has_key front.new.keys) front.old.queue front.new.queue) }
+    requires { spent_for front.now.spent due.key.items + room < 2 ^ 64 }
+    ensures { IfOk result (λ done. IsVisit (P.tells places.now) (P.costs places.now)
+        (P.exceeds places.now) P.lists P.has due.place due.key.items room done found.old found.new
+        unread.old.items unread.new.items (has_key front.old.settled) (has_key front.new.settled)
+        (spent_for front.old.spent) (spent_for front.new.spent) front.old.queue front.new.queue) }
 {
-    let Turn { place, branch } = turn;
-    let Waiting { place, tried } = place;
-    match places.read(alloc, &place, room) {
+    match places.read(alloc, &due.place, room) {
         Err(_) => {
-            leave(place, Why::Memory, tried + room, unread)?;
+            leave(due, Why::Memory, room, &mut front.settled, unread)?;
             Ok(room)
         }
         Ok(Reading::Cut) => {
-            let tried = tried + room;
-            let waiting = Waiting { place, tried };
-            front.queue.put_back(alloc, waiting, branch)?;
+            let Due { place, branch, key } = due;
+            count_cut(&mut front.spent, key, room)?;
+            front.queue.put_back(alloc, place, branch)?;
             Ok(room)
         }
         Ok(Reading::Told(told)) => {
             let cost = told.cost;
-            hear(alloc, places, place, told, branch, front, found)?;
+            hear(alloc, places, due, told, front, found)?;
             Ok(cost)
         }
     }
 }
 
-// The place whose turn it is, of those whose keys were not read, where there is room to read one.
-// The others are passed over.
-fn next_turn<P: Places>(
+// The place whose turn it is, of those whose keys are not settled. The others are passed over.
+fn next_due<P: Places>(
     alloc: Global,
     places: &P,
-    keys: &BTreeSet<Vec<u8>>,
-    queue: &mut Queue<Waiting<P::Place>>,
-    room: u64,
-) -> Result<Option<Turn<Waiting<P::Place>>>, AllocError>
+    settled: &BTreeSet<Vec<u8>>,
+    queue: &mut Queue<P::Place>,
+) -> Result<Option<Due<P::Place>>, AllocError>
     ensures { IfOk result (λ next. MatchOption next
-        (ArePassed (P.key_of places.now) (has_key keys.now) queue.old queue.new
-        × ((room ≡ 0) ⊎ (queue.new ≡ [])))
-        (λ turn. ArePassed (P.key_of places.now) (has_key keys.now) queue.old
-        (turn.place ∷ queue.new) × (¬ IsTrue (has_key keys.now
-        (P.key_of places.now turn.place.place))) × (0 < room))) }
+        (ArePassed (P.key_of places.now) (has_key settled.now) queue.old queue.new
+        × (queue.new ≡ []))
+        (λ due. IsNext (P.key_of places.now) (has_key settled.now) queue.old queue.new due.place
+        due.key.items)) }
 {
-    if room == 0 {
-        return Ok(None);
-    }
     while let Some(turn) = queue.take() {
-        if !was_read(alloc, places, &turn.place.place, keys)? {
-            return Ok(Some(turn));
+        let key = places.key(alloc, &turn.place)?;
+        if !settled.contains(&key) {
+            let Turn { place, branch } = turn;
+            return Ok(Some(Due { place, branch, key }));
         }
         queue.spend(turn.branch, 0)?;
         drop(turn);
@@ -191,68 +200,56 @@ fn next_turn<P: Places>(
     Ok(None)
 }
 
-// The room for a try: as much again as was spent on the place, and the first room, so that it
+// The place whose turn it is, where there is room to read one.
+fn next_turn<P: Places>(
+    alloc: Global,
+    places: &P,
+    settled: &BTreeSet<Vec<u8>>,
+    queue: &mut Queue<P::Place>,
+    room: u64,
+) -> Result<Option<Due<P::Place>>, AllocError>
+    ensures { IfOk result (λ next. MatchOption next
+        (ArePassed (P.key_of places.now) (has_key settled.now) queue.old queue.new
+        × ((room ≡ 0) ⊎ (queue.new ≡ [])))
+        (λ due. IsNext (P.key_of places.now) (has_key settled.now) queue.old queue.new due.place
+        due.key.items × (0 < room))) }
+{
+    if room == 0 {
+        return Ok(None);
+    }
+    next_due(alloc, places, settled, queue)
+}
+
+// The room for a try: as much again as was spent on tries of the key, and the first room, so that it
 // doubles from try to try; no more than is left.
-fn room_for(tried: u64, limit: u64, left: u64) -> u64
+fn room_for(spent: u64, limit: u64, left: u64) -> u64
     requires { 0 < left }
     ensures some { 0 < result }
     ensures within { result ≤ left }
-    ensures small { result ≤ tried + first_room limit }
-    ensures grows { (result ≡ left) ⊎ (tried < result) }
+    ensures small { result ≤ spent + first_room limit }
+    ensures grows { (result ≡ left) ⊎ (spent < result) }
 {
-    let wanted = tried.saturating_add(limit / 8192 + 1);
+    let wanted = spent.saturating_add(limit / 8192 + 1);
     if left < wanted { left } else { wanted }
 }
 
-// One that waits is left unread, unless its key was read.
-fn leave_one<P: Places>(
-    alloc: Global,
-    places: &P,
-    waiting: Waiting<P::Place>,
-    keys: &BTreeSet<Vec<u8>>,
-    unread: &mut Vec<Unread<P::Place>>,
-) -> Result<(), AllocError>
-    ensures { OnOk result (AreLeft (P.key_of places.now) (has_key keys.now) (waiting ∷ [])
-        unread.old.items unread.new.items) }
-{
-    if was_read(alloc, places, &waiting.place, keys)? {
-        drop(waiting);
-        return Ok(());
-    }
-    leave(waiting.place, Why::Limit, waiting.tried, unread)
-}
-
-// Those that wait are left unread, but for those whose keys were read.
-fn leave_all<P: Places>(
-    alloc: Global,
-    places: &P,
-    front: Front<P::Place>,
-    unread: &mut Vec<Unread<P::Place>>,
-) -> Result<(), AllocError>
-    ensures { OnOk result (AreLeft (P.key_of places.now) (has_key front.keys) front.queue
-        unread.old.items unread.new.items) }
-{
-    let Front { keys, queue } = front;
-    for waiting in queue.into_waiting(alloc)? {
-        leave_one(alloc, places, waiting, &keys, unread)?;
-    }
-    Ok(())
-}
-
 /// Walks on from a place that was read within the limit, and told this: reads its children, theirs,
-/// and so on, of each key one. What the places say is put to `found`; the answer is the places that
-/// were met and left unread.
+/// and so on. What the places say is put to `found`; the answer is the places that were met and left
+/// unread.
 ///
-/// All work together is at most `limit`. A place is first tried with room for an 8192nd part of it,
-/// and one. Each time that its reading is cut it waits again, and then has twice the room, though
-/// never more than is left. What is spent on such tries counts: for a place that is read in the end
-/// it is at most twice what reading it exceeds, and for one that is left for the limit at most three
-/// times that. A place is left for it only where the whole limit is spent. One for which memory is
-/// wanting is left at once, and all its room counts as spent.
+/// Of each key one place is read, or left unread. Other places with the key are passed over,
+/// whichever place told of them. One is left for the limit only where the whole limit is spent. One
+/// for which memory is wanting is left at once, and all its room counts as spent.
 ///
-/// A place that is told waits, even where its key was met before: it is passed over once a place
-/// with its key was read, on whichever branch. So memory is in proportion to the number of children
-/// that all places told which were read, each as often as it was told.
+/// All work together is at most `limit`. A key is first tried with room for an 8192nd part of it,
+/// and one. A place whose reading is cut waits again. What was spent on that belongs to its key: the
+/// next try of a place with the key has as much room as all before, and the first room, though never
+/// more than is left. So tries that are cut cost each key at most twice what reading one of its
+/// places exceeds, or three times where none of them is read, however often it is told.
+///
+/// A place that is told waits, even where its key was met before. So memory is in proportion to the
+/// number of children that all places told which were read, each as often as it was told, and to the
+/// keys of the places that were read, cut or left.
 ///
 /// What is new in `found` is said by a place to which a chain of children leads from the start.
 /// Where places with one key tell one thing, whenever they are read, something alike to all that a
@@ -272,7 +269,7 @@ pub fn walk_from<P: Places>(
     requires { IsTelling (P.tells places.now) (P.costs places.now) start limit told }
     ensures reads { IfOk result (λ unread. IsWalk (P.tells places.now) (P.costs places.now)
         (P.exceeds places.now) (P.key_of places.now) (P.lists found.old) (P.lists found.new)
-        (P.has found.old) (P.has found.new) (read_as start told 0) limit unread.items) }
+        (P.has found.old) (P.has found.new) (read_as start told) limit unread.items) }
     ensures sound { OnOk result ((x : P.Finding) → P.lists found.new x
         → P.lists found.old x ⊎ IsSaid (P.tells places.now) start x) }
     ensures complete { IfOk result (λ unread.
@@ -282,19 +279,34 @@ pub fn walk_from<P: Places>(
         → IsFound (P.tells places.now) P.alike (P.has found.new) p
         ⊎ Passes (P.key_of places.now) (places_left unread.items) start path) }
 {
-    let keys = BTreeSet::new(alloc);
+    let (settled, spent) = (BTreeSet::new(alloc), BTreeMap::new(alloc));
     let queue = Queue::new(alloc)?;
-    let mut front = Front { keys, queue };
+    let mut front = Front {
+        settled,
+        spent,
+        queue,
+    };
     let mut unread = Vec::new(alloc);
     let mut room = limit - told.cost;
-    hear(alloc, places, start, told, 0, &mut front, found)?;
-    while let Some(turn) = next_turn(alloc, places, &front.keys, &mut front.queue, room)? {
-        let branch = turn.branch;
-        let allowed = room_for(turn.place.tried, limit, room);
-        let spent = visit(alloc, places, turn, allowed, &mut front, found, &mut unread)?;
-        front.queue.spend(branch, spent)?;
-        room -= spent;
+    let key = places.key(alloc, &start)?;
+    let first = Due {
+        place: start,
+        branch: 0,
+        key,
+    };
+    hear(alloc, places, first, told, &mut front, found)?;
+    while let Some(due) = next_turn(alloc, places, &front.settled, &mut front.queue, room)? {
+        let branch = due.branch;
+        let allowed = room_for(spent_on(&front.spent, due.key.as_slice()), limit, room);
+        let done = visit(alloc, places, due, allowed, &mut front, found, &mut unread)?;
+        front.queue.spend(branch, done)?;
+        room -= done;
     }
-    leave_all(alloc, places, front, &mut unread)?;
+    while let Some(due) = next_due(alloc, places, &front.settled, &mut front.queue)? {
+        let branch = due.branch;
+        leave(due, Why::Limit, 0, &mut front.settled, &mut unread)?;
+        front.queue.spend(branch, 0)?;
+    }
+    drop(front);
     Ok(unread)
 }

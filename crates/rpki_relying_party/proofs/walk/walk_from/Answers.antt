@@ -1,10 +1,15 @@
 -- The first was read, a turn comes, and the rest is left; what follows for all chains.
-use Rattle.std.proofs.Common.{◌∷◌, ◌-◌, List, arith, refl, subst, sym}
-use Rattle.rpki_relying_party.specs.declared.walk.Waiting.{Waiting}
-use Rattle.rpki_relying_party.specs.Steps.{has_key, read_as}
+use Rattle.std.proofs.Common.{◌≡◌, ◌⊎◌, inl, ℕ, Vec, ◌∷◌, ◌++◌, ◌+◌, ◌-◌, ◌<◌, ◌≤◌, List, length, arith}
+use Rattle.std.proofs.Common.{subst, sym, ap, ◌∙◌, length-append}
+use Rattle.std.proofs.lemmas.List.Sorted.{length_permutation}
+use Rattle.std.specs.BTreeMap.{BTreeMap}
+use Rattle.std.specs.declared.alloc.Global.{Global}
+use Rattle.rpki_relying_party.specs.Walk.{first_room}
+use Rattle.rpki_relying_party.specs.Steps.{has_key, read_as, spent_for}
 use Rattle.rpki_relying_party.proofs.Keys.{none-has}
+use Rattle.rpki_relying_party.proofs.Spending.{none-spent}
 use Rattle.rpki_relying_party.proofs.Walking.{IsRun, run-begun, run-passed, run-fits, run-visit}
-use Rattle.rpki_relying_party.proofs.Walking.{run-closed}
+use Rattle.rpki_relying_party.proofs.Walking.{run-limited, run-ended}
 use Rattle.rpki_relying_party.proofs.Chains as laws
 use Rattle.rpki_relying_party.proofs.walk.walk_from.Goals as goal
 
@@ -13,26 +18,28 @@ loop-unread-init g c =
     run-begun (g.P.Places.tells c.args.places.now) (g.P.Places.costs c.args.places.now)
     (g.P.Places.exceeds c.args.places.now)
     (g.P.Places.key_of c.args.places.now) g.P.Places.lists g.P.Places.has c.args.found.now
-    c.hear.new.found (read_as c.args.start c.args.told 0) c.args.limit c.new-unread.result.items
-    (has_key c.new-keys.result) (has_key c.hear.new.front.keys) c.in_ok-queue.queue
-    c.hear.new.front.queue refl (c.requires.0) (c.requires.1) (c.requires.3)
-    (none-has c.new-keys.result c.new-keys.ensures.empty) c.in_ok-queue.ensures
-    c.in_ok-hear.ensures c.new-unread.ensures.items
+    c.hear.new.found (read_as c.args.start c.args.told) c.args.limit c.new-unread.result.items
+    (has_key c.new-settled.result) (has_key c.hear.new.front.settled)
+    (spent_for c.hear.new.front.spent) c.in_ok-queue.queue c.hear.new.front.queue
+    c.in_ok-key.key.items c.in_ok-key.ensures (c.requires.0) (c.requires.1) (c.requires.3)
+    (none-has c.new-settled.result c.new-settled.ensures.empty)
+    (none-spent c.hear.new.front.spent (ap (λ (m : BTreeMap (Vec ℕ Global) ℕ). m.entries)
+    c.in_ok-hear.ensures.spent ∙ c.new-spent.ensures.empty))
+    c.in_ok-queue.ensures c.in_ok-hear.ensures.heard c.new-unread.ensures.items
 
 pub visit-requires : goal.visit-requires
 visit-requires g c =
-    let n = rw c.in-Some.is at c.in_ok-turn.ensures in
     omega (
       arith,
       c.ranges.limit.fits,
       run-fits (g.P.Places.tells c.args.places.now) (g.P.Places.costs c.args.places.now)
           (g.P.Places.exceeds c.args.places.now)
           (g.P.Places.key_of c.args.places.now) (g.P.Places.lists c.args.found.now)
-          (g.P.Places.has c.args.found.now) (read_as c.args.start c.args.told 0) c.args.limit
+          (g.P.Places.has c.args.found.now) (read_as c.args.start c.args.told) c.args.limit
           (g.P.Places.lists c.loop-unread.found) (g.P.Places.has c.loop-unread.found)
-          c.loop-unread.room c.loop-unread.unread.items (has_key c.loop-unread.front.keys)
-          c.loop-unread.front.queue c.next_turn.new.queue c.in-Some.turn.place
-          c.room_for-allowed.result c.loop-unread.invariant (n.0)
+          c.loop-unread.room c.loop-unread.unread.items (has_key c.loop-unread.front.settled)
+          (spent_for c.loop-unread.front.spent) c.loop-unread.front.queue
+          c.in-Some.due.key.items c.room_for-allowed.result c.loop-unread.invariant
           c.room_for-allowed.ensures.within,
     )
 
@@ -44,35 +51,102 @@ loop-unread-preserved g c =
     let key = g.P.Places.key_of c.args.places.now in
     let lists = g.P.Places.lists in
     let has = g.P.Places.has in
-    let first = read_as c.args.start c.args.told 0 in
-    let n = rw c.in-Some.is at c.in_ok-turn.ensures in
-    subst (λ (q : List (Waiting g.row.P-Place.Denot)). IsRun tells costs exceeds key
+    let first = read_as c.args.start c.args.told in
+    let spent = spent_for c.loop-unread.front.spent in
+    let n = rw c.in-Some.is at c.in_ok-due.ensures in
+    let same : c.spent_on.result ≡ spent c.in-Some.due.key.items =
+    c.spent_on.ensures ∙ ap spent c.as_slice.ensures.value in
+    subst (λ (q : List g.row.P-Place.Denot). IsRun tells costs exceeds key
     (lists c.args.found.now) (lists c.visit.new.found) (has c.args.found.now)
-    (has c.visit.new.found) first c.args.limit (c.loop-unread.room - c.in_ok-spent.spent)
-    c.visit.new.unread.items (has_key c.visit.new.front.keys) q) (sym c.spend.ensures)
+    (has c.visit.new.found) first c.args.limit (c.loop-unread.room - c.in_ok-done.done)
+    c.visit.new.unread.items (has_key c.visit.new.front.settled)
+    (spent_for c.visit.new.front.spent) q) (sym c.spend.ensures)
     (run-visit tells costs exceeds key (lists c.args.found.now) (has c.args.found.now) first
     c.args.limit lists has c.loop-unread.found c.visit.new.found c.loop-unread.room
-    c.loop-unread.unread.items c.visit.new.unread.items (has_key c.loop-unread.front.keys)
-    (has_key c.visit.new.front.keys) c.in-Some.turn.place c.next_turn.new.queue
-    c.visit.new.front.queue c.room_for-allowed.result c.in_ok-spent.spent
-    (run-passed tells costs exceeds key (lists c.args.found.now) (has c.args.found.now) first
-    c.args.limit (lists c.loop-unread.found) (has c.loop-unread.found) c.loop-unread.room
-    c.loop-unread.unread.items (has_key c.loop-unread.front.keys) c.loop-unread.front.queue
-    (c.in-Some.turn.place ∷ c.next_turn.new.queue) c.loop-unread.invariant (n.0)) (n.1)
-    c.room_for-allowed.ensures.some c.room_for-allowed.ensures.within
-    c.room_for-allowed.ensures.small c.room_for-allowed.ensures.grows c.in_ok-spent.ensures)
+    c.loop-unread.unread.items c.visit.new.unread.items (has_key c.loop-unread.front.settled)
+    (has_key c.visit.new.front.settled) spent (spent_for c.visit.new.front.spent)
+    c.in-Some.due.place c.in-Some.due.key.items c.next_turn.new.queue c.loop-unread.front.queue
+    c.visit.new.front.queue c.room_for-allowed.result c.in_ok-done.done c.loop-unread.invariant
+    (n.0) c.room_for-allowed.ensures.some c.room_for-allowed.ensures.within
+    (subst (λ (m : ℕ). c.room_for-allowed.result ≤ m + first_room c.args.limit) same
+    c.room_for-allowed.ensures.small)
+    (subst (λ (m : ℕ). (c.room_for-allowed.result ≡ c.loop-unread.room)
+    ⊎ (m < c.room_for-allowed.result)) same c.room_for-allowed.ensures.grows)
+    c.in_ok-done.ensures)
+
+pub loop-unread-2-init : goal.loop-unread-2-init
+loop-unread-2-init g c =
+    let n = rw c.in_default.is at c.in_ok-due.ensures in record {
+      run = run-passed (g.P.Places.tells c.args.places.now) (g.P.Places.costs c.args.places.now)
+          (g.P.Places.exceeds c.args.places.now)
+          (g.P.Places.key_of c.args.places.now) (g.P.Places.lists c.args.found.now)
+          (g.P.Places.has c.args.found.now) (read_as c.args.start c.args.told) c.args.limit
+          (g.P.Places.lists c.loop-unread.found) (g.P.Places.has c.loop-unread.found)
+          c.loop-unread.room c.loop-unread.unread.items (has_key c.loop-unread.front.settled)
+          (spent_for c.loop-unread.front.spent) c.loop-unread.front.queue c.next_turn.new.queue
+          c.loop-unread.invariant (n.0);
+      stop = n.1;
+    }
+
+pub loop-unread-2-smaller : goal.loop-unread-2-smaller
+loop-unread-2-smaller g c =
+    let n = rw c.in-Some-2.is at c.in_ok-due-2.ensures in
+    omega (
+      arith,
+      length_permutation c.loop-unread-2.front.queue
+          (n.passed.passed ++ c.in-Some-2.due.place ∷ c.next_due.new.queue) n.passed.split,
+      length-append n.passed.passed (c.in-Some-2.due.place ∷ c.next_due.new.queue),
+      ap (λ (q : List g.row.P-Place.Denot). length q) c.spend-in-Some-2.ensures,
+    )
+
+pub loop-unread-2-preserved : goal.loop-unread-2-preserved
+loop-unread-2-preserved g c =
+    let tells = g.P.Places.tells c.args.places.now in
+    let costs = g.P.Places.costs c.args.places.now in
+    let exceeds = g.P.Places.exceeds c.args.places.now in
+    let key = g.P.Places.key_of c.args.places.now in
+    let lists = g.P.Places.lists in
+    let has = g.P.Places.has in
+    let first = read_as c.args.start c.args.told in
+    let n = rw c.in-Some-2.is at c.in_ok-due-2.ensures in
+    let h = run-limited tells costs exceeds key (lists c.args.found.now) (has c.args.found.now)
+    first c.args.limit (lists c.loop-unread.found) (has c.loop-unread.found) c.loop-unread.room
+    c.loop-unread-2.unread.items c.leave.new.unread.items (has_key c.loop-unread-2.front.settled)
+    (has_key c.leave.new.settled) (spent_for c.loop-unread-2.front.spent)
+    c.loop-unread-2.front.queue c.next_due.new.queue c.in-Some-2.due.place
+    c.in-Some-2.due.key.items c.loop-unread-2.invariant.run c.loop-unread-2.invariant.stop n
+    c.in_ok-leave.ensures in record {
+      run = subst (λ (q : List g.row.P-Place.Denot). IsRun tells costs exceeds key
+          (lists c.args.found.now) (lists c.loop-unread.found) (has c.args.found.now)
+          (has c.loop-unread.found) first c.args.limit c.loop-unread.room
+          c.leave.new.unread.items (has_key c.leave.new.settled)
+          (spent_for c.loop-unread-2.front.spent) q) (sym c.spend-in-Some-2.ensures) (h.0);
+      stop = inl (h.1);
+    }
 
 the-walk : goal.returns-clause-reads
 the-walk g c =
-    let n = rw c.in_default.is at c.in_ok-turn.ensures in
-    run-closed (g.P.Places.tells c.args.places.now) (g.P.Places.costs c.args.places.now)
-    (g.P.Places.exceeds c.args.places.now)
-    (g.P.Places.key_of c.args.places.now) (g.P.Places.lists c.args.found.now)
-    (g.P.Places.has c.args.found.now) (read_as c.args.start c.args.told 0) c.args.limit
-    (g.P.Places.lists c.loop-unread.found) (g.P.Places.has c.loop-unread.found)
-    c.loop-unread.room c.loop-unread.unread.items (has_key c.loop-unread.front.keys)
-    c.loop-unread.front.queue c.next_turn.new.queue c.loop-unread.invariant (n.0)
-    c.leave_all.new.unread.items (n.1) c.in_ok-leave_all.ensures
+    let tells = g.P.Places.tells c.args.places.now in
+    let costs = g.P.Places.costs c.args.places.now in
+    let exceeds = g.P.Places.exceeds c.args.places.now in
+    let key = g.P.Places.key_of c.args.places.now in
+    let lists = g.P.Places.lists in
+    let has = g.P.Places.has in
+    let first = read_as c.args.start c.args.told in
+    let n = rw c.in_default-2.is at c.in_ok-due-2.ensures in
+    run-ended tells costs exceeds key (lists c.args.found.now) (has c.args.found.now) first
+    c.args.limit (lists c.loop-unread.found) (has c.loop-unread.found) c.loop-unread.room
+    c.loop-unread-2.unread.items (has_key c.loop-unread-2.front.settled)
+    (spent_for c.loop-unread-2.front.spent)
+    (subst (λ (q : List g.row.P-Place.Denot). IsRun tells costs exceeds key
+    (lists c.args.found.now) (lists c.loop-unread.found) (has c.args.found.now)
+    (has c.loop-unread.found) first c.args.limit c.loop-unread.room c.loop-unread-2.unread.items
+    (has_key c.loop-unread-2.front.settled) (spent_for c.loop-unread-2.front.spent) q) (n.1)
+    (run-passed tells costs exceeds key (lists c.args.found.now) (has c.args.found.now) first
+    c.args.limit (lists c.loop-unread.found) (has c.loop-unread.found) c.loop-unread.room
+    c.loop-unread-2.unread.items (has_key c.loop-unread-2.front.settled)
+    (spent_for c.loop-unread-2.front.spent) c.loop-unread-2.front.queue c.next_due.new.queue
+    c.loop-unread-2.invariant.run (n.0)))
 
 pub returns-clause-reads : goal.returns-clause-reads
 returns-clause-reads g c = the-walk g c
@@ -83,8 +157,8 @@ returns-clause-sound g c =
     (g.P.Places.exceeds c.args.places.now)
     (g.P.Places.key_of c.args.places.now) (g.P.Places.lists c.args.found.now)
     (g.P.Places.lists c.loop-unread.found) (g.P.Places.has c.args.found.now)
-    (g.P.Places.has c.loop-unread.found) (read_as c.args.start c.args.told 0) c.args.limit
-    c.leave_all.new.unread.items (the-walk g c)
+    (g.P.Places.has c.loop-unread.found) (read_as c.args.start c.args.told) c.args.limit
+    c.loop-unread-2.unread.items (the-walk g c)
 
 pub returns-clause-complete : goal.returns-clause-complete
 returns-clause-complete g c = λ one.
@@ -92,5 +166,5 @@ returns-clause-complete g c = λ one.
     (g.P.Places.exceeds c.args.places.now)
     (g.P.Places.key_of c.args.places.now) (g.P.Places.lists c.args.found.now)
     (g.P.Places.lists c.loop-unread.found) (g.P.Places.has c.args.found.now)
-    (g.P.Places.has c.loop-unread.found) (read_as c.args.start c.args.told 0) c.args.limit
-    c.leave_all.new.unread.items (the-walk g c) g.P.Places.alike one
+    (g.P.Places.has c.loop-unread.found) (read_as c.args.start c.args.told) c.args.limit
+    c.loop-unread-2.unread.items (the-walk g c) g.P.Places.alike one

@@ -1,8 +1,0 @@
--- The key is there now, and all others that were.
-use Rattle.rpki_relying_party.proofs.Keys.{is-put}
-use Rattle.rpki_relying_party.proofs.walk.put_key.Goals as goal
-
-pub returns : goal.returns
-returns c =
-    is-put c.args.key c.args.keys.now c.insert.new.self c.in_ok-insert.field-0
-    c.in_ok-insert.ensures.added c.in_ok-insert.ensures.keys
