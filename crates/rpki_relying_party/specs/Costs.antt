@@ -53,24 +53,22 @@ ChildCosts s ca list uri octets n =
     ((v : Validated) × HoldsCa s ca list uri octets v × (n ≡ waiting_cost v))
     ⊎ (((v : Validated) → ¬ HoldsCa s ca list uri octets v) × (n ≡ 0))
 
--- What is spent on a listed file that the copy has: on its octets, and on the place that it holds,
--- so much.
-abbrev pub JudgedCosts : Setting → UriAndHash → (List ℕ → ℕ → Type 0) → ℕ → Type 0
-JudgedCosts s file Child n = (octets : List ℕ) × (m : ℕ) × Has s file octets
-    × Child octets m × (n ≡ found_cost (Ok octets) + m)
+-- What is spent on a listed file that the copy has: on its octets, and on the place that they hold.
+abbrev pub JudgedCosts : Setting → Validated → RevocationList → UriAndHash → ℕ → Type 0
+JudgedCosts s ca list file n = (octets : List ℕ) × (m : ℕ) × Has s file octets
+    × ChildCosts s ca list (file.0) octets m × (n ≡ found_cost (Ok octets) + m)
 
 -- What is spent on a listed file that is there. On the revocation list, which has the first of
 -- these URIs, nothing is spent: it was read before.
 abbrev pub FileCosts : Setting → Validated → List ℕ → RevocationList → UriAndHash → ℕ → Type 0
 FileCosts s ca list_uri list file n =
-    ((file.0 ≡ list_uri) × (n ≡ 0))
-    ⊎ ((¬ (file.0 ≡ list_uri)) × JudgedCosts s file (ChildCosts s ca list (file.0)) n)
+    ((file.0 ≡ list_uri) × (n ≡ 0)) ⊎ ((¬ (file.0 ≡ list_uri)) × JudgedCosts s ca list file n)
 
 -- What is spent on some first steps with a listed file: on looking for it, on reading it, or on
 -- all.
 abbrev pub FileStarts : Setting → Validated → List ℕ → RevocationList → UriAndHash → ℕ → Type 0
-FileStarts s ca list_uri list file n = (¬ (file.0 ≡ list_uri))
-    × (ReadStarts s (file.0) n ⊎ JudgedCosts s file (ChildCosts s ca list (file.0)) n)
+FileStarts s ca list_uri list file n =
+    (¬ (file.0 ≡ list_uri)) × (ReadStarts s (file.0) n ⊎ JudgedCosts s ca list file n)
 
 -- What is spent on a listed file that refuses the point.
 abbrev pub LostCosts : Setting → List ℕ → UriAndHash → ℕ → Type 0
