@@ -1,7 +1,7 @@
 -- A number is looked up by halves.
-use Rattle.std.proofs.Common.{◌≡◌, ◌↔◌, ℕ, ◌<◌, Bool, List, length, Contains}
+use Rattle.std.proofs.Common.{◌≡◌, ◌↔◌, ℕ, ◌<◌, List, length, Contains}
 use Rattle.std.proofs.Common.{get_or, Result, Ok, Err, is_ok, IsTrue, Ordering, Less, Equal}
-use Rattle.std.proofs.Common.{Greater, arith, refl, sym, subst, true≢false}
+use Rattle.std.proofs.Common.{Greater, arith, refl, sym, true≢false}
 use Rattle.std.specs.List.Sorted.{IsPermutation, IsSorted, IsBinarySearchResult, IsSearchInRange}
 use Rattle.std.specs.List.Sorted.{IsPartitionPoint}
 use Rattle.std.specs.Ordering.{nat_cmp, MatchOrdering}
