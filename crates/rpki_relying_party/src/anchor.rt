@@ -70,13 +70,11 @@ fn read_uri<R: Repository>(
         (λ octets. R.finds copy.now (uri_text uri.now) (Ok octets))
         (λ why. LacksFor (R.finds copy.now) why uri.now)) }
 {
-    Ok(
-        match copy.read(alloc, uri.as_str().as_bytes(), u64::MAX)? {
-            Fetched::File(octets) => Ok(octets),
-            Fetched::NoFile(why) => Err(why),
-            Fetched::Larger => Err(NoFile::TooLarge),
-        },
-    )
+    Ok(match copy.read(alloc, uri.as_str().as_bytes(), u64::MAX)? {
+        Fetched::File(octets) => Ok(octets),
+        Fetched::NoFile(why) => Err(why),
+        Fetched::Larger => Err(NoFile::TooLarge),
+    })
 }
 
 // Whether a certificate has the key of a locator.

@@ -1,4 +1,4 @@
-use Rattle.std.proofs.Common.{◌≡◌, ◌≤◌, ◌+◌, ◌-◌, ◌^◌, min, rules, length, arith}
+use Rattle.std.proofs.Common.{◌≡◌, ◌+◌, ◌-◌, ◌^◌, min, rules, length, arith}
 use Rattle.std.specs.Io.Take.{take_limit}
 use Rattle.rpki_relying_party.specs.Folders.{IsFew}
 use Rattle.rpki_relying_party.proofs.Copies.{all-read}
