@@ -50,7 +50,7 @@ pub trait Repository {
     ghost use Rattle.rpki_relying_party.specs.declared.copy.NoFile.{NoFile};
 
     // What a read of a URI may find: octets, or why there are none. Of a folder, which may change
-    // at any time, anything may be found; a copy in memory finds one thing for each URI.
+    // at any time, that may be many things; a copy in memory finds one thing for each URI.
     ghost finds: { Self → List ℕ → Result (List ℕ) NoFile → Type 0 };
 
     /// What there is for a URI, or that memory ran out. A file is read if it has at most so many

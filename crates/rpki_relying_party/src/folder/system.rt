@@ -31,8 +31,8 @@ pub const MAX_FILE: u64 = 20_000_000;
 ///
 /// Someone who may write to the folder while it is read can put another file in place of one between
 /// the question and the opening, such as a link, which is followed then, or a named pipe, which the
-/// system waits for. Once open, a file is asked again, and of one that grows while it is read one
-/// octet more is read than it may have or than are asked for, and it is no answer.
+/// system waits for. Once open, a file is asked again, and one octet is read at most beyond what it
+/// may have and what is asked for.
 #[derive(Drop)]
 pub struct SystemFolders<'a, R> {
     /// What reaches the system.
