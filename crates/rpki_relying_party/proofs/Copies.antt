@@ -1,7 +1,7 @@
 -- Reads of folders.
 use Rattle.std.proofs.Common.{◌≡◌, ◌<◌, ◌↔◌, ◌∙◌, ℕ, List, [], ◌∷◌, ◌++◌, Bool, true, false, refl}
 use Rattle.std.proofs.Common.{sym, ap, subst, arith, length, get_or, IsTrue, Option, Some, None}
-use Rattle.std.proofs.Common.{◌⊎◌, option_map, min, Result, Err}
+use Rattle.std.proofs.Common.{◌⊎◌, option_map, min, Result, Ok, Err}
 use Rattle.std.proofs.Common.{inl, inr, append_assoc, codes}
 use Rattle.std.proofs.lemmas.Bool.{eqb-true, or_left, or_right}
 use Rattle.std.proofs.lemmas.List.{length-take, take_all}
@@ -16,8 +16,11 @@ use Rattle.std.specs.declared.io.traits.Take.{Take}
 use Rattle.rpki_tal.specs.Tal.{Locator}
 use Rattle.rpki_tal.specs.Uri.{uri_text}
 use Rattle.rpki_tal.specs.declared.uri.TalUri.{TalUri}
+use Rattle.rpki_relying_party.specs.Fetches.{IsFetched}
 use Rattle.rpki_relying_party.specs.Folders.{path_below, FindsBelow, FindsAnchor, FindsIn, IsUriOf}
 use Rattle.rpki_relying_party.specs.Names.{is_slash, anchor_name, path_of}
+use Rattle.rpki_relying_party.specs.declared.copy.Fetched.{Fetched}
+use Rattle.rpki_relying_party.specs.declared.copy.Fetched.TheVariants as fetched
 use Rattle.rpki_relying_party.specs.declared.copy.NoFile.{NoFile}
 use Rattle.rpki_relying_party.specs.declared.copy.NoFile.TheVariants.{Missing}
 use Rattle.rpki_relying_party.proofs.Lists.{nothing, contains-first, contains-rest, cons-cases}
@@ -64,26 +67,52 @@ among uris text false e = (
     other true e f = absurd cc
     other false e f = absurd cc
 
--- what a read of a URI came to
-module _ (finds : List ℕ → Result (List ℕ) NoFile → Type 0) (name uri : List ℕ)
-    (r : Result (Result (List ℕ) NoFile) AllocError) where
-  pub anchor-missing : (first : Result (List ℕ) NoFile)
-      → FindsBelow finds (anchor_name name uri) first → first ≡ Err Missing
-      → IfOk r (FindsBelow finds (path_of uri)) → IfOk r (FindsAnchor finds name uri)
-  anchor-missing first h e p =
-      IfOk-weaker r (FindsBelow finds (path_of uri)) (FindsAnchor finds name uri)
-      (λ x f. inr (subst (FindsBelow finds (anchor_name name uri)) e h, f)) p
+-- what a read answers that may find this, one answers that may find more
+fetched-as : (P Q : Result (List ℕ) NoFile → Type 0) (most : ℕ)
+    → ((found : Result (List ℕ) NoFile) → P found → Q found) → (f : Fetched) → IsFetched P most f
+    → IsFetched Q most f
+fetched-as P Q most holds (fetched.File octets) h = (holds (Ok octets) (h.0), h.1)
+fetched-as P Q most holds (fetched.NoFile why) h = holds (Err why) h
+fetched-as P Q most holds fetched.Larger h = (h.0, holds (Ok (h.0)) (h.1), h.2)
 
-  pub of-locator : (tal : Locator) → IsUriOf tal uri → IfOk r (FindsAnchor finds name uri)
-      → IfOk r (FindsIn finds name tal uri)
-  of-locator tal u p =
-      IfOk-weaker r (FindsAnchor finds name uri) (FindsIn finds name tal uri) (λ x f. inl (u, f)) p
+module _ (finds : List ℕ → Result (List ℕ) NoFile → Type 0) (name uri : List ℕ) (most : ℕ) where
+  -- the file of the trust anchor, whatever it is, unless there is none
+  pub anchor-there : (first : Fetched)
+      → IsFetched (FindsBelow finds (anchor_name name uri)) most first
+      → (¬ (first ≡ fetched.NoFile Missing)) → IsFetched (FindsAnchor finds name uri) most first
+  anchor-there (fetched.File octets) h there = (inl (h.0, λ e. cc), h.1)
+  anchor-there (fetched.NoFile why) h there = inl (h, λ e. there cc)
+  anchor-there fetched.Larger h there = (h.0, inl (h.1, λ e. cc), h.2)
 
-  pub of-another : (tal : Locator) → (¬ IsUriOf tal uri) → IfOk r (FindsBelow finds (path_of uri))
-      → IfOk r (FindsIn finds name tal uri)
-  of-another tal u p =
-      IfOk-weaker r (FindsBelow finds (path_of uri)) (FindsIn finds name tal uri)
-      (λ x f. inr (u, f)) p
+  -- what a read came to
+  module _ (r : Result Fetched AllocError) where
+    came-to : (P Q : Result (List ℕ) NoFile → Type 0)
+        → ((found : Result (List ℕ) NoFile) → P found → Q found) → IfOk r (IsFetched P most)
+        → IfOk r (IsFetched Q most)
+    came-to P Q holds p =
+        IfOk-weaker r (IsFetched P most) (IsFetched Q most) (fetched-as P Q most holds) p
+
+    pub anchor-missing : (first : Fetched)
+        → IsFetched (FindsBelow finds (anchor_name name uri)) most first
+        → first ≡ fetched.NoFile Missing
+        → IfOk r (IsFetched (FindsBelow finds (path_of uri)) most)
+        → IfOk r (IsFetched (FindsAnchor finds name uri) most)
+    anchor-missing first h e p =
+        came-to (FindsBelow finds (path_of uri)) (FindsAnchor finds name uri)
+        (λ x f. inr (subst (IsFetched (FindsBelow finds (anchor_name name uri)) most) e h, f)) p
+
+    pub of-locator : (tal : Locator) → IsUriOf tal uri
+        → IfOk r (IsFetched (FindsAnchor finds name uri) most)
+        → IfOk r (IsFetched (FindsIn finds name tal uri) most)
+    of-locator tal u p =
+        came-to (FindsAnchor finds name uri) (FindsIn finds name tal uri) (λ x f. inl (u, f)) p
+
+    pub of-another : (tal : Locator) → (¬ IsUriOf tal uri)
+        → IfOk r (IsFetched (FindsBelow finds (path_of uri)) most)
+        → IfOk r (IsFetched (FindsIn finds name tal uri) most)
+    of-another tal u p =
+        came-to (FindsBelow finds (path_of uri)) (FindsIn finds name tal uri)
+        (λ x f. inr (u, f)) p
 
 -- one more part of a name is put to a path
 pub part-more : (path longer part rest others : List ℕ)

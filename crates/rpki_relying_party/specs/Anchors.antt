@@ -1,5 +1,5 @@
 -- The trust anchor of a locator (RFC 8630), or why there is none.
-use Rattle.std.specs.Prelude.{◌≡◌, ◌≢◌, ◌⊎◌, ◌≤◌, ◌<◌, ℕ, List, ◌∷◌, ◌++◌, length, Result, Ok}
+use Rattle.std.specs.Prelude.{◌≡◌, ◌≢◌, ◌⊎◌, ◌≤◌, ◌<◌, ◌^◌, ℕ, List, ◌∷◌, ◌++◌, length, Result, Ok}
 use Rattle.std.specs.Prelude.{Err, All, Contains, codes}
 use Rattle.rpki_faults.specs.Checks.{AllHold}
 use Rattle.rpki_faults.specs.Text.Validation.{validation_text}
@@ -16,7 +16,7 @@ use Rattle.rpki_relying_party.specs.Texts.{no_file_text}
 use Rattle.rpki_relying_party.specs.declared.anchor.AnchorFault.{AnchorFault}
 use Rattle.rpki_relying_party.specs.declared.anchor.AnchorFault.TheVariants as anchors
 use Rattle.rpki_relying_party.specs.declared.copy.NoFile.{NoFile}
-use Rattle.rpki_relying_party.specs.declared.copy.NoFile.TheVariants.{Missing}
+use Rattle.rpki_relying_party.specs.declared.copy.NoFile.TheVariants.{Missing, TooLarge}
 
 -- A locator has at most so many URIs, which is this project's own rule.
 abbrev pub most_uris : ℕ
@@ -24,9 +24,15 @@ most_uris = 64
 
 -- ---- what is found for a URI; a read of another one, or again of the same, may find anything else
 
--- No file is found for the URI, for this reason.
+-- A file of 2 ^ 64 octets or more is found for the URI.
+abbrev pub HasHuge : (List ℕ → Result (List ℕ) NoFile → Type 0) → TalUri → Type 0
+HasHuge finds uri =
+    (octets : List ℕ) × finds (uri_text uri) (Ok octets) × (2 ^ 64 ≤ length octets)
+
+-- No file is found for the URI, for this reason. One of 2 ^ 64 octets or more counts as too large.
 abbrev pub LacksFor : (List ℕ → Result (List ℕ) NoFile → Type 0) → NoFile → TalUri → Type 0
-LacksFor finds why uri = finds (uri_text uri) (Err why)
+LacksFor finds why uri =
+    finds (uri_text uri) (Err why) ⊎ ((why ≡ TooLarge) × HasHuge finds uri)
 
 -- No file is found for the URI.
 abbrev pub LacksFile : (List ℕ → Result (List ℕ) NoFile → Type 0) → TalUri → Type 0

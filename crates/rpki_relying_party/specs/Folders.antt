@@ -8,6 +8,9 @@ use Rattle.rpki_tal.specs.Uri.{uri_text}
 use Rattle.rpki_relying_party.specs.Names.{IsBelow, path_of, anchor_name}
 use Rattle.rpki_relying_party.specs.declared.copy.NoFile.{NoFile}
 use Rattle.rpki_relying_party.specs.declared.copy.NoFile.TheVariants.{Missing, NotRegular, TooLarge}
+use Rattle.rpki_relying_party.specs.declared.folder.system.Bounds.{Bounds}
+use Rattle.rpki_relying_party.specs.declared.folder.system.Lack.{Lack}
+use Rattle.rpki_relying_party.specs.declared.folder.system.Lack.TheVariants as lacks
 
 -- What may be found under a name: what a read of it may find, where it leads to a file below the
 -- folder. Under any other name there is no file.
@@ -43,15 +46,29 @@ FindsIn finds name tal uri found =
 abbrev pub path_below : List ℕ → List ℕ → List ℕ
 path_below folder name = folder ++ (codes "/" ++ name)
 
--- a file is read: it is a regular one, and of at most so many octets
-abbrev pub IsReadable : ℕ → Metadata → Type 0
-IsReadable most m = IsFile (file_type m) × (metadata_len m ≤ most)
+-- A file of so many octets is read: it may have as many, and as many are asked for.
+abbrev pub IsFew : Bounds → ℕ → Type 0
+IsFew b n = (n ≤ b.max_file) × (n ≤ b.most)
+
+-- why it is not read: it is too large; or it may be as large, and has more than are asked for
+abbrev pub WhyMany : Bounds → ℕ → Lack → Type 0
+WhyMany b n (lacks.NoFile TooLarge) = b.max_file < n
+WhyMany b n lacks.Larger = (n ≤ b.max_file) × (b.most < n)
+WhyMany b n lack = ⊥
+
+-- a file is read: it is a regular one of few enough octets
+abbrev pub IsReadable : Bounds → Metadata → Type 0
+IsReadable b m = IsFile (file_type m) × IsFew b (metadata_len m)
 
 -- why a file is not read
-abbrev pub WhyUnread : ℕ → Metadata → NoFile → Type 0
-WhyUnread most m NotRegular = ¬ IsFile (file_type m)
-WhyUnread most m TooLarge = IsFile (file_type m) × (most < metadata_len m)
-WhyUnread most m why = ⊥
+abbrev pub WhyUnread : Bounds → Metadata → Lack → Type 0
+WhyUnread b m (lacks.NoFile NotRegular) = ¬ IsFile (file_type m)
+WhyUnread b m lack = IsFile (file_type m) × WhyMany b (metadata_len m) lack
+
+-- What may be wanting: a file has more octets than are asked for only where it may have as many.
+abbrev pub MayLack : Bounds → Lack → Type 0
+MayLack b lacks.Larger = b.most < b.max_file
+MayLack b lack = Unit {0}
 
 -- why what stands on the way is no folder: a symbolic link is not followed, and below anything else
 -- there is no file

@@ -23,3 +23,4 @@ pub mod Published
 pub mod Runs
 pub mod Names
 pub mod Folders
+pub mod Fetches

@@ -1,15 +1,15 @@
 //! Trust anchors.
 
-ghost use Rattle.std.specs.Prelude.{◌≡◌, ◌≢◌, ◌≤◌, ◌↔◌, length, IfOk, IsTrue, MatchResult, Some};
+ghost use Rattle.std.specs.Prelude.{◌≡◌, ◌≢◌, ◌≤◌, ◌↔◌, length, IfOk, IsTrue, MatchResult, Ok, Some};
 ghost use Rattle.rpki_certs.specs.Issuer.{BeginsWithCert, IsAnchored};
-ghost use Rattle.rpki_relying_party.specs.Anchors.{IsAnchorOf, WhyNoAnchor};
+ghost use Rattle.rpki_relying_party.specs.Anchors.{IsAnchorOf, LacksFor, WhyNoAnchor};
 ghost use Rattle.rpki_relying_party.specs.Anchors.{IsFirstWithKey, WhyNoKey};
 ghost use Rattle.rpki_relying_party.specs.Anchors.{IsRefusalOf, anchor_fault_text, most_uris};
 ghost use Rattle.rpki_relying_party.specs.Passes.{setting};
 ghost use Rattle.rpki_relying_party.specs.declared.copy.NoFile.{NoFile};
 ghost use Rattle.rpki_tal.specs.Uri.{https_first, uri_text};
 
-use crate::copy::{NoFile, Repository};
+use crate::copy::{Fetched, NoFile, Repository};
 use crate::memory::is_issuer_memory;
 use crate::pass::Pass;
 use bytes::Bytes;
@@ -60,15 +60,21 @@ impl fmt::Display for AnchorFault {
 
 impl Error for AnchorFault {}
 
-// What a read of a URI finds.
+// The octets that the copy has for a URI, or why there is no file.
 fn read_uri<R: Repository>(
     alloc: Global,
     copy: &R,
     uri: &TalUri,
 ) -> Result<Result<Bytes, NoFile>, AllocError>
-    ensures { IfOk result (λ found. R.finds copy.now (uri_text uri.now) found) }
+    ensures { IfOk result (λ found. MatchResult found
+        (λ octets. R.finds copy.now (uri_text uri.now) (Ok octets))
+        (λ why. LacksFor (R.finds copy.now) why uri.now)) }
 {
-    copy.read(alloc, uri.as_str().as_bytes())
+    Ok(match copy.read(alloc, uri.as_str().as_bytes(), u64::MAX)? {
+        Fetched::File(octets) => Ok(octets),
+        Fetched::NoFile(why) => Err(why),
+        Fetched::Larger => Err(NoFile::TooLarge),
+    })
 }
 
 // Whether a certificate has the key of a locator.

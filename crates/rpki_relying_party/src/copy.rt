@@ -1,6 +1,7 @@
 //! Where the octets of files come from.
 
 ghost use Rattle.std.specs.Prelude.{ℕ, List, Result, IfOk, Some};
+ghost use Rattle.rpki_relying_party.specs.Fetches.{IsFetched};
 ghost use Rattle.rpki_relying_party.specs.Texts.{no_file_text};
 
 use bytes::Bytes;
@@ -33,15 +34,27 @@ impl fmt::Display for NoFile {
     }
 }
 
+/// What a copy has for a URI.
+#[derive(Debug, Drop)]
+pub enum Fetched {
+    /// The octets of the file.
+    File(Bytes),
+    /// There is no file, for this reason.
+    NoFile(NoFile),
+    /// The file has more octets than were asked for.
+    Larger,
+}
+
 /// The repositories as a relying party has them, such as a folder of files: octets by URI.
 pub trait Repository {
     ghost use Rattle.rpki_relying_party.specs.declared.copy.NoFile.{NoFile};
 
     // What a read of a URI may find: octets, or why there are none. Of a folder, which may change
-    // at any time, anything may be found; a copy in memory finds one thing for each URI.
+    // at any time, that may be many things; a copy in memory finds one thing for each URI.
     ghost finds: { Self → List ℕ → Result (List ℕ) NoFile → Type 0 };
 
-    /// The octets of the file for a URI, or why there are none, or that memory ran out.
-    fn read(&self, alloc: Global, uri: &[u8]) -> Result<Result<Bytes, NoFile>, AllocError>
-        ensures { IfOk result (finds self.now uri.now) };
+    /// What there is for a URI, or that memory ran out. A file is read if it has at most so many
+    /// octets.
+    fn read(&self, alloc: Global, uri: &[u8], most: u64) -> Result<Fetched, AllocError>
+        ensures { IfOk result (IsFetched (finds self.now uri.now) most) };
 }

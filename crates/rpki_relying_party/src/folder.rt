@@ -1,15 +1,16 @@
 //! A folder as a copy of the repositories.
 
-ghost use Rattle.std.specs.Prelude.{◌≡◌, ◌↔◌, ℕ, List, Result, Err, IfOk, IsTrue};
+ghost use Rattle.std.specs.Prelude.{◌≡◌, ◌↔◌, ℕ, List, Result, IfOk, IsTrue};
+ghost use Rattle.rpki_relying_party.specs.Fetches.{IsFetched};
 ghost use Rattle.rpki_relying_party.specs.Folders.{FindsAnchor, FindsBelow, FindsIn, IsUriOf};
 ghost use Rattle.rpki_relying_party.specs.Names.{IsBelow, anchor_name, path_of};
+ghost use Rattle.rpki_relying_party.specs.declared.copy.Fetched.{Fetched as Fetches};
 ghost use Rattle.rpki_relying_party.specs.declared.copy.NoFile.TheVariants.{Missing};
 
 mod names;
 mod system;
 
-use crate::copy::{NoFile, Repository};
-use bytes::Bytes;
+use crate::copy::{Fetched, NoFile, Repository};
 pub use names::{is_below, locator_name};
 use names::{anchor_name, path_of};
 use rpki_tal::Tal;
@@ -21,20 +22,21 @@ pub trait Folders {
     ghost use Rattle.rpki_relying_party.specs.declared.copy.NoFile.{NoFile};
 
     // What a read of a name below a folder may find: octets, or why there are none. Of a folder of
-    // the system, which may change at any time, anything may be found; one in memory finds one
-    // thing under each name.
+    // the system, which may change at any time, any octets may be found that a file may have; one in
+    // memory finds one thing under each name.
     ghost finds: { Self → List ℕ → List ℕ → Result (List ℕ) NoFile → Type 0 };
 
-    /// The octets of the file with this name below the folder, or why there are none, or that
-    /// memory ran out. No name that leads out of the folder may be asked for.
+    /// What there is below the folder under this name, or that memory ran out. A file is read if it
+    /// has at most so many octets. No name that leads out of the folder may be asked for.
     fn read(
         &self,
         alloc: Global,
         folder: &str,
         name: &[u8],
-    ) -> Result<Result<Bytes, NoFile>, AllocError>
+        most: u64,
+    ) -> Result<Fetched, AllocError>
         requires { IsBelow name.now }
-        ensures { IfOk result (finds self.now folder.now name.now) };
+        ensures { IfOk result (IsFetched (finds self.now folder.now name.now) most) };
 }
 
 /// A folder as a copy of the repositories, for a validation run under a locator. The file of a URI
@@ -59,55 +61,56 @@ fn has_uri(locator: &Tal, text: &[u8]) -> bool
     locator.uris().any(|uri| uri.as_str().as_bytes() == text)
 }
 
-// Whether there is no file.
-fn is_missing(found: &Result<Bytes, NoFile>) -> bool
-    ensures { IsTrue result ↔ (found.now ≡ Err Missing) }
+// Whether the folder has no file.
+fn is_missing(found: &Fetched) -> bool
+    ensures { IsTrue result ↔ (found.now ≡ Fetches.NoFile Missing) }
 {
     match found {
-        Ok(_) => false,
-        Err(why) => *why == NoFile::Missing,
+        Fetched::File(_) | Fetched::Larger => false,
+        Fetched::NoFile(why) => *why == NoFile::Missing,
     }
 }
 
 impl<F: Folders> FolderCopy<'_, F> {
     // What the folder has under a name, where that leads to a file below it.
-    fn read_below(&self, alloc: Global, name: &[u8]) -> Result<Result<Bytes, NoFile>, AllocError>
-        ensures { IfOk result
-            (FindsBelow (F.finds self.now.folders.now self.now.folder.now) name.now) }
+    fn read_below(&self, alloc: Global, name: &[u8], most: u64) -> Result<Fetched, AllocError>
+        ensures { IfOk result (IsFetched (FindsBelow
+            (F.finds self.now.folders.now self.now.folder.now) name.now) most) }
     {
         if is_below(name) {
-            self.folders.read(alloc, self.folder, name)
+            self.folders.read(alloc, self.folder, name, most)
         } else {
-            Ok(Err(NoFile::Missing))
+            Ok(Fetched::NoFile(NoFile::Missing))
         }
     }
 
     // What it has at the host and the path of a URI.
-    fn read_path(&self, alloc: Global, uri: &[u8]) -> Result<Result<Bytes, NoFile>, AllocError>
-        ensures { IfOk result
-            (FindsBelow (F.finds self.now.folders.now self.now.folder.now) (path_of uri.now)) }
+    fn read_path(&self, alloc: Global, uri: &[u8], most: u64) -> Result<Fetched, AllocError>
+        ensures { IfOk result (IsFetched (FindsBelow
+            (F.finds self.now.folders.now self.now.folder.now) (path_of uri.now)) most) }
     {
-        self.read_below(alloc, path_of(uri))
+        self.read_below(alloc, path_of(uri), most)
     }
 
     // What it has where the certificate of the locator's trust anchor is kept.
-    fn read_anchor(&self, alloc: Global, uri: &[u8]) -> Result<Result<Bytes, NoFile>, AllocError>
-        ensures { IfOk result (FindsBelow (F.finds self.now.folders.now self.now.folder.now)
-            (anchor_name self.now.name.now uri.now)) }
+    fn read_anchor(&self, alloc: Global, uri: &[u8], most: u64) -> Result<Fetched, AllocError>
+        ensures { IfOk result (IsFetched (FindsBelow
+            (F.finds self.now.folders.now self.now.folder.now)
+            (anchor_name self.now.name.now uri.now)) most) }
     {
         let name = anchor_name(alloc, self.name, uri)?;
-        self.read_below(alloc, &name)
+        self.read_below(alloc, &name, most)
     }
 
     // What it has for a URI of the locator.
-    fn read_named(&self, alloc: Global, uri: &[u8]) -> Result<Result<Bytes, NoFile>, AllocError>
-        ensures { IfOk result (FindsAnchor (F.finds self.now.folders.now self.now.folder.now)
-            self.now.name.now uri.now) }
+    fn read_named(&self, alloc: Global, uri: &[u8], most: u64) -> Result<Fetched, AllocError>
+        ensures { IfOk result (IsFetched (FindsAnchor
+            (F.finds self.now.folders.now self.now.folder.now) self.now.name.now uri.now) most) }
     {
-        let found = self.read_anchor(alloc, uri)?;
+        let found = self.read_anchor(alloc, uri, most)?;
         if is_missing(&found) {
             drop(found);
-            self.read_path(alloc, uri)
+            self.read_path(alloc, uri, most)
         } else {
             Ok(found)
         }
@@ -119,11 +122,11 @@ impl<F: Folders> Repository for FolderCopy<'_, F> {
 
     /// The work is in proportion to that of a read of the folder, of which there are two at most,
     /// and to the octets of the URI and of those of the locator.
-    fn read(&self, alloc: Global, uri: &[u8]) -> Result<Result<Bytes, NoFile>, AllocError> {
+    fn read(&self, alloc: Global, uri: &[u8], most: u64) -> Result<Fetched, AllocError> {
         if has_uri(self.locator, uri) {
-            self.read_named(alloc, uri)
+            self.read_named(alloc, uri, most)
         } else {
-            self.read_path(alloc, uri)
+            self.read_path(alloc, uri, most)
         }
     }
 }

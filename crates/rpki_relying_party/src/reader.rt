@@ -9,7 +9,7 @@ ghost use Rattle.rpki_relying_party.specs.Point.{Has};
 ghost use Rattle.rpki_relying_party.specs.declared.cause.Stop.{Stop as Stops};
 
 use crate::cause::{Cause, FileFault, Stop};
-use crate::copy::{NoFile, Repository};
+use crate::copy::{Fetched, NoFile, Repository};
 use crate::pass::Pass;
 use bytes::Bytes;
 use rpki_basics::{Crypto, Rsync};
@@ -31,7 +31,8 @@ pub(crate) fn spend(room: &mut u64, cost: u128) -> Result<(), Stop>
     Ok(())
 }
 
-/// What the copy has for a URI. It costs that it is looked for, and as much as it has octets.
+/// What the copy has for a URI. It costs that it is looked for, and as much as it has octets; no
+/// more octets are asked for than there is room for.
 pub(crate) fn read_file<R: Repository, C: Crypto>(
     alloc: Global,
     pass: &Pass<'_, R, C>,
@@ -45,15 +46,13 @@ pub(crate) fn read_file<R: Repository, C: Crypto>(
     if let Err(stop) = spend(room, OPENING) {
         return Err(stop);
     }
-    match pass.copy.read(alloc, uri.as_slice())? {
-        Err(why) => Ok(Err(why)),
-        Ok(octets) => match spend(room, octets.len() as u128) {
-            Err(stop) => {
-                drop(octets);
-                Err(stop)
-            }
-            Ok(()) => Ok(Ok(octets)),
-        },
+    match pass.copy.read(alloc, uri.as_slice(), *room)? {
+        Fetched::NoFile(why) => Ok(Err(why)),
+        Fetched::Larger => Err(Stop::Room),
+        Fetched::File(octets) => {
+            *room -= octets.len() as u64;
+            Ok(Ok(octets))
+        }
     }
 }
 

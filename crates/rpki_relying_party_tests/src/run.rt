@@ -2,5 +2,6 @@
 //! each of its allocations in turn.
 
 pub mod octets;
+mod reads;
 mod reports;
 pub mod tree;

@@ -1,14 +1,16 @@
 //! The folders of the system.
 
-ghost use Rattle.std.specs.Prelude.{◌≡◌, ◌≤◌, ◌↔◌, ◌⊎◌, IfOk, IfSome, OnOk, MatchResult, length};
+ghost use Rattle.std.specs.Prelude.{◌≡◌, ◌≢◌, ◌≤◌, ◌↔◌, ◌⊎◌, IfOk, IfSome, OnOk, IfErr, MatchResult};
+ghost use Rattle.std.specs.Prelude.{length, min};
 ghost use Rattle.std.specs.Fs.{file_type, IsDir};
 ghost use Rattle.std.specs.String.{string_bytes};
 ghost use Rattle.rpki_relying_party.specs.declared.copy.NoFile.TheVariants.{Missing};
 ghost use Rattle.rpki_relying_party.specs.declared.folder.system.Lack.{Lack as Lacks};
-ghost use Rattle.rpki_relying_party.specs.Folders.{IsReadable, WhyUnread, WhyNoFolder, path_below};
+ghost use Rattle.rpki_relying_party.specs.Folders.{IsFew, IsReadable, MayLack, WhyMany, WhyUnread};
+ghost use Rattle.rpki_relying_party.specs.Folders.{WhyNoFolder, path_below};
 
 use super::Folders;
-use crate::copy::NoFile;
+use crate::copy::{Fetched, NoFile};
 use bytes::Bytes;
 use std::alloc::{AllocError, Global};
 use std::fs::{Metadata, OpenFile, OpenOptions};
@@ -20,15 +22,17 @@ use std::{fs, io, str};
 pub const MAX_FILE: u64 = 20_000_000;
 
 /// The folders of the system. A file is a regular one of at most so many octets: its type and its
-/// size are asked before it is opened, and nothing else is opened. No symbolic link below the folder
-/// is followed; the folder itself may be reached by some.
+/// size are asked before it is opened, and nothing else is opened, nor a file of more octets than are
+/// asked for. No symbolic link below the folder is followed; the folder itself may be reached by
+/// some.
 ///
 /// The work of a read is in proportion to the octets of the file, and each part of the name is one
 /// question to the system. A name that is no UTF-8 is that of no file.
 ///
 /// Someone who may write to the folder while it is read can put another file in place of one between
 /// the question and the opening, such as a link, which is followed then, or a named pipe, which the
-/// system waits for. Once open, a file is asked again, and no more than its bound is read.
+/// system waits for. Once open, a file is asked again, and one octet is read at most beyond what it
+/// may have and what is asked for.
 #[derive(Drop)]
 pub struct SystemFolders<'a, R> {
     /// What reaches the system.
@@ -37,26 +41,50 @@ pub struct SystemFolders<'a, R> {
     pub max_file: u64,
 }
 
+// How many octets a file may have, and how many are asked for.
+#[derive(Clone, Copy)]
+struct Bounds {
+    max_file: u64,
+    most: u64,
+}
+
 // Why there are no octets.
 #[derive(Drop)]
 enum Lack {
     NoFile(NoFile),
+    // The file has more than are asked for.
+    Larger,
     Memory,
 }
 
 impl From<AllocError> for Lack {
+    ghost use Rattle.std.specs.Prelude.{◌≡◌};
+    ghost use Rattle.rpki_relying_party.specs.declared.folder.system.Lack.{Lack as Lacks};
+
+    ghost from_gives = { λ _ lack. lack ≡ Lacks.Memory };
+
     fn from(_: AllocError) -> Lack {
         Lack::Memory
     }
 }
 
 impl From<NoFile> for Lack {
+    ghost use Rattle.std.specs.Prelude.{◌≡◌};
+    ghost use Rattle.rpki_relying_party.specs.declared.folder.system.Lack.{Lack as Lacks};
+
+    ghost from_gives = { λ why lack. lack ≡ Lacks.NoFile why };
+
     fn from(why: NoFile) -> Lack {
         Lack::NoFile(why)
     }
 }
 
 impl From<io::Error> for Lack {
+    ghost use Rattle.std.specs.Prelude.{◌≢◌};
+    ghost use Rattle.rpki_relying_party.specs.declared.folder.system.Lack.{Lack as Lacks};
+
+    ghost from_gives = { λ _ lack. lack ≢ Lacks.Larger };
+
     fn from(error: io::Error) -> Lack {
         lack_of(error.kind())
     }
@@ -67,6 +95,7 @@ fn lack_of(kind: ErrorKind) -> Lack
     ensures memory { (result ≡ Lacks.Memory) ↔ (kind ≡ ErrorKind.OutOfMemory) }
     ensures missing { (result ≡ Lacks.NoFile Missing)
         ↔ ((kind ≡ ErrorKind.NotFound) ⊎ (kind ≡ ErrorKind.NotADirectory)) }
+    ensures other { result ≢ Lacks.Larger }
 {
     if kind == ErrorKind::OutOfMemory {
         Lack::Memory
@@ -77,17 +106,37 @@ fn lack_of(kind: ErrorKind) -> Lack
     }
 }
 
-// A file is read if it is a regular one of at most so many octets.
-fn check_file(metadata: &Metadata, max_file: u64) -> Result<(), NoFile>
-    ensures { MatchResult result (λ _. IsReadable max_file metadata.now)
-        (WhyUnread max_file metadata.now) }
+impl Bounds {
+    // A file of so many octets is read if there are few enough.
+    fn check(self, length: u64) -> Result<(), Lack>
+        ensures { MatchResult result (λ _. IsFew self length) (WhyMany self length) }
+    {
+        if length > self.max_file {
+            Err(Lack::NoFile(NoFile::TooLarge))
+        } else if length > self.most {
+            Err(Lack::Larger)
+        } else {
+            Ok(())
+        }
+    }
+
+    // The smaller one.
+    fn smaller(self) -> u64
+        ensures { result ≡ min self.max_file self.most }
+    {
+        self.max_file.min(self.most)
+    }
+}
+
+// A file is read if it is a regular one of few enough octets.
+fn check_file(metadata: &Metadata, bounds: Bounds) -> Result<(), Lack>
+    ensures { MatchResult result (λ _. IsReadable bounds metadata.now)
+        (WhyUnread bounds metadata.now) }
 {
-    if !metadata.is_file() {
-        Err(NoFile::NotRegular)
-    } else if metadata.len() > max_file {
-        Err(NoFile::TooLarge)
+    if metadata.is_file() {
+        bounds.check(metadata.len())
     } else {
-        Ok(())
+        Err(Lack::NoFile(NoFile::NotRegular))
     }
 }
 
@@ -120,9 +169,10 @@ fn find_file<R: Files>(
     files: &R,
     folder: &str,
     name: &str,
-    max_file: u64,
+    bounds: Bounds,
 ) -> Result<String, Lack>
-    ensures { IfOk result (λ path. string_bytes path ≡ path_below folder.now name.now) }
+    ensures path { IfOk result (λ path. string_bytes path ≡ path_below folder.now name.now) }
+    ensures lack { IfErr result (MayLack bounds) }
 {
     let mut path = String::from_str(alloc, folder)?;
     let mut rest = name;
@@ -134,64 +184,82 @@ fn find_file<R: Files>(
     }
     push_part(&mut path, rest)?;
     let there = fs::symlink_metadata(files, path.as_str())?;
-    check_file(&there, max_file)?;
+    check_file(&there, bounds)?;
     Ok(path)
 }
 
-// All that a reader gives, unless that is more than so many octets.
-fn read_all<F: Read + Drop>(alloc: Global, reader: F, most: u64) -> Result<Vec<u8>, Lack>
-    ensures few { IfOk result (λ octets. length octets.items ≤ most) }
+// All that a reader gives, unless that is too much.
+fn read_all<F: Read + Drop>(alloc: Global, reader: F, bounds: Bounds) -> Result<Vec<u8>, Lack>
+    ensures few { IfOk result (λ octets. IsFew bounds (length octets.items)) }
     ensures all { IfOk result (λ octets. IfSome (F.remaining reader) (λ all. octets.items ≡ all)) }
+    ensures lack { IfErr result (MayLack bounds) }
 {
     let mut octets = Vec::new(alloc);
-    let mut bounded = reader.take(most.saturating_add(1));
+    let mut bounded = reader.take(bounds.smaller().saturating_add(1));
     bounded.read_to_end(&mut octets)?;
-    if octets.len() as u64 > most {
-        return Err(Lack::NoFile(NoFile::TooLarge));
-    }
+    bounds.check(octets.len() as u64)?;
     Ok(octets)
 }
 
 // The octets of a file that is read. It is asked again once it is open.
-fn read_file<R: Files>(files: &R, alloc: Global, path: &str, max_file: u64) -> Result<Vec<u8>, Lack>
-    ensures { IfOk result (λ octets. length octets.items ≤ max_file) }
+fn read_file<R: Files>(
+    files: &R,
+    alloc: Global,
+    path: &str,
+    bounds: Bounds,
+) -> Result<Vec<u8>, Lack>
+    ensures few { IfOk result (λ octets. IsFew bounds (length octets.items)) }
+    ensures lack { IfErr result (MayLack bounds) }
 {
     let file = OpenOptions::new().read(true).open(files, path)?;
     let opened = file.metadata()?;
-    check_file(&opened, max_file)?;
-    read_all(alloc, file, max_file)
+    check_file(&opened, bounds)?;
+    read_all(alloc, file, bounds)
 }
 
-impl<R: Files> SystemFolders<'_, R> {
-    // The octets of the file with this name below a folder.
-    fn read_below(&self, alloc: Global, folder: &str, name: &str) -> Result<Bytes, Lack>
-        ensures { IfOk result (λ octets. length octets ≤ self.now.max_file) }
-    {
-        let path = find_file(alloc, self.runtime, folder, name, self.max_file)?;
-        let octets = read_file(self.runtime, alloc, path.as_str(), self.max_file)?;
-        match Bytes::from_vec(octets) {
-            Ok(octets) => Ok(octets),
-            Err(_) => Err(Lack::Memory),
-        }
+// The octets of the file with this name below a folder.
+fn read_below<R: Files>(
+    files: &R,
+    alloc: Global,
+    folder: &str,
+    name: &str,
+    bounds: Bounds,
+) -> Result<Bytes, Lack>
+    ensures few { IfOk result (λ octets. IsFew bounds (length octets)) }
+    ensures lack { IfErr result (MayLack bounds) }
+{
+    let path = find_file(alloc, files, folder, name, bounds)?;
+    let octets = read_file(files, alloc, path.as_str(), bounds)?;
+    match Bytes::from_vec(octets) {
+        Ok(octets) => Ok(octets),
+        Err(_) => Err(Lack::Memory),
     }
 }
 
 impl<R: Files> Folders for SystemFolders<'_, R> {
-    // Anything may be found.
-    ghost finds = { λ _ _ _ _. Unit {0} };
+    ghost use Rattle.std.specs.Prelude.{◌≤◌, IfOk, length};
+
+    // Any octets may be found that a file may have, and any reason why there are none.
+    ghost finds = { λ f _ _ found. IfOk found (λ octets. length octets ≤ f.max_file) };
 
     fn read(
         &self,
         alloc: Global,
         folder: &str,
         name: &[u8],
-    ) -> Result<Result<Bytes, NoFile>, AllocError> {
+        most: u64,
+    ) -> Result<Fetched, AllocError> {
         let Ok(name) = str::from_utf8(name) else {
-            return Ok(Err(NoFile::Missing));
+            return Ok(Fetched::NoFile(NoFile::Missing));
         };
-        match self.read_below(alloc, folder, name) {
-            Ok(octets) => Ok(Ok(octets)),
-            Err(Lack::NoFile(why)) => Ok(Err(why)),
+        let bounds = Bounds {
+            max_file: self.max_file,
+            most,
+        };
+        match read_below(self.runtime, alloc, folder, name, bounds) {
+            Ok(octets) => Ok(Fetched::File(octets)),
+            Err(Lack::NoFile(why)) => Ok(Fetched::NoFile(why)),
+            Err(Lack::Larger) => Ok(Fetched::Larger),
             Err(Lack::Memory) => Err(AllocError),
         }
     }

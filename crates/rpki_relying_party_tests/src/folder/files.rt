@@ -4,7 +4,7 @@ ghost use Rattle.std.specs.Prelude.{◌≡◌};
 ghost use Rattle.rpki_relying_party_tests.specs.Files.{file_of, found_in};
 
 use bytes::Bytes;
-use rpki_relying_party::{Folders, NoFile};
+use rpki_relying_party::{Fetched, Folders, NoFile};
 use std::alloc::{AllocError, Global};
 
 /// Files in memory, each with its name in each folder, and what it holds or why it is not read. Of
@@ -25,10 +25,17 @@ impl Folders for Files<'_> {
         alloc: Global,
         _folder: &str,
         name: &[u8],
-    ) -> Result<Result<Bytes, NoFile>, AllocError> {
+        most: u64,
+    ) -> Result<Fetched, AllocError> {
         match find(self.files, name) {
-            Err(why) => Ok(Err(why)),
-            Ok(octets) => Ok(Ok(Bytes::copy_from_slice(alloc, octets)?)),
+            Err(why) => Ok(Fetched::NoFile(why)),
+            Ok(octets) => {
+                if octets.len() as u64 > most {
+                    Ok(Fetched::Larger)
+                } else {
+                    Ok(Fetched::File(Bytes::copy_from_slice(alloc, octets)?))
+                }
+            }
         }
     }
 }

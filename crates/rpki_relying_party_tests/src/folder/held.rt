@@ -2,7 +2,7 @@
 
 use super::files::Files;
 use rpki_der::Counted;
-use rpki_relying_party::{FolderCopy, NoFile, Repository, is_below, locator_name};
+use rpki_relying_party::{Fetched, FolderCopy, NoFile, Repository, is_below, locator_name};
 use rpki_tal::{ReadError, Tal};
 use rpki_testing::Fail;
 use std::alloc::{AllocError, Global};
@@ -71,17 +71,35 @@ fn locator(alloc: Global) -> Result<Tal, Fail> {
     }
 }
 
-// Whether a copy has just this for a URI.
+// Whether a copy has just this for a URI, and octets only where as many are asked for.
 fn has<R: Repository>(
     alloc: Global,
     copy: &R,
     uri: &str,
     wanted: &Result<&[u8], NoFile>,
 ) -> Result<bool, AllocError> {
-    match copy.read(alloc, uri.as_bytes())? {
-        Err(why) => Ok(*wanted == Err(why)),
-        Ok(found) => Ok(*wanted == Ok(found.as_slice())),
+    let length = match wanted {
+        Ok(octets) => octets.len() as u64,
+        Err(_) => 0,
+    };
+    match copy.read(alloc, uri.as_bytes(), length)? {
+        Fetched::NoFile(why) => Ok(*wanted == Err(why)),
+        Fetched::File(found) => {
+            let is_wanted = *wanted == Ok(found.as_slice());
+            Ok(is_wanted && is_larger(alloc, copy, uri, length.saturating_sub(1))?)
+        }
+        Fetched::Larger => Ok(false),
     }
+}
+
+// Whether a copy has more octets than so many for a URI.
+fn is_larger<R: Repository>(
+    alloc: Global,
+    copy: &R,
+    uri: &str,
+    most: u64,
+) -> Result<bool, AllocError> {
+    Ok(matches!(copy.read(alloc, uri.as_bytes(), most)?, Fetched::Larger))
 }
 
 // Whether the folder has for each URI what its row says.

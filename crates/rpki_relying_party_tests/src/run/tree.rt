@@ -68,7 +68,8 @@ static ORIGINS: [(Origin, &str); 2] = [
 /// Providers of the customer AS65001.
 static PROVIDERS: [u32; 2] = [65010, 65011];
 
-fn moment(year: u16) -> Result<Time, Fail> {
+/// The first moment of a year.
+pub fn moment(year: u16) -> Result<Time, Fail> {
     match Time::utc(year, 1, 1, 0, 0, 0) {
         Some(moment) => Ok(moment),
         None => Err(Fail::Refused),
@@ -152,7 +153,8 @@ fn is_whole(alloc: Global, tal: &Tal) -> Result<bool, Fail> {
     Ok(is_all && are_origins(&found)? && are_providers(&found)? && are_refused(&found))
 }
 
-fn locator(alloc: Global) -> Result<Tal, Fail> {
+/// The locator of the tree.
+pub fn locator(alloc: Global) -> Result<Tal, Fail> {
     match Tal::read_named(alloc, String::new(alloc), &mut Counted::new(LOCATOR)) {
         Ok(tal) => Ok(tal),
         Err(ReadError::Memory) => Err(Fail::Memory),
