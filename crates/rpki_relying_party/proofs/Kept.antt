@@ -29,10 +29,11 @@ use Rattle.rpki_relying_party.specs.declared.payload.Payload.{Payload}
 use Rattle.rpki_relying_party.specs.declared.payload.Payload.TheVariants as payloads
 use Rattle.rpki_relying_party.specs.declared.payload.Payloads.{Payloads}
 use Rattle.rpki_relying_party.specs.declared.payload.Provider.{Provider}
-use Rattle.rpki_relying_party.specs.Found.{Lists, HasAsLong, KeepsRefusal, KeepsFinding}
+use Rattle.rpki_relying_party.specs.Found.{Lists, HasAsLong, KeepsFinding}
 use Rattle.rpki_relying_party.specs.Found.{KeepsFindings}
 use Rattle.rpki_relying_party.specs.Payload.{origin_order, provider_order, held_in, ends_before}
 use Rattle.rpki_relying_party.specs.Payload.{longer, KeepsLonger, Keeps}
+use Rattle.rpki_relying_party.specs.Refusals.{KeepsRefusal, StandAtTheirLines}
 use Rattle.rpki_relying_party.specs.Texts.{refusal_line}
 
 -- what holds where memory was there
@@ -283,11 +284,8 @@ module _ (x : Payload) (h : Held) (old new : Found) (k : Keeps x h old.payloads 
       lists : (y : Finding) → Lists new y → Lists old y ⊎ (findings.Payload x h ≡ y)
       lists (findings.Payload y g) e = payload-listed y g (one-payload y x) e
       lists (findings.Refusal q) w =
-          inl (
-            w.0,
-            subst (λ (m : BTreeMap (String Global) Refusal).
-                get_by_text m (w.0) ≡ Some q) r (w.1),
-          )
+          inl (subst (λ (m : BTreeMap (String Global) Refusal).
+          get_by_text m (refusal_line q) ≡ Some q) r w)
 
       stays : (y : Finding) → HasAsLong old y → HasAsLong new y
       stays (findings.Payload y g) w = payload-stays y g (one-payload y x) w
@@ -299,17 +297,17 @@ module _ (x : Payload) (h : Held) (old new : Found) (k : Keeps x h old.payloads 
 
 module _ (x : Refusal) (old new : Found) (k : KeepsRefusal x old.refusals new.refusals)
     (p : new.payloads ≡ old.payloads) where
-  refusal-listed : (q : Refusal) (line : List ℕ)
-      → ((line ≡ refusal_line x) ⊎ ¬ (line ≡ refusal_line x))
-      → get_by_text new.refusals line ≡ Some q
+  refusal-listed : (q : Refusal)
+      → ((refusal_line q ≡ refusal_line x) ⊎ ¬ (refusal_line q ≡ refusal_line x))
+      → get_by_text new.refusals (refusal_line q) ≡ Some q
       → Lists old (findings.Refusal q) ⊎ (findings.Refusal x ≡ findings.Refusal q)
-  refusal-listed q line (inl s) e =
+  refusal-listed q (inl s) e =
       inr (ap findings.Refusal (some-same x q (sym k.here
       ∙ subst (λ (l : List ℕ). get_by_text new.refusals l ≡ Some q) s e)))
     where
       some-same : (a b : Refusal) → Some a ≡ Some b → a ≡ b
       some-same a b e = cc
-  refusal-listed q line (inr n) e = inl (line, sym (k.others line n) ∙ e)
+  refusal-listed q (inr n) e = inl (sym (k.others (refusal_line q) n) ∙ e)
 
   refusal-stays : (q : Refusal)
       → ((refusal_line q ≡ refusal_line x) ⊎ ¬ (refusal_line q ≡ refusal_line x))
@@ -329,7 +327,7 @@ module _ (x : Refusal) (old new : Found) (k : KeepsRefusal x old.refusals new.re
       lists (findings.Payload y g) e =
           inl (subst (λ (z : Payloads). held_in z y ≡ Some g) p e)
       lists (findings.Refusal q) w =
-          refusal-listed q (w.0) (one-text (w.0) (refusal_line x)) (w.1)
+          refusal-listed q (one-text (refusal_line q) (refusal_line x)) w
 
       stays : (y : Finding) → HasAsLong old y → HasAsLong new y
       stays (findings.Payload y g) w =
@@ -356,6 +354,18 @@ puts-refusal x line old new e f = record {
         go : (t : Bool) → bytes_eq line bs ≡ t → t ≡ false
         go true s = absurd (n (sym ((bytes_eq-Decides line bs).0 s) ∙ e))
         go false s = refl
+
+pub lines-stay : (x : Refusal) (old new : BTreeMap (String Global) Refusal)
+    → KeepsRefusal x old new → StandAtTheirLines old → StandAtTheirLines new
+lines-stay x old new k stand line q e = go (one-text line (refusal_line x))
+  where
+    some-same : (a b : Refusal) → Some a ≡ Some b → a ≡ b
+    some-same a b e = cc
+
+    go : ((line ≡ refusal_line x) ⊎ ¬ (line ≡ refusal_line x)) → line ≡ refusal_line q
+    go (inl s) = s ∙ ap (λ (r : Refusal). refusal_line r) (some-same x q (sym k.here
+        ∙ subst (λ (l : List ℕ). get_by_text new l ≡ Some q) s e))
+    go (inr n) = stand line q (sym (k.others line n) ∙ e)
 
 -- ---- findings, one after the other
 

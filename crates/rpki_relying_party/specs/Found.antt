@@ -1,8 +1,6 @@
 -- What a validation run found.
 use Rattle.std.specs.Prelude.{◌≡◌, ◌≤◌, ◌⊎◌, ℕ, List, Some, All, Contains}
-use Rattle.std.specs.BTreeMap.{BTreeMap, get_by_text}
-use Rattle.std.specs.declared.alloc.Global.{Global}
-use Rattle.std.specs.declared.string.String.{String}
+use Rattle.std.specs.BTreeMap.{get_by_text}
 use Rattle.rpki_basics.specs.Moment.{stamp}
 use Rattle.rpki_relying_party.specs.Payload.{held_in}
 use Rattle.rpki_relying_party.specs.Same.{shown}
@@ -21,11 +19,10 @@ SaysLike (findings.Refusal r) (findings.Refusal q) =
     (r.uri ≡ q.uri) × (shown r.cause ≡ shown q.cause)
 SaysLike x y = ⊥
 
--- This was found: until then and by that object the payload is held, or the refusal is kept, at
--- whatever line.
+-- This was found: until then and by that object the payload is held, or the refusal is kept.
 abbrev pub Lists : Found → Finding → Type 0
 Lists found (findings.Payload x h) = held_in found.payloads x ≡ Some h
-Lists found (findings.Refusal r) = (line : List ℕ) × (get_by_text found.refusals line ≡ Some r)
+Lists found (findings.Refusal r) = get_by_text found.refusals (refusal_line r) ≡ Some r
 
 -- The payload is held for as long, or a refusal with the same line is kept at this line.
 abbrev pub HasAsLong : Found → Finding → Type 0
@@ -34,12 +31,6 @@ HasAsLong found (findings.Payload x h) =
 HasAsLong found (findings.Refusal r) =
     (q : Refusal) × (get_by_text found.refusals (refusal_line r) ≡ Some q)
     × (refusal_line q ≡ refusal_line r)
-
--- The refusal is kept at its line, and at each other line nothing has changed.
-pub record KeepsRefusal (r : Refusal) (old new : BTreeMap (String Global) Refusal) : Type 0 where
-  pub here : get_by_text new (refusal_line r) ≡ Some r
-  pub others : (line : List ℕ) → ¬ (line ≡ refusal_line r)
-      → get_by_text new line ≡ get_by_text old line
 
 -- The finding was put to what was found.
 pub record KeepsFinding (x : Finding) (old new : Found) : Type 0 where

@@ -16,6 +16,7 @@ pub mod Outcome
 pub mod Reading
 pub mod Texts
 pub mod Place
+pub mod Refusals
 pub mod Found
 pub mod Anchors
 pub mod Same

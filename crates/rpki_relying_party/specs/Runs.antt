@@ -1,5 +1,5 @@
 -- What a validation run under a locator finds, and what it leaves unread.
-use Rattle.std.specs.Prelude.{◌≡◌, ◌≢◌, ◌⊎◌, ℕ, List, Option, None, Some, Bool, true, false}
+use Rattle.std.specs.Prelude.{◌≡◌, ◌≢◌, ◌⊎◌, ◌≤◌, ℕ, List, Option, None, Some, Bool, true, false}
 use Rattle.std.specs.Prelude.{◌&&◌, Contains, bytes_eq, codes, count_by, unwrap_or, String}
 use Rattle.std.specs.BTreeMap.{BTreeMap, get_by_text}
 use Rattle.std.specs.Option.{option_or, option_eq}
@@ -12,6 +12,7 @@ use Rattle.rpki_relying_party.specs.Lacks.{WhyNoPoint}
 use Rattle.rpki_relying_party.specs.Paths.{IsChild, IsSaid, IsFound, Leads, Passes, TellsOne}
 use Rattle.rpki_relying_party.specs.Place.{key_of}
 use Rattle.rpki_relying_party.specs.Point.{PublishesIn, NamesManifest}
+use Rattle.rpki_relying_party.specs.Reading.{GoodTells}
 use Rattle.rpki_relying_party.specs.Setting.{Setting}
 use Rattle.rpki_relying_party.specs.Tells.{PlaceTells, refusal}
 use Rattle.rpki_relying_party.specs.Texts.{cause_text}
@@ -57,11 +58,13 @@ FindsAllUnder s tal found unread =
     → IsFound (PlaceTells s) SaysLike (HasAsLong found) p
     ⊎ Passes key_of (places_left unread) start path)
 
--- A trust anchor of the locator was read first, and from it on places of each key once, within this
--- limit on work; what was found before and after is that, and those were left unread.
+-- A trust anchor of the locator was read first, whose point is not refused, and from it on places of
+-- each key once, within this limit on work; what was found before and after is that, and those were
+-- left unread.
 abbrev pub IsRunUnder : Setting → Locator → ℕ → Found → Found → List (Left Place) → Type 0
 IsRunUnder s tal limit old new unread =
     (first : Read Place Finding) × IsStartOf s tal first.place
+    × GoodTells s first.place first.said first.children
     × IsWalk (PlaceTells s) (PlaceCosts s) (PlaceExceeds s) key_of (Lists old) (Lists new)
     (HasAsLong old) (HasAsLong new) first limit unread
 
@@ -70,13 +73,14 @@ abbrev pub TellsSteadily : Setting → Type 0
 TellsSteadily s = TellsOne (PlaceTells s) key_of SaysLike
 
 -- Why there was no run within this limit, unless memory ran out: the locator has no trust anchor;
--- or it has one whose certificate names a point that is refused; or one of which to read the place
--- is more work than the limit.
+-- or it has one whose certificate names a point that is refused, which was found out within the
+-- limit; or one of which to read the place is more work than the limit.
 abbrev pub WhyNoRun : Setting → Locator → ℕ → RunFault → Type 0
 WhyNoRun s tal limit (faults.Anchor fault) = WhyNoAnchor s tal fault × (fault ≢ anchors.Memory)
 WhyNoRun s tal limit (faults.Point cause) = (ca : Validated) × (folder : List ℕ) × (uri : List ℕ)
     × IsAnchorOf s tal ca × PublishesIn ca folder × NamesManifest ca uri
     × WhyNoPoint s ca folder uri cause
+    × ((cost : ℕ) × PlaceCosts s (start_place ca) cost × (cost ≤ limit))
 WhyNoRun s tal limit faults.Limit =
     (ca : Validated) × IsAnchorOf s tal ca × PlaceExceeds s (start_place ca) limit
 WhyNoRun s tal limit faults.Memory = Unit {0}

@@ -1,8 +1,10 @@
 //! What a validation run finds.
 
-ghost use Rattle.std.specs.Prelude.{◌≡◌, IfOk, OnOk};
+ghost use Rattle.std.specs.Prelude.{◌≡◌, ℕ, List, None, IfOk, OnOk};
+ghost use Rattle.std.specs.BTreeMap.{get_by_text};
 ghost use Rattle.std.specs.String.{string_bytes};
-ghost use Rattle.rpki_relying_party.specs.Found.{Lists, KeepsRefusal, KeepsFinding, KeepsFindings};
+ghost use Rattle.rpki_relying_party.specs.Found.{Lists, KeepsFinding, KeepsFindings};
+ghost use Rattle.rpki_relying_party.specs.Refusals.{KeepsRefusal, StandAtTheirLines};
 ghost use Rattle.rpki_relying_party.specs.Texts.{refusal_line};
 ghost use Rattle.rpki_relying_party.specs.declared.found.Finding.{Finding};
 
@@ -66,11 +68,31 @@ pub enum Finding {
     Refusal(BoxedRefusal),
 }
 
-/// What was found: payloads, and refusals by their lines, each line once.
+/// Refusals, each at its line, which says the URI, the cause, and the CA.
+#[derive(Drop)]
+pub struct Refusals {
+    by_line: BTreeMap<String, Refusal>,
+}
+
+impl Model for Refusals {
+    ghost use Rattle.std.specs.BTreeMap.{BTreeMap};
+    ghost use Rattle.std.specs.declared.alloc.Global.{Global};
+    ghost use Rattle.std.specs.declared.string.String.{String};
+    ghost use Rattle.rpki_relying_party.specs.Refusals.{StandAtTheirLines};
+    ghost use Rattle.rpki_relying_party.specs.declared.found.Refusal.{Refusal};
+
+    ghost Value = { BTreeMap (String Global) Refusal };
+
+    ghost view = { λ r. r.by_line };
+
+    ghost invariant = { λ r. StandAtTheirLines r.by_line };
+}
+
+/// What was found: payloads and refusals, each once.
 #[derive(Drop)]
 pub struct Found {
     pub payloads: Payloads,
-    pub refusals: BTreeMap<String, Refusal>,
+    pub refusals: Refusals,
 }
 
 // The line of a refusal.
@@ -89,7 +111,8 @@ fn keep_refusal(
     refusals: &mut BTreeMap<String, Refusal>,
     refusal: Refusal,
 ) -> Result<(), AllocError>
-    ensures { OnOk result (KeepsRefusal refusal refusals.old refusals.new) }
+    ensures keeps { OnOk result (KeepsRefusal refusal refusals.old refusals.new) }
+    ensures lines { StandAtTheirLines refusals.old → StandAtTheirLines refusals.new }
 {
     match line_of(alloc, &refusal) {
         Err(error) => {
@@ -109,6 +132,31 @@ fn keep_refusal(
     }
 }
 
+impl Refusals {
+    /// No refusals.
+    pub fn new(alloc: Global) -> Refusals
+        ensures { (line : List ℕ) → get_by_text result line ≡ None }
+    {
+        let by_line = BTreeMap::new(alloc);
+        Refusals { by_line }
+    }
+
+    /// The refusals by their lines.
+    pub fn by_line(&self) -> &BTreeMap<String, Refusal>
+        ensures same { result.now ≡ self.now }
+        ensures lines { StandAtTheirLines result.now }
+    {
+        &self.by_line
+    }
+
+    /// Keeps a refusal.
+    pub(crate) fn keep(&mut self, alloc: Global, refusal: Refusal) -> Result<(), AllocError>
+        ensures { OnOk result (KeepsRefusal refusal self.old self.new) }
+    {
+        keep_refusal(alloc, &mut self.by_line, refusal)
+    }
+}
+
 impl Found {
     /// Nothing was found yet.
     pub fn new(alloc: Global) -> Found
@@ -116,7 +164,7 @@ impl Found {
     {
         Found {
             payloads: Payloads::new(alloc),
-            refusals: BTreeMap::new(alloc),
+            refusals: Refusals::new(alloc),
         }
     }
 
@@ -124,7 +172,7 @@ impl Found {
     pub(crate) fn refuse(&mut self, alloc: Global, refusal: Refusal) -> Result<(), AllocError>
         ensures { OnOk result (KeepsFinding (Finding.Refusal refusal) self.old self.new) }
     {
-        keep_refusal(alloc, &mut self.refusals, refusal)
+        self.refusals.keep(alloc, refusal)
     }
 
     /// Keeps a finding.

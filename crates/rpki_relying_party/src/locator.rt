@@ -10,6 +10,7 @@ ghost use Rattle.rpki_relying_party.specs.Runs.{start_place, run_fault_text};
 ghost use Rattle.rpki_relying_party.specs.Runs.{IsLeftRefusal, IsRefusalFor, KeepsAll, lister_of};
 ghost use Rattle.rpki_relying_party.specs.Runs.{is_limited, limited_under, left_cause, count_for};
 ghost use Rattle.rpki_relying_party.specs.declared.found.Finding.{Finding};
+ghost use Rattle.rpki_relying_party.specs.declared.locator.RunFault.{RunFault as Fault};
 
 use crate::anchor::{AnchorFault, anchor_of};
 use crate::cause::Cause;
@@ -118,6 +119,7 @@ pub fn run_under<R: Repository, C: Crypto>(
         unread.items) }
     ensures refused { IfErr result
         (WhyNoRun (setting R.finds C.digest_of C.is_signed pass.now) tal.now limit) }
+    ensures unchanged { IfErr result (λ fault. (fault ≡ Fault.Memory) ⊎ (found.new ≡ found.old)) }
 {
     let ca = match anchor_of(alloc, pass, tal) {
         Err(fault) => return Err(of_anchor(fault)),

@@ -1,12 +1,17 @@
 -- The refusal stands at its line.
 use Rattle.std.proofs.Common.{Some}
 use Rattle.std.proofs.lemmas.Map.Text.{btree_map_updates_text}
+use Rattle.std.specs.BTreeMap.{BTreeMap}
 use Rattle.std.specs.String.{string_bytes}
-use Rattle.rpki_relying_party.proofs.Kept.{puts-refusal}
+use Rattle.std.specs.declared.alloc.Global.{Global}
+use Rattle.std.specs.declared.string.String.{String}
+use Rattle.rpki_relying_party.specs.Refusals.{KeepsRefusal}
+use Rattle.rpki_relying_party.specs.declared.found.Refusal.{Refusal}
+use Rattle.rpki_relying_party.proofs.Kept.{puts-refusal, lines-stay}
 use Rattle.rpki_relying_party.proofs.found.keep_refusal.Goals as goal
 
-pub returns-in-Ok-insert : goal.returns-in-Ok-insert
-returns-in-Ok-insert c =
+pub returns-in-Ok-insert-clause-keeps : goal.returns-in-Ok-insert-clause-keeps
+returns-in-Ok-insert-clause-keeps c =
     let line = string_bytes c.in-Ok.line in
     let old = c.args.refusals.now in
     let new = c.insert.new.self in

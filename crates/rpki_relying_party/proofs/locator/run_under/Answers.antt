@@ -39,11 +39,17 @@ walk_from-requires g c =
     c.in-Ok-Told.field-0-is c.in-Ok-Told.ensures)
 
 pub returns-in-Ok-walk_from-clause-reads : goal.returns-in-Ok-walk_from-clause-reads
-returns-in-Ok-walk_from-clause-reads g c = (
-  read_as c.start_place-start.result c.in-Ok-Told.told 0,
-  (c.in-Ok.ca, c.in-Ok.ensures, c.start_place-start.ensures),
-  c.in-Ok-walk_from.ensures.reads,
-)
+returns-in-Ok-walk_from-clause-reads g c =
+    let s = setting g.R.Repository.finds g.C.Crypto.digest_of g.C.Crypto.is_signed
+    c.args.pass.now in
+    let told = subst (λ (r : PointReading).
+    IsPointReading s c.start_place-start.result c.args.limit r) c.in-Ok-Told.field-0-is
+    c.in-Ok-Told.ensures in (
+      read_as c.start_place-start.result c.in-Ok-Told.told 0,
+      (c.in-Ok.ca, c.in-Ok.ensures, c.start_place-start.ensures),
+      told.0,
+      c.in-Ok-walk_from.ensures.reads,
+    )
 
 pub returns-in-Ok-walk_from-clause-sound : goal.returns-in-Ok-walk_from-clause-sound
 returns-in-Ok-walk_from-clause-sound g c = λ x l. elim (c.in-Ok-walk_from.ensures.sound x l) [
