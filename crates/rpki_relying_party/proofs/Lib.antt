@@ -28,6 +28,7 @@ pub mod OnePoint
 pub mod Sameness
 pub mod OneTelling
 pub mod Publishing
+pub mod Publications
 pub mod Holding
 pub mod Ending
 pub mod Running
