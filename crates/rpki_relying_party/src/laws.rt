@@ -1,11 +1,12 @@
 //! What the definitions say: laws, as functions that do nothing.
 
-ghost use Rattle.std.specs.Prelude.{◌≤◌, ℕ, List, Contains};
+ghost use Rattle.std.specs.Prelude.{◌≡◌, ◌<◌, ◌≤◌, ℕ, List, Contains};
 ghost use Rattle.std.specs.List.{AllZip};
 ghost use Rattle.rpki_basics.specs.Moment.{Moment, stamp};
 ghost use Rattle.rpki_certs.specs.Validate.{Validated};
 ghost use Rattle.rpki_tal.specs.Tal.{Locator};
 ghost use Rattle.rpki_relying_party.specs.Anchors.{IsAnchorOf};
+ghost use Rattle.rpki_relying_party.specs.Costs.{PlaceCosts, PlaceExceeds};
 ghost use Rattle.rpki_relying_party.specs.Found.{SaysLike};
 ghost use Rattle.rpki_relying_party.specs.Passes.{setting};
 ghost use Rattle.rpki_relying_party.specs.Paths.{IsSaid, TellsOne};
@@ -85,6 +86,21 @@ pub fn publications_are_found<R: Repository, C: Crypto>(_pass: &Pass<'_, R, C>)
         → (tal : Locator) (limit : ℕ) (old new : Found) (unread : List (Left Place))
         → IsRunUnder (setting R.finds C.digest_of C.is_signed _pass.now) tal limit old new unread
         → FindsPublished (setting R.finds C.digest_of C.is_signed _pass.now) tal new unread }
+{}
+
+/// How much work it is to read a place is one number, over such a copy: what reading it costs, and
+/// more than each number that it exceeds. So a try with as much room is never cut.
+pub fn work_is_one_number<R: Repository, C: Crypto>(pass: &Pass<'_, R, C>)
+    ensures costs { FindsOne (setting R.finds C.digest_of C.is_signed pass.now)
+        → (place : Place) (m n : ℕ)
+        → PlaceCosts (setting R.finds C.digest_of C.is_signed pass.now) place m
+        → PlaceCosts (setting R.finds C.digest_of C.is_signed pass.now) place n
+        → m ≡ n }
+    ensures exceeds { FindsOne (setting R.finds C.digest_of C.is_signed pass.now)
+        → (place : Place) (m n : ℕ)
+        → PlaceExceeds (setting R.finds C.digest_of C.is_signed pass.now) place m
+        → PlaceCosts (setting R.finds C.digest_of C.is_signed pass.now) place n
+        → m < n }
 {}
 
 /// A payload that is published below the start is published there at each moment from now until its
