@@ -27,6 +27,7 @@ pub mod Splits
 pub mod OnePoint
 pub mod Sameness
 pub mod OneTelling
+pub mod OneAnchor
 pub mod OneCost
 pub mod Publishing
 pub mod Publications

@@ -44,6 +44,7 @@ use Rattle.rpki_relying_party.specs.declared.place.Place.{Place}
 use Rattle.rpki_relying_party.proofs.Chains as chains
 use Rattle.rpki_relying_party.proofs.Keyed.{same-key}
 use Rattle.rpki_relying_party.proofs.Lists.{nothing, contains-first, contains-mapped, cons-cases}
+use Rattle.rpki_relying_party.proofs.OneAnchor.{one-start}
 use Rattle.rpki_relying_party.proofs.OneChild.{one-ca}
 use Rattle.rpki_relying_party.proofs.OneObject.{one-content}
 use Rattle.rpki_relying_party.proofs.OnePoint.{has-one, one-folder, one-uri, names-one, one-point}
@@ -322,12 +323,17 @@ module _ (s : Setting) (one : FindsOne s) (tal : Locator) (limit : ℕ) (old new
       (λ r. All (HasAsLong new) r.said) run.2.reads r run.2.kept c) (k.1) in
       (g.0, g.1)
 
+  below-first : (place : Place) (path : List Place) (x : Payload) (h : Held)
+      → Leads (PublishesCa s) run.0.place path place → PublishesPayload s place x h
+      → IsHeld new x ⊎ Passes key_of (places_left unread) run.0.place path
+  below-first place path x h leads p = elim (reached path place leads) [
+    | inl r ↦ inl (held (r.0) (r.1) place (r.2) x h p)
+    | inr left ↦ inr left
+  ]
+
   pub finds-published : FindsPublished s tal new unread
-  finds-published = (
-    run.0.place,
-    run.1,
-    λ path place x h leads p. elim (reached path place leads) [
-      | inl r ↦ inl (held (r.0) (r.1) place (r.2) x h p)
-      | inr left ↦ inr left
-    ],
-  )
+  finds-published start place path x h is leads p =
+      let same : run.0.place ≡ start = one-start s one tal run.0.place start (run.1) is in
+      subst (λ (b : Place). IsHeld new x ⊎ Passes key_of (places_left unread) b path) same
+      (below-first place path x h
+      (subst (λ (b : Place). Leads (PublishesCa s) b path place) (sym same) leads) p)

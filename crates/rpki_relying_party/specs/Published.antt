@@ -121,15 +121,15 @@ IsPayloadBelow s start x h =
 abbrev pub IsHeld : Found → Payload → Type 0
 IsHeld found x = (h : Held) × (held_in found.payloads x ≡ Some h)
 
--- There is a trust anchor of the locator below which each payload that is published is held: each
--- to which a chain of CAs leads from it, of any length, though perhaps not for as long, unless some
--- place on the chain has the key of one that was left unread.
+-- Each payload that is published below a trust anchor of the locator is held: each to which a chain
+-- of CAs leads from it, of any length, though perhaps not for as long, unless some place on the
+-- chain has the key of one that was left unread.
 abbrev pub FindsPublished : Setting → Locator → Found → List (Left Place) → Type 0
 FindsPublished s tal found unread =
-    (start : Place) × IsStartOf s tal start
-    × ((path : List Place) (place : Place) (x : Payload) (h : Held)
-    → Leads (PublishesCa s) start path place → PublishesPayload s place x h
-    → IsHeld found x ⊎ Passes key_of (places_left unread) start path)
+    (start place : Place) (path : List Place) (x : Payload) (h : Held)
+    → IsStartOf s tal start → Leads (PublishesCa s) start path place
+    → PublishesPayload s place x h
+    → IsHeld found x ⊎ Passes key_of (places_left unread) start path
 
 -- ---- moments
 

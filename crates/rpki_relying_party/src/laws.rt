@@ -75,9 +75,9 @@ pub fn publications_are_told<R: Repository, C: Crypto>(pass: &Pass<'_, R, C>)
         → Contains children child }
 {}
 
-/// A run under a locator over such a copy has found each payload that is published below the trust
-/// anchor: each to which a chain of CAs leads, of any length, though perhaps not for as long, unless
-/// some place on the chain has the key of one that the run left unread.
+/// A run under a locator over such a copy has found each payload that is published below a trust
+/// anchor of the locator: each to which a chain of CAs leads from it, of any length, though perhaps
+/// not for as long, unless some place on the chain has the key of one that the run left unread.
 ///
 /// With `payloads_are_said` and the clause `sound` of `run_under`, a run finds a payload exactly
 /// where it is published, up to what was left unread.
