@@ -23,7 +23,7 @@ use Rattle.rpki_relying_party.specs.Place.{AreAlike, key_of}
 use Rattle.rpki_relying_party.specs.Point.{Point}
 use Rattle.rpki_relying_party.specs.Published.{PublishedFile, IsPublished, PublishesOrigin, held_by}
 use Rattle.rpki_relying_party.specs.Published.{PublishesProvider, PublishesPayload, PublishesCa}
-use Rattle.rpki_relying_party.specs.Published.{IsHeld, FindsPublished}
+use Rattle.rpki_relying_party.specs.Published.{HoldsPayload, FindsPublished}
 use Rattle.rpki_relying_party.specs.Runs.{IsRunUnder}
 use Rattle.rpki_relying_party.specs.Same.{FindsOne}
 use Rattle.rpki_relying_party.specs.Setting.{Setting}
@@ -315,7 +315,7 @@ module _ (s : Setting) (one : FindsOne s) (tal : Locator) (limit : ℕ) (old new
 
   held : (r : Read Place Finding) → Contains run.2.reads r → (place : Place)
       → key_of r.place ≡ key_of place → (x : Payload) (h : Held) → PublishesPayload s place x h
-      → IsHeld new x
+      → HoldsPayload new x
   held r c place e x h p =
       let k = payload-alike s one place r.place (same-key r.place place e) r.said r.children
       (told r c) x h p in
@@ -325,7 +325,7 @@ module _ (s : Setting) (one : FindsOne s) (tal : Locator) (limit : ℕ) (old new
 
   below-first : (place : Place) (path : List Place) (x : Payload) (h : Held)
       → Leads (PublishesCa s) run.0.place path place → PublishesPayload s place x h
-      → IsHeld new x ⊎ Passes key_of (places_left unread) run.0.place path
+      → HoldsPayload new x ⊎ Passes key_of (places_left unread) run.0.place path
   below-first place path x h leads p = elim (reached path place leads) [
     | inl r ↦ inl (held (r.0) (r.1) place (r.2) x h p)
     | inr left ↦ inr left
@@ -334,6 +334,6 @@ module _ (s : Setting) (one : FindsOne s) (tal : Locator) (limit : ℕ) (old new
   pub finds-published : FindsPublished s tal new unread
   finds-published start place path x h is leads p =
       let same : run.0.place ≡ start = one-start s one tal run.0.place start (run.1) is in
-      subst (λ (b : Place). IsHeld new x ⊎ Passes key_of (places_left unread) b path) same
+      subst (λ (b : Place). HoldsPayload new x ⊎ Passes key_of (places_left unread) b path) same
       (below-first place path x h
       (subst (λ (b : Place). Leads (PublishesCa s) b path place) (sym same) leads) p)

@@ -117,9 +117,9 @@ IsPayloadBelow s start x h =
 
 -- ---- what a run finds of it
 
--- Something is held for the payload: until when, and by which object.
-abbrev pub IsHeld : Found → Payload → Type 0
-IsHeld found x = (h : Held) × (held_in found.payloads x ≡ Some h)
+-- The payload is among what was found, whatever its hold is.
+abbrev pub HoldsPayload : Found → Payload → Type 0
+HoldsPayload found x = (h : Held) × (held_in found.payloads x ≡ Some h)
 
 -- Each payload that is published below a trust anchor of the locator is held: each to which a chain
 -- of CAs leads from it, of any length, though perhaps not for as long, unless some place on the
@@ -129,7 +129,7 @@ FindsPublished s tal found unread =
     (start place : Place) (path : List Place) (x : Payload) (h : Held)
     → IsStartOf s tal start → Leads (PublishesCa s) start path place
     → PublishesPayload s place x h
-    → IsHeld found x ⊎ Passes key_of (places_left unread) start path
+    → HoldsPayload found x ⊎ Passes key_of (places_left unread) start path
 
 -- ---- moments
 
