@@ -13,7 +13,6 @@ use Rattle.rpki_relying_party.specs.Costs.{FilesCost, FilesLost, FilesStart, Lis
 use Rattle.rpki_relying_party.specs.Costs.{ListedCosts, ListedStarts, PointCosts, PointStarts}
 use Rattle.rpki_relying_party.specs.Costs.{OnPlace, PlaceCosts, PlaceExceeds}
 use Rattle.rpki_relying_party.specs.Lacks.{IsLostFile}
-use Rattle.rpki_relying_party.specs.Place.{AreAlike}
 use Rattle.rpki_relying_party.specs.Point.{AreOnce, IsListFile}
 use Rattle.rpki_relying_party.specs.Same.{FindsOne}
 use Rattle.rpki_relying_party.specs.Setting.{Setting}
@@ -84,22 +83,22 @@ module _ (s : Setting) (one : FindsOne s) where
         file-starts h (inl g) = absurd (h.0 (g.0))
         file-starts h (inr g) = elim (h.1) [
           | inl r ↦ omega (
-              arith,
-              g.1.4,
-              read-starts (file.0) m (found_cost (Ok (g.1.0))) r
-                  (Ok (g.1.0), g.1.2.0, refl),
-            )
+            arith,
+            g.1.4,
+            read-starts (file.0) m (found_cost (Ok (g.1.0))) r
+                (Ok (g.1.0), g.1.2.0, refl),
+          )
           | inr j ↦ (let same = has-one s one file (j.0) (g.1.0) (j.2) (g.1.2) in
               let long = ap (λ (o : List ℕ). length o) same in
               elim (j.3) [
                 | inl none ↦ omega (arith, j.4, g.1.4, long, none)
                 | inr child ↦ omega (
-                    arith,
-                    j.4,
-                    g.1.4,
-                    long,
-                    same-child (file.0) (j.0) (g.1.0) (j.1) (g.1.1) same child (g.1.3),
-                  )
+                  arith,
+                  j.4,
+                  g.1.4,
+                  long,
+                  same-child (file.0) (j.0) (g.1.0) (j.1) (g.1.1) same child (g.1.3),
+                )
               ])
         ]
 
@@ -168,15 +167,15 @@ module _ (s : Setting) (one : FindsOne s) where
         one-lost-cost h g =
             elim (cuts h.before h.after g.before g.after h.file g.file (sym h.order ∙ g.order)) [
               | inl same ↦ omega (
-                  arith,
-                  h.sum,
-                  g.sum,
-                  one-files g.before h.first g.first (subst (λ (fs : List UriAndHash).
-                      FilesCost s ca list_uri list fs h.first) (same.0) h.spent_first)
-                      g.spent_first,
-                  one-read (g.file.0) h.next g.next (subst (λ (f : UriAndHash).
-                      ReadCosts s (f.0) h.next) (same.1) (h.spent_next.2)) (g.spent_next.2),
-                )
+                arith,
+                h.sum,
+                g.sum,
+                one-files g.before h.first g.first (subst (λ (fs : List UriAndHash).
+                    FilesCost s ca list_uri list fs h.first) (same.0) h.spent_first)
+                    g.spent_first,
+                one-read (g.file.0) h.next g.next (subst (λ (f : UriAndHash).
+                    ReadCosts s (f.0) h.next) (same.1) (h.spent_next.2)) (g.spent_next.2),
+              )
               | inr apart ↦ elim apart [
                 | inl later ↦ absurd (lost-apart files m g.first h g.before (later.0)
                     g.spent_first (later.1))
@@ -190,23 +189,23 @@ module _ (s : Setting) (one : FindsOne s) where
         lost-start h g =
             elim (cuts h.before h.after g.before g.after h.file g.file (sym h.order ∙ g.order)) [
               | inl same ↦ omega (
-                  arith,
-                  h.sum,
-                  g.sum,
-                  one-files g.before h.first g.first (subst (λ (fs : List UriAndHash).
-                      FilesCost s ca list_uri list fs h.first) (same.0) h.spent_first)
-                      g.spent_first,
-                  lost-starts g.file h.next g.next (subst (λ (f : UriAndHash).
-                      FileStarts s ca list_uri list f h.next) (same.1) h.spent_next)
-                      g.spent_next,
-                )
+                arith,
+                h.sum,
+                g.sum,
+                one-files g.before h.first g.first (subst (λ (fs : List UriAndHash).
+                    FilesCost s ca list_uri list fs h.first) (same.0) h.spent_first)
+                    g.spent_first,
+                lost-starts g.file h.next g.next (subst (λ (f : UriAndHash).
+                    FileStarts s ca list_uri list f h.next) (same.1) h.spent_next)
+                    g.spent_next,
+              )
               | inr apart ↦ elim apart [
                 | inl later ↦ omega (
-                    arith,
-                    g.sum,
-                    starts-within files m g.first h g.before (later.0) g.spent_first
-                        (later.1),
-                  )
+                  arith,
+                  g.sum,
+                  starts-within files m g.first h g.before (later.0) g.spent_first
+                      (later.1),
+                )
                 | inr sooner ↦ absurd (lost-apart files n h.first g h.before (sooner.0)
                     h.spent_first (sooner.1))
               ]

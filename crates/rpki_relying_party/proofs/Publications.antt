@@ -119,18 +119,18 @@ module _ (s : Setting) (ca : Validated) (list_uri : List ℕ) (list : Revocation
   by-file [] c said children t = absurd (nothing file c)
   by-file (f ∷ files) c said children t = elim (cons-cases f file files c) [
     | inl e ↦ (
-        t.0,
-        subst (λ (g : UriAndHash).
-            FileTells s ca list_uri list until under g t.0.said t.0.children) e (t.2),
-        front-in t.0.said t.1.said said (t.4),
-        front-in t.0.children t.1.children children (t.5),
-      )
+      t.0,
+      subst (λ (g : UriAndHash).
+          FileTells s ca list_uri list until under g t.0.said t.0.children) e (t.2),
+      front-in t.0.said t.1.said said (t.4),
+      front-in t.0.children t.1.children children (t.5),
+    )
     | inr there ↦ (let r = by-file files there t.1.said t.1.children (t.3) in (
-        r.0,
-        r.1,
-        λ x d. back-in t.0.said t.1.said said (t.4) x (r.2 x d),
-        λ x d. back-in t.0.children t.1.children children (t.5) x (r.3 x d),
-      ))
+      r.0,
+      r.1,
+      λ x d. back-in t.0.said t.1.said said (t.4) x (r.2 x d),
+      λ x d. back-in t.0.children t.1.children children (t.5) x (r.3 x d),
+    ))
   ]
 
 -- ---- what a place tells of a file that it publishes
